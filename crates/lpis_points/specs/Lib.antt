@@ -1,3 +1,4 @@
 pub mod Range
 pub mod Chain
 pub mod Plane
+pub mod PointLaws
