@@ -1,5 +1,5 @@
 -- Equal points.
-use Rattle.std.proofs.Common.{◌≡◌, ℤ, ◌≤ℤ◌, Bool, true, false, ◌&&◌, ap, ap₂, ◌∙◌, subst, refl, arith, int_eq}
+use Rattle.std.proofs.Common.{◌≡◌, ℤ, Bool, true, false, ◌&&◌, ap, ap₂, ◌∙◌, subst, refl, arith, int_eq}
 use Rattle.std.proofs.lemmas.Int.{ints}
 use lib.Dec.{T_prop}
 use Rattle.lpis_points.specs.declared.point.Point.{Point}

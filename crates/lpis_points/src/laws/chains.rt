@@ -1,0 +1,14 @@
+//! Sums over edges.
+
+ghost use Rattle.lpis_points.specs.ChainLaws.{ChainLemma, CrossingsAreOdd, ShoelaceTermsAreOdd};
+
+/// The chain lemma. Net counts are whole numbers, and edges from a point to itself count nothing.
+pub fn equal_net_counts_give_equal_sums()
+    ensures { ChainLemma }
+{}
+
+/// What the chain lemma is used for.
+pub fn sums_change_sign_with_their_edges()
+    ensures crossings { CrossingsAreOdd }
+    ensures terms { ShoelaceTermsAreOdd }
+{}
