@@ -1,5 +1,5 @@
 -- The crossing by a point and the shoelace term change sign with the edge.
-use Rattle.std.proofs.Common.{◌≡◌, ℤ, pos, ◌-ℤ◌, ◌*ℤ◌, neg_ℤ, [], ◌∷◌, ap, sym, ◌∙◌, arith, refl}
+use Rattle.std.proofs.Common.{◌≤◌, negsuc, nat_abs, ◌⊎◌, inl, inr, ◌≡◌, ℤ, pos, ◌-ℤ◌, ◌*ℤ◌, neg_ℤ, [], ◌∷◌, ap, sym, ◌∙◌, arith, refl}
 use Rattle.std.proofs.lemmas.Int.{ints, by_lt_z}
 use Rattle.lpis_points.specs.declared.point.Point.{Point}
 use Rattle.lpis_points.specs.Plane.{RationalPoint, orient_at, crossing, crossing_of, shoelace_term}
@@ -52,3 +52,19 @@ shoelace_term-odd = record { reversed = λ a b. turned (a.x *ℤ b.y) (b.x *ℤ 
 
     self : (x : ℤ) → x -ℤ x ≡ pos 0
     self x = omega (arith, ints)
+
+crossing_of-cases : (s t y o : ℤ) → (crossing_of s t y o ≡ pos 0) ⊎ ((crossing_of s t y o ≡ pos 1) ⊎ (crossing_of s t y o ≡ negsuc 0))
+crossing_of-cases s t y o = grind (arith, ints)
+
+-- a crossing is 0, 1 or -1
+pub crossing-cases : (a b : Point) (p : RationalPoint) → (crossing a b p ≡ pos 0) ⊎ ((crossing a b p ≡ pos 1) ⊎ (crossing a b p ≡ negsuc 0))
+unfolding crossing
+crossing-cases a b p = crossing_of-cases (a.y *ℤ p.d) (b.y *ℤ p.d) p.y (orient_at a b p)
+
+pub crossing-small : (a b : Point) (p : RationalPoint) → nat_abs (crossing a b p) ≤ 1
+crossing-small a b p = by (crossing a b p) (crossing-cases a b p)
+  where
+    by : (c : ℤ) → (c ≡ pos 0) ⊎ ((c ≡ pos 1) ⊎ (c ≡ negsuc 0)) → nat_abs c ≤ 1
+    by c (inl e) = omega (arith, ints)
+    by c (inr (inl e)) = omega (arith, ints)
+    by c (inr (inr e)) = omega (arith, ints)

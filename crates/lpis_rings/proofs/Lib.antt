@@ -1,1 +1,3 @@
 pub mod AreaLemmas
+pub mod RingWalkLemmas
+pub mod EdgeCounts

@@ -2,3 +2,5 @@ pub mod Ring
 pub mod Polygon
 pub mod Area
 pub mod AreaBounds
+pub mod Edges
+pub mod RingWalks
