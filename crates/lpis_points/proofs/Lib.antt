@@ -10,3 +10,5 @@ pub mod ApartBoxes
 pub mod Shift
 pub mod Chains
 pub mod Odd
+pub mod Corners
+pub mod NetCounts

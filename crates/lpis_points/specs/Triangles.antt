@@ -7,8 +7,8 @@ use Rattle.lpis_points.specs.declared.boxes.Box4.{Box4}
 use Rattle.lpis_points.specs.Plane.{RationalPoint, orient, orient_at, crossing}
 
 -- the directed edges, from a to b, from b to c and from c to a
-abbrev pub edges_of : Triangle → List (Point × Point)
-edges_of t = (t.a, t.b) ∷ ((t.b, t.c) ∷ ((t.c, t.a) ∷ []))
+abbrev pub triangle_edges : Triangle → List (Point × Point)
+triangle_edges t = (t.a, t.b) ∷ ((t.b, t.c) ∷ ((t.c, t.a) ∷ []))
 
 abbrev pub IsCounterClockwise : Triangle → Type 0
 IsCounterClockwise t = pos 0 <ℤ orient t.a t.b t.c

@@ -5,7 +5,10 @@ mod equality;
 mod shift;
 mod triangles;
 
-pub use chains::{equal_net_counts_give_equal_sums, sums_change_sign_with_their_edges};
+pub use chains::{
+    equal_net_counts_give_equal_sums, net_counts_are_of_their_edges,
+    sums_change_sign_with_their_edges,
+};
 pub use equality::points_with_equal_coordinates_are_equal;
 pub use shift::the_shifted_point_is_off_every_line_and_crossed_alike;
 pub use triangles::{

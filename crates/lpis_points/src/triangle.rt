@@ -1,7 +1,7 @@
 //! Triangles.
 
 ghost use Rattle.std.specs.Prelude.{◌≡◌, ◌≢◌, ◌↔◌, IsTrue, slice_get};
-ghost use Rattle.lpis_points.specs.Triangles.{IsCounterClockwise, IsFlat, edges_of};
+ghost use Rattle.lpis_points.specs.Triangles.{IsCounterClockwise, IsFlat, triangle_edges};
 
 use crate::point::Point;
 use crate::side::orient;
@@ -39,7 +39,7 @@ pub fn is_flat(triangle: &Triangle) -> bool
 /// A directed edge: from the first corner to the second for 0, from the second to the third for 1, from the third to the first for
 /// 2, and `None` above.
 pub fn edge(triangle: &Triangle, k: u8) -> Option<(Point, Point)>
-    ensures { result ≡ slice_get (edges_of triangle.now) k }
+    ensures { result ≡ slice_get (triangle_edges triangle.now) k }
 {
     let Triangle { a, b, c } = *triangle;
     match k {

@@ -4,3 +4,5 @@ pub mod Area
 pub mod AreaBounds
 pub mod Edges
 pub mod RingWalks
+pub mod Map
+pub mod MapLaws

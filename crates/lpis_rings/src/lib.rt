@@ -3,6 +3,7 @@
 
 mod area;
 mod crossings;
+pub mod laws;
 mod polygon;
 mod ring;
 mod sequence;

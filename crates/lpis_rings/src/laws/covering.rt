@@ -1,0 +1,18 @@
+//! Pieces that are cut into triangles, and parcels that are made of pieces.
+
+ghost use Rattle.lpis_rings.specs.MapLaws.{AreaIsOfItsTriangles, ParcelIsItsPieces, PiecesShareNothing};
+
+/// Where pieces are cut into triangles that keep apart, at most one piece turns round a point, and once.
+pub fn pieces_share_nothing()
+    ensures { PiecesShareNothing }
+{}
+
+/// Edges with the net counts of the edges of pieces and of flats turn round a point as the pieces do.
+pub fn a_parcel_is_its_pieces()
+    ensures { ParcelIsItsPieces }
+{}
+
+/// Edges that triangles and flats make up have the triangles' area.
+pub fn an_area_is_of_its_triangles()
+    ensures { AreaIsOfItsTriangles }
+{}
