@@ -4,10 +4,10 @@ use Rattle.std.proofs.lemmas.Int.{ints, clamps, by_lt_z}
 use Rattle.lpis_points.specs.declared.point.Point.{Point}
 use Rattle.lpis_points.specs.Plane.{RationalPoint, orient, orient_at}
 use Rattle.lpis_points.specs.declared.triangle.Triangle.{Triangle}
-use Rattle.lpis_points.specs.Triangles.{IsCounterClockwise, IsInside, greatest, least, are_apart}
+use Rattle.lpis_points.specs.Triangles.{IsCounterClockwise, is_inside, greatest, least, are_apart}
 use Rattle.lpis_points.proofs.Signs.{pos-mul-not_neg, pos-mul-not_pos, not_neg_of_mul}
 use Rattle.lpis_points.proofs.Crossings.{same_height}
-use Rattle.lpis_points.proofs.Triangles.{Inside, upright_sum, level_sum, weighted_up}
+use Rattle.lpis_points.proofs.Triangles.{Inside, inside_is, upright_sum, level_sum, weighted_up}
 
 -- the point at `z` from a border: a positive sum of the corners' distances
 record Weighted (o₁ o₂ o₃ x y z m t e : ℤ) : Type 0 where
@@ -122,14 +122,11 @@ under a b c a' b' c' p t t' h i j =
 four : (g h k l s t u v : ℤ) → ((int_le g h || int_le k l) || (int_le s t || int_le u v)) ≡ true → (g ≤ℤ h) ⊎ ((k ≤ℤ l) ⊎ ((s ≤ℤ t) ⊎ (u ≤ℤ v)))
 four g h k l s t u v e = grind (arith, ints)
 
-inside_of : (t : Triangle) (p : RationalPoint) → IsInside t p → Inside t.a t.b t.c p
-inside_of t p i = record { ab = i.ab; bc = i.bc; ca = i.ca }
-
-pub apart_share_nothing : (t u : Triangle) (p : RationalPoint) → IsCounterClockwise t → IsCounterClockwise u → are_apart t u ≡ true → IsInside t p → IsInside u p → ⊥
+pub apart_share_nothing : (t u : Triangle) (p : RationalPoint) → IsCounterClockwise t → IsCounterClockwise u → are_apart t u ≡ true → is_inside t p ≡ true → is_inside u p ≡ true → ⊥
 unfolding are_apart
 apart_share_nothing t u p h k s e f =
-    let i = inside_of t p e in
-    let j = inside_of u p f in
+    let i = inside_is t.a t.b t.c p e in
+    let j = inside_is u.a u.b u.c p f in
     elim (four _ _ _ _ _ _ _ _ s) [
       | inl l ↦ left_of t.a t.b t.c u.a u.b u.c p h k l i j
       | inr q ↦ elim q [

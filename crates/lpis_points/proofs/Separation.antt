@@ -1,14 +1,14 @@
 -- Two counter-clockwise triangles on two sides of a line have no inner point in common.
-use Rattle.std.proofs.Common.{◌≡◌, ◌≢◌, ℤ, pos, ◌+ℤ◌, ◌-ℤ◌, ◌*ℤ◌, ◌≤ℤ◌, ◌<ℤ◌, [], ◌∷◌, ap₂, ◌∙◌, arith}
+use Rattle.std.proofs.Common.{◌≡◌, ◌≢◌, true, ℤ, pos, ◌+ℤ◌, ◌-ℤ◌, ◌*ℤ◌, ◌≤ℤ◌, ◌<ℤ◌, [], ◌∷◌, ap₂, ◌∙◌, arith}
 use Rattle.std.proofs.lemmas.Int.{ints}
 use Rattle.lpis_points.specs.declared.point.Point.{Point}
 use Rattle.lpis_points.specs.declared.triangle.Triangle.{Triangle}
 use Rattle.lpis_points.specs.Plane.{RationalPoint, orient, orient_at}
-use Rattle.lpis_points.specs.Triangles.{IsCounterClockwise, IsInside, Separates}
+use Rattle.lpis_points.specs.Triangles.{IsCounterClockwise, is_inside, Separates}
 use Rattle.lpis_points.proofs.IntRing.{var, ◌⊖◌, ◌⊗◌, ring}
 use Rattle.lpis_points.proofs.Points.{point_eq}
 use Rattle.lpis_points.proofs.Signs.{pos-mul-not_neg, zero_of_mul, not_neg_of_mul, not_pos_of_mul}
-use Rattle.lpis_points.proofs.Triangles.{line_sum, weighted_up, weighted_down}
+use Rattle.lpis_points.proofs.Triangles.{inside_is, line_sum, weighted_up, weighted_down}
 
 -- ---- corners on one line make no area
 -- the step of a line, times a triangle's area, by the corners' sides to the line
@@ -79,8 +79,10 @@ by_nought o z e = ap₂ (λ (v w : ℤ). v *ℤ w) (refl_of o) e ∙ none o
     none : (x : ℤ) → x *ℤ pos 0 ≡ pos 0
     none x = omega (arith, ints)
 
-pub separated_share_nothing : (line : Point × Point) (t u : Triangle) (p : RationalPoint) → IsCounterClockwise t → IsCounterClockwise u → Separates line t u → IsInside t p → IsInside u p → ⊥
-separated_share_nothing line t u p h k s i j =
+pub separated_share_nothing : (line : Point × Point) (t u : Triangle) (p : RationalPoint) → IsCounterClockwise t → IsCounterClockwise u → Separates line t u → is_inside t p ≡ true → is_inside u p ≡ true → ⊥
+separated_share_nothing line t u p h k s e f =
+    let i = inside_is t.a t.b t.c p e in
+    let j = inside_is u.a u.b u.c p f in
     let l = s.left_of in
     let r = s.right_of in
     let side = orient_at line.0 line.1 p in

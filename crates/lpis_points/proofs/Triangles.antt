@@ -14,8 +14,8 @@ pub record IsOff (a b c : Point) (p : RationalPoint) : Type 0 where
   pub ca : orient_at c a p ≢ pos 0
 
 -- p is strictly left of the three edges
-abbrev pub is_inside : Point → Point → Point → RationalPoint → Bool
-is_inside a b c p =
+abbrev pub left_of_all : Point → Point → Point → RationalPoint → Bool
+left_of_all a b c p =
     int_lt (pos 0) (orient_at a b p) && int_lt (pos 0) (orient_at b c p) && int_lt (pos 0) (orient_at c a p)
 
 -- the sum of the crossings of the three edges
@@ -154,7 +154,7 @@ around a b c p h t o = record {
 }
 
 -- the edges of a counter-clockwise triangle turn once round a point inside, and not at all round one outside
-pub triangle_turns : (a b c : Point) (p : RationalPoint) → pos 0 <ℤ p.d → pos 0 <ℤ orient a b c → IsOff a b c p → turns_of a b c p ≡ cond (is_inside a b c p) (pos 1) (pos 0)
+pub triangle_turns : (a b c : Point) (p : RationalPoint) → pos 0 <ℤ p.d → pos 0 <ℤ orient a b c → IsOff a b c p → turns_of a b c p ≡ cond (left_of_all a b c p) (pos 1) (pos 0)
 unfolding crossing
 triangle_turns a b c p h t o = around_total _ _ _ _ _ _ _ (around a b c p h (not_neg (orient a b c) t) o)
 
@@ -174,13 +174,13 @@ flat_turns a b c p h t o =
     none x y z e p q r = omega (arith, ints)
 
 -- ---- two triangles
--- what `is_inside` tests
+-- what `left_of_all` tells
 pub record Inside (a b c : Point) (p : RationalPoint) : Type 0 where
   pub ab : pos 0 <ℤ orient_at a b p
   pub bc : pos 0 <ℤ orient_at b c p
   pub ca : pos 0 <ℤ orient_at c a p
 
-pub inside_is : (a b c : Point) (p : RationalPoint) → is_inside a b c p ≡ true → Inside a b c p
+pub inside_is : (a b c : Point) (p : RationalPoint) → left_of_all a b c p ≡ true → Inside a b c p
 inside_is a b c p e = let r = parts (orient_at a b p) (orient_at b c p) (orient_at c a p) e in record { ab = r.0; bc = r.1; ca = r.2 }
   where
     parts : (x y z : ℤ) → (int_lt (pos 0) x && int_lt (pos 0) y && int_lt (pos 0) z) ≡ true → (pos 0 <ℤ x) × (pos 0 <ℤ y) × (pos 0 <ℤ z)

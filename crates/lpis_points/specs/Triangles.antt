@@ -1,5 +1,5 @@
 -- Triangles, their boxes, and lines between them.
-use Rattle.std.specs.Prelude.{◌≡◌, ◌≢◌, ℤ, pos, ◌+ℤ◌, ◌≤ℤ◌, ◌<ℤ◌, int_le, Bool, ◌||◌, List, [], ◌∷◌}
+use Rattle.std.specs.Prelude.{◌≡◌, ◌≢◌, ℤ, pos, ◌+ℤ◌, ◌≤ℤ◌, ◌<ℤ◌, int_le, int_lt, Bool, ◌&&◌, ◌||◌, List, [], ◌∷◌}
 use Rattle.std.specs.Int.{int_max, int_min}
 use Rattle.lpis_points.specs.declared.point.Point.{Point}
 use Rattle.lpis_points.specs.declared.triangle.Triangle.{Triangle}
@@ -21,10 +21,9 @@ pub record IsFlat (t : Triangle) : Type 0 where
   pub ca : t.c ≢ t.a
 
 -- p is strictly left of the three edges
-pub record IsInside (t : Triangle) (p : RationalPoint) : Type 0 where
-  pub ab : pos 0 <ℤ orient_at t.a t.b p
-  pub bc : pos 0 <ℤ orient_at t.b t.c p
-  pub ca : pos 0 <ℤ orient_at t.c t.a p
+abbrev pub is_inside : Triangle → RationalPoint → Bool
+is_inside t p =
+    int_lt (pos 0) (orient_at t.a t.b p) && int_lt (pos 0) (orient_at t.b t.c p) && int_lt (pos 0) (orient_at t.c t.a p)
 
 -- p is off the lines of the three edges
 pub record IsOffItsLines (t : Triangle) (p : RationalPoint) : Type 0 where

@@ -1,9 +1,9 @@
 -- Lists of edges and triangles as they cover the plane.
-use Rattle.std.specs.Prelude.{◌≡◌, ℤ, pos, ◌+ℤ◌, List, [], ◌∷◌, ◌++◌, flat_map, ◌⊎◌, IsTrue, All}
+use Rattle.std.specs.Prelude.{◌≡◌, ℕ, ℤ, pos, ◌+ℤ◌, List, [], ◌∷◌, ◌++◌, length, filter, flat_map, ◌⊎◌, IsTrue, All}
 use Rattle.lpis_points.specs.declared.point.Point.{Point}
 use Rattle.lpis_points.specs.declared.triangle.Triangle.{Triangle}
 use Rattle.lpis_points.specs.Plane.{RationalPoint, orient, same_point}
-use Rattle.lpis_points.specs.Triangles.{triangle_edges, IsCounterClockwise, IsFlat, Separates, are_apart}
+use Rattle.lpis_points.specs.Triangles.{triangle_edges, IsCounterClockwise, IsFlat, is_inside, Separates, are_apart}
 use Rattle.lpis_points.specs.Chain.{SameNet}
 use Rattle.lpis_rings.specs.Edges.{edge_turns}
 
@@ -15,6 +15,10 @@ edges_of_triangles ts = flat_map triangle_edges ts
 abbrev pub triangle_areas : List Triangle → ℤ
 triangle_areas [] = pos 0
 triangle_areas (t ∷ ts) = orient t.a t.b t.c +ℤ triangle_areas ts
+
+-- how many of the triangles have the point inside
+abbrev pub inside_count : List Triangle → RationalPoint → ℕ
+inside_count ts s = length (filter (λ t. is_inside t s) ts)
 
 -- what shows that two triangles share no inner point: their boxes are apart, or a line has one on its left and the other on its right
 abbrev pub KeepApart : Triangle → Triangle → Type 0

@@ -1,6 +1,11 @@
 //! Pieces that are cut into triangles, and parcels that are made of pieces.
 
-ghost use Rattle.lpis_rings.specs.MapLaws.{AreaIsOfItsTriangles, ParcelIsItsPieces, PiecesShareNothing};
+ghost use Rattle.lpis_rings.specs.MapLaws.{AreaIsOfItsTriangles, ParcelIsItsPieces, PiecesShareNothing, TurnsAreOfTriangles};
+
+/// Off the lines of its triangles and flats a piece turns round a point as often as triangles have the point inside.
+pub fn the_turns_of_a_piece_are_its_triangles()
+    ensures { TurnsAreOfTriangles }
+{}
 
 /// Where pieces are cut into triangles that keep apart, at most one piece turns round a point, and once.
 pub fn pieces_share_nothing()
