@@ -1,0 +1,6 @@
+//! Well-known text of polygons.
+#![tactic(auto)]
+
+mod fault;
+
+pub use fault::{WktCode, WktFault};
