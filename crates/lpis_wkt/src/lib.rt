@@ -2,5 +2,6 @@
 #![tactic(auto)]
 
 mod fault;
+mod number;
 
 pub use fault::{WktCode, WktFault};
