@@ -8,3 +8,4 @@ pub mod Text
 pub mod Answer
 pub mod Coordinates
 pub mod Machine
+pub mod Views

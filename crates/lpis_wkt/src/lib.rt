@@ -3,5 +3,7 @@
 
 mod fault;
 mod number;
+mod tokens;
+mod words;
 
 pub use fault::{WktCode, WktFault};
