@@ -1,1 +1,5 @@
 pub mod Splitting
+pub mod Points
+pub mod Steps
+pub mod Completeness
+pub mod Soundness
