@@ -3,3 +3,5 @@ pub mod Points
 pub mod Steps
 pub mod Completeness
 pub mod Soundness
+pub mod Completing
+pub mod Counting

@@ -4,9 +4,15 @@ ghost use Rattle.std.specs.Prelude.{◌≡◌, ◌↔◌, List, Ok};
 ghost use Rattle.lpis_rings.specs.declared.polygon.Member.{Member};
 ghost use Rattle.lpis_wkt.specs.Tokens.{Token};
 ghost use Rattle.lpis_wkt.specs.Grammar.{Reads};
-ghost use Rattle.lpis_wkt.specs.Machine.{AtKeyword, Finished, run};
+ghost use Rattle.lpis_wkt.specs.Viable.{Viable};
+ghost use Rattle.lpis_wkt.specs.Machine.{State, AtKeyword, Finished, run, limited_run};
 
 /// The tokens spell the members exactly where the machine accepts them with those.
 pub fn grammar()
     ensures { (ts : List Token) (ms : List Member) → Reads ts ms ↔ (run AtKeyword ts ≡ Ok (Finished ms)) }
+{}
+
+/// The tokens are viable exactly where the machine with the limit takes them all.
+pub fn viable_prefixes()
+    ensures { (ts : List Token) → Viable ts ↔ ((s : State) × (limited_run AtKeyword ts ≡ Ok s)) }
 {}
