@@ -5,3 +5,5 @@ pub mod Completeness
 pub mod Soundness
 pub mod Completing
 pub mod Counting
+pub mod Tails
+pub mod Rows
