@@ -7,3 +7,4 @@ pub mod Completing
 pub mod Counting
 pub mod Tails
 pub mod Rows
+pub mod OneCode

@@ -28,7 +28,7 @@ stands before s s' t h k = begins (before ++ t ∷ []) s' (run-append AtKeyword 
 err-same : {A : Type 0} (a b : WktCode) → ◌≡◌ {A = Result A WktCode} (Err a) (Err b) → a ≡ b
 err-same a b h = cc
 
-keyword-code : (p m : Bool) (f code : WktCode) → cond p (Ok (AfterKeyword false)) (cond m (Ok (AfterKeyword true)) (Err f)) ≡ Err code → f ≡ code
+pub keyword-code : (p m : Bool) (f code : WktCode) → cond p (Ok (AfterKeyword false)) (cond m (Ok (AfterKeyword true)) (Err f)) ≡ Err code → f ≡ code
 keyword-code true m f code h = cc
 keyword-code false true f code h = cc
 keyword-code false false f code h = cc
@@ -37,25 +37,25 @@ coordinate-code : (r : Result Coordinate WktCode) (f : Coordinate → State) (co
 coordinate-code (Ok z) f code h = cc
 coordinate-code (Err e) f code h = cc
 
-number-code : (w : List ℕ) (f : Coordinate → State) (code : WktCode) → with_coordinate (coordinate w) f ≡ Err code → number_code (number w) ≡ code
+pub number-code : (w : List ℕ) (f : Coordinate → State) (code : WktCode) → with_coordinate (coordinate w) f ≡ Err code → number_code (number w) ≡ code
 number-code w f code h = rw (err-coordinate w code (coordinate-code (coordinate w) f code h)) refl
 
-limited-code : (many : Bool) (w : List ℕ) (f : Coordinate → State) (code : WktCode) → cond many (Err TooManyPoints) (with_coordinate (coordinate w) f) ≡ Err code → cond many TooManyPoints (number_code (number w)) ≡ code
+pub limited-code : (many : Bool) (w : List ℕ) (f : Coordinate → State) (code : WktCode) → cond many (Err TooManyPoints) (with_coordinate (coordinate w) f) ≡ Err code → cond many TooManyPoints (number_code (number w)) ≡ code
 limited-code true w f code h = cc
 limited-code false w f code h = number-code w f code h
 
-close-code : (few closed : Bool) (b : State) (code : WktCode) → cond few (Err TooFewPoints) (cond closed (Ok b) (Err NotClosed)) ≡ Err code → cond few TooFewPoints NotClosed ≡ code
+pub close-code : (few closed : Bool) (b : State) (code : WktCode) → cond few (Err TooFewPoints) (cond closed (Ok b) (Err NotClosed)) ≡ Err code → cond few TooFewPoints NotClosed ≡ code
 close-code true closed b code h = cc
 close-code false true b code h = cc
 close-code false false b code h = cc
 
-same-test : (n words : ℕ) → words ≡ 2 * n + 1 → n ≤ most_points → nat_le most_points n ≡ (words == most_words)
+pub same-test : (n words : ℕ) → words ≡ 2 * n + 1 → n ≤ most_points → nat_le most_points n ≡ (words == most_words)
 same-test n words h le = elim (cases_lt n most_points) [
   | inl lt ↦ (let a : nat_le most_points n ≡ false = grind (arith, nat_tests) in let b : (words == most_words) ≡ false = grind (arith, nat_tests) in a ∙ sym b)
   | inr ge ↦ (let a : nat_le most_points n ≡ true = grind (arith, nat_tests) in let b : (words == most_words) ≡ true = grind (arith, nat_tests) in a ∙ sym b)
 ]
 
-even-test : (n words : ℕ) → words ≡ 2 * n + 2 → (words == most_words) ≡ false
+pub even-test : (n words : ℕ) → words ≡ 2 * n + 2 → (words == most_words) ≡ false
 even-test n words h = grind (arith, nat_tests)
 
 coded : (before : List Token) (t : Token) (s : State) (code : WktCode) → Tail s before → run AtKeyword before ≡ Ok s → has_words s ≡ words before → has_words s ≤ most_words

@@ -1,6 +1,6 @@
 //! Laws of the definitions: functions that do nothing, and whose contracts say them.
 
-ghost use Rattle.std.specs.Prelude.{◌≡◌, ◌↔◌, List, Ok, Err};
+ghost use Rattle.std.specs.Prelude.{◌≡◌, ◌↔◌, List, [], ◌∷◌, ◌++◌, Ok, Err};
 ghost use Rattle.lpis_rings.specs.declared.polygon.Member.{Member};
 ghost use Rattle.lpis_wkt.specs.Tokens.{Token};
 ghost use Rattle.lpis_wkt.specs.Grammar.{Reads};
@@ -22,4 +22,10 @@ pub fn viable_prefixes()
 /// The code of a first fault is that of the table.
 pub fn fault_codes()
     ensures { (before : List Token) (t : Token) (s : State) (code : WktCode) → limited_run AtKeyword before ≡ Ok s → limited_step s t ≡ Err code → TableCode before t code }
+{}
+
+/// The table of faults gives one code for one place: for tokens that some text of the grammar begins with, and a next
+/// token that cannot stand after them.
+pub fn one_code()
+    ensures { (before : List Token) (t : Token) (code code' : WktCode) → Viable before → (Viable (before ++ t ∷ []) → ⊥) → TableCode before t code → TableCode before t code' → code ≡ code' }
 {}
