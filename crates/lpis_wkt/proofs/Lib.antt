@@ -8,3 +8,4 @@ pub mod Counting
 pub mod Tails
 pub mod Rows
 pub mod OneCode
+pub mod Outcomes

@@ -199,7 +199,7 @@ close-only (AtEnd ms) End c is h = cc
 close-only (AtEnd ms) (Word w) c is h = cc
 close-only (Finished ms) t c is h = absurd is
 
-after_end : (s0 s : State) → step s0 End ≡ Ok s → (ms : List Member) × (s ≡ Finished ms)
+pub after_end : (s0 s : State) → step s0 End ≡ Ok s → (ms : List Member) × (s ≡ Finished ms)
 after_end AtKeyword s h = cc
 after_end (AfterKeyword m) s h = cc
 after_end (AtBody ms) s h = cc

@@ -8,4 +8,4 @@ mod tokens;
 mod words;
 
 pub use fault::{WktCode, WktFault};
-pub use laws::{fault_codes, grammar, one_code, viable_prefixes};
+pub use laws::{function_of_text, one_answer, one_code};
