@@ -1,4 +1,5 @@
 pub mod Splitting
+pub mod Digits
 pub mod Points
 pub mod Steps
 pub mod Completeness

@@ -1,6 +1,7 @@
 //! Well-known text of polygons.
 #![tactic(auto)]
 
+mod coordinate;
 mod fault;
 mod laws;
 mod number;
