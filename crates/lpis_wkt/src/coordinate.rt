@@ -1,4 +1,4 @@
-//! Coordinates.
+//! Coordinates in range.
 
 ghost use Rattle.lpis_points.specs.Range.{IsInRange};
 
