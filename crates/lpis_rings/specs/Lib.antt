@@ -1,1 +1,3 @@
 pub mod Ring
+pub mod Polygon
+pub mod Area

@@ -1,8 +1,10 @@
 //! Rings, polygons and their areas.
 #![tactic(auto)]
 
-mod sequence;
+mod polygon;
 mod ring;
+mod sequence;
 
-pub use ring::{BadRing, BadRingReason, Member, Ring};
+pub use polygon::{BadPolygon, MOST_POINTS, Member, Polygon, PolygonFault};
+pub use ring::{BadRing, Ring, RingFault};
 pub use sequence::Sequence;

@@ -1,14 +1,14 @@
 //! Rings: closed lists of points.
 
-ghost use Rattle.std.specs.Prelude.{◌≡◌, ◌≤◌, ◌<◌, ◌↔◌, ◌⊎◌, MatchResult, MatchOption, length};
+ghost use Rattle.std.specs.Prelude.{◌≡◌, ◌<◌, ◌-◌, ◌↔◌, IsTrue, MatchResult, length, slice_get};
 ghost use Rattle.lpis_rings.specs.Ring.{IsRing};
 
-use crate::sequence::Sequence;
 use lpis_points::Point;
 use std::marker::Model;
+use thiserror::Error;
 
-/// Four points or more, the last equal to the first.
-#[derive(Drop)]
+/// Four points or more, the last equal to the first. Contracts see the list of its points.
+#[derive(Debug, Drop)]
 pub struct Ring {
     points: Vec<Point>,
 }
@@ -26,34 +26,62 @@ impl Model for Ring {
 }
 
 /// Why points are no ring.
-#[derive(Clone, Copy, Debug, PartialEq, Eq)]
-pub enum BadRingReason {
+#[derive(Clone, Copy, Debug, PartialEq, Eq, Error)]
+pub enum RingFault {
     /// They are fewer than four.
+    #[error("a ring has four points or more")]
     Short,
-    /// The last differs from the first.
+    /// They are four or more, and the last differs from the first.
+    #[error("the last point of a ring equals its first")]
     Unclosed,
 }
 
 /// Points that are no ring, handed back.
-#[derive(Drop)]
+#[derive(Debug, Drop, Error)]
+#[error("{why}")]
 pub struct BadRing {
+    /// The points, as they were handed in.
     pub points: Vec<Point>,
-    pub why: BadRingReason,
+    /// Why they are no ring.
+    pub why: RingFault,
+}
+
+/// Whether the last point equals the first.
+fn is_closed(points: &[Point]) -> bool
+    ensures { IsTrue result ↔ (slice_get points.now (length points.now - 1) ≡ slice_get points.now 0) }
+{
+    match (points.first(), points.last()) {
+        (Some(first), Some(last)) => last == first,
+        _ => true,
+    }
 }
 
 impl Ring {
-    /// The points of the ring, in order, the last equal to the first.
+    ghost use Rattle.lpis_rings.specs.declared.ring.RingFault.TheVariants.{Short, Unclosed};
+
+    /// The ring of these points. Where they are none they come back, with `Short` for fewer than four and else
+    /// `Unclosed`.
+    pub fn new(points: Vec<Point>) -> Result<Ring, BadRing>
+        ensures same { MatchResult result (λ ring. ring ≡ points.items) (λ bad. bad.points ≡ points) }
+        ensures ring { MatchResult result (λ _. IsRing points.items) (λ _. IsRing points.items → ⊥) }
+        ensures why { MatchResult result (λ _. Unit {0}) (λ bad. bad.why ≡ Short ↔ (length points.items < 4)) }
+    {
+        if points.len() < 4 {
+            let why = RingFault::Short;
+            return Err(BadRing { points, why });
+        }
+        if !is_closed(&points) {
+            let why = RingFault::Unclosed;
+            return Err(BadRing { points, why });
+        }
+        Ok(Ring { points })
+    }
+
+    /// The points of the ring in order, the last equal to the first.
     pub fn points(&self) -> &[Point]
-        ensures is { result.now ≡ self.now }
+        ensures same { result.now ≡ self.now }
         ensures ring { IsRing self.now }
     {
         &self.points
     }
-}
-
-/// A shell and its holes.
-#[derive(Drop)]
-pub struct Member {
-    pub shell: Ring,
-    pub holes: Sequence<Ring>,
 }

@@ -1,0 +1,26 @@
+-- Doubled areas.
+use Rattle.std.specs.Prelude.{ℤ, pos, ◌+ℤ◌, ◌-ℤ◌, nat_abs, List, [], ◌∷◌}
+use Rattle.lpis_points.specs.declared.point.Point.{Point}
+use Rattle.lpis_points.specs.Plane.{shoelace_term}
+use Rattle.lpis_points.specs.Chain.{edge_sum}
+use Rattle.lpis_rings.specs.declared.polygon.Member.{Member}
+
+-- the directed edges from each point to the next
+abbrev pub steps : List Point → List (Point × Point)
+steps [] = []
+steps (a ∷ []) = []
+steps (a ∷ (b ∷ ps)) = (a, b) ∷ steps (b ∷ ps)
+
+-- twice the signed area of a ring, above 0 where it is counter-clockwise: the sum of ax*by - bx*ay over its edges
+abbrev pub shoelace : List Point → ℤ
+shoelace ring = edge_sum shoelace_term (steps ring)
+
+-- the absolute sums of rings
+abbrev pub absolute_sums : List (List Point) → ℤ
+absolute_sums [] = pos 0
+absolute_sums (ring ∷ rings) = pos (nat_abs (shoelace ring)) +ℤ absolute_sums rings
+
+-- twice the area: over the members, the absolute sum of the shell less those of the holes
+abbrev pub area2 : List Member → ℤ
+area2 [] = pos 0
+area2 (m ∷ ms) = (pos (nat_abs (shoelace m.shell)) -ℤ absolute_sums m.holes) +ℤ area2 ms
