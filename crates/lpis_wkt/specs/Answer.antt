@@ -1,0 +1,26 @@
+-- What a text says, as a function: a public law ties it to `PolygonText` and `TextFault`, and needs nothing of how it is computed.
+use Rattle.std.specs.Prelude.{◌≡◌, ℕ, List, [], Result, Ok, Err}
+use Rattle.lpis_rings.specs.declared.polygon.Member.{Member}
+use Rattle.lpis_wkt.specs.declared.fault.WktCode.{WktCode}
+use Rattle.lpis_wkt.specs.declared.fault.WktFault.{WktFault}
+use Rattle.lpis_wkt.specs.declared.fault.WktFault.TheVariants.{Memory, At}
+use Rattle.lpis_wkt.specs.Tokens.{tokens}
+use Rattle.lpis_wkt.specs.Machine.{State, AtKeyword, Finished, outcome}
+
+abbrev pub members_of : State → List Member
+members_of (Finished ms) = ms
+members_of _ = []
+
+abbrev pub answer_of : Result State (WktCode × ℕ) → Result (List Member) (WktCode × ℕ)
+answer_of (Ok s) = Ok (members_of s)
+answer_of (Err fault) = Err fault
+
+-- the polygon that a text spells, or the code and the offset of its first fault
+unfoldable pub polygon_of : List ℕ → Result (List Member) (WktCode × ℕ)
+polygon_of text = answer_of (outcome AtKeyword (tokens text))
+
+-- a call answered what the text says, unless memory ran out
+abbrev pub Gives : Result (List Member) WktFault → Result (List Member) (WktCode × ℕ) → Type 0
+Gives (Ok members) says = says ≡ Ok members
+Gives (Err Memory) says = Unit {0}
+Gives (Err (At code offset)) says = says ≡ Err (code, offset)

@@ -1,0 +1,11 @@
+pub mod Codes
+pub mod Tokens
+pub mod Number
+pub mod Grammar
+pub mod Viable
+pub mod Table
+pub mod Text
+pub mod Answer
+pub mod Coordinates
+pub mod Machine
+pub mod Views

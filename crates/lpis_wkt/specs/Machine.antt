@@ -1,0 +1,161 @@
+-- What is expected after some tokens, and which token comes as a fault. Machinery: only private contracts cite this file.
+use Rattle.std.specs.Prelude.{ℕ, ◌+◌, ◌-◌, Bool, true, false, cond, List, [], ◌∷◌, ◌++◌, length, Option, Some, None, Result, Ok, Err, nat_lt, nat_le, slice_get}
+use Rattle.lpis_points.specs.declared.point.Point.{Point}
+use Rattle.lpis_points.specs.Plane.{same_point}
+use Rattle.lpis_rings.specs.declared.polygon.Member.{Member}
+use Rattle.lpis_rings.specs.Polygon.{points_in, points_of, most_points}
+use Rattle.lpis_wkt.specs.declared.fault.WktCode.{WktCode}
+use Rattle.lpis_wkt.specs.declared.fault.WktCode.TheVariants.{Keyword, Dimension, TooFewPoints, NotClosed, Syntax, TooManyPoints}
+use Rattle.lpis_wkt.specs.declared.number.Coordinate.{Coordinate}
+use Rattle.lpis_wkt.specs.Tokens.{Token, Open, Close, Comma, Word, End}
+use Rattle.lpis_wkt.specs.Coordinates.{coordinate, point_of}
+use Rattle.lpis_wkt.specs.Grammar.{is_polygon, is_multi}
+use Rattle.lpis_wkt.specs.Table.{keyword_code, open_code, first_open_code}
+
+-- what stands before a ring: in which kind of text, the members before, and the member's rings before
+pub record Context : Type 0 where
+  pub multi : Bool
+  pub members : List Member
+  pub rings : List (List Point)
+
+-- what is expected, with what was read
+pub data State : Type 0 where
+  AtKeyword : State
+  AfterKeyword : Bool → State
+  AtBody : List Member → State
+  AtRing : Context → State
+  AtX : Context → List Point → State
+  AtY : Context → List Point → Coordinate → State
+  AfterPoint : Context → List Point → State
+  AfterRing : Context → State
+  AfterBody : List Member → State
+  AtEnd : List Member → State
+  Finished : List Member → State
+
+abbrev pub same_end : Option Point → Option Point → Bool
+same_end (Some p) (Some q) = same_point p q
+same_end (Some p) None = false
+same_end None (Some q) = false
+same_end None None = true
+
+-- the last point is the first
+abbrev pub is_closed : List Point → Bool
+is_closed ps = same_end (slice_get ps (length ps - 1)) (slice_get ps 0)
+
+abbrev pub with_coordinate : Result Coordinate WktCode → (Coordinate → State) → Result State WktCode
+with_coordinate (Ok z) f = Ok (f z)
+with_coordinate (Err code) f = Err code
+
+abbrev pub with_ring : Context → List Point → Context
+with_ring b ps = record b { rings = b.rings ++ ps ∷ [] }
+
+abbrev pub close_ring : Context → List Point → Result State WktCode
+close_ring b ps = cond (nat_lt (length ps) 4) (Err TooFewPoints) (cond (is_closed ps) (Ok (AfterRing (with_ring b ps))) (Err NotClosed))
+
+-- the member of these rings
+abbrev pub member_of : List (List Point) → Member
+member_of [] = record { shell = []; holes = [] }
+member_of (r ∷ rs) = record { shell = r; holes = rs }
+
+abbrev pub close_body : Context → State
+close_body b = cond b.multi (AfterBody (b.members ++ member_of b.rings ∷ [])) (AtEnd (b.members ++ member_of b.rings ∷ []))
+
+-- before the rings of a member
+abbrev pub new_body : Bool → List Member → State
+new_body multi ms = AtRing (record { multi = multi; members = ms; rings = [] })
+
+abbrev pub open_text : Bool → State
+open_text multi = cond multi (AtBody []) (new_body false [])
+
+abbrev pub keyword : List ℕ → Result State WktCode
+keyword w = cond (is_polygon w) (Ok (AfterKeyword false)) (cond (is_multi w) (Ok (AfterKeyword true)) (Err (keyword_code (Word w))))
+
+-- the grammar alone, with no limit on the points
+abbrev pub step : State → Token → Result State WktCode
+step AtKeyword Open = Err Keyword
+step AtKeyword Close = Err Keyword
+step AtKeyword Comma = Err Keyword
+step AtKeyword End = Err Keyword
+step AtKeyword (Word w) = keyword w
+step (AfterKeyword m) Open = Ok (open_text m)
+step (AfterKeyword m) Close = Err Syntax
+step (AfterKeyword m) Comma = Err Syntax
+step (AfterKeyword m) End = Err Syntax
+step (AfterKeyword m) (Word w) = Err (first_open_code (Word w))
+step (AtBody ms) Open = Ok (new_body true ms)
+step (AtBody ms) Close = Err Syntax
+step (AtBody ms) Comma = Err Syntax
+step (AtBody ms) End = Err Syntax
+step (AtBody ms) (Word w) = Err (open_code (Word w))
+step (AtRing b) Open = Ok (AtX b [])
+step (AtRing b) Close = Err Syntax
+step (AtRing b) Comma = Err Syntax
+step (AtRing b) End = Err Syntax
+step (AtRing b) (Word w) = Err (open_code (Word w))
+step (AtX b ps) Open = Err Syntax
+step (AtX b ps) Close = Err Syntax
+step (AtX b ps) Comma = Err Syntax
+step (AtX b ps) End = Err Syntax
+step (AtX b ps) (Word w) = with_coordinate (coordinate w) (AtY b ps)
+step (AtY b ps x) Open = Err Syntax
+step (AtY b ps x) Close = Err Syntax
+step (AtY b ps x) Comma = Err Syntax
+step (AtY b ps x) End = Err Syntax
+step (AtY b ps x) (Word w) = with_coordinate (coordinate w) (λ y. AfterPoint b (ps ++ point_of x y ∷ []))
+step (AfterPoint b ps) Open = Err Syntax
+step (AfterPoint b ps) Close = close_ring b ps
+step (AfterPoint b ps) Comma = Ok (AtX b ps)
+step (AfterPoint b ps) End = Err Syntax
+step (AfterPoint b ps) (Word w) = Err Dimension
+step (AfterRing b) Open = Err Syntax
+step (AfterRing b) Close = Ok (close_body b)
+step (AfterRing b) Comma = Ok (AtRing b)
+step (AfterRing b) End = Err Syntax
+step (AfterRing b) (Word w) = Err Syntax
+step (AfterBody ms) Open = Err Syntax
+step (AfterBody ms) Close = Ok (AtEnd ms)
+step (AfterBody ms) Comma = Ok (AtBody ms)
+step (AfterBody ms) End = Err Syntax
+step (AfterBody ms) (Word w) = Err Syntax
+step (AtEnd ms) Open = Err Syntax
+step (AtEnd ms) Close = Err Syntax
+step (AtEnd ms) Comma = Err Syntax
+step (AtEnd ms) End = Ok (Finished ms)
+step (AtEnd ms) (Word w) = Err Syntax
+step (Finished ms) t = Err Syntax
+
+abbrev pub and_then : {A B E : Type 0} → Result A E → (A → Result B E) → Result B E
+and_then (Ok x) f = f x
+and_then (Err e) f = Err e
+
+-- the state after some tokens, or the code of the first that cannot stand where it stands
+abbrev pub run : State → List Token → Result State WktCode
+run s [] = Ok s
+run s (t ∷ ts) = and_then (step s t) (λ s. run s ts)
+
+-- the points before a ring
+abbrev pub points_before : Context → ℕ
+points_before b = points_of b.members + points_in b.rings
+
+-- an x of a point past the most
+abbrev pub is_too_many : State → Token → Bool
+is_too_many (AtX b ps) (Word w) = nat_le most_points (points_before b + length ps)
+is_too_many (AtX b ps) _ = false
+is_too_many _ _ = false
+
+-- the grammar with the limit on points
+abbrev pub limited_step : State → Token → Result State WktCode
+limited_step s t = cond (is_too_many s t) (Err TooManyPoints) (step s t)
+
+abbrev pub limited_run : State → List Token → Result State WktCode
+limited_run s [] = Ok s
+limited_run s (t ∷ ts) = and_then (limited_step s t) (λ s. limited_run s ts)
+
+-- the same over tokens with offsets: the offset is told beside the code
+abbrev pub located : Result State WktCode → ℕ → Result State (WktCode × ℕ)
+located (Ok s) at = Ok s
+located (Err code) at = Err (code, at)
+
+abbrev pub outcome : State → List (ℕ × Token) → Result State (WktCode × ℕ)
+outcome s [] = Ok s
+outcome s (t ∷ ts) = and_then (located (limited_step s t.1) t.0) (λ s. outcome s ts)

@@ -1,0 +1,62 @@
+-- The coordinate that a word spells.
+use Rattle.std.specs.Prelude.{ℕ, zero, suc, ◌+◌, Bool, false, not, ◌&&◌, ◌||◌, ◌==◌, cond, List, [], ◌∷◌, ◌++◌, length, drop, ℤ, pos, neg_ℤ, nat_abs, Result, Ok, Err, nat_lt}
+use Rattle.std.specs.List.{before_first, after_first, list_all}
+use Rattle.std.specs.Char.{is_ascii_digit}
+use Rattle.std.specs.Str.Parse.{digits_value}
+use Rattle.lpis_points.specs.Range.{limit}
+use Rattle.lpis_wkt.specs.declared.fault.WktCode.{WktCode}
+use Rattle.lpis_wkt.specs.declared.fault.WktCode.TheVariants.{NotANumber, TooFine, OutOfRange}
+
+-- the decimals of a coordinate: the text is in metres, the coordinate in centimetres
+abbrev pub coordinate_decimals : ℕ
+coordinate_decimals = 2
+
+-- the word without its sign
+abbrev pub unsigned : List ℕ → List ℕ
+unsigned [] = []
+unsigned (b ∷ bs) = cond ((b == 43) || (b == 45)) bs (b ∷ bs)
+
+abbrev pub is_negative : List ℕ → Bool
+is_negative [] = false
+is_negative (b ∷ bs) = b == 45
+
+abbrev pub is_point : ℕ → Bool
+is_point b = b == 46
+
+-- the digits before the point, and those after it
+abbrev pub whole : List ℕ → List ℕ
+whole w = before_first is_point (unsigned w)
+
+abbrev pub decimals : List ℕ → List ℕ
+decimals w = after_first is_point (unsigned w)
+
+-- digits, optionally a point and digits, one digit or more in all
+abbrev pub is_numeral : List ℕ → Bool
+is_numeral w = list_all is_ascii_digit (whole w) && list_all is_ascii_digit (decimals w) && nat_lt 0 (length (whole w) + length (decimals w))
+
+abbrev pub is_zero : ℕ → Bool
+is_zero b = b == 48
+
+-- each digit past the decimals of a coordinate is 0
+abbrev pub is_fine : List ℕ → Bool
+is_fine w = list_all is_zero (drop coordinate_decimals (decimals w))
+
+-- the first n digits, with zeros for those that are not there
+abbrev pub padded : ℕ → List ℕ → List ℕ
+padded zero ds = []
+padded (suc n) [] = 48 ∷ padded n []
+padded (suc n) (d ∷ ds) = d ∷ padded n ds
+
+-- the number in units of the last decimal of a coordinate, without its sign
+abbrev pub size : List ℕ → ℕ
+size w = digits_value 10 (whole w ++ padded coordinate_decimals (decimals w))
+
+abbrev pub signed : Bool → ℕ → ℤ
+signed negative n = cond negative (neg_ℤ (pos n)) (pos n)
+
+unfoldable pub number : List ℕ → Result ℤ WktCode
+number w =
+    cond (not (is_numeral w)) (Err NotANumber)
+    (cond (not (is_fine w)) (Err TooFine)
+    (cond (nat_lt (nat_abs limit) (size w)) (Err OutOfRange)
+    (Ok (signed (is_negative w) (size w)))))

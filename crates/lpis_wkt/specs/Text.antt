@@ -1,0 +1,15 @@
+-- What a text says: a polygon, or its first fault.
+use Rattle.std.specs.Prelude.{ℕ, List}
+use Rattle.lpis_rings.specs.declared.polygon.Member.{Member}
+use Rattle.lpis_wkt.specs.declared.fault.WktCode.{WktCode}
+use Rattle.lpis_wkt.specs.Tokens.{tokens, kinds}
+use Rattle.lpis_wkt.specs.Grammar.{Accepts}
+use Rattle.lpis_wkt.specs.Table.{FirstFault}
+
+-- the bytes of a text spell the polygon of these members
+unfoldable pub PolygonText : List ℕ → List Member → Type 0
+PolygonText text members = Accepts (kinds (tokens text)) members
+
+-- the first fault of a text has this code, and stands at this offset in bytes
+unfoldable pub TextFault : List ℕ → WktCode → ℕ → Type 0
+TextFault text code offset = FirstFault (tokens text) code offset

@@ -1,0 +1,9 @@
+//! Well-known text of polygons.
+#![tactic(auto)]
+
+mod fault;
+mod number;
+mod tokens;
+mod words;
+
+pub use fault::{WktCode, WktFault};

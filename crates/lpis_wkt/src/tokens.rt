@@ -1,0 +1,124 @@
+//! The tokens of a text, one at a time.
+
+ghost use Rattle.std.specs.Prelude.{◌≡◌, ◌<◌, ◌≤◌, [], ◌∷◌, false, true, length, drop, slice_index, slice_range, MatchOption};
+ghost use Rattle.lpis_wkt.specs.Tokens.{Word, is_space, is_word, tokens_from};
+ghost use Rattle.lpis_wkt.specs.Views.{placed};
+
+use std::marker::Model;
+
+/// A `(`, a `)`, a `,` or a word, which is borrowed from the text.
+#[derive(Clone, Copy)]
+pub enum Token<'a> {
+    Open,
+    Close,
+    Comma,
+    Word(&'a [u8]),
+}
+
+/// A token, and the offset of its first byte.
+#[derive(Clone, Copy)]
+pub struct Placed<'a> {
+    pub token: Token<'a>,
+    pub offset: usize,
+}
+
+/// The tokens of a text that are not taken yet.
+#[derive(Drop)]
+pub struct Tokens<'a> {
+    text: &'a [u8],
+    at: usize,
+}
+
+impl<'a> Model for Tokens<'a> {
+    ghost use Rattle.std.specs.Prelude.{ℕ, List, drop, length, ◌≤◌};
+    ghost use Rattle.lpis_wkt.specs.Tokens.{Token, tokens_from};
+
+    ghost Value = { List (ℕ × Token) };
+
+    ghost view = { λ t. tokens_from t.at (drop t.at t.text.now) };
+
+    ghost invariant = { λ t. t.at ≤ length t.text.now };
+}
+
+/// Whether the byte is white space: space, tab, CR or LF.
+fn is_space(b: u8) -> bool
+    ensures { result ≡ is_space b }
+{
+    b == b' ' || b == b'\t' || b == b'\r' || b == b'\n'
+}
+
+/// Whether the byte belongs to a word.
+fn is_word(b: u8) -> bool
+    ensures { result ≡ is_word b }
+{
+    !(is_space(b) || b == b'(' || b == b')' || b == b',')
+}
+
+/// Where the next token begins, or the end.
+fn past_space(text: &[u8], at: usize) -> usize
+    requires { at ≤ length text.now }
+    ensures within { result ≤ length text.now }
+    ensures stops { result < length text.now → is_space (slice_index text.now result) ≡ false }
+    ensures same { tokens_from result (drop result text.now) ≡ tokens_from at (drop at text.now) }
+{
+    let mut i = at;
+    while i < text.len() && is_space(text[i]) {
+        i += 1;
+    }
+    i
+}
+
+/// Where the word that begins here ends.
+fn past_word(text: &[u8], at: usize) -> usize
+    requires within { at < length text.now }
+    requires word { is_word (slice_index text.now at) ≡ true }
+    ensures after { at < result }
+    ensures within { result ≤ length text.now }
+    ensures word { tokens_from at (drop at text.now) ≡ (at, Word (slice_range text.now at result)) ∷ tokens_from result (drop result text.now) }
+{
+    let mut i = at + 1;
+    while i < text.len() && is_word(text[i]) {
+        i += 1;
+    }
+    i
+}
+
+impl<'a> Tokens<'a> {
+    /// The tokens of a text.
+    pub fn new(text: &'a [u8]) -> Self
+        ensures { result ≡ tokens_from 0 text.now }
+    {
+        Tokens { text, at: 0 }
+    }
+
+    /// The next token, or `None` at the end.
+    pub fn next(&mut self) -> Option<Placed<'a>>
+        ensures { MatchOption result ((self.old ≡ []) × (self.new ≡ [])) (λ t. self.old ≡ placed t ∷ self.new) }
+    {
+        let offset = past_space(self.text, self.at);
+        self.at = offset;
+        if offset == self.text.len() {
+            return None;
+        }
+        let byte = self.text[offset];
+        if byte == b'(' {
+            self.at = offset + 1;
+            let token = Token::Open;
+            return Some(Placed { token, offset });
+        }
+        if byte == b')' {
+            self.at = offset + 1;
+            let token = Token::Close;
+            return Some(Placed { token, offset });
+        }
+        if byte == b',' {
+            self.at = offset + 1;
+            let token = Token::Comma;
+            return Some(Placed { token, offset });
+        }
+        let end = past_word(self.text, offset);
+        self.at = end;
+        let token = Token::Word(&self.text[offset..end]);
+        Some(Placed { token, offset })
+    }
+}
