@@ -2,7 +2,11 @@
 #![tactic(auto)]
 
 pub mod command;
+pub mod failure;
 pub mod printing;
 pub mod reading;
+pub mod refusal;
+pub mod running;
+pub mod status;
 
 fn main() {}

@@ -1,9 +1,11 @@
 //! Printed areas.
 
-ghost use Rattle.std.specs.Prelude.{◌≤◌, ◌^◌, OnOk, nat_abs};
+ghost use Rattle.std.specs.Prelude.{◌≡◌, ◌≤◌, ◌^◌, OnOk, nat_abs};
 ghost use Rattle.std.specs.Io.KnownBytes.{Appends};
 ghost use Rattle.lpis.specs.Area.{area_line, area_text};
+ghost use Rattle.lpis.specs.declared.printing.PrintFault.{PrintFault};
 
+use std::io;
 use std::io::Write;
 use thiserror::Error;
 
@@ -16,6 +18,14 @@ pub enum PrintFault {
     /// The writer answered an error.
     #[error("the text could not be written")]
     Write,
+}
+
+impl From<io::Error> for PrintFault {
+    ghost from_gives = { λ _ e. e ≡ PrintFault.Write };
+
+    fn from(_e: io::Error) -> PrintFault {
+        PrintFault::Write
+    }
 }
 
 /// How many units of a printed area's last decimal one doubled square centimetre has.
@@ -33,10 +43,8 @@ pub fn print_area<W: Write>(d: i128, out: &mut W) -> Result<(), PrintFault>
     let whole = units / SQUARE_METRE;
     let rest = units % SQUARE_METRE;
     let sign = if d < 0 { "-" } else { "" };
-    match write!(out, "{sign}{whole}.{rest:05}") {
-        Ok(()) => Ok(()),
-        Err(_) => Err(PrintFault::Write),
-    }
+    write!(out, "{sign}{whole}.{rest:05}")?;
+    Ok(())
 }
 
 /// Writes an area on a line of its own.
@@ -45,8 +53,6 @@ pub fn print_line<W: Write>(d: i128, out: &mut W) -> Result<(), PrintFault>
     ensures { OnOk result (Appends (W.contents out.old) (W.contents out.new) (area_line d)) }
 {
     print_area(d, out)?;
-    match out.write_all(b"\n") {
-        Ok(()) => Ok(()),
-        Err(_) => Err(PrintFault::Write),
-    }
+    out.write_all(b"\n")?;
+    Ok(())
 }

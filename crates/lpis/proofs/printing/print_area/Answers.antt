@@ -7,9 +7,9 @@ use Rattle.lpis.proofs.AreaLemmas.{area-shown, sign-above, sign-below}
 use Rattle.lpis.proofs.printing.print_area.Goals as goal
 use Rattle.lpis.proofs.printing.print_area.Goals.{then-d-lt0, else-d-lt0}
 
-pub returns-in-Ok : goal.returns-in-Ok
-returns-in-Ok g c =
-    let e = rw c.laid_out.ensures at c.in-Ok.ensures.bytes in
+pub returns : goal.returns
+returns g c =
+    let e = rw c.laid_out.ensures at c.in_ok-write.ensures.bytes in
     let round = to_z-of_z w128 c.args.d c.ranges.d in
     let sign : c.if-d-lt0.sign.now ≡ sign_text c.args.d = elim c.if-d-lt0.branch [
       | then-d-lt0 w ↦ ap (λ (s : Bor (List ℕ)). s.now) w.sign-is ∙ sign-below c.args.d (sym (ap (λ (z : ℤ). lt_z z (pos 0)) round) ∙ w.if-d-lt0.true)
