@@ -1,3 +1,4 @@
 pub mod Ring
 pub mod Polygon
 pub mod Area
+pub mod AreaBounds

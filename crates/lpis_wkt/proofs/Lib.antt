@@ -1,1 +1,11 @@
 pub mod Splitting
+pub mod Points
+pub mod Steps
+pub mod Completeness
+pub mod Soundness
+pub mod Completing
+pub mod Counting
+pub mod Tails
+pub mod Rows
+pub mod OneCode
+pub mod Outcomes

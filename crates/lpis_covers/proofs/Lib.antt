@@ -1,0 +1,4 @@
+pub mod RecordLemmas
+pub mod ReaderLemmas
+pub mod ColumnLemmas
+pub mod ReadingLemmas

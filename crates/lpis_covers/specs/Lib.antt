@@ -1,0 +1,5 @@
+pub mod Codes
+pub mod Columns
+pub mod Left
+pub mod Rows
+pub mod Table

@@ -1,0 +1,99 @@
+-- Coordinates and points are equal where their numbers are.
+use Rattle.std.proofs.Common.{◌≡◌, ℕ, ◌-◌, ℤ, ◌≤ℤ◌, Bool, true, false, ◌&&◌, List, length, Option, Some, None, Result, Ok, Err, refl, sym, ap, subst, ◌∙◌, arith, int_eq}
+use Rattle.std.specs.Prelude.{slice_get}
+use Rattle.std.proofs.lemmas.Int.{ints}
+use lib.Dec.{T_prop}
+use Rattle.lpis_points.specs.declared.point.Point.{Point}
+use Rattle.lpis_points.specs.Range.{limit, IsInRange}
+use Rattle.lpis_points.specs.Plane.{same_point}
+use Rattle.lpis_wkt.specs.declared.fault.WktCode.{WktCode}
+use Rattle.lpis_wkt.specs.declared.number.Coordinate.{Coordinate}
+use Rattle.lpis_wkt.specs.Number.{number}
+use Rattle.lpis_wkt.specs.Coordinates.{coordinate, with_range, number-in_range, point_of}
+use Rattle.lpis_wkt.specs.Machine.{same_end, is_closed}
+
+in_range_prop : (z : ℤ) → IsProp (IsInRange z)
+in_range_prop z = hlevel T_prop
+
+abbrev made : (z : ℤ) → IsInRange z → Coordinate
+made z h = record { value = z; in_range = h }
+
+made-same : (x y : ℤ) → x ≡ y → (h : IsInRange x) (k : IsInRange y) → made x h ≡ made y k
+made-same x y e = subst (λ (v : ℤ). (h : IsInRange x) (k : IsInRange v) → made x h ≡ made v k) e (λ h k. ap (λ (r : IsInRange x). made x r) (in_range_prop x h k))
+
+pub coordinate_eq : (a b : Coordinate) → a.value ≡ b.value → a ≡ b
+coordinate_eq a b e = made-same a.value b.value e a.in_range b.in_range
+
+pub point_eq : (p q : Point) → p.x ≡ q.x → p.y ≡ q.y → p ≡ q
+point_eq p q e f =
+    let a : Coordinate = made p.x p.x_in_range in
+    let b : Coordinate = made p.y p.y_in_range in
+    let c : Coordinate = made q.x q.x_in_range in
+    let d : Coordinate = made q.y q.y_in_range in
+    ap (λ (v : Coordinate). point_of v b) (coordinate_eq a c e) ∙ ap (point_of c) (coordinate_eq b d f)
+
+with_range-ok : (r : Result ℤ WktCode) (h : (z : ℤ) → r ≡ Ok z → IsInRange z) (c : Coordinate) → r ≡ Ok c.value → with_range r h ≡ Ok c
+with_range-ok (Ok z) h c e = let same : z ≡ c.value = cc in ap Ok (coordinate_eq (made z (h z refl)) c same)
+with_range-ok (Err f) h c e = cc
+
+ok-with_range : (r : Result ℤ WktCode) (h : (z : ℤ) → r ≡ Ok z → IsInRange z) (c : Coordinate) → with_range r h ≡ Ok c → r ≡ Ok c.value
+ok-with_range (Ok z) h c e = let same : made z (h z refl) ≡ c = cc in ap (λ (v : Coordinate). Ok v.value) same
+ok-with_range (Err f) h c e = cc
+
+with_range-err : (r : Result ℤ WktCode) (h : (z : ℤ) → r ≡ Ok z → IsInRange z) (f : WktCode) → r ≡ Err f → with_range r h ≡ Err f
+with_range-err (Ok z) h f e = cc
+with_range-err (Err g) h f e = cc
+
+err-with_range : (r : Result ℤ WktCode) (h : (z : ℤ) → r ≡ Ok z → IsInRange z) (f : WktCode) → with_range r h ≡ Err f → r ≡ Err f
+err-with_range (Ok z) h f e = cc
+err-with_range (Err g) h f e = cc
+
+pub coordinate-ok : (w : List ℕ) (c : Coordinate) → number w ≡ Ok c.value → coordinate w ≡ Ok c
+unfolding coordinate
+coordinate-ok w c e = with_range-ok (number w) (number-in_range w) c e
+
+pub ok-coordinate : (w : List ℕ) (c : Coordinate) → coordinate w ≡ Ok c → number w ≡ Ok c.value
+unfolding coordinate
+ok-coordinate w c e = ok-with_range (number w) (number-in_range w) c e
+
+pub coordinate-err : (w : List ℕ) (code : WktCode) → number w ≡ Err code → coordinate w ≡ Err code
+unfolding coordinate
+coordinate-err w code e = with_range-err (number w) (number-in_range w) code e
+
+pub err-coordinate : (w : List ℕ) (code : WktCode) → coordinate w ≡ Err code → number w ≡ Err code
+unfolding coordinate
+err-coordinate w code e = err-with_range (number w) (number-in_range w) code e
+
+-- equal ends
+
+and-both : (a b : Bool) → (a && b) ≡ true → (a ≡ true) × (b ≡ true)
+and-both true b h = (refl, h)
+and-both false b h = cc
+
+int_eq-true : (x y : ℤ) → int_eq x y ≡ true → x ≡ y
+int_eq-true x y h = grind (arith, ints)
+
+int_eq-refl : (x : ℤ) → int_eq x x ≡ true
+int_eq-refl x = grind (arith, ints)
+
+same_point-true : (p q : Point) → same_point p q ≡ true → p ≡ q
+same_point-true p q h = let both = and-both _ _ h in point_eq p q (int_eq-true p.x q.x both.0) (int_eq-true p.y q.y both.1)
+
+same_point-refl : (p : Point) → same_point p p ≡ true
+same_point-refl p = rw (int_eq-refl p.x, int_eq-refl p.y) refl
+
+same_end-true : (a b : Option Point) → same_end a b ≡ true → a ≡ b
+same_end-true (Some p) (Some q) h = ap Some (same_point-true p q h)
+same_end-true (Some p) None h = cc
+same_end-true None (Some q) h = cc
+same_end-true None None h = refl
+
+same_end-refl : (a : Option Point) → same_end a a ≡ true
+same_end-refl (Some p) = same_point-refl p
+same_end-refl None = refl
+
+pub is_closed-true : (ps : List Point) → is_closed ps ≡ true → slice_get ps (length ps - 1) ≡ slice_get ps 0
+is_closed-true ps h = same_end-true _ _ h
+
+pub true-is_closed : (ps : List Point) → slice_get ps (length ps - 1) ≡ slice_get ps 0 → is_closed ps ≡ true
+true-is_closed ps e = rw e (same_end-refl (slice_get ps 0))
