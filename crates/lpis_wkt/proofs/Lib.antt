@@ -1,6 +1,8 @@
 pub mod Splitting
+pub mod Digits
 pub mod Points
 pub mod Steps
+pub mod Closing
 pub mod Completeness
 pub mod Soundness
 pub mod Completing
