@@ -1,5 +1,5 @@
 -- What is known while the rows of a table are gone through.
-use Rattle.std.proofs.Common.{◌≡◌, ◌∙◌, ◌+◌, ◌++◌, ◌∷◌, [], ap, sym, refl, subst, ℕ, Bool, true, false, List, Option, Some, Result, Ok, Err}
+use Rattle.std.proofs.Common.{◌≡◌, ◌∙◌, ◌+◌, ◌++◌, ◌∷◌, [], ap, codes, sym, refl, subst, ℕ, Bool, true, false, List, Option, Some, Result, Ok, Err}
 use Rattle.std.proofs.lemmas.Str.{IsUtf8-from_is_utf8, is_utf8-from_IsUtf8}
 use Rattle.std.specs.List.{flat_map}
 use Rattle.std.specs.Prelude.{IsUtf8, if◌then◌else◌}
@@ -16,7 +16,7 @@ use Rattle.lpis_covers.specs.declared.fault.TableCode.{TableCode}
 use Rattle.lpis_covers.specs.declared.fault.TableCode.TheVariants.{NotCsv, BadGeometry}
 use Rattle.lpis_covers.specs.declared.fault.TableFault.{TableFault}
 use Rattle.lpis_covers.specs.declared.fault.TableFault.TheVariants.{At}
-use Rattle.lpis.specs.AreaAnswer.{faults_of, in_row, line_of_row, polygon_in}
+use Rattle.lpis.specs.AreaAnswer.{answer_from, answer_of, areas_or_first, faults_of, in_row, line_of_row, polygon_in}
 
 -- from the first reading, no fault was found, and the lines were written up to now
 pub record GoesOn (first : Reading) (lines : List ℕ) (now : Reading) : Type 0 where
@@ -72,3 +72,11 @@ pub table_of-begins : (table : Table) (names : List (List ℕ)) (bytes : List �
 unfolding table_of
 table_of-begins table names bytes reading e =
     subst (Begins table) e (cond-begins table (has_mark (strip_bom bytes)) _ _ (under_header-begins table names (records default_config (strip_bom bytes))))
+
+-- the answer is that of the rows under the header
+pub rows-answer : (names : List (List ℕ)) (bytes : List ℕ) (reading : Reading) → names ≡ codes "wkt" ∷ [] → table_of Area names bytes ≡ Ok reading
+    → areas_or_first (faults_of (reading.number + 1) reading.rows reading.stop) (flat_map line_of_row reading.rows) ≡ answer_of bytes
+rows-answer names bytes reading wkt e =
+    let first = (table_of-begins Area names bytes reading e).1 in
+    ap (λ (n : ℕ). areas_or_first (faults_of (n + 1) reading.rows reading.stop) (flat_map line_of_row reading.rows)) first
+    ∙ ap answer_from (sym e ∙ ap (λ (ns : List (List ℕ)). table_of Area ns bytes) wkt)

@@ -3,8 +3,10 @@
 ghost use Rattle.std.specs.Prelude.{◌≡◌, OnOk};
 ghost use Rattle.std.specs.Io.KnownBytes.{Appends};
 ghost use Rattle.lpis.specs.Failures.{failure_text, name_text};
+ghost use Rattle.lpis.specs.declared.failure.Failure.{Failure};
 
 use crate::printing::PrintFault;
+use std::alloc::{AllocError, AllocFailed};
 use std::io::Write;
 
 /// An input or an output of a run.
@@ -54,6 +56,22 @@ pub enum Failure {
     Write(Name),
     /// The database failed.
     Store,
+}
+
+impl From<AllocError> for Failure {
+    ghost from_gives = { λ _ e. e ≡ Failure.Memory };
+
+    fn from(_e: AllocError) -> Failure {
+        Failure::Memory
+    }
+}
+
+impl<T: Drop> From<AllocFailed<T>> for Failure {
+    ghost from_gives = { λ _ e. e ≡ Failure.Memory };
+
+    fn from(_e: AllocFailed<T>) -> Failure {
+        Failure::Memory
+    }
 }
 
 /// Writes the line of a failure.

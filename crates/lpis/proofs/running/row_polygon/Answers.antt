@@ -9,10 +9,10 @@ returns-in_default c =
 pub returns-in-Ok-read : goal.returns-in-Ok-read
 returns-in-Ok-read c =
     let text = c.in-Ok.ensures.cases in
-    polygon_in-polygon c.args.reader.now.number c.args.reader.now.row c.field.result.now c.in-Ok-read.polygon c.field.ensures text.1 (rw text.0 at c.in-Ok-read.ensures)
+    polygon_in-polygon c.args.reader.now.number c.args.reader.now.row c.field.result.now c.in-Ok-read.polygon c.field.ensures text.1 (rw text.0 at c.in-Ok-read.ensures.gives)
 
 pub returns-in-Err-At : goal.returns-in-Err-At
 returns-in-Err-At c =
     let text = c.in-Ok.ensures.cases in
     let row = c.number.ensures in
-    rw row (polygon_in-fault c.args.reader.now.number c.args.reader.now.row c.field.result.now c.in-Err-At.code c.in-Err-At.offset c.field.ensures text.1 (rw (c.in-Err-At.field-0-is, text.0) at c.in-Err-At.ensures))
+    rw row (polygon_in-fault c.args.reader.now.number c.args.reader.now.row c.field.result.now c.in-Err-At.code c.in-Err-At.offset c.field.ensures text.1 (rw (c.in-Err-At.field-0-is, text.0) at c.in-Err-At.ensures.gives))
