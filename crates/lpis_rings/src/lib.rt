@@ -7,6 +7,8 @@ pub mod laws;
 mod polygon;
 mod ring;
 mod sequence;
+#[cfg(test)]
+mod tests;
 mod walks;
 
 pub use area::{area2, shoelace};
