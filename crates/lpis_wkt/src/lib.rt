@@ -13,3 +13,6 @@ mod words;
 pub use fault::{WktCode, WktFault};
 pub use laws::{function_of_text, one_answer, one_code};
 pub use reading::read;
+
+#[cfg(test)]
+mod tests;
