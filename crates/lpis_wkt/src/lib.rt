@@ -7,6 +7,7 @@ mod laws;
 mod number;
 mod parser;
 mod reading;
+mod scanning;
 mod tokens;
 mod words;
 
