@@ -6,7 +6,7 @@ use Rattle.std.proofs.lemmas.Bool.Decides.{nat_tests}
 use Rattle.lpis_points.specs.Range.{limit, IsInRange}
 use Rattle.lpis_points.specs.declared.point.Point.{Point}
 use Rattle.lpis_wkt.specs.declared.fault.WktCode.{WktCode}
-use Rattle.lpis_wkt.specs.declared.number.Coordinate.{Coordinate}
+use Rattle.lpis_wkt.specs.declared.coordinate.Coordinate.{Coordinate}
 use Rattle.lpis_wkt.specs.Number.{number, is_numeral, is_fine, is_negative, size, signed}
 
 signed-in_range : (negative : Bool) (n : ℕ) → n ≤ 2000000000 → IsInRange (signed negative n)
