@@ -1,8 +1,8 @@
 //! Values at the bounds of what is taken.
 
 use crate::{
-    LIMIT, MOST_PARTS, Point, RatPoint, Triangle, apart, box_of, crossing, edge, is_ccw, is_flat,
-    orient, orient_at, separates,
+    GREATEST_DENOMINATOR, LIMIT, Point, RatPoint, Triangle, apart, box_of, crossing, edge, is_ccw,
+    is_flat, orient, orient_at, separates,
 };
 use std::test::Fail;
 
@@ -29,10 +29,10 @@ fn rational_points_end_at_their_bounds(rt: HostRuntime) {
         (LIMIT, -LIMIT, 1, true),
         (LIMIT + 1, 0, 1, false),
         (0, -LIMIT - 1, 1, false),
-        (reach, -reach, MOST_PARTS, true),
-        (reach + 1, 0, MOST_PARTS, false),
-        (0, -reach - 1, MOST_PARTS, false),
-        (0, 0, MOST_PARTS + 1, false),
+        (reach, -reach, GREATEST_DENOMINATOR, true),
+        (reach + 1, 0, GREATEST_DENOMINATOR, false),
+        (0, -reach - 1, GREATEST_DENOMINATOR, false),
+        (0, 0, GREATEST_DENOMINATOR + 1, false),
     ] {
         assert_eq!(rt;
             RatPoint::new(x, y, d).is_some(),
