@@ -173,9 +173,9 @@ unfolding number
 number_of negative w body n e f p =
     let amount : size w ≡ n = rw e (sym p.size) in
     number-by (is_numeral w) (is_fine w) (nat_lt 2000000000 (size w)) NotANumber TooFine OutOfRange (signed (is_negative w) (size w))
-        (rw e (numeral _ _ (length (before_first is_point body)) (length (after_first is_point body)) p.whole p.decimals p.some))
-        (rw e p.fine)
-        (rw e (below n _ p.size p.few))
+    (rw e (numeral _ _ (length (before_first is_point body)) (length (after_first is_point body)) p.whole p.decimals p.some))
+    (rw e p.fine)
+    (rw e (below n _ p.size p.few))
     ∙ rw (f, amount) refl
 
 pub signed_number : (sign body : List ℕ) (negative : Bool) (n : ℕ) → IsSign sign negative → IsPlain body n → number (sign ++ body) ≡ Ok (signed negative n)
