@@ -20,7 +20,11 @@ abbrev pub absolute_sums : List (List Point) → ℤ
 absolute_sums [] = pos 0
 absolute_sums (ring ∷ rings) = pos (nat_abs (shoelace ring)) +ℤ absolute_sums rings
 
--- twice the area: over the members, the absolute sum of the shell less those of the holes
+-- twice the area of a member: the absolute sum of its shell less those of its holes
+abbrev pub member_area2 : Member → ℤ
+member_area2 m = pos (nat_abs (shoelace m.shell)) -ℤ absolute_sums m.holes
+
+-- twice the area of a polygon
 abbrev pub area2 : List Member → ℤ
 area2 [] = pos 0
-area2 (m ∷ ms) = (pos (nat_abs (shoelace m.shell)) -ℤ absolute_sums m.holes) +ℤ area2 ms
+area2 (m ∷ ms) = member_area2 m +ℤ area2 ms

@@ -1,3 +1,8 @@
 pub mod Ring
 pub mod Polygon
 pub mod Area
+pub mod AreaBounds
+pub mod Edges
+pub mod RingWalks
+pub mod Map
+pub mod MapLaws

@@ -1,0 +1,9 @@
+pub mod RecordLemmas
+pub mod ReaderLemmas
+pub mod ColumnLemmas
+pub mod ReadingLemmas
+pub mod IdLemmas
+pub mod KeyedLemmas
+pub mod RowsRead
+pub mod PolygonLemmas
+pub mod PieceLemmas

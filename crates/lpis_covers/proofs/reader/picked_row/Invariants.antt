@@ -1,0 +1,8 @@
+use Rattle.std.proofs.Common.{◌≡◌, ◌++◌, [], drop}
+use Rattle.csv.specs.Records.{fields_of, partial_of}
+use Rattle.lpis_covers.specs.Table.{picked}
+use Rattle.lpis_covers.proofs.reader.picked_row.Given as goal
+
+abbrev pub invariant-loop-place : goal.invariant-loop-place
+invariant-loop-place l =
+    (fields_of l.wanted ++ picked (drop l.place-index l.places) (fields_of l.row) ≡ picked l.places (fields_of l.row)) × (partial_of l.wanted ≡ [])

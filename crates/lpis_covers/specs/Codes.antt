@@ -1,0 +1,28 @@
+-- The codes of faults and the names of tables.
+use Rattle.std.specs.Prelude.{ℕ, List, codes}
+use Rattle.lpis_covers.specs.declared.fault.Table.{Table}
+use Rattle.lpis_covers.specs.declared.fault.Table.TheVariants.{Area, Parcels, Covers, Classes, Lineage}
+use Rattle.lpis_covers.specs.declared.fault.TableCode.{TableCode}
+use Rattle.lpis_covers.specs.declared.fault.TableCode.TheVariants.{NotCsv, MissingColumn, DoubledColumn, BadIdentifier, DoubledIdentifier, UnknownParcel, UnknownClass, ParcelWithoutPieces, BadGeometry, BadEligible, TooManyRows}
+
+-- a table's name
+abbrev pub table_text : Table → List ℕ
+table_text Area = codes "area"
+table_text Parcels = codes "parcels"
+table_text Covers = codes "covers"
+table_text Classes = codes "classes"
+table_text Lineage = codes "lineage"
+
+-- the two characters of a code
+abbrev pub code_text : TableCode → List ℕ
+code_text NotCsv = codes "30"
+code_text MissingColumn = codes "31"
+code_text DoubledColumn = codes "32"
+code_text BadIdentifier = codes "33"
+code_text DoubledIdentifier = codes "34"
+code_text UnknownParcel = codes "35"
+code_text UnknownClass = codes "36"
+code_text ParcelWithoutPieces = codes "37"
+code_text BadGeometry = codes "38"
+code_text BadEligible = codes "39"
+code_text TooManyRows = codes "3a"

@@ -1,0 +1,131 @@
+-- The rows of a table by the names of its columns.
+use Rattle.std.specs.Prelude.{◌≡◌, ◌==◌, ◌+◌, ◌≤◌, ◌∷◌, Bool, true, false, ℕ, List, [], length, map, nat_lt, Option, Some, None, Result, Ok, Err, slice_index_or, if◌then◌else◌}
+use Rattle.std.specs.Str.{str_eq_ignore_ascii_case}
+use Rattle.std.specs.Borrow.{Bor}
+use Rattle.csv.specs.Reading.{default_config, is_bom, records, strip_bom}
+use Rattle.lpis_covers.specs.declared.fault.Table.{Table}
+use Rattle.lpis_covers.specs.declared.fault.TableCode.{TableCode}
+use Rattle.lpis_covers.specs.declared.fault.TableCode.TheVariants.{NotCsv, MissingColumn, DoubledColumn, TooManyRows}
+use Rattle.lpis_covers.specs.declared.fault.TableFault.{TableFault}
+use Rattle.lpis_covers.specs.declared.fault.TableFault.TheVariants.{Memory, At}
+
+-- the most rows of a table, its header aside
+abbrev pub most_rows : ℕ
+most_rows = 200000
+
+-- a record is its fields
+abbrev pub Record : Type 0
+Record = List (List ℕ)
+
+-- a fault in a row of a table that tells of no polygon; row 0 is the header
+abbrev pub fault_at : TableCode → Table → ℕ → TableFault
+fault_at code table row = At code table row None
+
+-- whether a text starts with a byte order mark
+abbrev pub has_mark : List ℕ → Bool
+has_mark [] = false
+has_mark (a ∷ []) = false
+has_mark (a ∷ b ∷ []) = false
+has_mark (a ∷ b ∷ c ∷ rest) = is_bom a b c
+
+-- the places of the fields that have this name, compared in any mix of ASCII cases; the first field is at place i
+unfoldable pub places_of_name : List ℕ → ℕ → Record → List ℕ
+places_of_name name i [] = []
+places_of_name name i (field ∷ fields) =
+    if str_eq_ignore_ascii_case field name then i ∷ places_of_name name (i + 1) fields else places_of_name name (i + 1) fields
+
+-- a column stands where the header has its name, once
+abbrev pub one_place : List ℕ → Result ℕ TableCode
+one_place [] = Err MissingColumn
+one_place (place ∷ []) = Ok place
+one_place (place ∷ other ∷ more) = Err DoubledColumn
+
+abbrev pub place_of : Record → List ℕ → Result ℕ TableCode
+place_of header name = one_place (places_of_name name 0 header)
+
+abbrev pub and_place : ℕ → Result (List ℕ) TableCode → Result (List ℕ) TableCode
+and_place place (Ok places) = Ok (place ∷ places)
+and_place place (Err code) = Err code
+
+abbrev pub then_places : Result ℕ TableCode → Result (List ℕ) TableCode → Result (List ℕ) TableCode
+then_places (Ok place) more = and_place place more
+then_places (Err code) more = Err code
+
+-- the places of the columns of these names, or the fault of the first that has one
+unfoldable pub places_of : Record → List (List ℕ) → Result (List ℕ) TableCode
+places_of header [] = Ok []
+places_of header (name ∷ names) = then_places (place_of header name) (places_of header names)
+
+-- the field at a place, empty past the last one
+abbrev pub field_of : Record → ℕ → List ℕ
+field_of fields place = slice_index_or fields place []
+
+-- the fields at these places
+abbrev pub picked : List ℕ → Record → Record
+picked places fields = map (field_of fields) places
+
+-- the wanted fields of rows, and the fault that stops them, if one does
+pub record Found : Type 0 where
+  pub rows : List Record
+  pub stop : Option TableFault
+
+abbrev pub with_row : Record → Found → Found
+with_row row found = record { rows = row ∷ found.rows; stop = found.stop }
+
+abbrev pub stopped : TableFault → Found
+stopped fault = record { rows = []; stop = Some fault }
+
+-- the rows before the first whose length is not the header's or whose number is past the most, in this order; the first
+-- record is row n
+unfoldable pub rows_from : Table → ℕ → List ℕ → ℕ → List Record → Found
+rows_from table width places n [] = record { rows = []; stop = None }
+rows_from table width places n (r ∷ rs) =
+    if length r == width then
+    (if nat_lt most_rows n then stopped (fault_at TooManyRows table n)
+    else with_row (picked places r) (rows_from table width places (n + 1) rs))
+    else stopped (fault_at NotCsv table n)
+
+-- where a reader of a table stands: the number and the wanted fields of the row that it read last (fault_at the start row 0,
+-- the header), and what is left
+pub record Reading : Type 0 where
+  pub table : Table
+  pub number : ℕ
+  pub row : Record
+  pub rows : List Record
+  pub stop : Option TableFault
+
+abbrev pub reading : Table → ℕ → Record → Found → Reading
+reading table n row found = record { table = table; number = n; row = row; rows = found.rows; stop = found.stop }
+
+abbrev pub rows_under : Table → Record → List Record → Result (List ℕ) TableCode → Result Reading TableFault
+rows_under table header rs (Ok places) = Ok (reading table 0 (picked places header) (rows_from table (length header) places 1 rs))
+rows_under table header rs (Err code) = Err (fault_at code table 0)
+
+-- the first record is the header; a text without one lacks its first column
+abbrev pub under_header : Table → List (List ℕ) → List Record → Result Reading TableFault
+under_header table names [] = Err (fault_at MissingColumn table 0)
+under_header table names (header ∷ rs) = rows_under table header rs (places_of header names)
+
+-- the table of a text, by the names of the wanted columns: one byte order mark is skipped, and a second one is a fault
+unfoldable pub table_of : Table → List (List ℕ) → List ℕ → Result Reading TableFault
+table_of table names bytes =
+    if has_mark (strip_bom bytes) then Err (fault_at NotCsv table 0)
+    else under_header table names (records default_config (strip_bom bytes))
+
+-- what reading the next row does
+abbrev pub Advances : Reading → Reading → Result Bool TableFault → Type 0
+Advances old new (Ok true) =
+    (old.rows ≡ new.row ∷ new.rows) × (new.stop ≡ old.stop) × (new.number ≡ old.number + 1) × (new.table ≡ old.table) × (new.number ≤ most_rows)
+Advances old new (Ok false) = (old.rows ≡ []) × (old.stop ≡ None)
+Advances old new (Err Memory) = Unit {0}
+Advances old new (Err (At code table row wkt)) = (old.rows ≡ []) × (old.stop ≡ Some (At code table row wkt))
+
+-- a call answers what the definition says, or that memory ran out
+abbrev pub Answers : {A : Type 0} → Result A TableFault → Result A TableFault → Type 0
+Answers (Ok x) said = said ≡ Ok x
+Answers (Err Memory) said = Unit {0}
+Answers (Err (At code table row wkt)) said = said ≡ Err (At code table row wkt)
+
+-- the texts of borrowed names
+abbrev pub texts : List (Bor (List ℕ)) → List (List ℕ)
+texts names = map (λ (s : Bor (List ℕ)). s.now) names

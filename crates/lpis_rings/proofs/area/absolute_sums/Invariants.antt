@@ -1,0 +1,9 @@
+use Rattle.std.proofs.Common.{◌≡◌, ◌≤◌, ◌*◌, take, nat_abs}
+use Rattle.lpis_rings.specs.Area.{absolute_sums}
+use Rattle.lpis_rings.specs.AreaBounds.{most_term}
+use Rattle.lpis_rings.specs.Polygon.{points_in}
+use Rattle.lpis_rings.proofs.area.absolute_sums.Given as goal
+
+abbrev pub invariant-loop-ring : goal.invariant-loop-ring
+invariant-loop-ring l =
+    (l.sum ≡ absolute_sums (take l.ring-index l.rings)) × (nat_abs l.sum ≤ most_term * points_in (take l.ring-index l.rings))
