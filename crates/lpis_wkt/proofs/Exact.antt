@@ -4,9 +4,8 @@ use Rattle.std.proofs.lemmas.Bool.Decides.{nat_tests}
 use Rattle.std.specs.List.{list_all}
 use Rattle.std.specs.Char.{digit_value}
 use Rattle.std.specs.Str.Parse.{digits_value, digits_value_after}
-use Rattle.lpis_points.specs.Range.{limit}
 use Rattle.lpis_wkt.specs.declared.fault.WktCode.{WktCode}
-use Rattle.lpis_wkt.specs.Number.{coordinate_decimals, number, whole, decimals, size, padded, is_numeral, is_fine, is_zero, is_negative, signed}
+use Rattle.lpis_wkt.specs.Number.{coordinate_decimals, greatest, number, whole, decimals, size, padded, is_numeral, is_fine, is_zero, is_negative, signed}
 use Rattle.lpis_wkt.proofs.Digits.{value-append}
 
 and-both : (a b : Bool) → (a && b) ≡ true → (a ≡ true) × (b ≡ true)
@@ -65,7 +64,7 @@ abs-signed true (suc n) = refl
 pub exact : (w : List ℕ) (z : ℤ) → number w ≡ Ok z → nat_abs z * 10 ^ length (decimals w) ≡ 10 ^ coordinate_decimals * digits_value 10 (whole w ++ decimals w)
 unfolding number
 exact w z h =
-    let c = accepted-by (is_numeral w) (is_fine w) (nat_lt (nat_abs limit) (size w)) _ _ _ (signed (is_negative w) (size w)) z h in
+    let c = accepted-by (is_numeral w) (is_fine w) (nat_lt greatest (size w)) _ _ _ (signed (is_negative w) (size w)) z h in
     let amount : nat_abs z ≡ size w = ap nat_abs (sym c.1) ∙ abs-signed (is_negative w) (size w) in
     let front : size w ≡ digits_value_after 10 (digits_value_after 10 0 (whole w)) (padded coordinate_decimals (decimals w)) = value-append 0 (whole w) (padded coordinate_decimals (decimals w)) in
     let back : digits_value 10 (whole w ++ decimals w) ≡ digits_value_after 10 (digits_value_after 10 0 (whole w)) (decimals w) = value-append 0 (whole w) (decimals w) in
