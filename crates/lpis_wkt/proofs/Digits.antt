@@ -5,7 +5,7 @@ use Rattle.std.proofs.lemmas.List.{drop_all, take_all, drop-drop}
 use Rattle.std.specs.List.{position, position_or_len, before_first, after_first, list_all}
 use Rattle.std.specs.Str.Parse.{digits_value_after}
 use Rattle.std.specs.Char.{digit_value, is_ascii_digit}
-use Rattle.lpis_wkt.specs.Number.{is_point, padded, coordinate_decimals}
+use Rattle.lpis_wkt.specs.Number.{greatest, is_point, padded, coordinate_decimals}
 
 pub value-ge : (n : ℕ) (ds : List ℕ) → n ≤ digits_value_after 10 n ds
 value-ge n [] = omega arith
@@ -15,19 +15,19 @@ pub value-append : (n : ℕ) (a b : List ℕ) → digits_value_after 10 n (a ++ 
 value-append n [] b = refl
 value-append n (d ∷ a) b = value-append (n * 10 + digit_value d) a b
 
-chosen-some : (k l i : ℕ) (b : Bool) → cond b (Some k) None ≡ Some i → k ≡ i
-chosen-some k l i true h = cc
-chosen-some k l i false h = cc
+some-is : (k l i : ℕ) (b : Bool) → cond b (Some k) None ≡ Some i → k ≡ i
+some-is k l i true h = cc
+some-is k l i false h = cc
 
 pub found : (xs : List ℕ) (i : ℕ) → position is_point xs ≡ Some i → position_or_len is_point xs ≡ i
-found xs i h = chosen-some (position_or_len is_point xs) 0 i (nat_lt (position_or_len is_point xs) (length xs)) h
+found xs i h = some-is (position_or_len is_point xs) 0 i (nat_lt (position_or_len is_point xs) (length xs)) h
 
-chosen-none : (k : ℕ) (b : Bool) → cond b (Some k) None ≡ None → b ≡ false
-chosen-none k true h = cc
-chosen-none k false h = refl
+none-is : (k : ℕ) (b : Bool) → cond b (Some k) None ≡ None → b ≡ false
+none-is k true h = cc
+none-is k false h = refl
 
 pub not-found : (xs : List ℕ) → position is_point xs ≡ None → length xs ≤ position_or_len is_point xs
-not-found xs h = let past = chosen-none (position_or_len is_point xs) (nat_lt (position_or_len is_point xs) (length xs)) h in grind (arith, nat_tests)
+not-found xs h = let past = none-is (position_or_len is_point xs) (nat_lt (position_or_len is_point xs) (length xs)) h in grind (arith, nat_tests)
 
 pub parts_some : (xs : List ℕ) (i : ℕ) → position is_point xs ≡ Some i → (take i xs ≡ before_first is_point xs) × (take (length xs - (i + 1)) (drop (i + 1) xs) ≡ after_first is_point xs)
 parts_some xs i h =
@@ -87,7 +87,7 @@ decimal_above v n total ds i lt e =
 pub size_after : (ds more : List ℕ) → digits_value_after 10 0 (ds ++ more) ≡ digits_value_after 10 (digits_value_after 10 0 ds) more
 size_after ds more = value-append 0 ds more
 
-pub whole_above : (ds more : List ℕ) (r : Option ℕ) (P : ℕ → Type 0) → 2000000000 < digits_value_after 10 0 ds → r ≡ None → MatchOption r (2000000000 < digits_value_after 10 0 (ds ++ more)) P
+pub whole_above : (ds more : List ℕ) (r : Option ℕ) (P : ℕ → Type 0) → greatest < digits_value_after 10 0 ds → r ≡ None → MatchOption r (greatest < digits_value_after 10 0 (ds ++ more)) P
 whole_above ds more r P h e =
     let ge : digits_value_after 10 0 ds ≤ digits_value_after 10 0 (ds ++ more) = rw (size_after ds more) (value-ge (digits_value_after 10 0 ds) more) in
     rw e (omega arith)

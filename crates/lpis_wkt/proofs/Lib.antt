@@ -12,3 +12,4 @@ pub mod Tails
 pub mod Rows
 pub mod OneCode
 pub mod Outcomes
+pub mod Exact

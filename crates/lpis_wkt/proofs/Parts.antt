@@ -1,10 +1,11 @@
 -- Parts of a text that grow by a byte, and the numerals that they are.
 use Rattle.std.proofs.Common.{◌≡◌, ℕ, zero, suc, ◌+◌, ◌-◌, ◌*◌, ◌<◌, ◌≤◌, Bool, true, false, cond, not, ◌&&◌, ◌||◌, ◌==◌, List, [], ◌∷◌, ◌++◌, length, take, drop, get_or, refl, sym, ap, subst, ◌∙◌, arith, append_assoc, append-nil, length-append, drop-cons, add-one, one-add, add-zero, nat_lt, inl, inr}
 use Rattle.std.proofs.lemmas.Bool.Decides.{nat_tests}
+use Rattle.std.proofs.lemmas.List.{drop_all}
 use Rattle.std.specs.List.{list_all, position_or_len, before_first, after_first}
 use Rattle.std.specs.Char.{is_ascii_digit, digit_value}
 use Rattle.std.specs.Str.Parse.{digits_value, digits_value_after}
-use Rattle.lpis_wkt.specs.Number.{coordinate_decimals, is_point, is_zero, is_numeral, is_fine, padded, size, signed, unsigned, is_negative, number}
+use Rattle.lpis_wkt.specs.Number.{coordinate_decimals, greatest, is_point, is_zero, is_numeral, is_fine, padded, size, signed, unsigned, is_negative, number}
 use Rattle.lpis_wkt.specs.Runs.{IsPart, IsPlain, AllWord, Stops, IsSign, none, plus, minus}
 use Rattle.lpis_wkt.specs.Tokens.{Word, is_space, is_word, tokens_from}
 use Rattle.std.specs.Prelude.{ℤ, Result, Ok, Err, slice_range}
@@ -106,19 +107,16 @@ plain_sign : (ds more : List ℕ) → list_all is_ascii_digit ds ≡ true → 0 
 plain_sign [] more h some = absurd (omega arith)
 plain_sign (b ∷ ds) more h some = let both = and-both (is_ascii_digit b) (list_all is_ascii_digit ds) h in let d = no_sign b both.0 in (rw (d.0, d.1) refl, d.1)
 
-no_more : (more : List ℕ) → length more ≤ 2 → drop 2 more ≡ []
-no_more [] le = refl
-no_more (a ∷ []) le = refl
-no_more (a ∷ b ∷ []) le = refl
-no_more (a ∷ b ∷ c ∷ more) le = absurd (omega arith)
+no_more : (n : ℕ) (more : List ℕ) → length more ≤ n → drop n more ≡ []
+no_more n more le = drop_all n more le
 
 -- digits, a point and no more decimals than a coordinate has
 pub plain_decimals : (ds more : List ℕ) (n : ℕ) → list_all is_ascii_digit ds ≡ true → 0 < length ds → list_all is_ascii_digit more ≡ true → length more ≤ coordinate_decimals
-    → n ≡ digits_value 10 (ds ++ padded coordinate_decimals more) → n ≤ 2000000000 → IsPlain (ds ++ 46 ∷ more) n
+    → n ≡ digits_value 10 (ds ++ padded coordinate_decimals more) → n ≤ greatest → IsPlain (ds ++ 46 ∷ more) n
 plain_decimals ds more n h some k few size le =
     let parts = whole_of ds more h in
     let sign = plain_sign ds (46 ∷ more) h some in
-    let none : drop coordinate_decimals more ≡ [] = no_more more few in
+    let none : drop coordinate_decimals more ≡ [] = no_more coordinate_decimals more few in
     record {
       whole = rw parts.0 h;
       decimals = rw parts.1 k;
@@ -132,7 +130,7 @@ plain_decimals ds more n h some k few size le =
     }
 
 -- digits alone
-pub plain_whole : (ds : List ℕ) (n : ℕ) → list_all is_ascii_digit ds ≡ true → 0 < length ds → n ≡ digits_value 10 (ds ++ padded coordinate_decimals []) → n ≤ 2000000000 → IsPlain ds n
+pub plain_whole : (ds : List ℕ) (n : ℕ) → list_all is_ascii_digit ds ≡ true → 0 < length ds → n ≡ digits_value 10 (ds ++ padded coordinate_decimals []) → n ≤ greatest → IsPlain ds n
 plain_whole ds n h some size le =
     let parts = whole_only ds h in
     let same : ds ++ [] ≡ ds = append-nil ds in
@@ -165,17 +163,17 @@ number-by a b c x y z v ha hb hc = rw (ha, hb, hc) refl
 numeral : (a b : Bool) (m n : ℕ) → a ≡ true → b ≡ true → 0 < m → (a && b && nat_lt 0 (m + n)) ≡ true
 numeral a b m n ha hb lt = let some : nat_lt 0 (m + n) ≡ true = grind (arith, nat_tests) in rw (ha, hb, some) refl
 
-below : (n m : ℕ) → n ≡ m → n ≤ 2000000000 → nat_lt 2000000000 m ≡ false
+below : (n m : ℕ) → n ≡ m → n ≤ greatest → nat_lt greatest m ≡ false
 below n m e le = grind (arith, nat_tests)
 
 number_of : (negative : Bool) (w body : List ℕ) (n : ℕ) → unsigned w ≡ body → is_negative w ≡ negative → IsPlain body n → number w ≡ Ok (signed negative n)
 unfolding number
 number_of negative w body n e f p =
     let amount : size w ≡ n = rw e (sym p.size) in
-    number-by (is_numeral w) (is_fine w) (nat_lt 2000000000 (size w)) NotANumber TooFine OutOfRange (signed (is_negative w) (size w))
-        (rw e (numeral _ _ (length (before_first is_point body)) (length (after_first is_point body)) p.whole p.decimals p.some))
-        (rw e p.fine)
-        (rw e (below n _ p.size p.few))
+    number-by (is_numeral w) (is_fine w) (nat_lt greatest (size w)) NotANumber TooFine OutOfRange (signed (is_negative w) (size w))
+    (rw e (numeral _ _ (length (before_first is_point body)) (length (after_first is_point body)) p.whole p.decimals p.some))
+    (rw e p.fine)
+    (rw e (below n _ p.size p.few))
     ∙ rw (f, amount) refl
 
 pub signed_number : (sign body : List ℕ) (negative : Bool) (n : ℕ) → IsSign sign negative → IsPlain body n → number (sign ++ body) ≡ Ok (signed negative n)

@@ -47,6 +47,10 @@ padded zero ds = []
 padded (suc n) [] = 48 ∷ padded n []
 padded (suc n) (d ∷ ds) = d ∷ padded n ds
 
+-- the greatest size of a coordinate
+abbrev pub greatest : ℕ
+greatest = nat_abs limit
+
 -- the number in units of the last decimal of a coordinate, without its sign
 abbrev pub size : List ℕ → ℕ
 size w = digits_value 10 (whole w ++ padded coordinate_decimals (decimals w))
@@ -58,5 +62,5 @@ unfoldable pub number : List ℕ → Result ℤ WktCode
 number w =
     cond (not (is_numeral w)) (Err NotANumber)
     (cond (not (is_fine w)) (Err TooFine)
-    (cond (nat_lt (nat_abs limit) (size w)) (Err OutOfRange)
+    (cond (nat_lt greatest (size w)) (Err OutOfRange)
     (Ok (signed (is_negative w) (size w)))))

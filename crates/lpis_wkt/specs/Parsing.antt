@@ -76,6 +76,29 @@ Ends (Ok ms) r end = r ≡ Ok (Finished ms)
 Ends (Err Memory) r end = Unit {0}
 Ends (Err (At code offset)) r end = (r ≡ Err code) × (offset ≡ end)
 
+-- the keyword or a `(` is expected
+abbrev pub IsOpening : State → Type 0
+IsOpening AtKeyword = Unit {0}
+IsOpening (AfterKeyword m) = Unit {0}
+IsOpening (AtBody ms) = Unit {0}
+IsOpening (AtRing b) = Unit {0}
+IsOpening _ = ⊥
+
+-- an x or a y is expected
+abbrev pub IsAtCoordinate : State → Type 0
+IsAtCoordinate (AtX b ps) = Unit {0}
+IsAtCoordinate (AtY b ps x) = Unit {0}
+IsAtCoordinate _ = ⊥
+
+-- a `,`, a `)` or the end is expected
+abbrev pub IsClosing : State → Type 0
+IsClosing (AfterPoint b ps) = Unit {0}
+IsClosing (AfterRing b) = Unit {0}
+IsClosing (AfterBody ms) = Unit {0}
+IsClosing (AtEnd ms) = Unit {0}
+IsClosing _ = ⊥
+
+-- `,` or `)` after a ring is expected
 abbrev pub IsAfterRing : State → Type 0
 IsAfterRing (AfterRing b) = Unit {0}
 IsAfterRing _ = ⊥

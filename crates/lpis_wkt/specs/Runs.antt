@@ -1,11 +1,10 @@
 -- Parts of a text that are digits or words. Machinery: only private contracts cite this file.
-use Rattle.std.specs.Prelude.{◌≡◌, ℕ, ◌+◌, ◌<◌, ◌≤◌, Bool, true, false, List, [], ◌∷◌, ◌++◌, length, drop, nat_abs}
+use Rattle.std.specs.Prelude.{◌≡◌, ℕ, ◌+◌, ◌<◌, ◌≤◌, Bool, true, false, List, [], ◌∷◌, ◌++◌, length, drop}
 use Rattle.std.specs.List.{before_first, after_first, list_all}
 use Rattle.std.specs.Char.{is_ascii_digit}
 use Rattle.std.specs.Str.Parse.{digits_value}
-use Rattle.lpis_points.specs.Range.{limit}
 use Rattle.lpis_wkt.specs.Tokens.{is_word}
-use Rattle.lpis_wkt.specs.Number.{coordinate_decimals, is_point, is_zero, padded, unsigned, is_negative}
+use Rattle.lpis_wkt.specs.Number.{coordinate_decimals, greatest, is_point, is_zero, padded, unsigned, is_negative}
 
 -- these bytes stand from an offset up to another
 pub record IsPart (text : List ℕ) (at end : ℕ) (part : List ℕ) : Type 0 where
@@ -29,7 +28,7 @@ pub record IsPlain (body : List ℕ) (n : ℕ) : Type 0 where
   pub some : 0 < length (before_first is_point body)
   pub fine : list_all is_zero (drop coordinate_decimals (after_first is_point body)) ≡ true
   pub size : n ≡ digits_value 10 (before_first is_point body ++ padded coordinate_decimals (after_first is_point body))
-  pub few : n ≤ nat_abs limit
+  pub few : n ≤ greatest
   pub without_sign : unsigned body ≡ body
   pub positive : is_negative body ≡ false
   pub word : AllWord body

@@ -12,7 +12,7 @@ mod tokens;
 mod words;
 
 pub use fault::{WktCode, WktFault};
-pub use laws::{function_of_text, one_answer, one_code};
+pub use laws::{exact_numbers, function_of_text, one_answer, one_code};
 pub use reading::read;
 
 #[cfg(test)]

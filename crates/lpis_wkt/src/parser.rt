@@ -8,7 +8,7 @@ ghost use Rattle.lpis_wkt.specs.Table.{open_code, first_open_code};
 ghost use Rattle.lpis_wkt.specs.Machine.{Context, AtKeyword, AfterPoint, AfterRing, limited_step, close_ring, close_body};
 ghost use Rattle.lpis_wkt.specs.Coordinates.{point_of};
 ghost use Rattle.lpis_wkt.specs.Views.{token_of};
-ghost use Rattle.lpis_wkt.specs.Parsing.{Took, Ends, IsAfterRing, SameOutcome};
+ghost use Rattle.lpis_wkt.specs.Parsing.{Took, Ends, IsOpening, IsAtCoordinate, IsClosing, IsAfterRing, SameOutcome};
 
 use crate::coordinate::Coordinate;
 use crate::fault::{WktCode, WktFault};
@@ -113,7 +113,23 @@ impl Parser {
     }
 
     /// Takes the next token.
-    pub fn take(mut self, alloc: Global, next: Placed<'_>) -> Result<Parser, WktFault>
+    pub fn take(self, alloc: Global, next: Placed<'_>) -> Result<Parser, WktFault>
+        ensures { Took result (limited_step self (token_of next.entry.token)) next.entry.offset }
+    {
+        match self.place {
+            Place::Keyword | Place::FirstBody | Place::Body | Place::Ring => self.take_opening(
+                next,
+            ),
+            Place::X | Place::Y(_) => self.take_coordinate(next),
+            Place::PointEnd | Place::RingEnd | Place::BodyEnd | Place::End => {
+                self.take_closing(alloc, next)
+            }
+        }
+    }
+
+    /// Takes the next token where the keyword or a `(` is expected.
+    fn take_opening(mut self, next: Placed<'_>) -> Result<Parser, WktFault>
+        requires { IsOpening self }
         ensures { Took result (limited_step self (token_of next.entry.token)) next.entry.offset }
     {
         let offset = next.offset;
@@ -153,6 +169,18 @@ impl Parser {
                 }
                 token => open_code(token),
             },
+            _ => unreachable!(),
+        };
+        Err(WktFault::At { code, offset })
+    }
+
+    /// Takes the next token where an x or a y is expected.
+    fn take_coordinate(mut self, next: Placed<'_>) -> Result<Parser, WktFault>
+        requires { IsAtCoordinate self }
+        ensures { Took result (limited_step self (token_of next.entry.token)) next.entry.offset }
+    {
+        let offset = next.offset;
+        let code = match self.place {
             Place::X => match next.token {
                 Token::Word(_) if self.count >= MOST_POINTS => WktCode::TooManyPoints,
                 Token::Word(word) => match coordinate_of(word) {
@@ -167,8 +195,7 @@ impl Parser {
             Place::Y(x) => match next.token {
                 Token::Word(word) => match coordinate_of(word) {
                     Ok(y) => {
-                        let point = point_of(x, y);
-                        self.points.push(point)?;
+                        self.points.push(point_of(x, y))?;
                         self.count += 1;
                         self.place = Place::PointEnd;
                         return Ok(self);
@@ -177,6 +204,18 @@ impl Parser {
                 },
                 _ => WktCode::Syntax,
             },
+            _ => unreachable!(),
+        };
+        Err(WktFault::At { code, offset })
+    }
+
+    /// Takes the next token where a `,`, a `)` or the end is expected.
+    fn take_closing(mut self, alloc: Global, next: Placed<'_>) -> Result<Parser, WktFault>
+        requires { IsClosing self }
+        ensures { Took result (limited_step self (token_of next.entry.token)) next.entry.offset }
+    {
+        let offset = next.offset;
+        let code = match self.place {
             Place::PointEnd => match next.token {
                 Token::Comma => {
                     self.place = Place::X;
@@ -206,6 +245,7 @@ impl Parser {
                 _ => WktCode::Syntax,
             },
             Place::End => WktCode::Syntax,
+            _ => unreachable!(),
         };
         Err(WktFault::At { code, offset })
     }

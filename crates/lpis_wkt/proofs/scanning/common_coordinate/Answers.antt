@@ -12,7 +12,8 @@ returns-clause-word c =
     let stop : c.in_ok-size.end < length c.args.text.now → is_word (get_or c.args.text.now c.in_ok-size.end 0) ≡ false = elim c.else-end-text.branch [
       | else-end-text-via-then-end-text+else-is_word w ↦ λ lt. sym w.is_word.ensures ∙ w.if-is_word.false
       | else-end-text-via-else-end-text w ↦ λ lt. absurd (omega (arith, w.if-end-text.false))
-    ] in
-    (sign ++ body,
-    coordinate-ok (sign ++ body) c.signed.result (signed_number sign body c.past_sign-negative.result.0 c.in_ok-size.size is plain ∙ ap Ok (sym c.signed.ensures)),
-    signed_word c.args.text.now c.args.at c.past_sign-negative.result.1 c.in_ok-size.end sign body c.past_sign-negative.result.0 c.in_ok-size.size is p q plain stop)
+    ] in (
+      sign ++ body,
+      coordinate-ok (sign ++ body) c.signed.result (signed_number sign body c.past_sign-negative.result.0 c.in_ok-size.size is plain ∙ ap Ok (sym c.signed.ensures)),
+      signed_word c.args.text.now c.args.at c.past_sign-negative.result.1 c.in_ok-size.end sign body c.past_sign-negative.result.0 c.in_ok-size.size is p q plain stop,
+    )
