@@ -1,1 +1,3 @@
 pub mod NearPairs
+pub mod Strips
+pub mod Entering
