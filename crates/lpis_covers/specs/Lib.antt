@@ -1,5 +1,11 @@
+pub mod Classes
+pub mod ClassLaws
 pub mod Codes
 pub mod Columns
+pub mod CoverLaws
+pub mod Covers
+pub mod Faults
+pub mod FreshKeys
 pub mod Ids
 pub mod Keyed
 pub mod Left

@@ -1,3 +1,12 @@
 pub mod Range
-pub mod Chain
+pub mod RationalRange
+pub mod RatPoints
 pub mod Plane
+pub mod Triangles
+pub mod Chain
+pub mod Shift
+pub mod PointLaws
+pub mod ChainLaws
+pub mod TriangleLaws
+pub mod ShiftLaws
+pub mod Margins

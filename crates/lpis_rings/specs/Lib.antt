@@ -2,3 +2,7 @@ pub mod Ring
 pub mod Polygon
 pub mod Area
 pub mod AreaBounds
+pub mod Edges
+pub mod RingWalks
+pub mod Map
+pub mod MapLaws

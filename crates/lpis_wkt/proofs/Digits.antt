@@ -46,7 +46,7 @@ and-second : (a b : Bool) → (a && b) ≡ true → b ≡ true
 and-second true b h = h
 and-second false b h = cc
 
-is-digit : (b : ℕ) → is_ascii_digit b ≡ true → digit_value b ≡ b - 48
+pub is-digit : (b : ℕ) → is_ascii_digit b ≡ true → digit_value b ≡ b - 48
 is-digit b h =
     let digit = between b h in
     let low : nat_lt b 48 ≡ false = grind (arith, nat_tests) in
@@ -91,3 +91,6 @@ pub whole_above : (ds more : List ℕ) (r : Option ℕ) (P : ℕ → Type 0) →
 whole_above ds more r P h e =
     let ge : digits_value_after 10 0 ds ≤ digits_value_after 10 0 (ds ++ more) = rw (size_after ds more) (value-ge (digits_value_after 10 0 ds) more) in
     rw e (omega arith)
+
+pub digit-low : (b : ℕ) → is_ascii_digit b ≡ true → b - 48 ≤ 9
+digit-low b h = let d = between b h in omega arith

@@ -1,5 +1,6 @@
 pub mod Splitting
 pub mod Digits
+pub mod Parts
 pub mod Points
 pub mod Steps
 pub mod Closing

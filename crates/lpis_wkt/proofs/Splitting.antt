@@ -3,6 +3,7 @@ use Rattle.std.proofs.Common.{◌≡◌, ℕ, zero, suc, ◌+◌, ◌-◌, ◌<�
 use Rattle.std.proofs.lemmas.Bool.{cases_lt}
 use Rattle.std.proofs.lemmas.List.{take-append-drop, length-take-le, drop-drop, nil_from_length}
 use Rattle.std.proofs.lemmas.Bool.Decides.{nat_tests}
+use Rattle.lpis_wkt.specs.Runs.{AllWord, Stops}
 use Rattle.lpis_wkt.specs.Tokens.{Token, Open, Close, Comma, Word, End, is_space, is_word, join, tokens_from}
 
 abbrev Tokens : Type 0
@@ -64,11 +65,6 @@ apart-chosen false false true m at b rest w h k = refl
 apart-chosen false false false true at b rest w h k = refl
 apart-chosen false false false false at b rest w h k = cc
 
--- no word goes on here
-abbrev pub Stops : List ℕ → Type 0
-Stops [] = Unit {0}
-Stops (b ∷ bs) = is_word b ≡ false
-
 last_byte : (at b : ℕ) (rest : List ℕ) → Stops rest → join at b (tokens_from (at + 1) rest) ≡ (at, Word (b ∷ [])) ∷ tokens_from (at + 1) rest
 last_byte at b [] h = refl
 last_byte at b (c ∷ rest) h =
@@ -76,14 +72,10 @@ last_byte at b (c ∷ rest) h =
     let later : From (at + 2) (tokens_from (at + 1 + 1) rest) = rw (← two) (from-tokens (at + 1 + 1) rest) in
     apart-chosen (is_space c) (c == 40) (c == 41) (c == 44) at b (tokens_from (at + 1 + 1) rest) (join (at + 1) c (tokens_from (at + 1 + 1) rest)) h later
 
-abbrev AllWord : List ℕ → Type 0
-AllWord [] = Unit {0}
-AllWord (b ∷ bs) = (is_word b ≡ true) × AllWord bs
-
 first_byte : (at b : ℕ) (bs : List ℕ) → is_word b ≡ true → tokens_from at (b ∷ bs) ≡ join at b (tokens_from (at + 1) bs)
 first_byte at b bs h = chosen_word (is_space b) (b == 40) (b == 41) (b == 44) at (tokens_from (at + 1) bs) (join at b (tokens_from (at + 1) bs)) h
 
-whole_word : (at b : ℕ) (w rest : List ℕ) → is_word b ≡ true → AllWord w → Stops rest → tokens_from at (b ∷ w ++ rest) ≡ (at, Word (b ∷ w)) ∷ tokens_from (at + suc (length w)) rest
+pub whole_word : (at b : ℕ) (w rest : List ℕ) → is_word b ≡ true → AllWord w → Stops rest → tokens_from at (b ∷ w ++ rest) ≡ (at, Word (b ∷ w)) ∷ tokens_from (at + suc (length w)) rest
 whole_word at b [] rest h all stops = first_byte at b rest h ∙ last_byte at b rest stops
 whole_word at b (c ∷ w) rest h all stops =
     let ih : tokens_from (at + 1) (c ∷ w ++ rest) ≡ (at + 1, Word (c ∷ w)) ∷ tokens_from (at + 1 + suc (length w)) rest = whole_word (at + 1) c w rest all.0 all.1 stops in
@@ -97,7 +89,7 @@ all-word (suc n) at text le h =
     let lt : at < length text = omega arith in
     rw (drop-cons text at 0) (h at (omega arith) (omega arith), all-word n (suc at) text (omega arith) (λ k a b. h k (omega arith) (omega arith)))
 
-stops-at : (i : ℕ) (text : List ℕ) → (i < length text → is_word (get_or text i 0) ≡ false) → Stops (drop i text)
+pub stops-at : (i : ℕ) (text : List ℕ) → (i < length text → is_word (get_or text i 0) ≡ false) → Stops (drop i text)
 stops-at i text h = elim (cases_lt i (length text)) [
   | inl lt ↦ rw (drop-cons text i 0) (h lt)
   | inr le ↦ rw (nil_from_length (drop i text) (simp length-drop (omega arith))) tt

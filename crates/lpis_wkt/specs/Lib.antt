@@ -10,3 +10,4 @@ pub mod Coordinates
 pub mod Machine
 pub mod Views
 pub mod Parsing
+pub mod Runs

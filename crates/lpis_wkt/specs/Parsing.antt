@@ -1,5 +1,5 @@
 -- The parser's values, as the machine's states. Machinery: only private contracts cite this file.
-use Rattle.std.specs.Prelude.{◌≡◌, ℕ, ◌+◌, ◌<◌, ◌≤◌, true, List, [], length, Result, Ok, Err}
+use Rattle.std.specs.Prelude.{◌≡◌, ℕ, ◌+◌, ◌<◌, ◌≤◌, true, List, [], ◌++◌, length, Result, Ok, Err}
 use Rattle.lpis_points.specs.declared.point.Point.{Point}
 use Rattle.lpis_rings.specs.declared.polygon.Member.{Member}
 use Rattle.lpis_rings.specs.Polygon.{most_points}
@@ -8,7 +8,8 @@ use Rattle.lpis_wkt.specs.declared.fault.WktFault.{WktFault}
 use Rattle.lpis_wkt.specs.declared.fault.WktFault.TheVariants.{Memory, At}
 use Rattle.lpis_wkt.specs.declared.parser.Place.{Place}
 use Rattle.lpis_wkt.specs.declared.parser.Place.TheVariants as place
-use Rattle.lpis_wkt.specs.Machine.{Context, State, AtKeyword, AfterKeyword, AtBody, AtRing, AtX, AtY, AfterPoint, AfterRing, AfterBody, AtEnd, Finished, points_before}
+use Rattle.lpis_wkt.specs.Machine.{Context, State, AtKeyword, AfterKeyword, AtBody, AtRing, AtX, AtY, AfterPoint, AfterRing, AfterBody, AtEnd, Finished, points_before, outcome}
+use Rattle.lpis_wkt.specs.Tokens.{Token}
 
 abbrev pub state_of : Place → Context → List Point → State
 state_of place.Keyword b ps = AtKeyword
@@ -84,3 +85,7 @@ abbrev pub Told : Result (List Member) WktFault → Result State (WktCode × ℕ
 Told (Ok ms) r = r ≡ Ok (Finished ms)
 Told (Err Memory) r = Unit {0}
 Told (Err (At code offset)) r = r ≡ Err (code, offset)
+
+-- what comes of these states and tokens is the same, whatever tokens follow
+abbrev pub SameOutcome : State → List (ℕ × Token) → State → List (ℕ × Token) → Type 0
+SameOutcome s ts s' ts' = (rest : List (ℕ × Token)) → outcome s (ts ++ rest) ≡ outcome s' (ts' ++ rest)

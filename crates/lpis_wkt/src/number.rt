@@ -12,10 +12,10 @@ use crate::coordinate::Coordinate;
 use crate::fault::WktCode;
 
 /// The decimals of a coordinate: the text is in metres, a coordinate in centimetres.
-const DECIMALS: usize = 2;
+pub const DECIMALS: usize = 2;
 
 /// The greatest size of a coordinate.
-const GREATEST: u64 = lpis_points::LIMIT as u64;
+pub const GREATEST: u64 = lpis_points::LIMIT as u64;
 
 fn is_negative(word: &[u8]) -> bool
     ensures { result ≡ is_negative word.now }
@@ -90,7 +90,7 @@ fn digit_at(digits: &[u8], i: usize) -> u64
 }
 
 /// The number with the decimals of a coordinate after it, if it is not above the greatest.
-fn with_decimals(front: u64, digits: &[u8]) -> Option<u64>
+pub fn with_decimals(front: u64, digits: &[u8]) -> Option<u64>
     requires front { front ≤ GREATEST }
     requires digits { list_all is_ascii_digit digits.now ≡ true }
     ensures { MatchOption result (GREATEST < digits_value_after 10 front (padded coordinate_decimals digits.now)) (λ n. (n ≡ digits_value_after 10 front (padded coordinate_decimals digits.now)) × (n ≤ GREATEST)) }

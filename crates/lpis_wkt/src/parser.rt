@@ -1,18 +1,19 @@
 //! The polygon that tokens spell, token by token.
 
-ghost use Rattle.std.specs.Prelude.{◌≡◌, ℕ, List, Ok};
+ghost use Rattle.std.specs.Prelude.{◌≡◌, ◌<◌, ◌≤◌, ℕ, true, List, length, Ok, IfOk, IfErr};
 ghost use Rattle.lpis_points.specs.declared.point.Point.{Point};
 ghost use Rattle.lpis_wkt.specs.Tokens.{End};
+ghost use Rattle.lpis_wkt.specs.declared.fault.WktFault.TheVariants.{Memory};
 ghost use Rattle.lpis_wkt.specs.Table.{open_code, first_open_code};
 ghost use Rattle.lpis_wkt.specs.Machine.{Context, AtKeyword, AfterPoint, AfterRing, limited_step, close_ring, close_body};
 ghost use Rattle.lpis_wkt.specs.Coordinates.{point_of};
 ghost use Rattle.lpis_wkt.specs.Views.{token_of};
-ghost use Rattle.lpis_wkt.specs.Parsing.{Took, Ends, IsAfterRing};
+ghost use Rattle.lpis_wkt.specs.Parsing.{Took, Ends, IsAfterRing, SameOutcome};
 
 use crate::coordinate::Coordinate;
 use crate::fault::{WktCode, WktFault};
 use crate::number::coordinate_of;
-use crate::tokens::{Placed, Token};
+use crate::tokens::{Placed, Token, Tokens};
 use crate::words::{is_dimension, is_empty, is_multi, is_polygon, keyword_code};
 use lpis_points::Point;
 use lpis_rings::{MOST_POINTS, Member, Polygon, Ring, RingFault, Sequence};
@@ -207,6 +208,40 @@ impl Parser {
             Place::End => WktCode::Syntax,
         };
         Err(WktFault::At { code, offset })
+    }
+
+    /// Takes a point and a `,` after it, if they come and are written as most are, and tells whether another may come.
+    fn take_point(&mut self, tokens: &mut Tokens<'_>) -> Result<bool, WktFault>
+        ensures same { IfOk result (λ _. SameOutcome self.new tokens.new self.old tokens.old) }
+        ensures fewer { IfOk result (λ _. length tokens.new ≤ length tokens.old) }
+        ensures taken { IfOk result (λ more. more ≡ true → length tokens.new < length tokens.old) }
+        ensures memory { IfErr result (λ fault. fault ≡ Memory) }
+    {
+        if !matches!(self.place, Place::X) || self.count >= MOST_POINTS {
+            return Ok(false);
+        }
+        let Some(x) = tokens.next_coordinate() else {
+            return Ok(false);
+        };
+        let Some(y) = tokens.next_coordinate() else {
+            self.place = Place::Y(x);
+            return Ok(false);
+        };
+        self.points.push(point_of(x, y))?;
+        self.count += 1;
+        let more = tokens.next_comma();
+        self.place = if more { Place::X } else { Place::PointEnd };
+        Ok(more)
+    }
+
+    /// Takes points as long as they are written as most are.
+    pub fn take_points(&mut self, tokens: &mut Tokens<'_>) -> Result<(), WktFault>
+        ensures same { IfOk result (λ _. SameOutcome self.new tokens.new self.old tokens.old) }
+        ensures fewer { IfOk result (λ _. length tokens.new ≤ length tokens.old) }
+        ensures memory { IfErr result (λ fault. fault ≡ Memory) }
+    {
+        while self.take_point(tokens)? {}
+        Ok(())
     }
 
     /// Takes the `)` of a ring.

@@ -1,0 +1,14 @@
+pub mod Points
+pub mod IntLaws
+pub mod IntRing
+pub mod Signs
+pub mod Crossings
+pub mod Triangles
+pub mod Turning
+pub mod Separation
+pub mod ApartBoxes
+pub mod Shift
+pub mod Chains
+pub mod Odd
+pub mod Corners
+pub mod NetCounts

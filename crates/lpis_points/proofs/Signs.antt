@@ -1,0 +1,61 @@
+-- Machinery: signs of products over ℤ.
+use Rattle.std.proofs.Common.{◌≡◌, suc, zero, ℤ, pos, negsuc, ◌*ℤ◌, neg_ℤ, ◌≤ℤ◌, ◌<ℤ◌, arith}
+use Rattle.std.proofs.lemmas.Int.{ints, by_lt_z}
+
+pub pos-mul-pos : (a b : ℤ) → pos 0 <ℤ a → pos 0 <ℤ b → pos 0 <ℤ (a *ℤ b)
+pos-mul-pos (pos zero) b h k = absurd (omega (arith, ints))
+pos-mul-pos (pos (suc a)) (pos zero) h k = absurd (omega (arith, ints))
+pos-mul-pos (pos (suc a)) (pos (suc b)) h k = omega (arith, ints)
+pos-mul-pos (pos (suc a)) (negsuc b) h k = absurd (omega (arith, ints))
+pos-mul-pos (negsuc a) b h k = absurd (omega (arith, ints))
+
+pub neg_mul : (a b : ℤ) → neg_ℤ a *ℤ b ≡ neg_ℤ (a *ℤ b)
+neg_mul (pos zero) b = omega (arith, ints)
+neg_mul (pos (suc a)) b = omega (arith, ints)
+neg_mul (negsuc a) b = omega (arith, ints)
+
+pub neg-mul-pos : (a b : ℤ) → a <ℤ pos 0 → pos 0 <ℤ b → (a *ℤ b) <ℤ pos 0
+neg-mul-pos a b h k = let n : pos 0 <ℤ neg_ℤ a = omega (arith, ints) in omega (arith, ints, pos-mul-pos (neg_ℤ a) b n k, neg_mul a b)
+
+-- weak signs
+pub pos-mul-not_neg : (a b : ℤ) → pos 0 ≤ℤ a → pos 0 ≤ℤ b → pos 0 ≤ℤ (a *ℤ b)
+pos-mul-not_neg (pos a) (pos b) h k = omega (arith, ints)
+pos-mul-not_neg (pos a) (negsuc b) h k = absurd (omega (arith, ints))
+pos-mul-not_neg (negsuc a) b h k = absurd (omega (arith, ints))
+
+pub pos-mul-not_pos : (a b : ℤ) → pos 0 ≤ℤ a → b ≤ℤ pos 0 → (a *ℤ b) ≤ℤ pos 0
+pos-mul-not_pos a b h k = let n : pos 0 ≤ℤ neg_ℤ b = omega (arith, ints) in omega (arith, ints, pos-mul-not_neg (neg_ℤ b) a n h, neg_mul b a)
+
+pub neg-mul-not_neg : (a b : ℤ) → a ≤ℤ pos 0 → pos 0 ≤ℤ b → (a *ℤ b) ≤ℤ pos 0
+neg-mul-not_neg a b h k = let n : pos 0 ≤ℤ neg_ℤ a = omega (arith, ints) in omega (arith, ints, pos-mul-not_neg (neg_ℤ a) b n k, neg_mul a b)
+
+pub neg-mul-not_pos : (a b : ℤ) → a ≤ℤ pos 0 → b ≤ℤ pos 0 → pos 0 ≤ℤ (a *ℤ b)
+neg-mul-not_pos a b h k = let n : pos 0 ≤ℤ neg_ℤ a = omega (arith, ints) in omega (arith, ints, pos-mul-not_pos (neg_ℤ a) b n k, neg_mul a b)
+
+pub zero_of_mul : (o d : ℤ) → pos 0 <ℤ d → o *ℤ d ≡ pos 0 → o ≡ pos 0
+zero_of_mul o d h e = by_lt_z o (pos 0)
+    (λ n. absurd (below (o *ℤ d) (neg-mul-pos o d n h) e))
+    (λ k. by_lt_z (pos 0) o (λ p. absurd (above (o *ℤ d) (pos-mul-pos o d p h) e)) (λ l. omega (arith, ints)))
+  where
+    below : (x : ℤ) → x <ℤ pos 0 → x ≡ pos 0 → ⊥
+    below x l e = omega (arith, ints)
+
+    above : (x : ℤ) → pos 0 <ℤ x → x ≡ pos 0 → ⊥
+    above x l e = omega (arith, ints)
+
+-- the sign of a factor, from that of the product with a positive one
+pub not_neg_of_mul : (d z : ℤ) → pos 0 <ℤ d → pos 0 ≤ℤ (d *ℤ z) → pos 0 ≤ℤ z
+not_neg_of_mul d z h k = by_lt_z z (pos 0)
+    (λ n. absurd (clash (d *ℤ z) (z *ℤ d) (omega (arith, ints)) (neg-mul-pos z d n h) k))
+    (λ l. l)
+  where
+    clash : (x y : ℤ) → x ≡ y → y <ℤ pos 0 → pos 0 ≤ℤ x → ⊥
+    clash x y e l k = omega (arith, ints)
+
+pub not_pos_of_mul : (d z : ℤ) → pos 0 <ℤ d → (d *ℤ z) ≤ℤ pos 0 → z ≤ℤ pos 0
+not_pos_of_mul d z h k = by_lt_z (pos 0) z
+    (λ n. absurd (clash (d *ℤ z) (pos-mul-pos d z h n) k))
+    (λ l. l)
+  where
+    clash : (x : ℤ) → pos 0 <ℤ x → x ≤ℤ pos 0 → ⊥
+    clash x l k = omega (arith, ints)

@@ -1,0 +1,24 @@
+-- Machinery, cited by private contracts alone: how large the numbers get on the way to a side. Each bound is computed from the
+-- first two, of which the first is ten times the limit of a coordinate, so that the limit may grow.
+use Rattle.std.specs.Prelude.{ℕ, ◌*◌}
+
+abbrev pub coordinate_margin : ℕ
+coordinate_margin = 20000000000
+
+abbrev pub denominator_margin : ℕ
+denominator_margin = 1000000
+
+-- from one coordinate to another
+abbrev pub step_margin : ℕ
+step_margin = 2 * coordinate_margin
+
+-- a coordinate in parts of a denominator
+abbrev pub height_margin : ℕ
+height_margin = coordinate_margin * denominator_margin
+
+-- from one such number to another
+abbrev pub offset_margin : ℕ
+offset_margin = 2 * height_margin
+
+abbrev pub product_margin : ℕ
+product_margin = step_margin * offset_margin
