@@ -17,6 +17,14 @@ pub enum Cmd<'a> {
     },
 }
 
+/// An argument with the text that help has for it.
+fn described<'a>(argument: Arg<'a>, text: &'a str) -> Arg<'a>
+    ensures rule { rule_of result ≡ rule_of argument.entry }
+    ensures local { result.global ≡ argument.entry.global }
+{
+    argument.help(text)
+}
+
 /// A required argument of one word.
 fn word_argument<'a>(alloc: Global, id: &'a str) -> Arg<'a>
     ensures rule { rule_of result ≡ word_rule id.entry.now }
@@ -29,7 +37,11 @@ fn word_argument<'a>(alloc: Global, id: &'a str) -> Arg<'a>
 fn area_command<'a>(alloc: Global) -> Result<Command<'a>, AllocError>
     ensures { IfOk result (λ c. IsCommandOf area_app c) }
 {
-    Command::new(alloc, "area").arg(word_argument(alloc, "file"))
+    let file = word_argument(alloc, "file");
+    let file = described(file, "A table in CSV with a column `wkt`");
+    Command::new(alloc, "area")
+        .about("Prints the area of each polygon of a table, in square metres")
+        .arg(file)
 }
 
 /// The program's command line: one of its commands, which has to be there.
@@ -38,6 +50,7 @@ fn command_line<'a>(alloc: Global) -> Result<Command<'a>, AllocError>
 {
     let area = area_command(alloc)?;
     Command::new(alloc, "lpis")
+        .about("Checks the releases of a Land Parcel Identification System")
         .subcommand_required(true)
         .subcommand(area)
 }

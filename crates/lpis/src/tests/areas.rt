@@ -1,6 +1,6 @@
 //! The areas of polygons, and the faults of their texts.
 
-use super::{SQUARE, assert_area, assert_line, assert_wkt_fault, table_of};
+use super::{SQUARE, expect_area, expect_line, expect_wkt_fault, table_of};
 use std::test::Fail;
 
 #[test]
@@ -33,7 +33,7 @@ fn polygons_have_their_areas(rt: HostRuntime) -> Result<(), Fail> {
             "94.00000",
         ),
     ] {
-        assert_line(&rt, text, area)?;
+        expect_line(&rt, text, area)?;
     }
     Ok(())
 }
@@ -59,7 +59,7 @@ fn other_texts_have_their_faults(rt: HostRuntime) -> Result<(), Fail> {
             "15 at 9",
         ),
     ] {
-        assert_wkt_fault(&rt, text, fault)?;
+        expect_wkt_fault(&rt, text, fault)?;
     }
     Ok(())
 }
@@ -72,7 +72,7 @@ fn leading_zeros_are_taken(rt: HostRuntime) -> Result<(), Fail> {
         text.push('0')?;
     }
     text.push_str("10 0,10 10,0 10,0 0))")?;
-    assert_line(&rt, text.as_str(), "100.00000")
+    expect_line(&rt, text.as_str(), "100.00000")
 }
 
 #[test]
@@ -85,5 +85,5 @@ fn prefixes_of_a_square_are_refused(rt: HostRuntime) -> Result<(), Fail> {
         assert!(rt; status == 2, "{prefix}");
         assert!(rt; out.starts_with(b"refused 38 area row 1 wkt "), "{prefix}");
     }
-    assert_area(&rt, table_of(&rt, SQUARE)?.as_bytes(), "100.00000\n", 0)
+    expect_area(&rt, table_of(&rt, SQUARE)?.as_bytes(), "100.00000\n", 0)
 }

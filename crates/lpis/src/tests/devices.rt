@@ -52,6 +52,7 @@ impl Read for Halting<'_> {
 }
 
 /// A writer that takes so many bytes, and then fails.
+#[derive(Drop)]
 struct Full {
     room: usize,
 }

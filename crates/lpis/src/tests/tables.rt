@@ -1,6 +1,6 @@
 //! Tables of polygons, and their faults.
 
-use super::assert_area;
+use super::expect_area;
 use std::test::Fail;
 
 static ROW: &str = "\"POLYGON((0 0,10 0,10 10,0 10,0 0))\"\n";
@@ -25,7 +25,7 @@ fn tables_have_their_answers(rt: HostRuntime) -> Result<(), Fail> {
             0,
         ),
     ] {
-        assert_area(&rt, table.as_bytes(), text, status)?;
+        expect_area(&rt, table.as_bytes(), text, status)?;
     }
     for (before, text, status) in [
         ("wkt\n", "100.00000\n", 0),
@@ -33,12 +33,12 @@ fn tables_have_their_answers(rt: HostRuntime) -> Result<(), Fail> {
         ("\u{feff}\u{feff}wkt\n", "refused 30 area row 0\n", 2),
     ] {
         let table = format!(in rt.alloc(); "{before}{row}")?;
-        assert_area(&rt, table.as_bytes(), text, status)?;
+        expect_area(&rt, table.as_bytes(), text, status)?;
     }
     Ok(())
 }
 
 #[test]
 fn a_field_has_to_be_text(rt: HostRuntime) -> Result<(), Fail> {
-    assert_area(&rt, b"wkt\nPOLYGON\xff\n", "refused 30 area row 1\n", 2)
+    expect_area(&rt, b"wkt\nPOLYGON\xff\n", "refused 30 area row 1\n", 2)
 }
