@@ -1,11 +1,10 @@
 //! The runs of the commands, over any readers and writers.
 
-ghost use Rattle.std.specs.Prelude.{◌≡◌, ◌+◌, IfOk, IfSome, OnOk};
-ghost use Rattle.std.specs.List.{flat_map};
+ghost use Rattle.std.specs.Prelude.{◌≡◌, IfOk, IfSome, OnOk};
 ghost use Rattle.std.specs.Io.KnownBytes.{Appends};
-ghost use Rattle.lpis.specs.AreaAnswer.{Answers, answer_of, areas_or_first, faults_of, line_of_row, polygon_in};
+ghost use Rattle.lpis.specs.AreaAnswer.{Answers, answer_from, answer_of};
 ghost use Rattle.lpis.specs.Refusals.{refusal_text};
-ghost use Rattle.lpis.specs.Runs.{Finds, Tells};
+ghost use Rattle.lpis.specs.Runs.{Tells, polygons_left};
 ghost use Rattle.lpis.specs.Status.{unreadable};
 ghost use Rattle.lpis_covers.specs.declared.fault.Table.TheVariants as tables;
 
@@ -14,9 +13,8 @@ use crate::printing::{PrintFault, print_line};
 use crate::reading::{GREATEST_LIMIT, ReadFault, read_all};
 use crate::refusal::print_table_fault;
 use crate::status::{DONE, UNREADABLE};
-use lpis_covers::{Table, TableCode, TableFault, TableReader};
-use lpis_rings::{Polygon, area2};
-use lpis_wkt::{WktFault, read};
+use lpis_covers::{Table, TableFault, TableReader};
+use lpis_rings::area2;
 use std::alloc::Global;
 use std::io::{Read, Write};
 
@@ -43,34 +41,14 @@ fn refuse<W: Write>(fault: &TableFault, out: &mut W) -> Result<u8, Failure>
     }
 }
 
-/// The polygon of the row that was read last.
-fn row_polygon(alloc: Global, reader: &TableReader<'_>) -> Result<Polygon, TableFault>
-    requires { reader.now.table ≡ tables.Area }
-    ensures { Finds result (polygon_in reader.now.number reader.now.row) }
-{
-    let Ok(text) = str::from_utf8(reader.field(0)) else {
-        return Err(reader.fault(TableCode::NotCsv));
-    };
-    match read(alloc, text) {
-        Ok(polygon) => Ok(polygon),
-        Err(WktFault::Memory) => Err(TableFault::Memory),
-        Err(WktFault::At { code, offset }) => Err(TableFault::At {
-            code: TableCode::BadGeometry,
-            table: Table::Area,
-            row: reader.number(),
-            wkt: Some(WktFault::At { code, offset }),
-        }),
-    }
-}
-
 /// The area of each row that is left, on a line of its own.
 fn lines_under(alloc: Global, reader: &mut TableReader<'_>) -> Result<Vec<u8>, TableFault>
     requires { reader.old.table ≡ tables.Area }
-    ensures { Tells (λ v. v.items) result (areas_or_first (faults_of (reader.old.number + 1) reader.old.rows reader.old.stop) (flat_map line_of_row reader.old.rows)) }
+    ensures { Tells (λ v. v.items) result (answer_from (polygons_left reader.old)) }
 {
     let mut lines = Vec::new(alloc);
     while reader.next_row()? {
-        let polygon = row_polygon(alloc, reader)?;
+        let polygon = reader.polygon(alloc, 0)?;
         if print_line(area2(&polygon), &mut lines).is_err() {
             return Err(TableFault::Memory);
         }

@@ -1,6 +1,4 @@
-use Rattle.std.proofs.Common.{◌≡◌, ◌+◌, ◌++◌, length}
-use Rattle.std.specs.List.{flat_map}
-use Rattle.lpis.specs.AreaAnswer.{faults_of, line_of_row}
+use Rattle.std.proofs.Common.{length}
 use Rattle.lpis.proofs.RunLemmas.{GoesOn}
 use Rattle.lpis.proofs.running.lines_under.Given as goal
 
