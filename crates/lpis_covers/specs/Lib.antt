@@ -1,8 +1,6 @@
 pub mod Classes
-pub mod ClassLaws
 pub mod Codes
 pub mod Columns
-pub mod CoverLaws
 pub mod Covers
 pub mod Faults
 pub mod FreshKeys

@@ -33,8 +33,10 @@ impl Identified for Class {
 
 impl TableRow for Class {
     ghost use Rattle.std.specs.Prelude.{refl};
-    ghost use Rattle.lpis_covers.specs.Classes.{classes_table};
-    ghost use Rattle.lpis_covers.specs.ClassLaws.{class_key_is_fresh};
+    ghost use Rattle.lpis_covers.specs.declared.fault.Table.TheVariants as table;
+    ghost use Rattle.lpis_covers.specs.Classes.{classes_table, eligible_faults};
+    ghost use Rattle.lpis_covers.specs.FreshKeys.{fresh_key};
+    ghost use Rattle.lpis_covers.specs.Table.{field_of};
 
     ghost kind = { classes_table };
 
@@ -62,7 +64,7 @@ impl TableRow for Class {
 
     ghost key_is_first = { λ row. refl };
 
-    ghost key_is_fresh = { class_key_is_fresh };
+    ghost key_is_fresh = { λ keys n row none. fresh_key table.Classes n keys (field_of row 0) (eligible_faults n (field_of row 1)) none };
 }
 
 /// The classes of the table `classes`, with the columns `class` and `eligible`, or its first fault.

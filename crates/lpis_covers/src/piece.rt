@@ -38,8 +38,10 @@ impl Identified for Piece {
 
 impl TableRow for Piece {
     ghost use Rattle.std.specs.Prelude.{refl};
-    ghost use Rattle.lpis_covers.specs.Covers.{covers_table};
-    ghost use Rattle.lpis_covers.specs.CoverLaws.{piece_key_is_fresh};
+    ghost use Rattle.lpis_covers.specs.declared.fault.Table.TheVariants as table;
+    ghost use Rattle.lpis_covers.specs.Covers.{covers_table, more_piece_faults};
+    ghost use Rattle.lpis_covers.specs.FreshKeys.{fresh_key};
+    ghost use Rattle.lpis_covers.specs.Table.{field_of};
 
     ghost kind = { covers_table };
 
@@ -70,7 +72,7 @@ impl TableRow for Piece {
 
     ghost key_is_first = { λ row. refl };
 
-    ghost key_is_fresh = { piece_key_is_fresh };
+    ghost key_is_fresh = { λ keys n row none. fresh_key table.Covers n keys (field_of row 0) (more_piece_faults n row) none };
 }
 
 /// The pieces of the table `covers`, with the columns `piece`, `parcel`, `class` and `wkt`, or its first fault.
