@@ -12,8 +12,8 @@
 //! | `box_of`, `apart` | the least and greatest x and y; whether two boxes share no inner point |
 //! | `separates` | whether a line through two different points has one triangle on its left and the other on its right |
 //!
-//! Each answer is proved to be that of the definitions in `specs/Plane.antt` and `specs/Triangles.antt`. What follows from
-//! these definitions at every rational point stands in `laws`.
+//! Each answer is proved to be that of the definitions in `specs/Plane.antt` and `specs/Triangles.antt`. What follows
+//! from these definitions at every rational point stands in `laws`.
 #![tactic(auto)]
 
 mod boxes;

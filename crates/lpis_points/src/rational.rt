@@ -8,8 +8,8 @@ use crate::point::LIMIT;
 /// The greatest denominator of a `RatPoint`.
 pub const GREATEST_DENOMINATOR: i64 = 1_000_000;
 
-/// The point (x/d, y/d) of the plane, in centimetres. Its denominator is 1 to `GREATEST_DENOMINATOR`, and both quotients
-/// are in the range of a coordinate.
+/// The point (x/d, y/d) of the plane, in centimetres. Its denominator is 1 to `GREATEST_DENOMINATOR`, and both
+/// quotients are in the range of a coordinate.
 #[derive(Clone, Copy, Debug, PartialEq, Eq)]
 pub struct RatPoint {
     pub x: i64,
