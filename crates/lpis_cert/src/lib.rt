@@ -31,3 +31,6 @@ pub use part::{PairLine, ParcelPart, PiecePart};
 pub use reading::read_cert;
 pub use version::Version;
 pub use writing::{WriteFault, write_cert};
+
+#[cfg(test)]
+mod tests;

@@ -12,7 +12,7 @@ use crate::cert::Cert;
 use crate::part::{PairLine, ParcelPart, PiecePart};
 use crate::version::Version;
 use lpis_points::Triangle;
-use std::io::Write;
+use std::io::{self, ErrorKind, Write};
 use thiserror::Error;
 
 /// Why a text was not written.
@@ -26,15 +26,23 @@ pub enum WriteFault {
     Write,
 }
 
+impl From<io::Error> for WriteFault {
+    fn from(error: io::Error) -> WriteFault {
+        if error.kind() == ErrorKind::OutOfMemory {
+            WriteFault::Memory
+        } else {
+            WriteFault::Write
+        }
+    }
+}
+
 #[tactic(auto, unfolding(crate::specs::Written::line_text, crate::specs::CertText::spelling, crate::specs::CertText::words_of, crate::specs::CertText::text_of_lines))]
 fn write_pair<W: Write>(pair: PairLine, out: &mut W) -> Result<(), WriteFault>
     ensures { OnOk result (Appends (W.contents out.old) (W.contents out.new) (line_text (separator_line (separator_of pair)))) }
 {
     let PairLine { i, j, k } = pair;
-    match write!(out, "s {i} {j} {k}\n") {
-        Ok(()) => Ok(()),
-        Err(_) => Err(WriteFault::Write),
-    }
+    write!(out, "s {i} {j} {k}\n")?;
+    Ok(())
 }
 
 #[tactic(auto, unfolding(crate::specs::Written::line_text, crate::specs::CertText::spelling, crate::specs::CertText::words_of, crate::specs::CertText::text_of_lines))]
@@ -43,15 +51,11 @@ fn write_corners<W: Write>(flat: bool, t: Triangle, out: &mut W) -> Result<(), W
 {
     let (x1, y1, x2, y2, x3, y3) = (t.a.x, t.a.y, t.b.x, t.b.y, t.c.x, t.c.y);
     if flat {
-        return match write!(out, "f {x1} {y1} {x2} {y2} {x3} {y3}\n") {
-            Ok(()) => Ok(()),
-            Err(_) => Err(WriteFault::Write),
-        };
+        write!(out, "f {x1} {y1} {x2} {y2} {x3} {y3}\n")?;
+    } else {
+        write!(out, "t {x1} {y1} {x2} {y2} {x3} {y3}\n")?;
     }
-    match write!(out, "t {x1} {y1} {x2} {y2} {x3} {y3}\n") {
-        Ok(()) => Ok(()),
-        Err(_) => Err(WriteFault::Write),
-    }
+    Ok(())
 }
 
 fn write_all_corners<W: Write>(
@@ -74,10 +78,8 @@ fn write_piece_line<W: Write>(piece: &PiecePart, out: &mut W) -> Result<(), Writ
     let id = piece.id.as_str();
     let triangles = piece.triangles.as_slice().len();
     let flats = piece.flats.as_slice().len();
-    match write!(out, "piece {id} {triangles} {flats}\n") {
-        Ok(()) => Ok(()),
-        Err(_) => Err(WriteFault::Write),
-    }
+    write!(out, "piece {id} {triangles} {flats}\n")?;
+    Ok(())
 }
 
 fn write_piece<W: Write>(piece: &PiecePart, out: &mut W) -> Result<(), WriteFault>
@@ -94,10 +96,8 @@ fn write_parcel_line<W: Write>(parcel: &ParcelPart, out: &mut W) -> Result<(), W
 {
     let id = parcel.id.as_str();
     let flats = parcel.flats.as_slice().len();
-    match write!(out, "parcel {id} {flats}\n") {
-        Ok(()) => Ok(()),
-        Err(_) => Err(WriteFault::Write),
-    }
+    write!(out, "parcel {id} {flats}\n")?;
+    Ok(())
 }
 
 fn write_parcel<W: Write>(parcel: &ParcelPart, out: &mut W) -> Result<(), WriteFault>
@@ -138,20 +138,16 @@ fn write_pairs<W: Write>(pairs: &[PairLine], out: &mut W) -> Result<(), WriteFau
 fn write_pairs_line<W: Write>(count: usize, out: &mut W) -> Result<(), WriteFault>
     ensures { OnOk result (Appends (W.contents out.old) (W.contents out.new) (line_text (PairsLine count))) }
 {
-    match write!(out, "pairs {count}\n") {
-        Ok(()) => Ok(()),
-        Err(_) => Err(WriteFault::Write),
-    }
+    write!(out, "pairs {count}\n")?;
+    Ok(())
 }
 
 #[tactic(auto, unfolding(crate::specs::Written::line_text, crate::specs::CertText::spelling, crate::specs::CertText::words_of, crate::specs::CertText::text_of_lines))]
 fn write_end<W: Write>(out: &mut W) -> Result<(), WriteFault>
     ensures { OnOk result (Appends (W.contents out.old) (W.contents out.new) (line_text EndLine)) }
 {
-    match out.write_all(b"end\n") {
-        Ok(()) => Ok(()),
-        Err(_) => Err(WriteFault::Write),
-    }
+    out.write_all(b"end\n")?;
+    Ok(())
 }
 
 #[tactic(auto, unfolding(crate::specs::Written::version_text))]
@@ -159,10 +155,8 @@ fn write_version<W: Write>(out: &mut W) -> Result<(), WriteFault>
     ensures { OnOk result (Appends (W.contents out.old) (W.contents out.new) version_text) }
 {
     let first = Version::One.first_line();
-    match write!(out, "{first}\n") {
-        Ok(()) => Ok(()),
-        Err(_) => Err(WriteFault::Write),
-    }
+    write!(out, "{first}\n")?;
+    Ok(())
 }
 
 fn write_tail<W: Write>(cert: &Cert, out: &mut W) -> Result<(), WriteFault>
