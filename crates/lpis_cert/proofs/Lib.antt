@@ -4,6 +4,7 @@ pub mod WordProofs
 pub mod LineProofs
 pub mod StepProofs
 pub mod BlockProofs
+pub mod QuickProofs
 pub mod HeadProofs
 pub mod DraftProofs
 pub mod ReadProofs

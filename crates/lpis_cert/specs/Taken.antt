@@ -54,3 +54,7 @@ corner_line flat c = cond flat (FlatLine c) (TriangleLine c)
 -- n more triangle lines, or n more flat lines
 abbrev pub wanting : Bool → ℕ → Stage → ℕ → Declared → Place
 wanting flat n b f d = cond flat (InBody b 0 n d) (InBody b n f d)
+
+-- the text begins with this word and then this byte
+abbrev pub Begins : List ℕ → List ℕ → ℕ → List ℕ → Type 0
+Begins text word end rest = text ≡ word ++ (end ∷ rest)

@@ -14,6 +14,7 @@ mod laws;
 mod lines;
 mod number;
 mod part;
+mod quick;
 mod reading;
 mod rest;
 mod version;

@@ -14,6 +14,7 @@ use crate::fields::{corners, separator};
 use crate::form::placed;
 use crate::kind::{Expected, Kind};
 use crate::part::PairLine;
+use crate::quick::leading_corners;
 use crate::rest::{Rest, front_line};
 use crate::version::Version;
 use crate::words::Words;
@@ -52,6 +53,13 @@ fn corner_kind(flat: bool) -> Kind
 pub fn corner_line(flat: bool, rest: Rest<'_>) -> Result<(Triangle, Rest<'_>), CertFault>
     ensures { MatchResult result (λ x. Follows rest.entry.text.now rest.entry.line (line_of_corners flat (corners_of x.0) ∷ []) x.1.text.now x.1.line) (λ e. LineFault e rest.entry.line (One (kind_of_corners flat)) rest.entry.text.now) }
 {
+    if let Some((triangle, text)) = leading_corners(flat, rest.text) {
+        let after = Rest {
+            text,
+            line: rest.line + 1,
+        };
+        return Ok((triangle, after));
+    }
     let (_, words, after) = placed_line(Expected::One(corner_kind(flat)), rest)?;
     match corners(Version::One, words) {
         Some(triangle) => Ok((triangle, after)),
