@@ -1,0 +1,13 @@
+pub mod Splitting
+pub mod Numbers
+pub mod WordProofs
+pub mod LineProofs
+pub mod StepProofs
+pub mod BlockProofs
+pub mod QuickProofs
+pub mod HeadProofs
+pub mod DraftProofs
+pub mod ReadProofs
+pub mod CertEquality
+pub mod LawProofs
+pub mod WriteProofs

@@ -1,0 +1,5 @@
+use Rattle.lpis_cert.proofs.LawProofs.{prefix_cut}
+use Rattle.lpis_cert.proofs.laws.cut_texts.Goals as goal
+
+pub returns : goal.returns
+returns c = λ front back after. prefix_cut front back after

@@ -1,0 +1,5 @@
+use Rattle.lpis_cert.proofs.LineProofs.{read_again, read_takes}
+use Rattle.lpis_cert.proofs.laws.spelled_lines.Goals as goal
+
+pub returns : goal.returns
+returns c = record { again = read_again; takes = λ e line l h. (read_takes e line l h).text }

@@ -1,0 +1,30 @@
+use Rattle.std.proofs.Common.{◌≡◌, ◌+◌, ◌++◌, ◌∷◌, [], length, map, List, ap, ◌∙◌, arith, length-append, refl, ℕ}
+use Rattle.std.proofs.lemmas.Result.{err_from_is_err_and}
+use Rattle.std.proofs.lemmas.List.{length-map}
+use Rattle.lpis_cert.specs.Taken.{Follows}
+use Rattle.lpis_cert.specs.Contents.{separator_of}
+use Rattle.lpis_cert.proofs.StepProofs.{follows_none}
+use Rattle.lpis_cert.proofs.BlockProofs.{pair_fault, pair_more, separators_fit}
+use Rattle.lpis_cert.proofs.lines.pair_lines.Goals as goal
+
+pub loop-init : goal.loop-init
+loop-init c =
+    let none = c.new-pairs.ensures.items in
+    rw none (record { follows = follows_none c.args.rest.text.now c.args.rest.line; count = refl })
+
+pub returns-in_err-pair-clause-err : goal.returns-in_err-pair-clause-err
+returns-in_err-pair-clause-err c =
+    let p = err_from_is_err_and c.from_residual.result c.from_residual.ensures.1 in
+    let ts = c.loop.pairs.items in
+    rw (p.1, p.2) (pair_fault c.in_err-pair.field-0.0 (map separator_of ts) c.args.count c.loop.counter c.args.rest.text.now c.args.rest.line c.loop.left.text.now c.loop.left.line
+    (separators_fit ts) c.loop-test.true (length-map ts separator_of ∙ c.loop.invariant.count) c.loop.invariant.follows c.in_err-pair.ensures)
+
+pub loop-preserved : goal.loop-preserved
+loop-preserved c =
+    let ts = c.loop.pairs.items in
+    let t = c.in_ok-pair.pair in
+    let e : c.push.new.self.items ≡ ts ++ t ∷ [] = c.in_ok-push.ensures.items in
+    rw e (record {
+      follows = pair_more ts t c.args.rest.text.now c.args.rest.line c.loop.left.text.now c.loop.left.line c.in_ok-pair.after.text.now c.in_ok-pair.after.line c.loop.invariant.follows c.in_ok-pair.ensures;
+      count = length-append ts (t ∷ []) ∙ ap (λ (k : ℕ). k + 1) c.loop.invariant.count;
+    })

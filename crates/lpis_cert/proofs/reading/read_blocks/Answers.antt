@@ -1,0 +1,28 @@
+use Rattle.std.proofs.Common.{refl, ◌∙◌, sym}
+use Rattle.lpis_cert.proofs.StepProofs.{follows_none}
+use Rattle.lpis_cert.proofs.ReadProofs.{follows_grown, whole_text}
+use Rattle.lpis_cert.specs.CertText.{lines_of}
+use Rattle.lpis_cert.specs.Contents.{content_of}
+use Rattle.lpis_cert.specs.Drafts.{draft_lines, place_of}
+use Rattle.lpis_cert.proofs.reading.read_blocks.Goals as goal
+
+pub reading-init : goal.reading-init
+reading-init c =
+    let none = c.no_blocks-draft.ensures.lines in
+    let place = c.no_blocks-draft.ensures.place in
+    record { follows = rw none (follows_none c.args.start.text.now c.args.start.line); place = rw place refl }
+
+pub reading-preserved : goal.reading-preserved
+reading-preserved c =
+    let is = c.in-More.is in
+    let grown = rw is at c.in_ok-grown.ensures.ok in
+    record {
+      follows = follows_grown c.args.start.text.now c.args.start.line (draft_lines c.reading.draft) (draft_lines c.in-More.grown) (place_of c.reading.draft) (place_of c.in-More.grown) c.reading.rest.text.now c.reading.rest.line c.in-More.left.text.now c.in-More.left.line c.reading.invariant.follows grown;
+      place = sym grown.place ∙ c.reading.invariant.place;
+    }
+
+pub returns-in-Done-clause-ok : goal.returns-in-Done-clause-ok
+returns-in-Done-clause-ok c =
+    let is = c.in-Done.is in
+    let whole = rw is at c.in_ok-grown.ensures.ok in
+    whole_text c.args.start.text.now c.args.start.line (draft_lines c.reading.draft) (lines_of (content_of c.in-Done.cert)) c.reading.rest.text.now c.reading.rest.line c.reading.invariant.follows whole

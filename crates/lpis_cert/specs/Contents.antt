@@ -1,0 +1,30 @@
+-- A certificate by its plain content: identifiers, numbers of corners and counts.
+use Rattle.std.specs.Prelude.{ℕ, List, map}
+use Rattle.lpis_points.specs.declared.triangle.Triangle.{Triangle}
+use Rattle.lpis_cert.specs.declared.part.PiecePart.{PiecePart}
+use Rattle.lpis_cert.specs.declared.part.ParcelPart.{ParcelPart}
+use Rattle.lpis_cert.specs.declared.part.PairLine.{PairLine}
+use Rattle.lpis_cert.specs.declared.cert.Cert.{Cert}
+use Rattle.lpis_cert.specs.CertText.{Corners, PieceBlock, ParcelBlock, Separator, Content, text_of}
+
+abbrev pub corners_of : Triangle → Corners
+corners_of t = record { x1 = t.a.x; y1 = t.a.y; x2 = t.b.x; y2 = t.b.y; x3 = t.c.x; y3 = t.c.y }
+
+abbrev pub all_corners : List Triangle → List Corners
+all_corners ts = map corners_of ts
+
+abbrev pub piece_of : PiecePart → PieceBlock
+piece_of p = record { id = p.id; triangles = all_corners p.triangles; flats = all_corners p.flats }
+
+abbrev pub parcel_of : ParcelPart → ParcelBlock
+parcel_of p = record { id = p.id; flats = all_corners p.flats }
+
+abbrev pub separator_of : PairLine → Separator
+separator_of p = record { i = p.i; j = p.j; k = p.k }
+
+abbrev pub content_of : Cert → Content
+content_of c = record { pieces = map piece_of c.pieces; parcels = map parcel_of c.parcels; pairs = map separator_of c.pairs }
+
+-- the text of a certificate
+abbrev pub cert_text : Cert → List ℕ
+cert_text c = text_of (content_of c)

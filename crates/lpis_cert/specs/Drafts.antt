@@ -1,0 +1,55 @@
+-- A certificate that is being read. Only private contracts cite this file.
+use Rattle.std.specs.Prelude.{ℕ, ◌+◌, ◌≡◌, ◌<◌, List, [], ◌∷◌, ◌++◌, length, map, Result}
+use Rattle.std.specs.List.{flat_map}
+use Rattle.lpis_cert.specs.declared.draft.Draft.{Draft}
+use Rattle.lpis_cert.specs.declared.draft.Progress.{Progress}
+use Rattle.lpis_cert.specs.declared.draft.Progress.TheVariants.{More, Done}
+use Rattle.lpis_cert.specs.declared.head.Head.{Head}
+use Rattle.lpis_cert.specs.declared.head.Head.TheVariants as head
+use Rattle.lpis_cert.specs.CertText.{Line, PieceLine, ParcelLine, PairsLine, PieceBlock, ParcelBlock, piece_lines, parcel_lines, lines_of, text_of_lines}
+use Rattle.lpis_cert.specs.Faults.{Place, InBody, outcome, lines as cut}
+use Rattle.lpis_cert.specs.Taken.{Follows}
+use Rattle.lpis_cert.specs.Contents.{piece_of, parcel_of, content_of}
+
+-- the line that begins a block
+abbrev pub head_line : Head → Line
+head_line (head.Piece id t f) = PieceLine id t f
+head_line (head.Parcel id f) = ParcelLine id f
+head_line (head.Pairs n) = PairsLine n
+
+abbrev pub pieces_lines : List PieceBlock → List Line
+pieces_lines ps = flat_map piece_lines ps
+
+abbrev pub parcels_lines : List ParcelBlock → List Line
+parcels_lines ps = flat_map parcel_lines ps
+
+abbrev pub blocks : List PieceBlock → List ParcelBlock → List Line
+blocks ps qs = pieces_lines ps ++ parcels_lines qs
+
+-- the lines of the blocks so far
+abbrev pub draft_lines : Draft → List Line
+draft_lines d = blocks (map piece_of d.pieces.items) (map parcel_of d.parcels.items)
+
+abbrev pub place_of : Draft → Place
+place_of d = InBody d.stage 0 0 (record { triangles = d.triangles; flats = d.flats })
+
+-- further lines of a text were taken, from line n on
+pub record Grown (before after : List Line) (p q : Place) (text : List ℕ) (n : ℕ) (rest : List ℕ) (m : ℕ) : Type 0 where
+  pub added : List Line
+  pub follows : Follows text n added rest m
+  pub lines : after ≡ before ++ added
+  pub place : outcome n p (cut text) ≡ outcome m q (cut rest)
+  pub shorter : length rest < length text
+
+abbrev pub DraftGrown : Draft → Draft → List ℕ → ℕ → List ℕ → ℕ → Type 0
+DraftGrown old new text n rest m = Grown (draft_lines old) (draft_lines new) (place_of old) (place_of new) text n rest m
+
+-- the whole rest of a text
+pub record Whole (before more : List Line) (text : List ℕ) : Type 0 where
+  pub added : List Line
+  pub parts : text ≡ text_of_lines added
+  pub lines : more ≡ before ++ added
+
+abbrev pub Progressed : Draft → Progress → List ℕ → ℕ → Type 0
+Progressed old (More new rest) text n = DraftGrown old new text n rest.text.now rest.line
+Progressed old (Done cert) text n = Whole (draft_lines old) (lines_of (content_of cert)) text

@@ -1,0 +1,90 @@
+-- The first fault of a text, line by line.
+use Rattle.std.specs.Prelude.{◌≡◌, ℕ, zero, suc, ◌+◌, Bool, true, false, cond, ◌&&◌, ◌==◌, List, [], ◌∷◌, length, Result, Ok, Err, nat_le, codes}
+use Rattle.std.specs.List.{slice_split}
+use Rattle.lpis_cert.specs.declared.kind.Stage.{Stage}
+use Rattle.lpis_cert.specs.declared.kind.Stage.TheVariants as stage
+use Rattle.lpis_cert.specs.declared.fault.CertCode.{CertCode}
+use Rattle.lpis_cert.specs.declared.fault.CertCode.TheVariants as code
+use Rattle.lpis_cert.specs.declared.fault.CertFault.{CertFault}
+use Rattle.lpis_cert.specs.declared.fault.CertFault.TheVariants as fault
+use Rattle.lpis_cert.specs.declared.kind.Kind.TheVariants as kind
+use Rattle.lpis_cert.specs.declared.kind.Expected.TheVariants.{One, Block}
+use Rattle.lpis_cert.specs.CertText.{Line, PieceLine, TriangleLine, FlatLine, ParcelLine, PairsLine, PairLine, EndLine}
+use Rattle.lpis_cert.specs.Limits.{most_triangles, most_flats}
+use Rattle.lpis_cert.specs.Versions.{first_line, written}
+use Rattle.lpis_cert.specs.Reading.{◌>>=◌, is_word, read_line}
+
+-- the triangles and the flats declared so far
+pub record Declared : Type 0 where
+  pub triangles : ℕ
+  pub flats : ℕ
+
+abbrev pub none_declared : Declared
+none_declared = record { triangles = 0; flats = 0 }
+
+-- What can stand next: in a body, which blocks may begin, and the triangle lines and flat lines that the block still
+-- wants; in the pairs, the lines that are still wanted.
+pub data Place : Type 0 where
+  AtVersion : Place
+  InBody : Stage → ℕ → ℕ → Declared → Place
+  InPairs : ℕ → Place
+  AtEnd : Place
+
+abbrev pub within : Declared → Place → Result Place CertCode
+within d next = cond (nat_le d.triangles most_triangles && nat_le d.flats most_flats) (Ok next) (Err code.TooMany)
+
+abbrev pub grow : Declared → ℕ → ℕ → Declared
+grow d t f = record { triangles = d.triangles + t; flats = d.flats + f }
+
+abbrev pub grow_flats : Declared → ℕ → Declared
+grow_flats d f = record { triangles = d.triangles; flats = d.flats + f }
+
+-- the place after a block's first line
+abbrev pub open_block : Declared → Line → Result Place CertCode
+open_block d (PieceLine id t f) = within (grow d t f) (InBody stage.Pieces t f (grow d t f))
+open_block d (ParcelLine id f) = within (grow_flats d f) (InBody stage.Parcels 0 f (grow_flats d f))
+open_block d (PairsLine n) = Ok (InPairs n)
+open_block d _ = Err code.BadPlace
+
+-- the place after a line, or the line's fault
+unfoldable pub step : Place → List ℕ → Result Place CertCode
+step AtVersion line = cond (is_word line (first_line written)) (Ok (InBody stage.Pieces 0 0 none_declared)) (Err code.Version)
+step (InBody b (suc t) f d) line = read_line written (One kind.Triangle) line >>= λ _. Ok (InBody b t f d)
+step (InBody b zero (suc f) d) line = read_line written (One kind.Flat) line >>= λ _. Ok (InBody b zero f d)
+step (InBody b zero zero d) line = read_line written (Block b) line >>= open_block d
+step (InPairs (suc n)) line = read_line written (One kind.Pair) line >>= λ _. Ok (InPairs n)
+step (InPairs zero) line = read_line written (One kind.End) line >>= λ _. Ok AtEnd
+step AtEnd line = Err code.TextAfterEnd
+
+abbrev pub is_lf : ℕ → Bool
+is_lf b = b == 10
+
+-- the lines of a text, and last what comes after its last line end
+abbrev pub lines : List ℕ → List (List ℕ)
+lines text = slice_split is_lf text
+
+-- what comes after the last line end
+unfoldable pub at_last : ℕ → Place → List ℕ → Result ℕ (CertCode × ℕ)
+at_last n AtVersion rest = Err (code.Truncated, n)
+at_last n (InBody b t f d) rest = Err (code.Truncated, n)
+at_last n (InPairs k) rest = Err (code.Truncated, n)
+at_last n AtEnd rest = cond (length rest == 0) (Ok n) (Err (code.TextAfterEnd, n))
+
+abbrev pub at_line : {A : Type 0} → ℕ → Result A CertCode → Result A (CertCode × ℕ)
+at_line n (Ok x) = Ok x
+at_line n (Err c) = Err (c, n)
+
+-- the first fault of lines from line n on, or no fault (and the number of the line after the last)
+unfoldable pub outcome : ℕ → Place → List (List ℕ) → Result ℕ (CertCode × ℕ)
+outcome n p [] = at_last n p []
+outcome n p (l ∷ []) = at_last n p l
+outcome n p (l ∷ m ∷ ls) = at_line n (step p l) >>= λ q. outcome (n + 1) q (m ∷ ls)
+
+-- the first fault of a text
+abbrev pub verdict : List ℕ → Result ℕ (CertCode × ℕ)
+verdict text = outcome 1 AtVersion (lines text)
+
+-- what a reader may answer in place of a certificate
+abbrev pub IsFirstFault : CertFault → List ℕ → Type 0
+IsFirstFault fault.Memory text = Unit {0}
+IsFirstFault (fault.At c n) text = verdict text ≡ Err (c, n)

@@ -1,0 +1,13 @@
+-- The kinds of lines.
+use Rattle.lpis_cert.specs.declared.kind.Kind.{Kind}
+use Rattle.lpis_cert.specs.declared.kind.Kind.TheVariants.{Piece, Triangle, Flat, Parcel, Pairs, Pair, End}
+use Rattle.lpis_cert.specs.CertText.{Line, PieceLine, TriangleLine, FlatLine, ParcelLine, PairsLine, PairLine, EndLine}
+
+abbrev pub line_kind : Line → Kind
+line_kind (PieceLine id t f) = Piece
+line_kind (TriangleLine c) = Triangle
+line_kind (FlatLine c) = Flat
+line_kind (ParcelLine id f) = Parcel
+line_kind (PairsLine n) = Pairs
+line_kind (PairLine p) = Pair
+line_kind EndLine = End

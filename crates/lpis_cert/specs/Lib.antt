@@ -1,0 +1,11 @@
+pub mod Limits
+pub mod Versions
+pub mod Codes
+pub mod CertText
+pub mod Reading
+pub mod Faults
+pub mod Contents
+pub mod Taken
+pub mod Kinds
+pub mod Drafts
+pub mod Written

@@ -1,0 +1,198 @@
+-- What one line says, or its fault.
+use Rattle.std.specs.Prelude.{ℕ, zero, suc, ◌+◌, ◌*◌, Bool, true, false, not, cond, ◌&&◌, ◌||◌, ◌==◌, List, [], ◌∷◌, length, drop, ℤ, pos, neg_ℤ, Option, Some, None, Result, Ok, Err, codes, nat_le, nat_eq, slice_index}
+use Rattle.std.specs.List.{slice_split, list_all, list_any}
+use Rattle.std.specs.Char.{is_ascii_digit, digit_value}
+use Rattle.std.specs.Cmp.Lexicographic.{pointwise}
+use Rattle.lpis_covers.specs.Ids.{is_id}
+use Rattle.lpis_cert.specs.declared.kind.Stage.TheVariants as stage
+use Rattle.lpis_cert.specs.declared.fault.CertCode.{CertCode}
+use Rattle.lpis_cert.specs.declared.fault.CertCode.TheVariants as code
+use Rattle.lpis_cert.specs.declared.kind.Kind.{Kind}
+use Rattle.lpis_cert.specs.declared.kind.Kind.TheVariants.{Piece, Triangle, Flat, Parcel, Pairs, Pair, End}
+use Rattle.lpis_cert.specs.declared.kind.Expected.{Expected}
+use Rattle.lpis_cert.specs.declared.kind.Expected.TheVariants.{One, Block}
+use Rattle.lpis_cert.specs.declared.version.Version.{Version}
+use Rattle.lpis_cert.specs.Limits.{greatest_count, last_edge}
+use Rattle.lpis_cert.specs.Versions.{greatest, factor}
+use Rattle.lpis_cert.specs.CertText.{Corners, Separator, Line, PieceLine, TriangleLine, FlatLine, ParcelLine, PairsLine, PairLine, EndLine}
+
+infixl 10 ◌>>=◌
+abbrev pub ◌>>=◌ : {A B E : Type 0} → Result A E → (A → Result B E) → Result B E
+(Ok x) >>= f = f x
+(Err e) >>= f = Err e
+
+infixl 10 ◌>>?◌
+abbrev pub ◌>>?◌ : {A B : Type 0} → Option A → (A → Option B) → Option B
+(Some x) >>? f = f x
+None >>? f = None
+
+-- ---- numbers
+
+-- the number that digits go on with, where it is at most the limit
+abbrev pub digits_on : ℕ → ℕ → List ℕ → Option ℕ
+digits_on limit n [] = Some n
+digits_on limit n (d ∷ ds) = cond (is_ascii_digit d && nat_le (n * 10 + digit_value d) limit) (digits_on limit (n * 10 + digit_value d) ds) None
+
+-- `0`, or digits that don't begin with 0
+unfoldable pub number : ℕ → List ℕ → Option ℕ
+number limit [] = None
+number limit (d ∷ ds) = cond (d == 48) (cond (length ds == 0) (Some 0) None) (digits_on limit 0 (d ∷ ds))
+
+abbrev pub below_zero : Version → ℕ → Option ℤ
+below_zero v zero = None
+below_zero v (suc n) = Some (neg_ℤ (pos (suc n * factor v)))
+
+abbrev pub minus : Version → Option ℕ → Option ℤ
+minus v None = None
+minus v (Some n) = below_zero v n
+
+abbrev pub plus : Version → Option ℕ → Option ℤ
+plus v None = None
+plus v (Some n) = Some (pos (n * factor v))
+
+-- the same, or `-` and digits that don't begin with 0, in centimetres
+unfoldable pub coordinate : Version → List ℕ → Option ℤ
+coordinate v [] = None
+coordinate v (d ∷ ds) = cond (d == 45) (minus v (number (greatest v) ds)) (plus v (number (greatest v) (d ∷ ds)))
+
+-- ---- words
+
+abbrev pub is_gap : ℕ → Bool
+is_gap b = b == 32
+
+abbrev pub words : List ℕ → List (List ℕ)
+words line = slice_split is_gap line
+
+abbrev pub is_word : List ℕ → List ℕ → Bool
+is_word w text = pointwise nat_eq w text
+
+unfoldable pub kind_of : List ℕ → Option Kind
+kind_of w =
+    cond (is_word w (codes "t")) (Some Triangle)
+    (cond (is_word w (codes "f")) (Some Flat)
+    (cond (is_word w (codes "s")) (Some Pair)
+    (cond (is_word w (codes "piece")) (Some Piece)
+    (cond (is_word w (codes "parcel")) (Some Parcel)
+    (cond (is_word w (codes "pairs")) (Some Pairs)
+    (cond (is_word w (codes "end")) (Some End) None))))))
+
+-- how many words a line of this kind has
+abbrev pub word_count : Kind → ℕ
+word_count Piece = 4
+word_count Triangle = 7
+word_count Flat = 7
+word_count Parcel = 3
+word_count Pairs = 2
+word_count Pair = 4
+word_count End = 1
+
+-- the first word after the kind
+abbrev pub first_is_id : List (List ℕ) → Bool
+first_is_id [] = false
+first_is_id (w ∷ ws) = is_id w
+
+-- an identifier where the kind wants one
+abbrev pub names : Kind → List (List ℕ) → Bool
+names Piece ws = first_is_id ws
+names Parcel ws = first_is_id ws
+names Triangle ws = true
+names Flat ws = true
+names Pairs ws = true
+names Pair ws = true
+names End ws = true
+
+abbrev pub is_empty : List ℕ → Bool
+is_empty [] = true
+is_empty (b ∷ bs) = false
+
+-- a line's kind and its further words, where its form is right
+unfoldable pub form : List (List ℕ) → Option (Kind × List (List ℕ))
+form [] = None
+form (w ∷ ws) = cond (list_any is_empty (w ∷ ws)) None
+    (kind_of w >>? λ k. cond ((length ws + 1 == word_count k) && names k ws) (Some (k, ws)) None)
+
+-- ---- the kinds that can stand
+
+abbrev pub same_kind : Kind → Kind → Bool
+same_kind Piece Piece = true
+same_kind Triangle Triangle = true
+same_kind Flat Flat = true
+same_kind Parcel Parcel = true
+same_kind Pairs Pairs = true
+same_kind Pair Pair = true
+same_kind End End = true
+same_kind _ _ = false
+
+-- one kind alone; or what begins a block: pieces stand before parcels, and the pairs after both
+abbrev pub can_stand : Expected → Kind → Bool
+can_stand (One k) given = same_kind k given
+can_stand (Block stage.Pieces) Piece = true
+can_stand (Block stage.Parcels) Piece = false
+can_stand (Block s) Parcel = true
+can_stand (Block s) Pairs = true
+can_stand (Block s) Triangle = false
+can_stand (Block s) Flat = false
+can_stand (Block s) Pair = false
+can_stand (Block s) End = false
+
+-- ---- the values of a line
+
+abbrev pub natural : List ℕ → Option ℕ
+natural w = number greatest_count w
+
+-- what the first word says, and the further words
+abbrev pub front : {A : Type 0} → (List ℕ → Option A) → List (List ℕ) → Option (A × List (List ℕ))
+front read [] = None
+front read (w ∷ ws) = read w >>? λ x. Some (x, ws)
+
+-- with no word after it
+abbrev pub last : {A : Type 0} → A → List (List ℕ) → Option A
+last x [] = Some x
+last x (w ∷ ws) = None
+
+unfoldable pub point : Version → List (List ℕ) → Option ((ℤ × ℤ) × List (List ℕ))
+point v ws = front (coordinate v) ws >>? λ x. front (coordinate v) x.1 >>? λ y. Some ((x.0, y.0), y.1)
+
+unfoldable pub corners : Version → List (List ℕ) → Option Corners
+corners v ws = point v ws >>? λ a. point v a.1 >>? λ b. point v b.1 >>? λ c.
+    last (record { x1 = a.0.0; y1 = a.0.1; x2 = b.0.0; y2 = b.0.1; x3 = c.0.0; y3 = c.0.1 }) c.1
+
+unfoldable pub separator : List (List ℕ) → Option Separator
+separator ws = front natural ws >>? λ i. front natural i.1 >>? λ j. front (number last_edge) j.1 >>? λ k.
+    last (record { i = i.0; j = j.0; k = k.0 }) k.1
+
+unfoldable pub piece_line : List (List ℕ) → Option Line
+piece_line ws = front (λ w. Some w) ws >>? λ id. front natural id.1 >>? λ t. front natural t.1 >>? λ f. last (PieceLine id.0 t.0 f.0) f.1
+
+unfoldable pub parcel_line : List (List ℕ) → Option Line
+parcel_line ws = front (λ w. Some w) ws >>? λ id. front natural id.1 >>? λ f. last (ParcelLine id.0 f.0) f.1
+
+unfoldable pub pairs_line : List (List ℕ) → Option Line
+pairs_line ws = front natural ws >>? λ n. last (PairsLine n.0) n.1
+
+unfoldable pub values : Version → Kind → List (List ℕ) → Option Line
+values v Piece ws = piece_line ws
+values v Triangle ws = corners v ws >>? λ c. Some (TriangleLine c)
+values v Flat ws = corners v ws >>? λ c. Some (FlatLine c)
+values v Parcel ws = parcel_line ws
+values v Pairs ws = pairs_line ws
+values v Pair ws = separator ws >>? λ p. Some (PairLine p)
+values v End ws = last EndLine ws
+
+-- ---- a line, with its faults in their order
+
+abbrev pub with_form : Expected → Option (Kind × List (List ℕ)) → Result (Kind × List (List ℕ)) CertCode
+with_form e None = Err code.LineForm
+with_form e (Some p) = cond (can_stand e p.0) (Ok p) (Err code.BadPlace)
+
+abbrev pub or_number : Option Line → Result Line CertCode
+or_number None = Err code.Number
+or_number (Some l) = Ok l
+
+-- form, then whether its kind can stand
+unfoldable pub placed : Expected → List ℕ → Result (Kind × List (List ℕ)) CertCode
+placed e line = with_form e (form (words line))
+
+-- then the numbers
+unfoldable pub read_line : Version → Expected → List ℕ → Result Line CertCode
+read_line v e line = placed e line >>= λ p. or_number (values v p.0 p.1)

@@ -1,0 +1,60 @@
+-- What the reader has taken from the front of a text. Only private contracts cite this file.
+use Rattle.std.specs.Prelude.{ℕ, ◌+◌, ◌≡◌, ◌⊎◌, ◌<◌, Bool, true, false, cond, List, [], ◌∷◌, ◌++◌, length, map, Result, Ok, Err, Option}
+use Rattle.lpis_cert.specs.declared.kind.Stage.{Stage}
+use Rattle.lpis_cert.specs.declared.fault.CertCode.{CertCode}
+use Rattle.lpis_cert.specs.declared.fault.CertCode.TheVariants as code
+use Rattle.lpis_cert.specs.declared.fault.CertFault.{CertFault}
+use Rattle.lpis_cert.specs.declared.fault.CertFault.TheVariants.{Memory, At}
+use Rattle.lpis_cert.specs.declared.kind.Kind.{Kind}
+use Rattle.lpis_cert.specs.declared.kind.Kind.TheVariants as kind
+use Rattle.lpis_cert.specs.declared.kind.Expected.{Expected}
+use Rattle.lpis_cert.specs.CertText.{Corners, Line, TriangleLine, FlatLine, spelling, text_of_lines}
+use Rattle.lpis_cert.specs.Versions.{written}
+use Rattle.lpis_cert.specs.Reading.{placed, read_line}
+use Rattle.lpis_cert.specs.Faults.{lines, outcome, Place, InBody, Declared}
+
+-- line n of the text is this line, and the rest begins with line m
+pub record TakesLine (text : List ℕ) (n : ℕ) (line rest : List ℕ) (m : ℕ) : Type 0 where
+  pub parts : text ≡ line ++ (10 ∷ rest)
+  pub split : lines text ≡ line ∷ lines rest
+  pub next : m ≡ n + 1
+
+-- a line of this kind and further words
+pub record Placed (e : Expected) (text : List ℕ) (n : ℕ) (k : Kind) (ws : List (List ℕ)) (rest : List ℕ) (m : ℕ) : Type 0 where
+  pub line : List ℕ
+  pub takes : TakesLine text n line rest m
+  pub placed : placed e line ≡ Ok (k, ws)
+
+-- the first line of a text has this fault
+abbrev pub FailsWith : Expected → List ℕ → CertCode → Type 0
+FailsWith e text c = ((lines text ≡ text ∷ []) × (c ≡ code.Truncated)) ⊎ ((line : List ℕ) × (rest : List ℕ) × (lines text ≡ line ∷ lines rest) × (read_line written e line ≡ Err c))
+
+abbrev pub LineFault : CertFault → ℕ → Expected → List ℕ → Type 0
+LineFault Memory n e text = Unit {0}
+LineFault (At c m) n e text = (m ≡ n) × FailsWith e text c
+
+-- these lines, from line n on, and then the rest, from line m on
+pub record Follows (text : List ℕ) (n : ℕ) (ls : List Line) (rest : List ℕ) (m : ℕ) : Type 0 where
+  pub parts : text ≡ text_of_lines ls ++ rest
+  pub next : m ≡ n + length ls
+
+-- the first fault from here on
+abbrev pub FaultFrom : CertFault → ℕ → Place → List ℕ → Type 0
+FaultFrom Memory n p text = Unit {0}
+FaultFrom (At c m) n p text = outcome n p (lines text) ≡ Err (c, m)
+
+-- ---- triangle lines and flat lines
+
+abbrev pub corner_kind : Bool → Kind
+corner_kind flat = cond flat kind.Flat kind.Triangle
+
+abbrev pub corner_line : Bool → Corners → Line
+corner_line flat c = cond flat (FlatLine c) (TriangleLine c)
+
+-- n more triangle lines, or n more flat lines
+abbrev pub wanting : Bool → ℕ → Stage → ℕ → Declared → Place
+wanting flat n b f d = cond flat (InBody b 0 n d) (InBody b n f d)
+
+-- the text begins with this word and then this byte
+abbrev pub Begins : List ℕ → List ℕ → ℕ → List ℕ → Type 0
+Begins text word end rest = text ≡ word ++ (end ∷ rest)

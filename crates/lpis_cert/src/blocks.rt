@@ -1,0 +1,202 @@
+//! A draft with one more block.
+
+ghost use Rattle.std.specs.Prelude.{◌≡◌, ◌≤◌, ◌+◌, ◌∷◌, [], true, length, sum_by, IfOk, IfErr};
+ghost use Rattle.lpis_cert.specs.Limits.{most_triangles, most_flats, greatest_count};
+ghost use Rattle.lpis_covers.specs.Ids.{is_id};
+ghost use Rattle.lpis_cert.specs.declared.kind.Stage.TheVariants as stage;
+ghost use Rattle.lpis_cert.specs.CertText.{PieceLine, ParcelLine, PairsLine, lines_of};
+ghost use Rattle.lpis_cert.specs.Taken.{Follows, FaultFrom};
+ghost use Rattle.lpis_cert.specs.Contents.{content_of};
+ghost use Rattle.lpis_cert.specs.Drafts.{DraftGrown, Progressed, Whole, place_of, draft_lines};
+
+use crate::cert::{Cert, MOST_FLATS, MOST_TRIANGLES};
+use crate::draft::{Draft, Progress};
+use crate::fault::{CertCode, CertFault};
+use crate::head::{Head, head_at};
+use crate::kind::Stage;
+use crate::lines::{corner_lines, end_line, pair_lines};
+use crate::part::{PairLine, ParcelPart, PiecePart};
+use crate::rest::Rest;
+use lpis_covers::Id;
+use lpis_points::Triangle;
+use lpis_rings::Sequence;
+use std::alloc::Global;
+
+fn piece_part(id: Id, triangles: Vec<Triangle>, flats: Vec<Triangle>) -> PiecePart
+    requires { is_id id ≡ true }
+    ensures id { result.id ≡ id }
+    ensures triangles { result.triangles ≡ triangles.items }
+    ensures flats { result.flats ≡ flats.items }
+{
+    PiecePart {
+        id,
+        triangles: Sequence::new(triangles),
+        flats: Sequence::new(flats),
+    }
+}
+
+fn parcel_part(id: Id, flats: Vec<Triangle>) -> ParcelPart
+    requires { is_id id ≡ true }
+    ensures id { result.id ≡ id }
+    ensures flats { result.flats ≡ flats.items }
+{
+    ParcelPart {
+        id,
+        flats: Sequence::new(flats),
+    }
+}
+
+fn cert_of(pieces: Vec<PiecePart>, parcels: Vec<ParcelPart>, pairs: Vec<PairLine>) -> Cert
+    requires triangles_few { sum_by (λ p. length p.triangles) pieces.items ≤ most_triangles }
+    requires flats_few { sum_by (λ p. length p.flats) pieces.items + sum_by (λ p. length p.flats) parcels.items ≤ most_flats }
+    requires pairs_few { length pairs.items ≤ greatest_count }
+    ensures pieces { result.pieces ≡ pieces.items }
+    ensures parcels { result.parcels ≡ parcels.items }
+    ensures pairs { result.pairs ≡ pairs.items }
+{
+    Cert {
+        pieces: Sequence::new(pieces),
+        parcels: Sequence::new(parcels),
+        pairs: Sequence::new(pairs),
+    }
+}
+
+/// The lines of a piece.
+fn piece_block<'a>(
+    alloc: Global,
+    draft: Draft,
+    id: Id,
+    triangle_count: u32,
+    flat_count: u32,
+    start: Rest<'a>,
+    after: Rest<'a>,
+) -> Result<(Draft, Rest<'a>), CertFault>
+    requires begins { Follows start.text.now start.line (PieceLine id triangle_count flat_count ∷ []) after.text.now after.line }
+    requires named { is_id id ≡ true }
+    requires fresh { draft.stage ≡ stage.Pieces }
+    ensures ok { IfOk result (λ x. DraftGrown draft x.0 start.entry.text.now start.entry.line x.1.text.now x.1.line) }
+    ensures err { IfErr result (λ e. FaultFrom e start.entry.line (place_of draft) start.entry.text.now) }
+{
+    let Draft {
+        mut pieces,
+        parcels,
+        stage,
+        triangles,
+        flats,
+    } = draft;
+    let all_triangles = triangles + triangle_count as u64;
+    let all_flats = flats + flat_count as u64;
+    if all_triangles > MOST_TRIANGLES || all_flats > MOST_FLATS {
+        return Err(CertFault::At {
+            code: CertCode::TooMany,
+            line: start.line,
+        });
+    }
+    let (own_triangles, middle) = corner_lines(alloc, false, triangle_count, after)?;
+    let (own_flats, rest) = corner_lines(alloc, true, flat_count, middle)?;
+    pieces.push(piece_part(id, own_triangles, own_flats))?;
+    let grown = Draft {
+        pieces,
+        parcels,
+        stage,
+        triangles: all_triangles,
+        flats: all_flats,
+    };
+    Ok((grown, rest))
+}
+
+/// The lines of a parcel.
+fn parcel_block<'a>(
+    alloc: Global,
+    draft: Draft,
+    id: Id,
+    flat_count: u32,
+    start: Rest<'a>,
+    after: Rest<'a>,
+) -> Result<(Draft, Rest<'a>), CertFault>
+    requires begins { Follows start.text.now start.line (ParcelLine id flat_count ∷ []) after.text.now after.line }
+    requires named { is_id id ≡ true }
+    ensures ok { IfOk result (λ x. DraftGrown draft x.0 start.entry.text.now start.entry.line x.1.text.now x.1.line) }
+    ensures err { IfErr result (λ e. FaultFrom e start.entry.line (place_of draft) start.entry.text.now) }
+{
+    let Draft {
+        pieces,
+        mut parcels,
+        stage: _,
+        triangles,
+        flats,
+    } = draft;
+    let all_flats = flats + flat_count as u64;
+    if all_flats > MOST_FLATS {
+        return Err(CertFault::At {
+            code: CertCode::TooMany,
+            line: start.line,
+        });
+    }
+    let (own_flats, rest) = corner_lines(alloc, true, flat_count, after)?;
+    parcels.push(parcel_part(id, own_flats))?;
+    let grown = Draft {
+        pieces,
+        parcels,
+        stage: Stage::Parcels,
+        triangles,
+        flats: all_flats,
+    };
+    Ok((grown, rest))
+}
+
+/// The pairs and the end.
+fn finish(
+    alloc: Global,
+    draft: Draft,
+    count: u32,
+    start: Rest<'_>,
+    after: Rest<'_>,
+) -> Result<Cert, CertFault>
+    requires { Follows start.text.now start.line (PairsLine count ∷ []) after.text.now after.line }
+    ensures ok { IfOk result (λ cert. Whole (draft_lines draft) (lines_of (content_of cert)) start.entry.text.now) }
+    ensures err { IfErr result (λ e. FaultFrom e start.entry.line (place_of draft) start.entry.text.now) }
+{
+    let (pairs, last) = pair_lines(alloc, count, after)?;
+    let rest = end_line(last)?;
+    if !rest.text.is_empty() {
+        return Err(CertFault::At {
+            code: CertCode::TextAfterEnd,
+            line: rest.line,
+        });
+    }
+    let Draft {
+        pieces,
+        parcels,
+        stage: _,
+        triangles: _,
+        flats: _,
+    } = draft;
+    Ok(cert_of(pieces, parcels, pairs))
+}
+
+/// The next block, or the end.
+pub fn next_block<'a>(
+    alloc: Global,
+    draft: Draft,
+    rest: Rest<'a>,
+) -> Result<Progress<'a>, CertFault>
+    ensures ok { IfOk result (λ t. Progressed draft t rest.entry.text.now rest.entry.line) }
+    ensures err { IfErr result (λ e. FaultFrom e rest.entry.line (place_of draft) rest.entry.text.now) }
+{
+    let (head, after) = head_at(alloc, draft.stage, rest)?;
+    match head {
+        Head::Piece(id, triangles, flats) => {
+            let (grown, left) = piece_block(alloc, draft, id, triangles, flats, rest, after)?;
+            Ok(Progress::More(grown, left))
+        }
+        Head::Parcel(id, flats) => {
+            let (grown, left) = parcel_block(alloc, draft, id, flats, rest, after)?;
+            Ok(Progress::More(grown, left))
+        }
+        Head::Pairs(count) => {
+            let cert = finish(alloc, draft, count, rest, after)?;
+            Ok(Progress::Done(cert))
+        }
+    }
+}

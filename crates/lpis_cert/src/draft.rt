@@ -1,0 +1,32 @@
+//! A certificate that is being read, block by block.
+
+ghost use Rattle.std.specs.Prelude.{◌≡◌, ◌≤◌, ◌+◌, length, sum_by};
+ghost use Rattle.lpis_cert.specs.Limits.{most_triangles, most_flats};
+ghost use Rattle.lpis_cert.specs.declared.kind.Stage.TheVariants.{Pieces};
+
+use crate::cert::Cert;
+use crate::kind::Stage;
+use crate::part::{ParcelPart, PiecePart};
+use crate::rest::Rest;
+
+/// The blocks so far, and how many triangles and flats they have.
+#[derive(Drop)]
+pub struct Draft {
+    pub pieces: Vec<PiecePart>,
+    pub parcels: Vec<ParcelPart>,
+    pub stage: Stage,
+    pub triangles: u64,
+    pub flats: u64,
+    pub ghost triangles_counted: { triangles ≡ sum_by (λ p. length p.triangles) pieces.items },
+    pub ghost flats_counted: { flats ≡ sum_by (λ p. length p.flats) pieces.items + sum_by (λ p. length p.flats) parcels.items },
+    pub ghost triangles_few: { triangles ≤ most_triangles },
+    pub ghost flats_few: { flats ≤ most_flats },
+    pub ghost no_parcels: { stage ≡ Pieces → length parcels.items ≡ 0 },
+}
+
+/// What came next: one more block, or the end.
+#[derive(Drop)]
+pub enum Progress<'a> {
+    More(Draft, Rest<'a>),
+    Done(Cert),
+}

@@ -1,0 +1,38 @@
+//! The kinds of lines, and which can stand.
+
+/// What a line is, by its first word.
+#[derive(Clone, Copy, Debug, PartialEq, Eq)]
+pub enum Kind {
+    /// `piece`
+    Piece,
+    /// `t`
+    Triangle,
+    /// `f`
+    Flat,
+    /// `parcel`
+    Parcel,
+    /// `pairs`
+    Pairs,
+    /// `s`
+    Pair,
+    /// `end`
+    End,
+}
+
+/// Which blocks can begin.
+#[derive(Clone, Copy, Debug, PartialEq, Eq)]
+pub enum Stage {
+    /// A piece, a parcel or the pairs.
+    Pieces,
+    /// A parcel or the pairs.
+    Parcels,
+}
+
+/// Which kinds of lines can stand.
+#[derive(Clone, Copy, Debug, PartialEq, Eq)]
+pub enum Expected {
+    /// This kind alone.
+    One(Kind),
+    /// The first line of a block.
+    Block(Stage),
+}

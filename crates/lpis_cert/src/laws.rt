@@ -1,0 +1,40 @@
+//! Laws of the text alone.
+
+ghost use Rattle.std.specs.Prelude.{◌≡◌, ◌≤◌, ◌<◌, ◌++◌, ◌↔◌, ℕ, ◌+◌, List, length, Some, Ok, Err, true};
+ghost use Rattle.std.specs.Fmt.{decimal};
+ghost use Rattle.lpis_cert.specs.Limits.{number_margin};
+ghost use Rattle.lpis_cert.specs.Versions.{written};
+ghost use Rattle.lpis_cert.specs.CertText.{lines_of, Line, LineFits, spelling};
+ghost use Rattle.lpis_cert.specs.Contents.{cert_text, content_of};
+ghost use Rattle.lpis_cert.specs.Reading.{number, read_line, can_stand};
+ghost use Rattle.lpis_cert.specs.Kinds.{line_kind};
+ghost use Rattle.lpis_cert.specs.Faults.{lines, verdict};
+ghost use Rattle.lpis_cert.specs.declared.cert.Cert.{Cert};
+ghost use Rattle.lpis_cert.specs.declared.kind.Expected.{Expected};
+ghost use Rattle.lpis_cert.specs.declared.fault.CertCode.TheVariants as code;
+
+/// Two certificates have two texts.
+pub fn one_value_a_text()
+    ensures { (c d : Cert) → cert_text c ≡ cert_text d → c ≡ d }
+{}
+
+/// The text of a certificate has no fault.
+pub fn texts_have_no_fault()
+    ensures { (c : Cert) → verdict (cert_text c) ≡ Ok (2 + length (lines_of (content_of c))) }
+{}
+
+/// A text without a fault that was cut off lacks its next line, or that line's end.
+pub fn cut_texts()
+    ensures { (front back : List ℕ) (after : ℕ) → verdict (front ++ back) ≡ Ok after → 0 < length back → verdict front ≡ Err (code.Truncated, length (lines front)) }
+{}
+
+/// A line that can stand is read exactly where it is spelled.
+pub fn spelled_lines()
+    ensures again { (e : Expected) (l : Line) → LineFits l → can_stand e (line_kind l) ≡ true → read_line written e (spelling l) ≡ Ok l }
+    ensures takes { (e : Expected) (line : List ℕ) (l : Line) → read_line written e line ≡ Ok l → line ≡ spelling l }
+{}
+
+/// A number has one spelling.
+pub fn canonical_numbers()
+    ensures { (limit : ℕ) (w : List ℕ) (n : ℕ) → limit ≤ number_margin → (number limit w ≡ Some n) ↔ ((w ≡ decimal n) × (n ≤ limit)) }
+{}

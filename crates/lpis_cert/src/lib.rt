@@ -1,0 +1,37 @@
+//! Certificates and their text.
+#![tactic(auto)]
+
+mod blocks;
+mod cert;
+mod draft;
+mod fault;
+mod fields;
+mod form;
+mod head;
+mod identifier;
+mod kind;
+mod laws;
+mod lines;
+mod number;
+mod part;
+mod quick;
+mod reading;
+mod rest;
+mod version;
+mod words;
+mod writing;
+
+pub use cert::{Cert, MOST_FLATS, MOST_TRIANGLES};
+pub use fault::{CertCode, CertFault};
+pub use fields::GREATEST_COUNT;
+pub use kind::{Expected, Kind, Stage};
+pub use laws::{
+    canonical_numbers, cut_texts, one_value_a_text, spelled_lines, texts_have_no_fault,
+};
+pub use part::{PairLine, ParcelPart, PiecePart};
+pub use reading::read_cert;
+pub use version::Version;
+pub use writing::{WriteFault, write_cert};
+
+#[cfg(test)]
+mod tests;

@@ -1,0 +1,163 @@
+use super::*;
+use std::test::*;
+
+const ONE_PIECE: &str = "lpis-cert 1
+piece C1 2 0
+t 0 0 1000 0 1000 1000
+t 0 0 1000 1000 0 1000
+parcel A 0
+pairs 1
+s 0 1 2
+end
+";
+
+const TWO_PIECES: &str = "lpis-cert 1
+piece L 2 0
+t 0 0 500 0 500 1000
+t 0 0 500 1000 0 1000
+piece R 2 0
+t 500 0 1000 0 1000 1000
+t 500 0 1000 1000 500 1000
+parcel A 2
+f 0 0 1000 0 500 0
+f 1000 1000 0 1000 500 1000
+pairs 2
+s 0 1 2
+s 2 3 2
+end
+";
+
+const TWO_PARCELS: &str = "lpis-cert 1
+piece b1 2 0
+t 0 0 500 0 500 1000
+t 0 0 500 1000 0 1000
+piece c1 2 0
+t 500 0 1000 0 1000 1000
+t 500 0 1000 1000 500 1000
+parcel B 0
+parcel C 0
+pairs 2
+s 0 1 2
+s 2 3 2
+end
+";
+
+/// The code and the line of a text's first fault, or `ok`.
+fn answer(rt: &HostRuntime, text: &str) -> (&'static str, u64) {
+    match read_cert(rt.alloc(), text.as_bytes()) {
+        Ok(_) => ("ok", 0),
+        Err(CertFault::At { code, line }) => (code.as_str(), line),
+        Err(CertFault::Memory) => ("memory", 0),
+    }
+}
+
+/// One line in place of another, once.
+fn with_line(rt: &HostRuntime, text: &str, old: &str, new: &str) -> Result<String, Fail> {
+    let mut edited = String::new(rt.alloc());
+    let mut found = false;
+    for line in text.lines() {
+        if line == old && !found {
+            found = true;
+            edited.push_str(new)?;
+        } else {
+            edited.push_str(line)?;
+        }
+        edited.push('\n')?;
+    }
+    if found {
+        Ok(edited)
+    } else {
+        Err("no such line".into())
+    }
+}
+
+#[test]
+fn certificates_are_read_and_written_byte_for_byte(rt: HostRuntime) -> Result<(), Fail> {
+    for text in [
+        ONE_PIECE,
+        TWO_PIECES,
+        TWO_PARCELS,
+        "lpis-cert 1\npairs 0\nend\n",
+    ] {
+        let cert = read_cert(rt.alloc(), text.as_bytes()).ok().ok_or("read")?;
+        let mut out = Vec::new(rt.alloc());
+        write_cert(&cert, &mut out).ok().ok_or("written")?;
+        assert_eq!(rt; out.as_slice(), text.as_bytes());
+    }
+    Ok(())
+}
+
+#[test]
+fn a_certificate_has_its_parts_in_order(rt: HostRuntime) -> Result<(), Fail> {
+    let cert = read_cert(rt.alloc(), TWO_PIECES.as_bytes())
+        .ok()
+        .ok_or("read")?;
+    let pieces = cert.pieces.as_slice();
+    assert_eq!(rt; pieces.len(), 2);
+    assert_eq!(rt; pieces[1].id.as_str(), "R");
+    assert_eq!(rt; pieces[1].triangles.as_slice()[1].c.y, 1000);
+    assert_eq!(rt; cert.parcels.as_slice()[0].flats.as_slice()[1].a.x, 1000);
+    let pairs = cert.pairs.as_slice();
+    assert_eq!(rt; (pairs[1].i, pairs[1].j, pairs[1].k), (2, 3, 2));
+    Ok(())
+}
+
+#[test]
+fn a_certificate_cut_at_each_byte_lacks_its_next_line(rt: HostRuntime) {
+    for text in [ONE_PIECE, TWO_PIECES, TWO_PARCELS] {
+        let mut line = 1;
+        let mut at = 0;
+        for byte in text.as_bytes() {
+            assert_eq!(rt; answer(&rt, &text[..at]), ("54", line));
+            if *byte == b'\n' {
+                line += 1;
+            }
+            at += 1;
+        }
+    }
+}
+
+#[test]
+fn first_faults(rt: HostRuntime) -> Result<(), Fail> {
+    assert_eq!(rt; answer(&rt, ""), ("54", 1));
+    assert_eq!(rt; answer(&rt, "lpis-cert 1\r\npairs 0\r\nend\r\n"), ("50", 1));
+    assert_eq!(rt; answer(&rt, "lpis-cert 2\npairs 0\nend\n"), ("50", 1));
+    for (old, new, code, line) in [
+        ("piece C1 2 0", "piece C1 1 0", "53", 4),
+        ("piece C1 2 0", "piece C1 3 0", "53", 5),
+        ("piece C1 2 0", "piece C1 2000001 0", "56", 2),
+        ("piece C1 2 0", "piece C1 2 4294967296", "52", 2),
+        ("piece C1 2 0", "piece C! 2 0", "51", 2),
+        ("piece C1 2 0", "piece C1  2 0", "51", 2),
+        ("t 0 0 1000 0 1000 1000", "t 00 0 1000 0 1000 1000", "52", 3),
+        ("t 0 0 1000 0 1000 1000", "t -0 0 1000 0 1000 1000", "52", 3),
+        (
+            "t 0 0 1000 0 1000 1000",
+            "t 0 0 2000000001 0 1000 1000",
+            "52",
+            3,
+        ),
+        ("t 0 0 1000 0 1000 1000", "t 0 0 1000 0 1000", "51", 3),
+        ("t 0 0 1000 0 1000 1000", "f 00 0 1000 0 1000 1000", "53", 3),
+        ("parcel A 0", "piece C2 0 0", "ok", 0),
+        ("pairs 1", "piece C2 0 0", "53", 6),
+        ("s 0 1 2", "s 0 1 6", "52", 7),
+        ("s 0 1 2", "s 1 0 2", "ok", 0),
+        ("end", "end\n", "55", 9),
+    ] {
+        let text = with_line(&rt, ONE_PIECE, old, new)?;
+        assert_eq!(rt; answer(&rt, &text), (code, line), "{new}");
+    }
+    Ok(())
+}
+
+#[test]
+fn no_list_grows_by_a_declared_count(rt: HostRuntime) -> Result<(), Fail> {
+    let text = with_line(&rt, &ONE_PIECE[..90], "pairs 1", "pairs 4294967295")?;
+    assert_eq!(rt; answer(&rt, &text), ("54", 7));
+    assert_eq!(rt;
+        answer(&rt, "lpis-cert 1\npiece A 2000000 2000000\n"),
+        ("54", 3)
+    );
+    Ok(())
+}

@@ -1,0 +1,46 @@
+//! Versions of the text.
+
+ghost use Rattle.std.specs.Prelude.{◌≡◌, ◌≤◌, ◌*◌};
+ghost use Rattle.lpis_cert.specs.Versions.{factor, first_line, greatest};
+ghost use Rattle.lpis_cert.specs.Limits.{number_margin, coordinate_margin};
+
+use lpis_points::LIMIT;
+
+/// A version of the text, by its first line.
+#[derive(Clone, Copy, Debug, PartialEq, Eq)]
+pub enum Version {
+    /// `lpis-cert 1`: coordinates in centimetres.
+    One,
+}
+
+impl Version {
+    /// The first line of such a text, without its line end.
+    pub fn first_line(self) -> &'static str
+        ensures { result.now ≡ first_line self }
+    {
+        match self {
+            Version::One => "lpis-cert 1",
+        }
+    }
+
+    /// The greatest absolute value of a coordinate as it is written.
+    pub(crate) fn greatest(self) -> u64
+        ensures is { result ≡ greatest self }
+        ensures small { result ≤ number_margin }
+    {
+        match self {
+            Version::One => LIMIT as u64,
+        }
+    }
+
+    /// A coordinate without its sign, in centimetres.
+    pub(crate) fn scaled(self, written: u64) -> u64
+        requires { written ≤ greatest self }
+        ensures is { result ≡ written * factor self }
+        ensures small { result ≤ coordinate_margin }
+    {
+        match self {
+            Version::One => written,
+        }
+    }
+}
