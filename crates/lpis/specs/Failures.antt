@@ -1,5 +1,5 @@
 -- What stands for a run that gave no answer.
-use Rattle.std.specs.Prelude.{ℕ, List, ◌++◌, codes}
+use Rattle.std.specs.Prelude.{◌≡◌, ◌⊎◌, ℕ, List, ◌++◌, codes}
 use Rattle.lpis.specs.declared.failure.Name.{Name}
 use Rattle.lpis.specs.declared.failure.Name.TheVariants.{Area, Parcels, Covers, Classes, Lineage, Cert, Out}
 use Rattle.lpis.specs.declared.failure.Failure.{Failure}
@@ -21,3 +21,7 @@ failure_text Memory = codes "failed memory\n"
 failure_text (Read name) = codes "failed read " ++ name_text name ++ codes "\n"
 failure_text (Write name) = codes "failed write " ++ name_text name ++ codes "\n"
 failure_text Store = codes "failed store\n"
+
+-- an input was not read, or memory ran out
+abbrev pub IsUnread : Name → Failure → Type 0
+IsUnread name failure = (failure ≡ Memory) ⊎ (failure ≡ Read name)

@@ -20,7 +20,7 @@ fn print_wkt_fault<W: Write>(wkt: &Option<WktFault>, out: &mut W) -> Result<(), 
     Ok(())
 }
 
-/// Writes the line of a refused table. Want of memory is no refusal, and is answered as such.
+/// Writes the line of a refused table. Want of memory is no refusal, and has no line.
 pub fn print_table_fault<W: Write>(fault: &TableFault, out: &mut W) -> Result<(), PrintFault>
     ensures { OnOk result (Appends (W.contents out.old) (W.contents out.new) (refusal_text fault.now)) }
 {
@@ -31,7 +31,7 @@ pub fn print_table_fault<W: Write>(fault: &TableFault, out: &mut W) -> Result<()
         wkt,
     } = fault
     else {
-        return Err(PrintFault::Memory);
+        return Ok(());
     };
     write!(
         out,

@@ -1,15 +1,18 @@
 //! The runs of the commands, over any readers and writers.
 
-ghost use Rattle.std.specs.Prelude.{◌≡◌, IfOk, IfSome, OnOk};
-ghost use Rattle.std.specs.Io.KnownBytes.{Appends};
+ghost use Rattle.std.specs.Prelude.{◌≡◌, ◌⊎◌, IfErr, IfOk, IfSome, OnOk};
+ghost use Rattle.std.specs.Io.KnownBytes.{Appends, Keeps};
 ghost use Rattle.lpis.specs.AreaAnswer.{Answers, answer_from, answer_of};
+ghost use Rattle.lpis.specs.Failures.{IsUnread};
 ghost use Rattle.lpis.specs.Refusals.{refusal_text};
 ghost use Rattle.lpis.specs.Runs.{Tells, polygons_left};
 ghost use Rattle.lpis.specs.Status.{unreadable};
+ghost use Rattle.lpis.specs.declared.failure.Failure.{Failure};
+ghost use Rattle.lpis.specs.declared.failure.Name.{Name};
 ghost use Rattle.lpis_covers.specs.declared.fault.Table.TheVariants as tables;
 
 use crate::failure::{Failure, Name};
-use crate::printing::{PrintFault, print_line};
+use crate::printing::print_line;
 use crate::reading::{GREATEST_LIMIT, ReadFault, read_all};
 use crate::refusal::print_table_fault;
 use crate::status::{DONE, UNREADABLE};
@@ -20,7 +23,8 @@ use std::io::{Read, Write};
 
 /// All bytes of an input.
 fn read_input<R: Read + Drop>(alloc: Global, reader: R, name: Name) -> Result<Vec<u8>, Failure>
-    ensures { IfSome (R.remaining reader) (λ bytes. IfOk result (λ v. v.items ≡ bytes)) }
+    ensures all { IfSome (R.remaining reader) (λ bytes. IfOk result (λ v. v.items ≡ bytes)) }
+    ensures failure { IfErr result (IsUnread name) }
 {
     match read_all(alloc, reader, GREATEST_LIMIT) {
         Ok(bytes) => Ok(bytes),
@@ -33,11 +37,11 @@ fn read_input<R: Read + Drop>(alloc: Global, reader: R, name: Name) -> Result<Ve
 fn refuse<W: Write>(fault: &TableFault, out: &mut W) -> Result<u8, Failure>
     ensures status { IfOk result (λ status. status ≡ unreadable) }
     ensures text { OnOk result (Appends (W.contents out.old) (W.contents out.new) (refusal_text fault.now)) }
+    ensures failure { IfErr result (λ failure. failure ≡ Failure.Write Name.Out) }
 {
     match print_table_fault(fault, out) {
         Ok(()) => Ok(UNREADABLE),
-        Err(PrintFault::Memory) => Err(Failure::Memory),
-        Err(PrintFault::Write) => Err(Failure::Write(Name::Out)),
+        Err(_) => Err(Failure::Write(Name::Out)),
     }
 }
 
@@ -73,7 +77,9 @@ pub fn run_area<R: Read + Drop, W: Write>(
     table: R,
     out: &mut W,
 ) -> Result<u8, Failure>
-    ensures { IfOk result (λ status. IfSome (R.remaining table) (λ bytes. Answers bytes status (W.contents out.old) (W.contents out.new))) }
+    ensures answer { IfOk result (λ status. IfSome (R.remaining table) (λ bytes. Answers bytes status (W.contents out.old) (W.contents out.new))) }
+    // Before the outcome is known nothing is written.
+    ensures failure { IfErr result (λ failure. (failure ≡ Failure.Write Name.Out) ⊎ (IsUnread Name.Area failure × Keeps (W.contents out.old) (W.contents out.new))) }
 {
     let bytes = read_input(alloc, table, Name::Area)?;
     let lines = match area_lines(alloc, bytes.as_slice()) {
