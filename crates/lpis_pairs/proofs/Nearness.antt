@@ -23,6 +23,17 @@ not_near ts i j t u l m e f n h =
     cc
 
 -- what the test answers, where i is below j
-pub decided : (ts : List Triangle) (i j : ℕ) (t u : Triangle) (r : Bool) → r ≡ are_apart t u → i < j → j < length ts → t ≡ get_or ts i t → u ≡ get_or ts j u → (IsTrue (not r) → IsNear ts i j) × (IsNear ts i j → IsTrue (not r))
-decided ts i j t u true e l m f g = (λ h. absurd (cc), λ n. absurd (not_near ts i j t u (omega arith) m f g (sym e) n))
-decided ts i j t u false e l m f g = (λ h. near ts i j t u l m f g (sym e), λ n. refl)
+pub decided : (ts : List Triangle) (i j : ℕ) (t u : Triangle) (r : Bool) → r ≡ not (are_apart t u) → i < j → j < length ts → t ≡ get_or ts i t → u ≡ get_or ts j u → (IsTrue r → IsNear ts i j) × (IsNear ts i j → IsTrue r)
+decided ts i j t u r e l m f g = (λ h. near ts i j t u l m f g (opposite (are_apart t u) (sym e ∙ h)), λ n. by_case r refl n)
+  where
+    opposite : (b : Bool) → not b ≡ true → b ≡ false
+    opposite true k = absurd (cc)
+    opposite false k = refl
+
+    other : (b : Bool) → false ≡ not b → b ≡ true
+    other true k = refl
+    other false k = absurd (cc)
+
+    by_case : (b : Bool) → r ≡ b → IsNear ts i j → IsTrue r
+    by_case true k n = k
+    by_case false k n = absurd (not_near ts i j t u (omega arith) m f g (other (are_apart t u) (sym k ∙ e)) n)

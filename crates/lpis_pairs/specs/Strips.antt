@@ -9,10 +9,6 @@ use Rattle.lpis_pairs.specs.declared.spans.Span.{Span}
 abbrev pub offset : ℤ → ℕ
 offset z = unsigned_abs (z +ℤ limit)
 
--- no offset is greater
-abbrev pub widest : ℕ
-widest = unsigned_abs (limit +ℤ limit)
-
 abbrev pub span_of : Triangle → Span
 span_of t = record {
   left = offset (box_of t).x0;

@@ -8,6 +8,8 @@ mod order;
 mod source;
 mod spans;
 mod sweep;
+#[cfg(test)]
+mod tests;
 
 pub use all_pairs::AllPairs;
 pub use source::{MOST_TRIANGLES, PairSource};

@@ -1,8 +1,8 @@
 //! Boxes measured from the corner of the range of coordinates.
 
-ghost use Rattle.std.specs.Prelude.{◌≡◌, ◌<◌, ◌≤◌};
+ghost use Rattle.std.specs.Prelude.{◌≡◌, ◌<◌};
 ghost use Rattle.lpis_points.specs.Range.{IsInRange};
-ghost use Rattle.lpis_pairs.specs.Strips.{offset as offset_lem, span_of as span_of_lem, widest};
+ghost use Rattle.lpis_pairs.specs.Strips.{offset as offset_lem, span_of as span_of_lem};
 
 use lpis_points::{LIMIT, Triangle, box_of};
 
