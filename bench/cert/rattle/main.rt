@@ -28,7 +28,7 @@ fn main(rt: HostRuntime) -> io::Result<ExitCode> {
     };
     let mut bytes = Vec::new(alloc);
     file.read_to_end(&mut bytes)?;
-    let start = Instant::now(&rt);
+    let start = Instant::now(&rt)?;
     for _ in 1..words.len() {
         match read_cert(alloc, bytes.as_slice()) {
             Ok(cert) => {
@@ -40,7 +40,7 @@ fn main(rt: HostRuntime) -> io::Result<ExitCode> {
             Err(CertFault::At { code, line }) => println!(rt; "{code:?} line {line}")?,
         }
     }
-    let taken = start.elapsed(&rt).as_millis();
+    let taken = start.elapsed(&rt)?.as_millis();
     eprintln!(rt; "{taken}")?;
     Ok(ExitCode::from(0))
 }

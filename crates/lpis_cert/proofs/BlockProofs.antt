@@ -14,11 +14,12 @@ use Rattle.lpis_cert.specs.declared.kind.Kind.TheVariants as kind
 use Rattle.lpis_cert.specs.declared.kind.Expected.{Expected}
 use Rattle.lpis_cert.specs.declared.kind.Expected.TheVariants.{One, Block}
 use Rattle.lpis_cert.specs.Versions.{written}
-use Rattle.lpis_cert.specs.CertText.{Corners, CornersFit, Separator, SeparatorFits, Line, PieceLine, TriangleLine, FlatLine, ParcelLine, PairsLine, EndLine, spelling, text_of_lines}
+use Rattle.lpis_cert.specs.CertText.{Corners, Separator, Line, PieceLine, TriangleLine, FlatLine, ParcelLine, PairsLine, EndLine, spelling, text_of_lines}
+use Rattle.lpis_cert.specs.Fitting.{CornersFit, SeparatorFits}
 use Rattle.lpis_cert.specs.CertText.{PairLine as separator_line}
 use Rattle.lpis_cert.specs.Reading.{◌>>?◌, values, corners, separator, last}
 use Rattle.lpis_cert.specs.Faults.{lines, outcome, step, Place, InBody, InPairs, AtEnd, Declared}
-use Rattle.lpis_cert.specs.CertText.{LineFits}
+use Rattle.lpis_cert.specs.Fitting.{LineFits}
 use Rattle.lpis_cert.specs.Kinds.{line_kind}
 use Rattle.lpis_cert.specs.Taken.{Placed, FailsWith, LineFault, Follows, FaultFrom, corner_kind, corner_line, wanting}
 use Rattle.lpis_cert.specs.Contents.{corners_of, all_corners, separator_of}

@@ -14,7 +14,8 @@ use Rattle.lpis_cert.specs.declared.fault.CertFault.{CertFault}
 use Rattle.lpis_cert.specs.declared.kind.Kind.TheVariants as kind
 use Rattle.lpis_cert.specs.declared.kind.Expected.TheVariants.{One, Block}
 use Rattle.lpis_cert.specs.Limits.{most_triangles, most_flats, greatest_count}
-use Rattle.lpis_cert.specs.CertText.{Corners, CornersFit, Separator, SeparatorFits, PieceBlock, ParcelBlock, Content, Line, PieceLine, TriangleLine, FlatLine, ParcelLine, PairsLine, PairLine, EndLine, LineFits, spelling, text_of_lines, piece_lines, parcel_lines, end_lines, lines_of}
+use Rattle.lpis_cert.specs.CertText.{Corners, Separator, PieceBlock, ParcelBlock, Content, Line, PieceLine, TriangleLine, FlatLine, ParcelLine, PairsLine, PairLine, EndLine, spelling, text_of_lines, piece_lines, parcel_lines, end_lines, lines_of}
+use Rattle.lpis_cert.specs.Fitting.{CornersFit, SeparatorFits, LineFits}
 use Rattle.lpis_cert.specs.Faults.{is_lf, lines, outcome, at_last, step, Place, InBody, InPairs, AtEnd, Declared, grow, grow_flats, open_block}
 use Rattle.lpis_cert.specs.Taken.{Follows, FaultFrom, LineFault, corner_line, wanting}
 use Rattle.lpis_points.specs.declared.triangle.Triangle.{Triangle}

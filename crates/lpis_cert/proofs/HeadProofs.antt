@@ -7,7 +7,8 @@ use Rattle.lpis_cert.specs.declared.kind.Kind.{Kind}
 use Rattle.lpis_cert.specs.declared.kind.Kind.TheVariants.{Piece, Triangle, Flat, Parcel, Pairs, Pair, End}
 use Rattle.lpis_cert.specs.declared.kind.Expected.TheVariants.{One, Block}
 use Rattle.lpis_cert.specs.Versions.{written}
-use Rattle.lpis_cert.specs.CertText.{Line, LineFits}
+use Rattle.lpis_cert.specs.CertText.{Line}
+use Rattle.lpis_cert.specs.Fitting.{LineFits}
 use Rattle.lpis_cert.specs.Kinds.{line_kind}
 use Rattle.lpis_cert.specs.Reading.{values, can_stand, piece_line, parcel_line, pairs_line}
 use Rattle.lpis_cert.specs.Taken.{Placed, FailsWith, Follows}

@@ -10,7 +10,8 @@ use Rattle.lpis_cert.specs.declared.fault.CertCode.{CertCode}
 use Rattle.lpis_cert.specs.declared.fault.CertCode.TheVariants as code
 use Rattle.lpis_cert.specs.Versions.{first_line, written}
 use Rattle.lpis_cert.specs.Limits.{most_triangles, most_flats}
-use Rattle.lpis_cert.specs.CertText.{Corners, PieceBlock, ParcelBlock, PieceFits, ParcelFits, Content, Fits, Line, PieceLine, ParcelLine, TriangleLine, FlatLine, LineFits, text_of, text_of_lines, lines_of, piece_lines, parcel_lines, end_lines}
+use Rattle.lpis_cert.specs.CertText.{Corners, PieceBlock, ParcelBlock, Content, Line, PieceLine, ParcelLine, TriangleLine, FlatLine, text_of, text_of_lines, lines_of, piece_lines, parcel_lines, end_lines}
+use Rattle.lpis_cert.specs.Fitting.{PieceFits, ParcelFits, Fits, LineFits}
 use Rattle.lpis_cert.specs.Reading.{is_word}
 use Rattle.lpis_cert.specs.Faults.{is_lf, lines, outcome, at_last, step, Place, AtVersion, InBody, AtEnd, Declared, none_declared, grow, grow_flats, verdict}
 use Rattle.lpis_cert.specs.Taken.{TakesLine, Follows}

@@ -13,10 +13,11 @@ use Rattle.lpis_cert.specs.declared.kind.Kind.TheVariants.{Piece, Triangle, Flat
 use Rattle.lpis_cert.specs.declared.kind.Expected.{Expected}
 use Rattle.lpis_cert.specs.declared.kind.Expected.TheVariants.{One, Block}
 use Rattle.lpis_cert.specs.Versions.{written}
-use Rattle.lpis_cert.specs.CertText.{Corners, CornersFit, Separator, SeparatorFits, Line, PieceLine, TriangleLine, FlatLine, ParcelLine, PairsLine, PairLine, EndLine, spelling, text_of_lines}
+use Rattle.lpis_cert.specs.CertText.{Corners, Separator, Line, PieceLine, TriangleLine, FlatLine, ParcelLine, PairsLine, PairLine, EndLine, spelling, text_of_lines}
+use Rattle.lpis_cert.specs.Fitting.{CornersFit, SeparatorFits}
 use Rattle.lpis_cert.specs.Reading.{◌>>=◌, with_form, same_kind, can_stand, values, placed, read_line, or_number, corners, separator, piece_line, parcel_line, pairs_line, last}
 use Rattle.lpis_cert.specs.Faults.{is_lf, lines, outcome, at_last, at_line, step, Place, AtVersion, InBody, InPairs, AtEnd, Declared, open_block}
-use Rattle.lpis_cert.specs.CertText.{LineFits}
+use Rattle.lpis_cert.specs.Fitting.{LineFits}
 use Rattle.lpis_cert.specs.Kinds.{line_kind}
 use Rattle.lpis_cert.specs.Taken.{TakesLine, Placed, FailsWith, LineFault, Follows, FaultFrom, corner_kind, corner_line, wanting}
 use Rattle.lpis_cert.proofs.Splitting.{split_some}

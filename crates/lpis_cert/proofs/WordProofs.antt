@@ -22,7 +22,8 @@ use Rattle.lpis_cert.specs.declared.fault.CertCode.TheVariants as code
 use Rattle.lpis_cert.specs.declared.kind.Kind.{Kind}
 use Rattle.lpis_cert.specs.declared.kind.Kind.TheVariants.{Piece, Triangle, Flat, Parcel, Pairs, Pair, End}
 use Rattle.lpis_cert.specs.declared.kind.Expected.{Expected}
-use Rattle.lpis_cert.specs.CertText.{Corners, CornersFit, Separator, SeparatorFits, Line, PieceLine, TriangleLine, FlatLine, ParcelLine, PairsLine, PairLine, EndLine, words_of, corner_words, spelling, LineFits}
+use Rattle.lpis_cert.specs.CertText.{Corners, Separator, Line, PieceLine, TriangleLine, FlatLine, ParcelLine, PairsLine, PairLine, EndLine, words_of, corner_words, spelling}
+use Rattle.lpis_cert.specs.Fitting.{CornersFit, SeparatorFits, LineFits}
 use Rattle.lpis_cert.specs.Reading.{◌>>=◌, ◌>>?◌, is_gap, is_empty, words, is_word, kind_of, word_count, first_is_id, names, form, can_stand, front, last, natural, number, coordinate, point, corners, separator, piece_line, parcel_line, pairs_line, values, with_form, or_number, placed, read_line}
 use Rattle.lpis_cert.specs.Faults.{is_lf, lines}
 use Rattle.lpis_cert.specs.Kinds.{line_kind}

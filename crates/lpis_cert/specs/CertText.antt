@@ -1,10 +1,7 @@
--- The certificate text: one text a certificate.
-use Rattle.std.specs.Prelude.{ℕ, ◌+◌, ◌<◌, ◌≤◌, ◌≡◌, ℤ, pos, negsuc, ◌≤ℤ◌, true, List, [], ◌∷◌, ◌++◌, length, map, sum_by, codes}
-use Rattle.std.specs.List.{flat_map, join_with_byte, AllByRecursion}
+-- The certificate text, by a certificate's content.
+use Rattle.std.specs.Prelude.{ℕ, ℤ, List, [], ◌∷◌, ◌++◌, length, map, codes}
+use Rattle.std.specs.List.{flat_map, join_with_byte}
 use Rattle.std.specs.Fmt.{decimal, signed_decimal}
-use Rattle.lpis_points.specs.Range.{IsInRange}
-use Rattle.lpis_covers.specs.Ids.{is_id}
-use Rattle.lpis_cert.specs.Limits.{most_triangles, most_flats, greatest_count, last_edge}
 use Rattle.lpis_cert.specs.Versions.{first_line, written}
 
 -- a triangle or a flat, by its coordinates
@@ -82,45 +79,3 @@ lines_of c = flat_map piece_lines c.pieces ++ (flat_map parcel_lines c.parcels +
 
 unfoldable pub text_of : Content → List ℕ
 text_of c = first_line written ++ (10 ∷ text_of_lines (lines_of c))
-
--- ---- what has a text
-
-pub record CornersFit (c : Corners) : Type 0 where
-  pub x1 : IsInRange c.x1
-  pub y1 : IsInRange c.y1
-  pub x2 : IsInRange c.x2
-  pub y2 : IsInRange c.y2
-  pub x3 : IsInRange c.x3
-  pub y3 : IsInRange c.y3
-
-pub record PieceFits (p : PieceBlock) : Type 0 where
-  pub id : is_id p.id ≡ true
-  pub triangles : AllByRecursion CornersFit p.triangles
-  pub flats : AllByRecursion CornersFit p.flats
-
-pub record ParcelFits (p : ParcelBlock) : Type 0 where
-  pub id : is_id p.id ≡ true
-  pub flats : AllByRecursion CornersFit p.flats
-
-pub record SeparatorFits (p : Separator) : Type 0 where
-  pub i : p.i ≤ greatest_count
-  pub j : p.j ≤ greatest_count
-  pub k : p.k ≤ last_edge
-
-pub record Fits (c : Content) : Type 0 where
-  pub pieces : AllByRecursion PieceFits c.pieces
-  pub parcels : AllByRecursion ParcelFits c.parcels
-  pub pairs : AllByRecursion SeparatorFits c.pairs
-  pub triangles_few : sum_by (λ p. length p.triangles) c.pieces ≤ most_triangles
-  pub flats_few : sum_by (λ p. length p.flats) c.pieces + sum_by (λ p. length p.flats) c.parcels ≤ most_flats
-  pub pairs_few : length c.pairs ≤ greatest_count
-
--- a line that has a text
-abbrev pub LineFits : Line → Type 0
-LineFits (PieceLine id t f) = (is_id id ≡ true) × (t ≤ greatest_count) × (f ≤ greatest_count)
-LineFits (TriangleLine c) = CornersFit c
-LineFits (FlatLine c) = CornersFit c
-LineFits (ParcelLine id f) = (is_id id ≡ true) × (f ≤ greatest_count)
-LineFits (PairsLine n) = n ≤ greatest_count
-LineFits (PairLine p) = SeparatorFits p
-LineFits EndLine = Unit {0}

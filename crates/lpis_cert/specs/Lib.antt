@@ -2,6 +2,7 @@ pub mod Limits
 pub mod Versions
 pub mod Codes
 pub mod CertText
+pub mod Fitting
 pub mod Reading
 pub mod Faults
 pub mod Contents

@@ -22,6 +22,7 @@ use lpis_points::Triangle;
 use lpis_rings::Sequence;
 use std::alloc::Global;
 
+/// A piece of its lines' values.
 fn piece_part(id: Id, triangles: Vec<Triangle>, flats: Vec<Triangle>) -> PiecePart
     requires { is_id id ≡ true }
     ensures id { result.id ≡ id }
@@ -35,6 +36,7 @@ fn piece_part(id: Id, triangles: Vec<Triangle>, flats: Vec<Triangle>) -> PiecePa
     }
 }
 
+/// A parcel of its lines' values.
 fn parcel_part(id: Id, flats: Vec<Triangle>) -> ParcelPart
     requires { is_id id ≡ true }
     ensures id { result.id ≡ id }
@@ -46,6 +48,7 @@ fn parcel_part(id: Id, flats: Vec<Triangle>) -> ParcelPart
     }
 }
 
+/// The certificate of all its parts.
 fn cert_of(pieces: Vec<PiecePart>, parcels: Vec<ParcelPart>, pairs: Vec<PairLine>) -> Cert
     requires triangles_few { sum_by (λ p. length p.triangles) pieces.items ≤ most_triangles }
     requires flats_few { sum_by (λ p. length p.flats) pieces.items + sum_by (λ p. length p.flats) parcels.items ≤ most_flats }

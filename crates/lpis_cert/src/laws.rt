@@ -4,7 +4,8 @@ ghost use Rattle.std.specs.Prelude.{◌≡◌, ◌≤◌, ◌<◌, ◌++◌, ◌
 ghost use Rattle.std.specs.Fmt.{decimal};
 ghost use Rattle.lpis_cert.specs.Limits.{number_margin};
 ghost use Rattle.lpis_cert.specs.Versions.{written};
-ghost use Rattle.lpis_cert.specs.CertText.{lines_of, Line, LineFits, spelling};
+ghost use Rattle.lpis_cert.specs.CertText.{lines_of, Line, spelling};
+ghost use Rattle.lpis_cert.specs.Fitting.{LineFits};
 ghost use Rattle.lpis_cert.specs.Contents.{cert_text, content_of};
 ghost use Rattle.lpis_cert.specs.Reading.{number, read_line, can_stand};
 ghost use Rattle.lpis_cert.specs.Kinds.{line_kind};

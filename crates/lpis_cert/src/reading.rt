@@ -20,6 +20,7 @@ use crate::rest::{Rest, front_line};
 use crate::version::Version;
 use std::alloc::Global;
 
+/// Whether a line names the version that is read.
 fn is_first_line(line: &[u8]) -> bool
     ensures { result ≡ is_word_lem line.now (first_line written) }
 {
@@ -45,6 +46,7 @@ fn after_version(rest: Rest<'_>) -> Result<Rest<'_>, CertFault>
     Ok(after)
 }
 
+/// What has been read before the first block.
 fn no_blocks(alloc: Global) -> Draft
     ensures lines { draft_lines result ≡ [] }
     ensures place { place_of result ≡ InBody Pieces 0 0 none_declared }
