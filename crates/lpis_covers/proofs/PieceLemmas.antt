@@ -1,5 +1,5 @@
 -- The faults of a piece, column by column.
-use Rattle.std.proofs.Common.{◌≡◌, ℕ, List, Result, Ok, Err}
+use Rattle.std.proofs.Common.{◌≡◌, ℕ, List, Ok, Err}
 use Rattle.lpis_rings.specs.declared.polygon.Member.{Member}
 use Rattle.lpis_covers.specs.declared.fault.Table.TheVariants.{Covers}
 use Rattle.lpis_covers.specs.declared.fault.TableFault.{TableFault}

@@ -1,5 +1,5 @@
 -- Reading rows as values, a row at a time.
-use Rattle.std.proofs.Common.{◌≡◌, ◌≤◌, ◌<◌, ◌+◌, ◌++◌, ◌∷◌, [], ℕ, List, length, map, Bool, true, false, Option, Some, None, Result, Ok, Err, refl, sym, ap, subst, ◌∙◌, arith, append_assoc}
+use Rattle.std.proofs.Common.{◌≡◌, ◌+◌, ◌++◌, ◌∷◌, [], ℕ, List, length, map, Bool, true, false, Result, Ok, Err, refl, sym, ap, ◌∙◌, arith, append_assoc}
 use Rattle.std.specs.Prelude.{option_to_list}
 use Rattle.std.proofs.lemmas.List.{append-nil, map-append, length-append}
 use Rattle.csv.specs.Reading.{default_config, records, strip_bom}
@@ -7,7 +7,7 @@ use Rattle.lpis_covers.specs.declared.fault.Table.{Table}
 use Rattle.lpis_covers.specs.declared.fault.TableCode.{TableCode}
 use Rattle.lpis_covers.specs.declared.fault.TableFault.{TableFault}
 use Rattle.lpis_covers.specs.declared.fault.TableFault.TheVariants.{Memory, At}
-use Rattle.lpis_covers.specs.Faults.{RowsOf, row_faults, told, values_of, rows_of}
+use Rattle.lpis_covers.specs.Faults.{RowsOf, row_faults, told, rows_of}
 use Rattle.lpis_covers.specs.Table.{Advances, Answers, Reading, Record, field_of, has_mark, most_rows, places_of, table_of, under_header}
 
 -- a reader of the table t has read these rows, with these keys, and no fault yet

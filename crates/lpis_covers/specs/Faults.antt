@@ -1,5 +1,5 @@
 -- The values of a table's rows, and its faults in the order in which the first is told.
-use Rattle.std.specs.Prelude.{◌≡◌, ◌+◌, ◌∷◌, ◌++◌, Bool, true, false, not, ℕ, List, [], map, Option, Some, option_to_list, Result, Ok, Err, if◌then◌else◌}
+use Rattle.std.specs.Prelude.{◌+◌, ◌∷◌, ◌++◌, Bool, true, false, not, ℕ, List, [], map, Some, option_to_list, Result, Ok, Err, if◌then◌else◌}
 use Rattle.std.specs.Str.{is_utf8}
 use Rattle.lpis_rings.specs.declared.polygon.Member.{Member}
 use Rattle.lpis_wkt.specs.declared.fault.WktCode.{WktCode}

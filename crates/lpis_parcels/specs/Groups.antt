@@ -1,5 +1,5 @@
 -- Machinery that only private contracts cite: the places of items, and what the joins' steps tell.
-use Rattle.std.specs.Prelude.{◌≡◌, ◌+◌, ◌∷◌, ◌++◌, Bool, true, false, ℕ, List, [], map, slice_get, option_to_list, Result, Ok, Err, if◌then◌else◌}
+use Rattle.std.specs.Prelude.{◌+◌, ◌∷◌, ◌++◌, Bool, true, false, ℕ, List, [], slice_get, option_to_list, Err, if◌then◌else◌}
 use Rattle.lpis_covers.specs.declared.fault.Table.TheVariants as table
 use Rattle.lpis_covers.specs.declared.fault.TableCode.TheVariants.{ParcelWithoutPieces}
 use Rattle.lpis_covers.specs.declared.fault.TableFault.{TableFault}

@@ -23,6 +23,9 @@ pub record Contents : Type 0 where
 abbrev pub parcel_ids : List Parcel → List (List ℕ)
 parcel_ids parcels = map (λ (p : Parcel). p.id) parcels
 
+abbrev pub piece_ids : List Piece → List (List ℕ)
+piece_ids pieces = map (λ (p : Piece). p.id) pieces
+
 abbrev pub class_codes : List Class → List (List ℕ)
 class_codes classes = map (λ (k : Class). k.code) classes
 

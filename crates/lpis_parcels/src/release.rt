@@ -1,10 +1,10 @@
 //! Releases.
 
-ghost use Rattle.std.specs.Prelude.{◌≡◌, ◌≤◌, [], length};
+ghost use Rattle.std.specs.Prelude.{◌≡◌, ◌≤◌, ◌<◌, [], All, Some, length, slice_get};
 ghost use Rattle.std.specs.List.{IsDistinct};
 ghost use Rattle.lpis_covers.specs.Ids.{same_id};
 ghost use Rattle.lpis_covers.specs.Table.{Answers, most_rows};
-ghost use Rattle.lpis_parcels.specs.Release.{class_codes, join_faults, joined, parcel_ids};
+ghost use Rattle.lpis_parcels.specs.Release.{class_codes, join_faults, joined, names, parcel_ids, piece_ids};
 
 use crate::joins::{Joins, join};
 use crate::parcel::{Parcel, Parcels};
@@ -34,6 +34,10 @@ impl Model for Release {
 }
 
 impl Release {
+    ghost use Rattle.lpis_covers.specs.declared.piece.Piece.{Piece};
+    ghost use Rattle.lpis_parcels.specs.Eligible.{is_eligible};
+    ghost use Rattle.lpis_parcels.specs.Groups.{places_where};
+
     /// The release of these rows, or the first fault of their joins.
     pub(crate) fn of(
         alloc: Global,
@@ -60,5 +64,49 @@ impl Release {
         ensures joined { join_faults self.now ≡ [] }
     {
         self.parcels.as_slice()
+    }
+
+    /// The pieces in the order of their table.
+    pub fn pieces(&self) -> &[Piece]
+        ensures pieces { result.now ≡ self.now.pieces }
+        ensures distinct { IsDistinct same_id (piece_ids self.now.pieces) }
+        ensures few { length self.now.pieces ≤ most_rows }
+        ensures joined { join_faults self.now ≡ [] }
+    {
+        self.pieces.as_slice()
+    }
+
+    /// The classes in the order of their table.
+    pub fn classes(&self) -> &[Class]
+        ensures classes { result.now ≡ self.now.classes }
+        ensures distinct { IsDistinct same_id (class_codes self.now.classes) }
+        ensures few { length self.now.classes ≤ most_rows }
+        ensures joined { join_faults self.now ≡ [] }
+    {
+        self.classes.as_slice()
+    }
+
+    /// The places of a parcel's pieces.
+    pub(crate) fn places_of(&self, parcel: &Id) -> &[usize]
+        ensures places { result.now ≡ places_where (names parcel.now) 0 self.now.pieces }
+        ensures within { All (λ i. i < length self.now.pieces) result.now }
+        ensures few { length result.now ≤ length self.now.pieces }
+    {
+        match self.parcels.position(parcel) {
+            Some(place) => self.joins.groups[place].as_slice(),
+            None => &[],
+        }
+    }
+
+    /// Whether the class of the piece at a place is eligible.
+    pub(crate) fn is_eligible(&self, place: usize) -> bool
+        requires { place < length self.now.pieces }
+        ensures { (piece : Piece) → slice_get self.now.pieces place ≡ Some piece → result ≡ is_eligible self.now.classes piece }
+    {
+        let class = self.joins.classes[place];
+        match self.classes.as_slice().get(class) {
+            Some(class) => class.eligible,
+            None => false,
+        }
     }
 }

@@ -1,6 +1,5 @@
-use Rattle.std.proofs.Common.{◌≡◌, ◌∙◌, List, ℕ, true, false, map, Ok}
+use Rattle.std.proofs.Common.{map}
 use Rattle.std.proofs.lemmas.Result.{err_from_is_err_and}
-use Rattle.lpis_covers.specs.Table.{Advances, table_of}
 use Rattle.lpis_covers.proofs.RowsRead.{rows-end, rows-fault, rows-push, rows-start, rows-stop}
 use Rattle.lpis_covers.proofs.typed.read_rows.Goals as goal
 

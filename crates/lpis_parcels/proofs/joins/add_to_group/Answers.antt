@@ -1,4 +1,4 @@
-use Rattle.std.proofs.Common.{◌≡◌, ◌∙◌, ◌++◌, ◌∷◌, [], List, ℕ, ap, sym, set, arith}
+use Rattle.std.proofs.Common.{◌∙◌, ◌++◌, ◌∷◌, [], List, ℕ, ap, sym, set, arith}
 use Rattle.std.proofs.lemmas.List.{map-set}
 use Rattle.lpis_parcels.specs.Joined.{group_lists}
 use Rattle.lpis_parcels.proofs.JoinLemmas.{list-at}

@@ -1,4 +1,3 @@
-use Rattle.std.proofs.Common.{map}
 use Rattle.std.proofs.lemmas.Result.{err_from_is_err_and}
 use Rattle.lpis_covers.proofs.PieceLemmas.{piece-key-fault, piece-polygon-fault}
 use Rattle.lpis_covers.proofs.piece.PieceTableRow.read.Goals as goal

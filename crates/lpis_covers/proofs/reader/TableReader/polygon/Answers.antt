@@ -1,4 +1,4 @@
-use Rattle.std.proofs.Common.{◌≡◌, ◌∙◌, List, ℕ, subst, sym}
+use Rattle.std.proofs.Common.{◌∙◌, List, ℕ, subst, sym}
 use Rattle.std.specs.Str.{IsUtf8}
 use Rattle.lpis_covers.specs.Faults.{polygon_in}
 use Rattle.lpis_covers.specs.Table.{field_of}
