@@ -14,7 +14,7 @@ mod typed;
 
 pub use class::{Class, Classes, read_classes};
 pub use fault::{Table, TableCode, TableFault};
-pub use id::{Id, LONGEST_ID};
+pub use id::{Id, LONGEST_ID, is_id_text};
 pub use keyed::{Identified, Keyed};
 pub use piece::{Piece, Pieces, read_pieces};
 pub use reader::{MOST_ROWS, TableReader};
