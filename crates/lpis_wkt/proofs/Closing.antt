@@ -1,12 +1,12 @@
 -- A `)` that closes no ring.
-use Rattle.std.proofs.Common.{◌≡◌, ℕ, ◌<◌, false, true, Bool, cond, List, length, Err, Ok, refl, arith, nat_lt}
+use Rattle.std.proofs.Common.{◌≡◌, ◌<◌, false, true, Bool, List, length, Err, refl, arith, nat_lt}
 use Rattle.std.proofs.lemmas.Bool.Decides.{nat_tests}
 use Rattle.lpis_points.specs.declared.point.Point.{Point}
 use Rattle.lpis_rings.specs.Ring.{IsRing}
 use Rattle.lpis_wkt.specs.declared.fault.WktCode.TheVariants.{TooFewPoints, NotClosed}
 use Rattle.lpis_wkt.specs.declared.parser.Place.{Place}
 use Rattle.lpis_wkt.specs.declared.parser.Place.TheVariants as place
-use Rattle.lpis_wkt.specs.Machine.{Context, State, AfterPoint, AfterRing, with_ring, is_closed, close_ring}
+use Rattle.lpis_wkt.specs.Machine.{Context, AfterPoint, is_closed, close_ring}
 use Rattle.lpis_wkt.specs.Parsing.{state_of}
 use Rattle.lpis_wkt.proofs.Points.{is_closed-true}
 

@@ -1,5 +1,5 @@
 -- Each state that is reached has tokens that complete it, so each prefix that the machine takes begins a text of the grammar.
-use Rattle.std.proofs.Common.{◌≡◌, ℕ, ◌-◌, ◌<◌, Bool, true, false, cond, List, [], ◌∷◌, ◌++◌, length, pos, Some, Ok, refl, sym, ap, subst, ◌∙◌, inl, inr, append_assoc, arith, length-append}
+use Rattle.std.proofs.Common.{◌≡◌, ℕ, ◌-◌, ◌<◌, Bool, true, false, cond, List, [], ◌∷◌, ◌++◌, length, pos, Some, Ok, refl, sym, subst, ◌∙◌, inl, inr, append_assoc, arith, length-append}
 use Rattle.std.specs.Prelude.{codes, slice_get}
 use Rattle.std.proofs.lemmas.Int.{ints}
 use Rattle.lpis_points.specs.declared.point.Point.{Point}

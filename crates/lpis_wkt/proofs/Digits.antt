@@ -5,7 +5,7 @@ use Rattle.std.proofs.lemmas.List.{drop_all, take_all, drop-drop}
 use Rattle.std.specs.List.{position, position_or_len, before_first, after_first, list_all}
 use Rattle.std.specs.Str.Parse.{digits_value_after}
 use Rattle.std.specs.Char.{digit_value, is_ascii_digit}
-use Rattle.lpis_wkt.specs.Number.{greatest, is_point, padded, coordinate_decimals}
+use Rattle.lpis_wkt.specs.Number.{greatest, is_point, padded}
 
 pub value-ge : (n : ℕ) (ds : List ℕ) → n ≤ digits_value_after 10 n ds
 value-ge n [] = omega arith

@@ -1,16 +1,16 @@
 -- The outcome of a text is its polygon, or its first fault.
-use Rattle.std.proofs.Common.{MatchResult, IfOk, IfErr, ◌≡◌, ℕ, List, [], ◌∷◌, ◌++◌, Result, Ok, Err, refl, sym, ap, ◌∙◌, inl, inr, ◌⊎◌, ◌↔◌, length}
+use Rattle.std.proofs.Common.{MatchResult, IfOk, IfErr, ◌≡◌, ℕ, List, [], ◌∷◌, ◌++◌, Result, Ok, Err, refl, sym, ap, ◌∙◌, inl, inr, ◌⊎◌, length}
 use Rattle.lpis_rings.specs.declared.polygon.Member.{Member}
 use Rattle.lpis_wkt.specs.declared.fault.WktCode.{WktCode}
 use Rattle.lpis_wkt.specs.declared.fault.WktFault.{WktFault}
 use Rattle.lpis_wkt.specs.declared.fault.WktFault.TheVariants.{Memory, At}
-use Rattle.lpis_wkt.specs.Tokens.{Token, Open, Close, Comma, Word, End, kinds, tokens, tokens_from}
+use Rattle.lpis_wkt.specs.Tokens.{Token, End, kinds, tokens, tokens_from}
 use Rattle.lpis_wkt.specs.Viable.{Viable}
 use Rattle.lpis_wkt.specs.Table.{FirstFault}
 use Rattle.lpis_wkt.specs.Text.{PolygonText, TextFault, IsTextFault}
 use Rattle.lpis_wkt.specs.Answer.{members_of, answer_of, polygon_of, Gives}
 use Rattle.lpis_wkt.specs.Parsing.{Told}
-use Rattle.lpis_wkt.specs.Machine.{State, AtKeyword, AfterKeyword, AtBody, AtRing, AtX, AtY, AfterPoint, AfterRing, AfterBody, AtEnd, Finished, and_then, limited_step, limited_run, located, outcome}
+use Rattle.lpis_wkt.specs.Machine.{State, AtKeyword, Finished, and_then, limited_step, limited_run, located, outcome}
 use Rattle.lpis_wkt.proofs.Steps.{then-ok, limited-append, cond-err}
 use Rattle.lpis_wkt.proofs.Counting.{viable, taken, finished, accepted}
 use Rattle.lpis_wkt.proofs.Rows.{table_code}

@@ -1,14 +1,14 @@
 -- Parts of a text that grow by a byte, and the numerals that they are.
-use Rattle.std.proofs.Common.{◌≡◌, ℕ, zero, suc, ◌+◌, ◌-◌, ◌*◌, ◌<◌, ◌≤◌, Bool, true, false, cond, not, ◌&&◌, ◌||◌, ◌==◌, List, [], ◌∷◌, ◌++◌, length, take, drop, get_or, refl, sym, ap, subst, ◌∙◌, arith, append_assoc, append-nil, length-append, drop-cons, add-one, one-add, add-zero, nat_lt, inl, inr}
+use Rattle.std.proofs.Common.{◌≡◌, ℕ, suc, ◌+◌, ◌-◌, ◌*◌, ◌<◌, ◌≤◌, Bool, true, false, cond, not, ◌&&◌, ◌||◌, ◌==◌, List, [], ◌∷◌, ◌++◌, length, take, drop, get_or, refl, sym, ap, ◌∙◌, arith, append_assoc, append-nil, length-append, drop-cons, add-one, one-add, nat_lt}
 use Rattle.std.proofs.lemmas.Bool.Decides.{nat_tests}
 use Rattle.std.proofs.lemmas.List.{drop_all}
 use Rattle.std.specs.List.{list_all, position_or_len, before_first, after_first}
-use Rattle.std.specs.Char.{is_ascii_digit, digit_value}
-use Rattle.std.specs.Str.Parse.{digits_value, digits_value_after}
-use Rattle.lpis_wkt.specs.Number.{coordinate_decimals, greatest, is_point, is_zero, is_numeral, is_fine, padded, size, signed, unsigned, is_negative, number}
+use Rattle.std.specs.Char.{is_ascii_digit}
+use Rattle.std.specs.Str.Parse.{digits_value}
+use Rattle.lpis_wkt.specs.Number.{coordinate_decimals, greatest, is_point, is_numeral, is_fine, padded, size, signed, unsigned, is_negative, number}
 use Rattle.lpis_wkt.specs.Runs.{IsPart, IsPlain, AllWord, Stops, IsSign, none, plus, minus}
-use Rattle.lpis_wkt.specs.Tokens.{Word, is_space, is_word, tokens_from}
-use Rattle.std.specs.Prelude.{ℤ, Result, Ok, Err, slice_range}
+use Rattle.lpis_wkt.specs.Tokens.{Word, is_word, tokens_from}
+use Rattle.std.specs.Prelude.{ℤ, Ok, Err, slice_range}
 use Rattle.lpis_wkt.specs.declared.fault.WktCode.{WktCode}
 use Rattle.lpis_wkt.specs.declared.fault.WktCode.TheVariants.{NotANumber, TooFine, OutOfRange}
 use Rattle.lpis_wkt.proofs.Digits.{value-append, is-digit}

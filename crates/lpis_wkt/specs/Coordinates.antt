@@ -1,9 +1,9 @@
 -- A number with the fact that it is in range. Machinery: only private contracts cite this file.
-use Rattle.std.specs.Prelude.{◌≡◌, ℕ, ◌≤◌, Bool, true, false, not, cond, List, ℤ, pos, neg_ℤ, nat_abs, nat_lt, Result, Ok, Err, refl}
+use Rattle.std.specs.Prelude.{◌≡◌, ℕ, ◌≤◌, Bool, true, false, not, cond, List, ℤ, nat_lt, Result, Ok, Err, refl}
 use Rattle.std.proofs.Common.{arith}
 use Rattle.std.proofs.lemmas.Int.{ints}
 use Rattle.std.proofs.lemmas.Bool.Decides.{nat_tests}
-use Rattle.lpis_points.specs.Range.{limit, IsInRange}
+use Rattle.lpis_points.specs.Range.{IsInRange}
 use Rattle.lpis_points.specs.declared.point.Point.{Point}
 use Rattle.lpis_wkt.specs.declared.fault.WktCode.{WktCode}
 use Rattle.lpis_wkt.specs.declared.coordinate.Coordinate.{Coordinate}

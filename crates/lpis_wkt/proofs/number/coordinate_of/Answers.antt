@@ -1,5 +1,4 @@
-use Rattle.std.proofs.Common.{◌≡◌, ℤ, Ok, sym, ap, ◌∙◌, rules, arith, w64, SFits, to_z-of_z}
-use Rattle.std.proofs.lemmas.Int.{ints}
+use Rattle.std.proofs.Common.{ℤ, Ok, sym, ap, ◌∙◌, rules, w64, SFits, to_z-of_z}
 use Rattle.lpis_points.specs.Range.{IsInRange}
 use Rattle.lpis_wkt.proofs.Points.{coordinate-ok, coordinate-err}
 use Rattle.lpis_wkt.proofs.number.coordinate_of.Goals as goal

@@ -1,4 +1,4 @@
-use Rattle.std.proofs.Common.{Ok, ◌≡◌, ℕ, ◌+◌, ◌≤◌, ◌<◌, true, false, List, [], ◌∷◌, ◌++◌, sym, ap, ◌∙◌, refl, length, arith, get_or}
+use Rattle.std.proofs.Common.{Ok, ◌≡◌, ◌<◌, false, ◌++◌, sym, ap, ◌∙◌, length, arith, get_or}
 use Rattle.lpis_wkt.specs.Tokens.{is_word}
 use Rattle.lpis_wkt.proofs.Points.{coordinate-ok}
 use Rattle.lpis_wkt.proofs.Parts.{signed_number, signed_word}

@@ -1,4 +1,4 @@
-use Rattle.std.proofs.Common.{◌≡◌, ℕ, ◌≤◌, ◌<◌, ◌-◌, ◌*◌, ◌+◌, true, sym, ◌∙◌, refl, arith, get_or, ◌∷◌, ◌++◌, [], length-append}
+use Rattle.std.proofs.Common.{◌≡◌, ℕ, true, sym, ◌∙◌, refl, arith, get_or, ◌∷◌, ◌++◌, [], length-append}
 use Rattle.std.specs.Char.{is_ascii_digit}
 use Rattle.lpis_wkt.proofs.Parts.{no_part, one_more, digits-push}
 use Rattle.lpis_wkt.proofs.scanning.past_decimals.Goals as goal

@@ -1,4 +1,4 @@
-use Rattle.std.proofs.Common.{◌≡◌, ℕ, ◌+◌, List, [], ◌∷◌, subst, sym, refl, arith, get_or}
+use Rattle.std.proofs.Common.{ℕ, ◌+◌, List, [], ◌∷◌, subst, arith}
 use Rattle.lpis_wkt.specs.Runs.{IsPart, none, plus, minus}
 use Rattle.lpis_wkt.proofs.Parts.{no_part, one_more}
 use Rattle.lpis_wkt.proofs.scanning.past_sign.Goals as goal

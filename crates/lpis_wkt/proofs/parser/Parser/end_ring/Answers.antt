@@ -1,6 +1,4 @@
-use Rattle.std.proofs.Common.{◌≡◌, ◌<◌, length, sym, ap, ◌∙◌, refl, Err}
-use Rattle.lpis_wkt.specs.declared.fault.WktCode.{WktCode}
-use Rattle.lpis_rings.specs.declared.ring.RingFault.TheVariants.{Short, Unclosed}
+use Rattle.std.proofs.Common.{◌≡◌, sym, ap, ◌∙◌, refl, Err}
 use Rattle.lpis_wkt.specs.Machine.{Context, close_ring}
 use Rattle.lpis_wkt.proofs.Closing.{short_ring, open_ring, points_at}
 use Rattle.lpis_wkt.proofs.parser.Parser.end_ring.Goals as goal
