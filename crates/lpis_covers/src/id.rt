@@ -1,0 +1,138 @@
+//! Identifiers.
+
+ghost use Rattle.std.specs.Prelude.{◌≡◌, ℕ, List, true, false, nat_eq, string_bytes, IfOk, IfSome, IfNone, Some};
+ghost use Rattle.std.specs.Hash as fed;
+ghost use Rattle.std.specs.Cmp;
+ghost use Rattle.std.specs.Cmp.Lexicographic.{pointwise, slice_cmp, nat_list_eq_equiv, nat_list_cmp_total, texts_po, texts_ties};
+ghost use Rattle.std.specs.Ordering.{nat_cmp};
+ghost use Rattle.std.specs.Cmp.Rules.{comparing, hashing};
+ghost use Rattle.std.proofs.Common.{rules, refl};
+ghost use Rattle.std.specs.List.{list_all};
+ghost use Rattle.lpis_covers.specs.Ids.{is_id, is_id_byte as id_byte};
+
+use std::alloc::{AllocError, Global};
+use std::cmp::Ordering;
+use std::hash::{Hash, Hasher};
+use std::marker::Model;
+
+/// The most characters of an identifier.
+pub const LONGEST_ID: usize = 40;
+
+/// An identifier: 1 to 40 characters of `A-Z a-z 0-9 . _ : / -`, compared by its bytes. Contracts see its bytes.
+#[derive(Debug, Drop)]
+pub struct Id {
+    text: String,
+}
+
+impl Model for Id {
+    ghost Value = { List ℕ };
+
+    ghost view = { λ a. string_bytes a.text };
+
+    ghost invariant = { λ a. is_id (string_bytes a.text) ≡ true };
+}
+
+impl PartialEq for Id {
+    ghost eq = { pointwise nat_eq };
+
+    ghost laws = { Cmp.partial_equiv_from_equiv nat_list_eq_equiv };
+
+    fn eq(&self, other: &Id) -> bool {
+        self.text == other.text
+    }
+}
+
+impl Eq for Id {
+    ghost laws = { nat_list_eq_equiv };
+}
+
+impl Hash for Id {
+    ghost hash_input = { fed.str };
+
+    ghost respects_eq = { Prim.search (hashing, rules) };
+
+    fn hash<H: Hasher>(&self, state: &mut H) {
+        self.text.hash(state);
+    }
+}
+
+impl PartialOrd for Id {
+    ghost partial_cmp = { λ x y. Some (slice_cmp nat_cmp x y) };
+
+    ghost laws = { texts_po };
+
+    fn partial_cmp(&self, other: &Id) -> Option<Ordering> {
+        Some(self.cmp(other))
+    }
+}
+
+impl Ord for Id {
+    ghost cmp = { slice_cmp nat_cmp };
+
+    ghost total = { nat_list_cmp_total };
+
+    ghost matches_partial_cmp = { λ x y. refl };
+
+    ghost matches_eq = { texts_ties };
+
+    fn cmp(&self, other: &Id) -> Ordering {
+        self.text.cmp(&other.text)
+    }
+}
+
+impl Id {
+    /// The identifier of these bytes, or `None` where they are none.
+    pub fn read(alloc: Global, bytes: &[u8]) -> Result<Option<Id>, AllocError>
+        ensures some { IfOk result (λ o. IfSome o (λ id. (id ≡ bytes.now) × (is_id bytes.now ≡ true))) }
+        ensures none { IfOk result (λ o. IfNone o (is_id bytes.now ≡ false)) }
+    {
+        if !is_id_text(bytes) {
+            return Ok(None);
+        }
+        match str::from_utf8(bytes) {
+            Ok(text) => Ok(Some(Id {
+                text: String::from_str(alloc, text)?,
+            })),
+            // Its characters are ASCII.
+            Err(_) => unreachable!(),
+        }
+    }
+
+    /// Its text.
+    pub fn as_str(&self) -> &str
+        ensures text { result.now ≡ self.now }
+        ensures id { is_id self.now ≡ true }
+    {
+        self.text.as_str()
+    }
+
+    /// An equal one.
+    pub fn copy(&self) -> Result<Id, AllocError>
+        ensures { IfOk result (λ id. id ≡ self.now) }
+    {
+        Ok(Id {
+            text: self.text.clone()?,
+        })
+    }
+}
+
+/// Whether bytes are an identifier.
+fn is_id_text(bytes: &[u8]) -> bool
+    ensures { result ≡ is_id bytes.now }
+{
+    1 <= bytes.len() && bytes.len() <= LONGEST_ID && all_id_bytes(bytes)
+}
+
+/// Whether each byte is a character of an identifier.
+fn all_id_bytes(bytes: &[u8]) -> bool
+    ensures { result ≡ list_all id_byte bytes.now }
+{
+    bytes.iter().all(|b| is_id_byte(*b))
+}
+
+/// Whether a byte is a character of an identifier.
+fn is_id_byte(b: u8) -> bool
+    ensures { result ≡ id_byte b }
+{
+    matches!(b, b'A'..=b'Z' | b'a'..=b'z' | b'0'..=b'9' | b'.' | b'_' | b':' | b'/' | b'-')
+}
