@@ -1,0 +1,12 @@
+pub mod Basics
+pub mod Extends
+pub mod Clean
+pub mod Held
+pub mod SeenLemmas
+pub mod Telling
+pub mod Accepting
+pub mod Chains
+pub mod Common2
+pub mod Tallies
+pub mod SpanLaw
+pub mod FateLemmas

@@ -1,0 +1,10 @@
+pub mod Lineage
+pub mod Lawful
+pub mod Follows
+pub mod Faults
+pub mod Seen
+pub mod Accepts
+pub mod Trace
+pub mod Kinds
+pub mod Spans
+pub mod Fates
