@@ -5,9 +5,15 @@ use Rattle.std.specs.List.{list_any}
 use Rattle.std.proofs.lemmas.List.Folds.{list_any-append}
 use Rattle.lpis_lineage.specs.declared.row.Row.{Row}
 use Rattle.lpis_lineage.specs.declared.row.Entry.{Entry}
-use Rattle.lpis_lineage.specs.Lineage.{same, has, holds, entry_at, is_of, is_this, names}
+use Rattle.lpis_covers.specs.Ids.{has_id, same_id}
+use Rattle.lpis_lineage.specs.Lineage.{last_live, holds, entry_at, is_of, is_this, names}
 use Rattle.lpis_lineage.specs.Lawful.{IsLawful, RowsFit}
-use Rattle.lpis_lineage.specs.Trace.{all_rows, leads, Chain, Here, Step, Reaches, IsFresh, AreFresh}
+use Rattle.std.specs.Prelude.{◌&&◌, ◌↔◌}
+use Rattle.std.specs.List.{filter}
+use Rattle.lpis_lineage.specs.Descendants.{IsDescendant}
+use Rattle.lpis_lineage.proofs.Picking.{has-filter}
+use Rattle.lpis_lineage.specs.Descendants.{all_rows, leads, Chain, Here, Step}
+use Rattle.lpis_lineage.specs.Following.{Reaches, IsFresh, AreFresh}
 use Rattle.lpis_lineage.proofs.Basics.{same-exact, same-refl, either, and-left, and-right, or-cases}
 use Rattle.lpis_lineage.proofs.Clean.{mono, any-left, any-mid, any-last, or-left, and-both}
 use Rattle.lpis_lineage.proofs.Extends.{entry-get}
@@ -35,36 +41,36 @@ chain-less rows r a _ fresh (Step m c ch l) = next rows r a m c fresh (chain-les
 pub reach-none : (ids : List (List ℕ)) (rows : List Row) (r : Row) (id : List ℕ) → Reaches ids rows id → IsFresh rows r → r.new ≡ None → Reaches ids (rows ++ r ∷ []) id
 reach-none ids rows r id reach fresh none = record {
   sound = λ q h. chain-more rows r id q (reach.sound q h);
-  whole = λ q ch. elim (chain-less rows r id q fresh ch) as (λ _. has ids q ≡ true) [ inl x ↦ reach.whole q x | inr y ↦ absurd (let t = y.1 in let n = ap (λ (o : Option (List ℕ)). is_this q o) none in cc) ];
+  whole = λ q ch. elim (chain-less rows r id q fresh ch) as (λ _. has_id ids q ≡ true) [ inl x ↦ reach.whole q x | inr y ↦ absurd (let t = y.1 in let n = ap (λ (o : Option (List ℕ)). is_this q o) none in cc) ];
 }
 
 -- the row's old identifier is not reached
-pub reach-skip : (ids : List (List ℕ)) (rows : List Row) (r : Row) (id : List ℕ) → Reaches ids rows id → IsFresh rows r → has ids r.old ≡ false → Reaches ids (rows ++ r ∷ []) id
+pub reach-skip : (ids : List (List ℕ)) (rows : List Row) (r : Row) (id : List ℕ) → Reaches ids rows id → IsFresh rows r → has_id ids r.old ≡ false → Reaches ids (rows ++ r ∷ []) id
 reach-skip ids rows r id reach fresh no-old = record {
   sound = λ q h. chain-more rows r id q (reach.sound q h);
-  whole = λ q ch. elim (chain-less rows r id q fresh ch) as (λ _. has ids q ≡ true) [ inl x ↦ reach.whole q x | inr y ↦ absurd (let t = reach.whole r.old y.0 in cc) ];
+  whole = λ q ch. elim (chain-less rows r id q fresh ch) as (λ _. has_id ids q ≡ true) [ inl x ↦ reach.whole q x | inr y ↦ absurd (let t = reach.whole r.old y.0 in cc) ];
 }
 
 -- it is, and its successor is added
-pub reach-add : (ids more : List (List ℕ)) (rows : List Row) (r : Row) (id heir : List ℕ) → Reaches ids rows id → IsFresh rows r → r.new ≡ Some heir → has ids r.old ≡ true → ((q : List ℕ) → has more q ≡ cond (same heir q) true (has ids q)) → Reaches more (rows ++ r ∷ []) id
+pub reach-add : (ids more : List (List ℕ)) (rows : List Row) (r : Row) (id heir : List ℕ) → Reaches ids rows id → IsFresh rows r → r.new ≡ Some heir → has_id ids r.old ≡ true → ((q : List ℕ) → has_id more q ≡ cond (same_id heir q) true (has_id ids q)) → Reaches more (rows ++ r ∷ []) id
 reach-add ids more rows r id heir reach fresh some old new = record {
-  sound = λ q h. by-test q (same heir q) refl (sym (new q) ∙ h);
-  whole = λ q ch. elim (chain-less rows r id q fresh ch) as (λ _. has more q ≡ true) [
-    | inl x ↦ new q ∙ keep (same heir q) _ (reach.whole q x)
-    | inr y ↦ new q ∙ ap (λ (b : Bool). cond b true (has ids q)) (turn q heir (ap (λ (o : Option (List ℕ)). is_this q o) (sym some) ∙ y.1))
+  sound = λ q h. by-test q (same_id heir q) refl (sym (new q) ∙ h);
+  whole = λ q ch. elim (chain-less rows r id q fresh ch) as (λ _. has_id more q ≡ true) [
+    | inl x ↦ new q ∙ keep (same_id heir q) _ (reach.whole q x)
+    | inr y ↦ new q ∙ ap (λ (b : Bool). cond b true (has_id ids q)) (turn q heir (ap (λ (o : Option (List ℕ)). is_this q o) (sym some) ∙ y.1))
   ];
 } where
   keep : (b c : Bool) → c ≡ true → cond b true c ≡ true
   keep true c e = refl
   keep false c e = e
 
-  turn : (q heir : List ℕ) → same q heir ≡ true → same heir q ≡ true
-  turn q heir e = let g : q ≡ heir = same-exact q heir e in let P : List ℕ → Type 0 = λ z. same heir z ≡ true in subst P (sym g) (same-refl heir)
+  turn : (q heir : List ℕ) → same_id q heir ≡ true → same_id heir q ≡ true
+  turn q heir e = let g : q ≡ heir = same-exact q heir e in let P : List ℕ → Type 0 = λ z. same_id heir z ≡ true in subst P (sym g) (same-refl heir)
 
-  by-test : (q : List ℕ) (b : Bool) → b ≡ same heir q → cond b true (has ids q) ≡ true → Chain (rows ++ r ∷ []) id q
+  by-test : (q : List ℕ) (b : Bool) → b ≡ same_id heir q → cond b true (has_id ids q) ≡ true → Chain (rows ++ r ∷ []) id q
   by-test q true e h =
       let g : heir ≡ q = same-exact heir q (sym e) in
-      let names-it : is_this q r.new ≡ true = ap (λ (o : Option (List ℕ)). is_this q o) some ∙ ap (λ (z : List ℕ). same q z) g ∙ same-refl q in
+      let names-it : is_this q r.new ≡ true = ap (λ (o : Option (List ℕ)). is_this q o) some ∙ ap (λ (z : List ℕ). same_id q z) g ∙ same-refl q in
       Step r.old q (chain-more rows r id r.old (reach.sound r.old old)) (any-mid (leads r.old q) rows r [] (and-both _ _ (same-refl r.old) names-it))
   by-test q false e h = chain-more rows r id q (reach.sound q h)
 
@@ -127,10 +133,19 @@ rows-whole h = ap all_rows (take_all h) where
 -- the start
 pub reach-start : (id copy : List ℕ) → copy ≡ id → Reaches (copy ∷ []) [] id
 reach-start id copy e = record {
-  sound = λ q h. let same-q : same q copy ≡ true = (elim (or-cases (same q copy) false h) as (λ _. same q copy ≡ true) [ inl a ↦ a | inr b ↦ cc b ]) in
+  sound = λ q h. let same-q : same_id q copy ≡ true = (elim (or-cases (same_id q copy) false h) as (λ _. same_id q copy ≡ true) [ inl a ↦ a | inr b ↦ cc b ]) in
       let g : q ≡ id = same-exact q copy same-q ∙ e in let P : List ℕ → Type 0 = λ z. Chain [] id z in subst P (sym g) Here;
   whole = λ q ch. or-left _ _ (start q ch);
 } where
-  start : (q : List ℕ) → Chain [] id q → same q copy ≡ true
-  start _ Here = ap (λ (z : List ℕ). same id z) e ∙ same-refl id
+  start : (q : List ℕ) → Chain [] id q → same_id q copy ≡ true
+  start _ Here = ap (λ (z : List ℕ). same_id id z) e ∙ same-refl id
   start _ (Step m c ch l) = cc l
+
+-- the live ones of those reached
+pub live-reached : (h : List Entry) (id : List ℕ) (reached ids found : List (List ℕ)) → Reaches reached (all_rows h) id → ids ≡ last_live h → found ≡ filter (λ k. has_id reached k) ids → (q : List ℕ) → (has_id found q ≡ true) ↔ IsDescendant h id q
+live-reached h id reached ids found reach e f q =
+    let tested : has_id found q ≡ (has_id (last_live h) q && has_id reached q) =
+    ap (λ (l : List (List ℕ)). has_id l q) f ∙ has-filter (λ k. has_id reached k) ids q ∙ ap (λ (l : List (List ℕ)). has_id l q && has_id reached q) e in (
+      λ t. (reach.sound q (and-right (has_id (last_live h) q) (has_id reached q) (sym tested ∙ t)), and-left (has_id (last_live h) q) (has_id reached q) (sym tested ∙ t)),
+      λ d. tested ∙ and-both _ _ d.1 (reach.whole q d.0),
+    )

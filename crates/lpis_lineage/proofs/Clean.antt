@@ -8,10 +8,12 @@ use Rattle.std.proofs.lemmas.List.Folds.{list_any-append}
 use Rattle.lpis_lineage.specs.declared.row.Row.{Row}
 use Rattle.lpis_lineage.specs.declared.row.Entry.{Entry}
 use Rattle.lpis_lineage.specs.declared.fault.LineageFault.{LineageFault}
-use Rattle.lpis_lineage.specs.Lineage.{same, has, holds, ended, succeeded, names, is_of, is_this, same_new, same_row, last_live}
+use Rattle.lpis_covers.specs.Ids.{has_id, same_id}
+use Rattle.lpis_lineage.specs.Lineage.{holds, ended, succeeded, names, is_of, is_this, same_new, same_row, last_live}
 use Rattle.lpis_lineage.specs.Lawful.{Either}
 use Rattle.lpis_lineage.specs.Follows.{Follows}
-use Rattle.lpis_lineage.specs.Faults.{told, is_missing, clashes, row_faults, dropped_faults, last_held, told_used, used_faults, faults, first}
+use Rattle.lpis_lineage.specs.Faults.{told, is_missing, clashes, row_faults, dropped_faults, told_used, used_faults, faults, first}
+use Rattle.lpis_lineage.specs.Spans.{last_held}
 use Rattle.lpis_lineage.proofs.Basics.{same-exact, same-refl, either, and-left, and-right, or-cases}
 
 -- ---- lists and tests
@@ -95,23 +97,23 @@ same-new-refl (Some s) = same-refl s
 pub same-row-exact : (r q : Row) → same_row r q ≡ true → r ≡ q
 same-row-exact r q e =
     let mk : List ℕ → Option (List ℕ) → Row = λ o n. record { old = o; new = n } in
-    ap (λ (o : List ℕ). mk o r.new) (same-exact r.old q.old (and-left _ _ e)) ∙ ap (λ (n : Option (List ℕ)). mk q.old n) (same-new-exact r.new q.new (and-right (same r.old q.old) _ e))
+    ap (λ (o : List ℕ). mk o r.new) (same-exact r.old q.old (and-left _ _ e)) ∙ ap (λ (n : Option (List ℕ)). mk q.old n) (same-new-exact r.new q.new (and-right (same_id r.old q.old) _ e))
 
 pub same-row-refl : (r : Row) → same_row r r ≡ true
 same-row-refl r = and-both _ _ (same-refl r.old) (same-new-refl r.new)
 
-missing-named : (live : List (List ℕ)) (o : Option (List ℕ)) → is_missing live o ≡ false → (id : List ℕ) → is_this id o ≡ true → has live id ≡ true
+missing-named : (live : List (List ℕ)) (o : Option (List ℕ)) → is_missing live o ≡ false → (id : List ℕ) → is_this id o ≡ true → has_id live id ≡ true
 missing-named live None e id is = cc is
-missing-named live (Some s) e id is = let P : List ℕ → Type 0 = λ x. has live x ≡ true in subst P (sym (same-exact id s is)) (not-false (has live s) e)
+missing-named live (Some s) e id is = let P : List ℕ → Type 0 = λ x. has_id live x ≡ true in subst P (sym (same-exact id s is)) (not-false (has_id live s) e)
 
-none-missing : (live : List (List ℕ)) (o : Option (List ℕ)) → ((s : List ℕ) → is_this s o ≡ true → has live s ≡ true) → is_missing live o ≡ false
+none-missing : (live : List (List ℕ)) (o : Option (List ℕ)) → ((s : List ℕ) → is_this s o ≡ true → has_id live s ≡ true) → is_missing live o ≡ false
 none-missing live None all = refl
-none-missing live (Some s) all = not-of (has live s) (all s (same-refl s))
+none-missing live (Some s) all = not-of (has_id live s) (all s (same-refl s))
 
 -- ---- from no fault of the rows
 pub record CleanRow (last live : List (List ℕ)) (before : List Row) (r : Row) : Type 0 where
-  pub was : has last r.old ≡ true
-  pub gone : has live r.old ≡ false
+  pub was : has_id last r.old ≡ true
+  pub gone : has_id live r.old ≡ false
   pub there : is_missing live r.new ≡ false
   pub once : list_any (same_row r) before ≡ false
   pub apart : list_any (clashes r) before ≡ false
@@ -125,16 +127,16 @@ clean-row last live before k r rs e =
     let f = told-nil _ _ _ d.1 in
     (record { was = not-false _ a.0; gone = b.0; there = c.0; once = d.0; apart = f.0 }, f.1)
 
-rows-named : (last live : List (List ℕ)) (before : List Row) (k : ℕ) (rows : List Row) → row_faults last live before k rows ≡ [] → (id : List ℕ) → list_any (names id) rows ≡ true → has live id ≡ true
+rows-named : (last live : List (List ℕ)) (before : List Row) (k : ℕ) (rows : List Row) → row_faults last live before k rows ≡ [] → (id : List ℕ) → list_any (names id) rows ≡ true → has_id live id ≡ true
 rows-named last live before k [] e id is = cc is
 rows-named last live before k (r ∷ rs) e id is = let c = clean-row last live before k r rs e in
-    elim (or-cases (names id r) _ is) as (λ _. has live id ≡ true) [ inl a ↦ missing-named live r.new c.0.there id a | inr b ↦ rows-named last live (before ++ r ∷ []) (k + 1) rs c.1 id b ]
+    elim (or-cases (names id r) _ is) as (λ _. has_id live id ≡ true) [ inl a ↦ missing-named live r.new c.0.there id a | inr b ↦ rows-named last live (before ++ r ∷ []) (k + 1) rs c.1 id b ]
 
-rows-dropped : (last live : List (List ℕ)) (before : List Row) (k : ℕ) (rows : List Row) → row_faults last live before k rows ≡ [] → (id : List ℕ) → list_any (is_of id) rows ≡ true → (has last id ≡ true) × (has live id ≡ false)
+rows-dropped : (last live : List (List ℕ)) (before : List Row) (k : ℕ) (rows : List Row) → row_faults last live before k rows ≡ [] → (id : List ℕ) → list_any (is_of id) rows ≡ true → (has_id last id ≡ true) × (has_id live id ≡ false)
 rows-dropped last live before k [] e id is = cc is
 rows-dropped last live before k (r ∷ rs) e id is = let c = clean-row last live before k r rs e in
-    elim (or-cases (is_of id r) _ is) as (λ _. (has last id ≡ true) × (has live id ≡ false)) [
-      | inl a ↦ let P : List ℕ → Type 0 = λ x. (has last x ≡ true) × (has live x ≡ false) in subst P (sym (same-exact id r.old a)) (c.0.was, c.0.gone)
+    elim (or-cases (is_of id r) _ is) as (λ _. (has_id last id ≡ true) × (has_id live id ≡ false)) [
+      | inl a ↦ let P : List ℕ → Type 0 = λ x. (has_id last x ≡ true) × (has_id live x ≡ false) in subst P (sym (same-exact id r.old a)) (c.0.was, c.0.gone)
       | inr b ↦ rows-dropped last live (before ++ r ∷ []) (k + 1) rs c.1 id b
     ]
 
@@ -144,8 +146,8 @@ once-step before r row once le =
     elim (either (same_row row r)) as (λ _. length (filter (same_row row) (before ++ r ∷ [])) ≤ 1) [
       | inl t ↦
           let none = filter-none (same_row r) before once in
-          let same : row ≡ r = same-row-exact row r t in
-          let zero = ap (λ (x : Row). length (filter (same_row x) before)) same ∙ none in
+          let alike : row ≡ r = same-row-exact row r t in
+          let zero = ap (λ (x : Row). length (filter (same_row x) before)) alike ∙ none in
           let one = ap (λ (b : Bool). length (cond b (r ∷ []) [])) t in omega (arith, n, zero, one)
       | inr f ↦ let nil = ap (λ (b : Bool). length (cond b (r ∷ []) [])) f in omega (arith, n, nil, le)
     ]
@@ -163,13 +165,13 @@ Apart rows = (id : List ℕ) → ended rows id ≡ true → succeeded rows id �
 
 clash-end : (r : Row) (before : List Row) (id : List ℕ) → is_of id r ≡ true → is_some r.new ≡ true → ended before id ≡ true → list_any (clashes r) before ≡ true
 clash-end r before id of some e = mono _ (clashes r) before (λ q h.
-    let s : same r.old q.old ≡ true = ap (λ (x : List ℕ). same x q.old) (sym (same-exact id r.old of)) ∙ and-left _ _ h in
+    let s : same_id r.old q.old ≡ true = ap (λ (x : List ℕ). same_id x q.old) (sym (same-exact id r.old of)) ∙ and-left _ _ h in
     let n : not (is_some q.new) ≡ true = and-right (is_of id q) _ h in
     and-both _ _ s (or-left _ _ (and-both _ _ some n))) e
 
 clash-heir : (r : Row) (before : List Row) (id : List ℕ) → is_of id r ≡ true → not (is_some r.new) ≡ true → succeeded before id ≡ true → list_any (clashes r) before ≡ true
 clash-heir r before id of some e = mono _ (clashes r) before (λ q h.
-    let s : same r.old q.old ≡ true = ap (λ (x : List ℕ). same x q.old) (sym (same-exact id r.old of)) ∙ and-left _ _ h in
+    let s : same_id r.old q.old ≡ true = ap (λ (x : List ℕ). same_id x q.old) (sym (same-exact id r.old of)) ∙ and-left _ _ h in
     let n : is_some q.new ≡ true = and-right (is_of id q) _ h in
     and-both _ _ s (or-right (is_some r.new && not (is_some q.new)) _ (and-both _ _ some n))) e
 
@@ -210,10 +212,10 @@ apart-back : (before : List Row) (r : Row) (rs : List Row) → Apart (before ++ 
 apart-back before r rs a = elim (either (list_any (clashes r) before)) as (λ _. list_any (clashes r) before ≡ false) [
   | inl t ↦ elim (either (is_some r.new)) as (λ _. list_any (clashes r) before ≡ false) [
     | inl some ↦
-        let e = mono (clashes r) (λ q. is_of r.old q && not (is_some q.new)) before (λ q h. and-both _ _ (and-left _ _ h) (other-none r q some (and-right (same r.old q.old) _ h))) t in
+        let e = mono (clashes r) (λ q. is_of r.old q && not (is_some q.new)) before (λ q h. and-both _ _ (and-left _ _ h) (other-none r q some (and-right (same_id r.old q.old) _ h))) t in
         absurd (let w = a r.old (any-left _ before (r ∷ rs) e) (any-mid _ before r rs (and-both _ _ (same-refl r.old) some)) in cc)
     | inr none ↦
-        let e = mono (clashes r) (λ q. is_of r.old q && is_some q.new) before (λ q h. and-both _ _ (and-left _ _ h) (other-some r q none (and-right (same r.old q.old) _ h))) t in
+        let e = mono (clashes r) (λ q. is_of r.old q && is_some q.new) before (λ q h. and-both _ _ (and-left _ _ h) (other-some r q none (and-right (same_id r.old q.old) _ h))) t in
         absurd (let w = a r.old (any-mid _ before r rs (and-both _ _ (same-refl r.old) (ap not none))) (any-left _ before (r ∷ rs) e) in cc)
   ]
   | inr f ↦ f
@@ -233,8 +235,8 @@ apart-back before r rs a = elim (either (list_any (clashes r) before)) as (λ _.
     by false false e h = h
 
 rows-clean : (last live : List (List ℕ)) (before : List Row) (k : ℕ) (rows : List Row)
-    → ((id : List ℕ) → list_any (names id) (before ++ rows) ≡ true → has live id ≡ true)
-    → ((id : List ℕ) → list_any (is_of id) (before ++ rows) ≡ true → (has last id ≡ true) × (has live id ≡ false))
+    → ((id : List ℕ) → list_any (names id) (before ++ rows) ≡ true → has_id live id ≡ true)
+    → ((id : List ℕ) → list_any (is_of id) (before ++ rows) ≡ true → (has_id last id ≡ true) × (has_id live id ≡ false))
     → ((row : Row) → length (filter (same_row row) (before ++ rows)) ≤ 1)
     → Apart (before ++ rows)
     → row_faults last live before k rows ≡ []
@@ -242,8 +244,8 @@ rows-clean last live before k [] named dropped once a = refl
 rows-clean last live before k (r ∷ rs) named dropped once a =
     let all : (before ++ r ∷ []) ++ rs ≡ before ++ r ∷ rs = append_assoc before (r ∷ []) rs in
     let d = dropped r.old (any-mid (is_of r.old) before r rs (same-refl r.old)) in
-    let N : List Row → Type 0 = λ xs. (id : List ℕ) → list_any (names id) xs ≡ true → has live id ≡ true in
-    let D : List Row → Type 0 = λ xs. (id : List ℕ) → list_any (is_of id) xs ≡ true → (has last id ≡ true) × (has live id ≡ false) in
+    let N : List Row → Type 0 = λ xs. (id : List ℕ) → list_any (names id) xs ≡ true → has_id live id ≡ true in
+    let D : List Row → Type 0 = λ xs. (id : List ℕ) → list_any (is_of id) xs ≡ true → (has_id last id ≡ true) × (has_id live id ≡ false) in
     let O : List Row → Type 0 = λ xs. (row : Row) → length (filter (same_row row) xs) ≤ 1 in
     told-none _ _ _ (not-of _ d.0) (
     told-none _ _ _ d.1 (
@@ -253,14 +255,14 @@ rows-clean last live before k (r ∷ rs) named dropped once a =
     rows-clean last live (before ++ r ∷ []) (k + 1) rs (subst N (sym all) named) (subst D (sym all) dropped) (subst O (sym all) once) (subst Apart (sym all) a))))))
 
 -- ---- dropped identifiers
-dropped-clean : (live : List (List ℕ)) (rows : List Row) (ids : List (List ℕ)) → dropped_faults live rows ids ≡ [] → (id : List ℕ) → has ids id ≡ true → has live id ≡ false → list_any (is_of id) rows ≡ true
+dropped-clean : (live : List (List ℕ)) (rows : List Row) (ids : List (List ℕ)) → dropped_faults live rows ids ≡ [] → (id : List ℕ) → has_id ids id ≡ true → has_id live id ≡ false → list_any (is_of id) rows ≡ true
 dropped-clean live rows [] e id is gone = cc is
 dropped-clean live rows (x ∷ xs) e id is gone =
     let t = told-nil _ _ _ e in
-    elim (or-cases (same id x) _ is) as (λ _. list_any (is_of id) rows ≡ true) [
-      | inl a ↦ let same : id ≡ x = same-exact id x a in
-          let P : List ℕ → Type 0 = λ y. (not (has live y) && not (list_any (is_of y) rows)) ≡ false in
-          row-there (has live id) _ gone (subst P (sym same) t.0)
+    elim (or-cases (same_id id x) _ is) as (λ _. list_any (is_of id) rows ≡ true) [
+      | inl a ↦ let alike : id ≡ x = same-exact id x a in
+          let P : List ℕ → Type 0 = λ y. (not (has_id live y) && not (list_any (is_of y) rows)) ≡ false in
+          row-there (has_id live id) _ gone (subst P (sym alike) t.0)
       | inr b ↦ dropped-clean live rows xs t.1 id b gone
     ] where
       row-there : (a b : Bool) → a ≡ false → (not a && not b) ≡ false → b ≡ true
@@ -268,9 +270,9 @@ dropped-clean live rows (x ∷ xs) e id is gone =
       row-there false true e f = refl
       row-there false false e f = cc f
 
-clean-dropped : (live : List (List ℕ)) (rows : List Row) (ids : List (List ℕ)) → ((id : List ℕ) → has ids id ≡ true → has live id ≡ false → list_any (is_of id) rows ≡ true) → dropped_faults live rows ids ≡ []
+clean-dropped : (live : List (List ℕ)) (rows : List Row) (ids : List (List ℕ)) → ((id : List ℕ) → has_id ids id ≡ true → has_id live id ≡ false → list_any (is_of id) rows ≡ true) → dropped_faults live rows ids ≡ []
 clean-dropped live rows [] all = refl
-clean-dropped live rows (x ∷ xs) all = told-none _ _ _ (no-fault (has live x) _ (all x (or-left _ _ (same-refl x)))) (clean-dropped live rows xs (λ id is. all id (or-right (same id x) _ is))) where
+clean-dropped live rows (x ∷ xs) all = told-none _ _ _ (no-fault (has_id live x) _ (all x (or-left _ _ (same-refl x)))) (clean-dropped live rows xs (λ id is. all id (or-right (same_id id x) _ is))) where
   no-fault : (a b : Bool) → (a ≡ false → b ≡ true) → (not a && not b) ≡ false
   no-fault true b f = refl
   no-fault false b f = not-of b (f refl)
@@ -278,7 +280,7 @@ clean-dropped live rows (x ∷ xs) all = told-none _ _ _ (no-fault (has live x) 
 -- ---- used identifiers
 pub held-some : (h : List Entry) (id : List ℕ) (i : ℕ) → holds h i id ≡ true → is_some (last_held h id) ≡ true
 held-some [] id i e = cc e
-held-some (x ∷ h) id zero e = here (last_held h id) x.year (has x.live id) e where
+held-some (x ∷ h) id zero e = here (last_held h id) x.year (has_id x.live id) e where
   here : (o : Option ℕ) (y : ℕ) (b : Bool) → b ≡ true → is_some (option_or o (cond b (Some y) None)) ≡ true
   here None y true e = refl
   here None y false e = cc e
@@ -292,7 +294,7 @@ some-held : (h : List Entry) (id : List ℕ) → is_some (last_held h id) ≡ tr
 some-held [] id e = cc e
 some-held (x ∷ h) id e = elim (either (is_some (last_held h id))) as (λ _. (i : ℕ) × (holds (x ∷ h) i id ≡ true)) [
   | inl a ↦ let r = some-held h id a in (suc r.0, r.1)
-  | inr b ↦ (0, here (last_held h id) x.year (has x.live id) b e)
+  | inr b ↦ (0, here (last_held h id) x.year (has_id x.live id) b e)
 ] where
   here : (o : Option ℕ) (y : ℕ) (b : Bool) → is_some o ≡ false → is_some (option_or o (cond b (Some y) None)) ≡ true → b ≡ true
   here None y true f e = refl
@@ -307,20 +309,20 @@ used-none : (o : Option ℕ) (b : Bool) (id : List ℕ) (rest : List LineageFaul
 used-none None b id rest f e = e
 used-none (Some y) b id rest f e = told-none _ _ _ (not-of b (f refl)) e
 
-used-clean : (h : List Entry) (last ids : List (List ℕ)) → used_faults h last ids ≡ [] → (id : List ℕ) (i : ℕ) → holds h i id ≡ true → has ids id ≡ true → has last id ≡ true
+used-clean : (h : List Entry) (last ids : List (List ℕ)) → used_faults h last ids ≡ [] → (id : List ℕ) (i : ℕ) → holds h i id ≡ true → has_id ids id ≡ true → has_id last id ≡ true
 used-clean h last [] e id i hi is = cc is
 used-clean h last (x ∷ xs) e id i hi is =
-    let t = used-nil (last_held h x) (has last x) x _ e in
-    elim (or-cases (same id x) _ is) as (λ _. has last id ≡ true) [
-      | inl a ↦ let same : id ≡ x = same-exact id x a in
-          let P : List ℕ → Type 0 = λ y. is_some (last_held h y) ≡ true → has last y ≡ true in
-          subst P (sym same) t.0 (held-some h id i hi)
+    let t = used-nil (last_held h x) (has_id last x) x _ e in
+    elim (or-cases (same_id id x) _ is) as (λ _. has_id last id ≡ true) [
+      | inl a ↦ let alike : id ≡ x = same-exact id x a in
+          let P : List ℕ → Type 0 = λ y. is_some (last_held h y) ≡ true → has_id last y ≡ true in
+          subst P (sym alike) t.0 (held-some h id i hi)
       | inr b ↦ used-clean h last xs t.1 id i hi b
     ]
 
-clean-used : (h : List Entry) (last ids : List (List ℕ)) → ((id : List ℕ) (i : ℕ) → holds h i id ≡ true → has ids id ≡ true → has last id ≡ true) → used_faults h last ids ≡ []
+clean-used : (h : List Entry) (last ids : List (List ℕ)) → ((id : List ℕ) (i : ℕ) → holds h i id ≡ true → has_id ids id ≡ true → has_id last id ≡ true) → used_faults h last ids ≡ []
 clean-used h last [] all = refl
-clean-used h last (x ∷ xs) all = used-none (last_held h x) (has last x) x _ (λ s. let r = some-held h x s in all x r.0 r.1 (or-left _ _ (same-refl x))) (clean-used h last xs (λ id i hi is. all id i hi (or-right (same id x) _ is)))
+clean-used h last (x ∷ xs) all = used-none (last_held h x) (has_id last x) x _ (λ s. let r = some-held h x s in all x r.0 r.1 (or-left _ _ (same-refl x))) (clean-used h last xs (λ id i hi is. all id i hi (or-right (same_id id x) _ is)))
 
 -- ---- all together
 heir-or-end : (rows : List Row) (id : List ℕ) → list_any (is_of id) rows ≡ true → succeeded rows id ≡ false → ended rows id ≡ true

@@ -4,7 +4,8 @@ use Rattle.std.specs.Prelude.{◌||◌}
 use Rattle.std.specs.List.{list_any, filter}
 use Rattle.lpis_lineage.specs.declared.row.Row.{Row}
 use Rattle.lpis_lineage.specs.declared.row.Entry.{Entry}
-use Rattle.lpis_lineage.specs.Lineage.{has, holds, entry_at, ended, succeeded, names, is_of, same_row, last_live, last_year}
+use Rattle.lpis_covers.specs.Ids.{has_id}
+use Rattle.lpis_lineage.specs.Lineage.{holds, entry_at, ended, succeeded, names, is_of, same_row, last_live, last_year}
 use Rattle.lpis_lineage.specs.Lawful.{Drops, Either, IsLawful, RowsFit}
 use Rattle.lpis_lineage.specs.Follows.{Follows}
 use Rattle.lpis_lineage.proofs.Basics.{same-refl, entry-before, entry-here, entry-after, in-history}
@@ -22,11 +23,11 @@ last-at [] i e = absurd (omega arith)
 last-at (x ∷ h) i e = let j : i ≡ length h = omega arith in ap (λ (k : ℕ). (entry_at (x ∷ h) k).live) j
 
 -- where the last release holds something there is one
-pub last-some : (h : List Entry) (id : List ℕ) → has (last_live h) id ≡ true → (i : ℕ) × (i + 1 ≡ length h) × (holds h i id ≡ true)
+pub last-some : (h : List Entry) (id : List ℕ) → has_id (last_live h) id ≡ true → (i : ℕ) × (i + 1 ≡ length h) × (holds h i id ≡ true)
 last-some [] id e = cc e
 last-some (x ∷ h) id e = (length h, omega arith, e)
 
-year-at : (h : List Entry) (i : ℕ) → i + 1 ≡ length h → (entry_at h i).year ≡ last_year h
+pub year-at : (h : List Entry) (i : ℕ) → i + 1 ≡ length h → (entry_at h i).year ≡ last_year h
 year-at [] i e = absurd (omega arith)
 year-at (x ∷ h) i e = let j : i ≡ length h = omega arith in ap (λ (k : ℕ). (entry_at (x ∷ h) k).year) j
 
@@ -42,15 +43,15 @@ years-below (x ∷ h) law i lt = elim (place i (length h)) as (λ _. (entry_at (
 
 -- what the longer list holds, by place
 hold-before : (h : List Entry) (e : Entry) (i : ℕ) (id : List ℕ) → i < length h → holds (h ++ e ∷ []) i id ≡ holds h i id
-hold-before h e i id lt = ap (λ (x : Entry). has x.live id) (entry-before h e i lt)
+hold-before h e i id lt = ap (λ (x : Entry). has_id x.live id) (entry-before h e i lt)
 
-hold-here : (h : List Entry) (e : Entry) (i : ℕ) (id : List ℕ) → i ≡ length h → holds (h ++ e ∷ []) i id ≡ has e.live id
-hold-here h e i id at = ap (λ (k : ℕ). holds (h ++ e ∷ []) k id) at ∙ ap (λ (x : Entry). has x.live id) (entry-here h e)
+hold-here : (h : List Entry) (e : Entry) (i : ℕ) (id : List ℕ) → i ≡ length h → holds (h ++ e ∷ []) i id ≡ has_id e.live id
+hold-here h e i id at = ap (λ (k : ℕ). holds (h ++ e ∷ []) k id) at ∙ ap (λ (x : Entry). has_id x.live id) (entry-here h e)
 
 entry-at : (h : List Entry) (e : Entry) (i : ℕ) → i ≡ length h → entry_at (h ++ e ∷ []) i ≡ e
 entry-at h e i at = ap (λ (k : ℕ). entry_at (h ++ e ∷ []) k) at ∙ entry-here h e
 
-longer : (h : List Entry) (e : Entry) → length (h ++ e ∷ []) ≡ length h + 1
+pub longer : (h : List Entry) (e : Entry) → length (h ++ e ∷ []) ≡ length h + 1
 longer h e = length-append h (e ∷ [])
 
 -- ---- from the last release to the whole list
@@ -67,7 +68,7 @@ rise h e law y i j lt within = let n = longer h e in elim (place j (length h)) a
   ]
 ]
 
-used-last : (h : List Entry) (e : Entry) → IsLawful h → Follows h e.live e.rows → (id : List ℕ) (i j : ℕ) → i ≤ j → j < length h → holds h i id ≡ true → has e.live id ≡ true → holds h j id ≡ true
+used-last : (h : List Entry) (e : Entry) → IsLawful h → Follows h e.live e.rows → (id : List ℕ) (i j : ℕ) → i ≤ j → j < length h → holds h i id ≡ true → has_id e.live id ≡ true → holds h j id ≡ true
 used-last h e law f id i j ij jl hi here =
     let last = last-some h id (f.not_used id i hi here) in
     law.consecutive id i j last.0 ij (let k = last.1 in omega (arith, k)) hi last.2
@@ -83,7 +84,7 @@ together h e law f id i j k ij jk hi hk =
           hold-before h e j id jl ∙ law.consecutive id i j k ij jk (sym (hold-before h e i id il) ∙ hi) (sym (hold-before h e k id a) ∙ hk)
       | inr b ↦ elim b as (λ _. holds (h ++ e ∷ []) j id ≡ true) [
         | inl at ↦
-            let here : has e.live id ≡ true = sym (hold-here h e k id at) ∙ hk in
+            let here : has_id e.live id ≡ true = sym (hold-here h e k id at) ∙ hk in
             elim (place j (length h)) as (λ _. holds (h ++ e ∷ []) j id ≡ true) [
               | inl jl ↦
                   let il : i < length h = omega arith in
@@ -102,7 +103,7 @@ answers h e law f id i d =
     elim (place (i + 1) (length h)) as (λ _. Either (ended (entry_at (h ++ e ∷ []) (i + 1)).rows id) (succeeded (entry_at (h ++ e ∷ []) (i + 1)).rows id)) [
       | inl a ↦ subst P (sym (entry-before h e (i + 1) a)) (law.continued id i (a, sym (hold-before h e i id il) ∙ d.1, sym (hold-before h e (i + 1) id a) ∙ d.2))
       | inr b ↦ elim b as (λ _. Either (ended (entry_at (h ++ e ∷ []) (i + 1)).rows id) (succeeded (entry_at (h ++ e ∷ []) (i + 1)).rows id)) [
-        | inl at ↦ subst P (sym (entry-at h e (i + 1) at)) (f.answered id (ap (λ (l : List (List ℕ)). has l id) (sym (last-at h i at)) ∙ sym (hold-before h e i id il) ∙ d.1) (sym (hold-here h e (i + 1) id at) ∙ d.2))
+        | inl at ↦ subst P (sym (entry-at h e (i + 1) at)) (f.answered id (ap (λ (l : List (List ℕ)). has_id l id) (sym (last-at h i at)) ∙ sym (hold-before h e i id il) ∙ d.1) (sym (hold-here h e (i + 1) id at) ∙ d.2))
         | inr c ↦ absurd (let w = d.0 in omega (arith, n, w))
       ]
     ]
@@ -162,7 +163,7 @@ drops-more h e fit f id i is =
         | inl at ↦
             let il : i < length h = omega arith in
             let d = f.dropped id (ap (λ (x : Entry). list_any (is_of id) x.rows) (sym (entry-at h e (i + 1) at)) ∙ is) in
-            (omega (arith, n), hold-before h e i id il ∙ ap (λ (l : List (List ℕ)). has l id) (last-at h i at) ∙ d.0, hold-here h e (i + 1) id at ∙ d.1)
+            (omega (arith, n), hold-before h e i id il ∙ ap (λ (l : List (List ℕ)). has_id l id) (last-at h i at) ∙ d.0, hold-here h e (i + 1) id at ∙ d.1)
         | inr c ↦ absurd (let no = beyond (h ++ e ∷ []) (i + 1) (omega (arith, n)) (is_of id) in cc)
       ]
     ]
@@ -175,7 +176,7 @@ fits-more h e fit f = record {
 }
 
 -- ---- and back
-back-used : (h : List Entry) (e : Entry) → IsLawful (h ++ e ∷ []) → (id : List ℕ) (i : ℕ) → holds h i id ≡ true → has e.live id ≡ true → has (last_live h) id ≡ true
+back-used : (h : List Entry) (e : Entry) → IsLawful (h ++ e ∷ []) → (id : List ℕ) (i : ℕ) → holds h i id ≡ true → has_id e.live id ≡ true → has_id (last_live h) id ≡ true
 back-used [] e law id i hi here = cc hi
 back-used (x ∷ t) e law id i hi here =
     let h : List Entry = x ∷ t in
@@ -183,7 +184,7 @@ back-used (x ∷ t) e law id i hi here =
     let jl : length t < length h = omega arith in
     sym (hold-before (x ∷ t) e (length t) id jl) ∙ law.consecutive id i (length t) (length (x ∷ t)) (omega arith) (omega arith) (hold-before (x ∷ t) e i id il ∙ hi) (hold-here (x ∷ t) e (length (x ∷ t)) id refl ∙ here)
 
-back-answered : (h : List Entry) (e : Entry) → IsLawful (h ++ e ∷ []) → (id : List ℕ) → has (last_live h) id ≡ true → has e.live id ≡ false → Either (ended e.rows id) (succeeded e.rows id)
+back-answered : (h : List Entry) (e : Entry) → IsLawful (h ++ e ∷ []) → (id : List ℕ) → has_id (last_live h) id ≡ true → has_id e.live id ≡ false → Either (ended e.rows id) (succeeded e.rows id)
 back-answered h e law id was gone =
     let n = longer h e in
     let last = last-some h id was in
@@ -191,13 +192,13 @@ back-answered h e law id was gone =
     let P : Entry → Type 0 = λ x. Either (ended x.rows id) (succeeded x.rows id) in
     subst P (entry-at h e (last.0 + 1) last.1) (law.continued id last.0 (let k = last.1 in omega (arith, k, n), hold-before h e last.0 id il ∙ last.2, hold-here h e (last.0 + 1) id last.1 ∙ gone))
 
-back-named : (h : List Entry) (e : Entry) → IsLawful (h ++ e ∷ []) → (id : List ℕ) → list_any (names id) e.rows ≡ true → has e.live id ≡ true
+back-named : (h : List Entry) (e : Entry) → IsLawful (h ++ e ∷ []) → (id : List ℕ) → list_any (names id) e.rows ≡ true → has_id e.live id ≡ true
 back-named h e law id named = sym (hold-here h e (length h) id refl) ∙ law.successors id (length h) (ap (λ (x : Entry). list_any (names id) x.rows) (entry-here h e) ∙ named)
 
 back-once : (h : List Entry) (e : Entry) → RowsFit (h ++ e ∷ []) → (row : Row) → length (filter (same_row row) e.rows) ≤ 1
 back-once h e fit row = let P : Entry → Type 0 = λ x. length (filter (same_row row) x.rows) ≤ 1 in subst P (entry-here h e) (fit.once row (length h))
 
-back-dropped : (h : List Entry) (e : Entry) → RowsFit (h ++ e ∷ []) → (id : List ℕ) → list_any (is_of id) e.rows ≡ true → (has (last_live h) id ≡ true) × (has e.live id ≡ false)
+back-dropped : (h : List Entry) (e : Entry) → RowsFit (h ++ e ∷ []) → (id : List ℕ) → list_any (is_of id) e.rows ≡ true → (has_id (last_live h) id ≡ true) × (has_id e.live id ≡ false)
 back-dropped [] e fit id is = let none : e.rows ≡ [] = fit.first in absurd (let no = ap (λ (rs : List Row). list_any (is_of id) rs) none in cc)
 back-dropped (x ∷ t) e fit id is =
     let at : length t + 1 ≡ length (x ∷ t) = omega arith in

@@ -1,12 +1,15 @@
 pub mod Basics
 pub mod Extends
 pub mod Clean
-pub mod Held
 pub mod SeenLemmas
 pub mod Telling
+pub mod Picking
 pub mod Accepting
 pub mod Chains
-pub mod Common2
 pub mod Tallies
 pub mod SpanLaw
+pub mod SpanSteps
 pub mod FateLemmas
+pub mod KindSteps
+pub mod PopSteps
+pub mod SpanPicks

@@ -6,7 +6,8 @@ use Rattle.lpis_lineage.specs.declared.row.Row.{Row}
 use Rattle.lpis_lineage.specs.declared.row.Entry.{Entry}
 use Rattle.lpis_lineage.specs.declared.fault.LineageFault.{LineageFault}
 use Rattle.lpis_lineage.specs.declared.fault.LineageFault.TheVariants.{Memory, OldNotLive, OldStillLive, SuccessorMissing, DoubledRow, EndingBesideSuccessor, NoRow}
-use Rattle.lpis_lineage.specs.Lineage.{has, ended, succeeded, is_of, same_row}
+use Rattle.lpis_covers.specs.Ids.{has_id}
+use Rattle.lpis_lineage.specs.Lineage.{ended, succeeded, is_of, same_row}
 use Rattle.lpis_lineage.specs.Faults.{told, is_missing, clashes, faults_of_row, row_faults, dropped_faults, used_faults, first, Tells}
 use Rattle.lpis_lineage.proofs.Clean.{told-skip}
 
@@ -24,7 +25,7 @@ falls-none others = record { when_none = λ e. refl; when_told = λ e t. cc t }
 
 pub row-falls : (last live : List (List ℕ)) (before : List Row) (k : ℕ) (r : Row) (others : List LineageFault) → Falls (faults_of_row last live before k r others) (faults_of_row last live before k r []) others
 row-falls last live before k r others =
-    (told-falls (not (has last r.old)) (OldNotLive k) _ _ _ (told-falls (has live r.old) (OldStillLive k) _ _ _ (told-falls (is_missing live r.new) (SuccessorMissing k) _ _ _ (told-falls (list_any (same_row r) before) (DoubledRow k) _ _ _ (told-falls (list_any (clashes r) before) (EndingBesideSuccessor k) _ _ _ (falls-none others))))))
+    (told-falls (not (has_id last r.old)) (OldNotLive k) _ _ _ (told-falls (has_id live r.old) (OldStillLive k) _ _ _ (told-falls (is_missing live r.new) (SuccessorMissing k) _ _ _ (told-falls (list_any (same_row r) before) (DoubledRow k) _ _ _ (told-falls (list_any (clashes r) before) (EndingBesideSuccessor k) _ _ _ (falls-none others))))))
 
 told-same : (b c : Bool) (f : LineageFault) (xs ys : List LineageFault) → b ≡ c → xs ≡ ys → told b f xs ≡ told c f ys
 told-same b c f xs ys e g = ap (λ (t : Bool). told t f xs) e ∙ ap (λ (l : List LineageFault). told c f l) g
@@ -67,7 +68,7 @@ pub seen-next : (rows : List Row) (i : ℕ) (r : Row) (P : List Row → Type 0) 
 seen-next rows i r P lt is p = subst P (take-at rows i r lt is) p
 
 -- dropped identifiers, one further
-pub dropped-step : (live : List (List ℕ)) (rows : List Row) (ids : List (List ℕ)) (i : ℕ) (id : List ℕ) → i < length ids → id ≡ get_or ids i id → (not (has live id) && not (list_any (is_of id) rows)) ≡ false → dropped_faults live rows (drop i ids) ≡ dropped_faults live rows (drop (i + 1) ids)
+pub dropped-step : (live : List (List ℕ)) (rows : List Row) (ids : List (List ℕ)) (i : ℕ) (id : List ℕ) → i < length ids → id ≡ get_or ids i id → (not (has_id live id) && not (list_any (is_of id) rows)) ≡ false → dropped_faults live rows (drop i ids) ≡ dropped_faults live rows (drop (i + 1) ids)
 dropped-step live rows ids i id lt is no-fault = ap (λ (l : List (List ℕ)). dropped_faults live rows l) (drop-at ids i id lt is) ∙ told-skip _ _ _ no-fault
 
 pub dropped-stop : (live : List (List ℕ)) (rows : List Row) (ids : List (List ℕ)) (i : ℕ) (id : List ℕ) (f : LineageFault) → i < length ids → id ≡ get_or ids i id → first (dropped_faults live rows (id ∷ drop (i + 1) ids)) ≡ Some f → first (dropped_faults live rows (drop i ids)) ≡ Some f
@@ -80,17 +81,17 @@ pub used-stop : (h : List Entry) (last ids : List (List ℕ)) (i : ℕ) (id : Li
 used-stop h last ids i id f lt is t = ap (λ (l : List (List ℕ)). first (used_faults h last l)) (drop-at ids i id lt is) ∙ t
 
 -- a set with the same members has the same faults
-pub rows-live : (last a b : List (List ℕ)) (before : List Row) (k : ℕ) (rows : List Row) → ((q : List ℕ) → has a q ≡ has b q) → row_faults last a before k rows ≡ row_faults last b before k rows
+pub rows-live : (last a b : List (List ℕ)) (before : List Row) (k : ℕ) (rows : List Row) → ((q : List ℕ) → has_id a q ≡ has_id b q) → row_faults last a before k rows ≡ row_faults last b before k rows
 rows-live last a b before k [] e = refl
 rows-live last a b before k (r ∷ rs) e =
-    (told-same (not (has last r.old)) (not (has last r.old)) (OldNotLive k) _ _ refl (told-same (has a r.old) (has b r.old) (OldStillLive k) _ _ (e r.old) (told-same (is_missing a r.new) (is_missing b r.new) (SuccessorMissing k) _ _ (miss a b e r.new) (told-same (list_any (same_row r) before) (list_any (same_row r) before) (DoubledRow k) _ _ refl (told-same (list_any (clashes r) before) (list_any (clashes r) before) (EndingBesideSuccessor k) _ _ refl (rows-live last a b (before ++ r ∷ []) (k + 1) rs e)))))) where
-      miss : (a b : List (List ℕ)) → ((q : List ℕ) → has a q ≡ has b q) → (o : Option (List ℕ)) → is_missing a o ≡ is_missing b o
+    (told-same (not (has_id last r.old)) (not (has_id last r.old)) (OldNotLive k) _ _ refl (told-same (has_id a r.old) (has_id b r.old) (OldStillLive k) _ _ (e r.old) (told-same (is_missing a r.new) (is_missing b r.new) (SuccessorMissing k) _ _ (miss a b e r.new) (told-same (list_any (same_row r) before) (list_any (same_row r) before) (DoubledRow k) _ _ refl (told-same (list_any (clashes r) before) (list_any (clashes r) before) (EndingBesideSuccessor k) _ _ refl (rows-live last a b (before ++ r ∷ []) (k + 1) rs e)))))) where
+      miss : (a b : List (List ℕ)) → ((q : List ℕ) → has_id a q ≡ has_id b q) → (o : Option (List ℕ)) → is_missing a o ≡ is_missing b o
       miss a b e None = refl
       miss a b e (Some s) = ap not (e s)
 
-pub dropped-live : (a b : List (List ℕ)) (rows : List Row) (ids : List (List ℕ)) → ((q : List ℕ) → has a q ≡ has b q) → dropped_faults a rows ids ≡ dropped_faults b rows ids
+pub dropped-live : (a b : List (List ℕ)) (rows : List Row) (ids : List (List ℕ)) → ((q : List ℕ) → has_id a q ≡ has_id b q) → dropped_faults a rows ids ≡ dropped_faults b rows ids
 dropped-live a b rows [] e = refl
-dropped-live a b rows (x ∷ xs) e = told-same (not (has a x) && not (list_any (is_of x) rows)) (not (has b x) && not (list_any (is_of x) rows)) (NoRow x) _ _ (ap (λ (t : Bool). not t && not (list_any (is_of x) rows)) (e x)) (dropped-live a b rows xs e)
+dropped-live a b rows (x ∷ xs) e = told-same (not (has_id a x) && not (list_any (is_of x) rows)) (not (has_id b x) && not (list_any (is_of x) rows)) (NoRow x) _ _ (ap (λ (t : Bool). not t && not (list_any (is_of x) rows)) (e x)) (dropped-live a b rows xs e)
 
 -- a row's old identifier has an ending or a successor
 pub of-either : (rows : List Row) (id : List ℕ) → (ended rows id || succeeded rows id) ≡ list_any (is_of id) rows

@@ -6,13 +6,14 @@ use Rattle.lpis_lineage.specs.declared.fault.LineageFault.{LineageFault}
 use Rattle.lpis_lineage.specs.declared.fault.LineageFault.TheVariants.{Memory as WantsMemory}
 use Rattle.lpis_lineage.specs.declared.fault.AddFault.{AddFault}
 use Rattle.lpis_lineage.specs.declared.fault.AddFault.TheVariants.{Memory, Year, Lineage}
-use Rattle.lpis_lineage.specs.Lineage.{has, last_year}
+use Rattle.lpis_covers.specs.Ids.{has_id}
+use Rattle.lpis_lineage.specs.Lineage.{last_year}
 use Rattle.lpis_lineage.specs.Lawful.{IsLawful, RowsFit}
 use Rattle.lpis_lineage.specs.Faults.{faults, first}
 
 -- a release with this set of identifiers and these rows
 pub record IsRelease (live : List (List ℕ)) (rows : List Row) (e : Entry) : Type 0 where
-  pub ids : (q : List ℕ) → has e.live q ≡ has live q
+  pub ids : (q : List ℕ) → has_id e.live q ≡ has_id live q
   pub rows_are : e.rows ≡ rows
 
 -- with this release at its end, in whatever later year, the history is lawful and its rows fit

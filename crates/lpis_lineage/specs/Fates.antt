@@ -3,8 +3,10 @@ use Rattle.std.specs.Prelude.{◌≡◌, ◌&&◌, Bool, false, cond, nat_lt, is
 use Rattle.std.specs.List.{list_any}
 use Rattle.lpis_lineage.specs.declared.row.Row.{Row}
 use Rattle.lpis_lineage.specs.declared.fates.Fates.{Fates}
-use Rattle.lpis_lineage.specs.Lineage.{has, is_of, ended}
-use Rattle.lpis_lineage.specs.Kinds.{IsTally, predecessors}
+use Rattle.lpis_covers.specs.Ids.{has_id}
+use Rattle.lpis_lineage.specs.Lineage.{is_of, ended}
+use Rattle.lpis_lineage.specs.Kinds.{predecessors}
+use Rattle.lpis_lineage.specs.Tally.{IsTally}
 
 -- the old identifiers of the rows with a successor
 abbrev pub olds : List Row → List (List ℕ)
@@ -21,6 +23,6 @@ abbrev pub is_shared : List (List ℕ) → List (List ℕ) → List Row → List
 is_shared last live all s = nat_lt 1 (predecessors last live all s)
 
 pub record AreFates (last live : List (List ℕ)) (all : List Row) (f : Fates) (rows : List Row) : Type 0 where
-  pub ended_are : (q : List ℕ) → has f.ended q ≡ ended rows q
+  pub ended_are : (q : List ℕ) → has_id f.ended q ≡ ended rows q
   pub olds_are : IsTally f.olds (olds rows)
-  pub shared_are : (q : List ℕ) → has f.shared q ≡ list_any (λ r. is_of q r && on_some (is_shared last live all) r.new) rows
+  pub shared_are : (q : List ℕ) → has_id f.shared q ≡ list_any (λ r. is_of q r && on_some (is_shared last live all) r.new) rows

@@ -1,27 +1,18 @@
 -- Identifiers, rows and releases.
 use Rattle.std.specs.Prelude.{◌&&◌, Bool, true, false, not, ℕ, zero, suc, List, [], ◌∷◌, length, Option, None, Some, is_some}
 use Rattle.std.specs.List.{list_any}
-use Rattle.std.specs.Ordering.{is_eq, nat_cmp}
-use Rattle.std.specs.Cmp.Lexicographic.{slice_cmp}
+use Rattle.lpis_covers.specs.Ids.{has_id, same_id}
 use Rattle.lpis_lineage.specs.declared.row.Row.{Row}
 use Rattle.lpis_lineage.specs.declared.row.Entry.{Entry}
 
--- two identifiers are the same: they compare equal by their bytes
-abbrev pub same : List ℕ → List ℕ → Bool
-same a b = is_eq (slice_cmp nat_cmp a b)
-
--- a list of identifiers has this one
-abbrev pub has : List (List ℕ) → List ℕ → Bool
-has ids id = list_any (same id) ids
-
 -- the row's old identifier is this one
 abbrev pub is_of : List ℕ → Row → Bool
-is_of id row = same id row.old
+is_of id row = same_id id row.old
 
 -- an identifier is this one, where there is any
 abbrev pub is_this : List ℕ → Option (List ℕ) → Bool
 is_this id None = false
-is_this id (Some s) = same id s
+is_this id (Some s) = same_id id s
 
 -- the row names this identifier as a successor
 abbrev pub names : List ℕ → Row → Bool
@@ -40,11 +31,11 @@ abbrev pub same_new : Option (List ℕ) → Option (List ℕ) → Bool
 same_new None None = true
 same_new None (Some t) = false
 same_new (Some s) None = false
-same_new (Some s) (Some t) = same s t
+same_new (Some s) (Some t) = same_id s t
 
 -- two rows are the same
 abbrev pub same_row : Row → Row → Bool
-same_row r q = same r.old q.old && same_new r.new q.new
+same_row r q = same_id r.old q.old && same_new r.new q.new
 
 -- the release at a place, from 0; past the end an empty one
 abbrev pub entry_at : List Entry → ℕ → Entry
@@ -54,7 +45,7 @@ entry_at (e ∷ h) (suc i) = entry_at h i
 
 -- the release at a place holds an identifier
 abbrev pub holds : List Entry → ℕ → List ℕ → Bool
-holds h i id = has (entry_at h i).live id
+holds h i id = has_id (entry_at h i).live id
 
 -- the identifiers live in the last release
 abbrev pub last_live : List Entry → List (List ℕ)

@@ -1,28 +1,32 @@
-// The kinds of the identifiers of the last release.
+//! The kinds of the identifiers of the last release.
+
 ghost use Rattle.std.specs.Prelude.{◌≡◌, ◌++◌, ◌∷◌, ℕ, List, [], OnOk, IfOk, true};
 ghost use Rattle.lpis_lineage.specs.declared.row.Row.{Row};
-ghost use Rattle.lpis_lineage.specs.Lineage.{has, is_this, last_live};
-ghost use Rattle.lpis_lineage.specs.Kinds.{IsTally, heirs, kind, by_counts as counted};
+ghost use Rattle.lpis_covers.specs.Ids.{has_id};
+ghost use Rattle.lpis_lineage.specs.Lineage.{is_this, last_live};
+ghost use Rattle.lpis_lineage.specs.Kinds.{heirs, kind, by_counts as counted};
+ghost use Rattle.lpis_lineage.specs.Tally.{IsTally};
 ghost use Rattle.lpis_lineage.specs.Fates.{AreFates, is_shared as shared_by};
 
 use crate::history::History;
-use lpis_covers::Id;
-use crate::kind::{Kind, Tally, tally_heirs};
-use crate::live::LiveSet;
+use crate::id_set::IdSet;
+use crate::kind::Kind;
 use crate::row::Row;
+use crate::tally::{Tally, tally_heirs};
+use lpis_covers::Id;
 use std::alloc::{AllocError, Global};
 
 /// Who is ended, how often identifiers have successors, and whose successors have others too.
 #[derive(Drop)]
 pub(crate) struct Fates {
-    pub ended: LiveSet,
+    pub ended: IdSet,
     pub olds: Tally,
-    pub shared: LiveSet,
+    pub shared: IdSet,
 }
 
 /// Whether a successor has several predecessors.
-fn is_shared(history: &History, live: &LiveSet, named: &Tally, heir: &Id) -> bool
-    ensures { (all : List Row) → IsTally named.now (heirs all) → has (heirs all) heir.now ≡ true → result ≡ shared_by (last_live history.now) live.now all heir.now }
+fn is_shared(history: &History, live: &IdSet, named: &Tally, heir: &Id) -> bool
+    ensures { (all : List Row) → IsTally named.now (heirs all) → has_id (heirs all) heir.now ≡ true → result ≡ shared_by (last_live history.now) live.now all heir.now }
 {
     let twice = named.twice.contains(heir);
     let was = history.is_live(heir);
@@ -31,7 +35,7 @@ fn is_shared(history: &History, live: &LiveSet, named: &Tally, heir: &Id) -> boo
 }
 
 /// The kind of an identifier.
-pub(crate) fn kind_of(history: &History, live: &LiveSet, fates: &Fates, id: &Id) -> Option<Kind>
+pub(crate) fn kind_of(history: &History, live: &IdSet, fates: &Fates, id: &Id) -> Option<Kind>
     ensures { (rows : List Row) → AreFates (last_live history.now) live.now rows fates.now rows → result ≡ kind (last_live history.now) live.now rows id.now }
 {
     if !history.is_live(id) {
@@ -65,11 +69,11 @@ fn by_counts(several: bool, shared: bool) -> Kind
 fn note_row(
     fates: &mut Fates,
     history: &History,
-    live: &LiveSet,
+    live: &IdSet,
     named: &Tally,
     row: &Row,
 ) -> Result<(), AllocError>
-    ensures { (all : List Row) → (before : List Row) → IsTally named.now (heirs all) → ((s : List ℕ) → is_this s row.now.new ≡ true → has (heirs all) s ≡ true) → AreFates (last_live history.now) live.now all fates.old before → OnOk result (AreFates (last_live history.now) live.now all fates.new (before ++ row.now ∷ [])) }
+    ensures { (all : List Row) → (before : List Row) → IsTally named.now (heirs all) → ((s : List ℕ) → is_this s row.now.new ≡ true → has_id (heirs all) s ≡ true) → AreFates (last_live history.now) live.now all fates.old before → OnOk result (AreFates (last_live history.now) live.now all fates.new (before ++ row.now ∷ [])) }
 {
     match &row.new {
         None => {
@@ -94,16 +98,16 @@ fn note_row(
 pub(crate) fn all_fates(
     alloc: Global,
     history: &History,
-    live: &LiveSet,
+    live: &IdSet,
     rows: &[Row],
 ) -> Result<Fates, AllocError>
     ensures { IfOk result (λ f. AreFates (last_live history.now) live.now rows.now f rows.now) }
 {
     let named = tally_heirs(alloc, rows)?;
     let mut fates = Fates {
-        ended: LiveSet::new(alloc),
+        ended: IdSet::new(alloc),
         olds: Tally::new(alloc),
-        shared: LiveSet::new(alloc),
+        shared: IdSet::new(alloc),
     };
     for row in rows {
         note_row(&mut fates, history, live, &named, row)?;

@@ -1,66 +1,18 @@
-// What becomes of identifiers.
-ghost use Rattle.std.specs.Prelude.{◌≡◌, ◌++◌, ◌∷◌, ℕ, List, [], OnOk, IfOk};
-ghost use Rattle.lpis_lineage.specs.Kinds.{IsTally, heirs};
+//! What became of an identifier.
 
-use lpis_covers::Id;
-use crate::live::LiveSet;
-use crate::row::Row;
-use std::alloc::{AllocError, Global};
-
-/// What becomes of an identifier of the last release.
+/// What became of an identifier of the last release in the next one.
 #[derive(Clone, Copy, PartialEq, Eq, Debug, Drop)]
 pub enum Kind {
+    /// It is live in both.
     Kept,
+    /// It has several successors, each of which has no other predecessor.
     Split,
+    /// It has one successor, which has other predecessors too.
     Merged,
+    /// It has one successor, which has no other predecessor.
     Replaced,
+    /// It has several successors, and one of them has other predecessors too.
     Redrawn,
+    /// Its row is an ending.
     Ended,
-}
-
-/// Which identifiers a list has, and which more than once.
-#[derive(Drop)]
-pub(crate) struct Tally {
-    pub once: LiveSet,
-    pub twice: LiveSet,
-}
-
-impl Tally {
-    /// Of no identifiers.
-    pub(crate) fn new(alloc: Global) -> Tally
-        ensures { IsTally result [] }
-    {
-        Tally {
-            once: LiveSet::new(alloc),
-            twice: LiveSet::new(alloc),
-        }
-    }
-
-    /// One more.
-    pub(crate) fn note(&mut self, id: &Id) -> Result<(), AllocError>
-        ensures { (ids : List (List ℕ)) → IsTally self.old ids → OnOk result (IsTally self.new (ids ++ id.now ∷ [])) }
-    {
-        let copy = id.copy()?;
-        if self.once.contains(id) {
-            self.twice.add(copy)?;
-            Ok(())
-        } else {
-            self.once.add(copy)?;
-            Ok(())
-        }
-    }
-}
-
-/// How often rows name their successors.
-pub(crate) fn tally_heirs(alloc: Global, rows: &[Row]) -> Result<Tally, AllocError>
-    ensures { IfOk result (λ t. IsTally t (heirs rows.now)) }
-{
-    let mut tally = Tally::new(alloc);
-    for row in rows {
-        match &row.new {
-            None => {}
-            Some(heir) => tally.note(heir)?,
-        }
-    }
-    Ok(tally)
 }

@@ -1,20 +1,27 @@
-//! Lineage of identifiers through the years.
+//! Lineage: what became of each identifier, through the years.
 #![tactic(auto)]
 
-mod accept;
+mod acceptance;
+mod change;
 mod fates;
 mod fault;
 mod history;
+mod id_set;
 mod kind;
-mod live;
+mod laws;
 mod row;
 mod seen;
-mod trace;
+mod span;
+mod tally;
+mod tracing;
 
-pub use accept::check;
-pub use fault::LineageFault;
+pub use acceptance::accept;
+pub use change::Change;
+pub use fault::{AddFault, LineageFault};
 pub use history::History;
+pub use id_set::IdSet;
 pub use kind::Kind;
-pub use live::LiveSet;
-pub use row::{Entry, Row, RowList};
-pub use trace::descendants;
+pub use laws::{decided_by_faults, spans_tell_releases};
+pub use row::{Entry, Row};
+pub use span::{Span, live_in};
+pub use tracing::descendants;

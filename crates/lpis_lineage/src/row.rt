@@ -1,16 +1,19 @@
-// Rows of lineage, and releases.
+//! Rows of lineage, and releases.
+
 ghost use Rattle.std.specs.Prelude.{◌≡◌, ℕ, List, IfOk};
 ghost use Rattle.lpis_lineage.specs.Accepts.{IsRelease};
 
+use crate::id_set::IdSet;
 use lpis_covers::Id;
-use crate::live::LiveSet;
+use lpis_rings::Sequence;
 use std::alloc::{AllocError, Global};
-use std::marker::Model;
 
-/// A row of lineage: an old identifier, and its successor; with none it is an ending.
-#[derive(Drop)]
+/// A row of lineage: what an old identifier became in the release that the row belongs to.
+#[derive(Debug, Drop)]
 pub struct Row {
+    /// The old identifier, which the release drops.
     pub old: Id,
+    /// A successor in the release; without one the row is an ending.
     pub new: Option<Id>,
 }
 
@@ -28,47 +31,26 @@ impl Row {
     }
 }
 
-/// Rows in their order, which contracts see as their list.
-#[derive(Drop)]
-pub struct RowList {
-    rows: Vec<Row>,
-}
-
-impl Model for RowList {
-    ghost use Rattle.std.specs.Prelude.{List};
-    ghost use Rattle.lpis_lineage.specs.declared.row.Row.{Row};
-
-    ghost Value = { List Row };
-
-    ghost view = { λ a. a.rows.items };
-}
-
-impl RowList {
-    /// Copies of these rows.
-    pub fn of(alloc: Global, rows: &[Row]) -> Result<RowList, AllocError>
-        ensures { IfOk result (λ r. r ≡ rows.now) }
-    {
-        let mut copies = Vec::new(alloc);
-        for row in rows {
-            copies.push(row.copy()?)?;
-        }
-        Ok(RowList { rows: copies })
+/// Copies of these rows.
+pub(crate) fn copy_rows(alloc: Global, rows: &[Row]) -> Result<Vec<Row>, AllocError>
+    ensures { IfOk result (λ v. v.items ≡ rows.now) }
+{
+    let mut copies = Vec::new(alloc);
+    for row in rows {
+        copies.push(row.copy()?)?;
     }
-
-    /// The rows.
-    pub fn as_slice(&self) -> &[Row]
-        ensures { result.now ≡ self.now }
-    {
-        self.rows.as_slice()
-    }
+    Ok(copies)
 }
 
 /// A release in a history.
 #[derive(Drop)]
 pub struct Entry {
+    /// Its year.
     pub year: u16,
-    pub live: LiveSet,
-    pub rows: RowList,
+    /// The identifiers that are live in it.
+    pub live: IdSet,
+    /// Its rows, in the order in which they were handed in.
+    pub rows: Sequence<Row>,
 }
 
 impl Entry {
@@ -82,8 +64,12 @@ impl Entry {
         ensures release { IfOk result (IsRelease live.now rows.now) }
         ensures year { IfOk result (λ e. e.year ≡ year) }
     {
-        let live = LiveSet::of(alloc, live)?;
-        let rows = RowList::of(alloc, rows)?;
-        Ok(Entry { year, live, rows })
+        let live = IdSet::of(alloc, live)?;
+        let rows = copy_rows(alloc, rows)?;
+        Ok(Entry {
+            year,
+            live,
+            rows: Sequence::new(rows),
+        })
     }
 }

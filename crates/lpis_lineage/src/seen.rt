@@ -1,4 +1,5 @@
-// The rows that a check has seen.
+//! The rows that a check has seen.
+
 ghost use Rattle.std.specs.Prelude.{◌≡◌, ◌++◌, ◌∷◌, ℕ, List, [], OnOk, Some, None};
 ghost use Rattle.std.specs.List.{list_any};
 ghost use Rattle.lpis_lineage.specs.declared.row.Row.{Row};
@@ -8,17 +9,17 @@ ghost use Rattle.lpis_lineage.specs.declared.fault.LineageFault.TheVariants.{Dou
 ghost use Rattle.lpis_lineage.specs.Seen.{IsSeen};
 
 use crate::fault::LineageFault;
-use lpis_covers::Id;
-use crate::live::LiveSet;
+use crate::id_set::IdSet;
 use crate::row::Row;
+use lpis_covers::Id;
 use std::alloc::Global;
 use std::collections::BTreeSet;
 
 /// What is known of the rows seen so far: who is ended, who has a successor, and who which.
 #[derive(Drop)]
 pub(crate) struct Seen {
-    pub ended: BTreeSet<Id>,
-    pub continued: BTreeSet<Id>,
+    pub ended: IdSet,
+    pub continued: IdSet,
     pub heirs: BTreeSet<(Id, Id)>,
 }
 
@@ -28,8 +29,8 @@ impl Seen {
         ensures { IsSeen result [] }
     {
         Seen {
-            ended: BTreeSet::new(alloc),
-            continued: BTreeSet::new(alloc),
+            ended: IdSet::new(alloc),
+            continued: IdSet::new(alloc),
             heirs: BTreeSet::new(alloc),
         }
     }
@@ -41,13 +42,13 @@ impl Seen {
         ensures seen { (before : List Row) → IsSeen self.old before → OnOk result (IsSeen self.new (before ++ row.now ∷ [])) }
     {
         if self.ended.contains(&row.old) {
-            return Err(LineageFault::DoubledRow(number));
+            return Err(LineageFault::DoubledRow { row: number });
         }
         if self.continued.contains(&row.old) {
-            return Err(LineageFault::EndingBesideSuccessor(number));
+            return Err(LineageFault::EndingBesideSuccessor { row: number });
         }
         let old = row.old.copy()?;
-        self.ended.insert(old)?;
+        self.ended.add(old)?;
         Ok(())
     }
 
@@ -66,13 +67,13 @@ impl Seen {
         let new = heir.copy()?;
         let is_new = self.heirs.insert((old, new))?;
         if !is_new {
-            return Err(LineageFault::DoubledRow(number));
+            return Err(LineageFault::DoubledRow { row: number });
         }
         if self.ended.contains(&row.old) {
-            return Err(LineageFault::EndingBesideSuccessor(number));
+            return Err(LineageFault::EndingBesideSuccessor { row: number });
         }
         let old = row.old.copy()?;
-        self.continued.insert(old)?;
+        self.continued.add(old)?;
         Ok(())
     }
 

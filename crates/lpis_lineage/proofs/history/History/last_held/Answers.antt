@@ -1,10 +1,9 @@
 use Rattle.std.proofs.Common.{◌∙◌, sym}
-use Rattle.lpis_lineage.proofs.Held.{held-found, held-kept}
-use Rattle.lpis_lineage.proofs.history.History.last_held.Goals.{then-contains, else-contains}
+use Rattle.lpis_lineage.proofs.SpanSteps.{unlive-some, unlive-none}
 use Rattle.lpis_lineage.proofs.history.History.last_held.Goals as goal
 
-pub loop-entry-preserved : goal.loop-entry-preserved
-loop-entry-preserved c = elim c.if-contains.branch [
-  | then-contains w ↦ w.found-is ∙ held-found c.deref-entry-items.result.now c.loop-entry.entry-index c.entry-item.result c.args.id.now c.loop-entry-test.true c.entry-item.is (sym c.contains.ensures ∙ w.if-contains.true)
-  | else-contains w ↦ held-kept c.deref-entry-items.result.now c.loop-entry.entry-index c.entry-item.result c.args.id.now c.if-contains.found c.loop-entry-test.true c.entry-item.is (sym c.contains.ensures ∙ w.if-contains.false) (w.found-is ∙ c.loop-entry.invariant)
-]
+pub returns-in-Some : goal.returns-in-Some
+returns-in-Some c = unlive-some c.args.self.now c.args.id.now c.in-Some.span c.requires (sym c.span.ensures ∙ c.in-Some.is)
+
+pub returns-in-None : goal.returns-in-None
+returns-in-None c = unlive-none c.args.self.now c.args.id.now (sym c.span.ensures ∙ c.in-None.is)

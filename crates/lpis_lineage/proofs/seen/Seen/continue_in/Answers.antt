@@ -1,5 +1,5 @@
 use Rattle.std.proofs.Common.{◌∙◌, inr, refl, sym, ap, List, ℕ, cond, true}
-use Rattle.lpis_lineage.specs.Lineage.{same, has}
+use Rattle.lpis_covers.specs.Ids.{has_id, same_id}
 use Rattle.lpis_lineage.proofs.Clean.{first-told, told-skip, told-none}
 use Rattle.lpis_lineage.specs.Faults.{first}
 use Rattle.lpis_lineage.proofs.SeenLemmas.{doubled-heir, clash-heir-set, seen-heir, is-doubled, not-doubled, one-pair}
@@ -19,4 +19,4 @@ returns-clause-tells c = λ before seen.
     (told-none _ _ _ (sym (clash-heir-set c.args.self.now before c.args.row.now c.args.heir.now seen c.requires) ∙ sym c.contains.ensures ∙ c.if-contains.false) refl)
 
 pub returns-clause-seen : goal.returns-clause-seen
-returns-clause-seen c = λ before seen. seen-heir c.args.self.now _ before c.args.row.now c.args.heir.now seen c.requires refl (λ q. c.in_ok-insert.ensures.updates.0 q ∙ ap (λ (k : List ℕ). cond (same k q) true (has c.args.self.now.continued.keys q)) c.in_ok-old-2.ensures) (one-pair c.args.row.now.old c.args.heir.now c.in_ok-old.old c.in_ok-new.new c.args.self.now.heirs.keys c.insert.new.self.keys c.in_ok-old.ensures c.in_ok-new.ensures c.in_ok-is_new.ensures.updates.0)
+returns-clause-seen c = λ before seen. seen-heir c.args.self.now _ before c.args.row.now c.args.heir.now seen c.requires refl (λ q. c.in_ok-add.ensures.ok q ∙ ap (λ (k : List ℕ). cond (same_id k q) true (has_id c.args.self.now.continued q)) c.in_ok-old-2.ensures) (one-pair c.args.row.now.old c.args.heir.now c.in_ok-old.old c.in_ok-new.new c.args.self.now.heirs.keys c.insert.new.self.keys c.in_ok-old.ensures c.in_ok-new.ensures c.in_ok-is_new.ensures.updates.0)

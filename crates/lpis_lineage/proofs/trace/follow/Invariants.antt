@@ -1,7 +1,0 @@
-use Rattle.std.proofs.Common.{ℕ, List, take, ◌++◌}
-use Rattle.lpis_lineage.specs.declared.row.Row.{Row}
-use Rattle.lpis_lineage.specs.Trace.{Reaches, AreFresh}
-use Rattle.lpis_lineage.proofs.trace.follow.Given as goal
-
-abbrev pub invariant-loop-row : goal.invariant-loop-row
-invariant-loop-row l = (before : List Row) → (id : List ℕ) → Reaches l.initial.reached before id → AreFresh before l.rows → Reaches l.reached (before ++ take l.row-index l.rows) id

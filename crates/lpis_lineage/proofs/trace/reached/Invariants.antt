@@ -1,6 +1,0 @@
-use Rattle.std.proofs.Common.{take}
-use Rattle.lpis_lineage.specs.Trace.{Reaches, all_rows}
-use Rattle.lpis_lineage.proofs.trace.reached.Given as goal
-
-abbrev pub invariant-loop-entry : goal.invariant-loop-entry
-invariant-loop-entry l = Reaches l.reached (all_rows (take l.entry-index l.entry-items)) l.id
