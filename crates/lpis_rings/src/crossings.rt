@@ -30,8 +30,8 @@ pub fn turns(polygon: &Polygon, p: &RatPoint) -> i64
     sum
 }
 
-/// Whether a polygon contains a point: the number of its edges with a crossing other than 0 is odd. Of a border the lower and the left
-/// side belong to it.
+/// Whether a polygon contains a point: the number of its edges with a crossing other than 0 is odd. A point on a border is taken as one
+/// a hair to the right of it and less above.
 pub fn contains(polygon: &Polygon, p: &RatPoint) -> bool
     ensures { IsTrue result ↔ Contains polygon.now (rational_of p.now) }
 {

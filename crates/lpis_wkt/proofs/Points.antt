@@ -7,7 +7,7 @@ use Rattle.lpis_points.specs.declared.point.Point.{Point}
 use Rattle.lpis_points.specs.Range.{limit, IsInRange}
 use Rattle.lpis_points.specs.Plane.{same_point}
 use Rattle.lpis_wkt.specs.declared.fault.WktCode.{WktCode}
-use Rattle.lpis_wkt.specs.declared.number.Coordinate.{Coordinate}
+use Rattle.lpis_wkt.specs.declared.coordinate.Coordinate.{Coordinate}
 use Rattle.lpis_wkt.specs.Number.{number}
 use Rattle.lpis_wkt.specs.Coordinates.{coordinate, with_range, number-in_range, point_of}
 use Rattle.lpis_wkt.specs.Machine.{same_end, is_closed}

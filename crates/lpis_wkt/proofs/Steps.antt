@@ -4,7 +4,7 @@ use Rattle.std.proofs.lemmas.Bool.Decides.{nat_tests}
 use Rattle.lpis_points.specs.declared.point.Point.{Point}
 use Rattle.lpis_rings.specs.Ring.{IsRing}
 use Rattle.lpis_wkt.specs.declared.fault.WktCode.{WktCode}
-use Rattle.lpis_wkt.specs.declared.number.Coordinate.{Coordinate}
+use Rattle.lpis_wkt.specs.declared.coordinate.Coordinate.{Coordinate}
 use Rattle.lpis_wkt.specs.Tokens.{Token, Word}
 use Rattle.lpis_wkt.specs.Grammar.{is_polygon, is_multi}
 use Rattle.lpis_wkt.specs.Table.{keyword_code}
