@@ -13,3 +13,4 @@ pub mod FateLemmas
 pub mod KindSteps
 pub mod PopSteps
 pub mod SpanPicks
+pub mod RowsLemmas

@@ -6,6 +6,7 @@ pub mod Faults
 pub mod Accepts
 pub mod Kinds
 pub mod Changes
+pub mod LineageTable
 pub mod Descendants
 pub mod Follows
 pub mod Seen

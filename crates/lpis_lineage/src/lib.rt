@@ -9,10 +9,13 @@ mod history;
 mod id_set;
 mod kind;
 mod laws;
+mod reading;
 mod row;
 mod seen;
 mod span;
 mod tally;
+#[cfg(test)]
+mod tests;
 mod tracing;
 
 pub use acceptance::accept;
@@ -22,6 +25,7 @@ pub use history::History;
 pub use id_set::IdSet;
 pub use kind::Kind;
 pub use laws::{decided_by_faults, spans_tell_releases};
+pub use reading::read_rows;
 pub use row::{Entry, Row};
 pub use span::{Span, live_in};
 pub use tracing::descendants;
