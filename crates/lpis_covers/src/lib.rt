@@ -20,3 +20,6 @@ pub use piece::{Piece, Pieces, read_pieces};
 pub use reader::{MOST_ROWS, TableReader};
 pub use rows::{Rows, read_table};
 pub use typed::{TableRow, read_rows};
+
+#[cfg(test)]
+mod tests;

@@ -13,3 +13,6 @@ pub use parcel::{Parcel, Parcels, read_parcels};
 pub use pieces::{PiecesOf, pieces_of};
 pub use reading::read_release;
 pub use release::Release;
+
+#[cfg(test)]
+mod tests;
