@@ -129,7 +129,7 @@ fn a_certificate_cut_at_each_byte_lacks_its_next_line(rt: HostRuntime) {
         for at in 0..bytes.len() {
             let front = &bytes[..at];
             let ended = front.iter().filter(|b| **b == b'\n').count() as u64;
-            assert_eq!(rt; answer(&rt, front), ("54", ended + 1));
+            assert_eq!(rt; answer(&rt, front), ("54", ended.saturating_add(1)));
         }
     }
 }
