@@ -4,9 +4,9 @@ ghost use Rattle.std.specs.Prelude.{◌≡◌, option_map, IfOk, IfErr, Ok, Err}
 ghost use Rattle.lpis_cert.specs.Reading.{form, is_word, kind_of as kind_named, words, word_count as count_of_words, names as named_right, can_stand as may_stand, same_kind as same, placed as placed_line};
 
 use crate::fault::CertCode;
-use crate::identifier::is_id_text;
 use crate::kind::{Expected, Kind, Stage};
 use crate::words::{Words, count};
+use lpis_covers::is_id_text;
 
 pub fn is_word(word: &[u8], text: &[u8]) -> bool
     ensures { result ≡ is_word word.now text.now }

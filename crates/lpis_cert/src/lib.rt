@@ -8,7 +8,6 @@ mod fault;
 mod fields;
 mod form;
 mod head;
-mod identifier;
 mod kind;
 mod laws;
 mod lines;

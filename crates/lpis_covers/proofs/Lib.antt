@@ -4,3 +4,6 @@ pub mod ColumnLemmas
 pub mod ReadingLemmas
 pub mod IdLemmas
 pub mod KeyedLemmas
+pub mod RowsRead
+pub mod PolygonLemmas
+pub mod PieceLemmas

@@ -53,9 +53,9 @@ next-many old table w n places row r left rs e l d m = rw (← e, l, rows-many t
 pub next-row : (old : Reading) (table : Table) (w v n : ℕ) (places : List ℕ) (row r : Record) (left rs : List Record)
     → reading table n row (rows_from table w places (n + 1) left) ≡ old → left ≡ r ∷ rs → length r ≡ w → v ≡ w → n < most_rows
     → (old.rows ≡ picked places r ∷ (rows_from table v places (n + 1 + 1) rs).rows) × ((rows_from table v places (n + 1 + 1) rs).stop ≡ old.stop)
-    × (n + 1 ≡ old.number + 1) × (table ≡ old.table)
+    × (n + 1 ≡ old.number + 1) × (table ≡ old.table) × (n + 1 ≤ most_rows)
 next-row old table w v n places row r left rs e l d same m =
-    rw (← e, l, rows-more table w places (n + 1) r rs d (omega arith), same) (refl, refl, refl, refl)
+    rw (← e, l, rows-more table w places (n + 1) r rs d (omega arith), same) (refl, refl, refl, refl, omega arith)
 
 -- a wanted field is that at its place
 pub picked-field : (places : List ℕ) (fields : Record) (k p : ℕ) (f : List ℕ) → k < length places → p ≡ get_or places k p → f ≡ field_of fields p

@@ -1,5 +1,9 @@
+pub mod Classes
 pub mod Codes
 pub mod Columns
+pub mod Covers
+pub mod Faults
+pub mod FreshKeys
 pub mod Ids
 pub mod Keyed
 pub mod Left

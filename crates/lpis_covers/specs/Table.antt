@@ -1,5 +1,5 @@
 -- The rows of a table by the names of its columns.
-use Rattle.std.specs.Prelude.{◌≡◌, ◌==◌, ◌+◌, ◌∷◌, Bool, true, false, ℕ, List, [], length, map, nat_lt, Option, Some, None, Result, Ok, Err, slice_index_or, if◌then◌else◌}
+use Rattle.std.specs.Prelude.{◌≡◌, ◌==◌, ◌+◌, ◌≤◌, ◌∷◌, Bool, true, false, ℕ, List, [], length, map, nat_lt, Option, Some, None, Result, Ok, Err, slice_index_or, if◌then◌else◌}
 use Rattle.std.specs.Str.{str_eq_ignore_ascii_case}
 use Rattle.std.specs.Borrow.{Bor}
 use Rattle.csv.specs.Reading.{default_config, is_bom, records, strip_bom}
@@ -115,7 +115,7 @@ table_of table names bytes =
 -- what reading the next row does
 abbrev pub Advances : Reading → Reading → Result Bool TableFault → Type 0
 Advances old new (Ok true) =
-    (old.rows ≡ new.row ∷ new.rows) × (new.stop ≡ old.stop) × (new.number ≡ old.number + 1) × (new.table ≡ old.table)
+    (old.rows ≡ new.row ∷ new.rows) × (new.stop ≡ old.stop) × (new.number ≡ old.number + 1) × (new.table ≡ old.table) × (new.number ≤ most_rows)
 Advances old new (Ok false) = (old.rows ≡ []) × (old.stop ≡ None)
 Advances old new (Err Memory) = Unit {0}
 Advances old new (Err (At code table row wkt)) = (old.rows ≡ []) × (old.stop ≡ Some (At code table row wkt))

@@ -116,8 +116,8 @@ impl Id {
     }
 }
 
-/// Whether bytes are an identifier.
-fn is_id_text(bytes: &[u8]) -> bool
+/// Whether bytes are an identifier. It takes no memory.
+pub fn is_id_text(bytes: &[u8]) -> bool
     ensures { result ≡ is_id bytes.now }
 {
     1 <= bytes.len() && bytes.len() <= LONGEST_ID && all_id_bytes(bytes)

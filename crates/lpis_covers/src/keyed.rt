@@ -1,6 +1,6 @@
 //! Rows by their own identifiers.
 
-ghost use Rattle.std.specs.Prelude.{◌≡◌, ◌≤◌, ◌<◌, ◌++◌, ◌∷◌, [], map, length, false, OnOk, position};
+ghost use Rattle.std.specs.Prelude.{◌≡◌, ◌≤◌, ◌<◌, ◌++◌, ◌∷◌, [], map, length, false, IfSome, OnOk, Some, is_some, position, slice_get};
 ghost use Rattle.std.specs.List.{IsDistinct};
 ghost use Rattle.lpis_covers.specs.Ids.{has_id, same_id};
 ghost use Rattle.lpis_covers.specs.Table.{most_rows};
@@ -81,7 +81,9 @@ impl<T: Identified> Keyed<T> {
 
     /// The place of the row with this identifier.
     pub fn position(&self, id: &Id) -> Option<usize>
-        ensures { result ≡ position (same_id id.now) (map T.identifier self.now) }
+        ensures place { result ≡ position (same_id id.now) (map T.identifier self.now) }
+        ensures found { is_some result ≡ has_id (map T.identifier self.now) id.now }
+        ensures at_place { IfSome result (λ i. slice_get (map T.identifier self.now) i ≡ Some id.now) }
     {
         self.ids.get_index_of(id)
     }

@@ -1,15 +1,22 @@
 //! Tables in CSV: identifiers, rows by the names of their columns, and rows by their identifiers.
 #![tactic(auto)]
 
+mod class;
 mod fault;
+mod fields;
 mod id;
 mod keyed;
+mod piece;
 mod reader;
 mod records;
 mod rows;
+mod typed;
 
+pub use class::{Class, Classes, read_classes};
 pub use fault::{Table, TableCode, TableFault};
-pub use id::{Id, LONGEST_ID};
+pub use id::{Id, LONGEST_ID, is_id_text};
 pub use keyed::{Identified, Keyed};
+pub use piece::{Piece, Pieces, read_pieces};
 pub use reader::{MOST_ROWS, TableReader};
 pub use rows::{Rows, read_table};
+pub use typed::{TableRow, read_rows};

@@ -1,14 +1,17 @@
 //! A reader of a table, row by row.
 
-ghost use Rattle.std.specs.Prelude.{◌≡◌, ◌≤◌, ◌∷◌, [], None, length, IfOk, IfErr, Ok};
+ghost use Rattle.std.specs.Prelude.{◌≡◌, ◌≤◌, ◌∷◌, [], None, Some, length, IfOk, IfErr, Ok};
 ghost use Rattle.csv.specs.Records.{fields_of};
 ghost use Rattle.csv.specs.Reading.{strip_bom};
 ghost use Rattle.lpis_covers.specs.Table.{Advances, Answers, fault_at, field_of, has_mark, picked, place_of, places_of, table_of, texts};
+ghost use Rattle.lpis_covers.specs.declared.fault.TableCode.TheVariants.{BadGeometry};
+ghost use Rattle.lpis_covers.specs.declared.fault.TableFault.TheVariants.{At};
 ghost use Rattle.lpis_covers.specs.Columns.{TellsColumn};
 
 use crate::fault::{Table, TableCode, TableFault};
 use crate::records::{Records, Step};
 use csv::ByteRecord;
+use lpis_wkt::WktFault;
 use std::alloc::{AllocError, Global};
 use std::marker::Model;
 
@@ -200,5 +203,17 @@ impl<'a> TableReader<'a> {
         ensures { result ≡ fault_at code self.now.table self.now.number }
     {
         fault(code, self.table, self.number)
+    }
+
+    /// The fault of a text in the row that was read last, which is no polygon.
+    pub fn geometry_fault(&self, wkt: WktFault) -> TableFault
+        ensures { result ≡ At BadGeometry self.now.table self.now.number (Some wkt) }
+    {
+        TableFault::At {
+            code: TableCode::BadGeometry,
+            table: self.table,
+            row: self.number,
+            wkt: Some(wkt),
+        }
     }
 }

@@ -3,11 +3,11 @@ use Rattle.std.specs.Prelude.{ℤ, pos, neg_ℤ, ◌≤ℤ◌, ◌*ℤ◌}
 use Rattle.lpis_points.specs.Range.{limit}
 
 -- the greatest denominator
-abbrev pub most_parts : ℤ
-most_parts = pos 1000000
+abbrev pub greatest_denominator : ℤ
+greatest_denominator = pos 1000000
 
 abbrev pub IsDenominator : ℤ → Type 0
-IsDenominator d = (pos 1 ≤ℤ d) × (d ≤ℤ most_parts)
+IsDenominator d = (pos 1 ≤ℤ d) × (d ≤ℤ greatest_denominator)
 
 -- z/d is in the range of a coordinate
 abbrev pub IsInRangeOver : ℤ → ℤ → Type 0

@@ -73,8 +73,8 @@ fn passing(from: i128, to: i128, y: i128, side: i128) -> i8
     }
 }
 
-/// Above 0 where `c` is left of the directed line from `a` to `b`, 0 on it, below 0 right of it. It is twice the signed area of the
-/// triangle, in square centimetres.
+/// Above 0 where `c` is left of the directed line from `a` to `b`, 0 on it, below 0 right of it. It is twice the
+/// signed area of the triangle, in square centimetres.
 #[tactic(auto, unfolding(crate::specs::Plane::orient))]
 pub fn orient(a: Point, b: Point, c: Point) -> i128
     ensures { result ≡ orient_lem a b c }
@@ -87,7 +87,8 @@ pub fn orient(a: Point, b: Point, c: Point) -> i128
     )
 }
 
-/// Above 0 where `p` is left of the directed line from `a` to `b`, 0 on it, below 0 right of it: `orient`, times the point's `d`.
+/// Above 0 where `p` is left of the directed line from `a` to `b`, 0 on it, below 0 right of it: `orient`, times the
+/// point's `d`.
 pub fn orient_at(a: Point, b: Point, p: &RatPoint) -> i128
     ensures { result ≡ orient_at_lem a b (rational_of p.now) }
 {
@@ -99,7 +100,8 @@ pub fn orient_at(a: Point, b: Point, p: &RatPoint) -> i128
     )
 }
 
-/// How the directed edge from `a` to `b` is crossed by `p`: 1 where it goes up past the point's height with the point on its left,
+/// How the directed edge from `a` to `b` is crossed by `p`: 1 where it goes up past the point's height with the point
+/// on its left,
 /// -1 where it goes down past it with the point on its right, and else 0. An edge has its lower end and not its upper one.
 pub fn crossing(a: Point, b: Point, p: &RatPoint) -> i8
     ensures { result ≡ crossing_lem a b (rational_of p.now) }

@@ -2,9 +2,9 @@
 use Rattle.std.specs.Prelude.{◌≡◌, ℕ, ℤ, pos, ◌+ℤ◌, List, [], ◌∷◌, ◌++◌, length, filter, flat_map, ◌⊎◌, IsTrue, All}
 use Rattle.lpis_points.specs.declared.point.Point.{Point}
 use Rattle.lpis_points.specs.declared.triangle.Triangle.{Triangle}
-use Rattle.lpis_points.specs.Plane.{RationalPoint, orient, same_point}
+use Rattle.lpis_points.specs.Plane.{RationalPoint, orient, same_point, shoelace_term}
 use Rattle.lpis_points.specs.Triangles.{triangle_edges, IsCounterClockwise, IsFlat, is_inside, Separates, are_apart}
-use Rattle.lpis_points.specs.Chain.{SameNet}
+use Rattle.lpis_points.specs.Chain.{edge_sum, SameNet}
 use Rattle.lpis_rings.specs.Edges.{edge_turns}
 
 -- the edges of triangles
@@ -54,6 +54,11 @@ all_edges (p ∷ ps) = p.edges ++ all_edges ps
 abbrev pub all_turns : List CutPiece → RationalPoint → ℤ
 all_turns [] s = pos 0
 all_turns (p ∷ ps) s = edge_turns p.edges s +ℤ all_turns ps s
+
+-- the sums of the shoelace terms of the edges of pieces, added
+abbrev pub all_areas : List CutPiece → ℤ
+all_areas [] = pos 0
+all_areas (p ∷ ps) = edge_sum shoelace_term p.edges +ℤ all_areas ps
 
 -- 0 or 1
 abbrev pub IsOneOrNone : ℤ → Type 0

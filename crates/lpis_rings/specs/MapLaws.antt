@@ -1,6 +1,6 @@
 -- Laws of polygons and of what covers them, as statements. Where they name no lines they hold at every rational
 -- point, on edges and corners too.
-use Rattle.std.specs.Prelude.{◌≡◌, ◌%◌, pos, ◌<ℤ◌, List, ◌++◌, ◌↔◌, All, nat_abs}
+use Rattle.std.specs.Prelude.{◌≡◌, ◌<◌, ◌%◌, pos, ◌<ℤ◌, List, ◌++◌, ◌↔◌, All, length, nat_abs}
 use Rattle.lpis_points.specs.declared.point.Point.{Point}
 use Rattle.lpis_points.specs.declared.triangle.Triangle.{Triangle}
 use Rattle.lpis_points.specs.Plane.{RationalPoint, same_point, shoelace_term}
@@ -9,7 +9,7 @@ use Rattle.lpis_points.specs.Chain.{edge_sum, SameNet}
 use Rattle.lpis_rings.specs.declared.polygon.Member.{Member}
 use Rattle.lpis_rings.specs.Area.{area2}
 use Rattle.lpis_rings.specs.Edges.{edges_of, edge_turns, turns, Contains}
-use Rattle.lpis_rings.specs.Map.{edges_of_triangles, triangle_areas, inside_count, AllKeepApart, IsCut, CutPiece, all_triangles, all_edges, all_turns, IsOneOrNone}
+use Rattle.lpis_rings.specs.Map.{edges_of_triangles, triangle_areas, inside_count, AllKeepApart, IsCut, CutPiece, all_triangles, all_edges, all_turns, all_areas, IsOneOrNone}
 
 -- a polygon contains a point exactly where its turns round the point are odd
 abbrev pub ContainsByOddTurns : Type 0
@@ -43,3 +43,13 @@ ParcelIsItsPieces =
 abbrev pub AreaIsOfItsTriangles : Type 0
 AreaIsOfItsTriangles =
     (es : List (Point × Point)) (ts flats : List Triangle) → IsCut es ts flats → edge_sum shoelace_term es ≡ triangle_areas ts
+
+-- which is above 0 where there is a triangle
+abbrev pub AreaIsPositive : Type 0
+AreaIsPositive =
+    (es : List (Point × Point)) (ts flats : List Triangle) → IsCut es ts flats → 0 < length ts → pos 0 <ℤ edge_sum shoelace_term es
+
+-- edges with the net counts of the edges of pieces and of flats have the area of the pieces
+abbrev pub AreaIsOfItsPieces : Type 0
+AreaIsOfItsPieces =
+    (es : List (Point × Point)) (flats : List Triangle) (ps : List CutPiece) → All IsFlat flats → SameNet same_point es (all_edges ps ++ edges_of_triangles flats) → edge_sum shoelace_term es ≡ all_areas ps

@@ -1,4 +1,16 @@
-//! Rings, polygons and their areas.
+//! Rings and polygons, their areas, their edges, and the points that they contain. No call takes memory.
+//!
+//! | Call | Answer |
+//! |---|---|
+//! | `Ring::new` | the ring, or its points back exactly where they are fewer than four or the last differs from the first |
+//! | `Polygon::new` | the polygon, or its members back exactly where there is none or they have more than 100,000 points |
+//! | `shoelace`, `area2` | twice the signed area of a ring; twice the area of a polygon |
+//! | `edges` | the directed edges of a polygon in normal orientation, members in order, each shell before its holes |
+//! | `turns` | the sum of the crossings of these edges by a point |
+//! | `contains` | whether the number of these edges with a crossing other than 0 is odd |
+//!
+//! Each answer is proved to be that of the definitions in `specs/Ring.antt`, `specs/Polygon.antt`, `specs/Area.antt` and
+//! `specs/Edges.antt`. What follows from these definitions at every rational point stands in `laws`.
 #![tactic(auto)]
 
 mod area;
@@ -7,6 +19,8 @@ pub mod laws;
 mod polygon;
 mod ring;
 mod sequence;
+#[cfg(test)]
+mod tests;
 mod walks;
 
 pub use area::{area2, shoelace};

@@ -11,7 +11,7 @@ use lpis_points::Point;
 use std::marker::Model;
 
 /// A walk along a ring. Contracts see the list of the edges that are left.
-#[derive(Drop)]
+#[derive(Debug, Drop)]
 struct Walk<'a> {
     points: &'a [Point],
     backwards: bool,
@@ -74,8 +74,9 @@ impl<'a> Iterator for Walk<'a> {
     }
 }
 
-/// The walks round the rings of a polygon that are still to be made. Contracts see the list of their edges, walk by walk.
-#[derive(Drop)]
+/// The walks round the rings of a polygon that are still to be made. Contracts see the list of their edges, walk by
+/// walk.
+#[derive(Debug, Drop)]
 struct Walks<'a> {
     /// The holes left of the member whose shell was walked last.
     holes: &'a [Ring],
@@ -113,8 +114,9 @@ impl<'a> Iterator for Walks<'a> {
     }
 }
 
-/// The directed edges of a polygon in normal orientation, from `edges`. Contracts see the list of the edges that are left.
-#[derive(Drop)]
+/// The directed edges of a polygon in normal orientation, from `edges`. Contracts see the list of the edges that are
+/// left.
+#[derive(Debug, Drop)]
 pub struct Edges<'a> {
     walk: Walk<'a>,
     later: Walks<'a>,

@@ -1,5 +1,5 @@
 -- The machine takes what the grammar spells.
-use Rattle.std.proofs.Common.{◌≡◌, ℕ, suc, ◌≤◌, Bool, true, false, cond, ◌&&◌, List, [], ◌∷◌, ◌++◌, length, Ok, refl, sym, ap, ◌∙◌, inl, inr, append_assoc, arith, nat_lt, map}
+use Rattle.std.proofs.Common.{◌≡◌, ℕ, suc, Bool, true, false, cond, ◌&&◌, List, [], ◌∷◌, ◌++◌, length, Ok, refl, sym, ap, ◌∙◌, inl, inr, append_assoc, arith, nat_lt, map}
 use Rattle.std.specs.Prelude.{codes, nat_eq}
 use Rattle.std.specs.Char.{to_ascii_lowercase}
 use Rattle.std.specs.Str.{str_eq_ignore_ascii_case, str_to_ascii_lowercase}
@@ -9,7 +9,7 @@ use Rattle.std.proofs.lemmas.Bool.Decides.{nat_tests}
 use Rattle.lpis_points.specs.declared.point.Point.{Point}
 use Rattle.lpis_rings.specs.declared.polygon.Member.{Member}
 use Rattle.lpis_rings.specs.Ring.{IsRing}
-use Rattle.lpis_wkt.specs.declared.number.Coordinate.{Coordinate}
+use Rattle.lpis_wkt.specs.declared.coordinate.Coordinate.{Coordinate}
 use Rattle.lpis_wkt.specs.Tokens.{Token, Open, Close, Comma, Word, End}
 use Rattle.lpis_wkt.specs.Grammar.{PointText, Commas, RingText, BodyText, is_polygon, is_multi, Reads}
 use Rattle.lpis_wkt.specs.Machine.{Context, State, AtKeyword, AtBody, AtRing, AtX, AfterPoint, AfterRing, AfterBody, AtEnd, Finished, with_ring, run}

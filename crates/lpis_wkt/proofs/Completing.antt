@@ -1,11 +1,11 @@
 -- Each state that is reached has tokens that complete it, so each prefix that the machine takes begins a text of the grammar.
-use Rattle.std.proofs.Common.{◌≡◌, ℕ, ◌-◌, ◌<◌, Bool, true, false, cond, List, [], ◌∷◌, ◌++◌, length, pos, Some, Ok, refl, sym, ap, subst, ◌∙◌, inl, inr, append_assoc, arith, length-append}
+use Rattle.std.proofs.Common.{◌≡◌, ℕ, ◌-◌, ◌<◌, Bool, true, false, cond, List, [], ◌∷◌, ◌++◌, length, pos, Some, Ok, refl, sym, subst, ◌∙◌, inl, inr, append_assoc, arith, length-append}
 use Rattle.std.specs.Prelude.{codes, slice_get}
 use Rattle.std.proofs.lemmas.Int.{ints}
 use Rattle.lpis_points.specs.declared.point.Point.{Point}
 use Rattle.lpis_rings.specs.declared.polygon.Member.{Member}
 use Rattle.lpis_rings.specs.Ring.{IsRing}
-use Rattle.lpis_wkt.specs.declared.number.Coordinate.{Coordinate}
+use Rattle.lpis_wkt.specs.declared.coordinate.Coordinate.{Coordinate}
 use Rattle.lpis_wkt.specs.Tokens.{Token, Open, Close, Comma, Word, End}
 use Rattle.lpis_wkt.specs.Number.{number}
 use Rattle.lpis_wkt.specs.Coordinates.{coordinate, point_of}

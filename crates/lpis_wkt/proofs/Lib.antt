@@ -1,6 +1,9 @@
 pub mod Splitting
+pub mod Digits
+pub mod Parts
 pub mod Points
 pub mod Steps
+pub mod Closing
 pub mod Completeness
 pub mod Soundness
 pub mod Completing
@@ -9,3 +12,4 @@ pub mod Tails
 pub mod Rows
 pub mod OneCode
 pub mod Outcomes
+pub mod Exact

@@ -1,13 +1,16 @@
 -- The outcome of a text is its polygon, or its first fault.
-use Rattle.std.proofs.Common.{◌≡◌, ℕ, List, [], ◌∷◌, ◌++◌, Result, Ok, Err, refl, sym, ap, ◌∙◌, inl, inr, ◌⊎◌, ◌↔◌, length}
+use Rattle.std.proofs.Common.{MatchResult, IfOk, IfErr, ◌≡◌, ℕ, List, [], ◌∷◌, ◌++◌, Result, Ok, Err, refl, sym, ap, ◌∙◌, inl, inr, ◌⊎◌, length}
 use Rattle.lpis_rings.specs.declared.polygon.Member.{Member}
 use Rattle.lpis_wkt.specs.declared.fault.WktCode.{WktCode}
-use Rattle.lpis_wkt.specs.Tokens.{Token, Open, Close, Comma, Word, End, kinds, tokens, tokens_from}
+use Rattle.lpis_wkt.specs.declared.fault.WktFault.{WktFault}
+use Rattle.lpis_wkt.specs.declared.fault.WktFault.TheVariants.{Memory, At}
+use Rattle.lpis_wkt.specs.Tokens.{Token, End, kinds, tokens, tokens_from}
 use Rattle.lpis_wkt.specs.Viable.{Viable}
 use Rattle.lpis_wkt.specs.Table.{FirstFault}
-use Rattle.lpis_wkt.specs.Text.{PolygonText, TextFault}
-use Rattle.lpis_wkt.specs.Answer.{members_of, answer_of, polygon_of}
-use Rattle.lpis_wkt.specs.Machine.{State, AtKeyword, AfterKeyword, AtBody, AtRing, AtX, AtY, AfterPoint, AfterRing, AfterBody, AtEnd, Finished, and_then, limited_step, limited_run, located, outcome}
+use Rattle.lpis_wkt.specs.Text.{PolygonText, TextFault, IsTextFault}
+use Rattle.lpis_wkt.specs.Answer.{members_of, answer_of, polygon_of, Gives}
+use Rattle.lpis_wkt.specs.Parsing.{Told}
+use Rattle.lpis_wkt.specs.Machine.{State, AtKeyword, Finished, and_then, limited_step, limited_run, located, outcome}
 use Rattle.lpis_wkt.proofs.Steps.{then-ok, limited-append, cond-err}
 use Rattle.lpis_wkt.proofs.Counting.{viable, taken, finished, accepted}
 use Rattle.lpis_wkt.proofs.Rows.{table_code}
@@ -86,7 +89,8 @@ finished_end before n s h =
     let step = cond-err _ _ _ _ (located-ok _ n o.0 o.1) in
     let e = after_end a.0 o.0 step.1 in
     let same : Ok o.0 ≡ Ok s = o.2 in
-    (e.0, let k : o.0 ≡ s = cc in sym k ∙ e.1)
+    let k : o.0 ≡ s = cc in
+    (e.0, sym k ∙ e.1)
 
 answer-ok : (r : Result State (WktCode × ℕ)) (ms : List Member) → answer_of r ≡ Ok ms → (s : State) × (r ≡ Ok s) × (members_of s ≡ ms)
 answer-ok (Ok s) ms h = (s, refl, cc)
@@ -143,3 +147,24 @@ one_fault text code code' offset offset' h k =
 
 pub never_both : (text : List ℕ) (ms : List Member) (code : WktCode) (offset : ℕ) → PolygonText text ms → TextFault text code offset → ⊥
 never_both text ms code offset h k = let e = polygon-answer text ms h in let f = fault-answer text code offset k in cc
+
+-- what the parser answers is what the text says
+pub gives : (text : List ℕ) (r : Result (List Member) WktFault) → Told r (outcome AtKeyword (tokens text)) → Gives r (polygon_of text)
+unfolding polygon_of
+gives text (Ok ms) h = rw h refl
+gives text (Err Memory) h = tt
+gives text (Err (At code offset)) h = rw h refl
+
+pub is_polygon_text : (text : List ℕ) (r : Result (List Member) WktFault) → Gives r (polygon_of text) → IfOk r (λ ms. PolygonText text ms)
+is_polygon_text text (Ok ms) h = answer-polygon text ms h
+is_polygon_text text (Err e) h = tt
+
+pub is_only : (text : List ℕ) (r : Result (List Member) WktFault) → Gives r (polygon_of text) → (ms : List Member) → PolygonText text ms → MatchResult r (λ qs. qs ≡ ms) (λ e. e ≡ Memory)
+is_only text (Ok qs) h ms k = one_polygon text qs ms (answer-polygon text qs h) k
+is_only text (Err Memory) h ms k = refl
+is_only text (Err (At code offset)) h ms k = absurd (never_both text ms code offset k (answer-fault text code offset h))
+
+pub is_fault : (text : List ℕ) (r : Result (List Member) WktFault) → Gives r (polygon_of text) → IfErr r (λ e. IsTextFault text e)
+is_fault text (Ok qs) h = tt
+is_fault text (Err Memory) h = tt
+is_fault text (Err (At code offset)) h = answer-fault text code offset h

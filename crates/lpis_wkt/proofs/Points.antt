@@ -1,13 +1,13 @@
 -- Coordinates and points are equal where their numbers are.
-use Rattle.std.proofs.Common.{◌≡◌, ℕ, ◌-◌, ℤ, ◌≤ℤ◌, Bool, true, false, ◌&&◌, List, length, Option, Some, None, Result, Ok, Err, refl, sym, ap, subst, ◌∙◌, arith, int_eq}
+use Rattle.std.proofs.Common.{◌≡◌, ℕ, ◌-◌, ℤ, Bool, true, false, ◌&&◌, List, length, Option, Some, None, Result, Ok, Err, refl, ap, subst, ◌∙◌, arith, int_eq}
 use Rattle.std.specs.Prelude.{slice_get}
 use Rattle.std.proofs.lemmas.Int.{ints}
 use lib.Dec.{T_prop}
 use Rattle.lpis_points.specs.declared.point.Point.{Point}
-use Rattle.lpis_points.specs.Range.{limit, IsInRange}
+use Rattle.lpis_points.specs.Range.{IsInRange}
 use Rattle.lpis_points.specs.Plane.{same_point}
 use Rattle.lpis_wkt.specs.declared.fault.WktCode.{WktCode}
-use Rattle.lpis_wkt.specs.declared.number.Coordinate.{Coordinate}
+use Rattle.lpis_wkt.specs.declared.coordinate.Coordinate.{Coordinate}
 use Rattle.lpis_wkt.specs.Number.{number}
 use Rattle.lpis_wkt.specs.Coordinates.{coordinate, with_range, number-in_range, point_of}
 use Rattle.lpis_wkt.specs.Machine.{same_end, is_closed}

@@ -3,7 +3,7 @@ use Rattle.std.proofs.Common.{◌≡◌, ℕ, zero, suc, ◌<◌, ◌≤◌, Boo
 use Rattle.lpis_points.specs.declared.point.Point.{Point}
 use Rattle.lpis_rings.specs.declared.polygon.Member.{Member}
 use Rattle.lpis_rings.specs.Ring.{IsRing}
-use Rattle.lpis_wkt.specs.declared.number.Coordinate.{Coordinate}
+use Rattle.lpis_wkt.specs.declared.coordinate.Coordinate.{Coordinate}
 use Rattle.lpis_wkt.specs.Tokens.{Token, Open, Close, Comma, Word, End}
 use Rattle.lpis_wkt.specs.Number.{number}
 use Rattle.lpis_wkt.specs.Coordinates.{point_of}

@@ -3,21 +3,22 @@ use Rattle.std.proofs.Common.{◌≡◌, ℕ, zero, suc, ◌+◌, ◌-◌, ◌<�
 use Rattle.std.proofs.lemmas.Bool.{cases_lt}
 use Rattle.std.proofs.lemmas.List.{take-append-drop, length-take-le, drop-drop, nil_from_length}
 use Rattle.std.proofs.lemmas.Bool.Decides.{nat_tests}
+use Rattle.lpis_wkt.specs.Runs.{AllWord, Stops}
 use Rattle.lpis_wkt.specs.Tokens.{Token, Open, Close, Comma, Word, End, is_space, is_word, join, tokens_from}
 
 abbrev Tokens : Type 0
 Tokens = List (ℕ × Token)
 
 -- the tokens from a byte on, by what it is
-abbrev chosen : Bool → Bool → Bool → Bool → ℕ → Tokens → Tokens → Tokens
-chosen s o c m at rest w = cond s rest (cond o ((at, Open) ∷ rest) (cond c ((at, Close) ∷ rest) (cond m ((at, Comma) ∷ rest) w)))
+abbrev token_by_byte : Bool → Bool → Bool → Bool → ℕ → Tokens → Tokens → Tokens
+token_by_byte s o c m at rest w = cond s rest (cond o ((at, Open) ∷ rest) (cond c ((at, Close) ∷ rest) (cond m ((at, Comma) ∷ rest) w)))
 
-chosen_word : (s o c m : Bool) (at : ℕ) (rest w : Tokens) → not (s || o || c || m) ≡ true → chosen s o c m at rest w ≡ w
-chosen_word true o c m at rest w h = cc
-chosen_word false true c m at rest w h = cc
-chosen_word false false true m at rest w h = cc
-chosen_word false false false true at rest w h = cc
-chosen_word false false false false at rest w h = refl
+token_of_letter : (s o c m : Bool) (at : ℕ) (rest w : Tokens) → not (s || o || c || m) ≡ true → token_by_byte s o c m at rest w ≡ w
+token_of_letter true o c m at rest w h = cc
+token_of_letter false true c m at rest w h = cc
+token_of_letter false false true m at rest w h = cc
+token_of_letter false false false true at rest w h = cc
+token_of_letter false false false false at rest w h = refl
 
 -- the first token stands at n or after it
 abbrev From : ℕ → Tokens → Type 0
@@ -36,16 +37,16 @@ from-later : (m n : ℕ) (ts : Tokens) → m ≤ n → From n ts → From m ts
 from-later m n [] le h = tt
 from-later m n (t ∷ ts) le h = omega arith
 
-from-chosen : (s o c m : Bool) (at : ℕ) (rest w : Tokens) → From at rest → From at w → From at (chosen s o c m at rest w)
-from-chosen true o c m at rest w h k = h
-from-chosen false true c m at rest w h k = omega arith
-from-chosen false false true m at rest w h k = omega arith
-from-chosen false false false true at rest w h k = omega arith
-from-chosen false false false false at rest w h k = k
+from-token_by_byte : (s o c m : Bool) (at : ℕ) (rest w : Tokens) → From at rest → From at w → From at (token_by_byte s o c m at rest w)
+from-token_by_byte true o c m at rest w h k = h
+from-token_by_byte false true c m at rest w h k = omega arith
+from-token_by_byte false false true m at rest w h k = omega arith
+from-token_by_byte false false false true at rest w h k = omega arith
+from-token_by_byte false false false false at rest w h k = k
 
 from-tokens : (at : ℕ) (bs : List ℕ) → From at (tokens_from at bs)
 from-tokens at [] = tt
-from-tokens at (b ∷ bs) = from-chosen (is_space b) (b == 40) (b == 41) (b == 44) at (tokens_from (at + 1) bs) (join at b (tokens_from (at + 1) bs)) (from-later at (at + 1) _ (omega arith) (from-tokens (at + 1) bs)) (from-join at b (tokens_from (at + 1) bs))
+from-tokens at (b ∷ bs) = from-token_by_byte (is_space b) (b == 40) (b == 41) (b == 44) at (tokens_from (at + 1) bs) (join at b (tokens_from (at + 1) bs)) (from-later at (at + 1) _ (omega arith) (from-tokens (at + 1) bs)) (from-join at b (tokens_from (at + 1) bs))
 
 apart : (at b : ℕ) (ts : Tokens) → From (at + 2) ts → join at b ts ≡ (at, Word (b ∷ [])) ∷ ts
 apart at b [] h = refl
@@ -57,33 +58,24 @@ apart at b ((next, Word w) ∷ ts) h =
     let other : (next == at + 1) ≡ false = grind (arith, nat_tests) in
     rw other refl
 
-apart-chosen : (s o c m : Bool) (at b : ℕ) (rest w : Tokens) → not (s || o || c || m) ≡ false → From (at + 2) rest → join at b (chosen s o c m (at + 1) rest w) ≡ (at, Word (b ∷ [])) ∷ chosen s o c m (at + 1) rest w
-apart-chosen true o c m at b rest w h k = apart at b rest k
-apart-chosen false true c m at b rest w h k = refl
-apart-chosen false false true m at b rest w h k = refl
-apart-chosen false false false true at b rest w h k = refl
-apart-chosen false false false false at b rest w h k = cc
-
--- no word goes on here
-abbrev pub Stops : List ℕ → Type 0
-Stops [] = Unit {0}
-Stops (b ∷ bs) = is_word b ≡ false
+apart-token_by_byte : (s o c m : Bool) (at b : ℕ) (rest w : Tokens) → not (s || o || c || m) ≡ false → From (at + 2) rest → join at b (token_by_byte s o c m (at + 1) rest w) ≡ (at, Word (b ∷ [])) ∷ token_by_byte s o c m (at + 1) rest w
+apart-token_by_byte true o c m at b rest w h k = apart at b rest k
+apart-token_by_byte false true c m at b rest w h k = refl
+apart-token_by_byte false false true m at b rest w h k = refl
+apart-token_by_byte false false false true at b rest w h k = refl
+apart-token_by_byte false false false false at b rest w h k = cc
 
 last_byte : (at b : ℕ) (rest : List ℕ) → Stops rest → join at b (tokens_from (at + 1) rest) ≡ (at, Word (b ∷ [])) ∷ tokens_from (at + 1) rest
 last_byte at b [] h = refl
 last_byte at b (c ∷ rest) h =
     let two : at + 1 + 1 ≡ at + 2 = omega arith in
     let later : From (at + 2) (tokens_from (at + 1 + 1) rest) = rw (← two) (from-tokens (at + 1 + 1) rest) in
-    apart-chosen (is_space c) (c == 40) (c == 41) (c == 44) at b (tokens_from (at + 1 + 1) rest) (join (at + 1) c (tokens_from (at + 1 + 1) rest)) h later
-
-abbrev AllWord : List ℕ → Type 0
-AllWord [] = Unit {0}
-AllWord (b ∷ bs) = (is_word b ≡ true) × AllWord bs
+    apart-token_by_byte (is_space c) (c == 40) (c == 41) (c == 44) at b (tokens_from (at + 1 + 1) rest) (join (at + 1) c (tokens_from (at + 1 + 1) rest)) h later
 
 first_byte : (at b : ℕ) (bs : List ℕ) → is_word b ≡ true → tokens_from at (b ∷ bs) ≡ join at b (tokens_from (at + 1) bs)
-first_byte at b bs h = chosen_word (is_space b) (b == 40) (b == 41) (b == 44) at (tokens_from (at + 1) bs) (join at b (tokens_from (at + 1) bs)) h
+first_byte at b bs h = token_of_letter (is_space b) (b == 40) (b == 41) (b == 44) at (tokens_from (at + 1) bs) (join at b (tokens_from (at + 1) bs)) h
 
-whole_word : (at b : ℕ) (w rest : List ℕ) → is_word b ≡ true → AllWord w → Stops rest → tokens_from at (b ∷ w ++ rest) ≡ (at, Word (b ∷ w)) ∷ tokens_from (at + suc (length w)) rest
+pub whole_word : (at b : ℕ) (w rest : List ℕ) → is_word b ≡ true → AllWord w → Stops rest → tokens_from at (b ∷ w ++ rest) ≡ (at, Word (b ∷ w)) ∷ tokens_from (at + suc (length w)) rest
 whole_word at b [] rest h all stops = first_byte at b rest h ∙ last_byte at b rest stops
 whole_word at b (c ∷ w) rest h all stops =
     let ih : tokens_from (at + 1) (c ∷ w ++ rest) ≡ (at + 1, Word (c ∷ w)) ∷ tokens_from (at + 1 + suc (length w)) rest = whole_word (at + 1) c w rest all.0 all.1 stops in
@@ -97,7 +89,7 @@ all-word (suc n) at text le h =
     let lt : at < length text = omega arith in
     rw (drop-cons text at 0) (h at (omega arith) (omega arith), all-word n (suc at) text (omega arith) (λ k a b. h k (omega arith) (omega arith)))
 
-stops-at : (i : ℕ) (text : List ℕ) → (i < length text → is_word (get_or text i 0) ≡ false) → Stops (drop i text)
+pub stops-at : (i : ℕ) (text : List ℕ) → (i < length text → is_word (get_or text i 0) ≡ false) → Stops (drop i text)
 stops-at i text h = elim (cases_lt i (length text)) [
   | inl lt ↦ rw (drop-cons text i 0) (h lt)
   | inr le ↦ rw (nil_from_length (drop i text) (simp length-drop (omega arith))) tt

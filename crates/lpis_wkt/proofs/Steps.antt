@@ -4,11 +4,11 @@ use Rattle.std.proofs.lemmas.Bool.Decides.{nat_tests}
 use Rattle.lpis_points.specs.declared.point.Point.{Point}
 use Rattle.lpis_rings.specs.Ring.{IsRing}
 use Rattle.lpis_wkt.specs.declared.fault.WktCode.{WktCode}
-use Rattle.lpis_wkt.specs.declared.number.Coordinate.{Coordinate}
+use Rattle.lpis_wkt.specs.declared.coordinate.Coordinate.{Coordinate}
 use Rattle.lpis_wkt.specs.Tokens.{Token, Word}
 use Rattle.lpis_wkt.specs.Grammar.{is_polygon, is_multi}
 use Rattle.lpis_wkt.specs.Table.{keyword_code}
-use Rattle.lpis_wkt.specs.Machine.{Context, State, AfterKeyword, AfterRing, with_coordinate, with_ring, close_ring, is_closed, keyword, step, and_then, run, limited_step, limited_run}
+use Rattle.lpis_wkt.specs.Machine.{Context, State, AfterKeyword, AfterRing, with_coordinate, with_ring, close_ring, keyword, step, and_then, run, limited_step, limited_run}
 use Rattle.lpis_wkt.proofs.Points.{is_closed-true}
 
 pub then-ok : {A B E : Type 0} (r : Result A E) (f : A → Result B E) (z : B) → and_then r f ≡ Ok z → (v : A) × (r ≡ Ok v) × (f v ≡ Ok z)

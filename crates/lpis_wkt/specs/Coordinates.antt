@@ -1,32 +1,32 @@
 -- A number with the fact that it is in range. Machinery: only private contracts cite this file.
-use Rattle.std.specs.Prelude.{◌≡◌, ℕ, ◌≤◌, Bool, true, false, not, cond, List, ℤ, pos, neg_ℤ, nat_abs, nat_lt, Result, Ok, Err, refl}
+use Rattle.std.specs.Prelude.{◌≡◌, ℕ, ◌≤◌, Bool, true, false, not, cond, List, ℤ, nat_lt, Result, Ok, Err, refl}
 use Rattle.std.proofs.Common.{arith}
 use Rattle.std.proofs.lemmas.Int.{ints}
 use Rattle.std.proofs.lemmas.Bool.Decides.{nat_tests}
-use Rattle.lpis_points.specs.Range.{limit, IsInRange}
+use Rattle.lpis_points.specs.Range.{IsInRange}
 use Rattle.lpis_points.specs.declared.point.Point.{Point}
 use Rattle.lpis_wkt.specs.declared.fault.WktCode.{WktCode}
-use Rattle.lpis_wkt.specs.declared.number.Coordinate.{Coordinate}
-use Rattle.lpis_wkt.specs.Number.{number, is_numeral, is_fine, is_negative, size, signed}
+use Rattle.lpis_wkt.specs.declared.coordinate.Coordinate.{Coordinate}
+use Rattle.lpis_wkt.specs.Number.{number, is_numeral, is_fine, is_negative, size, signed, greatest}
 
-signed-in_range : (negative : Bool) (n : ℕ) → n ≤ 2000000000 → IsInRange (signed negative n)
+signed-in_range : (negative : Bool) (n : ℕ) → n ≤ greatest → IsInRange (signed negative n)
 signed-in_range false n le = (omega (arith, ints), omega (arith, ints))
 signed-in_range true n le = (omega (arith, ints), omega (arith, ints))
 
-in_range-by : (a b c : Bool) (x y z : WktCode) (negative : Bool) (n : ℕ) (v : ℤ) → (c ≡ false → n ≤ 2000000000)
+in_range-by : (a b c : Bool) (x y z : WktCode) (negative : Bool) (n : ℕ) (v : ℤ) → (c ≡ false → n ≤ greatest)
     → cond (not a) (Err x) (cond (not b) (Err y) (cond c (Err z) (Ok (signed negative n)))) ≡ Ok v → IsInRange v
 in_range-by true true false x y z negative n v le h = let e : signed negative n ≡ v = cc in rw (← e) (signed-in_range negative n (le refl))
 in_range-by true true true x y z negative n v le h = cc
 in_range-by true false c x y z negative n v le h = cc
 in_range-by false b c x y z negative n v le h = cc
 
-within : (n : ℕ) → nat_lt 2000000000 n ≡ false → n ≤ 2000000000
+within : (n : ℕ) → nat_lt greatest n ≡ false → n ≤ greatest
 within n h = grind (arith, nat_tests)
 
 -- a number is in range
 pub number-in_range : (w : List ℕ) (z : ℤ) → number w ≡ Ok z → IsInRange z
 unfolding number
-number-in_range w z h = in_range-by (is_numeral w) (is_fine w) (nat_lt 2000000000 (size w)) _ _ _ (is_negative w) (size w) z (within (size w)) h
+number-in_range w z h = in_range-by (is_numeral w) (is_fine w) (nat_lt greatest (size w)) _ _ _ (is_negative w) (size w) z (within (size w)) h
 
 abbrev pub with_range : (r : Result ℤ WktCode) → ((z : ℤ) → r ≡ Ok z → IsInRange z) → Result Coordinate WktCode
 with_range (Ok z) h = Ok (record { value = z; in_range = h z refl })

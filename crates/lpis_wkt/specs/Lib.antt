@@ -9,3 +9,5 @@ pub mod Answer
 pub mod Coordinates
 pub mod Machine
 pub mod Views
+pub mod Parsing
+pub mod Runs

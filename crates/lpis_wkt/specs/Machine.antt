@@ -6,7 +6,7 @@ use Rattle.lpis_rings.specs.declared.polygon.Member.{Member}
 use Rattle.lpis_rings.specs.Polygon.{points_in, points_of, most_points}
 use Rattle.lpis_wkt.specs.declared.fault.WktCode.{WktCode}
 use Rattle.lpis_wkt.specs.declared.fault.WktCode.TheVariants.{Keyword, Dimension, TooFewPoints, NotClosed, Syntax, TooManyPoints}
-use Rattle.lpis_wkt.specs.declared.number.Coordinate.{Coordinate}
+use Rattle.lpis_wkt.specs.declared.coordinate.Coordinate.{Coordinate}
 use Rattle.lpis_wkt.specs.Tokens.{Token, Open, Close, Comma, Word, End}
 use Rattle.lpis_wkt.specs.Coordinates.{coordinate, point_of}
 use Rattle.lpis_wkt.specs.Grammar.{is_polygon, is_multi}

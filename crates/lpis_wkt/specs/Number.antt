@@ -11,7 +11,7 @@ use Rattle.lpis_wkt.specs.declared.fault.WktCode.TheVariants.{NotANumber, TooFin
 abbrev pub coordinate_decimals : ℕ
 coordinate_decimals = 2
 
--- the word without its sign
+-- the word without its `+` or `-`
 abbrev pub unsigned : List ℕ → List ℕ
 unsigned [] = []
 unsigned (b ∷ bs) = cond ((b == 43) || (b == 45)) bs (b ∷ bs)
@@ -23,7 +23,7 @@ is_negative (b ∷ bs) = b == 45
 abbrev pub is_point : ℕ → Bool
 is_point b = b == 46
 
--- the digits before the point, and those after it
+-- what stands before the point, and what after it
 abbrev pub whole : List ℕ → List ℕ
 whole w = before_first is_point (unsigned w)
 
@@ -47,6 +47,10 @@ padded zero ds = []
 padded (suc n) [] = 48 ∷ padded n []
 padded (suc n) (d ∷ ds) = d ∷ padded n ds
 
+-- the greatest size of a coordinate
+abbrev pub greatest : ℕ
+greatest = nat_abs limit
+
 -- the number in units of the last decimal of a coordinate, without its sign
 abbrev pub size : List ℕ → ℕ
 size w = digits_value 10 (whole w ++ padded coordinate_decimals (decimals w))
@@ -54,9 +58,10 @@ size w = digits_value 10 (whole w ++ padded coordinate_decimals (decimals w))
 abbrev pub signed : Bool → ℕ → ℤ
 signed negative n = cond negative (neg_ℤ (pos n)) (pos n)
 
+-- the coordinate of a word, or what is wrong with it: no number, too many decimals, out of range
 unfoldable pub number : List ℕ → Result ℤ WktCode
 number w =
     cond (not (is_numeral w)) (Err NotANumber)
     (cond (not (is_fine w)) (Err TooFine)
-    (cond (nat_lt (nat_abs limit) (size w)) (Err OutOfRange)
+    (cond (nat_lt greatest (size w)) (Err OutOfRange)
     (Ok (signed (is_negative w) (size w)))))

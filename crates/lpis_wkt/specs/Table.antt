@@ -1,10 +1,10 @@
 -- The table of faults: what is expected after some tokens, what comes, and the code.
-use Rattle.std.specs.Prelude.{◌≡◌, ℕ, ◌+◌, ◌<◌, cond, ◌==◌, ◌||◌, Bool, List, [], ◌∷◌, ◌++◌, length, take, Result, Ok, Err, codes, nat_lt}
+use Rattle.std.specs.Prelude.{◌≡◌, ℕ, ◌<◌, cond, ◌==◌, ◌||◌, Bool, List, [], ◌∷◌, ◌++◌, length, take, Result, Ok, Err, codes, nat_lt}
 use Rattle.std.specs.Str.{str_eq_ignore_ascii_case}
 use Rattle.lpis_points.specs.declared.point.Point.{Point}
 use Rattle.lpis_wkt.specs.declared.fault.WktCode.{WktCode}
 use Rattle.lpis_wkt.specs.declared.fault.WktCode.TheVariants.{Keyword, Empty, Dimension, TooFewPoints, NotClosed, Syntax, TooManyPoints}
-use Rattle.lpis_wkt.specs.Tokens.{Token, Open, Close, Comma, Word, End, kinds}
+use Rattle.lpis_wkt.specs.Tokens.{Token, Open, Close, Word, End, kinds}
 use Rattle.lpis_wkt.specs.Number.{number}
 use Rattle.lpis_wkt.specs.Grammar.{PointText, Commas}
 use Rattle.lpis_wkt.specs.Viable.{Stands, Viable, words, most_words}

@@ -2,6 +2,8 @@
 use Rattle.std.specs.Prelude.{ℕ, List}
 use Rattle.lpis_rings.specs.declared.polygon.Member.{Member}
 use Rattle.lpis_wkt.specs.declared.fault.WktCode.{WktCode}
+use Rattle.lpis_wkt.specs.declared.fault.WktFault.{WktFault}
+use Rattle.lpis_wkt.specs.declared.fault.WktFault.TheVariants.{Memory, At}
 use Rattle.lpis_wkt.specs.Tokens.{tokens, kinds}
 use Rattle.lpis_wkt.specs.Grammar.{Accepts}
 use Rattle.lpis_wkt.specs.Table.{FirstFault}
@@ -13,3 +15,8 @@ PolygonText text members = Accepts (kinds (tokens text)) members
 -- the first fault of a text has this code, and stands at this offset in bytes
 unfoldable pub TextFault : List ℕ → WktCode → ℕ → Type 0
 TextFault text code offset = FirstFault (tokens text) code offset
+
+-- a fault that is not of memory is the first of the text
+abbrev pub IsTextFault : List ℕ → WktFault → Type 0
+IsTextFault text Memory = Unit {0}
+IsTextFault text (At code offset) = TextFault text code offset

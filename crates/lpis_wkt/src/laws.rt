@@ -1,9 +1,11 @@
 //! Laws of the definitions: functions that do nothing, and whose contracts say them.
 
-ghost use Rattle.std.specs.Prelude.{◌≡◌, ◌↔◌, ◌⊎◌, ℕ, List, [], ◌∷◌, ◌++◌, Ok, Err};
+ghost use Rattle.std.specs.Prelude.{◌≡◌, ◌↔◌, ◌⊎◌, ◌*◌, ◌^◌, ℕ, ℤ, nat_abs, length, List, [], ◌∷◌, ◌++◌, Ok, Err};
 ghost use Rattle.lpis_rings.specs.declared.polygon.Member.{Member};
 ghost use Rattle.lpis_wkt.specs.declared.fault.WktCode.{WktCode};
 ghost use Rattle.lpis_wkt.specs.Answer.{polygon_of};
+ghost use Rattle.std.specs.Str.Parse.{digits_value};
+ghost use Rattle.lpis_wkt.specs.Number.{coordinate_decimals, decimals, number, whole};
 ghost use Rattle.lpis_wkt.specs.Table.{TableCode};
 ghost use Rattle.lpis_wkt.specs.Text.{PolygonText, TextFault};
 ghost use Rattle.lpis_wkt.specs.Tokens.{Token};
@@ -27,4 +29,10 @@ pub fn function_of_text()
 /// token that cannot stand after them.
 pub fn one_code()
     ensures { (before : List Token) (t : Token) (code code' : WktCode) → Viable before → (Viable (before ++ t ∷ []) → ⊥) → TableCode before t code → TableCode before t code' → code ≡ code' }
+{}
+
+/// A number is read exactly: with as many digits more as it has decimals, it is what its digits spell with the decimals of
+/// a coordinate more. So 1.25 metres are 125 centimetres: 125 * 10^2 is 10^2 * 125.
+pub fn exact_numbers()
+    ensures { (word : List ℕ) (z : ℤ) → number word ≡ Ok z → nat_abs z * 10 ^ length (decimals word) ≡ 10 ^ coordinate_decimals * digits_value 10 (whole word ++ decimals word) }
 {}

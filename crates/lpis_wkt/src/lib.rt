@@ -1,11 +1,19 @@
-//! Well-known text of polygons.
+//! Well-known text of polygons: [`read`] gives the polygon that a text such as `POLYGON((0 0,10 0,10 10,0 10,0 0))`
+//! spells, or tells the first fault of the text.
 #![tactic(auto)]
 
+mod coordinate;
 mod fault;
-mod laws;
+pub mod laws;
 mod number;
+mod parser;
+mod reading;
+mod scanning;
 mod tokens;
 mod words;
 
 pub use fault::{WktCode, WktFault};
-pub use laws::{function_of_text, one_answer, one_code};
+pub use reading::read;
+
+#[cfg(test)]
+mod tests;

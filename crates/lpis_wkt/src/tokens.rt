@@ -1,9 +1,13 @@
 //! The tokens of a text, one at a time.
 
-ghost use Rattle.std.specs.Prelude.{◌≡◌, ◌<◌, ◌≤◌, [], ◌∷◌, false, true, length, drop, slice_index, slice_range, MatchOption};
-ghost use Rattle.lpis_wkt.specs.Tokens.{Word, is_space, is_word, tokens_from};
+ghost use Rattle.std.specs.Bool.{MatchBool};
+ghost use Rattle.std.specs.Prelude.{◌≡◌, ℕ, ◌<◌, ◌≤◌, List, [], ◌∷◌, false, true, Ok, length, drop, slice_index, slice_range, MatchOption};
+ghost use Rattle.lpis_wkt.specs.Tokens.{Comma, Word, is_space, is_word, tokens_from};
+ghost use Rattle.lpis_wkt.specs.Coordinates.{coordinate};
 ghost use Rattle.lpis_wkt.specs.Views.{placed};
 
+use crate::coordinate::Coordinate;
+use crate::scanning::common_coordinate;
 use std::marker::Model;
 
 /// A `(`, a `)`, a `,` or a word, which is borrowed from the text.
@@ -48,7 +52,7 @@ fn is_space(b: u8) -> bool
 }
 
 /// Whether the byte belongs to a word.
-fn is_word(b: u8) -> bool
+pub fn is_word(b: u8) -> bool
     ensures { result ≡ is_word b }
 {
     !(is_space(b) || b == b'(' || b == b')' || b == b',')
@@ -120,5 +124,31 @@ impl<'a> Tokens<'a> {
         self.at = end;
         let token = Token::Word(&self.text[offset..end]);
         Some(Placed { token, offset })
+    }
+
+    /// The coordinate of the next token, if it is a word that is written as most are; else nothing is taken.
+    pub fn next_coordinate(&mut self) -> Option<Coordinate>
+        ensures { MatchOption result (self.new ≡ self.old) (λ z. (offset : ℕ) × (word : List ℕ) × (coordinate word ≡ Ok z) × (self.old ≡ (offset, Word word) ∷ self.new)) }
+    {
+        let offset = past_space(self.text, self.at);
+        if offset == self.text.len() {
+            return None;
+        }
+        let (value, end) = common_coordinate(self.text, offset)?;
+        self.at = end;
+        Some(value)
+    }
+
+    /// Whether the next token is a `,`, which is taken then; else nothing is.
+    pub fn next_comma(&mut self) -> bool
+        ensures { MatchBool result ((offset : ℕ) × (self.old ≡ (offset, Comma) ∷ self.new)) (self.new ≡ self.old) }
+    {
+        let offset = past_space(self.text, self.at);
+        if offset < self.text.len() && self.text[offset] == b',' {
+            self.at = offset + 1;
+            true
+        } else {
+            false
+        }
     }
 }

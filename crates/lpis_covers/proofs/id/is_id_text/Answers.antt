@@ -1,8 +1,6 @@
-use Rattle.std.proofs.Common.{◌≡◌, rules, length, true, arith, ℕ}
+use Rattle.std.proofs.Common.{◌≡◌, length, true, arith}
 use Rattle.std.specs.Prelude.{nat_le}
-use Rattle.std.specs.List.{list_all}
 use Rattle.std.proofs.lemmas.Bool.Decides.{nat_tests}
-use Rattle.lpis_covers.specs.Ids.{is_id_byte}
 use Rattle.lpis_covers.proofs.id.is_id_text.Goals as goal
 
 pub returns-then-bytes-le-LONGEST_ID : goal.returns-then-bytes-le-LONGEST_ID

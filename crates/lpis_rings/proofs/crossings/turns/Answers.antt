@@ -4,10 +4,11 @@ use Rattle.lpis_points.specs.declared.point.Point.{Point}
 use Rattle.lpis_points.specs.RatPoints.{rational_of}
 use Rattle.lpis_points.proofs.Odd.{crossing-small}
 use Rattle.lpis_rings.specs.Edges.{edge_turns}
+use Rattle.lpis_rings.specs.Polygon.{most_points}
 use Rattle.lpis_rings.proofs.crossings.turns.Goals as goal
 
 -- one more edge, as the code's numbers have it
-next_sum : (sum r c x left next all : ℤ) (n m : ℕ) → r ≡ to_z w8 (of_z w8 c) → c ≡ x → nat_abs x ≤ 1 → sum +ℤ left ≡ all → left ≡ x +ℤ next → nat_abs sum + n ≤ 100000 → n ≡ suc m → (to_z w64 (of_z w64 (sum +ℤ to_z w64 (of_z w64 r))) +ℤ next ≡ all) × (nat_abs (to_z w64 (of_z w64 (sum +ℤ to_z w64 (of_z w64 r)))) + m ≤ 100000)
+next_sum : (sum r c x left next all : ℤ) (n m : ℕ) → r ≡ to_z w8 (of_z w8 c) → c ≡ x → nat_abs x ≤ 1 → sum +ℤ left ≡ all → left ≡ x +ℤ next → nat_abs sum + n ≤ most_points → n ≡ suc m → (to_z w64 (of_z w64 (sum +ℤ to_z w64 (of_z w64 r))) +ℤ next ≡ all) × (nat_abs (to_z w64 (of_z w64 (sum +ℤ to_z w64 (of_z w64 r)))) + m ≤ most_points)
 next_sum sum r c x left next all n m e f h k l few g = omega (arith, ints)
 
 pub loop-a-preserved : goal.loop-a-preserved

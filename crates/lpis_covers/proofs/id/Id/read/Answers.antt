@@ -1,5 +1,4 @@
-use Rattle.std.proofs.Common.{◌≡◌, ◌∙◌, sym, ap, rules}
-use Rattle.lpis_covers.specs.Ids.{is_id}
+use Rattle.std.proofs.Common.{◌∙◌, sym}
 use Rattle.lpis_covers.proofs.IdLemmas.{id-utf8}
 use Rattle.lpis_covers.proofs.id.Id.read.Goals as goal
 

@@ -1,5 +1,4 @@
-use Rattle.std.proofs.Common.{◌≡◌, ◌∙◌, ◌++◌, ◌∷◌, [], List, sym, ap, true, rules}
-use Rattle.std.specs.Result.{is_ok}
+use Rattle.std.proofs.Common.{◌∙◌, ◌++◌, ◌∷◌, [], List, ap}
 use Rattle.lpis_covers.proofs.KeyedLemmas.{keyed-push}
 use Rattle.lpis_covers.proofs.keyed.Keyed.push.Goals as goal
 

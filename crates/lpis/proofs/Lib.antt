@@ -1,0 +1,3 @@
+pub mod AreaLemmas
+pub mod CommandLemmas
+pub mod RunLemmas

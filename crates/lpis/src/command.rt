@@ -1,0 +1,79 @@
+//! The command line.
+
+ghost use Rattle.std.specs.Prelude.{◌≡◌, IfOk, false, map};
+ghost use Rattle.clap.specs.Words.{FailsBy, rule_of, fault_of, subcommand_of};
+ghost use Rattle.lpis.specs.Command.{IsCommand, IsCommandOf, area_app, command_line_app, word_rule};
+
+use clap::{Arg, ArgAction, Command, Error};
+use std::alloc::{AllocError, Global};
+
+/// What the words of a command line ask for.
+#[derive(Clone, Copy, Debug, Drop)]
+pub enum Cmd<'a> {
+    /// The areas of the polygons of a table.
+    Area {
+        /// The table's path.
+        file: &'a str,
+    },
+}
+
+/// An argument with the text that help has for it.
+fn described<'a>(argument: Arg<'a>, text: &'a str) -> Arg<'a>
+    ensures rule { rule_of result ≡ rule_of argument.entry }
+    ensures local { result.global ≡ argument.entry.global }
+{
+    argument.help(text)
+}
+
+/// A required argument of one word.
+fn word_argument<'a>(alloc: Global, id: &'a str) -> Arg<'a>
+    ensures rule { rule_of result ≡ word_rule id.entry.now }
+    ensures local { result.global ≡ false }
+{
+    Arg::new(alloc, id).required(true).action(ArgAction::Set)
+}
+
+/// `area FILE`.
+fn area_command<'a>(alloc: Global) -> Result<Command<'a>, AllocError>
+    ensures { IfOk result (λ c. IsCommandOf area_app c) }
+{
+    let file = word_argument(alloc, "file");
+    let file = described(file, "A table in CSV with a column `wkt`");
+    Command::new(alloc, "area")
+        .about("Prints the area of each polygon of a table, in square metres")
+        .arg(file)
+}
+
+/// The program's command line: one of its commands, which has to be there.
+fn command_line<'a>(alloc: Global) -> Result<Command<'a>, AllocError>
+    ensures { IfOk result (λ c. IsCommandOf command_line_app c) }
+{
+    let area = area_command(alloc)?;
+    Command::new(alloc, "lpis")
+        .about("Checks the releases of a Land Parcel Identification System")
+        .subcommand_required(true)
+        .subcommand(area)
+}
+
+/// The command that the words ask for, the program's name being the first of them.
+///
+/// The error has `clap`'s text and exit code; want of memory is its kind `OutOfMemory`.
+pub fn command_of<'a>(alloc: Global, words: &'a [&'a str]) -> Result<Cmd<'a>, Error>
+    ensures command { IfOk result (λ c. IsCommand c (subcommand_of command_line_app (map (λ s. s.now) words.entry.now))) }
+    ensures kinds { FailsBy (fault_of command_line_app (map (λ s. s.now) words.entry.now)) result }
+{
+    let mut line = command_line(alloc)?;
+    let matches = match line.try_get_matches_from_mut(words) {
+        Ok(matches) => matches,
+        Err(error) => return Err(error),
+    };
+    if let Some((name, inner)) = matches.subcommand() {
+        if name == "area" {
+            if let Some(file) = inner.get_str("file") {
+                return Ok(Cmd::Area { file });
+            }
+        }
+    }
+    // No accepted line comes here: a command and its words are required.
+    Err(Error::from(AllocError))
+}

@@ -1,0 +1,79 @@
+//! The release checker of a Land Parcel Identification System.
+#![tactic(auto)]
+
+pub mod command;
+pub mod failure;
+pub mod printing;
+pub mod reading;
+pub mod refusal;
+pub mod running;
+pub mod status;
+
+use clap::error::ErrorKind;
+use command::{Cmd, command_of};
+use failure::{Failure, Name, print_failure};
+use running::run_area;
+use status::{DONE, FAILED, UNREADABLE};
+use std::process::ExitCode;
+use std::{env, fs, io};
+
+/// Ends with the status of the command, or tells on standard error why there is none.
+fn main(rt: HostRuntime) -> ExitCode {
+    let status = match run(&rt) {
+        Ok(status) => status,
+        Err(failure) => {
+            // Where standard error is closed, the status alone tells.
+            let _ = print_failure(failure, &mut rt.stderr());
+            FAILED
+        }
+    };
+    ExitCode::from(status)
+}
+
+/// Runs the command that the words of the command line ask for.
+fn run(rt: &HostRuntime) -> Result<u8, Failure> {
+    let alloc = rt.alloc();
+    let words: Vec<String> = match env::args(rt) {
+        Ok(words) => words.collect(alloc)?,
+        Err(error) if error.kind() == io::ErrorKind::InvalidData => {
+            let _ = eprintln!(rt; "error: a word of the command line is not UTF-8");
+            return Ok(UNREADABLE);
+        }
+        Err(_) => return Err(Failure::Memory),
+    };
+    let mut texts: Vec<&str> = Vec::new(alloc);
+    for word in &words {
+        texts.push(word.as_str())?;
+    }
+    match command_of(alloc, texts.as_slice()) {
+        Ok(Cmd::Area { file }) => area(rt, file),
+        Err(error) => tell(rt, &error),
+    }
+}
+
+/// `area FILE`.
+fn area(rt: &HostRuntime, file: &str) -> Result<u8, Failure> {
+    match fs::open(rt, file) {
+        Ok(table) => run_area(rt.alloc(), table, &mut rt.stdout()),
+        Err(_) => Err(Failure::Read(Name::Area)),
+    }
+}
+
+/// Prints the text of `clap`: a fault of the command line on standard error, help on standard output.
+fn tell(rt: &HostRuntime, error: &clap::Error) -> Result<u8, Failure> {
+    if error.kind() == ErrorKind::OutOfMemory {
+        return Err(Failure::Memory);
+    }
+    let printed = error.print(rt);
+    if error.use_stderr() {
+        // Where standard error is closed, the status alone tells.
+        return Ok(UNREADABLE);
+    }
+    match printed {
+        Ok(()) => Ok(DONE),
+        Err(_) => Err(Failure::Write(Name::Out)),
+    }
+}
+
+#[cfg(test)]
+mod tests;

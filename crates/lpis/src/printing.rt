@@ -1,0 +1,58 @@
+//! Printed areas.
+
+ghost use Rattle.std.specs.Prelude.{◌≡◌, ◌≤◌, ◌^◌, OnOk, nat_abs};
+ghost use Rattle.std.specs.Io.KnownBytes.{Appends};
+ghost use Rattle.lpis.specs.Area.{area_line, area_text};
+ghost use Rattle.lpis.specs.declared.printing.PrintFault.{PrintFault};
+
+use std::io;
+use std::io::Write;
+use thiserror::Error;
+
+/// Why a text was not written.
+#[derive(Clone, Copy, Debug, PartialEq, Eq, Drop, Error)]
+pub enum PrintFault {
+    /// A growth was refused.
+    #[error("out of memory")]
+    Memory,
+    /// The writer answered an error.
+    #[error("the text could not be written")]
+    Write,
+}
+
+impl From<io::Error> for PrintFault {
+    ghost from_gives = { λ _ e. e ≡ PrintFault.Write };
+
+    fn from(_e: io::Error) -> PrintFault {
+        PrintFault::Write
+    }
+}
+
+/// How many units of a printed area's last decimal one doubled square centimetre has.
+const UNITS: u128 = 5;
+
+/// How many units of a printed area's last decimal one square metre has.
+const SQUARE_METRE: u128 = 100_000;
+
+/// Writes an area of `d` doubled square centimetres in square metres, with every decimal.
+pub fn print_area<W: Write>(d: i128, out: &mut W) -> Result<(), PrintFault>
+    requires { nat_abs d ≤ 10 ^ 36 }
+    ensures { OnOk result (Appends (W.contents out.old) (W.contents out.new) (area_text d)) }
+{
+    let units = UNITS * d.unsigned_abs();
+    let whole = units / SQUARE_METRE;
+    let rest = units % SQUARE_METRE;
+    let sign = if d < 0 { "-" } else { "" };
+    write!(out, "{sign}{whole}.{rest:05}")?;
+    Ok(())
+}
+
+/// Writes an area on a line of its own.
+pub fn print_line<W: Write>(d: i128, out: &mut W) -> Result<(), PrintFault>
+    requires { nat_abs d ≤ 10 ^ 36 }
+    ensures { OnOk result (Appends (W.contents out.old) (W.contents out.new) (area_line d)) }
+{
+    print_area(d, out)?;
+    out.write_all(b"\n")?;
+    Ok(())
+}

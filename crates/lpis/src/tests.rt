@@ -1,0 +1,44 @@
+//! Worked rows, with values from outside the program.
+
+mod areas;
+mod commands;
+mod devices;
+mod large;
+mod tables;
+
+use crate::running::run_area;
+use std::test::Fail;
+
+/// A square of ten metres.
+static SQUARE: &str = "POLYGON((0 0,10 0,10 10,0 10,0 0))";
+
+/// A table with the column `wkt` and this one text.
+fn table_of(rt: &HostRuntime, text: &str) -> Result<String, Fail> {
+    Ok(format!(in rt.alloc(); "wkt\n\"{text}\"\n")?)
+}
+
+/// Fails unless `area` writes this text of a table and answers this status.
+fn expect_area(rt: &HostRuntime, table: &[u8], text: &str, status: u8) -> Result<(), Fail> {
+    let mut out = Vec::new(rt.alloc());
+    let answer = run_area(rt.alloc(), table, &mut out)?;
+    if out.as_slice() != text.as_bytes() {
+        let written = str::from_utf8(out.as_slice()).unwrap_or("no text");
+        return Err(Fail::new(format_args!("{written} in place of {text}")));
+    }
+    if answer != status {
+        return Err(Fail::new(format_args!("status {answer} at {text}")));
+    }
+    Ok(())
+}
+
+/// Fails unless the area of one polygon is this, with status 0.
+fn expect_line(rt: &HostRuntime, text: &str, line: &str) -> Result<(), Fail> {
+    let lines = format!(in rt.alloc(); "{line}\n")?;
+    expect_area(rt, table_of(rt, text)?.as_bytes(), lines.as_str(), 0)
+}
+
+/// Fails unless a text is refused with this fault, with status 2.
+fn expect_wkt_fault(rt: &HostRuntime, text: &str, fault: &str) -> Result<(), Fail> {
+    let line = format!(in rt.alloc(); "refused 38 area row 1 wkt {fault}\n")?;
+    expect_area(rt, table_of(rt, text)?.as_bytes(), line.as_str(), 2)
+}

@@ -1,0 +1,155 @@
+//! Readers and writers that fail in mid-stream.
+
+use super::{SQUARE, table_of};
+use crate::failure::{Failure, Name, print_failure};
+use crate::reading::{ReadFault, read_all};
+use crate::running::run_area;
+use std::io;
+use std::io::{Error, ErrorKind, Read, Write};
+use std::test::Fail;
+
+/// A reader that is always interrupted, and counts the reads.
+#[derive(Drop)]
+struct Interrupted<'a> {
+    reads: &'a mut u32,
+}
+
+impl Read for Interrupted<'_> {
+    fn read(&mut self, _buf: &mut [u8]) -> io::Result<usize> {
+        *self.reads = self.reads.saturating_add(1);
+        Err(Error::from(ErrorKind::Interrupted))
+    }
+}
+
+/// A reader of single bytes with an interruption before each, which fails where `left` bytes were read, if it is told.
+#[derive(Drop)]
+struct Halting<'a> {
+    bytes: &'a [u8],
+    is_interrupted: bool,
+    left: Option<usize>,
+}
+
+impl Read for Halting<'_> {
+    fn read(&mut self, buf: &mut [u8]) -> io::Result<usize> {
+        self.is_interrupted = !self.is_interrupted;
+        if self.is_interrupted {
+            return Err(Error::from(ErrorKind::Interrupted));
+        }
+        if self.left == Some(0) {
+            return Err(Error::from(ErrorKind::Other));
+        }
+        let Some((first, rest)) = self.bytes.split_first() else {
+            return Ok(0);
+        };
+        let Some(place) = buf.first_mut() else {
+            return Ok(0);
+        };
+        *place = *first;
+        self.bytes = rest;
+        self.left = self.left.map(|left| left.saturating_sub(1));
+        Ok(1)
+    }
+}
+
+/// A writer that takes so many bytes, and then fails.
+#[derive(Drop)]
+struct Full {
+    room: usize,
+}
+
+impl Write for Full {
+    fn write(&mut self, buf: &[u8]) -> io::Result<usize> {
+        if self.room == 0 {
+            return Err(Error::from(ErrorKind::StorageFull));
+        }
+        let taken = buf.len().min(self.room);
+        self.room -= taken;
+        Ok(taken)
+    }
+
+    fn flush(&mut self) -> io::Result<()> {
+        Ok(())
+    }
+}
+
+#[test]
+fn reads_are_counted(rt: HostRuntime) -> Result<(), Fail> {
+    let mut reads = 0;
+    let fault = read_all(rt.alloc(), Interrupted { reads: &mut reads }, 4);
+    assert!(rt; matches!(fault, Err(ReadFault::Read)));
+    assert_eq!(rt; reads, 24);
+    Ok(())
+}
+
+#[test]
+fn inputs_have_a_limit(rt: HostRuntime) -> Result<(), Fail> {
+    let all = read_all(rt.alloc(), b"abcd".as_slice(), 4)?;
+    assert!(rt; all.as_slice() == b"abcd".as_slice());
+    let fault = read_all(rt.alloc(), b"abcde".as_slice(), 4);
+    assert!(rt; matches!(fault, Err(ReadFault::TooLong)));
+    Ok(())
+}
+
+#[test]
+fn a_reader_may_halt_and_fail(rt: HostRuntime) -> Result<(), Fail> {
+    let table = table_of(&rt, SQUARE)?;
+    let mut out = Vec::new(rt.alloc());
+    let slow = Halting {
+        bytes: table.as_bytes(),
+        is_interrupted: false,
+        left: None,
+    };
+    assert_eq!(rt; run_area(rt.alloc(), slow, &mut out)?, 0);
+    assert!(rt; out.as_slice() == b"100.00000\n".as_slice());
+    for left in 0..table.len() {
+        let mut out = Vec::new(rt.alloc());
+        let failing = Halting {
+            bytes: table.as_bytes(),
+            is_interrupted: false,
+            left: Some(left),
+        };
+        let answer = run_area(rt.alloc(), failing, &mut out);
+        assert!(rt;
+            answer == Err(Failure::Read(Name::Area)),
+            "after {left} bytes"
+        );
+        assert!(rt; out.is_empty(), "after {left} bytes");
+    }
+    Ok(())
+}
+
+#[test]
+fn a_writer_may_fail(rt: HostRuntime) -> Result<(), Fail> {
+    let table = table_of(&rt, SQUARE)?;
+    for (table, length) in [(table.as_bytes(), 10), (b"".as_slice(), 22)] {
+        for room in 0..length {
+            let answer = run_area(rt.alloc(), table, &mut Full { room });
+            assert!(rt;
+                answer == Err(Failure::Write(Name::Out)),
+                "after {room} bytes"
+            );
+        }
+        assert!(rt; run_area(rt.alloc(), table, &mut Full { room: length }).is_ok());
+    }
+    Ok(())
+}
+
+#[test]
+fn failures_have_their_lines(rt: HostRuntime) -> Result<(), Fail> {
+    for (failure, line) in [
+        (Failure::Memory, "failed memory\n"),
+        (Failure::Read(Name::Area), "failed read area\n"),
+        (Failure::Read(Name::Parcels), "failed read parcels\n"),
+        (Failure::Read(Name::Covers), "failed read covers\n"),
+        (Failure::Read(Name::Classes), "failed read classes\n"),
+        (Failure::Read(Name::Lineage), "failed read lineage\n"),
+        (Failure::Write(Name::Cert), "failed write cert\n"),
+        (Failure::Write(Name::Out), "failed write out\n"),
+        (Failure::Store, "failed store\n"),
+    ] {
+        let mut out = Vec::new(rt.alloc());
+        print_failure(failure, &mut out)?;
+        assert!(rt; out.as_slice() == line.as_bytes(), "{line}");
+    }
+    Ok(())
+}

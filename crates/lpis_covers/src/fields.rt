@@ -1,0 +1,57 @@
+//! The fields of a row: identifiers and polygons.
+
+ghost use Rattle.std.specs.Prelude.{map};
+ghost use Rattle.lpis_covers.specs.Faults.{id_faults, key_faults, polygon_faults, polygon_in, told};
+ghost use Rattle.lpis_covers.specs.Table.{Answers, field_of};
+
+use crate::fault::{TableCode, TableFault};
+use crate::id::Id;
+use crate::keyed::{Identified, Keyed};
+use crate::reader::TableReader;
+use lpis_rings::Polygon;
+use lpis_wkt::{WktFault, read};
+use std::alloc::Global;
+
+impl<'a> TableReader<'a> {
+    /// The identifier in the k-th wanted field of the row that was read last.
+    pub fn id(&self, alloc: Global, k: usize) -> Result<Id, TableFault>
+        ensures { let field = field_of self.now.row k in Answers result (told (id_faults self.now.table self.now.number field) field) }
+    {
+        match Id::read(alloc, self.field(k))? {
+            Some(id) => Ok(id),
+            None => Err(self.fault(TableCode::BadIdentifier)),
+        }
+    }
+
+    /// The identifier in the k-th wanted field of the row that was read last, which no earlier row may have.
+    pub fn key<T: Identified>(
+        &self,
+        alloc: Global,
+        k: usize,
+        earlier: &Keyed<T>,
+    ) -> Result<Id, TableFault>
+        ensures { let field = field_of self.now.row k in Answers result (told (key_faults self.now.table self.now.number (map T.identifier earlier.now) field) field) }
+    {
+        let id = self.id(alloc, k)?;
+        if earlier.contains(&id) {
+            return Err(self.fault(TableCode::DoubledIdentifier));
+        }
+        Ok(id)
+    }
+
+    /// The polygon in the k-th wanted field of the row that was read last.
+    pub fn polygon(&self, alloc: Global, k: usize) -> Result<Polygon, TableFault>
+        ensures { let field = field_of self.now.row k in Answers result (told (polygon_faults self.now.table self.now.number field) (polygon_in field)) }
+    {
+        let Ok(text) = str::from_utf8(self.field(k)) else {
+            return Err(self.fault(TableCode::NotCsv));
+        };
+        match read(alloc, text) {
+            Ok(polygon) => Ok(polygon),
+            Err(WktFault::Memory) => Err(TableFault::Memory),
+            Err(WktFault::At { code, offset }) => {
+                Err(self.geometry_fault(WktFault::At { code, offset }))
+            }
+        }
+    }
+}

@@ -1,0 +1,83 @@
+//! Pieces of land cover.
+
+ghost use Rattle.lpis_covers.specs.Covers.{covers_table};
+ghost use Rattle.lpis_covers.specs.Faults.{rows_of};
+ghost use Rattle.lpis_covers.specs.Table.{Answers};
+
+use crate::fault::{Table, TableFault};
+use crate::id::Id;
+use crate::keyed::{Identified, Keyed};
+use crate::reader::TableReader;
+use crate::typed::{TableRow, read_rows};
+use lpis_rings::Polygon;
+use std::alloc::Global;
+
+/// A piece of land cover.
+#[derive(Debug, Drop)]
+pub struct Piece {
+    /// Its own identifier.
+    pub id: Id,
+    /// The parcel that it covers.
+    pub parcel: Id,
+    /// The code of its class.
+    pub class: Id,
+    /// Its land.
+    pub polygon: Polygon,
+}
+
+/// The pieces of a release by their identifiers, in the order of their table.
+pub type Pieces = Keyed<Piece>;
+
+impl Identified for Piece {
+    ghost identifier = { λ piece. piece.id };
+
+    fn id(&self) -> &Id {
+        &self.id
+    }
+}
+
+impl TableRow for Piece {
+    ghost use Rattle.std.specs.Prelude.{refl};
+    ghost use Rattle.lpis_covers.specs.declared.fault.Table.TheVariants as table;
+    ghost use Rattle.lpis_covers.specs.Covers.{covers_table, more_piece_faults};
+    ghost use Rattle.lpis_covers.specs.FreshKeys.{fresh_key};
+    ghost use Rattle.lpis_covers.specs.Table.{field_of};
+
+    ghost kind = { covers_table };
+
+    fn table() -> Table {
+        Table::Covers
+    }
+
+    fn columns() -> &'static [&'static [u8]] {
+        &[b"piece", b"parcel", b"class", b"wkt"]
+    }
+
+    fn read(
+        alloc: Global,
+        reader: &TableReader<'_>,
+        earlier: &Keyed<Piece>,
+    ) -> Result<Piece, TableFault> {
+        let id = reader.key(alloc, 0, earlier)?;
+        let parcel = reader.id(alloc, 1)?;
+        let class = reader.id(alloc, 2)?;
+        let polygon = reader.polygon(alloc, 3)?;
+        Ok(Piece {
+            id,
+            parcel,
+            class,
+            polygon,
+        })
+    }
+
+    ghost key_is_first = { λ row. refl };
+
+    ghost key_is_fresh = { λ keys n row none. fresh_key table.Covers n keys (field_of row 0) (more_piece_faults n row) none };
+}
+
+/// The pieces of the table `covers`, with the columns `piece`, `parcel`, `class` and `wkt`, or its first fault.
+pub fn read_pieces(alloc: Global, bytes: &[u8]) -> Result<Pieces, TableFault>
+    ensures { Answers result (rows_of covers_table bytes.now) }
+{
+    read_rows(alloc, bytes)
+}

@@ -1,0 +1,103 @@
+-- Identifiers compare equal exactly where they are equal; places in a history with one more release.
+use Rattle.std.proofs.Common.{◌≡◌, ◌∙◌, ◌<◌, ◌≤◌, ◌+◌, ◌⊎◌, inl, inr, refl, sym, ap, subst, arith, rules, ℕ, zero, suc, List, [], ◌∷◌, ◌++◌, length, Bool, true, false}
+use Rattle.std.specs.Prelude.{◌&&◌, ◌||◌}
+use Rattle.std.proofs.Common.{cond, take, get_or}
+use Rattle.std.proofs.lemmas.List.Folds.{list_any_more}
+use Rattle.std.specs.Ordering.{is_eq, nat_cmp}
+use Rattle.std.specs.Cmp.Lexicographic.{slice_cmp, texts_ties}
+use Rattle.std.specs.List.{list_any}
+use Rattle.std.specs.declared.cmp.Ordering.{Ordering}
+use Rattle.std.specs.declared.cmp.Ordering.TheVariants.{Less, Equal, Greater}
+use Rattle.std.proofs.lemmas.Map.Lookups.{exact_bytes}
+use Rattle.lpis_lineage.specs.declared.row.Entry.{Entry}
+use Rattle.lpis_covers.specs.Ids.{has_id, same_id}
+use Rattle.lpis_lineage.specs.Lineage.{entry_at}
+
+pub same-by_order : (a b : List ℕ) → same_id a b ≡ is_eq (slice_cmp nat_cmp a b)
+same-by_order a b = texts_ties a b
+
+-- membership in a set whose order compares the bytes
+pub has-by_order : (ids : List (List ℕ)) (q : List ℕ) → list_any (λ k. is_eq (slice_cmp nat_cmp q k)) ids ≡ has_id ids q
+has-by_order [] q = refl
+has-by_order (x ∷ xs) q = ap (λ (b : Bool). b || list_any (λ k. is_eq (slice_cmp nat_cmp q k)) xs) (sym (same-by_order q x)) ∙ ap (λ (b : Bool). same_id q x || b) (has-by_order xs q)
+
+-- a set with one identifier more
+pub add-by_order : (old new : List (List ℕ)) (id q : List ℕ) → list_any (λ k. is_eq (slice_cmp nat_cmp q k)) new ≡ cond (is_eq (slice_cmp nat_cmp id q)) true (list_any (λ k. is_eq (slice_cmp nat_cmp q k)) old) → has_id new q ≡ cond (same_id id q) true (has_id old q)
+add-by_order old new id q u =
+    sym (has-by_order new q) ∙ u ∙ ap (λ (b : Bool). cond b true (list_any (λ k. is_eq (slice_cmp nat_cmp q k)) old)) (sym (same-by_order id q))
+    ∙ ap (λ (b : Bool). cond (same_id id q) true b) (has-by_order old q)
+
+is_eq-true : (o : Ordering) → is_eq o ≡ true → o ≡ Equal
+is_eq-true Less h = cc h
+is_eq-true Equal h = refl
+is_eq-true Greater h = cc h
+
+-- identifiers that are the same are equal
+pub same-exact : (a b : List ℕ) → same_id a b ≡ true → a ≡ b
+same-exact a b h = exact_bytes a b (is_eq-true (slice_cmp nat_cmp a b) (sym (same-by_order a b) ∙ h))
+
+nat-refl : (a : ℕ) → nat_cmp a a ≡ Equal
+nat-refl a = search rules
+
+bytes-refl : (a : List ℕ) → slice_cmp nat_cmp a a ≡ Equal
+bytes-refl [] = refl
+bytes-refl (x ∷ xs) = rw (nat-refl x) (bytes-refl xs)
+
+-- an identifier is the same as itself
+pub same-refl : (a : List ℕ) → same_id a a ≡ true
+same-refl a = same-by_order a a ∙ ap is_eq (bytes-refl a)
+
+-- tests
+pub and-left : (a b : Bool) → (a && b) ≡ true → a ≡ true
+and-left true b h = refl
+and-left false b h = cc h
+
+pub and-right : (a b : Bool) → (a && b) ≡ true → b ≡ true
+and-right true b h = h
+and-right false b h = cc h
+
+pub or-cases : (a b : Bool) → (a || b) ≡ true → (a ≡ true) ⊎ (b ≡ true)
+or-cases true b h = inl refl
+or-cases false b h = inr h
+
+pub either : (b : Bool) → (b ≡ true) ⊎ (b ≡ false)
+either true = inl refl
+either false = inr refl
+
+-- places
+pub entry-before : (h : List Entry) (e : Entry) (i : ℕ) → i < length h → entry_at (h ++ e ∷ []) i ≡ entry_at h i
+entry-before [] e i lt = absurd (omega arith)
+entry-before (x ∷ h) e zero lt = refl
+entry-before (x ∷ h) e (suc i) lt = entry-before h e i (omega arith)
+
+pub entry-here : (h : List Entry) (e : Entry) → entry_at (h ++ e ∷ []) (length h) ≡ e
+entry-here [] e = refl
+entry-here (x ∷ h) e = entry-here h e
+
+pub entry-after : (h : List Entry) (i : ℕ) → length h ≤ i → entry_at h i ≡ record { year = 0; live = []; rows = [] }
+entry-after [] i le = refl
+entry-after (x ∷ h) zero le = absurd (omega arith)
+entry-after (x ∷ h) (suc i) le = entry-after h i (omega arith)
+
+-- a place holds an identifier only where there is a release
+pub in-history : (h : List Entry) (i : ℕ) (id : List ℕ) → has_id (entry_at h i).live id ≡ true → i < length h
+in-history [] i id e = cc e
+in-history (x ∷ h) zero id e = omega arith
+in-history (x ∷ h) (suc i) id e = let lt = in-history h i id e in omega arith
+
+pub same-sym : (a b : List ℕ) → same_id a b ≡ same_id b a
+same-sym a b = same-sym-by a b (same_id a b) refl (same_id b a) refl where
+  same-sym-by : (a b : List ℕ) (x : Bool) → same_id a b ≡ x → (y : Bool) → same_id b a ≡ y → same_id a b ≡ same_id b a
+  same-sym-by a b true e true f = cc
+  same-sym-by a b false e false f = cc
+  same-sym-by a b true e false f = absurd (let g : a ≡ b = same-exact a b e in let r = same-refl a in let s : same_id b a ≡ true = subst (λ (z : List ℕ). same_id z a ≡ true) g r in cc)
+  same-sym-by a b false e true f = absurd (let g : b ≡ a = same-exact b a f in let r = same-refl b in let s : same_id a b ≡ true = subst (λ (z : List ℕ). same_id z b ≡ true) g r in cc)
+
+-- one identifier more
+pub has-more : (ids : List (List ℕ)) (i : ℕ) (d key q : List ℕ) (old new : Bool) → i < length ids → key ≡ get_or ids i d → old ≡ has_id (take i ids) q → new ≡ cond (same_id key q) true old → new ≡ has_id (take (i + 1) ids) q
+has-more ids i d key q old new lt e o n = n ∙ flip (same_id key q) old ∙ ap (λ (b : Bool). b || same_id key q) o ∙ ap (λ (b : Bool). has_id (take i ids) q || b) (same-sym key q ∙ ap (same_id q) e) ∙ sym (list_any_more (same_id q) ids i d lt) where
+  flip : (a b : Bool) → cond a true b ≡ (b || a)
+  flip true true = refl
+  flip true false = refl
+  flip false true = refl
+  flip false false = refl

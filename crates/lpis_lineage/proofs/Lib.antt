@@ -1,0 +1,16 @@
+pub mod Basics
+pub mod Extends
+pub mod Clean
+pub mod SeenLemmas
+pub mod Telling
+pub mod Picking
+pub mod Accepting
+pub mod Chains
+pub mod Tallies
+pub mod SpanLaw
+pub mod SpanSteps
+pub mod FateLemmas
+pub mod KindSteps
+pub mod PopSteps
+pub mod SpanPicks
+pub mod RowsLemmas

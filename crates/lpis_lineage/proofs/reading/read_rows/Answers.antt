@@ -1,0 +1,39 @@
+use Rattle.std.proofs.Common.{◌≡◌, ◌∙◌, List, ℕ, true, false, map, Ok, refl}
+use Rattle.std.proofs.lemmas.Result.{err_from_is_err_and}
+use Rattle.lpis_covers.proofs.RowsRead.{rows-end, rows-fault, rows-push, rows-start, rows-stop}
+use Rattle.lpis_lineage.specs.declared.row.Row.{Row}
+use Rattle.lpis_lineage.specs.LineageTable.{lineage_table}
+use Rattle.lpis_lineage.proofs.RowsLemmas.{rows-answered}
+use Rattle.lpis_lineage.proofs.reading.read_rows.Goals as goal
+
+pub read_row-requires : goal.read_row-requires
+read_row-requires c = (rw c.if-branch.true at c.in_ok-next_row.ensures).3 ∙ c.rows.invariant.table
+
+pub rows-init : goal.rows-init
+rows-init c =
+    let opened = rw c.columns.ensures at c.in_ok-reader.ensures in
+    rw c.new-rows.ensures.items (rows-start lineage_table c.args.bytes.now c.in_ok-reader.reader opened)
+
+pub returns-in_err-next_row : goal.returns-in_err-next_row
+returns-in_err-next_row c =
+    let opened = rw c.columns.ensures at c.in_ok-reader.ensures in
+    let p = err_from_is_err_and c.from_residual-in_err-next_row.result c.from_residual-in_err-next_row.ensures.1 in
+    rw (p.1, p.2) (rows-answered _ _ (rows-stop lineage_table c.args.bytes.now c.in_ok-reader.reader c.rows.reader c.next_row.new.self (map (λ (r : Row). r.old) c.rows.rows.items) c.rows.rows.items c.in_err-next_row.field-0.0 opened c.rows.invariant c.in_err-next_row.ensures))
+
+pub returns-in_err-row : goal.returns-in_err-row
+returns-in_err-row c =
+    let opened = rw c.columns.ensures at c.in_ok-reader.ensures in
+    let p = err_from_is_err_and c.from_residual-in_err-row.result c.from_residual-in_err-row.ensures.1 in
+    let advanced = rw c.if-branch.true at c.in_ok-next_row.ensures in
+    rw (p.1, p.2) (rows-answered _ _ (rows-fault lineage_table c.args.bytes.now c.in_ok-reader.reader c.rows.reader c.next_row.new.self (map (λ (r : Row). r.old) c.rows.rows.items) c.rows.rows.items c.in_err-row.field-0.0 opened c.rows.invariant advanced c.in_err-row.ensures))
+
+pub rows-preserved : goal.rows-preserved
+rows-preserved c =
+    let advanced = rw c.if-branch.true at c.in_ok-next_row.ensures in
+    rows-push lineage_table (λ (r : Row). r.old) c.in_ok-reader.reader c.rows.reader c.next_row.new.self c.rows.rows.items c.push.new.self.items c.in_ok-row.row (λ row. refl) c.rows.invariant advanced c.in_ok-row.ensures c.in_ok-push.ensures.items
+
+pub returns : goal.returns
+returns c =
+    let opened = rw c.columns.ensures at c.in_ok-reader.ensures in
+    let ended = rw c.if-branch.false at c.in_ok-next_row.ensures in
+    rows-end lineage_table c.args.bytes.now c.in_ok-reader.reader c.rows.reader c.next_row.new.self (map (λ (r : Row). r.old) c.rows.rows.items) c.rows.rows.items opened c.rows.invariant ended

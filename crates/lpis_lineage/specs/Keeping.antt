@@ -1,0 +1,20 @@
+-- What a history keeps beside its releases: machinery, which only private contracts cite.
+use Rattle.std.specs.Prelude.{◌≡◌, Bool, true, false, ℕ, List, Option, None, Some, cond}
+use Rattle.lpis_lineage.specs.declared.row.Entry.{Entry}
+use Rattle.lpis_lineage.specs.declared.span.Span.{Span}
+use Rattle.lpis_lineage.specs.Lawful.{IsLawful, RowsFit}
+use Rattle.lpis_lineage.specs.Spans.{span_of}
+
+pub record IsHistory (h : List Entry) (spans : List ℕ → Option Span) : Type 0 where
+  pub lawful : IsLawful h
+  pub fits : RowsFit h
+  pub spans_are : (id : List ℕ) → spans id ≡ span_of h id
+
+-- a span that begins in a year, where the test is true
+abbrev pub begun : Bool → ℕ → Option Span → Option Span
+begun b year old = cond b (Some (record { first = year; last = 0 })) old
+
+-- a span that ends with a year, where the test is true
+abbrev pub ended_in : Bool → ℕ → Option Span → Option Span
+ended_in b year None = None
+ended_in b year (Some s) = Some (record { first = s.first; last = cond b year s.last })

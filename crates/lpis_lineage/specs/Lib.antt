@@ -1,0 +1,16 @@
+pub mod Order
+pub mod Lineage
+pub mod Lawful
+pub mod Spans
+pub mod Faults
+pub mod Accepts
+pub mod Kinds
+pub mod Changes
+pub mod LineageTable
+pub mod Descendants
+pub mod Follows
+pub mod Seen
+pub mod Tally
+pub mod Fates
+pub mod Keeping
+pub mod Following

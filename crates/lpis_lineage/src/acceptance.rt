@@ -1,0 +1,144 @@
+//! What a release's lineage has to meet.
+
+ghost use Rattle.std.specs.Prelude.{◌≡◌, ◌++◌, ◌∷◌, ℕ, List, [], OnOk, IfOk};
+ghost use Rattle.lpis_lineage.specs.declared.row.Row.{Row};
+ghost use Rattle.lpis_lineage.specs.Lineage.{last_live};
+ghost use Rattle.lpis_lineage.specs.Faults.{faults_of_row, row_faults, dropped_faults, used_faults, faults, Tells};
+ghost use Rattle.lpis_lineage.specs.Seen.{IsSeen};
+ghost use Rattle.lpis_lineage.specs.Accepts.{Decides};
+ghost use Rattle.lpis_lineage.specs.Changes.{IsChange};
+
+use crate::change::Change;
+use crate::fault::LineageFault;
+use crate::history::History;
+use crate::id_set::IdSet;
+use crate::row::Row;
+use crate::seen::Seen;
+use lpis_covers::Id;
+use std::alloc::Global;
+
+/// Looks at a row, and keeps it.
+fn check_row(
+    seen: &mut Seen,
+    history: &History,
+    live: &IdSet,
+    row: &Row,
+    number: usize,
+) -> Result<(), LineageFault>
+    ensures tells { (before : List Row) → IsSeen seen.old before → Tells (faults_of_row (last_live history.now) live.now before number row.now []) result }
+    ensures seen { (before : List Row) → IsSeen seen.old before → OnOk result (IsSeen seen.new (before ++ row.now ∷ [])) }
+{
+    if !history.is_live(&row.old) {
+        return Err(LineageFault::OldNotLive { row: number });
+    }
+    if live.contains(&row.old) {
+        return Err(LineageFault::OldStillLive { row: number });
+    }
+    match &row.new {
+        None => seen.end(row, number),
+        Some(heir) => {
+            if !live.contains(heir) {
+                return Err(LineageFault::SuccessorMissing { row: number });
+            }
+            seen.continue_in(row, heir, number)
+        }
+    }
+}
+
+/// Looks at the rows.
+fn check_rows(
+    alloc: Global,
+    history: &History,
+    live: &IdSet,
+    rows: &[Row],
+) -> Result<Seen, LineageFault>
+    ensures tells { Tells (row_faults (last_live history.now) live.now [] 1 rows.now) result }
+    ensures seen { IfOk result (λ s. IsSeen s rows.now) }
+{
+    let mut seen = Seen::new(alloc);
+    for (i, row) in rows.iter().enumerate() {
+        check_row(&mut seen, history, live, row, i + 1)?;
+    }
+    Ok(seen)
+}
+
+/// Looks for dropped identifiers without a row.
+fn check_dropped(live: &IdSet, seen: &Seen, ids: &[Id]) -> Result<(), LineageFault>
+    ensures { (rows : List Row) → IsSeen seen.now rows → Tells (dropped_faults live.now rows ids.now) result }
+{
+    for id in ids {
+        if !live.contains(id) && !seen.has_row(id) {
+            return Err(LineageFault::NoRow { id: id.copy()? });
+        }
+    }
+    Ok(())
+}
+
+/// Looks for identifiers that were used before.
+fn check_used(history: &History, ids: &[Id]) -> Result<(), LineageFault>
+    ensures { Tells (used_faults history.now (last_live history.now) ids.now) result }
+{
+    for id in ids {
+        if !history.is_live(id) {
+            if let Some(year) = history.last_held(id) {
+                return Err(LineageFault::UsedBefore {
+                    id: id.copy()?,
+                    year,
+                });
+            }
+        }
+    }
+    Ok(())
+}
+
+/// What a release with these identifiers and rows changes, where it may follow the history: where the history with it at the
+/// end is lawful and its rows fit, whatever later year it has. With no release before, each row is refused.
+///
+/// Else the first fault: row by row, in a row in the order of `LineageFault`'s variants; then the dropped identifiers without a
+/// row, ascending; then the identifiers of `live` that were used before, in its order.
+pub fn accept(
+    alloc: Global,
+    history: &History,
+    live: &[Id],
+    rows: &[Row],
+) -> Result<Change, LineageFault>
+    ensures tells { Tells (faults history.now live.now rows.now) result }
+    ensures decides { Decides history.now live.now rows.now result }
+    ensures change { IfOk result (IsChange (last_live history.now) live.now rows.now) }
+{
+    check(alloc, history, live, rows)?;
+    match Change::of(alloc, history, live, rows) {
+        Ok(change) => Ok(change),
+        Err(_) => Err(LineageFault::Memory),
+    }
+}
+
+/// Whether a release may follow, with its first fault if not.
+pub(crate) fn check(
+    alloc: Global,
+    history: &History,
+    live: &[Id],
+    rows: &[Row],
+) -> Result<(), LineageFault>
+    ensures tells { Tells (faults history.now live.now rows.now) result }
+    ensures decides { Decides history.now live.now rows.now result }
+{
+    let _ = history.releases();
+    first_fault(alloc, history, live, rows)
+}
+
+/// The first fault of a release.
+fn first_fault(
+    alloc: Global,
+    history: &History,
+    live: &[Id],
+    rows: &[Row],
+) -> Result<(), LineageFault>
+    ensures { Tells (faults history.now live.now rows.now) result }
+{
+    let set = IdSet::of(alloc, live)?;
+    let seen = check_rows(alloc, history, &set, rows)?;
+    let ids = history.last_ids(alloc)?;
+    check_dropped(&set, &seen, ids.as_slice())?;
+    check_used(history, live)
+}

@@ -1,0 +1,112 @@
+//! Sets of identifiers.
+
+ghost use Rattle.std.specs.Prelude.{◌≡◌, ◌&&◌, not, ℕ, List, IfOk, OnOk, true, cond, [], ◌∷◌};
+ghost use Rattle.std.specs.List.{filter};
+ghost use Rattle.lpis_covers.specs.Ids.{has_id, same_id};
+ghost use Rattle.lpis_lineage.specs.Order.{IsAscending};
+
+use lpis_covers::Id;
+use std::alloc::{AllocError, Global};
+use std::collections::BTreeSet;
+use std::collections::btree_set::Iter;
+use std::marker::Model;
+
+/// A set of identifiers, which contracts see as their list, ascending by bytes.
+#[derive(Drop)]
+pub struct IdSet {
+    ids: BTreeSet<Id>,
+}
+
+impl Model for IdSet {
+    ghost use Rattle.std.specs.Prelude.{ℕ, List};
+    ghost use Rattle.lpis_lineage.specs.Order.{IsAscending};
+
+    ghost Value = { List (List ℕ) };
+
+    ghost view = { λ s. s.ids.keys };
+
+    ghost invariant = { λ s. IsAscending s.ids.keys };
+}
+
+impl IdSet {
+    /// No identifiers.
+    pub(crate) fn new(alloc: Global) -> IdSet
+        ensures { result ≡ [] }
+    {
+        IdSet {
+            ids: BTreeSet::new(alloc),
+        }
+    }
+
+    /// The set of these identifiers.
+    pub(crate) fn of(alloc: Global, ids: &[Id]) -> Result<IdSet, AllocError>
+        ensures { IfOk result (λ s. (q : List ℕ) → has_id s q ≡ has_id ids.now q) }
+    {
+        let mut set = IdSet::new(alloc);
+        for id in ids {
+            let copy = id.copy()?;
+            set.add(copy)?;
+        }
+        Ok(set)
+    }
+
+    /// The set of one identifier.
+    pub(crate) fn one(alloc: Global, id: &Id) -> Result<IdSet, AllocError>
+        ensures { IfOk result (λ s. s ≡ id.now ∷ []) }
+    {
+        let mut set = BTreeSet::new(alloc);
+        set.insert(id.copy()?)?;
+        Ok(IdSet { ids: set })
+    }
+
+    /// Adds an identifier.
+    pub(crate) fn add(&mut self, id: Id) -> Result<(), AllocError>
+        ensures ok { OnOk result ((q : List ℕ) → has_id self.new q ≡ cond (same_id id q) true (has_id self.old q)) }
+    {
+        self.ids.insert(id)?;
+        Ok(())
+    }
+
+    /// Whether the set has the identifier.
+    pub fn contains(&self, id: &Id) -> bool
+        ensures { result ≡ has_id self.now id.now }
+    {
+        self.ids.contains(id)
+    }
+
+    /// The identifiers, ascending by bytes.
+    pub fn iter(&self) -> Iter<'_, Id>
+        ensures rest { result ≡ self.now }
+        ensures ascending { IsAscending self.now }
+    {
+        self.ids.iter()
+    }
+
+    /// Copies of those identifiers that are in the set.
+    pub(crate) fn inside(&self, alloc: Global, ids: &[Id]) -> Result<Vec<Id>, AllocError>
+        ensures { IfOk result (λ v. v.items ≡ filter (λ id. has_id self.now id) ids.now) }
+    {
+        let mut found = Vec::new(alloc);
+        for id in ids {
+            if self.contains(id) {
+                let copy = id.copy()?;
+                found.push(copy)?;
+            }
+        }
+        Ok(found)
+    }
+
+    /// Copies of those identifiers that are not in the set.
+    pub(crate) fn outside(&self, alloc: Global, ids: &[Id]) -> Result<Vec<Id>, AllocError>
+        ensures { IfOk result (λ v. v.items ≡ filter (λ id. not (has_id self.now id)) ids.now) }
+    {
+        let mut found = Vec::new(alloc);
+        for id in ids {
+            if !self.contains(id) {
+                let copy = id.copy()?;
+                found.push(copy)?;
+            }
+        }
+        Ok(found)
+    }
+}

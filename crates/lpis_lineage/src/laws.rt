@@ -1,0 +1,26 @@
+//! Laws of the definitions: functions that do nothing, and whose contracts say them.
+
+ghost use Rattle.std.specs.Prelude.{◌≡◌, ◌<◌, ℕ, List, [], length, Some, true};
+ghost use Rattle.lpis_covers.specs.Ids.{has_id};
+ghost use Rattle.lpis_lineage.specs.declared.fault.LineageFault.{LineageFault};
+ghost use Rattle.lpis_lineage.specs.declared.row.Entry.{Entry};
+ghost use Rattle.lpis_lineage.specs.declared.row.Row.{Row};
+ghost use Rattle.lpis_lineage.specs.declared.span.Span.{Span};
+ghost use Rattle.lpis_lineage.specs.Accepts.{MayFollow, NeverFollows};
+ghost use Rattle.lpis_lineage.specs.Faults.{faults, first};
+ghost use Rattle.lpis_lineage.specs.Lawful.{IsLawful, RowsFit};
+ghost use Rattle.lpis_lineage.specs.Lineage.{entry_at, holds};
+ghost use Rattle.lpis_lineage.specs.Spans.{AreSpansOf, ids_of, live_in};
+
+/// A release may follow a lawful history whose rows fit, in whatever later year, where it has no fault, and in no year where
+/// it has one.
+pub fn decided_by_faults()
+    ensures follows { (h : List Entry) (live : List (List ℕ)) (rows : List Row) → IsLawful h → RowsFit h → faults h live rows ≡ [] → MayFollow h live rows }
+    ensures refused { (h : List Entry) (live : List (List ℕ)) (rows : List Row) (fault : LineageFault) → IsLawful h → RowsFit h → first (faults h live rows) ≡ Some fault → NeverFollows h live rows }
+{}
+
+/// For a lawful history, the identifiers whose span holds the year of a release are those that the release holds, where the
+/// spans are those of all its identifiers.
+pub fn spans_tell_releases()
+    ensures { (h : List Entry) (spans : List (List ℕ × Span)) → IsLawful h → AreSpansOf h spans → ((id : List ℕ) (i : ℕ) → holds h i id ≡ true → has_id (ids_of spans) id ≡ true) → (i : ℕ) → i < length h → (id : List ℕ) → has_id (live_in spans (entry_at h i).year) id ≡ holds h i id }
+{}

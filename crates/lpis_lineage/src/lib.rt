@@ -1,0 +1,31 @@
+//! Lineage: what became of each identifier, through the years.
+#![tactic(auto)]
+
+mod acceptance;
+mod change;
+mod fates;
+mod fault;
+mod history;
+mod id_set;
+mod kind;
+mod laws;
+mod reading;
+mod row;
+mod seen;
+mod span;
+mod tally;
+#[cfg(test)]
+mod tests;
+mod tracing;
+
+pub use acceptance::accept;
+pub use change::Change;
+pub use fault::{AddFault, LineageFault};
+pub use history::History;
+pub use id_set::IdSet;
+pub use kind::Kind;
+pub use laws::{decided_by_faults, spans_tell_releases};
+pub use reading::read_rows;
+pub use row::{Entry, Row};
+pub use span::{Span, live_in};
+pub use tracing::descendants;

@@ -1,0 +1,78 @@
+//! Spans: from which year to which year an identifier is live.
+
+ghost use Rattle.std.specs.Prelude.{◌≡◌, ◌≤◌, ◌+◌, ℕ, List, length, IfOk};
+ghost use Rattle.std.specs.HashMap.{get, spare};
+ghost use Rattle.lpis_covers.specs.Ids.{has_id, same_id};
+ghost use Rattle.lpis_lineage.specs.Keeping.{begun, ended_in as ended};
+ghost use Rattle.lpis_lineage.specs.Spans.{live_in as ids_live_in, in_span};
+
+use lpis_covers::Id;
+use std::alloc::{AllocError, Global};
+use std::collections::HashMap;
+
+/// The years in which an identifier is live.
+#[derive(Clone, Copy, PartialEq, Eq, Debug, Drop)]
+pub struct Span {
+    /// The year of the first release that holds it.
+    pub first: u16,
+    /// The year of the last one; 0 while the identifier is live in the last release of the history.
+    pub last: u16,
+}
+
+/// Whether a span holds a year.
+fn holds(span: Span, year: u16) -> bool
+    ensures { result ≡ in_span span year }
+{
+    span.first <= year && (span.last == 0 || year <= span.last)
+}
+
+/// Copies of the identifiers whose span holds the year, in the order given.
+pub fn live_in(alloc: Global, spans: &[(Id, Span)], year: u16) -> Result<Vec<Id>, AllocError>
+    ensures { IfOk result (λ v. v.items ≡ ids_live_in spans.now year) }
+{
+    let mut ids = Vec::new(alloc);
+    for pair in spans {
+        if holds(pair.1, year) {
+            let copy = pair.0.copy()?;
+            ids.push(copy)?;
+        }
+    }
+    Ok(ids)
+}
+
+/// Lets the spans of these identifiers begin in a year.
+pub(crate) fn begin_spans(spans: &mut HashMap<Id, Span>, mut ids: Vec<Id>, year: u16)
+    requires room { length ids.items ≤ spare spans.old }
+    ensures { (q : List ℕ) → get same_id spans.new q ≡ begun (has_id ids.items q) year (get same_id spans.old q) }
+{
+    'ids: while let Some(id) = ids.pop() {
+        let span = Span {
+            first: year,
+            last: 0,
+        };
+        match spans.insert(id, span) {
+            Ok(_) => {}
+            // There is room to spare.
+            Err(_) => unreachable!(),
+        }
+    }
+}
+
+/// Lets the spans of these identifiers end with a year.
+pub(crate) fn end_spans(spans: &mut HashMap<Id, Span>, mut ids: Vec<Id>, year: u16)
+    ensures { (q : List ℕ) → get same_id spans.new q ≡ ended (has_id ids.items q) year (get same_id spans.old q) }
+{
+    'ids: while let Some(id) = ids.pop() {
+        if let Some(span) = spans.get(&id).copied() {
+            let span = Span {
+                first: span.first,
+                last: year,
+            };
+            match spans.insert(id, span) {
+                Ok(_) => {}
+                // The identifier has its place.
+                Err(_) => unreachable!(),
+            }
+        }
+    }
+}

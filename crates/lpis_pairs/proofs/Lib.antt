@@ -1,0 +1,9 @@
+pub mod Pushes
+pub mod Rows
+pub mod Nearness
+pub mod SpanLaws
+pub mod PairOrder
+pub mod Entered
+pub mod Joined
+pub mod Ordered
+pub mod Found

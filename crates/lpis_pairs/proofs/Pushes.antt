@@ -1,0 +1,18 @@
+-- The element at an index after a push.
+use Rattle.std.proofs.Common.{◌≡◌, ℕ, zero, suc, List, [], ◌∷◌, ◌++◌, length, Some, ◌⊎◌, inl, inr, refl, ap}
+use Rattle.std.specs.List.{slice_get}
+
+pub push_cases : {X : Type 0} (xs : List X) (y x : X) (k : ℕ) → slice_get (xs ++ y ∷ []) k ≡ Some x → (slice_get xs k ≡ Some x) ⊎ ((k ≡ length xs) × (y ≡ x))
+push_cases [] y x zero e = inr (refl, cc)
+push_cases [] y x (suc k) e = absurd (cc)
+push_cases (z ∷ xs) y x zero e = inl e
+push_cases (z ∷ xs) y x (suc k) e = elim (push_cases xs y x k e) [ inl h ↦ inl h | inr h ↦ inr (ap (λ n. suc n) h.0, h.1) ]
+
+pub push_old : {X : Type 0} (xs : List X) (y x : X) (k : ℕ) → slice_get xs k ≡ Some x → slice_get (xs ++ y ∷ []) k ≡ Some x
+push_old [] y x k e = absurd (cc)
+push_old (z ∷ xs) y x zero e = e
+push_old (z ∷ xs) y x (suc k) e = push_old xs y x k e
+
+pub push_new : {X : Type 0} (xs : List X) (y : X) → slice_get (xs ++ y ∷ []) (length xs) ≡ Some y
+push_new [] y = refl
+push_new (z ∷ xs) y = push_new xs y

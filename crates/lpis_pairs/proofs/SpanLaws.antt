@@ -1,0 +1,47 @@
+-- Boxes measured from the corner of the range: what two of them say when their triangles are not apart.
+use Rattle.std.proofs.Common.{◌≡◌, ℤ, ◌<◌, ◌≤◌, ◌≤ℤ◌, ◌<ℤ◌, false, ◌||◌, int_le, arith}
+use Rattle.std.proofs.lemmas.Int.{ints, clamps}
+use Rattle.lpis_points.specs.Range.{IsInRange}
+use Rattle.lpis_points.specs.declared.triangle.Triangle.{Triangle}
+use Rattle.lpis_points.specs.Triangles.{are_apart, box_of, least, greatest}
+use Rattle.lpis_pairs.specs.Strips.{offset, span_of}
+
+-- the least and the greatest of three numbers
+pub least_in_range : (a b c : ℤ) → IsInRange a → IsInRange b → IsInRange c → IsInRange (least a b c)
+least_in_range a b c h k l = (omega (arith, ints, clamps, h.0, k.0, l.0), omega (arith, ints, clamps, h.1, k.1, l.1))
+
+pub greatest_in_range : (a b c : ℤ) → IsInRange a → IsInRange b → IsInRange c → IsInRange (greatest a b c)
+greatest_in_range a b c h k l = (omega (arith, ints, clamps, h.0, k.0, l.0), omega (arith, ints, clamps, h.1, k.1, l.1))
+
+least_upto_greatest : (a b c : ℤ) → least a b c ≤ℤ greatest a b c
+least_upto_greatest a b c = omega (arith, ints, clamps)
+
+offset_below : (y z : ℤ) → IsInRange y → y <ℤ z → offset y < offset z
+offset_below y z h l = omega (arith, ints, h.0)
+
+offset_upto : (y z : ℤ) → IsInRange y → y ≤ℤ z → offset y ≤ offset z
+offset_upto y z h l = omega (arith, ints, h.0)
+
+pub upright : (t : Triangle) → (span_of t).bottom ≤ (span_of t).top
+upright t = offset_upto _ _ (least_in_range t.a.y t.b.y t.c.y t.a.y_in_range t.b.y_in_range t.c.y_in_range) (least_upto_greatest t.a.y t.b.y t.c.y)
+
+-- the boxes meet inside in both directions
+pub record Meet (t u : Triangle) : Type 0 where
+  pub left : (span_of t).left < (span_of u).right
+  pub right : (span_of u).left < (span_of t).right
+  pub bottom : (span_of t).bottom < (span_of u).top
+  pub top : (span_of u).bottom < (span_of t).top
+
+four : (g h k l s t u v : ℤ) → ((int_le g h || int_le k l) || (int_le s t || int_le u v)) ≡ false → (h <ℤ g) × (l <ℤ k) × (t <ℤ s) × (v <ℤ u)
+four g h k l s t u v e = (grind (arith, ints), grind (arith, ints), grind (arith, ints), grind (arith, ints))
+
+pub meet : (t u : Triangle) → are_apart t u ≡ false → Meet t u
+unfolding are_apart
+meet t u e =
+    let f = four (box_of t).x1 (box_of u).x0 (box_of t).y1 (box_of u).y0 (box_of u).x1 (box_of t).x0 (box_of u).y1 (box_of t).y0 e in
+    record {
+      left = offset_below _ _ (least_in_range t.a.x t.b.x t.c.x t.a.x_in_range t.b.x_in_range t.c.x_in_range) f.2;
+      right = offset_below _ _ (least_in_range u.a.x u.b.x u.c.x u.a.x_in_range u.b.x_in_range u.c.x_in_range) f.0;
+      bottom = offset_below _ _ (least_in_range t.a.y t.b.y t.c.y t.a.y_in_range t.b.y_in_range t.c.y_in_range) f.3;
+      top = offset_below _ _ (least_in_range u.a.y u.b.y u.c.y u.a.y_in_range u.b.y_in_range u.c.y_in_range) f.1;
+    }

@@ -1,0 +1,5 @@
+use Rattle.lpis_pairs.proofs.Joined.{JoinsBelow}
+use Rattle.lpis_pairs.proofs.sweep.join.Given as goal
+
+abbrev pub invariant-loop-at : goal.invariant-loop-at
+invariant-loop-at l = JoinsBelow l.triangles l.entries l.pairs.items l.at

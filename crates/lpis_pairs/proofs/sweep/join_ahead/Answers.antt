@@ -1,0 +1,67 @@
+use Rattle.std.proofs.Common.{◌≡◌, ℕ, ◌+◌, ◌<◌, Bool, IsTrue, true, false, ◌||◌, List, length, get_or, Vec, Global, sym, subst, arith}
+use Rattle.std.proofs.lemmas.Option.{slice_get-get_or, slice_get_within}
+use Rattle.lpis_points.specs.declared.triangle.Triangle.{Triangle}
+use Rattle.lpis_pairs.specs.declared.entries.Entry.{Entry}
+use Rattle.lpis_pairs.specs.Entering.{AreEntries, Joins}
+use Rattle.lpis_pairs.proofs.Joined.{JoinsUpTo, joined_next, joins_read, found_all, found_to_end}
+use Rattle.lpis_pairs.proofs.sweep.join_ahead.Goals as goal
+use Rattle.lpis_pairs.proofs.sweep.join_ahead.Goals.{then-one_starts+in_ok-push_near, else-one_starts}
+
+-- what the code reads past the end of the entries
+none : Entry
+none = record { strip = 0; left = 0; right = 0; index = 0; starts = false }
+
+-- the number of an entry is one of a triangle
+within : (ts : List Triangle) (es : List Entry) (k : ℕ) (d : Entry) → AreEntries ts es → k < length es → (get_or es k d).index < length ts
+within ts es k d h l = let e = h k d l in slice_get_within ts (get_or es k d).index e.t e.at
+
+untrue : (r : Bool) → r ≡ false → IsTrue r → ⊥
+untrue r e f = cc
+
+unequal : (a r : Bool) → r ≡ a → r ≡ false → a ≡ true → ⊥
+unequal a r e f g = cc
+
+pub push_near-requires-clause-first : goal.push_near-requires-clause-first
+unfolding none
+push_near-requires-clause-first c = within c.args.triangles.now c.args.entries.now c.args.at none c.requires.entries c.requires.within
+
+pub push_near-requires-clause-second : goal.push_near-requires-clause-second
+unfolding none
+push_near-requires-clause-second c = within c.args.triangles.now c.args.entries.now c.loop-m.m none c.requires.entries c.loop-m-test.true
+
+pub returns-in_err-push_near-clause-near : goal.returns-in_err-push_near-clause-near
+returns-in_err-push_near-clause-near c = λ h. c.push_near.ensures.near (c.loop-m.invariant.near h)
+
+pub returns-then-not-is_met-clause-found : goal.returns-then-not-is_met-clause-found
+unfolding none
+returns-then-not-is_met-clause-found c =
+    let es = c.args.entries.now in
+    let at = c.args.at in
+    let m = c.loop-m.m in
+    found_all c.args.triangles.now es c.args.pairs.now.items c.loop-m.pairs.items at m (get_or es at none) (get_or es m none) c.requires.order (omega (arith, c.loop-m.auto.m)) (slice_get-get_or es at none c.requires.within) (slice_get-get_or es m none c.loop-m-test.true) (λ s l. untrue c.is_met.result c.if-not-is_met.true (c.is_met.ensures.1 (s, l))) c.loop-m.invariant
+
+pub loop-m-preserved : goal.loop-m-preserved
+unfolding none
+loop-m-preserved c =
+    let ts = c.args.triangles.now in
+    let es = c.args.entries.now in
+    let old = c.args.pairs.now.items in
+    let ps = c.loop-m.pairs.items in
+    let at = c.args.at in
+    let m = c.loop-m.m in
+    let e = get_or es at none in
+    let f = get_or es m none in
+    let at_e = slice_get-get_or es at none c.requires.within in
+    let at_f = slice_get-get_or es m none c.loop-m-test.true in
+    elim c.if-one_starts.branch [
+      | then-one_starts+in_ok-push_near w ↦
+          let qs = w.push_near.new.pairs.items in
+          let j : Joins ts es qs at m = joins_read ts es qs at m e f at_e at_f (λ s l o. (w.in_ok-push_near.ensures.up, w.in_ok-push_near.ensures.down)) in
+          subst (λ (v : Vec (ℕ × ℕ) Global). JoinsUpTo ts es old v.items at (m + 1)) (sym w.pairs-is) (joined_next ts es old ps qs at m c.loop-m.invariant w.push_near.ensures.kept w.push_near.ensures.near j)
+      | else-one_starts w ↦
+          let j : Joins ts es ps at m = joins_read ts es ps at m e f at_e at_f (λ s l o. absurd (unequal (e.starts || f.starts) c.one_starts.result c.one_starts.ensures w.if-one_starts.false o)) in
+          subst (λ (v : Vec (ℕ × ℕ) Global). JoinsUpTo ts es old v.items at (m + 1)) (sym w.pairs-is) (joined_next ts es old ps ps at m c.loop-m.invariant (λ p h. h) (λ h. h) j)
+    ]
+
+pub returns-clause-found : goal.returns-clause-found
+returns-clause-found c = found_to_end c.args.triangles.now c.args.entries.now c.args.pairs.now.items c.loop-m.pairs.items c.args.at c.loop-m.m c.loop-m-test.false c.loop-m.invariant

@@ -1,0 +1,3 @@
+pub mod NearPairs
+pub mod Strips
+pub mod Entering

@@ -1,0 +1,16 @@
+//! Pairs of triangles whose boxes are not apart.
+#![tactic(auto)]
+
+mod all_pairs;
+mod entries;
+mod near;
+mod order;
+mod source;
+mod spans;
+mod sweep;
+#[cfg(test)]
+mod tests;
+
+pub use all_pairs::AllPairs;
+pub use source::{MOST_TRIANGLES, PairSource};
+pub use sweep::Sweep;

@@ -1,0 +1,50 @@
+//! Boxes measured from the corner of the range of coordinates.
+
+ghost use Rattle.std.specs.Prelude.{◌≡◌, ◌<◌};
+ghost use Rattle.lpis_points.specs.Range.{IsInRange};
+ghost use Rattle.lpis_pairs.specs.Strips.{offset as offset_lem, span_of as span_of_lem};
+
+use lpis_points::{LIMIT, Triangle, box_of};
+
+/// A box, measured from the least x and the least y in range: none of its numbers is below 0.
+#[derive(Clone, Copy, Debug)]
+pub struct Span {
+    pub left: u64,
+    pub bottom: u64,
+    pub right: u64,
+    pub top: u64,
+}
+
+/// How far a coordinate is above the least in range.
+fn offset(coordinate: i64) -> u64
+    requires { IsInRange coordinate }
+    ensures { result ≡ offset_lem coordinate }
+{
+    (coordinate + LIMIT) as u64
+}
+
+/// The box of a triangle.
+pub fn span_of(triangle: &Triangle) -> Span
+    ensures { result ≡ span_of_lem triangle.now }
+{
+    let corners = box_of(triangle);
+    Span {
+        left: offset(corners.x0),
+        bottom: offset(corners.y0),
+        right: offset(corners.x1),
+        top: offset(corners.y1),
+    }
+}
+
+/// The height of a strip: more than the mean height of a box, so that there are fewer than three entries a triangle.
+pub fn strip_height(triangles: &[Triangle]) -> u64
+    ensures { 0 < result }
+{
+    let mut sum: u64 = 0;
+    for triangle in triangles {
+        let span = span_of(triangle);
+        sum = sum.saturating_add(span.top.saturating_sub(span.bottom));
+    }
+    let count = triangles.len().max(1) as u64;
+    (sum / count).saturating_add(1)
+}

@@ -1,0 +1,109 @@
+//! A sweep over strips.
+
+ghost use Rattle.std.specs.Prelude.{◌≡◌, ◌↔◌, ℕ, ◌<◌, ◌||◌, IsTrue, Contains, IfOk, OnOk, length};
+ghost use Rattle.lpis_pairs.specs.NearPairs.{IsNear};
+ghost use Rattle.lpis_pairs.specs.Entering.{AreEntries, AreInOrder, AreNear, Joins};
+
+use crate::entries::{Entry, entries_of};
+use crate::near::is_near;
+use crate::order::in_order;
+use crate::source::PairSource;
+use crate::spans::strip_height;
+use lpis_points::Triangle;
+use std::alloc::{AllocError, Global};
+
+/// Sweeps over the boxes strip by strip: horizontal strips a little higher than the mean box, and in each strip the boxes that meet it by
+/// their least x. A box is compared only with those that begin in its x range, in a strip that both meet. With N triangles there are fewer
+/// than 3 N entries; the time is of sorting these and the pairs, and of the boxes compared.
+#[derive(Clone, Copy, Debug)]
+pub struct Sweep;
+
+/// Adds the pair of two triangles, the lesser number first, where they are not apart.
+fn push_near(
+    triangles: &[Triangle],
+    i: u32,
+    j: u32,
+    pairs: &mut Vec<(u32, u32)>,
+) -> Result<(), AllocError>
+    requires first { i < length triangles.now }
+    requires second { j < length triangles.now }
+    ensures kept { (pair : ℕ × ℕ) → Contains pairs.old.items pair → Contains pairs.new.items pair }
+    ensures near { AreNear triangles.now pairs.old.items → AreNear triangles.now pairs.new.items }
+    ensures up { OnOk result (IsNear triangles.now i j → Contains pairs.new.items (i, j)) }
+    ensures down { OnOk result (IsNear triangles.now j i → Contains pairs.new.items (j, i)) }
+{
+    if is_near(triangles, i, j) {
+        pairs.push((i, j))?;
+    } else if is_near(triangles, j, i) {
+        pairs.push((j, i))?;
+    }
+    Ok(())
+}
+
+/// Whether the second entry stands in the strip of the first, and begins before that ends.
+fn is_met(first: &Entry, second: &Entry) -> bool
+    ensures { IsTrue result ↔ ((first.now.strip ≡ second.now.strip) × (second.now.left < first.now.right)) }
+{
+    first.strip == second.strip && second.left < first.right
+}
+
+/// Whether one of the two boxes starts in this strip: of the strips that both meet only the lowest.
+fn one_starts(first: &Entry, second: &Entry) -> bool
+    ensures { result ≡ (first.now.starts || second.now.starts) }
+{
+    first.starts || second.starts
+}
+
+/// Adds the near pairs of an entry and those behind it in its strip, up to the first that begins where its box has ended.
+fn join_ahead(
+    triangles: &[Triangle],
+    entries: &[Entry],
+    at: usize,
+    pairs: &mut Vec<(u32, u32)>,
+) -> Result<(), AllocError>
+    requires within { at < length entries.now }
+    requires entries { AreEntries triangles.now entries.now }
+    requires order { AreInOrder entries.now }
+    ensures kept { (pair : ℕ × ℕ) → Contains pairs.old.items pair → Contains pairs.new.items pair }
+    ensures near { AreNear triangles.now pairs.old.items → AreNear triangles.now pairs.new.items }
+    ensures found { OnOk result ((m : ℕ) → at < m → Joins triangles.now entries.now pairs.new.items at m) }
+{
+    let first = &entries[at];
+    for m in at + 1..entries.len() {
+        let second = &entries[m];
+        if !is_met(first, second) {
+            return Ok(());
+        }
+        if one_starts(first, second) {
+            push_near(triangles, first.index, second.index, pairs)?;
+        }
+    }
+    Ok(())
+}
+
+/// The near pairs of entries that stand in order, in no order, and maybe more than once.
+fn join(
+    alloc: Global,
+    triangles: &[Triangle],
+    entries: &[Entry],
+) -> Result<Vec<(u32, u32)>, AllocError>
+    requires entries { AreEntries triangles.now entries.now }
+    requires order { AreInOrder entries.now }
+    ensures near { IfOk result (λ pairs. AreNear triangles.now pairs.items) }
+    ensures found { IfOk result (λ pairs. (k m : ℕ) → k < m → Joins triangles.now entries.now pairs.items k m) }
+{
+    let mut pairs = Vec::new(alloc);
+    for at in 0..entries.len() {
+        join_ahead(triangles, entries, at, &mut pairs)?;
+    }
+    Ok(pairs)
+}
+
+impl PairSource for Sweep {
+    fn pairs(&self, alloc: Global, triangles: &[Triangle]) -> Result<Vec<(u32, u32)>, AllocError> {
+        let mut entries = entries_of(alloc, triangles, strip_height(triangles))?;
+        entries.sort_unstable();
+        let pairs = join(alloc, triangles, &entries)?;
+        Ok(in_order(pairs))
+    }
+}

@@ -1,0 +1,68 @@
+-- Eligible areas, a piece at a time.
+use Rattle.std.proofs.Common.{◌≡◌, ◌≤◌, ◌<◌, ◌+◌, ◌*◌, ◌∷◌, [], ℕ, zero, suc, ℤ, pos, ◌+ℤ◌, List, length, drop, get_or, filter, Bool, true, false, cond, Some, refl, sym, ap, ◌∙◌, arith}
+use Rattle.std.specs.Prelude.{nat_abs, slice_get}
+use Rattle.std.proofs.lemmas.Int.{ints, to_z-of_z}
+use Rattle.std.proofs.lemmas.List.{drop_all}
+use Rattle.std.proofs.lemmas.Option.{slice_get_read}
+use mir.Syntax.{w128}
+use mir.Val.{SFits, to_z, of_z}
+use Rattle.lpis_covers.specs.Table.{most_rows}
+use Rattle.lpis_covers.specs.declared.piece.Piece.{Piece}
+use Rattle.lpis_rings.specs.Area.{area2}
+use Rattle.lpis_rings.specs.AreaBounds.{most_area}
+use Rattle.lpis_parcels.specs.Eligible.{areas2, eligible2, is_eligible}
+use Rattle.lpis_parcels.specs.Groups.{at_places, places_where}
+use Rattle.lpis_parcels.specs.Release.{Contents, names}
+use Rattle.lpis_parcels.proofs.JoinLemmas.{drop-at}
+use Rattle.lpis_parcels.proofs.PlaceLemmas.{at-places-where}
+
+-- the eligible area of the pieces at places
+abbrev pub eligible_at : Contents → List ℕ → ℤ
+eligible_at c places = areas2 (filter (is_eligible c.classes) (at_places c.pieces places))
+
+add-assoc : (a b c : ℤ) → (a +ℤ b) +ℤ c ≡ a +ℤ (b +ℤ c)
+add-assoc a b c = omega (arith, ints)
+
+add-zero : (a : ℤ) → a +ℤ pos 0 ≡ a
+add-zero a = omega (arith, ints)
+
+zero-add : (a : ℤ) → pos 0 +ℤ a ≡ a
+zero-add a = omega (arith, ints)
+
+pub eligible-start : (c : Contents) (id : List ℕ) (places : List ℕ) → places ≡ places_where (names id) 0 c.pieces → pos 0 +ℤ eligible_at c places ≡ eligible2 c id
+eligible-start c id places e =
+    zero-add _ ∙ ap (λ (ps : List Piece). areas2 (filter (is_eligible c.classes) ps)) (at-places-where (names id) c.pieces c.pieces places refl e)
+
+next-places : (places : List ℕ) (i place : ℕ) → i < length places → place ≡ get_or places i place → drop i places ≡ place ∷ drop (i + 1) places
+next-places places i place lt e = drop-at places i place (slice_get_read places _ i place refl lt e)
+
+part-added : (b : Bool) (sum area part : ℤ) (x : Piece) (rest : List Piece) → area ≡ area2 x.polygon → part ≡ cond b area (pos 0) → (sum +ℤ part) +ℤ areas2 rest ≡ sum +ℤ areas2 (cond b (x ∷ rest) rest)
+part-added true sum area part x rest a p = rw (p, a) (add-assoc sum (area2 x.polygon) (areas2 rest))
+part-added false sum area part x rest a p = rw p (ap (λ (z : ℤ). z +ℤ areas2 rest) (add-zero sum))
+
+pub eligible-added : (c : Contents) (places : List ℕ) (i place : ℕ) (piece : Piece) (sum part whole : ℤ) → i < length places → place ≡ get_or places i place → slice_get c.pieces place ≡ Some piece
+    → part ≡ cond (is_eligible c.classes piece) (area2 piece.polygon) (pos 0) → sum +ℤ eligible_at c (drop i places) ≡ whole → (sum +ℤ part) +ℤ eligible_at c (drop (i + 1) places) ≡ whole
+eligible-added c places i place piece sum part whole lt e at is h =
+    part-added (is_eligible c.classes piece) sum (area2 piece.polygon) part piece (filter (is_eligible c.classes) (at_places c.pieces (drop (i + 1) places))) refl is ∙ (rw (next-places places i place lt e, at) at h)
+
+pub eligible-end : (c : Contents) (places : List ℕ) (i : ℕ) (sum whole : ℤ) → length places ≤ i → sum +ℤ eligible_at c (drop i places) ≡ whole → sum ≡ whole
+eligible-end c places i sum whole past h = sym (add-zero sum) ∙ (rw (drop_all i places past) at h)
+
+-- one part more, each at most the greatest area
+pub sum-more : (s t : ℤ) (n : ℕ) → nat_abs s ≤ most_area * n → nat_abs t ≤ most_area → n < most_rows
+    → (to_z w128 (of_z w128 (s +ℤ to_z w128 (of_z w128 t))) ≡ s +ℤ t) × (nat_abs (s +ℤ t) ≤ most_area * (n + 1))
+sum-more s t n h l few =
+    let f : SFits w128 t = omega (arith, ints) in
+    let g : SFits w128 (s +ℤ t) = omega (arith, ints) in
+    (rw (to_z-of_z w128 t f) (to_z-of_z w128 (s +ℤ t) g), omega (arith, ints))
+
+-- the item at a place within
+pub item-within : {A : Type 0} (xs : List A) (i : ℕ) → i < length xs → (x : A) × (slice_get xs i ≡ Some x)
+item-within [] i lt = absurd (omega arith)
+item-within (x ∷ xs) zero lt = (x, refl)
+item-within (x ∷ xs) (suc i) lt = item-within xs i (omega arith)
+
+pub any-default : (xs : List ℕ) (i d e : ℕ) → i < length xs → get_or xs i d ≡ get_or xs i e
+any-default [] i d e lt = absurd (omega arith)
+any-default (x ∷ xs) zero d e lt = refl
+any-default (x ∷ xs) (suc i) d e lt = any-default xs i d e (omega arith)

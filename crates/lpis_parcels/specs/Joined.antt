@@ -1,0 +1,24 @@
+-- Machinery that only private contracts cite: what a release keeps beside its rows.
+use Rattle.std.specs.Prelude.{◌≡◌, ℕ, List, [], map, slice_get}
+use Rattle.std.specs.declared.vec.Vec.{Vec}
+use Rattle.std.specs.declared.alloc.Global.{Global}
+use Rattle.lpis_covers.specs.declared.class.Class.{Class}
+use Rattle.lpis_covers.specs.declared.piece.Piece.{Piece}
+use Rattle.lpis_parcels.specs.declared.parcel.Parcel.{Parcel}
+use Rattle.lpis_parcels.specs.Eligible.{class_named}
+use Rattle.lpis_parcels.specs.Groups.{places_where}
+use Rattle.lpis_parcels.specs.Release.{Contents, join_faults, names}
+
+-- groups of places, as lists
+abbrev pub group_lists : List (Vec ℕ Global) → List (List ℕ)
+group_lists groups = map (λ (g : Vec ℕ Global). g.items) groups
+
+-- each parcel has the places of its pieces, and each piece that of its class
+pub record AreJoins (parcels : List Parcel) (pieces : List Piece) (classes : List Class) (groups : List (List ℕ)) (class_places : List ℕ) : Type 0 where
+  pub groups_are : groups ≡ map (λ (p : Parcel). places_where (names p.id) 0 pieces) parcels
+  pub classes_are : map (slice_get classes) class_places ≡ map (λ (p : Piece). class_named classes p.class) pieces
+
+-- what a release keeps: the joins hold, and these are their places
+pub record IsRelease (c : Contents) (groups : List (List ℕ)) (class_places : List ℕ) : Type 0 where
+  pub joined : join_faults c ≡ []
+  pub joins : AreJoins c.parcels c.pieces c.classes groups class_places

@@ -1,0 +1,5 @@
+pub mod Parcels
+pub mod Release
+pub mod Eligible
+pub mod Groups
+pub mod Joined

@@ -1,0 +1,15 @@
+//! Releases: parcels, pieces of land cover and classes, joined by their identifiers.
+#![tactic(auto)]
+
+mod eligible;
+mod joins;
+mod parcel;
+mod pieces;
+mod reading;
+mod release;
+
+pub use eligible::eligible2;
+pub use parcel::{Parcel, Parcels, read_parcels};
+pub use pieces::{PiecesOf, pieces_of};
+pub use reading::read_release;
+pub use release::Release;

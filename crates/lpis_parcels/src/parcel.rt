@@ -1,0 +1,69 @@
+//! Reference parcels.
+
+ghost use Rattle.lpis_covers.specs.Faults.{rows_of};
+ghost use Rattle.lpis_covers.specs.Table.{Answers};
+ghost use Rattle.lpis_parcels.specs.Parcels.{parcels_table};
+
+use lpis_covers::{Id, Identified, Keyed, Table, TableFault, TableReader, TableRow, read_rows};
+use lpis_rings::Polygon;
+use std::alloc::Global;
+
+/// A reference parcel.
+#[derive(Debug, Drop)]
+pub struct Parcel {
+    /// Its own identifier.
+    pub id: Id,
+    /// Its land.
+    pub polygon: Polygon,
+}
+
+/// The parcels of a release by their identifiers, in the order of their table.
+pub type Parcels = Keyed<Parcel>;
+
+impl Identified for Parcel {
+    ghost identifier = { λ parcel. parcel.id };
+
+    fn id(&self) -> &Id {
+        &self.id
+    }
+}
+
+impl TableRow for Parcel {
+    ghost use Rattle.std.specs.Prelude.{refl};
+    ghost use Rattle.lpis_covers.specs.declared.fault.Table.TheVariants as table;
+    ghost use Rattle.lpis_covers.specs.Faults.{polygon_faults};
+    ghost use Rattle.lpis_covers.specs.FreshKeys.{fresh_key};
+    ghost use Rattle.lpis_covers.specs.Table.{field_of};
+    ghost use Rattle.lpis_parcels.specs.Parcels.{parcels_table};
+
+    ghost kind = { parcels_table };
+
+    fn table() -> Table {
+        Table::Parcels
+    }
+
+    fn columns() -> &'static [&'static [u8]] {
+        &[b"parcel", b"wkt"]
+    }
+
+    fn read(
+        alloc: Global,
+        reader: &TableReader<'_>,
+        earlier: &Keyed<Parcel>,
+    ) -> Result<Parcel, TableFault> {
+        let id = reader.key(alloc, 0, earlier)?;
+        let polygon = reader.polygon(alloc, 1)?;
+        Ok(Parcel { id, polygon })
+    }
+
+    ghost key_is_first = { λ row. refl };
+
+    ghost key_is_fresh = { λ keys n row none. fresh_key table.Parcels n keys (field_of row 0) (polygon_faults table.Parcels n (field_of row 1)) none };
+}
+
+/// The parcels of the table `parcels`, with the columns `parcel` and `wkt`, or its first fault.
+pub fn read_parcels(alloc: Global, bytes: &[u8]) -> Result<Parcels, TableFault>
+    ensures { Answers result (rows_of parcels_table bytes.now) }
+{
+    read_rows(alloc, bytes)
+}

@@ -1,0 +1,62 @@
+//! The pieces of a parcel.
+
+ghost use Rattle.std.specs.Prelude.{◌≡◌, ◌<◌, Some, length, slice_get};
+ghost use Rattle.std.specs.Iterator.{YieldsFirstRef, item_count};
+ghost use Rattle.lpis_parcels.specs.Release.{pieces_named};
+
+use crate::release::Release;
+use lpis_covers::{Id, Piece};
+use std::marker::Model;
+
+/// The pieces of one parcel in the order of their table. It takes no memory. Contracts see the list of those that are left.
+#[derive(Drop)]
+pub struct PiecesOf<'a> {
+    pieces: &'a [Piece],
+    places: &'a [usize],
+}
+
+impl<'a> Model for PiecesOf<'a> {
+    ghost use Rattle.std.specs.Prelude.{◌<◌, All, List, length};
+    ghost use Rattle.lpis_covers.specs.declared.piece.Piece.{Piece};
+    ghost use Rattle.lpis_parcels.specs.Groups.{at_places};
+
+    ghost Value = { List Piece };
+
+    ghost view = { λ it. at_places it.pieces.now it.places.now };
+
+    ghost invariant = { λ it. All (λ i. i < length it.pieces.now) it.places.now };
+}
+
+/// The piece at a place.
+fn piece_at(pieces: &[Piece], place: usize) -> &Piece
+    requires { place < length pieces.now }
+    ensures { slice_get pieces.now place ≡ Some result.now }
+{
+    &pieces[place]
+}
+
+impl<'a> Iterator for PiecesOf<'a> {
+    type Item = &'a Piece;
+
+    ghost next_gives = { YieldsFirstRef (λ it. it) };
+
+    ghost remaining = { item_count (λ it. it) };
+
+    fn next(&mut self) -> Option<&'a Piece> {
+        let (first, others) = self.places.split_first()?;
+        let piece = piece_at(self.pieces, *first);
+        self.places = others;
+        Some(piece)
+    }
+}
+
+/// The pieces of this parcel in the order of their table; none for an identifier that is no parcel's. The time of going over
+/// them is that of their number.
+pub fn pieces_of<'a>(release: &'a Release, parcel: &Id) -> PiecesOf<'a>
+    ensures { result ≡ pieces_named release.now parcel.now }
+{
+    PiecesOf {
+        pieces: release.pieces(),
+        places: release.places_of(parcel),
+    }
+}

@@ -1,0 +1,26 @@
+//! Reading a release.
+
+ghost use Rattle.lpis_covers.specs.Table.{Answers};
+ghost use Rattle.lpis_parcels.specs.Release.{release_of};
+
+use crate::parcel::read_parcels;
+use crate::release::Release;
+use lpis_covers::{TableFault, read_classes, read_pieces};
+use std::alloc::Global;
+
+/// The release of the texts of its three tables, or its first fault: of the whole parcels table, of the covers, of the classes,
+/// and then of the joins. These are, for each piece in order, that its parcel and then its class is not there, and then, for
+/// each parcel in order, that no piece names it.
+pub fn read_release(
+    alloc: Global,
+    parcels: &[u8],
+    covers: &[u8],
+    classes: &[u8],
+) -> Result<Release, TableFault>
+    ensures { Answers result (release_of parcels.now covers.now classes.now) }
+{
+    let parcel_rows = read_parcels(alloc, parcels)?;
+    let piece_rows = read_pieces(alloc, covers)?;
+    let class_rows = read_classes(alloc, classes)?;
+    Release::of(alloc, parcel_rows, piece_rows, class_rows)
+}

@@ -1,0 +1,112 @@
+//! Releases.
+
+ghost use Rattle.std.specs.Prelude.{◌≡◌, ◌≤◌, ◌<◌, [], All, Some, length, slice_get};
+ghost use Rattle.std.specs.List.{IsDistinct};
+ghost use Rattle.lpis_covers.specs.Ids.{same_id};
+ghost use Rattle.lpis_covers.specs.Table.{Answers, most_rows};
+ghost use Rattle.lpis_parcels.specs.Release.{class_codes, join_faults, joined, names, parcel_ids, piece_ids};
+
+use crate::joins::{Joins, join};
+use crate::parcel::{Parcel, Parcels};
+use lpis_covers::{Class, Classes, Id, Piece, Pieces, TableFault};
+use std::alloc::Global;
+use std::marker::Model;
+
+/// Parcels, pieces of land cover and classes, each in the order of its table and without two of one identifier. Each piece's
+/// parcel and class are there, and each parcel has a piece. Contracts see the three lists.
+#[derive(Drop)]
+pub struct Release {
+    parcels: Parcels,
+    pieces: Pieces,
+    classes: Classes,
+    joins: Joins,
+}
+
+impl Model for Release {
+    ghost use Rattle.lpis_parcels.specs.Release.{Contents};
+    ghost use Rattle.lpis_parcels.specs.Joined.{IsRelease, group_lists};
+
+    ghost Value = { Contents };
+
+    ghost view = { λ r. record { parcels = r.parcels; pieces = r.pieces; classes = r.classes } };
+
+    ghost invariant = { λ r. IsRelease (record { parcels = r.parcels; pieces = r.pieces; classes = r.classes }) (group_lists r.joins.groups.items) r.joins.classes.items };
+}
+
+impl Release {
+    ghost use Rattle.lpis_covers.specs.declared.piece.Piece.{Piece};
+    ghost use Rattle.lpis_parcels.specs.Eligible.{is_eligible};
+    ghost use Rattle.lpis_parcels.specs.Groups.{places_where};
+
+    /// The release of these rows, or the first fault of their joins.
+    pub(crate) fn of(
+        alloc: Global,
+        parcels: Parcels,
+        pieces: Pieces,
+        classes: Classes,
+    ) -> Result<Release, TableFault>
+        ensures { Answers result (joined (record { parcels = parcels; pieces = pieces; classes = classes })) }
+    {
+        let joins = join(alloc, &parcels, &pieces, &classes)?;
+        Ok(Release {
+            parcels,
+            pieces,
+            classes,
+            joins,
+        })
+    }
+
+    /// The parcels in the order of their table.
+    pub fn parcels(&self) -> &[Parcel]
+        ensures parcels { result.now ≡ self.now.parcels }
+        ensures distinct { IsDistinct same_id (parcel_ids self.now.parcels) }
+        ensures few { length self.now.parcels ≤ most_rows }
+        ensures joined { join_faults self.now ≡ [] }
+    {
+        self.parcels.as_slice()
+    }
+
+    /// The pieces in the order of their table.
+    pub fn pieces(&self) -> &[Piece]
+        ensures pieces { result.now ≡ self.now.pieces }
+        ensures distinct { IsDistinct same_id (piece_ids self.now.pieces) }
+        ensures few { length self.now.pieces ≤ most_rows }
+        ensures joined { join_faults self.now ≡ [] }
+    {
+        self.pieces.as_slice()
+    }
+
+    /// The classes in the order of their table.
+    pub fn classes(&self) -> &[Class]
+        ensures classes { result.now ≡ self.now.classes }
+        ensures distinct { IsDistinct same_id (class_codes self.now.classes) }
+        ensures few { length self.now.classes ≤ most_rows }
+        ensures joined { join_faults self.now ≡ [] }
+    {
+        self.classes.as_slice()
+    }
+
+    /// The places of a parcel's pieces.
+    pub(crate) fn places_of(&self, parcel: &Id) -> &[usize]
+        ensures places { result.now ≡ places_where (names parcel.now) 0 self.now.pieces }
+        ensures within { All (λ i. i < length self.now.pieces) result.now }
+        ensures few { length result.now ≤ length self.now.pieces }
+    {
+        match self.parcels.position(parcel) {
+            Some(place) => self.joins.groups[place].as_slice(),
+            None => &[],
+        }
+    }
+
+    /// Whether the class of the piece at a place is eligible.
+    pub(crate) fn is_eligible(&self, place: usize) -> bool
+        requires { place < length self.now.pieces }
+        ensures { (piece : Piece) → slice_get self.now.pieces place ≡ Some piece → result ≡ is_eligible self.now.classes piece }
+    {
+        let class = self.joins.classes[place];
+        match self.classes.as_slice().get(class) {
+            Some(class) => class.eligible,
+            None => false,
+        }
+    }
+}

@@ -1,0 +1,92 @@
+//! Values at the bounds of what is taken.
+
+use crate::{
+    GREATEST_DENOMINATOR, LIMIT, Point, RatPoint, Triangle, apart, box_of, crossing, edge, is_ccw,
+    is_flat, orient, orient_at, separates,
+};
+use std::test::Fail;
+
+fn point(x: i64, y: i64) -> Result<Point, Fail> {
+    Ok(Point::new(x, y).ok_or("out of range")?)
+}
+
+fn triangle(corners: [(i64, i64); 3]) -> Result<Triangle, Fail> {
+    let [a, b, c] = corners;
+    Ok(Triangle {
+        a: point(a.0, a.1)?,
+        b: point(b.0, b.1)?,
+        c: point(c.0, c.1)?,
+    })
+}
+
+#[test]
+fn rational_points_end_at_their_bounds(rt: HostRuntime) {
+    let reach = 2_000_000_000_000_000;
+    for (x, y, d, is_taken) in [
+        (0, 0, 1, true),
+        (0, 0, 0, false),
+        (0, 0, -1, false),
+        (LIMIT, -LIMIT, 1, true),
+        (LIMIT + 1, 0, 1, false),
+        (0, -LIMIT - 1, 1, false),
+        (reach, -reach, GREATEST_DENOMINATOR, true),
+        (reach + 1, 0, GREATEST_DENOMINATOR, false),
+        (0, -reach - 1, GREATEST_DENOMINATOR, false),
+        (0, 0, GREATEST_DENOMINATOR + 1, false),
+    ] {
+        assert_eq!(rt;
+            RatPoint::new(x, y, d).is_some(),
+            is_taken,
+            "({x}, {y}, {d})"
+        );
+    }
+}
+
+#[test]
+fn a_triangle_has_three_edges(rt: HostRuntime) -> Result<(), Fail> {
+    let t = triangle([(0, 0), (1000, 0), (0, 500)])?;
+    assert_eq!(rt; edge(&t, 0), Some((t.a, t.b)));
+    assert_eq!(rt; edge(&t, 1), Some((t.b, t.c)));
+    assert_eq!(rt; edge(&t, 2), Some((t.c, t.a)));
+    assert_eq!(rt; edge(&t, 3), None);
+    Ok(())
+}
+
+#[test]
+fn corners_tell_what_a_triangle_is(rt: HostRuntime) -> Result<(), Fail> {
+    let t = triangle([(0, 0), (1000, 0), (0, 500)])?;
+    let flat = triangle([(0, 0), (500, 0), (1000, 0)])?;
+    assert_eq!(rt; orient(t.a, t.b, t.c), 500_000);
+    assert!(rt; is_ccw(&t) && !is_ccw(&flat));
+    assert!(rt; is_flat(&flat) && !is_flat(&t));
+    assert!(rt; !is_flat(&triangle([(0, 0), (500, 0), (0, 0)])?));
+    Ok(())
+}
+
+#[test]
+fn triangles_are_apart_or_separated(rt: HostRuntime) -> Result<(), Fail> {
+    let left = triangle([(0, 0), (500, 0), (500, 1000)])?;
+    let right = triangle([(500, 0), (1000, 0), (500, 1000)])?;
+    let across = triangle([(400, 0), (1500, 0), (400, 500)])?;
+    let sides = box_of(&left);
+    assert_eq!(rt; (sides.x0, sides.y0, sides.x1, sides.y1), (0, 0, 500, 1000));
+    assert!(rt; apart(&left, &right) && !apart(&left, &across));
+    let upwards = (left.b, left.c);
+    assert!(rt; separates(upwards, &left, &right) && !separates(upwards, &right, &left));
+    assert!(rt; !separates((left.a, left.a), &left, &right));
+    Ok(())
+}
+
+#[test]
+fn edges_are_crossed_below_their_upper_end(rt: HostRuntime) -> Result<(), Fail> {
+    let (bottom, top) = (point(500, 0)?, point(500, 1000)?);
+    for (y, upwards, downwards) in [(-1, 0, 0), (0, 1, -1), (999, 1, -1), (1000, 0, 0)] {
+        let p = RatPoint::new(0, y, 1).ok_or("out of range")?;
+        assert_eq!(rt; crossing(bottom, top, &p), upwards, "at {y}");
+        assert_eq!(rt; crossing(top, bottom, &p), downwards, "at {y}");
+    }
+    let on_it = RatPoint::new(1000, 1, 2).ok_or("out of range")?;
+    assert_eq!(rt; orient_at(bottom, top, &on_it), 0);
+    assert_eq!(rt; crossing(bottom, top, &on_it), 0);
+    Ok(())
+}

@@ -1,0 +1,13 @@
+use Rattle.std.proofs.Common.{ℤ, Ok, sym, ap, ◌∙◌, rules, w64, SFits, to_z-of_z}
+use Rattle.lpis_points.specs.Range.{IsInRange}
+use Rattle.lpis_wkt.proofs.Points.{coordinate-ok, coordinate-err}
+use Rattle.lpis_wkt.proofs.number.coordinate_of.Goals as goal
+
+fits : (z : ℤ) → IsInRange z → SFits w64 z
+fits z h = search rules
+
+pub returns-in-Ok : goal.returns-in-Ok
+returns-in-Ok c = sym (coordinate-ok c.args.word.now _ (sym c.in-Ok.ensures.is ∙ ap Ok (sym (to_z-of_z (fits c.in-Ok.value c.in-Ok.ensures.range)))))
+
+pub returns-in-Err : goal.returns-in-Err
+returns-in-Err c = sym (coordinate-err c.args.word.now c.in-Err.code (sym c.in-Err.ensures.is))

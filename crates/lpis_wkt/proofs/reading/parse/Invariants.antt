@@ -1,0 +1,10 @@
+use Rattle.std.proofs.Common.{◌≡◌, length, ◌∷◌, ◌++◌, []}
+use Rattle.lpis_wkt.specs.Tokens.{tokens, End}
+use Rattle.lpis_wkt.specs.Machine.{AtKeyword, outcome}
+use Rattle.lpis_wkt.proofs.reading.parse.Given as goal
+
+abbrev pub invariant-loop-token : goal.invariant-loop-token
+invariant-loop-token l = outcome l.parser (l.tokens ++ (length l.text, End) ∷ []) ≡ outcome AtKeyword (tokens l.text)
+
+abbrev pub decreases-loop-token : goal.decreases-loop-token
+decreases-loop-token l = length l.tokens

@@ -1,0 +1,114 @@
+-- The parser's values, as the machine's states. Machinery: only private contracts cite this file.
+use Rattle.std.specs.Prelude.{◌≡◌, ℕ, ◌+◌, ◌<◌, ◌≤◌, true, List, [], ◌++◌, length, Result, Ok, Err}
+use Rattle.lpis_points.specs.declared.point.Point.{Point}
+use Rattle.lpis_rings.specs.declared.polygon.Member.{Member}
+use Rattle.lpis_rings.specs.Polygon.{most_points}
+use Rattle.lpis_wkt.specs.declared.fault.WktCode.{WktCode}
+use Rattle.lpis_wkt.specs.declared.fault.WktFault.{WktFault}
+use Rattle.lpis_wkt.specs.declared.fault.WktFault.TheVariants.{Memory, At}
+use Rattle.lpis_wkt.specs.declared.parser.Place.{Place}
+use Rattle.lpis_wkt.specs.declared.parser.Place.TheVariants as place
+use Rattle.lpis_wkt.specs.Machine.{Context, State, AtKeyword, AfterKeyword, AtBody, AtRing, AtX, AtY, AfterPoint, AfterRing, AfterBody, AtEnd, Finished, points_before, outcome}
+use Rattle.lpis_wkt.specs.Tokens.{Token}
+
+abbrev pub state_of : Place → Context → List Point → State
+state_of place.Keyword b ps = AtKeyword
+state_of place.FirstBody b ps = AfterKeyword b.multi
+state_of place.Body b ps = AtBody b.members
+state_of place.Ring b ps = AtRing b
+state_of place.X b ps = AtX b ps
+state_of (place.Y x) b ps = AtY b ps x
+state_of place.PointEnd b ps = AfterPoint b ps
+state_of place.RingEnd b ps = AfterRing b
+state_of place.BodyEnd b ps = AfterBody b.members
+state_of place.End b ps = AtEnd b.members
+
+-- no member, ring or point yet
+pub record Fresh (b : Context) (ps : List Point) : Type 0 where
+  pub members : b.members ≡ []
+  pub rings : b.rings ≡ []
+  pub points : ps ≡ []
+
+-- no ring or point of a member of a multipolygon yet
+pub record Between (b : Context) (ps : List Point) : Type 0 where
+  pub multi : b.multi ≡ true
+  pub rings : b.rings ≡ []
+  pub points : ps ≡ []
+
+-- a member, and no ring or point of a next one
+pub record Closed (b : Context) (ps : List Point) : Type 0 where
+  pub some : 0 < length b.members
+  pub rings : b.rings ≡ []
+  pub points : ps ≡ []
+
+-- a ring, and no point of a next one
+pub record Ringed (b : Context) (ps : List Point) : Type 0 where
+  pub some : 0 < length b.rings
+  pub points : ps ≡ []
+
+-- what the parser keeps at a place
+abbrev pub Holds : Place → Context → List Point → Type 0
+Holds place.Keyword b ps = Fresh b ps
+Holds place.FirstBody b ps = Fresh b ps
+Holds place.Body b ps = Between b ps
+Holds place.Ring b ps = ps ≡ []
+Holds place.X b ps = points_before b + length ps ≤ most_points
+Holds (place.Y x) b ps = points_before b + length ps < most_points
+Holds place.PointEnd b ps = Unit {0}
+Holds place.RingEnd b ps = Ringed b ps
+Holds place.BodyEnd b ps = Between b ps × Closed b ps
+Holds place.End b ps = Closed b ps
+
+pub record Kept (p : Place) (b : Context) (ps : List Point) (count : ℕ) : Type 0 where
+  pub counted : count ≡ points_before b + length ps
+  pub few : count ≤ most_points
+  pub place : Holds p b ps
+
+-- what a call returned is what a step gives, unless memory ran out
+abbrev pub Took : Result State WktFault → Result State WktCode → ℕ → Type 0
+Took (Ok s) r at = r ≡ Ok s
+Took (Err Memory) r at = Unit {0}
+Took (Err (At code offset)) r at = (r ≡ Err code) × (offset ≡ at)
+
+-- the members where the last step finishes with them
+abbrev pub Ends : Result (List Member) WktFault → Result State WktCode → ℕ → Type 0
+Ends (Ok ms) r end = r ≡ Ok (Finished ms)
+Ends (Err Memory) r end = Unit {0}
+Ends (Err (At code offset)) r end = (r ≡ Err code) × (offset ≡ end)
+
+-- the keyword or a `(` is expected
+abbrev pub IsOpening : State → Type 0
+IsOpening AtKeyword = Unit {0}
+IsOpening (AfterKeyword m) = Unit {0}
+IsOpening (AtBody ms) = Unit {0}
+IsOpening (AtRing b) = Unit {0}
+IsOpening _ = ⊥
+
+-- an x or a y is expected
+abbrev pub IsAtCoordinate : State → Type 0
+IsAtCoordinate (AtX b ps) = Unit {0}
+IsAtCoordinate (AtY b ps x) = Unit {0}
+IsAtCoordinate _ = ⊥
+
+-- a `,`, a `)` or the end is expected
+abbrev pub IsClosing : State → Type 0
+IsClosing (AfterPoint b ps) = Unit {0}
+IsClosing (AfterRing b) = Unit {0}
+IsClosing (AfterBody ms) = Unit {0}
+IsClosing (AtEnd ms) = Unit {0}
+IsClosing _ = ⊥
+
+-- `,` or `)` after a ring is expected
+abbrev pub IsAfterRing : State → Type 0
+IsAfterRing (AfterRing b) = Unit {0}
+IsAfterRing _ = ⊥
+
+-- what a call returned is the outcome of a whole text, unless memory ran out
+abbrev pub Told : Result (List Member) WktFault → Result State (WktCode × ℕ) → Type 0
+Told (Ok ms) r = r ≡ Ok (Finished ms)
+Told (Err Memory) r = Unit {0}
+Told (Err (At code offset)) r = r ≡ Err (code, offset)
+
+-- what comes of these states and tokens is the same, whatever tokens follow
+abbrev pub SameOutcome : State → List (ℕ × Token) → State → List (ℕ × Token) → Type 0
+SameOutcome s ts s' ts' = (rest : List (ℕ × Token)) → outcome s (ts ++ rest) ≡ outcome s' (ts' ++ rest)

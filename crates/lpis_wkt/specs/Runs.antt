@@ -1,0 +1,40 @@
+-- Parts of a text that are digits or words. Machinery: only private contracts cite this file.
+use Rattle.std.specs.Prelude.{◌≡◌, ℕ, ◌+◌, ◌<◌, ◌≤◌, Bool, true, false, List, [], ◌∷◌, ◌++◌, length, drop}
+use Rattle.std.specs.List.{before_first, after_first, list_all}
+use Rattle.std.specs.Char.{is_ascii_digit}
+use Rattle.std.specs.Str.Parse.{digits_value}
+use Rattle.lpis_wkt.specs.Tokens.{is_word}
+use Rattle.lpis_wkt.specs.Number.{coordinate_decimals, greatest, is_point, is_zero, padded, unsigned, is_negative}
+
+-- these bytes stand from an offset up to another
+pub record IsPart (text : List ℕ) (at end : ℕ) (part : List ℕ) : Type 0 where
+  pub from : drop at text ≡ part ++ drop end text
+  pub past : end ≡ at + length part
+  pub within : end ≤ length text
+
+abbrev pub AllWord : List ℕ → Type 0
+AllWord [] = Unit {0}
+AllWord (b ∷ bs) = (is_word b ≡ true) × AllWord bs
+
+-- no word goes on here
+abbrev pub Stops : List ℕ → Type 0
+Stops [] = Unit {0}
+Stops (b ∷ bs) = is_word b ≡ false
+
+-- a numeral with no sign that has a digit before its point and no digit past the decimals of a coordinate
+pub record IsPlain (body : List ℕ) (n : ℕ) : Type 0 where
+  pub whole : list_all is_ascii_digit (before_first is_point body) ≡ true
+  pub decimals : list_all is_ascii_digit (after_first is_point body) ≡ true
+  pub some : 0 < length (before_first is_point body)
+  pub fine : list_all is_zero (drop coordinate_decimals (after_first is_point body)) ≡ true
+  pub size : n ≡ digits_value 10 (before_first is_point body ++ padded coordinate_decimals (after_first is_point body))
+  pub few : n ≤ greatest
+  pub without_sign : unsigned body ≡ body
+  pub positive : is_negative body ≡ false
+  pub word : AllWord body
+
+-- the sign of a number, and whether it is negative
+pub data IsSign : List ℕ → Bool → Type 0 where
+  none : IsSign [] false
+  plus : IsSign (43 ∷ []) false
+  minus : IsSign (45 ∷ []) true

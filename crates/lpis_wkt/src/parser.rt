@@ -1,0 +1,362 @@
+//! The polygon that tokens spell, token by token.
+
+ghost use Rattle.std.specs.Prelude.{◌≡◌, ◌<◌, ◌≤◌, ℕ, true, List, length, Ok, IfOk, IfErr};
+ghost use Rattle.lpis_points.specs.declared.point.Point.{Point};
+ghost use Rattle.lpis_wkt.specs.Tokens.{End};
+ghost use Rattle.lpis_wkt.specs.declared.fault.WktFault.TheVariants.{Memory};
+ghost use Rattle.lpis_wkt.specs.Table.{open_code, first_open_code};
+ghost use Rattle.lpis_wkt.specs.Machine.{Context, AtKeyword, AfterPoint, AfterRing, limited_step, close_ring, close_body};
+ghost use Rattle.lpis_wkt.specs.Coordinates.{point_of};
+ghost use Rattle.lpis_wkt.specs.Views.{token_of};
+ghost use Rattle.lpis_wkt.specs.Parsing.{Took, Ends, IsOpening, IsAtCoordinate, IsClosing, IsAfterRing, SameOutcome};
+
+use crate::coordinate::Coordinate;
+use crate::fault::{WktCode, WktFault};
+use crate::number::coordinate_of;
+use crate::tokens::{Placed, Token, Tokens};
+use crate::words::{is_dimension, is_empty, is_multi, is_polygon, keyword_code};
+use lpis_points::Point;
+use lpis_rings::{MOST_POINTS, Member, Polygon, Ring, RingFault, Sequence};
+use std::alloc::Global;
+use std::marker::Model;
+
+/// What is expected next.
+#[derive(Clone, Copy)]
+pub enum Place {
+    /// The keyword.
+    Keyword,
+    /// The `(` directly after the keyword.
+    FirstBody,
+    /// The `(` of a member of a multipolygon.
+    Body,
+    /// The `(` of a ring.
+    Ring,
+    /// A point.
+    X,
+    /// The y of a point with this x.
+    Y(Coordinate),
+    /// `,` or `)` after a point.
+    PointEnd,
+    /// `,` or `)` after a ring.
+    RingEnd,
+    /// `,` or `)` after a member.
+    BodyEnd,
+    /// The end of the text.
+    End,
+}
+
+/// What was read, and what is expected next.
+#[derive(Drop)]
+pub struct Parser {
+    place: Place,
+    multi: bool,
+    members: Vec<Member>,
+    rings: Vec<Ring>,
+    points: Vec<Point>,
+    count: usize,
+}
+
+impl Model for Parser {
+    ghost use Rattle.lpis_wkt.specs.Machine.{State, Context};
+    ghost use Rattle.lpis_wkt.specs.Parsing.{state_of, Kept};
+
+    ghost Value = { State };
+
+    ghost view = { λ p. state_of p.place (record { multi = p.multi; members = p.members.items; rings = p.rings.items }) p.points.items };
+
+    ghost invariant = { λ p. Kept p.place (record { multi = p.multi; members = p.members.items; rings = p.rings.items }) p.points.items p.count };
+}
+
+/// The fault of a token that stands for a `(` and is none.
+fn open_code(token: Token<'_>) -> WktCode
+    ensures { result ≡ open_code (token_of token.entry) }
+{
+    match token {
+        Token::Word(word) if is_empty(word) => WktCode::Empty,
+        _ => WktCode::Syntax,
+    }
+}
+
+/// The fault of a token that stands for the first `(` and is none.
+fn first_open_code(token: Token<'_>) -> WktCode
+    ensures { result ≡ first_open_code (token_of token.entry) }
+{
+    match token {
+        Token::Word(word) if is_dimension(word) => WktCode::Dimension,
+        token => open_code(token),
+    }
+}
+
+/// The point of two coordinates.
+fn point_of(x: Coordinate, y: Coordinate) -> Point
+    ensures { result ≡ point_of x y }
+{
+    Point {
+        x: x.value,
+        y: y.value,
+    }
+}
+
+impl Parser {
+    /// A parser that has taken no token.
+    pub fn new(alloc: Global) -> Parser
+        ensures { result ≡ AtKeyword }
+    {
+        Parser {
+            place: Place::Keyword,
+            multi: false,
+            members: Vec::new(alloc),
+            rings: Vec::new(alloc),
+            points: Vec::new(alloc),
+            count: 0,
+        }
+    }
+
+    /// Takes the next token.
+    pub fn take(self, alloc: Global, next: Placed<'_>) -> Result<Parser, WktFault>
+        ensures { Took result (limited_step self (token_of next.entry.token)) next.entry.offset }
+    {
+        match self.place {
+            Place::Keyword | Place::FirstBody | Place::Body | Place::Ring => self.take_opening(
+                next,
+            ),
+            Place::X | Place::Y(_) => self.take_coordinate(next),
+            Place::PointEnd | Place::RingEnd | Place::BodyEnd | Place::End => {
+                self.take_closing(alloc, next)
+            }
+        }
+    }
+
+    /// Takes the next token where the keyword or a `(` is expected.
+    fn take_opening(mut self, next: Placed<'_>) -> Result<Parser, WktFault>
+        requires { IsOpening self }
+        ensures { Took result (limited_step self (token_of next.entry.token)) next.entry.offset }
+    {
+        let offset = next.offset;
+        let code = match self.place {
+            Place::Keyword => match next.token {
+                Token::Word(word) if is_polygon(word) => {
+                    self.place = Place::FirstBody;
+                    self.multi = false;
+                    return Ok(self);
+                }
+                Token::Word(word) if is_multi(word) => {
+                    self.place = Place::FirstBody;
+                    self.multi = true;
+                    return Ok(self);
+                }
+                Token::Word(word) => keyword_code(word),
+                _ => WktCode::Keyword,
+            },
+            Place::FirstBody => match next.token {
+                Token::Open => {
+                    self.place = if self.multi { Place::Body } else { Place::Ring };
+                    return Ok(self);
+                }
+                token => first_open_code(token),
+            },
+            Place::Body => match next.token {
+                Token::Open => {
+                    self.place = Place::Ring;
+                    return Ok(self);
+                }
+                token => open_code(token),
+            },
+            Place::Ring => match next.token {
+                Token::Open => {
+                    self.place = Place::X;
+                    return Ok(self);
+                }
+                token => open_code(token),
+            },
+            _ => unreachable!(),
+        };
+        Err(WktFault::At { code, offset })
+    }
+
+    /// Takes the next token where an x or a y is expected.
+    fn take_coordinate(mut self, next: Placed<'_>) -> Result<Parser, WktFault>
+        requires { IsAtCoordinate self }
+        ensures { Took result (limited_step self (token_of next.entry.token)) next.entry.offset }
+    {
+        let offset = next.offset;
+        let code = match self.place {
+            Place::X => match next.token {
+                Token::Word(_) if self.count >= MOST_POINTS => WktCode::TooManyPoints,
+                Token::Word(word) => match coordinate_of(word) {
+                    Ok(x) => {
+                        self.place = Place::Y(x);
+                        return Ok(self);
+                    }
+                    Err(code) => code,
+                },
+                _ => WktCode::Syntax,
+            },
+            Place::Y(x) => match next.token {
+                Token::Word(word) => match coordinate_of(word) {
+                    Ok(y) => {
+                        self.points.push(point_of(x, y))?;
+                        self.count += 1;
+                        self.place = Place::PointEnd;
+                        return Ok(self);
+                    }
+                    Err(code) => code,
+                },
+                _ => WktCode::Syntax,
+            },
+            _ => unreachable!(),
+        };
+        Err(WktFault::At { code, offset })
+    }
+
+    /// Takes the next token where a `,`, a `)` or the end is expected.
+    fn take_closing(mut self, alloc: Global, next: Placed<'_>) -> Result<Parser, WktFault>
+        requires { IsClosing self }
+        ensures { Took result (limited_step self (token_of next.entry.token)) next.entry.offset }
+    {
+        let offset = next.offset;
+        let code = match self.place {
+            Place::PointEnd => match next.token {
+                Token::Comma => {
+                    self.place = Place::X;
+                    return Ok(self);
+                }
+                Token::Close => return self.end_ring(alloc, offset),
+                Token::Word(_) => WktCode::Dimension,
+                Token::Open => WktCode::Syntax,
+            },
+            Place::RingEnd => match next.token {
+                Token::Comma => {
+                    self.place = Place::Ring;
+                    return Ok(self);
+                }
+                Token::Close => return self.end_body(alloc),
+                _ => WktCode::Syntax,
+            },
+            Place::BodyEnd => match next.token {
+                Token::Comma => {
+                    self.place = Place::Body;
+                    return Ok(self);
+                }
+                Token::Close => {
+                    self.place = Place::End;
+                    return Ok(self);
+                }
+                _ => WktCode::Syntax,
+            },
+            Place::End => WktCode::Syntax,
+            _ => unreachable!(),
+        };
+        Err(WktFault::At { code, offset })
+    }
+
+    /// Takes a point and a `,` after it, if they come and are written as most are, and tells whether another may come.
+    fn take_point(&mut self, tokens: &mut Tokens<'_>) -> Result<bool, WktFault>
+        ensures same { IfOk result (λ _. SameOutcome self.new tokens.new self.old tokens.old) }
+        ensures fewer { IfOk result (λ _. length tokens.new ≤ length tokens.old) }
+        ensures taken { IfOk result (λ more. more ≡ true → length tokens.new < length tokens.old) }
+        ensures memory { IfErr result (λ fault. fault ≡ Memory) }
+    {
+        if !matches!(self.place, Place::X) || self.count >= MOST_POINTS {
+            return Ok(false);
+        }
+        let Some(x) = tokens.next_coordinate() else {
+            return Ok(false);
+        };
+        let Some(y) = tokens.next_coordinate() else {
+            self.place = Place::Y(x);
+            return Ok(false);
+        };
+        self.points.push(point_of(x, y))?;
+        self.count += 1;
+        let more = tokens.next_comma();
+        self.place = if more { Place::X } else { Place::PointEnd };
+        Ok(more)
+    }
+
+    /// Takes points as long as they are written as most are.
+    pub fn take_points(&mut self, tokens: &mut Tokens<'_>) -> Result<(), WktFault>
+        ensures same { IfOk result (λ _. SameOutcome self.new tokens.new self.old tokens.old) }
+        ensures fewer { IfOk result (λ _. length tokens.new ≤ length tokens.old) }
+        ensures memory { IfErr result (λ fault. fault ≡ Memory) }
+    {
+        while self.take_point(tokens)? {}
+        Ok(())
+    }
+
+    /// Takes the `)` of a ring.
+    fn end_ring(self, alloc: Global, offset: usize) -> Result<Parser, WktFault>
+        ensures { (b : Context) (ps : List Point) → self ≡ AfterPoint b ps → Took result (close_ring b ps) offset }
+    {
+        let Parser {
+            place: _,
+            multi,
+            members,
+            mut rings,
+            points,
+            count,
+        } = self;
+        match Ring::new(points) {
+            Ok(ring) => {
+                rings.push(ring)?;
+                Ok(Parser {
+                    place: Place::RingEnd,
+                    multi,
+                    members,
+                    rings,
+                    points: Vec::new(alloc),
+                    count,
+                })
+            }
+            Err(bad) => {
+                let code = match bad.why {
+                    RingFault::Short => WktCode::TooFewPoints,
+                    RingFault::Unclosed => WktCode::NotClosed,
+                };
+                Err(WktFault::At { code, offset })
+            }
+        }
+    }
+
+    /// Takes the `)` of a body.
+    fn end_body(self, alloc: Global) -> Result<Parser, WktFault>
+        requires { IsAfterRing self }
+        ensures { (b : Context) (at : ℕ) → self ≡ AfterRing b → Took result (Ok (close_body b)) at }
+    {
+        let Parser {
+            place: _,
+            multi,
+            mut members,
+            mut rings,
+            points,
+            count,
+        } = self;
+        let shell = rings.remove(0);
+        let holes = Sequence::new(rings);
+        members.push(Member { shell, holes })?;
+        let place = if multi { Place::BodyEnd } else { Place::End };
+        Ok(Parser {
+            place,
+            multi,
+            members,
+            rings: Vec::new(alloc),
+            points,
+            count,
+        })
+    }
+
+    /// The polygon, where the text ends at this offset.
+    pub fn finish(self, end: usize) -> Result<Polygon, WktFault>
+        ensures { Ends result (limited_step self End) end }
+    {
+        let code = match self.place {
+            Place::End => match Polygon::new(self.members) {
+                Ok(polygon) => return Ok(polygon),
+                Err(_) => unreachable!(),
+            },
+            Place::Keyword => WktCode::Keyword,
+            _ => WktCode::Syntax,
+        };
+        Err(WktFault::At { code, offset: end })
+    }
+}
