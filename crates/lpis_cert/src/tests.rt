@@ -42,9 +42,17 @@ s 2 3 2
 end
 ";
 
+const CUT_AFTER_MANY_PAIRS: &str = "lpis-cert 1
+piece C1 2 0
+t 0 0 1000 0 1000 1000
+t 0 0 1000 1000 0 1000
+parcel A 0
+pairs 4294967295
+";
+
 /// The code and the line of a text's first fault, or `ok`.
-fn answer(rt: &HostRuntime, text: &str) -> (&'static str, u64) {
-    match read_cert(rt.alloc(), text.as_bytes()) {
+fn answer(rt: &HostRuntime, text: &[u8]) -> (&'static str, u64) {
+    match read_cert(rt.alloc(), text) {
         Ok(_) => ("ok", 0),
         Err(CertFault::At { code, line }) => (code.as_str(), line),
         Err(CertFault::Memory) => ("memory", 0),
@@ -92,36 +100,48 @@ fn a_certificate_has_its_parts_in_order(rt: HostRuntime) -> Result<(), Fail> {
     let cert = read_cert(rt.alloc(), TWO_PIECES.as_bytes())
         .ok()
         .ok_or("read")?;
-    let pieces = cert.pieces.as_slice();
-    assert_eq!(rt; pieces.len(), 2);
-    assert_eq!(rt; pieces[1].id.as_str(), "R");
-    assert_eq!(rt; pieces[1].triangles.as_slice()[1].c.y, 1000);
-    assert_eq!(rt; cert.parcels.as_slice()[0].flats.as_slice()[1].a.x, 1000);
-    let pairs = cert.pairs.as_slice();
-    assert_eq!(rt; (pairs[1].i, pairs[1].j, pairs[1].k), (2, 3, 2));
+    let [_, right] = cert.pieces.as_slice() else {
+        return Err("two pieces".into());
+    };
+    let [_, upper] = right.triangles.as_slice() else {
+        return Err("two triangles".into());
+    };
+    let [parcel] = cert.parcels.as_slice() else {
+        return Err("one parcel".into());
+    };
+    let [_, flat] = parcel.flats.as_slice() else {
+        return Err("two flats".into());
+    };
+    let [_, pair] = cert.pairs.as_slice() else {
+        return Err("two pairs".into());
+    };
+    assert_eq!(rt; right.id.as_str(), "R");
+    assert_eq!(rt; (upper.c.x, upper.c.y), (500, 1000));
+    assert_eq!(rt; (flat.a.x, flat.b.x, flat.c.x), (1000, 0, 500));
+    assert_eq!(rt; (pair.i, pair.j, pair.k), (2, 3, 2));
     Ok(())
 }
 
 #[test]
 fn a_certificate_cut_at_each_byte_lacks_its_next_line(rt: HostRuntime) {
     for text in [ONE_PIECE, TWO_PIECES, TWO_PARCELS] {
-        let mut line = 1;
-        let mut at = 0;
-        for byte in text.as_bytes() {
-            assert_eq!(rt; answer(&rt, &text[..at]), ("54", line));
-            if *byte == b'\n' {
-                line += 1;
-            }
-            at += 1;
+        let bytes = text.as_bytes();
+        for at in 0..bytes.len() {
+            let front = &bytes[..at];
+            let ended = front.iter().filter(|b| **b == b'\n').count() as u64;
+            assert_eq!(rt; answer(&rt, front), ("54", ended.saturating_add(1)));
         }
     }
 }
 
 #[test]
 fn first_faults(rt: HostRuntime) -> Result<(), Fail> {
-    assert_eq!(rt; answer(&rt, ""), ("54", 1));
-    assert_eq!(rt; answer(&rt, "lpis-cert 1\r\npairs 0\r\nend\r\n"), ("50", 1));
-    assert_eq!(rt; answer(&rt, "lpis-cert 2\npairs 0\nend\n"), ("50", 1));
+    assert_eq!(rt; answer(&rt, b""), ("54", 1));
+    assert_eq!(rt;
+        answer(&rt, b"lpis-cert 1\r\npairs 0\r\nend\r\n"),
+        ("50", 1)
+    );
+    assert_eq!(rt; answer(&rt, b"lpis-cert 2\npairs 0\nend\n"), ("50", 1));
     for (old, new, code, line) in [
         ("piece C1 2 0", "piece C1 1 0", "53", 4),
         ("piece C1 2 0", "piece C1 3 0", "53", 5),
@@ -146,17 +166,18 @@ fn first_faults(rt: HostRuntime) -> Result<(), Fail> {
         ("end", "end\n", "55", 9),
     ] {
         let text = with_line(&rt, ONE_PIECE, old, new)?;
-        assert_eq!(rt; answer(&rt, &text), (code, line), "{new}");
+        assert_eq!(rt; answer(&rt, text.as_bytes()), (code, line), "{new}");
     }
     Ok(())
 }
 
 #[test]
 fn no_list_grows_by_a_declared_count(rt: HostRuntime) -> Result<(), Fail> {
-    let text = with_line(&rt, &ONE_PIECE[..90], "pairs 1", "pairs 4294967295")?;
-    assert_eq!(rt; answer(&rt, &text), ("54", 7));
+    assert_eq!(rt; answer(&rt, CUT_AFTER_MANY_PAIRS.as_bytes()), ("54", 7));
+    let text = with_line(&rt, ONE_PIECE, "pairs 1", "pairs 4294967295")?;
+    assert_eq!(rt; answer(&rt, text.as_bytes()), ("53", 8));
     assert_eq!(rt;
-        answer(&rt, "lpis-cert 1\npiece A 2000000 2000000\n"),
+        answer(&rt, b"lpis-cert 1\npiece A 2000000 2000000\n"),
         ("54", 3)
     );
     Ok(())
