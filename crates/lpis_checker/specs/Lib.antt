@@ -1,0 +1,6 @@
+pub mod Codes
+pub mod Corners
+pub mod GoodCertificate
+pub mod FirstFault
+pub mod SoundMap
+pub mod Searches

@@ -1,0 +1,1 @@
+//! Flats that are not flat.

@@ -1,0 +1,1 @@
+//! The parcel and the piece at a point.

@@ -1,0 +1,1 @@
+//! Near pairs that no pair line names.

@@ -1,0 +1,1 @@
+//! The names of the parts, and the order of the pair lines.

@@ -1,0 +1,1 @@
+//! Net counts of edges.

@@ -1,0 +1,1 @@
+//! Sums over runs of equal edges.

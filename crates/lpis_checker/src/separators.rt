@@ -1,0 +1,1 @@
+//! Conditions on the triangles of each pair line.

@@ -1,0 +1,1 @@
+//! Edges with their lesser point first.
