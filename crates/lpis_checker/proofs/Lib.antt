@@ -1,1 +1,4 @@
 pub mod Sites
+pub mod Distinct
+pub mod Sums
+pub mod Sound
