@@ -1,1 +1,4 @@
 pub mod Sites
+pub mod RunLemmas
+pub mod Grouping
+pub mod NetSums
