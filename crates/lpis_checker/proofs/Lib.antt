@@ -2,3 +2,6 @@ pub mod Sites
 pub mod RunLemmas
 pub mod Grouping
 pub mod NetSums
+pub mod Distinct
+pub mod Sums
+pub mod Sound

@@ -5,3 +5,4 @@ pub mod FirstFault
 pub mod SoundMap
 pub mod Searches
 pub mod SignedEdges
+pub mod Laws

@@ -5,6 +5,7 @@ mod condition;
 mod corners;
 mod fault;
 mod flats;
+pub mod laws;
 mod locating;
 mod named;
 mod names;
