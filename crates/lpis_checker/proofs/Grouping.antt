@@ -1,9 +1,9 @@
 -- Sorted edges are grouped.
-use Rattle.std.proofs.Common.{◌≡◌, ℕ, ◌+◌, ◌<◌, ◌≤◌, ℤ, int_lt, int_eq, Bool, true, false, ◌&&◌, cond, List, length, get_or, Some, ap, ap₂, sym, refl, ◌∙◌, subst, arith}
+use Rattle.std.proofs.Common.{◌≡◌, ℕ, ◌<◌, ◌≤◌, ℤ, int_lt, Bool, true, false, ◌&&◌, cond, List, Some, ap, ap₂, sym, refl, ◌∙◌, arith}
 use Rattle.std.proofs.lemmas.Int.{ints}
 use Rattle.std.specs.declared.cmp.Ordering.{Ordering}
 use Rattle.std.specs.declared.cmp.Ordering.TheVariants.{Less, Equal, Greater}
-use Rattle.std.specs.Ordering.{is_lt, ordering_then, int_cmp, bool_cmp, on, then_cmp}
+use Rattle.std.specs.Ordering.{is_lt, ordering_then, int_cmp, bool_cmp}
 use Rattle.std.specs.Cmp.{IsTotalOrder}
 use Rattle.std.proofs.lemmas.Cmp.{int_cmp_total, on_total, then_total}
 use Rattle.std.specs.Cmp.{bool_cmp_total}
@@ -15,7 +15,7 @@ use Rattle.lpis_points.specs.declared.point.Point.{Point}
 use Rattle.lpis_points.specs.Plane.{same_point}
 use Rattle.lpis_points.proofs.Points.{same_point-equality, point_eq}
 use Rattle.lpis_checker.specs.declared.signed.SignedEdge.{SignedEdge}
-use Rattle.lpis_checker.specs.SignedEdges.{is_at, same_ends, IsGrouped, point_order}
+use Rattle.lpis_checker.specs.SignedEdges.{same_ends, IsGrouped, point_order}
 
 abbrev pub edge_order : SignedEdge → SignedEdge → Ordering
 edge_order x y = ordering_then (point_order x.low y.low) (ordering_then (point_order x.high y.high) (bool_cmp x.forward y.forward))

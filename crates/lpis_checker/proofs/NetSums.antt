@@ -1,14 +1,16 @@
 -- Sums over signed edges are net counts.
-use Rattle.std.proofs.Common.{◌≡◌, ◌≢◌, ℤ, pos, negsuc, ◌+ℤ◌, ◌-ℤ◌, neg_ℤ, int_lt, Bool, true, false, not, ◌&&◌, cond, List, [], ◌∷◌, ◌++◌, Option, Some, None, ◌⊎◌, inl, inr, ap, ap₂, sym, refl, ◌∙◌, ◌↔◌, arith}
+use Rattle.std.proofs.Common.{◌≡◌, ◌≢◌, ℤ, pos, negsuc, ◌+ℤ◌, ◌-ℤ◌, neg_ℤ, int_lt, Bool, true, false, not, ◌&&◌, cond, List, [], ◌∷◌, ◌++◌, Some, None, inl, inr, ap, ap₂, sym, refl, ◌∙◌, ◌↔◌, IsTrue, subst, arith}
 use Rattle.std.proofs.lemmas.Int.{ints}
 use Rattle.std.specs.declared.cmp.Ordering.{Ordering}
 use Rattle.std.specs.declared.cmp.Ordering.TheVariants.{Less, Equal, Greater}
 use Rattle.std.specs.Ordering.{is_lt, ordering_then, int_cmp}
 use Rattle.lpis_points.specs.declared.point.Point.{Point}
+use Rattle.lpis_points.specs.declared.triangle.Triangle.{Triangle}
 use Rattle.lpis_points.specs.Plane.{same_point}
 use Rattle.lpis_points.specs.Chain.{is_edge, net_count, SameNet}
 use Rattle.lpis_points.proofs.Chains.{edge_sum-append}
 use Rattle.lpis_points.proofs.Points.{same_point-equality}
+use Rattle.lpis_rings.specs.Map.{edges_of_triangles}
 use Rattle.lpis_checker.specs.declared.signed.SignedEdge.{SignedEdge}
 use Rattle.lpis_checker.specs.SignedEdges.{weight, is_at, sum_at, SumsAreZero, is_low, IsSigned, signed_by, low_count, Grows}
 use Rattle.lpis_checker.proofs.RunLemmas.{sum_at-append}
@@ -229,7 +231,7 @@ same_is_zero es fs s p q = by (is_low p q) refl
     by true t = s p q (low_differs p q t)
     by false t = refl
 
-pub zero_when_same : (es fs : List (Point × Point)) (xs ys : List SignedEdge) → Grows true es [] xs → Grows false fs xs ys → SumsAreZero ys ↔ SameNet same_point es fs
+zero_when_same : (es fs : List (Point × Point)) (xs ys : List SignedEdge) → Grows true es [] xs → Grows false fs xs ys → SumsAreZero ys ↔ SameNet same_point es fs
 zero_when_same es fs xs ys h k = (
   λ z. zero_is_same es fs (λ p q. equal (low_count p q es) (low_count p q fs) (sum_at p q ys) (difference es fs xs ys h k p q) (z p q)),
   λ s. λ p q. less (low_count p q es) (low_count p q fs) (sum_at p q ys) (difference es fs xs ys h k p q) (same_is_zero es fs s p q),
@@ -240,3 +242,13 @@ zero_when_same es fs xs ys h k = (
 
     less : (x y s : ℤ) → s ≡ x -ℤ y → x ≡ y → s ≡ pos 0
     less x y s e f = omega (arith, ints)
+
+-- one list added to nothing and two taken away
+pub cancels_when_same : (b : Bool) (es fs gs : List (Point × Point)) (none xs ys zs : List SignedEdge) → none ≡ [] → Grows true es none xs → Grows false fs xs ys → Grows false gs ys zs → (IsTrue b ↔ SumsAreZero zs) → IsTrue b ↔ SameNet same_point es (fs ++ gs)
+cancels_when_same b es fs gs none xs ys zs e h k l c =
+    let z = zero_when_same es (fs ++ gs) xs zs (subst (λ (us : List SignedEdge). Grows true es us xs) e h) (grows_then false fs gs xs ys zs k l) in
+    (λ t. z.0 (c.0 t), λ s. c.1 (z.1 s))
+
+-- triangles that are read from a slice
+pub grows_as : (ts us : List Triangle) (t : Bool) (xs ys : List SignedEdge) → ts ≡ us → Grows t (edges_of_triangles ts) xs ys → Grows t (edges_of_triangles us) xs ys
+grows_as ts us t xs ys e h = subst (λ (vs : List Triangle). Grows t (edges_of_triangles vs) xs ys) e h

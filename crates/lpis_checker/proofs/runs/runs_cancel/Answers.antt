@@ -1,9 +1,7 @@
-use Rattle.std.proofs.Common.{◌≡◌, ◌≢◌, ℕ, ◌+◌, ◌<◌, ◌≤◌, ◌^◌, ℤ, pos, ◌+ℤ◌, nat_abs, Bool, true, false, List, length, get_or, Some, ap, sym, refl, ◌∙◌, subst, arith, to_z, of_z, w64, SFits}
+use Rattle.std.proofs.Common.{◌≡◌, ℕ, ◌+◌, ◌<◌, ◌≤◌, ◌^◌, ℤ, pos, ◌+ℤ◌, nat_abs, Bool, true, false, length, sym, refl, subst, arith, to_z, of_z, w64, SFits}
 use Rattle.std.proofs.lemmas.Int.{ints}
-use Rattle.std.specs.List.{slice_get}
 use Rattle.std.proofs.lemmas.Option.{slice_get_read}
-use Rattle.lpis_checker.specs.declared.signed.SignedEdge.{SignedEdge}
-use Rattle.lpis_checker.specs.SignedEdges.{weight, EndsRun, SumsAreZero}
+use Rattle.lpis_checker.specs.SignedEdges.{weight}
 use Rattle.lpis_checker.proofs.RunLemmas.{WalkAt, walk_none, walk_zero, walk_on, walk_all, walk_fault}
 use Rattle.lpis_checker.proofs.runs.runs_cancel.Goals as goal
 use Rattle.lpis_checker.proofs.runs.runs_cancel.Goals.{then-sum-ne0+else-ends_run, else-sum-ne0}

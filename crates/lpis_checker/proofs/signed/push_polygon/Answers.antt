@@ -1,6 +1,4 @@
-use Rattle.std.proofs.Common.{◌≡◌, [], ◌∷◌, List, subst, sym, ◌∙◌}
-use Rattle.lpis_points.specs.declared.point.Point.{Point}
-use Rattle.lpis_rings.specs.Edges.{edges_of}
+use Rattle.std.proofs.Common.{[], ◌∷◌, ◌∙◌}
 use Rattle.lpis_checker.proofs.NetSums.{growing_none, growing_more, growing_all}
 use Rattle.lpis_checker.proofs.signed.push_polygon.Goals as goal
 
