@@ -4,4 +4,5 @@ pub mod GoodCertificate
 pub mod FirstFault
 pub mod SoundMap
 pub mod Searches
+pub mod SignedEdges
 pub mod Laws
