@@ -1,10 +1,9 @@
-use Rattle.std.proofs.Common.{◌≡◌, ℕ, ◌<◌, ◌≤◌, length, get_or, Some, List, ap, sym, ◌∙◌, subst}
-use Rattle.std.specs.List.{slice_get}
+use Rattle.std.proofs.Common.{ℕ, get_or, List, sym, subst}
 use Rattle.std.proofs.lemmas.Option.{slice_get-get_or}
 use Rattle.lpis_cert.specs.declared.part.PairLine.{PairLine}
 use Rattle.lpis_checker.specs.declared.condition.Condition.TheVariants.{Named}
 use Rattle.lpis_checker.proofs.Sites.{at_all_sites, untrue}
-use Rattle.lpis_checker.proofs.PairLines.{Skips, NamesAt, skips_over, walk_more, walk_all, walk_fault}
+use Rattle.lpis_checker.proofs.PairLines.{NamesAt, skips_over, walk_more, walk_all, walk_fault}
 use Rattle.lpis_checker.proofs.named.unnamed_pair.Goals as goal
 
 pub loop-i-preserved : goal.loop-i-preserved
