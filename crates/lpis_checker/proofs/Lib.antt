@@ -7,3 +7,5 @@ pub mod Distinct
 pub mod Sums
 pub mod Sound
 pub mod PairLines
+pub mod Lowest
+pub mod OffLines

@@ -41,13 +41,13 @@ abbrev SameIds : List Piece → List PiecePart → Type 0
 SameIds xs ts = (k : ℕ) → option_map (λ (t : PiecePart). t.id) (slice_get ts k) ≡ option_map (λ (x : Piece). x.id) (slice_get xs k)
 
 -- what the conditions on parts say of a piece
-record GoodPart (x : Piece) (t : PiecePart) : Type 0 where
-  some : 0 < length t.triangles
-  ccw : All IsCounterClockwise t.triangles
-  flat : All IsFlat t.flats
-  net : SameNet same_point (edges_of x.polygon) (edges_of_triangles t.triangles ++ edges_of_triangles t.flats)
+pub record GoodPart (x : Piece) (t : PiecePart) : Type 0 where
+  pub some : 0 < length t.triangles
+  pub ccw : All IsCounterClockwise t.triangles
+  pub flat : All IsFlat t.flats
+  pub net : SameNet same_point (edges_of x.polygon) (edges_of_triangles t.triangles ++ edges_of_triangles t.flats)
 
-abbrev GoodParts : List Piece → List PiecePart → Type 0
+abbrev pub GoodParts : List Piece → List PiecePart → Type 0
 GoodParts xs ts = (k : ℕ) (x : Piece) (t : PiecePart) → slice_get xs k ≡ Some x → slice_get ts k ≡ Some t → GoodPart x t
 
 abbrev cut_piece : Piece → PiecePart → CutPiece
@@ -141,7 +141,7 @@ good_keeps r c g i j t u e f l = by (are_apart t u) refl
     by false n = near n
 
 -- ---- pieces
-good_parts : (r : Contents) (c : Cert) → HoldsEverywhere r c Triangles → HoldsEverywhere r c Turned → HoldsEverywhere r c Flats → HoldsEverywhere r c PieceEdges → GoodParts r.pieces c.pieces
+pub good_parts : (r : Contents) (c : Cert) → HoldsEverywhere r c Triangles → HoldsEverywhere r c Turned → HoldsEverywhere r c Flats → HoldsEverywhere r c PieceEdges → GoodParts r.pieces c.pieces
 good_parts r c triangles turned flats net k x t e f = record {
   some = triangles (PieceAt k) x t e f;
   ccw = turned (PieceAt k) x t e f;
@@ -187,16 +187,16 @@ bare_areas : (xs : List Piece) → all_areas (bare xs) ≡ areas2 xs
 bare_areas [] = refl
 bare_areas (x ∷ xs) = ap₂ (λ (a b : ℤ). a +ℤ b) (area2_is x.polygon) (bare_areas xs)
 
-record GoodParcel (r : Contents) (x : Parcel) : Type 0 where
-  fs : List Triangle
-  flat : All IsFlat fs
-  net : SameNet same_point (edges_of x.polygon) (edges_of_pieces (pieces_named r x.id) ++ edges_of_triangles fs)
+pub record GoodParcel (r : Contents) (x : Parcel) : Type 0 where
+  pub fs : List Triangle
+  pub flat : All IsFlat fs
+  pub net : SameNet same_point (edges_of x.polygon) (edges_of_pieces (pieces_named r x.id) ++ edges_of_triangles fs)
 
 part_of : (o : Option ParcelPart) (n : List ℕ) → option_map (λ (t : ParcelPart). t.id) o ≡ Some n → (t : ParcelPart) × (o ≡ Some t)
 part_of None n e = absurd (none_some n e)
 part_of (Some t) n e = (t, refl)
 
-good_parcel : (r : Contents) (c : Cert) → HoldsEverywhere r c Names → HoldsEverywhere r c Flats → HoldsEverywhere r c ParcelEdges → (k : ℕ) (x : Parcel) → slice_get r.parcels k ≡ Some x → GoodParcel r x
+pub good_parcel : (r : Contents) (c : Cert) → HoldsEverywhere r c Names → HoldsEverywhere r c Flats → HoldsEverywhere r c ParcelEdges → (k : ℕ) (x : Parcel) → slice_get r.parcels k ≡ Some x → GoodParcel r x
 good_parcel r c ids flats net k x e =
     let p = part_of (slice_get c.parcels k) x.id (ids (ParcelAt k) ∙ ap (λ (o : Option Parcel). option_map (λ (y : Parcel). y.id) o) e) in
     record { fs = p.0.flats; flat = flats (ParcelAt k) x p.0 e p.1; net = net (ParcelAt k) x p.0 e p.1 }
@@ -204,7 +204,7 @@ good_parcel r c ids flats net k x e =
 bare_net : (r : Contents) (x : Parcel) (g : GoodParcel r x) → SameNet same_point (edges_of x.polygon) (all_edges (bare (pieces_named r x.id)) ++ edges_of_triangles g.fs)
 bare_net r x g = subst (λ (es : List (Point × Point)). SameNet same_point (edges_of x.polygon) (es ++ edges_of_triangles g.fs)) (sym (bare_edges (pieces_named r x.id))) g.net
 
-parcel_turns : (r : Contents) (x : Parcel) → GoodParcel r x → (s : RationalPoint) → pos 0 <ℤ s.d → turns x.polygon s ≡ total (turns_at s) (pieces_named r x.id)
+pub parcel_turns : (r : Contents) (x : Parcel) → GoodParcel r x → (s : RationalPoint) → pos 0 <ℤ s.d → turns x.polygon s ≡ total (turns_at s) (pieces_named r x.id)
 parcel_turns r x g s d =
     parcel_is_its_pieces (edges_of x.polygon) g.fs (bare (pieces_named r x.id)) g.flat (bare_net r x g) s d ∙ bare_turns (pieces_named r x.id) s
 
