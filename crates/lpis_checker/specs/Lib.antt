@@ -4,3 +4,4 @@ pub mod GoodCertificate
 pub mod FirstFault
 pub mod SoundMap
 pub mod Searches
+pub mod CornerSets
