@@ -9,3 +9,4 @@ pub mod Sound
 pub mod PairLines
 pub mod Lowest
 pub mod OffLines
+pub mod PointSets

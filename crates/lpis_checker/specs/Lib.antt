@@ -6,3 +6,4 @@ pub mod SoundMap
 pub mod Searches
 pub mod SignedEdges
 pub mod Laws
+pub mod CornerSets
