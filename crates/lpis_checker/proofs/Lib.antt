@@ -6,3 +6,4 @@ pub mod InRelease
 pub mod Distinct
 pub mod Sums
 pub mod Sound
+pub mod PairLines
