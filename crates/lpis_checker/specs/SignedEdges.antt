@@ -7,6 +7,7 @@ use Rattle.lpis_points.specs.Plane.{same_point}
 use Rattle.lpis_points.specs.Chain.{net_count}
 use Rattle.lpis_checker.specs.declared.signed.SignedEdge.{SignedEdge}
 
+-- the sign of an edge
 abbrev pub weight : SignedEdge → ℤ
 weight x = cond x.forward (pos 1) (negsuc 0)
 
