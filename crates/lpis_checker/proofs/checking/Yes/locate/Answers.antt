@@ -12,4 +12,4 @@ unreachable-requires c =
     let h = c.in_ok-parcel.ensures in
     let here = h.0 in
     let at : slice_get r.parcels here.0 ≡ Some c.in_ok-parcel.parcel.now = slice_get-get_or r.parcels here.0 c.in_ok-parcel.parcel.now here.1 ∙ ap Some here.2 in
-    no_gap r c.self.invariant.0 c.self.invariant.1 (rational_of c.args.p.now) (omega (arith, ints, c.args.p.now.d_low)) here.0 c.in_ok-parcel.parcel.now at h.1 c.in-None.ensures
+    no_gap r c.self.invariant.0 c.self.invariant.1 (rational_of c.args.p.now) (omega (arith, ints, c.args.p.now.d_in_range.0)) here.0 c.in_ok-parcel.parcel.now at h.1 c.in-None.ensures
