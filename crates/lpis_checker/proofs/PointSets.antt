@@ -4,10 +4,10 @@ use Rattle.std.specs.Prelude.{is_ok}
 use Rattle.std.specs.Cmp.{IsTotalOrder}
 use Rattle.std.specs.Ordering.{int_cmp, ordering_then}
 use Rattle.std.specs.List.{All, Contains}
-use Rattle.std.specs.List.Sorted.{IsSorted, IsBinarySearchResult, IsSearchInRange, IsPermutation, IsPartitionPoint}
+use Rattle.std.specs.List.Sorted.{IsSorted, IsBinarySearchResult, IsSearchInRange, IsPartitionPoint}
 use Rattle.std.proofs.lemmas.Cmp.{int_cmp_total, int_ranked, on_total, then_total, tied_itself}
 use Rattle.std.proofs.lemmas.List.Elements.{All-append, All-contains, Contains-append_left, Contains-append_right, Contains-get_or}
-use Rattle.std.proofs.lemmas.List.Sorted.{searchable_from_sorted, IsPermutation-sym, Contains-permutation}
+use Rattle.std.proofs.lemmas.List.Sorted.{searchable_from_sorted}
 use Rattle.lpis_points.specs.declared.point.Point.{Point}
 use Rattle.lpis_points.specs.declared.triangle.Triangle.{Triangle}
 use Rattle.lpis_points.proofs.Points.{point_eq}
@@ -55,6 +55,7 @@ unsplit xs x i h w = elim (by_place w.0 i) [
     greater : Equal ≡ Greater → ⊥
     greater f = cc
 
+-- a binary search finds exactly what is among them
 pub found : (xs : List Point) (x : Point) (r : Result ℕ ℕ) → IsSorted point_cmp xs → IsSearchInRange r (length xs) → IsBinarySearchResult (λ y. point_cmp y x) xs r → IsTrue (is_ok r) ↔ Contains xs x
 found xs x (Ok i) s b h = (λ e. (i, b, exact (get_or xs i x) x (h x)), λ w. refl)
 found xs x (Err i) s b h = (λ e. absurd (never e), λ w. absurd (unsplit xs x i (h (searchable_from_sorted point_total (λ (p : Point). p) xs x s)) w))
@@ -62,10 +63,7 @@ found xs x (Err i) s b h = (λ e. absurd (never e), λ w. absurd (unsplit xs x i
     never : false ≡ true → ⊥
     never e = cc
 
-pub same_points : (xs ys : List Point) (x : Point) → IsPermutation xs ys → Contains ys x ↔ Contains xs x
-same_points xs ys x h = (Contains-permutation ys xs x (IsPermutation-sym xs ys h), Contains-permutation xs ys x h)
-
--- the corners of two lists of triangles
+-- the corners of triangles, by one word
 have_corners : (points : List Point) (ts : List Triangle) → All (HasCorners points) ts ↔ HaveCorners points ts
 unfolding HasCorners
 have_corners points ts = (λ h. h, λ h. h)
@@ -96,6 +94,7 @@ have_same points others ts h = (
   λ w k d l. let v = w k d l in ((h (get_or ts k d).a).1 v.0, (h (get_or ts k d).b).1 v.1, (h (get_or ts k d).c).1 v.2),
 )
 
+-- what a search in the set tells of points and triangles that equal those that it was made of and asked for
 pub told_of : (b : Bool) (set points others : List Point) (ts us : List Triangle) → ((p : Point) → Contains set p ↔ Contains points p) → points ≡ others → ts ≡ us → (IsTrue b ↔ HaveCorners set ts) → IsTrue b ↔ HaveCorners others us
 told_of b set points others ts us same e f h =
     let on_points : IsTrue b ↔ HaveCorners points ts = (λ t. (have_same set points ts same).0 (h.0 t), λ w. h.1 ((have_same set points ts same).1 w)) in
