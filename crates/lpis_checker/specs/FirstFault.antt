@@ -1,0 +1,80 @@
+-- What is told of a certificate that is not good: the lowest code that fails, with its first place.
+use Rattle.std.specs.Prelude.{◌≡◌, ℕ, ◌<◌, List, [], Option, Some, None, unwrap_or, slice_get, ⊤}
+use Rattle.std.specs.Option.{option_map}
+use Rattle.lpis_covers.specs.declared.piece.Piece.{Piece}
+use Rattle.lpis_parcels.specs.declared.parcel.Parcel.{Parcel}
+use Rattle.lpis_parcels.specs.Release.{Contents}
+use Rattle.lpis_cert.specs.declared.cert.Cert.{Cert}
+use Rattle.lpis_cert.specs.declared.part.PiecePart.{PiecePart}
+use Rattle.lpis_cert.specs.declared.part.ParcelPart.{ParcelPart}
+use Rattle.lpis_cert.specs.declared.part.PairLine.{PairLine}
+use Rattle.lpis_pairs.specs.NearPairs.{IsBelow}
+use Rattle.lpis_checker.specs.declared.condition.Condition.{Condition}
+use Rattle.lpis_checker.specs.declared.condition.Condition.TheVariants.{Named}
+use Rattle.lpis_checker.specs.declared.condition.Site.{Site}
+use Rattle.lpis_checker.specs.declared.condition.Site.TheVariants.{PieceAt, ParcelAt, LineAt, PairAt}
+use Rattle.lpis_checker.specs.declared.fault.Place.{Place}
+use Rattle.lpis_checker.specs.declared.fault.Place.TheVariants as place
+use Rattle.lpis_checker.specs.declared.fault.CheckFault.{CheckFault}
+use Rattle.lpis_checker.specs.declared.fault.CheckFault.TheVariants as fault
+use Rattle.lpis_checker.specs.Codes.{code_of}
+use Rattle.lpis_checker.specs.GoodCertificate.{Holds, HoldsEverywhere}
+
+-- the order of sites: pieces, parcels, pair lines, pairs of triangles
+abbrev pub IsEarlier : Site → Site → Type 0
+IsEarlier (PieceAt k) (PieceAt m) = k < m
+IsEarlier (PieceAt k) _ = ⊤
+IsEarlier (ParcelAt k) (PieceAt m) = ⊥
+IsEarlier (ParcelAt k) (ParcelAt m) = k < m
+IsEarlier (ParcelAt k) _ = ⊤
+IsEarlier (LineAt k) (PieceAt m) = ⊥
+IsEarlier (LineAt k) (ParcelAt m) = ⊥
+IsEarlier (LineAt k) (LineAt m) = k < m
+IsEarlier (LineAt k) _ = ⊤
+IsEarlier (PairAt i j) (PairAt m n) = IsBelow i j m n
+IsEarlier (PairAt i j) _ = ⊥
+
+-- the conditions with codes below n hold
+pub record HoldBelow (r : Contents) (c : Cert) (n : ℕ) : Type 0 where
+  pub holds : (q : Condition) → code_of q < n → HoldsEverywhere r c q
+
+-- the first site at which a condition fails
+pub record IsFirst (r : Contents) (c : Cert) (q : Condition) (at : Site) : Type 0 where
+  pub fails : Holds r c q at → ⊥
+  pub earlier : (before : Site) → IsEarlier before at → Holds r c q before
+
+-- the condition of the lowest code that fails, and its first site
+pub record IsFault (r : Contents) (c : Cert) (q : Condition) (at : Site) : Type 0 where
+  pub lower : (s : Condition) → code_of s < code_of q → HoldsEverywhere r c s
+  pub first : IsFirst r c q at
+
+-- ---- the place that is told of a site
+abbrev pub id_or : Option (List ℕ) → Option (List ℕ) → List ℕ
+id_or id other = unwrap_or id (unwrap_or other [])
+
+-- the identifier of the certificate, or the release's where the certificate's list has ended
+abbrev pub piece_id : Contents → Cert → ℕ → List ℕ
+piece_id r c k = id_or (option_map (λ (t : PiecePart). t.id) (slice_get c.pieces k)) (option_map (λ (x : Piece). x.id) (slice_get r.pieces k))
+
+abbrev pub parcel_id : Contents → Cert → ℕ → List ℕ
+parcel_id r c k = id_or (option_map (λ (t : ParcelPart). t.id) (slice_get c.parcels k)) (option_map (λ (x : Parcel). x.id) (slice_get r.parcels k))
+
+abbrev pub line_place : Option PairLine → Place
+line_place None = place.Pair 0 0
+line_place (Some l) = place.Pair l.i l.j
+
+abbrev pub place_of : Contents → Cert → Site → Place
+place_of r c (PieceAt k) = place.Piece (piece_id r c k)
+place_of r c (ParcelAt k) = place.Parcel (parcel_id r c k)
+place_of r c (LineAt k) = line_place (slice_get c.pairs k)
+place_of r c (PairAt i j) = place.Pair i j
+
+-- a fault that is told is that one; want of memory may stand in its place
+abbrev pub Tells : Contents → Cert → CheckFault → Type 0
+Tells r c fault.Memory = ⊤
+Tells r c (fault.At code at) = (site : Site) × IsFault r c code site × (at ≡ place_of r c site)
+
+-- the fault is one of the parts, below the conditions on pairs of triangles
+abbrev pub IsOfParts : CheckFault → Type 0
+IsOfParts fault.Memory = ⊤
+IsOfParts (fault.At code at) = code_of code < code_of Named

@@ -1,0 +1,97 @@
+-- When a certificate is good for a release: ten conditions, each met or not at a place.
+use Rattle.std.specs.Prelude.{◌≡◌, ℕ, ◌+◌, ◌-◌, ◌<◌, nat_lt, cond, List, ◌++◌, length, slice_get, Some, flat_map, All, Contains, MatchOption, ⊤}
+use Rattle.std.specs.Option.{option_map}
+use Rattle.lpis_points.specs.declared.point.Point.{Point}
+use Rattle.lpis_points.specs.declared.triangle.Triangle.{Triangle}
+use Rattle.lpis_points.specs.Plane.{same_point}
+use Rattle.lpis_points.specs.Triangles.{triangle_edges, IsCounterClockwise, IsFlat, Separates}
+use Rattle.lpis_points.specs.Chain.{SameNet}
+use Rattle.lpis_rings.specs.Edges.{edges_of}
+use Rattle.lpis_rings.specs.Map.{edges_of_triangles}
+use Rattle.lpis_covers.specs.declared.piece.Piece.{Piece}
+use Rattle.lpis_parcels.specs.declared.parcel.Parcel.{Parcel}
+use Rattle.lpis_parcels.specs.Release.{Contents, pieces_named}
+use Rattle.lpis_cert.specs.declared.cert.Cert.{Cert}
+use Rattle.lpis_cert.specs.declared.part.PiecePart.{PiecePart}
+use Rattle.lpis_cert.specs.declared.part.ParcelPart.{ParcelPart}
+use Rattle.lpis_cert.specs.declared.part.PairLine.{PairLine}
+use Rattle.lpis_pairs.specs.NearPairs.{IsBelow, IsNear}
+use Rattle.lpis_checker.specs.Corners.{corners_of, corners_of_pieces}
+use Rattle.lpis_checker.specs.declared.condition.Condition.{Condition}
+use Rattle.lpis_checker.specs.declared.condition.Condition.TheVariants.{Names, Triangles, Turned, Flats, Corners, PieceEdges, ParcelEdges, Named, NotApart, Separating}
+use Rattle.lpis_checker.specs.declared.condition.Site.{Site}
+use Rattle.lpis_checker.specs.declared.condition.Site.TheVariants.{PieceAt, ParcelAt, LineAt, PairAt}
+
+-- ---- what a certificate speaks of
+-- the triangles of all pieces, in the order of their numbers
+abbrev pub triangles_of : List PiecePart → List Triangle
+triangles_of parts = flat_map (λ (t : PiecePart). t.triangles) parts
+
+-- the edges of pieces, in normal orientation
+abbrev pub edges_of_pieces : List Piece → List (Point × Point)
+edges_of_pieces pieces = flat_map (λ (x : Piece). edges_of x.polygon) pieces
+
+-- the corners of triangles are among these points
+abbrev pub HaveCorners : List Point → List Triangle → Type 0
+HaveCorners points ts = All (λ (t : Triangle). Contains points t.a × Contains points t.b × Contains points t.c) ts
+
+-- edge k of a triangle has it on the left and another triangle on the right
+abbrev pub EdgeSeparates : ℕ → Triangle → Triangle → Type 0
+EdgeSeparates k left right = MatchOption (slice_get (triangle_edges left) k) ⊥ (λ line. Separates line left right)
+
+-- the edge that a pair line names: 0 to 2 of its first triangle, 3 to 5 of its second
+abbrev pub LineSeparates : ℕ → Triangle → Triangle → Type 0
+LineSeparates k t u = cond (nat_lt k 3) (EdgeSeparates k t u) (EdgeSeparates (k - 3) u t)
+
+-- some pair line names the triangles i and j
+abbrev pub IsNamed : List PairLine → ℕ → ℕ → Type 0
+IsNamed lines i j = (m : ℕ) × (l : PairLine) × (slice_get lines m ≡ Some l) × (l.i ≡ i) × (l.j ≡ j)
+
+-- the pair line at k names two of the triangles in order, and stands after the line before it
+pub record IsInOrder (c : Cert) (k : ℕ) (l : PairLine) : Type 0 where
+  pub rising : l.i < l.j
+  pub within : l.j < length (triangles_of c.pieces)
+  pub after : (m : ℕ) (before : PairLine) → m + 1 ≡ k → slice_get c.pairs m ≡ Some before → IsBelow before.i before.j l.i l.j
+
+-- ---- what is said at a site
+-- of the piece at k and its part, where both are there
+abbrev pub OfPiece : Contents → Cert → ℕ → (Piece → PiecePart → Type 0) → Type 0
+OfPiece r c k P = (x : Piece) (t : PiecePart) → slice_get r.pieces k ≡ Some x → slice_get c.pieces k ≡ Some t → P x t
+
+-- of the parcel at k and its part
+abbrev pub OfParcel : Contents → Cert → ℕ → (Parcel → ParcelPart → Type 0) → Type 0
+OfParcel r c k P = (x : Parcel) (t : ParcelPart) → slice_get r.parcels k ≡ Some x → slice_get c.parcels k ≡ Some t → P x t
+
+-- of the pair line at k
+abbrev pub OfLine : Cert → ℕ → (PairLine → Type 0) → Type 0
+OfLine c k P = (l : PairLine) → slice_get c.pairs k ≡ Some l → P l
+
+-- of the triangles i and j
+abbrev pub OfTwo : List Triangle → ℕ → ℕ → (Triangle → Triangle → Type 0) → Type 0
+OfTwo ts i j P = (t u : Triangle) → slice_get ts i ≡ Some t → slice_get ts j ≡ Some u → P t u
+
+-- what each condition says, site by site
+abbrev pub Holds : Contents → Cert → Condition → Site → Type 0
+Holds r c Names (PieceAt k) = option_map (λ (t : PiecePart). t.id) (slice_get c.pieces k) ≡ option_map (λ (x : Piece). x.id) (slice_get r.pieces k)
+Holds r c Names (ParcelAt k) = option_map (λ (t : ParcelPart). t.id) (slice_get c.parcels k) ≡ option_map (λ (x : Parcel). x.id) (slice_get r.parcels k)
+Holds r c Names (LineAt k) = OfLine c k (IsInOrder c k)
+Holds r c Triangles (PieceAt k) = OfPiece r c k (λ x t. 0 < length t.triangles)
+Holds r c Turned (PieceAt k) = OfPiece r c k (λ x t. All IsCounterClockwise t.triangles)
+Holds r c Flats (PieceAt k) = OfPiece r c k (λ x t. All IsFlat t.flats)
+Holds r c Flats (ParcelAt k) = OfParcel r c k (λ x t. All IsFlat t.flats)
+Holds r c Corners (PieceAt k) = OfPiece r c k (λ x t. HaveCorners (corners_of x.polygon) (t.triangles ++ t.flats))
+Holds r c Corners (ParcelAt k) = OfParcel r c k (λ x t. HaveCorners (corners_of x.polygon ++ corners_of_pieces (pieces_named r x.id)) t.flats)
+Holds r c PieceEdges (PieceAt k) = OfPiece r c k (λ x t. SameNet same_point (edges_of x.polygon) (edges_of_triangles t.triangles ++ edges_of_triangles t.flats))
+Holds r c ParcelEdges (ParcelAt k) = OfParcel r c k (λ x t. SameNet same_point (edges_of x.polygon) (edges_of_pieces (pieces_named r x.id) ++ edges_of_triangles t.flats))
+Holds r c Named (PairAt i j) = IsNear (triangles_of c.pieces) i j → IsNamed c.pairs i j
+Holds r c NotApart (LineAt k) = OfLine c k (λ l. IsNear (triangles_of c.pieces) l.i l.j)
+Holds r c Separating (LineAt k) = OfLine c k (λ l. OfTwo (triangles_of c.pieces) l.i l.j (LineSeparates l.k))
+Holds r c _ _ = ⊤
+
+-- ---- good certificates
+abbrev pub HoldsEverywhere : Contents → Cert → Condition → Type 0
+HoldsEverywhere r c q = (at : Site) → Holds r c q at
+
+-- all ten conditions hold
+pub record IsGood (r : Contents) (c : Cert) : Type 0 where
+  pub holds : (q : Condition) → HoldsEverywhere r c q

@@ -1,0 +1,9 @@
+pub mod Codes
+pub mod Corners
+pub mod GoodCertificate
+pub mod FirstFault
+pub mod SoundMap
+pub mod Searches
+pub mod SignedEdges
+pub mod Laws
+pub mod CornerSets

@@ -1,0 +1,94 @@
+-- What a good certificate shows of a release.
+use Rattle.std.specs.Prelude.{◌≡◌, ◌≢◌, ℕ, ℤ, pos, ◌+ℤ◌, ◌≤ℤ◌, ◌<ℤ◌, List, [], ◌∷◌, slice_get, Some, All, Any, Contains as IsAmong, ◌↔◌}
+use Rattle.lpis_points.specs.declared.point.Point.{Point}
+use Rattle.lpis_points.specs.Plane.{RationalPoint, orient_at}
+use Rattle.lpis_rings.specs.Area.{area2}
+use Rattle.lpis_rings.specs.Edges.{turns, Contains}
+use Rattle.lpis_rings.specs.Map.{IsOneOrNone, inside_count}
+use Rattle.lpis_covers.specs.declared.piece.Piece.{Piece}
+use Rattle.lpis_parcels.specs.declared.parcel.Parcel.{Parcel}
+use Rattle.lpis_parcels.specs.Release.{Contents, pieces_named}
+use Rattle.lpis_parcels.specs.Eligible.{areas2, eligible2}
+use Rattle.lpis_cert.specs.declared.cert.Cert.{Cert}
+use Rattle.lpis_cert.specs.declared.part.PiecePart.{PiecePart}
+use Rattle.lpis_checker.specs.Corners.{all_corners}
+
+-- ---- counting
+-- at most one item of a list has the property
+abbrev pub AtMostOne : {A : Type 0} → (A → Type 0) → List A → Type 0
+AtMostOne {A} P xs = (i j : ℕ) (a b : A) → slice_get xs i ≡ Some a → slice_get xs j ≡ Some b → P a → P b → i ≡ j
+
+abbrev pub ExactlyOne : {A : Type 0} → (A → Type 0) → List A → Type 0
+ExactlyOne P xs = Any P xs × AtMostOne P xs
+
+-- ---- points of a release
+abbrev pub IsInParcel : RationalPoint → Parcel → Type 0
+IsInParcel p k = Contains k.polygon p
+
+abbrev pub IsInPiece : RationalPoint → Piece → Type 0
+IsInPiece p x = Contains x.polygon p
+
+-- the point lies on no line through two different corners
+abbrev pub IsOffLines : Contents → RationalPoint → Type 0
+IsOffLines r p = (a b : Point) → IsAmong (all_corners r) a → IsAmong (all_corners r) b → a ≢ b → orient_at a b p ≢ pos 0
+
+-- ---- sound maps
+-- for each rational point off the lines at most one parcel contains it, and a parcel contains it exactly when exactly one of its
+-- pieces does
+pub record IsSoundOffItsLines (r : Contents) : Type 0 where
+  pub parcels : (p : RationalPoint) → pos 0 <ℤ p.d → IsOffLines r p → AtMostOne (IsInParcel p) r.parcels
+  pub pieces : (p : RationalPoint) → pos 0 <ℤ p.d → IsOffLines r p → All (λ (k : Parcel). IsInParcel p k ↔ ExactlyOne (IsInPiece p) (pieces_named r k.id)) r.parcels
+
+-- for each rational point at most one piece contains it, and at most one parcel, which contains it exactly when one of its pieces does
+pub record IsSoundEverywhere (r : Contents) : Type 0 where
+  pub pieces : (p : RationalPoint) → pos 0 <ℤ p.d → AtMostOne (IsInPiece p) r.pieces
+  pub parcels : (p : RationalPoint) → pos 0 <ℤ p.d → All (λ (k : Parcel). IsInParcel p k ↔ ExactlyOne (IsInPiece p) (pieces_named r k.id)) r.parcels
+  pub one_parcel : (p : RationalPoint) → pos 0 <ℤ p.d → AtMostOne (IsInParcel p) r.parcels
+
+-- 0 or 1, and 1 exactly where the point is contained
+abbrev pub TurnsTell : Type 0 → ℤ → Type 0
+TurnsTell inside n = IsOneOrNone n × (inside ↔ (n ≡ pos 1))
+
+-- each polygon turns once round each point that it contains, and not at all round any other
+pub record TurnsOnce (r : Contents) : Type 0 where
+  pub pieces : (p : RationalPoint) → pos 0 <ℤ p.d → All (λ (x : Piece). TurnsTell (IsInPiece p x) (turns x.polygon p)) r.pieces
+  pub parcels : (p : RationalPoint) → pos 0 <ℤ p.d → All (λ (k : Parcel). TurnsTell (IsInParcel p k) (turns k.polygon p)) r.parcels
+
+-- each piece has an area above 0, each parcel the area of its pieces; so what is eligible of a parcel lies between 0 and its area
+pub record AreasAdd (r : Contents) : Type 0 where
+  pub pieces : All (λ (x : Piece). pos 0 <ℤ area2 x.polygon) r.pieces
+  pub parcels : All (λ (k : Parcel). area2 k.polygon ≡ areas2 (pieces_named r k.id)) r.parcels
+  pub eligible : All (λ (k : Parcel). (pos 0 ≤ℤ eligible2 r k.id) × (eligible2 r k.id ≤ℤ area2 k.polygon)) r.parcels
+
+pub record IsSoundMap (r : Contents) : Type 0 where
+  pub off : IsSoundOffItsLines r
+  pub everywhere : IsSoundEverywhere r
+  pub turns : TurnsOnce r
+  pub areas : AreasAdd r
+
+-- ---- turns, off the lines of a release
+abbrev pub turns_of_pieces : List Piece → RationalPoint → ℤ
+turns_of_pieces [] p = pos 0
+turns_of_pieces (x ∷ xs) p = turns x.polygon p +ℤ turns_of_pieces xs p
+
+-- off the lines each piece turns round a point as often as triangles of its part have the point inside, and each parcel as often as its
+-- pieces together
+pub record TurnsAdd (r : Contents) (c : Cert) : Type 0 where
+  pub pieces : (p : RationalPoint) → pos 0 <ℤ p.d → IsOffLines r p → (k : ℕ) (x : Piece) (t : PiecePart) → slice_get r.pieces k ≡ Some x → slice_get c.pieces k ≡ Some t → turns x.polygon p ≡ pos (inside_count t.triangles p)
+  pub parcels : (p : RationalPoint) → pos 0 <ℤ p.d → All (λ (k : Parcel). turns k.polygon p ≡ turns_of_pieces (pieces_named r k.id) p) r.parcels
+
+-- ---- looking up a point
+-- the parcel and one of its pieces that contain the point, by their identifiers
+pub record IsLocated (r : Contents) (p : RationalPoint) (parcel piece : List ℕ) : Type 0 where
+  pub x : Parcel
+  pub is_parcel : IsAmong r.parcels x
+  pub parcel_id : x.id ≡ parcel
+  pub in_parcel : IsInParcel p x
+  pub y : Piece
+  pub is_piece : IsAmong (pieces_named r parcel) y
+  pub piece_id : y.id ≡ piece
+  pub in_piece : IsInPiece p y
+
+-- no parcel contains the point
+abbrev pub IsNowhere : Contents → RationalPoint → Type 0
+IsNowhere r p = All (λ (k : Parcel). IsInParcel p k → ⊥) r.parcels

@@ -1,0 +1,22 @@
+//! The check of a release against a certificate.
+#![tactic(auto)]
+
+mod checking;
+mod condition;
+mod corners;
+mod fault;
+mod first_fault;
+mod flats;
+pub mod laws;
+mod locating;
+mod named;
+mod names;
+mod nets;
+mod parts;
+mod runs;
+mod separators;
+mod signed;
+
+pub use checking::{Yes, check, check_parts};
+pub use condition::{Condition, Failing, Site};
+pub use fault::{CheckFault, Place};
