@@ -18,7 +18,8 @@ use Rattle.lpis_checker.specs.declared.condition.Condition.TheVariants.{Names, T
 use Rattle.lpis_checker.specs.declared.condition.Site.TheVariants.{PieceAt}
 use Rattle.lpis_checker.specs.Corners.{all_corners, corners_of, corners_of_pieces}
 use Rattle.lpis_checker.specs.GoodCertificate.{HaveCorners, HoldsEverywhere}
-use Rattle.lpis_checker.specs.SoundMap.{IsOffLines, TurnsAdd, turns_of_pieces}
+use Rattle.lpis_checker.specs.SoundMap.{IsOffLines}
+use Rattle.lpis_checker.specs.TurnsAdd.{TurnsAdd, turns_of_pieces}
 use Rattle.lpis_checker.proofs.Sums.{total, all_at, all_from}
 use Rattle.lpis_checker.proofs.Sound.{good_parcel, good_parts, parcel_turns}
 
