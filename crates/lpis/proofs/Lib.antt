@@ -1,3 +1,4 @@
 pub mod AreaLemmas
 pub mod CommandLemmas
+pub mod ReportLemmas
 pub mod RunLemmas

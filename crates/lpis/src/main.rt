@@ -6,6 +6,7 @@ pub mod failure;
 pub mod printing;
 pub mod reading;
 pub mod refusal;
+pub mod report;
 pub mod running;
 pub mod status;
 
