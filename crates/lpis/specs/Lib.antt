@@ -1,6 +1,7 @@
 pub mod Area
 pub mod AreaAnswer
 pub mod CheckAnswer
+pub mod CheckRuns
 pub mod Command
 pub mod Failures
 pub mod Refusals
