@@ -1,1 +1,12 @@
 pub mod Sites
+pub mod RunLemmas
+pub mod Grouping
+pub mod NetSums
+pub mod InRelease
+pub mod Distinct
+pub mod Sums
+pub mod Sound
+pub mod PairLines
+pub mod Lowest
+pub mod OffLines
+pub mod PointSets

@@ -1,9 +1,9 @@
 -- From site to site: when a condition holds everywhere, and when it fails at a site first.
-use Rattle.std.proofs.Common.{◌≡◌, ℕ, suc, ◌+◌, ◌<◌, ◌≤◌, List, length, Option, Some, None, ◌⊎◌, inl, inr, ap, sym, refl, ◌∙◌, subst, arith}
+use Rattle.std.proofs.Common.{◌≡◌, ℕ, suc, ◌+◌, ◌<◌, ◌≤◌, Bool, true, false, List, get_or, length, Option, Some, None, ◌⊎◌, inl, inr, ◌↔◌, IsTrue, ap, sym, refl, ◌∙◌, subst, arith}
 use Rattle.std.proofs.lemmas.Bool.{cases_eq}
 use Rattle.std.specs.List.{slice_get}
 use Rattle.std.specs.Option.{option_map}
-use Rattle.std.proofs.lemmas.Option.{slice_get_within}
+use Rattle.std.proofs.lemmas.Option.{same_Some, slice_get_read, slice_get_within}
 use Rattle.lpis_covers.specs.declared.piece.Piece.{Piece}
 use Rattle.lpis_parcels.specs.declared.parcel.Parcel.{Parcel}
 use Rattle.lpis_parcels.specs.Release.{Contents}
@@ -84,3 +84,42 @@ piece_of r c h k t e = some_item (λ (x : Piece). x.id) (slice_get r.pieces k) t
 
 pub parcel_of : (r : Contents) (c : Cert) → HoldsEverywhere r c Names → (k : ℕ) (t : ParcelPart) → slice_get c.parcels k ≡ Some t → (x : Parcel) × (slice_get r.parcels k ≡ Some x)
 parcel_of r c h k t e = some_item (λ (x : Parcel). x.id) (slice_get r.parcels k) t.id (sym (ap (λ (o : Option ParcelPart). option_map (λ (u : ParcelPart). u.id) o) e) ∙ h (ParcelAt k))
+
+-- ---- a test of the part at a site
+pub of_piece : (r : Contents) (c : Cert) (P : Piece → PiecePart → Type 0) (b : Bool) (k : ℕ) (x : Piece) (t : PiecePart) → slice_get r.pieces k ≡ Some x → slice_get c.pieces k ≡ Some t → (IsTrue b ↔ P x t) → IsTrue b ↔ OfPiece r c k P
+of_piece r c P b k x t e f h = (
+  λ y z u g i. subst (λ (v : PiecePart). P z v) (same_Some t u (sym f ∙ i)) (subst (λ (w : Piece). P w t) (same_Some x z (sym e ∙ g)) (h.0 y)),
+  λ w. h.1 (w x t e f),
+)
+
+pub of_parcel : (r : Contents) (c : Cert) (P : Parcel → ParcelPart → Type 0) (b : Bool) (k : ℕ) (x : Parcel) (t : ParcelPart) → slice_get r.parcels k ≡ Some x → slice_get c.parcels k ≡ Some t → (IsTrue b ↔ P x t) → IsTrue b ↔ OfParcel r c k P
+of_parcel r c P b k x t e f h = (
+  λ y z u g i. subst (λ (v : ParcelPart). P z v) (same_Some t u (sym f ∙ i)) (subst (λ (w : Parcel). P w t) (same_Some x z (sym e ∙ g)) (h.0 y)),
+  λ w. h.1 (w x t e f),
+)
+
+pub of_line : (c : Cert) (P : PairLine → Type 0) (b : Bool) (k : ℕ) (l : PairLine) → slice_get c.pairs k ≡ Some l → (IsTrue b ↔ P l) → IsTrue b ↔ OfLine c k P
+of_line c P b k l e h = (λ y z g. subst P (same_Some l z (sym e ∙ g)) (h.0 y), λ w. h.1 (w l e))
+
+-- where the test says nothing of the piece itself
+pub of_piece_part : (r : Contents) (c : Cert) (P : PiecePart → Type 0) (b : Bool) → HoldsEverywhere r c Names → (k : ℕ) (t : PiecePart) → slice_get c.pieces k ≡ Some t → (IsTrue b ↔ P t) → IsTrue b ↔ OfPiece r c k (λ x u. P u)
+of_piece_part r c P b names k t f h =
+    let p = piece_of r c names k t f in
+    of_piece r c (λ x u. P u) b k p.0 t p.1 f h
+
+pub of_parcel_part : (r : Contents) (c : Cert) (P : ParcelPart → Type 0) (b : Bool) → HoldsEverywhere r c Names → (k : ℕ) (t : ParcelPart) → slice_get c.parcels k ≡ Some t → (IsTrue b ↔ P t) → IsTrue b ↔ OfParcel r c k (λ x u. P u)
+of_parcel_part r c P b names k t f h =
+    let p = parcel_of r c names k t f in
+    of_parcel r c (λ x u. P u) b k p.0 t p.1 f h
+
+-- a test that is false
+pub untrue : {P : Type 0} (b : Bool) → (IsTrue b ↔ P) → b ≡ false → P → ⊥
+untrue b h e p = clash (h.1 p)
+  where
+    clash : b ≡ true → ⊥
+    clash f = cc
+
+-- an item that is read from a slice of the list
+pub read_at : {A : Type 0} (slice items : List A) (i : ℕ) (x : A) → slice ≡ items → i < length items → x ≡ get_or slice i x → slice_get items i ≡ Some x
+read_at slice items i x e l r =
+    slice_get_read items (length items) i x refl l (r ∙ ap (λ (xs : List _). get_or xs i x) e)

@@ -10,6 +10,7 @@ use Rattle.lpis_cert.specs.declared.part.ParcelPart.{ParcelPart}
 use Rattle.lpis_cert.specs.declared.part.PairLine.{PairLine}
 use Rattle.lpis_pairs.specs.NearPairs.{IsBelow}
 use Rattle.lpis_checker.specs.declared.condition.Condition.{Condition}
+use Rattle.lpis_checker.specs.declared.condition.Condition.TheVariants.{Named}
 use Rattle.lpis_checker.specs.declared.condition.Site.{Site}
 use Rattle.lpis_checker.specs.declared.condition.Site.TheVariants.{PieceAt, ParcelAt, LineAt, PairAt}
 use Rattle.lpis_checker.specs.declared.fault.Place.{Place}
@@ -32,6 +33,10 @@ IsEarlier (LineAt k) (LineAt m) = k < m
 IsEarlier (LineAt k) _ = ⊤
 IsEarlier (PairAt i j) (PairAt m n) = IsBelow i j m n
 IsEarlier (PairAt i j) _ = ⊥
+
+-- the conditions with codes below n hold
+pub record HoldBelow (r : Contents) (c : Cert) (n : ℕ) : Type 0 where
+  pub holds : (q : Condition) → code_of q < n → HoldsEverywhere r c q
 
 -- the first site at which a condition fails
 pub record IsFirst (r : Contents) (c : Cert) (q : Condition) (at : Site) : Type 0 where
@@ -64,7 +69,12 @@ place_of r c (ParcelAt k) = place.Parcel (parcel_id r c k)
 place_of r c (LineAt k) = line_place (slice_get c.pairs k)
 place_of r c (PairAt i j) = place.Pair i j
 
--- a fault below a code tells this; want of memory may stand in place of any
+-- a fault that is told is that one; want of memory may stand in its place
 abbrev pub Tells : Contents → Cert → CheckFault → Type 0
 Tells r c fault.Memory = ⊤
 Tells r c (fault.At code at) = (site : Site) × IsFault r c code site × (at ≡ place_of r c site)
+
+-- the fault is one of the parts, below the conditions on pairs of triangles
+abbrev pub IsOfParts : CheckFault → Type 0
+IsOfParts fault.Memory = ⊤
+IsOfParts (fault.At code at) = code_of code < code_of Named

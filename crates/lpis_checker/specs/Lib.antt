@@ -4,3 +4,6 @@ pub mod GoodCertificate
 pub mod FirstFault
 pub mod SoundMap
 pub mod Searches
+pub mod SignedEdges
+pub mod Laws
+pub mod CornerSets

@@ -1,5 +1,5 @@
 -- Machinery, cited by private contracts alone: what searches for the first site of a condition answer.
-use Rattle.std.specs.Prelude.{ℕ, ◌<◌, Option, MatchOption}
+use Rattle.std.specs.Prelude.{◌≡◌, ℕ, ◌<◌, Option, None, MatchOption, slice_get}
 use Rattle.lpis_parcels.specs.Release.{Contents}
 use Rattle.lpis_cert.specs.declared.cert.Cert.{Cert}
 use Rattle.lpis_checker.specs.declared.condition.Condition.{Condition}
@@ -7,7 +7,10 @@ use Rattle.lpis_checker.specs.declared.condition.Site.{Site}
 use Rattle.lpis_checker.specs.declared.condition.Site.TheVariants.{PieceAt, ParcelAt, LineAt}
 use Rattle.lpis_checker.specs.Codes.{code_of}
 use Rattle.lpis_checker.specs.GoodCertificate.{Holds, HoldsEverywhere}
-use Rattle.lpis_checker.specs.FirstFault.{IsFirst, IsFault}
+use Rattle.lpis_checker.specs.FirstFault.{HoldBelow, IsFirst, IsFault, place_of}
+use Rattle.lpis_checker.specs.declared.fault.CheckFault.{CheckFault}
+use Rattle.lpis_checker.specs.declared.fault.CheckFault.TheVariants.{Memory, At}
+use Rattle.lpis_checker.specs.declared.condition.Failing.{Failing}
 
 -- the first site at which a condition fails, or none where it holds everywhere
 abbrev pub FindsFirst : Contents → Cert → Condition → Option Site → Type 0
@@ -25,6 +28,22 @@ FindsParcel r c q o = MatchOption o ((m : ℕ) → Holds r c q (ParcelAt m)) (λ
 abbrev pub FindsLine : Contents → Cert → Condition → Option ℕ → Type 0
 FindsLine r c q o = MatchOption o ((m : ℕ) → Holds r c q (LineAt m)) (λ k. IsFirst r c q (LineAt k))
 
--- the conditions with codes below n hold
-pub record Below (r : Contents) (c : Cert) (n : ℕ) : Type 0 where
-  pub holds : (q : Condition) → code_of q < n → HoldsEverywhere r c q
+-- this condition is the fault, and this is its first site
+abbrev pub FoundFault : Contents → Cert → Failing → Type 0
+FoundFault r c f = IsFault r c f.condition f.site
+
+-- the fault of the lowest code below n, or none where these conditions hold
+abbrev pub FindsBelow : Contents → Cert → ℕ → Option Failing → Type 0
+FindsBelow r c n o = MatchOption o (HoldBelow r c n) (λ f. (code_of f.condition < n) × FoundFault r c f)
+
+-- what is told of it
+abbrev pub IsToldOf : Contents → Cert → Failing → CheckFault → Type 0
+IsToldOf r c f Memory = ⊥
+IsToldOf r c f (At code at) = (code ≡ f.condition) × (at ≡ place_of r c f.site)
+
+-- neither the certificate nor the release has a piece at this place
+abbrev pub HasNoPiece : Contents → Cert → ℕ → Type 0
+HasNoPiece r c k = (slice_get c.pieces k ≡ None) × (slice_get r.pieces k ≡ None)
+
+abbrev pub HasNoParcel : Contents → Cert → ℕ → Type 0
+HasNoParcel r c k = (slice_get c.parcels k ≡ None) × (slice_get r.parcels k ≡ None)

@@ -56,3 +56,10 @@ pub enum Site {
     LineAt(usize),
     PairAt(u32, u32),
 }
+
+/// A condition that fails, and where.
+#[derive(Clone, Copy, Debug)]
+pub struct Failing {
+    pub condition: Condition,
+    pub site: Site,
+}

@@ -1,10 +1,13 @@
 //! The check of a release against a certificate.
 #![tactic(auto)]
 
+mod checking;
 mod condition;
 mod corners;
 mod fault;
+mod first_fault;
 mod flats;
+pub mod laws;
 mod locating;
 mod named;
 mod names;
@@ -14,5 +17,6 @@ mod runs;
 mod separators;
 mod signed;
 
-pub use condition::{Condition, Site};
+pub use checking::{Yes, check, check_parts};
+pub use condition::{Condition, Failing, Site};
 pub use fault::{CheckFault, Place};

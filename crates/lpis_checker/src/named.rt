@@ -1,1 +1,76 @@
 //! Near pairs that no pair line names.
+
+ghost use Rattle.std.specs.Prelude.{◌≡◌, ◌↔◌, ◌<◌, ◌≤◌, ℕ, IsTrue, Some, length, slice_get};
+ghost use Rattle.lpis_cert.specs.declared.part.PairLine.{PairLine};
+ghost use Rattle.lpis_pairs.specs.NearPairs.{IsBelow, IsNearList};
+ghost use Rattle.lpis_checker.specs.GoodCertificate.{HoldsEverywhere, triangles_of};
+ghost use Rattle.lpis_checker.specs.Searches.{FindsFirst};
+ghost use Rattle.lpis_checker.specs.declared.condition.Condition.TheVariants.{Names, Named};
+
+use crate::condition::Site;
+use lpis_cert::{Cert, PairLine};
+use lpis_parcels::Release;
+use lpis_points::Triangle;
+
+/// Whether a line names a pair that stands before (i, j).
+fn is_before(line: &PairLine, i: u32, j: u32) -> bool
+    ensures { IsTrue result ↔ IsBelow line.now.i line.now.j i j }
+{
+    line.i < i || line.i == i && line.j < j
+}
+
+/// The first line from a place on that names (i, j) or a later pair.
+fn skip_to(lines: &[PairLine], from: usize, i: u32, j: u32) -> usize
+    requires { from ≤ length lines.now }
+    ensures low { from ≤ result }
+    ensures high { result ≤ length lines.now }
+    ensures before { (m : ℕ) (l : PairLine) → from ≤ m → m < result → slice_get lines.now m ≡ Some l → IsBelow l.i l.j i j }
+    ensures stop { (l : PairLine) → slice_get lines.now result ≡ Some l → IsBelow l.i l.j i j → ⊥ }
+{
+    for place in from..lines.len() {
+        if !is_before(&lines[place], i, j) {
+            return place;
+        }
+    }
+    lines.len()
+}
+
+/// Whether a line names (i, j).
+fn names_pair(line: &PairLine, i: u32, j: u32) -> bool
+    ensures { IsTrue result ↔ ((line.now.i ≡ i) × (line.now.j ≡ j)) }
+{
+    line.i == i && line.j == j
+}
+
+/// Whether there is a line at a place, and it names (i, j).
+fn names_at(lines: &[PairLine], place: usize, i: u32, j: u32) -> bool
+    ensures { IsTrue result ↔ ((l : PairLine) × (slice_get lines.now place ≡ Some l) × (l.i ≡ i) × (l.j ≡ j)) }
+{
+    match lines.get(place) {
+        Some(line) => names_pair(line, i, j),
+        None => false,
+    }
+}
+
+/// The first of the near pairs that no line names. Both lists ascend, so each is walked once.
+pub(crate) fn unnamed_pair(
+    release: &Release,
+    cert: &Cert,
+    triangles: &[Triangle],
+    near: &[(u32, u32)],
+) -> Option<Site>
+    requires names { HoldsEverywhere release.now cert.now Names }
+    requires numbered { triangles.now ≡ triangles_of cert.now.pieces }
+    requires near { IsNearList triangles.now near.now }
+    ensures { FindsFirst release.now cert.now Named result }
+{
+    let lines = cert.pairs.as_slice();
+    let mut at = 0;
+    for (i, j) in near {
+        at = skip_to(lines, at, *i, *j);
+        if !names_at(lines, at, *i, *j) {
+            return Some(Site::PairAt(*i, *j));
+        }
+    }
+    None
+}

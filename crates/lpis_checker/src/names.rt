@@ -1,1 +1,139 @@
 //! The names of the parts, and the order of the pair lines.
+
+ghost use Rattle.std.specs.Prelude.{◌≡◌, ◌↔◌, ◌<◌, ℕ, IsTrue, length};
+ghost use Rattle.lpis_pairs.specs.NearPairs.{IsBelow};
+ghost use Rattle.lpis_checker.specs.GoodCertificate.{Holds, triangles_of};
+ghost use Rattle.lpis_checker.specs.Searches.{FindsFirst, FindsLine, FindsParcel, FindsPiece};
+ghost use Rattle.lpis_checker.specs.declared.condition.Condition.TheVariants.{Names};
+ghost use Rattle.lpis_checker.specs.declared.condition.Site.TheVariants.{LineAt, ParcelAt, PieceAt};
+
+use crate::condition::Site;
+use lpis_cert::{Cert, PairLine};
+use lpis_covers::Id;
+use lpis_parcels::Release;
+
+/// Whether two identifiers are one.
+fn is_same(part: &Id, own: &Id) -> bool
+    ensures { IsTrue result ↔ (part.now ≡ own.now) }
+{
+    part == own
+}
+
+/// Whether the piece at a place has its part's identifier, or neither is there.
+fn is_piece_named(release: &Release, cert: &Cert, place: usize) -> bool
+    ensures { IsTrue result ↔ Holds release.now cert.now Names (PieceAt place) }
+{
+    match (
+        cert.pieces.as_slice().get(place),
+        release.pieces().get(place),
+    ) {
+        (Some(part), Some(piece)) => is_same(&part.id, &piece.id),
+        (None, None) => true,
+        _ => false,
+    }
+}
+
+/// Whether the parcel at a place has its part's identifier, or neither is there.
+fn is_parcel_named(release: &Release, cert: &Cert, place: usize) -> bool
+    ensures { IsTrue result ↔ Holds release.now cert.now Names (ParcelAt place) }
+{
+    match (
+        cert.parcels.as_slice().get(place),
+        release.parcels().get(place),
+    ) {
+        (Some(part), Some(parcel)) => is_same(&part.id, &parcel.id),
+        (None, None) => true,
+        _ => false,
+    }
+}
+
+/// Whether a pair line names two of so many triangles, the lower one first.
+fn names_two(line: &PairLine, count: usize) -> bool
+    ensures { IsTrue result ↔ ((line.now.i < line.now.j) × (line.now.j < count)) }
+{
+    line.i < line.j && (line.j as usize) < count
+}
+
+/// Whether a pair line names a later pair than another.
+fn follows(before: &PairLine, line: &PairLine) -> bool
+    ensures { IsTrue result ↔ IsBelow before.now.i before.now.j line.now.i line.now.j }
+{
+    before.i < line.i || before.i == line.i && before.j < line.j
+}
+
+/// Whether the pair line at a place names two triangles and a later pair than the line before it.
+fn is_in_order(release: &Release, cert: &Cert, count: usize, place: usize) -> bool
+    requires count { count ≡ length (triangles_of cert.now.pieces) }
+    requires within { place < length cert.now.pairs }
+    ensures { IsTrue result ↔ Holds release.now cert.now Names (LineAt place) }
+{
+    let lines = cert.pairs.as_slice();
+    let line = &lines[place];
+    if !names_two(line, count) {
+        return false;
+    }
+    if place == 0 {
+        return true;
+    }
+    follows(&lines[place - 1], line)
+}
+
+/// The first piece whose part is missing or has another name, or the first part too many.
+fn misnamed_piece(release: &Release, cert: &Cert) -> Option<usize>
+    ensures { FindsPiece release.now cert.now Names result }
+{
+    let end = cert.pieces.as_slice().len().max(release.pieces().len());
+    for place in 0..end {
+        if !is_piece_named(release, cert, place) {
+            return Some(place);
+        }
+    }
+    None
+}
+
+/// The same of parcels.
+fn misnamed_parcel(release: &Release, cert: &Cert) -> Option<usize>
+    requires pieces { (m : ℕ) → Holds release.now cert.now Names (PieceAt m) }
+    ensures { FindsParcel release.now cert.now Names result }
+{
+    let end = cert.parcels.as_slice().len().max(release.parcels().len());
+    for place in 0..end {
+        if !is_parcel_named(release, cert, place) {
+            return Some(place);
+        }
+    }
+    None
+}
+
+/// The first pair line that is out of order.
+fn disordered_line(release: &Release, cert: &Cert, count: usize) -> Option<usize>
+    requires count { count ≡ length (triangles_of cert.now.pieces) }
+    requires pieces { (m : ℕ) → Holds release.now cert.now Names (PieceAt m) }
+    requires parcels { (m : ℕ) → Holds release.now cert.now Names (ParcelAt m) }
+    ensures { FindsLine release.now cert.now Names result }
+{
+    for place in 0..cert.pairs.as_slice().len() {
+        if !is_in_order(release, cert, count, place) {
+            return Some(place);
+        }
+    }
+    None
+}
+
+/// The first part with another name than its piece or parcel, or the first pair line that is out of order, where the certificate
+/// has so many triangles.
+pub(crate) fn misnamed(release: &Release, cert: &Cert, count: usize) -> Option<Site>
+    requires { count ≡ length (triangles_of cert.now.pieces) }
+    ensures { FindsFirst release.now cert.now Names result }
+{
+    if let Some(place) = misnamed_piece(release, cert) {
+        return Some(Site::PieceAt(place));
+    }
+    if let Some(place) = misnamed_parcel(release, cert) {
+        return Some(Site::ParcelAt(place));
+    }
+    if let Some(place) = disordered_line(release, cert, count) {
+        return Some(Site::LineAt(place));
+    }
+    None
+}

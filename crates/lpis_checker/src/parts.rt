@@ -8,33 +8,40 @@ ghost use Rattle.lpis_checker.specs.declared.condition.Condition.TheVariants.{Na
 ghost use Rattle.lpis_checker.specs.declared.condition.Site.TheVariants.{PieceAt};
 
 use crate::condition::Site;
-use lpis_cert::Cert;
+use lpis_cert::{Cert, PiecePart};
 use lpis_parcels::Release;
-use lpis_points::{Triangle, is_ccw};
+use lpis_points::is_ccw;
 
-/// Whether the part at a place has a triangle.
-fn has_triangle(release: &Release, cert: &Cert, place: usize) -> bool
+/// Whether a part has a triangle.
+fn has_triangle(part: &PiecePart) -> bool
+    ensures { IsTrue result ↔ (0 < length part.now.triangles) }
+{
+    !part.triangles.as_slice().is_empty()
+}
+
+/// Whether each triangle of a part is counter-clockwise.
+fn is_turned(part: &PiecePart) -> bool
+    ensures { IsTrue result ↔ All IsCounterClockwise part.now.triangles }
+{
+    part.triangles.as_slice().iter().all(|t| is_ccw(t))
+}
+
+/// Whether the piece at a place has a triangle.
+fn has_triangle_at(release: &Release, cert: &Cert, place: usize) -> bool
     requires names { HoldsEverywhere release.now cert.now Names }
     requires within { place < length cert.now.pieces }
     ensures { IsTrue result ↔ Holds release.now cert.now Triangles (PieceAt place) }
 {
-    !cert.pieces.as_slice()[place].triangles.as_slice().is_empty()
+    has_triangle(&cert.pieces.as_slice()[place])
 }
 
-/// Whether each triangle is counter-clockwise.
-fn all_turned(triangles: &[Triangle]) -> bool
-    ensures { IsTrue result ↔ All IsCounterClockwise triangles.now }
-{
-    triangles.iter().all(|t| is_ccw(t))
-}
-
-/// Whether each triangle of the part at a place is counter-clockwise.
-fn is_turned(release: &Release, cert: &Cert, place: usize) -> bool
+/// Whether each triangle of the piece at a place is counter-clockwise.
+fn is_turned_at(release: &Release, cert: &Cert, place: usize) -> bool
     requires names { HoldsEverywhere release.now cert.now Names }
     requires within { place < length cert.now.pieces }
     ensures { IsTrue result ↔ Holds release.now cert.now Turned (PieceAt place) }
 {
-    all_turned(cert.pieces.as_slice()[place].triangles.as_slice())
+    is_turned(&cert.pieces.as_slice()[place])
 }
 
 /// The first piece without a triangle.
@@ -43,7 +50,7 @@ pub(crate) fn piece_without_triangle(release: &Release, cert: &Cert) -> Option<S
     ensures { FindsFirst release.now cert.now Triangles result }
 {
     for place in 0..cert.pieces.as_slice().len() {
-        if !has_triangle(release, cert, place) {
+        if !has_triangle_at(release, cert, place) {
             return Some(Site::PieceAt(place));
         }
     }
@@ -56,7 +63,7 @@ pub(crate) fn piece_turned_round(release: &Release, cert: &Cert) -> Option<Site>
     ensures { FindsFirst release.now cert.now Turned result }
 {
     for place in 0..cert.pieces.as_slice().len() {
-        if !is_turned(release, cert, place) {
+        if !is_turned_at(release, cert, place) {
             return Some(Site::PieceAt(place));
         }
     }

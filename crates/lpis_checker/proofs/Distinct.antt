@@ -1,0 +1,30 @@
+-- Parcels of one identifier are one.
+use Rattle.std.proofs.Common.{◌≡◌, ◌≢◌, ℕ, ◌<◌, List, [], length, map, get_or, Some, ◌⊎◌, inl, inr, ap, sym, ◌∙◌, arith}
+use Rattle.std.specs.List.{slice_get, IsDistinct, AllPairs}
+use Rattle.std.specs.Option.{option_map}
+use Rattle.std.proofs.lemmas.Bool.{cases_eq, cases_lt}
+use Rattle.std.proofs.lemmas.Option.{slice_get-map, slice_get_within, get_or_from_slice_get}
+use Rattle.std.proofs.lemmas.Map.Made.{AllPairs-from_IsDistinct}
+use Rattle.std.proofs.lemmas.Slice.Eq.{bytes_eq-Decides}
+use Rattle.lpis_covers.specs.Ids.{same_id}
+use Rattle.lpis_parcels.specs.declared.parcel.Parcel.{Parcel}
+use Rattle.lpis_parcels.specs.Release.{parcel_ids}
+
+id_at : (xs : List Parcel) (i : ℕ) (a : Parcel) → slice_get xs i ≡ Some a → slice_get (parcel_ids xs) i ≡ Some a.id
+id_at xs i a e = slice_get-map (λ (p : Parcel). p.id) xs i ∙ ap (option_map (λ (p : Parcel). p.id)) e
+
+pub same_place : (xs : List Parcel) → IsDistinct same_id (parcel_ids xs) → (i j : ℕ) (a b : Parcel) → slice_get xs i ≡ Some a → slice_get xs j ≡ Some b → a.id ≡ b.id → i ≡ j
+same_place xs n i j a b e f s = elim (cases_eq i j) [ inl q ↦ q | inr q ↦ absurd (by (order q)) ]
+  where
+    pairs : AllPairs (λ x y. x ≢ y) (parcel_ids xs)
+    pairs = AllPairs-from_IsDistinct bytes_eq-Decides (parcel_ids xs) n
+
+    clash : (k m : ℕ) (x y : Parcel) → k < m → slice_get (parcel_ids xs) k ≡ Some x.id → slice_get (parcel_ids xs) m ≡ Some y.id → x.id ≡ y.id → ⊥
+    clash k m x y l g h t = pairs k m [] l (slice_get_within (parcel_ids xs) m y.id h) (get_or_from_slice_get (parcel_ids xs) k x.id [] g ∙ t ∙ sym (get_or_from_slice_get (parcel_ids xs) m y.id [] h))
+
+    order : i ≢ j → (i < j) ⊎ (j < i)
+    order q = elim (cases_lt i j) [ inl l ↦ inl l | inr l ↦ inr (omega arith) ]
+
+    by : (i < j) ⊎ (j < i) → ⊥
+    by (inl l) = clash i j a b l (id_at xs i a e) (id_at xs j b f) s
+    by (inr l) = clash j i b a l (id_at xs j b f) (id_at xs i a e) (sym s)

@@ -1,0 +1,24 @@
+-- The conditions by their codes.
+use Rattle.std.proofs.Common.{ℕ, ◌<◌, arith}
+use Rattle.lpis_parcels.specs.Release.{Contents}
+use Rattle.lpis_cert.specs.declared.cert.Cert.{Cert}
+use Rattle.lpis_checker.specs.declared.condition.Condition.{Condition}
+use Rattle.lpis_checker.specs.declared.condition.Condition.TheVariants.{Names, Triangles, Turned, Flats, Corners, PieceEdges, ParcelEdges, Named, NotApart, Separating}
+use Rattle.lpis_checker.specs.Codes.{code_of}
+use Rattle.lpis_checker.specs.GoodCertificate.{IsGood}
+use Rattle.lpis_checker.specs.FirstFault.{HoldBelow}
+
+below_70 : (q : Condition) → code_of q < 70
+below_70 Names = omega arith
+below_70 Triangles = omega arith
+below_70 Turned = omega arith
+below_70 Flats = omega arith
+below_70 Corners = omega arith
+below_70 PieceEdges = omega arith
+below_70 ParcelEdges = omega arith
+below_70 Named = omega arith
+below_70 NotApart = omega arith
+below_70 Separating = omega arith
+
+pub all_hold : (r : Contents) (c : Cert) → HoldBelow r c 70 → IsGood r c
+all_hold r c below = record { holds = λ q. below.holds q (below_70 q) }

@@ -1,0 +1,186 @@
+-- The pair lines: they ascend, each names two triangles, and a walk beside the near pairs finds the first that no line names.
+use Rattle.std.proofs.Common.{◌≡◌, ℕ, zero, suc, ◌+◌, ◌<◌, ◌≤◌, Bool, false, IsTrue, ◌↔◌, List, length, get_or, Some, ◌⊎◌, inl, inr, ap, sym, refl, ◌∙◌, subst, arith}
+use Rattle.std.proofs.lemmas.Bool.{cases_eq, cases_lt}
+use Rattle.std.specs.List.{slice_get}
+use Rattle.std.proofs.lemmas.Option.{same_Some, slice_get_within, slice_get-get_or}
+use Rattle.lpis_points.specs.declared.triangle.Triangle.{Triangle}
+use Rattle.lpis_points.specs.Triangles.{are_apart}
+use Rattle.lpis_parcels.specs.Release.{Contents}
+use Rattle.lpis_parcels.proofs.EligibleLemmas.{item-within}
+use Rattle.lpis_cert.specs.declared.cert.Cert.{Cert}
+use Rattle.lpis_cert.specs.declared.part.PairLine.{PairLine}
+use Rattle.lpis_pairs.specs.NearPairs.{IsNear, IsNearList, IsBelow}
+use Rattle.lpis_checker.specs.declared.condition.Condition.TheVariants.{Names, Named}
+use Rattle.lpis_checker.specs.declared.condition.Site.{Site}
+use Rattle.lpis_checker.specs.declared.condition.Site.TheVariants.{PieceAt, ParcelAt, LineAt, PairAt}
+use Rattle.lpis_checker.specs.GoodCertificate.{triangles_of, IsNamed, IsInOrder, OfTwo, Holds, HoldsEverywhere}
+use Rattle.lpis_checker.specs.FirstFault.{IsEarlier, IsFirst}
+
+-- ---- the order of pairs
+below_trans : (a b c d e f : ℕ) → IsBelow a b c d → IsBelow c d e f → IsBelow a b e f
+below_trans a b c d e f (inl h) (inl k) = inl (omega arith)
+below_trans a b c d e f (inl h) (inr k) = inl (let k₀ = k.0 in omega arith)
+below_trans a b c d e f (inr h) (inl k) = inl (let h₀ = h.0 in omega arith)
+below_trans a b c d e f (inr h) (inr k) = inr (h.0 ∙ k.0, (let h₁ = h.1 in let k₁ = k.1 in omega arith))
+
+below_not : (a b c d : ℕ) → IsBelow a b c d → a ≡ c → b ≡ d → ⊥
+below_not a b c d (inl h) e f = omega arith
+below_not a b c d (inr h) e f = let k = h.1 in omega arith
+
+-- the lines ascend
+lines_ascend : (r : Contents) (c : Cert) → HoldsEverywhere r c Names → (k m : ℕ) (p q : PairLine) → k < m → slice_get c.pairs k ≡ Some p → slice_get c.pairs m ≡ Some q → IsBelow p.i p.j q.i q.j
+lines_ascend r c h k zero p q l e f = absurd (omega arith)
+lines_ascend r c h k (suc m) p q l e f = by (split l) (λ x w g. lines_ascend r c h k m p x w e g)
+  where
+    split : k < suc m → (k ≡ m) ⊎ (k < m)
+    split l = elim (cases_eq k m) [ inl e ↦ inl e | inr n ↦ inr (omega arith) ]
+
+    o : IsInOrder c (suc m) q
+    o = h (LineAt (suc m)) q f
+
+    next : m + 1 ≡ suc m
+    next = omega arith
+
+    within : m < length c.pairs
+    within = let w = slice_get_within c.pairs (suc m) q f in omega arith
+
+    by : (k ≡ m) ⊎ (k < m) → ((x : PairLine) → k < m → slice_get c.pairs m ≡ Some x → IsBelow p.i p.j x.i x.j) → IsBelow p.i p.j q.i q.j
+    by (inl s) rec = o.after m p next (ap (λ (n : ℕ). slice_get c.pairs n) (sym s) ∙ e)
+    by (inr s) rec =
+        let x = get_or c.pairs m p in
+        let g = slice_get-get_or c.pairs m p within in
+        below_trans p.i p.j x.i x.j q.i q.j (rec x s g) (o.after m x next g)
+
+-- ---- the triangles that a line names
+pub line_bounds : (r : Contents) (c : Cert) (ts : List Triangle) → HoldsEverywhere r c Names → ts ≡ triangles_of c.pieces → (k : ℕ) (l : PairLine) → slice_get c.pairs k ≡ Some l → (l.i < length ts) × (l.j < length ts)
+line_bounds r c ts h e k l f =
+    let o : IsInOrder c k l = h (LineAt k) l f in
+    let j : l.j < length ts = subst (λ (us : List Triangle). l.j < length us) (sym e) o.within in
+    let i = o.rising in
+    (omega arith, j)
+
+-- a test of the two triangles
+pub of_two : (ts : List Triangle) (i j : ℕ) (P : Triangle → Triangle → Type 0) (b : Bool) (t u : Triangle) → slice_get ts i ≡ Some t → slice_get ts j ≡ Some u → (IsTrue b ↔ P t u) → IsTrue b ↔ OfTwo ts i j P
+of_two ts i j P b t u e f h = (
+  λ y v w g k. subst (λ (z : Triangle). P v z) (same_Some u w (sym f ∙ k)) (subst (λ (z : Triangle). P z u) (same_Some t v (sym e ∙ g)) (h.0 y)),
+  λ w. h.1 (w t u e f),
+)
+
+-- two triangles that are there are near where they are not apart
+pub near_two : (ts us : List Triangle) (i j : ℕ) (b : Bool) → ts ≡ us → i < j → (i < length ts) × (j < length ts) → (IsTrue b ↔ OfTwo ts i j (λ t u. are_apart t u ≡ false)) → IsTrue b ↔ IsNear us i j
+near_two ts us i j b same rising within h = subst (λ (vs : List Triangle). IsTrue b ↔ IsNear vs i j) same (
+  λ y. to (item-within ts i within.0) (item-within ts j within.1) y,
+  λ n. h.1 (λ t u e f. subst (λ (z : Triangle). are_apart t z ≡ false) (same_Some n.u u (sym n.at_j ∙ f)) (subst (λ (z : Triangle). are_apart z n.u ≡ false) (same_Some n.t t (sym n.at_i ∙ e)) n.near)),
+)
+  where
+    to : (t : Triangle) × (slice_get ts i ≡ Some t) → (u : Triangle) × (slice_get ts j ≡ Some u) → IsTrue b → IsNear ts i j
+    to x y z = record { rising = rising; t = x.0; u = y.0; at_i = x.1; at_j = y.1; near = h.0 z x.0 y.0 x.1 y.1 }
+
+-- ---- the walk
+-- how far it has come: k near pairs are named, and the lines below `at` name pairs before the others
+pub record WalkAt (c : Cert) (near : List (ℕ × ℕ)) (at k : ℕ) : Type 0 where
+  pub within : at ≤ length c.pairs
+  pub behind : (m : ℕ) (l : PairLine) (n : ℕ) (p : ℕ × ℕ) → m < at → slice_get c.pairs m ≡ Some l → k ≤ n → slice_get near n ≡ Some p → IsBelow l.i l.j p.0 p.1
+  pub passed : (n : ℕ) (p : ℕ × ℕ) → n < k → slice_get near n ≡ Some p → IsNamed c.pairs p.0 p.1
+
+pub walk_none : (c : Cert) (near : List (ℕ × ℕ)) → WalkAt c near 0 0
+walk_none c near = record { within = omega arith; behind = λ m l n p h e k f. absurd (omega arith); passed = λ n p h e. absurd (omega arith) }
+
+-- the next place: lines from the last one on up to it name earlier pairs, its own line doesn't
+pub record Skips (c : Cert) (from at i j : ℕ) : Type 0 where
+  pub high : at ≤ length c.pairs
+  pub before : (m : ℕ) (l : PairLine) → from ≤ m → m < at → slice_get c.pairs m ≡ Some l → IsBelow l.i l.j i j
+  pub stop : (l : PairLine) → slice_get c.pairs at ≡ Some l → IsBelow l.i l.j i j → ⊥
+
+pub skips_over : (c : Cert) (lines : List PairLine) (from at i j : ℕ) → lines ≡ c.pairs → at ≤ length lines → ((m : ℕ) (l : PairLine) → from ≤ m → m < at → slice_get lines m ≡ Some l → IsBelow l.i l.j i j) → ((l : PairLine) → slice_get lines at ≡ Some l → IsBelow l.i l.j i j → ⊥) → Skips c from at i j
+skips_over c lines from at i j e high before stop = record {
+  high = subst (λ (ls : List PairLine). at ≤ length ls) e high;
+  before = λ m l p q f. before m l p q (ap (λ (ls : List PairLine). slice_get ls m) e ∙ f);
+  stop = λ l f. stop l (ap (λ (ls : List PairLine). slice_get ls at) e ∙ f);
+}
+
+abbrev pub NamesAt : List PairLine → ℕ → ℕ → ℕ → Type 0
+NamesAt lines at i j = (l : PairLine) × (slice_get lines at ≡ Some l) × (l.i ≡ i) × (l.j ≡ j)
+
+-- the lines below the next place stand before the pair
+skipped : (c : Cert) (near : List (ℕ × ℕ)) (from at k : ℕ) (p : ℕ × ℕ) → WalkAt c near from k → slice_get near k ≡ Some p → Skips c from at p.0 p.1 → (m : ℕ) (l : PairLine) → m < at → slice_get c.pairs m ≡ Some l → IsBelow l.i l.j p.0 p.1
+skipped c near from at k p w e s m l h f = by (cases_lt m from)
+  where
+    least : k ≤ k
+    least = omega arith
+
+    by : (m < from) ⊎ (from ≤ m) → IsBelow l.i l.j p.0 p.1
+    by (inl g) = w.behind m l k p g f least e
+    by (inr g) = s.before m l g h f
+
+pub walk_more : (c : Cert) (ts : List Triangle) (near : List (ℕ × ℕ)) → IsNearList ts near → (from at k : ℕ) (p : ℕ × ℕ) → WalkAt c near from k → slice_get near k ≡ Some p → Skips c from at p.0 p.1 → NamesAt c.pairs at p.0 p.1 → WalkAt c near at (k + 1)
+walk_more c ts near law from at k p w e s named = record {
+  within = s.high;
+  behind = λ m l n q h f g i. below_trans l.i l.j p.0 p.1 q.0 q.1 (skipped c near from at k p w e s m l h f) (law.ascending k n p q (later n g) e i);
+  passed = λ n q h f. by n q f (split n h);
+}
+  where
+    later : (n : ℕ) → k + 1 ≤ n → k < n
+    later n g = omega arith
+
+    split : (n : ℕ) → n < k + 1 → (n < k) ⊎ (n ≡ k)
+    split n h = elim (cases_eq n k) [ inl e ↦ inr e | inr x ↦ inl (omega arith) ]
+
+    by : (n : ℕ) (q : ℕ × ℕ) → slice_get near n ≡ Some q → (n < k) ⊎ (n ≡ k) → IsNamed c.pairs q.0 q.1
+    by n q f (inl h) = w.passed n q h f
+    by n q f (inr h) =
+        let same : p ≡ q = same_Some p q (sym e ∙ ap (λ (m : ℕ). slice_get near m) (sym h) ∙ f) in
+        subst (λ (z : ℕ × ℕ). IsNamed c.pairs z.0 z.1) same (at, named.0, named.1, named.2, named.3)
+
+-- past the last near pair each is named
+pub walk_all : (r : Contents) (c : Cert) (ts : List Triangle) (near : List (ℕ × ℕ)) → ts ≡ triangles_of c.pieces → IsNearList ts near → (at k : ℕ) → length near ≤ k → WalkAt c near at k → (i j : ℕ) → Holds r c Named (PairAt i j)
+walk_all r c ts near numbered law at k l w i j n =
+    let x = law.all i j (subst (λ (us : List Triangle). IsNear us i j) (sym numbered) n) in
+    let within = slice_get_within near x.0 (i, j) x.1 in
+    w.passed x.0 (i, j) (below x.0 within) x.1
+  where
+    below : (m : ℕ) → m < length near → m < k
+    below m g = omega arith
+
+-- a near pair that the line at the next place doesn't name is the first that none names
+pub walk_fault : (r : Contents) (c : Cert) (ts : List Triangle) (near : List (ℕ × ℕ)) → HoldsEverywhere r c Names → ts ≡ triangles_of c.pieces → IsNearList ts near → (from at k : ℕ) (p : ℕ × ℕ) → WalkAt c near from k → slice_get near k ≡ Some p → Skips c from at p.0 p.1 → (NamesAt c.pairs at p.0 p.1 → ⊥) → IsFirst r c Named (PairAt p.0 p.1)
+walk_fault r c ts near names numbered law from at k p w e s not = record { fails = fails; earlier = earlier }
+  where
+    not_named : IsNamed c.pairs p.0 p.1 → ⊥
+    not_named x = by (cases_lt x.0 at) (cases_eq x.0 at)
+      where
+        by : (x.0 < at) ⊎ (at ≤ x.0) → (x.0 ≡ at) ⊎ ((x.0 ≡ at) → ⊥) → ⊥
+        by (inl h) q = below_not x.1.i x.1.j p.0 p.1 (skipped c near from at k p w e s x.0 x.1 h x.2) x.3 x.4
+        by (inr h) (inl q) = not (x.1, ap (λ (m : ℕ). slice_get c.pairs m) (sym q) ∙ x.2, x.3, x.4)
+        by (inr h) (inr q) =
+            let within = slice_get_within c.pairs x.0 x.1 x.2 in
+            let strict : at < x.0 = omega arith in
+            let inside : at < length c.pairs = omega arith in
+            let l = get_or c.pairs at x.1 in
+            let g = slice_get-get_or c.pairs at x.1 inside in
+            s.stop l g (subst (λ (z : ℕ). IsBelow l.i l.j z p.1) x.3 (subst (λ (z : ℕ). IsBelow l.i l.j x.1.i z) x.4 (lines_ascend r c names at x.0 l x.1 strict g x.2)))
+
+    fails : Holds r c Named (PairAt p.0 p.1) → ⊥
+    fails h = not_named (h (subst (λ (us : List Triangle). IsNear us p.0 p.1) numbered (law.near k p e)))
+
+    pair_earlier : (i j : ℕ) → IsBelow i j p.0 p.1 → Holds r c Named (PairAt i j)
+    pair_earlier i j b n = by (cases_lt x.0 k) (cases_eq x.0 k)
+      where
+        x : (m : ℕ) × (slice_get near m ≡ Some (i, j))
+        x = law.all i j (subst (λ (us : List Triangle). IsNear us i j) (sym numbered) n)
+
+        by : (x.0 < k) ⊎ (k ≤ x.0) → (x.0 ≡ k) ⊎ ((x.0 ≡ k) → ⊥) → IsNamed c.pairs i j
+        by (inl h) q = w.passed x.0 (i, j) h x.1
+        by (inr h) (inl q) =
+            let y : ℕ × ℕ = (i, j) in
+            let same : y ≡ p = same_Some y p (sym x.1 ∙ ap (λ (m : ℕ). slice_get near m) q ∙ e) in
+            absurd (below_not i j p.0 p.1 b (ap (λ (z : ℕ × ℕ). z.0) same) (ap (λ (z : ℕ × ℕ). z.1) same))
+        by (inr h) (inr q) =
+            let strict : k < x.0 = omega arith in
+            absurd (below_not i j i j (below_trans i j p.0 p.1 i j b (law.ascending k x.0 p (i, j) strict e x.1)) refl refl)
+
+    earlier : (b : Site) → IsEarlier b (PairAt p.0 p.1) → Holds r c Named b
+    earlier (PieceAt m) h = tt
+    earlier (ParcelAt m) h = tt
+    earlier (LineAt m) h = tt
+    earlier (PairAt i j) h = pair_earlier i j h

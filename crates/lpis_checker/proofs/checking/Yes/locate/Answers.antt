@@ -1,0 +1,15 @@
+use Rattle.std.proofs.Common.{◌≡◌, pos, ◌<ℤ◌, ◌∙◌, List, Some, ap, arith}
+use Rattle.std.specs.List.{slice_get}
+use Rattle.std.proofs.lemmas.Int.{ints}
+use Rattle.std.proofs.lemmas.Option.{slice_get-get_or}
+use Rattle.lpis_points.specs.RatPoints.{rational_of}
+use Rattle.lpis_checker.proofs.Sound.{no_gap}
+use Rattle.lpis_checker.proofs.checking.Yes.locate.Goals as goal
+
+pub unreachable-requires : goal.unreachable-requires
+unreachable-requires c =
+    let r = c.self.inside.release.now in
+    let h = c.in_ok-parcel.ensures in
+    let here = h.0 in
+    let at : slice_get r.parcels here.0 ≡ Some c.in_ok-parcel.parcel.now = slice_get-get_or r.parcels here.0 c.in_ok-parcel.parcel.now here.1 ∙ ap Some here.2 in
+    no_gap r c.self.invariant.0 c.self.invariant.1 (rational_of c.args.p.now) (omega (arith, ints, c.args.p.now.d_low)) here.0 c.in_ok-parcel.parcel.now at h.1 c.in-None.ensures

@@ -1,0 +1,8 @@
+use Rattle.std.proofs.Common.{subst}
+use Rattle.lpis_parcels.specs.Release.{Contents}
+use Rattle.lpis_checker.specs.SoundMap.{IsSoundMap}
+use Rattle.lpis_checker.proofs.Sound.{good_means_sound}
+use Rattle.lpis_checker.proofs.checking.Yes.release.Goals as goal
+
+pub returns-clause-sound : goal.returns-clause-sound
+returns-clause-sound c = subst (λ (r : Contents). IsSoundMap r) c.self.view_is (good_means_sound c.self.inside.release.now c.self.invariant.0 c.parcels.ensures.distinct c.self.invariant.1)

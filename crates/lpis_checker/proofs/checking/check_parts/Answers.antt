@@ -1,0 +1,20 @@
+use Rattle.std.proofs.Common.{ℕ, ◌<◌, arith}
+use Rattle.lpis_checker.specs.declared.condition.Condition.TheVariants.{Names, Triangles, Turned, Flats, Corners, PieceEdges, ParcelEdges}
+use Rattle.lpis_checker.specs.FirstFault.{HoldBelow}
+use Rattle.lpis_checker.proofs.OffLines.{turns_add}
+use Rattle.lpis_checker.proofs.Sound.{areas_add}
+use Rattle.lpis_checker.proofs.checking.check_parts.Goals as goal
+
+pub returns-clause-areas : goal.returns-clause-areas
+returns-clause-areas c =
+    let r = c.args.release.now in
+    let t = c.args.cert.now in
+    let below : HoldBelow r t 67 = rw c.in-None.is at c.in_ok-found.ensures in
+    areas_add r t (below.holds Names (omega arith)) (below.holds Triangles (omega arith)) (below.holds Turned (omega arith)) (below.holds Flats (omega arith)) (below.holds PieceEdges (omega arith)) (below.holds ParcelEdges (omega arith))
+
+pub returns-clause-turns : goal.returns-clause-turns
+returns-clause-turns c =
+    let r = c.args.release.now in
+    let t = c.args.cert.now in
+    let below : HoldBelow r t 67 = rw c.in-None.is at c.in_ok-found.ensures in
+    turns_add r t (below.holds Names (omega arith)) (below.holds Triangles (omega arith)) (below.holds Turned (omega arith)) (below.holds Flats (omega arith)) (below.holds Corners (omega arith)) (below.holds PieceEdges (omega arith)) (below.holds ParcelEdges (omega arith))

@@ -1,0 +1,14 @@
+use Rattle.std.proofs.Common.{◌≡◌, ◌≤◌, ◌∙◌, List, length, ap, sym, subst}
+use Rattle.std.specs.List.{sum_by}
+use Rattle.std.proofs.lemmas.List.Concat.{length-flat_map}
+use Rattle.lpis_points.specs.declared.triangle.Triangle.{Triangle}
+use Rattle.lpis_cert.specs.declared.part.PiecePart.{PiecePart}
+use Rattle.lpis_pairs.specs.NearPairs.{most_triangles}
+use Rattle.lpis_checker.specs.GoodCertificate.{triangles_of}
+use Rattle.lpis_checker.proofs.first_fault.first_fault.Goals as goal
+
+pub pairs-requires : goal.pairs-requires
+pairs-requires g c =
+    let cert = c.args.cert.now in
+    let all : c.as_slice.result.now ≡ triangles_of cert.pieces = c.as_slice.ensures.value ∙ c.in_ok-triangles.ensures in
+    subst (λ n. n ≤ most_triangles) (sym (ap length all ∙ length-flat_map (λ (t : PiecePart). t.triangles) cert.pieces)) cert.triangles_few

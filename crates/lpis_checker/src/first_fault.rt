@@ -1,0 +1,194 @@
+//! The fault that is told: the condition of the lowest code that fails, with its first place.
+
+ghost use Rattle.std.specs.Prelude.{◌≡◌, ◌≤◌, IfOk, MatchOption, length};
+ghost use Rattle.lpis_pairs.specs.NearPairs.{IsNearList};
+ghost use Rattle.lpis_checker.specs.Codes.{code_of};
+ghost use Rattle.lpis_checker.specs.FirstFault.{HoldBelow, parcel_id as parcel_id_lem, piece_id as piece_id_lem, place_of as place_of_lem};
+ghost use Rattle.lpis_checker.specs.GoodCertificate.{Holds, triangles_of};
+ghost use Rattle.lpis_checker.specs.Searches.{FindsBelow, HasNoParcel, HasNoPiece};
+
+use crate::condition::{Condition, Failing, Site};
+use crate::corners::strange_corner;
+use crate::fault::Place;
+use crate::flats::bent_flat;
+use crate::named::unnamed_pair;
+use crate::names::misnamed;
+use crate::nets::{parcel_with_other_edges, piece_with_other_edges};
+use crate::parts::{piece_turned_round, piece_without_triangle};
+use crate::separators::{line_of_apart_triangles, line_that_separates_nothing};
+use lpis_cert::Cert;
+use lpis_covers::Id;
+use lpis_pairs::PairSource;
+use lpis_parcels::Release;
+use lpis_points::Triangle;
+use std::alloc::{AllocError, Global};
+
+/// The condition fails at the site.
+fn failing(condition: Condition, site: Site) -> Option<Failing>
+    ensures { MatchOption result ⊥ (λ f. (f.condition ≡ condition) × (f.site ≡ site)) }
+{
+    Some(Failing { condition, site })
+}
+
+/// The identifier of a piece in the certificate, or the release's where the certificate's list has ended.
+fn piece_id<'a>(release: &'a Release, cert: &'a Cert, place: usize) -> Option<&'a Id>
+    ensures { MatchOption result (HasNoPiece release.now cert.now place) (λ id. id.now ≡ piece_id_lem release.now cert.now place) }
+{
+    match cert.pieces.as_slice().get(place) {
+        Some(part) => Some(&part.id),
+        None => match release.pieces().get(place) {
+            Some(piece) => Some(&piece.id),
+            None => None,
+        },
+    }
+}
+
+/// The identifier of a parcel in the certificate, or the release's where the certificate's list has ended.
+fn parcel_id<'a>(release: &'a Release, cert: &'a Cert, place: usize) -> Option<&'a Id>
+    ensures { MatchOption result (HasNoParcel release.now cert.now place) (λ id. id.now ≡ parcel_id_lem release.now cert.now place) }
+{
+    match cert.parcels.as_slice().get(place) {
+        Some(part) => Some(&part.id),
+        None => match release.parcels().get(place) {
+            Some(parcel) => Some(&parcel.id),
+            None => None,
+        },
+    }
+}
+
+/// The place that is told of a site at which a condition fails.
+pub(crate) fn place_of(
+    release: &Release,
+    cert: &Cert,
+    found: &Failing,
+) -> Result<Place, AllocError>
+    requires { Holds release.now cert.now found.now.condition found.now.site → ⊥ }
+    ensures { IfOk result (λ place. place ≡ place_of_lem release.now cert.now found.now.site) }
+{
+    match found.site {
+        Site::PieceAt(place) => match piece_id(release, cert, place) {
+            Some(id) => Ok(Place::Piece(id.copy()?)),
+            None => unreachable!(),
+        },
+        Site::ParcelAt(place) => match parcel_id(release, cert, place) {
+            Some(id) => Ok(Place::Parcel(id.copy()?)),
+            None => unreachable!(),
+        },
+        Site::LineAt(place) => match cert.pairs.as_slice().get(place) {
+            Some(line) => Ok(Place::Pair(line.i, line.j)),
+            None => Ok(Place::Pair(0, 0)),
+        },
+        Site::PairAt(i, j) => Ok(Place::Pair(i, j)),
+    }
+}
+
+/// The fault of the lowest code below 64.
+fn form_fault(release: &Release, cert: &Cert, count: usize) -> Option<Failing>
+    requires { count ≡ length (triangles_of cert.now.pieces) }
+    ensures { FindsBelow release.now cert.now 64 result }
+{
+    if let Some(site) = misnamed(release, cert, count) {
+        return failing(Condition::Names, site);
+    }
+    if let Some(site) = piece_without_triangle(release, cert) {
+        return failing(Condition::Triangles, site);
+    }
+    if let Some(site) = piece_turned_round(release, cert) {
+        return failing(Condition::Turned, site);
+    }
+    if let Some(site) = bent_flat(release, cert) {
+        return failing(Condition::Flats, site);
+    }
+    None
+}
+
+/// The fault of the lowest code below 67, where it is not below 64.
+fn edge_fault(
+    alloc: Global,
+    release: &Release,
+    cert: &Cert,
+) -> Result<Option<Failing>, AllocError>
+    requires { HoldBelow release.now cert.now 64 }
+    ensures { IfOk result (FindsBelow release.now cert.now 67) }
+{
+    if let Some(site) = strange_corner(alloc, release, cert)? {
+        return Ok(failing(Condition::Corners, site));
+    }
+    if let Some(site) = piece_with_other_edges(alloc, release, cert)? {
+        return Ok(failing(Condition::PieceEdges, site));
+    }
+    if let Some(site) = parcel_with_other_edges(alloc, release, cert)? {
+        return Ok(failing(Condition::ParcelEdges, site));
+    }
+    Ok(None)
+}
+
+/// The fault of the lowest code below 67: of a part, and not of a pair of triangles.
+pub(crate) fn part_fault(
+    alloc: Global,
+    release: &Release,
+    cert: &Cert,
+    count: usize,
+) -> Result<Option<Failing>, AllocError>
+    requires { count ≡ length (triangles_of cert.now.pieces) }
+    ensures { IfOk result (FindsBelow release.now cert.now 67) }
+{
+    match form_fault(release, cert, count) {
+        Some(found) => Ok(Some(found)),
+        None => edge_fault(alloc, release, cert),
+    }
+}
+
+/// The fault of the lowest code, where it is not below 67.
+fn pair_fault(
+    release: &Release,
+    cert: &Cert,
+    triangles: &[Triangle],
+    near: &[(u32, u32)],
+) -> Option<Failing>
+    requires below { HoldBelow release.now cert.now 67 }
+    requires numbered { triangles.now ≡ triangles_of cert.now.pieces }
+    requires near { IsNearList triangles.now near.now }
+    ensures { FindsBelow release.now cert.now 70 result }
+{
+    if let Some(site) = unnamed_pair(release, cert, triangles, near) {
+        return failing(Condition::Named, site);
+    }
+    if let Some(site) = line_of_apart_triangles(release, cert, triangles) {
+        return failing(Condition::NotApart, site);
+    }
+    if let Some(site) = line_that_separates_nothing(release, cert, triangles) {
+        return failing(Condition::Separating, site);
+    }
+    None
+}
+
+/// The triangles of a certificate, in the order of their numbers.
+pub(crate) fn numbered(alloc: Global, cert: &Cert) -> Result<Vec<Triangle>, AllocError>
+    ensures { IfOk result (λ v. v.items ≡ triangles_of cert.now.pieces) }
+{
+    let mut triangles = Vec::new(alloc);
+    for part in cert.pieces.as_slice() {
+        triangles.extend_from_slice(part.triangles.as_slice())?;
+    }
+    Ok(triangles)
+}
+
+/// The fault of the lowest code.
+pub(crate) fn first_fault<S: PairSource>(
+    alloc: Global,
+    release: &Release,
+    cert: &Cert,
+    source: &S,
+) -> Result<Option<Failing>, AllocError>
+    ensures { IfOk result (FindsBelow release.now cert.now 70) }
+{
+    let triangles = numbered(alloc, cert)?;
+    match part_fault(alloc, release, cert, triangles.len())? {
+        Some(found) => Ok(Some(found)),
+        None => {
+            let near = source.pairs(alloc, triangles.as_slice())?;
+            Ok(pair_fault(release, cert, triangles.as_slice(), near.as_slice()))
+        }
+    }
+}
