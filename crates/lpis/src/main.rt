@@ -73,9 +73,21 @@ fn open(rt: &HostRuntime, path: &str, name: Name) -> Result<File, Failure> {
 /// `check DIR CERT`.
 fn check(rt: &HostRuntime, dir: &str, cert: &str) -> Result<u8, Failure> {
     let alloc = rt.alloc();
-    let parcels = open(rt, format!(in alloc; "{dir}/parcels.csv")?.as_str(), Name::Parcels)?;
-    let covers = open(rt, format!(in alloc; "{dir}/covers.csv")?.as_str(), Name::Covers)?;
-    let classes = open(rt, format!(in alloc; "{dir}/classes.csv")?.as_str(), Name::Classes)?;
+    let parcels = open(
+        rt,
+        format!(in alloc; "{dir}/parcels.csv")?.as_str(),
+        Name::Parcels,
+    )?;
+    let covers = open(
+        rt,
+        format!(in alloc; "{dir}/covers.csv")?.as_str(),
+        Name::Covers,
+    )?;
+    let classes = open(
+        rt,
+        format!(in alloc; "{dir}/classes.csv")?.as_str(),
+        Name::Classes,
+    )?;
     let cert = open(rt, cert, Name::Cert)?;
     run_check(alloc, parcels, covers, classes, cert, &mut rt.stdout())
 }
