@@ -1,11 +1,15 @@
 //! Worked releases and certificates, with their answers from outside the program.
 
-use crate::{CheckFault, Place, Yes, check, check_parts};
+mod locating;
+mod names;
+mod pairs;
+mod parts;
+mod yes;
+
+use crate::{CheckFault, Place, check};
 use lpis_cert::{Cert, read_cert};
-use lpis_covers::Id;
 use lpis_pairs::{AllPairs, PairSource, Sweep};
 use lpis_parcels::{Release, read_release};
-use lpis_points::RatPoint;
 use std::test::Fail;
 
 static SQUARE: &str = "POLYGON((0 0,10 0,10 10,0 10,0 0))";
@@ -48,11 +52,6 @@ f 1000 1000 0 1000 500 1000
 pairs 2
 s 0 1 2
 s 2 3 2
-end
-";
-
-static EMPTY_CERT: &str = "lpis-cert 1
-pairs 0
 end
 ";
 
@@ -139,12 +138,14 @@ fn expect_answer(
     expect(answer(rt, release, &cert, &Sweep)?.as_str(), wanted)
 }
 
-#[test]
-fn a_square_is_one_piece(rt: HostRuntime) -> Result<(), Fail> {
-    expect_answer(&rt, &one_piece(&rt, SQUARE)?, SQUARE_CERT, "yes")
-}
-
-#[test]
-fn a_square_is_its_two_halves(rt: HostRuntime) -> Result<(), Fail> {
-    expect_answer(&rt, &two_pieces(&rt, RIGHT)?, HALVES_CERT, "yes")
+/// Fails unless `check` tells this of the certificate with its first `old` replaced.
+fn expect_edited(
+    rt: &HostRuntime,
+    release: &Release,
+    cert: &str,
+    old: &str,
+    new: &str,
+    wanted: &str,
+) -> Result<(), Fail> {
+    expect_answer(rt, release, edited(rt, cert, old, new)?.as_str(), wanted)
 }
