@@ -75,6 +75,7 @@ last_digits-mod (suc w) n =
 -- the text of an area, as it is written
 pub area-shown : (d : ℤ) (n : ℕ) (sign : List ℕ) → nat_abs d ≤ 10 ^ 36 → n ≡ nat_abs d → sign ≡ sign_text d
     → sign ++ (decimal (5 * n / 100000) ++ (46 ∷ styled_decimal (format_spec 32 0 4 5 18446744073709551615) (5 * n % 100000))) ≡ area_text d
+unfolding area_text
 area-shown d n sign small a b = rw (a, b) (
     ap (λ (x : List ℕ). sign_text d ++ (decimal (5 * nat_abs d / 100000) ++ (46 ∷ x)))
     (padded-zeros 5 (decimal (5 * nat_abs d % 100000)) ∙ zero_padded-decimal 4 (5 * nat_abs d % 100000) (omega arith) (omega arith) ∙ last_digits-mod 5 (5 * nat_abs d))

@@ -1,3 +1,5 @@
 pub mod AreaLemmas
+pub mod CheckLemmas
 pub mod CommandLemmas
+pub mod ReportLemmas
 pub mod RunLemmas

@@ -21,7 +21,7 @@ sign_text (pos n) = []
 sign_text (negsuc n) = codes "-"
 
 -- d doubled square centimetres, in square metres: one of them is 5/100000 of a square metre
-abbrev pub area_text : ℤ → List ℕ
+unfoldable pub area_text : ℤ → List ℕ
 area_text d = sign_text d ++ fixed_point area_decimals (5 * nat_abs d)
 
 -- an area on a line of its own

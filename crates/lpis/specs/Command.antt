@@ -5,7 +5,7 @@ use Rattle.clap.specs.declared.builder.command.Command.{Command}
 use Rattle.clap.specs.declared.builder.command.Command.TheViews.{out-Command}
 use Rattle.clap.specs.declared.builder.ArgAction.TheVariants.{Set}
 use Rattle.lpis.specs.declared.command.Cmd.{Cmd}
-use Rattle.lpis.specs.declared.command.Cmd.TheVariants.{Area}
+use Rattle.lpis.specs.declared.command.Cmd.TheVariants.{Area, Check}
 
 -- a required argument of one word
 abbrev pub word_rule : Text → Rule
@@ -15,19 +15,28 @@ word_rule id = record (new_rule id) { required = true; action = Some Set }
 abbrev pub area_app : App
 area_app = with_rule (new_app (codes "area")) (word_rule (codes "file"))
 
+-- check DIR CERT
+abbrev pub check_app : App
+check_app = with_rule (with_rule (new_app (codes "check")) (word_rule (codes "dir"))) (word_rule (codes "cert"))
+
 -- a program that wants a command
 abbrev pub wanting_command : App → App
 wanting_command a = record a { top = record a.top { subcommand_required = true } }
 
 -- the program with its commands
 abbrev pub command_line_app : App
-command_line_app = with_subcommand (wanting_command (new_app (codes "lpis"))) area_app.top
+command_line_app = with_subcommand (with_subcommand (wanting_command (new_app (codes "lpis"))) area_app.top) check_app.top
 
 -- a command of `clap` that is this one, with nothing global
 abbrev pub IsCommandOf : App → Command → Type 0
 IsCommandOf a c = (app_of c ≡ a) × ((out-Command c).has_globals ≡ false)
 
+-- the command has this name, and its words are those of its arguments
+abbrev pub IsNamed : Cmd → Text → List Row → Type 0
+IsNamed (Area file) name rows = (name ≡ codes "area") × (first_of (codes "file") rows ≡ Some file.now)
+IsNamed (Check dir cert) name rows = (name ≡ codes "check") × (first_of (codes "dir") rows ≡ Some dir.now) × (first_of (codes "cert") rows ≡ Some cert.now)
+
 -- the command is the one that the words name, with its words
 abbrev pub IsCommand : Cmd → Option (Text × List Row) → Type 0
-IsCommand (Area file) None = ⊥
-IsCommand (Area file) (Some p) = (p.0 ≡ codes "area") × (first_of (codes "file") p.1 ≡ Some file.now)
+IsCommand c None = ⊥
+IsCommand c (Some p) = IsNamed c p.0 p.1

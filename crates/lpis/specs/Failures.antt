@@ -25,3 +25,11 @@ failure_text Store = codes "failed store\n"
 -- an input was not read, or memory ran out
 abbrev pub IsUnread : Name → Failure → Type 0
 IsUnread name failure = (failure ≡ Memory) ⊎ (failure ≡ Read name)
+
+-- an input of a check
+abbrev pub IsOfCheck : Name → Type 0
+IsOfCheck name = (name ≡ Parcels) ⊎ (name ≡ Covers) ⊎ (name ≡ Classes) ⊎ (name ≡ Cert)
+
+-- an input of a check was not read, or memory ran out
+abbrev pub IsUnchecked : Failure → Type 0
+IsUnchecked failure = (failure ≡ Memory) ⊎ ((name : Name) × IsOfCheck name × (failure ≡ Read name))

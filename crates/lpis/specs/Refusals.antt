@@ -1,4 +1,4 @@
--- The line of a refused table.
+-- The lines of refusals.
 use Rattle.std.specs.Prelude.{ℕ, List, [], ◌++◌, codes, Option, Some, None}
 use Rattle.std.specs.Fmt.{decimal}
 use Rattle.lpis_wkt.specs.declared.fault.WktFault.{WktFault}
@@ -7,6 +7,14 @@ use Rattle.lpis_wkt.specs.Codes as wkt_codes
 use Rattle.lpis_covers.specs.declared.fault.TableFault.{TableFault}
 use Rattle.lpis_covers.specs.declared.fault.TableFault.TheVariants as table
 use Rattle.lpis_covers.specs.Codes.{code_text, table_text}
+use Rattle.lpis_cert.specs.declared.fault.CertFault.{CertFault}
+use Rattle.lpis_cert.specs.declared.fault.CertFault.TheVariants as cert
+use Rattle.lpis_cert.specs.Codes as cert_codes
+use Rattle.lpis_checker.specs.declared.fault.CheckFault.{CheckFault}
+use Rattle.lpis_checker.specs.declared.fault.CheckFault.TheVariants as check
+use Rattle.lpis_checker.specs.declared.fault.Place.{Place}
+use Rattle.lpis_checker.specs.declared.fault.Place.TheVariants.{Piece, Parcel, Pair}
+use Rattle.lpis_checker.specs.Codes as check_codes
 
 -- where a text is no polygon; want of memory is no fault of a text, and has no line
 abbrev pub wkt_text : Option WktFault → List ℕ
@@ -14,8 +22,24 @@ wkt_text None = []
 wkt_text (Some wkt.Memory) = []
 wkt_text (Some (wkt.At code offset)) = codes " wkt " ++ wkt_codes.code_text code ++ codes " at " ++ decimal offset
 
--- the code, the table, the row and, where the row has a text that is no polygon, the fault of that text
+-- of a table: the code, the table, the row and, where the row has a text that is no polygon, the fault of that text
 abbrev pub refusal_text : TableFault → List ℕ
 refusal_text table.Memory = []
 refusal_text (table.At code name row wkt) =
     codes "refused " ++ code_text code ++ codes " " ++ table_text name ++ codes " row " ++ decimal row ++ wkt_text wkt ++ codes "\n"
+
+-- of a certificate's text: the code and the number of the line
+abbrev pub cert_refusal_text : CertFault → List ℕ
+cert_refusal_text cert.Memory = []
+cert_refusal_text (cert.At code line) = codes "refused " ++ cert_codes.code_text code ++ codes " cert line " ++ decimal line ++ codes "\n"
+
+-- a piece or a parcel by its identifier, or two triangles by their numbers
+abbrev pub place_text : Place → List ℕ
+place_text (Piece id) = codes "piece " ++ id
+place_text (Parcel id) = codes "parcel " ++ id
+place_text (Pair i j) = codes "pair " ++ decimal i ++ codes " " ++ decimal j
+
+-- of a certificate that is not good: the code and the place
+abbrev pub check_refusal_text : CheckFault → List ℕ
+check_refusal_text check.Memory = []
+check_refusal_text (check.At code place) = codes "refused " ++ check_codes.code_text code ++ codes " " ++ place_text place ++ codes "\n"

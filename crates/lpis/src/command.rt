@@ -1,10 +1,10 @@
 //! The command line.
 
-ghost use Rattle.std.specs.Prelude.{◌≡◌, IfOk, false, map};
-ghost use Rattle.clap.specs.Words.{FailsBy, rule_of, fault_of, subcommand_of};
-ghost use Rattle.lpis.specs.Command.{IsCommand, IsCommandOf, area_app, command_line_app, word_rule};
+ghost use Rattle.std.specs.Prelude.{◌≡◌, IfOk, IfSome, Some, false, map};
+ghost use Rattle.clap.specs.Words.{FailsBy, fault_of, first_of, found_of, rows_of, rule_of, subcommand_of};
+ghost use Rattle.lpis.specs.Command.{IsCommand, IsCommandOf, IsNamed, area_app, check_app, command_line_app, word_rule};
 
-use clap::{Arg, ArgAction, Command, Error};
+use clap::{Arg, ArgAction, ArgMatches, Command, Error};
 use std::alloc::{AllocError, Global};
 
 /// What the words of a command line ask for.
@@ -14,6 +14,13 @@ pub enum Cmd<'a> {
     Area {
         /// The table's path.
         file: &'a str,
+    },
+    /// The check of a release against a certificate.
+    Check {
+        /// The path of the folder of the release's tables.
+        dir: &'a str,
+        /// The certificate's path.
+        cert: &'a str,
     },
 }
 
@@ -44,15 +51,56 @@ fn area_command<'a>(alloc: Global) -> Result<Command<'a>, AllocError>
         .arg(file)
 }
 
+/// `check DIR CERT`.
+fn check_command<'a>(alloc: Global) -> Result<Command<'a>, AllocError>
+    ensures { IfOk result (λ c. IsCommandOf check_app c) }
+{
+    let dir = word_argument(alloc, "dir");
+    let dir = described(dir, "A folder with parcels.csv, covers.csv and classes.csv");
+    let cert = word_argument(alloc, "cert");
+    let cert = described(cert, "A certificate of triangles for the release");
+    Command::new(alloc, "check")
+        .about("Checks a release against a certificate, and prints its report")
+        .arg(dir)?
+        .arg(cert)
+}
+
 /// The program's command line: one of its commands, which has to be there.
 fn command_line<'a>(alloc: Global) -> Result<Command<'a>, AllocError>
     ensures { IfOk result (λ c. IsCommandOf command_line_app c) }
 {
     let area = area_command(alloc)?;
+    let check = check_command(alloc)?;
     Command::new(alloc, "lpis")
         .about("Checks the releases of a Land Parcel Identification System")
         .subcommand_required(true)
-        .subcommand(area)
+        .subcommand(area)?
+        .subcommand(check)
+}
+
+/// The word of an argument.
+fn word_of<'a>(matches: &ArgMatches<'a>, id: &str) -> Option<&'a str>
+    ensures { IfSome result (λ word. first_of id.now (rows_of (found_of matches.now)) ≡ Some word.now) }
+{
+    matches.get_str(id)
+}
+
+/// The command of this name, with its words.
+fn command_named<'a>(name: &str, matches: &ArgMatches<'a>) -> Option<Cmd<'a>>
+    ensures { IfSome result (λ c. IsNamed c name.now (rows_of (found_of matches.now))) }
+{
+    match name {
+        "area" => {
+            let file = word_of(matches, "file")?;
+            Some(Cmd::Area { file })
+        }
+        "check" => {
+            let dir = word_of(matches, "dir")?;
+            let cert = word_of(matches, "cert")?;
+            Some(Cmd::Check { dir, cert })
+        }
+        _ => None,
+    }
 }
 
 /// The command that the words ask for, the program's name being the first of them.
@@ -68,10 +116,8 @@ pub fn command_of<'a>(alloc: Global, words: &'a [&'a str]) -> Result<Cmd<'a>, Er
         Err(error) => return Err(error),
     };
     if let Some((name, inner)) = matches.subcommand() {
-        if name == "area" {
-            if let Some(file) = inner.get_str("file") {
-                return Ok(Cmd::Area { file });
-            }
+        if let Some(command) = command_named(name, inner) {
+            return Ok(command);
         }
     }
     // No accepted line comes here: a command and its words are required.

@@ -1,19 +1,23 @@
 //! The release checker of a Land Parcel Identification System.
 #![tactic(auto)]
 
+pub mod checking;
 pub mod command;
 pub mod failure;
 pub mod printing;
 pub mod reading;
 pub mod refusal;
+pub mod report;
 pub mod running;
 pub mod status;
 
+use checking::run_check;
 use clap::error::ErrorKind;
 use command::{Cmd, command_of};
 use failure::{Failure, Name, print_failure};
 use running::run_area;
 use status::{DONE, FAILED, UNREADABLE};
+use std::fs::File;
 use std::process::ExitCode;
 use std::{env, fs, io};
 
@@ -47,16 +51,45 @@ fn run(rt: &HostRuntime) -> Result<u8, Failure> {
     }
     match command_of(alloc, texts.as_slice()) {
         Ok(Cmd::Area { file }) => area(rt, file),
+        Ok(Cmd::Check { dir, cert }) => check(rt, dir, cert),
         Err(error) => tell(rt, &error),
     }
 }
 
 /// `area FILE`.
 fn area(rt: &HostRuntime, file: &str) -> Result<u8, Failure> {
-    match fs::open(rt, file) {
-        Ok(table) => run_area(rt.alloc(), table, &mut rt.stdout()),
-        Err(_) => Err(Failure::Read(Name::Area)),
+    let table = open(rt, file, Name::Area)?;
+    run_area(rt.alloc(), table, &mut rt.stdout())
+}
+
+/// Opens an input, or tells that it cannot be read.
+fn open(rt: &HostRuntime, path: &str, name: Name) -> Result<File, Failure> {
+    match fs::open(rt, path) {
+        Ok(file) => Ok(file),
+        Err(_) => Err(Failure::Read(name)),
     }
+}
+
+/// `check DIR CERT`.
+fn check(rt: &HostRuntime, dir: &str, cert: &str) -> Result<u8, Failure> {
+    let alloc = rt.alloc();
+    let parcels = open(
+        rt,
+        format!(in alloc; "{dir}/parcels.csv")?.as_str(),
+        Name::Parcels,
+    )?;
+    let covers = open(
+        rt,
+        format!(in alloc; "{dir}/covers.csv")?.as_str(),
+        Name::Covers,
+    )?;
+    let classes = open(
+        rt,
+        format!(in alloc; "{dir}/classes.csv")?.as_str(),
+        Name::Classes,
+    )?;
+    let cert = open(rt, cert, Name::Cert)?;
+    run_check(alloc, parcels, covers, classes, cert, &mut rt.stdout())
 }
 
 /// Prints the text of `clap`: a fault of the command line on standard error, help on standard output.

@@ -2,9 +2,11 @@
 
 ghost use Rattle.std.specs.Prelude.{OnOk};
 ghost use Rattle.std.specs.Io.KnownBytes.{Appends};
-ghost use Rattle.lpis.specs.Refusals.{refusal_text, wkt_text};
+ghost use Rattle.lpis.specs.Refusals.{cert_refusal_text, check_refusal_text, place_text, refusal_text, wkt_text};
 
 use crate::printing::PrintFault;
+use lpis_cert::CertFault;
+use lpis_checker::{CheckFault, Place};
 use lpis_covers::TableFault;
 use lpis_wkt::WktFault;
 use std::io::Write;
@@ -40,6 +42,42 @@ pub fn print_table_fault<W: Write>(fault: &TableFault, out: &mut W) -> Result<()
         table.as_str()
     )?;
     print_wkt_fault(wkt, out)?;
+    out.write_all(b"\n")?;
+    Ok(())
+}
+
+/// Writes the line of a text that is no certificate. Want of memory is no refusal, and has no line.
+pub fn print_cert_fault<W: Write>(fault: &CertFault, out: &mut W) -> Result<(), PrintFault>
+    ensures { OnOk result (Appends (W.contents out.old) (W.contents out.new) (cert_refusal_text fault.now)) }
+{
+    let CertFault::At { code, line } = fault else {
+        return Ok(());
+    };
+    write!(out, "refused {} cert line {line}\n", code.as_str())?;
+    Ok(())
+}
+
+/// Writes where a condition fails.
+fn print_place<W: Write>(place: &Place, out: &mut W) -> Result<(), PrintFault>
+    ensures { OnOk result (Appends (W.contents out.old) (W.contents out.new) (place_text place.now)) }
+{
+    match place {
+        Place::Piece(id) => write!(out, "piece {}", id.as_str())?,
+        Place::Parcel(id) => write!(out, "parcel {}", id.as_str())?,
+        Place::Pair(i, j) => write!(out, "pair {i} {j}")?,
+    }
+    Ok(())
+}
+
+/// Writes the line of a certificate that is not good. Want of memory is no refusal, and has no line.
+pub fn print_check_fault<W: Write>(fault: &CheckFault, out: &mut W) -> Result<(), PrintFault>
+    ensures { OnOk result (Appends (W.contents out.old) (W.contents out.new) (check_refusal_text fault.now)) }
+{
+    let CheckFault::At { code, place } = fault else {
+        return Ok(());
+    };
+    write!(out, "refused {} ", code.as_str())?;
+    print_place(place, out)?;
     out.write_all(b"\n")?;
     Ok(())
 }

@@ -22,7 +22,11 @@ use std::alloc::Global;
 use std::io::{Read, Write};
 
 /// All bytes of an input.
-fn read_input<R: Read + Drop>(alloc: Global, reader: R, name: Name) -> Result<Vec<u8>, Failure>
+pub(crate) fn read_input<R: Read + Drop>(
+    alloc: Global,
+    reader: R,
+    name: Name,
+) -> Result<Vec<u8>, Failure>
     ensures all { IfSome (R.remaining reader) (λ bytes. IfOk result (λ v. v.items ≡ bytes)) }
     ensures failure { IfErr result (IsUnread name) }
 {

@@ -1,6 +1,7 @@
 //! Worked rows, with values from outside the program.
 
 mod areas;
+mod checks;
 mod commands;
 mod devices;
 mod large;

@@ -1,26 +1,22 @@
 -- The lines of blocks.
-use Rattle.std.proofs.Common.{◌≡◌, ℕ, zero, suc, ◌+◌, ◌-◌, ◌*◌, ◌<◌, ◌≤◌, ◌^◌, Bool, true, false, cond, List, [], ◌∷◌, ◌++◌, length, map, Option, Some, None, Result, Ok, Err, refl, sym, ap, subst, ◌∙◌, arith, append_assoc, length-append, ◌⊎◌, inl, inr}
+use Rattle.std.proofs.Common.{◌≡◌, ℕ, suc, ◌+◌, ◌-◌, ◌<◌, Bool, true, false, List, [], ◌∷◌, ◌++◌, length, map, Some, None, Ok, refl, ap, ◌∙◌, arith}
 use Rattle.std.proofs.lemmas.List.{map_push}
 use Rattle.std.specs.List.{AllByRecursion}
-use Rattle.std.specs.Option.{option_map}
 use Rattle.lpis_points.specs.declared.triangle.Triangle.{Triangle}
 use Rattle.lpis_cert.specs.declared.kind.Stage.{Stage}
-use Rattle.lpis_cert.specs.declared.kind.Stage.TheVariants as stage
 use Rattle.lpis_cert.specs.declared.part.PairLine.{PairLine}
 use Rattle.lpis_cert.specs.declared.fault.CertCode.TheVariants as code
 use Rattle.lpis_cert.specs.declared.fault.CertFault.{CertFault}
 use Rattle.lpis_cert.specs.declared.kind.Kind.{Kind}
 use Rattle.lpis_cert.specs.declared.kind.Kind.TheVariants as kind
-use Rattle.lpis_cert.specs.declared.kind.Expected.{Expected}
-use Rattle.lpis_cert.specs.declared.kind.Expected.TheVariants.{One, Block}
+use Rattle.lpis_cert.specs.declared.kind.Expected.TheVariants.{One}
 use Rattle.lpis_cert.specs.Versions.{written}
-use Rattle.lpis_cert.specs.CertText.{Corners, Separator, Line, PieceLine, TriangleLine, FlatLine, ParcelLine, PairsLine, EndLine, spelling, text_of_lines}
+use Rattle.lpis_cert.specs.CertText.{Corners, Separator, TriangleLine, FlatLine, EndLine, spelling}
 use Rattle.lpis_cert.specs.Fitting.{CornersFit, SeparatorFits}
 use Rattle.lpis_cert.specs.CertText.{PairLine as separator_line}
-use Rattle.lpis_cert.specs.Reading.{◌>>?◌, values, corners, separator, last}
-use Rattle.lpis_cert.specs.Faults.{lines, outcome, step, Place, InBody, InPairs, AtEnd, Declared}
+use Rattle.lpis_cert.specs.Reading.{values, corners, separator}
+use Rattle.lpis_cert.specs.Faults.{step, InPairs, Declared}
 use Rattle.lpis_cert.specs.Fitting.{LineFits}
-use Rattle.lpis_cert.specs.Kinds.{line_kind}
 use Rattle.lpis_cert.specs.Taken.{Placed, FailsWith, LineFault, Follows, FaultFrom, corner_kind, corner_line, wanting}
 use Rattle.lpis_cert.specs.Contents.{corners_of, all_corners, separator_of}
 use Rattle.lpis_cert.proofs.LineProofs.{read_again}

@@ -1,23 +1,21 @@
 -- A draft with one more block.
-use Rattle.std.proofs.Common.{◌≡◌, ℕ, zero, suc, ◌+◌, ◌-◌, ◌*◌, ◌<◌, ◌≤◌, Bool, true, false, cond, not, ◌&&◌, List, [], ◌∷◌, ◌++◌, length, map, Option, Some, None, Result, Ok, Err, refl, sym, ap, subst, ◌∙◌, arith, append_assoc, length-append, ◌⊎◌, inl, inr, eqb, nat_le}
+use Rattle.std.proofs.Common.{◌≡◌, ℕ, ◌+◌, ◌<◌, ◌≤◌, Bool, true, false, ◌&&◌, List, [], ◌∷◌, ◌++◌, length, map, Err, refl, sym, ap, subst, ◌∙◌, arith, append_assoc, length-append, ◌⊎◌, inl, inr, eqb, nat_le}
 use Rattle.std.proofs.lemmas.Bool.Decides.{nat_tests}
 use Rattle.std.proofs.lemmas.Grind.{flat_map-append}
 use Rattle.std.proofs.lemmas.List.{append-nil, nil_from_length, map_push}
 use Rattle.std.proofs.lemmas.List.Splits.{join_with_byte-slice_split}
-use Rattle.std.specs.List.{flat_map, slice_split, join_with_byte, AllByRecursion}
-use Rattle.lpis_covers.specs.Ids.{is_id}
+use Rattle.std.specs.List.{join_with_byte, AllByRecursion}
 use Rattle.lpis_cert.specs.declared.kind.Stage.{Stage}
 use Rattle.lpis_cert.specs.declared.kind.Stage.TheVariants as stage
-use Rattle.lpis_cert.specs.declared.fault.CertCode.{CertCode}
 use Rattle.lpis_cert.specs.declared.fault.CertCode.TheVariants as code
 use Rattle.lpis_cert.specs.declared.fault.CertFault.{CertFault}
 use Rattle.lpis_cert.specs.declared.kind.Kind.TheVariants as kind
 use Rattle.lpis_cert.specs.declared.kind.Expected.TheVariants.{One, Block}
 use Rattle.lpis_cert.specs.Limits.{most_triangles, most_flats, greatest_count}
-use Rattle.lpis_cert.specs.CertText.{Corners, Separator, PieceBlock, ParcelBlock, Content, Line, PieceLine, TriangleLine, FlatLine, ParcelLine, PairsLine, PairLine, EndLine, spelling, text_of_lines, piece_lines, parcel_lines, end_lines, lines_of}
+use Rattle.lpis_cert.specs.CertText.{Corners, Separator, PieceBlock, ParcelBlock, Line, PieceLine, TriangleLine, FlatLine, ParcelLine, PairsLine, PairLine, EndLine, spelling, text_of_lines, piece_lines, parcel_lines, end_lines, lines_of}
 use Rattle.lpis_cert.specs.Fitting.{CornersFit, SeparatorFits, LineFits}
-use Rattle.lpis_cert.specs.Faults.{is_lf, lines, outcome, at_last, step, Place, InBody, InPairs, AtEnd, Declared, grow, grow_flats, open_block}
-use Rattle.lpis_cert.specs.Taken.{Follows, FaultFrom, LineFault, corner_line, wanting}
+use Rattle.lpis_cert.specs.Faults.{is_lf, lines, outcome, at_last, step, Place, InBody, InPairs, AtEnd, Declared, grow, grow_flats}
+use Rattle.lpis_cert.specs.Taken.{Follows, FaultFrom, LineFault}
 use Rattle.lpis_points.specs.declared.triangle.Triangle.{Triangle}
 use Rattle.lpis_cert.specs.declared.part.PiecePart.{PiecePart}
 use Rattle.lpis_cert.specs.declared.part.ParcelPart.{ParcelPart}
@@ -28,7 +26,7 @@ use Rattle.lpis_cert.specs.Drafts.{blocks, pieces_lines, parcels_lines, Grown, W
 use Rattle.lpis_cert.proofs.Splitting.{split_some}
 use Rattle.lpis_cert.proofs.WordProofs.{lines_from}
 use Rattle.lpis_cert.proofs.LineProofs.{read_again}
-use Rattle.lpis_cert.proofs.StepProofs.{Goes, Wants, step_err, after, fault_here, fault_after, follows_both}
+use Rattle.lpis_cert.proofs.StepProofs.{Goes, step_err, after, fault_here, fault_after, follows_both}
 use Rattle.lpis_cert.proofs.BlockProofs.{corners_go, pairs_go}
 
 pub goes_on : (p q r : Place) (xs ys : List Line) → Goes p xs q → Goes q ys r → Goes p (xs ++ ys) r

@@ -1,18 +1,14 @@
 -- The lines that begin blocks.
-use Rattle.std.proofs.Common.{◌≡◌, ℕ, ◌+◌, ◌<◌, ◌≤◌, Bool, true, false, not, List, [], ◌∷◌, ◌++◌, length, Option, Some, None, Result, Ok, Err, refl, sym, ap, ◌∙◌, arith, ◌⊎◌, inl, inr}
+use Rattle.std.proofs.Common.{◌≡◌, ℕ, true, List, Option, ◌⊎◌, inl, inr}
 use Rattle.lpis_cert.specs.declared.kind.Stage.{Stage}
-use Rattle.lpis_cert.specs.declared.kind.Stage.TheVariants as stage
-use Rattle.lpis_cert.specs.declared.fault.CertCode.TheVariants as code
 use Rattle.lpis_cert.specs.declared.kind.Kind.{Kind}
 use Rattle.lpis_cert.specs.declared.kind.Kind.TheVariants.{Piece, Triangle, Flat, Parcel, Pairs, Pair, End}
-use Rattle.lpis_cert.specs.declared.kind.Expected.TheVariants.{One, Block}
+use Rattle.lpis_cert.specs.declared.kind.Expected.TheVariants.{Block}
 use Rattle.lpis_cert.specs.Versions.{written}
 use Rattle.lpis_cert.specs.CertText.{Line}
-use Rattle.lpis_cert.specs.Fitting.{LineFits}
-use Rattle.lpis_cert.specs.Kinds.{line_kind}
 use Rattle.lpis_cert.specs.Reading.{values, can_stand, piece_line, parcel_line, pairs_line}
-use Rattle.lpis_cert.specs.Taken.{Placed, FailsWith, Follows}
-use Rattle.lpis_cert.proofs.StepProofs.{formed_stands, taken, untaken}
+use Rattle.lpis_cert.specs.Taken.{Placed}
+use Rattle.lpis_cert.proofs.StepProofs.{formed_stands}
 
 pub values_piece : (k : Kind) (ws : List (List ℕ)) (o : Option Line) → k ≡ Piece → piece_line ws ≡ o → values written k ws ≡ o
 unfolding values

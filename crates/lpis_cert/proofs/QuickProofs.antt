@@ -1,17 +1,15 @@
 -- Lines of corners, read in one pass.
-use Rattle.std.proofs.Common.{◌≡◌, ℕ, zero, suc, ◌+◌, ◌-◌, ◌*◌, ◌<◌, ◌≤◌, Bool, true, false, cond, ◌&&◌, List, [], ◌∷◌, ◌++◌, length, take, drop, get_or, Option, Some, None, refl, sym, ap, ◌∙◌, arith, nat_le, nat_lt, eqb, ℤ, pos, negsuc, append_assoc, length-append, length-drop, drop-cons, add-one}
+use Rattle.std.proofs.Common.{◌≡◌, ℕ, zero, suc, ◌+◌, ◌-◌, ◌*◌, ◌<◌, ◌≤◌, Bool, true, false, cond, ◌&&◌, List, [], ◌∷◌, ◌++◌, length, take, drop, get_or, Some, None, refl, sym, ap, ◌∙◌, arith, nat_le, nat_lt, eqb, append_assoc, length-append, length-drop, drop-cons, add-one}
 use Rattle.std.proofs.lemmas.Bool.Decides.{nat_tests}
 use Rattle.std.proofs.lemmas.Fmt.{decimal_digit}
 use Rattle.std.proofs.lemmas.List.{take_all, take-append-drop, take_more}
 use Rattle.std.specs.Char.{digit_value, is_ascii_digit}
 use Rattle.std.specs.Fmt.{decimal, signed_decimal}
-use Rattle.lpis_points.specs.Range.{IsInRange}
 use Rattle.lpis_cert.specs.Limits.{number_margin}
-use Rattle.lpis_cert.specs.Versions.{greatest, written}
-use Rattle.lpis_cert.specs.CertText.{Corners, Line, TriangleLine, FlatLine, spelling, words_of, text_of_lines}
+use Rattle.lpis_cert.specs.CertText.{Corners, Line, spelling, words_of, text_of_lines}
 use Rattle.lpis_cert.specs.Reading.{digits_on, number}
 use Rattle.lpis_cert.specs.Taken.{Begins, Follows, corner_line}
-use Rattle.lpis_cert.proofs.Numbers.{number_takes, coordinate_takes}
+use Rattle.lpis_cert.proofs.Numbers.{number_takes}
 
 -- the rest, as a slice of the code is seen
 rest_is : (xs : List ℕ) (i : ℕ) → take (length xs - (i + 1)) (drop (i + 1) xs) ≡ drop (i + 1) xs

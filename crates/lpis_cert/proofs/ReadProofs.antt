@@ -1,22 +1,20 @@
 -- The first line, and the whole text.
-use Rattle.std.proofs.Common.{◌≡◌, ℕ, zero, suc, ◌+◌, ◌<◌, ◌≤◌, Bool, true, false, cond, List, [], ◌∷◌, ◌++◌, length, map, Result, Ok, Err, refl, sym, ap, subst, ◌∙◌, arith, append_assoc}
+use Rattle.std.proofs.Common.{◌≡◌, ℕ, ◌+◌, ◌≤◌, true, false, List, [], ◌∷◌, ◌++◌, length, map, Ok, Err, refl, sym, ap, ◌∙◌, arith}
 use Rattle.std.specs.Prelude.{sum_by}
 use Rattle.std.proofs.lemmas.List.{append-nil}
 use Rattle.std.proofs.lemmas.List.Sums.{sum_by-cons}
-use Rattle.std.specs.List.{flat_map, AllByRecursion}
+use Rattle.std.specs.List.{AllByRecursion}
 use Rattle.lpis_cert.specs.declared.kind.Stage.{Stage}
 use Rattle.lpis_cert.specs.declared.kind.Stage.TheVariants as stage
-use Rattle.lpis_cert.specs.declared.fault.CertCode.{CertCode}
 use Rattle.lpis_cert.specs.declared.fault.CertCode.TheVariants as code
 use Rattle.lpis_cert.specs.Versions.{first_line, written}
 use Rattle.lpis_cert.specs.Limits.{most_triangles, most_flats}
-use Rattle.lpis_cert.specs.CertText.{Corners, PieceBlock, ParcelBlock, Content, Line, PieceLine, ParcelLine, TriangleLine, FlatLine, text_of, text_of_lines, lines_of, piece_lines, parcel_lines, end_lines}
-use Rattle.lpis_cert.specs.Fitting.{PieceFits, ParcelFits, Fits, LineFits}
+use Rattle.lpis_cert.specs.CertText.{PieceBlock, ParcelBlock, Content, Line, PieceLine, ParcelLine, TriangleLine, FlatLine, text_of, text_of_lines, lines_of, piece_lines, parcel_lines, end_lines}
+use Rattle.lpis_cert.specs.Fitting.{PieceFits, ParcelFits, Fits}
 use Rattle.lpis_cert.specs.Reading.{is_word}
-use Rattle.lpis_cert.specs.Faults.{is_lf, lines, outcome, at_last, step, Place, AtVersion, InBody, AtEnd, Declared, none_declared, grow, grow_flats, verdict}
+use Rattle.lpis_cert.specs.Faults.{lines, outcome, at_last, step, Place, AtVersion, InBody, AtEnd, Declared, none_declared, grow, grow_flats, verdict}
 use Rattle.lpis_cert.specs.Taken.{TakesLine, Follows}
 use Rattle.lpis_cert.specs.Drafts.{Grown, Whole, pieces_lines, parcels_lines}
-use Rattle.lpis_cert.proofs.WordProofs.{part, only_part}
 use Rattle.lpis_cert.proofs.LineProofs.{word_is}
 use Rattle.lpis_cert.proofs.StepProofs.{step_ok, step_err, follows_both, Goes, over}
 use Rattle.lpis_cert.proofs.BlockProofs.{corners_go}

@@ -1,9 +1,5 @@
 -- One line taken, and the lines after it.
-use Rattle.std.proofs.Common.{◌≡◌, ℕ, zero, suc, ◌+◌, ◌-◌, ◌*◌, ◌<◌, ◌≤◌, Bool, true, false, cond, not, ◌&&◌, ◌||◌, List, [], ◌∷◌, ◌++◌, length, map, Option, Some, None, Result, Ok, Err, refl, sym, ap, subst, ◌∙◌, arith, append_assoc, length-append, ◌⊎◌, inl, inr}
-use Rattle.std.specs.List.{slice_split, AllByRecursion}
-use Rattle.std.specs.Option.{option_map}
-use Rattle.lpis_cert.specs.declared.kind.Stage.{Stage}
-use Rattle.lpis_cert.specs.declared.kind.Stage.TheVariants as stage
+use Rattle.std.proofs.Common.{◌≡◌, ℕ, zero, suc, ◌+◌, Bool, true, false, cond, List, [], ◌∷◌, ◌++◌, length, Option, Some, None, Ok, Err, refl, sym, ap, subst, ◌∙◌, arith, append_assoc, length-append, inl, inr}
 use Rattle.lpis_cert.specs.declared.fault.CertCode.{CertCode}
 use Rattle.lpis_cert.specs.declared.fault.CertCode.TheVariants as code
 use Rattle.lpis_cert.specs.declared.fault.CertFault.{CertFault}
@@ -13,16 +9,15 @@ use Rattle.lpis_cert.specs.declared.kind.Kind.TheVariants.{Piece, Triangle, Flat
 use Rattle.lpis_cert.specs.declared.kind.Expected.{Expected}
 use Rattle.lpis_cert.specs.declared.kind.Expected.TheVariants.{One, Block}
 use Rattle.lpis_cert.specs.Versions.{written}
-use Rattle.lpis_cert.specs.CertText.{Corners, Separator, Line, PieceLine, TriangleLine, FlatLine, ParcelLine, PairsLine, PairLine, EndLine, spelling, text_of_lines}
-use Rattle.lpis_cert.specs.Fitting.{CornersFit, SeparatorFits}
-use Rattle.lpis_cert.specs.Reading.{◌>>=◌, with_form, same_kind, can_stand, values, placed, read_line, or_number, corners, separator, piece_line, parcel_line, pairs_line, last}
-use Rattle.lpis_cert.specs.Faults.{is_lf, lines, outcome, at_last, at_line, step, Place, AtVersion, InBody, InPairs, AtEnd, Declared, open_block}
+use Rattle.lpis_cert.specs.CertText.{Line, spelling, text_of_lines}
+use Rattle.lpis_cert.specs.Reading.{with_form, same_kind, can_stand, values, placed, read_line}
+use Rattle.lpis_cert.specs.Faults.{is_lf, lines, outcome, at_last, step, Place, AtVersion, InBody, InPairs, AtEnd}
 use Rattle.lpis_cert.specs.Fitting.{LineFits}
 use Rattle.lpis_cert.specs.Kinds.{line_kind}
-use Rattle.lpis_cert.specs.Taken.{TakesLine, Placed, FailsWith, LineFault, Follows, FaultFrom, corner_kind, corner_line, wanting}
+use Rattle.lpis_cert.specs.Taken.{Placed, FailsWith, LineFault, Follows, FaultFrom}
 use Rattle.lpis_cert.proofs.Splitting.{split_some}
 use Rattle.lpis_cert.proofs.WordProofs.{lines_from}
-use Rattle.lpis_cert.proofs.LineProofs.{ReadsAs, placed_takes, read_again, bind_ok}
+use Rattle.lpis_cert.proofs.LineProofs.{placed_takes}
 
 same_kind_is : (a b : Kind) → same_kind a b ≡ true → a ≡ b
 same_kind_is Piece Piece h = refl

@@ -1,33 +1,25 @@
 -- The words of a line.
-use Rattle.std.proofs.Common.{◌≡◌, ℕ, zero, suc, ◌+◌, ◌-◌, ◌*◌, ◌<◌, ◌≤◌, Bool, true, false, cond, not, ◌&&◌, ◌||◌, List, [], ◌∷◌, ◌++◌, length, get_or, Option, Some, None, Result, Ok, Err, refl, sym, ap, subst, ◌∙◌, arith, eqb, ℤ, pos, negsuc, neg_ℤ, ◌≤ℤ◌, append_assoc}
+use Rattle.std.proofs.Common.{◌≡◌, ℕ, suc, ◌<◌, ◌≤◌, Bool, true, false, not, ◌&&◌, List, [], ◌∷◌, ◌++◌, length, refl, ap, ◌∙◌, arith, ℤ, pos, negsuc, neg_ℤ, ◌≤ℤ◌}
 use Rattle.std.proofs.lemmas.Bool.Decides.{nat_tests}
-use Rattle.std.proofs.lemmas.Bool.{eqb-true}
 use Rattle.std.proofs.lemmas.Int.{ints}
-use Rattle.std.proofs.lemmas.List.Splits.{join_with_byte-slice_split}
 use Rattle.std.proofs.lemmas.Fmt.{decimal_is_IsNumeral}
 use Rattle.std.proofs.lemmas.Str.Parse.{digit_from_value}
-use Rattle.std.specs.Prelude.{codes, nat_eq, nat_le}
+use Rattle.std.specs.Prelude.{codes, nat_le}
 use Rattle.std.specs.List.{slice_split, onto_first, list_all, list_any, join_with_byte, AllByRecursion}
 use Rattle.std.specs.Fmt.{decimal, signed_decimal}
-use Rattle.std.specs.Char.{digit_value}
 use Rattle.std.specs.Int.{IsInRange as IsBetween}
 use Rattle.std.specs.Str.Parse.{AllDigits}
-use Rattle.std.specs.Cmp.Lexicographic.{pointwise}
 use Rattle.lpis_covers.specs.Ids.{is_id, is_id_byte}
 use Rattle.lpis_points.specs.Range.{IsInRange, limit}
-use Rattle.lpis_cert.specs.Limits.{greatest_count, last_edge, number_margin}
-use Rattle.lpis_cert.specs.Versions.{written}
-use Rattle.lpis_cert.specs.declared.fault.CertCode.{CertCode}
-use Rattle.lpis_cert.specs.declared.fault.CertCode.TheVariants as code
+use Rattle.lpis_cert.specs.Limits.{greatest_count, number_margin}
 use Rattle.lpis_cert.specs.declared.kind.Kind.{Kind}
 use Rattle.lpis_cert.specs.declared.kind.Kind.TheVariants.{Piece, Triangle, Flat, Parcel, Pairs, Pair, End}
-use Rattle.lpis_cert.specs.declared.kind.Expected.{Expected}
-use Rattle.lpis_cert.specs.CertText.{Corners, Separator, Line, PieceLine, TriangleLine, FlatLine, ParcelLine, PairsLine, PairLine, EndLine, words_of, corner_words, spelling}
-use Rattle.lpis_cert.specs.Fitting.{CornersFit, SeparatorFits, LineFits}
-use Rattle.lpis_cert.specs.Reading.{◌>>=◌, ◌>>?◌, is_gap, is_empty, words, is_word, kind_of, word_count, first_is_id, names, form, can_stand, front, last, natural, number, coordinate, point, corners, separator, piece_line, parcel_line, pairs_line, values, with_form, or_number, placed, read_line}
+use Rattle.lpis_cert.specs.CertText.{Corners, Line, PieceLine, TriangleLine, FlatLine, ParcelLine, PairsLine, PairLine, EndLine, words_of, corner_words, spelling}
+use Rattle.lpis_cert.specs.Fitting.{CornersFit, LineFits}
+use Rattle.lpis_cert.specs.Reading.{is_gap, is_empty, words}
 use Rattle.lpis_cert.specs.Faults.{is_lf, lines}
 use Rattle.lpis_cert.specs.Kinds.{line_kind}
-use Rattle.lpis_cert.proofs.Numbers.{opened, both, number_again, number_takes, coordinate_again, coordinate_takes}
+use Rattle.lpis_cert.proofs.Numbers.{both}
 
 -- ---- bytes of words
 

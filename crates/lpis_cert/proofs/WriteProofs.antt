@@ -1,17 +1,16 @@
 -- What is written is the text.
-use Rattle.std.proofs.Common.{◌≡◌, ℕ, ◌+◌, Bool, true, false, List, [], ◌∷◌, ◌++◌, length, map, refl, sym, ap, ap₂, ◌∙◌, append_assoc}
-use Rattle.std.proofs.lemmas.List.{append-nil, length-map}
+use Rattle.std.proofs.Common.{◌≡◌, ℕ, List, [], ◌∷◌, ◌++◌, length, map, refl, sym, ap, ap₂, ◌∙◌}
+use Rattle.std.proofs.lemmas.List.{length-map}
 use Rattle.std.proofs.lemmas.List.Concat.{flat_map-cons}
 use Rattle.std.specs.List.{flat_map}
 use Rattle.lpis_cert.specs.declared.part.PiecePart.{PiecePart}
 use Rattle.lpis_cert.specs.declared.part.ParcelPart.{ParcelPart}
 use Rattle.lpis_cert.specs.declared.cert.Cert.{Cert}
 use Rattle.lpis_cert.specs.Versions.{first_line, written}
-use Rattle.lpis_cert.specs.CertText.{Line, PieceLine, ParcelLine, PairsLine, TriangleLine, FlatLine, EndLine, text_of, text_of_lines, lines_of, piece_lines, parcel_lines, end_lines, spelling}
+use Rattle.lpis_cert.specs.CertText.{Line, PieceLine, ParcelLine, PairsLine, TriangleLine, FlatLine, EndLine, text_of, text_of_lines, lines_of, piece_lines, parcel_lines, end_lines}
 use Rattle.lpis_cert.specs.CertText.{PairLine as separator_line}
-use Rattle.lpis_cert.specs.Taken.{corner_line}
 use Rattle.lpis_cert.specs.Contents.{corners_of, all_corners, piece_of, parcel_of, separator_of, content_of}
-use Rattle.lpis_cert.specs.Written.{line_text, corners_text, piece_text, parcel_text, pairs_text, version_text, parts_text}
+use Rattle.lpis_cert.specs.Written.{line_text, piece_text, parcel_text, pairs_text, version_text, parts_text}
 use Rattle.lpis_cert.proofs.StepProofs.{text-append}
 
 one_line : (l : Line) (ls : List Line) → line_text l ++ text_of_lines ls ≡ text_of_lines (l ∷ ls)

@@ -1,5 +1,5 @@
 -- A certificate that is being read. Only private contracts cite this file.
-use Rattle.std.specs.Prelude.{ℕ, ◌+◌, ◌≡◌, ◌<◌, List, [], ◌∷◌, ◌++◌, length, map, Result}
+use Rattle.std.specs.Prelude.{ℕ, ◌≡◌, ◌<◌, List, ◌++◌, length, map}
 use Rattle.std.specs.List.{flat_map}
 use Rattle.lpis_cert.specs.declared.draft.Draft.{Draft}
 use Rattle.lpis_cert.specs.declared.draft.Progress.{Progress}

@@ -1,5 +1,5 @@
 -- The first fault of a text, line by line.
-use Rattle.std.specs.Prelude.{◌≡◌, ℕ, zero, suc, ◌+◌, Bool, true, false, cond, ◌&&◌, ◌==◌, List, [], ◌∷◌, length, Result, Ok, Err, nat_le, codes}
+use Rattle.std.specs.Prelude.{◌≡◌, ℕ, zero, suc, ◌+◌, Bool, cond, ◌&&◌, ◌==◌, List, [], ◌∷◌, length, Result, Ok, Err, nat_le}
 use Rattle.std.specs.List.{slice_split}
 use Rattle.lpis_cert.specs.declared.kind.Stage.{Stage}
 use Rattle.lpis_cert.specs.declared.kind.Stage.TheVariants as stage
@@ -9,7 +9,7 @@ use Rattle.lpis_cert.specs.declared.fault.CertFault.{CertFault}
 use Rattle.lpis_cert.specs.declared.fault.CertFault.TheVariants as fault
 use Rattle.lpis_cert.specs.declared.kind.Kind.TheVariants as kind
 use Rattle.lpis_cert.specs.declared.kind.Expected.TheVariants.{One, Block}
-use Rattle.lpis_cert.specs.CertText.{Line, PieceLine, TriangleLine, FlatLine, ParcelLine, PairsLine, PairLine, EndLine}
+use Rattle.lpis_cert.specs.CertText.{Line, PieceLine, ParcelLine, PairsLine}
 use Rattle.lpis_cert.specs.Limits.{most_triangles, most_flats}
 use Rattle.lpis_cert.specs.Versions.{first_line, written}
 use Rattle.lpis_cert.specs.Reading.{◌>>=◌, is_word, read_line}

@@ -1,5 +1,5 @@
 -- What has a text. Every certificate has one; the law of single lines cites `LineFits`, and only private contracts and lemmas the rest.
-use Rattle.std.specs.Prelude.{ℕ, ◌+◌, ◌≤◌, ◌≡◌, true, length, sum_by}
+use Rattle.std.specs.Prelude.{◌+◌, ◌≤◌, ◌≡◌, true, length, sum_by}
 use Rattle.std.specs.List.{AllByRecursion}
 use Rattle.lpis_points.specs.Range.{IsInRange}
 use Rattle.lpis_covers.specs.Ids.{is_id}

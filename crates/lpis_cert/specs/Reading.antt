@@ -1,6 +1,6 @@
 -- What one line says, or its fault.
-use Rattle.std.specs.Prelude.{ℕ, zero, suc, ◌+◌, ◌*◌, Bool, true, false, not, cond, ◌&&◌, ◌||◌, ◌==◌, List, [], ◌∷◌, length, drop, ℤ, pos, neg_ℤ, Option, Some, None, Result, Ok, Err, codes, nat_le, nat_eq, slice_index}
-use Rattle.std.specs.List.{slice_split, list_all, list_any}
+use Rattle.std.specs.Prelude.{ℕ, zero, suc, ◌+◌, ◌*◌, Bool, true, false, cond, ◌&&◌, ◌==◌, List, [], ◌∷◌, length, ℤ, pos, neg_ℤ, Option, Some, None, Result, Ok, Err, codes, nat_le, nat_eq}
+use Rattle.std.specs.List.{slice_split, list_any}
 use Rattle.std.specs.Char.{is_ascii_digit, digit_value}
 use Rattle.std.specs.Cmp.Lexicographic.{pointwise}
 use Rattle.lpis_covers.specs.Ids.{is_id}

@@ -1,5 +1,5 @@
 -- What the reader has taken from the front of a text. Only private contracts cite this file.
-use Rattle.std.specs.Prelude.{ℕ, ◌+◌, ◌≡◌, ◌⊎◌, ◌<◌, Bool, true, false, cond, List, [], ◌∷◌, ◌++◌, length, map, Result, Ok, Err, Option}
+use Rattle.std.specs.Prelude.{ℕ, ◌+◌, ◌≡◌, ◌⊎◌, Bool, cond, List, [], ◌∷◌, ◌++◌, length, Ok, Err}
 use Rattle.lpis_cert.specs.declared.kind.Stage.{Stage}
 use Rattle.lpis_cert.specs.declared.fault.CertCode.{CertCode}
 use Rattle.lpis_cert.specs.declared.fault.CertCode.TheVariants as code
@@ -8,7 +8,7 @@ use Rattle.lpis_cert.specs.declared.fault.CertFault.TheVariants.{Memory, At}
 use Rattle.lpis_cert.specs.declared.kind.Kind.{Kind}
 use Rattle.lpis_cert.specs.declared.kind.Kind.TheVariants as kind
 use Rattle.lpis_cert.specs.declared.kind.Expected.{Expected}
-use Rattle.lpis_cert.specs.CertText.{Corners, Line, TriangleLine, FlatLine, spelling, text_of_lines}
+use Rattle.lpis_cert.specs.CertText.{Corners, Line, TriangleLine, FlatLine, text_of_lines}
 use Rattle.lpis_cert.specs.Versions.{written}
 use Rattle.lpis_cert.specs.Reading.{placed, read_line}
 use Rattle.lpis_cert.specs.Faults.{lines, outcome, Place, InBody, Declared}

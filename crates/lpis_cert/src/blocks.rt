@@ -179,7 +179,7 @@ fn finish(
 }
 
 /// The next block, or the end.
-pub fn next_block<'a>(
+pub(crate) fn next_block<'a>(
     alloc: Global,
     draft: Draft,
     rest: Rest<'a>,

@@ -11,7 +11,7 @@ use crate::rest::Rest;
 
 /// The blocks so far, and how many triangles and flats they have.
 #[derive(Drop)]
-pub struct Draft {
+pub(crate) struct Draft {
     pub pieces: Vec<PiecePart>,
     pub parcels: Vec<ParcelPart>,
     pub stage: Stage,
@@ -26,7 +26,7 @@ pub struct Draft {
 
 /// What came next: one more block, or the end.
 #[derive(Drop)]
-pub enum Progress<'a> {
+pub(crate) enum Progress<'a> {
     More(Draft, Rest<'a>),
     Done(Cert),
 }

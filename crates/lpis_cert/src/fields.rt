@@ -38,7 +38,7 @@ fn next_point(version: Version, words: &mut Words<'_>) -> Option<Point>
 
 /// The three corners that words spell.
 #[tactic(auto, unfolding(crate::specs::Reading::corners))]
-pub fn corners(version: Version, mut words: Words<'_>) -> Option<Triangle>
+pub(crate) fn corners(version: Version, mut words: Words<'_>) -> Option<Triangle>
     ensures { corners_in version words.entry ≡ option_map corners_of result }
 {
     let a = next_point(version, &mut words)?;
@@ -51,7 +51,7 @@ pub fn corners(version: Version, mut words: Words<'_>) -> Option<Triangle>
 }
 
 /// The next word as a number, if it is at most the limit.
-pub fn next_number(words: &mut Words<'_>, limit: u64) -> Option<u64>
+pub(crate) fn next_number(words: &mut Words<'_>, limit: u64) -> Option<u64>
     requires { limit ≤ greatest_count }
     ensures { MatchOption result (front (number_of limit) words.old ≡ None) (λ n. (front (number_of limit) words.old ≡ Some (n, words.new)) × (n ≤ limit)) }
 {
@@ -63,7 +63,7 @@ pub fn next_number(words: &mut Words<'_>, limit: u64) -> Option<u64>
 
 /// The separator that words spell.
 #[tactic(auto, unfolding(crate::specs::Reading::separator))]
-pub fn separator(mut words: Words<'_>) -> Option<PairLine>
+pub(crate) fn separator(mut words: Words<'_>) -> Option<PairLine>
     ensures { separator_in words.entry ≡ option_map separator_of result }
 {
     let i = next_number(&mut words, GREATEST_COUNT)?;

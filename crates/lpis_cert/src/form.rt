@@ -8,7 +8,7 @@ use crate::kind::{Expected, Kind, Stage};
 use crate::words::{Words, count};
 use lpis_covers::is_id_text;
 
-pub fn is_word(word: &[u8], text: &[u8]) -> bool
+pub(crate) fn is_word(word: &[u8], text: &[u8]) -> bool
     ensures { result ≡ is_word word.now text.now }
 {
     word == text
@@ -110,7 +110,7 @@ fn formed(line: &[u8]) -> Option<(Kind, Words<'_>)>
 
 /// The line's kind and further words, where its form is right and its kind can stand.
 #[tactic(auto, unfolding(crate::specs::Reading::placed))]
-pub fn placed(expected: Expected, line: &[u8]) -> Result<(Kind, Words<'_>), CertCode>
+pub(crate) fn placed(expected: Expected, line: &[u8]) -> Result<(Kind, Words<'_>), CertCode>
     ensures ok { IfOk result (λ p. placed_line expected line.now ≡ Ok (p.0, p.1)) }
     ensures err { IfErr result (λ code. placed_line expected line.now ≡ Err code) }
 {

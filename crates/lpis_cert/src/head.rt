@@ -21,7 +21,7 @@ use std::alloc::{AllocError, Global};
 
 /// What begins a block.
 #[derive(Drop)]
-pub enum Head {
+pub(crate) enum Head {
     Piece(Id, u32, u32),
     Parcel(Id, u32),
     Pairs(u32),
@@ -74,7 +74,11 @@ fn named(alloc: Global, word: &[u8]) -> Result<Id, AllocError>
 }
 
 /// The line that begins a block, or the pairs.
-pub fn head_at(alloc: Global, stage: Stage, rest: Rest<'_>) -> Result<(Head, Rest<'_>), CertFault>
+pub(crate) fn head_at(
+    alloc: Global,
+    stage: Stage,
+    rest: Rest<'_>,
+) -> Result<(Head, Rest<'_>), CertFault>
     ensures ok { IfOk result (λ x. Follows rest.entry.text.now rest.entry.line (head_line x.0 ∷ []) x.1.text.now x.1.line) }
     ensures fits { IfOk result (λ x. LineFits (head_line x.0)) }
     ensures stands { IfOk result (λ x. can_stand (Block stage) (line_kind (head_line x.0)) ≡ true) }

@@ -22,7 +22,7 @@ use lpis_points::Triangle;
 use std::alloc::Global;
 
 /// The first line's kind and further words.
-pub fn placed_line(
+pub(crate) fn placed_line(
     expected: Expected,
     rest: Rest<'_>,
 ) -> Result<(Kind, Words<'_>, Rest<'_>), CertFault>
@@ -50,7 +50,7 @@ fn corner_kind(flat: bool) -> Kind
 }
 
 /// A triangle line or a flat line.
-pub fn corner_line(flat: bool, rest: Rest<'_>) -> Result<(Triangle, Rest<'_>), CertFault>
+pub(crate) fn corner_line(flat: bool, rest: Rest<'_>) -> Result<(Triangle, Rest<'_>), CertFault>
     ensures { MatchResult result (λ x. Follows rest.entry.text.now rest.entry.line (line_of_corners flat (corners_of x.0) ∷ []) x.1.text.now x.1.line) (λ e. LineFault e rest.entry.line (One (kind_of_corners flat)) rest.entry.text.now) }
 {
     if let Some((triangle, text)) = leading_corners(flat, rest.text) {
@@ -71,7 +71,7 @@ pub fn corner_line(flat: bool, rest: Rest<'_>) -> Result<(Triangle, Rest<'_>), C
 }
 
 /// So many triangle lines or flat lines.
-pub fn corner_lines(
+pub(crate) fn corner_lines(
     alloc: Global,
     flat: bool,
     count: u32,
@@ -92,7 +92,7 @@ pub fn corner_lines(
 }
 
 /// A pair line.
-pub fn pair_line(rest: Rest<'_>) -> Result<(PairLine, Rest<'_>), CertFault>
+pub(crate) fn pair_line(rest: Rest<'_>) -> Result<(PairLine, Rest<'_>), CertFault>
     ensures { MatchResult result (λ x. Follows rest.entry.text.now rest.entry.line (separator_line (separator_of x.0) ∷ []) x.1.text.now x.1.line) (λ e. LineFault e rest.entry.line (One kind.Pair) rest.entry.text.now) }
 {
     let (_, words, after) = placed_line(Expected::One(Kind::Pair), rest)?;
@@ -106,7 +106,7 @@ pub fn pair_line(rest: Rest<'_>) -> Result<(PairLine, Rest<'_>), CertFault>
 }
 
 /// So many pair lines.
-pub fn pair_lines(
+pub(crate) fn pair_lines(
     alloc: Global,
     count: u32,
     rest: Rest<'_>,
@@ -126,7 +126,7 @@ pub fn pair_lines(
 }
 
 /// The last line.
-pub fn end_line(rest: Rest<'_>) -> Result<Rest<'_>, CertFault>
+pub(crate) fn end_line(rest: Rest<'_>) -> Result<Rest<'_>, CertFault>
     ensures { MatchResult result (λ x. Follows rest.entry.text.now rest.entry.line (EndLine ∷ []) x.text.now x.line) (λ e. LineFault e rest.entry.line (One kind.End) rest.entry.text.now) }
 {
     let (_, mut words, after) = placed_line(Expected::One(Kind::End), rest)?;

@@ -27,7 +27,7 @@ fn digits(digits: &[u8], limit: u64) -> Option<u64>
 
 /// The number that a word spells, if it is at most the limit.
 #[tactic(auto, unfolding(crate::specs::Reading::number))]
-pub fn number(word: &[u8], limit: u64) -> Option<u64>
+pub(crate) fn number(word: &[u8], limit: u64) -> Option<u64>
     requires { limit ≤ number_margin }
     ensures is { result ≡ number limit word.now }
     ensures most { IfSome result (λ n. n ≤ limit) }
@@ -42,7 +42,7 @@ pub fn number(word: &[u8], limit: u64) -> Option<u64>
 
 /// The coordinate in centimetres that a word spells.
 #[tactic(auto, unfolding(crate::specs::Reading::coordinate))]
-pub fn coordinate(version: Version, word: &[u8]) -> Option<i64>
+pub(crate) fn coordinate(version: Version, word: &[u8]) -> Option<i64>
     ensures is { result ≡ coordinate version word.now }
     ensures range { IfSome result IsInRange }
 {

@@ -6,14 +6,14 @@ ghost use Rattle.lpis_cert.specs.Taken.{TakesLine};
 
 /// What is left of a text, and the number of its first line.
 #[derive(Clone, Copy)]
-pub struct Rest<'a> {
+pub(crate) struct Rest<'a> {
     pub text: &'a [u8],
     pub line: u64,
     pub ghost room: { line + length text.now < 2 ^ 64 },
 }
 
 /// The first line, and what comes after its end.
-pub fn front_line(rest: Rest<'_>) -> Option<(&[u8], Rest<'_>)>
+pub(crate) fn front_line(rest: Rest<'_>) -> Option<(&[u8], Rest<'_>)>
     ensures { MatchOption result (lines rest.entry.text.now ≡ rest.entry.text.now ∷ []) (λ x. TakesLine rest.entry.text.now rest.entry.line x.0.now x.1.text.now x.1.line) }
 {
     match line_end(rest.text) {

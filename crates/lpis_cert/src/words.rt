@@ -8,7 +8,7 @@ use std::marker::Model;
 
 /// The words of a line that are not taken yet.
 #[derive(Drop)]
-pub struct Words<'a> {
+pub(crate) struct Words<'a> {
     line: &'a [u8],
     more: bool,
 }
@@ -29,14 +29,14 @@ fn gap_of(line: &[u8]) -> Option<usize>
 }
 
 impl<'a> Words<'a> {
-    pub fn new(line: &'a [u8]) -> Self
+    pub(crate) fn new(line: &'a [u8]) -> Self
         ensures { result ≡ words line.now }
     {
         Words { line, more: true }
     }
 
     /// The next word, which stays.
-    pub fn front(&self) -> Option<&'a [u8]>
+    pub(crate) fn front(&self) -> Option<&'a [u8]>
         ensures { MatchOption result (self.now ≡ []) (λ w. (rest : List (List ℕ)) × (self.now ≡ w.now ∷ rest)) }
     {
         if !self.more {
@@ -48,7 +48,7 @@ impl<'a> Words<'a> {
         }
     }
 
-    pub fn next(&mut self) -> Option<&'a [u8]>
+    pub(crate) fn next(&mut self) -> Option<&'a [u8]>
         ensures { MatchOption result ((self.old ≡ []) × (self.new ≡ [])) (λ w. self.old ≡ w.now ∷ self.new) }
     {
         if !self.more {
@@ -70,7 +70,7 @@ impl<'a> Words<'a> {
 }
 
 /// How many words a line has, if none is empty.
-pub fn count(line: &[u8]) -> Option<usize>
+pub(crate) fn count(line: &[u8]) -> Option<usize>
     ensures { result ≡ cond (list_any is_empty (words line.now)) None (Some (length (words line.now))) }
 {
     let mut gaps = 0;

@@ -1,5 +1,5 @@
 -- Parcels of one identifier are one.
-use Rattle.std.proofs.Common.{◌≡◌, ◌≢◌, ℕ, ◌<◌, List, [], length, map, get_or, Some, ◌⊎◌, inl, inr, ap, sym, ◌∙◌, arith}
+use Rattle.std.proofs.Common.{◌≡◌, ◌≢◌, ℕ, ◌<◌, List, [], Some, ◌⊎◌, inl, inr, ap, sym, ◌∙◌, arith}
 use Rattle.std.specs.List.{slice_get, IsDistinct, AllPairs}
 use Rattle.std.specs.Option.{option_map}
 use Rattle.std.proofs.lemmas.Bool.{cases_eq, cases_lt}

@@ -1,5 +1,5 @@
 -- Off the lines of a release the turns of its polygons are those of triangles.
-use Rattle.std.proofs.Common.{◌≡◌, ◌≢◌, ℕ, zero, suc, ◌<◌, ℤ, pos, ◌+ℤ◌, ◌<ℤ◌, List, [], ◌∷◌, ◌++◌, All, Some, None, ap, sym, refl, ◌∙◌, subst}
+use Rattle.std.proofs.Common.{◌≡◌, ◌≢◌, ℕ, zero, suc, ℤ, ◌+ℤ◌, List, [], ◌∷◌, ◌++◌, All, Some, None, ap, sym, refl, ◌∙◌, subst}
 use Rattle.std.specs.List.{slice_get, Contains, flat_map}
 use Rattle.std.proofs.lemmas.List.Elements.{All-cons, All-head, All-nil, All-tail, Contains-append_left, Contains-append_right}
 use Rattle.std.proofs.lemmas.Option.{same_Some}
@@ -9,18 +9,17 @@ use Rattle.lpis_points.specs.Plane.{RationalPoint}
 use Rattle.lpis_points.specs.Triangles.{IsCounterClockwise, IsFlat, IsOffItsLines}
 use Rattle.lpis_points.proofs.Corners.{corners_differ}
 use Rattle.lpis_rings.specs.Edges.{edges_of, turns}
-use Rattle.lpis_rings.specs.Map.{inside_count}
 use Rattle.lpis_rings.proofs.Covering.{piece_turns}
 use Rattle.lpis_covers.specs.declared.piece.Piece.{Piece}
 use Rattle.lpis_parcels.specs.declared.parcel.Parcel.{Parcel}
 use Rattle.lpis_parcels.specs.Release.{Contents, pieces_named}
 use Rattle.lpis_cert.specs.declared.cert.Cert.{Cert}
-use Rattle.lpis_cert.specs.declared.part.PiecePart.{PiecePart}
 use Rattle.lpis_checker.specs.declared.condition.Condition.TheVariants.{Names, Triangles, Turned, Flats, Corners, PieceEdges, ParcelEdges}
 use Rattle.lpis_checker.specs.declared.condition.Site.TheVariants.{PieceAt}
 use Rattle.lpis_checker.specs.Corners.{all_corners, corners_of, corners_of_pieces}
 use Rattle.lpis_checker.specs.GoodCertificate.{HaveCorners, HoldsEverywhere}
-use Rattle.lpis_checker.specs.SoundMap.{IsOffLines, TurnsAdd, turns_of_pieces}
+use Rattle.lpis_checker.specs.SoundMap.{IsOffLines}
+use Rattle.lpis_checker.specs.TurnsAdd.{TurnsAdd, turns_of_pieces}
 use Rattle.lpis_checker.proofs.Sums.{total, all_at, all_from}
 use Rattle.lpis_checker.proofs.Sound.{good_parcel, good_parts, parcel_turns}
 

@@ -1,16 +1,16 @@
 -- A good certificate shows a sound map.
-use Rattle.std.proofs.Common.{◌≡◌, ◌≢◌, ℕ, zero, suc, ◌+◌, ◌-◌, ◌<◌, ◌≤◌, nat_lt, ℤ, pos, ◌+ℤ◌, ◌≤ℤ◌, ◌<ℤ◌, Bool, true, false, cond, List, [], ◌∷◌, ◌++◌, length, get_or, Option, Some, None, ◌⊎◌, inl, inr, ◌↔◌, All, filter, ap, ap₂, sym, refl, ◌∙◌, subst, arith}
-use Rattle.std.specs.Prelude.{IsTrue, MatchOption}
+use Rattle.std.proofs.Common.{◌≡◌, ℕ, suc, ◌-◌, ◌<◌, nat_lt, ℤ, pos, ◌+ℤ◌, ◌≤ℤ◌, ◌<ℤ◌, Bool, true, false, cond, List, [], ◌∷◌, ◌++◌, length, get_or, Option, Some, None, inl, inr, ◌↔◌, All, filter, ap, ap₂, sym, refl, ◌∙◌, subst, arith}
+use Rattle.std.specs.Prelude.{MatchOption}
 use Rattle.std.proofs.lemmas.Int.{ints}
-use Rattle.std.specs.List.{slice_get, Any, flat_map, IsDistinct}
+use Rattle.std.specs.List.{slice_get, IsDistinct}
 use Rattle.std.specs.Option.{option_map}
 use Rattle.std.proofs.lemmas.List.Elements.{All-cons, All-filter, All-head, All-tail, All-nil}
 use Rattle.std.proofs.lemmas.Option.{slice_get-get_or, same_Some}
 use Rattle.std.proofs.lemmas.Slice.Eq.{bytes_eq-Decides}
 use Rattle.lpis_points.specs.declared.point.Point.{Point}
 use Rattle.lpis_points.specs.declared.triangle.Triangle.{Triangle}
-use Rattle.lpis_points.specs.Plane.{RationalPoint, same_point, shoelace_term}
-use Rattle.lpis_points.specs.Chain.{edge_sum, SameNet}
+use Rattle.lpis_points.specs.Plane.{RationalPoint, same_point}
+use Rattle.lpis_points.specs.Chain.{SameNet}
 use Rattle.lpis_points.specs.Triangles.{triangle_edges, IsCounterClockwise, IsFlat, Separates, are_apart}
 use Rattle.lpis_rings.specs.Map.{edges_of_triangles, KeepApart, AllKeepApart, IsCut, CutPiece, all_triangles, all_edges, all_turns, all_areas, IsOneOrNone}
 use Rattle.lpis_rings.specs.Edges.{edges_of, edge_turns, turns}
@@ -27,8 +27,6 @@ use Rattle.lpis_parcels.specs.Eligible.{areas2, eligible2, is_eligible}
 use Rattle.lpis_cert.specs.declared.cert.Cert.{Cert}
 use Rattle.lpis_cert.specs.declared.part.PiecePart.{PiecePart}
 use Rattle.lpis_cert.specs.declared.part.ParcelPart.{ParcelPart}
-use Rattle.lpis_cert.specs.declared.part.PairLine.{PairLine}
-use Rattle.lpis_pairs.specs.NearPairs.{IsNear}
 use Rattle.lpis_checker.specs.SoundMap.{AtMostOne, ExactlyOne, IsInParcel, IsInPiece, IsSoundMap, TurnsTell, AreasAdd}
 use Rattle.lpis_checker.specs.declared.condition.Condition.TheVariants.{Names, Triangles, Turned, Flats, PieceEdges, ParcelEdges, Named, Separating}
 use Rattle.lpis_checker.specs.declared.condition.Site.TheVariants.{PieceAt, ParcelAt, LineAt, PairAt}

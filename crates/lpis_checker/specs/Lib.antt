@@ -3,6 +3,7 @@ pub mod Corners
 pub mod GoodCertificate
 pub mod FirstFault
 pub mod SoundMap
+pub mod TurnsAdd
 pub mod Searches
 pub mod SignedEdges
 pub mod Laws

@@ -1,16 +1,14 @@
 -- What a good certificate shows of a release.
-use Rattle.std.specs.Prelude.{◌≡◌, ◌≢◌, ℕ, ℤ, pos, ◌+ℤ◌, ◌≤ℤ◌, ◌<ℤ◌, List, [], ◌∷◌, slice_get, Some, All, Any, Contains as IsAmong, ◌↔◌}
+use Rattle.std.specs.Prelude.{◌≡◌, ◌≢◌, ℕ, ℤ, pos, ◌≤ℤ◌, ◌<ℤ◌, List, slice_get, Some, All, Any, Contains as IsAmong, ◌↔◌}
 use Rattle.lpis_points.specs.declared.point.Point.{Point}
 use Rattle.lpis_points.specs.Plane.{RationalPoint, orient_at}
 use Rattle.lpis_rings.specs.Area.{area2}
 use Rattle.lpis_rings.specs.Edges.{turns, Contains}
-use Rattle.lpis_rings.specs.Map.{IsOneOrNone, inside_count}
+use Rattle.lpis_rings.specs.Map.{IsOneOrNone}
 use Rattle.lpis_covers.specs.declared.piece.Piece.{Piece}
 use Rattle.lpis_parcels.specs.declared.parcel.Parcel.{Parcel}
 use Rattle.lpis_parcels.specs.Release.{Contents, pieces_named}
 use Rattle.lpis_parcels.specs.Eligible.{areas2, eligible2}
-use Rattle.lpis_cert.specs.declared.cert.Cert.{Cert}
-use Rattle.lpis_cert.specs.declared.part.PiecePart.{PiecePart}
 use Rattle.lpis_checker.specs.Corners.{all_corners}
 
 -- ---- counting
@@ -65,17 +63,6 @@ pub record IsSoundMap (r : Contents) : Type 0 where
   pub everywhere : IsSoundEverywhere r
   pub turns : TurnsOnce r
   pub areas : AreasAdd r
-
--- ---- turns, off the lines of a release
-abbrev pub turns_of_pieces : List Piece → RationalPoint → ℤ
-turns_of_pieces [] p = pos 0
-turns_of_pieces (x ∷ xs) p = turns x.polygon p +ℤ turns_of_pieces xs p
-
--- off the lines each piece turns round a point as often as triangles of its part have the point inside, and each parcel as often as its
--- pieces together
-pub record TurnsAdd (r : Contents) (c : Cert) : Type 0 where
-  pub pieces : (p : RationalPoint) → pos 0 <ℤ p.d → IsOffLines r p → (k : ℕ) (x : Piece) (t : PiecePart) → slice_get r.pieces k ≡ Some x → slice_get c.pieces k ≡ Some t → turns x.polygon p ≡ pos (inside_count t.triangles p)
-  pub parcels : (p : RationalPoint) → pos 0 <ℤ p.d → All (λ (k : Parcel). turns k.polygon p ≡ turns_of_pieces (pieces_named r k.id) p) r.parcels
 
 -- ---- looking up a point
 -- the parcel and one of its pieces that contain the point, by their identifiers

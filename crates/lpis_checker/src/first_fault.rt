@@ -57,11 +57,7 @@ fn parcel_id<'a>(release: &'a Release, cert: &'a Cert, place: usize) -> Option<&
 }
 
 /// The place that is told of a site at which a condition fails.
-pub(crate) fn place_of(
-    release: &Release,
-    cert: &Cert,
-    found: &Failing,
-) -> Result<Place, AllocError>
+pub(crate) fn place_of(release: &Release, cert: &Cert, found: &Failing) -> Result<Place, AllocError>
     requires { Holds release.now cert.now found.now.condition found.now.site → ⊥ }
     ensures { IfOk result (λ place. place ≡ place_of_lem release.now cert.now found.now.site) }
 {
@@ -103,11 +99,7 @@ fn form_fault(release: &Release, cert: &Cert, count: usize) -> Option<Failing>
 }
 
 /// The fault of the lowest code below 67, where it is not below 64.
-fn edge_fault(
-    alloc: Global,
-    release: &Release,
-    cert: &Cert,
-) -> Result<Option<Failing>, AllocError>
+fn edge_fault(alloc: Global, release: &Release, cert: &Cert) -> Result<Option<Failing>, AllocError>
     requires { HoldBelow release.now cert.now 64 }
     ensures { IfOk result (FindsBelow release.now cert.now 67) }
 {

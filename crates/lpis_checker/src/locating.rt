@@ -24,11 +24,7 @@ pub(crate) fn parcel_at<'a>(release: &'a Release, p: &RatPoint) -> Option<&'a Pa
 }
 
 /// The first piece of the parcel that contains the point.
-pub(crate) fn piece_at<'a>(
-    release: &'a Release,
-    parcel: &Parcel,
-    p: &RatPoint,
-) -> Option<&'a Piece>
+pub(crate) fn piece_at<'a>(release: &'a Release, parcel: &Parcel, p: &RatPoint) -> Option<&'a Piece>
     ensures { MatchOption result (All (λ (y : Piece). IsInPiece (rational_of p.now) y → ⊥) (pieces_named release.now parcel.now.id)) (λ y. Contains (pieces_named release.now parcel.now.id) y.now × IsInPiece (rational_of p.now) y.now) }
 {
     for piece in pieces_of(release, &parcel.id) {

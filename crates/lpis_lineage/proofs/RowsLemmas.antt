@@ -1,5 +1,5 @@
 -- Rows of the table of lineage.
-use Rattle.std.proofs.Common.{◌≡◌, ◌++◌, ◌∷◌, [], ℕ, List, Option, None, Some, Result, Ok, Err, Vec, Global, refl, ap, ◌∙◌}
+use Rattle.std.proofs.Common.{◌≡◌, ◌++◌, ◌∷◌, [], ℕ, List, Option, None, Some, Result, Ok, Err, refl, ap, ◌∙◌}
 use Rattle.lpis_covers.specs.declared.fault.Table.TheVariants.{Lineage}
 use Rattle.lpis_covers.specs.declared.fault.TableFault.{TableFault}
 use Rattle.lpis_covers.specs.declared.fault.TableFault.TheVariants.{Memory, At}

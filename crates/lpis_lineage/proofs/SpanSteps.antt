@@ -1,5 +1,5 @@
 -- Spans in a history with one release more.
-use Rattle.std.proofs.Common.{◌≡◌, ◌∙◌, ◌<◌, ◌≤◌, ◌+◌, refl, sym, ap, subst, arith, ℕ, zero, suc, List, [], ◌∷◌, ◌++◌, length, Bool, true, false, Option, None, Some, cond}
+use Rattle.std.proofs.Common.{◌≡◌, ◌∙◌, ◌<◌, ◌≤◌, refl, sym, ap, subst, arith, ℕ, List, [], ◌∷◌, ◌++◌, length, Bool, true, false, Option, None, Some, cond}
 use Rattle.std.specs.Prelude.{◌&&◌, not}
 use Rattle.std.specs.List.{filter}
 use Rattle.std.specs.Option.{is_some, option_or}
@@ -7,14 +7,14 @@ use Rattle.lpis_covers.specs.Ids.{has_id}
 use Rattle.lpis_lineage.specs.declared.row.Row.{Row}
 use Rattle.lpis_lineage.specs.declared.row.Entry.{Entry}
 use Rattle.lpis_lineage.specs.declared.span.Span.{Span}
-use Rattle.lpis_lineage.specs.Lineage.{holds, entry_at, last_live, last_year}
+use Rattle.lpis_lineage.specs.Lineage.{entry_at, last_live, last_year}
 use Rattle.lpis_lineage.specs.Lawful.{IsLawful, RowsFit}
 use Rattle.lpis_lineage.specs.Faults.{faults}
 use Rattle.lpis_lineage.specs.Accepts.{IsRelease}
 use Rattle.lpis_lineage.specs.Follows.{Follows}
 use Rattle.lpis_lineage.specs.Spans.{first_held, last_held, span_between, span_of}
 use Rattle.lpis_lineage.specs.Keeping.{IsHistory, begun, ended_in}
-use Rattle.lpis_lineage.proofs.Basics.{either, in-history, entry-here}
+use Rattle.lpis_lineage.proofs.Basics.{in-history, entry-here}
 use Rattle.lpis_lineage.proofs.Extends.{last-at, last-some, longer, year-at}
 use Rattle.lpis_lineage.proofs.Clean.{follows-from-clean, held-some}
 use Rattle.lpis_lineage.proofs.Accepting.{may-follow, to-release}

@@ -1,10 +1,10 @@
 -- Chains of rows, and the live descendants of an identifier.
-use Rattle.std.specs.Prelude.{◌≡◌, ◌&&◌, ◌++◌, ◌∷◌, [], Bool, true, false, ℕ, List}
+use Rattle.std.specs.Prelude.{◌≡◌, ◌&&◌, ◌++◌, ◌∷◌, [], Bool, true, ℕ, List}
 use Rattle.std.specs.List.{list_any}
 use Rattle.lpis_lineage.specs.declared.row.Row.{Row}
 use Rattle.lpis_lineage.specs.declared.row.Entry.{Entry}
 use Rattle.lpis_covers.specs.Ids.{has_id}
-use Rattle.lpis_lineage.specs.Lineage.{is_of, is_this, names, last_live}
+use Rattle.lpis_lineage.specs.Lineage.{is_of, names, last_live}
 
 -- all rows of a history
 abbrev pub all_rows : List Entry → List Row

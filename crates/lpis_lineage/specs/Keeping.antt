@@ -1,5 +1,5 @@
 -- What a history keeps beside its releases: machinery, which only private contracts cite.
-use Rattle.std.specs.Prelude.{◌≡◌, Bool, true, false, ℕ, List, Option, None, Some, cond}
+use Rattle.std.specs.Prelude.{◌≡◌, Bool, ℕ, List, Option, None, Some, cond}
 use Rattle.lpis_lineage.specs.declared.row.Entry.{Entry}
 use Rattle.lpis_lineage.specs.declared.span.Span.{Span}
 use Rattle.lpis_lineage.specs.Lawful.{IsLawful, RowsFit}

@@ -1,5 +1,5 @@
 -- The kinds of the identifiers of the last release.
-use Rattle.std.specs.Prelude.{◌&&◌, ◌≡◌, ◌+◌, Bool, true, false, cond, nat_lt, ℕ, List, [], ◌∷◌, length, Option, None, Some}
+use Rattle.std.specs.Prelude.{◌&&◌, ◌+◌, Bool, true, false, cond, nat_lt, ℕ, List, [], ◌∷◌, length, Option, None, Some}
 use Rattle.std.specs.List.{list_any, filter}
 use Rattle.lpis_lineage.specs.declared.row.Row.{Row}
 use Rattle.lpis_lineage.specs.declared.kind.Kind.{Kind}

@@ -14,6 +14,12 @@ static RIGHT: &str = "\"POLYGON((5 0,10 0,10 10,5 10,5 0))\"\n";
 
 static CLASSES: &str = "class,eligible\nG,1\nW,0\n";
 
+/// A square of ten metres, and the end of its row.
+static SQUARE: &str = "\"POLYGON((0 0,10 0,10 10,0 10,0 0))\"\n";
+
+/// The most rows of a table.
+static MANY: u32 = 200_000;
+
 /// The covers table with the left piece and a right one of this beginning.
 fn covers_with(rt: &HostRuntime, right: &str) -> Result<String, Fail> {
     Ok(format!(in rt.alloc(); "{COVERS}{LEFT}{right},{RIGHT}")?)
@@ -149,5 +155,60 @@ fn tells_faults_of_tables(rt: HostRuntime) -> Result<(), Fail> {
         covers.as_str(),
         "class,eligible\nG,yes\n",
         "39 classes 1",
+    )
+}
+
+/// A table of parcels with so many rows, each a square named by its number.
+fn squares(rt: &HostRuntime, count: u32) -> Result<String, Fail> {
+    let mut table = String::new(rt.alloc());
+    table.push_str("parcel,wkt\n")?;
+    for number in 0..count {
+        let row = format!(in rt.alloc(); "{number},{SQUARE}")?;
+        table.push_str(row.as_str())?;
+    }
+    Ok(table)
+}
+
+/// A table of covers with so many rows, each the whole of a parcel of its number.
+fn covers_of_squares(rt: &HostRuntime, count: u32) -> Result<String, Fail> {
+    let mut table = String::new(rt.alloc());
+    table.push_str(COVERS)?;
+    for number in 0..count {
+        let row = format!(in rt.alloc(); "{number},{number},G,{SQUARE}")?;
+        table.push_str(row.as_str())?;
+    }
+    Ok(table)
+}
+
+/// Fails unless the release has so many rows, and the last parcel its area.
+fn expect_squares(rt: &HostRuntime, release: &Release) -> Result<(), Fail> {
+    let parcels = release.parcels().len();
+    let pieces = release.pieces().len();
+    let last = eligible_of(rt, release, "199999")?;
+    let told = format!(in rt.alloc(); "{parcels} {pieces} {last}")?;
+    // 100 square metres.
+    expect(told.as_str(), "200000 200000 2000000")
+}
+
+#[test]
+fn reads_two_tables_of_the_most_rows(rt: HostRuntime) -> Result<(), Fail> {
+    let parcels = squares(&rt, MANY)?;
+    let covers = covers_of_squares(&rt, MANY)?;
+    expect_squares(
+        &rt,
+        &release(&rt, parcels.as_str(), covers.as_str(), CLASSES)?,
+    )
+}
+
+#[test]
+fn refuses_a_row_past_the_most(rt: HostRuntime) -> Result<(), Fail> {
+    let parcels = squares(&rt, MANY)?;
+    let covers = covers_of_squares(&rt, MANY + 1)?;
+    expect_refusal(
+        &rt,
+        parcels.as_str(),
+        covers.as_str(),
+        CLASSES,
+        "3a covers 200001",
     )
 }

@@ -12,8 +12,12 @@ static WITHOUT_FILE: [&str; 2] = ["lpis", "area"];
 
 static TWO_FILES: [&str; 4] = ["lpis", "area", "a.csv", "b.csv"];
 
+static CHECK: [&str; 4] = ["lpis", "check", "a", "b"];
+
+static WITHOUT_CERTIFICATE: [&str; 3] = ["lpis", "check", "a"];
+
 /// A command that is not built yet.
-static UNBUILT: [&str; 4] = ["lpis", "check", "a", "b"];
+static UNBUILT: [&str; 4] = ["lpis", "cut", "a", "b"];
 
 static HELP: [&str; 2] = ["lpis", "--help"];
 
@@ -21,6 +25,8 @@ static HELP: [&str; 2] = ["lpis", "--help"];
 fn words_ask_for_a_command(rt: HostRuntime) -> Result<(), Fail> {
     let command = command_of(rt.alloc(), AREA.as_slice());
     assert!(rt; matches!(command, Ok(Cmd::Area { file }) if file == "a.csv"));
+    let command = command_of(rt.alloc(), CHECK.as_slice());
+    assert!(rt; matches!(command, Ok(Cmd::Check { dir, cert }) if dir == "a" && cert == "b"));
     Ok(())
 }
 
@@ -33,6 +39,11 @@ fn other_words_are_faults(rt: HostRuntime) -> Result<(), Fail> {
             2,
         ),
         (TWO_FILES.as_slice(), ErrorKind::UnknownArgument, 2),
+        (
+            WITHOUT_CERTIFICATE.as_slice(),
+            ErrorKind::MissingRequiredArgument,
+            2,
+        ),
         (UNBUILT.as_slice(), ErrorKind::InvalidSubcommand, 2),
         (HELP.as_slice(), ErrorKind::DisplayHelp, 0),
     ] {

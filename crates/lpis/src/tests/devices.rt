@@ -1,6 +1,8 @@
 //! Readers and writers that fail in mid-stream.
 
+use super::checks::{CLASSES, COVERS, PARCELS, SQUARE_RING, WHOLE};
 use super::{SQUARE, table_of};
+use crate::checking::run_check;
 use crate::failure::{Failure, Name, print_failure};
 use crate::reading::{ReadFault, read_all};
 use crate::running::run_area;
@@ -150,6 +152,82 @@ fn failures_have_their_lines(rt: HostRuntime) -> Result<(), Fail> {
         let mut out = Vec::new(rt.alloc());
         print_failure(failure, &mut out)?;
         assert!(rt; out.as_slice() == line.as_bytes(), "{line}");
+    }
+    Ok(())
+}
+
+/// A reader of a text, which fails at its second byte where its place is not before this one.
+fn reader_at(text: &str, place: usize, failing: usize) -> Halting<'_> {
+    Halting {
+        bytes: text.as_bytes(),
+        is_interrupted: false,
+        left: if place < failing { None } else { Some(1) },
+    }
+}
+
+#[test]
+fn the_first_input_that_fails_is_told(rt: HostRuntime) -> Result<(), Fail> {
+    let alloc = rt.alloc();
+    let parcels = format!(in alloc; "{PARCELS}A,{SQUARE_RING}\n")?;
+    let covers = format!(in alloc; "{COVERS}C1,A,G,{SQUARE_RING}\n")?;
+    for (failing, name) in [
+        (0, Name::Parcels),
+        (1, Name::Covers),
+        (2, Name::Classes),
+        (3, Name::Cert),
+    ] {
+        let mut out = Vec::new(alloc);
+        let answer = run_check(
+            alloc,
+            reader_at(parcels.as_str(), 0, failing),
+            reader_at(covers.as_str(), 1, failing),
+            reader_at(CLASSES, 2, failing),
+            reader_at(WHOLE, 3, failing),
+            &mut out,
+        );
+        assert!(rt; answer == Err(Failure::Read(name)));
+        assert!(rt; out.is_empty());
+    }
+    Ok(())
+}
+
+#[test]
+fn a_writer_of_a_report_may_fail(rt: HostRuntime) -> Result<(), Fail> {
+    let alloc = rt.alloc();
+    let covers = format!(in alloc; "{COVERS}C1,A,G,{SQUARE_RING}\n")?;
+    let parcels = format!(in alloc; "{PARCELS}A,{SQUARE_RING}\n")?;
+    // the report, and the refusals of tables, of texts and of certificates
+    for (covers, cert, length) in [
+        (covers.as_str(), WHOLE, 106),
+        (COVERS, WHOLE, 25),
+        (covers.as_str(), "", 23),
+        (covers.as_str(), "lpis-cert 1\npairs 0\nend\n", 20),
+    ] {
+        for room in 0..length {
+            let out = &mut Full { room };
+            let answer = run_check(
+                alloc,
+                parcels.as_bytes(),
+                covers.as_bytes(),
+                CLASSES.as_bytes(),
+                cert.as_bytes(),
+                out,
+            );
+            assert!(rt;
+                answer == Err(Failure::Write(Name::Out)),
+                "after {room} bytes"
+            );
+        }
+        let out = &mut Full { room: length };
+        let answer = run_check(
+            alloc,
+            parcels.as_bytes(),
+            covers.as_bytes(),
+            CLASSES.as_bytes(),
+            cert.as_bytes(),
+            out,
+        );
+        assert!(rt; answer.is_ok());
     }
     Ok(())
 }

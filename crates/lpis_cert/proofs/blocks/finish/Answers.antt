@@ -1,5 +1,5 @@
 use Rattle.lpis_cert.specs.Limits.{greatest_count}
-use Rattle.std.proofs.Common.{◌≡◌, ◌∷◌, [], map, length, arith, ap, ◌∙◌, List, ◌<◌, ◌≤◌, false}
+use Rattle.std.proofs.Common.{◌≡◌, map, length, arith, ◌∙◌, ◌<◌, ◌≤◌}
 use Rattle.std.proofs.lemmas.Bool.Decides.{nat_tests}
 use Rattle.std.proofs.lemmas.Result.{err_from_is_err_and}
 use Rattle.std.proofs.lemmas.List.{length-map}

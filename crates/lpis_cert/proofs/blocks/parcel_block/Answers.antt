@@ -1,7 +1,7 @@
 use Rattle.lpis_cert.specs.declared.kind.Stage.TheVariants as stage
-use Rattle.std.proofs.Common.{◌≡◌, ◌++◌, ◌∷◌, [], map, length, arith, ap, ◌∙◌, List, ◌≤◌, true}
+use Rattle.std.proofs.Common.{◌≡◌, ◌++◌, ◌∷◌, [], map, arith, ◌∙◌}
 use Rattle.std.proofs.lemmas.Result.{err_from_is_err_and}
-use Rattle.std.proofs.lemmas.List.{map_push, length-map}
+use Rattle.std.proofs.lemmas.List.{length-map}
 use Rattle.lpis_cert.specs.CertText.{ParcelBlock, ParcelLine}
 use Rattle.lpis_cert.specs.Faults.{InBody, grow_flats}
 use Rattle.lpis_cert.specs.Contents.{piece_of, parcel_of, all_corners, corners_of}

@@ -1,14 +1,13 @@
 use Rattle.lpis_cert.specs.declared.kind.Stage.TheVariants as stage
-use Rattle.std.proofs.Common.{◌≡◌, ◌++◌, ◌∷◌, [], map, length, arith, ap, ◌∙◌, List, ◌≤◌, ◌<◌, ◌+◌, ◌⊎◌, inl, inr, false, refl}
+use Rattle.std.proofs.Common.{◌≡◌, ◌++◌, ◌∷◌, [], map, arith, ◌∙◌, ◌<◌, ◌+◌, ◌⊎◌, inl, inr}
 use Rattle.std.proofs.lemmas.Result.{err_from_is_err_and}
-use Rattle.std.proofs.lemmas.List.{map_push, length-map}
+use Rattle.std.proofs.lemmas.List.{length-map}
 use Rattle.lpis_cert.specs.Limits.{most_triangles, most_flats}
-use Rattle.lpis_cert.specs.CertText.{PieceBlock, PieceLine, TriangleLine, FlatLine}
-use Rattle.lpis_cert.specs.Faults.{InBody, Declared, grow}
+use Rattle.lpis_cert.specs.CertText.{PieceBlock}
+use Rattle.lpis_cert.specs.Faults.{grow}
 use Rattle.lpis_cert.specs.Contents.{piece_of, parcel_of, all_corners, corners_of}
-use Rattle.lpis_cert.proofs.BlockProofs.{all_corners_fit, corners_go}
-use Rattle.lpis_cert.proofs.StepProofs.{fault_after, follows_both}
-use Rattle.lpis_cert.proofs.DraftProofs.{too_many_piece, piece_open, piece_grown, piece_fault, flat_fault, piece_pushed}
+use Rattle.lpis_cert.proofs.BlockProofs.{all_corners_fit}
+use Rattle.lpis_cert.proofs.DraftProofs.{too_many_piece, piece_grown, piece_fault, flat_fault, piece_pushed}
 use Rattle.lpis_cert.proofs.blocks.piece_block.Goals as goal
 use Rattle.lpis_cert.proofs.blocks.piece_block.Goals.{then-all_triangles-gt-MOST_TRIANGLES-via-then-all_triangles-gt-MOST_TRIANGLES, then-all_triangles-gt-MOST_TRIANGLES-via-else-all_triangles-gt-MOST_TRIANGLES+then-all_flats-gt-MOST_FLATS}
 

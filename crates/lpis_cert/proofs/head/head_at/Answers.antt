@@ -1,8 +1,6 @@
-use Rattle.std.proofs.Common.{◌≡◌, ◌∙◌, refl, sym, ap, Some, None, List, ℕ, true}
-use Rattle.lpis_covers.specs.Ids.{is_id}
+use Rattle.std.proofs.Common.{refl}
 use Rattle.lpis_cert.specs.declared.kind.Expected.TheVariants.{Block}
-use Rattle.lpis_cert.specs.CertText.{Line, PieceLine, ParcelLine, PairsLine}
-use Rattle.lpis_cert.specs.Reading.{can_stand}
+use Rattle.lpis_cert.specs.CertText.{PieceLine, ParcelLine, PairsLine}
 use Rattle.lpis_cert.proofs.StepProofs.{taken, untaken}
 use Rattle.lpis_cert.proofs.HeadProofs.{values_piece, values_parcel, values_pairs, stands_of, no_block}
 use Rattle.lpis_cert.proofs.head.head_at.Goals as goal

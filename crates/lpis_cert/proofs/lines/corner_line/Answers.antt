@@ -1,4 +1,4 @@
-use Rattle.std.proofs.Common.{refl, sym, ◌∙◌, ◌≡◌}
+use Rattle.std.proofs.Common.{refl}
 use Rattle.lpis_cert.proofs.BlockProofs.{corner_taken, corner_untaken}
 use Rattle.lpis_cert.specs.Contents.{corners_of}
 use Rattle.lpis_cert.specs.Taken.{corner_line}

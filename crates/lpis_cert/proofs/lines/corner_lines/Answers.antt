@@ -1,8 +1,6 @@
-use Rattle.std.proofs.Common.{◌≡◌, ◌+◌, ◌++◌, ◌∷◌, [], length, map, List, ap, ◌∙◌, arith, length-append, refl, ℕ}
+use Rattle.std.proofs.Common.{◌≡◌, ◌+◌, ◌++◌, ◌∷◌, [], ap, ◌∙◌, length-append, refl, ℕ}
 use Rattle.std.proofs.lemmas.Result.{err_from_is_err_and}
 use Rattle.std.proofs.lemmas.List.{length-map}
-use Rattle.lpis_points.specs.declared.triangle.Triangle.{Triangle}
-use Rattle.lpis_cert.specs.Taken.{Follows, corner_line}
 use Rattle.lpis_cert.specs.Contents.{corners_of, all_corners}
 use Rattle.lpis_cert.proofs.StepProofs.{follows_none}
 use Rattle.lpis_cert.proofs.BlockProofs.{corner_fault, corner_more, all_corners_fit}

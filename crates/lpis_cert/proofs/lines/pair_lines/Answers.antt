@@ -1,7 +1,6 @@
-use Rattle.std.proofs.Common.{◌≡◌, ◌+◌, ◌++◌, ◌∷◌, [], length, map, List, ap, ◌∙◌, arith, length-append, refl, ℕ}
+use Rattle.std.proofs.Common.{◌≡◌, ◌+◌, ◌++◌, ◌∷◌, [], map, ap, ◌∙◌, length-append, refl, ℕ}
 use Rattle.std.proofs.lemmas.Result.{err_from_is_err_and}
 use Rattle.std.proofs.lemmas.List.{length-map}
-use Rattle.lpis_cert.specs.Taken.{Follows}
 use Rattle.lpis_cert.specs.Contents.{separator_of}
 use Rattle.lpis_cert.proofs.StepProofs.{follows_none}
 use Rattle.lpis_cert.proofs.BlockProofs.{pair_fault, pair_more, separators_fit}

@@ -1,4 +1,4 @@
-use Rattle.std.proofs.Common.{refl, inl, inr}
+use Rattle.std.proofs.Common.{refl, inr}
 use Rattle.lpis_cert.proofs.StepProofs.{misplaced}
 use Rattle.lpis_cert.proofs.lines.placed_line.Goals as goal
 

@@ -1,4 +1,4 @@
-use Rattle.std.proofs.Common.{◌≡◌, ◌+◌, ℕ, ap, sym, ◌∙◌}
+use Rattle.std.proofs.Common.{◌+◌, ℕ, ap, sym, ◌∙◌}
 use Rattle.lpis_cert.proofs.QuickProofs.{digits_begin, digit_more}
 use Rattle.lpis_cert.proofs.quick.leading_digits.Goals as goal
 

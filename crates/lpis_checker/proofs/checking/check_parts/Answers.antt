@@ -1,4 +1,4 @@
-use Rattle.std.proofs.Common.{ℕ, ◌<◌, arith}
+use Rattle.std.proofs.Common.{arith}
 use Rattle.lpis_checker.specs.declared.condition.Condition.TheVariants.{Names, Triangles, Turned, Flats, Corners, PieceEdges, ParcelEdges}
 use Rattle.lpis_checker.specs.FirstFault.{HoldBelow}
 use Rattle.lpis_checker.proofs.OffLines.{turns_add}

@@ -1,6 +1,5 @@
 use Rattle.std.proofs.Common.{◌≡◌, ◌<◌, Some, length}
 use Rattle.std.specs.List.{slice_get}
-use Rattle.lpis_cert.specs.declared.part.PiecePart.{PiecePart}
 use Rattle.lpis_checker.proofs.Sites.{of_piece_part, read_at}
 use Rattle.lpis_checker.proofs.parts.has_triangle_at.Goals as goal
 

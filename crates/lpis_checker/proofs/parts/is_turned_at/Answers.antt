@@ -1,8 +1,7 @@
-use Rattle.std.proofs.Common.{◌≡◌, ◌<◌, Some, length}
+use Rattle.std.proofs.Common.{◌≡◌, Some}
 use Rattle.std.specs.List.{slice_get}
 use Rattle.std.specs.Prelude.{All}
 use Rattle.lpis_points.specs.Triangles.{IsCounterClockwise}
-use Rattle.lpis_cert.specs.declared.part.PiecePart.{PiecePart}
 use Rattle.lpis_checker.proofs.Sites.{of_piece_part, read_at}
 use Rattle.lpis_checker.proofs.parts.is_turned_at.Goals as goal
 

@@ -1,4 +1,4 @@
-use Rattle.std.proofs.Common.{◌≡◌, ℕ, ◌+◌, ◌<◌, ◌≤◌, length, List, subst, arith}
+use Rattle.std.proofs.Common.{◌≤◌, length, List, subst, arith}
 use Rattle.std.specs.Prelude.{All}
 use Rattle.lpis_points.specs.Triangles.{IsCounterClockwise}
 use Rattle.lpis_cert.specs.declared.part.PiecePart.{PiecePart}

@@ -1,4 +1,4 @@
-use Rattle.std.proofs.Common.{◌≡◌, ℕ, ◌+◌, ◌<◌, ◌≤◌, length, List, subst, arith}
+use Rattle.std.proofs.Common.{◌<◌, ◌≤◌, length, List, subst, arith}
 use Rattle.lpis_cert.specs.declared.part.PiecePart.{PiecePart}
 use Rattle.lpis_checker.specs.GoodCertificate.{Holds}
 use Rattle.lpis_checker.specs.declared.condition.Condition.TheVariants.{Triangles}

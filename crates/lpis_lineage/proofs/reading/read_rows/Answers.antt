@@ -1,4 +1,4 @@
-use Rattle.std.proofs.Common.{◌≡◌, ◌∙◌, List, ℕ, true, false, map, Ok, refl}
+use Rattle.std.proofs.Common.{◌∙◌, map, refl}
 use Rattle.std.proofs.lemmas.Result.{err_from_is_err_and}
 use Rattle.lpis_covers.proofs.RowsRead.{rows-end, rows-fault, rows-push, rows-start, rows-stop}
 use Rattle.lpis_lineage.specs.declared.row.Row.{Row}

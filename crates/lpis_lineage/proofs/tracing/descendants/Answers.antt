@@ -1,7 +1,5 @@
-use Rattle.std.proofs.Common.{◌≡◌, ◌∙◌, sym, ap, subst, ℕ, List}
+use Rattle.std.proofs.Common.{◌≡◌, ◌∙◌, sym, subst}
 use Rattle.std.specs.Prelude.{Result, Ok, Err, IfOk}
-use Rattle.std.specs.List.{filter}
-use Rattle.lpis_covers.specs.Ids.{has_id}
 use Rattle.lpis_lineage.specs.Lineage.{last_live}
 use Rattle.lpis_lineage.specs.Order.{IsAscending}
 use Rattle.lpis_lineage.proofs.Chains.{live-reached}

@@ -1,5 +1,4 @@
-use Rattle.std.proofs.Common.{◌∙◌, sym, ap, List, ℕ, cond, [], length, ◌-◌, ◌+◌, take, drop}
-use Rattle.std.specs.List.{slice_split}
+use Rattle.std.proofs.Common.{◌∙◌, sym, [], length, ◌-◌, ◌+◌, take, drop}
 use Rattle.lpis_cert.specs.Reading.{is_gap, words}
 use Rattle.lpis_cert.proofs.Splitting.{whole, cut}
 use Rattle.lpis_cert.proofs.words.Words.front.Goals as goal

@@ -1,4 +1,4 @@
-use Rattle.std.proofs.Common.{◌≡◌, ◌∙◌, sym, ap, Bool, Option, ℕ, List}
+use Rattle.std.proofs.Common.{◌≡◌, ◌∙◌, sym, ap, Bool, Option}
 use Rattle.std.specs.Prelude.{not, is_some}
 use Rattle.lpis_lineage.specs.declared.span.Span.{Span}
 use Rattle.lpis_lineage.specs.Spans.{span_of}

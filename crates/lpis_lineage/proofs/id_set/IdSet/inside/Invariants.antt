@@ -1,5 +1,4 @@
 use Rattle.std.proofs.Common.{◌≡◌, take}
-use Rattle.std.specs.Prelude.{not}
 use Rattle.std.specs.List.{filter}
 use Rattle.lpis_covers.specs.Ids.{has_id}
 use Rattle.lpis_lineage.proofs.id_set.IdSet.inside.Given as goal

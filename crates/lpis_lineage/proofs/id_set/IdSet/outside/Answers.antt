@@ -1,4 +1,4 @@
-use Rattle.std.proofs.Common.{◌≡◌, ◌∙◌, sym, ap, Bool, true, false}
+use Rattle.std.proofs.Common.{◌∙◌, sym, ap}
 use Rattle.std.specs.Prelude.{not}
 use Rattle.lpis_covers.specs.Ids.{has_id}
 use Rattle.lpis_lineage.proofs.Picking.{filter-then, filter-else}

@@ -1,0 +1,67 @@
+-- The answer to three tables and a certificate: text and status, of the bytes of the four.
+use Rattle.std.specs.Prelude.{◌≡◌, ◌⊎◌, ℕ, List, Option, IfSome, Result, Ok, Err}
+use Rattle.std.specs.Io.KnownBytes.{Appends}
+use Rattle.lpis_covers.specs.declared.fault.TableFault.{TableFault}
+use Rattle.lpis_parcels.specs.Release.{Contents, release_of}
+use Rattle.lpis_cert.specs.declared.cert.Cert.{Cert}
+use Rattle.lpis_cert.specs.declared.fault.CertCode.{CertCode}
+use Rattle.lpis_cert.specs.declared.fault.CertFault.TheVariants as cert
+use Rattle.lpis_cert.specs.Contents.{cert_text}
+use Rattle.lpis_cert.specs.Faults.{verdict}
+use Rattle.lpis_checker.specs.declared.condition.Condition.{Condition}
+use Rattle.lpis_checker.specs.declared.condition.Site.{Site}
+use Rattle.lpis_checker.specs.declared.fault.CheckFault.TheVariants as check
+use Rattle.lpis_checker.specs.FirstFault.{IsFault, place_of}
+use Rattle.lpis_checker.specs.GoodCertificate.{IsGood}
+use Rattle.lpis_checker.specs.SoundMap.{IsSoundMap}
+use Rattle.lpis.specs.Refusals.{cert_refusal_text, check_refusal_text, refusal_text}
+use Rattle.lpis.specs.Report.{report_text}
+use Rattle.lpis.specs.Status.{done, refused, unreadable}
+
+-- the bytes of three tables and a certificate
+pub record Inputs : Type 0 where
+  pub parcels : List ℕ
+  pub covers : List ℕ
+  pub classes : List ℕ
+  pub cert : List ℕ
+
+-- a text with a status
+abbrev pub Answer : Type 0
+Answer = List ℕ × ℕ
+
+-- of a release and a certificate: the report where the certificate is good, or the line of the lowest code that fails, with its
+-- first place
+abbrev pub IsCheckAnswer : Contents → Cert → Answer → Type 0
+IsCheckAnswer r c a =
+    (IsGood r c × (a ≡ (report_text r, done))) ⊎ ((code : Condition) × (site : Site) × IsFault r c code site × (a ≡ (check_refusal_text (check.At code (place_of r c site)), refused)))
+
+-- of a release and a text: the line of the text's first fault, or the answer to the certificate whose text it is
+abbrev pub IsCertAnswer : Contents → List ℕ → Result ℕ (CertCode × ℕ) → Answer → Type 0
+IsCertAnswer r text (Err fault) a = a ≡ (cert_refusal_text (cert.At fault.0 fault.1), unreadable)
+IsCertAnswer r text (Ok lines) a = (c : Cert) × (text ≡ cert_text c) × IsCheckAnswer r c a
+
+-- of a text and a release, or the tables' first fault: the line of that fault, or the answer to the release and the text
+abbrev pub IsReleaseAnswer : List ℕ → Result Contents TableFault → Answer → Type 0
+IsReleaseAnswer text (Err fault) a = a ≡ (refusal_text fault, unreadable)
+IsReleaseAnswer text (Ok r) a = IsCertAnswer r text (verdict text) a
+
+-- the answer to three tables and a certificate: faults of the tables come first, then those of the certificate's text
+abbrev pub IsAnswer : Inputs → Answer → Type 0
+IsAnswer x a = IsReleaseAnswer x.cert (release_of x.parcels x.covers x.classes) a
+
+-- the run answered with this status, and wrote the text
+abbrev pub Checks : Inputs → ℕ → Option (List ℕ) → Option (List ℕ) → Type 0
+Checks x status old new = (text : List ℕ) × IsAnswer x (text, status) × Appends old new text
+
+-- the tables are those of a release that is a sound map, and the text is that of a certificate good for it
+pub record IsProved (x : Inputs) : Type 0 where
+  pub release : Contents
+  pub tables : release_of x.parcels x.covers x.classes ≡ Ok release
+  pub sound : IsSoundMap release
+  pub certificate : Cert
+  pub text : x.cert ≡ cert_text certificate
+  pub good : IsGood release certificate
+
+-- said of the bytes of four readers, where they are known
+abbrev pub OfInputs : Option (List ℕ) → Option (List ℕ) → Option (List ℕ) → Option (List ℕ) → (Inputs → Type 0) → Type 0
+OfInputs p c k e P = IfSome p (λ ps. IfSome c (λ cs. IfSome k (λ ks. IfSome e (λ es. P (record { parcels = ps; covers = cs; classes = ks; cert = es })))))

@@ -1,0 +1,192 @@
+//! The run of `check`, over any readers and writer.
+
+ghost use Rattle.std.specs.Prelude.{◌≡◌, ◌⊎◌, IfErr, IfOk};
+ghost use Rattle.std.specs.Io.KnownBytes.{Keeps};
+ghost use Rattle.lpis_cert.specs.Contents.{cert_text};
+ghost use Rattle.lpis_cert.specs.Faults.{verdict};
+ghost use Rattle.lpis_cert.specs.declared.cert.Cert.{Cert};
+ghost use Rattle.lpis_checker.specs.GoodCertificate.{IsGood};
+ghost use Rattle.lpis_checker.specs.SoundMap.{IsSoundMap};
+ghost use Rattle.lpis.specs.CheckAnswer.{Checks, IsAnswer, IsCertAnswer, IsCheckAnswer, IsProved, OfInputs};
+ghost use Rattle.lpis.specs.CheckRuns.{inputs_of};
+ghost use Rattle.lpis.specs.Failures.{IsUnchecked};
+ghost use Rattle.lpis.specs.Refusals.{cert_refusal_text, check_refusal_text, refusal_text};
+ghost use Rattle.lpis.specs.Report.{report_text};
+ghost use Rattle.lpis.specs.Status.{done, refused, unreadable};
+ghost use Rattle.lpis.specs.declared.failure.Failure.{Failure};
+ghost use Rattle.lpis.specs.declared.failure.Name.{Name};
+
+use crate::failure::{Failure, Name};
+use crate::refusal::{print_cert_fault, print_check_fault, print_table_fault};
+use crate::report::write_report;
+use crate::running::read_input;
+use crate::status::{DONE, REFUSED, UNREADABLE};
+use lpis_cert::{Cert, CertFault, read_cert};
+use lpis_checker::{CheckFault, Yes, check};
+use lpis_covers::TableFault;
+use lpis_pairs::Sweep;
+use lpis_parcels::{Release, read_release};
+use std::alloc::{AllocError, Global};
+use std::io::{Read, Write};
+
+/// The bytes of three tables and a certificate.
+#[derive(Drop)]
+struct InputBytes {
+    parcels: Vec<u8>,
+    covers: Vec<u8>,
+    classes: Vec<u8>,
+    cert: Vec<u8>,
+}
+
+/// What a run prints, and the status that it ends with.
+#[derive(Drop)]
+struct Answer {
+    text: Vec<u8>,
+    status: u8,
+}
+
+/// The line of refused tables.
+fn refuse_tables(alloc: Global, fault: &TableFault) -> Result<Answer, AllocError>
+    ensures { IfOk result (λ a. (a.text.items ≡ refusal_text fault.now) × (a.status ≡ unreadable)) }
+{
+    let mut text = Vec::new(alloc);
+    match print_table_fault(fault, &mut text) {
+        Ok(()) => Ok(Answer {
+            text,
+            status: UNREADABLE,
+        }),
+        Err(_) => Err(AllocError),
+    }
+}
+
+/// The line of a text that is no certificate.
+fn refuse_text(alloc: Global, fault: &CertFault) -> Result<Answer, AllocError>
+    ensures { IfOk result (λ a. (a.text.items ≡ cert_refusal_text fault.now) × (a.status ≡ unreadable)) }
+{
+    let mut text = Vec::new(alloc);
+    match print_cert_fault(fault, &mut text) {
+        Ok(()) => Ok(Answer {
+            text,
+            status: UNREADABLE,
+        }),
+        Err(_) => Err(AllocError),
+    }
+}
+
+/// The line of a certificate that is not good.
+fn refuse_cert(alloc: Global, fault: &CheckFault) -> Result<Answer, AllocError>
+    ensures { IfOk result (λ a. (a.text.items ≡ check_refusal_text fault.now) × (a.status ≡ refused)) }
+{
+    let mut text = Vec::new(alloc);
+    match print_check_fault(fault, &mut text) {
+        Ok(()) => Ok(Answer {
+            text,
+            status: REFUSED,
+        }),
+        Err(_) => Err(AllocError),
+    }
+}
+
+/// The report of a checked release.
+fn report(alloc: Global, yes: &Yes<'_>) -> Result<Answer, AllocError>
+    ensures { IfOk result (λ a. (a.text.items ≡ report_text yes.now) × (a.status ≡ done)) }
+{
+    let mut text = Vec::new(alloc);
+    match write_report(yes, &mut text) {
+        Ok(()) => Ok(Answer { text, status: DONE }),
+        Err(_) => Err(AllocError),
+    }
+}
+
+/// The answer to a release and a certificate.
+fn answer_to_cert(alloc: Global, release: &Release, cert: &Cert) -> Result<Answer, AllocError>
+    ensures answer { IfOk result (λ a. IsCheckAnswer release.now cert.now (a.text.items, a.status)) }
+    ensures proved { IfOk result (λ a. a.status ≡ done → IsSoundMap release.now × IsGood release.now cert.now) }
+{
+    match check(alloc, release, cert, &Sweep) {
+        Ok(yes) => {
+            // What is checked is a sound map.
+            let _ = yes.release();
+            report(alloc, &yes)
+        }
+        Err(CheckFault::Memory) => Err(AllocError),
+        Err(fault) => refuse_cert(alloc, &fault),
+    }
+}
+
+/// The answer to a release and the text of a certificate.
+fn answer_to_text(alloc: Global, release: &Release, text: &[u8]) -> Result<Answer, AllocError>
+    ensures answer { IfOk result (λ a. IsCertAnswer release.now text.now (verdict text.now) (a.text.items, a.status)) }
+    ensures proved { IfOk result (λ a. a.status ≡ done → IsSoundMap release.now × ((c : Cert) × (text.now ≡ cert_text c) × IsGood release.now c)) }
+{
+    match read_cert(alloc, text) {
+        Ok(cert) => answer_to_cert(alloc, release, &cert),
+        Err(CertFault::Memory) => Err(AllocError),
+        Err(fault) => refuse_text(alloc, &fault),
+    }
+}
+
+/// The answer to three tables and a certificate.
+fn answer_to(alloc: Global, inputs: &InputBytes) -> Result<Answer, AllocError>
+    ensures answer { IfOk result (λ a. IsAnswer (inputs_of inputs.now) (a.text.items, a.status)) }
+    ensures proved { IfOk result (λ a. a.status ≡ done → IsProved (inputs_of inputs.now)) }
+{
+    let parcels = inputs.parcels.as_slice();
+    let covers = inputs.covers.as_slice();
+    let classes = inputs.classes.as_slice();
+    match read_release(alloc, parcels, covers, classes) {
+        Ok(release) => answer_to_text(alloc, &release, inputs.cert.as_slice()),
+        Err(TableFault::Memory) => Err(AllocError),
+        Err(fault) => refuse_tables(alloc, &fault),
+    }
+}
+
+/// All bytes of the inputs, which are read in this order.
+fn read_inputs<P: Read + Drop, C: Read + Drop, K: Read + Drop, E: Read + Drop>(
+    alloc: Global,
+    parcels: P,
+    covers: C,
+    classes: K,
+    cert: E,
+) -> Result<InputBytes, Failure>
+    ensures bytes { OfInputs (P.remaining parcels) (C.remaining covers) (K.remaining classes) (E.remaining cert) (λ x. IfOk result (λ i. inputs_of i ≡ x)) }
+    ensures failure { IfErr result IsUnchecked }
+{
+    let parcels = read_input(alloc, parcels, Name::Parcels)?;
+    let covers = read_input(alloc, covers, Name::Covers)?;
+    let classes = read_input(alloc, classes, Name::Classes)?;
+    let cert = read_input(alloc, cert, Name::Cert)?;
+    Ok(InputBytes {
+        parcels,
+        covers,
+        classes,
+        cert,
+    })
+}
+
+/// Checks the release of three tables against a certificate, and prints the report of a release that is a sound map, or the line of
+/// the first fault: of the tables, then of the certificate's text, then of the certificate.
+///
+/// All inputs are read to their ends, in the order in which they stand here, before anything is decided, and everything is decided
+/// before anything is written. Ok is the status: `DONE`, `REFUSED` or `UNREADABLE`.
+pub fn run_check<P: Read + Drop, C: Read + Drop, K: Read + Drop, E: Read + Drop, W: Write>(
+    alloc: Global,
+    parcels: P,
+    covers: C,
+    classes: K,
+    cert: E,
+    out: &mut W,
+) -> Result<u8, Failure>
+    ensures answer { IfOk result (λ status. OfInputs (P.remaining parcels) (C.remaining covers) (K.remaining classes) (E.remaining cert) (λ x. Checks x status (W.contents out.old) (W.contents out.new))) }
+    // A yes comes only for a release that is a sound map, and a certificate that is good for it.
+    ensures proved { IfOk result (λ status. status ≡ done → OfInputs (P.remaining parcels) (C.remaining covers) (K.remaining classes) (E.remaining cert) IsProved) }
+    // Before the outcome is known nothing is written.
+    ensures failure { IfErr result (λ failure. (failure ≡ Failure.Write Name.Out) ⊎ (IsUnchecked failure × Keeps (W.contents out.old) (W.contents out.new))) }
+{
+    let inputs = read_inputs(alloc, parcels, covers, classes, cert)?;
+    let answer = answer_to(alloc, &inputs)?;
+    match out.write_all(answer.text.as_slice()) {
+        Ok(()) => Ok(answer.status),
+        Err(_) => Err(Failure::Write(Name::Out)),
+    }
+}
