@@ -6,7 +6,7 @@ mod pairs;
 mod parts;
 mod yes;
 
-use crate::{CheckFault, Place, check};
+use crate::{CheckFault, Place, check, check_parts};
 use lpis_cert::{Cert, read_cert};
 use lpis_pairs::{AllPairs, PairSource, Sweep};
 use lpis_parcels::{Release, read_release};
@@ -79,8 +79,17 @@ fn two_pieces(rt: &HostRuntime, right: &str) -> Result<Release, Fail> {
     release_of(rt, SQUARE, pieces.as_str())
 }
 
+/// A text in which the first of each pair is replaced by the second, once.
+fn edited(rt: &HostRuntime, text: &str, edits: &[(&str, &str)]) -> Result<String, Fail> {
+    let mut text = format!(in rt.alloc(); "{text}")?;
+    for (old, new) in edits {
+        text = with_edit(rt, text.as_str(), old, new)?;
+    }
+    Ok(text)
+}
+
 /// A text with its first `old` replaced.
-fn edited(rt: &HostRuntime, text: &str, old: &str, new: &str) -> Result<String, Fail> {
+fn with_edit(rt: &HostRuntime, text: &str, old: &str, new: &str) -> Result<String, Fail> {
     let (before, after) = text.split_once(old).ok_or("no such text")?;
     Ok(format!(in rt.alloc(); "{before}{new}{after}")?)
 }
@@ -126,26 +135,45 @@ fn answer<S: PairSource>(
     }
 }
 
-/// Fails unless `check` tells this, whichever the source.
-fn expect_answer(
-    rt: &HostRuntime,
-    release: &Release,
-    cert: &str,
-    wanted: &str,
-) -> Result<(), Fail> {
-    let cert = read_cert(rt.alloc(), cert.as_bytes())?;
-    expect(answer(rt, release, &cert, &AllPairs)?.as_str(), wanted)?;
-    expect(answer(rt, release, &cert, &Sweep)?.as_str(), wanted)
+/// What `check_parts` tells: `yes`, or its fault.
+fn answer_of_parts(rt: &HostRuntime, release: &Release, cert: &Cert) -> Result<String, Fail> {
+    match check_parts(rt.alloc(), release, cert) {
+        Ok(()) => Ok(format!(in rt.alloc(); "yes")?),
+        Err(fault) => fault_text(rt, &fault),
+    }
 }
 
-/// Fails unless `check` tells this of the certificate with its first `old` replaced.
-fn expect_edited(
+/// Fails unless `check` tells this, whichever the source, and `check_parts` the same where it is one of its conditions, 60 to 66.
+fn expect_answers(
     rt: &HostRuntime,
     release: &Release,
-    cert: &str,
-    old: &str,
-    new: &str,
+    cert: &Cert,
     wanted: &str,
 ) -> Result<(), Fail> {
-    expect_answer(rt, release, edited(rt, cert, old, new)?.as_str(), wanted)
+    expect(answer(rt, release, cert, &AllPairs)?.as_str(), wanted)?;
+    expect(answer(rt, release, cert, &Sweep)?.as_str(), wanted)?;
+    let wanted = if wanted < "67" { wanted } else { "yes" };
+    expect(answer_of_parts(rt, release, cert)?.as_str(), wanted)
+}
+
+/// Fails unless this is told of a certificate's text.
+fn expect_told(rt: &HostRuntime, release: &Release, cert: &str, wanted: &str) -> Result<(), Fail> {
+    expect_answers(
+        rt,
+        release,
+        &read_cert(rt.alloc(), cert.as_bytes())?,
+        wanted,
+    )
+}
+
+/// Fails unless this is told of the square with its certificate so edited.
+fn expect_square(rt: &HostRuntime, edits: &[(&str, &str)], wanted: &str) -> Result<(), Fail> {
+    let cert = edited(rt, SQUARE_CERT, edits)?;
+    expect_told(rt, &one_piece(rt, SQUARE)?, cert.as_str(), wanted)
+}
+
+/// Fails unless this is told of the two halves with their certificate so edited.
+fn expect_halves(rt: &HostRuntime, edits: &[(&str, &str)], wanted: &str) -> Result<(), Fail> {
+    let cert = edited(rt, HALVES_CERT, edits)?;
+    expect_told(rt, &two_pieces(rt, RIGHT)?, cert.as_str(), wanted)
 }

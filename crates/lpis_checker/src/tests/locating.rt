@@ -2,7 +2,7 @@
 
 use super::{HALVES_CERT, RIGHT, expect, two_pieces};
 use crate::{Yes, check};
-use lpis_cert::read_cert;
+use lpis_cert::{Cert, read_cert};
 use lpis_covers::Id;
 use lpis_pairs::Sweep;
 use lpis_parcels::Release;
@@ -38,7 +38,7 @@ fn expect_place(
 }
 
 /// Fails unless the points of two halves are where they should be.
-fn expect_halves(rt: &HostRuntime, yes: &Yes) -> Result<(), Fail> {
+fn expect_places(rt: &HostRuntime, yes: &Yes) -> Result<(), Fail> {
     expect_place(rt, yes, (0, 0, 1), "A L")?;
     expect_place(rt, yes, (500, 300, 1), "A R")?;
     expect_place(rt, yes, (1001, 1, 2), "A R")?;
@@ -55,13 +55,17 @@ fn expect_rows(rt: &HostRuntime, yes: &Yes) -> Result<(), Fail> {
     expect(rows.as_str(), "1 2")
 }
 
+/// Fails unless the yes of two halves is for their release, and locates points.
+fn expect_yes(rt: &HostRuntime, release: &Release, cert: &Cert) -> Result<(), Fail> {
+    let yes = check(rt.alloc(), release, cert, &Sweep)?;
+    expect_rows(rt, &yes)?;
+    expect_places(rt, &yes)
+}
+
 #[test]
 fn a_yes_locates_points(rt: HostRuntime) -> Result<(), Fail> {
-    let release = two_pieces(&rt, RIGHT)?;
     let cert = read_cert(rt.alloc(), HALVES_CERT.as_bytes())?;
-    let yes = check(rt.alloc(), &release, &cert, &Sweep)?;
-    expect_rows(&rt, &yes)?;
-    expect_halves(&rt, &yes)
+    expect_yes(&rt, &two_pieces(&rt, RIGHT)?, &cert)
 }
 
 /// How often a polygon turns round a point, which it contains where that is odd.
@@ -91,12 +95,16 @@ fn expect_turns(
     expect(told.as_str(), wanted)
 }
 
+/// Fails unless two halves and their parcel turn round points as they should.
+fn expect_all_turns(rt: &HostRuntime, release: &Release) -> Result<(), Fail> {
+    expect_turns(rt, release, (0, 0, 1), "1 0 1")?;
+    expect_turns(rt, release, (500, 300, 1), "0 1 1")?;
+    expect_turns(rt, release, (1001, 1, 2), "0 1 1")?;
+    expect_turns(rt, release, (500, 1000, 1), "0 0 0")?;
+    expect_turns(rt, release, (1000, 0, 1), "0 0 0")
+}
+
 #[test]
 fn halves_turn_round_points(rt: HostRuntime) -> Result<(), Fail> {
-    let release = two_pieces(&rt, RIGHT)?;
-    expect_turns(&rt, &release, (0, 0, 1), "1 0 1")?;
-    expect_turns(&rt, &release, (500, 300, 1), "0 1 1")?;
-    expect_turns(&rt, &release, (1001, 1, 2), "0 1 1")?;
-    expect_turns(&rt, &release, (500, 1000, 1), "0 0 0")?;
-    expect_turns(&rt, &release, (1000, 0, 1), "0 0 0")
+    expect_all_turns(&rt, &two_pieces(&rt, RIGHT)?)
 }

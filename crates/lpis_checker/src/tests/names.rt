@@ -1,8 +1,6 @@
 //! Certificates whose identifiers are not the release's.
 
-use super::{
-    HALVES_CERT, RIGHT, SQUARE, SQUARE_CERT, expect_answer, expect_edited, one_piece, two_pieces,
-};
+use super::{expect_halves, expect_square};
 use std::test::Fail;
 
 /// The certificate's lines of the right half.
@@ -13,31 +11,31 @@ t 500 0 1000 1000 500 1000
 
 #[test]
 fn tells_a_strange_piece(rt: HostRuntime) -> Result<(), Fail> {
-    let square = one_piece(&rt, SQUARE)?;
-    expect_edited(&rt, &square, SQUARE_CERT, "C1", "C2", "60 piece C2")?;
-    expect_answer(&rt, &square, HALVES_CERT, "60 piece L")
+    expect_square(&rt, &[("C1", "C2")], "60 piece C2")
 }
 
 #[test]
 fn tells_a_piece_too_few(rt: HostRuntime) -> Result<(), Fail> {
-    let halves = two_pieces(&rt, RIGHT)?;
-    expect_edited(&rt, &halves, HALVES_CERT, RIGHT_LINES, "", "60 piece R")
+    expect_halves(&rt, &[(RIGHT_LINES, "")], "60 piece R")
 }
 
 #[test]
 fn tells_a_piece_too_many(rt: HostRuntime) -> Result<(), Fail> {
-    let halves = two_pieces(&rt, RIGHT)?;
-    let more = "piece S 0 0\nparcel A";
-    expect_edited(&rt, &halves, HALVES_CERT, "parcel A", more, "60 piece S")
+    expect_halves(&rt, &[("parcel A", "piece S 0 0\nparcel A")], "60 piece S")
+}
+
+#[test]
+fn tells_pieces_before_parcels(rt: HostRuntime) -> Result<(), Fail> {
+    expect_square(
+        &rt,
+        &[("parcel A", "parcel B"), ("C1", "C2")],
+        "60 piece C2",
+    )
 }
 
 #[test]
 fn tells_parcels(rt: HostRuntime) -> Result<(), Fail> {
-    let square = one_piece(&rt, SQUARE)?;
-    let line = "parcel A 0\n";
-    expect_edited(&rt, &square, SQUARE_CERT, line, "", "60 parcel A")?;
-    let other = "parcel B 0\n";
-    expect_edited(&rt, &square, SQUARE_CERT, line, other, "60 parcel B")?;
-    let both = "parcel A 0\nparcel B 0\n";
-    expect_edited(&rt, &square, SQUARE_CERT, line, both, "60 parcel B")
+    expect_square(&rt, &[("parcel A 0\n", "")], "60 parcel A")?;
+    expect_square(&rt, &[("parcel A", "parcel B")], "60 parcel B")?;
+    expect_square(&rt, &[("pairs", "parcel B 0\npairs")], "60 parcel B")
 }

@@ -1,25 +1,22 @@
 //! Certificates that are good.
 
-use super::{
-    HALVES_CERT, RIGHT, SQUARE, SQUARE_CERT, expect_answer, expect_edited, one_piece, two_pieces,
-};
+use super::{expect_halves, expect_square, expect_told};
 use lpis_parcels::read_release;
 use std::test::Fail;
 
 #[test]
 fn a_square_is_one_piece(rt: HostRuntime) -> Result<(), Fail> {
-    expect_answer(&rt, &one_piece(&rt, SQUARE)?, SQUARE_CERT, "yes")
+    expect_square(&rt, &[], "yes")
 }
 
 #[test]
 fn a_square_is_its_two_halves(rt: HostRuntime) -> Result<(), Fail> {
-    expect_answer(&rt, &two_pieces(&rt, RIGHT)?, HALVES_CERT, "yes")
+    expect_halves(&rt, &[], "yes")
 }
 
 #[test]
 fn the_edge_may_be_the_second_triangles(rt: HostRuntime) -> Result<(), Fail> {
-    let square = one_piece(&rt, SQUARE)?;
-    expect_edited(&rt, &square, SQUARE_CERT, "s 0 1 2", "s 0 1 3", "yes")
+    expect_square(&rt, &[("s 0 1 2", "s 0 1 3")], "yes")
 }
 
 #[test]
@@ -30,5 +27,5 @@ fn nothing_is_a_sound_map(rt: HostRuntime) -> Result<(), Fail> {
         b"piece,parcel,class,wkt\n",
         b"class,eligible\n",
     )?;
-    expect_answer(&rt, &release, "lpis-cert 1\npairs 0\nend\n", "yes")
+    expect_told(&rt, &release, "lpis-cert 1\npairs 0\nend\n", "yes")
 }
