@@ -20,3 +20,6 @@ mod signed;
 pub use checking::{Yes, check, check_parts};
 pub use condition::{Condition, Failing, Site};
 pub use fault::{CheckFault, Place};
+
+#[cfg(test)]
+mod tests;

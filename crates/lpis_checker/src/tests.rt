@@ -1,0 +1,151 @@
+//! Worked releases and certificates, with their answers from outside the program.
+
+mod locating;
+mod names;
+mod pairs;
+mod parts;
+mod yes;
+
+use crate::{CheckFault, Place, check};
+use lpis_cert::{Cert, read_cert};
+use lpis_pairs::{AllPairs, PairSource, Sweep};
+use lpis_parcels::{Release, read_release};
+use std::test::Fail;
+
+static SQUARE: &str = "POLYGON((0 0,10 0,10 10,0 10,0 0))";
+
+/// The square covered twice.
+static SQUARE_TWICE: &str = "MULTIPOLYGON(((0 0,10 0,10 10,0 10,0 0)),((0 0,10 0,10 10,0 10,0 0)))";
+
+static LEFT: &str = "POLYGON((0 0,5 0,5 10,0 10,0 0))";
+
+static RIGHT: &str = "POLYGON((5 0,10 0,10 10,5 10,5 0))";
+
+/// The right half with its left side a centimetre too far to the right.
+static RIGHT_MOVED: &str = "POLYGON((5.01 0,10 0,10 10,5.01 10,5.01 0))";
+
+static CLASSES: &str = "class,eligible\nG,1\nW,0\n";
+
+/// For a parcel A and its piece C1 that are the square.
+static SQUARE_CERT: &str = "lpis-cert 1
+piece C1 2 0
+t 0 0 1000 0 1000 1000
+t 0 0 1000 1000 0 1000
+parcel A 0
+pairs 1
+s 0 1 2
+end
+";
+
+/// For a parcel A that is the square and its pieces L and R, the halves. The parcel's flats are for the two corners of the halves that
+/// it lacks.
+static HALVES_CERT: &str = "lpis-cert 1
+piece L 2 0
+t 0 0 500 0 500 1000
+t 0 0 500 1000 0 1000
+piece R 2 0
+t 500 0 1000 0 1000 1000
+t 500 0 1000 1000 500 1000
+parcel A 2
+f 0 0 1000 0 500 0
+f 1000 1000 0 1000 500 1000
+pairs 2
+s 0 1 2
+s 2 3 2
+end
+";
+
+/// The release of a parcel A with this polygon and of these pieces.
+fn release_of(rt: &HostRuntime, parcel: &str, pieces: &str) -> Result<Release, Fail> {
+    let parcels = format!(in rt.alloc(); "parcel,wkt\nA,\"{parcel}\"\n")?;
+    let covers = format!(in rt.alloc(); "piece,parcel,class,wkt\n{pieces}")?;
+    Ok(read_release(
+        rt.alloc(),
+        parcels.as_bytes(),
+        covers.as_bytes(),
+        CLASSES.as_bytes(),
+    )?)
+}
+
+/// A parcel A and its one piece C1, both with this polygon.
+fn one_piece(rt: &HostRuntime, polygon: &str) -> Result<Release, Fail> {
+    let pieces = format!(in rt.alloc(); "C1,A,G,\"{polygon}\"\n")?;
+    release_of(rt, polygon, pieces.as_str())
+}
+
+/// The parcel A, which is the square, with its left half L and a piece R with this polygon.
+fn two_pieces(rt: &HostRuntime, right: &str) -> Result<Release, Fail> {
+    let pieces = format!(in rt.alloc(); "L,A,G,\"{LEFT}\"\nR,A,W,\"{right}\"\n")?;
+    release_of(rt, SQUARE, pieces.as_str())
+}
+
+/// A text with its first `old` replaced.
+fn edited(rt: &HostRuntime, text: &str, old: &str, new: &str) -> Result<String, Fail> {
+    let (before, after) = text.split_once(old).ok_or("no such text")?;
+    Ok(format!(in rt.alloc(); "{before}{new}{after}")?)
+}
+
+/// Fails unless the texts are one.
+fn expect(told: &str, wanted: &str) -> Result<(), Fail> {
+    if told == wanted {
+        return Ok(());
+    }
+    Err(Fail::new(format_args!("{told} in place of {wanted}")))
+}
+
+/// A place as it is told.
+fn place_text(rt: &HostRuntime, place: &Place) -> Result<String, Fail> {
+    match place {
+        Place::Piece(id) => Ok(format!(in rt.alloc(); "piece {}", id.as_str())?),
+        Place::Parcel(id) => Ok(format!(in rt.alloc(); "parcel {}", id.as_str())?),
+        Place::Pair(i, j) => Ok(format!(in rt.alloc(); "pair {i} {j}")?),
+    }
+}
+
+/// A fault as it is told.
+fn fault_text(rt: &HostRuntime, fault: &CheckFault) -> Result<String, Fail> {
+    match fault {
+        CheckFault::Memory => Err("out of memory".into()),
+        CheckFault::At { code, place } => {
+            let place = place_text(rt, place)?;
+            Ok(format!(in rt.alloc(); "{} {place}", code.as_str())?)
+        }
+    }
+}
+
+/// What `check` tells with this source: `yes`, or its fault.
+fn answer<S: PairSource>(
+    rt: &HostRuntime,
+    release: &Release,
+    cert: &Cert,
+    source: &S,
+) -> Result<String, Fail> {
+    match check(rt.alloc(), release, cert, source) {
+        Ok(_) => Ok(format!(in rt.alloc(); "yes")?),
+        Err(fault) => fault_text(rt, &fault),
+    }
+}
+
+/// Fails unless `check` tells this, whichever the source.
+fn expect_answer(
+    rt: &HostRuntime,
+    release: &Release,
+    cert: &str,
+    wanted: &str,
+) -> Result<(), Fail> {
+    let cert = read_cert(rt.alloc(), cert.as_bytes())?;
+    expect(answer(rt, release, &cert, &AllPairs)?.as_str(), wanted)?;
+    expect(answer(rt, release, &cert, &Sweep)?.as_str(), wanted)
+}
+
+/// Fails unless `check` tells this of the certificate with its first `old` replaced.
+fn expect_edited(
+    rt: &HostRuntime,
+    release: &Release,
+    cert: &str,
+    old: &str,
+    new: &str,
+    wanted: &str,
+) -> Result<(), Fail> {
+    expect_answer(rt, release, edited(rt, cert, old, new)?.as_str(), wanted)
+}

@@ -1,0 +1,102 @@
+//! The parcel and the piece at a point.
+
+use super::{HALVES_CERT, RIGHT, expect, two_pieces};
+use crate::{Yes, check};
+use lpis_cert::read_cert;
+use lpis_covers::Id;
+use lpis_pairs::Sweep;
+use lpis_parcels::Release;
+use lpis_points::RatPoint;
+use lpis_rings::{Polygon, contains, turns};
+use std::test::Fail;
+
+fn rational(x: i64, y: i64, d: i64) -> Result<RatPoint, Fail> {
+    Ok(RatPoint::new(x, y, d).ok_or("out of range")?)
+}
+
+/// The identifiers of the parcel and the piece at a point, or `nowhere`.
+fn place_of(rt: &HostRuntime, found: Option<(&Id, &Id)>) -> Result<String, Fail> {
+    match found {
+        Some((parcel, piece)) => Ok(format!(in rt.alloc();
+            "{} {}",
+            parcel.as_str(),
+            piece.as_str()
+        )?),
+        None => Ok(format!(in rt.alloc(); "nowhere")?),
+    }
+}
+
+/// Fails unless this is the place of the point (x/d, y/d).
+fn expect_place(
+    rt: &HostRuntime,
+    yes: &Yes,
+    (x, y, d): (i64, i64, i64),
+    wanted: &str,
+) -> Result<(), Fail> {
+    let found = yes.locate(&rational(x, y, d)?);
+    expect(place_of(rt, found)?.as_str(), wanted)
+}
+
+/// Fails unless the points of two halves are where they should be.
+fn expect_halves(rt: &HostRuntime, yes: &Yes) -> Result<(), Fail> {
+    expect_place(rt, yes, (0, 0, 1), "A L")?;
+    expect_place(rt, yes, (500, 300, 1), "A R")?;
+    expect_place(rt, yes, (1001, 1, 2), "A R")?;
+    expect_place(rt, yes, (500, 1000, 1), "nowhere")?;
+    expect_place(rt, yes, (1000, 0, 1), "nowhere")
+}
+
+/// Fails unless the release of a yes has one parcel and two pieces.
+fn expect_rows(rt: &HostRuntime, yes: &Yes) -> Result<(), Fail> {
+    let release = yes.release();
+    let parcels = release.parcels().len();
+    let pieces = release.pieces().len();
+    let rows = format!(in rt.alloc(); "{parcels} {pieces}")?;
+    expect(rows.as_str(), "1 2")
+}
+
+#[test]
+fn a_yes_locates_points(rt: HostRuntime) -> Result<(), Fail> {
+    let release = two_pieces(&rt, RIGHT)?;
+    let cert = read_cert(rt.alloc(), HALVES_CERT.as_bytes())?;
+    let yes = check(rt.alloc(), &release, &cert, &Sweep)?;
+    expect_rows(&rt, &yes)?;
+    expect_halves(&rt, &yes)
+}
+
+/// How often a polygon turns round a point, which it contains where that is odd.
+fn turns_of(polygon: &Polygon, p: &RatPoint) -> Result<i64, Fail> {
+    let times = turns(polygon, p);
+    if contains(polygon, p) == (times & 1 == 1) {
+        return Ok(times);
+    }
+    Err("contained in another way".into())
+}
+
+/// Fails unless the left piece, the right one and the parcel turn this often round the point (x/d, y/d).
+fn expect_turns(
+    rt: &HostRuntime,
+    release: &Release,
+    (x, y, d): (i64, i64, i64),
+    wanted: &str,
+) -> Result<(), Fail> {
+    let ([left, right], [parcel]) = (release.pieces(), release.parcels()) else {
+        return Err("two pieces of one parcel".into());
+    };
+    let p = rational(x, y, d)?;
+    let first = turns_of(&left.polygon, &p)?;
+    let second = turns_of(&right.polygon, &p)?;
+    let whole = turns_of(&parcel.polygon, &p)?;
+    let told = format!(in rt.alloc(); "{first} {second} {whole}")?;
+    expect(told.as_str(), wanted)
+}
+
+#[test]
+fn halves_turn_round_points(rt: HostRuntime) -> Result<(), Fail> {
+    let release = two_pieces(&rt, RIGHT)?;
+    expect_turns(&rt, &release, (0, 0, 1), "1 0 1")?;
+    expect_turns(&rt, &release, (500, 300, 1), "0 1 1")?;
+    expect_turns(&rt, &release, (1001, 1, 2), "0 1 1")?;
+    expect_turns(&rt, &release, (500, 1000, 1), "0 0 0")?;
+    expect_turns(&rt, &release, (1000, 0, 1), "0 0 0")
+}
