@@ -1,10 +1,9 @@
 -- The answer to a text that is a certificate's.
-use Rattle.std.proofs.Common.{◌≡◌, ◌∙◌, ◌+◌, ap, sym, subst, ℕ, List, length, Result, Ok}
+use Rattle.std.proofs.Common.{◌≡◌, ◌∙◌, ap, sym, subst, ℕ, List, Result, Ok}
 use Rattle.lpis_parcels.specs.Release.{Contents, release_of}
 use Rattle.lpis_cert.specs.declared.cert.Cert.{Cert}
 use Rattle.lpis_cert.specs.declared.fault.CertCode.{CertCode}
-use Rattle.lpis_cert.specs.CertText.{lines_of}
-use Rattle.lpis_cert.specs.Contents.{cert_text, content_of}
+use Rattle.lpis_cert.specs.Contents.{cert_text}
 use Rattle.lpis_cert.specs.Faults.{verdict}
 use Rattle.lpis_cert.proofs.LawProofs.{no_fault}
 use Rattle.lpis_checker.specs.GoodCertificate.{IsGood}

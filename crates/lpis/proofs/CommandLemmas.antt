@@ -1,5 +1,5 @@
 -- What the matches of the command line say of a command.
-use Rattle.std.proofs.Common.{◌≡◌, ◌∙◌, sym, ap, refl, true, codes, List, ℕ, Option, Some, None, Bor, IfSome, option_map}
+use Rattle.std.proofs.Common.{◌≡◌, ◌∙◌, sym, refl, true, List, ℕ, Option, Some, None, Bor, IfSome, option_map}
 use Rattle.clap.specs.Words.{Row, Text, first_of, found_of, is_simple, is_simple_and_free, rows_of, subcommand_name_of, subcommand_rows_of}
 use Rattle.clap.specs.declared.parser.matches.ArgMatches.{ArgMatches}
 use Rattle.clap.specs.declared.parser.matches.ArgMatches.TheViews.{out-ArgMatches}

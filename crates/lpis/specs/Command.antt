@@ -1,5 +1,5 @@
 -- The program's command line.
-use Rattle.std.specs.Prelude.{◌≡◌, List, ℕ, Option, Some, None, codes, true, false}
+use Rattle.std.specs.Prelude.{◌≡◌, List, Option, Some, None, codes, true, false}
 use Rattle.clap.specs.Words.{App, Row, Rule, Text, app_of, first_of, new_app, new_rule, with_rule, with_subcommand}
 use Rattle.clap.specs.declared.builder.command.Command.{Command}
 use Rattle.clap.specs.declared.builder.command.Command.TheViews.{out-Command}

@@ -1,4 +1,4 @@
-use Rattle.std.proofs.Common.{◌≡◌, ◌∙◌, sym, ap, subst, codes, List, ℕ, Bor, map, option_map, Some}
+use Rattle.std.proofs.Common.{◌∙◌, sym, ap, subst, List, ℕ, Bor, map, option_map}
 use Rattle.clap.specs.Words.{App, Row, Text, found_of, rows_of, is_simple, is_simple_and_free, fault_of, HasKind, subcommand_of}
 use Rattle.lpis.proofs.CommandLemmas.{command-is, line-free, line-simple, named}
 use Rattle.lpis.proofs.command.command_of.Goals as goal

@@ -1,4 +1,4 @@
-use Rattle.std.proofs.Common.{◌≡◌, ap}
+use Rattle.std.proofs.Common.{ap}
 use Rattle.clap.specs.Words.{rule_of}
 use Rattle.lpis.proofs.command.described.Goals as goal
 

@@ -1,4 +1,3 @@
-use Rattle.std.proofs.Common.{rules}
 use Rattle.lpis.proofs.CommandLemmas.{word-found}
 use Rattle.lpis.proofs.command.word_of.Goals as goal
 

@@ -1,4 +1,3 @@
-use Rattle.std.proofs.Common.{rules, ◌≡◌}
 use Rattle.lpis.proofs.failure.print_failure.Goals as goal
 
 pub returns-in_ok-write-in-Write : goal.returns-in_ok-write-in-Write

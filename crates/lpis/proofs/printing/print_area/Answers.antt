@@ -1,4 +1,4 @@
-use Rattle.std.proofs.Common.{◌≡◌, ◌∙◌, sym, ap, rules, List, ℕ, Bor, ℤ, nat_abs, pos}
+use Rattle.std.proofs.Common.{◌≡◌, ◌∙◌, sym, ap, List, ℕ, Bor, ℤ, nat_abs, pos}
 use Rattle.std.proofs.lemmas.Int.{to_z-of_z}
 use lib.Signed.{lt_z}
 use mir.Syntax.{w128}

@@ -1,4 +1,4 @@
-use Rattle.std.proofs.Common.{◌≡◌, rules}
+use Rattle.std.proofs.Common.{rules}
 use Rattle.lpis_covers.specs.Table.{texts}
 use Rattle.lpis.proofs.RunLemmas.{rows-answer, table_of-begins}
 use Rattle.lpis.proofs.running.area_lines.Goals as goal

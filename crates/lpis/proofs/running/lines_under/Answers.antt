@@ -1,4 +1,4 @@
-use Rattle.std.proofs.Common.{◌≡◌, ◌∙◌, ◌++◌, ap, rules, true, false, ℤ, List, ℕ, Result, Ok, Err, OnOk, is_ok, Vec, Global}
+use Rattle.std.proofs.Common.{◌≡◌, ◌∙◌, ◌++◌, ap, rules, true, ℤ, ℕ, Result, Ok, Err, OnOk, is_ok, Vec, Global}
 use Rattle.std.proofs.lemmas.Int.{to_z-of_z}
 use Rattle.std.specs.Prelude.{IsErrAnd}
 use Rattle.lpis.specs.Area.{area_line}
