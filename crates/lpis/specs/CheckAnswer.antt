@@ -62,6 +62,14 @@ pub record IsProved (x : Inputs) : Type 0 where
   pub text : x.cert ≡ cert_text certificate
   pub good : IsGood release certificate
 
--- said of the bytes of four readers, where they are known
-abbrev pub OfInputs : Option (List ℕ) → Option (List ℕ) → Option (List ℕ) → Option (List ℕ) → (Inputs → Type 0) → Type 0
-OfInputs p c k e P = IfSome p (λ ps. IfSome c (λ cs. IfSome k (λ ks. IfSome e (λ es. P (record { parcels = ps; covers = cs; classes = ks; cert = es })))))
+-- the inputs are what four readers told, as far as it is known
+pub record AreRead (x : Inputs) (parcels covers classes cert : Option (List ℕ)) : Type 0 where
+  pub of_parcels : IfSome parcels (λ bytes. x.parcels ≡ bytes)
+  pub of_covers : IfSome covers (λ bytes. x.covers ≡ bytes)
+  pub of_classes : IfSome classes (λ bytes. x.classes ≡ bytes)
+  pub of_cert : IfSome cert (λ bytes. x.cert ≡ bytes)
+
+-- the run of these inputs answered with this status, and wrote the text; a yes comes only for a release that is a sound map, and a
+-- certificate that is good for it
+abbrev pub Ends : Inputs → ℕ → Option (List ℕ) → Option (List ℕ) → Type 0
+Ends x status old new = Checks x status old new × (status ≡ done → IsProved x)

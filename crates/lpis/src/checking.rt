@@ -7,7 +7,7 @@ ghost use Rattle.lpis_cert.specs.Faults.{verdict};
 ghost use Rattle.lpis_cert.specs.declared.cert.Cert.{Cert};
 ghost use Rattle.lpis_checker.specs.GoodCertificate.{IsGood};
 ghost use Rattle.lpis_checker.specs.SoundMap.{IsSoundMap};
-ghost use Rattle.lpis.specs.CheckAnswer.{Checks, IsAnswer, IsCertAnswer, IsCheckAnswer, IsProved, OfInputs};
+ghost use Rattle.lpis.specs.CheckAnswer.{AreRead, Ends, Inputs, IsAnswer, IsCertAnswer, IsCheckAnswer, IsProved};
 ghost use Rattle.lpis.specs.CheckRuns.{inputs_of};
 ghost use Rattle.lpis.specs.Failures.{IsUnchecked};
 ghost use Rattle.lpis.specs.Refusals.{cert_refusal_text, check_refusal_text, refusal_text};
@@ -149,7 +149,7 @@ fn read_inputs<P: Read + Drop, C: Read + Drop, K: Read + Drop, E: Read + Drop>(
     classes: K,
     cert: E,
 ) -> Result<InputBytes, Failure>
-    ensures bytes { OfInputs (P.remaining parcels) (C.remaining covers) (K.remaining classes) (E.remaining cert) (λ x. IfOk result (λ i. inputs_of i ≡ x)) }
+    ensures bytes { IfOk result (λ i. AreRead (inputs_of i) (P.remaining parcels) (C.remaining covers) (K.remaining classes) (E.remaining cert)) }
     ensures failure { IfErr result IsUnchecked }
 {
     let parcels = read_input(alloc, parcels, Name::Parcels)?;
@@ -177,9 +177,7 @@ pub fn run_check<P: Read + Drop, C: Read + Drop, K: Read + Drop, E: Read + Drop,
     cert: E,
     out: &mut W,
 ) -> Result<u8, Failure>
-    ensures answer { IfOk result (λ status. OfInputs (P.remaining parcels) (C.remaining covers) (K.remaining classes) (E.remaining cert) (λ x. Checks x status (W.contents out.old) (W.contents out.new))) }
-    // A yes comes only for a release that is a sound map, and a certificate that is good for it.
-    ensures proved { IfOk result (λ status. status ≡ done → OfInputs (P.remaining parcels) (C.remaining covers) (K.remaining classes) (E.remaining cert) IsProved) }
+    ensures answer { IfOk result (λ status. (x : Inputs) × AreRead x (P.remaining parcels) (C.remaining covers) (K.remaining classes) (E.remaining cert) × Ends x status (W.contents out.old) (W.contents out.new)) }
     // Before the outcome is known nothing is written.
     ensures failure { IfErr result (λ failure. (failure ≡ Failure.Write Name.Out) ⊎ (IsUnchecked failure × Keeps (W.contents out.old) (W.contents out.new))) }
 {

@@ -30,6 +30,7 @@ pub enum Condition {
 
 impl Condition {
     /// The two characters that stand in a refusal for a condition that fails: `60` to `69`.
+    #[tactic(auto, unfolding(crate::specs::Codes::code_text))]
     pub fn as_str(self) -> &'static str
         ensures { result.now ≡ code_text self }
     {
