@@ -312,13 +312,13 @@ areas_add r c ids triangles turned flats piece_net parcel_net = record {
 pub good_means_sound : (r : Contents) (c : Cert) → IsDistinct same_id (parcel_ids r.parcels) → IsGood r c → IsSoundMap r
 good_means_sound r c n g = record {
   off = record {
-    parcels = λ s d off. few_parcels r c n g s d;
-    pieces = λ s d off. all_parcels r c g s d;
+    one_parcel = λ s d off. few_parcels r c n g s d;
+    filled = λ s d off. all_parcels r c g s d;
   };
   everywhere = record {
-    pieces = λ s d. let o = once r c g s d in few_pieces s r.pieces o.each o.sum;
-    parcels = λ s d. all_parcels r c g s d;
+    one_piece = λ s d. let o = once r c g s d in few_pieces s r.pieces o.each o.sum;
     one_parcel = λ s d. few_parcels r c n g s d;
+    filled = λ s d. all_parcels r c g s d;
   };
   turns = record {
     pieces = λ s d. let o = once r c g s d in all_from (λ (x : Piece). TurnsTell (IsInPiece s x) (turns x.polygon s)) r.pieces (λ k x e. let one = all_at (OneAt s) r.pieces k x e o.each in (one, piece_in s x one));

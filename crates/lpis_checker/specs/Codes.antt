@@ -1,5 +1,5 @@
 -- The codes of conditions.
-use Rattle.std.specs.Prelude.{ℕ, List, codes}
+use Rattle.std.specs.Prelude.{◌+◌, ◌/◌, ◌%◌, ◌∷◌, [], ℕ, List}
 use Rattle.lpis_checker.specs.declared.condition.Condition.{Condition}
 use Rattle.lpis_checker.specs.declared.condition.Condition.TheVariants.{Names, Triangles, Turned, Flats, Corners, PieceEdges, ParcelEdges, Named, NotApart, Separating}
 
@@ -16,15 +16,6 @@ code_of Named = 67
 code_of NotApart = 68
 code_of Separating = 69
 
--- the two characters of a code
+-- the two digits of a code
 abbrev pub code_text : Condition → List ℕ
-code_text Names = codes "60"
-code_text Triangles = codes "61"
-code_text Turned = codes "62"
-code_text Flats = codes "63"
-code_text Corners = codes "64"
-code_text PieceEdges = codes "65"
-code_text ParcelEdges = codes "66"
-code_text Named = codes "67"
-code_text NotApart = codes "68"
-code_text Separating = codes "69"
+code_text q = (48 + code_of q / 10) ∷ ((48 + code_of q % 10) ∷ [])

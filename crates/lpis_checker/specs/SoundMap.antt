@@ -34,14 +34,15 @@ IsOffLines r p = (a b : Point) → IsAmong (all_corners r) a → IsAmong (all_co
 -- for each rational point off the lines at most one parcel contains it, and a parcel contains it exactly when exactly one of its
 -- pieces does
 pub record IsSoundOffItsLines (r : Contents) : Type 0 where
-  pub parcels : (p : RationalPoint) → pos 0 <ℤ p.d → IsOffLines r p → AtMostOne (IsInParcel p) r.parcels
-  pub pieces : (p : RationalPoint) → pos 0 <ℤ p.d → IsOffLines r p → All (λ (k : Parcel). IsInParcel p k ↔ ExactlyOne (IsInPiece p) (pieces_named r k.id)) r.parcels
+  pub one_parcel : (p : RationalPoint) → pos 0 <ℤ p.d → IsOffLines r p → AtMostOne (IsInParcel p) r.parcels
+  pub filled : (p : RationalPoint) → pos 0 <ℤ p.d → IsOffLines r p → All (λ (k : Parcel). IsInParcel p k ↔ ExactlyOne (IsInPiece p) (pieces_named r k.id)) r.parcels
 
--- for each rational point at most one piece contains it, and at most one parcel, which contains it exactly when one of its pieces does
+-- for each rational point at most one piece contains it, at most one parcel does, and a parcel exactly when exactly one of its pieces
+-- does
 pub record IsSoundEverywhere (r : Contents) : Type 0 where
-  pub pieces : (p : RationalPoint) → pos 0 <ℤ p.d → AtMostOne (IsInPiece p) r.pieces
-  pub parcels : (p : RationalPoint) → pos 0 <ℤ p.d → All (λ (k : Parcel). IsInParcel p k ↔ ExactlyOne (IsInPiece p) (pieces_named r k.id)) r.parcels
+  pub one_piece : (p : RationalPoint) → pos 0 <ℤ p.d → AtMostOne (IsInPiece p) r.pieces
   pub one_parcel : (p : RationalPoint) → pos 0 <ℤ p.d → AtMostOne (IsInParcel p) r.parcels
+  pub filled : (p : RationalPoint) → pos 0 <ℤ p.d → All (λ (k : Parcel). IsInParcel p k ↔ ExactlyOne (IsInPiece p) (pieces_named r k.id)) r.parcels
 
 -- 0 or 1, and 1 exactly where the point is contained
 abbrev pub TurnsTell : Type 0 → ℤ → Type 0

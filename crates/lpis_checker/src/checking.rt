@@ -1,11 +1,13 @@
 //! The check, and the yes that it gives.
 
 ghost use Rattle.std.specs.Prelude.{◌≡◌, IfErr, IfOk, OnOk};
+ghost use Rattle.lpis_checker.specs.Codes.{code_of};
 ghost use Rattle.lpis_checker.specs.FirstFault.{HoldBelow, IsOfParts, Tells};
 ghost use Rattle.lpis_checker.specs.GoodCertificate.{Holds, IsGood};
 ghost use Rattle.lpis_checker.specs.Searches.{FoundFault, IsToldOf};
 ghost use Rattle.lpis_checker.specs.SoundMap.{AreasAdd, IsSoundMap};
 ghost use Rattle.lpis_checker.specs.TurnsAdd.{TurnsAdd};
+ghost use Rattle.lpis_checker.specs.declared.condition.Condition.TheVariants.{Named};
 
 use crate::condition::Failing;
 use crate::fault::CheckFault;
@@ -36,7 +38,7 @@ fn told(release: &Release, cert: &Cert, found: &Failing) -> Result<CheckFault, A
 /// With Ok each parcel has the area of its pieces, each above 0. Off the lines of the release each piece turns round a point as often
 /// as triangles of its part have the point inside, and each parcel as often as its pieces together.
 pub fn check_parts(alloc: Global, release: &Release, cert: &Cert) -> Result<(), CheckFault>
-    ensures holds { OnOk result (HoldBelow release.now cert.now 67) }
+    ensures holds { OnOk result (HoldBelow release.now cert.now (code_of Named)) }
     ensures areas { OnOk result (AreasAdd release.now) }
     ensures turns { OnOk result (TurnsAdd release.now cert.now) }
     ensures fault { IfErr result (Tells release.now cert.now) }
@@ -70,8 +72,8 @@ impl<'a> Model for Yes<'a> {
 /// Checks a release against a certificate: Ok exactly where the certificate is good. Else the condition of the lowest code that
 /// fails is told, and the first place at which it does, pieces before parcels. Want of memory is told as such, and is no yes.
 ///
-/// With Ok the release is a sound map: at every rational point at most one piece contains the point, and a parcel contains it exactly when
-/// exactly one of its pieces does; each parcel has the area of its pieces, each above 0. It is not used which `PairSource` it is.
+/// With Ok the release is a sound map: at every rational point at most one piece contains the point and at most one parcel does, and a parcel
+/// exactly when exactly one of its pieces does; each parcel has the area of its pieces, each above 0. It is not used which `PairSource` it is.
 pub fn check<'a, S: PairSource>(
     alloc: Global,
     release: &'a Release,
@@ -111,8 +113,11 @@ impl<'a> Yes<'a> {
     pub fn locate(&self, p: &RatPoint) -> Option<(&'a Id, &'a Id)>
         ensures found { IfSome result (λ ids. IsLocated self.now (rational_of p.now) ids.0.now ids.1.now) }
         ensures nowhere { IfNone result (IsNowhere self.now (rational_of p.now)) }
+        ensures sound { IsSoundMap self.now }
     {
         let release = self.release;
+        // Its parcels' identifiers differ.
+        let _ = release.parcels();
         let parcel = parcel_at(release, p)?;
         match piece_at(release, parcel, p) {
             Some(piece) => Some((&parcel.id, &piece.id)),

@@ -59,7 +59,7 @@ pub enum Site {
 
 /// A condition that fails, and where.
 #[derive(Clone, Copy, Debug)]
-pub struct Failing {
+pub(crate) struct Failing {
     pub condition: Condition,
     pub site: Site,
 }

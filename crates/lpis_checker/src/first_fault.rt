@@ -23,13 +23,6 @@ use lpis_parcels::Release;
 use lpis_points::Triangle;
 use std::alloc::{AllocError, Global};
 
-/// The condition fails at the site.
-fn failing(condition: Condition, site: Site) -> Option<Failing>
-    ensures { MatchOption result ⊥ (λ f. (f.condition ≡ condition) × (f.site ≡ site)) }
-{
-    Some(Failing { condition, site })
-}
-
 /// The identifier of a piece in the certificate, or the release's where the certificate's list has ended.
 fn piece_id<'a>(release: &'a Release, cert: &'a Cert, place: usize) -> Option<&'a Id>
     ensures { MatchOption result (HasNoPiece release.now cert.now place) (λ id. id.now ≡ piece_id_lem release.now cert.now place) }
@@ -84,16 +77,16 @@ fn form_fault(release: &Release, cert: &Cert, count: usize) -> Option<Failing>
     ensures { FindsBelow release.now cert.now 64 result }
 {
     if let Some(site) = misnamed(release, cert, count) {
-        return failing(Condition::Names, site);
+        return Some(Failing { condition: Condition::Names, site });
     }
     if let Some(site) = piece_without_triangle(release, cert) {
-        return failing(Condition::Triangles, site);
+        return Some(Failing { condition: Condition::Triangles, site });
     }
     if let Some(site) = piece_turned_round(release, cert) {
-        return failing(Condition::Turned, site);
+        return Some(Failing { condition: Condition::Turned, site });
     }
     if let Some(site) = bent_flat(release, cert) {
-        return failing(Condition::Flats, site);
+        return Some(Failing { condition: Condition::Flats, site });
     }
     None
 }
@@ -104,13 +97,13 @@ fn edge_fault(alloc: Global, release: &Release, cert: &Cert) -> Result<Option<Fa
     ensures { IfOk result (FindsBelow release.now cert.now 67) }
 {
     if let Some(site) = strange_corner(alloc, release, cert)? {
-        return Ok(failing(Condition::Corners, site));
+        return Ok(Some(Failing { condition: Condition::Corners, site }));
     }
     if let Some(site) = piece_with_other_edges(alloc, release, cert)? {
-        return Ok(failing(Condition::PieceEdges, site));
+        return Ok(Some(Failing { condition: Condition::PieceEdges, site }));
     }
     if let Some(site) = parcel_with_other_edges(alloc, release, cert)? {
-        return Ok(failing(Condition::ParcelEdges, site));
+        return Ok(Some(Failing { condition: Condition::ParcelEdges, site }));
     }
     Ok(None)
 }
@@ -144,13 +137,13 @@ fn pair_fault(
     ensures { FindsBelow release.now cert.now 70 result }
 {
     if let Some(site) = unnamed_pair(release, cert, triangles, near) {
-        return failing(Condition::Named, site);
+        return Some(Failing { condition: Condition::Named, site });
     }
     if let Some(site) = line_of_apart_triangles(release, cert, triangles) {
-        return failing(Condition::NotApart, site);
+        return Some(Failing { condition: Condition::NotApart, site });
     }
     if let Some(site) = line_that_separates_nothing(release, cert, triangles) {
-        return failing(Condition::Separating, site);
+        return Some(Failing { condition: Condition::Separating, site });
     }
     None
 }

@@ -18,7 +18,7 @@ mod separators;
 mod signed;
 
 pub use checking::{Yes, check, check_parts};
-pub use condition::{Condition, Failing, Site};
+pub use condition::{Condition, Site};
 pub use fault::{CheckFault, Place};
 
 #[cfg(test)]
