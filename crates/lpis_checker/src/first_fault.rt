@@ -77,16 +77,28 @@ fn form_fault(release: &Release, cert: &Cert, count: usize) -> Option<Failing>
     ensures { FindsBelow release.now cert.now 64 result }
 {
     if let Some(site) = misnamed(release, cert, count) {
-        return Some(Failing { condition: Condition::Names, site });
+        return Some(Failing {
+            condition: Condition::Names,
+            site,
+        });
     }
     if let Some(site) = piece_without_triangle(release, cert) {
-        return Some(Failing { condition: Condition::Triangles, site });
+        return Some(Failing {
+            condition: Condition::Triangles,
+            site,
+        });
     }
     if let Some(site) = piece_turned_round(release, cert) {
-        return Some(Failing { condition: Condition::Turned, site });
+        return Some(Failing {
+            condition: Condition::Turned,
+            site,
+        });
     }
     if let Some(site) = bent_flat(release, cert) {
-        return Some(Failing { condition: Condition::Flats, site });
+        return Some(Failing {
+            condition: Condition::Flats,
+            site,
+        });
     }
     None
 }
@@ -97,13 +109,22 @@ fn edge_fault(alloc: Global, release: &Release, cert: &Cert) -> Result<Option<Fa
     ensures { IfOk result (FindsBelow release.now cert.now 67) }
 {
     if let Some(site) = strange_corner(alloc, release, cert)? {
-        return Ok(Some(Failing { condition: Condition::Corners, site }));
+        return Ok(Some(Failing {
+            condition: Condition::Corners,
+            site,
+        }));
     }
     if let Some(site) = piece_with_other_edges(alloc, release, cert)? {
-        return Ok(Some(Failing { condition: Condition::PieceEdges, site }));
+        return Ok(Some(Failing {
+            condition: Condition::PieceEdges,
+            site,
+        }));
     }
     if let Some(site) = parcel_with_other_edges(alloc, release, cert)? {
-        return Ok(Some(Failing { condition: Condition::ParcelEdges, site }));
+        return Ok(Some(Failing {
+            condition: Condition::ParcelEdges,
+            site,
+        }));
     }
     Ok(None)
 }
@@ -137,13 +158,22 @@ fn pair_fault(
     ensures { FindsBelow release.now cert.now 70 result }
 {
     if let Some(site) = unnamed_pair(release, cert, triangles, near) {
-        return Some(Failing { condition: Condition::Named, site });
+        return Some(Failing {
+            condition: Condition::Named,
+            site,
+        });
     }
     if let Some(site) = line_of_apart_triangles(release, cert, triangles) {
-        return Some(Failing { condition: Condition::NotApart, site });
+        return Some(Failing {
+            condition: Condition::NotApart,
+            site,
+        });
     }
     if let Some(site) = line_that_separates_nothing(release, cert, triangles) {
-        return Some(Failing { condition: Condition::Separating, site });
+        return Some(Failing {
+            condition: Condition::Separating,
+            site,
+        });
     }
     None
 }
