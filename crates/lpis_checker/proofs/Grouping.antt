@@ -20,7 +20,7 @@ use Rattle.lpis_checker.specs.SignedEdges.{same_ends, IsGrouped, point_order}
 abbrev pub edge_order : SignedEdge → SignedEdge → Ordering
 edge_order x y = ordering_then (point_order x.low y.low) (ordering_then (point_order x.high y.high) (bool_cmp x.forward y.forward))
 
-point_total : IsTotalOrder point_order
+pub point_total : IsTotalOrder point_order
 point_total = then_total (on_total (λ (p : Point). p.x) int_cmp_total) (on_total (λ (p : Point). p.y) int_cmp_total)
 
 edge_total : IsTotalOrder edge_order

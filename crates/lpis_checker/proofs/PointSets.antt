@@ -1,21 +1,19 @@
 -- Points that are sorted: a binary search finds exactly those that are among them.
 use Rattle.std.proofs.Common.{◌≡◌, ◌∙◌, ◌<◌, ◌≤◌, ◌⊎◌, inl, inr, ◌↔◌, ℕ, ℤ, Bool, true, false, List, ◌++◌, length, get_or, Result, Ok, Err, Ordering, Less, Equal, Greater, IsTrue, refl, sym, ap, subst, arith}
 use Rattle.std.specs.Prelude.{is_ok}
-use Rattle.std.specs.Cmp.{IsTotalOrder}
 use Rattle.std.specs.Ordering.{int_cmp, ordering_then}
 use Rattle.std.specs.List.{All, Contains}
 use Rattle.std.specs.List.Sorted.{IsSorted, IsBinarySearchResult, IsSearchInRange, IsPartitionPoint}
-use Rattle.std.proofs.lemmas.Cmp.{int_cmp_total, int_ranked, on_total, then_total, tied_itself}
+use Rattle.std.proofs.lemmas.Cmp.{int_ranked, tied_itself}
 use Rattle.std.proofs.lemmas.List.Elements.{All-append, All-contains, Contains-append_left, Contains-append_right, Contains-get_or}
 use Rattle.std.proofs.lemmas.List.Sorted.{searchable_from_sorted}
 use Rattle.lpis_points.specs.declared.point.Point.{Point}
 use Rattle.lpis_points.specs.declared.triangle.Triangle.{Triangle}
 use Rattle.lpis_points.proofs.Points.{point_eq}
-use Rattle.lpis_checker.specs.CornerSets.{HasCorners, point_cmp}
+use Rattle.lpis_checker.specs.CornerSets.{HasCorners}
+use Rattle.lpis_checker.specs.SignedEdges.{point_order}
 use Rattle.lpis_checker.specs.GoodCertificate.{HaveCorners}
-
-pub point_total : IsTotalOrder point_cmp
-point_total = then_total (on_total (λ (p : Point). p.x) int_cmp_total) (on_total (λ (p : Point). p.y) int_cmp_total)
+use Rattle.lpis_checker.proofs.Grouping.{point_total}
 
 both_equal : (o p : Ordering) → ordering_then o p ≡ Equal → (o ≡ Equal) × (p ≡ Equal)
 both_equal Less p e = absurd (never e)
@@ -31,13 +29,13 @@ both_equal Greater p e = absurd (never e)
 same_int : (x y : ℤ) → int_cmp x y ≡ Equal → x ≡ y
 same_int x y e = int_ranked x y Equal (sym e)
 
-exact : (p q : Point) → point_cmp p q ≡ Equal → p ≡ q
+exact : (p q : Point) → point_order p q ≡ Equal → p ≡ q
 exact p q e =
     let h = both_equal (int_cmp p.x q.x) (int_cmp p.y q.y) e in
     point_eq p q (same_int p.x q.x h.0) (same_int p.y q.y h.1)
 
 -- what is among sorted points lies neither before nor after the place to insert it
-unsplit : (xs : List Point) (x : Point) (i : ℕ) → IsPartitionPoint (λ y. point_cmp y x ≡ Less) (λ y. point_cmp y x ≡ Greater) xs i → Contains xs x → ⊥
+unsplit : (xs : List Point) (x : Point) (i : ℕ) → IsPartitionPoint (λ y. point_order y x ≡ Less) (λ y. point_order y x ≡ Greater) xs i → Contains xs x → ⊥
 unsplit xs x i h w = elim (by_place w.0 i) [
   | inl l ↦ less (sym (itself xs x w) ∙ h.0 w.0 x (omega arith) l)
   | inr l ↦ greater (sym (itself xs x w) ∙ h.1 w.0 x l w.1)
@@ -46,8 +44,8 @@ unsplit xs x i h w = elim (by_place w.0 i) [
     by_place : (k i : ℕ) → (k < i) ⊎ (i ≤ k)
     by_place k i = grind arith
 
-    itself : (ys : List Point) (y : Point) (v : Contains ys y) → point_cmp (get_or ys v.0 y) y ≡ Equal
-    itself ys y v = ap (λ (z : Point). point_cmp z y) v.2 ∙ tied_itself point_total y
+    itself : (ys : List Point) (y : Point) (v : Contains ys y) → point_order (get_or ys v.0 y) y ≡ Equal
+    itself ys y v = ap (λ (z : Point). point_order z y) v.2 ∙ tied_itself point_total y
 
     less : Equal ≡ Less → ⊥
     less f = cc
@@ -56,7 +54,7 @@ unsplit xs x i h w = elim (by_place w.0 i) [
     greater f = cc
 
 -- a binary search finds exactly what is among them
-pub found : (xs : List Point) (x : Point) (r : Result ℕ ℕ) → IsSorted point_cmp xs → IsSearchInRange r (length xs) → IsBinarySearchResult (λ y. point_cmp y x) xs r → IsTrue (is_ok r) ↔ Contains xs x
+pub found : (xs : List Point) (x : Point) (r : Result ℕ ℕ) → IsSorted point_order xs → IsSearchInRange r (length xs) → IsBinarySearchResult (λ y. point_order y x) xs r → IsTrue (is_ok r) ↔ Contains xs x
 found xs x (Ok i) s b h = (λ e. (i, b, exact (get_or xs i x) x (h x)), λ w. refl)
 found xs x (Err i) s b h = (λ e. absurd (never e), λ w. absurd (unsplit xs x i (h (searchable_from_sorted point_total (λ (p : Point). p) xs x s)) w))
   where

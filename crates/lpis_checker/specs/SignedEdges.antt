@@ -28,12 +28,14 @@ same_ends x y = is_at x.low x.high y
 
 -- edges with the same ends stand together
 abbrev pub IsGrouped : List SignedEdge → Type 0
-IsGrouped xs = (i j k : ℕ) (x y z : SignedEdge) → i < j → j < k → slice_get xs i ≡ Some x → slice_get xs j ≡ Some y → slice_get xs k ≡ Some z → same_ends x z ≡ true → same_ends x y ≡ true
+IsGrouped xs =
+    (i j k : ℕ) (x y z : SignedEdge) → i < j → j < k → slice_get xs i ≡ Some x → slice_get xs j ≡ Some y → slice_get xs k ≡ Some z → same_ends x z ≡ true → same_ends x y ≡ true
 
 -- the element after k, if there is one, has other ends
 abbrev pub EndsRun : List SignedEdge → ℕ → Type 0
 EndsRun xs k = (x y : SignedEdge) → slice_get xs k ≡ Some x → slice_get xs (k + 1) ≡ Some y → same_ends x y ≡ false
 
+-- the derived order of points: by x, and then by y
 abbrev pub point_order : Point → Point → Ordering
 point_order a b = ordering_then (int_cmp a.x b.x) (int_cmp a.y b.y)
 
@@ -43,7 +45,8 @@ is_low a b = is_lt (point_order a b)
 -- the edge from a to b with its lesser point first, turned where that is b
 abbrev pub IsSigned : Point → Point → Bool → Option SignedEdge → Type 0
 IsSigned a b forward None = (is_low a b ≡ false) × (is_low b a ≡ false)
-IsSigned a b forward (Some e) = ((is_low a b ≡ true) × (e.low ≡ a) × (e.high ≡ b) × (e.forward ≡ forward)) ⊎ ((is_low b a ≡ true) × (e.low ≡ b) × (e.high ≡ a) × (e.forward ≡ not forward))
+IsSigned a b forward (Some e) =
+    ((is_low a b ≡ true) × (e.low ≡ a) × (e.high ≡ b) × (e.forward ≡ forward)) ⊎ ((is_low b a ≡ true) × (e.low ≡ b) × (e.high ≡ a) × (e.forward ≡ not forward))
 
 -- the number, or its negative
 abbrev pub signed_by : Bool → ℤ → ℤ

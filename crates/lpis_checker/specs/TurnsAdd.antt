@@ -1,5 +1,5 @@
 -- Turns: what the conditions on parts show beside areas.
-use Rattle.std.specs.Prelude.{◌≡◌, ℕ, ℤ, pos, ◌+ℤ◌, ◌<ℤ◌, List, [], ◌∷◌, slice_get, Some, All}
+use Rattle.std.specs.Prelude.{◌≡◌, ℕ, ℤ, pos, ◌+ℤ◌, ◌<ℤ◌, List, [], ◌∷◌, All}
 use Rattle.lpis_points.specs.Plane.{RationalPoint}
 use Rattle.lpis_rings.specs.Edges.{turns}
 use Rattle.lpis_rings.specs.Map.{inside_count}
@@ -7,7 +7,7 @@ use Rattle.lpis_covers.specs.declared.piece.Piece.{Piece}
 use Rattle.lpis_parcels.specs.declared.parcel.Parcel.{Parcel}
 use Rattle.lpis_parcels.specs.Release.{Contents, pieces_named}
 use Rattle.lpis_cert.specs.declared.cert.Cert.{Cert}
-use Rattle.lpis_cert.specs.declared.part.PiecePart.{PiecePart}
+use Rattle.lpis_checker.specs.GoodCertificate.{OfPiece}
 use Rattle.lpis_checker.specs.SoundMap.{IsOffLines}
 
 -- the turns of pieces, added
@@ -18,5 +18,5 @@ turns_of_pieces (x ∷ xs) p = turns x.polygon p +ℤ turns_of_pieces xs p
 -- off the lines each piece turns round a point as often as triangles of its part have the point inside; everywhere each parcel
 -- turns round it as often as its pieces together
 pub record TurnsAdd (r : Contents) (c : Cert) : Type 0 where
-  pub pieces : (p : RationalPoint) → pos 0 <ℤ p.d → IsOffLines r p → (k : ℕ) (x : Piece) (t : PiecePart) → slice_get r.pieces k ≡ Some x → slice_get c.pieces k ≡ Some t → turns x.polygon p ≡ pos (inside_count t.triangles p)
+  pub pieces : (p : RationalPoint) → pos 0 <ℤ p.d → IsOffLines r p → (k : ℕ) → OfPiece r c k (λ x t. turns x.polygon p ≡ pos (inside_count t.triangles p))
   pub parcels : (p : RationalPoint) → pos 0 <ℤ p.d → All (λ (k : Parcel). turns k.polygon p ≡ turns_of_pieces (pieces_named r k.id) p) r.parcels

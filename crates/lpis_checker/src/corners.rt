@@ -29,13 +29,13 @@ impl Model for PointSet {
     ghost use Rattle.std.specs.Prelude.{List};
     ghost use Rattle.std.specs.List.Sorted.{IsSorted};
     ghost use Rattle.lpis_points.specs.declared.point.Point.{Point};
-    ghost use Rattle.lpis_checker.specs.CornerSets.{point_cmp};
+    ghost use Rattle.lpis_checker.specs.SignedEdges.{point_order};
 
     ghost Value = { List Point };
 
     ghost view = { λ s. s.sorted.items };
 
-    ghost invariant = { λ s. IsSorted point_cmp s.sorted.items };
+    ghost invariant = { λ s. IsSorted point_order s.sorted.items };
 }
 
 impl PointSet {

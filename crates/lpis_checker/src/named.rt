@@ -13,7 +13,7 @@ use lpis_parcels::Release;
 use lpis_points::Triangle;
 
 /// Whether a line names a pair that stands before (i, j).
-fn is_before(line: &PairLine, i: u32, j: u32) -> bool
+pub(crate) fn is_before(line: &PairLine, i: u32, j: u32) -> bool
     ensures { IsTrue result ↔ IsBelow line.now.i line.now.j i j }
 {
     line.i < i || line.i == i && line.j < j

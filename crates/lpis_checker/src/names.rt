@@ -8,6 +8,7 @@ ghost use Rattle.lpis_checker.specs.declared.condition.Condition.TheVariants.{Na
 ghost use Rattle.lpis_checker.specs.declared.condition.Site.TheVariants.{LineAt, ParcelAt, PieceAt};
 
 use crate::condition::Site;
+use crate::named::is_before;
 use lpis_cert::{Cert, PairLine};
 use lpis_covers::Id;
 use lpis_parcels::Release;
@@ -54,13 +55,6 @@ fn names_two(line: &PairLine, count: usize) -> bool
     line.i < line.j && (line.j as usize) < count
 }
 
-/// Whether a pair line names a later pair than another.
-fn follows(before: &PairLine, line: &PairLine) -> bool
-    ensures { IsTrue result ↔ IsBelow before.now.i before.now.j line.now.i line.now.j }
-{
-    before.i < line.i || before.i == line.i && before.j < line.j
-}
-
 /// Whether the pair line at a place names two triangles and a later pair than the line before it.
 fn is_in_order(release: &Release, cert: &Cert, count: usize, place: usize) -> bool
     requires count { count ≡ length (triangles_of cert.now.pieces) }
@@ -75,7 +69,7 @@ fn is_in_order(release: &Release, cert: &Cert, count: usize, place: usize) -> bo
     if place == 0 {
         return true;
     }
-    follows(&lines[place - 1], line)
+    is_before(&lines[place - 1], line.i, line.j)
 }
 
 /// The first piece whose part is missing or has another name, or the first part too many.

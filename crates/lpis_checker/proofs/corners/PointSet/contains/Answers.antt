@@ -2,14 +2,14 @@ use Rattle.std.proofs.Common.{◌∙◌, ◌↔◌, IsTrue, Bool, List, sym, sub
 use Rattle.std.specs.Prelude.{Contains, is_ok}
 use Rattle.std.specs.List.Sorted.{IsSorted}
 use Rattle.lpis_points.specs.declared.point.Point.{Point}
-use Rattle.lpis_checker.specs.CornerSets.{point_cmp}
+use Rattle.lpis_checker.specs.SignedEdges.{point_order}
 use Rattle.lpis_checker.proofs.PointSets.{found}
 use Rattle.lpis_checker.proofs.corners.PointSet.contains.Goals as goal
 
 pub returns : goal.returns
 returns c =
     let points = c.deref.result.now in
-    let sorted : IsSorted point_cmp points = subst (λ (xs : List Point). IsSorted point_cmp xs) (sym c.deref.ensures.value) c.self.invariant in
+    let sorted : IsSorted point_order points = subst (λ (xs : List Point). IsSorted point_order xs) (sym c.deref.ensures.value) c.self.invariant in
     let by_search = found points c.args.point c.binary_search.result sorted c.binary_search.ensures.bound c.binary_search.ensures.position in
     let by_points = subst (λ (xs : List Point). IsTrue (is_ok c.binary_search.result) ↔ Contains xs c.args.point) (c.deref.ensures.value ∙ c.self.view_is) by_search in
     subst (λ (b : Bool). IsTrue b ↔ Contains c.args.self.now c.args.point) (sym c.is_ok.ensures.value) by_points
