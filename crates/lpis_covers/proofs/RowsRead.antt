@@ -1,5 +1,5 @@
 -- Reading rows as values, a row at a time.
-use Rattle.std.proofs.Common.{◌≡◌, ◌+◌, ◌++◌, ◌∷◌, [], ℕ, List, length, map, Bool, true, false, Result, Ok, Err, refl, sym, ap, ◌∙◌, arith, append_assoc}
+use Rattle.std.proofs.Common.{◌≡◌, ◌≤◌, ◌+◌, ◌++◌, ◌∷◌, [], ℕ, List, length, map, Bool, true, false, Result, Ok, Err, refl, sym, ap, ◌∙◌, arith, append_assoc}
 use Rattle.std.specs.Prelude.{option_to_list}
 use Rattle.std.proofs.lemmas.List.{append-nil, map-append, length-append}
 use Rattle.csv.specs.Reading.{default_config, records, strip_bom}
@@ -7,13 +7,14 @@ use Rattle.lpis_covers.specs.declared.fault.Table.{Table}
 use Rattle.lpis_covers.specs.declared.fault.TableCode.{TableCode}
 use Rattle.lpis_covers.specs.declared.fault.TableFault.{TableFault}
 use Rattle.lpis_covers.specs.declared.fault.TableFault.TheVariants.{Memory, At}
-use Rattle.lpis_covers.specs.Faults.{RowsOf, row_faults, told, rows_of}
+use Rattle.lpis_covers.specs.Faults.{RowsOf, key_faults, row_faults, told, rows_of}
 use Rattle.lpis_covers.specs.Table.{Advances, Answers, Reading, Record, field_of, has_mark, most_rows, places_of, table_of, under_header}
 
 -- a reader of the table t has read these rows, with these keys, and no fault yet
 pub record IsRead {A : Type 0} (kind : RowsOf A) (t : Reading) (keys : List (List ℕ)) (rows : List A) (r : Reading) : Type 0 where
   pub table : r.table ≡ kind.table
   pub count : r.number ≡ length rows
+  pub few : r.number ≤ most_rows
   pub faults : row_faults kind keys (r.number + 1) r.rows ++ option_to_list r.stop ≡ row_faults kind [] 1 t.rows ++ option_to_list t.stop
   pub values : rows ++ map kind.value r.rows ≡ map kind.value t.rows
 
@@ -49,7 +50,7 @@ pub rows-start : {A : Type 0} (kind : RowsOf A) (bytes : List ℕ) (t : Reading)
 rows-start kind bytes t h =
     let s = table-start kind.table kind.columns bytes t h in
     let first : t.number + 1 ≡ 1 = omega arith in
-    record { table = s.0; count = s.1; faults = rw first refl; values = refl }
+    record { table = s.0; count = s.1; few = omega (arith, s.1); faults = rw first refl; values = refl }
 
 -- one row more
 pub rows-step : {A : Type 0} (kind : RowsOf A) (t old new : Reading) (keys : List (List ℕ)) (rows : List A) (x : A)
@@ -62,20 +63,30 @@ rows-step {A = A} kind t old new keys rows x h a e =
     record {
       table = a.3 ∙ h.table;
       count = rw (length-append rows (x ∷ [])) (omega (arith, h.count, a.2));
+      few = a.4;
       faults = ap (λ (l : List TableFault). (l ++ row_faults kind (keys ++ field_of new.row 0 ∷ []) (new.number + 1) new.rows) ++ option_to_list new.stop) (sym v.0)
           ∙ (rw (a.0, n, sym a.1) at h.faults);
       values = append_assoc rows (x ∷ []) (map kind.value new.rows) ∙ ap (λ (y : A). rows ++ (y ∷ map kind.value new.rows)) (sym v.1) ∙ (rw a.0 at h.values);
     }
 
-pub rows-push : {A : Type 0} (kind : RowsOf A) (identifier : A → List ℕ) (t old new : Reading) (rows after : List A) (x : A)
+-- the row that was read last, whose key and other fields have no fault
+pub rows-push : {A : Type 0} (kind : RowsOf A) (identifier : A → List ℕ) (others : ℕ → Record → List TableFault) (t old new : Reading) (rows after : List A)
+    (keys grown : List (List ℕ)) (key : List ℕ) (x : A)
     → ((row : Record) → identifier (kind.value row) ≡ field_of row 0)
-    → IsRead kind t (map identifier rows) rows old → Advances old new (Ok true) → told (kind.faults (map identifier rows) new.number new.row) (kind.value new.row) ≡ Ok x
-    → after ≡ rows ++ x ∷ [] → IsRead kind t (map identifier after) after new
-rows-push {A = A} kind identifier t old new rows after x first h a e is =
-    let v = told-value (kind.faults (map identifier rows) new.number new.row) (kind.value new.row) x e in
-    let key : map identifier rows ++ field_of new.row 0 ∷ [] ≡ map identifier (rows ++ x ∷ []) =
-    ap (λ (k : List ℕ). map identifier rows ++ k ∷ []) (sym (first new.row) ∙ ap identifier v.1) ∙ sym (map-append identifier rows (x ∷ [])) in
-    rw (is, ← key) (rows-step kind t old new (map identifier rows) rows x h a e)
+    → ((keys : List (List ℕ)) (n : ℕ) (row : Record) → kind.faults keys n row ≡ key_faults kind.table n keys (field_of row 0) ++ others n row)
+    → IsRead kind t keys rows old → keys ≡ map identifier rows → Advances old new (Ok true)
+    → told (key_faults new.table new.number keys (field_of new.row 0)) (field_of new.row 0) ≡ Ok key → told (others new.number new.row) (kind.value new.row) ≡ Ok x
+    → grown ≡ keys ++ key ∷ [] → after ≡ rows ++ x ∷ [] → IsRead kind t grown after new × (grown ≡ map identifier after)
+rows-push {A = A} kind identifier others t old new rows after keys grown key x first parts h same a k e more is =
+    let v = told-value (others new.number new.row) (kind.value new.row) x e in
+    let f = told-value (key_faults new.table new.number keys (field_of new.row 0)) (field_of new.row 0) key k in
+    let own : key ≡ identifier x = sym f.1 ∙ sym (first new.row) ∙ ap identifier v.1 in
+    let table : new.table ≡ kind.table = a.3 ∙ h.table in
+    let faults : kind.faults keys new.number new.row ≡ [] =
+    parts keys new.number new.row ∙ (rw (← table, v.0, f.0) refl) in (
+      rw (more, is, ← f.1) (rows-step kind t old new keys rows x h a (rw (faults, v.1) refl)),
+      rw (is, map-append identifier rows (x ∷ []), more, own, same) refl,
+    )
 
 -- the end of the rows
 pub rows-end : {A : Type 0} (kind : RowsOf A) (bytes : List ℕ) (t old new : Reading) (keys : List (List ℕ)) (rows : List A)
@@ -121,3 +132,23 @@ pub fault-retold : {A B : Type 0} (fs : List TableFault) (v : A) (w : B) (f : Ta
 fault-retold fs v w Memory h = tt
 fault-retold [] v w (At code table row wkt) h = cc h
 fault-retold (g ∷ fs) v w (At code table row wkt) h = ap Err (cc h)
+
+-- the fault of a row's key, and of its other fields
+pub rows-key-fault : {A : Type 0} (kind : RowsOf A) (others : ℕ → Record → List TableFault) (bytes : List ℕ) (t old new : Reading) (keys : List (List ℕ)) (rows : List A) (f : TableFault)
+    → ((keys : List (List ℕ)) (n : ℕ) (row : Record) → kind.faults keys n row ≡ key_faults kind.table n keys (field_of row 0) ++ others n row)
+    → table_of kind.table kind.columns bytes ≡ Ok t → IsRead kind t keys rows old → Advances old new (Ok true)
+    → Answers {A = List ℕ} (Err f) (told (key_faults new.table new.number keys (field_of new.row 0)) (field_of new.row 0)) → Answers (Err f) (rows_of kind bytes)
+rows-key-fault kind others bytes t old new keys rows f parts opened h a k =
+    let table : new.table ≡ kind.table = a.3 ∙ h.table in
+    let own = column-fault (key_faults kind.table new.number keys (field_of new.row 0)) (others new.number new.row) (field_of new.row 0) (kind.value new.row) f (rw table at k) in
+    rows-fault kind bytes t old new keys rows f opened h a (rw (parts keys new.number new.row) own)
+
+pub rows-other-fault : {A : Type 0} (kind : RowsOf A) (others : ℕ → Record → List TableFault) (bytes : List ℕ) (t old new : Reading) (keys : List (List ℕ)) (rows : List A) (key : List ℕ) (f : TableFault)
+    → ((keys : List (List ℕ)) (n : ℕ) (row : Record) → kind.faults keys n row ≡ key_faults kind.table n keys (field_of row 0) ++ others n row)
+    → table_of kind.table kind.columns bytes ≡ Ok t → IsRead kind t keys rows old → Advances old new (Ok true)
+    → told (key_faults new.table new.number keys (field_of new.row 0)) (field_of new.row 0) ≡ Ok key
+    → Answers {A = A} (Err f) (told (others new.number new.row) (kind.value new.row)) → Answers (Err f) (rows_of kind bytes)
+rows-other-fault kind others bytes t old new keys rows key f parts opened h a k e =
+    let table : new.table ≡ kind.table = a.3 ∙ h.table in
+    let own = column-passed (key_faults kind.table new.number keys (field_of new.row 0)) (others new.number new.row) (field_of new.row 0) key (Err f) (kind.value new.row) (rw table at k) e in
+    rows-fault kind bytes t old new keys rows f opened h a (rw (parts keys new.number new.row) own)

@@ -3,7 +3,6 @@ pub mod Codes
 pub mod Columns
 pub mod Covers
 pub mod Faults
-pub mod FreshKeys
 pub mod Ids
 pub mod Keyed
 pub mod Left

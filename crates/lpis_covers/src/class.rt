@@ -35,10 +35,11 @@ impl TableRow for Class {
     ghost use Rattle.std.specs.Prelude.{refl};
     ghost use Rattle.lpis_covers.specs.declared.fault.Table.TheVariants as table;
     ghost use Rattle.lpis_covers.specs.Classes.{classes_table, eligible_faults};
-    ghost use Rattle.lpis_covers.specs.FreshKeys.{fresh_key};
     ghost use Rattle.lpis_covers.specs.Table.{field_of};
 
     ghost kind = { classes_table };
+
+    ghost others = { λ n row. eligible_faults n (field_of row 1) };
 
     fn table() -> Table {
         Table::Classes
@@ -48,12 +49,7 @@ impl TableRow for Class {
         &[b"class", b"eligible"]
     }
 
-    fn read(
-        alloc: Global,
-        reader: &TableReader<'_>,
-        earlier: &Keyed<Class>,
-    ) -> Result<Class, TableFault> {
-        let code = reader.key(alloc, 0, earlier)?;
+    fn read(alloc: Global, reader: &TableReader<'_>, code: Id) -> Result<Class, TableFault> {
         let mark = reader.field(1);
         let eligible = mark == b"1".as_slice();
         if !eligible && mark != b"0".as_slice() {
@@ -64,7 +60,7 @@ impl TableRow for Class {
 
     ghost key_is_first = { λ row. refl };
 
-    ghost key_is_fresh = { λ keys n row none. fresh_key table.Classes n keys (field_of row 0) (eligible_faults n (field_of row 1)) none };
+    ghost key_is_tested_first = { λ keys n row. refl };
 }
 
 /// The classes of the table `classes`, with the columns `class` and `eligible`, or its first fault.

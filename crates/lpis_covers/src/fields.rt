@@ -1,12 +1,12 @@
 //! The fields of a row: identifiers and polygons.
 
-ghost use Rattle.std.specs.Prelude.{map};
+ghost use Rattle.std.specs.Prelude.{◌≡◌, ◌++◌, ◌∷◌, [], IfOk};
 ghost use Rattle.lpis_covers.specs.Faults.{id_faults, key_faults, polygon_faults, polygon_in, told};
 ghost use Rattle.lpis_covers.specs.Table.{Answers, field_of};
 
 use crate::fault::{TableCode, TableFault};
 use crate::id::Id;
-use crate::keyed::{Identified, Keyed};
+use crate::keys::Keys;
 use crate::reader::TableReader;
 use lpis_rings::Polygon;
 use lpis_wkt::{WktFault, read};
@@ -23,17 +23,14 @@ impl<'a> TableReader<'a> {
         }
     }
 
-    /// The identifier in the k-th wanted field of the row that was read last, which no earlier row may have.
-    pub fn key<T: Identified>(
-        &self,
-        alloc: Global,
-        k: usize,
-        earlier: &Keyed<T>,
-    ) -> Result<Id, TableFault>
-        ensures { let field = field_of self.now.row k in Answers result (told (key_faults self.now.table self.now.number (map T.identifier earlier.now) field) field) }
+    /// The identifier in the k-th wanted field of the row that was read last, which is added to the keys of the rows before it
+    /// and may not be among them.
+    pub fn key(&self, alloc: Global, k: usize, keys: &mut Keys) -> Result<Id, TableFault>
+        ensures answers { let field = field_of self.now.row k in Answers result (told (key_faults self.now.table self.now.number keys.old field) field) }
+        ensures added { IfOk result (λ id. keys.new ≡ keys.old ++ id ∷ []) }
     {
         let id = self.id(alloc, k)?;
-        if earlier.contains(&id) {
+        if !keys.add(&id)? {
             return Err(self.fault(TableCode::DoubledIdentifier));
         }
         Ok(id)

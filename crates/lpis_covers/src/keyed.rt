@@ -1,13 +1,12 @@
 //! Rows by their own identifiers.
 
-ghost use Rattle.std.specs.Prelude.{◌≡◌, ◌≤◌, ◌<◌, ◌++◌, ◌∷◌, [], map, length, false, IfSome, OnOk, Some, is_some, position, slice_get};
+ghost use Rattle.std.specs.Prelude.{◌≡◌, ◌≤◌, map, length, IfSome, Some, is_some, position, slice_get};
 ghost use Rattle.std.specs.List.{IsDistinct};
 ghost use Rattle.lpis_covers.specs.Ids.{has_id, same_id};
 ghost use Rattle.lpis_covers.specs.Table.{most_rows};
 
 use crate::id::Id;
-use indexmap::IndexSet;
-use std::alloc::{AllocError, Global};
+use crate::keys::Keys;
 use std::marker::Model;
 
 /// A row that has an identifier of its own.
@@ -26,7 +25,7 @@ pub trait Identified {
 #[derive(Drop)]
 pub struct Keyed<T: Identified> {
     rows: Vec<T>,
-    ids: IndexSet<Id>,
+    keys: Keys,
 }
 
 impl<T: Identified> Model for Keyed<T> {
@@ -37,36 +36,18 @@ impl<T: Identified> Model for Keyed<T> {
 
     ghost view = { λ k. k.rows.items };
 
-    ghost invariant = { λ k. IsKeyed T.identifier k.ids.keys k.rows.items };
+    ghost invariant = { λ k. IsKeyed T.identifier k.keys k.rows.items };
 }
 
 impl<T: Identified> Keyed<T> {
-    /// No rows.
-    pub(crate) fn new(alloc: Global) -> Keyed<T>
-        ensures { result ≡ [] }
+    /// These rows, whose identifiers are the keys.
+    pub(crate) fn of(rows: Vec<T>, keys: Keys) -> Keyed<T>
+        requires same { keys ≡ map T.identifier rows.items }
+        requires few { length rows.items ≤ most_rows }
+        ensures { result ≡ rows.items }
     {
-        Keyed {
-            rows: Vec::new(alloc),
-            ids: IndexSet::new(alloc),
-        }
-    }
-
-    /// Adds a row after the others.
-    pub(crate) fn push(&mut self, row: T) -> Result<(), AllocError>
-    where
-        T: Drop,
-        requires room { length self.old < most_rows }
-        requires fresh { has_id (map T.identifier self.old) (T.identifier row) ≡ false }
-        ensures { OnOk result (self.new ≡ self.old ++ row ∷ []) }
-    {
-        let id = row.id().copy()?;
-        self.rows.reserve(1)?;
-        self.ids.insert(id)?;
-        match self.rows.push(row) {
-            Ok(()) => Ok(()),
-            // The room was made before.
-            Err(_) => unreachable!(),
-        }
+        let _count = keys.len();
+        Keyed { rows, keys }
     }
 
     /// The rows in the order of the table.
@@ -75,7 +56,6 @@ impl<T: Identified> Keyed<T> {
         ensures distinct { IsDistinct same_id (map T.identifier self.now) }
         ensures few { length self.now ≤ most_rows }
     {
-        let _count = self.ids.len();
         self.rows.as_slice()
     }
 
@@ -85,13 +65,6 @@ impl<T: Identified> Keyed<T> {
         ensures found { is_some result ≡ has_id (map T.identifier self.now) id.now }
         ensures at_place { IfSome result (λ i. slice_get (map T.identifier self.now) i ≡ Some id.now) }
     {
-        self.ids.get_index_of(id)
-    }
-
-    /// Whether a row has this identifier.
-    pub fn contains(&self, id: &Id) -> bool
-        ensures { result ≡ has_id (map T.identifier self.now) id.now }
-    {
-        self.ids.contains(id)
+        self.keys.position(id)
     }
 }

@@ -40,10 +40,11 @@ impl TableRow for Piece {
     ghost use Rattle.std.specs.Prelude.{refl};
     ghost use Rattle.lpis_covers.specs.declared.fault.Table.TheVariants as table;
     ghost use Rattle.lpis_covers.specs.Covers.{covers_table, more_piece_faults};
-    ghost use Rattle.lpis_covers.specs.FreshKeys.{fresh_key};
     ghost use Rattle.lpis_covers.specs.Table.{field_of};
 
     ghost kind = { covers_table };
+
+    ghost others = { more_piece_faults };
 
     fn table() -> Table {
         Table::Covers
@@ -53,12 +54,7 @@ impl TableRow for Piece {
         &[b"piece", b"parcel", b"class", b"wkt"]
     }
 
-    fn read(
-        alloc: Global,
-        reader: &TableReader<'_>,
-        earlier: &Keyed<Piece>,
-    ) -> Result<Piece, TableFault> {
-        let id = reader.key(alloc, 0, earlier)?;
+    fn read(alloc: Global, reader: &TableReader<'_>, id: Id) -> Result<Piece, TableFault> {
         let parcel = reader.id(alloc, 1)?;
         let class = reader.id(alloc, 2)?;
         let polygon = reader.polygon(alloc, 3)?;
@@ -72,7 +68,7 @@ impl TableRow for Piece {
 
     ghost key_is_first = { λ row. refl };
 
-    ghost key_is_fresh = { λ keys n row none. fresh_key table.Covers n keys (field_of row 0) (more_piece_faults n row) none };
+    ghost key_is_tested_first = { λ keys n row. refl };
 }
 
 /// The pieces of the table `covers`, with the columns `piece`, `parcel`, `class` and `wkt`, or its first fault.

@@ -4,18 +4,22 @@ ghost use Rattle.lpis_covers.specs.Faults.{rows_of};
 ghost use Rattle.lpis_covers.specs.Table.{Answers};
 
 use crate::fault::{Table, TableFault};
+use crate::id::Id;
 use crate::keyed::{Identified, Keyed};
+use crate::keys::Keys;
 use crate::reader::TableReader;
 use std::alloc::Global;
 
 /// A row that is read from a table whose first column is its identifier.
 pub trait TableRow: Identified + Drop {
-    ghost use Rattle.std.specs.Prelude.{◌≡◌, List, ℕ, [], false, map};
-    ghost use Rattle.lpis_covers.specs.Faults.{RowsOf, told};
-    ghost use Rattle.lpis_covers.specs.Ids.{has_id};
+    ghost use Rattle.std.specs.Prelude.{◌≡◌, ◌++◌, List, ℕ};
+    ghost use Rattle.lpis_covers.specs.declared.fault.TableFault.{TableFault};
+    ghost use Rattle.lpis_covers.specs.Faults.{RowsOf, key_faults, told};
     ghost use Rattle.lpis_covers.specs.Table.{Answers, Record, field_of, texts};
 
     ghost kind: { RowsOf Self };
+
+    ghost others: { ℕ → Record → List TableFault };
 
     /// The table.
     fn table() -> Table
@@ -25,18 +29,15 @@ pub trait TableRow: Identified + Drop {
     fn columns() -> &'static [&'static [u8]]
         ensures { texts result.now ≡ kind.columns };
 
-    /// The row that was read last, below these rows.
-    fn read(
-        alloc: Global,
-        reader: &TableReader<'_>,
-        earlier: &Keyed<Self>,
-    ) -> Result<Self, TableFault>
-        requires { reader.now.table ≡ kind.table }
-        ensures { Answers result (told (kind.faults (map Self.identifier earlier.now) reader.now.number reader.now.row) (kind.value reader.now.row)) };
+    /// The row that was read last, by its identifier and its other fields.
+    fn read(alloc: Global, reader: &TableReader<'_>, id: Id) -> Result<Self, TableFault>
+        requires table { reader.now.table ≡ kind.table }
+        requires key { id ≡ field_of reader.now.row 0 }
+        ensures { Answers result (told (others reader.now.number reader.now.row) (kind.value reader.now.row)) };
 
     ghost key_is_first: { (row : Record) → Self.identifier (kind.value row) ≡ field_of row 0 };
 
-    ghost key_is_fresh: { (keys : List (List ℕ)) (n : ℕ) (row : Record) → kind.faults keys n row ≡ [] → has_id keys (field_of row 0) ≡ false };
+    ghost key_is_tested_first: { (keys : List (List ℕ)) (n : ℕ) (row : Record) → kind.faults keys n row ≡ key_faults kind.table n keys (field_of row 0) ++ others n row };
 }
 
 /// The rows of a table, by their identifiers in its order. A refusal is the first fault: of row 0; else of a row, in the order
@@ -45,10 +46,12 @@ pub fn read_rows<T: TableRow>(alloc: Global, bytes: &[u8]) -> Result<Keyed<T>, T
     ensures { Answers result (rows_of T.kind bytes.now) }
 {
     let mut reader = TableReader::open(alloc, bytes, T::table(), T::columns())?;
-    let mut rows = Keyed::new(alloc);
+    let mut keys = Keys::new(alloc);
+    let mut rows = Vec::new(alloc);
     'rows: while reader.next_row()? {
-        let row = T::read(alloc, &reader, &rows)?;
+        let id = reader.key(alloc, 0, &mut keys)?;
+        let row = T::read(alloc, &reader, id)?;
         rows.push(row)?;
     }
-    Ok(rows)
+    Ok(Keyed::of(rows, keys))
 }

@@ -32,11 +32,12 @@ impl TableRow for Parcel {
     ghost use Rattle.std.specs.Prelude.{refl};
     ghost use Rattle.lpis_covers.specs.declared.fault.Table.TheVariants as table;
     ghost use Rattle.lpis_covers.specs.Faults.{polygon_faults};
-    ghost use Rattle.lpis_covers.specs.FreshKeys.{fresh_key};
     ghost use Rattle.lpis_covers.specs.Table.{field_of};
     ghost use Rattle.lpis_parcels.specs.Parcels.{parcels_table};
 
     ghost kind = { parcels_table };
+
+    ghost others = { λ n row. polygon_faults table.Parcels n (field_of row 1) };
 
     fn table() -> Table {
         Table::Parcels
@@ -46,19 +47,14 @@ impl TableRow for Parcel {
         &[b"parcel", b"wkt"]
     }
 
-    fn read(
-        alloc: Global,
-        reader: &TableReader<'_>,
-        earlier: &Keyed<Parcel>,
-    ) -> Result<Parcel, TableFault> {
-        let id = reader.key(alloc, 0, earlier)?;
+    fn read(alloc: Global, reader: &TableReader<'_>, id: Id) -> Result<Parcel, TableFault> {
         let polygon = reader.polygon(alloc, 1)?;
         Ok(Parcel { id, polygon })
     }
 
     ghost key_is_first = { λ row. refl };
 
-    ghost key_is_fresh = { λ keys n row none. fresh_key table.Parcels n keys (field_of row 0) (polygon_faults table.Parcels n (field_of row 1)) none };
+    ghost key_is_tested_first = { λ keys n row. refl };
 }
 
 /// The parcels of the table `parcels`, with the columns `parcel` and `wkt`, or its first fault.

@@ -20,10 +20,11 @@ impl<T> Model for Sequence<T> {
 }
 
 impl<T> Sequence<T> {
-    /// The list of a `Vec`'s items.
-    pub fn new(items: Vec<T>) -> Sequence<T>
+    /// The list of a `Vec`'s items, which keeps no room for more.
+    pub fn new(mut items: Vec<T>) -> Sequence<T>
         ensures { result ≡ items.items }
     {
+        items.shrink_to_fit();
         Sequence { items }
     }
 
