@@ -1,5 +1,5 @@
 -- The answer to a table of polygons: text and status, as a function of the table's bytes.
-use Rattle.std.specs.Prelude.{◌≡◌, ◌∷◌, [], ℕ, List, Option, Result, Ok, Err, codes}
+use Rattle.std.specs.Prelude.{◌≡◌, ◌∷◌, [], ℕ, List, Option, IfSome, Result, Ok, Err, codes}
 use Rattle.std.specs.List.{flat_map}
 use Rattle.std.specs.Io.KnownBytes.{Appends}
 use Rattle.lpis_rings.specs.declared.polygon.Member.{Member}
@@ -32,6 +32,10 @@ answer_from (Err fault) = (refusal_text fault, unreadable)
 
 abbrev pub answer_of : List ℕ → List ℕ × ℕ
 answer_of bytes = answer_from (rows_of area_table bytes)
+
+-- an input is what its reader told, as far as that is known
+abbrev pub IsRead : List ℕ → Option (List ℕ) → Type 0
+IsRead input told = IfSome told (λ bytes. input ≡ bytes)
 
 -- the run answered with this status, and wrote the text
 abbrev pub Answers : List ℕ → ℕ → Option (List ℕ) → Option (List ℕ) → Type 0

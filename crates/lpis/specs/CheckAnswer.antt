@@ -1,5 +1,5 @@
 -- The answer to three tables and a certificate: text and status, of the bytes of the four.
-use Rattle.std.specs.Prelude.{◌≡◌, ◌⊎◌, ℕ, List, Option, IfSome, Result, Ok, Err}
+use Rattle.std.specs.Prelude.{◌≡◌, ◌⊎◌, ℕ, List, Option, Result, Ok, Err}
 use Rattle.std.specs.Io.KnownBytes.{Appends}
 use Rattle.lpis_covers.specs.declared.fault.TableFault.{TableFault}
 use Rattle.lpis_parcels.specs.Release.{Contents, release_of}
@@ -14,6 +14,7 @@ use Rattle.lpis_checker.specs.declared.fault.CheckFault.TheVariants as check
 use Rattle.lpis_checker.specs.FirstFault.{IsFault, place_of}
 use Rattle.lpis_checker.specs.GoodCertificate.{IsGood}
 use Rattle.lpis_checker.specs.SoundMap.{IsSoundMap}
+use Rattle.lpis.specs.AreaAnswer.{IsRead}
 use Rattle.lpis.specs.Refusals.{cert_refusal_text, check_refusal_text, refusal_text}
 use Rattle.lpis.specs.Report.{report_text}
 use Rattle.lpis.specs.Status.{done, refused, unreadable}
@@ -64,10 +65,10 @@ pub record IsProved (x : Inputs) : Type 0 where
 
 -- the inputs are what four readers told, as far as it is known
 pub record AreRead (x : Inputs) (parcels covers classes cert : Option (List ℕ)) : Type 0 where
-  pub of_parcels : IfSome parcels (λ bytes. x.parcels ≡ bytes)
-  pub of_covers : IfSome covers (λ bytes. x.covers ≡ bytes)
-  pub of_classes : IfSome classes (λ bytes. x.classes ≡ bytes)
-  pub of_cert : IfSome cert (λ bytes. x.cert ≡ bytes)
+  pub of_parcels : IsRead x.parcels parcels
+  pub of_covers : IsRead x.covers covers
+  pub of_classes : IsRead x.classes classes
+  pub of_cert : IsRead x.cert cert
 
 -- the run of these inputs answered with this status, and wrote the text; a yes comes only for a release that is a sound map, and a
 -- certificate that is good for it

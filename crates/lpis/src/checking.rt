@@ -16,10 +16,11 @@ ghost use Rattle.lpis.specs.Status.{done, refused, unreadable};
 ghost use Rattle.lpis.specs.declared.failure.Failure.{Failure};
 ghost use Rattle.lpis.specs.declared.failure.Name.{Name};
 
+use crate::answer::Answer;
 use crate::failure::{Failure, Name};
-use crate::refusal::{print_cert_fault, print_check_fault, print_table_fault};
+use crate::reading::read_input;
+use crate::refusal::{print_cert_fault, print_check_fault};
 use crate::report::write_report;
-use crate::running::read_input;
 use crate::status::{DONE, REFUSED, UNREADABLE};
 use lpis_cert::{Cert, CertFault, read_cert};
 use lpis_checker::{CheckFault, Yes, check};
@@ -36,27 +37,6 @@ struct InputBytes {
     covers: Vec<u8>,
     classes: Vec<u8>,
     cert: Vec<u8>,
-}
-
-/// What a run prints, and the status that it ends with.
-#[derive(Drop)]
-struct Answer {
-    text: Vec<u8>,
-    status: u8,
-}
-
-/// The line of refused tables.
-fn refuse_tables(alloc: Global, fault: &TableFault) -> Result<Answer, AllocError>
-    ensures { IfOk result (λ a. (a.text.items ≡ refusal_text fault.now) × (a.status ≡ unreadable)) }
-{
-    let mut text = Vec::new(alloc);
-    match print_table_fault(fault, &mut text) {
-        Ok(()) => Ok(Answer {
-            text,
-            status: UNREADABLE,
-        }),
-        Err(_) => Err(AllocError),
-    }
 }
 
 /// The line of a text that is no certificate.
@@ -137,7 +117,7 @@ fn answer_to(alloc: Global, inputs: &InputBytes) -> Result<Answer, AllocError>
     match read_release(alloc, parcels, covers, classes) {
         Ok(release) => answer_to_text(alloc, &release, inputs.cert.as_slice()),
         Err(TableFault::Memory) => Err(AllocError),
-        Err(fault) => refuse_tables(alloc, &fault),
+        Err(fault) => Answer::refuse_table(alloc, &fault),
     }
 }
 
@@ -183,8 +163,5 @@ pub fn run_check<P: Read + Drop, C: Read + Drop, K: Read + Drop, E: Read + Drop,
 {
     let inputs = read_inputs(alloc, parcels, covers, classes, cert)?;
     let answer = answer_to(alloc, &inputs)?;
-    match out.write_all(answer.text.as_slice()) {
-        Ok(()) => Ok(answer.status),
-        Err(_) => Err(Failure::Write(Name::Out)),
-    }
+    answer.write_to(out)
 }

@@ -1,6 +1,7 @@
 //! The release checker of a Land Parcel Identification System.
 #![tactic(auto)]
 
+mod answer;
 pub mod checking;
 pub mod command;
 pub mod failure;

@@ -1,8 +1,11 @@
 //! Reading all of an input.
 
-ghost use Rattle.std.specs.Prelude.{◌≡◌, ◌≤◌, ◌<◌, length, IfSome, IfOk, IsErrOf, vec_len};
+ghost use Rattle.std.specs.Prelude.{◌≡◌, ◌≤◌, ◌<◌, length, IfSome, IfOk, IfErr, IsErrOf, vec_len};
+ghost use Rattle.lpis.specs.AreaAnswer.{IsRead};
+ghost use Rattle.lpis.specs.Failures.{IsUnread};
 ghost use Rattle.lpis.specs.declared.reading.ReadFault.{ReadFault};
 
+use crate::failure::{Failure, Name};
 use std::alloc::Global;
 use std::io::{ErrorKind, Read};
 use thiserror::Error;
@@ -81,4 +84,20 @@ fn read_by<R: Read + Drop>(
         }
     }
     Err(ReadFault::Read)
+}
+
+/// All bytes of an input.
+pub(crate) fn read_input<R: Read + Drop>(
+    alloc: Global,
+    reader: R,
+    name: Name,
+) -> Result<Vec<u8>, Failure>
+    ensures all { IfOk result (λ v. IsRead v.items (R.remaining reader)) }
+    ensures failure { IfErr result (IsUnread name) }
+{
+    match read_all(alloc, reader, GREATEST_LIMIT) {
+        Ok(bytes) => Ok(bytes),
+        Err(ReadFault::Memory) => Err(Failure::Memory),
+        Err(_) => Err(Failure::Read(name)),
+    }
 }
