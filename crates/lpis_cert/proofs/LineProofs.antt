@@ -1,8 +1,9 @@
 -- What a line says, and its spelling.
+use Rattle.std.specs.Str.{bytes_eq}
+use Rattle.std.proofs.lemmas.Slice.Eq.{bytes_eq-Decides}
 use Rattle.std.proofs.Common.{◌≡◌, ℕ, ◌+◌, ◌≤◌, Bool, true, false, cond, ◌&&◌, List, [], ◌∷◌, length, Option, Some, None, Result, Ok, Err, refl, sym, ap, subst, ◌∙◌, arith, eqb, ℤ}
-use Rattle.std.proofs.lemmas.Bool.{eqb-true}
 use Rattle.std.proofs.lemmas.List.Splits.{join_with_byte-slice_split}
-use Rattle.std.specs.Prelude.{codes, nat_eq}
+use Rattle.std.specs.Prelude.{codes}
 use Rattle.std.specs.List.{list_any, join_with_byte, AllByRecursion}
 use Rattle.std.specs.Fmt.{decimal, signed_decimal}
 use Rattle.lpis_covers.specs.Ids.{is_id}
@@ -15,7 +16,7 @@ use Rattle.lpis_cert.specs.declared.kind.Kind.TheVariants.{Piece, Triangle, Flat
 use Rattle.lpis_cert.specs.declared.kind.Expected.{Expected}
 use Rattle.lpis_cert.specs.CertText.{Corners, Separator, Line, PieceLine, TriangleLine, FlatLine, ParcelLine, PairsLine, PairLine, EndLine, words_of, corner_words, spelling}
 use Rattle.lpis_cert.specs.Fitting.{CornersFit, SeparatorFits, LineFits}
-use Rattle.lpis_cert.specs.Reading.{◌>>=◌, ◌>>?◌, is_empty, words, is_word, kind_of, word_count, first_is_id, names, form, can_stand, front, last, natural, number, coordinate, point, corners, separator, piece_line, parcel_line, pairs_line, values, with_form, or_number, placed, read_line}
+use Rattle.lpis_cert.specs.Reading.{◌>>=◌, ◌>>?◌, is_empty, words, kind_of, word_count, first_is_id, names, form, can_stand, front, last, natural, number, coordinate, point, corners, separator, piece_line, parcel_line, pairs_line, values, with_form, or_number, placed, read_line}
 use Rattle.lpis_cert.specs.Kinds.{line_kind}
 use Rattle.lpis_cert.proofs.Numbers.{opened, both, number_again, number_takes, coordinate_again, coordinate_takes}
 use Rattle.lpis_cert.proofs.WordProofs.{IsWordText, none_empty, kind_word, fields, words_are, field_words, spelling_words}
@@ -87,11 +88,8 @@ read_again e l fits can = rw (spelling_words l fits, form_again (line_kind l) (f
 
 -- ---- what is read was written so
 
-pub word_is : (w text : List ℕ) → is_word w text ≡ true → w ≡ text
-word_is [] [] h = refl
-word_is [] (b ∷ bs) h = absurd cc
-word_is (a ∷ as') [] h = absurd cc
-word_is (a ∷ as') (b ∷ bs) h = let t = both (nat_eq a b) (is_word as' bs) h in let e = eqb-true a b t.0 in let f = word_is as' bs t.1 in rw (e, f) refl
+pub word_is : (w text : List ℕ) → bytes_eq w text ≡ true → w ≡ text
+word_is w text h = (bytes_eq-Decides w text).0 h
 
 pub bind_ok : {A B E : Type 0} (r : Result A E) (f : A → Result B E) (y : B) → (r >>= f) ≡ Ok y → (x : A) × (r ≡ Ok x) × (f x ≡ Ok y)
 bind_ok (Ok x) f y e = (x, refl, e)
@@ -114,13 +112,13 @@ kind_takes w k h =
     (chosen w k Piece _
     (chosen w k Parcel _
     (chosen w k Pairs _
-    (chosen w k End None (λ none. absurd (nothing none)) (is_word w (codes "end")) (word_is w (codes "end")))
-    (is_word w (codes "pairs")) (word_is w (codes "pairs")))
-    (is_word w (codes "parcel")) (word_is w (codes "parcel")))
-    (is_word w (codes "piece")) (word_is w (codes "piece")))
-    (is_word w (codes "s")) (word_is w (codes "s")))
-    (is_word w (codes "f")) (word_is w (codes "f")))
-    (is_word w (codes "t")) (word_is w (codes "t")) h
+    (chosen w k End None (λ none. absurd (nothing none)) (bytes_eq w (codes "end")) (word_is w (codes "end")))
+    (bytes_eq w (codes "pairs")) (word_is w (codes "pairs")))
+    (bytes_eq w (codes "parcel")) (word_is w (codes "parcel")))
+    (bytes_eq w (codes "piece")) (word_is w (codes "piece")))
+    (bytes_eq w (codes "s")) (word_is w (codes "s")))
+    (bytes_eq w (codes "f")) (word_is w (codes "f")))
+    (bytes_eq w (codes "t")) (word_is w (codes "t")) h
   where
     nothing : ◌≡◌ {A = Option Kind} None (Some k) → ⊥
     nothing e = cc e

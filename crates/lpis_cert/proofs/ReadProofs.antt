@@ -1,4 +1,5 @@
 -- The first line, and the whole text.
+use Rattle.std.specs.Str.{bytes_eq}
 use Rattle.std.proofs.Common.{◌≡◌, ℕ, ◌+◌, ◌≤◌, true, false, List, [], ◌∷◌, ◌++◌, length, map, Ok, Err, refl, sym, ap, ◌∙◌, arith}
 use Rattle.std.specs.Prelude.{sum_by}
 use Rattle.std.proofs.lemmas.List.{append-nil}
@@ -11,7 +12,6 @@ use Rattle.lpis_cert.specs.Versions.{first_line, written}
 use Rattle.lpis_cert.specs.Limits.{most_triangles, most_flats}
 use Rattle.lpis_cert.specs.CertText.{PieceBlock, ParcelBlock, Content, Line, PieceLine, ParcelLine, TriangleLine, FlatLine, text_of, text_of_lines, lines_of, piece_lines, parcel_lines, end_lines}
 use Rattle.lpis_cert.specs.Fitting.{PieceFits, ParcelFits, Fits}
-use Rattle.lpis_cert.specs.Reading.{is_word}
 use Rattle.lpis_cert.specs.Faults.{lines, outcome, at_last, step, Place, AtVersion, InBody, AtEnd, Declared, none_declared, grow, grow_flats, verdict}
 use Rattle.lpis_cert.specs.Taken.{TakesLine, Follows}
 use Rattle.lpis_cert.specs.Drafts.{Grown, Whole, pieces_lines, parcels_lines}
@@ -24,11 +24,11 @@ pub no_line : (n : ℕ) (text : List ℕ) → lines text ≡ text ∷ [] → out
 unfolding outcome at_last
 no_line n text h = rw h refl
 
-pub other_version : (text : List ℕ) (n : ℕ) (line rest : List ℕ) (m : ℕ) → TakesLine text n line rest m → is_word line (first_line written) ≡ false → outcome n AtVersion (lines text) ≡ Err (code.Version, n)
+pub other_version : (text : List ℕ) (n : ℕ) (line rest : List ℕ) (m : ℕ) → TakesLine text n line rest m → bytes_eq line (first_line written) ≡ false → outcome n AtVersion (lines text) ≡ Err (code.Version, n)
 unfolding step
 other_version text n line rest m t h = step_err n AtVersion code.Version text line rest t.split (rw h refl)
 
-pub this_version : (text : List ℕ) (n : ℕ) (line rest : List ℕ) (m : ℕ) → TakesLine text n line rest m → is_word line (first_line written) ≡ true → (text ≡ first_line written ++ (10 ∷ rest)) × (outcome n AtVersion (lines text) ≡ outcome m (InBody stage.Pieces 0 0 none_declared) (lines rest))
+pub this_version : (text : List ℕ) (n : ℕ) (line rest : List ℕ) (m : ℕ) → TakesLine text n line rest m → bytes_eq line (first_line written) ≡ true → (text ≡ first_line written ++ (10 ∷ rest)) × (outcome n AtVersion (lines text) ≡ outcome m (InBody stage.Pieces 0 0 none_declared) (lines rest))
 unfolding step
 this_version text n line rest m t h =
     let next = t.next in

@@ -1,4 +1,5 @@
 -- The first fault of a text, line by line.
+use Rattle.std.specs.Str.{bytes_eq}
 use Rattle.std.specs.Prelude.{◌≡◌, ℕ, zero, suc, ◌+◌, Bool, cond, ◌&&◌, ◌==◌, List, [], ◌∷◌, length, Result, Ok, Err, nat_le}
 use Rattle.std.specs.List.{slice_split}
 use Rattle.lpis_cert.specs.declared.kind.Stage.{Stage}
@@ -12,7 +13,7 @@ use Rattle.lpis_cert.specs.declared.kind.Expected.TheVariants.{One, Block}
 use Rattle.lpis_cert.specs.CertText.{Line, PieceLine, ParcelLine, PairsLine}
 use Rattle.lpis_cert.specs.Limits.{most_triangles, most_flats}
 use Rattle.lpis_cert.specs.Versions.{first_line, written}
-use Rattle.lpis_cert.specs.Reading.{◌>>=◌, is_word, read_line}
+use Rattle.lpis_cert.specs.Reading.{◌>>=◌, read_line}
 
 -- the triangles and the flats declared so far
 pub record Declared : Type 0 where
@@ -48,7 +49,7 @@ open_block d _ = Err code.BadPlace
 
 -- the place after a line, or the line's fault
 unfoldable pub step : Place → List ℕ → Result Place CertCode
-step AtVersion line = cond (is_word line (first_line written)) (Ok (InBody stage.Pieces 0 0 none_declared)) (Err code.Version)
+step AtVersion line = cond (bytes_eq line (first_line written)) (Ok (InBody stage.Pieces 0 0 none_declared)) (Err code.Version)
 step (InBody b (suc t) f d) line = read_line written (One kind.Triangle) line >>= λ _. Ok (InBody b t f d)
 step (InBody b zero (suc f) d) line = read_line written (One kind.Flat) line >>= λ _. Ok (InBody b zero f d)
 step (InBody b zero zero d) line = read_line written (Block b) line >>= open_block d

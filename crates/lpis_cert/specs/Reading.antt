@@ -1,8 +1,8 @@
 -- What one line says, or its fault.
-use Rattle.std.specs.Prelude.{ℕ, zero, suc, ◌+◌, ◌*◌, Bool, true, false, cond, ◌&&◌, ◌==◌, List, [], ◌∷◌, length, ℤ, pos, neg_ℤ, Option, Some, None, Result, Ok, Err, codes, nat_le, nat_eq}
+use Rattle.std.specs.Prelude.{ℕ, zero, suc, ◌+◌, ◌*◌, Bool, true, false, cond, ◌&&◌, ◌==◌, List, [], ◌∷◌, length, ℤ, pos, neg_ℤ, Option, Some, None, Result, Ok, Err, codes, nat_le}
 use Rattle.std.specs.List.{slice_split, list_any}
 use Rattle.std.specs.Char.{is_ascii_digit, digit_value}
-use Rattle.std.specs.Cmp.Lexicographic.{pointwise}
+use Rattle.std.specs.Str.{bytes_eq}
 use Rattle.lpis_covers.specs.Ids.{is_id}
 use Rattle.lpis_cert.specs.declared.kind.Stage.TheVariants as stage
 use Rattle.lpis_cert.specs.declared.fault.CertCode.{CertCode}
@@ -63,18 +63,15 @@ is_gap b = b == 32
 abbrev pub words : List ℕ → List (List ℕ)
 words line = slice_split is_gap line
 
-abbrev pub is_word : List ℕ → List ℕ → Bool
-is_word w text = pointwise nat_eq w text
-
 unfoldable pub kind_of : List ℕ → Option Kind
 kind_of w =
-    cond (is_word w (codes "t")) (Some Triangle)
-    (cond (is_word w (codes "f")) (Some Flat)
-    (cond (is_word w (codes "s")) (Some Pair)
-    (cond (is_word w (codes "piece")) (Some Piece)
-    (cond (is_word w (codes "parcel")) (Some Parcel)
-    (cond (is_word w (codes "pairs")) (Some Pairs)
-    (cond (is_word w (codes "end")) (Some End) None))))))
+    cond (bytes_eq w (codes "t")) (Some Triangle)
+    (cond (bytes_eq w (codes "f")) (Some Flat)
+    (cond (bytes_eq w (codes "s")) (Some Pair)
+    (cond (bytes_eq w (codes "piece")) (Some Piece)
+    (cond (bytes_eq w (codes "parcel")) (Some Parcel)
+    (cond (bytes_eq w (codes "pairs")) (Some Pairs)
+    (cond (bytes_eq w (codes "end")) (Some End) None))))))
 
 -- how many words a line of this kind has
 abbrev pub word_count : Kind → ℕ

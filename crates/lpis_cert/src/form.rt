@@ -1,36 +1,30 @@
 //! The form of a line.
 
 ghost use Rattle.std.specs.Prelude.{◌≡◌, option_map, IfOk, IfErr, Ok, Err};
-ghost use Rattle.lpis_cert.specs.Reading.{form, is_word, kind_of as kind_named, words, word_count as count_of_words, names as named_right, can_stand as may_stand, same_kind as same, placed as placed_line};
+ghost use Rattle.lpis_cert.specs.Reading.{form, kind_of as kind_named, words, word_count as count_of_words, names as named_right, can_stand as may_stand, placed as placed_line};
 
 use crate::fault::CertCode;
 use crate::kind::{Expected, Kind, Stage};
 use crate::words::{Words, count};
 use lpis_covers::is_id_text;
 
-pub(crate) fn is_word(word: &[u8], text: &[u8]) -> bool
-    ensures { result ≡ is_word word.now text.now }
-{
-    word == text
-}
-
 #[tactic(auto, unfolding(crate::specs::Reading::kind_of))]
 fn kind_of(word: &[u8]) -> Option<Kind>
     ensures { result ≡ kind_named word.now }
 {
-    if is_word(word, b"t") {
+    if word == b"t".as_slice() {
         Some(Kind::Triangle)
-    } else if is_word(word, b"f") {
+    } else if word == b"f".as_slice() {
         Some(Kind::Flat)
-    } else if is_word(word, b"s") {
+    } else if word == b"s".as_slice() {
         Some(Kind::Pair)
-    } else if is_word(word, b"piece") {
+    } else if word == b"piece".as_slice() {
         Some(Kind::Piece)
-    } else if is_word(word, b"parcel") {
+    } else if word == b"parcel".as_slice() {
         Some(Kind::Parcel)
-    } else if is_word(word, b"pairs") {
+    } else if word == b"pairs".as_slice() {
         Some(Kind::Pairs)
-    } else if is_word(word, b"end") {
+    } else if word == b"end".as_slice() {
         Some(Kind::End)
     } else {
         None
@@ -51,26 +45,11 @@ fn word_count(kind: Kind) -> usize
     }
 }
 
-fn same_kind(a: Kind, b: Kind) -> bool
-    ensures { result ≡ same a b }
-{
-    matches!(
-        (a, b),
-        (Kind::Piece, Kind::Piece)
-            | (Kind::Triangle, Kind::Triangle)
-            | (Kind::Flat, Kind::Flat)
-            | (Kind::Parcel, Kind::Parcel)
-            | (Kind::Pairs, Kind::Pairs)
-            | (Kind::Pair, Kind::Pair)
-            | (Kind::End, Kind::End)
-    )
-}
-
 fn can_stand(expected: Expected, kind: Kind) -> bool
     ensures { result ≡ may_stand expected kind }
 {
     match expected {
-        Expected::One(wanted) => same_kind(wanted, kind),
+        Expected::One(wanted) => wanted == kind,
         Expected::Block(stage) => match kind {
             Kind::Piece => matches!(stage, Stage::Pieces),
             Kind::Parcel | Kind::Pairs => true,

@@ -4,7 +4,7 @@ ghost use Rattle.std.specs.Prelude.{◌≡◌, ◌∷◌, ◌++◌, [], length, 
 ghost use Rattle.lpis_cert.specs.declared.kind.Stage.TheVariants.{Pieces};
 ghost use Rattle.lpis_cert.specs.CertText.{text_of_lines, lines_of};
 ghost use Rattle.lpis_cert.specs.Versions.{first_line, written};
-ghost use Rattle.lpis_cert.specs.Reading.{is_word as is_word_lem};
+ghost use Rattle.std.specs.Str.{bytes_eq};
 ghost use Rattle.lpis_cert.specs.Faults.{AtVersion, InBody, lines, outcome, verdict, IsFirstFault, none_declared};
 ghost use Rattle.lpis_cert.specs.Taken.{FaultFrom};
 ghost use Rattle.lpis_cert.specs.Contents.{cert_text, content_of};
@@ -14,7 +14,6 @@ use crate::blocks::next_block;
 use crate::cert::Cert;
 use crate::draft::{Draft, Progress};
 use crate::fault::{CertCode, CertFault};
-use crate::form::is_word;
 use crate::kind::Stage;
 use crate::rest::{Rest, front_line};
 use crate::version::Version;
@@ -22,9 +21,9 @@ use std::alloc::Global;
 
 /// Whether a line names the version that is read.
 fn is_first_line(line: &[u8]) -> bool
-    ensures { result ≡ is_word_lem line.now (first_line written) }
+    ensures { result ≡ bytes_eq line.now (first_line written) }
 {
-    is_word(line, Version::One.first_line().as_bytes())
+    line == Version::One.first_line().as_bytes()
 }
 
 /// What comes after the first line.

@@ -1,4 +1,4 @@
-use Rattle.std.proofs.Common.{map, refl, sym, ◌∙◌}
+use Rattle.std.proofs.Common.{refl}
 use Rattle.std.proofs.lemmas.Result.{err_from_is_err_and}
 use Rattle.lpis_covers.proofs.RowsRead.{rows-end, rows-key-fault, rows-other-fault, rows-push, rows-start, rows-stop}
 use Rattle.lpis_covers.proofs.typed.read_rows.Goals as goal
