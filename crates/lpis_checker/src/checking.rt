@@ -11,7 +11,7 @@ ghost use Rattle.lpis_checker.specs.declared.condition.Condition.TheVariants.{Na
 
 use crate::condition::Failing;
 use crate::fault::CheckFault;
-use crate::first_fault::{first_fault, numbered, part_fault, place_of};
+use crate::first_fault::{first_fault, part_fault, place_of};
 use crate::locating::{parcel_at, piece_at};
 use lpis_cert::Cert;
 use lpis_covers::Id;
@@ -44,8 +44,7 @@ pub fn check_parts(alloc: Global, release: &Release, cert: &Cert) -> Result<(), 
     ensures fault { IfErr result (Tells release.now cert.now) }
     ensures parts { IfErr result IsOfParts }
 {
-    let triangles = numbered(alloc, cert)?;
-    match part_fault(alloc, release, cert, triangles.len())? {
+    match part_fault(alloc, release, cert)? {
         Some(found) => Err(told(release, cert, &found)?),
         None => Ok(()),
     }
