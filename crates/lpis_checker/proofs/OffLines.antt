@@ -17,7 +17,7 @@ use Rattle.lpis_cert.specs.declared.cert.Cert.{Cert}
 use Rattle.lpis_checker.specs.declared.condition.Condition.TheVariants.{Names, Triangles, Turned, Flats, Corners, PieceEdges, ParcelEdges}
 use Rattle.lpis_checker.specs.declared.condition.Site.TheVariants.{PieceAt}
 use Rattle.lpis_checker.specs.Corners.{all_corners, corners_of, corners_of_pieces}
-use Rattle.lpis_checker.specs.GoodCertificate.{HaveCorners, HoldsEverywhere}
+use Rattle.lpis_checker.specs.GoodCertificate.{HasCorners, HaveCorners, HoldsEverywhere}
 use Rattle.lpis_checker.specs.SoundMap.{IsOffLines}
 use Rattle.lpis_checker.specs.TurnsAdd.{TurnsAdd, turns_of_pieces}
 use Rattle.lpis_checker.proofs.Sums.{total, all_at, all_from}
@@ -46,22 +46,20 @@ corner_of_release : (r : Contents) (k : ℕ) (x : Piece) (a : Point) → slice_g
 corner_of_release r k x a e h = Contains-append_right (flat_map (λ (y : Parcel). corners_of y.polygon) r.parcels) (corners_of_pieces r.pieces) a (corner_of_pieces r.pieces k x a e h)
 
 -- ---- triangles with corners of the release
-abbrev HasCorners : List Point → Triangle → Type 0
-HasCorners points t = Contains points t.a × Contains points t.b × Contains points t.c
-
 off_triangle : (r : Contents) (p : RationalPoint) → IsOffLines r p → (t : Triangle) → HasCorners (all_corners r) t → t.a ≢ t.b → t.b ≢ t.c → t.c ≢ t.a → IsOffItsLines t p
+unfolding HasCorners
 off_triangle r p off t h ab bc ca = record {
   ab = off t.a t.b h.0 h.1 ab;
   bc = off t.b t.c h.1 h.2 bc;
   ca = off t.c t.a h.2 h.0 ca;
 }
 
-off_turned : (r : Contents) (p : RationalPoint) → IsOffLines r p → (ts : List Triangle) → All (HasCorners (all_corners r)) ts → All IsCounterClockwise ts → All (λ t. IsOffItsLines t p) ts
+off_turned : (r : Contents) (p : RationalPoint) → IsOffLines r p → (ts : List Triangle) → HaveCorners (all_corners r) ts → All IsCounterClockwise ts → All (λ t. IsOffItsLines t p) ts
 off_turned r p off ts h turned = all_from (λ t. IsOffItsLines t p) ts (λ k t e.
     let d = corners_differ t.a t.b t.c (all_at IsCounterClockwise ts k t e turned) in
     off_triangle r p off t (all_at (HasCorners (all_corners r)) ts k t e h) d.ab d.bc d.ca)
 
-off_flat : (r : Contents) (p : RationalPoint) → IsOffLines r p → (ts : List Triangle) → All (HasCorners (all_corners r)) ts → All IsFlat ts → All (λ t. IsOffItsLines t p) ts
+off_flat : (r : Contents) (p : RationalPoint) → IsOffLines r p → (ts : List Triangle) → HaveCorners (all_corners r) ts → All IsFlat ts → All (λ t. IsOffItsLines t p) ts
 off_flat r p off ts h flat = all_from (λ t. IsOffItsLines t p) ts (λ k t e.
     let d = all_at IsFlat ts k t e flat in
     off_triangle r p off t (all_at (HasCorners (all_corners r)) ts k t e h) d.ab d.bc d.ca)
@@ -72,9 +70,10 @@ turns_total [] p = refl
 turns_total (x ∷ xs) p = ap (λ (z : ℤ). turns x.polygon p +ℤ z) (turns_total xs p)
 
 in_release : (r : Contents) (k : ℕ) (x : Piece) → slice_get r.pieces k ≡ Some x → (t : Triangle) → HasCorners (corners_of x.polygon) t → HasCorners (all_corners r) t
+unfolding HasCorners
 in_release r k x e t h = (corner_of_release r k x t.a e h.0, corner_of_release r k x t.b e h.1, corner_of_release r k x t.c e h.2)
 
-all_in_release : (r : Contents) (k : ℕ) (x : Piece) → slice_get r.pieces k ≡ Some x → (ts : List Triangle) → HaveCorners (corners_of x.polygon) ts → All (HasCorners (all_corners r)) ts
+all_in_release : (r : Contents) (k : ℕ) (x : Piece) → slice_get r.pieces k ≡ Some x → (ts : List Triangle) → HaveCorners (corners_of x.polygon) ts → HaveCorners (all_corners r) ts
 all_in_release r k x e ts h = all_from (HasCorners (all_corners r)) ts (λ m t f. in_release r k x e t (all_at (HasCorners (corners_of x.polygon)) ts m t f h))
 
 pub turns_add : (r : Contents) (c : Cert) → HoldsEverywhere r c Names → HoldsEverywhere r c Triangles → HoldsEverywhere r c Turned → HoldsEverywhere r c Flats → HoldsEverywhere r c Corners → HoldsEverywhere r c PieceEdges → HoldsEverywhere r c ParcelEdges → TurnsAdd r c

@@ -10,9 +10,8 @@ use Rattle.std.proofs.lemmas.List.Sorted.{searchable_from_sorted}
 use Rattle.lpis_points.specs.declared.point.Point.{Point}
 use Rattle.lpis_points.specs.declared.triangle.Triangle.{Triangle}
 use Rattle.lpis_points.proofs.Points.{point_eq}
-use Rattle.lpis_checker.specs.CornerSets.{HasCorners}
 use Rattle.lpis_checker.specs.SignedEdges.{point_order}
-use Rattle.lpis_checker.specs.GoodCertificate.{HaveCorners}
+use Rattle.lpis_checker.specs.GoodCertificate.{HasCorners, HaveCorners}
 use Rattle.lpis_checker.proofs.Grouping.{point_total}
 
 both_equal : (o p : Ordering) → ordering_then o p ≡ Equal → (o ≡ Equal) × (p ≡ Equal)
@@ -61,14 +60,6 @@ found xs x (Err i) s b h = (λ e. absurd (never e), λ w. absurd (unsplit xs x i
     never : false ≡ true → ⊥
     never e = cc
 
--- the corners of triangles, by one word
-have_corners : (points : List Point) (ts : List Triangle) → All (HasCorners points) ts ↔ HaveCorners points ts
-unfolding HasCorners
-have_corners points ts = (λ h. h, λ h. h)
-
-pub all_have : (points : List Point) (ts : List Triangle) (b : Bool) → (IsTrue b ↔ All (HasCorners points) ts) → IsTrue b ↔ HaveCorners points ts
-all_have points ts b h = (λ e. (have_corners points ts).0 (h.0 e), λ w. h.1 ((have_corners points ts).1 w))
-
 all_left : {A : Type 0} (P : A → Type 0) (xs ys : List A) → All P (xs ++ ys) → All P xs
 all_left P xs ys h = λ k d l. All-contains P (xs ++ ys) (get_or xs k d) h (Contains-append_left xs ys (get_or xs k d) (Contains-get_or xs k d l))
 
@@ -76,17 +67,18 @@ all_right : {A : Type 0} (P : A → Type 0) (xs ys : List A) → All P (xs ++ ys
 all_right P xs ys h = λ k d l. All-contains P (xs ++ ys) (get_or ys k d) h (Contains-append_right xs ys (get_or ys k d) (Contains-get_or ys k d l))
 
 -- the corners of two lists of triangles
-pub both_have : (points : List Point) (ts us : List Triangle) (b : Bool) → All (HasCorners points) ts → (IsTrue b ↔ All (HasCorners points) us) → IsTrue b ↔ HaveCorners points (ts ++ us)
-both_have points ts us b h k = all_have points (ts ++ us) b (λ e. All-append (HasCorners points) ts us h (k.0 e), λ w. k.1 (all_right (HasCorners points) ts us w))
+pub both_have : (points : List Point) (ts us : List Triangle) (b : Bool) → HaveCorners points ts → (IsTrue b ↔ HaveCorners points us) → IsTrue b ↔ HaveCorners points (ts ++ us)
+both_have points ts us b h k = (λ e. All-append (HasCorners points) ts us h (k.0 e), λ w. k.1 (all_right (HasCorners points) ts us w))
 
-pub first_lacks : (points : List Point) (ts us : List Triangle) → (All (HasCorners points) ts → ⊥) → IsTrue false ↔ HaveCorners points (ts ++ us)
-first_lacks points ts us h = all_have points (ts ++ us) false (λ e. absurd (never e), λ w. absurd (h (all_left (HasCorners points) ts us w)))
+pub first_lacks : (points : List Point) (ts us : List Triangle) → (HaveCorners points ts → ⊥) → IsTrue false ↔ HaveCorners points (ts ++ us)
+first_lacks points ts us h = (λ e. absurd (never e), λ w. absurd (h (all_left (HasCorners points) ts us w)))
   where
     never : false ≡ true → ⊥
     never e = cc
 
 -- sets of the same points have the same corners
 pub have_same : (points others : List Point) (ts : List Triangle) → ((p : Point) → Contains points p ↔ Contains others p) → HaveCorners points ts ↔ HaveCorners others ts
+unfolding HasCorners
 have_same points others ts h = (
   λ w k d l. let v = w k d l in ((h (get_or ts k d).a).0 v.0, (h (get_or ts k d).b).0 v.1, (h (get_or ts k d).c).0 v.2),
   λ w k d l. let v = w k d l in ((h (get_or ts k d).a).1 v.0, (h (get_or ts k d).b).1 v.1, (h (get_or ts k d).c).1 v.2),

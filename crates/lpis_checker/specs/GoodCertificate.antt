@@ -31,9 +31,13 @@ triangles_of parts = flat_map (λ (t : PiecePart). t.triangles) parts
 abbrev pub edges_of_pieces : List Piece → List (Point × Point)
 edges_of_pieces pieces = flat_map (λ (x : Piece). edges_of x.polygon) pieces
 
--- the corners of triangles are among these points
+-- the corners of a triangle are among these points
+unfoldable pub HasCorners : List Point → Triangle → Type 0
+HasCorners points t = Contains points t.a × Contains points t.b × Contains points t.c
+
+-- so are those of each of these triangles
 abbrev pub HaveCorners : List Point → List Triangle → Type 0
-HaveCorners points ts = All (λ (t : Triangle). Contains points t.a × Contains points t.b × Contains points t.c) ts
+HaveCorners points ts = All (HasCorners points) ts
 
 -- edge k of a triangle has it on the left and another triangle on the right
 abbrev pub EdgeSeparates : ℕ → Triangle → Triangle → Type 0
