@@ -28,7 +28,7 @@ use Rattle.lpis_cert.specs.declared.cert.Cert.{Cert}
 use Rattle.lpis_cert.specs.declared.part.PiecePart.{PiecePart}
 use Rattle.lpis_cert.specs.declared.part.ParcelPart.{ParcelPart}
 use Rattle.lpis_checker.specs.SoundMap.{AtMostOne, ExactlyOne, IsInParcel, IsInPiece, IsSoundMap, TurnsTell, AreasAdd}
-use Rattle.lpis_checker.specs.declared.condition.Condition.TheVariants.{Names, Triangles, Turned, Flats, PieceEdges, ParcelEdges, Named, Separating}
+use Rattle.lpis_checker.specs.declared.condition.Condition.TheVariants.{Names, Triangles, Turned, Flats, PieceEdges, ParcelEdges, NearPairs, Separating}
 use Rattle.lpis_checker.specs.declared.condition.Site.TheVariants.{PieceAt, ParcelAt, LineAt, PairAt}
 use Rattle.lpis_checker.specs.GoodCertificate.{triangles_of, edges_of_pieces, EdgeSeparates, LineSeparates, HoldsEverywhere, IsGood}
 use Rattle.lpis_checker.proofs.Distinct.{same_place}
@@ -129,7 +129,7 @@ good_keeps r c g i j t u e f l = by (are_apart t u) refl
   where
     near : are_apart t u ≡ false → KeepApart t u
     near n =
-        let m = g.holds Named (PairAt i j) (record { rising = l; t = t; u = u; at_i = e; at_j = f; near = n }) in
+        let m = g.holds NearPairs (PairAt i j) (record { rising = l; t = t; u = u; at_i = e; at_j = f; near = n }) in
         line_keeps m.1.k t u (g.holds Separating (LineAt m.0) m.1 m.2 t u (ap (λ (a : ℕ). slice_get (triangles_of c.pieces) a) m.3 ∙ e) (ap (λ (a : ℕ). slice_get (triangles_of c.pieces) a) m.4 ∙ f))
 
     by : (b : Bool) → are_apart t u ≡ b → KeepApart t u

@@ -18,7 +18,7 @@ use Rattle.lpis_cert.specs.declared.part.PairLine.{PairLine}
 use Rattle.lpis_pairs.specs.NearPairs.{IsBelow, IsNear}
 use Rattle.lpis_checker.specs.Corners.{corners_of, corners_of_pieces}
 use Rattle.lpis_checker.specs.declared.condition.Condition.{Condition}
-use Rattle.lpis_checker.specs.declared.condition.Condition.TheVariants.{Names, Triangles, Turned, Flats, Corners, PieceEdges, ParcelEdges, Named, NotApart, Separating}
+use Rattle.lpis_checker.specs.declared.condition.Condition.TheVariants.{Names, Triangles, Turned, Flats, Corners, PieceEdges, ParcelEdges, NearPairs, NotApart, Separating}
 use Rattle.lpis_checker.specs.declared.condition.Site.{Site}
 use Rattle.lpis_checker.specs.declared.condition.Site.TheVariants.{PieceAt, ParcelAt, LineAt, PairAt}
 
@@ -87,7 +87,7 @@ Holds r c Corners (PieceAt k) = OfPiece r c k (λ x t. HaveCorners (corners_of x
 Holds r c Corners (ParcelAt k) = OfParcel r c k (λ x t. HaveCorners (corners_of x.polygon ++ corners_of_pieces (pieces_named r x.id)) t.flats)
 Holds r c PieceEdges (PieceAt k) = OfPiece r c k (λ x t. SameNet same_point (edges_of x.polygon) (edges_of_triangles t.triangles ++ edges_of_triangles t.flats))
 Holds r c ParcelEdges (ParcelAt k) = OfParcel r c k (λ x t. SameNet same_point (edges_of x.polygon) (edges_of_pieces (pieces_named r x.id) ++ edges_of_triangles t.flats))
-Holds r c Named (PairAt i j) = IsNear (triangles_of c.pieces) i j → IsNamed c.pairs i j
+Holds r c NearPairs (PairAt i j) = IsNear (triangles_of c.pieces) i j → IsNamed c.pairs i j
 Holds r c NotApart (LineAt k) = OfLine c k (λ l. IsNear (triangles_of c.pieces) l.i l.j)
 Holds r c Separating (LineAt k) = OfLine c k (λ l. OfTwo (triangles_of c.pieces) l.i l.j (LineSeparates l.k))
 Holds r c _ _ = ⊤

@@ -7,7 +7,7 @@ ghost use Rattle.lpis_checker.specs.GoodCertificate.{Holds, IsGood};
 ghost use Rattle.lpis_checker.specs.Searches.{FoundFault, IsToldOf};
 ghost use Rattle.lpis_checker.specs.SoundMap.{AreasAdd, IsSoundMap};
 ghost use Rattle.lpis_checker.specs.TurnsAdd.{TurnsAdd};
-ghost use Rattle.lpis_checker.specs.declared.condition.Condition.TheVariants.{Named};
+ghost use Rattle.lpis_checker.specs.declared.condition.Condition.TheVariants.{NearPairs};
 
 use crate::condition::Failing;
 use crate::fault::CheckFault;
@@ -38,7 +38,7 @@ fn told(release: &Release, cert: &Cert, found: &Failing) -> Result<CheckFault, A
 /// With Ok each parcel has the area of its pieces, each above 0. Off the lines of the release each piece turns round a point as often
 /// as triangles of its part have the point inside, and each parcel as often as its pieces together.
 pub fn check_parts(alloc: Global, release: &Release, cert: &Cert) -> Result<(), CheckFault>
-    ensures holds { OnOk result (HoldBelow release.now cert.now (code_of Named)) }
+    ensures holds { OnOk result (HoldBelow release.now cert.now (code_of NearPairs)) }
     ensures areas { OnOk result (AreasAdd release.now) }
     ensures turns { OnOk result (TurnsAdd release.now cert.now) }
     ensures fault { IfErr result (Tells release.now cert.now) }

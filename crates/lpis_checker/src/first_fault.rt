@@ -11,8 +11,8 @@ use crate::condition::{Condition, Failing, Site};
 use crate::corners::strange_corner;
 use crate::fault::Place;
 use crate::flats::bent_flat;
-use crate::named::unnamed_pair;
 use crate::names::misnamed;
+use crate::near_pairs::unnamed_pair;
 use crate::nets::{parcel_with_other_edges, piece_with_other_edges};
 use crate::parts::{piece_turned_round, piece_without_triangle};
 use crate::separators::{line_of_apart_triangles, line_that_separates_nothing};
@@ -156,7 +156,7 @@ fn pair_fault(
 {
     if let Some(site) = unnamed_pair(release, cert, triangles, near) {
         return Some(Failing {
-            condition: Condition::Named,
+            condition: Condition::NearPairs,
             site,
         });
     }

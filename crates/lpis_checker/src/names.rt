@@ -8,7 +8,7 @@ ghost use Rattle.lpis_checker.specs.declared.condition.Condition.TheVariants.{Na
 ghost use Rattle.lpis_checker.specs.declared.condition.Site.TheVariants.{LineAt, ParcelAt, PieceAt};
 
 use crate::condition::Site;
-use crate::named::is_before;
+use crate::near_pairs::is_before;
 use lpis_cert::{Cert, PairLine};
 use lpis_covers::Id;
 use lpis_parcels::Release;
