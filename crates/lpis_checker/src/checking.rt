@@ -35,8 +35,8 @@ fn told(release: &Release, cert: &Cert, found: &Failing) -> Result<CheckFault, A
 
 /// Checks the parts of a certificate, which are the conditions 60 to 66. A fault is told as `check` tells it.
 ///
-/// With Ok each parcel has the area of its pieces, each above 0. Off the lines of the release each piece turns round a point as often
-/// as triangles of its part have the point inside, and each parcel as often as its pieces together.
+/// With Ok each parcel has the area of its pieces, each above 0, and turns round each point as often as its pieces together. Off the
+/// lines of the release each piece turns round a point as often as triangles of its part have the point inside.
 pub fn check_parts(alloc: Global, release: &Release, cert: &Cert) -> Result<(), CheckFault>
     ensures holds { OnOk result (HoldBelow release.now cert.now (code_of NearPairs)) }
     ensures areas { OnOk result (AreasAdd release.now) }

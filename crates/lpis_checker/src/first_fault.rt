@@ -65,7 +65,7 @@ pub(crate) fn place_of(release: &Release, cert: &Cert, found: &Failing) -> Resul
         },
         Site::LineAt(place) => match cert.pairs.as_slice().get(place) {
             Some(line) => Ok(Place::Pair(line.i, line.j)),
-            None => Ok(Place::Pair(0, 0)),
+            None => unreachable!(),
         },
         Site::PairAt(i, j) => Ok(Place::Pair(i, j)),
     }
