@@ -1,8 +1,8 @@
 pub mod Sites
 pub mod RunLemmas
+pub mod PointOrder
 pub mod Grouping
 pub mod NetSums
-pub mod InRelease
 pub mod Distinct
 pub mod Sums
 pub mod Sound

@@ -1,47 +1,16 @@
 -- Sums over signed edges are net counts.
-use Rattle.std.proofs.Common.{◌≡◌, ◌≢◌, ℤ, pos, negsuc, ◌+ℤ◌, ◌-ℤ◌, neg_ℤ, int_lt, Bool, true, false, not, ◌&&◌, cond, List, [], ◌∷◌, ◌++◌, Some, None, inl, inr, ap, ap₂, sym, refl, ◌∙◌, ◌↔◌, IsTrue, subst, arith}
+use Rattle.std.proofs.Common.{◌≡◌, ◌≢◌, ℤ, pos, negsuc, ◌+ℤ◌, ◌-ℤ◌, neg_ℤ, Bool, true, false, not, ◌&&◌, cond, List, [], ◌∷◌, ◌++◌, Some, None, inl, inr, ap, ap₂, sym, refl, ◌∙◌, ◌↔◌, IsTrue, subst, arith}
 use Rattle.std.proofs.lemmas.Int.{ints}
-use Rattle.std.specs.declared.cmp.Ordering.{Ordering}
-use Rattle.std.specs.declared.cmp.Ordering.TheVariants.{Less, Equal, Greater}
-use Rattle.std.specs.Ordering.{is_lt, ordering_then, int_cmp}
 use Rattle.lpis_points.specs.declared.point.Point.{Point}
 use Rattle.lpis_points.specs.declared.triangle.Triangle.{Triangle}
 use Rattle.lpis_points.specs.Plane.{same_point}
 use Rattle.lpis_points.specs.Chain.{is_edge, net_count, SameNet}
 use Rattle.lpis_points.proofs.Chains.{edge_sum-append}
-use Rattle.lpis_points.proofs.Points.{same_point-equality}
 use Rattle.lpis_rings.specs.Map.{edges_of_triangles}
 use Rattle.lpis_checker.specs.declared.signed.SignedEdge.{SignedEdge}
 use Rattle.lpis_checker.specs.SignedEdges.{weight, is_at, sum_at, SumsAreZero, is_low, IsSigned, signed_by, low_count, Grows}
 use Rattle.lpis_checker.proofs.RunLemmas.{sum_at-append}
-use Rattle.lpis_checker.proofs.Grouping.{point_tie_alone}
-
-int_asym : (a b : ℤ) → int_lt a b ≡ true → int_lt b a ≡ false
-int_asym a b h = grind (arith, ints)
-
-then_asym : (a b : ℤ) (o p : Ordering) → (is_lt o ≡ true → is_lt p ≡ false) → is_lt (ordering_then (int_cmp a b) o) ≡ true → is_lt (ordering_then (int_cmp b a) p) ≡ false
-then_asym a b o p f h = by (int_lt a b) (int_lt b a) refl refl h
-  where
-    by : (s t : Bool) → int_lt a b ≡ s → int_lt b a ≡ t → is_lt (ordering_then (cond s Less (cond t Greater Equal)) o) ≡ true → is_lt (ordering_then (cond t Less (cond s Greater Equal)) p) ≡ false
-    by true true e g h = absurd (clash (int_lt b a) g (int_asym a b e))
-      where
-        clash : (t : Bool) → t ≡ true → t ≡ false → ⊥
-        clash t u v = cc
-    by true false e g h = refl
-    by false true e g h = cc
-    by false false e g h = f h
-
-low_asym : (a b : Point) → is_low a b ≡ true → is_low b a ≡ false
-low_asym a b h = then_asym a.x b.x (int_cmp a.y b.y) (int_cmp b.y a.y) (λ k. one (int_lt a.y b.y) (int_lt b.y a.y) refl refl k) h
-  where
-    one : (s t : Bool) → int_lt a.y b.y ≡ s → int_lt b.y a.y ≡ t → is_lt (cond s Less (cond t Greater Equal)) ≡ true → is_lt (cond t Less (cond s Greater Equal)) ≡ false
-    one true true e g k = absurd (clash (int_lt b.y a.y) g (int_asym a.y b.y e))
-      where
-        clash : (t : Bool) → t ≡ true → t ≡ false → ⊥
-        clash t u v = cc
-    one true false e g k = refl
-    one false true e g k = cc
-    one false false e g k = cc
+use Rattle.lpis_checker.proofs.PointOrder.{both_same, low_asym, point_tie_alone}
 
 clash : {P : Type 0} (t : Bool) → t ≡ true → t ≡ false → P
 clash t u v = cc
@@ -53,15 +22,11 @@ low_differs a b h e = clash (is_low a b) h (ap (λ (z : Point). is_low z b) e �
 abbrev pub adds : Point → Point → Point → Point → ℤ
 adds p q a b = cond (is_low p q) (is_edge same_point p q a b -ℤ is_edge same_point q p a b) (pos 0)
 
-both : (p q : Bool) → (p && q) ≡ true → (p ≡ true) × (q ≡ true)
-both true q e = (refl, e)
-both false q e = cc
-
 -- of an edge whose first point is the lesser
 straight : (p q a b : Point) → is_low a b ≡ true → cond (same_point p a && same_point q b) (pos 1) (pos 0) ≡ adds p q a b
 straight p q a b h = by (same_point p a && same_point q b) (same_point q a && same_point p b) (is_low p q)
-    (λ t. let r = both (same_point p a) (same_point q b) t in ap₂ is_low ((same_point-equality p a).0 r.0) ((same_point-equality q b).0 r.1) ∙ h)
-    (λ t. let r = both (same_point q a) (same_point p b) t in ap₂ is_low ((same_point-equality p b).0 r.1) ((same_point-equality q a).0 r.0) ∙ low_asym a b h)
+    (λ t. let r = (both_same p a q b).0 t in ap₂ is_low r.0 r.1 ∙ h)
+    (λ t. let r = (both_same q a p b).0 t in ap₂ is_low r.1 r.0 ∙ low_asym a b h)
   where
     by : (s t l : Bool) → (s ≡ true → l ≡ true) → (t ≡ true → l ≡ false) → cond s (pos 1) (pos 0) ≡ cond l (cond s (pos 1) (pos 0) -ℤ cond t (pos 1) (pos 0)) (pos 0)
     by true true l f g = clash l (f refl) (g refl)

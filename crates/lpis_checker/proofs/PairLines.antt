@@ -10,7 +10,7 @@ use Rattle.lpis_parcels.proofs.EligibleLemmas.{item-within}
 use Rattle.lpis_cert.specs.declared.cert.Cert.{Cert}
 use Rattle.lpis_cert.specs.declared.part.PairLine.{PairLine}
 use Rattle.lpis_pairs.specs.NearPairs.{IsNear, IsNearList, IsBelow}
-use Rattle.lpis_checker.specs.declared.condition.Condition.TheVariants.{Names, Named}
+use Rattle.lpis_checker.specs.declared.condition.Condition.TheVariants.{Names, NearPairs}
 use Rattle.lpis_checker.specs.declared.condition.Site.{Site}
 use Rattle.lpis_checker.specs.declared.condition.Site.TheVariants.{PieceAt, ParcelAt, LineAt, PairAt}
 use Rattle.lpis_checker.specs.GoodCertificate.{triangles_of, IsNamed, IsInOrder, OfTwo, Holds, HoldsEverywhere}
@@ -133,7 +133,7 @@ walk_more c ts near law from at k p w e s named = record {
         subst (λ (z : ℕ × ℕ). IsNamed c.pairs z.0 z.1) same (at, named.0, named.1, named.2, named.3)
 
 -- past the last near pair each is named
-pub walk_all : (r : Contents) (c : Cert) (ts : List Triangle) (near : List (ℕ × ℕ)) → ts ≡ triangles_of c.pieces → IsNearList ts near → (at k : ℕ) → length near ≤ k → WalkAt c near at k → (i j : ℕ) → Holds r c Named (PairAt i j)
+pub walk_all : (r : Contents) (c : Cert) (ts : List Triangle) (near : List (ℕ × ℕ)) → ts ≡ triangles_of c.pieces → IsNearList ts near → (at k : ℕ) → length near ≤ k → WalkAt c near at k → (i j : ℕ) → Holds r c NearPairs (PairAt i j)
 walk_all r c ts near numbered law at k l w i j n =
     let x = law.all i j (subst (λ (us : List Triangle). IsNear us i j) (sym numbered) n) in
     let within = slice_get_within near x.0 (i, j) x.1 in
@@ -143,7 +143,7 @@ walk_all r c ts near numbered law at k l w i j n =
     below m g = omega arith
 
 -- a near pair that the line at the next place doesn't name is the first that none names
-pub walk_fault : (r : Contents) (c : Cert) (ts : List Triangle) (near : List (ℕ × ℕ)) → HoldsEverywhere r c Names → ts ≡ triangles_of c.pieces → IsNearList ts near → (from at k : ℕ) (p : ℕ × ℕ) → WalkAt c near from k → slice_get near k ≡ Some p → Skips c from at p.0 p.1 → (NamesAt c.pairs at p.0 p.1 → ⊥) → IsFirst r c Named (PairAt p.0 p.1)
+pub walk_fault : (r : Contents) (c : Cert) (ts : List Triangle) (near : List (ℕ × ℕ)) → HoldsEverywhere r c Names → ts ≡ triangles_of c.pieces → IsNearList ts near → (from at k : ℕ) (p : ℕ × ℕ) → WalkAt c near from k → slice_get near k ≡ Some p → Skips c from at p.0 p.1 → (NamesAt c.pairs at p.0 p.1 → ⊥) → IsFirst r c NearPairs (PairAt p.0 p.1)
 walk_fault r c ts near names numbered law from at k p w e s not = record { fails = fails; earlier = earlier }
   where
     not_named : IsNamed c.pairs p.0 p.1 → ⊥
@@ -160,10 +160,10 @@ walk_fault r c ts near names numbered law from at k p w e s not = record { fails
             let g = slice_get-get_or c.pairs at x.1 inside in
             s.stop l g (subst (λ (z : ℕ). IsBelow l.i l.j z p.1) x.3 (subst (λ (z : ℕ). IsBelow l.i l.j x.1.i z) x.4 (lines_ascend r c names at x.0 l x.1 strict g x.2)))
 
-    fails : Holds r c Named (PairAt p.0 p.1) → ⊥
+    fails : Holds r c NearPairs (PairAt p.0 p.1) → ⊥
     fails h = not_named (h (subst (λ (us : List Triangle). IsNear us p.0 p.1) numbered (law.near k p e)))
 
-    pair_earlier : (i j : ℕ) → IsBelow i j p.0 p.1 → Holds r c Named (PairAt i j)
+    pair_earlier : (i j : ℕ) → IsBelow i j p.0 p.1 → Holds r c NearPairs (PairAt i j)
     pair_earlier i j b n = by (cases_lt x.0 k) (cases_eq x.0 k)
       where
         x : (m : ℕ) × (slice_get near m ≡ Some (i, j))
@@ -179,7 +179,7 @@ walk_fault r c ts near names numbered law from at k p w e s not = record { fails
             let strict : k < x.0 = omega arith in
             absurd (below_not i j i j (below_trans i j p.0 p.1 i j b (law.ascending k x.0 p (i, j) strict e x.1)) refl refl)
 
-    earlier : (b : Site) → IsEarlier b (PairAt p.0 p.1) → Holds r c Named b
+    earlier : (b : Site) → IsEarlier b (PairAt p.0 p.1) → Holds r c NearPairs b
     earlier (PieceAt m) h = tt
     earlier (ParcelAt m) h = tt
     earlier (LineAt m) h = tt

@@ -1,38 +1,17 @@
 -- Points that are sorted: a binary search finds exactly those that are among them.
-use Rattle.std.proofs.Common.{◌≡◌, ◌∙◌, ◌<◌, ◌≤◌, ◌⊎◌, inl, inr, ◌↔◌, ℕ, ℤ, Bool, true, false, List, ◌++◌, length, get_or, Result, Ok, Err, Ordering, Less, Equal, Greater, IsTrue, refl, sym, ap, subst, arith}
+use Rattle.std.proofs.Common.{◌≡◌, ◌∙◌, ◌<◌, ◌≤◌, ◌⊎◌, inl, inr, ◌↔◌, ℕ, Bool, true, false, List, ◌++◌, length, get_or, Result, Ok, Err, Less, Equal, Greater, IsTrue, refl, sym, ap, subst, arith}
 use Rattle.std.specs.Prelude.{is_ok}
-use Rattle.std.specs.Ordering.{int_cmp, ordering_then}
-use Rattle.std.specs.List.{All, Contains}
+use Rattle.std.specs.List.{Contains}
 use Rattle.std.specs.List.Sorted.{IsSorted, IsBinarySearchResult, IsSearchInRange, IsPartitionPoint}
-use Rattle.std.proofs.lemmas.Cmp.{int_ranked, tied_itself}
-use Rattle.std.proofs.lemmas.List.Elements.{All-append, All-contains, Contains-append_left, Contains-append_right, Contains-get_or}
+use Rattle.std.proofs.lemmas.Cmp.{tied_itself}
+use Rattle.std.proofs.lemmas.List.Elements.{All-append}
 use Rattle.std.proofs.lemmas.List.Sorted.{searchable_from_sorted}
 use Rattle.lpis_points.specs.declared.point.Point.{Point}
 use Rattle.lpis_points.specs.declared.triangle.Triangle.{Triangle}
-use Rattle.lpis_points.proofs.Points.{point_eq}
-use Rattle.lpis_checker.specs.CornerSets.{HasCorners}
 use Rattle.lpis_checker.specs.SignedEdges.{point_order}
-use Rattle.lpis_checker.specs.GoodCertificate.{HaveCorners}
-use Rattle.lpis_checker.proofs.Grouping.{point_total}
-
-both_equal : (o p : Ordering) → ordering_then o p ≡ Equal → (o ≡ Equal) × (p ≡ Equal)
-both_equal Less p e = absurd (never e)
-  where
-    never : Less ≡ Equal → ⊥
-    never f = cc
-both_equal Equal p e = (refl, e)
-both_equal Greater p e = absurd (never e)
-  where
-    never : Greater ≡ Equal → ⊥
-    never f = cc
-
-same_int : (x y : ℤ) → int_cmp x y ≡ Equal → x ≡ y
-same_int x y e = int_ranked x y Equal (sym e)
-
-exact : (p q : Point) → point_order p q ≡ Equal → p ≡ q
-exact p q e =
-    let h = both_equal (int_cmp p.x q.x) (int_cmp p.y q.y) e in
-    point_eq p q (same_int p.x q.x h.0) (same_int p.y q.y h.1)
+use Rattle.lpis_checker.specs.GoodCertificate.{HasCorners, HaveCorners}
+use Rattle.lpis_checker.proofs.PointOrder.{point_total, same_in_order}
+use Rattle.lpis_checker.proofs.Sums.{all_left, all_right}
 
 -- what is among sorted points lies neither before nor after the place to insert it
 unsplit : (xs : List Point) (x : Point) (i : ℕ) → IsPartitionPoint (λ y. point_order y x ≡ Less) (λ y. point_order y x ≡ Greater) xs i → Contains xs x → ⊥
@@ -55,38 +34,25 @@ unsplit xs x i h w = elim (by_place w.0 i) [
 
 -- a binary search finds exactly what is among them
 pub found : (xs : List Point) (x : Point) (r : Result ℕ ℕ) → IsSorted point_order xs → IsSearchInRange r (length xs) → IsBinarySearchResult (λ y. point_order y x) xs r → IsTrue (is_ok r) ↔ Contains xs x
-found xs x (Ok i) s b h = (λ e. (i, b, exact (get_or xs i x) x (h x)), λ w. refl)
+found xs x (Ok i) s b h = (λ e. (i, b, same_in_order (get_or xs i x) x (h x)), λ w. refl)
 found xs x (Err i) s b h = (λ e. absurd (never e), λ w. absurd (unsplit xs x i (h (searchable_from_sorted point_total (λ (p : Point). p) xs x s)) w))
   where
     never : false ≡ true → ⊥
     never e = cc
 
--- the corners of triangles, by one word
-have_corners : (points : List Point) (ts : List Triangle) → All (HasCorners points) ts ↔ HaveCorners points ts
-unfolding HasCorners
-have_corners points ts = (λ h. h, λ h. h)
-
-pub all_have : (points : List Point) (ts : List Triangle) (b : Bool) → (IsTrue b ↔ All (HasCorners points) ts) → IsTrue b ↔ HaveCorners points ts
-all_have points ts b h = (λ e. (have_corners points ts).0 (h.0 e), λ w. h.1 ((have_corners points ts).1 w))
-
-all_left : {A : Type 0} (P : A → Type 0) (xs ys : List A) → All P (xs ++ ys) → All P xs
-all_left P xs ys h = λ k d l. All-contains P (xs ++ ys) (get_or xs k d) h (Contains-append_left xs ys (get_or xs k d) (Contains-get_or xs k d l))
-
-all_right : {A : Type 0} (P : A → Type 0) (xs ys : List A) → All P (xs ++ ys) → All P ys
-all_right P xs ys h = λ k d l. All-contains P (xs ++ ys) (get_or ys k d) h (Contains-append_right xs ys (get_or ys k d) (Contains-get_or ys k d l))
-
 -- the corners of two lists of triangles
-pub both_have : (points : List Point) (ts us : List Triangle) (b : Bool) → All (HasCorners points) ts → (IsTrue b ↔ All (HasCorners points) us) → IsTrue b ↔ HaveCorners points (ts ++ us)
-both_have points ts us b h k = all_have points (ts ++ us) b (λ e. All-append (HasCorners points) ts us h (k.0 e), λ w. k.1 (all_right (HasCorners points) ts us w))
+pub both_have : (points : List Point) (ts us : List Triangle) (b : Bool) → HaveCorners points ts → (IsTrue b ↔ HaveCorners points us) → IsTrue b ↔ HaveCorners points (ts ++ us)
+both_have points ts us b h k = (λ e. All-append (HasCorners points) ts us h (k.0 e), λ w. k.1 (all_right (HasCorners points) ts us w))
 
-pub first_lacks : (points : List Point) (ts us : List Triangle) → (All (HasCorners points) ts → ⊥) → IsTrue false ↔ HaveCorners points (ts ++ us)
-first_lacks points ts us h = all_have points (ts ++ us) false (λ e. absurd (never e), λ w. absurd (h (all_left (HasCorners points) ts us w)))
+pub first_lacks : (points : List Point) (ts us : List Triangle) → (HaveCorners points ts → ⊥) → IsTrue false ↔ HaveCorners points (ts ++ us)
+first_lacks points ts us h = (λ e. absurd (never e), λ w. absurd (h (all_left (HasCorners points) ts us w)))
   where
     never : false ≡ true → ⊥
     never e = cc
 
 -- sets of the same points have the same corners
 pub have_same : (points others : List Point) (ts : List Triangle) → ((p : Point) → Contains points p ↔ Contains others p) → HaveCorners points ts ↔ HaveCorners others ts
+unfolding HasCorners
 have_same points others ts h = (
   λ w k d l. let v = w k d l in ((h (get_or ts k d).a).0 v.0, (h (get_or ts k d).b).0 v.1, (h (get_or ts k d).c).0 v.2),
   λ w k d l. let v = w k d l in ((h (get_or ts k d).a).1 v.0, (h (get_or ts k d).b).1 v.1, (h (get_or ts k d).c).1 v.2),

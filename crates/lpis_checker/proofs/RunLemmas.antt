@@ -6,25 +6,21 @@ use Rattle.std.specs.List.Sorted.{IsPermutation}
 use Rattle.std.proofs.lemmas.List.{take_more, take_all, take-append-drop}
 use Rattle.std.proofs.lemmas.List.Sums.{sum_by-cons}
 use Rattle.std.proofs.lemmas.List.Sorted.{sum_by-IsPermutation}
-use Rattle.std.proofs.lemmas.Option.{same_Some, slice_get_within, slice_get-get_or}
+use Rattle.std.proofs.lemmas.Option.{same_Some, slice_get_past, slice_get_within, slice_get-get_or}
 use Rattle.lpis_points.specs.declared.point.Point.{Point}
 use Rattle.lpis_points.specs.Plane.{same_point}
-use Rattle.lpis_points.proofs.Points.{same_point-equality}
 use Rattle.lpis_checker.specs.declared.signed.SignedEdge.{SignedEdge}
 use Rattle.lpis_checker.specs.SignedEdges.{weight, is_at, sum_at, SumsAreZero, same_ends, IsGrouped, EndsRun}
-
-both : (p q : Bool) → (p && q) ≡ true → (p ≡ true) × (q ≡ true)
-both true q e = (refl, e)
-both false q e = cc
+use Rattle.lpis_checker.proofs.PointOrder.{both_same}
 
 -- edges with the same ends lie between the same points
 same_at : (x y : SignedEdge) → same_ends x y ≡ true → (a b : Point) → is_at a b x ≡ is_at a b y
 same_at x y h a b =
-    let r = both (same_point x.low y.low) (same_point x.high y.high) h in
-    ap₂ (λ (u v : Point). same_point a u && same_point b v) ((same_point-equality x.low y.low).0 r.0) ((same_point-equality x.high y.high).0 r.1)
+    let r = (both_same x.low y.low x.high y.high).0 h in
+    ap₂ (λ (u v : Point). same_point a u && same_point b v) r.0 r.1
 
 at_itself : (x : SignedEdge) → is_at x.low x.high x ≡ true
-at_itself x = ap₂ (λ (p q : Bool). p && q) ((same_point-equality x.low x.low).1 refl) ((same_point-equality x.high x.high).1 refl)
+at_itself x = (both_same x.low x.low x.high x.high).1 (refl, refl)
 
 pub sum_at-append : (a b : Point) (xs ys : List SignedEdge) → sum_at a b (xs ++ ys) ≡ sum_at a b xs +ℤ sum_at a b ys
 sum_at-append a b [] ys = from (sum_at a b ys)
@@ -106,15 +102,7 @@ walk_on xs k sum x w e not = record {
         by false t = absurd (not (λ u v g h. ap₂ (λ (p q : SignedEdge). same_ends p q) (same_Some u x (sym g ∙ e)) (same_Some v y (sym h ∙ f)) ∙ t))
 
 pub walk_all : (xs : List SignedEdge) (k : ℕ) (sum : ℤ) → length xs ≤ k → WalkAt xs k sum → SumsAreZero xs
-walk_all xs k sum l w a b = ap (sum_at a b) (sym (take_all k xs l)) ∙ w.sums a b ∙ ap (λ (o : Option SignedEdge). cond (is_next a b o) sum (pos 0)) (past xs k l)
-  where
-    past : (ys : List SignedEdge) (n : ℕ) → length ys ≤ n → slice_get ys n ≡ None
-    past [] n h = refl
-    past (y ∷ ys) zero h = absurd (omega arith)
-    past (y ∷ ys) (suc n) h = past ys n (less (length ys) n h)
-      where
-        less : (p q : ℕ) → suc p ≤ suc q → p ≤ q
-        less p q h = omega arith
+walk_all xs k sum l w a b = ap (sum_at a b) (sym (take_all k xs l)) ∙ w.sums a b ∙ ap (λ (o : Option SignedEdge). cond (is_next a b o) sum (pos 0)) (slice_get_past xs k l)
 
 none_at : (a b : Point) (xs : List SignedEdge) → ((m : ℕ) (z : SignedEdge) → slice_get xs m ≡ Some z → is_at a b z ≡ false) → sum_at a b xs ≡ pos 0
 none_at a b [] h = refl

@@ -3,10 +3,11 @@ use Rattle.std.proofs.Common.{◌≡◌, ℕ, ◌+◌, ◌<◌, ◌≤◌, Bool,
 use Rattle.std.proofs.lemmas.Bool.{cases_eq}
 use Rattle.std.specs.List.{slice_get}
 use Rattle.std.specs.Option.{option_map}
-use Rattle.std.proofs.lemmas.Option.{same_Some, slice_get_read, slice_get_within}
+use Rattle.std.proofs.lemmas.Option.{none-some, same_Some, slice_get_read, slice_get_within}
 use Rattle.lpis_covers.specs.declared.piece.Piece.{Piece}
 use Rattle.lpis_parcels.specs.declared.parcel.Parcel.{Parcel}
 use Rattle.lpis_parcels.specs.Release.{Contents}
+use Rattle.lpis_parcels.proofs.EligibleLemmas.{item-within}
 use Rattle.lpis_cert.specs.declared.cert.Cert.{Cert}
 use Rattle.lpis_cert.specs.declared.part.PiecePart.{PiecePart}
 use Rattle.lpis_cert.specs.declared.part.ParcelPart.{ParcelPart}
@@ -72,18 +73,28 @@ pub lines_past : (c : Cert) (P : ℕ → PairLine → Type 0) (k : ℕ) → leng
 lines_past c P k long below m l e = past_end c.pairs P k long below m l e
 
 -- ---- the piece and the parcel of a part
-some_item : {A : Type 0} (id : A → List ℕ) (o : Option A) (n : List ℕ) → Some n ≡ option_map id o → (x : A) × (o ≡ Some x)
-some_item id None n e = absurd (never e)
-  where
-    never : Some n ≡ None → ⊥
-    never e = cc
+pub some_item : {A : Type 0} (id : A → List ℕ) (o : Option A) (n : List ℕ) → option_map id o ≡ Some n → (x : A) × (o ≡ Some x)
+some_item id None n e = absurd (none-some n e)
 some_item id (Some x) n e = (x, refl)
 
 pub piece_of : (r : Contents) (c : Cert) → HoldsEverywhere r c Names → (k : ℕ) (t : PiecePart) → slice_get c.pieces k ≡ Some t → (x : Piece) × (slice_get r.pieces k ≡ Some x)
-piece_of r c h k t e = some_item (λ (x : Piece). x.id) (slice_get r.pieces k) t.id (sym (ap (λ (o : Option PiecePart). option_map (λ (u : PiecePart). u.id) o) e) ∙ h (PieceAt k))
+piece_of r c h k t e = some_item (λ (x : Piece). x.id) (slice_get r.pieces k) t.id (sym (h (PieceAt k)) ∙ ap (λ (o : Option PiecePart). option_map (λ (u : PiecePart). u.id) o) e)
 
 pub parcel_of : (r : Contents) (c : Cert) → HoldsEverywhere r c Names → (k : ℕ) (t : ParcelPart) → slice_get c.parcels k ≡ Some t → (x : Parcel) × (slice_get r.parcels k ≡ Some x)
-parcel_of r c h k t e = some_item (λ (x : Parcel). x.id) (slice_get r.parcels k) t.id (sym (ap (λ (o : Option ParcelPart). option_map (λ (u : ParcelPart). u.id) o) e) ∙ h (ParcelAt k))
+parcel_of r c h k t e = some_item (λ (x : Parcel). x.id) (slice_get r.parcels k) t.id (sym (h (ParcelAt k)) ∙ ap (λ (o : Option ParcelPart). option_map (λ (u : ParcelPart). u.id) o) e)
+
+-- the place of a part is one of the release
+pub piece_within : (r : Contents) (c : Cert) → HoldsEverywhere r c Names → (k : ℕ) → k < length c.pieces → k < length r.pieces
+piece_within r c names k l =
+    let t = item-within c.pieces k l in
+    let x = piece_of r c names k t.0 t.1 in
+    slice_get_within r.pieces k x.0 x.1
+
+pub parcel_within : (r : Contents) (c : Cert) → HoldsEverywhere r c Names → (k : ℕ) → k < length c.parcels → k < length r.parcels
+parcel_within r c names k l =
+    let t = item-within c.parcels k l in
+    let x = parcel_of r c names k t.0 t.1 in
+    slice_get_within r.parcels k x.0 x.1
 
 -- ---- a test of the part at a site
 pub of_piece : (r : Contents) (c : Cert) (P : Piece → PiecePart → Type 0) (b : Bool) (k : ℕ) (x : Piece) (t : PiecePart) → slice_get r.pieces k ≡ Some x → slice_get c.pieces k ≡ Some t → (IsTrue b ↔ P x t) → IsTrue b ↔ OfPiece r c k P

@@ -4,8 +4,8 @@ use Rattle.std.specs.Prelude.{MatchOption}
 use Rattle.std.proofs.lemmas.Int.{ints}
 use Rattle.std.specs.List.{slice_get, IsDistinct}
 use Rattle.std.specs.Option.{option_map}
-use Rattle.std.proofs.lemmas.List.Elements.{All-cons, All-filter, All-head, All-tail, All-nil}
-use Rattle.std.proofs.lemmas.Option.{slice_get-get_or, same_Some}
+use Rattle.std.proofs.lemmas.List.Elements.{All-cons, All-filter, All-head, All-nil, All-tail, All-weaker}
+use Rattle.std.proofs.lemmas.Option.{none-some, slice_get-get_or, same_Some}
 use Rattle.std.proofs.lemmas.Slice.Eq.{bytes_eq-Decides}
 use Rattle.lpis_points.specs.declared.point.Point.{Point}
 use Rattle.lpis_points.specs.declared.triangle.Triangle.{Triangle}
@@ -28,11 +28,12 @@ use Rattle.lpis_cert.specs.declared.cert.Cert.{Cert}
 use Rattle.lpis_cert.specs.declared.part.PiecePart.{PiecePart}
 use Rattle.lpis_cert.specs.declared.part.ParcelPart.{ParcelPart}
 use Rattle.lpis_checker.specs.SoundMap.{AtMostOne, ExactlyOne, IsInParcel, IsInPiece, IsSoundMap, TurnsTell, AreasAdd}
-use Rattle.lpis_checker.specs.declared.condition.Condition.TheVariants.{Names, Triangles, Turned, Flats, PieceEdges, ParcelEdges, Named, Separating}
+use Rattle.lpis_checker.specs.declared.condition.Condition.TheVariants.{Names, Triangles, Turned, Flats, PieceEdges, ParcelEdges, NearPairs, Separating}
 use Rattle.lpis_checker.specs.declared.condition.Site.TheVariants.{PieceAt, ParcelAt, LineAt, PairAt}
 use Rattle.lpis_checker.specs.GoodCertificate.{triangles_of, edges_of_pieces, EdgeSeparates, LineSeparates, HoldsEverywhere, IsGood}
 use Rattle.lpis_checker.proofs.Distinct.{same_place}
-use Rattle.lpis_checker.proofs.Sums.{total, Found, found_any, any_found, all_at, all_from, one_of_some, at_most_one, one_found, total_one, filter_kept}
+use Rattle.lpis_checker.proofs.Sites.{some_item}
+use Rattle.lpis_checker.proofs.Sums.{total, Found, found_any, any_found, all_at, all_from, one_of_some, at_most_one, one_found, total_one, total-filter, filter_kept}
 
 -- ---- pieces beside their parts
 abbrev SameIds : List Piece → List PiecePart → Type 0
@@ -59,21 +60,18 @@ joined (x ∷ xs) (t ∷ ts) = cut_piece x t ∷ joined xs ts
 some_none : {A : Type 0} (x : A) → Some x ≡ None → ⊥
 some_none x e = cc
 
-none_some : {A : Type 0} (x : A) → None ≡ Some x → ⊥
-none_some x e = cc
-
 abbrev turns_at : RationalPoint → Piece → ℤ
 turns_at s x = turns x.polygon s
 
 joined_turns : (xs : List Piece) (ts : List PiecePart) (s : RationalPoint) → SameIds xs ts → all_turns (joined xs ts) s ≡ total (turns_at s) xs
 joined_turns [] ts s h = refl
-joined_turns (x ∷ xs) [] s h = absurd (none_some x.id (h 0))
+joined_turns (x ∷ xs) [] s h = absurd (none-some x.id (h 0))
 joined_turns (x ∷ xs) (t ∷ ts) s h = ap (λ (z : ℤ). turns x.polygon s +ℤ z) (joined_turns xs ts s (λ k. h (suc k)))
 
 joined_triangles : (xs : List Piece) (ts : List PiecePart) → SameIds xs ts → all_triangles (joined xs ts) ≡ triangles_of ts
 joined_triangles [] [] h = refl
 joined_triangles [] (t ∷ ts) h = absurd (some_none t.id (h 0))
-joined_triangles (x ∷ xs) [] h = absurd (none_some x.id (h 0))
+joined_triangles (x ∷ xs) [] h = absurd (none-some x.id (h 0))
 joined_triangles (x ∷ xs) (t ∷ ts) h = ap (λ (us : List Triangle). t.triangles ++ us) (joined_triangles xs ts (λ k. h (suc k)))
 
 abbrev PartCut : CutPiece → Type 0
@@ -94,7 +92,7 @@ CutOnce s p = IsOneOrNone (edge_turns p.edges s)
 
 joined_one : (xs : List Piece) (ts : List PiecePart) (s : RationalPoint) → SameIds xs ts → All (CutOnce s) (joined xs ts) → All (OneAt s) xs
 joined_one [] ts s h a = All-nil (OneAt s)
-joined_one (x ∷ xs) [] s h a = absurd (none_some x.id (h 0))
+joined_one (x ∷ xs) [] s h a = absurd (none-some x.id (h 0))
 joined_one (x ∷ xs) (t ∷ ts) s h a =
     All-cons (OneAt s) x xs (All-head (CutOnce s) (cut_piece x t) (joined xs ts) a) (joined_one xs ts s (λ k. h (suc k)) (All-tail (CutOnce s) (cut_piece x t) (joined xs ts) a))
 
@@ -131,7 +129,7 @@ good_keeps r c g i j t u e f l = by (are_apart t u) refl
   where
     near : are_apart t u ≡ false → KeepApart t u
     near n =
-        let m = g.holds Named (PairAt i j) (record { rising = l; t = t; u = u; at_i = e; at_j = f; near = n }) in
+        let m = g.holds NearPairs (PairAt i j) (record { rising = l; t = t; u = u; at_i = e; at_j = f; near = n }) in
         line_keeps m.1.k t u (g.holds Separating (LineAt m.0) m.1 m.2 t u (ap (λ (a : ℕ). slice_get (triangles_of c.pieces) a) m.3 ∙ e) (ap (λ (a : ℕ). slice_get (triangles_of c.pieces) a) m.4 ∙ f))
 
     by : (b : Bool) → are_apart t u ≡ b → KeepApart t u
@@ -190,13 +188,9 @@ pub record GoodParcel (r : Contents) (x : Parcel) : Type 0 where
   pub flat : All IsFlat fs
   pub net : SameNet same_point (edges_of x.polygon) (edges_of_pieces (pieces_named r x.id) ++ edges_of_triangles fs)
 
-part_of : (o : Option ParcelPart) (n : List ℕ) → option_map (λ (t : ParcelPart). t.id) o ≡ Some n → (t : ParcelPart) × (o ≡ Some t)
-part_of None n e = absurd (none_some n e)
-part_of (Some t) n e = (t, refl)
-
 pub good_parcel : (r : Contents) (c : Cert) → HoldsEverywhere r c Names → HoldsEverywhere r c Flats → HoldsEverywhere r c ParcelEdges → (k : ℕ) (x : Parcel) → slice_get r.parcels k ≡ Some x → GoodParcel r x
 good_parcel r c ids flats net k x e =
-    let p = part_of (slice_get c.parcels k) x.id (ids (ParcelAt k) ∙ ap (λ (o : Option Parcel). option_map (λ (y : Parcel). y.id) o) e) in
+    let p = some_item (λ (t : ParcelPart). t.id) (slice_get c.parcels k) x.id (ids (ParcelAt k) ∙ ap (λ (o : Option Parcel). option_map (λ (y : Parcel). y.id) o) e) in
     record { fs = p.0.flats; flat = flats (ParcelAt k) x p.0 e p.1; net = net (ParcelAt k) x p.0 e p.1 }
 
 bare_net : (r : Contents) (x : Parcel) (g : GoodParcel r x) → SameNet same_point (edges_of x.polygon) (all_edges (bare (pieces_named r x.id)) ++ edges_of_triangles g.fs)
@@ -262,10 +256,6 @@ all_parcels r c g s d =
     all_from (λ (x : Parcel). IsInParcel s x ↔ ExactlyOne (IsInPiece s) (pieces_named r x.id)) r.parcels (λ k x e. parcel_iff r s x (parcel_at r c g s d k x e))
 
 -- ---- areas
-part_at : (o : Option PiecePart) (n : List ℕ) → option_map (λ (t : PiecePart). t.id) o ≡ Some n → (t : PiecePart) × (o ≡ Some t)
-part_at None n e = absurd (none_some n e)
-part_at (Some t) n e = (t, refl)
-
 abbrev HasArea : Piece → Type 0
 HasArea x = pos 0 <ℤ area2 x.polygon
 
@@ -277,19 +267,18 @@ parcel_area r x g =
     sym (area2_is x.polygon) ∙ area_is_of_its_pieces (edges_of x.polygon) g.fs (bare (pieces_named r x.id)) g.flat (bare_net r x g) ∙ bare_areas (pieces_named r x.id)
 
 -- the areas of some of the pieces
+areas_total : (xs : List Piece) → total (λ (x : Piece). area2 x.polygon) xs ≡ areas2 xs
+areas_total [] = refl
+areas_total (x ∷ xs) = ap (λ (z : ℤ). area2 x.polygon +ℤ z) (areas_total xs)
+
 some_areas : (q : Piece → Bool) (xs : List Piece) → All HasArea xs → (pos 0 ≤ℤ areas2 (filter q xs)) × (areas2 (filter q xs) ≤ℤ areas2 xs)
-some_areas q [] h = (omega (arith, ints), omega (arith, ints))
-some_areas q (x ∷ xs) h = by (q x) (All-head HasArea x xs h) (some_areas q xs (All-tail HasArea x xs h))
+some_areas q xs h =
+    let area : Piece → ℤ = λ x. area2 x.polygon in
+    let k = total-filter area q xs (All-weaker HasArea (λ x. pos 0 ≤ℤ area x) (λ x p. by (area x) p) xs h) in
+    (subst (λ (z : ℤ). pos 0 ≤ℤ z) (areas_total (filter q xs)) k.0, subst (λ (z : ℤ). areas2 (filter q xs) ≤ℤ z) (areas_total xs) (subst (λ (z : ℤ). z ≤ℤ total area xs) (areas_total (filter q xs)) k.1))
   where
-    kept : (a u t : ℤ) → pos 0 <ℤ a → (pos 0 ≤ℤ u) × (u ≤ℤ t) → (pos 0 ≤ℤ (a +ℤ u)) × ((a +ℤ u) ≤ℤ (a +ℤ t))
-    kept a u t p k = (omega (arith, ints, k.0), omega (arith, ints, k.1))
-
-    left : (a u t : ℤ) → pos 0 <ℤ a → (pos 0 ≤ℤ u) × (u ≤ℤ t) → (pos 0 ≤ℤ u) × (u ≤ℤ (a +ℤ t))
-    left a u t p k = (k.0, omega (arith, ints, k.1))
-
-    by : (b : Bool) → HasArea x → (pos 0 ≤ℤ areas2 (filter q xs)) × (areas2 (filter q xs) ≤ℤ areas2 xs) → (pos 0 ≤ℤ areas2 (cond b (x ∷ filter q xs) (filter q xs))) × (areas2 (cond b (x ∷ filter q xs) (filter q xs)) ≤ℤ (area2 x.polygon +ℤ areas2 xs))
-    by true p k = kept (area2 x.polygon) (areas2 (filter q xs)) (areas2 xs) p k
-    by false p k = left (area2 x.polygon) (areas2 (filter q xs)) (areas2 xs) p k
+    by : (a : ℤ) → pos 0 <ℤ a → pos 0 ≤ℤ a
+    by a p = omega (arith, ints)
 
 pub areas_add : (r : Contents) (c : Cert) → HoldsEverywhere r c Names → HoldsEverywhere r c Triangles → HoldsEverywhere r c Turned → HoldsEverywhere r c Flats → HoldsEverywhere r c PieceEdges → HoldsEverywhere r c ParcelEdges → AreasAdd r
 areas_add r c ids triangles turned flats piece_net parcel_net = record {
@@ -302,7 +291,7 @@ areas_add r c ids triangles turned flats piece_net parcel_net = record {
   where
     each : All HasArea r.pieces
     each = all_from HasArea r.pieces (λ k x e.
-        let p = part_at (slice_get c.pieces k) x.id (ids (PieceAt k) ∙ ap (λ (o : Option Piece). option_map (λ (y : Piece). y.id) o) e) in
+        let p = some_item (λ (t : PiecePart). t.id) (slice_get c.pieces k) x.id (ids (PieceAt k) ∙ ap (λ (o : Option Piece). option_map (λ (y : Piece). y.id) o) e) in
         piece_area x p.0 (good_parts r c triangles turned flats piece_net k x p.0 e p.1))
 
     parcel : (k : ℕ) (x : Parcel) → slice_get r.parcels k ≡ Some x → area2 x.polygon ≡ areas2 (pieces_named r x.id)

@@ -1,7 +1,7 @@
 -- The codes of conditions.
 use Rattle.std.specs.Prelude.{◌+◌, ◌/◌, ◌%◌, ◌∷◌, [], ℕ, List}
 use Rattle.lpis_checker.specs.declared.condition.Condition.{Condition}
-use Rattle.lpis_checker.specs.declared.condition.Condition.TheVariants.{Names, Triangles, Turned, Flats, Corners, PieceEdges, ParcelEdges, Named, NotApart, Separating}
+use Rattle.lpis_checker.specs.declared.condition.Condition.TheVariants.{Names, Triangles, Turned, Flats, Corners, PieceEdges, ParcelEdges, NearPairs, NotApart, Separating}
 
 -- the number that is told where a condition fails; the lowest is told
 abbrev pub code_of : Condition → ℕ
@@ -12,7 +12,7 @@ code_of Flats = 63
 code_of Corners = 64
 code_of PieceEdges = 65
 code_of ParcelEdges = 66
-code_of Named = 67
+code_of NearPairs = 67
 code_of NotApart = 68
 code_of Separating = 69
 

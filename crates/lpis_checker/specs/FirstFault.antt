@@ -10,7 +10,7 @@ use Rattle.lpis_cert.specs.declared.part.ParcelPart.{ParcelPart}
 use Rattle.lpis_cert.specs.declared.part.PairLine.{PairLine}
 use Rattle.lpis_pairs.specs.NearPairs.{IsBelow}
 use Rattle.lpis_checker.specs.declared.condition.Condition.{Condition}
-use Rattle.lpis_checker.specs.declared.condition.Condition.TheVariants.{Named}
+use Rattle.lpis_checker.specs.declared.condition.Condition.TheVariants.{NearPairs}
 use Rattle.lpis_checker.specs.declared.condition.Site.{Site}
 use Rattle.lpis_checker.specs.declared.condition.Site.TheVariants.{PieceAt, ParcelAt, LineAt, PairAt}
 use Rattle.lpis_checker.specs.declared.fault.Place.{Place}
@@ -77,4 +77,4 @@ Tells r c (fault.At code at) = (site : Site) × IsFault r c code site × (at ≡
 -- the fault is one of the parts, below the conditions on pairs of triangles
 abbrev pub IsOfParts : CheckFault → Type 0
 IsOfParts fault.Memory = ⊤
-IsOfParts (fault.At code at) = code_of code < code_of Named
+IsOfParts (fault.At code at) = code_of code < code_of NearPairs

@@ -18,7 +18,7 @@ use Rattle.lpis_cert.specs.declared.part.PairLine.{PairLine}
 use Rattle.lpis_pairs.specs.NearPairs.{IsBelow, IsNear}
 use Rattle.lpis_checker.specs.Corners.{corners_of, corners_of_pieces}
 use Rattle.lpis_checker.specs.declared.condition.Condition.{Condition}
-use Rattle.lpis_checker.specs.declared.condition.Condition.TheVariants.{Names, Triangles, Turned, Flats, Corners, PieceEdges, ParcelEdges, Named, NotApart, Separating}
+use Rattle.lpis_checker.specs.declared.condition.Condition.TheVariants.{Names, Triangles, Turned, Flats, Corners, PieceEdges, ParcelEdges, NearPairs, NotApart, Separating}
 use Rattle.lpis_checker.specs.declared.condition.Site.{Site}
 use Rattle.lpis_checker.specs.declared.condition.Site.TheVariants.{PieceAt, ParcelAt, LineAt, PairAt}
 
@@ -31,9 +31,13 @@ triangles_of parts = flat_map (λ (t : PiecePart). t.triangles) parts
 abbrev pub edges_of_pieces : List Piece → List (Point × Point)
 edges_of_pieces pieces = flat_map (λ (x : Piece). edges_of x.polygon) pieces
 
--- the corners of triangles are among these points
+-- the corners of a triangle are among these points
+unfoldable pub HasCorners : List Point → Triangle → Type 0
+HasCorners points t = Contains points t.a × Contains points t.b × Contains points t.c
+
+-- so are those of each of these triangles
 abbrev pub HaveCorners : List Point → List Triangle → Type 0
-HaveCorners points ts = All (λ (t : Triangle). Contains points t.a × Contains points t.b × Contains points t.c) ts
+HaveCorners points ts = All (HasCorners points) ts
 
 -- edge k of a triangle has it on the left and another triangle on the right
 abbrev pub EdgeSeparates : ℕ → Triangle → Triangle → Type 0
@@ -83,7 +87,7 @@ Holds r c Corners (PieceAt k) = OfPiece r c k (λ x t. HaveCorners (corners_of x
 Holds r c Corners (ParcelAt k) = OfParcel r c k (λ x t. HaveCorners (corners_of x.polygon ++ corners_of_pieces (pieces_named r x.id)) t.flats)
 Holds r c PieceEdges (PieceAt k) = OfPiece r c k (λ x t. SameNet same_point (edges_of x.polygon) (edges_of_triangles t.triangles ++ edges_of_triangles t.flats))
 Holds r c ParcelEdges (ParcelAt k) = OfParcel r c k (λ x t. SameNet same_point (edges_of x.polygon) (edges_of_pieces (pieces_named r x.id) ++ edges_of_triangles t.flats))
-Holds r c Named (PairAt i j) = IsNear (triangles_of c.pieces) i j → IsNamed c.pairs i j
+Holds r c NearPairs (PairAt i j) = IsNear (triangles_of c.pieces) i j → IsNamed c.pairs i j
 Holds r c NotApart (LineAt k) = OfLine c k (λ l. IsNear (triangles_of c.pieces) l.i l.j)
 Holds r c Separating (LineAt k) = OfLine c k (λ l. OfTwo (triangles_of c.pieces) l.i l.j (LineSeparates l.k))
 Holds r c _ _ = ⊤

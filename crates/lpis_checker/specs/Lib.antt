@@ -7,4 +7,3 @@ pub mod TurnsAdd
 pub mod Searches
 pub mod SignedEdges
 pub mod Laws
-pub mod CornerSets

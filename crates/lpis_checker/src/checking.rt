@@ -7,11 +7,11 @@ ghost use Rattle.lpis_checker.specs.GoodCertificate.{Holds, IsGood};
 ghost use Rattle.lpis_checker.specs.Searches.{FoundFault, IsToldOf};
 ghost use Rattle.lpis_checker.specs.SoundMap.{AreasAdd, IsSoundMap};
 ghost use Rattle.lpis_checker.specs.TurnsAdd.{TurnsAdd};
-ghost use Rattle.lpis_checker.specs.declared.condition.Condition.TheVariants.{Named};
+ghost use Rattle.lpis_checker.specs.declared.condition.Condition.TheVariants.{NearPairs};
 
 use crate::condition::Failing;
 use crate::fault::CheckFault;
-use crate::first_fault::{first_fault, numbered, part_fault, place_of};
+use crate::first_fault::{first_fault, part_fault, place_of};
 use crate::locating::{parcel_at, piece_at};
 use lpis_cert::Cert;
 use lpis_covers::Id;
@@ -35,17 +35,16 @@ fn told(release: &Release, cert: &Cert, found: &Failing) -> Result<CheckFault, A
 
 /// Checks the parts of a certificate, which are the conditions 60 to 66. A fault is told as `check` tells it.
 ///
-/// With Ok each parcel has the area of its pieces, each above 0. Off the lines of the release each piece turns round a point as often
-/// as triangles of its part have the point inside, and each parcel as often as its pieces together.
+/// With Ok each parcel has the area of its pieces, each above 0, and turns round each point as often as its pieces together. Off the
+/// lines of the release each piece turns round a point as often as triangles of its part have the point inside.
 pub fn check_parts(alloc: Global, release: &Release, cert: &Cert) -> Result<(), CheckFault>
-    ensures holds { OnOk result (HoldBelow release.now cert.now (code_of Named)) }
+    ensures holds { OnOk result (HoldBelow release.now cert.now (code_of NearPairs)) }
     ensures areas { OnOk result (AreasAdd release.now) }
     ensures turns { OnOk result (TurnsAdd release.now cert.now) }
     ensures fault { IfErr result (Tells release.now cert.now) }
     ensures parts { IfErr result IsOfParts }
 {
-    let triangles = numbered(alloc, cert)?;
-    match part_fault(alloc, release, cert, triangles.len())? {
+    match part_fault(alloc, release, cert)? {
         Some(found) => Err(told(release, cert, &found)?),
         None => Ok(()),
     }

@@ -21,7 +21,7 @@ pub enum Condition {
     /// Each parcel's edges have the net counts of its pieces' edges and the edges of its flats.
     ParcelEdges,
     /// Two triangles whose boxes are not apart are named by a pair line.
-    Named,
+    NearPairs,
     /// Two triangles that a pair line names have boxes that are not apart.
     NotApart,
     /// The edge that a pair line names separates its two triangles.
@@ -42,7 +42,7 @@ impl Condition {
             Condition::Corners => "64",
             Condition::PieceEdges => "65",
             Condition::ParcelEdges => "66",
-            Condition::Named => "67",
+            Condition::NearPairs => "67",
             Condition::NotApart => "68",
             Condition::Separating => "69",
         }

@@ -1,11 +1,10 @@
 //! Corners that are no points of the rings.
 
-ghost use Rattle.std.specs.Prelude.{◌≡◌, ◌↔◌, ◌<◌, ◌++◌, IsTrue, IfOk, OnOk, All, Contains, None, length};
+ghost use Rattle.std.specs.Prelude.{◌≡◌, ◌↔◌, ◌<◌, ◌++◌, IsTrue, IfOk, OnOk, Contains, None, length};
 ghost use Rattle.lpis_points.specs.declared.point.Point.{Point};
 ghost use Rattle.lpis_parcels.specs.Release.{pieces_named};
 ghost use Rattle.lpis_checker.specs.Corners.{corners_of, corners_of_pieces, points_of_rings};
-ghost use Rattle.lpis_checker.specs.CornerSets.{HasCorners};
-ghost use Rattle.lpis_checker.specs.GoodCertificate.{HaveCorners, Holds, HoldsEverywhere};
+ghost use Rattle.lpis_checker.specs.GoodCertificate.{HasCorners, HaveCorners, Holds, HoldsEverywhere};
 ghost use Rattle.lpis_checker.specs.Searches.{FindsFirst, FindsParcel, FindsPiece};
 ghost use Rattle.lpis_checker.specs.declared.condition.Condition.TheVariants.{Corners, Names};
 ghost use Rattle.lpis_checker.specs.declared.condition.Site.TheVariants.{ParcelAt, PieceAt};
@@ -55,7 +54,7 @@ impl PointSet {
     }
 
     /// Whether the corners of a triangle are in the set.
-    #[tactic(auto, unfolding(crate::specs::CornerSets::HasCorners))]
+    #[tactic(auto, unfolding(crate::specs::GoodCertificate::HasCorners))]
     fn has_corners(&self, triangle: &Triangle) -> bool
         ensures { IsTrue result ↔ HasCorners self.now triangle.now }
     {
@@ -65,7 +64,7 @@ impl PointSet {
 
     /// Whether the corners of each of these triangles are in the set.
     fn has_all_corners(&self, triangles: &[Triangle]) -> bool
-        ensures { IsTrue result ↔ All (HasCorners self.now) triangles.now }
+        ensures { IsTrue result ↔ HaveCorners self.now triangles.now }
     {
         triangles.iter().all(|t| self.has_corners(t))
     }

@@ -1,6 +1,6 @@
 //! The fault that is told: the condition of the lowest code that fails, with its first place.
 
-ghost use Rattle.std.specs.Prelude.{◌≡◌, ◌≤◌, IfOk, MatchOption, length};
+ghost use Rattle.std.specs.Prelude.{◌≡◌, ◌≤◌, IfOk, MatchOption};
 ghost use Rattle.lpis_pairs.specs.NearPairs.{IsNearList};
 ghost use Rattle.lpis_checker.specs.Codes.{code_of};
 ghost use Rattle.lpis_checker.specs.FirstFault.{HoldBelow, parcel_id as parcel_id_lem, piece_id as piece_id_lem, place_of as place_of_lem};
@@ -11,8 +11,8 @@ use crate::condition::{Condition, Failing, Site};
 use crate::corners::strange_corner;
 use crate::fault::Place;
 use crate::flats::bent_flat;
-use crate::named::unnamed_pair;
 use crate::names::misnamed;
+use crate::near_pairs::unnamed_pair;
 use crate::nets::{parcel_with_other_edges, piece_with_other_edges};
 use crate::parts::{piece_turned_round, piece_without_triangle};
 use crate::separators::{line_of_apart_triangles, line_that_separates_nothing};
@@ -65,18 +65,17 @@ pub(crate) fn place_of(release: &Release, cert: &Cert, found: &Failing) -> Resul
         },
         Site::LineAt(place) => match cert.pairs.as_slice().get(place) {
             Some(line) => Ok(Place::Pair(line.i, line.j)),
-            None => Ok(Place::Pair(0, 0)),
+            None => unreachable!(),
         },
         Site::PairAt(i, j) => Ok(Place::Pair(i, j)),
     }
 }
 
 /// The fault of the lowest code below 64.
-fn form_fault(release: &Release, cert: &Cert, count: usize) -> Option<Failing>
-    requires { count ≡ length (triangles_of cert.now.pieces) }
+fn form_fault(release: &Release, cert: &Cert) -> Option<Failing>
     ensures { FindsBelow release.now cert.now 64 result }
 {
-    if let Some(site) = misnamed(release, cert, count) {
+    if let Some(site) = misnamed(release, cert) {
         return Some(Failing {
             condition: Condition::Names,
             site,
@@ -134,12 +133,10 @@ pub(crate) fn part_fault(
     alloc: Global,
     release: &Release,
     cert: &Cert,
-    count: usize,
 ) -> Result<Option<Failing>, AllocError>
-    requires { count ≡ length (triangles_of cert.now.pieces) }
     ensures { IfOk result (FindsBelow release.now cert.now 67) }
 {
-    match form_fault(release, cert, count) {
+    match form_fault(release, cert) {
         Some(found) => Ok(Some(found)),
         None => edge_fault(alloc, release, cert),
     }
@@ -159,7 +156,7 @@ fn pair_fault(
 {
     if let Some(site) = unnamed_pair(release, cert, triangles, near) {
         return Some(Failing {
-            condition: Condition::Named,
+            condition: Condition::NearPairs,
             site,
         });
     }
@@ -179,7 +176,7 @@ fn pair_fault(
 }
 
 /// The triangles of a certificate, in the order of their numbers.
-pub(crate) fn numbered(alloc: Global, cert: &Cert) -> Result<Vec<Triangle>, AllocError>
+fn numbered(alloc: Global, cert: &Cert) -> Result<Vec<Triangle>, AllocError>
     ensures { IfOk result (λ v. v.items ≡ triangles_of cert.now.pieces) }
 {
     let mut triangles = Vec::new(alloc);
@@ -198,12 +195,10 @@ pub(crate) fn first_fault<S: PairSource>(
 ) -> Result<Option<Failing>, AllocError>
     ensures { IfOk result (FindsBelow release.now cert.now 70) }
 {
-    let triangles = numbered(alloc, cert)?;
-    match part_fault(alloc, release, cert, triangles.len())? {
-        Some(found) => Ok(Some(found)),
-        None => {
-            let near = source.pairs(alloc, triangles.as_slice())?;
-            Ok(pair_fault(release, cert, triangles.as_slice(), near.as_slice()))
-        }
+    if let Some(found) = part_fault(alloc, release, cert)? {
+        return Ok(Some(found));
     }
+    let triangles = numbered(alloc, cert)?;
+    let near = source.pairs(alloc, triangles.as_slice())?;
+    Ok(pair_fault(release, cert, triangles.as_slice(), near.as_slice()))
 }

@@ -8,7 +8,7 @@ ghost use Rattle.lpis_checker.specs.declared.condition.Condition.TheVariants.{Na
 ghost use Rattle.lpis_checker.specs.declared.condition.Site.TheVariants.{LineAt, ParcelAt, PieceAt};
 
 use crate::condition::Site;
-use crate::named::is_before;
+use crate::near_pairs::is_before;
 use lpis_cert::{Cert, PairLine};
 use lpis_covers::Id;
 use lpis_parcels::Release;
@@ -46,6 +46,17 @@ fn is_parcel_named(release: &Release, cert: &Cert, place: usize) -> bool
         (None, None) => true,
         _ => false,
     }
+}
+
+/// The number of a certificate's triangles. `Cert` keeps it small.
+fn triangle_count(cert: &Cert) -> usize
+    ensures { result ≡ length (triangles_of cert.now.pieces) }
+{
+    let mut count = 0;
+    for part in cert.pieces.as_slice() {
+        count += part.triangles.as_slice().len();
+    }
+    count
 }
 
 /// Whether a pair line names two of so many triangles, the lower one first.
@@ -100,12 +111,12 @@ fn misnamed_parcel(release: &Release, cert: &Cert) -> Option<usize>
 }
 
 /// The first pair line that is out of order.
-fn disordered_line(release: &Release, cert: &Cert, count: usize) -> Option<usize>
-    requires count { count ≡ length (triangles_of cert.now.pieces) }
+fn disordered_line(release: &Release, cert: &Cert) -> Option<usize>
     requires pieces { (m : ℕ) → Holds release.now cert.now Names (PieceAt m) }
     requires parcels { (m : ℕ) → Holds release.now cert.now Names (ParcelAt m) }
     ensures { FindsLine release.now cert.now Names result }
 {
+    let count = triangle_count(cert);
     for place in 0..cert.pairs.as_slice().len() {
         if !is_in_order(release, cert, count, place) {
             return Some(place);
@@ -114,10 +125,8 @@ fn disordered_line(release: &Release, cert: &Cert, count: usize) -> Option<usize
     None
 }
 
-/// The first part with another name than its piece or parcel, or the first pair line that is out of order, where the certificate
-/// has so many triangles.
-pub(crate) fn misnamed(release: &Release, cert: &Cert, count: usize) -> Option<Site>
-    requires { count ≡ length (triangles_of cert.now.pieces) }
+/// The first part with another name than its piece or parcel, or the first pair line that is out of order.
+pub(crate) fn misnamed(release: &Release, cert: &Cert) -> Option<Site>
     ensures { FindsFirst release.now cert.now Names result }
 {
     if let Some(place) = misnamed_piece(release, cert) {
@@ -126,7 +135,7 @@ pub(crate) fn misnamed(release: &Release, cert: &Cert, count: usize) -> Option<S
     if let Some(place) = misnamed_parcel(release, cert) {
         return Some(Site::ParcelAt(place));
     }
-    if let Some(place) = disordered_line(release, cert, count) {
+    if let Some(place) = disordered_line(release, cert) {
         return Some(Site::LineAt(place));
     }
     None

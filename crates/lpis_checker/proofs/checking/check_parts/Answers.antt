@@ -5,15 +5,15 @@ use Rattle.lpis_checker.proofs.OffLines.{turns_add}
 use Rattle.lpis_checker.proofs.Sound.{areas_add}
 use Rattle.lpis_checker.proofs.checking.check_parts.Goals as goal
 
-pub returns-clause-areas : goal.returns-clause-areas
-returns-clause-areas c =
+pub returns-in-None-clause-areas : goal.returns-in-None-clause-areas
+returns-in-None-clause-areas c =
     let r = c.args.release.now in
     let t = c.args.cert.now in
     let below : HoldBelow r t 67 = rw c.in-None.is at c.in_ok-found.ensures in
     areas_add r t (below.holds Names (omega arith)) (below.holds Triangles (omega arith)) (below.holds Turned (omega arith)) (below.holds Flats (omega arith)) (below.holds PieceEdges (omega arith)) (below.holds ParcelEdges (omega arith))
 
-pub returns-clause-turns : goal.returns-clause-turns
-returns-clause-turns c =
+pub returns-in-None-clause-turns : goal.returns-in-None-clause-turns
+returns-in-None-clause-turns c =
     let r = c.args.release.now in
     let t = c.args.cert.now in
     let below : HoldBelow r t 67 = rw c.in-None.is at c.in_ok-found.ensures in

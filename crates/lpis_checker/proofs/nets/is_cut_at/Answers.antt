@@ -6,8 +6,7 @@ use Rattle.lpis_points.specs.Chain.{SameNet}
 use Rattle.lpis_rings.specs.Edges.{edges_of}
 use Rattle.lpis_rings.specs.Map.{edges_of_triangles}
 use Rattle.lpis_covers.specs.declared.piece.Piece.{Piece}
-use Rattle.lpis_checker.proofs.InRelease.{piece_within}
-use Rattle.lpis_checker.proofs.Sites.{of_piece, read_at}
+use Rattle.lpis_checker.proofs.Sites.{of_piece, piece_within, read_at}
 use Rattle.lpis_checker.proofs.nets.is_cut_at.Goals as goal
 
 pub bounds-pieces-place : goal.bounds-pieces-place

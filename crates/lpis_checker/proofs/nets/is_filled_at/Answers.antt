@@ -8,8 +8,7 @@ use Rattle.lpis_rings.specs.Map.{edges_of_triangles}
 use Rattle.lpis_parcels.specs.declared.parcel.Parcel.{Parcel}
 use Rattle.lpis_parcels.specs.Release.{pieces_named}
 use Rattle.lpis_checker.specs.GoodCertificate.{edges_of_pieces}
-use Rattle.lpis_checker.proofs.InRelease.{parcel_within}
-use Rattle.lpis_checker.proofs.Sites.{of_parcel, read_at}
+use Rattle.lpis_checker.proofs.Sites.{of_parcel, parcel_within, read_at}
 use Rattle.lpis_checker.proofs.nets.is_filled_at.Goals as goal
 
 pub bounds-parcels-place : goal.bounds-parcels-place

@@ -1,7 +1,8 @@
-use Rattle.std.proofs.Common.{◌≡◌, ℕ, ◌+◌, ◌<◌, ◌≤◌, ◌^◌, ℤ, pos, ◌+ℤ◌, nat_abs, Bool, true, false, length, sym, refl, subst, arith, to_z, of_z, w64, SFits}
+use Rattle.std.proofs.Common.{◌≡◌, ℕ, ◌+◌, ◌<◌, ◌≤◌, ◌^◌, ℤ, pos, ◌+ℤ◌, nat_abs, true, false, length, sym, refl, subst, arith, to_z, of_z, w64, SFits}
 use Rattle.std.proofs.lemmas.Int.{ints}
 use Rattle.std.proofs.lemmas.Option.{slice_get_read}
 use Rattle.lpis_checker.specs.SignedEdges.{weight}
+use Rattle.lpis_checker.proofs.Sites.{untrue}
 use Rattle.lpis_checker.proofs.RunLemmas.{WalkAt, walk_none, walk_zero, walk_on, walk_all, walk_fault}
 use Rattle.lpis_checker.proofs.runs.runs_cancel.Goals as goal
 use Rattle.lpis_checker.proofs.runs.runs_cancel.Goals.{then-sum-ne0+else-ends_run, else-sum-ne0}
@@ -17,12 +18,6 @@ zero_is s r v k n h l m g e f = omega (arith, ints)
 
 is_zero : (s r v : ℤ) (k n : ℕ) → nat_abs s ≤ k → k < n → n < 2 ^ 63 → nat_abs r ≤ 1 → r ≡ v → s +ℤ v ≡ pos 0 → of_z w64 (s +ℤ to_z w64 (of_z w64 r)) ≡ 0
 is_zero s r v k n h l m g e f = omega (arith, ints)
-
-untrue : {P : Type 0} (b : Bool) → (b ≡ true → P) × (P → b ≡ true) → b ≡ false → P → ⊥
-untrue b h e p = clash (h.1 p)
-  where
-    clash : b ≡ true → ⊥
-    clash f = cc
 
 pub loop-k-init : goal.loop-k-init
 loop-k-init c = walk_none c.args.edges.now

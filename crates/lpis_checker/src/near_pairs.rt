@@ -5,7 +5,7 @@ ghost use Rattle.lpis_cert.specs.declared.part.PairLine.{PairLine};
 ghost use Rattle.lpis_pairs.specs.NearPairs.{IsBelow, IsNearList};
 ghost use Rattle.lpis_checker.specs.GoodCertificate.{HoldsEverywhere, triangles_of};
 ghost use Rattle.lpis_checker.specs.Searches.{FindsFirst};
-ghost use Rattle.lpis_checker.specs.declared.condition.Condition.TheVariants.{Names, Named};
+ghost use Rattle.lpis_checker.specs.declared.condition.Condition.TheVariants.{Names, NearPairs};
 
 use crate::condition::Site;
 use lpis_cert::{Cert, PairLine};
@@ -62,7 +62,7 @@ pub(crate) fn unnamed_pair(
     requires names { HoldsEverywhere release.now cert.now Names }
     requires numbered { triangles.now ≡ triangles_of cert.now.pieces }
     requires near { IsNearList triangles.now near.now }
-    ensures { FindsFirst release.now cert.now Named result }
+    ensures { FindsFirst release.now cert.now NearPairs result }
 {
     let lines = cert.pairs.as_slice();
     let mut at = 0;

@@ -1,5 +1,5 @@
 use Rattle.lpis_checker.proofs.PairLines.{WalkAt}
-use Rattle.lpis_checker.proofs.named.unnamed_pair.Given as goal
+use Rattle.lpis_checker.proofs.near_pairs.unnamed_pair.Given as goal
 
 abbrev pub invariant-loop-i : goal.invariant-loop-i
 invariant-loop-i l = WalkAt l.cert l.near l.at l.i-index

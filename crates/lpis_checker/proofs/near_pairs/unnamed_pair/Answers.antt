@@ -1,10 +1,10 @@
 use Rattle.std.proofs.Common.{ℕ, get_or, List, sym, subst}
 use Rattle.std.proofs.lemmas.Option.{slice_get-get_or}
 use Rattle.lpis_cert.specs.declared.part.PairLine.{PairLine}
-use Rattle.lpis_checker.specs.declared.condition.Condition.TheVariants.{Named}
+use Rattle.lpis_checker.specs.declared.condition.Condition.TheVariants.{NearPairs}
 use Rattle.lpis_checker.proofs.Sites.{at_all_sites, untrue}
 use Rattle.lpis_checker.proofs.PairLines.{NamesAt, skips_over, walk_more, walk_all, walk_fault}
-use Rattle.lpis_checker.proofs.named.unnamed_pair.Goals as goal
+use Rattle.lpis_checker.proofs.near_pairs.unnamed_pair.Goals as goal
 
 pub loop-i-preserved : goal.loop-i-preserved
 loop-i-preserved c =
@@ -30,4 +30,4 @@ returns-then-not-names_at c =
 
 pub returns : goal.returns
 returns c =
-    at_all_sites c.args.release.now c.args.cert.now Named (λ k. tt) (λ k. tt) (λ k. tt) (walk_all c.args.release.now c.args.cert.now c.args.triangles.now c.args.near.now c.requires.numbered c.requires.near c.loop-i.at c.loop-i.i-index c.loop-i-test.false c.loop-i.invariant)
+    at_all_sites c.args.release.now c.args.cert.now NearPairs (λ k. tt) (λ k. tt) (λ k. tt) (walk_all c.args.release.now c.args.cert.now c.args.triangles.now c.args.near.now c.requires.numbered c.requires.near c.loop-i.at c.loop-i.i-index c.loop-i-test.false c.loop-i.invariant)

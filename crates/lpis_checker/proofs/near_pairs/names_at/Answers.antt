@@ -3,7 +3,7 @@ use Rattle.std.specs.List.{slice_get}
 use Rattle.std.proofs.lemmas.Option.{slice_get_read, slice_get_within, same_Some}
 use Rattle.lpis_cert.specs.declared.part.PairLine.{PairLine}
 use Rattle.lpis_checker.proofs.PairLines.{NamesAt}
-use Rattle.lpis_checker.proofs.named.names_at.Goals as goal
+use Rattle.lpis_checker.proofs.near_pairs.names_at.Goals as goal
 
 there : (lines : List PairLine) (at i j : ℕ) (l : PairLine) (b : Bool) → slice_get lines at ≡ Some l → (IsTrue b ↔ ((l.i ≡ i) × (l.j ≡ j))) → IsTrue b ↔ NamesAt lines at i j
 there lines at i j l b e h = (

@@ -2,7 +2,7 @@ use Rattle.std.proofs.Common.{◌≡◌, ℕ, ◌<◌, ◌≤◌, Some}
 use Rattle.std.specs.List.{slice_get}
 use Rattle.lpis_cert.specs.declared.part.PairLine.{PairLine}
 use Rattle.lpis_pairs.specs.NearPairs.{IsBelow}
-use Rattle.lpis_checker.proofs.named.skip_to.Given as goal
+use Rattle.lpis_checker.proofs.near_pairs.skip_to.Given as goal
 
 abbrev pub invariant-loop-place : goal.invariant-loop-place
 invariant-loop-place l = (m : ℕ) (q : PairLine) → l.from ≤ m → m < l.place → slice_get l.lines m ≡ Some q → IsBelow q.i q.j l.i l.j
