@@ -59,6 +59,7 @@ piece_id r c k = id_or (option_map (λ (t : PiecePart). t.id) (slice_get c.piece
 abbrev pub parcel_id : Contents → Cert → ℕ → List ℕ
 parcel_id r c k = id_or (option_map (λ (t : ParcelPart). t.id) (slice_get c.parcels k)) (option_map (λ (x : Parcel). x.id) (slice_get r.parcels k))
 
+-- a condition fails at a pair line only where there is one, so the first case is never told
 abbrev pub line_place : Option PairLine → Place
 line_place None = place.Pair 0 0
 line_place (Some l) = place.Pair l.i l.j

@@ -1,4 +1,4 @@
--- When a certificate is good for a release: ten conditions, each met or not at a place.
+-- When a certificate is good for a release: ten conditions, each met or not at a site.
 use Rattle.std.specs.Prelude.{◌≡◌, ℕ, ◌+◌, ◌-◌, ◌<◌, nat_lt, cond, List, ◌++◌, length, slice_get, Some, flat_map, All, Contains, MatchOption, ⊤}
 use Rattle.std.specs.Option.{option_map}
 use Rattle.lpis_points.specs.declared.point.Point.{Point}
