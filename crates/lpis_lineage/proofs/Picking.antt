@@ -68,7 +68,3 @@ pub ascending-filter : (p : List ℕ → Bool) (ids : List (List ℕ)) → IsAsc
 unfolding IsStrictlySortedBy
 ascending-filter p [] a = a
 ascending-filter p (x ∷ xs) a = ascending-pick (p x) x (filter p xs) (all-filter (λ y. slice_cmp nat_cmp x y ≡ Less) p xs a.0) (ascending-filter p xs a.1)
-
-pub ascending-none : IsAscending []
-unfolding IsStrictlySortedBy
-ascending-none = tt
