@@ -124,11 +124,11 @@ impl History {
     }
 
     /// Copies of those identifiers that no release holds.
-    fn unheld(&self, alloc: Global, ids: &[Id]) -> Result<Vec<Id>, AllocError>
+    fn unheld(&self, alloc: Global, ids: &IdSet) -> Result<Vec<Id>, AllocError>
         ensures { IfOk result (λ v. v.items ≡ filter (λ id. not (is_some (span_of self.now id))) ids.now) }
     {
         let mut fresh = Vec::new(alloc);
-        for id in ids {
+        for id in ids.iter() {
             if self.span(id).is_none() {
                 let copy = id.copy()?;
                 fresh.push(copy)?;
@@ -148,27 +148,27 @@ impl History {
         if year <= last {
             return Err(AddFault::Year { last });
         }
-        match check(self.alloc, self, live, rows) {
-            Ok(_) => {}
+        let set = match check(self.alloc, self, live, rows) {
+            Ok(set) => set,
             Err(LineageFault::Memory) => return Err(AddFault::Memory),
             Err(fault) => return Err(AddFault::Lineage(fault)),
-        }
-        match self.append(year, live, rows) {
+        };
+        match self.append(year, set, rows) {
             Ok(()) => Ok(()),
             Err(_) => Err(AddFault::Memory),
         }
     }
 
     /// Puts a release without a fault at the end.
-    fn append(&mut self, year: u16, live: &[Id], rows: &[Row]) -> Result<(), AllocError>
+    fn append(&mut self, year: u16, live: IdSet, rows: &[Row]) -> Result<(), AllocError>
         requires later { last_year self.old < year }
-        requires clean { faults self.old live.now rows.now ≡ [] }
-        ensures ok { OnOk result (Adds self.old self.new year live.now rows.now) }
+        requires clean { faults self.old live rows.now ≡ [] }
+        ensures ok { OnOk result (Adds self.old self.new year live rows.now) }
         ensures err { OnErr result (self.new ≡ self.old) }
     {
         let last = self.last_year();
         let entry = Entry::of(self.alloc, year, live, rows)?;
-        let fresh = self.unheld(self.alloc, live)?;
+        let fresh = self.unheld(self.alloc, &entry.live)?;
         let gone = entry.live.outside(self.alloc, self.last_live())?;
         self.spans.reserve(fresh.len())?;
         self.entries.push(entry)?;
