@@ -27,6 +27,10 @@ to-release h live rows e is f = let P : List Row → Type 0 = λ rs. Follows h e
 from-release : (h : List Entry) (live : List (List ℕ)) (rows : List Row) (e : Entry) → IsRelease live rows e → Follows h e.live e.rows → Follows h live rows
 from-release h live rows e is f = follows-rows h live e.live rows (λ q. sym (is.ids q)) (let P : List Row → Type 0 = λ rs. Follows h e.live rs in subst P is.rows_are f)
 
+-- a set with the same members has no fault either
+pub clean-live : (h : List Entry) (a b : List (List ℕ)) (rows : List Row) → ((q : List ℕ) → has_id a q ≡ has_id b q) → faults h b rows ≡ [] → faults h a rows ≡ []
+clean-live h a b rows alike none = clean-from-follows h a rows (follows-rows h a b rows alike (follows-from-clean h b rows none))
+
 pub may-follow : (h : List Entry) (live : List (List ℕ)) (rows : List Row) → IsLawful h → RowsFit h → faults h live rows ≡ [] → MayFollow h live rows
 may-follow h live rows law fit none e is later =
     let f = to-release h live rows e is (follows-from-clean h live rows none) in

@@ -223,7 +223,3 @@ entry-get (x ∷ h) (suc i) d lt = entry-get h i d (omega arith)
 
 pub last-entry : (h : List Entry) (i : ℕ) (e : Entry) → i + 1 ≡ length h → e ≡ get_or h i e → (e.year ≡ last_year h) × (e.live ≡ last_live h)
 last-entry h i e n is = let at = is ∙ entry-get h i e (omega arith) in (ap (λ (x : Entry). x.year) at ∙ year-at h i n, ap (λ (x : Entry). x.live) at ∙ last-at h i n)
-
-pub none-last : (h : List Entry) → length h ≡ 0 → h ≡ []
-none-last [] e = refl
-none-last (x ∷ h) e = absurd (omega arith)

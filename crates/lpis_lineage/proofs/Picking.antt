@@ -1,36 +1,14 @@
 -- Lists of the identifiers that pass a test.
-use Rattle.std.proofs.Common.{◌≡◌, ◌∙◌, ◌<◌, ◌+◌, refl, sym, ap, ℕ, List, [], ◌∷◌, ◌++◌, length, Bool, true, false, cond, take, get_or}
+use Rattle.std.proofs.Common.{◌≡◌, ◌∙◌, refl, sym, ap, ℕ, List, [], ◌∷◌, Bool, true, false, cond}
 use Rattle.std.specs.Prelude.{◌&&◌, ◌||◌}
 use Rattle.std.specs.List.{filter, AllByRecursion}
 use Rattle.std.specs.List.Sorted.{IsStrictlySortedBy}
 use Rattle.std.specs.Ordering.{nat_cmp}
 use Rattle.std.specs.Cmp.Lexicographic.{slice_cmp}
 use Rattle.std.specs.declared.cmp.Ordering.TheVariants.{Less}
-use Rattle.std.proofs.lemmas.List.{append-nil}
 use Rattle.lpis_covers.specs.Ids.{has_id, same_id}
 use Rattle.lpis_lineage.specs.Order.{IsAscending}
 use Rattle.lpis_lineage.proofs.Basics.{same-exact}
-use Rattle.lpis_lineage.proofs.Telling.{take-at}
-
-filter-push : (p : List ℕ → Bool) (xs : List (List ℕ)) (x : List ℕ) → filter p (xs ++ x ∷ []) ≡ filter p xs ++ cond (p x) (x ∷ []) []
-filter-push p [] x = refl
-filter-push p (y ∷ ys) x = ap (λ (l : List (List ℕ)). cond (p y) (y ∷ l) l) (filter-push p ys x) ∙ out (p y) (filter p ys) (cond (p x) (x ∷ []) []) where
-  out : (b : Bool) (l r : List (List ℕ)) → cond b (y ∷ (l ++ r)) (l ++ r) ≡ cond b (y ∷ l) l ++ r
-  out true l r = refl
-  out false l r = refl
-
--- one identifier further, which passes
-pub filter-then : (p : List ℕ → Bool) (ids : List (List ℕ)) (i : ℕ) (id copy : List ℕ) (found new : List (List ℕ)) → i < length ids → id ≡ get_or ids i id → copy ≡ id → p id ≡ true → found ≡ filter p (take i ids) → new ≡ found ++ copy ∷ [] → new ≡ filter p (take (i + 1) ids)
-filter-then p ids i id copy found new lt is c t f n =
-    n ∙ ap (λ (l : List (List ℕ)). l ++ copy ∷ []) f ∙ ap (λ (x : List ℕ). filter p (take i ids) ++ x ∷ []) c
-    ∙ ap (λ (b : Bool). filter p (take i ids) ++ cond b (id ∷ []) []) (sym t)
-    ∙ sym (filter-push p (take i ids) id) ∙ ap (filter p) (take-at ids i id lt is)
-
--- one identifier further, which does not
-pub filter-else : (p : List ℕ → Bool) (ids : List (List ℕ)) (i : ℕ) (id : List ℕ) (found : List (List ℕ)) → i < length ids → id ≡ get_or ids i id → p id ≡ false → found ≡ filter p (take i ids) → found ≡ filter p (take (i + 1) ids)
-filter-else p ids i id found lt is t f =
-    f ∙ sym (append-nil (filter p (take i ids))) ∙ ap (λ (b : Bool). filter p (take i ids) ++ cond b (id ∷ []) []) (sym t)
-    ∙ sym (filter-push p (take i ids) id) ∙ ap (filter p) (take-at ids i id lt is)
 
 -- what passes is among these and passes
 pub has-filter : (p : List ℕ → Bool) (ids : List (List ℕ)) (q : List ℕ) → has_id (filter p ids) q ≡ (has_id ids q && p q)
@@ -68,7 +46,3 @@ pub ascending-filter : (p : List ℕ → Bool) (ids : List (List ℕ)) → IsAsc
 unfolding IsStrictlySortedBy
 ascending-filter p [] a = a
 ascending-filter p (x ∷ xs) a = ascending-pick (p x) x (filter p xs) (all-filter (λ y. slice_cmp nat_cmp x y ≡ Less) p xs a.0) (ascending-filter p xs a.1)
-
-pub ascending-none : IsAscending []
-unfolding IsStrictlySortedBy
-ascending-none = tt

@@ -116,7 +116,7 @@ history-same h new old spans keeps n s = record {
 -- a history with a release more that has no fault
 pub history-more : (h new : List Entry) (e : Entry) (live : List (List ℕ)) (rows : List Row) (year : ℕ) (fresh gone : List (List ℕ)) (old mid more spans : List ℕ → Option Span)
     → IsHistory h old → faults h live rows ≡ [] → IsRelease live rows e → e.year ≡ year → last_year h < year → new ≡ h ++ e ∷ []
-    → fresh ≡ filter (λ id. not (is_some (span_of h id))) live → gone ≡ filter (λ id. not (has_id e.live id)) (last_live h)
+    → fresh ≡ filter (λ id. not (is_some (span_of h id))) e.live → gone ≡ filter (λ id. not (has_id e.live id)) (last_live h)
     → ((q : List ℕ) → mid q ≡ old q) → ((q : List ℕ) → more q ≡ begun (has_id fresh q) year (mid q)) → ((q : List ℕ) → spans q ≡ ended_in (has_id gone q) (last_year h) (more q)) → IsHistory new spans
 history-more h new e live rows year fresh gone old mid more spans keeps clean is at later n ef eg reserved begins ends =
     let later-year : last_year h < e.year = omega arith in
@@ -128,7 +128,7 @@ history-more h new e live rows year fresh gone old mid more spans keeps clean is
       spans_are = λ q.
           ends q ∙ ap (λ (o : Option Span). ended_in (has_id gone q) (last_year h) o) (begins q ∙ ap (λ (o : Option Span). begun (has_id fresh q) year o) (reserved q ∙ keeps.spans_are q))
           ∙ ap (λ (b : Bool). ended_in b (last_year h) (begun (has_id fresh q) year (span_of h q))) (ap (λ (l : List (List ℕ)). has_id l q) eg ∙ has-filter (λ id. not (has_id e.live id)) (last_live h) q)
-          ∙ ap (λ (b : Bool). ended_in (has_id (last_live h) q && not (has_id e.live q)) (last_year h) (begun b year (span_of h q))) (ap (λ (l : List (List ℕ)). has_id l q) ef ∙ has-filter (λ id. not (is_some (span_of h id))) live q ∙ ap (λ (b : Bool). b && not (is_some (span_of h q))) (sym (is.ids q)))
+          ∙ ap (λ (b : Bool). ended_in (has_id (last_live h) q && not (has_id e.live q)) (last_year h) (begun b year (span_of h q))) (ap (λ (l : List (List ℕ)). has_id l q) ef ∙ has-filter (λ id. not (is_some (span_of h id))) e.live q)
           ∙ ap (λ (y : ℕ). ended_in (has_id (last_live h) q && not (has_id e.live q)) (last_year h) (begun (has_id e.live q && not (is_some (span_of h q))) y (span_of h q))) (sym at)
           ∙ span-more h e q follows ∙ ap (λ (l : List Entry). span_of l q) (sym n);
     }

@@ -1,15 +1,14 @@
 -- Lists of faults, one element more.
 use Rattle.std.proofs.Common.{◌≡◌, ◌∙◌, ◌<◌, ◌+◌, ◌⊎◌, inl, inr, refl, sym, ap, subst, arith, ℕ, zero, suc, List, [], ◌∷◌, ◌++◌, length, Bool, true, false, Option, None, Some, take, drop, get_or}
-use Rattle.std.specs.Prelude.{◌&&◌, ◌||◌, not, is_some, Result}
+use Rattle.std.specs.Prelude.{◌&&◌, ◌||◌, not, is_some}
 use Rattle.std.specs.List.{list_any}
 use Rattle.lpis_lineage.specs.declared.row.Row.{Row}
 use Rattle.lpis_lineage.specs.declared.row.Entry.{Entry}
 use Rattle.lpis_lineage.specs.declared.fault.LineageFault.{LineageFault}
 use Rattle.lpis_lineage.specs.declared.fault.LineageFault.TheVariants.{Memory, OldNotLive, OldStillLive, SuccessorMissing, DoubledRow, EndingBesideSuccessor, NoRow}
 use Rattle.lpis_covers.specs.Ids.{has_id}
-use Rattle.lpis_lineage.specs.Lineage.{ended, succeeded, is_of, same_row}
-use Rattle.lpis_lineage.specs.Faults.{told, is_missing, clashes, faults_of_row, row_faults, dropped_faults, used_faults, first, Tells}
-use Rattle.lpis_lineage.proofs.Clean.{told-skip}
+use Rattle.lpis_lineage.specs.Lineage.{ended, succeeded, is_of, last_live, same_row}
+use Rattle.lpis_lineage.specs.Faults.{told, is_missing, clashes, faults, faults_of_row, row_faults, dropped_faults, used_faults, first}
 
 pub record Falls (some none others : List LineageFault) : Type 0 where
   pub when_none : none ≡ [] → some ≡ others
@@ -67,13 +66,6 @@ rows-stop last live rows i k r e lt is (inr t) all eq = inr (
 pub seen-next : (rows : List Row) (i : ℕ) (r : Row) (P : List Row → Type 0) → i < length rows → r ≡ get_or rows i r → P (take i rows ++ r ∷ []) → P (take (i + 1) rows)
 seen-next rows i r P lt is p = subst P (take-at rows i r lt is) p
 
--- dropped identifiers, one further
-pub dropped-step : (live : List (List ℕ)) (rows : List Row) (ids : List (List ℕ)) (i : ℕ) (id : List ℕ) → i < length ids → id ≡ get_or ids i id → (not (has_id live id) && not (list_any (is_of id) rows)) ≡ false → dropped_faults live rows (drop i ids) ≡ dropped_faults live rows (drop (i + 1) ids)
-dropped-step live rows ids i id lt is no-fault = ap (λ (l : List (List ℕ)). dropped_faults live rows l) (drop-at ids i id lt is) ∙ told-skip _ _ _ no-fault
-
-pub dropped-stop : (live : List (List ℕ)) (rows : List Row) (ids : List (List ℕ)) (i : ℕ) (id : List ℕ) (f : LineageFault) → i < length ids → id ≡ get_or ids i id → first (dropped_faults live rows (id ∷ drop (i + 1) ids)) ≡ Some f → first (dropped_faults live rows (drop i ids)) ≡ Some f
-dropped-stop live rows ids i id f lt is t = ap (λ (l : List (List ℕ)). first (dropped_faults live rows l)) (drop-at ids i id lt is) ∙ t
-
 pub used-step : (h : List Entry) (last ids : List (List ℕ)) (i : ℕ) (id : List ℕ) → i < length ids → id ≡ get_or ids i id → used_faults h last (id ∷ drop (i + 1) ids) ≡ used_faults h last (drop (i + 1) ids) → used_faults h last (drop i ids) ≡ used_faults h last (drop (i + 1) ids)
 used-step h last ids i id lt is e = ap (λ (l : List (List ℕ)). used_faults h last l) (drop-at ids i id lt is) ∙ e
 
@@ -109,17 +101,12 @@ row-then rows id x e t = t ∙ sym (ap (λ (b : Bool). b || succeeded rows id) (
 pub row-else : (rows : List Row) (id : List ℕ) (x y : Bool) → x ≡ ended rows id → x ≡ false → y ≡ succeeded rows id → y ≡ list_any (is_of id) rows
 row-else rows id x y e f g = g ∙ sym (ap (λ (b : Bool). b || succeeded rows id) (sym e ∙ f)) ∙ of-either rows id
 
-pub no-fault-live : (a b : Bool) → a ≡ true → (not a && not b) ≡ false
-no-fault-live true b e = refl
-no-fault-live false b e = cc e
-
-pub no-fault-row : (a b : Bool) → b ≡ true → (not a && not b) ≡ false
-no-fault-row true b e = refl
-no-fault-row false true e = refl
-no-fault-row false false e = cc e
-
-pub tells-after : {A : Type 0} (xs ys : List LineageFault) (r : Result A LineageFault) → xs ≡ [] → Tells ys r → Tells (xs ++ ys) r
-tells-after {A = A} xs ys r e t = let P : List LineageFault → Type 0 = λ l. Tells (l ++ ys) r in subst P (sym e) t
+-- where rows and dropped identifiers have no fault, those of used identifiers are left
+pub passed : (h : List Entry) (set live : List (List ℕ)) (rows : List Row) → ((q : List ℕ) → has_id set q ≡ has_id live q) → row_faults (last_live h) set [] 1 rows ≡ [] → dropped_faults set rows (last_live h) ≡ []
+    → faults h live rows ≡ used_faults h (last_live h) live
+passed h set live rows alike no-rows none =
+    ap (λ (l : List LineageFault). l ++ (dropped_faults live rows (last_live h) ++ used_faults h (last_live h) live)) (sym (rows-live (last_live h) set live [] 1 rows alike) ∙ no-rows)
+    ∙ ap (λ (l : List LineageFault). l ++ used_faults h (last_live h) live) (sym (dropped-live set live rows (last_live h) alike) ∙ none)
 
 pub stops-after : (xs ys zs : List LineageFault) (e : LineageFault) → xs ≡ [] → (e ≡ Memory) ⊎ (first ys ≡ Some e) → (e ≡ Memory) ⊎ (first (xs ++ (ys ++ zs)) ≡ Some e)
 stops-after xs ys zs e n (inl m) = inl m

@@ -1,6 +1,7 @@
 //! What a release's lineage has to meet.
 
 ghost use Rattle.std.specs.Prelude.{◌≡◌, ◌++◌, ◌∷◌, ℕ, List, [], OnOk, IfOk};
+ghost use Rattle.lpis_covers.specs.Ids.{has_id};
 ghost use Rattle.lpis_lineage.specs.declared.row.Row.{Row};
 ghost use Rattle.lpis_lineage.specs.Lineage.{last_live};
 ghost use Rattle.lpis_lineage.specs.Faults.{faults_of_row, row_faults, dropped_faults, used_faults, faults, Tells};
@@ -20,15 +21,15 @@ use std::alloc::Global;
 /// Looks at a row, and keeps it.
 fn check_row(
     seen: &mut Seen,
-    history: &History,
+    last: &IdSet,
     live: &IdSet,
     row: &Row,
     number: usize,
 ) -> Result<(), LineageFault>
-    ensures tells { (before : List Row) → IsSeen seen.old before → Tells (faults_of_row (last_live history.now) live.now before number row.now []) result }
+    ensures tells { (before : List Row) → IsSeen seen.old before → Tells (faults_of_row last.now live.now before number row.now []) result }
     ensures seen { (before : List Row) → IsSeen seen.old before → OnOk result (IsSeen seen.new (before ++ row.now ∷ [])) }
 {
-    if !history.is_live(&row.old) {
+    if !last.contains(&row.old) {
         return Err(LineageFault::OldNotLive { row: number });
     }
     if live.contains(&row.old) {
@@ -46,27 +47,22 @@ fn check_row(
 }
 
 /// Looks at the rows.
-fn check_rows(
-    alloc: Global,
-    history: &History,
-    live: &IdSet,
-    rows: &[Row],
-) -> Result<Seen, LineageFault>
-    ensures tells { Tells (row_faults (last_live history.now) live.now [] 1 rows.now) result }
+fn check_rows(alloc: Global, last: &IdSet, live: &IdSet, rows: &[Row]) -> Result<Seen, LineageFault>
+    ensures tells { Tells (row_faults last.now live.now [] 1 rows.now) result }
     ensures seen { IfOk result (λ s. IsSeen s rows.now) }
 {
     let mut seen = Seen::new(alloc);
     for (i, row) in rows.iter().enumerate() {
-        check_row(&mut seen, history, live, row, i + 1)?;
+        check_row(&mut seen, last, live, row, i + 1)?;
     }
     Ok(seen)
 }
 
 /// Looks for dropped identifiers without a row.
-fn check_dropped(live: &IdSet, seen: &Seen, ids: &[Id]) -> Result<(), LineageFault>
-    ensures { (rows : List Row) → IsSeen seen.now rows → Tells (dropped_faults live.now rows ids.now) result }
+fn check_dropped(last: &IdSet, live: &IdSet, seen: &Seen) -> Result<(), LineageFault>
+    ensures { (rows : List Row) → IsSeen seen.now rows → Tells (dropped_faults live.now rows last.now) result }
 {
-    for id in ids {
+    for id in last.iter() {
         if !live.contains(id) && !seen.has_row(id) {
             return Err(LineageFault::NoRow { id: id.copy()? });
         }
@@ -106,39 +102,42 @@ pub fn accept(
     ensures decides { Decides history.now live.now rows.now result }
     ensures change { IfOk result (IsChange (last_live history.now) live.now rows.now) }
 {
-    check(alloc, history, live, rows)?;
-    match Change::of(alloc, history, live, rows) {
+    let set = check(alloc, history, live, rows)?;
+    match Change::of(alloc, history.last_live(), &set, rows) {
         Ok(change) => Ok(change),
         Err(_) => Err(LineageFault::Memory),
     }
 }
 
-/// Whether a release may follow, with its first fault if not.
+/// The set of a release's identifiers where it may follow, with its first fault if not.
 pub(crate) fn check(
     alloc: Global,
     history: &History,
     live: &[Id],
     rows: &[Row],
-) -> Result<(), LineageFault>
+) -> Result<IdSet, LineageFault>
     ensures tells { Tells (faults history.now live.now rows.now) result }
     ensures decides { Decides history.now live.now rows.now result }
+    ensures set { IfOk result (λ s. (q : List ℕ) → has_id s q ≡ has_id live.now q) }
 {
     let _ = history.releases();
     first_fault(alloc, history, live, rows)
 }
 
-/// The first fault of a release.
+/// The first fault of a release, or the set of its identifiers.
 fn first_fault(
     alloc: Global,
     history: &History,
     live: &[Id],
     rows: &[Row],
-) -> Result<(), LineageFault>
-    ensures { Tells (faults history.now live.now rows.now) result }
+) -> Result<IdSet, LineageFault>
+    ensures tells { Tells (faults history.now live.now rows.now) result }
+    ensures set { IfOk result (λ s. (q : List ℕ) → has_id s q ≡ has_id live.now q) }
 {
     let set = IdSet::of(alloc, live)?;
-    let seen = check_rows(alloc, history, &set, rows)?;
-    let ids = history.last_ids(alloc)?;
-    check_dropped(&set, &seen, ids.as_slice())?;
-    check_used(history, live)
+    let last = history.last_live();
+    let seen = check_rows(alloc, last, &set, rows)?;
+    check_dropped(last, &set, &seen)?;
+    check_used(history, live)?;
+    Ok(set)
 }

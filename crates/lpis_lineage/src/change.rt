@@ -1,17 +1,15 @@
 //! What a release changes.
 
-ghost use Rattle.std.specs.Prelude.{◌≡◌, ℕ, List, IfOk, None, cond};
+ghost use Rattle.std.specs.Prelude.{◌≡◌, ℕ, List, IfOk};
 ghost use Rattle.std.specs.HashMap.{get};
-ghost use Rattle.lpis_covers.specs.Ids.{has_id, same_id};
+ghost use Rattle.lpis_covers.specs.Ids.{same_id};
 ghost use Rattle.lpis_lineage.specs.Changes.{IsChange, kind_at};
 ghost use Rattle.lpis_lineage.specs.declared.row.Row.{Row};
 ghost use Rattle.lpis_lineage.specs.Fates.{AreFates};
 ghost use Rattle.lpis_lineage.specs.Kinds.{kind};
-ghost use Rattle.lpis_lineage.specs.Lineage.{last_live};
 ghost use Rattle.lpis_lineage.specs.Order.{IsAscending};
 
 use crate::fates::{Fates, all_fates, kind_of};
-use crate::history::History;
 use crate::id_set::IdSet;
 use crate::kind::Kind;
 use crate::row::{Row, copy_rows};
@@ -40,20 +38,18 @@ impl Model for Change {
 }
 
 impl Change {
-    /// The change to these identifiers by these rows.
+    /// The change from the identifiers of the last release to those that are live now, by these rows.
     pub(crate) fn of(
         alloc: Global,
-        history: &History,
-        live: &[Id],
+        last: &IdSet,
+        live: &IdSet,
         rows: &[Row],
     ) -> Result<Change, AllocError>
-        ensures { IfOk result (IsChange (last_live history.now) live.now rows.now) }
+        ensures { IfOk result (IsChange last.now live.now rows.now) }
     {
-        let set = IdSet::of(alloc, live)?;
-        let fates = all_fates(alloc, history, &set, rows)?;
-        let ids = history.last_ids(alloc)?;
-        let kinds = kinds_of(alloc, history, &set, &fates, ids.as_slice())?;
-        let dropped = set.outside(alloc, ids.as_slice())?;
+        let fates = all_fates(alloc, last, live, rows)?;
+        let kinds = kinds_of(alloc, last, live, &fates)?;
+        let dropped = live.outside(alloc, last)?;
         let rows = copy_rows(alloc, rows)?;
         Ok(Change {
             kinds,
@@ -78,22 +74,19 @@ impl Change {
     }
 }
 
-/// The kinds of these identifiers.
+/// The kinds of the identifiers of the last release.
 fn kinds_of(
     alloc: Global,
-    history: &History,
+    last: &IdSet,
     live: &IdSet,
     fates: &Fates,
-    ids: &[Id],
 ) -> Result<HashMap<Id, Kind>, AllocError>
-    ensures { (rows : List Row) → AreFates (last_live history.now) live.now rows fates.now rows → IfOk result (λ m. (q : List ℕ) → get same_id m q ≡ cond (has_id ids.now q) (kind (last_live history.now) live.now rows q) None) }
+    ensures { (rows : List Row) → AreFates last.now live.now rows fates.now rows → IfOk result (λ m. (q : List ℕ) → get same_id m q ≡ kind last.now live.now rows q) }
 {
     let mut kinds = HashMap::new(alloc);
-    for id in ids {
-        if let Some(kind) = kind_of(history, live, fates, id) {
-            let copy = id.copy()?;
-            kinds.insert(copy, kind)?;
-        }
+    for id in last.iter() {
+        let copy = id.copy()?;
+        kinds.insert(copy, kind_of(live, fates, id))?;
     }
     Ok(kinds)
 }

@@ -1,14 +1,13 @@
 //! The kinds of the identifiers of the last release.
 
-ghost use Rattle.std.specs.Prelude.{◌≡◌, ◌++◌, ◌∷◌, ℕ, List, [], OnOk, IfOk, true};
+ghost use Rattle.std.specs.Prelude.{◌≡◌, ◌++◌, ◌∷◌, ℕ, List, [], OnOk, IfOk, Some, true};
 ghost use Rattle.lpis_lineage.specs.declared.row.Row.{Row};
 ghost use Rattle.lpis_covers.specs.Ids.{has_id};
-ghost use Rattle.lpis_lineage.specs.Lineage.{is_this, last_live};
+ghost use Rattle.lpis_lineage.specs.Lineage.{is_this};
 ghost use Rattle.lpis_lineage.specs.Kinds.{heirs, kind, by_counts as counted};
 ghost use Rattle.lpis_lineage.specs.Tally.{IsTally};
 ghost use Rattle.lpis_lineage.specs.Fates.{AreFates, is_shared as shared_by};
 
-use crate::history::History;
 use crate::id_set::IdSet;
 use crate::kind::Kind;
 use crate::row::Row;
@@ -25,31 +24,28 @@ pub(crate) struct Fates {
 }
 
 /// Whether a successor has several predecessors.
-fn is_shared(history: &History, live: &IdSet, named: &Tally, heir: &Id) -> bool
-    ensures { (all : List Row) → IsTally named.now (heirs all) → has_id (heirs all) heir.now ≡ true → result ≡ shared_by (last_live history.now) live.now all heir.now }
+fn is_shared(last: &IdSet, live: &IdSet, named: &Tally, heir: &Id) -> bool
+    ensures { (all : List Row) → IsTally named.now (heirs all) → has_id (heirs all) heir.now ≡ true → result ≡ shared_by last.now live.now all heir.now }
 {
     let twice = named.twice.contains(heir);
-    let was = history.is_live(heir);
+    let was = last.contains(heir);
     let is = live.contains(heir);
     twice || (was && is)
 }
 
-/// The kind of an identifier.
-pub(crate) fn kind_of(history: &History, live: &IdSet, fates: &Fates, id: &Id) -> Option<Kind>
-    ensures { (rows : List Row) → AreFates (last_live history.now) live.now rows fates.now rows → result ≡ kind (last_live history.now) live.now rows id.now }
+/// The kind of an identifier of the last release.
+pub(crate) fn kind_of(live: &IdSet, fates: &Fates, id: &Id) -> Kind
+    ensures { (last : List (List ℕ)) → (rows : List Row) → AreFates last live.now rows fates.now rows → has_id last id.now ≡ true → Some result ≡ kind last live.now rows id.now }
 {
-    if !history.is_live(id) {
-        return None;
-    }
     if live.contains(id) {
-        return Some(Kind::Kept);
+        return Kind::Kept;
     }
     if fates.ended.contains(id) {
-        return Some(Kind::Ended);
+        return Kind::Ended;
     }
     let several = fates.olds.twice.contains(id);
     let shared = fates.shared.contains(id);
-    Some(by_counts(several, shared))
+    by_counts(several, shared)
 }
 
 /// The kind of a dropped identifier with successors.
@@ -68,12 +64,12 @@ fn by_counts(several: bool, shared: bool) -> Kind
 /// Looks at a row, and keeps it.
 fn note_row(
     fates: &mut Fates,
-    history: &History,
+    last: &IdSet,
     live: &IdSet,
     named: &Tally,
     row: &Row,
 ) -> Result<(), AllocError>
-    ensures { (all : List Row) → (before : List Row) → IsTally named.now (heirs all) → ((s : List ℕ) → is_this s row.now.new ≡ true → has_id (heirs all) s ≡ true) → AreFates (last_live history.now) live.now all fates.old before → OnOk result (AreFates (last_live history.now) live.now all fates.new (before ++ row.now ∷ [])) }
+    ensures { (all : List Row) → (before : List Row) → IsTally named.now (heirs all) → ((s : List ℕ) → is_this s row.now.new ≡ true → has_id (heirs all) s ≡ true) → AreFates last.now live.now all fates.old before → OnOk result (AreFates last.now live.now all fates.new (before ++ row.now ∷ [])) }
 {
     match &row.new {
         None => {
@@ -83,7 +79,7 @@ fn note_row(
         }
         Some(heir) => {
             fates.olds.note(&row.old)?;
-            if is_shared(history, live, named, heir) {
+            if is_shared(last, live, named, heir) {
                 let old = row.old.copy()?;
                 fates.shared.add(old)?;
                 Ok(())
@@ -97,11 +93,11 @@ fn note_row(
 /// What becomes of the identifiers.
 pub(crate) fn all_fates(
     alloc: Global,
-    history: &History,
+    last: &IdSet,
     live: &IdSet,
     rows: &[Row],
 ) -> Result<Fates, AllocError>
-    ensures { IfOk result (λ f. AreFates (last_live history.now) live.now rows.now f rows.now) }
+    ensures { IfOk result (λ f. AreFates last.now live.now rows.now f rows.now) }
 {
     let named = tally_heirs(alloc, rows)?;
     let mut fates = Fates {
@@ -110,7 +106,7 @@ pub(crate) fn all_fates(
         shared: IdSet::new(alloc),
     };
     for row in rows {
-        note_row(&mut fates, history, live, &named, row)?;
+        note_row(&mut fates, last, live, &named, row)?;
     }
     Ok(fates)
 }

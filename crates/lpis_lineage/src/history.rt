@@ -1,17 +1,17 @@
 //! Histories.
 
-ghost use Rattle.std.specs.Prelude.{◌≡◌, ◌<◌, ◌&&◌, not, is_some, ℕ, List, [], IfOk, OnOk, OnErr, false};
+ghost use Rattle.std.specs.Prelude.{◌≡◌, ◌<◌, ◌&&◌, not, is_some, ℕ, List, [], IfOk, IfSome, IfNone, OnOk, OnErr, false};
 ghost use Rattle.std.specs.List.{filter};
 ghost use Rattle.lpis_covers.specs.Ids.{has_id};
 ghost use Rattle.lpis_lineage.specs.Lineage.{last_live, last_year};
 ghost use Rattle.lpis_lineage.specs.Lawful.{IsLawful, RowsFit};
-ghost use Rattle.lpis_lineage.specs.Order.{IsAscending};
 ghost use Rattle.lpis_lineage.specs.Spans.{last_held as held_last, span_of};
 ghost use Rattle.lpis_lineage.specs.Faults.{faults};
 ghost use Rattle.lpis_lineage.specs.Accepts.{Adds, AddTells};
 
 use crate::acceptance::check;
 use crate::fault::{AddFault, LineageFault};
+use crate::id_set::IdSet;
 use crate::row::{Entry, Row};
 use crate::span::{Span, begin_spans, end_spans};
 use lpis_covers::Id;
@@ -28,11 +28,13 @@ pub struct History {
     entries: Vec<Entry>,
     /// The span of each identifier.
     spans: HashMap<Id, Span>,
+    /// Who is live before the first release: nobody.
+    nobody: IdSet,
     alloc: Global,
 }
 
 impl Model for History {
-    ghost use Rattle.std.specs.Prelude.{List};
+    ghost use Rattle.std.specs.Prelude.{◌≡◌, List, []};
     ghost use Rattle.std.specs.HashMap.{get};
     ghost use Rattle.lpis_covers.specs.Ids.{same_id};
     ghost use Rattle.lpis_lineage.specs.declared.row.Entry.{Entry};
@@ -42,7 +44,7 @@ impl Model for History {
 
     ghost view = { λ a. a.entries.items };
 
-    ghost invariant = { λ a. IsHistory a.entries.items (λ id. get same_id a.spans id) };
+    ghost invariant = { λ a. IsHistory a.entries.items (λ id. get same_id a.spans id) × (a.nobody ≡ []) };
 }
 
 impl History {
@@ -53,6 +55,7 @@ impl History {
         History {
             entries: Vec::new(alloc),
             spans: HashMap::new(alloc),
+            nobody: IdSet::new(alloc),
             alloc,
         }
     }
@@ -66,16 +69,22 @@ impl History {
         self.entries.as_slice()
     }
 
+    /// The last release, where there is one.
+    fn last_entry(&self) -> Option<&Entry>
+        ensures none { IfNone result (self.now ≡ []) }
+        ensures some { IfSome result (λ e. (e.now.year ≡ last_year self.now) × (e.now.live ≡ last_live self.now)) }
+    {
+        self.entries.last()
+    }
+
     /// The year of the last release; 0 where there is none.
     pub fn last_year(&self) -> u16
         ensures { result ≡ last_year self.now }
     {
-        let count = self.entries.len();
-        if count == 0 {
-            return 0;
+        match self.last_entry() {
+            Some(entry) => entry.year,
+            None => 0,
         }
-        let entry = &self.entries[count - 1];
-        entry.year
     }
 
     /// The first and the last year in which the identifier is live, the last being 0 while it is live in the last release;
@@ -86,33 +95,21 @@ impl History {
         self.spans.get(id).copied()
     }
 
+    /// The identifiers of the last release.
+    pub(crate) fn last_live(&self) -> &IdSet
+        ensures { result.now ≡ last_live self.now }
+    {
+        match self.last_entry() {
+            Some(entry) => &entry.live,
+            None => &self.nobody,
+        }
+    }
+
     /// Whether the last release holds the identifier.
     pub(crate) fn is_live(&self, id: &Id) -> bool
         ensures { result ≡ has_id (last_live self.now) id.now }
     {
-        let count = self.entries.len();
-        if count == 0 {
-            return false;
-        }
-        let entry = &self.entries[count - 1];
-        entry.live.contains(id)
-    }
-
-    /// The identifiers of the last release, ascending.
-    pub(crate) fn last_ids(&self, alloc: Global) -> Result<Vec<Id>, AllocError>
-        ensures list { IfOk result (λ v. v.items ≡ last_live self.now) }
-        ensures ascending { OnOk result (IsAscending (last_live self.now)) }
-    {
-        let mut ids = Vec::new(alloc);
-        let count = self.entries.len();
-        if count == 0 {
-            return Ok(ids);
-        }
-        let entry = &self.entries[count - 1];
-        for id in entry.live.iter() {
-            ids.push(id.copy()?)?;
-        }
-        Ok(ids)
+        self.last_live().contains(id)
     }
 
     /// The last year in which an identifier was live that is not live in the last release.
@@ -127,11 +124,11 @@ impl History {
     }
 
     /// Copies of those identifiers that no release holds.
-    fn unheld(&self, alloc: Global, ids: &[Id]) -> Result<Vec<Id>, AllocError>
+    fn unheld(&self, alloc: Global, ids: &IdSet) -> Result<Vec<Id>, AllocError>
         ensures { IfOk result (λ v. v.items ≡ filter (λ id. not (is_some (span_of self.now id))) ids.now) }
     {
         let mut fresh = Vec::new(alloc);
-        for id in ids {
+        for id in ids.iter() {
             if self.span(id).is_none() {
                 let copy = id.copy()?;
                 fresh.push(copy)?;
@@ -151,29 +148,28 @@ impl History {
         if year <= last {
             return Err(AddFault::Year { last });
         }
-        match check(self.alloc, self, live, rows) {
-            Ok(()) => {}
+        let set = match check(self.alloc, self, live, rows) {
+            Ok(set) => set,
             Err(LineageFault::Memory) => return Err(AddFault::Memory),
             Err(fault) => return Err(AddFault::Lineage(fault)),
-        }
-        match self.append(year, live, rows) {
+        };
+        match self.append(year, set, rows) {
             Ok(()) => Ok(()),
             Err(_) => Err(AddFault::Memory),
         }
     }
 
     /// Puts a release without a fault at the end.
-    fn append(&mut self, year: u16, live: &[Id], rows: &[Row]) -> Result<(), AllocError>
+    fn append(&mut self, year: u16, live: IdSet, rows: &[Row]) -> Result<(), AllocError>
         requires later { last_year self.old < year }
-        requires clean { faults self.old live.now rows.now ≡ [] }
-        ensures ok { OnOk result (Adds self.old self.new year live.now rows.now) }
+        requires clean { faults self.old live rows.now ≡ [] }
+        ensures ok { OnOk result (Adds self.old self.new year live rows.now) }
         ensures err { OnErr result (self.new ≡ self.old) }
     {
         let last = self.last_year();
         let entry = Entry::of(self.alloc, year, live, rows)?;
-        let fresh = self.unheld(self.alloc, live)?;
-        let ids = self.last_ids(self.alloc)?;
-        let gone = entry.live.outside(self.alloc, ids.as_slice())?;
+        let fresh = self.unheld(self.alloc, &entry.live)?;
+        let gone = entry.live.outside(self.alloc, self.last_live())?;
         self.spans.reserve(fresh.len())?;
         self.entries.push(entry)?;
         // Nothing takes memory from here on.

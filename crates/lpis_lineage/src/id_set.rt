@@ -82,12 +82,13 @@ impl IdSet {
         self.ids.iter()
     }
 
-    /// Copies of those identifiers that are in the set.
-    pub(crate) fn inside(&self, alloc: Global, ids: &[Id]) -> Result<Vec<Id>, AllocError>
-        ensures { IfOk result (λ v. v.items ≡ filter (λ id. has_id self.now id) ids.now) }
+    /// Copies of those identifiers of another set that are in this one, ascending.
+    pub(crate) fn inside(&self, alloc: Global, other: &IdSet) -> Result<Vec<Id>, AllocError>
+        ensures list { IfOk result (λ v. v.items ≡ filter (λ id. has_id self.now id) other.now) }
+        ensures ascending { IfOk result (λ v. IsAscending v.items) }
     {
         let mut found = Vec::new(alloc);
-        for id in ids {
+        for id in other.iter() {
             if self.contains(id) {
                 let copy = id.copy()?;
                 found.push(copy)?;
@@ -96,12 +97,13 @@ impl IdSet {
         Ok(found)
     }
 
-    /// Copies of those identifiers that are not in the set.
-    pub(crate) fn outside(&self, alloc: Global, ids: &[Id]) -> Result<Vec<Id>, AllocError>
-        ensures { IfOk result (λ v. v.items ≡ filter (λ id. not (has_id self.now id)) ids.now) }
+    /// Copies of those identifiers of another set that are not in this one, ascending.
+    pub(crate) fn outside(&self, alloc: Global, other: &IdSet) -> Result<Vec<Id>, AllocError>
+        ensures list { IfOk result (λ v. v.items ≡ filter (λ id. not (has_id self.now id)) other.now) }
+        ensures ascending { IfOk result (λ v. IsAscending v.items) }
     {
         let mut found = Vec::new(alloc);
-        for id in ids {
+        for id in other.iter() {
             if !self.contains(id) {
                 let copy = id.copy()?;
                 found.push(copy)?;

@@ -58,13 +58,12 @@ impl Entry {
     pub(crate) fn of(
         alloc: Global,
         year: u16,
-        live: &[Id],
+        live: IdSet,
         rows: &[Row],
     ) -> Result<Entry, AllocError>
-        ensures release { IfOk result (IsRelease live.now rows.now) }
+        ensures release { IfOk result (IsRelease live rows.now) }
         ensures year { IfOk result (λ e. e.year ≡ year) }
     {
-        let live = IdSet::of(alloc, live)?;
         let rows = copy_rows(alloc, rows)?;
         Ok(Entry {
             year,

@@ -59,6 +59,5 @@ pub fn descendants(alloc: Global, history: &History, id: &Id) -> Result<Vec<Id>,
     ensures ascending { IfOk result (λ v. IsAscending v.items) }
 {
     let reached = reached(alloc, history, id)?;
-    let ids = history.last_ids(alloc)?;
-    reached.inside(alloc, ids.as_slice())
+    reached.inside(alloc, history.last_live())
 }

@@ -1,15 +1,20 @@
-use Rattle.std.proofs.Common.{◌∙◌, sym, ℕ, List, Option}
-use Rattle.lpis_lineage.specs.declared.kind.Kind.{Kind}
+use Rattle.std.proofs.Common.{◌∙◌, ap, ℕ, List, true, ◌≡◌}
+use Rattle.lpis_covers.specs.Ids.{has_id, same_id}
 use Rattle.lpis_lineage.specs.Kinds.{kind}
-use Rattle.lpis_lineage.specs.Lineage.{last_live}
-use Rattle.lpis_lineage.proofs.KindSteps.{kinds-then, kinds-else}
-use Rattle.lpis_lineage.proofs.change.kinds_of.Goals.{in-Some+in_ok-copy+in_ok-insert, in_default}
+use Rattle.lpis_lineage.proofs.Basics.{same-refl}
+use Rattle.lpis_lineage.proofs.Clean.{or-left, or-right}
+use Rattle.lpis_lineage.proofs.KindSteps.{kinds-step}
 use Rattle.lpis_lineage.proofs.change.kinds_of.Goals as goal
 
 pub loop-id-preserved : goal.loop-id-preserved
-loop-id-preserved c = λ rows fates q.
-    let K : List ℕ → Option Kind = λ id. kind (last_live c.args.history.now) c.args.live.now rows id in
-    elim c.match-kind_of.branch [
-      | in-Some+in_ok-copy+in_ok-insert w ↦ rw w.kinds-is (kinds-then K c.args.ids.now c.loop-id.id-index c.id-item.result w.in_ok-copy.copy q w.in-Some.kind _ _ c.loop-id-test.true c.id-item.is w.in_ok-copy.ensures (sym w.in-Some.is ∙ c.kind_of.ensures rows fates) (c.loop-id.invariant rows fates q) (w.in_ok-insert.ensures.updates.0 q))
-      | in_default w ↦ rw w.kinds-is (kinds-else K c.args.ids.now c.loop-id.id-index c.id-item.result q _ c.loop-id-test.true c.id-item.is (sym w.in_default.is ∙ c.kind_of.ensures rows fates) (c.loop-id.invariant rows fates q))
-    ]
+loop-id-preserved c =
+    let id = c.in-Some.id.now in
+    let last = c.args.last.now in
+    let live = c.args.live.now in
+    let left = c.in-Some.ensures.steps in
+    let was : has_id last id ≡ true = c.loop-id.invariant.among id (ap (λ (l : List (List ℕ)). has_id l id) left ∙ or-left (same_id id id) _ (same-refl id)) in
+    record {
+      among = λ q there. c.loop-id.invariant.among q (ap (λ (l : List (List ℕ)). has_id l q) left ∙ or-right (same_id q id) _ there);
+      known = λ rows are q. kinds-step (λ x. kind last live rows x) c.loop-id.id-iterator c.next.new.self id c.in_ok-copy.copy q c.kind_of.result _ _ left c.in_ok-copy.ensures
+          (c.kind_of.ensures last rows are was) (c.loop-id.invariant.known rows are q) (c.in_ok-insert.ensures.updates.0 q);
+    }

@@ -1,6 +1,5 @@
 use Rattle.std.proofs.Common.{List, take}
 use Rattle.lpis_lineage.specs.declared.row.Row.{Row}
-use Rattle.lpis_lineage.specs.Lineage.{last_live}
 use Rattle.lpis_lineage.specs.Fates.{AreFates}
 use Rattle.lpis_lineage.proofs.Telling.{seen-next}
 use Rattle.lpis_lineage.proofs.FateLemmas.{heir-named}
@@ -10,5 +9,5 @@ pub loop-row-preserved : goal.loop-row-preserved
 loop-row-preserved c =
     let rows = c.args.rows.now in
     let i = c.loop-row.row-index in
-    let P : List Row → Type 0 = λ rs. AreFates (last_live c.args.history.now) c.args.live.now rows c.note_row.new.fates rs in
+    let P : List Row → Type 0 = λ rs. AreFates c.args.last.now c.args.live.now rows c.note_row.new.fates rs in
     seen-next rows i c.row-item.result P c.loop-row-test.true c.row-item.is (c.in_ok-note_row.ensures rows (take i rows) c.in_ok-named.ensures (heir-named rows i c.row-item.result c.loop-row-test.true c.row-item.is) c.loop-row.invariant)

@@ -5,5 +5,5 @@ use Rattle.lpis_lineage.proofs.fates.is_shared.Goals as goal
 
 pub returns-then-was : goal.returns-then-was
 returns-then-was c = λ all tally there.
-    last-part _ _ _ _ (sym (tally.twice_are c.args.heir.now) ∙ sym c.contains-twice.ensures ∙ c.if-twice.false) (sym c.is_live-was.ensures ∙ c.if-was.true) c.contains-is.ensures
+    last-part _ _ _ _ (sym (tally.twice_are c.args.heir.now) ∙ sym c.contains-twice.ensures ∙ c.if-twice.false) (sym c.contains-was.ensures ∙ c.if-was.true) c.contains-is.ensures
     ∙ shared-test (heirs all) c.args.heir.now _ there

@@ -1,8 +1,12 @@
-use Rattle.std.proofs.Common.{◌∙◌, map, refl}
+use Rattle.std.proofs.Common.{◌≡◌, ◌∙◌, ◌++◌, ◌∷◌, [], ℕ, List, Ok, ap, map, sym}
+use Rattle.std.proofs.lemmas.List.{map-append}
 use Rattle.std.proofs.lemmas.Result.{err_from_is_err_and}
-use Rattle.lpis_covers.proofs.RowsRead.{rows-end, rows-fault, rows-push, rows-start, rows-stop}
+use Rattle.lpis_covers.proofs.RowsRead.{rows-end, rows-fault, rows-start, rows-step, rows-stop}
+use Rattle.lpis_covers.specs.declared.fault.TableFault.{TableFault}
+use Rattle.lpis_covers.specs.Faults.{told}
+use Rattle.lpis_covers.specs.Table.{field_of}
 use Rattle.lpis_lineage.specs.declared.row.Row.{Row}
-use Rattle.lpis_lineage.specs.LineageTable.{lineage_table}
+use Rattle.lpis_lineage.specs.LineageTable.{lineage_faults, lineage_table, row_of}
 use Rattle.lpis_lineage.proofs.RowsLemmas.{rows-answered}
 use Rattle.lpis_lineage.proofs.reading.read_rows.Goals as goal
 
@@ -27,10 +31,20 @@ returns-in_err-row c =
     let advanced = rw c.if-branch.true at c.in_ok-next_row.ensures in
     rw (p.1, p.2) (rows-answered _ _ (rows-fault lineage_table c.args.bytes.now c.in_ok-reader.reader c.rows.reader c.next_row.new.self (map (λ (r : Row). r.old) c.rows.rows.items) c.rows.rows.items c.in_err-row.field-0.0 opened c.rows.invariant advanced c.in_err-row.ensures))
 
+-- a row that is told without a fault
+told-old : (faults : List TableFault) (said row : Row) → told faults said ≡ Ok row → said.old ≡ row.old
+told-old [] said row h = cc h
+told-old (f ∷ fs) said row h = cc h
+
 pub rows-preserved : goal.rows-preserved
 rows-preserved c =
     let advanced = rw c.if-branch.true at c.in_ok-next_row.ensures in
-    rows-push lineage_table (λ (r : Row). r.old) c.in_ok-reader.reader c.rows.reader c.next_row.new.self c.rows.rows.items c.push.new.self.items c.in_ok-row.row (λ row. refl) c.rows.invariant advanced c.in_ok-row.ensures c.in_ok-push.ensures.items
+    let now = c.next_row.new.self in
+    let rows = c.rows.rows.items in
+    let old = told-old (lineage_faults now.number now.row) (row_of now.row) c.in_ok-row.row c.in_ok-row.ensures in
+    let keys : map (λ (r : Row). r.old) rows ++ field_of now.row 0 ∷ [] ≡ map (λ (r : Row). r.old) (rows ++ c.in_ok-row.row ∷ []) =
+    ap (λ (k : List ℕ). map (λ (r : Row). r.old) rows ++ k ∷ []) old ∙ sym (map-append (λ (r : Row). r.old) rows (c.in_ok-row.row ∷ [])) in
+    rw (c.in_ok-push.ensures.items, ← keys) (rows-step lineage_table c.in_ok-reader.reader c.rows.reader now (map (λ (r : Row). r.old) rows) rows c.in_ok-row.row c.rows.invariant advanced c.in_ok-row.ensures)
 
 pub returns : goal.returns
 returns c =

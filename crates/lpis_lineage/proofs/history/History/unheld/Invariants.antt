@@ -1,8 +1,8 @@
-use Rattle.std.proofs.Common.{◌≡◌, take}
+use Rattle.std.proofs.Common.{◌≡◌, ◌++◌}
 use Rattle.std.specs.Prelude.{not, is_some}
 use Rattle.std.specs.List.{filter}
 use Rattle.lpis_lineage.specs.Spans.{span_of}
 use Rattle.lpis_lineage.proofs.history.History.unheld.Given as goal
 
 abbrev pub invariant-loop-id : goal.invariant-loop-id
-invariant-loop-id l = l.fresh.items ≡ filter (λ id. not (is_some (span_of l.self id))) (take l.id-index l.ids)
+invariant-loop-id l = l.fresh.items ++ filter (λ id. not (is_some (span_of l.self id))) l.id-iterator ≡ filter (λ id. not (is_some (span_of l.self id))) l.ids

@@ -1,11 +1,14 @@
-use Rattle.std.proofs.Common.{◌∙◌, sym}
+use Rattle.std.proofs.Common.{◌≡◌, ◌∙◌, sym, ap, subst, ◌++◌, ℕ, List, Bool}
+use Rattle.std.specs.List.{filter}
+use Rattle.std.proofs.lemmas.List.{append-nil}
 use Rattle.lpis_covers.specs.Ids.{has_id}
-use Rattle.lpis_lineage.proofs.Picking.{filter-then, filter-else}
-use Rattle.lpis_lineage.proofs.id_set.IdSet.inside.Goals.{then-contains+in_ok-copy+in_ok-push, else-contains}
+use Rattle.lpis_lineage.specs.Order.{IsAscending}
+use Rattle.lpis_lineage.proofs.Picking.{ascending-filter}
 use Rattle.lpis_lineage.proofs.id_set.IdSet.inside.Goals as goal
 
-pub loop-id-preserved : goal.loop-id-preserved
-loop-id-preserved c = elim c.if-contains.branch [
-  | then-contains+in_ok-copy+in_ok-push w ↦ rw w.found-is (filter-then (λ id. has_id c.args.self.now id) c.args.ids.now c.loop-id.id-index c.id-item.result w.in_ok-copy.copy c.loop-id.found.items _ c.loop-id-test.true c.id-item.is w.in_ok-copy.ensures (sym c.contains.ensures ∙ w.if-contains.true) c.loop-id.invariant w.in_ok-push.ensures.items)
-  | else-contains w ↦ rw w.found-is (filter-else (λ id. has_id c.args.self.now id) c.args.ids.now c.loop-id.id-index c.id-item.result c.loop-id.found.items c.loop-id-test.true c.id-item.is (sym c.contains.ensures ∙ w.if-contains.false) c.loop-id.invariant)
-]
+pub returns-clause-ascending : goal.returns-clause-ascending
+returns-clause-ascending c =
+    let found = c.loop-id.found.items in
+    let passes : List ℕ → Bool = λ id. has_id c.args.self.now id in
+    let list : found ≡ filter passes c.args.other.now = sym (append-nil found) ∙ ap (λ (l : List (List ℕ)). found ++ filter passes l) (sym c.in-None.ensures.steps.0) ∙ c.loop-id.invariant in
+    subst IsAscending (sym list) (ascending-filter passes c.args.other.now c.iter-id-items.ensures.ascending)

@@ -1,8 +1,8 @@
-use Rattle.std.proofs.Common.{◌≡◌, take}
+use Rattle.std.proofs.Common.{◌≡◌, ◌++◌}
 use Rattle.std.specs.Prelude.{not}
 use Rattle.std.specs.List.{filter}
 use Rattle.lpis_covers.specs.Ids.{has_id}
 use Rattle.lpis_lineage.proofs.id_set.IdSet.outside.Given as goal
 
 abbrev pub invariant-loop-id : goal.invariant-loop-id
-invariant-loop-id l = l.found.items ≡ filter (λ id. not (has_id l.self id)) (take l.id-index l.ids)
+invariant-loop-id l = l.found.items ++ filter (λ id. not (has_id l.self id)) l.id-iterator ≡ filter (λ id. not (has_id l.self id)) l.other
