@@ -1,0 +1,183 @@
+//! Rows as a database gives them.
+
+ghost use Rattle.std.specs.Prelude.{◌≡◌, string_bytes};
+
+use std::marker::Model;
+
+/// A row of `lpis_format`.
+#[derive(Drop)]
+pub struct FormatRow {
+    one: i64,
+    version: i64,
+}
+
+impl Model for FormatRow {
+    ghost use Rattle.lpis_records.specs.Content.{Format};
+
+    ghost Value = { Format };
+
+    ghost view = { λ a. record { one = a.one; version = a.version } };
+}
+
+impl FormatRow {
+    /// A key, which is to be 1, and the version of the tables.
+    pub fn new(one: i64, version: i64) -> FormatRow
+        ensures one { result.one ≡ one }
+        ensures version { result.version ≡ version }
+    {
+        FormatRow { one, version }
+    }
+}
+
+/// A row of `lpis_span`.
+#[derive(Drop)]
+pub struct SpanRow {
+    id: String,
+    since: i64,
+    until: i64,
+}
+
+impl Model for SpanRow {
+    ghost use Rattle.std.specs.Prelude.{string_bytes};
+    ghost use Rattle.lpis_records.specs.Content.{Span};
+
+    ghost Value = { Span };
+
+    ghost view = { λ a. record { id = string_bytes a.id; since = a.since; until = a.until } };
+}
+
+impl SpanRow {
+    /// An identifier, the year of the first release that holds it, and that of the last, 0 while it is live.
+    pub fn new(id: String, since: i64, until: i64) -> SpanRow
+        ensures id { result.id ≡ string_bytes id }
+        ensures since { result.since ≡ since }
+        ensures until { result.until ≡ until }
+    {
+        SpanRow { id, since, until }
+    }
+
+    /// The identifier's text.
+    pub fn id(&self) -> &str
+        ensures { result.now ≡ self.now.id }
+    {
+        self.id.as_str()
+    }
+
+    /// The year of the first release that holds it.
+    pub fn since(&self) -> i64
+        ensures { result ≡ self.now.since }
+    {
+        self.since
+    }
+
+    /// The year of the last release that held it, 0 while it is live.
+    pub fn until(&self) -> i64
+        ensures { result ≡ self.now.until }
+    {
+        self.until
+    }
+}
+
+/// A row of `lpis_row`.
+#[derive(Drop)]
+pub struct LineRow {
+    year: i64,
+    place: i64,
+    old: String,
+    new: String,
+}
+
+impl Model for LineRow {
+    ghost use Rattle.std.specs.Prelude.{string_bytes};
+    ghost use Rattle.lpis_records.specs.Content.{Line};
+
+    ghost Value = { Line };
+
+    ghost view = { λ a. record { year = a.year; place = a.place; old = string_bytes a.old; new = string_bytes a.new } };
+}
+
+impl LineRow {
+    /// The row of lineage at a place, from 0, of a year's release; an empty `new` makes an ending.
+    pub fn new(year: i64, place: i64, old: String, new: String) -> LineRow
+        ensures year { result.year ≡ year }
+        ensures place { result.place ≡ place }
+        ensures old { result.old ≡ string_bytes old }
+        ensures new { result.new ≡ string_bytes new }
+    {
+        LineRow {
+            year,
+            place,
+            old,
+            new,
+        }
+    }
+}
+
+/// A row of `lpis_live`.
+#[derive(Drop)]
+pub struct LiveRow {
+    year: i64,
+    id: String,
+}
+
+impl Model for LiveRow {
+    ghost use Rattle.std.specs.Prelude.{string_bytes};
+    ghost use Rattle.lpis_records.specs.Content.{Live};
+
+    ghost Value = { Live };
+
+    ghost view = { λ a. record { year = a.year; id = string_bytes a.id } };
+}
+
+impl LiveRow {
+    /// The release of a year holds an identifier.
+    pub fn new(year: i64, id: String) -> LiveRow
+        ensures year { result.year ≡ year }
+        ensures id { result.id ≡ string_bytes id }
+    {
+        LiveRow { year, id }
+    }
+}
+
+/// The rows of the register's tables, each list in any order.
+#[derive(Drop)]
+pub struct Rows {
+    formats: Vec<FormatRow>,
+    years: Vec<i64>,
+    spans: Vec<SpanRow>,
+    lines: Vec<LineRow>,
+    live: Vec<LiveRow>,
+}
+
+impl Model for Rows {
+    ghost use Rattle.lpis_records.specs.Content.{Content};
+
+    ghost Value = { Content };
+
+    ghost view = { λ a. record { formats = a.formats.items; years = a.years.items; spans = a.spans.items; lines = a.lines.items; live = a.live.items } };
+}
+
+impl Rows {
+    /// The rows of the five tables.
+    pub fn new(
+        formats: Vec<FormatRow>,
+        years: Vec<i64>,
+        spans: Vec<SpanRow>,
+        lines: Vec<LineRow>,
+        live: Vec<LiveRow>,
+    ) -> Rows
+        ensures formats { result.formats ≡ formats.items }
+        ensures years { result.years ≡ years.items }
+        ensures spans { result.spans ≡ spans.items }
+        ensures lines { result.lines ≡ lines.items }
+        ensures live { result.live ≡ live.items }
+    {
+        Rows {
+            formats,
+            years,
+            spans,
+            lines,
+            live,
+        }
+    }
+}
