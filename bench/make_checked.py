@@ -7,20 +7,12 @@ pairs of triangles are found through the grid: the boxes of two cells can only o
 """
 
 import math
-import os
 import random
 import sys
 
+from tables import apart, orient, write_lines, write_release
+
 STEP, JITTER = 2000, 500  # centimetres
-
-
-def orient(a, b, c):
-    return (b[0] - a[0]) * (c[1] - a[1]) - (b[1] - a[1]) * (c[0] - a[0])
-
-
-def apart(t, u):
-    """The boxes of two triangles share no inner point."""
-    return any(max(p[k] for p in t) <= min(p[k] for p in u) or max(p[k] for p in u) <= min(p[k] for p in t) for k in (0, 1))
 
 
 def edge_separates(t, k, u):
@@ -37,10 +29,6 @@ def separating_edge(t, u):
         if edge_separates(u, k, t):
             return k + 3
     raise ValueError(f"no edge separates {t} and {u}")
-
-
-def metres(point):
-    return " ".join(f"{value // 100}.{value % 100:02}" for value in point)
 
 
 def main():
@@ -64,14 +52,6 @@ def main():
         if orient(a, b, c) > 0 and orient(a, c, d) > 0:
             return (a, b, c), (a, c, d)
         return (a, b, d), (b, c, d)
-
-    def write(name, lines):
-        with open(os.path.join(folder, name), "w", encoding="ascii") as file:
-            file.writelines(line + "\n" for line in lines)
-
-    def polygon(number):
-        ring = cell(number)
-        return f'"POLYGON(({",".join(metres(p) for p in ring + ring[:1])}))"'
 
     triangles = [half for number in range(count) for half in halves(number)]
     pairs = []
@@ -100,10 +80,11 @@ def main():
             yield f"s {i} {j} {k}"
         yield "end"
 
-    write("classes.csv", ["class,eligible", "G,1", "W,0"])
-    write("parcels.csv", ["parcel,wkt"] + [f"P{number:06},{polygon(number)}" for number in range(count)])
-    write("covers.csv", ["piece,parcel,class,wkt"] + [f"C{number:06},P{number:06},{'GW'[number % 2]},{polygon(number)}" for number in range(count)])
-    write("cert.txt", certificate())
+    polygons = [[[list(cell(number))]] for number in range(count)]
+    parcels = [(f"P{number:06}", polygon) for number, polygon in enumerate(polygons)]
+    pieces = [(f"C{number:06}", f"P{number:06}", "GW"[number % 2], polygon) for number, polygon in enumerate(polygons)]
+    write_release(folder, parcels, pieces)
+    write_lines(folder, "cert.txt", certificate())
 
 
 main()
