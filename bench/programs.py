@@ -1,0 +1,36 @@
+"""The programs under measurement, for scripts that run `cut`.
+
+`CUT=PROGRAM` in the environment names another program that knows `cut DIR CERT`, `LPIS=PROGRAM` a proved `lpis` that is built already;
+without them the repository's own is proved and built where that is needed."""
+
+import os
+import subprocess
+import time
+
+HERE = os.path.dirname(os.path.realpath(__file__))
+TOP = os.path.dirname(HERE)
+MEGABYTE = 1_000_000
+
+
+def lpis():
+    if "LPIS" in os.environ:
+        return os.environ["LPIS"]
+    subprocess.run([os.path.join(TOP, "lpis"), "--help"], stdout=subprocess.DEVNULL, check=True)
+    return os.path.join(TOP, "crates", "lpis", "out", "lpis")
+
+
+def cutter():
+    return os.environ.get("CUT") or lpis()
+
+
+def measured(words, out_path):
+    """Status, standard output, processor seconds, wall seconds and peak bytes of one run."""
+    with open(out_path, "wb") as out:
+        start = time.perf_counter()
+        process = subprocess.Popen(words, stdout=out)
+        _, status, usage = os.wait4(process.pid, 0)
+        wall = time.perf_counter() - start
+    process.returncode = os.waitstatus_to_exitcode(status)
+    with open(out_path, encoding="utf-8") as out:
+        text = out.read()
+    return process.returncode, text, usage.ru_utime + usage.ru_stime, wall, usage.ru_maxrss * 1024
