@@ -1,0 +1,1 @@
+"""What the tools beside `lpis` share. Python's standard library alone."""

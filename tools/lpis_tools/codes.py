@@ -1,0 +1,164 @@
+"""What each code of docs/FORMATS.md means, what usually causes it, and what to do: (meaning, cause, remedy)."""
+
+POLYGON_TEXTS = {
+    "10": ("the text does not begin with POLYGON or MULTIPOLYGON",
+           "a line or a point among the shapes, a GEOMETRYCOLLECTION, hexadecimal WKB, an empty field",
+           "export polygons alone, as text (`ST_AsText(geom, 2)`, `AsWKT(geom,2)`)"),
+    "11": ("the polygon is EMPTY", "rounding shrank a sliver to nothing, or the source has empty shapes",
+           "leave out the row, and look at why it was empty"),
+    "12": ("the text has Z, M or an SRID; flat coordinates without SRID are read",
+           "`ST_AsEWKT`, a 2.5D layer", "`ST_Force2D(geom)` and `ST_AsText`; with ogr2ogr `-dim XY`"),
+    "13": ("this is no plain number; exponents are not read",
+           "`OGR_WKT_PRECISION=2` (that is digits, not decimals), a decimal comma, `nan`",
+           "write two decimals by `ST_AsText(geom, 2)` or `AsWKT(geom,2)`, after rounding all borders together"),
+    "14": ("a coordinate has more than two decimals", "`-lco GEOMETRY=AS_WKT`, or `ST_AsText(geom)` without its 2",
+           "round all borders together (docs/USING.md), then write two decimals"),
+    "15": ("a coordinate is beyond 20,000,000 m", "an easting with a zone prefix (EPSG:4647, 5649), millimetres",
+           "transform to the system without the prefix (EPSG:25832), in metres"),
+    "16": ("a ring has fewer than four points", "rounding shrank a ring, or the ring is not closed",
+           "leave out the ring; round all borders together"),
+    "17": ("a ring's last point differs from its first", "text put together by hand",
+           "end each ring with its first point, written with the same value"),
+    "18": ("the text's brackets or commas are wrong here", "a text cut off (a limit of 255 or 32,767 letters), a typing error",
+           "export to CSV directly, not through a spreadsheet or a shapefile's text column"),
+    "19": ("the polygon has more than 100,000 points", "a whole forest or river as one shape",
+           "cut the shape into several pieces, or parcels"),
+}
+
+TABLES = {
+    "30": ("this row has another number of fields than the header, or its `wkt` is not UTF-8",
+           "a `wkt` with commas that is not quoted; semicolons; text after the last row; another encoding",
+           "quote the `wkt`, separate by commas, write UTF-8"),
+    "31": ("a column is missing; columns are found by the names in the first line",
+           "an empty file, UTF-16, gzip, semicolons or tabs, a header in another language, no header at all",
+           "write the header of docs/USING.md, in UTF-8 (or ASCII), separated by commas, not compressed"),
+    "32": ("two columns have the same name", "a join that kept both columns, or names that differ in case alone",
+           "name the columns in the export's SELECT"),
+    "33": ("this is no identifier: 1 to 40 of `A-Z a-z 0-9 . _ : / -`",
+           "a blank, an umlaut, a NULL written as an empty field, a name with more than 40 letters",
+           "replace such letters by a rule that keeps identifiers different, the same rule each year"),
+    "34": ("this identifier stood in an earlier row", "a parcel of several parts written as several rows; a join that doubled rows",
+           "one row an identifier: collect the parts into one MULTIPOLYGON"),
+    "35": ("the piece's parcel is not in parcels.csv", "the two tables come from different days or filters; letters that differ in case",
+           "export both tables in one go, with the same WHERE"),
+    "36": ("the piece's class is not in classes.csv", "a new class of land cover, or letters that differ in case",
+           "add the class with its `eligible` of 0 or 1"),
+    "37": ("no row of covers.csv names this parcel", "a parcel without land cover, or whose pieces rounding removed",
+           "add its pieces, or leave the parcel out"),
+    "38": ("the `wkt` is not a polygon's text as docs/FORMATS.md has it; a second code and a place in the text follow",
+           "see codes 10 to 19", "see codes 10 to 19"),
+    "39": ("`eligible` is neither 0 nor 1", "`true`, `yes`, `t`, a percentage, a quoted blank",
+           "write 0 or 1 (in SQL: `eligible::int`)"),
+    "3a": ("the table has more than 200,000 rows", "a whole country in one release",
+           "split the country into releases (docs/USING.md says what that gives up)"),
+}
+
+CUTS = {
+    "40": ("no cut into triangles was found for this piece",
+           "it crosses itself (a bow tie), covers a place twice, or has no area",
+           "repair it (`ST_MakeValid`, `v.clean`) before rounding all borders together"),
+    "41": ("two parcels, or two pieces, overlap: the place is inside both",
+           "each shape was rounded by itself, or the source overlaps",
+           "round all borders together; where the overlap is wider than a centimetre, correct the source"),
+    "42": ("two pieces overlap or could not be separated, and no place was found",
+           "as 41, thinner than can be told by a place", "as 41"),
+    "43": ("a parcel and its pieces disagree: the place is in one and not in the other",
+           "a gap between pieces, a piece that leaves its parcel, shapes rounded by themselves",
+           "make the parcel the union of its pieces' faces, after rounding all borders together"),
+    "44": ("a parcel's border is not that of its pieces, and no place was found", "as 43, thinner than can be told by a place",
+           "as 43"),
+}
+
+CERTIFICATE_TEXTS = {
+    "50": ("line 1 is not `lpis-cert 1`", "Windows line ends, a byte order mark, another file than a certificate",
+           "take the certificate as `lpis cut` wrote it; transfer it as binary"),
+    "51": ("this line is none of a certificate", "the file was edited, or its line ends changed", "cut again"),
+    "52": ("a number is none, or out of its range", "the file was edited", "cut again"),
+    "53": ("this line cannot stand here", "the file was edited, or two certificates were joined", "cut again"),
+    "54": ("the certificate ends too early", "the disk was full, or a copy broke off", "cut or copy again, compare digests"),
+    "55": ("there is text behind the certificate's end", "two certificates were joined, or a line was added", "cut or copy again"),
+    "56": ("more than 2,000,000 triangles or flats are declared", "a release too large for one certificate",
+           "split the release"),
+}
+
+CERTIFICATES = {
+    "60": ("the certificate is of another release: identifiers differ, or its pair lines are out of order",
+           "the tables were exported anew after the cut", "cut again from these tables"),
+    "61": ("a piece has no triangle in the certificate", "a certificate that was not made by `lpis cut`", "cut again"),
+    "62": ("a triangle of this piece is not counter-clockwise", "a certificate that was not made by `lpis cut`", "cut again"),
+    "63": ("a flat of this piece or parcel is not three different points of one line",
+           "a certificate that was not made by `lpis cut`", "cut again"),
+    "64": ("a corner in the certificate is no point of this piece or parcel",
+           "the tables changed after the cut (a corner moved)", "cut again from these tables"),
+    "65": ("the triangles do not have this piece's border", "the tables changed after the cut (a corner came or went)",
+           "cut again from these tables"),
+    "66": ("the border of this parcel is not that of its pieces: there is a gap, an overlap or another border",
+           "the tables changed after the cut, or `lpis cut` would refuse with 43 or 44",
+           "run `lpis cut` on these tables: it tells a place where it can"),
+    "67": ("two triangles are near each other, and no line of the certificate separates them",
+           "the tables changed after the cut, or shapes overlap", "run `lpis cut`: it tells a place of the overlap where it can"),
+    "68": ("a line of the certificate separates two triangles that are not near each other",
+           "a certificate that was not made by `lpis cut`", "cut again"),
+    "69": ("a line of the certificate does not separate its two triangles",
+           "the tables changed after the cut, or shapes overlap", "run `lpis cut`: it tells a place of the overlap where it can"),
+}
+
+LINEAGES = {
+    "70": ("the old identifier is not live in the last release", "a typing error, or a row of an earlier year",
+           "leave out the row, or name the identifier of the last release"),
+    "71": ("the old identifier is still in this release, so nothing has become of it", "a row for a parcel that only changed its shape",
+           "leave out the row; kept identifiers need none"),
+    "72": ("the successor is not in this release", "a typing error, or a parcel left out of the export", "correct the row or the export"),
+    "73": ("this row stands twice", "a join that doubled rows", "leave out one"),
+    "74": ("an identifier ends and has a successor too", "an empty `new` beside rows with one", "leave out the row with the empty `new`"),
+    "75": ("an identifier was dropped and no row says what became of it", "a parcel left out of the export, or a split that was not recorded",
+           "add its row: successors, or an empty `new` for an ending"),
+    "76": ("an identifier was used in an earlier release and not in the last one", "numbers that are given again",
+           "give the parcel a new identifier"),
+}
+
+REGISTERS = {
+    "80": ("the year is not above the last published one", "the release is published already, or the year is mistyped",
+           "`lpis trace` shows what is published; the register was not changed"),
+    "81": ("the lineage table does not fit this release and the last; a second code follows", "see codes 70 to 76", "see codes 70 to 76"),
+    "82": ("the database failed; printed as `failed store`", "a full or failing disk, another program that holds the file locked",
+           "look at the disk, end the other program, try again: a release is there whole or not at all"),
+    "83": ("the identifier is in no release", "a typing error", "look it up in the register"),
+    "84": ("this database is no register that can be read", "another program's database, a later version, a file that was edited",
+           "name the right file, or take it from its last copy"),
+}
+
+FAILURES = {
+    "memory": "there was not enough memory; nothing was decided",
+    "read": "an input could not be opened or read, or is longer than 1 GiB; nothing was decided",
+    "write": "the output could not be written in full (a full disk, a closed pipe)",
+    "store": REGISTERS["82"][0],
+}
+
+GROUPS = [
+    ("Polygon texts (told behind 38)", POLYGON_TEXTS), ("Tables", TABLES), ("Cutting", CUTS), ("Certificate texts", CERTIFICATE_TEXTS),
+    ("Certificates", CERTIFICATES), ("Lineage (told behind 81)", LINEAGES), ("The register", REGISTERS),
+]
+CODES = {code: words for _, group in GROUPS for code, words in group.items()}
+
+REFUSED_BY_THE_GATE = {*CUTS, *CERTIFICATES, "80", "81", "83"}
+
+
+def status_of(line):
+    """The status that `lpis` ends with where it printed this line."""
+    words = line.split()
+    if words[:1] == ["failed"]:
+        return 3
+    if words[:1] == ["refused"] and len(words) > 1:
+        return 1 if words[1] in REFUSED_BY_THE_GATE else 2
+    return 0
+
+
+def table_of_codes():
+    """The table of all codes as docs/USING.md has it."""
+    lines = []
+    for title, group in GROUPS:
+        lines += [f"**{title}**", "", "| Code | Meaning | Usual cause | Remedy |", "|---|---|---|---|"]
+        lines += [f"| {code} | {meaning} | {cause} | {remedy} |" for code, (meaning, cause, remedy) in group.items()]
+        lines.append("")
+    return "\n".join(lines)

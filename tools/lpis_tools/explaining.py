@@ -1,0 +1,298 @@
+"""Says a refusal in words, from the folder of the release that was refused."""
+
+from . import codes, drawing, polygons
+from .refusal import metres_of, read
+from .tables import COLUMNS, KEYS, LETTERS, MARK, Table, is_identifier, kind_of_file, path_of, shown
+
+
+class Explained:
+    """The words about one line, the shapes concerned and the place."""
+
+    def __init__(self, line, folder, cert=None, area=None):
+        self.line, self.folder, self.cert, self.area = line, folder, cert, area
+        self.words, self.shapes, self.place, self.tables = [], [], None, {}
+        self.refusal = read(line)
+        if self.refusal is None:
+            self.say("this line is none that docs/FORMATS.md has")
+            return
+        self.place = self.refusal.place
+        self.say_code(self.refusal.code)
+        for code in (self.refusal.text_code, self.refusal.lineage_code):
+            if code:
+                self.say_code(code)
+        if self.refusal.table and self.refusal.row is not None:
+            self.say_row()
+        elif self.refusal.cert_line is not None:
+            self.say_cert_line()
+        elif self.refusal.kind == "pair":
+            self.say_pair()
+        elif self.refusal.kind:
+            self.say_shapes()
+        if self.place:
+            x, y = (float(value / 100) for value in self.place)
+            self.say(f"place in metres: {metres_of(self.place)}   POINT({x:.6f} {y:.6f})")
+
+    def say(self, text):
+        self.words.append(text)
+
+    def say_code(self, code):
+        if code not in codes.CODES:
+            self.say(f"code {code}: see docs/FORMATS.md")
+            return
+        meaning, cause, remedy = codes.CODES[code]
+        self.say(f"code {code}: {meaning}")
+        if not cause.startswith("see code"):
+            self.say(f"  usual cause: {cause}")
+            self.say(f"  remedy: {remedy}")
+
+    def table(self, name):
+        """The table, or None where it cannot be read; it is read once."""
+        if name not in self.tables:
+            path = self.area if name == "area" and self.area else path_of(self.folder, name)
+            try:
+                self.tables[name] = Table(path, name)
+            except OSError as error:
+                self.say(f"{path}: {error.strerror}")
+                self.tables[name] = None
+        return self.tables[name]
+
+    # Rows of tables.
+
+    def say_row(self):
+        name, row = self.refusal.table, self.refusal.row
+        table = self.table(name)
+        if table is None:
+            return
+        if row == 0:
+            self.say_header(table)
+            return
+        record = table.record(row)
+        if record is None:
+            self.say(f"{table.path} has no row {row} (it has {max(len(table.records) - 1, 0)}): is it the file that was read?")
+            return
+        fields = ", ".join(f"{n} {shown(table.field(record, n))!r}" for n in COLUMNS[name] if n != "wkt" and n in table.names)
+        self.say(f"{table.path}: row {row}, line {table.line(row)}; in QGIS: $id {row + 1} of a delimited text layer, fid {row} through OGR")
+        if fields:
+            self.say(f"  {fields}")
+        self.say_field(table, row, record)
+        members = polygons.read(table.field(record, "wkt")) if "wkt" in table.names else None
+        if members:
+            self.say(f"  {polygons.extent(members)}")
+            self.add_shape(name, shown(table.field(record, KEYS.get(name, "wkt"))) if name in KEYS else f"row {row}", members)
+
+    def say_header(self, table):
+        start = table.start
+        kind = kind_of_file(start)
+        self.say(f"wanted header: {','.join(COLUMNS[table.name])}")
+        if kind:
+            self.say(f"{table.path} is {kind}")
+            return
+        if start.startswith(MARK + MARK):
+            self.say(f"{table.path} begins with two byte order marks")
+        found = ",".join(shown(f) for f in table.header)
+        self.say(f"found header in {table.path}: {found[:200]}")
+        for mark, what in ((b";", "semicolons"), (b"\t", "tabs"), (b"|", "bars")):
+            if len(table.header) == 1 and mark in table.header[0]:
+                self.say(f"its columns are separated by {what}: write commas")
+        missing = [n for n in COLUMNS[table.name] if n not in table.names]
+        if missing:
+            self.say(f"missing: {', '.join(missing)}")
+        doubled = sorted({n for n in table.names if n in COLUMNS[table.name] and table.names.count(n) > 1})
+        if doubled:
+            self.say(f"doubled: {', '.join(doubled)}")
+
+    def say_field(self, table, row, record):
+        code = self.refusal.lineage_code or self.refusal.code
+        if code == "30":
+            self.say_length(table, record)
+        elif code == "33":
+            for name in COLUMNS[table.name]:
+                field = table.field(record, name)
+                ending = name == "new" and not field
+                if name not in ("wkt", "eligible") and not ending and not is_identifier(field):
+                    self.say_letters(name, field)
+                    break
+        elif code == "34":
+            key = KEYS.get(table.name, "")
+            first = table.find(key, table.field(record, key))
+            if first is not None and first < row:
+                self.say(f"  it stood first in row {first}, line {table.line(first)}")
+        elif code in ("35", "36"):
+            name = "parcel" if code == "35" else "class"
+            self.say_absent(name, table.field(record, name), self.table("parcels" if code == "35" else "classes"))
+        elif code == "38":
+            self.say_text(table.field(record, "wkt"))
+        elif code == "39":
+            self.say(f"  eligible is {shown(table.field(record, 'eligible'))!r}")
+        elif code == "3a":
+            self.say(f"  the table has {len(table.records) - 1} rows")
+
+    def say_length(self, table, record):
+        if len(record) != len(table.header):
+            self.say(f"  the header has {len(table.header)} fields, this row {len(record)}: {', '.join(repr(shown(f, 24)) for f in record[:8])}")
+            if any(f.upper().startswith((b"POLYGON", b"MULTIPOLYGON")) and f.count(b"(") > f.count(b")") for f in record):
+                self.say('  the wkt is not quoted: write "POLYGON((..))" in double quotes')
+            return
+        try:
+            table.field(record, "wkt").decode("utf-8")
+        except UnicodeDecodeError as error:
+            self.say(f"  wkt is not UTF-8 at offset {error.start}: byte {error.object[error.start]:#04x}")
+
+    def say_letters(self, name, field):
+        if not field:
+            self.say(f"  {name} is empty")
+        elif len(field) > 40:
+            self.say(f"  {name} has {len(field)} letters: {shown(field)!r}")
+        else:
+            place = next(i for i, letter in enumerate(field) if letter not in LETTERS)
+            self.say(f"  {name} {shown(field)!r} has a letter that is none of an identifier's, number {place + 1}: {shown(field[place:].decode('utf-8', 'replace')[:1].encode())!r}")
+
+    def say_absent(self, name, value, table):
+        if table is None:
+            return
+        alike = [shown(table.field(r, name)) for _, r in table.rows() if table.field(r, name).strip().lower() == value.strip().lower()]
+        self.say(f"  {table.path} has {len(table.records) - 1} rows, none of {name} {shown(value)!r}" + (f"; {alike[0]!r} differs in case alone" if alike else ""))
+
+    def say_text(self, text):
+        offset = self.refusal.offset
+        found = polygons.TOKEN.match(text, offset)
+        word = found.group() if found else b""
+        number = text[:offset].count(b",") + 1
+        what = f"{shown(word)!r}" if word else "the end of the text"
+        before = text[max(0, offset - 40):offset].decode("utf-8", "replace")
+        self.say(f"  wkt at offset {offset}: {what}, at point number {number}, after {('..' if offset > 40 else '') + before!r}")
+        self.say(f"  {extent_of_words(text)}")
+
+    # Certificates.
+
+    def say_cert_line(self):
+        if not self.cert:
+            self.say(f"line {self.refusal.cert_line} of the certificate (name it by --cert to see the line)")
+            return
+        try:
+            with open(self.cert, "rb") as file:
+                lines = file.read().split(b"\n")
+        except OSError as error:
+            self.say(f"{self.cert}: {error.strerror}")
+            return
+        number = self.refusal.cert_line
+        count = len(lines) - (lines[-1] == b"")
+        self.say(f"{self.cert} has {count} lines{'' if lines[-1] == b'' else ', the last without its line end'}")
+        if number <= count:
+            self.say(f"  line {number}: {shown(lines[number - 1])!r}")
+        if lines[0].endswith(b"\r"):
+            self.say("  its lines end with CR LF (Windows): LF alone is read")
+
+    def say_pair(self):
+        numbers = [int(n) for n in self.refusal.names]
+        if not self.cert:
+            self.say(f"triangles {numbers[0]} and {numbers[1]} of the certificate (name it by --cert to see whose they are)")
+            return
+        owners = {}
+        try:
+            with open(self.cert, "rb") as file:
+                count, piece = 0, ""
+                for line in file:
+                    if line.startswith(b"piece "):
+                        piece = line.split()[1].decode("ascii", "replace")
+                    elif line.startswith(b"t "):
+                        if count in numbers:
+                            owners[count] = (piece, [int(w) for w in line.split()[1:]])
+                        count += 1
+        except (OSError, ValueError, IndexError):
+            pass
+        pieces = []
+        for number in numbers:
+            piece, corners = owners.get(number, ("", []))
+            if piece:
+                pieces.append(piece)
+                self.say(f"triangle {number} is of piece {piece}: " + ", ".join(f"{polygons.metres(x)} {polygons.metres(y)}" for x, y in zip(corners[::2], corners[1::2])))
+                ring = list(zip(corners[::2], corners[1::2]))
+                self.add_shape("triangle", str(number), [[ring + ring[:1]]])
+        for piece in dict.fromkeys(pieces):
+            self.find_shape("covers", "piece", piece)
+
+    # Parcels and pieces.
+
+    def say_shapes(self):
+        refusal = self.refusal
+        for name in refusal.as_parcels():
+            self.find_shape("parcels", "parcel", name)
+        for name in refusal.as_pieces():
+            self.find_shape("covers", "piece", name)
+        found = [members for _, _, members in self.shapes]
+        if refusal.code in ("43", "44", "66") and found:
+            self.say_pieces_of(refusal.names[0], found[0])
+        elif refusal.code in ("40", "65") and found:
+            self.say_crossing(list(polygons.edges(found[0])), None, "it crosses itself")
+            if not self.place and sum(polygons.doubled_area(r) for m in found[0] for r in m) == 0:
+                self.say("its area is 0")
+        elif refusal.code == "42" and len(found) == 2:
+            self.say_crossing(list(polygons.edges(found[0])), list(polygons.edges(found[1])), "their borders cross")
+
+    def say_crossing(self, first, other, words):
+        if self.place:
+            return
+        place = polygons.first_crossing(first, other)
+        if place:
+            self.place = place
+            self.say(f"{words} (found by this tool, not told by lpis):")
+
+    def find_shape(self, table_name, column, name):
+        table = self.table(table_name)
+        row = table.find(column, name.encode()) if table else None
+        if row is None:
+            self.say(f"{column} {name} is in no row of {table_name}.csv")
+            return
+        record = table.record(row)
+        members = polygons.read(table.field(record, "wkt"))
+        others = ", ".join(f"{n} {shown(table.field(record, n))}" for n in COLUMNS[table_name] if n not in ("wkt", column))
+        self.say(f"{column} {name}: row {row} of {table_name}.csv, line {table.line(row)}{', ' + others if others else ''}; {polygons.extent(members) if members else 'its wkt is no polygon'}")
+        if members:
+            self.add_shape(column, name, members)
+
+    def say_pieces_of(self, name, whole):
+        covers = self.table("covers")
+        if covers is None:
+            return
+        parts = []
+        for row, record in covers.rows():
+            if covers.field(record, "parcel") == name.encode():
+                members = polygons.read(covers.field(record, "wkt"))
+                if members:
+                    piece = shown(covers.field(record, "piece"))
+                    self.say(f"its piece {piece}: row {row} of covers.csv, line {covers.line(row)}; {polygons.extent(members)}")
+                    self.add_shape("piece", piece, members)
+                    parts.append(members)
+        stretches = polygons.residue(whole, parts)
+        if stretches:
+            (a, b) = stretches[0]
+            self.say(f"{len(stretches)} stretches of border are the parcel's or its pieces' alone; the first from {polygons.metres(a[0])} {polygons.metres(a[1])} to {polygons.metres(b[0])} {polygons.metres(b[1])}")
+            if not self.place and self.refusal.code != "43":
+                self.place = a
+                self.say("its beginning (found by this tool, not told by lpis):")
+
+    def add_shape(self, kind, name, members):
+        self.shapes.append((kind, name, members))
+
+    def geojson(self, epsg=None):
+        return drawing.geojson(self.shapes, self.place, self.line, epsg)
+
+    def svg(self):
+        return drawing.svg(self.shapes, self.place, self.line)
+
+
+def extent_of_words(text):
+    """The extent of whatever numbers a text has, also where it is no polygon's."""
+    found = []
+    for part in text.replace(b"(", b",").replace(b")", b",").split(b","):
+        try:
+            x, y = [float(word) for word in part.split()[:2]]
+            found.append((x, y))
+        except ValueError:
+            continue
+    if not found:
+        return "it has no points"
+    xs, ys = [p[0] for p in found], [p[1] for p in found]
+    return f"{len(found)} points, x {min(xs):.2f} to {max(xs):.2f}, y {min(ys):.2f} to {max(ys):.2f}"
+

@@ -1,0 +1,75 @@
+"""A line `refused ..` taken apart by the places of its words (an identifier may be any word, `row` and `at` too)."""
+
+from dataclasses import dataclass, field
+from fractions import Fraction
+
+from .tables import COLUMNS
+
+
+@dataclass
+class Refusal:
+    code: str
+    table: str = ""
+    row: int | None = None
+    text_code: str = ""
+    offset: int | None = None
+    kind: str = ""  # parcel, piece, parcels, pieces or pair
+    names: list = field(default_factory=list)
+    place: tuple | None = None  # x and y in centimetres, as fractions
+    cert_line: int | None = None
+    lineage_code: str = ""
+    year: str = ""
+
+    def as_parcels(self):
+        return self.names if self.kind in ("parcel", "parcels") else []
+
+    def as_pieces(self):
+        return self.names if self.kind in ("piece", "pieces") else []
+
+
+def read(line):
+    """The refusal that a line tells, or None where it is no such line."""
+    words = line.split()
+    if len(words) < 2 or words[0] != "refused":
+        return None
+    refusal = Refusal(words[1])
+    try:
+        fill(refusal, words[2:])
+    except (IndexError, ValueError):
+        return None
+    return refusal
+
+
+def fill(refusal, rest):
+    code = refusal.code
+    if not rest:
+        return
+    if code == "80":
+        refusal.year = rest[1]
+    elif code == "81":
+        refusal.table, refusal.lineage_code = "lineage", rest[1]
+        if rest[1] in ("75", "76"):
+            refusal.names, refusal.year = [rest[2]], rest[3] if len(rest) > 3 else ""
+        else:
+            refusal.row = int(rest[3])
+    elif rest[:2] == ["cert", "line"]:
+        refusal.cert_line = int(rest[2])
+    elif rest[0] in COLUMNS and len(rest) > 2 and rest[1] == "row":
+        refusal.table, refusal.row = rest[0], int(rest[2])
+        if code == "38":
+            refusal.text_code, refusal.offset = rest[4], int(rest[6])
+    else:
+        count = 2 if rest[0] in ("parcels", "pieces", "pair") else 1
+        refusal.kind, refusal.names = rest[0], rest[1 : 1 + count]
+        if len(refusal.names) != count or rest[0] not in ("parcel", "parcels", "piece", "pieces", "pair"):
+            raise ValueError
+        if rest[1 + count : 2 + count] == ["at"]:
+            x, y, d = map(int, rest[2 + count : 5 + count])
+            refusal.place = Fraction(x, d), Fraction(y, d)
+
+
+def metres_of(place):
+    """A place in metres, for people: exact where four decimals hold it, else marked as about."""
+    exact = all((value * 100).denominator == 1 for value in place)
+    x, y = (float(value / 100) for value in place)
+    return f"x {x:.4f}, y {y:.4f}" if exact else f"about x {x:.6f}, y {y:.6f}"
