@@ -1,16 +1,22 @@
 -- The answer to a table of polygons: text and status, as a function of the table's bytes.
-use Rattle.std.specs.Prelude.{◌≡◌, ◌∷◌, [], ℕ, List, Option, IfSome, Result, Ok, Err, codes}
+use Rattle.std.specs.Prelude.{◌≡◌, ◌⊎◌, ◌∷◌, [], ℕ, List, Option, Result, Ok, Err, codes}
 use Rattle.std.specs.List.{flat_map}
-use Rattle.std.specs.Io.KnownBytes.{Appends}
+use Rattle.std.specs.Io.KnownBytes.{Appends, Keeps}
 use Rattle.lpis_rings.specs.declared.polygon.Member.{Member}
 use Rattle.lpis_rings.specs.Area.{area2}
 use Rattle.lpis_covers.specs.declared.fault.Table.TheVariants.{Area}
 use Rattle.lpis_covers.specs.declared.fault.TableFault.{TableFault}
 use Rattle.lpis_covers.specs.Faults.{RowsOf, polygon_faults, polygon_in, rows_of}
 use Rattle.lpis_covers.specs.Table.{field_of}
+use Rattle.lpis.specs.declared.failure.Failure.{Failure}
+use Rattle.lpis.specs.declared.failure.Failure.TheVariants.{Write}
+use Rattle.lpis.specs.declared.failure.Name.{Name}
+use Rattle.lpis.specs.declared.failure.Name.TheVariants.{Out}
 use Rattle.lpis.specs.Area.{area_line}
+use Rattle.lpis.specs.Failures.{IsUnread}
 use Rattle.lpis.specs.Refusals.{refusal_text}
 use Rattle.lpis.specs.Status.{done, unreadable}
+use Rattle.lpis.specs.Streams.{Begins, IsRead}
 
 -- a row is a polygon
 abbrev pub area_table : RowsOf (List Member)
@@ -33,10 +39,11 @@ answer_from (Err fault) = (refusal_text fault, unreadable)
 abbrev pub answer_of : List ℕ → List ℕ × ℕ
 answer_of bytes = answer_from (rows_of area_table bytes)
 
--- an input is what its reader told, as far as that is known
-abbrev pub IsRead : List ℕ → Option (List ℕ) → Type 0
-IsRead input told = IfSome told (λ bytes. input ≡ bytes)
-
 -- the run answered with this status, and wrote the text
 abbrev pub Answers : List ℕ → ℕ → Option (List ℕ) → Option (List ℕ) → Type 0
 Answers bytes status old new = (status ≡ (answer_of bytes).1) × Appends old new (answer_of bytes).0
+
+-- the run of a table gave no answer: its reader failed, or the writer did after a beginning of the answer
+abbrev pub Halts : Failure → Option (List ℕ) → Option (List ℕ) → Option (List ℕ) → Type 0
+Halts failure told old new =
+    ((bytes : List ℕ) × IsRead bytes told × (failure ≡ Write Out) × Begins old new (answer_of bytes).0) ⊎ (IsUnread Name.Area failure × Keeps old new)

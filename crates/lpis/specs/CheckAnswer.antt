@@ -1,6 +1,6 @@
 -- The answer to three tables and a certificate: text and status, of the bytes of the four.
 use Rattle.std.specs.Prelude.{◌≡◌, ◌⊎◌, ℕ, List, Option, Result, Ok, Err}
-use Rattle.std.specs.Io.KnownBytes.{Appends}
+use Rattle.std.specs.Io.KnownBytes.{Appends, Keeps}
 use Rattle.lpis_covers.specs.declared.fault.TableFault.{TableFault}
 use Rattle.lpis_parcels.specs.Release.{Contents, release_of}
 use Rattle.lpis_cert.specs.declared.cert.Cert.{Cert}
@@ -14,10 +14,14 @@ use Rattle.lpis_checker.specs.declared.fault.CheckFault.TheVariants as check
 use Rattle.lpis_checker.specs.FirstFault.{IsFault, place_of}
 use Rattle.lpis_checker.specs.GoodCertificate.{IsGood}
 use Rattle.lpis_checker.specs.SoundMap.{IsSoundMap}
-use Rattle.lpis.specs.AreaAnswer.{IsRead}
+use Rattle.lpis.specs.Failures.{IsUnchecked}
+use Rattle.lpis.specs.declared.failure.Failure.{Failure}
+use Rattle.lpis.specs.declared.failure.Failure.TheVariants.{Write}
+use Rattle.lpis.specs.declared.failure.Name.TheVariants.{Out}
 use Rattle.lpis.specs.Refusals.{cert_refusal_text, check_refusal_text, refusal_text}
 use Rattle.lpis.specs.Report.{report_text}
 use Rattle.lpis.specs.Status.{done, refused, unreadable}
+use Rattle.lpis.specs.Streams.{Begins, IsRead}
 
 -- the bytes of three tables and a certificate
 pub record Inputs : Type 0 where
@@ -74,3 +78,13 @@ pub record AreRead (x : Inputs) (parcels covers classes cert : Option (List ℕ)
 -- certificate that is good for it
 abbrev pub Ends : Inputs → ℕ → Option (List ℕ) → Option (List ℕ) → Type 0
 Ends x status old new = Checks x status old new × (status ≡ done → IsProved x)
+
+-- a beginning of the answer to these inputs was written
+abbrev pub IsBegun : Inputs → Option (List ℕ) → Option (List ℕ) → Type 0
+IsBegun x old new = (a : Answer) × IsAnswer x a × (a.1 ≡ done → IsProved x) × Begins old new a.0
+
+-- the run of what four readers told gave no answer: a reader failed, or the writer did after a beginning of the answer
+abbrev pub Halts : Failure → (parcels covers classes cert : Option (List ℕ)) → Option (List ℕ) → Option (List ℕ) → Type 0
+Halts failure parcels covers classes cert old new =
+    ((x : Inputs) × AreRead x parcels covers classes cert × (failure ≡ Write Out) × IsBegun x old new)
+    ⊎ (IsUnchecked parcels covers classes failure × Keeps old new)

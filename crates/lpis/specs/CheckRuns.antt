@@ -3,4 +3,4 @@ use Rattle.lpis.specs.CheckAnswer.{Inputs}
 use Rattle.lpis.specs.declared.checking.InputBytes.{InputBytes}
 
 abbrev pub inputs_of : InputBytes → Inputs
-inputs_of i = record { parcels = i.parcels.items; covers = i.covers.items; classes = i.classes.items; cert = i.cert.items }
+inputs_of i = record { parcels = i.tables.parcels.items; covers = i.tables.covers.items; classes = i.tables.classes.items; cert = i.cert.items }

@@ -1,9 +1,10 @@
 -- What stands for a run that gave no answer.
-use Rattle.std.specs.Prelude.{◌≡◌, ◌⊎◌, ℕ, List, ◌++◌, codes}
+use Rattle.std.specs.Prelude.{◌≡◌, ◌⊎◌, ℕ, List, Option, ◌++◌, codes}
 use Rattle.lpis.specs.declared.failure.Name.{Name}
 use Rattle.lpis.specs.declared.failure.Name.TheVariants.{Area, Parcels, Covers, Classes, Lineage, Cert, Out}
 use Rattle.lpis.specs.declared.failure.Failure.{Failure}
 use Rattle.lpis.specs.declared.failure.Failure.TheVariants.{Memory, Read, Write, Store}
+use Rattle.lpis.specs.Streams.{IsWithin}
 
 -- an input or an output by its name
 abbrev pub name_text : Name → List ℕ
@@ -26,10 +27,12 @@ failure_text Store = codes "failed store\n"
 abbrev pub IsUnread : Name → Failure → Type 0
 IsUnread name failure = (failure ≡ Memory) ⊎ (failure ≡ Read name)
 
--- an input of a check
-abbrev pub IsOfCheck : Name → Type 0
-IsOfCheck name = (name ≡ Parcels) ⊎ (name ≡ Covers) ⊎ (name ≡ Classes) ⊎ (name ≡ Cert)
+-- a table of a release was not read, while those before it were; or memory ran out
+abbrev pub IsUnreadRelease : (parcels covers : Option (List ℕ)) → Failure → Type 0
+IsUnreadRelease parcels covers failure =
+    (failure ≡ Memory) ⊎ (failure ≡ Read Parcels) ⊎ (IsWithin parcels × (failure ≡ Read Covers)) ⊎ (IsWithin parcels × IsWithin covers × (failure ≡ Read Classes))
 
--- an input of a check was not read, or memory ran out
-abbrev pub IsUnchecked : Failure → Type 0
-IsUnchecked failure = (failure ≡ Memory) ⊎ ((name : Name) × IsOfCheck name × (failure ≡ Read name))
+-- so it is of the tables, or the certificate was not read, while the tables were
+abbrev pub IsUnchecked : (parcels covers classes : Option (List ℕ)) → Failure → Type 0
+IsUnchecked parcels covers classes failure =
+    IsUnreadRelease parcels covers failure ⊎ (IsWithin parcels × IsWithin covers × IsWithin classes × (failure ≡ Read Cert))

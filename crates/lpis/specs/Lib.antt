@@ -8,3 +8,4 @@ pub mod Refusals
 pub mod Report
 pub mod Runs
 pub mod Status
+pub mod Streams

@@ -4,10 +4,12 @@ ghost use Rattle.std.specs.Prelude.{◌≡◌, IfErr, IfOk, OnOk};
 ghost use Rattle.std.specs.Io.KnownBytes.{Appends};
 ghost use Rattle.lpis.specs.Refusals.{refusal_text};
 ghost use Rattle.lpis.specs.Status.{unreadable};
+ghost use Rattle.lpis.specs.Streams.{Begins};
 ghost use Rattle.lpis.specs.declared.failure.Failure.{Failure};
 ghost use Rattle.lpis.specs.declared.failure.Name.{Name};
 
 use crate::failure::{Failure, Name};
+use crate::outputs::write_text;
 use crate::refusal::print_table_fault;
 use crate::status::UNREADABLE;
 use lpis_covers::TableFault;
@@ -40,11 +42,9 @@ impl Answer {
     pub(crate) fn write_to<W: Write>(&self, out: &mut W) -> Result<u8, Failure>
         ensures status { IfOk result (λ status. status ≡ self.now.status) }
         ensures text { OnOk result (Appends (W.contents out.old) (W.contents out.new) self.now.text.items) }
-        ensures failure { IfErr result (λ failure. failure ≡ Failure.Write Name.Out) }
+        ensures failure { IfErr result (λ failure. (failure ≡ Failure.Write Name.Out) × Begins (W.contents out.old) (W.contents out.new) self.now.text.items) }
     {
-        match out.write_all(self.text.as_slice()) {
-            Ok(()) => Ok(self.status),
-            Err(_) => Err(Failure::Write(Name::Out)),
-        }
+        write_text(self.text.as_slice(), Name::Out, out)?;
+        Ok(self.status)
     }
 }

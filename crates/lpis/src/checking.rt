@@ -1,25 +1,23 @@
 //! The run of `check`, over any readers and writer.
 
-ghost use Rattle.std.specs.Prelude.{◌≡◌, ◌⊎◌, IfErr, IfOk};
-ghost use Rattle.std.specs.Io.KnownBytes.{Keeps};
+ghost use Rattle.std.specs.Prelude.{◌≡◌, IfErr, IfOk};
 ghost use Rattle.lpis_cert.specs.Contents.{cert_text};
 ghost use Rattle.lpis_cert.specs.Faults.{verdict};
 ghost use Rattle.lpis_cert.specs.declared.cert.Cert.{Cert};
 ghost use Rattle.lpis_checker.specs.GoodCertificate.{IsGood};
 ghost use Rattle.lpis_checker.specs.SoundMap.{IsSoundMap};
-ghost use Rattle.lpis.specs.CheckAnswer.{AreRead, Ends, Inputs, IsAnswer, IsCertAnswer, IsCheckAnswer, IsProved};
+ghost use Rattle.lpis.specs.CheckAnswer.{AreRead, Ends, Halts, Inputs, IsAnswer, IsCertAnswer, IsCheckAnswer, IsProved};
 ghost use Rattle.lpis.specs.CheckRuns.{inputs_of};
 ghost use Rattle.lpis.specs.Failures.{IsUnchecked};
 ghost use Rattle.lpis.specs.Refusals.{cert_refusal_text, check_refusal_text, refusal_text};
 ghost use Rattle.lpis.specs.Report.{report_text};
 ghost use Rattle.lpis.specs.Status.{done, refused, unreadable};
-ghost use Rattle.lpis.specs.declared.failure.Failure.{Failure};
-ghost use Rattle.lpis.specs.declared.failure.Name.{Name};
 
 use crate::answer::Answer;
 use crate::failure::{Failure, Name};
-use crate::reading::read_input;
+use crate::reading::read_named;
 use crate::refusal::{print_cert_fault, print_check_fault};
+use crate::releases::{TableBytes, read_tables};
 use crate::report::write_report;
 use crate::status::{DONE, REFUSED, UNREADABLE};
 use lpis_cert::{Cert, CertFault, read_cert};
@@ -33,9 +31,7 @@ use std::io::{Read, Write};
 /// The bytes of three tables and a certificate.
 #[derive(Drop)]
 struct InputBytes {
-    parcels: Vec<u8>,
-    covers: Vec<u8>,
-    classes: Vec<u8>,
+    tables: TableBytes,
     cert: Vec<u8>,
 }
 
@@ -111,9 +107,9 @@ fn answer_to(alloc: Global, inputs: &InputBytes) -> Result<Answer, AllocError>
     ensures answer { IfOk result (λ a. IsAnswer (inputs_of inputs.now) (a.text.items, a.status)) }
     ensures proved { IfOk result (λ a. a.status ≡ done → IsProved (inputs_of inputs.now)) }
 {
-    let parcels = inputs.parcels.as_slice();
-    let covers = inputs.covers.as_slice();
-    let classes = inputs.classes.as_slice();
+    let parcels = inputs.tables.parcels.as_slice();
+    let covers = inputs.tables.covers.as_slice();
+    let classes = inputs.tables.classes.as_slice();
     match read_release(alloc, parcels, covers, classes) {
         Ok(release) => answer_to_text(alloc, &release, inputs.cert.as_slice()),
         Err(TableFault::Memory) => Err(AllocError),
@@ -130,18 +126,11 @@ fn read_inputs<P: Read + Drop, C: Read + Drop, K: Read + Drop, E: Read + Drop>(
     cert: E,
 ) -> Result<InputBytes, Failure>
     ensures bytes { IfOk result (λ i. AreRead (inputs_of i) (P.remaining parcels) (C.remaining covers) (K.remaining classes) (E.remaining cert)) }
-    ensures failure { IfErr result IsUnchecked }
+    ensures failure { IfErr result (IsUnchecked (P.remaining parcels) (C.remaining covers) (K.remaining classes)) }
 {
-    let parcels = read_input(alloc, parcels, Name::Parcels)?;
-    let covers = read_input(alloc, covers, Name::Covers)?;
-    let classes = read_input(alloc, classes, Name::Classes)?;
-    let cert = read_input(alloc, cert, Name::Cert)?;
-    Ok(InputBytes {
-        parcels,
-        covers,
-        classes,
-        cert,
-    })
+    let tables = read_tables(alloc, parcels, covers, classes)?;
+    let cert = read_named(alloc, cert, Name::Cert)?;
+    Ok(InputBytes { tables, cert })
 }
 
 /// Checks the release of three tables against a certificate, and prints the report of a release that is a sound map, or the line of
@@ -158,8 +147,8 @@ pub fn run_check<P: Read + Drop, C: Read + Drop, K: Read + Drop, E: Read + Drop,
     out: &mut W,
 ) -> Result<u8, Failure>
     ensures answer { IfOk result (λ status. (x : Inputs) × AreRead x (P.remaining parcels) (C.remaining covers) (K.remaining classes) (E.remaining cert) × Ends x status (W.contents out.old) (W.contents out.new)) }
-    // Before the outcome is known nothing is written.
-    ensures failure { IfErr result (λ failure. (failure ≡ Failure.Write Name.Out) ⊎ (IsUnchecked failure × Keeps (W.contents out.old) (W.contents out.new))) }
+    // A beginning of the answer was written, or nothing.
+    ensures failure { IfErr result (λ failure. Halts failure (P.remaining parcels) (C.remaining covers) (K.remaining classes) (E.remaining cert) (W.contents out.old) (W.contents out.new)) }
 {
     let inputs = read_inputs(alloc, parcels, covers, classes, cert)?;
     let answer = answer_to(alloc, &inputs)?;

@@ -3,30 +3,11 @@
 ghost use Rattle.std.specs.Prelude.{◌≡◌, ◌≤◌, ◌^◌, OnOk, nat_abs};
 ghost use Rattle.std.specs.Io.KnownBytes.{Appends};
 ghost use Rattle.lpis.specs.Area.{area_line, area_text};
-ghost use Rattle.lpis.specs.declared.printing.PrintFault.{PrintFault};
 
-use std::io;
 use std::io::Write;
-use thiserror::Error;
 
-/// Why a text was not written.
-#[derive(Clone, Copy, Debug, PartialEq, Eq, Drop, Error)]
-pub enum PrintFault {
-    /// A growth was refused.
-    #[error("out of memory")]
-    Memory,
-    /// The writer answered an error.
-    #[error("the text could not be written")]
-    Write,
-}
-
-impl From<io::Error> for PrintFault {
-    ghost from_gives = { λ _ e. e ≡ PrintFault.Write };
-
-    fn from(_e: io::Error) -> PrintFault {
-        PrintFault::Write
-    }
-}
+/// Why a text was not written: `Memory` where the writer's error is of the kind `OutOfMemory`, else `Write`.
+pub use lpis_cert::WriteFault as PrintFault;
 
 /// How many units of a printed area's last decimal one doubled square centimetre has.
 const UNITS: u128 = 5;

@@ -1,8 +1,8 @@
 //! Reading all of an input.
 
 ghost use Rattle.std.specs.Prelude.{◌≡◌, ◌≤◌, ◌<◌, length, IfSome, IfOk, IfErr, IsErrOf, vec_len};
-ghost use Rattle.lpis.specs.AreaAnswer.{IsRead};
 ghost use Rattle.lpis.specs.Failures.{IsUnread};
+ghost use Rattle.lpis.specs.Streams.{IsRead};
 ghost use Rattle.lpis.specs.declared.reading.ReadFault.{ReadFault};
 
 use crate::failure::{Failure, Name};
@@ -86,8 +86,16 @@ fn read_by<R: Read + Drop>(
     Err(ReadFault::Read)
 }
 
-/// All bytes of an input.
-pub(crate) fn read_input<R: Read + Drop>(
+/// All bytes of an input, which has at most 1,073,741,824.
+pub(crate) fn read_input<R: Read + Drop>(alloc: Global, reader: R) -> Result<Vec<u8>, ReadFault>
+    ensures all { IfOk result (λ v. IsRead v.items (R.remaining reader)) }
+    ensures long { IsErrOf result ReadFault.TooLong → IfSome (R.remaining reader) (λ bytes. 1073741824 < length bytes) }
+{
+    read_all(alloc, reader, GREATEST_LIMIT)
+}
+
+/// All bytes of the input of this name, or the failure that tells it.
+pub(crate) fn read_named<R: Read + Drop>(
     alloc: Global,
     reader: R,
     name: Name,
@@ -95,7 +103,7 @@ pub(crate) fn read_input<R: Read + Drop>(
     ensures all { IfOk result (λ v. IsRead v.items (R.remaining reader)) }
     ensures failure { IfErr result (IsUnread name) }
 {
-    match read_all(alloc, reader, GREATEST_LIMIT) {
+    match read_input(alloc, reader) {
         Ok(bytes) => Ok(bytes),
         Err(ReadFault::Memory) => Err(Failure::Memory),
         Err(_) => Err(Failure::Read(name)),

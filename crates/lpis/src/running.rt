@@ -1,18 +1,15 @@
 //! The run of `area`, over any reader and writer.
 
-ghost use Rattle.std.specs.Prelude.{◌≡◌, ◌⊎◌, ℕ, List, IfErr, IfOk};
-ghost use Rattle.std.specs.Io.KnownBytes.{Keeps};
-ghost use Rattle.lpis.specs.AreaAnswer.{Answers, IsRead, answer_from, answer_of};
-ghost use Rattle.lpis.specs.Failures.{IsUnread};
+ghost use Rattle.std.specs.Prelude.{◌≡◌, ℕ, List, IfErr, IfOk};
+ghost use Rattle.lpis.specs.AreaAnswer.{Answers, Halts, answer_from, answer_of};
 ghost use Rattle.lpis.specs.Runs.{Tells, polygons_left};
-ghost use Rattle.lpis.specs.declared.failure.Failure.{Failure};
-ghost use Rattle.lpis.specs.declared.failure.Name.{Name};
+ghost use Rattle.lpis.specs.Streams.{IsRead};
 ghost use Rattle.lpis_covers.specs.declared.fault.Table.TheVariants as tables;
 
 use crate::answer::Answer;
 use crate::failure::{Failure, Name};
 use crate::printing::print_line;
-use crate::reading::read_input;
+use crate::reading::read_named;
 use crate::status::DONE;
 use lpis_covers::{Table, TableFault, TableReader};
 use lpis_rings::area2;
@@ -63,10 +60,10 @@ pub fn run_area<R: Read + Drop, W: Write>(
     out: &mut W,
 ) -> Result<u8, Failure>
     ensures answer { IfOk result (λ status. (bytes : List ℕ) × IsRead bytes (R.remaining table) × Answers bytes status (W.contents out.old) (W.contents out.new)) }
-    // Before the outcome is known nothing is written.
-    ensures failure { IfErr result (λ failure. (failure ≡ Failure.Write Name.Out) ⊎ (IsUnread Name.Area failure × Keeps (W.contents out.old) (W.contents out.new))) }
+    // A beginning of the answer was written, or nothing.
+    ensures failure { IfErr result (λ failure. Halts failure (R.remaining table) (W.contents out.old) (W.contents out.new)) }
 {
-    let bytes = read_input(alloc, table, Name::Area)?;
+    let bytes = read_named(alloc, table, Name::Area)?;
     let answer = answer_to(alloc, bytes.as_slice())?;
     answer.write_to(out)
 }
