@@ -8,9 +8,9 @@ so its neighbours, and its pieces, have T-junctions there. All corners are even 
 edge. It is sound by construction: a border keeps within a slim rhombus around its straight line, and a cell is divided around
 its middle only where the middle sees the whole ring.
 
-With FAULT every parcel is wrong: `gaps` moves a corner of each parcel's first piece inwards by a centimetre; `overlaps` moves the
-corners of each parcel and its pieces outwards by one. `stacked` and `spread` are N equal round parcels, all in one place or
-side by side.
+With FAULT nearly every parcel is wrong: `gaps` moves a corner of each piece inwards by a centimetre; `overlaps` moves the shell of
+each parcel of one member outwards by one, and gives it one piece of its own shape. `stacked` and `spread` are N equal round parcels,
+all in one place or side by side.
 """
 
 import math
@@ -139,7 +139,7 @@ def moved(polygon, corners, sign):
 def faulty(fault, parcels, pieces):
     if fault == "gaps":
         return parcels, [(name, parcel, kind, moved(polygon, 1, -1)) for name, parcel, kind, polygon in pieces]
-    grown = [(name, moved(polygon, len(polygon[0][0]), 1)) for name, polygon in parcels]
+    grown = [(name, moved(polygon, len(polygon[0][0]), 1) if len(polygon) == 1 else polygon) for name, polygon in parcels]
     return grown, [(f"C{name}", name, "G", polygon) for name, polygon in grown]
 
 
