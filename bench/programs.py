@@ -1,4 +1,4 @@
-"""The programs under measurement, for scripts that run `cut`.
+"""The programs under measurement, for scripts that run `check` and `cut`.
 
 `CUT=PROGRAM` in the environment names another program that knows `cut DIR CERT`, `LPIS=PROGRAM` a proved `lpis` that is built already;
 without them the repository's own is proved and built where that is needed."""
