@@ -123,7 +123,7 @@ span-law h law id f l ef el i lt =
     ]
 
 -- the span tells each release's set
-span-tells : (h : List Entry) → IsLawful h → (id : List ℕ) (s : Span) → span_of h id ≡ Some s → (i : ℕ) → i < length h → in_span s (entry_at h i).year ≡ holds h i id
+pub span-tells : (h : List Entry) → IsLawful h → (id : List ℕ) (s : Span) → span_of h id ≡ Some s → (i : ℕ) → i < length h → in_span s (entry_at h i).year ≡ holds h i id
 span-tells h law id s e i lt = by (first_held h id) refl (last_held h id) refl e where
   some-eq : (a b : Span) → Some a ≡ Some b → a ≡ b
   some-eq a b e = cc

@@ -43,7 +43,7 @@ last-more (x ∷ h) e id =
     ap (λ (o : Option ℕ). option_or o (cond (has_id x.live id) (Some x.year) None)) (last-more h e id)
     ∙ or-assoc (cond (has_id e.live id) (Some e.year) None) (last_held h id) (cond (has_id x.live id) (Some x.year) None)
 
-live-more : (h : List Entry) (e : Entry) → last_live (h ++ e ∷ []) ≡ e.live
+pub live-more : (h : List Entry) (e : Entry) → last_live (h ++ e ∷ []) ≡ e.live
 live-more h e = sym (last-at (h ++ e ∷ []) (length h) (sym (longer h e))) ∙ ap (λ (x : Entry). x.live) (entry-here h e)
 
 -- an identifier without a first release has no last one, and one with a first has a last
@@ -88,7 +88,7 @@ calc (Some f) (Some l) false true y last none gone some used at = absurd (let u 
 calc (Some f) (Some l) true false y last none gone some used at = ap (λ (n : ℕ). Some (record { first = f; last = n })) (sym (some-eq l last (at refl)))
 calc (Some f) (Some l) false false y last none gone some used at = refl
 
-span-more : (h : List Entry) (e : Entry) (id : List ℕ) → Follows h e.live e.rows
+pub span-more : (h : List Entry) (e : Entry) (id : List ℕ) → Follows h e.live e.rows
     → ended_in (has_id (last_live h) id && not (has_id e.live id)) (last_year h) (begun (has_id e.live id && not (is_some (span_of h id))) e.year (span_of h id)) ≡ span_of (h ++ e ∷ []) id
 span-more h e id follows =
     calc (first_held h id) (last_held h id) (has_id (last_live h) id) (has_id e.live id) e.year (last_year h) (first-none h id) (λ n. dead n (has_id (last_live h) id) refl) (first-some h id) used (live-year h id)

@@ -1,6 +1,8 @@
 //! What the rows of the register's tables say as a history, and what publishing writes. No call reaches a database.
 #![tactic(auto)]
 
+mod laws;
 mod rows;
 
+pub use laws::{publishing_adds_the_release, tables_say_one_history};
 pub use rows::{FormatRow, LineRow, LiveRow, Rows, SpanRow};

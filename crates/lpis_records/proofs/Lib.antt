@@ -1,0 +1,4 @@
+pub mod Ascending
+pub mod Folds
+pub mod SpanRows
+pub mod Publishing

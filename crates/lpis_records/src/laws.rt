@@ -1,0 +1,20 @@
+//! Laws of the definitions: functions that do nothing, and whose contracts say them.
+
+ghost use Rattle.std.specs.Prelude.{◌≡◌, ◌≤◌, ℕ, List, pos};
+ghost use Rattle.lpis_lineage.specs.Accepts.{Adds};
+ghost use Rattle.lpis_lineage.specs.Lawful.{IsLawful, RowsFit};
+ghost use Rattle.lpis_lineage.specs.Lineage.{last_year};
+ghost use Rattle.lpis_lineage.specs.declared.row.Entry.{Entry};
+ghost use Rattle.lpis_lineage.specs.declared.row.Row.{Row};
+ghost use Rattle.lpis_records.specs.Content.{Content, published};
+ghost use Rattle.lpis_records.specs.Tells.{IsSameHistory, IsWriting, Tells, last_of_years};
+
+/// Where tables say a history, they say that history with a release more after what publishing it writes.
+pub fn publishing_adds_the_release()
+    ensures { (c : Content) (h k : List Entry) (year : ℕ) (live gone fresh : List (List ℕ)) (rows : List Row) → Tells c h → Adds h k year live rows → IsLawful k → RowsFit k → year ≤ last_of_years → IsWriting h live gone fresh → Tells (published (pos year) (pos (last_year h)) gone fresh rows c) k }
+{}
+
+/// Tables say one history.
+pub fn tables_say_one_history()
+    ensures { (c : Content) (h k : List Entry) → Tells c h → Tells c k → IsSameHistory h k }
+{}
