@@ -1,7 +1,6 @@
 -- What the changes of a list of rows make, whole.
-use Rattle.std.proofs.Common.{◌≡◌, ◌∙◌, refl, sym, ap, ap₂, ℕ, ℤ, pos, List, [], ◌∷◌, ◌++◌, Bool, true, false, cond, map, IsPermutation}
-use Rattle.std.specs.Prelude.{◌||◌, if◌then◌else◌}
-use Rattle.std.specs.List.{list_any}
+use Rattle.std.proofs.Common.{◌≡◌, ◌∙◌, refl, sym, ap, ap₂, ℕ, ℤ, pos, List, [], ◌∷◌, ◌++◌, Bool, true, false, map, IsPermutation}
+use Rattle.std.specs.Prelude.{if◌then◌else◌}
 use Rattle.std.proofs.lemmas.List.Sorted.{IsPermutation-sym, IsPermutation-trans, IsPermutation-refl, IsPermutation-middle}
 use Rattle.lpis_covers.specs.Ids.{has_id, same_id}
 use Rattle.lpis_lineage.specs.declared.row.Row.{Row}

@@ -2,3 +2,6 @@ pub mod Ascending
 pub mod Folds
 pub mod SpanRows
 pub mod Publishing
+pub mod Years
+pub mod OneHistory
+pub mod Moving

@@ -1,18 +1,18 @@
 -- Publishing: what the tables say after it.
-use Rattle.std.proofs.Common.{◌≡◌, ◌∙◌, ◌<◌, ◌≤◌, ◌+◌, ◌⊎◌, inl, inr, refl, sym, ap, ap₂, subst, arith, ℕ, suc, ℤ, pos, List, [], ◌∷◌, ◌++◌, Bool, true, false, cond, map, length, Option, None, Some, IsPermutation}
-use Rattle.std.specs.Prelude.{◌&&◌, ◌||◌, not, is_some, if◌then◌else◌}
+use Rattle.std.proofs.Common.{◌≡◌, ◌∙◌, ◌≤◌, ◌+◌, ◌⊎◌, inl, inr, refl, sym, ap, ap₂, subst, arith, ℕ, suc, ℤ, pos, List, [], ◌∷◌, ◌++◌, Bool, true, false, cond, map, length, Option, None, Some, IsPermutation}
+use Rattle.std.specs.Prelude.{◌&&◌, ◌||◌, not, is_some}
 use Rattle.std.specs.List.{AllByRecursion, filter, list_any}
 use Rattle.std.specs.List.Sorted.{IsStrictlySortedBy}
 use Rattle.std.specs.Ordering.{is_eq, nat_cmp}
 use Rattle.std.specs.Cmp.Lexicographic.{slice_cmp}
 use Rattle.std.specs.declared.cmp.Ordering.TheVariants.{Less}
 use Rattle.std.proofs.lemmas.List.{append-nil}
-use Rattle.std.proofs.lemmas.List.Sorted.{IsPermutation-sym, IsPermutation-trans, IsPermutation-refl, IsPermutation-cons, IsPermutation-to_front, IsPermutation-append_right, IsPermutation-append_comm}
+use Rattle.std.proofs.lemmas.List.Sorted.{IsPermutation-sym, IsPermutation-trans, IsPermutation-cons, IsPermutation-to_front, IsPermutation-append_right, IsPermutation-append_comm}
 use Rattle.lpis_covers.specs.Ids.{has_id, is_id, same_id}
 use Rattle.lpis_lineage.specs.declared.row.Entry.{Entry}
 use Rattle.lpis_lineage.specs.declared.row.Row.{Row}
 use Rattle.lpis_lineage.specs.declared.span.Span.{Span as Years}
-use Rattle.lpis_lineage.specs.Accepts.{Adds, IsRelease}
+use Rattle.lpis_lineage.specs.Accepts.{Adds}
 use Rattle.lpis_lineage.specs.Follows.{Follows}
 use Rattle.lpis_lineage.specs.Keeping.{begun, ended_in}
 use Rattle.lpis_lineage.specs.Lawful.{IsLawful, RowsFit}
@@ -26,7 +26,7 @@ use Rattle.lpis_lineage.proofs.SpanLaw.{first-place}
 use Rattle.lpis_lineage.proofs.SpanSteps.{span-more}
 use Rattle.lpis_records.specs.Content.{Content, Line, Span, lines_from, published}
 use Rattle.lpis_records.specs.Tells.{IsKept, IsSpanRow, IsWriting, SpansTell, Tells, last_of_years, lines_of, shown, years_of}
-use Rattle.lpis_records.proofs.Ascending.{all-append, all-map}
+use Rattle.lpis_records.proofs.Ascending.{all-append}
 use Rattle.lpis_records.proofs.Folds.{end_among, fresh_span, published-is, rev-moved, rev_onto}
 use Rattle.lpis_records.proofs.SpanRows.{spans-moved, told-some}
 

@@ -1,13 +1,12 @@
 -- Rows of spans against a history.
-use Rattle.std.proofs.Common.{◌≡◌, ◌∙◌, ◌<◌, ◌≤◌, ◌+◌, ◌⊎◌, inl, inr, refl, sym, ap, ap₂, subst, arith, ℕ, ℤ, pos, List, [], ◌∷◌, ◌++◌, Bool, true, false, cond, map, length, Option, None, Some, IsPermutation}
-use Rattle.std.specs.Prelude.{◌&&◌, ◌||◌, not, is_some}
+use Rattle.std.proofs.Common.{◌≡◌, ◌∙◌, refl, sym, ap, arith, ℕ, ℤ, List, [], ◌∷◌, Bool, true, false, length, Option, None, Some, IsPermutation}
+use Rattle.std.specs.Prelude.{◌||◌, is_some}
 use Rattle.std.specs.List.{AllByRecursion, filter, list_any}
 use Rattle.std.proofs.lemmas.List.Sums.{length-filter}
 use Rattle.std.proofs.lemmas.List.Sorted.{sum_by-IsPermutation, list_any-IsPermutation}
-use Rattle.lpis_covers.specs.Ids.{has_id, same_id}
+use Rattle.lpis_covers.specs.Ids.{same_id}
 use Rattle.lpis_lineage.specs.declared.row.Entry.{Entry}
 use Rattle.lpis_lineage.specs.declared.span.Span.{Span as Years}
-use Rattle.lpis_lineage.specs.Lineage.{entry_at, holds}
 use Rattle.lpis_lineage.specs.Spans.{span_of}
 use Rattle.lpis_lineage.proofs.Basics.{same-exact}
 use Rattle.lpis_records.specs.Content.{Span}

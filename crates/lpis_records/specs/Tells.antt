@@ -75,6 +75,14 @@ pub record TellsLive (c : Content) (h : List Entry) : Type 0 where
   pub live_are : LiveTells c.live h
   pub lines_are : IsPermutation c.lines (lines_of h)
 
+-- the same rows in another order
+pub record IsSameContent (c d : Content) : Type 0 where
+  pub formats : IsPermutation c.formats d.formats
+  pub years : IsPermutation c.years d.years
+  pub spans : IsPermutation c.spans d.spans
+  pub lines : IsPermutation c.lines d.lines
+  pub live : IsPermutation c.live d.live
+
 -- two histories are the same: the same years, sets and rows
 pub record IsSameHistory (h k : List Entry) : Type 0 where
   pub lengths : length h ≡ length k

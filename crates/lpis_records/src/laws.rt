@@ -1,13 +1,13 @@
 //! Laws of the definitions: functions that do nothing, and whose contracts say them.
 
-ghost use Rattle.std.specs.Prelude.{◌≡◌, ◌≤◌, ℕ, List, pos};
+ghost use Rattle.std.specs.Prelude.{◌≡◌, ◌≤◌, ℕ, List, [], pos};
 ghost use Rattle.lpis_lineage.specs.Accepts.{Adds};
 ghost use Rattle.lpis_lineage.specs.Lawful.{IsLawful, RowsFit};
 ghost use Rattle.lpis_lineage.specs.Lineage.{last_year};
 ghost use Rattle.lpis_lineage.specs.declared.row.Entry.{Entry};
 ghost use Rattle.lpis_lineage.specs.declared.row.Row.{Row};
-ghost use Rattle.lpis_records.specs.Content.{Content, published};
-ghost use Rattle.lpis_records.specs.Tells.{IsSameHistory, IsWriting, Tells, last_of_years};
+ghost use Rattle.lpis_records.specs.Content.{Content, Span, moved, no_content, published};
+ghost use Rattle.lpis_records.specs.Tells.{IsSameContent, IsSameHistory, IsWriting, SpansTell, Tells, TellsLive, last_of_years};
 
 /// Where tables say a history, they say that history with a release more after what publishing it writes.
 pub fn publishing_adds_the_release()
@@ -17,4 +17,16 @@ pub fn publishing_adds_the_release()
 /// Tables say one history.
 pub fn tables_say_one_history()
     ensures { (c : Content) (h k : List Entry) → Tells c h → Tells c k → IsSameHistory h k }
+{}
+
+/// Rows in another order say the same, and tables with no release say the empty history.
+pub fn order_of_rows_is_free()
+    ensures reordered { (c d : Content) (h : List Entry) → IsSameContent c d → Tells c h → Tells d h }
+    ensures reordered_live { (c d : Content) (h : List Entry) → IsSameContent c d → TellsLive c h → TellsLive d h }
+    ensures nothing { Tells no_content [] }
+{}
+
+/// Where tables of version 1 say a history, they say it as version 2 after its spans are put in place of the live rows.
+pub fn moving_keeps_the_history()
+    ensures { (c : Content) (spans : List Span) (h : List Entry) → TellsLive c h → SpansTell spans h → Tells (moved spans c) h }
 {}

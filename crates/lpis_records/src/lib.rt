@@ -4,5 +4,8 @@
 mod laws;
 mod rows;
 
-pub use laws::{publishing_adds_the_release, tables_say_one_history};
+pub use laws::{
+    moving_keeps_the_history, order_of_rows_is_free, publishing_adds_the_release,
+    tables_say_one_history,
+};
 pub use rows::{FormatRow, LineRow, LiveRow, Rows, SpanRow};
