@@ -4,8 +4,8 @@ use Rattle.std.specs.Prelude.{IfSome}
 use Rattle.csv.specs.Machine.{ends_at_end}
 use Rattle.csv.specs.Reading.{ReadRecord, Ready, TookRecord, default_config, expected_len, is_flexible, pending_of, reader_state}
 use Rattle.csv.specs.declared.parser.State.{State}
-use Rattle.lpis_covers.specs.Left.{BytesReader, IsBetween, bytes_left, records_at, records_left}
-use Rattle.lpis_covers.specs.Left.{Steps}
+use Rattle.lpis_covers.specs.private.Left.{BytesReader, IsBetween, bytes_left, records_at, records_left}
+use Rattle.lpis_covers.specs.private.Left.{Steps}
 use Rattle.lpis_covers.specs.declared.records.Step.TheVariants as step
 use Rattle.csv.proofs.ReadFacts.{rows-end}
 use Rattle.lpis_covers.proofs.RecordLemmas.{left-none, left-some, shrinks, took}

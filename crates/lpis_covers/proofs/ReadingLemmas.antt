@@ -8,7 +8,7 @@ use Rattle.lpis_covers.specs.declared.fault.Table.{Table}
 use Rattle.lpis_covers.specs.declared.fault.TableCode.TheVariants.{NotCsv, TooManyRows}
 use Rattle.lpis_covers.specs.declared.fault.TableFault.{TableFault}
 use Rattle.lpis_covers.specs.declared.fault.TableFault.TheVariants.{Memory, At}
-use Rattle.lpis_covers.specs.Columns.{TellsColumn}
+use Rattle.lpis_covers.specs.private.Columns.{TellsColumn}
 use Rattle.lpis_covers.specs.Table.{Answers, Reading, Record, fault_at, field_of, has_mark, most_rows, picked, places_of, reading, rows_from, stopped, table_of, under_header, with_row}
 
 rows-more : (table : Table) (w : ℕ) (places : List ℕ) (n : ℕ) (r : Record) (rs : List Record) → length r ≡ w → n ≤ most_rows

@@ -9,7 +9,7 @@ use Rattle.csv.specs.declared.parser.Action.{Action}
 use Rattle.csv.specs.declared.parser.Terminator.{Terminator}
 use Rattle.csv.specs.declared.parser.Terminator.TheVariants as term
 use Rattle.csv.specs.declared.parser.State.TheVariants as st
-use Rattle.lpis_covers.specs.Left.{records_at}
+use Rattle.lpis_covers.specs.private.Left.{records_at}
 
 -- a step that ends a record goes to a state in which the end of the text ends none
 abbrev pub Good : State × Action → Type 0

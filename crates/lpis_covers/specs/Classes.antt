@@ -1,4 +1,4 @@
--- The table of classes.
+-- The table of classes: a code, and whether it is eligible.
 use Rattle.std.specs.Prelude.{◌&&◌, ◌∷◌, ◌++◌, not, ℕ, List, [], codes}
 use Rattle.std.specs.Str.{bytes_eq}
 use Rattle.lpis_covers.specs.declared.class.Class.{Class}

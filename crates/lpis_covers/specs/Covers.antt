@@ -1,4 +1,4 @@
--- The table of pieces of land cover.
+-- The table of pieces of land cover: an identifier, the parcel's, the class's code, and a polygon.
 use Rattle.std.specs.Prelude.{◌∷◌, ◌++◌, ℕ, List, [], codes}
 use Rattle.lpis_covers.specs.declared.piece.Piece.{Piece}
 use Rattle.lpis_covers.specs.declared.fault.Table.TheVariants.{Covers}

@@ -1,4 +1,4 @@
--- Identifiers.
+-- Identifiers: 1 to 40 characters of a few kinds, compared by their bytes.
 use Rattle.std.specs.Prelude.{◌&&◌, ◌||◌, ◌==◌, Bool, ℕ, List, length, nat_eq, nat_le}
 use Rattle.std.specs.Cmp.Lexicographic.{pointwise}
 use Rattle.std.specs.List.{list_all, list_any}

@@ -1,10 +1,8 @@
 pub mod Classes
 pub mod Codes
-pub mod Columns
 pub mod Covers
 pub mod Faults
 pub mod Ids
-pub mod Keyed
-pub mod Left
 pub mod Rows
 pub mod Table
+pub mod private

@@ -30,7 +30,7 @@ pub struct Keyed<T: Identified> {
 
 impl<T: Identified> Model for Keyed<T> {
     ghost use Rattle.std.specs.Prelude.{List};
-    ghost use Rattle.lpis_covers.specs.Keyed.{IsKeyed};
+    ghost use Rattle.lpis_covers.specs.private.Keyed.{IsKeyed};
 
     ghost Value = { List T };
 

@@ -6,7 +6,7 @@ ghost use Rattle.csv.specs.Reading.{strip_bom};
 ghost use Rattle.lpis_covers.specs.Table.{Advances, Answers, fault_at, field_of, has_mark, picked, place_of, places_of, table_of, texts};
 ghost use Rattle.lpis_covers.specs.declared.fault.TableCode.TheVariants.{BadGeometry};
 ghost use Rattle.lpis_covers.specs.declared.fault.TableFault.TheVariants.{At};
-ghost use Rattle.lpis_covers.specs.Columns.{TellsColumn};
+ghost use Rattle.lpis_covers.specs.private.Columns.{TellsColumn};
 
 use crate::fault::{Table, TableCode, TableFault};
 use crate::records::{Records, Step};

@@ -4,7 +4,7 @@ ghost use Rattle.std.specs.Prelude.{◌≡◌, ◌∷◌, [], length, IfOk, Matc
 ghost use Rattle.csv.specs.Reading.{default_config, expected_len, records, strip_bom};
 ghost use Rattle.csv.specs.Records.{fields_of};
 ghost use Rattle.std.specs.Prelude.{None};
-ghost use Rattle.lpis_covers.specs.Left.{IsBetween, Left, Moves, Steps, records_left};
+ghost use Rattle.lpis_covers.specs.private.Left.{IsBetween, Left, Moves, Steps, records_left};
 
 use csv::{ByteRecord, ErrorKind, Reader, ReaderBuilder};
 use std::alloc::{AllocError, Global};
@@ -31,7 +31,7 @@ pub(crate) struct Records<'a> {
 }
 
 impl<'a> Model for Records<'a> {
-    ghost use Rattle.lpis_covers.specs.Left.{IsLeft, Left, left_of};
+    ghost use Rattle.lpis_covers.specs.private.Left.{IsLeft, Left, left_of};
 
     ghost Value = { Left };
 

@@ -5,8 +5,8 @@ use Rattle.std.proofs.lemmas.List.Elements.{All-nil, All-push, Contains-append_l
 use Rattle.std.proofs.lemmas.Option.{slice_get_within}
 use Rattle.lpis_points.specs.declared.triangle.Triangle.{Triangle}
 use Rattle.lpis_pairs.specs.declared.entries.Entry.{Entry}
-use Rattle.lpis_pairs.specs.Strips.{span_of}
-use Rattle.lpis_pairs.specs.Entering.{IsEntry, AreEntries, HasEntries, entry}
+use Rattle.lpis_pairs.specs.private.Strips.{span_of}
+use Rattle.lpis_pairs.specs.private.Entering.{IsEntry, AreEntries, HasEntries, entry}
 
 -- those of the triangles below n
 pub record EntriesBelow (ts : List Triangle) (height : ℕ) (es : List Entry) (n : ℕ) : Type 0 where

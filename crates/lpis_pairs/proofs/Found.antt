@@ -10,9 +10,9 @@ use Rattle.std.proofs.lemmas.List.Elements.{All-contains}
 use Rattle.std.proofs.lemmas.Option.{same_Some, slice_get-get_or, slice_get_within, get_or_from_slice_get}
 use Rattle.lpis_points.specs.declared.triangle.Triangle.{Triangle}
 use Rattle.lpis_pairs.specs.declared.entries.Entry.{Entry}
-use Rattle.lpis_pairs.specs.Strips.{span_of}
+use Rattle.lpis_pairs.specs.private.Strips.{span_of}
 use Rattle.lpis_pairs.specs.NearPairs.{IsNear, IsNearList}
-use Rattle.lpis_pairs.specs.Entering.{AreNear, HasEntries, IsRising, Joins, entry}
+use Rattle.lpis_pairs.specs.private.Entering.{AreNear, HasEntries, IsRising, Joins, entry}
 use Rattle.lpis_pairs.proofs.SpanLaws.{Meet, meet, upright}
 
 -- a higher place is in no lower strip

@@ -6,7 +6,7 @@ use Rattle.std.proofs.lemmas.Option.{slice_get_within}
 use Rattle.lpis_points.specs.declared.triangle.Triangle.{Triangle}
 use Rattle.lpis_pairs.specs.declared.entries.Entry.{Entry}
 use Rattle.lpis_pairs.specs.NearPairs.{IsNear}
-use Rattle.lpis_pairs.specs.Entering.{AreInOrder, AreNear, Joins}
+use Rattle.lpis_pairs.specs.private.Entering.{AreInOrder, AreNear, Joins}
 
 -- each pair of the first list is in the second
 abbrev pub Keeps : List (ℕ × ℕ) → List (ℕ × ℕ) → Type 0

@@ -8,7 +8,7 @@ use Rattle.std.proofs.lemmas.Cmp.{nat_cmp_total, on_total, then_total}
 use Rattle.std.proofs.lemmas.List.Sorted.{ranks_by, sorted_far}
 use Rattle.std.proofs.lemmas.Option.{slice_get_within, get_or_from_slice_get}
 use Rattle.lpis_pairs.specs.declared.entries.Entry.{Entry}
-use Rattle.lpis_pairs.specs.Entering.{AreInOrder}
+use Rattle.lpis_pairs.specs.private.Entering.{AreInOrder}
 
 -- the derived order of entries
 abbrev pub entry_cmp : Entry → Entry → Ordering

@@ -4,7 +4,7 @@ use Rattle.std.proofs.lemmas.Int.{ints, clamps}
 use Rattle.lpis_points.specs.Range.{IsInRange}
 use Rattle.lpis_points.specs.declared.triangle.Triangle.{Triangle}
 use Rattle.lpis_points.specs.Triangles.{are_apart, box_of, least, greatest}
-use Rattle.lpis_pairs.specs.Strips.{offset, span_of}
+use Rattle.lpis_pairs.specs.private.Strips.{offset, span_of}
 
 -- the least and the greatest of three numbers
 pub least_in_range : (a b c : ℤ) → IsInRange a → IsInRange b → IsInRange c → IsInRange (least a b c)

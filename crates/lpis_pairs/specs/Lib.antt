@@ -1,3 +1,2 @@
 pub mod NearPairs
-pub mod Strips
-pub mod Entering
+pub mod private

@@ -2,7 +2,7 @@
 
 ghost use Rattle.std.specs.Prelude.{◌≤◌, ◌<◌, length, IfOk};
 ghost use Rattle.lpis_pairs.specs.NearPairs.{most_triangles};
-ghost use Rattle.lpis_pairs.specs.Entering.{HasEntries};
+ghost use Rattle.lpis_pairs.specs.private.Entering.{HasEntries};
 
 use crate::spans::span_of;
 use lpis_points::Triangle;

@@ -2,7 +2,7 @@
 
 ghost use Rattle.std.specs.Prelude.{◌≡◌, ◌<◌};
 ghost use Rattle.lpis_points.specs.Range.{IsInRange};
-ghost use Rattle.lpis_pairs.specs.Strips.{offset as offset_lem, span_of as span_of_lem};
+ghost use Rattle.lpis_pairs.specs.private.Strips.{offset as offset_lem, span_of as span_of_lem};
 
 use lpis_points::{LIMIT, Triangle, box_of};
 

@@ -2,7 +2,7 @@
 
 ghost use Rattle.std.specs.Prelude.{◌≡◌, ◌↔◌, ℕ, ◌<◌, ◌||◌, IsTrue, Contains, IfOk, OnOk, length};
 ghost use Rattle.lpis_pairs.specs.NearPairs.{IsNear};
-ghost use Rattle.lpis_pairs.specs.Entering.{AreEntries, AreInOrder, AreNear, Joins};
+ghost use Rattle.lpis_pairs.specs.private.Entering.{AreEntries, AreInOrder, AreNear, Joins};
 
 use crate::entries::{Entry, entries_of};
 use crate::near::is_near;

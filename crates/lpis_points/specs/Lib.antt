@@ -9,4 +9,4 @@ pub mod PointLaws
 pub mod ChainLaws
 pub mod TriangleLaws
 pub mod ShiftLaws
-pub mod Margins
+pub mod private

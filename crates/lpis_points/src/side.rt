@@ -3,7 +3,7 @@
 ghost use Rattle.std.specs.Prelude.{◌≡◌, ◌-ℤ◌, ◌*ℤ◌, ◌≤◌, unsigned_abs};
 ghost use Rattle.lpis_points.specs.Plane.{crossing as crossing_lem, crossing_of, orient as orient_lem, orient_at as orient_at_lem};
 ghost use Rattle.lpis_points.specs.RatPoints.{rational_of};
-ghost use Rattle.lpis_points.specs.Margins.{coordinate_margin, denominator_margin, step_margin, height_margin, offset_margin, product_margin};
+ghost use Rattle.lpis_points.specs.private.Margins.{coordinate_margin, denominator_margin, step_margin, height_margin, offset_margin, product_margin};
 
 use crate::point::Point;
 use crate::rational::RatPoint;

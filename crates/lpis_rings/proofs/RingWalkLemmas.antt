@@ -4,7 +4,7 @@ use Rattle.std.specs.List.{flat_map}
 use Rattle.lpis_points.specs.declared.point.Point.{Point}
 use Rattle.lpis_rings.specs.declared.polygon.Member.{Member}
 use Rattle.lpis_rings.specs.Edges.{shell_edges, hole_edges, edges_of}
-use Rattle.lpis_rings.specs.RingWalks.{joined, walks_of}
+use Rattle.lpis_rings.specs.private.RingWalks.{joined, walks_of}
 
 joined-append : (vs ws : List (List (Point × Point))) → joined (vs ++ ws) ≡ joined vs ++ joined ws
 joined-append [] ws = refl

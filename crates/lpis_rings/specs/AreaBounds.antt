@@ -1,4 +1,4 @@
--- Machinery: how large an area can be.
+-- How large an area can be.
 use Rattle.std.specs.Prelude.{ℕ, ◌*◌}
 use Rattle.lpis_rings.specs.Polygon.{most_points}
 

@@ -3,6 +3,6 @@ pub mod Polygon
 pub mod Area
 pub mod AreaBounds
 pub mod Edges
-pub mod RingWalks
 pub mod Map
 pub mod MapLaws
+pub mod private

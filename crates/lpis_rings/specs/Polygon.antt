@@ -1,4 +1,4 @@
--- What a polygon is.
+-- A polygon is one member or more, each a shell with its holes, and 100,000 points at most.
 use Rattle.std.specs.Prelude.{ℕ, ◌+◌, ◌<◌, ◌≤◌, List, length, sum_by}
 use Rattle.lpis_points.specs.declared.point.Point.{Point}
 use Rattle.lpis_rings.specs.declared.polygon.Member.{Member}

@@ -1,4 +1,4 @@
--- What a ring is.
+-- A ring is four points or more, the last equal to the first.
 use Rattle.std.specs.Prelude.{◌≡◌, ◌≤◌, ◌-◌, List, length, slice_get}
 use Rattle.lpis_points.specs.declared.point.Point.{Point}
 

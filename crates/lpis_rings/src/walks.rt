@@ -88,7 +88,7 @@ impl<'a> Model for Walks<'a> {
     ghost use Rattle.std.specs.Prelude.{List, ◌++◌, map};
     ghost use Rattle.lpis_points.specs.declared.point.Point.{Point};
     ghost use Rattle.lpis_rings.specs.Edges.{hole_edges};
-    ghost use Rattle.lpis_rings.specs.RingWalks.{walks_of};
+    ghost use Rattle.lpis_rings.specs.private.RingWalks.{walks_of};
 
     ghost Value = { List (List (Point × Point)) };
 
@@ -124,7 +124,7 @@ pub struct Edges<'a> {
 
 impl<'a> Model for Edges<'a> {
     ghost use Rattle.std.specs.Prelude.{List, ◌++◌};
-    ghost use Rattle.lpis_rings.specs.RingWalks.{joined};
+    ghost use Rattle.lpis_rings.specs.private.RingWalks.{joined};
     ghost use Rattle.lpis_points.specs.declared.point.Point.{Point};
 
     ghost Value = { List (Point × Point) };

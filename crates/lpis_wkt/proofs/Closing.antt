@@ -6,8 +6,8 @@ use Rattle.lpis_rings.specs.Ring.{IsRing}
 use Rattle.lpis_wkt.specs.declared.fault.WktCode.TheVariants.{TooFewPoints, NotClosed}
 use Rattle.lpis_wkt.specs.declared.parser.Place.{Place}
 use Rattle.lpis_wkt.specs.declared.parser.Place.TheVariants as place
-use Rattle.lpis_wkt.specs.Machine.{Context, AfterPoint, is_closed, close_ring}
-use Rattle.lpis_wkt.specs.Parsing.{state_of}
+use Rattle.lpis_wkt.specs.private.Machine.{Context, AfterPoint, is_closed, close_ring}
+use Rattle.lpis_wkt.specs.private.Parsing.{state_of}
 use Rattle.lpis_wkt.proofs.Points.{is_closed-true}
 
 pub short_ring : (b : Context) (ps : List Point) → length ps < 4 → close_ring b ps ≡ Err TooFewPoints

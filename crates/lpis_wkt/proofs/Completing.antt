@@ -8,10 +8,10 @@ use Rattle.lpis_rings.specs.Ring.{IsRing}
 use Rattle.lpis_wkt.specs.declared.coordinate.Coordinate.{Coordinate}
 use Rattle.lpis_wkt.specs.Tokens.{Token, Open, Close, Comma, Word, End}
 use Rattle.lpis_wkt.specs.Number.{number}
-use Rattle.lpis_wkt.specs.Coordinates.{coordinate, point_of}
+use Rattle.lpis_wkt.specs.private.Coordinates.{coordinate, point_of}
 use Rattle.lpis_wkt.specs.Grammar.{PointText, Commas}
 use Rattle.lpis_wkt.specs.Viable.{Begins}
-use Rattle.lpis_wkt.specs.Machine.{Context, State, AtKeyword, AfterKeyword, AtBody, AtRing, AtX, AtY, AfterPoint, AfterRing, AfterBody, AtEnd, Finished, with_ring, close_body, new_body, open_text, member_of, step, and_then, run}
+use Rattle.lpis_wkt.specs.private.Machine.{Context, State, AtKeyword, AfterKeyword, AtBody, AtRing, AtX, AtY, AfterPoint, AfterRing, AfterBody, AtEnd, Finished, with_ring, close_body, new_body, open_text, member_of, step, and_then, run}
 use Rattle.lpis_wkt.proofs.Points.{coordinate-ok, ok-coordinate}
 use Rattle.lpis_wkt.proofs.Steps.{then-ok, with_coordinate-ok, close_ring-ok, keyword-ok, run-append}
 use Rattle.lpis_wkt.proofs.Completeness.{points_run, ring_closes, reads_runs}

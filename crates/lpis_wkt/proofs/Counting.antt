@@ -6,10 +6,10 @@ use Rattle.lpis_points.specs.declared.point.Point.{Point}
 use Rattle.lpis_rings.specs.declared.polygon.Member.{Member}
 use Rattle.lpis_rings.specs.Polygon.{points_in, points_of, most_points}
 use Rattle.lpis_wkt.specs.Tokens.{Token, Open, Close, Comma, Word, End}
-use Rattle.lpis_wkt.specs.Coordinates.{point_of}
+use Rattle.lpis_wkt.specs.private.Coordinates.{point_of}
 use Rattle.lpis_wkt.specs.Grammar.{Accepts}
 use Rattle.lpis_wkt.specs.Viable.{words, most_words, Viable}
-use Rattle.lpis_wkt.specs.Machine.{Context, State, AtKeyword, AfterKeyword, AtBody, AtRing, AtX, AtY, AfterPoint, AfterRing, AfterBody, AtEnd, Finished, with_ring, close_body, new_body, open_text, member_of, points_before, step, run, is_too_many, limited_step, limited_run}
+use Rattle.lpis_wkt.specs.private.Machine.{Context, State, AtKeyword, AfterKeyword, AtBody, AtRing, AtX, AtY, AfterPoint, AfterRing, AfterBody, AtEnd, Finished, with_ring, close_body, new_body, open_text, member_of, points_before, step, run, is_too_many, limited_step, limited_run}
 use Rattle.lpis_wkt.proofs.Steps.{then-ok, with_coordinate-ok, cond-err, close_ring-ok, keyword-ok}
 use Rattle.lpis_wkt.proofs.Completeness.{reads_runs}
 use Rattle.lpis_wkt.proofs.Soundness.{runs_reads}

@@ -8,11 +8,11 @@ use Rattle.lpis_wkt.specs.declared.fault.WktCode.{WktCode}
 use Rattle.lpis_wkt.specs.declared.fault.WktCode.TheVariants.{Syntax, TooManyPoints}
 use Rattle.lpis_wkt.specs.Tokens.{Token, Open, Close, Comma, Word, End}
 use Rattle.lpis_wkt.specs.Number.{number}
-use Rattle.lpis_wkt.specs.Coordinates.{point_of}
+use Rattle.lpis_wkt.specs.private.Coordinates.{point_of}
 use Rattle.lpis_wkt.specs.Grammar.{PointText, Commas, is_polygon, is_multi}
 use Rattle.lpis_wkt.specs.Viable.{Stands, Viable, words, most_words}
 use Rattle.lpis_wkt.specs.Table.{RingSoFar, EndsWith, keyword_code, open_code, first_open_code, number_code, coordinate_code, point_code, TableCode, at_keyword, at_first_open, at_open, at_coordinate, at_after_point, at_after_close, at_past_end}
-use Rattle.lpis_wkt.specs.Machine.{Context, State, AtKeyword, AfterKeyword, AtBody, AtRing, AtX, AtY, AfterPoint, AfterRing, AfterBody, AtEnd, Finished, is_closed, with_ring, close_body, new_body, member_of, points_before, and_then, step, run, limited_step, limited_run}
+use Rattle.lpis_wkt.specs.private.Machine.{Context, State, AtKeyword, AfterKeyword, AtBody, AtRing, AtX, AtY, AfterPoint, AfterRing, AfterBody, AtEnd, Finished, is_closed, with_ring, close_body, new_body, member_of, points_before, and_then, step, run, limited_step, limited_run}
 use Rattle.lpis_wkt.proofs.Steps.{then-ok, close_ring-ok, run-append, limited-append}
 use Rattle.lpis_wkt.proofs.Completeness.{points_run}
 use Rattle.lpis_wkt.proofs.Completing.{begun}

@@ -8,9 +8,10 @@ use Rattle.lpis_wkt.specs.Tokens.{Token, End, kinds, tokens, tokens_from}
 use Rattle.lpis_wkt.specs.Viable.{Viable}
 use Rattle.lpis_wkt.specs.Table.{FirstFault}
 use Rattle.lpis_wkt.specs.Text.{PolygonText, TextFault, IsTextFault}
-use Rattle.lpis_wkt.specs.Answer.{members_of, answer_of, polygon_of, Gives}
-use Rattle.lpis_wkt.specs.Parsing.{Told}
-use Rattle.lpis_wkt.specs.Machine.{State, AtKeyword, Finished, and_then, limited_step, limited_run, located, outcome}
+use Rattle.lpis_wkt.specs.Answer.{polygon_of, Gives}
+use Rattle.lpis_wkt.specs.private.Machine.{members_of, answer_of}
+use Rattle.lpis_wkt.specs.private.Parsing.{Told}
+use Rattle.lpis_wkt.specs.private.Machine.{State, AtKeyword, Finished, and_then, limited_step, limited_run, located, outcome}
 use Rattle.lpis_wkt.proofs.Steps.{then-ok, limited-append, cond-err}
 use Rattle.lpis_wkt.proofs.Counting.{viable, taken, finished, accepted}
 use Rattle.lpis_wkt.proofs.Rows.{table_code}

@@ -6,8 +6,9 @@ use Rattle.std.specs.List.{list_all, position_or_len, before_first, after_first}
 use Rattle.std.specs.Char.{is_ascii_digit}
 use Rattle.std.specs.Str.Parse.{digits_value}
 use Rattle.lpis_wkt.specs.Number.{coordinate_decimals, greatest, is_point, is_numeral, is_fine, padded, size, signed, unsigned, is_negative, number}
-use Rattle.lpis_wkt.specs.Runs.{IsPart, IsPlain, AllWord, Stops, IsSign, none, plus, minus}
-use Rattle.lpis_wkt.specs.Tokens.{Word, is_word, tokens_from}
+use Rattle.lpis_wkt.specs.private.Runs.{IsPart, IsPlain, AllWord, Stops, IsSign, none, plus, minus}
+use Rattle.lpis_wkt.specs.Tokens.{Word, tokens_from}
+use Rattle.lpis_wkt.specs.private.Runs.{is_word}
 use Rattle.std.specs.Prelude.{ℤ, Ok, Err, slice_range}
 use Rattle.lpis_wkt.specs.declared.fault.WktCode.{WktCode}
 use Rattle.lpis_wkt.specs.declared.fault.WktCode.TheVariants.{NotANumber, TooFine, OutOfRange}

@@ -9,8 +9,8 @@ use Rattle.lpis_points.specs.Plane.{same_point}
 use Rattle.lpis_wkt.specs.declared.fault.WktCode.{WktCode}
 use Rattle.lpis_wkt.specs.declared.coordinate.Coordinate.{Coordinate}
 use Rattle.lpis_wkt.specs.Number.{number}
-use Rattle.lpis_wkt.specs.Coordinates.{coordinate, with_range, number-in_range, point_of}
-use Rattle.lpis_wkt.specs.Machine.{same_end, is_closed}
+use Rattle.lpis_wkt.specs.private.Coordinates.{coordinate, with_range, number-in_range, point_of}
+use Rattle.lpis_wkt.specs.private.Machine.{same_end, is_closed}
 
 in_range_prop : (z : ℤ) → IsProp (IsInRange z)
 in_range_prop z = hlevel T_prop

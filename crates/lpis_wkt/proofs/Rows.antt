@@ -9,11 +9,11 @@ use Rattle.lpis_wkt.specs.declared.fault.WktCode.TheVariants.{Keyword, Syntax, T
 use Rattle.lpis_wkt.specs.declared.coordinate.Coordinate.{Coordinate}
 use Rattle.lpis_wkt.specs.Tokens.{Token, Open, Close, Comma, Word, End}
 use Rattle.lpis_wkt.specs.Number.{number}
-use Rattle.lpis_wkt.specs.Coordinates.{coordinate, point_of}
+use Rattle.lpis_wkt.specs.private.Coordinates.{coordinate, point_of}
 use Rattle.lpis_wkt.specs.Grammar.{is_polygon, is_multi}
 use Rattle.lpis_wkt.specs.Viable.{Stands, words, most_words}
 use Rattle.lpis_wkt.specs.Table.{keyword_code, open_code, first_open_code, number_code, coordinate_code, point_code, TableCode, at_keyword, at_first_open, at_open, at_coordinate, at_after_point, at_after_close, at_past_end}
-use Rattle.lpis_wkt.specs.Machine.{State, AtKeyword, AfterKeyword, AtBody, AtRing, AtX, AtY, AfterPoint, AfterRing, AfterBody, AtEnd, Finished, is_closed, with_coordinate, with_ring, new_body, open_text, points_before, step, run, limited_step, limited_run}
+use Rattle.lpis_wkt.specs.private.Machine.{State, AtKeyword, AfterKeyword, AtBody, AtRing, AtX, AtY, AfterPoint, AfterRing, AfterBody, AtEnd, Finished, is_closed, with_coordinate, with_ring, new_body, open_text, points_before, step, run, limited_step, limited_run}
 use Rattle.lpis_wkt.proofs.Points.{err-coordinate}
 use Rattle.lpis_wkt.proofs.Steps.{run-append}
 use Rattle.lpis_wkt.proofs.Completing.{origin, zero_spelled, begins}

@@ -3,8 +3,9 @@ use Rattle.std.proofs.Common.{◌≡◌, ℕ, zero, suc, ◌+◌, ◌-◌, ◌<�
 use Rattle.std.proofs.lemmas.Bool.{cases_lt}
 use Rattle.std.proofs.lemmas.List.{take-append-drop, length-take-le, drop-drop, nil_from_length}
 use Rattle.std.proofs.lemmas.Bool.Decides.{nat_tests}
-use Rattle.lpis_wkt.specs.Runs.{AllWord, Stops}
-use Rattle.lpis_wkt.specs.Tokens.{Token, Open, Close, Comma, Word, End, is_space, is_word, join, tokens_from}
+use Rattle.lpis_wkt.specs.private.Runs.{AllWord, Stops}
+use Rattle.lpis_wkt.specs.Tokens.{Token, Open, Close, Comma, Word, End, is_space, join, tokens_from}
+use Rattle.lpis_wkt.specs.private.Runs.{is_word}
 
 abbrev Tokens : Type 0
 Tokens = List (ℕ × Token)

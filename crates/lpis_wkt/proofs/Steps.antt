@@ -8,7 +8,7 @@ use Rattle.lpis_wkt.specs.declared.coordinate.Coordinate.{Coordinate}
 use Rattle.lpis_wkt.specs.Tokens.{Token, Word}
 use Rattle.lpis_wkt.specs.Grammar.{is_polygon, is_multi}
 use Rattle.lpis_wkt.specs.Table.{keyword_code}
-use Rattle.lpis_wkt.specs.Machine.{Context, State, AfterKeyword, AfterRing, with_coordinate, with_ring, close_ring, keyword, step, and_then, run, limited_step, limited_run}
+use Rattle.lpis_wkt.specs.private.Machine.{Context, State, AfterKeyword, AfterRing, with_coordinate, with_ring, close_ring, keyword, step, and_then, run, limited_step, limited_run}
 use Rattle.lpis_wkt.proofs.Points.{is_closed-true}
 
 pub then-ok : {A B E : Type 0} (r : Result A E) (f : A → Result B E) (z : B) → and_then r f ≡ Ok z → (v : A) × (r ≡ Ok v) × (f v ≡ Ok z)

@@ -4,10 +4,10 @@ use Rattle.lpis_points.specs.declared.point.Point.{Point}
 use Rattle.lpis_rings.specs.declared.polygon.Member.{Member}
 use Rattle.lpis_wkt.specs.Tokens.{Token, Open, Close, Comma, Word, End}
 use Rattle.lpis_wkt.specs.Number.{number}
-use Rattle.lpis_wkt.specs.Coordinates.{point_of}
+use Rattle.lpis_wkt.specs.private.Coordinates.{point_of}
 use Rattle.lpis_wkt.specs.Grammar.{PointText, Commas}
 use Rattle.lpis_wkt.specs.Table.{RingSoFar, EndsWith}
-use Rattle.lpis_wkt.specs.Machine.{State, AtKeyword, AfterKeyword, AtBody, AtRing, AtX, AtY, AfterPoint, AfterRing, AfterBody, AtEnd, Finished, close_body, new_body, open_text, member_of, step, run}
+use Rattle.lpis_wkt.specs.private.Machine.{State, AtKeyword, AfterKeyword, AtBody, AtRing, AtX, AtY, AfterPoint, AfterRing, AfterBody, AtEnd, Finished, close_body, new_body, open_text, member_of, step, run}
 use Rattle.lpis_wkt.proofs.Points.{ok-coordinate}
 use Rattle.lpis_wkt.proofs.Steps.{then-ok, with_coordinate-ok, close_ring-ok, keyword-ok}
 

@@ -1,21 +1,13 @@
--- What a text says, as a function: a public law ties it to `PolygonText` and `TextFault`, and needs nothing of how it is computed.
-use Rattle.std.specs.Prelude.{◌≡◌, ℕ, List, [], Result, Ok, Err}
+-- What a text says, as a function.
+use Rattle.std.specs.Prelude.{◌≡◌, ℕ, List, Result, Ok, Err}
 use Rattle.lpis_rings.specs.declared.polygon.Member.{Member}
 use Rattle.lpis_wkt.specs.declared.fault.WktCode.{WktCode}
 use Rattle.lpis_wkt.specs.declared.fault.WktFault.{WktFault}
 use Rattle.lpis_wkt.specs.declared.fault.WktFault.TheVariants.{Memory, At}
 use Rattle.lpis_wkt.specs.Tokens.{tokens}
-use Rattle.lpis_wkt.specs.Machine.{State, AtKeyword, Finished, outcome}
+use Rattle.lpis_wkt.specs.private.Machine.{AtKeyword, outcome, answer_of}
 
-abbrev pub members_of : State → List Member
-members_of (Finished ms) = ms
-members_of _ = []
-
-abbrev pub answer_of : Result State (WktCode × ℕ) → Result (List Member) (WktCode × ℕ)
-answer_of (Ok s) = Ok (members_of s)
-answer_of (Err fault) = Err fault
-
--- the polygon that a text spells, or the code and the offset of its first fault
+-- the polygon that a text spells, or the code and the offset of its first fault: it is tied by the law `function_of_text`
 unfoldable pub polygon_of : List ℕ → Result (List Member) (WktCode × ℕ)
 polygon_of text = answer_of (outcome AtKeyword (tokens text))
 

@@ -6,8 +6,4 @@ pub mod Viable
 pub mod Table
 pub mod Text
 pub mod Answer
-pub mod Coordinates
-pub mod Machine
-pub mod Views
-pub mod Parsing
-pub mod Runs
+pub mod private

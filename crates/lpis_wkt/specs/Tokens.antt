@@ -1,5 +1,5 @@
 -- The tokens of a text.
-use Rattle.std.specs.Prelude.{ℕ, ◌+◌, Bool, not, ◌||◌, ◌==◌, List, [], ◌∷◌, ◌++◌, length, if◌then◌else◌, map}
+use Rattle.std.specs.Prelude.{ℕ, ◌+◌, Bool, ◌||◌, ◌==◌, List, [], ◌∷◌, ◌++◌, length, if◌then◌else◌, map}
 
 -- A token, without where it stands: `(`, `)`, `,`, a word, or the end of the text.
 pub data Token : Type 0 where
@@ -12,10 +12,6 @@ pub data Token : Type 0 where
 -- space, tab, CR or LF
 abbrev pub is_space : ℕ → Bool
 is_space b = (b == 32) || (b == 9) || (b == 13) || (b == 10)
-
--- a byte of a word: any but white space, `(`, `)` and `,`
-abbrev pub is_word : ℕ → Bool
-is_word b = not (is_space b || (b == 40) || (b == 41) || (b == 44))
 
 -- A word's byte that stands at an offset, before these tokens: it belongs to the word that begins directly after it.
 abbrev pub join : ℕ → ℕ → List (ℕ × Token) → List (ℕ × Token)

@@ -6,7 +6,7 @@ ghost use Rattle.std.specs.Char.{digit_value, is_ascii_digit};
 ghost use Rattle.std.specs.Str.Parse.{digits_value, digits_value_after};
 ghost use Rattle.lpis_points.specs.Range.{IsInRange};
 ghost use Rattle.lpis_wkt.specs.Number.{coordinate_decimals, is_point, is_zero, signed, unsigned, is_negative, whole, decimals, is_numeral, is_fine, padded, size, number};
-ghost use Rattle.lpis_wkt.specs.Coordinates.{coordinate};
+ghost use Rattle.lpis_wkt.specs.private.Coordinates.{coordinate};
 
 use crate::coordinate::Coordinate;
 use crate::fault::WktCode;

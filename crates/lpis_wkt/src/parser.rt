@@ -5,10 +5,10 @@ ghost use Rattle.lpis_points.specs.declared.point.Point.{Point};
 ghost use Rattle.lpis_wkt.specs.Tokens.{End};
 ghost use Rattle.lpis_wkt.specs.declared.fault.WktFault.TheVariants.{Memory};
 ghost use Rattle.lpis_wkt.specs.Table.{open_code, first_open_code};
-ghost use Rattle.lpis_wkt.specs.Machine.{Context, AtKeyword, AfterPoint, AfterRing, limited_step, close_ring, close_body};
-ghost use Rattle.lpis_wkt.specs.Coordinates.{point_of};
-ghost use Rattle.lpis_wkt.specs.Views.{token_of};
-ghost use Rattle.lpis_wkt.specs.Parsing.{Took, Ends, IsOpening, IsAtCoordinate, IsClosing, IsAfterRing, SameOutcome};
+ghost use Rattle.lpis_wkt.specs.private.Machine.{Context, AtKeyword, AfterPoint, AfterRing, limited_step, close_ring, close_body};
+ghost use Rattle.lpis_wkt.specs.private.Coordinates.{point_of};
+ghost use Rattle.lpis_wkt.specs.private.Views.{token_of};
+ghost use Rattle.lpis_wkt.specs.private.Parsing.{Took, Ends, IsOpening, IsAtCoordinate, IsClosing, IsAfterRing, SameOutcome};
 
 use crate::coordinate::Coordinate;
 use crate::fault::{WktCode, WktFault};
@@ -57,8 +57,8 @@ pub struct Parser {
 }
 
 impl Model for Parser {
-    ghost use Rattle.lpis_wkt.specs.Machine.{State, Context};
-    ghost use Rattle.lpis_wkt.specs.Parsing.{state_of, Kept};
+    ghost use Rattle.lpis_wkt.specs.private.Machine.{State, Context};
+    ghost use Rattle.lpis_wkt.specs.private.Parsing.{state_of, Kept};
 
     ghost Value = { State };
 

@@ -4,8 +4,8 @@ ghost use Rattle.std.specs.Prelude.{◌≡◌, List, IfOk, IfErr, MatchResult};
 ghost use Rattle.lpis_rings.specs.declared.polygon.Member.{Member};
 ghost use Rattle.lpis_wkt.specs.declared.fault.WktFault.TheVariants.{Memory};
 ghost use Rattle.lpis_wkt.specs.Tokens.{tokens};
-ghost use Rattle.lpis_wkt.specs.Machine.{AtKeyword, outcome};
-ghost use Rattle.lpis_wkt.specs.Parsing.{Told};
+ghost use Rattle.lpis_wkt.specs.private.Machine.{AtKeyword, outcome};
+ghost use Rattle.lpis_wkt.specs.private.Parsing.{Told};
 ghost use Rattle.lpis_wkt.specs.Text.{PolygonText, IsTextFault};
 ghost use Rattle.lpis_wkt.specs.Answer.{Gives, polygon_of};
 

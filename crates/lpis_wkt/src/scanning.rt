@@ -4,9 +4,9 @@ ghost use Rattle.std.specs.Prelude.{◌≡◌, ℕ, ◌≤◌, ◌<◌, ◌∷�
 ghost use Rattle.std.specs.List.{list_all};
 ghost use Rattle.std.specs.Char.{is_ascii_digit};
 ghost use Rattle.std.specs.Str.Parse.{digits_value};
-ghost use Rattle.lpis_wkt.specs.Coordinates.{coordinate};
+ghost use Rattle.lpis_wkt.specs.private.Coordinates.{coordinate};
 ghost use Rattle.lpis_wkt.specs.Number.{coordinate_decimals, signed};
-ghost use Rattle.lpis_wkt.specs.Runs.{IsPart, IsPlain, IsSign};
+ghost use Rattle.lpis_wkt.specs.private.Runs.{IsPart, IsPlain, IsSign};
 ghost use Rattle.lpis_wkt.specs.Tokens.{Word, tokens_from};
 
 use crate::coordinate::Coordinate;

@@ -2,9 +2,10 @@
 
 ghost use Rattle.std.specs.Bool.{MatchBool};
 ghost use Rattle.std.specs.Prelude.{◌≡◌, ℕ, ◌<◌, ◌≤◌, List, [], ◌∷◌, false, true, Ok, length, drop, slice_index, slice_range, MatchOption};
-ghost use Rattle.lpis_wkt.specs.Tokens.{Comma, Word, is_space, is_word, tokens_from};
-ghost use Rattle.lpis_wkt.specs.Coordinates.{coordinate};
-ghost use Rattle.lpis_wkt.specs.Views.{placed};
+ghost use Rattle.lpis_wkt.specs.Tokens.{Comma, Word, is_space, tokens_from};
+ghost use Rattle.lpis_wkt.specs.private.Runs.{is_word};
+ghost use Rattle.lpis_wkt.specs.private.Coordinates.{coordinate};
+ghost use Rattle.lpis_wkt.specs.private.Views.{placed};
 
 use crate::coordinate::Coordinate;
 use crate::scanning::common_coordinate;

@@ -2,7 +2,7 @@ use Rattle.std.proofs.Common.{◌≡◌, ◌+◌, ◌/◌, ◌≤◌, nat_eq, Li
 use Rattle.std.proofs.lemmas.Option.{slice_get_read}
 use Rattle.lpis_pairs.specs.declared.entries.Entry.{Entry}
 use Rattle.lpis_pairs.specs.declared.spans.Span.{Span}
-use Rattle.lpis_pairs.specs.Entering.{entry}
+use Rattle.lpis_pairs.specs.private.Entering.{entry}
 use Rattle.lpis_pairs.proofs.Entered.{EntriesUpTo, nothing_yet, start_triangle, one_more, end_triangle, whole}
 use Rattle.lpis_pairs.proofs.entries.entries_of.Goals as goal
 

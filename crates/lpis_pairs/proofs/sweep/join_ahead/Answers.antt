@@ -2,7 +2,7 @@ use Rattle.std.proofs.Common.{◌≡◌, ℕ, ◌+◌, ◌<◌, Bool, IsTrue, tr
 use Rattle.std.proofs.lemmas.Option.{slice_get-get_or, slice_get_within}
 use Rattle.lpis_points.specs.declared.triangle.Triangle.{Triangle}
 use Rattle.lpis_pairs.specs.declared.entries.Entry.{Entry}
-use Rattle.lpis_pairs.specs.Entering.{AreEntries, Joins}
+use Rattle.lpis_pairs.specs.private.Entering.{AreEntries, Joins}
 use Rattle.lpis_pairs.proofs.Joined.{JoinsUpTo, joined_next, joins_read, found_all, found_to_end}
 use Rattle.lpis_pairs.proofs.sweep.join_ahead.Goals as goal
 use Rattle.lpis_pairs.proofs.sweep.join_ahead.Goals.{then-one_starts+in_ok-push_near, else-one_starts}

@@ -1,5 +1,5 @@
 use Rattle.std.proofs.Common.{Ok, ◌≡◌, ◌<◌, false, ◌++◌, sym, ap, ◌∙◌, length, arith, get_or}
-use Rattle.lpis_wkt.specs.Tokens.{is_word}
+use Rattle.lpis_wkt.specs.private.Runs.{is_word}
 use Rattle.lpis_wkt.proofs.Points.{coordinate-ok}
 use Rattle.lpis_wkt.proofs.Parts.{signed_number, signed_word}
 use Rattle.lpis_wkt.proofs.scanning.common_coordinate.Goals as goal

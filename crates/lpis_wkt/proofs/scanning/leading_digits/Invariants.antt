@@ -3,7 +3,7 @@ use Rattle.std.specs.List.{list_all}
 use Rattle.std.specs.Char.{is_ascii_digit}
 use Rattle.std.specs.Str.Parse.{digits_value}
 use Rattle.lpis_wkt.specs.Number.{greatest}
-use Rattle.lpis_wkt.specs.Runs.{IsPart}
+use Rattle.lpis_wkt.specs.private.Runs.{IsPart}
 use Rattle.lpis_wkt.proofs.scanning.leading_digits.Given as goal
 
 abbrev pub invariant-loop-i : goal.invariant-loop-i

@@ -2,7 +2,7 @@ use Rattle.std.proofs.Common.{◌≡◌, ◌≤◌, ◌-◌, ℕ, List, length, 
 use Rattle.std.specs.List.{list_all}
 use Rattle.std.specs.Char.{is_ascii_digit}
 use Rattle.lpis_wkt.specs.Number.{coordinate_decimals}
-use Rattle.lpis_wkt.specs.Runs.{IsPart}
+use Rattle.lpis_wkt.specs.private.Runs.{IsPart}
 use Rattle.lpis_wkt.proofs.scanning.past_decimals.Given as goal
 
 abbrev pub invariant-loop-i : goal.invariant-loop-i

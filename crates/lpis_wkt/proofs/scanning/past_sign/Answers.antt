@@ -1,5 +1,5 @@
 use Rattle.std.proofs.Common.{ℕ, ◌+◌, List, [], ◌∷◌, subst, arith}
-use Rattle.lpis_wkt.specs.Runs.{IsPart, none, plus, minus}
+use Rattle.lpis_wkt.specs.private.Runs.{IsPart, none, plus, minus}
 use Rattle.lpis_wkt.proofs.Parts.{no_part, one_more}
 use Rattle.lpis_wkt.proofs.scanning.past_sign.Goals as goal
 

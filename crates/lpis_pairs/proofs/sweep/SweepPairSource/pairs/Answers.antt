@@ -1,7 +1,7 @@
 use Rattle.std.proofs.Common.{ℕ, ◌<◌, List, sym, subst}
 use Rattle.std.proofs.lemmas.List.Sorted.{All-permutation}
 use Rattle.lpis_pairs.specs.declared.entries.Entry.{Entry}
-use Rattle.lpis_pairs.specs.Entering.{IsEntry, AreEntries, AreInOrder, Joins}
+use Rattle.lpis_pairs.specs.private.Entering.{IsEntry, AreEntries, AreInOrder, Joins}
 use Rattle.lpis_pairs.proofs.Ordered.{in_order}
 use Rattle.lpis_pairs.proofs.Found.{finds, near_list}
 use Rattle.lpis_pairs.proofs.sweep.SweepPairSource.pairs.Goals as goal

@@ -1,5 +1,5 @@
 use Rattle.std.proofs.Common.{◌≡◌, ◌++◌, length}
-use Rattle.lpis_rings.specs.RingWalks.{joined}
+use Rattle.lpis_rings.specs.private.RingWalks.{joined}
 use Rattle.lpis_rings.proofs.walks.EdgesIterator.next.Given as goal
 
 abbrev pub invariant-loop-edge : goal.invariant-loop-edge

@@ -1,5 +1,5 @@
 use Rattle.std.proofs.Common.{◌≤◌, length}
-use Rattle.lpis_wkt.specs.Parsing.{SameOutcome}
+use Rattle.lpis_wkt.specs.private.Parsing.{SameOutcome}
 use Rattle.lpis_wkt.proofs.parser.Parser.take_points.Given as goal
 
 abbrev pub invariant-loop : goal.invariant-loop

@@ -1,4 +1,4 @@
--- The tokens of the code, as the definitions see them. Machinery: only private contracts cite this file.
+-- The tokens of the code, as the definitions see them.
 use Rattle.std.specs.Prelude.{ℕ}
 use Rattle.lpis_wkt.specs.declared.tokens.Placed.{Placed}
 use Rattle.lpis_wkt.specs.declared.tokens.Token.{Token as CodeToken}

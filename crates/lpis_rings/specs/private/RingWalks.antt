@@ -1,4 +1,4 @@
--- Machinery, cited by private contracts alone: the edges of a polygon, ring by ring.
+-- The edges of a polygon, ring by ring.
 use Rattle.std.specs.Prelude.{List, ◌∷◌, map, flat_map}
 use Rattle.lpis_points.specs.declared.point.Point.{Point}
 use Rattle.lpis_rings.specs.declared.polygon.Member.{Member}

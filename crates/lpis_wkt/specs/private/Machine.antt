@@ -1,4 +1,4 @@
--- What is expected after some tokens, and which token comes as a fault. Machinery: only private contracts cite this file.
+-- What is expected after some tokens, and which token comes as a fault.
 use Rattle.std.specs.Prelude.{ℕ, ◌+◌, ◌-◌, Bool, true, false, cond, List, [], ◌∷◌, ◌++◌, length, Option, Some, None, Result, Ok, Err, nat_lt, nat_le, slice_get}
 use Rattle.lpis_points.specs.declared.point.Point.{Point}
 use Rattle.lpis_points.specs.Plane.{same_point}
@@ -7,8 +7,8 @@ use Rattle.lpis_rings.specs.Polygon.{points_in, points_of, most_points}
 use Rattle.lpis_wkt.specs.declared.fault.WktCode.{WktCode}
 use Rattle.lpis_wkt.specs.declared.fault.WktCode.TheVariants.{Keyword, Dimension, TooFewPoints, NotClosed, Syntax, TooManyPoints}
 use Rattle.lpis_wkt.specs.declared.coordinate.Coordinate.{Coordinate}
-use Rattle.lpis_wkt.specs.Tokens.{Token, Open, Close, Comma, Word, End}
-use Rattle.lpis_wkt.specs.Coordinates.{coordinate, point_of}
+use Rattle.lpis_wkt.specs.Tokens.{Token, Open, Close, Comma, Word, End, tokens}
+use Rattle.lpis_wkt.specs.private.Coordinates.{coordinate, point_of}
 use Rattle.lpis_wkt.specs.Grammar.{is_polygon, is_multi}
 use Rattle.lpis_wkt.specs.Table.{keyword_code, open_code, first_open_code}
 
@@ -159,3 +159,11 @@ located (Err code) at = Err (code, at)
 abbrev pub outcome : State → List (ℕ × Token) → Result State (WktCode × ℕ)
 outcome s [] = Ok s
 outcome s (t ∷ ts) = and_then (located (limited_step s t.1) t.0) (λ s. outcome s ts)
+
+abbrev pub members_of : State → List Member
+members_of (Finished ms) = ms
+members_of _ = []
+
+abbrev pub answer_of : Result State (WktCode × ℕ) → Result (List Member) (WktCode × ℕ)
+answer_of (Ok s) = Ok (members_of s)
+answer_of (Err fault) = Err fault

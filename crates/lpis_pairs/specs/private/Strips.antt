@@ -1,4 +1,4 @@
--- Machinery, cited by private contracts alone: boxes measured from the corner of the range.
+-- Boxes measured from the corner of the range.
 use Rattle.std.specs.Prelude.{ℕ, ℤ, ◌+ℤ◌, unsigned_abs}
 use Rattle.lpis_points.specs.Range.{limit}
 use Rattle.lpis_points.specs.Triangles.{box_of}

@@ -1,4 +1,4 @@
--- The parser's values, as the machine's states. Machinery: only private contracts cite this file.
+-- The parser's values, as the machine's states.
 use Rattle.std.specs.Prelude.{◌≡◌, ℕ, ◌+◌, ◌<◌, ◌≤◌, true, List, [], ◌++◌, length, Result, Ok, Err}
 use Rattle.lpis_points.specs.declared.point.Point.{Point}
 use Rattle.lpis_rings.specs.declared.polygon.Member.{Member}
@@ -8,7 +8,7 @@ use Rattle.lpis_wkt.specs.declared.fault.WktFault.{WktFault}
 use Rattle.lpis_wkt.specs.declared.fault.WktFault.TheVariants.{Memory, At}
 use Rattle.lpis_wkt.specs.declared.parser.Place.{Place}
 use Rattle.lpis_wkt.specs.declared.parser.Place.TheVariants as place
-use Rattle.lpis_wkt.specs.Machine.{Context, State, AtKeyword, AfterKeyword, AtBody, AtRing, AtX, AtY, AfterPoint, AfterRing, AfterBody, AtEnd, Finished, points_before, outcome}
+use Rattle.lpis_wkt.specs.private.Machine.{Context, State, AtKeyword, AfterKeyword, AtBody, AtRing, AtX, AtY, AfterPoint, AfterRing, AfterBody, AtEnd, Finished, points_before, outcome}
 use Rattle.lpis_wkt.specs.Tokens.{Token}
 
 abbrev pub state_of : Place → Context → List Point → State

@@ -1,4 +1,4 @@
--- Machinery that only private contracts cite: the records that a reader of a text has left, as a list.
+-- The records that a reader of a text has left, as a list.
 use Rattle.std.specs.Prelude.{◌≡◌, ◌≢◌, ◌∷◌, ◌+◌, Bool, false, ℕ, List, [], length, Option, Some, None, IfSome, if◌then◌else◌}
 use Rattle.std.specs.Borrow.{Bor}
 use Rattle.csv.specs.Machine.{ends_at_end}

@@ -1,4 +1,4 @@
--- A number with the fact that it is in range. Machinery: only private contracts cite this file.
+-- A number with the fact that it is in range.
 use Rattle.std.specs.Prelude.{◌≡◌, ℕ, ◌≤◌, Bool, true, false, not, cond, List, ℤ, nat_lt, Result, Ok, Err, refl}
 use Rattle.std.proofs.Common.{arith}
 use Rattle.std.proofs.lemmas.Int.{ints}

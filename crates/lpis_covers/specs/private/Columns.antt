@@ -1,4 +1,4 @@
--- Machinery that only private contracts cite: the fault of a column that is not found.
+-- The fault of a column that is not found.
 use Rattle.std.specs.Prelude.{◌≡◌, ℕ, List, Result, Err}
 use Rattle.lpis_covers.specs.declared.fault.Table.{Table}
 use Rattle.lpis_covers.specs.declared.fault.TableCode.{TableCode}

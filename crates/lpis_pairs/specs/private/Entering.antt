@@ -1,9 +1,9 @@
--- Machinery, cited by private contracts alone: entries of boxes in strips, and what a sweep over them finds.
+-- Entries of boxes in strips, and what a sweep over them finds.
 use Rattle.std.specs.Prelude.{◌≡◌, ℕ, ◌<◌, ◌≤◌, ◌/◌, ◌⊎◌, ◌||◌, nat_eq, true, List, All, Contains, slice_get, Some}
 use Rattle.lpis_points.specs.declared.triangle.Triangle.{Triangle}
 use Rattle.lpis_pairs.specs.declared.entries.Entry.{Entry}
 use Rattle.lpis_pairs.specs.NearPairs.{IsNear, IsBelow}
-use Rattle.lpis_pairs.specs.Strips.{span_of}
+use Rattle.lpis_pairs.specs.private.Strips.{span_of}
 
 -- the pairs ascend
 abbrev pub IsRising : List (ℕ × ℕ) → Type 0

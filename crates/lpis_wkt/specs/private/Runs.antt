@@ -1,10 +1,14 @@
--- Parts of a text that are digits or words. Machinery: only private contracts cite this file.
-use Rattle.std.specs.Prelude.{◌≡◌, ℕ, ◌+◌, ◌<◌, ◌≤◌, Bool, true, false, List, [], ◌∷◌, ◌++◌, length, drop}
+-- Parts of a text that are digits or words.
+use Rattle.std.specs.Prelude.{◌≡◌, ℕ, ◌+◌, ◌<◌, ◌≤◌, Bool, true, false, List, [], ◌∷◌, ◌++◌, length, drop, not, ◌||◌, ◌==◌}
 use Rattle.std.specs.List.{before_first, after_first, list_all}
 use Rattle.std.specs.Char.{is_ascii_digit}
 use Rattle.std.specs.Str.Parse.{digits_value}
-use Rattle.lpis_wkt.specs.Tokens.{is_word}
 use Rattle.lpis_wkt.specs.Number.{coordinate_decimals, greatest, is_point, is_zero, padded, unsigned, is_negative}
+use Rattle.lpis_wkt.specs.Tokens.{is_space}
+
+-- a byte of a word: any but white space, `(`, `)` and `,`
+abbrev pub is_word : ℕ → Bool
+is_word b = not (is_space b || (b == 40) || (b == 41) || (b == 44))
 
 -- these bytes stand from an offset up to another
 pub record IsPart (text : List ℕ) (at end : ℕ) (part : List ℕ) : Type 0 where
