@@ -1,8 +1,9 @@
 #!/usr/bin/python3
-"""Writes a release of one parcel and one piece, both one polygon of about so many points: make_large.py KIND POINTS FOLDER.
+"""Writes a release of one parcel and one piece, both one polygon of about so many points: make_large.py KIND POINTS FOLDER [moved].
 
 The polygons are sound and come from a fixed seed. Kinds: spiral, comb, star, coast, holes (of 20 points), diamonds (holes that touch
-one another and the shell in their corners), fan (a round field seen from its pivot).
+one another and the shell in their corners), fan (a round field seen from its pivot). With `moved` the piece lies a centimetre further
+east than its parcel, so that all edges of the two differ.
 """
 
 import math
@@ -91,7 +92,9 @@ KINDS = {kind.__name__: kind for kind in (spiral, comb, star, coast, holes, diam
 def main():
     kind, points, folder = sys.argv[1], int(sys.argv[2]), sys.argv[3]
     polygon = [KINDS[kind](points, random.Random(20_261_122))]
-    write_release(folder, [("A", polygon)], [("C", "A", "G", polygon)])
+    east = 1 if sys.argv[4:] == ["moved"] else 0
+    piece = [[[(x + east, y) for x, y in ring] for ring in polygon[0]]]
+    write_release(folder, [("A", polygon)], [("C", "A", "G", piece)])
 
 
 if __name__ == "__main__":
