@@ -17,7 +17,7 @@ use Rattle.lpis_cert.specs.CertText.{PairLine as separator_line}
 use Rattle.lpis_cert.specs.Reading.{values, corners, separator}
 use Rattle.lpis_cert.specs.Faults.{step, InPairs, Declared}
 use Rattle.lpis_cert.specs.Fitting.{LineFits}
-use Rattle.lpis_cert.specs.Taken.{Placed, FailsWith, LineFault, Follows, FaultFrom, corner_kind, corner_line, wanting}
+use Rattle.lpis_cert.specs.private.Taken.{Placed, FailsWith, LineFault, Follows, FaultFrom, corner_kind, corner_line, wanting}
 use Rattle.lpis_cert.specs.Contents.{corners_of, all_corners, separator_of}
 use Rattle.lpis_cert.proofs.LineProofs.{read_again}
 use Rattle.lpis_cert.proofs.StepProofs.{alone, taken, untaken, Wants, fault_here, Goes, after, fault_after, follows_both}

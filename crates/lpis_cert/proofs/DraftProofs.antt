@@ -15,14 +15,14 @@ use Rattle.lpis_cert.specs.Limits.{most_triangles, most_flats, greatest_count}
 use Rattle.lpis_cert.specs.CertText.{Corners, Separator, PieceBlock, ParcelBlock, Line, PieceLine, TriangleLine, FlatLine, ParcelLine, PairsLine, PairLine, EndLine, spelling, text_of_lines, piece_lines, parcel_lines, end_lines, lines_of}
 use Rattle.lpis_cert.specs.Fitting.{CornersFit, SeparatorFits, LineFits}
 use Rattle.lpis_cert.specs.Faults.{is_lf, lines, outcome, at_last, step, Place, InBody, InPairs, AtEnd, Declared, grow, grow_flats}
-use Rattle.lpis_cert.specs.Taken.{Follows, FaultFrom, LineFault}
+use Rattle.lpis_cert.specs.private.Taken.{Follows, FaultFrom, LineFault}
 use Rattle.lpis_points.specs.declared.triangle.Triangle.{Triangle}
 use Rattle.lpis_cert.specs.declared.part.PiecePart.{PiecePart}
 use Rattle.lpis_cert.specs.declared.part.ParcelPart.{ParcelPart}
 use Rattle.lpis_cert.specs.declared.part.PairLine as part
 use Rattle.lpis_cert.specs.declared.cert.Cert.{Cert}
 use Rattle.lpis_cert.specs.Contents.{all_corners, piece_of, parcel_of, separator_of, content_of}
-use Rattle.lpis_cert.specs.Drafts.{blocks, pieces_lines, parcels_lines, Grown, Whole}
+use Rattle.lpis_cert.specs.private.Drafts.{blocks, pieces_lines, parcels_lines, Grown, Whole}
 use Rattle.lpis_cert.proofs.Splitting.{split_some}
 use Rattle.lpis_cert.proofs.WordProofs.{lines_from}
 use Rattle.lpis_cert.proofs.LineProofs.{read_again}

@@ -7,7 +7,7 @@ use Rattle.lpis_cert.specs.declared.kind.Expected.TheVariants.{Block}
 use Rattle.lpis_cert.specs.Versions.{written}
 use Rattle.lpis_cert.specs.CertText.{Line}
 use Rattle.lpis_cert.specs.Reading.{values, can_stand, piece_line, parcel_line, pairs_line}
-use Rattle.lpis_cert.specs.Taken.{Placed}
+use Rattle.lpis_cert.specs.private.Taken.{Placed}
 use Rattle.lpis_cert.proofs.StepProofs.{formed_stands}
 
 pub values_piece : (k : Kind) (ws : List (List ℕ)) (o : Option Line) → k ≡ Piece → piece_line ws ≡ o → values written k ws ≡ o

@@ -14,17 +14,18 @@ use Rattle.lpis_cert.specs.declared.fault.CertFault.{CertFault}
 use Rattle.lpis_cert.specs.declared.fault.CertFault.TheVariants.{Memory, At}
 use Rattle.lpis_cert.specs.Contents.{corners_of, piece_of, parcel_of, separator_of, content_of, cert_text}
 use Rattle.lpis_cert.proofs.CertEquality.{cert_eq}
-use Rattle.lpis_cert.specs.Fitting.{PieceFits, ParcelFits}
-use Rattle.lpis_cert.specs.Taken.{FaultFrom}
+use Rattle.lpis_cert.specs.private.Fits.{PieceFits, ParcelFits}
+use Rattle.lpis_cert.specs.private.Taken.{FaultFrom}
 use Rattle.lpis_cert.proofs.BlockProofs.{all_corners_fit, separators_fit}
 use Rattle.lpis_cert.specs.declared.fault.CertCode.{CertCode}
 use Rattle.lpis_cert.specs.declared.fault.CertCode.TheVariants as code
 use Rattle.lpis_cert.specs.Versions.{first_line, written}
 use Rattle.lpis_cert.specs.CertText.{Corners, Separator, PieceBlock, ParcelBlock, Content, Line, PieceLine, ParcelLine, TriangleLine, FlatLine, PairsLine, PairLine, EndLine, text_of, text_of_lines, spelling, lines_of, piece_lines, parcel_lines, end_lines}
-use Rattle.lpis_cert.specs.Fitting.{Fits, LineFits}
+use Rattle.lpis_cert.specs.Fitting.{LineFits}
+use Rattle.lpis_cert.specs.private.Fits.{Fits}
 use Rattle.lpis_cert.specs.Reading.{◌>>=◌}
 use Rattle.lpis_cert.specs.Faults.{is_lf, lines, outcome, at_last, at_line, step, Place, AtVersion, InBody, InPairs, AtEnd, none_declared, verdict}
-use Rattle.lpis_cert.specs.Drafts.{pieces_lines, parcels_lines}
+use Rattle.lpis_cert.specs.private.Drafts.{pieces_lines, parcels_lines}
 use Rattle.lpis_cert.proofs.Splitting.{split_some}
 use Rattle.lpis_cert.proofs.WordProofs.{lines_from}
 use Rattle.lpis_cert.proofs.LineProofs.{spelling_injective}

@@ -8,7 +8,7 @@ use Rattle.std.specs.Fmt.{decimal, signed_decimal}
 use Rattle.lpis_cert.specs.Limits.{number_margin}
 use Rattle.lpis_cert.specs.CertText.{Corners, Line, spelling, words_of, text_of_lines}
 use Rattle.lpis_cert.specs.Reading.{digits_on, number}
-use Rattle.lpis_cert.specs.Taken.{Begins, Follows, corner_line}
+use Rattle.lpis_cert.specs.private.Taken.{Begins, Follows, corner_line}
 use Rattle.lpis_cert.proofs.Numbers.{number_takes}
 
 -- the rest, as a slice of the code is seen

@@ -11,10 +11,10 @@ use Rattle.lpis_cert.specs.declared.fault.CertCode.TheVariants as code
 use Rattle.lpis_cert.specs.Versions.{first_line, written}
 use Rattle.lpis_cert.specs.Limits.{most_triangles, most_flats}
 use Rattle.lpis_cert.specs.CertText.{PieceBlock, ParcelBlock, Content, Line, PieceLine, ParcelLine, TriangleLine, FlatLine, text_of, text_of_lines, lines_of, piece_lines, parcel_lines, end_lines}
-use Rattle.lpis_cert.specs.Fitting.{PieceFits, ParcelFits, Fits}
+use Rattle.lpis_cert.specs.private.Fits.{PieceFits, ParcelFits, Fits}
 use Rattle.lpis_cert.specs.Faults.{lines, outcome, at_last, step, Place, AtVersion, InBody, AtEnd, Declared, none_declared, grow, grow_flats, verdict}
-use Rattle.lpis_cert.specs.Taken.{TakesLine, Follows}
-use Rattle.lpis_cert.specs.Drafts.{Grown, Whole, pieces_lines, parcels_lines}
+use Rattle.lpis_cert.specs.private.Taken.{TakesLine, Follows}
+use Rattle.lpis_cert.specs.private.Drafts.{Grown, Whole, pieces_lines, parcels_lines}
 use Rattle.lpis_cert.proofs.LineProofs.{word_is}
 use Rattle.lpis_cert.proofs.StepProofs.{step_ok, step_err, follows_both, Goes, over}
 use Rattle.lpis_cert.proofs.BlockProofs.{corners_go}

@@ -7,7 +7,7 @@ use Rattle.std.proofs.lemmas.List.Splits.{slice_split_none, slice_split_first}
 use Rattle.std.specs.List.{slice_split, onto_first, position, position_or_len, list_any}
 use Rattle.lpis_cert.specs.Reading.{is_gap, is_empty, words}
 use Rattle.lpis_cert.specs.Faults.{is_lf}
-use Rattle.lpis_cert.specs.Taken.{TakesLine}
+use Rattle.lpis_cert.specs.private.Taken.{TakesLine}
 
 chosen-some : (k i : ℕ) (b : Bool) → cond b (Some k) None ≡ Some i → (b ≡ true) × (k ≡ i)
 chosen-some k i true h = (refl, cc)

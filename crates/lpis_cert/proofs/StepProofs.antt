@@ -14,7 +14,7 @@ use Rattle.lpis_cert.specs.Reading.{with_form, same_kind, can_stand, values, pla
 use Rattle.lpis_cert.specs.Faults.{is_lf, lines, outcome, at_last, step, Place, AtVersion, InBody, InPairs, AtEnd}
 use Rattle.lpis_cert.specs.Fitting.{LineFits}
 use Rattle.lpis_cert.specs.Kinds.{line_kind}
-use Rattle.lpis_cert.specs.Taken.{Placed, FailsWith, LineFault, Follows, FaultFrom}
+use Rattle.lpis_cert.specs.private.Taken.{Placed, FailsWith, LineFault, Follows, FaultFrom}
 use Rattle.lpis_cert.proofs.Splitting.{split_some}
 use Rattle.lpis_cert.proofs.WordProofs.{lines_from}
 use Rattle.lpis_cert.proofs.LineProofs.{placed_takes}

@@ -10,7 +10,7 @@ use Rattle.lpis_cert.specs.Versions.{first_line, written}
 use Rattle.lpis_cert.specs.CertText.{Line, PieceLine, ParcelLine, PairsLine, TriangleLine, FlatLine, EndLine, text_of, text_of_lines, lines_of, piece_lines, parcel_lines, end_lines}
 use Rattle.lpis_cert.specs.CertText.{PairLine as separator_line}
 use Rattle.lpis_cert.specs.Contents.{corners_of, all_corners, piece_of, parcel_of, separator_of, content_of}
-use Rattle.lpis_cert.specs.Written.{line_text, piece_text, parcel_text, pairs_text, version_text, parts_text}
+use Rattle.lpis_cert.specs.private.Written.{line_text, piece_text, parcel_text, pairs_text, version_text, parts_text}
 use Rattle.lpis_cert.proofs.StepProofs.{text-append}
 
 one_line : (l : Line) (ls : List Line) → line_text l ++ text_of_lines ls ≡ text_of_lines (l ∷ ls)

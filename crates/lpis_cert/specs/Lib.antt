@@ -6,7 +6,5 @@ pub mod Fitting
 pub mod Reading
 pub mod Faults
 pub mod Contents
-pub mod Taken
 pub mod Kinds
-pub mod Drafts
-pub mod Written
+pub mod private

@@ -18,11 +18,6 @@ abbrev pub last_edge : ℕ
 last_edge = 5
 
 -- ---- margins that no sum passes; only private contracts cite them
-
 -- numbers of a text
 abbrev pub number_margin : ℕ
 number_margin = 1000000000000000000
-
--- coordinates in centimetres, without their sign
-abbrev pub coordinate_margin : ℕ
-coordinate_margin = 2000000000

@@ -5,9 +5,9 @@ ghost use Rattle.lpis_cert.specs.Limits.{most_triangles, most_flats, greatest_co
 ghost use Rattle.lpis_covers.specs.Ids.{is_id};
 ghost use Rattle.lpis_cert.specs.declared.kind.Stage.TheVariants as stage;
 ghost use Rattle.lpis_cert.specs.CertText.{PieceLine, ParcelLine, PairsLine, lines_of};
-ghost use Rattle.lpis_cert.specs.Taken.{Follows, FaultFrom};
+ghost use Rattle.lpis_cert.specs.private.Taken.{Follows, FaultFrom};
 ghost use Rattle.lpis_cert.specs.Contents.{content_of};
-ghost use Rattle.lpis_cert.specs.Drafts.{DraftGrown, Progressed, Whole, place_of, draft_lines};
+ghost use Rattle.lpis_cert.specs.private.Drafts.{DraftGrown, Progressed, Whole, place_of, draft_lines};
 
 use crate::cert::{Cert, MOST_FLATS, MOST_TRIANGLES};
 use crate::draft::{Draft, Progress};

@@ -6,8 +6,8 @@ ghost use Rattle.lpis_cert.specs.CertText.{PieceLine, ParcelLine, PairsLine};
 ghost use Rattle.lpis_cert.specs.Fitting.{LineFits};
 ghost use Rattle.lpis_cert.specs.Kinds.{line_kind};
 ghost use Rattle.lpis_cert.specs.Reading.{piece_line, parcel_line, pairs_line, can_stand};
-ghost use Rattle.lpis_cert.specs.Taken.{Follows, LineFault};
-ghost use Rattle.lpis_cert.specs.Drafts.{head_line};
+ghost use Rattle.lpis_cert.specs.private.Taken.{Follows, LineFault};
+ghost use Rattle.lpis_cert.specs.private.Drafts.{head_line};
 ghost use Rattle.lpis_cert.specs.declared.kind.Expected.TheVariants.{Block};
 
 use crate::fault::{CertCode, CertFault};

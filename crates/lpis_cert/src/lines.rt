@@ -6,7 +6,7 @@ ghost use Rattle.lpis_cert.specs.declared.kind.Expected.TheVariants.{One, Block}
 ghost use Rattle.lpis_cert.specs.declared.kind.Kind.TheVariants as kind;
 ghost use Rattle.lpis_cert.specs.declared.kind.Stage.{Stage};
 ghost use Rattle.lpis_cert.specs.Faults.{Declared, InPairs};
-ghost use Rattle.lpis_cert.specs.Taken.{Placed, LineFault, Follows, FaultFrom, corner_kind as kind_of_corners, corner_line as line_of_corners, wanting};
+ghost use Rattle.lpis_cert.specs.private.Taken.{Placed, LineFault, Follows, FaultFrom, corner_kind as kind_of_corners, corner_line as line_of_corners, wanting};
 ghost use Rattle.lpis_cert.specs.Contents.{corners_of, all_corners, separator_of};
 
 use crate::fault::{CertCode, CertFault};

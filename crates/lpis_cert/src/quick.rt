@@ -7,7 +7,7 @@ ghost use Rattle.lpis_cert.specs.Versions.{greatest, written};
 ghost use Rattle.lpis_cert.specs.Limits.{number_margin};
 ghost use Rattle.lpis_cert.specs.CertText.{spelling};
 ghost use Rattle.lpis_cert.specs.Contents.{corners_of};
-ghost use Rattle.lpis_cert.specs.Taken.{Begins, corner_line};
+ghost use Rattle.lpis_cert.specs.private.Taken.{Begins, corner_line};
 
 use crate::version::Version;
 use lpis_points::{Point, Triangle};

@@ -6,9 +6,9 @@ ghost use Rattle.lpis_cert.specs.CertText.{text_of_lines, lines_of};
 ghost use Rattle.lpis_cert.specs.Versions.{first_line, written};
 ghost use Rattle.std.specs.Str.{bytes_eq};
 ghost use Rattle.lpis_cert.specs.Faults.{AtVersion, InBody, lines, outcome, verdict, IsFirstFault, none_declared};
-ghost use Rattle.lpis_cert.specs.Taken.{FaultFrom};
+ghost use Rattle.lpis_cert.specs.private.Taken.{FaultFrom};
 ghost use Rattle.lpis_cert.specs.Contents.{cert_text, content_of};
-ghost use Rattle.lpis_cert.specs.Drafts.{draft_lines, place_of};
+ghost use Rattle.lpis_cert.specs.private.Drafts.{draft_lines, place_of};
 
 use crate::blocks::next_block;
 use crate::cert::Cert;

@@ -2,7 +2,7 @@
 
 ghost use Rattle.std.specs.Prelude.{◌≡◌, ◌+◌, ◌<◌, ◌^◌, [], ◌∷◌, length, MatchOption, position};
 ghost use Rattle.lpis_cert.specs.Faults.{is_lf, lines};
-ghost use Rattle.lpis_cert.specs.Taken.{TakesLine};
+ghost use Rattle.lpis_cert.specs.private.Taken.{TakesLine};
 
 /// What is left of a text, and the number of its first line.
 #[derive(Clone, Copy)]

@@ -2,7 +2,8 @@
 
 ghost use Rattle.std.specs.Prelude.{◌≡◌, ◌≤◌, ◌*◌};
 ghost use Rattle.lpis_cert.specs.Versions.{factor, first_line, greatest};
-ghost use Rattle.lpis_cert.specs.Limits.{number_margin, coordinate_margin};
+ghost use Rattle.lpis_cert.specs.Limits.{number_margin};
+ghost use Rattle.lpis_cert.specs.private.Margins.{coordinate_margin};
 
 use lpis_points::LIMIT;
 

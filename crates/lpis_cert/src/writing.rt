@@ -4,9 +4,9 @@ ghost use Rattle.std.specs.Prelude.{◌≡◌, ◌∷◌, [], ◌++◌, OnOk, Bo
 ghost use Rattle.std.specs.List.{flat_map};
 ghost use Rattle.std.specs.Io.KnownBytes.{Appends};
 ghost use Rattle.lpis_cert.specs.CertText.{PairLine as separator_line, PieceLine, ParcelLine, PairsLine, EndLine};
-ghost use Rattle.lpis_cert.specs.Taken.{corner_line};
+ghost use Rattle.lpis_cert.specs.private.Taken.{corner_line};
 ghost use Rattle.lpis_cert.specs.Contents.{corners_of, separator_of, cert_text};
-ghost use Rattle.lpis_cert.specs.Written.{line_text, corners_text, piece_text, parcel_text, pairs_text, tail_text, version_text, parts_text};
+ghost use Rattle.lpis_cert.specs.private.Written.{line_text, corners_text, piece_text, parcel_text, pairs_text, tail_text, version_text, parts_text};
 
 use crate::cert::Cert;
 use crate::part::{PairLine, ParcelPart, PiecePart};
@@ -36,7 +36,7 @@ impl From<io::Error> for WriteFault {
     }
 }
 
-#[tactic(auto, unfolding(crate::specs::Written::line_text, crate::specs::CertText::spelling, crate::specs::CertText::words_of, crate::specs::CertText::text_of_lines))]
+#[tactic(auto, unfolding(crate::specs::private::Written::line_text, crate::specs::CertText::spelling, crate::specs::CertText::words_of, crate::specs::CertText::text_of_lines))]
 fn write_pair<W: Write>(pair: PairLine, out: &mut W) -> Result<(), WriteFault>
     ensures { OnOk result (Appends (W.contents out.old) (W.contents out.new) (line_text (separator_line (separator_of pair)))) }
 {
@@ -45,7 +45,7 @@ fn write_pair<W: Write>(pair: PairLine, out: &mut W) -> Result<(), WriteFault>
     Ok(())
 }
 
-#[tactic(auto, unfolding(crate::specs::Written::line_text, crate::specs::CertText::spelling, crate::specs::CertText::words_of, crate::specs::CertText::text_of_lines))]
+#[tactic(auto, unfolding(crate::specs::private::Written::line_text, crate::specs::CertText::spelling, crate::specs::CertText::words_of, crate::specs::CertText::text_of_lines))]
 fn write_corners<W: Write>(flat: bool, t: Triangle, out: &mut W) -> Result<(), WriteFault>
     ensures { OnOk result (Appends (W.contents out.old) (W.contents out.new) (line_text (corner_line flat (corners_of t)))) }
 {
@@ -71,7 +71,7 @@ fn write_all_corners<W: Write>(
     Ok(())
 }
 
-#[tactic(auto, unfolding(crate::specs::Written::line_text, crate::specs::CertText::spelling, crate::specs::CertText::words_of, crate::specs::CertText::text_of_lines))]
+#[tactic(auto, unfolding(crate::specs::private::Written::line_text, crate::specs::CertText::spelling, crate::specs::CertText::words_of, crate::specs::CertText::text_of_lines))]
 fn write_piece_line<W: Write>(piece: &PiecePart, out: &mut W) -> Result<(), WriteFault>
     ensures { OnOk result (Appends (W.contents out.old) (W.contents out.new) (line_text (PieceLine piece.now.id (length piece.now.triangles) (length piece.now.flats)))) }
 {
@@ -90,7 +90,7 @@ fn write_piece<W: Write>(piece: &PiecePart, out: &mut W) -> Result<(), WriteFaul
     write_all_corners(true, piece.flats.as_slice(), out)
 }
 
-#[tactic(auto, unfolding(crate::specs::Written::line_text, crate::specs::CertText::spelling, crate::specs::CertText::words_of, crate::specs::CertText::text_of_lines))]
+#[tactic(auto, unfolding(crate::specs::private::Written::line_text, crate::specs::CertText::spelling, crate::specs::CertText::words_of, crate::specs::CertText::text_of_lines))]
 fn write_parcel_line<W: Write>(parcel: &ParcelPart, out: &mut W) -> Result<(), WriteFault>
     ensures { OnOk result (Appends (W.contents out.old) (W.contents out.new) (line_text (ParcelLine parcel.now.id (length parcel.now.flats)))) }
 {
@@ -134,7 +134,7 @@ fn write_pairs<W: Write>(pairs: &[PairLine], out: &mut W) -> Result<(), WriteFau
     Ok(())
 }
 
-#[tactic(auto, unfolding(crate::specs::Written::line_text, crate::specs::CertText::spelling, crate::specs::CertText::words_of, crate::specs::CertText::text_of_lines))]
+#[tactic(auto, unfolding(crate::specs::private::Written::line_text, crate::specs::CertText::spelling, crate::specs::CertText::words_of, crate::specs::CertText::text_of_lines))]
 fn write_pairs_line<W: Write>(count: usize, out: &mut W) -> Result<(), WriteFault>
     ensures { OnOk result (Appends (W.contents out.old) (W.contents out.new) (line_text (PairsLine count))) }
 {
@@ -142,7 +142,7 @@ fn write_pairs_line<W: Write>(count: usize, out: &mut W) -> Result<(), WriteFaul
     Ok(())
 }
 
-#[tactic(auto, unfolding(crate::specs::Written::line_text, crate::specs::CertText::spelling, crate::specs::CertText::words_of, crate::specs::CertText::text_of_lines))]
+#[tactic(auto, unfolding(crate::specs::private::Written::line_text, crate::specs::CertText::spelling, crate::specs::CertText::words_of, crate::specs::CertText::text_of_lines))]
 fn write_end<W: Write>(out: &mut W) -> Result<(), WriteFault>
     ensures { OnOk result (Appends (W.contents out.old) (W.contents out.new) (line_text EndLine)) }
 {
@@ -150,7 +150,7 @@ fn write_end<W: Write>(out: &mut W) -> Result<(), WriteFault>
     Ok(())
 }
 
-#[tactic(auto, unfolding(crate::specs::Written::version_text))]
+#[tactic(auto, unfolding(crate::specs::private::Written::version_text))]
 fn write_version<W: Write>(out: &mut W) -> Result<(), WriteFault>
     ensures { OnOk result (Appends (W.contents out.old) (W.contents out.new) version_text) }
 {

@@ -11,7 +11,7 @@ use Rattle.lpis_covers.specs.declared.piece.Piece.{Piece}
 use Rattle.lpis_rings.specs.Area.{area2}
 use Rattle.lpis_rings.specs.AreaBounds.{most_area}
 use Rattle.lpis_parcels.specs.Eligible.{areas2, eligible2, is_eligible}
-use Rattle.lpis_parcels.specs.Groups.{at_places, places_where}
+use Rattle.lpis_parcels.specs.private.Groups.{at_places, places_where}
 use Rattle.lpis_parcels.specs.Release.{Contents, names}
 use Rattle.lpis_parcels.proofs.JoinLemmas.{drop-at}
 use Rattle.lpis_parcels.proofs.PlaceLemmas.{at-places-where}

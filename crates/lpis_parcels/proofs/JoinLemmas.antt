@@ -5,7 +5,7 @@ use Rattle.std.specs.List.{IsDistinct, list_any, AllByRecursion}
 use Rattle.std.proofs.lemmas.List.{map-append}
 use Rattle.std.proofs.lemmas.Option.{same_Some}
 use Rattle.lpis_covers.proofs.RowsRead.{column-fault}
-use Rattle.lpis_parcels.specs.Joined.{AreJoins}
+use Rattle.lpis_parcels.specs.private.Joined.{AreJoins}
 use Rattle.std.proofs.lemmas.Slice.Eq.{bytes_eq-Decides}
 use Rattle.lpis_covers.specs.declared.class.Class.{Class}
 use Rattle.lpis_covers.specs.declared.piece.Piece.{Piece}
@@ -17,7 +17,7 @@ use Rattle.lpis_covers.specs.Ids.{has_id, same_id}
 use Rattle.lpis_covers.specs.Table.{fault_at}
 use Rattle.lpis_parcels.specs.declared.parcel.Parcel.{Parcel}
 use Rattle.lpis_parcels.specs.Eligible.{class_named}
-use Rattle.lpis_parcels.specs.Groups.{Refuses, empty_faults, is_nil, places_where}
+use Rattle.lpis_parcels.specs.private.Groups.{Refuses, empty_faults, is_nil, places_where}
 use Rattle.lpis_parcels.specs.Release.{class_codes, names, parcel_faults, parcel_ids, piece_faults, unknown_faults}
 
 -- identifiers

@@ -9,7 +9,7 @@ use Rattle.lpis_covers.specs.declared.fault.TableFault.{TableFault}
 use Rattle.lpis_covers.specs.Ids.{has_id}
 use Rattle.lpis_parcels.specs.declared.parcel.Parcel.{Parcel}
 use Rattle.lpis_parcels.specs.Eligible.{class_named, eligible_mark, is_eligible}
-use Rattle.lpis_parcels.specs.Groups.{at_places, places_where}
+use Rattle.lpis_parcels.specs.private.Groups.{at_places, places_where}
 use Rattle.lpis_parcels.specs.Release.{Contents, names, parcel_ids, piece_faults, unknown_faults}
 
 item-here : {A : Type 0} (front : List A) (x : A) (xs : List A) (i : ℕ) → i ≡ length front → slice_get (front ++ x ∷ xs) i ≡ Some x

@@ -1,5 +1,4 @@
 pub mod Parcels
 pub mod Release
 pub mod Eligible
-pub mod Groups
-pub mod Joined
+pub mod private

@@ -1,4 +1,4 @@
--- The table of reference parcels.
+-- The table of reference parcels: an identifier and a polygon.
 use Rattle.std.specs.Prelude.{◌∷◌, ◌++◌, ℕ, List, [], codes}
 use Rattle.lpis_covers.specs.declared.fault.Table.TheVariants as table
 use Rattle.lpis_covers.specs.declared.fault.TableFault.{TableFault}

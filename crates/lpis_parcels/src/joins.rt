@@ -6,8 +6,8 @@ ghost use Rattle.lpis_covers.specs.Faults.{told};
 ghost use Rattle.lpis_covers.specs.Ids.{same_id};
 ghost use Rattle.lpis_covers.specs.Table.{Answers, fault_at, most_rows};
 ghost use Rattle.lpis_parcels.specs.Release.{class_codes, join_faults, parcel_ids, piece_faults, unknown_faults};
-ghost use Rattle.lpis_parcels.specs.Groups.{Refuses, empty_faults};
-ghost use Rattle.lpis_parcels.specs.Joined.{AreJoins, group_lists};
+ghost use Rattle.lpis_parcels.specs.private.Groups.{Refuses, empty_faults};
+ghost use Rattle.lpis_parcels.specs.private.Joined.{AreJoins, group_lists};
 
 use crate::parcel::Parcels;
 use lpis_covers::{Classes, Piece, Pieces, Table, TableCode, TableFault};

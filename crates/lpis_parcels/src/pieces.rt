@@ -18,7 +18,7 @@ pub struct PiecesOf<'a> {
 impl<'a> Model for PiecesOf<'a> {
     ghost use Rattle.std.specs.Prelude.{◌<◌, All, List, length};
     ghost use Rattle.lpis_covers.specs.declared.piece.Piece.{Piece};
-    ghost use Rattle.lpis_parcels.specs.Groups.{at_places};
+    ghost use Rattle.lpis_parcels.specs.private.Groups.{at_places};
 
     ghost Value = { List Piece };
 

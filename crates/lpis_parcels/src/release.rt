@@ -24,7 +24,7 @@ pub struct Release {
 
 impl Model for Release {
     ghost use Rattle.lpis_parcels.specs.Release.{Contents};
-    ghost use Rattle.lpis_parcels.specs.Joined.{IsRelease, group_lists};
+    ghost use Rattle.lpis_parcels.specs.private.Joined.{IsRelease, group_lists};
 
     ghost Value = { Contents };
 
@@ -36,7 +36,7 @@ impl Model for Release {
 impl Release {
     ghost use Rattle.lpis_covers.specs.declared.piece.Piece.{Piece};
     ghost use Rattle.lpis_parcels.specs.Eligible.{is_eligible};
-    ghost use Rattle.lpis_parcels.specs.Groups.{places_where};
+    ghost use Rattle.lpis_parcels.specs.private.Groups.{places_where};
 
     /// The release of these rows, or the first fault of their joins.
     pub(crate) fn of(

@@ -1,7 +1,7 @@
 use Rattle.std.proofs.Common.{refl}
 use Rattle.std.proofs.lemmas.Result.{err_from_is_err_and}
 use Rattle.lpis_cert.specs.declared.kind.Expected.TheVariants.{Block}
-use Rattle.lpis_cert.specs.Drafts.{place_of}
+use Rattle.lpis_cert.specs.private.Drafts.{place_of}
 use Rattle.lpis_cert.proofs.StepProofs.{fault_here}
 use Rattle.lpis_cert.proofs.blocks.next_block.Goals as goal
 

@@ -1,7 +1,7 @@
 use Rattle.std.proofs.Common.{refl}
 use Rattle.lpis_cert.proofs.BlockProofs.{corner_taken, corner_untaken}
 use Rattle.lpis_cert.specs.Contents.{corners_of}
-use Rattle.lpis_cert.specs.Taken.{corner_line}
+use Rattle.lpis_cert.specs.private.Taken.{corner_line}
 use Rattle.lpis_cert.proofs.QuickProofs.{begun}
 use Rattle.lpis_cert.proofs.lines.corner_line.Goals as goal
 

@@ -1,5 +1,5 @@
 use Rattle.std.proofs.Common.{◌≡◌, map, length}
-use Rattle.lpis_cert.specs.Taken.{Follows, corner_line}
+use Rattle.lpis_cert.specs.private.Taken.{Follows, corner_line}
 use Rattle.lpis_cert.specs.Contents.{all_corners}
 use Rattle.lpis_cert.proofs.lines.corner_lines.Given as goal
 

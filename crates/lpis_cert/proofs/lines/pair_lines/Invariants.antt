@@ -1,6 +1,6 @@
 use Rattle.std.proofs.Common.{◌≡◌, map, length}
 use Rattle.lpis_cert.specs.CertText.{PairLine}
-use Rattle.lpis_cert.specs.Taken.{Follows}
+use Rattle.lpis_cert.specs.private.Taken.{Follows}
 use Rattle.lpis_cert.specs.Contents.{separator_of}
 use Rattle.lpis_cert.proofs.lines.pair_lines.Given as goal
 

@@ -3,7 +3,7 @@ use Rattle.lpis_cert.proofs.StepProofs.{follows_none}
 use Rattle.lpis_cert.proofs.ReadProofs.{follows_grown, whole_text}
 use Rattle.lpis_cert.specs.CertText.{lines_of}
 use Rattle.lpis_cert.specs.Contents.{content_of}
-use Rattle.lpis_cert.specs.Drafts.{draft_lines, place_of}
+use Rattle.lpis_cert.specs.private.Drafts.{draft_lines, place_of}
 use Rattle.lpis_cert.proofs.reading.read_blocks.Goals as goal
 
 pub reading-init : goal.reading-init

@@ -1,7 +1,7 @@
 use Rattle.std.proofs.Common.{◌≡◌, length}
 use Rattle.lpis_cert.specs.Faults.{lines, outcome, InBody, none_declared}
-use Rattle.lpis_cert.specs.Drafts.{draft_lines, place_of}
-use Rattle.lpis_cert.specs.Taken.{Follows}
+use Rattle.lpis_cert.specs.private.Drafts.{draft_lines, place_of}
+use Rattle.lpis_cert.specs.private.Taken.{Follows}
 use Rattle.lpis_cert.specs.declared.kind.Stage.TheVariants.{Pieces}
 use Rattle.lpis_cert.proofs.reading.read_blocks.Given as goal
 

@@ -1,7 +1,7 @@
 use Rattle.std.proofs.Common.{take}
 use Rattle.std.specs.List.{flat_map}
 use Rattle.std.specs.Io.KnownBytes.{Appends}
-use Rattle.lpis_cert.specs.Written.{parcel_text}
+use Rattle.lpis_cert.specs.private.Written.{parcel_text}
 use Rattle.lpis_cert.proofs.writing.write_parcels.Given as goal
 
 abbrev pub invariant-loop-parcel : goal.invariant-loop-parcel

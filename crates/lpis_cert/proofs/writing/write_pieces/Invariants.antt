@@ -1,7 +1,7 @@
 use Rattle.std.proofs.Common.{take}
 use Rattle.std.specs.List.{flat_map}
 use Rattle.std.specs.Io.KnownBytes.{Appends}
-use Rattle.lpis_cert.specs.Written.{piece_text}
+use Rattle.lpis_cert.specs.private.Written.{piece_text}
 use Rattle.lpis_cert.proofs.writing.write_pieces.Given as goal
 
 abbrev pub invariant-loop-piece : goal.invariant-loop-piece

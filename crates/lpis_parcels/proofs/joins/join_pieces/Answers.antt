@@ -4,7 +4,7 @@ use Rattle.std.proofs.lemmas.List.{length-map}
 use Rattle.std.proofs.lemmas.Option.{slice_get_read}
 use Rattle.lpis_covers.specs.declared.piece.Piece.{Piece}
 use Rattle.lpis_parcels.specs.declared.parcel.Parcel.{Parcel}
-use Rattle.lpis_parcels.specs.Joined.{group_lists}
+use Rattle.lpis_parcels.specs.private.Joined.{group_lists}
 use Rattle.lpis_parcels.proofs.JoinLemmas.{group-within, joins-more, joins-none, pieces-more}
 use Rattle.lpis_parcels.proofs.joins.join_pieces.Goals as goal
 

@@ -1,5 +1,5 @@
 use Rattle.std.proofs.Common.{◌≡◌, ◌+◌, take, drop}
-use Rattle.lpis_parcels.specs.Joined.{AreJoins, group_lists}
+use Rattle.lpis_parcels.specs.private.Joined.{AreJoins, group_lists}
 use Rattle.lpis_parcels.specs.Release.{piece_faults}
 use Rattle.lpis_parcels.proofs.joins.join_pieces.Given as goal
 

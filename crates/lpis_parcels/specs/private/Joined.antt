@@ -1,4 +1,4 @@
--- Machinery that only private contracts cite: what a release keeps beside its rows.
+-- What a release keeps beside its rows.
 use Rattle.std.specs.Prelude.{◌≡◌, ℕ, List, [], map, slice_get}
 use Rattle.std.specs.declared.vec.Vec.{Vec}
 use Rattle.std.specs.declared.alloc.Global.{Global}
@@ -6,7 +6,7 @@ use Rattle.lpis_covers.specs.declared.class.Class.{Class}
 use Rattle.lpis_covers.specs.declared.piece.Piece.{Piece}
 use Rattle.lpis_parcels.specs.declared.parcel.Parcel.{Parcel}
 use Rattle.lpis_parcels.specs.Eligible.{class_named}
-use Rattle.lpis_parcels.specs.Groups.{places_where}
+use Rattle.lpis_parcels.specs.private.Groups.{places_where}
 use Rattle.lpis_parcels.specs.Release.{Contents, join_faults, names}
 
 -- groups of places, as lists

@@ -1,4 +1,4 @@
--- What the reader has taken from the front of a text. Only private contracts cite this file.
+-- What the reader has taken from the front of a text.
 use Rattle.std.specs.Prelude.{ℕ, ◌+◌, ◌≡◌, ◌⊎◌, Bool, cond, List, [], ◌∷◌, ◌++◌, length, Ok, Err}
 use Rattle.lpis_cert.specs.declared.kind.Stage.{Stage}
 use Rattle.lpis_cert.specs.declared.fault.CertCode.{CertCode}

@@ -1,4 +1,4 @@
--- The text of each part, as it is written. Only private contracts cite this file.
+-- The text of each part, as it is written.
 use Rattle.std.specs.Prelude.{ℕ, List, [], ◌∷◌, ◌++◌, length, Bool, true, false}
 use Rattle.std.specs.List.{flat_map}
 use Rattle.lpis_points.specs.declared.triangle.Triangle.{Triangle}
@@ -9,7 +9,7 @@ use Rattle.lpis_cert.specs.declared.cert.Cert.{Cert}
 use Rattle.lpis_cert.specs.Versions.{first_line, written}
 use Rattle.lpis_cert.specs.CertText.{Line, PieceLine, ParcelLine, PairsLine, EndLine, text_of_lines}
 use Rattle.lpis_cert.specs.CertText.{PairLine as separator_line}
-use Rattle.lpis_cert.specs.Taken.{corner_line}
+use Rattle.lpis_cert.specs.private.Taken.{corner_line}
 use Rattle.lpis_cert.specs.Contents.{corners_of, separator_of}
 
 unfoldable pub line_text : Line → List ℕ

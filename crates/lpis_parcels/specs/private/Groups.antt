@@ -1,4 +1,4 @@
--- Machinery that only private contracts cite: the places of items, and what the joins' steps tell.
+-- The places of items, and what the joins' steps tell.
 use Rattle.std.specs.Prelude.{◌+◌, ◌∷◌, ◌++◌, Bool, true, false, ℕ, List, [], slice_get, option_to_list, Err, if◌then◌else◌}
 use Rattle.lpis_covers.specs.declared.fault.Table.TheVariants as table
 use Rattle.lpis_covers.specs.declared.fault.TableCode.TheVariants.{ParcelWithoutPieces}

@@ -1,4 +1,4 @@
--- A certificate that is being read. Only private contracts cite this file.
+-- A certificate that is being read.
 use Rattle.std.specs.Prelude.{ℕ, ◌≡◌, ◌<◌, List, ◌++◌, length, map}
 use Rattle.std.specs.List.{flat_map}
 use Rattle.lpis_cert.specs.declared.draft.Draft.{Draft}
@@ -8,7 +8,7 @@ use Rattle.lpis_cert.specs.declared.head.Head.{Head}
 use Rattle.lpis_cert.specs.declared.head.Head.TheVariants as head
 use Rattle.lpis_cert.specs.CertText.{Line, PieceLine, ParcelLine, PairsLine, PieceBlock, ParcelBlock, piece_lines, parcel_lines, lines_of, text_of_lines}
 use Rattle.lpis_cert.specs.Faults.{Place, InBody, outcome, lines as cut}
-use Rattle.lpis_cert.specs.Taken.{Follows}
+use Rattle.lpis_cert.specs.private.Taken.{Follows}
 use Rattle.lpis_cert.specs.Contents.{piece_of, parcel_of, content_of}
 
 -- the line that begins a block
