@@ -6,7 +6,7 @@ use Rattle.lpis_lineage.specs.declared.row.Entry.{Entry}
 use Rattle.lpis_lineage.specs.declared.fault.LineageFault.{LineageFault}
 use Rattle.lpis_covers.specs.Ids.{has_id}
 use Rattle.lpis_lineage.specs.Lawful.{IsLawful, RowsFit}
-use Rattle.lpis_lineage.specs.Follows.{Follows}
+use Rattle.lpis_lineage.specs.private.Follows.{Follows}
 use Rattle.lpis_lineage.specs.Faults.{faults, first, Tells}
 use Rattle.lpis_lineage.specs.Accepts.{IsRelease, MayFollow, NeverFollows, Decides}
 use Rattle.lpis_lineage.proofs.Extends.{lawful-more, fits-more, follows-back}

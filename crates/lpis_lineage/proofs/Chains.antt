@@ -13,7 +13,7 @@ use Rattle.std.specs.List.{filter}
 use Rattle.lpis_lineage.specs.Descendants.{IsDescendant}
 use Rattle.lpis_lineage.proofs.Picking.{has-filter}
 use Rattle.lpis_lineage.specs.Descendants.{all_rows, leads, Chain, Here, Step}
-use Rattle.lpis_lineage.specs.Following.{Reaches, IsFresh, AreFresh}
+use Rattle.lpis_lineage.specs.private.Following.{Reaches, IsFresh, AreFresh}
 use Rattle.lpis_lineage.proofs.Basics.{same-exact, same-refl, either, and-left, and-right, or-cases}
 use Rattle.lpis_lineage.proofs.Clean.{mono, any-left, any-mid, any-last, or-left, and-both}
 use Rattle.lpis_lineage.proofs.Extends.{entry-get}

@@ -11,7 +11,7 @@ use Rattle.lpis_lineage.specs.declared.fault.LineageFault.{LineageFault}
 use Rattle.lpis_covers.specs.Ids.{has_id, same_id}
 use Rattle.lpis_lineage.specs.Lineage.{holds, ended, succeeded, names, is_of, is_this, same_new, same_row, last_live}
 use Rattle.lpis_lineage.specs.Lawful.{Either}
-use Rattle.lpis_lineage.specs.Follows.{Follows}
+use Rattle.lpis_lineage.specs.private.Follows.{Follows}
 use Rattle.lpis_lineage.specs.Faults.{told, is_missing, clashes, row_faults, dropped_faults, told_used, used_faults, faults, first}
 use Rattle.lpis_lineage.specs.Spans.{last_held}
 use Rattle.lpis_lineage.proofs.Basics.{same-exact, same-refl, either, and-left, and-right, or-cases}

@@ -7,7 +7,7 @@ use Rattle.lpis_lineage.specs.declared.row.Entry.{Entry}
 use Rattle.lpis_covers.specs.Ids.{has_id}
 use Rattle.lpis_lineage.specs.Lineage.{holds, entry_at, ended, succeeded, names, is_of, same_row, last_live, last_year}
 use Rattle.lpis_lineage.specs.Lawful.{Drops, Either, IsLawful, RowsFit}
-use Rattle.lpis_lineage.specs.Follows.{Follows}
+use Rattle.lpis_lineage.specs.private.Follows.{Follows}
 use Rattle.lpis_lineage.proofs.Basics.{same-refl, entry-before, entry-here, entry-after, in-history}
 
 -- a place is before n, at n, or after

@@ -11,10 +11,10 @@ use Rattle.lpis_lineage.specs.declared.fates.Fates.{Fates}
 use Rattle.lpis_covers.specs.Ids.{has_id, same_id}
 use Rattle.lpis_lineage.specs.Lineage.{is_of, ended, names, is_this}
 use Rattle.lpis_lineage.specs.Kinds.{times, heirs, with_some, successors, by_counts, kind}
-use Rattle.lpis_lineage.specs.Tally.{IsTally}
+use Rattle.lpis_lineage.specs.private.Tally.{IsTally}
 use Rattle.lpis_lineage.specs.declared.kind.Kind.{Kind}
 use Rattle.lpis_lineage.specs.declared.kind.Kind.TheVariants.{Kept, Ended}
-use Rattle.lpis_lineage.specs.Fates.{olds, on_some, is_shared, AreFates}
+use Rattle.lpis_lineage.specs.private.Fates.{olds, on_some, is_shared, AreFates}
 use Rattle.lpis_lineage.proofs.Clean.{filter-some, or-left, or-right}
 use Rattle.lpis_lineage.proofs.Basics.{same-sym, or-cases}
 use Rattle.lpis_lineage.proofs.SeenLemmas.{any-push, or-cond, or-false, and-true, and-false}

@@ -3,7 +3,7 @@ use Rattle.std.proofs.Common.{◌≡◌, ◌∙◌, refl, sym, ap, ℕ, List, []
 use Rattle.std.specs.Prelude.{◌||◌}
 use Rattle.lpis_covers.specs.Ids.{has_id, same_id}
 use Rattle.lpis_lineage.specs.declared.span.Span.{Span}
-use Rattle.lpis_lineage.specs.Keeping.{begun, ended_in}
+use Rattle.lpis_lineage.specs.private.Keeping.{begun, ended_in}
 use Rattle.lpis_lineage.proofs.Basics.{same-exact, same-sym}
 use Rattle.lpis_lineage.proofs.SeenLemmas.{any-push}
 

@@ -11,9 +11,9 @@ use Rattle.lpis_lineage.specs.Lineage.{entry_at, last_live, last_year}
 use Rattle.lpis_lineage.specs.Lawful.{IsLawful, RowsFit}
 use Rattle.lpis_lineage.specs.Faults.{faults}
 use Rattle.lpis_lineage.specs.Accepts.{IsRelease}
-use Rattle.lpis_lineage.specs.Follows.{Follows}
+use Rattle.lpis_lineage.specs.private.Follows.{Follows}
 use Rattle.lpis_lineage.specs.Spans.{first_held, last_held, span_between, span_of}
-use Rattle.lpis_lineage.specs.Keeping.{IsHistory, begun, ended_in}
+use Rattle.lpis_lineage.specs.private.Keeping.{IsHistory, begun, ended_in}
 use Rattle.lpis_lineage.proofs.Basics.{in-history, entry-here}
 use Rattle.lpis_lineage.proofs.Extends.{last-at, last-some, longer, year-at}
 use Rattle.lpis_lineage.proofs.Clean.{follows-from-clean, held-some}

@@ -8,9 +8,4 @@ pub mod Kinds
 pub mod Changes
 pub mod LineageTable
 pub mod Descendants
-pub mod Follows
-pub mod Seen
-pub mod Tally
-pub mod Fates
-pub mod Keeping
-pub mod Following
+pub mod private

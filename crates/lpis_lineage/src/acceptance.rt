@@ -5,7 +5,7 @@ ghost use Rattle.lpis_covers.specs.Ids.{has_id};
 ghost use Rattle.lpis_lineage.specs.declared.row.Row.{Row};
 ghost use Rattle.lpis_lineage.specs.Lineage.{last_live};
 ghost use Rattle.lpis_lineage.specs.Faults.{faults_of_row, row_faults, dropped_faults, used_faults, faults, Tells};
-ghost use Rattle.lpis_lineage.specs.Seen.{IsSeen};
+ghost use Rattle.lpis_lineage.specs.private.Seen.{IsSeen};
 ghost use Rattle.lpis_lineage.specs.Accepts.{Decides};
 ghost use Rattle.lpis_lineage.specs.Changes.{IsChange};
 

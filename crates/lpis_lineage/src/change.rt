@@ -5,7 +5,7 @@ ghost use Rattle.std.specs.HashMap.{get};
 ghost use Rattle.lpis_covers.specs.Ids.{same_id};
 ghost use Rattle.lpis_lineage.specs.Changes.{IsChange, kind_at};
 ghost use Rattle.lpis_lineage.specs.declared.row.Row.{Row};
-ghost use Rattle.lpis_lineage.specs.Fates.{AreFates};
+ghost use Rattle.lpis_lineage.specs.private.Fates.{AreFates};
 ghost use Rattle.lpis_lineage.specs.Kinds.{kind};
 ghost use Rattle.lpis_lineage.specs.Order.{IsAscending};
 

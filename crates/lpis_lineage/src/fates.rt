@@ -5,8 +5,8 @@ ghost use Rattle.lpis_lineage.specs.declared.row.Row.{Row};
 ghost use Rattle.lpis_covers.specs.Ids.{has_id};
 ghost use Rattle.lpis_lineage.specs.Lineage.{is_this};
 ghost use Rattle.lpis_lineage.specs.Kinds.{heirs, kind, by_counts as counted};
-ghost use Rattle.lpis_lineage.specs.Tally.{IsTally};
-ghost use Rattle.lpis_lineage.specs.Fates.{AreFates, is_shared as shared_by};
+ghost use Rattle.lpis_lineage.specs.private.Tally.{IsTally};
+ghost use Rattle.lpis_lineage.specs.private.Fates.{AreFates, is_shared as shared_by};
 
 use crate::id_set::IdSet;
 use crate::kind::Kind;

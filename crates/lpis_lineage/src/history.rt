@@ -38,7 +38,7 @@ impl Model for History {
     ghost use Rattle.std.specs.HashMap.{get};
     ghost use Rattle.lpis_covers.specs.Ids.{same_id};
     ghost use Rattle.lpis_lineage.specs.declared.row.Entry.{Entry};
-    ghost use Rattle.lpis_lineage.specs.Keeping.{IsHistory};
+    ghost use Rattle.lpis_lineage.specs.private.Keeping.{IsHistory};
 
     ghost Value = { List Entry };
 

@@ -6,7 +6,7 @@ ghost use Rattle.lpis_lineage.specs.declared.row.Row.{Row};
 ghost use Rattle.lpis_lineage.specs.Lineage.{same_row, is_of};
 ghost use Rattle.lpis_lineage.specs.Faults.{told, clashes, is_missing, Tells};
 ghost use Rattle.lpis_lineage.specs.declared.fault.LineageFault.TheVariants.{DoubledRow, EndingBesideSuccessor, SuccessorMissing};
-ghost use Rattle.lpis_lineage.specs.Seen.{IsSeen};
+ghost use Rattle.lpis_lineage.specs.private.Seen.{IsSeen};
 
 use crate::fault::LineageFault;
 use crate::id_set::IdSet;

@@ -3,7 +3,7 @@
 ghost use Rattle.std.specs.Prelude.{◌≡◌, ◌≤◌, ◌+◌, ℕ, List, length, IfOk};
 ghost use Rattle.std.specs.HashMap.{get, spare};
 ghost use Rattle.lpis_covers.specs.Ids.{has_id, same_id};
-ghost use Rattle.lpis_lineage.specs.Keeping.{begun, ended_in as ended};
+ghost use Rattle.lpis_lineage.specs.private.Keeping.{begun, ended_in as ended};
 ghost use Rattle.lpis_lineage.specs.Spans.{live_in as ids_live_in, in_span};
 
 use lpis_covers::Id;

@@ -2,7 +2,7 @@
 
 ghost use Rattle.std.specs.Prelude.{◌≡◌, ◌++◌, ◌∷◌, ℕ, List, [], OnOk, IfOk};
 ghost use Rattle.lpis_lineage.specs.Kinds.{heirs};
-ghost use Rattle.lpis_lineage.specs.Tally.{IsTally};
+ghost use Rattle.lpis_lineage.specs.private.Tally.{IsTally};
 
 use crate::id_set::IdSet;
 use crate::row::Row;

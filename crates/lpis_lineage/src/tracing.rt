@@ -4,7 +4,7 @@ ghost use Rattle.std.specs.Prelude.{◌≡◌, ◌++◌, ◌∷◌, ℕ, List, [
 ghost use Rattle.lpis_covers.specs.Ids.{has_id};
 ghost use Rattle.lpis_lineage.specs.declared.row.Row.{Row};
 ghost use Rattle.lpis_lineage.specs.Descendants.{IsDescendant, all_rows};
-ghost use Rattle.lpis_lineage.specs.Following.{Reaches, IsFresh, AreFresh};
+ghost use Rattle.lpis_lineage.specs.private.Following.{Reaches, IsFresh, AreFresh};
 ghost use Rattle.lpis_lineage.specs.Order.{IsAscending};
 
 use crate::history::History;

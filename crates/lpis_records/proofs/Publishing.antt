@@ -13,8 +13,8 @@ use Rattle.lpis_lineage.specs.declared.row.Entry.{Entry}
 use Rattle.lpis_lineage.specs.declared.row.Row.{Row}
 use Rattle.lpis_lineage.specs.declared.span.Span.{Span as Years}
 use Rattle.lpis_lineage.specs.Accepts.{Adds}
-use Rattle.lpis_lineage.specs.Follows.{Follows}
-use Rattle.lpis_lineage.specs.Keeping.{begun, ended_in}
+use Rattle.lpis_lineage.specs.private.Follows.{Follows}
+use Rattle.lpis_lineage.specs.private.Keeping.{begun, ended_in}
 use Rattle.lpis_lineage.specs.Lawful.{IsLawful, RowsFit}
 use Rattle.lpis_lineage.specs.Lineage.{entry_at, holds, last_live, last_year}
 use Rattle.lpis_lineage.specs.Order.{IsAscending}

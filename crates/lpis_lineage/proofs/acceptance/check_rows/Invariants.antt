@@ -1,5 +1,5 @@
 use Rattle.std.proofs.Common.{◌≡◌, ◌+◌, [], take, drop}
-use Rattle.lpis_lineage.specs.Seen.{IsSeen}
+use Rattle.lpis_lineage.specs.private.Seen.{IsSeen}
 use Rattle.lpis_lineage.specs.Faults.{row_faults}
 use Rattle.lpis_lineage.proofs.acceptance.check_rows.Given as goal
 

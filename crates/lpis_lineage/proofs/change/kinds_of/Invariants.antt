@@ -2,7 +2,7 @@ use Rattle.std.proofs.Common.{◌≡◌, ℕ, List, true, cond}
 use Rattle.std.specs.HashMap.{get}
 use Rattle.lpis_covers.specs.Ids.{has_id, same_id}
 use Rattle.lpis_lineage.specs.declared.row.Row.{Row}
-use Rattle.lpis_lineage.specs.Fates.{AreFates}
+use Rattle.lpis_lineage.specs.private.Fates.{AreFates}
 use Rattle.lpis_lineage.specs.Kinds.{kind}
 use Rattle.lpis_lineage.proofs.change.kinds_of.Given as goal
 

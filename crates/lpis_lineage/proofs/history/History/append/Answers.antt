@@ -5,7 +5,7 @@ use Rattle.std.specs.List.{filter}
 use Rattle.lpis_covers.specs.Ids.{has_id, same_id}
 use Rattle.lpis_lineage.specs.declared.row.Entry.{Entry}
 use Rattle.lpis_lineage.specs.Faults.{faults}
-use Rattle.lpis_lineage.specs.Keeping.{ended_in}
+use Rattle.lpis_lineage.specs.private.Keeping.{ended_in}
 use Rattle.lpis_lineage.specs.Lineage.{last_live, last_year}
 use Rattle.lpis_lineage.specs.Spans.{span_of}
 use Rattle.lpis_lineage.proofs.SpanSteps.{history-more, history-same}

@@ -1,4 +1,4 @@
--- What one release more has to meet, said of the last release alone: machinery, which no reader needs to believe.
+-- What one release more has to meet, said of the last release alone.
 use Rattle.std.specs.Prelude.{◌≡◌, ◌≤◌, true, false, ℕ, List, length}
 use Rattle.std.specs.List.{list_any, filter}
 use Rattle.lpis_lineage.specs.declared.row.Row.{Row}

@@ -1,4 +1,4 @@
--- What `accept` keeps of the rows that it has seen: machinery, which only private contracts cite.
+-- What `accept` keeps of the rows that it has seen.
 use Rattle.std.specs.Prelude.{◌≡◌, ◌&&◌, ℕ, List}
 use Rattle.std.specs.List.{list_any}
 use Rattle.lpis_lineage.specs.declared.row.Row.{Row}

@@ -1,4 +1,4 @@
--- What a history keeps beside its releases: machinery, which only private contracts cite.
+-- What a history keeps beside its releases.
 use Rattle.std.specs.Prelude.{◌≡◌, Bool, ℕ, List, Option, None, Some, cond}
 use Rattle.lpis_lineage.specs.declared.row.Entry.{Entry}
 use Rattle.lpis_lineage.specs.declared.span.Span.{Span}

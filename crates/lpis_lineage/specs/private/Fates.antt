@@ -1,4 +1,4 @@
--- What a second pass over the rows keeps for the kinds: machinery, which only private contracts cite.
+-- What a second pass over the rows keeps for the kinds.
 use Rattle.std.specs.Prelude.{◌≡◌, ◌&&◌, Bool, false, cond, nat_lt, is_some, ℕ, List, [], ◌∷◌, Option, None, Some}
 use Rattle.std.specs.List.{list_any}
 use Rattle.lpis_lineage.specs.declared.row.Row.{Row}
@@ -6,7 +6,7 @@ use Rattle.lpis_lineage.specs.declared.fates.Fates.{Fates}
 use Rattle.lpis_covers.specs.Ids.{has_id}
 use Rattle.lpis_lineage.specs.Lineage.{is_of, ended}
 use Rattle.lpis_lineage.specs.Kinds.{predecessors}
-use Rattle.lpis_lineage.specs.Tally.{IsTally}
+use Rattle.lpis_lineage.specs.private.Tally.{IsTally}
 
 -- the old identifiers of the rows with a successor
 abbrev pub olds : List Row → List (List ℕ)

@@ -1,4 +1,4 @@
--- What following the rows keeps: machinery, which only private contracts cite.
+-- What following the rows keeps.
 use Rattle.std.specs.Prelude.{◌≡◌, ◌++◌, ◌∷◌, [], true, false, ℕ, List}
 use Rattle.std.specs.List.{list_any}
 use Rattle.lpis_covers.specs.Ids.{has_id}

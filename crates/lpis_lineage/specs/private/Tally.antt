@@ -1,4 +1,4 @@
--- Which identifiers a list has, and which more than once: machinery, which only private contracts cite.
+-- Which identifiers a list has, and which more than once.
 use Rattle.std.specs.Prelude.{◌≡◌, nat_lt, ℕ, List}
 use Rattle.lpis_covers.specs.Ids.{has_id}
 use Rattle.lpis_lineage.specs.declared.tally.Tally.{Tally}

@@ -1,0 +1,7 @@
+-- Machinery, cited by private contracts alone: no promise rests on it.
+pub mod Fates
+pub mod Following
+pub mod Follows
+pub mod Keeping
+pub mod Seen
+pub mod Tally
