@@ -5,3 +5,4 @@ pub mod Publishing
 pub mod Years
 pub mod OneHistory
 pub mod Moving
+pub mod Fresh

@@ -81,7 +81,7 @@ fresh-or-old : (h : List Entry) (live gone fresh : List (List ℕ)) (id : List �
 fresh-or-old h live gone fresh id w is = by (is_some (span_of h id)) refl where
   by : (b : Bool) → b ≡ is_some (span_of h id) → (has_id fresh id ≡ true) ⊎ ((i : ℕ) × (holds h i id ≡ true))
   by true e = inr (spanned h id (sym e))
-  by false e = inl (w.fresh_are id ∙ ap (λ (t : Bool). t && not (is_some (span_of h id))) is ∙ ap not (sym e))
+  by false e = inl (w.fresh_are.are id ∙ ap (λ (t : Bool). t && not (is_some (span_of h id))) is ∙ ap not (sym e))
 
 kept-more : (h : List Entry) (e : Entry) (live gone fresh : List (List ℕ)) → IsKept h → IsLawful (h ++ e ∷ []) → RowsFit (h ++ e ∷ []) → e.year ≤ last_of_years
     → ((q : List ℕ) → has_id e.live q ≡ has_id live q) → IsWriting h live gone fresh → IsKept (h ++ e ∷ [])
@@ -90,7 +90,7 @@ kept-more h e live gone fresh kept law fit small alike w = record {
   fits = fit;
   ids = λ id i held. elim (holds-more h e i id held) as (λ _. is_id id ≡ true) [
     | inl old ↦ kept.ids id i old
-    | inr new ↦ elim (fresh-or-old h live gone fresh id w (sym (alike id) ∙ new)) as (λ _. is_id id ≡ true) [ inl f ↦ w.fresh_ids id f | inr o ↦ kept.ids id o.0 o.1 ]
+    | inr new ↦ elim (fresh-or-old h live gone fresh id w (sym (alike id) ∙ new)) as (λ _. is_id id ≡ true) [ inl f ↦ w.fresh_are.ids id f | inr o ↦ kept.ids id o.0 o.1 ]
   ];
   years = λ i. let n = longer h e in elim (place i (length h)) as (λ _. (entry_at (h ++ e ∷ []) i).year ≤ last_of_years) [
     | inl a ↦ let y = kept.years i in let s = ap (λ (x : Entry). x.year) (entry-before h e i a) in omega (arith, y, s)
@@ -110,11 +110,11 @@ span-next h e live gone fresh id follows alike w =
     sym (span-more h e id follows)
     ∙ ap (λ (b : Bool). ended_in (has_id (last_live h) id && not b) (last_year h) (begun (b && not (is_some (span_of h id))) e.year (span_of h id))) (alike id)
     ∙ ap (λ (b : Bool). ended_in b (last_year h) (begun (has_id live id && not (is_some (span_of h id))) e.year (span_of h id))) (sym (w.gone_are id))
-    ∙ ap (λ (b : Bool). ended_in (has_id gone id) (last_year h) (begun b e.year (span_of h id))) (sym (w.fresh_are id))
+    ∙ ap (λ (b : Bool). ended_in (has_id gone id) (last_year h) (begun b e.year (span_of h id))) (sym (w.fresh_are.are id))
 
 -- a fresh identifier is in the release, is not dropped, and had no span
 fresh-facts : (h : List Entry) (live gone fresh : List (List ℕ)) (id : List ℕ) → IsWriting h live gone fresh → has_id fresh id ≡ true → (has_id gone id ≡ false) × (is_some (span_of h id) ≡ false)
-fresh-facts h live gone fresh id w is = by (has_id live id) refl (is_some (span_of h id)) refl (sym (w.fresh_are id) ∙ is) where
+fresh-facts h live gone fresh id w is = by (has_id live id) refl (is_some (span_of h id)) refl (sym (w.fresh_are.are id) ∙ is) where
   no : (b : Bool) → (b && false) ≡ false
   no true = refl
   no false = refl
@@ -215,7 +215,7 @@ spans-told spans h e live gone fresh follows alike w t = spans-moved (new ++ old
         by true ef sum a b =
             let none : list_any (λ s. same_id id s.id) spans ≡ false = unheld (list_any (λ s. same_id id s.id) spans) refl in
             let z = filter-none (λ (s : Span). same_id id s.id) spans none in
-            let o = once-ascending id fresh w.fresh_ascend in
+            let o = once-ascending id fresh w.fresh_are.ascend in
             omega (arith, sum, a, b, z, o) where
               unheld : (x : Bool) → x ≡ list_any (λ s. same_id id s.id) spans → list_any (λ s. same_id id s.id) spans ≡ false
               unheld true ex = absurd (let s = told-some h id spans t.right (sym ex) in let n = (fresh-facts h live gone fresh id w (sym ef)).1 in cc)

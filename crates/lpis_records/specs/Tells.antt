@@ -94,10 +94,13 @@ pub record IsSameHistory (h k : List Entry) : Type 0 where
 abbrev pub covers : Span → ℕ → Bool
 covers s year = le_z s.since (pos year) && (int_eq s.until (pos 0) || le_z (pos year) s.until)
 
+-- the identifiers of a release that no release of the history holds
+pub record IsFresh (h : List Entry) (live fresh : List (List ℕ)) : Type 0 where
+  pub are : (q : List ℕ) → has_id fresh q ≡ (has_id live q && not (is_some (span_of h q)))
+  pub ascend : IsAscending fresh
+  pub ids : (q : List ℕ) → has_id fresh q ≡ true → is_id q ≡ true
+
 -- what publishing writes: the identifiers that the release drops, and those that no release held
 pub record IsWriting (h : List Entry) (live gone fresh : List (List ℕ)) : Type 0 where
   pub gone_are : (q : List ℕ) → has_id gone q ≡ (has_id (last_live h) q && not (has_id live q))
-  pub fresh_are : (q : List ℕ) → has_id fresh q ≡ (has_id live q && not (is_some (span_of h q)))
-  pub gone_ascend : IsAscending gone
-  pub fresh_ascend : IsAscending fresh
-  pub fresh_ids : (q : List ℕ) → has_id fresh q ≡ true → is_id q ≡ true
+  pub fresh_are : IsFresh h live fresh

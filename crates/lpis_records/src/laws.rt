@@ -2,12 +2,13 @@
 
 ghost use Rattle.std.specs.Prelude.{◌≡◌, ◌≤◌, ℕ, List, [], pos};
 ghost use Rattle.lpis_lineage.specs.Accepts.{Adds};
+ghost use Rattle.lpis_lineage.specs.Changes.{Changes, IsChange};
 ghost use Rattle.lpis_lineage.specs.Lawful.{IsLawful, RowsFit};
-ghost use Rattle.lpis_lineage.specs.Lineage.{last_year};
+ghost use Rattle.lpis_lineage.specs.Lineage.{last_live, last_year};
 ghost use Rattle.lpis_lineage.specs.declared.row.Entry.{Entry};
 ghost use Rattle.lpis_lineage.specs.declared.row.Row.{Row};
 ghost use Rattle.lpis_records.specs.Content.{Content, Span, moved, no_content, published};
-ghost use Rattle.lpis_records.specs.Tells.{IsSameContent, IsSameHistory, IsWriting, SpansTell, Tells, TellsLive, last_of_years};
+ghost use Rattle.lpis_records.specs.Tells.{IsFresh, IsSameContent, IsSameHistory, IsWriting, SpansTell, Tells, TellsLive, last_of_years};
 
 /// Where tables say a history, they say that history with a release more after what publishing it writes.
 pub fn publishing_adds_the_release()
@@ -29,4 +30,9 @@ pub fn order_of_rows_is_free()
 /// Where tables of version 1 say a history, they say it as version 2 after its spans are put in place of the live rows.
 pub fn moving_keeps_the_history()
     ensures { (c : Content) (spans : List Span) (h : List Entry) → TellsLive c h → SpansTell spans h → Tells (moved spans c) h }
+{}
+
+/// What a change drops and what is fresh is what publishing writes.
+pub fn changes_tell_what_is_written()
+    ensures { (h : List Entry) (live fresh : List (List ℕ)) (rows : List Row) (change : Changes) → IsChange (last_live h) live rows change → IsFresh h live fresh → IsWriting h live change.dropped_ids fresh }
 {}

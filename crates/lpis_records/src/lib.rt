@@ -3,9 +3,11 @@
 
 mod laws;
 mod rows;
+mod writing;
 
 pub use laws::{
-    moving_keeps_the_history, order_of_rows_is_free, publishing_adds_the_release,
-    tables_say_one_history,
+    changes_tell_what_is_written, moving_keeps_the_history, order_of_rows_is_free,
+    publishing_adds_the_release, tables_say_one_history,
 };
 pub use rows::{FormatRow, LineRow, LiveRow, Rows, SpanRow};
+pub use writing::fresh_ids;
