@@ -343,7 +343,7 @@ def edges_cross_in_threes(release):
 
 def parcels_on_a_hair(release):
     """Two parcels whose long borders cross in hairs a centimetre wide."""
-    length = release.numbers.choice([50, 3_000, 10**6])
+    length = release.numbers.choice([50, 3_000, 10**6, 5 * 10**8])
     low = [(0, 0), (length, release.numbers.randint(-1, 1)), (length, -20), (0, -20)]
     high = [(0, 0), (length, release.numbers.randint(-1, 1)), (length + 3, 40), (1, 30)]
     replaced(release, low=low, high=high)
