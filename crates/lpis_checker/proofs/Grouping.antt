@@ -11,7 +11,7 @@ use Rattle.std.proofs.lemmas.List.Sorted.{sorted_far, ranks_by}
 use Rattle.std.proofs.lemmas.Option.{slice_get_within, get_or_from_slice_get}
 use Rattle.lpis_points.specs.declared.point.Point.{Point}
 use Rattle.lpis_checker.specs.declared.signed.SignedEdge.{SignedEdge}
-use Rattle.lpis_checker.specs.SignedEdges.{same_ends, IsGrouped, point_order}
+use Rattle.lpis_checker.specs.private.SignedEdges.{same_ends, IsGrouped, point_order}
 use Rattle.lpis_checker.proofs.PointOrder.{both_same, point_total, point_tie}
 
 abbrev pub edge_order : SignedEdge → SignedEdge → Ordering

@@ -8,7 +8,7 @@ use Rattle.lpis_points.specs.Chain.{is_edge, net_count, SameNet}
 use Rattle.lpis_points.proofs.Chains.{edge_sum-append}
 use Rattle.lpis_rings.specs.Map.{edges_of_triangles}
 use Rattle.lpis_checker.specs.declared.signed.SignedEdge.{SignedEdge}
-use Rattle.lpis_checker.specs.SignedEdges.{weight, is_at, sum_at, SumsAreZero, is_low, IsSigned, signed_by, low_count, Grows}
+use Rattle.lpis_checker.specs.private.SignedEdges.{weight, is_at, sum_at, SumsAreZero, is_low, IsSigned, signed_by, low_count, Grows}
 use Rattle.lpis_checker.proofs.RunLemmas.{sum_at-append}
 use Rattle.lpis_checker.proofs.PointOrder.{both_same, low_asym, point_tie_alone}
 

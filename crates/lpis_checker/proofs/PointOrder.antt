@@ -9,7 +9,7 @@ use Rattle.std.proofs.lemmas.Cmp.{int_cmp_total, on_total, then_total}
 use Rattle.lpis_points.specs.declared.point.Point.{Point}
 use Rattle.lpis_points.specs.Plane.{same_point}
 use Rattle.lpis_points.proofs.Points.{same_point-equality, point_eq}
-use Rattle.lpis_checker.specs.SignedEdges.{is_low, point_order}
+use Rattle.lpis_checker.specs.private.SignedEdges.{is_low, point_order}
 
 -- ---- equal points
 -- two pairs of equal points

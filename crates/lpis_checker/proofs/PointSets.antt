@@ -8,7 +8,7 @@ use Rattle.std.proofs.lemmas.List.Elements.{All-append}
 use Rattle.std.proofs.lemmas.List.Sorted.{searchable_from_sorted}
 use Rattle.lpis_points.specs.declared.point.Point.{Point}
 use Rattle.lpis_points.specs.declared.triangle.Triangle.{Triangle}
-use Rattle.lpis_checker.specs.SignedEdges.{point_order}
+use Rattle.lpis_checker.specs.private.SignedEdges.{point_order}
 use Rattle.lpis_checker.specs.GoodCertificate.{HasCorners, HaveCorners}
 use Rattle.lpis_checker.proofs.PointOrder.{point_total, same_in_order}
 use Rattle.lpis_checker.proofs.Sums.{all_left, all_right}

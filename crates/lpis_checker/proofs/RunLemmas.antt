@@ -10,7 +10,7 @@ use Rattle.std.proofs.lemmas.Option.{same_Some, slice_get_past, slice_get_within
 use Rattle.lpis_points.specs.declared.point.Point.{Point}
 use Rattle.lpis_points.specs.Plane.{same_point}
 use Rattle.lpis_checker.specs.declared.signed.SignedEdge.{SignedEdge}
-use Rattle.lpis_checker.specs.SignedEdges.{weight, is_at, sum_at, SumsAreZero, same_ends, IsGrouped, EndsRun}
+use Rattle.lpis_checker.specs.private.SignedEdges.{weight, is_at, sum_at, SumsAreZero, same_ends, IsGrouped, EndsRun}
 use Rattle.lpis_checker.proofs.PointOrder.{both_same}
 
 -- edges with the same ends lie between the same points

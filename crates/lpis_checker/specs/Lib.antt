@@ -4,6 +4,5 @@ pub mod GoodCertificate
 pub mod FirstFault
 pub mod SoundMap
 pub mod TurnsAdd
-pub mod Searches
-pub mod SignedEdges
 pub mod Laws
+pub mod private

@@ -1,4 +1,4 @@
--- What a good certificate shows of a release.
+-- When a release is a sound map: at a point at most one parcel, and a parcel exactly when exactly one of its pieces.
 use Rattle.std.specs.Prelude.{◌≡◌, ◌≢◌, ℕ, ℤ, pos, ◌≤ℤ◌, ◌<ℤ◌, List, slice_get, Some, All, Any, Contains as IsAmong, ◌↔◌}
 use Rattle.lpis_points.specs.declared.point.Point.{Point}
 use Rattle.lpis_points.specs.Plane.{RationalPoint, orient_at}

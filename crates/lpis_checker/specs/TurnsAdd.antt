@@ -1,4 +1,4 @@
--- Turns: what the conditions on parts show beside areas.
+-- What the conditions on parts show of turns.
 use Rattle.std.specs.Prelude.{◌≡◌, ℕ, ℤ, pos, ◌+ℤ◌, ◌<ℤ◌, List, [], ◌∷◌, All}
 use Rattle.lpis_points.specs.Plane.{RationalPoint}
 use Rattle.lpis_rings.specs.Edges.{turns}

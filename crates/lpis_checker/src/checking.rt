@@ -4,7 +4,7 @@ ghost use Rattle.std.specs.Prelude.{◌≡◌, IfErr, IfOk, OnOk};
 ghost use Rattle.lpis_checker.specs.Codes.{code_of};
 ghost use Rattle.lpis_checker.specs.FirstFault.{HoldBelow, IsOfParts, Tells};
 ghost use Rattle.lpis_checker.specs.GoodCertificate.{Holds, IsGood};
-ghost use Rattle.lpis_checker.specs.Searches.{FoundFault, IsToldOf};
+ghost use Rattle.lpis_checker.specs.private.Searches.{FoundFault, IsToldOf};
 ghost use Rattle.lpis_checker.specs.SoundMap.{AreasAdd, IsSoundMap};
 ghost use Rattle.lpis_checker.specs.TurnsAdd.{TurnsAdd};
 ghost use Rattle.lpis_checker.specs.declared.condition.Condition.TheVariants.{NearPairs};

@@ -5,7 +5,7 @@ ghost use Rattle.lpis_points.specs.declared.point.Point.{Point};
 ghost use Rattle.lpis_parcels.specs.Release.{pieces_named};
 ghost use Rattle.lpis_checker.specs.Corners.{corners_of, corners_of_pieces, points_of_rings};
 ghost use Rattle.lpis_checker.specs.GoodCertificate.{HasCorners, HaveCorners, Holds, HoldsEverywhere};
-ghost use Rattle.lpis_checker.specs.Searches.{FindsFirst, FindsParcel, FindsPiece};
+ghost use Rattle.lpis_checker.specs.private.Searches.{FindsFirst, FindsParcel, FindsPiece};
 ghost use Rattle.lpis_checker.specs.declared.condition.Condition.TheVariants.{Corners, Names};
 ghost use Rattle.lpis_checker.specs.declared.condition.Site.TheVariants.{ParcelAt, PieceAt};
 
@@ -28,7 +28,7 @@ impl Model for PointSet {
     ghost use Rattle.std.specs.Prelude.{List};
     ghost use Rattle.std.specs.List.Sorted.{IsSorted};
     ghost use Rattle.lpis_points.specs.declared.point.Point.{Point};
-    ghost use Rattle.lpis_checker.specs.SignedEdges.{point_order};
+    ghost use Rattle.lpis_checker.specs.private.SignedEdges.{point_order};
 
     ghost Value = { List Point };
 

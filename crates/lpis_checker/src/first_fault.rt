@@ -5,7 +5,7 @@ ghost use Rattle.lpis_pairs.specs.NearPairs.{IsNearList};
 ghost use Rattle.lpis_checker.specs.Codes.{code_of};
 ghost use Rattle.lpis_checker.specs.FirstFault.{HoldBelow, parcel_id as parcel_id_lem, piece_id as piece_id_lem, place_of as place_of_lem};
 ghost use Rattle.lpis_checker.specs.GoodCertificate.{Holds, triangles_of};
-ghost use Rattle.lpis_checker.specs.Searches.{FindsBelow, HasNoParcel, HasNoPiece};
+ghost use Rattle.lpis_checker.specs.private.Searches.{FindsBelow, HasNoParcel, HasNoPiece};
 
 use crate::condition::{Condition, Failing, Site};
 use crate::corners::strange_corner;

@@ -3,7 +3,7 @@
 ghost use Rattle.std.specs.Prelude.{◌↔◌, ◌<◌, IsTrue, All, None, length};
 ghost use Rattle.lpis_points.specs.Triangles.{IsFlat};
 ghost use Rattle.lpis_checker.specs.GoodCertificate.{Holds, HoldsEverywhere};
-ghost use Rattle.lpis_checker.specs.Searches.{FindsFirst, FindsParcel, FindsPiece};
+ghost use Rattle.lpis_checker.specs.private.Searches.{FindsFirst, FindsParcel, FindsPiece};
 ghost use Rattle.lpis_checker.specs.declared.condition.Condition.TheVariants.{Flats, Names};
 ghost use Rattle.lpis_checker.specs.declared.condition.Site.TheVariants.{ParcelAt, PieceAt};
 

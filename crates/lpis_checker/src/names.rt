@@ -3,7 +3,7 @@
 ghost use Rattle.std.specs.Prelude.{◌≡◌, ◌↔◌, ◌<◌, ℕ, IsTrue, length};
 ghost use Rattle.lpis_pairs.specs.NearPairs.{IsBelow};
 ghost use Rattle.lpis_checker.specs.GoodCertificate.{Holds, triangles_of};
-ghost use Rattle.lpis_checker.specs.Searches.{FindsFirst, FindsLine, FindsParcel, FindsPiece};
+ghost use Rattle.lpis_checker.specs.private.Searches.{FindsFirst, FindsLine, FindsParcel, FindsPiece};
 ghost use Rattle.lpis_checker.specs.declared.condition.Condition.TheVariants.{Names};
 ghost use Rattle.lpis_checker.specs.declared.condition.Site.TheVariants.{LineAt, ParcelAt, PieceAt};
 

@@ -4,7 +4,7 @@ ghost use Rattle.std.specs.Prelude.{◌≡◌, ◌↔◌, ◌<◌, ◌≤◌, �
 ghost use Rattle.lpis_cert.specs.declared.part.PairLine.{PairLine};
 ghost use Rattle.lpis_pairs.specs.NearPairs.{IsBelow, IsNearList};
 ghost use Rattle.lpis_checker.specs.GoodCertificate.{HoldsEverywhere, triangles_of};
-ghost use Rattle.lpis_checker.specs.Searches.{FindsFirst};
+ghost use Rattle.lpis_checker.specs.private.Searches.{FindsFirst};
 ghost use Rattle.lpis_checker.specs.declared.condition.Condition.TheVariants.{Names, NearPairs};
 
 use crate::condition::Site;

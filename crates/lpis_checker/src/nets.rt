@@ -7,7 +7,7 @@ ghost use Rattle.lpis_rings.specs.Edges.{edges_of};
 ghost use Rattle.lpis_rings.specs.Map.{edges_of_triangles};
 ghost use Rattle.lpis_parcels.specs.Release.{pieces_named};
 ghost use Rattle.lpis_checker.specs.GoodCertificate.{edges_of_pieces, Holds, HoldsEverywhere};
-ghost use Rattle.lpis_checker.specs.Searches.{FindsFirst};
+ghost use Rattle.lpis_checker.specs.private.Searches.{FindsFirst};
 ghost use Rattle.lpis_checker.specs.declared.condition.Condition.TheVariants.{Names, PieceEdges, ParcelEdges};
 ghost use Rattle.lpis_checker.specs.declared.condition.Site.TheVariants.{PieceAt, ParcelAt};
 

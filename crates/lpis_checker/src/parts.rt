@@ -3,7 +3,7 @@
 ghost use Rattle.std.specs.Prelude.{◌≡◌, ◌↔◌, ◌<◌, IsTrue, All, length};
 ghost use Rattle.lpis_points.specs.Triangles.{IsCounterClockwise};
 ghost use Rattle.lpis_checker.specs.GoodCertificate.{Holds, HoldsEverywhere};
-ghost use Rattle.lpis_checker.specs.Searches.{FindsFirst};
+ghost use Rattle.lpis_checker.specs.private.Searches.{FindsFirst};
 ghost use Rattle.lpis_checker.specs.declared.condition.Condition.TheVariants.{Names, Triangles, Turned};
 ghost use Rattle.lpis_checker.specs.declared.condition.Site.TheVariants.{PieceAt};
 

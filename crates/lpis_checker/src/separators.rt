@@ -3,7 +3,7 @@
 ghost use Rattle.std.specs.Prelude.{◌≡◌, ◌↔◌, ◌<◌, IsTrue, false, length, slice_get, MatchOption};
 ghost use Rattle.lpis_points.specs.Triangles.{Separates, are_apart};
 ghost use Rattle.lpis_checker.specs.GoodCertificate.{EdgeSeparates, Holds, HoldsEverywhere, LineSeparates, OfTwo, triangles_of};
-ghost use Rattle.lpis_checker.specs.Searches.{FindsFirst};
+ghost use Rattle.lpis_checker.specs.private.Searches.{FindsFirst};
 ghost use Rattle.lpis_checker.specs.declared.condition.Condition.TheVariants.{Names, NotApart, Separating};
 ghost use Rattle.lpis_checker.specs.declared.condition.Site.TheVariants.{LineAt};
 

@@ -6,7 +6,7 @@ ghost use Rattle.lpis_rings.specs.Edges.{edges_of};
 ghost use Rattle.lpis_rings.specs.Map.{edges_of_triangles};
 ghost use Rattle.lpis_parcels.specs.Release.{pieces_named};
 ghost use Rattle.lpis_checker.specs.GoodCertificate.{edges_of_pieces};
-ghost use Rattle.lpis_checker.specs.SignedEdges.{Grows, IsSigned};
+ghost use Rattle.lpis_checker.specs.private.SignedEdges.{Grows, IsSigned};
 
 use lpis_covers::Id;
 use lpis_parcels::{Release, pieces_of};

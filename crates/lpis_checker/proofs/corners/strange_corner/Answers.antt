@@ -1,5 +1,5 @@
 use Rattle.std.proofs.Common.{ℕ, Option, subst}
-use Rattle.lpis_checker.specs.Searches.{FindsParcel, FindsPiece}
+use Rattle.lpis_checker.specs.private.Searches.{FindsParcel, FindsPiece}
 use Rattle.lpis_checker.specs.declared.condition.Condition.TheVariants.{Corners}
 use Rattle.lpis_checker.proofs.Sites.{at_all_sites}
 use Rattle.lpis_checker.proofs.corners.strange_corner.Goals as goal

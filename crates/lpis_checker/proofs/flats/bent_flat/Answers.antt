@@ -1,6 +1,6 @@
 use Rattle.std.proofs.Common.{Option, subst, sym}
 use Rattle.lpis_checker.specs.declared.condition.Site.{Site}
-use Rattle.lpis_checker.specs.Searches.{FindsFirst}
+use Rattle.lpis_checker.specs.private.Searches.{FindsFirst}
 use Rattle.lpis_checker.specs.declared.condition.Condition.TheVariants.{Flats}
 use Rattle.lpis_checker.proofs.Sites.{at_all_sites}
 use Rattle.lpis_checker.proofs.flats.bent_flat.Goals as goal

@@ -1,7 +1,7 @@
 use Rattle.std.proofs.Common.{◌≡◌, ℕ, ◌+◌, ◌<◌, ◌≤◌, ◌^◌, ℤ, pos, ◌+ℤ◌, nat_abs, true, false, length, sym, refl, subst, arith, to_z, of_z, w64, SFits}
 use Rattle.std.proofs.lemmas.Int.{ints}
 use Rattle.std.proofs.lemmas.Option.{slice_get_read}
-use Rattle.lpis_checker.specs.SignedEdges.{weight}
+use Rattle.lpis_checker.specs.private.SignedEdges.{weight}
 use Rattle.lpis_checker.proofs.Sites.{untrue}
 use Rattle.lpis_checker.proofs.RunLemmas.{WalkAt, walk_none, walk_zero, walk_on, walk_all, walk_fault}
 use Rattle.lpis_checker.proofs.runs.runs_cancel.Goals as goal

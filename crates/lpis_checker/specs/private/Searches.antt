@@ -1,4 +1,4 @@
--- Machinery, cited by private contracts alone: what searches for the first site of a condition answer.
+-- What searches for the first site of a condition answer.
 use Rattle.std.specs.Prelude.{◌≡◌, ℕ, ◌<◌, Option, None, MatchOption, slice_get}
 use Rattle.lpis_parcels.specs.Release.{Contents}
 use Rattle.lpis_cert.specs.declared.cert.Cert.{Cert}
