@@ -2,7 +2,7 @@
 patches or at random, and the borders of what each has are walked in rings that touch themselves and one another wherever they can.
 Then points are left out and put in along straight edges, points repeated, spikes and bridges drawn, and rings added that cancel.
 
-None of that changes which points a polygon contains. A release with a mutation has one change more that mostly does."""
+None of that changes which points a polygon contains. A release with a mutation has a change more, or several, that mostly do."""
 
 import math
 import random
@@ -19,7 +19,7 @@ class Mesh:
 
     def __init__(self, numbers):
         self.numbers = numbers
-        self.columns, self.rows = numbers.randint(3, 6), numbers.randint(3, 6)
+        self.columns, self.rows = numbers.randint(3, 7), numbers.randint(3, 7)
         widths, heights = numbers.choice(WIDTHS), numbers.choice(WIDTHS)
         xs, ys = self.places(self.columns, widths), self.places(self.rows, heights)
         a, b, c, d = numbers.choice([(1, 0, 0, 1)] * 3 + [(1, 1, 0, 1), (1, 0, -2, 1), (2, 1, -1, 1), (0, -1, 1, 0), (3, 7, -1, 5)])
@@ -204,14 +204,18 @@ class Release:
         if len(heaps) > 1 and self.numbers.random() < 0.5:
             heaps.pop()  # nobody's
         self.heaps = [[set(heap), [share for share in self.mesh.deal(heap, self.numbers.randint(1, 3)) if share]] for heap in heaps]
-        change = self.numbers.choice(HEAP_MUTATIONS + POLYGON_MUTATIONS) if mutated else None
-        if change in HEAP_MUTATIONS:
-            change(self)
+        changes = [self.numbers.choice(HEAP_MUTATIONS + POLYGON_MUTATIONS)] if mutated else []
+        if mutated and self.numbers.random() < 0.2:
+            changes += [self.numbers.choice(POLYGON_MUTATIONS) for _ in range(self.numbers.randint(1, 3))]
+        for change in changes:
+            if change in HEAP_MUTATIONS:
+                change(self)
         self.draw()
-        if change in POLYGON_MUTATIONS:
-            change(self)
-        if change:
-            self.mutation = change.__name__.replace("_", " ")
+        for change in changes:
+            if change in POLYGON_MUTATIONS:
+                change(self)
+        if changes:
+            self.mutation = "several" if len(changes) > 1 else changes[0].__name__.replace("_", " ")
 
     def drawn(self, triangles):
         return Drawing(self.numbers, self.mesh.rings(triangles)).polygon()
@@ -233,6 +237,10 @@ class Release:
     def beside(self, point):
         dx, dy = self.numbers.choice([(1, 0), (-1, 0), (0, 1), (0, -1)])
         return tuple(max(-LIMIT, min(LIMIT, value)) for value in (point[0] + dx, point[1] + dy))
+
+
+def copied(polygon):
+    return [[list(ring) for ring in member] for member in polygon]
 
 
 def replace_point(polygon, old, new):
@@ -319,14 +327,14 @@ def piece_of_another_parcel(release):
 
 def piece_twice(release):
     name, parcel, kind, polygon = release.numbers.choice(release.pieces)
-    release.pieces.append((name + "bis", parcel, kind, [[list(ring) for ring in member] for member in polygon]))
+    release.pieces.append((name + "bis", parcel, kind, copied(polygon)))
 
 
 def replaced(release, **rings):
     """In place of the release: a parcel with one piece of each ring, laid out by one map."""
     a, b, c, d = release.numbers.choice([(1, 0, 0, 1), (0, -1, 1, 0), (1, -1, 1, 1), (2, 1, 1, 1)])
     polygons = {name: [[[(a * x + b * y, c * x + d * y) for x, y in ring]]] for name, ring in rings.items()}
-    release.parcels = [(name, polygon) for name, polygon in polygons.items()]
+    release.parcels = [(name, copied(polygon)) for name, polygon in polygons.items()]
     release.pieces = [(f"C.{name}", name, "G", polygon) for name, polygon in polygons.items()]
 
 
