@@ -13,7 +13,7 @@ use Rattle.lpis_covers.specs.declared.fault.TableCode.{TableCode}
 use Rattle.lpis_covers.specs.declared.fault.TableFault.{TableFault}
 use Rattle.lpis_covers.specs.declared.fault.TableFault.TheVariants.{Memory, At}
 use Rattle.lpis.specs.AreaAnswer.{answer_from, answer_of, area_table, line_of}
-use Rattle.lpis.specs.Runs.{Tells, polygons_left}
+use Rattle.lpis.specs.private.Runs.{Tells, polygons_left}
 use Rattle.lpis.specs.Status.{done}
 
 -- from the first reading, no fault was found, and the lines were written up to now

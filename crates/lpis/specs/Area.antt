@@ -1,4 +1,4 @@
--- Printed areas.
+-- The printed area of a doubled area: square metres with five decimals, every digit.
 use Rattle.std.specs.Prelude.{◌+◌, ◌*◌, ◌/◌, ◌%◌, ◌^◌, ◌++◌, ◌∷◌, ℕ, zero, suc, ℤ, pos, negsuc, nat_abs, List, [], codes}
 use Rattle.std.specs.Fmt.{decimal}
 

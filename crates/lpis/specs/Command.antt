@@ -1,8 +1,6 @@
 -- The program's command line.
-use Rattle.std.specs.Prelude.{◌≡◌, List, Option, Some, None, codes, true, false}
-use Rattle.clap.specs.Words.{App, Row, Rule, Text, app_of, first_of, new_app, new_rule, with_rule, with_subcommand}
-use Rattle.clap.specs.declared.builder.command.Command.{Command}
-use Rattle.clap.specs.declared.builder.command.Command.TheViews.{out-Command}
+use Rattle.std.specs.Prelude.{◌≡◌, List, Option, Some, None, codes, true}
+use Rattle.clap.specs.Words.{App, Row, Rule, Text, first_of, new_app, new_rule, with_rule, with_subcommand}
 use Rattle.clap.specs.declared.builder.ArgAction.TheVariants.{Set}
 use Rattle.lpis.specs.declared.command.Cmd.{Cmd}
 use Rattle.lpis.specs.declared.command.Cmd.TheVariants.{Area, Check}
@@ -26,10 +24,6 @@ wanting_command a = record a { top = record a.top { subcommand_required = true }
 -- the program with its commands
 abbrev pub command_line_app : App
 command_line_app = with_subcommand (with_subcommand (wanting_command (new_app (codes "lpis"))) area_app.top) check_app.top
-
--- a command of `clap` that is this one, with nothing global
-abbrev pub IsCommandOf : App → Command → Type 0
-IsCommandOf a c = (app_of c ≡ a) × ((out-Command c).has_globals ≡ false)
 
 -- the command has this name, and its words are those of its arguments
 abbrev pub IsNamed : Cmd → Text → List Row → Type 0

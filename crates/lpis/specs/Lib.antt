@@ -1,11 +1,10 @@
 pub mod Area
 pub mod AreaAnswer
 pub mod CheckAnswer
-pub mod CheckRuns
 pub mod Command
 pub mod Failures
 pub mod Refusals
 pub mod Report
-pub mod Runs
 pub mod Status
 pub mod Streams
+pub mod private

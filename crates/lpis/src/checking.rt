@@ -7,7 +7,7 @@ ghost use Rattle.lpis_cert.specs.declared.cert.Cert.{Cert};
 ghost use Rattle.lpis_checker.specs.GoodCertificate.{IsGood};
 ghost use Rattle.lpis_checker.specs.SoundMap.{IsSoundMap};
 ghost use Rattle.lpis.specs.CheckAnswer.{AreRead, Ends, Halts, Inputs, IsAnswer, IsCertAnswer, IsCheckAnswer, IsProved};
-ghost use Rattle.lpis.specs.CheckRuns.{inputs_of};
+ghost use Rattle.lpis.specs.private.CheckRuns.{inputs_of};
 ghost use Rattle.lpis.specs.Failures.{IsUnchecked};
 ghost use Rattle.lpis.specs.Refusals.{cert_refusal_text, check_refusal_text, refusal_text};
 ghost use Rattle.lpis.specs.Report.{report_text};

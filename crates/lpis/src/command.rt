@@ -2,7 +2,8 @@
 
 ghost use Rattle.std.specs.Prelude.{◌≡◌, IfOk, IfSome, Some, false, map};
 ghost use Rattle.clap.specs.Words.{FailsBy, fault_of, first_of, found_of, rows_of, rule_of, subcommand_of};
-ghost use Rattle.lpis.specs.Command.{IsCommand, IsCommandOf, IsNamed, area_app, check_app, command_line_app, word_rule};
+ghost use Rattle.lpis.specs.Command.{IsCommand, IsNamed, area_app, check_app, command_line_app, word_rule};
+ghost use Rattle.lpis.specs.private.Commands.{IsCommandOf};
 
 use clap::{Arg, ArgAction, ArgMatches, Command, Error};
 use std::alloc::{AllocError, Global};

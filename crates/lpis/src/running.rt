@@ -2,7 +2,7 @@
 
 ghost use Rattle.std.specs.Prelude.{◌≡◌, ℕ, List, IfErr, IfOk};
 ghost use Rattle.lpis.specs.AreaAnswer.{Answers, Halts, answer_from, answer_of};
-ghost use Rattle.lpis.specs.Runs.{Tells, polygons_left};
+ghost use Rattle.lpis.specs.private.Runs.{Tells, polygons_left};
 ghost use Rattle.lpis.specs.Streams.{IsRead};
 ghost use Rattle.lpis_covers.specs.declared.fault.Table.TheVariants as tables;
 

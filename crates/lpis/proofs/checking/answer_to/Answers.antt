@@ -1,6 +1,6 @@
 use Rattle.std.proofs.Common.{◌∙◌, sym}
 use Rattle.std.proofs.lemmas.Result.{IfOk-weaker}
-use Rattle.lpis.specs.CheckRuns.{inputs_of}
+use Rattle.lpis.specs.private.CheckRuns.{inputs_of}
 use Rattle.lpis.proofs.CheckLemmas.{proved-of}
 use Rattle.lpis.proofs.checking.answer_to.Goals as goal
 

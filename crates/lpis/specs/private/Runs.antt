@@ -1,4 +1,4 @@
--- What a run knows before it writes. Machinery: only private contracts cite this file.
+-- What a run knows before it writes.
 use Rattle.std.specs.Prelude.{◌≡◌, ◌+◌, ◌++◌, [], ℕ, List, map, option_to_list, Result, Ok, Err}
 use Rattle.lpis_rings.specs.declared.polygon.Member.{Member}
 use Rattle.lpis_covers.specs.declared.fault.TableFault.{TableFault}

@@ -1,4 +1,4 @@
--- The bytes that a check has read. Machinery: only private contracts cite this file.
+-- The bytes that a check has read.
 use Rattle.lpis.specs.CheckAnswer.{Inputs}
 use Rattle.lpis.specs.declared.checking.InputBytes.{InputBytes}
 
