@@ -19,7 +19,7 @@ use crate::part::{PairLine, ParcelPart, PiecePart};
 use crate::rest::Rest;
 use lpis_covers::Id;
 use lpis_points::Triangle;
-use lpis_rings::Sequence;
+use lpis_rings::{Sequence, without_spare};
 use std::alloc::Global;
 
 /// A piece of its lines' values.
@@ -175,6 +175,8 @@ fn finish(
         triangles: _,
         flats: _,
     } = draft;
+    let pieces = without_spare(pieces)?;
+    let parcels = without_spare(parcels)?;
     Ok(cert_of(pieces, parcels, pairs))
 }
 

@@ -19,6 +19,7 @@ use crate::rest::{Rest, front_line};
 use crate::version::Version;
 use crate::words::Words;
 use lpis_points::Triangle;
+use lpis_rings::without_spare;
 use std::alloc::Global;
 
 /// The first line's kind and further words.
@@ -88,7 +89,7 @@ pub(crate) fn corner_lines(
         triangles.push(triangle)?;
         left = after;
     }
-    Ok((triangles, left))
+    Ok((without_spare(triangles)?, left))
 }
 
 /// A pair line.
@@ -122,7 +123,7 @@ pub(crate) fn pair_lines(
         pairs.push(pair)?;
         left = after;
     }
-    Ok((pairs, left))
+    Ok((without_spare(pairs)?, left))
 }
 
 /// The last line.

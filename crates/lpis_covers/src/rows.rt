@@ -6,7 +6,7 @@ ghost use Rattle.lpis_covers.specs.Rows.{RowsAnswer};
 use crate::fault::{Table, TableFault};
 use crate::reader::TableReader;
 use csv::ByteRecord;
-use lpis_rings::Sequence;
+use lpis_rings::{Sequence, without_spare};
 use std::alloc::Global;
 
 /// The wanted columns of the rows before the first fault of length or number, as bytes, and that fault.
@@ -36,7 +36,7 @@ pub fn read_table(
         }
     };
     Ok(Rows {
-        rows: Sequence::new(rows),
+        rows: Sequence::new(without_spare(rows)?),
         stop,
     })
 }

@@ -35,7 +35,7 @@ impl Row {
 pub(crate) fn copy_rows(alloc: Global, rows: &[Row]) -> Result<Vec<Row>, AllocError>
     ensures { IfOk result (λ v. v.items ≡ rows.now) }
 {
-    let mut copies = Vec::new(alloc);
+    let mut copies = Vec::with_capacity(alloc, rows.len())?;
     for row in rows {
         copies.push(row.copy()?)?;
     }

@@ -1,4 +1,4 @@
-//! Rings and polygons, their areas, their edges, and the points that they contain. No call takes memory.
+//! Rings and polygons, their areas, their edges, and the points that they contain. No call takes memory but `without_spare`.
 //!
 //! | Call | Answer |
 //! |---|---|
@@ -8,6 +8,7 @@
 //! | `edges` | the directed edges of a polygon in normal orientation, members in order, each shell before its holes |
 //! | `turns` | the sum of the crossings of these edges by a point |
 //! | `contains` | whether the number of these edges with a crossing other than 0 is odd |
+//! | `without_spare` | the same list in a block of its length |
 //!
 //! Each answer is proved to be that of the definitions in `specs/Ring.antt`, `specs/Polygon.antt`, `specs/Area.antt` and
 //! `specs/Edges.antt`. What follows from these definitions at every rational point stands in `laws`.
@@ -27,5 +28,5 @@ pub use area::{area2, shoelace};
 pub use crossings::{contains, edges, turns};
 pub use polygon::{BadPolygon, MOST_POINTS, Member, Polygon, PolygonFault};
 pub use ring::{BadRing, Ring, RingFault};
-pub use sequence::Sequence;
+pub use sequence::{Sequence, without_spare};
 pub use walks::Edges;

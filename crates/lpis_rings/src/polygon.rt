@@ -111,9 +111,8 @@ impl Member {
 impl Polygon {
     ghost use Rattle.lpis_rings.specs.declared.polygon.PolygonFault.TheVariants.{NoMember};
 
-    /// The polygon of these members, which keeps no room for more. Where they are none they come back, with `NoMember` for
-    /// no member and else `TooMany`.
-    pub fn new(mut members: Vec<Member>) -> Result<Polygon, BadPolygon>
+    /// The polygon of these members. Where they are none they come back, with `NoMember` for no member and else `TooMany`.
+    pub fn new(members: Vec<Member>) -> Result<Polygon, BadPolygon>
         ensures same { MatchResult result (λ polygon. polygon ≡ members.items) (λ bad. bad.members ≡ members) }
         ensures polygon { MatchResult result (λ _. IsPolygon members.items) (λ _. IsPolygon members.items → ⊥) }
         ensures why { MatchResult result (λ _. Unit {0}) (λ bad. bad.why ≡ NoMember ↔ (members.items ≡ [])) }
@@ -126,7 +125,6 @@ impl Polygon {
             let why = PolygonFault::TooMany;
             return Err(BadPolygon { members, why });
         }
-        members.shrink_to_fit();
         Ok(Polygon { members })
     }
 

@@ -59,9 +59,8 @@ fn is_closed(points: &[Point]) -> bool
 impl Ring {
     ghost use Rattle.lpis_rings.specs.declared.ring.RingFault.TheVariants.{Short, Unclosed};
 
-    /// The ring of these points, which keeps no room for more. Where they are none they come back, with `Short` for fewer
-    /// than four and else `Unclosed`.
-    pub fn new(mut points: Vec<Point>) -> Result<Ring, BadRing>
+    /// The ring of these points. Where they are none they come back, with `Short` for fewer than four and else `Unclosed`.
+    pub fn new(points: Vec<Point>) -> Result<Ring, BadRing>
         ensures same { MatchResult result (λ ring. ring ≡ points.items) (λ bad. bad.points ≡ points) }
         ensures ring { MatchResult result (λ _. IsRing points.items) (λ _. IsRing points.items → ⊥) }
         ensures why { MatchResult result (λ _. Unit {0}) (λ bad. bad.why ≡ Short ↔ (length points.items < 4)) }
@@ -74,7 +73,6 @@ impl Ring {
             let why = RingFault::Unclosed;
             return Err(BadRing { points, why });
         }
-        points.shrink_to_fit();
         Ok(Ring { points })
     }
 

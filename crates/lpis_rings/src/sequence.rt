@@ -1,7 +1,8 @@
 //! A list in a field, which contracts see as a list.
 
-ghost use Rattle.std.specs.Prelude.{◌≡◌};
+ghost use Rattle.std.specs.Prelude.{◌≡◌, IfOk};
 
+use std::alloc::AllocError;
 use std::marker::Model;
 
 /// A list that a field of a public type holds. It is made from a `Vec` and gives it back without taking memory, and
@@ -20,11 +21,10 @@ impl<T> Model for Sequence<T> {
 }
 
 impl<T> Sequence<T> {
-    /// The list of a `Vec`'s items, which keeps no room for more.
-    pub fn new(mut items: Vec<T>) -> Sequence<T>
+    /// The list of a `Vec`'s items.
+    pub fn new(items: Vec<T>) -> Sequence<T>
         ensures { result ≡ items.items }
     {
-        items.shrink_to_fit();
         Sequence { items }
     }
 
@@ -40,5 +40,18 @@ impl<T> Sequence<T> {
         ensures { result.items ≡ self }
     {
         self.items
+    }
+}
+
+/// The same list without room to spare, for a reader that is done with it: lists grow by doubling. It is refused where the
+/// allocator refuses the smaller block.
+pub fn without_spare<T: Drop>(mut items: Vec<T>) -> Result<Vec<T>, AllocError>
+    ensures { IfOk result (λ v. v.items ≡ items.items) }
+{
+    items.shrink_to_fit();
+    if items.capacity() > items.len() {
+        Err(AllocError)
+    } else {
+        Ok(items)
     }
 }

@@ -16,7 +16,7 @@ use crate::number::coordinate_of;
 use crate::tokens::{Placed, Token, Tokens};
 use crate::words::{is_dimension, is_empty, is_multi, is_polygon, keyword_code};
 use lpis_points::Point;
-use lpis_rings::{MOST_POINTS, Member, Polygon, Ring, RingFault, Sequence};
+use lpis_rings::{MOST_POINTS, Member, Polygon, Ring, RingFault, Sequence, without_spare};
 use std::alloc::Global;
 use std::marker::Model;
 
@@ -296,7 +296,7 @@ impl Parser {
             points,
             count,
         } = self;
-        match Ring::new(points) {
+        match Ring::new(without_spare(points)?) {
             Ok(ring) => {
                 rings.push(ring)?;
                 Ok(Parser {
@@ -332,7 +332,7 @@ impl Parser {
             count,
         } = self;
         let shell = rings.remove(0);
-        let holes = Sequence::new(rings);
+        let holes = Sequence::new(without_spare(rings)?);
         members.push(Member { shell, holes })?;
         let place = if multi { Place::BodyEnd } else { Place::End };
         Ok(Parser {
@@ -350,7 +350,7 @@ impl Parser {
         ensures { Ends result (limited_step self End) end }
     {
         let code = match self.place {
-            Place::End => match Polygon::new(self.members) {
+            Place::End => match Polygon::new(without_spare(self.members)?) {
                 Ok(polygon) => return Ok(polygon),
                 Err(_) => unreachable!(),
             },

@@ -41,6 +41,6 @@ returns-clause-ok c =
     let rest = c.in_ok-rest.rest in
     let len = length-map ps separator_of ∙ c.in_ok-pairs.ensures.count in
     let none : length rest.text.now ≡ 0 = grind (arith, nat_tests) in
-    whole_cert c.cert_of.result d.pieces.items d.parcels.items ps _ _ c.cert_of.ensures.pieces c.cert_of.ensures.parcels c.cert_of.ensures.pairs (whole_of (map piece_of d.pieces.items) (map parcel_of d.parcels.items) (map separator_of ps) c.args.start.text.now c.args.start.line rest.text.now rest.line
+    whole_cert c.cert_of.result d.pieces.items d.parcels.items ps _ _ (c.cert_of.ensures.pieces ∙ c.in_ok-pieces.ensures) (c.cert_of.ensures.parcels ∙ c.in_ok-parcels.ensures) c.cert_of.ensures.pairs (whole_of (map piece_of d.pieces.items) (map parcel_of d.parcels.items) (map separator_of ps) c.args.start.text.now c.args.start.line rest.text.now rest.line
     (pairs_follow c.args.start.text.now c.args.start.line c.args.count c.args.after.text.now c.args.after.line (map separator_of ps) c.in_ok-pairs.last.text.now c.in_ok-pairs.last.line rest.text.now rest.line len c.requires c.in_ok-pairs.ensures.ok c.in_ok-rest.ensures)
     none)

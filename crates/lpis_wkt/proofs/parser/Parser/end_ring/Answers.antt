@@ -9,9 +9,11 @@ returns-after-bad c = λ b ps e.
     let i = c.self.inside in
     let ctx : Context = record { multi = i.multi; members = i.members.items; rings = i.rings.items } in
     let same : i.points.items ≡ ps = points_at i.place ctx b i.points.items ps (c.self.view_is ∙ e) in
+    let ended = c.in_ok-without_spare.field-0.items in
+    let kept : ended ≡ i.points.items = c.in_ok-without_spare.ensures in
     let why = c.in-Err.ensures.why in
-    let closes : close_ring b i.points.items ≡ Err c.match-bad.code = elim c.match-bad.branch [
-      | in-Short w ↦ short_ring b i.points.items (why.0 w.in-Short.is) ∙ ap Err (sym w.code-is)
-      | in-Unclosed w ↦ open_ring b i.points.items (λ lt. (let short = why.1 lt in let unclosed = w.in-Unclosed.is in cc)) c.in-Err.ensures.ring ∙ ap Err (sym w.code-is)
+    let closes : close_ring b ended ≡ Err c.match-bad.code = elim c.match-bad.branch [
+      | in-Short w ↦ short_ring b ended (why.0 w.in-Short.is) ∙ ap Err (sym w.code-is)
+      | in-Unclosed w ↦ open_ring b ended (λ lt. (let short = why.1 lt in let unclosed = w.in-Unclosed.is in cc)) c.in-Err.ensures.ring ∙ ap Err (sym w.code-is)
     ] in
-    (rw (← same) closes, refl)
+    (rw (← (kept ∙ same)) closes, refl)
