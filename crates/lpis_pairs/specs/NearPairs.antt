@@ -2,11 +2,10 @@
 use Rattle.std.specs.Prelude.{◌≡◌, ℕ, ◌<◌, ◌⊎◌, false, List, slice_get, Some}
 use Rattle.lpis_points.specs.declared.triangle.Triangle.{Triangle}
 use Rattle.lpis_points.specs.Triangles.{are_apart}
-use Rattle.lpis_pairs.specs.declared.source.TheConstants.{MOST_TRIANGLES}
 
 -- the greatest number of triangles that a source of pairs is asked about
 abbrev pub most_triangles : ℕ
-most_triangles = MOST_TRIANGLES
+most_triangles = 2000000
 
 -- i is below j, and the triangles of these numbers are not apart
 pub record IsNear (ts : List Triangle) (i j : ℕ) : Type 0 where
