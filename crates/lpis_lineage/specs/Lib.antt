@@ -3,6 +3,7 @@ pub mod Lineage
 pub mod Lawful
 pub mod Spans
 pub mod Faults
+pub mod Codes
 pub mod Accepts
 pub mod Kinds
 pub mod Changes

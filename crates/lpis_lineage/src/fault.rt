@@ -1,39 +1,94 @@
 //! Why a release's lineage is refused.
 
 ghost use Rattle.std.specs.Prelude.{◌≡◌};
+ghost use Rattle.lpis_lineage.specs.Codes.{code_of, code_text};
 ghost use Rattle.lpis_lineage.specs.declared.fault.LineageFault.TheVariants.{Memory};
 
 use lpis_covers::Id;
 use std::alloc::{AllocError, AllocFailed};
 use thiserror::Error;
 
-/// The first fault of a release's lineage. Rows count from 1.
+/// What is wrong with a release's lineage.
+#[derive(Clone, Copy, Debug, PartialEq, Eq)]
+pub enum LineageCode {
+    /// A row's old identifier is not live in the last release.
+    OldNotLive,
+    /// A row's old identifier is still in the release.
+    OldStillLive,
+    /// A row's successor is not in the release.
+    SuccessorMissing,
+    /// An equal row stands above.
+    DoubledRow,
+    /// An ending beside a successor of the same identifier.
+    EndingBesideSuccessor,
+    /// A dropped identifier has no row.
+    NoRow,
+    /// An identifier that is not live in the last release, and was in an earlier one.
+    UsedBefore,
+}
+
+impl LineageCode {
+    /// The two characters that stand for the code in a refusal: `70` to `76`.
+    pub fn as_str(self) -> &'static str
+        ensures { result.now ≡ code_text self }
+    {
+        match self {
+            LineageCode::OldNotLive => "70",
+            LineageCode::OldStillLive => "71",
+            LineageCode::SuccessorMissing => "72",
+            LineageCode::DoubledRow => "73",
+            LineageCode::EndingBesideSuccessor => "74",
+            LineageCode::NoRow => "75",
+            LineageCode::UsedBefore => "76",
+        }
+    }
+}
+
+/// The first fault of a release's lineage, a variant a code. Rows count from 1.
 #[derive(Debug, Drop, Error)]
 pub enum LineageFault {
     /// Memory ran out.
     #[error("out of memory")]
     Memory,
-    /// 70: the row's old identifier is not live in the last release.
-    #[error("lineage 70 row {row}")]
+    /// The row's old identifier is not live in the last release.
+    #[error("lineage {} row {row}", LineageCode::OldNotLive.as_str())]
     OldNotLive { row: usize },
-    /// 71: the row's old identifier is still in the release.
-    #[error("lineage 71 row {row}")]
+    /// The row's old identifier is still in the release.
+    #[error("lineage {} row {row}", LineageCode::OldStillLive.as_str())]
     OldStillLive { row: usize },
-    /// 72: the row's successor is not in the release.
-    #[error("lineage 72 row {row}")]
+    /// The row's successor is not in the release.
+    #[error("lineage {} row {row}", LineageCode::SuccessorMissing.as_str())]
     SuccessorMissing { row: usize },
-    /// 73: an equal row stands above.
-    #[error("lineage 73 row {row}")]
+    /// An equal row stands above.
+    #[error("lineage {} row {row}", LineageCode::DoubledRow.as_str())]
     DoubledRow { row: usize },
-    /// 74: an ending beside a successor of the same identifier.
-    #[error("lineage 74 row {row}")]
+    /// An ending beside a successor of the same identifier.
+    #[error("lineage {} row {row}", LineageCode::EndingBesideSuccessor.as_str())]
     EndingBesideSuccessor { row: usize },
-    /// 75: a dropped identifier has no row.
-    #[error("lineage 75 {}", .id.as_str())]
+    /// A dropped identifier has no row.
+    #[error("lineage {} {}", LineageCode::NoRow.as_str(), .id.as_str())]
     NoRow { id: Id },
-    /// 76: the identifier is not live in the last release, and was in an earlier one, the last time in this year.
-    #[error("lineage 76 {} {year}", .id.as_str())]
+    /// The identifier is not live in the last release, and was in an earlier one, the last time in this year.
+    #[error("lineage {} {} {year}", LineageCode::UsedBefore.as_str(), .id.as_str())]
     UsedBefore { id: Id, year: u16 },
+}
+
+impl LineageFault {
+    /// Its code; `None` for want of memory.
+    pub fn code(&self) -> Option<LineageCode>
+        ensures { result ≡ code_of self.now }
+    {
+        match self {
+            LineageFault::Memory => None,
+            LineageFault::OldNotLive { .. } => Some(LineageCode::OldNotLive),
+            LineageFault::OldStillLive { .. } => Some(LineageCode::OldStillLive),
+            LineageFault::SuccessorMissing { .. } => Some(LineageCode::SuccessorMissing),
+            LineageFault::DoubledRow { .. } => Some(LineageCode::DoubledRow),
+            LineageFault::EndingBesideSuccessor { .. } => Some(LineageCode::EndingBesideSuccessor),
+            LineageFault::NoRow { .. } => Some(LineageCode::NoRow),
+            LineageFault::UsedBefore { .. } => Some(LineageCode::UsedBefore),
+        }
+    }
 }
 
 impl From<AllocError> for LineageFault {

@@ -20,7 +20,7 @@ mod tracing;
 
 pub use acceptance::accept;
 pub use change::Change;
-pub use fault::{AddFault, LineageFault};
+pub use fault::{AddFault, LineageCode, LineageFault};
 pub use history::History;
 pub use id_set::IdSet;
 pub use kind::Kind;
