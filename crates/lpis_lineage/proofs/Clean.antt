@@ -10,11 +10,12 @@ use Rattle.lpis_lineage.specs.declared.row.Entry.{Entry}
 use Rattle.lpis_lineage.specs.declared.fault.LineageFault.{LineageFault}
 use Rattle.lpis_covers.specs.Ids.{has_id, same_id}
 use Rattle.lpis_lineage.specs.Lineage.{holds, ended, succeeded, names, is_of, is_this, same_new, same_row, last_live}
-use Rattle.lpis_lineage.specs.Lawful.{Either}
+use Rattle.lpis_lineage.specs.Lawful.{IsAnswered}
 use Rattle.lpis_lineage.specs.private.Follows.{Follows}
 use Rattle.lpis_lineage.specs.Faults.{told, is_missing, clashes, row_faults, dropped_faults, told_used, used_faults, faults, first}
 use Rattle.lpis_lineage.specs.Spans.{last_held}
 use Rattle.lpis_lineage.proofs.Basics.{same-exact, same-refl, either, and-left, and-right, or-cases}
+use Rattle.lpis_lineage.proofs.RowCounts.{filter-append, filter-none, filter-some, one-ending, counted-ended, from-answered}
 
 -- ---- lists and tests
 pub told-nil : (b : Bool) (f : LineageFault) (rest : List LineageFault) → told b f rest ≡ [] → (b ≡ false) × (rest ≡ [])
@@ -61,27 +62,6 @@ any-mid p xs x ys e = list_any-append p xs (x ∷ ys) ∙ or-right (list_any p x
 
 pub any-last : {A : Type 0} (p : A → Bool) (xs : List A) (x : A) → list_any p (xs ++ x ∷ []) ≡ true → (list_any p xs ≡ true) ⊎ (p x ≡ true)
 any-last p xs x e = elim (or-cases (list_any p xs) _ (sym (list_any-append p xs (x ∷ [])) ∙ e)) as (λ _. (list_any p xs ≡ true) ⊎ (p x ≡ true)) [ inl a ↦ inl a | inr b ↦ elim (or-cases (p x) false b) as (λ _. (list_any p xs ≡ true) ⊎ (p x ≡ true)) [ inl a ↦ inr a | inr c ↦ absurd cc ] ]
-
-pub filter-append : {A : Type 0} (p : A → Bool) (xs ys : List A) → length (filter p (xs ++ ys)) ≡ length (filter p xs) + length (filter p ys)
-filter-append p [] ys = omega arith
-filter-append p (x ∷ xs) ys = by-test p x xs ys (p x) refl (filter-append p xs ys) where
-  by-test : {A : Type 0} (p : A → Bool) (x : A) (xs ys : List A) (b : Bool) → b ≡ p x → length (filter p (xs ++ ys)) ≡ length (filter p xs) + length (filter p ys) → length (cond b (x ∷ filter p (xs ++ ys)) (filter p (xs ++ ys))) ≡ length (cond b (x ∷ filter p xs) (filter p xs)) + length (filter p ys)
-  by-test p x xs ys true e ih = omega (arith, ih)
-  by-test p x xs ys false e ih = ih
-
-pub filter-none : {A : Type 0} (p : A → Bool) (xs : List A) → list_any p xs ≡ false → length (filter p xs) ≡ 0
-filter-none p [] e = refl
-filter-none p (x ∷ xs) e = by-test p x xs (p x) (filter-none p xs) e where
-  by-test : {A : Type 0} (p : A → Bool) (x : A) (xs : List A) (b : Bool) → (list_any p xs ≡ false → length (filter p xs) ≡ 0) → (b || list_any p xs) ≡ false → length (cond b (x ∷ filter p xs) (filter p xs)) ≡ 0
-  by-test p x xs true ih e = absurd cc
-  by-test p x xs false ih e = ih e
-
-pub filter-some : {A : Type 0} (p : A → Bool) (xs : List A) → list_any p xs ≡ true → 1 ≤ length (filter p xs)
-filter-some p [] e = cc e
-filter-some p (x ∷ xs) e = by-test p x xs (p x) (filter-some p xs) e where
-  by-test : {A : Type 0} (p : A → Bool) (x : A) (xs : List A) (b : Bool) → (list_any p xs ≡ true → 1 ≤ length (filter p xs)) → (b || list_any p xs) ≡ true → 1 ≤ length (cond b (x ∷ filter p xs) (filter p xs))
-  by-test p x xs true ih e = omega arith
-  by-test p x xs false ih e = ih e
 
 -- ---- rows
 same-new-exact : (o p : Option (List ℕ)) → same_new o p ≡ true → o ≡ p
@@ -333,14 +313,12 @@ heir-or-end (r ∷ rs) id e f = by (is_of id r) (is_some r.new) _ _ _ (heir-or-e
   by true false c d g ih e f = refl
   by false b c d g ih e f = ih e f
 
-to-either : (rows : List Row) (id : List ℕ) → Apart rows → list_any (is_of id) rows ≡ true → Either (ended rows id) (succeeded rows id)
-to-either rows id a is = elim (either (succeeded rows id)) as (λ _. Either (ended rows id) (succeeded rows id)) [
-  | inl s ↦ elim (either (ended rows id)) as (λ _. Either (ended rows id) (succeeded rows id)) [ inl e ↦ absurd (let w = a id e s in cc) | inr n ↦ inr (n, s) ]
-  | inr n ↦ inl (heir-or-end rows id is n, n)
-]
-
-from-either : (a b : Bool) → Either a b → a ≡ true → b ≡ true → false ≡ true
-from-either a b e s t = elim e as (λ _. false ≡ true) [ inl l ↦ sym l.1 ∙ t | inr r ↦ sym r.0 ∙ s ]
+answered : (rows : List Row) (id : List ℕ) → ((row : Row) → length (filter (same_row row) rows) ≤ 1) → Apart rows → list_any (is_of id) rows ≡ true → IsAnswered rows id
+answered rows id once a is =
+    elim (either (succeeded rows id)) as (λ _. IsAnswered rows id) [
+      | inl s ↦ elim (either (ended rows id)) as (λ _. IsAnswered rows id) [ inl e ↦ absurd (let w = a id e s in cc) | inr n ↦ inr (filter-none _ rows n, s) ]
+      | inr n ↦ let some = filter-some _ rows (heir-or-end rows id is n) in let few = one-ending rows id once in inl (omega (arith, some, few), n)
+    ]
 
 pub follows-from-clean : (h : List Entry) (live : List (List ℕ)) (rows : List Row) → faults h live rows ≡ [] → Follows h live rows
 follows-from-clean h live rows e =
@@ -348,7 +326,7 @@ follows-from-clean h live rows e =
     let u = both-nil (dropped_faults live rows (last_live h)) _ t.1 in
     record {
       not_used = used-clean h (last_live h) live u.1;
-      answered = λ id was gone. to-either rows id (rows-apart (last_live h) live [] 1 rows t.0 (λ id e s. e)) (dropped-clean live rows (last_live h) u.0 id was gone);
+      answered = λ id was gone. answered rows id (λ row. rows-once (last_live h) live [] 1 rows t.0 row (omega arith)) (rows-apart (last_live h) live [] 1 rows t.0 (λ id e s. e)) (dropped-clean live rows (last_live h) u.0 id was gone);
       named = rows-named (last_live h) live [] 1 rows t.0;
       once = λ row. rows-once (last_live h) live [] 1 rows t.0 row (omega arith);
       dropped = rows-dropped (last_live h) live [] 1 rows t.0;
@@ -356,13 +334,13 @@ follows-from-clean h live rows e =
 
 pub clean-from-follows : (h : List Entry) (live : List (List ℕ)) (rows : List Row) → Follows h live rows → faults h live rows ≡ []
 clean-from-follows h live rows f =
-    let a : Apart rows = λ id e s. let d = f.dropped id (mono _ (is_of id) rows (λ r h. and-left (is_of id r) _ h) e) in from-either _ _ (f.answered id d.0 d.1) e s in
+    let a : Apart rows = λ id e s. let d = f.dropped id (mono _ (is_of id) rows (λ r h. and-left (is_of id r) _ h) e) in from-answered rows id (f.answered id d.0 d.1) e s in
     let r = rows-clean (last_live h) live [] 1 rows f.named f.dropped f.once a in
     let d = clean-dropped live rows (last_live h) (λ id was gone. any-of rows id (f.answered id was gone)) in
     let u = clean-used h (last_live h) live f.not_used in
     ap (λ (x : List LineageFault). x ++ (dropped_faults live rows (last_live h) ++ used_faults h (last_live h) live)) r ∙ ap (λ (x : List LineageFault). x ++ used_faults h (last_live h) live) d ∙ u where
-      any-of : (rows : List Row) (id : List ℕ) → Either (ended rows id) (succeeded rows id) → list_any (is_of id) rows ≡ true
-      any-of rows id e = elim e as (λ _. list_any (is_of id) rows ≡ true) [ inl l ↦ mono _ (is_of id) rows (λ r h. and-left (is_of id r) _ h) l.0 | inr r ↦ mono _ (is_of id) rows (λ r h. and-left (is_of id r) _ h) r.1 ]
+      any-of : (rows : List Row) (id : List ℕ) → IsAnswered rows id → list_any (is_of id) rows ≡ true
+      any-of rows id e = elim e as (λ _. list_any (is_of id) rows ≡ true) [ inl l ↦ mono _ (is_of id) rows (λ r h. and-left (is_of id r) _ h) (counted-ended rows id l.0) | inr r ↦ mono _ (is_of id) rows (λ r h. and-left (is_of id r) _ h) r.1 ]
 
 pub first-told : (b : Bool) (f : LineageFault) (rest : List LineageFault) → b ≡ true → first (told b f rest) ≡ Some f
 first-told true f rest e = refl

@@ -5,8 +5,8 @@ use Rattle.std.specs.List.{list_any, filter}
 use Rattle.lpis_lineage.specs.declared.row.Row.{Row}
 use Rattle.lpis_lineage.specs.declared.row.Entry.{Entry}
 use Rattle.lpis_covers.specs.Ids.{has_id}
-use Rattle.lpis_lineage.specs.Lineage.{holds, entry_at, ended, succeeded, names, is_of, same_row, last_live, last_year}
-use Rattle.lpis_lineage.specs.Lawful.{Drops, Either, IsLawful, RowsFit}
+use Rattle.lpis_lineage.specs.Lineage.{holds, entry_at, names, is_of, same_row, last_live, last_year}
+use Rattle.lpis_lineage.specs.Lawful.{Drops, IsAnswered, IsLawful, RowsFit}
 use Rattle.lpis_lineage.specs.private.Follows.{Follows}
 use Rattle.lpis_lineage.proofs.Basics.{same-refl, entry-before, entry-here, entry-after, in-history}
 
@@ -95,14 +95,14 @@ together h e law f id i j k ij jk hi hk =
       ]
     ]
 
-answers : (h : List Entry) (e : Entry) → IsLawful h → Follows h e.live e.rows → (id : List ℕ) (i : ℕ) → Drops (h ++ e ∷ []) i id → Either (ended (entry_at (h ++ e ∷ []) (i + 1)).rows id) (succeeded (entry_at (h ++ e ∷ []) (i + 1)).rows id)
+answers : (h : List Entry) (e : Entry) → IsLawful h → Follows h e.live e.rows → (id : List ℕ) (i : ℕ) → Drops (h ++ e ∷ []) i id → IsAnswered (entry_at (h ++ e ∷ []) (i + 1)).rows id
 answers h e law f id i d =
     let n = longer h e in
-    let P : Entry → Type 0 = λ x. Either (ended x.rows id) (succeeded x.rows id) in
+    let P : Entry → Type 0 = λ x. IsAnswered x.rows id in
     let il : i < length h = let w = d.0 in omega (arith, n, w) in
-    elim (place (i + 1) (length h)) as (λ _. Either (ended (entry_at (h ++ e ∷ []) (i + 1)).rows id) (succeeded (entry_at (h ++ e ∷ []) (i + 1)).rows id)) [
+    elim (place (i + 1) (length h)) as (λ _. IsAnswered (entry_at (h ++ e ∷ []) (i + 1)).rows id) [
       | inl a ↦ subst P (sym (entry-before h e (i + 1) a)) (law.continued id i (a, sym (hold-before h e i id il) ∙ d.1, sym (hold-before h e (i + 1) id a) ∙ d.2))
-      | inr b ↦ elim b as (λ _. Either (ended (entry_at (h ++ e ∷ []) (i + 1)).rows id) (succeeded (entry_at (h ++ e ∷ []) (i + 1)).rows id)) [
+      | inr b ↦ elim b as (λ _. IsAnswered (entry_at (h ++ e ∷ []) (i + 1)).rows id) [
         | inl at ↦ subst P (sym (entry-at h e (i + 1) at)) (f.answered id (ap (λ (l : List (List ℕ)). has_id l id) (sym (last-at h i at)) ∙ sym (hold-before h e i id il) ∙ d.1) (sym (hold-here h e (i + 1) id at) ∙ d.2))
         | inr c ↦ absurd (let w = d.0 in omega (arith, n, w))
       ]
@@ -184,12 +184,12 @@ back-used (x ∷ t) e law id i hi here =
     let jl : length t < length h = omega arith in
     sym (hold-before (x ∷ t) e (length t) id jl) ∙ law.consecutive id i (length t) (length (x ∷ t)) (omega arith) (omega arith) (hold-before (x ∷ t) e i id il ∙ hi) (hold-here (x ∷ t) e (length (x ∷ t)) id refl ∙ here)
 
-back-answered : (h : List Entry) (e : Entry) → IsLawful (h ++ e ∷ []) → (id : List ℕ) → has_id (last_live h) id ≡ true → has_id e.live id ≡ false → Either (ended e.rows id) (succeeded e.rows id)
+back-answered : (h : List Entry) (e : Entry) → IsLawful (h ++ e ∷ []) → (id : List ℕ) → has_id (last_live h) id ≡ true → has_id e.live id ≡ false → IsAnswered e.rows id
 back-answered h e law id was gone =
     let n = longer h e in
     let last = last-some h id was in
     let il : last.0 < length h = let k = last.1 in omega (arith, k) in
-    let P : Entry → Type 0 = λ x. Either (ended x.rows id) (succeeded x.rows id) in
+    let P : Entry → Type 0 = λ x. IsAnswered x.rows id in
     subst P (entry-at h e (last.0 + 1) last.1) (law.continued id last.0 (let k = last.1 in omega (arith, k, n), hold-before h e last.0 id il ∙ last.2, hold-here h e (last.0 + 1) id last.1 ∙ gone))
 
 back-named : (h : List Entry) (e : Entry) → IsLawful (h ++ e ∷ []) → (id : List ℕ) → list_any (names id) e.rows ≡ true → has_id e.live id ≡ true

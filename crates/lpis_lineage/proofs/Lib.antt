@@ -1,4 +1,5 @@
 pub mod Basics
+pub mod RowCounts
 pub mod Extends
 pub mod Clean
 pub mod SeenLemmas

@@ -8,7 +8,7 @@ use Rattle.lpis_covers.specs.Ids.{has_id, same_id}
 use Rattle.lpis_lineage.specs.Kinds.{times, heirs, with_some}
 use Rattle.lpis_lineage.specs.private.Tally.{IsTally}
 use Rattle.lpis_lineage.proofs.Basics.{same-exact, same-sym}
-use Rattle.lpis_lineage.proofs.Clean.{filter-append, filter-none, filter-some}
+use Rattle.lpis_lineage.proofs.RowCounts.{filter-append, filter-none, filter-some}
 use Rattle.lpis_lineage.proofs.SeenLemmas.{any-push, or-cond}
 use Rattle.lpis_lineage.proofs.Telling.{take-at}
 

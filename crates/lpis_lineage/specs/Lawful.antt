@@ -1,17 +1,21 @@
 -- What a lawful history is, and that its rows fit, over the whole list of releases.
-use Rattle.std.specs.Prelude.{◌≡◌, ◌<◌, ◌≤◌, ◌+◌, ◌⊎◌, Bool, true, false, ℕ, List, [], length}
+use Rattle.std.specs.Prelude.{◌≡◌, ◌<◌, ◌≤◌, ◌+◌, ◌⊎◌, ◌&&◌, true, false, not, ℕ, List, [], length, is_some}
 use Rattle.std.specs.List.{list_any, filter}
 use Rattle.lpis_lineage.specs.declared.row.Row.{Row}
 use Rattle.lpis_lineage.specs.declared.row.Entry.{Entry}
-use Rattle.lpis_lineage.specs.Lineage.{holds, entry_at, ended, succeeded, names, is_of, same_row}
+use Rattle.lpis_lineage.specs.Lineage.{holds, entry_at, succeeded, names, is_of, same_row}
 
 -- the release after place i drops the identifier: the one at i holds it, and the next doesn't
 abbrev pub Drops : List Entry → ℕ → List ℕ → Type 0
 Drops h i id = (i + 1 < length h) × (holds h i id ≡ true) × (holds h (i + 1) id ≡ false)
 
--- exactly one of the two
-abbrev pub Either : Bool → Bool → Type 0
-Either a b = ((a ≡ true) × (b ≡ false)) ⊎ ((a ≡ false) × (b ≡ true))
+-- how many rows end an identifier
+abbrev pub endings : List Row → List ℕ → ℕ
+endings rows id = length (filter (λ row. is_of id row && not (is_some row.new)) rows)
+
+-- the rows give an identifier either one ending or at least one successor, and not both
+abbrev pub IsAnswered : List Row → List ℕ → Type 0
+IsAnswered rows id = ((endings rows id ≡ 1) × (succeeded rows id ≡ false)) ⊎ ((endings rows id ≡ 0) × (succeeded rows id ≡ true))
 
 -- a lawful history
 pub record IsLawful (h : List Entry) : Type 0 where
@@ -20,8 +24,8 @@ pub record IsLawful (h : List Entry) : Type 0 where
   pub years_rise : (i j : ℕ) → i < j → j < length h → (entry_at h i).year < (entry_at h j).year
   -- the releases that hold an identifier are consecutive
   pub consecutive : (id : List ℕ) (i j k : ℕ) → i ≤ j → j ≤ k → holds h i id ≡ true → holds h k id ≡ true → holds h j id ≡ true
-  -- a dropped identifier has, in the release that drops it, either an ending or a successor, and not both
-  pub continued : (id : List ℕ) (i : ℕ) → Drops h i id → Either (ended (entry_at h (i + 1)).rows id) (succeeded (entry_at h (i + 1)).rows id)
+  -- a dropped identifier has, in the release that drops it, either one ending or at least one successor, and not both
+  pub continued : (id : List ℕ) (i : ℕ) → Drops h i id → IsAnswered (entry_at h (i + 1)).rows id
   -- each successor is in its release
   pub successors : (id : List ℕ) (i : ℕ) → list_any (names id) (entry_at h i).rows ≡ true → holds h i id ≡ true
 

@@ -20,8 +20,8 @@ use std::collections::HashMap;
 use std::marker::Model;
 
 /// A lawful list of releases whose rows fit, which contracts see as that list, oldest first: years rise; the releases that
-/// hold an identifier are consecutive; each identifier that a release drops has in that release either an ending or a
-/// successor, and not both; each successor is in its release; no row stands twice; each row's old identifier is one that its
+/// hold an identifier are consecutive; each identifier that a release drops has in that release either one ending or at
+/// least one successor, and not both; each successor is in its release; no row stands twice; each row's old identifier is one that its
 /// release drops; the first release has no rows.
 #[derive(Drop)]
 pub struct History {

@@ -20,7 +20,8 @@ use Rattle.lpis_lineage.specs.Lineage.{entry_at, holds, last_live, last_year}
 use Rattle.lpis_lineage.specs.Order.{IsAscending}
 use Rattle.lpis_lineage.specs.Spans.{first_held, last_held, span_between, span_of}
 use Rattle.lpis_lineage.proofs.Basics.{entry-after, entry-before, entry-here, same-by_order, same-exact, same-refl}
-use Rattle.lpis_lineage.proofs.Clean.{filter-append, filter-none, or-left, or-right}
+use Rattle.lpis_lineage.proofs.RowCounts.{filter-append, filter-none}
+use Rattle.lpis_lineage.proofs.Clean.{or-left, or-right}
 use Rattle.lpis_lineage.proofs.Extends.{follows-back, longer, place}
 use Rattle.lpis_lineage.proofs.SpanLaw.{first-place}
 use Rattle.lpis_lineage.proofs.SpanSteps.{span-more}
