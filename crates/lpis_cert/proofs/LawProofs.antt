@@ -252,7 +252,7 @@ parcels_fit : (ps : List ParcelPart) → AllByRecursion ParcelFits (map parcel_o
 parcels_fit [] = tt
 parcels_fit (p ∷ ps) = (record { id = p.named; flats = all_corners_fit p.flats }, parcels_fit ps)
 
-sum-map : {A B : Type 0} (f : A → B) (g : B → ℕ) (h : A → ℕ) → ((x : A) → g (f x) ≡ h x) → (xs : List A) → sum_by g (map f xs) ≡ sum_by h xs
+pub sum-map : {A B : Type 0} (f : A → B) (g : B → ℕ) (h : A → ℕ) → ((x : A) → g (f x) ≡ h x) → (xs : List A) → sum_by g (map f xs) ≡ sum_by h xs
 sum-map f g h e [] = refl
 sum-map f g h e (x ∷ xs) = sum_by-cons g (f x) (map f xs) ∙ ap₂ (λ (a b : ℕ). a + b) (e x) (sum-map f g h e xs) ∙ sym (sum_by-cons h x xs)
 

@@ -10,4 +10,5 @@ pub mod DraftProofs
 pub mod ReadProofs
 pub mod CertEquality
 pub mod LawProofs
+pub mod Readback
 pub mod WriteProofs

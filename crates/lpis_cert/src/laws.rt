@@ -24,6 +24,11 @@ pub fn texts_have_no_fault()
     ensures { (c : Cert) → verdict (cert_text c) ≡ Ok (2 + length (lines_of (content_of c))) }
 {}
 
+/// A text without a fault is a certificate's: a text is refused for its fault, or it has a certificate.
+pub fn texts_without_fault()
+    ensures { (text : List ℕ) (after : ℕ) → verdict text ≡ Ok after → (c : Cert) × (text ≡ cert_text c) }
+{}
+
 /// A text without a fault that was cut off lacks its next line, or that line's end.
 pub fn cut_texts()
     ensures { (front back : List ℕ) (after : ℕ) → verdict (front ++ back) ≡ Ok after → 0 < length back → verdict front ≡ Err (code.Truncated, length (lines front)) }

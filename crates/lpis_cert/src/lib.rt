@@ -26,6 +26,7 @@ pub use fields::GREATEST_COUNT;
 pub use kind::{Expected, Kind, Stage};
 pub use laws::{
     canonical_numbers, cut_texts, one_value_a_text, spelled_lines, texts_have_no_fault,
+    texts_without_fault,
 };
 pub use part::{PairLine, ParcelPart, PiecePart};
 pub use reading::read_cert;

@@ -1,0 +1,5 @@
+use Rattle.lpis_cert.proofs.Readback.{whose}
+use Rattle.lpis_cert.proofs.laws.texts_without_fault.Goals as goal
+
+pub returns : goal.returns
+returns c = whose
