@@ -1,5 +1,5 @@
 -- A number is read exactly.
-use Rattle.std.proofs.Common.{◌≡◌, ℕ, zero, suc, ◌+◌, ◌*◌, ◌^◌, Bool, true, false, cond, not, ◌&&◌, ◌==◌, List, [], ◌∷◌, ◌++◌, length, drop, ℤ, nat_abs, Ok, Err, refl, sym, ap, ◌∙◌, arith, nat_lt}
+use Rattle.std.proofs.Common.{◌≡◌, ℕ, zero, suc, ◌+◌, ◌*◌, ◌^◌, Bool, true, false, cond, not, ◌&&◌, ◌==◌, List, [], ◌∷◌, ◌++◌, length, drop, ℤ, pos, neg_ℤ, nat_abs, Ok, Err, refl, sym, ap, ◌∙◌, arith, nat_lt}
 use Rattle.std.proofs.lemmas.Bool.Decides.{nat_tests}
 use Rattle.std.specs.List.{list_all}
 use Rattle.std.specs.Char.{digit_value}
@@ -69,3 +69,17 @@ exact w z h =
     let front : size w ≡ digits_value_after 10 (digits_value_after 10 0 (whole w)) (padded coordinate_decimals (decimals w)) = value-append 0 (whole w) (padded coordinate_decimals (decimals w)) in
     let back : digits_value 10 (whole w ++ decimals w) ≡ digits_value_after 10 (digits_value_after 10 0 (whole w)) (decimals w) = value-append 0 (whole w) (decimals w) in
     rw (amount, front, back) (scaled coordinate_decimals (digits_value_after 10 0 (whole w)) (decimals w) c.0)
+
+-- a number is its amount with its sign
+with_sign : (w : List ℕ) (z : ℤ) (negative : Bool) → is_negative w ≡ negative → number w ≡ Ok z → z ≡ signed negative (nat_abs z)
+unfolding number
+with_sign w z negative is h =
+    let c = accepted-by (is_numeral w) (is_fine w) (nat_lt greatest (size w)) _ _ _ (signed (is_negative w) (size w)) z h in
+    let amount : nat_abs z ≡ size w = ap nat_abs (sym c.1) ∙ abs-signed (is_negative w) (size w) in
+    sym c.1 ∙ ap (λ (b : Bool). signed b (size w)) is ∙ ap (λ (n : ℕ). signed negative n) (sym amount)
+
+pub below : (rest : List ℕ) (z : ℤ) → number (45 ∷ rest) ≡ Ok z → z ≡ neg_ℤ (pos (nat_abs z))
+below rest z h = with_sign (45 ∷ rest) z true refl h
+
+pub above : (b : ℕ) (rest : List ℕ) (z : ℤ) → (b ≡ 45 → ⊥) → number (b ∷ rest) ≡ Ok z → z ≡ pos (nat_abs z)
+above b rest z other h = with_sign (b ∷ rest) z false (grind (arith, nat_tests)) h

@@ -1,6 +1,6 @@
 //! Laws of the definitions: functions that do nothing, and whose contracts say them.
 
-ghost use Rattle.std.specs.Prelude.{◌≡◌, ◌↔◌, ◌⊎◌, ◌*◌, ◌^◌, ℕ, ℤ, nat_abs, length, List, [], ◌∷◌, ◌++◌, Ok, Err};
+ghost use Rattle.std.specs.Prelude.{◌≡◌, ◌↔◌, ◌⊎◌, ◌*◌, ◌^◌, ℕ, ℤ, pos, neg_ℤ, nat_abs, length, List, [], ◌∷◌, ◌++◌, Ok, Err};
 ghost use Rattle.lpis_rings.specs.declared.polygon.Member.{Member};
 ghost use Rattle.lpis_wkt.specs.declared.fault.WktCode.{WktCode};
 ghost use Rattle.lpis_wkt.specs.Answer.{polygon_of};
@@ -31,8 +31,11 @@ pub fn one_code()
     ensures { (before : List Token) (t : Token) (code code' : WktCode) → Viable before → (Viable (before ++ t ∷ []) → ⊥) → TableCode before t code → TableCode before t code' → code ≡ code' }
 {}
 
-/// A number is read exactly: with as many digits more as it has decimals, it is what its digits spell with the decimals of
-/// a coordinate more. So 1.25 metres are 125 centimetres: 125 * 10^2 is 10^2 * 125.
+/// A number is read exactly: with as many digits more as it has decimals, its amount is what its digits spell with the
+/// decimals of a coordinate more. So 1.25 metres are 125 centimetres: 125 * 10^2 is 10^2 * 125. Behind a `-` (45) it is
+/// not above 0, else not below.
 pub fn exact_numbers()
-    ensures { (word : List ℕ) (z : ℤ) → number word ≡ Ok z → nat_abs z * 10 ^ length (decimals word) ≡ 10 ^ coordinate_decimals * digits_value 10 (whole word ++ decimals word) }
+    ensures amount { (word : List ℕ) (z : ℤ) → number word ≡ Ok z → nat_abs z * 10 ^ length (decimals word) ≡ 10 ^ coordinate_decimals * digits_value 10 (whole word ++ decimals word) }
+    ensures minus { (rest : List ℕ) (z : ℤ) → number (45 ∷ rest) ≡ Ok z → z ≡ neg_ℤ (pos (nat_abs z)) }
+    ensures plus { (b : ℕ) (rest : List ℕ) (z : ℤ) → (b ≡ 45 → ⊥) → number (b ∷ rest) ≡ Ok z → z ≡ pos (nat_abs z) }
 {}

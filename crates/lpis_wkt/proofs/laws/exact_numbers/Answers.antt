@@ -1,5 +1,5 @@
-use Rattle.lpis_wkt.proofs.Exact.{exact}
+use Rattle.lpis_wkt.proofs.Exact.{exact, below, above}
 use Rattle.lpis_wkt.proofs.laws.exact_numbers.Goals as goal
 
 pub returns : goal.returns
-returns c = exact
+returns c = record { amount = exact; minus = below; plus = above }
