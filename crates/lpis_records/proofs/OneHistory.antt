@@ -19,7 +19,8 @@ use Rattle.lpis_lineage.proofs.Clean.{or-left, or-right}
 use Rattle.lpis_lineage.proofs.Extends.{place}
 use Rattle.lpis_lineage.proofs.SpanLaw.{span-tells}
 use Rattle.lpis_records.specs.Content.{Content, Line, Span, lines_from, text_of}
-use Rattle.lpis_records.specs.Tells.{IsKept, IsSameHistory, IsSpanRow, SpansTell, Tells, covers, lines_of, shown, years_of}
+use Rattle.lpis_records.specs.Tells.{IsKept, IsSameHistory, IsSpanRow, SpansTell, Tells, lines_of, shown, years_of}
+use Rattle.lpis_records.specs.private.Covering.{covers}
 use Rattle.lpis_records.proofs.Ascending.{Ascends, below, below-alone, same-ascending}
 use Rattle.lpis_records.proofs.Years.{all-entries, line-alone, line_below, lines-above, lines-ascend, years-ascend}
 

@@ -1,7 +1,5 @@
 -- What the tables say as a history: relations over whole lists, up to the order of rows.
-use Rattle.std.specs.Prelude.{◌≡◌, ◌<◌, ◌≤◌, ◌&&◌, ◌||◌, ◌++◌, Bool, true, not, is_some, ℕ, ℤ, pos, List, [], ◌∷◌, length, Option, None, Some, IsPermutation}
-use Rattle.std.specs.Ordering.{int_eq}
-use Rattle.std.specs.Int.Signed.{le_z}
+use Rattle.std.specs.Prelude.{◌≡◌, ◌<◌, ◌≤◌, ◌&&◌, ◌++◌, true, not, is_some, ℕ, ℤ, pos, List, [], ◌∷◌, length, Option, None, Some, IsPermutation}
 use Rattle.std.specs.List.{AllByRecursion, Contains, filter, list_any}
 use Rattle.lpis_covers.specs.Ids.{has_id, is_id, same_id}
 use Rattle.lpis_lineage.specs.declared.row.Entry.{Entry}
@@ -89,10 +87,6 @@ pub record IsSameHistory (h k : List Entry) : Type 0 where
   pub years : (i : ℕ) → (entry_at h i).year ≡ (entry_at k i).year
   pub sets : (i : ℕ) (id : List ℕ) → holds h i id ≡ holds k i id
   pub rows : (i : ℕ) → (entry_at h i).rows ≡ (entry_at k i).rows
-
--- a row of `lpis_span` gives its identifier to a year's release: since <= year and (until = 0 or year <= until)
-abbrev pub covers : Span → ℕ → Bool
-covers s year = le_z s.since (pos year) && (int_eq s.until (pos 0) || le_z (pos year) s.until)
 
 -- the identifiers of a release that no release of the history holds
 pub record IsFresh (h : List Entry) (live fresh : List (List ℕ)) : Type 0 where
