@@ -1,0 +1,9 @@
+//! A register of releases, kept in the tables of an SQL database.
+#![tactic(auto)]
+
+mod publishing;
+mod queries;
+mod reading;
+mod statements;
+mod tables;
+mod writing;
