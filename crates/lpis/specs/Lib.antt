@@ -3,6 +3,7 @@ pub mod AreaAnswer
 pub mod CheckAnswer
 pub mod Command
 pub mod Failures
+pub mod Files
 pub mod Refusals
 pub mod Report
 pub mod Status

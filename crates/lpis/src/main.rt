@@ -6,6 +6,7 @@ pub mod checking;
 pub mod command;
 pub mod failure;
 pub mod laws;
+pub mod named;
 mod outputs;
 pub mod printing;
 pub mod reading;
@@ -18,24 +19,22 @@ pub mod status;
 use checking::run_check;
 use clap::error::ErrorKind;
 use command::{Cmd, command_of};
-use failure::{Failure, Name, print_failure};
+use failure::{Failure, print_failure};
+use named::{CommandFiles, NamedFile, TableFiles, named_files};
 use running::run_area;
-use status::{DONE, FAILED, UNREADABLE};
+use status::{status_of, usage_ends};
 use std::fs::File;
 use std::process::ExitCode;
 use std::{env, fs, io};
 
 /// Ends with the status of the command, or tells on standard error why there is none.
 fn main(rt: HostRuntime) -> ExitCode {
-    let status = match run(&rt) {
-        Ok(status) => status,
-        Err(failure) => {
-            // Where standard error is closed, the status alone tells.
-            let _ = print_failure(failure, &mut rt.stderr());
-            FAILED
-        }
-    };
-    ExitCode::from(status)
+    let ran = run(&rt);
+    if let Err(failure) = ran {
+        // Where standard error is closed, the status alone tells.
+        let _ = print_failure(failure, &mut rt.stderr());
+    }
+    ExitCode::from(status_of(ran))
 }
 
 /// Runs the command that the words of the command line ask for.
@@ -44,8 +43,8 @@ fn run(rt: &HostRuntime) -> Result<u8, Failure> {
     let words: Vec<String> = match env::args(rt) {
         Ok(words) => words.collect(alloc)?,
         Err(error) if error.kind() == io::ErrorKind::InvalidData => {
-            let _ = eprintln!(rt; "error: a word of the command line is not UTF-8");
-            return Ok(UNREADABLE);
+            let printed = eprintln!(rt; "error: a word of the command line is not UTF-8");
+            return usage_ends(ErrorKind::InvalidValue, printed.is_ok());
         }
         Err(_) => return Err(Failure::Memory),
     };
@@ -54,62 +53,47 @@ fn run(rt: &HostRuntime) -> Result<u8, Failure> {
         texts.push(word.as_str())?;
     }
     match command_of(alloc, texts.as_slice()) {
-        Ok(Cmd::Area { file }) => area(rt, file),
-        Ok(Cmd::Check { dir, cert }) => check(rt, dir, cert),
+        Ok(command) => perform(rt, command),
         Err(error) => tell(rt, &error),
     }
 }
 
-/// `area FILE`.
-fn area(rt: &HostRuntime, file: &str) -> Result<u8, Failure> {
-    let table = open(rt, file, Name::Area)?;
-    run_area(rt.alloc(), table, &mut rt.stdout())
+/// Prints the text of `clap`: a fault of the command line on standard error, help on standard output.
+fn tell(rt: &HostRuntime, error: &clap::Error) -> Result<u8, Failure> {
+    let kind = error.kind();
+    // Want of memory is a failure, which has a line of its own.
+    let is_printed = kind != ErrorKind::OutOfMemory && error.print(rt).is_ok();
+    usage_ends(kind, is_printed)
+}
+
+/// Runs a command on its files, which are opened first, in their order.
+fn perform(rt: &HostRuntime, command: Cmd<'_>) -> Result<u8, Failure> {
+    let alloc = rt.alloc();
+    let mut out = rt.stdout();
+    match named_files(alloc, command)? {
+        CommandFiles::Area { table } => run_area(alloc, open(rt, &table)?, &mut out),
+        CommandFiles::Check { tables, cert } => {
+            let (parcels, covers, classes) = open_tables(rt, &tables)?;
+            let cert = open(rt, &cert)?;
+            run_check(alloc, parcels, covers, classes, cert, &mut out)
+        }
+    }
 }
 
 /// Opens an input, or tells that it cannot be read.
-fn open(rt: &HostRuntime, path: &str, name: Name) -> Result<File, Failure> {
-    match fs::open(rt, path) {
+fn open(rt: &HostRuntime, input: &NamedFile) -> Result<File, Failure> {
+    match fs::open(rt, input.path.as_str()) {
         Ok(file) => Ok(file),
-        Err(_) => Err(Failure::Read(name)),
+        Err(_) => Err(Failure::Read(input.name)),
     }
 }
 
-/// `check DIR CERT`.
-fn check(rt: &HostRuntime, dir: &str, cert: &str) -> Result<u8, Failure> {
-    let alloc = rt.alloc();
-    let parcels = open(
-        rt,
-        format!(in alloc; "{dir}/parcels.csv")?.as_str(),
-        Name::Parcels,
-    )?;
-    let covers = open(
-        rt,
-        format!(in alloc; "{dir}/covers.csv")?.as_str(),
-        Name::Covers,
-    )?;
-    let classes = open(
-        rt,
-        format!(in alloc; "{dir}/classes.csv")?.as_str(),
-        Name::Classes,
-    )?;
-    let cert = open(rt, cert, Name::Cert)?;
-    run_check(alloc, parcels, covers, classes, cert, &mut rt.stdout())
-}
-
-/// Prints the text of `clap`: a fault of the command line on standard error, help on standard output.
-fn tell(rt: &HostRuntime, error: &clap::Error) -> Result<u8, Failure> {
-    if error.kind() == ErrorKind::OutOfMemory {
-        return Err(Failure::Memory);
-    }
-    let printed = error.print(rt);
-    if error.use_stderr() {
-        // Where standard error is closed, the status alone tells.
-        return Ok(UNREADABLE);
-    }
-    match printed {
-        Ok(()) => Ok(DONE),
-        Err(_) => Err(Failure::Write(Name::Out)),
-    }
+/// Opens the tables of a release, or tells the first that cannot be read.
+fn open_tables(rt: &HostRuntime, tables: &TableFiles) -> Result<(File, File, File), Failure> {
+    let parcels = open(rt, &tables.parcels)?;
+    let covers = open(rt, &tables.covers)?;
+    let classes = open(rt, &tables.classes)?;
+    Ok((parcels, covers, classes))
 }
 
 #[cfg(test)]

@@ -4,8 +4,14 @@ use super::checks::{CLASSES, COVERS, PARCELS, SQUARE_RING, WHOLE};
 use super::{SQUARE, table_of};
 use crate::checking::run_check;
 use crate::failure::{Failure, Name, print_failure};
+use crate::printing::{PrintFault, print_area};
 use crate::reading::{ReadFault, read_all};
+use crate::report::write_report;
 use crate::running::run_area;
+use lpis_cert::read_cert;
+use lpis_checker::check;
+use lpis_pairs::Sweep;
+use lpis_parcels::read_release;
 use std::io;
 use std::io::{Error, ErrorKind, Read, Write};
 use std::test::Fail;
@@ -72,6 +78,49 @@ impl Write for Full {
     fn flush(&mut self) -> io::Result<()> {
         Ok(())
     }
+}
+
+/// A writer that answers an error of one kind.
+#[derive(Drop)]
+struct Refusing {
+    kind: ErrorKind,
+}
+
+impl Write for Refusing {
+    fn write(&mut self, _buf: &[u8]) -> io::Result<usize> {
+        Err(Error::from(self.kind))
+    }
+
+    fn flush(&mut self) -> io::Result<()> {
+        Ok(())
+    }
+}
+
+#[test]
+fn a_writer_that_wants_memory_is_told_apart(rt: HostRuntime) -> Result<(), Fail> {
+    let alloc = rt.alloc();
+    let parcels = format!(in alloc; "{PARCELS}A,{SQUARE_RING}\n")?;
+    let covers = format!(in alloc; "{COVERS}C1,A,G,{SQUARE_RING}\n")?;
+    let release = read_release(
+        alloc,
+        parcels.as_bytes(),
+        covers.as_bytes(),
+        CLASSES.as_bytes(),
+    )?;
+    let cert = read_cert(alloc, WHOLE.as_bytes())?;
+    let yes = check(alloc, &release, &cert, &Sweep)?;
+    for (kind, fault) in [
+        (ErrorKind::OutOfMemory, PrintFault::Memory),
+        (ErrorKind::StorageFull, PrintFault::Write),
+        (ErrorKind::BrokenPipe, PrintFault::Write),
+    ] {
+        assert!(rt; print_area(100, &mut Refusing { kind }) == Err(fault));
+        assert!(rt; write_report(&yes, &mut Refusing { kind }) == Err(fault));
+        // A run tells of its output alone.
+        let answer = run_area(alloc, b"wkt\n\"\"\n".as_slice(), &mut Refusing { kind });
+        assert!(rt; answer == Err(Failure::Write(Name::Out)));
+    }
+    Ok(())
 }
 
 #[test]
