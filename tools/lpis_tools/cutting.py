@@ -119,10 +119,11 @@ def ask(command, batch):
     return number, batch[number].fault(told)
 
 
-def search(batches_of, ask_one, count, progress, workers=None):
-    """What `ask_one` tells of each item that has a fault. After a refusal the told item is set aside and the rest is parted."""
+def search(batches_of, ask_one, count, progress, most=None):
+    """What `ask_one` tells of each item that has a fault. After a refusal the told item is set aside and the rest is parted. Where `most`
+    are told, the search ends."""
     told, done, waiting = [], 0, set()
-    with ThreadPoolExecutor(workers or os.cpu_count() or 1) as pool:
+    with ThreadPoolExecutor(os.cpu_count() or 1) as pool:
         def submit(batch):
             waiting.add(pool.submit(lambda: (batch, ask_one(batch))))
 
@@ -139,6 +140,10 @@ def search(batches_of, ask_one, count, progress, workers=None):
                     told.append(fault)
                     done += 1
                     rest = batch[:number] + batch[number + 1 :]
+                    if most and len(told) >= most:
+                        for other in waiting:
+                            other.cancel()
+                        return told
                     size = -(-len(rest) // PARTS)
                     for i in range(0, len(rest), size or 1):
                         submit(rest[i : i + size])

@@ -11,6 +11,7 @@ from .tables import COLUMNS, KEYS, Table, path_of, shown
 NAMES = ("parcels", "covers", "classes")
 MOST_ROWS = 200_000
 ROWS_A_CALL = 50_000
+MOST_FAULTS = 1_000  # of one table: where a whole column is wrong, more would be told for an hour
 
 
 @dataclass
@@ -30,6 +31,7 @@ class Release:
     incomplete: set = field(default_factory=set)  # parcels of which a piece's row is faulty
     shapes: dict = field(default_factory=dict)  # (parcel or piece, identifier) to (members, where)
     is_sound: bool = False
+    is_cut_off: bool = False  # more faults of rows than are looked for: shapes are not looked at
 
     def shape_of(self, kind, name):
         return self.shapes.get((kind.rstrip("s"), name), (None, ""))
@@ -53,7 +55,9 @@ def read_release(command, folder, shower):
     bad = {name: set() for name in NAMES}
     for name in NAMES:
         faults_of_rows(command, tables[name], release, bad[name], shower(f"rows of {name}"))
-    join(tables, release, bad)
+    release.is_cut_off = any(len(rows) >= MOST_FAULTS for rows in bad.values())
+    if not release.is_cut_off:
+        join(tables, release, bad)
     release.faults.sort(key=lambda fault: (NAMES.index(fault.table), fault.row))
     return release
 
@@ -69,7 +73,7 @@ def faults_of_rows(command, table, release, bad, progress):
     """Rows that `lpis` refuses for themselves, then identifiers that stood before."""
     rows = list(range(1, min(len(table.records), MOST_ROWS + 1)))
     parts = [rows[i : i + ROWS_A_CALL] for i in range(0, len(rows), ROWS_A_CALL)]
-    for row, code, line in cutting.search(parts, lambda part: ask(command, table, part), len(rows), progress):
+    for row, code, line in cutting.search(parts, lambda part: ask(command, table, part), len(rows), progress, MOST_FAULTS):
         add(release, bad, table, row, code, line)
     if len(table.records) > MOST_ROWS + 1:
         add(release, bad, table, MOST_ROWS + 1, "3a")
