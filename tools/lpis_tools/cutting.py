@@ -4,6 +4,8 @@ A unit is a list of parcels with their pieces. The units of one call stand in ce
 none is refused for the sake of another; a refusal names its unit by the identifiers, and a place is moved back.
 """
 
+from __future__ import annotations
+
 import math
 import os
 import subprocess

@@ -1,5 +1,7 @@
 """A line `refused ..` taken apart by the places of its words (an identifier may be any word, `row` and `at` too)."""
 
+from __future__ import annotations
+
 from dataclasses import dataclass, field
 from fractions import Fraction
 

@@ -1,5 +1,7 @@
 """All faults of a release's rows, and the parcels and pieces that can be read."""
 
+from __future__ import annotations
+
 import csv
 import os
 import tempfile
