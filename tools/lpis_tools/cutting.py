@@ -19,6 +19,7 @@ FAR = 1_900_000_000  # of the coordinates' range, with room to spare
 GAP = 1_000
 POINTS_A_CALL = 200_000
 UNITS_A_CALL = 4_000
+MOST_FAULTS = 200_000
 PARTS = 8  # what is left after a refusal is asked in so many calls
 
 
@@ -124,13 +125,17 @@ def ask(command, batch):
 def search(batches_of, ask_one, count, progress, most=None):
     """What `ask_one` tells of each item that has a fault. After a refusal the told item is set aside and the rest is parted. Where `most`
     are told, the search ends."""
-    told, done, waiting = [], 0, set()
-    with ThreadPoolExecutor(os.cpu_count() or 1) as pool:
+    told, done, waiting, workers = [], 0, set(), os.cpu_count() or 1
+    with ThreadPoolExecutor(workers) as pool:
         def submit(batch):
             waiting.add(pool.submit(lambda: (batch, ask_one(batch))))
 
-        for batch in batches_of:
-            submit(batch)
+        def submit_more():
+            while len(waiting) < 2 * workers and (batch := next(batches_of, None)) is not None:
+                submit(batch)
+
+        batches_of = iter(batches_of)
+        submit_more()
         while waiting:
             ready, waiting = wait(waiting, return_when=FIRST_COMPLETED)
             for job in ready:
@@ -150,10 +155,11 @@ def search(batches_of, ask_one, count, progress, most=None):
                     for i in range(0, len(rest), size or 1):
                         submit(rest[i : i + size])
             progress(done, count, len(told))
+            submit_more()
     return told
 
 
 def all_faults(command, units, progress):
-    """The first fault of each unit that has one."""
+    """The first fault of each unit that has one; no more than `MOST_FAULTS` and a few."""
     units = list(units)
-    return search(batches(units), lambda batch: ask(command, batch), len(units), progress)
+    return search(batches(units), lambda batch: ask(command, batch), len(units), progress, MOST_FAULTS)
