@@ -6,3 +6,6 @@ pub mod Years
 pub mod OneHistory
 pub mod Moving
 pub mod Fresh
+pub mod KnownLemmas
+pub mod ReleaseMore
+pub mod Saying

@@ -33,7 +33,7 @@ use Rattle.lpis_records.proofs.SpanRows.{spans-moved, told-some}
 
 -- ---- years and rows of one release more
 
-years-more : (h : List Entry) (e : Entry) → years_of (h ++ e ∷ []) ≡ years_of h ++ pos e.year ∷ []
+pub years-more : (h : List Entry) (e : Entry) → years_of (h ++ e ∷ []) ≡ years_of h ++ pos e.year ∷ []
 years-more [] e = refl
 years-more (x ∷ h) e = ap (λ (l : List ℤ). pos x.year ∷ l) (years-more h e)
 
@@ -41,7 +41,7 @@ append-assoc : {A : Type 0} (xs ys zs : List A) → (xs ++ ys) ++ zs ≡ xs ++ (
 append-assoc [] ys zs = refl
 append-assoc {A = A} (x ∷ xs) ys zs = ap (λ (l : List A). x ∷ l) (append-assoc xs ys zs)
 
-lines-more : (h : List Entry) (e : Entry) → lines_of (h ++ e ∷ []) ≡ lines_of h ++ lines_from (pos e.year) 0 e.rows
+pub lines-more : (h : List Entry) (e : Entry) → lines_of (h ++ e ∷ []) ≡ lines_of h ++ lines_from (pos e.year) 0 e.rows
 lines-more [] e = append-nil (lines_from (pos e.year) 0 e.rows)
 lines-more (x ∷ h) e = ap (λ (l : List Line). lines_from (pos x.year) 0 x.rows ++ l) (lines-more h e) ∙ sym (append-assoc (lines_from (pos x.year) 0 x.rows) (lines_of h) (lines_from (pos e.year) 0 e.rows))
 

@@ -1,6 +1,6 @@
 //! Rows as a database gives them.
 
-ghost use Rattle.std.specs.Prelude.{◌≡◌, string_bytes};
+ghost use Rattle.std.specs.Prelude.{◌≡◌, ◌↔◌, IsTrue, pos, string_bytes};
 
 use std::marker::Model;
 
@@ -26,6 +26,13 @@ impl FormatRow {
         ensures version { result.version ≡ version }
     {
         FormatRow { one, version }
+    }
+
+    /// Whether it has the key 1 and this version.
+    pub(crate) fn is_of(&self, version: i64) -> bool
+        ensures { IsTrue result ↔ (self.now ≡ record { one = pos 1; version = version }) }
+    {
+        self.one == 1 && self.version == version
     }
 }
 
@@ -111,6 +118,34 @@ impl LineRow {
             new,
         }
     }
+
+    /// The year of its release.
+    pub(crate) fn year(&self) -> i64
+        ensures { result ≡ self.now.year }
+    {
+        self.year
+    }
+
+    /// Its place among the rows of the release, from 0.
+    pub(crate) fn place(&self) -> i64
+        ensures { result ≡ self.now.place }
+    {
+        self.place
+    }
+
+    /// The old identifier's text.
+    pub(crate) fn old(&self) -> &str
+        ensures { result.now ≡ self.now.old }
+    {
+        self.old.as_str()
+    }
+
+    /// The successor's text, empty for an ending.
+    pub(crate) fn new_text(&self) -> &str
+        ensures { result.now ≡ self.now.new }
+    {
+        self.new.as_str()
+    }
 }
 
 /// A row of `lpis_live`.
@@ -179,5 +214,33 @@ impl Rows {
             lines,
             live,
         }
+    }
+
+    /// The rows of `lpis_format`.
+    pub(crate) fn formats(&self) -> &[FormatRow]
+        ensures { result.now ≡ self.now.formats }
+    {
+        self.formats.as_slice()
+    }
+
+    /// The rows of `lpis_release`.
+    pub(crate) fn years(&self) -> &[i64]
+        ensures { result.now ≡ self.now.years }
+    {
+        self.years.as_slice()
+    }
+
+    /// The rows of `lpis_span`.
+    pub(crate) fn spans(&self) -> &[SpanRow]
+        ensures { result.now ≡ self.now.spans }
+    {
+        self.spans.as_slice()
+    }
+
+    /// The rows of `lpis_row`.
+    pub(crate) fn lines(&self) -> &[LineRow]
+        ensures { result.now ≡ self.now.lines }
+    {
+        self.lines.as_slice()
     }
 }

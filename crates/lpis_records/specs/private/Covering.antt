@@ -1,5 +1,5 @@
 -- Which years a row of spans gives its identifier to.
-use Rattle.std.specs.Prelude.{◌<◌, ◌&&◌, ◌||◌, Bool, ℕ, pos}
+use Rattle.std.specs.Prelude.{◌&&◌, ◌||◌, Bool, ℕ, pos}
 use Rattle.std.specs.Ordering.{int_eq}
 use Rattle.std.specs.Int.Signed.{le_z}
 use Rattle.lpis_records.specs.Content.{Span}

@@ -1,0 +1,57 @@
+//! Releases put together from years, spans and lines.
+
+ghost use Rattle.std.specs.Prelude.{◌≡◌, ◌≤◌, ◌++◌, ◌∷◌, [], pos, length, map, take, IfOk, OnOk};
+ghost use Rattle.lpis_records.specs.Tells.{lines_of, years_of};
+ghost use Rattle.lpis_records.specs.private.Known.{SetsAre, line_in, span_in};
+
+use crate::fault::RecordsFault;
+use crate::known::{KnownLine, KnownSpan};
+use crate::opening::{live_ids, rows_of_year};
+use lpis_lineage::{AddFault, History};
+use std::alloc::Global;
+
+/// Adds the release of a year, with the rows of the lines from a place on; the place after them.
+fn add_year(
+    alloc: Global,
+    history: &mut History,
+    spans: &[KnownSpan],
+    lines: &[KnownLine],
+    from: usize,
+    year: u16,
+) -> Result<usize, RecordsFault>
+    requires within { from ≤ length lines.now }
+    ensures within { IfOk result (λ next. next ≤ length lines.now) }
+    ensures years { OnOk result (years_of history.new ≡ years_of history.old ++ pos year ∷ []) }
+    ensures sets { OnOk result (SetsAre (map span_in spans.now) history.old → SetsAre (map span_in spans.now) history.new) }
+    ensures lines { lines_of history.old ≡ map line_in (take from lines.now) → IfOk result (λ next. lines_of history.new ≡ map line_in (take next lines.now)) }
+{
+    let live = live_ids(alloc, spans, year)?;
+    let (rows, next) = rows_of_year(alloc, lines, from, year)?;
+    match history.add(year, live.as_slice(), rows.as_slice()) {
+        Ok(()) => Ok(next),
+        Err(AddFault::Memory) => Err(RecordsFault::Memory),
+        Err(_) => Err(RecordsFault::Unlawful),
+    }
+}
+
+/// The history of these years, in which each release holds the identifiers whose span covers its year; all lines are used.
+pub(crate) fn build(
+    alloc: Global,
+    years: &[u16],
+    spans: &[KnownSpan],
+    lines: &[KnownLine],
+) -> Result<History, RecordsFault>
+    ensures years { IfOk result (λ h. years_of h ≡ map (λ y. pos y) years.now) }
+    ensures sets { IfOk result (SetsAre (map span_in spans.now)) }
+    ensures lines { IfOk result (λ h. lines_of h ≡ map line_in lines.now) }
+{
+    let mut history = History::new(alloc);
+    let mut next = 0;
+    for year in years {
+        next = add_year(alloc, &mut history, spans, lines, next, *year)?;
+    }
+    if next < lines.len() {
+        return Err(RecordsFault::Unlawful);
+    }
+    Ok(history)
+}

@@ -1,0 +1,112 @@
+//! The history that rows say.
+
+ghost use Rattle.std.specs.Prelude.{◌≡◌, ◌↔◌, ◌≤◌, ◌+◌, ◌++◌, ◌∷◌, ◌&&◌, [], pos, true, ℕ, List, length, map, take, IfOk, OnOk, IsTrue};
+ghost use Rattle.std.specs.List.{All, list_any};
+ghost use Rattle.lpis_covers.specs.Ids.{has_id, is_id, same_id};
+ghost use Rattle.lpis_records.specs.Content.{lines_from};
+ghost use Rattle.lpis_records.specs.Tells.{IsSpanRow, only_format};
+ghost use Rattle.lpis_records.specs.private.Covering.{covers};
+ghost use Rattle.lpis_records.specs.private.Known.{line_in, span_in};
+
+use crate::fault::RecordsFault;
+use crate::known::{KnownLine, KnownSpan, none_twice, read_lines, read_spans, sorted_years};
+use crate::rows::{FormatRow, Rows};
+use lpis_covers::Id;
+use lpis_lineage::{AddFault, History, Row};
+use std::alloc::{AllocError, Global};
+
+/// Whether these are the one row of a version.
+pub(crate) fn has_version(formats: &[FormatRow], version: u16) -> bool
+    ensures { IsTrue result → formats.now ≡ only_format version }
+{
+    if formats.len() != 1 {
+        return false;
+    }
+    formats[0].is_of(i64::from(version))
+}
+
+/// The identifiers whose span covers a year.
+pub(crate) fn live_ids(alloc: Global, spans: &[KnownSpan], year: u16) -> Result<Vec<Id>, AllocError>
+    ensures { IfOk result (λ v. (id : List ℕ) → has_id v.items id ≡ list_any (λ s. same_id id s.id && covers (span_in s) year) spans.now) }
+{
+    let mut ids = Vec::new(alloc);
+    for span in spans {
+        if span.covers(year) {
+            let id = span.id.copy()?;
+            ids.push(id)?;
+        }
+    }
+    Ok(ids)
+}
+
+/// Whether there is a line at a place, and its year is this one.
+fn is_of_year(lines: &[KnownLine], next: usize, year: u16) -> bool
+    ensures { IsTrue result → next + 1 ≤ length lines.now }
+{
+    next < lines.len() && lines[next].year == i64::from(year)
+}
+
+/// A copy of the row of the line at a place, which is to be the row of this year at this place.
+fn row_at(
+    alloc: Global,
+    lines: &[KnownLine],
+    next: usize,
+    year: u16,
+    place: usize,
+) -> Result<Row, RecordsFault>
+    requires within { next + 1 ≤ length lines.now }
+    ensures { IfOk result (λ row. map line_in (take (next + 1) lines.now) ≡ map line_in (take next lines.now) ++ lines_from (pos year) place (row ∷ [])) }
+{
+    let line = &lines[next];
+    if line.is_at(year, place) {
+        let row = line.row.copy()?;
+        Ok(row)
+    } else {
+        Err(RecordsFault::Unlawful)
+    }
+}
+
+/// The rows of the lines from a place on that belong to a year's release, and the place after them.
+pub(crate) fn rows_of_year(
+    alloc: Global,
+    lines: &[KnownLine],
+    from: usize,
+    year: u16,
+) -> Result<(Vec<Row>, usize), RecordsFault>
+    requires within { from ≤ length lines.now }
+    ensures rows { IfOk result (λ p. map line_in (take p.1 lines.now) ≡ map line_in (take from lines.now) ++ lines_from (pos year) 0 p.0.items) }
+    ensures within { IfOk result (λ p. p.1 ≤ length lines.now) }
+{
+    let mut rows = Vec::new(alloc);
+    let mut next = from;
+    'lines: while is_of_year(lines, next, year) {
+        let row = row_at(alloc, lines, next, year, rows.len())?;
+        rows.push(row)?;
+        next += 1;
+    }
+    Ok((rows, next))
+}
+
+/// Whether the row is the span of its identifier.
+fn is_told(history: &History, span: &KnownSpan) -> bool
+    ensures { IsTrue result → IsSpanRow history.now (span_in span.now) }
+{
+    match history.span(&span.id) {
+        Some(years) => {
+            i64::from(years.first) == span.since && i64::from(years.last) == span.until
+        }
+        None => false,
+    }
+}
+
+/// Whether the rows are the spans of their identifiers.
+pub(crate) fn are_told(history: &History, spans: &[KnownSpan]) -> bool
+    ensures { IsTrue result → All (λ s. IsSpanRow history.now (span_in s)) spans.now }
+{
+    for span in spans {
+        if !is_told(history, span) {
+            return false;
+        }
+    }
+    true
+}
