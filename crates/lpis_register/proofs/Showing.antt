@@ -1,5 +1,5 @@
 -- What the queries show.
-use Rattle.std.proofs.Common.{◌≡◌, ◌⊎◌, inl, inr, ℕ, ℤ, List, [], ◌∷◌, map, drop, Ok, Err, Result, IfOk, refl, sym, ap, subst, ◌∙◌, IsPermutation, IsTrue, true}
+use Rattle.std.proofs.Common.{◌≡◌, ◌⊎◌, inl, inr, ℕ, ℤ, List, [], ◌∷◌, map, drop, Ok, Err, Result, IfOk, OnOk, refl, sym, ap, subst, ◌∙◌, IsPermutation, IsTrue, true}
 use Rattle.std.specs.Prelude.{IfErr, Vec, IsSorted}
 use Rattle.std.specs.declared.alloc.Global.{Global}
 use Rattle.std.proofs.lemmas.List.Concat.{flat_map_single}
@@ -176,6 +176,11 @@ kept_by_query s sql old new c (Err e) plain r up ok err = elim (fails_same sql [
   | inl same ↦ still s old new c r same
   | inr back ↦ undone s old new c r back up
 ]
+
+pub ok_by_query : (s : Shape) (sql : List ℕ) (old new : State) (c : Content) (r : Result (Vec Row Global) Error) → IsPlain (understood (schema_of s) sql) → IsStored s old c
+    → IfOk r (λ rows. Shown sql [] old new rows.items) → OnOk r (IsStored s new c)
+ok_by_query s sql old new c (Ok rows) plain r ok = still s old new c r (shown_same sql [] old new rows.items (subst (λ it. IsPlain (understood it sql)) (sym r.holds.schema) plain) ok)
+ok_by_query s sql old new c (Err e) plain r ok = tt
 
 pub quiet_query : (s : Shape) (sql : List ℕ) (old new : State) (c : Content) → IsPlain (understood (schema_of s) sql) → IsStored s old c → Survives old new (CommitsShowing sql [] old) → Survives old new (λ _. ⊥)
 quiet_query s sql old new c plain r = survives_weaker old new _ _ (λ _ db. never_commits sql [] old db (subst (λ it. IsPlain (understood it sql)) (sym r.holds.schema) plain))

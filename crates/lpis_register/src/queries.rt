@@ -1,6 +1,6 @@
 //! The queries, one a function.
 
-ghost use Rattle.std.specs.Prelude.{◌≡◌, map, true, false, IsTrue, IfOk, IsPermutation};
+ghost use Rattle.std.specs.Prelude.{◌≡◌, map, true, false, IsTrue, IfOk, OnOk, IsPermutation};
 ghost use Rattle.sqlite.specs.Held.{state};
 ghost use Rattle.sqlite.specs.State.{HasCleanDisk, Survives};
 ghost use Rattle.lpis_register.specs.Shapes.{has_spans, has_live};
@@ -14,7 +14,9 @@ pub(crate) fn format_rows<S: Alter>(conn: &mut Connection<S>) -> Result<Vec<Row>
     requires autocommit { conn.old.in_transaction ≡ false }
     ensures autocommit { conn.new.in_transaction ≡ false }
     ensures rows { HasCleanDisk (state S.Store conn.new) → (shape : _) → (c : _) → IsStored shape (state S.Store conn.old) c → IfOk result (λ rows. IsPermutation c.formats (map format_shown rows.items)) }
+    ensures stored { HasCleanDisk (state S.Store conn.new) → (shape : _) → (c : _) → IsStored shape (state S.Store conn.old) c → OnOk result (IsStored shape (state S.Store conn.new) c) }
     ensures same { HasCleanDisk (state S.Store conn.new) → IsTrue (state S.Store conn.new).is_open → (shape : _) → (c : _) → IsStored shape (state S.Store conn.old) c → IsStored shape (state S.Store conn.new) c }
+    ensures clean { HasCleanDisk (state S.Store conn.new) → HasCleanDisk (state S.Store conn.old) }
     ensures survives { (shape : _) → (c : _) → IsStored shape (state S.Store conn.old) c → Survives (state S.Store conn.old) (state S.Store conn.new) (λ _. ⊥) }
 {
     conn.query_all("SELECT one, version FROM lpis_format", &[])
@@ -25,7 +27,9 @@ pub(crate) fn release_rows<S: Alter>(conn: &mut Connection<S>) -> Result<Vec<Row
     requires autocommit { conn.old.in_transaction ≡ false }
     ensures autocommit { conn.new.in_transaction ≡ false }
     ensures rows { HasCleanDisk (state S.Store conn.new) → (shape : _) → (c : _) → IsStored shape (state S.Store conn.old) c → IfOk result (λ rows. IsPermutation c.years (map year_shown rows.items)) }
+    ensures stored { HasCleanDisk (state S.Store conn.new) → (shape : _) → (c : _) → IsStored shape (state S.Store conn.old) c → OnOk result (IsStored shape (state S.Store conn.new) c) }
     ensures same { HasCleanDisk (state S.Store conn.new) → IsTrue (state S.Store conn.new).is_open → (shape : _) → (c : _) → IsStored shape (state S.Store conn.old) c → IsStored shape (state S.Store conn.new) c }
+    ensures clean { HasCleanDisk (state S.Store conn.new) → HasCleanDisk (state S.Store conn.old) }
     ensures survives { (shape : _) → (c : _) → IsStored shape (state S.Store conn.old) c → Survives (state S.Store conn.old) (state S.Store conn.new) (λ _. ⊥) }
 {
     conn.query_all("SELECT year FROM lpis_release ORDER BY year", &[])
@@ -36,7 +40,9 @@ pub(crate) fn span_rows<S: Alter>(conn: &mut Connection<S>) -> Result<Vec<Row>, 
     requires autocommit { conn.old.in_transaction ≡ false }
     ensures autocommit { conn.new.in_transaction ≡ false }
     ensures rows { HasCleanDisk (state S.Store conn.new) → (shape : _) → has_spans shape ≡ true → (c : _) → IsStored shape (state S.Store conn.old) c → IfOk result (λ rows. IsPermutation c.spans (map span_shown rows.items)) }
+    ensures stored { HasCleanDisk (state S.Store conn.new) → (shape : _) → has_spans shape ≡ true → (c : _) → IsStored shape (state S.Store conn.old) c → OnOk result (IsStored shape (state S.Store conn.new) c) }
     ensures same { HasCleanDisk (state S.Store conn.new) → IsTrue (state S.Store conn.new).is_open → (shape : _) → has_spans shape ≡ true → (c : _) → IsStored shape (state S.Store conn.old) c → IsStored shape (state S.Store conn.new) c }
+    ensures clean { HasCleanDisk (state S.Store conn.new) → HasCleanDisk (state S.Store conn.old) }
     ensures survives { (shape : _) → has_spans shape ≡ true → (c : _) → IsStored shape (state S.Store conn.old) c → Survives (state S.Store conn.old) (state S.Store conn.new) (λ _. ⊥) }
 {
     conn.query_all("SELECT id, since, until FROM lpis_span ORDER BY id", &[])
@@ -47,7 +53,9 @@ pub(crate) fn line_rows<S: Alter>(conn: &mut Connection<S>) -> Result<Vec<Row>, 
     requires autocommit { conn.old.in_transaction ≡ false }
     ensures autocommit { conn.new.in_transaction ≡ false }
     ensures rows { HasCleanDisk (state S.Store conn.new) → (shape : _) → (c : _) → IsStored shape (state S.Store conn.old) c → IfOk result (λ rows. IsPermutation c.lines (map line_shown rows.items)) }
+    ensures stored { HasCleanDisk (state S.Store conn.new) → (shape : _) → (c : _) → IsStored shape (state S.Store conn.old) c → OnOk result (IsStored shape (state S.Store conn.new) c) }
     ensures same { HasCleanDisk (state S.Store conn.new) → IsTrue (state S.Store conn.new).is_open → (shape : _) → (c : _) → IsStored shape (state S.Store conn.old) c → IsStored shape (state S.Store conn.new) c }
+    ensures clean { HasCleanDisk (state S.Store conn.new) → HasCleanDisk (state S.Store conn.old) }
     ensures survives { (shape : _) → (c : _) → IsStored shape (state S.Store conn.old) c → Survives (state S.Store conn.old) (state S.Store conn.new) (λ _. ⊥) }
 {
     conn.query_all(
@@ -61,7 +69,9 @@ pub(crate) fn live_rows<S: Alter>(conn: &mut Connection<S>) -> Result<Vec<Row>, 
     requires autocommit { conn.old.in_transaction ≡ false }
     ensures autocommit { conn.new.in_transaction ≡ false }
     ensures rows { HasCleanDisk (state S.Store conn.new) → (shape : _) → has_live shape ≡ true → (c : _) → IsStored shape (state S.Store conn.old) c → IfOk result (λ rows. IsPermutation c.live (map live_shown rows.items)) }
+    ensures stored { HasCleanDisk (state S.Store conn.new) → (shape : _) → has_live shape ≡ true → (c : _) → IsStored shape (state S.Store conn.old) c → OnOk result (IsStored shape (state S.Store conn.new) c) }
     ensures same { HasCleanDisk (state S.Store conn.new) → IsTrue (state S.Store conn.new).is_open → (shape : _) → has_live shape ≡ true → (c : _) → IsStored shape (state S.Store conn.old) c → IsStored shape (state S.Store conn.new) c }
+    ensures clean { HasCleanDisk (state S.Store conn.new) → HasCleanDisk (state S.Store conn.old) }
     ensures survives { (shape : _) → has_live shape ≡ true → (c : _) → IsStored shape (state S.Store conn.old) c → Survives (state S.Store conn.old) (state S.Store conn.new) (λ _. ⊥) }
 {
     conn.query_all("SELECT year, id FROM lpis_live ORDER BY year, id", &[])

@@ -2,7 +2,7 @@ use Rattle.std.proofs.lemmas.Result.{IfOk-weaker}
 use Rattle.sqlite.specs.Held.{state}
 use Rattle.lpis_register.specs.Texts.{read_span}
 use Rattle.lpis_register.proofs.Meanings.{read_span_means}
-use Rattle.lpis_register.proofs.Showing.{spans_shown, kept_by_query, quiet_query}
+use Rattle.lpis_register.proofs.Showing.{spans_shown, kept_by_query, ok_by_query, quiet_query}
 use Rattle.lpis_register.proofs.queries.span_rows.Goals as goal
 
 pub returns-clause-rows : goal.returns-clause-rows
@@ -14,3 +14,7 @@ returns-clause-same g c clean up shape there content r =
 
 pub returns-clause-survives : goal.returns-clause-survives
 returns-clause-survives g c shape there content r = quiet_query shape read_span (state g.S.Store c.args.conn.now) (state g.S.Store c.query_all.new.self) content (read_span_means shape there).2 r c.query_all.ensures.survives
+
+pub returns-clause-stored : goal.returns-clause-stored
+returns-clause-stored g c clean shape there content r =
+    ok_by_query shape read_span (state g.S.Store c.args.conn.now) (state g.S.Store c.query_all.new.self) content c.query_all.result (read_span_means shape there).2 r (c.query_all.ensures.ok clean)
