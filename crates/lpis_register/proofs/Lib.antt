@@ -9,4 +9,5 @@ pub mod Clears
 pub mod Stages
 pub mod Steps
 pub mod Showing
+pub mod Published
 pub mod Loops

@@ -5,3 +5,5 @@ pub mod Holding
 pub mod Bare
 pub mod Shown
 pub mod Lines
+pub mod Histories
+pub mod Codes

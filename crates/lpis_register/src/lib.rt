@@ -1,10 +1,15 @@
 //! A register of releases, kept in the tables of an SQL database.
 #![tactic(auto)]
 
+mod fault;
 mod loading;
+mod preparing;
 mod publishing;
 mod queries;
 mod reading;
 mod statements;
+mod storing;
 mod tables;
 mod writing;
+
+pub use fault::{PublishCode, PublishFault};

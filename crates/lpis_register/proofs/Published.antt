@@ -1,0 +1,32 @@
+-- From what tables hold to the history that they say.
+use Rattle.std.proofs.Common.{◌≡◌, List, true, Ok, Err, Result, OnOk}
+use Rattle.std.specs.Prelude.{OnErr}
+use Rattle.sqlite.specs.Tree.{Trees}
+use Rattle.sqlite.specs.State.{State, Survives}
+use Rattle.sqlite.specs.declared.error.Error.{Error}
+use Rattle.sqlite.proofs.StateLemmas.{survives_weaker}
+use Rattle.lpis_lineage.specs.declared.row.Entry.{Entry}
+use Rattle.lpis_records.specs.Content.{Content}
+use Rattle.lpis_records.specs.Tells.{Tells}
+use Rattle.lpis_register.specs.Shapes.{Shape, has_spans}
+use Rattle.lpis_register.specs.Holding.{IsStored, Leaves}
+use Rattle.lpis_register.specs.Histories.{HoldsHistory, LeavesHistory}
+
+module _ (shape : Shape) (spans : has_spans shape ≡ true) (c : Content) (h : List Entry) (tells : Tells c h) where
+  pub holds_ok : (new : State) (r : Result (Unit {0}) Error) → OnOk r (IsStored shape new c) → OnOk r (HoldsHistory new h)
+  holds_ok new (Ok _) stored = record { shape = shape; spans = spans; content = c; stored = stored; tells = tells }
+  holds_ok new (Err e) none = tt
+
+  pub holds_err : (new : State) (r : Result (Unit {0}) Error) → OnErr r (IsStored shape new c) → OnErr r (HoldsHistory new h)
+  holds_err new (Ok _) none = tt
+  holds_err new (Err e) stored = record { shape = shape; spans = spans; content = c; stored = stored; tells = tells }
+
+  left_with : (db : Trees) → Leaves shape c db → LeavesHistory h db
+  left_with db leaves = record { shape = shape; spans = spans; content = c; leaves = leaves; tells = tells }
+
+  pub survives_with : (old new : State) → Survives old new (Leaves shape c) → Survives old new (LeavesHistory h)
+  survives_with old new s = survives_weaker old new (Leaves shape c) (LeavesHistory h) (λ clean db. left_with db) s
+
+  pub left_ok : (may : Trees → Type 0) (r : Result (Unit {0}) Error) → OnOk r ((db : Trees) → may db → Leaves shape c db) → OnOk r ((db : Trees) → may db → LeavesHistory h db)
+  left_ok may (Ok _) left = λ db there. left_with db (left db there)
+  left_ok may (Err e) none = tt

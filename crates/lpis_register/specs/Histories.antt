@@ -1,0 +1,42 @@
+-- The history that a database holds.
+use Rattle.std.specs.Prelude.{◌≡◌, ◌<◌, ◌≤◌, true, [], ℕ, List, Some, Result, Ok, Err}
+use Rattle.sqlite.specs.Tree.{Trees}
+use Rattle.sqlite.specs.State.{State}
+use Rattle.lpis_lineage.specs.declared.row.Row.{Row}
+use Rattle.lpis_lineage.specs.declared.row.Entry.{Entry}
+use Rattle.lpis_lineage.specs.Accepts.{Adds}
+use Rattle.lpis_lineage.specs.Faults.{faults, first}
+use Rattle.lpis_lineage.specs.Lineage.{last_year}
+use Rattle.lpis_records.specs.Content.{Content}
+use Rattle.lpis_records.specs.Tells.{Tells}
+use Rattle.lpis_register.specs.declared.fault.PublishFault.{PublishFault}
+use Rattle.lpis_register.specs.declared.fault.PublishFault.TheVariants.{Memory, Year, Lineage, Store, Unknown, Unlawful}
+use Rattle.lpis_register.specs.Shapes.{Shape, has_spans}
+use Rattle.lpis_register.specs.Holding.{IsStored, Leaves}
+
+-- no transaction is open, and the tables of version 2, in one of the orders that this program makes, say this history
+pub record HoldsHistory (st : State) (h : List Entry) : Type 0 where
+  pub shape : Shape
+  pub spans : has_spans shape ≡ true
+  pub content : Content
+  pub stored : IsStored shape st content
+  pub tells : Tells content h
+
+-- a crash leaves tables that say this history
+pub record LeavesHistory (h : List Entry) (trees : Trees) : Type 0 where
+  pub shape : Shape
+  pub spans : has_spans shape ≡ true
+  pub content : Content
+  pub leaves : Leaves shape content trees
+  pub tells : Tells content h
+
+-- what publishing answers: Ok exactly where the year is above the last one and the lineage has no fault, want of memory and the
+-- database's failures set aside
+abbrev pub PublishTells : {A : Type 0} → List Entry → ℕ → List (List ℕ) → List Row → Result A PublishFault → Type 0
+PublishTells h year live rows (Ok a) = (last_year h < year) × (faults h live rows ≡ [])
+PublishTells h year live rows (Err Memory) = Unit {0}
+PublishTells h year live rows (Err (Year last)) = (year ≤ last_year h) × (last ≡ last_year h)
+PublishTells h year live rows (Err (Lineage fault)) = (last_year h < year) × (first (faults h live rows) ≡ Some fault)
+PublishTells h year live rows (Err Store) = Unit {0}
+PublishTells h year live rows (Err Unknown) = ⊥
+PublishTells h year live rows (Err Unlawful) = ⊥
