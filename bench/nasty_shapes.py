@@ -327,7 +327,7 @@ def piece_of_another_parcel(release):
 
 def piece_twice(release):
     name, parcel, kind, polygon = release.numbers.choice(release.pieces)
-    release.pieces.append((name + "bis", parcel, kind, copied(polygon)))
+    release.pieces.append((f"{name}.{len(release.pieces)}", parcel, kind, copied(polygon)))
 
 
 def replaced(release, **rings):
