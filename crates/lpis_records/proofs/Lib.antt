@@ -9,3 +9,4 @@ pub mod Fresh
 pub mod KnownLemmas
 pub mod ReleaseMore
 pub mod Saying
+pub mod LiveRows

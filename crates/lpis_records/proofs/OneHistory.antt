@@ -26,7 +26,7 @@ use Rattle.lpis_records.proofs.Years.{all-entries, line-alone, line_below, lines
 
 -- ---- sets
 
-covers-years : (y : Years) (year : ℕ) → (le_z (pos y.first) (pos year) && (int_eq (pos y.last) (pos 0) || le_z (pos year) (pos y.last))) ≡ in_span y year
+pub covers-years : (y : Years) (year : ℕ) → (le_z (pos y.first) (pos year) && (int_eq (pos y.last) (pos 0) || le_z (pos year) (pos y.last))) ≡ in_span y year
 covers-years y year = ap₂ (λ (a b : Bool). a && b) (le-nat y.first year) (ap₂ (λ (a b : Bool). a || b) (eq-nat y.last) (le-nat year y.last)) where
   le-nat : (a b : ℕ) → le_z (pos a) (pos b) ≡ nat_le a b
   le-nat a b = grind (arith, ints, nat_tests)

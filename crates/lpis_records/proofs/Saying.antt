@@ -11,7 +11,7 @@ use Rattle.lpis_lineage.proofs.Basics.{in-history, same-exact}
 use Rattle.lpis_records.specs.declared.known.KnownSpan.{KnownSpan}
 use Rattle.lpis_records.specs.declared.known.KnownLine.{KnownLine}
 use Rattle.lpis_records.specs.Content.{Content, Span}
-use Rattle.lpis_records.specs.Tells.{IsSpanRow, SpansTell, Tells, last_of_years, lines_of, only_format, years_of}
+use Rattle.lpis_records.specs.Tells.{IsKept, IsSpanRow, SpansTell, Tells, last_of_years, lines_of, only_format, years_of}
 use Rattle.lpis_records.specs.private.Covering.{covers}
 use Rattle.lpis_records.specs.private.Known.{SetsAre, line_in, span_in}
 
@@ -59,12 +59,21 @@ small-years (x ∷ h) [] e all i = absurd cc
 small-years (x ∷ h) (y ∷ ys) e all zero = let s : x.year ≡ y = ap (λ (l : List ℤ). first_of l) e in let m = all.0 in omega (arith, s, m)
 small-years (x ∷ h) (y ∷ ys) e all (suc i) = small-years h ys (ap rest e) all.1 i
 
+-- a history put together from well-formed identifiers is one that tables may say
+pub kept-said : (h : List Entry) (years : List ℕ) (spans : List KnownSpan) → IsLawful h → RowsFit h → AllByRecursion (λ y. y ≤ last_of_years) years → All (λ s. is_id s.id ≡ true) spans → years_of h ≡ map (λ y. pos y) years → SetsAre (map span_in spans) h → IsKept h
+kept-said h years spans law fit small ids years-are sets = record {
+  lawful = law;
+  fits = fit;
+  ids = λ id i held. any-id spans id (recursion_from_All (λ s. is_id s.id ≡ true) spans ids) (any-left (λ (s : Span). same_id id s.id) (λ (s : Span). covers s (entry_at h i).year) (map span_in spans) (sym (sets i (in-history h i id held) id) ∙ held));
+  years = small-years h years years-are small;
+}
+
 -- the history that rows say
 pub says : (c : Content) (h : List Entry) (years : List ℕ) (spans : List KnownSpan) (lines : List KnownLine) → IsLawful h → RowsFit h → AllByRecursion (λ y. y ≤ last_of_years) years → c.formats ≡ only_format 2
     → IsPermutation c.years (map (λ y. pos y) years) → map span_in spans ≡ c.spans → All (λ s. is_id s.id ≡ true) spans → ((id : List ℕ) → length (filter (λ s. same_id id s.id) spans) ≤ 1)
     → IsPermutation c.lines (map line_in lines) → years_of h ≡ map (λ y. pos y) years → SetsAre (map span_in spans) h → lines_of h ≡ map line_in lines → All (λ s. IsSpanRow h (span_in s)) spans → Tells c h
 says c h years spans lines law fit small formats ys ss ids once ls years-are sets lines-are right = record {
-  kept = record { lawful = law; fits = fit; ids = λ id i held. any-id spans id (recursion_from_All (λ s. is_id s.id ≡ true) spans ids) (spanned id i held); years = small-years h years years-are small };
+  kept = kept-said h years spans law fit small ids years-are sets;
   formats_are = formats;
   years_are = subst (IsPermutation c.years) (sym years-are) ys;
   spans_are = subst (λ (l : List Span). SpansTell l h) ss (record {

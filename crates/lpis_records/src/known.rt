@@ -34,7 +34,7 @@ impl KnownSpan {
 }
 
 /// The identifier of a text.
-fn read_id(alloc: Global, text: &str) -> Result<Id, RecordsFault>
+pub(crate) fn read_id(alloc: Global, text: &str) -> Result<Id, RecordsFault>
     ensures same { IfOk result (λ id. id ≡ text.now) }
     ensures id { IfOk result (λ id. is_id text.now ≡ true) }
 {

@@ -6,6 +6,7 @@ mod fault;
 mod history;
 mod known;
 mod laws;
+mod live;
 mod opening;
 mod rows;
 mod writing;
@@ -16,5 +17,6 @@ pub use laws::{
     changes_tell_what_is_written, moving_keeps_the_history, order_of_rows_is_free,
     publishing_adds_the_release, tables_say_one_history,
 };
+pub use live::live_history_of;
 pub use rows::{FormatRow, LineRow, LiveRow, Rows, SpanRow};
 pub use writing::fresh_ids;

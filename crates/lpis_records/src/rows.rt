@@ -172,6 +172,20 @@ impl LiveRow {
     {
         LiveRow { year, id }
     }
+
+    /// The year of the release.
+    pub(crate) fn year(&self) -> i64
+        ensures { result ≡ self.now.year }
+    {
+        self.year
+    }
+
+    /// The identifier's text.
+    pub(crate) fn id(&self) -> &str
+        ensures { result.now ≡ self.now.id }
+    {
+        self.id.as_str()
+    }
 }
 
 /// The rows of the register's tables, each list in any order.
@@ -242,5 +256,12 @@ impl Rows {
         ensures { result.now ≡ self.now.lines }
     {
         self.lines.as_slice()
+    }
+
+    /// The rows of `lpis_live`.
+    pub(crate) fn live(&self) -> &[LiveRow]
+        ensures { result.now ≡ self.now.live }
+    {
+        self.live.as_slice()
     }
 }

@@ -6,7 +6,7 @@ use Rattle.lpis_lineage.specs.declared.row.Entry.{Entry}
 use Rattle.lpis_lineage.specs.Lineage.{entry_at, holds}
 use Rattle.lpis_records.specs.declared.known.KnownSpan.{KnownSpan}
 use Rattle.lpis_records.specs.declared.known.KnownLine.{KnownLine}
-use Rattle.lpis_records.specs.Content.{Line, Span, text_of}
+use Rattle.lpis_records.specs.Content.{Line, Live, Span, text_of}
 use Rattle.lpis_records.specs.private.Covering.{covers}
 
 abbrev pub span_in : KnownSpan → Span
@@ -14,6 +14,10 @@ span_in s = record { id = s.id; since = s.since; until = s.until }
 
 abbrev pub line_in : KnownLine → Line
 line_in l = record { year = l.year; place = l.place; old = l.row.old; new = text_of l.row.new }
+
+-- a live row as a span of one year
+abbrev pub one_year : Live → Span
+one_year l = record { id = l.id; since = l.year; until = l.year }
 
 -- each release holds the identifiers whose span covers its year
 abbrev pub SetsAre : List Span → List Entry → Type 0

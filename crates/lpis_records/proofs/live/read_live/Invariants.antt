@@ -1,0 +1,8 @@
+use Rattle.std.proofs.Common.{◌≡◌, map, take, true}
+use Rattle.std.specs.List.{All}
+use Rattle.lpis_covers.specs.Ids.{is_id}
+use Rattle.lpis_records.specs.private.Known.{one_year, span_in}
+use Rattle.lpis_records.proofs.live.read_live.Given as goal
+
+abbrev pub invariant-loop-row : goal.invariant-loop-row
+invariant-loop-row l = (map span_in l.spans.items ≡ map one_year (take l.row-index l.rows)) × All (λ s. is_id s.id ≡ true) l.spans.items
