@@ -1,0 +1,4 @@
+pub mod FanLemmas
+pub mod Unsound
+pub mod Counting
+pub mod PieceLemmas

@@ -1,0 +1,13 @@
+-- The codes of refusals.
+use Rattle.std.specs.Prelude.{ℕ, List, codes}
+use Rattle.lpis_cutter.specs.declared.fault.Refusal.{Refusal}
+use Rattle.lpis_cutter.specs.declared.fault.Refusal.TheVariants.{NoCut, ParcelsOverlap, PiecesOverlap, NoSeparator, Disagreement, NoFlats}
+
+-- the two characters of a code
+abbrev pub code_text : Refusal → List ℕ
+code_text (NoCut piece) = codes "40"
+code_text (ParcelsOverlap first second at) = codes "41"
+code_text (PiecesOverlap first second at) = codes "41"
+code_text (NoSeparator first second) = codes "42"
+code_text (Disagreement parcel at) = codes "43"
+code_text (NoFlats parcel) = codes "44"

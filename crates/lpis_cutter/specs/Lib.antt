@@ -1,0 +1,4 @@
+pub mod Codes
+pub mod Fans
+pub mod Refusals
+pub mod private

@@ -1,0 +1,86 @@
+-- What a refusal says of a release.
+use Rattle.std.specs.Prelude.{◌≡◌, ◌≢◌, ℕ, List, All, Any, Contains as IsAmong, ◌⊎◌, ⊤}
+use Rattle.lpis_points.specs.Plane.{RationalPoint, same_point}
+use Rattle.lpis_points.specs.RatPoints.{rational_of}
+use Rattle.lpis_points.specs.Chain.{SameNet}
+use Rattle.lpis_rings.specs.Edges.{edges_of}
+use Rattle.lpis_covers.specs.declared.piece.Piece.{Piece}
+use Rattle.lpis_parcels.specs.declared.parcel.Parcel.{Parcel}
+use Rattle.lpis_parcels.specs.Release.{Contents, pieces_named}
+use Rattle.lpis_checker.specs.GoodCertificate.{edges_of_pieces}
+use Rattle.lpis_checker.specs.SoundMap.{IsInParcel, IsInPiece}
+use Rattle.lpis_cutter.specs.declared.fault.Refusal.{Refusal}
+use Rattle.lpis_cutter.specs.declared.fault.Refusal.TheVariants.{NoCut, ParcelsOverlap, PiecesOverlap, NoSeparator, Disagreement, NoFlats}
+use Rattle.lpis_cutter.specs.declared.fault.CutFault.{CutFault}
+use Rattle.lpis_cutter.specs.declared.fault.CutFault.TheVariants.{Memory, Refused}
+use Rattle.lpis_cutter.specs.Fans.{AreFewFans}
+
+-- a piece of the release has the identifier
+pub record IsPiece (r : Contents) (id : List ℕ) (x : Piece) : Type 0 where
+  pub there : IsAmong r.pieces x
+  pub named : x.id ≡ id
+
+-- a parcel of the release has it
+pub record IsParcel (r : Contents) (id : List ℕ) (x : Parcel) : Type 0 where
+  pub there : IsAmong r.parcels x
+  pub named : x.id ≡ id
+
+-- two parcels of different identifiers contain the point
+pub record ParcelsShare (r : Contents) (first second : List ℕ) (p : RationalPoint) : Type 0 where
+  pub differ : first ≢ second
+  pub x : Parcel
+  pub y : Parcel
+  pub is_x : IsParcel r first x
+  pub is_y : IsParcel r second y
+  pub in_x : IsInParcel p x
+  pub in_y : IsInParcel p y
+
+-- two pieces of different identifiers contain it
+pub record PiecesShare (r : Contents) (first second : List ℕ) (p : RationalPoint) : Type 0 where
+  pub differ : first ≢ second
+  pub x : Piece
+  pub y : Piece
+  pub is_x : IsPiece r first x
+  pub is_y : IsPiece r second y
+  pub in_x : IsInPiece p x
+  pub in_y : IsInPiece p y
+
+-- none of the parcel's pieces contains the point, or one of them does
+abbrev pub IsUncovered : Contents → RationalPoint → List ℕ → Type 0
+IsUncovered r p id = All (λ (y : Piece). IsInPiece p y → ⊥) (pieces_named r id)
+
+abbrev pub IsCovered : Contents → RationalPoint → List ℕ → Type 0
+IsCovered r p id = Any (IsInPiece p) (pieces_named r id)
+
+-- the parcel contains the point and none of its pieces does, or one of its pieces does and the parcel does not
+pub record Disagrees (r : Contents) (id : List ℕ) (p : RationalPoint) : Type 0 where
+  pub x : Parcel
+  pub is_x : IsParcel r id x
+  pub parted : (IsInParcel p x × IsUncovered r p id) ⊎ ((IsInParcel p x → ⊥) × IsCovered r p id)
+
+-- the parcel's edges have other net counts than the edges of its pieces
+pub record IsUneven (r : Contents) (id : List ℕ) : Type 0 where
+  pub x : Parcel
+  pub is_x : IsParcel r id x
+  pub uneven : SameNet same_point (edges_of x.polygon) (edges_of_pieces (pieces_named r id)) → ⊥
+
+-- what a refusal says
+abbrev pub Says : Contents → Refusal → Type 0
+Says r (NoCut piece) = ((x : Piece) × IsPiece r piece x) × (AreFewFans r → ⊥)
+Says r (ParcelsOverlap first second at) = ParcelsShare r first second (rational_of at)
+Says r (PiecesOverlap first second at) = PiecesShare r first second (rational_of at)
+Says r (NoSeparator first second) = ((x : Piece) × IsPiece r first x) × ((y : Piece) × IsPiece r second y)
+Says r (Disagreement parcel at) = Disagrees r parcel (rational_of at)
+Says r (NoFlats parcel) = IsUneven r parcel
+
+-- what is said of a release where there is no certificate
+abbrev pub Tells : Contents → CutFault → Type 0
+Tells r Memory = ⊤
+Tells r (Refused refusal) = Says r refusal
+
+-- a point is told
+abbrev pub HasPoint : CutFault → Type 0
+HasPoint (Refused (ParcelsOverlap first second at)) = ⊤
+HasPoint (Refused (PiecesOverlap first second at)) = ⊤
+HasPoint (Refused (Disagreement parcel at)) = ⊤
+HasPoint _ = ⊥

@@ -1,0 +1,33 @@
+-- What the steps of a cut owe.
+use Rattle.std.specs.Prelude.{ℕ, ◌+◌, ◌<◌, ◌&&◌, List, length, filter, Option, IfSome, ◌⊎◌, All, sum_by}
+use Rattle.lpis_points.specs.declared.point.Point.{Point}
+use Rattle.lpis_points.specs.Plane.{same_point}
+use Rattle.lpis_rings.specs.declared.polygon.Member.{Member}
+use Rattle.lpis_rings.specs.Polygon.{points_of}
+use Rattle.lpis_covers.specs.declared.piece.Piece.{Piece}
+use Rattle.lpis_parcels.specs.Release.{Contents}
+use Rattle.lpis_cert.specs.Limits.{most_triangles, most_flats}
+use Rattle.lpis_cutter.specs.declared.fault.Refusal.{Refusal}
+use Rattle.lpis_cutter.specs.Fans.{IsFan}
+use Rattle.lpis_cutter.specs.Refusals.{Says}
+
+-- what is refused, if anything is, is so
+abbrev pub SaysIfAny : Contents → Option Refusal → Type 0
+SaysIfAny r o = IfSome o (Says r)
+
+-- the points of pieces
+abbrev pub points_in_pieces : List Piece → ℕ
+points_in_pieces pieces = sum_by (λ (x : Piece). points_of x.polygon) pieces
+
+-- each of the pieces is a fan
+abbrev pub AreFans : List Piece → Type 0
+AreFans pieces = All (λ (x : Piece). IsFan x.polygon) pieces
+
+-- so many triangles and flats, with those of a polygon, would pass a limit of a certificate
+abbrev pub IsTooMany : List Member → ℕ → ℕ → Type 0
+IsTooMany members triangles flats =
+    (most_triangles < triangles + points_of members) ⊎ (most_flats < flats + points_of members)
+
+-- how many of these edges go from a to b
+abbrev pub times : Point → Point → List (Point × Point) → ℕ
+times a b es = length (filter (λ e. same_point a e.0 && same_point b e.1) es)

@@ -1,0 +1,280 @@
+//! A certificate for a release, or what it is refused for.
+
+ghost use Rattle.std.specs.Prelude.{◌≡◌, ◌≤◌, ◌+◌, IfErr, IfOk, IfSome, MatchOption, length};
+ghost use Rattle.lpis_rings.specs.Polygon.{points_of};
+ghost use Rattle.lpis_cert.specs.declared.cert.Cert.{Cert};
+ghost use Rattle.lpis_cert.specs.Limits.{most_flats};
+ghost use Rattle.lpis_checker.specs.GoodCertificate.{IsGood};
+ghost use Rattle.lpis_checker.specs.SoundMap.{IsSoundEverywhere};
+ghost use Rattle.lpis_cutter.specs.declared.fault.Refusal.TheVariants.{NoCut};
+ghost use Rattle.lpis_cutter.specs.Fans.{IsFan};
+ghost use Rattle.lpis_cutter.specs.Refusals.{HasPoint, Tells};
+ghost use Rattle.lpis_cutter.specs.private.Cutting.{IsTooMany, SaysIfAny};
+
+use crate::fault::{CutFault, Refusal};
+use crate::flats::ParcelNet;
+use crate::numbered::Numbered;
+use crate::parts::{Parts, cert_of, no_parts, with_parcel, with_piece};
+use crate::pieces::{Cutter, cut_of};
+use crate::searching::{Budget, find_disagreement};
+use crate::separating::{Separated, early_overlap, separate, unseparated};
+use crate::telling::unevenness;
+use lpis_cert::{Cert, GREATEST_COUNT, MOST_FLATS, PairLine};
+use lpis_checker::laws::a_good_certificate_shows_a_sound_map;
+use lpis_covers::Piece;
+use lpis_pairs::{MOST_TRIANGLES, PairSource, Sweep};
+use lpis_parcels::{Parcel, Release};
+use lpis_points::Triangle;
+use std::alloc::{AllocError, Global};
+
+/// The parts with a piece more; `None` where it has no cut, or a limit would be passed.
+fn add_piece(cutter: &mut Cutter, parts: Parts, piece: &Piece) -> Result<Option<Parts>, AllocError>
+    ensures triangles { IfOk result (λ o. IsFan piece.now.polygon → MatchOption o (IsTooMany piece.now.polygon parts.triangles parts.flats) (λ more. more.triangles ≤ parts.triangles + points_of piece.now.polygon)) }
+    ensures flats { IfOk result (λ o. IsFan piece.now.polygon → MatchOption o (IsTooMany piece.now.polygon parts.triangles parts.flats) (λ more. more.flats ≤ parts.flats + points_of piece.now.polygon)) }
+{
+    match cut_of(cutter, &piece.polygon)? {
+        Some(cut) => with_piece(parts, piece.id.copy()?, cut),
+        None => Ok(None),
+    }
+}
+
+/// What is told of a piece that is not cut.
+fn no_cut(piece: &Piece) -> Result<Refusal, AllocError>
+    ensures { IfOk result (λ refusal. refusal ≡ NoCut piece.now.id) }
+{
+    let piece = piece.id.copy()?;
+    Ok(Refusal::NoCut { piece })
+}
+
+/// The parts of all pieces.
+fn cut_pieces(cutter: &mut Cutter, alloc: Global, release: &Release) -> Result<Parts, CutFault>
+    ensures { IfErr result (Tells release.now) }
+{
+    let mut parts = no_parts(alloc);
+    for piece in release.pieces() {
+        match add_piece(cutter, parts, piece)? {
+            Some(more) => parts = more,
+            None => return Err(CutFault::Refused(no_cut(piece)?)),
+        }
+    }
+    Ok(parts)
+}
+
+/// A refusal of a parcel that shows no point of a fault: one of its residual edges is counted anew.
+fn refuse_parcel(
+    release: &Release,
+    place: usize,
+    net: &ParcelNet,
+) -> Result<Option<Refusal>, AllocError>
+    ensures { IfOk result (SaysIfAny release.now) }
+{
+    let edge = match net.rest.first() {
+        Some(edge) => *edge,
+        None => match net.net.first() {
+            Some(edge) => *edge,
+            None => return Ok(None),
+        },
+    };
+    unevenness(release, place, edge.low, edge.high)
+}
+
+/// What cuts a release.
+#[derive(Drop)]
+struct Tools {
+    cutter: Cutter,
+    net: ParcelNet,
+    budget: Budget,
+}
+
+/// A point at which the parcel at a place and its pieces disagree, looked for where its edges are not even.
+fn find_fault(
+    alloc: Global,
+    tools: &mut Tools,
+    release: &Release,
+    place: usize,
+) -> Result<Option<Refusal>, AllocError>
+    ensures { IfOk result (SaysIfAny release.now) }
+{
+    if tools.net.rest.is_empty() || !tools.budget.search() {
+        return Ok(None);
+    }
+    let size = tools.net.size();
+    find_disagreement(
+        alloc,
+        &mut tools.cutter.sweep,
+        &mut tools.budget,
+        release,
+        place,
+        size,
+        &tools.net.rest,
+    )
+}
+
+/// The flats of the parcel that was loaded, if there is room for them.
+fn flats_that_fit(
+    net: &ParcelNet,
+    alloc: Global,
+    flats: u64,
+) -> Result<Option<Vec<Triangle>>, AllocError>
+    requires { flats ≤ most_flats }
+    ensures { IfOk result (λ o. IfSome o (λ own. flats + length own.items ≤ most_flats)) }
+{
+    let own = net.own_flats()?;
+    if own.len() as u64 > MOST_FLATS - flats {
+        return Ok(None);
+    }
+    Ok(Some(own))
+}
+
+/// The parts with a parcel more.
+fn add_parcel(
+    alloc: Global,
+    tools: &mut Tools,
+    release: &Release,
+    place: usize,
+    parcel: &Parcel,
+    parts: Parts,
+) -> Result<Parts, CutFault>
+    ensures { IfErr result (Tells release.now) }
+{
+    let flats = parts.flats;
+    let own = match flats_that_fit(&tools.net, alloc, flats)? {
+        Some(own) => own,
+        None => match refuse_parcel(release, place, &tools.net)? {
+            Some(refusal) => return Err(CutFault::Refused(refusal)),
+            None => Vec::new(alloc),
+        },
+    };
+    Ok(with_parcel(parts, parcel.id.copy()?, own)?)
+}
+
+/// Parts of all pieces and parcels, and a parcel that is refused where no point is found later.
+#[derive(Drop)]
+struct Filled {
+    parts: Parts,
+    kept: Option<Refusal>,
+}
+
+/// The parts of all parcels. The first with residual edges is kept, where they show no point.
+fn fill_parcels(
+    alloc: Global,
+    tools: &mut Tools,
+    release: &Release,
+    parts: Parts,
+) -> Result<Filled, CutFault>
+    ensures ok { IfOk result (λ filled. SaysIfAny release.now filled.kept) }
+    ensures err { IfErr result (Tells release.now) }
+{
+    let mut parts = parts;
+    let mut kept = None;
+    for (place, parcel) in release.parcels().iter().enumerate() {
+        tools.net.load(release, parcel)?;
+        if let Some(refusal) = find_fault(alloc, tools, release, place)? {
+            return Err(CutFault::Refused(refusal));
+        }
+        if kept.is_none() && !tools.net.rest.is_empty() {
+            kept = refuse_parcel(release, place, &tools.net)?;
+        }
+        parts = add_parcel(alloc, tools, release, place, parcel, parts)?;
+    }
+    Ok(Filled { parts, kept })
+}
+
+/// The near pairs of triangles, of which there are no more than a certificate has.
+fn near_pairs(alloc: Global, triangles: &[Triangle]) -> Result<Vec<(u32, u32)>, AllocError> {
+    if triangles.len() > MOST_TRIANGLES {
+        return Ok(Vec::new(alloc));
+    }
+    Sweep.pairs(alloc, triangles)
+}
+
+/// The certificate of these parts with the separators of their near pairs.
+fn join(
+    alloc: Global,
+    budget: Budget,
+    release: &Release,
+    filled: Filled,
+) -> Result<Cert, CutFault>
+    requires kept { SaysIfAny release.now filled.kept }
+    ensures { IfErr result (Tells release.now) }
+{
+    let Filled { parts, kept } = filled;
+    let numbered = Numbered::of(alloc, &parts)?;
+    let mut budget = budget.renewed();
+    if let Some(refusal) = early_overlap(alloc, &mut budget, release, &numbered)? {
+        return Err(CutFault::Refused(refusal));
+    }
+    let mut budget = budget.renewed();
+    let near = near_pairs(alloc, &numbered.triangles)?;
+    let separated = separate(alloc, &mut budget, release, &numbered, &near)?;
+    drop(near);
+    let Separated {
+        lines,
+        found,
+        kept: later,
+    } = separated;
+    if let Some(refusal) = found {
+        return Err(CutFault::Refused(refusal));
+    }
+    if let Some(refusal) = kept {
+        return Err(CutFault::Refused(refusal));
+    }
+    if let Some(refusal) = later {
+        return Err(CutFault::Refused(refusal));
+    }
+    finish(release, &numbered, parts, lines)
+}
+
+/// The certificate of all parts and lines, where the lines are not too many.
+fn finish(
+    release: &Release,
+    numbered: &Numbered,
+    parts: Parts,
+    lines: Vec<PairLine>,
+) -> Result<Cert, CutFault>
+    ensures { IfErr result (Tells release.now) }
+{
+    if let Some(line) = lines.get(GREATEST_COUNT as usize)
+        && let Some(refusal) = unseparated(release, numbered, line.i, line.j)?
+    {
+        return Err(CutFault::Refused(refusal));
+    }
+    let mut lines = lines;
+    lines.truncate(GREATEST_COUNT as usize);
+    Ok(cert_of(parts, lines))
+}
+
+/// The certificate of a release, or what it is refused for.
+fn cut_release(alloc: Global, release: &Release) -> Result<Cert, CutFault>
+    ensures { IfErr result (Tells release.now) }
+{
+    let mut tools = Tools {
+        cutter: Cutter::new(alloc),
+        net: ParcelNet::new(alloc),
+        budget: Budget::new(),
+    };
+    let parts = cut_pieces(&mut tools.cutter, alloc, release)?;
+    let filled = fill_parcels(alloc, &mut tools, release, parts)?;
+    let budget = tools.budget;
+    // Near pairs are what takes most memory.
+    drop(tools);
+    join(alloc, budget, release, filled)
+}
+
+/// Cuts a release: a certificate of triangles on the corners that its pieces have, or what it is refused for. Nothing is promised of
+/// the certificate, which is to be checked.
+///
+/// A refusal says of the release what its variant says. Pieces that cannot be cut are refused first, in order; then the first fault of
+/// which a point is found; then what shows no point. Pieces that are fans, with at most 2,000,000 points together, are all cut, and a
+/// parcel is refused without a point only where its edges have other net counts than those of its pieces. A release of which a point is
+/// told is not sound, so that no certificate is good for it.
+pub fn cut(alloc: Global, release: &Release) -> Result<Cert, CutFault>
+    ensures tells { IfErr result (Tells release.now) }
+    ensures unsound { IfErr result (λ e. HasPoint e → IsSoundEverywhere release.now → ⊥) }
+    ensures no_certificate { IfErr result (λ e. HasPoint e → (c : Cert) → IsGood release.now c → ⊥) }
+{
+    // Its parcels' identifiers differ.
+    let _ = release.parcels();
+    a_good_certificate_shows_a_sound_map();
+    cut_release(alloc, release)
+}

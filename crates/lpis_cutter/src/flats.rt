@@ -1,0 +1,240 @@
+//! The flats that a parcel's edges need beside those of its pieces.
+
+use lpis_covers::Id;
+use lpis_parcels::{Parcel, Release, pieces_of};
+use lpis_points::{Point, Triangle, orient};
+use lpis_rings::edges;
+use std::alloc::{AllocError, Global};
+use std::cmp::Ordering;
+
+/// All edges between two points together: so many from the lesser to the greater, less those back.
+#[derive(Clone, Copy, Debug, PartialEq, Eq, PartialOrd, Ord)]
+pub(crate) struct NetEdge {
+    pub low: Point,
+    pub high: Point,
+    pub count: i64,
+}
+
+/// An end of an edge, and how many edges end there, less those that begin.
+#[derive(Clone, Copy, Debug, PartialEq, Eq, PartialOrd, Ord)]
+struct End {
+    point: Point,
+    count: i64,
+}
+
+/// The edges of a parcel less those of its pieces. One value serves all parcels.
+#[derive(Drop)]
+pub(crate) struct ParcelNet {
+    alloc: Global,
+    /// All edges, sorted.
+    edges: Vec<NetEdge>,
+    /// Those that are left, in the order of their lines.
+    pub net: Vec<NetEdge>,
+    ends: Vec<End>,
+    /// Of these the edges of the lines at one of whose points another number of edges ends than begins.
+    pub rest: Vec<NetEdge>,
+    /// The flats that make up the others.
+    pub flats: Vec<Triangle>,
+}
+
+/// The direction of two edges, and then on which side of the first line the second lies.
+fn compare_lines(e: &NetEdge, f: &NetEdge) -> Ordering {
+    let ex = e.high.x.wrapping_sub(e.low.x) as i128;
+    let ey = e.high.y.wrapping_sub(e.low.y) as i128;
+    let fx = f.high.x.wrapping_sub(f.low.x) as i128;
+    let fy = f.high.y.wrapping_sub(f.low.y) as i128;
+    let cross = ex.wrapping_mul(fy).wrapping_sub(ey.wrapping_mul(fx));
+    let turned = 0.cmp(&cross);
+    match turned {
+        Ordering::Equal => 0.cmp(&orient(e.low, e.high, f.low)),
+        _ => turned,
+    }
+}
+
+impl ParcelNet {
+    pub fn new(alloc: Global) -> ParcelNet {
+        ParcelNet {
+            alloc,
+            edges: Vec::new(alloc),
+            net: Vec::new(alloc),
+            ends: Vec::new(alloc),
+            rest: Vec::new(alloc),
+            flats: Vec::new(alloc),
+        }
+    }
+
+    /// How many edges the parcel and its pieces have.
+    pub fn size(&self) -> usize {
+        self.edges.len()
+    }
+
+    fn push(&mut self, a: Point, b: Point, count: i64) -> Result<(), AllocError> {
+        match a.cmp(&b) {
+            Ordering::Less => self.edges.push(NetEdge {
+                low: a,
+                high: b,
+                count,
+            })?,
+            Ordering::Greater => {
+                let count = count.wrapping_neg();
+                self.edges.push(NetEdge {
+                    low: b,
+                    high: a,
+                    count,
+                })?
+            }
+            Ordering::Equal => {}
+        }
+        Ok(())
+    }
+
+    fn push_pieces(&mut self, release: &Release, parcel: &Id) -> Result<(), AllocError> {
+        for piece in pieces_of(release, parcel) {
+            for (a, b) in edges(&piece.polygon) {
+                self.push(a, b, -1)?;
+            }
+        }
+        Ok(())
+    }
+
+    /// Takes the edges of a parcel less those of its pieces, and finds its flats.
+    pub fn load(&mut self, release: &Release, parcel: &Parcel) -> Result<(), AllocError> {
+        self.edges.clear();
+        self.net.clear();
+        self.rest.clear();
+        self.flats.clear();
+        for (a, b) in edges(&parcel.polygon) {
+            self.push(a, b, 1)?;
+        }
+        self.push_pieces(release, &parcel.id)?;
+        self.edges.sort_unstable();
+        self.sum_edges()?;
+        if !self.net.is_empty() {
+            self.net
+                .sort_unstable_by(|e, f| compare_lines(e, f).then(e.cmp(f)));
+            self.take_lines()?;
+        }
+        Ok(())
+    }
+
+    fn sum_edges(&mut self) -> Result<(), AllocError> {
+        let mut sum: i64 = 0;
+        for place in 0..self.edges.len() {
+            let Some(edge) = self.edges.get(place).copied() else {
+                break;
+            };
+            sum = sum.wrapping_add(edge.count);
+            let is_last = match self.edges.get(place.saturating_add(1)) {
+                Some(next) => next.low != edge.low || next.high != edge.high,
+                None => true,
+            };
+            if is_last {
+                if sum != 0 {
+                    self.net.push(NetEdge { count: sum, ..edge })?;
+                }
+                sum = 0;
+            }
+        }
+        Ok(())
+    }
+
+    /// Goes over the edges line by line.
+    fn take_lines(&mut self) -> Result<(), AllocError> {
+        let mut start = 0;
+        for place in 0..self.net.len() {
+            let next = place.saturating_add(1);
+            let is_last = match (self.net.get(place), self.net.get(next)) {
+                (Some(e), Some(f)) => compare_lines(e, f) != Ordering::Equal,
+                _ => true,
+            };
+            if is_last {
+                self.take_line(start, next)?;
+                start = next;
+            }
+        }
+        Ok(())
+    }
+
+    /// Flats make up a line exactly where at each point as many edges end as begin.
+    fn take_line(&mut self, from: usize, to: usize) -> Result<(), AllocError> {
+        if self.is_even(from, to)? {
+            return self.add_flats(from, to);
+        }
+        for place in from..to {
+            if let Some(edge) = self.net.get(place) {
+                self.rest.push(*edge)?;
+            }
+        }
+        Ok(())
+    }
+
+    fn is_even(&mut self, from: usize, to: usize) -> Result<bool, AllocError> {
+        self.ends.clear();
+        for place in from..to {
+            if let Some(edge) = self.net.get(place).copied() {
+                let count = edge.count;
+                self.ends.push(End {
+                    point: edge.low,
+                    count: count.wrapping_neg(),
+                })?;
+                self.ends.push(End {
+                    point: edge.high,
+                    count,
+                })?;
+            }
+        }
+        self.ends.sort_unstable();
+        let mut sum: i64 = 0;
+        let mut last = None;
+        for end in &self.ends {
+            if last != Some(end.point) {
+                if sum != 0 {
+                    return Ok(false);
+                }
+                last = Some(end.point);
+            }
+            sum = sum.wrapping_add(end.count);
+        }
+        Ok(sum == 0)
+    }
+
+    /// The flats of one line: those of each stretch of edges that overlap go to its first point.
+    fn add_flats(&mut self, from: usize, to: usize) -> Result<(), AllocError> {
+        let mut stretch: Option<(Point, Point)> = None;
+        for place in from..to {
+            let Some(edge) = self.net.get(place).copied() else {
+                break;
+            };
+            let (anchor, reach) = match stretch {
+                Some((anchor, reach)) if edge.low < reach => (anchor, reach.max(edge.high)),
+                _ => (edge.low, edge.high),
+            };
+            stretch = Some((anchor, reach));
+            if edge.low != anchor {
+                self.add_flat(anchor, &edge)?;
+            }
+        }
+        Ok(())
+    }
+
+    fn add_flat(&mut self, anchor: Point, edge: &NetEdge) -> Result<(), AllocError> {
+        let (a, b) = if edge.count > 0 {
+            (edge.low, edge.high)
+        } else {
+            (edge.high, edge.low)
+        };
+        for _ in 0..edge.count.unsigned_abs() {
+            self.flats.push(Triangle { a, b, c: anchor })?;
+        }
+        Ok(())
+    }
+
+    /// The flats in a list of their own.
+    pub fn own_flats(&self) -> Result<Vec<Triangle>, AllocError> {
+        let mut flats = Vec::with_capacity(self.alloc, self.flats.len())?;
+        for flat in &self.flats {
+            flats.push(*flat)?;
+        }
+        Ok(flats)
+    }
+}

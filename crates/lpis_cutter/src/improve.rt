@@ -1,0 +1,279 @@
+//! Diagonals exchanged, so that fewer boxes overlap.
+
+use crate::halt::Halt;
+use crate::mesh::{Mesh, Side, side_after};
+use lpis_points::{Box4, Point, Triangle, box_of, orient};
+use std::alloc::Global;
+
+/// What an exchange is to lower.
+#[derive(Clone, Copy, Debug)]
+enum Goal {
+    /// The sum of the sizes of the two boxes, a size being w*h + s*(w + h) for this s.
+    Size(i128),
+    /// The overlaps among the boxes of the two triangles and of what lies across their sides; where these are equal, the area.
+    Overlaps,
+}
+
+/// Two triangles on either side of a diagonal from a to b: (a, b, c) and (b, a, d).
+#[derive(Clone, Copy)]
+struct Quad {
+    /// The diagonal as a side of the first triangle, and of the second.
+    side: Side,
+    other: Side,
+    a: u32,
+    b: u32,
+    c: u32,
+    d: u32,
+}
+
+/// Exchanges the diagonals of a piece's triangles. No exchange can spoil a cut; they only decide how many boxes overlap.
+#[derive(Drop)]
+pub(crate) struct Improver {
+    waiting: Vec<Side>,
+    /// Whether each side of each triangle waits.
+    waits: Vec<[bool; 3]>,
+}
+
+fn area(sides: &Box4) -> i128 {
+    let width = sides.x1.wrapping_sub(sides.x0);
+    let height = sides.y1.wrapping_sub(sides.y0);
+    (width as i128).wrapping_mul(height as i128)
+}
+
+fn girth(sides: &Box4) -> i128 {
+    let width = sides.x1.wrapping_sub(sides.x0);
+    let height = sides.y1.wrapping_sub(sides.y0);
+    (width as i128).wrapping_add(height as i128)
+}
+
+fn meet(first: &Box4, second: &Box4) -> bool {
+    first.x0 < second.x1 && second.x0 < first.x1 && first.y0 < second.y1 && second.y0 < first.y1
+}
+
+/// 1 where two boxes meet.
+fn overlap(first: &Box4, second: &Box4) -> u32 {
+    if meet(first, second) { 1 } else { 0 }
+}
+
+/// The square of the distance of two points.
+fn length2(a: Point, b: Point) -> i128 {
+    let x = a.x.wrapping_sub(b.x) as i128;
+    let y = a.y.wrapping_sub(b.y) as i128;
+    x.wrapping_mul(x).wrapping_add(y.wrapping_mul(y))
+}
+
+fn box_round(a: Point, b: Point, c: Point) -> Box4 {
+    box_of(&Triangle { a, b, c })
+}
+
+fn corners_of(points: &[Point], corners: [u32; 3]) -> Option<(Point, Point, Point)> {
+    let [a, b, c] = corners;
+    Some((
+        *points.get(a as usize)?,
+        *points.get(b as usize)?,
+        *points.get(c as usize)?,
+    ))
+}
+
+/// The box of what lies across a side from a to b: of a triangle, or of the bare edge.
+fn box_across(points: &[Point], mesh: &Mesh, side: Side, a: Point, b: Point) -> Box4 {
+    if let Some(other) = mesh.across(side)
+        && let Some(triangle) = mesh.triangles.get(other.triangle as usize)
+        && let Some((p, q, r)) = corners_of(points, triangle.corners)
+    {
+        return box_round(p, q, r);
+    }
+    box_round(a, b, a)
+}
+
+/// The two triangles on either side of a side, if it is a diagonal.
+fn quad_at(mesh: &Mesh, side: Side) -> Option<Quad> {
+    let other = mesh.across(side)?;
+    Some(Quad {
+        side,
+        other,
+        a: mesh.corner(side)?,
+        b: mesh.corner(other)?,
+        c: mesh.corner(side_after(side_after(side)))?,
+        d: mesh.corner(side_after(side_after(other)))?,
+    })
+}
+
+/// Whether the other diagonal is better.
+fn is_better(points: &[Point], mesh: &Mesh, quad: &Quad, goal: Goal) -> Option<bool> {
+    let a = *points.get(quad.a as usize)?;
+    let b = *points.get(quad.b as usize)?;
+    let c = *points.get(quad.c as usize)?;
+    let d = *points.get(quad.d as usize)?;
+    if orient(a, d, c) <= 0 || orient(d, b, c) <= 0 {
+        return Some(false);
+    }
+    let old = [box_round(a, b, c), box_round(b, a, d)];
+    let new = [box_round(a, d, c), box_round(d, b, c)];
+    match goal {
+        Goal::Size(scale) => {
+            let less = size_of(&old, scale).wrapping_sub(size_of(&new, scale));
+            Some(less > 0 || less == 0 && length2(c, d) < length2(a, b))
+        }
+        Goal::Overlaps => {
+            let around = [
+                box_across(points, mesh, side_after(quad.other), a, d),
+                box_across(points, mesh, side_after(side_after(quad.other)), d, b),
+                box_across(points, mesh, side_after(quad.side), b, c),
+                box_across(points, mesh, side_after(side_after(quad.side)), c, a),
+            ];
+            let was = overlaps(&old, &around);
+            let will = overlaps(&new, &around);
+            Some(will < was || will == was && size_of(&new, 0) < size_of(&old, 0))
+        }
+    }
+}
+
+fn size_of(boxes: &[Box4; 2], scale: i128) -> i128 {
+    let [first, second] = boxes;
+    let areas = area(first).wrapping_add(area(second));
+    let girths = girth(first).wrapping_add(girth(second));
+    areas.wrapping_add(scale.wrapping_mul(girths))
+}
+
+/// The overlaps of two boxes with each other and with four others.
+fn overlaps(boxes: &[Box4; 2], around: &[Box4; 4]) -> u32 {
+    let [first, second] = boxes;
+    let mut count = overlap(first, second);
+    for other in around {
+        count = count.wrapping_add(overlap(first, other));
+        count = count.wrapping_add(overlap(second, other));
+    }
+    count
+}
+
+/// Puts the other diagonal: the triangles become (a, d, c) and (d, b, c).
+fn exchange(mesh: &mut Mesh, quad: &Quad) {
+    let t = quad.side.triangle;
+    let u = quad.other.triangle;
+    let from_a_to_d = mesh.across(side_after(quad.other));
+    let from_d_to_b = mesh.across(side_after(side_after(quad.other)));
+    let from_b_to_c = mesh.across(side_after(quad.side));
+    let from_c_to_a = mesh.across(side_after(side_after(quad.side)));
+    mesh.set_corners(t, [quad.a, quad.d, quad.c]);
+    mesh.set_corners(u, [quad.d, quad.b, quad.c]);
+    mesh.glue(Side { triangle: t, k: 0 }, from_a_to_d);
+    mesh.glue(Side { triangle: t, k: 1 }, Some(Side { triangle: u, k: 2 }));
+    mesh.glue(Side { triangle: t, k: 2 }, from_c_to_a);
+    mesh.glue(Side { triangle: u, k: 0 }, from_d_to_b);
+    mesh.glue(Side { triangle: u, k: 1 }, from_b_to_c);
+}
+
+/// An eighth of the mean of w + h over the boxes of triangles.
+fn mean_girth(points: &[Point], mesh: &Mesh) -> i128 {
+    let mut sum: i128 = 0;
+    for triangle in &mesh.triangles {
+        if let Some((a, b, c)) = corners_of(points, triangle.corners) {
+            sum = sum.wrapping_add(girth(&box_round(a, b, c)));
+        }
+    }
+    let count = mesh.triangles.len().max(1) as i128;
+    sum.checked_div(count.wrapping_mul(8)).unwrap_or(0)
+}
+
+impl Improver {
+    pub fn new(alloc: Global) -> Improver {
+        Improver {
+            waiting: Vec::new(alloc),
+            waits: Vec::new(alloc),
+        }
+    }
+
+    /// Two rounds over the diagonals: the first for size, the second for overlaps.
+    pub fn improve(&mut self, points: &[Point], mesh: &mut Mesh) -> Result<(), Halt> {
+        let count = mesh.triangles.len();
+        if count < 2 {
+            return Ok(());
+        }
+        let scale = mean_girth(points, mesh);
+        self.round(points, mesh, Goal::Size(scale), count.saturating_mul(60))?;
+        self.round(points, mesh, Goal::Overlaps, count.saturating_mul(12))
+    }
+
+    /// Looks at each diagonal, and again where a triangle beside it has changed, up to so many times and a thousand.
+    fn round(
+        &mut self,
+        points: &[Point],
+        mesh: &mut Mesh,
+        goal: Goal,
+        looks: usize,
+    ) -> Result<(), Halt> {
+        self.fill(mesh)?;
+        for _ in 0..looks.saturating_add(1000) {
+            let Some(side) = self.waiting.pop() else {
+                return Ok(());
+            };
+            self.set_waits(side, false);
+            if let Some(quad) = quad_at(mesh, side)
+                && is_better(points, mesh, &quad, goal) == Some(true)
+            {
+                exchange(mesh, &quad);
+                self.wait_around(mesh, &quad)?;
+            }
+        }
+        Ok(())
+    }
+
+    fn set_waits(&mut self, side: Side, value: bool) {
+        if let Some(triangle) = self.waits.get_mut(side.triangle as usize)
+            && let Some(waits) = triangle.get_mut(side.k as usize)
+        {
+            *waits = value;
+        }
+    }
+
+    fn is_waiting(&self, side: Side) -> bool {
+        match self.waits.get(side.triangle as usize) {
+            Some(triangle) => triangle.get(side.k as usize) == Some(&true),
+            None => false,
+        }
+    }
+
+    /// Lets each diagonal wait.
+    fn fill(&mut self, mesh: &Mesh) -> Result<(), Halt> {
+        self.waiting.clear();
+        self.waits.clear();
+        for _ in 0..mesh.triangles.len() {
+            self.waits.push([false; 3])?;
+        }
+        for place in 0..mesh.triangles.len() {
+            let triangle = crate::halt::number_of(place)?;
+            for k in 0..3 {
+                let side = Side { triangle, k };
+                if let Some(other) = mesh.across(side)
+                    && other.triangle > triangle
+                {
+                    self.waiting.push(side)?;
+                    self.set_waits(side, true);
+                }
+            }
+        }
+        Ok(())
+    }
+
+    /// Lets the four sides of an exchanged pair wait.
+    fn wait_around(&mut self, mesh: &Mesh, quad: &Quad) -> Result<(), Halt> {
+        let t = quad.side.triangle;
+        let u = quad.other.triangle;
+        for side in [
+            Side { triangle: t, k: 0 },
+            Side { triangle: t, k: 2 },
+            Side { triangle: u, k: 0 },
+            Side { triangle: u, k: 1 },
+        ] {
+            if let Some(other) = mesh.across(side)
+                && !self.is_waiting(side)
+                && !self.is_waiting(other)
+            {
+                self.waiting.push(side)?;
+                self.set_waits(side, true);
+            }
+        }
+        Ok(())
+    }
+}

@@ -1,0 +1,90 @@
+//! Triangles that know what lies across their sides.
+
+use crate::halt::{Halt, number_of};
+use std::alloc::Global;
+
+/// A side of a triangle: from its corner `k` to the next.
+#[derive(Clone, Copy, Debug)]
+pub(crate) struct Side {
+    pub triangle: u32,
+    pub k: u8,
+}
+
+/// Three corners, counter-clockwise, by their numbers, and the side of another triangle across each side: `None` on the border.
+#[derive(Clone, Copy, Debug)]
+pub(crate) struct MeshTriangle {
+    pub corners: [u32; 3],
+    pub across: [Option<Side>; 3],
+}
+
+/// The triangles of one piece.
+#[derive(Drop)]
+pub(crate) struct Mesh {
+    pub triangles: Vec<MeshTriangle>,
+}
+
+/// The next side of a triangle.
+pub(crate) fn side_after(side: Side) -> Side {
+    let k = match side.k {
+        0 => 1,
+        1 => 2,
+        _ => 0,
+    };
+    Side {
+        triangle: side.triangle,
+        k,
+    }
+}
+
+impl Mesh {
+    pub fn new(alloc: Global) -> Mesh {
+        Mesh {
+            triangles: Vec::new(alloc),
+        }
+    }
+
+    /// Adds a triangle with nothing across its sides, and answers its number.
+    pub fn add(&mut self, a: u32, b: u32, c: u32) -> Result<u32, Halt> {
+        let number = number_of(self.triangles.len())?;
+        self.triangles.push(MeshTriangle {
+            corners: [a, b, c],
+            across: [None; 3],
+        })?;
+        Ok(number)
+    }
+
+    /// The corner from which a side goes.
+    pub fn corner(&self, side: Side) -> Option<u32> {
+        let triangle = self.triangles.get(side.triangle as usize)?;
+        triangle.corners.get(side.k as usize).copied()
+    }
+
+    /// The side across a side.
+    pub fn across(&self, side: Side) -> Option<Side> {
+        let triangle = self.triangles.get(side.triangle as usize)?;
+        *triangle.across.get(side.k as usize)?
+    }
+
+    fn set_across(&mut self, side: Side, other: Option<Side>) {
+        if let Some(triangle) = self.triangles.get_mut(side.triangle as usize)
+            && let Some(across) = triangle.across.get_mut(side.k as usize)
+        {
+            *across = other;
+        }
+    }
+
+    /// Glues two sides together, or leaves the first on the border.
+    pub fn glue(&mut self, side: Side, other: Option<Side>) {
+        self.set_across(side, other);
+        if let Some(other) = other {
+            self.set_across(other, Some(side));
+        }
+    }
+
+    /// Sets the corners of a triangle.
+    pub fn set_corners(&mut self, number: u32, corners: [u32; 3]) {
+        if let Some(triangle) = self.triangles.get_mut(number as usize) {
+            triangle.corners = corners;
+        }
+    }
+}

@@ -1,0 +1,47 @@
+//! The triangles of all pieces by their numbers.
+
+use crate::parts::Parts;
+use lpis_points::Triangle;
+use std::alloc::{AllocError, Global};
+
+/// The triangles of all pieces, numbered from 0, and the place of the piece of each.
+#[derive(Drop)]
+pub(crate) struct Numbered {
+    pub triangles: Vec<Triangle>,
+    pub owners: Vec<u32>,
+    /// The number of the first triangle of each piece.
+    pub firsts: Vec<u32>,
+}
+
+impl Numbered {
+    pub fn of(alloc: Global, parts: &Parts) -> Result<Numbered, AllocError> {
+        let count = parts.triangles as usize;
+        let mut triangles = Vec::with_capacity(alloc, count)?;
+        let mut owners = Vec::with_capacity(alloc, count)?;
+        let mut firsts = Vec::with_capacity(alloc, parts.pieces.len())?;
+        for (place, part) in parts.pieces.iter().enumerate() {
+            let owner = u32::try_from(place).unwrap_or(u32::MAX);
+            firsts.push(u32::try_from(triangles.len()).unwrap_or(u32::MAX))?;
+            for triangle in part.triangles.as_slice() {
+                triangles.push(*triangle)?;
+                owners.push(owner)?;
+            }
+        }
+        Ok(Numbered {
+            triangles,
+            owners,
+            firsts,
+        })
+    }
+
+    pub fn triangle(&self, number: u32) -> Option<&Triangle> {
+        self.triangles.get(number as usize)
+    }
+
+    /// The places of the pieces of two triangles.
+    pub fn owners_of(&self, i: u32, j: u32) -> Option<(usize, usize)> {
+        let first = *self.owners.get(i as usize)?;
+        let second = *self.owners.get(j as usize)?;
+        Some((first as usize, second as usize))
+    }
+}

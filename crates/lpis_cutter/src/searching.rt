@@ -1,0 +1,189 @@
+//! Searches for points that show a fault.
+
+ghost use Rattle.std.specs.Prelude.{IfOk};
+ghost use Rattle.lpis_cutter.specs.private.Cutting.{SaysIfAny};
+
+use crate::fault::Refusal;
+use crate::faulty::{Corners, middles};
+use crate::flats::NetEdge;
+use crate::shared::points_in_both;
+use crate::sweep::PieceSweep;
+use crate::telling::{disagreement, parcels_overlap, pieces_overlap};
+use lpis_covers::Id;
+use lpis_parcels::Release;
+use lpis_points::{RatPoint, Triangle};
+use lpis_rings::Polygon;
+use std::alloc::{AllocError, Global};
+
+/// How many edges the searches of one cut may look at, so that no release makes them slower than a cut of a large one.
+const MOST_EDGES: usize = 400_000_000;
+
+/// How many pairs of triangles, and how many parcels, points are looked for at.
+pub(crate) const MOST_SEARCHES: usize = 64;
+
+/// What is left to search with.
+#[derive(Clone, Copy, Debug)]
+pub(crate) struct Budget {
+    /// Edges that may yet be looked at.
+    edges: usize,
+    /// Pairs and parcels at which points may yet be looked for.
+    searches: usize,
+}
+
+impl Budget {
+    pub fn new() -> Budget {
+        Budget {
+            edges: MOST_EDGES,
+            searches: MOST_SEARCHES,
+        }
+    }
+
+    /// The same edges, and as many searches as at first.
+    pub fn renewed(self) -> Budget {
+        Budget {
+            edges: self.edges,
+            searches: MOST_SEARCHES,
+        }
+    }
+
+    /// Takes one search, where there is one.
+    pub fn search(&mut self) -> bool {
+        let is_left = self.searches > 0;
+        self.searches = self.searches.saturating_sub(1);
+        is_left
+    }
+
+    /// Takes so many edges, where there is one.
+    fn look(&mut self, edges: usize) -> bool {
+        let is_left = self.edges > 0;
+        self.edges = self.edges.saturating_sub(edges);
+        is_left
+    }
+}
+
+/// The points of a polygon's rings.
+fn size_of(polygon: &Polygon) -> usize {
+    let mut size: usize = 0;
+    for member in polygon.members() {
+        size = size.saturating_add(member.shell.points().len());
+        for hole in member.holes.as_slice() {
+            size = size.saturating_add(hole.points().len());
+        }
+    }
+    size
+}
+
+/// The first of these points at which the parcel at a place and its pieces disagree; each costs so many edges.
+fn first_disagreement(
+    budget: &mut Budget,
+    release: &Release,
+    place: usize,
+    size: usize,
+    points: &[RatPoint],
+) -> Result<Option<Refusal>, AllocError>
+    ensures { IfOk result (SaysIfAny release.now) }
+{
+    for p in points {
+        if !budget.look(size) {
+            return Ok(None);
+        }
+        let found = disagreement(release, place, p)?;
+        if found.is_some() {
+            return Ok(found);
+        }
+    }
+    Ok(None)
+}
+
+/// A point at which the parcel at a place and its pieces disagree, looked for where residual edges leave rooms between them.
+pub(crate) fn find_disagreement(
+    alloc: Global,
+    sweep: &mut PieceSweep,
+    budget: &mut Budget,
+    release: &Release,
+    place: usize,
+    size: usize,
+    rest: &[NetEdge],
+) -> Result<Option<Refusal>, AllocError>
+    ensures { IfOk result (SaysIfAny release.now) }
+{
+    let points = middles(alloc, sweep, rest)?;
+    let found = first_disagreement(budget, release, place, size, &points)?;
+    if found.is_some() {
+        return Ok(found);
+    }
+    let mut corners = Corners::new(alloc, rest)?;
+    for _ in 0..corners.length() {
+        let Some(points) = corners.next_points(rest)? else {
+            return Ok(None);
+        };
+        let found = first_disagreement(budget, release, place, size, &points)?;
+        if found.is_some() {
+            return Ok(found);
+        }
+    }
+    Ok(None)
+}
+
+/// The place of the parcel of an identifier.
+fn place_of(release: &Release, id: &Id) -> usize {
+    let parcels = release.parcels();
+    for place in 0..parcels.len() {
+        if let Some(parcel) = parcels.get(place)
+            && parcel.id == *id
+        {
+            return place;
+        }
+    }
+    parcels.len()
+}
+
+/// That a point shows an overlap of two pieces or of their parcels, where it does; the parcels come first.
+fn overlap_at(
+    release: &Release,
+    pieces: (usize, usize),
+    parcels: (usize, usize),
+    p: &RatPoint,
+) -> Result<Option<Refusal>, AllocError>
+    ensures { IfOk result (SaysIfAny release.now) }
+{
+    let found = parcels_overlap(release, parcels.0, parcels.1, p)?;
+    if found.is_some() {
+        return Ok(found);
+    }
+    pieces_overlap(release, pieces.0, pieces.1, p)
+}
+
+/// A point that shows an overlap of the pieces at two places or of their parcels, looked for where two of their triangles overlap.
+pub(crate) fn find_overlap(
+    alloc: Global,
+    budget: &mut Budget,
+    release: &Release,
+    pieces: (usize, usize),
+    s: &Triangle,
+    t: &Triangle,
+) -> Result<Option<Refusal>, AllocError>
+    ensures { IfOk result (SaysIfAny release.now) }
+{
+    let (Some(x), Some(y)) = (
+        release.pieces().get(pieces.0),
+        release.pieces().get(pieces.1),
+    ) else {
+        return Ok(None);
+    };
+    let parcels = (place_of(release, &x.parcel), place_of(release, &y.parcel));
+    let size = size_of(&x.polygon)
+        .saturating_add(size_of(&y.polygon))
+        .saturating_mul(2);
+    let points = points_in_both(alloc, s, t)?;
+    for p in &points {
+        if !budget.look(size) {
+            return Ok(None);
+        }
+        let found = overlap_at(release, pieces, parcels, p)?;
+        if found.is_some() {
+            return Ok(found);
+        }
+    }
+    Ok(None)
+}

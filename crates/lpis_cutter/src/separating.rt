@@ -1,0 +1,215 @@
+//! Edges that separate near triangles, and overlaps where none does.
+
+ghost use Rattle.std.specs.Prelude.{◌≤◌, IfOk, IfSome};
+ghost use Rattle.lpis_cert.specs.Limits.{last_edge};
+ghost use Rattle.lpis_cutter.specs.private.Cutting.{SaysIfAny};
+
+use crate::fault::Refusal;
+use crate::numbered::Numbered;
+use crate::searching::{Budget, find_overlap};
+use crate::telling::no_separator;
+use lpis_cert::PairLine;
+use lpis_parcels::Release;
+use lpis_points::{Point, Triangle, apart, box_of, edge, orient};
+use std::alloc::{AllocError, Global};
+
+/// How many triangles behind the first of a piece it is compared with before near pairs are listed.
+const NEXT: usize = 8;
+
+/// Whether each corner is right of the line from a to b, or on it.
+fn is_right(a: Point, b: Point, triangle: &Triangle) -> bool {
+    orient(a, b, triangle.a) <= 0 && orient(a, b, triangle.b) <= 0 && orient(a, b, triangle.c) <= 0
+}
+
+/// The edge of a counter-clockwise triangle that has another on its right.
+fn edge_between(own: &Triangle, other: &Triangle) -> Option<u8>
+    ensures { IfSome result (λ k. k ≤ 2) }
+{
+    for k in 0..3 {
+        if let Some((a, b)) = edge(own, k)
+            && is_right(a, b, other)
+        {
+            return Some(k);
+        }
+    }
+    None
+}
+
+/// The number of the edge that separates two counter-clockwise triangles: 0 to 2 of the first, 3 to 5 of the second.
+fn separator(s: &Triangle, t: &Triangle) -> Option<u8>
+    ensures { IfSome result (λ k. k ≤ last_edge) }
+{
+    if let Some(k) = edge_between(s, t) {
+        return Some(k);
+    }
+    let k = edge_between(t, s)?;
+    Some(k + 3)
+}
+
+/// The overlap of two triangles that no edge separates, where a point is found.
+fn overlap_of(
+    alloc: Global,
+    budget: &mut Budget,
+    release: &Release,
+    numbered: &Numbered,
+    i: u32,
+    j: u32,
+) -> Result<Option<Refusal>, AllocError>
+    ensures { IfOk result (SaysIfAny release.now) }
+{
+    let (Some(pieces), Some(s), Some(t)) = (
+        numbered.owners_of(i, j),
+        numbered.triangle(i),
+        numbered.triangle(j),
+    ) else {
+        return Ok(None);
+    };
+    if pieces.0 == pieces.1 {
+        return Ok(None);
+    }
+    find_overlap(alloc, budget, release, pieces, s, t)
+}
+
+/// A triangle by the least corner of its box.
+#[derive(Clone, Copy, Debug, PartialEq, Eq, PartialOrd, Ord)]
+struct Placed {
+    x: i64,
+    y: i64,
+    number: u32,
+}
+
+/// The first triangle of each piece, from west to east.
+fn firsts_in_order(alloc: Global, numbered: &Numbered) -> Result<Vec<Placed>, AllocError> {
+    let mut placed = Vec::new(alloc);
+    for number in &numbered.firsts {
+        if let Some(triangle) = numbered.triangle(*number) {
+            let sides = box_of(triangle);
+            placed.push(Placed {
+                x: sides.x0,
+                y: sides.y0,
+                number: *number,
+            })?;
+        }
+    }
+    placed.sort_unstable();
+    Ok(placed)
+}
+
+/// Whether two triangles overlap.
+fn do_overlap(numbered: &Numbered, i: u32, j: u32) -> bool {
+    match (numbered.triangle(i), numbered.triangle(j)) {
+        (Some(s), Some(t)) => !apart(s, t) && separator(s, t).is_none(),
+        _ => false,
+    }
+}
+
+/// The overlap of the triangle at a place with one of the next, where a point is found.
+fn overlap_with_next(
+    alloc: Global,
+    budget: &mut Budget,
+    release: &Release,
+    numbered: &Numbered,
+    placed: &[Placed],
+    place: usize,
+) -> Result<Option<Refusal>, AllocError>
+    ensures { IfOk result (SaysIfAny release.now) }
+{
+    let Some(own) = placed.get(place) else {
+        return Ok(None);
+    };
+    for other in placed.iter().skip(place.saturating_add(1)).take(NEXT) {
+        let (i, j) = (own.number.min(other.number), own.number.max(other.number));
+        if do_overlap(numbered, i, j) && budget.search() {
+            let found = overlap_of(alloc, budget, release, numbered, i, j)?;
+            if found.is_some() {
+                return Ok(found);
+            }
+        }
+    }
+    Ok(None)
+}
+
+/// An overlap among the first triangle of each piece and the next few of these. A release with very many overlaps shows one here,
+/// before all near pairs are listed.
+pub(crate) fn early_overlap(
+    alloc: Global,
+    budget: &mut Budget,
+    release: &Release,
+    numbered: &Numbered,
+) -> Result<Option<Refusal>, AllocError>
+    ensures { IfOk result (SaysIfAny release.now) }
+{
+    let placed = firsts_in_order(alloc, numbered)?;
+    for place in 0..placed.len() {
+        let found = overlap_with_next(alloc, budget, release, numbered, &placed, place)?;
+        if found.is_some() {
+            return Ok(found);
+        }
+    }
+    Ok(None)
+}
+
+/// The separators of near pairs; an overlap that was found; and a pair without a separator that is refused where nothing else is.
+#[derive(Drop)]
+pub(crate) struct Separated {
+    pub lines: Vec<PairLine>,
+    pub found: Option<Refusal>,
+    pub kept: Option<Refusal>,
+}
+
+/// The separator of a near pair.
+fn line_of(numbered: &Numbered, i: u32, j: u32) -> Option<PairLine> {
+    let k = separator(numbered.triangle(i)?, numbered.triangle(j)?)?;
+    Some(PairLine { i, j, k })
+}
+
+/// That the pieces of a pair have no separator.
+pub(crate) fn unseparated(
+    release: &Release,
+    numbered: &Numbered,
+    i: u32,
+    j: u32,
+) -> Result<Option<Refusal>, AllocError>
+    ensures { IfOk result (SaysIfAny release.now) }
+{
+    match numbered.owners_of(i, j) {
+        Some((first, second)) => no_separator(release, first, second),
+        None => Ok(None),
+    }
+}
+
+/// The separators of near pairs. Where there is none a point is looked for; without a point the first such pair is kept.
+pub(crate) fn separate(
+    alloc: Global,
+    budget: &mut Budget,
+    release: &Release,
+    numbered: &Numbered,
+    near: &[(u32, u32)],
+) -> Result<Separated, AllocError>
+    ensures found { IfOk result (λ s. SaysIfAny release.now s.found) }
+    ensures kept { IfOk result (λ s. SaysIfAny release.now s.kept) }
+{
+    let mut lines = Vec::with_capacity(alloc, near.len())?;
+    let mut kept = None;
+    for (i, j) in near {
+        if let Some(line) = line_of(numbered, *i, *j) {
+            lines.push(line)?;
+            continue;
+        }
+        if kept.is_none() {
+            kept = unseparated(release, numbered, *i, *j)?;
+        }
+        if !budget.search() {
+            break;
+        }
+        let found = overlap_of(alloc, budget, release, numbered, *i, *j)?;
+        if found.is_some() {
+            return Ok(Separated { lines, found, kept });
+        }
+    }
+    Ok(Separated {
+        lines,
+        found: None,
+        kept,
+    })
+}
