@@ -10,4 +10,5 @@ pub mod Stages
 pub mod Steps
 pub mod Showing
 pub mod Published
+pub mod Readings
 pub mod Loops

@@ -3,13 +3,16 @@
 
 mod fault;
 mod loading;
+mod opening;
 mod preparing;
 mod publishing;
 mod queries;
 mod reading;
+mod register;
 mod statements;
 mod storing;
 mod tables;
 mod writing;
 
 pub use fault::{PublishCode, PublishFault};
+pub use register::Register;

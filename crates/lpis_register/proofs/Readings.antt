@@ -1,0 +1,28 @@
+-- From rows that were read to the history that the tables say.
+use Rattle.std.proofs.Common.{◌≡◌, List, true}
+use Rattle.std.proofs.lemmas.List.Sorted.{IsPermutation-sym}
+use Rattle.sqlite.specs.State.{State}
+use Rattle.lpis_lineage.specs.declared.row.Entry.{Entry}
+use Rattle.lpis_records.specs.Content.{Content, without_live}
+use Rattle.lpis_records.specs.Tells.{IsSameContent, Tells}
+use Rattle.lpis_register.specs.Shapes.{Shape, has_spans}
+use Rattle.lpis_register.specs.Holding.{IsStored}
+use Rattle.lpis_register.specs.Histories.{HoldsHistory}
+
+same_back : (c d : Content) → IsSameContent c d → IsSameContent d c
+same_back c d s = record {
+  formats = IsPermutation-sym _ _ s.formats;
+  years = IsPermutation-sym _ _ s.years;
+  spans = IsPermutation-sym _ _ s.spans;
+  lines = IsPermutation-sym _ _ s.lines;
+  live = IsPermutation-sym _ _ s.live;
+}
+
+-- version 2 does not look at `lpis_live`
+pub tells_whole : (c rows : Content) (k : List Entry) → ((a b : Content) (h : List Entry) → IsSameContent a b → Tells a h → Tells b h) → IsSameContent (without_live c) rows → Tells rows k → Tells c k
+tells_whole c rows k reordered same told =
+    let t = reordered rows (without_live c) k (same_back (without_live c) rows same) told in
+    record { kept = t.kept; formats_are = t.formats_are; years_are = t.years_are; spans_are = t.spans_are; lines_are = t.lines_are }
+
+pub holds_read : (s : Shape) (c : Content) (k : List Entry) (new : State) → has_spans s ≡ true → IsStored s new c → Tells c k → HoldsHistory new k
+holds_read s c k new spans stored tells = record { shape = s; spans = spans; content = c; stored = stored; tells = tells }

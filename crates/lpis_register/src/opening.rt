@@ -1,0 +1,55 @@
+//! The history that the tables say, read.
+
+ghost use Rattle.std.specs.Prelude.{◌≡◌, ◌⊎◌, false, IsTrue, IfOk};
+ghost use Rattle.sqlite.specs.Held.{state};
+ghost use Rattle.sqlite.specs.State.{HasCleanDisk};
+ghost use Rattle.lpis_records.specs.Tells.{IsSameHistory, Tells};
+ghost use Rattle.lpis_register.specs.Histories.{HoldsHistory};
+ghost use Rattle.lpis_register.specs.declared.fault.PublishFault.TheVariants.{Memory, Store};
+
+use crate::fault::PublishFault;
+use crate::loading::load;
+use lpis_lineage::History;
+use lpis_records::{RecordsFault, Rows, history_of, order_of_rows_is_free, tables_say_one_history};
+use sqlite::{Alter, Connection, Error, ErrorCode};
+use std::alloc::Global;
+
+/// The database's want of memory is told as such.
+pub(crate) fn fault_of(error: Error) -> PublishFault
+    ensures { (result ≡ Memory) ⊎ (result ≡ Store) }
+{
+    match error {
+        Error::SqliteFailure(ErrorCode::OutOfMemory) => PublishFault::Memory,
+        _ => PublishFault::Store,
+    }
+}
+
+/// The history that rows say.
+fn history_in(alloc: Global, rows: &Rows) -> Result<History, PublishFault>
+    ensures { IfOk result (Tells rows.now) }
+{
+    match history_of(alloc, rows) {
+        Ok(history) => Ok(history),
+        Err(RecordsFault::Memory) => Err(PublishFault::Memory),
+        Err(RecordsFault::Unlawful) => Err(PublishFault::Unlawful),
+    }
+}
+
+/// The history that the tables of version 2 say, of which there is one. Nothing is changed.
+pub(crate) fn read_history<S: Alter>(
+    alloc: Global,
+    conn: &mut Connection<S>,
+) -> Result<History, PublishFault>
+    requires autocommit { conn.old.in_transaction ≡ false }
+    ensures autocommit { conn.new.in_transaction ≡ false }
+    ensures ok { HasCleanDisk (state S.Store conn.new) → (h : _) → HoldsHistory (state S.Store conn.old) h → IfOk result (λ k. HoldsHistory (state S.Store conn.new) k × IsSameHistory h k) }
+    ensures same { HasCleanDisk (state S.Store conn.new) → IsTrue (state S.Store conn.new).is_open → (h : _) → HoldsHistory (state S.Store conn.old) h → HoldsHistory (state S.Store conn.new) h }
+    ensures clean { HasCleanDisk (state S.Store conn.new) → HasCleanDisk (state S.Store conn.old) }
+{
+    order_of_rows_is_free();
+    tables_say_one_history();
+    match load(alloc, conn) {
+        Ok(rows) => history_in(alloc, &rows),
+        Err(error) => Err(fault_of(error)),
+    }
+}
