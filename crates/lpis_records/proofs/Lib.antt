@@ -10,3 +10,4 @@ pub mod KnownLemmas
 pub mod ReleaseMore
 pub mod Saying
 pub mod LiveRows
+pub mod SpanLists

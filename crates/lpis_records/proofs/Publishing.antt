@@ -37,7 +37,7 @@ pub years-more : (h : List Entry) (e : Entry) → years_of (h ++ e ∷ []) ≡ y
 years-more [] e = refl
 years-more (x ∷ h) e = ap (λ (l : List ℤ). pos x.year ∷ l) (years-more h e)
 
-append-assoc : {A : Type 0} (xs ys zs : List A) → (xs ++ ys) ++ zs ≡ xs ++ (ys ++ zs)
+pub append-assoc : {A : Type 0} (xs ys zs : List A) → (xs ++ ys) ++ zs ≡ xs ++ (ys ++ zs)
 append-assoc [] ys zs = refl
 append-assoc {A = A} (x ∷ xs) ys zs = ap (λ (l : List A). x ∷ l) (append-assoc xs ys zs)
 
@@ -159,7 +159,7 @@ end-id y gone s = by (has_id gone s.id) refl where
   by true e = rw (← e) refl
   by false e = rw (← e) refl
 
-same-length : {A B : Type 0} (b : Bool) (x : A) (y : B) (xs : List A) (ys : List B) → length xs ≡ length ys → length (cond b (x ∷ xs) xs) ≡ length (cond b (y ∷ ys) ys)
+pub same-length : {A B : Type 0} (b : Bool) (x : A) (y : B) (xs : List A) (ys : List B) → length xs ≡ length ys → length (cond b (x ∷ xs) xs) ≡ length (cond b (y ∷ ys) ys)
 same-length true x y xs ys e = ap suc e
 same-length false x y xs ys e = e
 
@@ -187,7 +187,7 @@ none-above id (x ∷ xs) all = by (none-above id xs all.1) (same_id id x) refl w
   by ih true e = absurd (let s = same-by_order id x in let n = all.0 in let m = ap is_eq n in cc)
   by ih false e = ih
 
-once-ascending : (id : List ℕ) (ids : List (List ℕ)) → IsAscending ids → length (filter (same_id id) ids) ≤ 1
+pub once-ascending : (id : List ℕ) (ids : List (List ℕ)) → IsAscending ids → length (filter (same_id id) ids) ≤ 1
 unfolding IsStrictlySortedBy
 once-ascending id [] a = omega arith
 once-ascending id (x ∷ xs) a = by (same_id id x) refl (once-ascending id xs a.1) where

@@ -9,6 +9,7 @@ mod laws;
 mod live;
 mod opening;
 mod rows;
+mod spans;
 mod writing;
 
 pub use fault::RecordsFault;
@@ -19,4 +20,5 @@ pub use laws::{
 };
 pub use live::live_history_of;
 pub use rows::{FormatRow, LineRow, LiveRow, Rows, SpanRow};
+pub use spans::spans_of;
 pub use writing::fresh_ids;

@@ -1,5 +1,5 @@
 -- What was read of rows: machinery, which only private contracts cite.
-use Rattle.std.specs.Prelude.{◌≡◌, ◌<◌, ◌&&◌, ℕ, List, length}
+use Rattle.std.specs.Prelude.{◌≡◌, ◌<◌, ◌&&◌, ◌++◌, ◌∷◌, [], ℕ, List, length}
 use Rattle.std.specs.List.{list_any}
 use Rattle.lpis_covers.specs.Ids.{same_id}
 use Rattle.lpis_lineage.specs.declared.row.Entry.{Entry}
@@ -14,6 +14,11 @@ span_in s = record { id = s.id; since = s.since; until = s.until }
 
 abbrev pub line_in : KnownLine → Line
 line_in l = record { year = l.year; place = l.place; old = l.row.old; new = text_of l.row.new }
+
+-- the identifiers of releases, one after the other
+abbrev pub all_live : List Entry → List (List ℕ)
+all_live [] = []
+all_live (e ∷ h) = e.live ++ all_live h
 
 -- a live row as a span of one year
 abbrev pub one_year : Live → Span
