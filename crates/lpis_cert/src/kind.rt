@@ -2,7 +2,7 @@
 
 /// What a line is, by its first word.
 #[derive(Clone, Copy, Debug, PartialEq, Eq)]
-pub enum Kind {
+pub(crate) enum Kind {
     /// `piece`
     Piece,
     /// `t`
@@ -21,7 +21,7 @@ pub enum Kind {
 
 /// Which blocks can begin.
 #[derive(Clone, Copy, Debug, PartialEq, Eq)]
-pub enum Stage {
+pub(crate) enum Stage {
     /// A piece, a parcel or the pairs.
     Pieces,
     /// A parcel or the pairs.
@@ -30,7 +30,7 @@ pub enum Stage {
 
 /// Which kinds of lines can stand.
 #[derive(Clone, Copy, Debug, PartialEq, Eq)]
-pub enum Expected {
+pub(crate) enum Expected {
     /// This kind alone.
     One(Kind),
     /// The first line of a block.

@@ -23,14 +23,12 @@ mod writing;
 pub use cert::{Cert, MOST_FLATS, MOST_TRIANGLES};
 pub use fault::{CertCode, CertFault};
 pub use fields::GREATEST_COUNT;
-pub use kind::{Expected, Kind, Stage};
 pub use laws::{
     canonical_numbers, cut_texts, one_value_a_text, spelled_lines, texts_have_no_fault,
     texts_without_fault,
 };
 pub use part::{PairLine, ParcelPart, PiecePart};
 pub use reading::read_cert;
-pub use version::Version;
 pub use writing::{WriteFault, write_cert};
 
 #[cfg(test)]

@@ -9,14 +9,14 @@ use lpis_points::LIMIT;
 
 /// A version of the text, by its first line.
 #[derive(Clone, Copy, Debug, PartialEq, Eq)]
-pub enum Version {
+pub(crate) enum Version {
     /// `lpis-cert 1`: coordinates in centimetres.
     One,
 }
 
 impl Version {
     /// The first line of such a text, without its line end.
-    pub fn first_line(self) -> &'static str
+    pub(crate) fn first_line(self) -> &'static str
         ensures { result.now ≡ first_line self }
     {
         match self {

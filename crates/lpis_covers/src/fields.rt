@@ -1,6 +1,6 @@
 //! The fields of a row: identifiers and polygons.
 
-ghost use Rattle.std.specs.Prelude.{◌≡◌, ◌++◌, ◌∷◌, [], IfOk};
+ghost use Rattle.std.specs.Prelude.{◌≡◌, ◌++◌, ◌∷◌, [], IfOk, OnErr};
 ghost use Rattle.lpis_covers.specs.Faults.{id_faults, key_faults, polygon_faults, polygon_in, told};
 ghost use Rattle.lpis_covers.specs.Table.{Answers, field_of};
 
@@ -24,10 +24,11 @@ impl<'a> TableReader<'a> {
     }
 
     /// The identifier in the k-th wanted field of the row that was read last, which is added to the keys of the rows before it
-    /// and may not be among them.
-    pub fn key(&self, alloc: Global, k: usize, keys: &mut Keys) -> Result<Id, TableFault>
+    /// and may not be among them. A refusal adds nothing.
+    pub(crate) fn key(&self, alloc: Global, k: usize, keys: &mut Keys) -> Result<Id, TableFault>
         ensures answers { let field = field_of self.now.row k in Answers result (told (key_faults self.now.table self.now.number keys.old field) field) }
         ensures added { IfOk result (λ id. keys.new ≡ keys.old ++ id ∷ []) }
+        ensures refused { OnErr result (keys.new ≡ keys.old) }
     {
         let id = self.id(alloc, k)?;
         if !keys.add(&id)? {

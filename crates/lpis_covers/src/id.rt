@@ -16,7 +16,7 @@ use std::hash::{Hash, Hasher};
 use std::marker::Model;
 
 /// The most characters of an identifier.
-pub const LONGEST_ID: usize = 40;
+const LONGEST_ID: usize = 40;
 
 /// An identifier: 1 to 40 characters of `A-Z a-z 0-9 . _ : / -`, compared by its bytes. Contracts see its bytes.
 #[derive(Debug, Drop)]

@@ -20,7 +20,7 @@ pub trait Identified {
         ensures { result.now ≡ identifier self.now };
 }
 
-/// The rows of a table in its order, at most `MOST_ROWS`, no two with one identifier. Contracts see their list. A row is found
+/// The rows of a table in its order, at most 200,000, no two with one identifier. Contracts see their list. A row is found
 /// by its identifier in constant time.
 #[derive(Drop)]
 pub struct Keyed<T: Identified> {

@@ -1,6 +1,6 @@
 //! Identifiers of rows.
 
-ghost use Rattle.std.specs.Prelude.{◌≡◌, ◌++◌, ◌∷◌, [], not, length, position, slice_get, is_some, IfOk, IfSome, Some, if◌then◌else◌};
+ghost use Rattle.std.specs.Prelude.{◌≡◌, ◌++◌, ◌∷◌, [], not, length, position, slice_get, is_some, IfOk, OnErr, IfSome, Some, if◌then◌else◌};
 ghost use Rattle.std.specs.List.{IsDistinct};
 ghost use Rattle.lpis_covers.specs.Ids.{has_id, same_id};
 
@@ -11,7 +11,7 @@ use std::marker::Model;
 
 /// Identifiers in the order in which they came, no two the same. Contracts see their list. One is found in constant time.
 #[derive(Drop)]
-pub struct Keys {
+pub(crate) struct Keys {
     ids: IndexSet<Id>,
 }
 
@@ -25,7 +25,7 @@ impl Model for Keys {
 
 impl Keys {
     /// No identifiers.
-    pub fn new(alloc: Global) -> Keys
+    pub(crate) fn new(alloc: Global) -> Keys
         ensures { result ≡ [] }
     {
         Keys {
@@ -33,17 +33,19 @@ impl Keys {
         }
     }
 
-    /// Adds an identifier after the others and tells whether it was not among them. One that was is not added again.
-    pub fn add(&mut self, id: &Id) -> Result<bool, AllocError>
+    /// Adds an identifier after the others and tells whether it was not among them. One that was is not added again; a refusal
+    /// adds nothing.
+    pub(crate) fn add(&mut self, id: &Id) -> Result<bool, AllocError>
         ensures new { IfOk result (λ new. new ≡ not (has_id self.old id.now)) }
         ensures added { IfOk result (λ new. self.new ≡ (if new then self.old ++ id.now ∷ [] else self.old)) }
+        ensures refused { OnErr result (self.new ≡ self.old) }
     {
         let new = self.ids.insert(id.copy()?)?;
         Ok(new)
     }
 
     /// How many there are.
-    pub fn len(&self) -> usize
+    pub(crate) fn len(&self) -> usize
         ensures len { result ≡ length self.now }
         ensures distinct { IsDistinct same_id self.now }
     {
@@ -51,7 +53,7 @@ impl Keys {
     }
 
     /// The place of an identifier.
-    pub fn position(&self, id: &Id) -> Option<usize>
+    pub(crate) fn position(&self, id: &Id) -> Option<usize>
         ensures place { result ≡ position (same_id id.now) self.now }
         ensures found { is_some result ≡ has_id self.now id.now }
         ensures at_place { IfSome result (λ i. slice_get self.now i ≡ Some id.now) }

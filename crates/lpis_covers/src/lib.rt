@@ -15,11 +15,10 @@ mod typed;
 
 pub use class::{Class, Classes, read_classes};
 pub use fault::{Table, TableCode, TableFault};
-pub use id::{Id, LONGEST_ID, is_id_text};
+pub use id::{Id, is_id_text};
 pub use keyed::{Identified, Keyed};
-pub use keys::Keys;
 pub use piece::{Piece, Pieces, read_pieces};
-pub use reader::{MOST_ROWS, TableReader};
+pub use reader::TableReader;
 pub use rows::{Rows, read_table};
 pub use typed::{TableRow, read_rows};
 

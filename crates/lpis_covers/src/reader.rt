@@ -16,7 +16,7 @@ use std::alloc::{AllocError, Global};
 use std::marker::Model;
 
 /// The most rows of a table, its header aside.
-pub const MOST_ROWS: u32 = 200_000;
+const MOST_ROWS: u32 = 200_000;
 
 /// A reader of a table, row by row: it holds one row at a time. Contracts see the number and the wanted fields of the
 /// row that was read last, the rows that are left and the fault that stops them.
@@ -185,28 +185,21 @@ impl<'a> TableReader<'a> {
     }
 
     /// A copy of the wanted fields of the row that was read last.
-    pub fn copy_row(&self, alloc: Global) -> Result<ByteRecord, AllocError>
+    pub(crate) fn copy_row(&self, alloc: Global) -> Result<ByteRecord, AllocError>
         ensures { IfOk result (λ r. fields_of r ≡ self.now.row) }
     {
         picked_row(alloc, &self.current, &self.places)
     }
 
-    /// The number of the row that was read last: 0 is the header.
-    pub fn number(&self) -> u32
-        ensures { result ≡ self.now.number }
-    {
-        self.number
-    }
-
     /// A fault in the row that was read last.
-    pub fn fault(&self, code: TableCode) -> TableFault
+    pub(crate) fn fault(&self, code: TableCode) -> TableFault
         ensures { result ≡ fault_at code self.now.table self.now.number }
     {
         fault(code, self.table, self.number)
     }
 
     /// The fault of a text in the row that was read last, which is no polygon.
-    pub fn geometry_fault(&self, wkt: WktFault) -> TableFault
+    pub(crate) fn geometry_fault(&self, wkt: WktFault) -> TableFault
         ensures { result ≡ At BadGeometry self.now.table self.now.number (Some wkt) }
     {
         TableFault::At {

@@ -9,7 +9,7 @@ mod reading;
 mod release;
 
 pub use eligible::eligible2;
-pub use parcel::{Parcel, Parcels, read_parcels};
+pub use parcel::{Parcel, Parcels};
 pub use pieces::{PiecesOf, pieces_of};
 pub use reading::read_release;
 pub use release::Release;

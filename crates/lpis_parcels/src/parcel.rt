@@ -58,7 +58,7 @@ impl TableRow for Parcel {
 }
 
 /// The parcels of the table `parcels`, with the columns `parcel` and `wkt`, or its first fault.
-pub fn read_parcels(alloc: Global, bytes: &[u8]) -> Result<Parcels, TableFault>
+pub(crate) fn read_parcels(alloc: Global, bytes: &[u8]) -> Result<Parcels, TableFault>
     ensures { Answers result (rows_of parcels_table bytes.now) }
 {
     read_rows(alloc, bytes)

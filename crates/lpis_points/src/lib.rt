@@ -28,7 +28,7 @@ mod triangle;
 
 pub use boxes::{Box4, apart, box_of};
 pub use point::{LIMIT, Point};
-pub use rational::{GREATEST_DENOMINATOR, RatPoint};
+pub use rational::RatPoint;
 pub use separating::separates;
 pub use side::{crossing, orient, orient_at};
 pub use triangle::{Triangle, edge, is_ccw, is_flat};

@@ -6,9 +6,9 @@ ghost use Rattle.lpis_points.specs.RationalRange.{IsDenominator, IsInRangeOver};
 use crate::point::LIMIT;
 
 /// The greatest denominator of a `RatPoint`.
-pub const GREATEST_DENOMINATOR: i64 = 1_000_000;
+const GREATEST_DENOMINATOR: i64 = 1_000_000;
 
-/// The point (x/d, y/d) of the plane, in centimetres. Its denominator is 1 to `GREATEST_DENOMINATOR`, and both
+/// The point (x/d, y/d) of the plane, in centimetres. Its denominator is 1 to 1,000,000, and both
 /// quotients are in the range of a coordinate.
 #[derive(Clone, Copy, Debug, PartialEq, Eq)]
 pub struct RatPoint {
@@ -44,7 +44,7 @@ fn is_in_range_over(d: i64, parts: i64) -> bool
 }
 
 impl RatPoint {
-    /// The point (x/d, y/d), or `None` where `d` is not 1 to `GREATEST_DENOMINATOR` or a quotient is out of range.
+    /// The point (x/d, y/d), or `None` where `d` is not 1 to 1,000,000 or a quotient is out of range.
     pub fn new(x: i64, y: i64, d: i64) -> Option<RatPoint>
         ensures which { IsSome result ↔ (IsDenominator d × IsInRangeOver d x × IsInRangeOver d y) }
         ensures coordinates { IfSome result (λ p. (p.x ≡ x) × (p.y ≡ y) × (p.d ≡ d)) }

@@ -1,8 +1,8 @@
 //! Values at the bounds of what is taken.
 
 use crate::{
-    GREATEST_DENOMINATOR, LIMIT, Point, RatPoint, Triangle, apart, box_of, crossing, edge, is_ccw,
-    is_flat, orient, orient_at, separates,
+    LIMIT, Point, RatPoint, Triangle, apart, box_of, crossing, edge, is_ccw, is_flat, orient,
+    orient_at, separates,
 };
 use std::test::Fail;
 
@@ -21,7 +21,7 @@ fn triangle(corners: [(i64, i64); 3]) -> Result<Triangle, Fail> {
 
 #[test]
 fn rational_points_end_at_their_bounds(rt: HostRuntime) {
-    let reach = 2_000_000_000_000_000;
+    let (reach, greatest) = (2_000_000_000_000_000, 1_000_000);
     for (x, y, d, is_taken) in [
         (0, 0, 1, true),
         (0, 0, 0, false),
@@ -29,10 +29,10 @@ fn rational_points_end_at_their_bounds(rt: HostRuntime) {
         (LIMIT, -LIMIT, 1, true),
         (LIMIT + 1, 0, 1, false),
         (0, -LIMIT - 1, 1, false),
-        (reach, -reach, GREATEST_DENOMINATOR, true),
-        (reach + 1, 0, GREATEST_DENOMINATOR, false),
-        (0, -reach - 1, GREATEST_DENOMINATOR, false),
-        (0, 0, GREATEST_DENOMINATOR + 1, false),
+        (reach, -reach, greatest, true),
+        (reach + 1, 0, greatest, false),
+        (0, -reach - 1, greatest, false),
+        (0, 0, greatest + 1, false),
     ] {
         assert_eq!(rt;
             RatPoint::new(x, y, d).is_some(),

@@ -5,8 +5,8 @@ ghost use Rattle.std.specs.Prelude.{◌≡◌, IfOk};
 use std::alloc::AllocError;
 use std::marker::Model;
 
-/// A list that a field of a public type holds. It is made from a `Vec` and gives it back without taking memory, and
-/// contracts see it as the list of its items.
+/// A list that a field of a public type holds. It is made from a `Vec` without taking memory, and contracts see it as the
+/// list of its items.
 #[derive(Debug, Drop)]
 pub struct Sequence<T> {
     items: Vec<T>,
@@ -33,13 +33,6 @@ impl<T> Sequence<T> {
         ensures { result.now ≡ self.now }
     {
         self.items.as_slice()
-    }
-
-    /// Its items as a `Vec`.
-    pub fn into_vec(self) -> Vec<T>
-        ensures { result.items ≡ self }
-    {
-        self.items
     }
 }
 
