@@ -40,14 +40,20 @@ fn main(rt: HostRuntime) -> ExitCode {
 /// Runs the command that the words of the command line ask for.
 fn run(rt: &HostRuntime) -> Result<u8, Failure> {
     let alloc = rt.alloc();
-    let words: Vec<String> = match env::args(rt) {
-        Ok(words) => words.collect(alloc)?,
+    // Word by word: `collect` asks for room for all of them, and goes on where it gets none.
+    let mut words: Vec<String> = Vec::new(alloc);
+    match env::args(rt) {
+        Ok(given) => {
+            for word in given {
+                words.push(word)?;
+            }
+        }
         Err(error) if error.kind() == io::ErrorKind::InvalidData => {
             let printed = eprintln!(rt; "error: a word of the command line is not UTF-8");
             return usage_ends(ErrorKind::InvalidValue, printed.is_ok());
         }
         Err(_) => return Err(Failure::Memory),
-    };
+    }
     let mut texts: Vec<&str> = Vec::new(alloc);
     for word in &words {
         texts.push(word.as_str())?;
