@@ -20,6 +20,7 @@ tables_in dir = (in_folder dir (codes "parcels.csv"), Parcels) ∷ (in_folder di
 -- the files of a command, in the order in which they are opened, each a path and the name by which a failure tells of it
 abbrev pub files_of : Cmd → List (List ℕ × Name)
 files_of (cmd.Area file) = (file.now, Area) ∷ []
+files_of (cmd.Cut dir cert) = tables_in dir.now ++ (cert.now, Cert) ∷ []
 files_of (cmd.Check dir cert) = tables_in dir.now ++ (cert.now, Cert) ∷ []
 
 -- ---- what is seen of files
@@ -31,4 +32,5 @@ tables_listed t = shown t.parcels ∷ shown t.covers ∷ shown t.classes ∷ []
 
 abbrev pub listed : CommandFiles → List (List ℕ × Name)
 listed (files.Area table) = shown table ∷ []
+listed (files.Cut tables cert) = tables_listed tables ++ shown cert ∷ []
 listed (files.Check tables cert) = tables_listed tables ++ shown cert ∷ []

@@ -2,6 +2,8 @@ pub mod Area
 pub mod AreaAnswer
 pub mod CheckAnswer
 pub mod Command
+pub mod CutAnswer
+pub mod CutRefusals
 pub mod Failures
 pub mod Files
 pub mod Refusals

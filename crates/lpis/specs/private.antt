@@ -1,4 +1,5 @@
 -- Machinery, cited by private contracts alone: no promise rests on it.
 pub mod CheckRuns
 pub mod Commands
+pub mod CutRuns
 pub mod Runs

@@ -1,8 +1,8 @@
 //! The command line.
 
-ghost use Rattle.std.specs.Prelude.{◌≡◌, IfOk, IfSome, Some, false, map};
+ghost use Rattle.std.specs.Prelude.{◌≡◌, IfOk, IfSome, Some, codes, false, map};
 ghost use Rattle.clap.specs.Words.{FailsBy, fault_of, first_of, found_of, rows_of, rule_of, subcommand_of};
-ghost use Rattle.lpis.specs.Command.{IsCommand, IsNamed, area_app, check_app, command_line_app, word_rule};
+ghost use Rattle.lpis.specs.Command.{IsCommand, IsNamed, area_app, check_app, command_line_app, cut_app, unchecked_app, word_rule};
 ghost use Rattle.lpis.specs.private.Commands.{IsCommandOf};
 
 use clap::{Arg, ArgAction, ArgMatches, Command, Error};
@@ -15,6 +15,13 @@ pub enum Cmd<'a> {
     Area {
         /// The table's path.
         file: &'a str,
+    },
+    /// The cut of a release into triangles.
+    Cut {
+        /// The path of the folder of the release's tables.
+        dir: &'a str,
+        /// The path at which the certificate is written.
+        cert: &'a str,
     },
     /// The check of a release against a certificate.
     Check {
@@ -52,12 +59,33 @@ fn area_command<'a>(alloc: Global) -> Result<Command<'a>, AllocError>
         .arg(file)
 }
 
+/// The folder of a release.
+fn dir_argument<'a>(alloc: Global) -> Arg<'a>
+    ensures rule { rule_of result ≡ word_rule (codes "dir") }
+    ensures local { result.global ≡ false }
+{
+    let dir = word_argument(alloc, "dir");
+    described(dir, "A folder with parcels.csv, covers.csv and classes.csv")
+}
+
+/// `cut DIR CERT`.
+fn cut_command<'a>(alloc: Global) -> Result<Command<'a>, AllocError>
+    ensures { IfOk result (λ c. IsCommandOf cut_app c) }
+{
+    let dir = dir_argument(alloc);
+    let cert = word_argument(alloc, "cert");
+    let cert = described(cert, "The file that the certificate is written to");
+    Command::new(alloc, "cut")
+        .about("Cuts a release into triangles, and writes a certificate for it")
+        .arg(dir)?
+        .arg(cert)
+}
+
 /// `check DIR CERT`.
 fn check_command<'a>(alloc: Global) -> Result<Command<'a>, AllocError>
     ensures { IfOk result (λ c. IsCommandOf check_app c) }
 {
-    let dir = word_argument(alloc, "dir");
-    let dir = described(dir, "A folder with parcels.csv, covers.csv and classes.csv");
+    let dir = dir_argument(alloc);
     let cert = word_argument(alloc, "cert");
     let cert = described(cert, "A certificate of triangles for the release");
     Command::new(alloc, "check")
@@ -66,17 +94,26 @@ fn check_command<'a>(alloc: Global) -> Result<Command<'a>, AllocError>
         .arg(cert)
 }
 
-/// The program's command line: one of its commands, which has to be there.
-fn command_line<'a>(alloc: Global) -> Result<Command<'a>, AllocError>
-    ensures { IfOk result (λ c. IsCommandOf command_line_app c) }
+/// The program with the commands that read no certificate. One of the commands has to be there.
+fn line_without_check<'a>(alloc: Global) -> Result<Command<'a>, AllocError>
+    ensures { IfOk result (λ c. IsCommandOf unchecked_app c) }
 {
     let area = area_command(alloc)?;
-    let check = check_command(alloc)?;
+    let cut = cut_command(alloc)?;
     Command::new(alloc, "lpis")
         .about("Checks the releases of a Land Parcel Identification System")
         .subcommand_required(true)
         .subcommand(area)?
-        .subcommand(check)
+        .subcommand(cut)
+}
+
+/// The program's command line.
+fn command_line<'a>(alloc: Global) -> Result<Command<'a>, AllocError>
+    ensures { IfOk result (λ c. IsCommandOf command_line_app c) }
+{
+    let check = check_command(alloc)?;
+    let line = line_without_check(alloc)?;
+    line.subcommand(check)
 }
 
 /// The word of an argument.
@@ -94,6 +131,11 @@ fn command_named<'a>(name: &str, matches: &ArgMatches<'a>) -> Option<Cmd<'a>>
         "area" => {
             let file = word_of(matches, "file")?;
             Some(Cmd::Area { file })
+        }
+        "cut" => {
+            let dir = word_of(matches, "dir")?;
+            let cert = word_of(matches, "cert")?;
+            Some(Cmd::Cut { dir, cert })
         }
         "check" => {
             let dir = word_of(matches, "dir")?;

@@ -4,6 +4,9 @@
 mod answer;
 pub mod checking;
 pub mod command;
+mod created;
+pub mod cut_line;
+pub mod cutting;
 pub mod failure;
 pub mod laws;
 pub mod named;
@@ -19,6 +22,8 @@ pub mod status;
 use checking::run_check;
 use clap::error::ErrorKind;
 use command::{Cmd, command_of};
+use created::Created;
+use cutting::run_cut;
 use failure::{Failure, print_failure};
 use named::{CommandFiles, NamedFile, TableFiles, named_files};
 use running::run_area;
@@ -78,6 +83,12 @@ fn perform(rt: &HostRuntime, command: Cmd<'_>) -> Result<u8, Failure> {
     let mut out = rt.stdout();
     match named_files(alloc, command)? {
         CommandFiles::Area { table } => run_area(alloc, open(rt, &table)?, &mut out),
+        CommandFiles::Cut { tables, cert } => {
+            let (parcels, covers, classes) = open_tables(rt, &tables)?;
+            // Where the release is refused, a file that stands at this path stays as it is.
+            let mut cert = Created::new(rt, cert.path.as_str());
+            run_cut(alloc, parcels, covers, classes, &mut cert, &mut out)
+        }
         CommandFiles::Check { tables, cert } => {
             let (parcels, covers, classes) = open_tables(rt, &tables)?;
             let cert = open(rt, &cert)?;

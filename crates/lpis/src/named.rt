@@ -35,6 +35,13 @@ pub enum CommandFiles {
         /// A table of polygons alone.
         table: NamedFile,
     },
+    /// Of `cut`.
+    Cut {
+        /// The tables of a release.
+        tables: TableFiles,
+        /// The certificate, which is written.
+        cert: NamedFile,
+    },
     /// Of `check`.
     Check {
         /// The tables of a release.
@@ -78,6 +85,10 @@ pub fn named_files(alloc: Global, command: Cmd<'_>) -> Result<CommandFiles, Allo
     match command {
         Cmd::Area { file } => Ok(CommandFiles::Area {
             table: file_at(alloc, file, Name::Area)?,
+        }),
+        Cmd::Cut { dir, cert } => Ok(CommandFiles::Cut {
+            tables: tables_of(alloc, dir)?,
+            cert: file_at(alloc, cert, Name::Cert)?,
         }),
         Cmd::Check { dir, cert } => Ok(CommandFiles::Check {
             tables: tables_of(alloc, dir)?,

@@ -16,8 +16,10 @@ static CHECK: [&str; 4] = ["lpis", "check", "a", "b"];
 
 static WITHOUT_CERTIFICATE: [&str; 3] = ["lpis", "check", "a"];
 
+static CUT: [&str; 4] = ["lpis", "cut", "a", "b"];
+
 /// A command that is not built yet.
-static UNBUILT: [&str; 4] = ["lpis", "cut", "a", "b"];
+static UNBUILT: [&str; 4] = ["lpis", "trace", "a", "b"];
 
 static HELP: [&str; 2] = ["lpis", "--help"];
 
@@ -25,6 +27,8 @@ static HELP: [&str; 2] = ["lpis", "--help"];
 fn words_ask_for_a_command(rt: HostRuntime) -> Result<(), Fail> {
     let command = command_of(rt.alloc(), AREA.as_slice());
     assert!(rt; matches!(command, Ok(Cmd::Area { file }) if file == "a.csv"));
+    let command = command_of(rt.alloc(), CUT.as_slice());
+    assert!(rt; matches!(command, Ok(Cmd::Cut { dir, cert }) if dir == "a" && cert == "b"));
     let command = command_of(rt.alloc(), CHECK.as_slice());
     assert!(rt; matches!(command, Ok(Cmd::Check { dir, cert }) if dir == "a" && cert == "b"));
     Ok(())

@@ -61,8 +61,8 @@ impl Read for Halting<'_> {
 
 /// A writer that takes so many bytes, and then fails.
 #[derive(Drop)]
-struct Full {
-    room: usize,
+pub struct Full {
+    pub room: usize,
 }
 
 impl Write for Full {
