@@ -4,7 +4,6 @@ use Rattle.sqlite.specs.Tree.{Trees}
 use Rattle.sqlite.specs.State.{State}
 use Rattle.lpis_lineage.specs.declared.row.Row.{Row}
 use Rattle.lpis_lineage.specs.declared.row.Entry.{Entry}
-use Rattle.lpis_lineage.specs.Accepts.{Adds}
 use Rattle.lpis_lineage.specs.Faults.{faults, first}
 use Rattle.lpis_lineage.specs.Lineage.{last_year}
 use Rattle.lpis_records.specs.Content.{Content}

@@ -9,6 +9,7 @@ mod publishing;
 mod queries;
 mod reading;
 mod register;
+mod releasing;
 mod statements;
 mod storing;
 mod tables;

@@ -1,7 +1,5 @@
 use Rattle.std.proofs.Common.{◌∙◌, [], sym, subst, IsPermutation}
 use Rattle.std.proofs.lemmas.List.Sorted.{IsPermutation-refl}
-use Rattle.sqlite.specs.Held.{state}
-use Rattle.sqlite.specs.State.{HasCleanDisk}
 use Rattle.lpis_register.proofs.loading.load_first.Goals as goal
 
 pub returns-in_err-years-clause-same : goal.returns-in_err-years-clause-same

@@ -1,6 +1,5 @@
-use Rattle.std.proofs.Common.{◌≡◌, ◌≤◌, pos, arith, sym, subst, ◌∙◌}
+use Rattle.std.proofs.Common.{◌≤◌, pos, arith, sym, subst, ◌∙◌}
 use Rattle.sqlite.specs.Held.{state}
-use Rattle.sqlite.specs.State.{State}
 use Rattle.lpis_records.specs.Content.{published}
 use Rattle.lpis_records.specs.Tells.{Tells}
 use Rattle.lpis_register.proofs.Published.{holds_ok, holds_err, survives_with, left_ok}

@@ -1,0 +1,70 @@
+//! Publishing into tables that say a history.
+
+ghost use Rattle.std.specs.Prelude.{◌≡◌, ◌⊎◌, false, IsTrue, IfOk, IfErr, OnOk, OnErr};
+ghost use Rattle.sqlite.specs.Held.{state};
+ghost use Rattle.sqlite.specs.State.{HasCleanDisk};
+ghost use Rattle.lpis_lineage.specs.Accepts.{Adds};
+ghost use Rattle.lpis_lineage.specs.Changes.{IsChange};
+ghost use Rattle.lpis_lineage.specs.Lineage.{last_live, last_year};
+ghost use Rattle.lpis_records.specs.Tells.{IsWriting};
+ghost use Rattle.lpis_register.specs.Histories.{HoldsHistory, PublishTells};
+ghost use Rattle.lpis_register.specs.declared.fault.PublishFault.TheVariants.{Memory, Store};
+
+use crate::fault::PublishFault;
+use crate::opening::fault_of;
+use crate::preparing::{Prepared, grow, prepare};
+use crate::storing::write_history;
+use lpis_covers::Id;
+use lpis_lineage::{Change, History, Row};
+use sqlite::{Alter, Connection};
+use std::alloc::Global;
+
+/// Writes a prepared release, which is at the history's end already.
+fn write_prepared<S: Alter>(
+    conn: &mut Connection<S>,
+    history: &History,
+    year: u16,
+    last: u16,
+    prepared: &Prepared,
+    rows: &[Row],
+) -> Result<(), PublishFault>
+    requires autocommit { conn.old.in_transaction ≡ false }
+    ensures autocommit { conn.new.in_transaction ≡ false }
+    ensures ok { (h : _) (live : _) → Adds h history.now year live rows.now → last ≡ last_year h → IsWriting h live prepared.now.change.dropped_ids prepared.now.fresh.items → HasCleanDisk (state S.Store conn.new) → HoldsHistory (state S.Store conn.old) h → OnOk result (HoldsHistory (state S.Store conn.new) history.now) }
+    ensures err { (h : _) → HasCleanDisk (state S.Store conn.new) → IsTrue (state S.Store conn.new).is_open → HoldsHistory (state S.Store conn.old) h → OnErr result (HoldsHistory (state S.Store conn.new) h) }
+    ensures fault { IfErr result (λ e. (e ≡ Memory) ⊎ (e ≡ Store)) }
+{
+    let dropped = prepared.change.dropped();
+    let fresh = prepared.fresh.as_slice();
+    match write_history(conn, history, year, last, dropped, fresh, rows) {
+        Ok(()) => Ok(()),
+        Err(error) => Err(fault_of(error)),
+    }
+}
+
+/// Publishes a release: writes it after the history that the tables say, which then has it at its end. With a refusal the tables say
+/// the history before; after `Memory` or `Store` it is to be read from them anew.
+pub(crate) fn publish_release<S: Alter>(
+    alloc: Global,
+    conn: &mut Connection<S>,
+    history: &mut History,
+    year: u16,
+    live: &[Id],
+    rows: &[Row],
+) -> Result<Change, PublishFault>
+    requires autocommit { conn.old.in_transaction ≡ false }
+    ensures autocommit { conn.new.in_transaction ≡ false }
+    ensures tells { PublishTells history.old year live.now rows.now result }
+    ensures adds { OnOk result (Adds history.old history.new year live.now rows.now) }
+    ensures change { IfOk result (IsChange (last_live history.old) live.now rows.now) }
+    ensures ok { HasCleanDisk (state S.Store conn.new) → HoldsHistory (state S.Store conn.old) history.old → OnOk result (HoldsHistory (state S.Store conn.new) history.new) }
+    ensures err { HasCleanDisk (state S.Store conn.new) → IsTrue (state S.Store conn.new).is_open → HoldsHistory (state S.Store conn.old) history.old → OnErr result (HoldsHistory (state S.Store conn.new) history.old) }
+{
+    let last = history.last_year();
+    let prepared = prepare(alloc, history, year, live, rows)?;
+    // From here on the history has the release, which the tables don't have yet.
+    grow(history, year, live, rows)?;
+    write_prepared(conn, history, year, last, &prepared, rows)?;
+    let Prepared { change, .. } = prepared;
+    Ok(change)
+}
