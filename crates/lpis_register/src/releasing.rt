@@ -2,12 +2,12 @@
 
 ghost use Rattle.std.specs.Prelude.{◌≡◌, ◌⊎◌, false, IsTrue, IfOk, IfErr, OnOk, OnErr};
 ghost use Rattle.sqlite.specs.Held.{state};
-ghost use Rattle.sqlite.specs.State.{HasCleanDisk};
+ghost use Rattle.sqlite.specs.State.{HasCleanDisk, Survives};
 ghost use Rattle.lpis_lineage.specs.Accepts.{Adds};
 ghost use Rattle.lpis_lineage.specs.Changes.{IsChange};
 ghost use Rattle.lpis_lineage.specs.Lineage.{last_live, last_year};
 ghost use Rattle.lpis_records.specs.Tells.{IsWriting};
-ghost use Rattle.lpis_register.specs.Histories.{HoldsHistory, PublishTells};
+ghost use Rattle.lpis_register.specs.Histories.{HoldsHistory, LeavesHistory, PublishTells};
 ghost use Rattle.lpis_register.specs.declared.fault.PublishFault.TheVariants.{Memory, Store};
 
 use crate::fault::PublishFault;
@@ -32,6 +32,8 @@ fn write_prepared<S: Alter>(
     ensures autocommit { conn.new.in_transaction ≡ false }
     ensures ok { (h : _) (live : _) → Adds h history.now year live rows.now → last ≡ last_year h → IsWriting h live prepared.now.change.dropped_ids prepared.now.fresh.items → HasCleanDisk (state S.Store conn.new) → HoldsHistory (state S.Store conn.old) h → OnOk result (HoldsHistory (state S.Store conn.new) history.now) }
     ensures err { (h : _) → HasCleanDisk (state S.Store conn.new) → IsTrue (state S.Store conn.new).is_open → HoldsHistory (state S.Store conn.old) h → OnErr result (HoldsHistory (state S.Store conn.new) h) }
+    ensures crash { (h : _) (live : _) → Adds h history.now year live rows.now → last ≡ last_year h → IsWriting h live prepared.now.change.dropped_ids prepared.now.fresh.items → HoldsHistory (state S.Store conn.old) h → Survives (state S.Store conn.old) (state S.Store conn.new) (LeavesHistory history.now) }
+    ensures durable { (h : _) (live : _) → Adds h history.now year live rows.now → last ≡ last_year h → IsWriting h live prepared.now.change.dropped_ids prepared.now.fresh.items → HasCleanDisk (state S.Store conn.new) → HoldsHistory (state S.Store conn.old) h → OnOk result ((db : _) → (state S.Store conn.new).may_leave db → LeavesHistory history.now db) }
     ensures fault { IfErr result (λ e. (e ≡ Memory) ⊎ (e ≡ Store)) }
 {
     let dropped = prepared.change.dropped();
@@ -59,6 +61,8 @@ pub(crate) fn publish_release<S: Alter>(
     ensures change { IfOk result (IsChange (last_live history.old) live.now rows.now) }
     ensures ok { HasCleanDisk (state S.Store conn.new) → HoldsHistory (state S.Store conn.old) history.old → OnOk result (HoldsHistory (state S.Store conn.new) history.new) }
     ensures err { HasCleanDisk (state S.Store conn.new) → IsTrue (state S.Store conn.new).is_open → HoldsHistory (state S.Store conn.old) history.old → OnErr result (HoldsHistory (state S.Store conn.new) history.old) }
+    ensures crash { HoldsHistory (state S.Store conn.old) history.old → Survives (state S.Store conn.old) (state S.Store conn.new) (LeavesHistory history.new) }
+    ensures durable { HasCleanDisk (state S.Store conn.new) → HoldsHistory (state S.Store conn.old) history.old → OnOk result ((db : _) → (state S.Store conn.new).may_leave db → LeavesHistory history.new db) }
 {
     let last = history.last_year();
     let prepared = prepare(alloc, history, year, live, rows)?;
