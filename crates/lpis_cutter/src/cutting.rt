@@ -189,12 +189,7 @@ fn near_pairs(alloc: Global, triangles: &[Triangle]) -> Result<Vec<(u32, u32)>, 
 }
 
 /// The certificate of these parts with the separators of their near pairs.
-fn join(
-    alloc: Global,
-    budget: Budget,
-    release: &Release,
-    filled: Filled,
-) -> Result<Cert, CutFault>
+fn join(alloc: Global, budget: Budget, release: &Release, filled: Filled) -> Result<Cert, CutFault>
     requires kept { SaysIfAny release.now filled.kept }
     ensures { IfErr result (Tells release.now) }
 {
