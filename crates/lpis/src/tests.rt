@@ -3,6 +3,7 @@
 mod areas;
 mod checks;
 mod commands;
+mod cuts;
 mod devices;
 mod large;
 mod tables;
