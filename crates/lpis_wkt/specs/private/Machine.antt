@@ -7,7 +7,7 @@ use Rattle.lpis_rings.specs.Polygon.{points_in, points_of, most_points}
 use Rattle.lpis_wkt.specs.declared.fault.WktCode.{WktCode}
 use Rattle.lpis_wkt.specs.declared.fault.WktCode.TheVariants.{Keyword, Dimension, TooFewPoints, NotClosed, Syntax, TooManyPoints}
 use Rattle.lpis_wkt.specs.declared.coordinate.Coordinate.{Coordinate}
-use Rattle.lpis_wkt.specs.Tokens.{Token, Open, Close, Comma, Word, End, tokens}
+use Rattle.lpis_wkt.specs.Tokens.{Token, Open, Close, Comma, Word, End}
 use Rattle.lpis_wkt.specs.private.Coordinates.{coordinate, point_of}
 use Rattle.lpis_wkt.specs.Grammar.{is_polygon, is_multi}
 use Rattle.lpis_wkt.specs.Table.{keyword_code, open_code, first_open_code}
