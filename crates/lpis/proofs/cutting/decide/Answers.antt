@@ -1,4 +1,3 @@
-use Rattle.lpis.specs.CutAnswer.{Cuts, Tables}
 use Rattle.lpis.proofs.cutting.decide.Goals as goal
 
 pub returns-clause-cuts : goal.returns-clause-cuts
