@@ -1,33 +1,14 @@
 //! The release checker of a Land Parcel Identification System.
 #![tactic(auto)]
 
-mod answer;
-pub mod checking;
-pub mod command;
 mod created;
-pub mod cut_line;
-pub mod cutting;
-pub mod failure;
-pub mod laws;
-pub mod named;
-mod outputs;
-pub mod printing;
-pub mod reading;
-pub mod refusal;
-mod releases;
-pub mod report;
-pub mod running;
-pub mod status;
 
-use checking::run_check;
 use clap::error::ErrorKind;
-use command::{Cmd, command_of};
 use created::Created;
-use cutting::run_cut;
-use failure::{Failure, print_failure};
-use named::{CommandFiles, NamedFile, TableFiles, named_files};
-use running::run_area;
-use status::{status_of, usage_ends};
+use lpis_commands::{
+    Cmd, CommandFiles, Failure, NamedFile, TableFiles, command_of, named_files, print_failure,
+    run_area, run_check, run_cut, status_of, usage_ends,
+};
 use std::fs::File;
 use std::process::ExitCode;
 use std::{env, fs, io};
@@ -112,6 +93,3 @@ fn open_tables(rt: &HostRuntime, tables: &TableFiles) -> Result<(File, File, Fil
     let classes = open(rt, &tables.classes)?;
     Ok((parcels, covers, classes))
 }
-
-#[cfg(test)]
-mod tests;

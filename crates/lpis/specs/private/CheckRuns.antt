@@ -1,6 +1,0 @@
--- The bytes that a check has read.
-use Rattle.lpis.specs.CheckAnswer.{Inputs}
-use Rattle.lpis.specs.declared.checking.InputBytes.{InputBytes}
-
-abbrev pub inputs_of : InputBytes → Inputs
-inputs_of i = record { parcels = i.tables.parcels.items; covers = i.tables.covers.items; classes = i.tables.classes.items; cert = i.cert.items }

@@ -1,0 +1,41 @@
+-- What the matches of the command line say of a command.
+use Rattle.std.proofs.Common.{◌≡◌, ◌∙◌, sym, refl, true, List, ℕ, Option, Some, None, Bor, IfSome, option_map}
+use Rattle.clap.specs.Words.{Row, Text, first_of, found_of, is_simple, is_simple_and_free, rows_of, subcommand_name_of, subcommand_rows_of}
+use Rattle.clap.specs.declared.parser.matches.ArgMatches.{ArgMatches}
+use Rattle.clap.specs.declared.parser.matches.ArgMatches.TheViews.{out-ArgMatches}
+use Rattle.clap.specs.Matches.{first_value}
+use Rattle.clap.proofs.WalkLemmas.{first_value-rows}
+use Rattle.lpis_commands.specs.Command.{IsCommand, IsNamed, command_line_app}
+use Rattle.lpis_commands.specs.declared.command.Cmd.{Cmd}
+use Rattle.clap.proofs.OnLiterals.{clap_on_literals}
+
+pub line-simple : is_simple command_line_app ≡ true
+unfolding clap_on_literals
+line-simple = refl
+
+pub line-free : is_simple_and_free command_line_app ≡ true
+unfolding clap_on_literals
+line-free = refl
+
+-- the first word of an argument, by the rows
+pub word-found : (m : ArgMatches) (id : Text) (o : Option (Bor (List ℕ))) → option_map (λ (s : Bor (List ℕ)). s.now) o ≡ first_value (found_of m) id
+    → IfSome o (λ (word : Bor (List ℕ)). first_of id (rows_of (found_of m)) ≡ Some word.now)
+word-found m id None e = tt
+word-found m id (Some word) e = sym (first_value-rows (found_of m) id) ∙ sym e
+
+-- a command by its name and rows
+pub command-is : (o : Option (Text × List Row)) (name : Text) (rows : List Row) (command : Cmd)
+    → Some name ≡ option_map (λ p. p.0) o → Some rows ≡ option_map (λ p. p.1) o → IsNamed command name rows → IsCommand command o
+command-is None name rows command n r h = cc n
+command-is (Some p) name rows command n r h =
+    let same : name ≡ p.0 = cc n in
+    let at : rows ≡ p.1 = cc r in
+    (rw (same, at) at h)
+
+two : {A B C : Type 0} (f : A → B) (g : A → C) (o : Option A) → option_map f o ≡ option_map (λ (p : B × C). p.0) (option_map (λ (a : A). (f a, g a)) o)
+two f g None = refl
+two f g (Some a) = refl
+
+-- the name of the subcommand, by its rows
+pub named : (m : ArgMatches) → subcommand_name_of m ≡ option_map (λ (p : Text × List Row). p.0) (subcommand_rows_of m)
+named m = two _ _ (out-ArgMatches m).subcommand

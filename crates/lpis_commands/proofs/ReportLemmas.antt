@@ -1,0 +1,45 @@
+-- Sums over the parcels of a release, a parcel at a time.
+use Rattle.std.proofs.Common.{◌≡◌, ◌≤◌, ◌<◌, ◌+◌, ◌*◌, ◌^◌, ◌++◌, ◌∷◌, [], ℕ, ℤ, pos, ◌+ℤ◌, nat_abs, List, Option, length, subst, take, get_or, sym, ap, ◌∙◌, arith}
+use Rattle.std.proofs.lemmas.Int.{ints}
+use Rattle.std.proofs.lemmas.Grind.{flat_map-append}
+use Rattle.std.proofs.lemmas.List.{append-nil, take_more}
+use Rattle.std.specs.Io.KnownBytes.{Appends}
+use Rattle.std.specs.List.{flat_map}
+use Rattle.csv.proofs.WriteFacts.{appends-more}
+use Rattle.lpis_covers.specs.Table.{most_rows}
+use Rattle.lpis_parcels.specs.declared.parcel.Parcel.{Parcel}
+use Rattle.lpis_rings.specs.AreaBounds.{most_area}
+use Rattle.lpis_commands.specs.Report.{sum_over}
+
+add-assoc : (a b c : ℤ) → a +ℤ (b +ℤ c) ≡ (a +ℤ b) +ℤ c
+add-assoc a b c = omega (arith, ints)
+
+zero-sum : (a : ℤ) → a +ℤ pos 0 ≡ pos 0 +ℤ a
+zero-sum a = omega (arith, ints)
+
+-- one parcel more at the end
+sum_over-push : (f : Parcel → ℤ) (ks : List Parcel) (k : Parcel) → sum_over f (ks ++ k ∷ []) ≡ sum_over f ks +ℤ f k
+sum_over-push f [] k = zero-sum (f k)
+sum_over-push f (x ∷ ks) k = ap (λ (z : ℤ). f x +ℤ z) (sum_over-push f ks k) ∙ add-assoc (f x) (sum_over f ks) (f k)
+
+-- the sum over one parcel more of a list
+pub sum_over-more : (f : Parcel → ℤ) (ks : List Parcel) (i : ℕ) (k : Parcel) → i < length ks → sum_over f (take i ks) +ℤ f (get_or ks i k) ≡ sum_over f (take (i + 1) ks)
+sum_over-more f ks i k lt = sym (ap (sum_over f) (take_more ks i k lt) ∙ sum_over-push f (take i ks) (get_or ks i k))
+
+-- a sum over the parcels of a table can be printed
+pub sum-small : (d : ℤ) (n : ℕ) → n ≤ most_rows → nat_abs d ≤ most_area * n → nat_abs d ≤ 10 ^ 36
+sum-small d n few small = omega (arith, few, small)
+
+-- the sum so far, and one parcel more
+pub sum-goes-on : (f : Parcel → ℤ) (ks : List Parcel) (i : ℕ) (k d : Parcel) (sum part new : ℤ) → i < length ks → k ≡ get_or ks i d → new ≡ sum +ℤ part
+    → sum ≡ sum_over f (take i ks) → part ≡ f k → new ≡ sum_over f (take (i + 1) ks)
+sum-goes-on f ks i k d sum part new lt is added so_far this =
+    added ∙ ap (λ (z : ℤ). z +ℤ part) so_far ∙ ap (λ (z : ℤ). sum_over f (take i ks) +ℤ z) (this ∙ ap f is) ∙ sum_over-more f ks i d lt
+
+-- the texts so far, and one parcel's more
+pub text-goes-on : (f : Parcel → List ℕ) (ks : List Parcel) (i : ℕ) (k d : Parcel) (start now next : Option (List ℕ)) → i < length ks → k ≡ get_or ks i d
+    → Appends start now (flat_map f (take i ks)) → Appends now next (f k) → Appends start next (flat_map f (take (i + 1) ks))
+text-goes-on f ks i k d start now next lt is so_far this =
+    let more : flat_map f (take i ks) ++ f k ≡ flat_map f (take (i + 1) ks) =
+    sym (ap (flat_map f) (take_more ks i d lt ∙ ap (λ (x : Parcel). take i ks ++ x ∷ []) (sym is)) ∙ flat_map-append f (take i ks) (k ∷ []) ∙ ap (λ (t : List ℕ). flat_map f (take i ks) ++ t) (append-nil (f k))) in
+    subst (Appends start next) more (appends-more start now next (flat_map f (take i ks)) (f k) so_far this)

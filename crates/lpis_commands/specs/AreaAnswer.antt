@@ -1,0 +1,49 @@
+-- The answer to a table of polygons: text and status, as a function of the table's bytes.
+use Rattle.std.specs.Prelude.{◌≡◌, ◌⊎◌, ◌∷◌, [], ℕ, List, Option, Result, Ok, Err, codes}
+use Rattle.std.specs.List.{flat_map}
+use Rattle.std.specs.Io.KnownBytes.{Appends, Keeps}
+use Rattle.lpis_rings.specs.declared.polygon.Member.{Member}
+use Rattle.lpis_rings.specs.Area.{area2}
+use Rattle.lpis_covers.specs.declared.fault.Table.TheVariants.{Area}
+use Rattle.lpis_covers.specs.declared.fault.TableFault.{TableFault}
+use Rattle.lpis_covers.specs.Faults.{RowsOf, polygon_faults, polygon_in, rows_of}
+use Rattle.lpis_covers.specs.Table.{field_of}
+use Rattle.lpis_commands.specs.declared.failure.Failure.{Failure}
+use Rattle.lpis_commands.specs.declared.failure.Failure.TheVariants.{Write}
+use Rattle.lpis_commands.specs.declared.failure.Name.{Name}
+use Rattle.lpis_commands.specs.declared.failure.Name.TheVariants.{Out}
+use Rattle.lpis_commands.specs.Area.{area_line}
+use Rattle.lpis_commands.specs.Failures.{IsUnread}
+use Rattle.lpis_commands.specs.Refusals.{refusal_text}
+use Rattle.lpis_commands.specs.Status.{done, unreadable}
+use Rattle.lpis_commands.specs.Streams.{Begins, IsRead}
+
+-- a row is a polygon
+abbrev pub area_table : RowsOf (List Member)
+area_table = record {
+  table = Area;
+  columns = codes "wkt" ∷ [];
+  faults = λ keys n row. polygon_faults Area n (field_of row 0);
+  value = λ row. polygon_in (field_of row 0);
+}
+
+-- the area of a polygon on a line
+abbrev pub line_of : List Member → List ℕ
+line_of polygon = area_line (area2 polygon)
+
+-- an area a row, or the line of the first fault; and the status
+abbrev pub answer_from : Result (List (List Member)) TableFault → List ℕ × ℕ
+answer_from (Ok polygons) = (flat_map line_of polygons, done)
+answer_from (Err fault) = (refusal_text fault, unreadable)
+
+abbrev pub answer_of : List ℕ → List ℕ × ℕ
+answer_of bytes = answer_from (rows_of area_table bytes)
+
+-- the run answered with this status, and wrote the text
+abbrev pub Answers : List ℕ → ℕ → Option (List ℕ) → Option (List ℕ) → Type 0
+Answers bytes status old new = (status ≡ (answer_of bytes).1) × Appends old new (answer_of bytes).0
+
+-- the run of a table gave no answer: its reader failed, or the writer did after a beginning of the answer
+abbrev pub Halts : Failure → Option (List ℕ) → Option (List ℕ) → Option (List ℕ) → Type 0
+Halts failure told old new =
+    ((bytes : List ℕ) × IsRead bytes told × (failure ≡ Write Out) × Begins old new (answer_of bytes).0) ⊎ (IsUnread Name.Area failure × Keeps old new)

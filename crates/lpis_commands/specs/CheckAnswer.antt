@@ -1,0 +1,90 @@
+-- The answer to three tables and a certificate: text and status, of the bytes of the four.
+use Rattle.std.specs.Prelude.{◌≡◌, ◌⊎◌, ℕ, List, Option, Result, Ok, Err}
+use Rattle.std.specs.Io.KnownBytes.{Appends, Keeps}
+use Rattle.lpis_covers.specs.declared.fault.TableFault.{TableFault}
+use Rattle.lpis_parcels.specs.Release.{Contents, release_of}
+use Rattle.lpis_cert.specs.declared.cert.Cert.{Cert}
+use Rattle.lpis_cert.specs.declared.fault.CertCode.{CertCode}
+use Rattle.lpis_cert.specs.declared.fault.CertFault.TheVariants as cert
+use Rattle.lpis_cert.specs.Contents.{cert_text}
+use Rattle.lpis_cert.specs.Faults.{verdict}
+use Rattle.lpis_checker.specs.declared.condition.Condition.{Condition}
+use Rattle.lpis_checker.specs.declared.condition.Site.{Site}
+use Rattle.lpis_checker.specs.declared.fault.CheckFault.TheVariants as check
+use Rattle.lpis_checker.specs.FirstFault.{IsFault, place_of}
+use Rattle.lpis_checker.specs.GoodCertificate.{IsGood}
+use Rattle.lpis_checker.specs.SoundMap.{IsSoundMap}
+use Rattle.lpis_commands.specs.Failures.{IsUnchecked}
+use Rattle.lpis_commands.specs.declared.failure.Failure.{Failure}
+use Rattle.lpis_commands.specs.declared.failure.Failure.TheVariants.{Write}
+use Rattle.lpis_commands.specs.declared.failure.Name.TheVariants.{Out}
+use Rattle.lpis_commands.specs.Refusals.{cert_refusal_text, check_refusal_text, refusal_text}
+use Rattle.lpis_commands.specs.Report.{report_text}
+use Rattle.lpis_commands.specs.Status.{done, refused, unreadable}
+use Rattle.lpis_commands.specs.Streams.{Begins, IsRead}
+
+-- the bytes of three tables and a certificate
+pub record Inputs : Type 0 where
+  pub parcels : List ℕ
+  pub covers : List ℕ
+  pub classes : List ℕ
+  pub cert : List ℕ
+
+-- a text with a status
+abbrev pub Answer : Type 0
+Answer = List ℕ × ℕ
+
+-- of a release and a certificate: the report where the certificate is good, or the line of the lowest code that fails, with its
+-- first place
+abbrev pub IsCheckAnswer : Contents → Cert → Answer → Type 0
+IsCheckAnswer r c a =
+    (IsGood r c × (a ≡ (report_text r, done))) ⊎ ((code : Condition) × (site : Site) × IsFault r c code site × (a ≡ (check_refusal_text (check.At code (place_of r c site)), refused)))
+
+-- of a release and a text: the line of the text's first fault, or the answer to the certificate whose text it is
+abbrev pub IsCertAnswer : Contents → List ℕ → Result ℕ (CertCode × ℕ) → Answer → Type 0
+IsCertAnswer r text (Err fault) a = a ≡ (cert_refusal_text (cert.At fault.0 fault.1), unreadable)
+IsCertAnswer r text (Ok lines) a = (c : Cert) × (text ≡ cert_text c) × IsCheckAnswer r c a
+
+-- of a text and a release, or the tables' first fault: the line of that fault, or the answer to the release and the text
+abbrev pub IsReleaseAnswer : List ℕ → Result Contents TableFault → Answer → Type 0
+IsReleaseAnswer text (Err fault) a = a ≡ (refusal_text fault, unreadable)
+IsReleaseAnswer text (Ok r) a = IsCertAnswer r text (verdict text) a
+
+-- the answer to three tables and a certificate: faults of the tables come first, then those of the certificate's text
+abbrev pub IsAnswer : Inputs → Answer → Type 0
+IsAnswer x a = IsReleaseAnswer x.cert (release_of x.parcels x.covers x.classes) a
+
+-- the run answered with this status, and wrote the text
+abbrev pub Checks : Inputs → ℕ → Option (List ℕ) → Option (List ℕ) → Type 0
+Checks x status old new = (text : List ℕ) × IsAnswer x (text, status) × Appends old new text
+
+-- the tables are those of a release that is a sound map, and the text is that of a certificate good for it
+pub record IsProved (x : Inputs) : Type 0 where
+  pub release : Contents
+  pub tables : release_of x.parcels x.covers x.classes ≡ Ok release
+  pub sound : IsSoundMap release
+  pub certificate : Cert
+  pub text : x.cert ≡ cert_text certificate
+  pub good : IsGood release certificate
+
+-- the inputs are what four readers told, as far as it is known
+pub record AreRead (x : Inputs) (parcels covers classes cert : Option (List ℕ)) : Type 0 where
+  pub of_parcels : IsRead x.parcels parcels
+  pub of_covers : IsRead x.covers covers
+  pub of_classes : IsRead x.classes classes
+  pub of_cert : IsRead x.cert cert
+
+-- the run of these inputs answered with this status, and wrote the text; a yes comes only for a release that is a sound map, and a
+-- certificate that is good for it
+abbrev pub Ends : Inputs → ℕ → Option (List ℕ) → Option (List ℕ) → Type 0
+Ends x status old new = Checks x status old new × (status ≡ done → IsProved x)
+
+-- a beginning of the answer to these inputs was written
+abbrev pub IsBegun : Inputs → Option (List ℕ) → Option (List ℕ) → Type 0
+IsBegun x old new = (a : Answer) × IsAnswer x a × (a.1 ≡ done → IsProved x) × Begins old new a.0
+
+-- the run of what four readers told gave no answer: a reader failed, or the writer did after a beginning of the answer
+abbrev pub Halts : Failure → (parcels covers classes cert : Option (List ℕ)) → Option (List ℕ) → Option (List ℕ) → Type 0
+Halts failure parcels covers classes cert old new =
+    ((x : Inputs) × AreRead x parcels covers classes cert × (failure ≡ Write Out) × IsBegun x old new)
+    ⊎ (IsUnchecked parcels covers classes failure × Keeps old new)

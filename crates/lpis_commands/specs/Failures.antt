@@ -1,0 +1,38 @@
+-- What stands for a run that gave no answer.
+use Rattle.std.specs.Prelude.{◌≡◌, ◌⊎◌, ℕ, List, Option, ◌++◌, codes}
+use Rattle.lpis_commands.specs.declared.failure.Name.{Name}
+use Rattle.lpis_commands.specs.declared.failure.Name.TheVariants.{Area, Parcels, Covers, Classes, Lineage, Cert, Out}
+use Rattle.lpis_commands.specs.declared.failure.Failure.{Failure}
+use Rattle.lpis_commands.specs.declared.failure.Failure.TheVariants.{Memory, Read, Write, Store}
+use Rattle.lpis_commands.specs.Streams.{IsWithin}
+
+-- an input or an output by its name
+abbrev pub name_text : Name → List ℕ
+name_text Area = codes "area"
+name_text Parcels = codes "parcels"
+name_text Covers = codes "covers"
+name_text Classes = codes "classes"
+name_text Lineage = codes "lineage"
+name_text Cert = codes "cert"
+name_text Out = codes "out"
+
+-- the line of a failure
+abbrev pub failure_text : Failure → List ℕ
+failure_text Memory = codes "failed memory\n"
+failure_text (Read name) = codes "failed read " ++ name_text name ++ codes "\n"
+failure_text (Write name) = codes "failed write " ++ name_text name ++ codes "\n"
+failure_text Store = codes "failed store\n"
+
+-- an input was not read, or memory ran out
+abbrev pub IsUnread : Name → Failure → Type 0
+IsUnread name failure = (failure ≡ Memory) ⊎ (failure ≡ Read name)
+
+-- a table of a release was not read, while those before it were; or memory ran out
+abbrev pub IsUnreadRelease : (parcels covers : Option (List ℕ)) → Failure → Type 0
+IsUnreadRelease parcels covers failure =
+    (failure ≡ Memory) ⊎ (failure ≡ Read Parcels) ⊎ (IsWithin parcels × (failure ≡ Read Covers)) ⊎ (IsWithin parcels × IsWithin covers × (failure ≡ Read Classes))
+
+-- so it is of the tables, or the certificate was not read, while the tables were
+abbrev pub IsUnchecked : (parcels covers classes : Option (List ℕ)) → Failure → Type 0
+IsUnchecked parcels covers classes failure =
+    IsUnreadRelease parcels covers failure ⊎ (IsWithin parcels × IsWithin covers × IsWithin classes × (failure ≡ Read Cert))

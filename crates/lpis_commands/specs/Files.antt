@@ -1,0 +1,36 @@
+-- The files of a command.
+use Rattle.std.specs.Prelude.{◌∷◌, [], ◌++◌, ℕ, List, codes, string_bytes}
+use Rattle.lpis_commands.specs.declared.command.Cmd.{Cmd}
+use Rattle.lpis_commands.specs.declared.command.Cmd.TheVariants as cmd
+use Rattle.lpis_commands.specs.declared.failure.Name.{Name}
+use Rattle.lpis_commands.specs.declared.failure.Name.TheVariants.{Area, Parcels, Covers, Classes, Cert}
+use Rattle.lpis_commands.specs.declared.named.NamedFile.{NamedFile}
+use Rattle.lpis_commands.specs.declared.named.TableFiles.{TableFiles}
+use Rattle.lpis_commands.specs.declared.named.CommandFiles.{CommandFiles}
+use Rattle.lpis_commands.specs.declared.named.CommandFiles.TheVariants as files
+
+-- a file's path in a folder
+abbrev pub in_folder : List ℕ → List ℕ → List ℕ
+in_folder dir file = dir ++ codes "/" ++ file
+
+-- the tables of the release in a folder
+abbrev pub tables_in : List ℕ → List (List ℕ × Name)
+tables_in dir = (in_folder dir (codes "parcels.csv"), Parcels) ∷ (in_folder dir (codes "covers.csv"), Covers) ∷ (in_folder dir (codes "classes.csv"), Classes) ∷ []
+
+-- the files of a command, in the order in which they are opened, each a path and the name by which a failure tells of it
+abbrev pub files_of : Cmd → List (List ℕ × Name)
+files_of (cmd.Area file) = (file.now, Area) ∷ []
+files_of (cmd.Cut dir cert) = tables_in dir.now ++ (cert.now, Cert) ∷ []
+files_of (cmd.Check dir cert) = tables_in dir.now ++ (cert.now, Cert) ∷ []
+
+-- ---- what is seen of files
+abbrev pub shown : NamedFile → List ℕ × Name
+shown i = (string_bytes i.path, i.name)
+
+abbrev pub tables_listed : TableFiles → List (List ℕ × Name)
+tables_listed t = shown t.parcels ∷ shown t.covers ∷ shown t.classes ∷ []
+
+abbrev pub listed : CommandFiles → List (List ℕ × Name)
+listed (files.Area table) = shown table ∷ []
+listed (files.Cut tables cert) = tables_listed tables ++ shown cert ∷ []
+listed (files.Check tables cert) = tables_listed tables ++ shown cert ∷ []

@@ -1,0 +1,34 @@
+-- The report of a release.
+use Rattle.std.specs.Prelude.{◌++◌, ◌∷◌, [], ◌+ℤ◌, ℕ, ℤ, pos, List, codes, length}
+use Rattle.std.specs.Fmt.{decimal}
+use Rattle.std.specs.List.{flat_map}
+use Rattle.lpis_rings.specs.Area.{area2}
+use Rattle.lpis_parcels.specs.declared.parcel.Parcel.{Parcel}
+use Rattle.lpis_parcels.specs.Eligible.{eligible2}
+use Rattle.lpis_parcels.specs.Release.{Contents}
+use Rattle.lpis_commands.specs.Area.{area_text}
+
+-- a number of each parcel, over all parcels
+abbrev pub sum_over : (Parcel → ℤ) → List Parcel → ℤ
+sum_over f [] = pos 0
+sum_over f (k ∷ ks) = f k +ℤ sum_over f ks
+
+-- an area and how much of it is eligible, up to the end of the line
+unfoldable pub areas_text : ℤ → ℤ → List ℕ
+areas_text area eligible = codes " area " ++ area_text area ++ codes " eligible " ++ area_text eligible ++ codes "\n"
+
+-- the line that counts parcels and pieces
+abbrev pub counts_line : Contents → List ℕ
+counts_line r = codes "parcels " ++ decimal (length r.parcels) ++ codes " pieces " ++ decimal (length r.pieces) ++ codes "\n"
+
+-- the line of a parcel: its identifier, its area, its maximum eligible area
+abbrev pub parcel_line : Contents → Parcel → List ℕ
+parcel_line r k = codes "parcel " ++ k.id ++ areas_text (area2 k.polygon) (eligible2 r k.id)
+
+-- the line of all parcels together
+abbrev pub total_line : Contents → List ℕ
+total_line r = codes "total" ++ areas_text (sum_over (λ k. area2 k.polygon) r.parcels) (sum_over (λ k. eligible2 r k.id) r.parcels)
+
+-- the report: the counts, a line a parcel in the order of the table, the sums over all parcels, and the yes
+abbrev pub report_text : Contents → List ℕ
+report_text r = counts_line r ++ flat_map (parcel_line r) r.parcels ++ total_line r ++ codes "yes\n"

@@ -1,0 +1,50 @@
+//! What a run prints.
+
+ghost use Rattle.std.specs.Prelude.{◌≡◌, IfErr, IfOk, OnOk};
+ghost use Rattle.std.specs.Io.KnownBytes.{Appends};
+ghost use Rattle.lpis_commands.specs.Refusals.{refusal_text};
+ghost use Rattle.lpis_commands.specs.Status.{unreadable};
+ghost use Rattle.lpis_commands.specs.Streams.{Begins};
+ghost use Rattle.lpis_commands.specs.declared.failure.Failure.{Failure};
+ghost use Rattle.lpis_commands.specs.declared.failure.Name.{Name};
+
+use crate::failure::{Failure, Name};
+use crate::outputs::write_text;
+use crate::refusal::print_table_fault;
+use crate::status::UNREADABLE;
+use lpis_covers::TableFault;
+use std::alloc::{AllocError, Global};
+use std::io::Write;
+
+/// What a run prints, and the status that it ends with. It is known before anything is written.
+#[derive(Drop)]
+pub(crate) struct Answer {
+    pub text: Vec<u8>,
+    pub status: u8,
+}
+
+impl Answer {
+    /// The line of a refused table.
+    pub(crate) fn refuse_table(alloc: Global, fault: &TableFault) -> Result<Answer, AllocError>
+        ensures { IfOk result (λ a. (a.text.items ≡ refusal_text fault.now) × (a.status ≡ unreadable)) }
+    {
+        let mut text = Vec::new(alloc);
+        match print_table_fault(fault, &mut text) {
+            Ok(()) => Ok(Answer {
+                text,
+                status: UNREADABLE,
+            }),
+            Err(_) => Err(AllocError),
+        }
+    }
+
+    /// Writes its text. Ok is its status.
+    pub(crate) fn write_to<W: Write>(&self, out: &mut W) -> Result<u8, Failure>
+        ensures status { IfOk result (λ status. status ≡ self.now.status) }
+        ensures text { OnOk result (Appends (W.contents out.old) (W.contents out.new) self.now.text.items) }
+        ensures failure { IfErr result (λ failure. (failure ≡ Failure.Write Name.Out) × Begins (W.contents out.old) (W.contents out.new) self.now.text.items) }
+    {
+        write_text(self.text.as_slice(), Name::Out, out)?;
+        Ok(self.status)
+    }
+}

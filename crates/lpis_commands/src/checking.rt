@@ -1,0 +1,156 @@
+//! The run of `check`, over any readers and writer.
+
+ghost use Rattle.std.specs.Prelude.{◌≡◌, IfErr, IfOk};
+ghost use Rattle.lpis_cert.specs.Contents.{cert_text};
+ghost use Rattle.lpis_cert.specs.Faults.{verdict};
+ghost use Rattle.lpis_cert.specs.declared.cert.Cert.{Cert};
+ghost use Rattle.lpis_checker.specs.GoodCertificate.{IsGood};
+ghost use Rattle.lpis_checker.specs.SoundMap.{IsSoundMap};
+ghost use Rattle.lpis_commands.specs.CheckAnswer.{AreRead, Ends, Halts, Inputs, IsAnswer, IsCertAnswer, IsCheckAnswer, IsProved};
+ghost use Rattle.lpis_commands.specs.private.CheckRuns.{inputs_of};
+ghost use Rattle.lpis_commands.specs.Failures.{IsUnchecked};
+ghost use Rattle.lpis_commands.specs.Refusals.{cert_refusal_text, check_refusal_text, refusal_text};
+ghost use Rattle.lpis_commands.specs.Report.{report_text};
+ghost use Rattle.lpis_commands.specs.Status.{done, refused, unreadable};
+
+use crate::answer::Answer;
+use crate::failure::{Failure, Name};
+use crate::reading::read_named;
+use crate::refusal::{print_cert_fault, print_check_fault};
+use crate::releases::{TableBytes, read_tables};
+use crate::report::write_report;
+use crate::status::{DONE, REFUSED, UNREADABLE};
+use lpis_cert::{Cert, CertFault, read_cert};
+use lpis_checker::{CheckFault, Yes, check};
+use lpis_covers::TableFault;
+use lpis_pairs::Sweep;
+use lpis_parcels::{Release, read_release};
+use std::alloc::{AllocError, Global};
+use std::io::{Read, Write};
+
+/// The bytes of three tables and a certificate.
+#[derive(Drop)]
+struct InputBytes {
+    tables: TableBytes,
+    cert: Vec<u8>,
+}
+
+/// The line of a text that is no certificate.
+fn refuse_text(alloc: Global, fault: &CertFault) -> Result<Answer, AllocError>
+    ensures { IfOk result (λ a. (a.text.items ≡ cert_refusal_text fault.now) × (a.status ≡ unreadable)) }
+{
+    let mut text = Vec::new(alloc);
+    match print_cert_fault(fault, &mut text) {
+        Ok(()) => Ok(Answer {
+            text,
+            status: UNREADABLE,
+        }),
+        Err(_) => Err(AllocError),
+    }
+}
+
+/// The line of a certificate that is not good.
+fn refuse_cert(alloc: Global, fault: &CheckFault) -> Result<Answer, AllocError>
+    ensures { IfOk result (λ a. (a.text.items ≡ check_refusal_text fault.now) × (a.status ≡ refused)) }
+{
+    let mut text = Vec::new(alloc);
+    match print_check_fault(fault, &mut text) {
+        Ok(()) => Ok(Answer {
+            text,
+            status: REFUSED,
+        }),
+        Err(_) => Err(AllocError),
+    }
+}
+
+/// The report of a checked release.
+fn report(alloc: Global, yes: &Yes<'_>) -> Result<Answer, AllocError>
+    ensures { IfOk result (λ a. (a.text.items ≡ report_text yes.now) × (a.status ≡ done)) }
+{
+    let mut text = Vec::new(alloc);
+    match write_report(yes, &mut text) {
+        Ok(()) => Ok(Answer { text, status: DONE }),
+        Err(_) => Err(AllocError),
+    }
+}
+
+/// The answer to a release and a certificate.
+fn answer_to_cert(alloc: Global, release: &Release, cert: &Cert) -> Result<Answer, AllocError>
+    ensures answer { IfOk result (λ a. IsCheckAnswer release.now cert.now (a.text.items, a.status)) }
+    ensures proved { IfOk result (λ a. a.status ≡ done → IsSoundMap release.now × IsGood release.now cert.now) }
+{
+    match check(alloc, release, cert, &Sweep) {
+        Ok(yes) => {
+            // What is checked is a sound map.
+            let _ = yes.release();
+            report(alloc, &yes)
+        }
+        Err(CheckFault::Memory) => Err(AllocError),
+        Err(fault) => refuse_cert(alloc, &fault),
+    }
+}
+
+/// The answer to a release and the text of a certificate.
+fn answer_to_text(alloc: Global, release: &Release, text: &[u8]) -> Result<Answer, AllocError>
+    ensures answer { IfOk result (λ a. IsCertAnswer release.now text.now (verdict text.now) (a.text.items, a.status)) }
+    ensures proved { IfOk result (λ a. a.status ≡ done → IsSoundMap release.now × ((c : Cert) × (text.now ≡ cert_text c) × IsGood release.now c)) }
+{
+    match read_cert(alloc, text) {
+        Ok(cert) => answer_to_cert(alloc, release, &cert),
+        Err(CertFault::Memory) => Err(AllocError),
+        Err(fault) => refuse_text(alloc, &fault),
+    }
+}
+
+/// The answer to three tables and a certificate.
+fn answer_to(alloc: Global, inputs: &InputBytes) -> Result<Answer, AllocError>
+    ensures answer { IfOk result (λ a. IsAnswer (inputs_of inputs.now) (a.text.items, a.status)) }
+    ensures proved { IfOk result (λ a. a.status ≡ done → IsProved (inputs_of inputs.now)) }
+{
+    let parcels = inputs.tables.parcels.as_slice();
+    let covers = inputs.tables.covers.as_slice();
+    let classes = inputs.tables.classes.as_slice();
+    match read_release(alloc, parcels, covers, classes) {
+        Ok(release) => answer_to_text(alloc, &release, inputs.cert.as_slice()),
+        Err(TableFault::Memory) => Err(AllocError),
+        Err(fault) => Answer::refuse_table(alloc, &fault),
+    }
+}
+
+/// All bytes of the inputs, which are read in this order.
+fn read_inputs<P: Read + Drop, C: Read + Drop, K: Read + Drop, E: Read + Drop>(
+    alloc: Global,
+    parcels: P,
+    covers: C,
+    classes: K,
+    cert: E,
+) -> Result<InputBytes, Failure>
+    ensures bytes { IfOk result (λ i. AreRead (inputs_of i) (P.remaining parcels) (C.remaining covers) (K.remaining classes) (E.remaining cert)) }
+    ensures failure { IfErr result (IsUnchecked (P.remaining parcels) (C.remaining covers) (K.remaining classes)) }
+{
+    let tables = read_tables(alloc, parcels, covers, classes)?;
+    let cert = read_named(alloc, cert, Name::Cert)?;
+    Ok(InputBytes { tables, cert })
+}
+
+/// Checks the release of three tables against a certificate, and prints the report of a release that is a sound map, or the line of
+/// the first fault: of the tables, then of the certificate's text, then of the certificate.
+///
+/// All inputs are read to their ends, in the order in which they stand here, before anything is decided, and everything is decided
+/// before anything is written. Ok is the status: `DONE`, `REFUSED` or `UNREADABLE`.
+pub fn run_check<P: Read + Drop, C: Read + Drop, K: Read + Drop, E: Read + Drop, W: Write>(
+    alloc: Global,
+    parcels: P,
+    covers: C,
+    classes: K,
+    cert: E,
+    out: &mut W,
+) -> Result<u8, Failure>
+    ensures answer { IfOk result (λ status. (x : Inputs) × AreRead x (P.remaining parcels) (C.remaining covers) (K.remaining classes) (E.remaining cert) × Ends x status (W.contents out.old) (W.contents out.new)) }
+    // A beginning of the answer was written, or nothing.
+    ensures failure { IfErr result (λ failure. Halts failure (P.remaining parcels) (C.remaining covers) (K.remaining classes) (E.remaining cert) (W.contents out.old) (W.contents out.new)) }
+{
+    let inputs = read_inputs(alloc, parcels, covers, classes, cert)?;
+    let answer = answer_to(alloc, &inputs)?;
+    answer.write_to(out)
+}

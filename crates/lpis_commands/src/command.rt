@@ -1,0 +1,168 @@
+//! The command line.
+
+ghost use Rattle.std.specs.Prelude.{◌≡◌, IfOk, IfSome, Some, codes, false, map};
+ghost use Rattle.clap.specs.Words.{FailsBy, fault_of, first_of, found_of, rows_of, rule_of, subcommand_of};
+ghost use Rattle.lpis_commands.specs.Command.{IsCommand, IsNamed, area_app, check_app, command_line_app, cut_app, unchecked_app, word_rule};
+ghost use Rattle.lpis_commands.specs.private.Commands.{IsCommandOf};
+
+use clap::{Arg, ArgAction, ArgMatches, Command, Error};
+use std::alloc::{AllocError, Global};
+
+/// What the words of a command line ask for.
+#[derive(Clone, Copy, Debug, Drop)]
+pub enum Cmd<'a> {
+    /// The areas of the polygons of a table.
+    Area {
+        /// The table's path.
+        file: &'a str,
+    },
+    /// The cut of a release into triangles.
+    Cut {
+        /// The path of the folder of the release's tables.
+        dir: &'a str,
+        /// The path at which the certificate is written.
+        cert: &'a str,
+    },
+    /// The check of a release against a certificate.
+    Check {
+        /// The path of the folder of the release's tables.
+        dir: &'a str,
+        /// The certificate's path.
+        cert: &'a str,
+    },
+}
+
+/// An argument with the text that help has for it.
+fn described<'a>(argument: Arg<'a>, text: &'a str) -> Arg<'a>
+    ensures rule { rule_of result ≡ rule_of argument.entry }
+    ensures local { result.global ≡ argument.entry.global }
+{
+    argument.help(text)
+}
+
+/// A required argument of one word.
+fn word_argument<'a>(alloc: Global, id: &'a str) -> Arg<'a>
+    ensures rule { rule_of result ≡ word_rule id.entry.now }
+    ensures local { result.global ≡ false }
+{
+    Arg::new(alloc, id).required(true).action(ArgAction::Set)
+}
+
+/// `area FILE`.
+fn area_command<'a>(alloc: Global) -> Result<Command<'a>, AllocError>
+    ensures { IfOk result (λ c. IsCommandOf area_app c) }
+{
+    let file = word_argument(alloc, "file");
+    let file = described(file, "A table in CSV with a column `wkt`");
+    Command::new(alloc, "area")
+        .about("Prints the area of each polygon of a table, in square metres")
+        .arg(file)
+}
+
+/// The folder of a release.
+fn dir_argument<'a>(alloc: Global) -> Arg<'a>
+    ensures rule { rule_of result ≡ word_rule (codes "dir") }
+    ensures local { result.global ≡ false }
+{
+    let dir = word_argument(alloc, "dir");
+    described(dir, "A folder with parcels.csv, covers.csv and classes.csv")
+}
+
+/// `cut DIR CERT`.
+fn cut_command<'a>(alloc: Global) -> Result<Command<'a>, AllocError>
+    ensures { IfOk result (λ c. IsCommandOf cut_app c) }
+{
+    let dir = dir_argument(alloc);
+    let cert = word_argument(alloc, "cert");
+    let cert = described(cert, "The file that the certificate is written to");
+    Command::new(alloc, "cut")
+        .about("Cuts a release into triangles, and writes a certificate for it")
+        .arg(dir)?
+        .arg(cert)
+}
+
+/// `check DIR CERT`.
+fn check_command<'a>(alloc: Global) -> Result<Command<'a>, AllocError>
+    ensures { IfOk result (λ c. IsCommandOf check_app c) }
+{
+    let dir = dir_argument(alloc);
+    let cert = word_argument(alloc, "cert");
+    let cert = described(cert, "A certificate of triangles for the release");
+    Command::new(alloc, "check")
+        .about("Checks a release against a certificate, and prints its report")
+        .arg(dir)?
+        .arg(cert)
+}
+
+/// The program with the commands that read no certificate. One of the commands has to be there.
+fn line_without_check<'a>(alloc: Global) -> Result<Command<'a>, AllocError>
+    ensures { IfOk result (λ c. IsCommandOf unchecked_app c) }
+{
+    let area = area_command(alloc)?;
+    let cut = cut_command(alloc)?;
+    Command::new(alloc, "lpis")
+        .about("Checks the releases of a Land Parcel Identification System")
+        .subcommand_required(true)
+        .subcommand(area)?
+        .subcommand(cut)
+}
+
+/// The program's command line.
+fn command_line<'a>(alloc: Global) -> Result<Command<'a>, AllocError>
+    ensures { IfOk result (λ c. IsCommandOf command_line_app c) }
+{
+    let check = check_command(alloc)?;
+    let line = line_without_check(alloc)?;
+    line.subcommand(check)
+}
+
+/// The word of an argument.
+fn word_of<'a>(matches: &ArgMatches<'a>, id: &str) -> Option<&'a str>
+    ensures { IfSome result (λ word. first_of id.now (rows_of (found_of matches.now)) ≡ Some word.now) }
+{
+    matches.get_str(id)
+}
+
+/// The command of this name, with its words.
+fn command_named<'a>(name: &str, matches: &ArgMatches<'a>) -> Option<Cmd<'a>>
+    ensures { IfSome result (λ c. IsNamed c name.now (rows_of (found_of matches.now))) }
+{
+    match name {
+        "area" => {
+            let file = word_of(matches, "file")?;
+            Some(Cmd::Area { file })
+        }
+        "cut" => {
+            let dir = word_of(matches, "dir")?;
+            let cert = word_of(matches, "cert")?;
+            Some(Cmd::Cut { dir, cert })
+        }
+        "check" => {
+            let dir = word_of(matches, "dir")?;
+            let cert = word_of(matches, "cert")?;
+            Some(Cmd::Check { dir, cert })
+        }
+        _ => None,
+    }
+}
+
+/// The command that the words ask for, the program's name being the first of them.
+///
+/// The error has `clap`'s text and exit code; want of memory is its kind `OutOfMemory`.
+pub fn command_of<'a>(alloc: Global, words: &'a [&'a str]) -> Result<Cmd<'a>, Error>
+    ensures command { IfOk result (λ c. IsCommand c (subcommand_of command_line_app (map (λ s. s.now) words.entry.now))) }
+    ensures kinds { FailsBy (fault_of command_line_app (map (λ s. s.now) words.entry.now)) result }
+{
+    let mut line = command_line(alloc)?;
+    let matches = match line.try_get_matches_from_mut(words) {
+        Ok(matches) => matches,
+        Err(error) => return Err(error),
+    };
+    if let Some((name, inner)) = matches.subcommand() {
+        if let Some(command) = command_named(name, inner) {
+            return Ok(command);
+        }
+    }
+    // No accepted line comes here: a command and its words are required.
+    Err(Error::from(AllocError))
+}

@@ -1,0 +1,181 @@
+//! The run of `cut`, over any readers and writers.
+
+ghost use Rattle.std.specs.Prelude.{◌≡◌, IfErr, IfOk, OnOk, Ok};
+ghost use Rattle.lpis_cert.specs.Contents.{cert_text};
+ghost use Rattle.lpis_covers.specs.Table.{Answers};
+ghost use Rattle.lpis_parcels.specs.Release.{release_of};
+ghost use Rattle.lpis_commands.specs.CutAnswer.{CutAnswer, Cuts, Gets, GetsPart, Halts, Held, IsCut, IsCutAnswer, IsUnreadable, Writes, counts_text, held};
+ghost use Rattle.lpis_commands.specs.CutRefusals.{cut_refusal_text};
+ghost use Rattle.lpis_commands.specs.private.CutRuns.{answered};
+ghost use Rattle.lpis_commands.specs.Failures.{IsUnreadRelease};
+ghost use Rattle.lpis_commands.specs.Status.{done, refused};
+ghost use Rattle.lpis_commands.specs.declared.failure.Failure.{Failure};
+ghost use Rattle.lpis_commands.specs.declared.failure.Name.{Name};
+
+use crate::answer::Answer;
+use crate::cut_line::{print_counts, print_refusal};
+use crate::failure::{Failure, Name};
+use crate::outputs::write_text;
+use crate::releases::{TableBytes, read_tables};
+use crate::status::{DONE, REFUSED};
+use lpis_cert::{Cert, write_cert};
+use lpis_covers::TableFault;
+use lpis_cutter::{CutFault, Refusal, cut};
+use lpis_parcels::{Release, read_release};
+use std::alloc::{AllocError, Global};
+use std::io::{Read, Write};
+
+/// The text of the certificate that was cut, if there is one, and what is printed.
+#[derive(Drop)]
+struct Outcome {
+    cert: Option<Vec<u8>>,
+    printed: Answer,
+}
+
+impl Outcome {
+    /// Writes the certificate's text, if there is one.
+    fn write_cert_to<E: Write>(&self, cert_out: &mut E) -> Result<(), Failure>
+        ensures whole { OnOk result (Gets (E.contents cert_out.old) (E.contents cert_out.new) (answered self.now).cert) }
+        ensures part { IfErr result (λ failure. (failure ≡ Failure.Write Name.Cert) × GetsPart (E.contents cert_out.old) (E.contents cert_out.new) (answered self.now).cert) }
+    {
+        match &self.cert {
+            Some(text) => write_text(text.as_slice(), Name::Cert, cert_out),
+            None => Ok(()),
+        }
+    }
+}
+
+/// The line of a release that gets no certificate.
+fn refuse_release(alloc: Global, refusal: &Refusal) -> Result<Answer, AllocError>
+    ensures { IfOk result (λ a. (a.text.items ≡ cut_refusal_text refusal.now) × (a.status ≡ refused)) }
+{
+    let mut text = Vec::new(alloc);
+    match print_refusal(refusal, &mut text) {
+        Ok(()) => Ok(Answer {
+            text,
+            status: REFUSED,
+        }),
+        Err(_) => Err(AllocError),
+    }
+}
+
+/// The line of a certificate's counts.
+fn count_cert(alloc: Global, cert: &Cert) -> Result<Answer, AllocError>
+    ensures { IfOk result (λ a. (a.text.items ≡ counts_text cert.now) × (a.status ≡ done)) }
+{
+    let mut text = Vec::new(alloc);
+    match print_counts(cert, &mut text) {
+        Ok(()) => Ok(Answer { text, status: DONE }),
+        Err(_) => Err(AllocError),
+    }
+}
+
+/// The text of a certificate.
+fn text_of(alloc: Global, cert: &Cert) -> Result<Vec<u8>, AllocError>
+    ensures { IfOk result (λ v. v.items ≡ cert_text cert.now) }
+{
+    let mut text = Vec::new(alloc);
+    match write_cert(cert, &mut text) {
+        Ok(()) => Ok(text),
+        Err(_) => Err(AllocError),
+    }
+}
+
+/// The outcome of a certificate that was cut.
+fn outcome_of(alloc: Global, cert: &Cert) -> Result<Outcome, AllocError>
+    ensures { IfOk result (λ o. IsCut (answered o)) }
+{
+    let text = text_of(alloc, cert)?;
+    let printed = count_cert(alloc, cert)?;
+    Ok(Outcome {
+        cert: Some(text),
+        printed,
+    })
+}
+
+/// The answer to a release.
+fn answer_to_release(alloc: Global, release: &Release) -> Result<Outcome, AllocError>
+    ensures { IfOk result (λ o. IsCutAnswer (Ok release.now) (answered o)) }
+{
+    match cut(alloc, release) {
+        Ok(cert) => outcome_of(alloc, &cert),
+        Err(CutFault::Memory) => Err(AllocError),
+        Err(CutFault::Refused(refusal)) => {
+            let printed = refuse_release(alloc, &refusal)?;
+            Ok(Outcome {
+                cert: None,
+                printed,
+            })
+        }
+    }
+}
+
+/// The line of a refused table.
+fn refuse_tables(alloc: Global, fault: &TableFault) -> Result<Outcome, AllocError>
+    ensures { IfOk result (λ o. IsUnreadable fault.now (answered o)) }
+{
+    let printed = Answer::refuse_table(alloc, fault)?;
+    Ok(Outcome {
+        cert: None,
+        printed,
+    })
+}
+
+/// The release of three tables, whose bytes are let go.
+fn release_in(alloc: Global, tables: TableBytes) -> Result<Release, TableFault>
+    ensures { Answers result (release_of tables.parcels.items tables.covers.items tables.classes.items) }
+{
+    let parcels = tables.parcels.as_slice();
+    let covers = tables.covers.as_slice();
+    let classes = tables.classes.as_slice();
+    read_release(alloc, parcels, covers, classes)
+}
+
+/// The answer to three tables.
+fn answer_to(alloc: Global, tables: TableBytes) -> Result<Outcome, AllocError>
+    ensures { IfOk result (λ o. IsCutAnswer (release_of tables.parcels.items tables.covers.items tables.classes.items) (answered o)) }
+{
+    match release_in(alloc, tables) {
+        Ok(release) => answer_to_release(alloc, &release),
+        Err(TableFault::Memory) => Err(AllocError),
+        Err(fault) => refuse_tables(alloc, &fault),
+    }
+}
+
+/// The answer to what three readers give.
+fn decide<P: Read + Drop, C: Read + Drop, K: Read + Drop>(
+    alloc: Global,
+    parcels: P,
+    covers: C,
+    classes: K,
+) -> Result<Outcome, Failure>
+    ensures cuts { IfOk result (λ o. Cuts (P.remaining parcels) (C.remaining covers) (K.remaining classes) (answered o)) }
+    ensures unread { IfErr result (IsUnreadRelease (P.remaining parcels) (C.remaining covers)) }
+{
+    let tables = read_tables(alloc, parcels, covers, classes)?;
+    let outcome = answer_to(alloc, tables)?;
+    Ok(outcome)
+}
+
+/// Cuts the release of three tables: writes a certificate of triangles and prints its counts, or prints the line of the tables' first
+/// fault or of the cutter's refusal.
+///
+/// The tables are read to their ends, in the order in which they stand here, and everything is decided before anything is written. The
+/// certificate is written first, then the line; where there is no certificate, `cert_out` is not written to at all. Ok is the status:
+/// `DONE`, `REFUSED` or `UNREADABLE`.
+pub fn run_cut<P: Read + Drop, C: Read + Drop, K: Read + Drop, E: Write, W: Write>(
+    alloc: Global,
+    parcels: P,
+    covers: C,
+    classes: K,
+    cert_out: &mut E,
+    out: &mut W,
+) -> Result<u8, Failure>
+    ensures answer { IfOk result (λ status. (a : CutAnswer) × Cuts (P.remaining parcels) (C.remaining covers) (K.remaining classes) a × Writes a status (held (E.contents cert_out.old) (W.contents out.old)) (held (E.contents cert_out.new) (W.contents out.new))) }
+    // A beginning of the certificate was written, or the certificate and a beginning of the line, or nothing.
+    ensures failure { IfErr result (λ failure. Halts failure (P.remaining parcels) (C.remaining covers) (K.remaining classes) (held (E.contents cert_out.old) (W.contents out.old)) (held (E.contents cert_out.new) (W.contents out.new))) }
+{
+    let outcome = decide(alloc, parcels, covers, classes)?;
+    outcome.write_cert_to(cert_out)?;
+    outcome.printed.write_to(out)
+}

@@ -1,0 +1,36 @@
+//! The program's commands, as functions of what they read: the words of the command line, and the runs over readers and writers.
+#![tactic(auto)]
+
+mod answer;
+mod checking;
+mod command;
+mod cut_line;
+mod cutting;
+mod failure;
+mod laws;
+mod named;
+mod outputs;
+mod printing;
+mod reading;
+mod refusal;
+mod releases;
+mod report;
+mod running;
+mod status;
+
+pub use checking::run_check;
+pub use command::{Cmd, command_of};
+pub use cut_line::{print_counts, print_refusal};
+pub use cutting::run_cut;
+pub use failure::{Failure, Name, print_failure};
+pub use laws::a_check_has_one_answer;
+pub use named::{CommandFiles, NamedFile, TableFiles, named_files};
+pub use printing::{PrintFault, print_area, print_line};
+pub use reading::{GREATEST_LIMIT, ReadFault, read_all};
+pub use refusal::{print_cert_fault, print_check_fault, print_table_fault};
+pub use report::write_report;
+pub use running::run_area;
+pub use status::{DONE, FAILED, REFUSED, UNREADABLE, status_of, usage_ends};
+
+#[cfg(test)]
+mod tests;

@@ -1,0 +1,111 @@
+//! Reading all of an input.
+
+ghost use Rattle.std.specs.Prelude.{◌≡◌, ◌≤◌, ◌<◌, length, IfSome, IfOk, IfErr, IsErrOf, vec_len};
+ghost use Rattle.lpis_commands.specs.Failures.{IsUnread};
+ghost use Rattle.lpis_commands.specs.Streams.{IsRead};
+ghost use Rattle.lpis_commands.specs.declared.reading.ReadFault.{ReadFault};
+
+use crate::failure::{Failure, Name};
+use std::alloc::Global;
+use std::io::{ErrorKind, Read};
+use thiserror::Error;
+
+/// Why an input was not read.
+#[derive(Clone, Copy, Debug, PartialEq, Eq, Drop, Error)]
+pub enum ReadFault {
+    /// A growth was refused.
+    #[error("out of memory")]
+    Memory,
+    /// The reader answered an error, or had not ended after the greatest number of reads.
+    #[error("the input could not be read")]
+    Read,
+    /// The reader gave more bytes than the limit.
+    #[error("the input is too long")]
+    TooLong,
+}
+
+/// The greatest limit that an input can be read under, in bytes: one gibibyte.
+pub const GREATEST_LIMIT: usize = 1_073_741_824;
+
+/// How many bytes a read asks for at most.
+const CHUNK: usize = 65_536;
+
+/// All bytes that a reader gives up to its end, if they are at most `limit`.
+///
+/// An interrupted read is tried again. At most `2 * limit + 16` reads are made; where the reader has not ended by then,
+/// the answer is `Read`.
+pub fn read_all<R: Read + Drop>(
+    alloc: Global,
+    reader: R,
+    limit: usize,
+) -> Result<Vec<u8>, ReadFault>
+    requires { limit ≤ GREATEST_LIMIT }
+    ensures all { IfSome (R.remaining reader) (λ bytes. IfOk result (λ v. v.items ≡ bytes)) }
+    ensures short { IfOk result (λ v. vec_len v ≤ limit) }
+    ensures long { IsErrOf result ReadFault.TooLong → IfSome (R.remaining reader) (λ bytes. limit < length bytes) }
+{
+    let Ok(mut chunk) = vec![in alloc; 0u8; CHUNK] else {
+        return Err(ReadFault::Memory);
+    };
+    read_by(alloc, reader, limit, chunk.as_mut_slice())
+}
+
+/// The same, by reads into `chunk`.
+fn read_by<R: Read + Drop>(
+    alloc: Global,
+    reader: R,
+    limit: usize,
+    chunk: &mut [u8],
+) -> Result<Vec<u8>, ReadFault>
+    requires limit { limit ≤ GREATEST_LIMIT }
+    requires room { 0 < length chunk.old }
+    ensures all { IfSome (R.remaining reader) (λ bytes. IfOk result (λ v. v.items ≡ bytes)) }
+    ensures short { IfOk result (λ v. vec_len v ≤ limit) }
+    ensures long { IsErrOf result ReadFault.TooLong → IfSome (R.remaining reader) (λ bytes. limit < length bytes) }
+{
+    let mut reader = reader;
+    let mut bytes = Vec::new(alloc);
+    for _ in 0..2 * limit + 16 {
+        match reader.read(chunk) {
+            Ok(0) => return Ok(bytes),
+            Ok(count) => {
+                if count > limit - bytes.len() {
+                    return Err(ReadFault::TooLong);
+                }
+                if bytes.extend_from_slice(&chunk[..count]).is_err() {
+                    return Err(ReadFault::Memory);
+                }
+            }
+            Err(error) => {
+                if error.kind() != ErrorKind::Interrupted {
+                    return Err(ReadFault::Read);
+                }
+            }
+        }
+    }
+    Err(ReadFault::Read)
+}
+
+/// All bytes of an input, which has at most 1,073,741,824.
+pub(crate) fn read_input<R: Read + Drop>(alloc: Global, reader: R) -> Result<Vec<u8>, ReadFault>
+    ensures all { IfOk result (λ v. IsRead v.items (R.remaining reader)) }
+    ensures long { IsErrOf result ReadFault.TooLong → IfSome (R.remaining reader) (λ bytes. 1073741824 < length bytes) }
+{
+    read_all(alloc, reader, GREATEST_LIMIT)
+}
+
+/// All bytes of the input of this name, or the failure that tells it.
+pub(crate) fn read_named<R: Read + Drop>(
+    alloc: Global,
+    reader: R,
+    name: Name,
+) -> Result<Vec<u8>, Failure>
+    ensures all { IfOk result (λ v. IsRead v.items (R.remaining reader)) }
+    ensures failure { IfErr result (IsUnread name) }
+{
+    match read_input(alloc, reader) {
+        Ok(bytes) => Ok(bytes),
+        Err(ReadFault::Memory) => Err(Failure::Memory),
+        Err(_) => Err(Failure::Read(name)),
+    }
+}

@@ -1,0 +1,40 @@
+//! Reading the three tables of a release.
+
+ghost use Rattle.std.specs.Prelude.{◌≡◌, IfErr, IfOk};
+ghost use Rattle.lpis_commands.specs.Failures.{IsUnreadRelease};
+ghost use Rattle.lpis_commands.specs.Streams.{IsRead};
+
+use crate::failure::{Failure, Name};
+use crate::reading::read_named;
+use std::alloc::Global;
+use std::io::Read;
+
+/// The bytes of the three tables of a release.
+#[derive(Drop)]
+pub(crate) struct TableBytes {
+    pub parcels: Vec<u8>,
+    pub covers: Vec<u8>,
+    pub classes: Vec<u8>,
+}
+
+/// All bytes of the tables, which are read in this order.
+pub(crate) fn read_tables<P: Read + Drop, C: Read + Drop, K: Read + Drop>(
+    alloc: Global,
+    parcels: P,
+    covers: C,
+    classes: K,
+) -> Result<TableBytes, Failure>
+    ensures parcels { IfOk result (λ t. IsRead t.parcels.items (P.remaining parcels)) }
+    ensures covers { IfOk result (λ t. IsRead t.covers.items (C.remaining covers)) }
+    ensures classes { IfOk result (λ t. IsRead t.classes.items (K.remaining classes)) }
+    ensures failure { IfErr result (IsUnreadRelease (P.remaining parcels) (C.remaining covers)) }
+{
+    let parcels = read_named(alloc, parcels, Name::Parcels)?;
+    let covers = read_named(alloc, covers, Name::Covers)?;
+    let classes = read_named(alloc, classes, Name::Classes)?;
+    Ok(TableBytes {
+        parcels,
+        covers,
+        classes,
+    })
+}
