@@ -42,7 +42,7 @@ years-below (x ∷ h) law i lt = elim (place i (length h)) as (λ _. (entry_at (
 ]
 
 -- what the longer list holds, by place
-hold-before : (h : List Entry) (e : Entry) (i : ℕ) (id : List ℕ) → i < length h → holds (h ++ e ∷ []) i id ≡ holds h i id
+pub hold-before : (h : List Entry) (e : Entry) (i : ℕ) (id : List ℕ) → i < length h → holds (h ++ e ∷ []) i id ≡ holds h i id
 hold-before h e i id lt = ap (λ (x : Entry). has_id x.live id) (entry-before h e i lt)
 
 hold-here : (h : List Entry) (e : Entry) (i : ℕ) (id : List ℕ) → i ≡ length h → holds (h ++ e ∷ []) i id ≡ has_id e.live id
@@ -108,7 +108,7 @@ answers h e law f id i d =
       ]
     ]
 
-beyond : (h : List Entry) (i : ℕ) → length h ≤ i → (test : Row → Bool) → list_any test (entry_at h i).rows ≡ false
+pub beyond : (h : List Entry) (i : ℕ) → length h ≤ i → (test : Row → Bool) → list_any test (entry_at h i).rows ≡ false
 beyond h i le test = ap (λ (x : Entry). list_any test x.rows) (entry-after h i le)
 
 heirs : (h : List Entry) (e : Entry) → IsLawful h → Follows h e.live e.rows → (id : List ℕ) (i : ℕ) → list_any (names id) (entry_at (h ++ e ∷ []) i).rows ≡ true → holds (h ++ e ∷ []) i id ≡ true

@@ -10,6 +10,7 @@ pub mod Chains
 pub mod Tallies
 pub mod SpanLaw
 pub mod SpanSteps
+pub mod TakingBack
 pub mod FateLemmas
 pub mod KindSteps
 pub mod PopSteps

@@ -47,21 +47,21 @@ pub live-more : (h : List Entry) (e : Entry) → last_live (h ++ e ∷ []) ≡ e
 live-more h e = sym (last-at (h ++ e ∷ []) (length h) (sym (longer h e))) ∙ ap (λ (x : Entry). x.live) (entry-here h e)
 
 -- an identifier without a first release has no last one, and one with a first has a last
-first-none : (h : List Entry) (id : List ℕ) → first_held h id ≡ None → last_held h id ≡ None
+pub first-none : (h : List Entry) (id : List ℕ) → first_held h id ≡ None → last_held h id ≡ None
 first-none [] id e = refl
 first-none (x ∷ h) id e = by (first-none h id) (has_id x.live id) refl e where
   by : (first_held h id ≡ None → last_held h id ≡ None) → (b : Bool) → b ≡ has_id x.live id → cond b (Some x.year) (first_held h id) ≡ None → option_or (last_held h id) (cond (has_id x.live id) (Some x.year) None) ≡ None
   by ih true eb n = absurd cc
   by ih false eb n = ap (λ (o : Option ℕ). option_or o (cond (has_id x.live id) (Some x.year) None)) (ih n) ∙ ap (λ (t : Bool). cond t (Some x.year) None) (sym eb)
 
-first-some : (h : List Entry) (id : List ℕ) → is_some (first_held h id) ≡ true → is_some (last_held h id) ≡ true
+pub first-some : (h : List Entry) (id : List ℕ) → is_some (first_held h id) ≡ true → is_some (last_held h id) ≡ true
 first-some h id s = by (first_held h id) refl s where
   by : (o : Option ℕ) → o ≡ first_held h id → is_some o ≡ true → is_some (last_held h id) ≡ true
   by None e s = absurd cc
   by (Some y) e s = let p = first-place h id y (sym e) in held-some h id p.0 p.1
 
 -- the last release is the last that holds a live identifier
-live-year : (h : List Entry) (id : List ℕ) → has_id (last_live h) id ≡ true → last_held h id ≡ Some (last_year h)
+pub live-year : (h : List Entry) (id : List ℕ) → has_id (last_live h) id ≡ true → last_held h id ≡ Some (last_year h)
 live-year h id was = by (last_held h id) refl where
   by : (o : Option ℕ) → o ≡ last_held h id → o ≡ Some (last_year h)
   by None e = absurd (let p = last-some h id was in let s = held-some h id p.0 p.2 in let n = ap is_some e in cc)

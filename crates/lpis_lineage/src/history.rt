@@ -1,6 +1,6 @@
 //! Histories.
 
-ghost use Rattle.std.specs.Prelude.{◌≡◌, ◌<◌, ◌&&◌, not, is_some, ℕ, List, [], IfOk, IfSome, IfNone, OnOk, OnErr, false};
+ghost use Rattle.std.specs.Prelude.{◌≡◌, ◌<◌, ◌&&◌, ◌++◌, ◌∷◌, not, is_some, ℕ, List, [], IfOk, IfSome, IfNone, OnOk, OnErr, false};
 ghost use Rattle.std.specs.List.{filter};
 ghost use Rattle.lpis_covers.specs.Ids.{has_id};
 ghost use Rattle.lpis_lineage.specs.Lineage.{last_live, last_year};
@@ -8,12 +8,13 @@ ghost use Rattle.lpis_lineage.specs.Lawful.{IsLawful, RowsFit};
 ghost use Rattle.lpis_lineage.specs.Spans.{last_held as held_last, span_of};
 ghost use Rattle.lpis_lineage.specs.Faults.{faults};
 ghost use Rattle.lpis_lineage.specs.Accepts.{Adds, AddTells};
+ghost use Rattle.lpis_lineage.specs.declared.row.Entry.{Entry};
 
 use crate::acceptance::check;
 use crate::fault::{AddFault, LineageFault};
 use crate::id_set::IdSet;
 use crate::row::{Entry, Row};
-use crate::span::{Span, begin_spans, end_spans};
+use crate::span::{Span, begin_spans, end_spans, take_spans_back};
 use lpis_covers::Id;
 use std::alloc::{AllocError, Global};
 use std::collections::HashMap;
@@ -176,5 +177,14 @@ impl History {
         begin_spans(&mut self.spans, fresh, year);
         end_spans(&mut self.spans, gone, last);
         Ok(())
+    }
+
+    /// Takes the last release back, where there is one. It takes no memory.
+    pub fn take_back(&mut self)
+        ensures { (h : List Entry) (e : Entry) → self.old ≡ h ++ e ∷ [] → self.new ≡ h }
+    {
+        if let Some(entry) = self.entries.pop() {
+            take_spans_back(&mut self.spans, &entry, self.entries.as_slice());
+        }
     }
 }

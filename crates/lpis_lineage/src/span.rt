@@ -3,9 +3,12 @@
 ghost use Rattle.std.specs.Prelude.{◌≡◌, ◌≤◌, ◌+◌, ℕ, List, length, IfOk};
 ghost use Rattle.std.specs.HashMap.{get, spare};
 ghost use Rattle.lpis_covers.specs.Ids.{has_id, same_id};
-ghost use Rattle.lpis_lineage.specs.private.Keeping.{begun, ended_in as ended};
+ghost use Rattle.lpis_lineage.specs.private.Keeping.{begun, ended_in as ended, forgotten};
+ghost use Rattle.lpis_lineage.specs.Lineage.{last_live};
 ghost use Rattle.lpis_lineage.specs.Spans.{live_in as ids_live_in, in_span};
 
+use crate::id_set::IdSet;
+use crate::row::Entry;
 use lpis_covers::Id;
 use std::alloc::{AllocError, Global};
 use std::collections::HashMap;
@@ -73,6 +76,40 @@ pub(crate) fn end_spans(spans: &mut HashMap<Id, Span>, mut ids: Vec<Id>, year: u
                 // The identifier has its place.
                 Err(_) => unreachable!(),
             }
+        }
+    }
+}
+
+/// The spans of a history less this release at its end. It takes no memory.
+pub(crate) fn take_spans_back(spans: &mut HashMap<Id, Span>, entry: &Entry, before: &[Entry])
+    ensures { (q : List ℕ) → get same_id spans.new q ≡ ended (has_id (last_live before.now) q) 0 (forgotten (has_id entry.now.live q) entry.now.year (get same_id spans.old q)) }
+{
+    forget_spans(spans, &entry.live, entry.year);
+    if let Some(last) = before.last() {
+        reopen_spans(spans, &last.live);
+    }
+}
+
+/// Forgets the spans of these identifiers that begin in a year. It takes no memory.
+fn forget_spans(spans: &mut HashMap<Id, Span>, ids: &IdSet, year: u16)
+    ensures { (q : List ℕ) → get same_id spans.new q ≡ forgotten (has_id ids.now q) year (get same_id spans.old q) }
+{
+    for id in ids.iter() {
+        if let Some(span) = spans.get(id).copied() {
+            if span.first == year {
+                spans.remove(id);
+            }
+        }
+    }
+}
+
+/// Lets the spans of these identifiers go on. It takes no memory.
+fn reopen_spans(spans: &mut HashMap<Id, Span>, ids: &IdSet)
+    ensures { (q : List ℕ) → get same_id spans.new q ≡ ended (has_id ids.now q) 0 (get same_id spans.old q) }
+{
+    for id in ids.iter() {
+        if let Some(span) = spans.get_mut(id) {
+            span.last = 0;
         }
     }
 }

@@ -1,5 +1,5 @@
 -- What a history keeps beside its releases.
-use Rattle.std.specs.Prelude.{◌≡◌, Bool, ℕ, List, Option, None, Some, cond}
+use Rattle.std.specs.Prelude.{◌≡◌, ◌&&◌, Bool, ℕ, List, Option, None, Some, cond, nat_eq}
 use Rattle.lpis_lineage.specs.declared.row.Entry.{Entry}
 use Rattle.lpis_lineage.specs.declared.span.Span.{Span}
 use Rattle.lpis_lineage.specs.Lawful.{IsLawful, RowsFit}
@@ -18,3 +18,8 @@ begun b year old = cond b (Some (record { first = year; last = 0 })) old
 abbrev pub ended_in : Bool → ℕ → Option Span → Option Span
 ended_in b year None = None
 ended_in b year (Some s) = Some (record { first = s.first; last = cond b year s.last })
+
+-- no span where it begins in a year and the test is true
+abbrev pub forgotten : Bool → ℕ → Option Span → Option Span
+forgotten b year None = None
+forgotten b year (Some s) = cond (b && nat_eq s.first year) None (Some s)
