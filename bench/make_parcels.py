@@ -1,12 +1,14 @@
 #!/usr/bin/python3
-"""Writes a release of N parcels for the cutter, from a fixed seed: make_parcels.py N FOLDER [FAULT].
+"""Writes a release of N parcels for the cutter, from a fixed seed: make_parcels.py N FOLDER [straight | mosaic] [FAULT].
 
 The parcels are the cells of a grid of about 120 metres whose nodes were moved and whose borders are digitised in 1 to 12 segments, so
-that a ring has 5 to 60 points. A parcel has one piece, or two to four around its middle, or a pond in its piece; some have a second
-member, some a farmyard in a hole that is a parcel of its own. Every polygon takes up points in the middle of its edges for itself,
-so its neighbours, and its pieces, have T-junctions there. All corners are even centimetres, so such middles lie exactly on the
-edge. It is sound by construction: a border keeps within a slim rhombus around its straight line, and a cell is divided around
-its middle only where the middle sees the whole ring.
+that a ring has 5 to 60 points: 2.85 segments on average, 1.55 with `straight`. A parcel has one piece, or two to four around its
+middle, or a pond in its piece; some have a second member, some a farmyard in a hole that is a parcel of its own. Every polygon takes up
+points in the middle of its edges for itself, so its neighbours, and its pieces, have T-junctions there. All corners are even
+centimetres, so such middles lie exactly on the edge. It is sound by construction: a border keeps within a slim rhombus around its
+straight line, and a cell is divided around its middle only where the middle sees the whole ring.
+
+With `mosaic` each border has 8 segments, a parcel has one piece of its own shape, and no polygon takes up points.
 
 With FAULT nearly every parcel is wrong: `gaps` moves a corner of each piece inwards by a centimetre; `overlaps` moves the shell of
 each parcel of one member outwards by one, and gives it one piece of its own shape. `stacked` and `spread` are N equal round parcels,
@@ -23,6 +25,7 @@ from tables import orient, write_release
 STEP, JITTER = 12_000, 1_800  # centimetres
 EAST, NORTH = 40_000_000, 530_000_000
 SEGMENTS = [1] * 9 + [2] * 5 + [3, 4, 5, 6, 8, 12]
+STRAIGHT = [1] * 33 + [2] * 3 + [3, 4, 4, 12]
 SPOKES = [1] * 50 + [2] * 26 + [3] * 14 + [4] * 10  # how many pieces, of a hundred parcels without a pond or yard
 
 
@@ -31,8 +34,8 @@ def even(value):
 
 
 class Map:
-    def __init__(self, count):
-        self.numbers = random.Random(20_261_122)
+    def __init__(self, count, segments):
+        self.numbers, self.segments = random.Random(20_261_122), segments
         self.count, self.parcels, self.pieces = count, [], []
         self.columns = max(2, math.isqrt(count))
         self.nodes, self.lines, self.taken = {}, {}, set()
@@ -52,7 +55,7 @@ class Map:
         return self.lines[start, end]
 
     def digitised(self, a, b):
-        count, (dx, dy), shift, points = self.numbers.choice(SEGMENTS), (b[0] - a[0], b[1] - a[1]), 0, [a]
+        count, (dx, dy), shift, points = self.numbers.choice(self.segments), (b[0] - a[0], b[1] - a[1]), 0, [a]
         for k in range(1, count):
             along = (k + self.numbers.uniform(-0.2, 0.2)) / count
             most = 0.25 * min(along, 1 - along)
@@ -127,6 +130,26 @@ class Map:
         return self.parcels, self.pieces
 
 
+class Mosaic(Map):
+    def digitised(self, a, b):
+        """The border halved three times, each middle moved to the side by up to a tenth of what is halved."""
+        points = [a, b]
+        for _ in range(3):
+            halves = []
+            for (ax, ay), (bx, by) in zip(points, points[1:]):
+                shift = self.numbers.uniform(-0.1, 0.1)
+                halves += [(ax, ay), (even((ax + bx) / 2 + (by - ay) * shift), even((ay + by) / 2 - (bx - ax) * shift))]
+            points = halves + points[-1:]
+        return points[:-1]
+
+    def dotted(self, ring):
+        return ring
+
+    def add_cell(self, column, row):
+        ring, _ = self.cell(column, row)
+        self.add([[ring]], [[[ring]]])
+
+
 def moved(polygon, corners, sign):
     """The polygon with the first points of its shell moved by a centimetre: outwards for sign 1, inwards for -1."""
     shell = polygon[0][0]
@@ -153,11 +176,13 @@ def round_parcels(count, step):
 
 
 def main():
-    count, folder, fault = int(sys.argv[1]), sys.argv[2], sys.argv[3] if len(sys.argv) > 3 else None
+    count, folder, words = int(sys.argv[1]), sys.argv[2], sys.argv[3:]
+    fault = next((word for word in words if word not in ("straight", "mosaic")), None)
     if fault in ("stacked", "spread"):
         parcels, pieces = round_parcels(count, 0 if fault == "stacked" else 10_000)
     else:
-        parcels, pieces = Map(count).fill()
+        kind = Mosaic if "mosaic" in words else Map
+        parcels, pieces = kind(count, STRAIGHT if "straight" in words else SEGMENTS).fill()
         if fault:
             parcels, pieces = faulty(fault, parcels, pieces)
     write_release(folder, parcels, pieces)
