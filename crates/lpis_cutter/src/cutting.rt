@@ -12,7 +12,6 @@ ghost use Rattle.lpis_cutter.specs.Refusals.{HasPoint, Tells};
 ghost use Rattle.lpis_cutter.specs.private.Cutting.{IsTooMany, SaysIfAny};
 
 use crate::fault::{CutFault, Refusal};
-use crate::flats::ParcelNet;
 use crate::numbered::Numbered;
 use crate::parts::{Parts, cert_of, no_parts, with_parcel, with_piece};
 use crate::pieces::{Cutter, cut_of};
@@ -23,8 +22,10 @@ use lpis_cert::{Cert, GREATEST_COUNT, MOST_FLATS, PairLine};
 use lpis_checker::laws::a_good_certificate_shows_a_sound_map;
 use lpis_covers::Piece;
 use lpis_pairs::{MOST_TRIANGLES, PairSource, Sweep};
-use lpis_parcels::{Parcel, Release};
+use lpis_parcels::{Parcel, Release, pieces_of};
 use lpis_points::Triangle;
+use lpis_rings::edges;
+use lpis_witness::Net;
 use std::alloc::{AllocError, Global};
 
 /// The parts with a piece more; `None` where it has no cut, or a limit would be passed.
@@ -61,65 +62,64 @@ fn cut_pieces(cutter: &mut Cutter, alloc: Global, release: &Release) -> Result<P
 }
 
 /// A refusal of a parcel that shows no point of a fault: one of its residual edges is counted anew.
-fn refuse_parcel(
-    release: &Release,
-    place: usize,
-    net: &ParcelNet,
-) -> Result<Option<Refusal>, AllocError>
+fn refuse_parcel(release: &Release, place: usize, net: &Net) -> Result<Option<Refusal>, AllocError>
     ensures { IfOk result (SaysIfAny release.now) }
 {
-    let edge = match net.rest.first() {
-        Some(edge) => *edge,
-        None => match net.net.first() {
-            Some(edge) => *edge,
-            None => return Ok(None),
-        },
-    };
-    unevenness(release, place, edge.low, edge.high)
+    match net.edge_left() {
+        Some((a, b)) => unevenness(release, place, a, b),
+        None => Ok(None),
+    }
 }
 
 /// What cuts a release.
 #[derive(Drop)]
 struct Tools {
     cutter: Cutter,
-    net: ParcelNet,
+    net: Net,
     budget: Budget,
 }
 
-/// A point at which the parcel at a place and its pieces disagree, looked for where its edges are not even.
+/// Takes the edges of a parcel less those of its pieces.
+fn load_parcel(net: &mut Net, release: &Release, parcel: &Parcel) -> Result<(), AllocError> {
+    net.clear();
+    for (a, b) in edges(&parcel.polygon) {
+        net.add(a, b, 1)?;
+    }
+    for piece in pieces_of(release, &parcel.id) {
+        for (a, b) in edges(&piece.polygon) {
+            net.add(a, b, -1)?;
+        }
+    }
+    net.settle()
+}
+
+/// A point at which the parcel at a place and its pieces disagree, looked for where its edges are
+/// not even.
 fn find_fault(
-    alloc: Global,
     tools: &mut Tools,
     release: &Release,
     place: usize,
 ) -> Result<Option<Refusal>, AllocError>
     ensures { IfOk result (SaysIfAny release.now) }
 {
-    if tools.net.rest.is_empty() || !tools.budget.search() {
+    if tools.net.is_flat() || !tools.budget.search() {
         return Ok(None);
     }
-    let size = tools.net.size();
     find_disagreement(
-        alloc,
-        &mut tools.cutter.sweep,
+        &mut tools.cutter.mesher,
         &mut tools.budget,
         release,
         place,
-        size,
-        &tools.net.rest,
+        &tools.net,
     )
 }
 
 /// The flats of the parcel that was loaded, if there is room for them.
-fn flats_that_fit(
-    net: &ParcelNet,
-    alloc: Global,
-    flats: u64,
-) -> Result<Option<Vec<Triangle>>, AllocError>
+fn flats_that_fit(net: &Net, alloc: Global, flats: u64) -> Result<Option<Vec<Triangle>>, AllocError>
     requires { flats ≤ most_flats }
     ensures { IfOk result (λ o. IfSome o (λ own. flats + length own.items ≤ most_flats)) }
 {
-    let own = net.own_flats()?;
+    let own = net.flats()?;
     if own.len() as u64 > MOST_FLATS - flats {
         return Ok(None);
     }
@@ -168,11 +168,11 @@ fn fill_parcels(
     let mut parts = parts;
     let mut kept = None;
     for (place, parcel) in release.parcels().iter().enumerate() {
-        tools.net.load(release, parcel)?;
-        if let Some(refusal) = find_fault(alloc, tools, release, place)? {
+        load_parcel(&mut tools.net, release, parcel)?;
+        if let Some(refusal) = find_fault(tools, release, place)? {
             return Err(CutFault::Refused(refusal));
         }
-        if kept.is_none() && !tools.net.rest.is_empty() {
+        if kept.is_none() && !tools.net.is_flat() {
             kept = refuse_parcel(release, place, &tools.net)?;
         }
         parts = add_parcel(alloc, tools, release, place, parcel, parts)?;
@@ -245,7 +245,7 @@ fn cut_release(alloc: Global, release: &Release) -> Result<Cert, CutFault>
 {
     let mut tools = Tools {
         cutter: Cutter::new(alloc),
-        net: ParcelNet::new(alloc),
+        net: Net::new(alloc),
         budget: Budget::new(),
     };
     let parts = cut_pieces(&mut tools.cutter, alloc, release)?;
@@ -256,13 +256,14 @@ fn cut_release(alloc: Global, release: &Release) -> Result<Cert, CutFault>
     join(alloc, budget, release, filled)
 }
 
-/// Cuts a release: a certificate of triangles on the corners that its pieces have, or what it is refused for. Nothing is promised of
-/// the certificate, which is to be checked.
+/// Cuts a release: a certificate of triangles on the corners that its pieces have, or what it is
+/// refused for. Nothing is promised of the certificate, which is to be checked.
 ///
-/// A refusal says of the release what its variant says. Pieces that cannot be cut are refused first, in order; then the first fault of
-/// which a point is found; then what shows no point. Pieces that are fans, with at most 2,000,000 points together, are all cut, and a
-/// parcel is refused without a point only where its edges have other net counts than those of its pieces. A release of which a point is
-/// told is not sound, so that no certificate is good for it.
+/// A refusal says of the release what its variant says. Pieces that cannot be cut are refused
+/// first, in order; then the first fault of which a point is found; then what shows no point.
+/// Pieces that are fans, with at most 2,000,000 points together, are all cut, and a parcel is
+/// refused without a point only where its edges have other net counts than those of its pieces. A
+/// release of which a point is told is not sound, so that no certificate is good for it.
 pub fn cut(alloc: Global, release: &Release) -> Result<Cert, CutFault>
     ensures tells { IfErr result (Tells release.now) }
     ensures unsound { IfErr result (λ e. HasPoint e → IsSoundEverywhere release.now → ⊥) }

@@ -7,14 +7,14 @@ use std::alloc::{AllocError, Global};
 /// The triangles of all pieces, numbered from 0, and the place of the piece of each.
 #[derive(Drop)]
 pub(crate) struct Numbered {
-    pub triangles: Vec<Triangle>,
-    pub owners: Vec<u32>,
+    pub(crate) triangles: Vec<Triangle>,
+    pub(crate) owners: Vec<u32>,
     /// The number of the first triangle of each piece.
-    pub firsts: Vec<u32>,
+    pub(crate) firsts: Vec<u32>,
 }
 
 impl Numbered {
-    pub fn of(alloc: Global, parts: &Parts) -> Result<Numbered, AllocError> {
+    pub(crate) fn of(alloc: Global, parts: &Parts) -> Result<Numbered, AllocError> {
         let count = parts.triangles as usize;
         let mut triangles = Vec::with_capacity(alloc, count)?;
         let mut owners = Vec::with_capacity(alloc, count)?;
@@ -34,12 +34,12 @@ impl Numbered {
         })
     }
 
-    pub fn triangle(&self, number: u32) -> Option<&Triangle> {
+    pub(crate) fn triangle(&self, number: u32) -> Option<&Triangle> {
         self.triangles.get(number as usize)
     }
 
     /// The places of the pieces of two triangles.
-    pub fn owners_of(&self, i: u32, j: u32) -> Option<(usize, usize)> {
+    pub(crate) fn owners_of(&self, i: u32, j: u32) -> Option<(usize, usize)> {
         let first = *self.owners.get(i as usize)?;
         let second = *self.owners.get(j as usize)?;
         Some((first as usize, second as usize))

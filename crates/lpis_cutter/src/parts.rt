@@ -3,9 +3,9 @@
 ghost use Rattle.std.specs.Prelude.{◌≡◌, ◌≤◌, ◌<◌, ◌+◌, ◌⊎◌, IfOk, IfSome, IfNone, length, sum_by};
 ghost use Rattle.lpis_cert.specs.Limits.{most_triangles, most_flats, greatest_count};
 
-use crate::pieces::Cut;
 use lpis_cert::{Cert, MOST_FLATS, MOST_TRIANGLES, PairLine, ParcelPart, PiecePart};
 use lpis_covers::Id;
+use lpis_mesh::Cut;
 use lpis_points::Triangle;
 use lpis_rings::Sequence;
 use std::alloc::{AllocError, Global};
@@ -13,10 +13,10 @@ use std::alloc::{AllocError, Global};
 /// Parts, and how many triangles and flats they have: no more than a certificate.
 #[derive(Drop)]
 pub(crate) struct Parts {
-    pub pieces: Vec<PiecePart>,
-    pub parcels: Vec<ParcelPart>,
-    pub triangles: u64,
-    pub flats: u64,
+    pub(crate) pieces: Vec<PiecePart>,
+    pub(crate) parcels: Vec<ParcelPart>,
+    pub(crate) triangles: u64,
+    pub(crate) flats: u64,
     pub ghost triangles_counted: { triangles ≡ sum_by (λ p. length p.triangles) pieces.items },
     pub ghost flats_counted: { flats ≡ sum_by (λ p. length p.flats) pieces.items + sum_by (λ p. length p.flats) parcels.items },
     pub ghost triangles_few: { triangles ≤ most_triangles },

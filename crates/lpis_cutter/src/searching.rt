@@ -4,18 +4,17 @@ ghost use Rattle.std.specs.Prelude.{IfOk};
 ghost use Rattle.lpis_cutter.specs.private.Cutting.{SaysIfAny};
 
 use crate::fault::Refusal;
-use crate::faulty::{Corners, middles};
-use crate::flats::NetEdge;
-use crate::shared::points_in_both;
-use crate::sweep::PieceSweep;
 use crate::telling::{disagreement, parcels_overlap, pieces_overlap};
 use lpis_covers::Id;
+use lpis_mesh::Mesher;
 use lpis_parcels::Release;
 use lpis_points::{RatPoint, Triangle};
 use lpis_rings::Polygon;
+use lpis_witness::{Net, points_in_both};
 use std::alloc::{AllocError, Global};
 
-/// How many edges the searches of one cut may look at, so that no release makes them slower than a cut of a large one.
+/// How many edges the searches of one cut may look at, so that no release makes them slower than a
+/// cut of a large one.
 const MOST_EDGES: usize = 400_000_000;
 
 /// How many pairs of triangles, and how many parcels, points are looked for at.
@@ -31,7 +30,7 @@ pub(crate) struct Budget {
 }
 
 impl Budget {
-    pub fn new() -> Budget {
+    pub(crate) fn new() -> Budget {
         Budget {
             edges: MOST_EDGES,
             searches: MOST_SEARCHES,
@@ -39,7 +38,7 @@ impl Budget {
     }
 
     /// The same edges, and as many searches as at first.
-    pub fn renewed(self) -> Budget {
+    pub(crate) fn renewed(self) -> Budget {
         Budget {
             edges: self.edges,
             searches: MOST_SEARCHES,
@@ -47,7 +46,7 @@ impl Budget {
     }
 
     /// Takes one search, where there is one.
-    pub fn search(&mut self) -> bool {
+    pub(crate) fn search(&mut self) -> bool {
         let is_left = self.searches > 0;
         self.searches = self.searches.saturating_sub(1);
         is_left
@@ -73,7 +72,8 @@ fn size_of(polygon: &Polygon) -> usize {
     size
 }
 
-/// The first of these points at which the parcel at a place and its pieces disagree; each costs so many edges.
+/// The first of these points at which the parcel at a place and its pieces disagree; each costs so
+/// many edges.
 fn first_disagreement(
     budget: &mut Budget,
     release: &Release,
@@ -95,26 +95,26 @@ fn first_disagreement(
     Ok(None)
 }
 
-/// A point at which the parcel at a place and its pieces disagree, looked for where residual edges leave rooms between them.
+/// A point at which the parcel at a place and its pieces disagree, looked for where residual edges
+/// leave rooms between them.
 pub(crate) fn find_disagreement(
-    alloc: Global,
-    sweep: &mut PieceSweep,
+    mesher: &mut Mesher,
     budget: &mut Budget,
     release: &Release,
     place: usize,
-    size: usize,
-    rest: &[NetEdge],
+    net: &Net,
 ) -> Result<Option<Refusal>, AllocError>
     ensures { IfOk result (SaysIfAny release.now) }
 {
-    let points = middles(alloc, sweep, rest)?;
+    let size = net.size();
+    let points = net.middles(mesher)?;
     let found = first_disagreement(budget, release, place, size, &points)?;
     if found.is_some() {
         return Ok(found);
     }
-    let mut corners = Corners::new(alloc, rest)?;
+    let mut corners = net.corners()?;
     for _ in 0..corners.length() {
-        let Some(points) = corners.next_points(rest)? else {
+        let Some(points) = corners.next_points()? else {
             return Ok(None);
         };
         let found = first_disagreement(budget, release, place, size, &points)?;
@@ -138,7 +138,8 @@ fn place_of(release: &Release, id: &Id) -> usize {
     parcels.len()
 }
 
-/// That a point shows an overlap of two pieces or of their parcels, where it does; the parcels come first.
+/// That a point shows an overlap of two pieces or of their parcels, where it does; the parcels come
+/// first.
 fn overlap_at(
     release: &Release,
     pieces: (usize, usize),
@@ -154,7 +155,8 @@ fn overlap_at(
     pieces_overlap(release, pieces.0, pieces.1, p)
 }
 
-/// A point that shows an overlap of the pieces at two places or of their parcels, looked for where two of their triangles overlap.
+/// A point that shows an overlap of the pieces at two places or of their parcels, looked for where
+/// two of their triangles overlap.
 pub(crate) fn find_overlap(
     alloc: Global,
     budget: &mut Budget,

@@ -35,7 +35,8 @@ fn edge_between(own: &Triangle, other: &Triangle) -> Option<u8>
     None
 }
 
-/// The number of the edge that separates two counter-clockwise triangles: 0 to 2 of the first, 3 to 5 of the second.
+/// The number of the edge that separates two counter-clockwise triangles: 0 to 2 of the first, 3 to
+/// 5 of the second.
 fn separator(s: &Triangle, t: &Triangle) -> Option<u8>
     ensures { IfSome result (λ k. k ≤ last_edge) }
 {
@@ -129,8 +130,8 @@ fn overlap_with_next(
     Ok(None)
 }
 
-/// An overlap among the first triangle of each piece and the next few of these. A release with very many overlaps shows one here,
-/// before all near pairs are listed.
+/// An overlap among the first triangle of each piece and the next few of these. A release with very
+/// many overlaps shows one here, before all near pairs are listed.
 pub(crate) fn early_overlap(
     alloc: Global,
     budget: &mut Budget,
@@ -149,12 +150,13 @@ pub(crate) fn early_overlap(
     Ok(None)
 }
 
-/// The separators of near pairs; an overlap that was found; and a pair without a separator that is refused where nothing else is.
+/// The separators of near pairs; an overlap that was found; and a pair without a separator that is
+/// refused where nothing else is.
 #[derive(Drop)]
 pub(crate) struct Separated {
-    pub lines: Vec<PairLine>,
-    pub found: Option<Refusal>,
-    pub kept: Option<Refusal>,
+    pub(crate) lines: Vec<PairLine>,
+    pub(crate) found: Option<Refusal>,
+    pub(crate) kept: Option<Refusal>,
 }
 
 /// The separator of a near pair.
@@ -178,7 +180,8 @@ pub(crate) fn unseparated(
     }
 }
 
-/// The separators of near pairs. Where there is none a point is looked for; without a point the first such pair is kept.
+/// The separators of near pairs. Where there is none a point is looked for; without a point the
+/// first such pair is kept.
 pub(crate) fn separate(
     alloc: Global,
     budget: &mut Budget,

@@ -7,7 +7,8 @@ use std::alloc::{AllocError, Global};
 /// Parts of an edge, of which means are taken.
 const PARTS: i64 = 1_099_511_627_776;
 
-/// The first and the last of so many parts of the step u from a that lie in a triangle, borders counted.
+/// The first and the last of so many parts of the step u from a that lie in a triangle, borders
+/// counted.
 fn clip(a: Point, u: Vector, parts: i64, triangle: &Triangle) -> Option<(i64, i64)> {
     let mut from: i128 = 0;
     let mut to = parts as i128;
@@ -56,7 +57,8 @@ fn add_parts(sum: Sum, origin: Point, own: &Triangle, other: &Triangle, d: i64) 
     sum
 }
 
-/// The mean of the ends of all parts of edges that lie in the other triangle, rounded to d-ths of a unit.
+/// The mean of the ends of all parts of edges that lie in the other triangle, rounded to d-ths of a
+/// unit.
 fn mean(s: &Triangle, t: &Triangle, d: i64) -> Option<RatPoint> {
     let none = Sum {
         x: 0,
@@ -78,8 +80,8 @@ fn mean(s: &Triangle, t: &Triangle, d: i64) -> Option<RatPoint> {
     )
 }
 
-/// From the middle of the part of an edge that lies in the other triangle, how many d-ths of the third side lead no further than
-/// the other triangle does.
+/// From the middle of the part of an edge that lies in the other triangle, how many d-ths of the
+/// third side lead no further than the other triangle does.
 fn room(base: &RatPoint, z: Vector, most: i64, other: &Triangle) -> i128 {
     let mut top = most as i128;
     for side in turns_of(other) {
@@ -92,8 +94,8 @@ fn room(base: &RatPoint, z: Vector, most: i64, other: &Triangle) -> i128 {
     top
 }
 
-/// Points a way into its triangle from the middle of the part of its first edge that lies in the other: half as far as the other
-/// allows, and one step.
+/// Points a way into its triangle from the middle of the part of its first edge that lies in the
+/// other: half as far as the other allows, and one step.
 fn push_inner(
     points: &mut Vec<RatPoint>,
     own: &Triangle,
@@ -123,8 +125,9 @@ fn push_inner(
     Ok(())
 }
 
-/// Points that may lie in both of two triangles that overlap: of any overlap with a little width the first does.
-pub(crate) fn points_in_both(
+/// Points that may lie in both of two triangles that overlap: of any overlap with a little width
+/// the first does.
+pub fn points_in_both(
     alloc: Global,
     s: &Triangle,
     t: &Triangle,

@@ -6,21 +6,22 @@ use std::alloc::Global;
 /// A side of a triangle: from its corner `k` to the next.
 #[derive(Clone, Copy, Debug)]
 pub(crate) struct Side {
-    pub triangle: u32,
-    pub k: u8,
+    pub(crate) triangle: u32,
+    pub(crate) k: u8,
 }
 
-/// Three corners, counter-clockwise, by their numbers, and the side of another triangle across each side: `None` on the border.
+/// Three corners, counter-clockwise, by their numbers, and the side of another triangle across each
+/// side: `None` on the border.
 #[derive(Clone, Copy, Debug)]
 pub(crate) struct MeshTriangle {
-    pub corners: [u32; 3],
-    pub across: [Option<Side>; 3],
+    pub(crate) corners: [u32; 3],
+    pub(crate) across: [Option<Side>; 3],
 }
 
-/// The triangles of one piece.
+/// The triangles of one cut.
 #[derive(Drop)]
 pub(crate) struct Mesh {
-    pub triangles: Vec<MeshTriangle>,
+    pub(crate) triangles: Vec<MeshTriangle>,
 }
 
 /// The next side of a triangle.
@@ -37,14 +38,14 @@ pub(crate) fn side_after(side: Side) -> Side {
 }
 
 impl Mesh {
-    pub fn new(alloc: Global) -> Mesh {
+    pub(crate) fn new(alloc: Global) -> Mesh {
         Mesh {
             triangles: Vec::new(alloc),
         }
     }
 
     /// Adds a triangle with nothing across its sides, and answers its number.
-    pub fn add(&mut self, a: u32, b: u32, c: u32) -> Result<u32, Halt> {
+    pub(crate) fn add(&mut self, a: u32, b: u32, c: u32) -> Result<u32, Halt> {
         let number = number_of(self.triangles.len())?;
         self.triangles.push(MeshTriangle {
             corners: [a, b, c],
@@ -54,13 +55,13 @@ impl Mesh {
     }
 
     /// The corner from which a side goes.
-    pub fn corner(&self, side: Side) -> Option<u32> {
+    pub(crate) fn corner(&self, side: Side) -> Option<u32> {
         let triangle = self.triangles.get(side.triangle as usize)?;
         triangle.corners.get(side.k as usize).copied()
     }
 
     /// The side across a side.
-    pub fn across(&self, side: Side) -> Option<Side> {
+    pub(crate) fn across(&self, side: Side) -> Option<Side> {
         let triangle = self.triangles.get(side.triangle as usize)?;
         *triangle.across.get(side.k as usize)?
     }
@@ -74,7 +75,7 @@ impl Mesh {
     }
 
     /// Glues two sides together, or leaves the first on the border.
-    pub fn glue(&mut self, side: Side, other: Option<Side>) {
+    pub(crate) fn glue(&mut self, side: Side, other: Option<Side>) {
         self.set_across(side, other);
         if let Some(other) = other {
             self.set_across(other, Some(side));
@@ -82,7 +83,7 @@ impl Mesh {
     }
 
     /// Sets the corners of a triangle.
-    pub fn set_corners(&mut self, number: u32, corners: [u32; 3]) {
+    pub(crate) fn set_corners(&mut self, number: u32, corners: [u32; 3]) {
         if let Some(triangle) = self.triangles.get_mut(number as usize) {
             triangle.corners = corners;
         }

@@ -1,13 +1,11 @@
-//! The sweep over the edges of one piece.
+//! The sweep over the edges of rooms.
 
 use crate::chains::{Chain, Chains};
-use crate::halt::Halt;
+use crate::halt::{Halt, number_of};
 use crate::plane::Plane;
+use crate::replacing::replace;
 use std::alloc::Global;
 use std::cmp::Ordering;
-
-/// The most flats of a piece that is cut.
-const MOST_FLATS: usize = 2_000_000;
 
 /// Which rooms are cut into triangles.
 #[derive(Clone, Copy, Debug, PartialEq, Eq)]
@@ -18,33 +16,38 @@ pub(crate) enum Rooms {
     Any,
 }
 
-/// Sweeps from west to east over net edges, and cuts the rooms between them into triangles on the way. One value serves many
-/// pieces, so that they share their memory.
+/// Sweeps from west to east over net edges, and cuts the rooms between them into triangles on the
+/// way. One value serves many sweeps, so that they share their memory.
 #[derive(Drop)]
-pub(crate) struct PieceSweep {
-    pub plane: Plane,
-    pub chains: Chains,
-    pub rooms: Rooms,
+pub(crate) struct Sweep {
+    pub(crate) plane: Plane,
+    pub(crate) chains: Chains,
+    rooms: Rooms,
+    /// The most flats of one cut.
+    most_flats: usize,
     /// The flats by the numbers of their corners.
-    pub flats: Vec<[u32; 3]>,
+    pub(crate) flats: Vec<[u32; 3]>,
     /// The edges that the sweep line crosses, from south to north.
     status: Vec<u32>,
     /// How many of these end at each point.
     ends: Vec<usize>,
-    /// Of one point: the edges that end there, those that begin there as they are found, and those that go on.
+    /// Of one point: the edges that end there, those that begin there as they are found, and those
+    /// that go on.
     left: Vec<u32>,
     found: Vec<u32>,
     right: Vec<u32>,
-    /// How many edges may yet be split or moved. Only thousands of edges nested on one line reach it.
+    /// How many edges may yet be split or moved. Only thousands of edges nested on one line reach
+    /// it.
     fuel: usize,
 }
 
-impl PieceSweep {
-    pub fn new(alloc: Global) -> PieceSweep {
-        PieceSweep {
+impl Sweep {
+    pub(crate) fn new(alloc: Global, most_flats: usize) -> Sweep {
+        Sweep {
             plane: Plane::new(alloc),
             chains: Chains::new(alloc),
             rooms: Rooms::Once,
+            most_flats,
             flats: Vec::new(alloc),
             status: Vec::new(alloc),
             ends: Vec::new(alloc),
@@ -55,36 +58,39 @@ impl PieceSweep {
         }
     }
 
-    /// Takes all edges, triangles and flats away.
-    pub fn clear(&mut self, rooms: Rooms) {
+    /// Takes all edges away.
+    pub(crate) fn clear(&mut self) {
         self.plane.clear();
-        self.chains.clear();
-        self.rooms = rooms;
-        self.flats.clear();
-        self.status.clear();
-        self.ends.clear();
     }
 
-    /// Sweeps over the edges that were added to the plane. Where it halts, the triangles so far are there.
-    pub fn run(&mut self) -> Result<(), Halt> {
-        self.plane.load()?;
-        for _ in 0..self.plane.points.len() {
-            self.ends.push(0)?;
-        }
-        self.fuel = self
-            .plane
-            .edges
-            .len()
-            .saturating_mul(64)
-            .saturating_add(MOST_FLATS);
+    /// Sweeps over the edges that were added to the plane. Where it halts, the triangles so far are
+    /// there.
+    pub(crate) fn run(&mut self, rooms: Rooms) -> Result<(), Halt> {
+        self.begin(rooms)?;
         for point in 0..self.plane.points.len() {
-            self.pass(crate::halt::number_of(point)?)?;
+            self.pass(number_of(point)?)?;
         }
         if self.status.is_empty() {
             Ok(())
         } else {
             Err(Halt::NoCut)
         }
+    }
+
+    /// Numbers the edges, and lets what an earlier sweep left go.
+    fn begin(&mut self, rooms: Rooms) -> Result<(), Halt> {
+        self.rooms = rooms;
+        self.chains.clear();
+        self.flats.clear();
+        self.status.clear();
+        self.ends.clear();
+        self.plane.load()?;
+        for _ in 0..self.plane.points.len() {
+            self.ends.push(0)?;
+        }
+        let splits = self.plane.edges.len().saturating_mul(64);
+        self.fuel = splits.saturating_add(self.most_flats);
+        Ok(())
     }
 
     fn is_room(&self, turns: i64) -> bool {
@@ -141,7 +147,7 @@ impl PieceSweep {
     fn add_flats(&mut self, a: u32, b: u32, c: u32, count: i64) -> Result<(), Halt> {
         let flat = if count > 0 { [a, b, c] } else { [b, a, c] };
         for _ in 0..count.unsigned_abs() {
-            if self.flats.len() > MOST_FLATS {
+            if self.flats.len() >= self.most_flats {
                 return Err(Halt::NoCut);
             }
             self.flats.push(flat)?;
@@ -174,7 +180,8 @@ impl PieceSweep {
         Ok(())
     }
 
-    /// The edges of the status through a point, from a place on. They stand together, unless edges cross.
+    /// The edges of the status through a point, from a place on. They stand together, unless edges
+    /// cross.
     fn take_left(&mut self, at: usize, point: u32) -> Result<(), Halt> {
         self.left.clear();
         for place in at..self.status.len() {
@@ -198,7 +205,8 @@ impl PieceSweep {
         }
     }
 
-    /// The edges that begin at a point, from south to north, of each direction the nearest end first.
+    /// The edges that begin at a point, from south to north, of each direction the nearest end
+    /// first.
     fn find_right(&mut self, point: u32) -> Result<(), Halt> {
         self.found.clear();
         let mut next = self
@@ -215,13 +223,13 @@ impl PieceSweep {
         if self.found.len() > 1 {
             let plane = &self.plane;
             self.found
-                .sort_unstable_by(|e, f| by_direction(plane, point, *e, *f));
+                .sort_unstable_by(|e, f| plane.by_direction(point, *e, *f));
         }
         Ok(())
     }
 
-    /// The edges that go on from a point. Of those in one direction the nearest takes the counts of all, and the others begin at its
-    /// end.
+    /// The edges that go on from a point. Of those in one direction the nearest takes the counts of
+    /// all, and the others begin at its end.
     fn take_right(&mut self, point: u32) -> Result<(), Halt> {
         self.find_right(point)?;
         self.right.clear();
@@ -270,7 +278,8 @@ impl PieceSweep {
         Ok(())
     }
 
-    /// How often the edges turn round the rooms between those that go on: from what they do below the point to what they do above.
+    /// How often the edges turn round the rooms between those that go on: from what they do below
+    /// the point to what they do above.
     fn count_turns(&mut self, under: i64, over: i64) -> Result<(), Halt> {
         let mut turns = under;
         for edge in &self.right {
@@ -305,7 +314,8 @@ impl PieceSweep {
         Ok(())
     }
 
-    /// A point where edges end: the room below takes it, those between two of them are closed, and that above takes it.
+    /// A point where edges end: the room below takes it, those between two of them are closed, and
+    /// that above takes it.
     fn go_on(&mut self, point: u32, below: Option<u32>, under: i64, over: i64) -> Result<(), Halt> {
         if self.is_room(under) {
             let below = below.ok_or(Halt::NoCut)?;
@@ -366,41 +376,6 @@ impl PieceSweep {
                 self.add_end(end);
             }
         }
-        replace_range(&mut self.status, at, self.left.len(), &self.right)
+        replace(&mut self.status, at, self.left.len(), &self.right)
     }
-}
-
-/// The order of two edges that begin at a point: from south to north, and in one direction by their ends.
-fn by_direction(plane: &Plane, point: u32, first: u32, second: u32) -> Ordering {
-    match (plane.edge(first), plane.edge(second)) {
-        (Ok(e), Ok(f)) => {
-            let side = plane.side(point, e.high, f.high);
-            0.cmp(&side)
-                .then(e.high.cmp(&f.high))
-                .then(first.cmp(&second))
-        }
-        _ => Ordering::Equal,
-    }
-}
-
-/// Puts items in place of so many from a place on.
-fn replace_range(items: &mut Vec<u32>, at: usize, count: usize, new: &[u32]) -> Result<(), Halt> {
-    let both = count.min(new.len());
-    for (k, item) in new.iter().take(both).enumerate() {
-        if let Some(old) = items.get_mut(at.saturating_add(k)) {
-            *old = *item;
-        }
-    }
-    let end = at.saturating_add(both);
-    for item in new.iter().skip(both).rev() {
-        if end <= items.len() {
-            items.insert(end, *item)?;
-        }
-    }
-    for _ in both..count {
-        if end < items.len() {
-            items.remove(end);
-        }
-    }
-    Ok(())
 }

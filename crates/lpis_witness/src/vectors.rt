@@ -5,8 +5,8 @@ use lpis_points::{Point, RatPoint, Triangle};
 /// A step in the plane.
 #[derive(Clone, Copy, Debug)]
 pub(crate) struct Vector {
-    pub x: i64,
-    pub y: i64,
+    pub(crate) x: i64,
+    pub(crate) y: i64,
 }
 
 /// The step from a point to a point.

@@ -1,10 +1,9 @@
-//! Points of rooms that a parcel's residual edges bound.
+//! Points of rooms that residual edges bound.
 
-use crate::flats::NetEdge;
-use crate::halt::Halt;
-use crate::sweep::{PieceSweep, Rooms};
+use crate::net::NetEdge;
 use crate::vectors::{Vector, along, cross, floor_div, product, rational, step};
-use lpis_points::{Point, RatPoint, orient};
+use lpis_mesh::Mesher;
+use lpis_points::{Point, RatPoint, Triangle, orient};
 use std::alloc::{AllocError, Global};
 use std::cmp::Ordering;
 
@@ -22,38 +21,25 @@ struct Sized {
     place: usize,
 }
 
-/// Lets the sweep cut the rooms between edges, up to where it halts: at a crossing.
-fn sweep_rooms(sweep: &mut PieceSweep, rest: &[NetEdge]) -> Result<(), Halt> {
-    sweep.clear(Rooms::Any);
+/// The triangles of the rooms between edges, up to where these cross.
+fn triangles_of_rooms(mesher: &mut Mesher, rest: &[NetEdge]) -> Result<Vec<Triangle>, AllocError> {
+    mesher.clear();
     for edge in rest {
         // More of one edge than a few change no room.
         for _ in 0..edge.count.unsigned_abs().min(4) {
             if edge.count > 0 {
-                sweep.plane.add(edge.low, edge.high)?;
+                mesher.add(edge.low, edge.high)?;
             } else {
-                sweep.plane.add(edge.high, edge.low)?;
+                mesher.add(edge.high, edge.low)?;
             }
         }
     }
-    match sweep.run() {
-        Err(Halt::Memory) => Err(Halt::Memory),
-        _ => Ok(()),
-    }
-}
-
-fn corners_at(sweep: &PieceSweep, place: usize) -> Option<(Point, Point, Point)> {
-    let triangle = sweep.chains.mesh.triangles.get(place)?;
-    let [a, b, c] = triangle.corners;
-    let points = &sweep.plane.points;
-    Some((
-        *points.get(a as usize)?,
-        *points.get(b as usize)?,
-        *points.get(c as usize)?,
-    ))
+    mesher.rooms()
 }
 
 /// The middle of a triangle, exact however thin it is.
-fn centroid(a: Point, b: Point, c: Point) -> Option<RatPoint> {
+fn centroid(triangle: &Triangle) -> Option<RatPoint> {
+    let Triangle { a, b, c } = triangle;
     let x = (a.x as i128)
         .wrapping_add(b.x as i128)
         .wrapping_add(c.x as i128);
@@ -63,42 +49,29 @@ fn centroid(a: Point, b: Point, c: Point) -> Option<RatPoint> {
     rational(x, y, 3)
 }
 
-fn middles_of_rooms(
+/// The middles of the largest triangles of rooms, up to the first crossing of residual edges: exact
+/// points of faulty rooms.
+pub(crate) fn middles(
     alloc: Global,
-    sweep: &mut PieceSweep,
+    mesher: &mut Mesher,
     rest: &[NetEdge],
-) -> Result<Vec<RatPoint>, Halt> {
-    sweep_rooms(sweep, rest)?;
+) -> Result<Vec<RatPoint>, AllocError> {
+    let triangles = triangles_of_rooms(mesher, rest)?;
     let mut sized = Vec::new(alloc);
-    for place in 0..sweep.chains.mesh.triangles.len() {
-        if let Some((a, b, c)) = corners_at(sweep, place) {
-            let size = orient(a, b, c).wrapping_neg();
-            sized.push(Sized { size, place })?;
-        }
+    for (place, triangle) in triangles.iter().enumerate() {
+        let size = orient(triangle.a, triangle.b, triangle.c).wrapping_neg();
+        sized.push(Sized { size, place })?;
     }
     sized.sort_unstable();
     let mut points = Vec::new(alloc);
-    for triangle in sized.iter().take(MOST_TRIES) {
-        if let Some((a, b, c)) = corners_at(sweep, triangle.place)
-            && let Some(p) = centroid(a, b, c)
+    for largest in sized.iter().take(MOST_TRIES) {
+        if let Some(triangle) = triangles.get(largest.place)
+            && let Some(p) = centroid(triangle)
         {
             points.push(p)?;
         }
     }
     Ok(points)
-}
-
-/// The middles of the largest triangles of rooms, up to the first crossing of residual edges: exact points of faulty rooms.
-pub(crate) fn middles(
-    alloc: Global,
-    sweep: &mut PieceSweep,
-    rest: &[NetEdge],
-) -> Result<Vec<RatPoint>, AllocError> {
-    match middles_of_rooms(alloc, sweep, rest) {
-        Ok(points) => Ok(points),
-        Err(Halt::NoCut) => Ok(Vec::new(alloc)),
-        Err(Halt::Memory) => Err(AllocError),
-    }
 }
 
 /// An edge seen from one of its ends.
@@ -156,7 +129,8 @@ fn reach(rest: &[NetEdge], from: Point, m: Vector) -> i64 {
     i64::try_from(reach).unwrap_or(0)
 }
 
-/// Points a way from a corner between two residual edges that leave it, half as far as the first edge that is met.
+/// Points a way from a corner between two residual edges that leave it, half as far as the first
+/// edge that is met.
 fn points_between(
     alloc: Global,
     rest: &[NetEdge],
@@ -186,10 +160,11 @@ fn points_between(
     Ok(points)
 }
 
-/// Corners of rooms between two residual edges next to each other that leave a point.
+/// The corners of rooms, each between two residual edges next to each other that leave a point.
 #[derive(Drop)]
-pub(crate) struct Corners {
+pub struct Corners<'a> {
     alloc: Global,
+    rest: &'a [NetEdge],
     rays: Vec<Ray>,
     /// The next ray, and the first that leaves its point.
     at: usize,
@@ -197,10 +172,11 @@ pub(crate) struct Corners {
     tries: usize,
 }
 
-impl Corners {
-    pub fn new(alloc: Global, rest: &[NetEdge]) -> Result<Corners, AllocError> {
+impl<'a> Corners<'a> {
+    pub(crate) fn new(alloc: Global, rest: &'a [NetEdge]) -> Result<Corners<'a>, AllocError> {
         Ok(Corners {
             alloc,
+            rest,
             rays: rays_of(alloc, rest)?,
             at: 0,
             first: 0,
@@ -216,8 +192,9 @@ impl Corners {
         }
     }
 
-    /// Points of the next corner, or none where the rays are no corner; `None` behind the last, or where enough were tried.
-    pub fn next_points(&mut self, rest: &[NetEdge]) -> Result<Option<Vec<RatPoint>>, AllocError> {
+    /// Points of the next corner, or none where two edges make no corner; `None` behind the last,
+    /// or where enough were tried.
+    pub fn next_points(&mut self) -> Result<Option<Vec<RatPoint>>, AllocError> {
         let Some(ray) = self.rays.get(self.at).copied() else {
             return Ok(None);
         };
@@ -234,13 +211,14 @@ impl Corners {
         match other {
             Some(second) if orient(ray.from, ray.to, second.to) > 0 => {
                 self.tries = self.tries.saturating_add(1);
-                Ok(Some(points_between(self.alloc, rest, &ray, &second)?))
+                let points = points_between(self.alloc, self.rest, &ray, &second)?;
+                Ok(Some(points))
             }
             _ => Ok(Some(Vec::new(self.alloc))),
         }
     }
 
-    /// The most calls of `next_points` that answer points.
+    /// No fewer than the calls of `next_points` that answer points.
     pub fn length(&self) -> usize {
         self.rays.len()
     }

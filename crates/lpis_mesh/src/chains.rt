@@ -8,7 +8,7 @@ use std::alloc::Global;
 /// What lies across the link from a node of a chain to the next.
 #[derive(Clone, Copy, Debug)]
 pub(crate) enum Link {
-    /// An edge of the piece.
+    /// An edge that was handed in.
     Border,
     /// A side of a triangle.
     Side(Side),
@@ -25,13 +25,14 @@ struct Node {
     link: Link,
 }
 
-/// A chain, from the left end of the lower edge of a room to that of its upper edge. It bends away from the room at each node but
-/// its ends and the one that was swept last; so whatever a new point sees of it is cut off at an end, by triangles of an area above 0.
+/// A chain, from the left end of the lower edge of a room to that of its upper edge. It bends away
+/// from the room at each node but its ends and the one that was swept last; so whatever a new point
+/// sees of it is cut off at an end, by triangles of an area above 0.
 #[derive(Clone, Copy, Debug)]
 pub(crate) struct Chain {
-    pub front: u32,
-    pub back: u32,
-    pub last: u32,
+    pub(crate) front: u32,
+    pub(crate) back: u32,
+    pub(crate) last: u32,
 }
 
 /// The nodes of all chains, and the triangles that were cut off.
@@ -40,10 +41,11 @@ pub(crate) struct Chains {
     nodes: Vec<Node>,
     /// The side that waits on the other side of each diagonal.
     diagonals: Vec<Option<Side>>,
-    pub mesh: Mesh,
+    pub(crate) mesh: Mesh,
 }
 
-/// Whether the third of three points is left of the line from the first to the second; not where a point is not there.
+/// Whether the third of three points is left of the line from the first to the second; not where a
+/// point is not there.
 fn is_left(points: &[Point], a: u32, b: u32, c: u32) -> bool {
     match (
         points.get(a as usize),
@@ -56,7 +58,7 @@ fn is_left(points: &[Point], a: u32, b: u32, c: u32) -> bool {
 }
 
 impl Chains {
-    pub fn new(alloc: Global) -> Chains {
+    pub(crate) fn new(alloc: Global) -> Chains {
         Chains {
             nodes: Vec::new(alloc),
             diagonals: Vec::new(alloc),
@@ -64,7 +66,7 @@ impl Chains {
         }
     }
 
-    pub fn clear(&mut self) {
+    pub(crate) fn clear(&mut self) {
         self.nodes.clear();
         self.diagonals.clear();
         self.mesh.triangles.clear();
@@ -117,7 +119,7 @@ impl Chains {
     }
 
     /// A chain of one point.
-    pub fn start(&mut self, point: u32) -> Result<Chain, Halt> {
+    pub(crate) fn start(&mut self, point: u32) -> Result<Chain, Halt> {
         let node = self.add_node(point)?;
         Ok(Chain {
             front: node,
@@ -126,7 +128,8 @@ impl Chains {
         })
     }
 
-    /// Cuts off what the front of a chain sees: while the next two nodes turn away from it, the triangle of the three.
+    /// Cuts off what the front of a chain sees: while the next two nodes turn away from it, the
+    /// triangle of the three.
     fn reduce_front(&mut self, points: &[Point], front: u32) -> Result<(), Halt> {
         for _ in 0..self.nodes.len() {
             let f = self.node(front)?;
@@ -171,7 +174,7 @@ impl Chains {
     }
 
     /// A point in front of a chain.
-    pub fn push_front(
+    pub(crate) fn push_front(
         &mut self,
         points: &[Point],
         chain: Chain,
@@ -189,7 +192,12 @@ impl Chains {
     }
 
     /// A point behind a chain.
-    pub fn push_back(&mut self, points: &[Point], chain: Chain, point: u32) -> Result<Chain, Halt> {
+    pub(crate) fn push_back(
+        &mut self,
+        points: &[Point],
+        chain: Chain,
+        point: u32,
+    ) -> Result<Chain, Halt> {
         let node = self.add_node(point)?;
         self.set_previous(node, Some(chain.back));
         self.set_next(chain.back, Some(node), Link::Border);
@@ -201,8 +209,9 @@ impl Chains {
         })
     }
 
-    /// The point at which both edges of a room end: all that is left of the room is cut off round it.
-    pub fn close(&mut self, points: &[Point], chain: Chain, point: u32) -> Result<(), Halt> {
+    /// The point at which both edges of a room end: all that is left of the room is cut off round
+    /// it.
+    pub(crate) fn close(&mut self, points: &[Point], chain: Chain, point: u32) -> Result<(), Halt> {
         let closed = self.push_front(points, chain, point)?;
         let front = self.node(closed.front)?;
         let end = self.node(front.next.ok_or(Halt::NoCut)?)?;
@@ -212,8 +221,9 @@ impl Chains {
         }
     }
 
-    /// A point in the middle of a room, where edges begin: a diagonal to the node that was swept last, and a chain on either side.
-    pub fn split(
+    /// A point in the middle of a room, where edges begin: a diagonal to the node that was swept
+    /// last, and a chain on either side.
+    pub(crate) fn split(
         &mut self,
         points: &[Point],
         chain: Chain,
@@ -251,8 +261,9 @@ impl Chains {
         Ok((lower, upper))
     }
 
-    /// Two chains as one, where the back of the first and the front of the second are nodes of one point.
-    pub fn merge(&mut self, lower: Chain, upper: Chain) -> Result<Chain, Halt> {
+    /// Two chains as one, where the back of the first and the front of the second are nodes of one
+    /// point.
+    pub(crate) fn merge(&mut self, lower: Chain, upper: Chain) -> Result<Chain, Halt> {
         let front = self.node(upper.front)?;
         self.set_next(lower.back, front.next, front.link);
         let mut back = lower.back;

@@ -1,18 +1,17 @@
-//! The flats that a parcel's edges need beside those of its pieces.
+//! What is left of edges less others, and the flats that make it up.
 
-use lpis_covers::Id;
-use lpis_parcels::{Parcel, Release, pieces_of};
-use lpis_points::{Point, Triangle, orient};
-use lpis_rings::edges;
+use crate::rooms::{Corners, middles};
+use lpis_mesh::Mesher;
+use lpis_points::{Point, RatPoint, Triangle, orient};
 use std::alloc::{AllocError, Global};
 use std::cmp::Ordering;
 
 /// All edges between two points together: so many from the lesser to the greater, less those back.
 #[derive(Clone, Copy, Debug, PartialEq, Eq, PartialOrd, Ord)]
 pub(crate) struct NetEdge {
-    pub low: Point,
-    pub high: Point,
-    pub count: i64,
+    pub(crate) low: Point,
+    pub(crate) high: Point,
+    pub(crate) count: i64,
 }
 
 /// An end of an edge, and how many edges end there, less those that begin.
@@ -22,19 +21,21 @@ struct End {
     count: i64,
 }
 
-/// The edges of a parcel less those of its pieces. One value serves all parcels.
+/// Edges less others, as those of a parcel less those of its pieces. One value serves many parcels,
+/// which share its memory.
 #[derive(Drop)]
-pub(crate) struct ParcelNet {
+pub struct Net {
     alloc: Global,
     /// All edges, sorted.
     edges: Vec<NetEdge>,
     /// Those that are left, in the order of their lines.
-    pub net: Vec<NetEdge>,
+    net: Vec<NetEdge>,
     ends: Vec<End>,
-    /// Of these the edges of the lines at one of whose points another number of edges ends than begins.
-    pub rest: Vec<NetEdge>,
+    /// Of these the edges of the lines at one of whose points another number of edges ends than
+    /// begins.
+    rest: Vec<NetEdge>,
     /// The flats that make up the others.
-    pub flats: Vec<Triangle>,
+    flats: Vec<Triangle>,
 }
 
 /// The direction of two edges, and then on which side of the first line the second lies.
@@ -51,9 +52,10 @@ fn compare_lines(e: &NetEdge, f: &NetEdge) -> Ordering {
     }
 }
 
-impl ParcelNet {
-    pub fn new(alloc: Global) -> ParcelNet {
-        ParcelNet {
+impl Net {
+    /// No edges.
+    pub fn new(alloc: Global) -> Net {
+        Net {
             alloc,
             edges: Vec::new(alloc),
             net: Vec::new(alloc),
@@ -63,12 +65,13 @@ impl ParcelNet {
         }
     }
 
-    /// How many edges the parcel and its pieces have.
-    pub fn size(&self) -> usize {
-        self.edges.len()
+    /// Takes all edges away.
+    pub fn clear(&mut self) {
+        self.edges.clear();
     }
 
-    fn push(&mut self, a: Point, b: Point, count: i64) -> Result<(), AllocError> {
+    /// Adds an edge so many times; where the count is below 0, it is taken off.
+    pub fn add(&mut self, a: Point, b: Point, count: i64) -> Result<(), AllocError> {
         match a.cmp(&b) {
             Ordering::Less => self.edges.push(NetEdge {
                 low: a,
@@ -88,25 +91,11 @@ impl ParcelNet {
         Ok(())
     }
 
-    fn push_pieces(&mut self, release: &Release, parcel: &Id) -> Result<(), AllocError> {
-        for piece in pieces_of(release, parcel) {
-            for (a, b) in edges(&piece.polygon) {
-                self.push(a, b, -1)?;
-            }
-        }
-        Ok(())
-    }
-
-    /// Takes the edges of a parcel less those of its pieces, and finds its flats.
-    pub fn load(&mut self, release: &Release, parcel: &Parcel) -> Result<(), AllocError> {
-        self.edges.clear();
+    /// Sums the edges that were added, and finds flats that make up what is left.
+    pub fn settle(&mut self) -> Result<(), AllocError> {
         self.net.clear();
         self.rest.clear();
         self.flats.clear();
-        for (a, b) in edges(&parcel.polygon) {
-            self.push(a, b, 1)?;
-        }
-        self.push_pieces(release, &parcel.id)?;
         self.edges.sort_unstable();
         self.sum_edges()?;
         if !self.net.is_empty() {
@@ -115,6 +104,45 @@ impl ParcelNet {
             self.take_lines()?;
         }
         Ok(())
+    }
+
+    /// How many edges were added.
+    pub fn size(&self) -> usize {
+        self.edges.len()
+    }
+
+    /// Whether flats make up all that is left.
+    pub fn is_flat(&self) -> bool {
+        self.rest.is_empty()
+    }
+
+    /// The ends of an edge that is left, and that no flats make up where there is one.
+    pub fn edge_left(&self) -> Option<(Point, Point)> {
+        let edge = match self.rest.first() {
+            Some(edge) => edge,
+            None => self.net.first()?,
+        };
+        Some((edge.low, edge.high))
+    }
+
+    /// The flats that make up what is left, as far as flats do.
+    pub fn flats(&self) -> Result<Vec<Triangle>, AllocError> {
+        let mut flats = Vec::with_capacity(self.alloc, self.flats.len())?;
+        for flat in &self.flats {
+            flats.push(*flat)?;
+        }
+        Ok(flats)
+    }
+
+    /// The middles of the largest triangles of the rooms between edges that no flats make up, as
+    /// far as these do not cross: exact points of the rooms.
+    pub fn middles(&self, mesher: &mut Mesher) -> Result<Vec<RatPoint>, AllocError> {
+        middles(self.alloc, mesher, &self.rest)
+    }
+
+    /// The corners of these rooms.
+    pub fn corners(&self) -> Result<Corners<'_>, AllocError> {
+        Corners::new(self.alloc, &self.rest)
     }
 
     fn sum_edges(&mut self) -> Result<(), AllocError> {
@@ -227,14 +255,5 @@ impl ParcelNet {
             self.flats.push(Triangle { a, b, c: anchor })?;
         }
         Ok(())
-    }
-
-    /// The flats in a list of their own.
-    pub fn own_flats(&self) -> Result<Vec<Triangle>, AllocError> {
-        let mut flats = Vec::with_capacity(self.alloc, self.flats.len())?;
-        for flat in &self.flats {
-            flats.push(*flat)?;
-        }
-        Ok(flats)
     }
 }

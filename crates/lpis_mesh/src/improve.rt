@@ -1,6 +1,6 @@
 //! Diagonals exchanged, so that fewer boxes overlap.
 
-use crate::halt::Halt;
+use crate::halt::{Halt, number_of};
 use crate::mesh::{Mesh, Side, side_after};
 use lpis_points::{Box4, Point, Triangle, box_of, orient};
 use std::alloc::Global;
@@ -10,7 +10,8 @@ use std::alloc::Global;
 enum Goal {
     /// The sum of the sizes of the two boxes, a size being w*h + s*(w + h) for this s.
     Size(i128),
-    /// The overlaps among the boxes of the two triangles and of what lies across their sides; where these are equal, the area.
+    /// The overlaps among the boxes of the two triangles and of what lies across their sides; where
+    /// these are equal, the area.
     Overlaps,
 }
 
@@ -26,7 +27,8 @@ struct Quad {
     d: u32,
 }
 
-/// Exchanges the diagonals of a piece's triangles. No exchange can spoil a cut; they only decide how many boxes overlap.
+/// Exchanges the diagonals of triangles. No exchange can spoil a cut; they only decide how many
+/// boxes overlap.
 #[derive(Drop)]
 pub(crate) struct Improver {
     waiting: Vec<Side>,
@@ -177,7 +179,7 @@ fn mean_girth(points: &[Point], mesh: &Mesh) -> i128 {
 }
 
 impl Improver {
-    pub fn new(alloc: Global) -> Improver {
+    pub(crate) fn new(alloc: Global) -> Improver {
         Improver {
             waiting: Vec::new(alloc),
             waits: Vec::new(alloc),
@@ -185,7 +187,7 @@ impl Improver {
     }
 
     /// Two rounds over the diagonals: the first for size, the second for overlaps.
-    pub fn improve(&mut self, points: &[Point], mesh: &mut Mesh) -> Result<(), Halt> {
+    pub(crate) fn improve(&mut self, points: &[Point], mesh: &mut Mesh) -> Result<(), Halt> {
         let count = mesh.triangles.len();
         if count < 2 {
             return Ok(());
@@ -195,7 +197,8 @@ impl Improver {
         self.round(points, mesh, Goal::Overlaps, count.saturating_mul(12))
     }
 
-    /// Looks at each diagonal, and again where a triangle beside it has changed, up to so many times and a thousand.
+    /// Looks at each diagonal, and again where a triangle beside it has changed, up to so many
+    /// times and a thousand.
     fn round(
         &mut self,
         points: &[Point],
@@ -242,7 +245,7 @@ impl Improver {
             self.waits.push([false; 3])?;
         }
         for place in 0..mesh.triangles.len() {
-            let triangle = crate::halt::number_of(place)?;
+            let triangle = number_of(place)?;
             for k in 0..3 {
                 let side = Side { triangle, k };
                 if let Some(other) = mesh.across(side)

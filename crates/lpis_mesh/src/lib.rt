@@ -1,0 +1,15 @@
+//! Rooms between edges, cut into triangles on the corners that are there.
+//!
+//! Nothing is promised of a cut: who uses one checks it. Every call returns.
+#![tactic(auto)]
+
+mod chains;
+mod halt;
+mod improve;
+mod mesh;
+mod mesher;
+mod plane;
+mod replacing;
+mod sweep;
+
+pub use mesher::{Cut, Mesher};

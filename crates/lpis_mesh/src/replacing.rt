@@ -1,0 +1,30 @@
+//! Items of a list replaced by others.
+
+use crate::halt::Halt;
+
+/// Puts items in place of so many from a place on.
+pub(crate) fn replace(
+    items: &mut Vec<u32>,
+    at: usize,
+    count: usize,
+    new: &[u32],
+) -> Result<(), Halt> {
+    let both = count.min(new.len());
+    for (k, item) in new.iter().take(both).enumerate() {
+        if let Some(old) = items.get_mut(at.saturating_add(k)) {
+            *old = *item;
+        }
+    }
+    let end = at.saturating_add(both);
+    for item in new.iter().skip(both).rev() {
+        if end <= items.len() {
+            items.insert(end, *item)?;
+        }
+    }
+    for _ in both..count {
+        if end < items.len() {
+            items.remove(end);
+        }
+    }
+    Ok(())
+}
