@@ -1,22 +1,50 @@
 -- Rows with their identifiers read, one more.
-use Rattle.std.proofs.Common.{◌≡◌, ◌∙◌, ◌<◌, ◌≤◌, ◌+◌, refl, sym, ap, ap₂, subst, arith, ℕ, ℤ, pos, zero, suc, List, [], ◌∷◌, ◌++◌, Bool, true, false, cond, length, map, take, get_or}
-use Rattle.std.specs.Prelude.{◌||◌, ◌&&◌, not}
+use Rattle.std.proofs.Common.{◌≡◌, ◌∙◌, ◌<◌, ◌≤◌, ◌+◌, refl, sym, ap, ap₂, subst, arith, ℕ, ℤ, pos, zero, suc, List, [], ◌∷◌, ◌++◌, Bool, true, false, cond, length, map, take, drop, get_or}
+use Rattle.std.specs.Prelude.{◌||◌, ◌&&◌, not, nat_lt}
 use Rattle.std.specs.List.{All, filter, list_any}
 use Rattle.std.specs.Ordering.{is_eq, nat_cmp}
 use Rattle.std.specs.Cmp.Lexicographic.{slice_cmp}
 use Rattle.std.proofs.lemmas.Grind.{common_steps}
-use Rattle.std.proofs.lemmas.List.{map-append}
+use Rattle.std.proofs.lemmas.Bool.Decides.{nat_tests}
+use Rattle.std.proofs.lemmas.List.{map-append, take-append-drop}
 use Rattle.std.proofs.lemmas.List.Elements.{All-push}
 use Rattle.lpis_covers.specs.Ids.{has_id, is_id, same_id}
 use Rattle.lpis_lineage.specs.declared.row.Row.{Row}
-use Rattle.lpis_lineage.proofs.Basics.{add-by_order, has-by_order, same-exact, same-sym}
-use Rattle.lpis_lineage.proofs.RowCounts.{filter-append, filter-none}
+use Rattle.lpis_lineage.proofs.Basics.{add-by_order, has-by_order, same-exact, same-refl, same-sym}
+use Rattle.lpis_lineage.proofs.RowCounts.{filter-append, filter-none, filter-some}
 use Rattle.lpis_lineage.proofs.SeenLemmas.{any-push, or-cond}
 use Rattle.lpis_lineage.proofs.Telling.{take-at}
+use Rattle.lpis_records.specs.declared.known.KnownLine.{KnownLine}
 use Rattle.lpis_records.specs.declared.known.KnownSpan.{KnownSpan}
 use Rattle.lpis_records.specs.Content.{Line, Span, lines_from, text_of}
 use Rattle.lpis_records.specs.private.Covering.{covers}
-use Rattle.lpis_records.specs.private.Known.{span_in}
+use Rattle.lpis_records.specs.private.Known.{line_at, line_in, span_in}
+
+-- no test is both true and false
+pub no-both : {P : Type 0} → (b : Bool) → b ≡ true → b ≡ false → P
+no-both true t f = cc f
+no-both false t f = cc t
+
+pub not-below : {P : Type 0} → (a b : ℕ) → b ≤ a → nat_lt a b ≡ true → P
+not-below a b le t = absurd (let lt : a < b = grind (arith, nat_tests, t) in omega (arith, le, lt))
+
+-- what holds of each element holds of the one at a place
+pub all-at : {A : Type 0} (P : A → Type 0) (xs : List A) (i : ℕ) (x : A) → i < length xs → x ≡ get_or xs i x → All P xs → P x
+all-at P xs i x lt at all = subst P (sym at) (all i x lt)
+
+pub all-pushed : {A : Type 0} (P : A → Type 0) (xs new : List A) (x : A) → new ≡ xs ++ x ∷ [] → All P xs → P x → All P new
+all-pushed P xs new x n all p = subst (All P) (sym n) (All-push P xs x all p)
+
+-- the line at a place of those that were read
+pub known-at : (ks : List KnownLine) (i : ℕ) (l : KnownLine) → i < length ks → l ≡ get_or ks i l → line_at (map line_in ks) i ≡ line_in l
+known-at [] i l lt at = absurd (omega (arith, lt))
+known-at (k ∷ ks) zero l lt at = ap line_in (sym at)
+known-at (k ∷ ks) (suc i) l lt at = known-at ks i l (omega (arith, lt)) at
+
+pub known-past : {P : Type 0} → (ks : List KnownLine) (i : ℕ) (y : ℕ) → length ks ≤ i → (line_at (map line_in ks) i).year ≡ pos y → P
+known-past [] i y le e = absurd cc
+known-past (k ∷ ks) zero y le e = absurd (omega (arith, le))
+known-past (k ∷ ks) (suc i) y le e = known-past ks i y (omega (arith, le)) e
 
 -- a list read one further
 pub read-more : {A B : Type 0} (f : A → B) (known : List A) (k : A) (rows : List B) (i : ℕ) (row : B) → map f known ≡ take i rows → i < length rows → row ≡ get_or rows i row → f k ≡ row → map f (known ++ k ∷ []) ≡ take (i + 1) rows
@@ -56,6 +84,23 @@ seen-more spans i s old new id added lt at is add does updates seen = subst (Are
     once q (same_id q s.id) refl,
   )
 
+-- an identifier that was seen has two spans
+pub seen-twice : (spans : List KnownSpan) (i : ℕ) (s : KnownSpan) (old : List (List ℕ)) (id : List ℕ) (added : Bool) → i < length spans → s ≡ get_or spans i s → id ≡ s.id
+    → added ≡ not (list_any (λ k. is_eq (slice_cmp nat_cmp id k)) old) → added ≡ false → AreSeen old (take i spans) → ((q : List ℕ) → length (filter (λ s. same_id q s.id) spans) ≤ 1) → ⊥
+seen-twice spans i s old id added lt at is add isnt seen few =
+    let here : list_any (λ (t : KnownSpan). same_id s.id t.id) (take i spans) ≡ true = sym (seen s.id).0 ∙ ap (has_id old) (sym is) ∙ sym (has-by_order old id) ∙ not-false (list_any (λ k. is_eq (slice_cmp nat_cmp id k)) old) (sym add ∙ isnt) in
+    let some = filter-some (λ (t : KnownSpan). same_id s.id t.id) (take i spans) here in
+    let one = ap (λ (b : Bool). length (cond b (s ∷ []) [])) (same-refl s.id) in
+    let first = filter-append (λ (t : KnownSpan). same_id s.id t.id) (take i spans) (s ∷ []) in
+    let read = ap (λ (l : List KnownSpan). length (filter (λ t. same_id s.id t.id) l)) (take-at spans i s lt at) in
+    let whole = filter-append (λ (t : KnownSpan). same_id s.id t.id) (take (i + 1) spans) (drop (i + 1) spans) in
+    let joined = ap (λ (l : List KnownSpan). length (filter (λ t. same_id s.id t.id) l)) (take-append-drop (i + 1) spans) in
+    let f = few s.id in
+    absurd (omega (arith, some, one, first, read, whole, joined, f)) where
+      not-false : (b : Bool) → not b ≡ false → b ≡ true
+      not-false true e = refl
+      not-false false e = cc e
+
 -- the identifiers whose span covers a year, one further
 abbrev pub AreLive : List (List ℕ) → ℕ → List KnownSpan → Type 0
 AreLive ids year spans = (id : List ℕ) → has_id ids id ≡ list_any (λ s. same_id id s.id && covers (span_in s) year) spans
@@ -91,7 +136,7 @@ spans-more rows i row known new s lt at is id n inv = rw n (read-more span_in kn
 pub all-more : {A : Type 0} (P : A → Type 0) (xs : List A) (i : ℕ) (x : A) → i < length xs → x ≡ get_or xs i x → All P (take i xs) → P x → All P (take (i + 1) xs)
 all-more P xs i x lt at all p = subst (All P) (take-at xs i x lt at) (All-push P (take i xs) x all p)
 
-take-whole : {A : Type 0} (xs : List A) (i : ℕ) → length xs ≤ i → take i xs ≡ xs
+pub take-whole : {A : Type 0} (xs : List A) (i : ℕ) → length xs ≤ i → take i xs ≡ xs
 take-whole [] i le = grind (arith, common_steps)
 take-whole {A = A} (x ∷ xs) zero le = absurd (omega arith)
 take-whole {A = A} (x ∷ xs) (suc i) le = ap (λ (l : List A). x ∷ l) (take-whole xs i (omega arith))

@@ -11,3 +11,6 @@ pub mod ReleaseMore
 pub mod Saying
 pub mod LiveRows
 pub mod SpanLists
+pub mod Sorting
+pub mod Fronts
+pub mod Refusing

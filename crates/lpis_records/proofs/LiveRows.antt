@@ -57,7 +57,7 @@ one-covers m y e p = grind (arith, nat_tests)
 covers-one : (m : ℕ) → (nat_le m m && (nat_eq m 0 || nat_le m m)) ≡ true
 covers-one m = grind (arith, nat_tests)
 
-above-zero : (h : List Entry) → IsLawful h → (i : ℕ) → i < length h → 0 < (entry_at h i).year
+pub above-zero : (h : List Entry) → IsLawful h → (i : ℕ) → i < length h → 0 < (entry_at h i).year
 above-zero h law zero lt = law.first_year lt
 above-zero h law (suc i) lt = let r = law.years_rise 0 (suc i) (omega arith) lt in omega (arith, r)
 

@@ -21,6 +21,7 @@ use Rattle.lpis_lineage.proofs.SpanLaw.{span-tells}
 use Rattle.lpis_records.specs.Content.{Content, Line, Span, lines_from, text_of}
 use Rattle.lpis_records.specs.Tells.{IsKept, IsSameHistory, IsSpanRow, SpansTell, Tells, lines_of, shown, years_of}
 use Rattle.lpis_records.specs.private.Covering.{covers}
+use Rattle.lpis_records.specs.private.Known.{HasText}
 use Rattle.lpis_records.proofs.Ascending.{Ascends, below, below-alone, same-ascending}
 use Rattle.lpis_records.proofs.Years.{all-entries, line-alone, line_below, lines-above, lines-ascend, years-ascend}
 
@@ -81,10 +82,6 @@ sets-told h spans law t i lt id = sym (with-test spans t.right ∙ by (list_any 
 
 -- ---- rows
 
--- a successor's text is not empty
-abbrev pub HasText : Row → Type 0
-HasText r = r.new ≡ Some [] → ⊥
-
 rows-have-texts : (rows : List Row) → ((id : List ℕ) → list_any (names id) rows ≡ true → is_id id ≡ true) → AllByRecursion HasText rows
 rows-have-texts [] f = tt
 rows-have-texts (r ∷ rs) f = (λ e. let n : names [] r ≡ true = ap (is_this []) e in let i = f [] (or-left (names [] r) (list_any (names []) rs) n) in cc, rows-have-texts rs (λ id n. f id (or-right (names id r) (list_any (names id) rs) n)))
@@ -107,7 +104,7 @@ rest_of [] = []
 rest_of (l ∷ ls) = ls
 
 -- the rows of a year before those of later ones
-rows-apart : (y n : ℕ) (rs qs : List Row) (ls ms : List Line) → AllByRecursion (λ l. below (pos y) l.year) ls → AllByRecursion (λ l. below (pos y) l.year) ms → AllByRecursion HasText rs → AllByRecursion HasText qs
+pub rows-apart : (y n : ℕ) (rs qs : List Row) (ls ms : List Line) → AllByRecursion (λ l. below (pos y) l.year) ls → AllByRecursion (λ l. below (pos y) l.year) ms → AllByRecursion HasText rs → AllByRecursion HasText qs
     → lines_from (pos y) n rs ++ ls ≡ lines_from (pos y) n qs ++ ms → (rs ≡ qs) × (ls ≡ ms)
 rows-apart y n [] [] ls ms a b f g e = (refl, e)
 rows-apart y n [] (q ∷ qs) ls ms a b f g e = absurd (let all = subst (AllByRecursion (λ l. below (pos y) l.year)) e a in below-alone (pos y) (pos y) all.0 all.0)

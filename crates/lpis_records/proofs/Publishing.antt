@@ -71,7 +71,7 @@ holds-more h e i id held =
     ]
 
 -- what has a span is in some release
-spanned : (h : List Entry) (id : List ℕ) → is_some (span_of h id) ≡ true → (i : ℕ) × (holds h i id ≡ true)
+pub spanned : (h : List Entry) (id : List ℕ) → is_some (span_of h id) ≡ true → (i : ℕ) × (holds h i id ≡ true)
 spanned h id s = by (first_held h id) refl s where
   by : (f : Option ℕ) → f ≡ first_held h id → is_some (span_between f (last_held h id) (has_id (last_live h) id)) ≡ true → (i : ℕ) × (holds h i id ≡ true)
   by None e s = absurd cc

@@ -24,7 +24,7 @@ pub lines-added : (h k : List Entry) (y : ℕ) (live : List (List ℕ)) (rows : 
 lines-added h k y live rows before after (e, k-is, year-is, is) b a =
     ap lines_of k-is ∙ lines-more h e ∙ ap₂ (λ (n : ℕ) (rs : List Row). lines_of h ++ lines_from (pos n) 0 rs) year-is is.rows_are ∙ ap (λ (l : List Line). l ++ lines_from (pos y) 0 rows) b ∙ sym a
 
-any-map : {A B : Type 0} (p : B → Bool) (f : A → B) (xs : List A) → list_any p (map f xs) ≡ list_any (λ x. p (f x)) xs
+pub any-map : {A B : Type 0} (p : B → Bool) (f : A → B) (xs : List A) → list_any p (map f xs) ≡ list_any (λ x. p (f x)) xs
 any-map p f [] = refl
 any-map p f (x ∷ xs) = ap (λ (b : Bool). p (f x) || b) (any-map p f xs)
 

@@ -31,7 +31,7 @@ any-id (s ∷ ss) id all e = by (any-id ss id all.1) (same_id id s.id) refl e wh
   by ih true eb h = ap is_id (same-exact id s.id (sym eb)) ∙ all.0
   by ih false eb h = ih h
 
-count-map : (spans : List KnownSpan) (id : List ℕ) → length (filter (λ s. same_id id s.id) (map span_in spans)) ≡ length (filter (λ s. same_id id s.id) spans)
+pub count-map : (spans : List KnownSpan) (id : List ℕ) → length (filter (λ s. same_id id s.id) (map span_in spans)) ≡ length (filter (λ s. same_id id s.id) spans)
 count-map [] id = refl
 count-map (s ∷ ss) id = by (same_id id s.id) (count-map ss id) where
   by : (b : Bool) → length (filter (λ s. same_id id s.id) (map span_in ss)) ≡ length (filter (λ s. same_id id s.id) ss)
@@ -43,12 +43,12 @@ right-map : (h : List Entry) (spans : List KnownSpan) → AllByRecursion (λ s. 
 right-map h [] all = tt
 right-map h (s ∷ ss) all = (all.0, right-map h ss all.1)
 
-abbrev first_of : List ℤ → ℕ
+abbrev pub first_of : List ℤ → ℕ
 first_of [] = 0
 first_of (pos n ∷ l) = n
 first_of (negsuc n ∷ l) = 0
 
-abbrev rest : List ℤ → List ℤ
+abbrev pub rest : List ℤ → List ℤ
 rest [] = []
 rest (z ∷ l) = l
 

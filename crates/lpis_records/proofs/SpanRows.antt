@@ -13,7 +13,7 @@ use Rattle.lpis_records.specs.Content.{Span}
 use Rattle.lpis_records.specs.Tells.{IsSpanRow, SpansTell, shown}
 use Rattle.lpis_records.proofs.Ascending.{all-moved}
 
-count-moved : {A : Type 0} (p : A → Bool) (xs ys : List A) → IsPermutation xs ys → length (filter p ys) ≡ length (filter p xs)
+pub count-moved : {A : Type 0} (p : A → Bool) (xs ys : List A) → IsPermutation xs ys → length (filter p ys) ≡ length (filter p xs)
 count-moved p xs ys m = length-filter p ys ∙ sum_by-IsPermutation _ xs ys m ∙ sym (length-filter p xs)
 
 -- rows in another order tell the same

@@ -1,6 +1,8 @@
 //! The history that rows say.
 
-ghost use Rattle.std.specs.Prelude.{IfOk};
+ghost use Rattle.std.specs.Prelude.{◌≡◌, List, IfErr, IfOk};
+ghost use Rattle.lpis_lineage.specs.declared.row.Entry.{Entry};
+ghost use Rattle.lpis_records.specs.declared.fault.RecordsFault.TheVariants.{Unlawful};
 ghost use Rattle.lpis_records.specs.Tells.{Tells};
 
 use crate::building::build;
@@ -11,9 +13,10 @@ use crate::rows::Rows;
 use lpis_lineage::History;
 use std::alloc::Global;
 
-/// The history that rows of version 2 say, in whatever order they are.
+/// The history that rows of version 2 say, in whatever order they are; `Unlawful` exactly where they say none.
 pub fn history_of(alloc: Global, rows: &Rows) -> Result<History, RecordsFault>
     ensures ok { IfOk result (Tells rows.now) }
+    ensures unlawful { IfErr result (λ e. e ≡ Unlawful → (h : List Entry) → Tells rows.now h → ⊥) }
 {
     if !has_version(rows.formats(), 2) {
         return Err(RecordsFault::Unlawful);
@@ -22,11 +25,13 @@ pub fn history_of(alloc: Global, rows: &Rows) -> Result<History, RecordsFault>
     let spans = read_spans(alloc, rows.spans())?;
     let lines = read_lines(alloc, rows.lines())?;
     let once = none_twice(alloc, spans.as_slice())?;
+    if !once {
+        return Err(RecordsFault::Unlawful);
+    }
     let history = build(alloc, years.as_slice(), spans.as_slice(), lines.as_slice())?;
     let _ = history.releases();
-    if once && are_told(&history, spans.as_slice()) {
-        Ok(history)
-    } else {
-        Err(RecordsFault::Unlawful)
+    if !are_told(&history, spans.as_slice()) {
+        return Err(RecordsFault::Unlawful);
     }
+    Ok(history)
 }

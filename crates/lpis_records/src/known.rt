@@ -1,12 +1,15 @@
 //! Rows with their identifiers read.
 
-ghost use Rattle.std.specs.Prelude.{◌≡◌, ◌≤◌, ◌<◌, true, pos, ℕ, List, length, map, IfOk, IfSome, IsPermutation, IsTrue};
+ghost use Rattle.std.specs.Prelude.{◌≡◌, ◌↔◌, ◌⊎◌, ◌≤◌, ◌<◌, true, false, pos, ℕ, List, [], length, map, Some, IfErr, IfNone, IfOk, IfSome, IsPermutation, IsSorted, IsTrue};
 ghost use Rattle.std.specs.List.{All, filter};
+ghost use Rattle.std.specs.List.Sorted.{IsSortedByKey};
+ghost use Rattle.std.specs.Ordering.{nat_cmp};
 ghost use Rattle.lpis_covers.specs.Ids.{is_id, same_id};
+ghost use Rattle.lpis_records.specs.declared.fault.RecordsFault.TheVariants.{Unlawful};
 ghost use Rattle.lpis_records.specs.Content.{text_of};
 ghost use Rattle.lpis_records.specs.Tells.{last_of_years};
 ghost use Rattle.lpis_records.specs.private.Covering.{covers};
-ghost use Rattle.lpis_records.specs.private.Known.{line_in, span_in};
+ghost use Rattle.lpis_records.specs.private.Known.{HasText, IsReadable, IsYear, line_cmp, line_in, span_in};
 
 use crate::fault::RecordsFault;
 use crate::rows::{LineRow, SpanRow};
@@ -37,6 +40,7 @@ impl KnownSpan {
 pub(crate) fn read_id(alloc: Global, text: &str) -> Result<Id, RecordsFault>
     ensures same { IfOk result (λ id. id ≡ text.now) }
     ensures id { IfOk result (λ id. is_id text.now ≡ true) }
+    ensures refused { IfErr result (λ e. e ≡ Unlawful → is_id text.now ≡ false) }
 {
     match Id::read(alloc, text.as_bytes())? {
         Some(id) => Ok(id),
@@ -48,6 +52,7 @@ pub(crate) fn read_id(alloc: Global, text: &str) -> Result<Id, RecordsFault>
 fn read_span(alloc: Global, row: &SpanRow) -> Result<KnownSpan, RecordsFault>
     ensures same { IfOk result (λ s. span_in s ≡ row.now) }
     ensures id { IfOk result (λ s. is_id s.id ≡ true) }
+    ensures refused { IfErr result (λ e. e ≡ Unlawful → is_id row.now.id ≡ false) }
 {
     let id = read_id(alloc, row.id())?;
     let since = row.since();
@@ -59,6 +64,7 @@ fn read_span(alloc: Global, row: &SpanRow) -> Result<KnownSpan, RecordsFault>
 pub(crate) fn read_spans(alloc: Global, rows: &[SpanRow]) -> Result<Vec<KnownSpan>, RecordsFault>
     ensures same { IfOk result (λ v. map span_in v.items ≡ rows.now) }
     ensures ids { IfOk result (λ v. All (λ s. is_id s.id ≡ true) v.items) }
+    ensures refused { IfErr result (λ e. e ≡ Unlawful → All (λ s. is_id s.id ≡ true) rows.now → ⊥) }
 {
     let mut spans = Vec::new(alloc);
     for row in rows {
@@ -70,7 +76,8 @@ pub(crate) fn read_spans(alloc: Global, rows: &[SpanRow]) -> Result<Vec<KnownSpa
 
 /// Whether no identifier has two spans.
 pub(crate) fn none_twice(alloc: Global, spans: &[KnownSpan]) -> Result<bool, AllocError>
-    ensures { IfOk result (λ b. IsTrue b → (id : List ℕ) → length (filter (λ s. same_id id s.id) spans.now) ≤ 1) }
+    ensures once { IfOk result (λ b. IsTrue b → (id : List ℕ) → length (filter (λ s. same_id id s.id) spans.now) ≤ 1) }
+    ensures twice { IfOk result (λ b. b ≡ false → ((id : List ℕ) → length (filter (λ s. same_id id s.id) spans.now) ≤ 1) → ⊥) }
 {
     let mut seen = BTreeSet::new(alloc);
     for span in spans {
@@ -92,20 +99,26 @@ pub(crate) struct KnownLine {
 }
 
 impl KnownLine {
+    /// Whether it is a row of this year.
+    pub(crate) fn is_of(&self, year: u16) -> bool
+        ensures { IsTrue result ↔ (self.now.year ≡ pos year) }
+    {
+        self.year == i64::from(year)
+    }
+
     /// Whether it is the row of this year at this place.
     pub(crate) fn is_at(&self, year: u16, place: usize) -> bool
-        ensures { IsTrue result → (self.now.year ≡ pos year) × (self.now.place ≡ pos place) }
+        ensures { IsTrue result ↔ ((self.now.year ≡ pos year) × (self.now.place ≡ pos place)) }
     {
-        if place > 1_000_000_000_000 {
-            return false;
-        }
-        self.year == i64::from(year) && self.place == place as i64
+        self.year == i64::from(year) && 0 <= self.place && self.place as usize == place
     }
 }
 
 /// The successor of a text, none where it is empty.
 fn read_successor(alloc: Global, text: &str) -> Result<Option<Id>, RecordsFault>
-    ensures { IfOk result (λ new. text_of new ≡ text.now) }
+    ensures same { IfOk result (λ new. text_of new ≡ text.now) }
+    ensures text { IfOk result (λ new. new ≡ Some [] → ⊥) }
+    ensures refused { IfErr result (λ e. e ≡ Unlawful → (text.now ≡ []) ⊎ (is_id text.now ≡ true) → ⊥) }
 {
     if text.is_empty() {
         return Ok(None);
@@ -116,7 +129,9 @@ fn read_successor(alloc: Global, text: &str) -> Result<Option<Id>, RecordsFault>
 
 /// A line with its row.
 fn read_line(alloc: Global, line: &LineRow) -> Result<KnownLine, RecordsFault>
-    ensures { IfOk result (λ l. line_in l ≡ line.now) }
+    ensures same { IfOk result (λ l. line_in l ≡ line.now) }
+    ensures text { IfOk result (λ l. HasText l.row) }
+    ensures refused { IfErr result (λ e. e ≡ Unlawful → IsReadable line.now → ⊥) }
 {
     let old = read_id(alloc, line.old())?;
     let new = read_successor(alloc, line.new_text())?;
@@ -128,7 +143,10 @@ fn read_line(alloc: Global, line: &LineRow) -> Result<KnownLine, RecordsFault>
 
 /// The lines with their rows, by year and in it by place.
 pub(crate) fn read_lines(alloc: Global, lines: &[LineRow]) -> Result<Vec<KnownLine>, RecordsFault>
-    ensures { IfOk result (λ v. IsPermutation lines.now (map line_in v.items)) }
+    ensures same { IfOk result (λ v. IsPermutation lines.now (map line_in v.items)) }
+    ensures sorted { IfOk result (λ v. IsSortedByKey line_in line_cmp v.items) }
+    ensures texts { IfOk result (λ v. All (λ l. HasText l.row) v.items) }
+    ensures refused { IfErr result (λ e. e ≡ Unlawful → All IsReadable lines.now → ⊥) }
 {
     let mut known = known_lines(alloc, lines)?;
     known.sort_unstable_by_key(|line| (line.year, line.place));
@@ -137,7 +155,9 @@ pub(crate) fn read_lines(alloc: Global, lines: &[LineRow]) -> Result<Vec<KnownLi
 
 /// The lines with their rows, in their order.
 fn known_lines(alloc: Global, lines: &[LineRow]) -> Result<Vec<KnownLine>, RecordsFault>
-    ensures { IfOk result (λ v. map line_in v.items ≡ lines.now) }
+    ensures same { IfOk result (λ v. map line_in v.items ≡ lines.now) }
+    ensures texts { IfOk result (λ v. All (λ l. HasText l.row) v.items) }
+    ensures refused { IfErr result (λ e. e ≡ Unlawful → All IsReadable lines.now → ⊥) }
 {
     let mut known = Vec::new(alloc);
     for line in lines {
@@ -148,11 +168,12 @@ fn known_lines(alloc: Global, lines: &[LineRow]) -> Result<Vec<KnownLine>, Recor
 }
 
 /// A year from 1 to 65,535.
-fn year_of(year: i64) -> Option<u16>
-    ensures { IfSome result (λ y. (year ≡ pos y) × (y ≤ last_of_years)) }
+fn year_of(year: &i64) -> Option<u16>
+    ensures some { IfSome result (λ y. (year.now ≡ pos y) × (y ≤ last_of_years)) }
+    ensures none { IfNone result (IsYear year.now → ⊥) }
 {
-    if 1 <= year && year <= 65535 {
-        Some(year as u16)
+    if 1 <= *year && *year <= 65535 {
+        Some(*year as u16)
     } else {
         None
     }
@@ -162,6 +183,8 @@ fn year_of(year: i64) -> Option<u16>
 pub(crate) fn sorted_years(alloc: Global, years: &[i64]) -> Result<Vec<u16>, RecordsFault>
     ensures same { IfOk result (λ v. IsPermutation years.now (map (λ y. pos y) v.items)) }
     ensures small { IfOk result (λ v. All (λ y. y ≤ last_of_years) v.items) }
+    ensures sorted { IfOk result (λ v. IsSorted nat_cmp v.items) }
+    ensures refused { IfErr result (λ e. e ≡ Unlawful → All IsYear years.now → ⊥) }
 {
     let mut sorted = known_years(alloc, years)?;
     sorted.sort_unstable();
@@ -172,10 +195,11 @@ pub(crate) fn sorted_years(alloc: Global, years: &[i64]) -> Result<Vec<u16>, Rec
 fn known_years(alloc: Global, years: &[i64]) -> Result<Vec<u16>, RecordsFault>
     ensures same { IfOk result (λ v. map (λ y. pos y) v.items ≡ years.now) }
     ensures small { IfOk result (λ v. All (λ y. y ≤ last_of_years) v.items) }
+    ensures refused { IfErr result (λ e. e ≡ Unlawful → All IsYear years.now → ⊥) }
 {
     let mut known = Vec::new(alloc);
     for year in years {
-        match year_of(*year) {
+        match year_of(year) {
             Some(year) => known.push(year)?,
             None => return Err(RecordsFault::Unlawful),
         }

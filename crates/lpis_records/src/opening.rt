@@ -1,23 +1,25 @@
 //! The history that rows say.
 
-ghost use Rattle.std.specs.Prelude.{◌≡◌, ◌↔◌, ◌≤◌, ◌+◌, ◌++◌, ◌∷◌, ◌&&◌, [], pos, true, ℕ, List, length, map, take, IfOk, OnOk, IsTrue};
+ghost use Rattle.std.specs.Prelude.{◌≡◌, ◌↔◌, ◌≤◌, ◌+◌, ◌++◌, ◌∷◌, ◌&&◌, [], pos, true, ℕ, List, length, map, take, IfErr, IfOk, IsTrue};
 ghost use Rattle.std.specs.List.{All, list_any};
-ghost use Rattle.lpis_covers.specs.Ids.{has_id, is_id, same_id};
+ghost use Rattle.lpis_covers.specs.Ids.{has_id, same_id};
+ghost use Rattle.lpis_records.specs.declared.fault.RecordsFault.TheVariants.{Unlawful};
 ghost use Rattle.lpis_records.specs.Content.{lines_from};
 ghost use Rattle.lpis_records.specs.Tells.{IsSpanRow, only_format};
 ghost use Rattle.lpis_records.specs.private.Covering.{covers};
-ghost use Rattle.lpis_records.specs.private.Known.{line_in, span_in};
+ghost use Rattle.lpis_records.specs.private.Fronts.{IsRun};
+ghost use Rattle.lpis_records.specs.private.Known.{HasText, line_at, line_in, span_in};
 
 use crate::fault::RecordsFault;
-use crate::known::{KnownLine, KnownSpan, none_twice, read_lines, read_spans, sorted_years};
-use crate::rows::{FormatRow, Rows};
+use crate::known::{KnownLine, KnownSpan};
+use crate::rows::FormatRow;
 use lpis_covers::Id;
-use lpis_lineage::{AddFault, History, Row};
+use lpis_lineage::{History, Row};
 use std::alloc::{AllocError, Global};
 
 /// Whether these are the one row of a version.
 pub(crate) fn has_version(formats: &[FormatRow], version: u16) -> bool
-    ensures { IsTrue result → formats.now ≡ only_format version }
+    ensures { IsTrue result ↔ (formats.now ≡ only_format version) }
 {
     if formats.len() != 1 {
         return false;
@@ -41,9 +43,10 @@ pub(crate) fn live_ids(alloc: Global, spans: &[KnownSpan], year: u16) -> Result<
 
 /// Whether there is a line at a place, and its year is this one.
 fn is_of_year(lines: &[KnownLine], next: usize, year: u16) -> bool
-    ensures { IsTrue result → next + 1 ≤ length lines.now }
+    ensures within { IsTrue result → next + 1 ≤ length lines.now }
+    ensures year { IsTrue result ↔ ((line_at (map line_in lines.now) next).year ≡ pos year) }
 {
-    next < lines.len() && lines[next].year == i64::from(year)
+    next < lines.len() && lines[next].is_of(year)
 }
 
 /// A copy of the row of the line at a place, which is to be the row of this year at this place.
@@ -55,7 +58,9 @@ fn row_at(
     place: usize,
 ) -> Result<Row, RecordsFault>
     requires within { next + 1 ≤ length lines.now }
-    ensures { IfOk result (λ row. map line_in (take (next + 1) lines.now) ≡ map line_in (take next lines.now) ++ lines_from (pos year) place (row ∷ [])) }
+    ensures row { IfOk result (λ row. map line_in (take (next + 1) lines.now) ≡ map line_in (take next lines.now) ++ lines_from (pos year) place (row ∷ [])) }
+    ensures text { All (λ l. HasText l.row) lines.now → IfOk result HasText }
+    ensures refused { IfErr result (λ e. e ≡ Unlawful → (line_at (map line_in lines.now) next).year ≡ pos year → (line_at (map line_in lines.now) next).place ≡ pos place → ⊥) }
 {
     let line = &lines[next];
     if line.is_at(year, place) {
@@ -76,6 +81,9 @@ pub(crate) fn rows_of_year(
     requires within { from ≤ length lines.now }
     ensures rows { IfOk result (λ p. map line_in (take p.1 lines.now) ≡ map line_in (take from lines.now) ++ lines_from (pos year) 0 p.0.items) }
     ensures within { IfOk result (λ p. p.1 ≤ length lines.now) }
+    ensures texts { All (λ l. HasText l.row) lines.now → IfOk result (λ p. All HasText p.0.items) }
+    ensures run { IfOk result (λ p. (stop : ℕ) → IsRun (map line_in lines.now) from year stop → p.1 ≡ stop) }
+    ensures refused { IfErr result (λ e. e ≡ Unlawful → (stop : ℕ) → IsRun (map line_in lines.now) from year stop → ⊥) }
 {
     let mut rows = Vec::new(alloc);
     let mut next = from;
@@ -89,7 +97,7 @@ pub(crate) fn rows_of_year(
 
 /// Whether the row is the span of its identifier.
 fn is_told(history: &History, span: &KnownSpan) -> bool
-    ensures { IsTrue result → IsSpanRow history.now (span_in span.now) }
+    ensures { IsTrue result ↔ IsSpanRow history.now (span_in span.now) }
 {
     match history.span(&span.id) {
         Some(years) => {
@@ -101,7 +109,7 @@ fn is_told(history: &History, span: &KnownSpan) -> bool
 
 /// Whether the rows are the spans of their identifiers.
 pub(crate) fn are_told(history: &History, spans: &[KnownSpan]) -> bool
-    ensures { IsTrue result → All (λ s. IsSpanRow history.now (span_in s)) spans.now }
+    ensures { IsTrue result ↔ All (λ s. IsSpanRow history.now (span_in s)) spans.now }
 {
     for span in spans {
         if !is_told(history, span) {

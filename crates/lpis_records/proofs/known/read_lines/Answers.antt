@@ -1,8 +1,15 @@
-use Rattle.std.proofs.Common.{List, map, subst, IsPermutation}
-use Rattle.std.proofs.lemmas.List.Sorted.{IsPermutation-map}
+use Rattle.std.proofs.Common.{List, map, subst, rules, IsPermutation}
+use Rattle.std.proofs.lemmas.List.Sorted.{All-permutation, IsPermutation-map, answers_always}
+use Rattle.lpis_records.specs.declared.known.KnownLine.{KnownLine}
 use Rattle.lpis_records.specs.Content.{Line}
-use Rattle.lpis_records.specs.private.Known.{line_in}
+use Rattle.lpis_records.specs.private.Known.{HasText, line_in}
 use Rattle.lpis_records.proofs.known.read_lines.Goals as goal
 
-pub returns : goal.returns
-returns c = subst (λ (l : List Line). IsPermutation l (map line_in c.sort_unstable_by_key.new.self.items)) c.in_ok-known.ensures (IsPermutation-map line_in c.in_ok-known.known.items c.sort_unstable_by_key.new.self.items c.sort_unstable_by_key.ensures.permutation)
+pub returns-clause-same : goal.returns-clause-same
+returns-clause-same c = subst (λ (l : List Line). IsPermutation l (map line_in c.sort_unstable_by_key.new.self.items)) c.in_ok-known.ensures.same (IsPermutation-map line_in c.in_ok-known.known.items c.sort_unstable_by_key.new.self.items c.sort_unstable_by_key.ensures.permutation)
+
+pub returns-clause-texts : goal.returns-clause-texts
+returns-clause-texts c = All-permutation (λ (k : KnownLine). HasText k.row) c.in_ok-known.known.items c.sort_unstable_by_key.new.self.items c.sort_unstable_by_key.ensures.permutation c.in_ok-known.ensures.texts
+
+pub returns-clause-sorted : goal.returns-clause-sorted
+returns-clause-sorted c = c.sort_unstable_by_key.ensures.sorted (λ (k : KnownLine). (k.year, k.place)) (answers_always _ _ _ (λ f a r g h. search rules))

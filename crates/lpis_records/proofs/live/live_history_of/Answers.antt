@@ -15,10 +15,10 @@ returns-then-have_years c =
     record {
       ok = live-says c.args.rows.now h c.in_ok-years.years.items c.in_ok-spans.spans.items c.in_ok-lines.lines.items c.releases.ensures.lawful c.releases.ensures.fits
           (recursion_from_All (λ (y : ℕ). y ≤ last_of_years) c.in_ok-years.years.items c.in_ok-years.ensures.small)
-          (sym c.formats.ensures ∙ c.has_version.ensures c.if-not-has_version.false)
+          (sym c.formats.ensures ∙ c.has_version.ensures.0 c.if-not-has_version.false)
           (subst (λ (l : List ℤ). IsPermutation l (map (λ y. pos y) c.in_ok-years.years.items)) c.years.ensures c.in_ok-years.ensures.same)
           (subst (λ (l : List Live). map span_in c.in_ok-spans.spans.items ≡ map one_year l) c.live.ensures c.in_ok-spans.ensures.same) c.in_ok-spans.ensures.ids
-          (subst (λ (l : List Line). IsPermutation l (map line_in c.in_ok-lines.lines.items)) c.lines.ensures c.in_ok-lines.ensures)
+          (subst (λ (l : List Line). IsPermutation l (map line_in c.in_ok-lines.lines.items)) c.lines.ensures c.in_ok-lines.ensures.same)
           (subst (λ (l : List ℕ). years_of h ≡ map (λ y. pos y) l) c.as_slice.ensures.value c.in_ok-history.ensures.years)
           (subst (λ (l : List KnownSpan). SetsAre (map span_in l) h) c.as_slice-2.ensures.value c.in_ok-history.ensures.sets)
           (subst (λ (l : List KnownLine). lines_of h ≡ map line_in l) c.as_slice-3.ensures.value c.in_ok-history.ensures.lines)
