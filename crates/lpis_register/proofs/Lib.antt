@@ -12,3 +12,5 @@ pub mod Showing
 pub mod Published
 pub mod Readings
 pub mod Loops
+pub mod Holders
+pub mod Ordered

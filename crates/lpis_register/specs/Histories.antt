@@ -1,11 +1,15 @@
 -- The history that a database holds.
-use Rattle.std.specs.Prelude.{◌≡◌, ◌<◌, ◌≤◌, true, [], ℕ, List, Some, Result, Ok, Err}
+use Rattle.std.specs.Prelude.{◌≡◌, ◌<◌, ◌≤◌, ◌↔◌, true, false, [], ℕ, List, Some, Result, Ok, Err}
 use Rattle.sqlite.specs.Tree.{Trees}
 use Rattle.sqlite.specs.State.{State}
 use Rattle.lpis_lineage.specs.declared.row.Row.{Row}
+use Rattle.lpis_covers.specs.Ids.{has_id}
 use Rattle.lpis_lineage.specs.declared.row.Entry.{Entry}
+use Rattle.lpis_lineage.specs.Accepts.{Adds}
+use Rattle.lpis_lineage.specs.Descendants.{IsDescendant}
 use Rattle.lpis_lineage.specs.Faults.{faults, first}
-use Rattle.lpis_lineage.specs.Lineage.{last_year}
+use Rattle.lpis_lineage.specs.Lineage.{holds, last_year}
+use Rattle.lpis_lineage.specs.Order.{IsAscending}
 use Rattle.lpis_records.specs.Content.{Content}
 use Rattle.lpis_records.specs.Tells.{Tells}
 use Rattle.lpis_register.specs.declared.fault.PublishFault.{PublishFault}
@@ -29,6 +33,10 @@ pub record LeavesHistory (h : List Entry) (trees : Trees) : Type 0 where
   pub leaves : Leaves shape content trees
   pub tells : Tells content h
 
+-- a crash leaves tables that say the history with this release at its end
+abbrev pub LeavesRelease : List Entry → ℕ → List (List ℕ) → List Row → Trees → Type 0
+LeavesRelease h year live rows trees = (k : List Entry) × Adds h k year live rows × LeavesHistory k trees
+
 -- what publishing answers: Ok exactly where the year is above the last one and the lineage has no fault, want of memory and the
 -- database's failures set aside
 abbrev pub PublishTells : {A : Type 0} → List Entry → ℕ → List (List ℕ) → List Row → Result A PublishFault → Type 0
@@ -39,3 +47,13 @@ PublishTells h year live rows (Err (Lineage fault)) = (last_year h < year) × (f
 PublishTells h year live rows (Err Store) = Unit {0}
 PublishTells h year live rows (Err Unknown) = ⊥
 PublishTells h year live rows (Err Unlawful) = ⊥
+
+-- the live descendants of an identifier that some release holds, ascending, each once
+pub record IsTrace (h : List Entry) (id : List ℕ) (found : List (List ℕ)) : Type 0 where
+  pub known : (i : ℕ) × (holds h i id ≡ true)
+  pub members : (q : List ℕ) → (has_id found q ≡ true) ↔ IsDescendant h id q
+  pub ascend : IsAscending found
+
+-- no release holds the identifier
+abbrev pub IsUnknown : List Entry → List ℕ → Type 0
+IsUnknown h id = (i : ℕ) → holds h i id ≡ false

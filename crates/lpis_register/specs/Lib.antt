@@ -6,4 +6,5 @@ pub mod Bare
 pub mod Shown
 pub mod Lines
 pub mod Histories
+pub mod Calls
 pub mod Codes

@@ -2,6 +2,7 @@
 #![tactic(auto)]
 
 mod fault;
+mod laws;
 mod loading;
 mod opening;
 mod preparing;
@@ -13,7 +14,9 @@ mod releasing;
 mod statements;
 mod storing;
 mod tables;
+mod tracing;
 mod writing;
 
 pub use fault::{PublishCode, PublishFault};
+pub use laws::accepted_releases_stand_in_order;
 pub use register::Register;

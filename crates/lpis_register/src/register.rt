@@ -1,17 +1,27 @@
 //! The register.
 
-ghost use Rattle.std.specs.Prelude.{◌≡◌, false, [], IsTrue, IfOk};
+ghost use Rattle.std.specs.Prelude.{◌≡◌, ◌⊎◌, false, [], IsTrue, IfOk, IfErr, OnOk, OnErr};
 ghost use Rattle.sqlite.specs.Held.{state};
-ghost use Rattle.sqlite.specs.State.{HasCleanDisk};
+ghost use Rattle.sqlite.specs.State.{HasCleanDisk, Survives};
 ghost use Rattle.sqlite.specs.Steps.{over_memory};
+ghost use Rattle.lpis_lineage.specs.Accepts.{Adds};
+ghost use Rattle.lpis_lineage.specs.Changes.{IsChange};
+ghost use Rattle.lpis_lineage.specs.Lineage.{last_live};
+ghost use Rattle.lpis_parcels.specs.Release.{parcel_ids};
 ghost use Rattle.lpis_records.specs.Tells.{IsSameHistory};
 ghost use Rattle.lpis_register.specs.Bare.{IsBare};
-ghost use Rattle.lpis_register.specs.Histories.{HoldsHistory};
+ghost use Rattle.lpis_register.specs.Histories.{HoldsHistory, IsTrace, IsUnknown, LeavesHistory, LeavesRelease, PublishTells};
+ghost use Rattle.lpis_register.specs.declared.fault.PublishFault.TheVariants.{Memory, Store, Unknown};
 
 use crate::fault::PublishFault;
 use crate::opening::{fault_of, read_history};
+use crate::preparing::{live_ids, preview};
+use crate::releasing::publish_release;
 use crate::tables::create;
-use lpis_lineage::History;
+use crate::tracing::trace;
+use lpis_checker::Yes;
+use lpis_covers::Id;
+use lpis_lineage::{Change, History, Row};
 use lpis_records::order_of_rows_is_free;
 use sqlite::{Alter, Connection, MemStore};
 use std::alloc::Global;
@@ -21,6 +31,8 @@ use std::alloc::Global;
 pub struct Register<S: Alter> {
     /// The database, in which no transaction is open.
     pub conn: Connection<S>,
+    /// The history that its tables say.
+    pub history: History,
     alloc: Global,
     ghost autocommit: { conn.in_transaction ≡ false },
 }
@@ -41,21 +53,99 @@ fn create_in<S: Alter>(conn: &mut Connection<S>) -> Result<(), PublishFault>
 impl Register<MemStore> {
     /// A register in memory, with no release.
     pub fn open_in_memory(alloc: Global) -> Result<Register<MemStore>, PublishFault>
-        ensures empty { IfOk result (λ it. HoldsHistory (state over_memory it.conn) []) }
+        ensures empty { IfOk result (λ it. it.history ≡ []) }
+        ensures holds { IfOk result (λ it. HoldsHistory (state over_memory it.conn) it.history) }
     {
         let mut conn = Connection::open_in_memory(alloc)?;
+        let history = History::new(alloc);
         match create_in(&mut conn) {
-            Ok(()) => Ok(Register { conn, alloc }),
+            Ok(()) => Ok(Register {
+                conn,
+                history,
+                alloc,
+            }),
             Err(fault) => Err(fault),
         }
     }
 }
 
 impl<S: Alter> Register<S> {
-    /// The history that the tables say, read. Nothing is changed.
+    /// The register of a database whose tables say this history.
+    pub(crate) fn of(alloc: Global, conn: Connection<S>, history: History) -> Register<S>
+        requires autocommit { conn.in_transaction ≡ false }
+        ensures conn { result.conn ≡ conn }
+        ensures history { result.history ≡ history }
+    {
+        Register {
+            conn,
+            history,
+            alloc,
+        }
+    }
+
+    /// The history, lent. Nothing is read, and it takes no memory.
+    pub fn current(&self) -> &History
+        ensures { result.now ≡ self.now.history }
+    {
+        &self.history
+    }
+
+    /// What publishing a release would change, or why it would be refused. Nothing is written.
+    pub fn preview(&self, year: u16, yes: &Yes<'_>, rows: &[Row]) -> Result<Change, PublishFault>
+        ensures tells { PublishTells self.now.history year (parcel_ids yes.now.parcels) rows.now result }
+        ensures change { IfOk result (IsChange (last_live self.now.history) (parcel_ids yes.now.parcels) rows.now) }
+        ensures no_store { IfErr result (λ fault. (fault ≡ Store) → ⊥) }
+    {
+        let live = live_ids(self.alloc, yes)?;
+        preview(self.alloc, &self.history, year, live.as_slice(), rows)
+    }
+
+    /// Publishes a release that the check said yes to: its parcels' identifiers become live, and the history has it at its end. It is
+    /// refused where its year is not above the last one's, and else where its lineage is; a refusal leaves the history as it was.
+    ///
+    /// The whole release is one transaction, and all that needs memory comes before it: after a crash the tables have the release
+    /// whole or not at all, and always where the answer was Ok.
+    pub fn publish(
+        &mut self,
+        year: u16,
+        yes: &Yes<'_>,
+        rows: &[Row],
+    ) -> Result<Change, PublishFault>
+        ensures tells { PublishTells self.old.history year (parcel_ids yes.now.parcels) rows.now result }
+        ensures adds { OnOk result (Adds self.old.history self.new.history year (parcel_ids yes.now.parcels) rows.now) }
+        ensures refused { OnErr result (self.new.history ≡ self.old.history) }
+        ensures change { IfOk result (IsChange (last_live self.old.history) (parcel_ids yes.now.parcels) rows.now) }
+        ensures untouched { IfErr result (λ fault. (fault ≡ Store) ⊎ (self.new.conn ≡ self.old.conn)) }
+        ensures ok { HasCleanDisk (state S.Store self.new.conn) → HoldsHistory (state S.Store self.old.conn) self.old.history → OnOk result (HoldsHistory (state S.Store self.new.conn) self.new.history) }
+        ensures err { HasCleanDisk (state S.Store self.new.conn) → IsTrue (state S.Store self.new.conn).is_open → HoldsHistory (state S.Store self.old.conn) self.old.history → OnErr result (HoldsHistory (state S.Store self.new.conn) self.new.history) }
+        ensures crash { HoldsHistory (state S.Store self.old.conn) self.old.history → Survives (state S.Store self.old.conn) (state S.Store self.new.conn) (LeavesRelease self.old.history year (parcel_ids yes.now.parcels) rows.now) }
+        ensures durable { HasCleanDisk (state S.Store self.new.conn) → HoldsHistory (state S.Store self.old.conn) self.old.history → OnOk result ((db : _) → (state S.Store self.new.conn).may_leave db → LeavesHistory self.new.history db) }
+    {
+        let live = live_ids(self.alloc, yes)?;
+        publish_release(
+            self.alloc,
+            &mut self.conn,
+            &mut self.history,
+            year,
+            live.as_slice(),
+            rows,
+        )
+    }
+
+    /// The identifiers of the last release that chains of rows, from old to new, reach from an identifier, itself among them where it is
+    /// live; ascending by bytes, each once. `Unknown` where it is in no release.
+    pub fn trace(&self, id: &Id) -> Result<Vec<Id>, PublishFault>
+        ensures found { IfOk result (λ ids. IsTrace self.now.history id.now ids.items) }
+        ensures unknown { IfErr result (λ fault. (fault ≡ Memory) ⊎ ((fault ≡ Unknown) × IsUnknown self.now.history id.now)) }
+    {
+        trace(self.alloc, &self.history, id)
+    }
+
+    /// The history that the tables say, read from them. Nothing is changed.
     pub fn history(&mut self) -> Result<History, PublishFault>
-        ensures ok { HasCleanDisk (state S.Store self.new.conn) → (h : _) → HoldsHistory (state S.Store self.old.conn) h → IfOk result (λ k. HoldsHistory (state S.Store self.new.conn) k × IsSameHistory h k) }
-        ensures same { HasCleanDisk (state S.Store self.new.conn) → IsTrue (state S.Store self.new.conn).is_open → (h : _) → HoldsHistory (state S.Store self.old.conn) h → HoldsHistory (state S.Store self.new.conn) h }
+        ensures ok { HasCleanDisk (state S.Store self.new.conn) → HoldsHistory (state S.Store self.old.conn) self.old.history → IfOk result (λ k. IsSameHistory self.old.history k) }
+        ensures kept { self.new.history ≡ self.old.history }
+        ensures same { HasCleanDisk (state S.Store self.new.conn) → IsTrue (state S.Store self.new.conn).is_open → HoldsHistory (state S.Store self.old.conn) self.old.history → HoldsHistory (state S.Store self.new.conn) self.new.history }
     {
         read_history(self.alloc, &mut self.conn)
     }

@@ -7,11 +7,10 @@ ghost use Rattle.lpis_lineage.specs.Accepts.{Adds};
 ghost use Rattle.lpis_lineage.specs.Changes.{IsChange};
 ghost use Rattle.lpis_lineage.specs.Lineage.{last_live, last_year};
 ghost use Rattle.lpis_records.specs.Tells.{IsWriting};
-ghost use Rattle.lpis_register.specs.Histories.{HoldsHistory, LeavesHistory, PublishTells};
-ghost use Rattle.lpis_register.specs.declared.fault.PublishFault.TheVariants.{Memory, Store};
+ghost use Rattle.lpis_register.specs.Histories.{HoldsHistory, LeavesHistory, LeavesRelease, PublishTells};
+ghost use Rattle.lpis_register.specs.declared.fault.PublishFault.TheVariants.{Store};
 
 use crate::fault::PublishFault;
-use crate::opening::fault_of;
 use crate::preparing::{Prepared, grow, prepare};
 use crate::storing::write_history;
 use lpis_covers::Id;
@@ -34,18 +33,18 @@ fn write_prepared<S: Alter>(
     ensures err { (h : _) → HasCleanDisk (state S.Store conn.new) → IsTrue (state S.Store conn.new).is_open → HoldsHistory (state S.Store conn.old) h → OnErr result (HoldsHistory (state S.Store conn.new) h) }
     ensures crash { (h : _) (live : _) → Adds h history.now year live rows.now → last ≡ last_year h → IsWriting h live prepared.now.change.dropped_ids prepared.now.fresh.items → HoldsHistory (state S.Store conn.old) h → Survives (state S.Store conn.old) (state S.Store conn.new) (LeavesHistory history.now) }
     ensures durable { (h : _) (live : _) → Adds h history.now year live rows.now → last ≡ last_year h → IsWriting h live prepared.now.change.dropped_ids prepared.now.fresh.items → HasCleanDisk (state S.Store conn.new) → HoldsHistory (state S.Store conn.old) h → OnOk result ((db : _) → (state S.Store conn.new).may_leave db → LeavesHistory history.now db) }
-    ensures fault { IfErr result (λ e. (e ≡ Memory) ⊎ (e ≡ Store)) }
+    ensures fault { IfErr result (λ e. e ≡ Store) }
 {
     let dropped = prepared.change.dropped();
     let fresh = prepared.fresh.as_slice();
     match write_history(conn, history, year, last, dropped, fresh, rows) {
         Ok(()) => Ok(()),
-        Err(error) => Err(fault_of(error)),
+        Err(_) => Err(PublishFault::Store),
     }
 }
 
-/// Publishes a release: writes it after the history that the tables say, which then has it at its end. With a refusal the tables say
-/// the history before; after `Memory` or `Store` it is to be read from them anew.
+/// Publishes a release: writes it after the history that the tables say, and both have it at their end. With a refusal both are as
+/// before. All that needs memory comes before the tables are written.
 pub(crate) fn publish_release<S: Alter>(
     alloc: Global,
     conn: &mut Connection<S>,
@@ -58,17 +57,26 @@ pub(crate) fn publish_release<S: Alter>(
     ensures autocommit { conn.new.in_transaction ≡ false }
     ensures tells { PublishTells history.old year live.now rows.now result }
     ensures adds { OnOk result (Adds history.old history.new year live.now rows.now) }
+    ensures refused { OnErr result (history.new ≡ history.old) }
     ensures change { IfOk result (IsChange (last_live history.old) live.now rows.now) }
+    ensures untouched { IfErr result (λ fault. (fault ≡ Store) ⊎ (conn.new ≡ conn.old)) }
     ensures ok { HasCleanDisk (state S.Store conn.new) → HoldsHistory (state S.Store conn.old) history.old → OnOk result (HoldsHistory (state S.Store conn.new) history.new) }
     ensures err { HasCleanDisk (state S.Store conn.new) → IsTrue (state S.Store conn.new).is_open → HoldsHistory (state S.Store conn.old) history.old → OnErr result (HoldsHistory (state S.Store conn.new) history.old) }
-    ensures crash { HoldsHistory (state S.Store conn.old) history.old → Survives (state S.Store conn.old) (state S.Store conn.new) (LeavesHistory history.new) }
+    ensures crash { HoldsHistory (state S.Store conn.old) history.old → Survives (state S.Store conn.old) (state S.Store conn.new) (LeavesRelease history.old year live.now rows.now) }
     ensures durable { HasCleanDisk (state S.Store conn.new) → HoldsHistory (state S.Store conn.old) history.old → OnOk result ((db : _) → (state S.Store conn.new).may_leave db → LeavesHistory history.new db) }
 {
     let last = history.last_year();
     let prepared = prepare(alloc, history, year, live, rows)?;
-    // From here on the history has the release, which the tables don't have yet.
     grow(history, year, live, rows)?;
-    write_prepared(conn, history, year, last, &prepared, rows)?;
-    let Prepared { change, .. } = prepared;
-    Ok(change)
+    // The tables don't have the release yet.
+    match write_prepared(conn, history, year, last, &prepared, rows) {
+        Ok(()) => {
+            let Prepared { change, .. } = prepared;
+            Ok(change)
+        }
+        Err(fault) => {
+            history.take_back();
+            Err(fault)
+        }
+    }
 }

@@ -1,17 +1,27 @@
+use Rattle.sqlite.specs.Held.{state}
+use Rattle.sqlite.proofs.StateLemmas.{survives_weaker}
+use Rattle.lpis_register.specs.Histories.{LeavesHistory, LeavesRelease}
 use Rattle.lpis_register.proofs.releasing.publish_release.Goals as goal
 
-pub returns-clause-ok : goal.returns-clause-ok
-returns-clause-ok g c clean holds =
-    c.in_ok-write_prepared.ensures.ok c.args.history.now c.args.live.now c.in_ok-grow.ensures.adds c.last_year-last.ensures c.in_ok-prepared.ensures.writing clean holds
+pub returns-in-Ok-clause-ok : goal.returns-in-Ok-clause-ok
+returns-in-Ok-clause-ok g c clean holds =
+    c.in-Ok.ensures.ok c.args.history.now c.args.live.now c.in_ok-grow.ensures.adds c.last_year-last.ensures c.in_ok-prepared.ensures.writing clean holds
 
-pub returns-clause-crash : goal.returns-clause-crash
-returns-clause-crash g c holds =
-    c.in_ok-write_prepared.ensures.crash c.args.history.now c.args.live.now c.in_ok-grow.ensures.adds c.last_year-last.ensures c.in_ok-prepared.ensures.writing holds
+pub returns-in-Ok-clause-crash : goal.returns-in-Ok-clause-crash
+returns-in-Ok-clause-crash g c holds =
+    survives_weaker (state g.S.Store c.args.conn.now) (state g.S.Store c.write_prepared.new.conn) (LeavesHistory c.grow.new.history) (LeavesRelease c.args.history.now c.args.year c.args.live.now c.args.rows.now)
+    (λ clean db left. (c.grow.new.history, c.in_ok-grow.ensures.adds, left))
+    (c.in-Ok.ensures.crash c.args.history.now c.args.live.now c.in_ok-grow.ensures.adds c.last_year-last.ensures c.in_ok-prepared.ensures.writing holds)
 
-pub returns-clause-durable : goal.returns-clause-durable
-returns-clause-durable g c clean holds =
-    c.in_ok-write_prepared.ensures.durable c.args.history.now c.args.live.now c.in_ok-grow.ensures.adds c.last_year-last.ensures c.in_ok-prepared.ensures.writing clean holds
+pub returns-in-Ok-clause-durable : goal.returns-in-Ok-clause-durable
+returns-in-Ok-clause-durable g c clean holds =
+    c.in-Ok.ensures.durable c.args.history.now c.args.live.now c.in_ok-grow.ensures.adds c.last_year-last.ensures c.in_ok-prepared.ensures.writing clean holds
 
-pub returns-in_err-write_prepared-clause-crash : goal.returns-in_err-write_prepared-clause-crash
-returns-in_err-write_prepared-clause-crash g c holds =
-    c.write_prepared.ensures.crash c.args.history.now c.args.live.now c.in_ok-grow.ensures.adds c.last_year-last.ensures c.in_ok-prepared.ensures.writing holds
+pub returns-in-Err-clause-refused : goal.returns-in-Err-clause-refused
+returns-in-Err-clause-refused g c = let adds = c.in_ok-grow.ensures.adds in c.take_back.ensures c.args.history.now adds.0 adds.1
+
+pub returns-in-Err-clause-crash : goal.returns-in-Err-clause-crash
+returns-in-Err-clause-crash g c holds =
+    survives_weaker (state g.S.Store c.args.conn.now) (state g.S.Store c.write_prepared.new.conn) (LeavesHistory c.grow.new.history) (LeavesRelease c.args.history.now c.args.year c.args.live.now c.args.rows.now)
+    (λ clean db left. (c.grow.new.history, c.in_ok-grow.ensures.adds, left))
+    (c.in-Err.ensures.crash c.args.history.now c.args.live.now c.in_ok-grow.ensures.adds c.last_year-last.ensures c.in_ok-prepared.ensures.writing holds)
