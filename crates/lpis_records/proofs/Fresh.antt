@@ -31,7 +31,7 @@ contained-has (x ∷ xs) q h = by (contained-has xs q) (same_id q x) refl h wher
   by ih true e h = (0, omega arith, sym (same-exact q x (sym e)))
   by ih false e h = let c = ih h in (suc c.0, (let lt = c.1 in omega (arith, lt)), c.2)
 
-same-truth : (a b : Bool) → (a ≡ true → b ≡ true) → (b ≡ true → a ≡ true) → a ≡ b
+pub same-truth : (a b : Bool) → (a ≡ true → b ≡ true) → (b ≡ true → a ≡ true) → a ≡ b
 same-truth true b f g = sym (f refl)
 same-truth false true f g = g refl
 same-truth false false f g = refl

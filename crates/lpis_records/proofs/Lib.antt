@@ -14,3 +14,4 @@ pub mod SpanLists
 pub mod Sorting
 pub mod Fronts
 pub mod Refusing
+pub mod LiveRefusing

@@ -30,7 +30,7 @@ lives-more rows i row known new s lt at is id n inv = rw n (
 )
 
 -- what passes among these passes
-any-contains : {A : Type 0} (p : A → Bool) (xs : List A) (x : A) → Contains xs x → p x ≡ true → list_any p xs ≡ true
+pub any-contains : {A : Type 0} (p : A → Bool) (xs : List A) (x : A) → Contains xs x → p x ≡ true → list_any p xs ≡ true
 any-contains p [] x (k, lt, at) e = absurd (omega arith)
 any-contains p (y ∷ ys) x (zero, lt, at) e = ap (λ (b : Bool). b || list_any p ys) (ap p at ∙ e)
 any-contains p (y ∷ ys) x (suc k, lt, at) e = later (p y) (any-contains p ys x (k, omega arith, at) e) where
@@ -38,7 +38,7 @@ any-contains p (y ∷ ys) x (suc k, lt, at) e = later (p y) (any-contains p ys x
   later true e = refl
   later false e = e
 
-some-contained : {A : Type 0} (p : A → Bool) (xs : List A) → list_any p xs ≡ true → (x : A) × Contains xs x × (p x ≡ true)
+pub some-contained : {A : Type 0} (p : A → Bool) (xs : List A) → list_any p xs ≡ true → (x : A) × Contains xs x × (p x ≡ true)
 some-contained p [] e = cc e
 some-contained {A = A} p (x ∷ xs) e = by (some-contained p xs) (p x) refl e where
   by : (list_any p xs ≡ true → (y : A) × Contains xs y × (p y ≡ true)) → (b : Bool) → b ≡ p x → (b || list_any p xs) ≡ true → (y : A) × Contains (x ∷ xs) y × (p y ≡ true)
@@ -51,10 +51,10 @@ year-place [] z (k, lt, at) = absurd (omega arith)
 year-place (x ∷ h) z (zero, lt, at) = (0, omega arith, sym at)
 year-place (x ∷ h) z (suc k, lt, at) = let r = year-place h z (k, omega arith, at) in (suc r.0, (let l = r.1 in omega (arith, l)), r.2)
 
-one-covers : (m y : ℕ) → (nat_le m y && (nat_eq m 0 || nat_le y m)) ≡ true → 0 < m → m ≡ y
+pub one-covers : (m y : ℕ) → (nat_le m y && (nat_eq m 0 || nat_le y m)) ≡ true → 0 < m → m ≡ y
 one-covers m y e p = grind (arith, nat_tests)
 
-covers-one : (m : ℕ) → (nat_le m m && (nat_eq m 0 || nat_le m m)) ≡ true
+pub covers-one : (m : ℕ) → (nat_le m m && (nat_eq m 0 || nat_le m m)) ≡ true
 covers-one m = grind (arith, nat_tests)
 
 pub above-zero : (h : List Entry) → IsLawful h → (i : ℕ) → i < length h → 0 < (entry_at h i).year
@@ -62,7 +62,7 @@ above-zero h law zero lt = law.first_year lt
 above-zero h law (suc i) lt = let r = law.years_rise 0 (suc i) (omega arith) lt in omega (arith, r)
 
 -- a live row covers one year
-covered : (l : Live) (m y : ℕ) → l.year ≡ pos m → covers (one_year l) y ≡ (nat_le m y && (nat_eq m 0 || nat_le y m))
+pub covered : (l : Live) (m y : ℕ) → l.year ≡ pos m → covers (one_year l) y ≡ (nat_le m y && (nat_eq m 0 || nat_le y m))
 covered l m y e = ap (λ (z : ℤ). le_z z (pos y) && (int_eq z (pos 0) || le_z (pos y) z)) e ∙ covers-years (record { first = m; last = m }) y
 
 any-map : {A B : Type 0} (p : B → Bool) (f : A → B) (xs : List A) → list_any p (map f xs) ≡ list_any (λ x. p (f x)) xs

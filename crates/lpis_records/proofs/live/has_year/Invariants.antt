@@ -1,0 +1,6 @@
+use Rattle.std.proofs.Common.{map, pos, take}
+use Rattle.std.specs.List.{Contains}
+use Rattle.lpis_records.proofs.live.has_year.Given as goal
+
+abbrev pub invariant-loop-year : goal.invariant-loop-year
+invariant-loop-year l = Contains (map (λ y. pos y) (take l.year-index l.years)) l.span.since → ⊥
