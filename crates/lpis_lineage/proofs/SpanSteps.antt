@@ -7,7 +7,7 @@ use Rattle.lpis_covers.specs.Ids.{has_id}
 use Rattle.lpis_lineage.specs.declared.row.Row.{Row}
 use Rattle.lpis_lineage.specs.declared.row.Entry.{Entry}
 use Rattle.lpis_lineage.specs.declared.span.Span.{Span}
-use Rattle.lpis_lineage.specs.Lineage.{entry_at, last_live, last_year}
+use Rattle.lpis_lineage.specs.Lineage.{entry_at, holds, last_live, last_year}
 use Rattle.lpis_lineage.specs.Lawful.{IsLawful, RowsFit}
 use Rattle.lpis_lineage.specs.Faults.{faults}
 use Rattle.lpis_lineage.specs.Accepts.{IsRelease}
@@ -150,3 +150,16 @@ unlive-none h id e = by (first_held h id) refl (last_held h id) refl e where
   by None ef l el e = sym (el ∙ first-none h id (sym ef))
   by (Some f) ef None el e = refl
   by (Some f) ef (Some l) el e = absurd cc
+
+-- a span, and the releases that hold its identifier
+pub none-held : (h : List Entry) (id : List ℕ) → span_of h id ≡ None → (i : ℕ) → holds h i id ≡ false
+none-held h id none i = by (holds h i id) refl where
+  by : (b : Bool) → b ≡ holds h i id → b ≡ false
+  by true e = absurd (let s = held-some h id i (sym e) in let l = unlive-none h id none in cc)
+  by false e = refl
+
+pub some-held : (h : List Entry) (id : List ℕ) (s : Span) → span_of h id ≡ Some s → (i : ℕ) × (holds h i id ≡ true)
+some-held h id s e = by (first_held h id) refl (last_held h id) refl e where
+  by : (f : Option ℕ) → f ≡ first_held h id → (l : Option ℕ) → l ≡ last_held h id → span_between f l (has_id (last_live h) id) ≡ Some s → (i : ℕ) × (holds h i id ≡ true)
+  by None ef l el e = absurd cc
+  by (Some y) ef l el e = let p = first-place h id y (sym ef) in (p.0, p.1)

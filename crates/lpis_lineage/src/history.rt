@@ -184,7 +184,7 @@ impl History {
         ensures { (h : List Entry) (e : Entry) → self.old ≡ h ++ e ∷ [] → self.new ≡ h }
     {
         if let Some(entry) = self.entries.pop() {
-            take_spans_back(&mut self.spans, &entry, self.entries.as_slice());
+            take_spans_back(&mut self.spans, &entry, &self.entries);
         }
     }
 }

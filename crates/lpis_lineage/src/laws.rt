@@ -1,6 +1,6 @@
 //! Laws of the definitions: functions that do nothing, and whose contracts say them.
 
-ghost use Rattle.std.specs.Prelude.{◌≡◌, ◌<◌, ℕ, List, [], length, Some, true};
+ghost use Rattle.std.specs.Prelude.{◌≡◌, ◌<◌, ℕ, List, [], length, None, Some, true, false};
 ghost use Rattle.lpis_covers.specs.Ids.{has_id};
 ghost use Rattle.lpis_lineage.specs.declared.fault.LineageFault.{LineageFault};
 ghost use Rattle.lpis_lineage.specs.declared.row.Entry.{Entry};
@@ -10,7 +10,7 @@ ghost use Rattle.lpis_lineage.specs.Accepts.{MayFollow, NeverFollows};
 ghost use Rattle.lpis_lineage.specs.Faults.{faults, first};
 ghost use Rattle.lpis_lineage.specs.Lawful.{IsLawful, RowsFit};
 ghost use Rattle.lpis_lineage.specs.Lineage.{entry_at, holds};
-ghost use Rattle.lpis_lineage.specs.Spans.{AreSpansOf, ids_of, live_in};
+ghost use Rattle.lpis_lineage.specs.Spans.{AreSpansOf, ids_of, live_in, span_of};
 
 /// A release may follow a lawful history whose rows fit, in whatever later year, where it has no fault, and in no year where
 /// it has one.
@@ -23,4 +23,10 @@ pub fn decided_by_faults()
 /// spans are those of all its identifiers.
 pub fn spans_tell_releases()
     ensures { (h : List Entry) (spans : List (List ℕ × Span)) → IsLawful h → AreSpansOf h spans → ((id : List ℕ) (i : ℕ) → holds h i id ≡ true → has_id (ids_of spans) id ≡ true) → (i : ℕ) → i < length h → (id : List ℕ) → has_id (live_in spans (entry_at h i).year) id ≡ holds h i id }
+{}
+
+/// An identifier has a span exactly where some release holds it.
+pub fn held_identifiers_have_spans()
+    ensures held { (h : List Entry) (id : List ℕ) (span : Span) → span_of h id ≡ Some span → (i : ℕ) × (holds h i id ≡ true) }
+    ensures unheld { (h : List Entry) (id : List ℕ) → span_of h id ≡ None → (i : ℕ) → holds h i id ≡ false }
 {}

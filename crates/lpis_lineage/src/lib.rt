@@ -24,7 +24,7 @@ pub use fault::{AddFault, LineageCode, LineageFault};
 pub use history::History;
 pub use id_set::IdSet;
 pub use kind::Kind;
-pub use laws::{decided_by_faults, spans_tell_releases};
+pub use laws::{decided_by_faults, held_identifiers_have_spans, spans_tell_releases};
 pub use reading::read_rows;
 pub use row::{Entry, Row};
 pub use span::{Span, live_in};

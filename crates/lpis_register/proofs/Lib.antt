@@ -12,5 +12,4 @@ pub mod Showing
 pub mod Published
 pub mod Readings
 pub mod Loops
-pub mod Holders
 pub mod Ordered

@@ -14,7 +14,8 @@ Stand h k calls = (es : List Entry) × (k ≡ h ++ es) × AreReleasesOf calls es
 pub in_order : (h k : List Entry) (calls : List Call) → AllLead h calls k → (es : List Entry) × (k ≡ h ++ es) × AreReleasesOf (accepted calls) es
 in_order h k [] same = ([], same ∙ sym (append-nil h), tt)
 in_order h k (c ∷ cs) all = by c.answer refl all.1.adds all.1.refused (in_order all.0 k cs all.2) where
-  by : (r : Result Changes PublishFault) → r ≡ c.answer → OnOk c.answer (Adds h all.0 c.year c.live c.rows) → OnErr c.answer (all.0 ≡ h) → Stand all.0 k (accepted cs) → Stand h k (accepted (c ∷ cs))
+  by : (r : Result Changes PublishFault) → r ≡ c.answer → OnOk c.answer (Adds h all.0 c.year c.live c.rows) → OnErr c.answer (all.0 ≡ h)
+      → Stand all.0 k (accepted cs) → Stand h k (accepted (c ∷ cs))
   by (Ok a) e adds refused rest =
       let added = subst (λ x. OnOk x (Adds h all.0 c.year c.live c.rows)) (sym e) adds in
       let es : List Entry = added.0 ∷ rest.0 in

@@ -24,5 +24,9 @@ tells_whole c rows k reordered same told =
     let t = reordered rows (without_live c) k (same_back (without_live c) rows same) told in
     record { kept = t.kept; formats_are = t.formats_are; years_are = t.years_are; spans_are = t.spans_are; lines_are = t.lines_are }
 
+pub tells_read : (c rows : Content) (h : List Entry) → ((a b : Content) (h : List Entry) → IsSameContent a b → Tells a h → Tells b h) → IsSameContent (without_live c) rows → Tells c h → Tells rows h
+tells_read c rows h reordered same t =
+    reordered (without_live c) rows h same (record { kept = t.kept; formats_are = t.formats_are; years_are = t.years_are; spans_are = t.spans_are; lines_are = t.lines_are })
+
 pub holds_read : (s : Shape) (c : Content) (k : List Entry) (new : State) → has_spans s ≡ true → IsStored s new c → Tells c k → HoldsHistory new k
 holds_read s c k new spans stored tells = record { shape = s; spans = spans; content = c; stored = stored; tells = tells }

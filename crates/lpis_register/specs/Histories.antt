@@ -13,11 +13,13 @@ use Rattle.lpis_lineage.specs.Order.{IsAscending}
 use Rattle.lpis_records.specs.Content.{Content}
 use Rattle.lpis_records.specs.Tells.{Tells}
 use Rattle.lpis_register.specs.declared.fault.PublishFault.{PublishFault}
-use Rattle.lpis_register.specs.declared.fault.PublishFault.TheVariants.{Memory, Year, Lineage, Store, Unknown, Unlawful}
+use Rattle.lpis_register.specs.declared.fault.PublishFault.TheVariants.{Memory, Year, Lineage}
+use Rattle.lpis_register.specs.declared.fault.PublishFault.TheVariants.{Store, Unknown, Unlawful}
 use Rattle.lpis_register.specs.Shapes.{Shape, has_spans}
 use Rattle.lpis_register.specs.Holding.{IsStored, Leaves}
 
--- no transaction is open, and the tables of version 2, in one of the orders that this program makes, say this history
+-- no transaction is open, and the tables of version 2, in one of the orders that this program makes,
+-- say this history
 pub record HoldsHistory (st : State) (h : List Entry) : Type 0 where
   pub shape : Shape
   pub spans : has_spans shape ≡ true
@@ -35,15 +37,18 @@ pub record LeavesHistory (h : List Entry) (trees : Trees) : Type 0 where
 
 -- a crash leaves tables that say the history with this release at its end
 abbrev pub LeavesRelease : List Entry → ℕ → List (List ℕ) → List Row → Trees → Type 0
-LeavesRelease h year live rows trees = (k : List Entry) × Adds h k year live rows × LeavesHistory k trees
+LeavesRelease h year live rows trees =
+    (k : List Entry) × Adds h k year live rows × LeavesHistory k trees
 
--- what publishing answers: Ok exactly where the year is above the last one and the lineage has no fault, want of memory and the
--- database's failures set aside
-abbrev pub PublishTells : {A : Type 0} → List Entry → ℕ → List (List ℕ) → List Row → Result A PublishFault → Type 0
+-- what publishing answers: Ok exactly where the year is above the last one and the lineage has no
+-- fault, want of memory and the database's failures set aside
+abbrev pub PublishTells : {A : Type 0} → List Entry → ℕ → List (List ℕ) → List Row
+    → Result A PublishFault → Type 0
 PublishTells h year live rows (Ok a) = (last_year h < year) × (faults h live rows ≡ [])
 PublishTells h year live rows (Err Memory) = Unit {0}
 PublishTells h year live rows (Err (Year last)) = (year ≤ last_year h) × (last ≡ last_year h)
-PublishTells h year live rows (Err (Lineage fault)) = (last_year h < year) × (first (faults h live rows) ≡ Some fault)
+PublishTells h year live rows (Err (Lineage fault)) =
+    (last_year h < year) × (first (faults h live rows) ≡ Some fault)
 PublishTells h year live rows (Err Store) = Unit {0}
 PublishTells h year live rows (Err Unknown) = ⊥
 PublishTells h year live rows (Err Unlawful) = ⊥

@@ -1,11 +1,12 @@
 //! The history that the tables say, read.
 
-ghost use Rattle.std.specs.Prelude.{◌≡◌, ◌⊎◌, false, IsTrue, IfOk};
+ghost use Rattle.std.specs.Prelude.{◌≡◌, ◌⊎◌, false, List, IsTrue, IfErr, IfOk};
 ghost use Rattle.sqlite.specs.Held.{state};
 ghost use Rattle.sqlite.specs.State.{HasCleanDisk};
+ghost use Rattle.lpis_lineage.specs.declared.row.Entry.{Entry};
 ghost use Rattle.lpis_records.specs.Tells.{IsSameHistory, Tells};
 ghost use Rattle.lpis_register.specs.Histories.{HoldsHistory};
-ghost use Rattle.lpis_register.specs.declared.fault.PublishFault.TheVariants.{Memory, Store};
+ghost use Rattle.lpis_register.specs.declared.fault.PublishFault.TheVariants.{Memory, Store, Unlawful};
 
 use crate::fault::PublishFault;
 use crate::loading::load;
@@ -26,7 +27,8 @@ pub(crate) fn fault_of(error: Error) -> PublishFault
 
 /// The history that rows say.
 fn history_in(alloc: Global, rows: &Rows) -> Result<History, PublishFault>
-    ensures { IfOk result (Tells rows.now) }
+    ensures ok { IfOk result (Tells rows.now) }
+    ensures lawful { IfErr result (λ e. e ≡ Unlawful → (h : List Entry) → Tells rows.now h → ⊥) }
 {
     match history_of(alloc, rows) {
         Ok(history) => Ok(history),
@@ -43,6 +45,7 @@ pub(crate) fn read_history<S: Alter>(
     requires autocommit { conn.old.in_transaction ≡ false }
     ensures autocommit { conn.new.in_transaction ≡ false }
     ensures ok { HasCleanDisk (state S.Store conn.new) → (h : _) → HoldsHistory (state S.Store conn.old) h → IfOk result (λ k. HoldsHistory (state S.Store conn.new) k × IsSameHistory h k) }
+    ensures lawful { HasCleanDisk (state S.Store conn.new) → (h : _) → HoldsHistory (state S.Store conn.old) h → IfErr result (λ e. e ≡ Unlawful → ⊥) }
     ensures same { HasCleanDisk (state S.Store conn.new) → IsTrue (state S.Store conn.new).is_open → (h : _) → HoldsHistory (state S.Store conn.old) h → HoldsHistory (state S.Store conn.new) h }
     ensures clean { HasCleanDisk (state S.Store conn.new) → HasCleanDisk (state S.Store conn.old) }
 {

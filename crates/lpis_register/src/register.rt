@@ -11,7 +11,7 @@ ghost use Rattle.lpis_parcels.specs.Release.{parcel_ids};
 ghost use Rattle.lpis_records.specs.Tells.{IsSameHistory};
 ghost use Rattle.lpis_register.specs.Bare.{IsBare};
 ghost use Rattle.lpis_register.specs.Histories.{HoldsHistory, IsTrace, IsUnknown, LeavesHistory, LeavesRelease, PublishTells};
-ghost use Rattle.lpis_register.specs.declared.fault.PublishFault.TheVariants.{Memory, Store, Unknown};
+ghost use Rattle.lpis_register.specs.declared.fault.PublishFault.TheVariants.{Memory, Store, Unknown, Unlawful};
 
 use crate::fault::PublishFault;
 use crate::opening::{fault_of, read_history};
@@ -144,6 +144,7 @@ impl<S: Alter> Register<S> {
     /// The history that the tables say, read from them. Nothing is changed.
     pub fn history(&mut self) -> Result<History, PublishFault>
         ensures ok { HasCleanDisk (state S.Store self.new.conn) → HoldsHistory (state S.Store self.old.conn) self.old.history → IfOk result (λ k. IsSameHistory self.old.history k) }
+        ensures lawful { HasCleanDisk (state S.Store self.new.conn) → HoldsHistory (state S.Store self.old.conn) self.old.history → IfErr result (λ fault. (fault ≡ Unlawful) → ⊥) }
         ensures kept { self.new.history ≡ self.old.history }
         ensures same { HasCleanDisk (state S.Store self.new.conn) → IsTrue (state S.Store self.new.conn).is_open → HoldsHistory (state S.Store self.old.conn) self.old.history → HoldsHistory (state S.Store self.new.conn) self.new.history }
     {

@@ -6,15 +6,15 @@ ghost use Rattle.lpis_register.specs.declared.fault.PublishFault.TheVariants.{Me
 
 use crate::fault::PublishFault;
 use lpis_covers::Id;
-use lpis_lineage::{History, descendants};
+use lpis_lineage::{History, descendants, held_identifiers_have_spans};
 use std::alloc::Global;
 
 /// The live descendants of an identifier.
-#[tactic(auto, using(crate::proofs::Holders::unheld, crate::proofs::Holders::held))]
 pub(crate) fn trace(alloc: Global, history: &History, id: &Id) -> Result<Vec<Id>, PublishFault>
     ensures found { IfOk result (λ ids. IsTrace history.now id.now ids.items) }
     ensures unknown { IfErr result (λ fault. (fault ≡ Memory) ⊎ ((fault ≡ Unknown) × IsUnknown history.now id.now)) }
 {
+    held_identifiers_have_spans();
     match history.span(id) {
         None => Err(PublishFault::Unknown),
         Some(_) => {

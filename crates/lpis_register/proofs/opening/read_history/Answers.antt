@@ -1,6 +1,6 @@
-use Rattle.std.proofs.lemmas.Result.{IfOk-weaker}
+use Rattle.std.proofs.lemmas.Result.{IfOk-weaker, IfErr-weaker}
 use Rattle.sqlite.specs.Held.{state}
-use Rattle.lpis_register.proofs.Readings.{tells_whole, holds_read}
+use Rattle.lpis_register.proofs.Readings.{tells_whole, tells_read, holds_read}
 use Rattle.lpis_register.proofs.opening.read_history.Goals as goal
 
 pub returns-in-Ok-clause-ok : goal.returns-in-Ok-clause-ok
@@ -9,4 +9,10 @@ returns-in-Ok-clause-ok g c clean h holds =
     let stored = c.in-Ok.ensures.stored clean holds.shape holds.spans holds.content holds.stored in
     IfOk-weaker c.history_in.result _ _ (λ k told.
     let whole = tells_whole holds.content c.in-Ok.rows k c.order_of_rows_is_free.ensures.reordered same told in
-    (holds_read holds.shape holds.content k (state g.S.Store c.load.new.conn) holds.spans stored whole, c.tables_say_one_history.ensures holds.content h k holds.tells whole)) c.history_in.ensures
+    (holds_read holds.shape holds.content k (state g.S.Store c.load.new.conn) holds.spans stored whole, c.tables_say_one_history.ensures holds.content h k holds.tells whole)) c.history_in.ensures.ok
+
+pub returns-in-Ok-clause-lawful : goal.returns-in-Ok-clause-lawful
+returns-in-Ok-clause-lawful g c clean h holds =
+    let same = c.in-Ok.ensures.rows clean holds.shape holds.spans holds.content holds.stored in
+    let read = tells_read holds.content c.in-Ok.rows h c.order_of_rows_is_free.ensures.reordered same holds.tells in
+    IfErr-weaker c.history_in.result _ _ (λ e never is. never is h read) c.history_in.ensures.lawful

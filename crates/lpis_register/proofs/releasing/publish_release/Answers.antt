@@ -9,8 +9,11 @@ returns-in-Ok-clause-ok g c clean holds =
 
 pub returns-in-Ok-clause-crash : goal.returns-in-Ok-clause-crash
 returns-in-Ok-clause-crash g c holds =
-    survives_weaker (state g.S.Store c.args.conn.now) (state g.S.Store c.write_prepared.new.conn) (LeavesHistory c.grow.new.history) (LeavesRelease c.args.history.now c.args.year c.args.live.now c.args.rows.now)
-    (λ clean db left. (c.grow.new.history, c.in_ok-grow.ensures.adds, left))
+    let old = c.args.history.now in
+    let more = c.grow.new.history in
+    survives_weaker (state g.S.Store c.args.conn.now) (state g.S.Store c.write_prepared.new.conn)
+    (LeavesHistory more) (LeavesRelease old c.args.year c.args.live.now c.args.rows.now)
+    (λ clean db left. (more, c.in_ok-grow.ensures.adds, left))
     (c.in-Ok.ensures.crash c.args.history.now c.args.live.now c.in_ok-grow.ensures.adds c.last_year-last.ensures c.in_ok-prepared.ensures.writing holds)
 
 pub returns-in-Ok-clause-durable : goal.returns-in-Ok-clause-durable
@@ -22,6 +25,9 @@ returns-in-Err-clause-refused g c = let adds = c.in_ok-grow.ensures.adds in c.ta
 
 pub returns-in-Err-clause-crash : goal.returns-in-Err-clause-crash
 returns-in-Err-clause-crash g c holds =
-    survives_weaker (state g.S.Store c.args.conn.now) (state g.S.Store c.write_prepared.new.conn) (LeavesHistory c.grow.new.history) (LeavesRelease c.args.history.now c.args.year c.args.live.now c.args.rows.now)
-    (λ clean db left. (c.grow.new.history, c.in_ok-grow.ensures.adds, left))
+    let old = c.args.history.now in
+    let more = c.grow.new.history in
+    survives_weaker (state g.S.Store c.args.conn.now) (state g.S.Store c.write_prepared.new.conn)
+    (LeavesHistory more) (LeavesRelease old c.args.year c.args.live.now c.args.rows.now)
+    (λ clean db left. (more, c.in_ok-grow.ensures.adds, left))
     (c.in-Err.ensures.crash c.args.history.now c.args.live.now c.in_ok-grow.ensures.adds c.last_year-last.ensures c.in_ok-prepared.ensures.writing holds)
