@@ -1,12 +1,12 @@
 -- Calls of `publish`, one after the other.
-use Rattle.std.proofs.Common.{◌≡◌, ◌∙◌, refl, sym, ap, subst, cond, [], ◌∷◌, ◌++◌, List, Result, Ok, Err, true, false, OnOk}
+use Rattle.std.proofs.Common.{◌≡◌, ◌∙◌, refl, sym, ap, subst, cond, [], ◌∷◌, ◌++◌, List, Result, Ok, Err, OnOk}
 use Rattle.std.proofs.lemmas.List.{append-nil, append_assoc}
 use Rattle.std.specs.Prelude.{OnErr, is_ok}
 use Rattle.lpis_lineage.specs.declared.row.Entry.{Entry}
 use Rattle.lpis_lineage.specs.Accepts.{Adds}
 use Rattle.lpis_lineage.specs.Changes.{Changes}
 use Rattle.lpis_register.specs.declared.fault.PublishFault.{PublishFault}
-use Rattle.lpis_register.specs.Calls.{AllLead, AreReleasesOf, Call, LeadsTo, accepted}
+use Rattle.lpis_register.specs.Calls.{AllLead, AreReleasesOf, Call, accepted}
 
 abbrev Stand : List Entry → List Entry → List Call → Type 0
 Stand h k calls = (es : List Entry) × (k ≡ h ++ es) × AreReleasesOf calls es

@@ -3,7 +3,8 @@ use Rattle.std.specs.Prelude.{ℕ, List, Option, None, Some, codes}
 use Rattle.lpis_register.specs.declared.fault.PublishCode.{PublishCode}
 use Rattle.lpis_register.specs.declared.fault.PublishCode.TheVariants as code
 use Rattle.lpis_register.specs.declared.fault.PublishFault.{PublishFault}
-use Rattle.lpis_register.specs.declared.fault.PublishFault.TheVariants.{Memory, Year, Lineage, Store, Unknown, Unlawful}
+use Rattle.lpis_register.specs.declared.fault.PublishFault.TheVariants.{Memory, Year, Lineage}
+use Rattle.lpis_register.specs.declared.fault.PublishFault.TheVariants.{Store, Unknown, Unlawful}
 
 abbrev pub code_text : PublishCode → List ℕ
 code_text code.YearNotAbove = codes "80"

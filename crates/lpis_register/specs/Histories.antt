@@ -18,8 +18,8 @@ use Rattle.lpis_register.specs.declared.fault.PublishFault.TheVariants.{Store, U
 use Rattle.lpis_register.specs.Shapes.{Shape, has_spans}
 use Rattle.lpis_register.specs.Holding.{IsStored, Leaves}
 
--- no transaction is open, and the tables of version 2, in one of the orders that this program makes,
--- say this history
+-- no transaction is open, and the tables of version 2, in one of the orders that this program
+-- makes, say this history
 pub record HoldsHistory (st : State) (h : List Entry) : Type 0 where
   pub shape : Shape
   pub spans : has_spans shape ≡ true

@@ -1,5 +1,6 @@
 -- What it means that a database holds rows of the register.
-use Rattle.std.specs.Prelude.{◌≡◌, ℤ, Bool, true, false, [], ◌∷◌, List, map, drop, IsPermutation, IsTrue}
+use Rattle.std.specs.Prelude.{◌≡◌, ℤ, Bool, true, false, [], ◌∷◌, List, map, drop, IsPermutation}
+use Rattle.std.specs.Prelude.{IsTrue}
 use Rattle.sqlite.specs.declared.types.Value.TheVariants.{Null, Int, Text}
 use Rattle.sqlite.specs.Order.{Row}
 use Rattle.sqlite.specs.Tree.{Trees, rowid}
