@@ -21,13 +21,17 @@ cut_app = with_rule (with_rule (new_app (codes "cut")) (word_rule (codes "dir"))
 abbrev pub check_app : App
 check_app = with_rule (with_rule (new_app (codes "check")) (word_rule (codes "dir"))) (word_rule (codes "cert"))
 
--- a program that wants a command
+-- a program with a version, which wants a command
 abbrev pub wanting_command : App → App
-wanting_command a = record a { top = record a.top { subcommand_required = true } }
+wanting_command a = record a { top = record a.top { subcommand_required = true; has_version = true } }
+
+-- the program before its commands
+abbrev pub program_app : App
+program_app = wanting_command (new_app (codes "lpis"))
 
 -- the program with the commands that read no certificate
 abbrev pub unchecked_app : App
-unchecked_app = with_subcommand (with_subcommand (wanting_command (new_app (codes "lpis"))) area_app.top) cut_app.top
+unchecked_app = with_subcommand (with_subcommand program_app area_app.top) cut_app.top
 
 -- the program with its commands
 abbrev pub command_line_app : App

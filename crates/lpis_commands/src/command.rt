@@ -2,11 +2,14 @@
 
 ghost use Rattle.std.specs.Prelude.{◌≡◌, IfOk, IfSome, Some, codes, false, map};
 ghost use Rattle.clap.specs.Words.{FailsBy, fault_of, first_of, found_of, rows_of, rule_of, subcommand_of};
-ghost use Rattle.lpis_commands.specs.Command.{IsCommand, IsNamed, area_app, check_app, command_line_app, cut_app, unchecked_app, word_rule};
+ghost use Rattle.lpis_commands.specs.Command.{IsCommand, IsNamed, area_app, check_app, command_line_app, cut_app, program_app, unchecked_app, word_rule};
 ghost use Rattle.lpis_commands.specs.private.Commands.{IsCommandOf};
 
 use clap::{Arg, ArgAction, ArgMatches, Command, Error};
 use std::alloc::{AllocError, Global};
+
+/// The version that `--version` prints.
+const VERSION: &str = "0.2.0";
 
 /// What the words of a command line ask for.
 #[derive(Clone, Copy, Debug, Drop)]
@@ -94,17 +97,23 @@ fn check_command<'a>(alloc: Global) -> Result<Command<'a>, AllocError>
         .arg(cert)
 }
 
-/// The program with the commands that read no certificate. One of the commands has to be there.
+/// The program, before its commands: it has a version, and one of the commands has to be there.
+fn program<'a>(alloc: Global) -> Command<'a>
+    ensures { IsCommandOf program_app result }
+{
+    Command::new(alloc, "lpis")
+        .about("Checks the releases of a Land Parcel Identification System")
+        .version(VERSION)
+        .subcommand_required(true)
+}
+
+/// The program with the commands that read no certificate.
 fn line_without_check<'a>(alloc: Global) -> Result<Command<'a>, AllocError>
     ensures { IfOk result (λ c. IsCommandOf unchecked_app c) }
 {
     let area = area_command(alloc)?;
     let cut = cut_command(alloc)?;
-    Command::new(alloc, "lpis")
-        .about("Checks the releases of a Land Parcel Identification System")
-        .subcommand_required(true)
-        .subcommand(area)?
-        .subcommand(cut)
+    program(alloc).subcommand(area)?.subcommand(cut)
 }
 
 /// The program's command line.
