@@ -1,6 +1,7 @@
 //! Reading all of an input.
 
-ghost use Rattle.std.specs.Prelude.{◌≡◌, ◌≤◌, ◌<◌, length, IfSome, IfOk, IfErr, IsErrOf, vec_len};
+ghost use Rattle.std.specs.Prelude.{◌≡◌, ◌≤◌, ◌<◌, ◌↔◌, ℕ, List, length, IfSome, IfOk, IfErr, IsErrOf, vec_len};
+ghost use Rattle.std.specs.Io.KnownBytes.{Consumes, IsAtEnd};
 ghost use Rattle.lpis_commands.specs.Failures.{IsUnread};
 ghost use Rattle.lpis_commands.specs.Streams.{IsRead};
 ghost use Rattle.lpis_commands.specs.declared.reading.ReadFault.{ReadFault};
@@ -44,6 +45,17 @@ pub fn read_all<R: Read + Drop>(
     ensures short { IfOk result (λ v. vec_len v ≤ limit) }
     ensures long { IsErrOf result ReadFault.TooLong → IfSome (R.remaining reader) (λ bytes. limit < length bytes) }
 {
+    let mut reader = reader;
+    read_from(alloc, &mut reader, limit)
+}
+
+/// The same of a reader that is lent: where it stands afterwards tells how much was read. The answer is `TooLong` exactly where that is
+/// more than `limit` bytes.
+pub fn read_from<R: Read>(alloc: Global, reader: &mut R, limit: usize) -> Result<Vec<u8>, ReadFault>
+    requires { limit ≤ GREATEST_LIMIT }
+    ensures all { IfOk result (λ v. Consumes (R.remaining reader.old) (R.remaining reader.new) v.items × IsAtEnd (R.remaining reader.new) × (vec_len v ≤ limit)) }
+    ensures part { IfErr result (λ fault. (given : List ℕ) × Consumes (R.remaining reader.old) (R.remaining reader.new) given × ((fault ≡ ReadFault.TooLong) ↔ (limit < length given))) }
+{
     let Ok(mut chunk) = vec![in alloc; 0u8; CHUNK] else {
         return Err(ReadFault::Memory);
     };
@@ -51,19 +63,17 @@ pub fn read_all<R: Read + Drop>(
 }
 
 /// The same, by reads into `chunk`.
-fn read_by<R: Read + Drop>(
+fn read_by<R: Read>(
     alloc: Global,
-    reader: R,
+    reader: &mut R,
     limit: usize,
     chunk: &mut [u8],
 ) -> Result<Vec<u8>, ReadFault>
     requires limit { limit ≤ GREATEST_LIMIT }
     requires room { 0 < length chunk.old }
-    ensures all { IfSome (R.remaining reader) (λ bytes. IfOk result (λ v. v.items ≡ bytes)) }
-    ensures short { IfOk result (λ v. vec_len v ≤ limit) }
-    ensures long { IsErrOf result ReadFault.TooLong → IfSome (R.remaining reader) (λ bytes. limit < length bytes) }
+    ensures all { IfOk result (λ v. Consumes (R.remaining reader.old) (R.remaining reader.new) v.items × IsAtEnd (R.remaining reader.new) × (vec_len v ≤ limit)) }
+    ensures part { IfErr result (λ fault. (given : List ℕ) × Consumes (R.remaining reader.old) (R.remaining reader.new) given × ((fault ≡ ReadFault.TooLong) ↔ (limit < length given))) }
 {
-    let mut reader = reader;
     let mut bytes = Vec::new(alloc);
     for _ in 0..2 * limit + 16 {
         match reader.read(chunk) {
