@@ -6,6 +6,7 @@ mod commands;
 mod cuts;
 mod devices;
 mod large;
+mod readers;
 mod tables;
 
 use crate::running::run_area;

@@ -31,10 +31,21 @@ impl Read for Interrupted<'_> {
 
 /// A reader of single bytes with an interruption before each, which fails where `left` bytes were read, if it is told.
 #[derive(Drop)]
-struct Halting<'a> {
+pub struct Halting<'a> {
     bytes: &'a [u8],
     is_interrupted: bool,
     left: Option<usize>,
+}
+
+impl<'a> Halting<'a> {
+    /// A reader of a text, which fails after so many bytes, if it is told.
+    pub fn new(text: &'a str, left: Option<usize>) -> Halting<'a> {
+        Halting {
+            bytes: text.as_bytes(),
+            is_interrupted: false,
+            left,
+        }
+    }
 }
 
 impl Read for Halting<'_> {
@@ -145,20 +156,12 @@ fn inputs_have_a_limit(rt: HostRuntime) -> Result<(), Fail> {
 fn a_reader_may_halt_and_fail(rt: HostRuntime) -> Result<(), Fail> {
     let table = table_of(&rt, SQUARE)?;
     let mut out = Vec::new(rt.alloc());
-    let slow = Halting {
-        bytes: table.as_bytes(),
-        is_interrupted: false,
-        left: None,
-    };
+    let slow = Halting::new(table.as_str(), None);
     assert_eq!(rt; run_area(rt.alloc(), slow, &mut out)?, 0);
     assert!(rt; out.as_slice() == b"100.00000\n".as_slice());
-    for left in 0..table.len() {
+    for left in 0..=table.len() {
         let mut out = Vec::new(rt.alloc());
-        let failing = Halting {
-            bytes: table.as_bytes(),
-            is_interrupted: false,
-            left: Some(left),
-        };
+        let failing = Halting::new(table.as_str(), Some(left));
         let answer = run_area(rt.alloc(), failing, &mut out);
         assert!(rt;
             answer == Err(Failure::Read(Name::Area)),
@@ -201,41 +204,6 @@ fn failures_have_their_lines(rt: HostRuntime) -> Result<(), Fail> {
         let mut out = Vec::new(rt.alloc());
         print_failure(failure, &mut out)?;
         assert!(rt; out.as_slice() == line.as_bytes(), "{line}");
-    }
-    Ok(())
-}
-
-/// A reader of a text, which fails at its second byte where its place is not before this one.
-fn reader_at(text: &str, place: usize, failing: usize) -> Halting<'_> {
-    Halting {
-        bytes: text.as_bytes(),
-        is_interrupted: false,
-        left: if place < failing { None } else { Some(1) },
-    }
-}
-
-#[test]
-fn the_first_input_that_fails_is_told(rt: HostRuntime) -> Result<(), Fail> {
-    let alloc = rt.alloc();
-    let parcels = format!(in alloc; "{PARCELS}A,{SQUARE_RING}\n")?;
-    let covers = format!(in alloc; "{COVERS}C1,A,G,{SQUARE_RING}\n")?;
-    for (failing, name) in [
-        (0, Name::Parcels),
-        (1, Name::Covers),
-        (2, Name::Classes),
-        (3, Name::Cert),
-    ] {
-        let mut out = Vec::new(alloc);
-        let answer = run_check(
-            alloc,
-            reader_at(parcels.as_str(), 0, failing),
-            reader_at(covers.as_str(), 1, failing),
-            reader_at(CLASSES, 2, failing),
-            reader_at(WHOLE, 3, failing),
-            &mut out,
-        );
-        assert!(rt; answer == Err(Failure::Read(name)));
-        assert!(rt; out.is_empty());
     }
     Ok(())
 }
