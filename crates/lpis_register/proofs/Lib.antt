@@ -13,3 +13,4 @@ pub mod Published
 pub mod Readings
 pub mod Loops
 pub mod Ordered
+pub mod OneHistory

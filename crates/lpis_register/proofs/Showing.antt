@@ -59,7 +59,7 @@ each_year : (table : List Row) → map year_shown (map (λ (o : Output). o.1) (m
 each_year [] = refl
 each_year (r ∷ table) = ap (λ l. year_shown r ∷ l) (each_year table)
 
-years_back : (ys : List ℤ) → map year_shown (map year_row ys) ≡ ys
+pub years_back : (ys : List ℤ) → map year_shown (map year_row ys) ≡ ys
 years_back [] = refl
 years_back (y ∷ ys) = ap (λ l. y ∷ l) (years_back ys)
 
@@ -68,7 +68,7 @@ each_span tree [] = refl
 each_span tree ([] ∷ table) = ap (λ l. span_shown [] ∷ l) (each_span tree table)
 each_span tree ((v ∷ r) ∷ table) = ap (λ l. span_shown r ∷ l) (each_span tree table)
 
-spans_back : (ss : List Span) → map span_shown (map span_row ss) ≡ ss
+pub spans_back : (ss : List Span) → map span_shown (map span_row ss) ≡ ss
 spans_back [] = refl
 spans_back (s ∷ ss) = ap (λ l. s ∷ l) (spans_back ss)
 
@@ -77,7 +77,7 @@ each_line [] = refl
 each_line ([] ∷ table) = ap (λ l. line_shown [] ∷ l) (each_line table)
 each_line ((v ∷ r) ∷ table) = ap (λ l. line_shown r ∷ l) (each_line table)
 
-lines_back : (ls : List Line) → map line_shown (map line_row ls) ≡ ls
+pub lines_back : (ls : List Line) → map line_shown (map line_row ls) ≡ ls
 lines_back [] = refl
 lines_back (l ∷ ls) = ap (λ more. l ∷ more) (lines_back ls)
 
@@ -97,7 +97,7 @@ each_format : (table : List Row) → map format_shown (map (λ (o : Output). o.1
 each_format [] = refl
 each_format (r ∷ table) = ap (λ l. format_kept r ∷ l) (each_format table)
 
-formats_back : (fs : List Format) → map format_kept (map format_row fs) ≡ fs
+pub formats_back : (fs : List Format) → map format_kept (map format_row fs) ≡ fs
 formats_back [] = refl
 formats_back (f ∷ fs) = ap (λ l. f ∷ l) (formats_back fs)
 

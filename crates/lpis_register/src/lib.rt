@@ -18,5 +18,5 @@ mod tracing;
 mod writing;
 
 pub use fault::{PublishCode, PublishFault};
-pub use laws::accepted_releases_stand_in_order;
+pub use laws::{a_database_says_one_history, accepted_releases_stand_in_order};
 pub use register::Register;
