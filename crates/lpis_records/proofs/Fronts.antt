@@ -83,7 +83,8 @@ more-place P n i before here lt = elim (place i n) as (λ _. P i) [
   | inr b ↦ elim b as (λ _. P i) [ inl e ↦ subst P (sym e) here | inr c ↦ absurd (omega (arith, lt, c)) ]
 ]
 
-front-more : (g h : List Entry) (e : Entry) → IsFront g h → length g < length h → e.year ≡ (entry_at h (length g)).year → ((id : List ℕ) → has_id e.live id ≡ holds h (length g) id) → e.rows ≡ (entry_at h (length g)).rows
+front-more : (g h : List Entry) (e : Entry) → IsFront g h → length g < length h → e.year ≡ (entry_at h (length g)).year
+    → ((id : List ℕ) → has_id e.live id ≡ holds h (length g) id) → e.rows ≡ (entry_at h (length g)).rows
     → IsFront (g ++ e ∷ []) h
 front-more g h e f more year set rows = record {
   short = let n = longer g e in omega (arith, n, more);
@@ -119,7 +120,8 @@ front-whole g h f n = record {
 
 -- ---- the same history gives the same spans
 
-first-same : (g h : List Entry) (id : List ℕ) → length g ≡ length h → ((i : ℕ) → (entry_at g i).year ≡ (entry_at h i).year) → ((i : ℕ) → holds g i id ≡ holds h i id) → first_held g id ≡ first_held h id
+first-same : (g h : List Entry) (id : List ℕ) → length g ≡ length h → ((i : ℕ) → (entry_at g i).year ≡ (entry_at h i).year)
+    → ((i : ℕ) → holds g i id ≡ holds h i id) → first_held g id ≡ first_held h id
 first-same [] [] id n y s = refl
 first-same [] (b ∷ h) id n y s = absurd (omega (arith, n))
 first-same (a ∷ g) [] id n y s = absurd (omega (arith, n))
@@ -147,7 +149,8 @@ at-append [] ys n k e = ap (line_at ys) (omega (arith, e))
 at-append (x ∷ xs) ys zero k e = absurd (omega (arith, e))
 at-append (x ∷ xs) ys (suc n) k e = at-append xs ys n k (omega (arith, e))
 
-at-lines : (y : ℤ) (n : ℕ) (rs : List Row) (back : List Line) (k : ℕ) → k < length rs → ((line_at (lines_from y n rs ++ back) k).year ≡ y) × ((line_at (lines_from y n rs ++ back) k).place ≡ pos (n + k))
+at-lines : (y : ℤ) (n : ℕ) (rs : List Row) (back : List Line) (k : ℕ) → k < length rs
+    → ((line_at (lines_from y n rs ++ back) k).year ≡ y) × ((line_at (lines_from y n rs ++ back) k).place ≡ pos (n + k))
 at-lines y n [] back k lt = absurd (omega (arith, lt))
 at-lines y n (r ∷ rs) back zero lt = (refl, (let e : n ≡ n + 0 = omega arith in ap (λ (m : ℕ). pos m) e))
 at-lines y n (r ∷ rs) back (suc k) lt = let ih = at-lines y (n + 1) rs back k (omega (arith, lt)) in (ih.0, ih.1 ∙ (let e : n + 1 + k ≡ n + suc k = omega arith in ap (λ (m : ℕ). pos m) e))
@@ -160,7 +163,8 @@ lines-length : (y : ℤ) (n : ℕ) (rs : List Row) → length (lines_from y n rs
 lines-length y n [] = refl
 lines-length y n (r ∷ rs) = ap suc (lines-length y (n + 1) rs)
 
-lines-run : (y : ℕ) (front : List Line) (rs : List Row) (back whole : List Line) (from : ℕ) → whole ≡ front ++ (lines_from (pos y) 0 rs ++ back) → from ≡ length front → AllByRecursion (λ l. below (pos y) l.year) back → IsRun whole from y (from + length rs)
+lines-run : (y : ℕ) (front : List Line) (rs : List Row) (back whole : List Line) (from : ℕ) → whole ≡ front ++ (lines_from (pos y) 0 rs ++ back)
+    → from ≡ length front → AllByRecursion (λ l. below (pos y) l.year) back → IsRun whole from y (from + length rs)
 lines-run y front rs back whole from w n above = record {
   within = omega arith;
   here = λ k lt. let l = at-lines (pos y) 0 rs back k (omega (arith, lt)) in let at = there (from + k) k (omega (arith, n)) in (ap (λ (x : Line). x.year) at ∙ l.0, ap (λ (x : Line). x.place) at ∙ l.1 ∙ (let e : 0 + k ≡ k = omega arith in ap (λ (m : ℕ). pos m) e));
@@ -225,7 +229,8 @@ last-below [] h f law lt = law.first_year lt
 last-below (x ∷ g) h f law lt = let y = f.years (length g) (omega arith) in let r = law.years_rise (length g) (length (x ∷ g)) (omega arith) lt in omega (arith, y, r)
 
 -- two lists of rows that stand at one place, before others or at the end, are one
-rows-cut : (y : ℕ) (front : List Line) (rows others : List Row) (back whole read : List Line) (next : ℕ) → next ≡ length front + length rows → whole ≡ front ++ (lines_from (pos y) 0 rows ++ back) → read ≡ take next whole → read ≡ front ++ lines_from (pos y) 0 others
+rows-cut : (y : ℕ) (front : List Line) (rows others : List Row) (back whole read : List Line) (next : ℕ) → next ≡ length front + length rows
+    → whole ≡ front ++ (lines_from (pos y) 0 rows ++ back) → read ≡ take next whole → read ≡ front ++ lines_from (pos y) 0 others
     → AllByRecursion HasText rows → AllByRecursion HasText others → others ≡ rows
 rows-cut y front rows others back whole read next n w r o texts also = (rows-apart y 0 others rows [] [] tt tt also texts (append-nil (lines_from (pos y) 0 others) ∙ alike ∙ sym (append-nil (lines_from (pos y) 0 rows)))).0 where
   mid : List Line
@@ -253,7 +258,9 @@ module _ (spans : List KnownSpan) (lines : List KnownLine) (g h : List Entry) (f
   due-run = lines-run year (lines_of g) (entry_at h (length g)).rows later.0 (map line_in lines) from whole begins (subst (λ (n : ℕ). AllByRecursion (λ l. below (pos n) l.year) later.0) due.year_is later.1.above)
 
   -- what is read of them are its rows
-  pub due-rows : (rows : List Row) (next : ℕ) → next ≡ from + length (entry_at h (length g)).rows → map line_in (take next lines) ≡ map line_in (take from lines) ++ lines_from (pos year) 0 rows → All HasText rows → rows ≡ (entry_at h (length g)).rows
+  pub due-rows : (rows : List Row) (next : ℕ) → next ≡ from + length (entry_at h (length g)).rows
+      → map line_in (take next lines) ≡ map line_in (take from lines) ++ lines_from (pos year) 0 rows → All HasText rows
+      → rows ≡ (entry_at h (length g)).rows
   due-rows rows next n read texts =
       rows-cut year (lines_of g) (entry_at h (length g)).rows rows later.0 (map line_in lines) (map line_in (take next lines)) next (let b = begins in omega (arith, b, n)) whole (sym (take-map line_in next lines))
       (read ∙ ap (λ (l : List Line). l ++ lines_from (pos year) 0 rows) (sym due.lines_are))
@@ -281,7 +288,8 @@ module _ (spans : List KnownSpan) (lines : List KnownLine) (g h : List Entry) (f
       never-follows g live rows fault told e (record { ids = λ q. sym (due-set live alive q); rows_are = sym r }) (front-lawful (g ++ e ∷ []) h f said.kept.lawful) (front-fits (g ++ e ∷ []) h f said.kept.fits)
 
 -- what `add` refuses was not due
-pub due-refused : (spans : List KnownSpan) (lines : List KnownLine) (g h : List Entry) (from year : ℕ) → IsSaid spans lines h → IsDue g lines from year h → from ≤ length lines → (live : List (List ℕ)) (rows : List Row) (fault : AddFault)
+pub due-refused : (spans : List KnownSpan) (lines : List KnownLine) (g h : List Entry) (from year : ℕ) → IsSaid spans lines h
+    → IsDue g lines from year h → from ≤ length lines → (live : List (List ℕ)) (rows : List Row) (fault : AddFault)
     → AreLive live year spans → rows ≡ (entry_at h (length g)).rows → AddTells {A = Unit {0}} g year live rows (Err fault) → (fault ≡ WantsMemory → ⊥) → ⊥
 due-refused spans lines g h from year said due within live rows WantsMemory alive r t f = f refl
 due-refused spans lines g h from year said due within live rows (Year last) alive r t f = due-year spans lines g h from year said due within t.0
@@ -306,7 +314,8 @@ pub as-long : (g h : List Entry) (ys : List ℕ) (i : ℕ) → years_of g ≡ ma
 as-long g h ys i a b le = let n = years-length g (take i ys) a in let m = years-length h ys b in let w = ap length (take-whole ys i le) in omega (arith, n, m, w)
 
 -- the release of the next year is due
-pub due-now : (g h : List Entry) (lines : List KnownLine) (from : ℕ) (ys : List ℕ) (i : ℕ) → i < length ys → IsFront g h → years_of g ≡ map (λ y. pos y) (take i ys) → years_of h ≡ map (λ y. pos y) ys → lines_of g ≡ map line_in (take from lines)
+pub due-now : (g h : List Entry) (lines : List KnownLine) (from : ℕ) (ys : List ℕ) (i : ℕ) → i < length ys → IsFront g h
+    → years_of g ≡ map (λ y. pos y) (take i ys) → years_of h ≡ map (λ y. pos y) ys → lines_of g ≡ map line_in (take from lines)
     → IsDue g lines from (get_or ys i 0) h
 due-now g h lines from ys i lt front a b l =
     let n = years-length g (take i ys) a in
@@ -329,7 +338,8 @@ same-lines (x ∷ g) (y ∷ h) f n =
     ∙ ap (λ (l : List Line). lines_from (pos y.year) 0 y.rows ++ l) (same-lines g h (tail-front x y g h f) (omega (arith, n)))
 
 -- with no release left no line is left
-pub lines-whole : (spans : List KnownSpan) (lines : List KnownLine) (g h : List Entry) (from : ℕ) → IsSaid spans lines h → IsFront g h → length g ≡ length h → lines_of g ≡ map line_in (take from lines) → from < length lines → ⊥
+pub lines-whole : (spans : List KnownSpan) (lines : List KnownLine) (g h : List Entry) (from : ℕ) → IsSaid spans lines h → IsFront g h
+    → length g ≡ length h → lines_of g ≡ map line_in (take from lines) → from < length lines → ⊥
 lines-whole spans lines g h from said front n are lt = absurd (let e = ap length (are-same ∙ said.lines_are) in let a = ap length are in let m = length-map (take from lines) line_in in let t = length-take-le from lines (omega (arith, lt)) in let w = length-map lines line_in in omega (arith, e, a, m, t, w, lt)) where
   are-same : lines_of g ≡ lines_of h
   are-same = same-lines g h front n

@@ -47,7 +47,8 @@ known-past (k ∷ ks) zero y le e = absurd (omega (arith, le))
 known-past (k ∷ ks) (suc i) y le e = known-past ks i y (omega (arith, le)) e
 
 -- a list read one further
-pub read-more : {A B : Type 0} (f : A → B) (known : List A) (k : A) (rows : List B) (i : ℕ) (row : B) → map f known ≡ take i rows → i < length rows → row ≡ get_or rows i row → f k ≡ row → map f (known ++ k ∷ []) ≡ take (i + 1) rows
+pub read-more : {A B : Type 0} (f : A → B) (known : List A) (k : A) (rows : List B) (i : ℕ) (row : B) → map f known ≡ take i rows → i < length rows
+    → row ≡ get_or rows i row → f k ≡ row → map f (known ++ k ∷ []) ≡ take (i + 1) rows
 read-more {B = B} f known k rows i row e lt at is = map-append f known (k ∷ []) ∙ ap₂ (λ (a : List B) (b : B). a ++ b ∷ []) e is ∙ take-at rows i row lt at
 
 -- the identifiers seen are those of the spans so far, none twice
@@ -117,19 +118,23 @@ or-false : (b : Bool) → (b || false) ≡ b
 or-false true = refl
 or-false false = refl
 
-pub live-then : (spans : List KnownSpan) (i : ℕ) (s : KnownSpan) (ids new : List (List ℕ)) (id : List ℕ) (year : ℕ) → i < length spans → s ≡ get_or spans i s → covers (span_in s) year ≡ true → id ≡ s.id → new ≡ ids ++ id ∷ [] → AreLive ids year (take i spans) → AreLive new year (take (i + 1) spans)
+pub live-then : (spans : List KnownSpan) (i : ℕ) (s : KnownSpan) (ids new : List (List ℕ)) (id : List ℕ) (year : ℕ) → i < length spans
+    → s ≡ get_or spans i s → covers (span_in s) year ≡ true → id ≡ s.id → new ≡ ids ++ id ∷ [] → AreLive ids year (take i spans)
+    → AreLive new year (take (i + 1) spans)
 live-then spans i s ids new id year lt at does is n live = subst (AreLive new year) (take-at spans i s lt at) (λ q.
     ap (λ (l : List (List ℕ)). has_id l q) n ∙ any-push (same_id q) ids id
     ∙ ap₂ (λ (a b : Bool). a || b) (live q) (ap (same_id q) is ∙ sym (and-true (same_id q s.id)) ∙ ap (λ (b : Bool). same_id q s.id && b) (sym does))
     ∙ sym (any-push (λ (t : KnownSpan). same_id q t.id && covers (span_in t) year) (take i spans) s))
 
-pub live-else : (spans : List KnownSpan) (i : ℕ) (s : KnownSpan) (ids : List (List ℕ)) (year : ℕ) → i < length spans → s ≡ get_or spans i s → covers (span_in s) year ≡ false → AreLive ids year (take i spans) → AreLive ids year (take (i + 1) spans)
+pub live-else : (spans : List KnownSpan) (i : ℕ) (s : KnownSpan) (ids : List (List ℕ)) (year : ℕ) → i < length spans → s ≡ get_or spans i s
+    → covers (span_in s) year ≡ false → AreLive ids year (take i spans) → AreLive ids year (take (i + 1) spans)
 live-else spans i s ids year lt at doesnt live = subst (AreLive ids year) (take-at spans i s lt at) (λ q.
     live q ∙ sym (or-false (list_any (λ t. same_id q t.id && covers (span_in t) year) (take i spans)))
     ∙ ap (λ (b : Bool). list_any (λ t. same_id q t.id && covers (span_in t) year) (take i spans) || b) (sym (and-false (same_id q s.id)) ∙ ap (λ (b : Bool). same_id q s.id && b) (sym doesnt))
     ∙ sym (any-push (λ (t : KnownSpan). same_id q t.id && covers (span_in t) year) (take i spans) s))
 
-pub spans-more : (rows : List Span) (i : ℕ) (row : Span) (known new : List KnownSpan) (s : KnownSpan) → i < length rows → row ≡ get_or rows i row → span_in s ≡ row → is_id s.id ≡ true → new ≡ known ++ s ∷ []
+pub spans-more : (rows : List Span) (i : ℕ) (row : Span) (known new : List KnownSpan) (s : KnownSpan) → i < length rows → row ≡ get_or rows i row
+    → span_in s ≡ row → is_id s.id ≡ true → new ≡ known ++ s ∷ []
     → (map span_in known ≡ take i rows) × All (λ s. is_id s.id ≡ true) known → (map span_in new ≡ take (i + 1) rows) × All (λ s. is_id s.id ≡ true) new
 spans-more rows i row known new s lt at is id n inv = rw n (read-more span_in known s rows i row inv.0 lt at is, All-push (λ (s : KnownSpan). is_id s.id ≡ true) known s inv.1 id)
 
@@ -153,7 +158,8 @@ lines-push y n m [] r e = let s : n ≡ m = omega (arith, e) in ap (λ (k : ℕ)
 lines-push y n m (q ∷ rs) r e = ap (λ (l : List Line). (record { year = y; place = pos n; old = q.old; new = text_of q.new }) ∷ l) (lines-push y (n + 1) m rs r (omega (arith, e)))
 
 -- the rows of a year, one further
-pub rows-more : (y : ℤ) (front here next : List Line) (rs new : List Row) (r : Row) (m : ℕ) → here ≡ front ++ lines_from y 0 rs → next ≡ here ++ lines_from y m (r ∷ []) → m ≡ length rs → new ≡ rs ++ r ∷ [] → next ≡ front ++ lines_from y 0 new
+pub rows-more : (y : ℤ) (front here next : List Line) (rs new : List Row) (r : Row) (m : ℕ) → here ≡ front ++ lines_from y 0 rs
+    → next ≡ here ++ lines_from y m (r ∷ []) → m ≡ length rs → new ≡ rs ++ r ∷ [] → next ≡ front ++ lines_from y 0 new
 rows-more y front here next rs new r m h n e w =
     n ∙ ap (λ (l : List Line). l ++ lines_from y m (r ∷ [])) h ∙ append-assoc front (lines_from y 0 rs) (lines_from y m (r ∷ []))
     ∙ ap (λ (l : List Line). front ++ l) (sym (lines-push y 0 m rs r (omega (arith, e))) ∙ ap (lines_from y 0) (sym w))

@@ -61,7 +61,9 @@ live-sets h live law t i lt id = same-truth (holds h i id) (list_any (λ s. same
       let same : m ≡ y = one-covers m y (sym (covered l m y r.2) ∙ covering) (above-zero h law r.0 r.1) in
       ap₂ (λ (k : ℕ) (q : List ℕ). holds h k q) (sym (same-place h law r.0 i r.1 lt same)) (same-exact id l.id (and-left (same_id id l.id) (covers (one_year l) y) found.2)) ∙ r.3
 
-pub live-said : (c : Content) (h : List Entry) (spans : List KnownSpan) (lines : List KnownLine) → TellsLive c h → map span_in spans ≡ map one_year c.live → IsPermutation c.lines (map line_in lines) → IsSortedByKey line_in line_cmp lines → All (λ l. HasText l.row) lines → IsSaid spans lines h
+pub live-said : (c : Content) (h : List Entry) (spans : List KnownSpan) (lines : List KnownLine) → TellsLive c h
+    → map span_in spans ≡ map one_year c.live → IsPermutation c.lines (map line_in lines) → IsSortedByKey line_in line_cmp lines
+    → All (λ l. HasText l.row) lines → IsSaid spans lines h
 live-said c h spans lines t ss ls up texts = record {
   kept = t.kept;
   sets = subst (λ (l : List Span). SetsAre l h) (sym ss) (live-sets h c.live t.kept.lawful t.live_are);
@@ -87,13 +89,15 @@ abbrev rest_in : List Span → List Span
 rest_in [] = []
 rest_in (s ∷ ss) = ss
 
-since-years : (spans : List KnownSpan) (live : List Live) (ys : List ℤ) → map span_in spans ≡ map one_year live → AllByRecursion (λ l. Contains ys l.year) live → AllByRecursion (λ s. Contains ys s.since) spans
+since-years : (spans : List KnownSpan) (live : List Live) (ys : List ℤ) → map span_in spans ≡ map one_year live
+    → AllByRecursion (λ l. Contains ys l.year) live → AllByRecursion (λ s. Contains ys s.since) spans
 since-years [] [] ys e all = tt
 since-years [] (l ∷ ls) ys e all = absurd cc
 since-years (s ∷ ss) [] ys e all = absurd cc
 since-years (s ∷ ss) (l ∷ ls) ys e all = (subst (Contains ys) (sym (ap since_in e)) all.0, since-years ss ls ys (ap rest_in e) all.1)
 
-pub live-years : (h : List Entry) (live : List Live) (spans : List KnownSpan) (ys : List ℤ) → LiveTells live h → map span_in spans ≡ map one_year live → years_of h ≡ ys → All (λ s. Contains ys s.since) spans
+pub live-years : (h : List Entry) (live : List Live) (spans : List KnownSpan) (ys : List ℤ) → LiveTells live h → map span_in spans ≡ map one_year live
+    → years_of h ≡ ys → All (λ s. Contains ys s.since) spans
 live-years h live spans ys t ss e = All-from_recursion (λ s. Contains ys s.since) spans (since-years spans live ys ss (subst (λ (l : List ℤ). AllByRecursion (λ m. Contains l m.year) live) e (recursion_from_All (λ l. Contains (years_of h) l.year) live (all-years h live t))))
 
 -- a year that is none of the first ones, nor the next

@@ -22,7 +22,8 @@ use Rattle.lpis_records.specs.private.Known.{SetsAre, line_in, one_year, span_in
 use Rattle.lpis_records.proofs.OneHistory.{covers-years}
 use Rattle.lpis_records.proofs.Saying.{kept-said}
 
-pub lives-more : (rows : List Live) (i : ℕ) (row : Live) (known new : List KnownSpan) (s : KnownSpan) → i < length rows → row ≡ get_or rows i row → span_in s ≡ one_year row → is_id s.id ≡ true → new ≡ known ++ s ∷ []
+pub lives-more : (rows : List Live) (i : ℕ) (row : Live) (known new : List KnownSpan) (s : KnownSpan) → i < length rows → row ≡ get_or rows i row
+    → span_in s ≡ one_year row → is_id s.id ≡ true → new ≡ known ++ s ∷ []
     → (map span_in known ≡ map one_year (take i rows)) × All (λ s. is_id s.id ≡ true) known → (map span_in new ≡ map one_year (take (i + 1) rows)) × All (λ s. is_id s.id ≡ true) new
 lives-more rows i row known new s lt at is id n inv = rw n (
   map-append span_in known (s ∷ []) ∙ ap₂ (λ (a : List Span) (b : Span). a ++ b ∷ []) inv.0 is ∙ sym (map-append one_year (take i rows) (row ∷ [])) ∙ ap (map one_year) (take-at rows i row lt at),
@@ -104,14 +105,16 @@ rest_of [] = []
 rest_of (s ∷ ss) = ss
 
 -- each live row's year is a release's
-years-of-live : (spans : List KnownSpan) (live : List Live) (ys : List ℤ) → map span_in spans ≡ map one_year live → AllByRecursion (λ s. Contains ys s.since) spans → AllByRecursion (λ l. Contains ys l.year) live
+years-of-live : (spans : List KnownSpan) (live : List Live) (ys : List ℤ) → map span_in spans ≡ map one_year live
+    → AllByRecursion (λ s. Contains ys s.since) spans → AllByRecursion (λ l. Contains ys l.year) live
 years-of-live [] [] ys e all = tt
 years-of-live [] (l ∷ ls) ys e all = absurd cc
 years-of-live (s ∷ ss) [] ys e all = absurd cc
 years-of-live (s ∷ ss) (l ∷ ls) ys e all = (subst (Contains ys) (ap (λ (q : List Span). since_of q) e) all.0, years-of-live ss ls ys (ap (λ (q : List Span). rest_of q) e) all.1)
 
 -- the history that rows of version 1 say
-pub live-says : (c : Content) (h : List Entry) (years : List ℕ) (spans : List KnownSpan) (lines : List KnownLine) → IsLawful h → RowsFit h → AllByRecursion (λ y. y ≤ last_of_years) years → c.formats ≡ only_format 1
+pub live-says : (c : Content) (h : List Entry) (years : List ℕ) (spans : List KnownSpan) (lines : List KnownLine) → IsLawful h → RowsFit h
+    → AllByRecursion (λ y. y ≤ last_of_years) years → c.formats ≡ only_format 1
     → IsPermutation c.years (map (λ y. pos y) years) → map span_in spans ≡ map one_year c.live → All (λ s. is_id s.id ≡ true) spans → IsPermutation c.lines (map line_in lines)
     → years_of h ≡ map (λ y. pos y) years → SetsAre (map span_in spans) h → lines_of h ≡ map line_in lines → All (λ s. Contains (map (λ y. pos y) years) s.since) spans → TellsLive c h
 live-says c h years spans lines law fit small formats ys ss ids ls years-are sets lines-are known = record {

@@ -55,7 +55,8 @@ row-covers h law s is i lt = by (span_of h s.id) refl is where
       ∙ covers-years y year ∙ span-tells h law s.id y (sym eo) i lt
 
 -- the identifiers of a release are those whose row covers its year
-pub sets-told : (h : List Entry) (spans : List Span) → IsLawful h → SpansTell spans h → (i : ℕ) → i < length h → (id : List ℕ) → holds h i id ≡ list_any (λ s. same_id id s.id && covers s (entry_at h i).year) spans
+pub sets-told : (h : List Entry) (spans : List Span) → IsLawful h → SpansTell spans h → (i : ℕ) → i < length h → (id : List ℕ)
+    → holds h i id ≡ list_any (λ s. same_id id s.id && covers s (entry_at h i).year) spans
 sets-told h spans law t i lt id = sym (with-test spans t.right ∙ by (list_any (λ s. same_id id s.id) spans) refl (holds h i id) refl) where
   and-false : (b : Bool) → (b && false) ≡ false
   and-false true = refl
@@ -104,7 +105,8 @@ rest_of [] = []
 rest_of (l ∷ ls) = ls
 
 -- the rows of a year before those of later ones
-pub rows-apart : (y n : ℕ) (rs qs : List Row) (ls ms : List Line) → AllByRecursion (λ l. below (pos y) l.year) ls → AllByRecursion (λ l. below (pos y) l.year) ms → AllByRecursion HasText rs → AllByRecursion HasText qs
+pub rows-apart : (y n : ℕ) (rs qs : List Row) (ls ms : List Line) → AllByRecursion (λ l. below (pos y) l.year) ls
+    → AllByRecursion (λ l. below (pos y) l.year) ms → AllByRecursion HasText rs → AllByRecursion HasText qs
     → lines_from (pos y) n rs ++ ls ≡ lines_from (pos y) n qs ++ ms → (rs ≡ qs) × (ls ≡ ms)
 rows-apart y n [] [] ls ms a b f g e = (refl, e)
 rows-apart y n [] (q ∷ qs) ls ms a b f g e = absurd (let all = subst (AllByRecursion (λ l. below (pos y) l.year)) e a in below-alone (pos y) (pos y) all.0 all.0)
@@ -138,7 +140,8 @@ same-years (x ∷ h) (y ∷ k) e = let more = same-years h k (ap years_rest e) i
   by more zero = ap (λ (l : List ℤ). nat_in (year_in l)) e
   by more (suc i) = more i
 
-pub same-rows : (h k : List Entry) → years_of h ≡ years_of k → Ascends below (years_of h) → Ascends below (years_of k) → AllByRecursion (λ e. AllByRecursion HasText e.rows) h → AllByRecursion (λ e. AllByRecursion HasText e.rows) k
+pub same-rows : (h k : List Entry) → years_of h ≡ years_of k → Ascends below (years_of h) → Ascends below (years_of k)
+    → AllByRecursion (λ e. AllByRecursion HasText e.rows) h → AllByRecursion (λ e. AllByRecursion HasText e.rows) k
     → lines_of h ≡ lines_of k → (i : ℕ) → (entry_at h i).rows ≡ (entry_at k i).rows
 same-rows [] [] e a b f g l i = refl
 same-rows [] (y ∷ k) e a b f g l i = absurd cc

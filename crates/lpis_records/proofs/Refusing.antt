@@ -41,7 +41,8 @@ all-years (x ∷ h) all = (all.0, all-years h all.1)
 pub told-years : (h : List Entry) (ys : List ℤ) → IsKept h → IsPermutation ys (years_of h) → All IsYear ys
 told-years h ys kept p = all-moved-from IsYear ys (years_of h) p (all-years h (all-entries (λ e. IsYear (pos e.year)) h (λ i lt. ((entry_at h i).year, refl, above-zero h kept.lawful i lt, kept.years i))))
 
-pub told-sorted-years : (h : List Entry) (ys : List ℤ) (sorted : List ℕ) → IsKept h → IsSorted nat_cmp sorted → IsPermutation ys (map (λ y. pos y) sorted) → IsPermutation ys (years_of h) → years_of h ≡ map (λ y. pos y) sorted
+pub told-sorted-years : (h : List Entry) (ys : List ℤ) (sorted : List ℕ) → IsKept h → IsSorted nat_cmp sorted
+    → IsPermutation ys (map (λ y. pos y) sorted) → IsPermutation ys (years_of h) → years_of h ≡ map (λ y. pos y) sorted
 told-sorted-years h ys sorted kept up p q = sorted-years ys sorted (years_of h) up (years-ascend h kept.lawful) p q
 
 -- ---- spans
@@ -58,7 +59,8 @@ readable-new : (o : Option (List ℕ)) → ((id : List ℕ) → o ≡ Some id �
 readable-new None f = inl refl
 readable-new (Some id) f = inr (f id refl)
 
-readable-rows : (y : ℤ) (n : ℕ) (rows : List Row) → ((id : List ℕ) → list_any (is_of id) rows ≡ true → is_id id ≡ true) → ((id : List ℕ) → list_any (names id) rows ≡ true → is_id id ≡ true) → AllByRecursion IsReadable (lines_from y n rows)
+readable-rows : (y : ℤ) (n : ℕ) (rows : List Row) → ((id : List ℕ) → list_any (is_of id) rows ≡ true → is_id id ≡ true)
+    → ((id : List ℕ) → list_any (names id) rows ≡ true → is_id id ≡ true) → AllByRecursion IsReadable (lines_from y n rows)
 readable-rows y n [] old new = tt
 readable-rows y n (r ∷ rs) old new = (
   (old r.old (or-left (is_of r.old r) (list_any (is_of r.old) rs) (same-refl r.old)), readable-new r.new (λ id e. new id (or-left (names id r) (list_any (names id) rs) (ap (λ (o : Option (List ℕ)). is_this id o) e ∙ same-refl id)))),
@@ -78,12 +80,14 @@ all-lines (x ∷ h) all = all-append IsReadable (lines_from (pos x.year) 0 x.row
 pub told-lines : (h : List Entry) (ls : List Line) → IsKept h → IsPermutation ls (lines_of h) → All IsReadable ls
 told-lines h ls kept p = all-moved-from IsReadable ls (lines_of h) p (all-lines h (all-entries (λ e. AllByRecursion IsReadable (lines_from (pos e.year) 0 e.rows)) h (λ i lt. readable-entry h kept i)))
 
-pub told-sorted-lines : (h : List Entry) (ls : List Line) (sorted : List KnownLine) → IsKept h → IsSortedByKey line_in line_cmp sorted → IsPermutation ls (map line_in sorted) → IsPermutation ls (lines_of h) → lines_of h ≡ map line_in sorted
+pub told-sorted-lines : (h : List Entry) (ls : List Line) (sorted : List KnownLine) → IsKept h → IsSortedByKey line_in line_cmp sorted
+    → IsPermutation ls (map line_in sorted) → IsPermutation ls (lines_of h) → lines_of h ≡ map line_in sorted
 told-sorted-lines h ls sorted kept up p q = sorted-lines ls sorted (lines_of h) up (lines-ascend h (years-ascend h kept.lawful)) p q
 
 -- ---- all that was read
 
-pub told-said : (c : Content) (h : List Entry) (spans : List KnownSpan) (lines : List KnownLine) → Tells c h → map span_in spans ≡ c.spans → IsPermutation c.lines (map line_in lines) → IsSortedByKey line_in line_cmp lines → All (λ l. HasText l.row) lines → IsSaid spans lines h
+pub told-said : (c : Content) (h : List Entry) (spans : List KnownSpan) (lines : List KnownLine) → Tells c h → map span_in spans ≡ c.spans
+    → IsPermutation c.lines (map line_in lines) → IsSortedByKey line_in line_cmp lines → All (λ l. HasText l.row) lines → IsSaid spans lines h
 told-said c h spans lines t ss ls up texts = record {
   kept = t.kept;
   sets = subst (λ (l : List Span). SetsAre l h) (sym ss) (sets-told h c.spans t.kept.lawful t.spans_are);

@@ -60,7 +60,8 @@ small-years (x ∷ h) (y ∷ ys) e all zero = let s : x.year ≡ y = ap (λ (l :
 small-years (x ∷ h) (y ∷ ys) e all (suc i) = small-years h ys (ap rest e) all.1 i
 
 -- a history put together from well-formed identifiers is one that tables may say
-pub kept-said : (h : List Entry) (years : List ℕ) (spans : List KnownSpan) → IsLawful h → RowsFit h → AllByRecursion (λ y. y ≤ last_of_years) years → All (λ s. is_id s.id ≡ true) spans → years_of h ≡ map (λ y. pos y) years → SetsAre (map span_in spans) h → IsKept h
+pub kept-said : (h : List Entry) (years : List ℕ) (spans : List KnownSpan) → IsLawful h → RowsFit h → AllByRecursion (λ y. y ≤ last_of_years) years
+    → All (λ s. is_id s.id ≡ true) spans → years_of h ≡ map (λ y. pos y) years → SetsAre (map span_in spans) h → IsKept h
 kept-said h years spans law fit small ids years-are sets = record {
   lawful = law;
   fits = fit;
@@ -69,7 +70,8 @@ kept-said h years spans law fit small ids years-are sets = record {
 }
 
 -- the history that rows say
-pub says : (c : Content) (h : List Entry) (years : List ℕ) (spans : List KnownSpan) (lines : List KnownLine) → IsLawful h → RowsFit h → AllByRecursion (λ y. y ≤ last_of_years) years → c.formats ≡ only_format 2
+pub says : (c : Content) (h : List Entry) (years : List ℕ) (spans : List KnownSpan) (lines : List KnownLine) → IsLawful h → RowsFit h
+    → AllByRecursion (λ y. y ≤ last_of_years) years → c.formats ≡ only_format 2
     → IsPermutation c.years (map (λ y. pos y) years) → map span_in spans ≡ c.spans → All (λ s. is_id s.id ≡ true) spans → ((id : List ℕ) → length (filter (λ s. same_id id s.id) spans) ≤ 1)
     → IsPermutation c.lines (map line_in lines) → years_of h ≡ map (λ y. pos y) years → SetsAre (map span_in spans) h → lines_of h ≡ map line_in lines → All (λ s. IsSpanRow h (span_in s)) spans → Tells c h
 says c h years spans lines law fit small formats ys ss ids once ls years-are sets lines-are right = record {

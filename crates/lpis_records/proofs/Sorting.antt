@@ -31,7 +31,8 @@ Rises lt (x ∷ xs) = AllByRecursion (λ y. lt y x ≡ false) xs × Rises lt xs
 abbrev pub Less_by : {A : Type 0} → (A → A → Bool) → A → A → Type 0
 Less_by lt x y = lt x y ≡ true
 
-above-far : {A B : Type 0} (lt : A → A → Bool) (f : B → A) (x : A) (xs : List B) → ((k : ℕ) (d : B) → k < length xs → lt (f (get_or xs k d)) x ≡ false) → AllByRecursion (λ y. lt y x ≡ false) (map f xs)
+above-far : {A B : Type 0} (lt : A → A → Bool) (f : B → A) (x : A) (xs : List B)
+    → ((k : ℕ) (d : B) → k < length xs → lt (f (get_or xs k d)) x ≡ false) → AllByRecursion (λ y. lt y x ≡ false) (map f xs)
 above-far lt f x [] far = tt
 above-far lt f x (y ∷ ys) far = (far 0 y (omega arith), above-far lt f x ys (λ k d p. far (suc k) d (omega arith)))
 
@@ -107,7 +108,8 @@ below-less (negsuc a) b r = absurd r
 nat-int : (a b : ℕ) → is_lt (nat_cmp a b) ≡ is_lt (int_cmp (pos a) (pos b))
 nat-int a b = grind (arith, ints, nat_tests)
 
-pub sorted-years : (ys : List ℤ) (sorted : List ℕ) (told : List ℤ) → IsSorted nat_cmp sorted → Ascends below told → IsPermutation ys (map (λ y. pos y) sorted) → IsPermutation ys told → told ≡ map (λ y. pos y) sorted
+pub sorted-years : (ys : List ℤ) (sorted : List ℕ) (told : List ℤ) → IsSorted nat_cmp sorted → Ascends below told
+    → IsPermutation ys (map (λ y. pos y) sorted) → IsPermutation ys told → told ≡ map (λ y. pos y) sorted
 sorted-years ys sorted told up a p q = sym (sorted-same (λ (x y : ℤ). is_lt (int_cmp x y)) (ranks_by int_cmp_total (λ (z : ℤ). z)) (map (λ y. pos y) sorted) told
     (rises-far (λ (x y : ℤ). is_lt (int_cmp x y)) (λ y. pos y) sorted (λ i j d le lt. sym (nat-int (get_or sorted j d) (get_or sorted i d)) ∙ sorted_far (λ (x y : ℕ). is_lt (nat_cmp x y)) (nat_order) sorted up i j d le lt))
     (ascends-map below (Less_by (λ (x y : ℤ). is_lt (int_cmp x y))) told (λ x y r. ap is_lt (below-less x y r)) a)
@@ -124,7 +126,8 @@ lines-less a b (inr (e, r)) =
     ap (λ (o : Ordering). is_lt (ordering_then o (int_cmp a.place b.place))) (sym (int_cmp_is a.year b.year Equal e))
     ∙ ap is_lt (below-less a.place b.place r)
 
-pub sorted-lines : (ls : List Line) (sorted : List KnownLine) (told : List Line) → IsSortedByKey line_in line_cmp sorted → Ascends line_below told → IsPermutation ls (map line_in sorted) → IsPermutation ls told → told ≡ map line_in sorted
+pub sorted-lines : (ls : List Line) (sorted : List KnownLine) (told : List Line) → IsSortedByKey line_in line_cmp sorted → Ascends line_below told
+    → IsPermutation ls (map line_in sorted) → IsPermutation ls told → told ≡ map line_in sorted
 sorted-lines ls sorted told up a p q = sym (sorted-same (λ (x y : Line). is_lt (line_cmp x y)) (ranks_by total (λ (l : Line). l)) (map line_in sorted) told
     (rises-far (λ (x y : Line). is_lt (line_cmp x y)) line_in sorted (sorted_far (λ (x y : KnownLine). is_lt (line_cmp (line_in x) (line_in y))) (ranks_by total line_in) sorted up))
     (ascends-map line_below (Less_by (λ (x y : Line). is_lt (line_cmp x y))) told lines-less a)

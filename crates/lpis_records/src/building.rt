@@ -28,8 +28,10 @@ fn add_year(
     ensures years { OnOk result (years_of history.new ≡ years_of history.old ++ pos year ∷ []) }
     ensures sets { OnOk result (SetsAre (map span_in spans.now) history.old → SetsAre (map span_in spans.now) history.new) }
     ensures lines { lines_of history.old ≡ map line_in (take from lines.now) → IfOk result (λ next. lines_of history.new ≡ map line_in (take next lines.now)) }
-    ensures front { OnOk result ((h : List Entry) → IsSaid spans.now lines.now h → IsDue history.old lines.now from year h → IsFront history.new h) }
-    ensures refused { IfErr result (λ e. e ≡ Unlawful → (h : List Entry) → IsSaid spans.now lines.now h → IsDue history.old lines.now from year h → ⊥) }
+    ensures front { OnOk result ((h : List Entry) → IsSaid spans.now lines.now h
+        → IsDue history.old lines.now from year h → IsFront history.new h) }
+    ensures refused { IfErr result (λ e. e ≡ Unlawful → (h : List Entry) → IsSaid spans.now lines.now h
+        → IsDue history.old lines.now from year h → ⊥) }
 {
     let live = live_ids(alloc, spans, year)?;
     let (rows, next) = rows_of_year(alloc, lines, from, year)?;
@@ -59,8 +61,10 @@ pub(crate) fn build(
     ensures years { IfOk result (λ h. years_of h ≡ map (λ y. pos y) years.now) }
     ensures sets { IfOk result (SetsAre (map span_in spans.now)) }
     ensures lines { IfOk result (λ h. lines_of h ≡ map line_in lines.now) }
-    ensures same { IfOk result (λ g. (h : List Entry) → IsSaid spans.now lines.now h → years_of h ≡ map (λ y. pos y) years.now → IsSameHistory g h) }
-    ensures refused { IfErr result (λ e. e ≡ Unlawful → (h : List Entry) → IsSaid spans.now lines.now h → years_of h ≡ map (λ y. pos y) years.now → ⊥) }
+    ensures same { IfOk result (λ g. (h : List Entry) → IsSaid spans.now lines.now h
+        → years_of h ≡ map (λ y. pos y) years.now → IsSameHistory g h) }
+    ensures refused { IfErr result (λ e. e ≡ Unlawful → (h : List Entry) → IsSaid spans.now lines.now h
+        → years_of h ≡ map (λ y. pos y) years.now → ⊥) }
 {
     let mut history = History::new(alloc);
     let mut next = 0;

@@ -76,8 +76,10 @@ pub(crate) fn read_spans(alloc: Global, rows: &[SpanRow]) -> Result<Vec<KnownSpa
 
 /// Whether no identifier has two spans.
 pub(crate) fn none_twice(alloc: Global, spans: &[KnownSpan]) -> Result<bool, AllocError>
-    ensures once { IfOk result (λ b. IsTrue b → (id : List ℕ) → length (filter (λ s. same_id id s.id) spans.now) ≤ 1) }
-    ensures twice { IfOk result (λ b. b ≡ false → ((id : List ℕ) → length (filter (λ s. same_id id s.id) spans.now) ≤ 1) → ⊥) }
+    ensures once { IfOk result (λ b. IsTrue b → (id : List ℕ)
+        → length (filter (λ s. same_id id s.id) spans.now) ≤ 1) }
+    ensures twice { IfOk result (λ b. b ≡ false → ((id : List ℕ)
+        → length (filter (λ s. same_id id s.id) spans.now) ≤ 1) → ⊥) }
 {
     let mut seen = BTreeSet::new(alloc);
     for span in spans {

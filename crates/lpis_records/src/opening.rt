@@ -60,7 +60,9 @@ fn row_at(
     requires within { next + 1 ≤ length lines.now }
     ensures row { IfOk result (λ row. map line_in (take (next + 1) lines.now) ≡ map line_in (take next lines.now) ++ lines_from (pos year) place (row ∷ [])) }
     ensures text { All (λ l. HasText l.row) lines.now → IfOk result HasText }
-    ensures refused { IfErr result (λ e. e ≡ Unlawful → (line_at (map line_in lines.now) next).year ≡ pos year → (line_at (map line_in lines.now) next).place ≡ pos place → ⊥) }
+    ensures refused { IfErr result (λ e. e ≡ Unlawful
+        → (line_at (map line_in lines.now) next).year ≡ pos year
+        → (line_at (map line_in lines.now) next).place ≡ pos place → ⊥) }
 {
     let line = &lines[next];
     if line.is_at(year, place) {
@@ -82,8 +84,10 @@ pub(crate) fn rows_of_year(
     ensures rows { IfOk result (λ p. map line_in (take p.1 lines.now) ≡ map line_in (take from lines.now) ++ lines_from (pos year) 0 p.0.items) }
     ensures within { IfOk result (λ p. p.1 ≤ length lines.now) }
     ensures texts { All (λ l. HasText l.row) lines.now → IfOk result (λ p. All HasText p.0.items) }
-    ensures run { IfOk result (λ p. (stop : ℕ) → IsRun (map line_in lines.now) from year stop → p.1 ≡ stop) }
-    ensures refused { IfErr result (λ e. e ≡ Unlawful → (stop : ℕ) → IsRun (map line_in lines.now) from year stop → ⊥) }
+    ensures run { IfOk result (λ p. (stop : ℕ) → IsRun (map line_in lines.now) from year stop
+        → p.1 ≡ stop) }
+    ensures refused { IfErr result (λ e. e ≡ Unlawful → (stop : ℕ)
+        → IsRun (map line_in lines.now) from year stop → ⊥) }
 {
     let mut rows = Vec::new(alloc);
     let mut next = from;
