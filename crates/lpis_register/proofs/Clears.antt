@@ -63,11 +63,11 @@ keys_out : (tree : ℕ) (rows : List Row) → map key_of (map (λ (o : Output). 
 keys_out tree [] = refl
 keys_out tree (r ∷ rows) = ap (λ l. key_of r ∷ l) (keys_out tree rows)
 
-all_kept : {X : Type 0} (xs : List X) → Rattle.std.specs.Prelude.filter (λ x. true) xs ≡ xs
+pub all_kept : {X : Type 0} (xs : List X) → Rattle.std.specs.Prelude.filter (λ x. true) xs ≡ xs
 all_kept [] = refl
 all_kept (x ∷ xs) = ap (λ l. x ∷ l) (all_kept xs)
 
-none_kept : {X : Type 0} (xs : List X) → Rattle.std.specs.Prelude.filter (λ x. false) xs ≡ []
+pub none_kept : {X : Type 0} (xs : List X) → Rattle.std.specs.Prelude.filter (λ x. false) xs ≡ []
 none_kept [] = refl
 none_kept (x ∷ xs) = none_kept xs
 
@@ -108,7 +108,7 @@ clears s sql place tree table old new count named has at says own keyed h =
       others = subst (λ t. Kept s t db new.now.trees) named (kept_of s table.tree db new.now.trees step.tables);
     }
 
-none_keyed : AreKeyed []
+pub none_keyed : AreKeyed []
 none_keyed = record { whole = λ x none. absurd none; alone = λ x y none more e. absurd none }
 
 pub clear_spans_inside : (s : Shape) (base : Database) (old new : State) (c : Content) (count : ℕ) → has_spans s ≡ true → Inside s base old c

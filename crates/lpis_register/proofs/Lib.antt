@@ -14,3 +14,6 @@ pub mod Readings
 pub mod Loops
 pub mod Ordered
 pub mod OneHistory
+pub mod Moves
+pub mod Openings
+pub mod Schemas

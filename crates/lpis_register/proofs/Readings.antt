@@ -9,7 +9,7 @@ use Rattle.lpis_register.specs.Shapes.{Shape, has_spans}
 use Rattle.lpis_register.specs.Holding.{IsStored}
 use Rattle.lpis_register.specs.Histories.{HoldsHistory}
 
-same_back : (c d : Content) → IsSameContent c d → IsSameContent d c
+pub same_back : (c d : Content) → IsSameContent c d → IsSameContent d c
 same_back c d s = record {
   formats = IsPermutation-sym _ _ s.formats;
   years = IsPermutation-sym _ _ s.years;

@@ -7,4 +7,5 @@ pub mod Shown
 pub mod Lines
 pub mod Histories
 pub mod Calls
+pub mod Opening
 pub mod Codes

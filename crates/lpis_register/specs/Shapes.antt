@@ -26,6 +26,12 @@ has_live New = false
 has_live First = true
 has_live Moved = true
 
+-- the order of the tables once `lpis_span` is made
+abbrev pub with_span_table : Shape → Shape
+with_span_table New = New
+with_span_table First = Moved
+with_span_table Moved = Moved
+
 -- where `lpis_span` stands among the tables, and its tree
 abbrev pub span_place : Shape → ℕ
 span_place New = 2

@@ -1,9 +1,14 @@
 //! A register of releases, kept in the tables of an SQL database.
 #![tactic(auto)]
 
+mod adopting;
 mod fault;
+mod files;
+mod finding;
+mod found;
 mod laws;
 mod loading;
+mod moving;
 mod opening;
 mod preparing;
 mod publishing;
@@ -11,6 +16,7 @@ mod queries;
 mod reading;
 mod register;
 mod releasing;
+mod settling;
 mod statements;
 mod storing;
 mod tables;

@@ -15,70 +15,122 @@ use sqlite::{Alter, Connection, Error};
 use std::alloc::Global;
 
 /// The rows that tell the version.
-fn load_formats<S: Alter>(alloc: Global, conn: &mut Connection<S>) -> Result<Vec<FormatRow>, Error>
+pub(crate) fn load_formats<S: Alter>(
+    alloc: Global,
+    conn: &mut Connection<S>,
+) -> Result<Vec<FormatRow>, Error>
     requires autocommit { conn.old.in_transaction ≡ false }
     ensures autocommit { conn.new.in_transaction ≡ false }
-    ensures rows { HasCleanDisk (state S.Store conn.new) → (shape : _) → (c : _) → IsStored shape (state S.Store conn.old) c → IfOk result (λ rows. IsPermutation c.formats rows.items) }
-    ensures stored { HasCleanDisk (state S.Store conn.new) → (shape : _) → (c : _) → IsStored shape (state S.Store conn.old) c → OnOk result (IsStored shape (state S.Store conn.new) c) }
-    ensures same { HasCleanDisk (state S.Store conn.new) → IsTrue (state S.Store conn.new).is_open → (shape : _) → (c : _) → IsStored shape (state S.Store conn.old) c → IsStored shape (state S.Store conn.new) c }
+    ensures rows { HasCleanDisk (state S.Store conn.new) → (shape : _) → (c : _)
+        → IsStored shape (state S.Store conn.old) c
+        → IfOk result (λ rows. IsPermutation c.formats rows.items) }
+    ensures stored { HasCleanDisk (state S.Store conn.new) → (shape : _) → (c : _)
+        → IsStored shape (state S.Store conn.old) c
+        → OnOk result (IsStored shape (state S.Store conn.new) c) }
+    ensures same { HasCleanDisk (state S.Store conn.new) → IsTrue (state S.Store conn.new).is_open
+        → (shape : _) → (c : _) → IsStored shape (state S.Store conn.old) c
+        → IsStored shape (state S.Store conn.new) c }
     ensures clean { HasCleanDisk (state S.Store conn.new) → HasCleanDisk (state S.Store conn.old) }
-    ensures survives { (shape : _) → (c : _) → IsStored shape (state S.Store conn.old) c → Survives (state S.Store conn.old) (state S.Store conn.new) (λ _. ⊥) }
+    ensures survives { (shape : _) → (c : _) → IsStored shape (state S.Store conn.old) c
+        → Survives (state S.Store conn.old) (state S.Store conn.new) (λ _. ⊥) }
 {
     let rows = format_rows(conn)?;
     read_formats(alloc, rows.as_slice())
 }
 
 /// The years of the releases.
-fn load_years<S: Alter>(alloc: Global, conn: &mut Connection<S>) -> Result<Vec<i64>, Error>
+pub(crate) fn load_years<S: Alter>(
+    alloc: Global,
+    conn: &mut Connection<S>,
+) -> Result<Vec<i64>, Error>
     requires autocommit { conn.old.in_transaction ≡ false }
     ensures autocommit { conn.new.in_transaction ≡ false }
-    ensures rows { HasCleanDisk (state S.Store conn.new) → (shape : _) → (c : _) → IsStored shape (state S.Store conn.old) c → IfOk result (λ rows. IsPermutation c.years rows.items) }
-    ensures stored { HasCleanDisk (state S.Store conn.new) → (shape : _) → (c : _) → IsStored shape (state S.Store conn.old) c → OnOk result (IsStored shape (state S.Store conn.new) c) }
-    ensures same { HasCleanDisk (state S.Store conn.new) → IsTrue (state S.Store conn.new).is_open → (shape : _) → (c : _) → IsStored shape (state S.Store conn.old) c → IsStored shape (state S.Store conn.new) c }
+    ensures rows { HasCleanDisk (state S.Store conn.new) → (shape : _) → (c : _)
+        → IsStored shape (state S.Store conn.old) c
+        → IfOk result (λ rows. IsPermutation c.years rows.items) }
+    ensures stored { HasCleanDisk (state S.Store conn.new) → (shape : _) → (c : _)
+        → IsStored shape (state S.Store conn.old) c
+        → OnOk result (IsStored shape (state S.Store conn.new) c) }
+    ensures same { HasCleanDisk (state S.Store conn.new) → IsTrue (state S.Store conn.new).is_open
+        → (shape : _) → (c : _) → IsStored shape (state S.Store conn.old) c
+        → IsStored shape (state S.Store conn.new) c }
     ensures clean { HasCleanDisk (state S.Store conn.new) → HasCleanDisk (state S.Store conn.old) }
-    ensures survives { (shape : _) → (c : _) → IsStored shape (state S.Store conn.old) c → Survives (state S.Store conn.old) (state S.Store conn.new) (λ _. ⊥) }
+    ensures survives { (shape : _) → (c : _) → IsStored shape (state S.Store conn.old) c
+        → Survives (state S.Store conn.old) (state S.Store conn.new) (λ _. ⊥) }
 {
     let rows = release_rows(conn)?;
     read_years(alloc, rows.as_slice())
 }
 
 /// The spans of the identifiers.
-fn load_spans<S: Alter>(alloc: Global, conn: &mut Connection<S>) -> Result<Vec<SpanRow>, Error>
+pub(crate) fn load_spans<S: Alter>(
+    alloc: Global,
+    conn: &mut Connection<S>,
+) -> Result<Vec<SpanRow>, Error>
     requires autocommit { conn.old.in_transaction ≡ false }
     ensures autocommit { conn.new.in_transaction ≡ false }
-    ensures rows { HasCleanDisk (state S.Store conn.new) → (shape : _) → has_spans shape ≡ true → (c : _) → IsStored shape (state S.Store conn.old) c → IfOk result (λ rows. IsPermutation c.spans rows.items) }
-    ensures stored { HasCleanDisk (state S.Store conn.new) → (shape : _) → has_spans shape ≡ true → (c : _) → IsStored shape (state S.Store conn.old) c → OnOk result (IsStored shape (state S.Store conn.new) c) }
-    ensures same { HasCleanDisk (state S.Store conn.new) → IsTrue (state S.Store conn.new).is_open → (shape : _) → has_spans shape ≡ true → (c : _) → IsStored shape (state S.Store conn.old) c → IsStored shape (state S.Store conn.new) c }
+    ensures rows { HasCleanDisk (state S.Store conn.new) → (shape : _) → has_spans shape ≡ true
+        → (c : _) → IsStored shape (state S.Store conn.old) c
+        → IfOk result (λ rows. IsPermutation c.spans rows.items) }
+    ensures stored { HasCleanDisk (state S.Store conn.new) → (shape : _) → has_spans shape ≡ true
+        → (c : _) → IsStored shape (state S.Store conn.old) c
+        → OnOk result (IsStored shape (state S.Store conn.new) c) }
+    ensures same { HasCleanDisk (state S.Store conn.new) → IsTrue (state S.Store conn.new).is_open
+        → (shape : _) → has_spans shape ≡ true → (c : _)
+        → IsStored shape (state S.Store conn.old) c → IsStored shape (state S.Store conn.new) c }
     ensures clean { HasCleanDisk (state S.Store conn.new) → HasCleanDisk (state S.Store conn.old) }
-    ensures survives { (shape : _) → has_spans shape ≡ true → (c : _) → IsStored shape (state S.Store conn.old) c → Survives (state S.Store conn.old) (state S.Store conn.new) (λ _. ⊥) }
+    ensures survives { (shape : _) → has_spans shape ≡ true → (c : _)
+        → IsStored shape (state S.Store conn.old) c
+        → Survives (state S.Store conn.old) (state S.Store conn.new) (λ _. ⊥) }
 {
     let rows = span_rows(conn)?;
     read_spans(alloc, rows.as_slice())
 }
 
 /// The rows of lineage.
-fn load_lines<S: Alter>(alloc: Global, conn: &mut Connection<S>) -> Result<Vec<LineRow>, Error>
+pub(crate) fn load_lines<S: Alter>(
+    alloc: Global,
+    conn: &mut Connection<S>,
+) -> Result<Vec<LineRow>, Error>
     requires autocommit { conn.old.in_transaction ≡ false }
     ensures autocommit { conn.new.in_transaction ≡ false }
-    ensures rows { HasCleanDisk (state S.Store conn.new) → (shape : _) → (c : _) → IsStored shape (state S.Store conn.old) c → IfOk result (λ rows. IsPermutation c.lines rows.items) }
-    ensures stored { HasCleanDisk (state S.Store conn.new) → (shape : _) → (c : _) → IsStored shape (state S.Store conn.old) c → OnOk result (IsStored shape (state S.Store conn.new) c) }
-    ensures same { HasCleanDisk (state S.Store conn.new) → IsTrue (state S.Store conn.new).is_open → (shape : _) → (c : _) → IsStored shape (state S.Store conn.old) c → IsStored shape (state S.Store conn.new) c }
+    ensures rows { HasCleanDisk (state S.Store conn.new) → (shape : _) → (c : _)
+        → IsStored shape (state S.Store conn.old) c
+        → IfOk result (λ rows. IsPermutation c.lines rows.items) }
+    ensures stored { HasCleanDisk (state S.Store conn.new) → (shape : _) → (c : _)
+        → IsStored shape (state S.Store conn.old) c
+        → OnOk result (IsStored shape (state S.Store conn.new) c) }
+    ensures same { HasCleanDisk (state S.Store conn.new) → IsTrue (state S.Store conn.new).is_open
+        → (shape : _) → (c : _) → IsStored shape (state S.Store conn.old) c
+        → IsStored shape (state S.Store conn.new) c }
     ensures clean { HasCleanDisk (state S.Store conn.new) → HasCleanDisk (state S.Store conn.old) }
-    ensures survives { (shape : _) → (c : _) → IsStored shape (state S.Store conn.old) c → Survives (state S.Store conn.old) (state S.Store conn.new) (λ _. ⊥) }
+    ensures survives { (shape : _) → (c : _) → IsStored shape (state S.Store conn.old) c
+        → Survives (state S.Store conn.old) (state S.Store conn.new) (λ _. ⊥) }
 {
     let rows = line_rows(conn)?;
     read_lines(alloc, rows.as_slice())
 }
 
 /// The identifiers of each release, as version 1 keeps them.
-fn load_lives<S: Alter>(alloc: Global, conn: &mut Connection<S>) -> Result<Vec<LiveRow>, Error>
+pub(crate) fn load_lives<S: Alter>(
+    alloc: Global,
+    conn: &mut Connection<S>,
+) -> Result<Vec<LiveRow>, Error>
     requires autocommit { conn.old.in_transaction ≡ false }
     ensures autocommit { conn.new.in_transaction ≡ false }
-    ensures rows { HasCleanDisk (state S.Store conn.new) → (shape : _) → has_live shape ≡ true → (c : _) → IsStored shape (state S.Store conn.old) c → IfOk result (λ rows. IsPermutation c.live rows.items) }
-    ensures stored { HasCleanDisk (state S.Store conn.new) → (shape : _) → has_live shape ≡ true → (c : _) → IsStored shape (state S.Store conn.old) c → OnOk result (IsStored shape (state S.Store conn.new) c) }
-    ensures same { HasCleanDisk (state S.Store conn.new) → IsTrue (state S.Store conn.new).is_open → (shape : _) → has_live shape ≡ true → (c : _) → IsStored shape (state S.Store conn.old) c → IsStored shape (state S.Store conn.new) c }
+    ensures rows { HasCleanDisk (state S.Store conn.new) → (shape : _) → has_live shape ≡ true
+        → (c : _) → IsStored shape (state S.Store conn.old) c
+        → IfOk result (λ rows. IsPermutation c.live rows.items) }
+    ensures stored { HasCleanDisk (state S.Store conn.new) → (shape : _) → has_live shape ≡ true
+        → (c : _) → IsStored shape (state S.Store conn.old) c
+        → OnOk result (IsStored shape (state S.Store conn.new) c) }
+    ensures same { HasCleanDisk (state S.Store conn.new) → IsTrue (state S.Store conn.new).is_open
+        → (shape : _) → has_live shape ≡ true → (c : _)
+        → IsStored shape (state S.Store conn.old) c → IsStored shape (state S.Store conn.new) c }
     ensures clean { HasCleanDisk (state S.Store conn.new) → HasCleanDisk (state S.Store conn.old) }
-    ensures survives { (shape : _) → has_live shape ≡ true → (c : _) → IsStored shape (state S.Store conn.old) c → Survives (state S.Store conn.old) (state S.Store conn.new) (λ _. ⊥) }
+    ensures survives { (shape : _) → has_live shape ≡ true → (c : _)
+        → IsStored shape (state S.Store conn.old) c
+        → Survives (state S.Store conn.old) (state S.Store conn.new) (λ _. ⊥) }
 {
     let rows = live_rows(conn)?;
     read_lives(alloc, rows.as_slice())
@@ -88,9 +140,15 @@ fn load_lives<S: Alter>(alloc: Global, conn: &mut Connection<S>) -> Result<Vec<L
 pub(crate) fn load<S: Alter>(alloc: Global, conn: &mut Connection<S>) -> Result<Rows, Error>
     requires autocommit { conn.old.in_transaction ≡ false }
     ensures autocommit { conn.new.in_transaction ≡ false }
-    ensures rows { HasCleanDisk (state S.Store conn.new) → (shape : _) → has_spans shape ≡ true → (c : _) → IsStored shape (state S.Store conn.old) c → IfOk result (λ rows. IsSameContent (without_live c) rows) }
-    ensures stored { HasCleanDisk (state S.Store conn.new) → (shape : _) → has_spans shape ≡ true → (c : _) → IsStored shape (state S.Store conn.old) c → OnOk result (IsStored shape (state S.Store conn.new) c) }
-    ensures same { HasCleanDisk (state S.Store conn.new) → IsTrue (state S.Store conn.new).is_open → (shape : _) → has_spans shape ≡ true → (c : _) → IsStored shape (state S.Store conn.old) c → IsStored shape (state S.Store conn.new) c }
+    ensures rows { HasCleanDisk (state S.Store conn.new) → (shape : _) → has_spans shape ≡ true
+        → (c : _) → IsStored shape (state S.Store conn.old) c
+        → IfOk result (λ rows. IsSameContent (without_live c) rows) }
+    ensures stored { HasCleanDisk (state S.Store conn.new) → (shape : _) → has_spans shape ≡ true
+        → (c : _) → IsStored shape (state S.Store conn.old) c
+        → OnOk result (IsStored shape (state S.Store conn.new) c) }
+    ensures same { HasCleanDisk (state S.Store conn.new) → IsTrue (state S.Store conn.new).is_open
+        → (shape : _) → has_spans shape ≡ true → (c : _)
+        → IsStored shape (state S.Store conn.old) c → IsStored shape (state S.Store conn.new) c }
     ensures clean { HasCleanDisk (state S.Store conn.new) → HasCleanDisk (state S.Store conn.old) }
 {
     let formats = load_formats(alloc, conn)?;
@@ -104,9 +162,15 @@ pub(crate) fn load<S: Alter>(alloc: Global, conn: &mut Connection<S>) -> Result<
 pub(crate) fn load_first<S: Alter>(alloc: Global, conn: &mut Connection<S>) -> Result<Rows, Error>
     requires autocommit { conn.old.in_transaction ≡ false }
     ensures autocommit { conn.new.in_transaction ≡ false }
-    ensures rows { HasCleanDisk (state S.Store conn.new) → (shape : _) → has_live shape ≡ true → (c : _) → IsStored shape (state S.Store conn.old) c → IfOk result (λ rows. IsSameContent (without_spans c) rows) }
-    ensures stored { HasCleanDisk (state S.Store conn.new) → (shape : _) → has_live shape ≡ true → (c : _) → IsStored shape (state S.Store conn.old) c → OnOk result (IsStored shape (state S.Store conn.new) c) }
-    ensures same { HasCleanDisk (state S.Store conn.new) → IsTrue (state S.Store conn.new).is_open → (shape : _) → has_live shape ≡ true → (c : _) → IsStored shape (state S.Store conn.old) c → IsStored shape (state S.Store conn.new) c }
+    ensures rows { HasCleanDisk (state S.Store conn.new) → (shape : _) → has_live shape ≡ true
+        → (c : _) → IsStored shape (state S.Store conn.old) c
+        → IfOk result (λ rows. IsSameContent (without_spans c) rows) }
+    ensures stored { HasCleanDisk (state S.Store conn.new) → (shape : _) → has_live shape ≡ true
+        → (c : _) → IsStored shape (state S.Store conn.old) c
+        → OnOk result (IsStored shape (state S.Store conn.new) c) }
+    ensures same { HasCleanDisk (state S.Store conn.new) → IsTrue (state S.Store conn.new).is_open
+        → (shape : _) → has_live shape ≡ true → (c : _)
+        → IsStored shape (state S.Store conn.old) c → IsStored shape (state S.Store conn.new) c }
     ensures clean { HasCleanDisk (state S.Store conn.new) → HasCleanDisk (state S.Store conn.old) }
 {
     let formats = load_formats(alloc, conn)?;

@@ -44,7 +44,7 @@ fn create_in<S: Alter>(conn: &mut Connection<S>) -> Result<(), PublishFault>
     ensures made { HasCleanDisk (state S.Store conn.new) → IsBare (state S.Store conn.old) → IfOk result (λ _. HoldsHistory (state S.Store conn.new) []) }
 {
     order_of_rows_is_free();
-    match create(conn) {
+    match create(conn, true) {
         Ok(()) => Ok(()),
         Err(error) => Err(fault_of(error)),
     }

@@ -1,10 +1,10 @@
 //! The tables of a new register.
 
-ghost use Rattle.std.specs.Prelude.{◌≡◌, false, OnOk};
+ghost use Rattle.std.specs.Prelude.{◌≡◌, false, IsTrue, OnOk, OnErr};
 ghost use Rattle.sqlite.specs.Held.{state};
-ghost use Rattle.sqlite.specs.State.{HasCleanDisk, Survives};
+ghost use Rattle.sqlite.specs.State.{HasCleanDisk, KeepsCommit, Survives};
 ghost use Rattle.lpis_records.specs.Content.{no_content};
-ghost use Rattle.lpis_register.specs.Shapes.{New, schema_of, no_schema, one_table, two_tables, three_tables};
+ghost use Rattle.lpis_register.specs.Shapes.{New, First, Moved, schema_of, no_schema, one_table, two_tables, three_tables};
 ghost use Rattle.lpis_register.specs.Bare.{IsBare, Stage};
 ghost use Rattle.lpis_register.specs.Holding.{Inside, IsStored, Leaves};
 
@@ -13,7 +13,11 @@ use sqlite::{Alter, Connection, Error, Transaction};
 /// The table of the version.
 fn make_format<S: Alter>(tx: &mut Transaction<'_, S>) -> Result<(), Error>
     ensures same_reference { tx.new.conn.ghost_name ≡ tx.old.conn.ghost_name }
-    ensures made { HasCleanDisk (state S.Store tx.new.conn.now) → (base : _) → Stage no_schema base (state S.Store tx.old.conn.now) → OnOk result (Stage one_table base (state S.Store tx.new.conn.now)) }
+    ensures made { HasCleanDisk (state S.Store tx.new.conn.now) → (base : _)
+        → Stage no_schema base (state S.Store tx.old.conn.now)
+        → OnOk result (Stage one_table base (state S.Store tx.new.conn.now)) }
+    ensures kept { HasCleanDisk (state S.Store tx.new.conn.now)
+        → KeepsCommit (state S.Store tx.old.conn.now) (state S.Store tx.new.conn.now) }
     ensures survives { Survives (state S.Store tx.old.conn.now) (state S.Store tx.new.conn.now) (λ _. ⊥) }
 {
     tx.execute(
@@ -26,7 +30,11 @@ fn make_format<S: Alter>(tx: &mut Transaction<'_, S>) -> Result<(), Error>
 /// The table of releases.
 fn make_release<S: Alter>(tx: &mut Transaction<'_, S>) -> Result<(), Error>
     ensures same_reference { tx.new.conn.ghost_name ≡ tx.old.conn.ghost_name }
-    ensures made { HasCleanDisk (state S.Store tx.new.conn.now) → (base : _) → Stage one_table base (state S.Store tx.old.conn.now) → OnOk result (Stage two_tables base (state S.Store tx.new.conn.now)) }
+    ensures made { HasCleanDisk (state S.Store tx.new.conn.now) → (base : _)
+        → Stage one_table base (state S.Store tx.old.conn.now)
+        → OnOk result (Stage two_tables base (state S.Store tx.new.conn.now)) }
+    ensures kept { HasCleanDisk (state S.Store tx.new.conn.now)
+        → KeepsCommit (state S.Store tx.old.conn.now) (state S.Store tx.new.conn.now) }
     ensures survives { Survives (state S.Store tx.old.conn.now) (state S.Store tx.new.conn.now) (λ _. ⊥) }
 {
     tx.execute(
@@ -37,9 +45,16 @@ fn make_release<S: Alter>(tx: &mut Transaction<'_, S>) -> Result<(), Error>
 }
 
 /// The table of spans.
-fn make_span<S: Alter>(tx: &mut Transaction<'_, S>) -> Result<(), Error>
+pub(crate) fn make_span<S: Alter>(tx: &mut Transaction<'_, S>) -> Result<(), Error>
     ensures same_reference { tx.new.conn.ghost_name ≡ tx.old.conn.ghost_name }
-    ensures made { HasCleanDisk (state S.Store tx.new.conn.now) → (base : _) → Stage two_tables base (state S.Store tx.old.conn.now) → OnOk result (Stage three_tables base (state S.Store tx.new.conn.now)) }
+    ensures made { HasCleanDisk (state S.Store tx.new.conn.now) → (base : _)
+        → Stage two_tables base (state S.Store tx.old.conn.now)
+        → OnOk result (Stage three_tables base (state S.Store tx.new.conn.now)) }
+    ensures beside { HasCleanDisk (state S.Store tx.new.conn.now) → (base : _) (c : _)
+        → Inside First base (state S.Store tx.old.conn.now) c
+        → OnOk result (Inside Moved base (state S.Store tx.new.conn.now) c) }
+    ensures kept { HasCleanDisk (state S.Store tx.new.conn.now)
+        → KeepsCommit (state S.Store tx.old.conn.now) (state S.Store tx.new.conn.now) }
     ensures survives { Survives (state S.Store tx.old.conn.now) (state S.Store tx.new.conn.now) (λ _. ⊥) }
 {
     tx.execute(
@@ -52,7 +67,11 @@ fn make_span<S: Alter>(tx: &mut Transaction<'_, S>) -> Result<(), Error>
 /// The table of rows of lineage.
 fn make_row<S: Alter>(tx: &mut Transaction<'_, S>) -> Result<(), Error>
     ensures same_reference { tx.new.conn.ghost_name ≡ tx.old.conn.ghost_name }
-    ensures made { HasCleanDisk (state S.Store tx.new.conn.now) → (base : _) → Stage three_tables base (state S.Store tx.old.conn.now) → OnOk result (Stage (schema_of New) base (state S.Store tx.new.conn.now)) }
+    ensures made { HasCleanDisk (state S.Store tx.new.conn.now) → (base : _)
+        → Stage three_tables base (state S.Store tx.old.conn.now)
+        → OnOk result (Stage (schema_of New) base (state S.Store tx.new.conn.now)) }
+    ensures kept { HasCleanDisk (state S.Store tx.new.conn.now)
+        → KeepsCommit (state S.Store tx.old.conn.now) (state S.Store tx.new.conn.now) }
     ensures survives { Survives (state S.Store tx.old.conn.now) (state S.Store tx.new.conn.now) (λ _. ⊥) }
 {
     tx.execute(
@@ -65,35 +84,62 @@ fn make_row<S: Alter>(tx: &mut Transaction<'_, S>) -> Result<(), Error>
 /// The row that tells the version.
 fn insert_format<S: Alter>(tx: &mut Transaction<'_, S>) -> Result<(), Error>
     ensures same_reference { tx.new.conn.ghost_name ≡ tx.old.conn.ghost_name }
-    ensures begun { HasCleanDisk (state S.Store tx.new.conn.now) → (base : _) → Stage (schema_of New) base (state S.Store tx.old.conn.now) → OnOk result (Inside New base (state S.Store tx.new.conn.now) no_content) }
+    ensures begun { HasCleanDisk (state S.Store tx.new.conn.now) → (base : _)
+        → Stage (schema_of New) base (state S.Store tx.old.conn.now)
+        → OnOk result (Inside New base (state S.Store tx.new.conn.now) no_content) }
+    ensures kept { HasCleanDisk (state S.Store tx.new.conn.now)
+        → KeepsCommit (state S.Store tx.old.conn.now) (state S.Store tx.new.conn.now) }
     ensures survives { Survives (state S.Store tx.old.conn.now) (state S.Store tx.new.conn.now) (λ _. ⊥) }
 {
     tx.execute("INSERT INTO lpis_format (one, version) VALUES (1, 2)", &[])?;
     Ok(())
 }
 
-/// The tables, empty but for the version.
-fn make_all<S: Alter>(tx: &mut Transaction<'_, S>) -> Result<(), Error>
+/// The row that tells the version, where its table was not there before.
+fn begin_format<S: Alter>(tx: &mut Transaction<'_, S>, is_new: bool) -> Result<(), Error>
     ensures same_reference { tx.new.conn.ghost_name ≡ tx.old.conn.ghost_name }
-    ensures begun { HasCleanDisk (state S.Store tx.new.conn.now) → (base : _) → Stage no_schema base (state S.Store tx.old.conn.now) → OnOk result (Inside New base (state S.Store tx.new.conn.now) no_content) }
+    ensures begun { IsTrue is_new → HasCleanDisk (state S.Store tx.new.conn.now) → (base : _)
+        → Stage (schema_of New) base (state S.Store tx.old.conn.now)
+        → OnOk result (Inside New base (state S.Store tx.new.conn.now) no_content) }
+    ensures kept { HasCleanDisk (state S.Store tx.new.conn.now)
+        → KeepsCommit (state S.Store tx.old.conn.now) (state S.Store tx.new.conn.now) }
+    ensures survives { Survives (state S.Store tx.old.conn.now) (state S.Store tx.new.conn.now) (λ _. ⊥) }
+{
+    if is_new { insert_format(tx) } else { Ok(()) }
+}
+
+/// The tables that are not there, empty but for the version.
+fn make_all<S: Alter>(tx: &mut Transaction<'_, S>, is_new: bool) -> Result<(), Error>
+    ensures same_reference { tx.new.conn.ghost_name ≡ tx.old.conn.ghost_name }
+    ensures begun { IsTrue is_new → HasCleanDisk (state S.Store tx.new.conn.now) → (base : _)
+        → Stage no_schema base (state S.Store tx.old.conn.now)
+        → OnOk result (Inside New base (state S.Store tx.new.conn.now) no_content) }
+    ensures kept { HasCleanDisk (state S.Store tx.new.conn.now)
+        → KeepsCommit (state S.Store tx.old.conn.now) (state S.Store tx.new.conn.now) }
     ensures survives { Survives (state S.Store tx.old.conn.now) (state S.Store tx.new.conn.now) (λ _. ⊥) }
 {
     make_format(tx)?;
     make_release(tx)?;
     make_span(tx)?;
     make_row(tx)?;
-    insert_format(tx)
+    begin_format(tx, is_new)
 }
 
-/// Makes the tables, in one transaction.
-pub(crate) fn create<S: Alter>(conn: &mut Connection<S>) -> Result<(), Error>
+/// Makes the tables that are not there, in one transaction. `is_new` says that the table of the version is among them.
+pub(crate) fn create<S: Alter>(conn: &mut Connection<S>, is_new: bool) -> Result<(), Error>
     requires autocommit { conn.old.in_transaction ≡ false }
     ensures autocommit { conn.new.in_transaction ≡ false }
-    ensures made { HasCleanDisk (state S.Store conn.new) → IsBare (state S.Store conn.old) → OnOk result (IsStored New (state S.Store conn.new) no_content) }
+    ensures made { IsTrue is_new → HasCleanDisk (state S.Store conn.new)
+        → IsBare (state S.Store conn.old)
+        → OnOk result (IsStored New (state S.Store conn.new) no_content) }
+    ensures err { IsTrue is_new → HasCleanDisk (state S.Store conn.new)
+        → IsTrue (state S.Store conn.new).is_open → IsBare (state S.Store conn.old)
+        → OnErr result (IsBare (state S.Store conn.new)) }
     ensures clean { HasCleanDisk (state S.Store conn.new) → HasCleanDisk (state S.Store conn.old) }
-    ensures crash { IsBare (state S.Store conn.old) → Survives (state S.Store conn.old) (state S.Store conn.new) (Leaves New no_content) }
+    ensures crash { IsTrue is_new → IsBare (state S.Store conn.old)
+        → Survives (state S.Store conn.old) (state S.Store conn.new) (Leaves New no_content) }
 {
     let mut tx = conn.transaction();
-    make_all(&mut tx)?;
+    make_all(&mut tx, is_new)?;
     tx.commit()
 }

@@ -1,0 +1,64 @@
+-- From rows of either version to the history that they say.
+use Rattle.std.specs.Prelude.{OnErr}
+use Rattle.std.specs.List.{list_any}
+use Rattle.std.proofs.Common.{◌≡◌, inl, inr, ℕ, codes, Result, Ok, Err, Bool, true, false, List, [], ◌∷◌, map, refl, sym, ap, subst, ◌∙◌, IsPermutation, true≢false}
+use Rattle.std.proofs.lemmas.List.Sorted.{length_permutation}
+use Rattle.sqlite.specs.Order.{Row}
+use Rattle.sqlite.specs.State.{State}
+use Rattle.sqlite.specs.Schema.{Schema}
+use Rattle.sqlite_schema.specs.Names.{same_name}
+use Rattle.lpis_lineage.specs.declared.row.Entry.{Entry}
+use Rattle.lpis_records.specs.Content.{Content, no_content}
+use Rattle.lpis_records.specs.Tells.{IsSameContent, Tells, TellsLive, years_of}
+use Rattle.lpis_register.specs.Bare.{IsBare}
+use Rattle.lpis_register.specs.Shapes.{Shape, New, First, Moved, has_live, has_spans, schema_of}
+use Rattle.lpis_register.specs.Holding.{IsStored, Keeps}
+use Rattle.lpis_register.specs.Opening.{FindsHistory, SaysAt}
+use Rattle.lpis_register.proofs.Readings.{same_back}
+
+-- the order of rows is free in either version
+pub says_whole : (first : Bool) (c rows : Content) (k : List Entry) → ((a b : Content) (h : List Entry) → IsSameContent a b → Tells a h → Tells b h)
+    → ((a b : Content) (h : List Entry) → IsSameContent a b → TellsLive a h → TellsLive b h)
+    → IsSameContent c rows → SaysAt first rows k → SaysAt first c k
+says_whole true c rows k reordered reordered_live same told = reordered_live rows c k (same_back c rows same) told
+says_whole false c rows k reordered reordered_live same told = reordered rows c k (same_back c rows same) told
+
+no_years : (h : List Entry) → IsPermutation [] (years_of h) → h ≡ []
+no_years [] same = refl
+no_years (e ∷ h) same = absurd (let l = length_permutation _ _ same in cc)
+
+-- tables with no row say the empty history
+pub none_said : (first : Bool) (h : List Entry) → SaysAt first no_content h → h ≡ []
+none_said true h told = no_years h told.years_are
+none_said false h told = no_years h told.years_are
+
+pub none_there : {X : Type 0} (b : Bool) (row : X → Row) (xs : List X) (rows : List Row) → b ≡ false → Keeps b row xs rows → xs ≡ []
+none_there true row xs rows is k = absurd (true≢false is)
+none_there false row xs rows is k = k
+
+-- no table is there yet, or they are there and empty
+pub none_found : {X E : Type 0} (st : State) (r : Result X E) → Tells no_content [] → OnErr r (IsStored New st no_content) → OnErr r (FindsHistory st [])
+none_found st (Ok x) told h = tt
+none_found st (Err e) told h = inr (record { shape = New; content = no_content; stored = h; is_first = false; says = told })
+
+pub any_err : {X E : Type 0} (r : Result X E) (P : Type 0) → P → OnErr r P
+any_err (Ok x) P p = tt
+any_err (Err e) P p = p
+
+-- ---- the names of the tables
+
+abbrev pub has_named : List ℕ → Schema → Bool
+has_named name schema = list_any (λ t. same_name t.name name) schema.tables
+
+pub record AreThere (s : Shape) : Type 0 where
+  pub format : has_named (codes "lpis_format") (schema_of s) ≡ true
+  pub release : has_named (codes "lpis_release") (schema_of s) ≡ true
+  pub row : has_named (codes "lpis_row") (schema_of s) ≡ true
+  pub spans : has_named (codes "lpis_span") (schema_of s) ≡ has_spans s
+  pub lives : has_named (codes "lpis_live") (schema_of s) ≡ has_live s
+
+pub tables_there : (s : Shape) → AreThere s
+unfolding same_name
+tables_there New = record { format = refl; release = refl; row = refl; spans = refl; lives = refl }
+tables_there First = record { format = refl; release = refl; row = refl; spans = refl; lives = refl }
+tables_there Moved = record { format = refl; release = refl; row = refl; spans = refl; lives = refl }

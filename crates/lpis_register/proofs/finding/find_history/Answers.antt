@@ -1,0 +1,9 @@
+use Rattle.std.proofs.lemmas.Result.{IfOk-weaker}
+use Rattle.lpis_register.proofs.Openings.{says_whole}
+use Rattle.lpis_register.proofs.finding.find_history.Goals as goal
+
+pub returns-in-Ok-clause-says : goal.returns-in-Ok-clause-says
+returns-in-Ok-clause-says g c clean shape spans lives content r =
+    let same = c.in-Ok.ensures.rows clean shape spans lives content r in
+    let stored = c.in-Ok.ensures.stored clean shape spans lives content r in
+    IfOk-weaker c.history_at.result _ _ (λ p told. (says_whole p.1 content c.in-Ok.rows p.0 c.order_of_rows_is_free.ensures.reordered c.order_of_rows_is_free.ensures.reordered_live same told, stored)) c.history_at.ensures.says

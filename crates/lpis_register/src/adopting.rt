@@ -1,0 +1,111 @@
+//! A register over a database that is there.
+
+ghost use Rattle.std.specs.Prelude.{◌≡◌, true, false, [], IsTrue, IfOk, IfErr, OnErr};
+ghost use Rattle.sqlite.specs.Held.{state};
+ghost use Rattle.sqlite.specs.State.{HasCleanDisk};
+ghost use Rattle.lpis_register.specs.Bare.{IsBare};
+ghost use Rattle.lpis_register.specs.Shapes.{has_live, has_spans};
+ghost use Rattle.lpis_register.specs.Holding.{IsStored};
+ghost use Rattle.lpis_register.specs.Histories.{HoldsHistory};
+ghost use Rattle.lpis_register.specs.Opening.{SaysAt, FindsHistory};
+
+use crate::fault::PublishFault;
+use crate::finding::find_history;
+use crate::found::tables_in;
+use crate::opening::fault_of;
+use crate::register::Register;
+use crate::settling::settle;
+use crate::tables::create;
+use lpis_lineage::History;
+use lpis_records::order_of_rows_is_free;
+use sqlite::{Alter, Connection};
+use std::alloc::Global;
+
+/// The history that the tables say; those of version 1 are moved to version 2.
+fn open_found<S: Alter>(
+    alloc: Global,
+    conn: &mut Connection<S>,
+    spans: bool,
+    lives: bool,
+) -> Result<History, PublishFault>
+    requires autocommit { conn.old.in_transaction ≡ false }
+    ensures autocommit { conn.new.in_transaction ≡ false }
+    ensures ok { HasCleanDisk (state S.Store conn.new) → (shape : _) → spans ≡ has_spans shape
+        → lives ≡ has_live shape → (c : _)
+        → IsStored shape (state S.Store conn.old) c
+        → IfOk result (λ h. HoldsHistory (state S.Store conn.new) h × ((first : _)
+        × SaysAt first c h)) }
+    ensures err { HasCleanDisk (state S.Store conn.new) → IsTrue (state S.Store conn.new).is_open
+        → (shape : _) → spans ≡ has_spans shape
+        → lives ≡ has_live shape → (c : _) → IsStored shape (state S.Store conn.old) c
+        → OnErr result (IsStored shape (state S.Store conn.new) c) }
+    ensures clean { HasCleanDisk (state S.Store conn.new) → HasCleanDisk (state S.Store conn.old) }
+{
+    let (history, is_first) = find_history(alloc, conn, spans, lives)?;
+    settle(alloc, conn, spans, lives, is_first, &history)?;
+    Ok(history)
+}
+
+/// The history that a database says, whose tables are those of version 2 afterwards; a database with none gets them.
+pub(crate) fn open_tables<S: Alter>(
+    alloc: Global,
+    conn: &mut Connection<S>,
+) -> Result<History, PublishFault>
+    requires autocommit { conn.old.in_transaction ≡ false }
+    ensures autocommit { conn.new.in_transaction ≡ false }
+    ensures bare { HasCleanDisk (state S.Store conn.new) → IsBare (state S.Store conn.old)
+        → IfOk result (λ h. HoldsHistory (state S.Store conn.new) h × (h ≡ [])) }
+    ensures found { HasCleanDisk (state S.Store conn.new) → (shape : _) (c : _)
+        → IsStored shape (state S.Store conn.old) c
+        → IfOk result (λ h. HoldsHistory (state S.Store conn.new) h × ((first : _)
+        × SaysAt first c h)) }
+    ensures none { HasCleanDisk (state S.Store conn.new) → IsTrue (state S.Store conn.new).is_open
+        → IsBare (state S.Store conn.old)
+        → OnErr result (FindsHistory (state S.Store conn.new) []) }
+    ensures same { HasCleanDisk (state S.Store conn.new) → IsTrue (state S.Store conn.new).is_open
+        → (shape : _) (c : _) → IsStored shape (state S.Store conn.old) c
+        → OnErr result (IsStored shape (state S.Store conn.new) c) }
+    ensures clean { HasCleanDisk (state S.Store conn.new) → HasCleanDisk (state S.Store conn.old) }
+{
+    order_of_rows_is_free();
+    let found = tables_in(conn.schema());
+    if found.common {
+        return open_found(alloc, conn, found.spans, found.lives);
+    }
+    match create(conn, !found.format) {
+        Ok(()) => open_found(alloc, conn, true, found.lives),
+        Err(error) => Err(fault_of(error)),
+    }
+}
+
+impl<S: Alter + Drop> Register<S> {
+    /// Opens the register in a database: tables that are not there are made, and those of version 1 are moved to version 2. Rows that are
+    /// no lawful history are refused, and nothing is changed. The connection comes back beside a fault, and its tables hold what they held.
+    pub fn adopt(
+        alloc: Global,
+        mut connection: Connection<S>,
+    ) -> Result<Register<S>, (Connection<S>, PublishFault)>
+        requires autocommit { connection.in_transaction ≡ false }
+        ensures bare { IfOk result (λ it. HasCleanDisk (state S.Store it.conn)
+            → IsBare (state S.Store connection)
+            → HoldsHistory (state S.Store it.conn) it.history × (it.history ≡ [])) }
+        ensures found { IfOk result (λ it. HasCleanDisk (state S.Store it.conn)
+            → (shape : _) (c : _) → IsStored shape (state S.Store connection) c
+            → HoldsHistory (state S.Store it.conn) it.history × ((first : _)
+            × SaysAt first c it.history)) }
+        ensures none { IfErr result (λ e. HasCleanDisk (state S.Store e.0)
+            → IsTrue (state S.Store e.0).is_open → IsBare (state S.Store connection)
+            → FindsHistory (state S.Store e.0) []) }
+        ensures same { IfErr result (λ e. HasCleanDisk (state S.Store e.0)
+            → IsTrue (state S.Store e.0).is_open → (shape : _) (c : _)
+            → IsStored shape (state S.Store connection) c → IsStored shape (state S.Store e.0) c) }
+        ensures clean { IfOk result (λ it. HasCleanDisk (state S.Store it.conn)
+            → HasCleanDisk (state S.Store connection)) }
+        ensures autocommit { IfErr result (λ e. e.0.in_transaction ≡ false) }
+    {
+        match open_tables(alloc, &mut connection) {
+            Ok(history) => Ok(Register::of(alloc, connection, history)),
+            Err(fault) => Err((connection, fault)),
+        }
+    }
+}

@@ -1,0 +1,44 @@
+//! A register in the files at a path.
+
+ghost use Rattle.std.specs.Prelude.{◌≡◌, [], IfOk};
+ghost use Rattle.sqlite_trees.specs.Objects.{catalog_tree};
+ghost use Rattle.sqlite_wal.specs.Files.{image_at};
+ghost use Rattle.sqlite.specs.Files.{HoldsDatabase, file_state};
+ghost use Rattle.sqlite.specs.State.{HasCleanDisk};
+ghost use Rattle.lpis_register.specs.Histories.{HoldsHistory};
+ghost use Rattle.lpis_register.specs.Holding.{Leaves};
+ghost use Rattle.lpis_register.specs.Opening.{SaysAt};
+
+use crate::fault::PublishFault;
+use crate::opening::fault_of;
+use crate::register::Register;
+use sqlite::{Connection, FileFrom, FileStore, Start};
+use std::alloc::Global;
+use std::rt::HostRuntime;
+
+impl<S: Start> Register<FileStore<FileFrom<S>>> {
+    /// Opens the register in the file at a path, or makes one; `start` stands for what the file holds. A file that is no database, that
+    /// another program has locked, or whose disk fails is the register's failure to store.
+    pub fn open_file(
+        rt: &HostRuntime,
+        alloc: Global,
+        path: &str,
+        start: S,
+    ) -> Result<Register<FileStore<FileFrom<S>>>, PublishFault>
+        ensures found { IfOk result (λ it. HasCleanDisk (file_state it.conn) → (db : _)
+            → HoldsDatabase (image_at S.Start) db → (shape : _) (c : _) → Leaves shape c db
+            → HoldsHistory (file_state it.conn) it.history × ((first : _)
+            × SaysAt first c it.history)) }
+        ensures made { IfOk result (λ it. HasCleanDisk (file_state it.conn) → (db : _)
+            → HoldsDatabase (image_at S.Start) db → db catalog_tree ≡ []
+            → HoldsHistory (file_state it.conn) it.history × (it.history ≡ [])) }
+    {
+        match Connection::open_from(rt, path, false, start) {
+            Ok(conn) => match Register::adopt(alloc, conn) {
+                Ok(register) => Ok(register),
+                Err((_, fault)) => Err(fault),
+            },
+            Err((error, _)) => Err(fault_of(error)),
+        }
+    }
+}
