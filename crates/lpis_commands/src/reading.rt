@@ -7,6 +7,7 @@ ghost use Rattle.lpis_commands.specs.Streams.{IsRead};
 ghost use Rattle.lpis_commands.specs.declared.reading.ReadFault.{ReadFault};
 
 use crate::failure::{Failure, Name};
+use lpis_rings::without_spare;
 use std::alloc::Global;
 use std::io::{ErrorKind, Read};
 use thiserror::Error;
@@ -96,12 +97,17 @@ fn read_by<R: Read>(
     Err(ReadFault::Read)
 }
 
-/// All bytes of an input, which has at most 1,073,741,824.
+/// All bytes of an input, which has at most 1,073,741,824, in a block of their number. The larger a
+/// freed block, the larger are those that the C library keeps after they are freed.
 pub(crate) fn read_input<R: Read + Drop>(alloc: Global, reader: R) -> Result<Vec<u8>, ReadFault>
     ensures all { IfOk result (λ v. IsRead v.items (R.remaining reader)) }
     ensures long { IsErrOf result ReadFault.TooLong → IfSome (R.remaining reader) (λ bytes. 1073741824 < length bytes) }
 {
-    read_all(alloc, reader, GREATEST_LIMIT)
+    let bytes = read_all(alloc, reader, GREATEST_LIMIT)?;
+    match without_spare(bytes) {
+        Ok(bytes) => Ok(bytes),
+        Err(_) => Err(ReadFault::Memory),
+    }
 }
 
 /// All bytes of the input of this name, or the failure that tells it.
