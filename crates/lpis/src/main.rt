@@ -75,6 +75,10 @@ fn perform(rt: &HostRuntime, command: Cmd<'_>) -> Result<u8, Failure> {
             let cert = open(rt, &cert)?;
             run_check(alloc, parcels, covers, classes, cert, &mut out)
         }
+        CommandFiles::Publish { .. } | CommandFiles::Trace { .. } => {
+            let printed = eprintln!(rt; "error: this command is not built yet");
+            usage_ends(ErrorKind::InvalidSubcommand, printed.is_ok())
+        }
     }
 }
 

@@ -1,9 +1,11 @@
 -- The program's command line.
-use Rattle.std.specs.Prelude.{◌≡◌, List, Option, Some, None, codes, true}
+use Rattle.std.specs.Prelude.{◌≡◌, ◌≤◌, ℕ, List, Option, Some, None, codes, true}
+use Rattle.std.specs.Str.Parse.{IsNumeral, digits_value, without_leading_plus}
 use Rattle.clap.specs.Words.{App, Row, Rule, Text, first_of, new_app, new_rule, with_rule, with_subcommand}
 use Rattle.clap.specs.declared.builder.ArgAction.TheVariants.{Set}
+use Rattle.clap.specs.declared.builder.value_parser.ValueParser.TheVariants.{Unsigned}
 use Rattle.lpis_commands.specs.declared.command.Cmd.{Cmd}
-use Rattle.lpis_commands.specs.declared.command.Cmd.TheVariants.{Area, Cut, Check}
+use Rattle.lpis_commands.specs.declared.command.Cmd.TheVariants.{Area, Cut, Check, Publish, Trace}
 
 -- a required argument of one word
 abbrev pub word_rule : Text → Rule
@@ -21,9 +23,30 @@ cut_app = with_rule (with_rule (new_app (codes "cut")) (word_rule (codes "dir"))
 abbrev pub check_app : App
 check_app = with_rule (with_rule (new_app (codes "check")) (word_rule (codes "dir"))) (word_rule (codes "cert"))
 
+-- YEAR, a number from 1 to 9999
+abbrev pub year_rule : Rule
+year_rule = record (word_rule (codes "year")) { parser = Some (Unsigned 1 9999) }
+
+-- publish DB YEAR
+abbrev pub publish_year_app : App
+publish_year_app =
+    with_rule (with_rule (new_app (codes "publish")) (word_rule (codes "db"))) year_rule
+
+-- publish DB YEAR DIR CERT
+abbrev pub publish_app : App
+publish_app =
+    with_rule (with_rule publish_year_app (word_rule (codes "dir"))) (word_rule (codes "cert"))
+
+-- trace DB ID
+abbrev pub trace_app : App
+trace_app =
+    with_rule (with_rule (new_app (codes "trace")) (word_rule (codes "db")))
+    (word_rule (codes "id"))
+
 -- a program with a version, which wants a command
 abbrev pub wanting_command : App → App
-wanting_command a = record a { top = record a.top { subcommand_required = true; has_version = true } }
+wanting_command a =
+    record a { top = record a.top { subcommand_required = true; has_version = true } }
 
 -- the program before its commands
 abbrev pub program_app : App
@@ -33,15 +56,32 @@ program_app = wanting_command (new_app (codes "lpis"))
 abbrev pub unchecked_app : App
 unchecked_app = with_subcommand (with_subcommand program_app area_app.top) cut_app.top
 
+-- the program with the commands that need no register
+abbrev pub unregistered_app : App
+unregistered_app = with_subcommand unchecked_app check_app.top
+
 -- the program with its commands
 abbrev pub command_line_app : App
-command_line_app = with_subcommand unchecked_app check_app.top
+command_line_app = with_subcommand (with_subcommand unregistered_app publish_app.top) trace_app.top
+
+-- the word is a year's: decimal digits, after a plus or none, of a number from 1 to 9999
+abbrev pub IsYear : Text → ℕ → Type 0
+IsYear word year =
+    IsNumeral 10 (without_leading_plus word)
+    × (year ≡ digits_value 10 (without_leading_plus word)) × (1 ≤ year) × (year ≤ 9999)
 
 -- the command has this name, and its words are those of its arguments
 abbrev pub IsNamed : Cmd → Text → List Row → Type 0
 IsNamed (Area file) name rows = (name ≡ codes "area") × (first_of (codes "file") rows ≡ Some file.now)
 IsNamed (Cut dir cert) name rows = (name ≡ codes "cut") × (first_of (codes "dir") rows ≡ Some dir.now) × (first_of (codes "cert") rows ≡ Some cert.now)
 IsNamed (Check dir cert) name rows = (name ≡ codes "check") × (first_of (codes "dir") rows ≡ Some dir.now) × (first_of (codes "cert") rows ≡ Some cert.now)
+IsNamed (Publish db year dir cert) name rows =
+    (name ≡ codes "publish") × (first_of (codes "db") rows ≡ Some db.now)
+    × ((word : Text) × (first_of (codes "year") rows ≡ Some word) × IsYear word year)
+    × (first_of (codes "dir") rows ≡ Some dir.now) × (first_of (codes "cert") rows ≡ Some cert.now)
+IsNamed (Trace db id) name rows =
+    (name ≡ codes "trace") × (first_of (codes "db") rows ≡ Some db.now)
+    × (first_of (codes "id") rows ≡ Some id.now)
 
 -- the command is the one that the words name, with its words
 abbrev pub IsCommand : Cmd → Option (Text × List Row) → Type 0

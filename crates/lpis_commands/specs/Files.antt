@@ -1,9 +1,9 @@
 -- The files of a command.
-use Rattle.std.specs.Prelude.{◌∷◌, [], ◌++◌, ℕ, List, codes, string_bytes}
+use Rattle.std.specs.Prelude.{◌≡◌, ◌∷◌, [], ◌++◌, ⊤, ℕ, List, codes, string_bytes}
 use Rattle.lpis_commands.specs.declared.command.Cmd.{Cmd}
 use Rattle.lpis_commands.specs.declared.command.Cmd.TheVariants as cmd
 use Rattle.lpis_commands.specs.declared.failure.Name.{Name}
-use Rattle.lpis_commands.specs.declared.failure.Name.TheVariants.{Area, Parcels, Covers, Classes, Cert}
+use Rattle.lpis_commands.specs.declared.failure.Name.TheVariants.{Area, Parcels, Covers, Classes, Cert, Lineage}
 use Rattle.lpis_commands.specs.declared.named.NamedFile.{NamedFile}
 use Rattle.lpis_commands.specs.declared.named.TableFiles.{TableFiles}
 use Rattle.lpis_commands.specs.declared.named.CommandFiles.{CommandFiles}
@@ -17,11 +17,15 @@ in_folder dir file = dir ++ codes "/" ++ file
 abbrev pub tables_in : List ℕ → List (List ℕ × Name)
 tables_in dir = (in_folder dir (codes "parcels.csv"), Parcels) ∷ (in_folder dir (codes "covers.csv"), Covers) ∷ (in_folder dir (codes "classes.csv"), Classes) ∷ []
 
--- the files of a command, in the order in which they are opened, each a path and the name by which a failure tells of it
+-- the files of a command beside its register, in the order in which they are opened, each a path
+-- and the name by which a failure tells of it
 abbrev pub files_of : Cmd → List (List ℕ × Name)
 files_of (cmd.Area file) = (file.now, Area) ∷ []
 files_of (cmd.Cut dir cert) = tables_in dir.now ++ (cert.now, Cert) ∷ []
 files_of (cmd.Check dir cert) = tables_in dir.now ++ (cert.now, Cert) ∷ []
+files_of (cmd.Publish db year dir cert) =
+    tables_in dir.now ++ (cert.now, Cert) ∷ (in_folder dir.now (codes "lineage.csv"), Lineage) ∷ []
+files_of (cmd.Trace db id) = []
 
 -- ---- what is seen of files
 abbrev pub shown : NamedFile → List ℕ × Name
@@ -34,3 +38,13 @@ abbrev pub listed : CommandFiles → List (List ℕ × Name)
 listed (files.Area table) = shown table ∷ []
 listed (files.Cut tables cert) = tables_listed tables ++ shown cert ∷ []
 listed (files.Check tables cert) = tables_listed tables ++ shown cert ∷ []
+listed (files.Publish db year tables cert lineage) =
+    tables_listed tables ++ shown cert ∷ shown lineage ∷ []
+listed (files.Trace db id) = []
+
+-- the register, and the year or the identifier, are those of the command
+abbrev pub HasWords : Cmd → CommandFiles → Type 0
+HasWords (cmd.Publish db year dir cert) (files.Publish d y tables c lineage) =
+    (d.now ≡ db.now) × (y ≡ year)
+HasWords (cmd.Trace db id) (files.Trace d i) = (d.now ≡ db.now) × (i.now ≡ id.now)
+HasWords _ _ = ⊤

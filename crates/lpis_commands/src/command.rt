@@ -1,10 +1,12 @@
 //! The command line.
 
 ghost use Rattle.std.specs.Prelude.{◌≡◌, IfOk, IfSome, Some, codes, false, map};
-ghost use Rattle.clap.specs.Words.{FailsBy, fault_of, first_of, found_of, rows_of, rule_of, subcommand_of};
-ghost use Rattle.lpis_commands.specs.Command.{IsCommand, IsNamed, area_app, check_app, command_line_app, cut_app, program_app, unchecked_app, word_rule};
+ghost use Rattle.clap.specs.Words.{FailsBy, Text, fault_of, first_of, found_of, rows_of, rule_of, subcommand_of};
+ghost use Rattle.lpis_commands.specs.Command.{IsCommand, IsNamed, IsYear, area_app, check_app, command_line_app, cut_app, program_app};
+ghost use Rattle.lpis_commands.specs.Command.{publish_app, publish_year_app, trace_app, unchecked_app, unregistered_app, word_rule, year_rule};
 ghost use Rattle.lpis_commands.specs.private.Commands.{IsCommandOf};
 
+use clap::builder::ValueParser;
 use clap::{Arg, ArgAction, ArgMatches, Command, Error};
 use std::alloc::{AllocError, Global};
 
@@ -32,6 +34,24 @@ pub enum Cmd<'a> {
         dir: &'a str,
         /// The certificate's path.
         cert: &'a str,
+    },
+    /// The check of a release, and its publication in a register.
+    Publish {
+        /// The register's path.
+        db: &'a str,
+        /// The release's year, from 1 to 9999.
+        year: u16,
+        /// The path of the folder of the release's tables.
+        dir: &'a str,
+        /// The certificate's path.
+        cert: &'a str,
+    },
+    /// What became of an identifier.
+    Trace {
+        /// The register's path.
+        db: &'a str,
+        /// The word that is to be an identifier.
+        id: &'a str,
     },
 }
 
@@ -71,6 +91,34 @@ fn dir_argument<'a>(alloc: Global) -> Arg<'a>
     described(dir, "A folder with parcels.csv, covers.csv and classes.csv")
 }
 
+/// The certificate of a release.
+fn cert_argument<'a>(alloc: Global) -> Arg<'a>
+    ensures rule { rule_of result ≡ word_rule (codes "cert") }
+    ensures local { result.global ≡ false }
+{
+    let cert = word_argument(alloc, "cert");
+    described(cert, "A certificate of triangles for the release")
+}
+
+/// The register of releases.
+fn db_argument<'a>(alloc: Global) -> Arg<'a>
+    ensures rule { rule_of result ≡ word_rule (codes "db") }
+    ensures local { result.global ≡ false }
+{
+    let db = word_argument(alloc, "db");
+    described(db, "The register of the published releases, an SQLite file")
+}
+
+/// The year of a release.
+fn year_argument<'a>(alloc: Global) -> Arg<'a>
+    ensures rule { rule_of result ≡ year_rule }
+    ensures local { result.global ≡ false }
+{
+    let year = word_argument(alloc, "year");
+    let year = described(year, "The release's year, a whole number from 1 to 9999");
+    year.value_parser(ValueParser::unsigned(1, 9999))
+}
+
 /// `cut DIR CERT`.
 fn cut_command<'a>(alloc: Global) -> Result<Command<'a>, AllocError>
     ensures { IfOk result (λ c. IsCommandOf cut_app c) }
@@ -89,12 +137,57 @@ fn check_command<'a>(alloc: Global) -> Result<Command<'a>, AllocError>
     ensures { IfOk result (λ c. IsCommandOf check_app c) }
 {
     let dir = dir_argument(alloc);
-    let cert = word_argument(alloc, "cert");
-    let cert = described(cert, "A certificate of triangles for the release");
+    let cert = cert_argument(alloc);
     Command::new(alloc, "check")
         .about("Checks a release against a certificate, and prints its report")
         .arg(dir)?
         .arg(cert)
+}
+
+/// The folder of a release that is published, which has a table more.
+fn published_dir_argument<'a>(alloc: Global) -> Arg<'a>
+    ensures rule { rule_of result ≡ word_rule (codes "dir") }
+    ensures local { result.global ≡ false }
+{
+    let dir = word_argument(alloc, "dir");
+    described(
+        dir,
+        "A folder with parcels.csv, covers.csv, classes.csv and lineage.csv",
+    )
+}
+
+/// `publish` with the register and the year.
+fn publish_command_for_year<'a>(alloc: Global) -> Result<Command<'a>, AllocError>
+    ensures { IfOk result (λ c. IsCommandOf publish_year_app c) }
+{
+    let db = db_argument(alloc);
+    let year = year_argument(alloc);
+    Command::new(alloc, "publish")
+        .about("Checks a release against a certificate, and adds it to a register")
+        .arg(db)?
+        .arg(year)
+}
+
+/// `publish DB YEAR DIR CERT`.
+fn publish_command<'a>(alloc: Global) -> Result<Command<'a>, AllocError>
+    ensures { IfOk result (λ c. IsCommandOf publish_app c) }
+{
+    let dir = published_dir_argument(alloc);
+    let cert = cert_argument(alloc);
+    publish_command_for_year(alloc)?.arg(dir)?.arg(cert)
+}
+
+/// `trace DB ID`.
+fn trace_command<'a>(alloc: Global) -> Result<Command<'a>, AllocError>
+    ensures { IfOk result (λ c. IsCommandOf trace_app c) }
+{
+    let db = db_argument(alloc);
+    let id = word_argument(alloc, "id");
+    let id = described(id, "The identifier of a parcel of any release");
+    Command::new(alloc, "trace")
+        .about("Prints the parcels of the last release that came of an earlier one")
+        .arg(db)?
+        .arg(id)
 }
 
 /// The program, before its commands: it has a version, and one of the commands has to be there.
@@ -116,13 +209,23 @@ fn line_without_check<'a>(alloc: Global) -> Result<Command<'a>, AllocError>
     program(alloc).subcommand(area)?.subcommand(cut)
 }
 
-/// The program's command line.
-fn command_line<'a>(alloc: Global) -> Result<Command<'a>, AllocError>
-    ensures { IfOk result (λ c. IsCommandOf command_line_app c) }
+/// The program with the commands that need no register.
+fn line_without_register<'a>(alloc: Global) -> Result<Command<'a>, AllocError>
+    ensures { IfOk result (λ c. IsCommandOf unregistered_app c) }
 {
     let check = check_command(alloc)?;
     let line = line_without_check(alloc)?;
     line.subcommand(check)
+}
+
+/// The program's command line.
+fn command_line<'a>(alloc: Global) -> Result<Command<'a>, AllocError>
+    ensures { IfOk result (λ c. IsCommandOf command_line_app c) }
+{
+    let publish = publish_command(alloc)?;
+    let trace = trace_command(alloc)?;
+    let line = line_without_register(alloc)?;
+    line.subcommand(publish)?.subcommand(trace)
 }
 
 /// The word of an argument.
@@ -130,6 +233,42 @@ fn word_of<'a>(matches: &ArgMatches<'a>, id: &str) -> Option<&'a str>
     ensures { IfSome result (λ word. first_of id.now (rows_of (found_of matches.now)) ≡ Some word.now) }
 {
     matches.get_str(id)
+}
+
+/// The year of an argument. Another number is none: `clap` lets no other through.
+fn year_of(matches: &ArgMatches<'_>, id: &str) -> Option<u16>
+    ensures { IfSome result (λ year. (word : Text) × (first_of id.now (rows_of (found_of matches.now)) ≡ Some word) × IsYear word year) }
+{
+    let word = word_of(matches, id)?;
+    match word.parse::<u16>() {
+        Ok(year) if (1..=9999).contains(&year) => Some(year),
+        _ => None,
+    }
+}
+
+/// `publish` with its words.
+fn publish_named<'a>(matches: &ArgMatches<'a>) -> Option<Cmd<'a>>
+    ensures { IfSome result (λ c. IsNamed c (codes "publish") (rows_of (found_of matches.now))) }
+{
+    let db = word_of(matches, "db")?;
+    let year = year_of(matches, "year")?;
+    let dir = word_of(matches, "dir")?;
+    let cert = word_of(matches, "cert")?;
+    Some(Cmd::Publish {
+        db,
+        year,
+        dir,
+        cert,
+    })
+}
+
+/// `trace` with its words.
+fn trace_named<'a>(matches: &ArgMatches<'a>) -> Option<Cmd<'a>>
+    ensures { IfSome result (λ c. IsNamed c (codes "trace") (rows_of (found_of matches.now))) }
+{
+    let db = word_of(matches, "db")?;
+    let id = word_of(matches, "id")?;
+    Some(Cmd::Trace { db, id })
 }
 
 /// The command of this name, with its words.
@@ -151,6 +290,8 @@ fn command_named<'a>(name: &str, matches: &ArgMatches<'a>) -> Option<Cmd<'a>>
             let cert = word_of(matches, "cert")?;
             Some(Cmd::Check { dir, cert })
         }
+        "publish" => publish_named(matches),
+        "trace" => trace_named(matches),
         _ => None,
     }
 }

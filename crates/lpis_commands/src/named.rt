@@ -1,7 +1,7 @@
 //! The files of a command.
 
 ghost use Rattle.std.specs.Prelude.{◌≡◌, IfOk};
-ghost use Rattle.lpis_commands.specs.Files.{files_of, in_folder, listed, shown, tables_in, tables_listed};
+ghost use Rattle.lpis_commands.specs.Files.{HasWords, files_of, in_folder, listed, shown, tables_in, tables_listed};
 
 use crate::command::Cmd;
 use crate::failure::Name;
@@ -27,9 +27,9 @@ pub struct TableFiles {
     pub classes: NamedFile,
 }
 
-/// The files of a command, in the order in which they are opened.
+/// The files of a command, in the order in which they are opened, with the words that its run is handed.
 #[derive(Debug, Drop)]
-pub enum CommandFiles {
+pub enum CommandFiles<'a> {
     /// Of `area`.
     Area {
         /// A table of polygons alone.
@@ -48,6 +48,26 @@ pub enum CommandFiles {
         tables: TableFiles,
         /// The certificate.
         cert: NamedFile,
+    },
+    /// Of `publish`.
+    Publish {
+        /// The path of the register, which is opened before the files.
+        db: &'a str,
+        /// The release's year.
+        year: u16,
+        /// The tables of a release.
+        tables: TableFiles,
+        /// The certificate.
+        cert: NamedFile,
+        /// The lineage table.
+        lineage: NamedFile,
+    },
+    /// Of `trace`: none beside the register.
+    Trace {
+        /// The path of the register.
+        db: &'a str,
+        /// The word that is to be an identifier.
+        id: &'a str,
     },
 }
 
@@ -79,8 +99,9 @@ fn tables_of(alloc: Global, dir: &str) -> Result<TableFiles, AllocError>
 }
 
 /// The files of a command, by its words.
-pub fn named_files(alloc: Global, command: Cmd<'_>) -> Result<CommandFiles, AllocError>
-    ensures { IfOk result (λ i. listed i ≡ files_of command.entry) }
+pub fn named_files<'a>(alloc: Global, command: Cmd<'a>) -> Result<CommandFiles<'a>, AllocError>
+    ensures files { IfOk result (λ i. listed i ≡ files_of command.entry) }
+    ensures words { IfOk result (HasWords command.entry) }
 {
     match command {
         Cmd::Area { file } => Ok(CommandFiles::Area {
@@ -94,5 +115,18 @@ pub fn named_files(alloc: Global, command: Cmd<'_>) -> Result<CommandFiles, Allo
             tables: tables_of(alloc, dir)?,
             cert: file_at(alloc, cert, Name::Cert)?,
         }),
+        Cmd::Publish {
+            db,
+            year,
+            dir,
+            cert,
+        } => Ok(CommandFiles::Publish {
+            db,
+            year,
+            tables: tables_of(alloc, dir)?,
+            cert: file_at(alloc, cert, Name::Cert)?,
+            lineage: file_in(alloc, dir, "lineage.csv", Name::Lineage)?,
+        }),
+        Cmd::Trace { db, id } => Ok(CommandFiles::Trace { db, id }),
     }
 }
