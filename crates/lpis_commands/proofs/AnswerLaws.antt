@@ -14,9 +14,10 @@ use Rattle.lpis_checker.specs.declared.fault.CheckFault.TheVariants as check
 use Rattle.lpis_checker.specs.Codes.{code_of}
 use Rattle.lpis_checker.specs.FirstFault.{IsEarlier, IsFault, IsFirst, place_of}
 use Rattle.lpis_checker.specs.GoodCertificate.{IsGood}
-use Rattle.lpis_commands.specs.CheckAnswer.{Answer, Inputs, IsAnswer, IsCertAnswer, IsCheckAnswer, IsReleaseAnswer}
+use Rattle.lpis_commands.specs.CheckAnswer.{Answer, Inputs, IsAnswer, IsCertAnswer, IsCheckAnswer, IsReleaseAnswer, IsTableAnswer}
 use Rattle.lpis_commands.specs.Refusals.{check_refusal_text}
-use Rattle.lpis_commands.specs.Status.{refused}
+use Rattle.lpis_commands.specs.Report.{report_text}
+use Rattle.lpis_commands.specs.Status.{done, refused}
 
 -- of two numbers one is below the other, or they are equal
 three : (i j : ℕ) → (i < j) ⊎ ((j < i) ⊎ (i ≡ j))
@@ -137,23 +138,35 @@ one_fault r c q s a b f g =
 good_or_not : (r : Contents) (c : Cert) (q : Condition) (a : Site) → IsGood r c → IsFault r c q a → ⊥
 good_or_not r c q a good f = f.first.fails (good.holds q a)
 
-check_answer : (r : Contents) (c : Cert) (a b : Answer) → IsCheckAnswer r c a → IsCheckAnswer r c b → a ≡ b
+check_answer : (r : Contents) (c : Cert) (good a b : Answer) → IsCheckAnswer r c good a → IsCheckAnswer r c good b → a ≡ b
 unfolding fault_line
-check_answer r c a b (inl x) (inl y) = x.1 ∙ sym y.1
-check_answer r c a b (inl x) (inr y) = absurd (good_or_not r c y.0 y.1 x.0 y.2)
-check_answer r c a b (inr x) (inl y) = absurd (good_or_not r c x.0 x.1 y.0 x.2)
-check_answer r c a b (inr x) (inr y) = x.3 ∙ one_fault r c x.0 y.0 x.1 y.1 x.2 y.2 ∙ sym y.3
+check_answer r c good a b (inl x) (inl y) = x.1 ∙ sym y.1
+check_answer r c good a b (inl x) (inr y) = absurd (good_or_not r c y.0 y.1 x.0 y.2)
+check_answer r c good a b (inr x) (inl y) = absurd (good_or_not r c x.0 x.1 y.0 x.2)
+check_answer r c good a b (inr x) (inr y) = x.3 ∙ one_fault r c x.0 y.0 x.1 y.1 x.2 y.2 ∙ sym y.3
 
-cert_answer : (r : Contents) (text : List ℕ) (said : Result ℕ (CertCode × ℕ)) (a b : Answer) → IsCertAnswer r text said a → IsCertAnswer r text said b → a ≡ b
-cert_answer r text (Err fault) a b x y = x ∙ sym y
-cert_answer r text (Ok lines) a b x y =
+-- what leaves no choice
+Decides : (Answer → Type 0) → Type 0
+Decides IsNext = (a b : Answer) → IsNext a → IsNext b → a ≡ b
+
+cert_answer : (IsNext : Cert → Answer → Type 0) (text : List ℕ) (said : Result ℕ (CertCode × ℕ)) → ((c : Cert) → Decides (IsNext c))
+    → Decides (IsCertAnswer IsNext text said)
+unfolding Decides
+cert_answer IsNext text (Err fault) one a b x y = x ∙ sym y
+cert_answer IsNext text (Ok lines) one a b x y =
     let same = one_cert x.0 y.0 (sym x.1 ∙ y.1) in
-    check_answer r y.0 a b (subst (λ (c : Cert). IsCheckAnswer r c a) same x.2) y.2
+    one y.0 a b (subst (λ (c : Cert). IsNext c a) same x.2) y.2
 
-release_answer : (text : List ℕ) (said : Result Contents TableFault) (a b : Answer) → IsReleaseAnswer text said a → IsReleaseAnswer text said b → a ≡ b
-release_answer text (Err fault) a b x y = x ∙ sym y
-release_answer text (Ok r) a b x y = cert_answer r text (verdict text) a b x y
+table_answer : {A : Type 0} (IsNext : A → Answer → Type 0) (said : Result A TableFault) → ((x : A) → Decides (IsNext x)) → Decides (IsTableAnswer IsNext said)
+unfolding Decides
+table_answer IsNext (Err fault) one a b x y = x ∙ sym y
+table_answer IsNext (Ok v) one a b x y = one v a b x y
+
+release_answer : (text : List ℕ) (r : Contents) → Decides (IsReleaseAnswer text r)
+unfolding Decides
+release_answer text r = cert_answer (λ c. IsCheckAnswer r c (report_text r, done)) text (verdict text) (λ c. check_answer r c (report_text r, done))
 
 -- the inputs of a check have one answer
 pub one_answer : (x : Inputs) (a b : Answer) → IsAnswer x a → IsAnswer x b → a ≡ b
-one_answer x a b f g = release_answer x.cert (release_of x.parcels x.covers x.classes) a b f g
+unfolding Decides
+one_answer x a b f g = table_answer (IsReleaseAnswer x.cert) (release_of x.parcels x.covers x.classes) (release_answer x.cert) a b f g

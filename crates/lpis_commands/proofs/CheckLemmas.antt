@@ -8,12 +8,12 @@ use Rattle.lpis_cert.specs.Faults.{verdict}
 use Rattle.lpis_cert.proofs.LawProofs.{no_fault}
 use Rattle.lpis_checker.specs.GoodCertificate.{IsGood}
 use Rattle.lpis_checker.specs.SoundMap.{IsSoundMap}
-use Rattle.lpis_commands.specs.CheckAnswer.{Answer, Inputs, IsCertAnswer, IsCheckAnswer, IsProved}
+use Rattle.lpis_commands.specs.CheckAnswer.{Answer, Inputs, IsCertAnswer, IsProved}
 
 -- the text of a certificate has no fault, so its answer is the certificate's
-pub answer-of-text : (r : Contents) (text : List ℕ) (c : Cert) (a : Answer) → text ≡ cert_text c → IsCheckAnswer r c a → IsCertAnswer r text (verdict text) a
-answer-of-text r text c a e h =
-    subst (λ (said : Result ℕ (CertCode × ℕ)). IsCertAnswer r text said a) (sym (ap verdict e ∙ no_fault c)) (c, e, h)
+pub answer-of-text : (IsNext : Cert → Answer → Type 0) (text : List ℕ) (c : Cert) (a : Answer) → text ≡ cert_text c → IsNext c a → IsCertAnswer IsNext text (verdict text) a
+answer-of-text IsNext text c a e h =
+    subst (λ (said : Result ℕ (CertCode × ℕ)). IsCertAnswer IsNext text said a) (sym (ap verdict e ∙ no_fault c)) (c, e, h)
 
 pub proved-of : (x : Inputs) (r : Contents) → release_of x.parcels x.covers x.classes ≡ Ok r → IsSoundMap r → (c : Cert) → x.cert ≡ cert_text c → IsGood r c → IsProved x
 proved-of x r tables sound c text good = record { release = r; tables = tables; sound = sound; certificate = c; text = text; good = good }

@@ -2,6 +2,7 @@ pub mod AnswerLaws
 pub mod AreaLemmas
 pub mod CheckLemmas
 pub mod CommandLemmas
+pub mod PublishLemmas
 pub mod ReadLemmas
 pub mod RefusalLemmas
 pub mod ReportLemmas

@@ -34,25 +34,31 @@ pub record Inputs : Type 0 where
 abbrev pub Answer : Type 0
 Answer = List ℕ × ℕ
 
--- of a release and a certificate: the report where the certificate is good, or the line of the lowest code that fails, with its
+-- of a release and a certificate: this answer where the certificate is good, else the line of the lowest code that fails, with its
 -- first place
-abbrev pub IsCheckAnswer : Contents → Cert → Answer → Type 0
-IsCheckAnswer r c a =
-    (IsGood r c × (a ≡ (report_text r, done))) ⊎ ((code : Condition) × (site : Site) × IsFault r c code site × (a ≡ (check_refusal_text (check.At code (place_of r c site)), refused)))
+abbrev pub IsCheckAnswer : Contents → Cert → Answer → Answer → Type 0
+IsCheckAnswer r c good a =
+    (IsGood r c × (a ≡ good))
+    ⊎ ((code : Condition) × (site : Site) × IsFault r c code site
+    × (a ≡ (check_refusal_text (check.At code (place_of r c site)), refused)))
 
--- of a release and a text: the line of the text's first fault, or the answer to the certificate whose text it is
-abbrev pub IsCertAnswer : Contents → List ℕ → Result ℕ (CertCode × ℕ) → Answer → Type 0
-IsCertAnswer r text (Err fault) a = a ≡ (cert_refusal_text (cert.At fault.0 fault.1), unreadable)
-IsCertAnswer r text (Ok lines) a = (c : Cert) × (text ≡ cert_text c) × IsCheckAnswer r c a
+-- of a text: the line of its first fault, or the answer to the certificate whose text it is
+abbrev pub IsCertAnswer : (Cert → Answer → Type 0) → List ℕ → Result ℕ (CertCode × ℕ) → Answer → Type 0
+IsCertAnswer IsNext text (Err fault) a = a ≡ (cert_refusal_text (cert.At fault.0 fault.1), unreadable)
+IsCertAnswer IsNext text (Ok lines) a = (c : Cert) × (text ≡ cert_text c) × IsNext c a
 
--- of a text and a release, or the tables' first fault: the line of that fault, or the answer to the release and the text
-abbrev pub IsReleaseAnswer : List ℕ → Result Contents TableFault → Answer → Type 0
-IsReleaseAnswer text (Err fault) a = a ≡ (refusal_text fault, unreadable)
-IsReleaseAnswer text (Ok r) a = IsCertAnswer r text (verdict text) a
+-- of what tables say: the line of their first fault, or the answer to what they say
+abbrev pub IsTableAnswer : {A : Type 0} → (A → Answer → Type 0) → Result A TableFault → Answer → Type 0
+IsTableAnswer IsNext (Err fault) a = a ≡ (refusal_text fault, unreadable)
+IsTableAnswer IsNext (Ok said) a = IsNext said a
+
+-- of a release and the text of a certificate: the report where the certificate is good
+abbrev pub IsReleaseAnswer : List ℕ → Contents → Answer → Type 0
+IsReleaseAnswer text r = IsCertAnswer (λ c. IsCheckAnswer r c (report_text r, done)) text (verdict text)
 
 -- the answer to three tables and a certificate: faults of the tables come first, then those of the certificate's text
 abbrev pub IsAnswer : Inputs → Answer → Type 0
-IsAnswer x a = IsReleaseAnswer x.cert (release_of x.parcels x.covers x.classes) a
+IsAnswer x = IsTableAnswer (IsReleaseAnswer x.cert) (release_of x.parcels x.covers x.classes)
 
 -- the run answered with this status, and wrote the text
 abbrev pub Checks : Inputs → ℕ → Option (List ℕ) → Option (List ℕ) → Type 0

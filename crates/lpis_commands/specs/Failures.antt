@@ -36,3 +36,9 @@ IsUnreadRelease parcels covers failure =
 abbrev pub IsUnchecked : (parcels covers classes : Option (List ℕ)) → Failure → Type 0
 IsUnchecked parcels covers classes failure =
     IsUnreadRelease parcels covers failure ⊎ (IsWithin parcels × IsWithin covers × IsWithin classes × (failure ≡ Read Cert))
+
+-- so it is of these, or the lineage table was not read, while they were
+abbrev pub IsUnpublished : (parcels covers classes cert : Option (List ℕ)) → Failure → Type 0
+IsUnpublished parcels covers classes cert failure =
+    IsUnchecked parcels covers classes failure
+    ⊎ (IsWithin parcels × IsWithin covers × IsWithin classes × IsWithin cert × (failure ≡ Read Lineage))

@@ -2,4 +2,5 @@
 pub mod CheckRuns
 pub mod Commands
 pub mod CutRuns
+pub mod PublishRuns
 pub mod Runs

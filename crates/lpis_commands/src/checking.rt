@@ -2,11 +2,10 @@
 
 ghost use Rattle.std.specs.Prelude.{◌≡◌, IfErr, IfOk};
 ghost use Rattle.lpis_cert.specs.Contents.{cert_text};
-ghost use Rattle.lpis_cert.specs.Faults.{verdict};
 ghost use Rattle.lpis_cert.specs.declared.cert.Cert.{Cert};
 ghost use Rattle.lpis_checker.specs.GoodCertificate.{IsGood};
 ghost use Rattle.lpis_checker.specs.SoundMap.{IsSoundMap};
-ghost use Rattle.lpis_commands.specs.CheckAnswer.{AreRead, Ends, Halts, Inputs, IsAnswer, IsCertAnswer, IsCheckAnswer, IsProved};
+ghost use Rattle.lpis_commands.specs.CheckAnswer.{AreRead, Ends, Halts, Inputs, IsAnswer, IsCheckAnswer, IsProved, IsReleaseAnswer};
 ghost use Rattle.lpis_commands.specs.private.CheckRuns.{inputs_of};
 ghost use Rattle.lpis_commands.specs.Failures.{IsUnchecked};
 ghost use Rattle.lpis_commands.specs.Refusals.{cert_refusal_text, check_refusal_text, refusal_text};
@@ -30,13 +29,13 @@ use std::io::{Read, Write};
 
 /// The bytes of three tables and a certificate.
 #[derive(Drop)]
-struct InputBytes {
-    tables: TableBytes,
-    cert: Vec<u8>,
+pub(crate) struct InputBytes {
+    pub tables: TableBytes,
+    pub cert: Vec<u8>,
 }
 
 /// The line of a text that is no certificate.
-fn refuse_text(alloc: Global, fault: &CertFault) -> Result<Answer, AllocError>
+pub(crate) fn refuse_text(alloc: Global, fault: &CertFault) -> Result<Answer, AllocError>
     ensures { IfOk result (λ a. (a.text.items ≡ cert_refusal_text fault.now) × (a.status ≡ unreadable)) }
 {
     let mut text = Vec::new(alloc);
@@ -50,7 +49,7 @@ fn refuse_text(alloc: Global, fault: &CertFault) -> Result<Answer, AllocError>
 }
 
 /// The line of a certificate that is not good.
-fn refuse_cert(alloc: Global, fault: &CheckFault) -> Result<Answer, AllocError>
+pub(crate) fn refuse_cert(alloc: Global, fault: &CheckFault) -> Result<Answer, AllocError>
     ensures { IfOk result (λ a. (a.text.items ≡ check_refusal_text fault.now) × (a.status ≡ refused)) }
 {
     let mut text = Vec::new(alloc);
@@ -76,7 +75,7 @@ fn report(alloc: Global, yes: &Yes<'_>) -> Result<Answer, AllocError>
 
 /// The answer to a release and a certificate.
 fn answer_to_cert(alloc: Global, release: &Release, cert: &Cert) -> Result<Answer, AllocError>
-    ensures answer { IfOk result (λ a. IsCheckAnswer release.now cert.now (a.text.items, a.status)) }
+    ensures answer { IfOk result (λ a. IsCheckAnswer release.now cert.now (report_text release.now, done) (a.text.items, a.status)) }
     ensures proved { IfOk result (λ a. a.status ≡ done → IsSoundMap release.now × IsGood release.now cert.now) }
 {
     match check(alloc, release, cert, &Sweep) {
@@ -92,7 +91,7 @@ fn answer_to_cert(alloc: Global, release: &Release, cert: &Cert) -> Result<Answe
 
 /// The answer to a release and the text of a certificate.
 fn answer_to_text(alloc: Global, release: &Release, text: &[u8]) -> Result<Answer, AllocError>
-    ensures answer { IfOk result (λ a. IsCertAnswer release.now text.now (verdict text.now) (a.text.items, a.status)) }
+    ensures answer { IfOk result (λ a. IsReleaseAnswer text.now release.now (a.text.items, a.status)) }
     ensures proved { IfOk result (λ a. a.status ≡ done → IsSoundMap release.now × ((c : Cert) × (text.now ≡ cert_text c) × IsGood release.now c)) }
 {
     match read_cert(alloc, text) {
@@ -118,7 +117,7 @@ fn answer_to(alloc: Global, inputs: &InputBytes) -> Result<Answer, AllocError>
 }
 
 /// All bytes of the inputs, which are read in this order.
-fn read_inputs<P: Read + Drop, C: Read + Drop, K: Read + Drop, E: Read + Drop>(
+pub(crate) fn read_inputs<P: Read + Drop, C: Read + Drop, K: Read + Drop, E: Read + Drop>(
     alloc: Global,
     parcels: P,
     covers: C,

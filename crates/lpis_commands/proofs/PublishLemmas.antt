@@ -1,0 +1,147 @@
+-- What a history answers to a release, and what is known of a release that was added to it.
+use Rattle.std.proofs.Common.{◌≡◌, ◌≢◌, ◌∙◌, ◌≤◌, ◌<◌, ◌⊎◌, ◌++◌, ◌∷◌, [], inl, inr, refl, sym, ap, ap₂, subst, arith, ℕ, List, Bool, true, false, Option, Some, None, Result, Ok, Err}
+use Rattle.std.specs.Prelude.{nat_le, IfErr, IfOk, OnOk}
+use Rattle.std.specs.Io.KnownBytes.{Appends}
+use Rattle.std.specs.List.{flat_map, list_any}
+use Rattle.std.proofs.lemmas.Bool.Decides.{leb_tells}
+use Rattle.std.proofs.lemmas.List.Concat.{flat_map-cons}
+use Rattle.lpis_covers.specs.Faults.{rows_of}
+use Rattle.lpis_covers.specs.Ids.{has_id}
+use Rattle.lpis_parcels.specs.Release.{Contents, parcel_ids, release_of}
+use Rattle.lpis_lineage.specs.declared.fault.LineageFault.{LineageFault}
+use Rattle.lpis_lineage.specs.declared.kind.Kind.{Kind}
+use Rattle.lpis_lineage.specs.declared.row.Entry.{Entry}
+use Rattle.lpis_lineage.specs.declared.row.Row.{Row}
+use Rattle.lpis_lineage.specs.Changes.{Changes, IsChange, dropped, kind_at}
+use Rattle.lpis_lineage.specs.Descendants.{leads}
+use Rattle.lpis_lineage.specs.Faults.{faults, first}
+use Rattle.lpis_lineage.specs.Kinds.{kind}
+use Rattle.lpis_lineage.specs.Lawful.{IsAnswered}
+use Rattle.lpis_lineage.specs.Lineage.{ended, is_of, last_live, last_year, names, succeeded}
+use Rattle.lpis_lineage.specs.LineageTable.{lineage_table}
+use Rattle.lpis_lineage.specs.private.Follows.{Follows}
+use Rattle.lpis_lineage.proofs.Basics.{and-right}
+use Rattle.lpis_lineage.proofs.Clean.{follows-from-clean, mono}
+use Rattle.lpis_lineage.proofs.RowCounts.{counted-ended}
+use Rattle.lpis_register.specs.declared.fault.PublishFault.TheVariants as publish
+use Rattle.lpis_cert.specs.declared.cert.Cert.{Cert}
+use Rattle.lpis_cert.specs.Contents.{cert_text}
+use Rattle.lpis_checker.specs.GoodCertificate.{IsGood}
+use Rattle.lpis_checker.specs.SoundMap.{IsSoundMap}
+use Rattle.lpis_commands.specs.CheckAnswer.{Answer}
+use Rattle.lpis_commands.specs.LineageLines.{lineage_line, lineage_lines, publish_refusal_text, published_line}
+use Rattle.lpis_commands.specs.declared.failure.Failure.{Failure}
+use Rattle.lpis_commands.specs.Report.{report_text}
+use Rattle.lpis_commands.specs.PublishAnswer.{Ends, IsContinued, IsPublishAnswer, IsPublished, Moves, Publication, history_answer, lineage_answer, publication_text}
+use Rattle.lpis_commands.specs.Status.{done, refused}
+use Rattle.lpis_commands.specs.private.PublishRuns.{IsAdded}
+
+-- ---- the lines of a change
+same-lines : {A : Type 0} (f g : A → List ℕ) (xs : List A) → ((x : A) → f x ≡ g x) → flat_map f xs ≡ flat_map g xs
+same-lines f g [] e = refl
+same-lines f g (x ∷ xs) e = flat_map-cons f x xs ∙ ap₂ (λ (a b : List ℕ). a ++ b) (e x) (same-lines f g xs e) ∙ sym (flat_map-cons g x xs)
+
+-- a change has the lines of the identifiers that are dropped
+pub change-lines : (last live : List (List ℕ)) (rows : List Row) (c : Changes) → IsChange last live rows c
+    → flat_map (lineage_line (kind_at c)) c.dropped_ids ≡ lineage_lines last live rows
+change-lines last live rows c is =
+    ap (flat_map (lineage_line (kind_at c))) is.dropped_are
+    ∙ same-lines (lineage_line (kind_at c)) (lineage_line (kind last live rows)) (dropped last live) (λ id. ap (λ (k : Option Kind). lineage_line (λ _. k) id) (is.kinds_are id))
+
+-- ---- the answer of a history
+answer-parts : {t u : List ℕ} {n m : ℕ} → t ≡ u → n ≡ m → ◌≡◌ {A = Answer} (t, n) (u, m)
+answer-parts a b = cc (a, b)
+
+late : (h : List Entry) (year : ℕ) (r : Contents) (rows : List Row) → nat_le year (last_year h) ≡ true → history_answer h year r rows ≡ (publish_refusal_text (publish.Year (last_year h)), refused)
+late h year r rows e = rw e refl
+
+not-late : (h : List Entry) (year : ℕ) (r : Contents) (rows : List Row) → nat_le year (last_year h) ≡ false
+    → history_answer h year r rows ≡ lineage_answer (publication_text h year r rows) (first (faults h (parcel_ids r.parcels) rows))
+not-late h year r rows e = rw e refl
+
+pub answer-late : (h : List Entry) (year : ℕ) (r : Contents) (rows : List Row) → year ≤ last_year h
+    → history_answer h year r rows ≡ (publish_refusal_text (publish.Year (last_year h)), refused)
+answer-late h year r rows is = elim (leb_tells year (last_year h)) [ inl t ↦ late h year r rows t.0 | inr f ↦ let no : ⊥ = omega (arith, is, f.1) in absurd no ]
+
+pub answer-later : (h : List Entry) (year : ℕ) (r : Contents) (rows : List Row) → last_year h < year
+    → history_answer h year r rows ≡ lineage_answer (publication_text h year r rows) (first (faults h (parcel_ids r.parcels) rows))
+answer-later h year r rows is = elim (leb_tells year (last_year h)) [ inl t ↦ let no : ⊥ = omega (arith, is, t.1) in absurd no | inr f ↦ not-late h year r rows f.0 ]
+
+first-none : (fs : List LineageFault) → first fs ≡ None → fs ≡ []
+first-none [] e = refl
+first-none (f ∷ fs) e = cc e
+
+lineage-done : (text : List ℕ) (o : Option LineageFault) → (lineage_answer text o).1 ≡ done → o ≡ None
+lineage-done text None e = refl
+lineage-done text (Some fault) e = cc e
+
+-- the answer is a yes only where the release may follow
+pub answer-done : (h : List Entry) (year : ℕ) (r : Contents) (rows : List Row) → (history_answer h year r rows).1 ≡ done
+    → (last_year h < year) × (faults h (parcel_ids r.parcels) rows ≡ [])
+answer-done h year r rows e = elim (leb_tells year (last_year h)) [
+  | inl t ↦ absurd (let no : refused ≡ done = sym (ap (λ (a : Answer). a.1) (late h year r rows t.0)) ∙ e in cc)
+  | inr f ↦ (f.1, first-none _ (lineage-done (publication_text h year r rows) _ (sym (ap (λ (a : Answer). a.1) (not-late h year r rows f.0)) ∙ e)))
+]
+
+-- what is told of a change is the answer where the release may follow
+pub answer-told : (h : List Entry) (year : ℕ) (r : Contents) (rows : List Row) (c : Changes) (text : List ℕ) (status : ℕ) → last_year h < year → faults h (parcel_ids r.parcels) rows ≡ []
+    → IsChange (last_live h) (parcel_ids r.parcels) rows c → text ≡ report_text r ++ flat_map (lineage_line (kind_at c)) c.dropped_ids ++ published_line year → status ≡ done
+    → ◌≡◌ {A = Answer} (text, status) (history_answer h year r rows)
+answer-told h year r rows c text status later clean is lines is_done =
+    answer-parts (lines ∙ ap (λ (t : List ℕ). report_text r ++ t ++ published_line year) (change-lines (last_live h) (parcel_ids r.parcels) rows c is)) is_done
+    ∙ sym (answer-later h year r rows later ∙ ap (λ (fs : List LineageFault). lineage_answer (publication_text h year r rows) (first fs)) clean)
+
+pub answer-of-year : (h : List Entry) (year last : ℕ) (r : Contents) (rows : List Row) (text : List ℕ) (status : ℕ) → year ≤ last_year h → last ≡ last_year h
+    → text ≡ publish_refusal_text (publish.Year last) → status ≡ refused → ◌≡◌ {A = Answer} (text, status) (history_answer h year r rows)
+answer-of-year h year last r rows text status below is line is_refused =
+    answer-parts (line ∙ ap (λ (n : ℕ). publish_refusal_text (publish.Year n)) is) is_refused ∙ sym (answer-late h year r rows below)
+
+pub answer-of-lineage : (h : List Entry) (year : ℕ) (fault : LineageFault) (r : Contents) (rows : List Row) (text : List ℕ) (status : ℕ) → last_year h < year
+    → first (faults h (parcel_ids r.parcels) rows) ≡ Some fault → text ≡ publish_refusal_text (publish.Lineage fault) → status ≡ refused
+    → ◌≡◌ {A = Answer} (text, status) (history_answer h year r rows)
+answer-of-lineage h year fault r rows text status later is line is_refused =
+    answer-parts line is_refused
+    ∙ sym (answer-later h year r rows later ∙ ap (lineage_answer (publication_text h year r rows)) is)
+
+-- ---- answers of calls
+pub both-ok : {A E : Type 0} (r : Result A E) (P Q : A → Type 0) → IfOk r P → IfOk r Q → IfOk r (λ a. P a × Q a)
+both-ok (Ok a) P Q p q = (p, q)
+both-ok (Err e) P Q p q = tt
+
+-- what was written is the answer, and the status is told
+pub ends-of : (x : Publication) (a : Answer) (h k : List Entry) (old new : Option (List ℕ)) (r : Result ℕ Failure) → IsPublishAnswer x h a → Moves x a.1 h k
+    → IfOk r (λ status. status ≡ a.1) → OnOk r (Appends old new a.0) → IfOk r (λ status. Ends x status h k old new)
+ends-of x a h k old new (Ok status) answer moves is written =
+    record {
+      text = a.0;
+      answer = subst (λ (n : ℕ). IsPublishAnswer x h (a.0, n)) (sym is) answer;
+      written = written;
+      moves = subst (λ (n : ℕ). Moves x n h k) (sym is) moves;
+    }
+ends-of x a h k old new (Err failure) answer moves is written = tt
+
+-- what follows of each failure
+pub weaker-err : {A E : Type 0} (r : Result A E) (P Q : E → Type 0) → ((e : E) → P e → Q e) → IfErr r P → IfErr r Q
+weaker-err (Ok a) P Q into h = tt
+weaker-err (Err e) P Q into h = into e h
+
+-- ---- a release that was added
+continued-of : (live : List (List ℕ)) (rows : List Row) (id : List ℕ) → ((s : List ℕ) → list_any (names s) rows ≡ true → has_id live s ≡ true) → IsAnswered rows id → IsContinued live rows id
+continued-of live rows id named (inl ending) = inl (counted-ended rows id ending.0)
+continued-of live rows id named (inr heirs) = inr (heirs.1, λ s is. named s (mono (leads id s) (names s) rows (λ row. and-right (is_of id row) (names s row)) is))
+
+pub published-of : (x : Publication) (r : Contents) (c : Cert) (rows : List Row) (h k : List Entry) → release_of x.checked.parcels x.checked.covers x.checked.classes ≡ Ok r → IsSoundMap r
+    → x.checked.cert ≡ cert_text c → IsGood r c → rows_of lineage_table x.lineage ≡ Ok rows → IsAdded x.year r rows h k → IsPublished x h k
+published-of x r c rows h k tables sound text good table added =
+    let live = parcel_ids r.parcels in
+    let follows = follows-from-clean h live rows added.clean in
+    record {
+      proved = record { release = r; tables = tables; sound = sound; certificate = c; text = text; good = good };
+      rows = rows;
+      lineage = table;
+      later = added.later;
+      adds = added.adds;
+      continued = λ id was gone. continued-of live rows id follows.named (follows.answered id was gone);
+      unused = λ id i now held. follows.not_used id i held now;
+      ascend = added.ascend;
+    }
