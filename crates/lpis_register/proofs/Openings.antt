@@ -1,5 +1,5 @@
 -- From rows of either version to the history that they say.
-use Rattle.std.specs.Prelude.{OnErr}
+use Rattle.std.specs.Prelude.{IfErr, OnErr}
 use Rattle.std.specs.List.{list_any}
 use Rattle.std.proofs.Common.{◌≡◌, inl, inr, ℕ, codes, Result, Ok, Err, Bool, true, false, List, [], ◌∷◌, map, refl, sym, ap, subst, ◌∙◌, IsPermutation, true≢false}
 use Rattle.std.proofs.lemmas.List.Sorted.{length_permutation}
@@ -11,6 +11,8 @@ use Rattle.lpis_lineage.specs.declared.row.Entry.{Entry}
 use Rattle.lpis_records.specs.Content.{Content, no_content}
 use Rattle.lpis_records.specs.Tells.{IsSameContent, Tells, TellsLive, years_of}
 use Rattle.lpis_register.specs.Bare.{IsBare}
+use Rattle.lpis_register.specs.declared.fault.PublishFault.{PublishFault}
+use Rattle.lpis_register.specs.declared.fault.PublishFault.TheVariants.{Unlawful}
 use Rattle.lpis_register.specs.Shapes.{Shape, New, First, Moved, has_live, has_spans, schema_of}
 use Rattle.lpis_register.specs.Holding.{IsStored, Keeps}
 use Rattle.lpis_register.specs.Opening.{FindsHistory, SaysAt}
@@ -44,6 +46,22 @@ none_found st (Err e) told h = inr (record { shape = New; content = no_content; 
 pub any_err : {X E : Type 0} (r : Result X E) (P : Type 0) → P → OnErr r P
 any_err (Ok x) P p = tt
 any_err (Err e) P p = p
+
+-- ---- what is refused says no history
+
+pub made_never : {X : Type 0} (r : Result X PublishFault) → Tells no_content [] → IfErr r (λ e. e ≡ Unlawful → (first : Bool) (h : List Entry) → SaysAt first no_content h → ⊥) → IfErr r (λ e. e ≡ Unlawful → ⊥)
+made_never (Ok x) told h = tt
+made_never (Err e) told h = λ is. h is false [] told
+
+-- what the rows in another order don't say, these don't either
+pub refused_whole : {X : Type 0} (c rows : Content) (r : Result X PublishFault) → ((a b : Content) (h : List Entry) → IsSameContent a b → Tells a h → Tells b h) → ((a b : Content) (h : List Entry) → IsSameContent a b → TellsLive a h → TellsLive b h)
+    → IsSameContent c rows → IfErr r (λ e. e ≡ Unlawful → (first : Bool) (h : List Entry) → SaysAt first rows h → ⊥) → IfErr r (λ e. e ≡ Unlawful → (first : Bool) (h : List Entry) → SaysAt first c h → ⊥)
+refused_whole c rows (Ok x) reordered reordered_live same none = tt
+refused_whole c rows (Err e) reordered reordered_live same none = λ is first h told. none is first h (moved_to first h told)
+  where
+    moved_to : (first : Bool) (h : List Entry) → SaysAt first c h → SaysAt first rows h
+    moved_to true h told = reordered_live c rows h same told
+    moved_to false h told = reordered c rows h same told
 
 -- ---- the names of the tables
 

@@ -8,6 +8,7 @@ ghost use Rattle.lpis_register.specs.Shapes.{has_live, has_spans};
 ghost use Rattle.lpis_register.specs.Holding.{IsStored};
 ghost use Rattle.lpis_register.specs.Histories.{HoldsHistory};
 ghost use Rattle.lpis_register.specs.Opening.{SaysAt, FindsHistory};
+ghost use Rattle.lpis_register.specs.declared.fault.PublishFault.TheVariants.{Unlawful};
 
 use crate::fault::PublishFault;
 use crate::finding::find_history;
@@ -39,6 +40,9 @@ fn open_found<S: Alter>(
         → (shape : _) → spans ≡ has_spans shape
         → lives ≡ has_live shape → (c : _) → IsStored shape (state S.Store conn.old) c
         → OnErr result (IsStored shape (state S.Store conn.new) c) }
+    ensures unlawful { HasCleanDisk (state S.Store conn.new) → (shape : _) → spans ≡ has_spans shape
+        → lives ≡ has_live shape → (c : _) → IsStored shape (state S.Store conn.old) c
+        → IfErr result (λ e. e ≡ Unlawful → (first : _) (h : _) → SaysAt first c h → ⊥) }
     ensures clean { HasCleanDisk (state S.Store conn.new) → HasCleanDisk (state S.Store conn.old) }
 {
     let (history, is_first) = find_history(alloc, conn, spans, lives)?;
@@ -65,6 +69,10 @@ pub(crate) fn open_tables<S: Alter>(
     ensures same { HasCleanDisk (state S.Store conn.new) → IsTrue (state S.Store conn.new).is_open
         → (shape : _) (c : _) → IsStored shape (state S.Store conn.old) c
         → OnErr result (IsStored shape (state S.Store conn.new) c) }
+    ensures unlawful { HasCleanDisk (state S.Store conn.new) → (shape : _) (c : _) → IsStored shape (state S.Store conn.old) c
+        → IfErr result (λ e. e ≡ Unlawful → (first : _) (h : _) → SaysAt first c h → ⊥) }
+    ensures lawful { HasCleanDisk (state S.Store conn.new) → IsBare (state S.Store conn.old)
+        → IfErr result (λ e. e ≡ Unlawful → ⊥) }
     ensures clean { HasCleanDisk (state S.Store conn.new) → HasCleanDisk (state S.Store conn.old) }
 {
     order_of_rows_is_free();
@@ -99,6 +107,10 @@ impl<S: Alter + Drop> Register<S> {
         ensures same { IfErr result (λ e. HasCleanDisk (state S.Store e.0)
             → IsTrue (state S.Store e.0).is_open → (shape : _) (c : _)
             → IsStored shape (state S.Store connection) c → IsStored shape (state S.Store e.0) c) }
+        ensures unlawful { IfErr result (λ e. e.1 ≡ Unlawful → HasCleanDisk (state S.Store e.0) → (shape : _) (c : _)
+            → IsStored shape (state S.Store connection) c → (first : _) (h : _) → SaysAt first c h → ⊥) }
+        ensures lawful { IfErr result (λ e. e.1 ≡ Unlawful → HasCleanDisk (state S.Store e.0)
+            → IsBare (state S.Store connection) → ⊥) }
         ensures clean { IfOk result (λ it. HasCleanDisk (state S.Store it.conn)
             → HasCleanDisk (state S.Store connection)) }
         ensures autocommit { IfErr result (λ e. e.0.in_transaction ≡ false) }

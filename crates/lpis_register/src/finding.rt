@@ -143,6 +143,9 @@ pub(crate) fn find_history<S: Alter>(
         → (shape : _)
         → spans ≡ has_spans shape → lives ≡ has_live shape → (c : _)
         → IsStored shape (state S.Store conn.old) c → IsStored shape (state S.Store conn.new) c }
+    ensures unlawful { HasCleanDisk (state S.Store conn.new) → (shape : _) → spans ≡ has_spans shape
+        → lives ≡ has_live shape → (c : _) → IsStored shape (state S.Store conn.old) c
+        → IfErr result (λ e. e ≡ Unlawful → (first : _) (h : _) → SaysAt first c h → ⊥) }
     ensures clean { HasCleanDisk (state S.Store conn.new) → HasCleanDisk (state S.Store conn.old) }
 {
     order_of_rows_is_free();
