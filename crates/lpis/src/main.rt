@@ -6,9 +6,12 @@ mod created;
 use clap::error::ErrorKind;
 use created::Created;
 use lpis_commands::{
-    Cmd, CommandFiles, Failure, NamedFile, TableFiles, command_of, named_files, print_failure,
-    run_area, run_check, run_cut, status_of, usage_ends,
+    Cmd, CommandFiles, Failure, Name, NamedFile, TableFiles, UNREADABLE, command_of, named_files,
+    print_failure, print_publish_fault, run_area, run_check, run_cut, run_publish, run_trace,
+    status_of, usage_ends,
 };
+use lpis_register::{PublishFault, Register};
+use sqlite::{FileFrom, FileStore, Unknown};
 use std::fs::File;
 use std::process::ExitCode;
 use std::{env, fs, io};
@@ -58,7 +61,10 @@ fn tell(rt: &HostRuntime, error: &clap::Error) -> Result<u8, Failure> {
     usage_ends(kind, is_printed)
 }
 
-/// Runs a command on its files, which are opened first, in their order.
+/// A register in a file.
+type FileRegister = Register<FileStore<FileFrom<Unknown>>>;
+
+/// Runs a command on its files, which are opened first, in their order; a register before them.
 fn perform(rt: &HostRuntime, command: Cmd<'_>) -> Result<u8, Failure> {
     let alloc = rt.alloc();
     let mut out = rt.stdout();
@@ -75,10 +81,72 @@ fn perform(rt: &HostRuntime, command: Cmd<'_>) -> Result<u8, Failure> {
             let cert = open(rt, &cert)?;
             run_check(alloc, parcels, covers, classes, cert, &mut out)
         }
-        CommandFiles::Publish { .. } | CommandFiles::Trace { .. } => {
-            let printed = eprintln!(rt; "error: this command is not built yet");
-            usage_ends(ErrorKind::InvalidSubcommand, printed.is_ok())
-        }
+        CommandFiles::Publish {
+            db,
+            year,
+            tables,
+            cert,
+            lineage,
+        } => match Register::open_file(rt, alloc, db, Unknown) {
+            Ok(mut register) => {
+                let ran = publish(rt, &mut register, year, &tables, &cert, &lineage);
+                close(register);
+                ran
+            }
+            Err(fault) => refuse_register(rt, &fault),
+        },
+        CommandFiles::Trace { db, id } => match Register::open_file(rt, alloc, db, Unknown) {
+            Ok(register) => {
+                let ran = run_trace(alloc, &register, id, &mut out);
+                close(register);
+                ran
+            }
+            Err(fault) => refuse_register(rt, &fault),
+        },
+    }
+}
+
+/// Publishes the release of these files in a register.
+fn publish(
+    rt: &HostRuntime,
+    register: &mut FileRegister,
+    year: u16,
+    tables: &TableFiles,
+    cert: &NamedFile,
+    lineage: &NamedFile,
+) -> Result<u8, Failure> {
+    let (parcels, covers, classes) = open_tables(rt, tables)?;
+    let cert = open(rt, cert)?;
+    let lineage = open(rt, lineage)?;
+    let mut out = rt.stdout();
+    run_publish(
+        rt.alloc(),
+        register,
+        year,
+        parcels,
+        covers,
+        classes,
+        cert,
+        lineage,
+        &mut out,
+    )
+}
+
+/// Closes the database of a register: its log goes into its file.
+fn close(register: FileRegister) {
+    // What was published stands in the log, whether or not this succeeds; the next opening finds it there.
+    let _ = register.into_connection().close();
+}
+
+/// Prints the line of a register that is refused, and nothing else.
+fn refuse_register(rt: &HostRuntime, fault: &PublishFault) -> Result<u8, Failure> {
+    match fault {
+        PublishFault::Memory => Err(Failure::Memory),
+        PublishFault::Store => Err(Failure::Store),
+        _ => match print_publish_fault(fault, &mut rt.stdout()) {
+            Ok(()) => Ok(UNREADABLE),
+            Err(_) => Err(Failure::Write(Name::Out)),
+        },
     }
 }
 
