@@ -152,8 +152,10 @@ fn publish_checked<S: Alter>(
     match register.publish(year, yes, rows) {
         Ok(_) => Ok(answer),
         Err(PublishFault::Memory) => Err(Failure::Memory),
+        Err(PublishFault::Store) => Err(Failure::Store),
         // What the register refuses has been refused above.
-        Err(_) => Err(Failure::Store),
+        Err(PublishFault::Year { .. } | PublishFault::Lineage(_)) => unreachable!(),
+        Err(PublishFault::Unknown | PublishFault::Unlawful) => unreachable!(),
     }
 }
 
