@@ -1,14 +1,20 @@
 #!/usr/bin/python3
-"""Writes a release of N parcels for the cutter, from a fixed seed: make_parcels.py N FOLDER [straight | mosaic] [FAULT].
+"""Writes a release of N parcels for the cutter, from a fixed seed: make_parcels.py N FOLDER [straight | mosaic | digitised] [turned] [FAULT].
 
-The parcels are the cells of a grid of about 120 metres whose nodes were moved and whose borders are digitised in 1 to 12 segments, so
-that a ring has 5 to 60 points: 2.85 segments on average, 1.55 with `straight`. A parcel has one piece, or two to four around its
-middle, or a pond in its piece; some have a second member, some a farmyard in a hole that is a parcel of its own. Every polygon takes up
-points in the middle of its edges for itself, so its neighbours, and its pieces, have T-junctions there. All corners are even
-centimetres, so such middles lie exactly on the edge. It is sound by construction: a border keeps within a slim rhombus around its
-straight line, and a cell is divided around its middle only where the middle sees the whole ring.
+The parcels are the cells of a grid of about 120 metres whose nodes were moved and whose borders are digitised in 1 to 12 segments, 2.85
+on average, 1.55 with `straight`: a piece has 4 to 56 points, 10.8 on average, 7.7 with `straight` (closing points are counted). A parcel
+has one piece, or two to four around its middle, or a pond in its piece; some have a second member, some a farmyard in a hole that is a
+parcel of its own. Every polygon takes up points in the middle of its edges for itself, so its neighbours, and its pieces, have T-junctions
+there. All nodes and borders are of even centimetres, so such middles lie exactly on the edge. It is sound by construction: a border keeps
+within a slim rhombus around its straight line, and a cell is divided around its middle only where the middle sees the whole ring.
 
 With `mosaic` each border has 8 segments, a parcel has one piece of its own shape, and no polygon takes up points.
+
+With `digitised` every polygon has 5 to 60 points, a piece 18 on average, as far as a map of reference parcels shows its borders: a road or
+a ditch is one straight segment, a hedge has a few, the edge of a wood or a stream has a point each 8 to 15 metres. The pieces of a
+parcel, 1.8 on average, meet in digitised lines too, from one of its points or middles of edges to another: there its neighbours, and
+its other pieces, have T-junctions. The smaller of two pieces has at least an eighth of both. With `turned` the grid is turned by 30
+degrees, since fields lie as their valley does.
 
 With FAULT nearly every parcel is wrong: `gaps` moves a corner of each piece inwards by a centimetre; `overlaps` moves the shell of
 each parcel of one member outwards by one, and gives it one piece of its own shape. `stacked` and `spread` are N equal round parcels,
@@ -26,6 +32,8 @@ STEP, JITTER = 12_000, 1_800  # centimetres
 EAST, NORTH = 40_000_000, 530_000_000
 SEGMENTS = [1] * 9 + [2] * 5 + [3, 4, 5, 6, 8, 12]
 STRAIGHT = [1] * 33 + [2] * 3 + [3, 4, 4, 12]
+DIGITISED = [1, 1, 1, 2, 2, 3, 3, 4, 5, 6, 7, 8, 10, 14]
+MOST_POINTS, LEAST_EDGE = 60, 2_000  # of a digitised polygon, of one edge that a line may end on the middle of
 SPOKES = [1] * 50 + [2] * 26 + [3] * 14 + [4] * 10  # how many pieces, of a hundred parcels without a pond or yard
 
 
@@ -33,17 +41,44 @@ def even(value):
     return 2 * round(value / 2)
 
 
+def middle_of(a, b):
+    """The middle of an edge, where it is a point of whole centimetres, else None."""
+    return None if (a[0] + b[0]) % 2 or (a[1] + b[1]) % 2 else ((a[0] + b[0]) // 2, (a[1] + b[1]) // 2)
+
+
+def edges_of(ring):
+    return list(zip(ring, ring[1:] + ring[:1]))
+
+
+def area2(ring):
+    return sum(a[0] * b[1] - b[0] * a[1] for a, b in edges_of(ring))
+
+
+def points_of(polygon):
+    """How many points are written, the closing ones counted."""
+    return sum(len(ring) + 1 for member in polygon for ring in member)
+
+
+def keeps_off(edge, room):
+    """The edge has no point inside the convex room: a side of the room, or the edge's own line, is between them."""
+    if any(orient(a, b, edge[0]) <= 0 and orient(a, b, edge[1]) <= 0 for a, b in edges_of(room)):
+        return True
+    turns = [orient(*edge, corner) for corner in room]
+    return min(turns) >= 0 or max(turns) <= 0
+
+
 class Map:
-    def __init__(self, count, segments):
-        self.numbers, self.segments = random.Random(20_261_122), segments
+    def __init__(self, count, segments, degrees=0):
+        self.numbers, self.segments, self.angle = random.Random(20_261_122), segments, math.radians(degrees)
         self.count, self.parcels, self.pieces = count, [], []
         self.columns = max(2, math.isqrt(count))
         self.nodes, self.lines, self.taken = {}, {}, set()
 
     def node(self, column, row):
         if (column, row) not in self.nodes:
-            moved = [even(place * STEP + self.numbers.randint(-JITTER, JITTER)) for place in (column, row)]
-            self.nodes[column, row] = (EAST + moved[0], NORTH + moved[1])
+            x, y = (place * STEP + self.numbers.randint(-JITTER, JITTER) for place in (column, row))
+            cos, sin = math.cos(self.angle), math.sin(self.angle)
+            self.nodes[column, row] = (EAST + even(x * cos - y * sin), NORTH + even(x * sin + y * cos))
         return self.nodes[column, row]
 
     def line(self, start, end):
@@ -55,7 +90,11 @@ class Map:
         return self.lines[start, end]
 
     def digitised(self, a, b):
-        count, (dx, dy), shift, points = self.numbers.choice(self.segments), (b[0] - a[0], b[1] - a[1]), 0, [a]
+        return self.bent(a, b, self.numbers.choice(self.segments))
+
+    def bent(self, a, b, count):
+        """A line of so many segments that strays from the straight one step by step, its end left out."""
+        (dx, dy), shift, points = (b[0] - a[0], b[1] - a[1]), 0, [a]
         for k in range(1, count):
             along = (k + self.numbers.uniform(-0.2, 0.2)) / count
             most = 0.25 * min(along, 1 - along)
@@ -72,14 +111,18 @@ class Map:
     def dotted(self, ring):
         """The ring with the middles of some edges."""
         dots = []
-        for a, b in zip(ring, ring[1:] + ring[:1]):
+        for a, b in edges_of(ring):
             dots.append(a)
-            if self.numbers.random() < 0.1:
-                dots.append(((a[0] + b[0]) // 2, (a[1] + b[1]) // 2))
+            if self.numbers.random() < 0.1 and middle_of(a, b):
+                dots.append(middle_of(a, b))
         return dots
 
     def polygon(self, members):
         return [[self.dotted(ring) for ring in member] for member in members]
+
+    def fits(self, *_rings):
+        """Whether a polygon may have these rings."""
+        return True
 
     def add(self, members, pieces):
         name = f"P{len(self.parcels):06}"
@@ -96,7 +139,7 @@ class Map:
     def divided(self, ring, middle):
         """The ring cut into one to four pieces by straight lines from the middle to its points."""
         count = self.numbers.choice(SPOKES)
-        if count == 1 or any(orient(middle, a, b) <= 0 for a, b in zip(ring, ring[1:] + ring[:1])):
+        if count == 1 or any(orient(middle, a, b) <= 0 for a, b in edges_of(ring)):
             return [[[ring]]]
         ends = sorted(self.numbers.sample(range(len(ring)), count))
         turned = ring + ring
@@ -105,14 +148,14 @@ class Map:
     def add_cell(self, column, row):
         ring, middle = self.cell(column, row)
         kind, beside = self.numbers.random(), (column + 1, row + 1)
-        if kind < 0.1:
+        if kind < 0.1 and self.fits(ring, [middle] * 12):
             pond = self.yard(middle)
             self.add([[ring]], [[[ring, pond]], [[pond]]])
-        elif kind < 0.14 and len(self.parcels) + 1 < self.count:
+        elif kind < 0.14 and len(self.parcels) + 1 < self.count and self.fits(ring, [middle] * 12):
             yard = self.yard(middle)
             self.add([[ring, yard]], [[[ring, yard]]])
             self.add([[yard]], [[[yard]]])
-        elif kind < 0.18 and column + 1 < self.columns:
+        elif kind < 0.18 and column + 1 < self.columns and self.fits(ring, self.cell(*beside)[0]):
             self.taken.add(beside)
             other, _ = self.cell(*beside)
             members = [[ring], [other]]
@@ -150,6 +193,58 @@ class Mosaic(Map):
         self.add([[ring]], [[[ring]]])
 
 
+class Digitised(Map):
+    def digitised(self, a, b):
+        """As many segments as the border of a whole cell would have on this length."""
+        count = self.numbers.choice(self.segments)
+        return self.bent(a, b, max(1, round(count * math.dist(a, b) / STEP)))
+
+    def fits(self, *rings):
+        return points_of([rings]) <= MOST_POINTS
+
+    def polygon(self, members):
+        dotted = super().polygon(members)
+        return dotted if points_of(dotted) <= MOST_POINTS else members
+
+    def halves(self, ring):
+        """The ring divided by a line between two of its points or middles of edges, of which twenty pairs are tried; else the ring alone.
+
+        The line keeps within a slim rhombus, which no edge of the ring may enter."""
+        ends, edges = [], edges_of(ring)
+        for a, b in edges:
+            ends.append((a, True))
+            if middle_of(a, b) and math.dist(a, b) > LEAST_EDGE:
+                ends.append((middle_of(a, b), False))
+        for _ in range(20):
+            i, j = sorted(self.numbers.sample(range(len(ends)), 2))
+            (a, _), (b, _) = ends[i], ends[j]
+            side = (0.15 * (b[0] - a[0]), 0.15 * (b[1] - a[1]))
+            middle = ((a[0] + b[0]) / 2, (a[1] + b[1]) / 2)
+            room = [a, (middle[0] + side[1], middle[1] - side[0]), b, (middle[0] - side[1], middle[1] + side[0])]
+            if all(keeps_off(edge, room) for edge in edges):
+                line = self.digitised(a, b)[1:]
+                one = [a] + [point for point, is_corner in ends[i + 1 : j] if is_corner] + [b] + line[::-1]
+                two = [b] + [point for point, is_corner in ends[j + 1 :] + ends[:i] if is_corner] + [a] + line
+                if self.are_pieces(one, two):
+                    return [one, two]
+        return [ring]
+
+    def are_pieces(self, *rings):
+        areas = [area2(ring) for ring in rings]
+        return 8 * min(areas) >= sum(areas) and min(map(len, rings)) >= 4 and all(map(self.fits, rings))
+
+    def divided(self, ring, middle):
+        """The ring cut into one to four pieces, the largest first."""
+        rings = [ring]
+        for _ in range(self.numbers.choice(SPOKES) - 1):
+            rings.sort(key=area2)
+            rings += self.halves(rings.pop())
+        return [[[part]] for part in rings]
+
+
+KINDS = {"straight": (Map, STRAIGHT), "mosaic": (Mosaic, SEGMENTS), "digitised": (Digitised, DIGITISED)}
+
+
 def moved(polygon, corners, sign):
     """The polygon with the first points of its shell moved by a centimetre: outwards for sign 1, inwards for -1."""
     shell = polygon[0][0]
@@ -177,12 +272,12 @@ def round_parcels(count, step):
 
 def main():
     count, folder, words = int(sys.argv[1]), sys.argv[2], sys.argv[3:]
-    fault = next((word for word in words if word not in ("straight", "mosaic")), None)
+    fault = next((word for word in words if word not in KINDS and word != "turned"), None)
     if fault in ("stacked", "spread"):
         parcels, pieces = round_parcels(count, 0 if fault == "stacked" else 10_000)
     else:
-        kind = Mosaic if "mosaic" in words else Map
-        parcels, pieces = kind(count, STRAIGHT if "straight" in words else SEGMENTS).fill()
+        kind, segments = next((KINDS[word] for word in words if word in KINDS), (Map, SEGMENTS))
+        parcels, pieces = kind(count, segments, 30 if "turned" in words else 0).fill()
         if fault:
             parcels, pieces = faulty(fault, parcels, pieces)
     write_release(folder, parcels, pieces)
