@@ -1,13 +1,12 @@
 -- What an opening finds, and what it leaves.
 use Rattle.std.specs.Prelude.{◌≡◌, ◌⊎◌, Bool, true, false, [], List}
-use Rattle.sqlite.specs.Tree.{Trees}
 use Rattle.sqlite.specs.State.{State}
 use Rattle.lpis_lineage.specs.declared.row.Entry.{Entry}
 use Rattle.lpis_records.specs.Content.{Content}
 use Rattle.lpis_records.specs.Tells.{Tells, TellsLive}
 use Rattle.lpis_register.specs.Bare.{IsBare}
 use Rattle.lpis_register.specs.Shapes.{Shape}
-use Rattle.lpis_register.specs.Holding.{IsStored, Leaves}
+use Rattle.lpis_register.specs.Holding.{IsStored}
 
 -- the rows say this history, as version 1 has it or as version 2 has it
 abbrev pub SaysAt : Bool → Content → List Entry → Type 0
@@ -25,11 +24,3 @@ pub record FindsTables (st : State) (h : List Entry) : Type 0 where
 -- the tables say this history; where there is no table, it is the empty one
 abbrev pub FindsHistory : State → List Entry → Type 0
 FindsHistory st h = (IsBare st × (h ≡ [])) ⊎ FindsTables st h
-
--- a crash leaves tables of either version that say this history
-pub record LeavesTables (h : List Entry) (trees : Trees) : Type 0 where
-  pub shape : Shape
-  pub content : Content
-  pub leaves : Leaves shape content trees
-  pub is_first : Bool
-  pub says : SaysAt is_first content h

@@ -3,7 +3,7 @@
 ghost use Rattle.std.specs.Prelude.{◌≡◌, true, false, IsTrue, IfOk, OnOk, IsPermutation};
 ghost use Rattle.sqlite.specs.Held.{state};
 ghost use Rattle.sqlite.specs.State.{HasCleanDisk, Survives};
-ghost use Rattle.lpis_records.specs.Content.{without_live, without_spans};
+ghost use Rattle.lpis_records.specs.Content.{without_live};
 ghost use Rattle.lpis_records.specs.Tells.{IsSameContent};
 ghost use Rattle.lpis_register.specs.Shapes.{has_spans, has_live};
 ghost use Rattle.lpis_register.specs.Holding.{IsStored};
@@ -156,26 +156,4 @@ pub(crate) fn load<S: Alter>(alloc: Global, conn: &mut Connection<S>) -> Result<
     let spans = load_spans(alloc, conn)?;
     let lines = load_lines(alloc, conn)?;
     Ok(Rows::new(formats, years, spans, lines, Vec::new(alloc)))
-}
-
-/// The rows of the tables of version 1.
-pub(crate) fn load_first<S: Alter>(alloc: Global, conn: &mut Connection<S>) -> Result<Rows, Error>
-    requires autocommit { conn.old.in_transaction ≡ false }
-    ensures autocommit { conn.new.in_transaction ≡ false }
-    ensures rows { HasCleanDisk (state S.Store conn.new) → (shape : _) → has_live shape ≡ true
-        → (c : _) → IsStored shape (state S.Store conn.old) c
-        → IfOk result (λ rows. IsSameContent (without_spans c) rows) }
-    ensures stored { HasCleanDisk (state S.Store conn.new) → (shape : _) → has_live shape ≡ true
-        → (c : _) → IsStored shape (state S.Store conn.old) c
-        → OnOk result (IsStored shape (state S.Store conn.new) c) }
-    ensures same { HasCleanDisk (state S.Store conn.new) → IsTrue (state S.Store conn.new).is_open
-        → (shape : _) → has_live shape ≡ true → (c : _)
-        → IsStored shape (state S.Store conn.old) c → IsStored shape (state S.Store conn.new) c }
-    ensures clean { HasCleanDisk (state S.Store conn.new) → HasCleanDisk (state S.Store conn.old) }
-{
-    let formats = load_formats(alloc, conn)?;
-    let years = load_years(alloc, conn)?;
-    let lives = load_lives(alloc, conn)?;
-    let lines = load_lines(alloc, conn)?;
-    Ok(Rows::new(formats, years, Vec::new(alloc), lines, lives))
 }
