@@ -14,12 +14,12 @@ use Rattle.lpis_lineage.specs.declared.span.Span.{Span as Years}
 use Rattle.lpis_lineage.specs.Lawful.{IsLawful}
 use Rattle.lpis_lineage.specs.Lineage.{entry_at, holds, is_this, names}
 use Rattle.lpis_lineage.specs.Spans.{in_span, span_of}
-use Rattle.lpis_lineage.proofs.Basics.{entry-after, same-exact}
+use Rattle.lpis_lineage.proofs.Basics.{entry-after, in-history, same-exact}
 use Rattle.lpis_lineage.proofs.Clean.{or-left, or-right}
 use Rattle.lpis_lineage.proofs.Extends.{place}
 use Rattle.lpis_lineage.proofs.SpanLaw.{span-tells}
-use Rattle.lpis_records.specs.Content.{Content, Line, Span, lines_from, text_of}
-use Rattle.lpis_records.specs.Tells.{IsKept, IsSameHistory, IsSpanRow, SpansTell, Tells, lines_of, shown, years_of}
+use Rattle.lpis_records.specs.Content.{Content, Line, Live, Span, lines_from, text_of}
+use Rattle.lpis_records.specs.Tells.{IsKept, IsSameHistory, IsSpanRow, LiveTells, SpansTell, Tells, TellsLive, lines_of, shown, years_of}
 use Rattle.lpis_records.specs.private.Covering.{covers}
 use Rattle.lpis_records.specs.private.Known.{HasText}
 use Rattle.lpis_records.proofs.Ascending.{Ascends, below, below-alone, same-ascending}
@@ -192,3 +192,55 @@ one-history c h k s t = record { lengths = alike.0; years = alike.1; sets = sets
       | inr g ↦ beyond h i id (omega (arith, g)) ∙ sym (beyond k i id (let n = alike.0 in omega (arith, g, n)))
     ]
   ]
+
+-- ---- the same of version 1
+
+-- years rise, so each has one place
+same-place : (h : List Entry) → IsLawful h → (i j : ℕ) → i < length h → j < length h → (entry_at h i).year ≡ (entry_at h j).year → i ≡ j
+same-place h law i j a b e = elim (place i j) as (λ _. i ≡ j) [
+  | inl lt ↦ absurd (let r = law.years_rise i j lt b in omega (arith, r, e))
+  | inr r ↦ elim r as (λ _. i ≡ j) [
+    | inl same ↦ same
+    | inr gt ↦ absurd (let r = law.years_rise j i gt a in omega (arith, r, e))
+  ]
+]
+
+nat-of : (m n : ℕ) → pos m ≡ pos n → m ≡ n
+nat-of m n e = cc
+
+-- what one of them holds the other holds
+live-held : (h k : List Entry) (live : List Live) → LiveTells live h → LiveTells live k → IsLawful k → length h ≡ length k
+    → ((i : ℕ) → (entry_at h i).year ≡ (entry_at k i).year) → (i : ℕ) (id : List ℕ) → holds h i id ≡ true → holds k i id ≡ true
+live-held h k live a b law lengths years i id held =
+    let at = b.right _ (a.whole id i held) in
+    let lt = in-history h i id held in
+    let year : (entry_at k i).year ≡ (entry_at k at.0).year = sym (years i) ∙ nat-of _ _ at.2 in
+    let same = same-place k law i at.0 (omega (arith, lt, lengths)) at.1 year in
+    ap (λ (n : ℕ). holds k n id) same ∙ at.3
+
+same-tests : (a b : Bool) → (a ≡ true → b ≡ true) → (b ≡ true → a ≡ true) → a ≡ b
+same-tests true b f g = sym (f refl)
+same-tests false true f g = g refl
+same-tests false false f g = refl
+
+pub one-live-history : (c : Content) (h k : List Entry) → TellsLive c h → TellsLive c k → IsSameHistory h k
+one-live-history c h k s t = record { lengths = alike.0; years = alike.1; sets = sets; rows = same-rows h k years up also (have-texts h s.kept) (have-texts k t.kept) lines } where
+  up : Ascends below (years_of h)
+  up = years-ascend h s.kept.lawful
+
+  also : Ascends below (years_of k)
+  also = years-ascend k t.kept.lawful
+
+  years : years_of h ≡ years_of k
+  years = same-ascending below below-alone (years_of h) (years_of k) up also (both-orders c.years (years_of h) (years_of k) s.years_are t.years_are)
+
+  lines : lines_of h ≡ lines_of k
+  lines = same-ascending line_below line-alone (lines_of h) (lines_of k) (lines-ascend h up) (lines-ascend k also) (both-orders c.lines (lines_of h) (lines_of k) s.lines_are t.lines_are)
+
+  alike : (length h ≡ length k) × ((i : ℕ) → (entry_at h i).year ≡ (entry_at k i).year)
+  alike = same-years h k years
+
+  sets : (i : ℕ) (id : List ℕ) → holds h i id ≡ holds k i id
+  sets i id = same-tests (holds h i id) (holds k i id)
+      (live-held h k c.live s.live_are t.live_are t.kept.lawful alike.0 alike.1 i id)
+      (live-held k h c.live t.live_are s.live_are s.kept.lawful (sym alike.0) (λ j. sym (alike.1 j)) i id)

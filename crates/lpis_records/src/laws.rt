@@ -20,6 +20,11 @@ pub fn tables_say_one_history()
     ensures { (c : Content) (h k : List Entry) → Tells c h → Tells c k → IsSameHistory h k }
 {}
 
+/// Tables of version 1 say one history.
+pub fn tables_of_version_1_say_one_history()
+    ensures { (c : Content) (h k : List Entry) → TellsLive c h → TellsLive c k → IsSameHistory h k }
+{}
+
 /// Rows in another order say the same, and tables with no release say the empty history.
 pub fn order_of_rows_is_free()
     ensures reordered { (c d : Content) (h : List Entry) → IsSameContent c d → Tells c h → Tells d h }

@@ -16,7 +16,7 @@ pub use fault::RecordsFault;
 pub use history::history_of;
 pub use laws::{
     changes_tell_what_is_written, moving_keeps_the_history, order_of_rows_is_free,
-    publishing_adds_the_release, tables_say_one_history,
+    publishing_adds_the_release, tables_of_version_1_say_one_history, tables_say_one_history,
 };
 pub use live::live_history_of;
 pub use rows::{FormatRow, LineRow, LiveRow, Rows, SpanRow};
