@@ -17,3 +17,5 @@ pub mod OneHistory
 pub mod Moves
 pub mod Openings
 pub mod Schemas
+pub mod Quiet
+pub mod Commits

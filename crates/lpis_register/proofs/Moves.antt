@@ -1,9 +1,9 @@
 -- What the statements that move a database of version 1 do.
-use Rattle.std.proofs.Common.{◌≡◌, inl, inr, ℕ, ℤ, pos, List, [], ◌∷◌, ◌++◌, map, drop, slice_get, true, false, not, Some, None, Ok, refl, sym, ap, ap₂, subst, subst₂, ◌∙◌, append-nil, IsPermutation, true≢false}
-use Rattle.std.specs.Prelude.{fold, filter}
+use Rattle.std.proofs.Common.{◌≡◌, inl, inr, ℕ, pos, List, [], ◌∷◌, ◌++◌, map, drop, slice_get, true, false, not, Some, None, Ok, refl, sym, ap, ap₂, subst, subst₂, ◌∙◌, append-nil, IsPermutation, true≢false}
+use Rattle.std.specs.Prelude.{filter}
 use Rattle.std.proofs.lemmas.List.Concat.{flat_map_single}
 use Rattle.std.proofs.lemmas.List.Sorted.{IsPermutation-refl, IsPermutation-trans, IsPermutation-map}
-use Rattle.sqlite.specs.declared.types.Value.TheVariants.{Null, Int}
+use Rattle.sqlite.specs.declared.types.Value.TheVariants.{Null}
 use Rattle.sqlite.specs.Order.{Row}
 use Rattle.sqlite.specs.Tree.{rowid}
 use Rattle.sqlite.specs.Program.{overlay}
@@ -19,7 +19,7 @@ use Rattle.sqlite.specs.Listing.{understood}
 use Rattle.sqlite_rules.specs.Calls.{ids_of}
 use Rattle.sqlite_rules.specs.Lists.{Has}
 use Rattle.sqlite.proofs.Callers.{statement_of, runs_as}
-use Rattle.lpis_records.specs.Content.{Content, Format, Span, at_version, with_version, with_whole_span, with_whole_spans, without_live, without_spans, moved}
+use Rattle.lpis_records.specs.Content.{Content, Format, Span, at_version, with_version, with_whole_span, with_whole_spans, without_live, without_spans}
 use Rattle.lpis_records.specs.Tells.{only_format}
 use Rattle.lpis_register.specs.Tables.{format_table, span_table}
 use Rattle.lpis_register.specs.Shapes.{Shape, New, First, Moved, schema_of, has_live, has_spans, with_span_table}

@@ -1,5 +1,5 @@
 -- A database says one history.
-use Rattle.std.proofs.Common.{◌≡◌, ◌∙◌, refl, sym, ap, subst, [], List, map, length, true}
+use Rattle.std.proofs.Common.{◌≡◌, ◌∙◌, refl, sym, ap, subst, [], ◌∷◌, ℤ, pos, List, map, length, Bool, true, false}
 use Rattle.std.specs.Prelude.{IsPermutation}
 use Rattle.std.proofs.lemmas.List.Sorted.{IsPermutation-map, IsPermutation-refl, IsPermutation-sym, IsPermutation-trans}
 use Rattle.sqlite.specs.Order.{Row}
@@ -7,12 +7,13 @@ use Rattle.sqlite.specs.Tree.{Trees}
 use Rattle.sqlite.specs.Schema.{Schema}
 use Rattle.sqlite.specs.State.{State}
 use Rattle.lpis_lineage.specs.declared.row.Entry.{Entry}
-use Rattle.lpis_records.specs.Content.{Content, without_live}
-use Rattle.lpis_records.specs.Tells.{IsSameContent, IsSameHistory, Tells}
+use Rattle.lpis_records.specs.Content.{Content, Format, without_live}
+use Rattle.lpis_records.specs.Tells.{IsSameContent, IsSameHistory, Tells, TellsLive, only_format}
 use Rattle.lpis_register.specs.Shapes.{Shape, New, First, Moved, schema_of, has_spans, span_tree}
 use Rattle.lpis_register.specs.Shown.{year_shown, span_shown, line_shown}
 use Rattle.lpis_register.specs.Holding.{Keeps, Means, format_row, year_row, span_row, line_row}
 use Rattle.lpis_register.specs.Histories.{HoldsHistory}
+use Rattle.lpis_register.specs.Opening.{SaysAt}
 use Rattle.lpis_register.proofs.Showing.{format_kept, formats_back, years_back, spans_back, lines_back}
 
 -- what a table keeps is known up to its order
@@ -55,3 +56,19 @@ one_history st h k reordered one a b =
     let means = subst (λ s. Means s st.now.trees b.content) (sym shapes) b.stored.holds.means in
     let same = same_content a.shape st.now.trees a.content b.content a.spans a.stored.holds.means means in
     one (without_live b.content) h k (reordered (without_live a.content) (without_live b.content) h same (less_live a.content h a.tells)) (less_live b.content k b.tells)
+
+-- the row of the version tells which it is
+abbrev version_in : List Format → ℤ
+version_in [] = pos 0
+version_in (f ∷ fs) = f.version
+
+no_both : (fs : List Format) → fs ≡ only_format 1 → fs ≡ only_format 2 → ⊥
+no_both fs a b = let same : pos 1 ≡ pos 2 = ap version_in (sym a ∙ b) in cc
+
+pub one_said : (c : Content) (h k : List Entry) → ((c : Content) (h k : List Entry) → Tells c h → Tells c k → IsSameHistory h k)
+    → ((c : Content) (h k : List Entry) → TellsLive c h → TellsLive c k → IsSameHistory h k)
+    → (first other : Bool) → SaysAt first c h → SaysAt other c k → IsSameHistory h k
+one_said c h k one one_live true true a b = one_live c h k a b
+one_said c h k one one_live false false a b = one c h k a b
+one_said c h k one one_live true false a b = absurd (no_both c.formats a.formats_are b.formats_are)
+one_said c h k one one_live false true a b = absurd (no_both c.formats b.formats_are a.formats_are)

@@ -1,7 +1,7 @@
 -- From rows of either version to the history that they say.
 use Rattle.std.specs.Prelude.{IfErr, OnErr}
 use Rattle.std.specs.List.{list_any}
-use Rattle.std.proofs.Common.{◌≡◌, inl, inr, ℕ, codes, Result, Ok, Err, Bool, true, false, List, [], ◌∷◌, map, refl, sym, ap, subst, ◌∙◌, IsPermutation, true≢false}
+use Rattle.std.proofs.Common.{◌≡◌, inr, ℕ, codes, Result, Ok, Err, Bool, true, false, List, [], ◌∷◌, refl, IsPermutation, true≢false}
 use Rattle.std.proofs.lemmas.List.Sorted.{length_permutation}
 use Rattle.sqlite.specs.Order.{Row}
 use Rattle.sqlite.specs.State.{State}
@@ -10,7 +10,6 @@ use Rattle.sqlite_schema.specs.Names.{same_name}
 use Rattle.lpis_lineage.specs.declared.row.Entry.{Entry}
 use Rattle.lpis_records.specs.Content.{Content, no_content}
 use Rattle.lpis_records.specs.Tells.{IsSameContent, Tells, TellsLive, years_of}
-use Rattle.lpis_register.specs.Bare.{IsBare}
 use Rattle.lpis_register.specs.declared.fault.PublishFault.{PublishFault}
 use Rattle.lpis_register.specs.declared.fault.PublishFault.TheVariants.{Unlawful}
 use Rattle.lpis_register.specs.Shapes.{Shape, New, First, Moved, has_live, has_spans, schema_of}

@@ -1,5 +1,5 @@
 -- Trees that list a schema of the register list no other.
-use Rattle.std.proofs.Common.{◌≡◌, inl, inr, ℕ, zero, suc, ◌+◌, ◌≤◌, ℤ, pos, List, [], ◌∷◌, Bool, true, false, not, slice_get, Some, None, Ok, Result, refl, sym, ap, ap₂, subst, ◌∙◌, arith, true≢false}
+use Rattle.std.proofs.Common.{◌≡◌, inl, inr, ℕ, zero, suc, ◌+◌, ◌<◌, pos, List, [], ◌∷◌, Bool, true, false, not, slice_get, length, Some, Ok, Result, refl, sym, ap, ap₂, subst, ◌∙◌, arith, true≢false}
 use Rattle.std.proofs.lemmas.Bool.{cases_Bool}
 use Rattle.std.proofs.lemmas.Bool.Decides.{nat_tests}
 use Rattle.std.specs.Prelude.{Option, filter, ◌&&◌, ◌||◌}
@@ -16,6 +16,8 @@ use Rattle.sqlite.specs.Tree.{Trees}
 use Rattle.sqlite_schema.specs.declared.schema.Index.{Index}
 use Rattle.sqlite_schema.specs.declared.schema.View.{View}
 use Rattle.sqlite_rules.specs.Lists.{Has}
+use Rattle.sqlite_wal.specs.Recovery.{Image}
+use Rattle.sqlite.specs.Files.{AreFoundIn}
 use Rattle.sqlite_catalog.specs.Listing.{IsTableRow, IsIndexRow, IsViewRow, IsDefined, automatic, IsSound, is_index_row, is_table_row, is_view_row}
 use Rattle.sqlite_trees.specs.Objects.{catalog_tree}
 use Rattle.sqlite.specs.Compile.{table_defined_by, index_defined_by}
@@ -173,3 +175,8 @@ opened_bare s o live none = record {
   settled = o.clean;
   schema = ap (λ (d : Database). d.schema) o.clean ∙ empty_schema s.committed.schema s.committed.trees none (live o.is_open).1;
 }
+
+-- a file with no byte holds no page
+pub none_in_nothing : (image : Image) (db : Trees) → image.db ≡ [] → AreFoundIn image db → db catalog_tree ≡ []
+none_in_nothing image db none (inl got) = absurd (let some : 0 < length image.db = got.3.found.present in let len : length image.db ≡ 0 = ap length none in omega (arith, some, len))
+none_in_nothing image db none (inr empty) = empty.1.1

@@ -21,6 +21,7 @@ use Rattle.lpis_records.specs.Content.{Content, Format, Span, Line, Live}
 use Rattle.lpis_register.specs.Shapes.{Shape, schema_of, has_spans, has_live, span_tree}
 use Rattle.lpis_register.specs.Texts.{read_format, read_release, read_span, read_line, read_live}
 use Rattle.lpis_register.specs.Holding.{Holds, IsStored, format_row, year_row, span_row, line_row, live_row}
+use Rattle.lpis_register.specs.private.Quiet.{LeavesNone}
 use Rattle.lpis_register.specs.Shown.{year_shown, format_shown, span_shown, line_shown, live_shown}
 use Rattle.lpis_register.proofs.Meanings.{Asks, from_all, read_format_means, read_release_means, read_span_means, read_line_means, read_live_means, release_query, span_query, line_query, live_query, format_query}
 use Rattle.lpis_register.proofs.Parts.{keeps_there, own_spans}
@@ -182,5 +183,7 @@ pub ok_by_query : (s : Shape) (sql : List ℕ) (old new : State) (c : Content) (
 ok_by_query s sql old new c (Ok rows) plain r ok = still s old new c r (shown_same sql [] old new rows.items (subst (λ it. IsPlain (understood it sql)) (sym r.holds.schema) plain) ok)
 ok_by_query s sql old new c (Err e) plain r ok = tt
 
-pub quiet_query : (s : Shape) (sql : List ℕ) (old new : State) (c : Content) → IsPlain (understood (schema_of s) sql) → IsStored s old c → Survives old new (CommitsShowing sql [] old) → Survives old new (λ _. ⊥)
-quiet_query s sql old new c plain r = survives_weaker old new _ _ (λ _ db. never_commits sql [] old db (subst (λ it. IsPlain (understood it sql)) (sym r.holds.schema) plain))
+pub quiet_query : (P : Shape → Type 0) (sql : List ℕ) (old new : State) → ((s : Shape) → P s → IsPlain (understood (schema_of s) sql)) → Survives old new (CommitsShowing sql [] old)
+    → Survives old new (LeavesNone P old)
+quiet_query P sql old new plain =
+    survives_weaker old new _ _ (λ _ db may s p c r. never_commits sql [] old db (subst (λ it. IsPlain (understood it sql)) (sym r.holds.schema) (plain s p)) may)

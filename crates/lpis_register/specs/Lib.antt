@@ -9,3 +9,4 @@ pub mod Histories
 pub mod Calls
 pub mod Opening
 pub mod Codes
+pub mod private

@@ -2,12 +2,13 @@
 
 ghost use Rattle.std.specs.Prelude.{◌≡◌, true, false, [], IsTrue, IfOk, IfErr, OnErr};
 ghost use Rattle.sqlite.specs.Held.{state};
-ghost use Rattle.sqlite.specs.State.{HasCleanDisk};
+ghost use Rattle.sqlite.specs.State.{HasCleanDisk, Survives};
 ghost use Rattle.lpis_register.specs.Bare.{IsBare};
 ghost use Rattle.lpis_register.specs.Shapes.{has_live, has_spans};
 ghost use Rattle.lpis_register.specs.Holding.{IsStored};
 ghost use Rattle.lpis_register.specs.Histories.{HoldsHistory};
-ghost use Rattle.lpis_register.specs.Opening.{SaysAt, FindsHistory};
+ghost use Rattle.lpis_register.specs.Opening.{SaysAt, FindsHistory, LeavesOpened};
+ghost use Rattle.lpis_register.specs.private.Commits.{LeavesFound};
 ghost use Rattle.lpis_register.specs.declared.fault.PublishFault.TheVariants.{Unlawful};
 
 use crate::fault::PublishFault;
@@ -44,6 +45,8 @@ fn open_found<S: Alter>(
         → lives ≡ has_live shape → (c : _) → IsStored shape (state S.Store conn.old) c
         → IfErr result (λ e. e ≡ Unlawful → (first : _) (h : _) → SaysAt first c h → ⊥) }
     ensures clean { HasCleanDisk (state S.Store conn.new) → HasCleanDisk (state S.Store conn.old) }
+    ensures crash { Survives (state S.Store conn.old) (state S.Store conn.new)
+        (LeavesFound spans lives (state S.Store conn.old)) }
 {
     let (history, is_first) = find_history(alloc, conn, spans, lives)?;
     settle(alloc, conn, spans, lives, is_first, &history)?;
@@ -74,6 +77,8 @@ pub(crate) fn open_tables<S: Alter>(
     ensures lawful { HasCleanDisk (state S.Store conn.new) → IsBare (state S.Store conn.old)
         → IfErr result (λ e. e ≡ Unlawful → ⊥) }
     ensures clean { HasCleanDisk (state S.Store conn.new) → HasCleanDisk (state S.Store conn.old) }
+    ensures crash { Survives (state S.Store conn.old) (state S.Store conn.new)
+        (LeavesOpened (state S.Store conn.old)) }
 {
     order_of_rows_is_free();
     let found = tables_in(conn.schema());
@@ -114,6 +119,10 @@ impl<S: Alter + Drop> Register<S> {
         ensures clean { IfOk result (λ it. HasCleanDisk (state S.Store it.conn)
             → HasCleanDisk (state S.Store connection)) }
         ensures autocommit { IfErr result (λ e. e.0.in_transaction ≡ false) }
+        ensures crash { IfOk result (λ it. Survives (state S.Store connection)
+            (state S.Store it.conn) (LeavesOpened (state S.Store connection))) }
+        ensures crash_beside { IfErr result (λ e. Survives (state S.Store connection)
+            (state S.Store e.0) (LeavesOpened (state S.Store connection))) }
     {
         match open_tables(alloc, &mut connection) {
             Ok(history) => Ok(Register::of(alloc, connection, history)),

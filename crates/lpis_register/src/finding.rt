@@ -7,6 +7,7 @@ ghost use Rattle.lpis_records.specs.Tells.{IsSameContent};
 ghost use Rattle.lpis_register.specs.Shapes.{has_spans, has_live};
 ghost use Rattle.lpis_register.specs.Holding.{IsStored};
 ghost use Rattle.lpis_register.specs.Opening.{SaysAt};
+ghost use Rattle.lpis_register.specs.private.Quiet.{IsWith, LeavesNone};
 ghost use Rattle.lpis_register.specs.declared.fault.PublishFault.TheVariants.{Unlawful};
 
 use crate::fault::PublishFault;
@@ -40,6 +41,8 @@ fn spans_found<S: Alter>(
         → there ≡ has_spans shape → (c : _) → IsStored shape (state S.Store conn.old) c
         → IsStored shape (state S.Store conn.new) c }
     ensures clean { HasCleanDisk (state S.Store conn.new) → HasCleanDisk (state S.Store conn.old) }
+    ensures survives { Survives (state S.Store conn.old) (state S.Store conn.new)
+        (LeavesNone (λ shape. there ≡ has_spans shape) (state S.Store conn.old)) }
 {
     if there {
         load_spans(alloc, conn)
@@ -69,6 +72,8 @@ fn lives_found<S: Alter>(
         → there ≡ has_live shape → (c : _) → IsStored shape (state S.Store conn.old) c
         → IsStored shape (state S.Store conn.new) c }
     ensures clean { HasCleanDisk (state S.Store conn.new) → HasCleanDisk (state S.Store conn.old) }
+    ensures survives { Survives (state S.Store conn.old) (state S.Store conn.new)
+        (LeavesNone (λ shape. there ≡ has_live shape) (state S.Store conn.old)) }
 {
     if there {
         load_lives(alloc, conn)
@@ -98,6 +103,8 @@ fn load_found<S: Alter>(
         → spans_there ≡ has_spans shape → lives_there ≡ has_live shape → (c : _)
         → IsStored shape (state S.Store conn.old) c → IsStored shape (state S.Store conn.new) c }
     ensures clean { HasCleanDisk (state S.Store conn.new) → HasCleanDisk (state S.Store conn.old) }
+    ensures survives { Survives (state S.Store conn.old) (state S.Store conn.new)
+        (LeavesNone (IsWith spans_there lives_there) (state S.Store conn.old)) }
 {
     let formats = load_formats(alloc, conn)?;
     let years = load_years(alloc, conn)?;
@@ -147,6 +154,8 @@ pub(crate) fn find_history<S: Alter>(
         → lives ≡ has_live shape → (c : _) → IsStored shape (state S.Store conn.old) c
         → IfErr result (λ e. e ≡ Unlawful → (first : _) (h : _) → SaysAt first c h → ⊥) }
     ensures clean { HasCleanDisk (state S.Store conn.new) → HasCleanDisk (state S.Store conn.old) }
+    ensures survives { Survives (state S.Store conn.old) (state S.Store conn.new)
+        (LeavesNone (IsWith spans lives) (state S.Store conn.old)) }
 {
     order_of_rows_is_free();
     match load_found(alloc, conn, spans, lives) {

@@ -1,13 +1,17 @@
 //! Laws of the definitions: functions that do nothing, and whose contracts say them.
 
-ghost use Rattle.std.specs.Prelude.{◌≡◌, ◌++◌, List};
+ghost use Rattle.std.specs.Prelude.{◌≡◌, ◌++◌, Bool, List};
 ghost use Rattle.sqlite.specs.Held.{state};
 ghost use Rattle.lpis_lineage.specs.declared.row.Entry.{Entry};
+ghost use Rattle.lpis_records.specs.Content.{Content};
 ghost use Rattle.lpis_records.specs.Tells.{IsSameHistory};
 ghost use Rattle.lpis_register.specs.Calls.{AllLead, AreReleasesOf, Call, accepted};
 ghost use Rattle.lpis_register.specs.Histories.{HoldsHistory};
+ghost use Rattle.lpis_register.specs.Opening.{SaysAt};
 
-use lpis_records::{order_of_rows_is_free, tables_say_one_history};
+use lpis_records::{
+    order_of_rows_is_free, tables_of_version_1_say_one_history, tables_say_one_history,
+};
 use sqlite::{Alter, Connection};
 
 /// After any list of calls of `publish` the history is the one before them with the accepted releases at its end, in their order. It is
@@ -15,6 +19,14 @@ use sqlite::{Alter, Connection};
 pub fn accepted_releases_stand_in_order()
     ensures { (h k : List Entry) (calls : List Call) → AllLead h calls k → (es : List Entry) × (k ≡ h ++ es) × AreReleasesOf (accepted calls) es }
 {}
+
+/// Rows say one history, whichever version they are of.
+pub fn rows_say_one_history()
+    ensures { (c : Content) (h k : List Entry) (first other : Bool) → SaysAt first c h → SaysAt other c k → IsSameHistory h k }
+{
+    tables_say_one_history();
+    tables_of_version_1_say_one_history();
+}
 
 /// A database says one history.
 pub fn a_database_says_one_history<S: Alter>(conn: &Connection<S>)

@@ -24,5 +24,7 @@ mod tracing;
 mod writing;
 
 pub use fault::{PublishCode, PublishFault};
-pub use laws::{a_database_says_one_history, accepted_releases_stand_in_order};
+pub use laws::{
+    a_database_says_one_history, accepted_releases_stand_in_order, rows_say_one_history,
+};
 pub use register::Register;

@@ -7,6 +7,7 @@ ghost use Rattle.lpis_records.specs.Content.{without_live};
 ghost use Rattle.lpis_records.specs.Tells.{IsSameContent};
 ghost use Rattle.lpis_register.specs.Shapes.{has_spans, has_live};
 ghost use Rattle.lpis_register.specs.Holding.{IsStored};
+ghost use Rattle.lpis_register.specs.private.Quiet.{LeavesNone};
 
 use crate::queries::{format_rows, line_rows, live_rows, release_rows, span_rows};
 use crate::reading::{read_formats, read_lines, read_lives, read_spans, read_years};
@@ -31,8 +32,8 @@ pub(crate) fn load_formats<S: Alter>(
         → (shape : _) → (c : _) → IsStored shape (state S.Store conn.old) c
         → IsStored shape (state S.Store conn.new) c }
     ensures clean { HasCleanDisk (state S.Store conn.new) → HasCleanDisk (state S.Store conn.old) }
-    ensures survives { (shape : _) → (c : _) → IsStored shape (state S.Store conn.old) c
-        → Survives (state S.Store conn.old) (state S.Store conn.new) (λ _. ⊥) }
+    ensures survives { Survives (state S.Store conn.old) (state S.Store conn.new)
+        (LeavesNone (λ _. Unit {0}) (state S.Store conn.old)) }
 {
     let rows = format_rows(conn)?;
     read_formats(alloc, rows.as_slice())
@@ -55,8 +56,8 @@ pub(crate) fn load_years<S: Alter>(
         → (shape : _) → (c : _) → IsStored shape (state S.Store conn.old) c
         → IsStored shape (state S.Store conn.new) c }
     ensures clean { HasCleanDisk (state S.Store conn.new) → HasCleanDisk (state S.Store conn.old) }
-    ensures survives { (shape : _) → (c : _) → IsStored shape (state S.Store conn.old) c
-        → Survives (state S.Store conn.old) (state S.Store conn.new) (λ _. ⊥) }
+    ensures survives { Survives (state S.Store conn.old) (state S.Store conn.new)
+        (LeavesNone (λ _. Unit {0}) (state S.Store conn.old)) }
 {
     let rows = release_rows(conn)?;
     read_years(alloc, rows.as_slice())
@@ -79,9 +80,8 @@ pub(crate) fn load_spans<S: Alter>(
         → (shape : _) → has_spans shape ≡ true → (c : _)
         → IsStored shape (state S.Store conn.old) c → IsStored shape (state S.Store conn.new) c }
     ensures clean { HasCleanDisk (state S.Store conn.new) → HasCleanDisk (state S.Store conn.old) }
-    ensures survives { (shape : _) → has_spans shape ≡ true → (c : _)
-        → IsStored shape (state S.Store conn.old) c
-        → Survives (state S.Store conn.old) (state S.Store conn.new) (λ _. ⊥) }
+    ensures survives { Survives (state S.Store conn.old) (state S.Store conn.new)
+        (LeavesNone (λ shape. has_spans shape ≡ true) (state S.Store conn.old)) }
 {
     let rows = span_rows(conn)?;
     read_spans(alloc, rows.as_slice())
@@ -104,8 +104,8 @@ pub(crate) fn load_lines<S: Alter>(
         → (shape : _) → (c : _) → IsStored shape (state S.Store conn.old) c
         → IsStored shape (state S.Store conn.new) c }
     ensures clean { HasCleanDisk (state S.Store conn.new) → HasCleanDisk (state S.Store conn.old) }
-    ensures survives { (shape : _) → (c : _) → IsStored shape (state S.Store conn.old) c
-        → Survives (state S.Store conn.old) (state S.Store conn.new) (λ _. ⊥) }
+    ensures survives { Survives (state S.Store conn.old) (state S.Store conn.new)
+        (LeavesNone (λ _. Unit {0}) (state S.Store conn.old)) }
 {
     let rows = line_rows(conn)?;
     read_lines(alloc, rows.as_slice())
@@ -128,9 +128,8 @@ pub(crate) fn load_lives<S: Alter>(
         → (shape : _) → has_live shape ≡ true → (c : _)
         → IsStored shape (state S.Store conn.old) c → IsStored shape (state S.Store conn.new) c }
     ensures clean { HasCleanDisk (state S.Store conn.new) → HasCleanDisk (state S.Store conn.old) }
-    ensures survives { (shape : _) → has_live shape ≡ true → (c : _)
-        → IsStored shape (state S.Store conn.old) c
-        → Survives (state S.Store conn.old) (state S.Store conn.new) (λ _. ⊥) }
+    ensures survives { Survives (state S.Store conn.old) (state S.Store conn.new)
+        (LeavesNone (λ shape. has_live shape ≡ true) (state S.Store conn.old)) }
 {
     let rows = live_rows(conn)?;
     read_lives(alloc, rows.as_slice())

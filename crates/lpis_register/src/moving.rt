@@ -6,8 +6,9 @@ ghost use Rattle.sqlite.specs.State.{HasCleanDisk, KeepsCommit, Survives};
 ghost use Rattle.lpis_records.specs.Content.{moved, with_version, with_whole_span, with_whole_spans, without_live, without_spans};
 ghost use Rattle.lpis_records.specs.Tells.{TellsLive, only_format};
 ghost use Rattle.lpis_register.specs.Shapes.{First, Moved, has_live, has_spans, with_span_table};
-ghost use Rattle.lpis_register.specs.Holding.{Inside, IsStored, Leaves};
+ghost use Rattle.lpis_register.specs.Holding.{Inside, IsStored};
 ghost use Rattle.lpis_register.specs.Lines.{span_at};
+ghost use Rattle.lpis_register.specs.private.Commits.{LeavesBeside, LeavesMoved};
 
 use crate::tables::make_span;
 use lpis_records::SpanRow;
@@ -189,10 +190,8 @@ pub(crate) fn write_moved<S: Alter>(
         → IsStored shape (state S.Store conn.old) c
         → OnErr result (IsStored shape (state S.Store conn.new) c) }
     ensures clean { HasCleanDisk (state S.Store conn.new) → HasCleanDisk (state S.Store conn.old) }
-    ensures crash { (shape : _) → spans_there ≡ has_spans shape → lives_there ≡ has_live shape
-        → (c : _) → c.formats ≡ only_format 1
-        → IsStored shape (state S.Store conn.old) c
-        → Survives (state S.Store conn.old) (state S.Store conn.new) (Leaves (with_span_table shape) (moved spans.now c)) }
+    ensures crash { Survives (state S.Store conn.old) (state S.Store conn.new)
+        (LeavesMoved spans_there lives_there spans.now (state S.Store conn.old)) }
 {
     let mut tx = conn.transaction();
     fill_moved(&mut tx, spans_there, lives_there, spans)?;
@@ -210,8 +209,8 @@ pub(crate) fn add_spans<S: Alter>(conn: &mut Connection<S>) -> Result<(), Error>
         → (c : _) → IsStored First (state S.Store conn.old) c
         → OnErr result (IsStored First (state S.Store conn.new) c) }
     ensures clean { HasCleanDisk (state S.Store conn.new) → HasCleanDisk (state S.Store conn.old) }
-    ensures crash { (c : _) → IsStored First (state S.Store conn.old) c
-        → Survives (state S.Store conn.old) (state S.Store conn.new) (Leaves Moved c) }
+    ensures crash { Survives (state S.Store conn.old) (state S.Store conn.new)
+        (LeavesBeside (state S.Store conn.old)) }
 {
     let mut tx = conn.transaction();
     make_span(&mut tx)?;

@@ -5,6 +5,7 @@ ghost use Rattle.sqlite.specs.Held.{state};
 ghost use Rattle.sqlite.specs.State.{HasCleanDisk, Survives};
 ghost use Rattle.lpis_register.specs.Shapes.{has_spans, has_live};
 ghost use Rattle.lpis_register.specs.Holding.{IsStored};
+ghost use Rattle.lpis_register.specs.private.Quiet.{LeavesNone};
 ghost use Rattle.lpis_register.specs.Shown.{format_shown, year_shown, span_shown, line_shown, live_shown};
 
 use sqlite::{Alter, Connection, Error, Row};
@@ -17,7 +18,8 @@ pub(crate) fn format_rows<S: Alter>(conn: &mut Connection<S>) -> Result<Vec<Row>
     ensures stored { HasCleanDisk (state S.Store conn.new) → (shape : _) → (c : _) → IsStored shape (state S.Store conn.old) c → OnOk result (IsStored shape (state S.Store conn.new) c) }
     ensures same { HasCleanDisk (state S.Store conn.new) → IsTrue (state S.Store conn.new).is_open → (shape : _) → (c : _) → IsStored shape (state S.Store conn.old) c → IsStored shape (state S.Store conn.new) c }
     ensures clean { HasCleanDisk (state S.Store conn.new) → HasCleanDisk (state S.Store conn.old) }
-    ensures survives { (shape : _) → (c : _) → IsStored shape (state S.Store conn.old) c → Survives (state S.Store conn.old) (state S.Store conn.new) (λ _. ⊥) }
+    ensures survives { Survives (state S.Store conn.old) (state S.Store conn.new)
+        (LeavesNone (λ _. Unit {0}) (state S.Store conn.old)) }
 {
     conn.query_all("SELECT one, version FROM lpis_format", &[])
 }
@@ -30,7 +32,8 @@ pub(crate) fn release_rows<S: Alter>(conn: &mut Connection<S>) -> Result<Vec<Row
     ensures stored { HasCleanDisk (state S.Store conn.new) → (shape : _) → (c : _) → IsStored shape (state S.Store conn.old) c → OnOk result (IsStored shape (state S.Store conn.new) c) }
     ensures same { HasCleanDisk (state S.Store conn.new) → IsTrue (state S.Store conn.new).is_open → (shape : _) → (c : _) → IsStored shape (state S.Store conn.old) c → IsStored shape (state S.Store conn.new) c }
     ensures clean { HasCleanDisk (state S.Store conn.new) → HasCleanDisk (state S.Store conn.old) }
-    ensures survives { (shape : _) → (c : _) → IsStored shape (state S.Store conn.old) c → Survives (state S.Store conn.old) (state S.Store conn.new) (λ _. ⊥) }
+    ensures survives { Survives (state S.Store conn.old) (state S.Store conn.new)
+        (LeavesNone (λ _. Unit {0}) (state S.Store conn.old)) }
 {
     conn.query_all("SELECT year FROM lpis_release ORDER BY year", &[])
 }
@@ -43,7 +46,8 @@ pub(crate) fn span_rows<S: Alter>(conn: &mut Connection<S>) -> Result<Vec<Row>, 
     ensures stored { HasCleanDisk (state S.Store conn.new) → (shape : _) → has_spans shape ≡ true → (c : _) → IsStored shape (state S.Store conn.old) c → OnOk result (IsStored shape (state S.Store conn.new) c) }
     ensures same { HasCleanDisk (state S.Store conn.new) → IsTrue (state S.Store conn.new).is_open → (shape : _) → has_spans shape ≡ true → (c : _) → IsStored shape (state S.Store conn.old) c → IsStored shape (state S.Store conn.new) c }
     ensures clean { HasCleanDisk (state S.Store conn.new) → HasCleanDisk (state S.Store conn.old) }
-    ensures survives { (shape : _) → has_spans shape ≡ true → (c : _) → IsStored shape (state S.Store conn.old) c → Survives (state S.Store conn.old) (state S.Store conn.new) (λ _. ⊥) }
+    ensures survives { Survives (state S.Store conn.old) (state S.Store conn.new)
+        (LeavesNone (λ shape. has_spans shape ≡ true) (state S.Store conn.old)) }
 {
     conn.query_all("SELECT id, since, until FROM lpis_span ORDER BY id", &[])
 }
@@ -56,7 +60,8 @@ pub(crate) fn line_rows<S: Alter>(conn: &mut Connection<S>) -> Result<Vec<Row>, 
     ensures stored { HasCleanDisk (state S.Store conn.new) → (shape : _) → (c : _) → IsStored shape (state S.Store conn.old) c → OnOk result (IsStored shape (state S.Store conn.new) c) }
     ensures same { HasCleanDisk (state S.Store conn.new) → IsTrue (state S.Store conn.new).is_open → (shape : _) → (c : _) → IsStored shape (state S.Store conn.old) c → IsStored shape (state S.Store conn.new) c }
     ensures clean { HasCleanDisk (state S.Store conn.new) → HasCleanDisk (state S.Store conn.old) }
-    ensures survives { (shape : _) → (c : _) → IsStored shape (state S.Store conn.old) c → Survives (state S.Store conn.old) (state S.Store conn.new) (λ _. ⊥) }
+    ensures survives { Survives (state S.Store conn.old) (state S.Store conn.new)
+        (LeavesNone (λ _. Unit {0}) (state S.Store conn.old)) }
 {
     conn.query_all(
         "SELECT year, pos, old, new FROM lpis_row ORDER BY year, pos",
@@ -72,7 +77,8 @@ pub(crate) fn live_rows<S: Alter>(conn: &mut Connection<S>) -> Result<Vec<Row>, 
     ensures stored { HasCleanDisk (state S.Store conn.new) → (shape : _) → has_live shape ≡ true → (c : _) → IsStored shape (state S.Store conn.old) c → OnOk result (IsStored shape (state S.Store conn.new) c) }
     ensures same { HasCleanDisk (state S.Store conn.new) → IsTrue (state S.Store conn.new).is_open → (shape : _) → has_live shape ≡ true → (c : _) → IsStored shape (state S.Store conn.old) c → IsStored shape (state S.Store conn.new) c }
     ensures clean { HasCleanDisk (state S.Store conn.new) → HasCleanDisk (state S.Store conn.old) }
-    ensures survives { (shape : _) → has_live shape ≡ true → (c : _) → IsStored shape (state S.Store conn.old) c → Survives (state S.Store conn.old) (state S.Store conn.new) (λ _. ⊥) }
+    ensures survives { Survives (state S.Store conn.old) (state S.Store conn.new)
+        (LeavesNone (λ shape. has_live shape ≡ true) (state S.Store conn.old)) }
 {
     conn.query_all("SELECT year, id FROM lpis_live ORDER BY year, id", &[])
 }

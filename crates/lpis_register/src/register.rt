@@ -1,29 +1,25 @@
 //! The register.
 
-ghost use Rattle.std.specs.Prelude.{◌≡◌, ◌⊎◌, false, [], IsTrue, IfOk, IfErr, OnOk, OnErr};
+ghost use Rattle.std.specs.Prelude.{◌≡◌, ◌⊎◌, false, IsTrue, IfOk, IfErr, OnOk, OnErr};
 ghost use Rattle.sqlite.specs.Held.{state};
 ghost use Rattle.sqlite.specs.State.{HasCleanDisk, Survives};
-ghost use Rattle.sqlite.specs.Steps.{over_memory};
 ghost use Rattle.lpis_lineage.specs.Accepts.{Adds};
 ghost use Rattle.lpis_lineage.specs.Changes.{IsChange};
 ghost use Rattle.lpis_lineage.specs.Lineage.{last_live};
 ghost use Rattle.lpis_parcels.specs.Release.{parcel_ids};
 ghost use Rattle.lpis_records.specs.Tells.{IsSameHistory};
-ghost use Rattle.lpis_register.specs.Bare.{IsBare};
 ghost use Rattle.lpis_register.specs.Histories.{HoldsHistory, IsTrace, IsUnknown, LeavesHistory, LeavesRelease, PublishTells};
 ghost use Rattle.lpis_register.specs.declared.fault.PublishFault.TheVariants.{Memory, Store, Unknown, Unlawful};
 
 use crate::fault::PublishFault;
-use crate::opening::{fault_of, read_history};
+use crate::opening::read_history;
 use crate::preparing::{live_ids, preview};
 use crate::releasing::publish_release;
-use crate::tables::create;
 use crate::tracing::trace;
 use lpis_checker::Yes;
 use lpis_covers::Id;
 use lpis_lineage::{Change, History, Row};
-use lpis_records::order_of_rows_is_free;
-use sqlite::{Alter, Connection, MemStore};
+use sqlite::{Alter, Connection};
 use std::alloc::Global;
 
 /// Releases with their spans and rows, over any store of `sqlite`.
@@ -35,38 +31,6 @@ pub struct Register<S: Alter> {
     pub history: History,
     alloc: Global,
     ghost autocommit: { conn.in_transaction ≡ false },
-}
-
-/// Makes the tables of a new register.
-fn create_in<S: Alter>(conn: &mut Connection<S>) -> Result<(), PublishFault>
-    requires autocommit { conn.old.in_transaction ≡ false }
-    ensures autocommit { conn.new.in_transaction ≡ false }
-    ensures made { HasCleanDisk (state S.Store conn.new) → IsBare (state S.Store conn.old) → IfOk result (λ _. HoldsHistory (state S.Store conn.new) []) }
-{
-    order_of_rows_is_free();
-    match create(conn, true) {
-        Ok(()) => Ok(()),
-        Err(error) => Err(fault_of(error)),
-    }
-}
-
-impl Register<MemStore> {
-    /// A register in memory, with no release.
-    pub fn open_in_memory(alloc: Global) -> Result<Register<MemStore>, PublishFault>
-        ensures empty { IfOk result (λ it. it.history ≡ []) }
-        ensures holds { IfOk result (λ it. HoldsHistory (state over_memory it.conn) it.history) }
-    {
-        let mut conn = Connection::open_in_memory(alloc)?;
-        let history = History::new(alloc);
-        match create_in(&mut conn) {
-            Ok(()) => Ok(Register {
-                conn,
-                history,
-                alloc,
-            }),
-            Err(fault) => Err(fault),
-        }
-    }
 }
 
 impl<S: Alter> Register<S> {

@@ -1,13 +1,14 @@
 //! Tables of version 2, made of those that were found.
 
-ghost use Rattle.std.specs.Prelude.{◌≡◌, false, IsTrue, IfErr, OnOk, OnErr};
+ghost use Rattle.std.specs.Prelude.{◌≡◌, true, false, IsTrue, IfErr, OnOk, OnErr};
 ghost use Rattle.sqlite.specs.Held.{state};
-ghost use Rattle.sqlite.specs.State.{HasCleanDisk};
+ghost use Rattle.sqlite.specs.State.{HasCleanDisk, Survives};
 ghost use Rattle.lpis_records.specs.Tells.{TellsLive};
 ghost use Rattle.lpis_register.specs.Shapes.{has_live, has_spans};
 ghost use Rattle.lpis_register.specs.Holding.{IsStored};
 ghost use Rattle.lpis_register.specs.Histories.{HoldsHistory};
 ghost use Rattle.lpis_register.specs.Opening.{SaysAt};
+ghost use Rattle.lpis_register.specs.private.Commits.{LeavesSettled};
 ghost use Rattle.lpis_register.specs.declared.fault.PublishFault.TheVariants.{Unlawful};
 
 use crate::fault::PublishFault;
@@ -39,6 +40,8 @@ fn move_first<S: Alter>(
         → OnErr result (IsStored shape (state S.Store conn.new) c) }
     ensures lawful { IfErr result (λ e. e ≡ Unlawful → ⊥) }
     ensures clean { HasCleanDisk (state S.Store conn.new) → HasCleanDisk (state S.Store conn.old) }
+    ensures crash { Survives (state S.Store conn.old) (state S.Store conn.new)
+        (LeavesSettled spans lives true history.now (state S.Store conn.old)) }
 {
     moving_keeps_the_history();
     let rows = spans_of(alloc, history)?;
@@ -70,6 +73,8 @@ pub(crate) fn settle<S: Alter>(
         → OnErr result (IsStored shape (state S.Store conn.new) c) }
     ensures lawful { IfErr result (λ e. e ≡ Unlawful → ⊥) }
     ensures clean { HasCleanDisk (state S.Store conn.new) → HasCleanDisk (state S.Store conn.old) }
+    ensures crash { Survives (state S.Store conn.old) (state S.Store conn.new)
+        (LeavesSettled spans lives is_first history.now (state S.Store conn.old)) }
 {
     if is_first {
         return move_first(alloc, conn, spans, lives, history);

@@ -6,7 +6,8 @@ ghost use Rattle.sqlite.specs.State.{HasCleanDisk, KeepsCommit, Survives};
 ghost use Rattle.lpis_records.specs.Content.{no_content};
 ghost use Rattle.lpis_register.specs.Shapes.{New, First, Moved, schema_of, no_schema, one_table, two_tables, three_tables};
 ghost use Rattle.lpis_register.specs.Bare.{IsBare, Stage};
-ghost use Rattle.lpis_register.specs.Holding.{Inside, IsStored, Leaves};
+ghost use Rattle.lpis_register.specs.Holding.{Inside, IsStored};
+ghost use Rattle.lpis_register.specs.private.Commits.{LeavesMade};
 
 use sqlite::{Alter, Connection, Error, Transaction};
 
@@ -136,8 +137,8 @@ pub(crate) fn create<S: Alter>(conn: &mut Connection<S>, is_new: bool) -> Result
         → IsTrue (state S.Store conn.new).is_open → IsBare (state S.Store conn.old)
         → OnErr result (IsBare (state S.Store conn.new)) }
     ensures clean { HasCleanDisk (state S.Store conn.new) → HasCleanDisk (state S.Store conn.old) }
-    ensures crash { IsTrue is_new → IsBare (state S.Store conn.old)
-        → Survives (state S.Store conn.old) (state S.Store conn.new) (Leaves New no_content) }
+    ensures crash { Survives (state S.Store conn.old) (state S.Store conn.new)
+        (LeavesMade is_new (state S.Store conn.old)) }
 {
     let mut tx = conn.transaction();
     make_all(&mut tx, is_new)?;

@@ -1,9 +1,10 @@
-use Rattle.std.proofs.Common.{◌≡◌, false, not, IsTrue, refl, subst, sym, ap, ◌∙◌}
+use Rattle.std.proofs.Common.{true, not, IsTrue, refl, sym, ap, ◌∙◌, true≢false}
 use Rattle.std.proofs.lemmas.Result.{IfOk-weaker}
 use Rattle.sqlite.specs.Held.{state}
 use Rattle.lpis_records.specs.Content.{no_content}
 use Rattle.lpis_register.specs.Shapes.{New}
 use Rattle.lpis_register.proofs.Openings.{made_never, none_found, none_said}
+use Rattle.lpis_register.proofs.Commits.{opened_found, opened_made, opened_unmade}
 use Rattle.lpis_register.proofs.adopting.open_tables.Goals as goal
 
 pub returns-in-Ok-clause-bare : goal.returns-in-Ok-clause-bare
@@ -26,3 +27,26 @@ returns-in-Ok-clause-lawful g c clean bare =
     let is_new : IsTrue (not c.tables_in-found.result.format) = ap not none.0 in
     let stored = c.in-Ok.ensures.made is_new (c.open_found-in-Ok.ensures.clean clean) bare in
     made_never c.open_found-in-Ok.result c.order_of_rows_is_free.ensures.nothing (c.open_found-in-Ok.ensures.unlawful clean New refl none.2 no_content stored)
+
+pub returns-then-found-clause-crash : goal.returns-then-found-clause-crash
+returns-then-found-clause-crash g c =
+    let found = c.tables_in-found in
+    opened_found found.result.spans found.result.lives (state g.S.Store c.args.conn.now) (state g.S.Store c.open_found.new.conn)
+    (λ shape content r. let there = found.ensures.shaped shape (c.schema.ensures.value ∙ r.holds.schema) in (there.1, there.2))
+    (λ bare. true≢false (sym c.if-found.true ∙ (found.ensures.bare (c.schema.ensures.value ∙ bare.schema)).1)) c.open_found.ensures.crash
+
+pub returns-in-Err-clause-crash : goal.returns-in-Err-clause-crash
+returns-in-Err-clause-crash g c =
+    let found = c.tables_in-found in
+    opened_unmade (not found.result.format) (state g.S.Store c.args.conn.now) (state g.S.Store c.create.new.conn)
+    (λ shape content r. true≢false (sym (found.ensures.shaped shape (c.schema.ensures.value ∙ r.holds.schema)).0 ∙ c.if-found.false))
+    (λ bare. ap not (found.ensures.bare (c.schema.ensures.value ∙ bare.schema)).0) c.order_of_rows_is_free.ensures.nothing c.create.ensures.crash
+
+pub returns-in-Ok-clause-crash : goal.returns-in-Ok-clause-crash
+returns-in-Ok-clause-crash g c =
+    let found = c.tables_in-found in
+    opened_made (not found.result.format) true found.result.lives (state g.S.Store c.args.conn.now) (state g.S.Store c.create.new.conn) (state g.S.Store c.open_found-in-Ok.new.conn)
+    (λ shape content r. true≢false (sym (found.ensures.shaped shape (c.schema.ensures.value ∙ r.holds.schema)).0 ∙ c.if-found.false))
+    (λ bare. ap not (found.ensures.bare (c.schema.ensures.value ∙ bare.schema)).0) c.order_of_rows_is_free.ensures.nothing
+    (λ clean bare. let none = found.ensures.bare (c.schema.ensures.value ∙ bare.schema) in ((refl, none.2), c.in-Ok.ensures.made (ap not none.0) clean bare))
+    c.create.ensures.crash c.open_found-in-Ok.ensures.crash

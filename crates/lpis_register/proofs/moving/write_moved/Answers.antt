@@ -6,6 +6,7 @@ use Rattle.sqlite.proofs.Callers.{survives_begin}
 use Rattle.lpis_records.specs.Content.{moved}
 use Rattle.lpis_register.specs.Shapes.{with_span_table}
 use Rattle.lpis_register.specs.Holding.{IsStored, Leaves}
+use Rattle.lpis_register.specs.private.Commits.{LeavesMoved}
 use Rattle.lpis_register.proofs.Steps.{begun_inside, commit_ok, moved_err, leaves, crashed}
 use Rattle.lpis_register.proofs.moving.write_moved.Goals as goal
 
@@ -36,15 +37,16 @@ returns-clause-err g c clean up shape spans lives content one r =
     subst (λ h. OnErr c.commit.result (IsStored shape (state g.S.Store h) content)) same (moved_err shape (with_span_table shape) _ old last new content _ r inside refl still c.commit.result (c.commit.ensures.err late))
 
 pub returns-clause-crash : goal.returns-clause-crash
-returns-clause-crash g c shape spans lives content one r =
+returns-clause-crash g c =
     let first = c.transaction-tx.result.conn.now in
     let old = state g.S.Store c.args.conn.now in
     let last = state g.S.Store c.fill_moved.new.tx.conn.now in
     let new = state g.S.Store c.commit.new.self.0 in
     let same : c.commit.new.self.0 ≡ c.conn-2-1.given.0 = search rules in
-    let begun = begun_inside shape g.S.Store c.args.conn.now first content c.transaction-tx.ensures.begun r in
-    let inside = λ (clean : HasCleanDisk new).
-    let at_last : HasCleanDisk last = omega (arith, c.commit.ensures.survives.clean) in
-    c.in_ok-fill_moved.ensures.moved at_last shape spans lives _ _ one begun in
     let quiet_since = survives_begin g.S.Store c.args.conn.now last _ (rw c.transaction-tx.ensures.begun at c.fill_moved.ensures.survives) in
-    subst (λ h. Survives old (state g.S.Store h) (Leaves (with_span_table shape) (moved c.args.spans.now content))) same (crashed old last new _ (Leaves (with_span_table shape) (moved c.args.spans.now content)) quiet_since c.commit.ensures.survives (λ clean db is. subst (Leaves (with_span_table shape) (moved c.args.spans.now content)) (sym is) (leaves (with_span_table shape) last.now _ (inside clean).holds)))
+    let P = LeavesMoved c.args.spans_there c.args.lives_there c.args.spans.now old in
+    subst (λ h. Survives old (state g.S.Store h) P) same (crashed old last new _ P quiet_since c.commit.ensures.survives (λ clean db is shape w content one r.
+    let at_last : HasCleanDisk last = omega (arith, c.commit.ensures.survives.clean) in
+    let begun = begun_inside shape g.S.Store c.args.conn.now first content c.transaction-tx.ensures.begun r in
+    let inside = c.in_ok-fill_moved.ensures.moved at_last shape w.0 w.1 _ _ one begun in
+    subst (Leaves (with_span_table shape) (moved c.args.spans.now content)) (sym is) (leaves (with_span_table shape) last.now _ inside.holds)))

@@ -13,7 +13,7 @@ returns-clause-same g c clean up shape content r =
     kept_by_query shape read_format (state g.S.Store c.args.conn.now) (state g.S.Store c.query_all.new.self) content c.query_all.result (read_format_means shape).2 r up (c.query_all.ensures.ok clean) (c.query_all.ensures.err clean)
 
 pub returns-clause-survives : goal.returns-clause-survives
-returns-clause-survives g c shape content r = quiet_query shape read_format (state g.S.Store c.args.conn.now) (state g.S.Store c.query_all.new.self) content (read_format_means shape).2 r c.query_all.ensures.survives
+returns-clause-survives g c = quiet_query _ read_format (state g.S.Store c.args.conn.now) (state g.S.Store c.query_all.new.self) (λ shape any. (read_format_means shape).2) c.query_all.ensures.survives
 
 pub returns-clause-stored : goal.returns-clause-stored
 returns-clause-stored g c clean shape content r =

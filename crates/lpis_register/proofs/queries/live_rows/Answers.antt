@@ -13,7 +13,7 @@ returns-clause-same g c clean up shape there content r =
     kept_by_query shape read_live (state g.S.Store c.args.conn.now) (state g.S.Store c.query_all.new.self) content c.query_all.result (read_live_means shape there).2 r up (c.query_all.ensures.ok clean) (c.query_all.ensures.err clean)
 
 pub returns-clause-survives : goal.returns-clause-survives
-returns-clause-survives g c shape there content r = quiet_query shape read_live (state g.S.Store c.args.conn.now) (state g.S.Store c.query_all.new.self) content (read_live_means shape there).2 r c.query_all.ensures.survives
+returns-clause-survives g c = quiet_query _ read_live (state g.S.Store c.args.conn.now) (state g.S.Store c.query_all.new.self) (λ shape there. (read_live_means shape there).2) c.query_all.ensures.survives
 
 pub returns-clause-stored : goal.returns-clause-stored
 returns-clause-stored g c clean shape there content r =
