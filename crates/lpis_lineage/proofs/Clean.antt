@@ -289,7 +289,7 @@ used-none : (o : Option ℕ) (b : Bool) (id : List ℕ) (rest : List LineageFaul
 used-none None b id rest f e = e
 used-none (Some y) b id rest f e = told-none _ _ _ (not-of b (f refl)) e
 
-used-clean : (h : List Entry) (last ids : List (List ℕ)) → used_faults h last ids ≡ [] → (id : List ℕ) (i : ℕ) → holds h i id ≡ true → has_id ids id ≡ true → has_id last id ≡ true
+pub used-clean : (h : List Entry) (last ids : List (List ℕ)) → used_faults h last ids ≡ [] → (id : List ℕ) (i : ℕ) → holds h i id ≡ true → has_id ids id ≡ true → has_id last id ≡ true
 used-clean h last [] e id i hi is = cc is
 used-clean h last (x ∷ xs) e id i hi is =
     let t = used-nil (last_held h x) (has_id last x) x _ e in
@@ -300,7 +300,7 @@ used-clean h last (x ∷ xs) e id i hi is =
       | inr b ↦ used-clean h last xs t.1 id i hi b
     ]
 
-clean-used : (h : List Entry) (last ids : List (List ℕ)) → ((id : List ℕ) (i : ℕ) → holds h i id ≡ true → has_id ids id ≡ true → has_id last id ≡ true) → used_faults h last ids ≡ []
+pub clean-used : (h : List Entry) (last ids : List (List ℕ)) → ((id : List ℕ) (i : ℕ) → holds h i id ≡ true → has_id ids id ≡ true → has_id last id ≡ true) → used_faults h last ids ≡ []
 clean-used h last [] all = refl
 clean-used h last (x ∷ xs) all = used-none (last_held h x) (has_id last x) x _ (λ s. let r = some-held h x s in all x r.0 r.1 (or-left _ _ (same-refl x))) (clean-used h last xs (λ id i hi is. all id i hi (or-right (same_id id x) _ is)))
 

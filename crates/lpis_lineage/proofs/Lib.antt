@@ -16,3 +16,4 @@ pub mod KindSteps
 pub mod PopSteps
 pub mod SpanPicks
 pub mod RowsLemmas
+pub mod Walking

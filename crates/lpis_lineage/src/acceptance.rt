@@ -1,6 +1,6 @@
 //! What a release's lineage has to meet.
 
-ghost use Rattle.std.specs.Prelude.{◌≡◌, ◌++◌, ◌∷◌, ℕ, List, [], OnOk, IfOk};
+ghost use Rattle.std.specs.Prelude.{◌≡◌, ◌++◌, ◌∷◌, ℕ, List, [], OnOk, IfOk, IsTrue};
 ghost use Rattle.lpis_covers.specs.Ids.{has_id};
 ghost use Rattle.lpis_lineage.specs.declared.row.Row.{Row};
 ghost use Rattle.lpis_lineage.specs.Lineage.{last_live};
@@ -62,16 +62,39 @@ fn check_rows(alloc: Global, last: &IdSet, live: &IdSet, rows: &[Row]) -> Result
 fn check_dropped(last: &IdSet, live: &IdSet, seen: &Seen) -> Result<(), LineageFault>
     ensures { (rows : List Row) → IsSeen seen.now rows → Tells (dropped_faults live.now rows last.now) result }
 {
-    for id in last.iter() {
-        if !live.contains(id) && !seen.has_row(id) {
+    for id in last.lacking(live) {
+        if !seen.has_row(id) {
             return Err(LineageFault::NoRow { id: id.copy()? });
         }
     }
     Ok(())
 }
 
-/// Looks for identifiers that were used before.
-fn check_used(history: &History, ids: &[Id]) -> Result<(), LineageFault>
+/// Whether no identifier of the set was used before. Those alone are looked up that the last release lacks.
+fn none_used(history: &History, set: &IdSet) -> bool
+    ensures { IsTrue result → used_faults history.now (last_live history.now) set.now ≡ [] }
+{
+    for id in set.lacking(history.last_live()) {
+        if history.span(id).is_some() {
+            return false;
+        }
+    }
+    true
+}
+
+/// Looks for identifiers that were used before; the set has the same ones.
+fn check_used(history: &History, set: &IdSet, ids: &[Id]) -> Result<(), LineageFault>
+    requires alike { (q : List ℕ) → has_id set.now q ≡ has_id ids.now q }
+    ensures { Tells (used_faults history.now (last_live history.now) ids.now) result }
+{
+    if none_used(history, set) {
+        return Ok(());
+    }
+    find_used(history, ids)
+}
+
+/// Looks for the first identifier that was used before, in their order.
+fn find_used(history: &History, ids: &[Id]) -> Result<(), LineageFault>
     ensures { Tells (used_faults history.now (last_live history.now) ids.now) result }
 {
     for id in ids {
@@ -138,6 +161,6 @@ fn first_fault(
     let last = history.last_live();
     let seen = check_rows(alloc, last, &set, rows)?;
     check_dropped(last, &set, &seen)?;
-    check_used(history, live)?;
+    check_used(history, &set, live)?;
     Ok(set)
 }

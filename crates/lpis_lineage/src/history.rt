@@ -129,7 +129,8 @@ impl History {
         ensures { IfOk result (λ v. v.items ≡ filter (λ id. not (is_some (span_of self.now id))) ids.now) }
     {
         let mut fresh = Vec::new(alloc);
-        for id in ids.iter() {
+        // Each identifier of the last release has a span.
+        for id in ids.lacking(self.last_live()) {
             if self.span(id).is_none() {
                 let copy = id.copy()?;
                 fresh.push(copy)?;

@@ -8,7 +8,7 @@ ghost use Rattle.lpis_lineage.specs.Order.{IsAscending};
 use lpis_covers::Id;
 use std::alloc::{AllocError, Global};
 use std::collections::BTreeSet;
-use std::collections::btree_set::Iter;
+use std::collections::btree_set::{Difference, Iter};
 use std::marker::Model;
 
 /// A set of identifiers, which contracts see as their list, ascending by bytes.
@@ -42,12 +42,9 @@ impl IdSet {
     pub(crate) fn of(alloc: Global, ids: &[Id]) -> Result<IdSet, AllocError>
         ensures { IfOk result (λ s. (q : List ℕ) → has_id s q ≡ has_id ids.now q) }
     {
-        let mut set = IdSet::new(alloc);
-        for id in ids {
-            let copy = id.copy()?;
-            set.add(copy)?;
-        }
-        Ok(set)
+        let copies = copy_ids(alloc, ids)?;
+        let ids = BTreeSet::from_iter(alloc, copies)?;
+        Ok(IdSet { ids })
     }
 
     /// The set of one identifier.
@@ -82,6 +79,14 @@ impl IdSet {
         self.ids.iter()
     }
 
+    /// The identifiers that another set lacks, ascending by bytes. Both are walked side by side.
+    pub(crate) fn lacking<'a>(&'a self, other: &'a IdSet) -> Difference<'a, Id, Global>
+        ensures rest { result ≡ filter (λ id. not (has_id other.now id)) self.now }
+        ensures ascending { IsAscending result }
+    {
+        self.ids.difference(&other.ids)
+    }
+
     /// Copies of those identifiers of another set that are in this one, ascending.
     pub(crate) fn inside(&self, alloc: Global, other: &IdSet) -> Result<Vec<Id>, AllocError>
         ensures list { IfOk result (λ v. v.items ≡ filter (λ id. has_id self.now id) other.now) }
@@ -103,12 +108,22 @@ impl IdSet {
         ensures ascending { IfOk result (λ v. IsAscending v.items) }
     {
         let mut found = Vec::new(alloc);
-        for id in other.iter() {
-            if !self.contains(id) {
-                let copy = id.copy()?;
-                found.push(copy)?;
-            }
+        for id in other.lacking(self) {
+            let copy = id.copy()?;
+            found.push(copy)?;
         }
         Ok(found)
     }
+}
+
+/// Copies of these identifiers, in their order.
+fn copy_ids(alloc: Global, ids: &[Id]) -> Result<Vec<Id>, AllocError>
+    ensures { IfOk result (λ v. v.items ≡ ids.now) }
+{
+    let mut copies = Vec::with_capacity(alloc, ids.len())?;
+    for id in ids {
+        let copy = id.copy()?;
+        copies.push(copy)?;
+    }
+    Ok(copies)
 }

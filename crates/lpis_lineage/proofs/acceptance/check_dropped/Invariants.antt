@@ -2,7 +2,8 @@ use Rattle.std.proofs.Common.{◌≡◌, List}
 use Rattle.lpis_lineage.specs.declared.row.Row.{Row}
 use Rattle.lpis_lineage.specs.Faults.{dropped_faults}
 use Rattle.lpis_lineage.specs.private.Seen.{IsSeen}
+use Rattle.lpis_lineage.proofs.Walking.{rowless}
 use Rattle.lpis_lineage.proofs.acceptance.check_dropped.Given as goal
 
 abbrev pub invariant-loop-id : goal.invariant-loop-id
-invariant-loop-id l = (rows : List Row) → IsSeen l.seen rows → dropped_faults l.live rows l.last ≡ dropped_faults l.live rows l.id-iterator
+invariant-loop-id l = (rows : List Row) → IsSeen l.seen rows → dropped_faults l.live rows l.last ≡ rowless rows l.id-iterator

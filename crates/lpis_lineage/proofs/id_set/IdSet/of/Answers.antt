@@ -1,5 +1,13 @@
-use Rattle.lpis_lineage.proofs.Basics.{has-more}
+use Rattle.std.proofs.Common.{◌≡◌, ◌∙◌, sym, ap, rules, List, ℕ}
+use Rattle.std.proofs.lemmas.Iterator.{items_from_drains}
+use Rattle.std.proofs.lemmas.Iterator.Adapters.{YieldsList-from_vec}
+use Rattle.std.proofs.lemmas.List.{map-id}
+use Rattle.lpis_covers.specs.Ids.{has_id}
+use Rattle.lpis_lineage.proofs.Basics.{has-by_order}
 use Rattle.lpis_lineage.proofs.id_set.IdSet.of.Goals as goal
 
-pub loop-id-preserved : goal.loop-id-preserved
-loop-id-preserved c = λ q. has-more c.args.ids.now c.loop-id.id-index c.id-item.result c.in_ok-copy.copy q _ _ c.loop-id-test.true (rw c.in_ok-copy.ensures c.id-item.is) (c.loop-id.invariant q) (c.in_ok-add.ensures.ok q)
+pub returns : goal.returns
+returns c = λ q.
+    let h = c.in_ok-ids.ensures.ran in
+    let all : h.1 ≡ c.in_ok-copies.copies.items = sym (map-id h.1) ∙ items_from_drains h.1 h.3 (YieldsList-from_vec c.in_ok-copies.copies.items h.2.0 (h.2.1 ∙ search rules)) in
+    sym (has-by_order c.in_ok-ids.ids.keys q) ∙ h.4.0 q ∙ has-by_order h.1 q ∙ ap (λ (l : List (List ℕ)). has_id l q) (all ∙ c.in_ok-copies.ensures)
