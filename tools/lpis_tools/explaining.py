@@ -71,7 +71,7 @@ class Explained:
             self.say(f"{table.path} has no row {row} (it has {max(len(table.records) - 1, 0)}): is it the file that was read?")
             return
         fields = ", ".join(f"{n} {shown(table.field(record, n))!r}" for n in COLUMNS[name] if n != "wkt" and n in table.names)
-        self.say(f"{table.path}: row {row}, line {table.line(row)}; in QGIS: $id {row + 1} of a delimited text layer, fid {row} through OGR")
+        self.say(f"{table.path}: row {row}, line {table.line(row)}; in QGIS: $id {table.line(row)} of a delimited text layer, fid {row} through OGR")
         if fields:
             self.say(f"  {fields}")
         self.say_field(table, row, record)
