@@ -1,0 +1,221 @@
+"""Runs commands with the Nth request for memory refused, N from 1 to the last that they make: refusals.py REFUSE.SO [--all] [NAME..]
+
+Each run that met a refusal has to end with status 3, `failed memory` (or `failed store`, where the database met it) and nothing on standard output. A
+certificate that was there, and the history in the register, have to be as before, by SQLite; the same command afterwards has to answer as usual. Each N is tried twice: alone, and
+with every later request refused too. A command over a register makes thousands of requests: SAMPLE of them are refused, from a fixed seed (--all: each).
+NAME: the commands whose names contain it. The last line counts the runs that met a refusal: 'N passed, M failed'.
+"""
+
+import contextlib
+import multiprocessing
+import os
+import pathlib
+import random
+import re
+import shutil
+import subprocess
+import sys
+import tempfile
+
+TOP = pathlib.Path(__file__).resolve().parent.parent.parent
+sys.path.append(str(TOP / "bench"))
+from registers import VERSION_1, history, made  # noqa: E402
+
+EXAMPLES = TOP / "examples"
+LPIS = os.environ.get("LPIS") or str(TOP / "crates" / "lpis" / "out" / "lpis")
+SECONDS, MANY, SAMPLE, SEED = 60, 1_000, 100, 20_261_123
+# A file system in memory, where there is one: the register is put on its disk by each publish.
+FAST = "/dev/shm" if os.access("/dev/shm", os.W_OK) else None
+MEMORY, STORE = (3, b"", b"failed memory\n"), (3, b"", b"failed store\n")
+
+# The parcels of examples/overlap with two triangles each and no pair line: refused with 67.
+OVERLAP = """lpis-cert 1
+piece west-1 2 0
+t 0 0 5000 0 5010 6000
+t 0 0 5010 6000 0 6000
+piece east-1 2 0
+t 5000 0 10000 0 10000 6000
+t 5000 0 10000 6000 5000 6000
+parcel west 0
+parcel east 0
+pairs 0
+end
+"""
+
+
+def lpis(words, folder, **more):
+    run = subprocess.run([LPIS, *map(str, words)], cwd=folder, stdin=subprocess.DEVNULL, capture_output=True, timeout=SECONDS, **more)
+    return run.returncode, run.stdout, run.stderr
+
+
+class Command:
+    """The words of a command, the files that it finds in its folder, and which of them has to be as before where it fails."""
+
+    def __init__(self, name, words, makers=(), kept=None):
+        self.name, self.words, self.makers, self.kept = name, words, makers, kept
+
+    def fill(self, folder):
+        for make in self.makers:
+            make(folder)
+
+    def state(self, folder):
+        """What the kept file says: the history of a register, the bytes of a certificate."""
+        path = folder / self.kept if self.kept else None
+        return history(path) if self.kept == "years.db" else path and path.read_bytes()
+
+
+def older(folder):
+    (folder / "cert.txt").write_text("older\n")
+
+
+def overlapping(folder):
+    (folder / "cert.txt").write_text(OVERLAP)
+
+
+def certificate(release):
+    return lambda folder: expect(0, lpis(["cut", EXAMPLES / release, "cert.txt"], folder))
+
+
+def published(year):
+    def make(folder):
+        certificate(f"years/{year}")(folder)
+        expect(0, lpis(["publish", "years.db", year, EXAMPLES / "years" / year, "cert.txt"], folder))
+    return make
+
+
+def first_version(folder):
+    made(folder / "years.db", VERSION_1)
+
+
+def expect(status, answer):
+    if answer[0] != status:
+        sys.exit(f"a command ended with {answer}")
+
+
+def cut(release):
+    return Command(f"cut of {release}", ["cut", EXAMPLES / release, "cert.txt"], [older], "cert.txt")
+
+
+def check(release):
+    return Command(f"check of {release}", ["check", EXAMPLES / release, "cert.txt"], [certificate(release)])
+
+
+def publish(name, year, *makers):
+    words = ["publish", "years.db", year, EXAMPLES / "years" / year, "cert.txt"]
+    return Command(f"publish of {name}", words, [*makers, certificate(f"years/{year}")], "years.db")
+
+
+def trace(name, identifier, *makers):
+    return Command(f"trace of {name}", ["trace", "years.db", identifier], makers, "years.db")
+
+
+COMMANDS = [
+    Command("--version", ["--version"]),
+    Command("--help", ["--help"]),
+    Command("a command line without a path", ["area"]),
+    Command("a year that is none", ["publish", "years.db", "0", "release", "cert.txt"]),
+    Command("a file that is missing", ["area", "missing.csv"]),
+    Command("area of the square", ["area", EXAMPLES / "square.csv"]),
+    *map(cut, ["square", "holes", "junctions", "members", "sweep", "years/2024", "bowtie", "gap", "overlap"]),
+    *map(check, ["square", "holes", "junctions", "members"]),
+    Command("check of overlap, without pair lines", ["check", EXAMPLES / "overlap", "cert.txt"], [overlapping]),
+    publish("2024, in a new file", "2024"),
+    publish("2025, after 2024", "2025", published("2024")),
+    publish("2025, a second time", "2025", published("2024"), published("2025")),
+    trace("north", "north", published("2024"), published("2025")),
+    trace("an identifier in no release", "brook", published("2024"), published("2025")),
+    trace("a new file", "north"),
+    trace("a register of version 1", "A", first_version),
+]
+
+
+@contextlib.contextmanager
+def copy_of(folder):
+    """A copy of a folder beside it, for a while."""
+    copy = pathlib.Path(tempfile.mkdtemp(dir=folder.parent))
+    try:
+        yield shutil.copytree(folder, copy, dirs_exist_ok=True)
+    finally:
+        shutil.rmtree(copy)
+
+
+class Refusals:
+    """A command with its files, its usual answer, what it leaves, and how many requests it makes."""
+
+    def __init__(self, command, folder, library):
+        self.command, self.folder, self.library = command, folder, library
+        folder.mkdir()
+        command.fill(folder)
+        with copy_of(folder) as copy:
+            self.before = command.state(copy)
+        with copy_of(folder) as copy:
+            self.usual, self.after = lpis(command.words, copy), command.state(copy)
+        with copy_of(folder) as copy:
+            *_, told = self.start(0, False, copy)
+            self.requests = int(re.fullmatch(r"requests (\d+)\n", told).group(1))
+
+    def numbers(self, is_whole):
+        """The requests to refuse: all, or a sample where there are many."""
+        every = range(1, self.requests + 1)
+        return every if is_whole or self.requests <= MANY else sorted(random.Random(SEED).sample(every, SAMPLE))
+
+    def start(self, number, goes_on, folder):
+        """The answer where the request of this number is refused, and what refuse_nth.c told."""
+        end, told = os.pipe()
+        environment = dict(os.environ, LD_PRELOAD=self.library, REFUSE=str(number), REFUSE_ON=str(int(goes_on)), TOLD=str(told))
+        answer = lpis(self.command.words, folder, env=environment, pass_fds=(told,))
+        os.close(told)
+        with os.fdopen(end) as text:
+            return (*answer, text.read())
+
+    def ending(self, number, goes_on):
+        """How a run ended whose request of this number was refused: `memory`, `store`, or what is not right."""
+        with copy_of(self.folder) as copy:
+            *answer, told = self.start(number, goes_on, copy)
+            answer, refused = tuple(answer), re.match(r"refused .*", told)
+            if not refused:
+                return f"met no refusal: {answer}"
+            if answer not in (MEMORY, STORE):
+                return f"{refused.group(0)}: {answer}"
+            with copy_of(copy) as seen:
+                if self.command.state(seen) != self.before:
+                    return f"{refused.group(0)}: {self.command.kept} is not as before"
+            again = lpis(self.command.words, copy)
+            if again != self.usual or self.command.state(copy) != self.after:
+                return f"{refused.group(0)}: the same command afterwards answered {again}"
+            return "memory" if answer == MEMORY else "store"
+
+
+def ending_of(job):
+    place, number, goes_on = job
+    return REFUSALS[place].ending(number, goes_on)
+
+
+REFUSALS = []  # before the processes begin that share them
+
+
+def main():
+    library, words = sys.argv[1], [word for word in sys.argv[2:] if word != "--all"]
+    is_whole = "--all" in sys.argv
+    passed = failed = 0
+    with tempfile.TemporaryDirectory(dir=FAST) as top:
+        for number, command in enumerate(COMMANDS):
+            if not words or any(word in command.name for word in words):
+                REFUSALS.append(Refusals(command, pathlib.Path(top, str(number)), library))
+        jobs = [(place, number, goes_on) for place, refusals in enumerate(REFUSALS) for number in refusals.numbers(is_whole) for goes_on in (False, True)]
+        with multiprocessing.Pool() as pool:
+            endings = pool.map(ending_of, jobs, chunksize=8)
+    for place, refusals in enumerate(REFUSALS):
+        mine = [(job, ending) for job, ending in zip(jobs, endings) if job[0] == place]
+        told = {name: sum(ending == name for _, ending in mine) for name in ("memory", "store")}
+        for (_, number, goes_on), ending in mine:
+            if ending not in told:
+                print(f"{refusals.command.name}, request {number}{' and all later ones' * goes_on}: {ending}")
+        passed, failed = passed + sum(told.values()), failed + len(mine) - sum(told.values())
+        print(f"{refusals.command.name}: {refusals.requests} requests, {len(mine) // 2} of them refused, alone and with all later ones: "
+              f"{told['memory']} times failed memory, {told['store']} times failed store")
+    print(f"{passed} passed, {failed} failed")
+    return 1 if failed else 0
+
+
+sys.exit(main())
