@@ -25,9 +25,11 @@ use Rattle.sqlite_rules.specs.Calls.{ids_of}
 use Rattle.sqlite.proofs.Callers.{statement_of, runs_as}
 use Rattle.lpis_records.specs.Content.{Content, without_spans, without_live}
 use Rattle.lpis_register.specs.Tables.{span_table, live_table}
-use Rattle.lpis_register.specs.Shapes.{Shape, New, First, Moved, schema_of, has_spans, has_live, span_place, span_tree}
-use Rattle.lpis_register.specs.Texts.{clear_span, clear_live}
-use Rattle.lpis_register.specs.Holding.{AreKeyed, Inside, span_row, live_row}
+use Rattle.lpis_register.specs.Shapes.{Shape, New, First, Moved, schema_of, has_spans, has_live, span_tree}
+use Rattle.lpis_register.specs.private.Places.{span_place}
+use Rattle.lpis_register.specs.private.Texts.{clear_span, clear_live}
+use Rattle.lpis_register.specs.Holding.{AreKeyed, span_row, live_row}
+use Rattle.lpis_register.specs.private.Inside.{Inside}
 use Rattle.lpis_register.proofs.Meanings.{Says, whole, ids_query, clear_span_means, clear_live_means}
 use Rattle.lpis_register.proofs.Update.{without_is, filter_same, gone_are, key_of}
 use Rattle.lpis_register.proofs.Parts.{far, far_span, span_not_live, live_not_span, keeps_there, there_keeps, formats_kept, years_kept, spans_kept, lines_kept, live_kept, own_spans}

@@ -33,10 +33,12 @@ use Rattle.sqlite.specs.State.{State, mode_of, ExecutesInside}
 use Rattle.sqlite.proofs.Callers.{statement_of, runs_as}
 use Rattle.lpis_records.specs.Content.{Span, Content, end_at, ended}
 use Rattle.lpis_register.specs.Tables.{span_table}
-use Rattle.lpis_register.specs.Shapes.{Shape, schema_of, has_spans, span_place, span_tree}
-use Rattle.lpis_register.specs.Texts.{end_span}
-use Rattle.lpis_register.specs.Shown.{text_in}
-use Rattle.lpis_register.specs.Holding.{AreKeyed, span_row, Inside}
+use Rattle.lpis_register.specs.Shapes.{Shape, schema_of, has_spans, span_tree}
+use Rattle.lpis_register.specs.private.Places.{span_place}
+use Rattle.lpis_register.specs.private.Texts.{end_span}
+use Rattle.lpis_register.specs.private.Shown.{text_in}
+use Rattle.lpis_register.specs.Holding.{AreKeyed, span_row}
+use Rattle.lpis_register.specs.private.Inside.{Inside}
 use Rattle.lpis_register.proofs.Meanings.{ends_query, end_span_means, whole}
 use Rattle.lpis_register.proofs.Puts.{not_taken}
 use Rattle.lpis_register.proofs.Parts.{far_span, live_not_span, keeps_there, there_keeps, formats_kept, years_kept, lines_kept, live_kept, own_spans}

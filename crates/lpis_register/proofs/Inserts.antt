@@ -11,9 +11,11 @@ use Rattle.sqlite.specs.Tree.{Trees}
 use Rattle.sqlite.specs.State.{State, Shows, ExecutesInside}
 use Rattle.lpis_records.specs.Content.{Span, Line, Content, with_year, with_span, with_whole_span, with_line}
 use Rattle.lpis_register.specs.Tables.{format_table, release_table, span_table, row_table}
-use Rattle.lpis_register.specs.Shapes.{Shape, New, First, Moved, schema_of, has_spans, span_place, span_tree}
-use Rattle.lpis_register.specs.Texts.{insert_release, insert_span, insert_whole_span, insert_line}
-use Rattle.lpis_register.specs.Holding.{AreKeyed, format_row, year_row, span_row, line_row, Holds, Inside}
+use Rattle.lpis_register.specs.Shapes.{Shape, New, First, Moved, schema_of, has_spans, span_tree}
+use Rattle.lpis_register.specs.private.Places.{span_place}
+use Rattle.lpis_register.specs.private.Texts.{insert_release, insert_span, insert_whole_span, insert_line}
+use Rattle.lpis_register.specs.Holding.{AreKeyed, format_row, year_row, span_row, line_row, Holds}
+use Rattle.lpis_register.specs.private.Inside.{Inside}
 use Rattle.lpis_register.proofs.Meanings.{format_terms, insert_release_means, release_terms, insert_span_means, span_terms, insert_whole_span_means, whole_span_terms, insert_line_means, line_terms}
 use Rattle.lpis_register.proofs.Parts.{far, span_far, far_span, live_not_span, keeps_there, there_keeps, formats_kept, years_kept, spans_kept, lines_kept, live_kept}
 use Rattle.lpis_register.proofs.Writes.{cast_null, cast_int, Adds, adds, keyed_more}

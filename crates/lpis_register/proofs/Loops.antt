@@ -5,7 +5,7 @@ use Rattle.std.proofs.lemmas.List.{take_more}
 use Rattle.std.proofs.lemmas.List.Sums.{fold_push}
 use Rattle.lpis_lineage.specs.declared.row.Row.{Row}
 use Rattle.lpis_records.specs.Content.{Content, with_line, with_lines, lines_from}
-use Rattle.lpis_register.specs.Lines.{line_of}
+use Rattle.lpis_register.specs.private.Lines.{line_of}
 
 -- a fold over the first items
 pub more : {Y : Type 0} (step : Content → Y → Content) (xs : List Y) (i : ℕ) (d : Y) (c : Content) → i < length xs

@@ -19,8 +19,10 @@ use Rattle.sqlite_tied.specs.Compute.{everything}
 use Rattle.sqlite.specs.Schema.{Schema}
 use Rattle.sqlite.specs.Table.{Table}
 use Rattle.lpis_register.specs.Tables.{format_table, release_table, span_table, row_table}
-use Rattle.lpis_register.specs.Shapes.{Shape, New, First, Moved, schema_of, has_spans, has_live, span_place, span_tree, no_schema, one_table, two_tables, three_tables}
-use Rattle.lpis_register.specs.Texts.{make_format, make_release, make_span, make_row, insert_format, insert_release, insert_span, insert_line, end_span, read_format, read_release, read_span, read_line, clear_span, read_live, insert_whole_span, clear_live, set_version}
+use Rattle.lpis_register.specs.Shapes.{Shape, New, First, Moved, schema_of, has_spans, has_live, span_tree, no_schema}
+use Rattle.lpis_register.specs.private.Places.{span_place}
+use Rattle.lpis_register.specs.private.Stages.{one_table, two_tables, three_tables}
+use Rattle.lpis_register.specs.private.Texts.{make_format, make_release, make_span, make_row, insert_format, insert_release, insert_span, insert_line, end_span, read_format, read_release, read_span, read_line, clear_span, read_live, insert_whole_span, clear_live, set_version}
 
 abbrev pub ascending : Key
 ascending = record { collation = Binary; descending = false }

@@ -22,9 +22,11 @@ use Rattle.sqlite.proofs.Callers.{statement_of, runs_as}
 use Rattle.lpis_records.specs.Content.{Content, Format, Span, at_version, with_version, with_whole_span, with_whole_spans, without_live, without_spans}
 use Rattle.lpis_records.specs.Tells.{only_format}
 use Rattle.lpis_register.specs.Tables.{format_table, span_table}
-use Rattle.lpis_register.specs.Shapes.{Shape, New, First, Moved, schema_of, has_live, has_spans, with_span_table}
-use Rattle.lpis_register.specs.Texts.{make_span, set_version}
-use Rattle.lpis_register.specs.Holding.{AreKeyed, Keeps, Inside, format_row, year_row, span_row, line_row, live_row}
+use Rattle.lpis_register.specs.Shapes.{Shape, New, First, Moved, schema_of, has_live, has_spans}
+use Rattle.lpis_register.specs.private.Places.{with_span_table}
+use Rattle.lpis_register.specs.private.Texts.{make_span, set_version}
+use Rattle.lpis_register.specs.Holding.{AreKeyed, Keeps, format_row, year_row, span_row, line_row, live_row}
+use Rattle.lpis_register.specs.private.Inside.{Inside}
 use Rattle.lpis_register.proofs.Meanings.{whole, version_query, set_version_means, span_moves}
 use Rattle.lpis_register.proofs.Clears.{all_kept, none_kept, none_keyed}
 use Rattle.lpis_register.proofs.Inserts.{inside_next}

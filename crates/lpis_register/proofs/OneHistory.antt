@@ -10,7 +10,7 @@ use Rattle.lpis_lineage.specs.declared.row.Entry.{Entry}
 use Rattle.lpis_records.specs.Content.{Content, Format, without_live}
 use Rattle.lpis_records.specs.Tells.{IsSameContent, IsSameHistory, Tells, TellsLive, only_format}
 use Rattle.lpis_register.specs.Shapes.{Shape, New, First, Moved, schema_of, has_spans, span_tree}
-use Rattle.lpis_register.specs.Shown.{year_shown, span_shown, line_shown}
+use Rattle.lpis_register.specs.private.Shown.{year_shown, span_shown, line_shown}
 use Rattle.lpis_register.specs.Holding.{Keeps, Means, format_row, year_row, span_row, line_row}
 use Rattle.lpis_register.specs.Histories.{HoldsHistory}
 use Rattle.lpis_register.specs.Opening.{SaysAt}

@@ -19,10 +19,10 @@ use Rattle.sqlite.proofs.Callers.{reads_as, IsPlain, never_commits}
 use Rattle.sqlite.proofs.StateLemmas.{survives_weaker}
 use Rattle.lpis_records.specs.Content.{Content, Format, Span, Line, Live}
 use Rattle.lpis_register.specs.Shapes.{Shape, schema_of, has_spans, has_live, span_tree}
-use Rattle.lpis_register.specs.Texts.{read_format, read_release, read_span, read_line, read_live}
+use Rattle.lpis_register.specs.private.Texts.{read_format, read_release, read_span, read_line, read_live}
 use Rattle.lpis_register.specs.Holding.{Holds, IsStored, format_row, year_row, span_row, line_row, live_row}
 use Rattle.lpis_register.specs.private.Quiet.{LeavesNone}
-use Rattle.lpis_register.specs.Shown.{year_shown, format_shown, span_shown, line_shown, live_shown}
+use Rattle.lpis_register.specs.private.Shown.{year_shown, format_shown, span_shown, line_shown, live_shown}
 use Rattle.lpis_register.proofs.Meanings.{Asks, from_all, read_format_means, read_release_means, read_span_means, read_line_means, read_live_means, release_query, span_query, line_query, live_query, format_query}
 use Rattle.lpis_register.proofs.Parts.{keeps_there, own_spans}
 

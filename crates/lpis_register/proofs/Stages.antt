@@ -18,10 +18,11 @@ use Rattle.sqlite.specs.State.{State, mode_of, ExecutesInside}
 use Rattle.sqlite.proofs.Callers.{runs_as}
 use Rattle.lpis_register.specs.Tables.{format_table}
 use Rattle.lpis_register.specs.Shapes.{New, schema_of}
-use Rattle.lpis_register.specs.Texts.{insert_format}
-use Rattle.lpis_register.specs.Bare.{Stage}
+use Rattle.lpis_register.specs.private.Texts.{insert_format}
+use Rattle.lpis_register.specs.private.Stages.{Stage}
 use Rattle.lpis_records.specs.Content.{Format, no_content}
-use Rattle.lpis_register.specs.Holding.{AreKeyed, Inside, format_row}
+use Rattle.lpis_register.specs.Holding.{AreKeyed, format_row}
+use Rattle.lpis_register.specs.private.Inside.{Inside}
 use Rattle.lpis_register.proofs.Meanings.{insert_format_means, format_terms, Makes}
 use Rattle.lpis_register.proofs.Writes.{went, same_value, adds}
 use Rattle.lpis_register.proofs.Parts.{far}

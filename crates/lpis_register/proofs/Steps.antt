@@ -11,8 +11,10 @@ use Rattle.sqlite_trees.specs.declared.store.Store as store
 use Rattle.sqlite.proofs.StateLemmas.{survives_then}
 use Rattle.lpis_records.specs.Content.{Content}
 use Rattle.lpis_register.specs.Shapes.{Shape, no_schema}
-use Rattle.lpis_register.specs.Holding.{Inside, IsStored, Leaves, Holds}
-use Rattle.lpis_register.specs.Bare.{IsBare, Stage}
+use Rattle.lpis_register.specs.private.Inside.{Inside}
+use Rattle.lpis_register.specs.Holding.{IsStored, Leaves, Holds}
+use Rattle.lpis_register.specs.Bare.{IsBare}
+use Rattle.lpis_register.specs.private.Stages.{Stage}
 
 pub kept_then : (a b c : State) → KeepsCommit a b → KeepsCommit b c → KeepsCommit a c
 kept_then a b c p q = record { was_open = λ o. p.was_open (q.was_open o); committed = λ o. q.committed o ∙ p.committed (q.was_open o) }

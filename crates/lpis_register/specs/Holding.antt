@@ -49,13 +49,6 @@ pub record Holds (s : Shape) (db : Database) (c : Content) : Type 0 where
   pub sound : IsDatabase db
   pub means : Means s db.trees c
 
--- a transaction over this commit, in which the tables hold this
-pub record Inside (s : Shape) (base : Database) (st : State) (c : Content) : Type 0 where
-  pub is_open : IsTrue st.is_open
-  pub in_transaction : IsTrue st.in_transaction
-  pub base_is : st.committed ≡ base
-  pub holds : Holds s st.now c
-
 -- no transaction is open, and the last commit holds this, the tables in this order
 pub record IsStored (s : Shape) (st : State) (c : Content) : Type 0 where
   pub is_open : IsTrue st.is_open

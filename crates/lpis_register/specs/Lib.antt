@@ -1,10 +1,7 @@
 pub mod Tables
 pub mod Shapes
-pub mod Texts
 pub mod Holding
 pub mod Bare
-pub mod Shown
-pub mod Lines
 pub mod Histories
 pub mod Calls
 pub mod Opening

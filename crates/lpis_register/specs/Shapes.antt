@@ -26,33 +26,13 @@ has_live New = false
 has_live First = true
 has_live Moved = true
 
--- the order of the tables once `lpis_span` is made
-abbrev pub with_span_table : Shape → Shape
-with_span_table New = New
-with_span_table First = Moved
-with_span_table Moved = Moved
-
--- where `lpis_span` stands among the tables, and its tree
-abbrev pub span_place : Shape → ℕ
-span_place New = 2
-span_place First = 4
-span_place Moved = 4
-
+-- the tree of `lpis_span`
 abbrev pub span_tree : Shape → ℕ
 span_tree New = 2
 span_tree First = 6
 span_tree Moved = 6
 
--- ---- while opening makes them
+-- ---- before there is a table
 
 abbrev pub no_schema : Schema
 no_schema = record { tables = []; indexes = []; views = [] }
-
-abbrev pub one_table : Schema
-one_table = record { tables = format_table 0 ∷ []; indexes = []; views = [] }
-
-abbrev pub two_tables : Schema
-two_tables = record { tables = format_table 0 ∷ release_table 1 ∷ []; indexes = []; views = [] }
-
-abbrev pub three_tables : Schema
-three_tables = record { tables = format_table 0 ∷ release_table 1 ∷ span_table 2 ∷ []; indexes = span_index 2 ∷ []; views = [] }

@@ -5,9 +5,11 @@ ghost use Rattle.sqlite.specs.Held.{state};
 ghost use Rattle.sqlite.specs.State.{HasCleanDisk, KeepsCommit, Survives};
 ghost use Rattle.lpis_records.specs.Content.{moved, with_version, with_whole_span, with_whole_spans, without_live, without_spans};
 ghost use Rattle.lpis_records.specs.Tells.{TellsLive, only_format};
-ghost use Rattle.lpis_register.specs.Shapes.{First, Moved, has_live, has_spans, with_span_table};
-ghost use Rattle.lpis_register.specs.Holding.{Inside, IsStored};
-ghost use Rattle.lpis_register.specs.Lines.{span_at};
+ghost use Rattle.lpis_register.specs.Shapes.{First, Moved, has_live, has_spans};
+ghost use Rattle.lpis_register.specs.private.Places.{with_span_table};
+ghost use Rattle.lpis_register.specs.private.Inside.{Inside};
+ghost use Rattle.lpis_register.specs.Holding.{IsStored};
+ghost use Rattle.lpis_register.specs.private.Lines.{span_at};
 ghost use Rattle.lpis_register.specs.private.Commits.{LeavesBeside, LeavesMoved};
 
 use crate::tables::make_span;

@@ -5,7 +5,8 @@ ghost use Rattle.sqlite.specs.Held.{state};
 ghost use Rattle.sqlite.specs.State.{HasCleanDisk, KeepsCommit, Survives};
 ghost use Rattle.lpis_records.specs.Content.{with_year, with_spans, all_ended, with_lines, lines_from, published};
 ghost use Rattle.lpis_register.specs.Shapes.{has_spans};
-ghost use Rattle.lpis_register.specs.Holding.{Inside, IsStored, Leaves};
+ghost use Rattle.lpis_register.specs.private.Inside.{Inside};
+ghost use Rattle.lpis_register.specs.Holding.{IsStored, Leaves};
 
 use crate::statements::insert_release;
 use crate::writing::{end_spans, insert_lines, insert_spans};

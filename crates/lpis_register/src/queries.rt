@@ -6,7 +6,7 @@ ghost use Rattle.sqlite.specs.State.{HasCleanDisk, Survives};
 ghost use Rattle.lpis_register.specs.Shapes.{has_spans, has_live};
 ghost use Rattle.lpis_register.specs.Holding.{IsStored};
 ghost use Rattle.lpis_register.specs.private.Quiet.{LeavesNone};
-ghost use Rattle.lpis_register.specs.Shown.{format_shown, year_shown, span_shown, line_shown, live_shown};
+ghost use Rattle.lpis_register.specs.private.Shown.{format_shown, year_shown, span_shown, line_shown, live_shown};
 
 use sqlite::{Alter, Connection, Error, Row};
 

@@ -1,7 +1,7 @@
 //! Rows as the queries show them, read.
 
 ghost use Rattle.std.specs.Prelude.{◌≡◌, map, IfOk};
-ghost use Rattle.lpis_register.specs.Shown.{format_shown, year_shown, span_shown, line_shown, live_shown};
+ghost use Rattle.lpis_register.specs.private.Shown.{format_shown, year_shown, span_shown, line_shown, live_shown};
 
 use lpis_records::{FormatRow, LineRow, LiveRow, SpanRow};
 use sqlite::{Error, Row};

@@ -5,8 +5,8 @@ ghost use Rattle.sqlite.specs.Held.{state};
 ghost use Rattle.sqlite.specs.State.{HasCleanDisk, KeepsCommit, Survives};
 ghost use Rattle.lpis_records.specs.Content.{with_year, with_span, with_line, ended, text_of};
 ghost use Rattle.lpis_register.specs.Shapes.{has_spans};
-ghost use Rattle.lpis_register.specs.Holding.{Inside};
-ghost use Rattle.lpis_register.specs.Lines.{line_at, line_of};
+ghost use Rattle.lpis_register.specs.private.Inside.{Inside};
+ghost use Rattle.lpis_register.specs.private.Lines.{line_at, line_of};
 
 use lpis_covers::Id;
 use lpis_lineage::Row;

@@ -4,9 +4,11 @@ ghost use Rattle.std.specs.Prelude.{◌≡◌, false, IsTrue, OnOk, OnErr};
 ghost use Rattle.sqlite.specs.Held.{state};
 ghost use Rattle.sqlite.specs.State.{HasCleanDisk, KeepsCommit, Survives};
 ghost use Rattle.lpis_records.specs.Content.{no_content};
-ghost use Rattle.lpis_register.specs.Shapes.{New, First, Moved, schema_of, no_schema, one_table, two_tables, three_tables};
-ghost use Rattle.lpis_register.specs.Bare.{IsBare, Stage};
-ghost use Rattle.lpis_register.specs.Holding.{Inside, IsStored};
+ghost use Rattle.lpis_register.specs.Shapes.{New, First, Moved, schema_of, no_schema};
+ghost use Rattle.lpis_register.specs.private.Stages.{one_table, two_tables, three_tables, Stage};
+ghost use Rattle.lpis_register.specs.Bare.{IsBare};
+ghost use Rattle.lpis_register.specs.private.Inside.{Inside};
+ghost use Rattle.lpis_register.specs.Holding.{IsStored};
 ghost use Rattle.lpis_register.specs.private.Commits.{LeavesMade};
 
 use sqlite::{Alter, Connection, Error, Transaction};

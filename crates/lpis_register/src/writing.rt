@@ -5,7 +5,7 @@ ghost use Rattle.sqlite.specs.Held.{state};
 ghost use Rattle.sqlite.specs.State.{HasCleanDisk, KeepsCommit, Survives};
 ghost use Rattle.lpis_records.specs.Content.{with_spans, all_ended, with_lines, lines_from};
 ghost use Rattle.lpis_register.specs.Shapes.{has_spans};
-ghost use Rattle.lpis_register.specs.Holding.{Inside};
+ghost use Rattle.lpis_register.specs.private.Inside.{Inside};
 
 use crate::statements::{end_span, insert_row, insert_span};
 use lpis_covers::Id;

@@ -6,7 +6,8 @@ use Rattle.lpis_lineage.specs.declared.row.Entry.{Entry}
 use Rattle.lpis_records.specs.Content.{Content, Span, moved, no_content}
 use Rattle.lpis_records.specs.Tells.{only_format}
 use Rattle.lpis_register.specs.Bare.{IsBare}
-use Rattle.lpis_register.specs.Shapes.{Shape, New, First, Moved, with_span_table}
+use Rattle.lpis_register.specs.Shapes.{Shape, New, First, Moved}
+use Rattle.lpis_register.specs.private.Places.{with_span_table}
 use Rattle.lpis_register.specs.Holding.{IsStored, Leaves}
 use Rattle.lpis_register.specs.Histories.{LeavesHistory}
 use Rattle.lpis_register.specs.Opening.{LeavesSaid, SaysAt}

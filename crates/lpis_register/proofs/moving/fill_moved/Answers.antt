@@ -2,7 +2,7 @@ use Rattle.std.proofs.Common.{arith, sym, ◌∙◌}
 use Rattle.sqlite.specs.Held.{state}
 use Rattle.sqlite.specs.State.{HasCleanDisk}
 use Rattle.lpis_records.specs.Content.{without_spans}
-use Rattle.lpis_register.specs.Shapes.{with_span_table}
+use Rattle.lpis_register.specs.private.Places.{with_span_table}
 use Rattle.lpis_register.proofs.Moves.{formats_stay, live_as_before, spans_stand}
 use Rattle.lpis_register.proofs.moving.fill_moved.Goals as goal
 

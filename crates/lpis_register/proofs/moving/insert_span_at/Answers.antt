@@ -1,7 +1,7 @@
 use Rattle.std.proofs.Common.{w64}
 use Rattle.std.proofs.lemmas.Int.{to_z-of_z}
 use Rattle.sqlite.specs.Held.{state}
-use Rattle.lpis_register.specs.Lines.{span_at}
+use Rattle.lpis_register.specs.private.Lines.{span_at}
 use Rattle.lpis_register.proofs.Inserts.{whole_span_inside}
 use Rattle.lpis_register.proofs.moving.insert_span_at.Goals as goal
 

@@ -4,7 +4,7 @@ use Rattle.sqlite.specs.Held.{state}
 use Rattle.sqlite.specs.State.{HasCleanDisk, KeepsCommit, Survives}
 use Rattle.lpis_records.specs.Content.{Content, with_whole_spans}
 use Rattle.lpis_register.specs.Shapes.{Shape, has_spans}
-use Rattle.lpis_register.specs.Holding.{Inside}
+use Rattle.lpis_register.specs.private.Inside.{Inside}
 use Rattle.lpis_register.proofs.moving.insert_whole_spans.Given as goal
 
 abbrev pub invariant-loop-span : goal.invariant-loop-span

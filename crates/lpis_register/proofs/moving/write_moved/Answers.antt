@@ -4,7 +4,7 @@ use Rattle.sqlite.specs.Held.{state}
 use Rattle.sqlite.specs.State.{HasCleanDisk, Survives}
 use Rattle.sqlite.proofs.Callers.{survives_begin}
 use Rattle.lpis_records.specs.Content.{moved}
-use Rattle.lpis_register.specs.Shapes.{with_span_table}
+use Rattle.lpis_register.specs.private.Places.{with_span_table}
 use Rattle.lpis_register.specs.Holding.{IsStored, Leaves}
 use Rattle.lpis_register.specs.private.Commits.{LeavesMoved}
 use Rattle.lpis_register.proofs.Steps.{begun_inside, commit_ok, moved_err, leaves, crashed}

@@ -1,6 +1,6 @@
 use Rattle.std.proofs.lemmas.Result.{IfOk-weaker}
 use Rattle.sqlite.specs.Held.{state}
-use Rattle.lpis_register.specs.Texts.{read_format}
+use Rattle.lpis_register.specs.private.Texts.{read_format}
 use Rattle.lpis_register.proofs.Meanings.{read_format_means}
 use Rattle.lpis_register.proofs.Showing.{formats_shown, kept_by_query, ok_by_query, quiet_query}
 use Rattle.lpis_register.proofs.queries.format_rows.Goals as goal

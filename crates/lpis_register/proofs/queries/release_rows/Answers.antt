@@ -1,6 +1,6 @@
 use Rattle.std.proofs.lemmas.Result.{IfOk-weaker}
 use Rattle.sqlite.specs.Held.{state}
-use Rattle.lpis_register.specs.Texts.{read_release}
+use Rattle.lpis_register.specs.private.Texts.{read_release}
 use Rattle.lpis_register.proofs.Meanings.{read_release_means}
 use Rattle.lpis_register.proofs.Showing.{years_shown, kept_by_query, ok_by_query, quiet_query}
 use Rattle.lpis_register.proofs.queries.release_rows.Goals as goal

@@ -1,6 +1,6 @@
 use Rattle.std.proofs.lemmas.Result.{IfOk-weaker}
 use Rattle.sqlite.specs.Held.{state}
-use Rattle.lpis_register.specs.Texts.{read_span}
+use Rattle.lpis_register.specs.private.Texts.{read_span}
 use Rattle.lpis_register.proofs.Meanings.{read_span_means}
 use Rattle.lpis_register.proofs.Showing.{spans_shown, kept_by_query, ok_by_query, quiet_query}
 use Rattle.lpis_register.proofs.queries.span_rows.Goals as goal

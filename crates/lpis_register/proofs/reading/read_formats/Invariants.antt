@@ -1,5 +1,5 @@
 use Rattle.std.proofs.Common.{◌≡◌, map, take}
-use Rattle.lpis_register.specs.Shown.{format_shown}
+use Rattle.lpis_register.specs.private.Shown.{format_shown}
 use Rattle.lpis_register.proofs.reading.read_formats.Given as goal
 
 abbrev pub invariant-loop-row : goal.invariant-loop-row

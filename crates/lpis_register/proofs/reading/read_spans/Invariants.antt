@@ -1,5 +1,5 @@
 use Rattle.std.proofs.Common.{◌≡◌, map, take}
-use Rattle.lpis_register.specs.Shown.{span_shown}
+use Rattle.lpis_register.specs.private.Shown.{span_shown}
 use Rattle.lpis_register.proofs.reading.read_spans.Given as goal
 
 abbrev pub invariant-loop-row : goal.invariant-loop-row

@@ -1,7 +1,7 @@
 use Rattle.std.proofs.Common.{◌≡◌, pos, to_z, w64}
 use Rattle.std.proofs.lemmas.Int.{to_z_pos}
 use Rattle.sqlite.specs.Held.{state}
-use Rattle.lpis_register.specs.Lines.{line_at}
+use Rattle.lpis_register.specs.private.Lines.{line_at}
 use Rattle.lpis_register.proofs.Inserts.{line_inside}
 use Rattle.lpis_register.proofs.statements.insert_line.Goals as goal
 

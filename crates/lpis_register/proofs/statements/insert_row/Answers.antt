@@ -1,8 +1,8 @@
 use Rattle.std.proofs.Common.{◌≡◌, pos, ap₂, subst, OnOk}
 use Rattle.sqlite.specs.Held.{state}
 use Rattle.lpis_records.specs.Content.{with_line, text_of}
-use Rattle.lpis_register.specs.Lines.{line_at}
-use Rattle.lpis_register.specs.Holding.{Inside}
+use Rattle.lpis_register.specs.private.Lines.{line_at}
+use Rattle.lpis_register.specs.private.Inside.{Inside}
 use Rattle.lpis_register.proofs.statements.insert_row.Goals as goal
 
 pub returns-clause-adds : goal.returns-clause-adds

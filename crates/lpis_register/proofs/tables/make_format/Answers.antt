@@ -1,8 +1,9 @@
 use Rattle.std.proofs.Common.{refl}
 use Rattle.sqlite.specs.Held.{state}
-use Rattle.lpis_register.specs.Shapes.{no_schema, one_table}
+use Rattle.lpis_register.specs.Shapes.{no_schema}
+use Rattle.lpis_register.specs.private.Stages.{one_table}
 use Rattle.lpis_register.specs.Tables.{format_table}
-use Rattle.lpis_register.specs.Texts.{make_format as text}
+use Rattle.lpis_register.specs.private.Texts.{make_format as text}
 use Rattle.lpis_register.proofs.Meanings.{format_is}
 use Rattle.lpis_register.proofs.Stages.{stage_next}
 use Rattle.lpis_register.proofs.tables.make_format.Goals as goal

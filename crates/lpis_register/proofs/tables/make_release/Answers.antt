@@ -1,8 +1,8 @@
 use Rattle.std.proofs.Common.{refl}
 use Rattle.sqlite.specs.Held.{state}
-use Rattle.lpis_register.specs.Shapes.{one_table, two_tables}
+use Rattle.lpis_register.specs.private.Stages.{one_table, two_tables}
 use Rattle.lpis_register.specs.Tables.{release_table}
-use Rattle.lpis_register.specs.Texts.{make_release as text}
+use Rattle.lpis_register.specs.private.Texts.{make_release as text}
 use Rattle.lpis_register.proofs.Meanings.{release_is}
 use Rattle.lpis_register.proofs.Stages.{stage_next}
 use Rattle.lpis_register.proofs.tables.make_release.Goals as goal

@@ -1,8 +1,9 @@
 use Rattle.std.proofs.Common.{refl}
 use Rattle.sqlite.specs.Held.{state}
-use Rattle.lpis_register.specs.Shapes.{three_tables, New, schema_of}
+use Rattle.lpis_register.specs.private.Stages.{three_tables}
+use Rattle.lpis_register.specs.Shapes.{New, schema_of}
 use Rattle.lpis_register.specs.Tables.{row_table}
-use Rattle.lpis_register.specs.Texts.{make_row as text}
+use Rattle.lpis_register.specs.private.Texts.{make_row as text}
 use Rattle.lpis_register.proofs.Meanings.{row_is}
 use Rattle.lpis_register.proofs.Stages.{stage_next}
 use Rattle.lpis_register.proofs.tables.make_row.Goals as goal

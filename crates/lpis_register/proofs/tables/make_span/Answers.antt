@@ -1,8 +1,8 @@
 use Rattle.std.proofs.Common.{refl}
 use Rattle.sqlite.specs.Held.{state}
-use Rattle.lpis_register.specs.Shapes.{two_tables, three_tables}
+use Rattle.lpis_register.specs.private.Stages.{two_tables, three_tables}
 use Rattle.lpis_register.specs.Tables.{span_table}
-use Rattle.lpis_register.specs.Texts.{make_span as text}
+use Rattle.lpis_register.specs.private.Texts.{make_span as text}
 use Rattle.lpis_register.proofs.Meanings.{span_is}
 use Rattle.lpis_register.proofs.Moves.{span_beside}
 use Rattle.lpis_register.proofs.Stages.{stage_next}

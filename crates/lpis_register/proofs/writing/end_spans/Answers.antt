@@ -3,7 +3,7 @@ use Rattle.std.proofs.Math.Seq.{take-length}
 use Rattle.sqlite.specs.Held.{state}
 use Rattle.sqlite.specs.State.{HasCleanDisk}
 use Rattle.lpis_records.specs.Content.{ended, all_ended}
-use Rattle.lpis_register.specs.Holding.{Inside}
+use Rattle.lpis_register.specs.private.Inside.{Inside}
 use Rattle.lpis_register.proofs.Steps.{kept_then, quiet_then}
 use Rattle.lpis_register.proofs.Loops.{more}
 use Rattle.lpis_register.proofs.writing.end_spans.Goals as goal

@@ -4,7 +4,7 @@ use Rattle.sqlite.specs.Held.{state}
 use Rattle.sqlite.specs.State.{HasCleanDisk, KeepsCommit, Survives}
 use Rattle.lpis_records.specs.Content.{Content, all_ended}
 use Rattle.lpis_register.specs.Shapes.{Shape, has_spans}
-use Rattle.lpis_register.specs.Holding.{Inside}
+use Rattle.lpis_register.specs.private.Inside.{Inside}
 use Rattle.lpis_register.proofs.writing.end_spans.Given as goal
 
 abbrev pub invariant-loop-id : goal.invariant-loop-id

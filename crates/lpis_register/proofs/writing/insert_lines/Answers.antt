@@ -3,8 +3,8 @@ use Rattle.std.proofs.Math.Seq.{take-length}
 use Rattle.sqlite.specs.Held.{state}
 use Rattle.sqlite.specs.State.{HasCleanDisk}
 use Rattle.lpis_records.specs.Content.{with_line, with_lines, lines_from}
-use Rattle.lpis_register.specs.Lines.{line_of}
-use Rattle.lpis_register.specs.Holding.{Inside}
+use Rattle.lpis_register.specs.private.Lines.{line_of}
+use Rattle.lpis_register.specs.private.Inside.{Inside}
 use Rattle.lpis_register.proofs.Steps.{kept_then, quiet_then}
 use Rattle.lpis_register.proofs.Loops.{lines_more}
 use Rattle.lpis_register.proofs.writing.insert_lines.Goals as goal

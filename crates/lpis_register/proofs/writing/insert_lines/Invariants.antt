@@ -4,7 +4,7 @@ use Rattle.sqlite.specs.Held.{state}
 use Rattle.sqlite.specs.State.{HasCleanDisk, KeepsCommit, Survives}
 use Rattle.lpis_records.specs.Content.{Content, with_lines, lines_from}
 use Rattle.lpis_register.specs.Shapes.{Shape}
-use Rattle.lpis_register.specs.Holding.{Inside}
+use Rattle.lpis_register.specs.private.Inside.{Inside}
 use Rattle.lpis_register.proofs.writing.insert_lines.Given as goal
 
 abbrev pub invariant-loop-place : goal.invariant-loop-place
