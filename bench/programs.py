@@ -1,4 +1,4 @@
-"""The programs under measurement, for scripts that run `check` and `cut`.
+"""The programs under measurement, and what the scripts tell of their runs.
 
 `CUT=PROGRAM` in the environment names another program that knows `cut DIR CERT`, `LPIS=PROGRAM` a proved `lpis` that is built already;
 without them the repository's own is proved and built where that is needed."""
@@ -6,6 +6,7 @@ without them the repository's own is proved and built where that is needed."""
 import os
 import shutil
 import subprocess
+import sys
 import time
 
 HERE = os.path.dirname(os.path.realpath(__file__))
@@ -24,6 +25,31 @@ def cutter():
     return os.environ.get("CUT") or lpis()
 
 
+def proved(folder, name, source, uses, words=()):
+    """The path of a small program of bench/, proved and built in a folder over copies of the crates that it stands on, with what earlier checks
+    kept in their out/. The words are for its first run, in which rt links it."""
+    with open(os.path.join(TOP, "crates.txt"), encoding="utf-8") as file:
+        lines = dict(line.split(":", 1) for line in file if ":" in line)
+    needed = list(uses)
+    for crate in needed:
+        needed += [it for it in lines[crate].split() if it in lines and it not in needed]
+    crates = os.path.join(folder, "crates")
+    for crate in needed:
+        shutil.copytree(os.path.join(TOP, "crates", crate), os.path.join(crates, crate))
+    os.makedirs(os.path.join(crates, name, "src"))
+    shutil.copy(source, os.path.join(crates, name, "src", "main.rt"))
+    shutil.copy(os.path.join(TOP, "HANDLES"), folder)
+    with open(os.path.join(folder, "crates.txt"), "w", encoding="utf-8") as file:
+        file.writelines([f"{crate}:{lines[crate]}" for crate in needed] + [f"{name}: {' '.join(uses)}\n"])
+    print(f"proving and building {name} ..", flush=True)
+    rt = shutil.which("rt") or "/opt/rattle/bin/rt"
+    built = subprocess.run([rt, "run", "--", *words], cwd=os.path.join(crates, name), stdin=subprocess.DEVNULL, capture_output=True, text=True)
+    path = os.path.join(crates, name, "out", name)
+    if not os.path.exists(path):
+        sys.exit(built.stdout + built.stderr)
+    return path
+
+
 def measured(words, out_path):
     """Status, standard output, processor seconds, wall seconds and peak bytes of one run."""
     with open(out_path, "wb") as out:
@@ -35,6 +61,16 @@ def measured(words, out_path):
     with open(out_path, encoding="utf-8") as out:
         text = out.read()
     return process.returncode, text, usage.ru_utime + usage.ru_stime, wall, usage.ru_maxrss * 1024
+
+
+def best(name, words, out_path, runs):
+    """Least processor seconds and greatest peak bytes of some runs that have to end well, told on a line."""
+    made = [measured(words, out_path) for _ in range(runs)]
+    if any(status != 0 for status, *_ in made):
+        sys.exit(f"{words[0]}: status {[status for status, *_ in made]}")
+    seconds, wall, peak = min(run[2] for run in made), min(run[3] for run in made), max(run[4] for run in made)
+    print(f"{name:24} {seconds:8.3f} s of processor {wall:8.3f} s of wall {peak / MEGABYTE:8.1f} MB", flush=True)
+    return seconds, peak
 
 
 def tell_shares(words, steps, folder):
