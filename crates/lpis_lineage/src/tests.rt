@@ -63,11 +63,9 @@ fn expect(text: &str, wanted: &str) -> Result<(), Fail> {
     }
 }
 
-#[test]
-fn releases_are_added_or_refused(rt: HostRuntime) -> Result<(), Fail> {
-    let alloc = rt.alloc();
-    let mut history = History::new(alloc);
-    for (year, live, lines, answer) in [
+/// Years, identifiers and lines of releases, and what adding them one after the other tells.
+fn additions() -> &'static [(u16, &'static str, &'static str, &'static str)] {
+    &[
         (2024, "A", "A,", "lineage 70 row 1"),
         (2024, "A", "", "added"),
         (2025, "B C", "Q,B\n", "lineage 70 row 1"),
@@ -82,8 +80,15 @@ fn releases_are_added_or_refused(rt: HostRuntime) -> Result<(), Fail> {
         (2026, "B C A", "", "lineage 76 A 2024"),
         (2027, "B", "C,B\n", "added"),
         (2028, "B C", "", "lineage 76 C 2025"),
-    ] {
-        let answered = told(alloc, &mut history, year, live, lines)?;
+    ]
+}
+
+#[test]
+fn releases_are_added_or_refused(rt: HostRuntime) -> Result<(), Fail> {
+    let alloc = rt.alloc();
+    let mut history = History::new(alloc);
+    for (year, live, lines, answer) in additions() {
+        let answered = told(alloc, &mut history, *year, live, lines)?;
         expect(answered.as_str(), answer)?;
     }
     Ok(())
