@@ -1,0 +1,49 @@
+"""Releases of several years of one map, for scripts that publish them."""
+
+import os
+import shutil
+import subprocess
+
+from programs import HERE, lpis
+
+
+def read(path):
+    with open(path, encoding="ascii") as file:
+        return file.read().splitlines()
+
+
+def write(path, lines):
+    with open(path, "w", encoding="ascii") as file:
+        file.writelines(line + "\n" for line in lines)
+
+
+class Years:
+    """The same map each year, under other names: in each year but the first every tenth parcel gets a new one."""
+
+    def __init__(self, folder, count):
+        self.first = os.path.join(folder, "first")
+        subprocess.run([os.path.join(HERE, "make_parcels.py"), str(count), self.first], check=True)
+        self.parcels, self.covers = read(os.path.join(self.first, "parcels.csv")), read(os.path.join(self.first, "covers.csv"))
+        self.names = {line.split(",", 1)[0]: line.split(",", 1)[0] for line in self.parcels[1:]}
+        self.folder, self.count = folder, len(self.names)
+
+    def write(self, number):
+        """The folder of a year's release, and its certificate."""
+        rows = ["old,new"]
+        if number > 0:
+            for place, parcel in enumerate(self.names):
+                if place % 10 == number % 10:
+                    new = f"{parcel}-{number}"
+                    rows.append(f"{self.names[parcel]},{new}")
+                    self.names[parcel] = new
+        folder = os.path.join(self.folder, f"year{number}")
+        os.makedirs(folder)
+        shutil.copy(os.path.join(self.first, "classes.csv"), folder)
+        write(os.path.join(folder, "lineage.csv"), rows)
+        renamed = [line.split(",", 1) for line in self.parcels[1:]]
+        write(os.path.join(folder, "parcels.csv"), self.parcels[:1] + [f"{self.names[name]},{rest}" for name, rest in renamed])
+        pieces = [line.split(",", 2) for line in self.covers[1:]]
+        write(os.path.join(folder, "covers.csv"), self.covers[:1] + [f"{piece},{self.names[name]},{rest}" for piece, name, rest in pieces])
+        cert = os.path.join(folder, "cert.txt")
+        subprocess.run([lpis(), "cut", folder, cert], stdout=subprocess.DEVNULL, check=True)
+        return folder, cert, rows
