@@ -70,41 +70,11 @@ fn count_cert(alloc: Global, cert: &Cert) -> Result<Answer, AllocError>
     }
 }
 
-/// The most bytes of a line of three corners: six numbers of up to 11 characters.
-const CORNERS: usize = 74;
-
-/// The most bytes of a separator's line: two numbers of up to 7 characters and one of an edge.
-const SEPARATOR: usize = 20;
-
-/// The most bytes of a piece's or a parcel's line: an identifier of up to 40 characters, and counts.
-const HEAD: usize = 64;
-
-/// Room for the text of a certificate, a little more than it takes. A text that grew by doubling would
-/// lie in memory twice while it is moved; room that is not written to takes none.
-fn room_for(cert: &Cert) -> usize {
-    let mut heads: usize = 3;
-    let mut corners: usize = 0;
-    for piece in cert.pieces.as_slice() {
-        heads = heads.saturating_add(1);
-        corners = corners.saturating_add(piece.triangles.as_slice().len());
-        corners = corners.saturating_add(piece.flats.as_slice().len());
-    }
-    for parcel in cert.parcels.as_slice() {
-        heads = heads.saturating_add(1);
-        corners = corners.saturating_add(parcel.flats.as_slice().len());
-    }
-    let separators = cert.pairs.as_slice().len();
-    heads
-        .saturating_mul(HEAD)
-        .saturating_add(corners.saturating_mul(CORNERS))
-        .saturating_add(separators.saturating_mul(SEPARATOR))
-}
-
 /// The text of a certificate.
 fn text_of(alloc: Global, cert: &Cert) -> Result<Vec<u8>, AllocError>
     ensures { IfOk result (λ v. v.items ≡ cert_text cert.now) }
 {
-    let mut text = Vec::with_capacity(alloc, room_for(cert))?;
+    let mut text = Vec::new(alloc);
     match write_cert(cert, &mut text) {
         Ok(()) => Ok(text),
         Err(_) => Err(AllocError),
