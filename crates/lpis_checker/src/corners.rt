@@ -1,16 +1,12 @@
 //! Corners that are no points of the rings.
 
-ghost use Rattle.std.specs.Prelude.{◌≡◌, ◌↔◌, ◌<◌, ◌++◌, IsTrue, IfOk, OnOk, Contains, None, length};
+ghost use Rattle.std.specs.Prelude.{◌≡◌, ◌↔◌, ◌++◌, IsTrue, IfOk, OnOk, Contains};
 ghost use Rattle.lpis_points.specs.declared.point.Point.{Point};
 ghost use Rattle.lpis_parcels.specs.Release.{pieces_named};
 ghost use Rattle.lpis_checker.specs.Corners.{corners_of, corners_of_pieces, points_of_rings};
-ghost use Rattle.lpis_checker.specs.GoodCertificate.{HasCorners, HaveCorners, Holds, HoldsEverywhere};
-ghost use Rattle.lpis_checker.specs.private.Searches.{FindsFirst, FindsParcel, FindsPiece};
-ghost use Rattle.lpis_checker.specs.declared.condition.Condition.TheVariants.{Corners, Names};
-ghost use Rattle.lpis_checker.specs.declared.condition.Site.TheVariants.{ParcelAt, PieceAt};
+ghost use Rattle.lpis_checker.specs.GoodCertificate.{HasCorners, HaveCorners};
 
-use crate::condition::Site;
-use lpis_cert::{Cert, ParcelPart, PiecePart};
+use lpis_cert::{ParcelPart, PiecePart};
 use lpis_covers::{Id, Piece};
 use lpis_parcels::{Parcel, Release, pieces_of};
 use lpis_points::{Point, Triangle};
@@ -113,7 +109,11 @@ fn add_corners_of_pieces(
 }
 
 /// Whether each corner of a piece's triangles and flats is a point of its rings.
-fn has_piece(alloc: Global, piece: &Piece, part: &PiecePart) -> Result<bool, AllocError>
+pub(crate) fn has_corners_of_piece(
+    alloc: Global,
+    piece: &Piece,
+    part: &PiecePart,
+) -> Result<bool, AllocError>
     ensures { IfOk result (λ b. IsTrue b ↔ HaveCorners (corners_of piece.now.polygon) (part.now.triangles ++ part.now.flats)) }
 {
     let mut points = Vec::new(alloc);
@@ -124,7 +124,7 @@ fn has_piece(alloc: Global, piece: &Piece, part: &PiecePart) -> Result<bool, All
 
 /// Whether each corner of a parcel's flats is a point of its rings or of those of its pieces. Most parcels have no flats, and
 /// take no memory.
-fn has_parcel(
+pub(crate) fn has_corners_of_parcel(
     alloc: Global,
     release: &Release,
     parcel: &Parcel,
@@ -141,85 +141,4 @@ fn has_parcel(
     add_corners_of_pieces(&mut points, release, &parcel.id)?;
     let set = PointSet::of(points);
     Ok(set.has_all_corners(flats))
-}
-
-/// Whether the corners of the piece at a place are points of its rings.
-fn has_piece_at(
-    alloc: Global,
-    release: &Release,
-    cert: &Cert,
-    place: usize,
-) -> Result<bool, AllocError>
-    requires names { HoldsEverywhere release.now cert.now Names }
-    requires within { place < length cert.now.pieces }
-    ensures { IfOk result (λ b. IsTrue b ↔ Holds release.now cert.now Corners (PieceAt place)) }
-{
-    let part = &cert.pieces.as_slice()[place];
-    let piece = &release.pieces()[place];
-    has_piece(alloc, piece, part)
-}
-
-/// Whether the corners of the parcel's flats at a place are points of its rings or of those of its pieces.
-fn has_parcel_at(
-    alloc: Global,
-    release: &Release,
-    cert: &Cert,
-    place: usize,
-) -> Result<bool, AllocError>
-    requires names { HoldsEverywhere release.now cert.now Names }
-    requires within { place < length cert.now.parcels }
-    ensures { IfOk result (λ b. IsTrue b ↔ Holds release.now cert.now Corners (ParcelAt place)) }
-{
-    let part = &cert.parcels.as_slice()[place];
-    let parcel = &release.parcels()[place];
-    has_parcel(alloc, release, parcel, part)
-}
-
-/// The first piece with a corner that is no point of its rings.
-fn strange_piece(alloc: Global, release: &Release, cert: &Cert) -> Result<Option<usize>, AllocError>
-    requires { HoldsEverywhere release.now cert.now Names }
-    ensures { IfOk result (λ o. FindsPiece release.now cert.now Corners o) }
-{
-    for place in 0..cert.pieces.as_slice().len() {
-        if !has_piece_at(alloc, release, cert, place)? {
-            return Ok(Some(place));
-        }
-    }
-    Ok(None)
-}
-
-/// The first parcel with a flat that has a corner which is no point of its rings or of those of its pieces.
-fn strange_parcel(
-    alloc: Global,
-    release: &Release,
-    cert: &Cert,
-) -> Result<Option<usize>, AllocError>
-    requires names { HoldsEverywhere release.now cert.now Names }
-    requires pieces { FindsPiece release.now cert.now Corners None }
-    ensures { IfOk result (λ o. FindsParcel release.now cert.now Corners o) }
-{
-    for place in 0..cert.parcels.as_slice().len() {
-        if !has_parcel_at(alloc, release, cert, place)? {
-            return Ok(Some(place));
-        }
-    }
-    Ok(None)
-}
-
-/// The first piece, and else the first parcel, with a corner that is no point of the rings.
-pub(crate) fn strange_corner(
-    alloc: Global,
-    release: &Release,
-    cert: &Cert,
-) -> Result<Option<Site>, AllocError>
-    requires { HoldsEverywhere release.now cert.now Names }
-    ensures { IfOk result (λ o. FindsFirst release.now cert.now Corners o) }
-{
-    if let Some(place) = strange_piece(alloc, release, cert)? {
-        return Ok(Some(Site::PieceAt(place)));
-    }
-    if let Some(place) = strange_parcel(alloc, release, cert)? {
-        return Ok(Some(Site::ParcelAt(place)));
-    }
-    Ok(None)
 }

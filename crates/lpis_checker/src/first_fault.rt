@@ -1,21 +1,16 @@
 //! The fault that is told: the condition of the lowest code that fails, with its first place.
 
-ghost use Rattle.std.specs.Prelude.{◌≡◌, ◌≤◌, IfOk, MatchOption};
+ghost use Rattle.std.specs.Prelude.{◌≡◌, ◌+◌, IfOk, MatchOption};
 ghost use Rattle.lpis_pairs.specs.NearPairs.{IsNearList};
 ghost use Rattle.lpis_checker.specs.Codes.{code_of};
 ghost use Rattle.lpis_checker.specs.FirstFault.{HoldBelow, parcel_id as parcel_id_lem, piece_id as piece_id_lem, place_of as place_of_lem};
 ghost use Rattle.lpis_checker.specs.GoodCertificate.{Holds, triangles_of};
-ghost use Rattle.lpis_checker.specs.private.Searches.{FindsBelow, HasNoParcel, HasNoPiece};
+ghost use Rattle.lpis_checker.specs.private.Searches.{FindsBelow, HasNoParcel, HasNoPiece, IsOfLine, IsOfPart};
 
 use crate::condition::{Condition, Failing, Site};
-use crate::corners::strange_corner;
 use crate::fault::Place;
-use crate::flats::bent_flat;
-use crate::names::misnamed;
 use crate::near_pairs::unnamed_pair;
-use crate::nets::{parcel_with_other_edges, piece_with_other_edges};
-use crate::parts::{piece_turned_round, piece_without_triangle};
-use crate::separators::{line_of_apart_triangles, line_that_separates_nothing};
+use crate::searching::{first_at_parts, first_line, misnamed};
 use lpis_cert::Cert;
 use lpis_covers::Id;
 use lpis_pairs::PairSource;
@@ -71,61 +66,21 @@ pub(crate) fn place_of(release: &Release, cert: &Cert, found: &Failing) -> Resul
     }
 }
 
-/// The fault of the lowest code below 64.
-fn form_fault(release: &Release, cert: &Cert) -> Option<Failing>
-    ensures { FindsBelow release.now cert.now 64 result }
+/// The first site of a part at which a condition fails, with the condition.
+fn failing_part(
+    alloc: Global,
+    release: &Release,
+    cert: &Cert,
+    condition: Condition,
+) -> Result<Option<Failing>, AllocError>
+    requires part { IsOfPart condition }
+    requires below { HoldBelow release.now cert.now (code_of condition) }
+    ensures { IfOk result (FindsBelow release.now cert.now (code_of condition + 1)) }
 {
-    if let Some(site) = misnamed(release, cert) {
-        return Some(Failing {
-            condition: Condition::Names,
-            site,
-        });
+    match first_at_parts(alloc, release, cert, condition)? {
+        Some(site) => Ok(Some(Failing { condition, site })),
+        None => Ok(None),
     }
-    if let Some(site) = piece_without_triangle(release, cert) {
-        return Some(Failing {
-            condition: Condition::Triangles,
-            site,
-        });
-    }
-    if let Some(site) = piece_turned_round(release, cert) {
-        return Some(Failing {
-            condition: Condition::Turned,
-            site,
-        });
-    }
-    if let Some(site) = bent_flat(release, cert) {
-        return Some(Failing {
-            condition: Condition::Flats,
-            site,
-        });
-    }
-    None
-}
-
-/// The fault of the lowest code below 67, where it is not below 64.
-fn edge_fault(alloc: Global, release: &Release, cert: &Cert) -> Result<Option<Failing>, AllocError>
-    requires { HoldBelow release.now cert.now 64 }
-    ensures { IfOk result (FindsBelow release.now cert.now 67) }
-{
-    if let Some(site) = strange_corner(alloc, release, cert)? {
-        return Ok(Some(Failing {
-            condition: Condition::Corners,
-            site,
-        }));
-    }
-    if let Some(site) = piece_with_other_edges(alloc, release, cert)? {
-        return Ok(Some(Failing {
-            condition: Condition::PieceEdges,
-            site,
-        }));
-    }
-    if let Some(site) = parcel_with_other_edges(alloc, release, cert)? {
-        return Ok(Some(Failing {
-            condition: Condition::ParcelEdges,
-            site,
-        }));
-    }
-    Ok(None)
 }
 
 /// The fault of the lowest code below 67: of a part, and not of a pair of triangles.
@@ -136,10 +91,42 @@ pub(crate) fn part_fault(
 ) -> Result<Option<Failing>, AllocError>
     ensures { IfOk result (FindsBelow release.now cert.now 67) }
 {
-    match form_fault(release, cert) {
-        Some(found) => Ok(Some(found)),
-        None => edge_fault(alloc, release, cert),
+    if let Some(site) = misnamed(alloc, release, cert)? {
+        let condition = Condition::Names;
+        return Ok(Some(Failing { condition, site }));
     }
+    if let Some(found) = failing_part(alloc, release, cert, Condition::Triangles)? {
+        return Ok(Some(found));
+    }
+    if let Some(found) = failing_part(alloc, release, cert, Condition::Turned)? {
+        return Ok(Some(found));
+    }
+    if let Some(found) = failing_part(alloc, release, cert, Condition::Flats)? {
+        return Ok(Some(found));
+    }
+    if let Some(found) = failing_part(alloc, release, cert, Condition::Corners)? {
+        return Ok(Some(found));
+    }
+    if let Some(found) = failing_part(alloc, release, cert, Condition::PieceEdges)? {
+        return Ok(Some(found));
+    }
+    failing_part(alloc, release, cert, Condition::ParcelEdges)
+}
+
+/// The first pair line at which a condition fails, with the condition.
+fn failing_line(
+    release: &Release,
+    cert: &Cert,
+    triangles: &[Triangle],
+    condition: Condition,
+) -> Option<Failing>
+    requires line { IsOfLine condition }
+    requires below { HoldBelow release.now cert.now (code_of condition) }
+    requires numbered { triangles.now ≡ triangles_of cert.now.pieces }
+    ensures { FindsBelow release.now cert.now (code_of condition + 1) result }
+{
+    let site = first_line(release, cert, triangles, condition)?;
+    Some(Failing { condition, site })
 }
 
 /// The fault of the lowest code, where it is not below 67.
@@ -155,24 +142,13 @@ fn pair_fault(
     ensures { FindsBelow release.now cert.now 70 result }
 {
     if let Some(site) = unnamed_pair(release, cert, triangles, near) {
-        return Some(Failing {
-            condition: Condition::NearPairs,
-            site,
-        });
+        let condition = Condition::NearPairs;
+        return Some(Failing { condition, site });
     }
-    if let Some(site) = line_of_apart_triangles(release, cert, triangles) {
-        return Some(Failing {
-            condition: Condition::NotApart,
-            site,
-        });
+    if let Some(found) = failing_line(release, cert, triangles, Condition::NotApart) {
+        return Some(found);
     }
-    if let Some(site) = line_that_separates_nothing(release, cert, triangles) {
-        return Some(Failing {
-            condition: Condition::Separating,
-            site,
-        });
-    }
-    None
+    failing_line(release, cert, triangles, Condition::Separating)
 }
 
 /// The triangles of a certificate, in the order of their numbers.

@@ -6,7 +6,6 @@ mod condition;
 mod corners;
 mod fault;
 mod first_fault;
-mod flats;
 pub mod laws;
 mod locating;
 mod names;
@@ -14,6 +13,7 @@ mod near_pairs;
 mod nets;
 mod parts;
 mod runs;
+mod searching;
 mod separators;
 mod signed;
 

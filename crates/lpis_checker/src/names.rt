@@ -1,13 +1,11 @@
 //! The names of the parts, and the order of the pair lines.
 
 ghost use Rattle.std.specs.Prelude.{◌≡◌, ◌↔◌, ◌<◌, ℕ, IsTrue, length};
-ghost use Rattle.lpis_pairs.specs.NearPairs.{IsBelow};
 ghost use Rattle.lpis_checker.specs.GoodCertificate.{Holds, triangles_of};
-ghost use Rattle.lpis_checker.specs.private.Searches.{FindsFirst, FindsLine, FindsParcel, FindsPiece};
+ghost use Rattle.lpis_checker.specs.private.Searches.{FindsLine};
 ghost use Rattle.lpis_checker.specs.declared.condition.Condition.TheVariants.{Names};
 ghost use Rattle.lpis_checker.specs.declared.condition.Site.TheVariants.{LineAt, ParcelAt, PieceAt};
 
-use crate::condition::Site;
 use crate::near_pairs::is_before;
 use lpis_cert::{Cert, PairLine};
 use lpis_covers::Id;
@@ -21,7 +19,7 @@ fn is_same(part: &Id, own: &Id) -> bool
 }
 
 /// Whether the piece at a place has its part's identifier, or neither is there.
-fn is_piece_named(release: &Release, cert: &Cert, place: usize) -> bool
+pub(crate) fn is_piece_named(release: &Release, cert: &Cert, place: usize) -> bool
     ensures { IsTrue result ↔ Holds release.now cert.now Names (PieceAt place) }
 {
     match (
@@ -35,7 +33,7 @@ fn is_piece_named(release: &Release, cert: &Cert, place: usize) -> bool
 }
 
 /// Whether the parcel at a place has its part's identifier, or neither is there.
-fn is_parcel_named(release: &Release, cert: &Cert, place: usize) -> bool
+pub(crate) fn is_parcel_named(release: &Release, cert: &Cert, place: usize) -> bool
     ensures { IsTrue result ↔ Holds release.now cert.now Names (ParcelAt place) }
 {
     match (
@@ -83,35 +81,8 @@ fn is_in_order(release: &Release, cert: &Cert, count: usize, place: usize) -> bo
     is_before(&lines[place - 1], line.i, line.j)
 }
 
-/// The first piece whose part is missing or has another name, or the first part too many.
-fn misnamed_piece(release: &Release, cert: &Cert) -> Option<usize>
-    ensures { FindsPiece release.now cert.now Names result }
-{
-    let end = cert.pieces.as_slice().len().max(release.pieces().len());
-    for place in 0..end {
-        if !is_piece_named(release, cert, place) {
-            return Some(place);
-        }
-    }
-    None
-}
-
-/// The same of parcels.
-fn misnamed_parcel(release: &Release, cert: &Cert) -> Option<usize>
-    requires pieces { (m : ℕ) → Holds release.now cert.now Names (PieceAt m) }
-    ensures { FindsParcel release.now cert.now Names result }
-{
-    let end = cert.parcels.as_slice().len().max(release.parcels().len());
-    for place in 0..end {
-        if !is_parcel_named(release, cert, place) {
-            return Some(place);
-        }
-    }
-    None
-}
-
 /// The first pair line that is out of order.
-fn disordered_line(release: &Release, cert: &Cert) -> Option<usize>
+pub(crate) fn disordered_line(release: &Release, cert: &Cert) -> Option<usize>
     requires pieces { (m : ℕ) → Holds release.now cert.now Names (PieceAt m) }
     requires parcels { (m : ℕ) → Holds release.now cert.now Names (ParcelAt m) }
     ensures { FindsLine release.now cert.now Names result }
@@ -121,22 +92,6 @@ fn disordered_line(release: &Release, cert: &Cert) -> Option<usize>
         if !is_in_order(release, cert, count, place) {
             return Some(place);
         }
-    }
-    None
-}
-
-/// The first part with another name than its piece or parcel, or the first pair line that is out of order.
-pub(crate) fn misnamed(release: &Release, cert: &Cert) -> Option<Site>
-    ensures { FindsFirst release.now cert.now Names result }
-{
-    if let Some(place) = misnamed_piece(release, cert) {
-        return Some(Site::PieceAt(place));
-    }
-    if let Some(place) = misnamed_parcel(release, cert) {
-        return Some(Site::ParcelAt(place));
-    }
-    if let Some(place) = disordered_line(release, cert) {
-        return Some(Site::LineAt(place));
     }
     None
 }

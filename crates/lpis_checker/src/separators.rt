@@ -1,13 +1,11 @@
 //! Conditions on the triangles of each pair line.
 
-ghost use Rattle.std.specs.Prelude.{◌≡◌, ◌↔◌, ◌<◌, IsTrue, false, length, slice_get, MatchOption};
+ghost use Rattle.std.specs.Prelude.{◌≡◌, ◌↔◌, ◌<◌, IsTrue, false, length};
 ghost use Rattle.lpis_points.specs.Triangles.{Separates, are_apart};
 ghost use Rattle.lpis_checker.specs.GoodCertificate.{EdgeSeparates, Holds, HoldsEverywhere, LineSeparates, OfTwo, triangles_of};
-ghost use Rattle.lpis_checker.specs.private.Searches.{FindsFirst};
 ghost use Rattle.lpis_checker.specs.declared.condition.Condition.TheVariants.{Names, NotApart, Separating};
 ghost use Rattle.lpis_checker.specs.declared.condition.Site.TheVariants.{LineAt};
 
-use crate::condition::Site;
 use lpis_cert::{Cert, PairLine};
 use lpis_parcels::Release;
 use lpis_points::{Triangle, apart, edge, separates};
@@ -56,7 +54,12 @@ fn line_separates(triangles: &[Triangle], line: &PairLine) -> bool
 }
 
 /// Whether the triangles of the pair line at a place are not apart.
-fn is_near_at(release: &Release, cert: &Cert, triangles: &[Triangle], place: usize) -> bool
+pub(crate) fn is_near_at(
+    release: &Release,
+    cert: &Cert,
+    triangles: &[Triangle],
+    place: usize,
+) -> bool
     requires names { HoldsEverywhere release.now cert.now Names }
     requires numbered { triangles.now ≡ triangles_of cert.now.pieces }
     requires within { place < length cert.now.pairs }
@@ -66,47 +69,16 @@ fn is_near_at(release: &Release, cert: &Cert, triangles: &[Triangle], place: usi
 }
 
 /// Whether the edge that the pair line at a place names separates its triangles.
-fn is_separator_at(release: &Release, cert: &Cert, triangles: &[Triangle], place: usize) -> bool
+pub(crate) fn is_separator_at(
+    release: &Release,
+    cert: &Cert,
+    triangles: &[Triangle],
+    place: usize,
+) -> bool
     requires names { HoldsEverywhere release.now cert.now Names }
     requires numbered { triangles.now ≡ triangles_of cert.now.pieces }
     requires within { place < length cert.now.pairs }
     ensures { IsTrue result ↔ Holds release.now cert.now Separating (LineAt place) }
 {
     line_separates(triangles, &cert.pairs.as_slice()[place])
-}
-
-/// The first pair line whose triangles are apart.
-pub(crate) fn line_of_apart_triangles(
-    release: &Release,
-    cert: &Cert,
-    triangles: &[Triangle],
-) -> Option<Site>
-    requires names { HoldsEverywhere release.now cert.now Names }
-    requires numbered { triangles.now ≡ triangles_of cert.now.pieces }
-    ensures { FindsFirst release.now cert.now NotApart result }
-{
-    for place in 0..cert.pairs.as_slice().len() {
-        if !is_near_at(release, cert, triangles, place) {
-            return Some(Site::LineAt(place));
-        }
-    }
-    None
-}
-
-/// The first pair line whose edge does not separate its triangles.
-pub(crate) fn line_that_separates_nothing(
-    release: &Release,
-    cert: &Cert,
-    triangles: &[Triangle],
-) -> Option<Site>
-    requires names { HoldsEverywhere release.now cert.now Names }
-    requires numbered { triangles.now ≡ triangles_of cert.now.pieces }
-    ensures { FindsFirst release.now cert.now Separating result }
-{
-    for place in 0..cert.pairs.as_slice().len() {
-        if !is_separator_at(release, cert, triangles, place) {
-            return Some(Site::LineAt(place));
-        }
-    }
-    None
 }

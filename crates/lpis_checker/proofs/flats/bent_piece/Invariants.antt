@@ -1,8 +1,0 @@
-use Rattle.std.proofs.Common.{ℕ, ◌<◌}
-use Rattle.lpis_checker.specs.GoodCertificate.{Holds}
-use Rattle.lpis_checker.specs.declared.condition.Condition.TheVariants.{Flats}
-use Rattle.lpis_checker.specs.declared.condition.Site.TheVariants.{PieceAt}
-use Rattle.lpis_checker.proofs.flats.bent_piece.Given as goal
-
-abbrev pub invariant-loop-place : goal.invariant-loop-place
-invariant-loop-place l = (m : ℕ) → m < l.place → Holds l.release l.cert Flats (PieceAt m)

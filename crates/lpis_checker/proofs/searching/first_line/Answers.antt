@@ -1,0 +1,27 @@
+use Rattle.std.proofs.Common.{◌≤◌, length, List, subst, arith}
+use Rattle.lpis_cert.specs.declared.part.PairLine.{PairLine}
+use Rattle.lpis_checker.specs.GoodCertificate.{Holds}
+use Rattle.lpis_checker.specs.declared.condition.Site.TheVariants.{LineAt}
+use Rattle.lpis_checker.proofs.Sites.{at_all_sites, at_each, first_at_line, of_lines, one_more, past_lines, untrue}
+use Rattle.lpis_checker.proofs.searching.first_line.Goals as goal
+
+pub returns-then-not-holds_at_line : goal.returns-then-not-holds_at_line
+returns-then-not-holds_at_line c =
+    let r = c.args.release.now in
+    let cert = c.args.cert.now in
+    let elsewhere = of_lines r cert c.args.condition c.requires.lines in
+    first_at_line r cert c.args.condition c.loop-place.place (untrue c.holds_at_line.result c.holds_at_line.ensures c.if-not-holds_at_line.true) elsewhere.0 elsewhere.1 c.loop-place.invariant
+
+pub loop-place-preserved : goal.loop-place-preserved
+loop-place-preserved c = one_more (λ m. Holds c.args.release.now c.args.cert.now c.args.condition (LineAt m)) c.loop-place.place (c.holds_at_line.ensures.0 c.if-not-holds_at_line.false) c.loop-place.invariant
+
+pub returns : goal.returns
+returns c =
+    let r = c.args.release.now in
+    let cert = c.args.cert.now in
+    let q = c.args.condition in
+    let k = c.loop-place.place in
+    let long : length cert.pairs ≤ k = subst (λ (lines : List PairLine). length lines ≤ k) c.as_slice-place-end.ensures (omega arith) in
+    let lines = at_each (λ m. Holds r cert q (LineAt m)) k (length cert.pairs) (length cert.pairs) (λ m past also. past_lines r cert q m past) long long c.loop-place.invariant in
+    let elsewhere = of_lines r cert q c.requires.lines in
+    at_all_sites r cert q elsewhere.0 elsewhere.1 lines elsewhere.2

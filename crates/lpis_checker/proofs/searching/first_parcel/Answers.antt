@@ -1,0 +1,16 @@
+use Rattle.std.proofs.Common.{◌≤◌, length, List, rules, subst}
+use Rattle.lpis_parcels.specs.declared.parcel.Parcel.{Parcel}
+use Rattle.lpis_cert.specs.declared.part.ParcelPart.{ParcelPart}
+use Rattle.lpis_checker.specs.GoodCertificate.{Holds}
+use Rattle.lpis_checker.specs.declared.condition.Site.TheVariants.{ParcelAt}
+use Rattle.lpis_checker.proofs.Sites.{at_each, past_parcels}
+use Rattle.lpis_checker.proofs.searching.first_parcel.Goals as goal
+
+pub returns : goal.returns
+returns c =
+    let r = c.args.release.now in
+    let cert = c.args.cert.now in
+    let k = c.loop-place.place in
+    let parts : length cert.parcels ≤ k = subst (λ (ts : List ParcelPart). length ts ≤ k) c.as_slice.ensures (search rules) in
+    let own : length r.parcels ≤ k = subst (λ (xs : List Parcel). length xs ≤ k) c.parcels.ensures.parcels (search rules) in
+    at_each (λ m. Holds r cert c.args.condition (ParcelAt m)) k (length cert.parcels) (length r.parcels) (past_parcels r cert c.args.condition) parts own c.loop-place.invariant

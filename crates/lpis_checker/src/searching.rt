@@ -1,0 +1,232 @@
+//! The first site at which a condition fails.
+
+ghost use Rattle.std.specs.Prelude.{◌≡◌, ◌↔◌, ◌<◌, ℕ, IsTrue, IfOk, length};
+ghost use Rattle.lpis_checker.specs.GoodCertificate.{Holds, HoldsEverywhere, triangles_of};
+ghost use Rattle.lpis_checker.specs.private.Searches.{FindsFirst, FindsParcel, FindsPart, FindsPiece, IsOfLine, IsOfPart, OnParcel, OnPiece};
+ghost use Rattle.lpis_checker.specs.declared.condition.Condition.TheVariants.{Names};
+ghost use Rattle.lpis_checker.specs.declared.condition.Site.TheVariants.{LineAt, ParcelAt, PieceAt};
+
+use crate::condition::{Condition, Site};
+use crate::corners::{has_corners_of_parcel, has_corners_of_piece};
+use crate::names::{disordered_line, is_parcel_named, is_piece_named};
+use crate::nets::{is_cut, is_filled};
+use crate::parts::{are_flat, has_triangle, is_turned};
+use crate::separators::{is_near_at, is_separator_at};
+use crate::signed::SignedEdge;
+use lpis_cert::{Cert, ParcelPart, PiecePart};
+use lpis_covers::Piece;
+use lpis_parcels::{Parcel, Release};
+use lpis_points::Triangle;
+use std::alloc::{AllocError, Global};
+
+/// Whether a condition holds of a piece and its part. The list is for edges: its room is used again.
+fn holds_of_piece(
+    alloc: Global,
+    sum: &mut Vec<SignedEdge>,
+    condition: Condition,
+    piece: &Piece,
+    part: &PiecePart,
+) -> Result<bool, AllocError>
+    ensures { IfOk result (λ b. IsTrue b ↔ OnPiece condition piece.now part.now) }
+{
+    match condition {
+        Condition::Triangles => Ok(has_triangle(part)),
+        Condition::Turned => Ok(is_turned(part)),
+        Condition::Flats => Ok(are_flat(part.flats.as_slice())),
+        Condition::Corners => has_corners_of_piece(alloc, piece, part),
+        Condition::PieceEdges => is_cut(sum, piece, part),
+        _ => Ok(true),
+    }
+}
+
+/// Whether a condition holds of a parcel and its part. The list is for edges: its room is used again.
+fn holds_of_parcel(
+    alloc: Global,
+    sum: &mut Vec<SignedEdge>,
+    release: &Release,
+    condition: Condition,
+    parcel: &Parcel,
+    part: &ParcelPart,
+) -> Result<bool, AllocError>
+    ensures { IfOk result (λ b. IsTrue b ↔ OnParcel release.now condition parcel.now part.now) }
+{
+    match condition {
+        Condition::Flats => Ok(are_flat(part.flats.as_slice())),
+        Condition::Corners => has_corners_of_parcel(alloc, release, parcel, part),
+        Condition::ParcelEdges => is_filled(sum, release, parcel, part),
+        _ => Ok(true),
+    }
+}
+
+/// Whether a condition holds at the piece of a place.
+fn holds_at_piece(
+    alloc: Global,
+    sum: &mut Vec<SignedEdge>,
+    release: &Release,
+    cert: &Cert,
+    condition: Condition,
+    place: usize,
+) -> Result<bool, AllocError>
+    ensures { IfOk result (λ b. IsTrue b ↔ Holds release.now cert.now condition (PieceAt place)) }
+{
+    if condition == Condition::Names {
+        return Ok(is_piece_named(release, cert, place));
+    }
+    match (
+        cert.pieces.as_slice().get(place),
+        release.pieces().get(place),
+    ) {
+        (Some(part), Some(piece)) => holds_of_piece(alloc, sum, condition, piece, part),
+        _ => Ok(true),
+    }
+}
+
+/// Whether a condition holds at the parcel of a place.
+fn holds_at_parcel(
+    alloc: Global,
+    sum: &mut Vec<SignedEdge>,
+    release: &Release,
+    cert: &Cert,
+    condition: Condition,
+    place: usize,
+) -> Result<bool, AllocError>
+    ensures { IfOk result (λ b. IsTrue b ↔ Holds release.now cert.now condition (ParcelAt place)) }
+{
+    if condition == Condition::Names {
+        return Ok(is_parcel_named(release, cert, place));
+    }
+    match (
+        cert.parcels.as_slice().get(place),
+        release.parcels().get(place),
+    ) {
+        (Some(part), Some(parcel)) => holds_of_parcel(alloc, sum, release, condition, parcel, part),
+        _ => Ok(true),
+    }
+}
+
+/// The first piece at which a condition fails.
+fn first_piece(
+    alloc: Global,
+    release: &Release,
+    cert: &Cert,
+    condition: Condition,
+) -> Result<Option<usize>, AllocError>
+    ensures { IfOk result (λ o. FindsPiece release.now cert.now condition o) }
+{
+    let mut sum = Vec::new(alloc);
+    let end = cert.pieces.as_slice().len().max(release.pieces().len());
+    for place in 0..end {
+        if !holds_at_piece(alloc, &mut sum, release, cert, condition, place)? {
+            return Ok(Some(place));
+        }
+    }
+    Ok(None)
+}
+
+/// The first parcel at which a condition fails that holds at each piece.
+fn first_parcel(
+    alloc: Global,
+    release: &Release,
+    cert: &Cert,
+    condition: Condition,
+) -> Result<Option<usize>, AllocError>
+    requires pieces { (m : ℕ) → Holds release.now cert.now condition (PieceAt m) }
+    ensures { IfOk result (λ o. FindsParcel release.now cert.now condition o) }
+{
+    let mut sum = Vec::new(alloc);
+    let end = cert.parcels.as_slice().len().max(release.parcels().len());
+    for place in 0..end {
+        if !holds_at_parcel(alloc, &mut sum, release, cert, condition, place)? {
+            return Ok(Some(place));
+        }
+    }
+    Ok(None)
+}
+
+/// The first piece, and else the first parcel, at which a condition fails.
+fn first_part(
+    alloc: Global,
+    release: &Release,
+    cert: &Cert,
+    condition: Condition,
+) -> Result<Option<Site>, AllocError>
+    ensures { IfOk result (λ o. FindsPart release.now cert.now condition o) }
+{
+    if let Some(place) = first_piece(alloc, release, cert, condition)? {
+        return Ok(Some(Site::PieceAt(place)));
+    }
+    match first_parcel(alloc, release, cert, condition)? {
+        Some(place) => Ok(Some(Site::ParcelAt(place))),
+        None => Ok(None),
+    }
+}
+
+/// The first site at which a condition of the parts fails, other than that of their names.
+pub(crate) fn first_at_parts(
+    alloc: Global,
+    release: &Release,
+    cert: &Cert,
+    condition: Condition,
+) -> Result<Option<Site>, AllocError>
+    requires { IsOfPart condition }
+    ensures { IfOk result (λ o. FindsFirst release.now cert.now condition o) }
+{
+    first_part(alloc, release, cert, condition)
+}
+
+/// The first part with another name than its piece or parcel, or the first pair line that is out of order.
+pub(crate) fn misnamed(
+    alloc: Global,
+    release: &Release,
+    cert: &Cert,
+) -> Result<Option<Site>, AllocError>
+    ensures { IfOk result (λ o. FindsFirst release.now cert.now Names o) }
+{
+    if let Some(site) = first_part(alloc, release, cert, Condition::Names)? {
+        return Ok(Some(site));
+    }
+    match disordered_line(release, cert) {
+        Some(place) => Ok(Some(Site::LineAt(place))),
+        None => Ok(None),
+    }
+}
+
+/// Whether one of the two conditions on the triangles of a pair line holds at a place.
+fn holds_at_line(
+    release: &Release,
+    cert: &Cert,
+    triangles: &[Triangle],
+    condition: Condition,
+    place: usize,
+) -> bool
+    requires names { HoldsEverywhere release.now cert.now Names }
+    requires numbered { triangles.now ≡ triangles_of cert.now.pieces }
+    requires within { place < length cert.now.pairs }
+    ensures { IsTrue result ↔ Holds release.now cert.now condition (LineAt place) }
+{
+    match condition {
+        Condition::NotApart => is_near_at(release, cert, triangles, place),
+        Condition::Separating => is_separator_at(release, cert, triangles, place),
+        _ => true,
+    }
+}
+
+/// The first pair line at which one of the two conditions on its triangles fails.
+pub(crate) fn first_line(
+    release: &Release,
+    cert: &Cert,
+    triangles: &[Triangle],
+    condition: Condition,
+) -> Option<Site>
+    requires lines { IsOfLine condition }
+    requires names { HoldsEverywhere release.now cert.now Names }
+    requires numbered { triangles.now ≡ triangles_of cert.now.pieces }
+    ensures { FindsFirst release.now cert.now condition result }
+{
+    for place in 0..cert.pairs.as_slice().len() {
+        if !holds_at_line(release, cert, triangles, condition, place) {
+            return Some(Site::LineAt(place));
+        }
+    }
+    None
+}
