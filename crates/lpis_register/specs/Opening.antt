@@ -5,6 +5,9 @@ use Rattle.sqlite.specs.State.{State}
 use Rattle.lpis_lineage.specs.declared.row.Entry.{Entry}
 use Rattle.lpis_records.specs.Content.{Content}
 use Rattle.lpis_records.specs.Tells.{Tells, TellsLive}
+use Rattle.lpis_register.specs.declared.fault.PublishFault.{PublishFault}
+use Rattle.lpis_register.specs.declared.fault.PublishFault.TheVariants.{Memory, Year, Lineage}
+use Rattle.lpis_register.specs.declared.fault.PublishFault.TheVariants.{Store, Unknown, Unlawful}
 use Rattle.lpis_register.specs.Bare.{IsBare}
 use Rattle.lpis_register.specs.Shapes.{Shape}
 use Rattle.lpis_register.specs.Holding.{IsStored}
@@ -36,3 +39,12 @@ LeavesSaid c trees = (h : List Entry) × (first : Bool) × SaysAt first c h × L
 pub record LeavesOpened (old : State) (trees : Trees) : Type 0 where
   pub found : (shape : Shape) (c : Content) → IsStored shape old c → LeavesSaid c trees
   pub bare : IsBare old → LeavesHistory [] trees
+
+-- what an opening answers in place of a register
+abbrev pub IsOpeningFault : PublishFault → Type 0
+IsOpeningFault Memory = Unit {0}
+IsOpeningFault (Year last) = ⊥
+IsOpeningFault (Lineage fault) = ⊥
+IsOpeningFault Store = Unit {0}
+IsOpeningFault Unknown = ⊥
+IsOpeningFault Unlawful = Unit {0}

@@ -7,7 +7,7 @@ ghost use Rattle.lpis_register.specs.Bare.{IsBare};
 ghost use Rattle.lpis_register.specs.Shapes.{has_live, has_spans};
 ghost use Rattle.lpis_register.specs.Holding.{IsStored};
 ghost use Rattle.lpis_register.specs.Histories.{HoldsHistory};
-ghost use Rattle.lpis_register.specs.Opening.{SaysAt, FindsHistory, LeavesOpened};
+ghost use Rattle.lpis_register.specs.Opening.{SaysAt, FindsHistory, IsOpeningFault, LeavesOpened};
 ghost use Rattle.lpis_register.specs.private.Commits.{LeavesFound};
 ghost use Rattle.lpis_register.specs.declared.fault.PublishFault.TheVariants.{Unlawful};
 
@@ -47,6 +47,7 @@ fn open_found<S: Alter>(
     ensures clean { HasCleanDisk (state S.Store conn.new) → HasCleanDisk (state S.Store conn.old) }
     ensures crash { Survives (state S.Store conn.old) (state S.Store conn.new)
         (LeavesFound spans lives (state S.Store conn.old)) }
+    ensures kinds { IfErr result IsOpeningFault }
 {
     let (history, is_first) = find_history(alloc, conn, spans, lives)?;
     settle(alloc, conn, spans, lives, is_first, &history)?;
@@ -79,6 +80,7 @@ pub(crate) fn open_tables<S: Alter>(
     ensures clean { HasCleanDisk (state S.Store conn.new) → HasCleanDisk (state S.Store conn.old) }
     ensures crash { Survives (state S.Store conn.old) (state S.Store conn.new)
         (LeavesOpened (state S.Store conn.old)) }
+    ensures kinds { IfErr result IsOpeningFault }
 {
     order_of_rows_is_free();
     let found = tables_in(conn.schema());
@@ -123,6 +125,7 @@ impl<S: Alter + Drop> Register<S> {
             (state S.Store it.conn) (LeavesOpened (state S.Store connection))) }
         ensures crash_beside { IfErr result (λ e. Survives (state S.Store connection)
             (state S.Store e.0) (LeavesOpened (state S.Store connection))) }
+        ensures kinds { IfErr result (λ e. IsOpeningFault e.1) }
     {
         match open_tables(alloc, &mut connection) {
             Ok(history) => Ok(Register::of(alloc, connection, history)),

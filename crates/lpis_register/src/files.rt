@@ -1,6 +1,6 @@
 //! A register in the files at a path, or in memory.
 
-ghost use Rattle.std.specs.Prelude.{◌≡◌, [], IfOk};
+ghost use Rattle.std.specs.Prelude.{◌≡◌, [], IfErr, IfOk};
 ghost use Rattle.sqlite_trees.specs.Objects.{catalog_tree};
 ghost use Rattle.sqlite_wal.specs.Files.{image_at};
 ghost use Rattle.sqlite.specs.Files.{HoldsDatabase, file_state};
@@ -9,7 +9,7 @@ ghost use Rattle.sqlite.specs.Held.{state};
 ghost use Rattle.sqlite.specs.Steps.{over_memory};
 ghost use Rattle.lpis_register.specs.Histories.{HoldsHistory};
 ghost use Rattle.lpis_register.specs.Holding.{Leaves};
-ghost use Rattle.lpis_register.specs.Opening.{SaysAt};
+ghost use Rattle.lpis_register.specs.Opening.{IsOpeningFault, SaysAt};
 
 use crate::fault::PublishFault;
 use crate::opening::fault_of;
@@ -37,6 +37,7 @@ impl<S: Start> Register<FileStore<FileFrom<S>>> {
         ensures blank { IfOk result (λ it. HasCleanDisk (file_state it.conn)
             → (image_at S.Start).db ≡ []
             → HoldsHistory (file_state it.conn) it.history × (it.history ≡ [])) }
+        ensures kinds { IfErr result IsOpeningFault }
     {
         match Connection::open_from(rt, path, false, start) {
             Ok(conn) => match Register::adopt(alloc, conn) {
@@ -53,6 +54,7 @@ impl Register<MemStore> {
     pub fn open_in_memory(alloc: Global) -> Result<Register<MemStore>, PublishFault>
         ensures empty { IfOk result (λ it. it.history ≡ []) }
         ensures holds { IfOk result (λ it. HoldsHistory (state over_memory it.conn) it.history) }
+        ensures kinds { IfErr result IsOpeningFault }
     {
         let conn = Connection::open_in_memory(alloc)?;
         match Register::adopt(alloc, conn) {

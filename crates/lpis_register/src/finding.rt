@@ -6,7 +6,7 @@ ghost use Rattle.sqlite.specs.State.{HasCleanDisk, Survives};
 ghost use Rattle.lpis_records.specs.Tells.{IsSameContent};
 ghost use Rattle.lpis_register.specs.Shapes.{has_spans, has_live};
 ghost use Rattle.lpis_register.specs.Holding.{IsStored};
-ghost use Rattle.lpis_register.specs.Opening.{SaysAt};
+ghost use Rattle.lpis_register.specs.Opening.{IsOpeningFault, SaysAt};
 ghost use Rattle.lpis_register.specs.private.Quiet.{IsWith, LeavesNone};
 ghost use Rattle.lpis_register.specs.declared.fault.PublishFault.TheVariants.{Unlawful};
 
@@ -119,6 +119,7 @@ fn history_at(alloc: Global, rows: &Rows) -> Result<(History, bool), PublishFaul
     ensures says { IfOk result (λ found. SaysAt found.1 rows.now found.0) }
     ensures unlawful { IfErr result (λ e. e ≡ Unlawful → (first : _) (h : _)
         → SaysAt first rows.now h → ⊥) }
+    ensures kinds { IfErr result IsOpeningFault }
 {
     match history_of(alloc, rows) {
         Ok(history) => return Ok((history, false)),
@@ -156,6 +157,7 @@ pub(crate) fn find_history<S: Alter>(
     ensures clean { HasCleanDisk (state S.Store conn.new) → HasCleanDisk (state S.Store conn.old) }
     ensures survives { Survives (state S.Store conn.old) (state S.Store conn.new)
         (LeavesNone (IsWith spans lives) (state S.Store conn.old)) }
+    ensures kinds { IfErr result IsOpeningFault }
 {
     order_of_rows_is_free();
     match load_found(alloc, conn, spans, lives) {

@@ -6,6 +6,7 @@ ghost use Rattle.sqlite.specs.State.{HasCleanDisk};
 ghost use Rattle.lpis_lineage.specs.declared.row.Entry.{Entry};
 ghost use Rattle.lpis_records.specs.Tells.{IsSameHistory, Tells};
 ghost use Rattle.lpis_register.specs.Histories.{HoldsHistory};
+ghost use Rattle.lpis_register.specs.Opening.{IsOpeningFault};
 ghost use Rattle.lpis_register.specs.declared.fault.PublishFault.TheVariants.{Memory, Store, Unlawful};
 
 use crate::fault::PublishFault;
@@ -17,7 +18,8 @@ use std::alloc::Global;
 
 /// The database's want of memory is told as such.
 pub(crate) fn fault_of(error: Error) -> PublishFault
-    ensures { (result ≡ Memory) ⊎ (result ≡ Store) }
+    ensures either { (result ≡ Memory) ⊎ (result ≡ Store) }
+    ensures opening { IsOpeningFault result }
 {
     match error {
         Error::SqliteFailure(ErrorCode::OutOfMemory) => PublishFault::Memory,

@@ -7,7 +7,7 @@ ghost use Rattle.lpis_records.specs.Tells.{TellsLive};
 ghost use Rattle.lpis_register.specs.Shapes.{has_live, has_spans};
 ghost use Rattle.lpis_register.specs.Holding.{IsStored};
 ghost use Rattle.lpis_register.specs.Histories.{HoldsHistory};
-ghost use Rattle.lpis_register.specs.Opening.{SaysAt};
+ghost use Rattle.lpis_register.specs.Opening.{IsOpeningFault, SaysAt};
 ghost use Rattle.lpis_register.specs.private.Commits.{LeavesSettled};
 ghost use Rattle.lpis_register.specs.declared.fault.PublishFault.TheVariants.{Unlawful};
 
@@ -42,6 +42,7 @@ fn move_first<S: Alter>(
     ensures clean { HasCleanDisk (state S.Store conn.new) → HasCleanDisk (state S.Store conn.old) }
     ensures crash { Survives (state S.Store conn.old) (state S.Store conn.new)
         (LeavesSettled spans lives true history.now (state S.Store conn.old)) }
+    ensures kinds { IfErr result IsOpeningFault }
 {
     moving_keeps_the_history();
     let rows = spans_of(alloc, history)?;
@@ -75,6 +76,7 @@ pub(crate) fn settle<S: Alter>(
     ensures clean { HasCleanDisk (state S.Store conn.new) → HasCleanDisk (state S.Store conn.old) }
     ensures crash { Survives (state S.Store conn.old) (state S.Store conn.new)
         (LeavesSettled spans lives is_first history.now (state S.Store conn.old)) }
+    ensures kinds { IfErr result IsOpeningFault }
 {
     if is_first {
         return move_first(alloc, conn, spans, lives, history);

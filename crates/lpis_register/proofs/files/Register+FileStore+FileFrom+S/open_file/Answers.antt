@@ -22,4 +22,5 @@ returns-in-Ok-adopt g c = record {
       let before = c.in-Ok-adopt.ensures.clean clean in
       let opened = c.in-Ok.ensures.opened before in
       c.in-Ok-adopt.ensures.bare clean (opened_bare (file_state c.in-Ok.conn) opened.0 opened.1 (none_in_nothing _ _ nothing (c.in-Ok.ensures.found before).reads));
+  kinds = tt;
 }

@@ -9,4 +9,4 @@ returns-in-Ok c =
     let empty = c.in_ok-conn.ensures.empty in
     let bare : IsBare (state over_memory c.in_ok-conn.conn) = record { is_open = empty.0.is_open; autocommit = empty.0.autocommit; settled = empty.0.clean; schema = empty.2 } in
     let begun = c.in-Ok.ensures.bare (memory_is_clean c.in-Ok.register.conn) bare in
-    record { empty = begun.1; holds = begun.0 }
+    record { empty = begun.1; holds = begun.0; kinds = tt }
