@@ -1,0 +1,18 @@
+//! Tests of the runs over a register in memory, with values from outside the program.
+//!
+//! They are a crate of their own, on which nothing stands, since a test that calls a run over a
+//! register makes the whole database engine concrete, which is to be proved once.
+#![tactic(auto)]
+
+#[cfg(test)]
+mod devices;
+#[cfg(test)]
+mod failures;
+#[cfg(test)]
+mod lineages;
+#[cfg(test)]
+mod maps;
+#[cfg(test)]
+mod office;
+#[cfg(test)]
+mod worked;
