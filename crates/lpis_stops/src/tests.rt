@@ -1,0 +1,7 @@
+//! The machine stops at each call of each file in turn, while a register is opened and a release is
+//! published.
+
+mod files;
+mod releases;
+mod runs;
+mod stops;
