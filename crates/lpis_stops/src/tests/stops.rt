@@ -52,13 +52,18 @@ fn expect_stops(alloc: Global, run: &Run<'_>) -> Result<(), Fail> {
     Ok(())
 }
 
+/// Files with the first release of the worked example.
+fn first_release(alloc: Global, frames: usize) -> Result<Image, Fail> {
+    let square = square(alloc)?;
+    let first = square_in_2024(alloc, &square)?;
+    image_after(alloc, &Image::new(alloc), frames, Some(&first))
+}
+
 /// Stops the second release of the worked example.
 fn expect_publishing_stops(alloc: Global, frames: usize) -> Result<(), Fail> {
-    let square = square(alloc)?;
     let halves = halves(alloc)?;
-    let first = square_in_2024(alloc, &square)?;
     let second = halves_in_2025(alloc, &halves)?;
-    let image = image_after(alloc, &Image::new(alloc), frames, Some(&first))?;
+    let image = first_release(alloc, frames)?;
     let run = Run {
         image,
         frames,
