@@ -63,37 +63,6 @@ fn expect(text: &str, wanted: &str) -> Result<(), Fail> {
     }
 }
 
-/// Years, identifiers and lines of releases, and what adding them one after the other tells.
-fn additions() -> &'static [(u16, &'static str, &'static str, &'static str)] {
-    &[
-        (2024, "A", "A,", "lineage 70 row 1"),
-        (2024, "A", "", "added"),
-        (2025, "B C", "Q,B\n", "lineage 70 row 1"),
-        (2025, "A B C", "A,B\n", "lineage 71 row 1"),
-        (2025, "B C", "A,D\n", "lineage 72 row 1"),
-        (2025, "B C", "A,B\nA,B\n", "lineage 73 row 2"),
-        (2025, "B C", "A,B\nA,\n", "lineage 74 row 2"),
-        (2025, "B C", "A,\nA,B\n", "lineage 74 row 2"),
-        (2025, "B C", "", "lineage 75 A"),
-        (2024, "B C", "A,B\nA,C\n", "last 2024"),
-        (2025, "B C", "A,B\nA,C\n", "added"),
-        (2026, "B C A", "", "lineage 76 A 2024"),
-        (2027, "B", "C,B\n", "added"),
-        (2028, "B C", "", "lineage 76 C 2025"),
-    ]
-}
-
-#[test]
-fn releases_are_added_or_refused(rt: HostRuntime) -> Result<(), Fail> {
-    let alloc = rt.alloc();
-    let mut history = History::new(alloc);
-    for (year, live, lines, answer) in additions() {
-        let answered = told(alloc, &mut history, *year, live, lines)?;
-        expect(answered.as_str(), answer)?;
-    }
-    Ok(())
-}
-
 #[test]
 fn dropped_identifiers_have_their_kinds(rt: HostRuntime) -> Result<(), Fail> {
     let alloc = rt.alloc();
