@@ -1,5 +1,5 @@
 #!/usr/bin/python3
-"""Writes a release of N parcels for the cutter, from a fixed seed: make_parcels.py N FOLDER [straight | mosaic | digitised] [turned] [FAULT].
+"""Writes a release of N parcels for the cutter, from a fixed seed: make_parcels.py N FOLDER [straight | mosaic | digitised | regular] [turned] [FAULT].
 
 The parcels are the cells of a grid of about 120 metres whose nodes were moved and whose borders are digitised in 1 to 12 segments, 2.85
 on average, 1.55 with `straight`: a piece has 4 to 56 points, 10.8 on average, 7.7 with `straight` (closing points are counted). A parcel
@@ -13,8 +13,9 @@ With `mosaic` each border has 8 segments, a parcel has one piece of its own shap
 With `digitised` every polygon has 5 to 60 points, a piece 18 on average, as far as a map of reference parcels shows its borders: a road or
 a ditch is one straight segment, a hedge has a few, the edge of a wood or a stream has a point each 8 to 15 metres. The pieces of a
 parcel, 1.8 on average, meet in digitised lines too, from one of its points or middles of edges to another: there its neighbours, and
-its other pieces, have T-junctions. The smaller of two pieces has at least an eighth of both. With `turned` the grid is turned by 30
-degrees, since fields lie as their valley does.
+its other pieces, have T-junctions. The smaller of two pieces has at least an eighth of both. `regular` is the same with a point each 15
+metres on every border, as a receiver that is carried along records it. With `turned` the grid is turned by 30 degrees, since fields lie as their
+valley does.
 
 With FAULT nearly every parcel is wrong: `gaps` moves a corner of each piece inwards by a centimetre; `overlaps` moves the shell of
 each parcel of one member outwards by one, and gives it one piece of its own shape. `stacked` and `spread` are N equal round parcels,
@@ -33,6 +34,7 @@ EAST, NORTH = 40_000_000, 530_000_000
 SEGMENTS = [1] * 9 + [2] * 5 + [3, 4, 5, 6, 8, 12]
 STRAIGHT = [1] * 33 + [2] * 3 + [3, 4, 4, 12]
 DIGITISED = [1, 1, 1, 2, 2, 3, 3, 4, 5, 6, 7, 8, 10, 14]
+REGULAR = [8]
 MOST_POINTS, LEAST_EDGE = 60, 2_000  # of a digitised polygon, of one edge that a line may end on the middle of
 SPOKES = [1] * 50 + [2] * 26 + [3] * 14 + [4] * 10  # how many pieces, of a hundred parcels without a pond or yard
 
@@ -242,7 +244,7 @@ class Digitised(Map):
         return [[[part]] for part in rings]
 
 
-KINDS = {"straight": (Map, STRAIGHT), "mosaic": (Mosaic, SEGMENTS), "digitised": (Digitised, DIGITISED)}
+KINDS = {"straight": (Map, STRAIGHT), "mosaic": (Mosaic, SEGMENTS), "digitised": (Digitised, DIGITISED), "regular": (Digitised, REGULAR)}
 
 
 def moved(polygon, corners, sign):

@@ -1,8 +1,9 @@
 //! Diagonals exchanged, so that fewer boxes overlap.
 
+use crate::boxes::{box_round, box_round_both, girth, length2, meet, overlap, size_of};
 use crate::halt::{Halt, number_of};
 use crate::mesh::{Mesh, Side, side_after};
-use lpis_points::{Box4, Point, Triangle, box_of, orient};
+use lpis_points::{Box4, Point, orient};
 use std::alloc::Global;
 
 /// What an exchange is to lower.
@@ -13,7 +14,12 @@ enum Goal {
     /// The overlaps among the boxes of the two triangles and of what lies across their sides; where
     /// these are equal, the area.
     Overlaps,
+    /// The overlaps of the boxes of the two triangles with each other and with all others.
+    AllOverlaps,
 }
+
+/// The most triangles of a mesh whose boxes are all looked at for each exchange.
+const FEW: usize = 64;
 
 /// Two triangles on either side of a diagonal from a to b: (a, b, c) and (b, a, d).
 #[derive(Clone, Copy)]
@@ -34,38 +40,9 @@ pub(crate) struct Improver {
     waiting: Vec<Side>,
     /// Whether each side of each triangle waits.
     waits: Vec<[bool; 3]>,
-}
-
-fn area(sides: &Box4) -> i128 {
-    let width = sides.x1.wrapping_sub(sides.x0);
-    let height = sides.y1.wrapping_sub(sides.y0);
-    (width as i128).wrapping_mul(height as i128)
-}
-
-fn girth(sides: &Box4) -> i128 {
-    let width = sides.x1.wrapping_sub(sides.x0);
-    let height = sides.y1.wrapping_sub(sides.y0);
-    (width as i128).wrapping_add(height as i128)
-}
-
-fn meet(first: &Box4, second: &Box4) -> bool {
-    first.x0 < second.x1 && second.x0 < first.x1 && first.y0 < second.y1 && second.y0 < first.y1
-}
-
-/// 1 where two boxes meet.
-fn overlap(first: &Box4, second: &Box4) -> u32 {
-    if meet(first, second) { 1 } else { 0 }
-}
-
-/// The square of the distance of two points.
-fn length2(a: Point, b: Point) -> i128 {
-    let x = a.x.wrapping_sub(b.x) as i128;
-    let y = a.y.wrapping_sub(b.y) as i128;
-    x.wrapping_mul(x).wrapping_add(y.wrapping_mul(y))
-}
-
-fn box_round(a: Point, b: Point, c: Point) -> Box4 {
-    box_of(&Triangle { a, b, c })
+    /// The boxes of the triangles in their order, then those of the edges on the border, whose
+    /// neighbour is at least as wide: for `AllOverlaps`.
+    boxes: Vec<Box4>,
 }
 
 fn corners_of(points: &[Point], corners: [u32; 3]) -> Option<(Point, Point, Point)> {
@@ -99,43 +76,6 @@ fn quad_at(mesh: &Mesh, side: Side) -> Option<Quad> {
         c: mesh.corner(side_after(side_after(side)))?,
         d: mesh.corner(side_after(side_after(other)))?,
     })
-}
-
-/// Whether the other diagonal is better.
-fn is_better(points: &[Point], mesh: &Mesh, quad: &Quad, goal: Goal) -> Option<bool> {
-    let a = *points.get(quad.a as usize)?;
-    let b = *points.get(quad.b as usize)?;
-    let c = *points.get(quad.c as usize)?;
-    let d = *points.get(quad.d as usize)?;
-    if orient(a, d, c) <= 0 || orient(d, b, c) <= 0 {
-        return Some(false);
-    }
-    let old = [box_round(a, b, c), box_round(b, a, d)];
-    let new = [box_round(a, d, c), box_round(d, b, c)];
-    match goal {
-        Goal::Size(scale) => {
-            let less = size_of(&old, scale).wrapping_sub(size_of(&new, scale));
-            Some(less > 0 || less == 0 && length2(c, d) < length2(a, b))
-        }
-        Goal::Overlaps => {
-            let around = [
-                box_across(points, mesh, side_after(quad.other), a, d),
-                box_across(points, mesh, side_after(side_after(quad.other)), d, b),
-                box_across(points, mesh, side_after(quad.side), b, c),
-                box_across(points, mesh, side_after(side_after(quad.side)), c, a),
-            ];
-            let was = overlaps(&old, &around);
-            let will = overlaps(&new, &around);
-            Some(will < was || will == was && size_of(&new, 0) < size_of(&old, 0))
-        }
-    }
-}
-
-fn size_of(boxes: &[Box4; 2], scale: i128) -> i128 {
-    let [first, second] = boxes;
-    let areas = area(first).wrapping_add(area(second));
-    let girths = girth(first).wrapping_add(girth(second));
-    areas.wrapping_add(scale.wrapping_mul(girths))
 }
 
 /// The overlaps of two boxes with each other and with four others.
@@ -183,18 +123,27 @@ impl Improver {
         Improver {
             waiting: Vec::new(alloc),
             waits: Vec::new(alloc),
+            boxes: Vec::new(alloc),
         }
     }
 
-    /// Two rounds over the diagonals: the first for size, the second for overlaps.
+    /// Two rounds over the diagonals: of few triangles, for overlaps nearby and then for all
+    /// overlaps; of more, where that would take long, for size and then for overlaps nearby.
     pub(crate) fn improve(&mut self, points: &[Point], mesh: &mut Mesh) -> Result<(), Halt> {
         let count = mesh.triangles.len();
+        let looks = count.saturating_mul(12);
+        self.boxes.clear();
         if count < 2 {
             return Ok(());
         }
+        if count <= FEW {
+            self.round(points, mesh, Goal::Overlaps, looks)?;
+            self.fill_boxes(points, mesh)?;
+            return self.round(points, mesh, Goal::AllOverlaps, looks);
+        }
         let scale = mean_girth(points, mesh);
         self.round(points, mesh, Goal::Size(scale), count.saturating_mul(60))?;
-        self.round(points, mesh, Goal::Overlaps, count.saturating_mul(12))
+        self.round(points, mesh, Goal::Overlaps, looks)
     }
 
     /// Looks at each diagonal, and again where a triangle beside it has changed, up to so many
@@ -213,13 +162,96 @@ impl Improver {
             };
             self.set_waits(side, false);
             if let Some(quad) = quad_at(mesh, side)
-                && is_better(points, mesh, &quad, goal) == Some(true)
+                && self.is_better(points, mesh, &quad, goal) == Some(true)
             {
                 exchange(mesh, &quad);
+                self.set_box(points, mesh, quad.side.triangle);
+                self.set_box(points, mesh, quad.other.triangle);
                 self.wait_around(mesh, &quad)?;
             }
         }
         Ok(())
+    }
+
+    /// Whether the other diagonal is better.
+    fn is_better(&self, points: &[Point], mesh: &Mesh, quad: &Quad, goal: Goal) -> Option<bool> {
+        let a = *points.get(quad.a as usize)?;
+        let b = *points.get(quad.b as usize)?;
+        let c = *points.get(quad.c as usize)?;
+        let d = *points.get(quad.d as usize)?;
+        if orient(a, d, c) <= 0 || orient(d, b, c) <= 0 {
+            return Some(false);
+        }
+        let old = [box_round(a, b, c), box_round(b, a, d)];
+        let new = [box_round(a, d, c), box_round(d, b, c)];
+        match goal {
+            Goal::Size(scale) => {
+                let less = size_of(&old, scale).wrapping_sub(size_of(&new, scale));
+                Some(less > 0 || less == 0 && length2(c, d) < length2(a, b))
+            }
+            Goal::Overlaps => {
+                let around = [
+                    box_across(points, mesh, side_after(quad.other), a, d),
+                    box_across(points, mesh, side_after(side_after(quad.other)), d, b),
+                    box_across(points, mesh, side_after(quad.side), b, c),
+                    box_across(points, mesh, side_after(side_after(quad.side)), c, a),
+                ];
+                let was = overlaps(&old, &around);
+                let will = overlaps(&new, &around);
+                Some(will < was || will == was && size_of(&new, 0) < size_of(&old, 0))
+            }
+            Goal::AllOverlaps => Some(self.has_fewer(quad, &old, &new)),
+        }
+    }
+
+    /// Whether the new boxes of two triangles overlap less among all than the old ones.
+    fn has_fewer(&self, quad: &Quad, old: &[Box4; 2], new: &[Box4; 2]) -> bool {
+        let [old_first, old_second] = old;
+        let [new_first, new_second] = new;
+        let room = box_round_both(old_first, old_second);
+        let mut was = overlap(old_first, old_second);
+        let mut will = overlap(new_first, new_second);
+        for (place, other) in self.boxes.iter().enumerate() {
+            let is_one = place == quad.side.triangle as usize
+                || place == quad.other.triangle as usize;
+            if !is_one && meet(&room, other) {
+                was = was.wrapping_add(overlap(old_first, other));
+                was = was.wrapping_add(overlap(old_second, other));
+                will = will.wrapping_add(overlap(new_first, other));
+                will = will.wrapping_add(overlap(new_second, other));
+            }
+        }
+        will < was
+    }
+
+    /// Makes the list of all boxes.
+    fn fill_boxes(&mut self, points: &[Point], mesh: &Mesh) -> Result<(), Halt> {
+        for triangle in &mesh.triangles {
+            if let Some((a, b, c)) = corners_of(points, triangle.corners) {
+                self.boxes.push(box_round(a, b, c))?;
+            }
+        }
+        for triangle in &mesh.triangles {
+            if let Some((a, b, c)) = corners_of(points, triangle.corners) {
+                let [over_ab, over_bc, over_ca] = triangle.across;
+                for (across, from, to) in [(over_ab, a, b), (over_bc, b, c), (over_ca, c, a)] {
+                    if across.is_none() {
+                        self.boxes.push(box_round(from, to, from))?;
+                    }
+                }
+            }
+        }
+        Ok(())
+    }
+
+    /// Sets a triangle's box to that of its corners, where boxes are listed.
+    fn set_box(&mut self, points: &[Point], mesh: &Mesh, number: u32) {
+        if let Some(sides) = self.boxes.get_mut(number as usize)
+            && let Some(triangle) = mesh.triangles.get(number as usize)
+            && let Some((a, b, c)) = corners_of(points, triangle.corners)
+        {
+            *sides = box_round(a, b, c);
+        }
     }
 
     fn set_waits(&mut self, side: Side, value: bool) {

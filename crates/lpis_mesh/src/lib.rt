@@ -3,6 +3,7 @@
 //! Nothing is promised of a cut: who uses one checks it. Every call returns.
 #![tactic(auto)]
 
+mod boxes;
 mod chains;
 mod halt;
 mod improve;
