@@ -6,11 +6,10 @@ mod created;
 use clap::error::ErrorKind;
 use created::Created;
 use lpis_commands::{
-    Cmd, CommandFiles, Failure, Name, NamedFile, TableFiles, UNREADABLE, command_of, named_files,
-    print_failure, print_publish_fault, run_area, run_check, run_cut, run_publish, run_trace,
-    status_of, usage_ends,
+    Cmd, CommandFiles, Failure, NamedFile, TableFiles, command_of, named_files, print_failure,
+    refuse_register, run_area, run_check, run_cut, run_publish, run_trace, status_of, usage_ends,
 };
-use lpis_register::{PublishFault, Register};
+use lpis_register::Register;
 use sqlite::{FileFrom, FileStore, Unknown};
 use std::fs::File;
 use std::process::ExitCode;
@@ -93,7 +92,7 @@ fn perform(rt: &HostRuntime, command: Cmd<'_>) -> Result<u8, Failure> {
                 close(register);
                 ran
             }
-            Err(fault) => refuse_register(rt, &fault),
+            Err(fault) => refuse_register(&fault, &mut out),
         },
         CommandFiles::Trace { db, id } => match Register::open_file(rt, alloc, db, Unknown) {
             Ok(register) => {
@@ -101,7 +100,7 @@ fn perform(rt: &HostRuntime, command: Cmd<'_>) -> Result<u8, Failure> {
                 close(register);
                 ran
             }
-            Err(fault) => refuse_register(rt, &fault),
+            Err(fault) => refuse_register(&fault, &mut out),
         },
     }
 }
@@ -136,18 +135,6 @@ fn publish(
 fn close(register: FileRegister) {
     // What was published stands in the log, whether or not this succeeds; the next opening finds it there.
     let _ = register.into_connection().close();
-}
-
-/// Prints the line of a register that is refused, and nothing else.
-fn refuse_register(rt: &HostRuntime, fault: &PublishFault) -> Result<u8, Failure> {
-    match fault {
-        PublishFault::Memory => Err(Failure::Memory),
-        PublishFault::Store => Err(Failure::Store),
-        _ => match print_publish_fault(fault, &mut rt.stdout()) {
-            Ok(()) => Ok(UNREADABLE),
-            Err(_) => Err(Failure::Write(Name::Out)),
-        },
-    }
 }
 
 /// Opens an input, or tells that it cannot be read.

@@ -20,6 +20,7 @@ mod report;
 mod running;
 mod status;
 mod tracing;
+mod unopened;
 
 pub use checking::run_check;
 pub use command::{Cmd, command_of};
@@ -37,6 +38,7 @@ pub use report::write_report;
 pub use running::run_area;
 pub use status::{DONE, FAILED, REFUSED, UNREADABLE, status_of, usage_ends};
 pub use tracing::run_trace;
+pub use unopened::refuse_register;
 
 #[cfg(test)]
 mod tests;
