@@ -69,24 +69,15 @@ rows-step {A = A} kind t old new keys rows x h a e =
       values = append_assoc rows (x ∷ []) (map kind.value new.rows) ∙ ap (λ (y : A). rows ++ (y ∷ map kind.value new.rows)) (sym v.1) ∙ (rw a.0 at h.values);
     }
 
--- the row that was read last, whose key and other fields have no fault
-pub rows-push : {A : Type 0} (kind : RowsOf A) (identifier : A → List ℕ) (others : ℕ → Record → List TableFault) (t old new : Reading) (rows after : List A)
-    (keys grown : List (List ℕ)) (key : List ℕ) (x : A)
+-- the row that was read last, without a fault
+pub rows-added : {A : Type 0} (kind : RowsOf A) (identifier : A → List ℕ) (t old new : Reading) (rows after : List A) (keys grown : List (List ℕ))
     → ((row : Record) → identifier (kind.value row) ≡ field_of row 0)
-    → ((keys : List (List ℕ)) (n : ℕ) (row : Record) → kind.faults keys n row ≡ key_faults kind.table n keys (field_of row 0) ++ others n row)
-    → IsRead kind t keys rows old → keys ≡ map identifier rows → Advances old new (Ok true)
-    → told (key_faults new.table new.number keys (field_of new.row 0)) (field_of new.row 0) ≡ Ok key → told (others new.number new.row) (kind.value new.row) ≡ Ok x
-    → grown ≡ keys ++ key ∷ [] → after ≡ rows ++ x ∷ [] → IsRead kind t grown after new × (grown ≡ map identifier after)
-rows-push {A = A} kind identifier others t old new rows after keys grown key x first parts h same a k e more is =
-    let v = told-value (others new.number new.row) (kind.value new.row) x e in
-    let f = told-value (key_faults new.table new.number keys (field_of new.row 0)) (field_of new.row 0) key k in
-    let own : key ≡ identifier x = sym f.1 ∙ sym (first new.row) ∙ ap identifier v.1 in
-    let table : new.table ≡ kind.table = a.3 ∙ h.table in
-    let faults : kind.faults keys new.number new.row ≡ [] =
-    parts keys new.number new.row ∙ (rw (← table, v.0, f.0) refl) in (
-      rw (more, is, ← f.1) (rows-step kind t old new keys rows x h a (rw (faults, v.1) refl)),
-      rw (is, map-append identifier rows (x ∷ []), more, own, same) refl,
-    )
+    → IsRead kind t keys rows old → keys ≡ map identifier rows → Advances old new (Ok true) → kind.faults keys new.number new.row ≡ []
+    → grown ≡ keys ++ field_of new.row 0 ∷ [] → after ≡ rows ++ kind.value new.row ∷ [] → IsRead kind t grown after new × (grown ≡ map identifier after)
+rows-added kind identifier t old new rows after keys grown first h same a good more is = (
+  rw (more, is) (rows-step kind t old new keys rows (kind.value new.row) h a (rw good refl)),
+  rw (is, map-append identifier rows (kind.value new.row ∷ []), more, same, first new.row) refl,
+)
 
 -- the end of the rows
 pub rows-end : {A : Type 0} (kind : RowsOf A) (bytes : List ℕ) (t old new : Reading) (keys : List (List ℕ)) (rows : List A)
@@ -132,23 +123,3 @@ pub fault-retold : {A B : Type 0} (fs : List TableFault) (v : A) (w : B) (f : Ta
 fault-retold fs v w Memory h = tt
 fault-retold [] v w (At code table row wkt) h = cc h
 fault-retold (g ∷ fs) v w (At code table row wkt) h = ap Err (cc h)
-
--- the fault of a row's key, and of its other fields
-pub rows-key-fault : {A : Type 0} (kind : RowsOf A) (others : ℕ → Record → List TableFault) (bytes : List ℕ) (t old new : Reading) (keys : List (List ℕ)) (rows : List A) (f : TableFault)
-    → ((keys : List (List ℕ)) (n : ℕ) (row : Record) → kind.faults keys n row ≡ key_faults kind.table n keys (field_of row 0) ++ others n row)
-    → table_of kind.table kind.columns bytes ≡ Ok t → IsRead kind t keys rows old → Advances old new (Ok true)
-    → Answers {A = List ℕ} (Err f) (told (key_faults new.table new.number keys (field_of new.row 0)) (field_of new.row 0)) → Answers (Err f) (rows_of kind bytes)
-rows-key-fault kind others bytes t old new keys rows f parts opened h a k =
-    let table : new.table ≡ kind.table = a.3 ∙ h.table in
-    let own = column-fault (key_faults kind.table new.number keys (field_of new.row 0)) (others new.number new.row) (field_of new.row 0) (kind.value new.row) f (rw table at k) in
-    rows-fault kind bytes t old new keys rows f opened h a (rw (parts keys new.number new.row) own)
-
-pub rows-other-fault : {A : Type 0} (kind : RowsOf A) (others : ℕ → Record → List TableFault) (bytes : List ℕ) (t old new : Reading) (keys : List (List ℕ)) (rows : List A) (key : List ℕ) (f : TableFault)
-    → ((keys : List (List ℕ)) (n : ℕ) (row : Record) → kind.faults keys n row ≡ key_faults kind.table n keys (field_of row 0) ++ others n row)
-    → table_of kind.table kind.columns bytes ≡ Ok t → IsRead kind t keys rows old → Advances old new (Ok true)
-    → told (key_faults new.table new.number keys (field_of new.row 0)) (field_of new.row 0) ≡ Ok key
-    → Answers {A = A} (Err f) (told (others new.number new.row) (kind.value new.row)) → Answers (Err f) (rows_of kind bytes)
-rows-other-fault kind others bytes t old new keys rows key f parts opened h a k e =
-    let table : new.table ≡ kind.table = a.3 ∙ h.table in
-    let own = column-passed (key_faults kind.table new.number keys (field_of new.row 0)) (others new.number new.row) (field_of new.row 0) key (Err f) (kind.value new.row) (rw table at k) e in
-    rows-fault kind bytes t old new keys rows f opened h a (rw (parts keys new.number new.row) own)

@@ -1,7 +1,8 @@
 //! The rows of a table as values of a type.
 
-ghost use Rattle.lpis_covers.specs.Faults.{rows_of};
-ghost use Rattle.lpis_covers.specs.Table.{Answers};
+ghost use Rattle.std.specs.Prelude.{◌≡◌, ◌++◌, ◌∷◌, [], Err, IfErr, OnOk};
+ghost use Rattle.lpis_covers.specs.Faults.{rows_of, told};
+ghost use Rattle.lpis_covers.specs.Table.{Answers, field_of};
 
 use crate::fault::{Table, TableFault};
 use crate::id::Id;
@@ -40,6 +41,27 @@ pub trait TableRow: Identified + Drop {
     ghost key_is_tested_first: { (keys : List (List ℕ)) (n : ℕ) (row : Record) → kind.faults keys n row ≡ key_faults kind.table n keys (field_of row 0) ++ others n row };
 }
 
+/// Adds the row that was read last, and its identifier. A refusal is the row's first fault.
+fn add_row<T: TableRow>(
+    alloc: Global,
+    reader: &TableReader<'_>,
+    keys: &mut Keys,
+    rows: &mut Vec<T>,
+) -> Result<(), TableFault>
+    requires table { reader.now.table ≡ T.kind.table }
+    ensures fault { IfErr result (λ fault. Answers (Err fault) (told (T.kind.faults keys.old
+        reader.now.number reader.now.row) (T.kind.value reader.now.row))) }
+    ensures good { OnOk result (T.kind.faults keys.old reader.now.number reader.now.row ≡ []) }
+    ensures keys { OnOk result (keys.new ≡ keys.old ++ field_of reader.now.row 0 ∷ []) }
+    ensures rows { OnOk result (rows.new.items ≡ rows.old.items ++
+        T.kind.value reader.now.row ∷ []) }
+{
+    let id = reader.key(alloc, 0, keys)?;
+    let row = T::read(alloc, reader, id)?;
+    rows.push(row)?;
+    Ok(())
+}
+
 /// The rows of a table, by their identifiers in its order. A refusal is the first fault: of row 0; else of a row, in the order
 /// of the rows and in it of the columns; else that which stops the rows.
 pub fn read_rows<T: TableRow>(alloc: Global, bytes: &[u8]) -> Result<Keyed<T>, TableFault>
@@ -49,9 +71,7 @@ pub fn read_rows<T: TableRow>(alloc: Global, bytes: &[u8]) -> Result<Keyed<T>, T
     let mut keys = Keys::new(alloc);
     let mut rows = Vec::new(alloc);
     'rows: while reader.next_row()? {
-        let id = reader.key(alloc, 0, &mut keys)?;
-        let row = T::read(alloc, &reader, id)?;
-        rows.push(row)?;
+        add_row(alloc, &reader, &mut keys, &mut rows)?;
     }
     Ok(Keyed::of(rows, keys))
 }
