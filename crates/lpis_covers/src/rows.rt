@@ -1,5 +1,7 @@
 //! The rows of a table, as a list.
 
+ghost use Rattle.std.specs.Prelude.{◌≡◌, ◌++◌, ◌∷◌, [], map, OnOk};
+ghost use Rattle.csv.specs.Records.{fields_of};
 ghost use Rattle.lpis_covers.specs.Table.{table_of, texts};
 ghost use Rattle.lpis_covers.specs.Rows.{RowsAnswer};
 
@@ -7,13 +9,27 @@ use crate::fault::{Table, TableFault};
 use crate::reader::TableReader;
 use csv::ByteRecord;
 use lpis_rings::{Sequence, without_spare};
-use std::alloc::Global;
+use std::alloc::{AllocError, Global};
 
 /// The wanted columns of the rows before the first fault of length or number, as bytes, and that fault.
 #[derive(Drop)]
 pub struct Rows {
     pub rows: Sequence<ByteRecord>,
     pub stop: Option<TableFault>,
+}
+
+/// Adds a copy of the row that was read last.
+fn add_copy(
+    alloc: Global,
+    reader: &TableReader<'_>,
+    rows: &mut Vec<ByteRecord>,
+) -> Result<(), AllocError>
+    ensures { OnOk result (map fields_of rows.new.items ≡
+        map fields_of rows.old.items ++ reader.now.row ∷ []) }
+{
+    let row = reader.copy_row(alloc)?;
+    rows.push(row)?;
+    Ok(())
 }
 
 /// The wanted columns of a table, by their names in the order given. A refusal is a fault of row 0, or want of memory.
@@ -29,7 +45,7 @@ pub fn read_table(
     let mut rows = Vec::new(alloc);
     let stop = 'rows: loop {
         match reader.next_row() {
-            Ok(true) => rows.push(reader.copy_row(alloc)?)?,
+            Ok(true) => add_copy(alloc, &reader, &mut rows)?,
             Ok(false) => break 'rows None,
             Err(TableFault::Memory) => return Err(TableFault::Memory),
             Err(fault) => break 'rows Some(fault),
