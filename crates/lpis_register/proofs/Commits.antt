@@ -1,22 +1,30 @@
 -- What the steps of an opening commit, joined.
 use Rattle.std.specs.Prelude.{List, IsTrue}
-use Rattle.std.proofs.Common.{◌≡◌, ◌∙◌, Bool, true, false, [], refl, sym, subst, arith}
+use Rattle.std.proofs.Common.{◌≡◌, ◌∙◌, Bool, true, false, [], inl, refl, sym, subst, arith, true≢false}
 use Rattle.sqlite.specs.Tree.{Trees}
 use Rattle.sqlite.specs.State.{HasCleanDisk, State, Survives}
 use Rattle.sqlite.proofs.StateLemmas.{survives_then, survives_weaker}
 use Rattle.lpis_lineage.specs.declared.row.Entry.{Entry}
 use Rattle.lpis_records.specs.Content.{Content, Span, moved, no_content}
 use Rattle.lpis_records.specs.Tells.{Tells, TellsLive}
-use Rattle.lpis_register.specs.Bare.{IsBare}
-use Rattle.lpis_register.specs.Shapes.{Shape, Moved, New}
-use Rattle.lpis_register.specs.private.Places.{with_span_table}
-use Rattle.lpis_register.specs.Holding.{IsStored, Leaves}
+use Rattle.lpis_tables.specs.Bare.{IsBare}
+use Rattle.lpis_tables.specs.Shapes.{Shape, First, Moved, New, has_spans, with_span_table}
+use Rattle.lpis_tables.specs.Holding.{IsStored, Leaves}
 use Rattle.lpis_register.specs.Histories.{LeavesHistory}
 use Rattle.lpis_register.specs.Opening.{LeavesOpened, SaysAt}
-use Rattle.lpis_register.specs.private.Quiet.{IsWith, LeavesNone}
-use Rattle.lpis_register.specs.private.Commits.{LeavesBeside, LeavesFound, LeavesMade, LeavesMoved, LeavesSettled}
-use Rattle.lpis_register.proofs.Moves.{must_be_first, spans_stand}
+use Rattle.lpis_tables.specs.Quiet.{IsWith, LeavesNone}
+use Rattle.lpis_tables.specs.Commits.{LeavesBeside, LeavesMade, LeavesMoved}
+use Rattle.lpis_register.specs.private.Commits.{LeavesFound, LeavesSettled}
+use Rattle.lpis_tables.proofs.Moves.{spans_stand}
 use Rattle.lpis_register.proofs.Openings.{none_said}
+
+pub must_be_first : (s : Shape) → has_spans s ≡ false → s ≡ First
+must_be_first New is = absurd (true≢false is)
+must_be_first First is = refl
+must_be_first Moved is = absurd (true≢false is)
+
+pub nothing_done : (P : Trees → Type 0) (a : State) → Survives a a P
+nothing_done P a = record { clean = omega arith; shield = λ s. s; counts = omega arith; limit = refl; closes = λ _ up. inl up; crash = λ _ db may. inl may }
 
 module _ (spans lives : Bool) (old new : State) where
   pub moved_settled : (rows : List Span) (h : List Entry) → ((c : Content) → TellsLive c h → Tells (moved rows c) h) → Survives old new (LeavesMoved spans lives rows old)

@@ -1,19 +1,19 @@
 -- From rows of either version to the history that they say.
 use Rattle.std.specs.Prelude.{IfErr, OnErr}
-use Rattle.std.specs.List.{list_any}
-use Rattle.std.proofs.Common.{◌≡◌, inr, ℕ, codes, Result, Ok, Err, Bool, true, false, List, [], ◌∷◌, refl, IsPermutation, true≢false}
+use Rattle.std.proofs.Common.{◌≡◌, ◌<◌, inl, inr, Result, Ok, Err, Bool, true, false, List, [], ◌∷◌, refl, ap, length, arith, IsPermutation}
 use Rattle.std.proofs.lemmas.List.Sorted.{length_permutation}
-use Rattle.sqlite.specs.Order.{Row}
+use Rattle.sqlite.specs.Tree.{Trees}
 use Rattle.sqlite.specs.State.{State}
-use Rattle.sqlite.specs.Schema.{Schema}
-use Rattle.sqlite_schema.specs.Names.{same_name}
+use Rattle.sqlite.specs.Files.{AreFoundIn}
+use Rattle.sqlite_trees.specs.Objects.{catalog_tree}
+use Rattle.sqlite_wal.specs.Recovery.{Image}
 use Rattle.lpis_lineage.specs.declared.row.Entry.{Entry}
 use Rattle.lpis_records.specs.Content.{Content, no_content}
 use Rattle.lpis_records.specs.Tells.{IsSameContent, Tells, TellsLive, years_of}
 use Rattle.lpis_register.specs.declared.fault.PublishFault.{PublishFault}
 use Rattle.lpis_register.specs.declared.fault.PublishFault.TheVariants.{Unlawful}
-use Rattle.lpis_register.specs.Shapes.{Shape, New, First, Moved, has_live, has_spans, schema_of}
-use Rattle.lpis_register.specs.Holding.{IsStored, Keeps}
+use Rattle.lpis_tables.specs.Shapes.{New}
+use Rattle.lpis_tables.specs.Holding.{IsStored}
 use Rattle.lpis_register.specs.Opening.{FindsHistory, SaysAt}
 use Rattle.lpis_register.proofs.Readings.{same_back}
 
@@ -32,10 +32,6 @@ no_years (e ∷ h) same = absurd (let l = length_permutation _ _ same in cc)
 pub none_said : (first : Bool) (h : List Entry) → SaysAt first no_content h → h ≡ []
 none_said true h told = no_years h told.years_are
 none_said false h told = no_years h told.years_are
-
-pub none_there : {X : Type 0} (b : Bool) (row : X → Row) (xs : List X) (rows : List Row) → b ≡ false → Keeps b row xs rows → xs ≡ []
-none_there true row xs rows is k = absurd (true≢false is)
-none_there false row xs rows is k = k
 
 -- no table is there yet, or they are there and empty
 pub none_found : {X E : Type 0} (st : State) (r : Result X E) → Tells no_content [] → OnErr r (IsStored New st no_content) → OnErr r (FindsHistory st [])
@@ -62,20 +58,7 @@ refused_whole c rows (Err e) reordered reordered_live same none = λ is first h 
     moved_to true h told = reordered_live c rows h same told
     moved_to false h told = reordered c rows h same told
 
--- ---- the names of the tables
-
-abbrev pub has_named : List ℕ → Schema → Bool
-has_named name schema = list_any (λ t. same_name t.name name) schema.tables
-
-pub record AreThere (s : Shape) : Type 0 where
-  pub format : has_named (codes "lpis_format") (schema_of s) ≡ true
-  pub release : has_named (codes "lpis_release") (schema_of s) ≡ true
-  pub row : has_named (codes "lpis_row") (schema_of s) ≡ true
-  pub spans : has_named (codes "lpis_span") (schema_of s) ≡ has_spans s
-  pub lives : has_named (codes "lpis_live") (schema_of s) ≡ has_live s
-
-pub tables_there : (s : Shape) → AreThere s
-unfolding same_name
-tables_there New = record { format = refl; release = refl; row = refl; spans = refl; lives = refl }
-tables_there First = record { format = refl; release = refl; row = refl; spans = refl; lives = refl }
-tables_there Moved = record { format = refl; release = refl; row = refl; spans = refl; lives = refl }
+-- a file with no byte holds no page
+pub none_in_nothing : (image : Image) (db : Trees) → image.db ≡ [] → AreFoundIn image db → db catalog_tree ≡ []
+none_in_nothing image db none (inl got) = absurd (let some : 0 < length image.db = got.3.found.present in let len : length image.db ≡ 0 = ap length none in omega (arith, some, len))
+none_in_nothing image db none (inr empty) = empty.1.1

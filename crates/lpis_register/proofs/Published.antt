@@ -8,8 +8,8 @@ use Rattle.sqlite.proofs.StateLemmas.{survives_weaker}
 use Rattle.lpis_lineage.specs.declared.row.Entry.{Entry}
 use Rattle.lpis_records.specs.Content.{Content}
 use Rattle.lpis_records.specs.Tells.{Tells}
-use Rattle.lpis_register.specs.Shapes.{Shape, has_spans}
-use Rattle.lpis_register.specs.Holding.{IsStored, Leaves}
+use Rattle.lpis_tables.specs.Shapes.{Shape, has_spans}
+use Rattle.lpis_tables.specs.Holding.{IsStored, Leaves}
 use Rattle.lpis_register.specs.Histories.{HoldsHistory, LeavesHistory}
 
 module _ (shape : Shape) (spans : has_spans shape ≡ true) (c : Content) (h : List Entry) (tells : Tells c h) where

@@ -5,8 +5,8 @@ use Rattle.sqlite.specs.State.{State}
 use Rattle.lpis_lineage.specs.declared.row.Entry.{Entry}
 use Rattle.lpis_records.specs.Content.{Content, without_live}
 use Rattle.lpis_records.specs.Tells.{IsSameContent, Tells}
-use Rattle.lpis_register.specs.Shapes.{Shape, has_spans}
-use Rattle.lpis_register.specs.Holding.{IsStored}
+use Rattle.lpis_tables.specs.Shapes.{Shape, has_spans}
+use Rattle.lpis_tables.specs.Holding.{IsStored}
 use Rattle.lpis_register.specs.Histories.{HoldsHistory}
 
 pub same_back : (c d : Content) → IsSameContent c d → IsSameContent d c

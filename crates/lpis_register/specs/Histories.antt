@@ -15,8 +15,8 @@ use Rattle.lpis_records.specs.Tells.{Tells}
 use Rattle.lpis_register.specs.declared.fault.PublishFault.{PublishFault}
 use Rattle.lpis_register.specs.declared.fault.PublishFault.TheVariants.{Memory, Year, Lineage}
 use Rattle.lpis_register.specs.declared.fault.PublishFault.TheVariants.{Store, Unknown, Unlawful}
-use Rattle.lpis_register.specs.Shapes.{Shape, has_spans}
-use Rattle.lpis_register.specs.Holding.{IsStored, Leaves}
+use Rattle.lpis_tables.specs.Shapes.{Shape, has_spans}
+use Rattle.lpis_tables.specs.Holding.{IsStored, Leaves}
 
 -- no transaction is open, and the tables of version 2, in one of the orders that this program
 -- makes, say this history

@@ -8,9 +8,9 @@ use Rattle.lpis_records.specs.Tells.{Tells, TellsLive}
 use Rattle.lpis_register.specs.declared.fault.PublishFault.{PublishFault}
 use Rattle.lpis_register.specs.declared.fault.PublishFault.TheVariants.{Memory, Year, Lineage}
 use Rattle.lpis_register.specs.declared.fault.PublishFault.TheVariants.{Store, Unknown, Unlawful}
-use Rattle.lpis_register.specs.Bare.{IsBare}
-use Rattle.lpis_register.specs.Shapes.{Shape}
-use Rattle.lpis_register.specs.Holding.{IsStored}
+use Rattle.lpis_tables.specs.Bare.{IsBare}
+use Rattle.lpis_tables.specs.Shapes.{Shape}
+use Rattle.lpis_tables.specs.Holding.{IsStored}
 use Rattle.lpis_register.specs.Histories.{LeavesHistory}
 
 -- the rows say this history, as version 1 has it or as version 2 has it

@@ -1,9 +1,2 @@
 -- Machinery, cited by private contracts alone: no promise rests on it.
-pub mod Quiet
 pub mod Commits
-pub mod Lines
-pub mod Shown
-pub mod Texts
-pub mod Stages
-pub mod Places
-pub mod Inside

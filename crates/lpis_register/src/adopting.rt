@@ -3,9 +3,9 @@
 ghost use Rattle.std.specs.Prelude.{◌≡◌, true, false, [], IsTrue, IfOk, IfErr, OnErr};
 ghost use Rattle.sqlite.specs.Held.{state};
 ghost use Rattle.sqlite.specs.State.{HasCleanDisk, Survives};
-ghost use Rattle.lpis_register.specs.Bare.{IsBare};
-ghost use Rattle.lpis_register.specs.Shapes.{has_live, has_spans};
-ghost use Rattle.lpis_register.specs.Holding.{IsStored};
+ghost use Rattle.lpis_tables.specs.Bare.{IsBare};
+ghost use Rattle.lpis_tables.specs.Shapes.{has_live, has_spans};
+ghost use Rattle.lpis_tables.specs.Holding.{IsStored};
 ghost use Rattle.lpis_register.specs.Histories.{HoldsHistory};
 ghost use Rattle.lpis_register.specs.Opening.{SaysAt, FindsHistory, IsOpeningFault, LeavesOpened};
 ghost use Rattle.lpis_register.specs.private.Commits.{LeavesFound};
@@ -13,13 +13,12 @@ ghost use Rattle.lpis_register.specs.declared.fault.PublishFault.TheVariants.{Un
 
 use crate::fault::PublishFault;
 use crate::finding::find_history;
-use crate::found::tables_in;
 use crate::opening::fault_of;
 use crate::register::Register;
 use crate::settling::settle;
-use crate::tables::create;
 use lpis_lineage::History;
 use lpis_records::order_of_rows_is_free;
+use lpis_tables::{create, tables_in};
 use sqlite::{Alter, Connection};
 use std::alloc::Global;
 

@@ -8,12 +8,13 @@ ghost use Rattle.sqlite.specs.State.{HasCleanDisk};
 ghost use Rattle.sqlite.specs.Held.{state};
 ghost use Rattle.sqlite.specs.Steps.{over_memory};
 ghost use Rattle.lpis_register.specs.Histories.{HoldsHistory};
-ghost use Rattle.lpis_register.specs.Holding.{Leaves};
+ghost use Rattle.lpis_tables.specs.Holding.{Leaves};
 ghost use Rattle.lpis_register.specs.Opening.{IsOpeningFault, SaysAt};
 
 use crate::fault::PublishFault;
 use crate::opening::fault_of;
 use crate::register::Register;
+use lpis_tables::what_is_left_is_found;
 use sqlite::{Connection, FileFrom, FileStore, MemStore, Start};
 use std::alloc::Global;
 use std::rt::HostRuntime;
@@ -40,10 +41,13 @@ impl<S: Start> Register<FileStore<FileFrom<S>>> {
         ensures kinds { IfErr result IsOpeningFault }
     {
         match Connection::open_from(rt, path, false, start) {
-            Ok(conn) => match Register::adopt(alloc, conn) {
-                Ok(register) => Ok(register),
-                Err((_, fault)) => Err(fault),
-            },
+            Ok(conn) => {
+                what_is_left_is_found(&conn);
+                match Register::adopt(alloc, conn) {
+                    Ok(register) => Ok(register),
+                    Err((_, fault)) => Err(fault),
+                }
+            }
             Err((error, _)) => Err(fault_of(error)),
         }
     }

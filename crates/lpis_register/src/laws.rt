@@ -12,6 +12,7 @@ ghost use Rattle.lpis_register.specs.Opening.{SaysAt};
 use lpis_records::{
     order_of_rows_is_free, tables_of_version_1_say_one_history, tables_say_one_history,
 };
+use lpis_tables::a_database_holds_one_content;
 use sqlite::{Alter, Connection};
 
 /// After any list of calls of `publish` the history is the one before them with the accepted releases at its end, in their order. It is
@@ -32,6 +33,7 @@ pub fn rows_say_one_history()
 pub fn a_database_says_one_history<S: Alter>(conn: &Connection<S>)
     ensures { (h k : List Entry) → HoldsHistory (state S.Store conn.now) h → HoldsHistory (state S.Store conn.now) k → IsSameHistory h k }
 {
+    a_database_holds_one_content(conn);
     order_of_rows_is_free();
     tables_say_one_history();
 }

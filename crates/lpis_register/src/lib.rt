@@ -5,23 +5,14 @@ mod adopting;
 mod fault;
 mod files;
 mod finding;
-mod found;
 mod laws;
-mod loading;
-mod moving;
 mod opening;
 mod preparing;
-mod publishing;
-mod queries;
-mod reading;
 mod register;
 mod releasing;
 mod settling;
-mod statements;
 mod storing;
-mod tables;
 mod tracing;
-mod writing;
 
 pub use fault::{PublishCode, PublishFault};
 pub use laws::{

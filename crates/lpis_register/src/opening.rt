@@ -10,9 +10,9 @@ ghost use Rattle.lpis_register.specs.Opening.{IsOpeningFault};
 ghost use Rattle.lpis_register.specs.declared.fault.PublishFault.TheVariants.{Memory, Store, Unlawful};
 
 use crate::fault::PublishFault;
-use crate::loading::load;
 use lpis_lineage::History;
 use lpis_records::{RecordsFault, Rows, history_of, order_of_rows_is_free, tables_say_one_history};
+use lpis_tables::load;
 use sqlite::{Alter, Connection, Error, ErrorCode};
 use std::alloc::Global;
 

@@ -4,18 +4,18 @@ ghost use Rattle.std.specs.Prelude.{◌≡◌, true, false, IsTrue, IfErr, OnOk,
 ghost use Rattle.sqlite.specs.Held.{state};
 ghost use Rattle.sqlite.specs.State.{HasCleanDisk, Survives};
 ghost use Rattle.lpis_records.specs.Tells.{TellsLive};
-ghost use Rattle.lpis_register.specs.Shapes.{has_live, has_spans};
-ghost use Rattle.lpis_register.specs.Holding.{IsStored};
+ghost use Rattle.lpis_tables.specs.Shapes.{has_live, has_spans};
+ghost use Rattle.lpis_tables.specs.Holding.{IsStored};
 ghost use Rattle.lpis_register.specs.Histories.{HoldsHistory};
 ghost use Rattle.lpis_register.specs.Opening.{IsOpeningFault, SaysAt};
 ghost use Rattle.lpis_register.specs.private.Commits.{LeavesSettled};
 ghost use Rattle.lpis_register.specs.declared.fault.PublishFault.TheVariants.{Unlawful};
 
 use crate::fault::PublishFault;
-use crate::moving::{add_spans, write_moved};
 use crate::opening::fault_of;
 use lpis_lineage::History;
 use lpis_records::{moving_keeps_the_history, spans_of};
+use lpis_tables::{add_spans, write_moved};
 use sqlite::{Alter, Connection};
 use std::alloc::Global;
 

@@ -8,10 +8,10 @@ ghost use Rattle.lpis_lineage.specs.Lineage.{last_year};
 ghost use Rattle.lpis_records.specs.Tells.{IsWriting};
 ghost use Rattle.lpis_register.specs.Histories.{HoldsHistory, LeavesHistory};
 
-use crate::publishing::write_release;
 use lpis_covers::Id;
 use lpis_lineage::{History, Row};
 use lpis_records::publishing_adds_the_release;
+use lpis_tables::write_release;
 use sqlite::{Alter, Connection, Error};
 
 /// Writes the release that stands at a history's end, in one transaction: tables that say the history before it say the whole one

@@ -2,10 +2,9 @@ use Rattle.std.proofs.Common.{List, subst, sym}
 use Rattle.sqlite.specs.Held.{state}
 use Rattle.lpis_records.specs.Content.{Span}
 use Rattle.lpis_records.specs.Tells.{SpansTell}
-use Rattle.lpis_register.proofs.Moves.{spans_stand}
-use Rattle.lpis_register.proofs.Quiet.{nothing_done}
-use Rattle.lpis_register.proofs.Commits.{moved_settled}
-use Rattle.lpis_register.specs.private.Places.{with_span_table}
+use Rattle.lpis_tables.proofs.Moves.{spans_stand}
+use Rattle.lpis_register.proofs.Commits.{moved_settled, nothing_done}
+use Rattle.lpis_tables.specs.Shapes.{with_span_table}
 use Rattle.lpis_register.proofs.settling.move_first.Goals as goal
 
 pub returns-in-Ok-clause-ok : goal.returns-in-Ok-clause-ok

@@ -1,12 +1,11 @@
 use Rattle.std.proofs.Common.{◌≡◌, false, refl, rules, subst, sym, ◌∙◌}
 use Rattle.sqlite.specs.Held.{state}
 use Rattle.sqlite.specs.State.{Survives}
-use Rattle.lpis_register.specs.Shapes.{Moved}
-use Rattle.lpis_register.specs.Holding.{IsStored}
+use Rattle.lpis_tables.specs.Shapes.{Moved}
+use Rattle.lpis_tables.specs.Holding.{IsStored}
 use Rattle.lpis_register.specs.Opening.{SaysAt}
 use Rattle.lpis_register.specs.private.Commits.{LeavesSettled}
-use Rattle.lpis_register.proofs.Moves.{must_be_first}
-use Rattle.lpis_register.proofs.Commits.{beside_settled}
+use Rattle.lpis_register.proofs.Commits.{beside_settled, must_be_first}
 use Rattle.lpis_register.proofs.settling.settle.Goals as goal
 
 pub returns-in-Ok-clause-ok : goal.returns-in-Ok-clause-ok

@@ -1,7 +1,7 @@
 use Rattle.sqlite.specs.Held.{state}
 use Rattle.sqlite.specs.Steps.{over_memory}
 use Rattle.sqlite.proofs.Callers.{memory_is_clean}
-use Rattle.lpis_register.specs.Bare.{IsBare}
+use Rattle.lpis_tables.specs.Bare.{IsBare}
 use Rattle.lpis_register.proofs.files.Register+MemStore.open_in_memory.Goals as goal
 
 pub returns-in-Ok : goal.returns-in-Ok

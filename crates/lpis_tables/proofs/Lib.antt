@@ -1,0 +1,17 @@
+pub mod Meanings
+pub mod Puts
+pub mod Update
+pub mod Writes
+pub mod Parts
+pub mod Inserts
+pub mod Ends
+pub mod Clears
+pub mod Stages
+pub mod Steps
+pub mod Showing
+pub mod Loops
+pub mod Moves
+pub mod Named
+pub mod OneContent
+pub mod Schemas
+pub mod Quiet

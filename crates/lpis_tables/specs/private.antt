@@ -1,0 +1,7 @@
+-- Machinery, cited by private contracts alone: no promise rests on it.
+pub mod Lines
+pub mod Shown
+pub mod Texts
+pub mod Stages
+pub mod Places
+pub mod Inside

@@ -1,0 +1,112 @@
+//! The statements that write, one a function.
+
+ghost use Rattle.std.specs.Prelude.{◌≡◌, ◌<◌, ◌^◌, pos, true, OnOk};
+ghost use Rattle.sqlite.specs.Held.{state};
+ghost use Rattle.sqlite.specs.State.{HasCleanDisk, KeepsCommit, Survives};
+ghost use Rattle.lpis_records.specs.Content.{with_year, with_span, with_line, ended, text_of};
+ghost use Rattle.lpis_tables.specs.Shapes.{has_spans};
+ghost use Rattle.lpis_tables.specs.private.Inside.{Inside};
+ghost use Rattle.lpis_tables.specs.private.Lines.{line_at, line_of};
+
+use lpis_covers::Id;
+use lpis_lineage::Row;
+use sqlite::{Alter, Error, Transaction, params};
+
+/// One more release, inside a transaction.
+pub(crate) fn insert_release<S: Alter>(tx: &mut Transaction<'_, S>, year: u32) -> Result<(), Error>
+    ensures same_reference { tx.new.conn.ghost_name ≡ tx.old.conn.ghost_name }
+    ensures adds { HasCleanDisk (state S.Store tx.new.conn.now) → (shape : _) → (base : _) (c : _) → Inside shape base (state S.Store tx.old.conn.now) c → OnOk result (Inside shape base (state S.Store tx.new.conn.now) (with_year (pos year) c)) }
+    ensures kept { HasCleanDisk (state S.Store tx.new.conn.now) → KeepsCommit (state S.Store tx.old.conn.now) (state S.Store tx.new.conn.now) }
+    ensures survives { Survives (state S.Store tx.old.conn.now) (state S.Store tx.new.conn.now) (λ _. ⊥) }
+{
+    tx.execute("INSERT INTO lpis_release (year) VALUES (?1)", params![year])?;
+    Ok(())
+}
+
+/// One more span, which has not ended.
+pub(crate) fn insert_span<S: Alter>(
+    tx: &mut Transaction<'_, S>,
+    year: u32,
+    id: &Id,
+) -> Result<(), Error>
+    ensures same_reference { tx.new.conn.ghost_name ≡ tx.old.conn.ghost_name }
+    ensures adds { HasCleanDisk (state S.Store tx.new.conn.now) → (shape : _) → has_spans shape ≡ true → (base : _) (c : _) → Inside shape base (state S.Store tx.old.conn.now) c → OnOk result (Inside shape base (state S.Store tx.new.conn.now) (with_span (pos year) c id.now)) }
+    ensures kept { HasCleanDisk (state S.Store tx.new.conn.now) → KeepsCommit (state S.Store tx.old.conn.now) (state S.Store tx.new.conn.now) }
+    ensures survives { Survives (state S.Store tx.old.conn.now) (state S.Store tx.new.conn.now) (λ _. ⊥) }
+{
+    let id = id.as_str();
+    tx.execute(
+        "INSERT INTO lpis_span (id, since, until) VALUES (?1, ?2, 0)",
+        params![id, year],
+    )?;
+    Ok(())
+}
+
+/// Ends the span of an identifier with a year.
+pub(crate) fn end_span<S: Alter>(
+    tx: &mut Transaction<'_, S>,
+    year: u32,
+    id: &Id,
+) -> Result<(), Error>
+    ensures same_reference { tx.new.conn.ghost_name ≡ tx.old.conn.ghost_name }
+    ensures adds { HasCleanDisk (state S.Store tx.new.conn.now) → (shape : _) → has_spans shape ≡ true → (base : _) (c : _) → Inside shape base (state S.Store tx.old.conn.now) c → OnOk result (Inside shape base (state S.Store tx.new.conn.now) (ended (pos year) c id.now)) }
+    ensures kept { HasCleanDisk (state S.Store tx.new.conn.now) → KeepsCommit (state S.Store tx.old.conn.now) (state S.Store tx.new.conn.now) }
+    ensures survives { Survives (state S.Store tx.old.conn.now) (state S.Store tx.new.conn.now) (λ _. ⊥) }
+{
+    let id = id.as_str();
+    tx.execute(
+        "UPDATE lpis_span SET until = ?1 WHERE id = ?2",
+        params![year, id],
+    )?;
+    Ok(())
+}
+
+/// The text of a successor, empty for an ending.
+fn heir_text(heir: &Option<Id>) -> &str
+    ensures { result.now ≡ text_of heir.now }
+{
+    match heir {
+        Some(id) => id.as_str(),
+        None => "",
+    }
+}
+
+/// One more line of the table of rows.
+fn insert_line<S: Alter>(
+    tx: &mut Transaction<'_, S>,
+    year: u32,
+    place: usize,
+    old: &str,
+    new: &str,
+) -> Result<(), Error>
+    requires small { place < 2 ^ 63 }
+    ensures same_reference { tx.new.conn.ghost_name ≡ tx.old.conn.ghost_name }
+    ensures adds { HasCleanDisk (state S.Store tx.new.conn.now) → (shape : _) → (base : _) (c : _) → Inside shape base (state S.Store tx.old.conn.now) c → OnOk result (Inside shape base (state S.Store tx.new.conn.now) (with_line c (line_at (pos year) (pos place) old.now new.now))) }
+    ensures kept { HasCleanDisk (state S.Store tx.new.conn.now) → KeepsCommit (state S.Store tx.old.conn.now) (state S.Store tx.new.conn.now) }
+    ensures survives { Survives (state S.Store tx.old.conn.now) (state S.Store tx.new.conn.now) (λ _. ⊥) }
+{
+    let place = place as i64;
+    tx.execute(
+        "INSERT INTO lpis_row (year, pos, old, new) VALUES (?1, ?2, ?3, ?4)",
+        params![year, place, old, new],
+    )?;
+    Ok(())
+}
+
+/// One more row of lineage, at its place in the release.
+pub(crate) fn insert_row<S: Alter>(
+    tx: &mut Transaction<'_, S>,
+    year: u32,
+    place: usize,
+    row: &Row,
+) -> Result<(), Error>
+    requires small { place < 2 ^ 63 }
+    ensures same_reference { tx.new.conn.ghost_name ≡ tx.old.conn.ghost_name }
+    ensures adds { HasCleanDisk (state S.Store tx.new.conn.now) → (shape : _) → (base : _) (c : _) → Inside shape base (state S.Store tx.old.conn.now) c → OnOk result (Inside shape base (state S.Store tx.new.conn.now) (with_line c (line_of (pos year) (pos place) row.now))) }
+    ensures kept { HasCleanDisk (state S.Store tx.new.conn.now) → KeepsCommit (state S.Store tx.old.conn.now) (state S.Store tx.new.conn.now) }
+    ensures survives { Survives (state S.Store tx.old.conn.now) (state S.Store tx.new.conn.now) (λ _. ⊥) }
+{
+    let old = row.old.as_str();
+    let new = heir_text(&row.new);
+    insert_line(tx, year, place, old, new)
+}

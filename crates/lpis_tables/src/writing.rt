@@ -1,0 +1,66 @@
+//! The loops that write, which rest on the statements' clauses alone.
+
+ghost use Rattle.std.specs.Prelude.{◌≡◌, pos, true, OnOk};
+ghost use Rattle.sqlite.specs.Held.{state};
+ghost use Rattle.sqlite.specs.State.{HasCleanDisk, KeepsCommit, Survives};
+ghost use Rattle.lpis_records.specs.Content.{with_spans, all_ended, with_lines, lines_from};
+ghost use Rattle.lpis_tables.specs.Shapes.{has_spans};
+ghost use Rattle.lpis_tables.specs.private.Inside.{Inside};
+
+use crate::statements::{end_span, insert_row, insert_span};
+use lpis_covers::Id;
+use lpis_lineage::Row;
+use sqlite::{Alter, Error, Transaction};
+
+/// Spans that begin with a year.
+pub(crate) fn insert_spans<S: Alter>(
+    tx: &mut Transaction<'_, S>,
+    year: u32,
+    ids: &[Id],
+) -> Result<(), Error>
+    ensures same_reference { tx.new.conn.ghost_name ≡ tx.old.conn.ghost_name }
+    ensures adds { HasCleanDisk (state S.Store tx.new.conn.now) → (shape : _) → has_spans shape ≡ true → (base : _) (c : _) → Inside shape base (state S.Store tx.old.conn.now) c → OnOk result (Inside shape base (state S.Store tx.new.conn.now) (with_spans (pos year) ids.now c)) }
+    ensures kept { HasCleanDisk (state S.Store tx.new.conn.now) → KeepsCommit (state S.Store tx.old.conn.now) (state S.Store tx.new.conn.now) }
+    ensures survives { Survives (state S.Store tx.old.conn.now) (state S.Store tx.new.conn.now) (λ _. ⊥) }
+{
+    for id in ids {
+        insert_span(tx, year, id)?;
+    }
+    Ok(())
+}
+
+/// Ends the spans of these identifiers with a year.
+pub(crate) fn end_spans<S: Alter>(
+    tx: &mut Transaction<'_, S>,
+    year: u32,
+    ids: &[Id],
+) -> Result<(), Error>
+    ensures same_reference { tx.new.conn.ghost_name ≡ tx.old.conn.ghost_name }
+    ensures adds { HasCleanDisk (state S.Store tx.new.conn.now) → (shape : _) → has_spans shape ≡ true → (base : _) (c : _) → Inside shape base (state S.Store tx.old.conn.now) c → OnOk result (Inside shape base (state S.Store tx.new.conn.now) (all_ended (pos year) ids.now c)) }
+    ensures kept { HasCleanDisk (state S.Store tx.new.conn.now) → KeepsCommit (state S.Store tx.old.conn.now) (state S.Store tx.new.conn.now) }
+    ensures survives { Survives (state S.Store tx.old.conn.now) (state S.Store tx.new.conn.now) (λ _. ⊥) }
+{
+    for id in ids {
+        end_span(tx, year, id)?;
+    }
+    Ok(())
+}
+
+/// The rows of lineage of a release, at their places from 0.
+pub(crate) fn insert_lines<S: Alter>(
+    tx: &mut Transaction<'_, S>,
+    year: u32,
+    rows: &[Row],
+) -> Result<(), Error>
+    ensures same_reference { tx.new.conn.ghost_name ≡ tx.old.conn.ghost_name }
+    ensures adds { HasCleanDisk (state S.Store tx.new.conn.now) → (shape : _) → (base : _) (c : _) → Inside shape base (state S.Store tx.old.conn.now) c → OnOk result (Inside shape base (state S.Store tx.new.conn.now) (with_lines (lines_from (pos year) 0 rows.now) c)) }
+    ensures kept { HasCleanDisk (state S.Store tx.new.conn.now) → KeepsCommit (state S.Store tx.old.conn.now) (state S.Store tx.new.conn.now) }
+    ensures survives { Survives (state S.Store tx.old.conn.now) (state S.Store tx.new.conn.now) (λ _. ⊥) }
+{
+    // Which is below 2^63.
+    let _ = rows.len();
+    for (place, row) in rows.iter().enumerate() {
+        insert_row(tx, year, place, row)?;
+    }
+    Ok(())
+}
