@@ -14,8 +14,6 @@ mod row;
 mod seen;
 mod span;
 mod tally;
-#[cfg(test)]
-mod tests;
 mod tracing;
 
 pub use acceptance::accept;
