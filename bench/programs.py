@@ -51,10 +51,11 @@ def proved(folder, name, source, uses, words=()):
 
 
 def measured(words, out_path):
-    """Status, standard output, processor seconds, wall seconds and peak bytes of one run."""
+    """Status, standard output, processor seconds, wall seconds and peak bytes of one run, with what the script `lpis` sets."""
+    surroundings = {"MALLOC_MMAP_THRESHOLD_": "131072", **os.environ}
     with open(out_path, "wb") as out:
         start = time.perf_counter()
-        process = subprocess.Popen(words, stdout=out)
+        process = subprocess.Popen(words, stdout=out, env=surroundings)
         _, status, usage = os.wait4(process.pid, 0)
         wall = time.perf_counter() - start
     process.returncode = os.waitstatus_to_exitcode(status)
