@@ -4,7 +4,8 @@ use std::fs::File;
 use std::io::Write;
 use std::{fs, io};
 
-/// A file at a path, which is created, or emptied, where something is written to it, and not before.
+/// A file at a path, which is created, or emptied, where something is written to it, and not
+/// before.
 #[derive(Drop)]
 pub(crate) struct Created<'a> {
     rt: &'a HostRuntime,

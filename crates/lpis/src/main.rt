@@ -52,7 +52,8 @@ fn run(rt: &HostRuntime) -> Result<u8, Failure> {
     }
 }
 
-/// Prints the text of `clap`: a fault of the command line on standard error, help on standard output.
+/// Prints the text of `clap`: a fault of the command line on standard error, help on standard
+/// output.
 fn tell(rt: &HostRuntime, error: &clap::Error) -> Result<u8, Failure> {
     let kind = error.kind();
     // Want of memory is a failure, which has a line of its own.
@@ -133,7 +134,8 @@ fn publish(
 
 /// Closes the database of a register: its log goes into its file.
 fn close(register: FileRegister) {
-    // What was published stands in the log, whether or not this succeeds; the next opening finds it there.
+    // What was published stands in the log, whether or not this succeeds; the next opening finds it
+    // there.
     let _ = register.into_connection().close();
 }
 

@@ -35,23 +35,29 @@ unfolding values
 no_corner_values true ws h = rw h refl
 no_corner_values false ws h = rw h refl
 
-pub corner_taken : (flat : Bool) (text : List ℕ) (n : ℕ) (k : Kind) (ws : List (List ℕ)) (rest : List ℕ) (m : ℕ) (c : Corners) → Placed (One (corner_kind flat)) text n k ws rest m → corners written ws ≡ Some c → Follows text n (corner_line flat c ∷ []) rest m
+pub corner_taken : (flat : Bool) (text : List ℕ) (n : ℕ) (k : Kind) (ws : List (List ℕ)) (rest : List ℕ) (m : ℕ)
+    (c : Corners) → Placed (One (corner_kind flat)) text n k ws rest m → corners written ws ≡ Some c
+    → Follows text n (corner_line flat c ∷ []) rest m
 corner_taken flat text n k ws rest m c p h =
     let is = alone (corner_kind flat) text n k ws rest m p in
     (taken (One (corner_kind flat)) text n k ws rest m (corner_line flat c) p (rw is (corner_values flat ws c h))).0
 
-pub corner_untaken : (flat : Bool) (text : List ℕ) (n : ℕ) (k : Kind) (ws : List (List ℕ)) (rest : List ℕ) (m : ℕ) → Placed (One (corner_kind flat)) text n k ws rest m → corners written ws ≡ None → FailsWith (One (corner_kind flat)) text code.Number
+pub corner_untaken : (flat : Bool) (text : List ℕ) (n : ℕ) (k : Kind) (ws : List (List ℕ)) (rest : List ℕ) (m : ℕ)
+    → Placed (One (corner_kind flat)) text n k ws rest m → corners written ws ≡ None
+    → FailsWith (One (corner_kind flat)) text code.Number
 corner_untaken flat text n k ws rest m p h =
     let is = alone (corner_kind flat) text n k ws rest m p in
     untaken (One (corner_kind flat)) text n k ws rest m p (rw is (no_corner_values flat ws h))
 
-pub pair_taken : (text : List ℕ) (n : ℕ) (k : Kind) (ws : List (List ℕ)) (rest : List ℕ) (m : ℕ) (c : Separator) → Placed (One kind.Pair) text n k ws rest m → separator ws ≡ Some c → Follows text n (separator_line c ∷ []) rest m
+pub pair_taken : (text : List ℕ) (n : ℕ) (k : Kind) (ws : List (List ℕ)) (rest : List ℕ) (m : ℕ) (c : Separator)
+    → Placed (One kind.Pair) text n k ws rest m → separator ws ≡ Some c → Follows text n (separator_line c ∷ []) rest m
 unfolding values
 pair_taken text n k ws rest m c p h =
     let is = alone kind.Pair text n k ws rest m p in
     (taken (One kind.Pair) text n k ws rest m (separator_line c) p (rw (is, h) refl)).0
 
-pub pair_untaken : (text : List ℕ) (n : ℕ) (k : Kind) (ws : List (List ℕ)) (rest : List ℕ) (m : ℕ) → Placed (One kind.Pair) text n k ws rest m → separator ws ≡ None → FailsWith (One kind.Pair) text code.Number
+pub pair_untaken : (text : List ℕ) (n : ℕ) (k : Kind) (ws : List (List ℕ)) (rest : List ℕ) (m : ℕ)
+    → Placed (One kind.Pair) text n k ws rest m → separator ws ≡ None → FailsWith (One kind.Pair) text code.Number
 unfolding values
 pair_untaken text n k ws rest m p h =
     let is = alone kind.Pair text n k ws rest m p in
@@ -63,7 +69,9 @@ end_taken text n k ws rest m p h =
     let is = alone kind.End text n k ws rest m p in
     (taken (One kind.End) text n k ws rest m EndLine p (rw (is, h) refl)).0
 
-pub end_untaken : (text : List ℕ) (n : ℕ) (k : Kind) (ws : List (List ℕ)) (rest : List ℕ) (m : ℕ) (w : List ℕ) (vs : List (List ℕ)) → Placed (One kind.End) text n k ws rest m → ws ≡ w ∷ vs → FailsWith (One kind.End) text code.Number
+pub end_untaken : (text : List ℕ) (n : ℕ) (k : Kind) (ws : List (List ℕ)) (rest : List ℕ) (m : ℕ) (w : List ℕ)
+    (vs : List (List ℕ)) → Placed (One kind.End) text n k ws rest m → ws ≡ w ∷ vs → FailsWith (One kind.End) text
+    code.Number
 unfolding values
 end_untaken text n k ws rest m w vs p h =
     let is = alone kind.End text n k ws rest m p in
@@ -71,7 +79,9 @@ end_untaken text n k ws rest m w vs p h =
 
 -- ---- many lines of one kind
 
-corner_step : (flat : Bool) (n : ℕ) (b : Stage) (f : ℕ) (d : Declared) (c : Corners) → CornersFit c → LineFits (corner_line flat c) × (step (wanting flat (suc n) b f d) (spelling (corner_line flat c)) ≡ Ok (wanting flat n b f d))
+corner_step : (flat : Bool) (n : ℕ) (b : Stage) (f : ℕ) (d : Declared) (c : Corners) → CornersFit c
+    → LineFits (corner_line flat c)
+    × (step (wanting flat (suc n) b f d) (spelling (corner_line flat c)) ≡ Ok (wanting flat n b f d))
 unfolding step
 corner_step true n b f d c fits = (fits, rw (read_again (One kind.Flat) (FlatLine c) fits refl) refl)
 corner_step false n b f d c fits = (fits, rw (read_again (One kind.Triangle) (TriangleLine c) fits refl) refl)
@@ -80,7 +90,9 @@ pub all_corners_fit : (ts : List Triangle) → AllByRecursion CornersFit (all_co
 all_corners_fit [] = tt
 all_corners_fit (t ∷ ts) = (corners_fit t, all_corners_fit ts)
 
-pub corners_go : (flat : Bool) (cs : List Corners) (n k : ℕ) (b : Stage) (f : ℕ) (d : Declared) → AllByRecursion CornersFit cs → n ≡ length cs + k → Goes (wanting flat n b f d) (map (corner_line flat) cs) (wanting flat k b f d)
+pub corners_go : (flat : Bool) (cs : List Corners) (n k : ℕ) (b : Stage) (f : ℕ) (d : Declared)
+    → AllByRecursion CornersFit cs → n ≡ length cs + k → Goes (wanting flat n b f d) (map (corner_line flat) cs)
+    (wanting flat k b f d)
 corners_go flat [] n k b f d fits e = let is : n ≡ k = omega arith in ap (λ (i : ℕ). wanting flat i b f d) is
 corners_go flat (c ∷ cs) n k b f d fits e =
     let is : n ≡ suc (length cs + k) = omega arith in

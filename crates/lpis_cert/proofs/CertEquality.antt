@@ -74,7 +74,9 @@ pair_proofs i j k a a' b b' c c' =
     ∙ ap (λ (v : k ≤ last_edge). pair_with i j k a' b' v) (le_prop c c')
 
 abbrev AllPairs : (i j k i' j' k' : ℕ) → Type 0
-AllPairs i j k i' j' k' = (a : i ≤ greatest_count) (a' : i' ≤ greatest_count) (b : j ≤ greatest_count) (b' : j' ≤ greatest_count) (c : k ≤ last_edge) (c' : k' ≤ last_edge) → pair_with i j k a b c ≡ pair_with i' j' k' a' b' c'
+AllPairs i j k i' j' k' = (a : i ≤ greatest_count) (a' : i' ≤ greatest_count) (b : j ≤ greatest_count)
+    (b' : j' ≤ greatest_count) (c : k ≤ last_edge) (c' : k' ≤ last_edge) → pair_with i j k a b c ≡ pair_with i' j' k' a'
+    b' c'
 
 pair_same : (i j k i' j' k' : ℕ) → i ≡ i' → j ≡ j' → k ≡ k' → AllPairs i j k i' j' k'
 pair_same i j k i' j' k' e f g =

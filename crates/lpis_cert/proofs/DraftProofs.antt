@@ -1,5 +1,6 @@
 -- A draft with one more block.
-use Rattle.std.proofs.Common.{◌≡◌, ℕ, ◌+◌, ◌<◌, ◌≤◌, Bool, true, false, ◌&&◌, List, [], ◌∷◌, ◌++◌, length, map, Err, refl, sym, ap, subst, ◌∙◌, arith, append_assoc, length-append, ◌⊎◌, inl, inr, eqb, nat_le}
+use Rattle.std.proofs.Common.{◌≡◌, ℕ, ◌+◌, ◌<◌, ◌≤◌, Bool, true, false, ◌&&◌, List, [], ◌∷◌, ◌++◌, length, map, Err, refl, sym, ap, subst, ◌∙◌, arith, append_assoc, length-append, ◌⊎◌, inl, inr, eqb}
+use Rattle.std.proofs.Common.{nat_le}
 use Rattle.std.proofs.lemmas.Bool.Decides.{nat_tests}
 use Rattle.std.proofs.lemmas.Grind.{flat_map-append}
 use Rattle.std.proofs.lemmas.List.{append-nil, nil_from_length, map_push}
@@ -12,7 +13,8 @@ use Rattle.lpis_cert.specs.declared.fault.CertFault.{CertFault}
 use Rattle.lpis_cert.specs.declared.kind.Kind.TheVariants as kind
 use Rattle.lpis_cert.specs.declared.kind.Expected.TheVariants.{One, Block}
 use Rattle.lpis_cert.specs.Limits.{most_triangles, most_flats, greatest_count}
-use Rattle.lpis_cert.specs.CertText.{Corners, Separator, PieceBlock, ParcelBlock, Line, PieceLine, TriangleLine, FlatLine, ParcelLine, PairsLine, PairLine, EndLine, spelling, text_of_lines, piece_lines, parcel_lines, end_lines, lines_of}
+use Rattle.lpis_cert.specs.CertText.{Corners, Separator, PieceBlock, ParcelBlock, Line, PieceLine, TriangleLine, FlatLine, ParcelLine, PairsLine, PairLine, EndLine, spelling, text_of_lines}
+use Rattle.lpis_cert.specs.CertText.{piece_lines, parcel_lines, end_lines, lines_of}
 use Rattle.lpis_cert.specs.Fitting.{CornersFit, SeparatorFits, LineFits}
 use Rattle.lpis_cert.specs.Faults.{is_lf, lines, outcome, at_last, step, Place, InBody, InPairs, AtEnd, Declared, grow, grow_flats}
 use Rattle.lpis_cert.specs.private.Taken.{Follows, FaultFrom, LineFault}
@@ -47,11 +49,25 @@ within_no a b (inr h) = let y : nat_le b most_flats ≡ false = grind (arith, na
     neither true = refl
     neither false = refl
 
-pub piece_open : (d : Declared) (id : List ℕ) (t f : ℕ) → LineFits (PieceLine id t f) → d.triangles + t ≤ most_triangles → d.flats + f ≤ most_flats → Goes (InBody stage.Pieces 0 0 d) (PieceLine id t f ∷ []) (InBody stage.Pieces t f (grow d t f))
+pub piece_open : (d : Declared) (id : List ℕ) (t f : ℕ) → LineFits (PieceLine id t f) → d.triangles + t ≤ most_triangles
+    → d.flats + f ≤ most_flats → Goes (InBody stage.Pieces 0 0 d) (PieceLine id t f ∷ [])
+    (InBody stage.Pieces t f (grow d t f))
 unfolding step
-piece_open d id t f fits h k = (fits, (InBody stage.Pieces t f (grow d t f), rw (read_again (Block stage.Pieces) (PieceLine id t f) fits refl, within_yes (d.triangles + t) (d.flats + f) h k) refl, refl))
+piece_open d id t f fits h k = (
+  fits,
+  (
+    InBody stage.Pieces t f (grow d t f),
+    rw (
+      read_again (Block stage.Pieces) (PieceLine id t f) fits refl,
+      within_yes (d.triangles + t) (d.flats + f) h k,
+    ) refl,
+    refl,
+  ),
+)
 
-pub parcel_open : (b : Stage) (d : Declared) (id : List ℕ) (f : ℕ) → LineFits (ParcelLine id f) → d.triangles ≤ most_triangles → d.flats + f ≤ most_flats → Goes (InBody b 0 0 d) (ParcelLine id f ∷ []) (InBody stage.Parcels 0 f (grow_flats d f))
+pub parcel_open : (b : Stage) (d : Declared) (id : List ℕ) (f : ℕ) → LineFits (ParcelLine id f)
+    → d.triangles ≤ most_triangles → d.flats + f ≤ most_flats → Goes (InBody b 0 0 d) (ParcelLine id f ∷ [])
+    (InBody stage.Parcels 0 f (grow_flats d f))
 unfolding step
 parcel_open b d id f fits h k = (fits, (InBody stage.Parcels 0 f (grow_flats d f), rw (read_again (Block b) (ParcelLine id f) fits refl, within_yes d.triangles (d.flats + f) h k) refl, refl))
 
@@ -67,7 +83,8 @@ first_cut : (text : List ℕ) (n : ℕ) (l : Line) (rest : List ℕ) (m : ℕ) �
 unfolding text_of_lines
 first_cut text n l rest m fits f = ap lines (f.parts ∙ append_assoc (spelling l) (10 ∷ []) rest) ∙ lines_from l rest fits
 
-pub too_many_piece : (d : Declared) (b : Stage) (id : List ℕ) (t f : ℕ) (text : List ℕ) (n : ℕ) (rest : List ℕ) (m : ℕ) → b ≡ stage.Pieces → LineFits (PieceLine id t f) → (most_triangles < d.triangles + t) ⊎ (most_flats < d.flats + f)
+pub too_many_piece : (d : Declared) (b : Stage) (id : List ℕ) (t f : ℕ) (text : List ℕ) (n : ℕ) (rest : List ℕ) (m : ℕ)
+    → b ≡ stage.Pieces → LineFits (PieceLine id t f) → (most_triangles < d.triangles + t) ⊎ (most_flats < d.flats + f)
     → Follows text n (PieceLine id t f ∷ []) rest m → outcome n (InBody b 0 0 d) (lines text) ≡ Err (code.TooMany, n)
 unfolding step
 too_many_piece d b id t f text n rest m is fits h g =
@@ -89,19 +106,25 @@ shorter text n l ls rest m f =
     let b = length-append (spelling l) (10 ∷ text_of_lines ls) in
     omega arith
 
-pub grown_by : (before more : List Line) (p q : Place) (l : Line) (ls : List Line) (text : List ℕ) (n : ℕ) (rest : List ℕ) (m : ℕ) → Follows text n (l ∷ ls) rest m → more ≡ before ++ (l ∷ ls) → Goes p (l ∷ ls) q
+pub grown_by : (before more : List Line) (p q : Place) (l : Line) (ls : List Line) (text : List ℕ) (n : ℕ)
+    (rest : List ℕ) (m : ℕ) → Follows text n (l ∷ ls) rest m → more ≡ before ++ (l ∷ ls) → Goes p (l ∷ ls) q
     → Grown before more p q text n rest m
 grown_by before more p q l ls text n rest m f e g = record { added = l ∷ ls; follows = f; lines = e; place = after n p q text (l ∷ ls) rest m f g; shorter = shorter text n l ls rest m f }
 
 one_more_piece : (ps : List PieceBlock) (p : PieceBlock) → blocks (ps ++ p ∷ []) [] ≡ blocks ps [] ++ piece_lines p
 one_more_piece ps p =
-    append-nil (pieces_lines (ps ++ p ∷ [])) ∙ flat_map-append piece_lines ps (p ∷ []) ∙ ap (λ (x : List Line). pieces_lines ps ++ x) (append-nil (piece_lines p)) ∙ ap (λ (x : List Line). x ++ piece_lines p) (sym (append-nil (pieces_lines ps)))
+    append-nil (pieces_lines (ps ++ p ∷ [])) ∙ flat_map-append piece_lines ps (p ∷ [])
+    ∙ ap (λ (x : List Line). pieces_lines ps ++ x) (append-nil (piece_lines p))
+    ∙ ap (λ (x : List Line). x ++ piece_lines p) (sym (append-nil (pieces_lines ps)))
 
 one_more_parcel : (ps : List PieceBlock) (qs : List ParcelBlock) (q : ParcelBlock) → blocks ps (qs ++ q ∷ []) ≡ blocks ps qs ++ parcel_lines q
 one_more_parcel ps qs q =
-    ap (λ (x : List Line). pieces_lines ps ++ x) (flat_map-append parcel_lines qs (q ∷ []) ∙ ap (λ (x : List Line). parcels_lines qs ++ x) (append-nil (parcel_lines q))) ∙ sym (append_assoc (pieces_lines ps) (parcels_lines qs) (parcel_lines q))
+    ap (λ (x : List Line). pieces_lines ps ++ x) (flat_map-append parcel_lines qs (q ∷ [])
+    ∙ ap (λ (x : List Line). parcels_lines qs ++ x) (append-nil (parcel_lines q)))
+    ∙ sym (append_assoc (pieces_lines ps) (parcels_lines qs) (parcel_lines q))
 
-pub piece_grown : (ps ps2 : List PieceBlock) (qs : List ParcelBlock) (p : PieceBlock) (b : Stage) (d : Declared) (t f : ℕ) (start : List ℕ) (n : ℕ) (next : List ℕ) (m : ℕ) (middle : List ℕ) (k : ℕ) (rest : List ℕ) (j : ℕ)
+pub piece_grown : (ps ps2 : List PieceBlock) (qs : List ParcelBlock) (p : PieceBlock) (b : Stage) (d : Declared)
+    (t f : ℕ) (start : List ℕ) (n : ℕ) (next : List ℕ) (m : ℕ) (middle : List ℕ) (k : ℕ) (rest : List ℕ) (j : ℕ)
     → ps2 ≡ ps ++ p ∷ [] → b ≡ stage.Pieces → length qs ≡ 0 → LineFits (PieceLine p.id t f) → d.triangles + t ≤ most_triangles → d.flats + f ≤ most_flats
     → AllByRecursion CornersFit p.triangles → AllByRecursion CornersFit p.flats → length p.triangles ≡ t → length p.flats ≡ f
     → Follows start n (PieceLine p.id t f ∷ []) next m → Follows next m (map TriangleLine p.triangles) middle k → Follows middle k (map FlatLine p.flats) rest j
@@ -110,13 +133,19 @@ piece_grown ps ps2 qs p b d t f start n next m middle k rest j e is none fits h1
     let no : qs ≡ [] = nil_from_length qs none in
     let body = follows_both next m (map TriangleLine p.triangles) middle k (map FlatLine p.flats) rest j f2 f3 in
     let all = follows_both start n (PieceLine p.id t f ∷ []) next m (map TriangleLine p.triangles ++ map FlatLine p.flats) rest j f1 body in
-    let goes = goes_on (InBody stage.Pieces 0 0 d) (InBody stage.Pieces t f (grow d t f)) (InBody stage.Pieces 0 0 (grow d t f)) (PieceLine p.id t f ∷ []) (map TriangleLine p.triangles ++ map FlatLine p.flats)
+    let goes = goes_on (InBody stage.Pieces 0 0 d) (InBody stage.Pieces t f (grow d t f))
+    (InBody stage.Pieces 0 0 (grow d t f)) (PieceLine p.id t f ∷ []) (map TriangleLine p.triangles
+    ++ map FlatLine p.flats)
     (piece_open d p.id t f fits h1 h2)
     (goes_on (InBody stage.Pieces t f (grow d t f)) (InBody stage.Pieces 0 f (grow d t f)) (InBody stage.Pieces 0 0 (grow d t f)) (map TriangleLine p.triangles) (map FlatLine p.flats)
     (corners_go false p.triangles t 0 stage.Pieces f (grow d t f) ft (omega arith)) (corners_go true p.flats f 0 stage.Pieces 0 (grow d t f) ff (omega arith))) in
     let same : PieceLine p.id (length p.triangles) (length p.flats) ≡ PieceLine p.id t f = rw (lt, lf) refl in
-    let lines : blocks (ps ++ p ∷ []) [] ≡ blocks ps [] ++ (PieceLine p.id t f ∷ (map TriangleLine p.triangles ++ map FlatLine p.flats)) = one_more_piece ps p ∙ ap (λ (x : Line). blocks ps [] ++ (x ∷ (map TriangleLine p.triangles ++ map FlatLine p.flats))) same in
-    rw (e, is, no) (grown_by (blocks ps []) (blocks (ps ++ p ∷ []) []) (InBody stage.Pieces 0 0 d) (InBody stage.Pieces 0 0 (grow d t f)) (PieceLine p.id t f) (map TriangleLine p.triangles ++ map FlatLine p.flats) start n rest j all lines goes)
+    let lines : blocks (ps ++ p ∷ []) [] ≡ blocks ps []
+    ++ (PieceLine p.id t f ∷ (map TriangleLine p.triangles ++ map FlatLine p.flats)) = one_more_piece ps p
+    ∙ ap (λ (x : Line). blocks ps [] ++ (x ∷ (map TriangleLine p.triangles ++ map FlatLine p.flats))) same in
+    rw (e, is, no) (grown_by (blocks ps []) (blocks (ps ++ p ∷ []) []) (InBody stage.Pieces 0 0 d)
+    (InBody stage.Pieces 0 0 (grow d t f)) (PieceLine p.id t f) (map TriangleLine p.triangles
+    ++ map FlatLine p.flats) start n rest j all lines goes)
 
 pub parcel_grown : (ps : List PieceBlock) (qs qs2 : List ParcelBlock) (q : ParcelBlock) (b : Stage) (d : Declared) (f : ℕ) (start : List ℕ) (n : ℕ) (next : List ℕ) (m : ℕ) (rest : List ℕ) (j : ℕ)
     → qs2 ≡ qs ++ q ∷ [] → LineFits (ParcelLine q.id f) → d.triangles ≤ most_triangles → d.flats + f ≤ most_flats → AllByRecursion CornersFit q.flats → length q.flats ≡ f
@@ -162,31 +191,49 @@ pub whole_of : (ps : List PieceBlock) (qs : List ParcelBlock) (rs : List Separat
 unfolding lines_of
 whole_of ps qs rs start n rest m f none =
     let no : rest ≡ [] = nil_from_length rest none in
-    record { added = end_lines rs; parts = f.parts ∙ ap (λ (r : List ℕ). text_of_lines (end_lines rs) ++ r) no ∙ append-nil (text_of_lines (end_lines rs)); lines = sym (append_assoc (pieces_lines ps) (parcels_lines qs) (end_lines rs)) }
+    record {
+      added = end_lines rs;
+      parts = f.parts ∙ ap (λ (r : List ℕ). text_of_lines (end_lines rs) ++ r) no
+          ∙ append-nil (text_of_lines (end_lines rs));
+      lines =
+          sym (append_assoc (pieces_lines ps) (parcels_lines qs) (end_lines rs));
+    }
 
 -- ---- faults inside a block
 
-pub piece_fault : (x : CertFault) (d : Declared) (b : Stage) (id : List ℕ) (t f : ℕ) (text : List ℕ) (n : ℕ) (rest : List ℕ) (m : ℕ) → b ≡ stage.Pieces → LineFits (PieceLine id t f) → d.triangles + t ≤ most_triangles → d.flats + f ≤ most_flats
+pub piece_fault : (x : CertFault) (d : Declared) (b : Stage) (id : List ℕ) (t f : ℕ) (text : List ℕ) (n : ℕ)
+    (rest : List ℕ) (m : ℕ) → b ≡ stage.Pieces → LineFits (PieceLine id t f) → d.triangles + t ≤ most_triangles
+    → d.flats + f ≤ most_flats
     → Follows text n (PieceLine id t f ∷ []) rest m → FaultFrom x m (InBody stage.Pieces t f (grow d t f)) rest → FaultFrom x n (InBody b 0 0 d) text
 piece_fault x d b id t f text n rest m is fits h1 h2 g k =
     rw is (fault_after x n (InBody stage.Pieces 0 0 d) (InBody stage.Pieces t f (grow d t f)) text (PieceLine id t f ∷ []) rest m g (piece_open d id t f fits h1 h2) k)
 
-pub flat_fault : (x : CertFault) (d : Declared) (b : Stage) (id : List ℕ) (t f : ℕ) (ts : List Corners) (text : List ℕ) (n : ℕ) (rest : List ℕ) (m : ℕ) (middle : List ℕ) (k : ℕ) → b ≡ stage.Pieces → LineFits (PieceLine id t f) → d.triangles + t ≤ most_triangles → d.flats + f ≤ most_flats
-    → Follows text n (PieceLine id t f ∷ []) rest m → AllByRecursion CornersFit ts → length ts ≡ t → Follows rest m (map TriangleLine ts) middle k → FaultFrom x k (InBody stage.Pieces 0 f (grow d t f)) middle → FaultFrom x n (InBody b 0 0 d) text
+pub flat_fault : (x : CertFault) (d : Declared) (b : Stage) (id : List ℕ) (t f : ℕ) (ts : List Corners) (text : List ℕ)
+    (n : ℕ) (rest : List ℕ) (m : ℕ) (middle : List ℕ) (k : ℕ) → b ≡ stage.Pieces → LineFits (PieceLine id t f)
+    → d.triangles + t ≤ most_triangles → d.flats + f ≤ most_flats
+    → Follows text n (PieceLine id t f ∷ []) rest m → AllByRecursion CornersFit ts → length ts ≡ t
+    → Follows rest m (map TriangleLine ts) middle k → FaultFrom x k (InBody stage.Pieces 0 f (grow d t f)) middle
+    → FaultFrom x n (InBody b 0 0 d) text
 flat_fault x d b id t f ts text n rest m middle k is fits h1 h2 g ft lt g2 h =
     piece_fault x d b id t f text n rest m is fits h1 h2 g
-    (fault_after x m (InBody stage.Pieces t f (grow d t f)) (InBody stage.Pieces 0 f (grow d t f)) rest (map TriangleLine ts) middle k g2 (corners_go false ts t 0 stage.Pieces f (grow d t f) ft (omega arith)) h)
+    (fault_after x m (InBody stage.Pieces t f (grow d t f)) (InBody stage.Pieces 0 f (grow d t f)) rest
+    (map TriangleLine ts) middle k g2 (corners_go false ts t 0 stage.Pieces f (grow d t f) ft (omega arith)) h)
 
 pub pairs_fault : (x : CertFault) (b : Stage) (d : Declared) (count : ℕ) (text : List ℕ) (n : ℕ) (rest : List ℕ) (m : ℕ) → count ≤ greatest_count
     → Follows text n (PairsLine count ∷ []) rest m → FaultFrom x m (InPairs count) rest → FaultFrom x n (InBody b 0 0 d) text
 pairs_fault x b d count text n rest m le g h = fault_after x n (InBody b 0 0 d) (InPairs count) text (PairsLine count ∷ []) rest m g (pairs_open b d count le) h
 
 pub end_fault : (x : CertFault) (b : Stage) (d : Declared) (count : ℕ) (ps : List Separator) (text : List ℕ) (n : ℕ) (rest : List ℕ) (m : ℕ) (last : List ℕ) (k : ℕ) → count ≤ greatest_count
-    → Follows text n (PairsLine count ∷ []) rest m → AllByRecursion SeparatorFits ps → length ps ≡ count → Follows rest m (map PairLine ps) last k → LineFault x k (One kind.End) last → FaultFrom x n (InBody b 0 0 d) text
+    → Follows text n (PairsLine count ∷ []) rest m → AllByRecursion SeparatorFits ps → length ps ≡ count
+    → Follows rest m (map PairLine ps) last k → LineFault x k (One kind.End) last → FaultFrom x n (InBody b 0 0 d)
+    text
 end_fault x b d count ps text n rest m last k le g fits len g2 h =
-    pairs_fault x b d count text n rest m le g (fault_after x m (InPairs count) (InPairs 0) rest (map PairLine ps) last k g2 (pairs_go ps count 0 fits (omega arith)) (fault_here x k (InPairs 0) (One kind.End) last refl h))
+    pairs_fault x b d count text n rest m le g (fault_after x m (InPairs count) (InPairs 0) rest (map PairLine ps) last
+    k g2 (pairs_go ps count 0 fits (omega arith)) (fault_here x k (InPairs 0) (One kind.End) last refl h))
 
-pub trailing_fault : (b : Stage) (d : Declared) (ps : List Separator) (text : List ℕ) (n : ℕ) (rest : List ℕ) (m : ℕ) → AllByRecursion SeparatorFits ps → length ps ≤ greatest_count → Follows text n (end_lines ps) rest m → 0 < length rest
+pub trailing_fault : (b : Stage) (d : Declared) (ps : List Separator) (text : List ℕ) (n : ℕ) (rest : List ℕ) (m : ℕ)
+    → AllByRecursion SeparatorFits ps → length ps ≤ greatest_count → Follows text n (end_lines ps) rest m
+    → 0 < length rest
     → outcome n (InBody b 0 0 d) (lines text) ≡ Err (code.TextAfterEnd, m)
 trailing_fault b d ps text n rest m fits le f some = after n (InBody b 0 0 d) AtEnd text (end_lines ps) rest m f (pairs_goes b d ps fits le) ∙ trailing m rest some
 

@@ -20,7 +20,8 @@ use Rattle.lpis_cert.proofs.BlockProofs.{all_corners_fit, separators_fit}
 use Rattle.lpis_cert.specs.declared.fault.CertCode.{CertCode}
 use Rattle.lpis_cert.specs.declared.fault.CertCode.TheVariants as code
 use Rattle.lpis_cert.specs.Versions.{first_line, written}
-use Rattle.lpis_cert.specs.CertText.{Corners, Separator, PieceBlock, ParcelBlock, Content, Line, PieceLine, ParcelLine, TriangleLine, FlatLine, PairsLine, PairLine, EndLine, text_of, text_of_lines, spelling, lines_of, piece_lines, parcel_lines, end_lines}
+use Rattle.lpis_cert.specs.CertText.{Corners, Separator, PieceBlock, ParcelBlock, Content, Line, PieceLine, ParcelLine, TriangleLine, FlatLine, PairsLine, PairLine, EndLine, text_of, text_of_lines}
+use Rattle.lpis_cert.specs.CertText.{spelling, lines_of, piece_lines, parcel_lines, end_lines}
 use Rattle.lpis_cert.specs.Fitting.{LineFits}
 use Rattle.lpis_cert.specs.private.Fits.{Fits}
 use Rattle.lpis_cert.specs.Reading.{◌>>=◌}
@@ -50,7 +51,8 @@ unfolding glue
 glued_end [] b h = absurd (cc h.2)
 glued_end (v ∷ vs) b h = refl
 
-glued_first : (c : ℕ) (a b : List (List ℕ)) → ((v : List ℕ) × (vs : List (List ℕ)) × (a ≡ v ∷ vs)) → ((v : List ℕ) × (vs : List (List ℕ)) × (b ≡ v ∷ vs)) → onto_first c (glue a b) ≡ glue (onto_first c a) b
+glued_first : (c : ℕ) (a b : List (List ℕ)) → ((v : List ℕ) × (vs : List (List ℕ)) × (a ≡ v ∷ vs))
+    → ((v : List ℕ) × (vs : List (List ℕ)) × (b ≡ v ∷ vs)) → onto_first c (glue a b) ≡ glue (onto_first c a) b
 unfolding glue
 glued_first c [] b h k = absurd (cc h.2)
 glued_first c (v ∷ []) [] h k = absurd (cc k.2)
@@ -86,7 +88,9 @@ stops n AtEnd v h [] k some e = absurd (full (length (v ++ h)) k (omega (arith, 
     full i k lt e = let no : eqb i 0 ≡ false = grind (arith, nat_tests) in cc (rw no at e)
 stops n AtEnd v h (x ∷ t) k some e = absurd (cc e)
 
-cut_short : (n : ℕ) (p : Place) (v : List ℕ) (vs : List (List ℕ)) (h : List ℕ) (t : List (List ℕ)) (k : ℕ) → 0 < length h + length t → outcome n p (glue (v ∷ vs) (h ∷ t)) ≡ Ok k → outcome n p (v ∷ vs) ≡ Err (code.Truncated, n + length vs)
+cut_short : (n : ℕ) (p : Place) (v : List ℕ) (vs : List (List ℕ)) (h : List ℕ) (t : List (List ℕ)) (k : ℕ)
+    → 0 < length h + length t → outcome n p (glue (v ∷ vs) (h ∷ t)) ≡ Ok k
+    → outcome n p (v ∷ vs) ≡ Err (code.Truncated, n + length vs)
 unfolding outcome glue
 cut_short n p v [] h t k some e = stops n p v h t k some e ∙ ap (λ (i : ℕ). Err (code.Truncated, i)) (omega arith)
 cut_short n p v (w ∷ ws) h t k some e =
@@ -102,7 +106,8 @@ more_lines : (q : List ℕ) → 0 < length q → (h : List ℕ) × (t : List (Li
 more_lines [] lt = absurd (omega arith)
 more_lines (c ∷ q) lt = by_test (is_lf c) (split_some is_lf q)
   where
-    by_test : (b : Bool) → ((v : List ℕ) × (vs : List (List ℕ)) × (lines q ≡ v ∷ vs)) → (h : List ℕ) × (t : List (List ℕ)) × (cond b ([] ∷ lines q) (onto_first c (lines q)) ≡ h ∷ t) × (0 < length h + length t)
+    by_test : (b : Bool) → ((v : List ℕ) × (vs : List (List ℕ)) × (lines q ≡ v ∷ vs)) → (h : List ℕ)
+        × (t : List (List ℕ)) × (cond b ([] ∷ lines q) (onto_first c (lines q)) ≡ h ∷ t) × (0 < length h + length t)
     by_test true s = ([], s.0 ∷ s.1, ap (λ (x : List (List ℕ)). [] ∷ x) s.2, omega arith)
     by_test false s = (c ∷ s.0, s.1, ap (onto_first c) s.2, omega arith)
 
@@ -186,7 +191,9 @@ parcel_front q r us vs e =
 
 piece_front : (q r : PieceBlock) (us vs : List Line) → piece_lines q ++ us ≡ piece_lines r ++ vs → (q ≡ r) × (us ≡ vs)
 piece_front q r us vs e =
-    let s = same_first (PieceLine q.id (length q.triangles) (length q.flats)) (PieceLine r.id (length r.triangles) (length r.flats)) ((map TriangleLine q.triangles ++ map FlatLine q.flats) ++ us) ((map TriangleLine r.triangles ++ map FlatLine r.flats) ++ vs) e in
+    let s = same_first (PieceLine q.id (length q.triangles) (length q.flats))
+    (PieceLine r.id (length r.triangles) (length r.flats)) ((map TriangleLine q.triangles ++ map FlatLine q.flats)
+    ++ us) ((map TriangleLine r.triangles ++ map FlatLine r.flats) ++ vs) e in
     let id : q.id ≡ r.id = cc s.0 in
     let n : length q.triangles ≡ length r.triangles = cc s.0 in
     let m : length q.flats ≡ length r.flats = cc s.0 in
@@ -195,7 +202,9 @@ piece_front q r us vs e =
     let f = fronts FlatLine q.flats r.flats us vs (λ a b h. cc h) m t.1 in
     let ts = t.0 in
     let fs = f.0 in
-    let same : made_piece q.id q.triangles q.flats ≡ made_piece r.id r.triangles r.flats = ap (λ (i : List ℕ). made_piece i q.triangles q.flats) id ∙ ap (λ (x : List Corners). made_piece r.id x q.flats) ts ∙ ap (λ (x : List Corners). made_piece r.id r.triangles x) fs in
+    let same : made_piece q.id q.triangles q.flats ≡ made_piece r.id r.triangles r.flats =
+    ap (λ (i : List ℕ). made_piece i q.triangles q.flats) id ∙ ap (λ (x : List Corners). made_piece r.id x q.flats)
+    ts ∙ ap (λ (x : List Corners). made_piece r.id r.triangles x) fs in
     (same, f.1)
 
 parcels_injective : (qs rs : List ParcelBlock) (xs ys : List Separator) → parcels_lines qs ++ end_lines xs ≡ parcels_lines rs ++ end_lines ys → (qs ≡ rs) × (xs ≡ ys)
@@ -203,13 +212,17 @@ parcels_injective [] [] xs ys e = (refl, end_injective xs ys e)
 parcels_injective [] (r ∷ rs) xs ys e = absurd (cc e)
 parcels_injective (q ∷ qs) [] xs ys e = absurd (cc e)
 parcels_injective (q ∷ qs) (r ∷ rs) xs ys e =
-    let s = parcel_front q r (parcels_lines qs ++ end_lines xs) (parcels_lines rs ++ end_lines ys) (sym (append_assoc (parcel_lines q) (parcels_lines qs) (end_lines xs)) ∙ e ∙ append_assoc (parcel_lines r) (parcels_lines rs) (end_lines ys)) in
+    let s = parcel_front q r (parcels_lines qs ++ end_lines xs) (parcels_lines rs ++ end_lines ys)
+    (sym (append_assoc (parcel_lines q) (parcels_lines qs) (end_lines xs)) ∙ e ∙ append_assoc (parcel_lines r)
+    (parcels_lines rs) (end_lines ys)) in
     let t = parcels_injective qs rs xs ys s.1 in
     let first = s.0 in
     let rest = t.0 in
     (ap₂ (λ (a : ParcelBlock) (b : List ParcelBlock). a ∷ b) first rest, t.1)
 
-pieces_injective : (ps ps2 : List PieceBlock) (qs rs : List ParcelBlock) (xs ys : List Separator) → pieces_lines ps ++ (parcels_lines qs ++ end_lines xs) ≡ pieces_lines ps2 ++ (parcels_lines rs ++ end_lines ys) → (ps ≡ ps2) × (qs ≡ rs) × (xs ≡ ys)
+pieces_injective : (ps ps2 : List PieceBlock) (qs rs : List ParcelBlock) (xs ys : List Separator) → pieces_lines ps
+    ++ (parcels_lines qs ++ end_lines xs) ≡ pieces_lines ps2 ++ (parcels_lines rs ++ end_lines ys) → (ps ≡ ps2)
+    × (qs ≡ rs) × (xs ≡ ys)
 pieces_injective [] [] qs rs xs ys e = let r = parcels_injective qs rs xs ys e in (refl, r.0, r.1)
 pieces_injective [] (p ∷ ps) [] rs xs ys e = absurd (cc e)
 pieces_injective [] (p ∷ ps) (q ∷ qs) rs xs ys e = absurd (cc e)
@@ -218,7 +231,10 @@ pieces_injective (p ∷ ps) [] qs (r ∷ rs) xs ys e = absurd (cc e)
 pieces_injective (p ∷ ps) (p2 ∷ ps2) qs rs xs ys e =
     let a = parcels_lines qs ++ end_lines xs in
     let b = parcels_lines rs ++ end_lines ys in
-    let s = piece_front p p2 (pieces_lines ps ++ (parcels_lines qs ++ end_lines xs)) (pieces_lines ps2 ++ (parcels_lines rs ++ end_lines ys)) (sym (append_assoc (piece_lines p) (pieces_lines ps) (parcels_lines qs ++ end_lines xs)) ∙ e ∙ append_assoc (piece_lines p2) (pieces_lines ps2) (parcels_lines rs ++ end_lines ys)) in
+    let s = piece_front p p2 (pieces_lines ps ++ (parcels_lines qs ++ end_lines xs))
+    (pieces_lines ps2 ++ (parcels_lines rs ++ end_lines ys))
+    (sym (append_assoc (piece_lines p) (pieces_lines ps) (parcels_lines qs ++ end_lines xs)) ∙ e
+    ∙ append_assoc (piece_lines p2) (pieces_lines ps2) (parcels_lines rs ++ end_lines ys)) in
     let t = pieces_injective ps ps2 qs rs xs ys s.1 in
     let first = s.0 in
     let rest = t.0 in
@@ -235,7 +251,9 @@ pub one_value : (c d : Content) → Fits c → Fits d → text_of c ≡ text_of 
 unfolding text_of lines_of
 one_value c d fc fd e =
     let body = same_body (text_of_lines (lines_of c)) (text_of_lines (lines_of d)) e in
-    let ls = lines_injective (lines_of c) (lines_of d) (fits_of (InBody stage.Pieces 0 0 none_declared) AtEnd (lines_of c) (certificate_goes c fc)) (fits_of (InBody stage.Pieces 0 0 none_declared) AtEnd (lines_of d) (certificate_goes d fd)) body in
+    let ls = lines_injective (lines_of c) (lines_of d) (fits_of (InBody stage.Pieces 0 0 none_declared) AtEnd
+    (lines_of c) (certificate_goes c fc)) (fits_of (InBody stage.Pieces 0 0 none_declared) AtEnd (lines_of d)
+    (certificate_goes d fd)) body in
     let s = pieces_injective c.pieces d.pieces c.parcels d.parcels c.pairs d.pairs ls in
     let p = s.0 in
     let q = s.1 in
@@ -279,7 +297,9 @@ one_cert c d e = cert_eq c d (one_value (content_of c) (content_of d) (cert_fits
 pub no_fault : (c : Cert) → verdict (cert_text c) ≡ Ok (2 + length (lines_of (content_of c)))
 no_fault c = accepted (content_of c) (cert_fits c)
 
-pub is_only : (r : Result Cert CertFault) (bytes : List ℕ) → IfOk r (λ x. bytes ≡ cert_text x) → IfErr r (λ e. FaultFrom e 1 AtVersion bytes) → (c : Cert) → bytes ≡ cert_text c → MatchResult r (λ x. x ≡ c) (λ e. e ≡ Memory)
+pub is_only : (r : Result Cert CertFault) (bytes : List ℕ) → IfOk r (λ x. bytes ≡ cert_text x)
+    → IfErr r (λ e. FaultFrom e 1 AtVersion bytes) → (c : Cert) → bytes ≡ cert_text c
+    → MatchResult r (λ x. x ≡ c) (λ e. e ≡ Memory)
 is_only (Ok x) bytes found fault c e = one_cert x c (sym found ∙ e)
 is_only (Err Memory) bytes found fault c e = refl
 is_only (Err (At k n)) bytes found fault c e = absurd (clash (sym fault ∙ ap verdict e ∙ no_fault c))

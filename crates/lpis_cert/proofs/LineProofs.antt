@@ -16,7 +16,8 @@ use Rattle.lpis_cert.specs.declared.kind.Kind.TheVariants.{Piece, Triangle, Flat
 use Rattle.lpis_cert.specs.declared.kind.Expected.{Expected}
 use Rattle.lpis_cert.specs.CertText.{Corners, Separator, Line, PieceLine, TriangleLine, FlatLine, ParcelLine, PairsLine, PairLine, EndLine, words_of, corner_words, spelling}
 use Rattle.lpis_cert.specs.Fitting.{CornersFit, SeparatorFits, LineFits}
-use Rattle.lpis_cert.specs.Reading.{◌>>=◌, ◌>>?◌, is_empty, words, kind_of, word_count, first_is_id, names, form, can_stand, front, last, natural, number, coordinate, point, corners, separator, piece_line, parcel_line, pairs_line, values, with_form, or_number, placed, read_line}
+use Rattle.lpis_cert.specs.Reading.{◌>>=◌, ◌>>?◌, is_empty, words, kind_of, word_count, first_is_id, names, form, can_stand, front, last, natural, number, coordinate, point, corners, separator}
+use Rattle.lpis_cert.specs.Reading.{piece_line, parcel_line, pairs_line, values, with_form, or_number, placed, read_line}
 use Rattle.lpis_cert.specs.Kinds.{line_kind}
 use Rattle.lpis_cert.proofs.Numbers.{opened, both, number_again, number_takes, coordinate_again, coordinate_takes}
 use Rattle.lpis_cert.proofs.WordProofs.{IsWordText, none_empty, kind_word, fields, words_are, field_words, spelling_words}
@@ -66,7 +67,14 @@ names_right EndLine fits = refl
 
 corners_again : (c : Corners) → CornersFit c → corners written (corner_words c) ≡ Some c
 unfolding corners point
-corners_again c fits = rw (coordinate_again c.x1 fits.x1, coordinate_again c.y1 fits.y1, coordinate_again c.x2 fits.x2, coordinate_again c.y2 fits.y2, coordinate_again c.x3 fits.x3, coordinate_again c.y3 fits.y3) refl
+corners_again c fits = rw (
+  coordinate_again c.x1 fits.x1,
+  coordinate_again c.y1 fits.y1,
+  coordinate_again c.x2 fits.x2,
+  coordinate_again c.y2 fits.y2,
+  coordinate_again c.x3 fits.x3,
+  coordinate_again c.y3 fits.y3,
+) refl
 
 separator_again : (p : Separator) → SeparatorFits p → separator (decimal p.i ∷ decimal p.j ∷ decimal p.k ∷ []) ≡ Some p
 unfolding separator
@@ -140,7 +148,9 @@ form_takes (w ∷ ws) k vs h =
 
 front_takes : {A : Type 0} (read : List ℕ → Option A) (ws : List (List ℕ)) (x : A × List (List ℕ)) → front read ws ≡ Some x → (w : List ℕ) × (ws ≡ w ∷ x.1) × (read w ≡ Some x.0)
 front_takes read [] x h = absurd cc
-front_takes read (w ∷ ws) x h = let t = then_some (read w) (λ y. Some (y, ws)) x h in let same : (t.0, ws) ≡ x = cc t.2 in subst (λ y. (v : List ℕ) × (◌≡◌ {A = List (List ℕ)} (w ∷ ws) (v ∷ y.1)) × (read v ≡ Some y.0)) same (w, refl, t.1)
+front_takes read (w ∷ ws) x h = let t = then_some (read w) (λ y. Some (y, ws)) x h in let same : (t.0, ws) ≡ x =
+    cc t.2 in subst (λ y. (v : List ℕ) × (◌≡◌ {A = List (List ℕ)} (w ∷ ws) (v ∷ y.1)) × (read v ≡ Some y.0)) same
+    (w, refl, t.1)
 
 last_takes : {A : Type 0} (x y : A) (ws : List (List ℕ)) → last x ws ≡ Some y → (x ≡ y) × (ws ≡ [])
 last_takes x y [] h = (cc, refl)
@@ -156,7 +166,8 @@ point_takes ws p h =
     let ca = coordinate_takes fa.0 a.0.0 fa.2 in
     let cb = coordinate_takes fb.0 b.0.0 fb.2 in
     let same : ((a.0.0, b.0.0), b.0.1) ≡ p = cc b.2 in
-    let words : ws ≡ signed_decimal a.0.0 ∷ signed_decimal b.0.0 ∷ b.0.1 = fa.1 ∙ ap (λ (v : List ℕ). v ∷ a.0.1) ca.0 ∙ ap (λ (vs : List (List ℕ)). signed_decimal a.0.0 ∷ vs) (fb.1 ∙ ap (λ (v : List ℕ). v ∷ b.0.1) cb.0) in
+    let words : ws ≡ signed_decimal a.0.0 ∷ signed_decimal b.0.0 ∷ b.0.1 = fa.1 ∙ ap (λ (v : List ℕ). v ∷ a.0.1) ca.0
+    ∙ ap (λ (vs : List (List ℕ)). signed_decimal a.0.0 ∷ vs) (fb.1 ∙ ap (λ (v : List ℕ). v ∷ b.0.1) cb.0) in
     subst (λ (q : (ℤ × ℤ) × List (List ℕ)). (ws ≡ signed_decimal q.0.0 ∷ signed_decimal q.0.1 ∷ q.1) × (IsInRange q.0.0 × IsInRange q.0.1)) same (words, (ca.1, cb.1))
 
 corners_take : (ws : List (List ℕ)) (c : Corners) → corners written ws ≡ Some c → (ws ≡ corner_words c) × CornersFit c
@@ -171,7 +182,9 @@ corners_take ws c h =
     let pb = point_takes a.0.1 b.0 b.1 in
     let pd = point_takes b.0.1 d.0 d.1 in
     let words : ws ≡ corner_words made =
-    pa.0 ∙ ap (λ (vs : List (List ℕ)). signed_decimal made.x1 ∷ signed_decimal made.y1 ∷ vs) (pb.0 ∙ ap (λ (vs : List (List ℕ)). signed_decimal made.x2 ∷ signed_decimal made.y2 ∷ vs) (pd.0 ∙ ap (λ (vs : List (List ℕ)). signed_decimal made.x3 ∷ signed_decimal made.y3 ∷ vs) l.1)) in
+    pa.0 ∙ ap (λ (vs : List (List ℕ)). signed_decimal made.x1 ∷ signed_decimal made.y1 ∷ vs)
+    (pb.0 ∙ ap (λ (vs : List (List ℕ)). signed_decimal made.x2 ∷ signed_decimal made.y2 ∷ vs)
+    (pd.0 ∙ ap (λ (vs : List (List ℕ)). signed_decimal made.x3 ∷ signed_decimal made.y3 ∷ vs) l.1)) in
     subst (λ (c : Corners). (ws ≡ corner_words c) × CornersFit c) l.0 (words, record { x1 = pa.1.0; y1 = pa.1.1; x2 = pb.1.0; y2 = pb.1.1; x3 = pd.1.0; y3 = pd.1.1 })
 
 natural_front : (limit : ℕ) (ws : List (List ℕ)) (x : ℕ × List (List ℕ)) → limit ≤ number_margin → front (number limit) ws ≡ Some x → (ws ≡ decimal x.0 ∷ x.1) × (x.0 ≤ limit)
@@ -214,7 +227,9 @@ piece_takes ws l named h =
     let pd = natural_front greatest_count b.0.1 d.0 (omega arith) d.1 in
     let same : pa.0 ≡ a.0.0 = cc pa.2 in
     let first : ws ≡ a.0.0 ∷ a.0.1 = rw same at pa.1 in
-    let words : ws ≡ fields made = first ∙ ap (λ (vs : List (List ℕ)). a.0.0 ∷ vs) (pb.0 ∙ ap (λ (vs : List (List ℕ)). decimal b.0.0 ∷ vs) (pd.0 ∙ ap (λ (vs : List (List ℕ)). decimal d.0.0 ∷ vs) e.1)) in
+    let words : ws ≡ fields made = first ∙ ap (λ (vs : List (List ℕ)). a.0.0 ∷ vs)
+    (pb.0 ∙ ap (λ (vs : List (List ℕ)). decimal b.0.0 ∷ vs) (pd.0 ∙ ap (λ (vs : List (List ℕ)). decimal d.0.0 ∷ vs)
+    e.1)) in
     subst (λ (l : Line). IsLine Piece ws l) e.0 (record { kind = refl; fields = words; fits = (first_id a.0.0 ws a.0.1 first named, pb.1, pd.1) })
 
 parcel_takes : (ws : List (List ℕ)) (l : Line) → first_is_id ws ≡ true → parcel_line ws ≡ Some l → IsLine Parcel ws l

@@ -1,5 +1,6 @@
 -- A number has one spelling.
-use Rattle.std.proofs.Common.{◌≡◌, ℕ, zero, suc, ◌+◌, ◌*◌, ◌<◌, ◌≤◌, Bool, true, false, cond, ◌&&◌, List, [], ◌∷◌, length, get_or, Option, Some, None, refl, sym, ap, ◌∙◌, arith, nat_le, nat_lt, eqb, ℤ, pos, negsuc, neg_ℤ, ◌≤ℤ◌}
+use Rattle.std.proofs.Common.{◌≡◌, ℕ, zero, suc, ◌+◌, ◌*◌, ◌<◌, ◌≤◌, Bool, true, false, cond, ◌&&◌, List, [], ◌∷◌, length, get_or, Option, Some, None, refl, sym, ap, ◌∙◌, arith, nat_le, nat_lt, eqb}
+use Rattle.std.proofs.Common.{ℤ, pos, negsuc, neg_ℤ, ◌≤ℤ◌}
 use Rattle.std.proofs.lemmas.Bool.Decides.{nat_tests}
 use Rattle.std.proofs.lemmas.Bool.{eqb-true}
 use Rattle.std.proofs.lemmas.Int.{ints}
@@ -106,9 +107,6 @@ number_takes limit (d ∷ ds) n small h = by_zero (eqb d 48) refl h
         let most = t.2 in
         (sym (ap decimal (sym value) ∙ decimal-digits_value own (d ∷ ds) t.0 (omega arith) (λ is. absurd (differs d e is)) (omega (arith, value))), most)
 
-below_of : (n : ℕ) → n ≤ 1999999999 → negsuc 1999999999 ≤ℤ negsuc n
-below_of n le = omega (arith, ints)
-
 above : (d : ℕ) → 48 < d → eqb d 45 ≡ false
 above d h = grind (arith, nat_tests)
 
@@ -154,7 +152,9 @@ unfolding coordinate
 coordinate_takes [] z h = absurd cc
 coordinate_takes (d ∷ ds) z h = by_sign (eqb d 45) refl h
   where
-    by_sign : (b : Bool) → eqb d 45 ≡ b → cond b (minus written (number (greatest written) ds)) (plus written (number (greatest written) (d ∷ ds))) ≡ Some z → (◌≡◌ {A = List ℕ} (d ∷ ds) (signed_decimal z)) × IsInRange z
+    by_sign : (b : Bool) → eqb d 45 ≡ b → cond b (minus written (number (greatest written) ds))
+        (plus written (number (greatest written) (d ∷ ds))) ≡ Some z → (◌≡◌ {A = List ℕ} (d ∷ ds) (signed_decimal z))
+        × IsInRange z
     by_sign true e h =
         let m = minus_takes written (number (greatest written) ds) z h in
         let t = number_takes (greatest written) ds (suc m.0) (omega arith) m.1 in

@@ -1,5 +1,6 @@
 -- Lines of corners, read in one pass.
-use Rattle.std.proofs.Common.{◌≡◌, ℕ, zero, suc, ◌+◌, ◌-◌, ◌*◌, ◌<◌, ◌≤◌, Bool, true, false, cond, ◌&&◌, List, [], ◌∷◌, ◌++◌, length, take, drop, get_or, Some, None, refl, sym, ap, ◌∙◌, arith, nat_le, nat_lt, eqb, append_assoc, length-append, length-drop, drop-cons, add-one}
+use Rattle.std.proofs.Common.{◌≡◌, ℕ, zero, suc, ◌+◌, ◌-◌, ◌*◌, ◌<◌, ◌≤◌, Bool, true, false, cond, ◌&&◌, List, [], ◌∷◌, ◌++◌, length, take, drop, get_or, Some, None, refl, sym, ap, ◌∙◌, arith, nat_le}
+use Rattle.std.proofs.Common.{nat_lt, eqb, append_assoc, length-append, length-drop, drop-cons, add-one}
 use Rattle.std.proofs.lemmas.Bool.Decides.{nat_tests}
 use Rattle.std.proofs.lemmas.Fmt.{decimal_digit}
 use Rattle.std.proofs.lemmas.List.{take_all, take-append-drop, take_more}
@@ -75,14 +76,26 @@ six : (a b c d e f r : List ℕ) → (a ++ (32 ∷ (b ++ (32 ∷ (c ++ (32 ∷ (
 six a b c d e f r = link a _ _ r (link b _ _ r (link c _ _ r (link d _ _ r (link e _ _ r refl))))
 
 pub corners_spelled : (flat : Bool) (c : Corners) (rest : List ℕ)
-    → cond flat 102 116 ∷ 32 ∷ (signed_decimal c.x1 ++ (32 ∷ (signed_decimal c.y1 ++ (32 ∷ (signed_decimal c.x2 ++ (32 ∷ (signed_decimal c.y2 ++ (32 ∷ (signed_decimal c.x3 ++ (32 ∷ (signed_decimal c.y3 ++ (10 ∷ rest))))))))))))
+    → cond flat 102 116 ∷ 32 ∷ (signed_decimal c.x1
+    ++ (32 ∷ (signed_decimal c.y1
+    ++ (32 ∷ (signed_decimal c.x2
+    ++ (32 ∷ (signed_decimal c.y2
+    ++ (32 ∷ (signed_decimal c.x3 ++ (32 ∷ (signed_decimal c.y3 ++ (10 ∷ rest))))))))))))
     ≡ spelling (corner_line flat c) ++ (10 ∷ rest)
 unfolding spelling words_of
-corners_spelled true c rest = ap (λ (t : List ℕ). 102 ∷ 32 ∷ t) (sym (six (signed_decimal c.x1) (signed_decimal c.y1) (signed_decimal c.x2) (signed_decimal c.y2) (signed_decimal c.x3) (signed_decimal c.y3) (10 ∷ rest)))
-corners_spelled false c rest = ap (λ (t : List ℕ). 116 ∷ 32 ∷ t) (sym (six (signed_decimal c.x1) (signed_decimal c.y1) (signed_decimal c.x2) (signed_decimal c.y2) (signed_decimal c.x3) (signed_decimal c.y3) (10 ∷ rest)))
+corners_spelled true c rest = ap (λ (t : List ℕ). 102 ∷ 32 ∷ t)
+    (sym (six (signed_decimal c.x1) (signed_decimal c.y1) (signed_decimal c.x2) (signed_decimal c.y2)
+    (signed_decimal c.x3) (signed_decimal c.y3) (10 ∷ rest)))
+corners_spelled false c rest = ap (λ (t : List ℕ). 116 ∷ 32 ∷ t)
+    (sym (six (signed_decimal c.x1) (signed_decimal c.y1) (signed_decimal c.x2) (signed_decimal c.y2)
+    (signed_decimal c.x3) (signed_decimal c.y3) (10 ∷ rest)))
 
 pub corners_begin : (flat : Bool) (letter : ℕ) (text after fields : List ℕ) (c : Corners) (rest : List ℕ) → letter ≡ cond flat 102 116 → text ≡ letter ∷ after → after ≡ 32 ∷ fields
-    → fields ≡ signed_decimal c.x1 ++ (32 ∷ (signed_decimal c.y1 ++ (32 ∷ (signed_decimal c.x2 ++ (32 ∷ (signed_decimal c.y2 ++ (32 ∷ (signed_decimal c.x3 ++ (32 ∷ (signed_decimal c.y3 ++ (10 ∷ rest)))))))))))
+    → fields ≡ signed_decimal c.x1
+    ++ (32 ∷ (signed_decimal c.y1
+    ++ (32 ∷ (signed_decimal c.x2
+    ++ (32 ∷ (signed_decimal c.y2
+    ++ (32 ∷ (signed_decimal c.x3 ++ (32 ∷ (signed_decimal c.y3 ++ (10 ∷ rest)))))))))))
     → Begins text (spelling (corner_line flat c)) 10 rest
 corners_begin flat letter text after fields c rest is h k all = rw (h, k, all, is) (corners_spelled flat c rest)
 

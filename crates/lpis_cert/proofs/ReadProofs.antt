@@ -24,18 +24,23 @@ pub no_line : (n : ℕ) (text : List ℕ) → lines text ≡ text ∷ [] → out
 unfolding outcome at_last
 no_line n text h = rw h refl
 
-pub other_version : (text : List ℕ) (n : ℕ) (line rest : List ℕ) (m : ℕ) → TakesLine text n line rest m → bytes_eq line (first_line written) ≡ false → outcome n AtVersion (lines text) ≡ Err (code.Version, n)
+pub other_version : (text : List ℕ) (n : ℕ) (line rest : List ℕ) (m : ℕ) → TakesLine text n line rest m
+    → bytes_eq line (first_line written) ≡ false → outcome n AtVersion (lines text) ≡ Err (code.Version, n)
 unfolding step
 other_version text n line rest m t h = step_err n AtVersion code.Version text line rest t.split (rw h refl)
 
-pub this_version : (text : List ℕ) (n : ℕ) (line rest : List ℕ) (m : ℕ) → TakesLine text n line rest m → bytes_eq line (first_line written) ≡ true → (text ≡ first_line written ++ (10 ∷ rest)) × (outcome n AtVersion (lines text) ≡ outcome m (InBody stage.Pieces 0 0 none_declared) (lines rest))
+pub this_version : (text : List ℕ) (n : ℕ) (line rest : List ℕ) (m : ℕ) → TakesLine text n line rest m
+    → bytes_eq line (first_line written) ≡ true → (text ≡ first_line written ++ (10 ∷ rest))
+    × (outcome n AtVersion (lines text) ≡ outcome m (InBody stage.Pieces 0 0 none_declared) (lines rest))
 unfolding step
 this_version text n line rest m t h =
     let next = t.next in
     (t.parts ∙ ap (λ (x : List ℕ). x ++ (10 ∷ rest)) (word_is line (first_line written) h), rw next (step_ok n AtVersion (InBody stage.Pieces 0 0 none_declared) text line rest t.split (rw h refl)))
 
 -- one more turn
-pub follows_grown : (start : List ℕ) (n : ℕ) (before more : List Line) (p q : Place) (text : List ℕ) (k : ℕ) (rest : List ℕ) (m : ℕ) → Follows start n before text k → Grown before more p q text k rest m → Follows start n more rest m
+pub follows_grown : (start : List ℕ) (n : ℕ) (before more : List Line) (p q : Place) (text : List ℕ) (k : ℕ)
+    (rest : List ℕ) (m : ℕ) → Follows start n before text k → Grown before more p q text k rest m
+    → Follows start n more rest m
 follows_grown start n before more p q text k rest m f g = let e = g.lines in rw e (follows_both start n before text k g.added rest m f g.follows)
 
 pub whole_text : (start : List ℕ) (n : ℕ) (before more : List Line) (text : List ℕ) (k : ℕ) → Follows start n before text k → Whole before more text → start ≡ text_of_lines more
@@ -46,7 +51,9 @@ whole_text start n before more text k f w =
 
 -- ---- every certificate's text is taken
 
-pieces_go : (ps : List PieceBlock) (d : Declared) → AllByRecursion PieceFits ps → d.triangles + sum_by (λ p. length p.triangles) ps ≤ most_triangles → d.flats + sum_by (λ p. length p.flats) ps ≤ most_flats
+pieces_go : (ps : List PieceBlock) (d : Declared) → AllByRecursion PieceFits ps
+    → d.triangles + sum_by (λ p. length p.triangles) ps ≤ most_triangles → d.flats + sum_by (λ p. length p.flats) ps
+    ≤ most_flats
     → (e : Declared) × Goes (InBody stage.Pieces 0 0 d) (pieces_lines ps) (InBody stage.Pieces 0 0 e) × (e.flats ≡ d.flats + sum_by (λ p. length p.flats) ps) × (e.triangles ≤ most_triangles)
 pieces_go [] d fits h k = (d, refl, omega arith, omega arith)
 pieces_go (p ∷ ps) d fits h k =
@@ -59,7 +66,8 @@ pieces_go (p ∷ ps) d fits h k =
     let first = piece_open d p.id t f (fits.0.id, omega (arith, h, st), omega (arith, k, sf)) (omega (arith, h, st)) (omega (arith, k, sf)) in
     let body = goes_on (InBody stage.Pieces t f e) (InBody stage.Pieces 0 f e) (InBody stage.Pieces 0 0 e) (map TriangleLine p.triangles) (map FlatLine p.flats)
     (corners_go false p.triangles t 0 stage.Pieces f e fits.0.triangles (omega arith)) (corners_go true p.flats f 0 stage.Pieces 0 e fits.0.flats (omega arith)) in
-    let block = goes_on (InBody stage.Pieces 0 0 d) (InBody stage.Pieces t f e) (InBody stage.Pieces 0 0 e) (PieceLine p.id t f ∷ []) (map TriangleLine p.triangles ++ map FlatLine p.flats) first body in
+    let block = goes_on (InBody stage.Pieces 0 0 d) (InBody stage.Pieces t f e) (InBody stage.Pieces 0 0 e)
+    (PieceLine p.id t f ∷ []) (map TriangleLine p.triangles ++ map FlatLine p.flats) first body in
     (more.0, goes_on (InBody stage.Pieces 0 0 d) (InBody stage.Pieces 0 0 e) (InBody stage.Pieces 0 0 more.0) (piece_lines p) (pieces_lines ps) block more.1, omega (arith, more.2, sf), more.3)
 
 parcels_go : (qs : List ParcelBlock) (b : Stage) (d : Declared) → AllByRecursion ParcelFits qs → d.triangles ≤ most_triangles → d.flats + sum_by (λ q. length q.flats) qs ≤ most_flats

@@ -2,7 +2,8 @@
 use Rattle.std.specs.Str.{bytes_eq}
 use Rattle.std.specs.Prelude.{sum_by}
 use Rattle.std.specs.List.{AllByRecursion, join_with_byte, flat_map}
-use Rattle.std.proofs.Common.{◌≡◌, ℕ, zero, suc, ◌+◌, ◌<◌, ◌≤◌, Bool, true, false, cond, ◌&&◌, List, [], ◌∷◌, ◌++◌, length, map, Result, Ok, Err, refl, sym, ap, ap₂, subst, ◌∙◌, arith, append_assoc, eqb, nat_le}
+use Rattle.std.proofs.Common.{◌≡◌, ℕ, zero, suc, ◌+◌, ◌<◌, ◌≤◌, Bool, true, false, cond, ◌&&◌, List, [], ◌∷◌, ◌++◌, length, map, Result, Ok, Err, refl, sym, ap, ap₂, subst, ◌∙◌, arith, append_assoc}
+use Rattle.std.proofs.Common.{eqb, nat_le}
 use Rattle.std.proofs.lemmas.Bool.Decides.{nat_tests}
 use Rattle.std.proofs.lemmas.List.{nil_from_length, length-map}
 use Rattle.std.proofs.lemmas.List.Sums.{sum_by-cons}
@@ -21,7 +22,8 @@ use Rattle.lpis_cert.specs.declared.part.PairLine as part
 use Rattle.lpis_cert.specs.declared.cert.Cert.{Cert}
 use Rattle.lpis_cert.specs.Limits.{most_triangles, most_flats, greatest_count}
 use Rattle.lpis_cert.specs.Versions.{first_line, written}
-use Rattle.lpis_cert.specs.CertText.{Corners, Separator, PieceBlock, ParcelBlock, Content, Line, PieceLine, TriangleLine, FlatLine, ParcelLine, PairsLine, PairLine, EndLine, spelling, text_of_lines, piece_lines, parcel_lines, end_lines, lines_of, text_of}
+use Rattle.lpis_cert.specs.CertText.{Corners, Separator, PieceBlock, ParcelBlock, Content, Line, PieceLine, TriangleLine, FlatLine, ParcelLine, PairsLine, PairLine, EndLine, spelling, text_of_lines}
+use Rattle.lpis_cert.specs.CertText.{piece_lines, parcel_lines, end_lines, lines_of, text_of}
 use Rattle.lpis_cert.specs.Contents.{corners_of, all_corners, piece_of, parcel_of, separator_of, content_of, cert_text}
 use Rattle.lpis_cert.specs.Fitting.{CornersFit, SeparatorFits}
 use Rattle.lpis_cert.specs.private.Fits.{PieceFits, ParcelFits, Fits}
@@ -149,7 +151,8 @@ piece_more d id ts fs c line rest spelled named m =
       },
     )
 
-parcel_more : (b : Stage) (d : Declared) (id : List ℕ) (fs : List Corners) (qs : List ParcelBlock) (rs : List Separator) (line rest : List ℕ) → line ≡ spelling (ParcelLine id (length fs)) → is_id id ≡ true
+parcel_more : (b : Stage) (d : Declared) (id : List ℕ) (fs : List Corners) (qs : List ParcelBlock) (rs : List Separator)
+    (line rest : List ℕ) → line ≡ spelling (ParcelLine id (length fs)) → is_id id ≡ true
     → Left stage.Parcels 0 (length fs) (grow_flats d (length fs)) [] fs (record { pieces = []; parcels = qs; pairs = rs }) rest → May (InBody b 0 0 d) (line ++ (10 ∷ rest))
 unfolding lines_of
 parcel_more b d id fs qs rs line rest spelled named m =
@@ -175,7 +178,8 @@ parcel_more b d id fs qs rs line rest spelled named m =
       },
     )
 
-pairs_more : (b : Stage) (d : Declared) (ps : List Separator) (line rest : List ℕ) → Small (InBody b 0 0 d) → line ≡ spelling (PairsLine (length ps)) → length ps ≤ greatest_count → AllByRecursion SeparatorFits ps
+pairs_more : (b : Stage) (d : Declared) (ps : List Separator) (line rest : List ℕ) → Small (InBody b 0 0 d)
+    → line ≡ spelling (PairsLine (length ps)) → length ps ≤ greatest_count → AllByRecursion SeparatorFits ps
     → rest ≡ text_of_lines (map PairLine ps ++ (EndLine ∷ [])) → May (InBody b 0 0 d) (line ++ (10 ∷ rest))
 unfolding lines_of
 pairs_more b d ps line rest s spelled few fits e = (
@@ -213,19 +217,25 @@ within_ok d next q h =
     by_tests true false h = absurd (cc h)
     by_tests false b h = absurd (cc h)
 
-piece_sized : (d : Declared) (id : List ℕ) (t f : ℕ) (ts fs : List Corners) (c : Content) (line rest : List ℕ) → is_id id ≡ true → line ≡ spelling (PieceLine id t f) → Left stage.Pieces t f (grow d t f) ts fs c rest
+piece_sized : (d : Declared) (id : List ℕ) (t f : ℕ) (ts fs : List Corners) (c : Content) (line rest : List ℕ)
+    → is_id id ≡ true → line ≡ spelling (PieceLine id t f) → Left stage.Pieces t f (grow d t f) ts fs c rest
     → May (InBody stage.Pieces 0 0 d) (line ++ (10 ∷ rest))
 piece_sized d id t f ts fs c line rest named spelled m =
     subst (λ (n : ℕ). line ≡ spelling (PieceLine id n f) → Left stage.Pieces n f (grow d n f) ts fs c rest → May (InBody stage.Pieces 0 0 d) (line ++ (10 ∷ rest))) m.triangle_count
-    (subst (λ (k : ℕ). line ≡ spelling (PieceLine id (length ts) k) → Left stage.Pieces (length ts) k (grow d (length ts) k) ts fs c rest → May (InBody stage.Pieces 0 0 d) (line ++ (10 ∷ rest))) m.flat_count
+    (subst (λ (k : ℕ). line ≡ spelling (PieceLine id (length ts) k) → Left stage.Pieces (length ts) k
+    (grow d (length ts) k) ts fs c rest → May (InBody stage.Pieces 0 0 d) (line ++ (10 ∷ rest))) m.flat_count
     (λ s l. piece_more d id ts fs c line rest s named l)) spelled m
 
-parcel_sized : (b : Stage) (d : Declared) (id : List ℕ) (f : ℕ) (ts fs : List Corners) (c : Content) (line rest : List ℕ) → is_id id ≡ true → line ≡ spelling (ParcelLine id f) → Left stage.Parcels 0 f (grow_flats d f) ts fs c rest
+parcel_sized : (b : Stage) (d : Declared) (id : List ℕ) (f : ℕ) (ts fs : List Corners) (c : Content)
+    (line rest : List ℕ) → is_id id ≡ true → line ≡ spelling (ParcelLine id f) → Left stage.Parcels 0 f (grow_flats d f)
+    ts fs c rest
     → May (InBody b 0 0 d) (line ++ (10 ∷ rest))
 parcel_sized b d id f ts fs c line rest named spelled m =
     let l = bare stage.Parcels f (grow_flats d f) ts fs c rest m in
     let none = subst (λ (ps : List PieceBlock). Left stage.Parcels 0 f (grow_flats d f) [] fs (record { pieces = ps; parcels = c.parcels; pairs = c.pairs }) rest) (l.no_pieces refl) l in
-    subst (λ (k : ℕ). line ≡ spelling (ParcelLine id k) → Left stage.Parcels 0 k (grow_flats d k) [] fs (record { pieces = []; parcels = c.parcels; pairs = c.pairs }) rest → May (InBody b 0 0 d) (line ++ (10 ∷ rest))) m.flat_count
+    subst (λ (k : ℕ). line ≡ spelling (ParcelLine id k) → Left stage.Parcels 0 k (grow_flats d k) [] fs
+    (record { pieces = []; parcels = c.parcels; pairs = c.pairs }) rest
+    → May (InBody b 0 0 d) (line ++ (10 ∷ rest))) m.flat_count
     (λ s l. parcel_more b d id fs c.parcels c.pairs line rest s named l) spelled none
 
 -- a line that took a place on, and the text before it
@@ -282,7 +292,8 @@ back : (p q : Place) (line : List ℕ) → Small p → step p line ≡ Ok q → 
 unfolding step
 back AtVersion q line s h = by_test (bytes_eq line (first_line written)) refl h
   where
-    by_test : (b : Bool) → bytes_eq line (first_line written) ≡ b → ◌≡◌ {A = Result Place CertCode} (cond b (Ok (InBody stage.Pieces 0 0 none_declared)) (Err code.Version)) (Ok q) → Back AtVersion line q
+    by_test : (b : Bool) → bytes_eq line (first_line written) ≡ b → ◌≡◌ {A = Result Place CertCode}
+        (cond b (Ok (InBody stage.Pieces 0 0 none_declared)) (Err code.Version)) (Ok q) → Back AtVersion line q
     by_test true is h =
         let same : InBody stage.Pieces 0 0 none_declared ≡ q = cc h in
         subst (λ (x : Place). Back AtVersion line x) same ((omega arith, omega arith), λ rest m. first_more line rest m.0 m.1 m.2 (word_is line (first_line written) is) m.3)

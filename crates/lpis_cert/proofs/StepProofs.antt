@@ -1,5 +1,6 @@
 -- One line taken, and the lines after it.
-use Rattle.std.proofs.Common.{◌≡◌, ℕ, zero, suc, ◌+◌, Bool, true, false, cond, List, [], ◌∷◌, ◌++◌, length, Option, Some, None, Ok, Err, refl, sym, ap, subst, ◌∙◌, arith, append_assoc, length-append, inl, inr}
+use Rattle.std.proofs.Common.{◌≡◌, ℕ, zero, suc, ◌+◌, Bool, true, false, cond, List, [], ◌∷◌, ◌++◌, length, Option, Some, None, Ok, Err, refl, sym, ap, subst, ◌∙◌, arith, append_assoc, length-append}
+use Rattle.std.proofs.Common.{inl, inr}
 use Rattle.lpis_cert.specs.declared.fault.CertCode.{CertCode}
 use Rattle.lpis_cert.specs.declared.fault.CertCode.TheVariants as code
 use Rattle.lpis_cert.specs.declared.fault.CertFault.{CertFault}

@@ -45,10 +45,14 @@ parcel_is p =
     ∙ one_line (ParcelLine p.id (length p.flats)) (map FlatLine (all_corners p.flats))
     ∙ ap (λ (j : ℕ). text_of_lines (ParcelLine p.id j ∷ map FlatLine (all_corners p.flats))) (sym m)
 
-blocks_are : {A B : Type 0} (text : A → List ℕ) (view : A → B) (ls : B → List Line) → ((x : A) → text x ≡ text_of_lines (ls (view x))) → (xs : List A) → flat_map text xs ≡ text_of_lines (flat_map ls (map view xs))
+blocks_are : {A B : Type 0} (text : A → List ℕ) (view : A → B) (ls : B → List Line)
+    → ((x : A) → text x ≡ text_of_lines (ls (view x))) → (xs : List A) → flat_map text xs ≡ text_of_lines
+    (flat_map ls (map view xs))
 unfolding text_of_lines
 blocks_are text view ls h [] = refl
-blocks_are text view ls h (x ∷ xs) = flat_map-cons text x xs ∙ ap₂ (λ (a b : List ℕ). a ++ b) (h x) (blocks_are text view ls h xs) ∙ sym (text-append (ls (view x)) (flat_map ls (map view xs))) ∙ ap text_of_lines (sym (flat_map-cons ls (view x) (map view xs)))
+blocks_are text view ls h (x ∷ xs) = flat_map-cons text x xs ∙ ap₂ (λ (a b : List ℕ). a ++ b) (h x)
+    (blocks_are text view ls h xs) ∙ sym (text-append (ls (view x)) (flat_map ls (map view xs)))
+    ∙ ap text_of_lines (sym (flat_map-cons ls (view x) (map view xs)))
 
 end_line : line_text EndLine ≡ text_of_lines (EndLine ∷ [])
 unfolding line_text

@@ -44,7 +44,8 @@ pub data Line : Type 0 where
   EndLine : Line
 
 abbrev pub corner_words : Corners → List (List ℕ)
-corner_words c = signed_decimal c.x1 ∷ signed_decimal c.y1 ∷ signed_decimal c.x2 ∷ signed_decimal c.y2 ∷ signed_decimal c.x3 ∷ signed_decimal c.y3 ∷ []
+corner_words c = signed_decimal c.x1 ∷ signed_decimal c.y1 ∷ signed_decimal c.x2 ∷ signed_decimal
+    c.y2 ∷ signed_decimal c.x3 ∷ signed_decimal c.y3 ∷ []
 
 unfoldable pub words_of : Line → List (List ℕ)
 words_of (PieceLine id t f) = codes "piece" ∷ id ∷ decimal t ∷ decimal f ∷ []
@@ -65,7 +66,8 @@ text_of_lines [] = []
 text_of_lines (l ∷ ls) = spelling l ++ (10 ∷ text_of_lines ls)
 
 abbrev pub piece_lines : PieceBlock → List Line
-piece_lines p = PieceLine p.id (length p.triangles) (length p.flats) ∷ (map TriangleLine p.triangles ++ map FlatLine p.flats)
+piece_lines p = PieceLine p.id (length p.triangles) (length p.flats) ∷ (map TriangleLine p.triangles
+    ++ map FlatLine p.flats)
 
 abbrev pub parcel_lines : ParcelBlock → List Line
 parcel_lines p = ParcelLine p.id (length p.flats) ∷ map FlatLine p.flats

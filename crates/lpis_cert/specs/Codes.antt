@@ -1,7 +1,8 @@
 -- The codes of faults.
 use Rattle.std.specs.Prelude.{ℕ, List, codes}
 use Rattle.lpis_cert.specs.declared.fault.CertCode.{CertCode}
-use Rattle.lpis_cert.specs.declared.fault.CertCode.TheVariants.{Version, LineForm, Number, BadPlace, Truncated, TextAfterEnd, TooMany}
+use Rattle.lpis_cert.specs.declared.fault.CertCode.TheVariants.{Version, LineForm, Number, BadPlace}
+use Rattle.lpis_cert.specs.declared.fault.CertCode.TheVariants.{Truncated, TextAfterEnd, TooMany}
 
 -- the two characters of a code
 abbrev pub code_text : CertCode → List ℕ

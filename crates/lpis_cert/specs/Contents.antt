@@ -23,7 +23,12 @@ abbrev pub separator_of : PairLine → Separator
 separator_of p = record { i = p.i; j = p.j; k = p.k }
 
 abbrev pub content_of : Cert → Content
-content_of c = record { pieces = map piece_of c.pieces; parcels = map parcel_of c.parcels; pairs = map separator_of c.pairs }
+content_of c = record {
+  pieces = map piece_of c.pieces;
+  parcels = map parcel_of c.parcels;
+  pairs =
+      map separator_of c.pairs;
+}
 
 -- the text of a certificate
 abbrev pub cert_text : Cert → List ℕ

@@ -1,6 +1,7 @@
 -- The first fault of a text, line by line.
 use Rattle.std.specs.Str.{bytes_eq}
-use Rattle.std.specs.Prelude.{◌≡◌, ℕ, zero, suc, ◌+◌, Bool, cond, ◌&&◌, ◌==◌, List, [], ◌∷◌, length, Result, Ok, Err, nat_le}
+use Rattle.std.specs.Prelude.{◌≡◌, ℕ, zero, suc, ◌+◌, Bool, cond, ◌&&◌, ◌==◌, List, [], ◌∷◌, length}
+use Rattle.std.specs.Prelude.{Result, Ok, Err, nat_le}
 use Rattle.std.specs.List.{slice_split}
 use Rattle.lpis_cert.specs.declared.kind.Stage.{Stage}
 use Rattle.lpis_cert.specs.declared.kind.Stage.TheVariants as stage
@@ -23,8 +24,8 @@ pub record Declared : Type 0 where
 abbrev pub none_declared : Declared
 none_declared = record { triangles = 0; flats = 0 }
 
--- What can stand next: in a body, which blocks may begin, and the triangle lines and flat lines that the block still
--- wants; in the pairs, the lines that are still wanted.
+-- What can stand next: in a body, which blocks may begin, and the triangle lines and flat lines
+-- that the block still wants; in the pairs, the lines that are still wanted.
 pub data Place : Type 0 where
   AtVersion : Place
   InBody : Stage → ℕ → ℕ → Declared → Place
@@ -32,7 +33,8 @@ pub data Place : Type 0 where
   AtEnd : Place
 
 abbrev pub within : Declared → Place → Result Place CertCode
-within d next = cond (nat_le d.triangles most_triangles && nat_le d.flats most_flats) (Ok next) (Err code.TooMany)
+within d next = cond (nat_le d.triangles most_triangles && nat_le d.flats most_flats) (Ok next)
+    (Err code.TooMany)
 
 abbrev pub grow : Declared → ℕ → ℕ → Declared
 grow d t f = record { triangles = d.triangles + t; flats = d.flats + f }
@@ -49,9 +51,12 @@ open_block d _ = Err code.BadPlace
 
 -- the place after a line, or the line's fault
 unfoldable pub step : Place → List ℕ → Result Place CertCode
-step AtVersion line = cond (bytes_eq line (first_line written)) (Ok (InBody stage.Pieces 0 0 none_declared)) (Err code.Version)
-step (InBody b (suc t) f d) line = read_line written (One kind.Triangle) line >>= λ _. Ok (InBody b t f d)
-step (InBody b zero (suc f) d) line = read_line written (One kind.Flat) line >>= λ _. Ok (InBody b zero f d)
+step AtVersion line = cond (bytes_eq line (first_line written))
+    (Ok (InBody stage.Pieces 0 0 none_declared)) (Err code.Version)
+step (InBody b (suc t) f d) line = read_line written (One kind.Triangle) line >>= λ _. Ok
+    (InBody b t f d)
+step (InBody b zero (suc f) d) line = read_line written (One kind.Flat) line >>= λ _. Ok
+    (InBody b zero f d)
 step (InBody b zero zero d) line = read_line written (Block b) line >>= open_block d
 step (InPairs (suc n)) line = read_line written (One kind.Pair) line >>= λ _. Ok (InPairs n)
 step (InPairs zero) line = read_line written (One kind.End) line >>= λ _. Ok AtEnd

@@ -3,7 +3,8 @@ use Rattle.std.specs.Prelude.{◌≤◌, ◌≡◌, true}
 use Rattle.lpis_points.specs.Range.{IsInRange}
 use Rattle.lpis_covers.specs.Ids.{is_id}
 use Rattle.lpis_cert.specs.Limits.{greatest_count, last_edge}
-use Rattle.lpis_cert.specs.CertText.{Corners, Separator, Line, PieceLine, TriangleLine, FlatLine, ParcelLine, PairsLine, PairLine, EndLine}
+use Rattle.lpis_cert.specs.CertText.{Corners, Separator, Line, PieceLine, TriangleLine, FlatLine}
+use Rattle.lpis_cert.specs.CertText.{ParcelLine, PairsLine, PairLine, EndLine}
 
 pub record CornersFit (c : Corners) : Type 0 where
   pub x1 : IsInRange c.x1

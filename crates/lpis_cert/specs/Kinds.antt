@@ -1,7 +1,9 @@
 -- The kinds of lines.
 use Rattle.lpis_cert.specs.declared.kind.Kind.{Kind}
-use Rattle.lpis_cert.specs.declared.kind.Kind.TheVariants.{Piece, Triangle, Flat, Parcel, Pairs, Pair, End}
-use Rattle.lpis_cert.specs.CertText.{Line, PieceLine, TriangleLine, FlatLine, ParcelLine, PairsLine, PairLine, EndLine}
+use Rattle.lpis_cert.specs.declared.kind.Kind.TheVariants.{Piece, Triangle, Flat, Parcel, Pairs}
+use Rattle.lpis_cert.specs.declared.kind.Kind.TheVariants.{Pair, End}
+use Rattle.lpis_cert.specs.CertText.{Line, PieceLine, TriangleLine, FlatLine, ParcelLine, PairsLine}
+use Rattle.lpis_cert.specs.CertText.{PairLine, EndLine}
 
 abbrev pub line_kind : Line → Kind
 line_kind (PieceLine id t f) = Piece

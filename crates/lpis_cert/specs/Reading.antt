@@ -1,5 +1,7 @@
 -- What one line says, or its fault.
-use Rattle.std.specs.Prelude.{ℕ, zero, suc, ◌+◌, ◌*◌, Bool, true, false, cond, ◌&&◌, ◌==◌, List, [], ◌∷◌, length, ℤ, pos, neg_ℤ, Option, Some, None, Result, Ok, Err, codes, nat_le}
+use Rattle.std.specs.Prelude.{ℕ, zero, suc, ◌+◌, ◌*◌, Bool, true, false, cond, ◌&&◌, ◌==◌, List, []}
+use Rattle.std.specs.Prelude.{◌∷◌, length, ℤ, pos, neg_ℤ, Option, Some, None, Result, Ok, Err}
+use Rattle.std.specs.Prelude.{codes, nat_le}
 use Rattle.std.specs.List.{slice_split, list_any}
 use Rattle.std.specs.Char.{is_ascii_digit, digit_value}
 use Rattle.std.specs.Str.{bytes_eq}
@@ -8,13 +10,15 @@ use Rattle.lpis_cert.specs.declared.kind.Stage.TheVariants as stage
 use Rattle.lpis_cert.specs.declared.fault.CertCode.{CertCode}
 use Rattle.lpis_cert.specs.declared.fault.CertCode.TheVariants as code
 use Rattle.lpis_cert.specs.declared.kind.Kind.{Kind}
-use Rattle.lpis_cert.specs.declared.kind.Kind.TheVariants.{Piece, Triangle, Flat, Parcel, Pairs, Pair, End}
+use Rattle.lpis_cert.specs.declared.kind.Kind.TheVariants.{Piece, Triangle, Flat, Parcel, Pairs}
+use Rattle.lpis_cert.specs.declared.kind.Kind.TheVariants.{Pair, End}
 use Rattle.lpis_cert.specs.declared.kind.Expected.{Expected}
 use Rattle.lpis_cert.specs.declared.kind.Expected.TheVariants.{One, Block}
 use Rattle.lpis_cert.specs.declared.version.Version.{Version}
 use Rattle.lpis_cert.specs.Limits.{greatest_count, last_edge}
 use Rattle.lpis_cert.specs.Versions.{greatest, factor}
-use Rattle.lpis_cert.specs.CertText.{Corners, Separator, Line, PieceLine, TriangleLine, FlatLine, ParcelLine, PairsLine, PairLine, EndLine}
+use Rattle.lpis_cert.specs.CertText.{Corners, Separator, Line, PieceLine, TriangleLine, FlatLine}
+use Rattle.lpis_cert.specs.CertText.{ParcelLine, PairsLine, PairLine, EndLine}
 
 infixl 10 ◌>>=◌
 abbrev pub ◌>>=◌ : {A B E : Type 0} → Result A E → (A → Result B E) → Result B E
@@ -31,12 +35,14 @@ None >>? f = None
 -- the number that digits go on with, where it is at most the limit
 abbrev pub digits_on : ℕ → ℕ → List ℕ → Option ℕ
 digits_on limit n [] = Some n
-digits_on limit n (d ∷ ds) = cond (is_ascii_digit d && nat_le (n * 10 + digit_value d) limit) (digits_on limit (n * 10 + digit_value d) ds) None
+digits_on limit n (d ∷ ds) = cond (is_ascii_digit d && nat_le (n * 10 + digit_value d) limit)
+    (digits_on limit (n * 10 + digit_value d) ds) None
 
 -- `0`, or digits that don't begin with 0
 unfoldable pub number : ℕ → List ℕ → Option ℕ
 number limit [] = None
-number limit (d ∷ ds) = cond (d == 48) (cond (length ds == 0) (Some 0) None) (digits_on limit 0 (d ∷ ds))
+number limit (d ∷ ds) = cond (d == 48) (cond (length ds == 0) (Some 0) None)
+    (digits_on limit 0 (d ∷ ds))
 
 abbrev pub below_zero : Version → ℕ → Option ℤ
 below_zero v zero = None
@@ -53,7 +59,8 @@ plus v (Some n) = Some (pos (n * factor v))
 -- the same, or `-` and digits that don't begin with 0, in centimetres
 unfoldable pub coordinate : Version → List ℕ → Option ℤ
 coordinate v [] = None
-coordinate v (d ∷ ds) = cond (d == 45) (minus v (number (greatest v) ds)) (plus v (number (greatest v) (d ∷ ds)))
+coordinate v (d ∷ ds) = cond (d == 45) (minus v (number (greatest v) ds))
+    (plus v (number (greatest v) (d ∷ ds)))
 
 -- ---- words
 
@@ -148,21 +155,25 @@ last x [] = Some x
 last x (w ∷ ws) = None
 
 unfoldable pub point : Version → List (List ℕ) → Option ((ℤ × ℤ) × List (List ℕ))
-point v ws = front (coordinate v) ws >>? λ x. front (coordinate v) x.1 >>? λ y. Some ((x.0, y.0), y.1)
+point v ws = front (coordinate v) ws >>? λ x. front (coordinate v) x.1 >>? λ y. Some
+    ((x.0, y.0), y.1)
 
 unfoldable pub corners : Version → List (List ℕ) → Option Corners
 corners v ws = point v ws >>? λ a. point v a.1 >>? λ b. point v b.1 >>? λ c.
     last (record { x1 = a.0.0; y1 = a.0.1; x2 = b.0.0; y2 = b.0.1; x3 = c.0.0; y3 = c.0.1 }) c.1
 
 unfoldable pub separator : List (List ℕ) → Option Separator
-separator ws = front natural ws >>? λ i. front natural i.1 >>? λ j. front (number last_edge) j.1 >>? λ k.
+separator ws = front natural ws >>? λ i. front natural i.1 >>? λ j. front (number last_edge) j.1 >>?
+    λ k.
     last (record { i = i.0; j = j.0; k = k.0 }) k.1
 
 unfoldable pub piece_line : List (List ℕ) → Option Line
-piece_line ws = front (λ w. Some w) ws >>? λ id. front natural id.1 >>? λ t. front natural t.1 >>? λ f. last (PieceLine id.0 t.0 f.0) f.1
+piece_line ws = front (λ w. Some w) ws >>? λ id. front natural id.1 >>? λ t. front natural t.1 >>?
+    λ f. last (PieceLine id.0 t.0 f.0) f.1
 
 unfoldable pub parcel_line : List (List ℕ) → Option Line
-parcel_line ws = front (λ w. Some w) ws >>? λ id. front natural id.1 >>? λ f. last (ParcelLine id.0 f.0) f.1
+parcel_line ws = front (λ w. Some w) ws >>? λ id. front natural id.1 >>? λ f. last
+    (ParcelLine id.0 f.0) f.1
 
 unfoldable pub pairs_line : List (List ℕ) → Option Line
 pairs_line ws = front natural ws >>? λ n. last (PairsLine n.0) n.1
@@ -178,7 +189,8 @@ values v End ws = last EndLine ws
 
 -- ---- a line, with its faults in their order
 
-abbrev pub with_form : Expected → Option (Kind × List (List ℕ)) → Result (Kind × List (List ℕ)) CertCode
+abbrev pub with_form : Expected → Option (Kind × List (List ℕ)) → Result (Kind × List (List ℕ))
+    CertCode
 with_form e None = Err code.LineForm
 with_form e (Some p) = cond (can_stand e p.0) (Ok p) (Err code.BadPlace)
 

@@ -7,7 +7,8 @@ ghost use Rattle.lpis_cert.specs.declared.kind.Stage.TheVariants as stage;
 ghost use Rattle.lpis_cert.specs.CertText.{PieceLine, ParcelLine, PairsLine, lines_of};
 ghost use Rattle.lpis_cert.specs.private.Taken.{Follows, FaultFrom};
 ghost use Rattle.lpis_cert.specs.Contents.{content_of};
-ghost use Rattle.lpis_cert.specs.private.Drafts.{DraftGrown, Progressed, Whole, place_of, draft_lines};
+ghost use Rattle.lpis_cert.specs.private.Drafts.{DraftGrown, Progressed, Whole, place_of};
+ghost use Rattle.lpis_cert.specs.private.Drafts.{draft_lines};
 
 use crate::cert::{Cert, MOST_FLATS, MOST_TRIANGLES};
 use crate::draft::{Draft, Progress};
@@ -51,7 +52,8 @@ fn parcel_part(id: Id, flats: Vec<Triangle>) -> ParcelPart
 /// The certificate of all its parts.
 fn cert_of(pieces: Vec<PiecePart>, parcels: Vec<ParcelPart>, pairs: Vec<PairLine>) -> Cert
     requires triangles_few { sum_by (λ p. length p.triangles) pieces.items ≤ most_triangles }
-    requires flats_few { sum_by (λ p. length p.flats) pieces.items + sum_by (λ p. length p.flats) parcels.items ≤ most_flats }
+    requires flats_few { sum_by (λ p. length p.flats) pieces.items + sum_by (λ p. length p.flats)
+        parcels.items ≤ most_flats }
     requires pairs_few { length pairs.items ≤ greatest_count }
     ensures pieces { result.pieces ≡ pieces.items }
     ensures parcels { result.parcels ≡ parcels.items }
@@ -74,10 +76,12 @@ fn piece_block<'a>(
     start: Rest<'a>,
     after: Rest<'a>,
 ) -> Result<(Draft, Rest<'a>), CertFault>
-    requires begins { Follows start.text.now start.line (PieceLine id triangle_count flat_count ∷ []) after.text.now after.line }
+    requires begins { Follows start.text.now start.line (PieceLine id triangle_count flat_count ∷ [])
+        after.text.now after.line }
     requires named { is_id id ≡ true }
     requires fresh { draft.stage ≡ stage.Pieces }
-    ensures ok { IfOk result (λ x. DraftGrown draft x.0 start.entry.text.now start.entry.line x.1.text.now x.1.line) }
+    ensures ok { IfOk result (λ x. DraftGrown draft x.0 start.entry.text.now start.entry.line x.1.text.now
+        x.1.line) }
     ensures err { IfErr result (λ e. FaultFrom e start.entry.line (place_of draft) start.entry.text.now) }
 {
     let Draft {
@@ -117,9 +121,11 @@ fn parcel_block<'a>(
     start: Rest<'a>,
     after: Rest<'a>,
 ) -> Result<(Draft, Rest<'a>), CertFault>
-    requires begins { Follows start.text.now start.line (ParcelLine id flat_count ∷ []) after.text.now after.line }
+    requires begins { Follows start.text.now start.line (ParcelLine id flat_count ∷ [])
+        after.text.now after.line }
     requires named { is_id id ≡ true }
-    ensures ok { IfOk result (λ x. DraftGrown draft x.0 start.entry.text.now start.entry.line x.1.text.now x.1.line) }
+    ensures ok { IfOk result (λ x. DraftGrown draft x.0 start.entry.text.now start.entry.line x.1.text.now
+        x.1.line) }
     ensures err { IfErr result (λ e. FaultFrom e start.entry.line (place_of draft) start.entry.text.now) }
 {
     let Draft {
@@ -157,7 +163,8 @@ fn finish(
     after: Rest<'_>,
 ) -> Result<Cert, CertFault>
     requires { Follows start.text.now start.line (PairsLine count ∷ []) after.text.now after.line }
-    ensures ok { IfOk result (λ cert. Whole (draft_lines draft) (lines_of (content_of cert)) start.entry.text.now) }
+    ensures ok { IfOk result (λ cert. Whole (draft_lines draft) (lines_of (content_of cert))
+        start.entry.text.now) }
     ensures err { IfErr result (λ e. FaultFrom e start.entry.line (place_of draft) start.entry.text.now) }
 {
     let (pairs, last) = pair_lines(alloc, count, after)?;

@@ -12,14 +12,16 @@ pub const MOST_TRIANGLES: u64 = 2_000_000;
 /// The most flats of a certificate, of its pieces and parcels together.
 pub const MOST_FLATS: u64 = 2_000_000;
 
-/// The evidence that a release is sound: its pieces and parcels in parts, and the separators of near pairs. Triangles are numbered from
-/// 0 over all pieces, in order. The type keeps the limits of the text.
+/// The evidence that a release is sound: its pieces and parcels in parts, and the separators of
+/// near pairs. Triangles are numbered from 0 over all pieces, in order. The type keeps the limits
+/// of the text.
 #[derive(Debug, Drop)]
 pub struct Cert {
     pub pieces: Sequence<PiecePart>,
     pub parcels: Sequence<ParcelPart>,
     pub pairs: Sequence<PairLine>,
     pub ghost triangles_few: { sum_by (λ p. length p.triangles) pieces ≤ most_triangles },
-    pub ghost flats_few: { sum_by (λ p. length p.flats) pieces + sum_by (λ p. length p.flats) parcels ≤ most_flats },
+    pub ghost flats_few: { sum_by (λ p. length p.flats) pieces + sum_by (λ p. length p.flats)
+        parcels ≤ most_flats },
     pub ghost pairs_few: { length pairs ≤ greatest_count },
 }

@@ -18,7 +18,8 @@ pub(crate) struct Draft {
     pub triangles: u64,
     pub flats: u64,
     pub ghost triangles_counted: { triangles ≡ sum_by (λ p. length p.triangles) pieces.items },
-    pub ghost flats_counted: { flats ≡ sum_by (λ p. length p.flats) pieces.items + sum_by (λ p. length p.flats) parcels.items },
+    pub ghost flats_counted: { flats ≡ sum_by (λ p. length p.flats) pieces.items + sum_by
+        (λ p. length p.flats) parcels.items },
     pub ghost triangles_few: { triangles ≤ most_triangles },
     pub ghost flats_few: { flats ≤ most_flats },
     pub ghost no_parcels: { stage ≡ Pieces → length parcels.items ≡ 0 },

@@ -3,7 +3,9 @@
 ghost use Rattle.std.specs.Prelude.{◌≡◌, ◌≤◌, Some, None, MatchOption, option_map};
 ghost use Rattle.lpis_points.specs.Range.{IsInRange};
 ghost use Rattle.lpis_cert.specs.Limits.{greatest_count};
-ghost use Rattle.lpis_cert.specs.Reading.{front, number as number_of, coordinate as coordinate_of, point as point_of, corners as corners_in, separator as separator_in};
+ghost use Rattle.lpis_cert.specs.Reading.{front, number as number_of, coordinate as coordinate_of};
+ghost use Rattle.lpis_cert.specs.Reading.{point as point_of, corners as corners_in};
+ghost use Rattle.lpis_cert.specs.Reading.{separator as separator_in};
 ghost use Rattle.lpis_cert.specs.Contents.{corners_of, separator_of};
 
 use crate::number::{coordinate, number};
@@ -19,7 +21,8 @@ pub const GREATEST_COUNT: u64 = 4_294_967_295;
 const LAST_EDGE: u64 = 5;
 
 fn next_coordinate(version: Version, words: &mut Words<'_>) -> Option<i64>
-    ensures { MatchOption result (front (coordinate_of version) words.old ≡ None) (λ z. (front (coordinate_of version) words.old ≡ Some (z, words.new)) × IsInRange z) }
+    ensures { MatchOption result (front (coordinate_of version) words.old ≡ None)
+        (λ z. (front (coordinate_of version) words.old ≡ Some (z, words.new)) × IsInRange z) }
 {
     match words.next() {
         None => None,
@@ -29,7 +32,8 @@ fn next_coordinate(version: Version, words: &mut Words<'_>) -> Option<i64>
 
 #[tactic(auto, unfolding(crate::specs::Reading::point))]
 fn next_point(version: Version, words: &mut Words<'_>) -> Option<Point>
-    ensures { MatchOption result (point_of version words.old ≡ None) (λ p. point_of version words.old ≡ Some ((p.x, p.y), words.new)) }
+    ensures { MatchOption result (point_of version words.old ≡ None)
+        (λ p. point_of version words.old ≡ Some ((p.x, p.y), words.new)) }
 {
     let x = next_coordinate(version, words)?;
     let y = next_coordinate(version, words)?;
@@ -53,7 +57,8 @@ pub(crate) fn corners(version: Version, mut words: Words<'_>) -> Option<Triangle
 /// The next word as a number, if it is at most the limit.
 pub(crate) fn next_number(words: &mut Words<'_>, limit: u64) -> Option<u64>
     requires { limit ≤ greatest_count }
-    ensures { MatchOption result (front (number_of limit) words.old ≡ None) (λ n. (front (number_of limit) words.old ≡ Some (n, words.new)) × (n ≤ limit)) }
+    ensures { MatchOption result (front (number_of limit) words.old ≡ None)
+        (λ n. (front (number_of limit) words.old ≡ Some (n, words.new)) × (n ≤ limit)) }
 {
     match words.next() {
         None => None,

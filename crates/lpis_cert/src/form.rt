@@ -1,7 +1,9 @@
 //! The form of a line.
 
 ghost use Rattle.std.specs.Prelude.{◌≡◌, option_map, IfOk, IfErr, Ok, Err};
-ghost use Rattle.lpis_cert.specs.Reading.{form, kind_of as kind_named, words, word_count as count_of_words, names as named_right, can_stand as may_stand, placed as placed_line};
+ghost use Rattle.lpis_cert.specs.Reading.{form, kind_of as kind_named, words};
+ghost use Rattle.lpis_cert.specs.Reading.{word_count as count_of_words, names as named_right};
+ghost use Rattle.lpis_cert.specs.Reading.{can_stand as may_stand, placed as placed_line};
 
 use crate::fault::CertCode;
 use crate::kind::{Expected, Kind, Stage};

@@ -1,6 +1,7 @@
 //! Laws of the text alone.
 
-ghost use Rattle.std.specs.Prelude.{◌≡◌, ◌≤◌, ◌<◌, ◌++◌, ◌↔◌, ℕ, ◌+◌, List, length, Some, Ok, Err, true};
+ghost use Rattle.std.specs.Prelude.{◌≡◌, ◌≤◌, ◌<◌, ◌++◌, ◌↔◌, ℕ, ◌+◌, List, length, Some, Ok, Err};
+ghost use Rattle.std.specs.Prelude.{true};
 ghost use Rattle.std.specs.Fmt.{decimal};
 ghost use Rattle.lpis_cert.specs.Limits.{number_margin};
 ghost use Rattle.lpis_cert.specs.Versions.{written};
@@ -24,23 +25,29 @@ pub fn texts_have_no_fault()
     ensures { (c : Cert) → verdict (cert_text c) ≡ Ok (2 + length (lines_of (content_of c))) }
 {}
 
-/// A text without a fault is a certificate's: a text is refused for its fault, or it has a certificate.
+/// A text without a fault is a certificate's: a text is refused for its fault, or it has a
+/// certificate.
 pub fn texts_without_fault()
-    ensures { (text : List ℕ) (after : ℕ) → verdict text ≡ Ok after → (c : Cert) × (text ≡ cert_text c) }
+    ensures { (text : List ℕ) (after : ℕ) → verdict text ≡ Ok after → (c : Cert)
+        × (text ≡ cert_text c) }
 {}
 
 /// A text without a fault that was cut off lacks its next line, or that line's end.
 pub fn cut_texts()
-    ensures { (front back : List ℕ) (after : ℕ) → verdict (front ++ back) ≡ Ok after → 0 < length back → verdict front ≡ Err (code.Truncated, length (lines front)) }
+    ensures { (front back : List ℕ) (after : ℕ) → verdict (front ++ back) ≡ Ok after
+        → 0 < length back → verdict front ≡ Err (code.Truncated, length (lines front)) }
 {}
 
 /// A line that can stand is read exactly where it is spelled.
 pub fn spelled_lines()
-    ensures again { (e : Expected) (l : Line) → LineFits l → can_stand e (line_kind l) ≡ true → read_line written e (spelling l) ≡ Ok l }
-    ensures takes { (e : Expected) (line : List ℕ) (l : Line) → read_line written e line ≡ Ok l → line ≡ spelling l }
+    ensures again { (e : Expected) (l : Line) → LineFits l → can_stand e (line_kind l) ≡ true
+        → read_line written e (spelling l) ≡ Ok l }
+    ensures takes { (e : Expected) (line : List ℕ) (l : Line) → read_line written e line ≡ Ok l
+        → line ≡ spelling l }
 {}
 
 /// A number has one spelling.
 pub fn canonical_numbers()
-    ensures { (limit : ℕ) (w : List ℕ) (n : ℕ) → limit ≤ number_margin → (number limit w ≡ Some n) ↔ ((w ≡ decimal n) × (n ≤ limit)) }
+    ensures { (limit : ℕ) (w : List ℕ) (n : ℕ) → limit ≤ number_margin → (number limit w ≡ Some n)
+        ↔ ((w ≡ decimal n) × (n ≤ limit)) }
 {}

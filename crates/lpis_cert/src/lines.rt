@@ -1,12 +1,15 @@
 //! Lines of one kind.
 
-ghost use Rattle.std.specs.Prelude.{◌≡◌, ℕ, List, [], ◌∷◌, ◌++◌, map, length, Some, None, MatchResult, IfOk, IfErr};
+ghost use Rattle.std.specs.Prelude.{◌≡◌, ℕ, [], ◌∷◌, ◌++◌, map, length, Some, None};
+ghost use Rattle.std.specs.Prelude.{MatchResult, IfOk, IfErr};
 ghost use Rattle.lpis_cert.specs.CertText.{PairLine as separator_line, EndLine};
-ghost use Rattle.lpis_cert.specs.declared.kind.Expected.TheVariants.{One, Block};
+ghost use Rattle.lpis_cert.specs.declared.kind.Expected.TheVariants.{One};
 ghost use Rattle.lpis_cert.specs.declared.kind.Kind.TheVariants as kind;
 ghost use Rattle.lpis_cert.specs.declared.kind.Stage.{Stage};
 ghost use Rattle.lpis_cert.specs.Faults.{Declared, InPairs};
-ghost use Rattle.lpis_cert.specs.private.Taken.{Placed, LineFault, Follows, FaultFrom, corner_kind as kind_of_corners, corner_line as line_of_corners, wanting};
+ghost use Rattle.lpis_cert.specs.private.Taken.{Placed, LineFault, Follows, FaultFrom};
+ghost use Rattle.lpis_cert.specs.private.Taken.{corner_kind as kind_of_corners};
+ghost use Rattle.lpis_cert.specs.private.Taken.{corner_line as line_of_corners, wanting};
 ghost use Rattle.lpis_cert.specs.Contents.{corners_of, all_corners, separator_of};
 
 use crate::fault::{CertCode, CertFault};
@@ -27,7 +30,8 @@ pub(crate) fn placed_line(
     expected: Expected,
     rest: Rest<'_>,
 ) -> Result<(Kind, Words<'_>, Rest<'_>), CertFault>
-    ensures { MatchResult result (λ x. Placed expected rest.entry.text.now rest.entry.line x.0 x.1 x.2.text.now x.2.line) (λ e. LineFault e rest.entry.line expected rest.entry.text.now) }
+    ensures { MatchResult result (λ x. Placed expected rest.entry.text.now rest.entry.line x.0 x.1
+        x.2.text.now x.2.line) (λ e. LineFault e rest.entry.line expected rest.entry.text.now) }
 {
     let Some((line, after)) = front_line(rest) else {
         return Err(CertFault::At {
@@ -52,7 +56,10 @@ fn corner_kind(flat: bool) -> Kind
 
 /// A triangle line or a flat line.
 pub(crate) fn corner_line(flat: bool, rest: Rest<'_>) -> Result<(Triangle, Rest<'_>), CertFault>
-    ensures { MatchResult result (λ x. Follows rest.entry.text.now rest.entry.line (line_of_corners flat (corners_of x.0) ∷ []) x.1.text.now x.1.line) (λ e. LineFault e rest.entry.line (One (kind_of_corners flat)) rest.entry.text.now) }
+    ensures { MatchResult result
+        (λ x. Follows rest.entry.text.now rest.entry.line
+        (line_of_corners flat (corners_of x.0) ∷ []) x.1.text.now x.1.line)
+        (λ e. LineFault e rest.entry.line (One (kind_of_corners flat)) rest.entry.text.now) }
 {
     if let Some((triangle, text)) = leading_corners(flat, rest.text) {
         let after = Rest {
@@ -78,9 +85,12 @@ pub(crate) fn corner_lines(
     count: u32,
     rest: Rest<'_>,
 ) -> Result<(Vec<Triangle>, Rest<'_>), CertFault>
-    ensures ok { IfOk result (λ x. Follows rest.entry.text.now rest.entry.line (map (line_of_corners flat) (all_corners x.0.items)) x.1.text.now x.1.line) }
+    ensures ok { IfOk result
+        (λ x. Follows rest.entry.text.now rest.entry.line
+        (map (line_of_corners flat) (all_corners x.0.items)) x.1.text.now x.1.line) }
     ensures count { IfOk result (λ x. length x.0.items ≡ count) }
-    ensures err { IfErr result (λ e. (s : Stage) (f : ℕ) (d : Declared) → FaultFrom e rest.entry.line (wanting flat count s f d) rest.entry.text.now) }
+    ensures err { IfErr result (λ e. (s : Stage) (f : ℕ) (d : Declared)
+        → FaultFrom e rest.entry.line (wanting flat count s f d) rest.entry.text.now) }
 {
     let mut triangles = Vec::new(alloc);
     let mut left = rest;
@@ -94,7 +104,10 @@ pub(crate) fn corner_lines(
 
 /// A pair line.
 pub(crate) fn pair_line(rest: Rest<'_>) -> Result<(PairLine, Rest<'_>), CertFault>
-    ensures { MatchResult result (λ x. Follows rest.entry.text.now rest.entry.line (separator_line (separator_of x.0) ∷ []) x.1.text.now x.1.line) (λ e. LineFault e rest.entry.line (One kind.Pair) rest.entry.text.now) }
+    ensures { MatchResult result
+        (λ x. Follows rest.entry.text.now rest.entry.line (separator_line (separator_of x.0) ∷ [])
+        x.1.text.now x.1.line)
+        (λ e. LineFault e rest.entry.line (One kind.Pair) rest.entry.text.now) }
 {
     let (_, words, after) = placed_line(Expected::One(Kind::Pair), rest)?;
     match separator(words) {
@@ -112,7 +125,9 @@ pub(crate) fn pair_lines(
     count: u32,
     rest: Rest<'_>,
 ) -> Result<(Vec<PairLine>, Rest<'_>), CertFault>
-    ensures ok { IfOk result (λ x. Follows rest.entry.text.now rest.entry.line (map separator_line (map separator_of x.0.items)) x.1.text.now x.1.line) }
+    ensures ok { IfOk result
+        (λ x. Follows rest.entry.text.now rest.entry.line
+        (map separator_line (map separator_of x.0.items)) x.1.text.now x.1.line) }
     ensures count { IfOk result (λ x. length x.0.items ≡ count) }
     ensures err { IfErr result (λ e. FaultFrom e rest.entry.line (InPairs count) rest.entry.text.now) }
 {
@@ -128,7 +143,8 @@ pub(crate) fn pair_lines(
 
 /// The last line.
 pub(crate) fn end_line(rest: Rest<'_>) -> Result<Rest<'_>, CertFault>
-    ensures { MatchResult result (λ x. Follows rest.entry.text.now rest.entry.line (EndLine ∷ []) x.text.now x.line) (λ e. LineFault e rest.entry.line (One kind.End) rest.entry.text.now) }
+    ensures { MatchResult result (λ x. Follows rest.entry.text.now rest.entry.line (EndLine ∷ [])
+        x.text.now x.line) (λ e. LineFault e rest.entry.line (One kind.End) rest.entry.text.now) }
 {
     let (_, mut words, after) = placed_line(Expected::One(Kind::End), rest)?;
     match words.next() {

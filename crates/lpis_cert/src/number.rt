@@ -1,6 +1,6 @@
 //! Numbers of one spelling.
 
-ghost use Rattle.std.specs.Prelude.{◌≡◌, ◌≤◌, ℕ, IfSome};
+ghost use Rattle.std.specs.Prelude.{◌≡◌, ◌≤◌, IfSome};
 ghost use Rattle.lpis_points.specs.Range.{IsInRange};
 ghost use Rattle.lpis_cert.specs.Limits.{number_margin};
 ghost use Rattle.lpis_cert.specs.Reading.{number, digits_on, coordinate};

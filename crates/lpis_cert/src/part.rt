@@ -25,7 +25,8 @@ pub struct ParcelPart {
     pub ghost named: { is_id id ≡ true },
 }
 
-/// A pair of triangles by their numbers, and an edge that separates them: 0 to 2 of triangle `i`, 3 to 5 of triangle `j`.
+/// A pair of triangles by their numbers, and an edge that separates them: 0 to 2 of triangle `i`, 3
+/// to 5 of triangle `j`.
 #[derive(Clone, Copy, Debug, PartialEq, Eq)]
 pub struct PairLine {
     pub i: u32,

@@ -1,4 +1,5 @@
-//! Lines of corners as they are usually written, read in one pass. What is refused here is looked at again word by word.
+//! Lines of corners as they are usually written, read in one pass. What is refused here is looked
+//! at again word by word.
 
 ghost use Rattle.std.specs.Prelude.{◌≡◌, ◌<◌, ◌≤◌, ◌++◌, ◌∷◌, cond, get_or, IfSome};
 ghost use Rattle.std.specs.Fmt.{decimal, signed_decimal};
@@ -72,7 +73,8 @@ fn leading_number(text: &[u8], end: u8, limit: u64) -> Option<(u64, &[u8])>
 /// The coordinate that a word up to a byte spells.
 fn leading_coordinate(text: &[u8], end: u8) -> Option<(i64, &[u8])>
     requires { end < 48 }
-    ensures { IfSome result (λ x. Begins text.now (signed_decimal x.0) end x.1.now × IsInRange x.0) }
+    ensures { IfSome result (λ x. Begins text.now (signed_decimal x.0) end x.1.now
+        × IsInRange x.0) }
 {
     let limit = Version::One.greatest();
     match text {
@@ -90,7 +92,8 @@ fn leading_coordinate(text: &[u8], end: u8) -> Option<(i64, &[u8])>
 /// The point that two words spell, the second up to a byte.
 fn leading_point(text: &[u8], end: u8) -> Option<(Point, &[u8])>
     requires { end < 48 }
-    ensures { IfSome result (λ p. text.now ≡ signed_decimal p.0.x ++ (32 ∷ (signed_decimal p.0.y ++ (end ∷ p.1.now)))) }
+    ensures { IfSome result (λ p. text.now ≡ signed_decimal p.0.x
+        ++ (32 ∷ (signed_decimal p.0.y ++ (end ∷ p.1.now)))) }
 {
     let (x, after) = leading_coordinate(text, b' ')?;
     let (y, rest) = leading_coordinate(after, end)?;
@@ -99,7 +102,12 @@ fn leading_point(text: &[u8], end: u8) -> Option<(Point, &[u8])>
 
 /// The corners that a line spells from its second word on, and the text after its end.
 fn leading_triangle(text: &[u8]) -> Option<(Triangle, &[u8])>
-    ensures { IfSome result (λ t. text.now ≡ signed_decimal t.0.a.x ++ (32 ∷ (signed_decimal t.0.a.y ++ (32 ∷ (signed_decimal t.0.b.x ++ (32 ∷ (signed_decimal t.0.b.y ++ (32 ∷ (signed_decimal t.0.c.x ++ (32 ∷ (signed_decimal t.0.c.y ++ (10 ∷ t.1.now)))))))))))) }
+    ensures { IfSome result (λ t. text.now ≡ signed_decimal t.0.a.x
+        ++ (32 ∷ (signed_decimal t.0.a.y
+        ++ (32 ∷ (signed_decimal t.0.b.x
+        ++ (32 ∷ (signed_decimal t.0.b.y
+        ++ (32 ∷ (signed_decimal t.0.c.x
+        ++ (32 ∷ (signed_decimal t.0.c.y ++ (10 ∷ t.1.now)))))))))))) }
 {
     let (a, second) = leading_point(text, b' ')?;
     let (b, third) = leading_point(second, b' ')?;
@@ -115,7 +123,8 @@ fn letter(flat: bool) -> u8
 
 /// A triangle line or a flat line, and the text after its end.
 pub(crate) fn leading_corners(flat: bool, text: &[u8]) -> Option<(Triangle, &[u8])>
-    ensures { IfSome result (λ t. Begins text.now (spelling (corner_line flat (corners_of t.0))) 10 t.1.now) }
+    ensures { IfSome result (λ t. Begins text.now (spelling (corner_line flat (corners_of t.0))) 10
+        t.1.now) }
 {
     let after = skip(text, letter(flat))?;
     let fields = skip(after, b' ')?;

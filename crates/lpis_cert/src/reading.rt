@@ -1,11 +1,12 @@
 //! A certificate from its text.
 
-ghost use Rattle.std.specs.Prelude.{◌≡◌, ◌∷◌, ◌++◌, [], length, false, IfOk, IfErr, MatchResult};
+ghost use Rattle.std.specs.Prelude.{◌≡◌, ◌∷◌, ◌++◌, [], IfOk, IfErr, MatchResult};
 ghost use Rattle.lpis_cert.specs.declared.kind.Stage.TheVariants.{Pieces};
 ghost use Rattle.lpis_cert.specs.CertText.{text_of_lines, lines_of};
 ghost use Rattle.lpis_cert.specs.Versions.{first_line, written};
 ghost use Rattle.std.specs.Str.{bytes_eq};
-ghost use Rattle.lpis_cert.specs.Faults.{AtVersion, InBody, lines, outcome, verdict, IsFirstFault, none_declared};
+ghost use Rattle.lpis_cert.specs.Faults.{AtVersion, InBody, lines, outcome, IsFirstFault};
+ghost use Rattle.lpis_cert.specs.Faults.{none_declared};
 ghost use Rattle.lpis_cert.specs.private.Taken.{FaultFrom};
 ghost use Rattle.lpis_cert.specs.Contents.{cert_text, content_of};
 ghost use Rattle.lpis_cert.specs.private.Drafts.{draft_lines, place_of};
@@ -28,7 +29,10 @@ fn is_first_line(line: &[u8]) -> bool
 
 /// What comes after the first line.
 fn after_version(rest: Rest<'_>) -> Result<Rest<'_>, CertFault>
-    ensures { MatchResult result (λ x. (rest.entry.text.now ≡ first_line written ++ (10 ∷ x.text.now)) × (outcome rest.entry.line AtVersion (lines rest.entry.text.now) ≡ outcome x.line (InBody Pieces 0 0 none_declared) (lines x.text.now))) (λ e. FaultFrom e rest.entry.line AtVersion rest.entry.text.now) }
+    ensures { MatchResult result (λ x. (rest.entry.text.now ≡ first_line written ++ (10 ∷ x.text.now))
+        × (outcome rest.entry.line AtVersion (lines rest.entry.text.now) ≡ outcome x.line
+        (InBody Pieces 0 0 none_declared) (lines x.text.now)))
+        (λ e. FaultFrom e rest.entry.line AtVersion rest.entry.text.now) }
 {
     let Some((line, after)) = front_line(rest) else {
         return Err(CertFault::At {
@@ -62,7 +66,8 @@ fn no_blocks(alloc: Global) -> Draft
 /// The certificate of the lines after the first.
 fn read_blocks(alloc: Global, start: Rest<'_>) -> Result<Cert, CertFault>
     ensures ok { IfOk result (λ cert. start.entry.text.now ≡ text_of_lines (lines_of (content_of cert))) }
-    ensures err { IfErr result (λ e. FaultFrom e start.entry.line (InBody Pieces 0 0 none_declared) start.entry.text.now) }
+    ensures err { IfErr result (λ e. FaultFrom e start.entry.line (InBody Pieces 0 0 none_declared)
+        start.entry.text.now) }
 {
     let mut draft = no_blocks(alloc);
     let mut rest = start;
@@ -97,7 +102,8 @@ pub fn read_cert(alloc: Global, bytes: &[u8]) -> Result<Cert, CertFault>
     // What is read is the certificate whose text this is.
     ensures found { IfOk result (λ cert. bytes.now ≡ cert_text cert) }
     // A certificate is read from its text, unless memory runs out.
-    ensures only { (cert : Cert) → bytes.now ≡ cert_text cert → MatchResult result (λ read. read ≡ cert) (λ e. e ≡ CertFault.Memory) }
+    ensures only { (cert : Cert) → bytes.now ≡ cert_text cert
+        → MatchResult result (λ read. read ≡ cert) (λ e. e ≡ CertFault.Memory) }
     // A fault is the first fault of the text.
     ensures fault { IfErr result (λ e. IsFirstFault e bytes.now) }
 {

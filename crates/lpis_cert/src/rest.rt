@@ -14,7 +14,8 @@ pub(crate) struct Rest<'a> {
 
 /// The first line, and what comes after its end.
 pub(crate) fn front_line(rest: Rest<'_>) -> Option<(&[u8], Rest<'_>)>
-    ensures { MatchOption result (lines rest.entry.text.now ≡ rest.entry.text.now ∷ []) (λ x. TakesLine rest.entry.text.now rest.entry.line x.0.now x.1.text.now x.1.line) }
+    ensures { MatchOption result (lines rest.entry.text.now ≡ rest.entry.text.now ∷ [])
+        (λ x. TakesLine rest.entry.text.now rest.entry.line x.0.now x.1.text.now x.1.line) }
 {
     match line_end(rest.text) {
         None => None,

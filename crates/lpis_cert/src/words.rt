@@ -1,6 +1,7 @@
 //! The words of a line.
 
-ghost use Rattle.std.specs.Prelude.{◌≡◌, ◌∷◌, [], MatchOption, position, None, Some, cond, length, List, ℕ};
+ghost use Rattle.std.specs.Prelude.{◌≡◌, ◌∷◌, [], MatchOption, position, None, Some, cond, length};
+ghost use Rattle.std.specs.Prelude.{List, ℕ};
 ghost use Rattle.std.specs.List.{list_any};
 ghost use Rattle.lpis_cert.specs.Reading.{is_gap, is_empty, words};
 
@@ -37,7 +38,8 @@ impl<'a> Words<'a> {
 
     /// The next word, which stays.
     pub(crate) fn front(&self) -> Option<&'a [u8]>
-        ensures { MatchOption result (self.now ≡ []) (λ w. (rest : List (List ℕ)) × (self.now ≡ w.now ∷ rest)) }
+        ensures { MatchOption result (self.now ≡ []) (λ w. (rest : List (List ℕ))
+            × (self.now ≡ w.now ∷ rest)) }
     {
         if !self.more {
             return None;
@@ -49,7 +51,8 @@ impl<'a> Words<'a> {
     }
 
     pub(crate) fn next(&mut self) -> Option<&'a [u8]>
-        ensures { MatchOption result ((self.old ≡ []) × (self.new ≡ [])) (λ w. self.old ≡ w.now ∷ self.new) }
+        ensures { MatchOption result ((self.old ≡ []) × (self.new ≡ []))
+            (λ w. self.old ≡ w.now ∷ self.new) }
     {
         if !self.more {
             return None;
@@ -71,7 +74,8 @@ impl<'a> Words<'a> {
 
 /// How many words a line has, if none is empty.
 pub(crate) fn count(line: &[u8]) -> Option<usize>
-    ensures { result ≡ cond (list_any is_empty (words line.now)) None (Some (length (words line.now))) }
+    ensures { result ≡ cond (list_any is_empty (words line.now)) None
+        (Some (length (words line.now))) }
 {
     let mut gaps = 0;
     let mut in_word = false;

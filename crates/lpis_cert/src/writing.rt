@@ -1,12 +1,14 @@
 //! The text of a certificate.
 
-ghost use Rattle.std.specs.Prelude.{◌≡◌, ◌∷◌, [], ◌++◌, OnOk, Bool, length};
+ghost use Rattle.std.specs.Prelude.{◌≡◌, ◌∷◌, [], ◌++◌, OnOk, length};
 ghost use Rattle.std.specs.List.{flat_map};
 ghost use Rattle.std.specs.Io.KnownBytes.{Appends};
-ghost use Rattle.lpis_cert.specs.CertText.{PairLine as separator_line, PieceLine, ParcelLine, PairsLine, EndLine};
+ghost use Rattle.lpis_cert.specs.CertText.{PairLine as separator_line, PieceLine, ParcelLine};
+ghost use Rattle.lpis_cert.specs.CertText.{PairsLine, EndLine};
 ghost use Rattle.lpis_cert.specs.private.Taken.{corner_line};
 ghost use Rattle.lpis_cert.specs.Contents.{corners_of, separator_of, cert_text};
-ghost use Rattle.lpis_cert.specs.private.Written.{line_text, corners_text, piece_text, parcel_text, pairs_text, tail_text, version_text, parts_text};
+ghost use Rattle.lpis_cert.specs.private.Written.{line_text, corners_text, piece_text, parcel_text};
+ghost use Rattle.lpis_cert.specs.private.Written.{pairs_text, tail_text, version_text, parts_text};
 
 use crate::cert::Cert;
 use crate::part::{PairLine, ParcelPart, PiecePart};
@@ -38,7 +40,8 @@ impl From<io::Error> for WriteFault {
 
 #[tactic(auto, unfolding(crate::specs::private::Written::line_text, crate::specs::CertText::spelling, crate::specs::CertText::words_of, crate::specs::CertText::text_of_lines))]
 fn write_pair<W: Write>(pair: PairLine, out: &mut W) -> Result<(), WriteFault>
-    ensures { OnOk result (Appends (W.contents out.old) (W.contents out.new) (line_text (separator_line (separator_of pair)))) }
+    ensures { OnOk result (Appends (W.contents out.old) (W.contents out.new)
+        (line_text (separator_line (separator_of pair)))) }
 {
     let PairLine { i, j, k } = pair;
     write!(out, "s {i} {j} {k}\n")?;
@@ -47,7 +50,8 @@ fn write_pair<W: Write>(pair: PairLine, out: &mut W) -> Result<(), WriteFault>
 
 #[tactic(auto, unfolding(crate::specs::private::Written::line_text, crate::specs::CertText::spelling, crate::specs::CertText::words_of, crate::specs::CertText::text_of_lines))]
 fn write_corners<W: Write>(flat: bool, t: Triangle, out: &mut W) -> Result<(), WriteFault>
-    ensures { OnOk result (Appends (W.contents out.old) (W.contents out.new) (line_text (corner_line flat (corners_of t)))) }
+    ensures { OnOk result (Appends (W.contents out.old) (W.contents out.new)
+        (line_text (corner_line flat (corners_of t)))) }
 {
     let (x1, y1, x2, y2, x3, y3) = (t.a.x, t.a.y, t.b.x, t.b.y, t.c.x, t.c.y);
     if flat {
@@ -63,7 +67,8 @@ fn write_all_corners<W: Write>(
     triangles: &[Triangle],
     out: &mut W,
 ) -> Result<(), WriteFault>
-    ensures { OnOk result (Appends (W.contents out.old) (W.contents out.new) (corners_text flat triangles.now)) }
+    ensures { OnOk result (Appends (W.contents out.old) (W.contents out.new)
+        (corners_text flat triangles.now)) }
 {
     for t in triangles {
         write_corners(flat, *t, out)?;
@@ -73,7 +78,8 @@ fn write_all_corners<W: Write>(
 
 #[tactic(auto, unfolding(crate::specs::private::Written::line_text, crate::specs::CertText::spelling, crate::specs::CertText::words_of, crate::specs::CertText::text_of_lines))]
 fn write_piece_line<W: Write>(piece: &PiecePart, out: &mut W) -> Result<(), WriteFault>
-    ensures { OnOk result (Appends (W.contents out.old) (W.contents out.new) (line_text (PieceLine piece.now.id (length piece.now.triangles) (length piece.now.flats)))) }
+    ensures { OnOk result (Appends (W.contents out.old) (W.contents out.new)
+        (line_text (PieceLine piece.now.id (length piece.now.triangles) (length piece.now.flats)))) }
 {
     let id = piece.id.as_str();
     let triangles = piece.triangles.as_slice().len();
@@ -92,7 +98,8 @@ fn write_piece<W: Write>(piece: &PiecePart, out: &mut W) -> Result<(), WriteFaul
 
 #[tactic(auto, unfolding(crate::specs::private::Written::line_text, crate::specs::CertText::spelling, crate::specs::CertText::words_of, crate::specs::CertText::text_of_lines))]
 fn write_parcel_line<W: Write>(parcel: &ParcelPart, out: &mut W) -> Result<(), WriteFault>
-    ensures { OnOk result (Appends (W.contents out.old) (W.contents out.new) (line_text (ParcelLine parcel.now.id (length parcel.now.flats)))) }
+    ensures { OnOk result (Appends (W.contents out.old) (W.contents out.new)
+        (line_text (ParcelLine parcel.now.id (length parcel.now.flats)))) }
 {
     let id = parcel.id.as_str();
     let flats = parcel.flats.as_slice().len();
@@ -108,7 +115,8 @@ fn write_parcel<W: Write>(parcel: &ParcelPart, out: &mut W) -> Result<(), WriteF
 }
 
 fn write_pieces<W: Write>(pieces: &[PiecePart], out: &mut W) -> Result<(), WriteFault>
-    ensures { OnOk result (Appends (W.contents out.old) (W.contents out.new) (flat_map piece_text pieces.now)) }
+    ensures { OnOk result (Appends (W.contents out.old) (W.contents out.new)
+        (flat_map piece_text pieces.now)) }
 {
     for piece in pieces {
         write_piece(piece, out)?;
@@ -117,7 +125,8 @@ fn write_pieces<W: Write>(pieces: &[PiecePart], out: &mut W) -> Result<(), Write
 }
 
 fn write_parcels<W: Write>(parcels: &[ParcelPart], out: &mut W) -> Result<(), WriteFault>
-    ensures { OnOk result (Appends (W.contents out.old) (W.contents out.new) (flat_map parcel_text parcels.now)) }
+    ensures { OnOk result (Appends (W.contents out.old) (W.contents out.new)
+        (flat_map parcel_text parcels.now)) }
 {
     for parcel in parcels {
         write_parcel(parcel, out)?;
@@ -136,7 +145,8 @@ fn write_pairs<W: Write>(pairs: &[PairLine], out: &mut W) -> Result<(), WriteFau
 
 #[tactic(auto, unfolding(crate::specs::private::Written::line_text, crate::specs::CertText::spelling, crate::specs::CertText::words_of, crate::specs::CertText::text_of_lines))]
 fn write_pairs_line<W: Write>(count: usize, out: &mut W) -> Result<(), WriteFault>
-    ensures { OnOk result (Appends (W.contents out.old) (W.contents out.new) (line_text (PairsLine count))) }
+    ensures { OnOk result (Appends (W.contents out.old) (W.contents out.new)
+        (line_text (PairsLine count))) }
 {
     write!(out, "pairs {count}\n")?;
     Ok(())
@@ -168,7 +178,8 @@ fn write_tail<W: Write>(cert: &Cert, out: &mut W) -> Result<(), WriteFault>
 }
 
 fn write_from_parcels<W: Write>(cert: &Cert, out: &mut W) -> Result<(), WriteFault>
-    ensures { OnOk result (Appends (W.contents out.old) (W.contents out.new) (flat_map parcel_text cert.now.parcels ++ tail_text cert.now)) }
+    ensures { OnOk result (Appends (W.contents out.old) (W.contents out.new)
+        (flat_map parcel_text cert.now.parcels ++ tail_text cert.now)) }
 {
     write_parcels(cert.parcels.as_slice(), out)?;
     write_tail(cert, out)

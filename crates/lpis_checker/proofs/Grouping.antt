@@ -23,7 +23,13 @@ edge_total = then_total (on_total (λ (x : SignedEdge). x.low) point_total) (the
 -- edges of which neither is less than one with the ends of the other
 edge_tie : (x y z : SignedEdge) → is_lt (edge_order y x) ≡ false → is_lt (edge_order z y) ≡ false → x.low ≡ z.low → x.high ≡ z.high → same_ends x y ≡ true
 edge_tie x y z h k e f =
-    let k' : is_lt (ordering_then (point_order x.low y.low) (ordering_then (point_order x.high y.high) (bool_cmp z.forward y.forward))) ≡ false = ap₂ (λ (p q : Point). is_lt (ordering_then (point_order p y.low) (ordering_then (point_order q y.high) (bool_cmp z.forward y.forward)))) e f ∙ k in
+    let k' : is_lt
+    (ordering_then (point_order x.low y.low)
+    (ordering_then (point_order x.high y.high) (bool_cmp z.forward y.forward))) ≡ false =
+    ap₂
+    (λ (p q : Point). is_lt
+    (ordering_then (point_order p y.low) (ordering_then (point_order q y.high) (bool_cmp z.forward y.forward)))) e f
+    ∙ k in
     let r = point_tie x.low y.low (ordering_then (point_order x.high y.high) (bool_cmp z.forward y.forward)) (ordering_then (point_order y.high x.high) (bool_cmp y.forward x.forward)) k' h in
     let s = point_tie x.high y.high (bool_cmp z.forward y.forward) (bool_cmp y.forward x.forward) r.1 r.2 in
     (both_same x.low y.low x.high y.high).1 (r.0, s.0)

@@ -1,5 +1,6 @@
 -- Sums over signed edges are net counts.
-use Rattle.std.proofs.Common.{◌≡◌, ◌≢◌, ℤ, pos, negsuc, ◌+ℤ◌, ◌-ℤ◌, neg_ℤ, Bool, true, false, not, ◌&&◌, cond, List, [], ◌∷◌, ◌++◌, Some, None, inl, inr, ap, ap₂, sym, refl, ◌∙◌, ◌↔◌, IsTrue, subst, arith}
+use Rattle.std.proofs.Common.{◌≡◌, ◌≢◌, ℤ, pos, negsuc, ◌+ℤ◌, ◌-ℤ◌, neg_ℤ, Bool, true, false, not, ◌&&◌, cond, List, [], ◌∷◌, ◌++◌, Some, None, inl, inr, ap, ap₂, sym, refl, ◌∙◌, ◌↔◌, IsTrue, subst}
+use Rattle.std.proofs.Common.{arith}
 use Rattle.std.proofs.lemmas.Int.{ints}
 use Rattle.lpis_points.specs.declared.point.Point.{Point}
 use Rattle.lpis_points.specs.declared.triangle.Triangle.{Triangle}
@@ -68,9 +69,14 @@ weighted false false z e = omega (arith, ints)
 -- what a signed edge adds
 edge_adds : (a b : Point) (t : Bool) (e : SignedEdge) → IsSigned a b t (Some e) → (p q : Point) → cond (is_at p q e) (weight e) (pos 0) ≡ signed_by t (adds p q a b)
 edge_adds a b t e (inl h) p q =
-    ap₂ (λ (u v : Point). cond (same_point p u && same_point q v) (weight e) (pos 0)) h.1 h.2 ∙ ap (λ (w : Bool). cond (same_point p a && same_point q b) (cond w (pos 1) (negsuc 0)) (pos 0)) h.3 ∙ weighted (same_point p a && same_point q b) t (adds p q a b) (straight p q a b h.0)
+    ap₂ (λ (u v : Point). cond (same_point p u && same_point q v) (weight e) (pos 0)) h.1 h.2
+    ∙ ap (λ (w : Bool). cond (same_point p a && same_point q b) (cond w (pos 1) (negsuc 0)) (pos 0)) h.3
+    ∙ weighted (same_point p a && same_point q b) t (adds p q a b) (straight p q a b h.0)
 edge_adds a b t e (inr h) p q =
-    ap₂ (λ (u v : Point). cond (same_point p u && same_point q v) (weight e) (pos 0)) h.1 h.2 ∙ ap (λ (w : Bool). cond (same_point p b && same_point q a) (cond w (pos 1) (negsuc 0)) (pos 0)) h.3 ∙ weighted (same_point p b && same_point q a) (not t) (adds p q b a) (straight p q b a h.0) ∙ flipped t (adds p q a b) (adds p q b a) (turned p q a b)
+    ap₂ (λ (u v : Point). cond (same_point p u && same_point q v) (weight e) (pos 0)) h.1 h.2
+    ∙ ap (λ (w : Bool). cond (same_point p b && same_point q a) (cond w (pos 1) (negsuc 0)) (pos 0)) h.3
+    ∙ weighted (same_point p b && same_point q a) (not t) (adds p q b a) (straight p q b a h.0)
+    ∙ flipped t (adds p q a b) (adds p q b a) (turned p q a b)
   where
     flipped : (t : Bool) (z w : ℤ) → w ≡ neg_ℤ z → signed_by (not t) w ≡ signed_by t z
     flipped true z w e = omega (arith, ints)
@@ -103,14 +109,20 @@ one_count p q a b = alone (is_low p q) (is_edge same_point p q a b -ℤ is_edge 
 pub pushed : (t : Bool) (a b : Point) (e : SignedEdge) (xs ys : List SignedEdge) → IsSigned a b t (Some e) → ys ≡ xs ++ e ∷ [] → Grows t ((a, b) ∷ []) xs ys
 pushed t a b e xs ys h k = record {
   sums = λ p q.
-      ap (sum_at p q) k ∙ sum_at-append p q xs (e ∷ []) ∙ ap (λ (z : ℤ). sum_at p q xs +ℤ z) (last (cond (is_at p q e) (weight e) (pos 0)) ∙ edge_adds a b t e h p q ∙ sym (ap (signed_by t) (one_count p q a b)));
+      ap (sum_at p q) k ∙ sum_at-append p q xs (e ∷ []) ∙ ap (λ (z : ℤ). sum_at p q xs +ℤ z)
+      (last (cond (is_at p q e) (weight e) (pos 0)) ∙ edge_adds a b t e h p q
+      ∙ sym (ap (signed_by t) (one_count p q a b)));
 }
   where
     last : (z : ℤ) → z +ℤ pos 0 ≡ z
     last z = omega (arith, ints)
 
 pub passed : (t : Bool) (a b : Point) (xs ys : List SignedEdge) → IsSigned a b t None → ys ≡ xs → Grows t ((a, b) ∷ []) xs ys
-passed t a b xs ys h k = record { sums = λ p q. same (sum_at p q xs) (sum_at p q ys) (signed_by t (low_count p q ((a, b) ∷ []))) (ap (sum_at p q) k) (ap (signed_by t) (one_count p q a b) ∙ loop_adds a b t h p q) }
+passed t a b xs ys h k =
+    record {
+      sums = λ p q. same (sum_at p q xs) (sum_at p q ys) (signed_by t (low_count p q ((a, b) ∷ [])))
+          (ap (sum_at p q) k) (ap (signed_by t) (one_count p q a b) ∙ loop_adds a b t h p q);
+    }
   where
     same : (s r z : ℤ) → r ≡ s → z ≡ pos 0 → r ≡ s +ℤ z
     same s r z e f = omega (arith, ints)
@@ -119,7 +131,9 @@ passed t a b xs ys h k = record { sums = λ p q. same (sum_at p q xs) (sum_at p 
 pub low_count-append : (p q : Point) (es fs : List (Point × Point)) → low_count p q (es ++ fs) ≡ low_count p q es +ℤ low_count p q fs
 low_count-append p q es fs = by (is_low p q) (edge_sum-append (λ u v. is_edge same_point p q u v -ℤ is_edge same_point q p u v) es fs)
   where
-    by : (l : Bool) → net_count same_point p q (es ++ fs) ≡ net_count same_point p q es +ℤ net_count same_point p q fs → cond l (net_count same_point p q (es ++ fs)) (pos 0) ≡ cond l (net_count same_point p q es) (pos 0) +ℤ cond l (net_count same_point p q fs) (pos 0)
+    by : (l : Bool) → net_count same_point p q (es ++ fs) ≡ net_count same_point p q es +ℤ net_count same_point p q fs
+        → cond l (net_count same_point p q (es ++ fs)) (pos 0) ≡ cond l (net_count same_point p q es) (pos 0) +ℤ cond l
+        (net_count same_point p q fs) (pos 0)
     by true e = e
     by false e = refl
 
@@ -132,7 +146,12 @@ signed-append t p q es fs = signed_sum t (low_count p q es) (low_count p q fs) (
 
 -- one list after another
 pub grows_then : (t : Bool) (es fs : List (Point × Point)) (xs ys zs : List SignedEdge) → Grows t es xs ys → Grows t fs ys zs → Grows t (es ++ fs) xs zs
-grows_then t es fs xs ys zs h k = record { sums = λ p q. by (sum_at p q xs) (sum_at p q ys) (sum_at p q zs) (signed_by t (low_count p q es)) (signed_by t (low_count p q fs)) (signed_by t (low_count p q (es ++ fs))) (h.sums p q) (k.sums p q) (signed-append t p q es fs) }
+grows_then t es fs xs ys zs h k =
+    record {
+      sums = λ p q. by (sum_at p q xs) (sum_at p q ys) (sum_at p q zs) (signed_by t (low_count p q es))
+          (signed_by t (low_count p q fs)) (signed_by t (low_count p q (es ++ fs))) (h.sums p q) (k.sums p q)
+          (signed-append t p q es fs);
+    }
   where
     by : (a b c x y z : ℤ) → b ≡ a +ℤ x → c ≡ b +ℤ y → z ≡ x +ℤ y → c ≡ a +ℤ z
     by a b c x y z e f g = omega (arith, ints)
@@ -145,13 +164,23 @@ pub growing_none : (t : Bool) (left all : List (Point × Point)) (xs : List Sign
 growing_none t left all xs e = record { sums = λ p q. ap (λ (es : List (Point × Point)). sum_at p q xs +ℤ signed_by t (low_count p q es)) e }
 
 pub growing_more : (t : Bool) (es left next all : List (Point × Point)) (xs ys zs : List SignedEdge) → left ≡ es ++ next → Growing t left all xs ys → Grows t es ys zs → Growing t next all xs zs
-growing_more t es left next all xs ys zs e h k = record { sums = λ p q. by (sum_at p q ys) (sum_at p q zs) (signed_by t (low_count p q es)) (signed_by t (low_count p q next)) (signed_by t (low_count p q left)) (sum_at p q xs +ℤ signed_by t (low_count p q all)) (h.sums p q) (k.sums p q) (ap (λ (fs : List (Point × Point)). signed_by t (low_count p q fs)) e ∙ signed-append t p q es next) }
+growing_more t es left next all xs ys zs e h k =
+    record {
+      sums = λ p q. by (sum_at p q ys) (sum_at p q zs) (signed_by t (low_count p q es))
+          (signed_by t (low_count p q next)) (signed_by t (low_count p q left))
+          (sum_at p q xs +ℤ signed_by t (low_count p q all)) (h.sums p q) (k.sums p q)
+          (ap (λ (fs : List (Point × Point)). signed_by t (low_count p q fs)) e ∙ signed-append t p q es next);
+    }
   where
     by : (b c x y z w : ℤ) → b +ℤ z ≡ w → c ≡ b +ℤ x → z ≡ x +ℤ y → c +ℤ y ≡ w
     by b c x y z w e f g = omega (arith, ints)
 
 pub growing_all : (t : Bool) (left all : List (Point × Point)) (xs ys : List SignedEdge) → left ≡ [] → Growing t left all xs ys → Grows t all xs ys
-growing_all t left all xs ys e h = record { sums = λ p q. by t (is_low p q) (sum_at p q ys) (sum_at p q xs +ℤ signed_by t (low_count p q all)) (ap (λ (fs : List (Point × Point)). sum_at p q ys +ℤ signed_by t (low_count p q fs)) (sym e) ∙ h.sums p q) }
+growing_all t left all xs ys e h =
+    record {
+      sums = λ p q. by t (is_low p q) (sum_at p q ys) (sum_at p q xs +ℤ signed_by t (low_count p q all))
+          (ap (λ (fs : List (Point × Point)). sum_at p q ys +ℤ signed_by t (low_count p q fs)) (sym e) ∙ h.sums p q);
+    }
   where
     by : (t l : Bool) (b w : ℤ) → b +ℤ signed_by t (cond l (pos 0) (pos 0)) ≡ w → b ≡ w
     by true true b w e = omega (arith, ints)
@@ -209,7 +238,9 @@ zero_when_same es fs xs ys h k = (
     less x y s e f = omega (arith, ints)
 
 -- one list added to nothing and two taken away
-pub cancels_when_same : (b : Bool) (es fs gs : List (Point × Point)) (none xs ys zs : List SignedEdge) → none ≡ [] → Grows true es none xs → Grows false fs xs ys → Grows false gs ys zs → (IsTrue b ↔ SumsAreZero zs) → IsTrue b ↔ SameNet same_point es (fs ++ gs)
+pub cancels_when_same : (b : Bool) (es fs gs : List (Point × Point)) (none xs ys zs : List SignedEdge) → none ≡ []
+    → Grows true es none xs → Grows false fs xs ys → Grows false gs ys zs → (IsTrue b ↔ SumsAreZero zs) → IsTrue b
+    ↔ SameNet same_point es (fs ++ gs)
 cancels_when_same b es fs gs none xs ys zs e h k l c =
     let z = zero_when_same es (fs ++ gs) xs zs (subst (λ (us : List SignedEdge). Grows true es us xs) e h) (grows_then false fs gs xs ys zs k l) in
     (λ t. z.0 (c.0 t), λ s. c.1 (z.1 s))

@@ -64,12 +64,16 @@ in_release r k x e t h = (corner_of_release r k x t.a e h.0, corner_of_release r
 all_in_release : (r : Contents) (k : ℕ) (x : Piece) → slice_get r.pieces k ≡ Some x → (ts : List Triangle) → HaveCorners (corners_of x.polygon) ts → HaveCorners (all_corners r) ts
 all_in_release r k x e ts h = all_from (HasCorners (all_corners r)) ts (λ m t f. in_release r k x e t (all_at (HasCorners (corners_of x.polygon)) ts m t f h))
 
-pub turns_add : (r : Contents) (c : Cert) → HoldsEverywhere r c Names → HoldsEverywhere r c Triangles → HoldsEverywhere r c Turned → HoldsEverywhere r c Flats → HoldsEverywhere r c Corners → HoldsEverywhere r c PieceEdges → HoldsEverywhere r c ParcelEdges → TurnsAdd r c
+pub turns_add : (r : Contents) (c : Cert) → HoldsEverywhere r c Names → HoldsEverywhere r c Triangles
+    → HoldsEverywhere r c Turned → HoldsEverywhere r c Flats → HoldsEverywhere r c Corners
+    → HoldsEverywhere r c PieceEdges → HoldsEverywhere r c ParcelEdges → TurnsAdd r c
 turns_add r c ids triangles turned flats corners piece_net parcel_net = record {
   pieces = λ p d off k x t e f.
       let g = good_parts r c triangles turned flats piece_net k x t e f in
       let h = all_in_release r k x e (t.triangles ++ t.flats) (corners (PieceAt k) x t e f) in
-      piece_turns (edges_of x.polygon) t.triangles t.flats (record { ccw = g.ccw; flat = g.flat; net = g.net }) p d (off_turned r p off t.triangles (all_left (HasCorners (all_corners r)) t.triangles t.flats h) g.ccw) (off_flat r p off t.flats (all_right (HasCorners (all_corners r)) t.triangles t.flats h) g.flat);
+      piece_turns (edges_of x.polygon) t.triangles t.flats (record { ccw = g.ccw; flat = g.flat; net = g.net }) p d
+      (off_turned r p off t.triangles (all_left (HasCorners (all_corners r)) t.triangles t.flats h) g.ccw)
+      (off_flat r p off t.flats (all_right (HasCorners (all_corners r)) t.triangles t.flats h) g.flat);
   parcels = λ p d. all_from (λ (x : Parcel). turns x.polygon p ≡ turns_of_pieces (pieces_named r x.id) p) r.parcels (λ k x e.
       parcel_turns r x (good_parcel r c ids flats parcel_net k x e) p d ∙ turns_total (pieces_named r x.id) p);
 }

@@ -1,4 +1,5 @@
--- The pair lines: they ascend, each names two triangles, and a walk beside the near pairs finds the first that no line names.
+-- The pair lines: they ascend, each names two triangles, and a walk beside the near pairs finds the first that no line
+-- names.
 use Rattle.std.proofs.Common.{◌≡◌, ℕ, zero, suc, ◌+◌, ◌<◌, ◌≤◌, Bool, false, IsTrue, ◌↔◌, List, length, get_or, Some, ◌⊎◌, inl, inr, ap, sym, refl, ◌∙◌, subst, arith}
 use Rattle.std.proofs.lemmas.Bool.{cases_eq, cases_lt}
 use Rattle.std.specs.List.{slice_get}
@@ -52,7 +53,9 @@ lines_ascend r c h k (suc m) p q l e f = by (split l) (λ x w g. lines_ascend r 
         below_trans p.i p.j x.i x.j q.i q.j (rec x s g) (o.after m x next g)
 
 -- ---- the triangles that a line names
-pub line_bounds : (r : Contents) (c : Cert) (ts : List Triangle) → HoldsEverywhere r c Names → ts ≡ triangles_of c.pieces → (k : ℕ) (l : PairLine) → slice_get c.pairs k ≡ Some l → (l.i < length ts) × (l.j < length ts)
+pub line_bounds : (r : Contents) (c : Cert) (ts : List Triangle) → HoldsEverywhere r c Names
+    → ts ≡ triangles_of c.pieces → (k : ℕ) (l : PairLine) → slice_get c.pairs k ≡ Some l → (l.i < length ts)
+    × (l.j < length ts)
 line_bounds r c ts h e k l f =
     let o : IsInOrder c k l = h (LineAt k) l f in
     let j : l.j < length ts = subst (λ (us : List Triangle). l.j < length us) (sym e) o.within in
@@ -60,7 +63,8 @@ line_bounds r c ts h e k l f =
     (omega arith, j)
 
 -- a test of the two triangles
-pub of_two : (ts : List Triangle) (i j : ℕ) (P : Triangle → Triangle → Type 0) (b : Bool) (t u : Triangle) → slice_get ts i ≡ Some t → slice_get ts j ≡ Some u → (IsTrue b ↔ P t u) → IsTrue b ↔ OfTwo ts i j P
+pub of_two : (ts : List Triangle) (i j : ℕ) (P : Triangle → Triangle → Type 0) (b : Bool) (t u : Triangle)
+    → slice_get ts i ≡ Some t → slice_get ts j ≡ Some u → (IsTrue b ↔ P t u) → IsTrue b ↔ OfTwo ts i j P
 of_two ts i j P b t u e f h = (
   λ y v w g k. subst (λ (z : Triangle). P v z) (same_Some u w (sym f ∙ k)) (subst (λ (z : Triangle). P z u) (same_Some t v (sym e ∙ g)) (h.0 y)),
   λ w. h.1 (w t u e f),
@@ -70,7 +74,8 @@ of_two ts i j P b t u e f h = (
 pub near_two : (ts us : List Triangle) (i j : ℕ) (b : Bool) → ts ≡ us → i < j → (i < length ts) × (j < length ts) → (IsTrue b ↔ OfTwo ts i j (λ t u. are_apart t u ≡ false)) → IsTrue b ↔ IsNear us i j
 near_two ts us i j b same rising within h = subst (λ (vs : List Triangle). IsTrue b ↔ IsNear vs i j) same (
   λ y. to (item-within ts i within.0) (item-within ts j within.1) y,
-  λ n. h.1 (λ t u e f. subst (λ (z : Triangle). are_apart t z ≡ false) (same_Some n.u u (sym n.at_j ∙ f)) (subst (λ (z : Triangle). are_apart z n.u ≡ false) (same_Some n.t t (sym n.at_i ∙ e)) n.near)),
+  λ n. h.1 (λ t u e f. subst (λ (z : Triangle). are_apart t z ≡ false) (same_Some n.u u (sym n.at_j ∙ f))
+      (subst (λ (z : Triangle). are_apart z n.u ≡ false) (same_Some n.t t (sym n.at_i ∙ e)) n.near)),
 )
   where
     to : (t : Triangle) × (slice_get ts i ≡ Some t) → (u : Triangle) × (slice_get ts j ≡ Some u) → IsTrue b → IsNear ts i j
@@ -92,7 +97,9 @@ pub record Skips (c : Cert) (from at i j : ℕ) : Type 0 where
   pub before : (m : ℕ) (l : PairLine) → from ≤ m → m < at → slice_get c.pairs m ≡ Some l → IsBelow l.i l.j i j
   pub stop : (l : PairLine) → slice_get c.pairs at ≡ Some l → IsBelow l.i l.j i j → ⊥
 
-pub skips_over : (c : Cert) (lines : List PairLine) (from at i j : ℕ) → lines ≡ c.pairs → at ≤ length lines → ((m : ℕ) (l : PairLine) → from ≤ m → m < at → slice_get lines m ≡ Some l → IsBelow l.i l.j i j) → ((l : PairLine) → slice_get lines at ≡ Some l → IsBelow l.i l.j i j → ⊥) → Skips c from at i j
+pub skips_over : (c : Cert) (lines : List PairLine) (from at i j : ℕ) → lines ≡ c.pairs → at ≤ length lines
+    → ((m : ℕ) (l : PairLine) → from ≤ m → m < at → slice_get lines m ≡ Some l → IsBelow l.i l.j i j)
+    → ((l : PairLine) → slice_get lines at ≡ Some l → IsBelow l.i l.j i j → ⊥) → Skips c from at i j
 skips_over c lines from at i j e high before stop = record {
   high = subst (λ (ls : List PairLine). at ≤ length ls) e high;
   before = λ m l p q f. before m l p q (ap (λ (ls : List PairLine). slice_get ls m) e ∙ f);
@@ -103,7 +110,9 @@ abbrev pub NamesAt : List PairLine → ℕ → ℕ → ℕ → Type 0
 NamesAt lines at i j = (l : PairLine) × (slice_get lines at ≡ Some l) × (l.i ≡ i) × (l.j ≡ j)
 
 -- the lines below the next place stand before the pair
-skipped : (c : Cert) (near : List (ℕ × ℕ)) (from at k : ℕ) (p : ℕ × ℕ) → WalkAt c near from k → slice_get near k ≡ Some p → Skips c from at p.0 p.1 → (m : ℕ) (l : PairLine) → m < at → slice_get c.pairs m ≡ Some l → IsBelow l.i l.j p.0 p.1
+skipped : (c : Cert) (near : List (ℕ × ℕ)) (from at k : ℕ) (p : ℕ × ℕ) → WalkAt c near from k
+    → slice_get near k ≡ Some p → Skips c from at p.0 p.1 → (m : ℕ) (l : PairLine) → m < at
+    → slice_get c.pairs m ≡ Some l → IsBelow l.i l.j p.0 p.1
 skipped c near from at k p w e s m l h f = by (cases_lt m from)
   where
     least : k ≤ k
@@ -113,7 +122,9 @@ skipped c near from at k p w e s m l h f = by (cases_lt m from)
     by (inl g) = w.behind m l k p g f least e
     by (inr g) = s.before m l g h f
 
-pub walk_more : (c : Cert) (ts : List Triangle) (near : List (ℕ × ℕ)) → IsNearList ts near → (from at k : ℕ) (p : ℕ × ℕ) → WalkAt c near from k → slice_get near k ≡ Some p → Skips c from at p.0 p.1 → NamesAt c.pairs at p.0 p.1 → WalkAt c near at (k + 1)
+pub walk_more : (c : Cert) (ts : List Triangle) (near : List (ℕ × ℕ)) → IsNearList ts near → (from at k : ℕ) (p : ℕ × ℕ)
+    → WalkAt c near from k → slice_get near k ≡ Some p → Skips c from at p.0 p.1 → NamesAt c.pairs at p.0 p.1
+    → WalkAt c near at (k + 1)
 walk_more c ts near law from at k p w e s named = record {
   within = s.high;
   behind = λ m l n q h f g i. below_trans l.i l.j p.0 p.1 q.0 q.1 (skipped c near from at k p w e s m l h f) (law.ascending k n p q (later n g) e i);
@@ -133,7 +144,9 @@ walk_more c ts near law from at k p w e s named = record {
         subst (λ (z : ℕ × ℕ). IsNamed c.pairs z.0 z.1) same (at, named.0, named.1, named.2, named.3)
 
 -- past the last near pair each is named
-pub walk_all : (r : Contents) (c : Cert) (ts : List Triangle) (near : List (ℕ × ℕ)) → ts ≡ triangles_of c.pieces → IsNearList ts near → (at k : ℕ) → length near ≤ k → WalkAt c near at k → (i j : ℕ) → Holds r c NearPairs (PairAt i j)
+pub walk_all : (r : Contents) (c : Cert) (ts : List Triangle) (near : List (ℕ × ℕ)) → ts ≡ triangles_of c.pieces
+    → IsNearList ts near → (at k : ℕ) → length near ≤ k → WalkAt c near at k → (i j : ℕ)
+    → Holds r c NearPairs (PairAt i j)
 walk_all r c ts near numbered law at k l w i j n =
     let x = law.all i j (subst (λ (us : List Triangle). IsNear us i j) (sym numbered) n) in
     let within = slice_get_within near x.0 (i, j) x.1 in
@@ -143,7 +156,10 @@ walk_all r c ts near numbered law at k l w i j n =
     below m g = omega arith
 
 -- a near pair that the line at the next place doesn't name is the first that none names
-pub walk_fault : (r : Contents) (c : Cert) (ts : List Triangle) (near : List (ℕ × ℕ)) → HoldsEverywhere r c Names → ts ≡ triangles_of c.pieces → IsNearList ts near → (from at k : ℕ) (p : ℕ × ℕ) → WalkAt c near from k → slice_get near k ≡ Some p → Skips c from at p.0 p.1 → (NamesAt c.pairs at p.0 p.1 → ⊥) → IsFirst r c NearPairs (PairAt p.0 p.1)
+pub walk_fault : (r : Contents) (c : Cert) (ts : List Triangle) (near : List (ℕ × ℕ)) → HoldsEverywhere r c Names
+    → ts ≡ triangles_of c.pieces → IsNearList ts near → (from at k : ℕ) (p : ℕ × ℕ) → WalkAt c near from k
+    → slice_get near k ≡ Some p → Skips c from at p.0 p.1 → (NamesAt c.pairs at p.0 p.1 → ⊥)
+    → IsFirst r c NearPairs (PairAt p.0 p.1)
 walk_fault r c ts near names numbered law from at k p w e s not = record { fails = fails; earlier = earlier }
   where
     not_named : IsNamed c.pairs p.0 p.1 → ⊥

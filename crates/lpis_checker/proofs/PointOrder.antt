@@ -42,7 +42,9 @@ equal_of a b e f = grind (arith, ints)
 tie : (a b : ℤ) (o p : Ordering) → is_lt (ordering_then (int_cmp a b) o) ≡ false → is_lt (ordering_then (int_cmp b a) p) ≡ false → (a ≡ b) × (is_lt o ≡ false) × (is_lt p ≡ false)
 tie a b o p h k = by (int_lt a b) (int_lt b a) refl refl h k
   where
-    by : (s t : Bool) → int_lt a b ≡ s → int_lt b a ≡ t → is_lt (ordering_then (cond s Less (cond t Greater Equal)) o) ≡ false → is_lt (ordering_then (cond t Less (cond s Greater Equal)) p) ≡ false → (a ≡ b) × (is_lt o ≡ false) × (is_lt p ≡ false)
+    by : (s t : Bool) → int_lt a b ≡ s → int_lt b a ≡ t → is_lt (ordering_then (cond s Less (cond t Greater Equal)) o)
+        ≡ false → is_lt (ordering_then (cond t Less (cond s Greater Equal)) p) ≡ false → (a ≡ b) × (is_lt o ≡ false)
+        × (is_lt p ≡ false)
     by true t e f h k = cc
     by false true e f h k = cc
     by false false e f h k = (equal_of a b e f, h, k)
@@ -55,7 +57,9 @@ assoc Greater p q = refl
 -- points of which neither is less, with what follows
 pub point_tie : (a b : Point) (o p : Ordering) → is_lt (ordering_then (point_order a b) o) ≡ false → is_lt (ordering_then (point_order b a) p) ≡ false → (a ≡ b) × (is_lt o ≡ false) × (is_lt p ≡ false)
 point_tie a b o p h k =
-    let r = tie a.x b.x (ordering_then (int_cmp a.y b.y) o) (ordering_then (int_cmp b.y a.y) p) (ap is_lt (sym (assoc (int_cmp a.x b.x) (int_cmp a.y b.y) o)) ∙ h) (ap is_lt (sym (assoc (int_cmp b.x a.x) (int_cmp b.y a.y) p)) ∙ k) in
+    let r = tie a.x b.x (ordering_then (int_cmp a.y b.y) o) (ordering_then (int_cmp b.y a.y) p)
+    (ap is_lt (sym (assoc (int_cmp a.x b.x) (int_cmp a.y b.y) o)) ∙ h)
+    (ap is_lt (sym (assoc (int_cmp b.x a.x) (int_cmp b.y a.y) p)) ∙ k) in
     let s = tie a.y b.y o p r.1 r.2 in
     (point_eq a b r.0 s.0, s.1, s.2)
 

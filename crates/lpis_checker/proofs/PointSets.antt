@@ -33,7 +33,8 @@ unsplit xs x i h w = elim (by_place w.0 i) [
     greater f = cc
 
 -- a binary search finds exactly what is among them
-pub found : (xs : List Point) (x : Point) (r : Result ℕ ℕ) → IsSorted point_order xs → IsSearchInRange r (length xs) → IsBinarySearchResult (λ y. point_order y x) xs r → IsTrue (is_ok r) ↔ Contains xs x
+pub found : (xs : List Point) (x : Point) (r : Result ℕ ℕ) → IsSorted point_order xs → IsSearchInRange r (length xs)
+    → IsBinarySearchResult (λ y. point_order y x) xs r → IsTrue (is_ok r) ↔ Contains xs x
 found xs x (Ok i) s b h = (λ e. (i, b, same_in_order (get_or xs i x) x (h x)), λ w. refl)
 found xs x (Err i) s b h = (λ e. absurd (never e), λ w. absurd (unsplit xs x i (h (searchable_from_sorted point_total (λ (p : Point). p) xs x s)) w))
   where
@@ -59,7 +60,9 @@ have_same points others ts h = (
 )
 
 -- what a search in the set tells of points and triangles that equal those that it was made of and asked for
-pub told_of : (b : Bool) (set points others : List Point) (ts us : List Triangle) → ((p : Point) → Contains set p ↔ Contains points p) → points ≡ others → ts ≡ us → (IsTrue b ↔ HaveCorners set ts) → IsTrue b ↔ HaveCorners others us
+pub told_of : (b : Bool) (set points others : List Point) (ts us : List Triangle)
+    → ((p : Point) → Contains set p ↔ Contains points p) → points ≡ others → ts ≡ us → (IsTrue b ↔ HaveCorners set ts)
+    → IsTrue b ↔ HaveCorners others us
 told_of b set points others ts us same e f h =
     let on_points : IsTrue b ↔ HaveCorners points ts = (λ t. (have_same set points ts same).0 (h.0 t), λ w. h.1 ((have_same set points ts same).1 w)) in
     subst (λ (xs : List Point). IsTrue b ↔ HaveCorners xs us) e (subst (λ (vs : List Triangle). IsTrue b ↔ HaveCorners points vs) f on_points)

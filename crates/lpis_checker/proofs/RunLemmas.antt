@@ -1,5 +1,6 @@
 -- One walk over grouped edges.
-use Rattle.std.proofs.Common.{◌≡◌, ℕ, zero, suc, ◌+◌, ◌<◌, ◌≤◌, ℤ, pos, negsuc, ◌+ℤ◌, ◌-ℤ◌, nat_abs, Bool, true, false, ◌&&◌, cond, List, [], ◌∷◌, ◌++◌, length, get_or, take, drop, Option, Some, None, ap, ap₂, sym, refl, ◌∙◌, arith, sum_by}
+use Rattle.std.proofs.Common.{◌≡◌, ℕ, zero, suc, ◌+◌, ◌<◌, ◌≤◌, ℤ, pos, negsuc, ◌+ℤ◌, ◌-ℤ◌, nat_abs, Bool, true, false, ◌&&◌, cond, List, [], ◌∷◌, ◌++◌, length, get_or, take, drop, Option, Some, None}
+use Rattle.std.proofs.Common.{ap, ap₂, sym, refl, ◌∙◌, arith, sum_by}
 use Rattle.std.proofs.lemmas.Int.{ints}
 use Rattle.std.specs.List.{slice_get}
 use Rattle.std.specs.List.Sorted.{IsPermutation}
@@ -49,7 +50,8 @@ walk_none xs = record { sums = λ a b. nothing (is_next a b (slice_get xs 0)); s
     nothing false = refl
 
 -- the prefix with the element at k
-step_sum : (xs : List SignedEdge) (k : ℕ) (sum : ℤ) (x : SignedEdge) → WalkAt xs k sum → slice_get xs k ≡ Some x → k < length xs → (a b : Point) → sum_at a b (take (k + 1) xs) ≡ cond (is_at a b x) (sum +ℤ weight x) (pos 0)
+step_sum : (xs : List SignedEdge) (k : ℕ) (sum : ℤ) (x : SignedEdge) → WalkAt xs k sum → slice_get xs k ≡ Some x
+    → k < length xs → (a b : Point) → sum_at a b (take (k + 1) xs) ≡ cond (is_at a b x) (sum +ℤ weight x) (pos 0)
 step_sum xs k sum x w e l a b =
     ap (sum_at a b) (take_more xs k x l ∙ ap (λ (y : SignedEdge). take k xs ++ y ∷ []) (same_Some (get_or xs k x) x (sym (slice_get-get_or xs k x l) ∙ e)))
     ∙ sum_at-append a b (take k xs) (x ∷ [])
@@ -127,9 +129,13 @@ get-drop (x ∷ xs) (suc n) m = get-drop xs n m ∙ ap (slice_get (x ∷ xs)) (m
     moved n m = omega arith
 
 -- a run that ends with another sum than 0
-pub walk_fault : (xs : List SignedEdge) (k : ℕ) (sum : ℤ) (x : SignedEdge) → IsGrouped xs → WalkAt xs k sum → slice_get xs k ≡ Some x → (sum +ℤ weight x ≡ pos 0 → ⊥) → EndsRun xs k → SumsAreZero xs → ⊥
+pub walk_fault : (xs : List SignedEdge) (k : ℕ) (sum : ℤ) (x : SignedEdge) → IsGrouped xs → WalkAt xs k sum
+    → slice_get xs k ≡ Some x → (sum +ℤ weight x ≡ pos 0 → ⊥) → EndsRun xs k → SumsAreZero xs → ⊥
 walk_fault xs k sum x g w e not ends zero_all =
-    not (closed (sum_at x.low x.high (take (k + 1) xs)) (sum_at x.low x.high (drop (k + 1) xs)) (sum +ℤ weight x) here (none_at x.low x.high (drop (k + 1) xs) later) (sym (sum_at-append x.low x.high (take (k + 1) xs) (drop (k + 1) xs)) ∙ ap (sum_at x.low x.high) (take-append-drop (k + 1) xs) ∙ zero_all x.low x.high))
+    not (closed (sum_at x.low x.high (take (k + 1) xs)) (sum_at x.low x.high (drop (k + 1) xs)) (sum +ℤ weight x) here
+    (none_at x.low x.high (drop (k + 1) xs) later)
+    (sym (sum_at-append x.low x.high (take (k + 1) xs) (drop (k + 1) xs))
+    ∙ ap (sum_at x.low x.high) (take-append-drop (k + 1) xs) ∙ zero_all x.low x.high))
   where
     closed : (p q v : ℤ) → p ≡ v → q ≡ pos 0 → p +ℤ q ≡ pos 0 → v ≡ pos 0
     closed p q v f h i = omega (arith, ints)
@@ -161,7 +167,9 @@ walk_fault xs k sum x g w e not ends zero_all =
               where
                 same : (k : ℕ) → k + 1 ≡ k + 1 + 0
                 same k = omega arith
-            either (suc n) h = clash (same_ends x (get_or xs (k + 1) z)) (g k (k + 1) (k + 1 + suc n) x (get_or xs (k + 1) z) z (omega arith) (omega arith) e at_y h t) (ends x (get_or xs (k + 1) z) e at_y)
+            either (suc n) h = clash (same_ends x (get_or xs (k + 1) z))
+                (g k (k + 1) (k + 1 + suc n) x (get_or xs (k + 1) z) z (omega arith) (omega arith) e at_y h t)
+                (ends x (get_or xs (k + 1) z) e at_y)
 
 -- ---- sums in another order: the forward and the backward edges, counted
 abbrev ahead : Point → Point → SignedEdge → ℕ
@@ -172,7 +180,9 @@ back a b x = cond (is_at a b x) (cond x.forward 0 1) 0
 
 counted : (a b : Point) (xs : List SignedEdge) → sum_at a b xs ≡ pos (sum_by (ahead a b) xs) -ℤ pos (sum_by (back a b) xs)
 counted a b [] = refl
-counted a b (x ∷ xs) = by (is_at a b x) x.forward (sum_at a b xs) (sum_by (ahead a b) xs) (sum_by (back a b) xs) (sum_by (ahead a b) (x ∷ xs)) (sum_by (back a b) (x ∷ xs)) (counted a b xs) (sum_by-cons (ahead a b) x xs) (sum_by-cons (back a b) x xs)
+counted a b (x ∷ xs) = by (is_at a b x) x.forward (sum_at a b xs) (sum_by (ahead a b) xs) (sum_by (back a b) xs)
+    (sum_by (ahead a b) (x ∷ xs)) (sum_by (back a b) (x ∷ xs)) (counted a b xs) (sum_by-cons (ahead a b) x xs)
+    (sum_by-cons (back a b) x xs)
   where
     by : (s t : Bool) (v : ℤ) (m n k l : ℕ) → v ≡ pos m -ℤ pos n → k ≡ cond s (cond t 1 0) 0 + m → l ≡ cond s (cond t 0 1) 0 + n → cond s (cond t (pos 1) (negsuc 0)) (pos 0) +ℤ v ≡ pos k -ℤ pos l
     by true true v m n k l e f g = omega (arith, ints)

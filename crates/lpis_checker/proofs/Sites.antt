@@ -20,14 +20,18 @@ use Rattle.lpis_checker.specs.FirstFault.{IsEarlier, IsFirst}
 use Rattle.lpis_checker.specs.private.Searches.{IsOfLine, OnParcel, OnPiece}
 
 -- ---- holding everywhere
-pub at_all_sites : (r : Contents) (c : Cert) (q : Condition) → ((k : ℕ) → Holds r c q (PieceAt k)) → ((k : ℕ) → Holds r c q (ParcelAt k)) → ((k : ℕ) → Holds r c q (LineAt k)) → ((i j : ℕ) → Holds r c q (PairAt i j)) → HoldsEverywhere r c q
+pub at_all_sites : (r : Contents) (c : Cert) (q : Condition) → ((k : ℕ) → Holds r c q (PieceAt k))
+    → ((k : ℕ) → Holds r c q (ParcelAt k)) → ((k : ℕ) → Holds r c q (LineAt k)) → ((i j : ℕ) → Holds r c q (PairAt i j))
+    → HoldsEverywhere r c q
 at_all_sites r c q pieces parcels lines pairs (PieceAt k) = pieces k
 at_all_sites r c q pieces parcels lines pairs (ParcelAt k) = parcels k
 at_all_sites r c q pieces parcels lines pairs (LineAt k) = lines k
 at_all_sites r c q pieces parcels lines pairs (PairAt i j) = pairs i j
 
 -- ---- failing first
-pub first_at_line : (r : Contents) (c : Cert) (q : Condition) (k : ℕ) → (Holds r c q (LineAt k) → ⊥) → ((m : ℕ) → Holds r c q (PieceAt m)) → ((m : ℕ) → Holds r c q (ParcelAt m)) → ((m : ℕ) → m < k → Holds r c q (LineAt m)) → IsFirst r c q (LineAt k)
+pub first_at_line : (r : Contents) (c : Cert) (q : Condition) (k : ℕ) → (Holds r c q (LineAt k) → ⊥)
+    → ((m : ℕ) → Holds r c q (PieceAt m)) → ((m : ℕ) → Holds r c q (ParcelAt m))
+    → ((m : ℕ) → m < k → Holds r c q (LineAt m)) → IsFirst r c q (LineAt k)
 first_at_line r c q k fails pieces parcels below = record { fails = fails; earlier = by }
   where
     by : (b : Site) → IsEarlier b (LineAt k) → Holds r c q b
@@ -47,13 +51,16 @@ some_item id None n e = absurd (none-some n e)
 some_item id (Some x) n e = (x, refl)
 
 -- ---- a test of the part at a site
-pub of_piece : (r : Contents) (c : Cert) (P : Piece → PiecePart → Type 0) (b : Bool) (k : ℕ) (x : Piece) (t : PiecePart) → slice_get r.pieces k ≡ Some x → slice_get c.pieces k ≡ Some t → (IsTrue b ↔ P x t) → IsTrue b ↔ OfPiece r c k P
+pub of_piece : (r : Contents) (c : Cert) (P : Piece → PiecePart → Type 0) (b : Bool) (k : ℕ) (x : Piece) (t : PiecePart)
+    → slice_get r.pieces k ≡ Some x → slice_get c.pieces k ≡ Some t → (IsTrue b ↔ P x t) → IsTrue b ↔ OfPiece r c k P
 of_piece r c P b k x t e f h = (
   λ y z u g i. subst (λ (v : PiecePart). P z v) (same_Some t u (sym f ∙ i)) (subst (λ (w : Piece). P w t) (same_Some x z (sym e ∙ g)) (h.0 y)),
   λ w. h.1 (w x t e f),
 )
 
-pub of_parcel : (r : Contents) (c : Cert) (P : Parcel → ParcelPart → Type 0) (b : Bool) (k : ℕ) (x : Parcel) (t : ParcelPart) → slice_get r.parcels k ≡ Some x → slice_get c.parcels k ≡ Some t → (IsTrue b ↔ P x t) → IsTrue b ↔ OfParcel r c k P
+pub of_parcel : (r : Contents) (c : Cert) (P : Parcel → ParcelPart → Type 0) (b : Bool) (k : ℕ) (x : Parcel)
+    (t : ParcelPart) → slice_get r.parcels k ≡ Some x → slice_get c.parcels k ≡ Some t → (IsTrue b ↔ P x t) → IsTrue b
+    ↔ OfParcel r c k P
 of_parcel r c P b k x t e f h = (
   λ y z u g i. subst (λ (v : ParcelPart). P z v) (same_Some t u (sym f ∙ i)) (subst (λ (w : Parcel). P w t) (same_Some x z (sym e ∙ g)) (h.0 y)),
   λ w. h.1 (w x t e f),
@@ -75,7 +82,9 @@ read_at slice items i x e l r =
     slice_get_read items (length items) i x refl l (r ∙ ap (λ (xs : List _). get_or xs i x) e)
 
 -- ---- a test of the part at a place
-pub on_piece : (r : Contents) (c : Cert) (q : Condition) (b : Bool) (k : ℕ) (x : Piece) (t : PiecePart) → (q ≡ Names → ⊥) → slice_get r.pieces k ≡ Some x → slice_get c.pieces k ≡ Some t → (IsTrue b ↔ OnPiece q x t) → IsTrue b ↔ Holds r c q (PieceAt k)
+pub on_piece : (r : Contents) (c : Cert) (q : Condition) (b : Bool) (k : ℕ) (x : Piece) (t : PiecePart)
+    → (q ≡ Names → ⊥) → slice_get r.pieces k ≡ Some x → slice_get c.pieces k ≡ Some t → (IsTrue b ↔ OnPiece q x t)
+    → IsTrue b ↔ Holds r c q (PieceAt k)
 on_piece r c Names b k x t other e f h = absurd (other refl)
 on_piece r c Triangles b k x t other e f h = of_piece r c (OnPiece Triangles) b k x t e f h
 on_piece r c Turned b k x t other e f h = of_piece r c (OnPiece Turned) b k x t e f h
@@ -87,7 +96,9 @@ on_piece r c NearPairs b k x t other e f h = h
 on_piece r c NotApart b k x t other e f h = h
 on_piece r c Separating b k x t other e f h = h
 
-pub on_parcel : (r : Contents) (c : Cert) (q : Condition) (b : Bool) (k : ℕ) (x : Parcel) (t : ParcelPart) → (q ≡ Names → ⊥) → slice_get r.parcels k ≡ Some x → slice_get c.parcels k ≡ Some t → (IsTrue b ↔ OnParcel r q x t) → IsTrue b ↔ Holds r c q (ParcelAt k)
+pub on_parcel : (r : Contents) (c : Cert) (q : Condition) (b : Bool) (k : ℕ) (x : Parcel) (t : ParcelPart)
+    → (q ≡ Names → ⊥) → slice_get r.parcels k ≡ Some x → slice_get c.parcels k ≡ Some t → (IsTrue b ↔ OnParcel r q x t)
+    → IsTrue b ↔ Holds r c q (ParcelAt k)
 on_parcel r c Names b k x t other e f h = absurd (other refl)
 on_parcel r c Triangles b k x t other e f h = h
 on_parcel r c Turned b k x t other e f h = h
@@ -100,7 +111,9 @@ on_parcel r c NotApart b k x t other e f h = h
 on_parcel r c Separating b k x t other e f h = h
 
 -- where the certificate or the release has no such part, a condition other than that of names holds
-pub no_piece : (r : Contents) (c : Cert) (q : Condition) (k : ℕ) → (q ≡ Names → ⊥) → ((x : Piece) (t : PiecePart) → slice_get r.pieces k ≡ Some x → slice_get c.pieces k ≡ Some t → ⊥) → Holds r c q (PieceAt k)
+pub no_piece : (r : Contents) (c : Cert) (q : Condition) (k : ℕ) → (q ≡ Names → ⊥)
+    → ((x : Piece) (t : PiecePart) → slice_get r.pieces k ≡ Some x → slice_get c.pieces k ≡ Some t → ⊥)
+    → Holds r c q (PieceAt k)
 no_piece r c Names k other none = absurd (other refl)
 no_piece r c Triangles k other none = λ x t e f. absurd (none x t e f)
 no_piece r c Turned k other none = λ x t e f. absurd (none x t e f)
@@ -112,7 +125,9 @@ no_piece r c NearPairs k other none = tt
 no_piece r c NotApart k other none = tt
 no_piece r c Separating k other none = tt
 
-pub no_parcel : (r : Contents) (c : Cert) (q : Condition) (k : ℕ) → (q ≡ Names → ⊥) → ((x : Parcel) (t : ParcelPart) → slice_get r.parcels k ≡ Some x → slice_get c.parcels k ≡ Some t → ⊥) → Holds r c q (ParcelAt k)
+pub no_parcel : (r : Contents) (c : Cert) (q : Condition) (k : ℕ) → (q ≡ Names → ⊥)
+    → ((x : Parcel) (t : ParcelPart) → slice_get r.parcels k ≡ Some x → slice_get c.parcels k ≡ Some t → ⊥)
+    → Holds r c q (ParcelAt k)
 no_parcel r c Names k other none = absurd (other refl)
 no_parcel r c Triangles k other none = tt
 no_parcel r c Turned k other none = tt
@@ -142,7 +157,9 @@ past_pieces r c q k parts own =
     let f = slice_get_past c.pieces k parts in
     let e = slice_get_past r.pieces k own in
     elim (is_names q) [
-      | inl named ↦ subst (λ (s : Condition). Holds r c s (PieceAt k)) (sym named) (ap (λ (o : Option PiecePart). option_map (λ (t : PiecePart). t.id) o) f ∙ sym (ap (λ (o : Option Piece). option_map (λ (x : Piece). x.id) o) e))
+      | inl named ↦ subst (λ (s : Condition). Holds r c s (PieceAt k)) (sym named)
+          (ap (λ (o : Option PiecePart). option_map (λ (t : PiecePart). t.id) o) f
+          ∙ sym (ap (λ (o : Option Piece). option_map (λ (x : Piece). x.id) o) e))
       | inr other ↦ no_piece r c q k other (λ x t g h. none-some x (sym e ∙ g))
     ]
 
@@ -151,7 +168,9 @@ past_parcels r c q k parts own =
     let f = slice_get_past c.parcels k parts in
     let e = slice_get_past r.parcels k own in
     elim (is_names q) [
-      | inl named ↦ subst (λ (s : Condition). Holds r c s (ParcelAt k)) (sym named) (ap (λ (o : Option ParcelPart). option_map (λ (t : ParcelPart). t.id) o) f ∙ sym (ap (λ (o : Option Parcel). option_map (λ (x : Parcel). x.id) o) e))
+      | inl named ↦ subst (λ (s : Condition). Holds r c s (ParcelAt k)) (sym named)
+          (ap (λ (o : Option ParcelPart). option_map (λ (t : ParcelPart). t.id) o) f
+          ∙ sym (ap (λ (o : Option Parcel). option_map (λ (x : Parcel). x.id) o) e))
       | inr other ↦ no_parcel r c q k other (λ x t g h. none-some x (sym e ∙ g))
     ]
 

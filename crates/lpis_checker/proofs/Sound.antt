@@ -1,5 +1,6 @@
 -- A good certificate shows a sound map.
-use Rattle.std.proofs.Common.{◌≡◌, ℕ, suc, ◌-◌, ◌<◌, nat_lt, ℤ, pos, ◌+ℤ◌, ◌≤ℤ◌, ◌<ℤ◌, Bool, true, false, cond, List, [], ◌∷◌, ◌++◌, length, get_or, Option, Some, None, inl, inr, ◌↔◌, All, filter, ap, ap₂, sym, refl, ◌∙◌, subst, arith}
+use Rattle.std.proofs.Common.{◌≡◌, ℕ, suc, ◌-◌, ◌<◌, nat_lt, ℤ, pos, ◌+ℤ◌, ◌≤ℤ◌, ◌<ℤ◌, Bool, true, false, cond, List, [], ◌∷◌, ◌++◌, length, get_or, Option, Some, None, inl, inr, ◌↔◌, All, filter, ap}
+use Rattle.std.proofs.Common.{ap₂, sym, refl, ◌∙◌, subst, arith}
 use Rattle.std.specs.Prelude.{MatchOption}
 use Rattle.std.proofs.lemmas.Int.{ints}
 use Rattle.std.specs.List.{slice_get, IsDistinct}
@@ -188,7 +189,8 @@ pub record GoodParcel (r : Contents) (x : Parcel) : Type 0 where
   pub flat : All IsFlat fs
   pub net : SameNet same_point (edges_of x.polygon) (edges_of_pieces (pieces_named r x.id) ++ edges_of_triangles fs)
 
-pub good_parcel : (r : Contents) (c : Cert) → HoldsEverywhere r c Names → HoldsEverywhere r c Flats → HoldsEverywhere r c ParcelEdges → (k : ℕ) (x : Parcel) → slice_get r.parcels k ≡ Some x → GoodParcel r x
+pub good_parcel : (r : Contents) (c : Cert) → HoldsEverywhere r c Names → HoldsEverywhere r c Flats
+    → HoldsEverywhere r c ParcelEdges → (k : ℕ) (x : Parcel) → slice_get r.parcels k ≡ Some x → GoodParcel r x
 good_parcel r c ids flats net k x e =
     let p = some_item (λ (t : ParcelPart). t.id) (slice_get c.parcels k) x.id (ids (ParcelAt k) ∙ ap (λ (o : Option Parcel). option_map (λ (y : Parcel). y.id) o) e) in
     record { fs = p.0.flats; flat = flats (ParcelAt k) x p.0 e p.1; net = net (ParcelAt k) x p.0 e p.1 }
@@ -227,7 +229,14 @@ inside_found r s x a h =
 
 found_inside : (r : Contents) (s : RationalPoint) (x : Parcel) → ParcelFacts r s x → Found (IsInPiece s) (pieces_named r x.id) → IsInParcel s x
 found_inside r s x a f =
-    (parcel_in r s x a).1 (a.sum ∙ total_one (turns_at s) (pieces_named r x.id) a.each (subst IsOneOrNone a.sum a.one) (record { place = f.place; item = f.item; at = f.at; has = (piece_in s f.item (all_at (OneAt s) (pieces_named r x.id) f.place f.item f.at a.each)).0 f.has }))
+    (parcel_in r s x a).1 (a.sum ∙ total_one (turns_at s) (pieces_named r x.id) a.each (subst IsOneOrNone a.sum a.one)
+    (record {
+      place = f.place;
+      item = f.item;
+      at = f.at;
+      has =
+          (piece_in s f.item (all_at (OneAt s) (pieces_named r x.id) f.place f.item f.at a.each)).0 f.has;
+    }))
 
 few_pieces : (s : RationalPoint) (xs : List Piece) → All (OneAt s) xs → IsOneOrNone (total (turns_at s) xs) → AtMostOne (IsInPiece s) xs
 few_pieces s xs h o i j a b e f p q =
@@ -274,13 +283,18 @@ areas_total (x ∷ xs) = ap (λ (z : ℤ). area2 x.polygon +ℤ z) (areas_total 
 some_areas : (q : Piece → Bool) (xs : List Piece) → All HasArea xs → (pos 0 ≤ℤ areas2 (filter q xs)) × (areas2 (filter q xs) ≤ℤ areas2 xs)
 some_areas q xs h =
     let area : Piece → ℤ = λ x. area2 x.polygon in
-    let k = total-filter area q xs (All-weaker HasArea (λ x. pos 0 ≤ℤ area x) (λ x p. by (area x) p) xs h) in
-    (subst (λ (z : ℤ). pos 0 ≤ℤ z) (areas_total (filter q xs)) k.0, subst (λ (z : ℤ). areas2 (filter q xs) ≤ℤ z) (areas_total xs) (subst (λ (z : ℤ). z ≤ℤ total area xs) (areas_total (filter q xs)) k.1))
+    let k = total-filter area q xs (All-weaker HasArea (λ x. pos 0 ≤ℤ area x) (λ x p. by (area x) p) xs h) in (
+      subst (λ (z : ℤ). pos 0 ≤ℤ z) (areas_total (filter q xs)) k.0,
+      subst (λ (z : ℤ). areas2 (filter q xs) ≤ℤ z)
+          (areas_total xs) (subst (λ (z : ℤ). z ≤ℤ total area xs) (areas_total (filter q xs)) k.1),
+    )
   where
     by : (a : ℤ) → pos 0 <ℤ a → pos 0 ≤ℤ a
     by a p = omega (arith, ints)
 
-pub areas_add : (r : Contents) (c : Cert) → HoldsEverywhere r c Names → HoldsEverywhere r c Triangles → HoldsEverywhere r c Turned → HoldsEverywhere r c Flats → HoldsEverywhere r c PieceEdges → HoldsEverywhere r c ParcelEdges → AreasAdd r
+pub areas_add : (r : Contents) (c : Cert) → HoldsEverywhere r c Names → HoldsEverywhere r c Triangles
+    → HoldsEverywhere r c Turned → HoldsEverywhere r c Flats → HoldsEverywhere r c PieceEdges
+    → HoldsEverywhere r c ParcelEdges → AreasAdd r
 areas_add r c ids triangles turned flats piece_net parcel_net = record {
   pieces = each;
   parcels = all_from (λ (x : Parcel). area2 x.polygon ≡ areas2 (pieces_named r x.id)) r.parcels parcel;
@@ -310,14 +324,16 @@ good_means_sound r c n g = record {
     filled = λ s d. all_parcels r c g s d;
   };
   turns = record {
-    pieces = λ s d. let o = once r c g s d in all_from (λ (x : Piece). TurnsTell (IsInPiece s x) (turns x.polygon s)) r.pieces (λ k x e. let one = all_at (OneAt s) r.pieces k x e o.each in (one, piece_in s x one));
+    pieces = λ s d. let o = once r c g s d in all_from (λ (x : Piece). TurnsTell (IsInPiece s x) (turns x.polygon s))
+        r.pieces (λ k x e. let one = all_at (OneAt s) r.pieces k x e o.each in (one, piece_in s x one));
     parcels = λ s d. all_from (λ (x : Parcel). TurnsTell (IsInParcel s x) (turns x.polygon s)) r.parcels (λ k x e. let a = parcel_at r c g s d k x e in (a.one, parcel_in r s x a));
   };
   areas = areas_add r c (g.holds Names) (g.holds Triangles) (g.holds Turned) (g.holds Flats) (g.holds PieceEdges) (g.holds ParcelEdges);
 }
 
 -- a piece of the parcel at a point that the parcel contains
-pub no_gap : (r : Contents) (c : Cert) → IsGood r c → (s : RationalPoint) → pos 0 <ℤ s.d → (k : ℕ) (x : Parcel) → slice_get r.parcels k ≡ Some x → IsInParcel s x → All (λ (y : Piece). IsInPiece s y → ⊥) (pieces_named r x.id) → ⊥
+pub no_gap : (r : Contents) (c : Cert) → IsGood r c → (s : RationalPoint) → pos 0 <ℤ s.d → (k : ℕ) (x : Parcel)
+    → slice_get r.parcels k ≡ Some x → IsInParcel s x → All (λ (y : Piece). IsInPiece s y → ⊥) (pieces_named r x.id) → ⊥
 no_gap r c g s d k x e h none =
     let f = inside_found r s x (parcel_at r c g s d k x e) h in
     all_at (λ (y : Piece). IsInPiece s y → ⊥) (pieces_named r x.id) f.place f.item f.at none f.has

@@ -1,7 +1,10 @@
 -- The codes of conditions.
 use Rattle.std.specs.Prelude.{◌+◌, ◌/◌, ◌%◌, ◌∷◌, [], ℕ, List}
 use Rattle.lpis_checker.specs.declared.condition.Condition.{Condition}
-use Rattle.lpis_checker.specs.declared.condition.Condition.TheVariants.{Names, Triangles, Turned, Flats, Corners, PieceEdges, ParcelEdges, NearPairs, NotApart, Separating}
+use Rattle.lpis_checker.specs.declared.condition.Condition.TheVariants.{Names, Triangles, Turned}
+use Rattle.lpis_checker.specs.declared.condition.Condition.TheVariants.{Flats, Corners, PieceEdges}
+use Rattle.lpis_checker.specs.declared.condition.Condition.TheVariants.{ParcelEdges, NearPairs}
+use Rattle.lpis_checker.specs.declared.condition.Condition.TheVariants.{NotApart, Separating}
 
 -- the number that is told where a condition fails; the lowest is told
 abbrev pub code_of : Condition → ℕ

@@ -19,4 +19,5 @@ corners_of_pieces pieces = flat_map (λ (x : Piece). corners_of x.polygon) piece
 
 -- the points of all rings of a release
 abbrev pub all_corners : Contents → List Point
-all_corners r = flat_map (λ (k : Parcel). corners_of k.polygon) r.parcels ++ corners_of_pieces r.pieces
+all_corners r = flat_map (λ (k : Parcel). corners_of k.polygon) r.parcels
+    ++ corners_of_pieces r.pieces

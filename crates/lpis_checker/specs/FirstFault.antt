@@ -12,7 +12,8 @@ use Rattle.lpis_pairs.specs.NearPairs.{IsBelow}
 use Rattle.lpis_checker.specs.declared.condition.Condition.{Condition}
 use Rattle.lpis_checker.specs.declared.condition.Condition.TheVariants.{NearPairs}
 use Rattle.lpis_checker.specs.declared.condition.Site.{Site}
-use Rattle.lpis_checker.specs.declared.condition.Site.TheVariants.{PieceAt, ParcelAt, LineAt, PairAt}
+use Rattle.lpis_checker.specs.declared.condition.Site.TheVariants.{PieceAt, ParcelAt, LineAt}
+use Rattle.lpis_checker.specs.declared.condition.Site.TheVariants.{PairAt}
 use Rattle.lpis_checker.specs.declared.fault.Place.{Place}
 use Rattle.lpis_checker.specs.declared.fault.Place.TheVariants as place
 use Rattle.lpis_checker.specs.declared.fault.CheckFault.{CheckFault}
@@ -54,10 +55,12 @@ id_or id other = unwrap_or id (unwrap_or other [])
 
 -- the identifier of the certificate, or the release's where the certificate's list has ended
 abbrev pub piece_id : Contents → Cert → ℕ → List ℕ
-piece_id r c k = id_or (option_map (λ (t : PiecePart). t.id) (slice_get c.pieces k)) (option_map (λ (x : Piece). x.id) (slice_get r.pieces k))
+piece_id r c k = id_or (option_map (λ (t : PiecePart). t.id) (slice_get c.pieces k))
+    (option_map (λ (x : Piece). x.id) (slice_get r.pieces k))
 
 abbrev pub parcel_id : Contents → Cert → ℕ → List ℕ
-parcel_id r c k = id_or (option_map (λ (t : ParcelPart). t.id) (slice_get c.parcels k)) (option_map (λ (x : Parcel). x.id) (slice_get r.parcels k))
+parcel_id r c k = id_or (option_map (λ (t : ParcelPart). t.id) (slice_get c.parcels k))
+    (option_map (λ (x : Parcel). x.id) (slice_get r.parcels k))
 
 -- a condition fails at a pair line only where there is one, so the first case is never told
 abbrev pub line_place : Option PairLine → Place

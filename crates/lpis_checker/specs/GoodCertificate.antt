@@ -1,5 +1,6 @@
 -- When a certificate is good for a release: ten conditions, each met or not at a site.
-use Rattle.std.specs.Prelude.{◌≡◌, ℕ, ◌+◌, ◌-◌, ◌<◌, nat_lt, cond, List, ◌++◌, length, slice_get, Some, flat_map, All, Contains, MatchOption, ⊤}
+use Rattle.std.specs.Prelude.{◌≡◌, ℕ, ◌+◌, ◌-◌, ◌<◌, nat_lt, cond, List, ◌++◌, length, slice_get}
+use Rattle.std.specs.Prelude.{Some, flat_map, All, Contains, MatchOption, ⊤}
 use Rattle.std.specs.Option.{option_map}
 use Rattle.lpis_points.specs.declared.point.Point.{Point}
 use Rattle.lpis_points.specs.declared.triangle.Triangle.{Triangle}
@@ -18,9 +19,13 @@ use Rattle.lpis_cert.specs.declared.part.PairLine.{PairLine}
 use Rattle.lpis_pairs.specs.NearPairs.{IsBelow, IsNear}
 use Rattle.lpis_checker.specs.Corners.{corners_of, corners_of_pieces}
 use Rattle.lpis_checker.specs.declared.condition.Condition.{Condition}
-use Rattle.lpis_checker.specs.declared.condition.Condition.TheVariants.{Names, Triangles, Turned, Flats, Corners, PieceEdges, ParcelEdges, NearPairs, NotApart, Separating}
+use Rattle.lpis_checker.specs.declared.condition.Condition.TheVariants.{Names, Triangles, Turned}
+use Rattle.lpis_checker.specs.declared.condition.Condition.TheVariants.{Flats, Corners, PieceEdges}
+use Rattle.lpis_checker.specs.declared.condition.Condition.TheVariants.{ParcelEdges, NearPairs}
+use Rattle.lpis_checker.specs.declared.condition.Condition.TheVariants.{NotApart, Separating}
 use Rattle.lpis_checker.specs.declared.condition.Site.{Site}
-use Rattle.lpis_checker.specs.declared.condition.Site.TheVariants.{PieceAt, ParcelAt, LineAt, PairAt}
+use Rattle.lpis_checker.specs.declared.condition.Site.TheVariants.{PieceAt, ParcelAt, LineAt}
+use Rattle.lpis_checker.specs.declared.condition.Site.TheVariants.{PairAt}
 
 -- ---- what a certificate speaks of
 -- the triangles of all pieces, in the order of their numbers
@@ -41,7 +46,8 @@ HaveCorners points ts = All (HasCorners points) ts
 
 -- edge k of a triangle has it on the left and another triangle on the right
 abbrev pub EdgeSeparates : ℕ → Triangle → Triangle → Type 0
-EdgeSeparates k left right = MatchOption (slice_get (triangle_edges left) k) ⊥ (λ line. Separates line left right)
+EdgeSeparates k left right = MatchOption (slice_get (triangle_edges left) k) ⊥
+    (λ line. Separates line left right)
 
 -- the edge that a pair line names: 0 to 2 of its first triangle, 3 to 5 of its second
 abbrev pub LineSeparates : ℕ → Triangle → Triangle → Type 0
@@ -55,16 +61,19 @@ IsNamed lines i j = (m : ℕ) × (l : PairLine) × (slice_get lines m ≡ Some l
 pub record IsInOrder (c : Cert) (k : ℕ) (l : PairLine) : Type 0 where
   pub rising : l.i < l.j
   pub within : l.j < length (triangles_of c.pieces)
-  pub after : (m : ℕ) (before : PairLine) → m + 1 ≡ k → slice_get c.pairs m ≡ Some before → IsBelow before.i before.j l.i l.j
+  pub after : (m : ℕ) (before : PairLine) → m + 1 ≡ k → slice_get c.pairs m ≡ Some before
+      → IsBelow before.i before.j l.i l.j
 
 -- ---- what is said at a site
 -- of the piece at k and its part, where both are there
 abbrev pub OfPiece : Contents → Cert → ℕ → (Piece → PiecePart → Type 0) → Type 0
-OfPiece r c k P = (x : Piece) (t : PiecePart) → slice_get r.pieces k ≡ Some x → slice_get c.pieces k ≡ Some t → P x t
+OfPiece r c k P = (x : Piece) (t : PiecePart) → slice_get r.pieces k ≡ Some x
+    → slice_get c.pieces k ≡ Some t → P x t
 
 -- of the parcel at k and its part
 abbrev pub OfParcel : Contents → Cert → ℕ → (Parcel → ParcelPart → Type 0) → Type 0
-OfParcel r c k P = (x : Parcel) (t : ParcelPart) → slice_get r.parcels k ≡ Some x → slice_get c.parcels k ≡ Some t → P x t
+OfParcel r c k P = (x : Parcel) (t : ParcelPart) → slice_get r.parcels k ≡ Some x
+    → slice_get c.parcels k ≡ Some t → P x t
 
 -- of the pair line at k
 abbrev pub OfLine : Cert → ℕ → (PairLine → Type 0) → Type 0
@@ -76,20 +85,31 @@ OfTwo ts i j P = (t u : Triangle) → slice_get ts i ≡ Some t → slice_get ts
 
 -- what each condition says, site by site
 abbrev pub Holds : Contents → Cert → Condition → Site → Type 0
-Holds r c Names (PieceAt k) = option_map (λ (t : PiecePart). t.id) (slice_get c.pieces k) ≡ option_map (λ (x : Piece). x.id) (slice_get r.pieces k)
-Holds r c Names (ParcelAt k) = option_map (λ (t : ParcelPart). t.id) (slice_get c.parcels k) ≡ option_map (λ (x : Parcel). x.id) (slice_get r.parcels k)
+Holds r c Names (PieceAt k) = option_map (λ (t : PiecePart). t.id) (slice_get c.pieces k)
+    ≡ option_map (λ (x : Piece). x.id) (slice_get r.pieces k)
+Holds r c Names (ParcelAt k) = option_map (λ (t : ParcelPart). t.id) (slice_get c.parcels k)
+    ≡ option_map (λ (x : Parcel). x.id) (slice_get r.parcels k)
 Holds r c Names (LineAt k) = OfLine c k (IsInOrder c k)
 Holds r c Triangles (PieceAt k) = OfPiece r c k (λ x t. 0 < length t.triangles)
 Holds r c Turned (PieceAt k) = OfPiece r c k (λ x t. All IsCounterClockwise t.triangles)
 Holds r c Flats (PieceAt k) = OfPiece r c k (λ x t. All IsFlat t.flats)
 Holds r c Flats (ParcelAt k) = OfParcel r c k (λ x t. All IsFlat t.flats)
-Holds r c Corners (PieceAt k) = OfPiece r c k (λ x t. HaveCorners (corners_of x.polygon) (t.triangles ++ t.flats))
-Holds r c Corners (ParcelAt k) = OfParcel r c k (λ x t. HaveCorners (corners_of x.polygon ++ corners_of_pieces (pieces_named r x.id)) t.flats)
-Holds r c PieceEdges (PieceAt k) = OfPiece r c k (λ x t. SameNet same_point (edges_of x.polygon) (edges_of_triangles t.triangles ++ edges_of_triangles t.flats))
-Holds r c ParcelEdges (ParcelAt k) = OfParcel r c k (λ x t. SameNet same_point (edges_of x.polygon) (edges_of_pieces (pieces_named r x.id) ++ edges_of_triangles t.flats))
+Holds r c Corners (PieceAt k) =
+    OfPiece r c k (λ x t. HaveCorners (corners_of x.polygon) (t.triangles ++ t.flats))
+Holds r c Corners (ParcelAt k) =
+    OfParcel r c k
+    (λ x t. HaveCorners (corners_of x.polygon ++ corners_of_pieces (pieces_named r x.id)) t.flats)
+Holds r c PieceEdges (PieceAt k) =
+    OfPiece r c k (λ x t. SameNet same_point (edges_of x.polygon) (edges_of_triangles t.triangles
+    ++ edges_of_triangles t.flats))
+Holds r c ParcelEdges (ParcelAt k) =
+    OfParcel r c k
+    (λ x t. SameNet same_point (edges_of x.polygon) (edges_of_pieces (pieces_named r x.id)
+    ++ edges_of_triangles t.flats))
 Holds r c NearPairs (PairAt i j) = IsNear (triangles_of c.pieces) i j → IsNamed c.pairs i j
 Holds r c NotApart (LineAt k) = OfLine c k (λ l. IsNear (triangles_of c.pieces) l.i l.j)
-Holds r c Separating (LineAt k) = OfLine c k (λ l. OfTwo (triangles_of c.pieces) l.i l.j (LineSeparates l.k))
+Holds r c Separating (LineAt k) =
+    OfLine c k (λ l. OfTwo (triangles_of c.pieces) l.i l.j (LineSeparates l.k))
 Holds r c _ _ = ⊤
 
 -- ---- good certificates

@@ -8,4 +8,5 @@ use Rattle.lpis_checker.specs.SoundMap.{IsSoundMap}
 
 -- a release whose parcels' identifiers differ is a sound map where some certificate is good for it
 abbrev pub GoodMeansSound : Type 0
-GoodMeansSound = (r : Contents) (c : Cert) → IsDistinct same_id (parcel_ids r.parcels) → IsGood r c → IsSoundMap r
+GoodMeansSound = (r : Contents) (c : Cert) → IsDistinct same_id (parcel_ids r.parcels) → IsGood r c
+    → IsSoundMap r

@@ -1,5 +1,7 @@
--- When a release is a sound map: at a point at most one parcel, and a parcel exactly when exactly one of its pieces.
-use Rattle.std.specs.Prelude.{◌≡◌, ◌≢◌, ℕ, ℤ, pos, ◌≤ℤ◌, ◌<ℤ◌, List, slice_get, Some, All, Any, Contains as IsAmong, ◌↔◌}
+-- When a release is a sound map: at a point at most one parcel, and a parcel exactly when exactly
+-- one of its pieces.
+use Rattle.std.specs.Prelude.{◌≡◌, ◌≢◌, ℕ, ℤ, pos, ◌≤ℤ◌, ◌<ℤ◌, List, slice_get, Some, All, Any}
+use Rattle.std.specs.Prelude.{Contains as IsAmong, ◌↔◌}
 use Rattle.lpis_points.specs.declared.point.Point.{Point}
 use Rattle.lpis_points.specs.Plane.{RationalPoint, orient_at}
 use Rattle.lpis_rings.specs.Area.{area2}
@@ -14,7 +16,8 @@ use Rattle.lpis_checker.specs.Corners.{all_corners}
 -- ---- counting
 -- at most one item of a list has the property
 abbrev pub AtMostOne : {A : Type 0} → (A → Type 0) → List A → Type 0
-AtMostOne {A} P xs = (i j : ℕ) (a b : A) → slice_get xs i ≡ Some a → slice_get xs j ≡ Some b → P a → P b → i ≡ j
+AtMostOne {A} P xs = (i j : ℕ) (a b : A) → slice_get xs i ≡ Some a → slice_get xs j ≡ Some b → P a
+    → P b → i ≡ j
 
 abbrev pub ExactlyOne : {A : Type 0} → (A → Type 0) → List A → Type 0
 ExactlyOne P xs = Any P xs × AtMostOne P xs
@@ -28,21 +31,27 @@ IsInPiece p x = Contains x.polygon p
 
 -- the point lies on no line through two different corners
 abbrev pub IsOffLines : Contents → RationalPoint → Type 0
-IsOffLines r p = (a b : Point) → IsAmong (all_corners r) a → IsAmong (all_corners r) b → a ≢ b → orient_at a b p ≢ pos 0
+IsOffLines r p = (a b : Point) → IsAmong (all_corners r) a → IsAmong (all_corners r) b → a ≢ b
+    → orient_at a b p ≢ pos 0
 
 -- ---- sound maps
--- for each rational point off the lines at most one parcel contains it, and a parcel contains it exactly when exactly one of its
--- pieces does
+-- for each rational point off the lines at most one parcel contains it, and a parcel contains it
+-- exactly when exactly one of its pieces does
 pub record IsSoundOffItsLines (r : Contents) : Type 0 where
-  pub one_parcel : (p : RationalPoint) → pos 0 <ℤ p.d → IsOffLines r p → AtMostOne (IsInParcel p) r.parcels
-  pub filled : (p : RationalPoint) → pos 0 <ℤ p.d → IsOffLines r p → All (λ (k : Parcel). IsInParcel p k ↔ ExactlyOne (IsInPiece p) (pieces_named r k.id)) r.parcels
+  pub one_parcel : (p : RationalPoint) → pos 0 <ℤ p.d → IsOffLines r p
+      → AtMostOne (IsInParcel p) r.parcels
+  pub filled : (p : RationalPoint) → pos 0 <ℤ p.d → IsOffLines r p
+      → All (λ (k : Parcel). IsInParcel p k ↔ ExactlyOne (IsInPiece p) (pieces_named r k.id))
+      r.parcels
 
--- for each rational point at most one piece contains it, at most one parcel does, and a parcel exactly when exactly one of its pieces
--- does
+-- for each rational point at most one piece contains it, at most one parcel does, and a parcel
+-- exactly when exactly one of its pieces does
 pub record IsSoundEverywhere (r : Contents) : Type 0 where
   pub one_piece : (p : RationalPoint) → pos 0 <ℤ p.d → AtMostOne (IsInPiece p) r.pieces
   pub one_parcel : (p : RationalPoint) → pos 0 <ℤ p.d → AtMostOne (IsInParcel p) r.parcels
-  pub filled : (p : RationalPoint) → pos 0 <ℤ p.d → All (λ (k : Parcel). IsInParcel p k ↔ ExactlyOne (IsInPiece p) (pieces_named r k.id)) r.parcels
+  pub filled : (p : RationalPoint) → pos 0 <ℤ p.d
+      → All (λ (k : Parcel). IsInParcel p k ↔ ExactlyOne (IsInPiece p) (pieces_named r k.id))
+      r.parcels
 
 -- 0 or 1, and 1 exactly where the point is contained
 abbrev pub TurnsTell : Type 0 → ℤ → Type 0
@@ -50,14 +59,18 @@ TurnsTell inside n = IsOneOrNone n × (inside ↔ (n ≡ pos 1))
 
 -- each polygon turns once round each point that it contains, and not at all round any other
 pub record TurnsOnce (r : Contents) : Type 0 where
-  pub pieces : (p : RationalPoint) → pos 0 <ℤ p.d → All (λ (x : Piece). TurnsTell (IsInPiece p x) (turns x.polygon p)) r.pieces
-  pub parcels : (p : RationalPoint) → pos 0 <ℤ p.d → All (λ (k : Parcel). TurnsTell (IsInParcel p k) (turns k.polygon p)) r.parcels
+  pub pieces : (p : RationalPoint) → pos 0 <ℤ p.d
+      → All (λ (x : Piece). TurnsTell (IsInPiece p x) (turns x.polygon p)) r.pieces
+  pub parcels : (p : RationalPoint) → pos 0 <ℤ p.d
+      → All (λ (k : Parcel). TurnsTell (IsInParcel p k) (turns k.polygon p)) r.parcels
 
--- each piece has an area above 0, each parcel the area of its pieces; so what is eligible of a parcel lies between 0 and its area
+-- each piece has an area above 0, each parcel the area of its pieces; so what is eligible of a
+-- parcel lies between 0 and its area
 pub record AreasAdd (r : Contents) : Type 0 where
   pub pieces : All (λ (x : Piece). pos 0 <ℤ area2 x.polygon) r.pieces
   pub parcels : All (λ (k : Parcel). area2 k.polygon ≡ areas2 (pieces_named r k.id)) r.parcels
-  pub eligible : All (λ (k : Parcel). (pos 0 ≤ℤ eligible2 r k.id) × (eligible2 r k.id ≤ℤ area2 k.polygon)) r.parcels
+  pub eligible : All (λ (k : Parcel). (pos 0 ≤ℤ eligible2 r k.id)
+      × (eligible2 r k.id ≤ℤ area2 k.polygon)) r.parcels
 
 pub record IsSoundMap (r : Contents) : Type 0 where
   pub off : IsSoundOffItsLines r

@@ -15,8 +15,10 @@ abbrev pub turns_of_pieces : List Piece → RationalPoint → ℤ
 turns_of_pieces [] p = pos 0
 turns_of_pieces (x ∷ xs) p = turns x.polygon p +ℤ turns_of_pieces xs p
 
--- off the lines each piece turns round a point as often as triangles of its part have the point inside; everywhere each parcel
--- turns round it as often as its pieces together
+-- off the lines each piece turns round a point as often as triangles of its part have the point
+-- inside; everywhere each parcel turns round it as often as its pieces together
 pub record TurnsAdd (r : Contents) (c : Cert) : Type 0 where
-  pub pieces : (p : RationalPoint) → pos 0 <ℤ p.d → IsOffLines r p → (k : ℕ) → OfPiece r c k (λ x t. turns x.polygon p ≡ pos (inside_count t.triangles p))
-  pub parcels : (p : RationalPoint) → pos 0 <ℤ p.d → All (λ (k : Parcel). turns k.polygon p ≡ turns_of_pieces (pieces_named r k.id) p) r.parcels
+  pub pieces : (p : RationalPoint) → pos 0 <ℤ p.d → IsOffLines r p → (k : ℕ)
+      → OfPiece r c k (λ x t. turns x.polygon p ≡ pos (inside_count t.triangles p))
+  pub parcels : (p : RationalPoint) → pos 0 <ℤ p.d
+      → All (λ (k : Parcel). turns k.polygon p ≡ turns_of_pieces (pieces_named r k.id) p) r.parcels

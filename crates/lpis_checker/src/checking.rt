@@ -3,7 +3,7 @@
 ghost use Rattle.std.specs.Prelude.{◌≡◌, IfErr, IfOk, OnOk};
 ghost use Rattle.lpis_checker.specs.Codes.{code_of};
 ghost use Rattle.lpis_checker.specs.FirstFault.{HoldBelow, IsOfParts, Tells};
-ghost use Rattle.lpis_checker.specs.GoodCertificate.{Holds, IsGood};
+ghost use Rattle.lpis_checker.specs.GoodCertificate.{IsGood};
 ghost use Rattle.lpis_checker.specs.private.Searches.{FoundFault, IsToldOf};
 ghost use Rattle.lpis_checker.specs.SoundMap.{AreasAdd, IsSoundMap};
 ghost use Rattle.lpis_checker.specs.TurnsAdd.{TurnsAdd};
@@ -33,10 +33,12 @@ fn told(release: &Release, cert: &Cert, found: &Failing) -> Result<CheckFault, A
     })
 }
 
-/// Checks the parts of a certificate, which are the conditions 60 to 66. A fault is told as `check` tells it.
+/// Checks the parts of a certificate, which are the conditions 60 to 66. A fault is told as `check`
+/// tells it.
 ///
-/// With Ok each parcel has the area of its pieces, each above 0, and turns round each point as often as its pieces together. Off the
-/// lines of the release each piece turns round a point as often as triangles of its part have the point inside.
+/// With Ok each parcel has the area of its pieces, each above 0, and turns round each point as
+/// often as its pieces together. Off the lines of the release each piece turns round a point as
+/// often as triangles of its part have the point inside.
 pub fn check_parts(alloc: Global, release: &Release, cert: &Cert) -> Result<(), CheckFault>
     ensures holds { OnOk result (HoldBelow release.now cert.now (code_of NearPairs)) }
     ensures areas { OnOk result (AreasAdd release.now) }
@@ -50,7 +52,8 @@ pub fn check_parts(alloc: Global, release: &Release, cert: &Cert) -> Result<(), 
     }
 }
 
-/// A release for which a good certificate was seen. Only `check` makes one. Contracts see the release.
+/// A release for which a good certificate was seen. Only `check` makes one. Contracts see the
+/// release.
 #[derive(Drop)]
 pub struct Yes<'a> {
     release: &'a Release,
@@ -68,11 +71,13 @@ impl<'a> Model for Yes<'a> {
     ghost invariant = { λ yes. (c : Cert) × IsGood yes.release.now c };
 }
 
-/// Checks a release against a certificate: Ok exactly where the certificate is good. Else the condition of the lowest code that
-/// fails is told, and the first place at which it does, pieces before parcels. Want of memory is told as such, and is no yes.
+/// Checks a release against a certificate: Ok exactly where the certificate is good. Else the
+/// condition of the lowest code that fails is told, and the first place at which it does, pieces
+/// before parcels. Want of memory is told as such, and is no yes.
 ///
-/// With Ok the release is a sound map: at every rational point at most one piece contains the point and at most one parcel does, and a parcel
-/// exactly when exactly one of its pieces does; each parcel has the area of its pieces, each above 0. It is not used which `PairSource` it is.
+/// With Ok the release is a sound map: at every rational point at most one piece contains the point
+/// and at most one parcel does, and a parcel exactly when exactly one of its pieces does; each
+/// parcel has the area of its pieces, each above 0. It is not used which `PairSource` it is.
 pub fn check<'a, S: PairSource>(
     alloc: Global,
     release: &'a Release,
@@ -107,8 +112,8 @@ impl<'a> Yes<'a> {
         release
     }
 
-    /// The identifiers of the one parcel and of the one piece that contain a point. None exactly where no parcel contains it. It takes no
-    /// memory.
+    /// The identifiers of the one parcel and of the one piece that contain a point. None exactly
+    /// where no parcel contains it. It takes no memory.
     pub fn locate(&self, p: &RatPoint) -> Option<(&'a Id, &'a Id)>
         ensures found { IfSome result (λ ids. IsLocated self.now (rational_of p.now) ids.0.now ids.1.now) }
         ensures nowhere { IfNone result (IsNowhere self.now (rational_of p.now)) }

@@ -6,7 +6,8 @@ ghost use Rattle.lpis_checker.specs.Codes.{code_text};
 /// What a good certificate meets, in the order in which it is told where it does not.
 #[derive(Clone, Copy, Debug, PartialEq, Eq)]
 pub enum Condition {
-    /// Its pieces and parcels have the release's identifiers in order, and its pair lines ascend and name two triangles each.
+    /// Its pieces and parcels have the release's identifiers in order, and its pair lines ascend
+    /// and name two triangles each.
     Names,
     /// Each piece has a triangle.
     Triangles,
@@ -14,7 +15,8 @@ pub enum Condition {
     Turned,
     /// Each flat is three different points of one line.
     Flats,
-    /// Each corner is a point of the piece's rings; of a parcel's flats, of the parcel's rings or those of its pieces.
+    /// Each corner is a point of the piece's rings; of a parcel's flats, of the parcel's rings or
+    /// those of its pieces.
     Corners,
     /// Each piece's edges have the net counts of the edges of its triangles and flats.
     PieceEdges,
@@ -49,7 +51,8 @@ impl Condition {
     }
 }
 
-/// Where a condition may fail: at the piece, the parcel or the pair line of a place, counted from 0, or at two triangles.
+/// Where a condition may fail: at the piece, the parcel or the pair line of a place, counted from
+/// 0, or at two triangles.
 #[derive(Clone, Copy, Debug, PartialEq, Eq)]
 pub enum Site {
     PieceAt(usize),

@@ -100,7 +100,8 @@ fn add_corners_of_pieces(
     release: &Release,
     parcel: &Id,
 ) -> Result<(), AllocError>
-    ensures { OnOk result (points.new.items ≡ points.old.items ++ corners_of_pieces (pieces_named release.now parcel.now)) }
+    ensures { OnOk result (points.new.items ≡ points.old.items
+        ++ corners_of_pieces (pieces_named release.now parcel.now)) }
 {
     for piece in pieces_of(release, parcel) {
         add_corners(points, &piece.polygon)?;
@@ -114,7 +115,8 @@ pub(crate) fn has_corners_of_piece(
     piece: &Piece,
     part: &PiecePart,
 ) -> Result<bool, AllocError>
-    ensures { IfOk result (λ b. IsTrue b ↔ HaveCorners (corners_of piece.now.polygon) (part.now.triangles ++ part.now.flats)) }
+    ensures { IfOk result (λ b. IsTrue b ↔ HaveCorners (corners_of piece.now.polygon)
+        (part.now.triangles ++ part.now.flats)) }
 {
     let mut points = Vec::new(alloc);
     add_corners(&mut points, &piece.polygon)?;
@@ -122,15 +124,18 @@ pub(crate) fn has_corners_of_piece(
     Ok(set.has_corners_of_both(part.triangles.as_slice(), part.flats.as_slice()))
 }
 
-/// Whether each corner of a parcel's flats is a point of its rings or of those of its pieces. Most parcels have no flats, and
-/// take no memory.
+/// Whether each corner of a parcel's flats is a point of its rings or of those of its pieces. Most
+/// parcels have no flats, and take no memory.
 pub(crate) fn has_corners_of_parcel(
     alloc: Global,
     release: &Release,
     parcel: &Parcel,
     part: &ParcelPart,
 ) -> Result<bool, AllocError>
-    ensures { IfOk result (λ b. IsTrue b ↔ HaveCorners (corners_of parcel.now.polygon ++ corners_of_pieces (pieces_named release.now parcel.now.id)) part.now.flats) }
+    ensures { IfOk result
+        (λ b. IsTrue b
+        ↔ HaveCorners (corners_of parcel.now.polygon
+        ++ corners_of_pieces (pieces_named release.now parcel.now.id)) part.now.flats) }
 {
     let flats = part.flats.as_slice();
     if flats.is_empty() {

@@ -3,9 +3,11 @@
 ghost use Rattle.std.specs.Prelude.{◌≡◌, ◌+◌, IfOk, MatchOption};
 ghost use Rattle.lpis_pairs.specs.NearPairs.{IsNearList};
 ghost use Rattle.lpis_checker.specs.Codes.{code_of};
-ghost use Rattle.lpis_checker.specs.FirstFault.{HoldBelow, parcel_id as parcel_id_lem, piece_id as piece_id_lem, place_of as place_of_lem};
+ghost use Rattle.lpis_checker.specs.FirstFault.{HoldBelow, parcel_id as parcel_id_lem};
+ghost use Rattle.lpis_checker.specs.FirstFault.{piece_id as piece_id_lem, place_of as place_of_lem};
 ghost use Rattle.lpis_checker.specs.GoodCertificate.{Holds, triangles_of};
-ghost use Rattle.lpis_checker.specs.private.Searches.{FindsBelow, HasNoParcel, HasNoPiece, IsOfLine, IsOfPart};
+ghost use Rattle.lpis_checker.specs.private.Searches.{FindsBelow, HasNoParcel, HasNoPiece};
+ghost use Rattle.lpis_checker.specs.private.Searches.{IsOfLine, IsOfPart};
 
 use crate::condition::{Condition, Failing, Site};
 use crate::fault::Place;
@@ -18,9 +20,11 @@ use lpis_parcels::Release;
 use lpis_points::Triangle;
 use std::alloc::{AllocError, Global};
 
-/// The identifier of a piece in the certificate, or the release's where the certificate's list has ended.
+/// The identifier of a piece in the certificate, or the release's where the certificate's list has
+/// ended.
 fn piece_id<'a>(release: &'a Release, cert: &'a Cert, place: usize) -> Option<&'a Id>
-    ensures { MatchOption result (HasNoPiece release.now cert.now place) (λ id. id.now ≡ piece_id_lem release.now cert.now place) }
+    ensures { MatchOption result (HasNoPiece release.now cert.now place)
+        (λ id. id.now ≡ piece_id_lem release.now cert.now place) }
 {
     match cert.pieces.as_slice().get(place) {
         Some(part) => Some(&part.id),
@@ -31,9 +35,11 @@ fn piece_id<'a>(release: &'a Release, cert: &'a Cert, place: usize) -> Option<&'
     }
 }
 
-/// The identifier of a parcel in the certificate, or the release's where the certificate's list has ended.
+/// The identifier of a parcel in the certificate, or the release's where the certificate's list has
+/// ended.
 fn parcel_id<'a>(release: &'a Release, cert: &'a Cert, place: usize) -> Option<&'a Id>
-    ensures { MatchOption result (HasNoParcel release.now cert.now place) (λ id. id.now ≡ parcel_id_lem release.now cert.now place) }
+    ensures { MatchOption result (HasNoParcel release.now cert.now place)
+        (λ id. id.now ≡ parcel_id_lem release.now cert.now place) }
 {
     match cert.parcels.as_slice().get(place) {
         Some(part) => Some(&part.id),

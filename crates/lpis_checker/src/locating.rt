@@ -13,7 +13,8 @@ use lpis_rings::contains;
 
 /// The first parcel that contains the point.
 pub(crate) fn parcel_at<'a>(release: &'a Release, p: &RatPoint) -> Option<&'a Parcel>
-    ensures { MatchOption result (IsNowhere release.now (rational_of p.now)) (λ x. Contains release.now.parcels x.now × IsInParcel (rational_of p.now) x.now) }
+    ensures { MatchOption result (IsNowhere release.now (rational_of p.now))
+        (λ x. Contains release.now.parcels x.now × IsInParcel (rational_of p.now) x.now) }
 {
     for parcel in release.parcels() {
         if contains(&parcel.polygon, p) {
@@ -25,7 +26,10 @@ pub(crate) fn parcel_at<'a>(release: &'a Release, p: &RatPoint) -> Option<&'a Pa
 
 /// The first piece of the parcel that contains the point.
 pub(crate) fn piece_at<'a>(release: &'a Release, parcel: &Parcel, p: &RatPoint) -> Option<&'a Piece>
-    ensures { MatchOption result (All (λ (y : Piece). IsInPiece (rational_of p.now) y → ⊥) (pieces_named release.now parcel.now.id)) (λ y. Contains (pieces_named release.now parcel.now.id) y.now × IsInPiece (rational_of p.now) y.now) }
+    ensures { MatchOption result (All (λ (y : Piece). IsInPiece (rational_of p.now) y → ⊥)
+        (pieces_named release.now parcel.now.id))
+        (λ y. Contains (pieces_named release.now parcel.now.id) y.now
+        × IsInPiece (rational_of p.now) y.now) }
 {
     for piece in pieces_of(release, &parcel.id) {
         if contains(&piece.polygon, p) {

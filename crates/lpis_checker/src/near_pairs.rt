@@ -24,7 +24,8 @@ fn skip_to(lines: &[PairLine], from: usize, i: u32, j: u32) -> usize
     requires { from ≤ length lines.now }
     ensures low { from ≤ result }
     ensures high { result ≤ length lines.now }
-    ensures before { (m : ℕ) (l : PairLine) → from ≤ m → m < result → slice_get lines.now m ≡ Some l → IsBelow l.i l.j i j }
+    ensures before { (m : ℕ) (l : PairLine) → from ≤ m → m < result → slice_get lines.now m ≡ Some l
+        → IsBelow l.i l.j i j }
     ensures stop { (l : PairLine) → slice_get lines.now result ≡ Some l → IsBelow l.i l.j i j → ⊥ }
 {
     for place in from..lines.len() {
@@ -44,7 +45,8 @@ fn names_pair(line: &PairLine, i: u32, j: u32) -> bool
 
 /// Whether there is a line at a place, and it names (i, j).
 fn names_at(lines: &[PairLine], place: usize, i: u32, j: u32) -> bool
-    ensures { IsTrue result ↔ ((l : PairLine) × (slice_get lines.now place ≡ Some l) × (l.i ≡ i) × (l.j ≡ j)) }
+    ensures { IsTrue result ↔ ((l : PairLine) × (slice_get lines.now place ≡ Some l) × (l.i ≡ i)
+        × (l.j ≡ j)) }
 {
     match lines.get(place) {
         Some(line) => names_pair(line, i, j),

@@ -21,7 +21,8 @@ pub(crate) fn is_cut(
     piece: &Piece,
     part: &PiecePart,
 ) -> Result<bool, AllocError>
-    ensures { IfOk result (λ b. IsTrue b ↔ SameNet same_point (edges_of piece.now.polygon) (edges_of_triangles part.now.triangles ++ edges_of_triangles part.now.flats)) }
+    ensures { IfOk result (λ b. IsTrue b ↔ SameNet same_point (edges_of piece.now.polygon)
+        (edges_of_triangles part.now.triangles ++ edges_of_triangles part.now.flats)) }
 {
     sum.clear();
     push_polygon(sum, &piece.polygon, true)?;
@@ -37,7 +38,9 @@ pub(crate) fn is_filled(
     parcel: &Parcel,
     part: &ParcelPart,
 ) -> Result<bool, AllocError>
-    ensures { IfOk result (λ b. IsTrue b ↔ SameNet same_point (edges_of parcel.now.polygon) (edges_of_pieces (pieces_named release.now parcel.now.id) ++ edges_of_triangles part.now.flats)) }
+    ensures { IfOk result (λ b. IsTrue b ↔ SameNet same_point (edges_of parcel.now.polygon)
+        (edges_of_pieces (pieces_named release.now parcel.now.id)
+        ++ edges_of_triangles part.now.flats)) }
 {
     sum.clear();
     push_polygon(sum, &parcel.polygon, true)?;

@@ -1,7 +1,9 @@
 //! Whether equal edges cancel, by one walk over them in order.
 
 ghost use Rattle.std.specs.Prelude.{◌≡◌, ◌↔◌, ◌<◌, ◌≤◌, ◌^◌, IsTrue, length, unsigned_abs};
-ghost use Rattle.lpis_checker.specs.private.SignedEdges.{same_ends as same_ends_lem, weight as weight_lem, IsGrouped, SumsAreZero, EndsRun};
+ghost use Rattle.lpis_checker.specs.private.SignedEdges.{same_ends as same_ends_lem};
+ghost use Rattle.lpis_checker.specs.private.SignedEdges.{weight as weight_lem, IsGrouped};
+ghost use Rattle.lpis_checker.specs.private.SignedEdges.{SumsAreZero, EndsRun};
 
 use crate::signed::SignedEdge;
 

@@ -2,7 +2,9 @@
 
 ghost use Rattle.std.specs.Prelude.{◌≡◌, ◌↔◌, ◌<◌, ℕ, IsTrue, IfOk, length};
 ghost use Rattle.lpis_checker.specs.GoodCertificate.{Holds, HoldsEverywhere, triangles_of};
-ghost use Rattle.lpis_checker.specs.private.Searches.{FindsFirst, FindsParcel, FindsPart, FindsPiece, IsOfLine, IsOfPart, OnParcel, OnPiece};
+ghost use Rattle.lpis_checker.specs.private.Searches.{FindsFirst, FindsParcel, FindsPart};
+ghost use Rattle.lpis_checker.specs.private.Searches.{FindsPiece, IsOfLine, IsOfPart, OnParcel};
+ghost use Rattle.lpis_checker.specs.private.Searches.{OnPiece};
 ghost use Rattle.lpis_checker.specs.declared.condition.Condition.TheVariants.{Names};
 ghost use Rattle.lpis_checker.specs.declared.condition.Site.TheVariants.{LineAt, ParcelAt, PieceAt};
 
@@ -19,7 +21,8 @@ use lpis_parcels::{Parcel, Release};
 use lpis_points::Triangle;
 use std::alloc::{AllocError, Global};
 
-/// Whether a condition holds of a piece and its part. The list is for edges: its room is used again.
+/// Whether a condition holds of a piece and its part. The list is for edges: its room is used
+/// again.
 fn holds_of_piece(
     alloc: Global,
     sum: &mut Vec<SignedEdge>,
@@ -39,7 +42,8 @@ fn holds_of_piece(
     }
 }
 
-/// Whether a condition holds of a parcel and its part. The list is for edges: its room is used again.
+/// Whether a condition holds of a parcel and its part. The list is for edges: its room is used
+/// again.
 fn holds_of_parcel(
     alloc: Global,
     sum: &mut Vec<SignedEdge>,
@@ -174,7 +178,8 @@ pub(crate) fn first_at_parts(
     first_part(alloc, release, cert, condition)
 }
 
-/// The first part with another name than its piece or parcel, or the first pair line that is out of order.
+/// The first part with another name than its piece or parcel, or the first pair line that is out of
+/// order.
 pub(crate) fn misnamed(
     alloc: Global,
     release: &Release,

@@ -1,9 +1,11 @@
 //! Conditions on the triangles of each pair line.
 
 ghost use Rattle.std.specs.Prelude.{◌≡◌, ◌↔◌, ◌<◌, IsTrue, false, length};
-ghost use Rattle.lpis_points.specs.Triangles.{Separates, are_apart};
-ghost use Rattle.lpis_checker.specs.GoodCertificate.{EdgeSeparates, Holds, HoldsEverywhere, LineSeparates, OfTwo, triangles_of};
-ghost use Rattle.lpis_checker.specs.declared.condition.Condition.TheVariants.{Names, NotApart, Separating};
+ghost use Rattle.lpis_points.specs.Triangles.{are_apart};
+ghost use Rattle.lpis_checker.specs.GoodCertificate.{EdgeSeparates, Holds, HoldsEverywhere};
+ghost use Rattle.lpis_checker.specs.GoodCertificate.{LineSeparates, OfTwo, triangles_of};
+ghost use Rattle.lpis_checker.specs.declared.condition.Condition.TheVariants.{Names, NotApart};
+ghost use Rattle.lpis_checker.specs.declared.condition.Condition.TheVariants.{Separating};
 ghost use Rattle.lpis_checker.specs.declared.condition.Site.TheVariants.{LineAt};
 
 use lpis_cert::{Cert, PairLine};
@@ -14,7 +16,8 @@ use lpis_points::{Triangle, apart, edge, separates};
 fn names_near(triangles: &[Triangle], line: &PairLine) -> bool
     requires i { line.now.i < length triangles.now }
     requires j { line.now.j < length triangles.now }
-    ensures { IsTrue result ↔ OfTwo triangles.now line.now.i line.now.j (λ t u. are_apart t u ≡ false) }
+    ensures { IsTrue result ↔ OfTwo triangles.now line.now.i line.now.j
+        (λ t u. are_apart t u ≡ false) }
 {
     !apart(&triangles[line.i as usize], &triangles[line.j as usize])
 }
@@ -44,7 +47,8 @@ fn separates_by(k: u8, first: &Triangle, second: &Triangle) -> bool
 fn line_separates(triangles: &[Triangle], line: &PairLine) -> bool
     requires i { line.now.i < length triangles.now }
     requires j { line.now.j < length triangles.now }
-    ensures { IsTrue result ↔ OfTwo triangles.now line.now.i line.now.j (λ t u. LineSeparates line.now.k t u) }
+    ensures { IsTrue result ↔ OfTwo triangles.now line.now.i line.now.j
+        (λ t u. LineSeparates line.now.k t u) }
 {
     separates_by(
         line.k,

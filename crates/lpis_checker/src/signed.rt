@@ -1,4 +1,5 @@
-//! Edges with their lesser point first and a sign, so that equal edges stand together once they are sorted.
+//! Edges with their lesser point first and a sign, so that equal edges stand together once they are
+//! sorted.
 
 ghost use Rattle.std.specs.Prelude.{◌≡◌, ◌∷◌, [], OnOk, false};
 ghost use Rattle.lpis_points.specs.Triangles.{triangle_edges};
@@ -15,8 +16,8 @@ use lpis_rings::{Polygon, edges};
 use std::alloc::AllocError;
 use std::cmp::Ordering;
 
-/// An edge between two points, the lesser first, and whether it runs from that one. An edge that is taken away counts as its
-/// reverse.
+/// An edge between two points, the lesser first, and whether it runs from that one. An edge that is
+/// taken away counts as its reverse.
 #[derive(Clone, Copy, PartialEq, Eq, PartialOrd, Ord)]
 pub(crate) struct SignedEdge {
     pub low: Point,
@@ -24,7 +25,8 @@ pub(crate) struct SignedEdge {
     pub forward: bool,
 }
 
-/// The edge from a to b, or its reverse where it is taken away; `None` for an edge from a point to itself.
+/// The edge from a to b, or its reverse where it is taken away; `None` for an edge from a point to
+/// itself.
 fn signed(a: Point, b: Point, added: bool) -> Option<SignedEdge>
     ensures { IsSigned a b added result }
 {
@@ -73,7 +75,8 @@ pub(crate) fn take_pieces(
     release: &Release,
     parcel: &Id,
 ) -> Result<(), AllocError>
-    ensures { OnOk result (Grows false (edges_of_pieces (pieces_named release.now parcel.now)) sum.old.items sum.new.items) }
+    ensures { OnOk result (Grows false (edges_of_pieces (pieces_named release.now parcel.now))
+        sum.old.items sum.new.items) }
 {
     for piece in pieces_of(release, parcel) {
         push_polygon(sum, &piece.polygon, false)?;

@@ -37,8 +37,8 @@ s 0 1 2
 end
 ";
 
-/// For a parcel A that is the square and its pieces L and R, the halves. The parcel's flats are for the two corners of the halves that
-/// it lacks.
+/// For a parcel A that is the square and its pieces L and R, the halves. The parcel's flats are for
+/// the two corners of the halves that it lacks.
 static HALVES_CERT: &str = "lpis-cert 1
 piece L 2 0
 t 0 0 500 0 500 1000
@@ -143,7 +143,8 @@ fn answer_of_parts(rt: &HostRuntime, release: &Release, cert: &Cert) -> Result<S
     }
 }
 
-/// Fails unless `check` tells this, whichever the source, and `check_parts` the same where it is one of its conditions, 60 to 66.
+/// Fails unless `check` tells this, whichever the source, and `check_parts` the same where it is
+/// one of its conditions, 60 to 66.
 fn expect_answers(
     rt: &HostRuntime,
     release: &Release,

@@ -1,5 +1,5 @@
 -- What a history answers to a release, and what is known of a release that was added to it.
-use Rattle.std.proofs.Common.{◌≡◌, ◌≢◌, ◌∙◌, ◌≤◌, ◌<◌, ◌⊎◌, ◌++◌, ◌∷◌, [], inl, inr, refl, sym, ap, ap₂, subst, arith, ℕ, List, Bool, true, false, Option, Some, None, Result, Ok, Err}
+use Rattle.std.proofs.Common.{◌≡◌, ◌≢◌, ◌∙◌, ◌≤◌, ◌<◌, ◌⊎◌, ◌++◌, ◌∷◌, [], inl, inr, refl, sym, ap, ap₂, subst, arith, ℕ, List, true, false, Option, Some, None, Result, Ok, Err}
 use Rattle.std.specs.Prelude.{nat_le, IfErr, IfOk, OnOk}
 use Rattle.std.specs.Io.KnownBytes.{Appends}
 use Rattle.std.specs.List.{flat_map, list_any}
@@ -17,9 +17,8 @@ use Rattle.lpis_lineage.specs.Descendants.{leads}
 use Rattle.lpis_lineage.specs.Faults.{faults, first}
 use Rattle.lpis_lineage.specs.Kinds.{kind}
 use Rattle.lpis_lineage.specs.Lawful.{IsAnswered}
-use Rattle.lpis_lineage.specs.Lineage.{ended, is_of, last_live, last_year, names, succeeded}
+use Rattle.lpis_lineage.specs.Lineage.{ended, is_of, last_live, last_year, names}
 use Rattle.lpis_lineage.specs.LineageTable.{lineage_table}
-use Rattle.lpis_lineage.specs.private.Follows.{Follows}
 use Rattle.lpis_lineage.proofs.Basics.{and-right}
 use Rattle.lpis_lineage.proofs.Clean.{follows-from-clean, mono}
 use Rattle.lpis_lineage.proofs.RowCounts.{counted-ended}

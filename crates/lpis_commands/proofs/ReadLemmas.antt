@@ -3,7 +3,6 @@ use Rattle.std.proofs.Common.{◌≡◌, ◌+◌, ◌-◌, ◌≤◌, ◌<◌, �
 use Rattle.std.proofs.KnownBytes.{Consumes-trans}
 use Rattle.std.proofs.lemmas.List.{length-append, length-take-le}
 use Rattle.std.specs.Io.KnownBytes.{Consumes}
-use Rattle.lpis_commands.specs.declared.reading.ReadFault.{ReadFault}
 use Rattle.lpis_commands.specs.declared.reading.ReadFault.TheVariants.{Memory, TooLong}
 
 -- how long what was given is, after a read more

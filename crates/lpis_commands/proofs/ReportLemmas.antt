@@ -41,5 +41,7 @@ pub text-goes-on : {A : Type 0} (f : A → List ℕ) (ks : List A) (i : ℕ) (k 
     → Appends start now (flat_map f (take i ks)) → Appends now next (f k) → Appends start next (flat_map f (take (i + 1) ks))
 text-goes-on {A} f ks i k d start now next lt is so_far this =
     let more : flat_map f (take i ks) ++ f k ≡ flat_map f (take (i + 1) ks) =
-    sym (ap (flat_map f) (take_more ks i d lt ∙ ap (λ (x : A). take i ks ++ x ∷ []) (sym is)) ∙ flat_map-append f (take i ks) (k ∷ []) ∙ ap (λ (t : List ℕ). flat_map f (take i ks) ++ t) (append-nil (f k))) in
+    sym (ap (flat_map f) (take_more ks i d lt ∙ ap (λ (x : A). take i ks ++ x ∷ []) (sym is))
+    ∙ flat_map-append f (take i ks) (k ∷ []) ∙ ap (λ (t : List ℕ). flat_map f (take i ks) ++ t) (append-nil (f k)))
+    in
     subst (Appends start next) more (appends-more start now next (flat_map f (take i ks)) (f k) so_far this)

@@ -1,5 +1,6 @@
 -- The printed area of a doubled area: square metres with five decimals, every digit.
-use Rattle.std.specs.Prelude.{◌+◌, ◌*◌, ◌/◌, ◌%◌, ◌^◌, ◌++◌, ◌∷◌, ℕ, zero, suc, ℤ, pos, negsuc, nat_abs, List, [], codes}
+use Rattle.std.specs.Prelude.{◌+◌, ◌*◌, ◌/◌, ◌%◌, ◌^◌, ◌++◌, ◌∷◌, ℕ, zero, suc, ℤ, pos, negsuc}
+use Rattle.std.specs.Prelude.{nat_abs, List, [], codes}
 use Rattle.std.specs.Fmt.{decimal}
 
 -- how many decimals a printed area has

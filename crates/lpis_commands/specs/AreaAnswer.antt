@@ -43,7 +43,9 @@ answer_of bytes = answer_from (rows_of area_table bytes)
 abbrev pub Answers : List ℕ → ℕ → Option (List ℕ) → Option (List ℕ) → Type 0
 Answers bytes status old new = (status ≡ (answer_of bytes).1) × Appends old new (answer_of bytes).0
 
--- the run of a table gave no answer: its reader failed, or the writer did after a beginning of the answer
+-- the run of a table gave no answer: its reader failed, or the writer did after a beginning of the
+-- answer
 abbrev pub Halts : Failure → Option (List ℕ) → Option (List ℕ) → Option (List ℕ) → Type 0
 Halts failure told old new =
-    ((bytes : List ℕ) × IsRead bytes told × (failure ≡ Write Out) × Begins old new (answer_of bytes).0) ⊎ (IsUnread Name.Area failure × Keeps old new)
+    ((bytes : List ℕ) × IsRead bytes told × (failure ≡ Write Out)
+    × Begins old new (answer_of bytes).0) ⊎ (IsUnread Name.Area failure × Keeps old new)

@@ -34,8 +34,8 @@ pub record Inputs : Type 0 where
 abbrev pub Answer : Type 0
 Answer = List ℕ × ℕ
 
--- of a release and a certificate: this answer where the certificate is good, else the line of the lowest code that fails, with its
--- first place
+-- of a release and a certificate: this answer where the certificate is good, else the line of the
+-- lowest code that fails, with its first place
 abbrev pub IsCheckAnswer : Contents → Cert → Answer → Answer → Type 0
 IsCheckAnswer r c good a =
     (IsGood r c × (a ≡ good))
@@ -43,20 +43,25 @@ IsCheckAnswer r c good a =
     × (a ≡ (check_refusal_text (check.At code (place_of r c site)), refused)))
 
 -- of a text: the line of its first fault, or the answer to the certificate whose text it is
-abbrev pub IsCertAnswer : (Cert → Answer → Type 0) → List ℕ → Result ℕ (CertCode × ℕ) → Answer → Type 0
-IsCertAnswer IsNext text (Err fault) a = a ≡ (cert_refusal_text (cert.At fault.0 fault.1), unreadable)
+abbrev pub IsCertAnswer : (Cert → Answer → Type 0) → List ℕ → Result ℕ (CertCode × ℕ) → Answer
+    → Type 0
+IsCertAnswer IsNext text (Err fault) a =
+    a ≡ (cert_refusal_text (cert.At fault.0 fault.1), unreadable)
 IsCertAnswer IsNext text (Ok lines) a = (c : Cert) × (text ≡ cert_text c) × IsNext c a
 
 -- of what tables say: the line of their first fault, or the answer to what they say
-abbrev pub IsTableAnswer : {A : Type 0} → (A → Answer → Type 0) → Result A TableFault → Answer → Type 0
+abbrev pub IsTableAnswer : {A : Type 0} → (A → Answer → Type 0) → Result A TableFault → Answer
+    → Type 0
 IsTableAnswer IsNext (Err fault) a = a ≡ (refusal_text fault, unreadable)
 IsTableAnswer IsNext (Ok said) a = IsNext said a
 
 -- of a release and the text of a certificate: the report where the certificate is good
 abbrev pub IsReleaseAnswer : List ℕ → Contents → Answer → Type 0
-IsReleaseAnswer text r = IsCertAnswer (λ c. IsCheckAnswer r c (report_text r, done)) text (verdict text)
+IsReleaseAnswer text r = IsCertAnswer (λ c. IsCheckAnswer r c (report_text r, done)) text
+    (verdict text)
 
--- the answer to three tables and a certificate: faults of the tables come first, then those of the certificate's text
+-- the answer to three tables and a certificate: faults of the tables come first, then those of the
+-- certificate's text
 abbrev pub IsAnswer : Inputs → Answer → Type 0
 IsAnswer x = IsTableAnswer (IsReleaseAnswer x.cert) (release_of x.parcels x.covers x.classes)
 
@@ -64,7 +69,8 @@ IsAnswer x = IsTableAnswer (IsReleaseAnswer x.cert) (release_of x.parcels x.cove
 abbrev pub Checks : Inputs → ℕ → Option (List ℕ) → Option (List ℕ) → Type 0
 Checks x status old new = (text : List ℕ) × IsAnswer x (text, status) × Appends old new text
 
--- the tables are those of a release that is a sound map, and the text is that of a certificate good for it
+-- the tables are those of a release that is a sound map, and the text is that of a certificate good
+-- for it
 pub record IsProved (x : Inputs) : Type 0 where
   pub release : Contents
   pub tables : release_of x.parcels x.covers x.classes ≡ Ok release
@@ -80,8 +86,8 @@ pub record AreRead (x : Inputs) (parcels covers classes cert : Option (List ℕ)
   pub of_classes : IsRead x.classes classes
   pub of_cert : IsRead x.cert cert
 
--- the run of these inputs answered with this status, and wrote the text; a yes comes only for a release that is a sound map, and a
--- certificate that is good for it
+-- the run of these inputs answered with this status, and wrote the text; a yes comes only for a
+-- release that is a sound map, and a certificate that is good for it
 abbrev pub Ends : Inputs → ℕ → Option (List ℕ) → Option (List ℕ) → Type 0
 Ends x status old new = Checks x status old new × (status ≡ done → IsProved x)
 
@@ -89,8 +95,11 @@ Ends x status old new = Checks x status old new × (status ≡ done → IsProved
 abbrev pub IsBegun : Inputs → Option (List ℕ) → Option (List ℕ) → Type 0
 IsBegun x old new = (a : Answer) × IsAnswer x a × (a.1 ≡ done → IsProved x) × Begins old new a.0
 
--- the run of what four readers told gave no answer: a reader failed, or the writer did after a beginning of the answer
-abbrev pub Halts : Failure → (parcels covers classes cert : Option (List ℕ)) → Option (List ℕ) → Option (List ℕ) → Type 0
+-- the run of what four readers told gave no answer: a reader failed, or the writer did after a
+-- beginning of the answer
+abbrev pub Halts : Failure → (parcels covers classes cert : Option (List ℕ)) → Option (List ℕ)
+    → Option (List ℕ) → Type 0
 Halts failure parcels covers classes cert old new =
-    ((x : Inputs) × AreRead x parcels covers classes cert × (failure ≡ Write Out) × IsBegun x old new)
+    ((x : Inputs) × AreRead x parcels covers classes cert × (failure ≡ Write Out)
+    × IsBegun x old new)
     ⊎ (IsUnchecked parcels covers classes failure × Keeps old new)

@@ -1,7 +1,8 @@
 -- The program's command line.
 use Rattle.std.specs.Prelude.{◌≡◌, ◌≤◌, ℕ, List, Option, Some, None, codes, true}
 use Rattle.std.specs.Str.Parse.{IsNumeral, digits_value, without_leading_plus}
-use Rattle.clap.specs.Words.{App, Row, Rule, Text, first_of, new_app, new_rule, with_rule, with_subcommand}
+use Rattle.clap.specs.Words.{App, Row, Rule, Text, first_of, new_app, new_rule, with_rule}
+use Rattle.clap.specs.Words.{with_subcommand}
 use Rattle.clap.specs.declared.builder.ArgAction.TheVariants.{Set}
 use Rattle.clap.specs.declared.builder.value_parser.ValueParser.TheVariants.{Unsigned}
 use Rattle.lpis_commands.specs.declared.command.Cmd.{Cmd}
@@ -17,11 +18,13 @@ area_app = with_rule (new_app (codes "area")) (word_rule (codes "file"))
 
 -- cut DIR CERT
 abbrev pub cut_app : App
-cut_app = with_rule (with_rule (new_app (codes "cut")) (word_rule (codes "dir"))) (word_rule (codes "cert"))
+cut_app = with_rule (with_rule (new_app (codes "cut")) (word_rule (codes "dir")))
+    (word_rule (codes "cert"))
 
 -- check DIR CERT
 abbrev pub check_app : App
-check_app = with_rule (with_rule (new_app (codes "check")) (word_rule (codes "dir"))) (word_rule (codes "cert"))
+check_app = with_rule (with_rule (new_app (codes "check")) (word_rule (codes "dir")))
+    (word_rule (codes "cert"))
 
 -- YEAR, a number from 1 to 9999
 abbrev pub year_rule : Rule
@@ -72,9 +75,12 @@ IsYear word year =
 
 -- the command has this name, and its words are those of its arguments
 abbrev pub IsNamed : Cmd → Text → List Row → Type 0
-IsNamed (Area file) name rows = (name ≡ codes "area") × (first_of (codes "file") rows ≡ Some file.now)
-IsNamed (Cut dir cert) name rows = (name ≡ codes "cut") × (first_of (codes "dir") rows ≡ Some dir.now) × (first_of (codes "cert") rows ≡ Some cert.now)
-IsNamed (Check dir cert) name rows = (name ≡ codes "check") × (first_of (codes "dir") rows ≡ Some dir.now) × (first_of (codes "cert") rows ≡ Some cert.now)
+IsNamed (Area file) name rows = (name ≡ codes "area")
+    × (first_of (codes "file") rows ≡ Some file.now)
+IsNamed (Cut dir cert) name rows = (name ≡ codes "cut")
+    × (first_of (codes "dir") rows ≡ Some dir.now) × (first_of (codes "cert") rows ≡ Some cert.now)
+IsNamed (Check dir cert) name rows = (name ≡ codes "check")
+    × (first_of (codes "dir") rows ≡ Some dir.now) × (first_of (codes "cert") rows ≡ Some cert.now)
 IsNamed (Publish db year dir cert) name rows =
     (name ≡ codes "publish") × (first_of (codes "db") rows ≡ Some db.now)
     × ((word : Text) × (first_of (codes "year") rows ≡ Some word) × IsYear word year)

@@ -1,5 +1,7 @@
--- The answer to three tables that are to be cut: what the certificate's file gets, what is printed, and the status.
-use Rattle.std.specs.Prelude.{◌≡◌, ◌⊎◌, ◌++◌, ℕ, List, length, codes, Option, Some, None, MatchOption, Result, Ok, Err, sum_by}
+-- The answer to three tables that are to be cut: what the certificate's file gets, what is printed,
+-- and the status.
+use Rattle.std.specs.Prelude.{◌≡◌, ◌⊎◌, ◌++◌, ℕ, List, length, codes, Option, Some, None}
+use Rattle.std.specs.Prelude.{MatchOption, Result, Ok, Err, sum_by}
 use Rattle.std.specs.Fmt.{decimal}
 use Rattle.std.specs.Io.KnownBytes.{Appends, Keeps}
 use Rattle.lpis_covers.specs.declared.fault.TableFault.{TableFault}
@@ -33,7 +35,8 @@ pub record CutAnswer : Type 0 where
 -- the line of a certificate's counts
 abbrev pub counts_text : Cert → List ℕ
 counts_text c =
-    codes "triangles " ++ decimal (sum_by (λ (t : PiecePart). length t.triangles) c.pieces) ++ codes " pairs " ++ decimal (length c.pairs) ++ codes "\n"
+    codes "triangles " ++ decimal (sum_by (λ (t : PiecePart). length t.triangles) c.pieces)
+    ++ codes " pairs " ++ decimal (length c.pairs) ++ codes "\n"
 
 -- a certificate was cut
 pub record IsCut (a : CutAnswer) : Type 0 where
@@ -91,10 +94,12 @@ pub record Writes (a : CutAnswer) (status : ℕ) (old new : Held) : Type 0 where
   pub certificate : Gets old.cert new.cert a.cert
   pub line : Appends old.out new.out a.line
 
--- the run gave no answer: a table was not read, and nothing was written; or the certificate's file failed, and the line was not written; or
--- the output failed, after all of the certificate
+-- the run gave no answer: a table was not read, and nothing was written; or the certificate's file
+-- failed, and the line was not written; or the output failed, after all of the certificate
 abbrev pub Halts : Failure → (parcels covers classes : Option (List ℕ)) → Held → Held → Type 0
 Halts failure parcels covers classes old new =
     (IsUnreadRelease parcels covers failure × Keeps old.cert new.cert × Keeps old.out new.out)
-    ⊎ ((a : CutAnswer) × Cuts parcels covers classes a × (failure ≡ Write name.Cert) × GetsPart old.cert new.cert a.cert × Keeps old.out new.out)
-    ⊎ ((a : CutAnswer) × Cuts parcels covers classes a × (failure ≡ Write name.Out) × Gets old.cert new.cert a.cert × Begins old.out new.out a.line)
+    ⊎ ((a : CutAnswer) × Cuts parcels covers classes a × (failure ≡ Write name.Cert)
+    × GetsPart old.cert new.cert a.cert × Keeps old.out new.out)
+    ⊎ ((a : CutAnswer) × Cuts parcels covers classes a × (failure ≡ Write name.Out)
+    × Gets old.cert new.cert a.cert × Begins old.out new.out a.line)

@@ -1,7 +1,8 @@
 -- What stands for a run that gave no answer.
 use Rattle.std.specs.Prelude.{◌≡◌, ◌⊎◌, ℕ, List, Option, ◌++◌, codes}
 use Rattle.lpis_commands.specs.declared.failure.Name.{Name}
-use Rattle.lpis_commands.specs.declared.failure.Name.TheVariants.{Area, Parcels, Covers, Classes, Lineage, Cert, Out}
+use Rattle.lpis_commands.specs.declared.failure.Name.TheVariants.{Area, Parcels, Covers, Classes}
+use Rattle.lpis_commands.specs.declared.failure.Name.TheVariants.{Lineage, Cert, Out}
 use Rattle.lpis_commands.specs.declared.failure.Failure.{Failure}
 use Rattle.lpis_commands.specs.declared.failure.Failure.TheVariants.{Memory, Read, Write, Store}
 use Rattle.lpis_commands.specs.Streams.{IsWithin}
@@ -30,15 +31,18 @@ IsUnread name failure = (failure ≡ Memory) ⊎ (failure ≡ Read name)
 -- a table of a release was not read, while those before it were; or memory ran out
 abbrev pub IsUnreadRelease : (parcels covers : Option (List ℕ)) → Failure → Type 0
 IsUnreadRelease parcels covers failure =
-    (failure ≡ Memory) ⊎ (failure ≡ Read Parcels) ⊎ (IsWithin parcels × (failure ≡ Read Covers)) ⊎ (IsWithin parcels × IsWithin covers × (failure ≡ Read Classes))
+    (failure ≡ Memory) ⊎ (failure ≡ Read Parcels) ⊎ (IsWithin parcels × (failure ≡ Read Covers))
+    ⊎ (IsWithin parcels × IsWithin covers × (failure ≡ Read Classes))
 
 -- so it is of the tables, or the certificate was not read, while the tables were
 abbrev pub IsUnchecked : (parcels covers classes : Option (List ℕ)) → Failure → Type 0
 IsUnchecked parcels covers classes failure =
-    IsUnreadRelease parcels covers failure ⊎ (IsWithin parcels × IsWithin covers × IsWithin classes × (failure ≡ Read Cert))
+    IsUnreadRelease parcels covers failure ⊎ (IsWithin parcels × IsWithin covers × IsWithin classes
+    × (failure ≡ Read Cert))
 
 -- so it is of these, or the lineage table was not read, while they were
 abbrev pub IsUnpublished : (parcels covers classes cert : Option (List ℕ)) → Failure → Type 0
 IsUnpublished parcels covers classes cert failure =
     IsUnchecked parcels covers classes failure
-    ⊎ (IsWithin parcels × IsWithin covers × IsWithin classes × IsWithin cert × (failure ≡ Read Lineage))
+    ⊎ (IsWithin parcels × IsWithin covers × IsWithin classes × IsWithin cert
+    × (failure ≡ Read Lineage))

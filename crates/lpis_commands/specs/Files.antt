@@ -3,7 +3,8 @@ use Rattle.std.specs.Prelude.{◌≡◌, ◌∷◌, [], ◌++◌, ⊤, ℕ, List
 use Rattle.lpis_commands.specs.declared.command.Cmd.{Cmd}
 use Rattle.lpis_commands.specs.declared.command.Cmd.TheVariants as cmd
 use Rattle.lpis_commands.specs.declared.failure.Name.{Name}
-use Rattle.lpis_commands.specs.declared.failure.Name.TheVariants.{Area, Parcels, Covers, Classes, Cert, Lineage}
+use Rattle.lpis_commands.specs.declared.failure.Name.TheVariants.{Area, Parcels, Covers, Classes}
+use Rattle.lpis_commands.specs.declared.failure.Name.TheVariants.{Cert, Lineage}
 use Rattle.lpis_commands.specs.declared.named.NamedFile.{NamedFile}
 use Rattle.lpis_commands.specs.declared.named.TableFiles.{TableFiles}
 use Rattle.lpis_commands.specs.declared.named.CommandFiles.{CommandFiles}
@@ -15,7 +16,9 @@ in_folder dir file = dir ++ codes "/" ++ file
 
 -- the tables of the release in a folder
 abbrev pub tables_in : List ℕ → List (List ℕ × Name)
-tables_in dir = (in_folder dir (codes "parcels.csv"), Parcels) ∷ (in_folder dir (codes "covers.csv"), Covers) ∷ (in_folder dir (codes "classes.csv"), Classes) ∷ []
+tables_in dir = (in_folder dir (codes "parcels.csv"), Parcels)
+    ∷ (in_folder dir (codes "covers.csv"), Covers) ∷ (in_folder dir (codes "classes.csv"), Classes)
+    ∷ []
 
 -- the files of a command beside its register, in the order in which they are opened, each a path
 -- and the name by which a failure tells of it

@@ -1,4 +1,5 @@
--- The lines of a publication: what became of identifiers, the year, and the refusals of the register.
+-- The lines of a publication: what became of identifiers, the year, and the refusals of the
+-- register.
 use Rattle.std.specs.Prelude.{ℕ, List, [], ◌++◌, codes, Option, Some, None}
 use Rattle.std.specs.Fmt.{decimal}
 use Rattle.std.specs.List.{flat_map}
@@ -6,7 +7,8 @@ use Rattle.lpis_lineage.specs.declared.fault.LineageCode.{LineageCode}
 use Rattle.lpis_lineage.specs.declared.fault.LineageFault.{LineageFault}
 use Rattle.lpis_lineage.specs.declared.fault.LineageFault.TheVariants as lineage
 use Rattle.lpis_lineage.specs.declared.kind.Kind.{Kind}
-use Rattle.lpis_lineage.specs.declared.kind.Kind.TheVariants.{Kept, Split, Merged, Replaced, Redrawn, Ended}
+use Rattle.lpis_lineage.specs.declared.kind.Kind.TheVariants.{Kept, Split, Merged, Replaced}
+use Rattle.lpis_lineage.specs.declared.kind.Kind.TheVariants.{Redrawn, Ended}
 use Rattle.lpis_lineage.specs.declared.row.Row.{Row}
 use Rattle.lpis_lineage.specs.Changes.{dropped}
 use Rattle.lpis_lineage.specs.Codes as lineage_codes
@@ -32,10 +34,12 @@ fate_text (Some k) = kind_text k
 
 -- the line of an identifier that has this kind
 abbrev pub lineage_line : (List ℕ → Option Kind) → List ℕ → List ℕ
-lineage_line kind_of id = codes "lineage " ++ id ++ codes " " ++ fate_text (kind_of id) ++ codes "\n"
+lineage_line kind_of id = codes "lineage " ++ id ++ codes " " ++ fate_text (kind_of id)
+    ++ codes "\n"
 
--- from the identifiers of the last release to those that are live now, by these rows: the line of each identifier that is dropped, in the
--- order of the last release's, which in a history ascend by bytes
+-- from the identifiers of the last release to those that are live now, by these rows: the line of
+-- each identifier that is dropped, in the order of the last release's, which in a history ascend by
+-- bytes
 abbrev pub lineage_lines : (last live : List (List ℕ)) → List Row → List ℕ
 lineage_lines last live rows = flat_map (lineage_line (kind last live rows)) (dropped last live)
 
@@ -57,18 +61,25 @@ lineage_place_text (lineage.UsedBefore id year) = id ++ codes " " ++ decimal yea
 -- the code of a lineage and its place; want of memory is no fault of a lineage
 abbrev pub lineage_code_text : Option LineageCode → List ℕ → List ℕ
 lineage_code_text None place = []
-lineage_code_text (Some c) place = codes "lineage " ++ lineage_codes.code_text c ++ codes " " ++ place
+lineage_code_text (Some c) place = codes "lineage " ++ lineage_codes.code_text c ++ codes " "
+    ++ place
 
 unfoldable pub lineage_fault_text : LineageFault → List ℕ
-lineage_fault_text fault = lineage_code_text (lineage_codes.code_of fault) (lineage_place_text fault)
+lineage_fault_text fault = lineage_code_text (lineage_codes.code_of fault)
+    (lineage_place_text fault)
 
--- of the register: the code, and the last year or the lineage's fault; want of memory and a failed store are no refusals, and have no line
+-- of the register: the code, and the last year or the lineage's fault; want of memory and a failed
+-- store are no refusals, and have no line
 abbrev pub publish_refusal_text : PublishFault → List ℕ
 publish_refusal_text publish.Memory = []
 publish_refusal_text (publish.Year last) =
-    codes "refused " ++ publish_codes.code_text code.YearNotAbove ++ codes " last " ++ decimal last ++ codes "\n"
+    codes "refused " ++ publish_codes.code_text code.YearNotAbove ++ codes " last " ++ decimal last
+    ++ codes "\n"
 publish_refusal_text (publish.Lineage fault) =
-    codes "refused " ++ publish_codes.code_text code.BadLineage ++ codes " " ++ lineage_fault_text fault ++ codes "\n"
+    codes "refused " ++ publish_codes.code_text code.BadLineage ++ codes " "
+    ++ lineage_fault_text fault ++ codes "\n"
 publish_refusal_text publish.Store = []
-publish_refusal_text publish.Unknown = codes "refused " ++ publish_codes.code_text code.UnknownIdentifier ++ codes "\n"
-publish_refusal_text publish.Unlawful = codes "refused " ++ publish_codes.code_text code.UnlawfulRows ++ codes "\n"
+publish_refusal_text publish.Unknown = codes "refused "
+    ++ publish_codes.code_text code.UnknownIdentifier ++ codes "\n"
+publish_refusal_text publish.Unlawful = codes "refused "
+    ++ publish_codes.code_text code.UnlawfulRows ++ codes "\n"

@@ -20,18 +20,22 @@ use Rattle.lpis_checker.specs.Codes as check_codes
 abbrev pub wkt_text : Option WktFault → List ℕ
 wkt_text None = []
 wkt_text (Some wkt.Memory) = []
-wkt_text (Some (wkt.At code offset)) = codes " wkt " ++ wkt_codes.code_text code ++ codes " at " ++ decimal offset
+wkt_text (Some (wkt.At code offset)) = codes " wkt " ++ wkt_codes.code_text code ++ codes " at "
+    ++ decimal offset
 
--- of a table: the code, the table, the row and, where the row has a text that is no polygon, the fault of that text
+-- of a table: the code, the table, the row and, where the row has a text that is no polygon, the
+-- fault of that text
 abbrev pub refusal_text : TableFault → List ℕ
 refusal_text table.Memory = []
 refusal_text (table.At code name row wkt) =
-    codes "refused " ++ code_text code ++ codes " " ++ table_text name ++ codes " row " ++ decimal row ++ wkt_text wkt ++ codes "\n"
+    codes "refused " ++ code_text code ++ codes " " ++ table_text name ++ codes " row "
+    ++ decimal row ++ wkt_text wkt ++ codes "\n"
 
 -- of a certificate's text: the code and the number of the line
 abbrev pub cert_refusal_text : CertFault → List ℕ
 cert_refusal_text cert.Memory = []
-cert_refusal_text (cert.At code line) = codes "refused " ++ cert_codes.code_text code ++ codes " cert line " ++ decimal line ++ codes "\n"
+cert_refusal_text (cert.At code line) = codes "refused " ++ cert_codes.code_text code
+    ++ codes " cert line " ++ decimal line ++ codes "\n"
 
 -- a piece or a parcel by its identifier, or two triangles by their numbers
 abbrev pub place_text : Place → List ℕ
@@ -42,4 +46,5 @@ place_text (Pair i j) = codes "pair " ++ decimal i ++ codes " " ++ decimal j
 -- of a certificate that is not good: the code and the place
 abbrev pub check_refusal_text : CheckFault → List ℕ
 check_refusal_text check.Memory = []
-check_refusal_text (check.At code place) = codes "refused " ++ check_codes.code_text code ++ codes " " ++ place_text place ++ codes "\n"
+check_refusal_text (check.At code place) = codes "refused " ++ check_codes.code_text code
+    ++ codes " " ++ place_text place ++ codes "\n"

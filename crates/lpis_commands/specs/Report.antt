@@ -15,11 +15,13 @@ sum_over f (k ∷ ks) = f k +ℤ sum_over f ks
 
 -- an area and how much of it is eligible, up to the end of the line
 unfoldable pub areas_text : ℤ → ℤ → List ℕ
-areas_text area eligible = codes " area " ++ area_text area ++ codes " eligible " ++ area_text eligible ++ codes "\n"
+areas_text area eligible = codes " area " ++ area_text area ++ codes " eligible "
+    ++ area_text eligible ++ codes "\n"
 
 -- the line that counts parcels and pieces
 abbrev pub counts_line : Contents → List ℕ
-counts_line r = codes "parcels " ++ decimal (length r.parcels) ++ codes " pieces " ++ decimal (length r.pieces) ++ codes "\n"
+counts_line r = codes "parcels " ++ decimal (length r.parcels) ++ codes " pieces "
+    ++ decimal (length r.pieces) ++ codes "\n"
 
 -- the line of a parcel: its identifier, its area, its maximum eligible area
 abbrev pub parcel_line : Contents → Parcel → List ℕ
@@ -27,8 +29,10 @@ parcel_line r k = codes "parcel " ++ k.id ++ areas_text (area2 k.polygon) (eligi
 
 -- the line of all parcels together
 abbrev pub total_line : Contents → List ℕ
-total_line r = codes "total" ++ areas_text (sum_over (λ k. area2 k.polygon) r.parcels) (sum_over (λ k. eligible2 r k.id) r.parcels)
+total_line r = codes "total" ++ areas_text (sum_over (λ k. area2 k.polygon) r.parcels)
+    (sum_over (λ k. eligible2 r k.id) r.parcels)
 
--- the report: the counts, a line a parcel in the order of the table, the sums over all parcels, and the yes
+-- the report: the counts, a line a parcel in the order of the table, the sums over all parcels, and
+-- the yes
 abbrev pub report_text : Contents → List ℕ
 report_text r = counts_line r ++ flat_map (parcel_line r) r.parcels ++ total_line r ++ codes "yes\n"

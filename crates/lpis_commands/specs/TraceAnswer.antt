@@ -18,15 +18,18 @@ use Rattle.lpis_commands.specs.Streams.{Begins}
 abbrev pub id_line : List ℕ → List ℕ
 id_line id = id ++ codes "\n"
 
--- the line of a word that is no identifier, or one that no release holds; or each live descendant on a line of its own
+-- the line of a word that is no identifier, or one that no release holds; or each live descendant
+-- on a line of its own
 abbrev pub IsTraceAnswer : List Entry → List ℕ → Answer → Type 0
 IsTraceAnswer h word a =
-    (((is_id word ≡ false) ⊎ IsUnknown h word) × (a ≡ (publish_refusal_text publish.Unknown, refused)))
+    (((is_id word ≡ false) ⊎ IsUnknown h word)
+    × (a ≡ (publish_refusal_text publish.Unknown, refused)))
     ⊎ ((ids : List (List ℕ)) × IsTrace h word ids × (a ≡ (flat_map id_line ids, done)))
 
 -- the run answered with this status, and wrote the text
 abbrev pub Traces : List Entry → List ℕ → ℕ → Option (List ℕ) → Option (List ℕ) → Type 0
-Traces h word status old new = (text : List ℕ) × IsTraceAnswer h word (text, status) × Appends old new text
+Traces h word status old new = (text : List ℕ) × IsTraceAnswer h word (text, status)
+    × Appends old new text
 
 -- the run gave no answer: the output failed after a beginning of it, or memory ran out
 abbrev pub Halts : Failure → List Entry → List ℕ → Option (List ℕ) → Option (List ℕ) → Type 0

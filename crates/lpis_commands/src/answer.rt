@@ -42,7 +42,8 @@ impl Answer {
     pub(crate) fn write_to<W: Write>(&self, out: &mut W) -> Result<u8, Failure>
         ensures status { IfOk result (λ status. status ≡ self.now.status) }
         ensures text { OnOk result (Appends (W.contents out.old) (W.contents out.new) self.now.text.items) }
-        ensures failure { IfErr result (λ failure. (failure ≡ Failure.Write Name.Out) × Begins (W.contents out.old) (W.contents out.new) self.now.text.items) }
+        ensures failure { IfErr result (λ failure. (failure ≡ Failure.Write Name.Out)
+            × Begins (W.contents out.old) (W.contents out.new) self.now.text.items) }
     {
         write_text(self.text.as_slice(), Name::Out, out)?;
         Ok(self.status)

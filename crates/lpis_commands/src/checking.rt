@@ -5,10 +5,11 @@ ghost use Rattle.lpis_cert.specs.Contents.{cert_text};
 ghost use Rattle.lpis_cert.specs.declared.cert.Cert.{Cert};
 ghost use Rattle.lpis_checker.specs.GoodCertificate.{IsGood};
 ghost use Rattle.lpis_checker.specs.SoundMap.{IsSoundMap};
-ghost use Rattle.lpis_commands.specs.CheckAnswer.{AreRead, Ends, Halts, Inputs, IsAnswer, IsCheckAnswer, IsProved, IsReleaseAnswer};
+ghost use Rattle.lpis_commands.specs.CheckAnswer.{AreRead, Ends, Halts, Inputs, IsAnswer};
+ghost use Rattle.lpis_commands.specs.CheckAnswer.{IsCheckAnswer, IsProved, IsReleaseAnswer};
 ghost use Rattle.lpis_commands.specs.private.CheckRuns.{inputs_of};
 ghost use Rattle.lpis_commands.specs.Failures.{IsUnchecked};
-ghost use Rattle.lpis_commands.specs.Refusals.{cert_refusal_text, check_refusal_text, refusal_text};
+ghost use Rattle.lpis_commands.specs.Refusals.{cert_refusal_text, check_refusal_text};
 ghost use Rattle.lpis_commands.specs.Report.{report_text};
 ghost use Rattle.lpis_commands.specs.Status.{done, refused, unreadable};
 
@@ -36,7 +37,8 @@ pub(crate) struct InputBytes {
 
 /// The line of a text that is no certificate.
 pub(crate) fn refuse_text(alloc: Global, fault: &CertFault) -> Result<Answer, AllocError>
-    ensures { IfOk result (λ a. (a.text.items ≡ cert_refusal_text fault.now) × (a.status ≡ unreadable)) }
+    ensures { IfOk result (λ a. (a.text.items ≡ cert_refusal_text fault.now)
+        × (a.status ≡ unreadable)) }
 {
     let mut text = Vec::new(alloc);
     match print_cert_fault(fault, &mut text) {
@@ -75,8 +77,10 @@ fn report(alloc: Global, yes: &Yes<'_>) -> Result<Answer, AllocError>
 
 /// The answer to a release and a certificate.
 fn answer_to_cert(alloc: Global, release: &Release, cert: &Cert) -> Result<Answer, AllocError>
-    ensures answer { IfOk result (λ a. IsCheckAnswer release.now cert.now (report_text release.now, done) (a.text.items, a.status)) }
-    ensures proved { IfOk result (λ a. a.status ≡ done → IsSoundMap release.now × IsGood release.now cert.now) }
+    ensures answer { IfOk result (λ a. IsCheckAnswer release.now cert.now (report_text release.now, done)
+        (a.text.items, a.status)) }
+    ensures proved { IfOk result (λ a. a.status ≡ done → IsSoundMap release.now
+        × IsGood release.now cert.now) }
 {
     match check(alloc, release, cert, &Sweep) {
         Ok(yes) => {
@@ -92,7 +96,8 @@ fn answer_to_cert(alloc: Global, release: &Release, cert: &Cert) -> Result<Answe
 /// The answer to a release and the text of a certificate.
 fn answer_to_text(alloc: Global, release: &Release, text: &[u8]) -> Result<Answer, AllocError>
     ensures answer { IfOk result (λ a. IsReleaseAnswer text.now release.now (a.text.items, a.status)) }
-    ensures proved { IfOk result (λ a. a.status ≡ done → IsSoundMap release.now × ((c : Cert) × (text.now ≡ cert_text c) × IsGood release.now c)) }
+    ensures proved { IfOk result (λ a. a.status ≡ done → IsSoundMap release.now
+        × ((c : Cert) × (text.now ≡ cert_text c) × IsGood release.now c)) }
 {
     match read_cert(alloc, text) {
         Ok(cert) => answer_to_cert(alloc, release, &cert),
@@ -124,19 +129,23 @@ pub(crate) fn read_inputs<P: Read + Drop, C: Read + Drop, K: Read + Drop, E: Rea
     classes: K,
     cert: E,
 ) -> Result<InputBytes, Failure>
-    ensures bytes { IfOk result (λ i. AreRead (inputs_of i) (P.remaining parcels) (C.remaining covers) (K.remaining classes) (E.remaining cert)) }
-    ensures failure { IfErr result (IsUnchecked (P.remaining parcels) (C.remaining covers) (K.remaining classes)) }
+    ensures bytes { IfOk result (λ i. AreRead (inputs_of i) (P.remaining parcels) (C.remaining covers)
+        (K.remaining classes) (E.remaining cert)) }
+    ensures failure { IfErr result (IsUnchecked (P.remaining parcels) (C.remaining covers)
+        (K.remaining classes)) }
 {
     let tables = read_tables(alloc, parcels, covers, classes)?;
     let cert = read_named(alloc, cert, Name::Cert)?;
     Ok(InputBytes { tables, cert })
 }
 
-/// Checks the release of three tables against a certificate, and prints the report of a release that is a sound map, or the line of
-/// the first fault: of the tables, then of the certificate's text, then of the certificate.
+/// Checks the release of three tables against a certificate, and prints the report of a release
+/// that is a sound map, or the line of the first fault: of the tables, then of the certificate's
+/// text, then of the certificate.
 ///
-/// All inputs are read to their ends, in the order in which they stand here, before anything is decided, and everything is decided
-/// before anything is written. Ok is the status: `DONE`, `REFUSED` or `UNREADABLE`.
+/// All inputs are read to their ends, in the order in which they stand here, before anything is
+/// decided, and everything is decided before anything is written. Ok is the status: `DONE`,
+/// `REFUSED` or `UNREADABLE`.
 pub fn run_check<P: Read + Drop, C: Read + Drop, K: Read + Drop, E: Read + Drop, W: Write>(
     alloc: Global,
     parcels: P,
@@ -145,9 +154,12 @@ pub fn run_check<P: Read + Drop, C: Read + Drop, K: Read + Drop, E: Read + Drop,
     cert: E,
     out: &mut W,
 ) -> Result<u8, Failure>
-    ensures answer { IfOk result (λ status. (x : Inputs) × AreRead x (P.remaining parcels) (C.remaining covers) (K.remaining classes) (E.remaining cert) × Ends x status (W.contents out.old) (W.contents out.new)) }
+    ensures answer { IfOk result (λ status. (x : Inputs) × AreRead x (P.remaining parcels) (C.remaining covers)
+        (K.remaining classes) (E.remaining cert) × Ends x status (W.contents out.old)
+        (W.contents out.new)) }
     // A beginning of the answer was written, or nothing.
-    ensures failure { IfErr result (λ failure. Halts failure (P.remaining parcels) (C.remaining covers) (K.remaining classes) (E.remaining cert) (W.contents out.old) (W.contents out.new)) }
+    ensures failure { IfErr result (λ failure. Halts failure (P.remaining parcels) (C.remaining covers)
+        (K.remaining classes) (E.remaining cert) (W.contents out.old) (W.contents out.new)) }
 {
     let inputs = read_inputs(alloc, parcels, covers, classes, cert)?;
     let answer = answer_to(alloc, &inputs)?;

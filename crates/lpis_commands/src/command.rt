@@ -1,9 +1,13 @@
 //! The command line.
 
 ghost use Rattle.std.specs.Prelude.{◌≡◌, IfOk, IfSome, Some, codes, false, map};
-ghost use Rattle.clap.specs.Words.{FailsBy, Text, fault_of, first_of, found_of, rows_of, rule_of, subcommand_of};
-ghost use Rattle.lpis_commands.specs.Command.{IsCommand, IsNamed, IsYear, area_app, check_app, command_line_app, cut_app, program_app};
-ghost use Rattle.lpis_commands.specs.Command.{publish_app, publish_year_app, trace_app, unchecked_app, unregistered_app, word_rule, year_rule};
+ghost use Rattle.clap.specs.Words.{FailsBy, Text, fault_of, first_of, found_of, rows_of, rule_of};
+ghost use Rattle.clap.specs.Words.{subcommand_of};
+ghost use Rattle.lpis_commands.specs.Command.{IsCommand, IsNamed, IsYear, area_app, check_app};
+ghost use Rattle.lpis_commands.specs.Command.{command_line_app, cut_app, program_app};
+ghost use Rattle.lpis_commands.specs.Command.{publish_app, publish_year_app, trace_app};
+ghost use Rattle.lpis_commands.specs.Command.{unchecked_app, unregistered_app, word_rule};
+ghost use Rattle.lpis_commands.specs.Command.{year_rule};
 ghost use Rattle.lpis_commands.specs.private.Commands.{IsCommandOf};
 
 use clap::builder::ValueParser;
@@ -237,7 +241,8 @@ fn word_of<'a>(matches: &ArgMatches<'a>, id: &str) -> Option<&'a str>
 
 /// The year of an argument. Another number is none: `clap` lets no other through.
 fn year_of(matches: &ArgMatches<'_>, id: &str) -> Option<u16>
-    ensures { IfSome result (λ year. (word : Text) × (first_of id.now (rows_of (found_of matches.now)) ≡ Some word) × IsYear word year) }
+    ensures { IfSome result (λ year. (word : Text)
+        × (first_of id.now (rows_of (found_of matches.now)) ≡ Some word) × IsYear word year) }
 {
     let word = word_of(matches, id)?;
     match word.parse::<u16>() {
@@ -300,7 +305,8 @@ fn command_named<'a>(name: &str, matches: &ArgMatches<'a>) -> Option<Cmd<'a>>
 ///
 /// The error has `clap`'s text and exit code; want of memory is its kind `OutOfMemory`.
 pub fn command_of<'a>(alloc: Global, words: &'a [&'a str]) -> Result<Cmd<'a>, Error>
-    ensures command { IfOk result (λ c. IsCommand c (subcommand_of command_line_app (map (λ s. s.now) words.entry.now))) }
+    ensures command { IfOk result
+        (λ c. IsCommand c (subcommand_of command_line_app (map (λ s. s.now) words.entry.now))) }
     ensures kinds { FailsBy (fault_of command_line_app (map (λ s. s.now) words.entry.now)) result }
 {
     let mut line = command_line(alloc)?;

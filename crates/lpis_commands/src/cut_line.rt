@@ -48,7 +48,8 @@ fn print_named<W: Write>(refusal: &Refusal, out: &mut W) -> Result<(), PrintFaul
 
 /// Writes the line of a release that gets no certificate.
 pub fn print_refusal<W: Write>(refusal: &Refusal, out: &mut W) -> Result<(), PrintFault>
-    ensures { OnOk result (Appends (W.contents out.old) (W.contents out.new) (cut_refusal_text refusal.now)) }
+    ensures { OnOk result (Appends (W.contents out.old) (W.contents out.new)
+        (cut_refusal_text refusal.now)) }
 {
     write!(out, "refused {} ", refusal.as_str())?;
     print_named(refusal, out)?;

@@ -4,7 +4,9 @@ ghost use Rattle.std.specs.Prelude.{◌≡◌, IfErr, IfOk, OnOk, Ok};
 ghost use Rattle.lpis_cert.specs.Contents.{cert_text};
 ghost use Rattle.lpis_covers.specs.Table.{Answers};
 ghost use Rattle.lpis_parcels.specs.Release.{release_of};
-ghost use Rattle.lpis_commands.specs.CutAnswer.{CutAnswer, Cuts, Gets, GetsPart, Halts, Held, IsCut, IsCutAnswer, IsUnreadable, Writes, counts_text, held};
+ghost use Rattle.lpis_commands.specs.CutAnswer.{CutAnswer, Cuts, Gets, GetsPart, Halts};
+ghost use Rattle.lpis_commands.specs.CutAnswer.{IsCut, IsCutAnswer, IsUnreadable, Writes};
+ghost use Rattle.lpis_commands.specs.CutAnswer.{counts_text, held};
 ghost use Rattle.lpis_commands.specs.CutRefusals.{cut_refusal_text};
 ghost use Rattle.lpis_commands.specs.private.CutRuns.{answered};
 ghost use Rattle.lpis_commands.specs.Failures.{IsUnreadRelease};
@@ -35,8 +37,10 @@ struct Outcome {
 impl Outcome {
     /// Writes the certificate's text, if there is one.
     fn write_cert_to<E: Write>(&self, cert_out: &mut E) -> Result<(), Failure>
-        ensures whole { OnOk result (Gets (E.contents cert_out.old) (E.contents cert_out.new) (answered self.now).cert) }
-        ensures part { IfErr result (λ failure. (failure ≡ Failure.Write Name.Cert) × GetsPart (E.contents cert_out.old) (E.contents cert_out.new) (answered self.now).cert) }
+        ensures whole { OnOk result (Gets (E.contents cert_out.old) (E.contents cert_out.new)
+            (answered self.now).cert) }
+        ensures part { IfErr result (λ failure. (failure ≡ Failure.Write Name.Cert)
+            × GetsPart (E.contents cert_out.old) (E.contents cert_out.new) (answered self.now).cert) }
     {
         match &self.cert {
             Some(text) => write_text(text.as_slice(), Name::Cert, cert_out),
@@ -133,7 +137,9 @@ fn release_in(alloc: Global, tables: TableBytes) -> Result<Release, TableFault>
 
 /// The answer to three tables.
 fn answer_to(alloc: Global, tables: TableBytes) -> Result<Outcome, AllocError>
-    ensures { IfOk result (λ o. IsCutAnswer (release_of tables.parcels.items tables.covers.items tables.classes.items) (answered o)) }
+    ensures { IfOk result
+        (λ o. IsCutAnswer (release_of tables.parcels.items tables.covers.items tables.classes.items)
+        (answered o)) }
 {
     match release_in(alloc, tables) {
         Ok(release) => answer_to_release(alloc, &release),
@@ -149,7 +155,8 @@ fn decide<P: Read + Drop, C: Read + Drop, K: Read + Drop>(
     covers: C,
     classes: K,
 ) -> Result<Outcome, Failure>
-    ensures cuts { IfOk result (λ o. Cuts (P.remaining parcels) (C.remaining covers) (K.remaining classes) (answered o)) }
+    ensures cuts { IfOk result (λ o. Cuts (P.remaining parcels) (C.remaining covers) (K.remaining classes)
+        (answered o)) }
     ensures unread { IfErr result (IsUnreadRelease (P.remaining parcels) (C.remaining covers)) }
 {
     let tables = read_tables(alloc, parcels, covers, classes)?;
@@ -157,12 +164,13 @@ fn decide<P: Read + Drop, C: Read + Drop, K: Read + Drop>(
     Ok(outcome)
 }
 
-/// Cuts the release of three tables: writes a certificate of triangles and prints its counts, or prints the line of the tables' first
-/// fault or of the cutter's refusal.
+/// Cuts the release of three tables: writes a certificate of triangles and prints its counts, or
+/// prints the line of the tables' first fault or of the cutter's refusal.
 ///
-/// The tables are read to their ends, in the order in which they stand here, and everything is decided before anything is written. The
-/// certificate is written first, then the line; where there is no certificate, `cert_out` is not written to at all. Ok is the status:
-/// `DONE`, `REFUSED` or `UNREADABLE`.
+/// The tables are read to their ends, in the order in which they stand here, and everything is
+/// decided before anything is written. The certificate is written first, then the line; where there
+/// is no certificate, `cert_out` is not written to at all. Ok is the status: `DONE`, `REFUSED` or
+/// `UNREADABLE`.
 pub fn run_cut<P: Read + Drop, C: Read + Drop, K: Read + Drop, E: Write, W: Write>(
     alloc: Global,
     parcels: P,
@@ -171,9 +179,15 @@ pub fn run_cut<P: Read + Drop, C: Read + Drop, K: Read + Drop, E: Write, W: Writ
     cert_out: &mut E,
     out: &mut W,
 ) -> Result<u8, Failure>
-    ensures answer { IfOk result (λ status. (a : CutAnswer) × Cuts (P.remaining parcels) (C.remaining covers) (K.remaining classes) a × Writes a status (held (E.contents cert_out.old) (W.contents out.old)) (held (E.contents cert_out.new) (W.contents out.new))) }
-    // A beginning of the certificate was written, or the certificate and a beginning of the line, or nothing.
-    ensures failure { IfErr result (λ failure. Halts failure (P.remaining parcels) (C.remaining covers) (K.remaining classes) (held (E.contents cert_out.old) (W.contents out.old)) (held (E.contents cert_out.new) (W.contents out.new))) }
+    ensures answer { IfOk result (λ status. (a : CutAnswer) × Cuts (P.remaining parcels) (C.remaining covers)
+        (K.remaining classes) a
+        × Writes a status (held (E.contents cert_out.old) (W.contents out.old))
+        (held (E.contents cert_out.new) (W.contents out.new))) }
+    // A beginning of the certificate was written, or the certificate and a beginning of the line,
+    // or nothing.
+    ensures failure { IfErr result (λ failure. Halts failure (P.remaining parcels) (C.remaining covers)
+        (K.remaining classes) (held (E.contents cert_out.old) (W.contents out.old))
+        (held (E.contents cert_out.new) (W.contents out.new))) }
 {
     let outcome = decide(alloc, parcels, covers, classes)?;
     outcome.write_cert_to(cert_out)?;

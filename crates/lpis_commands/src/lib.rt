@@ -1,4 +1,5 @@
-//! The program's commands, as functions of what they read: the words of the command line, and the runs over readers and writers.
+//! The program's commands, as functions of what they read: the words of the command line, and the
+//! runs over readers and writers.
 #![tactic(auto)]
 
 mod answer;

@@ -5,7 +5,9 @@ ghost use Rattle.std.specs.Io.KnownBytes.{Appends};
 ghost use Rattle.std.specs.List.{flat_map};
 ghost use Rattle.lpis_lineage.specs.Changes.{kind_at};
 ghost use Rattle.lpis_register.specs.declared.fault.PublishFault.TheVariants.{Lineage};
-ghost use Rattle.lpis_commands.specs.LineageLines.{fate_text, kind_text, lineage_fault_text, lineage_line, lineage_place_text, publish_refusal_text, published_line};
+ghost use Rattle.lpis_commands.specs.LineageLines.{fate_text, kind_text, lineage_fault_text};
+ghost use Rattle.lpis_commands.specs.LineageLines.{lineage_line, lineage_place_text};
+ghost use Rattle.lpis_commands.specs.LineageLines.{publish_refusal_text, published_line};
 
 use crate::printing::PrintFault;
 use lpis_covers::Id;

@@ -1,7 +1,8 @@
 //! The files of a command.
 
 ghost use Rattle.std.specs.Prelude.{◌≡◌, IfOk};
-ghost use Rattle.lpis_commands.specs.Files.{HasWords, files_of, in_folder, listed, shown, tables_in, tables_listed};
+ghost use Rattle.lpis_commands.specs.Files.{HasWords, files_of, in_folder, listed, shown};
+ghost use Rattle.lpis_commands.specs.Files.{tables_in, tables_listed};
 
 use crate::command::Cmd;
 use crate::failure::Name;
@@ -27,7 +28,8 @@ pub struct TableFiles {
     pub classes: NamedFile,
 }
 
-/// The files of a command, in the order in which they are opened, with the words that its run is handed.
+/// The files of a command, in the order in which they are opened, with the words that its run is
+/// handed.
 #[derive(Debug, Drop)]
 pub enum CommandFiles<'a> {
     /// Of `area`.

@@ -27,7 +27,8 @@ fn write_some<W: Write>(text: &[u8], out: &mut W) -> Option<usize>
 #[tactic(auto, using(crate::proofs::WriteLemmas::begun_more, crate::proofs::WriteLemmas::begun_kept))]
 pub(crate) fn write_text<W: Write>(text: &[u8], name: Name, out: &mut W) -> Result<(), Failure>
     ensures whole { OnOk result (Appends (W.contents out.old) (W.contents out.new) text.now) }
-    ensures begun { IfErr result (λ failure. (failure ≡ Failure.Write name) × Begins (W.contents out.old) (W.contents out.new) text.now) }
+    ensures begun { IfErr result (λ failure. (failure ≡ Failure.Write name)
+        × Begins (W.contents out.old) (W.contents out.new) text.now) }
 {
     let mut written = 0;
     for _ in 0..u64::MAX {

@@ -6,7 +6,8 @@ ghost use Rattle.lpis_commands.specs.Area.{area_line, area_text};
 
 use std::io::Write;
 
-/// Why a text was not written: `Memory` where the writer's error is of the kind `OutOfMemory`, else `Write`.
+/// Why a text was not written: `Memory` where the writer's error is of the kind `OutOfMemory`, else
+/// `Write`.
 pub use lpis_cert::WriteFault as PrintFault;
 
 /// How many units of a printed area's last decimal one doubled square centimetre has.

@@ -1,6 +1,7 @@
 //! Reading all of an input.
 
-ghost use Rattle.std.specs.Prelude.{◌≡◌, ◌≤◌, ◌<◌, ◌↔◌, ℕ, List, length, IfSome, IfOk, IfErr, IsErrOf, vec_len};
+ghost use Rattle.std.specs.Prelude.{◌≡◌, ◌≤◌, ◌<◌, ◌↔◌, ℕ, List, length, IfSome, IfOk, IfErr};
+ghost use Rattle.std.specs.Prelude.{IsErrOf, vec_len};
 ghost use Rattle.std.specs.Io.KnownBytes.{Consumes, IsAtEnd};
 ghost use Rattle.lpis_commands.specs.Failures.{IsUnread};
 ghost use Rattle.lpis_commands.specs.Streams.{IsRead};
@@ -34,8 +35,8 @@ const CHUNK: usize = 65_536;
 
 /// All bytes that a reader gives up to its end, if they are at most `limit`.
 ///
-/// An interrupted read is tried again. At most `2 * limit + 16` reads are made; where the reader has not ended by then,
-/// the answer is `Read`.
+/// An interrupted read is tried again. At most `2 * limit + 16` reads are made; where the reader
+/// has not ended by then, the answer is `Read`.
 pub fn read_all<R: Read + Drop>(
     alloc: Global,
     reader: R,
@@ -44,18 +45,21 @@ pub fn read_all<R: Read + Drop>(
     requires { limit ≤ GREATEST_LIMIT }
     ensures all { IfSome (R.remaining reader) (λ bytes. IfOk result (λ v. v.items ≡ bytes)) }
     ensures short { IfOk result (λ v. vec_len v ≤ limit) }
-    ensures long { IsErrOf result ReadFault.TooLong → IfSome (R.remaining reader) (λ bytes. limit < length bytes) }
+    ensures long { IsErrOf result ReadFault.TooLong
+        → IfSome (R.remaining reader) (λ bytes. limit < length bytes) }
 {
     let mut reader = reader;
     read_from(alloc, &mut reader, limit)
 }
 
-/// The same of a reader that is lent: where it stands afterwards tells how much was read. The answer is `TooLong` exactly where that is
-/// more than `limit` bytes.
+/// The same of a reader that is lent: where it stands afterwards tells how much was read. The
+/// answer is `TooLong` exactly where that is more than `limit` bytes.
 pub fn read_from<R: Read>(alloc: Global, reader: &mut R, limit: usize) -> Result<Vec<u8>, ReadFault>
     requires { limit ≤ GREATEST_LIMIT }
-    ensures all { IfOk result (λ v. Consumes (R.remaining reader.old) (R.remaining reader.new) v.items × IsAtEnd (R.remaining reader.new) × (vec_len v ≤ limit)) }
-    ensures part { IfErr result (λ fault. (given : List ℕ) × Consumes (R.remaining reader.old) (R.remaining reader.new) given × ((fault ≡ ReadFault.TooLong) ↔ (limit < length given))) }
+    ensures all { IfOk result (λ v. Consumes (R.remaining reader.old) (R.remaining reader.new) v.items
+        × IsAtEnd (R.remaining reader.new) × (vec_len v ≤ limit)) }
+    ensures part { IfErr result (λ fault. (given : List ℕ) × Consumes (R.remaining reader.old)
+        (R.remaining reader.new) given × ((fault ≡ ReadFault.TooLong) ↔ (limit < length given))) }
 {
     let Ok(mut chunk) = vec![in alloc; 0u8; CHUNK] else {
         return Err(ReadFault::Memory);
@@ -72,8 +76,10 @@ fn read_by<R: Read>(
 ) -> Result<Vec<u8>, ReadFault>
     requires limit { limit ≤ GREATEST_LIMIT }
     requires room { 0 < length chunk.old }
-    ensures all { IfOk result (λ v. Consumes (R.remaining reader.old) (R.remaining reader.new) v.items × IsAtEnd (R.remaining reader.new) × (vec_len v ≤ limit)) }
-    ensures part { IfErr result (λ fault. (given : List ℕ) × Consumes (R.remaining reader.old) (R.remaining reader.new) given × ((fault ≡ ReadFault.TooLong) ↔ (limit < length given))) }
+    ensures all { IfOk result (λ v. Consumes (R.remaining reader.old) (R.remaining reader.new) v.items
+        × IsAtEnd (R.remaining reader.new) × (vec_len v ≤ limit)) }
+    ensures part { IfErr result (λ fault. (given : List ℕ) × Consumes (R.remaining reader.old)
+        (R.remaining reader.new) given × ((fault ≡ ReadFault.TooLong) ↔ (limit < length given))) }
 {
     let mut bytes = Vec::new(alloc);
     for _ in 0..2 * limit + 16 {
@@ -101,7 +107,8 @@ fn read_by<R: Read>(
 /// freed block, the larger are those that the C library keeps after they are freed.
 pub(crate) fn read_input<R: Read + Drop>(alloc: Global, reader: R) -> Result<Vec<u8>, ReadFault>
     ensures all { IfOk result (λ v. IsRead v.items (R.remaining reader)) }
-    ensures long { IsErrOf result ReadFault.TooLong → IfSome (R.remaining reader) (λ bytes. 1073741824 < length bytes) }
+    ensures long { IsErrOf result ReadFault.TooLong
+        → IfSome (R.remaining reader) (λ bytes. 1073741824 < length bytes) }
 {
     let bytes = read_all(alloc, reader, GREATEST_LIMIT)?;
     match without_spare(bytes) {

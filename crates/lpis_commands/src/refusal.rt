@@ -2,7 +2,8 @@
 
 ghost use Rattle.std.specs.Prelude.{OnOk};
 ghost use Rattle.std.specs.Io.KnownBytes.{Appends};
-ghost use Rattle.lpis_commands.specs.Refusals.{cert_refusal_text, check_refusal_text, place_text, refusal_text, wkt_text};
+ghost use Rattle.lpis_commands.specs.Refusals.{cert_refusal_text, check_refusal_text, place_text};
+ghost use Rattle.lpis_commands.specs.Refusals.{refusal_text, wkt_text};
 
 use crate::printing::PrintFault;
 use lpis_cert::CertFault;
@@ -48,7 +49,8 @@ pub fn print_table_fault<W: Write>(fault: &TableFault, out: &mut W) -> Result<()
 
 /// Writes the line of a text that is no certificate. Want of memory is no refusal, and has no line.
 pub fn print_cert_fault<W: Write>(fault: &CertFault, out: &mut W) -> Result<(), PrintFault>
-    ensures { OnOk result (Appends (W.contents out.old) (W.contents out.new) (cert_refusal_text fault.now)) }
+    ensures { OnOk result (Appends (W.contents out.old) (W.contents out.new)
+        (cert_refusal_text fault.now)) }
 {
     let CertFault::At { code, line } = fault else {
         return Ok(());
@@ -69,9 +71,11 @@ fn print_place<W: Write>(place: &Place, out: &mut W) -> Result<(), PrintFault>
     Ok(())
 }
 
-/// Writes the line of a certificate that is not good. Want of memory is no refusal, and has no line.
+/// Writes the line of a certificate that is not good. Want of memory is no refusal, and has no
+/// line.
 pub fn print_check_fault<W: Write>(fault: &CheckFault, out: &mut W) -> Result<(), PrintFault>
-    ensures { OnOk result (Appends (W.contents out.old) (W.contents out.new) (check_refusal_text fault.now)) }
+    ensures { OnOk result (Appends (W.contents out.old) (W.contents out.new)
+        (check_refusal_text fault.now)) }
 {
     let CheckFault::At { code, place } = fault else {
         return Ok(());

@@ -1,6 +1,7 @@
 //! The report of a release.
 
-ghost use Rattle.std.specs.Prelude.{◌≡◌, ◌≤◌, ◌<◌, ◌+◌, ◌*◌, ◌^◌, ◌++◌, ◌+ℤ◌, Contains, IfOk, OnOk, codes, length, nat_abs};
+ghost use Rattle.std.specs.Prelude.{◌≡◌, ◌≤◌, ◌<◌, ◌+◌, ◌*◌, ◌^◌, ◌++◌, ◌+ℤ◌, Contains, IfOk, OnOk};
+ghost use Rattle.std.specs.Prelude.{codes, nat_abs};
 ghost use Rattle.std.specs.Io.KnownBytes.{Appends};
 ghost use Rattle.std.specs.List.{flat_map};
 ghost use Rattle.lpis_checker.specs.SoundMap.{AreasAdd};
@@ -8,7 +9,8 @@ ghost use Rattle.lpis_covers.specs.Table.{most_rows};
 ghost use Rattle.lpis_parcels.specs.Eligible.{eligible2};
 ghost use Rattle.lpis_rings.specs.Area.{area2};
 ghost use Rattle.lpis_rings.specs.AreaBounds.{most_area};
-ghost use Rattle.lpis_commands.specs.Report.{areas_text, counts_line, parcel_line, report_text, sum_over, total_line};
+ghost use Rattle.lpis_commands.specs.Report.{areas_text, counts_line, parcel_line, report_text};
+ghost use Rattle.lpis_commands.specs.Report.{sum_over};
 
 use crate::printing::{PrintFault, print_area};
 use lpis_checker::Yes;
@@ -46,7 +48,8 @@ fn added(sum: Areas, areas: Areas, count: usize) -> Areas
 fn print_areas<W: Write>(areas: Areas, out: &mut W) -> Result<(), PrintFault>
     requires area { nat_abs areas.area ≤ 10 ^ 36 }
     requires eligible { nat_abs areas.eligible ≤ 10 ^ 36 }
-    ensures { OnOk result (Appends (W.contents out.old) (W.contents out.new) (areas_text areas.area areas.eligible)) }
+    ensures { OnOk result (Appends (W.contents out.old) (W.contents out.new)
+        (areas_text areas.area areas.eligible)) }
 {
     out.write_all(b" area ")?;
     print_area(areas.area, out)?;
@@ -90,8 +93,10 @@ fn print_parcel<W: Write>(
     requires areas { AreasAdd release.now }
     requires among { Contains release.now.parcels parcel.now }
     ensures area { IfOk result (λ a. (a.area ≡ area2 parcel.now.polygon) × (nat_abs a.area ≤ most_area)) }
-    ensures eligible { IfOk result (λ a. (a.eligible ≡ eligible2 release.now parcel.now.id) × (nat_abs a.eligible ≤ most_area)) }
-    ensures text { OnOk result (Appends (W.contents out.old) (W.contents out.new) (parcel_line release.now parcel.now)) }
+    ensures eligible { IfOk result (λ a. (a.eligible ≡ eligible2 release.now parcel.now.id)
+        × (nat_abs a.eligible ≤ most_area)) }
+    ensures text { OnOk result (Appends (W.contents out.old) (W.contents out.new)
+        (parcel_line release.now parcel.now)) }
 {
     let areas = areas_of(release, parcel);
     out.write_all(b"parcel ")?;
@@ -103,9 +108,13 @@ fn print_parcel<W: Write>(
 /// Writes the line of each parcel, and answers the sums of their areas.
 fn print_parcels<W: Write>(release: &Release, out: &mut W) -> Result<Areas, PrintFault>
     requires { AreasAdd release.now }
-    ensures area { IfOk result (λ a. (a.area ≡ sum_over (λ k. area2 k.polygon) release.now.parcels) × (nat_abs a.area ≤ 10 ^ 36)) }
-    ensures eligible { IfOk result (λ a. (a.eligible ≡ sum_over (λ k. eligible2 release.now k.id) release.now.parcels) × (nat_abs a.eligible ≤ 10 ^ 36)) }
-    ensures text { OnOk result (Appends (W.contents out.old) (W.contents out.new) (flat_map (parcel_line release.now) release.now.parcels)) }
+    ensures area { IfOk result (λ a. (a.area ≡ sum_over (λ k. area2 k.polygon) release.now.parcels)
+        × (nat_abs a.area ≤ 10 ^ 36)) }
+    ensures eligible { IfOk result
+        (λ a. (a.eligible ≡ sum_over (λ k. eligible2 release.now k.id) release.now.parcels)
+        × (nat_abs a.eligible ≤ 10 ^ 36)) }
+    ensures text { OnOk result (Appends (W.contents out.old) (W.contents out.new)
+        (flat_map (parcel_line release.now) release.now.parcels)) }
 {
     let mut sum = Areas {
         area: 0,
@@ -122,7 +131,8 @@ fn print_parcels<W: Write>(release: &Release, out: &mut W) -> Result<Areas, Prin
 fn print_total<W: Write>(sum: Areas, out: &mut W) -> Result<(), PrintFault>
     requires area { nat_abs sum.area ≤ 10 ^ 36 }
     requires eligible { nat_abs sum.eligible ≤ 10 ^ 36 }
-    ensures { OnOk result (Appends (W.contents out.old) (W.contents out.new) (codes "total" ++ areas_text sum.area sum.eligible ++ codes "yes\n")) }
+    ensures { OnOk result (Appends (W.contents out.old) (W.contents out.new)
+        (codes "total" ++ areas_text sum.area sum.eligible ++ codes "yes\n")) }
 {
     out.write_all(b"total")?;
     print_areas(sum, out)?;
@@ -140,8 +150,9 @@ fn print_report<W: Write>(release: &Release, out: &mut W) -> Result<(), PrintFau
     print_total(sum, out)
 }
 
-/// Writes the report of a checked release: how many parcels and pieces it has, the area and the maximum eligible area of each
-/// parcel in the order of their table, the sums over all parcels, and the yes.
+/// Writes the report of a checked release: how many parcels and pieces it has, the area and the
+/// maximum eligible area of each parcel in the order of their table, the sums over all parcels, and
+/// the yes.
 pub fn write_report<W: Write>(yes: &Yes<'_>, out: &mut W) -> Result<(), PrintFault>
     ensures { OnOk result (Appends (W.contents out.old) (W.contents out.new) (report_text yes.now)) }
 {

@@ -51,17 +51,21 @@ fn answer_to(alloc: Global, bytes: &[u8]) -> Result<Answer, AllocError>
     }
 }
 
-/// Prints the area of each row of a table with a column `wkt`, a line each, or the line of the table's first fault.
+/// Prints the area of each row of a table with a column `wkt`, a line each, or the line of the
+/// table's first fault.
 ///
-/// The table is read to its end before anything is written. Ok is the status: `DONE` or `UNREADABLE`.
+/// The table is read to its end before anything is written. Ok is the status: `DONE` or
+/// `UNREADABLE`.
 pub fn run_area<R: Read + Drop, W: Write>(
     alloc: Global,
     table: R,
     out: &mut W,
 ) -> Result<u8, Failure>
-    ensures answer { IfOk result (λ status. (bytes : List ℕ) × IsRead bytes (R.remaining table) × Answers bytes status (W.contents out.old) (W.contents out.new)) }
+    ensures answer { IfOk result (λ status. (bytes : List ℕ) × IsRead bytes (R.remaining table)
+        × Answers bytes status (W.contents out.old) (W.contents out.new)) }
     // A beginning of the answer was written, or nothing.
-    ensures failure { IfErr result (λ failure. Halts failure (R.remaining table) (W.contents out.old) (W.contents out.new)) }
+    ensures failure { IfErr result (λ failure. Halts failure (R.remaining table) (W.contents out.old)
+        (W.contents out.new)) }
 {
     let bytes = read_named(alloc, table, Name::Area)?;
     let answer = answer_to(alloc, bytes.as_slice())?;

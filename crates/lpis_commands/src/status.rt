@@ -28,10 +28,11 @@ pub fn status_of(run: Result<u8, Failure>) -> u8
     }
 }
 
-/// What a command line that asks for no command ends in, where its text was printed or could not be.
+/// What a command line that asks for no command ends in, where its text was printed or could not
+/// be.
 ///
-/// Help that was asked for is printed on standard output. Everything else is a fault of the command line, told on standard error: where that is
-/// closed, the status alone tells.
+/// Help that was asked for is printed on standard output. Everything else is a fault of the command
+/// line, told on standard error: where that is closed, the status alone tells.
 pub fn usage_ends(kind: ErrorKind, is_printed: bool) -> Result<u8, Failure>
     ensures { result ≡ usage_told kind is_printed }
 {

@@ -11,10 +11,12 @@ use crate::status::UNREADABLE;
 use lpis_register::PublishFault;
 use std::io::Write;
 
-/// Prints the line of a register that is refused, as `publish` and `trace` do where theirs is not opened. Ok is the status
-/// `UNREADABLE`. Want of memory and a failed store have no line here: they are failures.
+/// Prints the line of a register that is refused, as `publish` and `trace` do where theirs is not
+/// opened. Ok is the status `UNREADABLE`. Want of memory and a failed store have no line here: they
+/// are failures.
 pub fn refuse_register<W: Write>(fault: &PublishFault, out: &mut W) -> Result<u8, Failure>
-    ensures told { (result ≡ unopened_told fault.now true) ⊎ (result ≡ unopened_told fault.now false) }
+    ensures told { (result ≡ unopened_told fault.now true)
+        ⊎ (result ≡ unopened_told fault.now false) }
     ensures line { OnOk result (Appends (W.contents out.old) (W.contents out.new)
         (publish_refusal_text fault.now)) }
 {

@@ -1,5 +1,6 @@
 -- Byte order marks and columns, a step at a time.
-use Rattle.std.proofs.Common.{◌≡◌, ◌+◌, ◌-◌, ◌<◌, ◌≤◌, ℕ, zero, suc, List, [], ◌∷◌, ◌++◌, length, map, take, drop, get_or, Option, Some, None, Result, Ok, Err, true, false, refl, ap, arith, ◌∙◌, Bool, add-one, Bor, IsTrue, ◌↔◌, append_assoc}
+use Rattle.std.proofs.Common.{◌≡◌, ◌+◌, ◌-◌, ◌<◌, ◌≤◌, ℕ, zero, suc, List, [], ◌∷◌, ◌++◌, length, map, take, drop, get_or, Option, Some, None, Result, Ok, Err, true, false, refl, ap, arith, ◌∙◌, Bool}
+use Rattle.std.proofs.Common.{add-one, Bor, IsTrue, ◌↔◌, append_assoc}
 use Rattle.std.specs.Prelude.{unwrap_or, option_map, option_to_list}
 use Rattle.std.specs.Str.{str_eq_ignore_ascii_case}
 use Rattle.std.specs.Char.{to_ascii_lowercase}

@@ -7,7 +7,7 @@ use Rattle.lpis_covers.specs.declared.fault.Table.{Table}
 use Rattle.lpis_covers.specs.declared.fault.TableCode.{TableCode}
 use Rattle.lpis_covers.specs.declared.fault.TableFault.{TableFault}
 use Rattle.lpis_covers.specs.declared.fault.TableFault.TheVariants.{Memory, At}
-use Rattle.lpis_covers.specs.Faults.{RowsOf, key_faults, row_faults, told, rows_of}
+use Rattle.lpis_covers.specs.Faults.{RowsOf, row_faults, told, rows_of}
 use Rattle.lpis_covers.specs.Table.{Advances, Answers, Reading, Record, field_of, has_mark, most_rows, places_of, table_of, under_header}
 
 -- a reader of the table t has read these rows, with these keys, and no fault yet

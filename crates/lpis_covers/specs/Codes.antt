@@ -1,9 +1,15 @@
 -- The codes of faults and the names of tables.
 use Rattle.std.specs.Prelude.{ℕ, List, codes}
 use Rattle.lpis_covers.specs.declared.fault.Table.{Table}
-use Rattle.lpis_covers.specs.declared.fault.Table.TheVariants.{Area, Parcels, Covers, Classes, Lineage}
+use Rattle.lpis_covers.specs.declared.fault.Table.TheVariants.{Area, Parcels, Covers, Classes}
+use Rattle.lpis_covers.specs.declared.fault.Table.TheVariants.{Lineage}
 use Rattle.lpis_covers.specs.declared.fault.TableCode.{TableCode}
-use Rattle.lpis_covers.specs.declared.fault.TableCode.TheVariants.{NotCsv, MissingColumn, DoubledColumn, BadIdentifier, DoubledIdentifier, UnknownParcel, UnknownClass, ParcelWithoutPieces, BadGeometry, BadEligible, TooManyRows}
+use Rattle.lpis_covers.specs.declared.fault.TableCode.TheVariants.{NotCsv, MissingColumn}
+use Rattle.lpis_covers.specs.declared.fault.TableCode.TheVariants.{DoubledColumn, BadIdentifier}
+use Rattle.lpis_covers.specs.declared.fault.TableCode.TheVariants.{DoubledIdentifier, UnknownParcel}
+use Rattle.lpis_covers.specs.declared.fault.TableCode.TheVariants.{UnknownClass}
+use Rattle.lpis_covers.specs.declared.fault.TableCode.TheVariants.{ParcelWithoutPieces, BadGeometry}
+use Rattle.lpis_covers.specs.declared.fault.TableCode.TheVariants.{BadEligible, TooManyRows}
 
 -- a table's name
 abbrev pub table_text : Table → List ℕ

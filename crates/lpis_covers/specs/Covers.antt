@@ -9,13 +9,19 @@ use Rattle.lpis_covers.specs.Table.{Record, field_of}
 -- the faults of a piece's parcel, class and land
 abbrev pub more_piece_faults : ℕ → Record → List TableFault
 more_piece_faults n row =
-    id_faults Covers n (field_of row 1) ++ (id_faults Covers n (field_of row 2) ++ polygon_faults Covers n (field_of row 3))
+    id_faults Covers n (field_of row 1)
+    ++ (id_faults Covers n (field_of row 2) ++ polygon_faults Covers n (field_of row 3))
 
 abbrev pub piece_faults : List (List ℕ) → ℕ → Record → List TableFault
 piece_faults keys n row = key_faults Covers n keys (field_of row 0) ++ more_piece_faults n row
 
 abbrev pub piece_of : Record → Piece
-piece_of row = record { id = field_of row 0; parcel = field_of row 1; class = field_of row 2; polygon = polygon_in (field_of row 3) }
+piece_of row = record {
+  id = field_of row 0;
+  parcel = field_of row 1;
+  class = field_of row 2;
+  polygon = polygon_in (field_of row 3);
+}
 
 -- a row is a piece: its identifier, its parcel's, its class's code and its land
 abbrev pub covers_table : RowsOf Piece

@@ -1,12 +1,14 @@
 -- The values of a table's rows, and its faults in the order in which the first is told.
-use Rattle.std.specs.Prelude.{◌+◌, ◌∷◌, ◌++◌, Bool, true, false, not, ℕ, List, [], map, Some, option_to_list, Result, Ok, Err, if◌then◌else◌}
+use Rattle.std.specs.Prelude.{◌+◌, ◌∷◌, ◌++◌, Bool, true, false, not, ℕ, List, [], map, Some}
+use Rattle.std.specs.Prelude.{option_to_list, Result, Ok, Err, if◌then◌else◌}
 use Rattle.std.specs.Str.{is_utf8}
 use Rattle.lpis_rings.specs.declared.polygon.Member.{Member}
 use Rattle.lpis_wkt.specs.declared.fault.WktCode.{WktCode}
 use Rattle.lpis_wkt.specs.declared.fault.WktFault.TheVariants.{At as In}
 use Rattle.lpis_wkt.specs.Answer.{polygon_of}
 use Rattle.lpis_covers.specs.declared.fault.Table.{Table}
-use Rattle.lpis_covers.specs.declared.fault.TableCode.TheVariants.{NotCsv, BadIdentifier, DoubledIdentifier, BadGeometry}
+use Rattle.lpis_covers.specs.declared.fault.TableCode.TheVariants.{NotCsv, BadIdentifier}
+use Rattle.lpis_covers.specs.declared.fault.TableCode.TheVariants.{DoubledIdentifier, BadGeometry}
 use Rattle.lpis_covers.specs.declared.fault.TableFault.{TableFault}
 use Rattle.lpis_covers.specs.declared.fault.TableFault.TheVariants.{At}
 use Rattle.lpis_covers.specs.Ids.{has_id, is_id}
@@ -28,7 +30,8 @@ id_faults table n field = fault_if (not (is_id field)) (fault_at BadIdentifier t
 
 -- the faults of a row's own identifier, below rows that have these
 abbrev pub key_faults : Table → ℕ → List (List ℕ) → List ℕ → List TableFault
-key_faults table n keys field = id_faults table n field ++ fault_if (has_id keys field) (fault_at DoubledIdentifier table n)
+key_faults table n keys field = id_faults table n field ++ fault_if (has_id keys field)
+    (fault_at DoubledIdentifier table n)
 
 -- the faults of a field that is to be the text of a polygon
 abbrev pub geometry_faults : Table → ℕ → Result (List Member) (WktCode × ℕ) → List TableFault
@@ -37,7 +40,8 @@ geometry_faults table n (Err fault) = At BadGeometry table n (Some (In fault.0 f
 
 abbrev pub polygon_faults : Table → ℕ → List ℕ → List TableFault
 polygon_faults table n field =
-    if is_utf8 field then geometry_faults table n (polygon_of field) else fault_at NotCsv table n ∷ []
+    if is_utf8 field then geometry_faults table n (polygon_of field) else fault_at NotCsv table n
+    ∷ []
 
 -- the polygon of a text, where it spells one
 abbrev pub members_or_none : Result (List Member) (WktCode × ℕ) → List Member
@@ -47,8 +51,9 @@ members_or_none (Err fault) = []
 abbrev pub polygon_in : List ℕ → List Member
 polygon_in field = members_or_none (polygon_of field)
 
--- a table whose rows are values of a type: its columns in the order in which they are tested; the faults of a row below rows
--- with these keys, by its number and fields, in the order of its columns; and its value. A row's key is its first field
+-- a table whose rows are values of a type: its columns in the order in which they are tested; the
+-- faults of a row below rows with these keys, by its number and fields, in the order of its
+-- columns; and its value. A row's key is its first field
 pub record RowsOf (A : Type 0) : Type 0 where
   pub table : Table
   pub columns : List (List ℕ)
@@ -56,13 +61,18 @@ pub record RowsOf (A : Type 0) : Type 0 where
   pub value : Record → A
 
 -- the faults of rows, row by row, of which the first is row n; the rows above have these keys
-unfoldable pub row_faults : {A : Type 0} → RowsOf A → List (List ℕ) → ℕ → List Record → List TableFault
+unfoldable pub row_faults : {A : Type 0} → RowsOf A → List (List ℕ) → ℕ → List Record
+    → List TableFault
 row_faults kind keys n [] = []
-row_faults kind keys n (r ∷ rs) = kind.faults keys n r ++ row_faults kind (keys ++ field_of r 0 ∷ []) (n + 1) rs
+row_faults kind keys n (r ∷ rs) = kind.faults keys n r
+    ++ row_faults kind (keys ++ field_of r 0 ∷ []) (n + 1) rs
 
--- a table's rows as values, or its first fault: one of row 0, else one of a row, else that which stops the rows
-abbrev pub values_of : {A : Type 0} → RowsOf A → Result Reading TableFault → Result (List A) TableFault
-values_of kind (Ok t) = told (row_faults kind [] 1 t.rows ++ option_to_list t.stop) (map kind.value t.rows)
+-- a table's rows as values, or its first fault: one of row 0, else one of a row, else that which
+-- stops the rows
+abbrev pub values_of : {A : Type 0} → RowsOf A → Result Reading TableFault
+    → Result (List A) TableFault
+values_of kind (Ok t) = told (row_faults kind [] 1 t.rows ++ option_to_list t.stop)
+    (map kind.value t.rows)
 values_of kind (Err fault) = Err fault
 
 abbrev pub rows_of : {A : Type 0} → RowsOf A → List ℕ → Result (List A) TableFault

@@ -13,11 +13,14 @@ between low high b = nat_le low b && nat_le b high
 -- a character of an identifier: A-Z, a-z, 0-9 or one of . _ : / -
 abbrev pub is_id_byte : ℕ → Bool
 is_id_byte b =
-    between 65 90 b || (between 97 122 b || (between 48 57 b || (b == 46 || (b == 95 || (b == 58 || (b == 47 || b == 45))))))
+    between 65 90 b
+    || (between 97 122 b
+    || (between 48 57 b || (b == 46 || (b == 95 || (b == 58 || (b == 47 || b == 45))))))
 
 -- the bytes of an identifier: 1 to the most of these characters
 abbrev pub is_id : List ℕ → Bool
-is_id bytes = (nat_le 1 (length bytes) && nat_le (length bytes) longest_id) && list_all is_id_byte bytes
+is_id bytes = (nat_le 1 (length bytes) && nat_le (length bytes) longest_id)
+    && list_all is_id_byte bytes
 
 -- two identifiers are one: they are compared by their bytes
 abbrev pub same_id : List ℕ → List ℕ → Bool

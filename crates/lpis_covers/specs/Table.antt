@@ -1,11 +1,14 @@
 -- The rows of a table by the names of its columns.
-use Rattle.std.specs.Prelude.{◌≡◌, ◌==◌, ◌+◌, ◌≤◌, ◌∷◌, Bool, true, false, ℕ, List, [], length, map, nat_lt, Option, Some, None, Result, Ok, Err, slice_index_or, if◌then◌else◌}
+use Rattle.std.specs.Prelude.{◌≡◌, ◌==◌, ◌+◌, ◌≤◌, ◌∷◌, Bool, true, false, ℕ, List, [], length, map}
+use Rattle.std.specs.Prelude.{nat_lt, Option, Some, None, Result, Ok, Err, slice_index_or}
+use Rattle.std.specs.Prelude.{if◌then◌else◌}
 use Rattle.std.specs.Str.{str_eq_ignore_ascii_case}
 use Rattle.std.specs.Borrow.{Bor}
 use Rattle.csv.specs.Reading.{default_config, is_bom, records, strip_bom}
 use Rattle.lpis_covers.specs.declared.fault.Table.{Table}
 use Rattle.lpis_covers.specs.declared.fault.TableCode.{TableCode}
-use Rattle.lpis_covers.specs.declared.fault.TableCode.TheVariants.{NotCsv, MissingColumn, DoubledColumn, TooManyRows}
+use Rattle.lpis_covers.specs.declared.fault.TableCode.TheVariants.{NotCsv, MissingColumn}
+use Rattle.lpis_covers.specs.declared.fault.TableCode.TheVariants.{DoubledColumn, TooManyRows}
 use Rattle.lpis_covers.specs.declared.fault.TableFault.{TableFault}
 use Rattle.lpis_covers.specs.declared.fault.TableFault.TheVariants.{Memory, At}
 
@@ -28,11 +31,13 @@ has_mark (a ∷ []) = false
 has_mark (a ∷ b ∷ []) = false
 has_mark (a ∷ b ∷ c ∷ rest) = is_bom a b c
 
--- the places of the fields that have this name, compared in any mix of ASCII cases; the first field is at place i
+-- the places of the fields that have this name, compared in any mix of ASCII cases; the first field
+-- is at place i
 unfoldable pub places_of_name : List ℕ → ℕ → Record → List ℕ
 places_of_name name i [] = []
 places_of_name name i (field ∷ fields) =
-    if str_eq_ignore_ascii_case field name then i ∷ places_of_name name (i + 1) fields else places_of_name name (i + 1) fields
+    if str_eq_ignore_ascii_case field name then i ∷ places_of_name name (i + 1) fields else
+    places_of_name name (i + 1) fields
 
 -- a column stands where the header has its name, once
 abbrev pub one_place : List ℕ → Result ℕ TableCode
@@ -75,8 +80,8 @@ with_row row found = record { rows = row ∷ found.rows; stop = found.stop }
 abbrev pub stopped : TableFault → Found
 stopped fault = record { rows = []; stop = Some fault }
 
--- the rows before the first whose length is not the header's or whose number is past the most, in this order; the first
--- record is row n
+-- the rows before the first whose length is not the header's or whose number is past the most, in
+-- this order; the first record is row n
 unfoldable pub rows_from : Table → ℕ → List ℕ → ℕ → List Record → Found
 rows_from table width places n [] = record { rows = []; stop = None }
 rows_from table width places n (r ∷ rs) =
@@ -85,8 +90,8 @@ rows_from table width places n (r ∷ rs) =
     else with_row (picked places r) (rows_from table width places (n + 1) rs))
     else stopped (fault_at NotCsv table n)
 
--- where a reader of a table stands: the number and the wanted fields of the row that it read last (fault_at the start row 0,
--- the header), and what is left
+-- where a reader of a table stands: the number and the wanted fields of the row that it read last
+-- (fault_at the start row 0, the header), and what is left
 pub record Reading : Type 0 where
   pub table : Table
   pub number : ℕ
@@ -95,10 +100,19 @@ pub record Reading : Type 0 where
   pub stop : Option TableFault
 
 abbrev pub reading : Table → ℕ → Record → Found → Reading
-reading table n row found = record { table = table; number = n; row = row; rows = found.rows; stop = found.stop }
+reading table n row found = record {
+  table = table;
+  number = n;
+  row = row;
+  rows = found.rows;
+  stop =
+      found.stop;
+}
 
-abbrev pub rows_under : Table → Record → List Record → Result (List ℕ) TableCode → Result Reading TableFault
-rows_under table header rs (Ok places) = Ok (reading table 0 (picked places header) (rows_from table (length header) places 1 rs))
+abbrev pub rows_under : Table → Record → List Record → Result (List ℕ) TableCode
+    → Result Reading TableFault
+rows_under table header rs (Ok places) =
+    Ok (reading table 0 (picked places header) (rows_from table (length header) places 1 rs))
 rows_under table header rs (Err code) = Err (fault_at code table 0)
 
 -- the first record is the header; a text without one lacks its first column
@@ -106,7 +120,8 @@ abbrev pub under_header : Table → List (List ℕ) → List Record → Result R
 under_header table names [] = Err (fault_at MissingColumn table 0)
 under_header table names (header ∷ rs) = rows_under table header rs (places_of header names)
 
--- the table of a text, by the names of the wanted columns: one byte order mark is skipped, and a second one is a fault
+-- the table of a text, by the names of the wanted columns: one byte order mark is skipped, and a
+-- second one is a fault
 unfoldable pub table_of : Table → List (List ℕ) → List ℕ → Result Reading TableFault
 table_of table names bytes =
     if has_mark (strip_bom bytes) then Err (fault_at NotCsv table 0)
@@ -115,10 +130,12 @@ table_of table names bytes =
 -- what reading the next row does
 abbrev pub Advances : Reading → Reading → Result Bool TableFault → Type 0
 Advances old new (Ok true) =
-    (old.rows ≡ new.row ∷ new.rows) × (new.stop ≡ old.stop) × (new.number ≡ old.number + 1) × (new.table ≡ old.table) × (new.number ≤ most_rows)
+    (old.rows ≡ new.row ∷ new.rows) × (new.stop ≡ old.stop) × (new.number ≡ old.number + 1)
+    × (new.table ≡ old.table) × (new.number ≤ most_rows)
 Advances old new (Ok false) = (old.rows ≡ []) × (old.stop ≡ None)
 Advances old new (Err Memory) = Unit {0}
-Advances old new (Err (At code table row wkt)) = (old.rows ≡ []) × (old.stop ≡ Some (At code table row wkt))
+Advances old new (Err (At code table row wkt)) = (old.rows ≡ [])
+    × (old.stop ≡ Some (At code table row wkt))
 
 -- a call answers what the definition says, or that memory ran out
 abbrev pub Answers : {A : Type 0} → Result A TableFault → Result A TableFault → Type 0

@@ -41,7 +41,8 @@ impl Table {
 /// What is wrong with a row of a table.
 #[derive(Clone, Copy, Debug, PartialEq, Eq)]
 pub enum TableCode {
-    /// A record whose length is not the header's, a second byte order mark, or a polygon's text that is not UTF-8.
+    /// A record whose length is not the header's, a second byte order mark, or a polygon's text
+    /// that is not UTF-8.
     NotCsv,
     /// No field of the header has the column's name.
     MissingColumn,
@@ -92,8 +93,8 @@ pub enum TableFault {
     /// Memory ran out.
     #[error("out of memory")]
     Memory,
-    /// The first fault: its table, its row (0 is the header, 1 the first record after it), and, for a text that is no
-    /// polygon, where in that text.
+    /// The first fault: its table, its row (0 is the header, 1 the first record after it), and, for
+    /// a text that is no polygon, where in that text.
     #[error("{} {} row {row}", .code.as_str(), .table.as_str())]
     At {
         code: TableCode,

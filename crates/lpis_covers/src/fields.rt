@@ -15,7 +15,8 @@ use std::alloc::Global;
 impl<'a> TableReader<'a> {
     /// The identifier in the k-th wanted field of the row that was read last.
     pub fn id(&self, alloc: Global, k: usize) -> Result<Id, TableFault>
-        ensures { let field = field_of self.now.row k in Answers result (told (id_faults self.now.table self.now.number field) field) }
+        ensures { let field = field_of self.now.row k in
+            Answers result (told (id_faults self.now.table self.now.number field) field) }
     {
         match Id::read(alloc, self.field(k))? {
             Some(id) => Ok(id),
@@ -23,10 +24,11 @@ impl<'a> TableReader<'a> {
         }
     }
 
-    /// The identifier in the k-th wanted field of the row that was read last, which is added to the keys of the rows before it
-    /// and may not be among them. A refusal adds nothing.
+    /// The identifier in the k-th wanted field of the row that was read last, which is added to the
+    /// keys of the rows before it and may not be among them. A refusal adds nothing.
     pub(crate) fn key(&self, alloc: Global, k: usize, keys: &mut Keys) -> Result<Id, TableFault>
-        ensures answers { let field = field_of self.now.row k in Answers result (told (key_faults self.now.table self.now.number keys.old field) field) }
+        ensures answers { let field = field_of self.now.row k in
+            Answers result (told (key_faults self.now.table self.now.number keys.old field) field) }
         ensures added { IfOk result (λ id. keys.new ≡ keys.old ++ id ∷ []) }
         ensures refused { OnErr result (keys.new ≡ keys.old) }
     {
@@ -39,7 +41,9 @@ impl<'a> TableReader<'a> {
 
     /// The polygon in the k-th wanted field of the row that was read last.
     pub fn polygon(&self, alloc: Global, k: usize) -> Result<Polygon, TableFault>
-        ensures { let field = field_of self.now.row k in Answers result (told (polygon_faults self.now.table self.now.number field) (polygon_in field)) }
+        ensures { let field = field_of self.now.row k in
+            Answers result (told (polygon_faults self.now.table self.now.number field)
+            (polygon_in field)) }
     {
         let Ok(text) = str::from_utf8(self.field(k)) else {
             return Err(self.fault(TableCode::NotCsv));

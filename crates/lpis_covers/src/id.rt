@@ -1,11 +1,13 @@
 //! Identifiers.
 
-ghost use Rattle.std.specs.Prelude.{◌≡◌, ℕ, List, true, false, nat_eq, string_bytes, IfOk, IfSome, IfNone, Some};
+ghost use Rattle.std.specs.Prelude.{◌≡◌, ℕ, List, true, false, nat_eq, string_bytes, IfOk, IfSome};
+ghost use Rattle.std.specs.Prelude.{IfNone, Some};
 ghost use Rattle.std.specs.Hash as fed;
 ghost use Rattle.std.specs.Cmp;
-ghost use Rattle.std.specs.Cmp.Lexicographic.{pointwise, slice_cmp, nat_list_eq_equiv, nat_list_cmp_total, texts_po, texts_ties};
+ghost use Rattle.std.specs.Cmp.Lexicographic.{pointwise, slice_cmp, nat_list_eq_equiv};
+ghost use Rattle.std.specs.Cmp.Lexicographic.{nat_list_cmp_total, texts_po, texts_ties};
 ghost use Rattle.std.specs.Ordering.{nat_cmp};
-ghost use Rattle.std.specs.Cmp.Rules.{comparing, hashing};
+ghost use Rattle.std.specs.Cmp.Rules.{hashing};
 ghost use Rattle.std.proofs.Common.{rules, refl};
 ghost use Rattle.std.specs.List.{list_all};
 ghost use Rattle.lpis_covers.specs.Ids.{is_id, is_id_byte as id_byte};
@@ -18,7 +20,8 @@ use std::marker::Model;
 /// The most characters of an identifier.
 const LONGEST_ID: usize = 40;
 
-/// An identifier: 1 to 40 characters of `A-Z a-z 0-9 . _ : / -`, compared by its bytes. Contracts see its bytes.
+/// An identifier: 1 to 40 characters of `A-Z a-z 0-9 . _ : / -`, compared by its bytes. Contracts
+/// see its bytes.
 #[derive(Debug, Drop)]
 pub struct Id {
     text: String,

@@ -1,6 +1,7 @@
 //! Rows by their own identifiers.
 
-ghost use Rattle.std.specs.Prelude.{◌≡◌, ◌≤◌, map, length, IfSome, Some, is_some, position, slice_get};
+ghost use Rattle.std.specs.Prelude.{◌≡◌, ◌≤◌, map, length, IfSome, Some, is_some, position};
+ghost use Rattle.std.specs.Prelude.{slice_get};
 ghost use Rattle.std.specs.List.{IsDistinct};
 ghost use Rattle.lpis_covers.specs.Ids.{has_id, same_id};
 ghost use Rattle.lpis_covers.specs.Table.{most_rows};
@@ -20,8 +21,8 @@ pub trait Identified {
         ensures { result.now ≡ identifier self.now };
 }
 
-/// The rows of a table in its order, at most 200,000, no two with one identifier. Contracts see their list. A row is found
-/// by its identifier in constant time.
+/// The rows of a table in its order, at most 200,000, no two with one identifier. Contracts see
+/// their list. A row is found by its identifier in constant time.
 #[derive(Drop)]
 pub struct Keyed<T: Identified> {
     rows: Vec<T>,

@@ -1,6 +1,7 @@
 //! Identifiers of rows.
 
-ghost use Rattle.std.specs.Prelude.{◌≡◌, ◌++◌, ◌∷◌, [], not, length, position, slice_get, is_some, IfOk, OnErr, IfSome, Some, if◌then◌else◌};
+ghost use Rattle.std.specs.Prelude.{◌≡◌, ◌++◌, ◌∷◌, [], not, length, position, slice_get, is_some};
+ghost use Rattle.std.specs.Prelude.{IfOk, OnErr, IfSome, Some, if◌then◌else◌};
 ghost use Rattle.std.specs.List.{IsDistinct};
 ghost use Rattle.lpis_covers.specs.Ids.{has_id, same_id};
 
@@ -9,7 +10,8 @@ use indexmap::IndexSet;
 use std::alloc::{AllocError, Global};
 use std::marker::Model;
 
-/// Identifiers in the order in which they came, no two the same. Contracts see their list. One is found in constant time.
+/// Identifiers in the order in which they came, no two the same. Contracts see their list. One is
+/// found in constant time.
 #[derive(Drop)]
 pub(crate) struct Keys {
     ids: IndexSet<Id>,
@@ -33,8 +35,8 @@ impl Keys {
         }
     }
 
-    /// Adds an identifier after the others and tells whether it was not among them. One that was is not added again; a refusal
-    /// adds nothing.
+    /// Adds an identifier after the others and tells whether it was not among them. One that was is
+    /// not added again; a refusal adds nothing.
     pub(crate) fn add(&mut self, id: &Id) -> Result<bool, AllocError>
         ensures new { IfOk result (λ new. new ≡ not (has_id self.old id.now)) }
         ensures added { IfOk result (λ new. self.new ≡ (if new then self.old ++ id.now ∷ [] else self.old)) }

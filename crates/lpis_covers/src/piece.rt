@@ -40,7 +40,6 @@ impl TableRow for Piece {
     ghost use Rattle.std.specs.Prelude.{refl};
     ghost use Rattle.lpis_covers.specs.declared.fault.Table.TheVariants as table;
     ghost use Rattle.lpis_covers.specs.Covers.{covers_table, more_piece_faults};
-    ghost use Rattle.lpis_covers.specs.Table.{field_of};
 
     ghost kind = { covers_table };
 
@@ -71,7 +70,8 @@ impl TableRow for Piece {
     ghost key_is_tested_first = { λ keys n row. refl };
 }
 
-/// The pieces of the table `covers`, with the columns `piece`, `parcel`, `class` and `wkt`, or its first fault.
+/// The pieces of the table `covers`, with the columns `piece`, `parcel`, `class` and `wkt`, or its
+/// first fault.
 pub fn read_pieces(alloc: Global, bytes: &[u8]) -> Result<Pieces, TableFault>
     ensures { Answers result (rows_of covers_table bytes.now) }
 {

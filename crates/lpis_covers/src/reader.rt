@@ -1,9 +1,10 @@
 //! A reader of a table, row by row.
 
-ghost use Rattle.std.specs.Prelude.{◌≡◌, ◌≤◌, ◌∷◌, [], None, Some, length, IfOk, IfErr, Ok};
+ghost use Rattle.std.specs.Prelude.{◌≡◌, ◌≤◌, ◌∷◌, [], None, Some, IfOk, IfErr, Ok};
 ghost use Rattle.csv.specs.Records.{fields_of};
 ghost use Rattle.csv.specs.Reading.{strip_bom};
-ghost use Rattle.lpis_covers.specs.Table.{Advances, Answers, fault_at, field_of, has_mark, picked, place_of, places_of, table_of, texts};
+ghost use Rattle.lpis_covers.specs.Table.{Advances, Answers, fault_at, field_of, has_mark, picked};
+ghost use Rattle.lpis_covers.specs.Table.{place_of, places_of, table_of, texts};
 ghost use Rattle.lpis_covers.specs.declared.fault.TableCode.TheVariants.{BadGeometry};
 ghost use Rattle.lpis_covers.specs.declared.fault.TableFault.TheVariants.{At};
 ghost use Rattle.lpis_covers.specs.private.Columns.{TellsColumn};
@@ -18,8 +19,9 @@ use std::marker::Model;
 /// The most rows of a table, its header aside.
 const MOST_ROWS: u32 = 200_000;
 
-/// A reader of a table, row by row: it holds one row at a time. Contracts see the number and the wanted fields of the
-/// row that was read last, the rows that are left and the fault that stops them.
+/// A reader of a table, row by row: it holds one row at a time. Contracts see the number and the
+/// wanted fields of the row that was read last, the rows that are left and the fault that stops
+/// them.
 #[derive(Drop)]
 pub struct TableReader<'a> {
     records: Records<'a>,
@@ -36,7 +38,8 @@ impl<'a> Model for TableReader<'a> {
 
     ghost Value = { Reading };
 
-    ghost view = { λ r. reading r.table r.number (picked r.places.items (fields_of r.current)) (rows_from r.table r.records.width r.places.items (r.number + 1) r.records.records) };
+    ghost view = { λ r. reading r.table r.number (picked r.places.items (fields_of r.current))
+        (rows_from r.table r.records.width r.places.items (r.number + 1) r.records.records) };
 
     ghost invariant = { λ r. r.number ≤ most_rows };
 }
@@ -124,8 +127,9 @@ fn fault(code: TableCode, table: Table, row: u32) -> TableFault
 }
 
 impl<'a> TableReader<'a> {
-    /// A reader of the wanted columns of a table. The first record is the header, in which each column's name stands
-    /// once, in any mix of ASCII cases. One byte order mark at the start is skipped.
+    /// A reader of the wanted columns of a table. The first record is the header, in which each
+    /// column's name stands once, in any mix of ASCII cases. One byte order mark at the start is
+    /// skipped.
     ///
     /// A refusal is a fault of row 0, or want of memory.
     pub fn open(
@@ -156,8 +160,8 @@ impl<'a> TableReader<'a> {
         }
     }
 
-    /// Reads the next row. `Ok(false)` is the end of the table; a refusal is the fault that stops the rows, or want of
-    /// memory. After either the reader has no meaning.
+    /// Reads the next row. `Ok(false)` is the end of the table; a refusal is the fault that stops
+    /// the rows, or want of memory. After either the reader has no meaning.
     pub fn next_row(&mut self) -> Result<bool, TableFault>
         ensures { Advances self.old self.new result }
     {

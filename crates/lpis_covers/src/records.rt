@@ -21,8 +21,8 @@ pub(crate) enum Step {
     Uneven,
 }
 
-/// The records of a text after its first, which contracts see as their list with the first one's length. It has none
-/// left once memory ran out or a record had another length.
+/// The records of a text after its first, which contracts see as their list with the first one's
+/// length. It has none left once memory ran out or a record had another length.
 #[derive(Drop)]
 pub(crate) struct Records<'a> {
     reader: Reader<&'a [u8]>,
@@ -68,15 +68,17 @@ fn next_step(reader: &mut Reader<&[u8]>, row: &mut ByteRecord) -> Result<Step, A
 }
 
 impl<'a> Records<'a> {
-    /// The records of a text: the first goes to `header`. `None` where the text has no record. One byte order mark at
-    /// the start is skipped.
+    /// The records of a text: the first goes to `header`. `None` where the text has no record. One
+    /// byte order mark at the start is skipped.
     pub(crate) fn open(
         alloc: Global,
         text: &'a [u8],
         header: &mut ByteRecord,
     ) -> Result<Option<Records<'a>>, AllocError>
-        ensures none { IfOk result (λ o. MatchOption o (records default_config (strip_bom text.now) ≡ []) (λ r. records default_config (strip_bom text.now) ≡ fields_of header.new ∷ r.records)) }
-        ensures width { IfOk result (λ o. MatchOption o (Unit {0}) (λ r. r.width ≡ length (fields_of header.new))) }
+        ensures none { IfOk result (λ o. MatchOption o (records default_config (strip_bom text.now) ≡ [])
+            (λ r. records default_config (strip_bom text.now) ≡ fields_of header.new ∷ r.records)) }
+        ensures width { IfOk result
+            (λ o. MatchOption o (Unit {0}) (λ r. r.width ≡ length (fields_of header.new))) }
     {
         let mut reader = reader_of(alloc, text);
         match next_step(&mut reader, header)? {

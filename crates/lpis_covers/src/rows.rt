@@ -11,7 +11,8 @@ use csv::ByteRecord;
 use lpis_rings::{Sequence, without_spare};
 use std::alloc::{AllocError, Global};
 
-/// The wanted columns of the rows before the first fault of length or number, as bytes, and that fault.
+/// The wanted columns of the rows before the first fault of length or number, as bytes, and that
+/// fault.
 #[derive(Drop)]
 pub struct Rows {
     pub rows: Sequence<ByteRecord>,
@@ -32,7 +33,8 @@ fn add_copy(
     Ok(())
 }
 
-/// The wanted columns of a table, by their names in the order given. A refusal is a fault of row 0, or want of memory.
+/// The wanted columns of a table, by their names in the order given. A refusal is a fault of row 0,
+/// or want of memory.
 pub fn read_table(
     alloc: Global,
     bytes: &[u8],

@@ -34,11 +34,13 @@ pub trait TableRow: Identified + Drop {
     fn read(alloc: Global, reader: &TableReader<'_>, id: Id) -> Result<Self, TableFault>
         requires table { reader.now.table ≡ kind.table }
         requires key { id ≡ field_of reader.now.row 0 }
-        ensures { Answers result (told (others reader.now.number reader.now.row) (kind.value reader.now.row)) };
+        ensures { Answers result
+            (told (others reader.now.number reader.now.row) (kind.value reader.now.row)) };
 
     ghost key_is_first: { (row : Record) → Self.identifier (kind.value row) ≡ field_of row 0 };
 
-    ghost key_is_tested_first: { (keys : List (List ℕ)) (n : ℕ) (row : Record) → kind.faults keys n row ≡ key_faults kind.table n keys (field_of row 0) ++ others n row };
+    ghost key_is_tested_first: { (keys : List (List ℕ)) (n : ℕ) (row : Record)
+        → kind.faults keys n row ≡ key_faults kind.table n keys (field_of row 0) ++ others n row };
 }
 
 /// Adds the row that was read last, and its identifier. A refusal is the row's first fault.
@@ -62,8 +64,9 @@ fn add_row<T: TableRow>(
     Ok(())
 }
 
-/// The rows of a table, by their identifiers in its order. A refusal is the first fault: of row 0; else of a row, in the order
-/// of the rows and in it of the columns; else that which stops the rows.
+/// The rows of a table, by their identifiers in its order. A refusal is the first fault: of row 0;
+/// else of a row, in the order of the rows and in it of the columns; else that which stops the
+/// rows.
 pub fn read_rows<T: TableRow>(alloc: Global, bytes: &[u8]) -> Result<Keyed<T>, TableFault>
     ensures { Answers result (rows_of T.kind bytes.now) }
 {

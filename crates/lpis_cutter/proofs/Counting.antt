@@ -1,19 +1,20 @@
 -- Edges counted along and back.
-use Rattle.std.proofs.Common.{◌≡◌, ◌≢◌, ℕ, ◌+◌, ℤ, pos, ◌+ℤ◌, ◌-ℤ◌, Bool, true, false, cond, ◌&&◌, List, [], ◌∷◌, ◌++◌, length, filter, length-append, arith}
+use Rattle.std.proofs.Common.{◌≡◌, ◌≢◌, ℕ, ◌+◌, ℤ, pos, ◌+ℤ◌, ◌-ℤ◌, Bool, true, false, cond, ◌&&◌, List, [], ◌∷◌, ◌++◌, length, filter, arith}
 use Rattle.std.proofs.lemmas.Int.{ints}
 use Rattle.lpis_points.specs.declared.point.Point.{Point}
 use Rattle.lpis_points.specs.Plane.{same_point}
-use Rattle.lpis_points.specs.Chain.{is_edge, net_count, SameNet}
-use Rattle.lpis_rings.specs.Edges.{edges_of}
-use Rattle.lpis_covers.specs.declared.piece.Piece.{Piece}
-use Rattle.lpis_checker.specs.GoodCertificate.{edges_of_pieces}
+use Rattle.lpis_points.specs.Chain.{net_count, SameNet}
 use Rattle.lpis_cutter.specs.private.Cutting.{times}
 
 pub times-append : (a b : Point) (es fs : List (Point × Point)) → times a b (es ++ fs) ≡ times a b es + times a b fs
 times-append a b [] fs = omega arith
 times-append a b (e ∷ es) fs = by (same_point a e.0 && same_point b e.1) (times-append a b es fs)
   where
-    by : (t : Bool) → times a b (es ++ fs) ≡ times a b es + times a b fs → length (cond t (e ∷ filter (λ g. same_point a g.0 && same_point b g.1) (es ++ fs)) (filter (λ g. same_point a g.0 && same_point b g.1) (es ++ fs))) ≡ length (cond t (e ∷ filter (λ g. same_point a g.0 && same_point b g.1) es) (filter (λ g. same_point a g.0 && same_point b g.1) es)) + times a b fs
+    by : (t : Bool) → times a b (es ++ fs) ≡ times a b es + times a b fs
+        → length (cond t (e ∷ filter (λ g. same_point a g.0 && same_point b g.1) (es ++ fs))
+        (filter (λ g. same_point a g.0 && same_point b g.1) (es ++ fs))) ≡ length
+        (cond t (e ∷ filter (λ g. same_point a g.0 && same_point b g.1) es)
+        (filter (λ g. same_point a g.0 && same_point b g.1) es)) + times a b fs
     by true h = omega (arith, h)
     by false h = h
 
@@ -22,14 +23,20 @@ pub net_is_times : (a b : Point) (es : List (Point × Point)) → net_count same
 net_is_times a b [] = omega (arith, ints)
 net_is_times a b (e ∷ es) = by (same_point a e.0 && same_point b e.1) (same_point b e.0 && same_point a e.1) (net_is_times a b es)
   where
-    by : (s t : Bool) → net_count same_point a b es ≡ pos (times a b es) -ℤ pos (times b a es) → (cond s (pos 1) (pos 0) -ℤ cond t (pos 1) (pos 0)) +ℤ net_count same_point a b es ≡ pos (length (cond s (e ∷ filter (λ g. same_point a g.0 && same_point b g.1) es) (filter (λ g. same_point a g.0 && same_point b g.1) es))) -ℤ pos (length (cond t (e ∷ filter (λ g. same_point b g.0 && same_point a g.1) es) (filter (λ g. same_point b g.0 && same_point a g.1) es)))
+    by : (s t : Bool) → net_count same_point a b es ≡ pos (times a b es) -ℤ pos (times b a es)
+        → (cond s (pos 1) (pos 0) -ℤ cond t (pos 1) (pos 0)) +ℤ net_count same_point a b es ≡ pos
+        (length (cond s (e ∷ filter (λ g. same_point a g.0 && same_point b g.1) es)
+        (filter (λ g. same_point a g.0 && same_point b g.1) es))) -ℤ pos
+        (length (cond t (e ∷ filter (λ g. same_point b g.0 && same_point a g.1) es)
+        (filter (λ g. same_point b g.0 && same_point a g.1) es)))
     by true true h = omega (arith, ints, h)
     by true false h = omega (arith, ints, h)
     by false true h = omega (arith, ints, h)
     by false false h = omega (arith, ints, h)
 
 -- edges of which one has another difference along and back have other net counts
-pub uneven_edges : (a b : Point) (es fs : List (Point × Point)) (n m k l : ℕ) → a ≢ b → n ≡ times a b es → m ≡ times b a es → k ≡ times a b fs → l ≡ times b a fs → n + l ≢ k + m → SameNet same_point es fs → ⊥
+pub uneven_edges : (a b : Point) (es fs : List (Point × Point)) (n m k l : ℕ) → a ≢ b → n ≡ times a b es
+    → m ≡ times b a es → k ≡ times a b fs → l ≡ times b a fs → n + l ≢ k + m → SameNet same_point es fs → ⊥
 uneven_edges a b es fs n m k l two hn hm hk hl other same =
     other (by (times a b es) (times b a es) (times a b fs) (times b a fs) _ _ (net_is_times a b es) (net_is_times a b fs) (same a b two) hn hm hk hl)
   where

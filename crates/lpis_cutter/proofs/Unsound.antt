@@ -17,11 +17,10 @@ use Rattle.lpis_checker.specs.GoodCertificate.{IsGood}
 use Rattle.lpis_checker.specs.Laws.{GoodMeansSound}
 use Rattle.lpis_checker.specs.SoundMap.{AtMostOne, ExactlyOne, IsInParcel, IsInPiece, IsSoundEverywhere}
 use Rattle.lpis_checker.proofs.Sums.{Found, any_found, all_at, filter_kept}
-use Rattle.lpis_cutter.specs.declared.fault.Refusal.{Refusal}
 use Rattle.lpis_cutter.specs.declared.fault.Refusal.TheVariants.{NoCut, ParcelsOverlap, PiecesOverlap, NoSeparator, Disagreement, NoFlats}
 use Rattle.lpis_cutter.specs.declared.fault.CutFault.{CutFault}
 use Rattle.lpis_cutter.specs.declared.fault.CutFault.TheVariants.{Memory, Refused}
-use Rattle.lpis_cutter.specs.Refusals.{IsPiece, IsParcel, ParcelsShare, PiecesShare, Disagrees, Tells, HasPoint}
+use Rattle.lpis_cutter.specs.Refusals.{ParcelsShare, PiecesShare, Disagrees, Tells, HasPoint}
 
 -- an item that is among others has a place
 among_found : {A : Type 0} (xs : List A) (x : A) → IsAmong xs x → Found (λ y. y ≡ x) xs
@@ -75,7 +74,9 @@ disagrees r a s d t sound = by t.parted
   where
     filled : IsInParcel s t.x ↔ ExactlyOne (IsInPiece s) (pieces_named r a)
     filled =
-        let each : IsInParcel s t.x ↔ ExactlyOne (IsInPiece s) (pieces_named r t.x.id) = All-contains (λ (k : Parcel). IsInParcel s k ↔ ExactlyOne (IsInPiece s) (pieces_named r k.id)) r.parcels t.x (sound.filled s d) t.is_x.there in
+        let each : IsInParcel s t.x ↔ ExactlyOne (IsInPiece s) (pieces_named r t.x.id) =
+        All-contains (λ (k : Parcel). IsInParcel s k ↔ ExactlyOne (IsInPiece s) (pieces_named r k.id)) r.parcels t.x
+        (sound.filled s d) t.is_x.there in
         subst (λ (id : List ℕ). IsInParcel s t.x ↔ ExactlyOne (IsInPiece s) (pieces_named r id)) t.is_x.named each
 
     by : (IsInParcel s t.x × All (λ (y : Piece). IsInPiece s y → ⊥) (pieces_named r a)) ⊎ ((IsInParcel s t.x → ⊥) × Any (IsInPiece s) (pieces_named r a)) → ⊥
@@ -99,6 +100,8 @@ told_unsound r (Ok c) t = tt
 told_unsound r (Err e) t = unsound r e t
 
 -- so no certificate is good for it
-pub told_no_certificate : (r : Contents) (x : Result Cert CutFault) → GoodMeansSound → IsDistinct same_id (parcel_ids r.parcels) → IfErr x (Tells r) → IfErr x (λ e. HasPoint e → (c : Cert) → IsGood r c → ⊥)
+pub told_no_certificate : (r : Contents) (x : Result Cert CutFault) → GoodMeansSound
+    → IsDistinct same_id (parcel_ids r.parcels) → IfErr x (Tells r) → IfErr x (λ e. HasPoint e → (c : Cert) → IsGood r c
+    → ⊥)
 told_no_certificate r (Ok c) law distinct t = tt
 told_no_certificate r (Err e) law distinct t = λ point c good. unsound r e t point (law r c distinct good).everywhere

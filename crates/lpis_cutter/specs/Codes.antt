@@ -1,7 +1,9 @@
 -- The codes of refusals.
 use Rattle.std.specs.Prelude.{ℕ, List, codes}
 use Rattle.lpis_cutter.specs.declared.fault.Refusal.{Refusal}
-use Rattle.lpis_cutter.specs.declared.fault.Refusal.TheVariants.{NoCut, ParcelsOverlap, PiecesOverlap, NoSeparator, Disagreement, NoFlats}
+use Rattle.lpis_cutter.specs.declared.fault.Refusal.TheVariants.{NoCut, ParcelsOverlap}
+use Rattle.lpis_cutter.specs.declared.fault.Refusal.TheVariants.{PiecesOverlap, NoSeparator}
+use Rattle.lpis_cutter.specs.declared.fault.Refusal.TheVariants.{Disagreement, NoFlats}
 
 -- the two characters of a code
 abbrev pub code_text : Refusal → List ℕ

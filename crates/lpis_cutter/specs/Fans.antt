@@ -1,5 +1,6 @@
 -- Fans: polygons that the triangles round their first point cover.
-use Rattle.std.specs.Prelude.{◌≡◌, ℕ, ◌+◌, ◌<◌, ◌≤◌, pos, ◌<ℤ◌, List, [], ◌∷◌, length, slice_get, Some, All, sum_by}
+use Rattle.std.specs.Prelude.{◌≡◌, ℕ, ◌+◌, ◌<◌, ◌≤◌, pos, ◌<ℤ◌, List, [], ◌∷◌, length, slice_get}
+use Rattle.std.specs.Prelude.{Some, All, sum_by}
 use Rattle.lpis_points.specs.declared.point.Point.{Point}
 use Rattle.lpis_points.specs.Plane.{orient}
 use Rattle.lpis_rings.specs.declared.polygon.Member.{Member}
@@ -15,12 +16,15 @@ pub record IsOneRing (members : List Member) : Type 0 where
   pub only : members ≡ member ∷ []
   pub no_holes : member.holes ≡ []
 
--- the point from which the first of these edges goes is strictly left of every edge but the first and the last
+-- the point from which the first of these edges goes is strictly left of every edge but the first
+-- and the last
 abbrev pub SeesAll : List (Point × Point) → Type 0
 SeesAll es =
-    (k : ℕ) (first e : Point × Point) → 0 < k → k + 1 < length es → slice_get es 0 ≡ Some first → slice_get es k ≡ Some e → pos 0 <ℤ orient e.0 e.1 first.0
+    (k : ℕ) (first e : Point × Point) → 0 < k → k + 1 < length es → slice_get es 0 ≡ Some first
+    → slice_get es k ≡ Some e → pos 0 <ℤ orient e.0 e.1 first.0
 
--- one ring, whose first point is strictly left of every edge but the first and the last, in normal orientation
+-- one ring, whose first point is strictly left of every edge but the first and the last, in normal
+-- orientation
 pub record IsFan (members : List Member) : Type 0 where
   pub ring : IsOneRing members
   pub sees : SeesAll (edges_of members)

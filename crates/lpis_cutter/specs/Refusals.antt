@@ -10,7 +10,9 @@ use Rattle.lpis_parcels.specs.Release.{Contents, pieces_named}
 use Rattle.lpis_checker.specs.GoodCertificate.{edges_of_pieces}
 use Rattle.lpis_checker.specs.SoundMap.{IsInParcel, IsInPiece}
 use Rattle.lpis_cutter.specs.declared.fault.Refusal.{Refusal}
-use Rattle.lpis_cutter.specs.declared.fault.Refusal.TheVariants.{NoCut, ParcelsOverlap, PiecesOverlap, NoSeparator, Disagreement, NoFlats}
+use Rattle.lpis_cutter.specs.declared.fault.Refusal.TheVariants.{NoCut, ParcelsOverlap}
+use Rattle.lpis_cutter.specs.declared.fault.Refusal.TheVariants.{PiecesOverlap, NoSeparator}
+use Rattle.lpis_cutter.specs.declared.fault.Refusal.TheVariants.{Disagreement, NoFlats}
 use Rattle.lpis_cutter.specs.declared.fault.CutFault.{CutFault}
 use Rattle.lpis_cutter.specs.declared.fault.CutFault.TheVariants.{Memory, Refused}
 use Rattle.lpis_cutter.specs.Fans.{AreFewFans}
@@ -52,7 +54,8 @@ IsUncovered r p id = All (λ (y : Piece). IsInPiece p y → ⊥) (pieces_named r
 abbrev pub IsCovered : Contents → RationalPoint → List ℕ → Type 0
 IsCovered r p id = Any (IsInPiece p) (pieces_named r id)
 
--- the parcel contains the point and none of its pieces does, or one of its pieces does and the parcel does not
+-- the parcel contains the point and none of its pieces does, or one of its pieces does and the
+-- parcel does not
 pub record Disagrees (r : Contents) (id : List ℕ) (p : RationalPoint) : Type 0 where
   pub x : Parcel
   pub is_x : IsParcel r id x
@@ -69,7 +72,8 @@ abbrev pub Says : Contents → Refusal → Type 0
 Says r (NoCut piece) = ((x : Piece) × IsPiece r piece x) × (AreFewFans r → ⊥)
 Says r (ParcelsOverlap first second at) = ParcelsShare r first second (rational_of at)
 Says r (PiecesOverlap first second at) = PiecesShare r first second (rational_of at)
-Says r (NoSeparator first second) = ((x : Piece) × IsPiece r first x) × ((y : Piece) × IsPiece r second y)
+Says r (NoSeparator first second) = ((x : Piece) × IsPiece r first x)
+    × ((y : Piece) × IsPiece r second y)
 Says r (Disagreement parcel at) = Disagrees r parcel (rational_of at)
 Says r (NoFlats parcel) = IsUneven r parcel
 

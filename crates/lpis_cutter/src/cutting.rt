@@ -30,8 +30,12 @@ use std::alloc::{AllocError, Global};
 
 /// The parts with a piece more; `None` where it has no cut, or a limit would be passed.
 fn add_piece(cutter: &mut Cutter, parts: Parts, piece: &Piece) -> Result<Option<Parts>, AllocError>
-    ensures triangles { IfOk result (λ o. IsFan piece.now.polygon → MatchOption o (IsTooMany piece.now.polygon parts.triangles parts.flats) (λ more. more.triangles ≤ parts.triangles + points_of piece.now.polygon)) }
-    ensures flats { IfOk result (λ o. IsFan piece.now.polygon → MatchOption o (IsTooMany piece.now.polygon parts.triangles parts.flats) (λ more. more.flats ≤ parts.flats + points_of piece.now.polygon)) }
+    ensures triangles { IfOk result (λ o. IsFan piece.now.polygon
+        → MatchOption o (IsTooMany piece.now.polygon parts.triangles parts.flats)
+        (λ more. more.triangles ≤ parts.triangles + points_of piece.now.polygon)) }
+    ensures flats { IfOk result (λ o. IsFan piece.now.polygon
+        → MatchOption o (IsTooMany piece.now.polygon parts.triangles parts.flats)
+        (λ more. more.flats ≤ parts.flats + points_of piece.now.polygon)) }
 {
     match cut_of(cutter, &piece.polygon)? {
         Some(cut) => with_piece(parts, piece.id.copy()?, cut),

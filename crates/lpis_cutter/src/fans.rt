@@ -1,6 +1,7 @@
 //! Fans: pieces that the triangles round their first point cover.
 
-ghost use Rattle.std.specs.Prelude.{◌≡◌, ◌≤◌, ◌<◌, ◌+◌, ◌<ℤ◌, ◌↔◌, pos, IfOk, IsTrue, MatchOption, length};
+ghost use Rattle.std.specs.Prelude.{◌≡◌, ◌≤◌, ◌<◌, ◌+◌, ◌<ℤ◌, ◌↔◌, pos, IfOk, IsTrue, MatchOption};
+ghost use Rattle.std.specs.Prelude.{length};
 ghost use Rattle.lpis_points.specs.Plane.{orient as orient_lem};
 ghost use Rattle.lpis_rings.specs.Edges.{edges_of};
 ghost use Rattle.lpis_rings.specs.Polygon.{points_of};
@@ -80,7 +81,8 @@ fn triangles_of(alloc: Global, list: &[(Point, Point)]) -> Result<Vec<Triangle>,
 /// The triangles of a fan: fewer than it has points. `None` where the polygon is no fan.
 #[tactic(auto, using(crate::proofs::FanLemmas::edges_few))]
 pub(crate) fn fan_of(alloc: Global, polygon: &Polygon) -> Result<Option<Vec<Triangle>>, AllocError>
-    ensures { IfOk result (λ o. IsFan polygon.now → MatchOption o ⊥ (λ triangles. length triangles.items ≤ points_of polygon.now)) }
+    ensures { IfOk result (λ o. IsFan polygon.now
+        → MatchOption o ⊥ (λ triangles. length triangles.items ≤ points_of polygon.now)) }
 {
     if !is_one_ring(polygon) {
         return Ok(None);

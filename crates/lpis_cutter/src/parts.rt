@@ -18,7 +18,8 @@ pub(crate) struct Parts {
     pub(crate) triangles: u64,
     pub(crate) flats: u64,
     pub ghost triangles_counted: { triangles ≡ sum_by (λ p. length p.triangles) pieces.items },
-    pub ghost flats_counted: { flats ≡ sum_by (λ p. length p.flats) pieces.items + sum_by (λ p. length p.flats) parcels.items },
+    pub ghost flats_counted: { flats ≡ sum_by (λ p. length p.flats) pieces.items + sum_by
+        (λ p. length p.flats) parcels.items },
     pub ghost triangles_few: { triangles ≤ most_triangles },
     pub ghost flats_few: { flats ≤ most_flats },
 }
@@ -62,9 +63,12 @@ pub(crate) fn no_parts(alloc: Global) -> Parts
 
 /// The parts with one piece more; `None` where a limit of a certificate would be passed.
 pub(crate) fn with_piece(parts: Parts, id: Id, cut: Cut) -> Result<Option<Parts>, AllocError>
-    ensures triangles { IfOk result (λ o. IfSome o (λ more. more.triangles ≡ parts.triangles + length cut.triangles.items)) }
+    ensures triangles { IfOk result
+        (λ o. IfSome o (λ more. more.triangles ≡ parts.triangles + length cut.triangles.items)) }
     ensures flats { IfOk result (λ o. IfSome o (λ more. more.flats ≡ parts.flats + length cut.flats.items)) }
-    ensures none { IfOk result (λ o. IfNone o ((most_triangles < parts.triangles + length cut.triangles.items) ⊎ (most_flats < parts.flats + length cut.flats.items))) }
+    ensures none { IfOk result
+        (λ o. IfNone o ((most_triangles < parts.triangles + length cut.triangles.items)
+        ⊎ (most_flats < parts.flats + length cut.flats.items))) }
 {
     let Parts {
         mut pieces,

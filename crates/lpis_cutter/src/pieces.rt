@@ -45,7 +45,8 @@ fn edge_count(polygon: &Polygon) -> usize
 
 /// Whether a cut has no more triangles, and no more flats, than this.
 fn is_small(cut: &Cut, most: usize) -> bool
-    ensures { IsTrue result ↔ ((length cut.now.triangles.items ≤ most) × (length cut.now.flats.items ≤ most)) }
+    ensures { IsTrue result
+        ↔ ((length cut.now.triangles.items ≤ most) × (length cut.now.flats.items ≤ most)) }
 {
     cut.triangles.len() <= most && cut.flats.len() <= most
 }
@@ -54,8 +55,10 @@ fn is_small(cut: &Cut, most: usize) -> bool
 /// than points: its own, where the sweep finds none so small.
 #[tactic(auto, using(crate::proofs::FanLemmas::edges_few))]
 pub(crate) fn cut_of(cutter: &mut Cutter, polygon: &Polygon) -> Result<Option<Cut>, AllocError>
-    ensures triangles { IfOk result (λ o. IsFan polygon.now → MatchOption o ⊥ (λ cut. length cut.triangles.items ≤ points_of polygon.now)) }
-    ensures flats { IfOk result (λ o. IsFan polygon.now → MatchOption o ⊥ (λ cut. length cut.flats.items ≤ points_of polygon.now)) }
+    ensures triangles { IfOk result (λ o. IsFan polygon.now
+        → MatchOption o ⊥ (λ cut. length cut.triangles.items ≤ points_of polygon.now)) }
+    ensures flats { IfOk result (λ o. IsFan polygon.now
+        → MatchOption o ⊥ (λ cut. length cut.flats.items ≤ points_of polygon.now)) }
 {
     let alloc = cutter.alloc;
     let swept = cutter.swept(polygon)?;

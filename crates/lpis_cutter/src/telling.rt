@@ -17,7 +17,8 @@ use lpis_points::{Point, RatPoint};
 use lpis_rings::{Polygon, contains, edges};
 use std::alloc::AllocError;
 
-/// That the pieces at two places overlap, where both contain the point and they have two identifiers.
+/// That the pieces at two places overlap, where both contain the point and they have two
+/// identifiers.
 pub(crate) fn pieces_overlap(
     release: &Release,
     i: usize,
@@ -135,7 +136,8 @@ fn differ(own_along: usize, own_back: usize, along: usize, back: usize) -> bool
 
 /// Whether an edge's net count in a parcel is another than in its pieces.
 fn is_uneven(release: &Release, parcel: &Parcel, a: Point, b: Point) -> bool
-    ensures { IsTrue result → SameNet same_point (edges_of parcel.now.polygon) (edges_of_pieces (pieces_named release.now parcel.now.id)) → ⊥ }
+    ensures { IsTrue result → SameNet same_point (edges_of parcel.now.polygon)
+        (edges_of_pieces (pieces_named release.now parcel.now.id)) → ⊥ }
 {
     if !are_two(a, b) {
         return false;
@@ -151,7 +153,8 @@ fn is_uneven(release: &Release, parcel: &Parcel, a: Point, b: Point) -> bool
     differ(own_along, own_back, along, back)
 }
 
-/// That the edges of the parcel at a place have other net counts than its pieces' edges, where this edge has.
+/// That the edges of the parcel at a place have other net counts than its pieces' edges, where this
+/// edge has.
 pub(crate) fn unevenness(
     release: &Release,
     place: usize,

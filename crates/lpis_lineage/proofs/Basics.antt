@@ -22,7 +22,9 @@ has-by_order [] q = refl
 has-by_order (x ∷ xs) q = ap (λ (b : Bool). b || list_any (λ k. is_eq (slice_cmp nat_cmp q k)) xs) (sym (same-by_order q x)) ∙ ap (λ (b : Bool). same_id q x || b) (has-by_order xs q)
 
 -- a set with one identifier more
-pub add-by_order : (old new : List (List ℕ)) (id q : List ℕ) → list_any (λ k. is_eq (slice_cmp nat_cmp q k)) new ≡ cond (is_eq (slice_cmp nat_cmp id q)) true (list_any (λ k. is_eq (slice_cmp nat_cmp q k)) old) → has_id new q ≡ cond (same_id id q) true (has_id old q)
+pub add-by_order : (old new : List (List ℕ)) (id q : List ℕ) → list_any (λ k. is_eq (slice_cmp nat_cmp q k)) new ≡ cond
+    (is_eq (slice_cmp nat_cmp id q)) true (list_any (λ k. is_eq (slice_cmp nat_cmp q k)) old)
+    → has_id new q ≡ cond (same_id id q) true (has_id old q)
 add-by_order old new id q u =
     sym (has-by_order new q) ∙ u ∙ ap (λ (b : Bool). cond b true (list_any (λ k. is_eq (slice_cmp nat_cmp q k)) old)) (sym (same-by_order id q))
     ∙ ap (λ (b : Bool). cond (same_id id q) true b) (has-by_order old q)
@@ -94,10 +96,13 @@ same-sym a b = same-sym-by a b (same_id a b) refl (same_id b a) refl where
   same-sym-by a b false e true f = absurd (let g : b ≡ a = same-exact b a f in let r = same-refl b in let s : same_id a b ≡ true = subst (λ (z : List ℕ). same_id z b ≡ true) g r in cc)
 
 -- one identifier more
-pub has-more : (ids : List (List ℕ)) (i : ℕ) (d key q : List ℕ) (old new : Bool) → i < length ids → key ≡ get_or ids i d → old ≡ has_id (take i ids) q → new ≡ cond (same_id key q) true old → new ≡ has_id (take (i + 1) ids) q
-has-more ids i d key q old new lt e o n = n ∙ flip (same_id key q) old ∙ ap (λ (b : Bool). b || same_id key q) o ∙ ap (λ (b : Bool). has_id (take i ids) q || b) (same-sym key q ∙ ap (same_id q) e) ∙ sym (list_any_more (same_id q) ids i d lt) where
-  flip : (a b : Bool) → cond a true b ≡ (b || a)
-  flip true true = refl
-  flip true false = refl
-  flip false true = refl
-  flip false false = refl
+pub has-more : (ids : List (List ℕ)) (i : ℕ) (d key q : List ℕ) (old new : Bool) → i < length ids → key ≡ get_or ids i d
+    → old ≡ has_id (take i ids) q → new ≡ cond (same_id key q) true old → new ≡ has_id (take (i + 1) ids) q
+has-more ids i d key q old new lt e o n = n ∙ flip (same_id key q) old ∙ ap (λ (b : Bool). b || same_id key q) o
+    ∙ ap (λ (b : Bool). has_id (take i ids) q || b) (same-sym key q ∙ ap (same_id q) e)
+    ∙ sym (list_any_more (same_id q) ids i d lt) where
+      flip : (a b : Bool) → cond a true b ≡ (b || a)
+      flip true true = refl
+      flip true false = refl
+      flip false true = refl
+      flip false false = refl

@@ -1,5 +1,6 @@
 -- Chains over one row more, and over a lawful history.
-use Rattle.std.proofs.Common.{◌≡◌, ◌∙◌, ◌<◌, ◌≤◌, ◌+◌, ◌⊎◌, inl, inr, refl, sym, ap, subst, arith, ℕ, zero, suc, List, [], ◌∷◌, ◌++◌, length, Bool, true, false, Option, None, Some, cond, take, drop, get_or, append_assoc}
+use Rattle.std.proofs.Common.{◌≡◌, ◌∙◌, ◌<◌, ◌≤◌, ◌+◌, ◌⊎◌, inl, inr, refl, sym, ap, subst, arith, ℕ, zero, suc, List, [], ◌∷◌, ◌++◌, length, Bool, true, false, Option, None, Some, cond, take, drop}
+use Rattle.std.proofs.Common.{get_or, append_assoc}
 use Rattle.std.proofs.lemmas.List.{append-nil}
 use Rattle.std.specs.List.{list_any}
 use Rattle.std.proofs.lemmas.List.Folds.{list_any-append}
@@ -28,7 +29,9 @@ chain-more rows r a _ (Step m b ch l) = Step m b (chain-more rows r a m ch) (any
 chain-less : (rows : List Row) (r : Row) (a c : List ℕ) → IsFresh rows r → Chain (rows ++ r ∷ []) a c → (Chain rows a c) ⊎ ((Chain rows a r.old) × (is_this c r.new ≡ true))
 chain-less rows r a _ fresh Here = inl Here
 chain-less rows r a _ fresh (Step m c ch l) = next rows r a m c fresh (chain-less rows r a m fresh ch) l where
-  next : (rows : List Row) (r : Row) (a m c : List ℕ) → IsFresh rows r → (Chain rows a m) ⊎ ((Chain rows a r.old) × (is_this m r.new ≡ true)) → list_any (leads m c) (rows ++ r ∷ []) ≡ true → (Chain rows a c) ⊎ ((Chain rows a r.old) × (is_this c r.new ≡ true))
+  next : (rows : List Row) (r : Row) (a m c : List ℕ) → IsFresh rows r → (Chain rows a m)
+      ⊎ ((Chain rows a r.old) × (is_this m r.new ≡ true)) → list_any (leads m c) (rows ++ r ∷ []) ≡ true
+      → (Chain rows a c) ⊎ ((Chain rows a r.old) × (is_this c r.new ≡ true))
   next rows r a m c fresh (inl ch) l = elim (any-last (leads m c) rows r l) as (λ _. (Chain rows a c) ⊎ ((Chain rows a r.old) × (is_this c r.new ≡ true))) [
     | inl x ↦ inl (Step m c ch x)
     | inr y ↦ inr (let P : List ℕ → Type 0 = λ z. Chain rows a z in subst P (same-exact m r.old (and-left _ _ y)) ch, and-right (is_of m r) _ y)
@@ -41,7 +44,11 @@ chain-less rows r a _ fresh (Step m c ch l) = next rows r a m c fresh (chain-les
 pub reach-none : (ids : List (List ℕ)) (rows : List Row) (r : Row) (id : List ℕ) → Reaches ids rows id → IsFresh rows r → r.new ≡ None → Reaches ids (rows ++ r ∷ []) id
 reach-none ids rows r id reach fresh none = record {
   sound = λ q h. chain-more rows r id q (reach.sound q h);
-  whole = λ q ch. elim (chain-less rows r id q fresh ch) as (λ _. has_id ids q ≡ true) [ inl x ↦ reach.whole q x | inr y ↦ absurd (let t = y.1 in let n = ap (λ (o : Option (List ℕ)). is_this q o) none in cc) ];
+  whole = λ q ch. elim (chain-less rows r id q fresh ch) as (λ _. has_id ids q ≡ true) [
+    | inl x ↦ reach.whole q x
+    | inr y ↦ absurd (let t = y.1 in let n = ap (λ (o : Option (List ℕ)). is_this q o) none
+        in cc)
+  ];
 }
 
 -- the row's old identifier is not reached
@@ -52,7 +59,9 @@ reach-skip ids rows r id reach fresh no-old = record {
 }
 
 -- it is, and its successor is added
-pub reach-add : (ids more : List (List ℕ)) (rows : List Row) (r : Row) (id heir : List ℕ) → Reaches ids rows id → IsFresh rows r → r.new ≡ Some heir → has_id ids r.old ≡ true → ((q : List ℕ) → has_id more q ≡ cond (same_id heir q) true (has_id ids q)) → Reaches more (rows ++ r ∷ []) id
+pub reach-add : (ids more : List (List ℕ)) (rows : List Row) (r : Row) (id heir : List ℕ) → Reaches ids rows id
+    → IsFresh rows r → r.new ≡ Some heir → has_id ids r.old ≡ true
+    → ((q : List ℕ) → has_id more q ≡ cond (same_id heir q) true (has_id ids q)) → Reaches more (rows ++ r ∷ []) id
 reach-add ids more rows r id heir reach fresh some old new = record {
   sound = λ q h. by-test q (same_id heir q) refl (sym (new q) ∙ h);
   whole = λ q ch. elim (chain-less rows r id q fresh ch) as (λ _. has_id more q ≡ true) [
@@ -79,7 +88,9 @@ pub fresh-row : (before rows : List Row) (i : ℕ) (r : Row) → AreFresh before
 fresh-row before rows i r fresh lt is s names-it = elim (either (list_any (is_of s) ((before ++ take i rows) ++ r ∷ []))) as (λ _. list_any (is_of s) ((before ++ take i rows) ++ r ∷ []) ≡ false) [
   | inl t ↦ absurd (
       let split : rows ≡ (take i rows ++ r ∷ []) ++ drop (i + 1) rows = sym (take-append-drop (i + 1) rows) ∙ ap (λ (l : List Row). l ++ drop (i + 1) rows) (sym (take-at rows i r lt is)) in
-      let there : list_any (names s) rows ≡ true = ap (λ (l : List Row). list_any (names s) l) split ∙ any-left (names s) (take i rows ++ r ∷ []) (drop (i + 1) rows) (any-mid (names s) (take i rows) r [] names-it) in
+      let there : list_any (names s) rows ≡ true = ap (λ (l : List Row). list_any (names s) l) split
+      ∙ any-left (names s) (take i rows ++ r ∷ []) (drop (i + 1) rows)
+      (any-mid (names s) (take i rows) r [] names-it) in
       let none = fresh s there in
       let all : list_any (is_of s) (before ++ rows) ≡ true =
       ap (λ (l : List Row). list_any (is_of s) (before ++ l)) split ∙ ap (λ (l : List Row). list_any (is_of s) l) (sym (append_assoc before (take i rows ++ r ∷ []) (drop (i + 1) rows)))
@@ -93,10 +104,12 @@ pub row-place : (h : List Entry) (n : ℕ) (id : List ℕ) → list_any (is_of i
 row-place [] zero id e = cc e
 row-place [] (suc n) id e = cc e
 row-place (x ∷ h) zero id e = cc e
-row-place (x ∷ h) (suc n) id e = elim (or-cases (list_any (is_of id) x.rows) _ (sym (list_any-append (is_of id) x.rows (all_rows (take n h))) ∙ e)) as (λ _. (j : ℕ) × (j < suc n) × (list_any (is_of id) (entry_at (x ∷ h) j).rows ≡ true)) [
-  | inl a ↦ (0, omega arith, a)
-  | inr b ↦ let r = row-place h n id b in (suc r.0, (let k = r.1 in omega arith), r.2)
-]
+row-place (x ∷ h) (suc n) id e =
+    elim (or-cases (list_any (is_of id) x.rows) _ (sym (list_any-append (is_of id) x.rows (all_rows (take n h))) ∙ e))
+    as (λ _. (j : ℕ) × (j < suc n) × (list_any (is_of id) (entry_at (x ∷ h) j).rows ≡ true)) [
+      | inl a ↦ (0, omega arith, a)
+      | inr b ↦ let r = row-place h n id b in (suc r.0, (let k = r.1 in omega arith), r.2)
+    ]
 
 no-row-of : (h : List Entry) → IsLawful h → RowsFit h → (i j : ℕ) (s : List ℕ) → j ≤ i → holds h i s ≡ true → list_any (is_of s) (entry_at h j).rows ≡ true → false ≡ true
 no-row-of h law fit i zero s le live of = let n = ap (λ (l : List Row). list_any (is_of s) l) fit.first in sym n ∙ of
@@ -111,10 +124,12 @@ release-fresh h law fit i e lt is s names-it =
     let at : e ≡ entry_at h i = is ∙ entry-get h i e lt in
     let live : holds h i s ≡ true = law.successors s i (ap (λ (x : Entry). list_any (names s) x.rows) (sym at) ∙ names-it) in
     elim (either (list_any (is_of s) (all_rows (take i h) ++ e.rows))) as (λ _. list_any (is_of s) (all_rows (take i h) ++ e.rows) ≡ false) [
-      | inl t ↦ elim (or-cases (list_any (is_of s) (all_rows (take i h))) _ (sym (list_any-append (is_of s) (all_rows (take i h)) e.rows) ∙ t)) as (λ _. list_any (is_of s) (all_rows (take i h) ++ e.rows) ≡ false) [
-        | inl a ↦ absurd (let p = row-place h i s a in let w = no-row-of h law fit i p.0 s (let k = p.1 in omega arith) live p.2 in cc)
-        | inr b ↦ absurd (let w = no-row-of h law fit i i s (omega arith) live (ap (λ (x : Entry). list_any (is_of s) x.rows) (sym at) ∙ b) in cc)
-      ]
+      | inl t ↦ elim (or-cases (list_any (is_of s) (all_rows (take i h))) _
+          (sym (list_any-append (is_of s) (all_rows (take i h)) e.rows) ∙ t)) as
+          (λ _. list_any (is_of s) (all_rows (take i h) ++ e.rows) ≡ false) [
+            | inl a ↦ absurd (let p = row-place h i s a in let w = no-row-of h law fit i p.0 s (let k = p.1 in omega arith) live p.2 in cc)
+            | inr b ↦ absurd (let w = no-row-of h law fit i i s (omega arith) live (ap (λ (x : Entry). list_any (is_of s) x.rows) (sym at) ∙ b) in cc)
+          ]
       | inr f ↦ f
     ]
 
@@ -142,7 +157,9 @@ reach-start id copy e = record {
   start _ (Step m c ch l) = cc l
 
 -- the live ones of those reached
-pub live-reached : (h : List Entry) (id : List ℕ) (reached ids found : List (List ℕ)) → Reaches reached (all_rows h) id → ids ≡ last_live h → found ≡ filter (λ k. has_id reached k) ids → (q : List ℕ) → (has_id found q ≡ true) ↔ IsDescendant h id q
+pub live-reached : (h : List Entry) (id : List ℕ) (reached ids found : List (List ℕ)) → Reaches reached (all_rows h) id
+    → ids ≡ last_live h → found ≡ filter (λ k. has_id reached k) ids → (q : List ℕ) → (has_id found q ≡ true)
+    ↔ IsDescendant h id q
 live-reached h id reached ids found reach e f q =
     let tested : has_id found q ≡ (has_id (last_live h) q && has_id reached q) =
     ap (λ (l : List (List ℕ)). has_id l q) f ∙ has-filter (λ k. has_id reached k) ids q ∙ ap (λ (l : List (List ℕ)). has_id l q && has_id reached q) e in (

@@ -61,7 +61,12 @@ pub any-mid : {A : Type 0} (p : A → Bool) (xs : List A) (x : A) (ys : List A) 
 any-mid p xs x ys e = list_any-append p xs (x ∷ ys) ∙ or-right (list_any p xs) _ (or-left (p x) _ e)
 
 pub any-last : {A : Type 0} (p : A → Bool) (xs : List A) (x : A) → list_any p (xs ++ x ∷ []) ≡ true → (list_any p xs ≡ true) ⊎ (p x ≡ true)
-any-last p xs x e = elim (or-cases (list_any p xs) _ (sym (list_any-append p xs (x ∷ [])) ∙ e)) as (λ _. (list_any p xs ≡ true) ⊎ (p x ≡ true)) [ inl a ↦ inl a | inr b ↦ elim (or-cases (p x) false b) as (λ _. (list_any p xs ≡ true) ⊎ (p x ≡ true)) [ inl a ↦ inr a | inr c ↦ absurd cc ] ]
+any-last p xs x e = elim (or-cases (list_any p xs) _ (sym (list_any-append p xs (x ∷ [])) ∙ e)) as
+    (λ _. (list_any p xs ≡ true) ⊎ (p x ≡ true)) [
+      | inl a ↦ inl a
+      | inr b ↦ elim (or-cases (p x) false b) as
+          (λ _. (list_any p xs ≡ true) ⊎ (p x ≡ true)) [ inl a ↦ inr a | inr c ↦ absurd cc ]
+    ]
 
 -- ---- rows
 same-new-exact : (o p : Option (List ℕ)) → same_new o p ≡ true → o ≡ p
@@ -98,7 +103,9 @@ pub record CleanRow (last live : List (List ℕ)) (before : List Row) (r : Row) 
   pub once : list_any (same_row r) before ≡ false
   pub apart : list_any (clashes r) before ≡ false
 
-clean-row : (last live : List (List ℕ)) (before : List Row) (k : ℕ) (r : Row) (rs : List Row) → row_faults last live before k (r ∷ rs) ≡ [] → CleanRow last live before r × (row_faults last live (before ++ r ∷ []) (k + 1) rs ≡ [])
+clean-row : (last live : List (List ℕ)) (before : List Row) (k : ℕ) (r : Row) (rs : List Row)
+    → row_faults last live before k (r ∷ rs) ≡ [] → CleanRow last live before r
+    × (row_faults last live (before ++ r ∷ []) (k + 1) rs ≡ [])
 clean-row last live before k r rs e =
     let a = told-nil _ _ _ e in
     let b = told-nil _ _ _ a.1 in
@@ -107,12 +114,14 @@ clean-row last live before k r rs e =
     let f = told-nil _ _ _ d.1 in
     (record { was = not-false _ a.0; gone = b.0; there = c.0; once = d.0; apart = f.0 }, f.1)
 
-rows-named : (last live : List (List ℕ)) (before : List Row) (k : ℕ) (rows : List Row) → row_faults last live before k rows ≡ [] → (id : List ℕ) → list_any (names id) rows ≡ true → has_id live id ≡ true
+rows-named : (last live : List (List ℕ)) (before : List Row) (k : ℕ) (rows : List Row) → row_faults last live before k
+    rows ≡ [] → (id : List ℕ) → list_any (names id) rows ≡ true → has_id live id ≡ true
 rows-named last live before k [] e id is = cc is
 rows-named last live before k (r ∷ rs) e id is = let c = clean-row last live before k r rs e in
     elim (or-cases (names id r) _ is) as (λ _. has_id live id ≡ true) [ inl a ↦ missing-named live r.new c.0.there id a | inr b ↦ rows-named last live (before ++ r ∷ []) (k + 1) rs c.1 id b ]
 
-rows-dropped : (last live : List (List ℕ)) (before : List Row) (k : ℕ) (rows : List Row) → row_faults last live before k rows ≡ [] → (id : List ℕ) → list_any (is_of id) rows ≡ true → (has_id last id ≡ true) × (has_id live id ≡ false)
+rows-dropped : (last live : List (List ℕ)) (before : List Row) (k : ℕ) (rows : List Row) → row_faults last live before k
+    rows ≡ [] → (id : List ℕ) → list_any (is_of id) rows ≡ true → (has_id last id ≡ true) × (has_id live id ≡ false)
 rows-dropped last live before k [] e id is = cc is
 rows-dropped last live before k (r ∷ rs) e id is = let c = clean-row last live before k r rs e in
     elim (or-cases (is_of id r) _ is) as (λ _. (has_id last id ≡ true) × (has_id live id ≡ false)) [
@@ -132,7 +141,9 @@ once-step before r row once le =
       | inr f ↦ let nil = ap (λ (b : Bool). length (cond b (r ∷ []) [])) f in omega (arith, n, nil, le)
     ]
 
-rows-once : (last live : List (List ℕ)) (before : List Row) (k : ℕ) (rows : List Row) → row_faults last live before k rows ≡ [] → (row : Row) → length (filter (same_row row) before) ≤ 1 → length (filter (same_row row) (before ++ rows)) ≤ 1
+rows-once : (last live : List (List ℕ)) (before : List Row) (k : ℕ) (rows : List Row) → row_faults last live before k
+    rows ≡ [] → (row : Row) → length (filter (same_row row) before) ≤ 1
+    → length (filter (same_row row) (before ++ rows)) ≤ 1
 rows-once last live before k [] e row le = let n = ap (λ (xs : List Row). length (filter (same_row row) xs)) (append-nil before) in omega (arith, n, le)
 rows-once last live before k (r ∷ rs) e row le =
     let c = clean-row last live before k r rs e in
@@ -235,7 +246,8 @@ rows-clean last live before k (r ∷ rs) named dropped once a =
     rows-clean last live (before ++ r ∷ []) (k + 1) rs (subst N (sym all) named) (subst D (sym all) dropped) (subst O (sym all) once) (subst Apart (sym all) a))))))
 
 -- ---- dropped identifiers
-dropped-clean : (live : List (List ℕ)) (rows : List Row) (ids : List (List ℕ)) → dropped_faults live rows ids ≡ [] → (id : List ℕ) → has_id ids id ≡ true → has_id live id ≡ false → list_any (is_of id) rows ≡ true
+dropped-clean : (live : List (List ℕ)) (rows : List Row) (ids : List (List ℕ)) → dropped_faults live rows ids ≡ []
+    → (id : List ℕ) → has_id ids id ≡ true → has_id live id ≡ false → list_any (is_of id) rows ≡ true
 dropped-clean live rows [] e id is gone = cc is
 dropped-clean live rows (x ∷ xs) e id is gone =
     let t = told-nil _ _ _ e in
@@ -250,12 +262,15 @@ dropped-clean live rows (x ∷ xs) e id is gone =
       row-there false true e f = refl
       row-there false false e f = cc f
 
-clean-dropped : (live : List (List ℕ)) (rows : List Row) (ids : List (List ℕ)) → ((id : List ℕ) → has_id ids id ≡ true → has_id live id ≡ false → list_any (is_of id) rows ≡ true) → dropped_faults live rows ids ≡ []
+clean-dropped : (live : List (List ℕ)) (rows : List Row) (ids : List (List ℕ))
+    → ((id : List ℕ) → has_id ids id ≡ true → has_id live id ≡ false → list_any (is_of id) rows ≡ true)
+    → dropped_faults live rows ids ≡ []
 clean-dropped live rows [] all = refl
-clean-dropped live rows (x ∷ xs) all = told-none _ _ _ (no-fault (has_id live x) _ (all x (or-left _ _ (same-refl x)))) (clean-dropped live rows xs (λ id is. all id (or-right (same_id id x) _ is))) where
-  no-fault : (a b : Bool) → (a ≡ false → b ≡ true) → (not a && not b) ≡ false
-  no-fault true b f = refl
-  no-fault false b f = not-of b (f refl)
+clean-dropped live rows (x ∷ xs) all = told-none _ _ _ (no-fault (has_id live x) _ (all x (or-left _ _ (same-refl x))))
+    (clean-dropped live rows xs (λ id is. all id (or-right (same_id id x) _ is))) where
+      no-fault : (a b : Bool) → (a ≡ false → b ≡ true) → (not a && not b) ≡ false
+      no-fault true b f = refl
+      no-fault false b f = not-of b (f refl)
 
 -- ---- used identifiers
 pub held-some : (h : List Entry) (id : List ℕ) (i : ℕ) → holds h i id ≡ true → is_some (last_held h id) ≡ true
@@ -302,7 +317,9 @@ used-clean h last (x ∷ xs) e id i hi is =
 
 pub clean-used : (h : List Entry) (last ids : List (List ℕ)) → ((id : List ℕ) (i : ℕ) → holds h i id ≡ true → has_id ids id ≡ true → has_id last id ≡ true) → used_faults h last ids ≡ []
 clean-used h last [] all = refl
-clean-used h last (x ∷ xs) all = used-none (last_held h x) (has_id last x) x _ (λ s. let r = some-held h x s in all x r.0 r.1 (or-left _ _ (same-refl x))) (clean-used h last xs (λ id i hi is. all id i hi (or-right (same_id id x) _ is)))
+clean-used h last (x ∷ xs) all = used-none (last_held h x) (has_id last x) x _ (λ s. let r = some-held h x s in
+    all x r.0 r.1 (or-left _ _ (same-refl x)))
+    (clean-used h last xs (λ id i hi is. all id i hi (or-right (same_id id x) _ is)))
 
 -- ---- all together
 heir-or-end : (rows : List Row) (id : List ℕ) → list_any (is_of id) rows ≡ true → succeeded rows id ≡ false → ended rows id ≡ true
@@ -326,7 +343,9 @@ follows-from-clean h live rows e =
     let u = both-nil (dropped_faults live rows (last_live h)) _ t.1 in
     record {
       not_used = used-clean h (last_live h) live u.1;
-      answered = λ id was gone. answered rows id (λ row. rows-once (last_live h) live [] 1 rows t.0 row (omega arith)) (rows-apart (last_live h) live [] 1 rows t.0 (λ id e s. e)) (dropped-clean live rows (last_live h) u.0 id was gone);
+      answered = λ id was gone. answered rows id (λ row. rows-once (last_live h) live [] 1 rows t.0 row (omega arith))
+          (rows-apart (last_live h) live [] 1 rows t.0 (λ id e s. e)) (dropped-clean live rows (last_live h) u.0 id was
+          gone);
       named = rows-named (last_live h) live [] 1 rows t.0;
       once = λ row. rows-once (last_live h) live [] 1 rows t.0 row (omega arith);
       dropped = rows-dropped (last_live h) live [] 1 rows t.0;
@@ -338,9 +357,14 @@ clean-from-follows h live rows f =
     let r = rows-clean (last_live h) live [] 1 rows f.named f.dropped f.once a in
     let d = clean-dropped live rows (last_live h) (λ id was gone. any-of rows id (f.answered id was gone)) in
     let u = clean-used h (last_live h) live f.not_used in
-    ap (λ (x : List LineageFault). x ++ (dropped_faults live rows (last_live h) ++ used_faults h (last_live h) live)) r ∙ ap (λ (x : List LineageFault). x ++ used_faults h (last_live h) live) d ∙ u where
+    ap (λ (x : List LineageFault). x ++ (dropped_faults live rows (last_live h) ++ used_faults h (last_live h) live)) r
+    ∙ ap (λ (x : List LineageFault). x ++ used_faults h (last_live h) live) d ∙ u where
       any-of : (rows : List Row) (id : List ℕ) → IsAnswered rows id → list_any (is_of id) rows ≡ true
-      any-of rows id e = elim e as (λ _. list_any (is_of id) rows ≡ true) [ inl l ↦ mono _ (is_of id) rows (λ r h. and-left (is_of id r) _ h) (counted-ended rows id l.0) | inr r ↦ mono _ (is_of id) rows (λ r h. and-left (is_of id r) _ h) r.1 ]
+      any-of rows id e = elim e as (λ _. list_any (is_of id) rows ≡ true) [
+        | inl l ↦ mono _ (is_of id) rows (λ r h. and-left (is_of id r) _ h) (counted-ended rows id l.0)
+        | inr r ↦ mono
+            _ (is_of id) rows (λ r h. and-left (is_of id r) _ h) r.1
+      ]
 
 pub first-told : (b : Bool) (f : LineageFault) (rest : List LineageFault) → b ≡ true → first (told b f rest) ≡ Some f
 first-told true f rest e = refl

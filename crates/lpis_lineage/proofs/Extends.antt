@@ -15,7 +15,11 @@ pub place : (i n : ℕ) → (i < n) ⊎ ((i ≡ n) ⊎ (n < i))
 place zero zero = inr (inl refl)
 place zero (suc n) = inl (omega arith)
 place (suc i) zero = inr (inr (omega arith))
-place (suc i) (suc n) = elim (place i n) as (λ _. (suc i < suc n) ⊎ ((suc i ≡ suc n) ⊎ (suc n < suc i))) [ inl a ↦ inl (omega arith) | inr b ↦ elim b as (λ _. (suc i < suc n) ⊎ ((suc i ≡ suc n) ⊎ (suc n < suc i))) [ inl e ↦ inr (inl (ap suc e)) | inr c ↦ inr (inr (omega arith)) ] ]
+place (suc i) (suc n) = elim (place i n) as (λ _. (suc i < suc n) ⊎ ((suc i ≡ suc n) ⊎ (suc n < suc i))) [
+  | inl a ↦ inl (omega arith)
+  | inr b ↦ elim b as (λ _. (suc i < suc n) ⊎ ((suc i ≡ suc n) ⊎ (suc n < suc i)))
+      [ inl e ↦ inr (inl (ap suc e)) | inr c ↦ inr (inr (omega arith)) ]
+]
 
 -- the last release's identifiers, by place
 pub last-at : (h : List Entry) (i : ℕ) → i + 1 ≡ length h → (entry_at h i).live ≡ last_live h
@@ -61,9 +65,12 @@ first-year (x ∷ h) e law y = law.first_year (omega arith)
 
 rise : (h : List Entry) (e : Entry) → IsLawful h → last_year h < e.year → (i j : ℕ) → i < j → j < length (h ++ e ∷ []) → (entry_at (h ++ e ∷ []) i).year < (entry_at (h ++ e ∷ []) j).year
 rise h e law y i j lt within = let n = longer h e in elim (place j (length h)) as (λ _. (entry_at (h ++ e ∷ []) i).year < (entry_at (h ++ e ∷ []) j).year) [
-  | inl a ↦ let il : i < length h = omega arith in let p = ap (λ (x : Entry). x.year) (entry-before h e i il) in let q = ap (λ (x : Entry). x.year) (entry-before h e j a) in let r = law.years_rise i j lt a in omega (arith, p, q, r)
+  | inl a ↦ let il : i < length h = omega arith in let p = ap (λ (x : Entry). x.year) (entry-before h e i il) in let q =
+      ap (λ (x : Entry). x.year) (entry-before h e j a) in let r = law.years_rise i j lt a in omega (arith, p, q, r)
   | inr b ↦ elim b as (λ _. (entry_at (h ++ e ∷ []) i).year < (entry_at (h ++ e ∷ []) j).year) [
-    | inl at ↦ let il : i < length h = omega arith in let p = ap (λ (x : Entry). x.year) (entry-before h e i il) in let q = ap (λ (x : Entry). x.year) (entry-at h e j at) in let r = years-below h law i il in omega (arith, p, q, r)
+    | inl at ↦ let il : i < length h = omega arith in let p = ap (λ (x : Entry). x.year) (entry-before h e i il) in
+        let q = ap (λ (x : Entry). x.year) (entry-at h e j at) in let r = years-below h law i il in
+        omega (arith, p, q, r)
     | inr c ↦ absurd (omega (arith, n))
   ]
 ]
@@ -73,7 +80,8 @@ used-last h e law f id i j ij jl hi here =
     let last = last-some h id (f.not_used id i hi here) in
     law.consecutive id i j last.0 ij (let k = last.1 in omega (arith, k)) hi last.2
 
-together : (h : List Entry) (e : Entry) → IsLawful h → Follows h e.live e.rows → (id : List ℕ) (i j k : ℕ) → i ≤ j → j ≤ k → holds (h ++ e ∷ []) i id ≡ true → holds (h ++ e ∷ []) k id ≡ true → holds (h ++ e ∷ []) j id ≡ true
+together : (h : List Entry) (e : Entry) → IsLawful h → Follows h e.live e.rows → (id : List ℕ) (i j k : ℕ) → i ≤ j
+    → j ≤ k → holds (h ++ e ∷ []) i id ≡ true → holds (h ++ e ∷ []) k id ≡ true → holds (h ++ e ∷ []) j id ≡ true
 together h e law f id i j k ij jk hi hk =
     let n = longer h e in
     let kl : k < length (h ++ e ∷ []) = in-history (h ++ e ∷ []) k id hk in
@@ -103,7 +111,9 @@ answers h e law f id i d =
     elim (place (i + 1) (length h)) as (λ _. IsAnswered (entry_at (h ++ e ∷ []) (i + 1)).rows id) [
       | inl a ↦ subst P (sym (entry-before h e (i + 1) a)) (law.continued id i (a, sym (hold-before h e i id il) ∙ d.1, sym (hold-before h e (i + 1) id a) ∙ d.2))
       | inr b ↦ elim b as (λ _. IsAnswered (entry_at (h ++ e ∷ []) (i + 1)).rows id) [
-        | inl at ↦ subst P (sym (entry-at h e (i + 1) at)) (f.answered id (ap (λ (l : List (List ℕ)). has_id l id) (sym (last-at h i at)) ∙ sym (hold-before h e i id il) ∙ d.1) (sym (hold-here h e (i + 1) id at) ∙ d.2))
+        | inl at ↦ subst P (sym (entry-at h e (i + 1) at))
+            (f.answered id (ap (λ (l : List (List ℕ)). has_id l id) (sym (last-at h i at))
+            ∙ sym (hold-before h e i id il) ∙ d.1) (sym (hold-here h e (i + 1) id at) ∙ d.2))
         | inr c ↦ absurd (let w = d.0 in omega (arith, n, w))
       ]
     ]
@@ -182,7 +192,8 @@ back-used (x ∷ t) e law id i hi here =
     let h : List Entry = x ∷ t in
     let il : i < length h = in-history h i id hi in
     let jl : length t < length h = omega arith in
-    sym (hold-before (x ∷ t) e (length t) id jl) ∙ law.consecutive id i (length t) (length (x ∷ t)) (omega arith) (omega arith) (hold-before (x ∷ t) e i id il ∙ hi) (hold-here (x ∷ t) e (length (x ∷ t)) id refl ∙ here)
+    sym (hold-before (x ∷ t) e (length t) id jl) ∙ law.consecutive id i (length t) (length (x ∷ t)) (omega arith)
+    (omega arith) (hold-before (x ∷ t) e i id il ∙ hi) (hold-here (x ∷ t) e (length (x ∷ t)) id refl ∙ here)
 
 back-answered : (h : List Entry) (e : Entry) → IsLawful (h ++ e ∷ []) → (id : List ℕ) → has_id (last_live h) id ≡ true → has_id e.live id ≡ false → IsAnswered e.rows id
 back-answered h e law id was gone =

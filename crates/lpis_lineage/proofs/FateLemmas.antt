@@ -65,18 +65,30 @@ olds-some rs r s some = olds-push rs r ∙ ap (λ (o : Option (List ℕ)). olds 
 pub fates-end : (last live : List (List ℕ)) (all before : List Row) (f g : Fates) (r : Row) → AreFates last live all f before → r.new ≡ None
     → ((q : List ℕ) → has_id g.ended q ≡ cond (same_id r.old q) true (has_id f.ended q)) → g.olds ≡ f.olds → g.shared ≡ f.shared → AreFates last live all g (before ++ r ∷ [])
 fates-end last live all before f g r are none e o s = record {
-  ended_are = λ q. e q ∙ or-cond (same_id r.old q) _ ∙ ap (λ (b : Bool). b || same_id r.old q) (are.ended_are q) ∙ ap (λ (b : Bool). ended before q || b) (same-sym r.old q ∙ sym (and-true (same_id q r.old)) ∙ ap (λ (x : Option (List ℕ)). same_id q r.old && not (is_some x)) (sym none)) ∙ sym (any-push _ before r);
+  ended_are = λ q. e q ∙ or-cond (same_id r.old q) _ ∙ ap (λ (b : Bool). b || same_id r.old q) (are.ended_are q)
+      ∙ ap (λ (b : Bool). ended before q || b) (same-sym r.old q ∙ sym (and-true (same_id q r.old))
+      ∙ ap (λ (x : Option (List ℕ)). same_id q r.old && not (is_some x)) (sym none)) ∙ sym (any-push _ before r);
   olds_are = let P : List (List ℕ) → Type 0 = λ l. IsTally g.olds l in let Q : Tally → Type 0 = λ t. IsTally t (olds before) in subst P (sym (olds-none before r none)) (subst Q (sym o) are.olds_are);
-  shared_are = λ q. ap (λ (l : List (List ℕ)). has_id l q) s ∙ are.shared_are q ∙ sym (or-false _) ∙ ap (λ (b : Bool). list_any (λ row. is_of q row && on_some (is_shared last live all) row.new) before || b) (sym (and-false (same_id q r.old)) ∙ ap (λ (x : Option (List ℕ)). same_id q r.old && on_some (is_shared last live all) x) (sym none)) ∙ sym (any-push (λ row. is_of q row && on_some (is_shared last live all) row.new) before r);
+  shared_are = λ q. ap (λ (l : List (List ℕ)). has_id l q) s ∙ are.shared_are q ∙ sym (or-false _)
+      ∙ ap (λ (b : Bool). list_any (λ row. is_of q row && on_some (is_shared last live all) row.new) before || b)
+      (sym (and-false (same_id q r.old))
+      ∙ ap (λ (x : Option (List ℕ)). same_id q r.old && on_some (is_shared last live all) x) (sym none))
+      ∙ sym (any-push (λ row. is_of q row && on_some (is_shared last live all) row.new) before r);
 }
 
 -- one row more: a successor
 pub fates-heir : (last live : List (List ℕ)) (all before : List Row) (f g : Fates) (r : Row) (s : List ℕ) (b : Bool) → AreFates last live all f before → r.new ≡ Some s → b ≡ is_shared last live all s
     → g.ended ≡ f.ended → IsTally g.olds (olds before ++ r.old ∷ []) → ((q : List ℕ) → has_id g.shared q ≡ (has_id f.shared q || (same_id r.old q && b))) → AreFates last live all g (before ++ r ∷ [])
 fates-heir last live all before f g r s b are some sh e o n = record {
-  ended_are = λ q. ap (λ (l : List (List ℕ)). has_id l q) e ∙ are.ended_are q ∙ sym (or-false _) ∙ ap (λ (x : Bool). ended before q || x) (sym (and-false (same_id q r.old)) ∙ ap (λ (x : Option (List ℕ)). same_id q r.old && not (is_some x)) (sym some)) ∙ sym (any-push _ before r);
+  ended_are = λ q. ap (λ (l : List (List ℕ)). has_id l q) e ∙ are.ended_are q ∙ sym (or-false _)
+      ∙ ap (λ (x : Bool). ended before q || x) (sym (and-false (same_id q r.old))
+      ∙ ap (λ (x : Option (List ℕ)). same_id q r.old && not (is_some x)) (sym some)) ∙ sym (any-push _ before r);
   olds_are = let P : List (List ℕ) → Type 0 = λ l. IsTally g.olds l in subst P (sym (olds-some before r s some)) o;
-  shared_are = λ q. n q ∙ ap (λ (x : Bool). x || (same_id r.old q && b)) (are.shared_are q) ∙ ap (λ (x : Bool). list_any (λ row. is_of q row && on_some (is_shared last live all) row.new) before || x) (ap (λ (x : Bool). x && b) (same-sym r.old q) ∙ ap (λ (x : Bool). same_id q r.old && x) sh ∙ ap (λ (x : Option (List ℕ)). same_id q r.old && on_some (is_shared last live all) x) (sym some)) ∙ sym (any-push (λ row. is_of q row && on_some (is_shared last live all) row.new) before r);
+  shared_are = λ q. n q ∙ ap (λ (x : Bool). x || (same_id r.old q && b)) (are.shared_are q)
+      ∙ ap (λ (x : Bool). list_any (λ row. is_of q row && on_some (is_shared last live all) row.new) before || x)
+      (ap (λ (x : Bool). x && b) (same-sym r.old q) ∙ ap (λ (x : Bool). same_id q r.old && x) sh
+      ∙ ap (λ (x : Option (List ℕ)). same_id q r.old && on_some (is_shared last live all) x) (sym some))
+      ∙ sym (any-push (λ row. is_of q row && on_some (is_shared last live all) row.new) before r);
 }
 
 pub last-part : (t k l x : Bool) → t ≡ false → k ≡ true → x ≡ l → x ≡ (t || (k && l))
@@ -90,7 +102,13 @@ kind-counted last live rows id several shared k was gone unended s h c =
     ap Some (c
     ∙ ap (λ (b : Bool). by_counts b shared) (s ∙ ap (λ (n : ℕ). nat_lt 1 n) (sym (successors-count rows id)))
     ∙ ap (λ (b : Bool). by_counts (nat_lt 1 (length (successors rows id))) b) (h ∙ sym (successors-any (is_shared last live rows) rows id)))
-    ∙ sym (ap (λ (b : Bool). cond b (Some (cond (has_id live id) Kept (cond (ended rows id) Ended (by_counts (nat_lt 1 (length (successors rows id))) (list_any (is_shared last live rows) (successors rows id)))))) None) was
+    ∙ sym
+    (ap
+    (λ (b : Bool). cond b
+    (Some
+    (cond (has_id live id) Kept
+    (cond (ended rows id) Ended (by_counts (nat_lt 1 (length (successors rows id)))
+    (list_any (is_shared last live rows) (successors rows id)))))) None) was
     ∙ ap (λ (b : Bool). Some (cond b Kept (cond (ended rows id) Ended (by_counts (nat_lt 1 (length (successors rows id))) (list_any (is_shared last live rows) (successors rows id)))))) gone
     ∙ ap (λ (b : Bool). Some (cond b Ended (by_counts (nat_lt 1 (length (successors rows id))) (list_any (is_shared last live rows) (successors rows id))))) unended)
 

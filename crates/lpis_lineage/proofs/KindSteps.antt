@@ -27,9 +27,16 @@ kinds-step K left rest id copy q k old new begins c there o n =
 -- sets with the same members give the same kinds
 pub kind-live : (last a b : List (List ℕ)) (rows : List Row) (id : List ℕ) → ((q : List ℕ) → has_id a q ≡ has_id b q) → kind last a rows id ≡ kind last b rows id
 kind-live last a b rows id e =
-    ap (λ (t : Bool). cond (has_id last id) (Some (cond t Kept (cond (ended rows id) Ended (by_counts (nat_lt 1 (length (successors rows id))) (list_any (λ s. nat_lt 1 (predecessors last a rows s)) (successors rows id)))))) None) (e id)
+    ap
+    (λ (t : Bool). cond (has_id last id)
+    (Some
+    (cond t Kept
+    (cond (ended rows id) Ended (by_counts (nat_lt 1 (length (successors rows id)))
+    (list_any (λ s. nat_lt 1 (predecessors last a rows s)) (successors rows id)))))) None) (e id)
     ∙ ap (λ (t : Bool). cond (has_id last id) (Some (cond (has_id b id) Kept (cond (ended rows id) Ended (by_counts (nat_lt 1 (length (successors rows id))) t)))) None)
-    (any-same (λ s. nat_lt 1 (predecessors last a rows s)) (λ s. nat_lt 1 (predecessors last b rows s)) (successors rows id) (λ s. ap (λ (t : Bool). nat_lt 1 (times (heirs rows) s + cond (has_id last s && t) 1 0)) (e s)))
+    (any-same (λ s. nat_lt 1 (predecessors last a rows s)) (λ s. nat_lt 1 (predecessors last b rows s))
+    (successors rows id) (λ s. ap (λ (t : Bool). nat_lt 1 (times (heirs rows) s + cond (has_id last s && t) 1 0))
+    (e s)))
 
 pub change-live : (last a b : List (List ℕ)) (rows : List Row) (c : Changes) → ((q : List ℕ) → has_id a q ≡ has_id b q) → IsChange last a rows c → IsChange last b rows c
 change-live last a b rows c e is = record {

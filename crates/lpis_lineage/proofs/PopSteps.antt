@@ -10,7 +10,9 @@ use Rattle.lpis_lineage.proofs.SeenLemmas.{any-push}
 has-push : (ids : List (List ℕ)) (id q : List ℕ) → has_id (ids ++ id ∷ []) q ≡ (has_id ids q || same_id q id)
 has-push ids id q = any-push (same_id q) ids id
 
-pub begun-pop : (all ids : List (List ℕ)) (id q : List ℕ) (year : ℕ) (old new : Option Span) → all ≡ ids ++ id ∷ [] → new ≡ cond (same_id id q) (Some (record { first = year; last = 0 })) old → begun (has_id ids q) year new ≡ begun (has_id all q) year old
+pub begun-pop : (all ids : List (List ℕ)) (id q : List ℕ) (year : ℕ) (old new : Option Span) → all ≡ ids ++ id ∷ []
+    → new ≡ cond (same_id id q) (Some (record { first = year; last = 0 })) old → begun (has_id ids q) year new ≡ begun
+    (has_id all q) year old
 begun-pop all ids id q year old new a n =
     ap (λ (o : Option Span). begun (has_id ids q) year o) (n ∙ ap (λ (b : Bool). cond b (Some (record { first = year; last = 0 })) old) (same-sym id q))
     ∙ by (has_id ids q) (same_id q id) ∙ ap (λ (b : Bool). begun b year old) (sym (has-push ids id q)) ∙ ap (λ (l : List (List ℕ)). begun (has_id l q) year old) (sym a) where
@@ -20,7 +22,10 @@ begun-pop all ids id q year old new a n =
       by false false = refl
 
 -- the identifier has a span
-pub ended-pop : (all ids : List (List ℕ)) (id q : List ℕ) (year : ℕ) (s : Span) (f : List ℕ → Option Span) (new : Option Span) → all ≡ ids ++ id ∷ [] → f id ≡ Some s → new ≡ cond (same_id id q) (Some (record { first = s.first; last = year })) (f q) → ended_in (has_id ids q) year new ≡ ended_in (has_id all q) year (f q)
+pub ended-pop : (all ids : List (List ℕ)) (id q : List ℕ) (year : ℕ) (s : Span) (f : List ℕ → Option Span)
+    (new : Option Span) → all ≡ ids ++ id ∷ [] → f id ≡ Some s
+    → new ≡ cond (same_id id q) (Some (record { first = s.first; last = year })) (f q) → ended_in (has_id ids q) year
+    new ≡ ended_in (has_id all q) year (f q)
 ended-pop all ids id q year s f new a had n =
     ap (λ (o : Option Span). ended_in (has_id ids q) year o) n
     ∙ by (has_id ids q) (same_id id q) refl ∙ ap (λ (b : Bool). ended_in (has_id ids q || b) year (f q)) (same-sym id q)
@@ -32,7 +37,8 @@ ended-pop all ids id q year s f new a had n =
       by false false e = refl
 
 -- it has none
-pub ended-pop-none : (all ids : List (List ℕ)) (id q : List ℕ) (year : ℕ) (f : List ℕ → Option Span) → all ≡ ids ++ id ∷ [] → f id ≡ None → ended_in (has_id ids q) year (f q) ≡ ended_in (has_id all q) year (f q)
+pub ended-pop-none : (all ids : List (List ℕ)) (id q : List ℕ) (year : ℕ) (f : List ℕ → Option Span) → all ≡ ids
+    ++ id ∷ [] → f id ≡ None → ended_in (has_id ids q) year (f q) ≡ ended_in (has_id all q) year (f q)
 ended-pop-none all ids id q year f a had =
     by (has_id ids q) (same_id id q) refl ∙ ap (λ (b : Bool). ended_in (has_id ids q || b) year (f q)) (same-sym id q)
     ∙ ap (λ (b : Bool). ended_in b year (f q)) (sym (has-push ids id q)) ∙ ap (λ (l : List (List ℕ)). ended_in (has_id l q) year (f q)) (sym a) where

@@ -10,27 +10,35 @@ use Rattle.lpis_lineage.proofs.Basics.{either}
 pub filter-append : {A : Type 0} (p : A → Bool) (xs ys : List A) → length (filter p (xs ++ ys)) ≡ length (filter p xs) + length (filter p ys)
 filter-append p [] ys = omega arith
 filter-append p (x ∷ xs) ys = by-test p x xs ys (p x) refl (filter-append p xs ys) where
-  by-test : {A : Type 0} (p : A → Bool) (x : A) (xs ys : List A) (b : Bool) → b ≡ p x → length (filter p (xs ++ ys)) ≡ length (filter p xs) + length (filter p ys) → length (cond b (x ∷ filter p (xs ++ ys)) (filter p (xs ++ ys))) ≡ length (cond b (x ∷ filter p xs) (filter p xs)) + length (filter p ys)
+  by-test : {A : Type 0} (p : A → Bool) (x : A) (xs ys : List A) (b : Bool) → b ≡ p x → length (filter p (xs ++ ys))
+      ≡ length (filter p xs) + length (filter p ys) → length (cond b (x ∷ filter p (xs ++ ys)) (filter p (xs ++ ys)))
+      ≡ length (cond b (x ∷ filter p xs) (filter p xs)) + length (filter p ys)
   by-test p x xs ys true e ih = omega (arith, ih)
   by-test p x xs ys false e ih = ih
 
 pub filter-none : {A : Type 0} (p : A → Bool) (xs : List A) → list_any p xs ≡ false → length (filter p xs) ≡ 0
 filter-none p [] e = refl
 filter-none p (x ∷ xs) e = by-test p x xs (p x) (filter-none p xs) e where
-  by-test : {A : Type 0} (p : A → Bool) (x : A) (xs : List A) (b : Bool) → (list_any p xs ≡ false → length (filter p xs) ≡ 0) → (b || list_any p xs) ≡ false → length (cond b (x ∷ filter p xs) (filter p xs)) ≡ 0
+  by-test : {A : Type 0} (p : A → Bool) (x : A) (xs : List A) (b : Bool)
+      → (list_any p xs ≡ false → length (filter p xs) ≡ 0) → (b || list_any p xs) ≡ false
+      → length (cond b (x ∷ filter p xs) (filter p xs)) ≡ 0
   by-test p x xs true ih e = absurd cc
   by-test p x xs false ih e = ih e
 
 pub filter-some : {A : Type 0} (p : A → Bool) (xs : List A) → list_any p xs ≡ true → 1 ≤ length (filter p xs)
 filter-some p [] e = cc e
 filter-some p (x ∷ xs) e = by-test p x xs (p x) (filter-some p xs) e where
-  by-test : {A : Type 0} (p : A → Bool) (x : A) (xs : List A) (b : Bool) → (list_any p xs ≡ true → 1 ≤ length (filter p xs)) → (b || list_any p xs) ≡ true → 1 ≤ length (cond b (x ∷ filter p xs) (filter p xs))
+  by-test : {A : Type 0} (p : A → Bool) (x : A) (xs : List A) (b : Bool)
+      → (list_any p xs ≡ true → 1 ≤ length (filter p xs)) → (b || list_any p xs) ≡ true
+      → 1 ≤ length (cond b (x ∷ filter p xs) (filter p xs))
   by-test p x xs true ih e = omega arith
   by-test p x xs false ih e = ih e
 
 -- endings of one identifier are equal rows
 pub one-ending : (rows : List Row) (id : List ℕ) → ((row : Row) → length (filter (same_row row) rows) ≤ 1) → endings rows id ≤ 1
-one-ending rows id once = let same = filter-alike _ (same_row (record { old = id; new = None })) rows (λ r. ap (λ (b : Bool). is_of id r && b) (no-heir r.new)) in let few = once (record { old = id; new = None }) in omega (arith, same, few)
+one-ending rows id once = let same = filter-alike _ (same_row (record { old = id; new = None })) rows
+    (λ r. ap (λ (b : Bool). is_of id r && b) (no-heir r.new)) in let few = once (record { old = id; new = None }) in
+    omega (arith, same, few)
   where
     no-heir : (o : Option (List ℕ)) → not (is_some o) ≡ same_new None o
     no-heir None = refl

@@ -22,15 +22,21 @@ successor-some n (b ∷ bs) id ne e = by (id_faults Lineage n (b ∷ bs)) e wher
   by [] e = let s : (b ∷ bs) ≡ id = cc e in ap (λ (x : List ℕ). Ok (Some x)) s
   by (f ∷ fs) e = cc e
 
-pub successor-fault : (n : ℕ) (field : List ℕ) (f : TableFault) → (field ≡ [] → ⊥) → Answers {A = List ℕ} (Err f) (told (id_faults Lineage n field) field) → Answers {A = Option (List ℕ)} (Err f) (told (successor_faults n field) (successor_of field))
+pub successor-fault : (n : ℕ) (field : List ℕ) (f : TableFault) → (field ≡ [] → ⊥) → Answers {A = List ℕ} (Err f)
+    (told (id_faults Lineage n field) field) → Answers {A = Option (List ℕ)} (Err f)
+    (told (successor_faults n field) (successor_of field))
 successor-fault n [] f ne e = absurd (ne refl)
 successor-fault n (b ∷ bs) f ne e = fault-retold (id_faults Lineage n (b ∷ bs)) (b ∷ bs) (Some (b ∷ bs)) f e
 
 -- a row of its two columns
-pub row-told : (n : ℕ) (row : Record) (old : List ℕ) (new : Option (List ℕ)) → told (id_faults Lineage n (field_of row 0)) (field_of row 0) ≡ Ok old → told (successor_faults n (field_of row 1)) (successor_of (field_of row 1)) ≡ Ok new
+pub row-told : (n : ℕ) (row : Record) (old : List ℕ) (new : Option (List ℕ))
+    → told (id_faults Lineage n (field_of row 0)) (field_of row 0) ≡ Ok old → told (successor_faults n (field_of row 1))
+    (successor_of (field_of row 1)) ≡ Ok new
     → told (lineage_faults n row) (row_of row) ≡ Ok (record { old = old; new = new })
 row-told n row old new e f = by (id_faults Lineage n (field_of row 0)) e (successor_faults n (field_of row 1)) f where
-  by : (fs : List TableFault) → told fs (field_of row 0) ≡ Ok old → (gs : List TableFault) → told gs (successor_of (field_of row 1)) ≡ Ok new → told (fs ++ gs) (row_of row) ≡ Ok (record { old = old; new = new })
+  by : (fs : List TableFault) → told fs (field_of row 0) ≡ Ok old → (gs : List TableFault)
+      → told gs (successor_of (field_of row 1)) ≡ Ok new → told (fs ++ gs) (row_of row) ≡ Ok
+      (record { old = old; new = new })
   by [] e [] f =
       let o : field_of row 0 ≡ old = cc e in
       let s : successor_of (field_of row 1) ≡ new = cc f in
@@ -38,11 +44,18 @@ row-told n row old new e f = by (id_faults Lineage n (field_of row 0)) e (succes
   by [] e (g ∷ gs) f = cc f
   by (f ∷ fs) e gs h = cc e
 
-pub row-fault-old : (n : ℕ) (row : Record) (f : TableFault) → Answers {A = List ℕ} (Err f) (told (id_faults Lineage n (field_of row 0)) (field_of row 0)) → Answers {A = Row} (Err f) (told (lineage_faults n row) (row_of row))
+pub row-fault-old : (n : ℕ) (row : Record) (f : TableFault) → Answers {A = List ℕ} (Err f)
+    (told (id_faults Lineage n (field_of row 0)) (field_of row 0))
+    → Answers {A = Row} (Err f) (told (lineage_faults n row) (row_of row))
 row-fault-old n row f h = column-fault (id_faults Lineage n (field_of row 0)) (successor_faults n (field_of row 1)) (field_of row 0) (row_of row) f h
 
-pub row-fault-new : (n : ℕ) (row : Record) (old : List ℕ) (f : TableFault) → told (id_faults Lineage n (field_of row 0)) (field_of row 0) ≡ Ok old → Answers {A = Option (List ℕ)} (Err f) (told (successor_faults n (field_of row 1)) (successor_of (field_of row 1))) → Answers {A = Row} (Err f) (told (lineage_faults n row) (row_of row))
-row-fault-new n row old f e h = column-passed {A = List ℕ} {B = Row} (id_faults Lineage n (field_of row 0)) (successor_faults n (field_of row 1)) (field_of row 0) old (Err f) (row_of row) e (fault-retold (successor_faults n (field_of row 1)) (successor_of (field_of row 1)) (row_of row) f h)
+pub row-fault-new : (n : ℕ) (row : Record) (old : List ℕ) (f : TableFault) → told (id_faults Lineage n (field_of row 0))
+    (field_of row 0) ≡ Ok old → Answers {A = Option (List ℕ)} (Err f)
+    (told (successor_faults n (field_of row 1)) (successor_of (field_of row 1)))
+    → Answers {A = Row} (Err f) (told (lineage_faults n row) (row_of row))
+row-fault-new n row old f e h = column-passed {A = List ℕ} {B = Row} (id_faults Lineage n (field_of row 0))
+    (successor_faults n (field_of row 1)) (field_of row 0) old (Err f) (row_of row) e
+    (fault-retold (successor_faults n (field_of row 1)) (successor_of (field_of row 1)) (row_of row) f h)
 
 -- the rows as a `Vec`
 pub rows-answered : (f : TableFault) (said : Result (List Row) TableFault) → Answers {A = List Row} (Err f) said → AnswersRows (Err f) said

@@ -91,7 +91,8 @@ span-high : (f l y : ℕ) → in_years f l y ≡ true → 0 < l → y ≤ l
 span-high f l y e p = grind (arith, nat_tests)
 
 -- the law: a year of a release is in an identifier's span exactly where that release holds it
-span-law : (h : List Entry) → IsLawful h → (id : List ℕ) (f l : ℕ) → first_held h id ≡ Some f → last_held h id ≡ Some l → (i : ℕ) → i < length h → in_years f (until h id l) (entry_at h i).year ≡ holds h i id
+span-law : (h : List Entry) → IsLawful h → (id : List ℕ) (f l : ℕ) → first_held h id ≡ Some f → last_held h id ≡ Some l
+    → (i : ℕ) → i < length h → in_years f (until h id l) (entry_at h i).year ≡ holds h i id
 span-law h law id f l ef el i lt =
     let a = first-place h id f ef in
     let b = last-place h id l el in
@@ -134,13 +135,16 @@ span-tells h law id s e i lt = by (first_held h id) refl (last_held h id) refl e
   by (Some f) ef (Some l) el e = ap (λ (t : Span). in_span t (entry_at h i).year) (sym (some-eq _ _ e)) ∙ span-law h law id f l (sym ef) (sym el) i lt
 
 -- the identifiers whose span holds a release's year are those of the spans' that the release holds
-live-in-held : (h : List Entry) → IsLawful h → (spans : List (List ℕ × Span)) → AreSpansOf h spans → (i : ℕ) → i < length h → live_in spans (entry_at h i).year ≡ filter (λ id. holds h i id) (ids_of spans)
+live-in-held : (h : List Entry) → IsLawful h → (spans : List (List ℕ × Span)) → AreSpansOf h spans → (i : ℕ)
+    → i < length h → live_in spans (entry_at h i).year ≡ filter (λ id. holds h i id) (ids_of spans)
 live-in-held h law [] are i lt = refl
 live-in-held h law (p ∷ ps) are i lt =
     ap (λ (b : Bool). cond b (p.0 ∷ live_in ps (entry_at h i).year) (live_in ps (entry_at h i).year)) (span-tells h law p.0 p.1 are.0 i lt)
     ∙ ap (λ (l : List (List ℕ)). cond (holds h i p.0) (p.0 ∷ l) l) (live-in-held h law ps are.1 i lt)
 
-pub live-in-law : (h : List Entry) (spans : List (List ℕ × Span)) → IsLawful h → AreSpansOf h spans → ((id : List ℕ) (i : ℕ) → holds h i id ≡ true → has_id (ids_of spans) id ≡ true) → (i : ℕ) → i < length h → (id : List ℕ) → has_id (live_in spans (entry_at h i).year) id ≡ holds h i id
+pub live-in-law : (h : List Entry) (spans : List (List ℕ × Span)) → IsLawful h → AreSpansOf h spans
+    → ((id : List ℕ) (i : ℕ) → holds h i id ≡ true → has_id (ids_of spans) id ≡ true) → (i : ℕ) → i < length h
+    → (id : List ℕ) → has_id (live_in spans (entry_at h i).year) id ≡ holds h i id
 live-in-law h spans law are whole i lt id =
     ap (λ (l : List (List ℕ)). has_id l id) (live-in-held h law spans are i lt) ∙ has-filter (λ q. holds h i q) (ids_of spans) id ∙ by (holds h i id) refl where
       no : (b : Bool) → (b && false) ≡ false

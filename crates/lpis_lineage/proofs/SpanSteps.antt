@@ -32,10 +32,11 @@ or-assoc (Some x) b c = refl
 -- the first, the last and the live ones of the longer history
 first-more : (h : List Entry) (e : Entry) (id : List ℕ) → first_held (h ++ e ∷ []) id ≡ option_or (first_held h id) (cond (has_id e.live id) (Some e.year) None)
 first-more [] e id = refl
-first-more (x ∷ h) e id = ap (λ (o : Option ℕ). cond (has_id x.live id) (Some x.year) o) (first-more h e id) ∙ out (has_id x.live id) (first_held h id) (cond (has_id e.live id) (Some e.year) None) where
-  out : (b : Bool) (o k : Option ℕ) → cond b (Some x.year) (option_or o k) ≡ option_or (cond b (Some x.year) o) k
-  out true o k = refl
-  out false o k = refl
+first-more (x ∷ h) e id = ap (λ (o : Option ℕ). cond (has_id x.live id) (Some x.year) o) (first-more h e id)
+    ∙ out (has_id x.live id) (first_held h id) (cond (has_id e.live id) (Some e.year) None) where
+      out : (b : Bool) (o k : Option ℕ) → cond b (Some x.year) (option_or o k) ≡ option_or (cond b (Some x.year) o) k
+      out true o k = refl
+      out false o k = refl
 
 last-more : (h : List Entry) (e : Entry) (id : List ℕ) → last_held (h ++ e ∷ []) id ≡ option_or (cond (has_id e.live id) (Some e.year) None) (last_held h id)
 last-more [] e id = sym (or-none (cond (has_id e.live id) (Some e.year) None))
@@ -50,7 +51,9 @@ live-more h e = sym (last-at (h ++ e ∷ []) (length h) (sym (longer h e))) ∙ 
 pub first-none : (h : List Entry) (id : List ℕ) → first_held h id ≡ None → last_held h id ≡ None
 first-none [] id e = refl
 first-none (x ∷ h) id e = by (first-none h id) (has_id x.live id) refl e where
-  by : (first_held h id ≡ None → last_held h id ≡ None) → (b : Bool) → b ≡ has_id x.live id → cond b (Some x.year) (first_held h id) ≡ None → option_or (last_held h id) (cond (has_id x.live id) (Some x.year) None) ≡ None
+  by : (first_held h id ≡ None → last_held h id ≡ None) → (b : Bool) → b ≡ has_id x.live id
+      → cond b (Some x.year) (first_held h id) ≡ None
+      → option_or (last_held h id) (cond (has_id x.live id) (Some x.year) None) ≡ None
   by ih true eb n = absurd cc
   by ih false eb n = ap (λ (o : Option ℕ). option_or o (cond (has_id x.live id) (Some x.year) None)) (ih n) ∙ ap (λ (t : Bool). cond t (Some x.year) None) (sym eb)
 
@@ -78,7 +81,8 @@ some-eq a b e = cc
 
 calc : (f l : Option ℕ) (was is : Bool) (y last : ℕ)
     → (f ≡ None → l ≡ None) → (f ≡ None → was ≡ false) → (is_some f ≡ true → is_some l ≡ true) → (is ≡ true → is_some f ≡ true → was ≡ true) → (was ≡ true → l ≡ Some last)
-    → ended_in (was && not is) last (begun (is && not (is_some (span_between f l was))) y (span_between f l was)) ≡ span_between (option_or f (cond is (Some y) None)) (option_or (cond is (Some y) None) l) is
+    → ended_in (was && not is) last (begun (is && not (is_some (span_between f l was))) y (span_between f l was))
+    ≡ span_between (option_or f (cond is (Some y) None)) (option_or (cond is (Some y) None) l) is
 calc None l true is y last none gone some used at = absurd (let g = gone refl in cc)
 calc None l false true y last none gone some used at = refl
 calc None l false false y last none gone some used at = refl
@@ -91,7 +95,8 @@ calc (Some f) (Some l) false false y last none gone some used at = refl
 pub span-more : (h : List Entry) (e : Entry) (id : List ℕ) → Follows h e.live e.rows
     → ended_in (has_id (last_live h) id && not (has_id e.live id)) (last_year h) (begun (has_id e.live id && not (is_some (span_of h id))) e.year (span_of h id)) ≡ span_of (h ++ e ∷ []) id
 span-more h e id follows =
-    calc (first_held h id) (last_held h id) (has_id (last_live h) id) (has_id e.live id) e.year (last_year h) (first-none h id) (λ n. dead n (has_id (last_live h) id) refl) (first-some h id) used (live-year h id)
+    calc (first_held h id) (last_held h id) (has_id (last_live h) id) (has_id e.live id) e.year (last_year h)
+    (first-none h id) (λ n. dead n (has_id (last_live h) id) refl) (first-some h id) used (live-year h id)
     ∙ ap (λ (o : Option ℕ). span_between o (option_or (cond (has_id e.live id) (Some e.year) None) (last_held h id)) (has_id e.live id)) (sym (first-more h e id))
     ∙ ap (λ (o : Option ℕ). span_between (first_held (h ++ e ∷ []) id) o (has_id e.live id)) (sym (last-more h e id))
     ∙ ap (λ (l : List (List ℕ)). span_between (first_held (h ++ e ∷ []) id) (last_held (h ++ e ∷ []) id) (has_id l id)) (sym (live-more h e)) where
@@ -127,8 +132,11 @@ history-more h new e live rows year fresh gone old mid more spans keeps clean is
       fits = subst RowsFit (sym n) both.1;
       spans_are = λ q.
           ends q ∙ ap (λ (o : Option Span). ended_in (has_id gone q) (last_year h) o) (begins q ∙ ap (λ (o : Option Span). begun (has_id fresh q) year o) (reserved q ∙ keeps.spans_are q))
-          ∙ ap (λ (b : Bool). ended_in b (last_year h) (begun (has_id fresh q) year (span_of h q))) (ap (λ (l : List (List ℕ)). has_id l q) eg ∙ has-filter (λ id. not (has_id e.live id)) (last_live h) q)
-          ∙ ap (λ (b : Bool). ended_in (has_id (last_live h) q && not (has_id e.live q)) (last_year h) (begun b year (span_of h q))) (ap (λ (l : List (List ℕ)). has_id l q) ef ∙ has-filter (λ id. not (is_some (span_of h id))) e.live q)
+          ∙ ap (λ (b : Bool). ended_in b (last_year h) (begun (has_id fresh q) year (span_of h q)))
+          (ap (λ (l : List (List ℕ)). has_id l q) eg ∙ has-filter (λ id. not (has_id e.live id)) (last_live h) q)
+          ∙ ap (λ (b : Bool). ended_in (has_id (last_live h) q && not (has_id e.live q)) (last_year h)
+          (begun b year (span_of h q))) (ap (λ (l : List (List ℕ)). has_id l q) ef
+          ∙ has-filter (λ id. not (is_some (span_of h id))) e.live q)
           ∙ ap (λ (y : ℕ). ended_in (has_id (last_live h) q && not (has_id e.live q)) (last_year h) (begun (has_id e.live q && not (is_some (span_of h q))) y (span_of h q))) (sym at)
           ∙ span-more h e q follows ∙ ap (λ (l : List Entry). span_of l q) (sym n);
     }

@@ -142,7 +142,8 @@ forget-gone rest id q year s f new had at n =
       by false e = refl
 
 -- a span that goes on
-pub reopen-some : (rest : List (List ℕ)) (id q : List ℕ) (s : Span) (f : List ℕ → Option Span) (new : Option Span) → f id ≡ Some s → new ≡ cond (same_id id q) (Some (record { first = s.first; last = 0 })) (f q)
+pub reopen-some : (rest : List (List ℕ)) (id q : List ℕ) (s : Span) (f : List ℕ → Option Span) (new : Option Span)
+    → f id ≡ Some s → new ≡ cond (same_id id q) (Some (record { first = s.first; last = 0 })) (f q)
     → ended_in (has_id rest q) 0 new ≡ ended_in (has_id (id ∷ rest) q) 0 (f q)
 reopen-some rest id q s f new had n =
     ap (λ (o : Option Span). ended_in (has_id rest q) 0 o) n ∙ by (has_id rest q) (same_id id q) refl ∙ ap (λ (b : Bool). ended_in (b || has_id rest q) 0 (f q)) (same-sym id q) where

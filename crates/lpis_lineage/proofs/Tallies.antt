@@ -28,10 +28,14 @@ some-times ids q = by (has_id ids q) refl where
 same-both : (id q : List ℕ) (ids : List (List ℕ)) (b : Bool) → has_id ids id ≡ b → same_id q id ≡ true → has_id ids q ≡ b
 same-both id q ids b e s = let P : List ℕ → Type 0 = λ z. has_id ids z ≡ b in subst P (sym (same-exact q id s)) e
 
-pub tally-again : (s t : Tally) (ids : List (List ℕ)) (id : List ℕ) → IsTally s ids → has_id s.once id ≡ true → t.once ≡ s.once → ((q : List ℕ) → has_id t.twice q ≡ cond (same_id id q) true (has_id s.twice q)) → IsTally t (ids ++ id ∷ [])
+pub tally-again : (s t : Tally) (ids : List (List ℕ)) (id : List ℕ) → IsTally s ids → has_id s.once id ≡ true
+    → t.once ≡ s.once → ((q : List ℕ) → has_id t.twice q ≡ cond (same_id id q) true (has_id s.twice q))
+    → IsTally t (ids ++ id ∷ [])
 tally-again s t ids id tally there once new = record {
   once_are = λ q. ap (λ (l : List (List ℕ)). has_id l q) once ∙ tally.once_are q ∙ by-once q (same_id q id) refl ∙ sym (any-push (same_id q) ids id);
-  twice_are = λ q. new q ∙ ap (λ (b : Bool). cond b true (has_id s.twice q)) (same-sym id q) ∙ ap (λ (b : Bool). cond (same_id q id) true b) (tally.twice_are q) ∙ by-twice q (same_id q id) refl ∙ sym (twice-more ids id q);
+  twice_are = λ q. new q ∙ ap (λ (b : Bool). cond b true (has_id s.twice q)) (same-sym id q)
+      ∙ ap (λ (b : Bool). cond (same_id q id) true b) (tally.twice_are q) ∙ by-twice q (same_id q id) refl
+      ∙ sym (twice-more ids id q);
 } where
   by-once : (q : List ℕ) (b : Bool) → b ≡ same_id q id → has_id ids q ≡ (has_id ids q || b)
   by-once q true e = let h = same-both id q ids true (sym (tally.once_are id) ∙ there) (sym e) in grind arith
@@ -44,7 +48,9 @@ tally-again s t ids id tally there once new = record {
   by-twice q true e = sym (some-times ids q ∙ same-both id q ids true (sym (tally.once_are id) ∙ there) (sym e))
   by-twice q false e = refl
 
-pub tally-new : (s t : Tally) (ids : List (List ℕ)) (id : List ℕ) → IsTally s ids → has_id s.once id ≡ false → t.twice ≡ s.twice → ((q : List ℕ) → has_id t.once q ≡ cond (same_id id q) true (has_id s.once q)) → IsTally t (ids ++ id ∷ [])
+pub tally-new : (s t : Tally) (ids : List (List ℕ)) (id : List ℕ) → IsTally s ids → has_id s.once id ≡ false
+    → t.twice ≡ s.twice → ((q : List ℕ) → has_id t.once q ≡ cond (same_id id q) true (has_id s.once q))
+    → IsTally t (ids ++ id ∷ [])
 tally-new s t ids id tally absent twice new = record {
   once_are = λ q. new q ∙ or-cond (same_id id q) _ ∙ ap (λ (b : Bool). b || same_id id q) (tally.once_are q) ∙ ap (λ (b : Bool). has_id ids q || b) (same-sym id q) ∙ sym (any-push (same_id q) ids id);
   twice_are = λ q. ap (λ (l : List (List ℕ)). has_id l q) twice ∙ tally.twice_are q ∙ by-twice q (same_id q id) refl ∙ sym (twice-more ids id q);

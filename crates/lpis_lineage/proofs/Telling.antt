@@ -22,9 +22,13 @@ told-falls false f some none others h = h
 falls-none : (others : List LineageFault) → Falls others [] others
 falls-none others = record { when_none = λ e. refl; when_told = λ e t. cc t }
 
-pub row-falls : (last live : List (List ℕ)) (before : List Row) (k : ℕ) (r : Row) (others : List LineageFault) → Falls (faults_of_row last live before k r others) (faults_of_row last live before k r []) others
+pub row-falls : (last live : List (List ℕ)) (before : List Row) (k : ℕ) (r : Row) (others : List LineageFault)
+    → Falls (faults_of_row last live before k r others) (faults_of_row last live before k r []) others
 row-falls last live before k r others =
-    (told-falls (not (has_id last r.old)) (OldNotLive k) _ _ _ (told-falls (has_id live r.old) (OldStillLive k) _ _ _ (told-falls (is_missing live r.new) (SuccessorMissing k) _ _ _ (told-falls (list_any (same_row r) before) (DoubledRow k) _ _ _ (told-falls (list_any (clashes r) before) (EndingBesideSuccessor k) _ _ _ (falls-none others))))))
+    (told-falls (not (has_id last r.old)) (OldNotLive k) _ _ _ (told-falls (has_id live r.old) (OldStillLive k) _ _ _
+    (told-falls (is_missing live r.new) (SuccessorMissing k) _ _ _
+    (told-falls (list_any (same_row r) before) (DoubledRow k) _ _ _
+    (told-falls (list_any (clashes r) before) (EndingBesideSuccessor k) _ _ _ (falls-none others))))))
 
 told-same : (b c : Bool) (f : LineageFault) (xs ys : List LineageFault) → b ≡ c → xs ≡ ys → told b f xs ≡ told c f ys
 told-same b c f xs ys e g = ap (λ (t : Bool). told t f xs) e ∙ ap (λ (l : List LineageFault). told c f l) g
@@ -66,24 +70,35 @@ rows-stop last live rows i k r e lt is (inr t) all eq = inr (
 pub seen-next : (rows : List Row) (i : ℕ) (r : Row) (P : List Row → Type 0) → i < length rows → r ≡ get_or rows i r → P (take i rows ++ r ∷ []) → P (take (i + 1) rows)
 seen-next rows i r P lt is p = subst P (take-at rows i r lt is) p
 
-pub used-step : (h : List Entry) (last ids : List (List ℕ)) (i : ℕ) (id : List ℕ) → i < length ids → id ≡ get_or ids i id → used_faults h last (id ∷ drop (i + 1) ids) ≡ used_faults h last (drop (i + 1) ids) → used_faults h last (drop i ids) ≡ used_faults h last (drop (i + 1) ids)
+pub used-step : (h : List Entry) (last ids : List (List ℕ)) (i : ℕ) (id : List ℕ) → i < length ids
+    → id ≡ get_or ids i id → used_faults h last (id ∷ drop (i + 1) ids) ≡ used_faults h last (drop (i + 1) ids)
+    → used_faults h last (drop i ids) ≡ used_faults h last (drop (i + 1) ids)
 used-step h last ids i id lt is e = ap (λ (l : List (List ℕ)). used_faults h last l) (drop-at ids i id lt is) ∙ e
 
-pub used-stop : (h : List Entry) (last ids : List (List ℕ)) (i : ℕ) (id : List ℕ) (f : LineageFault) → i < length ids → id ≡ get_or ids i id → first (used_faults h last (id ∷ drop (i + 1) ids)) ≡ Some f → first (used_faults h last (drop i ids)) ≡ Some f
+pub used-stop : (h : List Entry) (last ids : List (List ℕ)) (i : ℕ) (id : List ℕ) (f : LineageFault) → i < length ids
+    → id ≡ get_or ids i id → first (used_faults h last (id ∷ drop (i + 1) ids)) ≡ Some f
+    → first (used_faults h last (drop i ids)) ≡ Some f
 used-stop h last ids i id f lt is t = ap (λ (l : List (List ℕ)). first (used_faults h last l)) (drop-at ids i id lt is) ∙ t
 
 -- a set with the same members has the same faults
 pub rows-live : (last a b : List (List ℕ)) (before : List Row) (k : ℕ) (rows : List Row) → ((q : List ℕ) → has_id a q ≡ has_id b q) → row_faults last a before k rows ≡ row_faults last b before k rows
 rows-live last a b before k [] e = refl
 rows-live last a b before k (r ∷ rs) e =
-    (told-same (not (has_id last r.old)) (not (has_id last r.old)) (OldNotLive k) _ _ refl (told-same (has_id a r.old) (has_id b r.old) (OldStillLive k) _ _ (e r.old) (told-same (is_missing a r.new) (is_missing b r.new) (SuccessorMissing k) _ _ (miss a b e r.new) (told-same (list_any (same_row r) before) (list_any (same_row r) before) (DoubledRow k) _ _ refl (told-same (list_any (clashes r) before) (list_any (clashes r) before) (EndingBesideSuccessor k) _ _ refl (rows-live last a b (before ++ r ∷ []) (k + 1) rs e)))))) where
+    (told-same (not (has_id last r.old)) (not (has_id last r.old)) (OldNotLive k) _ _ refl
+    (told-same (has_id a r.old) (has_id b r.old) (OldStillLive k) _ _ (e r.old)
+    (told-same (is_missing a r.new) (is_missing b r.new) (SuccessorMissing k) _ _ (miss a b e r.new)
+    (told-same (list_any (same_row r) before) (list_any (same_row r) before) (DoubledRow k) _ _ refl
+    (told-same (list_any (clashes r) before) (list_any (clashes r) before) (EndingBesideSuccessor k) _ _ refl
+    (rows-live last a b (before ++ r ∷ []) (k + 1) rs e)))))) where
       miss : (a b : List (List ℕ)) → ((q : List ℕ) → has_id a q ≡ has_id b q) → (o : Option (List ℕ)) → is_missing a o ≡ is_missing b o
       miss a b e None = refl
       miss a b e (Some s) = ap not (e s)
 
 pub dropped-live : (a b : List (List ℕ)) (rows : List Row) (ids : List (List ℕ)) → ((q : List ℕ) → has_id a q ≡ has_id b q) → dropped_faults a rows ids ≡ dropped_faults b rows ids
 dropped-live a b rows [] e = refl
-dropped-live a b rows (x ∷ xs) e = told-same (not (has_id a x) && not (list_any (is_of x) rows)) (not (has_id b x) && not (list_any (is_of x) rows)) (NoRow x) _ _ (ap (λ (t : Bool). not t && not (list_any (is_of x) rows)) (e x)) (dropped-live a b rows xs e)
+dropped-live a b rows (x ∷ xs) e = told-same (not (has_id a x) && not (list_any (is_of x) rows))
+    (not (has_id b x) && not (list_any (is_of x) rows)) (NoRow x) _ _
+    (ap (λ (t : Bool). not t && not (list_any (is_of x) rows)) (e x)) (dropped-live a b rows xs e)
 
 -- a row's old identifier has an ending or a successor
 pub of-either : (rows : List Row) (id : List ℕ) → (ended rows id || succeeded rows id) ≡ list_any (is_of id) rows
@@ -102,7 +117,9 @@ pub row-else : (rows : List Row) (id : List ℕ) (x y : Bool) → x ≡ ended ro
 row-else rows id x y e f g = g ∙ sym (ap (λ (b : Bool). b || succeeded rows id) (sym e ∙ f)) ∙ of-either rows id
 
 -- where rows and dropped identifiers have no fault, those of used identifiers are left
-pub passed : (h : List Entry) (set live : List (List ℕ)) (rows : List Row) → ((q : List ℕ) → has_id set q ≡ has_id live q) → row_faults (last_live h) set [] 1 rows ≡ [] → dropped_faults set rows (last_live h) ≡ []
+pub passed : (h : List Entry) (set live : List (List ℕ)) (rows : List Row)
+    → ((q : List ℕ) → has_id set q ≡ has_id live q) → row_faults (last_live h) set [] 1 rows ≡ []
+    → dropped_faults set rows (last_live h) ≡ []
     → faults h live rows ≡ used_faults h (last_live h) live
 passed h set live rows alike no-rows none =
     ap (λ (l : List LineageFault). l ++ (dropped_faults live rows (last_live h) ++ used_faults h (last_live h) live)) (sym (rows-live (last_live h) set live [] 1 rows alike) ∙ no-rows)

@@ -32,13 +32,18 @@ dropped-rowless live rows (x ∷ xs) = by (has_id live x) (dropped_faults live r
 pub used-lacking : (h : List Entry) (last ids : List (List ℕ)) → used_faults h last ids ≡ used_faults h last (filter (λ id. not (has_id last id)) ids)
 used-lacking h last [] = refl
 used-lacking h last (x ∷ xs) = by (filter (λ id. not (has_id last id)) xs) (has_id last x) refl (last_held h x) refl (used-lacking h last xs) where
-  by : (rest : List (List ℕ)) (b : Bool) → b ≡ has_id last x → (o : Option ℕ) → o ≡ last_held h x → used_faults h last xs ≡ used_faults h last rest → told_used o b x (used_faults h last xs) ≡ used_faults h last (cond (not b) (x ∷ rest) rest)
+  by : (rest : List (List ℕ)) (b : Bool) → b ≡ has_id last x → (o : Option ℕ) → o ≡ last_held h x
+      → used_faults h last xs ≡ used_faults h last rest → told_used o b x (used_faults h last xs) ≡ used_faults h last
+      (cond (not b) (x ∷ rest) rest)
   by rest true eb None eo e = e
   by rest true eb (Some y) eo e = e
-  by rest false eb o eo e = ap (λ (l : List LineageFault). told_used o false x l) e ∙ ap (λ (c : Bool). told_used o c x (used_faults h last rest)) eb ∙ ap (λ (p : Option ℕ). told_used p (has_id last x) x (used_faults h last rest)) eo
+  by rest false eb o eo e = ap (λ (l : List LineageFault). told_used o false x l) e
+      ∙ ap (λ (c : Bool). told_used o c x (used_faults h last rest)) eb
+      ∙ ap (λ (p : Option ℕ). told_used p (has_id last x) x (used_faults h last rest)) eo
 
 -- an identifier that no release holds is no fault
-pub used-unheld : (h : List Entry) (last : List (List ℕ)) (id : List ℕ) (rest : List (List ℕ)) (span : Option Span) → span ≡ span_of h id → is_some span ≡ false → used_faults h last (id ∷ rest) ≡ used_faults h last rest
+pub used-unheld : (h : List Entry) (last : List (List ℕ)) (id : List ℕ) (rest : List (List ℕ)) (span : Option Span)
+    → span ≡ span_of h id → is_some span ≡ false → used_faults h last (id ∷ rest) ≡ used_faults h last rest
 used-unheld h last id rest None e none = ap (λ (o : Option ℕ). told_used o (has_id last id) id (used_faults h last rest)) (sym (unlive-none h id (sym e)))
 used-unheld h last id rest (Some s) e none = absurd cc
 
@@ -47,7 +52,8 @@ pub used-alike : (h : List Entry) (last a b : List (List ℕ)) → ((q : List �
 used-alike h last a b alike none = clean-used h last b (λ id i hi is. used-clean h last a none id i hi (alike id ∙ is))
 
 -- identifiers that no release holds are among those that the last one lacks
-pub unheld-lacking : (h : List Entry) (ids : List (List ℕ)) → filter (λ id. not (is_some (span_of h id))) (filter (λ id. not (has_id (last_live h) id)) ids) ≡ filter (λ id. not (is_some (span_of h id))) ids
+pub unheld-lacking : (h : List Entry) (ids : List (List ℕ)) → filter (λ id. not (is_some (span_of h id)))
+    (filter (λ id. not (has_id (last_live h) id)) ids) ≡ filter (λ id. not (is_some (span_of h id))) ids
 unheld-lacking h [] = refl
 unheld-lacking h (x ∷ xs) = by (filter (λ id. not (has_id (last_live h) id)) xs) (has_id (last_live h) x) refl (is_some (span_of h x)) refl (unheld-lacking h xs) where
   unheld : List (List ℕ) → List (List ℕ)
@@ -59,7 +65,8 @@ unheld-lacking h (x ∷ xs) = by (filter (λ id. not (has_id (last_live h) id)) 
     seen None e = absurd (let p = last-some h x was in let n = none-held h x (sym e) p.0 in let y = p.2 in cc)
     seen (Some s) e = refl
 
-  by : (rest : List (List ℕ)) (b : Bool) → b ≡ has_id (last_live h) x → (s : Bool) → s ≡ is_some (span_of h x) → unheld rest ≡ unheld xs → unheld (cond (not b) (x ∷ rest) rest) ≡ cond (not s) (x ∷ unheld xs) (unheld xs)
+  by : (rest : List (List ℕ)) (b : Bool) → b ≡ has_id (last_live h) x → (s : Bool) → s ≡ is_some (span_of h x)
+      → unheld rest ≡ unheld xs → unheld (cond (not b) (x ∷ rest) rest) ≡ cond (not s) (x ∷ unheld xs) (unheld xs)
   by rest true eb true es e = e
   by rest true eb false es e = absurd (let t = has-span (sym eb) in cc)
   by rest false eb s es e = ap (λ (t : Bool). cond (not t) (x ∷ unheld rest) (unheld rest)) (sym es) ∙ ap (λ (l : List (List ℕ)). cond (not s) (x ∷ l) l) e

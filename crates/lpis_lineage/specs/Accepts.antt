@@ -18,24 +18,30 @@ pub record IsRelease (live : List (List ℕ)) (rows : List Row) (e : Entry) : Ty
 
 -- with this release at its end, in whatever later year, the history is lawful and its rows fit
 abbrev pub MayFollow : List Entry → List (List ℕ) → List Row → Type 0
-MayFollow h live rows = (e : Entry) → IsRelease live rows e → last_year h < e.year → IsLawful (h ++ e ∷ []) × RowsFit (h ++ e ∷ [])
+MayFollow h live rows = (e : Entry) → IsRelease live rows e → last_year h < e.year
+    → IsLawful (h ++ e ∷ []) × RowsFit (h ++ e ∷ [])
 
 -- in no later year it is
 abbrev pub NeverFollows : List Entry → List (List ℕ) → List Row → Type 0
-NeverFollows h live rows = (e : Entry) → IsRelease live rows e → IsLawful (h ++ e ∷ []) → RowsFit (h ++ e ∷ []) → ⊥
+NeverFollows h live rows = (e : Entry) → IsRelease live rows e → IsLawful (h ++ e ∷ [])
+    → RowsFit (h ++ e ∷ []) → ⊥
 
 -- Ok exactly where the release may follow
-abbrev pub Decides : {A : Type 0} → List Entry → List (List ℕ) → List Row → Result A LineageFault → Type 0
+abbrev pub Decides : {A : Type 0} → List Entry → List (List ℕ) → List Row → Result A LineageFault
+    → Type 0
 Decides h live rows (Ok a) = MayFollow h live rows
 Decides h live rows (Err e) = (e ≡ WantsMemory) ⊎ NeverFollows h live rows
 
 -- the history with the release at its end
 abbrev pub Adds : List Entry → List Entry → ℕ → List (List ℕ) → List Row → Type 0
-Adds old new year live rows = (e : Entry) × (new ≡ old ++ e ∷ []) × (e.year ≡ year) × IsRelease live rows e
+Adds old new year live rows = (e : Entry) × (new ≡ old ++ e ∷ []) × (e.year ≡ year)
+    × IsRelease live rows e
 
 -- what `add` answers
-abbrev pub AddTells : {A : Type 0} → List Entry → ℕ → List (List ℕ) → List Row → Result A AddFault → Type 0
+abbrev pub AddTells : {A : Type 0} → List Entry → ℕ → List (List ℕ) → List Row → Result A AddFault
+    → Type 0
 AddTells h year live rows (Ok a) = (last_year h < year) × (faults h live rows ≡ [])
 AddTells h year live rows (Err Memory) = Unit {0}
 AddTells h year live rows (Err (Year last)) = (year ≤ last_year h) × (last ≡ last_year h)
-AddTells h year live rows (Err (Lineage fault)) = (last_year h < year) × (first (faults h live rows) ≡ Some fault)
+AddTells h year live rows (Err (Lineage fault)) = (last_year h < year)
+    × (first (faults h live rows) ≡ Some fault)

@@ -3,7 +3,11 @@ use Rattle.std.specs.Prelude.{ℕ, List, Option, None, Some, codes}
 use Rattle.lpis_lineage.specs.declared.fault.LineageCode.{LineageCode}
 use Rattle.lpis_lineage.specs.declared.fault.LineageCode.TheVariants as code
 use Rattle.lpis_lineage.specs.declared.fault.LineageFault.{LineageFault}
-use Rattle.lpis_lineage.specs.declared.fault.LineageFault.TheVariants.{Memory, OldNotLive, OldStillLive, SuccessorMissing, DoubledRow, EndingBesideSuccessor, NoRow, UsedBefore}
+use Rattle.lpis_lineage.specs.declared.fault.LineageFault.TheVariants.{Memory, OldNotLive}
+use Rattle.lpis_lineage.specs.declared.fault.LineageFault.TheVariants.{OldStillLive}
+use Rattle.lpis_lineage.specs.declared.fault.LineageFault.TheVariants.{SuccessorMissing, DoubledRow}
+use Rattle.lpis_lineage.specs.declared.fault.LineageFault.TheVariants.{EndingBesideSuccessor, NoRow}
+use Rattle.lpis_lineage.specs.declared.fault.LineageFault.TheVariants.{UsedBefore}
 
 -- the two characters of a code
 abbrev pub code_text : LineageCode → List ℕ

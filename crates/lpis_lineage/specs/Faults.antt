@@ -1,10 +1,15 @@
 -- The faults of a release's lineage, in the order in which the first is told.
-use Rattle.std.specs.Prelude.{◌&&◌, ◌||◌, Bool, false, not, cond, ℕ, List, [], ◌∷◌, ◌++◌, ◌≡◌, ◌⊎◌, Result, Ok, Err, Option, None, Some, is_some, ◌+◌}
+use Rattle.std.specs.Prelude.{◌&&◌, ◌||◌, Bool, false, not, cond, ℕ, List, [], ◌∷◌, ◌++◌, ◌≡◌, ◌⊎◌}
+use Rattle.std.specs.Prelude.{Result, Ok, Err, Option, None, Some, is_some, ◌+◌}
 use Rattle.std.specs.List.{list_any}
 use Rattle.lpis_lineage.specs.declared.row.Row.{Row}
 use Rattle.lpis_lineage.specs.declared.row.Entry.{Entry}
 use Rattle.lpis_lineage.specs.declared.fault.LineageFault.{LineageFault}
-use Rattle.lpis_lineage.specs.declared.fault.LineageFault.TheVariants.{Memory, OldNotLive, OldStillLive, SuccessorMissing, DoubledRow, EndingBesideSuccessor, NoRow, UsedBefore}
+use Rattle.lpis_lineage.specs.declared.fault.LineageFault.TheVariants.{Memory, OldNotLive}
+use Rattle.lpis_lineage.specs.declared.fault.LineageFault.TheVariants.{OldStillLive}
+use Rattle.lpis_lineage.specs.declared.fault.LineageFault.TheVariants.{SuccessorMissing, DoubledRow}
+use Rattle.lpis_lineage.specs.declared.fault.LineageFault.TheVariants.{EndingBesideSuccessor, NoRow}
+use Rattle.lpis_lineage.specs.declared.fault.LineageFault.TheVariants.{UsedBefore}
 use Rattle.lpis_covers.specs.Ids.{has_id, same_id}
 use Rattle.lpis_lineage.specs.Lineage.{is_of, same_row, last_live}
 use Rattle.lpis_lineage.specs.Spans.{last_held}
@@ -20,10 +25,12 @@ is_missing live (Some s) = not (has_id live s)
 
 -- one row is an ending of the identifier to which the other gives a successor
 abbrev pub clashes : Row → Row → Bool
-clashes r q = same_id r.old q.old && ((is_some r.new && not (is_some q.new)) || (not (is_some r.new) && is_some q.new))
+clashes r q = same_id r.old q.old
+    && ((is_some r.new && not (is_some q.new)) || (not (is_some r.new) && is_some q.new))
 
 -- the faults of one row with this number, before others; the rows `before` stand above it
-abbrev pub faults_of_row : List (List ℕ) → List (List ℕ) → List Row → ℕ → Row → List LineageFault → List LineageFault
+abbrev pub faults_of_row : List (List ℕ) → List (List ℕ) → List Row → ℕ → Row → List LineageFault
+    → List LineageFault
 faults_of_row last live before k r others =
     told (not (has_id last r.old)) (OldNotLive k) (
     told (has_id live r.old) (OldStillLive k) (
@@ -34,12 +41,14 @@ faults_of_row last live before k r others =
 -- the faults of the rows, of which the first has this number; the rows `before` stand above them
 abbrev pub row_faults : List (List ℕ) → List (List ℕ) → List Row → ℕ → List Row → List LineageFault
 row_faults last live before k [] = []
-row_faults last live before k (r ∷ rs) = faults_of_row last live before k r (row_faults last live (before ++ r ∷ []) (k + 1) rs)
+row_faults last live before k (r ∷ rs) = faults_of_row last live before k r
+    (row_faults last live (before ++ r ∷ []) (k + 1) rs)
 
 -- the identifiers that are dropped and have no row
 abbrev pub dropped_faults : List (List ℕ) → List Row → List (List ℕ) → List LineageFault
 dropped_faults live rows [] = []
-dropped_faults live rows (id ∷ ids) = told (not (has_id live id) && not (list_any (is_of id) rows)) (NoRow id) (dropped_faults live rows ids)
+dropped_faults live rows (id ∷ ids) = told (not (has_id live id) && not (list_any (is_of id) rows))
+    (NoRow id) (dropped_faults live rows ids)
 
 -- where it was held, and is not live in the last release, that is a fault
 abbrev pub told_used : Option ℕ → Bool → List ℕ → List LineageFault → List LineageFault
@@ -48,11 +57,13 @@ told_used (Some year) live id others = told (not live) (UsedBefore id year) othe
 
 abbrev pub used_faults : List Entry → List (List ℕ) → List (List ℕ) → List LineageFault
 used_faults h last [] = []
-used_faults h last (id ∷ ids) = told_used (last_held h id) (has_id last id) id (used_faults h last ids)
+used_faults h last (id ∷ ids) = told_used (last_held h id) (has_id last id) id
+    (used_faults h last ids)
 
 -- all faults, in the order: those of the rows, then dropped identifiers, then used ones
 abbrev pub faults : List Entry → List (List ℕ) → List Row → List LineageFault
-faults h live rows = row_faults (last_live h) live [] 1 rows ++ (dropped_faults live rows (last_live h) ++ used_faults h (last_live h) live)
+faults h live rows = row_faults (last_live h) live [] 1 rows
+    ++ (dropped_faults live rows (last_live h) ++ used_faults h (last_live h) live)
 
 -- the first of some faults
 abbrev pub first : List LineageFault → Option LineageFault

@@ -1,9 +1,11 @@
 -- The kinds of the identifiers of the last release.
-use Rattle.std.specs.Prelude.{◌&&◌, ◌+◌, Bool, true, false, cond, nat_lt, ℕ, List, [], ◌∷◌, length, Option, None, Some}
+use Rattle.std.specs.Prelude.{◌&&◌, ◌+◌, Bool, true, false, cond, nat_lt, ℕ, List, [], ◌∷◌, length}
+use Rattle.std.specs.Prelude.{Option, None, Some}
 use Rattle.std.specs.List.{list_any, filter}
 use Rattle.lpis_lineage.specs.declared.row.Row.{Row}
 use Rattle.lpis_lineage.specs.declared.kind.Kind.{Kind}
-use Rattle.lpis_lineage.specs.declared.kind.Kind.TheVariants.{Kept, Split, Merged, Replaced, Redrawn, Ended}
+use Rattle.lpis_lineage.specs.declared.kind.Kind.TheVariants.{Kept, Split, Merged, Replaced}
+use Rattle.lpis_lineage.specs.declared.kind.Kind.TheVariants.{Redrawn, Ended}
 use Rattle.lpis_covers.specs.Ids.{has_id, same_id}
 use Rattle.lpis_lineage.specs.Lineage.{is_of, ended}
 
@@ -40,4 +42,5 @@ by_counts true true = Redrawn
 abbrev pub kind : List (List ℕ) → List (List ℕ) → List Row → List ℕ → Option Kind
 kind last live rows id =
     cond (has_id last id) (Some (cond (has_id live id) Kept (cond (ended rows id) Ended
-    (by_counts (nat_lt 1 (length (successors rows id))) (list_any (λ s. nat_lt 1 (predecessors last live rows s)) (successors rows id)))))) None
+    (by_counts (nat_lt 1 (length (successors rows id)))
+    (list_any (λ s. nat_lt 1 (predecessors last live rows s)) (successors rows id)))))) None

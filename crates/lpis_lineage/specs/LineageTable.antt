@@ -1,5 +1,6 @@
 -- The table of lineage: its rows, and its first fault.
-use Rattle.std.specs.Prelude.{◌≡◌, ◌∷◌, ◌++◌, ℕ, List, [], codes, Option, None, Some, Result, Ok, Err}
+use Rattle.std.specs.Prelude.{◌≡◌, ◌∷◌, ◌++◌, ℕ, List, [], codes, Option, None, Some, Result, Ok}
+use Rattle.std.specs.Prelude.{Err}
 use Rattle.std.specs.declared.vec.Vec.{Vec}
 use Rattle.std.specs.declared.alloc.Global.{Global}
 use Rattle.lpis_covers.specs.declared.fault.Table.TheVariants.{Lineage}
@@ -28,7 +29,13 @@ row_of row = record { old = field_of row 0; new = successor_of (field_of row 1) 
 
 -- a row has an old identifier and a new one, or none
 abbrev pub lineage_table : RowsOf Row
-lineage_table = record { table = Lineage; columns = codes "old" ∷ codes "new" ∷ []; faults = λ keys. lineage_faults; value = row_of }
+lineage_table = record {
+  table = Lineage;
+  columns = codes "old" ∷ codes "new" ∷ [];
+  faults =
+      λ keys. lineage_faults;
+  value = row_of;
+}
 
 -- a call answers these rows or this fault, or that memory ran out
 abbrev pub AnswersRows : Result (Vec Row Global) TableFault → Result (List Row) TableFault → Type 0

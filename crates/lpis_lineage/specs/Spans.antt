@@ -1,5 +1,6 @@
 -- Spans: from which year to which year an identifier is live.
-use Rattle.std.specs.Prelude.{◌&&◌, ◌||◌, ◌≡◌, ◌∷◌, Bool, cond, nat_le, nat_eq, ℕ, List, [], Option, None, Some}
+use Rattle.std.specs.Prelude.{◌&&◌, ◌||◌, ◌≡◌, ◌∷◌, Bool, cond, nat_le, nat_eq, ℕ, List, [], Option}
+use Rattle.std.specs.Prelude.{None, Some}
 use Rattle.std.specs.Option.{option_or}
 use Rattle.lpis_covers.specs.Ids.{has_id}
 use Rattle.lpis_lineage.specs.declared.row.Entry.{Entry}
@@ -19,10 +20,11 @@ last_held (e ∷ h) id = option_or (last_held h id) (cond (has_id e.live id) (So
 abbrev pub span_between : Option ℕ → Option ℕ → Bool → Option Span
 span_between None until live = None
 span_between (Some since) None live = None
-span_between (Some since) (Some until) live = Some (record { first = since; last = cond live 0 until })
+span_between (Some since) (Some until) live =
+    Some (record { first = since; last = cond live 0 until })
 
--- its span: the first and the last year in which it is live, the last being 0 while it is live in the last release; none
--- where no release holds it
+-- its span: the first and the last year in which it is live, the last being 0 while it is live in
+-- the last release; none where no release holds it
 abbrev pub span_of : List Entry → List ℕ → Option Span
 span_of h id = span_between (first_held h id) (last_held h id) (has_id (last_live h) id)
 

@@ -4,7 +4,8 @@ ghost use Rattle.std.specs.Prelude.{◌≡◌, ◌++◌, ◌∷◌, ℕ, List, [
 ghost use Rattle.lpis_covers.specs.Ids.{has_id};
 ghost use Rattle.lpis_lineage.specs.declared.row.Row.{Row};
 ghost use Rattle.lpis_lineage.specs.Lineage.{last_live};
-ghost use Rattle.lpis_lineage.specs.Faults.{faults_of_row, row_faults, dropped_faults, used_faults, faults, Tells};
+ghost use Rattle.lpis_lineage.specs.Faults.{faults_of_row, row_faults, dropped_faults, used_faults};
+ghost use Rattle.lpis_lineage.specs.Faults.{faults, Tells};
 ghost use Rattle.lpis_lineage.specs.private.Seen.{IsSeen};
 ghost use Rattle.lpis_lineage.specs.Accepts.{Decides};
 ghost use Rattle.lpis_lineage.specs.Changes.{IsChange};
@@ -26,8 +27,10 @@ fn check_row(
     row: &Row,
     number: usize,
 ) -> Result<(), LineageFault>
-    ensures tells { (before : List Row) → IsSeen seen.old before → Tells (faults_of_row last.now live.now before number row.now []) result }
-    ensures seen { (before : List Row) → IsSeen seen.old before → OnOk result (IsSeen seen.new (before ++ row.now ∷ [])) }
+    ensures tells { (before : List Row) → IsSeen seen.old before
+        → Tells (faults_of_row last.now live.now before number row.now []) result }
+    ensures seen { (before : List Row) → IsSeen seen.old before
+        → OnOk result (IsSeen seen.new (before ++ row.now ∷ [])) }
 {
     if !last.contains(&row.old) {
         return Err(LineageFault::OldNotLive { row: number });
@@ -60,7 +63,8 @@ fn check_rows(alloc: Global, last: &IdSet, live: &IdSet, rows: &[Row]) -> Result
 
 /// Looks for dropped identifiers without a row.
 fn check_dropped(last: &IdSet, live: &IdSet, seen: &Seen) -> Result<(), LineageFault>
-    ensures { (rows : List Row) → IsSeen seen.now rows → Tells (dropped_faults live.now rows last.now) result }
+    ensures { (rows : List Row) → IsSeen seen.now rows
+        → Tells (dropped_faults live.now rows last.now) result }
 {
     for id in last.lacking(live) {
         if !seen.has_row(id) {
@@ -70,7 +74,8 @@ fn check_dropped(last: &IdSet, live: &IdSet, seen: &Seen) -> Result<(), LineageF
     Ok(())
 }
 
-/// Whether no identifier of the set was used before. Those alone are looked up that the last release lacks.
+/// Whether no identifier of the set was used before. Those alone are looked up that the last
+/// release lacks.
 fn none_used(history: &History, set: &IdSet) -> bool
     ensures { IsTrue result → used_faults history.now (last_live history.now) set.now ≡ [] }
 {
@@ -110,11 +115,13 @@ fn find_used(history: &History, ids: &[Id]) -> Result<(), LineageFault>
     Ok(())
 }
 
-/// What a release with these identifiers and rows changes, where it may follow the history: where the history with it at the
-/// end is lawful and its rows fit, whatever later year it has. With no release before, each row is refused.
+/// What a release with these identifiers and rows changes, where it may follow the history: where
+/// the history with it at the end is lawful and its rows fit, whatever later year it has. With no
+/// release before, each row is refused.
 ///
-/// Else the first fault: row by row, in a row in the order of `LineageFault`'s variants; then the dropped identifiers without a
-/// row, ascending; then the identifiers of `live` that were used before, in its order.
+/// Else the first fault: row by row, in a row in the order of `LineageFault`'s variants; then the
+/// dropped identifiers without a row, ascending; then the identifiers of `live` that were used
+/// before, in its order.
 pub fn accept(
     alloc: Global,
     history: &History,

@@ -18,7 +18,8 @@ use std::alloc::{AllocError, Global};
 use std::collections::HashMap;
 use std::marker::Model;
 
-/// What a release changes: what became of each identifier of the history's last release, and the rows that say so.
+/// What a release changes: what became of each identifier of the history's last release, and the
+/// rows that say so.
 #[derive(Drop)]
 pub struct Change {
     kinds: HashMap<Id, Kind>,
@@ -32,13 +33,19 @@ impl Model for Change {
 
     ghost Value = { Changes };
 
-    ghost view = { λ a. record { kinds = a.kinds.entries; dropped_ids = a.dropped.items; rows = a.rows.items } };
+    ghost view = { λ a. record {
+      kinds = a.kinds.entries;
+      dropped_ids = a.dropped.items;
+      rows =
+          a.rows.items;
+    } };
 
     ghost invariant = { λ a. IsAscending a.dropped.items };
 }
 
 impl Change {
-    /// The change from the identifiers of the last release to those that are live now, by these rows.
+    /// The change from the identifiers of the last release to those that are live now, by these
+    /// rows.
     pub(crate) fn of(
         alloc: Global,
         last: &IdSet,
@@ -81,7 +88,8 @@ fn kinds_of(
     live: &IdSet,
     fates: &Fates,
 ) -> Result<HashMap<Id, Kind>, AllocError>
-    ensures { (rows : List Row) → AreFates last.now live.now rows fates.now rows → IfOk result (λ m. (q : List ℕ) → get same_id m q ≡ kind last.now live.now rows q) }
+    ensures { (rows : List Row) → AreFates last.now live.now rows fates.now rows
+        → IfOk result (λ m. (q : List ℕ) → get same_id m q ≡ kind last.now live.now rows q) }
 {
     let mut kinds = HashMap::new(alloc);
     for id in last.iter() {

@@ -25,7 +25,8 @@ pub(crate) struct Fates {
 
 /// Whether a successor has several predecessors.
 fn is_shared(last: &IdSet, live: &IdSet, named: &Tally, heir: &Id) -> bool
-    ensures { (all : List Row) → IsTally named.now (heirs all) → has_id (heirs all) heir.now ≡ true → result ≡ shared_by last.now live.now all heir.now }
+    ensures { (all : List Row) → IsTally named.now (heirs all) → has_id (heirs all) heir.now ≡ true
+        → result ≡ shared_by last.now live.now all heir.now }
 {
     let twice = named.twice.contains(heir);
     let was = last.contains(heir);
@@ -35,7 +36,8 @@ fn is_shared(last: &IdSet, live: &IdSet, named: &Tally, heir: &Id) -> bool
 
 /// The kind of an identifier of the last release.
 pub(crate) fn kind_of(live: &IdSet, fates: &Fates, id: &Id) -> Kind
-    ensures { (last : List (List ℕ)) → (rows : List Row) → AreFates last live.now rows fates.now rows → has_id last id.now ≡ true → Some result ≡ kind last live.now rows id.now }
+    ensures { (last : List (List ℕ)) → (rows : List Row) → AreFates last live.now rows fates.now
+        rows → has_id last id.now ≡ true → Some result ≡ kind last live.now rows id.now }
 {
     if live.contains(id) {
         return Kind::Kept;
@@ -69,7 +71,10 @@ fn note_row(
     named: &Tally,
     row: &Row,
 ) -> Result<(), AllocError>
-    ensures { (all : List Row) → (before : List Row) → IsTally named.now (heirs all) → ((s : List ℕ) → is_this s row.now.new ≡ true → has_id (heirs all) s ≡ true) → AreFates last.now live.now all fates.old before → OnOk result (AreFates last.now live.now all fates.new (before ++ row.now ∷ [])) }
+    ensures { (all : List Row) → (before : List Row) → IsTally named.now (heirs all)
+        → ((s : List ℕ) → is_this s row.now.new ≡ true → has_id (heirs all) s ≡ true)
+        → AreFates last.now live.now all fates.old before
+        → OnOk result (AreFates last.now live.now all fates.new (before ++ row.now ∷ [])) }
 {
     match &row.new {
         None => {

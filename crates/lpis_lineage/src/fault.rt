@@ -68,7 +68,8 @@ pub enum LineageFault {
     /// A dropped identifier has no row.
     #[error("lineage {} {}", LineageCode::NoRow.as_str(), .id.as_str())]
     NoRow { id: Id },
-    /// The identifier is not live in the last release, and was in an earlier one, the last time in this year.
+    /// The identifier is not live in the last release, and was in an earlier one, the last time in
+    /// this year.
     #[error("lineage {} {} {year}", LineageCode::UsedBefore.as_str(), .id.as_str())]
     UsedBefore { id: Id, year: u16 },
 }

@@ -1,6 +1,7 @@
 //! Histories.
 
-ghost use Rattle.std.specs.Prelude.{◌≡◌, ◌<◌, ◌&&◌, ◌++◌, ◌∷◌, not, is_some, ℕ, List, [], IfOk, IfSome, IfNone, OnOk, OnErr, false};
+ghost use Rattle.std.specs.Prelude.{◌≡◌, ◌<◌, ◌&&◌, ◌++◌, ◌∷◌, not, is_some, List, [], IfOk};
+ghost use Rattle.std.specs.Prelude.{IfSome, IfNone, OnOk, OnErr, false};
 ghost use Rattle.std.specs.List.{filter};
 ghost use Rattle.lpis_covers.specs.Ids.{has_id};
 ghost use Rattle.lpis_lineage.specs.Lineage.{last_live, last_year};
@@ -20,10 +21,11 @@ use std::alloc::{AllocError, Global};
 use std::collections::HashMap;
 use std::marker::Model;
 
-/// A lawful list of releases whose rows fit, which contracts see as that list, oldest first: years rise; the releases that
-/// hold an identifier are consecutive; each identifier that a release drops has in that release either one ending or at
-/// least one successor, and not both; each successor is in its release; no row stands twice; each row's old identifier is one that its
-/// release drops; the first release has no rows.
+/// A lawful list of releases whose rows fit, which contracts see as that list, oldest first: years
+/// rise; the releases that hold an identifier are consecutive; each identifier that a release drops
+/// has in that release either one ending or at least one successor, and not both; each successor is
+/// in its release; no row stands twice; each row's old identifier is one that its release drops;
+/// the first release has no rows.
 #[derive(Drop)]
 pub struct History {
     entries: Vec<Entry>,
@@ -45,7 +47,8 @@ impl Model for History {
 
     ghost view = { λ a. a.entries.items };
 
-    ghost invariant = { λ a. IsHistory a.entries.items (λ id. get same_id a.spans id) × (a.nobody ≡ []) };
+    ghost invariant = { λ a. IsHistory a.entries.items (λ id. get same_id a.spans id)
+        × (a.nobody ≡ []) };
 }
 
 impl History {
@@ -73,7 +76,8 @@ impl History {
     /// The last release, where there is one.
     fn last_entry(&self) -> Option<&Entry>
         ensures none { IfNone result (self.now ≡ []) }
-        ensures some { IfSome result (λ e. (e.now.year ≡ last_year self.now) × (e.now.live ≡ last_live self.now)) }
+        ensures some { IfSome result (λ e. (e.now.year ≡ last_year self.now)
+            × (e.now.live ≡ last_live self.now)) }
     {
         self.entries.last()
     }
@@ -88,8 +92,8 @@ impl History {
         }
     }
 
-    /// The first and the last year in which the identifier is live, the last being 0 while it is live in the last release;
-    /// `None` where no release holds it.
+    /// The first and the last year in which the identifier is live, the last being 0 while it is
+    /// live in the last release; `None` where no release holds it.
     pub fn span(&self, id: &Id) -> Option<Span>
         ensures { result ≡ span_of self.now id.now }
     {
@@ -126,7 +130,8 @@ impl History {
 
     /// Copies of those identifiers that no release holds.
     fn unheld(&self, alloc: Global, ids: &IdSet) -> Result<Vec<Id>, AllocError>
-        ensures { IfOk result (λ v. v.items ≡ filter (λ id. not (is_some (span_of self.now id))) ids.now) }
+        ensures { IfOk result (λ v. v.items ≡ filter (λ id. not (is_some (span_of self.now id)))
+            ids.now) }
     {
         let mut fresh = Vec::new(alloc);
         // Each identifier of the last release has a span.
@@ -139,8 +144,8 @@ impl History {
         Ok(fresh)
     }
 
-    /// Adds a release at the end. It is refused where its year is not above the last one's, and else as by `accept`; a
-    /// refusal changes nothing.
+    /// Adds a release at the end. It is refused where its year is not above the last one's, and
+    /// else as by `accept`; a refusal changes nothing.
     pub fn add(&mut self, year: u16, live: &[Id], rows: &[Row]) -> Result<(), AddFault>
         ensures tells { AddTells self.old year live.now rows.now result }
         ensures ok { OnOk result (Adds self.old self.new year live.now rows.now) }

@@ -58,7 +58,8 @@ impl IdSet {
 
     /// Adds an identifier.
     pub(crate) fn add(&mut self, id: Id) -> Result<(), AllocError>
-        ensures ok { OnOk result ((q : List ℕ) → has_id self.new q ≡ cond (same_id id q) true (has_id self.old q)) }
+        ensures ok { OnOk result ((q : List ℕ) → has_id self.new q ≡ cond (same_id id q) true
+            (has_id self.old q)) }
     {
         self.ids.insert(id)?;
         Ok(())

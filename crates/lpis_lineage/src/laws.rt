@@ -12,21 +12,29 @@ ghost use Rattle.lpis_lineage.specs.Lawful.{IsLawful, RowsFit};
 ghost use Rattle.lpis_lineage.specs.Lineage.{entry_at, holds};
 ghost use Rattle.lpis_lineage.specs.Spans.{AreSpansOf, ids_of, live_in, span_of};
 
-/// A release may follow a lawful history whose rows fit, in whatever later year, where it has no fault, and in no year where
-/// it has one.
+/// A release may follow a lawful history whose rows fit, in whatever later year, where it has no
+/// fault, and in no year where it has one.
 pub fn decided_by_faults()
-    ensures follows { (h : List Entry) (live : List (List ℕ)) (rows : List Row) → IsLawful h → RowsFit h → faults h live rows ≡ [] → MayFollow h live rows }
-    ensures refused { (h : List Entry) (live : List (List ℕ)) (rows : List Row) (fault : LineageFault) → IsLawful h → RowsFit h → first (faults h live rows) ≡ Some fault → NeverFollows h live rows }
+    ensures follows { (h : List Entry) (live : List (List ℕ)) (rows : List Row) → IsLawful h
+        → RowsFit h → faults h live rows ≡ [] → MayFollow h live rows }
+    ensures refused { (h : List Entry) (live : List (List ℕ)) (rows : List Row)
+        (fault : LineageFault) → IsLawful h → RowsFit h → first (faults h live rows) ≡ Some fault
+        → NeverFollows h live rows }
 {}
 
-/// For a lawful history, the identifiers whose span holds the year of a release are those that the release holds, where the
-/// spans are those of all its identifiers.
+/// For a lawful history, the identifiers whose span holds the year of a release are those that the
+/// release holds, where the spans are those of all its identifiers.
 pub fn spans_tell_releases()
-    ensures { (h : List Entry) (spans : List (List ℕ × Span)) → IsLawful h → AreSpansOf h spans → ((id : List ℕ) (i : ℕ) → holds h i id ≡ true → has_id (ids_of spans) id ≡ true) → (i : ℕ) → i < length h → (id : List ℕ) → has_id (live_in spans (entry_at h i).year) id ≡ holds h i id }
+    ensures { (h : List Entry) (spans : List (List ℕ × Span)) → IsLawful h → AreSpansOf h spans
+        → ((id : List ℕ) (i : ℕ) → holds h i id ≡ true → has_id (ids_of spans) id ≡ true) → (i : ℕ)
+        → i < length h → (id : List ℕ) → has_id (live_in spans (entry_at h i).year) id ≡ holds h i
+        id }
 {}
 
 /// An identifier has a span exactly where some release holds it.
 pub fn held_identifiers_have_spans()
-    ensures held { (h : List Entry) (id : List ℕ) (span : Span) → span_of h id ≡ Some span → (i : ℕ) × (holds h i id ≡ true) }
-    ensures unheld { (h : List Entry) (id : List ℕ) → span_of h id ≡ None → (i : ℕ) → holds h i id ≡ false }
+    ensures held { (h : List Entry) (id : List ℕ) (span : Span) → span_of h id ≡ Some span → (i : ℕ)
+        × (holds h i id ≡ true) }
+    ensures unheld { (h : List Entry) (id : List ℕ) → span_of h id ≡ None → (i : ℕ)
+        → holds h i id ≡ false }
 {}

@@ -4,7 +4,8 @@ ghost use Rattle.std.specs.Prelude.{◌≡◌, ◌∷◌, [], codes};
 ghost use Rattle.lpis_covers.specs.Faults.{rows_of, told};
 ghost use Rattle.lpis_covers.specs.Table.{Answers, field_of, texts};
 ghost use Rattle.lpis_covers.specs.declared.fault.Table.TheVariants as tables;
-ghost use Rattle.lpis_lineage.specs.LineageTable.{AnswersRows, lineage_faults, lineage_table, row_of, successor_faults, successor_of};
+ghost use Rattle.lpis_lineage.specs.LineageTable.{AnswersRows, lineage_faults, lineage_table};
+ghost use Rattle.lpis_lineage.specs.LineageTable.{row_of, successor_faults, successor_of};
 
 use crate::row::Row;
 use lpis_covers::{Id, Table, TableFault, TableReader};
@@ -20,7 +21,8 @@ fn columns() -> &'static [&'static [u8]]
 /// The successor of the row that was read last.
 fn read_successor(alloc: Global, reader: &TableReader<'_>) -> Result<Option<Id>, TableFault>
     requires { reader.now.table ≡ tables.Lineage }
-    ensures { let field = field_of reader.now.row 1 in Answers result (told (successor_faults reader.now.number field) (successor_of field)) }
+    ensures { let field = field_of reader.now.row 1 in
+        Answers result (told (successor_faults reader.now.number field) (successor_of field)) }
 {
     if reader.field(1).is_empty() {
         return Ok(None);
@@ -32,15 +34,17 @@ fn read_successor(alloc: Global, reader: &TableReader<'_>) -> Result<Option<Id>,
 /// The row that was read last.
 fn read_row(alloc: Global, reader: &TableReader<'_>) -> Result<Row, TableFault>
     requires { reader.now.table ≡ tables.Lineage }
-    ensures { Answers result (told (lineage_faults reader.now.number reader.now.row) (row_of reader.now.row)) }
+    ensures { Answers result (told (lineage_faults reader.now.number reader.now.row)
+        (row_of reader.now.row)) }
 {
     let old = reader.id(alloc, 0)?;
     let new = read_successor(alloc, reader)?;
     Ok(Row { old, new })
 }
 
-/// The rows of the table `lineage`, with the columns `old` and `new`; an empty `new` makes an ending. A refusal is the first
-/// fault: of row 0; else of a row, in the order of the rows and in it of the columns; else that which stops the rows.
+/// The rows of the table `lineage`, with the columns `old` and `new`; an empty `new` makes an
+/// ending. A refusal is the first fault: of row 0; else of a row, in the order of the rows and in
+/// it of the columns; else that which stops the rows.
 pub fn read_rows(alloc: Global, bytes: &[u8]) -> Result<Vec<Row>, TableFault>
     ensures { AnswersRows result (rows_of lineage_table bytes.now) }
 {

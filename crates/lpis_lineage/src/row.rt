@@ -1,6 +1,6 @@
 //! Rows of lineage, and releases.
 
-ghost use Rattle.std.specs.Prelude.{◌≡◌, ℕ, List, IfOk};
+ghost use Rattle.std.specs.Prelude.{◌≡◌, IfOk};
 ghost use Rattle.lpis_lineage.specs.Accepts.{IsRelease};
 
 use crate::id_set::IdSet;

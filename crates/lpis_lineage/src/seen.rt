@@ -1,11 +1,12 @@
 //! The rows that a check has seen.
 
-ghost use Rattle.std.specs.Prelude.{◌≡◌, ◌++◌, ◌∷◌, ℕ, List, [], OnOk, Some, None};
+ghost use Rattle.std.specs.Prelude.{◌≡◌, ◌++◌, ◌∷◌, List, [], OnOk, Some, None};
 ghost use Rattle.std.specs.List.{list_any};
 ghost use Rattle.lpis_lineage.specs.declared.row.Row.{Row};
 ghost use Rattle.lpis_lineage.specs.Lineage.{same_row, is_of};
-ghost use Rattle.lpis_lineage.specs.Faults.{told, clashes, is_missing, Tells};
-ghost use Rattle.lpis_lineage.specs.declared.fault.LineageFault.TheVariants.{DoubledRow, EndingBesideSuccessor, SuccessorMissing};
+ghost use Rattle.lpis_lineage.specs.Faults.{told, clashes, Tells};
+ghost use Rattle.lpis_lineage.specs.declared.fault.LineageFault.TheVariants.{DoubledRow};
+ghost use Rattle.lpis_lineage.specs.declared.fault.LineageFault.TheVariants.{EndingBesideSuccessor};
 ghost use Rattle.lpis_lineage.specs.private.Seen.{IsSeen};
 
 use crate::fault::LineageFault;
@@ -38,8 +39,11 @@ impl Seen {
     /// Looks at an ending, and keeps it.
     pub(crate) fn end(&mut self, row: &Row, number: usize) -> Result<(), LineageFault>
         requires { row.now.new ≡ None }
-        ensures tells { (before : List Row) → IsSeen self.old before → Tells (told (list_any (same_row row.now) before) (DoubledRow number) (told (list_any (clashes row.now) before) (EndingBesideSuccessor number) [])) result }
-        ensures seen { (before : List Row) → IsSeen self.old before → OnOk result (IsSeen self.new (before ++ row.now ∷ [])) }
+        ensures tells { (before : List Row) → IsSeen self.old before
+            → Tells (told (list_any (same_row row.now) before) (DoubledRow number)
+            (told (list_any (clashes row.now) before) (EndingBesideSuccessor number) [])) result }
+        ensures seen { (before : List Row) → IsSeen self.old before
+            → OnOk result (IsSeen self.new (before ++ row.now ∷ [])) }
     {
         if self.ended.contains(&row.old) {
             return Err(LineageFault::DoubledRow { row: number });
@@ -60,8 +64,11 @@ impl Seen {
         number: usize,
     ) -> Result<(), LineageFault>
         requires { row.now.new ≡ Some heir.now }
-        ensures tells { (before : List Row) → IsSeen self.old before → Tells (told (list_any (same_row row.now) before) (DoubledRow number) (told (list_any (clashes row.now) before) (EndingBesideSuccessor number) [])) result }
-        ensures seen { (before : List Row) → IsSeen self.old before → OnOk result (IsSeen self.new (before ++ row.now ∷ [])) }
+        ensures tells { (before : List Row) → IsSeen self.old before
+            → Tells (told (list_any (same_row row.now) before) (DoubledRow number)
+            (told (list_any (clashes row.now) before) (EndingBesideSuccessor number) [])) result }
+        ensures seen { (before : List Row) → IsSeen self.old before
+            → OnOk result (IsSeen self.new (before ++ row.now ∷ [])) }
     {
         let old = row.old.copy()?;
         let new = heir.copy()?;

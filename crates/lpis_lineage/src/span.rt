@@ -46,7 +46,8 @@ pub fn live_in(alloc: Global, spans: &[(Id, Span)], year: u16) -> Result<Vec<Id>
 /// Lets the spans of these identifiers begin in a year.
 pub(crate) fn begin_spans(spans: &mut HashMap<Id, Span>, mut ids: Vec<Id>, year: u16)
     requires room { length ids.items ≤ spare spans.old }
-    ensures { (q : List ℕ) → get same_id spans.new q ≡ begun (has_id ids.items q) year (get same_id spans.old q) }
+    ensures { (q : List ℕ) → get same_id spans.new q ≡ begun (has_id ids.items q) year
+        (get same_id spans.old q) }
 {
     'ids: while let Some(id) = ids.pop() {
         let span = Span {
@@ -63,7 +64,8 @@ pub(crate) fn begin_spans(spans: &mut HashMap<Id, Span>, mut ids: Vec<Id>, year:
 
 /// Lets the spans of these identifiers end with a year.
 pub(crate) fn end_spans(spans: &mut HashMap<Id, Span>, mut ids: Vec<Id>, year: u16)
-    ensures { (q : List ℕ) → get same_id spans.new q ≡ ended (has_id ids.items q) year (get same_id spans.old q) }
+    ensures { (q : List ℕ) → get same_id spans.new q ≡ ended (has_id ids.items q) year
+        (get same_id spans.old q) }
 {
     'ids: while let Some(id) = ids.pop() {
         if let Some(span) = spans.get(&id).copied() {
@@ -82,7 +84,8 @@ pub(crate) fn end_spans(spans: &mut HashMap<Id, Span>, mut ids: Vec<Id>, year: u
 
 /// The spans of a history less this release at its end. It takes no memory.
 pub(crate) fn take_spans_back(spans: &mut HashMap<Id, Span>, entry: &Entry, before: &[Entry])
-    ensures { (q : List ℕ) → get same_id spans.new q ≡ ended (has_id (last_live before.now) q) 0 (forgotten (has_id entry.now.live q) entry.now.year (get same_id spans.old q)) }
+    ensures { (q : List ℕ) → get same_id spans.new q ≡ ended (has_id (last_live before.now) q) 0
+        (forgotten (has_id entry.now.live q) entry.now.year (get same_id spans.old q)) }
 {
     forget_spans(spans, &entry.live, entry.year);
     if let Some(last) = before.last() {
@@ -92,7 +95,8 @@ pub(crate) fn take_spans_back(spans: &mut HashMap<Id, Span>, entry: &Entry, befo
 
 /// Forgets the spans of these identifiers that begin in a year. It takes no memory.
 fn forget_spans(spans: &mut HashMap<Id, Span>, ids: &IdSet, year: u16)
-    ensures { (q : List ℕ) → get same_id spans.new q ≡ forgotten (has_id ids.now q) year (get same_id spans.old q) }
+    ensures { (q : List ℕ) → get same_id spans.new q ≡ forgotten (has_id ids.now q) year
+        (get same_id spans.old q) }
 {
     for id in ids.iter() {
         if let Some(span) = spans.get(id).copied() {
@@ -105,7 +109,8 @@ fn forget_spans(spans: &mut HashMap<Id, Span>, ids: &IdSet, year: u16)
 
 /// Lets the spans of these identifiers go on. It takes no memory.
 fn reopen_spans(spans: &mut HashMap<Id, Span>, ids: &IdSet)
-    ensures { (q : List ℕ) → get same_id spans.new q ≡ ended (has_id ids.now q) 0 (get same_id spans.old q) }
+    ensures { (q : List ℕ) → get same_id spans.new q ≡ ended (has_id ids.now q) 0
+        (get same_id spans.old q) }
 {
     for id in ids.iter() {
         if let Some(span) = spans.get_mut(id) {

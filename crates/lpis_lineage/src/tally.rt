@@ -29,7 +29,8 @@ impl Tally {
 
     /// One more.
     pub(crate) fn note(&mut self, id: &Id) -> Result<(), AllocError>
-        ensures { (ids : List (List ℕ)) → IsTally self.old ids → OnOk result (IsTally self.new (ids ++ id.now ∷ [])) }
+        ensures { (ids : List (List ℕ)) → IsTally self.old ids
+            → OnOk result (IsTally self.new (ids ++ id.now ∷ [])) }
     {
         let copy = id.copy()?;
         if self.once.contains(id) {

@@ -15,7 +15,8 @@ use std::alloc::{AllocError, Global};
 
 /// Adds the row's successor, where its old identifier is reached.
 fn follow_row(reached: &mut IdSet, row: &Row) -> Result<(), AllocError>
-    ensures { (before : List Row) → (id : List ℕ) → Reaches reached.old before id → IsFresh before row.now → OnOk result (Reaches reached.new (before ++ row.now ∷ []) id) }
+    ensures { (before : List Row) → (id : List ℕ) → Reaches reached.old before id
+        → IsFresh before row.now → OnOk result (Reaches reached.new (before ++ row.now ∷ []) id) }
 {
     match &row.new {
         None => Ok(()),
@@ -33,7 +34,8 @@ fn follow_row(reached: &mut IdSet, row: &Row) -> Result<(), AllocError>
 
 /// Follows the rows of a release.
 fn follow(reached: &mut IdSet, rows: &[Row]) -> Result<(), AllocError>
-    ensures { (before : List Row) → (id : List ℕ) → Reaches reached.old before id → AreFresh before rows.now → OnOk result (Reaches reached.new (before ++ rows.now) id) }
+    ensures { (before : List Row) → (id : List ℕ) → Reaches reached.old before id
+        → AreFresh before rows.now → OnOk result (Reaches reached.new (before ++ rows.now) id) }
 {
     for row in rows {
         follow_row(reached, row)?;
@@ -52,10 +54,11 @@ fn reached(alloc: Global, history: &History, id: &Id) -> Result<IdSet, AllocErro
     Ok(reached)
 }
 
-/// The identifiers of the last release at which a chain of rows from old to new arrives from an identifier, itself among
-/// them where it is live; ascending by bytes, each once.
+/// The identifiers of the last release at which a chain of rows from old to new arrives from an
+/// identifier, itself among them where it is live; ascending by bytes, each once.
 pub fn descendants(alloc: Global, history: &History, id: &Id) -> Result<Vec<Id>, AllocError>
-    ensures members { IfOk result (λ v. (q : List ℕ) → (has_id v.items q ≡ true) ↔ IsDescendant history.now id.now q) }
+    ensures members { IfOk result (λ v. (q : List ℕ) → (has_id v.items q ≡ true)
+        ↔ IsDescendant history.now id.now q) }
     ensures ascending { IfOk result (λ v. IsAscending v.items) }
 {
     let reached = reached(alloc, history, id)?;

@@ -24,7 +24,8 @@ nothing_yet ts height es e = record {
   all = λ i s t l. absurd (omega arith);
 }
 
-pub start_triangle : (ts : List Triangle) (height : ℕ) (es : List Entry) (n : ℕ) (t : Triangle) → slice_get ts n ≡ Some t → EntriesBelow ts height es n → EntriesUpTo ts height es n ((span_of t).bottom / height)
+pub start_triangle : (ts : List Triangle) (height : ℕ) (es : List Entry) (n : ℕ) (t : Triangle)
+    → slice_get ts n ≡ Some t → EntriesBelow ts height es n → EntriesUpTo ts height es n ((span_of t).bottom / height)
 start_triangle ts height es n t at h = record {
   earlier = h;
   here = λ s u f l m. absurd (none u f s l m);
@@ -39,7 +40,9 @@ start_triangle ts height es n t at h = record {
         let same : u ≡ t = cc in
         clash _ _ s (ap (λ (v : Triangle). (span_of v).bottom / height) same) l m
 
-pub one_more : (ts : List Triangle) (height : ℕ) (es : List Entry) (n strip : ℕ) (t : Triangle) → slice_get ts n ≡ Some t → EntriesUpTo ts height es n strip → EntriesUpTo ts height (es ++ entry height t n strip ∷ []) n (strip + 1)
+pub one_more : (ts : List Triangle) (height : ℕ) (es : List Entry) (n strip : ℕ) (t : Triangle)
+    → slice_get ts n ≡ Some t → EntriesUpTo ts height es n strip
+    → EntriesUpTo ts height (es ++ entry height t n strip ∷ []) n (strip + 1)
 one_more ts height es n strip t at h = record {
   earlier = record {
     only = All-push (IsEntry ts) es (entry height t n strip) h.earlier.only (record { t = t; at = at; left = refl; right = refl });
@@ -59,7 +62,9 @@ one_more ts height es n strip t at h = record {
         let x : entry height t n strip ≡ entry height u n s = cc in
         subst (λ (v : Entry). Contains (es ++ entry height t n strip ∷ []) v) x (Contains-push es (entry height t n strip))
 
-pub end_triangle : (ts : List Triangle) (height : ℕ) (es : List Entry) (n upto : ℕ) (t : Triangle) → slice_get ts n ≡ Some t → (span_of t).top / height + 1 ≤ upto → EntriesUpTo ts height es n upto → EntriesBelow ts height es (n + 1)
+pub end_triangle : (ts : List Triangle) (height : ℕ) (es : List Entry) (n upto : ℕ) (t : Triangle)
+    → slice_get ts n ≡ Some t → (span_of t).top / height + 1 ≤ upto → EntriesUpTo ts height es n upto
+    → EntriesBelow ts height es (n + 1)
 end_triangle ts height es n upto t at k h = record {
   only = h.earlier.only;
   all = λ i s u l f g m. by_case i s u f g m (split i l);

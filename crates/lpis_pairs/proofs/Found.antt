@@ -1,4 +1,5 @@
--- A sweep finds every near pair: the two triangles have entries in the lowest strip that both meet, and there they are joined.
+-- A sweep finds every near pair: the two triangles have entries in the lowest strip that both meet, and there they are
+-- joined.
 use Rattle.std.proofs.Common.{◌≡◌, ℕ, ◌*◌, ◌/◌, ◌<◌, ◌≤◌, Bool, true, false, ◌||◌, nat_eq, List, Some, ◌⊎◌, inl, inr, refl, ap, sym, ◌∙◌, subst, arith}
 use Rattle.std.specs.List.{Contains, slice_get}
 use Rattle.std.specs.List.Sorted.{IsPermutation}
@@ -34,7 +35,11 @@ swapped false false e = absurd (cc)
 order : (k m : ℕ) → (k < m) ⊎ ((m < k) ⊎ (k ≡ m))
 order k m = grind arith
 
-at_strip : (ts : List Triangle) (height : ℕ) (before es : List Entry) (ps : List (ℕ × ℕ)) → HasEntries ts height before → IsPermutation before es → ((k m : ℕ) → k < m → Joins ts es ps k m) → (i j : ℕ) (n : IsNear ts i j) (s : ℕ) → (span_of n.t).bottom / height ≤ s → s ≤ (span_of n.t).top / height → (span_of n.u).bottom / height ≤ s → s ≤ (span_of n.u).top / height → (nat_eq s ((span_of n.t).bottom / height) || nat_eq s ((span_of n.u).bottom / height)) ≡ true → Contains ps (i, j)
+at_strip : (ts : List Triangle) (height : ℕ) (before es : List Entry) (ps : List (ℕ × ℕ)) → HasEntries ts height before
+    → IsPermutation before es → ((k m : ℕ) → k < m → Joins ts es ps k m) → (i j : ℕ) (n : IsNear ts i j) (s : ℕ)
+    → (span_of n.t).bottom / height ≤ s → s ≤ (span_of n.t).top / height → (span_of n.u).bottom / height ≤ s
+    → s ≤ (span_of n.u).top / height
+    → (nat_eq s ((span_of n.t).bottom / height) || nat_eq s ((span_of n.u).bottom / height)) ≡ true → Contains ps (i, j)
 at_strip ts height before es ps has moved join i j n s p q v w o = by_case (order x.0 y.0)
   where
     m : Meet n.t n.u
@@ -51,7 +56,8 @@ at_strip ts height before es ps has moved join i j n s p q v w o = by_case (orde
 
     by_case : (x.0 < y.0) ⊎ ((y.0 < x.0) ⊎ (x.0 ≡ y.0)) → Contains ps (i, j)
     by_case (inl l) = (join x.0 y.0 l (entry height n.t i s) (entry height n.u j s) x.1 y.1 refl m.right o).0 n
-    by_case (inr (inl l)) = (join y.0 x.0 l (entry height n.u j s) (entry height n.t i s) y.1 x.1 refl m.left (swapped (nat_eq s ((span_of n.t).bottom / height)) (nat_eq s ((span_of n.u).bottom / height)) o)).1 n
+    by_case (inr (inl l)) = (join y.0 x.0 l (entry height n.u j s) (entry height n.t i s) y.1 x.1 refl m.left
+        (swapped (nat_eq s ((span_of n.t).bottom / height)) (nat_eq s ((span_of n.u).bottom / height)) o)).1 n
     by_case (inr (inr e)) =
         let g : slice_get es y.0 ≡ Some (entry height n.t i s) = subst (λ (k : ℕ). slice_get es k ≡ Some (entry height n.t i s)) e x.1 in
         let f : Some (entry height n.t i s) ≡ Some (entry height n.u j s) = sym g ∙ y.1 in
@@ -64,7 +70,9 @@ itself a b = grind (arith, nat_tests)
 itself_first : (a b : ℕ) → (nat_eq a a || nat_eq a b) ≡ true
 itself_first a b = grind (arith, nat_tests)
 
-pub finds : (ts : List Triangle) (height : ℕ) (before es : List Entry) (ps : List (ℕ × ℕ)) → 0 < height → HasEntries ts height before → IsPermutation before es → ((k m : ℕ) → k < m → Joins ts es ps k m) → (i j : ℕ) → IsNear ts i j → Contains ps (i, j)
+pub finds : (ts : List Triangle) (height : ℕ) (before es : List Entry) (ps : List (ℕ × ℕ)) → 0 < height
+    → HasEntries ts height before → IsPermutation before es → ((k m : ℕ) → k < m → Joins ts es ps k m) → (i j : ℕ)
+    → IsNear ts i j → Contains ps (i, j)
 finds ts height before es ps h has moved join i j n = by_case (split ((span_of n.t).bottom / height) ((span_of n.u).bottom / height))
   where
     split : (x y : ℕ) → (x ≤ y) ⊎ (y ≤ x)
@@ -77,11 +85,21 @@ finds ts height before es ps h has moved join i j n = by_case (split ((span_of n
     equal x = omega arith
 
     by_case : ((span_of n.t).bottom / height ≤ (span_of n.u).bottom / height) ⊎ ((span_of n.u).bottom / height ≤ (span_of n.t).bottom / height) → Contains ps (i, j)
-    by_case (inl l) = at_strip ts height before es ps has moved join i j n ((span_of n.u).bottom / height) l (strips_rise height (span_of n.u).bottom (span_of n.t).top h (upto (span_of n.u).bottom (span_of n.t).top (meet n.t n.u n.near).top)) (equal ((span_of n.u).bottom / height)) (strips_rise height (span_of n.u).bottom (span_of n.u).top h (upright n.u)) (itself ((span_of n.t).bottom / height) ((span_of n.u).bottom / height))
-    by_case (inr l) = at_strip ts height before es ps has moved join i j n ((span_of n.t).bottom / height) (equal ((span_of n.t).bottom / height)) (strips_rise height (span_of n.t).bottom (span_of n.t).top h (upright n.t)) l (strips_rise height (span_of n.t).bottom (span_of n.u).top h (upto (span_of n.t).bottom (span_of n.u).top (meet n.t n.u n.near).bottom)) (itself_first ((span_of n.t).bottom / height) ((span_of n.u).bottom / height))
+    by_case (inl l) = at_strip ts height before es ps has moved join i j n ((span_of n.u).bottom / height) l
+        (strips_rise height (span_of n.u).bottom (span_of n.t).top h
+        (upto (span_of n.u).bottom (span_of n.t).top (meet n.t n.u n.near).top)) (equal ((span_of n.u).bottom / height))
+        (strips_rise height (span_of n.u).bottom (span_of n.u).top h (upright n.u))
+        (itself ((span_of n.t).bottom / height) ((span_of n.u).bottom / height))
+    by_case (inr l) = at_strip ts height before es ps has moved join i j n ((span_of n.t).bottom / height)
+        (equal ((span_of n.t).bottom / height)) (strips_rise height (span_of n.t).bottom (span_of n.t).top h
+        (upright n.t)) l (strips_rise height (span_of n.t).bottom (span_of n.u).top h
+        (upto (span_of n.t).bottom (span_of n.u).top (meet n.t n.u n.near).bottom))
+        (itself_first ((span_of n.t).bottom / height) ((span_of n.u).bottom / height))
 
 -- the whole list, in order
-pub near_list : (ts : List Triangle) (ps qs : List (ℕ × ℕ)) → AreNear ts ps → ((i j : ℕ) → IsNear ts i j → Contains ps (i, j)) → IsRising qs → ((p : ℕ × ℕ) → (Contains qs p → Contains ps p) × (Contains ps p → Contains qs p)) → IsNearList ts qs
+pub near_list : (ts : List Triangle) (ps qs : List (ℕ × ℕ)) → AreNear ts ps
+    → ((i j : ℕ) → IsNear ts i j → Contains ps (i, j)) → IsRising qs
+    → ((p : ℕ × ℕ) → (Contains qs p → Contains ps p) × (Contains ps p → Contains qs p)) → IsNearList ts qs
 near_list ts ps qs near all rising same = record {
   ascending = rising;
   near = λ k p f. All-contains (λ (q : ℕ × ℕ). IsNear ts q.0 q.1) ps p near ((same p).0 (k, slice_get_within qs k p f, get_or_from_slice_get qs k p p f));

@@ -32,7 +32,9 @@ nothing_joined ts es ps at = record {
     none k l m = omega arith
 
 -- the entry m is joined, where it has to be
-pub joined_next : (ts : List Triangle) (es : List Entry) (old ps qs : List (ℕ × ℕ)) (at m : ℕ) → JoinsUpTo ts es old ps at m → Keeps ps qs → (AreNear ts ps → AreNear ts qs) → Joins ts es qs at m → JoinsUpTo ts es old qs at (m + 1)
+pub joined_next : (ts : List Triangle) (es : List Entry) (old ps qs : List (ℕ × ℕ)) (at m : ℕ)
+    → JoinsUpTo ts es old ps at m → Keeps ps qs → (AreNear ts ps → AreNear ts qs) → Joins ts es qs at m
+    → JoinsUpTo ts es old qs at (m + 1)
 joined_next ts es old ps qs at m h k n j = record {
   kept = λ p c. k p (h.kept p c);
   near = λ a. n (h.near a);
@@ -47,16 +49,26 @@ joined_next ts es old ps qs at m h k n j = record {
     by_case i l (inr e) = subst (λ (v : ℕ). Joins ts es qs at v) (sym e) j
 
 -- the two entries, as the code reads them
-pub joins_read : (ts : List Triangle) (es : List Entry) (qs : List (ℕ × ℕ)) (at m : ℕ) (e f : Entry) → slice_get es at ≡ Some e → slice_get es m ≡ Some f → (e.strip ≡ f.strip → f.left < e.right → (e.starts || f.starts) ≡ true → (IsNear ts e.index f.index → Contains qs (e.index, f.index)) × (IsNear ts f.index e.index → Contains qs (f.index, e.index))) → Joins ts es qs at m
+pub joins_read : (ts : List Triangle) (es : List Entry) (qs : List (ℕ × ℕ)) (at m : ℕ) (e f : Entry)
+    → slice_get es at ≡ Some e → slice_get es m ≡ Some f
+    → (e.strip ≡ f.strip → f.left < e.right → (e.starts || f.starts) ≡ true
+    → (IsNear ts e.index f.index → Contains qs (e.index, f.index))
+    × (IsNear ts f.index e.index → Contains qs (f.index, e.index))) → Joins ts es qs at m
 joins_read ts es qs at m e f g h j = λ e' f' g' h'.
     let a : Some e ≡ Some e' = sym g ∙ g' in
     let b : Some f ≡ Some f' = sym h ∙ h' in
     let p : e ≡ e' = cc in
     let q : f ≡ f' = cc in
-    subst (λ (x : Entry). x.strip ≡ f'.strip → f'.left < x.right → (x.starts || f'.starts) ≡ true → (IsNear ts x.index f'.index → Contains qs (x.index, f'.index)) × (IsNear ts f'.index x.index → Contains qs (f'.index, x.index))) p
-    (subst (λ (y : Entry). e.strip ≡ y.strip → y.left < e.right → (e.starts || y.starts) ≡ true → (IsNear ts e.index y.index → Contains qs (e.index, y.index)) × (IsNear ts y.index e.index → Contains qs (y.index, e.index))) q j)
+    subst (λ (x : Entry). x.strip ≡ f'.strip → f'.left < x.right → (x.starts || f'.starts) ≡ true
+    → (IsNear ts x.index f'.index → Contains qs (x.index, f'.index))
+    × (IsNear ts f'.index x.index → Contains qs (f'.index, x.index))) p
+    (subst (λ (y : Entry). e.strip ≡ y.strip → y.left < e.right → (e.starts || y.starts) ≡ true
+    → (IsNear ts e.index y.index → Contains qs (e.index, y.index))
+    × (IsNear ts y.index e.index → Contains qs (y.index, e.index))) q j)
 
-not_met : (e f e' f' : Entry) → (e.strip ≡ f.strip → f.left < e.right → ⊥) → (e.strip < f.strip) ⊎ ((e.strip ≡ f.strip) × (e.left ≤ f.left)) → (f.strip < f'.strip) ⊎ ((f.strip ≡ f'.strip) × (f.left ≤ f'.left)) → e ≡ e' → e'.strip ≡ f'.strip → f'.left < e'.right → ⊥
+not_met : (e f e' f' : Entry) → (e.strip ≡ f.strip → f.left < e.right → ⊥) → (e.strip < f.strip)
+    ⊎ ((e.strip ≡ f.strip) × (e.left ≤ f.left)) → (f.strip < f'.strip) ⊎ ((f.strip ≡ f'.strip) × (f.left ≤ f'.left))
+    → e ≡ e' → e'.strip ≡ f'.strip → f'.left < e'.right → ⊥
 not_met e f e' f' stop l m o s r =
     let p : e.strip ≡ e'.strip = ap (λ (x : Entry). x.strip) o in
     let q : e.right ≡ e'.right = ap (λ (x : Entry). x.right) o in
@@ -69,7 +81,9 @@ not_met e f e' f' stop l m o s r =
     two s t a b s' b' u v w l m p q e r = grind arith
 
 -- where the entry m is in another strip, or begins where the entry `at` has ended, so does each behind it
-pub none_behind : (ts : List Triangle) (es : List Entry) (qs : List (ℕ × ℕ)) (at m k : ℕ) (e f : Entry) → AreInOrder es → at < m → m ≤ k → slice_get es at ≡ Some e → slice_get es m ≡ Some f → (e.strip ≡ f.strip → f.left < e.right → ⊥) → Joins ts es qs at k
+pub none_behind : (ts : List Triangle) (es : List Entry) (qs : List (ℕ × ℕ)) (at m k : ℕ) (e f : Entry) → AreInOrder es
+    → at < m → m ≤ k → slice_get es at ≡ Some e → slice_get es m ≡ Some f → (e.strip ≡ f.strip → f.left < e.right → ⊥)
+    → Joins ts es qs at k
 none_behind ts es qs at m k e f order l r g h stop = λ e' f' g' h' i j o. absurd (by_case e' f' g' h' i j (split r))
   where
     split : m ≤ k → (m < k) ⊎ (k ≡ m)
@@ -85,10 +99,14 @@ none_behind ts es qs at m k e f order l r g h stop = λ e' f' g' h' i j o. absur
         let p : e ≡ e' = cc in
         let b : Some f ≡ Some f' = sym h ∙ (subst (λ (v : ℕ). slice_get es v ≡ Some f') s h') in
         let q : f ≡ f' = cc in
-        stop (ap (λ (x : Entry). x.strip) p ∙ i ∙ sym (ap (λ (x : Entry). x.strip) q)) (subst (λ (v : ℕ). v < e.right) (sym (ap (λ (x : Entry). x.left) q)) (subst (λ (v : ℕ). f'.left < v) (sym (ap (λ (x : Entry). x.right) p)) j))
+        stop (ap (λ (x : Entry). x.strip) p ∙ i ∙ sym (ap (λ (x : Entry). x.strip) q))
+        (subst (λ (v : ℕ). v < e.right) (sym (ap (λ (x : Entry). x.left) q))
+        (subst (λ (v : ℕ). f'.left < v) (sym (ap (λ (x : Entry). x.right) p)) j))
 
 -- the walk ends at m, as nothing behind is met
-pub found_all : (ts : List Triangle) (es : List Entry) (old qs : List (ℕ × ℕ)) (at m : ℕ) (e f : Entry) → AreInOrder es → at < m → slice_get es at ≡ Some e → slice_get es m ≡ Some f → (e.strip ≡ f.strip → f.left < e.right → ⊥) → JoinsUpTo ts es old qs at m → (k : ℕ) → at < k → Joins ts es qs at k
+pub found_all : (ts : List Triangle) (es : List Entry) (old qs : List (ℕ × ℕ)) (at m : ℕ) (e f : Entry) → AreInOrder es
+    → at < m → slice_get es at ≡ Some e → slice_get es m ≡ Some f → (e.strip ≡ f.strip → f.left < e.right → ⊥)
+    → JoinsUpTo ts es old qs at m → (k : ℕ) → at < k → Joins ts es qs at k
 found_all ts es old qs at m e f order l g h stop j k r = by_case (split k)
   where
     split : (i : ℕ) → (i < m) ⊎ (m ≤ i)
@@ -116,7 +134,9 @@ joins_none ts es ps e = record {
   found = λ k m l. absurd (omega arith);
 }
 
-pub joins_one_more : (ts : List Triangle) (es : List Entry) (ps qs : List (ℕ × ℕ)) (n : ℕ) → JoinsBelow ts es ps n → Keeps ps qs → (AreNear ts ps → AreNear ts qs) → ((m : ℕ) → n < m → Joins ts es qs n m) → JoinsBelow ts es qs (n + 1)
+pub joins_one_more : (ts : List Triangle) (es : List Entry) (ps qs : List (ℕ × ℕ)) (n : ℕ) → JoinsBelow ts es ps n
+    → Keeps ps qs → (AreNear ts ps → AreNear ts qs) → ((m : ℕ) → n < m → Joins ts es qs n m)
+    → JoinsBelow ts es qs (n + 1)
 joins_one_more ts es ps qs n h k a j = record {
   near = a h.near;
   found = λ i m l r. by_case i m r (split i l);

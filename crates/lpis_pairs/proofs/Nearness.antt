@@ -23,7 +23,8 @@ not_near ts i j t u l m e f n h =
     cc
 
 -- what the test answers, where i is below j
-pub decided : (ts : List Triangle) (i j : ℕ) (t u : Triangle) (r : Bool) → r ≡ not (are_apart t u) → i < j → j < length ts → t ≡ get_or ts i t → u ≡ get_or ts j u → (IsTrue r → IsNear ts i j) × (IsNear ts i j → IsTrue r)
+pub decided : (ts : List Triangle) (i j : ℕ) (t u : Triangle) (r : Bool) → r ≡ not (are_apart t u) → i < j
+    → j < length ts → t ≡ get_or ts i t → u ≡ get_or ts j u → (IsTrue r → IsNear ts i j) × (IsNear ts i j → IsTrue r)
 decided ts i j t u r e l m f g = (λ h. near ts i j t u l m f g (opposite (are_apart t u) (sym e ∙ h)), λ n. by_case r refl n)
   where
     opposite : (b : Bool) → not b ≡ true → b ≡ false

@@ -22,6 +22,7 @@ IsBelow i j i' j' = (i < i') ⊎ ((i ≡ i') × (j < j'))
 
 -- the list of all such pairs, and nothing else, ascending
 pub record IsNearList (ts : List Triangle) (ps : List (ℕ × ℕ)) : Type 0 where
-  pub ascending : (k m : ℕ) (p q : ℕ × ℕ) → k < m → slice_get ps k ≡ Some p → slice_get ps m ≡ Some q → IsBelow p.0 p.1 q.0 q.1
+  pub ascending : (k m : ℕ) (p q : ℕ × ℕ) → k < m → slice_get ps k ≡ Some p
+      → slice_get ps m ≡ Some q → IsBelow p.0 p.1 q.0 q.1
   pub near : (k : ℕ) (p : ℕ × ℕ) → slice_get ps k ≡ Some p → IsNear ts p.0 p.1
   pub all : (i j : ℕ) → IsNear ts i j → (k : ℕ) × (slice_get ps k ≡ Some (i, j))

@@ -8,7 +8,8 @@ use crate::source::PairSource;
 use lpis_points::Triangle;
 use std::alloc::{AllocError, Global};
 
-/// Compares every two triangles: the definition, as a program. Its time grows as the square of the number of triangles.
+/// Compares every two triangles: the definition, as a program. Its time grows as the square of the
+/// number of triangles.
 #[derive(Clone, Copy, Debug)]
 pub struct AllPairs;
 
@@ -21,7 +22,8 @@ fn push_if_near(
 ) -> Result<(), AllocError>
     requires first { i < length triangles.now }
     requires second { j < length triangles.now }
-    ensures { OnOk result ((IsNear triangles.now i j × (pairs.new.items ≡ pairs.old.items ++ (i, j) ∷ []))
+    ensures { OnOk result
+        ((IsNear triangles.now i j × (pairs.new.items ≡ pairs.old.items ++ (i, j) ∷ []))
         ⊎ ((IsNear triangles.now i j → ⊥) × (pairs.new.items ≡ pairs.old.items))) }
 {
     if is_near(triangles, i, j) {

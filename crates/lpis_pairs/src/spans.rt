@@ -36,7 +36,8 @@ pub fn span_of(triangle: &Triangle) -> Span
     }
 }
 
-/// The height of a strip: more than the mean height of a box, so that there are fewer than three entries a triangle.
+/// The height of a strip: more than the mean height of a box, so that there are fewer than three
+/// entries a triangle.
 pub fn strip_height(triangles: &[Triangle]) -> u64
     ensures { 0 < result }
 {

@@ -12,9 +12,10 @@ use crate::spans::strip_height;
 use lpis_points::Triangle;
 use std::alloc::{AllocError, Global};
 
-/// Sweeps over the boxes strip by strip: horizontal strips a little higher than the mean box, and in each strip the boxes that meet it by
-/// their least x. A box is compared only with those that begin in its x range, in a strip that both meet. With N triangles there are fewer
-/// than 3 N entries; the time is of sorting these and the pairs, and of the boxes compared.
+/// Sweeps over the boxes strip by strip: horizontal strips a little higher than the mean box, and
+/// in each strip the boxes that meet it by their least x. A box is compared only with those that
+/// begin in its x range, in a strip that both meet. With N triangles there are fewer than 3 N
+/// entries; the time is of sorting these and the pairs, and of the boxes compared.
 #[derive(Clone, Copy, Debug)]
 pub struct Sweep;
 
@@ -42,7 +43,8 @@ fn push_near(
 
 /// Whether the second entry stands in the strip of the first, and begins before that ends.
 fn is_met(first: &Entry, second: &Entry) -> bool
-    ensures { IsTrue result ↔ ((first.now.strip ≡ second.now.strip) × (second.now.left < first.now.right)) }
+    ensures { IsTrue result
+        ↔ ((first.now.strip ≡ second.now.strip) × (second.now.left < first.now.right)) }
 {
     first.strip == second.strip && second.left < first.right
 }
@@ -54,7 +56,8 @@ fn one_starts(first: &Entry, second: &Entry) -> bool
     first.starts || second.starts
 }
 
-/// Adds the near pairs of an entry and those behind it in its strip, up to the first that begins where its box has ended.
+/// Adds the near pairs of an entry and those behind it in its strip, up to the first that begins
+/// where its box has ended.
 fn join_ahead(
     triangles: &[Triangle],
     entries: &[Entry],
@@ -90,7 +93,8 @@ fn join(
     requires entries { AreEntries triangles.now entries.now }
     requires order { AreInOrder entries.now }
     ensures near { IfOk result (λ pairs. AreNear triangles.now pairs.items) }
-    ensures found { IfOk result (λ pairs. (k m : ℕ) → k < m → Joins triangles.now entries.now pairs.items k m) }
+    ensures found { IfOk result (λ pairs. (k m : ℕ) → k < m → Joins triangles.now entries.now pairs.items k
+        m) }
 {
     let mut pairs = Vec::new(alloc);
     for at in 0..entries.len() {

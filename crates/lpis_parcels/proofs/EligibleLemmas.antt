@@ -36,14 +36,17 @@ eligible-start c id places e =
 next-places : (places : List ℕ) (i place : ℕ) → i < length places → place ≡ get_or places i place → drop i places ≡ place ∷ drop (i + 1) places
 next-places places i place lt e = drop-at places i place (slice_get_read places _ i place refl lt e)
 
-part-added : (b : Bool) (sum area part : ℤ) (x : Piece) (rest : List Piece) → area ≡ area2 x.polygon → part ≡ cond b area (pos 0) → (sum +ℤ part) +ℤ areas2 rest ≡ sum +ℤ areas2 (cond b (x ∷ rest) rest)
+part-added : (b : Bool) (sum area part : ℤ) (x : Piece) (rest : List Piece) → area ≡ area2 x.polygon
+    → part ≡ cond b area (pos 0) → (sum +ℤ part) +ℤ areas2 rest ≡ sum +ℤ areas2 (cond b (x ∷ rest) rest)
 part-added true sum area part x rest a p = rw (p, a) (add-assoc sum (area2 x.polygon) (areas2 rest))
 part-added false sum area part x rest a p = rw p (ap (λ (z : ℤ). z +ℤ areas2 rest) (add-zero sum))
 
 pub eligible-added : (c : Contents) (places : List ℕ) (i place : ℕ) (piece : Piece) (sum part whole : ℤ) → i < length places → place ≡ get_or places i place → slice_get c.pieces place ≡ Some piece
     → part ≡ cond (is_eligible c.classes piece) (area2 piece.polygon) (pos 0) → sum +ℤ eligible_at c (drop i places) ≡ whole → (sum +ℤ part) +ℤ eligible_at c (drop (i + 1) places) ≡ whole
 eligible-added c places i place piece sum part whole lt e at is h =
-    part-added (is_eligible c.classes piece) sum (area2 piece.polygon) part piece (filter (is_eligible c.classes) (at_places c.pieces (drop (i + 1) places))) refl is ∙ (rw (next-places places i place lt e, at) at h)
+    part-added (is_eligible c.classes piece) sum (area2 piece.polygon) part piece
+    (filter (is_eligible c.classes) (at_places c.pieces (drop (i + 1) places))) refl is
+    ∙ (rw (next-places places i place lt e, at) at h)
 
 pub eligible-end : (c : Contents) (places : List ℕ) (i : ℕ) (sum whole : ℤ) → length places ≤ i → sum +ℤ eligible_at c (drop i places) ≡ whole → sum ≡ whole
 eligible-end c places i sum whole past h = sym (add-zero sum) ∙ (rw (drop_all i places past) at h)

@@ -1,5 +1,6 @@
 -- The joins, a row at a time.
-use Rattle.std.proofs.Common.{◌≡◌, ◌<◌, ◌+◌, ◌++◌, ◌∷◌, [], ℕ, zero, suc, List, length, map, take, drop, get_or, set, replicate, Bool, true, false, not, cond, Option, Some, None, Ok, Err, refl, sym, ap, ◌∙◌, arith}
+use Rattle.std.proofs.Common.{◌≡◌, ◌<◌, ◌+◌, ◌++◌, ◌∷◌, [], ℕ, zero, suc, List, length, map, take, drop, get_or, set, replicate, Bool, true, false, not, cond, Option, Some, None, Ok, Err, refl, sym}
+use Rattle.std.proofs.Common.{ap, ◌∙◌, arith}
 use Rattle.std.specs.Prelude.{◌||◌, is_some, slice_get}
 use Rattle.std.specs.List.{IsDistinct, list_any, AllByRecursion}
 use Rattle.std.proofs.lemmas.List.{map-append}
@@ -191,7 +192,9 @@ nil-places test i (x ∷ xs) = by (test x) (places_where test (i + 1) xs) (list_
 pub empty-groups : (pieces : List Piece) (n : ℕ) (parcels : List Parcel) → empty_faults n (map (λ (p : Parcel). places_where (names p.id) 0 pieces) parcels) ≡ parcel_faults pieces n parcels
 empty-groups pieces n [] = refl
 empty-groups pieces n (p ∷ ps) =
-    ap (λ (b : Bool). fault_if b (fault_at ParcelWithoutPieces table.Parcels n) ++ empty_faults (n + 1) (map (λ (p : Parcel). places_where (names p.id) 0 pieces) ps)) (nil-places (names p.id) 0 pieces)
+    ap (λ (b : Bool). fault_if b (fault_at ParcelWithoutPieces table.Parcels n)
+    ++ empty_faults (n + 1) (map (λ (p : Parcel). places_where (names p.id) 0 pieces) ps))
+    (nil-places (names p.id) 0 pieces)
     ∙ ap (λ (fs : List TableFault). fault_if (not (list_any (names p.id) pieces)) (fault_at ParcelWithoutPieces table.Parcels n) ++ fs) (empty-groups pieces (n + 1) ps)
 
 -- an item of lists, and a list changed in its place

@@ -89,7 +89,8 @@ stranger-none parcels classes n i (p ∷ ps) id h s =
     by true e k = absurd (let same : id ≡ p.parcel = (bytes_eq-Decides id p.parcel).0 e in let there : has_id (parcel_ids parcels) id ≡ true = rw same k in cc)
     by false e k = e
 
-pub first-faults : (parcels : List Parcel) (classes : List Class) (pieces : List Piece) (others : List TableFault) → piece_faults parcels classes 1 pieces ++ others ≡ [] → piece_faults parcels classes 1 pieces ≡ []
+pub first-faults : (parcels : List Parcel) (classes : List Class) (pieces : List Piece) (others : List TableFault)
+    → piece_faults parcels classes 1 pieces ++ others ≡ [] → piece_faults parcels classes 1 pieces ≡ []
 first-faults parcels classes pieces others h = none-left _ others h
 
 -- the class of the piece at a place

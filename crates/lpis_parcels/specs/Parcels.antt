@@ -7,11 +7,17 @@ use Rattle.lpis_covers.specs.Table.{Record, field_of}
 use Rattle.lpis_parcels.specs.declared.parcel.Parcel.{Parcel}
 
 abbrev pub parcel_faults : List (List ℕ) → ℕ → Record → List TableFault
-parcel_faults keys n row = key_faults table.Parcels n keys (field_of row 0) ++ polygon_faults table.Parcels n (field_of row 1)
+parcel_faults keys n row = key_faults table.Parcels n keys (field_of row 0)
+    ++ polygon_faults table.Parcels n (field_of row 1)
 
 abbrev pub parcel_of : Record → Parcel
 parcel_of row = record { id = field_of row 0; polygon = polygon_in (field_of row 1) }
 
 -- a row is a parcel: its identifier and its land
 abbrev pub parcels_table : RowsOf Parcel
-parcels_table = record { table = table.Parcels; columns = codes "parcel" ∷ codes "wkt" ∷ []; faults = parcel_faults; value = parcel_of }
+parcels_table = record {
+  table = table.Parcels;
+  columns = codes "parcel" ∷ codes "wkt" ∷ [];
+  faults = parcel_faults;
+  value = parcel_of;
+}

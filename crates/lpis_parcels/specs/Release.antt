@@ -4,7 +4,8 @@ use Rattle.std.specs.List.{list_any}
 use Rattle.lpis_covers.specs.declared.class.Class.{Class}
 use Rattle.lpis_covers.specs.declared.piece.Piece.{Piece}
 use Rattle.lpis_covers.specs.declared.fault.Table.TheVariants as table
-use Rattle.lpis_covers.specs.declared.fault.TableCode.TheVariants.{UnknownParcel, UnknownClass, ParcelWithoutPieces}
+use Rattle.lpis_covers.specs.declared.fault.TableCode.TheVariants.{UnknownParcel, UnknownClass}
+use Rattle.lpis_covers.specs.declared.fault.TableCode.TheVariants.{ParcelWithoutPieces}
 use Rattle.lpis_covers.specs.declared.fault.TableFault.{TableFault}
 use Rattle.lpis_covers.specs.Classes.{classes_table}
 use Rattle.lpis_covers.specs.Covers.{covers_table}
@@ -32,12 +33,16 @@ class_codes classes = map (λ (k : Class). k.code) classes
 -- the piece in this row of the covers table is of a parcel, and then of a class, that is not there
 abbrev pub unknown_faults : List Parcel → List Class → ℕ → Piece → List TableFault
 unknown_faults parcels classes n piece =
-    fault_if (not (has_id (parcel_ids parcels) piece.parcel)) (fault_at UnknownParcel table.Covers n) ++ fault_if (not (has_id (class_codes classes) piece.class)) (fault_at UnknownClass table.Covers n)
+    fault_if (not (has_id (parcel_ids parcels) piece.parcel))
+    (fault_at UnknownParcel table.Covers n)
+    ++ fault_if (not (has_id (class_codes classes) piece.class))
+    (fault_at UnknownClass table.Covers n)
 
 -- the same of pieces, row by row from this one on
 abbrev pub piece_faults : List Parcel → List Class → ℕ → List Piece → List TableFault
 piece_faults parcels classes n [] = []
-piece_faults parcels classes n (p ∷ ps) = unknown_faults parcels classes n p ++ piece_faults parcels classes (n + 1) ps
+piece_faults parcels classes n (p ∷ ps) = unknown_faults parcels classes n p
+    ++ piece_faults parcels classes (n + 1) ps
 
 -- a piece names the parcel of this identifier
 abbrev pub names : List ℕ → Piece → Bool
@@ -47,7 +52,8 @@ names id piece = same_id id piece.parcel
 abbrev pub parcel_faults : List Piece → ℕ → List Parcel → List TableFault
 parcel_faults pieces n [] = []
 parcel_faults pieces n (p ∷ ps) =
-    fault_if (not (list_any (names p.id) pieces)) (fault_at ParcelWithoutPieces table.Parcels n) ++ parcel_faults pieces (n + 1) ps
+    fault_if (not (list_any (names p.id) pieces)) (fault_at ParcelWithoutPieces table.Parcels n)
+    ++ parcel_faults pieces (n + 1) ps
 
 -- the faults of the joins: those of each piece in order, then those of each parcel
 abbrev pub join_faults : Contents → List TableFault
@@ -56,14 +62,19 @@ join_faults c = piece_faults c.parcels c.classes 1 c.pieces ++ parcel_faults c.p
 abbrev pub joined : Contents → Result Contents TableFault
 joined c = told (join_faults c) c
 
-abbrev pub then_read : {A B : Type 0} → Result A TableFault → (A → Result B TableFault) → Result B TableFault
+abbrev pub then_read : {A B : Type 0} → Result A TableFault → (A → Result B TableFault)
+    → Result B TableFault
 then_read (Ok x) next = next x
 then_read (Err fault) next = Err fault
 
--- the release of the three texts, or its first fault: the whole parcels table, the covers, the classes, then the joins
+-- the release of the three texts, or its first fault: the whole parcels table, the covers, the
+-- classes, then the joins
 abbrev pub release_of : List ℕ → List ℕ → List ℕ → Result Contents TableFault
 release_of parcels covers classes =
-    then_read (rows_of parcels_table parcels) (λ ps. then_read (rows_of covers_table covers) (λ cs. then_read (rows_of classes_table classes) (λ ks. joined (record { parcels = ps; pieces = cs; classes = ks }))))
+    then_read (rows_of parcels_table parcels)
+    (λ ps. then_read (rows_of covers_table covers)
+    (λ cs. then_read (rows_of classes_table classes)
+    (λ ks. joined (record { parcels = ps; pieces = cs; classes = ks }))))
 
 -- the pieces of a parcel, in the order of their table
 abbrev pub pieces_named : Contents → List ℕ → List Piece

@@ -1,6 +1,7 @@
 //! Eligible areas.
 
-ghost use Rattle.std.specs.Prelude.{◌≡◌, ◌≤◌, ◌<◌, Some, if◌then◌else◌, length, pos, slice_get, unsigned_abs};
+ghost use Rattle.std.specs.Prelude.{◌≡◌, ◌≤◌, ◌<◌, Some, if◌then◌else◌, length, pos, slice_get};
+ghost use Rattle.std.specs.Prelude.{unsigned_abs};
 ghost use Rattle.lpis_covers.specs.declared.piece.Piece.{Piece};
 ghost use Rattle.lpis_rings.specs.Area.{area2};
 ghost use Rattle.lpis_rings.specs.AreaBounds.{most_area};
@@ -13,7 +14,8 @@ use lpis_rings::area2;
 /// Twice the area of the piece at a place, where its class is eligible, and else 0.
 fn eligible_part(release: &Release, place: usize) -> i128
     requires { place < length release.now.pieces }
-    ensures value { (piece : Piece) → slice_get release.now.pieces place ≡ Some piece → result ≡ (if is_eligible release.now.classes piece then area2 piece.polygon else pos 0) }
+    ensures value { (piece : Piece) → slice_get release.now.pieces place ≡ Some piece
+        → result ≡ (if is_eligible release.now.classes piece then area2 piece.polygon else pos 0) }
     ensures small { unsigned_abs result ≤ most_area }
 {
     if release.is_eligible(place) {
@@ -23,8 +25,8 @@ fn eligible_part(release: &Release, place: usize) -> i128
     }
 }
 
-/// Twice the eligible area of a parcel in square centimetres: that of its pieces whose class is eligible, added. It is 0 for an
-/// identifier that is no parcel's, and it takes no memory.
+/// Twice the eligible area of a parcel in square centimetres: that of its pieces whose class is
+/// eligible, added. It is 0 for an identifier that is no parcel's, and it takes no memory.
 pub fn eligible2(release: &Release, parcel: &Id) -> i128
     ensures { result ≡ eligible2 release.now parcel.now }
 {

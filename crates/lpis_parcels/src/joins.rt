@@ -1,11 +1,14 @@
 //! The joins of a release's tables.
 
-ghost use Rattle.std.specs.Prelude.{◌≡◌, ◌<◌, ◌≤◌, ◌++◌, ◌∷◌, [], List, ℕ, Some, IfOk, IfErr, OnOk, length, map, replicate, slice_get, slice_index_or, slice_set, vec_len};
+ghost use Rattle.std.specs.Prelude.{◌≡◌, ◌<◌, ◌≤◌, ◌++◌, ◌∷◌, [], Some, IfOk, IfErr, OnOk};
+ghost use Rattle.std.specs.Prelude.{length, replicate, slice_get, slice_index_or, slice_set};
+ghost use Rattle.std.specs.Prelude.{vec_len};
 ghost use Rattle.std.specs.List.{IsDistinct};
 ghost use Rattle.lpis_covers.specs.Faults.{told};
 ghost use Rattle.lpis_covers.specs.Ids.{same_id};
 ghost use Rattle.lpis_covers.specs.Table.{Answers, fault_at, most_rows};
-ghost use Rattle.lpis_parcels.specs.Release.{class_codes, join_faults, parcel_ids, piece_faults, unknown_faults};
+ghost use Rattle.lpis_parcels.specs.Release.{class_codes, join_faults, parcel_ids, piece_faults};
+ghost use Rattle.lpis_parcels.specs.Release.{unknown_faults};
 ghost use Rattle.lpis_parcels.specs.private.Groups.{Refuses, empty_faults};
 ghost use Rattle.lpis_parcels.specs.private.Joined.{AreJoins, group_lists};
 
@@ -67,7 +70,8 @@ fn empty_groups(alloc: Global, count: usize) -> Result<Vec<Vec<usize>>, AllocErr
 /// Adds a place to a group.
 fn add_to_group(groups: &mut Vec<Vec<usize>>, group: usize, place: usize) -> Result<(), AllocError>
     requires { group < vec_len groups.old }
-    ensures { OnOk result (group_lists groups.new.items ≡ slice_set (group_lists groups.old.items) group (slice_index_or (group_lists groups.old.items) group [] ++ place ∷ [])) }
+    ensures { OnOk result (group_lists groups.new.items ≡ slice_set (group_lists groups.old.items) group
+        (slice_index_or (group_lists groups.old.items) group [] ++ place ∷ [])) }
 {
     groups[group].push(place)?;
     Ok(())
@@ -82,7 +86,8 @@ fn join_pieces(
 ) -> Result<Joins, TableFault>
     requires { IsDistinct same_id (class_codes classes.now) }
     ensures none { IfOk result (λ _. piece_faults parcels.now classes.now 1 pieces.now ≡ []) }
-    ensures joins { IfOk result (λ j. AreJoins parcels.now pieces.now classes.now (group_lists j.groups.items) j.classes.items) }
+    ensures joins { IfOk result (λ j. AreJoins parcels.now pieces.now classes.now (group_lists j.groups.items)
+        j.classes.items) }
     ensures err { IfErr result (Refuses (piece_faults parcels.now classes.now 1 pieces.now)) }
 {
     let mut groups = empty_groups(alloc, parcels.as_slice().len())?;
@@ -118,9 +123,15 @@ pub(crate) fn join(
     pieces: &Pieces,
     classes: &Classes,
 ) -> Result<Joins, TableFault>
-    ensures joins { IfOk result (λ j. AreJoins parcels.now pieces.now classes.now (group_lists j.groups.items) j.classes.items) }
-    ensures none { IfOk result (λ _. join_faults (record { parcels = parcels.now; pieces = pieces.now; classes = classes.now }) ≡ []) }
-    ensures err { IfErr result (Refuses (join_faults (record { parcels = parcels.now; pieces = pieces.now; classes = classes.now }))) }
+    ensures joins { IfOk result (λ j. AreJoins parcels.now pieces.now classes.now (group_lists j.groups.items)
+        j.classes.items) }
+    ensures none { IfOk result
+        (λ _. join_faults
+        (record { parcels = parcels.now; pieces = pieces.now; classes = classes.now }) ≡ []) }
+    ensures err { IfErr result
+        (Refuses
+        (join_faults
+        (record { parcels = parcels.now; pieces = pieces.now; classes = classes.now }))) }
 {
     // No two classes have one code, and the parcels are not too many.
     let _ = classes.as_slice();

@@ -8,7 +8,8 @@ use crate::release::Release;
 use lpis_covers::{Id, Piece};
 use std::marker::Model;
 
-/// The pieces of one parcel in the order of their table. It takes no memory. Contracts see the list of those that are left.
+/// The pieces of one parcel in the order of their table. It takes no memory. Contracts see the list
+/// of those that are left.
 #[derive(Drop)]
 pub struct PiecesOf<'a> {
     pieces: &'a [Piece],
@@ -50,8 +51,8 @@ impl<'a> Iterator for PiecesOf<'a> {
     }
 }
 
-/// The pieces of this parcel in the order of their table; none for an identifier that is no parcel's. The time of going over
-/// them is that of their number.
+/// The pieces of this parcel in the order of their table; none for an identifier that is no
+/// parcel's. The time of going over them is that of their number.
 pub fn pieces_of<'a>(release: &'a Release, parcel: &Id) -> PiecesOf<'a>
     ensures { result ≡ pieces_named release.now parcel.now }
 {

@@ -8,9 +8,10 @@ use crate::release::Release;
 use lpis_covers::{TableFault, read_classes, read_pieces};
 use std::alloc::Global;
 
-/// The release of the texts of its three tables, or its first fault: of the whole parcels table, of the covers, of the classes,
-/// and then of the joins. These are, for each piece in order, that its parcel and then its class is not there, and then, for
-/// each parcel in order, that no piece names it.
+/// The release of the texts of its three tables, or its first fault: of the whole parcels table, of
+/// the covers, of the classes, and then of the joins. These are, for each piece in order, that its
+/// parcel and then its class is not there, and then, for each parcel in order, that no piece names
+/// it.
 pub fn read_release(
     alloc: Global,
     parcels: &[u8],

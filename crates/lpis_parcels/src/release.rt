@@ -4,7 +4,8 @@ ghost use Rattle.std.specs.Prelude.{◌≡◌, ◌≤◌, ◌<◌, [], All, Some
 ghost use Rattle.std.specs.List.{IsDistinct};
 ghost use Rattle.lpis_covers.specs.Ids.{same_id};
 ghost use Rattle.lpis_covers.specs.Table.{Answers, most_rows};
-ghost use Rattle.lpis_parcels.specs.Release.{class_codes, join_faults, joined, names, parcel_ids, piece_ids};
+ghost use Rattle.lpis_parcels.specs.Release.{class_codes, join_faults, joined, names, parcel_ids};
+ghost use Rattle.lpis_parcels.specs.Release.{piece_ids};
 
 use crate::joins::{Joins, join};
 use crate::parcel::{Parcel, Parcels};
@@ -12,8 +13,9 @@ use lpis_covers::{Class, Classes, Id, Piece, Pieces, TableFault};
 use std::alloc::Global;
 use std::marker::Model;
 
-/// Parcels, pieces of land cover and classes, each in the order of its table and without two of one identifier. Each piece's
-/// parcel and class are there, and each parcel has a piece. Contracts see the three lists.
+/// Parcels, pieces of land cover and classes, each in the order of its table and without two of one
+/// identifier. Each piece's parcel and class are there, and each parcel has a piece. Contracts see
+/// the three lists.
 #[derive(Drop)]
 pub struct Release {
     parcels: Parcels,
@@ -30,7 +32,8 @@ impl Model for Release {
 
     ghost view = { λ r. record { parcels = r.parcels; pieces = r.pieces; classes = r.classes } };
 
-    ghost invariant = { λ r. IsRelease (record { parcels = r.parcels; pieces = r.pieces; classes = r.classes }) (group_lists r.joins.groups.items) r.joins.classes.items };
+    ghost invariant = { λ r. IsRelease (record { parcels = r.parcels; pieces = r.pieces; classes = r.classes })
+        (group_lists r.joins.groups.items) r.joins.classes.items };
 }
 
 impl Release {
@@ -45,7 +48,8 @@ impl Release {
         pieces: Pieces,
         classes: Classes,
     ) -> Result<Release, TableFault>
-        ensures { Answers result (joined (record { parcels = parcels; pieces = pieces; classes = classes })) }
+        ensures { Answers result
+            (joined (record { parcels = parcels; pieces = pieces; classes = classes })) }
     {
         let joins = join(alloc, &parcels, &pieces, &classes)?;
         Ok(Release {
@@ -101,7 +105,8 @@ impl Release {
     /// Whether the class of the piece at a place is eligible.
     pub(crate) fn is_eligible(&self, place: usize) -> bool
         requires { place < length self.now.pieces }
-        ensures { (piece : Piece) → slice_get self.now.pieces place ≡ Some piece → result ≡ is_eligible self.now.classes piece }
+        ensures { (piece : Piece) → slice_get self.now.pieces place ≡ Some piece
+            → result ≡ is_eligible self.now.classes piece }
     {
         let class = self.joins.classes[place];
         match self.classes.as_slice().get(class) {

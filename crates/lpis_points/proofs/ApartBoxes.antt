@@ -41,7 +41,11 @@ below_greatest o₁ o₂ o₃ x y z m t e w h k l = by_lt_z e (pos 0) (λ n. n) 
 
     full : pos 0 ≤ℤ e → ⊥
     full n =
-        let r = zeros (o₁ *ℤ (x -ℤ m)) (o₂ *ℤ (y -ℤ m)) (o₃ *ℤ (z -ℤ m)) (t *ℤ e) (pos-mul-not_pos o₁ (x -ℤ m) (not_neg o₁ w.p₁) (under x m h)) (pos-mul-not_pos o₂ (y -ℤ m) (not_neg o₂ w.p₂) (under y m k)) (pos-mul-not_pos o₃ (z -ℤ m) (not_neg o₃ w.p₃) (under z m l)) w.sum (pos-mul-not_neg t e (not_neg t w.area) n) in
+        let r = zeros (o₁ *ℤ (x -ℤ m)) (o₂ *ℤ (y -ℤ m)) (o₃ *ℤ (z -ℤ m)) (t *ℤ e)
+        (pos-mul-not_pos o₁ (x -ℤ m) (not_neg o₁ w.p₁) (under x m h))
+        (pos-mul-not_pos o₂ (y -ℤ m) (not_neg o₂ w.p₂) (under y m k))
+        (pos-mul-not_pos o₃ (z -ℤ m) (not_neg o₃ w.p₃) (under z m l)) w.sum
+        (pos-mul-not_neg t e (not_neg t w.area) n) in
         w.spread (same_height x m o₁ h w.p₁ r.0) (same_height y m o₂ k w.p₂ r.1) (same_height z m o₃ l w.p₃ r.2)
 
 -- a triangle whose corners have one x, or one y, is flat
@@ -68,7 +72,8 @@ no_height ax ay bx by_ cx cy m e f g =
 not_zero : (x : ℤ) → pos 0 <ℤ x → x ≡ pos 0 → ⊥
 not_zero x h e = omega (arith, ints)
 
-upright : (a b c : Point) (p : RationalPoint) (m : ℤ) → pos 0 <ℤ orient a b c → Inside a b c p → Weighted (orient_at b c p) (orient_at c a p) (orient_at a b p) a.x b.x c.x m (orient a b c) (p.x -ℤ m *ℤ p.d)
+upright : (a b c : Point) (p : RationalPoint) (m : ℤ) → pos 0 <ℤ orient a b c → Inside a b c p
+    → Weighted (orient_at b c p) (orient_at c a p) (orient_at a b p) a.x b.x c.x m (orient a b c) (p.x -ℤ m *ℤ p.d)
 unfolding orient
 upright a b c p m t i = record {
   p₁ = i.bc;
@@ -79,7 +84,8 @@ upright a b c p m t i = record {
   spread = λ e f g. not_zero (orient a b c) t (no_width a.x a.y b.x b.y c.x c.y m e f g);
 }
 
-level : (a b c : Point) (p : RationalPoint) (m : ℤ) → pos 0 <ℤ orient a b c → Inside a b c p → Weighted (orient_at b c p) (orient_at c a p) (orient_at a b p) a.y b.y c.y m (orient a b c) (p.y -ℤ m *ℤ p.d)
+level : (a b c : Point) (p : RationalPoint) (m : ℤ) → pos 0 <ℤ orient a b c → Inside a b c p
+    → Weighted (orient_at b c p) (orient_at c a p) (orient_at a b p) a.y b.y c.y m (orient a b c) (p.y -ℤ m *ℤ p.d)
 unfolding orient
 level a b c p m t i = record {
   p₁ = i.bc;

@@ -1,5 +1,6 @@
--- Machinery: equations of ℤ by normal form. An `Expr` is an integer polynomial over numbered unknowns; `norm` multiplies it out, and
--- `ring` concludes that two expressions have one value wherever their difference has a normal form of zeros.
+-- Machinery: equations of ℤ by normal form. An `Expr` is an integer polynomial over numbered unknowns; `norm`
+-- multiplies it out, and `ring` concludes that two expressions have one value wherever their difference has a normal
+-- form of zeros.
 use Rattle.std.proofs.Common.{◌≡◌, ℕ, zero, suc, ℤ, pos, negsuc, ◌+ℤ◌, ◌-ℤ◌, ◌*ℤ◌, neg_ℤ, Bool, true, false, cond, T, List, [], ◌∷◌, leb, eqb, eqb→eq, ap, ap₂, sym, refl, ◌∙◌, arith}
 use Rattle.std.proofs.lemmas.Int.{ints}
 use Rattle.lpis_points.proofs.IntLaws.{mul-add_z, mul_comm_z, mul_assoc_z, one-mul_z, zero-mul_z, add_assoc_z}
@@ -132,7 +133,9 @@ add_term_is r c m (term d n p) = by (add_term_is r c m p) (same m n) (same_is m 
     moved : (x y z w : ℤ) → w ≡ x +ℤ z → y +ℤ w ≡ x +ℤ (y +ℤ z)
     moved x y z w e = omega (arith, ints)
 
-    by : total r (add_term c m p) ≡ c *ℤ unknowns r m +ℤ total r p → (t : Bool) → (T t → m ≡ n) → total r (cond t (term (c +ℤ d) n p) (term d n (add_term c m p))) ≡ c *ℤ unknowns r m +ℤ (d *ℤ unknowns r n +ℤ total r p)
+    by : total r (add_term c m p) ≡ c *ℤ unknowns r m +ℤ total r p → (t : Bool) → (T t → m ≡ n)
+        → total r (cond t (term (c +ℤ d) n p) (term d n (add_term c m p))) ≡ c *ℤ unknowns r m +ℤ
+        (d *ℤ unknowns r n +ℤ total r p)
     by i true e = rw (e tt) (joined c d (unknowns r n) (total r p))
     by i false e = moved (c *ℤ unknowns r m) (d *ℤ unknowns r n) (total r p) (total r (add_term c m p)) i
 

@@ -8,7 +8,8 @@ use Rattle.lpis_points.specs.Chain.{is_edge, net_count, SameNet}
 use Rattle.lpis_points.proofs.Points.{same_point-equality}
 
 -- a list has the edge from a to b, or its reverse, or a net count of 0 there
-counted : (a b : Point) (es : List (Point × Point)) (Q : Point → Point → Type 0) → ((x y : Point) → Q x y → Q y x) → All (λ (e : Point × Point). Q e.0 e.1) es → Q a b ⊎ (net_count same_point a b es ≡ pos 0)
+counted : (a b : Point) (es : List (Point × Point)) (Q : Point → Point → Type 0) → ((x y : Point) → Q x y → Q y x)
+    → All (λ (e : Point × Point). Q e.0 e.1) es → Q a b ⊎ (net_count same_point a b es ≡ pos 0)
 counted a b [] Q turn h = inr refl
 counted a b (e ∷ es) Q turn h = by (same_point a e.0 && same_point b e.1) (same_point b e.0 && same_point a e.1) (net_count same_point a b es)
     (λ t. let r = both (same_point a e.0) (same_point b e.1) t in subst₂' (sym ((same_point-equality a e.0).0 r.0)) (sym ((same_point-equality b e.1).0 r.1)) here)
@@ -41,7 +42,10 @@ reversed_count a b (e ∷ es) = turned (is_edge same_point a b e.0 e.1) (is_edge
     turned : (x y n m : ℤ) → m ≡ neg_ℤ n → (y -ℤ x) +ℤ m ≡ neg_ℤ ((x -ℤ y) +ℤ n)
     turned x y n m e = omega (arith, ints)
 
-pub net_is_of_its_edges : (es fs : List (Point × Point)) → All (λ (e : Point × Point). net_count same_point e.0 e.1 es ≡ net_count same_point e.0 e.1 fs) es → All (λ (e : Point × Point). net_count same_point e.0 e.1 es ≡ net_count same_point e.0 e.1 fs) fs → SameNet same_point es fs
+pub net_is_of_its_edges : (es fs : List (Point × Point))
+    → All (λ (e : Point × Point). net_count same_point e.0 e.1 es ≡ net_count same_point e.0 e.1 fs) es
+    → All (λ (e : Point × Point). net_count same_point e.0 e.1 es ≡ net_count same_point e.0 e.1 fs) fs
+    → SameNet same_point es fs
 net_is_of_its_edges es fs h k a b n =
     pick (counted a b es Same turn h) (counted a b fs Same turn k)
   where

@@ -18,9 +18,6 @@ orient_at-reversed a b p =
     (con (pos 0) ⊖ ((var 2 ⊖ var 0) ⊗ (var 5 ⊖ var 1 ⊗ var 6) ⊖ (var 3 ⊖ var 1) ⊗ (var 4 ⊖ var 0 ⊗ var 6))) tt
     ∙ less (orient_at a b p)
 
-neg_nought : pos 0 ≡ neg_ℤ (pos 0)
-neg_nought = refl
-
 crossing_of-reversed : (s t y o : ℤ) → crossing_of t s y (neg_ℤ o) ≡ neg_ℤ (crossing_of s t y o)
 crossing_of-reversed s t y o = by_lt_z y s
     (λ hs. by_lt_z y t

@@ -17,14 +17,20 @@ unfolding orient
 x_by_sides a b c u v =
     ring (a.x ∷ (a.y ∷ (b.x ∷ (b.y ∷ (c.x ∷ (c.y ∷ (u.x ∷ (u.y ∷ (v.x ∷ (v.y ∷ []))))))))))
     ((var 8 ⊖ var 6) ⊗ ((var 2 ⊖ var 0) ⊗ (var 5 ⊖ var 1) ⊖ (var 3 ⊖ var 1) ⊗ (var 4 ⊖ var 0)))
-    ((var 2 ⊖ var 0) ⊗ (((var 8 ⊖ var 6) ⊗ (var 5 ⊖ var 7) ⊖ (var 9 ⊖ var 7) ⊗ (var 4 ⊖ var 6)) ⊖ ((var 8 ⊖ var 6) ⊗ (var 1 ⊖ var 7) ⊖ (var 9 ⊖ var 7) ⊗ (var 0 ⊖ var 6))) ⊖ (((var 8 ⊖ var 6) ⊗ (var 3 ⊖ var 7) ⊖ (var 9 ⊖ var 7) ⊗ (var 2 ⊖ var 6)) ⊖ ((var 8 ⊖ var 6) ⊗ (var 1 ⊖ var 7) ⊖ (var 9 ⊖ var 7) ⊗ (var 0 ⊖ var 6))) ⊗ (var 4 ⊖ var 0)) tt
+    ((var 2 ⊖ var 0) ⊗ (((var 8 ⊖ var 6) ⊗ (var 5 ⊖ var 7) ⊖ (var 9 ⊖ var 7) ⊗ (var 4 ⊖ var 6)) ⊖
+    ((var 8 ⊖ var 6) ⊗ (var 1 ⊖ var 7) ⊖ (var 9 ⊖ var 7) ⊗ (var 0 ⊖ var 6))) ⊖
+    (((var 8 ⊖ var 6) ⊗ (var 3 ⊖ var 7) ⊖ (var 9 ⊖ var 7) ⊗ (var 2 ⊖ var 6)) ⊖
+    ((var 8 ⊖ var 6) ⊗ (var 1 ⊖ var 7) ⊖ (var 9 ⊖ var 7) ⊗ (var 0 ⊖ var 6))) ⊗ (var 4 ⊖ var 0)) tt
 
 y_by_sides : (a b c u v : Point) → (v.y -ℤ u.y) *ℤ orient a b c ≡ (b.y -ℤ a.y) *ℤ (orient u v c -ℤ orient u v a) -ℤ (orient u v b -ℤ orient u v a) *ℤ (c.y -ℤ a.y)
 unfolding orient
 y_by_sides a b c u v =
     ring (a.x ∷ (a.y ∷ (b.x ∷ (b.y ∷ (c.x ∷ (c.y ∷ (u.x ∷ (u.y ∷ (v.x ∷ (v.y ∷ []))))))))))
     ((var 9 ⊖ var 7) ⊗ ((var 2 ⊖ var 0) ⊗ (var 5 ⊖ var 1) ⊖ (var 3 ⊖ var 1) ⊗ (var 4 ⊖ var 0)))
-    ((var 3 ⊖ var 1) ⊗ (((var 8 ⊖ var 6) ⊗ (var 5 ⊖ var 7) ⊖ (var 9 ⊖ var 7) ⊗ (var 4 ⊖ var 6)) ⊖ ((var 8 ⊖ var 6) ⊗ (var 1 ⊖ var 7) ⊖ (var 9 ⊖ var 7) ⊗ (var 0 ⊖ var 6))) ⊖ (((var 8 ⊖ var 6) ⊗ (var 3 ⊖ var 7) ⊖ (var 9 ⊖ var 7) ⊗ (var 2 ⊖ var 6)) ⊖ ((var 8 ⊖ var 6) ⊗ (var 1 ⊖ var 7) ⊖ (var 9 ⊖ var 7) ⊗ (var 0 ⊖ var 6))) ⊗ (var 5 ⊖ var 1)) tt
+    ((var 3 ⊖ var 1) ⊗ (((var 8 ⊖ var 6) ⊗ (var 5 ⊖ var 7) ⊖ (var 9 ⊖ var 7) ⊗ (var 4 ⊖ var 6)) ⊖
+    ((var 8 ⊖ var 6) ⊗ (var 1 ⊖ var 7) ⊖ (var 9 ⊖ var 7) ⊗ (var 0 ⊖ var 6))) ⊖
+    (((var 8 ⊖ var 6) ⊗ (var 3 ⊖ var 7) ⊖ (var 9 ⊖ var 7) ⊗ (var 2 ⊖ var 6)) ⊖
+    ((var 8 ⊖ var 6) ⊗ (var 1 ⊖ var 7) ⊖ (var 9 ⊖ var 7) ⊗ (var 0 ⊖ var 6))) ⊗ (var 5 ⊖ var 1)) tt
 
 nothing : (m n o p q : ℤ) → o ≡ pos 0 → p ≡ pos 0 → q ≡ pos 0 → m *ℤ (q -ℤ o) -ℤ (p -ℤ o) *ℤ n ≡ pos 0
 nothing m n o p q e f g = ap₂ (λ (v w : ℤ). m *ℤ v -ℤ w *ℤ n) (nought q o g e) (nought p o f e) ∙ none m n
@@ -56,7 +62,8 @@ no_product : (o z : ℤ) → o *ℤ z ≡ z *ℤ o
 no_product o z = omega (arith, ints)
 
 -- weights above 0 on numbers of one sign, with the sum 0
-zeros_up : (o₁ o₂ o₃ x y z s : ℤ) → pos 0 <ℤ o₁ → pos 0 <ℤ o₂ → pos 0 <ℤ o₃ → pos 0 ≤ℤ x → pos 0 ≤ℤ y → pos 0 ≤ℤ z → o₁ *ℤ x +ℤ o₂ *ℤ y +ℤ o₃ *ℤ z ≡ s → s ≡ pos 0 → (x ≡ pos 0) × (y ≡ pos 0) × (z ≡ pos 0)
+zeros_up : (o₁ o₂ o₃ x y z s : ℤ) → pos 0 <ℤ o₁ → pos 0 <ℤ o₂ → pos 0 <ℤ o₃ → pos 0 ≤ℤ x → pos 0 ≤ℤ y → pos 0 ≤ℤ z
+    → o₁ *ℤ x +ℤ o₂ *ℤ y +ℤ o₃ *ℤ z ≡ s → s ≡ pos 0 → (x ≡ pos 0) × (y ≡ pos 0) × (z ≡ pos 0)
 zeros_up o₁ o₂ o₃ x y z s p q r h k l e f =
     let w = parts (o₁ *ℤ x) (o₂ *ℤ y) (o₃ *ℤ z) s (pos-mul-not_neg o₁ x (not_neg o₁ p) h) (pos-mul-not_neg o₂ y (not_neg o₂ q) k) (pos-mul-not_neg o₃ z (not_neg o₃ r) l) e f in
     (zero_of_mul x o₁ p (no_product x o₁ ∙ w.0), zero_of_mul y o₂ q (no_product y o₂ ∙ w.1), zero_of_mul z o₃ r (no_product z o₃ ∙ w.2))
@@ -79,7 +86,8 @@ by_nought o z e = ap₂ (λ (v w : ℤ). v *ℤ w) (refl_of o) e ∙ none o
     none : (x : ℤ) → x *ℤ pos 0 ≡ pos 0
     none x = omega (arith, ints)
 
-pub separated_share_nothing : (line : Point × Point) (t u : Triangle) (p : RationalPoint) → IsCounterClockwise t → IsCounterClockwise u → Separates line t u → is_inside t p ≡ true → is_inside u p ≡ true → ⊥
+pub separated_share_nothing : (line : Point × Point) (t u : Triangle) (p : RationalPoint) → IsCounterClockwise t
+    → IsCounterClockwise u → Separates line t u → is_inside t p ≡ true → is_inside u p ≡ true → ⊥
 separated_share_nothing line t u p h k s e f =
     let i = inside_is t.a t.b t.c p e in
     let j = inside_is u.a u.b u.c p f in

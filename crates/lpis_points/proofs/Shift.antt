@@ -1,4 +1,5 @@
--- The shift law: a point close to p that lies on no line through two points in range, and that each edge passes as it passes p.
+-- The shift law: a point close to p that lies on no line through two points in range, and that each edge passes as it
+-- passes p.
 use Rattle.std.proofs.Common.{◌≡◌, ◌≢◌, ℤ, pos, neg_ℤ, ◌+ℤ◌, ◌-ℤ◌, ◌*ℤ◌, ◌≤ℤ◌, ◌<ℤ◌, [], ◌∷◌, ap, sym, ◌∙◌, arith}
 use Rattle.std.proofs.lemmas.Int.{ints, by_lt_z}
 use Rattle.lpis_points.specs.declared.point.Point.{Point}
@@ -9,7 +10,9 @@ use Rattle.lpis_points.proofs.Crossings.{up_left, down_right, both_below, both_a
 use Rattle.lpis_points.proofs.Signs.{pos-mul-not_neg, neg-mul-not_neg}
 
 -- a point shifted by any n
-pub shift_any : (ax ay bx by_ x y d n : ℤ) → (bx -ℤ ax) *ℤ ((y *ℤ n *ℤ n +ℤ pos 1) -ℤ ay *ℤ (d *ℤ n *ℤ n)) -ℤ (by_ -ℤ ay) *ℤ ((x *ℤ n *ℤ n +ℤ n) -ℤ ax *ℤ (d *ℤ n *ℤ n)) ≡ n *ℤ n *ℤ ((bx -ℤ ax) *ℤ (y -ℤ ay *ℤ d) -ℤ (by_ -ℤ ay) *ℤ (x -ℤ ax *ℤ d)) -ℤ n *ℤ (by_ -ℤ ay) +ℤ (bx -ℤ ax)
+pub shift_any : (ax ay bx by_ x y d n : ℤ) → (bx -ℤ ax) *ℤ ((y *ℤ n *ℤ n +ℤ pos 1) -ℤ ay *ℤ (d *ℤ n *ℤ n)) -ℤ
+    (by_ -ℤ ay) *ℤ ((x *ℤ n *ℤ n +ℤ n) -ℤ ax *ℤ (d *ℤ n *ℤ n)) ≡ n *ℤ n *ℤ
+    ((bx -ℤ ax) *ℤ (y -ℤ ay *ℤ d) -ℤ (by_ -ℤ ay) *ℤ (x -ℤ ax *ℤ d)) -ℤ n *ℤ (by_ -ℤ ay) +ℤ (bx -ℤ ax)
 shift_any ax ay bx by_ x y d n = ring (ax ∷ (ay ∷ (bx ∷ (by_ ∷ (x ∷ (y ∷ (d ∷ (n ∷ []))))))))
     ((var 2 ⊖ var 0) ⊗ ((var 5 ⊗ var 7 ⊗ var 7 ⊕ con (pos 1)) ⊖ var 1 ⊗ (var 6 ⊗ var 7 ⊗ var 7)) ⊖ (var 3 ⊖ var 1) ⊗ ((var 4 ⊗ var 7 ⊗ var 7 ⊕ var 7) ⊖ var 0 ⊗ (var 6 ⊗ var 7 ⊗ var 7)))
     (var 7 ⊗ var 7 ⊗ ((var 2 ⊖ var 0) ⊗ (var 5 ⊖ var 1 ⊗ var 6) ⊖ (var 3 ⊖ var 1) ⊗ (var 4 ⊖ var 0 ⊗ var 6)) ⊖ var 7 ⊗ (var 3 ⊖ var 1) ⊕ (var 2 ⊖ var 0)) tt
@@ -24,10 +27,18 @@ record IsStep (z : ℤ) : Type 0 where
   high : z ≤ℤ pos 40000000000
 
 step_x : (a b : Point) → IsStep (b.x -ℤ a.x)
-step_x a b = record { low = omega (arith, ints, a.x_in_range.0, a.x_in_range.1, b.x_in_range.0, b.x_in_range.1); high = omega (arith, ints, a.x_in_range.0, a.x_in_range.1, b.x_in_range.0, b.x_in_range.1) }
+step_x a b = record {
+  low = omega (arith, ints, a.x_in_range.0, a.x_in_range.1, b.x_in_range.0, b.x_in_range.1);
+  high =
+      omega (arith, ints, a.x_in_range.0, a.x_in_range.1, b.x_in_range.0, b.x_in_range.1);
+}
 
 step_y : (a b : Point) → IsStep (b.y -ℤ a.y)
-step_y a b = record { low = omega (arith, ints, a.y_in_range.0, a.y_in_range.1, b.y_in_range.0, b.y_in_range.1); high = omega (arith, ints, a.y_in_range.0, a.y_in_range.1, b.y_in_range.0, b.y_in_range.1) }
+step_y a b = record {
+  low = omega (arith, ints, a.y_in_range.0, a.y_in_range.1, b.y_in_range.0, b.y_in_range.1);
+  high =
+      omega (arith, ints, a.y_in_range.0, a.y_in_range.1, b.y_in_range.0, b.y_in_range.1);
+}
 
 not_nought : (k dx dy : ℤ) → IsStep dx → IsStep dy → (dx ≡ pos 0 → dy ≡ pos 0 → ⊥) → pos 1000000000000000000000000 *ℤ k -ℤ pos 1000000000000 *ℤ dy +ℤ dx ≡ pos 0 → ⊥
 not_nought k dx dy sx sy n e =
@@ -120,4 +131,6 @@ four f p q r s = cc
 pub crossing-shifted : (a b : Point) (p : RationalPoint) → pos 0 <ℤ p.d → crossing a b (shifted p) ≡ crossing a b p
 unfolding crossing
 crossing-shifted a b p h =
-    four crossing_of (far_height a.y p.d) (far_height b.y p.d) (ap (λ (z : ℤ). z +ℤ pos 1) (far_level p.y)) (orient_at-shifted a b p) ∙ same_crossing (a.y *ℤ p.d) (b.y *ℤ p.d) p.y (orient_at a b p) (b.x -ℤ a.x) (b.y -ℤ a.y) (step_x a b) (step_y a b) (rises a.y b.y p.d h)
+    four crossing_of (far_height a.y p.d) (far_height b.y p.d) (ap (λ (z : ℤ). z +ℤ pos 1) (far_level p.y))
+    (orient_at-shifted a b p) ∙ same_crossing (a.y *ℤ p.d) (b.y *ℤ p.d) p.y (orient_at a b p) (b.x -ℤ a.x)
+    (b.y -ℤ a.y) (step_x a b) (step_y a b) (rises a.y b.y p.d h)

@@ -143,7 +143,8 @@ not_neg_of x y e h = omega (arith, ints)
 not_neg : (x : ℤ) → pos 0 <ℤ x → pos 0 ≤ℤ x
 not_neg x h = omega (arith, ints)
 
-pub around : (a b c : Point) (p : RationalPoint) → pos 0 <ℤ p.d → pos 0 ≤ℤ orient a b c → IsOff a b c p → Around (a.y *ℤ p.d) (b.y *ℤ p.d) (c.y *ℤ p.d) p.y (orient_at a b p) (orient_at b c p) (orient_at c a p)
+pub around : (a b c : Point) (p : RationalPoint) → pos 0 <ℤ p.d → pos 0 ≤ℤ orient a b c → IsOff a b c p
+    → Around (a.y *ℤ p.d) (b.y *ℤ p.d) (c.y *ℤ p.d) p.y (orient_at a b p) (orient_at b c p) (orient_at c a p)
 around a b c p h t o = record {
   off₁ = o.ab;
   off₂ = o.bc;
@@ -162,7 +163,9 @@ triangle_turns a b c p h t o = around_total _ _ _ _ _ _ _ (around a b c p h (not
 pub flat_turns : (a b c : Point) (p : RationalPoint) → pos 0 <ℤ p.d → orient a b c ≡ pos 0 → IsOff a b c p → turns_of a b c p ≡ pos 0
 unfolding crossing
 flat_turns a b c p h t o =
-    around_total _ _ _ _ _ _ _ (around a b c p h (nought (orient a b c) t) o) ∙ inside_none (orient_at a b p) (orient_at b c p) (orient_at c a p) (none (orient_at a b p) (orient_at b c p) (orient_at c a p) (sides_sum a b c p ∙ ap (λ (z : ℤ). p.d *ℤ z) t ∙ by_nought p.d))
+    around_total _ _ _ _ _ _ _ (around a b c p h (nought (orient a b c) t) o) ∙ inside_none (orient_at a b p)
+    (orient_at b c p) (orient_at c a p) (none (orient_at a b p) (orient_at b c p) (orient_at c a p)
+    (sides_sum a b c p ∙ ap (λ (z : ℤ). p.d *ℤ z) t ∙ by_nought p.d))
   where
     nought : (x : ℤ) → x ≡ pos 0 → pos 0 ≤ℤ x
     nought x e = omega (arith, ints)

@@ -1,4 +1,5 @@
--- A point close to p that lies on no line through two different points in range, and that each edge passes as it passes p.
+-- A point close to p that lies on no line through two different points in range, and that each edge
+-- passes as it passes p.
 use Rattle.std.specs.Prelude.{ℤ, pos, ◌+ℤ◌, ◌*ℤ◌}
 use Rattle.lpis_points.specs.Plane.{RationalPoint}
 

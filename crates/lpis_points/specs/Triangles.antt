@@ -1,5 +1,6 @@
 -- Triangles, their boxes, and lines between them.
-use Rattle.std.specs.Prelude.{◌≡◌, ◌≢◌, ℤ, pos, ◌+ℤ◌, ◌≤ℤ◌, ◌<ℤ◌, int_le, int_lt, Bool, ◌&&◌, ◌||◌, List, [], ◌∷◌}
+use Rattle.std.specs.Prelude.{◌≡◌, ◌≢◌, ℤ, pos, ◌+ℤ◌, ◌≤ℤ◌, ◌<ℤ◌, int_le, int_lt, Bool, ◌&&◌, ◌||◌}
+use Rattle.std.specs.Prelude.{List, [], ◌∷◌}
 use Rattle.std.specs.Int.{int_max, int_min}
 use Rattle.lpis_points.specs.declared.point.Point.{Point}
 use Rattle.lpis_points.specs.declared.triangle.Triangle.{Triangle}
@@ -23,7 +24,8 @@ pub record IsFlat (t : Triangle) : Type 0 where
 -- p is strictly left of the three edges
 abbrev pub is_inside : Triangle → RationalPoint → Bool
 is_inside t p =
-    int_lt (pos 0) (orient_at t.a t.b p) && int_lt (pos 0) (orient_at t.b t.c p) && int_lt (pos 0) (orient_at t.c t.a p)
+    int_lt (pos 0) (orient_at t.a t.b p) && int_lt (pos 0) (orient_at t.b t.c p)
+    && int_lt (pos 0) (orient_at t.c t.a p)
 
 -- p is off the lines of the three edges
 pub record IsOffItsLines (t : Triangle) (p : RationalPoint) : Type 0 where

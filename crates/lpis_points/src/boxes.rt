@@ -1,7 +1,8 @@
 //! Boxes of triangles.
 
 ghost use Rattle.std.specs.Prelude.{◌≡◌};
-ghost use Rattle.lpis_points.specs.Triangles.{are_apart, box_of as box_of_lem, ends_before, greatest, least};
+ghost use Rattle.lpis_points.specs.Triangles.{are_apart, box_of as box_of_lem, ends_before};
+ghost use Rattle.lpis_points.specs.Triangles.{greatest, least};
 
 use crate::triangle::Triangle;
 
@@ -46,8 +47,8 @@ fn is_before(first: &Box4, second: &Box4) -> bool
     first.x1 <= second.x0 || first.y1 <= second.y0
 }
 
-/// Whether the boxes of two triangles are apart: the greatest x of one is at most the least x of the other, or the
-/// same in y. Boxes that only touch are apart.
+/// Whether the boxes of two triangles are apart: the greatest x of one is at most the least x of
+/// the other, or the same in y. Boxes that only touch are apart.
 #[tactic(auto, unfolding(crate::specs::Triangles::are_apart))]
 pub fn apart(first: &Triangle, second: &Triangle) -> bool
     ensures { result ≡ are_apart first.now second.now }

@@ -1,4 +1,5 @@
-//! Points of the plane in whole centimetres, sides of lines, crossings of edges, and triangles. No call takes memory.
+//! Points of the plane in whole centimetres, sides of lines, crossings of edges, and triangles. No
+//! call takes memory.
 //!
 //! | Call | Answer |
 //! |---|---|
@@ -12,8 +13,9 @@
 //! | `box_of`, `apart` | the least and greatest x and y; whether two boxes share no inner point |
 //! | `separates` | whether a line through two different points has one triangle on its left and the other on its right |
 //!
-//! Each answer is proved to be that of the definitions in `specs/Plane.antt` and `specs/Triangles.antt`. What follows
-//! from these definitions at every rational point stands in `laws`.
+//! Each answer is proved to be that of the definitions in `specs/Plane.antt` and
+//! `specs/Triangles.antt`. What follows from these definitions at every rational point stands in
+//! `laws`.
 #![tactic(auto)]
 
 mod boxes;

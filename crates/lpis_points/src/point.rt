@@ -3,7 +3,8 @@
 ghost use Rattle.std.specs.Prelude.{◌≡◌, ◌↔◌, IsSome, IfSome, IsTrue};
 ghost use Rattle.lpis_points.specs.Range.{IsInRange};
 
-/// The greatest absolute value of a coordinate in centimetres: 20,000,000 metres. A coordinate up to it is in range.
+/// The greatest absolute value of a coordinate in centimetres: 20,000,000 metres. A coordinate up
+/// to it is in range.
 pub const LIMIT: i64 = 2_000_000_000;
 
 /// A point whose coordinates are in range.

@@ -44,7 +44,8 @@ fn is_in_range_over(d: i64, parts: i64) -> bool
 }
 
 impl RatPoint {
-    /// The point (x/d, y/d), or `None` where `d` is not 1 to 1,000,000 or a quotient is out of range.
+    /// The point (x/d, y/d), or `None` where `d` is not 1 to 1,000,000 or a quotient is out of
+    /// range.
     pub fn new(x: i64, y: i64, d: i64) -> Option<RatPoint>
         ensures which { IsSome result ↔ (IsDenominator d × IsInRangeOver d x × IsInRangeOver d y) }
         ensures coordinates { IfSome result (λ p. (p.x ≡ x) × (p.y ≡ y) × (p.d ≡ d)) }

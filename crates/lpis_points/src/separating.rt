@@ -41,8 +41,8 @@ fn is_right(u: Point, v: Point, triangle: &Triangle) -> bool
     )
 }
 
-/// Whether a line separates two triangles: its two points differ, each corner of `left` is left of it or on it, and
-/// each corner of `right` is right of it or on it.
+/// Whether a line separates two triangles: its two points differ, each corner of `left` is left of
+/// it or on it, and each corner of `right` is right of it or on it.
 pub fn separates(line: (Point, Point), left: &Triangle, right: &Triangle) -> bool
     ensures { IsTrue result ↔ Separates line left.now right.now }
 {

@@ -1,9 +1,12 @@
 //! On which side of a line a point lies, and how an edge passes it.
 
 ghost use Rattle.std.specs.Prelude.{◌≡◌, ◌-ℤ◌, ◌*ℤ◌, ◌≤◌, unsigned_abs};
-ghost use Rattle.lpis_points.specs.Plane.{crossing as crossing_lem, crossing_of, orient as orient_lem, orient_at as orient_at_lem};
+ghost use Rattle.lpis_points.specs.Plane.{crossing as crossing_lem, crossing_of};
+ghost use Rattle.lpis_points.specs.Plane.{orient as orient_lem, orient_at as orient_at_lem};
 ghost use Rattle.lpis_points.specs.RatPoints.{rational_of};
-ghost use Rattle.lpis_points.specs.private.Margins.{coordinate_margin, denominator_margin, step_margin, height_margin, offset_margin, product_margin};
+ghost use Rattle.lpis_points.specs.private.Margins.{coordinate_margin, denominator_margin};
+ghost use Rattle.lpis_points.specs.private.Margins.{step_margin, height_margin, offset_margin};
+ghost use Rattle.lpis_points.specs.private.Margins.{product_margin};
 
 use crate::point::Point;
 use crate::rational::RatPoint;
@@ -73,8 +76,8 @@ fn passing(from: i128, to: i128, y: i128, side: i128) -> i8
     }
 }
 
-/// Above 0 where `c` is left of the directed line from `a` to `b`, 0 on it, below 0 right of it. It is twice the
-/// signed area of the triangle, in square centimetres.
+/// Above 0 where `c` is left of the directed line from `a` to `b`, 0 on it, below 0 right of it. It
+/// is twice the signed area of the triangle, in square centimetres.
 #[tactic(auto, unfolding(crate::specs::Plane::orient))]
 pub fn orient(a: Point, b: Point, c: Point) -> i128
     ensures { result ≡ orient_lem a b c }
@@ -87,8 +90,8 @@ pub fn orient(a: Point, b: Point, c: Point) -> i128
     )
 }
 
-/// Above 0 where `p` is left of the directed line from `a` to `b`, 0 on it, below 0 right of it: `orient`, times the
-/// point's `d`.
+/// Above 0 where `p` is left of the directed line from `a` to `b`, 0 on it, below 0 right of it:
+/// `orient`, times the point's `d`.
 pub fn orient_at(a: Point, b: Point, p: &RatPoint) -> i128
     ensures { result ≡ orient_at_lem a b (rational_of p.now) }
 {
@@ -100,9 +103,10 @@ pub fn orient_at(a: Point, b: Point, p: &RatPoint) -> i128
     )
 }
 
-/// How the directed edge from `a` to `b` is crossed by `p`: 1 where it goes up past the point's height with the point
-/// on its left,
-/// -1 where it goes down past it with the point on its right, and else 0. An edge has its lower end and not its upper one.
+/// How the directed edge from `a` to `b` is crossed by `p`: 1 where it goes up past the point's
+/// height with the point on its left,
+/// -1 where it goes down past it with the point on its right, and else 0. An edge has its lower end
+///   and not its upper one.
 pub fn crossing(a: Point, b: Point, p: &RatPoint) -> i8
     ensures { result ≡ crossing_lem a b (rational_of p.now) }
 {

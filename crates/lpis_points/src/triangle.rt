@@ -14,7 +14,8 @@ pub struct Triangle {
     pub c: Point,
 }
 
-/// Whether a triangle is counter-clockwise: its third corner is left of the line from the first to the second.
+/// Whether a triangle is counter-clockwise: its third corner is left of the line from the first to
+/// the second.
 pub fn is_ccw(triangle: &Triangle) -> bool
     ensures { IsTrue result ↔ IsCounterClockwise triangle.now }
 {
@@ -36,8 +37,8 @@ pub fn is_flat(triangle: &Triangle) -> bool
     orient(a, b, c) == 0 && differ(a, b) && differ(b, c) && differ(c, a)
 }
 
-/// A directed edge: from the first corner to the second for 0, from the second to the third for 1, from the third to
-/// the first for 2, and `None` above.
+/// A directed edge: from the first corner to the second for 0, from the second to the third for 1,
+/// from the third to the first for 2, and `None` above.
 pub fn edge(triangle: &Triangle, k: u8) -> Option<(Point, Point)>
     ensures { result ≡ slice_get (triangle_edges triangle.now) k }
 {

@@ -53,7 +53,8 @@ same-within {A = A} R alone (x ∷ xs) (y ∷ ys) a b to from =
       other u v z P e r (inl q) = absurd (let s : R v v = subst (R v) (q ∙ e) r in alone v v s s)
 
       tails : (u v : A) (us vs : List A) → u ≡ v → AllByRecursion (R v) vs → Within (u ∷ us) (v ∷ vs) → Within us vs
-      tails u v us vs e below w P all = all-both (R v) (λ z. (z ≡ u) ⊎ P z) P vs (λ z r p. other u v z P e r p) below (w (λ z. (z ≡ u) ⊎ P z) (inl refl, all-map P (λ z. (z ≡ u) ⊎ P z) us (λ z p. inr p) all)).1
+      tails u v us vs e below w P all = all-both (R v) (λ z. (z ≡ u) ⊎ P z) P vs (λ z r p. other u v z P e r p) below
+          (w (λ z. (z ≡ u) ⊎ P z) (inl refl, all-map P (λ z. (z ≡ u) ⊎ P z) us (λ z p. inr p) all)).1
 
 -- two orders of the same elements that both ascend are equal
 pub same-ascending : {A : Type 0} (R : A → A → Type 0) → ((x y : A) → R x y → R y x → ⊥) → (xs ys : List A) → Ascends R xs → Ascends R ys → IsPermutation xs ys → xs ≡ ys

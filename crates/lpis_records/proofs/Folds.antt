@@ -13,7 +13,8 @@ rev_onto (x ∷ xs) ys = rev_onto xs (x ∷ ys)
 
 pub rev-moved : {A : Type 0} (xs ys : List A) → IsPermutation (xs ++ ys) (rev_onto xs ys)
 rev-moved [] ys = IsPermutation-refl ys
-rev-moved (x ∷ xs) ys = IsPermutation-trans (x ∷ (xs ++ ys)) (xs ++ x ∷ ys) (rev_onto xs (x ∷ ys)) (IsPermutation-sym (xs ++ x ∷ ys) (x ∷ (xs ++ ys)) (IsPermutation-middle xs x ys)) (rev-moved xs (x ∷ ys))
+rev-moved (x ∷ xs) ys = IsPermutation-trans (x ∷ (xs ++ ys)) (xs ++ x ∷ ys) (rev_onto xs (x ∷ ys))
+    (IsPermutation-sym (xs ++ x ∷ ys) (x ∷ (xs ++ ys)) (IsPermutation-middle xs x ys)) (rev-moved xs (x ∷ ys))
 
 abbrev pub fresh_span : ℤ → List ℕ → Span
 fresh_span y id = record { id = id; since = y; until = pos 0 }
@@ -56,7 +57,15 @@ ended-made y (id ∷ ids) c = ended-made y ids (ended y c id) ∙ ap (λ (l : Li
 
 -- what publishing makes, table by table
 pub published-is : (year last : ℤ) (gone fresh : List (List ℕ)) (rows : List Row) (c : Content)
-    → published year last gone fresh rows c ≡ record { formats = c.formats; years = year ∷ c.years; spans = rev_onto (map (fresh_span year) fresh) (map (end_among last gone) c.spans); lines = rev_onto (lines_from year 0 rows) c.lines; live = c.live }
+    → published year last gone fresh rows c ≡ record {
+      formats = c.formats;
+      years = year ∷ c.years;
+      spans =
+          rev_onto (map (fresh_span year) fresh) (map (end_among last gone) c.spans);
+      lines =
+          rev_onto (lines_from year 0 rows) c.lines;
+      live = c.live;
+    }
 published-is year last gone fresh rows c =
     ap (λ (d : Content). with_lines (lines_from year 0 rows) (with_spans year fresh d)) (ended-made last gone (with_year year c))
     ∙ ap (λ (d : Content). with_lines (lines_from year 0 rows) d) (spans-made year fresh (record (with_year year c) { spans = map (end_among last gone) c.spans }))

@@ -1,5 +1,6 @@
 -- A history put together release by release is the front of the one that the rows say.
-use Rattle.std.proofs.Common.{◌≡◌, ◌∙◌, ◌<◌, ◌≤◌, ◌+◌, inl, inr, refl, sym, ap, ap₂, subst, arith, ℕ, zero, suc, ℤ, pos, List, [], ◌∷◌, ◌++◌, Bool, true, Some, Err, length, map, take, get_or, length-append}
+use Rattle.std.proofs.Common.{◌≡◌, ◌∙◌, ◌<◌, ◌≤◌, ◌+◌, inl, inr, refl, sym, ap, ap₂, subst, arith, ℕ, zero, suc, ℤ, pos, List, [], ◌∷◌, ◌++◌, Bool, true, Some, Err, length, map, take, get_or}
+use Rattle.std.proofs.Common.{length-append}
 use Rattle.std.specs.Prelude.{◌&&◌}
 use Rattle.std.specs.List.{All, AllByRecursion, filter, list_any}
 use Rattle.std.proofs.lemmas.List.{append-nil, append_assoc, append_cancel_left, length-map, length-take-le, get_or_default, map-append, take-append-le, take-map}
@@ -91,7 +92,9 @@ front-more g h e f more year set rows = record {
   years = λ i lt. more-place (λ (j : ℕ). (entry_at (g ++ e ∷ []) j).year ≡ (entry_at h j).year) (length g) i
       (λ j a. ap (λ (x : Entry). x.year) (entry-before g e j a) ∙ f.years j a) (ap (λ (x : Entry). x.year) (entry-here g e) ∙ year) (let n = longer g e in omega (arith, n, lt));
   sets = λ i lt. more-place (λ (j : ℕ). (id : List ℕ) → holds (g ++ e ∷ []) j id ≡ holds h j id) (length g) i
-      (λ j a id. ap (λ (x : Entry). has_id x.live id) (entry-before g e j a) ∙ f.sets j a id) (λ id. ap (λ (x : Entry). has_id x.live id) (entry-here g e) ∙ set id) (let n = longer g e in omega (arith, n, lt));
+      (λ j a id. ap (λ (x : Entry). has_id x.live id) (entry-before g e j a) ∙ f.sets j a id)
+      (λ id. ap (λ (x : Entry). has_id x.live id) (entry-here g e) ∙ set id) (let n = longer g e in
+      omega (arith, n, lt));
   rows = λ i lt. more-place (λ (j : ℕ). (entry_at (g ++ e ∷ []) j).rows ≡ (entry_at h j).rows) (length g) i
       (λ j a. ap (λ (x : Entry). x.rows) (entry-before g e j a) ∙ f.rows j a) (ap (λ (x : Entry). x.rows) (entry-here g e) ∙ rows) (let n = longer g e in omega (arith, n, lt));
 }
@@ -140,7 +143,12 @@ live-same (a ∷ g) [] id n s = absurd (omega (arith, n))
 live-same (a ∷ g) (b ∷ h) id n s = s (length g) ∙ (let m : length g ≡ length h = omega (arith, n) in ap (λ (k : ℕ). holds (b ∷ h) k id) m)
 
 pub span-same : (g h : List Entry) (id : List ℕ) → IsSameHistory g h → span_of g id ≡ span_of h id
-span-same g h id same = rw (first-same g h id same.lengths same.years (λ i. same.sets i id), last-same g h id same.lengths same.years (λ i. same.sets i id), live-same g h id same.lengths (λ i. same.sets i id)) refl
+span-same g h id same = rw (
+  first-same g h id same.lengths same.years (λ i. same.sets i id),
+  last-same g h id same.lengths same.years (λ i. same.sets i id),
+  live-same g h id same.lengths (λ i. same.sets i id),
+)
+    refl
 
 -- ---- where a release's lines stand
 
@@ -167,8 +175,17 @@ lines-run : (y : ℕ) (front : List Line) (rs : List Row) (back whole : List Lin
     → from ≡ length front → AllByRecursion (λ l. below (pos y) l.year) back → IsRun whole from y (from + length rs)
 lines-run y front rs back whole from w n above = record {
   within = omega arith;
-  here = λ k lt. let l = at-lines (pos y) 0 rs back k (omega (arith, lt)) in let at = there (from + k) k (omega (arith, n)) in (ap (λ (x : Line). x.year) at ∙ l.0, ap (λ (x : Line). x.place) at ∙ l.1 ∙ (let e : 0 + k ≡ k = omega arith in ap (λ (m : ℕ). pos m) e));
-  after = λ e. at-end y back above (sym (ap (λ (x : Line). x.year) (there (from + length rs) (length rs) (omega (arith, n)) ∙ at-append (lines_from (pos y) 0 rs) back (length rs) 0 (let m = lines-length (pos y) 0 rs in omega (arith, m)))) ∙ e);
+  here = λ k lt. let l = at-lines (pos y) 0 rs back k (omega (arith, lt)) in let at =
+      there (from + k) k (omega (arith, n)) in (
+        ap (λ (x : Line). x.year) at ∙ l.0,
+        ap (λ (x : Line). x.place) at ∙ l.1
+            ∙ (let e : 0 + k ≡ k = omega arith in ap (λ (m : ℕ). pos m) e),
+      );
+  after =
+      λ e. at-end y back above
+      (sym (ap (λ (x : Line). x.year) (there (from + length rs) (length rs) (omega (arith, n))
+      ∙ at-append (lines_from (pos y) 0 rs) back (length rs) 0 (let m = lines-length (pos y) 0 rs in omega (arith, m))))
+      ∙ e);
 } where
   there : (m k : ℕ) → m ≡ length front + k → line_at whole m ≡ line_at (lines_from (pos y) 0 rs ++ back) k
   there m k e = ap (λ (l : List Line). line_at l m) w ∙ at-append front (lines_from (pos y) 0 rs ++ back) m k e
@@ -232,16 +249,18 @@ last-below (x ∷ g) h f law lt = let y = f.years (length g) (omega arith) in le
 rows-cut : (y : ℕ) (front : List Line) (rows others : List Row) (back whole read : List Line) (next : ℕ) → next ≡ length front + length rows
     → whole ≡ front ++ (lines_from (pos y) 0 rows ++ back) → read ≡ take next whole → read ≡ front ++ lines_from (pos y) 0 others
     → AllByRecursion HasText rows → AllByRecursion HasText others → others ≡ rows
-rows-cut y front rows others back whole read next n w r o texts also = (rows-apart y 0 others rows [] [] tt tt also texts (append-nil (lines_from (pos y) 0 others) ∙ alike ∙ sym (append-nil (lines_from (pos y) 0 rows)))).0 where
-  mid : List Line
-  mid = lines_from (pos y) 0 rows
+rows-cut y front rows others back whole read next n w r o texts also =
+    (rows-apart y 0 others rows [] [] tt tt also texts (append-nil (lines_from (pos y) 0 others) ∙ alike
+    ∙ sym (append-nil (lines_from (pos y) 0 rows)))).0 where
+      mid : List Line
+      mid = lines_from (pos y) 0 rows
 
-  long : next ≡ length (front ++ mid)
-  long = let m = lines-length (pos y) 0 rows in let l = length-append front mid in omega (arith, n, m, l)
+      long : next ≡ length (front ++ mid)
+      long = let m = lines-length (pos y) 0 rows in let l = length-append front mid in omega (arith, n, m, l)
 
-  alike : lines_from (pos y) 0 others ≡ mid
-  alike = append_cancel_left front (lines_from (pos y) 0 others) mid (
-      sym o ∙ r ∙ ap (take next) (w ∙ sym (append_assoc front mid back)) ∙ take-append-le next (front ++ mid) back (omega (arith, long)) ∙ take-whole (front ++ mid) next (omega (arith, long)))
+      alike : lines_from (pos y) 0 others ≡ mid
+      alike = append_cancel_left front (lines_from (pos y) 0 others) mid (
+          sym o ∙ r ∙ ap (take next) (w ∙ sym (append_assoc front mid back)) ∙ take-append-le next (front ++ mid) back (omega (arith, long)) ∙ take-whole (front ++ mid) next (omega (arith, long)))
 
 module _ (spans : List KnownSpan) (lines : List KnownLine) (g h : List Entry) (from year : ℕ) (said : IsSaid spans lines h) (due : IsDue g lines from year h) (within : from ≤ length lines) where
   begins : from ≡ length (lines_of g)
@@ -255,14 +274,17 @@ module _ (spans : List KnownSpan) (lines : List KnownLine) (g h : List Entry) (f
 
   -- its lines stand from here on
   pub due-run : IsRun (map line_in lines) from year (from + length (entry_at h (length g)).rows)
-  due-run = lines-run year (lines_of g) (entry_at h (length g)).rows later.0 (map line_in lines) from whole begins (subst (λ (n : ℕ). AllByRecursion (λ l. below (pos n) l.year) later.0) due.year_is later.1.above)
+  due-run = lines-run year (lines_of g) (entry_at h (length g)).rows later.0 (map line_in lines) from whole begins
+      (subst (λ (n : ℕ). AllByRecursion (λ l. below (pos n) l.year) later.0) due.year_is later.1.above)
 
   -- what is read of them are its rows
   pub due-rows : (rows : List Row) (next : ℕ) → next ≡ from + length (entry_at h (length g)).rows
       → map line_in (take next lines) ≡ map line_in (take from lines) ++ lines_from (pos year) 0 rows → All HasText rows
       → rows ≡ (entry_at h (length g)).rows
   due-rows rows next n read texts =
-      rows-cut year (lines_of g) (entry_at h (length g)).rows rows later.0 (map line_in lines) (map line_in (take next lines)) next (let b = begins in omega (arith, b, n)) whole (sym (take-map line_in next lines))
+      rows-cut year (lines_of g) (entry_at h (length g)).rows rows later.0 (map line_in lines)
+      (map line_in (take next lines)) next (let b = begins in omega (arith, b, n)) whole
+      (sym (take-map line_in next lines))
       (read ∙ ap (λ (l : List Line). l ++ lines_from (pos year) 0 rows) (sym due.lines_are))
       (at-entry (λ e. AllByRecursion HasText e.rows) h (length g) (have-texts h said.kept) due.more) (recursion_from_All HasText rows texts)
 
@@ -285,7 +307,8 @@ module _ (spans : List KnownSpan) (lines : List KnownLine) (g h : List Entry) (f
   due-fault live rows fault alive r told =
       let e : Entry = entry_at h (length g) in
       let f : IsFront (g ++ e ∷ []) h = front-more g h e due.front due.more refl (λ id. refl) refl in
-      never-follows g live rows fault told e (record { ids = λ q. sym (due-set live alive q); rows_are = sym r }) (front-lawful (g ++ e ∷ []) h f said.kept.lawful) (front-fits (g ++ e ∷ []) h f said.kept.fits)
+      never-follows g live rows fault told e (record { ids = λ q. sym (due-set live alive q); rows_are = sym r })
+      (front-lawful (g ++ e ∷ []) h f said.kept.lawful) (front-fits (g ++ e ∷ []) h f said.kept.fits)
 
 -- what `add` refuses was not due
 pub due-refused : (spans : List KnownSpan) (lines : List KnownLine) (g h : List Entry) (from year : ℕ) → IsSaid spans lines h
@@ -340,6 +363,9 @@ same-lines (x ∷ g) (y ∷ h) f n =
 -- with no release left no line is left
 pub lines-whole : (spans : List KnownSpan) (lines : List KnownLine) (g h : List Entry) (from : ℕ) → IsSaid spans lines h → IsFront g h
     → length g ≡ length h → lines_of g ≡ map line_in (take from lines) → from < length lines → ⊥
-lines-whole spans lines g h from said front n are lt = absurd (let e = ap length (are-same ∙ said.lines_are) in let a = ap length are in let m = length-map (take from lines) line_in in let t = length-take-le from lines (omega (arith, lt)) in let w = length-map lines line_in in omega (arith, e, a, m, t, w, lt)) where
-  are-same : lines_of g ≡ lines_of h
-  are-same = same-lines g h front n
+lines-whole spans lines g h from said front n are lt = absurd (let e = ap length (are-same ∙ said.lines_are) in let a =
+    ap length are in let m = length-map (take from lines) line_in in let t =
+    length-take-le from lines (omega (arith, lt)) in let w = length-map lines line_in in
+    omega (arith, e, a, m, t, w, lt)) where
+      are-same : lines_of g ≡ lines_of h
+      are-same = same-lines g h front n

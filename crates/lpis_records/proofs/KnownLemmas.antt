@@ -81,7 +81,9 @@ seen-more spans i s old new id added lt at is add does updates seen = subst (Are
 
   more : AreSeen new (take i spans ++ s ∷ [])
   more q = (
-    add-by_order old new id q (updates q) ∙ or-cond (same_id id q) (has_id old q) ∙ ap₂ (λ (a b : Bool). a || b) (seen q).0 (ap (λ (k : List ℕ). same_id k q) is ∙ same-sym s.id q) ∙ sym (any-push (λ (t : KnownSpan). same_id q t.id) (take i spans) s),
+    add-by_order old new id q (updates q) ∙ or-cond (same_id id q) (has_id old q) ∙ ap₂ (λ (a b : Bool). a || b)
+        (seen q).0 (ap (λ (k : List ℕ). same_id k q) is ∙ same-sym s.id q)
+        ∙ sym (any-push (λ (t : KnownSpan). same_id q t.id) (take i spans) s),
     once q (same_id q s.id) refl,
   )
 
@@ -89,7 +91,9 @@ seen-more spans i s old new id added lt at is add does updates seen = subst (Are
 pub seen-twice : (spans : List KnownSpan) (i : ℕ) (s : KnownSpan) (old : List (List ℕ)) (id : List ℕ) (added : Bool) → i < length spans → s ≡ get_or spans i s → id ≡ s.id
     → added ≡ not (list_any (λ k. is_eq (slice_cmp nat_cmp id k)) old) → added ≡ false → AreSeen old (take i spans) → ((q : List ℕ) → length (filter (λ s. same_id q s.id) spans) ≤ 1) → ⊥
 seen-twice spans i s old id added lt at is add isnt seen few =
-    let here : list_any (λ (t : KnownSpan). same_id s.id t.id) (take i spans) ≡ true = sym (seen s.id).0 ∙ ap (has_id old) (sym is) ∙ sym (has-by_order old id) ∙ not-false (list_any (λ k. is_eq (slice_cmp nat_cmp id k)) old) (sym add ∙ isnt) in
+    let here : list_any (λ (t : KnownSpan). same_id s.id t.id) (take i spans) ≡ true = sym (seen s.id).0
+    ∙ ap (has_id old) (sym is) ∙ sym (has-by_order old id)
+    ∙ not-false (list_any (λ k. is_eq (slice_cmp nat_cmp id k)) old) (sym add ∙ isnt) in
     let some = filter-some (λ (t : KnownSpan). same_id s.id t.id) (take i spans) here in
     let one = ap (λ (b : Bool). length (cond b (s ∷ []) [])) (same-refl s.id) in
     let first = filter-append (λ (t : KnownSpan). same_id s.id t.id) (take i spans) (s ∷ []) in

@@ -98,10 +98,13 @@ since-years (s ∷ ss) (l ∷ ls) ys e all = (subst (Contains ys) (sym (ap since
 
 pub live-years : (h : List Entry) (live : List Live) (spans : List KnownSpan) (ys : List ℤ) → LiveTells live h → map span_in spans ≡ map one_year live
     → years_of h ≡ ys → All (λ s. Contains ys s.since) spans
-live-years h live spans ys t ss e = All-from_recursion (λ s. Contains ys s.since) spans (since-years spans live ys ss (subst (λ (l : List ℤ). AllByRecursion (λ m. Contains l m.year) live) e (recursion_from_All (λ l. Contains (years_of h) l.year) live (all-years h live t))))
+live-years h live spans ys t ss e = All-from_recursion (λ s. Contains ys s.since) spans
+    (since-years spans live ys ss (subst (λ (l : List ℤ). AllByRecursion (λ m. Contains l m.year) live) e
+    (recursion_from_All (λ l. Contains (years_of h) l.year) live (all-years h live t))))
 
 -- a year that is none of the first ones, nor the next
 pub not-among : (ys : List ℕ) (i : ℕ) (z : ℤ) → i < length ys → (Contains (map (λ y. pos y) (take i ys)) z → ⊥) → (pos (get_or ys i 0) ≡ z → ⊥) → Contains (map (λ y. pos y) (take (i + 1) ys)) z → ⊥
-not-among ys i z lt before here there = elim (Contains-push_cases (map (λ y. pos y) (take i ys)) (pos (get_or ys i 0)) z (subst (λ (l : List ℤ). Contains l z) (sym more) there)) as (λ _. ⊥) [ inl a ↦ before a | inr b ↦ here b ] where
-  more : map (λ y. pos y) (take i ys) ++ pos (get_or ys i 0) ∷ [] ≡ map (λ y. pos y) (take (i + 1) ys)
-  more = sym (map-append (λ (y : ℕ). pos y) (take i ys) (get_or ys i 0 ∷ [])) ∙ ap (λ (l : List ℕ). map (λ y. pos y) l) (take-at ys i (get_or ys i 0) lt (get_or_default ys i 0 (get_or ys i 0) lt))
+not-among ys i z lt before here there = elim (Contains-push_cases (map (λ y. pos y) (take i ys)) (pos (get_or ys i 0)) z
+    (subst (λ (l : List ℤ). Contains l z) (sym more) there)) as (λ _. ⊥) [ inl a ↦ before a | inr b ↦ here b ] where
+      more : map (λ y. pos y) (take i ys) ++ pos (get_or ys i 0) ∷ [] ≡ map (λ y. pos y) (take (i + 1) ys)
+      more = sym (map-append (λ (y : ℕ). pos y) (take i ys) (get_or ys i 0 ∷ [])) ∙ ap (λ (l : List ℕ). map (λ y. pos y) l) (take-at ys i (get_or ys i 0) lt (get_or_default ys i 0 (get_or ys i 0) lt))

@@ -79,8 +79,13 @@ live-told h live law sets years = record { right = right; whole = whole } where
   right l there =
       let p = year-place h l.year (years l there) in
       let y : ℕ = (entry_at h p.0).year in
-      let passes : (same_id l.id l.id && covers (one_year l) y) ≡ true = ap₂ (λ (a b : Bool). a && b) (same-refl l.id) (covered l y y p.2 ∙ covers-one y) in
-      (p.0, p.1, p.2, sets p.0 p.1 l.id ∙ any-map (λ (s : Span). same_id l.id s.id && covers s y) one_year live ∙ any-contains (λ (m : Live). same_id l.id m.id && covers (one_year m) y) live l there passes)
+      let passes : (same_id l.id l.id && covers (one_year l) y) ≡ true = ap₂ (λ (a b : Bool). a && b) (same-refl l.id) (covered l y y p.2 ∙ covers-one y) in (
+        p.0,
+        p.1,
+        p.2,
+        sets p.0 p.1 l.id ∙ any-map (λ (s : Span). same_id l.id s.id && covers s y) one_year live
+            ∙ any-contains (λ (m : Live). same_id l.id m.id && covers (one_year m) y) live l there passes,
+      )
 
   both-left : (a b : Bool) → (a && b) ≡ true → (a ≡ true) × (b ≡ true)
   both-left true b e = (refl, e)
@@ -89,7 +94,9 @@ live-told h live law sets years = record { right = right; whole = whole } where
   whole : (id : List ℕ) (i : ℕ) → holds h i id ≡ true → Contains live (record { year = pos (entry_at h i).year; id = id })
   whole id i held =
       let y : ℕ = (entry_at h i).year in
-      let found = some-contained (λ (m : Live). same_id id m.id && covers (one_year m) y) live (sym (any-map (λ (s : Span). same_id id s.id && covers s y) one_year live) ∙ sym (sets i (in-history h i id held) id) ∙ held) in
+      let found = some-contained (λ (m : Live). same_id id m.id && covers (one_year m) y) live
+      (sym (any-map (λ (s : Span). same_id id s.id && covers s y) one_year live)
+      ∙ sym (sets i (in-history h i id held) id) ∙ held) in
       let l : Live = found.0 in
       let both = both-left (same_id id l.id) (covers (one_year l) y) found.2 in
       let p = year-place h l.year (years l found.1) in
@@ -123,6 +130,8 @@ live-says c h years spans lines law fit small formats ys ss ids ls years-are set
   years_are = subst (IsPermutation c.years) (sym years-are) ys;
   live_are = live-told h c.live law (subst (λ (l : List Span). SetsAre l h) ss sets) (λ l there.
       subst (λ (z : List ℤ). Contains z l.year) (sym years-are) (All-contains (λ (l : Live). Contains (map (λ y. pos y) years) l.year) c.live l
-      (All-from_recursion (λ (l : Live). Contains (map (λ y. pos y) years) l.year) c.live (years-of-live spans c.live (map (λ y. pos y) years) ss (recursion_from_All (λ s. Contains (map (λ y. pos y) years) s.since) spans known))) there));
+      (All-from_recursion (λ (l : Live). Contains (map (λ y. pos y) years) l.year) c.live
+      (years-of-live spans c.live (map (λ y. pos y) years) ss
+      (recursion_from_All (λ s. Contains (map (λ y. pos y) years) s.since) spans known))) there));
   lines_are = subst (IsPermutation c.lines) (sym lines-are) ls;
 }

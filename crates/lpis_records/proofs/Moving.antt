@@ -62,7 +62,13 @@ moved-tells c spans h t s =
 pub nothing-tells : Tells no_content []
 nothing-tells = record {
   kept = record {
-    lawful = record { first_year = λ lt. absurd (omega arith); years_rise = λ i j lt le. absurd (omega arith); consecutive = λ id i j k a b hi hk. cc hi; continued = λ id i d. absurd (let lt = d.0 in omega arith); successors = λ id i n. cc n };
+    lawful = record {
+      first_year = λ lt. absurd (omega arith);
+      years_rise = λ i j lt le. absurd (omega arith);
+      consecutive = λ id i j k a b hi hk. cc hi;
+      continued = λ id i d. absurd (let lt = d.0 in omega arith);
+      successors = λ id i n. cc n;
+    };
     fits = record { first = refl; once = λ row i. omega arith; of_dropped = λ id i n. cc n };
     ids = λ id i held. cc held;
     years = λ i. omega arith;

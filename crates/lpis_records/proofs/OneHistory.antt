@@ -1,5 +1,6 @@
 -- Tables say one history.
-use Rattle.std.proofs.Common.{◌≡◌, ◌∙◌, ◌<◌, ◌≤◌, ◌+◌, inl, inr, refl, sym, ap, ap₂, subst, arith, ℕ, zero, suc, ℤ, pos, List, [], ◌∷◌, ◌++◌, Bool, true, false, length, Option, None, Some, IsPermutation}
+use Rattle.std.proofs.Common.{◌≡◌, ◌∙◌, ◌<◌, ◌≤◌, ◌+◌, inl, inr, refl, sym, ap, ap₂, subst, arith, ℕ, zero, suc, ℤ, pos, List, [], ◌∷◌, ◌++◌, Bool, true, false, length, Option, None, Some}
+use Rattle.std.proofs.Common.{IsPermutation}
 use Rattle.std.specs.Prelude.{◌&&◌, ◌||◌, nat_le, nat_eq}
 use Rattle.std.specs.Ordering.{int_eq}
 use Rattle.std.specs.Int.Signed.{le_z}
@@ -85,7 +86,11 @@ sets-told h spans law t i lt id = sym (with-test spans t.right ∙ by (list_any 
 
 rows-have-texts : (rows : List Row) → ((id : List ℕ) → list_any (names id) rows ≡ true → is_id id ≡ true) → AllByRecursion HasText rows
 rows-have-texts [] f = tt
-rows-have-texts (r ∷ rs) f = (λ e. let n : names [] r ≡ true = ap (is_this []) e in let i = f [] (or-left (names [] r) (list_any (names []) rs) n) in cc, rows-have-texts rs (λ id n. f id (or-right (names id r) (list_any (names id) rs) n)))
+rows-have-texts (r ∷ rs) f = (
+  λ e. let n : names [] r ≡ true = ap (is_this []) e in let i =
+      f [] (or-left (names [] r) (list_any (names []) rs) n) in cc,
+  rows-have-texts rs (λ id n. f id (or-right (names id r) (list_any (names id) rs) n)),
+)
 
 pub have-texts : (h : List Entry) → IsKept h → AllByRecursion (λ e. AllByRecursion HasText e.rows) h
 have-texts h kept = all-entries (λ e. AllByRecursion HasText e.rows) h (λ i lt. rows-have-texts (entry_at h i).rows (λ id n. kept.ids id i (kept.lawful.successors id i n)))
@@ -148,7 +153,9 @@ same-rows [] (y ∷ k) e a b f g l i = absurd cc
 same-rows (x ∷ h) [] e a b f g l i = absurd cc
 same-rows (x ∷ h) (y ∷ k) e a b f g l i =
     let at : pos x.year ≡ pos y.year = ap year_in e in
-    let both = rows-apart x.year 0 x.rows y.rows (lines_of h) (lines_of k) (lines-above (pos x.year) h a.0) (lines-above (pos x.year) k (subst (λ (z : ℤ). AllByRecursion (below z) (years_of k)) (sym at) b.0)) f.0 g.0 (l ∙ ap (λ (z : ℤ). lines_from z 0 y.rows ++ lines_of k) (sym at)) in
+    let both = rows-apart x.year 0 x.rows y.rows (lines_of h) (lines_of k) (lines-above (pos x.year) h a.0)
+    (lines-above (pos x.year) k (subst (λ (z : ℤ). AllByRecursion (below z) (years_of k)) (sym at) b.0)) f.0 g.0
+    (l ∙ ap (λ (z : ℤ). lines_from z 0 y.rows ++ lines_of k) (sym at)) in
     by i both.0 (same-rows h k (ap years_rest e) a.1 b.1 f.1 g.1 both.1) where
       by : (i : ℕ) → x.rows ≡ y.rows → ((j : ℕ) → (entry_at h j).rows ≡ (entry_at k j).rows) → (entry_at (x ∷ h) i).rows ≡ (entry_at (y ∷ k) i).rows
       by zero now more = now

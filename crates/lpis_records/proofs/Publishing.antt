@@ -1,5 +1,6 @@
 -- Publishing: what the tables say after it.
-use Rattle.std.proofs.Common.{◌≡◌, ◌∙◌, ◌≤◌, ◌+◌, ◌⊎◌, inl, inr, refl, sym, ap, ap₂, subst, arith, ℕ, suc, ℤ, pos, List, [], ◌∷◌, ◌++◌, Bool, true, false, cond, map, length, Option, None, Some, IsPermutation}
+use Rattle.std.proofs.Common.{◌≡◌, ◌∙◌, ◌≤◌, ◌+◌, ◌⊎◌, inl, inr, refl, sym, ap, ap₂, subst, arith, ℕ, suc, ℤ, pos, List, [], ◌∷◌, ◌++◌, Bool, true, false, cond, map, length, Option, None, Some}
+use Rattle.std.proofs.Common.{IsPermutation}
 use Rattle.std.specs.Prelude.{◌&&◌, ◌||◌, not, is_some}
 use Rattle.std.specs.List.{AllByRecursion, filter, list_any}
 use Rattle.std.specs.List.Sorted.{IsStrictlySortedBy}
@@ -43,7 +44,8 @@ append-assoc {A = A} (x ∷ xs) ys zs = ap (λ (l : List A). x ∷ l) (append-as
 
 pub lines-more : (h : List Entry) (e : Entry) → lines_of (h ++ e ∷ []) ≡ lines_of h ++ lines_from (pos e.year) 0 e.rows
 lines-more [] e = append-nil (lines_from (pos e.year) 0 e.rows)
-lines-more (x ∷ h) e = ap (λ (l : List Line). lines_from (pos x.year) 0 x.rows ++ l) (lines-more h e) ∙ sym (append-assoc (lines_from (pos x.year) 0 x.rows) (lines_of h) (lines_from (pos e.year) 0 e.rows))
+lines-more (x ∷ h) e = ap (λ (l : List Line). lines_from (pos x.year) 0 x.rows ++ l) (lines-more h e)
+    ∙ sym (append-assoc (lines_from (pos x.year) 0 x.rows) (lines_of h) (lines_from (pos e.year) 0 e.rows))
 
 years-told : (ys : List ℤ) (h : List Entry) (e : Entry) → IsPermutation ys (years_of h) → IsPermutation (pos e.year ∷ ys) (years_of (h ++ e ∷ []))
 years-told ys h e m = subst (λ (l : List ℤ). IsPermutation (pos e.year ∷ ys) l) (sym (years-more h e)) (
@@ -128,7 +130,8 @@ fresh-facts h live gone fresh id w is = by (has_id live id) refl (is_some (span_
 abbrev both : ℤ → ℤ → Option (ℤ × ℤ)
 both a b = Some (a, b)
 
-fresh-right : (h : List Entry) (e : Entry) (live gone fresh : List (List ℕ)) (id : List ℕ) → Follows h e.live e.rows → ((q : List ℕ) → has_id e.live q ≡ has_id live q) → IsWriting h live gone fresh → has_id fresh id ≡ true
+fresh-right : (h : List Entry) (e : Entry) (live gone fresh : List (List ℕ)) (id : List ℕ) → Follows h e.live e.rows
+    → ((q : List ℕ) → has_id e.live q ≡ has_id live q) → IsWriting h live gone fresh → has_id fresh id ≡ true
     → IsSpanRow (h ++ e ∷ []) (fresh_span (pos e.year) id)
 fresh-right h e live gone fresh id follows alike w is =
     let f = fresh-facts h live gone fresh id w is in
@@ -165,7 +168,12 @@ same-length false x y xs ys e = e
 
 count-ended : (y : ℤ) (gone : List (List ℕ)) (id : List ℕ) (spans : List Span) → length (filter (λ s. same_id id s.id) (map (end_among y gone) spans)) ≡ length (filter (λ s. same_id id s.id) spans)
 count-ended y gone id [] = refl
-count-ended y gone id (s ∷ ss) = ap (λ (q : List ℕ). length (cond (same_id id q) (end_among y gone s ∷ filter (λ s. same_id id s.id) (map (end_among y gone) ss)) (filter (λ s. same_id id s.id) (map (end_among y gone) ss)))) (end-id y gone s) ∙ same-length (same_id id s.id) _ _ _ _ (count-ended y gone id ss)
+count-ended y gone id (s ∷ ss) =
+    ap
+    (λ (q : List ℕ). length
+    (cond (same_id id q) (end_among y gone s ∷ filter (λ s. same_id id s.id) (map (end_among y gone) ss))
+    (filter (λ s. same_id id s.id) (map (end_among y gone) ss)))) (end-id y gone s) ∙ same-length (same_id id s.id) _ _
+    _ _ (count-ended y gone id ss)
 
 any-ended : (y : ℤ) (gone : List (List ℕ)) (id : List ℕ) (spans : List Span) → list_any (λ s. same_id id s.id) (map (end_among y gone) spans) ≡ list_any (λ s. same_id id s.id) spans
 any-ended y gone id [] = refl
@@ -195,7 +203,8 @@ once-ascending id (x ∷ xs) a = by (same_id id x) refl (once-ascending id xs a.
   by true e ih = let z = filter-none (same_id id) xs (ap (has_id xs) (same-exact id x (sym e)) ∙ none-above x xs a.0) in omega (arith, z)
   by false e ih = ih
 
-spans-told : (spans : List Span) (h : List Entry) (e : Entry) (live gone fresh : List (List ℕ)) → Follows h e.live e.rows → ((q : List ℕ) → has_id e.live q ≡ has_id live q) → IsWriting h live gone fresh
+spans-told : (spans : List Span) (h : List Entry) (e : Entry) (live gone fresh : List (List ℕ))
+    → Follows h e.live e.rows → ((q : List ℕ) → has_id e.live q ≡ has_id live q) → IsWriting h live gone fresh
     → SpansTell spans h → SpansTell (rev_onto (map (fresh_span (pos e.year)) fresh) (map (end_among (pos (last_year h)) gone) spans)) (h ++ e ∷ [])
 spans-told spans h e live gone fresh follows alike w t = spans-moved (new ++ old) (rev_onto new old) (h ++ e ∷ []) (rev-moved new old) (record { once = once; right = right; whole = whole }) where
   new : List Span
@@ -227,7 +236,11 @@ spans-told spans h e live gone fresh follows alike w t = spans-moved (new ++ old
   right = all-append (IsSpanRow (h ++ e ∷ [])) new old (all-new fresh (λ id is. is)) (all-old spans t.right) where
     all-new : (ids : List (List ℕ)) → ((id : List ℕ) → has_id ids id ≡ true → has_id fresh id ≡ true) → AllByRecursion (IsSpanRow (h ++ e ∷ [])) (map (fresh_span (pos e.year)) ids)
     all-new [] among = tt
-    all-new (q ∷ qs) among = (fresh-right h e live gone fresh q follows alike w (among q (ap (λ (b : Bool). b || has_id qs q) (same-refl q))), all-new qs (λ id is. among id (or-right (same_id id q) (has_id qs id) is)))
+    all-new (q ∷ qs) among = (
+      fresh-right h e live gone fresh q follows alike w
+          (among q (ap (λ (b : Bool). b || has_id qs q) (same-refl q))),
+      all-new qs (λ id is. among id (or-right (same_id id q) (has_id qs id) is)),
+    )
 
     all-old : (ss : List Span) → AllByRecursion (IsSpanRow h) ss → AllByRecursion (IsSpanRow (h ++ e ∷ [])) (map (end_among (pos (last_year h)) gone) ss)
     all-old [] a = tt
@@ -252,11 +265,14 @@ spans-told spans h e live gone fresh follows alike w t = spans-moved (new ++ old
     here j was = or-right (list_any (λ s. same_id id s.id) new) (list_any (λ s. same_id id s.id) old) (any-ended (pos (last_year h)) gone id spans ∙ t.whole id j was)
 
 -- the law
-pub published-tells : (c : Content) (h k : List Entry) (year : ℕ) (live gone fresh : List (List ℕ)) (rows : List Row) → Tells c h → Adds h k year live rows → IsLawful k → RowsFit k → year ≤ last_of_years → IsWriting h live gone fresh
+pub published-tells : (c : Content) (h k : List Entry) (year : ℕ) (live gone fresh : List (List ℕ)) (rows : List Row)
+    → Tells c h → Adds h k year live rows → IsLawful k → RowsFit k → year ≤ last_of_years → IsWriting h live gone fresh
     → Tells (published (pos year) (pos (last_year h)) gone fresh rows c) k
 published-tells c h k year live gone fresh rows t (e, k-is, year-is, is) law fit small w =
     by (subst IsLawful k-is law) (subst RowsFit k-is fit) where
-      at : (y : ℕ) (rs : List Row) → e.year ≡ y → e.rows ≡ rs → IsLawful (h ++ e ∷ []) → RowsFit (h ++ e ∷ []) → e.year ≤ last_of_years → Tells (published (pos e.year) (pos (last_year h)) gone fresh e.rows c) (h ++ e ∷ [])
+      at : (y : ℕ) (rs : List Row) → e.year ≡ y → e.rows ≡ rs → IsLawful (h ++ e ∷ []) → RowsFit (h ++ e ∷ [])
+          → e.year ≤ last_of_years → Tells (published (pos e.year) (pos (last_year h)) gone fresh e.rows c)
+          (h ++ e ∷ [])
       at y rs ey er law fit small =
           let follows = follows-back h e law fit in
           subst (λ (d : Content). Tells d (h ++ e ∷ [])) (sym (published-is (pos e.year) (pos (last_year h)) gone fresh e.rows c)) (record {
@@ -271,4 +287,5 @@ published-tells c h k year live gone fresh rows t (e, k-is, year-is, is) law fit
       by law fit =
           subst (λ (l : List Entry). Tells (published (pos year) (pos (last_year h)) gone fresh rows c) l) (sym k-is) (
           subst (λ (y : ℕ). Tells (published (pos y) (pos (last_year h)) gone fresh rows c) (h ++ e ∷ [])) year-is (
-          subst (λ (rs : List Row). Tells (published (pos e.year) (pos (last_year h)) gone fresh rs c) (h ++ e ∷ [])) is.rows_are (at year rows year-is is.rows_are law fit (omega (arith, small, year-is)))))
+          subst (λ (rs : List Row). Tells (published (pos e.year) (pos (last_year h)) gone fresh rs c) (h ++ e ∷ []))
+          is.rows_are (at year rows year-is is.rows_are law fit (omega (arith, small, year-is)))))

@@ -39,7 +39,10 @@ all-years [] all = tt
 all-years (x ∷ h) all = (all.0, all-years h all.1)
 
 pub told-years : (h : List Entry) (ys : List ℤ) → IsKept h → IsPermutation ys (years_of h) → All IsYear ys
-told-years h ys kept p = all-moved-from IsYear ys (years_of h) p (all-years h (all-entries (λ e. IsYear (pos e.year)) h (λ i lt. ((entry_at h i).year, refl, above-zero h kept.lawful i lt, kept.years i))))
+told-years h ys kept p = all-moved-from IsYear ys (years_of h) p
+    (all-years h
+    (all-entries (λ e. IsYear (pos e.year)) h
+    (λ i lt. ((entry_at h i).year, refl, above-zero h kept.lawful i lt, kept.years i))))
 
 pub told-sorted-years : (h : List Entry) (ys : List ℤ) (sorted : List ℕ) → IsKept h → IsSorted nat_cmp sorted
     → IsPermutation ys (map (λ y. pos y) sorted) → IsPermutation ys (years_of h) → years_of h ≡ map (λ y. pos y) sorted
@@ -48,10 +51,12 @@ told-sorted-years h ys sorted kept up p q = sorted-years ys sorted (years_of h) 
 -- ---- spans
 
 pub told-ids : (h : List Entry) (spans : List Span) → IsKept h → SpansTell spans h → All (λ s. is_id s.id ≡ true) spans
-told-ids h spans kept t = All-from_recursion (λ s. is_id s.id ≡ true) spans (all-map (IsSpanRow h) (λ s. is_id s.id ≡ true) spans (λ s is. let there = spanned h s.id (some (span_of h s.id) (s.since, s.until) is) in kept.ids s.id there.0 there.1) t.right) where
-  some : (o : Option Years) (p : ℤ × ℤ) → shown o ≡ Some p → is_some o ≡ true
-  some None p e = absurd cc
-  some (Some y) p e = refl
+told-ids h spans kept t = All-from_recursion (λ s. is_id s.id ≡ true) spans
+    (all-map (IsSpanRow h) (λ s. is_id s.id ≡ true) spans (λ s is. let there =
+    spanned h s.id (some (span_of h s.id) (s.since, s.until) is) in kept.ids s.id there.0 there.1) t.right) where
+      some : (o : Option Years) (p : ℤ × ℤ) → shown o ≡ Some p → is_some o ≡ true
+      some None p e = absurd cc
+      some (Some y) p e = refl
 
 -- ---- lines
 
@@ -63,7 +68,12 @@ readable-rows : (y : ℤ) (n : ℕ) (rows : List Row) → ((id : List ℕ) → l
     → ((id : List ℕ) → list_any (names id) rows ≡ true → is_id id ≡ true) → AllByRecursion IsReadable (lines_from y n rows)
 readable-rows y n [] old new = tt
 readable-rows y n (r ∷ rs) old new = (
-  (old r.old (or-left (is_of r.old r) (list_any (is_of r.old) rs) (same-refl r.old)), readable-new r.new (λ id e. new id (or-left (names id r) (list_any (names id) rs) (ap (λ (o : Option (List ℕ)). is_this id o) e ∙ same-refl id)))),
+  (
+    old r.old (or-left (is_of r.old r) (list_any (is_of r.old) rs) (same-refl r.old)),
+    readable-new r.new
+        (λ id e. new id (or-left (names id r) (list_any (names id) rs) (ap (λ (o : Option (List ℕ)). is_this id o) e
+        ∙ same-refl id))),
+  ),
   readable-rows y (n + 1) rs (λ id e. old id (or-right (is_of id r) (list_any (is_of id) rs) e)) (λ id e. new id (or-right (names id r) (list_any (names id) rs) e)),
 )
 

@@ -20,7 +20,8 @@ use Rattle.lpis_records.proofs.Publishing.{lines-more, years-more}
 pub year-added : (h k : List Entry) (y : ℕ) (live : List (List ℕ)) (rows : List Row) → Adds h k y live rows → years_of k ≡ years_of h ++ pos y ∷ []
 year-added h k y live rows (e, k-is, year-is, is) = ap years_of k-is ∙ years-more h e ∙ ap (λ (n : ℕ). years_of h ++ pos n ∷ []) year-is
 
-pub lines-added : (h k : List Entry) (y : ℕ) (live : List (List ℕ)) (rows : List Row) (before after : List Line) → Adds h k y live rows → lines_of h ≡ before → after ≡ before ++ lines_from (pos y) 0 rows → lines_of k ≡ after
+pub lines-added : (h k : List Entry) (y : ℕ) (live : List (List ℕ)) (rows : List Row) (before after : List Line)
+    → Adds h k y live rows → lines_of h ≡ before → after ≡ before ++ lines_from (pos y) 0 rows → lines_of k ≡ after
 lines-added h k y live rows before after (e, k-is, year-is, is) b a =
     ap lines_of k-is ∙ lines-more h e ∙ ap₂ (λ (n : ℕ) (rs : List Row). lines_of h ++ lines_from (pos n) 0 rs) year-is is.rows_are ∙ ap (λ (l : List Line). l ++ lines_from (pos y) 0 rows) b ∙ sym a
 
@@ -28,7 +29,8 @@ pub any-map : {A B : Type 0} (p : B → Bool) (f : A → B) (xs : List A) → li
 any-map p f [] = refl
 any-map p f (x ∷ xs) = ap (λ (b : Bool). p (f x) || b) (any-map p f xs)
 
-pub sets-added : (h k : List Entry) (y : ℕ) (live : List (List ℕ)) (rows : List Row) (spans : List KnownSpan) → Adds h k y live rows → AreLive live y spans → SetsAre (map span_in spans) h → SetsAre (map span_in spans) k
+pub sets-added : (h k : List Entry) (y : ℕ) (live : List (List ℕ)) (rows : List Row) (spans : List KnownSpan)
+    → Adds h k y live rows → AreLive live y spans → SetsAre (map span_in spans) h → SetsAre (map span_in spans) k
 sets-added h k y live rows spans (e, k-is, year-is, is) alive sets = subst (SetsAre (map span_in spans)) (sym k-is) more where
   here : (i : ℕ) → entry_at (h ++ e ∷ []) i ≡ e → (id : List ℕ) → holds (h ++ e ∷ []) i id ≡ list_any (λ s. same_id id s.id && covers s (entry_at (h ++ e ∷ []) i).year) (map span_in spans)
   here i at id =

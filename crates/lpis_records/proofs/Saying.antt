@@ -35,7 +35,9 @@ pub count-map : (spans : List KnownSpan) (id : List ℕ) → length (filter (λ 
 count-map [] id = refl
 count-map (s ∷ ss) id = by (same_id id s.id) (count-map ss id) where
   by : (b : Bool) → length (filter (λ s. same_id id s.id) (map span_in ss)) ≡ length (filter (λ s. same_id id s.id) ss)
-      → length (cond b (span_in s ∷ filter (λ s. same_id id s.id) (map span_in ss)) (filter (λ s. same_id id s.id) (map span_in ss))) ≡ length (cond b (s ∷ filter (λ s. same_id id s.id) ss) (filter (λ s. same_id id s.id) ss))
+      → length (cond b (span_in s ∷ filter (λ s. same_id id s.id) (map span_in ss))
+      (filter (λ s. same_id id s.id) (map span_in ss))) ≡ length
+      (cond b (s ∷ filter (λ s. same_id id s.id) ss) (filter (λ s. same_id id s.id) ss))
   by true e = ap suc e
   by false e = e
 
@@ -65,7 +67,9 @@ pub kept-said : (h : List Entry) (years : List ℕ) (spans : List KnownSpan) →
 kept-said h years spans law fit small ids years-are sets = record {
   lawful = law;
   fits = fit;
-  ids = λ id i held. any-id spans id (recursion_from_All (λ s. is_id s.id ≡ true) spans ids) (any-left (λ (s : Span). same_id id s.id) (λ (s : Span). covers s (entry_at h i).year) (map span_in spans) (sym (sets i (in-history h i id held) id) ∙ held));
+  ids = λ id i held. any-id spans id (recursion_from_All (λ s. is_id s.id ≡ true) spans ids)
+      (any-left (λ (s : Span). same_id id s.id) (λ (s : Span). covers s (entry_at h i).year) (map span_in spans)
+      (sym (sets i (in-history h i id held) id) ∙ held));
   years = small-years h years years-are small;
 }
 
@@ -73,7 +77,8 @@ kept-said h years spans law fit small ids years-are sets = record {
 pub says : (c : Content) (h : List Entry) (years : List ℕ) (spans : List KnownSpan) (lines : List KnownLine) → IsLawful h → RowsFit h
     → AllByRecursion (λ y. y ≤ last_of_years) years → c.formats ≡ only_format 2
     → IsPermutation c.years (map (λ y. pos y) years) → map span_in spans ≡ c.spans → All (λ s. is_id s.id ≡ true) spans → ((id : List ℕ) → length (filter (λ s. same_id id s.id) spans) ≤ 1)
-    → IsPermutation c.lines (map line_in lines) → years_of h ≡ map (λ y. pos y) years → SetsAre (map span_in spans) h → lines_of h ≡ map line_in lines → All (λ s. IsSpanRow h (span_in s)) spans → Tells c h
+    → IsPermutation c.lines (map line_in lines) → years_of h ≡ map (λ y. pos y) years → SetsAre (map span_in spans) h
+    → lines_of h ≡ map line_in lines → All (λ s. IsSpanRow h (span_in s)) spans → Tells c h
 says c h years spans lines law fit small formats ys ss ids once ls years-are sets lines-are right = record {
   kept = kept-said h years spans law fit small ids years-are sets;
   formats_are = formats;

@@ -61,7 +61,9 @@ few-tied : {A : Type 0} (lt : A → A → Bool) → IsStrictWeakOrder lt → (xs
 few-tied lt order [] a z = omega arith
 few-tied {A = A} lt order (x ∷ xs) a z = by (ties lt z x) refl (few-tied lt order xs a.1 z) where
   by : (b : Bool) → b ≡ ties lt z x → length (filter (ties lt z) xs) ≤ 1 → length (cond (ties lt z x) (x ∷ filter (ties lt z) xs) (filter (ties lt z) xs)) ≤ 1
-  by true e few = let none = filter-none (ties lt z) xs (none-tied lt order z x xs (sym e) a.0) in let n = ap (λ (b : Bool). length (cond b (x ∷ filter (ties lt z) xs) (filter (ties lt z) xs))) (sym e) in omega (arith, none, n)
+  by true e few = let none = filter-none (ties lt z) xs (none-tied lt order z x xs (sym e) a.0) in let n =
+      ap (λ (b : Bool). length (cond b (x ∷ filter (ties lt z) xs) (filter (ties lt z) xs))) (sym e) in
+      omega (arith, none, n)
   by false e few = let n = ap (λ (b : Bool). length (cond b (x ∷ filter (ties lt z) xs) (filter (ties lt z) xs))) (sym e) in omega (arith, few, n)
 
 -- and what rises with at most one of each ascends strictly
@@ -88,7 +90,9 @@ strict-rises {A = A} lt order (x ∷ xs) up few = (strictly-above lt x xs up.0 (
   itself = ap (λ (b : Bool). not b && not b) (irreflexive (lt x x) refl)
 
   none : (b : Bool) → b ≡ list_any (ties lt x) xs → list_any (ties lt x) xs ≡ false
-  none true e = absurd (let some = filter-some (ties lt x) xs (sym e) in let n = ap (λ (b : Bool). length (cond b (x ∷ filter (ties lt x) xs) (filter (ties lt x) xs))) itself in let f = few x in omega (arith, some, n, f))
+  none true e = absurd (let some = filter-some (ties lt x) xs (sym e) in let n =
+      ap (λ (b : Bool). length (cond b (x ∷ filter (ties lt x) xs) (filter (ties lt x) xs))) itself in let f = few x in
+      omega (arith, some, n, f))
   none false e = sym e
 
   fewer : (z : A) (b : Bool) → b ≡ ties lt z x → length (filter (ties lt z) xs) ≤ 1
@@ -96,7 +100,9 @@ strict-rises {A = A} lt order (x ∷ xs) up few = (strictly-above lt x xs up.0 (
   fewer z false e = let n = ap (λ (b : Bool). length (cond b (x ∷ filter (ties lt z) xs) (filter (ties lt z) xs))) (sym e) in let f = few z in omega (arith, n, f)
 
 pub sorted-same : {A : Type 0} (lt : A → A → Bool) → IsStrictWeakOrder lt → (xs ys : List A) → Rises lt xs → Ascends (Less_by lt) ys → IsPermutation xs ys → xs ≡ ys
-sorted-same lt order xs ys up a p = same-ascending (Less_by lt) (λ x y r s. false-true (lt y x) (order.one_way x y r) s) xs ys (strict-rises lt order xs up (λ z. let n = count-moved (ties lt z) xs ys p in let f = few-tied lt order ys a z in omega (arith, n, f))) a p
+sorted-same lt order xs ys up a p = same-ascending (Less_by lt) (λ x y r s. false-true (lt y x) (order.one_way x y r) s)
+    xs ys (strict-rises lt order xs up (λ z. let n = count-moved (ties lt z) xs ys p in let f =
+    few-tied lt order ys a z in omega (arith, n, f))) a p
 
 -- ---- years and lines
 
@@ -111,7 +117,9 @@ nat-int a b = grind (arith, ints, nat_tests)
 pub sorted-years : (ys : List ℤ) (sorted : List ℕ) (told : List ℤ) → IsSorted nat_cmp sorted → Ascends below told
     → IsPermutation ys (map (λ y. pos y) sorted) → IsPermutation ys told → told ≡ map (λ y. pos y) sorted
 sorted-years ys sorted told up a p q = sym (sorted-same (λ (x y : ℤ). is_lt (int_cmp x y)) (ranks_by int_cmp_total (λ (z : ℤ). z)) (map (λ y. pos y) sorted) told
-    (rises-far (λ (x y : ℤ). is_lt (int_cmp x y)) (λ y. pos y) sorted (λ i j d le lt. sym (nat-int (get_or sorted j d) (get_or sorted i d)) ∙ sorted_far (λ (x y : ℕ). is_lt (nat_cmp x y)) (nat_order) sorted up i j d le lt))
+    (rises-far (λ (x y : ℤ). is_lt (int_cmp x y)) (λ y. pos y) sorted
+    (λ i j d le lt. sym (nat-int (get_or sorted j d) (get_or sorted i d))
+    ∙ sorted_far (λ (x y : ℕ). is_lt (nat_cmp x y)) (nat_order) sorted up i j d le lt))
     (ascends-map below (Less_by (λ (x y : ℤ). is_lt (int_cmp x y))) told (λ x y r. ap is_lt (below-less x y r)) a)
     (IsPermutation-trans (map (λ y. pos y) sorted) ys told (IsPermutation-sym ys (map (λ y. pos y) sorted) p) q)) where
       nat_order : IsStrictWeakOrder (λ (x y : ℕ). is_lt (nat_cmp x y))

@@ -38,7 +38,8 @@ has-at (x ∷ xs) (suc i) id lt at = later (same_id id x) (has-at xs i id (omega
   later true e = refl
   later false e = e
 
-pub rows-more : (h : List Entry) (ids : List (List ℕ)) (i : ℕ) (id : List ℕ) (rows new : List Span) (s : Span) → i < length ids → id ≡ get_or ids i id → s.id ≡ id → IsSpanRow h s → new ≡ rows ++ s ∷ []
+pub rows-more : (h : List Entry) (ids : List (List ℕ)) (i : ℕ) (id : List ℕ) (rows new : List Span) (s : Span)
+    → i < length ids → id ≡ get_or ids i id → s.id ≡ id → IsSpanRow h s → new ≡ rows ++ s ∷ []
     → (map (λ (s : Span). s.id) rows ≡ take i ids) × All (IsSpanRow h) rows → (map (λ (s : Span). s.id) new ≡ take (i + 1) ids) × All (IsSpanRow h) new
 rows-more h ids i id rows new s lt at is right n inv = rw n (read-more (λ (s : Span). s.id) rows s ids i id inv.0 lt at is, All-push (IsSpanRow h) rows s inv.1 right)
 
@@ -61,13 +62,15 @@ live-held (x ∷ h) (suc i) q e = has-append x.live (all_live h) q ∙ later (ha
 held-first : (h : List Entry) (q : List ℕ) → has_id (all_live h) q ≡ true → is_some (first_held h q) ≡ true
 held-first [] q e = cc e
 held-first (x ∷ h) q e = by (held-first h q) (has_id x.live q) refl (sym (has-append x.live (all_live h) q) ∙ e) where
-  by : (has_id (all_live h) q ≡ true → is_some (first_held h q) ≡ true) → (b : Bool) → b ≡ has_id x.live q → (b || has_id (all_live h) q) ≡ true → is_some (cond b (Some x.year) (first_held h q)) ≡ true
+  by : (has_id (all_live h) q ≡ true → is_some (first_held h q) ≡ true) → (b : Bool) → b ≡ has_id x.live q
+      → (b || has_id (all_live h) q) ≡ true → is_some (cond b (Some x.year) (first_held h q)) ≡ true
   by ih true eb is = refl
   by ih false eb is = ih is
 
 pub held-span : (h : List Entry) (q : List ℕ) → has_id (all_live h) q ≡ true → is_some (span_of h q) ≡ true
 held-span h q e = by (first_held h q) refl (last_held h q) refl (held-first h q e) where
-  by : (f : Option ℕ) → f ≡ first_held h q → (l : Option ℕ) → l ≡ last_held h q → is_some (first_held h q) ≡ true → is_some (span_between (first_held h q) (last_held h q) (has_id (last_live h) q)) ≡ true
+  by : (f : Option ℕ) → f ≡ first_held h q → (l : Option ℕ) → l ≡ last_held h q → is_some (first_held h q) ≡ true
+      → is_some (span_between (first_held h q) (last_held h q) (has_id (last_live h) q)) ≡ true
   by None ef l el s = absurd (let n = ap is_some ef in cc)
   by (Some f) ef None el s = absurd (let p = first-place h q f (sym ef) in let t = held-some h q p.0 p.1 in let n = ap is_some el in cc)
   by (Some f) ef (Some l) el s = ap₂ (λ (a b : Option ℕ). is_some (span_between a b (has_id (last_live h) q))) (sym ef) (sym el)
@@ -87,7 +90,9 @@ sorted-has h found sorted q is moved = has-dedup sorted q ∙ sym (list_any-IsPe
 pub spans-listed : (h : List Entry) (found sorted : List (List ℕ)) (rows : List Span) → found ≡ all_live h → IsPermutation found sorted → IsSorted (slice_cmp nat_cmp) sorted
     → map (λ (s : Span). s.id) rows ≡ dedup same_id sorted → All (IsSpanRow h) rows → SpansTell rows h
 spans-listed h found sorted rows is moved up ids right = record {
-  once = λ id. let c = count-ids rows id in let e = ap (λ (l : List (List ℕ)). length (filter (same_id id) l)) ids in let o = once-ascending id (dedup same_id sorted) (IsStrictlySortedBy-dedup nat_list_cmp_total texts_ties sorted up) in omega (arith, c, e, o);
+  once = λ id. let c = count-ids rows id in let e = ap (λ (l : List (List ℕ)). length (filter (same_id id) l)) ids in
+      let o = once-ascending id (dedup same_id sorted) (IsStrictlySortedBy-dedup nat_list_cmp_total texts_ties sorted
+      up) in omega (arith, c, e, o);
   right = recursion_from_All (IsSpanRow h) rows right;
   whole = λ id i held. any-ids rows id ∙ ap (λ (l : List (List ℕ)). has_id l id) ids ∙ sorted-has h found sorted id is moved ∙ live-held h i id held;
 }

@@ -48,13 +48,19 @@ lines-of-year y n rs = all-map (From y 0) (λ l. l.year ≡ y) (lines_from y n r
 
 from-ascends : (y : ℤ) (n : ℕ) (rs : List Row) → Ascends line_below (lines_from y n rs)
 from-ascends y n [] = tt
-from-ascends y n (r ∷ rs) = (all-map (From y (n + 1)) (line_below (record { year = y; place = pos n; old = r.old; new = text_of r.new })) (lines_from y (n + 1) rs) (λ l f. inr (sym f.0, after n l f.1)) (lines-from y (n + 1) (n + 1) rs (omega arith)), from-ascends y (n + 1) rs) where
+from-ascends y n (r ∷ rs) = (
+  all-map (From y (n + 1)) (line_below (record { year = y; place = pos n; old = r.old; new = text_of r.new }))
+      (lines_from y (n + 1) rs) (λ l f. inr (sym f.0, after n l f.1)) (lines-from y (n + 1) (n + 1) rs (omega arith)),
+  from-ascends y (n + 1) rs,
+) where
   after : (n : ℕ) (l : Line) → (p : ℕ) × (l.place ≡ pos p) × (n + 1 ≤ p) → below (pos n) l.place
   after n l (p, e, le) = subst (below (pos n)) (sym e) (let r : n < p = omega arith in r)
 
 pub lines-above : (y : ℤ) (h : List Entry) → AllByRecursion (below y) (years_of h) → AllByRecursion (λ l. below y l.year) (lines_of h)
 lines-above y [] a = tt
-lines-above y (x ∷ h) a = all-append (λ l. below y l.year) (lines_from (pos x.year) 0 x.rows) (lines_of h) (all-map (λ l. l.year ≡ pos x.year) (λ l. below y l.year) (lines_from (pos x.year) 0 x.rows) (λ l e. subst (below y) (sym e) a.0) (lines-of-year (pos x.year) 0 x.rows)) (lines-above y h a.1)
+lines-above y (x ∷ h) a = all-append (λ l. below y l.year) (lines_from (pos x.year) 0 x.rows) (lines_of h)
+    (all-map (λ l. l.year ≡ pos x.year) (λ l. below y l.year) (lines_from (pos x.year) 0 x.rows)
+    (λ l e. subst (below y) (sym e) a.0) (lines-of-year (pos x.year) 0 x.rows)) (lines-above y h a.1)
 
 pub lines-ascend : (h : List Entry) → Ascends below (years_of h) → Ascends line_below (lines_of h)
 lines-ascend [] a = tt

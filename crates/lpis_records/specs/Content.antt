@@ -1,5 +1,7 @@
--- What the rows of the register's tables are, in no order, and what publishing and moving make of them.
-use Rattle.std.specs.Prelude.{ℕ, ℤ, pos, ◌+◌, if◌then◌else◌, [], ◌∷◌, List, map, fold, Option, None, Some}
+-- What the rows of the register's tables are, in no order, and what publishing and moving make of
+-- them.
+use Rattle.std.specs.Prelude.{ℕ, ℤ, pos, ◌+◌, if◌then◌else◌, [], ◌∷◌, List, map, fold, Option, None}
+use Rattle.std.specs.Prelude.{Some}
 use Rattle.std.specs.Str.{bytes_eq}
 use Rattle.lpis_lineage.specs.declared.row.Row.{Row}
 
@@ -8,13 +10,15 @@ pub record Format : Type 0 where
   pub one : ℤ
   pub version : ℤ
 
--- a row of `lpis_span`: an identifier, the year of the first release that holds it and that of the last, or 0
+-- a row of `lpis_span`: an identifier, the year of the first release that holds it and that of the
+-- last, or 0
 pub record Span : Type 0 where
   pub id : List ℕ
   pub since : ℤ
   pub until : ℤ
 
--- a row of `lpis_row`: the row of lineage at a place, from 0, of the release of a year; `new` is empty for an ending
+-- a row of `lpis_row`: the row of lineage at a place, from 0, of the release of a year; `new` is
+-- empty for an ending
 pub record Line : Type 0 where
   pub year : ℤ
   pub place : ℤ
@@ -36,7 +40,14 @@ pub record Content : Type 0 where
 
 -- what opening makes of nothing
 abbrev pub no_content : Content
-no_content = record { formats = (record { one = pos 1; version = pos 2 }) ∷ []; years = []; spans = []; lines = []; live = [] }
+no_content = record {
+  formats = (record { one = pos 1; version = pos 2 }) ∷ [];
+  years = [];
+  spans =
+      [];
+  lines = [];
+  live = [];
+}
 
 -- ---- one statement each
 
@@ -96,14 +107,17 @@ text_of (Some id) = id
 -- the rows of a year's release, of which the first has this place
 abbrev pub lines_from : ℤ → ℕ → List Row → List Line
 lines_from year n [] = []
-lines_from year n (r ∷ rs) = (record { year = year; place = pos n; old = r.old; new = text_of r.new }) ∷ lines_from year (n + 1) rs
+lines_from year n (r ∷ rs) =
+    (record { year = year; place = pos n; old = r.old; new = text_of r.new }) ∷ lines_from year
+    (n + 1) rs
 
 -- ---- publishing, and moving from version 1 to 2
 
--- a release more: the spans of dropped identifiers end with the last release's year, those of fresh ones begin with this one;
--- its rows of lineage stand by their places from 0
+-- a release more: the spans of dropped identifiers end with the last release's year, those of fresh
+-- ones begin with this one; its rows of lineage stand by their places from 0
 abbrev pub published : ℤ → ℤ → List (List ℕ) → List (List ℕ) → List Row → Content → Content
-published year last gone fresh rows c = with_lines (lines_from year 0 rows) (with_spans year fresh (all_ended last gone (with_year year c)))
+published year last gone fresh rows c = with_lines (lines_from year 0 rows)
+    (with_spans year fresh (all_ended last gone (with_year year c)))
 
 -- these spans in place of any, no live rows, version 2
 abbrev pub moved : List Span → Content → Content

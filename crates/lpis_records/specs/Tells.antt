@@ -1,5 +1,6 @@
 -- What the tables say as a history: relations over whole lists, up to the order of rows.
-use Rattle.std.specs.Prelude.{◌≡◌, ◌<◌, ◌≤◌, ◌&&◌, ◌++◌, true, not, is_some, ℕ, ℤ, pos, List, [], ◌∷◌, length, Option, None, Some, IsPermutation}
+use Rattle.std.specs.Prelude.{◌≡◌, ◌<◌, ◌≤◌, ◌&&◌, ◌++◌, true, not, is_some, ℕ, ℤ, pos, List, []}
+use Rattle.std.specs.Prelude.{◌∷◌, length, Option, None, Some, IsPermutation}
 use Rattle.std.specs.List.{AllByRecursion, Contains, filter, list_any}
 use Rattle.lpis_covers.specs.Ids.{has_id, is_id, same_id}
 use Rattle.lpis_lineage.specs.declared.row.Entry.{Entry}
@@ -14,7 +15,8 @@ use Rattle.lpis_records.specs.Content.{Content, Format, Line, Live, Span, lines_
 abbrev pub last_of_years : ℕ
 last_of_years = 65535
 
--- a history that tables may say: lawful, with fitting rows, well-formed identifiers, and years up to the greatest
+-- a history that tables may say: lawful, with fitting rows, well-formed identifiers, and years up
+-- to the greatest
 pub record IsKept (h : List Entry) : Type 0 where
   pub lawful : IsLawful h
   pub fits : RowsFit h
@@ -35,8 +37,8 @@ abbrev pub shown : Option Years → Option (ℤ × ℤ)
 shown None = None
 shown (Some s) = Some (pos s.first, pos s.last)
 
--- the row is the span of its identifier: `since` is the year of the first release that holds it; `until` is 0 while it is live in
--- the last release, else the year of the last release that held it
+-- the row is the span of its identifier: `since` is the year of the first release that holds it;
+-- `until` is 0 while it is live in the last release, else the year of the last release that held it
 abbrev pub IsSpanRow : List Entry → Span → Type 0
 IsSpanRow h s = shown (span_of h s.id) ≡ Some (s.since, s.until)
 
@@ -46,7 +48,8 @@ pub record SpansTell (spans : List Span) (h : List Entry) : Type 0 where
   pub once : (id : List ℕ) → length (filter (λ s. same_id id s.id) spans) ≤ 1
   pub right : AllByRecursion (IsSpanRow h) spans
   -- each identifier of a release has one
-  pub whole : (id : List ℕ) (i : ℕ) → holds h i id ≡ true → list_any (λ s. same_id id s.id) spans ≡ true
+  pub whole : (id : List ℕ) (i : ℕ) → holds h i id ≡ true → list_any (λ s. same_id id s.id) spans
+      ≡ true
 
 -- the one row of `lpis_format`
 abbrev pub only_format : ℕ → List Format
@@ -62,8 +65,10 @@ pub record Tells (c : Content) (h : List Entry) : Type 0 where
 
 -- the rows of `lpis_live` are the identifiers of the releases
 pub record LiveTells (live : List Live) (h : List Entry) : Type 0 where
-  pub right : (l : Live) → Contains live l → (i : ℕ) × (i < length h) × (l.year ≡ pos (entry_at h i).year) × (holds h i l.id ≡ true)
-  pub whole : (id : List ℕ) (i : ℕ) → holds h i id ≡ true → Contains live (record { year = pos (entry_at h i).year; id = id })
+  pub right : (l : Live) → Contains live l → (i : ℕ) × (i < length h)
+      × (l.year ≡ pos (entry_at h i).year) × (holds h i l.id ≡ true)
+  pub whole : (id : List ℕ) (i : ℕ) → holds h i id ≡ true
+      → Contains live (record { year = pos (entry_at h i).year; id = id })
 
 -- what tables of version 1 say
 pub record TellsLive (c : Content) (h : List Entry) : Type 0 where

@@ -1,6 +1,7 @@
 //! Releases put together from years, spans and lines.
 
-ghost use Rattle.std.specs.Prelude.{◌≡◌, ◌≤◌, ◌++◌, ◌∷◌, List, [], pos, length, map, take, IfErr, IfOk, OnOk};
+ghost use Rattle.std.specs.Prelude.{◌≡◌, ◌≤◌, ◌++◌, ◌∷◌, List, [], pos, length, map, take, IfErr};
+ghost use Rattle.std.specs.Prelude.{IfOk, OnOk};
 ghost use Rattle.lpis_lineage.specs.declared.fault.AddFault.TheVariants.{Memory as WantsMemory};
 ghost use Rattle.lpis_lineage.specs.declared.row.Entry.{Entry};
 ghost use Rattle.lpis_records.specs.declared.fault.RecordsFault.TheVariants.{Unlawful};
@@ -26,8 +27,10 @@ fn add_year(
     requires within { from ≤ length lines.now }
     ensures within { IfOk result (λ next. next ≤ length lines.now) }
     ensures years { OnOk result (years_of history.new ≡ years_of history.old ++ pos year ∷ []) }
-    ensures sets { OnOk result (SetsAre (map span_in spans.now) history.old → SetsAre (map span_in spans.now) history.new) }
-    ensures lines { lines_of history.old ≡ map line_in (take from lines.now) → IfOk result (λ next. lines_of history.new ≡ map line_in (take next lines.now)) }
+    ensures sets { OnOk result (SetsAre (map span_in spans.now) history.old → SetsAre (map span_in spans.now)
+        history.new) }
+    ensures lines { lines_of history.old ≡ map line_in (take from lines.now)
+        → IfOk result (λ next. lines_of history.new ≡ map line_in (take next lines.now)) }
     ensures front { OnOk result ((h : List Entry) → IsSaid spans.now lines.now h
         → IsDue history.old lines.now from year h → IsFront history.new h) }
     ensures refused { IfErr result (λ e. e ≡ Unlawful → (h : List Entry) → IsSaid spans.now lines.now h
@@ -51,7 +54,8 @@ fn fault_of(fault: AddFault) -> RecordsFault
     }
 }
 
-/// The history of these years, in which each release holds the identifiers whose span covers its year; all lines are used.
+/// The history of these years, in which each release holds the identifiers whose span covers its
+/// year; all lines are used.
 pub(crate) fn build(
     alloc: Global,
     years: &[u16],

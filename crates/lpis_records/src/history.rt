@@ -13,7 +13,8 @@ use crate::rows::Rows;
 use lpis_lineage::History;
 use std::alloc::Global;
 
-/// The history that rows of version 2 say, in whatever order they are; `Unlawful` exactly where they say none.
+/// The history that rows of version 2 say, in whatever order they are; `Unlawful` exactly where
+/// they say none.
 pub fn history_of(alloc: Global, rows: &Rows) -> Result<History, RecordsFault>
     ensures ok { IfOk result (Tells rows.now) }
     ensures unlawful { IfErr result (λ e. e ≡ Unlawful → (h : List Entry) → Tells rows.now h → ⊥) }

@@ -1,6 +1,8 @@
 //! Rows with their identifiers read.
 
-ghost use Rattle.std.specs.Prelude.{◌≡◌, ◌↔◌, ◌⊎◌, ◌≤◌, ◌<◌, true, false, pos, ℕ, List, [], length, map, Some, IfErr, IfNone, IfOk, IfSome, IsPermutation, IsSorted, IsTrue};
+ghost use Rattle.std.specs.Prelude.{◌≡◌, ◌↔◌, ◌⊎◌, ◌≤◌, ◌<◌, true, false, pos, ℕ, List, [], length};
+ghost use Rattle.std.specs.Prelude.{map, Some, IfErr, IfNone, IfOk, IfSome, IsPermutation};
+ghost use Rattle.std.specs.Prelude.{IsSorted, IsTrue};
 ghost use Rattle.std.specs.List.{All, filter};
 ghost use Rattle.std.specs.List.Sorted.{IsSortedByKey};
 ghost use Rattle.std.specs.Ordering.{nat_cmp};
@@ -9,7 +11,8 @@ ghost use Rattle.lpis_records.specs.declared.fault.RecordsFault.TheVariants.{Unl
 ghost use Rattle.lpis_records.specs.Content.{text_of};
 ghost use Rattle.lpis_records.specs.Tells.{last_of_years};
 ghost use Rattle.lpis_records.specs.private.Covering.{covers};
-ghost use Rattle.lpis_records.specs.private.Known.{HasText, IsReadable, IsYear, line_cmp, line_in, span_in};
+ghost use Rattle.lpis_records.specs.private.Known.{HasText, IsReadable, IsYear, line_cmp, line_in};
+ghost use Rattle.lpis_records.specs.private.Known.{span_in};
 
 use crate::fault::RecordsFault;
 use crate::rows::{LineRow, SpanRow};
@@ -120,7 +123,8 @@ impl KnownLine {
 fn read_successor(alloc: Global, text: &str) -> Result<Option<Id>, RecordsFault>
     ensures same { IfOk result (λ new. text_of new ≡ text.now) }
     ensures text { IfOk result (λ new. new ≡ Some [] → ⊥) }
-    ensures refused { IfErr result (λ e. e ≡ Unlawful → (text.now ≡ []) ⊎ (is_id text.now ≡ true) → ⊥) }
+    ensures refused { IfErr result (λ e. e ≡ Unlawful → (text.now ≡ []) ⊎ (is_id text.now ≡ true)
+        → ⊥) }
 {
     if text.is_empty() {
         return Ok(None);

@@ -8,11 +8,16 @@ ghost use Rattle.lpis_lineage.specs.Lineage.{last_live, last_year};
 ghost use Rattle.lpis_lineage.specs.declared.row.Entry.{Entry};
 ghost use Rattle.lpis_lineage.specs.declared.row.Row.{Row};
 ghost use Rattle.lpis_records.specs.Content.{Content, Span, moved, no_content, published};
-ghost use Rattle.lpis_records.specs.Tells.{IsFresh, IsSameContent, IsSameHistory, IsWriting, SpansTell, Tells, TellsLive, last_of_years};
+ghost use Rattle.lpis_records.specs.Tells.{IsFresh, IsSameContent, IsSameHistory, IsWriting};
+ghost use Rattle.lpis_records.specs.Tells.{SpansTell, Tells, TellsLive, last_of_years};
 
-/// Where tables say a history, they say that history with a release more after what publishing it writes.
+/// Where tables say a history, they say that history with a release more after what publishing it
+/// writes.
 pub fn publishing_adds_the_release()
-    ensures { (c : Content) (h k : List Entry) (year : ℕ) (live gone fresh : List (List ℕ)) (rows : List Row) → Tells c h → Adds h k year live rows → IsLawful k → RowsFit k → year ≤ last_of_years → IsWriting h live gone fresh → Tells (published (pos year) (pos (last_year h)) gone fresh rows c) k }
+    ensures { (c : Content) (h k : List Entry) (year : ℕ) (live gone fresh : List (List ℕ))
+        (rows : List Row) → Tells c h → Adds h k year live rows → IsLawful k → RowsFit k
+        → year ≤ last_of_years → IsWriting h live gone fresh
+        → Tells (published (pos year) (pos (last_year h)) gone fresh rows c) k }
 {}
 
 /// Tables say one history.
@@ -27,17 +32,23 @@ pub fn tables_of_version_1_say_one_history()
 
 /// Rows in another order say the same, and tables with no release say the empty history.
 pub fn order_of_rows_is_free()
-    ensures reordered { (c d : Content) (h : List Entry) → IsSameContent c d → Tells c h → Tells d h }
-    ensures reordered_live { (c d : Content) (h : List Entry) → IsSameContent c d → TellsLive c h → TellsLive d h }
+    ensures reordered { (c d : Content) (h : List Entry) → IsSameContent c d → Tells c h
+        → Tells d h }
+    ensures reordered_live { (c d : Content) (h : List Entry) → IsSameContent c d → TellsLive c h
+        → TellsLive d h }
     ensures nothing { Tells no_content [] }
 {}
 
-/// Where tables of version 1 say a history, they say it as version 2 after its spans are put in place of the live rows.
+/// Where tables of version 1 say a history, they say it as version 2 after its spans are put in
+/// place of the live rows.
 pub fn moving_keeps_the_history()
-    ensures { (c : Content) (spans : List Span) (h : List Entry) → TellsLive c h → SpansTell spans h → Tells (moved spans c) h }
+    ensures { (c : Content) (spans : List Span) (h : List Entry) → TellsLive c h → SpansTell spans h
+        → Tells (moved spans c) h }
 {}
 
 /// What a change drops and what is fresh is what publishing writes.
 pub fn changes_tell_what_is_written()
-    ensures { (h : List Entry) (live fresh : List (List ℕ)) (rows : List Row) (change : Changes) → IsChange (last_live h) live rows change → IsFresh h live fresh → IsWriting h live change.dropped_ids fresh }
+    ensures { (h : List Entry) (live fresh : List (List ℕ)) (rows : List Row) (change : Changes)
+        → IsChange (last_live h) live rows change → IsFresh h live fresh
+        → IsWriting h live change.dropped_ids fresh }
 {}

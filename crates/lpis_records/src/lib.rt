@@ -1,4 +1,5 @@
-//! What the rows of the register's tables say as a history, and what publishing writes. No call reaches a database.
+//! What the rows of the register's tables say as a history, and what publishing writes. No call
+//! reaches a database.
 #![tactic(auto)]
 
 mod building;

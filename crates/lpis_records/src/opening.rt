@@ -1,6 +1,7 @@
 //! The history that rows say.
 
-ghost use Rattle.std.specs.Prelude.{◌≡◌, ◌↔◌, ◌≤◌, ◌+◌, ◌++◌, ◌∷◌, ◌&&◌, [], pos, true, ℕ, List, length, map, take, IfErr, IfOk, IsTrue};
+ghost use Rattle.std.specs.Prelude.{◌≡◌, ◌↔◌, ◌≤◌, ◌+◌, ◌++◌, ◌∷◌, ◌&&◌, [], pos, true, ℕ, List};
+ghost use Rattle.std.specs.Prelude.{length, map, take, IfErr, IfOk, IsTrue};
 ghost use Rattle.std.specs.List.{All, list_any};
 ghost use Rattle.lpis_covers.specs.Ids.{has_id, same_id};
 ghost use Rattle.lpis_records.specs.declared.fault.RecordsFault.TheVariants.{Unlawful};
@@ -29,7 +30,8 @@ pub(crate) fn has_version(formats: &[FormatRow], version: u16) -> bool
 
 /// The identifiers whose span covers a year.
 pub(crate) fn live_ids(alloc: Global, spans: &[KnownSpan], year: u16) -> Result<Vec<Id>, AllocError>
-    ensures { IfOk result (λ v. (id : List ℕ) → has_id v.items id ≡ list_any (λ s. same_id id s.id && covers (span_in s) year) spans.now) }
+    ensures { IfOk result (λ v. (id : List ℕ) → has_id v.items id ≡ list_any (λ s. same_id id s.id
+        && covers (span_in s) year) spans.now) }
 {
     let mut ids = Vec::new(alloc);
     for span in spans {
@@ -58,7 +60,8 @@ fn row_at(
     place: usize,
 ) -> Result<Row, RecordsFault>
     requires within { next + 1 ≤ length lines.now }
-    ensures row { IfOk result (λ row. map line_in (take (next + 1) lines.now) ≡ map line_in (take next lines.now) ++ lines_from (pos year) place (row ∷ [])) }
+    ensures row { IfOk result (λ row. map line_in (take (next + 1) lines.now) ≡ map line_in
+        (take next lines.now) ++ lines_from (pos year) place (row ∷ [])) }
     ensures text { All (λ l. HasText l.row) lines.now → IfOk result HasText }
     ensures refused { IfErr result (λ e. e ≡ Unlawful
         → (line_at (map line_in lines.now) next).year ≡ pos year
@@ -81,7 +84,8 @@ pub(crate) fn rows_of_year(
     year: u16,
 ) -> Result<(Vec<Row>, usize), RecordsFault>
     requires within { from ≤ length lines.now }
-    ensures rows { IfOk result (λ p. map line_in (take p.1 lines.now) ≡ map line_in (take from lines.now) ++ lines_from (pos year) 0 p.0.items) }
+    ensures rows { IfOk result (λ p. map line_in (take p.1 lines.now) ≡ map line_in (take from lines.now)
+        ++ lines_from (pos year) 0 p.0.items) }
     ensures within { IfOk result (λ p. p.1 ≤ length lines.now) }
     ensures texts { All (λ l. HasText l.row) lines.now → IfOk result (λ p. All HasText p.0.items) }
     ensures run { IfOk result (λ p. (stop : ℕ) → IsRun (map line_in lines.now) from year stop

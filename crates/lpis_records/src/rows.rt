@@ -54,7 +54,8 @@ impl Model for SpanRow {
 }
 
 impl SpanRow {
-    /// An identifier, the year of the first release that holds it, and that of the last, 0 while it is live.
+    /// An identifier, the year of the first release that holds it, and that of the last, 0 while it
+    /// is live.
     pub fn new(id: String, since: i64, until: i64) -> SpanRow
         ensures id { result.id ≡ string_bytes id }
         ensures since { result.since ≡ since }
@@ -100,7 +101,13 @@ impl Model for LineRow {
 
     ghost Value = { Line };
 
-    ghost view = { λ a. record { year = a.year; place = a.place; old = string_bytes a.old; new = string_bytes a.new } };
+    ghost view = { λ a. record {
+      year = a.year;
+      place = a.place;
+      old = string_bytes a.old;
+      new =
+          string_bytes a.new;
+    } };
 }
 
 impl LineRow {
@@ -203,7 +210,13 @@ impl Model for Rows {
 
     ghost Value = { Content };
 
-    ghost view = { λ a. record { formats = a.formats.items; years = a.years.items; spans = a.spans.items; lines = a.lines.items; live = a.live.items } };
+    ghost view = { λ a. record {
+      formats = a.formats.items;
+      years = a.years.items;
+      spans = a.spans.items;
+      lines = a.lines.items;
+      live = a.live.items;
+    } };
 }
 
 impl Rows {

@@ -58,7 +58,12 @@ made_history db told left = record { shape = New; spans = refl; content = no_con
 -- where they are made, and that fails
 pub opened_unmade : (is_new : Bool) (old new : State) → ((shape : Shape) (c : Content) → IsStored shape old c → ⊥) → (IsBare old → IsTrue is_new) → Tells no_content []
     → Survives old new (LeavesMade is_new old) → Survives old new (LeavesOpened old)
-opened_unmade is_new old new never fresh told = survives_weaker old new _ _ (λ _ db left. record { found = λ shape c r. absurd (never shape c r); bare = λ bare. made_history db told (left (fresh bare) bare) })
+opened_unmade is_new old new never fresh told =
+    survives_weaker old new _ _ (λ _ db left. record {
+      found = λ shape c r. absurd (never shape c r);
+      bare =
+          λ bare. made_history db told (left (fresh bare) bare);
+    })
 
 -- where they are made
 pub opened_made : (is_new spans lives : Bool) (old mid new : State) → ((shape : Shape) (c : Content) → IsStored shape old c → ⊥) → (IsBare old → IsTrue is_new) → Tells no_content []

@@ -12,7 +12,8 @@ use Rattle.lpis_register.specs.Opening.{SaysAt}
 less_live : (c : Content) (h : List Entry) → Tells c h → Tells (without_live c) h
 less_live c h t = record { kept = t.kept; formats_are = t.formats_are; years_are = t.years_are; spans_are = t.spans_are; lines_are = t.lines_are }
 
-pub one_history : (st : State) (h k : List Entry) → ((s t : Shape) (c d : Content) → has_spans s ≡ true → has_spans t ≡ true → IsStored s st c → IsStored t st d → IsSameContent (without_live c) (without_live d))
+pub one_history : (st : State) (h k : List Entry) → ((s t : Shape) (c d : Content) → has_spans s ≡ true
+    → has_spans t ≡ true → IsStored s st c → IsStored t st d → IsSameContent (without_live c) (without_live d))
     → ((c d : Content) (h : List Entry) → IsSameContent c d → Tells c h → Tells d h)
     → ((c : Content) (h k : List Entry) → Tells c h → Tells c k → IsSameHistory h k)
     → HoldsHistory st h → HoldsHistory st k → IsSameHistory h k

@@ -44,13 +44,18 @@ any_err (Err e) P p = p
 
 -- ---- what is refused says no history
 
-pub made_never : {X : Type 0} (r : Result X PublishFault) → Tells no_content [] → IfErr r (λ e. e ≡ Unlawful → (first : Bool) (h : List Entry) → SaysAt first no_content h → ⊥) → IfErr r (λ e. e ≡ Unlawful → ⊥)
+pub made_never : {X : Type 0} (r : Result X PublishFault) → Tells no_content []
+    → IfErr r (λ e. e ≡ Unlawful → (first : Bool) (h : List Entry) → SaysAt first no_content h → ⊥)
+    → IfErr r (λ e. e ≡ Unlawful → ⊥)
 made_never (Ok x) told h = tt
 made_never (Err e) told h = λ is. h is false [] told
 
 -- what the rows in another order don't say, these don't either
-pub refused_whole : {X : Type 0} (c rows : Content) (r : Result X PublishFault) → ((a b : Content) (h : List Entry) → IsSameContent a b → Tells a h → Tells b h) → ((a b : Content) (h : List Entry) → IsSameContent a b → TellsLive a h → TellsLive b h)
-    → IsSameContent c rows → IfErr r (λ e. e ≡ Unlawful → (first : Bool) (h : List Entry) → SaysAt first rows h → ⊥) → IfErr r (λ e. e ≡ Unlawful → (first : Bool) (h : List Entry) → SaysAt first c h → ⊥)
+pub refused_whole : {X : Type 0} (c rows : Content) (r : Result X PublishFault)
+    → ((a b : Content) (h : List Entry) → IsSameContent a b → Tells a h → Tells b h)
+    → ((a b : Content) (h : List Entry) → IsSameContent a b → TellsLive a h → TellsLive b h)
+    → IsSameContent c rows → IfErr r (λ e. e ≡ Unlawful → (first : Bool) (h : List Entry) → SaysAt first rows h → ⊥)
+    → IfErr r (λ e. e ≡ Unlawful → (first : Bool) (h : List Entry) → SaysAt first c h → ⊥)
 refused_whole c rows (Ok x) reordered reordered_live same none = tt
 refused_whole c rows (Err e) reordered reordered_live same none = λ is first h told. none is first h (moved_to first h told)
   where

@@ -53,7 +53,8 @@ fn open_found<S: Alter>(
     Ok(history)
 }
 
-/// The history that a database says, whose tables are those of version 2 afterwards; a database with none gets them.
+/// The history that a database says, whose tables are those of version 2 afterwards; a database
+/// with none gets them.
 pub(crate) fn open_tables<S: Alter>(
     alloc: Global,
     conn: &mut Connection<S>,
@@ -72,7 +73,8 @@ pub(crate) fn open_tables<S: Alter>(
     ensures same { HasCleanDisk (state S.Store conn.new) → IsTrue (state S.Store conn.new).is_open
         → (shape : _) (c : _) → IsStored shape (state S.Store conn.old) c
         → OnErr result (IsStored shape (state S.Store conn.new) c) }
-    ensures unlawful { HasCleanDisk (state S.Store conn.new) → (shape : _) (c : _) → IsStored shape (state S.Store conn.old) c
+    ensures unlawful { HasCleanDisk (state S.Store conn.new) → (shape : _) (c : _)
+        → IsStored shape (state S.Store conn.old) c
         → IfErr result (λ e. e ≡ Unlawful → (first : _) (h : _) → SaysAt first c h → ⊥) }
     ensures lawful { HasCleanDisk (state S.Store conn.new) → IsBare (state S.Store conn.old)
         → IfErr result (λ e. e ≡ Unlawful → ⊥) }
@@ -93,8 +95,9 @@ pub(crate) fn open_tables<S: Alter>(
 }
 
 impl<S: Alter + Drop> Register<S> {
-    /// Opens the register in a database: tables that are not there are made, and those of version 1 are moved to version 2. Rows that are
-    /// no lawful history are refused, and nothing is changed. The connection comes back beside a fault, and its tables hold what they held.
+    /// Opens the register in a database: tables that are not there are made, and those of version 1
+    /// are moved to version 2. Rows that are no lawful history are refused, and nothing is changed.
+    /// The connection comes back beside a fault, and its tables hold what they held.
     pub fn adopt(
         alloc: Global,
         mut connection: Connection<S>,
@@ -113,8 +116,10 @@ impl<S: Alter + Drop> Register<S> {
         ensures same { IfErr result (λ e. HasCleanDisk (state S.Store e.0)
             → IsTrue (state S.Store e.0).is_open → (shape : _) (c : _)
             → IsStored shape (state S.Store connection) c → IsStored shape (state S.Store e.0) c) }
-        ensures unlawful { IfErr result (λ e. e.1 ≡ Unlawful → HasCleanDisk (state S.Store e.0) → (shape : _) (c : _)
-            → IsStored shape (state S.Store connection) c → (first : _) (h : _) → SaysAt first c h → ⊥) }
+        ensures unlawful { IfErr result (λ e. e.1 ≡ Unlawful → HasCleanDisk (state S.Store e.0)
+            → (shape : _) (c : _)
+            → IsStored shape (state S.Store connection) c → (first : _) (h : _) → SaysAt first c h
+            → ⊥) }
         ensures lawful { IfErr result (λ e. e.1 ≡ Unlawful → HasCleanDisk (state S.Store e.0)
             → IsBare (state S.Store connection) → ⊥) }
         ensures clean { IfOk result (λ it. HasCleanDisk (state S.Store it.conn)

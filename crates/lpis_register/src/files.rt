@@ -20,8 +20,9 @@ use std::alloc::Global;
 use std::rt::HostRuntime;
 
 impl<S: Start> Register<FileStore<FileFrom<S>>> {
-    /// Opens the register in the file at a path, or makes one; `start` stands for what the file holds. A file that is no database, that
-    /// another program has locked, or whose disk fails is the register's failure to store. One that was not there begins with no release.
+    /// Opens the register in the file at a path, or makes one; `start` stands for what the file
+    /// holds. A file that is no database, that another program has locked, or whose disk fails is
+    /// the register's failure to store. One that was not there begins with no release.
     pub fn open_file(
         rt: &HostRuntime,
         alloc: Global,

@@ -15,15 +15,18 @@ use lpis_records::{
 use lpis_tables::a_database_holds_one_content;
 use sqlite::{Alter, Connection};
 
-/// After any list of calls of `publish` the history is the one before them with the accepted releases at its end, in their order. It is
-/// lawful, as every history, so years rise and none stands there twice.
+/// After any list of calls of `publish` the history is the one before them with the accepted
+/// releases at its end, in their order. It is lawful, as every history, so years rise and none
+/// stands there twice.
 pub fn accepted_releases_stand_in_order()
-    ensures { (h k : List Entry) (calls : List Call) → AllLead h calls k → (es : List Entry) × (k ≡ h ++ es) × AreReleasesOf (accepted calls) es }
+    ensures { (h k : List Entry) (calls : List Call) → AllLead h calls k → (es : List Entry)
+        × (k ≡ h ++ es) × AreReleasesOf (accepted calls) es }
 {}
 
 /// Rows say one history, whichever version they are of.
 pub fn rows_say_one_history()
-    ensures { (c : Content) (h k : List Entry) (first other : Bool) → SaysAt first c h → SaysAt other c k → IsSameHistory h k }
+    ensures { (c : Content) (h k : List Entry) (first other : Bool) → SaysAt first c h
+        → SaysAt other c k → IsSameHistory h k }
 {
     tables_say_one_history();
     tables_of_version_1_say_one_history();
@@ -31,7 +34,8 @@ pub fn rows_say_one_history()
 
 /// A database says one history.
 pub fn a_database_says_one_history<S: Alter>(conn: &Connection<S>)
-    ensures { (h k : List Entry) → HoldsHistory (state S.Store conn.now) h → HoldsHistory (state S.Store conn.now) k → IsSameHistory h k }
+    ensures { (h k : List Entry) → HoldsHistory (state S.Store conn.now) h
+        → HoldsHistory (state S.Store conn.now) k → IsSameHistory h k }
 {
     a_database_holds_one_content(conn);
     order_of_rows_is_free();

@@ -7,7 +7,8 @@ ghost use Rattle.lpis_lineage.specs.declared.row.Entry.{Entry};
 ghost use Rattle.lpis_records.specs.Tells.{IsSameHistory, Tells};
 ghost use Rattle.lpis_register.specs.Histories.{HoldsHistory};
 ghost use Rattle.lpis_register.specs.Opening.{IsOpeningFault};
-ghost use Rattle.lpis_register.specs.declared.fault.PublishFault.TheVariants.{Memory, Store, Unlawful};
+ghost use Rattle.lpis_register.specs.declared.fault.PublishFault.TheVariants.{Memory, Store};
+ghost use Rattle.lpis_register.specs.declared.fault.PublishFault.TheVariants.{Unlawful};
 
 use crate::fault::PublishFault;
 use lpis_lineage::History;
@@ -46,9 +47,14 @@ pub(crate) fn read_history<S: Alter>(
 ) -> Result<History, PublishFault>
     requires autocommit { conn.old.in_transaction ≡ false }
     ensures autocommit { conn.new.in_transaction ≡ false }
-    ensures ok { HasCleanDisk (state S.Store conn.new) → (h : _) → HoldsHistory (state S.Store conn.old) h → IfOk result (λ k. HoldsHistory (state S.Store conn.new) k × IsSameHistory h k) }
-    ensures lawful { HasCleanDisk (state S.Store conn.new) → (h : _) → HoldsHistory (state S.Store conn.old) h → IfErr result (λ e. e ≡ Unlawful → ⊥) }
-    ensures same { HasCleanDisk (state S.Store conn.new) → IsTrue (state S.Store conn.new).is_open → (h : _) → HoldsHistory (state S.Store conn.old) h → HoldsHistory (state S.Store conn.new) h }
+    ensures ok { HasCleanDisk (state S.Store conn.new) → (h : _)
+        → HoldsHistory (state S.Store conn.old) h
+        → IfOk result (λ k. HoldsHistory (state S.Store conn.new) k × IsSameHistory h k) }
+    ensures lawful { HasCleanDisk (state S.Store conn.new) → (h : _)
+        → HoldsHistory (state S.Store conn.old) h → IfErr result (λ e. e ≡ Unlawful → ⊥) }
+    ensures same { HasCleanDisk (state S.Store conn.new) → IsTrue (state S.Store conn.new).is_open
+        → (h : _) → HoldsHistory (state S.Store conn.old) h → HoldsHistory (state S.Store conn.new)
+        h }
     ensures clean { HasCleanDisk (state S.Store conn.new) → HasCleanDisk (state S.Store conn.old) }
 {
     order_of_rows_is_free();

@@ -32,7 +32,8 @@ fn change_of(
     live: &[Id],
     rows: &[Row],
 ) -> Result<Change, PublishFault>
-    ensures tells { (year : ℕ) → last_year history.now < year → PublishTells history.now year live.now rows.now result }
+    ensures tells { (year : ℕ) → last_year history.now < year → PublishTells history.now year
+        live.now rows.now result }
     ensures change { IfOk result (IsChange (last_live history.now) live.now rows.now) }
     ensures no_store { IfErr result (λ fault. (fault ≡ Store) → ⊥) }
 {

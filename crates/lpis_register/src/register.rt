@@ -8,8 +8,10 @@ ghost use Rattle.lpis_lineage.specs.Changes.{IsChange};
 ghost use Rattle.lpis_lineage.specs.Lineage.{last_live};
 ghost use Rattle.lpis_parcels.specs.Release.{parcel_ids};
 ghost use Rattle.lpis_records.specs.Tells.{IsSameHistory};
-ghost use Rattle.lpis_register.specs.Histories.{HoldsHistory, IsTrace, IsUnknown, LeavesHistory, LeavesRelease, PublishTells};
-ghost use Rattle.lpis_register.specs.declared.fault.PublishFault.TheVariants.{Memory, Store, Unknown, Unlawful};
+ghost use Rattle.lpis_register.specs.Histories.{HoldsHistory, IsTrace, IsUnknown, LeavesHistory};
+ghost use Rattle.lpis_register.specs.Histories.{LeavesRelease, PublishTells};
+ghost use Rattle.lpis_register.specs.declared.fault.PublishFault.TheVariants.{Memory, Store};
+ghost use Rattle.lpis_register.specs.declared.fault.PublishFault.TheVariants.{Unknown, Unlawful};
 
 use crate::fault::PublishFault;
 use crate::opening::read_history;
@@ -56,34 +58,50 @@ impl<S: Alter> Register<S> {
 
     /// What publishing a release would change, or why it would be refused. Nothing is written.
     pub fn preview(&self, year: u16, yes: &Yes<'_>, rows: &[Row]) -> Result<Change, PublishFault>
-        ensures tells { PublishTells self.now.history year (parcel_ids yes.now.parcels) rows.now result }
-        ensures change { IfOk result (IsChange (last_live self.now.history) (parcel_ids yes.now.parcels) rows.now) }
+        ensures tells { PublishTells self.now.history year (parcel_ids yes.now.parcels) rows.now
+            result }
+        ensures change { IfOk result (IsChange (last_live self.now.history) (parcel_ids yes.now.parcels)
+            rows.now) }
         ensures no_store { IfErr result (λ fault. (fault ≡ Store) → ⊥) }
     {
         let live = live_ids(self.alloc, yes)?;
         preview(self.alloc, &self.history, year, live.as_slice(), rows)
     }
 
-    /// Publishes a release that the check said yes to: its parcels' identifiers become live, and the history has it at its end. It is
-    /// refused where its year is not above the last one's, and else where its lineage is; a refusal leaves the history as it was.
+    /// Publishes a release that the check said yes to: its parcels' identifiers become live, and
+    /// the history has it at its end. It is refused where its year is not above the last one's, and
+    /// else where its lineage is; a refusal leaves the history as it was.
     ///
-    /// The whole release is one transaction, and all that needs memory comes before it: after a crash the tables have the release
-    /// whole or not at all, and always where the answer was Ok.
+    /// The whole release is one transaction, and all that needs memory comes before it: after a
+    /// crash the tables have the release whole or not at all, and always where the answer was Ok.
     pub fn publish(
         &mut self,
         year: u16,
         yes: &Yes<'_>,
         rows: &[Row],
     ) -> Result<Change, PublishFault>
-        ensures tells { PublishTells self.old.history year (parcel_ids yes.now.parcels) rows.now result }
-        ensures adds { OnOk result (Adds self.old.history self.new.history year (parcel_ids yes.now.parcels) rows.now) }
+        ensures tells { PublishTells self.old.history year (parcel_ids yes.now.parcels) rows.now
+            result }
+        ensures adds { OnOk result (Adds self.old.history self.new.history year (parcel_ids yes.now.parcels)
+            rows.now) }
         ensures refused { OnErr result (self.new.history ≡ self.old.history) }
-        ensures change { IfOk result (IsChange (last_live self.old.history) (parcel_ids yes.now.parcels) rows.now) }
+        ensures change { IfOk result (IsChange (last_live self.old.history) (parcel_ids yes.now.parcels)
+            rows.now) }
         ensures untouched { IfErr result (λ fault. (fault ≡ Store) ⊎ (self.new.conn ≡ self.old.conn)) }
-        ensures ok { HasCleanDisk (state S.Store self.new.conn) → HoldsHistory (state S.Store self.old.conn) self.old.history → OnOk result (HoldsHistory (state S.Store self.new.conn) self.new.history) }
-        ensures err { HasCleanDisk (state S.Store self.new.conn) → IsTrue (state S.Store self.new.conn).is_open → HoldsHistory (state S.Store self.old.conn) self.old.history → OnErr result (HoldsHistory (state S.Store self.new.conn) self.new.history) }
-        ensures crash { HoldsHistory (state S.Store self.old.conn) self.old.history → Survives (state S.Store self.old.conn) (state S.Store self.new.conn) (LeavesRelease self.old.history year (parcel_ids yes.now.parcels) rows.now) }
-        ensures durable { HasCleanDisk (state S.Store self.new.conn) → HoldsHistory (state S.Store self.old.conn) self.old.history → OnOk result ((db : _) → (state S.Store self.new.conn).may_leave db → LeavesHistory self.new.history db) }
+        ensures ok { HasCleanDisk (state S.Store self.new.conn)
+            → HoldsHistory (state S.Store self.old.conn) self.old.history
+            → OnOk result (HoldsHistory (state S.Store self.new.conn) self.new.history) }
+        ensures err { HasCleanDisk (state S.Store self.new.conn)
+            → IsTrue (state S.Store self.new.conn).is_open
+            → HoldsHistory (state S.Store self.old.conn) self.old.history
+            → OnErr result (HoldsHistory (state S.Store self.new.conn) self.new.history) }
+        ensures crash { HoldsHistory (state S.Store self.old.conn) self.old.history
+            → Survives (state S.Store self.old.conn) (state S.Store self.new.conn)
+            (LeavesRelease self.old.history year (parcel_ids yes.now.parcels) rows.now) }
+        ensures durable { HasCleanDisk (state S.Store self.new.conn)
+            → HoldsHistory (state S.Store self.old.conn) self.old.history
+            → OnOk result ((db : _) → (state S.Store self.new.conn).may_leave db
+            → LeavesHistory self.new.history db) }
     {
         let live = live_ids(self.alloc, yes)?;
         publish_release(
@@ -96,21 +114,30 @@ impl<S: Alter> Register<S> {
         )
     }
 
-    /// The identifiers of the last release that chains of rows, from old to new, reach from an identifier, itself among them where it is
-    /// live; ascending by bytes, each once. `Unknown` where it is in no release.
+    /// The identifiers of the last release that chains of rows, from old to new, reach from an
+    /// identifier, itself among them where it is live; ascending by bytes, each once. `Unknown`
+    /// where it is in no release.
     pub fn trace(&self, id: &Id) -> Result<Vec<Id>, PublishFault>
         ensures found { IfOk result (λ ids. IsTrace self.now.history id.now ids.items) }
-        ensures unknown { IfErr result (λ fault. (fault ≡ Memory) ⊎ ((fault ≡ Unknown) × IsUnknown self.now.history id.now)) }
+        ensures unknown { IfErr result (λ fault. (fault ≡ Memory)
+            ⊎ ((fault ≡ Unknown) × IsUnknown self.now.history id.now)) }
     {
         trace(self.alloc, &self.history, id)
     }
 
     /// The history that the tables say, read from them. Nothing is changed.
     pub fn history(&mut self) -> Result<History, PublishFault>
-        ensures ok { HasCleanDisk (state S.Store self.new.conn) → HoldsHistory (state S.Store self.old.conn) self.old.history → IfOk result (λ k. IsSameHistory self.old.history k) }
-        ensures lawful { HasCleanDisk (state S.Store self.new.conn) → HoldsHistory (state S.Store self.old.conn) self.old.history → IfErr result (λ fault. (fault ≡ Unlawful) → ⊥) }
+        ensures ok { HasCleanDisk (state S.Store self.new.conn)
+            → HoldsHistory (state S.Store self.old.conn) self.old.history
+            → IfOk result (λ k. IsSameHistory self.old.history k) }
+        ensures lawful { HasCleanDisk (state S.Store self.new.conn)
+            → HoldsHistory (state S.Store self.old.conn) self.old.history
+            → IfErr result (λ fault. (fault ≡ Unlawful) → ⊥) }
         ensures kept { self.new.history ≡ self.old.history }
-        ensures same { HasCleanDisk (state S.Store self.new.conn) → IsTrue (state S.Store self.new.conn).is_open → HoldsHistory (state S.Store self.old.conn) self.old.history → HoldsHistory (state S.Store self.new.conn) self.new.history }
+        ensures same { HasCleanDisk (state S.Store self.new.conn)
+            → IsTrue (state S.Store self.new.conn).is_open
+            → HoldsHistory (state S.Store self.old.conn) self.old.history
+            → HoldsHistory (state S.Store self.new.conn) self.new.history }
     {
         read_history(self.alloc, &mut self.conn)
     }

@@ -7,7 +7,8 @@ ghost use Rattle.lpis_lineage.specs.Accepts.{Adds};
 ghost use Rattle.lpis_lineage.specs.Changes.{IsChange};
 ghost use Rattle.lpis_lineage.specs.Lineage.{last_live, last_year};
 ghost use Rattle.lpis_records.specs.Tells.{IsWriting};
-ghost use Rattle.lpis_register.specs.Histories.{HoldsHistory, LeavesHistory, LeavesRelease, PublishTells};
+ghost use Rattle.lpis_register.specs.Histories.{HoldsHistory, LeavesHistory, LeavesRelease};
+ghost use Rattle.lpis_register.specs.Histories.{PublishTells};
 ghost use Rattle.lpis_register.specs.declared.fault.PublishFault.TheVariants.{Store};
 
 use crate::fault::PublishFault;
@@ -29,10 +30,23 @@ fn write_prepared<S: Alter>(
 ) -> Result<(), PublishFault>
     requires autocommit { conn.old.in_transaction ≡ false }
     ensures autocommit { conn.new.in_transaction ≡ false }
-    ensures ok { (h : _) (live : _) → Adds h history.now year live rows.now → last ≡ last_year h → IsWriting h live prepared.now.change.dropped_ids prepared.now.fresh.items → HasCleanDisk (state S.Store conn.new) → HoldsHistory (state S.Store conn.old) h → OnOk result (HoldsHistory (state S.Store conn.new) history.now) }
-    ensures err { (h : _) → HasCleanDisk (state S.Store conn.new) → IsTrue (state S.Store conn.new).is_open → HoldsHistory (state S.Store conn.old) h → OnErr result (HoldsHistory (state S.Store conn.new) h) }
-    ensures crash { (h : _) (live : _) → Adds h history.now year live rows.now → last ≡ last_year h → IsWriting h live prepared.now.change.dropped_ids prepared.now.fresh.items → HoldsHistory (state S.Store conn.old) h → Survives (state S.Store conn.old) (state S.Store conn.new) (LeavesHistory history.now) }
-    ensures durable { (h : _) (live : _) → Adds h history.now year live rows.now → last ≡ last_year h → IsWriting h live prepared.now.change.dropped_ids prepared.now.fresh.items → HasCleanDisk (state S.Store conn.new) → HoldsHistory (state S.Store conn.old) h → OnOk result ((db : _) → (state S.Store conn.new).may_leave db → LeavesHistory history.now db) }
+    ensures ok { (h : _) (live : _) → Adds h history.now year live rows.now → last ≡ last_year h
+        → IsWriting h live prepared.now.change.dropped_ids prepared.now.fresh.items
+        → HasCleanDisk (state S.Store conn.new) → HoldsHistory (state S.Store conn.old) h
+        → OnOk result (HoldsHistory (state S.Store conn.new) history.now) }
+    ensures err { (h : _) → HasCleanDisk (state S.Store conn.new)
+        → IsTrue (state S.Store conn.new).is_open → HoldsHistory (state S.Store conn.old) h
+        → OnErr result (HoldsHistory (state S.Store conn.new) h) }
+    ensures crash { (h : _) (live : _) → Adds h history.now year live rows.now → last ≡ last_year h
+        → IsWriting h live prepared.now.change.dropped_ids prepared.now.fresh.items
+        → HoldsHistory (state S.Store conn.old) h → Survives (state S.Store conn.old)
+        (state S.Store conn.new) (LeavesHistory history.now) }
+    ensures durable { (h : _) (live : _) → Adds h history.now year live rows.now
+        → last ≡ last_year h → IsWriting h live prepared.now.change.dropped_ids
+        prepared.now.fresh.items → HasCleanDisk (state S.Store conn.new)
+        → HoldsHistory (state S.Store conn.old) h
+        → OnOk result ((db : _) → (state S.Store conn.new).may_leave db
+        → LeavesHistory history.now db) }
     ensures fault { IfErr result (λ e. e ≡ Store) }
 {
     let dropped = prepared.change.dropped();
@@ -43,8 +57,9 @@ fn write_prepared<S: Alter>(
     }
 }
 
-/// Publishes a release: writes it after the history that the tables say, and both have it at their end. With a refusal both are as
-/// before. All that needs memory comes before the tables are written.
+/// Publishes a release: writes it after the history that the tables say, and both have it at their
+/// end. With a refusal both are as before. All that needs memory comes before the tables are
+/// written.
 pub(crate) fn publish_release<S: Alter>(
     alloc: Global,
     conn: &mut Connection<S>,
@@ -60,10 +75,17 @@ pub(crate) fn publish_release<S: Alter>(
     ensures refused { OnErr result (history.new ≡ history.old) }
     ensures change { IfOk result (IsChange (last_live history.old) live.now rows.now) }
     ensures untouched { IfErr result (λ fault. (fault ≡ Store) ⊎ (conn.new ≡ conn.old)) }
-    ensures ok { HasCleanDisk (state S.Store conn.new) → HoldsHistory (state S.Store conn.old) history.old → OnOk result (HoldsHistory (state S.Store conn.new) history.new) }
-    ensures err { HasCleanDisk (state S.Store conn.new) → IsTrue (state S.Store conn.new).is_open → HoldsHistory (state S.Store conn.old) history.old → OnErr result (HoldsHistory (state S.Store conn.new) history.old) }
-    ensures crash { HoldsHistory (state S.Store conn.old) history.old → Survives (state S.Store conn.old) (state S.Store conn.new) (LeavesRelease history.old year live.now rows.now) }
-    ensures durable { HasCleanDisk (state S.Store conn.new) → HoldsHistory (state S.Store conn.old) history.old → OnOk result ((db : _) → (state S.Store conn.new).may_leave db → LeavesHistory history.new db) }
+    ensures ok { HasCleanDisk (state S.Store conn.new) → HoldsHistory (state S.Store conn.old)
+        history.old → OnOk result (HoldsHistory (state S.Store conn.new) history.new) }
+    ensures err { HasCleanDisk (state S.Store conn.new) → IsTrue (state S.Store conn.new).is_open
+        → HoldsHistory (state S.Store conn.old) history.old
+        → OnErr result (HoldsHistory (state S.Store conn.new) history.old) }
+    ensures crash { HoldsHistory (state S.Store conn.old) history.old
+        → Survives (state S.Store conn.old) (state S.Store conn.new)
+        (LeavesRelease history.old year live.now rows.now) }
+    ensures durable { HasCleanDisk (state S.Store conn.new) → HoldsHistory (state S.Store conn.old)
+        history.old → OnOk result ((db : _) → (state S.Store conn.new).may_leave db
+        → LeavesHistory history.new db) }
 {
     let last = history.last_year();
     let prepared = prepare(alloc, history, year, live, rows)?;

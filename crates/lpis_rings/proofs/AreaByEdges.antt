@@ -35,7 +35,9 @@ steps-reverse f o [] = refl
 steps-reverse f o (a ∷ []) = refl
 steps-reverse f o (a ∷ (b ∷ ps)) =
     ap (λ (xs : List Point). edge_sum f (steps xs)) (reverse-cons a (b ∷ ps) ∙ ap (λ (xs : List Point). xs ++ a ∷ []) (reverse-cons b ps))
-    ∙ steps-push f (reverse ps) b a ∙ turned (edge_sum f (steps (reverse ps ++ b ∷ []))) (edge_sum f (steps (b ∷ ps))) (f a b) (f b a) (ap (λ (xs : List Point). edge_sum f (steps xs)) (sym (reverse-cons b ps)) ∙ steps-reverse f o (b ∷ ps)) (o.reversed a b)
+    ∙ steps-push f (reverse ps) b a ∙ turned (edge_sum f (steps (reverse ps ++ b ∷ []))) (edge_sum f (steps (b ∷ ps)))
+    (f a b) (f b a) (ap (λ (xs : List Point). edge_sum f (steps xs)) (sym (reverse-cons b ps))
+    ∙ steps-reverse f o (b ∷ ps)) (o.reversed a b)
   where
     turned : (x y v w : ℤ) → x ≡ neg_ℤ y → w ≡ neg_ℤ v → x +ℤ w ≡ neg_ℤ (v +ℤ y)
     turned x y v w e g = omega (arith, ints)
@@ -60,7 +62,9 @@ hole_sum ps = walk_sum (int_lt (pos 0) (shoelace ps)) ps ∙ abs_hole (shoelace 
 
 holes_sum : (hs : List (List Point)) → edge_sum shoelace_term (flat_map hole_edges hs) ≡ neg_ℤ (absolute_sums hs)
 holes_sum [] = refl
-holes_sum (h ∷ hs) = edge_sum-append shoelace_term (hole_edges h) (flat_map hole_edges hs) ∙ both (edge_sum shoelace_term (hole_edges h)) (edge_sum shoelace_term (flat_map hole_edges hs)) (pos (nat_abs (shoelace h))) (absolute_sums hs) (hole_sum h) (holes_sum hs)
+holes_sum (h ∷ hs) = edge_sum-append shoelace_term (hole_edges h) (flat_map hole_edges hs)
+    ∙ both (edge_sum shoelace_term (hole_edges h)) (edge_sum shoelace_term (flat_map hole_edges hs))
+    (pos (nat_abs (shoelace h))) (absolute_sums hs) (hole_sum h) (holes_sum hs)
   where
     both : (x y a b : ℤ) → x ≡ neg_ℤ a → y ≡ neg_ℤ b → x +ℤ y ≡ neg_ℤ (a +ℤ b)
     both x y a b e f = omega (arith, ints)
@@ -69,7 +73,11 @@ holes_sum (h ∷ hs) = edge_sum-append shoelace_term (hole_edges h) (flat_map ho
 pub area2_is : (ms : List Member) → edge_sum shoelace_term (edges_of ms) ≡ area2 ms
 area2_is [] = refl
 area2_is (m ∷ ms) =
-    edge_sum-append shoelace_term (member_edges m) (edges_of ms) ∙ ap₂ (λ (x y : ℤ). x +ℤ y) (edge_sum-append shoelace_term (shell_edges m.shell) (flat_map hole_edges m.holes) ∙ less (edge_sum shoelace_term (shell_edges m.shell)) (edge_sum shoelace_term (flat_map hole_edges m.holes)) (pos (nat_abs (shoelace m.shell))) (absolute_sums m.holes) (shell_sum m.shell) (holes_sum m.holes)) (area2_is ms)
+    edge_sum-append shoelace_term (member_edges m) (edges_of ms)
+    ∙ ap₂ (λ (x y : ℤ). x +ℤ y) (edge_sum-append shoelace_term (shell_edges m.shell) (flat_map hole_edges m.holes)
+    ∙ less (edge_sum shoelace_term (shell_edges m.shell)) (edge_sum shoelace_term (flat_map hole_edges m.holes))
+    (pos (nat_abs (shoelace m.shell))) (absolute_sums m.holes) (shell_sum m.shell) (holes_sum m.holes))
+    (area2_is ms)
   where
     less : (x y a b : ℤ) → x ≡ a → y ≡ neg_ℤ b → x +ℤ y ≡ a -ℤ b
     less x y a b e f = omega (arith, ints)

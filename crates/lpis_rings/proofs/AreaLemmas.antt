@@ -78,7 +78,8 @@ pub edge-more : (s : ℤ) (i : ℕ) (ps : List Point) (a b : Point) → 1 ≤ i 
 edge-more s i ps a b some h e f total =
     let same : i + 1 - 1 ≡ i = omega arith in
     let more = ap (λ (es : List (Point × Point)). s +ℤ edge_sum shoelace_term es) (sym (steps_at i ps a b some h e f)) ∙ total in
-    subst (λ (n : ℕ). (s +ℤ shoelace_term a b) +ℤ edge_sum shoelace_term (steps (drop n ps)) ≡ shoelace ps) (sym same) (regroup s (shoelace_term a b) (edge_sum shoelace_term (steps (drop i ps))) (shoelace ps) more)
+    subst (λ (n : ℕ). (s +ℤ shoelace_term a b) +ℤ edge_sum shoelace_term (steps (drop n ps)) ≡ shoelace ps) (sym same)
+    (regroup s (shoelace_term a b) (edge_sum shoelace_term (steps (drop i ps))) (shoelace ps) more)
 
 nothing-more : (s : ℤ) → s ≡ s +ℤ pos 0
 nothing-more s = omega (arith, ints)
@@ -94,7 +95,8 @@ only x = omega (arith, ints)
 
 absolute_sums-push : (rings : List (List Point)) (ring : List Point) → absolute_sums (rings ++ ring ∷ []) ≡ absolute_sums rings +ℤ pos (nat_abs (shoelace ring))
 absolute_sums-push [] ring = only (pos (nat_abs (shoelace ring)))
-absolute_sums-push (r ∷ rings) ring = regroup-right (pos (nat_abs (shoelace r))) (absolute_sums rings) (pos (nat_abs (shoelace ring))) (absolute_sums (rings ++ ring ∷ [])) (absolute_sums-push rings ring)
+absolute_sums-push (r ∷ rings) ring = regroup-right (pos (nat_abs (shoelace r))) (absolute_sums rings)
+    (pos (nat_abs (shoelace ring))) (absolute_sums (rings ++ ring ∷ [])) (absolute_sums-push rings ring)
 
 -- one more ring
 pub absolute_sums-more : (rings : List (List Point)) (i : ℕ) (ring : List Point) → i < length rings → ring ≡ get_or rings i ring

@@ -1,4 +1,5 @@
--- Triangles that keep apart cover each point at most once: first at the shifted point, which is off every line, and so everywhere.
+-- Triangles that keep apart cover each point at most once: first at the shifted point, which is off every line, and so
+-- everywhere.
 use Rattle.std.proofs.Common.{◌≡◌, ◌≢◌, ℤ, pos, ◌+ℤ◌, ◌≤ℤ◌, ◌<ℤ◌, Bool, true, false, cond, List, [], ◌∷◌, ◌++◌, inl, inr, All, ap, ap₂, sym, refl, ◌∙◌, subst, arith, get_or, filter, length}
 use Rattle.std.proofs.lemmas.Int.{ints, by_lt_z}
 use Rattle.std.proofs.lemmas.List.Elements.{All-cons, All-head, All-tail, All-append}
@@ -62,20 +63,28 @@ flats_off ts s f h = λ k d l. let t = get_or ts k d in let g = h k d l in off_o
 triangles_turn : (ts : List Triangle) (s : RationalPoint) → pos 0 <ℤ s.d → AllOff ts s → All IsCounterClockwise ts → edge_turns (edges_of_triangles ts) s ≡ inside_sum ts s
 triangles_turn [] s d o h = refl
 triangles_turn (t ∷ ts) s d o h =
-    grouped _ _ _ _ _ _ (turns_round-is t s d (All-head IsCounterClockwise t ts h) (All-head (λ u. IsOffItsLines u s) t ts o)) (triangles_turn ts s d (All-tail (λ u. IsOffItsLines u s) t ts o) (All-tail IsCounterClockwise t ts h))
+    grouped _ _ _ _ _ _ (turns_round-is t s d (All-head IsCounterClockwise t ts h)
+    (All-head (λ u. IsOffItsLines u s) t ts o)) (triangles_turn ts s d (All-tail (λ u. IsOffItsLines u s) t ts o)
+    (All-tail IsCounterClockwise t ts h))
 
 flats_turn : (ts : List Triangle) (s : RationalPoint) → pos 0 <ℤ s.d → AllOff ts s → All IsFlat ts → edge_turns (edges_of_triangles ts) s ≡ pos 0
 flats_turn [] s d o h = refl
 flats_turn (t ∷ ts) s d o h =
-    grouped _ _ _ _ (pos 0) (pos 0) (flats_never_turn t s d (All-head IsFlat t ts h).line (All-head (λ u. IsOffItsLines u s) t ts o)) (flats_turn ts s d (All-tail (λ u. IsOffItsLines u s) t ts o) (All-tail IsFlat t ts h))
+    grouped _ _ _ _ (pos 0) (pos 0) (flats_never_turn t s d (All-head IsFlat t ts h).line
+    (All-head (λ u. IsOffItsLines u s) t ts o)) (flats_turn ts s d (All-tail (λ u. IsOffItsLines u s) t ts o)
+    (All-tail IsFlat t ts h))
 
 plus_nought : (x y a : ℤ) → x ≡ a → y ≡ pos 0 → x +ℤ y ≡ a
 plus_nought x y a e f = omega (arith, ints)
 
 -- edges with the net counts of others and of flats turn as those do
-chained : (es fs : List (Point × Point)) (flats : List Triangle) (s : RationalPoint) → pos 0 <ℤ s.d → AllOff flats s → All IsFlat flats → SameNet same_point es (fs ++ edges_of_triangles flats) → edge_turns es s ≡ edge_turns fs s
+chained : (es fs : List (Point × Point)) (flats : List Triangle) (s : RationalPoint) → pos 0 <ℤ s.d → AllOff flats s
+    → All IsFlat flats → SameNet same_point es (fs ++ edges_of_triangles flats) → edge_turns es s ≡ edge_turns fs s
 chained es fs flats s d o h n =
-    chain_lemma same_point same_point-equality (λ a b. crossing a b s) (crossing-odd s) es (fs ++ edges_of_triangles flats) n ∙ edge_sum-append (λ a b. crossing a b s) fs (edges_of_triangles flats) ∙ plus_nought (edge_turns fs s) (edge_turns (edges_of_triangles flats) s) (edge_turns fs s) refl (flats_turn flats s d o h)
+    chain_lemma same_point same_point-equality (λ a b. crossing a b s) (crossing-odd s) es
+    (fs ++ edges_of_triangles flats) n ∙ edge_sum-append (λ a b. crossing a b s) fs (edges_of_triangles flats)
+    ∙ plus_nought (edge_turns fs s) (edge_turns (edges_of_triangles flats) s) (edge_turns fs s) refl
+    (flats_turn flats s d o h)
 
 cut_turns_off : (es : List (Point × Point)) (ts flats : List Triangle) (s : RationalPoint) → pos 0 <ℤ s.d → AllOff ts s → AllOff flats s → IsCut es ts flats → edge_turns es s ≡ inside_sum ts s
 cut_turns_off es ts flats s d o r c = chained es (edges_of_triangles ts) flats s d r c.flat c.net ∙ triangles_turn ts s d o c.ccw
@@ -92,7 +101,8 @@ inside_sum-is (t ∷ ts) s = by (is_inside t s) (inside_sum ts s) (filter (λ u.
     by false x us e = omega (arith, ints)
 
 -- off the lines of its triangles and flats a piece turns as often as triangles have the point inside
-pub piece_turns : (es : List (Point × Point)) (ts flats : List Triangle) → IsCut es ts flats → (s : RationalPoint) → pos 0 <ℤ s.d → AllOff ts s → AllOff flats s → edge_turns es s ≡ pos (inside_count ts s)
+pub piece_turns : (es : List (Point × Point)) (ts flats : List Triangle) → IsCut es ts flats → (s : RationalPoint)
+    → pos 0 <ℤ s.d → AllOff ts s → AllOff flats s → edge_turns es s ≡ pos (inside_count ts s)
 piece_turns es ts flats c s d o r = cut_turns_off es ts flats s d o r c ∙ inside_sum-is ts s
 
 -- ---- at most one triangle
@@ -106,10 +116,13 @@ none_common t t' s h h' k i j =
       ]
     ]
 
-none_later : (t : Triangle) (ts : List Triangle) (s : RationalPoint) → Free s → IsCounterClockwise t → All IsCounterClockwise ts → All (λ t'. KeepApart t t') ts → is_inside t s ≡ true → inside_sum ts s ≡ pos 0
+none_later : (t : Triangle) (ts : List Triangle) (s : RationalPoint) → Free s → IsCounterClockwise t
+    → All IsCounterClockwise ts → All (λ t'. KeepApart t t') ts → is_inside t s ≡ true → inside_sum ts s ≡ pos 0
 none_later t [] s f h hs k i = refl
 none_later t (t' ∷ ts) s f h hs k i =
-    outside (is_inside t' s) (inside_sum ts s) (λ j. none_common t t' s h (All-head IsCounterClockwise t' ts hs) (All-head (λ u. KeepApart t u) t' ts k) i j) (none_later t ts s f h (All-tail IsCounterClockwise t' ts hs) (All-tail (λ u. KeepApart t u) t' ts k) i)
+    outside (is_inside t' s) (inside_sum ts s) (λ j. none_common t t' s h (All-head IsCounterClockwise t' ts hs)
+    (All-head (λ u. KeepApart t u) t' ts k) i j) (none_later t ts s f h (All-tail IsCounterClockwise t' ts hs)
+    (All-tail (λ u. KeepApart t u) t' ts k) i)
   where
     outside : (b : Bool) (x : ℤ) → (b ≡ true → ⊥) → x ≡ pos 0 → cond b (pos 1) (pos 0) +ℤ x ≡ pos 0
     outside true x n e = absurd (n refl)
@@ -118,7 +131,8 @@ none_later t (t' ∷ ts) s f h hs k i =
 at_most_one : (ts : List Triangle) (s : RationalPoint) → Free s → All IsCounterClockwise ts → AllKeepApart ts → IsOneOrNone (inside_sum ts s)
 at_most_one [] s f h k = inl refl
 at_most_one (t ∷ ts) s f h k =
-    by (is_inside t s) (inside_sum ts s) (λ i. none_later t ts s f (All-head IsCounterClockwise t ts h) (All-tail IsCounterClockwise t ts h) k.0 i) (at_most_one ts s f (All-tail IsCounterClockwise t ts h) k.1)
+    by (is_inside t s) (inside_sum ts s) (λ i. none_later t ts s f (All-head IsCounterClockwise t ts h)
+    (All-tail IsCounterClockwise t ts h) k.0 i) (at_most_one ts s f (All-tail IsCounterClockwise t ts h) k.1)
   where
     one : (x : ℤ) → x ≡ pos 0 → pos 1 +ℤ x ≡ pos 1
     one x e = omega (arith, ints)
@@ -154,13 +168,17 @@ AllCut ps = All (λ p. IsCut p.edges p.triangles p.flats) ps
 
 all_ccw : (ps : List CutPiece) → AllCut ps → All IsCounterClockwise (all_triangles ps)
 all_ccw [] h = λ k d l. absurd (omega arith)
-all_ccw (p ∷ ps) h = All-append IsCounterClockwise p.triangles (all_triangles ps) (All-head (λ (q : CutPiece). IsCut q.edges q.triangles q.flats) p ps h).ccw (all_ccw ps (All-tail (λ (q : CutPiece). IsCut q.edges q.triangles q.flats) p ps h))
+all_ccw (p ∷ ps) h = All-append IsCounterClockwise p.triangles (all_triangles ps)
+    (All-head (λ (q : CutPiece). IsCut q.edges q.triangles q.flats) p ps h).ccw
+    (all_ccw ps (All-tail (λ (q : CutPiece). IsCut q.edges q.triangles q.flats) p ps h))
 
 all_turns_count : (ps : List CutPiece) (s : RationalPoint) → Free s → AllCut ps → all_turns ps s ≡ inside_sum (all_triangles ps) s
 all_turns_count [] s f h = refl
 all_turns_count (p ∷ ps) s f h =
     let c = All-head (λ (q : CutPiece). IsCut q.edges q.triangles q.flats) p ps h in
-    ap₂ (λ (x y : ℤ). x +ℤ y) (cut_turns p.edges p.triangles p.flats s f c) (all_turns_count ps s f (All-tail (λ (q : CutPiece). IsCut q.edges q.triangles q.flats) p ps h)) ∙ sym (count-append p.triangles (all_triangles ps) s)
+    ap₂ (λ (x y : ℤ). x +ℤ y) (cut_turns p.edges p.triangles p.flats s f c)
+    (all_turns_count ps s f (All-tail (λ (q : CutPiece). IsCut q.edges q.triangles q.flats) p ps h))
+    ∙ sym (count-append p.triangles (all_triangles ps) s)
 
 all_turns-shifted : (ps : List CutPiece) (s : RationalPoint) → pos 0 <ℤ s.d → all_turns ps (shifted s) ≡ all_turns ps s
 all_turns-shifted [] s h = refl
@@ -177,10 +195,15 @@ each_piece : (ps : List CutPiece) (s : RationalPoint) → Free s → AllCut ps �
 each_piece [] s f h o = λ k d l. absurd (omega arith)
 each_piece (p ∷ ps) s f h o =
     let c = All-head (λ (q : CutPiece). IsCut q.edges q.triangles q.flats) p ps h in
-    let r = halves (inside_sum p.triangles s) (inside_sum (all_triangles ps) s) (inside_sum (p.triangles ++ all_triangles ps) s) (count-append p.triangles (all_triangles ps) s) (count_not_neg p.triangles s) (count_not_neg (all_triangles ps) s) o in
-    All-cons (λ (q : CutPiece). IsOneOrNone (edge_turns q.edges s)) p ps (subst IsOneOrNone (sym (cut_turns p.edges p.triangles p.flats s f c)) r.0) (each_piece ps s f (All-tail (λ (q : CutPiece). IsCut q.edges q.triangles q.flats) p ps h) r.1)
+    let r = halves (inside_sum p.triangles s) (inside_sum (all_triangles ps) s)
+    (inside_sum (p.triangles ++ all_triangles ps) s) (count-append p.triangles (all_triangles ps) s)
+    (count_not_neg p.triangles s) (count_not_neg (all_triangles ps) s) o in
+    All-cons (λ (q : CutPiece). IsOneOrNone (edge_turns q.edges s)) p ps
+    (subst IsOneOrNone (sym (cut_turns p.edges p.triangles p.flats s f c)) r.0)
+    (each_piece ps s f (All-tail (λ (q : CutPiece). IsCut q.edges q.triangles q.flats) p ps h) r.1)
 
-pub pieces_share_nothing : (ps : List CutPiece) → AllCut ps → AllKeepApart (all_triangles ps) → (s : RationalPoint) → pos 0 <ℤ s.d → All (λ p. IsOneOrNone (edge_turns p.edges s)) ps × IsOneOrNone (all_turns ps s)
+pub pieces_share_nothing : (ps : List CutPiece) → AllCut ps → AllKeepApart (all_triangles ps) → (s : RationalPoint)
+    → pos 0 <ℤ s.d → All (λ p. IsOneOrNone (edge_turns p.edges s)) ps × IsOneOrNone (all_turns ps s)
 pieces_share_nothing ps h k s d =
     let f = free_shifted s d in
     let o = at_most_one (all_triangles ps) (shifted s) f (all_ccw ps h) k in
@@ -191,6 +214,10 @@ edge_turns-all_edges : (ps : List CutPiece) (s : RationalPoint) → edge_turns (
 edge_turns-all_edges [] s = refl
 edge_turns-all_edges (p ∷ ps) s = edge_sum-append (λ a b. crossing a b s) p.edges (all_edges ps) ∙ ap (λ (x : ℤ). edge_turns p.edges s +ℤ x) (edge_turns-all_edges ps s)
 
-pub parcel_is_its_pieces : (es : List (Point × Point)) (flats : List Triangle) (ps : List CutPiece) → All IsFlat flats → SameNet same_point es (all_edges ps ++ edges_of_triangles flats) → (s : RationalPoint) → pos 0 <ℤ s.d → edge_turns es s ≡ all_turns ps s
+pub parcel_is_its_pieces : (es : List (Point × Point)) (flats : List Triangle) (ps : List CutPiece) → All IsFlat flats
+    → SameNet same_point es (all_edges ps ++ edges_of_triangles flats) → (s : RationalPoint) → pos 0 <ℤ s.d
+    → edge_turns es s ≡ all_turns ps s
 parcel_is_its_pieces es flats ps h n s d =
-    sym (edge_turns-shifted es s d) ∙ chained es (all_edges ps) flats (shifted s) (free_shifted s d).positive (flats_off flats (shifted s) (free_shifted s d) h) h n ∙ edge_turns-all_edges ps (shifted s) ∙ all_turns-shifted ps s d
+    sym (edge_turns-shifted es s d) ∙ chained es (all_edges ps) flats (shifted s) (free_shifted s d).positive
+    (flats_off flats (shifted s) (free_shifted s d) h) h n ∙ edge_turns-all_edges ps (shifted s)
+    ∙ all_turns-shifted ps s d

@@ -13,7 +13,9 @@ even_rest : (es : List (Point × Point)) (p : RationalPoint) → (k : ℕ) × (e
 even_rest [] p = (0, refl)
 even_rest (e ∷ es) p = by (crossing e.0 e.1 p) (crossing-cases e.0 e.1 p) (edge_turns es p) (crossed es p) (even_rest es p)
   where
-    by : (c : ℤ) → (c ≡ pos 0) ⊎ ((c ≡ pos 1) ⊎ (c ≡ negsuc 0)) → (x : ℤ) (fs : List (Point × Point)) → (k : ℕ) × (x +ℤ pos (2 * k) ≡ pos (length fs)) → (k : ℕ) × ((c +ℤ x) +ℤ pos (2 * k) ≡ pos (length (cond (not (int_eq c (pos 0))) (e ∷ fs) fs)))
+    by : (c : ℤ) → (c ≡ pos 0) ⊎ ((c ≡ pos 1) ⊎ (c ≡ negsuc 0)) → (x : ℤ) (fs : List (Point × Point)) → (k : ℕ)
+        × (x +ℤ pos (2 * k) ≡ pos (length fs)) → (k : ℕ)
+        × ((c +ℤ x) +ℤ pos (2 * k) ≡ pos (length (cond (not (int_eq c (pos 0))) (e ∷ fs) fs)))
     by c (inl h) x fs r = (r.0, rw h (none x (r.0) (length fs) r.1))
       where
         none : (x : ℤ) (k n : ℕ) → x +ℤ pos (2 * k) ≡ pos n → (pos 0 +ℤ x) +ℤ pos (2 * k) ≡ pos n

@@ -17,5 +17,6 @@ joined-holes (h ∷ hs) = ap (λ (es : List (Point × Point)). hole_edges h ++ e
 pub joined-walks : (members : List Member) → joined (walks_of members) ≡ edges_of members
 joined-walks [] = refl
 joined-walks (m ∷ ms) =
-    ap (λ (es : List (Point × Point)). shell_edges m.shell ++ es) (joined-append (map hole_edges m.holes) (walks_of ms) ∙ ap₂ (λ (es fs : List (Point × Point)). es ++ fs) (joined-holes m.holes) (joined-walks ms))
+    ap (λ (es : List (Point × Point)). shell_edges m.shell ++ es) (joined-append (map hole_edges m.holes) (walks_of ms)
+    ∙ ap₂ (λ (es fs : List (Point × Point)). es ++ fs) (joined-holes m.holes) (joined-walks ms))
     ∙ sym (append_assoc (shell_edges m.shell) (flat_map hole_edges m.holes) (edges_of ms))

@@ -1,5 +1,6 @@
 -- The edges of a polygon in normal orientation, and which points it contains.
-use Rattle.std.specs.Prelude.{◌≡◌, ◌%◌, ℤ, pos, int_lt, Bool, cond, List, ◌++◌, length, reverse, filter, flat_map, not}
+use Rattle.std.specs.Prelude.{◌≡◌, ◌%◌, ℤ, pos, int_lt, Bool, cond, List, ◌++◌, length, reverse}
+use Rattle.std.specs.Prelude.{filter, flat_map, not}
 use Rattle.std.specs.Ordering.{int_eq}
 use Rattle.lpis_points.specs.declared.point.Point.{Point}
 use Rattle.lpis_points.specs.Plane.{RationalPoint, crossing}

@@ -1,9 +1,11 @@
 -- Lists of edges and triangles as they cover the plane.
-use Rattle.std.specs.Prelude.{◌≡◌, ℕ, ℤ, pos, ◌+ℤ◌, List, [], ◌∷◌, ◌++◌, length, filter, flat_map, ◌⊎◌, IsTrue, All}
+use Rattle.std.specs.Prelude.{◌≡◌, ℕ, ℤ, pos, ◌+ℤ◌, List, [], ◌∷◌, ◌++◌, length, filter, flat_map}
+use Rattle.std.specs.Prelude.{◌⊎◌, IsTrue, All}
 use Rattle.lpis_points.specs.declared.point.Point.{Point}
 use Rattle.lpis_points.specs.declared.triangle.Triangle.{Triangle}
 use Rattle.lpis_points.specs.Plane.{RationalPoint, orient, same_point, shoelace_term}
-use Rattle.lpis_points.specs.Triangles.{triangle_edges, IsCounterClockwise, IsFlat, is_inside, Separates, are_apart}
+use Rattle.lpis_points.specs.Triangles.{triangle_edges, IsCounterClockwise, IsFlat, is_inside}
+use Rattle.lpis_points.specs.Triangles.{Separates, are_apart}
 use Rattle.lpis_points.specs.Chain.{edge_sum, SameNet}
 use Rattle.lpis_rings.specs.Edges.{edge_turns}
 
@@ -20,10 +22,12 @@ triangle_areas (t ∷ ts) = orient t.a t.b t.c +ℤ triangle_areas ts
 abbrev pub inside_count : List Triangle → RationalPoint → ℕ
 inside_count ts s = length (filter (λ t. is_inside t s) ts)
 
--- what shows that two triangles share no inner point: their boxes are apart, or a line has one on its left and the other on its right
+-- what shows that two triangles share no inner point: their boxes are apart, or a line has one on
+-- its left and the other on its right
 abbrev pub KeepApart : Triangle → Triangle → Type 0
 KeepApart t u =
-    IsTrue (are_apart t u) ⊎ ((line : Point × Point) × Separates line t u) ⊎ ((line : Point × Point) × Separates line u t)
+    IsTrue (are_apart t u) ⊎ ((line : Point × Point) × Separates line t u)
+    ⊎ ((line : Point × Point) × Separates line u t)
 
 -- each triangle keeps apart from the later ones
 abbrev pub AllKeepApart : List Triangle → Type 0

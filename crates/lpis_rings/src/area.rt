@@ -4,7 +4,7 @@ ghost use Rattle.std.specs.Prelude.{◌≡◌, ◌≤◌, ◌+◌, ◌*◌, ◌*
 ghost use Rattle.lpis_points.specs.Plane.{shoelace_term};
 ghost use Rattle.lpis_rings.specs.Area.{absolute_sums, area2, member_area2, shoelace};
 ghost use Rattle.lpis_rings.specs.AreaBounds.{most_area, most_term};
-ghost use Rattle.lpis_rings.specs.Polygon.{member_points, most_points, points_in, points_of};
+ghost use Rattle.lpis_rings.specs.Polygon.{member_points, most_points, points_in};
 
 use crate::polygon::{Member, Polygon};
 use crate::ring::Ring;
@@ -28,8 +28,8 @@ fn shoelace_term(a: Point, b: Point) -> i128
     product(a.x, b.y) - product(b.x, a.y)
 }
 
-/// Twice the signed area of a ring in square centimetres, above 0 where it is counter-clockwise: the sum of
-/// `ax*by - bx*ay` over its edges.
+/// Twice the signed area of a ring in square centimetres, above 0 where it is counter-clockwise:
+/// the sum of `ax*by - bx*ay` over its edges.
 pub fn shoelace(ring: &Ring) -> i128
     ensures value { result ≡ shoelace ring.now }
     ensures small { unsigned_abs result ≤ most_term * length ring.now }
@@ -73,8 +73,8 @@ fn member_area2(member: &Member) -> i128
     absolute_sum(&member.shell) - absolute_sums(member.holes.as_slice())
 }
 
-/// Twice the area of a polygon in square centimetres: over its members, the absolute shoelace sum of the shell less
-/// those of its holes. It is below 0 where the holes are larger.
+/// Twice the area of a polygon in square centimetres: over its members, the absolute shoelace sum
+/// of the shell less those of its holes. It is below 0 where the holes are larger.
 pub fn area2(polygon: &Polygon) -> i128
     ensures value { result ≡ area2 polygon.now }
     ensures small { unsigned_abs result ≤ most_area }

@@ -9,9 +9,9 @@ use crate::polygon::Polygon;
 use crate::walks::Edges;
 use lpis_points::{RatPoint, crossing};
 
-/// The directed edges of a polygon in normal orientation: members in order, each shell before its holes. A shell
-/// whose shoelace sum is below 0 and a hole whose sum is above 0 are walked backwards, all other rings as written.
-/// Nothing is copied but the two points of each edge.
+/// The directed edges of a polygon in normal orientation: members in order, each shell before its
+/// holes. A shell whose shoelace sum is below 0 and a hole whose sum is above 0 are walked
+/// backwards, all other rings as written. Nothing is copied but the two points of each edge.
 pub fn edges(polygon: &Polygon) -> Edges<'_>
     ensures list { result ≡ edges_of polygon.now }
     ensures few { length result ≤ most_points }
@@ -30,8 +30,8 @@ pub fn turns(polygon: &Polygon, p: &RatPoint) -> i64
     sum
 }
 
-/// Whether a polygon contains a point: the number of its edges with a crossing other than 0 is odd. A point on a
-/// border is taken as one a hair to the right of it and less above.
+/// Whether a polygon contains a point: the number of its edges with a crossing other than 0 is odd.
+/// A point on a border is taken as one a hair to the right of it and less above.
 pub fn contains(polygon: &Polygon, p: &RatPoint) -> bool
     ensures { IsTrue result ↔ Contains polygon.now (rational_of p.now) }
 {

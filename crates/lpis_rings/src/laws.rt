@@ -1,5 +1,5 @@
-//! Laws of polygons, each the contract of a function that does nothing else, with those of sums over edges, among
-//! them the chain lemma.
+//! Laws of polygons, each the contract of a function that does nothing else, with those of sums
+//! over edges, among them the chain lemma.
 
 mod covering;
 mod sums;

@@ -1,4 +1,5 @@
-//! Rings and polygons, their areas, their edges, and the points that they contain. No call takes memory but `without_spare`.
+//! Rings and polygons, their areas, their edges, and the points that they contain. No call takes
+//! memory but `without_spare`.
 //!
 //! | Call | Answer |
 //! |---|---|
@@ -10,8 +11,9 @@
 //! | `contains` | whether the number of these edges with a crossing other than 0 is odd |
 //! | `without_spare` | the same list in a block of its length |
 //!
-//! Each answer is proved to be that of the definitions in `specs/Ring.antt`, `specs/Polygon.antt`, `specs/Area.antt` and
-//! `specs/Edges.antt`. What follows from these definitions at every rational point stands in `laws`.
+//! Each answer is proved to be that of the definitions in `specs/Ring.antt`, `specs/Polygon.antt`,
+//! `specs/Area.antt` and `specs/Edges.antt`. What follows from these definitions at every rational
+//! point stands in `laws`.
 #![tactic(auto)]
 
 mod area;

@@ -62,7 +62,8 @@ pub struct BadPolygon {
 /// The count with the points of one more ring, if it is not past the most.
 fn with_ring(count: usize, ring: &Ring) -> Option<usize>
     requires { count ≤ most_points }
-    ensures { MatchOption result (most_points < count + length ring.now) (λ n. (n ≡ count + length ring.now) × (n ≤ most_points)) }
+    ensures { MatchOption result (most_points < count + length ring.now)
+        (λ n. (n ≡ count + length ring.now) × (n ≤ most_points)) }
 {
     let more = ring.points().len();
     if more > MOST_POINTS - count {
@@ -75,7 +76,8 @@ fn with_ring(count: usize, ring: &Ring) -> Option<usize>
 /// The count with the points of more rings, if it is not past the most.
 fn with_rings(count: usize, rings: &[Ring]) -> Option<usize>
     requires { count ≤ most_points }
-    ensures { MatchOption result (most_points < count + points_in rings.now) (λ n. (n ≡ count + points_in rings.now) × (n ≤ most_points)) }
+    ensures { MatchOption result (most_points < count + points_in rings.now)
+        (λ n. (n ≡ count + points_in rings.now) × (n ≤ most_points)) }
 {
     let mut total = count;
     for ring in rings {
@@ -90,7 +92,8 @@ impl Member {
     /// The count with the points of this member, if it is not past the most.
     fn added_to(&self, count: usize) -> Option<usize>
         requires { count ≤ most_points }
-        ensures { MatchOption result (most_points < count + member_points self.now) (λ n. (n ≡ count + member_points self.now) × (n ≤ most_points)) }
+        ensures { MatchOption result (most_points < count + member_points self.now)
+            (λ n. (n ≡ count + member_points self.now) × (n ≤ most_points)) }
     {
         let with_shell = with_ring(count, &self.shell)?;
         with_rings(with_shell, self.holes.as_slice())
@@ -98,7 +101,8 @@ impl Member {
 
     /// The points of members, if they are not more than the most.
     fn counted(members: &[Member]) -> Option<usize>
-        ensures { MatchOption result (most_points < points_of members.now) (λ n. (n ≡ points_of members.now) × (n ≤ most_points)) }
+        ensures { MatchOption result (most_points < points_of members.now)
+            (λ n. (n ≡ points_of members.now) × (n ≤ most_points)) }
     {
         let mut total = 0;
         for member in members {
@@ -111,11 +115,15 @@ impl Member {
 impl Polygon {
     ghost use Rattle.lpis_rings.specs.declared.polygon.PolygonFault.TheVariants.{NoMember};
 
-    /// The polygon of these members. Where they are none they come back, with `NoMember` for no member and else `TooMany`.
+    /// The polygon of these members. Where they are none they come back, with `NoMember` for no
+    /// member and else `TooMany`.
     pub fn new(members: Vec<Member>) -> Result<Polygon, BadPolygon>
-        ensures same { MatchResult result (λ polygon. polygon ≡ members.items) (λ bad. bad.members ≡ members) }
-        ensures polygon { MatchResult result (λ _. IsPolygon members.items) (λ _. IsPolygon members.items → ⊥) }
-        ensures why { MatchResult result (λ _. Unit {0}) (λ bad. bad.why ≡ NoMember ↔ (members.items ≡ [])) }
+        ensures same { MatchResult result (λ polygon. polygon ≡ members.items)
+            (λ bad. bad.members ≡ members) }
+        ensures polygon { MatchResult result (λ _. IsPolygon members.items)
+            (λ _. IsPolygon members.items → ⊥) }
+        ensures why { MatchResult result (λ _. Unit {0}) (λ bad. bad.why ≡ NoMember
+            ↔ (members.items ≡ [])) }
     {
         if members.is_empty() {
             let why = PolygonFault::NoMember;

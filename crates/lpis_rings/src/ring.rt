@@ -59,11 +59,15 @@ fn is_closed(points: &[Point]) -> bool
 impl Ring {
     ghost use Rattle.lpis_rings.specs.declared.ring.RingFault.TheVariants.{Short, Unclosed};
 
-    /// The ring of these points. Where they are none they come back, with `Short` for fewer than four and else `Unclosed`.
+    /// The ring of these points. Where they are none they come back, with `Short` for fewer than
+    /// four and else `Unclosed`.
     pub fn new(points: Vec<Point>) -> Result<Ring, BadRing>
-        ensures same { MatchResult result (λ ring. ring ≡ points.items) (λ bad. bad.points ≡ points) }
-        ensures ring { MatchResult result (λ _. IsRing points.items) (λ _. IsRing points.items → ⊥) }
-        ensures why { MatchResult result (λ _. Unit {0}) (λ bad. bad.why ≡ Short ↔ (length points.items < 4)) }
+        ensures same { MatchResult result (λ ring. ring ≡ points.items)
+            (λ bad. bad.points ≡ points) }
+        ensures ring { MatchResult result (λ _. IsRing points.items) (λ _. IsRing points.items
+            → ⊥) }
+        ensures why { MatchResult result (λ _. Unit {0}) (λ bad. bad.why ≡ Short
+            ↔ (length points.items < 4)) }
     {
         if points.len() < 4 {
             let why = RingFault::Short;

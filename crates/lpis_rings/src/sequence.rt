@@ -5,8 +5,8 @@ ghost use Rattle.std.specs.Prelude.{◌≡◌, IfOk};
 use std::alloc::AllocError;
 use std::marker::Model;
 
-/// A list that a field of a public type holds. It is made from a `Vec` without taking memory, and contracts see it as the
-/// list of its items.
+/// A list that a field of a public type holds. It is made from a `Vec` without taking memory, and
+/// contracts see it as the list of its items.
 #[derive(Debug, Drop)]
 pub struct Sequence<T> {
     items: Vec<T>,
@@ -36,8 +36,8 @@ impl<T> Sequence<T> {
     }
 }
 
-/// The same list without room to spare, for a reader that is done with it: lists grow by doubling. It is refused where the
-/// allocator refuses the smaller block.
+/// The same list without room to spare, for a reader that is done with it: lists grow by doubling.
+/// It is refused where the allocator refuses the smaller block.
 pub fn without_spare<T: Drop>(mut items: Vec<T>) -> Result<Vec<T>, AllocError>
     ensures { IfOk result (λ v. v.items ≡ items.items) }
 {

@@ -74,8 +74,8 @@ impl<'a> Iterator for Walk<'a> {
     }
 }
 
-/// The walks round the rings of a polygon that are still to be made. Contracts see the list of their edges, walk by
-/// walk.
+/// The walks round the rings of a polygon that are still to be made. Contracts see the list of
+/// their edges, walk by walk.
 #[derive(Debug, Drop)]
 struct Walks<'a> {
     /// The holes left of the member whose shell was walked last.
@@ -114,8 +114,8 @@ impl<'a> Iterator for Walks<'a> {
     }
 }
 
-/// The directed edges of a polygon in normal orientation, from `edges`. Contracts see the list of the edges that are
-/// left.
+/// The directed edges of a polygon in normal orientation, from `edges`. Contracts see the list of
+/// the edges that are left.
 #[derive(Debug, Drop)]
 pub struct Edges<'a> {
     walk: Walk<'a>,

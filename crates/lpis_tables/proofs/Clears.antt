@@ -86,15 +86,19 @@ pub record Empties (s : Shape) (old new : State) (tree : ℕ) : Type 0 where
   pub empty : new.now.trees tree ≡ []
   pub others : Kept s tree old.now.trees new.now.trees
 
-pub clears : (s : Shape) (sql : List ℕ) (place tree : ℕ) (table : Table) (old new : State) (count : ℕ) → table.tree ≡ tree → old.now.schema ≡ schema_of s → slice_get (schema_of s).tables place ≡ Some table
-    → Says s sql (Delete place (whole (ids_query tree))) → overlay old.now.trees [] tree ≡ old.now.trees tree → AreKeyed (old.now.trees tree) → Executes sql [] old new (Ok count) → Empties s old new tree
+pub clears : (s : Shape) (sql : List ℕ) (place tree : ℕ) (table : Table) (old new : State) (count : ℕ)
+    → table.tree ≡ tree → old.now.schema ≡ schema_of s → slice_get (schema_of s).tables place ≡ Some table
+    → Says s sql (Delete place (whole (ids_query tree))) → overlay old.now.trees [] tree ≡ old.now.trees tree
+    → AreKeyed (old.now.trees tree) → Executes sql [] old new (Ok count) → Empties s old new tree
 clears s sql place tree table old new count named has at says own keyed h =
     let db = old.now.trees in
     let q = ids_query tree in
     let command = Delete place (whole q) in
     let w = runs_as sql [] old new (schema_of s) has command says.0 says.1 count h in
     let text = statement_of sql (understood (schema_of s) sql) in
-    let it = deletes old.step_limit (mode_of old) [] (schema_of s) db text place table (whole q) w.tally new.now at (subst (λ s. Does old.step_limit (mode_of old) [] (record old.now { schema = s }) text None command (Ok (w.tally, new.now))) has w.changed) in
+    let it = deletes old.step_limit (mode_of old) [] (schema_of s) db text place table (whole q) w.tally new.now at
+    (subst (λ s. Does old.step_limit (mode_of old) [] (record old.now { schema = s }) text None command
+    (Ok (w.tally, new.now))) has w.changed) in
     let step = step_of s db new.now.trees _ it.edited in
     let a : IsAnswer q (overlay db []) [] it.found = it.answer.answer Null in
     let shows : Output → Row = λ o. o.1 in
@@ -102,7 +106,9 @@ clears s sql place tree table old new count named has at says own keyed h =
     let staged : a.staged ≡ map (λ r. [] ∷ r ∷ []) rows = a.grouped ∙ flat_map_single (λ r. [] ∷ r ∷ []) (overlay db [] tree) ∙ ap (map (λ r. [] ∷ r ∷ [])) own in
     let from : map key_of (map shows a.kept) ≡ map key_of rows = ap (λ l. map key_of (map shows l)) (a.distinct ∙ ap (map (output q)) staged) ∙ keys_out tree rows in
     let to : map key_of (map shows a.ordered) ≡ ids_of it.found = ap (map key_of) (sym a.shown) in
-    let same : IsPermutation (map key_of rows) (ids_of it.found) = subst (λ l. IsPermutation l (ids_of it.found)) from (subst (IsPermutation (map key_of (map shows a.kept))) to (IsPermutation-map key_of _ _ (IsPermutation-map shows _ _ a.same))) in
+    let same : IsPermutation (map key_of rows) (ids_of it.found) = subst (λ l. IsPermutation l (ids_of it.found)) from
+    (subst (IsPermutation (map key_of (map shows a.kept))) to
+    (IsPermutation-map key_of _ _ (IsPermutation-map shows _ _ a.same))) in
     record {
       schema = it.schema_is;
       sound = w.sound;
@@ -128,7 +134,9 @@ clear_spans_inside s base old new c count spans before h =
       means = record {
         formats_are = formats_kept s tree db next c e.others m (far_span s 0 refl refl);
         years_are = years_kept s tree db next c e.others m (far_span s 1 refl refl);
-        spans_are = there_keeps (has_spans s) span_row [] (next tree) spans (subst (λ (rs : List Row). IsPermutation [] (map (drop 1) rs)) (sym e.empty) (IsPermutation-refl [])) (subst AreKeyed (sym e.empty) none_keyed);
+        spans_are = there_keeps (has_spans s) span_row [] (next tree) spans
+            (subst (λ (rs : List Row). IsPermutation [] (map (drop 1) rs)) (sym e.empty) (IsPermutation-refl []))
+            (subst AreKeyed (sym e.empty) none_keyed);
         lines_are = lines_kept s tree db next c e.others m (far_span s 4 refl refl);
         live_are = live_kept s tree db next c e.others m (live_not_span s);
       };
@@ -155,6 +163,8 @@ clear_live_inside s base old new c count live before h =
         years_are = years_kept s 2 db next c e.others m (far 1 2 refl);
         spans_are = spans_kept s 2 db next c e.others m (λ is. span_not_live s live);
         lines_are = lines_kept s 2 db next c e.others m (far 4 2 refl);
-        live_are = there_keeps (has_live s) live_row [] (next 2) live (subst (λ (rs : List Row). IsPermutation [] (map (drop 1) rs)) (sym e.empty) (IsPermutation-refl [])) (subst AreKeyed (sym e.empty) none_keyed);
+        live_are = there_keeps (has_live s) live_row [] (next 2) live
+            (subst (λ (rs : List Row). IsPermutation [] (map (drop 1) rs)) (sym e.empty) (IsPermutation-refl []))
+            (subst AreKeyed (sym e.empty) none_keyed);
       };
     })

@@ -126,7 +126,9 @@ module _ (tree : ℕ) (y : ℤ) (id : List ℕ) where
         let b : map after (map (drop 1) rows) ≡ map (λ r. if hits r then drop 1 (made r) else drop 1 r) rows = each_after rows ∙ sym (map_same_at _ _ rows stepped) in
         let c = walked hits made (drop 1) rows in
         let d = IsPermutation-map (drop 1) _ _ same in
-        IsPermutation-trans _ _ _ (subst (λ l. IsPermutation l (map after (map (drop 1) rows))) (each_span spans) a) (IsPermutation-trans _ _ _ (subst (IsPermutation (map after (map (drop 1) rows))) b (IsPermutation-refl _)) (IsPermutation-trans _ _ _ c d))
+        IsPermutation-trans _ _ _ (subst (λ l. IsPermutation l (map after (map (drop 1) rows))) (each_span spans) a)
+        (IsPermutation-trans _ _ _ (subst (IsPermutation (map after (map (drop 1) rows))) b (IsPermutation-refl _))
+        (IsPermutation-trans _ _ _ c d))
 
     from_row : (x : Row) → Has (map made (filter hits rows) ++ filter (λ r. not (hits r)) rows) x
         → (r : Row) × Has rows r × (rowid x ≡ rowid r) × (((hits r ≡ true) × (x ≡ made r)) ⊎ ((hits r ≡ false) × (x ≡ r)))
@@ -183,7 +185,10 @@ end_inside s base old new c id y count spans before h =
     let says = end_span_means s spans in
     let w = runs_as end_span params old new (schema_of s) before.holds.schema command says.0 says.1 count h.0 in
     let text = statement_of end_span (understood (schema_of s) end_span) in
-    let it = updates old.step_limit (mode_of old) params (schema_of s) db text place (span_table tree) (whole q) w.tally new.now (span_stands s spans) (subst (λ s. Does old.step_limit (mode_of old) params (record old.now { schema = s }) text None command (Ok (w.tally, new.now))) before.holds.schema w.changed) in
+    let it = updates old.step_limit (mode_of old) params (schema_of s) db text place (span_table tree) (whole q) w.tally
+    new.now (span_stands s spans)
+    (subst (λ s. Does old.step_limit (mode_of old) params (record old.now { schema = s }) text None command
+    (Ok (w.tally, new.now))) before.holds.schema w.changed) in
     let step = step_of s db new.now.trees _ it.edited in
     let a : IsAnswer q (overlay db []) params it.found = it.answer.answer Null in
     let shows : Output → Row = λ o. o.1 in
@@ -191,13 +196,21 @@ end_inside s base old new c id y count spans before h =
     let p = hits tree y id in
     let seen : map shows a.kept ≡ map (out tree y id) (filter p (overlay db [] tree)) = ap (map shows) (a.distinct ∙ ap (map (output q)) a.grouped) ∙ shown_matches tree y id (overlay db [] tree) in
     let listed : map shows a.kept ≡ map (out tree y id) (filter p rows) = seen ∙ ap (λ rs. map (out tree y id) (filter p rs)) (own_spans s db) in
-    let found : IsPermutation (map (out tree y id) (filter p rows)) it.found = subst (λ l. IsPermutation l it.found) listed (subst (IsPermutation (map shows a.kept)) (sym a.shown) (IsPermutation-map shows _ _ a.same)) in
-    let keys : IsPermutation (map key_of (filter p rows)) (ids_of it.found) = subst (λ l. IsPermutation l (ids_of it.found)) (keys_out tree y id (filter p rows)) (IsPermutation-map key_of _ _ found) in
+    let found : IsPermutation (map (out tree y id) (filter p rows)) it.found = subst (λ l. IsPermutation l it.found)
+    listed (subst (IsPermutation (map shows a.kept)) (sym a.shown) (IsPermutation-map shows _ _ a.same)) in
+    let keys : IsPermutation (map key_of (filter p rows)) (ids_of it.found) =
+    subst (λ l. IsPermutation l (ids_of it.found)) (keys_out tree y id (filter p rows))
+    (IsPermutation-map key_of _ _ found) in
     let cast = λ (r : Row). cast_row (span_table tree) (drop 1 r) in
-    let made_of : IsPermutation (map (made tree y id) (filter p rows)) (map cast it.found) = subst (λ l. IsPermutation l (map cast it.found)) (made_out tree y id (filter p rows)) (IsPermutation-map cast _ _ found) in
-    let news : IsPermutation (map (made tree y id) (filter p rows)) (edit_of db (span_table tree) (ids_of it.found) Given 1 it.found).news = subst (IsPermutation (map (made tree y id) (filter p rows))) (sym (numbered_given _ _)) made_of in
+    let made_of : IsPermutation (map (made tree y id) (filter p rows)) (map cast it.found) =
+    subst (λ l. IsPermutation l (map cast it.found)) (made_out tree y id (filter p rows))
+    (IsPermutation-map cast _ _ found) in
+    let news : IsPermutation (map (made tree y id) (filter p rows))
+    (edit_of db (span_table tree) (ids_of it.found) Given 1 it.found).news =
+    subst (IsPermutation (map (made tree y id) (filter p rows))) (sym (numbered_given _ _)) made_of in
     let there = keeps_there (has_spans s) span_row c.spans rows spans m.spans_are in
-    let whole_list = subst (IsPermutation (map (made tree y id) (filter p rows) ++ filter (λ r. not (p r)) rows)) (sym step.rows) (replaced p (made tree y id) rows (ids_of it.found) _ there.1 keys news step.fresh) in
+    let whole_list = subst (IsPermutation (map (made tree y id) (filter p rows) ++ filter (λ r. not (p r)) rows))
+    (sym step.rows) (replaced p (made tree y id) rows (ids_of it.found) _ there.1 keys news step.fresh) in
     let next = new.now.trees in
     let others = kept_of s tree db next step.tables in
     inside_next s s base old new c _ before h.1 (record {
@@ -206,7 +219,9 @@ end_inside s base old new c id y count spans before h =
       means = record {
         formats_are = formats_kept s tree db next c others m (far_span s 0 refl refl);
         years_are = years_kept s tree db next c others m (far_span s 1 refl refl);
-        spans_are = there_keeps (has_spans s) span_row (map (end_at id y) c.spans) (next tree) spans (spans_after tree y id rows c.spans there.0 there.1 (next tree) whole_list) (keyed_after tree y id rows c.spans there.0 there.1 (next tree) whole_list);
+        spans_are = there_keeps (has_spans s) span_row (map (end_at id y) c.spans) (next tree) spans
+            (spans_after tree y id rows c.spans there.0 there.1 (next tree) whole_list)
+            (keyed_after tree y id rows c.spans there.0 there.1 (next tree) whole_list);
         lines_are = lines_kept s tree db next c others m (far_span s 4 refl refl);
         live_are = live_kept s tree db next c others m (live_not_span s);
       };

@@ -24,16 +24,22 @@ use Rattle.lpis_tables.proofs.Writes.{cast_null, cast_int, Adds, adds, keyed_mor
 abbrev pub next_row : Trees → ℕ → Row → Row
 next_row trees tree rest = Int (next_rowid (trees tree)) ∷ rest
 
-pub format_news : (trees : Trees) → (edit_of trees (format_table 0) [] Chosen 0 (value_rows (stamped (format_table 0) []) 3 1 format_terms)).news ≡ format_row (record { one = pos 1; version = pos 2 }) ∷ []
+pub format_news : (trees : Trees)
+    → (edit_of trees (format_table 0) [] Chosen 0 (value_rows (stamped (format_table 0) []) 3 1 format_terms)).news
+    ≡ format_row (record { one = pos 1; version = pos 2 }) ∷ []
 format_news trees = rw (cast_int (pos 1), cast_null, cast_int (pos 2))
 
 pub release_news : (trees : Trees) (year : ℤ) → (edit_of trees (release_table 1) [] Chosen 0 (value_rows (stamped (release_table 1) (Int year ∷ [])) 2 1 release_terms)).news ≡ year_row year ∷ []
 release_news trees year = rw (cast_int year, cast_null)
 
-pub span_news : (trees : Trees) (tree : ℕ) (id : List ℕ) (since : ℤ) → (edit_of trees (span_table tree) [] Chosen 0 (value_rows (stamped (span_table tree) (Text id ∷ Int since ∷ [])) 4 1 span_terms)).news ≡ next_row trees tree (Text id ∷ Int since ∷ Int (pos 0) ∷ []) ∷ []
+pub span_news : (trees : Trees) (tree : ℕ) (id : List ℕ) (since : ℤ)
+    → (edit_of trees (span_table tree) [] Chosen 0 (value_rows (stamped (span_table tree) (Text id ∷ Int since ∷ [])) 4
+    1 span_terms)).news ≡ next_row trees tree (Text id ∷ Int since ∷ Int (pos 0) ∷ []) ∷ []
 span_news trees tree id since = rw (cast_null, cast_int since, cast_int (pos 0))
 
-pub whole_span_news : (trees : Trees) (tree : ℕ) (p : Span) → (edit_of trees (span_table tree) [] Chosen 0 (value_rows (stamped (span_table tree) (span_row p)) 4 1 whole_span_terms)).news ≡ next_row trees tree (span_row p) ∷ []
+pub whole_span_news : (trees : Trees) (tree : ℕ) (p : Span)
+    → (edit_of trees (span_table tree) [] Chosen 0 (value_rows (stamped (span_table tree) (span_row p)) 4 1
+    whole_span_terms)).news ≡ next_row trees tree (span_row p) ∷ []
 whole_span_news trees tree p = rw (cast_null, cast_int p.since, cast_int p.until)
 
 pub line_news : (trees : Trees) (l : Line) → (edit_of trees (row_table 4) [] Chosen 0 (value_rows (stamped (row_table 4) (line_row l)) 5 1 line_terms)).news ≡ next_row trees 4 (line_row l) ∷ []
@@ -44,10 +50,13 @@ line_news trees l = rw (cast_null, cast_int l.year, cast_int l.place)
 pub inside_next : (s t : Shape) (base : Database) (old new : State) (c d : Content) → Inside s base old c → Shows old new new.now old.committed true → Holds t new.now d → Inside t base new d
 inside_next s t base old new c d before shown holds = record { is_open = shown.is_open; in_transaction = shown.mode; base_is = shown.committed_is ∙ before.base_is; holds = holds }
 
-pub release_inside : (s : Shape) (base : Database) (old new : State) (c : Content) (year : ℤ) (count : ℕ) → Inside s base old c → ExecutesInside 0 insert_release (Int year ∷ []) old new (Ok count) → Inside s base new (with_year year c)
+pub release_inside : (s : Shape) (base : Database) (old new : State) (c : Content) (year : ℤ) (count : ℕ)
+    → Inside s base old c → ExecutesInside 0 insert_release (Int year ∷ []) old new (Ok count)
+    → Inside s base new (with_year year c)
 release_inside s base old new c year count before h =
     let m = before.holds.means in
-    let a = adds s insert_release 1 2 (release_table 1) release_terms (Int year ∷ []) (year_row year) old new count before.holds.schema (place s) refl (insert_release_means s) (release_news old.now.trees year) h.0 in
+    let a = adds s insert_release 1 2 (release_table 1) release_terms (Int year ∷ []) (year_row year) old new count
+    before.holds.schema (place s) refl (insert_release_means s) (release_news old.now.trees year) h.0 in
     let db = old.now.trees in
     let next = new.now.trees in
     inside_next s s base old new c _ before h.1 (record {
@@ -82,7 +91,9 @@ span_more s base old new c p spans before shown a =
       means = record {
         formats_are = formats_kept s tree db next c a.others m (far_span s 0 refl refl);
         years_are = years_kept s tree db next c a.others m (far_span s 1 refl refl);
-        spans_are = there_keeps (has_spans s) span_row (p ∷ c.spans) (next tree) spans (IsPermutation-trans _ _ _ (IsPermutation-cons _ _ _ there.0) (IsPermutation-map (drop 1) _ _ a.more)) (subst AreKeyed (sym a.rows) (keyed_more (db tree) (next_rowid (db tree)) (span_row p) there.1 a.fresh));
+        spans_are = there_keeps (has_spans s) span_row (p ∷ c.spans) (next tree) spans
+            (IsPermutation-trans _ _ _ (IsPermutation-cons _ _ _ there.0) (IsPermutation-map (drop 1) _ _ a.more))
+            (subst AreKeyed (sym a.rows) (keyed_more (db tree) (next_rowid (db tree)) (span_row p) there.1 a.fresh));
         lines_are = lines_kept s tree db next c a.others m (far_span s 4 refl refl);
         live_are = live_kept s tree db next c a.others m (live_not_span s);
       };
@@ -97,15 +108,21 @@ pub span_inside : (s : Shape) (base : Database) (old new : State) (c : Content) 
     → ExecutesInside 0 insert_span (Text id ∷ Int since ∷ []) old new (Ok count) → Inside s base new (with_span since c id)
 span_inside s base old new c id since count spans before h =
     span_more s base old new c (record { id = id; since = since; until = pos 0 }) spans before h.1
-    (adds s insert_span (span_place s) 4 (span_table (span_tree s)) span_terms (Text id ∷ Int since ∷ []) _ old new count before.holds.schema (span_stands s spans) refl (insert_span_means s spans) (span_news old.now.trees (span_tree s) id since) h.0)
+    (adds s insert_span (span_place s) 4 (span_table (span_tree s)) span_terms (Text id ∷ Int since ∷ []) _ old new
+    count before.holds.schema (span_stands s spans) refl (insert_span_means s spans)
+    (span_news old.now.trees (span_tree s) id since) h.0)
 
 pub whole_span_inside : (s : Shape) (base : Database) (old new : State) (c : Content) (p : Span) (count : ℕ) → has_spans s ≡ true → Inside s base old c
     → ExecutesInside 0 insert_whole_span (span_row p) old new (Ok count) → Inside s base new (with_whole_span c p)
 whole_span_inside s base old new c p count spans before h =
     span_more s base old new c p spans before h.1
-    (adds s insert_whole_span (span_place s) 4 (span_table (span_tree s)) whole_span_terms (span_row p) _ old new count before.holds.schema (span_stands s spans) refl (insert_whole_span_means s spans) (whole_span_news old.now.trees (span_tree s) p) h.0)
+    (adds s insert_whole_span (span_place s) 4 (span_table (span_tree s)) whole_span_terms (span_row p) _ old new count
+    before.holds.schema (span_stands s spans) refl (insert_whole_span_means s spans)
+    (whole_span_news old.now.trees (span_tree s) p) h.0)
 
-pub line_inside : (s : Shape) (base : Database) (old new : State) (c : Content) (l : Line) (count : ℕ) → Inside s base old c → ExecutesInside 0 insert_line (line_row l) old new (Ok count) → Inside s base new (with_line c l)
+pub line_inside : (s : Shape) (base : Database) (old new : State) (c : Content) (l : Line) (count : ℕ)
+    → Inside s base old c → ExecutesInside 0 insert_line (line_row l) old new (Ok count)
+    → Inside s base new (with_line c l)
 line_inside s base old new c l count before h =
     let m = before.holds.means in
     let db = old.now.trees in

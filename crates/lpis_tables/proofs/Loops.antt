@@ -27,4 +27,6 @@ lines_more y rows i d c low =
     let next : i + 1 ≡ suc i = omega arith in
     let lines = ap (λ k. lines_from y 0 (take k rows)) next ∙ lines_take y 0 rows i d low in
     let first : 0 + i ≡ i = omega arith in
-    sym (ap (λ l. with_lines l c) lines ∙ fold_push with_line c (lines_from y 0 (take i rows)) (line_of y (pos (0 + i)) (get_or rows i d)) ∙ ap (λ k. with_line (with_lines (lines_from y 0 (take i rows)) c) (line_of y (pos k) (get_or rows i d))) first)
+    sym (ap (λ l. with_lines l c) lines ∙ fold_push with_line c (lines_from y 0 (take i rows))
+    (line_of y (pos (0 + i)) (get_or rows i d))
+    ∙ ap (λ k. with_line (with_lines (lines_from y 0 (take i rows)) c) (line_of y (pos k) (get_or rows i d))) first)

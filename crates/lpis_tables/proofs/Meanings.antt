@@ -22,7 +22,8 @@ use Rattle.lpis_tables.specs.Tables.{format_table, release_table, span_table, ro
 use Rattle.lpis_tables.specs.Shapes.{Shape, New, First, Moved, schema_of, has_spans, has_live, span_tree, no_schema}
 use Rattle.lpis_tables.specs.private.Places.{span_place}
 use Rattle.lpis_tables.specs.private.Stages.{one_table, two_tables, three_tables}
-use Rattle.lpis_tables.specs.private.Texts.{make_format, make_release, make_span, make_row, insert_format, insert_release, insert_span, insert_line, end_span, read_format, read_release, read_span, read_line, clear_span, read_live, insert_whole_span, clear_live, set_version}
+use Rattle.lpis_tables.specs.private.Texts.{make_format, make_release, make_span, make_row, insert_format, insert_release, insert_span, insert_line, end_span, read_format, read_release, read_span}
+use Rattle.lpis_tables.specs.private.Texts.{read_line, clear_span, read_live, insert_whole_span, clear_live, set_version}
 
 abbrev pub ascending : Key
 ascending = record { collation = Binary; descending = false }

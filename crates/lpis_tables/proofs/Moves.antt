@@ -1,5 +1,6 @@
 -- What the statements that move a database of version 1 do.
-use Rattle.std.proofs.Common.{◌≡◌, inl, inr, ℕ, pos, List, [], ◌∷◌, ◌++◌, map, drop, slice_get, true, false, not, Some, None, Ok, refl, sym, ap, ap₂, subst, subst₂, ◌∙◌, append-nil, IsPermutation, true≢false}
+use Rattle.std.proofs.Common.{◌≡◌, inl, inr, ℕ, pos, List, [], ◌∷◌, ◌++◌, map, drop, slice_get, true, false, not, Some, None, Ok, refl, sym, ap, ap₂, subst, subst₂, ◌∙◌, append-nil, IsPermutation}
+use Rattle.std.proofs.Common.{true≢false}
 use Rattle.std.specs.Prelude.{filter}
 use Rattle.std.proofs.lemmas.List.Concat.{flat_map_single}
 use Rattle.std.proofs.lemmas.List.Sorted.{IsPermutation-refl, IsPermutation-trans, IsPermutation-map}
@@ -44,10 +45,15 @@ span_beside base old new c count before h =
     let next = new.now.trees in
     let w = runs_as make_span [] old new from before.holds.schema CreateTable it.is it.plain count h.0 in
     let done = creates old.step_limit (mode_of old) [] (record old.now { schema = from }) make_span (span_table 0) w.tally new.now it.defines (ap lacks_sequence it.into)
-    (subst (λ s. Does old.step_limit (mode_of old) [] (record old.now { schema = s }) make_span None CreateTable (Ok (w.tally, new.now))) before.holds.schema (subst (λ t. Does old.step_limit (mode_of old) [] old.now t None CreateTable (Ok (w.tally, new.now))) it.text w.changed)) in
+    (subst (λ s. Does old.step_limit (mode_of old) [] (record old.now { schema = s }) make_span None CreateTable
+    (Ok (w.tally, new.now))) before.holds.schema
+    (subst (λ t. Does old.step_limit (mode_of old) [] old.now t None CreateTable (Ok (w.tally, new.now))) it.text
+    w.changed)) in
     let kept = done.2 in
     let none : next 6 ≡ [] = done.1 in
-    let spans : IsPermutation (map span_row c.spans) (map (drop 1) (next 6)) = subst₂ (λ (ss : List Span) (rs : List Row). IsPermutation (map span_row ss) (map (drop 1) rs)) (sym m.spans_are) (sym none) (IsPermutation-refl []) in
+    let spans : IsPermutation (map span_row c.spans) (map (drop 1) (next 6)) =
+    subst₂ (λ (ss : List Span) (rs : List Row). IsPermutation (map span_row ss) (map (drop 1) rs)) (sym m.spans_are)
+    (sym none) (IsPermutation-refl []) in
     inside_next First Moved base old new c c before h.1 (record {
       schema = done.0 ∙ it.into;
       sound = w.sound;
@@ -115,7 +121,10 @@ version_inside s base old new c count one before h =
     let says = set_version_means s in
     let w = runs_as set_version [] old new (schema_of s) before.holds.schema command says.0 says.1 count h.0 in
     let text = statement_of set_version (understood (schema_of s) set_version) in
-    let it = updates old.step_limit (mode_of old) [] (schema_of s) db text 0 (format_table 0) (whole q) w.tally new.now (format_stands s) (subst (λ s. Does old.step_limit (mode_of old) [] (record old.now { schema = s }) text None command (Ok (w.tally, new.now))) before.holds.schema w.changed) in
+    let it = updates old.step_limit (mode_of old) [] (schema_of s) db text 0 (format_table 0) (whole q) w.tally new.now
+    (format_stands s)
+    (subst (λ s. Does old.step_limit (mode_of old) [] (record old.now { schema = s }) text None command
+    (Ok (w.tally, new.now))) before.holds.schema w.changed) in
     let step = step_of s db next _ it.edited in
     let a : IsAnswer q (overlay db []) [] it.found = it.answer.answer Null in
     let shows : Output → Row = λ o. o.1 in
@@ -127,7 +136,8 @@ version_inside s base old new c count one before h =
     let keys : IsPermutation (map key_of (filter all rows)) (ids_of it.found) = subst₂ IsPermutation (keys_out rows ∙ ap (map key_of) (sym whole_list)) refl (IsPermutation-map key_of _ _ found) in
     let cast = λ (r : Row). cast_row (format_table 0) (drop 1 r) in
     let made_of : IsPermutation (map made (filter all rows)) (map cast it.found) = subst₂ IsPermutation (made_out rows ∙ ap (map made) (sym whole_list)) refl (IsPermutation-map cast _ _ found) in
-    let news : IsPermutation (map made (filter all rows)) (edit_of db (format_table 0) (ids_of it.found) Given 1 it.found).news = subst (IsPermutation (map made (filter all rows))) (sym (numbered_given _ _)) made_of in
+    let news : IsPermutation (map made (filter all rows)) (edit_of db (format_table 0) (ids_of it.found) Given 1
+    it.found).news = subst (IsPermutation (map made (filter all rows))) (sym (numbered_given _ _)) made_of in
     let keyed = one_keyed 1 rows (subst (λ fs. IsPermutation (map format_row fs) rows) one m.formats_are) in
     let put = subst (IsPermutation (map made (filter all rows) ++ filter (λ r. not (all r)) rows)) (sym step.rows) (replaced all made rows (ids_of it.found) _ keyed keys news step.fresh) in
     let bare : map made (filter all rows) ++ filter (λ r. not (all r)) rows ≡ map made rows = ap₂ (λ (xs ys : List Row). map made xs ++ ys) whole_list (none_kept rows) ∙ append-nil (map made rows) in

@@ -135,7 +135,10 @@ no_views (row ∷ rows) vs p q = absurd p
 one_of : (own schema : Schema) (trees : Trees) → are_apart own.tables ≡ true → list_all has_one_key own.tables ≡ true → own.views ≡ [] → IsSound own trees → IsSound schema trees → schema ≡ own
 one_of own schema trees apart few bare a b =
     let tables : own.tables ≡ schema.tables = same_all IsTableRow same_table _ _ _ a.lists.listed.tables b.lists.listed.tables in
-    let indexes : own.indexes ≡ schema.indexes = same_all (IsIndexRow own.tables) (same_index own.tables apart few) _ _ _ a.lists.listed.indexes (subst (λ ts. AllZip (IsIndexRow ts) (filter is_index_row (trees catalog_tree)) schema.indexes) (sym tables) b.lists.listed.indexes) in
+    let indexes : own.indexes ≡ schema.indexes = same_all (IsIndexRow own.tables) (same_index own.tables apart few) _ _
+    _ a.lists.listed.indexes
+    (subst (λ ts. AllZip (IsIndexRow ts) (filter is_index_row (trees catalog_tree)) schema.indexes) (sym tables)
+    b.lists.listed.indexes) in
     let views : schema.views ≡ [] = no_views _ _ (subst (AllZip IsViewRow (filter is_view_row (trees catalog_tree))) bare a.lists.listed.views) b.lists.listed.views in
     let first : schema ≡ record own { views = schema.views } = ap₂ (λ ts is. record schema { tables = ts; indexes = is }) (sym tables) (sym indexes) in
     first ∙ ap (λ vs. record own { views = vs }) (views ∙ sym bare)
@@ -151,7 +154,9 @@ empty_schema schema trees none b =
     let tables = subst (λ rows. AllZip IsTableRow (filter is_table_row rows) schema.tables) none b.lists.listed.tables in
     let indexes = subst (λ rows. AllZip (IsIndexRow schema.tables) (filter is_index_row rows) schema.indexes) none b.lists.listed.indexes in
     let views = subst (λ rows. AllZip IsViewRow (filter is_view_row rows) schema.views) none b.lists.listed.views in
-    let first : schema ≡ record no_schema { views = schema.views } = ap₂ (λ ts is. record schema { tables = ts; indexes = is }) (no_rows IsTableRow _ tables) (no_rows (IsIndexRow schema.tables) _ indexes) in
+    let first : schema ≡ record no_schema { views = schema.views } =
+    ap₂ (λ ts is. record schema { tables = ts; indexes = is }) (no_rows IsTableRow _ tables)
+    (no_rows (IsIndexRow schema.tables) _ indexes) in
     first ∙ ap (λ vs. record no_schema { views = vs }) (no_rows IsViewRow _ views)
   where
     no_rows : {X : Type 0} (R : Row → X → Type 0) (xs : List X) → AllZip R [] xs → xs ≡ []

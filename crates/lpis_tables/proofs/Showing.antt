@@ -23,7 +23,8 @@ use Rattle.lpis_tables.specs.private.Texts.{read_format, read_release, read_span
 use Rattle.lpis_tables.specs.Holding.{Holds, IsStored, format_row, year_row, span_row, line_row, live_row}
 use Rattle.lpis_tables.specs.Quiet.{LeavesNone}
 use Rattle.lpis_tables.specs.private.Shown.{year_shown, format_shown, span_shown, line_shown, live_shown}
-use Rattle.lpis_tables.proofs.Meanings.{Asks, from_all, read_format_means, read_release_means, read_span_means, read_line_means, read_live_means, release_query, span_query, line_query, live_query, format_query}
+use Rattle.lpis_tables.proofs.Meanings.{Asks, from_all, read_format_means, read_release_means, read_span_means, read_line_means, read_live_means, release_query, span_query, line_query, live_query}
+use Rattle.lpis_tables.proofs.Meanings.{format_query}
 use Rattle.lpis_tables.proofs.Parts.{keeps_there, own_spans}
 
 abbrev pub env : Row → List Row
@@ -37,7 +38,9 @@ pub record Sorts (q : Query) (table rows : List Row) : Type 0 where
 
 -- a query on all rows of a table shows each, in the order that it asks for
 pub sorts : (s : Shape) (sql : List ℕ) (tree : ℕ) (project : List Term) (order : List (Term × Key)) (names : List (List ℕ)) → Asks s sql (from_all tree [] project order) names
-    → (old new : State) (rows : List Row) → old.now.schema ≡ schema_of s → Shown sql [] old new rows → overlay old.now.trees [] tree ≡ old.now.trees tree → Sorts (from_all tree [] project order) (old.now.trees tree) rows
+    → (old new : State) (rows : List Row) → old.now.schema ≡ schema_of s → Shown sql [] old new rows
+    → overlay old.now.trees [] tree ≡ old.now.trees tree → Sorts (from_all tree [] project order)
+    (old.now.trees tree) rows
 sorts s sql tree project order names asks old new rows has h own =
     let q = from_all tree [] project order in
     let read = reads_as sql [] old new (schema_of s) has _ asks.0 asks.2 asks.1 rows h in
@@ -108,7 +111,9 @@ pub years_shown : (s : Shape) (old new : State) (rows : List Row) (c : Content) 
 years_shown s old new rows c r h =
     let it = sorts s read_release 1 _ _ _ (read_release_means s) old new rows r.holds.schema h refl in
     let kept = IsPermutation-map year_shown _ _ r.holds.means.years_are in
-    IsPermutation-trans _ _ _ (subst (λ l. IsPermutation l (map year_shown (old.now.trees 1))) (years_back c.years) kept) (subst (λ l. IsPermutation l (map year_shown rows)) (each_year (old.now.trees 1)) (seen_as release_query _ rows year_shown it))
+    IsPermutation-trans _ _ _ (subst (λ l. IsPermutation l (map year_shown (old.now.trees 1))) (years_back c.years)
+    kept) (subst (λ l. IsPermutation l (map year_shown rows)) (each_year (old.now.trees 1))
+    (seen_as release_query _ rows year_shown it))
 
 pub spans_shown : (s : Shape) (old new : State) (rows : List Row) (c : Content) → has_spans s ≡ true → IsStored s old c → Shown read_span [] old new rows → IsPermutation c.spans (map span_shown rows)
 spans_shown s old new rows c spans r h =
@@ -116,25 +121,33 @@ spans_shown s old new rows c spans r h =
     let table = old.now.trees tree in
     let it = sorts s read_span tree _ _ _ (read_span_means s spans) old new rows r.holds.schema h (own_spans s old.now.trees) in
     let kept = IsPermutation-map span_shown _ _ (keeps_there (has_spans s) span_row c.spans table spans r.holds.means.spans_are).0 in
-    IsPermutation-trans _ _ _ (subst (λ l. IsPermutation l (map span_shown (map (drop 1) table))) (spans_back c.spans) kept) (subst (λ l. IsPermutation l (map span_shown rows)) (each_span tree table) (seen_as (span_query tree) _ rows span_shown it))
+    IsPermutation-trans _ _ _ (subst (λ l. IsPermutation l (map span_shown (map (drop 1) table))) (spans_back c.spans)
+    kept) (subst (λ l. IsPermutation l (map span_shown rows)) (each_span tree table)
+    (seen_as (span_query tree) _ rows span_shown it))
 
 pub lines_shown : (s : Shape) (old new : State) (rows : List Row) (c : Content) → IsStored s old c → Shown read_line [] old new rows → IsPermutation c.lines (map line_shown rows)
 lines_shown s old new rows c r h =
     let it = sorts s read_line 4 _ _ _ (read_line_means s) old new rows r.holds.schema h refl in
     let kept = IsPermutation-map line_shown _ _ r.holds.means.lines_are in
-    IsPermutation-trans _ _ _ (subst (λ l. IsPermutation l (map line_shown (map (drop 1) (old.now.trees 4)))) (lines_back c.lines) kept) (subst (λ l. IsPermutation l (map line_shown rows)) (each_line (old.now.trees 4)) (seen_as line_query _ rows line_shown it))
+    IsPermutation-trans _ _ _ (subst (λ l. IsPermutation l (map line_shown (map (drop 1) (old.now.trees 4))))
+    (lines_back c.lines) kept) (subst (λ l. IsPermutation l (map line_shown rows)) (each_line (old.now.trees 4))
+    (seen_as line_query _ rows line_shown it))
 
 pub live_shown_are : (s : Shape) (old new : State) (rows : List Row) (c : Content) → has_live s ≡ true → IsStored s old c → Shown read_live [] old new rows → IsPermutation c.live (map live_shown rows)
 live_shown_are s old new rows c live r h =
     let it = sorts s read_live 2 _ _ _ (read_live_means s live) old new rows r.holds.schema h refl in
     let kept = IsPermutation-map live_shown _ _ (keeps_there (has_live s) live_row c.live (old.now.trees 2) live r.holds.means.live_are).0 in
-    IsPermutation-trans _ _ _ (subst (λ l. IsPermutation l (map live_shown (map (drop 1) (old.now.trees 2)))) (live_back c.live) kept) (subst (λ l. IsPermutation l (map live_shown rows)) (each_live (old.now.trees 2)) (seen_as live_query _ rows live_shown it))
+    IsPermutation-trans _ _ _ (subst (λ l. IsPermutation l (map live_shown (map (drop 1) (old.now.trees 2))))
+    (live_back c.live) kept) (subst (λ l. IsPermutation l (map live_shown rows)) (each_live (old.now.trees 2))
+    (seen_as live_query _ rows live_shown it))
 
 pub formats_shown : (s : Shape) (old new : State) (rows : List Row) (c : Content) → IsStored s old c → Shown read_format [] old new rows → IsPermutation c.formats (map format_shown rows)
 formats_shown s old new rows c r h =
     let it = sorts s read_format 0 _ _ _ (read_format_means s) old new rows r.holds.schema h refl in
     let kept = IsPermutation-map format_kept _ _ r.holds.means.formats_are in
-    IsPermutation-trans _ _ _ (subst (λ l. IsPermutation l (map format_kept (old.now.trees 0))) (formats_back c.formats) kept) (subst (λ l. IsPermutation l (map format_shown rows)) (each_format (old.now.trees 0)) (seen_as format_query _ rows format_shown it))
+    IsPermutation-trans _ _ _ (subst (λ l. IsPermutation l (map format_kept (old.now.trees 0))) (formats_back c.formats)
+    kept) (subst (λ l. IsPermutation l (map format_shown rows)) (each_format (old.now.trees 0))
+    (seen_as format_query _ rows format_shown it))
 
 -- ---- a query changes nothing
 

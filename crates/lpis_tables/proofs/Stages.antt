@@ -28,7 +28,8 @@ use Rattle.lpis_tables.proofs.Writes.{went, same_value, adds}
 use Rattle.lpis_tables.proofs.Parts.{far}
 use Rattle.lpis_tables.proofs.Inserts.{format_news}
 
-no_more : (db after : Database) → lacks_sequence db.schema ≡ false → MatchBool (lacks_sequence db.schema) (MakesTable sequence_text db (Ok after)) (◌≡◌ {A = Result Database (Option Error)} (Ok after) (Ok db)) → after ≡ db
+no_more : (db after : Database) → lacks_sequence db.schema ≡ false → MatchBool (lacks_sequence db.schema)
+    (MakesTable sequence_text db (Ok after)) (◌≡◌ {A = Result Database (Option Error)} (Ok after) (Ok db)) → after ≡ db
 no_more db after none h = same_value (subst (λ b. MatchBool b (MakesTable sequence_text db (Ok after)) (◌≡◌ {A = Result Database (Option Error)} (Ok after) (Ok db))) none h)
 
 -- CREATE TABLE with no AUTOINCREMENT
@@ -41,8 +42,11 @@ creates limit mode params db text made tally after is plain h =
     let it = first.1 in
     let same : it.table ≡ made = same_value (sym it.defined ∙ is) in
     let schema : first.0.schema ≡ created db.schema made = it.is ∙ ap (created db.schema) same in
-    let now : after ≡ first.0 = ap (λ (p : Tally × Database). p.1) (same_value all.2) ∙ no_more first.0 all.0 (ap lacks_sequence schema ∙ plain) first.2 in
-    (ap (λ (d : Database). d.schema) now ∙ schema, ap (λ (d : Database). d.trees (next_tree db.schema)) now ∙ it.empty, subst (λ (d : Database). KeepsRows db.schema.tables db.trees d.trees) (sym now) it.others)
+    let now : after ≡ first.0 = ap (λ (p : Tally × Database). p.1) (same_value all.2) ∙ no_more first.0 all.0 (ap lacks_sequence schema ∙ plain) first.2 in (
+      ap (λ (d : Database). d.schema) now ∙ schema,
+      ap (λ (d : Database). d.trees (next_tree db.schema)) now ∙ it.empty,
+      subst (λ (d : Database). KeepsRows db.schema.tables db.trees d.trees) (sym now) it.others,
+    )
 
 all_push : {X : Type 0} (P : X → Type 0) (xs : List X) (x : X) → AllByRecursion P xs → P x → AllByRecursion P (xs ++ x ∷ [])
 all_push P [] x h p = (p, tt)
@@ -57,13 +61,18 @@ pub stage_next : (sql : List ℕ) (from into : Schema) (made : Table) → Makes 
 stage_next sql from into made m plain base old new count before h =
     let w = runs_as sql [] old new from before.schema CreateTable m.is m.plain count h.0 in
     let done = creates old.step_limit (mode_of old) [] (record old.now { schema = from }) sql made w.tally new.now m.defines (ap lacks_sequence m.into ∙ plain)
-    (subst (λ s. Does old.step_limit (mode_of old) [] (record old.now { schema = s }) sql None CreateTable (Ok (w.tally, new.now))) before.schema (subst (λ t. Does old.step_limit (mode_of old) [] old.now t None CreateTable (Ok (w.tally, new.now))) m.text w.changed)) in
+    (subst (λ s. Does old.step_limit (mode_of old) [] (record old.now { schema = s }) sql None CreateTable
+    (Ok (w.tally, new.now))) before.schema
+    (subst (λ t. Does old.step_limit (mode_of old) [] old.now t None CreateTable (Ok (w.tally, new.now))) m.text
+    w.changed)) in
     record {
       is_open = h.1.is_open;
       in_transaction = h.1.mode;
       base_is = h.1.committed_is ∙ before.base_is;
       schema = done.0 ∙ m.into;
-      empty = subst (λ (s : Schema). AllByRecursion (λ t. new.now.trees t.tree ≡ []) s.tables) m.into (all_push (λ t. new.now.trees t.tree ≡ []) from.tables (record made { tree = next_tree from }) (still_empty from.tables old.now.trees new.now.trees done.2 before.empty) done.1);
+      empty = subst (λ (s : Schema). AllByRecursion (λ t. new.now.trees t.tree ≡ []) s.tables) m.into
+          (all_push (λ t. new.now.trees t.tree ≡ []) from.tables (record made { tree = next_tree from })
+          (still_empty from.tables old.now.trees new.now.trees done.2 before.empty) done.1);
     }
 
 -- the row of lpis_format

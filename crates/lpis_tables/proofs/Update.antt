@@ -5,7 +5,8 @@ use Rattle.std.proofs.lemmas.Bool.Decides.{nat_tests}
 use Rattle.std.specs.Prelude.{if◌then◌else◌, ◌||◌, filter}
 use Rattle.std.specs.List.{list_any}
 use Rattle.std.proofs.lemmas.Bool.{cases_Bool}
-use Rattle.std.proofs.lemmas.List.Sorted.{IsPermutation-refl, IsPermutation-sym, IsPermutation-trans, IsPermutation-map, IsPermutation-middle, IsPermutation-append, IsPermutation-append_right, IsPermutation-filter_both}
+use Rattle.std.proofs.lemmas.List.Sorted.{IsPermutation-refl, IsPermutation-sym, IsPermutation-trans, IsPermutation-map, IsPermutation-middle, IsPermutation-append, IsPermutation-append_right}
+use Rattle.std.proofs.lemmas.List.Sorted.{IsPermutation-filter_both}
 use Rattle.std.proofs.lemmas.List.{map-append}
 use Rattle.std.proofs.lemmas.Cmp.{tied_itself}
 use Rattle.sqlite_value.proofs.OrderLemmas.{value_cmp_total, value_cmp-Int}
@@ -29,7 +30,9 @@ pub put_all_more : (news rows : List Row) → are_fresh rows news ≡ true → I
 put_all_more [] rows fresh = IsPermutation-refl rows
 put_all_more (n ∷ news) rows fresh =
     let both_are = both _ _ fresh in
-    IsPermutation-trans _ _ _ (IsPermutation-trans _ _ _ (IsPermutation-sym _ _ (IsPermutation-middle news n rows)) (IsPermutation-append_right news _ _ (put_more n rows (not_taken (is_taken rows n) both_are.0)))) (put_all_more news (put_row n rows) both_are.1)
+    IsPermutation-trans _ _ _ (IsPermutation-trans _ _ _ (IsPermutation-sym _ _ (IsPermutation-middle news n rows))
+    (IsPermutation-append_right news _ _ (put_more n rows (not_taken (is_taken rows n) both_are.0))))
+    (put_all_more news (put_row n rows) both_are.1)
 
 filter_twice : {X : Type 0} (p q : X → Bool) (xs : List X) → filter (λ x. not (q x)) (filter (λ x. not (p x)) xs) ≡ filter (λ x. not (p x || q x)) xs
 filter_twice p q [] = refl
@@ -105,14 +108,19 @@ numbered_given rows [] = refl
 numbered_given rows (n ∷ news) = ap (λ l. n ∷ l) (numbered_given (put_row n rows) news)
 
 -- the found rows are replaced, and the others stay
-pub replaced : (p : Row → Bool) (f : Row → Row) (rows : List Row) (ids : List ℤ) (news : List Row) → AreKeyed rows → IsPermutation (map key_of (filter p rows)) ids → IsPermutation (map f (filter p rows)) news
+pub replaced : (p : Row → Bool) (f : Row → Row) (rows : List Row) (ids : List ℤ) (news : List Row) → AreKeyed rows
+    → IsPermutation (map key_of (filter p rows)) ids → IsPermutation (map f (filter p rows)) news
     → are_fresh (without_all rows ids) news ≡ true → IsPermutation (map f (filter p rows) ++ filter (λ r. not (p r)) rows) (put_all (without_all rows ids) news)
 replaced p f rows ids news keyed gone made fresh =
     let left : without_all rows ids ≡ filter (λ r. not (p r)) rows = without_is ids rows ∙ filter_same _ _ rows (λ r there. ap not (gone_are p rows ids keyed gone r there)) in
-    IsPermutation-trans _ _ _ (IsPermutation-append _ _ _ _ made (subst (IsPermutation (filter (λ r. not (p r)) rows)) (sym left) (IsPermutation-refl _))) (put_all_more news (without_all rows ids) fresh)
+    IsPermutation-trans _ _ _
+    (IsPermutation-append _ _ _ _ made (subst (IsPermutation (filter (λ r. not (p r)) rows)) (sym left)
+    (IsPermutation-refl _))) (put_all_more news (without_all rows ids) fresh)
 
 -- the same as a walk over the rows
-pub walked : {X : Type 0} (p : Row → Bool) (f : Row → Row) (g : Row → X) (rows : List Row) → IsPermutation (map (λ r. if p r then g (f r) else g r) rows) (map g (map f (filter p rows) ++ filter (λ r. not (p r)) rows))
+pub walked : {X : Type 0} (p : Row → Bool) (f : Row → Row) (g : Row → X) (rows : List Row)
+    → IsPermutation (map (λ r. if p r then g (f r) else g r) rows)
+    (map g (map f (filter p rows) ++ filter (λ r. not (p r)) rows))
 walked {X} p f g rows =
     let u : Row → X = λ r. if p r then g (f r) else g r in
     subst (IsPermutation (map u rows)) (joined rows rows) (IsPermutation-map u _ _ (IsPermutation-filter_both p (λ r. not (p r)) (λ r. refl) rows))

@@ -1,5 +1,6 @@
 -- What a statement that writes does to the trees.
-use Rattle.std.proofs.Common.{◌≡◌, ◌≢◌, ◌⊎◌, inl, inr, ℕ, ℤ, List, [], ◌∷◌, length, slice_get, Bool, true, false, cond, Some, None, Ok, Err, Result, refl, sym, ap, subst, ◌∙◌, IsPermutation, is_eq, true≢false}
+use Rattle.std.proofs.Common.{◌≡◌, ◌≢◌, ◌⊎◌, inl, inr, ℕ, ℤ, List, [], ◌∷◌, length, slice_get, Bool, true, false, cond, Some, None, Ok, Err, Result, refl, sym, ap, subst, ◌∙◌, IsPermutation, is_eq}
+use Rattle.std.proofs.Common.{true≢false}
 use Rattle.std.specs.Prelude.{if◌then◌else◌, ◌||◌, ◌/◌, ◌==◌, Option, MatchBool}
 use Rattle.std.specs.List.{flat_map, filter_map, AllByRecursion}
 use Rattle.std.specs.Ordering.{is_lt, int_cmp}
@@ -62,14 +63,17 @@ same_value e = cc
 
 counts_none : (task : Task) (db next : Trees) (counter : Option Row) (top : ℤ) → task.table.is_counted ≡ false → Counts task db counter top (Ok next) → next ≡ db
 counts_none task db next counter top e h =
-    let plain = subst (λ b. MatchBool (if b then is_lt (int_cmp (count_of counter) top) else false) (CountsIn task db counter top (sequence task.schema) (Ok next)) (◌≡◌ {A = Result Trees (Option Error)} (Ok next) (Ok db))) e h in
+    let plain = subst (λ b. MatchBool (if b then is_lt (int_cmp (count_of counter) top) else false)
+    (CountsIn task db counter top (sequence task.schema) (Ok next))
+    (◌≡◌ {A = Result Trees (Option Error)} (Ok next) (Ok db))) e h in
     same_value plain
 
 chosen : (table : Table) (top : ℤ) → table.is_counted ≡ false → rowids_for table top ≡ Chosen
 chosen table top e = rw e
 
 -- INSERT .. VALUES into a table with no AUTOINCREMENT is one step
-pub inserts : (limit : Option ℕ) (mode : Mode) (params : Row) (schema : Schema) (trees : Trees) (text : List ℕ) (place : ℕ) (table : Table) (terms : List Term) (width : ℕ) (tally : Tally) (after : Database)
+pub inserts : (limit : Option ℕ) (mode : Mode) (params : Row) (schema : Schema) (trees : Trees) (text : List ℕ)
+    (place : ℕ) (table : Table) (terms : List Term) (width : ℕ) (tally : Tally) (after : Database)
     → slice_get schema.tables place ≡ Some table → table.is_counted ≡ false
     → Does limit mode params (record { schema = schema; trees = trees }) text None (Insert place (Values terms width)) (Ok (tally, after))
     → (after.schema ≡ schema) × Edited schema mode.keys trees (edit_of trees table [] Chosen 0 (value_rows (stamped table params) width (length terms / width) terms)) (Ok after.trees)
@@ -84,8 +88,13 @@ inserts limit mode params schema trees text place table terms width tally after 
     let moved : counted.0 ≡ written.0 = counts_none (task table) written.0 counted.0 counter.0 _ plain counted.1 in
     let trees_are : done.0.trees ≡ counted.0 = ap (λ (it : Written). it.trees) (same_value counted.2) in
     let step = subst (λ r. Edited schema mode.keys trees (edit_of trees table [] r 0 given.0) (Ok written.0)) (chosen table _ plain) written.1 in
-    let step2 = subst (λ r. Edited schema mode.keys trees (edit_of trees table [] Chosen 0 r) (Ok written.0)) given.1.1 step in
-    (ap (λ (d : Database). d.schema) now, subst (λ (t : Trees). Edited schema mode.keys trees (edit_of trees table [] Chosen 0 (value_rows (stamped table params) width (length terms / width) terms)) (Ok t)) (sym (ap (λ (d : Database). d.trees) now ∙ trees_are ∙ moved)) step2)
+    let step2 = subst (λ r. Edited schema mode.keys trees (edit_of trees table [] Chosen 0 r) (Ok written.0)) given.1.1 step in (
+      ap (λ (d : Database). d.schema) now,
+      subst
+          (λ (t : Trees). Edited schema mode.keys trees
+          (edit_of trees table [] Chosen 0 (value_rows (stamped table params) width (length terms / width) terms)) (Ok t))
+          (sym (ap (λ (d : Database). d.trees) now ∙ trees_are ∙ moved)) step2,
+    )
 
 pub record Finding (schema : Schema) (keys : Keys) (trees : Trees) (table : Table) (q : Program) (params : Row) (after : Database) : Type 0 where
   pub found : List Row
@@ -129,7 +138,10 @@ kept_of Moved at db next h = record { formats = h.0; years = h.1.0; spans = λ i
 no_work : (s : Shape) (tree : ℕ) (olds news : List Row) → works (schema_of s) Enforced 0 tree olds news ≡ []
 no_work s tree olds news = go s (length news == 0)
   where
-    go : (s : Shape) (b : Bool) → flat_map (λ child. filter_map (λ ref. work_by 0 tree (pairs olds news) child ref (deed_for Enforced b ref) (parent_key (schema_of s).tables ref)) child.references) (schema_of s).tables ≡ []
+    go : (s : Shape) (b : Bool)
+        → flat_map
+        (λ child. filter_map (λ ref. work_by 0 tree (pairs olds news) child ref (deed_for Enforced b ref)
+        (parent_key (schema_of s).tables ref)) child.references) (schema_of s).tables ≡ []
     go New true = refl
     go New false = refl
     go First true = refl
@@ -158,7 +170,10 @@ adds s sql place width table terms params row old new count has at plain_key mea
     let db = old.now.trees in
     let w = runs_as sql params old new (schema_of s) has (Insert place (Values terms width)) means.0 means.1 count h in
     let text = statement_of sql (understood (schema_of s) sql) in
-    let made = inserts old.step_limit (mode_of old) params (schema_of s) db text place table terms width w.tally new.now at plain_key (subst (λ s. Does old.step_limit (mode_of old) params (record old.now { schema = s }) text None (Insert place (Values terms width)) (Ok (w.tally, new.now))) has w.changed) in
+    let made = inserts old.step_limit (mode_of old) params (schema_of s) db text place table terms width w.tally new.now
+    at plain_key
+    (subst (λ s. Does old.step_limit (mode_of old) params (record old.now { schema = s }) text None
+    (Insert place (Values terms width)) (Ok (w.tally, new.now))) has w.changed) in
     let step = step_of s db new.now.trees _ made.1 in
     let free : is_taken (db table.tree) row ≡ false = not_taken _ (both _ _ (subst (λ n. are_fresh (db table.tree) n ≡ true) news step.fresh)).0 in
     let rows : new.now.trees table.tree ≡ put_row row (db table.tree) = step.rows ∙ ap (λ n. put_all (db table.tree) n) news in
@@ -185,7 +200,8 @@ keyed_more rows n rest k fresh = record { whole = whole; alone = alone }
     apart : (xs : List Row) (x : Row) → Has xs x → is_taken xs (Int n ∷ rest) ≡ false → rowid x ≡ Int n → ⊥
     apart [] x none free e = none
     apart (y ∷ xs) x (inl same) free e =
-        let tie : is_eq (value_cmp (rowid y) (Int n)) ≡ true = ap (λ (r : Row). is_eq (value_cmp (rowid r) (Int n))) (sym same) ∙ ap (λ v. is_eq (value_cmp v (Int n))) e ∙ ap is_eq (tied_itself value_cmp_total (Int n)) in
+        let tie : is_eq (value_cmp (rowid y) (Int n)) ≡ true = ap (λ (r : Row). is_eq (value_cmp (rowid r) (Int n)))
+        (sym same) ∙ ap (λ v. is_eq (value_cmp v (Int n))) e ∙ ap is_eq (tied_itself value_cmp_total (Int n)) in
         true≢false (sym tie ∙ (or_false _ _ free).0)
     apart (y ∷ xs) x (inr more) free e = apart xs x more (or_false _ _ free).1 e
 

@@ -1,7 +1,8 @@
 -- The orders in which the register's tables may stand.
 use Rattle.std.specs.Prelude.{ℕ, Bool, true, false, [], ◌∷◌}
 use Rattle.sqlite.specs.Schema.{Schema}
-use Rattle.lpis_tables.specs.Tables.{format_table, release_table, live_table, span_table, row_table, live_index, span_index, row_index}
+use Rattle.lpis_tables.specs.Tables.{format_table, release_table, live_table, span_table, row_table}
+use Rattle.lpis_tables.specs.Tables.{live_index, span_index, row_index}
 
 pub data Shape : Type 0 where
   -- as this program makes them
@@ -12,9 +13,25 @@ pub data Shape : Type 0 where
   Moved : Shape
 
 abbrev pub schema_of : Shape → Schema
-schema_of New = record { tables = format_table 0 ∷ release_table 1 ∷ span_table 2 ∷ row_table 4 ∷ []; indexes = span_index 2 ∷ row_index 4 ∷ []; views = [] }
-schema_of First = record { tables = format_table 0 ∷ release_table 1 ∷ live_table 2 ∷ row_table 4 ∷ []; indexes = live_index 2 ∷ row_index 4 ∷ []; views = [] }
-schema_of Moved = record { tables = format_table 0 ∷ release_table 1 ∷ live_table 2 ∷ row_table 4 ∷ span_table 6 ∷ []; indexes = live_index 2 ∷ row_index 4 ∷ span_index 6 ∷ []; views = [] }
+schema_of New =
+    record {
+      tables = format_table 0 ∷ release_table 1 ∷ span_table 2 ∷ row_table 4 ∷ [];
+      indexes =
+          span_index 2 ∷ row_index 4 ∷ [];
+      views = [];
+    }
+schema_of First = record {
+  tables = format_table 0 ∷ release_table 1 ∷ live_table 2 ∷ row_table 4
+      ∷ [];
+  indexes = live_index 2 ∷ row_index 4 ∷ [];
+  views = [];
+}
+schema_of Moved = record {
+  tables = format_table 0 ∷ release_table 1 ∷ live_table 2 ∷ row_table 4
+      ∷ span_table 6 ∷ [];
+  indexes = live_index 2 ∷ row_index 4 ∷ span_index 6 ∷ [];
+  views = [];
+}
 
 abbrev pub has_spans : Shape → Bool
 has_spans New = true

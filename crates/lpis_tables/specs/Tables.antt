@@ -13,10 +13,26 @@ use Rattle.sqlite_catalog.specs.Listing.{automatic}
 use Rattle.sqlite_value.specs.declared.keys.Order.{Order}
 
 abbrev pub strict : List ℕ → Kind → Column
-strict name kind = record { name = name; kind = kind; is_strict = true; not_null = true; default = Null; collation = Binary }
+strict name kind = record {
+  name = name;
+  kind = kind;
+  is_strict = true;
+  not_null = true;
+  default =
+      Null;
+  collation = Binary;
+}
 
 abbrev pub to_release : Reference
-to_release = record { columns = 1 ∷ []; parent = codes "lpis_release"; parent_columns = codes "year" ∷ []; on_delete = NoAction; on_update = NoAction; is_deferred = false }
+to_release = record {
+  columns = 1 ∷ [];
+  parent = codes "lpis_release";
+  parent_columns =
+      codes "year" ∷ [];
+  on_delete = NoAction;
+  on_update = NoAction;
+  is_deferred = false;
+}
 
 abbrev pub format_table : ℕ → Table
 format_table tree = record {
@@ -75,7 +91,8 @@ abbrev pub span_table : ℕ → Table
 span_table tree = record {
   name = codes "lpis_span";
   tree = tree;
-  columns = strict (codes "id") Text ∷ strict (codes "since") Integer ∷ strict (codes "until") Integer ∷ [];
+  columns = strict (codes "id") Text ∷ strict (codes "since") Integer ∷ strict (codes "until")
+      Integer ∷ [];
   key = None;
   primary = 1 ∷ [];
   uniques = (1 ∷ []) ∷ [];
@@ -91,7 +108,8 @@ abbrev pub row_table : ℕ → Table
 row_table tree = record {
   name = codes "lpis_row";
   tree = tree;
-  columns = strict (codes "year") Integer ∷ strict (codes "pos") Integer ∷ strict (codes "old") Text ∷ strict (codes "new") Text ∷ [];
+  columns = strict (codes "year") Integer ∷ strict (codes "pos") Integer ∷ strict (codes "old") Text
+      ∷ strict (codes "new") Text ∷ [];
   key = None;
   primary = 1 ∷ 2 ∷ [];
   uniques = (1 ∷ 2 ∷ []) ∷ [];

@@ -1,6 +1,6 @@
 //! Which of the register's tables a database has.
 
-ghost use Rattle.std.specs.Prelude.{◌≡◌, true, false, codes};
+ghost use Rattle.std.specs.Prelude.{◌≡◌, true, false};
 ghost use Rattle.std.specs.List.{list_any};
 ghost use Rattle.sqlite_schema.specs.Names.{same_name};
 ghost use Rattle.lpis_tables.specs.Shapes.{has_spans, has_live, no_schema, schema_of};
@@ -34,8 +34,10 @@ fn has_table(schema: &Schema, name: &str) -> bool
 
 /// The tables that are there.
 pub fn tables_in(schema: &Schema) -> Found
-    ensures bare { schema.now ≡ no_schema → (result.format ≡ false) × (result.common ≡ false) × (result.lives ≡ false) }
-    ensures shaped { (shape : _) → schema.now ≡ schema_of shape → (result.common ≡ true) × (result.spans ≡ has_spans shape) × (result.lives ≡ has_live shape) }
+    ensures bare { schema.now ≡ no_schema → (result.format ≡ false) × (result.common ≡ false)
+        × (result.lives ≡ false) }
+    ensures shaped { (shape : _) → schema.now ≡ schema_of shape → (result.common ≡ true)
+        × (result.spans ≡ has_spans shape) × (result.lives ≡ has_live shape) }
 {
     let format = has_table(schema, "lpis_format");
     let release = has_table(schema, "lpis_release");

@@ -1,4 +1,5 @@
-//! The register's tables in an SQL database: what they hold, read and written, one function a statement. Nothing of a history.
+//! The register's tables in an SQL database: what they hold, read and written, one function a
+//! statement. Nothing of a history.
 #![tactic(auto)]
 
 mod finding;

@@ -3,8 +3,9 @@
 ghost use Rattle.std.specs.Prelude.{◌≡◌, pos, true, false, IsTrue, OnOk, OnErr};
 ghost use Rattle.sqlite.specs.Held.{state};
 ghost use Rattle.sqlite.specs.State.{HasCleanDisk, KeepsCommit, Survives};
-ghost use Rattle.lpis_records.specs.Content.{moved, with_version, with_whole_span, with_whole_spans, without_live, without_spans};
-ghost use Rattle.lpis_records.specs.Tells.{TellsLive, only_format};
+ghost use Rattle.lpis_records.specs.Content.{moved, with_version, with_whole_span};
+ghost use Rattle.lpis_records.specs.Content.{with_whole_spans, without_live, without_spans};
+ghost use Rattle.lpis_records.specs.Tells.{only_format};
 ghost use Rattle.lpis_tables.specs.Shapes.{First, Moved, has_live, has_spans, with_span_table};
 ghost use Rattle.lpis_tables.specs.private.Inside.{Inside};
 ghost use Rattle.lpis_tables.specs.Holding.{IsStored};
@@ -24,7 +25,8 @@ fn clear_spans<S: Alter>(tx: &mut Transaction<'_, S>) -> Result<(), Error>
         → OnOk result (Inside shape base (state S.Store tx.new.conn.now) (without_spans c)) }
     ensures kept { HasCleanDisk (state S.Store tx.new.conn.now)
         → KeepsCommit (state S.Store tx.old.conn.now) (state S.Store tx.new.conn.now) }
-    ensures survives { Survives (state S.Store tx.old.conn.now) (state S.Store tx.new.conn.now) (λ _. ⊥) }
+    ensures survives { Survives (state S.Store tx.old.conn.now) (state S.Store tx.new.conn.now)
+        (λ _. ⊥) }
 {
     tx.execute("DELETE FROM lpis_span", &[])?;
     Ok(())
@@ -39,7 +41,8 @@ fn clear_lives<S: Alter>(tx: &mut Transaction<'_, S>) -> Result<(), Error>
         → OnOk result (Inside shape base (state S.Store tx.new.conn.now) (without_live c)) }
     ensures kept { HasCleanDisk (state S.Store tx.new.conn.now)
         → KeepsCommit (state S.Store tx.old.conn.now) (state S.Store tx.new.conn.now) }
-    ensures survives { Survives (state S.Store tx.old.conn.now) (state S.Store tx.new.conn.now) (λ _. ⊥) }
+    ensures survives { Survives (state S.Store tx.old.conn.now) (state S.Store tx.new.conn.now)
+        (λ _. ⊥) }
 {
     tx.execute("DELETE FROM lpis_live", &[])?;
     Ok(())
@@ -54,7 +57,8 @@ fn set_version<S: Alter>(tx: &mut Transaction<'_, S>) -> Result<(), Error>
         → OnOk result (Inside shape base (state S.Store tx.new.conn.now) (with_version (pos 2) c)) }
     ensures kept { HasCleanDisk (state S.Store tx.new.conn.now)
         → KeepsCommit (state S.Store tx.old.conn.now) (state S.Store tx.new.conn.now) }
-    ensures survives { Survives (state S.Store tx.old.conn.now) (state S.Store tx.new.conn.now) (λ _. ⊥) }
+    ensures survives { Survives (state S.Store tx.old.conn.now) (state S.Store tx.new.conn.now)
+        (λ _. ⊥) }
 {
     tx.execute("UPDATE lpis_format SET version = 2", &[])?;
     Ok(())
@@ -71,10 +75,12 @@ fn insert_span_at<S: Alter>(
     ensures adds { HasCleanDisk (state S.Store tx.new.conn.now) → (shape : _)
         → has_spans shape ≡ true → (base : _) (c : _)
         → Inside shape base (state S.Store tx.old.conn.now) c
-        → OnOk result (Inside shape base (state S.Store tx.new.conn.now) (with_whole_span c (span_at id.now since until))) }
+        → OnOk result (Inside shape base (state S.Store tx.new.conn.now)
+        (with_whole_span c (span_at id.now since until))) }
     ensures kept { HasCleanDisk (state S.Store tx.new.conn.now)
         → KeepsCommit (state S.Store tx.old.conn.now) (state S.Store tx.new.conn.now) }
-    ensures survives { Survives (state S.Store tx.old.conn.now) (state S.Store tx.new.conn.now) (λ _. ⊥) }
+    ensures survives { Survives (state S.Store tx.old.conn.now) (state S.Store tx.new.conn.now)
+        (λ _. ⊥) }
 {
     tx.execute(
         "INSERT INTO lpis_span (id, since, until) VALUES (?1, ?2, ?3)",
@@ -89,10 +95,12 @@ fn insert_whole_span<S: Alter>(tx: &mut Transaction<'_, S>, span: &SpanRow) -> R
     ensures adds { HasCleanDisk (state S.Store tx.new.conn.now) → (shape : _)
         → has_spans shape ≡ true → (base : _) (c : _)
         → Inside shape base (state S.Store tx.old.conn.now) c
-        → OnOk result (Inside shape base (state S.Store tx.new.conn.now) (with_whole_span c span.now)) }
+        → OnOk result (Inside shape base (state S.Store tx.new.conn.now)
+        (with_whole_span c span.now)) }
     ensures kept { HasCleanDisk (state S.Store tx.new.conn.now)
         → KeepsCommit (state S.Store tx.old.conn.now) (state S.Store tx.new.conn.now) }
-    ensures survives { Survives (state S.Store tx.old.conn.now) (state S.Store tx.new.conn.now) (λ _. ⊥) }
+    ensures survives { Survives (state S.Store tx.old.conn.now) (state S.Store tx.new.conn.now)
+        (λ _. ⊥) }
 {
     let id = span.id();
     let since = span.since();
@@ -106,10 +114,12 @@ fn insert_whole_spans<S: Alter>(tx: &mut Transaction<'_, S>, spans: &[SpanRow]) 
     ensures adds { HasCleanDisk (state S.Store tx.new.conn.now) → (shape : _)
         → has_spans shape ≡ true → (base : _) (c : _)
         → Inside shape base (state S.Store tx.old.conn.now) c
-        → OnOk result (Inside shape base (state S.Store tx.new.conn.now) (with_whole_spans spans.now c)) }
+        → OnOk result (Inside shape base (state S.Store tx.new.conn.now)
+        (with_whole_spans spans.now c)) }
     ensures kept { HasCleanDisk (state S.Store tx.new.conn.now)
         → KeepsCommit (state S.Store tx.old.conn.now) (state S.Store tx.new.conn.now) }
-    ensures survives { Survives (state S.Store tx.old.conn.now) (state S.Store tx.new.conn.now) (λ _. ⊥) }
+    ensures survives { Survives (state S.Store tx.old.conn.now) (state S.Store tx.new.conn.now)
+        (λ _. ⊥) }
 {
     for span in spans {
         insert_whole_span(tx, span)?;
@@ -123,10 +133,12 @@ fn empty_spans<S: Alter>(tx: &mut Transaction<'_, S>, there: bool) -> Result<(),
     ensures emptied { HasCleanDisk (state S.Store tx.new.conn.now) → (shape : _)
         → there ≡ has_spans shape → (base : _) (c : _)
         → Inside shape base (state S.Store tx.old.conn.now) c
-        → OnOk result (Inside (with_span_table shape) base (state S.Store tx.new.conn.now) (without_spans c)) }
+        → OnOk result (Inside (with_span_table shape) base (state S.Store tx.new.conn.now)
+        (without_spans c)) }
     ensures kept { HasCleanDisk (state S.Store tx.new.conn.now)
         → KeepsCommit (state S.Store tx.old.conn.now) (state S.Store tx.new.conn.now) }
-    ensures survives { Survives (state S.Store tx.old.conn.now) (state S.Store tx.new.conn.now) (λ _. ⊥) }
+    ensures survives { Survives (state S.Store tx.old.conn.now) (state S.Store tx.new.conn.now)
+        (λ _. ⊥) }
 {
     if there {
         clear_spans(tx)
@@ -144,7 +156,8 @@ fn empty_lives<S: Alter>(tx: &mut Transaction<'_, S>, there: bool) -> Result<(),
         → OnOk result (Inside shape base (state S.Store tx.new.conn.now) (without_live c)) }
     ensures kept { HasCleanDisk (state S.Store tx.new.conn.now)
         → KeepsCommit (state S.Store tx.old.conn.now) (state S.Store tx.new.conn.now) }
-    ensures survives { Survives (state S.Store tx.old.conn.now) (state S.Store tx.new.conn.now) (λ _. ⊥) }
+    ensures survives { Survives (state S.Store tx.old.conn.now) (state S.Store tx.new.conn.now)
+        (λ _. ⊥) }
 {
     if there { clear_lives(tx) } else { Ok(()) }
 }
@@ -161,10 +174,12 @@ fn fill_moved<S: Alter>(
         → spans_there ≡ has_spans shape → lives_there ≡ has_live shape
         → (base : _) (c : _) → c.formats ≡ only_format 1
         → Inside shape base (state S.Store tx.old.conn.now) c
-        → OnOk result (Inside (with_span_table shape) base (state S.Store tx.new.conn.now) (moved spans.now c)) }
+        → OnOk result (Inside (with_span_table shape) base (state S.Store tx.new.conn.now)
+        (moved spans.now c)) }
     ensures kept { HasCleanDisk (state S.Store tx.new.conn.now)
         → KeepsCommit (state S.Store tx.old.conn.now) (state S.Store tx.new.conn.now) }
-    ensures survives { Survives (state S.Store tx.old.conn.now) (state S.Store tx.new.conn.now) (λ _. ⊥) }
+    ensures survives { Survives (state S.Store tx.old.conn.now) (state S.Store tx.new.conn.now)
+        (λ _. ⊥) }
 {
     empty_spans(tx, spans_there)?;
     insert_whole_spans(tx, spans)?;
@@ -184,7 +199,8 @@ pub fn write_moved<S: Alter>(
     ensures ok { HasCleanDisk (state S.Store conn.new) → (shape : _)
         → spans_there ≡ has_spans shape → lives_there ≡ has_live shape → (c : _)
         → c.formats ≡ only_format 1 → IsStored shape (state S.Store conn.old) c
-        → OnOk result (IsStored (with_span_table shape) (state S.Store conn.new) (moved spans.now c)) }
+        → OnOk result (IsStored (with_span_table shape) (state S.Store conn.new)
+        (moved spans.now c)) }
     ensures err { HasCleanDisk (state S.Store conn.new) → IsTrue (state S.Store conn.new).is_open
         → (shape : _) → spans_there ≡ has_spans shape
         → lives_there ≡ has_live shape → (c : _) → c.formats ≡ only_format 1

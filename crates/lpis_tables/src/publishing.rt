@@ -3,7 +3,8 @@
 ghost use Rattle.std.specs.Prelude.{◌≡◌, pos, true, false, IsTrue, OnOk, OnErr};
 ghost use Rattle.sqlite.specs.Held.{state};
 ghost use Rattle.sqlite.specs.State.{HasCleanDisk, KeepsCommit, Survives};
-ghost use Rattle.lpis_records.specs.Content.{with_year, with_spans, all_ended, with_lines, lines_from, published};
+ghost use Rattle.lpis_records.specs.Content.{with_year, with_spans, all_ended};
+ghost use Rattle.lpis_records.specs.Content.{published};
 ghost use Rattle.lpis_tables.specs.Shapes.{has_spans};
 ghost use Rattle.lpis_tables.specs.private.Inside.{Inside};
 ghost use Rattle.lpis_tables.specs.Holding.{IsStored, Leaves};
@@ -23,9 +24,16 @@ fn fill<S: Alter>(
     fresh: &[Id],
 ) -> Result<(), Error>
     ensures same_reference { tx.new.conn.ghost_name ≡ tx.old.conn.ghost_name }
-    ensures adds { HasCleanDisk (state S.Store tx.new.conn.now) → (shape : _) → has_spans shape ≡ true → (base : _) (c : _) → Inside shape base (state S.Store tx.old.conn.now) c → OnOk result (Inside shape base (state S.Store tx.new.conn.now) (with_spans (pos year) fresh.now (all_ended (pos last) dropped.now (with_year (pos year) c)))) }
-    ensures kept { HasCleanDisk (state S.Store tx.new.conn.now) → KeepsCommit (state S.Store tx.old.conn.now) (state S.Store tx.new.conn.now) }
-    ensures survives { Survives (state S.Store tx.old.conn.now) (state S.Store tx.new.conn.now) (λ _. ⊥) }
+    ensures adds { HasCleanDisk (state S.Store tx.new.conn.now) → (shape : _)
+        → has_spans shape ≡ true → (base : _) (c : _)
+        → Inside shape base (state S.Store tx.old.conn.now) c
+        → OnOk result (Inside shape base (state S.Store tx.new.conn.now)
+        (with_spans (pos year) fresh.now
+        (all_ended (pos last) dropped.now (with_year (pos year) c)))) }
+    ensures kept { HasCleanDisk (state S.Store tx.new.conn.now)
+        → KeepsCommit (state S.Store tx.old.conn.now) (state S.Store tx.new.conn.now) }
+    ensures survives { Survives (state S.Store tx.old.conn.now) (state S.Store tx.new.conn.now)
+        (λ _. ⊥) }
 {
     insert_release(tx, year)?;
     end_spans(tx, last, dropped)?;
@@ -33,8 +41,9 @@ fn fill<S: Alter>(
     Ok(())
 }
 
-/// Writes a release in one transaction: its year, the spans of the identifiers that it drops, which end with the last release's
-/// year, the spans of those that are new with it, and its rows. It is written whole or not at all.
+/// Writes a release in one transaction: its year, the spans of the identifiers that it drops, which
+/// end with the last release's year, the spans of those that are new with it, and its rows. It is
+/// written whole or not at all.
 pub fn write_release<S: Alter>(
     conn: &mut Connection<S>,
     year: u32,
@@ -45,10 +54,22 @@ pub fn write_release<S: Alter>(
 ) -> Result<(), Error>
     requires autocommit { conn.old.in_transaction ≡ false }
     ensures autocommit { conn.new.in_transaction ≡ false }
-    ensures ok { HasCleanDisk (state S.Store conn.new) → (shape : _) → has_spans shape ≡ true → (c : _) → IsStored shape (state S.Store conn.old) c → OnOk result (IsStored shape (state S.Store conn.new) (published (pos year) (pos last) dropped.now fresh.now rows.now c)) }
-    ensures err { HasCleanDisk (state S.Store conn.new) → IsTrue (state S.Store conn.new).is_open → (shape : _) → has_spans shape ≡ true → (c : _) → IsStored shape (state S.Store conn.old) c → OnErr result (IsStored shape (state S.Store conn.new) c) }
-    ensures crash { (shape : _) → has_spans shape ≡ true → (c : _) → IsStored shape (state S.Store conn.old) c → Survives (state S.Store conn.old) (state S.Store conn.new) (Leaves shape (published (pos year) (pos last) dropped.now fresh.now rows.now c)) }
-    ensures durable { HasCleanDisk (state S.Store conn.new) → (shape : _) → has_spans shape ≡ true → (c : _) → IsStored shape (state S.Store conn.old) c → OnOk result ((db : _) → (state S.Store conn.new).may_leave db → Leaves shape (published (pos year) (pos last) dropped.now fresh.now rows.now c) db) }
+    ensures ok { HasCleanDisk (state S.Store conn.new) → (shape : _) → has_spans shape ≡ true
+        → (c : _) → IsStored shape (state S.Store conn.old) c
+        → OnOk result
+        (IsStored shape (state S.Store conn.new)
+        (published (pos year) (pos last) dropped.now fresh.now rows.now c)) }
+    ensures err { HasCleanDisk (state S.Store conn.new) → IsTrue (state S.Store conn.new).is_open
+        → (shape : _) → has_spans shape ≡ true → (c : _) → IsStored shape (state S.Store conn.old) c
+        → OnErr result (IsStored shape (state S.Store conn.new) c) }
+    ensures crash { (shape : _) → has_spans shape ≡ true → (c : _)
+        → IsStored shape (state S.Store conn.old) c → Survives (state S.Store conn.old)
+        (state S.Store conn.new)
+        (Leaves shape (published (pos year) (pos last) dropped.now fresh.now rows.now c)) }
+    ensures durable { HasCleanDisk (state S.Store conn.new) → (shape : _) → has_spans shape ≡ true
+        → (c : _) → IsStored shape (state S.Store conn.old) c
+        → OnOk result ((db : _) → (state S.Store conn.new).may_leave db
+        → Leaves shape (published (pos year) (pos last) dropped.now fresh.now rows.now c) db) }
 {
     let mut tx = conn.transaction();
     fill(&mut tx, year, last, dropped, fresh)?;

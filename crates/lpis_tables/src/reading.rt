@@ -1,7 +1,8 @@
 //! Rows as the queries show them, read.
 
 ghost use Rattle.std.specs.Prelude.{◌≡◌, map, IfOk};
-ghost use Rattle.lpis_tables.specs.private.Shown.{format_shown, year_shown, span_shown, line_shown, live_shown};
+ghost use Rattle.lpis_tables.specs.private.Shown.{format_shown, year_shown, span_shown, line_shown};
+ghost use Rattle.lpis_tables.specs.private.Shown.{live_shown};
 
 use lpis_records::{FormatRow, LineRow, LiveRow, SpanRow};
 use sqlite::{Error, Row};

@@ -15,9 +15,13 @@ use sqlite::{Alter, Error, Transaction, params};
 /// One more release, inside a transaction.
 pub(crate) fn insert_release<S: Alter>(tx: &mut Transaction<'_, S>, year: u32) -> Result<(), Error>
     ensures same_reference { tx.new.conn.ghost_name ≡ tx.old.conn.ghost_name }
-    ensures adds { HasCleanDisk (state S.Store tx.new.conn.now) → (shape : _) → (base : _) (c : _) → Inside shape base (state S.Store tx.old.conn.now) c → OnOk result (Inside shape base (state S.Store tx.new.conn.now) (with_year (pos year) c)) }
-    ensures kept { HasCleanDisk (state S.Store tx.new.conn.now) → KeepsCommit (state S.Store tx.old.conn.now) (state S.Store tx.new.conn.now) }
-    ensures survives { Survives (state S.Store tx.old.conn.now) (state S.Store tx.new.conn.now) (λ _. ⊥) }
+    ensures adds { HasCleanDisk (state S.Store tx.new.conn.now) → (shape : _) → (base : _) (c : _)
+        → Inside shape base (state S.Store tx.old.conn.now) c
+        → OnOk result (Inside shape base (state S.Store tx.new.conn.now) (with_year (pos year) c)) }
+    ensures kept { HasCleanDisk (state S.Store tx.new.conn.now)
+        → KeepsCommit (state S.Store tx.old.conn.now) (state S.Store tx.new.conn.now) }
+    ensures survives { Survives (state S.Store tx.old.conn.now) (state S.Store tx.new.conn.now)
+        (λ _. ⊥) }
 {
     tx.execute("INSERT INTO lpis_release (year) VALUES (?1)", params![year])?;
     Ok(())
@@ -30,9 +34,15 @@ pub(crate) fn insert_span<S: Alter>(
     id: &Id,
 ) -> Result<(), Error>
     ensures same_reference { tx.new.conn.ghost_name ≡ tx.old.conn.ghost_name }
-    ensures adds { HasCleanDisk (state S.Store tx.new.conn.now) → (shape : _) → has_spans shape ≡ true → (base : _) (c : _) → Inside shape base (state S.Store tx.old.conn.now) c → OnOk result (Inside shape base (state S.Store tx.new.conn.now) (with_span (pos year) c id.now)) }
-    ensures kept { HasCleanDisk (state S.Store tx.new.conn.now) → KeepsCommit (state S.Store tx.old.conn.now) (state S.Store tx.new.conn.now) }
-    ensures survives { Survives (state S.Store tx.old.conn.now) (state S.Store tx.new.conn.now) (λ _. ⊥) }
+    ensures adds { HasCleanDisk (state S.Store tx.new.conn.now) → (shape : _)
+        → has_spans shape ≡ true → (base : _) (c : _)
+        → Inside shape base (state S.Store tx.old.conn.now) c
+        → OnOk result (Inside shape base (state S.Store tx.new.conn.now)
+        (with_span (pos year) c id.now)) }
+    ensures kept { HasCleanDisk (state S.Store tx.new.conn.now)
+        → KeepsCommit (state S.Store tx.old.conn.now) (state S.Store tx.new.conn.now) }
+    ensures survives { Survives (state S.Store tx.old.conn.now) (state S.Store tx.new.conn.now)
+        (λ _. ⊥) }
 {
     let id = id.as_str();
     tx.execute(
@@ -49,9 +59,15 @@ pub(crate) fn end_span<S: Alter>(
     id: &Id,
 ) -> Result<(), Error>
     ensures same_reference { tx.new.conn.ghost_name ≡ tx.old.conn.ghost_name }
-    ensures adds { HasCleanDisk (state S.Store tx.new.conn.now) → (shape : _) → has_spans shape ≡ true → (base : _) (c : _) → Inside shape base (state S.Store tx.old.conn.now) c → OnOk result (Inside shape base (state S.Store tx.new.conn.now) (ended (pos year) c id.now)) }
-    ensures kept { HasCleanDisk (state S.Store tx.new.conn.now) → KeepsCommit (state S.Store tx.old.conn.now) (state S.Store tx.new.conn.now) }
-    ensures survives { Survives (state S.Store tx.old.conn.now) (state S.Store tx.new.conn.now) (λ _. ⊥) }
+    ensures adds { HasCleanDisk (state S.Store tx.new.conn.now) → (shape : _)
+        → has_spans shape ≡ true → (base : _) (c : _)
+        → Inside shape base (state S.Store tx.old.conn.now) c
+        → OnOk result (Inside shape base (state S.Store tx.new.conn.now)
+        (ended (pos year) c id.now)) }
+    ensures kept { HasCleanDisk (state S.Store tx.new.conn.now)
+        → KeepsCommit (state S.Store tx.old.conn.now) (state S.Store tx.new.conn.now) }
+    ensures survives { Survives (state S.Store tx.old.conn.now) (state S.Store tx.new.conn.now)
+        (λ _. ⊥) }
 {
     let id = id.as_str();
     tx.execute(
@@ -81,9 +97,14 @@ fn insert_line<S: Alter>(
 ) -> Result<(), Error>
     requires small { place < 2 ^ 63 }
     ensures same_reference { tx.new.conn.ghost_name ≡ tx.old.conn.ghost_name }
-    ensures adds { HasCleanDisk (state S.Store tx.new.conn.now) → (shape : _) → (base : _) (c : _) → Inside shape base (state S.Store tx.old.conn.now) c → OnOk result (Inside shape base (state S.Store tx.new.conn.now) (with_line c (line_at (pos year) (pos place) old.now new.now))) }
-    ensures kept { HasCleanDisk (state S.Store tx.new.conn.now) → KeepsCommit (state S.Store tx.old.conn.now) (state S.Store tx.new.conn.now) }
-    ensures survives { Survives (state S.Store tx.old.conn.now) (state S.Store tx.new.conn.now) (λ _. ⊥) }
+    ensures adds { HasCleanDisk (state S.Store tx.new.conn.now) → (shape : _) → (base : _) (c : _)
+        → Inside shape base (state S.Store tx.old.conn.now) c
+        → OnOk result (Inside shape base (state S.Store tx.new.conn.now)
+        (with_line c (line_at (pos year) (pos place) old.now new.now))) }
+    ensures kept { HasCleanDisk (state S.Store tx.new.conn.now)
+        → KeepsCommit (state S.Store tx.old.conn.now) (state S.Store tx.new.conn.now) }
+    ensures survives { Survives (state S.Store tx.old.conn.now) (state S.Store tx.new.conn.now)
+        (λ _. ⊥) }
 {
     let place = place as i64;
     tx.execute(
@@ -102,9 +123,14 @@ pub(crate) fn insert_row<S: Alter>(
 ) -> Result<(), Error>
     requires small { place < 2 ^ 63 }
     ensures same_reference { tx.new.conn.ghost_name ≡ tx.old.conn.ghost_name }
-    ensures adds { HasCleanDisk (state S.Store tx.new.conn.now) → (shape : _) → (base : _) (c : _) → Inside shape base (state S.Store tx.old.conn.now) c → OnOk result (Inside shape base (state S.Store tx.new.conn.now) (with_line c (line_of (pos year) (pos place) row.now))) }
-    ensures kept { HasCleanDisk (state S.Store tx.new.conn.now) → KeepsCommit (state S.Store tx.old.conn.now) (state S.Store tx.new.conn.now) }
-    ensures survives { Survives (state S.Store tx.old.conn.now) (state S.Store tx.new.conn.now) (λ _. ⊥) }
+    ensures adds { HasCleanDisk (state S.Store tx.new.conn.now) → (shape : _) → (base : _) (c : _)
+        → Inside shape base (state S.Store tx.old.conn.now) c
+        → OnOk result (Inside shape base (state S.Store tx.new.conn.now)
+        (with_line c (line_of (pos year) (pos place) row.now))) }
+    ensures kept { HasCleanDisk (state S.Store tx.new.conn.now)
+        → KeepsCommit (state S.Store tx.old.conn.now) (state S.Store tx.new.conn.now) }
+    ensures survives { Survives (state S.Store tx.old.conn.now) (state S.Store tx.new.conn.now)
+        (λ _. ⊥) }
 {
     let old = row.old.as_str();
     let new = heir_text(&row.new);

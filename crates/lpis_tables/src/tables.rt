@@ -21,7 +21,8 @@ fn make_format<S: Alter>(tx: &mut Transaction<'_, S>) -> Result<(), Error>
         → OnOk result (Stage one_table base (state S.Store tx.new.conn.now)) }
     ensures kept { HasCleanDisk (state S.Store tx.new.conn.now)
         → KeepsCommit (state S.Store tx.old.conn.now) (state S.Store tx.new.conn.now) }
-    ensures survives { Survives (state S.Store tx.old.conn.now) (state S.Store tx.new.conn.now) (λ _. ⊥) }
+    ensures survives { Survives (state S.Store tx.old.conn.now) (state S.Store tx.new.conn.now)
+        (λ _. ⊥) }
 {
     tx.execute(
         "CREATE TABLE IF NOT EXISTS lpis_format (one INTEGER NOT NULL PRIMARY KEY, version INTEGER NOT NULL) STRICT",
@@ -38,7 +39,8 @@ fn make_release<S: Alter>(tx: &mut Transaction<'_, S>) -> Result<(), Error>
         → OnOk result (Stage two_tables base (state S.Store tx.new.conn.now)) }
     ensures kept { HasCleanDisk (state S.Store tx.new.conn.now)
         → KeepsCommit (state S.Store tx.old.conn.now) (state S.Store tx.new.conn.now) }
-    ensures survives { Survives (state S.Store tx.old.conn.now) (state S.Store tx.new.conn.now) (λ _. ⊥) }
+    ensures survives { Survives (state S.Store tx.old.conn.now) (state S.Store tx.new.conn.now)
+        (λ _. ⊥) }
 {
     tx.execute(
         "CREATE TABLE IF NOT EXISTS lpis_release (year INTEGER NOT NULL PRIMARY KEY) STRICT",
@@ -58,7 +60,8 @@ pub(crate) fn make_span<S: Alter>(tx: &mut Transaction<'_, S>) -> Result<(), Err
         → OnOk result (Inside Moved base (state S.Store tx.new.conn.now) c) }
     ensures kept { HasCleanDisk (state S.Store tx.new.conn.now)
         → KeepsCommit (state S.Store tx.old.conn.now) (state S.Store tx.new.conn.now) }
-    ensures survives { Survives (state S.Store tx.old.conn.now) (state S.Store tx.new.conn.now) (λ _. ⊥) }
+    ensures survives { Survives (state S.Store tx.old.conn.now) (state S.Store tx.new.conn.now)
+        (λ _. ⊥) }
 {
     tx.execute(
         "CREATE TABLE IF NOT EXISTS lpis_span (id TEXT NOT NULL PRIMARY KEY, since INTEGER NOT NULL REFERENCES lpis_release (year), until INTEGER NOT NULL) STRICT",
@@ -75,7 +78,8 @@ fn make_row<S: Alter>(tx: &mut Transaction<'_, S>) -> Result<(), Error>
         → OnOk result (Stage (schema_of New) base (state S.Store tx.new.conn.now)) }
     ensures kept { HasCleanDisk (state S.Store tx.new.conn.now)
         → KeepsCommit (state S.Store tx.old.conn.now) (state S.Store tx.new.conn.now) }
-    ensures survives { Survives (state S.Store tx.old.conn.now) (state S.Store tx.new.conn.now) (λ _. ⊥) }
+    ensures survives { Survives (state S.Store tx.old.conn.now) (state S.Store tx.new.conn.now)
+        (λ _. ⊥) }
 {
     tx.execute(
         "CREATE TABLE IF NOT EXISTS lpis_row (year INTEGER NOT NULL REFERENCES lpis_release (year), pos INTEGER NOT NULL, old TEXT NOT NULL, new TEXT NOT NULL, PRIMARY KEY (year, pos)) STRICT",
@@ -92,7 +96,8 @@ fn insert_format<S: Alter>(tx: &mut Transaction<'_, S>) -> Result<(), Error>
         → OnOk result (Inside New base (state S.Store tx.new.conn.now) no_content) }
     ensures kept { HasCleanDisk (state S.Store tx.new.conn.now)
         → KeepsCommit (state S.Store tx.old.conn.now) (state S.Store tx.new.conn.now) }
-    ensures survives { Survives (state S.Store tx.old.conn.now) (state S.Store tx.new.conn.now) (λ _. ⊥) }
+    ensures survives { Survives (state S.Store tx.old.conn.now) (state S.Store tx.new.conn.now)
+        (λ _. ⊥) }
 {
     tx.execute("INSERT INTO lpis_format (one, version) VALUES (1, 2)", &[])?;
     Ok(())
@@ -106,7 +111,8 @@ fn begin_format<S: Alter>(tx: &mut Transaction<'_, S>, is_new: bool) -> Result<(
         → OnOk result (Inside New base (state S.Store tx.new.conn.now) no_content) }
     ensures kept { HasCleanDisk (state S.Store tx.new.conn.now)
         → KeepsCommit (state S.Store tx.old.conn.now) (state S.Store tx.new.conn.now) }
-    ensures survives { Survives (state S.Store tx.old.conn.now) (state S.Store tx.new.conn.now) (λ _. ⊥) }
+    ensures survives { Survives (state S.Store tx.old.conn.now) (state S.Store tx.new.conn.now)
+        (λ _. ⊥) }
 {
     if is_new { insert_format(tx) } else { Ok(()) }
 }
@@ -119,7 +125,8 @@ fn make_all<S: Alter>(tx: &mut Transaction<'_, S>, is_new: bool) -> Result<(), E
         → OnOk result (Inside New base (state S.Store tx.new.conn.now) no_content) }
     ensures kept { HasCleanDisk (state S.Store tx.new.conn.now)
         → KeepsCommit (state S.Store tx.old.conn.now) (state S.Store tx.new.conn.now) }
-    ensures survives { Survives (state S.Store tx.old.conn.now) (state S.Store tx.new.conn.now) (λ _. ⊥) }
+    ensures survives { Survives (state S.Store tx.old.conn.now) (state S.Store tx.new.conn.now)
+        (λ _. ⊥) }
 {
     make_format(tx)?;
     make_release(tx)?;
@@ -128,7 +135,8 @@ fn make_all<S: Alter>(tx: &mut Transaction<'_, S>, is_new: bool) -> Result<(), E
     begin_format(tx, is_new)
 }
 
-/// Makes the tables that are not there, in one transaction. `is_new` says that the table of the version is among them.
+/// Makes the tables that are not there, in one transaction. `is_new` says that the table of the
+/// version is among them.
 pub fn create<S: Alter>(conn: &mut Connection<S>, is_new: bool) -> Result<(), Error>
     requires autocommit { conn.old.in_transaction ≡ false }
     ensures autocommit { conn.new.in_transaction ≡ false }

@@ -19,9 +19,15 @@ pub(crate) fn insert_spans<S: Alter>(
     ids: &[Id],
 ) -> Result<(), Error>
     ensures same_reference { tx.new.conn.ghost_name ≡ tx.old.conn.ghost_name }
-    ensures adds { HasCleanDisk (state S.Store tx.new.conn.now) → (shape : _) → has_spans shape ≡ true → (base : _) (c : _) → Inside shape base (state S.Store tx.old.conn.now) c → OnOk result (Inside shape base (state S.Store tx.new.conn.now) (with_spans (pos year) ids.now c)) }
-    ensures kept { HasCleanDisk (state S.Store tx.new.conn.now) → KeepsCommit (state S.Store tx.old.conn.now) (state S.Store tx.new.conn.now) }
-    ensures survives { Survives (state S.Store tx.old.conn.now) (state S.Store tx.new.conn.now) (λ _. ⊥) }
+    ensures adds { HasCleanDisk (state S.Store tx.new.conn.now) → (shape : _)
+        → has_spans shape ≡ true → (base : _) (c : _)
+        → Inside shape base (state S.Store tx.old.conn.now) c
+        → OnOk result (Inside shape base (state S.Store tx.new.conn.now)
+        (with_spans (pos year) ids.now c)) }
+    ensures kept { HasCleanDisk (state S.Store tx.new.conn.now)
+        → KeepsCommit (state S.Store tx.old.conn.now) (state S.Store tx.new.conn.now) }
+    ensures survives { Survives (state S.Store tx.old.conn.now) (state S.Store tx.new.conn.now)
+        (λ _. ⊥) }
 {
     for id in ids {
         insert_span(tx, year, id)?;
@@ -36,9 +42,15 @@ pub(crate) fn end_spans<S: Alter>(
     ids: &[Id],
 ) -> Result<(), Error>
     ensures same_reference { tx.new.conn.ghost_name ≡ tx.old.conn.ghost_name }
-    ensures adds { HasCleanDisk (state S.Store tx.new.conn.now) → (shape : _) → has_spans shape ≡ true → (base : _) (c : _) → Inside shape base (state S.Store tx.old.conn.now) c → OnOk result (Inside shape base (state S.Store tx.new.conn.now) (all_ended (pos year) ids.now c)) }
-    ensures kept { HasCleanDisk (state S.Store tx.new.conn.now) → KeepsCommit (state S.Store tx.old.conn.now) (state S.Store tx.new.conn.now) }
-    ensures survives { Survives (state S.Store tx.old.conn.now) (state S.Store tx.new.conn.now) (λ _. ⊥) }
+    ensures adds { HasCleanDisk (state S.Store tx.new.conn.now) → (shape : _)
+        → has_spans shape ≡ true → (base : _) (c : _)
+        → Inside shape base (state S.Store tx.old.conn.now) c
+        → OnOk result (Inside shape base (state S.Store tx.new.conn.now)
+        (all_ended (pos year) ids.now c)) }
+    ensures kept { HasCleanDisk (state S.Store tx.new.conn.now)
+        → KeepsCommit (state S.Store tx.old.conn.now) (state S.Store tx.new.conn.now) }
+    ensures survives { Survives (state S.Store tx.old.conn.now) (state S.Store tx.new.conn.now)
+        (λ _. ⊥) }
 {
     for id in ids {
         end_span(tx, year, id)?;
@@ -53,9 +65,14 @@ pub(crate) fn insert_lines<S: Alter>(
     rows: &[Row],
 ) -> Result<(), Error>
     ensures same_reference { tx.new.conn.ghost_name ≡ tx.old.conn.ghost_name }
-    ensures adds { HasCleanDisk (state S.Store tx.new.conn.now) → (shape : _) → (base : _) (c : _) → Inside shape base (state S.Store tx.old.conn.now) c → OnOk result (Inside shape base (state S.Store tx.new.conn.now) (with_lines (lines_from (pos year) 0 rows.now) c)) }
-    ensures kept { HasCleanDisk (state S.Store tx.new.conn.now) → KeepsCommit (state S.Store tx.old.conn.now) (state S.Store tx.new.conn.now) }
-    ensures survives { Survives (state S.Store tx.old.conn.now) (state S.Store tx.new.conn.now) (λ _. ⊥) }
+    ensures adds { HasCleanDisk (state S.Store tx.new.conn.now) → (shape : _) → (base : _) (c : _)
+        → Inside shape base (state S.Store tx.old.conn.now) c
+        → OnOk result (Inside shape base (state S.Store tx.new.conn.now)
+        (with_lines (lines_from (pos year) 0 rows.now) c)) }
+    ensures kept { HasCleanDisk (state S.Store tx.new.conn.now)
+        → KeepsCommit (state S.Store tx.old.conn.now) (state S.Store tx.new.conn.now) }
+    ensures survives { Survives (state S.Store tx.old.conn.now) (state S.Store tx.new.conn.now)
+        (λ _. ⊥) }
 {
     // Which is below 2^63.
     let _ = rows.len();

@@ -63,7 +63,8 @@ rings_run b rs ts rest h = commas_run RingText AtRing AfterRing with_ring ring_r
 
 pub adds-rings : (b : Context) (rs : List (List Point)) → adds with_ring b rs ≡ record b { rings = b.rings ++ rs }
 adds-rings b [] = ap (λ (l : List (List Point)). let c : Context = record { multi = b.multi; members = b.members; rings = l } in c) (sym (append-nil b.rings))
-adds-rings b (r ∷ rs) = adds-rings (with_ring b r) rs ∙ ap (λ (l : List (List Point)). let c : Context = record { multi = b.multi; members = b.members; rings = l } in c) (append_assoc b.rings (r ∷ []) rs)
+adds-rings b (r ∷ rs) = adds-rings (with_ring b r) rs ∙ ap (λ (l : List (List Point)). let c : Context =
+    record { multi = b.multi; members = b.members; rings = l } in c) (append_assoc b.rings (r ∷ []) rs)
 
 body_runs : (multi : Bool) (ms : List Member) (m : Member) (ts rest : List Token) → Commas RingText (m.shell ∷ m.holes) ts
     → run (AtRing (record { multi = multi; members = ms; rings = [] })) (ts ++ Close ∷ rest) ≡ run (cond multi (AfterBody (ms ++ m ∷ [])) (AtEnd (ms ++ m ∷ []))) rest
@@ -103,9 +104,11 @@ not-true false h = refl
 
 pub reads_runs : (ts : List Token) (ms : List Member) → Reads ts ms → run AtKeyword ts ≡ Ok (Finished ms)
 reads_runs ts ms (k, body, e, inl (keyword, (m, one, (inner, h, e2)))) =
-    let whole : ts ≡ Word k ∷ Open ∷ inner ++ Close ∷ End ∷ [] = e ∙ ap (λ (l : List Token). Word k ∷ l ++ End ∷ []) e2 ∙ ap (λ (l : List Token). Word k ∷ Open ∷ l) (append_assoc inner (Close ∷ []) (End ∷ [])) in
+    let whole : ts ≡ Word k ∷ Open ∷ inner ++ Close ∷ End ∷ [] = e ∙ ap (λ (l : List Token). Word k ∷ l ++ End ∷ []) e2
+    ∙ ap (λ (l : List Token). Word k ∷ Open ∷ l) (append_assoc inner (Close ∷ []) (End ∷ [])) in
     rw (whole, one) (rw keyword (body_runs false [] m inner (End ∷ []) h))
 reads_runs ts ms (k, body, e, inr (keyword, (inner, h, e2))) =
-    let whole : ts ≡ Word k ∷ Open ∷ inner ++ Close ∷ End ∷ [] = e ∙ ap (λ (l : List Token). Word k ∷ l ++ End ∷ []) e2 ∙ ap (λ (l : List Token). Word k ∷ Open ∷ l) (append_assoc inner (Close ∷ []) (End ∷ [])) in
+    let whole : ts ≡ Word k ∷ Open ∷ inner ++ Close ∷ End ∷ [] = e ∙ ap (λ (l : List Token). Word k ∷ l ++ End ∷ []) e2
+    ∙ ap (λ (l : List Token). Word k ∷ Open ∷ l) (append_assoc inner (Close ∷ []) (End ∷ [])) in
     let other : is_polygon k ≡ false = not-true (is_polygon k) (λ p. apart k p keyword) in
     rw whole (rw (other, keyword) (members_run [] ms inner (Close ∷ End ∷ []) h))

@@ -1,4 +1,5 @@
--- Each state that is reached has tokens that complete it, so each prefix that the machine takes begins a text of the grammar.
+-- Each state that is reached has tokens that complete it, so each prefix that the machine takes begins a text of the
+-- grammar.
 use Rattle.std.proofs.Common.{◌≡◌, ℕ, ◌-◌, ◌<◌, Bool, true, false, cond, List, [], ◌∷◌, ◌++◌, length, pos, Some, Ok, refl, sym, subst, ◌∙◌, inl, inr, append_assoc, arith, length-append}
 use Rattle.std.specs.Prelude.{codes, slice_get}
 use Rattle.std.proofs.lemmas.Int.{ints}
@@ -11,7 +12,8 @@ use Rattle.lpis_wkt.specs.Number.{number}
 use Rattle.lpis_wkt.specs.private.Coordinates.{coordinate, point_of}
 use Rattle.lpis_wkt.specs.Grammar.{PointText, Commas}
 use Rattle.lpis_wkt.specs.Viable.{Begins}
-use Rattle.lpis_wkt.specs.private.Machine.{Context, State, AtKeyword, AfterKeyword, AtBody, AtRing, AtX, AtY, AfterPoint, AfterRing, AfterBody, AtEnd, Finished, with_ring, close_body, new_body, open_text, member_of, step, and_then, run}
+use Rattle.lpis_wkt.specs.private.Machine.{Context, State, AtKeyword, AfterKeyword, AtBody, AtRing, AtX, AtY, AfterPoint, AfterRing, AfterBody, AtEnd, Finished, with_ring, close_body, new_body}
+use Rattle.lpis_wkt.specs.private.Machine.{open_text, member_of, step, and_then, run}
 use Rattle.lpis_wkt.proofs.Points.{coordinate-ok, ok-coordinate}
 use Rattle.lpis_wkt.proofs.Steps.{then-ok, with_coordinate-ok, close_ring-ok, keyword-ok, run-append}
 use Rattle.lpis_wkt.proofs.Completeness.{points_run, ring_closes, reads_runs}
@@ -126,7 +128,8 @@ at_last p ps =
 closed_by_first : (p : Point) (ps : List Point) → IsRing ((p ∷ ps) ++ p ∷ p ∷ p ∷ [])
 closed_by_first p ps = record {
   four = omega (arith, length-append ps (p ∷ p ∷ p ∷ []));
-  closed = let e : (p ∷ ps) ++ p ∷ p ∷ p ∷ [] ≡ (p ∷ ps ++ p ∷ p ∷ []) ++ p ∷ [] = simp append_assoc in subst (λ (l : List Point). slice_get l (length l - 1) ≡ slice_get l 0) (sym e) (at_last p (p ∷ ps ++ p ∷ p ∷ []));
+  closed = let e : (p ∷ ps) ++ p ∷ p ∷ p ∷ [] ≡ (p ∷ ps ++ p ∷ p ∷ []) ++ p ∷ [] = simp append_assoc in
+      subst (λ (l : List Point). slice_get l (length l - 1) ≡ slice_get l 0) (sym e) (at_last p (p ∷ ps ++ p ∷ p ∷ []));
 }
 
 three : (p : Point) → Spells p → (ts : List Token) × Commas PointText (p ∷ p ∷ p ∷ []) ts

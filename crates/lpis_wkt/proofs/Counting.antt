@@ -9,7 +9,8 @@ use Rattle.lpis_wkt.specs.Tokens.{Token, Open, Close, Comma, Word, End}
 use Rattle.lpis_wkt.specs.private.Coordinates.{point_of}
 use Rattle.lpis_wkt.specs.Grammar.{Accepts}
 use Rattle.lpis_wkt.specs.Viable.{words, most_words, Viable}
-use Rattle.lpis_wkt.specs.private.Machine.{Context, State, AtKeyword, AfterKeyword, AtBody, AtRing, AtX, AtY, AfterPoint, AfterRing, AfterBody, AtEnd, Finished, with_ring, close_body, new_body, open_text, member_of, points_before, step, run, is_too_many, limited_step, limited_run}
+use Rattle.lpis_wkt.specs.private.Machine.{Context, State, AtKeyword, AfterKeyword, AtBody, AtRing, AtX, AtY, AfterPoint, AfterRing, AfterBody, AtEnd, Finished, with_ring, close_body, new_body}
+use Rattle.lpis_wkt.specs.private.Machine.{open_text, member_of, points_before, step, run, is_too_many, limited_step, limited_run}
 use Rattle.lpis_wkt.proofs.Steps.{then-ok, with_coordinate-ok, cond-err, close_ring-ok, keyword-ok}
 use Rattle.lpis_wkt.proofs.Completeness.{reads_runs}
 use Rattle.lpis_wkt.proofs.Soundness.{runs_reads}
@@ -51,7 +52,9 @@ close-words-by true ms = refl
 close-words-by false ms = refl
 
 close-words : (b : Context) → has_words (close_body b) ≡ 2 * points_before b + 1
-close-words b = close-words-by b.multi (b.members ++ member_of b.rings ∷ []) ∙ (let e = points_of-push b.members (member_of b.rings) in let f = member-points b.rings in let g : points_of (b.members ++ member_of b.rings ∷ []) ≡ points_before b = omega arith in rw g refl)
+close-words b = close-words-by b.multi (b.members ++ member_of b.rings ∷ [])
+    ∙ (let e = points_of-push b.members (member_of b.rings) in let f = member-points b.rings in
+    let g : points_of (b.members ++ member_of b.rings ∷ []) ≡ points_before b = omega arith in rw g refl)
 
 ring-words : (b : Context) (ps : List Point) → has_words (AfterRing (with_ring b ps)) ≡ 2 * (points_before b + length ps) + 1
 ring-words b ps = omega (arith, points_in-push b.rings ps)

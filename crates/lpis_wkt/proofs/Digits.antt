@@ -1,5 +1,6 @@
 -- Digits and the number that they write.
-use Rattle.std.proofs.Common.{suc, add-zero, get_or-drop, ◌≡◌, ℕ, ◌+◌, ◌-◌, ◌*◌, ◌<◌, ◌≤◌, Bool, true, false, cond, ◌&&◌, List, [], ◌∷◌, ◌++◌, length, take, drop, get_or, Option, Some, None, refl, sym, ap, ◌∙◌, arith, nat_lt, drop-cons, add-one, length-drop, MatchOption}
+use Rattle.std.proofs.Common.{suc, add-zero, get_or-drop, ◌≡◌, ℕ, ◌+◌, ◌-◌, ◌*◌, ◌<◌, ◌≤◌, Bool, true, false, cond, ◌&&◌, List, [], ◌∷◌, ◌++◌, length, take, drop, get_or, Option, Some, None, refl}
+use Rattle.std.proofs.Common.{sym, ap, ◌∙◌, arith, nat_lt, drop-cons, add-one, length-drop, MatchOption}
 use Rattle.std.proofs.lemmas.Bool.Decides.{nat_tests}
 use Rattle.std.proofs.lemmas.List.{drop_all, take_all, drop-drop}
 use Rattle.std.specs.List.{position, position_or_len, before_first, after_first, list_all}
@@ -42,10 +43,6 @@ parts_none xs h =
 between : (b : ℕ) → is_ascii_digit b ≡ true → (48 ≤ b) × (b < 58)
 between b h = (grind (arith, nat_tests), grind (arith, nat_tests))
 
-and-second : (a b : Bool) → (a && b) ≡ true → b ≡ true
-and-second true b h = h
-and-second false b h = cc
-
 pub is-digit : (b : ℕ) → is_ascii_digit b ≡ true → digit_value b ≡ b - 48
 is-digit b h =
     let digit = between b h in
@@ -57,7 +54,8 @@ and-first : (a b : Bool) → (a && b) ≡ true → a ≡ true
 and-first true b h = refl
 and-first false b h = cc
 
-pub value_step : (n : ℕ) (ds : List ℕ) (i : ℕ) → i < length ds → list_all is_ascii_digit (drop i ds) ≡ true → digits_value_after 10 n (drop i ds) ≡ digits_value_after 10 (n * 10 + (get_or ds i 0 - 48)) (drop (i + 1) ds)
+pub value_step : (n : ℕ) (ds : List ℕ) (i : ℕ) → i < length ds → list_all is_ascii_digit (drop i ds) ≡ true
+    → digits_value_after 10 n (drop i ds) ≡ digits_value_after 10 (n * 10 + (get_or ds i 0 - 48)) (drop (i + 1) ds)
 value_step n ds i lt h =
     let cons : drop i ds ≡ get_or ds i 0 ∷ drop (i + 1) ds = rw add-one (drop-cons ds i 0 lt) in
     let first : is_ascii_digit (get_or ds i 0) ≡ true = and-first _ _ (rw cons at h) in
@@ -70,7 +68,8 @@ padded-cons : (n : ℕ) (ds : List ℕ) → padded (suc n) ds ≡ get_or ds 0 48
 padded-cons n [] = refl
 padded-cons n (d ∷ ds) = refl
 
-pub decimal_step : (v n : ℕ) (ds : List ℕ) (i : ℕ) → i < n → digits_value_after 10 v (padded (n - i) (drop i ds)) ≡ digits_value_after 10 (v * 10 + digit_value (get_or ds i 48)) (padded (n - (i + 1)) (drop (i + 1) ds))
+pub decimal_step : (v n : ℕ) (ds : List ℕ) (i : ℕ) → i < n → digits_value_after 10 v (padded (n - i) (drop i ds))
+    ≡ digits_value_after 10 (v * 10 + digit_value (get_or ds i 48)) (padded (n - (i + 1)) (drop (i + 1) ds))
 decimal_step v n ds i lt =
     let size : n - i ≡ suc (n - (i + 1)) = omega arith in
     let first : get_or (drop i ds) 0 48 ≡ get_or ds i 48 = rw (get_or-drop, add-zero) refl in

@@ -11,8 +11,10 @@ use Rattle.lpis_wkt.specs.Number.{number}
 use Rattle.lpis_wkt.specs.private.Coordinates.{point_of}
 use Rattle.lpis_wkt.specs.Grammar.{PointText, Commas, is_polygon, is_multi}
 use Rattle.lpis_wkt.specs.Viable.{Stands, Viable, words, most_words}
-use Rattle.lpis_wkt.specs.Table.{RingSoFar, EndsWith, keyword_code, open_code, first_open_code, number_code, coordinate_code, point_code, TableCode, at_keyword, at_first_open, at_open, at_coordinate, at_after_point, at_after_close, at_past_end}
-use Rattle.lpis_wkt.specs.private.Machine.{Context, State, AtKeyword, AfterKeyword, AtBody, AtRing, AtX, AtY, AfterPoint, AfterRing, AfterBody, AtEnd, Finished, is_closed, with_ring, close_body, new_body, member_of, points_before, and_then, step, run, limited_step, limited_run}
+use Rattle.lpis_wkt.specs.Table.{RingSoFar, EndsWith, keyword_code, open_code, first_open_code, number_code, coordinate_code, point_code, TableCode, at_keyword, at_first_open, at_open, at_coordinate}
+use Rattle.lpis_wkt.specs.Table.{at_after_point, at_after_close, at_past_end}
+use Rattle.lpis_wkt.specs.private.Machine.{Context, State, AtKeyword, AfterKeyword, AtBody, AtRing, AtX, AtY, AfterPoint, AfterRing, AfterBody, AtEnd, Finished, is_closed, with_ring, close_body}
+use Rattle.lpis_wkt.specs.private.Machine.{new_body, member_of, points_before, and_then, step, run, limited_step, limited_run}
 use Rattle.lpis_wkt.proofs.Steps.{then-ok, close_ring-ok, run-append, limited-append}
 use Rattle.lpis_wkt.proofs.Completeness.{points_run}
 use Rattle.lpis_wkt.proofs.Completing.{begun}
@@ -225,7 +227,8 @@ past_end-only : (s : State) (t : Token) (c : WktCode) (ms : List Member) → s �
 past_end-only s t c ms e h = let k : limited_step (Finished ms) t ≡ Err c = rw e at h in cc
 
 -- the code of a row is that of the machine's step
-row-only : (before : List Token) (t : Token) (code c : WktCode) (s : State) → TableCode before t code → Tail s before → run AtKeyword before ≡ Ok s → has_words s ≡ words before → words before ≤ most_words
+row-only : (before : List Token) (t : Token) (code c : WktCode) (s : State) → TableCode before t code → Tail s before
+    → run AtKeyword before ≡ Ok s → has_words s ≡ words before → words before ≤ most_words
     → limited_step s t ≡ Err c → code ≡ c
 row-only before t code c s at_keyword r h n few k = let e : AtKeyword ≡ s = cc in keyword-only t c (rw (← e) at k)
 row-only before t code c s (at_first_open stands one) r h n few k = let o = stood before s Open h stands in first_open-only s o.0 before t c o.1 r one k
@@ -241,7 +244,8 @@ only_code before t code c s row h k =
     let n : has_words s ≡ words before = words-run before AtKeyword s r.0 ∙ omega arith in
     row-only before t code c s row (tail before s r.0) r.0 n (omega (arith, r.1)) k
 
-refused : (before : List Token) (t : Token) (s : State) (r : Result State WktCode) → limited_step s t ≡ r → limited_run AtKeyword before ≡ Ok s → (Viable (before ++ t ∷ []) → ⊥) → (c : WktCode) × (limited_step s t ≡ Err c)
+refused : (before : List Token) (t : Token) (s : State) (r : Result State WktCode) → limited_step s t ≡ r
+    → limited_run AtKeyword before ≡ Ok s → (Viable (before ++ t ∷ []) → ⊥) → (c : WktCode) × (limited_step s t ≡ Err c)
 refused before t s (Ok s') e h cannot =
     let goes : limited_run AtKeyword (before ++ t ∷ []) ≡ Ok s' = limited-append AtKeyword before (t ∷ []) ∙ rw (h, e) refl in
     absurd (cannot (viable (before ++ t ∷ []) s' goes))

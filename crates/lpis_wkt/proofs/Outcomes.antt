@@ -71,7 +71,9 @@ first_fault ts code offset h =
 -- the other way round
 pub outcome-append : (s : State) (a b : List (ℕ × Token)) → outcome s (a ++ b) ≡ and_then (outcome s a) (λ s. outcome s b)
 outcome-append s [] b = refl
-outcome-append s (t ∷ a) b = elim (located (limited_step s t.1) t.0) as (λ r. and_then r (λ s. outcome s (a ++ b)) ≡ and_then (and_then r (λ s. outcome s a)) (λ s. outcome s b)) [ Ok s' ↦ outcome-append s' a b | Err e ↦ refl ]
+outcome-append s (t ∷ a) b = elim (located (limited_step s t.1) t.0) as
+    (λ r. and_then r (λ s. outcome s (a ++ b)) ≡ and_then (and_then r (λ s. outcome s a)) (λ s. outcome s b))
+    [ Ok s' ↦ outcome-append s' a b | Err e ↦ refl ]
 
 pub fault_outcome : (ts : List (ℕ × Token)) (code : WktCode) (offset : ℕ) → FirstFault ts code offset → outcome AtKeyword ts ≡ Err (code, offset)
 fault_outcome ts code offset (before, t, after, split, v, cannot, row) =
@@ -101,7 +103,9 @@ answer-err : (r : Result State (WktCode × ℕ)) (e : WktCode × ℕ) → answer
 answer-err (Ok s) e h = cc
 answer-err (Err f) e h = cc
 
-finished_text : (before : List (ℕ × Token)) (n : ℕ) (ms : List Member) → answer_of (outcome AtKeyword (before ++ (n, End) ∷ [])) ≡ Ok ms → outcome AtKeyword (before ++ (n, End) ∷ []) ≡ Ok (Finished ms)
+finished_text : (before : List (ℕ × Token)) (n : ℕ) (ms : List Member)
+    → answer_of (outcome AtKeyword (before ++ (n, End) ∷ [])) ≡ Ok ms → outcome AtKeyword (before ++ (n, End) ∷ []) ≡ Ok
+    (Finished ms)
 finished_text before n ms h =
     let (s, e, is) = answer-ok (outcome AtKeyword (before ++ (n, End) ∷ [])) ms h in
     let (ms', f) = finished_end before n s e in

@@ -1,5 +1,6 @@
 -- Parts of a text that grow by a byte, and the numerals that they are.
-use Rattle.std.proofs.Common.{◌≡◌, ℕ, suc, ◌+◌, ◌-◌, ◌*◌, ◌<◌, ◌≤◌, Bool, true, false, cond, not, ◌&&◌, ◌||◌, ◌==◌, List, [], ◌∷◌, ◌++◌, length, take, drop, get_or, refl, sym, ap, ◌∙◌, arith, append_assoc, append-nil, length-append, drop-cons, add-one, one-add, nat_lt}
+use Rattle.std.proofs.Common.{◌≡◌, ℕ, suc, ◌+◌, ◌-◌, ◌*◌, ◌<◌, ◌≤◌, Bool, true, false, cond, not, ◌&&◌, ◌||◌, ◌==◌, List, [], ◌∷◌, ◌++◌, length, take, drop, get_or, refl, sym, ap, ◌∙◌, arith}
+use Rattle.std.proofs.Common.{append_assoc, append-nil, length-append, drop-cons, add-one, one-add, nat_lt}
 use Rattle.std.proofs.lemmas.Bool.Decides.{nat_tests}
 use Rattle.std.proofs.lemmas.List.{drop_all}
 use Rattle.std.specs.List.{list_all, position_or_len, before_first, after_first}
@@ -59,7 +60,9 @@ word-by : (a b c d e f g : Bool) → a ≡ false → b ≡ false → c ≡ false
 word-by a b c d e f g ha hb hc hd he hf hg = rw (ha, hb, hc, hd, he, hf, hg) refl
 
 letter : (b : ℕ) → 45 < b → is_word b ≡ true
-letter b lt = word-by (b == 32) (b == 9) (b == 13) (b == 10) (b == 40) (b == 41) (b == 44) (grind (arith, nat_tests)) (grind (arith, nat_tests)) (grind (arith, nat_tests)) (grind (arith, nat_tests)) (grind (arith, nat_tests)) (grind (arith, nat_tests)) (grind (arith, nat_tests))
+letter b lt = word-by (b == 32) (b == 9) (b == 13) (b == 10) (b == 40) (b == 41) (b == 44) (grind (arith, nat_tests))
+    (grind (arith, nat_tests)) (grind (arith, nat_tests)) (grind (arith, nat_tests)) (grind (arith, nat_tests))
+    (grind (arith, nat_tests)) (grind (arith, nat_tests))
 
 digit-word : (b : ℕ) → is_ascii_digit b ≡ true → is_word b ≡ true
 digit-word b h = let d = between b h in letter b (omega arith)
@@ -200,4 +203,6 @@ pub signed_word : (text : List ℕ) (at start end : ℕ) (sign body : List ℕ) 
 signed_word text at start end sign body negative n is p q plain stop =
     let whole = joined text at start end sign body p q in
     let some = some-body body n plain in
-    ap (tokens_from at) whole.from ∙ first_letter (sign ++ body) (drop end text) at end (words-append sign body (sign-words sign negative is) plain.word) (omega (arith, length-append sign body)) (stops-at end text stop) whole.past
+    ap (tokens_from at) whole.from ∙ first_letter (sign ++ body) (drop end text) at end
+    (words-append sign body (sign-words sign negative is) plain.word) (omega (arith, length-append sign body))
+    (stops-at end text stop) whole.past

@@ -12,8 +12,10 @@ use Rattle.lpis_wkt.specs.Number.{number}
 use Rattle.lpis_wkt.specs.private.Coordinates.{coordinate, point_of}
 use Rattle.lpis_wkt.specs.Grammar.{is_polygon, is_multi}
 use Rattle.lpis_wkt.specs.Viable.{Stands, words, most_words}
-use Rattle.lpis_wkt.specs.Table.{keyword_code, open_code, first_open_code, number_code, coordinate_code, point_code, TableCode, at_keyword, at_first_open, at_open, at_coordinate, at_after_point, at_after_close, at_past_end}
-use Rattle.lpis_wkt.specs.private.Machine.{State, AtKeyword, AfterKeyword, AtBody, AtRing, AtX, AtY, AfterPoint, AfterRing, AfterBody, AtEnd, Finished, is_closed, with_coordinate, with_ring, new_body, open_text, points_before, step, run, limited_step, limited_run}
+use Rattle.lpis_wkt.specs.Table.{keyword_code, open_code, first_open_code, number_code, coordinate_code, point_code, TableCode, at_keyword, at_first_open, at_open, at_coordinate, at_after_point}
+use Rattle.lpis_wkt.specs.Table.{at_after_close, at_past_end}
+use Rattle.lpis_wkt.specs.private.Machine.{State, AtKeyword, AfterKeyword, AtBody, AtRing, AtX, AtY, AfterPoint, AfterRing, AfterBody, AtEnd, Finished, is_closed, with_coordinate, with_ring, new_body}
+use Rattle.lpis_wkt.specs.private.Machine.{open_text, points_before, step, run, limited_step, limited_run}
 use Rattle.lpis_wkt.proofs.Points.{err-coordinate}
 use Rattle.lpis_wkt.proofs.Steps.{run-append}
 use Rattle.lpis_wkt.proofs.Completing.{origin, zero_spelled, begins}
@@ -39,7 +41,8 @@ coordinate-code (Err e) f code h = cc
 pub number-code : (w : List ℕ) (f : Coordinate → State) (code : WktCode) → with_coordinate (coordinate w) f ≡ Err code → number_code (number w) ≡ code
 number-code w f code h = rw (err-coordinate w code (coordinate-code (coordinate w) f code h)) refl
 
-pub limited-code : (many : Bool) (w : List ℕ) (f : Coordinate → State) (code : WktCode) → cond many (Err TooManyPoints) (with_coordinate (coordinate w) f) ≡ Err code → cond many TooManyPoints (number_code (number w)) ≡ code
+pub limited-code : (many : Bool) (w : List ℕ) (f : Coordinate → State) (code : WktCode) → cond many (Err TooManyPoints)
+    (with_coordinate (coordinate w) f) ≡ Err code → cond many TooManyPoints (number_code (number w)) ≡ code
 limited-code true w f code h = cc
 limited-code false w f code h = number-code w f code h
 
@@ -60,38 +63,64 @@ even-test n words h = grind (arith, nat_tests)
 coded : (before : List Token) (t : Token) (s : State) (code : WktCode) → Tail s before → run AtKeyword before ≡ Ok s → has_words s ≡ words before → has_words s ≤ most_words
     → limited_step s t ≡ Err code → TableCode before t code
 coded before Open AtKeyword code r h n le k = subst (TableCode before Open) (err-same {A = State} Keyword code k) (subst (λ (l : List Token). TableCode l Open (keyword_code Open)) (sym r) at_keyword)
-coded before Close AtKeyword code r h n le k = subst (TableCode before Close) (err-same {A = State} Keyword code k) (subst (λ (l : List Token). TableCode l Close (keyword_code Close)) (sym r) at_keyword)
-coded before Comma AtKeyword code r h n le k = subst (TableCode before Comma) (err-same {A = State} Keyword code k) (subst (λ (l : List Token). TableCode l Comma (keyword_code Comma)) (sym r) at_keyword)
+coded before Close AtKeyword code r h n le k = subst (TableCode before Close) (err-same {A = State} Keyword code k)
+    (subst (λ (l : List Token). TableCode l Close (keyword_code Close)) (sym r) at_keyword)
+coded before Comma AtKeyword code r h n le k = subst (TableCode before Comma) (err-same {A = State} Keyword code k)
+    (subst (λ (l : List Token). TableCode l Comma (keyword_code Comma)) (sym r) at_keyword)
 coded before End AtKeyword code r h n le k = subst (TableCode before End) (err-same {A = State} Keyword code k) (subst (λ (l : List Token). TableCode l End (keyword_code End)) (sym r) at_keyword)
-coded before (Word w) AtKeyword code r h n le k = subst (TableCode before (Word w)) (keyword-code (is_polygon w) (is_multi w) (keyword_code (Word w)) code k) (subst (λ (l : List Token). TableCode l (Word w) (keyword_code (Word w))) (sym r) at_keyword)
+coded before (Word w) AtKeyword code r h n le k = subst (TableCode before (Word w))
+    (keyword-code (is_polygon w) (is_multi w) (keyword_code (Word w)) code k)
+    (subst (λ (l : List Token). TableCode l (Word w) (keyword_code (Word w))) (sym r) at_keyword)
 coded before Open (AfterKeyword m) code r h n le k = cc
-coded before Close (AfterKeyword m) code r h n le k = subst (TableCode before Close) (err-same {A = State} (first_open_code Close) code k) (at_first_open (stands before (AfterKeyword m) (open_text m) Open h refl) r)
-coded before Comma (AfterKeyword m) code r h n le k = subst (TableCode before Comma) (err-same {A = State} (first_open_code Comma) code k) (at_first_open (stands before (AfterKeyword m) (open_text m) Open h refl) r)
-coded before End (AfterKeyword m) code r h n le k = subst (TableCode before End) (err-same {A = State} (first_open_code End) code k) (at_first_open (stands before (AfterKeyword m) (open_text m) Open h refl) r)
-coded before (Word w) (AfterKeyword m) code r h n le k = subst (TableCode before (Word w)) (err-same {A = State} (first_open_code (Word w)) code k) (at_first_open (stands before (AfterKeyword m) (open_text m) Open h refl) r)
+coded before Close (AfterKeyword m) code r h n le k = subst (TableCode before Close)
+    (err-same {A = State} (first_open_code Close) code k)
+    (at_first_open (stands before (AfterKeyword m) (open_text m) Open h refl) r)
+coded before Comma (AfterKeyword m) code r h n le k = subst (TableCode before Comma)
+    (err-same {A = State} (first_open_code Comma) code k)
+    (at_first_open (stands before (AfterKeyword m) (open_text m) Open h refl) r)
+coded before End (AfterKeyword m) code r h n le k =
+    subst (TableCode before End) (err-same {A = State} (first_open_code End) code k)
+    (at_first_open (stands before (AfterKeyword m) (open_text m) Open h refl) r)
+coded before (Word w) (AfterKeyword m) code r h n le k = subst (TableCode before (Word w))
+    (err-same {A = State} (first_open_code (Word w)) code k)
+    (at_first_open (stands before (AfterKeyword m) (open_text m) Open h refl) r)
 coded before Open (AtBody ms) code r h n le k = cc
 coded before Close (AtBody ms) code r h n le k = subst (TableCode before Close) (err-same {A = State} (open_code Close) code k) (at_open (stands before (AtBody ms) (new_body true ms) Open h refl) r)
 coded before Comma (AtBody ms) code r h n le k = subst (TableCode before Comma) (err-same {A = State} (open_code Comma) code k) (at_open (stands before (AtBody ms) (new_body true ms) Open h refl) r)
 coded before End (AtBody ms) code r h n le k = subst (TableCode before End) (err-same {A = State} (open_code End) code k) (at_open (stands before (AtBody ms) (new_body true ms) Open h refl) r)
-coded before (Word w) (AtBody ms) code r h n le k = subst (TableCode before (Word w)) (err-same {A = State} (open_code (Word w)) code k) (at_open (stands before (AtBody ms) (new_body true ms) Open h refl) r)
+coded before (Word w) (AtBody ms) code r h n le k = subst (TableCode before (Word w))
+    (err-same {A = State} (open_code (Word w)) code k)
+    (at_open (stands before (AtBody ms) (new_body true ms) Open h refl) r)
 coded before Open (AtRing b) code r h n le k = cc
 coded before Close (AtRing b) code r h n le k = subst (TableCode before Close) (err-same {A = State} (open_code Close) code k) (at_open (stands before (AtRing b) (AtX b []) Open h refl) r)
 coded before Comma (AtRing b) code r h n le k = subst (TableCode before Comma) (err-same {A = State} (open_code Comma) code k) (at_open (stands before (AtRing b) (AtX b []) Open h refl) r)
 coded before End (AtRing b) code r h n le k = subst (TableCode before End) (err-same {A = State} (open_code End) code k) (at_open (stands before (AtRing b) (AtX b []) Open h refl) r)
 coded before (Word w) (AtRing b) code r h n le k = subst (TableCode before (Word w)) (err-same {A = State} (open_code (Word w)) code k) (at_open (stands before (AtRing b) (AtX b []) Open h refl) r)
-coded before Open (AtX b ps) code r h n le k = subst (TableCode before Open) (err-same {A = State} Syntax code k) (at_coordinate (stands before (AtX b ps) (AtY b ps origin) (Word (codes "0")) h (rw zero_spelled refl)))
-coded before Close (AtX b ps) code r h n le k = subst (TableCode before Close) (err-same {A = State} Syntax code k) (at_coordinate (stands before (AtX b ps) (AtY b ps origin) (Word (codes "0")) h (rw zero_spelled refl)))
-coded before Comma (AtX b ps) code r h n le k = subst (TableCode before Comma) (err-same {A = State} Syntax code k) (at_coordinate (stands before (AtX b ps) (AtY b ps origin) (Word (codes "0")) h (rw zero_spelled refl)))
-coded before End (AtX b ps) code r h n le k = subst (TableCode before End) (err-same {A = State} Syntax code k) (at_coordinate (stands before (AtX b ps) (AtY b ps origin) (Word (codes "0")) h (rw zero_spelled refl)))
+coded before Open (AtX b ps) code r h n le k = subst (TableCode before Open) (err-same {A = State} Syntax code k)
+    (at_coordinate (stands before (AtX b ps) (AtY b ps origin) (Word (codes "0")) h (rw zero_spelled refl)))
+coded before Close (AtX b ps) code r h n le k = subst (TableCode before Close) (err-same {A = State} Syntax code k)
+    (at_coordinate (stands before (AtX b ps) (AtY b ps origin) (Word (codes "0")) h (rw zero_spelled refl)))
+coded before Comma (AtX b ps) code r h n le k = subst (TableCode before Comma) (err-same {A = State} Syntax code k)
+    (at_coordinate (stands before (AtX b ps) (AtY b ps origin) (Word (codes "0")) h (rw zero_spelled refl)))
+coded before End (AtX b ps) code r h n le k = subst (TableCode before End) (err-same {A = State} Syntax code k)
+    (at_coordinate (stands before (AtX b ps) (AtY b ps origin) (Word (codes "0")) h (rw zero_spelled refl)))
 coded before (Word w) (AtX b ps) code r h n le k =
     let same : nat_le most_points (points_before b + length ps) ≡ (words before == most_words) = same-test (points_before b + length ps) (words before) (sym n) (omega arith) in
     let c : cond (nat_le most_points (points_before b + length ps)) TooManyPoints (number_code (number w)) ≡ code = limited-code _ w (AtY b ps) code k in
     let c2 : coordinate_code (words before) (Word w) ≡ code = ap (λ (v : Bool). cond v TooManyPoints (number_code (number w))) (sym same) ∙ c in
     subst (TableCode before (Word w)) c2 (at_coordinate (stands before (AtX b ps) (AtY b ps origin) (Word (codes "0")) h (rw zero_spelled refl)))
-coded before Open (AtY b ps x) code r h n le k = subst (TableCode before Open) (err-same {A = State} Syntax code k) (at_coordinate (stands before (AtY b ps x) (AfterPoint b (ps ++ point_of x origin ∷ [])) (Word (codes "0")) h (rw zero_spelled refl)))
-coded before Close (AtY b ps x) code r h n le k = subst (TableCode before Close) (err-same {A = State} Syntax code k) (at_coordinate (stands before (AtY b ps x) (AfterPoint b (ps ++ point_of x origin ∷ [])) (Word (codes "0")) h (rw zero_spelled refl)))
-coded before Comma (AtY b ps x) code r h n le k = subst (TableCode before Comma) (err-same {A = State} Syntax code k) (at_coordinate (stands before (AtY b ps x) (AfterPoint b (ps ++ point_of x origin ∷ [])) (Word (codes "0")) h (rw zero_spelled refl)))
-coded before End (AtY b ps x) code r h n le k = subst (TableCode before End) (err-same {A = State} Syntax code k) (at_coordinate (stands before (AtY b ps x) (AfterPoint b (ps ++ point_of x origin ∷ [])) (Word (codes "0")) h (rw zero_spelled refl)))
+coded before Open (AtY b ps x) code r h n le k = subst (TableCode before Open) (err-same {A = State} Syntax code k)
+    (at_coordinate (stands before (AtY b ps x) (AfterPoint b (ps ++ point_of x origin ∷ [])) (Word (codes "0")) h
+    (rw zero_spelled refl)))
+coded before Close (AtY b ps x) code r h n le k = subst (TableCode before Close) (err-same {A = State} Syntax code k)
+    (at_coordinate (stands before (AtY b ps x) (AfterPoint b (ps ++ point_of x origin ∷ [])) (Word (codes "0")) h
+    (rw zero_spelled refl)))
+coded before Comma (AtY b ps x) code r h n le k = subst (TableCode before Comma) (err-same {A = State} Syntax code k)
+    (at_coordinate (stands before (AtY b ps x) (AfterPoint b (ps ++ point_of x origin ∷ [])) (Word (codes "0")) h
+    (rw zero_spelled refl)))
+coded before End (AtY b ps x) code r h n le k = subst (TableCode before End) (err-same {A = State} Syntax code k)
+    (at_coordinate (stands before (AtY b ps x) (AfterPoint b (ps ++ point_of x origin ∷ [])) (Word (codes "0")) h
+    (rw zero_spelled refl)))
 coded before (Word w) (AtY b ps x) code r h n le k =
     let same : (words before == most_words) ≡ false = even-test (points_before b + length ps) (words before) (sym n) in
     let c : number_code (number w) ≡ code = number-code w (λ y. AfterPoint b (ps ++ point_of x y ∷ [])) code k in

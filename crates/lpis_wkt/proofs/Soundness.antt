@@ -8,7 +8,8 @@ use Rattle.lpis_wkt.specs.Tokens.{Token, Open, Close, Comma, Word, End}
 use Rattle.lpis_wkt.specs.Number.{number}
 use Rattle.lpis_wkt.specs.private.Coordinates.{point_of}
 use Rattle.lpis_wkt.specs.Grammar.{PointText, Commas, RingText, BodyText, is_polygon, is_multi, Reads}
-use Rattle.lpis_wkt.specs.private.Machine.{Context, State, AtKeyword, AfterKeyword, AtBody, AtRing, AtX, AtY, AfterPoint, AfterRing, AfterBody, AtEnd, Finished, with_ring, close_body, new_body, open_text, run}
+use Rattle.lpis_wkt.specs.private.Machine.{Context, State, AtKeyword, AfterKeyword, AtBody, AtRing, AtX, AtY, AfterPoint, AfterRing, AfterBody, AtEnd, Finished, with_ring, close_body, new_body}
+use Rattle.lpis_wkt.specs.private.Machine.{open_text, run}
 use Rattle.lpis_wkt.proofs.Points.{ok-coordinate}
 use Rattle.lpis_wkt.proofs.Steps.{then-ok, with_coordinate-ok, close_ring-ok, keyword-ok}
 use Rattle.lpis_wkt.proofs.Completeness.{adds, adds-append, adds-rings}
@@ -50,7 +51,9 @@ module _ {S A : Type 0} (P : A → List Token → Type 0) (start stop : S → St
       ]
 
 module _ (q : List Member) where
-  at_x : (b : Context) (ps : List Point) (ts : List Token) → Reaches q (AtX b ps) ts → (w : List ℕ) × (rest : List Token) × (x : Coordinate) × (ts ≡ Word w ∷ rest) × (number w ≡ Ok x.value) × Reaches q (AtY b ps x) rest
+  at_x : (b : Context) (ps : List Point) (ts : List Token) → Reaches q (AtX b ps) ts → (w : List ℕ)
+      × (rest : List Token) × (x : Coordinate) × (ts ≡ Word w ∷ rest) × (number w ≡ Ok x.value)
+      × Reaches q (AtY b ps x) rest
   at_x b ps [] h = cc
   at_x b ps (Open ∷ ts) h = cc
   at_x b ps (Close ∷ ts) h = cc
@@ -61,7 +64,9 @@ module _ (q : List Member) where
       let n = with_coordinate-ok _ _ _ a.1 in
       (w, ts, n.0, refl, ok-coordinate w n.0 n.1, rw n.2 a.2)
 
-  at_y : (b : Context) (ps : List Point) (x : Coordinate) (ts : List Token) → Reaches q (AtY b ps x) ts → (w : List ℕ) × (rest : List Token) × (y : Coordinate) × (ts ≡ Word w ∷ rest) × (number w ≡ Ok y.value) × Reaches q (AfterPoint b (ps ++ point_of x y ∷ [])) rest
+  at_y : (b : Context) (ps : List Point) (x : Coordinate) (ts : List Token) → Reaches q (AtY b ps x) ts → (w : List ℕ)
+      × (rest : List Token) × (y : Coordinate) × (ts ≡ Word w ∷ rest) × (number w ≡ Ok y.value)
+      × Reaches q (AfterPoint b (ps ++ point_of x y ∷ [])) rest
   at_y b ps x [] h = cc
   at_y b ps x (Open ∷ ts) h = cc
   at_y b ps x (Close ∷ ts) h = cc
@@ -145,7 +150,9 @@ module _ (q : List Member) where
   at_end ms (Word w ∷ ts) h = cc
 
   abbrev Keyworded : List Token → Type 0
-  Keyworded ts = (w : List ℕ) × (rest : List Token) × (ts ≡ Word w ∷ rest) × (((is_polygon w ≡ true) × Reaches q (AfterKeyword false) rest) ⊎ ((is_multi w ≡ true) × Reaches q (AfterKeyword true) rest))
+  Keyworded ts = (w : List ℕ) × (rest : List Token) × (ts ≡ Word w ∷ rest)
+      × (((is_polygon w ≡ true) × Reaches q (AfterKeyword false) rest)
+      ⊎ ((is_multi w ≡ true) × Reaches q (AfterKeyword true) rest))
 
   at_keyword : (ts : List Token) → Reaches q AtKeyword ts → Keyworded ts
   at_keyword [] h = cc
@@ -188,7 +195,9 @@ module _ (q : List Member) where
 
   -- a body: after its `(`, its rings and `)`
   abbrev Body : Bool → List Member → List Token → Type 0
-  Body multi ms ts = (m : Member) × (front rest : List Token) × Commas RingText (m.shell ∷ m.holes) front × (ts ≡ front ++ Close ∷ rest) × (length rest < length ts) × Reaches q (cond multi (AfterBody (ms ++ m ∷ [])) (AtEnd (ms ++ m ∷ []))) rest
+  Body multi ms ts = (m : Member) × (front rest : List Token) × Commas RingText (m.shell ∷ m.holes) front
+      × (ts ≡ front ++ Close ∷ rest) × (length rest < length ts)
+      × Reaches q (cond multi (AfterBody (ms ++ m ∷ [])) (AtEnd (ms ++ m ∷ []))) rest
 
   body_of : (multi : Bool) (ms : List Member) (ts : List Token) → Read RingText AtRing AfterRing with_ring BodyOut q (record { multi = multi; members = ms; rings = [] }) ts → Body multi ms ts
   body_of multi ms ts ([], front, back, text, split, less, out) = absurd text

@@ -1,5 +1,6 @@
 -- Where a word or a space stands, the tokens from there on are those after it.
-use Rattle.std.proofs.Common.{◌≡◌, ℕ, zero, suc, ◌+◌, ◌-◌, ◌<◌, ◌≤◌, Bool, true, false, cond, not, ◌||◌, ◌==◌, List, [], ◌∷◌, ◌++◌, length, take, drop, get_or, refl, sym, ap, ◌∙◌, arith, drop-cons, add-one, slice_range, length-drop, inl, inr}
+use Rattle.std.proofs.Common.{◌≡◌, ℕ, zero, suc, ◌+◌, ◌-◌, ◌<◌, ◌≤◌, Bool, true, false, cond, not, ◌||◌, ◌==◌, List, [], ◌∷◌, ◌++◌, length, take, drop, get_or, refl, sym, ap, ◌∙◌, arith, drop-cons}
+use Rattle.std.proofs.Common.{add-one, slice_range, length-drop, inl, inr}
 use Rattle.std.proofs.lemmas.Bool.{cases_lt}
 use Rattle.std.proofs.lemmas.List.{take-append-drop, length-take-le, drop-drop, nil_from_length}
 use Rattle.std.proofs.lemmas.Bool.Decides.{nat_tests}
@@ -32,7 +33,10 @@ from-join at b ((next, Open) ∷ ts) = omega arith
 from-join at b ((next, Close) ∷ ts) = omega arith
 from-join at b ((next, Comma) ∷ ts) = omega arith
 from-join at b ((next, End) ∷ ts) = omega arith
-from-join at b ((next, Word w) ∷ ts) = elim (next == at + 1) as (λ v. From at (cond v ((at, Word (b ∷ w)) ∷ ts) ((at, Word (b ∷ [])) ∷ (next, Word w) ∷ ts))) [ true ↦ omega arith | false ↦ omega arith ]
+from-join at b ((next, Word w) ∷ ts) =
+    elim (next == at + 1) as
+    (λ v. From at (cond v ((at, Word (b ∷ w)) ∷ ts) ((at, Word (b ∷ [])) ∷ (next, Word w) ∷ ts)))
+    [ true ↦ omega arith | false ↦ omega arith ]
 
 from-later : (m n : ℕ) (ts : Tokens) → m ≤ n → From n ts → From m ts
 from-later m n [] le h = tt
@@ -47,7 +51,9 @@ from-token_by_byte false false false false at rest w h k = k
 
 from-tokens : (at : ℕ) (bs : List ℕ) → From at (tokens_from at bs)
 from-tokens at [] = tt
-from-tokens at (b ∷ bs) = from-token_by_byte (is_space b) (b == 40) (b == 41) (b == 44) at (tokens_from (at + 1) bs) (join at b (tokens_from (at + 1) bs)) (from-later at (at + 1) _ (omega arith) (from-tokens (at + 1) bs)) (from-join at b (tokens_from (at + 1) bs))
+from-tokens at (b ∷ bs) = from-token_by_byte (is_space b) (b == 40) (b == 41) (b == 44) at (tokens_from (at + 1) bs)
+    (join at b (tokens_from (at + 1) bs)) (from-later at (at + 1) _ (omega arith) (from-tokens (at + 1) bs))
+    (from-join at b (tokens_from (at + 1) bs))
 
 apart : (at b : ℕ) (ts : Tokens) → From (at + 2) ts → join at b ts ≡ (at, Word (b ∷ [])) ∷ ts
 apart at b [] h = refl
@@ -59,7 +65,9 @@ apart at b ((next, Word w) ∷ ts) h =
     let other : (next == at + 1) ≡ false = grind (arith, nat_tests) in
     rw other refl
 
-apart-token_by_byte : (s o c m : Bool) (at b : ℕ) (rest w : Tokens) → not (s || o || c || m) ≡ false → From (at + 2) rest → join at b (token_by_byte s o c m (at + 1) rest w) ≡ (at, Word (b ∷ [])) ∷ token_by_byte s o c m (at + 1) rest w
+apart-token_by_byte : (s o c m : Bool) (at b : ℕ) (rest w : Tokens) → not (s || o || c || m) ≡ false
+    → From (at + 2) rest → join at b (token_by_byte s o c m (at + 1) rest w) ≡ (at, Word (b ∷ [])) ∷ token_by_byte s o c
+    m (at + 1) rest w
 apart-token_by_byte true o c m at b rest w h k = apart at b rest k
 apart-token_by_byte false true c m at b rest w h k = refl
 apart-token_by_byte false false true m at b rest w h k = refl

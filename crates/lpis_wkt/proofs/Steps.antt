@@ -50,4 +50,5 @@ run-append s (t ∷ a) b = elim (step s t) as (λ r. and_then r (λ s. run s (a 
 
 pub limited-append : (s : State) (a b : List Token) → limited_run s (a ++ b) ≡ and_then (limited_run s a) (λ s. limited_run s b)
 limited-append s [] b = refl
-limited-append s (t ∷ a) b = elim (limited_step s t) as (λ r. and_then r (λ s. limited_run s (a ++ b)) ≡ and_then (and_then r (λ s. limited_run s a)) (λ s. limited_run s b)) [ Ok s' ↦ limited-append s' a b | Err e ↦ refl ]
+limited-append s (t ∷ a) b = elim (limited_step s t) as (λ r. and_then r (λ s. limited_run s (a ++ b)) ≡ and_then
+    (and_then r (λ s. limited_run s a)) (λ s. limited_run s b)) [ Ok s' ↦ limited-append s' a b | Err e ↦ refl ]

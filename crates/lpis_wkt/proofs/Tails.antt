@@ -7,7 +7,8 @@ use Rattle.lpis_wkt.specs.Number.{number}
 use Rattle.lpis_wkt.specs.private.Coordinates.{point_of}
 use Rattle.lpis_wkt.specs.Grammar.{PointText, Commas}
 use Rattle.lpis_wkt.specs.Table.{RingSoFar, EndsWith}
-use Rattle.lpis_wkt.specs.private.Machine.{State, AtKeyword, AfterKeyword, AtBody, AtRing, AtX, AtY, AfterPoint, AfterRing, AfterBody, AtEnd, Finished, close_body, new_body, open_text, member_of, step, run}
+use Rattle.lpis_wkt.specs.private.Machine.{State, AtKeyword, AfterKeyword, AtBody, AtRing, AtX, AtY, AfterPoint, AfterRing, AfterBody, AtEnd, Finished, close_body, new_body, open_text, member_of}
+use Rattle.lpis_wkt.specs.private.Machine.{step, run}
 use Rattle.lpis_wkt.proofs.Points.{ok-coordinate}
 use Rattle.lpis_wkt.proofs.Steps.{then-ok, with_coordinate-ok, close_ring-ok, keyword-ok}
 
@@ -64,7 +65,12 @@ tail-step AtKeyword Open s' before h r = cc
 tail-step AtKeyword Close s' before h r = cc
 tail-step AtKeyword Comma s' before h r = cc
 tail-step AtKeyword End s' before h r = cc
-tail-step AtKeyword (Word w) s' before h r = elim (keyword-ok w s' h) [ inl e ↦ subst (λ (s : State). Tail s (before ++ Word w ∷ [])) e.1 (rw r refl) | inr e ↦ subst (λ (s : State). Tail s (before ++ Word w ∷ [])) e.1 (rw r refl) ]
+tail-step AtKeyword (Word w) s' before h r =
+    elim (keyword-ok w s' h) [
+      | inl e ↦ subst (λ (s : State). Tail s (before ++ Word w ∷ [])) e.1 (rw r refl)
+      | inr e ↦
+          subst (λ (s : State). Tail s (before ++ Word w ∷ [])) e.1 (rw r refl)
+    ]
 tail-step (AfterKeyword m) Open s' before h r = let e : open_text m ≡ s' = cc in subst (λ (s : State). Tail s (before ++ Open ∷ [])) e (tail-open m before r)
 tail-step (AfterKeyword m) Close s' before h r = cc
 tail-step (AfterKeyword m) Comma s' before h r = cc
@@ -84,7 +90,15 @@ tail-step (AtX b ps) Open s' before h r = cc
 tail-step (AtX b ps) Close s' before h r = cc
 tail-step (AtX b ps) Comma s' before h r = cc
 tail-step (AtX b ps) End s' before h r = cc
-tail-step (AtX b ps) (Word w) s' before h r = let n = with_coordinate-ok _ _ _ h in subst (λ (s : State). Tail s (before ++ Word w ∷ [])) n.2 (r.0, r.1, w, rw r.2 (simp append_assoc), ok-coordinate w n.0 n.1, r.3)
+tail-step (AtX b ps) (Word w) s' before h r = let n = with_coordinate-ok _ _ _ h in
+    subst (λ (s : State). Tail s (before ++ Word w ∷ [])) n.2 (
+      r.0,
+      r.1,
+      w,
+      rw r.2 (simp append_assoc),
+      ok-coordinate w n.0 n.1,
+      r.3,
+    )
 tail-step (AtY b ps x) Open s' before h r = cc
 tail-step (AtY b ps x) Close s' before h r = cc
 tail-step (AtY b ps x) Comma s' before h r = cc
@@ -96,7 +110,9 @@ tail-step (AtY b ps x) (Word w) s' before h r =
     subst (λ (s : State). Tail s (before ++ Word w ∷ [])) n.2 (r.0, r.1 ++ Word r.2 ∷ Word w ∷ [], rw r.3 (simp append_assoc), pending-point ps p r.1 (Word r.2 ∷ Word w ∷ []) r.5 text)
 tail-step (AfterPoint b ps) Open s' before h r = cc
 tail-step (AfterPoint b ps) Close s' before h r = subst (λ (s : State). Tail s (before ++ Close ∷ [])) (close_ring-ok b ps s' h).1 (before, refl)
-tail-step (AfterPoint b ps) Comma s' before h r = let e : AtX b ps ≡ s' = cc in subst (λ (s : State). Tail s (before ++ Comma ∷ [])) e ((r.0, r.1 ++ Comma ∷ [], rw r.2 (simp append_assoc), pending ps r.1 r.3))
+tail-step (AfterPoint b ps) Comma s' before h r = let e : AtX b ps ≡ s' = cc in
+    subst (λ (s : State). Tail s (before ++ Comma ∷ [])) e
+    ((r.0, r.1 ++ Comma ∷ [], rw r.2 (simp append_assoc), pending ps r.1 r.3))
 tail-step (AfterPoint b ps) End s' before h r = cc
 tail-step (AfterPoint b ps) (Word w) s' before h r = cc
 tail-step (AfterRing b) Open s' before h r = cc

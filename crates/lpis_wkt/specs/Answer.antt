@@ -7,7 +7,8 @@ use Rattle.lpis_wkt.specs.declared.fault.WktFault.TheVariants.{Memory, At}
 use Rattle.lpis_wkt.specs.Tokens.{tokens}
 use Rattle.lpis_wkt.specs.private.Machine.{AtKeyword, outcome, answer_of}
 
--- the polygon that a text spells, or the code and the offset of its first fault: it is tied by the law `function_of_text`
+-- the polygon that a text spells, or the code and the offset of its first fault: it is tied by the
+-- law `function_of_text`
 unfoldable pub polygon_of : List ℕ → Result (List Member) (WktCode × ℕ)
 polygon_of text = answer_of (outcome AtKeyword (tokens text))
 

@@ -1,7 +1,9 @@
 -- The codes of faults.
 use Rattle.std.specs.Prelude.{ℕ, List, codes}
 use Rattle.lpis_wkt.specs.declared.fault.WktCode.{WktCode}
-use Rattle.lpis_wkt.specs.declared.fault.WktCode.TheVariants.{Keyword, Empty, Dimension, NotANumber, TooFine, OutOfRange, TooFewPoints, NotClosed, Syntax, TooManyPoints}
+use Rattle.lpis_wkt.specs.declared.fault.WktCode.TheVariants.{Keyword, Empty, Dimension, NotANumber}
+use Rattle.lpis_wkt.specs.declared.fault.WktCode.TheVariants.{TooFine, OutOfRange, TooFewPoints}
+use Rattle.lpis_wkt.specs.declared.fault.WktCode.TheVariants.{NotClosed, Syntax, TooManyPoints}
 
 -- the two characters of a code
 abbrev pub code_text : WktCode → List ℕ

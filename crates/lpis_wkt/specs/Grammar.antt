@@ -12,7 +12,8 @@ use Rattle.lpis_wkt.specs.Number.{number}
 abbrev pub Commas : {A : Type 0} → (A → List Token → Type 0) → List A → List Token → Type 0
 Commas P [] ts = ⊥
 Commas P (a ∷ []) ts = P a ts
-Commas P (a ∷ b ∷ more) ts = (front back : List Token) × P a front × (ts ≡ front ++ Comma ∷ back) × Commas P (b ∷ more) back
+Commas P (a ∷ b ∷ more) ts = (front back : List Token) × P a front × (ts ≡ front ++ Comma ∷ back)
+    × Commas P (b ∷ more) back
 
 -- a thing in parentheses
 abbrev pub Parens : {A : Type 0} → (A → List Token → Type 0) → A → List Token → Type 0
@@ -20,7 +21,8 @@ Parens P a ts = (inner : List Token) × P a inner × (ts ≡ Open ∷ inner ++ C
 
 -- two words, its x and its y
 abbrev pub PointText : Point → List Token → Type 0
-PointText p ts = (x y : List ℕ) × (ts ≡ Word x ∷ Word y ∷ []) × (number x ≡ Ok p.x) × (number y ≡ Ok p.y)
+PointText p ts = (x y : List ℕ) × (ts ≡ Word x ∷ Word y ∷ []) × (number x ≡ Ok p.x)
+    × (number y ≡ Ok p.y)
 
 abbrev pub RingText : List Point → List Token → Type 0
 RingText ring ts = Parens (Commas PointText) ring ts × IsRing ring
@@ -42,7 +44,8 @@ OneBody members ts = (member : Member) × (members ≡ member ∷ []) × BodyTex
 -- these tokens are a text of the grammar, with its end, and spell these members
 abbrev pub Reads : List Token → List Member → Type 0
 Reads ts members = (keyword : List ℕ) × (body : List Token) × (ts ≡ Word keyword ∷ body ++ End ∷ [])
-    × (((is_polygon keyword ≡ true) × OneBody members body) ⊎ ((is_multi keyword ≡ true) × Parens (Commas BodyText) members body))
+    × (((is_polygon keyword ≡ true) × OneBody members body)
+    ⊎ ((is_multi keyword ≡ true) × Parens (Commas BodyText) members body))
 
 -- the tokens spell these members, which do not have too many points
 abbrev pub Accepts : List Token → List Member → Type 0

@@ -1,5 +1,7 @@
 -- The coordinate that a word spells.
-use Rattle.std.specs.Prelude.{ℕ, zero, suc, ◌+◌, Bool, false, not, ◌&&◌, ◌||◌, ◌==◌, cond, List, [], ◌∷◌, ◌++◌, length, drop, ℤ, pos, neg_ℤ, nat_abs, Result, Ok, Err, nat_lt}
+use Rattle.std.specs.Prelude.{ℕ, zero, suc, ◌+◌, Bool, false, not, ◌&&◌, ◌||◌, ◌==◌, cond, List, []}
+use Rattle.std.specs.Prelude.{◌∷◌, ◌++◌, length, drop, ℤ, pos, neg_ℤ, nat_abs, Result, Ok, Err}
+use Rattle.std.specs.Prelude.{nat_lt}
 use Rattle.std.specs.List.{before_first, after_first, list_all}
 use Rattle.std.specs.Char.{is_ascii_digit}
 use Rattle.std.specs.Str.Parse.{digits_value}
@@ -32,7 +34,8 @@ decimals w = after_first is_point (unsigned w)
 
 -- digits, optionally a point and digits, one digit or more in all
 abbrev pub is_numeral : List ℕ → Bool
-is_numeral w = list_all is_ascii_digit (whole w) && list_all is_ascii_digit (decimals w) && nat_lt 0 (length (whole w) + length (decimals w))
+is_numeral w = list_all is_ascii_digit (whole w) && list_all is_ascii_digit (decimals w)
+    && nat_lt 0 (length (whole w) + length (decimals w))
 
 abbrev pub is_zero : ℕ → Bool
 is_zero b = b == 48

@@ -18,10 +18,12 @@ words [] = 0
 words (Word w ∷ ts) = suc (words ts)
 words (_ ∷ ts) = words ts
 
--- The keyword is the first word, and then x and y come in turn: so this many words stand before the x of the first point past the most.
+-- The keyword is the first word, and then x and y come in turn: so this many words stand before the
+-- x of the first point past the most.
 abbrev pub most_words : ℕ
 most_words = 2 * most_points + 1
 
--- Some text of the grammar begins with these tokens, and no x of a point past the most stands in them.
+-- Some text of the grammar begins with these tokens, and no x of a point past the most stands in
+-- them.
 abbrev pub Viable : List Token → Type 0
 Viable ts = Begins ts × (words ts ≤ most_words)

@@ -58,7 +58,8 @@ pub enum WktFault {
     /// Memory ran out.
     #[error("out of memory")]
     Memory,
-    /// The text is no polygon: its first token that cannot stand where it stands begins at this byte.
+    /// The text is no polygon: its first token that cannot stand where it stands begins at this
+    /// byte.
     #[error("{} at {offset}", .code.as_str())]
     At { code: WktCode, offset: usize },
 }

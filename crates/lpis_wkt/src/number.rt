@@ -1,11 +1,14 @@
 //! The coordinate that a word spells.
 
-ghost use Rattle.std.specs.Prelude.{◌≡◌, ◌<◌, ◌≤◌, ◌++◌, true, length, get_or, MatchOption, position, IfOk};
+ghost use Rattle.std.specs.Prelude.{◌≡◌, ◌<◌, ◌≤◌, ◌++◌, true, get_or, MatchOption};
+ghost use Rattle.std.specs.Prelude.{position, IfOk};
 ghost use Rattle.std.specs.List.{list_all};
 ghost use Rattle.std.specs.Char.{digit_value, is_ascii_digit};
 ghost use Rattle.std.specs.Str.Parse.{digits_value, digits_value_after};
 ghost use Rattle.lpis_points.specs.Range.{IsInRange};
-ghost use Rattle.lpis_wkt.specs.Number.{coordinate_decimals, is_point, is_zero, signed, unsigned, is_negative, whole, decimals, is_numeral, is_fine, padded, size, number};
+ghost use Rattle.lpis_wkt.specs.Number.{coordinate_decimals, is_point, is_zero, unsigned};
+ghost use Rattle.lpis_wkt.specs.Number.{is_negative, whole, decimals, padded};
+ghost use Rattle.lpis_wkt.specs.Number.{size, number};
 ghost use Rattle.lpis_wkt.specs.private.Coordinates.{coordinate};
 
 use crate::coordinate::Coordinate;
@@ -64,7 +67,8 @@ fn are_zeros(bytes: &[u8]) -> bool
 /// The number of these digits, if it is not above the greatest.
 fn whole_number(digits: &[u8]) -> Option<u64>
     requires { list_all is_ascii_digit digits.now ≡ true }
-    ensures { MatchOption result (GREATEST < digits_value 10 digits.now) (λ n. (n ≡ digits_value 10 digits.now) × (n ≤ GREATEST)) }
+    ensures { MatchOption result (GREATEST < digits_value 10 digits.now)
+        (λ n. (n ≡ digits_value 10 digits.now) × (n ≤ GREATEST)) }
 {
     let mut value = 0;
     for b in digits {
@@ -93,7 +97,10 @@ fn digit_at(digits: &[u8], i: usize) -> u64
 pub fn with_decimals(front: u64, digits: &[u8]) -> Option<u64>
     requires front { front ≤ GREATEST }
     requires digits { list_all is_ascii_digit digits.now ≡ true }
-    ensures { MatchOption result (GREATEST < digits_value_after 10 front (padded coordinate_decimals digits.now)) (λ n. (n ≡ digits_value_after 10 front (padded coordinate_decimals digits.now)) × (n ≤ GREATEST)) }
+    ensures { MatchOption result
+        (GREATEST < digits_value_after 10 front (padded coordinate_decimals digits.now))
+        (λ n. (n ≡ digits_value_after 10 front (padded coordinate_decimals digits.now))
+        × (n ≤ GREATEST)) }
 {
     let mut value = front;
     for i in 0..DECIMALS {
@@ -109,7 +116,10 @@ pub fn with_decimals(front: u64, digits: &[u8]) -> Option<u64>
 fn size(whole: &[u8], decimals: &[u8]) -> Option<u64>
     requires whole { list_all is_ascii_digit whole.now ≡ true }
     requires decimals { list_all is_ascii_digit decimals.now ≡ true }
-    ensures { MatchOption result (GREATEST < digits_value 10 (whole.now ++ padded coordinate_decimals decimals.now)) (λ n. (n ≡ digits_value 10 (whole.now ++ padded coordinate_decimals decimals.now)) × (n ≤ GREATEST)) }
+    ensures { MatchOption result
+        (GREATEST < digits_value 10 (whole.now ++ padded coordinate_decimals decimals.now))
+        (λ n. (n ≡ digits_value 10 (whole.now ++ padded coordinate_decimals decimals.now))
+        × (n ≤ GREATEST)) }
 {
     let metres = whole_number(whole)?;
     with_decimals(metres, decimals)

@@ -5,10 +5,12 @@ ghost use Rattle.lpis_points.specs.declared.point.Point.{Point};
 ghost use Rattle.lpis_wkt.specs.Tokens.{End};
 ghost use Rattle.lpis_wkt.specs.declared.fault.WktFault.TheVariants.{Memory};
 ghost use Rattle.lpis_wkt.specs.Table.{open_code, first_open_code};
-ghost use Rattle.lpis_wkt.specs.private.Machine.{Context, AtKeyword, AfterPoint, AfterRing, limited_step, close_ring, close_body};
+ghost use Rattle.lpis_wkt.specs.private.Machine.{Context, AtKeyword, AfterPoint, AfterRing};
+ghost use Rattle.lpis_wkt.specs.private.Machine.{limited_step, close_ring, close_body};
 ghost use Rattle.lpis_wkt.specs.private.Coordinates.{point_of};
 ghost use Rattle.lpis_wkt.specs.private.Views.{token_of};
-ghost use Rattle.lpis_wkt.specs.private.Parsing.{Took, Ends, IsOpening, IsAtCoordinate, IsClosing, IsAfterRing, SameOutcome};
+ghost use Rattle.lpis_wkt.specs.private.Parsing.{Took, Ends, IsOpening, IsAtCoordinate, IsClosing};
+ghost use Rattle.lpis_wkt.specs.private.Parsing.{IsAfterRing, SameOutcome};
 
 use crate::coordinate::Coordinate;
 use crate::fault::{WktCode, WktFault};
@@ -62,9 +64,13 @@ impl Model for Parser {
 
     ghost Value = { State };
 
-    ghost view = { λ p. state_of p.place (record { multi = p.multi; members = p.members.items; rings = p.rings.items }) p.points.items };
+    ghost view = { λ p. state_of p.place
+        (record { multi = p.multi; members = p.members.items; rings = p.rings.items })
+        p.points.items };
 
-    ghost invariant = { λ p. Kept p.place (record { multi = p.multi; members = p.members.items; rings = p.rings.items }) p.points.items p.count };
+    ghost invariant = { λ p. Kept p.place
+        (record { multi = p.multi; members = p.members.items; rings = p.rings.items })
+        p.points.items p.count };
 }
 
 /// The fault of a token that stands for a `(` and is none.
@@ -250,7 +256,8 @@ impl Parser {
         Err(WktFault::At { code, offset })
     }
 
-    /// Takes a point and a `,` after it, if they come and are written as most are, and tells whether another may come.
+    /// Takes a point and a `,` after it, if they come and are written as most are, and tells
+    /// whether another may come.
     fn take_point(&mut self, tokens: &mut Tokens<'_>) -> Result<bool, WktFault>
         ensures same { IfOk result (λ _. SameOutcome self.new tokens.new self.old tokens.old) }
         ensures fewer { IfOk result (λ _. length tokens.new ≤ length tokens.old) }
@@ -286,7 +293,8 @@ impl Parser {
 
     /// Takes the `)` of a ring.
     fn end_ring(self, alloc: Global, offset: usize) -> Result<Parser, WktFault>
-        ensures { (b : Context) (ps : List Point) → self ≡ AfterPoint b ps → Took result (close_ring b ps) offset }
+        ensures { (b : Context) (ps : List Point) → self ≡ AfterPoint b ps
+            → Took result (close_ring b ps) offset }
     {
         let Parser {
             place: _,

@@ -28,13 +28,15 @@ fn parse(alloc: Global, text: &[u8]) -> Result<Polygon, WktFault>
     parser.finish(text.len())
 }
 
-/// The polygon that a text spells: `POLYGON` or `MULTIPOLYGON`, in metres with up to two decimals. Else the first
-/// fault of the text: the code and the offset in bytes of the first token that cannot stand where it stands.
+/// The polygon that a text spells: `POLYGON` or `MULTIPOLYGON`, in metres with up to two decimals.
+/// Else the first fault of the text: the code and the offset in bytes of the first token that
+/// cannot stand where it stands.
 pub fn read(alloc: Global, text: &str) -> Result<Polygon, WktFault>
     // What is read is spelled by the text.
     ensures polygon { IfOk result (λ polygon. PolygonText text.now polygon) }
     // What a text spells is read, unless memory runs out.
-    ensures only { (members : List Member) → PolygonText text.now members → MatchResult result (λ polygon. polygon ≡ members) (λ fault. fault ≡ Memory) }
+    ensures only { (members : List Member) → PolygonText text.now members
+        → MatchResult result (λ polygon. polygon ≡ members) (λ fault. fault ≡ Memory) }
     // A fault is the first of the text.
     ensures fault { IfErr result (λ fault. IsTextFault text.now fault) }
     // The same as a function of the text.

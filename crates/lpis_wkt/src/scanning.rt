@@ -13,10 +13,12 @@ use crate::coordinate::Coordinate;
 use crate::number::{DECIMALS, GREATEST, with_decimals};
 use crate::tokens::is_word;
 
-/// The number of the digits from here on, and where they end. It stops early where the number is past the greatest.
+/// The number of the digits from here on, and where they end. It stops early where the number is
+/// past the greatest.
 fn leading_digits(text: &[u8], at: usize) -> (u64, usize)
     requires { at ≤ length text.now }
-    ensures { (digits : List ℕ) × IsPart text.now at result.1 digits × (list_all is_ascii_digit digits ≡ true) × (result.0 ≡ digits_value 10 digits) }
+    ensures { (digits : List ℕ) × IsPart text.now at result.1 digits
+        × (list_all is_ascii_digit digits ≡ true) × (result.0 ≡ digits_value 10 digits) }
 {
     let mut value = 0;
     let mut i = at;
@@ -30,7 +32,8 @@ fn leading_digits(text: &[u8], at: usize) -> (u64, usize)
 /// Where the digits from here on end, if they are no more than the decimals of a coordinate.
 fn past_decimals(text: &[u8], at: usize) -> usize
     requires { at ≤ length text.now }
-    ensures { (digits : List ℕ) × IsPart text.now at result digits × (list_all is_ascii_digit digits ≡ true) × (length digits ≤ coordinate_decimals) }
+    ensures { (digits : List ℕ) × IsPart text.now at result digits
+        × (list_all is_ascii_digit digits ≡ true) × (length digits ≤ coordinate_decimals) }
 {
     let mut i = at;
     while i < text.len() && i - at < DECIMALS && text[i].is_ascii_digit() {
@@ -84,11 +87,14 @@ fn signed(negative: bool, size: u64) -> Coordinate
     Coordinate { value }
 }
 
-/// The coordinate of the word that begins here, and where the word ends. `None` says nothing of the word.
+/// The coordinate of the word that begins here, and where the word ends. `None` says nothing of the
+/// word.
 pub fn common_coordinate(text: &[u8], at: usize) -> Option<(Coordinate, usize)>
     requires { at < length text.now }
     ensures within { IfSome result (λ r. r.1 ≤ length text.now) }
-    ensures word { IfSome result (λ r. (word : List ℕ) × (coordinate word ≡ Ok r.0) × (tokens_from at (drop at text.now) ≡ (at, Word word) ∷ tokens_from r.1 (drop r.1 text.now))) }
+    ensures word { IfSome result (λ r. (word : List ℕ) × (coordinate word ≡ Ok r.0)
+        × (tokens_from at (drop at text.now) ≡ (at, Word word) ∷ tokens_from r.1
+        (drop r.1 text.now))) }
 {
     let (negative, start) = past_sign(text, at);
     let (size, end) = plain_number(text, start)?;

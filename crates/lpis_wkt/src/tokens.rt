@@ -1,7 +1,8 @@
 //! The tokens of a text, one at a time.
 
 ghost use Rattle.std.specs.Bool.{MatchBool};
-ghost use Rattle.std.specs.Prelude.{◌≡◌, ℕ, ◌<◌, ◌≤◌, List, [], ◌∷◌, false, true, Ok, length, drop, slice_index, slice_range, MatchOption};
+ghost use Rattle.std.specs.Prelude.{◌≡◌, ℕ, ◌<◌, ◌≤◌, List, [], ◌∷◌, false, true, Ok, length, drop};
+ghost use Rattle.std.specs.Prelude.{slice_index, slice_range, MatchOption};
 ghost use Rattle.lpis_wkt.specs.Tokens.{Comma, Word, is_space, tokens_from};
 ghost use Rattle.lpis_wkt.specs.private.Runs.{is_word};
 ghost use Rattle.lpis_wkt.specs.private.Coordinates.{coordinate};
@@ -79,7 +80,8 @@ fn past_word(text: &[u8], at: usize) -> usize
     requires word { is_word (slice_index text.now at) ≡ true }
     ensures after { at < result }
     ensures within { result ≤ length text.now }
-    ensures word { tokens_from at (drop at text.now) ≡ (at, Word (slice_range text.now at result)) ∷ tokens_from result (drop result text.now) }
+    ensures word { tokens_from at (drop at text.now) ≡ (at, Word (slice_range text.now at result))
+        ∷ tokens_from result (drop result text.now) }
 {
     let mut i = at + 1;
     while i < text.len() && is_word(text[i]) {
@@ -98,7 +100,8 @@ impl<'a> Tokens<'a> {
 
     /// The next token, or `None` at the end.
     pub fn next(&mut self) -> Option<Placed<'a>>
-        ensures { MatchOption result ((self.old ≡ []) × (self.new ≡ [])) (λ t. self.old ≡ placed t ∷ self.new) }
+        ensures { MatchOption result ((self.old ≡ []) × (self.new ≡ []))
+            (λ t. self.old ≡ placed t ∷ self.new) }
     {
         let offset = past_space(self.text, self.at);
         self.at = offset;
@@ -127,9 +130,11 @@ impl<'a> Tokens<'a> {
         Some(Placed { token, offset })
     }
 
-    /// The coordinate of the next token, if it is a word that is written as most are; else nothing is taken.
+    /// The coordinate of the next token, if it is a word that is written as most are; else nothing
+    /// is taken.
     pub fn next_coordinate(&mut self) -> Option<Coordinate>
-        ensures { MatchOption result (self.new ≡ self.old) (λ z. (offset : ℕ) × (word : List ℕ) × (coordinate word ≡ Ok z) × (self.old ≡ (offset, Word word) ∷ self.new)) }
+        ensures { MatchOption result (self.new ≡ self.old) (λ z. (offset : ℕ) × (word : List ℕ)
+            × (coordinate word ≡ Ok z) × (self.old ≡ (offset, Word word) ∷ self.new)) }
     {
         let offset = past_space(self.text, self.at);
         if offset == self.text.len() {
@@ -142,7 +147,8 @@ impl<'a> Tokens<'a> {
 
     /// Whether the next token is a `,`, which is taken then; else nothing is.
     pub fn next_comma(&mut self) -> bool
-        ensures { MatchBool result ((offset : ℕ) × (self.old ≡ (offset, Comma) ∷ self.new)) (self.new ≡ self.old) }
+        ensures { MatchBool result ((offset : ℕ) × (self.old ≡ (offset, Comma) ∷ self.new))
+            (self.new ≡ self.old) }
     {
         let offset = past_space(self.text, self.at);
         if offset < self.text.len() && self.text[offset] == b',' {

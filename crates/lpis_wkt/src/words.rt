@@ -3,7 +3,8 @@
 ghost use Rattle.std.specs.Prelude.{◌≡◌};
 ghost use Rattle.lpis_wkt.specs.Grammar.{is_polygon, is_multi};
 ghost use Rattle.lpis_wkt.specs.Tokens.{Word};
-ghost use Rattle.lpis_wkt.specs.Table.{is_dimension, is_empty_word, is_keyword_with_dimension, has_srid, keyword_code};
+ghost use Rattle.lpis_wkt.specs.Table.{is_dimension, is_empty_word, is_keyword_with_dimension};
+ghost use Rattle.lpis_wkt.specs.Table.{has_srid, keyword_code};
 
 use crate::fault::WktCode;
 

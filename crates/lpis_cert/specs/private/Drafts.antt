@@ -6,7 +6,9 @@ use Rattle.lpis_cert.specs.declared.draft.Progress.{Progress}
 use Rattle.lpis_cert.specs.declared.draft.Progress.TheVariants.{More, Done}
 use Rattle.lpis_cert.specs.declared.head.Head.{Head}
 use Rattle.lpis_cert.specs.declared.head.Head.TheVariants as head
-use Rattle.lpis_cert.specs.CertText.{Line, PieceLine, ParcelLine, PairsLine, PieceBlock, ParcelBlock, piece_lines, parcel_lines, lines_of, text_of_lines}
+use Rattle.lpis_cert.specs.CertText.{Line, PieceLine, ParcelLine, PairsLine, PieceBlock}
+use Rattle.lpis_cert.specs.CertText.{ParcelBlock, piece_lines, parcel_lines, lines_of}
+use Rattle.lpis_cert.specs.CertText.{text_of_lines}
 use Rattle.lpis_cert.specs.Faults.{Place, InBody, outcome, lines as cut}
 use Rattle.lpis_cert.specs.private.Taken.{Follows}
 use Rattle.lpis_cert.specs.Contents.{piece_of, parcel_of, content_of}
@@ -34,7 +36,8 @@ abbrev pub place_of : Draft → Place
 place_of d = InBody d.stage 0 0 (record { triangles = d.triangles; flats = d.flats })
 
 -- further lines of a text were taken, from line n on
-pub record Grown (before after : List Line) (p q : Place) (text : List ℕ) (n : ℕ) (rest : List ℕ) (m : ℕ) : Type 0 where
+pub record Grown (before after : List Line) (p q : Place) (text : List ℕ) (n : ℕ) (rest : List ℕ)
+    (m : ℕ) : Type 0 where
   pub added : List Line
   pub follows : Follows text n added rest m
   pub lines : after ≡ before ++ added
@@ -42,7 +45,8 @@ pub record Grown (before after : List Line) (p q : Place) (text : List ℕ) (n :
   pub shorter : length rest < length text
 
 abbrev pub DraftGrown : Draft → Draft → List ℕ → ℕ → List ℕ → ℕ → Type 0
-DraftGrown old new text n rest m = Grown (draft_lines old) (draft_lines new) (place_of old) (place_of new) text n rest m
+DraftGrown old new text n rest m = Grown (draft_lines old) (draft_lines new) (place_of old)
+    (place_of new) text n rest m
 
 -- the whole rest of a text
 pub record Whole (before more : List Line) (text : List ℕ) : Type 0 where

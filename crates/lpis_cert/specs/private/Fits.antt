@@ -20,5 +20,6 @@ pub record Fits (c : Content) : Type 0 where
   pub parcels : AllByRecursion ParcelFits c.parcels
   pub pairs : AllByRecursion SeparatorFits c.pairs
   pub triangles_few : sum_by (λ p. length p.triangles) c.pieces ≤ most_triangles
-  pub flats_few : sum_by (λ p. length p.flats) c.pieces + sum_by (λ p. length p.flats) c.parcels ≤ most_flats
+  pub flats_few : sum_by (λ p. length p.flats) c.pieces + sum_by (λ p. length p.flats) c.parcels
+      ≤ most_flats
   pub pairs_few : length c.pairs ≤ greatest_count

@@ -20,14 +20,17 @@ pub record TakesLine (text : List ℕ) (n : ℕ) (line rest : List ℕ) (m : ℕ
   pub next : m ≡ n + 1
 
 -- a line of this kind and further words
-pub record Placed (e : Expected) (text : List ℕ) (n : ℕ) (k : Kind) (ws : List (List ℕ)) (rest : List ℕ) (m : ℕ) : Type 0 where
+pub record Placed (e : Expected) (text : List ℕ) (n : ℕ) (k : Kind) (ws : List (List ℕ))
+    (rest : List ℕ) (m : ℕ) : Type 0 where
   pub line : List ℕ
   pub takes : TakesLine text n line rest m
   pub placed : placed e line ≡ Ok (k, ws)
 
 -- the first line of a text has this fault
 abbrev pub FailsWith : Expected → List ℕ → CertCode → Type 0
-FailsWith e text c = ((lines text ≡ text ∷ []) × (c ≡ code.Truncated)) ⊎ ((line : List ℕ) × (rest : List ℕ) × (lines text ≡ line ∷ lines rest) × (read_line written e line ≡ Err c))
+FailsWith e text c = ((lines text ≡ text ∷ []) × (c ≡ code.Truncated))
+    ⊎ ((line : List ℕ) × (rest : List ℕ) × (lines text ≡ line ∷ lines rest)
+    × (read_line written e line ≡ Err c))
 
 abbrev pub LineFault : CertFault → ℕ → Expected → List ℕ → Type 0
 LineFault Memory n e text = Unit {0}

@@ -19,7 +19,8 @@ abbrev pub corners_text : Bool → List Triangle → List ℕ
 corners_text flat ts = flat_map (λ t. line_text (corner_line flat (corners_of t))) ts
 
 abbrev pub piece_text : PiecePart → List ℕ
-piece_text p = line_text (PieceLine p.id (length p.triangles) (length p.flats)) ++ (corners_text false p.triangles ++ corners_text true p.flats)
+piece_text p = line_text (PieceLine p.id (length p.triangles) (length p.flats))
+    ++ (corners_text false p.triangles ++ corners_text true p.flats)
 
 abbrev pub parcel_text : ParcelPart → List ℕ
 parcel_text p = line_text (ParcelLine p.id (length p.flats)) ++ corners_text true p.flats
@@ -34,4 +35,5 @@ unfoldable pub version_text : List ℕ
 version_text = first_line written ++ (10 ∷ [])
 
 abbrev pub parts_text : Cert → List ℕ
-parts_text c = version_text ++ (flat_map piece_text c.pieces ++ (flat_map parcel_text c.parcels ++ tail_text c))
+parts_text c = version_text
+    ++ (flat_map piece_text c.pieces ++ (flat_map parcel_text c.parcels ++ tail_text c))

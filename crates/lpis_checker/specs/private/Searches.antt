@@ -1,5 +1,6 @@
 -- What searches for the first site of a condition answer.
-use Rattle.std.specs.Prelude.{◌≡◌, ℕ, ◌<◌, ◌++◌, All, Option, None, MatchOption, length, slice_get, ⊤}
+use Rattle.std.specs.Prelude.{◌≡◌, ℕ, ◌<◌, ◌++◌, All, Option, None, MatchOption, length, slice_get}
+use Rattle.std.specs.Prelude.{⊤}
 use Rattle.lpis_points.specs.Plane.{same_point}
 use Rattle.lpis_points.specs.Chain.{SameNet}
 use Rattle.lpis_points.specs.Triangles.{IsCounterClockwise, IsFlat}
@@ -13,7 +14,10 @@ use Rattle.lpis_checker.specs.Corners.{corners_of, corners_of_pieces}
 use Rattle.lpis_parcels.specs.Release.{Contents, pieces_named}
 use Rattle.lpis_cert.specs.declared.cert.Cert.{Cert}
 use Rattle.lpis_checker.specs.declared.condition.Condition.{Condition}
-use Rattle.lpis_checker.specs.declared.condition.Condition.TheVariants.{Names, Triangles, Turned, Flats, Corners, PieceEdges, ParcelEdges, NearPairs, NotApart, Separating}
+use Rattle.lpis_checker.specs.declared.condition.Condition.TheVariants.{Names, Triangles, Turned}
+use Rattle.lpis_checker.specs.declared.condition.Condition.TheVariants.{Flats, Corners, PieceEdges}
+use Rattle.lpis_checker.specs.declared.condition.Condition.TheVariants.{ParcelEdges, NearPairs}
+use Rattle.lpis_checker.specs.declared.condition.Condition.TheVariants.{NotApart, Separating}
 use Rattle.lpis_checker.specs.declared.condition.Site.{Site}
 use Rattle.lpis_checker.specs.declared.condition.Site.TheVariants.{PieceAt, ParcelAt, LineAt}
 use Rattle.lpis_checker.specs.Codes.{code_of}
@@ -88,7 +92,8 @@ FoundFault r c f = IsFault r c f.condition f.site
 
 -- the fault of the lowest code below n, or none where these conditions hold
 abbrev pub FindsBelow : Contents → Cert → ℕ → Option Failing → Type 0
-FindsBelow r c n o = MatchOption o (HoldBelow r c n) (λ f. (code_of f.condition < n) × FoundFault r c f)
+FindsBelow r c n o = MatchOption o (HoldBelow r c n) (λ f. (code_of f.condition < n)
+    × FoundFault r c f)
 
 -- what is told of it
 abbrev pub IsToldOf : Contents → Cert → Failing → CheckFault → Type 0

@@ -77,7 +77,8 @@ fn turns_of(polygon: &Polygon, p: &RatPoint) -> Result<i64, Fail> {
     Err("contained in another way".into())
 }
 
-/// Fails unless the left piece, the right one and the parcel turn this often round the point (x/d, y/d).
+/// Fails unless the left piece, the right one and the parcel turn this often round the point (x/d,
+/// y/d).
 fn expect_turns(
     rt: &HostRuntime,
     release: &Release,

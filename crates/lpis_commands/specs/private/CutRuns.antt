@@ -4,4 +4,9 @@ use Rattle.lpis_commands.specs.CutAnswer.{CutAnswer}
 use Rattle.lpis_commands.specs.declared.cutting.Outcome.{Outcome}
 
 abbrev pub answered : Outcome → CutAnswer
-answered o = record { cert = option_map (λ v. v.items) o.cert; line = o.printed.text.items; status = o.printed.status }
+answered o = record {
+  cert = option_map (λ v. v.items) o.cert;
+  line = o.printed.text.items;
+  status =
+      o.printed.status;
+}

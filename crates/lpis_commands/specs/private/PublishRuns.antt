@@ -17,7 +17,12 @@ use Rattle.lpis_commands.specs.private.CheckRuns.{inputs_of}
 use Rattle.lpis_commands.specs.declared.publishing.PublicationBytes.{PublicationBytes}
 
 abbrev pub publication_of : ℕ → PublicationBytes → Publication
-publication_of year p = record { year = year; checked = inputs_of p.checked; lineage = p.lineage.items }
+publication_of year p = record {
+  year = year;
+  checked = inputs_of p.checked;
+  lineage =
+      p.lineage.items;
+}
 
 -- a release was put at the end of a history, after which it may follow
 pub record IsAdded (year : ℕ) (r : Contents) (rows : List Row) (h k : List Entry) : Type 0 where
@@ -28,7 +33,8 @@ pub record IsAdded (year : ℕ) (r : Contents) (rows : List Row) (h k : List Ent
 
 -- the same, with the rows of a lineage table
 abbrev pub IsAddedWith : ℕ → Contents → List ℕ → List Entry → List Entry → Type 0
-IsAddedWith year r lineage h k = (rows : List Row) × (rows_of lineage_table lineage ≡ Ok rows) × IsAdded year r rows h k
+IsAddedWith year r lineage h k = (rows : List Row) × (rows_of lineage_table lineage ≡ Ok rows)
+    × IsAdded year r rows h k
 
 -- memory ran out, or the database failed
 abbrev pub IsStopped : Failure → Type 0

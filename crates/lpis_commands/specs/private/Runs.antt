@@ -10,7 +10,8 @@ use Rattle.lpis_commands.specs.Status.{done}
 
 -- the polygons of the rows that are left, or their first fault
 abbrev pub polygons_left : Reading → Result (List (List Member)) TableFault
-polygons_left t = told (row_faults area_table [] (t.number + 1) t.rows ++ option_to_list t.stop) (map area_table.value t.rows)
+polygons_left t = told (row_faults area_table [] (t.number + 1) t.rows ++ option_to_list t.stop)
+    (map area_table.value t.rows)
 
 -- the lines are the answer, or the fault is, unless memory ran out
 abbrev pub Tells : {V : Type 0} → (V → List ℕ) → Result V TableFault → List ℕ × ℕ → Type 0

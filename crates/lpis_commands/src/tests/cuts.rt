@@ -89,7 +89,8 @@ fn cut_of(rt: &HostRuntime, parcels: &str, covers: &str) -> Result<Written, Fail
     Ok(Written { cert, out, status })
 }
 
-/// Fails unless a release is cut, with these counts where they are told, and its certificate gives this report.
+/// Fails unless a release is cut, with these counts where they are told, and its certificate gives
+/// this report.
 fn expect_cut(
     rt: &HostRuntime,
     parcels: &str,

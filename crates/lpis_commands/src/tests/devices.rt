@@ -29,7 +29,8 @@ impl Read for Interrupted<'_> {
     }
 }
 
-/// A reader of single bytes with an interruption before each, which fails where `left` bytes were read, if it is told.
+/// A reader of single bytes with an interruption before each, which fails where `left` bytes were
+/// read, if it is told.
 #[derive(Drop)]
 pub struct Halting<'a> {
     bytes: &'a [u8],

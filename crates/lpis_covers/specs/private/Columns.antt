@@ -9,4 +9,5 @@ use Rattle.lpis_covers.specs.Table.{fault_at}
 -- the fault tells, in row 0, what was said of the columns, or that memory ran out
 abbrev pub TellsColumn : Table → Result (List ℕ) TableCode → TableFault → Type 0
 TellsColumn table said Memory = Unit {0}
-TellsColumn table said (At code in_table row wkt) = (said ≡ Err code) × (At code in_table row wkt ≡ fault_at code table 0)
+TellsColumn table said (At code in_table row wkt) = (said ≡ Err code)
+    × (At code in_table row wkt ≡ fault_at code table 0)

@@ -1,8 +1,10 @@
 -- The records that a reader of a text has left, as a list.
-use Rattle.std.specs.Prelude.{◌≡◌, ◌≢◌, ◌∷◌, ◌+◌, Bool, false, ℕ, List, [], length, Option, Some, None, IfSome, if◌then◌else◌}
+use Rattle.std.specs.Prelude.{◌≡◌, ◌≢◌, ◌∷◌, ◌+◌, Bool, false, ℕ, List, [], length, Option, Some}
+use Rattle.std.specs.Prelude.{None, IfSome, if◌then◌else◌}
 use Rattle.std.specs.Borrow.{Bor}
 use Rattle.csv.specs.Machine.{ends_at_end}
-use Rattle.csv.specs.Reading.{Ready, default_config, expected_len, is_flexible, reader_config, reader_state, reader_trim, records_from, source_of}
+use Rattle.csv.specs.Reading.{Ready, default_config, expected_len, is_flexible, reader_config}
+use Rattle.csv.specs.Reading.{reader_state, reader_trim, records_from, source_of}
 use Rattle.csv.specs.declared.parser.State.{State}
 use Rattle.csv.specs.declared.reader.Reader.{Reader}
 use Rattle.csv.specs.declared.reader.Trim.TheVariants as trim
@@ -40,10 +42,12 @@ pub record IsBetween (r : BytesReader) : Type 0 where
 abbrev pub Steps : BytesReader → BytesReader → Step → List (List ℕ) → Type 0
 Steps old new step.End fields = records_left old ≡ []
 Steps old new step.Record fields =
-    IsBetween new × (records_left old ≡ fields ∷ records_left new) × (expected_len new ≡ Some (length fields))
+    IsBetween new × (records_left old ≡ fields ∷ records_left new)
+    × (expected_len new ≡ Some (length fields))
     × IfSome (expected_len old) (λ n. length fields ≡ n)
 Steps old new step.Uneven fields =
-    (odd : List (List ℕ)) × (more : List (List (List ℕ))) × (records_left old ≡ odd ∷ more) × (n : ℕ) × (expected_len old ≡ Some n) × (length odd ≢ n)
+    (odd : List (List ℕ)) × (more : List (List (List ℕ))) × (records_left old ≡ odd ∷ more)
+    × (n : ℕ) × (expected_len old ≡ Some n) × (length odd ≢ n)
 
 -- the records that are left, and the length of the first of the text
 pub record Left : Type 0 where
@@ -60,6 +64,8 @@ IsLeft width ended r = ended ≡ false → IsBetween r × (expected_len r ≡ So
 -- what one read does to what is left
 abbrev pub Moves : Left → Left → Step → List (List ℕ) → Type 0
 Moves old new step.End fields = old.records ≡ []
-Moves old new step.Record fields = (old.records ≡ fields ∷ new.records) × (length fields ≡ old.width) × (new.width ≡ old.width)
+Moves old new step.Record fields = (old.records ≡ fields ∷ new.records)
+    × (length fields ≡ old.width) × (new.width ≡ old.width)
 Moves old new step.Uneven fields =
-    (odd : List (List ℕ)) × (more : List (List (List ℕ))) × (old.records ≡ odd ∷ more) × (length odd ≢ old.width)
+    (odd : List (List ℕ)) × (more : List (List (List ℕ))) × (old.records ≡ odd ∷ more)
+    × (length odd ≢ old.width)

@@ -1,5 +1,6 @@
 -- What the steps of a cut owe.
-use Rattle.std.specs.Prelude.{ℕ, ◌+◌, ◌<◌, ◌&&◌, List, length, filter, Option, IfSome, ◌⊎◌, All, sum_by}
+use Rattle.std.specs.Prelude.{ℕ, ◌+◌, ◌<◌, ◌&&◌, List, length, filter, Option, IfSome, ◌⊎◌, All}
+use Rattle.std.specs.Prelude.{sum_by}
 use Rattle.lpis_points.specs.declared.point.Point.{Point}
 use Rattle.lpis_points.specs.Plane.{same_point}
 use Rattle.lpis_rings.specs.declared.polygon.Member.{Member}

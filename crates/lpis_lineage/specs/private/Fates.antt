@@ -1,5 +1,6 @@
 -- What a second pass over the rows keeps for the kinds.
-use Rattle.std.specs.Prelude.{◌≡◌, ◌&&◌, Bool, false, cond, nat_lt, is_some, ℕ, List, [], ◌∷◌, Option, None, Some}
+use Rattle.std.specs.Prelude.{◌≡◌, ◌&&◌, Bool, false, cond, nat_lt, is_some, ℕ, List, [], ◌∷◌}
+use Rattle.std.specs.Prelude.{Option, None, Some}
 use Rattle.std.specs.List.{list_any}
 use Rattle.lpis_lineage.specs.declared.row.Row.{Row}
 use Rattle.lpis_lineage.specs.declared.fates.Fates.{Fates}
@@ -22,7 +23,9 @@ on_some p (Some s) = p s
 abbrev pub is_shared : List (List ℕ) → List (List ℕ) → List Row → List ℕ → Bool
 is_shared last live all s = nat_lt 1 (predecessors last live all s)
 
-pub record AreFates (last live : List (List ℕ)) (all : List Row) (f : Fates) (rows : List Row) : Type 0 where
+pub record AreFates (last live : List (List ℕ)) (all : List Row) (f : Fates) (rows : List Row) :
+    Type 0 where
   pub ended_are : (q : List ℕ) → has_id f.ended q ≡ ended rows q
   pub olds_are : IsTally f.olds (olds rows)
-  pub shared_are : (q : List ℕ) → has_id f.shared q ≡ list_any (λ r. is_of q r && on_some (is_shared last live all) r.new) rows
+  pub shared_are : (q : List ℕ) → has_id f.shared q ≡ list_any
+      (λ r. is_of q r && on_some (is_shared last live all) r.new) rows

@@ -13,8 +13,10 @@ pub record Reaches (ids : List (List ℕ)) (rows : List Row) (id : List ℕ) : T
 
 -- the row's successor has no row of its own among those before, nor is it its own old identifier
 abbrev pub IsFresh : List Row → Row → Type 0
-IsFresh before row = (s : List ℕ) → is_this s row.new ≡ true → list_any (is_of s) (before ++ row ∷ []) ≡ false
+IsFresh before row = (s : List ℕ) → is_this s row.new ≡ true
+    → list_any (is_of s) (before ++ row ∷ []) ≡ false
 
 -- the rows' successors have no row of their own among these and those before
 abbrev pub AreFresh : List Row → List Row → Type 0
-AreFresh before rows = (s : List ℕ) → list_any (names s) rows ≡ true → list_any (is_of s) (before ++ rows) ≡ false
+AreFresh before rows = (s : List ℕ) → list_any (names s) rows ≡ true
+    → list_any (is_of s) (before ++ rows) ≡ false

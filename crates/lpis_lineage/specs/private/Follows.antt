@@ -8,8 +8,11 @@ use Rattle.lpis_lineage.specs.Lineage.{holds, names, is_of, same_row, last_live}
 use Rattle.lpis_lineage.specs.Lawful.{IsAnswered}
 
 pub record Follows (h : List Entry) (live : List (List ℕ)) (rows : List Row) : Type 0 where
-  pub not_used : (id : List ℕ) (i : ℕ) → holds h i id ≡ true → has_id live id ≡ true → has_id (last_live h) id ≡ true
-  pub answered : (id : List ℕ) → has_id (last_live h) id ≡ true → has_id live id ≡ false → IsAnswered rows id
+  pub not_used : (id : List ℕ) (i : ℕ) → holds h i id ≡ true → has_id live id ≡ true
+      → has_id (last_live h) id ≡ true
+  pub answered : (id : List ℕ) → has_id (last_live h) id ≡ true → has_id live id ≡ false
+      → IsAnswered rows id
   pub named : (id : List ℕ) → list_any (names id) rows ≡ true → has_id live id ≡ true
   pub once : (row : Row) → length (filter (same_row row) rows) ≤ 1
-  pub dropped : (id : List ℕ) → list_any (is_of id) rows ≡ true → (has_id (last_live h) id ≡ true) × (has_id live id ≡ false)
+  pub dropped : (id : List ℕ) → list_any (is_of id) rows ≡ true → (has_id (last_live h) id ≡ true)
+      × (has_id live id ≡ false)

@@ -9,4 +9,5 @@ use Rattle.lpis_lineage.specs.Lineage.{ended, succeeded, is_of, names}
 pub record IsSeen (seen : Seen) (rows : List Row) : Type 0 where
   pub ended_are : (q : List ℕ) → has_id seen.ended q ≡ ended rows q
   pub continued_are : (q : List ℕ) → has_id seen.continued q ≡ succeeded rows q
-  pub heirs_are : (a b : List ℕ) → list_any (λ p. same_id a p.0 && same_id b p.1) seen.heirs.keys ≡ list_any (λ row. is_of a row && names b row) rows
+  pub heirs_are : (a b : List ℕ) → list_any (λ p. same_id a p.0 && same_id b p.1) seen.heirs.keys
+      ≡ list_any (λ row. is_of a row && names b row) rows

@@ -1,5 +1,6 @@
 -- The places of items, and what the joins' steps tell.
-use Rattle.std.specs.Prelude.{◌+◌, ◌∷◌, ◌++◌, Bool, true, false, ℕ, List, [], slice_get, option_to_list, Err, if◌then◌else◌}
+use Rattle.std.specs.Prelude.{◌+◌, ◌∷◌, ◌++◌, Bool, true, false, ℕ, List, [], slice_get}
+use Rattle.std.specs.Prelude.{option_to_list, Err, if◌then◌else◌}
 use Rattle.lpis_covers.specs.declared.fault.Table.TheVariants as table
 use Rattle.lpis_covers.specs.declared.fault.TableCode.TheVariants.{ParcelWithoutPieces}
 use Rattle.lpis_covers.specs.declared.fault.TableFault.{TableFault}
@@ -9,7 +10,8 @@ use Rattle.lpis_covers.specs.Table.{Answers, fault_at}
 -- the places of the items that pass a test, the first item at place i
 abbrev pub places_where : {A : Type 0} → (A → Bool) → ℕ → List A → List ℕ
 places_where test i [] = []
-places_where test i (x ∷ xs) = if test x then i ∷ places_where test (i + 1) xs else places_where test (i + 1) xs
+places_where test i (x ∷ xs) = if test x then i ∷ places_where test (i + 1) xs else places_where
+    test (i + 1) xs
 
 -- the items at places
 abbrev pub at_places : {A : Type 0} → List A → List ℕ → List A
@@ -27,4 +29,5 @@ is_nil (x ∷ xs) = false
 -- parcels whose groups are empty, row by row
 abbrev pub empty_faults : ℕ → List (List ℕ) → List TableFault
 empty_faults n [] = []
-empty_faults n (g ∷ gs) = fault_if (is_nil g) (fault_at ParcelWithoutPieces table.Parcels n) ++ empty_faults (n + 1) gs
+empty_faults n (g ∷ gs) = fault_if (is_nil g) (fault_at ParcelWithoutPieces table.Parcels n)
+    ++ empty_faults (n + 1) gs

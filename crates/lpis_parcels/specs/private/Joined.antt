@@ -14,9 +14,11 @@ abbrev pub group_lists : List (Vec ℕ Global) → List (List ℕ)
 group_lists groups = map (λ (g : Vec ℕ Global). g.items) groups
 
 -- each parcel has the places of its pieces, and each piece that of its class
-pub record AreJoins (parcels : List Parcel) (pieces : List Piece) (classes : List Class) (groups : List (List ℕ)) (class_places : List ℕ) : Type 0 where
+pub record AreJoins (parcels : List Parcel) (pieces : List Piece) (classes : List Class)
+    (groups : List (List ℕ)) (class_places : List ℕ) : Type 0 where
   pub groups_are : groups ≡ map (λ (p : Parcel). places_where (names p.id) 0 pieces) parcels
-  pub classes_are : map (slice_get classes) class_places ≡ map (λ (p : Piece). class_named classes p.class) pieces
+  pub classes_are : map (slice_get classes) class_places ≡ map
+      (λ (p : Piece). class_named classes p.class) pieces
 
 -- what a release keeps: the joins hold, and these are their places
 pub record IsRelease (c : Contents) (groups : List (List ℕ)) (class_places : List ℕ) : Type 0 where

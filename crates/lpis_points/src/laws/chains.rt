@@ -1,6 +1,7 @@
 //! Sums over edges.
 
-ghost use Rattle.lpis_points.specs.ChainLaws.{ChainLemma, CrossingsAreOdd, NetIsOfItsEdges, ShoelaceTermsAreOdd};
+ghost use Rattle.lpis_points.specs.ChainLaws.{ChainLemma, CrossingsAreOdd, NetIsOfItsEdges};
+ghost use Rattle.lpis_points.specs.ChainLaws.{ShoelaceTermsAreOdd};
 
 /// The chain lemma. Net counts are whole numbers, and edges from a point to itself count nothing.
 pub fn equal_net_counts_give_equal_sums()

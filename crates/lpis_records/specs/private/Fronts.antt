@@ -9,10 +9,12 @@ use Rattle.lpis_records.specs.Content.{Line}
 use Rattle.lpis_records.specs.Tells.{IsKept, lines_of}
 use Rattle.lpis_records.specs.private.Known.{HasText, SetsAre, line_at, line_in, span_in}
 
--- the lines from one place up to another are those of a year, by their places from 0, and the next is not
+-- the lines from one place up to another are those of a year, by their places from 0, and the next
+-- is not
 pub record IsRun (lines : List Line) (from year stop : ℕ) : Type 0 where
   pub within : from ≤ stop
-  pub here : (k : ℕ) → from + k < stop → ((line_at lines (from + k)).year ≡ pos year) × ((line_at lines (from + k)).place ≡ pos k)
+  pub here : (k : ℕ) → from + k < stop → ((line_at lines (from + k)).year ≡ pos year)
+      × ((line_at lines (from + k)).place ≡ pos k)
   pub after : (line_at lines stop).year ≡ pos year → ⊥
 
 -- the releases of the one history are the first ones of the other
@@ -29,9 +31,11 @@ pub record IsSaid (spans : List KnownSpan) (lines : List KnownLine) (h : List En
   pub lines_are : lines_of h ≡ map line_in lines
   pub texts : All (λ l. HasText l.row) lines
 
--- a history is the front of another, of which the next release is of this year and has its lines from this place on
-pub record IsDue (g : List Entry) (lines : List KnownLine) (from year : ℕ) (h : List Entry) : Type 0 where
-  pub front : IsFront g h
-  pub more : length g < length h
-  pub year_is : (entry_at h (length g)).year ≡ year
-  pub lines_are : lines_of g ≡ map line_in (take from lines)
+-- a history is the front of another, of which the next release is of this year and has its lines
+-- from this place on
+pub record IsDue (g : List Entry) (lines : List KnownLine) (from year : ℕ) (h : List Entry) : Type 0
+  where
+    pub front : IsFront g h
+    pub more : length g < length h
+    pub year_is : (entry_at h (length g)).year ≡ year
+    pub lines_are : lines_of g ≡ map line_in (take from lines)

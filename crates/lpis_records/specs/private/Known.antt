@@ -1,5 +1,6 @@
 -- What was read of rows: machinery, which only private contracts cite.
-use Rattle.std.specs.Prelude.{◌≡◌, ◌<◌, ◌≤◌, ◌⊎◌, ◌&&◌, ◌++◌, ◌∷◌, [], true, ℕ, zero, suc, ℤ, pos, negsuc, List, length, Some}
+use Rattle.std.specs.Prelude.{◌≡◌, ◌<◌, ◌≤◌, ◌⊎◌, ◌&&◌, ◌++◌, ◌∷◌, [], true, ℕ, zero, suc, ℤ, pos}
+use Rattle.std.specs.Prelude.{negsuc, List, length, Some}
 use Rattle.std.specs.List.{list_any}
 use Rattle.std.specs.Ordering.{int_cmp, ordering_then}
 use Rattle.std.specs.declared.cmp.Ordering.{Ordering}
@@ -30,7 +31,8 @@ one_year l = record { id = l.id; since = l.year; until = l.year }
 
 -- each release holds the identifiers whose span covers its year
 abbrev pub SetsAre : List Span → List Entry → Type 0
-SetsAre spans h = (i : ℕ) → i < length h → (id : List ℕ) → holds h i id ≡ list_any (λ s. same_id id s.id && covers s (entry_at h i).year) spans
+SetsAre spans h = (i : ℕ) → i < length h → (id : List ℕ)
+    → holds h i id ≡ list_any (λ s. same_id id s.id && covers s (entry_at h i).year) spans
 
 -- a successor's text is not empty
 abbrev pub HasText : Row → Type 0
@@ -40,7 +42,8 @@ HasText r = r.new ≡ Some [] → ⊥
 abbrev pub IsYear : ℤ → Type 0
 IsYear z = (y : ℕ) × (z ≡ pos y) × (0 < y) × (y ≤ last_of_years)
 
--- the texts of a line can be read: the old identifier is one, and so is the successor, or it is empty
+-- the texts of a line can be read: the old identifier is one, and so is the successor, or it is
+-- empty
 abbrev pub IsReadable : Line → Type 0
 IsReadable l = (is_id l.old ≡ true) × ((l.new ≡ []) ⊎ (is_id l.new ≡ true))
 

@@ -41,8 +41,8 @@ fn first_version(alloc: Global) -> Result<Image, Fail> {
 }
 
 /// Fails unless a run can be stopped in each of its files, and each stop leaves what it may. There
-/// are more than 212 stops in all: 87 of the log and 8 of the database file in publishing, 55 and 25
-/// with a short log, 23 and 14 in opening, and those in moving.
+/// are more than 212 stops in all: 87 of the log and 8 of the database file in publishing, 55 and
+/// 25 with a short log, 23 and 14 in opening, and those in moving.
 fn expect_stops(alloc: Global, run: &Run<'_>) -> Result<(), Fail> {
     for of_log in [true, false] {
         if stops(alloc, run, of_log)? == 0 {

@@ -20,10 +20,21 @@ abbrev pub year_shown : Row → ℤ
 year_shown row = id_in (column row 0)
 
 abbrev pub span_shown : Row → Span
-span_shown row = record { id = text_in (column row 0); since = id_in (column row 1); until = id_in (column row 2) }
+span_shown row = record {
+  id = text_in (column row 0);
+  since = id_in (column row 1);
+  until =
+      id_in (column row 2);
+}
 
 abbrev pub line_shown : Row → Line
-line_shown row = record { year = id_in (column row 0); place = id_in (column row 1); old = text_in (column row 2); new = text_in (column row 3) }
+line_shown row = record {
+  year = id_in (column row 0);
+  place = id_in (column row 1);
+  old =
+      text_in (column row 2);
+  new = text_in (column row 3);
+}
 
 abbrev pub live_shown : Row → Live
 live_shown row = record { year = id_in (column row 0); id = text_in (column row 1) }

@@ -13,7 +13,12 @@ abbrev pub two_tables : Schema
 two_tables = record { tables = format_table 0 ∷ release_table 1 ∷ []; indexes = []; views = [] }
 
 abbrev pub three_tables : Schema
-three_tables = record { tables = format_table 0 ∷ release_table 1 ∷ span_table 2 ∷ []; indexes = span_index 2 ∷ []; views = [] }
+three_tables = record {
+  tables = format_table 0 ∷ release_table 1 ∷ span_table 2 ∷ [];
+  indexes =
+      span_index 2 ∷ [];
+  views = [];
+}
 
 -- a transaction over this commit, in which there are these tables, each empty
 pub record Stage (made : Schema) (base : Database) (s : State) : Type 0 where

@@ -2,16 +2,23 @@
 use Rattle.std.specs.Prelude.{ℕ, List, codes}
 
 abbrev pub make_format : List ℕ
-make_format = codes "CREATE TABLE IF NOT EXISTS lpis_format (one INTEGER NOT NULL PRIMARY KEY, version INTEGER NOT NULL) STRICT"
+make_format =
+    codes
+    "CREATE TABLE IF NOT EXISTS lpis_format (one INTEGER NOT NULL PRIMARY KEY, version INTEGER NOT NULL) STRICT"
 
 abbrev pub make_release : List ℕ
-make_release = codes "CREATE TABLE IF NOT EXISTS lpis_release (year INTEGER NOT NULL PRIMARY KEY) STRICT"
+make_release =
+    codes "CREATE TABLE IF NOT EXISTS lpis_release (year INTEGER NOT NULL PRIMARY KEY) STRICT"
 
 abbrev pub make_span : List ℕ
-make_span = codes "CREATE TABLE IF NOT EXISTS lpis_span (id TEXT NOT NULL PRIMARY KEY, since INTEGER NOT NULL REFERENCES lpis_release (year), until INTEGER NOT NULL) STRICT"
+make_span =
+    codes
+    "CREATE TABLE IF NOT EXISTS lpis_span (id TEXT NOT NULL PRIMARY KEY, since INTEGER NOT NULL REFERENCES lpis_release (year), until INTEGER NOT NULL) STRICT"
 
 abbrev pub make_row : List ℕ
-make_row = codes "CREATE TABLE IF NOT EXISTS lpis_row (year INTEGER NOT NULL REFERENCES lpis_release (year), pos INTEGER NOT NULL, old TEXT NOT NULL, new TEXT NOT NULL, PRIMARY KEY (year, pos)) STRICT"
+make_row =
+    codes
+    "CREATE TABLE IF NOT EXISTS lpis_row (year INTEGER NOT NULL REFERENCES lpis_release (year), pos INTEGER NOT NULL, old TEXT NOT NULL, new TEXT NOT NULL, PRIMARY KEY (year, pos)) STRICT"
 
 abbrev pub insert_format : List ℕ
 insert_format = codes "INSERT INTO lpis_format (one, version) VALUES (1, 2)"

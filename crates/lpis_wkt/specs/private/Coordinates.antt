@@ -1,5 +1,6 @@
 -- A number with the fact that it is in range.
-use Rattle.std.specs.Prelude.{◌≡◌, ℕ, ◌≤◌, Bool, true, false, not, cond, List, ℤ, nat_lt, Result, Ok, Err, refl}
+use Rattle.std.specs.Prelude.{◌≡◌, ℕ, ◌≤◌, Bool, true, false, not, cond, List, ℤ, nat_lt, Result}
+use Rattle.std.specs.Prelude.{Ok, Err, refl}
 use Rattle.std.proofs.Common.{arith}
 use Rattle.std.proofs.lemmas.Int.{ints}
 use Rattle.std.proofs.lemmas.Bool.Decides.{nat_tests}
@@ -13,9 +14,12 @@ signed-in_range : (negative : Bool) (n : ℕ) → n ≤ greatest → IsInRange (
 signed-in_range false n le = (omega (arith, ints), omega (arith, ints))
 signed-in_range true n le = (omega (arith, ints), omega (arith, ints))
 
-in_range-by : (a b c : Bool) (x y z : WktCode) (negative : Bool) (n : ℕ) (v : ℤ) → (c ≡ false → n ≤ greatest)
-    → cond (not a) (Err x) (cond (not b) (Err y) (cond c (Err z) (Ok (signed negative n)))) ≡ Ok v → IsInRange v
-in_range-by true true false x y z negative n v le h = let e : signed negative n ≡ v = cc in rw (← e) (signed-in_range negative n (le refl))
+in_range-by : (a b c : Bool) (x y z : WktCode) (negative : Bool) (n : ℕ) (v : ℤ)
+    → (c ≡ false → n ≤ greatest)
+    → cond (not a) (Err x) (cond (not b) (Err y) (cond c (Err z) (Ok (signed negative n)))) ≡ Ok v
+    → IsInRange v
+in_range-by true true false x y z negative n v le h = let e : signed negative n ≡ v = cc in
+    rw (← e) (signed-in_range negative n (le refl))
 in_range-by true true true x y z negative n v le h = cc
 in_range-by true false c x y z negative n v le h = cc
 in_range-by false b c x y z negative n v le h = cc
@@ -26,9 +30,11 @@ within n h = grind (arith, nat_tests)
 -- a number is in range
 pub number-in_range : (w : List ℕ) (z : ℤ) → number w ≡ Ok z → IsInRange z
 unfolding number
-number-in_range w z h = in_range-by (is_numeral w) (is_fine w) (nat_lt greatest (size w)) _ _ _ (is_negative w) (size w) z (within (size w)) h
+number-in_range w z h = in_range-by (is_numeral w) (is_fine w) (nat_lt greatest (size w)) _ _ _
+    (is_negative w) (size w) z (within (size w)) h
 
-abbrev pub with_range : (r : Result ℤ WktCode) → ((z : ℤ) → r ≡ Ok z → IsInRange z) → Result Coordinate WktCode
+abbrev pub with_range : (r : Result ℤ WktCode) → ((z : ℤ) → r ≡ Ok z → IsInRange z)
+    → Result Coordinate WktCode
 with_range (Ok z) h = Ok (record { value = z; in_range = h z refl })
 with_range (Err code) h = Err code
 

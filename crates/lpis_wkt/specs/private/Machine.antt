@@ -1,18 +1,21 @@
 -- What is expected after some tokens, and which token comes as a fault.
-use Rattle.std.specs.Prelude.{ℕ, ◌+◌, ◌-◌, Bool, true, false, cond, List, [], ◌∷◌, ◌++◌, length, Option, Some, None, Result, Ok, Err, nat_lt, nat_le, slice_get}
+use Rattle.std.specs.Prelude.{ℕ, ◌+◌, ◌-◌, Bool, true, false, cond, List, [], ◌∷◌, ◌++◌, length}
+use Rattle.std.specs.Prelude.{Option, Some, None, Result, Ok, Err, nat_lt, nat_le, slice_get}
 use Rattle.lpis_points.specs.declared.point.Point.{Point}
 use Rattle.lpis_points.specs.Plane.{same_point}
 use Rattle.lpis_rings.specs.declared.polygon.Member.{Member}
 use Rattle.lpis_rings.specs.Polygon.{points_in, points_of, most_points}
 use Rattle.lpis_wkt.specs.declared.fault.WktCode.{WktCode}
-use Rattle.lpis_wkt.specs.declared.fault.WktCode.TheVariants.{Keyword, Dimension, TooFewPoints, NotClosed, Syntax, TooManyPoints}
+use Rattle.lpis_wkt.specs.declared.fault.WktCode.TheVariants.{Keyword, Dimension, TooFewPoints}
+use Rattle.lpis_wkt.specs.declared.fault.WktCode.TheVariants.{NotClosed, Syntax, TooManyPoints}
 use Rattle.lpis_wkt.specs.declared.coordinate.Coordinate.{Coordinate}
 use Rattle.lpis_wkt.specs.Tokens.{Token, Open, Close, Comma, Word, End}
 use Rattle.lpis_wkt.specs.private.Coordinates.{coordinate, point_of}
 use Rattle.lpis_wkt.specs.Grammar.{is_polygon, is_multi}
 use Rattle.lpis_wkt.specs.Table.{keyword_code, open_code, first_open_code}
 
--- what stands before a ring: in which kind of text, the members before, and the member's rings before
+-- what stands before a ring: in which kind of text, the members before, and the member's rings
+-- before
 pub record Context : Type 0 where
   pub multi : Bool
   pub members : List Member
@@ -50,7 +53,8 @@ abbrev pub with_ring : Context → List Point → Context
 with_ring b ps = record b { rings = b.rings ++ ps ∷ [] }
 
 abbrev pub close_ring : Context → List Point → Result State WktCode
-close_ring b ps = cond (nat_lt (length ps) 4) (Err TooFewPoints) (cond (is_closed ps) (Ok (AfterRing (with_ring b ps))) (Err NotClosed))
+close_ring b ps = cond (nat_lt (length ps) 4) (Err TooFewPoints)
+    (cond (is_closed ps) (Ok (AfterRing (with_ring b ps))) (Err NotClosed))
 
 -- the member of these rings
 abbrev pub member_of : List (List Point) → Member
@@ -58,7 +62,8 @@ member_of [] = record { shell = []; holes = [] }
 member_of (r ∷ rs) = record { shell = r; holes = rs }
 
 abbrev pub close_body : Context → State
-close_body b = cond b.multi (AfterBody (b.members ++ member_of b.rings ∷ [])) (AtEnd (b.members ++ member_of b.rings ∷ []))
+close_body b = cond b.multi (AfterBody (b.members ++ member_of b.rings ∷ []))
+    (AtEnd (b.members ++ member_of b.rings ∷ []))
 
 -- before the rings of a member
 abbrev pub new_body : Bool → List Member → State
@@ -68,7 +73,8 @@ abbrev pub open_text : Bool → State
 open_text multi = cond multi (AtBody []) (new_body false [])
 
 abbrev pub keyword : List ℕ → Result State WktCode
-keyword w = cond (is_polygon w) (Ok (AfterKeyword false)) (cond (is_multi w) (Ok (AfterKeyword true)) (Err (keyword_code (Word w))))
+keyword w = cond (is_polygon w) (Ok (AfterKeyword false))
+    (cond (is_multi w) (Ok (AfterKeyword true)) (Err (keyword_code (Word w))))
 
 -- the grammar alone, with no limit on the points
 abbrev pub step : State → Token → Result State WktCode
@@ -101,7 +107,8 @@ step (AtY b ps x) Open = Err Syntax
 step (AtY b ps x) Close = Err Syntax
 step (AtY b ps x) Comma = Err Syntax
 step (AtY b ps x) End = Err Syntax
-step (AtY b ps x) (Word w) = with_coordinate (coordinate w) (λ y. AfterPoint b (ps ++ point_of x y ∷ []))
+step (AtY b ps x) (Word w) = with_coordinate (coordinate w)
+    (λ y. AfterPoint b (ps ++ point_of x y ∷ []))
 step (AfterPoint b ps) Open = Err Syntax
 step (AfterPoint b ps) Close = close_ring b ps
 step (AfterPoint b ps) Comma = Ok (AtX b ps)

@@ -8,7 +8,9 @@ use Rattle.lpis_wkt.specs.declared.fault.WktFault.{WktFault}
 use Rattle.lpis_wkt.specs.declared.fault.WktFault.TheVariants.{Memory, At}
 use Rattle.lpis_wkt.specs.declared.parser.Place.{Place}
 use Rattle.lpis_wkt.specs.declared.parser.Place.TheVariants as place
-use Rattle.lpis_wkt.specs.private.Machine.{Context, State, AtKeyword, AfterKeyword, AtBody, AtRing, AtX, AtY, AfterPoint, AfterRing, AfterBody, AtEnd, Finished, points_before, outcome}
+use Rattle.lpis_wkt.specs.private.Machine.{Context, State, AtKeyword, AfterKeyword, AtBody, AtRing}
+use Rattle.lpis_wkt.specs.private.Machine.{AtX, AtY, AfterPoint, AfterRing, AfterBody, AtEnd}
+use Rattle.lpis_wkt.specs.private.Machine.{Finished, points_before, outcome}
 use Rattle.lpis_wkt.specs.Tokens.{Token}
 
 abbrev pub state_of : Place → Context → List Point → State
@@ -111,4 +113,5 @@ Told (Err (At code offset)) r = r ≡ Err (code, offset)
 
 -- what comes of these states and tokens is the same, whatever tokens follow
 abbrev pub SameOutcome : State → List (ℕ × Token) → State → List (ℕ × Token) → Type 0
-SameOutcome s ts s' ts' = (rest : List (ℕ × Token)) → outcome s (ts ++ rest) ≡ outcome s' (ts' ++ rest)
+SameOutcome s ts s' ts' = (rest : List (ℕ × Token)) → outcome s (ts ++ rest) ≡ outcome s'
+    (ts' ++ rest)

@@ -1,9 +1,11 @@
 -- Parts of a text that are digits or words.
-use Rattle.std.specs.Prelude.{◌≡◌, ℕ, ◌+◌, ◌<◌, ◌≤◌, Bool, true, false, List, [], ◌∷◌, ◌++◌, length, drop, not, ◌||◌, ◌==◌}
+use Rattle.std.specs.Prelude.{◌≡◌, ℕ, ◌+◌, ◌<◌, ◌≤◌, Bool, true, false, List, [], ◌∷◌, ◌++◌, length}
+use Rattle.std.specs.Prelude.{drop, not, ◌||◌, ◌==◌}
 use Rattle.std.specs.List.{before_first, after_first, list_all}
 use Rattle.std.specs.Char.{is_ascii_digit}
 use Rattle.std.specs.Str.Parse.{digits_value}
-use Rattle.lpis_wkt.specs.Number.{coordinate_decimals, greatest, is_point, is_zero, padded, unsigned, is_negative}
+use Rattle.lpis_wkt.specs.Number.{coordinate_decimals, greatest, is_point, is_zero, padded}
+use Rattle.lpis_wkt.specs.Number.{unsigned, is_negative}
 use Rattle.lpis_wkt.specs.Tokens.{is_space}
 
 -- a byte of a word: any but white space, `(`, `)` and `,`
@@ -25,13 +27,15 @@ abbrev pub Stops : List ℕ → Type 0
 Stops [] = Unit {0}
 Stops (b ∷ bs) = is_word b ≡ false
 
--- a numeral with no sign that has a digit before its point and no digit past the decimals of a coordinate
+-- a numeral with no sign that has a digit before its point and no digit past the decimals of a
+-- coordinate
 pub record IsPlain (body : List ℕ) (n : ℕ) : Type 0 where
   pub whole : list_all is_ascii_digit (before_first is_point body) ≡ true
   pub decimals : list_all is_ascii_digit (after_first is_point body) ≡ true
   pub some : 0 < length (before_first is_point body)
   pub fine : list_all is_zero (drop coordinate_decimals (after_first is_point body)) ≡ true
-  pub size : n ≡ digits_value 10 (before_first is_point body ++ padded coordinate_decimals (after_first is_point body))
+  pub size : n ≡ digits_value 10 (before_first is_point body
+      ++ padded coordinate_decimals (after_first is_point body))
   pub few : n ≤ greatest
   pub without_sign : unsigned body ≡ body
   pub positive : is_negative body ≡ false

@@ -12,15 +12,20 @@ pub returns-in_err-pairs-clause-err : goal.returns-in_err-pairs-clause-err
 returns-in_err-pairs-clause-err c =
     let p = err_from_is_err_and c.from_residual.result c.from_residual.ensures.1 in
     let d = c.args.draft in
-    rw (p.1, p.2) (pairs_fault c.in_err-pairs.field-0.0 d.stage (record { triangles = d.triangles; flats = d.flats }) c.args.count c.args.start.text.now c.args.start.line c.args.after.text.now c.args.after.line (omega arith) c.requires c.in_err-pairs.ensures.err)
+    rw (p.1, p.2) (pairs_fault c.in_err-pairs.field-0.0 d.stage (record { triangles = d.triangles; flats = d.flats })
+    c.args.count c.args.start.text.now c.args.start.line c.args.after.text.now c.args.after.line (omega arith)
+    c.requires c.in_err-pairs.ensures.err)
 
 pub returns-in_err-rest-clause-err : goal.returns-in_err-rest-clause-err
 returns-in_err-rest-clause-err c =
     let p = err_from_is_err_and c.from_residual-in_err-rest.result c.from_residual-in_err-rest.ensures.1 in
     let d = c.args.draft in
     let ps = c.in_ok-pairs.pairs.items in
-    rw (p.1, p.2) (end_fault c.in_err-rest.field-0.0 d.stage (record { triangles = d.triangles; flats = d.flats }) c.args.count (map separator_of ps) c.args.start.text.now c.args.start.line c.args.after.text.now c.args.after.line
-    c.in_ok-pairs.last.text.now c.in_ok-pairs.last.line (omega arith) c.requires (separators_fit ps) (length-map ps separator_of ∙ c.in_ok-pairs.ensures.count) c.in_ok-pairs.ensures.ok c.in_err-rest.ensures)
+    rw (p.1, p.2) (end_fault c.in_err-rest.field-0.0 d.stage (record { triangles = d.triangles; flats = d.flats })
+    c.args.count (map separator_of ps) c.args.start.text.now c.args.start.line c.args.after.text.now
+    c.args.after.line
+    c.in_ok-pairs.last.text.now c.in_ok-pairs.last.line (omega arith) c.requires (separators_fit ps)
+    (length-map ps separator_of ∙ c.in_ok-pairs.ensures.count) c.in_ok-pairs.ensures.ok c.in_err-rest.ensures)
 
 pub returns-then-not-is_empty-clause-err : goal.returns-then-not-is_empty-clause-err
 returns-then-not-is_empty-clause-err c =
@@ -31,7 +36,9 @@ returns-then-not-is_empty-clause-err c =
     let some : 0 < length rest.text.now = grind (arith, nat_tests) in
     let small : length (map separator_of ps) ≤ greatest_count = omega arith in
     trailing_fault d.stage (record { triangles = d.triangles; flats = d.flats }) (map separator_of ps) c.args.start.text.now c.args.start.line rest.text.now rest.line (separators_fit ps) small
-    (pairs_follow c.args.start.text.now c.args.start.line c.args.count c.args.after.text.now c.args.after.line (map separator_of ps) c.in_ok-pairs.last.text.now c.in_ok-pairs.last.line rest.text.now rest.line len c.requires c.in_ok-pairs.ensures.ok c.in_ok-rest.ensures)
+    (pairs_follow c.args.start.text.now c.args.start.line c.args.count c.args.after.text.now c.args.after.line
+    (map separator_of ps) c.in_ok-pairs.last.text.now c.in_ok-pairs.last.line rest.text.now rest.line len c.requires
+    c.in_ok-pairs.ensures.ok c.in_ok-rest.ensures)
     some
 
 pub returns-clause-ok : goal.returns-clause-ok
@@ -41,6 +48,11 @@ returns-clause-ok c =
     let rest = c.in_ok-rest.rest in
     let len = length-map ps separator_of ∙ c.in_ok-pairs.ensures.count in
     let none : length rest.text.now ≡ 0 = grind (arith, nat_tests) in
-    whole_cert c.cert_of.result d.pieces.items d.parcels.items ps _ _ (c.cert_of.ensures.pieces ∙ c.in_ok-pieces.ensures) (c.cert_of.ensures.parcels ∙ c.in_ok-parcels.ensures) c.cert_of.ensures.pairs (whole_of (map piece_of d.pieces.items) (map parcel_of d.parcels.items) (map separator_of ps) c.args.start.text.now c.args.start.line rest.text.now rest.line
-    (pairs_follow c.args.start.text.now c.args.start.line c.args.count c.args.after.text.now c.args.after.line (map separator_of ps) c.in_ok-pairs.last.text.now c.in_ok-pairs.last.line rest.text.now rest.line len c.requires c.in_ok-pairs.ensures.ok c.in_ok-rest.ensures)
+    whole_cert c.cert_of.result d.pieces.items d.parcels.items ps _ _ (c.cert_of.ensures.pieces
+    ∙ c.in_ok-pieces.ensures) (c.cert_of.ensures.parcels ∙ c.in_ok-parcels.ensures) c.cert_of.ensures.pairs
+    (whole_of (map piece_of d.pieces.items) (map parcel_of d.parcels.items) (map separator_of ps)
+    c.args.start.text.now c.args.start.line rest.text.now rest.line
+    (pairs_follow c.args.start.text.now c.args.start.line c.args.count c.args.after.text.now c.args.after.line
+    (map separator_of ps) c.in_ok-pairs.last.text.now c.in_ok-pairs.last.line rest.text.now rest.line len c.requires
+    c.in_ok-pairs.ensures.ok c.in_ok-rest.ensures)
     none)

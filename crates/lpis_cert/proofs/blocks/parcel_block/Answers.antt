@@ -20,7 +20,10 @@ pub returns-in_err-own_flats-clause-err : goal.returns-in_err-own_flats-clause-e
 returns-in_err-own_flats-clause-err c =
     let p = err_from_is_err_and c.from_residual.result c.from_residual.ensures.1 in
     let d = c.args.draft in
-    rw (p.1, p.2) (fault_after c.in_err-own_flats.field-0.0 c.args.start.line (InBody d.stage 0 0 (record { triangles = d.triangles; flats = d.flats })) (InBody stage.Parcels 0 c.args.flat_count (grow_flats (record { triangles = d.triangles; flats = d.flats }) c.args.flat_count))
+    rw (p.1, p.2) (fault_after c.in_err-own_flats.field-0.0 c.args.start.line
+    (InBody d.stage 0 0 (record { triangles = d.triangles; flats = d.flats }))
+    (InBody stage.Parcels 0 c.args.flat_count (grow_flats (record { triangles = d.triangles; flats = d.flats })
+    c.args.flat_count))
     c.args.start.text.now (ParcelLine c.args.id c.args.flat_count ∷ []) c.args.after.text.now c.args.after.line c.requires.begins
     (parcel_open d.stage (record { triangles = d.triangles; flats = d.flats }) c.args.id c.args.flat_count (c.requires.named, omega arith) d.triangles_few c.if-all_flats-gt-MOST_FLATS.false)
     (c.in_err-own_flats.ensures.err stage.Parcels 0 (grow_flats (record { triangles = d.triangles; flats = d.flats }) c.args.flat_count)))
@@ -30,7 +33,10 @@ returns-clause-ok c =
     let d = c.args.draft in
     let fs = c.in_ok-own_flats.own_flats.items in
     let q : ParcelBlock = record { id = c.args.id; flats = all_corners fs } in
-    let grown : map parcel_of c.push.new.self.items ≡ map parcel_of d.parcels.items ++ q ∷ [] = rw c.in_ok-push.ensures.items (parcel_pushed d.parcels.items c.parcel_part.result c.args.id fs c.parcel_part.ensures.id c.parcel_part.ensures.flats) in
+    let grown : map parcel_of c.push.new.self.items ≡ map parcel_of d.parcels.items ++ q ∷ [] =
+    rw c.in_ok-push.ensures.items (parcel_pushed d.parcels.items c.parcel_part.result c.args.id fs
+    c.parcel_part.ensures.id c.parcel_part.ensures.flats) in
     parcel_grown (map piece_of d.pieces.items) (map parcel_of d.parcels.items) (map parcel_of c.push.new.self.items) q d.stage (record { triangles = d.triangles; flats = d.flats }) c.args.flat_count
     c.args.start.text.now c.args.start.line c.args.after.text.now c.args.after.line c.in_ok-own_flats.rest.text.now c.in_ok-own_flats.rest.line
-    grown (c.requires.named, omega arith) d.triangles_few c.if-all_flats-gt-MOST_FLATS.false (all_corners_fit fs) (length-map fs corners_of ∙ c.in_ok-own_flats.ensures.count) c.requires.begins c.in_ok-own_flats.ensures.ok
+    grown (c.requires.named, omega arith) d.triangles_few c.if-all_flats-gt-MOST_FLATS.false (all_corners_fit fs)
+    (length-map fs corners_of ∙ c.in_ok-own_flats.ensures.count) c.requires.begins c.in_ok-own_flats.ensures.ok

@@ -9,7 +9,8 @@ use Rattle.lpis_cert.specs.Contents.{piece_of, parcel_of, all_corners, corners_o
 use Rattle.lpis_cert.proofs.BlockProofs.{all_corners_fit}
 use Rattle.lpis_cert.proofs.DraftProofs.{too_many_piece, piece_grown, piece_fault, flat_fault, piece_pushed}
 use Rattle.lpis_cert.proofs.blocks.piece_block.Goals as goal
-use Rattle.lpis_cert.proofs.blocks.piece_block.Goals.{then-all_triangles-gt-MOST_TRIANGLES-via-then-all_triangles-gt-MOST_TRIANGLES, then-all_triangles-gt-MOST_TRIANGLES-via-else-all_triangles-gt-MOST_TRIANGLES+then-all_flats-gt-MOST_FLATS}
+use Rattle.lpis_cert.proofs.blocks.piece_block.Goals.{then-all_triangles-gt-MOST_TRIANGLES-via-then-all_triangles-gt-MOST_TRIANGLES}
+use Rattle.lpis_cert.proofs.blocks.piece_block.Goals.{then-all_triangles-gt-MOST_TRIANGLES-via-else-all_triangles-gt-MOST_TRIANGLES+then-all_flats-gt-MOST_FLATS}
 
 pub returns-then-all_triangles-gt-MOST_TRIANGLES-clause-err : goal.returns-then-all_triangles-gt-MOST_TRIANGLES-clause-err
 returns-then-all_triangles-gt-MOST_TRIANGLES-clause-err c =
@@ -18,14 +19,17 @@ returns-then-all_triangles-gt-MOST_TRIANGLES-clause-err c =
       | then-all_triangles-gt-MOST_TRIANGLES-via-then-all_triangles-gt-MOST_TRIANGLES w ↦ inl w.if-all_triangles-gt-MOST_TRIANGLES.true
       | then-all_triangles-gt-MOST_TRIANGLES-via-else-all_triangles-gt-MOST_TRIANGLES+then-all_flats-gt-MOST_FLATS w ↦ inr w.if-all_flats-gt-MOST_FLATS.true
     ] in
-    too_many_piece (record { triangles = d.triangles; flats = d.flats }) d.stage c.args.id c.args.triangle_count c.args.flat_count c.args.start.text.now c.args.start.line c.args.after.text.now c.args.after.line
+    too_many_piece (record { triangles = d.triangles; flats = d.flats }) d.stage c.args.id c.args.triangle_count
+    c.args.flat_count c.args.start.text.now c.args.start.line c.args.after.text.now c.args.after.line
     c.requires.fresh (c.requires.named, omega arith, omega arith) over c.requires.begins
 
 pub returns-in_err-own_triangles-clause-err : goal.returns-in_err-own_triangles-clause-err
 returns-in_err-own_triangles-clause-err c =
     let p = err_from_is_err_and c.from_residual.result c.from_residual.ensures.1 in
     let d = c.args.draft in
-    rw (p.1, p.2) (piece_fault c.in_err-own_triangles.field-0.0 (record { triangles = d.triangles; flats = d.flats }) d.stage c.args.id c.args.triangle_count c.args.flat_count c.args.start.text.now c.args.start.line c.args.after.text.now c.args.after.line
+    rw (p.1, p.2) (piece_fault c.in_err-own_triangles.field-0.0 (record { triangles = d.triangles; flats = d.flats })
+    d.stage c.args.id c.args.triangle_count c.args.flat_count c.args.start.text.now c.args.start.line
+    c.args.after.text.now c.args.after.line
     c.requires.fresh (c.requires.named, omega arith, omega arith) c.if-all_triangles-gt-MOST_TRIANGLES.false c.if-all_flats-gt-MOST_FLATS.false c.requires.begins
     (c.in_err-own_triangles.ensures.err stage.Pieces c.args.flat_count (grow (record { triangles = d.triangles; flats = d.flats }) c.args.triangle_count c.args.flat_count)))
 
@@ -34,9 +38,13 @@ returns-in_err-own_flats-clause-err c =
     let p = err_from_is_err_and c.from_residual-in_err-own_flats.result c.from_residual-in_err-own_flats.ensures.1 in
     let d = c.args.draft in
     let ts = c.in_ok-own_triangles.own_triangles.items in
-    rw (p.1, p.2) (flat_fault c.in_err-own_flats.field-0.0 (record { triangles = d.triangles; flats = d.flats }) d.stage c.args.id c.args.triangle_count c.args.flat_count (all_corners ts) c.args.start.text.now c.args.start.line c.args.after.text.now c.args.after.line
+    rw (p.1, p.2) (flat_fault c.in_err-own_flats.field-0.0 (record { triangles = d.triangles; flats = d.flats }) d.stage
+    c.args.id c.args.triangle_count c.args.flat_count (all_corners ts) c.args.start.text.now c.args.start.line
+    c.args.after.text.now c.args.after.line
     c.in_ok-own_triangles.middle.text.now c.in_ok-own_triangles.middle.line
-    c.requires.fresh (c.requires.named, omega arith, omega arith) c.if-all_triangles-gt-MOST_TRIANGLES.false c.if-all_flats-gt-MOST_FLATS.false c.requires.begins (all_corners_fit ts) (length-map ts corners_of ∙ c.in_ok-own_triangles.ensures.count) c.in_ok-own_triangles.ensures.ok
+    c.requires.fresh (c.requires.named, omega arith, omega arith) c.if-all_triangles-gt-MOST_TRIANGLES.false
+    c.if-all_flats-gt-MOST_FLATS.false c.requires.begins (all_corners_fit ts) (length-map ts corners_of
+    ∙ c.in_ok-own_triangles.ensures.count) c.in_ok-own_triangles.ensures.ok
     (c.in_err-own_flats.ensures.err stage.Pieces 0 (grow (record { triangles = d.triangles; flats = d.flats }) c.args.triangle_count c.args.flat_count)))
 
 pub returns-clause-ok : goal.returns-clause-ok
@@ -45,9 +53,16 @@ returns-clause-ok c =
     let ts = c.in_ok-own_triangles.own_triangles.items in
     let fs = c.in_ok-own_flats.own_flats.items in
     let q : PieceBlock = record { id = c.args.id; triangles = all_corners ts; flats = all_corners fs } in
-    let grown : map piece_of c.push.new.self.items ≡ map piece_of d.pieces.items ++ q ∷ [] = rw c.in_ok-push.ensures.items (piece_pushed d.pieces.items c.piece_part.result c.args.id ts fs c.piece_part.ensures.id c.piece_part.ensures.triangles c.piece_part.ensures.flats) in
+    let grown : map piece_of c.push.new.self.items ≡ map piece_of d.pieces.items ++ q ∷ [] =
+    rw c.in_ok-push.ensures.items (piece_pushed d.pieces.items c.piece_part.result c.args.id ts fs
+    c.piece_part.ensures.id c.piece_part.ensures.triangles c.piece_part.ensures.flats) in
     let none = length-map d.parcels.items parcel_of ∙ d.no_parcels c.requires.fresh in
-    piece_grown (map piece_of d.pieces.items) (map piece_of c.push.new.self.items) (map parcel_of d.parcels.items) q d.stage (record { triangles = d.triangles; flats = d.flats }) c.args.triangle_count c.args.flat_count
-    c.args.start.text.now c.args.start.line c.args.after.text.now c.args.after.line c.in_ok-own_triangles.middle.text.now c.in_ok-own_triangles.middle.line c.in_ok-own_flats.rest.text.now c.in_ok-own_flats.rest.line
+    piece_grown (map piece_of d.pieces.items) (map piece_of c.push.new.self.items) (map parcel_of d.parcels.items) q
+    d.stage (record { triangles = d.triangles; flats = d.flats }) c.args.triangle_count c.args.flat_count
+    c.args.start.text.now c.args.start.line c.args.after.text.now c.args.after.line
+    c.in_ok-own_triangles.middle.text.now c.in_ok-own_triangles.middle.line c.in_ok-own_flats.rest.text.now
+    c.in_ok-own_flats.rest.line
     grown c.requires.fresh none (c.requires.named, omega arith, omega arith) c.if-all_triangles-gt-MOST_TRIANGLES.false c.if-all_flats-gt-MOST_FLATS.false (all_corners_fit ts) (all_corners_fit fs)
-    (length-map ts corners_of ∙ c.in_ok-own_triangles.ensures.count) (length-map fs corners_of ∙ c.in_ok-own_flats.ensures.count) c.requires.begins c.in_ok-own_triangles.ensures.ok c.in_ok-own_flats.ensures.ok
+    (length-map ts corners_of ∙ c.in_ok-own_triangles.ensures.count) (length-map fs corners_of
+    ∙ c.in_ok-own_flats.ensures.count) c.requires.begins c.in_ok-own_triangles.ensures.ok
+    c.in_ok-own_flats.ensures.ok

@@ -6,10 +6,14 @@ use Rattle.lpis_cert.proofs.HeadProofs.{values_piece, values_parcel, values_pair
 use Rattle.lpis_cert.proofs.head.head_at.Goals as goal
 
 pub named-requires : goal.named-requires
-named-requires c = (taken (Block c.args.stage) _ _ _ _ _ _ (PieceLine c.in-Some.id.now c.in-Some.triangles c.in-Some.flats) c.in_ok-kind.ensures (values_piece _ _ _ c.in-Piece.is c.in-Some.ensures)).1.0
+named-requires c =
+    (taken (Block c.args.stage) _ _ _ _ _ _ (PieceLine c.in-Some.id.now c.in-Some.triangles c.in-Some.flats)
+    c.in_ok-kind.ensures (values_piece _ _ _ c.in-Piece.is c.in-Some.ensures)).1.0
 
 pub named-requires-in-Some-parcel_fields : goal.named-requires-in-Some-parcel_fields
-named-requires-in-Some-parcel_fields c = (taken (Block c.args.stage) _ _ _ _ _ _ (ParcelLine c.in-Some-parcel_fields.id.now c.in-Some-parcel_fields.flats) c.in_ok-kind.ensures (values_parcel _ _ _ c.in-Parcel.is c.in-Some-parcel_fields.ensures)).1.0
+named-requires-in-Some-parcel_fields c =
+    (taken (Block c.args.stage) _ _ _ _ _ _ (ParcelLine c.in-Some-parcel_fields.id.now c.in-Some-parcel_fields.flats)
+    c.in_ok-kind.ensures (values_parcel _ _ _ c.in-Parcel.is c.in-Some-parcel_fields.ensures)).1.0
 
 pub returns-in_ok-named-in-Some-clause-ok : goal.returns-in_ok-named-in-Some-clause-ok
 returns-in_ok-named-in-Some-clause-ok c =
@@ -17,7 +21,9 @@ returns-in_ok-named-in-Some-clause-ok c =
     rw id (taken (Block c.args.stage) _ _ _ _ _ _ (PieceLine c.in-Some.id.now c.in-Some.triangles c.in-Some.flats) c.in_ok-kind.ensures (values_piece _ _ _ c.in-Piece.is c.in-Some.ensures)).0
 
 pub returns-in_ok-named-in-Some-clause-stands : goal.returns-in_ok-named-in-Some-clause-stands
-returns-in_ok-named-in-Some-clause-stands c = (taken (Block c.args.stage) _ _ _ _ _ _ (PieceLine c.in-Some.id.now c.in-Some.triangles c.in-Some.flats) c.in_ok-kind.ensures (values_piece _ _ _ c.in-Piece.is c.in-Some.ensures)).2
+returns-in_ok-named-in-Some-clause-stands c =
+    (taken (Block c.args.stage) _ _ _ _ _ _ (PieceLine c.in-Some.id.now c.in-Some.triangles c.in-Some.flats)
+    c.in_ok-kind.ensures (values_piece _ _ _ c.in-Piece.is c.in-Some.ensures)).2
 
 pub returns-in-None-clause-err : goal.returns-in-None-clause-err
 returns-in-None-clause-err c = (refl, untaken (Block c.args.stage) _ _ _ _ _ _ c.in_ok-kind.ensures (values_piece _ _ _ c.in-Piece.is c.in-None.ensures))
@@ -25,13 +31,18 @@ returns-in-None-clause-err c = (refl, untaken (Block c.args.stage) _ _ _ _ _ _ c
 pub returns-in_ok-named-in-Some-parcel_fields-clause-ok : goal.returns-in_ok-named-in-Some-parcel_fields-clause-ok
 returns-in_ok-named-in-Some-parcel_fields-clause-ok c =
     let id = c.in_ok-named-in-Some-parcel_fields.ensures in
-    rw id (taken (Block c.args.stage) _ _ _ _ _ _ (ParcelLine c.in-Some-parcel_fields.id.now c.in-Some-parcel_fields.flats) c.in_ok-kind.ensures (values_parcel _ _ _ c.in-Parcel.is c.in-Some-parcel_fields.ensures)).0
+    rw id
+    (taken (Block c.args.stage) _ _ _ _ _ _
+    (ParcelLine c.in-Some-parcel_fields.id.now c.in-Some-parcel_fields.flats) c.in_ok-kind.ensures
+    (values_parcel _ _ _ c.in-Parcel.is c.in-Some-parcel_fields.ensures)).0
 
 pub returns-in-None-parcel_fields-clause-err : goal.returns-in-None-parcel_fields-clause-err
 returns-in-None-parcel_fields-clause-err c = (refl, untaken (Block c.args.stage) _ _ _ _ _ _ c.in_ok-kind.ensures (values_parcel _ _ _ c.in-Parcel.is c.in-None-parcel_fields.ensures))
 
 pub returns-in-Some-pairs_fields-clause-ok : goal.returns-in-Some-pairs_fields-clause-ok
-returns-in-Some-pairs_fields-clause-ok c = (taken (Block c.args.stage) _ _ _ _ _ _ (PairsLine c.in-Some-pairs_fields.count) c.in_ok-kind.ensures (values_pairs _ _ _ c.in-Pairs.is c.in-Some-pairs_fields.ensures)).0
+returns-in-Some-pairs_fields-clause-ok c =
+    (taken (Block c.args.stage) _ _ _ _ _ _ (PairsLine c.in-Some-pairs_fields.count) c.in_ok-kind.ensures
+    (values_pairs _ _ _ c.in-Pairs.is c.in-Some-pairs_fields.ensures)).0
 
 pub returns-in-None-pairs_fields-clause-err : goal.returns-in-None-pairs_fields-clause-err
 returns-in-None-pairs_fields-clause-err c = (refl, untaken (Block c.args.stage) _ _ _ _ _ _ c.in_ok-kind.ensures (values_pairs _ _ _ c.in-Pairs.is c.in-None-pairs_fields.ensures))

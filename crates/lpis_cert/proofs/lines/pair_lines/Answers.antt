@@ -24,6 +24,7 @@ loop-preserved c =
     let t = c.in_ok-pair.pair in
     let e : c.push.new.self.items ≡ ts ++ t ∷ [] = c.in_ok-push.ensures.items in
     rw e (record {
-      follows = pair_more ts t c.args.rest.text.now c.args.rest.line c.loop.left.text.now c.loop.left.line c.in_ok-pair.after.text.now c.in_ok-pair.after.line c.loop.invariant.follows c.in_ok-pair.ensures;
+      follows = pair_more ts t c.args.rest.text.now c.args.rest.line c.loop.left.text.now c.loop.left.line
+          c.in_ok-pair.after.text.now c.in_ok-pair.after.line c.loop.invariant.follows c.in_ok-pair.ensures;
       count = length-append ts (t ∷ []) ∙ ap (λ (k : ℕ). k + 1) c.loop.invariant.count;
     })

@@ -17,7 +17,9 @@ reading-preserved c =
     let is = c.in-More.is in
     let grown = rw is at c.in_ok-grown.ensures.ok in
     record {
-      follows = follows_grown c.args.start.text.now c.args.start.line (draft_lines c.reading.draft) (draft_lines c.in-More.grown) (place_of c.reading.draft) (place_of c.in-More.grown) c.reading.rest.text.now c.reading.rest.line c.in-More.left.text.now c.in-More.left.line c.reading.invariant.follows grown;
+      follows = follows_grown c.args.start.text.now c.args.start.line (draft_lines c.reading.draft)
+          (draft_lines c.in-More.grown) (place_of c.reading.draft) (place_of c.in-More.grown) c.reading.rest.text.now
+          c.reading.rest.line c.in-More.left.text.now c.in-More.left.line c.reading.invariant.follows grown;
       place = sym grown.place ∙ c.reading.invariant.place;
     }
 
@@ -25,4 +27,6 @@ pub returns-in-Done-clause-ok : goal.returns-in-Done-clause-ok
 returns-in-Done-clause-ok c =
     let is = c.in-Done.is in
     let whole = rw is at c.in_ok-grown.ensures.ok in
-    whole_text c.args.start.text.now c.args.start.line (draft_lines c.reading.draft) (lines_of (content_of c.in-Done.cert)) c.reading.rest.text.now c.reading.rest.line c.reading.invariant.follows whole
+    whole_text c.args.start.text.now c.args.start.line (draft_lines c.reading.draft)
+    (lines_of (content_of c.in-Done.cert)) c.reading.rest.text.now c.reading.rest.line c.reading.invariant.follows
+    whole

@@ -25,9 +25,13 @@ returns-then-not-names_at c =
     let p : ℕ × ℕ = get_or near c.loop-i.i-index (0, 0) in
     let at = slice_get-get_or near c.loop-i.i-index (0, 0) c.loop-i-test.true in
     let skips = skips_over cert c.as_slice-lines.result.now c.loop-i.at next p.0 p.1 c.as_slice-lines.ensures c.skip_to-at.ensures.high c.skip_to-at.ensures.before c.skip_to-at.ensures.stop in
-    let unnamed : NamesAt cert.pairs next p.0 p.1 → ⊥ = λ h. untrue c.names_at.result c.names_at.ensures c.if-not-names_at.true (subst (λ (lines : List PairLine). NamesAt lines next p.0 p.1) (sym c.as_slice-lines.ensures) h) in
+    let unnamed : NamesAt cert.pairs next p.0 p.1 → ⊥ = λ h. untrue c.names_at.result c.names_at.ensures
+    c.if-not-names_at.true (subst (λ (lines : List PairLine). NamesAt lines next p.0 p.1)
+    (sym c.as_slice-lines.ensures) h) in
     walk_fault c.args.release.now cert c.args.triangles.now near c.requires.names c.requires.numbered c.requires.near c.loop-i.at next c.loop-i.i-index p c.loop-i.invariant at skips unnamed
 
 pub returns : goal.returns
 returns c =
-    at_all_sites c.args.release.now c.args.cert.now NearPairs (λ k. tt) (λ k. tt) (λ k. tt) (walk_all c.args.release.now c.args.cert.now c.args.triangles.now c.args.near.now c.requires.numbered c.requires.near c.loop-i.at c.loop-i.i-index c.loop-i-test.false c.loop-i.invariant)
+    at_all_sites c.args.release.now c.args.cert.now NearPairs (λ k. tt) (λ k. tt) (λ k. tt)
+    (walk_all c.args.release.now c.args.cert.now c.args.triangles.now c.args.near.now c.requires.numbered
+    c.requires.near c.loop-i.at c.loop-i.i-index c.loop-i-test.false c.loop-i.invariant)

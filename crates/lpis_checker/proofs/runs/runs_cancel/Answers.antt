@@ -23,7 +23,8 @@ pub loop-k-init : goal.loop-k-init
 loop-k-init c = walk_none c.args.edges.now
 
 pub overflow_add-sum : goal.overflow_add-sum
-overflow_add-sum c = next_fits (to_z w64 c.loop-k.sum-bits) c.weight-sum.result c.loop-k.k (length c.args.edges.now) c.loop-k.invariant.small c.loop-k-test.true c.requires.few c.weight-sum.ensures.small
+overflow_add-sum c = next_fits (to_z w64 c.loop-k.sum-bits) c.weight-sum.result c.loop-k.k (length c.args.edges.now)
+    c.loop-k.invariant.small c.loop-k-test.true c.requires.few c.weight-sum.ensures.small
 
 pub loop-k-preserved : goal.loop-k-preserved
 loop-k-preserved c =
@@ -35,7 +36,9 @@ loop-k-preserved c =
     subst (λ (z : ℤ). WalkAt xs (c.loop-k.k + 1) z) (sym e)
     (elim c.if-sum-ne0.branch [
       | then-sum-ne0+else-ends_run w ↦ walk_on xs c.loop-k.k s x c.loop-k.invariant at (untrue w.ends_run.result w.ends_run.ensures w.if-ends_run.false)
-      | else-sum-ne0 w ↦ walk_zero xs c.loop-k.k s x c.loop-k.invariant at (zero_is s c.weight-sum.result (weight x) c.loop-k.k (length xs) c.loop-k.invariant.small c.loop-k-test.true c.requires.few c.weight-sum.ensures.small c.weight-sum.ensures.is w.if-sum-ne0.false)
+      | else-sum-ne0 w ↦ walk_zero xs c.loop-k.k s x c.loop-k.invariant at
+          (zero_is s c.weight-sum.result (weight x) c.loop-k.k (length xs) c.loop-k.invariant.small c.loop-k-test.true
+          c.requires.few c.weight-sum.ensures.small c.weight-sum.ensures.is w.if-sum-ne0.false)
     ])
 
 pub returns-then-ends_run : goal.returns-then-ends_run
@@ -43,8 +46,13 @@ returns-then-ends_run c =
     let s = to_z w64 c.loop-k.sum-bits in
     let xs = c.args.edges.now in
     let x = c.index-edges-k.result in
-    let at = slice_get_read xs (length xs) c.loop-k.k x refl c.loop-k-test.true c.index-edges-k.is in
-    (λ t. absurd (never t), λ z. absurd (walk_fault xs c.loop-k.k s x c.requires.grouped c.loop-k.invariant at (λ f. c.if-sum-ne0.true (is_zero s c.weight-sum.result (weight x) c.loop-k.k (length xs) c.loop-k.invariant.small c.loop-k-test.true c.requires.few c.weight-sum.ensures.small c.weight-sum.ensures.is f)) (c.ends_run.ensures.0 c.if-ends_run.true) z))
+    let at = slice_get_read xs (length xs) c.loop-k.k x refl c.loop-k-test.true c.index-edges-k.is in (
+      λ t. absurd (never t),
+      λ z. absurd (walk_fault xs c.loop-k.k s x c.requires.grouped c.loop-k.invariant at
+          (λ f. c.if-sum-ne0.true (is_zero s c.weight-sum.result (weight x) c.loop-k.k (length xs)
+          c.loop-k.invariant.small c.loop-k-test.true c.requires.few c.weight-sum.ensures.small c.weight-sum.ensures.is
+          f)) (c.ends_run.ensures.0 c.if-ends_run.true) z),
+    )
   where
     never : false ≡ true → ⊥
     never t = cc

@@ -13,7 +13,8 @@ returns-then-not-holds_at_line c =
     first_at_line r cert c.args.condition c.loop-place.place (untrue c.holds_at_line.result c.holds_at_line.ensures c.if-not-holds_at_line.true) elsewhere.0 elsewhere.1 c.loop-place.invariant
 
 pub loop-place-preserved : goal.loop-place-preserved
-loop-place-preserved c = one_more (λ m. Holds c.args.release.now c.args.cert.now c.args.condition (LineAt m)) c.loop-place.place (c.holds_at_line.ensures.0 c.if-not-holds_at_line.false) c.loop-place.invariant
+loop-place-preserved c = one_more (λ m. Holds c.args.release.now c.args.cert.now c.args.condition (LineAt m))
+    c.loop-place.place (c.holds_at_line.ensures.0 c.if-not-holds_at_line.false) c.loop-place.invariant
 
 pub returns : goal.returns
 returns c =

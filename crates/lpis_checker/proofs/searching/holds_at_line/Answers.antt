@@ -8,4 +8,6 @@ pub returns-in-NotApart : goal.returns-in-NotApart
 returns-in-NotApart c = subst (λ (q : Condition). IsTrue c.is_near_at.result ↔ Holds c.args.release.now c.args.cert.now q (LineAt c.args.place)) (sym c.in-NotApart.is) c.is_near_at.ensures
 
 pub returns-in-Separating : goal.returns-in-Separating
-returns-in-Separating c = subst (λ (q : Condition). IsTrue c.is_separator_at.result ↔ Holds c.args.release.now c.args.cert.now q (LineAt c.args.place)) (sym c.in-Separating.is) c.is_separator_at.ensures
+returns-in-Separating c = subst (λ (q : Condition). IsTrue c.is_separator_at.result
+    ↔ Holds c.args.release.now c.args.cert.now q (LineAt c.args.place)) (sym c.in-Separating.is)
+    c.is_separator_at.ensures

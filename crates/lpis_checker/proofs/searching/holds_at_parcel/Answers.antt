@@ -14,8 +14,10 @@ returns-in-Some-Some c =
     let k = c.args.place in
     let x = c.in-Some-Some.parcel.now in
     let t = c.in-Some-Some.part.now in
-    let e : slice_get r.parcels k ≡ Some x = read_at c.parcels.result.now r.parcels k x c.parcels.ensures.parcels (within_same c.parcels.ensures.parcels c.in-Some-Some.ensures'.lookup.3.0) c.in-Some-Some.ensures'.lookup.1 in
-    let f : slice_get cert.parcels k ≡ Some t = read_at c.as_slice.result.now cert.parcels k t c.as_slice.ensures (within_same c.as_slice.ensures c.in-Some-Some.ensures.lookup.3.0) c.in-Some-Some.ensures.lookup.1 in
+    let e : slice_get r.parcels k ≡ Some x = read_at c.parcels.result.now r.parcels k x c.parcels.ensures.parcels
+    (within_same c.parcels.ensures.parcels c.in-Some-Some.ensures'.lookup.3.0) c.in-Some-Some.ensures'.lookup.1 in
+    let f : slice_get cert.parcels k ≡ Some t = read_at c.as_slice.result.now cert.parcels k t c.as_slice.ensures
+    (within_same c.as_slice.ensures c.in-Some-Some.ensures.lookup.3.0) c.in-Some-Some.ensures.lookup.1 in
     IfOk-weaker c.holds_of_parcel.result _ _ (λ b h. on_parcel r cert c.args.condition b k x t (search rules) e f h) c.holds_of_parcel.ensures
 
 pub returns-in_default : goal.returns-in_default

@@ -14,8 +14,10 @@ returns-in-Some-Some c =
     let k = c.args.place in
     let x = c.in-Some-Some.piece.now in
     let t = c.in-Some-Some.part.now in
-    let e : slice_get r.pieces k ≡ Some x = read_at c.pieces.result.now r.pieces k x c.pieces.ensures.pieces (within_same c.pieces.ensures.pieces c.in-Some-Some.ensures'.lookup.3.0) c.in-Some-Some.ensures'.lookup.1 in
-    let f : slice_get cert.pieces k ≡ Some t = read_at c.as_slice.result.now cert.pieces k t c.as_slice.ensures (within_same c.as_slice.ensures c.in-Some-Some.ensures.lookup.3.0) c.in-Some-Some.ensures.lookup.1 in
+    let e : slice_get r.pieces k ≡ Some x = read_at c.pieces.result.now r.pieces k x c.pieces.ensures.pieces
+    (within_same c.pieces.ensures.pieces c.in-Some-Some.ensures'.lookup.3.0) c.in-Some-Some.ensures'.lookup.1 in
+    let f : slice_get cert.pieces k ≡ Some t = read_at c.as_slice.result.now cert.pieces k t c.as_slice.ensures
+    (within_same c.as_slice.ensures c.in-Some-Some.ensures.lookup.3.0) c.in-Some-Some.ensures.lookup.1 in
     IfOk-weaker c.holds_of_piece.result _ _ (λ b h. on_piece r cert c.args.condition b k x t (search rules) e f h) c.holds_of_piece.ensures
 
 pub returns-in_default : goal.returns-in_default

@@ -13,7 +13,9 @@ pub loop-piece-preserved : goal.loop-piece-preserved
 loop-piece-preserved c = record {
   can = tt;
   ends = tt;
-  sums = growing_more false (edges_of c.in-Some.piece.now.polygon) _ _ _ _ _ _ (ap (λ (xs : List Piece). edges_of_pieces xs) c.in-Some.ensures.steps) c.loop-piece.invariant.sums c.in_ok-push_polygon.ensures;
+  sums = growing_more false (edges_of c.in-Some.piece.now.polygon) _ _ _ _ _ _
+      (ap (λ (xs : List Piece). edges_of_pieces xs) c.in-Some.ensures.steps) c.loop-piece.invariant.sums
+      c.in_ok-push_polygon.ensures;
 }
 
 pub returns : goal.returns

@@ -13,7 +13,10 @@ loop-triangle-init c = growing_none false _ _ _ refl
 pub loop-triangle-preserved : goal.loop-triangle-preserved
 loop-triangle-preserved c =
     let t = c.triangle-item.result in
-    growing_more false (triangle_edges t) _ _ _ _ _ _ (at_drop_more edges_of_triangles c.args.triangles.now c.loop-triangle.triangle-index t c.loop-triangle-test.true ∙ ap (λ (u : Triangle). edges_of_triangles (u ∷ drop (c.loop-triangle.triangle-index + 1) c.args.triangles.now)) (sym c.triangle-item.is))
+    growing_more false (triangle_edges t) _ _ _ _ _ _ (at_drop_more edges_of_triangles c.args.triangles.now
+    c.loop-triangle.triangle-index t c.loop-triangle-test.true
+    ∙ ap (λ (u : Triangle). edges_of_triangles (u ∷ drop (c.loop-triangle.triangle-index + 1) c.args.triangles.now))
+    (sym c.triangle-item.is))
     c.loop-triangle.invariant c.in_ok-take_triangle.ensures
 
 pub returns : goal.returns

@@ -11,9 +11,14 @@ loop-count-preserved g c =
     let areas = c.in_ok-areas.areas in
     let known = c.loop-count.invariant in
     let at = c.loop-count-test.true in (
-      sum-goes-on (λ k. area2 k.polygon) parcels c.loop-count.count c.parcel-item.result _ sum.area areas.area c.added-sum.result.area at c.parcel-item.is c.added-sum.ensures.area known.0 c.in_ok-areas.ensures.area.0,
-      sum-goes-on (λ k. eligible2 c.args.release.now k.id) parcels c.loop-count.count c.parcel-item.result _ sum.eligible areas.eligible c.added-sum.result.eligible at c.parcel-item.is c.added-sum.ensures.eligible known.1 c.in_ok-areas.ensures.eligible.0,
+      sum-goes-on (λ k. area2 k.polygon) parcels c.loop-count.count c.parcel-item.result _ sum.area areas.area
+          c.added-sum.result.area at c.parcel-item.is c.added-sum.ensures.area known.0 c.in_ok-areas.ensures.area.0,
+      sum-goes-on (λ k. eligible2 c.args.release.now k.id) parcels c.loop-count.count c.parcel-item.result _
+          sum.eligible areas.eligible c.added-sum.result.eligible at c.parcel-item.is c.added-sum.ensures.eligible
+          known.1 c.in_ok-areas.ensures.eligible.0,
       c.added-sum.ensures.area_small,
       c.added-sum.ensures.eligible_small,
-      text-goes-on (parcel_line c.args.release.now) parcels c.loop-count.count c.parcel-item.result _ (g.W.Write.contents c.args.out.now) (g.W.Write.contents c.loop-count.out) (g.W.Write.contents c.print_parcel.new.out) at c.parcel-item.is known.4 c.in_ok-areas.ensures.text,
+      text-goes-on (parcel_line c.args.release.now) parcels c.loop-count.count c.parcel-item.result _
+          (g.W.Write.contents c.args.out.now) (g.W.Write.contents c.loop-count.out)
+          (g.W.Write.contents c.print_parcel.new.out) at c.parcel-item.is known.4 c.in_ok-areas.ensures.text,
     )

@@ -18,7 +18,8 @@ at-ok (Err e) is h = cc is
 pub returns-in_err-next_row : goal.returns-in_err-next_row
 returns-in_err-next_row c =
     let same : c.from_residual.result ≡ Err c.in_err-next_row.field-0.0 = handed-on c.from_residual.result c.in_err-next_row.field-0.0 c.from_residual.ensures.1 in
-    rw same (tells-stop {V = Vec ℕ Global} (λ v. v.items) c.args.reader.now c.loop-lines.reader c.next_row.new.self c.loop-lines.lines.items c.in_err-next_row.field-0.0 c.loop-lines.invariant c.in_err-next_row.ensures)
+    rw same (tells-stop {V = Vec ℕ Global} (λ v. v.items) c.args.reader.now c.loop-lines.reader c.next_row.new.self
+    c.loop-lines.lines.items c.in_err-next_row.field-0.0 c.loop-lines.invariant c.in_err-next_row.ensures)
 
 pub returns-in_err-polygon : goal.returns-in_err-polygon
 returns-in_err-polygon c =

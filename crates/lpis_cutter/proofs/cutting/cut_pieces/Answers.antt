@@ -3,7 +3,10 @@ use Rattle.lpis_cutter.proofs.cutting.cut_pieces.Goals as goal
 
 pub returns-in-None : goal.returns-in-None
 returns-in-None c =
-    rw c.in_ok-no_cut-in-None.ensures (no_cut_says c.args.release.now c.pieces-piece-items.result.now c.loop-piece.piece-index c.piece-item.result c.loop-piece.parts.triangles c.loop-piece.parts.flats c.pieces-piece-items.ensures.pieces c.loop-piece-test.true c.piece-item.is c.loop-piece.invariant.triangles c.loop-piece.invariant.flats (rw c.in-None.is at c.in_ok-more.ensures.triangles))
+    rw c.in_ok-no_cut-in-None.ensures (no_cut_says c.args.release.now c.pieces-piece-items.result.now
+    c.loop-piece.piece-index c.piece-item.result c.loop-piece.parts.triangles c.loop-piece.parts.flats
+    c.pieces-piece-items.ensures.pieces c.loop-piece-test.true c.piece-item.is c.loop-piece.invariant.triangles
+    c.loop-piece.invariant.flats (rw c.in-None.is at c.in_ok-more.ensures.triangles))
 
 pub loop-piece-preserved : goal.loop-piece-preserved
 loop-piece-preserved c =

@@ -4,9 +4,11 @@ use Rattle.lpis_points.specs.RatPoints.{rational_of}
 use Rattle.lpis_parcels.specs.Release.{pieces_named}
 use Rattle.lpis_checker.specs.SoundMap.{IsInPiece}
 use Rattle.lpis_covers.specs.declared.piece.Piece.{Piece}
-use Rattle.lpis_cutter.specs.Refusals.{IsCovered, IsUncovered}
 use Rattle.lpis_cutter.proofs.telling.is_covered.Given as goal
 
 abbrev pub invariant-loop-piece : goal.invariant-loop-piece
 invariant-loop-piece l =
-    (All (λ (y : Piece). IsInPiece (rational_of l.p) y → ⊥) l.piece-iterator → All (λ (y : Piece). IsInPiece (rational_of l.p) y → ⊥) (pieces_named l.release l.parcel)) × (Any (IsInPiece (rational_of l.p)) l.piece-iterator → Any (IsInPiece (rational_of l.p)) (pieces_named l.release l.parcel))
+    (All (λ (y : Piece). IsInPiece (rational_of l.p) y → ⊥) l.piece-iterator
+    → All (λ (y : Piece). IsInPiece (rational_of l.p) y → ⊥) (pieces_named l.release l.parcel))
+    × (Any (IsInPiece (rational_of l.p)) l.piece-iterator → Any (IsInPiece (rational_of l.p))
+    (pieces_named l.release l.parcel))

@@ -8,4 +8,6 @@ pub returns : goal.returns
 returns c = λ t same.
     let own = edges_of c.args.parcel.now.polygon in
     let others = edges_of_pieces (pieces_named c.args.release.now c.args.parcel.now.id) in
-    uneven_edges c.args.a c.args.b own others c.count_in-own_along.result c.count_in-own_back.result c.in-Some.along c.in-Some-count_in_pieces.back (c.are_two.ensures.0 c.if-not-are_two.false) c.count_in-own_along.ensures c.count_in-own_back.ensures c.in-Some.ensures c.in-Some-count_in_pieces.ensures (c.differ.ensures t) same
+    uneven_edges c.args.a c.args.b own others c.count_in-own_along.result c.count_in-own_back.result c.in-Some.along
+    c.in-Some-count_in_pieces.back (c.are_two.ensures.0 c.if-not-are_two.false) c.count_in-own_along.ensures
+    c.count_in-own_back.ensures c.in-Some.ensures c.in-Some-count_in_pieces.ensures (c.differ.ensures t) same

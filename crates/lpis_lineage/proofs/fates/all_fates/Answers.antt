@@ -10,4 +10,6 @@ loop-row-preserved c =
     let rows = c.args.rows.now in
     let i = c.loop-row.row-index in
     let P : List Row → Type 0 = λ rs. AreFates c.args.last.now c.args.live.now rows c.note_row.new.fates rs in
-    seen-next rows i c.row-item.result P c.loop-row-test.true c.row-item.is (c.in_ok-note_row.ensures rows (take i rows) c.in_ok-named.ensures (heir-named rows i c.row-item.result c.loop-row-test.true c.row-item.is) c.loop-row.invariant)
+    seen-next rows i c.row-item.result P c.loop-row-test.true c.row-item.is
+    (c.in_ok-note_row.ensures rows (take i rows) c.in_ok-named.ensures
+    (heir-named rows i c.row-item.result c.loop-row-test.true c.row-item.is) c.loop-row.invariant)

@@ -22,14 +22,20 @@ pub returns-in_err-next_row : goal.returns-in_err-next_row
 returns-in_err-next_row c =
     let opened = rw c.columns.ensures at c.in_ok-reader.ensures in
     let p = err_from_is_err_and c.from_residual-in_err-next_row.result c.from_residual-in_err-next_row.ensures.1 in
-    rw (p.1, p.2) (rows-answered _ _ (rows-stop lineage_table c.args.bytes.now c.in_ok-reader.reader c.rows.reader c.next_row.new.self (map (λ (r : Row). r.old) c.rows.rows.items) c.rows.rows.items c.in_err-next_row.field-0.0 opened c.rows.invariant c.in_err-next_row.ensures))
+    rw (p.1, p.2)
+    (rows-answered _ _ (rows-stop lineage_table c.args.bytes.now c.in_ok-reader.reader c.rows.reader
+    c.next_row.new.self (map (λ (r : Row). r.old) c.rows.rows.items) c.rows.rows.items c.in_err-next_row.field-0.0
+    opened c.rows.invariant c.in_err-next_row.ensures))
 
 pub returns-in_err-row : goal.returns-in_err-row
 returns-in_err-row c =
     let opened = rw c.columns.ensures at c.in_ok-reader.ensures in
     let p = err_from_is_err_and c.from_residual-in_err-row.result c.from_residual-in_err-row.ensures.1 in
     let advanced = rw c.if-branch.true at c.in_ok-next_row.ensures in
-    rw (p.1, p.2) (rows-answered _ _ (rows-fault lineage_table c.args.bytes.now c.in_ok-reader.reader c.rows.reader c.next_row.new.self (map (λ (r : Row). r.old) c.rows.rows.items) c.rows.rows.items c.in_err-row.field-0.0 opened c.rows.invariant advanced c.in_err-row.ensures))
+    rw (p.1, p.2)
+    (rows-answered _ _ (rows-fault lineage_table c.args.bytes.now c.in_ok-reader.reader c.rows.reader
+    c.next_row.new.self (map (λ (r : Row). r.old) c.rows.rows.items) c.rows.rows.items c.in_err-row.field-0.0 opened
+    c.rows.invariant advanced c.in_err-row.ensures))
 
 -- a row that is told without a fault
 told-old : (faults : List TableFault) (said row : Row) → told faults said ≡ Ok row → said.old ≡ row.old
@@ -44,7 +50,8 @@ rows-preserved c =
     let old = told-old (lineage_faults now.number now.row) (row_of now.row) c.in_ok-row.row c.in_ok-row.ensures in
     let keys : map (λ (r : Row). r.old) rows ++ field_of now.row 0 ∷ [] ≡ map (λ (r : Row). r.old) (rows ++ c.in_ok-row.row ∷ []) =
     ap (λ (k : List ℕ). map (λ (r : Row). r.old) rows ++ k ∷ []) old ∙ sym (map-append (λ (r : Row). r.old) rows (c.in_ok-row.row ∷ [])) in
-    rw (c.in_ok-push.ensures.items, ← keys) (rows-step lineage_table c.in_ok-reader.reader c.rows.reader now (map (λ (r : Row). r.old) rows) rows c.in_ok-row.row c.rows.invariant advanced c.in_ok-row.ensures)
+    rw (c.in_ok-push.ensures.items, ← keys) (rows-step lineage_table c.in_ok-reader.reader c.rows.reader now
+    (map (λ (r : Row). r.old) rows) rows c.in_ok-row.row c.rows.invariant advanced c.in_ok-row.ensures)
 
 pub returns : goal.returns
 returns c =

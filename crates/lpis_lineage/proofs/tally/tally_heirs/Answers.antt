@@ -12,6 +12,11 @@ loop-row-preserved c =
     let rows = c.args.rows.now in
     let T : Tally → Type 0 = λ t. IsTally t (heirs (take (i + 1) rows)) in
     elim c.match-row.branch [
-      | in-None w ↦ subst T (sym w.tally-is) (let P : List (List ℕ) → Type 0 = λ l. IsTally c.loop-row.tally l in subst P (heirs-none rows i c.row-item.result c.loop-row-test.true c.row-item.is w.in-None.is) c.loop-row.invariant)
-      | in-Some+in_ok-note-in-Some w ↦ subst T (sym w.tally-is) (let P : List (List ℕ) → Type 0 = λ l. IsTally w.note.new.self l in subst P (heirs-some rows i c.row-item.result w.in-Some.heir c.loop-row-test.true c.row-item.is w.in-Some.is) (w.in_ok-note-in-Some.ensures (heirs (take i rows)) c.loop-row.invariant))
+      | in-None w ↦ subst T (sym w.tally-is) (let P : List (List ℕ) → Type 0 = λ l. IsTally c.loop-row.tally l in
+          subst P (heirs-none rows i c.row-item.result c.loop-row-test.true c.row-item.is w.in-None.is)
+          c.loop-row.invariant)
+      | in-Some+in_ok-note-in-Some w ↦ subst T (sym w.tally-is) (let P : List (List ℕ) → Type 0 =
+          λ l. IsTally w.note.new.self l in
+          subst P (heirs-some rows i c.row-item.result w.in-Some.heir c.loop-row-test.true c.row-item.is w.in-Some.is)
+          (w.in_ok-note-in-Some.ensures (heirs (take i rows)) c.loop-row.invariant))
     ]

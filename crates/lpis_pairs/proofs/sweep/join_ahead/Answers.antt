@@ -38,7 +38,10 @@ returns-then-not-is_met-clause-found c =
     let es = c.args.entries.now in
     let at = c.args.at in
     let m = c.loop-m.m in
-    found_all c.args.triangles.now es c.args.pairs.now.items c.loop-m.pairs.items at m (get_or es at none) (get_or es m none) c.requires.order (omega (arith, c.loop-m.auto.m)) (slice_get-get_or es at none c.requires.within) (slice_get-get_or es m none c.loop-m-test.true) (λ s l. untrue c.is_met.result c.if-not-is_met.true (c.is_met.ensures.1 (s, l))) c.loop-m.invariant
+    found_all c.args.triangles.now es c.args.pairs.now.items c.loop-m.pairs.items at m (get_or es at none)
+    (get_or es m none) c.requires.order (omega (arith, c.loop-m.auto.m))
+    (slice_get-get_or es at none c.requires.within) (slice_get-get_or es m none c.loop-m-test.true)
+    (λ s l. untrue c.is_met.result c.if-not-is_met.true (c.is_met.ensures.1 (s, l))) c.loop-m.invariant
 
 pub loop-m-preserved : goal.loop-m-preserved
 unfolding none
@@ -57,7 +60,8 @@ loop-m-preserved c =
       | then-one_starts+in_ok-push_near w ↦
           let qs = w.push_near.new.pairs.items in
           let j : Joins ts es qs at m = joins_read ts es qs at m e f at_e at_f (λ s l o. (w.in_ok-push_near.ensures.up, w.in_ok-push_near.ensures.down)) in
-          subst (λ (v : Vec (ℕ × ℕ) Global). JoinsUpTo ts es old v.items at (m + 1)) (sym w.pairs-is) (joined_next ts es old ps qs at m c.loop-m.invariant w.push_near.ensures.kept w.push_near.ensures.near j)
+          subst (λ (v : Vec (ℕ × ℕ) Global). JoinsUpTo ts es old v.items at (m + 1)) (sym w.pairs-is)
+          (joined_next ts es old ps qs at m c.loop-m.invariant w.push_near.ensures.kept w.push_near.ensures.near j)
       | else-one_starts w ↦
           let j : Joins ts es ps at m = joins_read ts es ps at m e f at_e at_f (λ s l o. absurd (unequal (e.starts || f.starts) c.one_starts.result c.one_starts.ensures w.if-one_starts.false o)) in
           subst (λ (v : Vec (ℕ × ℕ) Global). JoinsUpTo ts es old v.items at (m + 1)) (sym w.pairs-is) (joined_next ts es old ps ps at m c.loop-m.invariant (λ p h. h) (λ h. h) j)

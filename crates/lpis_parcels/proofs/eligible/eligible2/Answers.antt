@@ -15,7 +15,12 @@ loop-place-preserved c =
     let item = item-within c.args.release.now.pieces (get_or places i 0) (c.places_of-place-items.ensures.within i 0 c.loop-place-test.true) in
     let few : i < 200000 = omega (arith, c.loop-place-test.true, c.places_of-place-items.ensures.few, c.pieces.ensures.few) in
     let more = sum-more sum c.eligible_part-sum.result i c.loop-place.invariant.1 c.eligible_part-sum.ensures.small few in
-    rw more.0 (eligible-added c.args.release.now places i (get_or places i 0) item.0 sum c.eligible_part-sum.result _ c.loop-place-test.true (any-default places i 0 (get_or places i 0) c.loop-place-test.true) item.1 (c.eligible_part-sum.ensures.value item.0 item.1) c.loop-place.invariant.0, more.1)
+    rw more.0 (
+      eligible-added c.args.release.now places i (get_or places i 0) item.0 sum c.eligible_part-sum.result _
+          c.loop-place-test.true (any-default places i 0 (get_or places i 0) c.loop-place-test.true) item.1
+          (c.eligible_part-sum.ensures.value item.0 item.1) c.loop-place.invariant.0,
+      more.1,
+    )
 
 pub returns : goal.returns
 returns c = eligible-end c.args.release.now c.places_of-place-items.result.now c.loop-place.place-index _ _ c.loop-place-test.false c.loop-place.invariant.0

@@ -26,6 +26,7 @@ loop-i-preserved c =
     subst (λ (ps : List Piece). slice_get ps c.loop-i.i ≡ Some c.piece-item.result) all
     (slice_get_read c.as_slice-piece-items.result.now _ c.loop-i.i c.piece-item.result refl c.loop-i-test.true c.piece-item.is) in (
       c.loop-i.invariant.0 ∙ pieces-more c.args.parcels.now c.args.classes.now (c.loop-i.i + 1) c.loop-i.i c.args.pieces.now c.piece-item.result at c.in_ok-parcel.ensures.none,
-      joins-more c.args.parcels.now c.args.pieces.now c.args.classes.now (group_lists c.loop-i.groups.items) _ c.loop-i.class_places.items _ c.loop-i.i c.in_ok-parcel.parcel c.in_ok-parcel.class c.piece-item.result
+      joins-more c.args.parcels.now c.args.pieces.now c.args.classes.now (group_lists c.loop-i.groups.items) _
+          c.loop-i.class_places.items _ c.loop-i.i c.in_ok-parcel.parcel c.in_ok-parcel.class c.piece-item.result
           c.as_slice.ensures.distinct c.requires at c.in_ok-parcel.ensures.parcel c.in_ok-parcel.ensures.class c.loop-i.invariant.1 c.in_ok-add_to_group.ensures c.in_ok-push.ensures.items,
     )

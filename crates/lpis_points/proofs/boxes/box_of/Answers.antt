@@ -5,14 +5,16 @@ use Rattle.lpis_points.specs.Range.{IsInRange}
 use Rattle.lpis_points.specs.Triangles.{greatest, least}
 use Rattle.lpis_points.proofs.boxes.box_of.Goals as goal
 
-four : {x0 y0 x1 y1 x0' y0' x1' y1' : ℤ} → x0 ≡ x0' → y0 ≡ y0' → x1 ≡ x1' → y1 ≡ y1' → ◌≡◌ {A = Box4} (record { x0 = x0; y0 = y0; x1 = x1; y1 = y1 }) (record { x0 = x0'; y0 = y0'; x1 = x1'; y1 = y1' })
+four : {x0 y0 x1 y1 x0' y0' x1' y1' : ℤ} → x0 ≡ x0' → y0 ≡ y0' → x1 ≡ x1' → y1 ≡ y1'
+    → ◌≡◌ {A = Box4} (record { x0 = x0; y0 = y0; x1 = x1; y1 = y1 }) (record { x0 = x0'; y0 = y0'; x1 = x1'; y1 = y1' })
 four p q r s = cc
 
 fits : (z : ℤ) → IsInRange z → SFits w64 z
 fits z h = omega (arith, ints, h.0, h.1)
 
 -- a number that a helper answered, as the code hands it on
-read : (f : ℤ → ℤ → ℤ → ℤ) (a b c r : ℤ) → IsInRange a → IsInRange b → IsInRange c → SFits w64 r → r ≡ f (to_z w64 (of_z w64 a)) (to_z w64 (of_z w64 b)) (to_z w64 (of_z w64 c)) → to_z w64 (of_z w64 r) ≡ f a b c
+read : (f : ℤ → ℤ → ℤ → ℤ) (a b c r : ℤ) → IsInRange a → IsInRange b → IsInRange c → SFits w64 r
+    → r ≡ f (to_z w64 (of_z w64 a)) (to_z w64 (of_z w64 b)) (to_z w64 (of_z w64 c)) → to_z w64 (of_z w64 r) ≡ f a b c
 read f a b c r h k l i e =
     let p = to_z-of_z (fits a h) in
     let q = to_z-of_z (fits b k) in

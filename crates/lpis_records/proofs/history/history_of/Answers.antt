@@ -49,7 +49,9 @@ returns-in_err-lines-clause-unlawful c =
 
 pub returns-then-not-once-clause-unlawful : goal.returns-then-not-once-clause-unlawful
 returns-then-not-once-clause-unlawful c = λ _ h t. c.in_ok-once.ensures.twice c.if-not-once.true
-    (subst (λ (l : List KnownSpan). (id : List ℕ) → length (filter (λ s. same_id id s.id) l) ≤ 1) (sym c.as_slice.ensures.value) (told-few h c.in_ok-spans.spans.items c.args.rows.now.spans (c.in_ok-spans.ensures.same ∙ c.spans.ensures) t.spans_are))
+    (subst (λ (l : List KnownSpan). (id : List ℕ) → length (filter (λ s. same_id id s.id) l) ≤ 1)
+    (sym c.as_slice.ensures.value) (told-few h c.in_ok-spans.spans.items c.args.rows.now.spans
+    (c.in_ok-spans.ensures.same ∙ c.spans.ensures) t.spans_are))
 
 pub returns-in_err-history-clause-unlawful : goal.returns-in_err-history-clause-unlawful
 returns-in_err-history-clause-unlawful c =
@@ -57,16 +59,24 @@ returns-in_err-history-clause-unlawful c =
     rw (p.1, p.2) (λ e h t.
     let said = told-said c.args.rows.now h c.in_ok-spans.spans.items c.in_ok-lines.lines.items t (c.in_ok-spans.ensures.same ∙ c.spans.ensures)
     (subst (λ (l : List Line). IsPermutation l (map line_in c.in_ok-lines.lines.items)) c.lines.ensures c.in_ok-lines.ensures.same) c.in_ok-lines.ensures.sorted c.in_ok-lines.ensures.texts in
-    let years = told-sorted-years h c.args.rows.now.years c.in_ok-years.years.items t.kept c.in_ok-years.ensures.sorted (subst (λ (l : List ℤ). IsPermutation l (map (λ y. pos y) c.in_ok-years.years.items)) c.years.ensures c.in_ok-years.ensures.same) t.years_are in
-    c.in_err-history.ensures.refused e h (subst (λ (l : List KnownSpan). IsSaid l c.as_slice-4.result.now h) (sym c.as_slice-3.ensures.value) (subst (λ (l : List KnownLine). IsSaid c.in_ok-spans.spans.items l h) (sym c.as_slice-4.ensures.value) said))
+    let years = told-sorted-years h c.args.rows.now.years c.in_ok-years.years.items t.kept c.in_ok-years.ensures.sorted
+    (subst (λ (l : List ℤ). IsPermutation l (map (λ y. pos y) c.in_ok-years.years.items)) c.years.ensures
+    c.in_ok-years.ensures.same) t.years_are in
+    c.in_err-history.ensures.refused e h (subst (λ (l : List KnownSpan). IsSaid l c.as_slice-4.result.now h)
+    (sym c.as_slice-3.ensures.value) (subst (λ (l : List KnownLine). IsSaid c.in_ok-spans.spans.items l h)
+    (sym c.as_slice-4.ensures.value) said))
     (subst (λ (l : List ℕ). years_of h ≡ map (λ y. pos y) l) (sym c.as_slice-2.ensures.value) years))
 
 pub returns-then-not-are_told-clause-unlawful : goal.returns-then-not-are_told-clause-unlawful
 returns-then-not-are_told-clause-unlawful c = λ _ h t.
     let said = told-said c.args.rows.now h c.in_ok-spans.spans.items c.in_ok-lines.lines.items t (c.in_ok-spans.ensures.same ∙ c.spans.ensures)
     (subst (λ (l : List Line). IsPermutation l (map line_in c.in_ok-lines.lines.items)) c.lines.ensures c.in_ok-lines.ensures.same) c.in_ok-lines.ensures.sorted c.in_ok-lines.ensures.texts in
-    let years = told-sorted-years h c.args.rows.now.years c.in_ok-years.years.items t.kept c.in_ok-years.ensures.sorted (subst (λ (l : List ℤ). IsPermutation l (map (λ y. pos y) c.in_ok-years.years.items)) c.years.ensures c.in_ok-years.ensures.same) t.years_are in
-    let same = c.in_ok-history.ensures.same h (subst (λ (l : List KnownSpan). IsSaid l c.as_slice-4.result.now h) (sym c.as_slice-3.ensures.value) (subst (λ (l : List KnownLine). IsSaid c.in_ok-spans.spans.items l h) (sym c.as_slice-4.ensures.value) said))
+    let years = told-sorted-years h c.args.rows.now.years c.in_ok-years.years.items t.kept c.in_ok-years.ensures.sorted
+    (subst (λ (l : List ℤ). IsPermutation l (map (λ y. pos y) c.in_ok-years.years.items)) c.years.ensures
+    c.in_ok-years.ensures.same) t.years_are in
+    let same = c.in_ok-history.ensures.same h (subst (λ (l : List KnownSpan). IsSaid l c.as_slice-4.result.now h)
+    (sym c.as_slice-3.ensures.value) (subst (λ (l : List KnownLine). IsSaid c.in_ok-spans.spans.items l h)
+    (sym c.as_slice-4.ensures.value) said))
     (subst (λ (l : List ℕ). years_of h ≡ map (λ y. pos y) l) (sym c.as_slice-2.ensures.value) years) in
     no-both c.are_told.result (c.are_told.ensures.1 (subst (λ (l : List KnownSpan). All (λ s. IsSpanRow c.in_ok-history.history (span_in s)) l) (sym c.as_slice-5.ensures.value)
     (told-right c.in_ok-history.history h c.in_ok-spans.spans.items c.args.rows.now.spans (c.in_ok-spans.ensures.same ∙ c.spans.ensures) t.spans_are same))) c.if-not-are_told.true

@@ -6,10 +6,13 @@ use Rattle.lpis_records.specs.private.Known.{HasText, line_in}
 use Rattle.lpis_records.proofs.known.read_lines.Goals as goal
 
 pub returns-clause-same : goal.returns-clause-same
-returns-clause-same c = subst (λ (l : List Line). IsPermutation l (map line_in c.sort_unstable_by_key.new.self.items)) c.in_ok-known.ensures.same (IsPermutation-map line_in c.in_ok-known.known.items c.sort_unstable_by_key.new.self.items c.sort_unstable_by_key.ensures.permutation)
+returns-clause-same c = subst (λ (l : List Line). IsPermutation l (map line_in c.sort_unstable_by_key.new.self.items))
+    c.in_ok-known.ensures.same (IsPermutation-map line_in c.in_ok-known.known.items
+    c.sort_unstable_by_key.new.self.items c.sort_unstable_by_key.ensures.permutation)
 
 pub returns-clause-texts : goal.returns-clause-texts
-returns-clause-texts c = All-permutation (λ (k : KnownLine). HasText k.row) c.in_ok-known.known.items c.sort_unstable_by_key.new.self.items c.sort_unstable_by_key.ensures.permutation c.in_ok-known.ensures.texts
+returns-clause-texts c = All-permutation (λ (k : KnownLine). HasText k.row) c.in_ok-known.known.items
+    c.sort_unstable_by_key.new.self.items c.sort_unstable_by_key.ensures.permutation c.in_ok-known.ensures.texts
 
 pub returns-clause-sorted : goal.returns-clause-sorted
 returns-clause-sorted c = c.sort_unstable_by_key.ensures.sorted (λ (k : KnownLine). (k.year, k.place)) (answers_always _ _ _ (λ f a r g h. search rules))

@@ -4,7 +4,9 @@ use Rattle.lpis_records.specs.Tells.{last_of_years}
 use Rattle.lpis_records.proofs.known.sorted_years.Goals as goal
 
 pub returns-clause-same : goal.returns-clause-same
-returns-clause-same c = subst (λ (l : List ℤ). IsPermutation l (map (λ y. pos y) c.sort_unstable.new.self.items)) c.in_ok-sorted.ensures.same (IsPermutation-map (λ y. pos y) c.in_ok-sorted.sorted.items c.sort_unstable.new.self.items c.sort_unstable.ensures.permutation)
+returns-clause-same c = subst (λ (l : List ℤ). IsPermutation l (map (λ y. pos y) c.sort_unstable.new.self.items))
+    c.in_ok-sorted.ensures.same (IsPermutation-map (λ y. pos y) c.in_ok-sorted.sorted.items
+    c.sort_unstable.new.self.items c.sort_unstable.ensures.permutation)
 
 pub returns-clause-small : goal.returns-clause-small
 returns-clause-small c = All-permutation (λ (y : ℕ). y ≤ last_of_years) c.in_ok-sorted.sorted.items c.sort_unstable.new.self.items c.sort_unstable.ensures.permutation c.in_ok-sorted.ensures.small

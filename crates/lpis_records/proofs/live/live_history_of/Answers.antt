@@ -27,7 +27,10 @@ returns-clause-ok c =
     (subst (λ (l : List ℕ). years_of h ≡ map (λ y. pos y) l) c.as_slice-3.ensures.value c.in_ok-history.ensures.years)
     (subst (λ (l : List KnownSpan). SetsAre (map span_in l) h) c.as_slice-4.ensures.value c.in_ok-history.ensures.sets)
     (subst (λ (l : List KnownLine). lines_of h ≡ map line_in l) c.as_slice-5.ensures.value c.in_ok-history.ensures.lines)
-    (subst (λ (l : List KnownSpan). All (λ s. Contains (map (λ y. pos y) c.in_ok-years.years.items) s.since) l) c.as_slice-2.ensures.value (subst (λ (l : List ℕ). All (λ s. Contains (map (λ y. pos y) l) s.since) c.as_slice-2.result.now) c.as_slice.ensures.value (c.have_years.ensures.0 c.if-not-have_years.false)))
+    (subst (λ (l : List KnownSpan). All (λ s. Contains (map (λ y. pos y) c.in_ok-years.years.items) s.since) l)
+    c.as_slice-2.ensures.value
+    (subst (λ (l : List ℕ). All (λ s. Contains (map (λ y. pos y) l) s.since) c.as_slice-2.result.now)
+    c.as_slice.ensures.value (c.have_years.ensures.0 c.if-not-have_years.false)))
 
 pub returns-then-not-has_version-clause-unlawful : goal.returns-then-not-has_version-clause-unlawful
 returns-then-not-has_version-clause-unlawful c = λ _ h t. no-both c.has_version.result (c.has_version.ensures.1 (c.formats.ensures ∙ t.formats_are)) c.if-not-has_version.true
@@ -49,17 +52,27 @@ returns-in_err-lines-clause-unlawful c =
 
 pub returns-then-not-have_years-clause-unlawful : goal.returns-then-not-have_years-clause-unlawful
 returns-then-not-have_years-clause-unlawful c = λ _ h t.
-    let years = told-sorted-years h c.args.rows.now.years c.in_ok-years.years.items t.kept c.in_ok-years.ensures.sorted (subst (λ (l : List ℤ). IsPermutation l (map (λ y. pos y) c.in_ok-years.years.items)) c.years.ensures c.in_ok-years.ensures.same) t.years_are in
+    let years = told-sorted-years h c.args.rows.now.years c.in_ok-years.years.items t.kept c.in_ok-years.ensures.sorted
+    (subst (λ (l : List ℤ). IsPermutation l (map (λ y. pos y) c.in_ok-years.years.items)) c.years.ensures
+    c.in_ok-years.ensures.same) t.years_are in
     no-both c.have_years.result (c.have_years.ensures.1 (subst (λ (l : List ℕ). All (λ s. Contains (map (λ y. pos y) l) s.since) c.as_slice-2.result.now) (sym c.as_slice.ensures.value)
     (subst (λ (l : List KnownSpan). All (λ s. Contains (map (λ y. pos y) c.in_ok-years.years.items) s.since) l) (sym c.as_slice-2.ensures.value)
-    (live-years h c.args.rows.now.live c.in_ok-spans.spans.items (map (λ y. pos y) c.in_ok-years.years.items) t.live_are (subst (λ (l : List Live). map span_in c.in_ok-spans.spans.items ≡ map one_year l) c.live.ensures c.in_ok-spans.ensures.same) years)))) c.if-not-have_years.true
+    (live-years h c.args.rows.now.live c.in_ok-spans.spans.items (map (λ y. pos y) c.in_ok-years.years.items) t.live_are
+    (subst (λ (l : List Live). map span_in c.in_ok-spans.spans.items ≡ map one_year l) c.live.ensures
+    c.in_ok-spans.ensures.same) years)))) c.if-not-have_years.true
 
 pub returns-in_err-history-clause-unlawful : goal.returns-in_err-history-clause-unlawful
 returns-in_err-history-clause-unlawful c =
     let p = err_from_is_err_and c.from_residual-in_err-history.result c.from_residual-in_err-history.ensures.1 in
     rw (p.1, p.2) (λ e h t.
-    let said = live-said c.args.rows.now h c.in_ok-spans.spans.items c.in_ok-lines.lines.items t (subst (λ (l : List Live). map span_in c.in_ok-spans.spans.items ≡ map one_year l) c.live.ensures c.in_ok-spans.ensures.same)
+    let said = live-said c.args.rows.now h c.in_ok-spans.spans.items c.in_ok-lines.lines.items t
+    (subst (λ (l : List Live). map span_in c.in_ok-spans.spans.items ≡ map one_year l) c.live.ensures
+    c.in_ok-spans.ensures.same)
     (subst (λ (l : List Line). IsPermutation l (map line_in c.in_ok-lines.lines.items)) c.lines.ensures c.in_ok-lines.ensures.same) c.in_ok-lines.ensures.sorted c.in_ok-lines.ensures.texts in
-    let years = told-sorted-years h c.args.rows.now.years c.in_ok-years.years.items t.kept c.in_ok-years.ensures.sorted (subst (λ (l : List ℤ). IsPermutation l (map (λ y. pos y) c.in_ok-years.years.items)) c.years.ensures c.in_ok-years.ensures.same) t.years_are in
-    c.in_err-history.ensures.refused e h (subst (λ (l : List KnownSpan). IsSaid l c.as_slice-5.result.now h) (sym c.as_slice-4.ensures.value) (subst (λ (l : List KnownLine). IsSaid c.in_ok-spans.spans.items l h) (sym c.as_slice-5.ensures.value) said))
+    let years = told-sorted-years h c.args.rows.now.years c.in_ok-years.years.items t.kept c.in_ok-years.ensures.sorted
+    (subst (λ (l : List ℤ). IsPermutation l (map (λ y. pos y) c.in_ok-years.years.items)) c.years.ensures
+    c.in_ok-years.ensures.same) t.years_are in
+    c.in_err-history.ensures.refused e h (subst (λ (l : List KnownSpan). IsSaid l c.as_slice-5.result.now h)
+    (sym c.as_slice-4.ensures.value) (subst (λ (l : List KnownLine). IsSaid c.in_ok-spans.spans.items l h)
+    (sym c.as_slice-5.ensures.value) said))
     (subst (λ (l : List ℕ). years_of h ≡ map (λ y. pos y) l) (sym c.as_slice-3.ensures.value) years))

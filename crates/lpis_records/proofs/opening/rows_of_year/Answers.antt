@@ -17,7 +17,9 @@ lines-preserved c = (
 )
 
 pub returns-clause-run : goal.returns-clause-run
-returns-clause-run c = λ stop run. run-end (map line_in c.args.lines.now) c.args.from c.args.year stop c.lines.next (length c.lines.rows.items) run (c.lines.invariant.4 stop run) c.lines.invariant.2 (λ e. no-both c.is_of_year.result (c.is_of_year.ensures.year.1 e) c.lines-test.false)
+returns-clause-run c = λ stop run. run-end (map line_in c.args.lines.now) c.args.from c.args.year stop c.lines.next
+    (length c.lines.rows.items) run (c.lines.invariant.4 stop run) c.lines.invariant.2
+    (λ e. no-both c.is_of_year.result (c.is_of_year.ensures.year.1 e) c.lines-test.false)
 
 pub returns-in_err-row-clause-refused : goal.returns-in_err-row-clause-refused
 returns-in_err-row-clause-refused c =
@@ -25,4 +27,6 @@ returns-in_err-row-clause-refused c =
     rw (p.1, p.2) (λ e stop run.
     let year = c.is_of_year.ensures.year.0 c.lines-test.true in
     let more = run-more (map line_in c.args.lines.now) c.args.from c.args.year stop c.lines.next run (c.lines.invariant.4 stop run) year in
-    c.in_err-row.ensures.refused e year (run-place (map line_in c.args.lines.now) c.args.from c.args.year stop c.lines.next c.len.result run (let n = c.lines.invariant.2 in let m = c.len.ensures in omega (arith, n, m)) more))
+    c.in_err-row.ensures.refused e year (run-place (map line_in c.args.lines.now) c.args.from c.args.year stop
+    c.lines.next c.len.result run (let n = c.lines.invariant.2 in let m = c.len.ensures in omega (arith, n, m))
+    more))

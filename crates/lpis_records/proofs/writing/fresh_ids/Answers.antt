@@ -5,4 +5,7 @@ use Rattle.lpis_records.proofs.writing.fresh_ids.Goals as goal
 
 pub returns : goal.returns
 returns c =
-    rw (dedup_is same_id _ _ c.dedup.ensures.filtered) (fresh-sorted c.args.history.now c.args.live.now c.in_ok-fresh.fresh.items c.sort_unstable.new.self.items c.in_ok-fresh.ensures.list c.in_ok-fresh.ensures.ids c.sort_unstable.ensures.permutation c.sort_unstable.ensures.sorted)
+    rw (dedup_is same_id _ _ c.dedup.ensures.filtered)
+    (fresh-sorted c.args.history.now c.args.live.now c.in_ok-fresh.fresh.items c.sort_unstable.new.self.items
+    c.in_ok-fresh.ensures.list c.in_ok-fresh.ensures.ids c.sort_unstable.ensures.permutation
+    c.sort_unstable.ensures.sorted)

@@ -19,7 +19,9 @@ returns-in-Ok-clause-none g c clean up bare =
     let none = c.tables_in-found.ensures.bare (c.schema.ensures.value ∙ bare.schema) in
     let is_new : IsTrue (not c.tables_in-found.result.format) = ap not none.0 in
     let stored = c.in-Ok.ensures.made is_new (c.open_found-in-Ok.ensures.clean clean) bare in
-    none_found (state g.S.Store c.open_found-in-Ok.new.conn) c.open_found-in-Ok.result c.order_of_rows_is_free.ensures.nothing (c.open_found-in-Ok.ensures.err clean up New refl none.2 no_content stored)
+    none_found (state g.S.Store c.open_found-in-Ok.new.conn) c.open_found-in-Ok.result
+    c.order_of_rows_is_free.ensures.nothing (c.open_found-in-Ok.ensures.err clean up New refl none.2 no_content
+    stored)
 
 pub returns-in-Ok-clause-lawful : goal.returns-in-Ok-clause-lawful
 returns-in-Ok-clause-lawful g c clean bare =

@@ -18,9 +18,13 @@ returns-in_err-rows-clause-crash g c = nothing_done _ (state g.S.Store c.args.co
 pub returns-in-Ok-clause-crash : goal.returns-in-Ok-clause-crash
 returns-in-Ok-clause-crash g c =
     moved_settled c.args.spans c.args.lives (state g.S.Store c.args.conn.now) (state g.S.Store c.write_moved.new.conn) c.as_slice.result.now c.args.history.now
-    (λ content told. c.moving_keeps_the_history.ensures content _ c.args.history.now told (subst (λ (l : List Span). SpansTell l c.args.history.now) (sym c.as_slice.ensures.value) c.in_ok-rows.ensures)) c.write_moved.ensures.crash
+    (λ content told. c.moving_keeps_the_history.ensures content _ c.args.history.now told
+    (subst (λ (l : List Span). SpansTell l c.args.history.now) (sym c.as_slice.ensures.value) c.in_ok-rows.ensures))
+    c.write_moved.ensures.crash
 
 pub returns-clause-crash : goal.returns-clause-crash
 returns-clause-crash g c =
     moved_settled c.args.spans c.args.lives (state g.S.Store c.args.conn.now) (state g.S.Store c.write_moved.new.conn) c.as_slice.result.now c.args.history.now
-    (λ content told. c.moving_keeps_the_history.ensures content _ c.args.history.now told (subst (λ (l : List Span). SpansTell l c.args.history.now) (sym c.as_slice.ensures.value) c.in_ok-rows.ensures)) c.write_moved.ensures.crash
+    (λ content told. c.moving_keeps_the_history.ensures content _ c.args.history.now told
+    (subst (λ (l : List Span). SpansTell l c.args.history.now) (sym c.as_slice.ensures.value) c.in_ok-rows.ensures))
+    c.write_moved.ensures.crash

@@ -22,7 +22,8 @@ returns-in-Ok-clause-crash g c =
     let second : c.args.is_first ≡ false = search rules in
     let old = state g.S.Store c.args.conn.now in
     let new = state g.S.Store c.add_spans.new.conn in
-    subst (λ b. Survives old new (LeavesSettled c.args.spans c.args.lives b c.args.history.now old)) (sym second) (beside_settled c.args.spans c.args.lives old new c.args.history.now off c.add_spans.ensures.crash)
+    subst (λ b. Survives old new (LeavesSettled c.args.spans c.args.lives b c.args.history.now old)) (sym second)
+    (beside_settled c.args.spans c.args.lives old new c.args.history.now off c.add_spans.ensures.crash)
 
 pub returns-in-Err-clause-crash : goal.returns-in-Err-clause-crash
 returns-in-Err-clause-crash g c =
@@ -30,4 +31,5 @@ returns-in-Err-clause-crash g c =
     let second : c.args.is_first ≡ false = search rules in
     let old = state g.S.Store c.args.conn.now in
     let new = state g.S.Store c.add_spans.new.conn in
-    subst (λ b. Survives old new (LeavesSettled c.args.spans c.args.lives b c.args.history.now old)) (sym second) (beside_settled c.args.spans c.args.lives old new c.args.history.now off c.add_spans.ensures.crash)
+    subst (λ b. Survives old new (LeavesSettled c.args.spans c.args.lives b c.args.history.now old)) (sym second)
+    (beside_settled c.args.spans c.args.lives old new c.args.history.now off c.add_spans.ensures.crash)

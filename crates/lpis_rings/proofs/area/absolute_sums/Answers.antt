@@ -11,14 +11,16 @@ overflow_add-sum c =
     let i = c.loop-ring.ring-index in
     let points = points_in-more c.args.rings.now i c.ring-item.result c.loop-ring-test.true c.ring-item.is in
     let few : points_in (take i c.args.rings.now) + length c.ring-item.result < 18446744073709551616 = omega (arith, points.1, c.requires) in
-    (sum-more (to_z w128 c.loop-ring.sum-bits) c.absolute_sum-sum.result (points_in (take i c.args.rings.now)) (length c.ring-item.result) c.loop-ring.invariant.1 c.absolute_sum-sum.ensures.small few).0
+    (sum-more (to_z w128 c.loop-ring.sum-bits) c.absolute_sum-sum.result (points_in (take i c.args.rings.now))
+    (length c.ring-item.result) c.loop-ring.invariant.1 c.absolute_sum-sum.ensures.small few).0
 
 pub loop-ring-preserved : goal.loop-ring-preserved
 loop-ring-preserved c =
     let i = c.loop-ring.ring-index in
     let points = points_in-more c.args.rings.now i c.ring-item.result c.loop-ring-test.true c.ring-item.is in
     let few : points_in (take i c.args.rings.now) + length c.ring-item.result < 18446744073709551616 = omega (arith, points.1, c.requires) in
-    let more = sum-more (to_z w128 c.loop-ring.sum-bits) c.absolute_sum-sum.result (points_in (take i c.args.rings.now)) (length c.ring-item.result) c.loop-ring.invariant.1 c.absolute_sum-sum.ensures.small few in
+    let more = sum-more (to_z w128 c.loop-ring.sum-bits) c.absolute_sum-sum.result (points_in (take i c.args.rings.now))
+    (length c.ring-item.result) c.loop-ring.invariant.1 c.absolute_sum-sum.ensures.small few in
     let next = absolute_sums-more c.args.rings.now i c.ring-item.result c.loop-ring-test.true c.ring-item.is in
     let sum : to_z w128 c.loop-ring.sum-bits +ℤ c.absolute_sum-sum.result ≡ absolute_sums (take (i + 1) c.args.rings.now) =
     rw (c.loop-ring.invariant.0, c.absolute_sum-sum.ensures.value) (sym next) in

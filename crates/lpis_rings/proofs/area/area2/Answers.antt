@@ -24,7 +24,8 @@ overflow_add-sum c =
     let points = points_of-more ms i c.member-item.result c.loop-member-test.true c.member-item.is in
     let all = few ms c.args.polygon.now c.members-members.ensures.same c.members-members.ensures.polygon.few in
     let fit : points_of (take i ms) + member_points c.member-item.result < 18446744073709551616 = omega (arith, points.1, all) in
-    (sum-more (to_z w128 c.loop-member.sum-bits) c.member_area2-sum.result (points_of (take i ms)) (member_points c.member-item.result) c.loop-member.invariant.1 c.member_area2-sum.ensures.small fit).0
+    (sum-more (to_z w128 c.loop-member.sum-bits) c.member_area2-sum.result (points_of (take i ms))
+    (member_points c.member-item.result) c.loop-member.invariant.1 c.member_area2-sum.ensures.small fit).0
 
 pub loop-member-preserved : goal.loop-member-preserved
 loop-member-preserved c =
@@ -33,7 +34,8 @@ loop-member-preserved c =
     let points = points_of-more ms i c.member-item.result c.loop-member-test.true c.member-item.is in
     let all = few ms c.args.polygon.now c.members-members.ensures.same c.members-members.ensures.polygon.few in
     let fit : points_of (take i ms) + member_points c.member-item.result < 18446744073709551616 = omega (arith, points.1, all) in
-    let more = sum-more (to_z w128 c.loop-member.sum-bits) c.member_area2-sum.result (points_of (take i ms)) (member_points c.member-item.result) c.loop-member.invariant.1 c.member_area2-sum.ensures.small fit in
+    let more = sum-more (to_z w128 c.loop-member.sum-bits) c.member_area2-sum.result (points_of (take i ms))
+    (member_points c.member-item.result) c.loop-member.invariant.1 c.member_area2-sum.ensures.small fit in
     let next = area2-more ms i c.member-item.result c.loop-member-test.true c.member-item.is in
     let sum : to_z w128 c.loop-member.sum-bits +ℤ c.member_area2-sum.result ≡ area2 (take (i + 1) ms) = rw (c.loop-member.invariant.0, c.member_area2-sum.ensures.value) (sym next) in
     rw more.1 (sum, rw points.0 more.2)

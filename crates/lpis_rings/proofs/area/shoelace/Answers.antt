@@ -22,7 +22,9 @@ overflow_add-sum c = (sum-more (to_z w128 c.loop-i.sum-bits) c.shoelace_term-sum
 pub loop-i-preserved : goal.loop-i-preserved
 loop-i-preserved c =
     let more = sum-more (to_z w128 c.loop-i.sum-bits) c.shoelace_term-sum.result (c.loop-i.i - 1) 1 c.loop-i.invariant.1 c.shoelace_term-sum.ensures.small (omega arith) in
-    let next = edge-more (to_z w128 c.loop-i.sum-bits) c.loop-i.i c.points-points.result.now c.index-points-i.result c.index-points-i-in-loop-i.result c.loop-i.auto.i c.loop-i-test.true c.index-points-i.is c.index-points-i-in-loop-i.is c.loop-i.invariant.0 in
+    let next = edge-more (to_z w128 c.loop-i.sum-bits) c.loop-i.i c.points-points.result.now c.index-points-i.result
+    c.index-points-i-in-loop-i.result c.loop-i.auto.i c.loop-i-test.true c.index-points-i.is
+    c.index-points-i-in-loop-i.is c.loop-i.invariant.0 in
     let same : c.loop-i.i - 1 + 1 ≡ c.loop-i.i + 1 - 1 = omega (arith, c.loop-i.auto.i) in
     rw more.1 (rw c.shoelace_term-sum.ensures.value next, rw same at more.2)
 
@@ -32,4 +34,6 @@ returns-clause-value c = edges-done (to_z w128 c.loop-i.sum-bits) c.loop-i.i c.p
 pub returns-clause-small : goal.returns-clause-small
 returns-clause-small c =
     let four = c.points-points.ensures.ring.four in
-    within (to_z w128 c.loop-i.sum-bits) (length c.points-points.result.now) c.loop-i.i (length c.args.ring.now) c.loop-i.invariant.1 (c.loop-i.auto.i-end (omega (arith, ap length c.points-points.ensures.same))) (ap length c.points-points.ensures.same)
+    within (to_z w128 c.loop-i.sum-bits) (length c.points-points.result.now) c.loop-i.i (length c.args.ring.now)
+    c.loop-i.invariant.1 (c.loop-i.auto.i-end (omega (arith, ap length c.points-points.ensures.same)))
+    (ap length c.points-points.ensures.same)

@@ -33,7 +33,8 @@ returns-clause-err g c clean up content r =
     let begun = begun_inside First g.S.Store c.args.conn.now first content c.transaction-tx.ensures.begun r in
     let inside = c.in_ok-make_span.ensures.beside at_last _ _ begun in
     let still : IsTrue new.is_open = search rules in
-    subst (λ h. OnErr c.commit.result (IsStored First (state g.S.Store h) content)) same (moved_err First Moved _ old last new content _ r inside refl still c.commit.result (c.commit.ensures.err late))
+    subst (λ h. OnErr c.commit.result (IsStored First (state g.S.Store h) content)) same
+    (moved_err First Moved _ old last new content _ r inside refl still c.commit.result (c.commit.ensures.err late))
 
 pub returns-clause-crash : goal.returns-clause-crash
 returns-clause-crash g c =

@@ -22,7 +22,9 @@ loop-span-preserved g c =
       same_reference = cc;
       adds = λ clean shape spans base content h.
           let so_far = with_whole_spans (take i c.args.spans.now) content in
-          let done = subst (λ t. Inside shape base now (with_whole_span so_far t)) c.span-item.is (c.in_ok-insert_whole_span.ensures.adds clean shape spans base _ (before.adds (earlier clean) shape spans base content h)) in
+          let done = subst (λ t. Inside shape base now (with_whole_span so_far t)) c.span-item.is
+          (c.in_ok-insert_whole_span.ensures.adds clean shape spans base _
+          (before.adds (earlier clean) shape spans base content h)) in
           subst (Inside shape base now) (more with_whole_span c.args.spans.now i c.span-item.result content low) done;
       kept = λ clean. kept_then old mid now (before.kept (earlier clean)) (step.kept clean);
       survives = quiet_then old mid now before.survives step.survives;

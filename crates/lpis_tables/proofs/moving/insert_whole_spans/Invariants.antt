@@ -12,7 +12,8 @@ invariant-loop-span g l =
     let old = state g.S.Store l.fn.tx.conn.now in
     let now = state g.S.Store l.tx.conn.now in record {
       same_reference : l.tx.conn.ghost_name ≡ l.fn.tx.conn.ghost_name;
-      adds : HasCleanDisk now → (shape : Shape) → has_spans shape ≡ true → (base : Database) (c : Content) → Inside shape base old c → Inside shape base now (with_whole_spans (take l.span-index l.spans) c);
+      adds : HasCleanDisk now → (shape : Shape) → has_spans shape ≡ true → (base : Database) (c : Content)
+          → Inside shape base old c → Inside shape base now (with_whole_spans (take l.span-index l.spans) c);
       kept : HasCleanDisk now → KeepsCommit old now;
       survives : Survives old now (λ _. ⊥);
     }

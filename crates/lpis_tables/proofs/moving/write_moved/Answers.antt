@@ -20,7 +20,10 @@ returns-clause-ok g c clean shape spans lives content one r =
     let at_last : HasCleanDisk last = omega (arith, c.commit.ensures.survives.clean) in
     let begun = begun_inside shape g.S.Store c.args.conn.now first content c.transaction-tx.ensures.begun r in
     let inside = c.in_ok-fill_moved.ensures.moved at_last shape spans lives _ _ one begun in
-    subst (λ h. OnOk c.commit.result (IsStored (with_span_table shape) (state g.S.Store h) (moved c.args.spans.now content))) same (commit_ok (with_span_table shape) _ last new _ inside c.commit.result (c.commit.ensures.ok late))
+    subst
+    (λ h. OnOk c.commit.result (IsStored (with_span_table shape) (state g.S.Store h)
+    (moved c.args.spans.now content))) same (commit_ok (with_span_table shape) _ last new _ inside c.commit.result
+    (c.commit.ensures.ok late))
 
 pub returns-clause-err : goal.returns-clause-err
 returns-clause-err g c clean up shape spans lives content one r =
@@ -34,7 +37,9 @@ returns-clause-err g c clean up shape spans lives content one r =
     let begun = begun_inside shape g.S.Store c.args.conn.now first content c.transaction-tx.ensures.begun r in
     let inside = c.in_ok-fill_moved.ensures.moved at_last shape spans lives _ _ one begun in
     let still : IsTrue new.is_open = search rules in
-    subst (λ h. OnErr c.commit.result (IsStored shape (state g.S.Store h) content)) same (moved_err shape (with_span_table shape) _ old last new content _ r inside refl still c.commit.result (c.commit.ensures.err late))
+    subst (λ h. OnErr c.commit.result (IsStored shape (state g.S.Store h) content)) same
+    (moved_err shape (with_span_table shape) _ old last new content _ r inside refl still c.commit.result
+    (c.commit.ensures.err late))
 
 pub returns-clause-crash : goal.returns-clause-crash
 returns-clause-crash g c =

@@ -22,7 +22,11 @@ returns-clause-ok g c clean shape spans content r =
     let at_mid : HasCleanDisk mid = omega (arith, c.insert_lines.ensures.survives.clean) in
     let begun = begun_inside shape g.S.Store c.args.conn.now first content c.transaction-tx.ensures.begun r in
     let inside = c.in_ok-insert_lines.ensures.adds at_last shape _ _ (c.in_ok-fill.ensures.adds at_mid shape spans _ _ begun) in
-    subst (λ h. OnOk c.commit.result (IsStored shape (state g.S.Store h) (published (pos c.args.year) (pos c.args.last) c.args.dropped.now c.args.fresh.now c.args.rows.now content))) same (commit_ok shape _ last new _ inside c.commit.result (c.commit.ensures.ok late))
+    subst
+    (λ h. OnOk c.commit.result
+    (IsStored shape (state g.S.Store h) (published (pos c.args.year) (pos c.args.last) c.args.dropped.now
+    c.args.fresh.now c.args.rows.now content))) same (commit_ok shape _ last new _ inside c.commit.result
+    (c.commit.ensures.ok late))
 
 pub returns-clause-err : goal.returns-clause-err
 returns-clause-err g c clean up shape spans content r =
@@ -56,7 +60,8 @@ returns-clause-crash g c shape spans content r =
     let quiet = quiet_then (state g.S.Store first) mid last c.fill.ensures.survives c.insert_lines.ensures.survives in
     let quiet_since = survives_begin g.S.Store c.args.conn.now last _ (rw c.transaction-tx.ensures.begun at quiet) in
     let P = Leaves shape (published (pos c.args.year) (pos c.args.last) c.args.dropped.now c.args.fresh.now c.args.rows.now content) in
-    subst (λ h. Survives old (state g.S.Store h) P) same (crashed old last new _ P quiet_since c.commit.ensures.survives (λ clean db is. subst P (sym is) (leaves shape last.now _ (inside clean).holds)))
+    subst (λ h. Survives old (state g.S.Store h) P) same (crashed old last new _ P quiet_since c.commit.ensures.survives
+    (λ clean db is. subst P (sym is) (leaves shape last.now _ (inside clean).holds)))
 
 pub returns-clause-durable : goal.returns-clause-durable
 returns-clause-durable g c clean shape spans content r =
@@ -71,5 +76,7 @@ returns-clause-durable g c clean shape spans content r =
     let at_mid : HasCleanDisk mid = omega (arith, c.insert_lines.ensures.survives.clean) in
     let begun = begun_inside shape g.S.Store c.args.conn.now first content c.transaction-tx.ensures.begun r in
     let inside = c.in_ok-insert_lines.ensures.adds at_last shape _ _ (c.in_ok-fill.ensures.adds at_mid shape spans _ _ begun) in
-    subst (λ h. OnOk c.commit.result ((db : Trees) → (state g.S.Store h).may_leave db → Leaves shape (published (pos c.args.year) (pos c.args.last) c.args.dropped.now c.args.fresh.now c.args.rows.now content) db)) same
+    subst (λ h. OnOk c.commit.result ((db : Trees) → (state g.S.Store h).may_leave db
+    → Leaves shape (published (pos c.args.year) (pos c.args.last) c.args.dropped.now c.args.fresh.now
+    c.args.rows.now content) db)) same
     (durable shape new _ (λ up db may. g.met.S.Store.settled c.commit.new.self.0.store db up may) c.commit.result (commit_ok shape _ last new _ inside c.commit.result (c.commit.ensures.ok late)))

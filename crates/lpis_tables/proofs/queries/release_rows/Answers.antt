@@ -6,14 +6,19 @@ use Rattle.lpis_tables.proofs.Showing.{years_shown, kept_by_query, ok_by_query, 
 use Rattle.lpis_tables.proofs.queries.release_rows.Goals as goal
 
 pub returns-clause-rows : goal.returns-clause-rows
-returns-clause-rows g c clean shape content r = IfOk-weaker c.query_all.result _ _ (λ rows h. years_shown shape (state g.S.Store c.args.conn.now) (state g.S.Store c.query_all.new.self) rows.items content r h) (c.query_all.ensures.ok clean)
+returns-clause-rows g c clean shape content r = IfOk-weaker c.query_all.result _ _
+    (λ rows h. years_shown shape (state g.S.Store c.args.conn.now) (state g.S.Store c.query_all.new.self) rows.items
+    content r h) (c.query_all.ensures.ok clean)
 
 pub returns-clause-same : goal.returns-clause-same
 returns-clause-same g c clean up shape content r =
-    kept_by_query shape read_release (state g.S.Store c.args.conn.now) (state g.S.Store c.query_all.new.self) content c.query_all.result (read_release_means shape).2 r up (c.query_all.ensures.ok clean) (c.query_all.ensures.err clean)
+    kept_by_query shape read_release (state g.S.Store c.args.conn.now) (state g.S.Store c.query_all.new.self) content
+    c.query_all.result (read_release_means shape).2 r up (c.query_all.ensures.ok clean)
+    (c.query_all.ensures.err clean)
 
 pub returns-clause-survives : goal.returns-clause-survives
-returns-clause-survives g c = quiet_query _ read_release (state g.S.Store c.args.conn.now) (state g.S.Store c.query_all.new.self) (λ shape any. (read_release_means shape).2) c.query_all.ensures.survives
+returns-clause-survives g c = quiet_query _ read_release (state g.S.Store c.args.conn.now)
+    (state g.S.Store c.query_all.new.self) (λ shape any. (read_release_means shape).2) c.query_all.ensures.survives
 
 pub returns-clause-stored : goal.returns-clause-stored
 returns-clause-stored g c clean shape content r =

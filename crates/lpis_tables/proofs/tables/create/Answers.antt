@@ -20,7 +20,9 @@ returns-clause-made g c is_new clean r =
     let late : HasCleanDisk new = search rules in
     let at_last : HasCleanDisk last = omega (arith, c.commit.ensures.survives.clean) in
     let begun = begun_bare g.S.Store c.args.conn.now first c.transaction-tx.ensures.begun r in
-    subst (λ h. OnOk c.commit.result (IsStored New (state g.S.Store h) no_content)) same (commit_ok New _ last new _ (c.in_ok-make_all.ensures.begun is_new at_last _ begun) c.commit.result (c.commit.ensures.ok late))
+    subst (λ h. OnOk c.commit.result (IsStored New (state g.S.Store h) no_content)) same
+    (commit_ok New _ last new _ (c.in_ok-make_all.ensures.begun is_new at_last _ begun) c.commit.result
+    (c.commit.ensures.ok late))
 
 pub returns-clause-crash : goal.returns-clause-crash
 returns-clause-crash g c =

@@ -9,4 +9,6 @@ use Rattle.lpis_tables.proofs.tables.make_release.Goals as goal
 
 pub returns-clause-made : goal.returns-clause-made
 returns-clause-made g c clean base before =
-    stage_next text one_table two_tables (release_table 0) release_is refl base (state g.S.Store c.args.tx.now.conn.now) (state g.S.Store c.execute.new.self.conn.now) _ before (c.in_ok-execute.ensures.runs clean before.in_transaction)
+    stage_next text one_table two_tables (release_table 0) release_is refl base (state g.S.Store c.args.tx.now.conn.now)
+    (state g.S.Store c.execute.new.self.conn.now) _ before
+    (c.in_ok-execute.ensures.runs clean before.in_transaction)

@@ -10,7 +10,9 @@ use Rattle.lpis_tables.proofs.tables.make_span.Goals as goal
 
 pub returns-clause-made : goal.returns-clause-made
 returns-clause-made g c clean base before =
-    stage_next text two_tables three_tables (span_table 0) span_is refl base (state g.S.Store c.args.tx.now.conn.now) (state g.S.Store c.execute.new.self.conn.now) _ before (c.in_ok-execute.ensures.runs clean before.in_transaction)
+    stage_next text two_tables three_tables (span_table 0) span_is refl base (state g.S.Store c.args.tx.now.conn.now)
+    (state g.S.Store c.execute.new.self.conn.now) _ before
+    (c.in_ok-execute.ensures.runs clean before.in_transaction)
 
 pub returns-clause-beside : goal.returns-clause-beside
 returns-clause-beside g c clean base content before =

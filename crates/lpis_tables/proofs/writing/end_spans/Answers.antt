@@ -22,7 +22,9 @@ loop-id-preserved g c =
       same_reference = cc;
       adds = λ clean shape spans base content h.
           let so_far = all_ended (pos c.args.year) (take i c.args.ids.now) content in
-          let done = subst (λ t. Inside shape base now (ended (pos c.args.year) so_far t)) c.id-item.is (c.in_ok-end_span.ensures.adds clean shape spans base _ (before.adds (earlier clean) shape spans base content h)) in
+          let done = subst (λ t. Inside shape base now (ended (pos c.args.year) so_far t)) c.id-item.is
+          (c.in_ok-end_span.ensures.adds clean shape spans base _
+          (before.adds (earlier clean) shape spans base content h)) in
           subst (Inside shape base now) (more (ended (pos c.args.year)) c.args.ids.now i c.id-item.result content low) done;
       kept = λ clean. kept_then old mid now (before.kept (earlier clean)) (step.kept clean);
       survives = quiet_then old mid now before.survives step.survives;

@@ -12,7 +12,8 @@ invariant-loop-id g l =
     let old = state g.S.Store l.fn.tx.conn.now in
     let now = state g.S.Store l.tx.conn.now in record {
       same_reference : l.tx.conn.ghost_name ≡ l.fn.tx.conn.ghost_name;
-      adds : HasCleanDisk now → (shape : Shape) → has_spans shape ≡ true → (base : Database) (c : Content) → Inside shape base old c → Inside shape base now (all_ended (pos l.year) (take l.id-index l.ids) c);
+      adds : HasCleanDisk now → (shape : Shape) → has_spans shape ≡ true → (base : Database) (c : Content)
+          → Inside shape base old c → Inside shape base now (all_ended (pos l.year) (take l.id-index l.ids) c);
       kept : HasCleanDisk now → KeepsCommit old now;
       survives : Survives old now (λ _. ⊥);
     }

@@ -4,4 +4,6 @@ use Rattle.lpis_wkt.specs.Number.{coordinate_decimals, greatest, padded}
 use Rattle.lpis_wkt.proofs.number.with_decimals.Given as goal
 
 abbrev pub invariant-loop-i : goal.invariant-loop-i
-invariant-loop-i l = (l.value ≤ greatest) × (digits_value_after 10 l.value (padded (coordinate_decimals - l.i) (drop l.i l.digits)) ≡ digits_value_after 10 l.fn.front (padded coordinate_decimals l.digits))
+invariant-loop-i l = (l.value ≤ greatest)
+    × (digits_value_after 10 l.value (padded (coordinate_decimals - l.i) (drop l.i l.digits)) ≡ digits_value_after 10
+    l.fn.front (padded coordinate_decimals l.digits))

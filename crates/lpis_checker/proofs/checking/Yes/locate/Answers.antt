@@ -17,7 +17,8 @@ unreachable-requires c =
     no_gap r c.self.invariant.0 c.self.invariant.1 (rational_of c.args.p.now) (omega (arith, ints, c.args.p.now.d_in_range.0)) here.0 c.in_ok-parcel.parcel.now at h.1 c.in-None.ensures
 
 pub returns-in_err-parcel-clause-sound : goal.returns-in_err-parcel-clause-sound
-returns-in_err-parcel-clause-sound c = subst (λ (r : Contents). IsSoundMap r) c.self.view_is (good_means_sound c.self.inside.release.now c.self.invariant.0 c.parcels.ensures.distinct c.self.invariant.1)
+returns-in_err-parcel-clause-sound c = subst (λ (r : Contents). IsSoundMap r) c.self.view_is
+    (good_means_sound c.self.inside.release.now c.self.invariant.0 c.parcels.ensures.distinct c.self.invariant.1)
 
 pub returns-clause-sound : goal.returns-clause-sound
 returns-clause-sound c = subst (λ (r : Contents). IsSoundMap r) c.self.view_is (good_means_sound c.self.inside.release.now c.self.invariant.0 c.parcels.ensures.distinct c.self.invariant.1)

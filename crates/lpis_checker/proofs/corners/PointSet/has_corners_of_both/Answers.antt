@@ -5,7 +5,9 @@ use Rattle.lpis_checker.proofs.Sites.{untrue}
 use Rattle.lpis_checker.proofs.corners.PointSet.has_corners_of_both.Goals as goal
 
 pub returns-then-has_all_corners : goal.returns-then-has_all_corners
-returns-then-has_all_corners c = both_have c.args.self.now c.args.triangles.now c.args.flats.now c.has_all_corners-then-has_all_corners.result (c.has_all_corners.ensures.0 c.if-has_all_corners.true) c.has_all_corners-then-has_all_corners.ensures
+returns-then-has_all_corners c = both_have c.args.self.now c.args.triangles.now c.args.flats.now
+    c.has_all_corners-then-has_all_corners.result (c.has_all_corners.ensures.0 c.if-has_all_corners.true)
+    c.has_all_corners-then-has_all_corners.ensures
 
 pub returns-else-has_all_corners : goal.returns-else-has_all_corners
 returns-else-has_all_corners c =

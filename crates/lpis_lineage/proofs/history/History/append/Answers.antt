@@ -12,7 +12,11 @@ use Rattle.lpis_lineage.proofs.SpanSteps.{history-more, history-same}
 use Rattle.lpis_lineage.proofs.history.History.append.Goals as goal
 
 pub invariant_of-self-in_err-push : goal.invariant_of-self-in_err-push
-invariant_of-self-in_err-push c = (history-same c.self.inside.entries.items _ (λ id. get same_id c.self.inside.spans id) _ c.self.invariant.0 c.in_err-push.ensures.items (λ q. c.in_ok-reserve.ensures.entries.2 q), c.self.invariant.1)
+invariant_of-self-in_err-push c = (
+  history-same c.self.inside.entries.items _ (λ id. get same_id c.self.inside.spans id)
+      _ c.self.invariant.0 c.in_err-push.ensures.items (λ q. c.in_ok-reserve.ensures.entries.2 q),
+  c.self.invariant.1,
+)
 
 pub invariant_of-self-2 : goal.invariant_of-self-2
 invariant_of-self-2 c =
@@ -20,8 +24,13 @@ invariant_of-self-2 c =
     let year : last_year h ≡ c.last_year-last.result = ap last_year c.self.view_is ∙ sym c.last_year-last.ensures in
     let later : last_year h < c.args.year = (let e = ap last_year c.self.view_is in let l = c.requires.later in omega (arith, e, l)) in
     let clean : faults h c.args.live c.args.rows.now ≡ [] = ap (λ (l : List Entry). faults l c.args.live c.args.rows.now) c.self.view_is ∙ c.requires.clean in
-    let fresh : c.in_ok-fresh.fresh.items ≡ filter (λ id. not (is_some (span_of h id))) c.in_ok-entry.entry.live = c.in_ok-fresh.ensures ∙ ap (λ (l : List Entry). filter (λ id. not (is_some (span_of l id))) c.in_ok-entry.entry.live) (sym c.self.view_is) in
-    let gone : c.in_ok-gone.gone.items ≡ filter (λ id. not (has_id c.in_ok-entry.entry.live id)) (last_live h) = c.in_ok-gone.ensures.list ∙ ap (λ (l : List (List ℕ)). filter (λ id. not (has_id c.in_ok-entry.entry.live id)) l) (c.last_live.ensures ∙ ap last_live (sym c.self.view_is)) in (
+    let fresh : c.in_ok-fresh.fresh.items ≡ filter (λ id. not (is_some (span_of h id))) c.in_ok-entry.entry.live =
+    c.in_ok-fresh.ensures
+    ∙ ap (λ (l : List Entry). filter (λ id. not (is_some (span_of l id))) c.in_ok-entry.entry.live)
+    (sym c.self.view_is) in
+    let gone : c.in_ok-gone.gone.items ≡ filter (λ id. not (has_id c.in_ok-entry.entry.live id)) (last_live h) =
+    c.in_ok-gone.ensures.list ∙ ap (λ (l : List (List ℕ)). filter (λ id. not (has_id c.in_ok-entry.entry.live id))
+    l) (c.last_live.ensures ∙ ap last_live (sym c.self.view_is)) in (
       history-more h _ c.in_ok-entry.entry c.args.live c.args.rows.now c.args.year c.in_ok-fresh.fresh.items c.in_ok-gone.gone.items
           (λ id. get same_id c.self.inside.spans id) (λ id. get same_id c.reserve.new.self id) (λ id. get same_id c.begin_spans.new.spans id) _
           c.self.invariant.0 clean c.in_ok-entry.ensures.release c.in_ok-entry.ensures.year later c.in_ok-push.ensures.items fresh gone

@@ -19,4 +19,6 @@ returns-clause-tells c = λ before seen.
     (told-none _ _ _ (sym (clash-end-set c.args.self.now before c.args.row.now seen c.requires) ∙ sym c.contains-2.ensures ∙ c.if-contains-2.false) refl)
 
 pub returns-clause-seen : goal.returns-clause-seen
-returns-clause-seen c = λ before seen. seen-end c.args.self.now _ before c.args.row.now seen c.requires (λ q. c.in_ok-add.ensures.ok q ∙ ap (λ (k : List ℕ). cond (same_id k q) true (has_id c.args.self.now.ended q)) c.in_ok-old.ensures) refl refl
+returns-clause-seen c = λ before seen. seen-end c.args.self.now _ before c.args.row.now seen c.requires
+    (λ q. c.in_ok-add.ensures.ok q ∙ ap (λ (k : List ℕ). cond (same_id k q) true (has_id c.args.self.now.ended q))
+    c.in_ok-old.ensures) refl refl

@@ -10,7 +10,8 @@ returns-in-Some c = λ piece at.
     let lookup = (rw c.in-Some.is at c.get.ensures.lookup).3 in
     let found = slice_get_read c.as_slice.result.now _ c.index-class.result.now c.in-Some.class.now refl lookup.0 c.in-Some.ensures.lookup.1 in
     let there = subst (λ (ks : List Class). slice_get ks c.index-class.result.now ≡ Some c.in-Some.class.now) c.as_slice.ensures.rows found in
-    mark-of-place _ c.args.self.now c.self.inside.joins.classes.items c.args.place c.index-class.result.now piece (Some c.in-Some.class.now) c.self.view_is c.self.invariant.joins.classes_are at c.index-class.ensures there
+    mark-of-place _ c.args.self.now c.self.inside.joins.classes.items c.args.place c.index-class.result.now piece
+    (Some c.in-Some.class.now) c.self.view_is c.self.invariant.joins.classes_are at c.index-class.ensures there
 
 pub returns-in-None : goal.returns-in-None
 returns-in-None c = λ piece at.

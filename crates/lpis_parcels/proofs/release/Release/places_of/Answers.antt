@@ -11,7 +11,8 @@ use Rattle.lpis_parcels.proofs.release.Release.places_of.Goals as goal
 pub returns-in-Some-clause-places : goal.returns-in-Some-clause-places
 returns-in-Some-clause-places c =
     let groups = c.self.inside.joins.groups.items in
-    let within : c.in-Some.place < length (group_lists groups) = group-within c.self.inside.parcels _ (group_lists groups) _ c.in-Some.place c.self.invariant.joins.groups_are c.in-Some.ensures.at_place in
+    let within : c.in-Some.place < length (group_lists groups) = group-within c.self.inside.parcels _
+    (group_lists groups) _ c.in-Some.place c.self.invariant.joins.groups_are c.in-Some.ensures.at_place in
     c.as_slice.ensures.value ∙ sym (list-at (λ g. g.items) groups c.in-Some.place c.index.result.now (simp length-map at within) c.index.ensures)
     ∙ group-places _ c.args.self.now (group_lists groups) c.args.parcel.now c.in-Some.place c.self.view_is c.self.invariant.joins.groups_are c.in-Some.ensures.at_place
 
@@ -25,4 +26,6 @@ pub returns-in-None-clause-places : goal.returns-in-None-clause-places
 returns-in-None-clause-places c =
     let none = first-faults c.self.inside.parcels c.self.inside.classes c.self.inside.pieces _ c.self.invariant.joined in
     let absent = sym c.position.ensures.found ∙ ap is_some c.in-None.is in
-    sym (ap (λ (r : Contents). places_where (names c.args.parcel.now) 0 r.pieces) (sym c.self.view_is) ∙ stranger-none c.self.inside.parcels c.self.inside.classes 1 0 c.self.inside.pieces c.args.parcel.now none absent)
+    sym (ap (λ (r : Contents). places_where (names c.args.parcel.now) 0 r.pieces) (sym c.self.view_is)
+    ∙ stranger-none c.self.inside.parcels c.self.inside.classes 1 0 c.self.inside.pieces c.args.parcel.now none
+    absent)
