@@ -7,11 +7,11 @@ use Rattle.lpis_cert.specs.declared.part.PairLine.{PairLine}
 use Rattle.lpis_cert.specs.declared.cert.Cert.{Cert}
 use Rattle.lpis_cert.specs.CertText.{Corners, PieceBlock, ParcelBlock, Separator, Content, text_of}
 
-abbrev pub corners_of : Triangle → Corners
-corners_of t = record { x1 = t.a.x; y1 = t.a.y; x2 = t.b.x; y2 = t.b.y; x3 = t.c.x; y3 = t.c.y }
+abbrev pub corner_numbers : Triangle → Corners
+corner_numbers t = record { x1 = t.a.x; y1 = t.a.y; x2 = t.b.x; y2 = t.b.y; x3 = t.c.x; y3 = t.c.y }
 
 abbrev pub all_corners : List Triangle → List Corners
-all_corners ts = map corners_of ts
+all_corners ts = map corner_numbers ts
 
 abbrev pub piece_of : PiecePart → PieceBlock
 piece_of p = record { id = p.id; triangles = all_corners p.triangles; flats = all_corners p.flats }

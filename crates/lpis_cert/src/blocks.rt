@@ -5,9 +5,9 @@ ghost use Rattle.lpis_cert.specs.Limits.{most_triangles, most_flats, greatest_co
 ghost use Rattle.lpis_covers.specs.Ids.{is_id};
 ghost use Rattle.lpis_cert.specs.declared.kind.Stage.TheVariants as stage;
 ghost use Rattle.lpis_cert.specs.CertText.{PieceLine, ParcelLine, PairsLine, lines_of};
-ghost use Rattle.lpis_cert.specs.private.Taken.{Follows, FaultFrom};
+ghost use Rattle.lpis_cert.specs.private.Taken.{ReadsLines, FaultFrom};
 ghost use Rattle.lpis_cert.specs.Contents.{content_of};
-ghost use Rattle.lpis_cert.specs.private.Drafts.{DraftGrown, Progressed, Whole, place_of};
+ghost use Rattle.lpis_cert.specs.private.Drafts.{DraftGrown, Progressed, Whole, draft_place};
 ghost use Rattle.lpis_cert.specs.private.Drafts.{draft_lines};
 
 use crate::cert::{Cert, MOST_FLATS, MOST_TRIANGLES};
@@ -76,13 +76,13 @@ fn piece_block<'a>(
     start: Rest<'a>,
     after: Rest<'a>,
 ) -> Result<(Draft, Rest<'a>), CertFault>
-    requires begins { Follows start.text.now start.line (PieceLine id triangle_count flat_count ∷ [])
+    requires begins { ReadsLines start.text.now start.line (PieceLine id triangle_count flat_count ∷ [])
         after.text.now after.line }
     requires named { is_id id ≡ true }
     requires fresh { draft.stage ≡ stage.Pieces }
     ensures ok { IfOk result (λ x. DraftGrown draft x.0 start.entry.text.now start.entry.line x.1.text.now
         x.1.line) }
-    ensures err { IfErr result (λ e. FaultFrom e start.entry.line (place_of draft) start.entry.text.now) }
+    ensures err { IfErr result (λ e. FaultFrom e start.entry.line (draft_place draft) start.entry.text.now) }
 {
     let Draft {
         mut pieces,
@@ -121,12 +121,12 @@ fn parcel_block<'a>(
     start: Rest<'a>,
     after: Rest<'a>,
 ) -> Result<(Draft, Rest<'a>), CertFault>
-    requires begins { Follows start.text.now start.line (ParcelLine id flat_count ∷ [])
+    requires begins { ReadsLines start.text.now start.line (ParcelLine id flat_count ∷ [])
         after.text.now after.line }
     requires named { is_id id ≡ true }
     ensures ok { IfOk result (λ x. DraftGrown draft x.0 start.entry.text.now start.entry.line x.1.text.now
         x.1.line) }
-    ensures err { IfErr result (λ e. FaultFrom e start.entry.line (place_of draft) start.entry.text.now) }
+    ensures err { IfErr result (λ e. FaultFrom e start.entry.line (draft_place draft) start.entry.text.now) }
 {
     let Draft {
         pieces,
@@ -162,10 +162,11 @@ fn finish(
     start: Rest<'_>,
     after: Rest<'_>,
 ) -> Result<Cert, CertFault>
-    requires { Follows start.text.now start.line (PairsLine count ∷ []) after.text.now after.line }
+    requires { ReadsLines start.text.now start.line (PairsLine count ∷ []) after.text.now
+        after.line }
     ensures ok { IfOk result (λ cert. Whole (draft_lines draft) (lines_of (content_of cert))
         start.entry.text.now) }
-    ensures err { IfErr result (λ e. FaultFrom e start.entry.line (place_of draft) start.entry.text.now) }
+    ensures err { IfErr result (λ e. FaultFrom e start.entry.line (draft_place draft) start.entry.text.now) }
 {
     let (pairs, last) = pair_lines(alloc, count, after)?;
     let rest = end_line(last)?;
@@ -194,7 +195,7 @@ pub(crate) fn next_block<'a>(
     rest: Rest<'a>,
 ) -> Result<Progress<'a>, CertFault>
     ensures ok { IfOk result (λ t. Progressed draft t rest.entry.text.now rest.entry.line) }
-    ensures err { IfErr result (λ e. FaultFrom e rest.entry.line (place_of draft) rest.entry.text.now) }
+    ensures err { IfErr result (λ e. FaultFrom e rest.entry.line (draft_place draft) rest.entry.text.now) }
 {
     let (head, after) = head_at(alloc, draft.stage, rest)?;
     match head {

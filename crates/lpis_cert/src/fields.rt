@@ -6,7 +6,7 @@ ghost use Rattle.lpis_cert.specs.Limits.{greatest_count};
 ghost use Rattle.lpis_cert.specs.Reading.{front, number as number_of, coordinate as coordinate_of};
 ghost use Rattle.lpis_cert.specs.Reading.{point as point_of, corners as corners_in};
 ghost use Rattle.lpis_cert.specs.Reading.{separator as separator_in};
-ghost use Rattle.lpis_cert.specs.Contents.{corners_of, separator_of};
+ghost use Rattle.lpis_cert.specs.Contents.{corner_numbers, separator_of};
 
 use crate::number::{coordinate, number};
 use crate::part::PairLine;
@@ -43,7 +43,7 @@ fn next_point(version: Version, words: &mut Words<'_>) -> Option<Point>
 /// The three corners that words spell.
 #[tactic(auto, unfolding(crate::specs::Reading::corners))]
 pub(crate) fn corners(version: Version, mut words: Words<'_>) -> Option<Triangle>
-    ensures { corners_in version words.entry ≡ option_map corners_of result }
+    ensures { corners_in version words.entry ≡ option_map corner_numbers result }
 {
     let a = next_point(version, &mut words)?;
     let b = next_point(version, &mut words)?;

@@ -6,7 +6,7 @@ ghost use Rattle.lpis_cert.specs.CertText.{PieceLine, ParcelLine, PairsLine};
 ghost use Rattle.lpis_cert.specs.Fitting.{LineFits};
 ghost use Rattle.lpis_cert.specs.Kinds.{line_kind};
 ghost use Rattle.lpis_cert.specs.Reading.{piece_line, parcel_line, pairs_line, can_stand};
-ghost use Rattle.lpis_cert.specs.private.Taken.{Follows, LineFault};
+ghost use Rattle.lpis_cert.specs.private.Taken.{ReadsLines, LineFault};
 ghost use Rattle.lpis_cert.specs.private.Drafts.{head_line};
 ghost use Rattle.lpis_cert.specs.declared.kind.Expected.TheVariants.{Block};
 
@@ -79,7 +79,7 @@ pub(crate) fn head_at(
     stage: Stage,
     rest: Rest<'_>,
 ) -> Result<(Head, Rest<'_>), CertFault>
-    ensures ok { IfOk result (λ x. Follows rest.entry.text.now rest.entry.line (head_line x.0 ∷ [])
+    ensures ok { IfOk result (λ x. ReadsLines rest.entry.text.now rest.entry.line (head_line x.0 ∷ [])
         x.1.text.now x.1.line) }
     ensures fits { IfOk result (λ x. LineFits (head_line x.0)) }
     ensures stands { IfOk result (λ x. can_stand (Block stage) (line_kind (head_line x.0)) ≡ true) }

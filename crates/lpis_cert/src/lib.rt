@@ -4,6 +4,7 @@
 mod blocks;
 mod cert;
 mod draft;
+mod fast_path;
 mod fault;
 mod fields;
 mod form;
@@ -13,7 +14,6 @@ mod laws;
 mod lines;
 mod number;
 mod part;
-mod quick;
 mod reading;
 mod rest;
 mod version;

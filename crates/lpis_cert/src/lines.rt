@@ -7,17 +7,17 @@ ghost use Rattle.lpis_cert.specs.declared.kind.Expected.TheVariants.{One};
 ghost use Rattle.lpis_cert.specs.declared.kind.Kind.TheVariants as kind;
 ghost use Rattle.lpis_cert.specs.declared.kind.Stage.{Stage};
 ghost use Rattle.lpis_cert.specs.Faults.{Declared, InPairs};
-ghost use Rattle.lpis_cert.specs.private.Taken.{Placed, LineFault, Follows, FaultFrom};
+ghost use Rattle.lpis_cert.specs.private.Taken.{Placed, LineFault, ReadsLines, FaultFrom};
 ghost use Rattle.lpis_cert.specs.private.Taken.{corner_kind as kind_of_corners};
 ghost use Rattle.lpis_cert.specs.private.Taken.{corner_line as line_of_corners, wanting};
-ghost use Rattle.lpis_cert.specs.Contents.{corners_of, all_corners, separator_of};
+ghost use Rattle.lpis_cert.specs.Contents.{corner_numbers, all_corners, separator_of};
 
+use crate::fast_path::leading_corners;
 use crate::fault::{CertCode, CertFault};
 use crate::fields::{corners, separator};
 use crate::form::placed;
 use crate::kind::{Expected, Kind};
 use crate::part::PairLine;
-use crate::quick::leading_corners;
 use crate::rest::{Rest, front_line};
 use crate::version::Version;
 use crate::words::Words;
@@ -57,8 +57,8 @@ fn corner_kind(flat: bool) -> Kind
 /// A triangle line or a flat line.
 pub(crate) fn corner_line(flat: bool, rest: Rest<'_>) -> Result<(Triangle, Rest<'_>), CertFault>
     ensures { MatchResult result
-        (λ x. Follows rest.entry.text.now rest.entry.line
-        (line_of_corners flat (corners_of x.0) ∷ []) x.1.text.now x.1.line)
+        (λ x. ReadsLines rest.entry.text.now rest.entry.line
+        (line_of_corners flat (corner_numbers x.0) ∷ []) x.1.text.now x.1.line)
         (λ e. LineFault e rest.entry.line (One (kind_of_corners flat)) rest.entry.text.now) }
 {
     if let Some((triangle, text)) = leading_corners(flat, rest.text) {
@@ -86,7 +86,7 @@ pub(crate) fn corner_lines(
     rest: Rest<'_>,
 ) -> Result<(Vec<Triangle>, Rest<'_>), CertFault>
     ensures ok { IfOk result
-        (λ x. Follows rest.entry.text.now rest.entry.line
+        (λ x. ReadsLines rest.entry.text.now rest.entry.line
         (map (line_of_corners flat) (all_corners x.0.items)) x.1.text.now x.1.line) }
     ensures count { IfOk result (λ x. length x.0.items ≡ count) }
     ensures err { IfErr result (λ e. (s : Stage) (f : ℕ) (d : Declared)
@@ -105,7 +105,7 @@ pub(crate) fn corner_lines(
 /// A pair line.
 pub(crate) fn pair_line(rest: Rest<'_>) -> Result<(PairLine, Rest<'_>), CertFault>
     ensures { MatchResult result
-        (λ x. Follows rest.entry.text.now rest.entry.line (separator_line (separator_of x.0) ∷ [])
+        (λ x. ReadsLines rest.entry.text.now rest.entry.line (separator_line (separator_of x.0) ∷ [])
         x.1.text.now x.1.line)
         (λ e. LineFault e rest.entry.line (One kind.Pair) rest.entry.text.now) }
 {
@@ -126,7 +126,7 @@ pub(crate) fn pair_lines(
     rest: Rest<'_>,
 ) -> Result<(Vec<PairLine>, Rest<'_>), CertFault>
     ensures ok { IfOk result
-        (λ x. Follows rest.entry.text.now rest.entry.line
+        (λ x. ReadsLines rest.entry.text.now rest.entry.line
         (map separator_line (map separator_of x.0.items)) x.1.text.now x.1.line) }
     ensures count { IfOk result (λ x. length x.0.items ≡ count) }
     ensures err { IfErr result (λ e. FaultFrom e rest.entry.line (InPairs count) rest.entry.text.now) }
@@ -143,7 +143,7 @@ pub(crate) fn pair_lines(
 
 /// The last line.
 pub(crate) fn end_line(rest: Rest<'_>) -> Result<Rest<'_>, CertFault>
-    ensures { MatchResult result (λ x. Follows rest.entry.text.now rest.entry.line (EndLine ∷ [])
+    ensures { MatchResult result (λ x. ReadsLines rest.entry.text.now rest.entry.line (EndLine ∷ [])
         x.text.now x.line) (λ e. LineFault e rest.entry.line (One kind.End) rest.entry.text.now) }
 {
     let (_, mut words, after) = placed_line(Expected::One(Kind::End), rest)?;

@@ -3,7 +3,7 @@
 ghost use Rattle.std.specs.Prelude.{◌≡◌, ◌≤◌, ◌*◌};
 ghost use Rattle.lpis_cert.specs.Versions.{factor, first_line, greatest};
 ghost use Rattle.lpis_cert.specs.Limits.{number_margin};
-ghost use Rattle.lpis_cert.specs.private.Margins.{coordinate_margin};
+ghost use Rattle.lpis_cert.specs.private.Margins.{written_margin};
 
 use lpis_points::LIMIT;
 
@@ -38,7 +38,7 @@ impl Version {
     pub(crate) fn scaled(self, written: u64) -> u64
         requires { written ≤ greatest self }
         ensures is { result ≡ written * factor self }
-        ensures small { result ≤ coordinate_margin }
+        ensures small { result ≤ written_margin }
     {
         match self {
             Version::One => written,

@@ -6,7 +6,7 @@ ghost use Rattle.std.specs.Io.KnownBytes.{Appends};
 ghost use Rattle.lpis_cert.specs.CertText.{PairLine as separator_line, PieceLine, ParcelLine};
 ghost use Rattle.lpis_cert.specs.CertText.{PairsLine, EndLine};
 ghost use Rattle.lpis_cert.specs.private.Taken.{corner_line};
-ghost use Rattle.lpis_cert.specs.Contents.{corners_of, separator_of, cert_text};
+ghost use Rattle.lpis_cert.specs.Contents.{corner_numbers, separator_of, cert_text};
 ghost use Rattle.lpis_cert.specs.private.Written.{line_text, corners_text, piece_text, parcel_text};
 ghost use Rattle.lpis_cert.specs.private.Written.{pairs_text, tail_text, version_text, parts_text};
 
@@ -51,7 +51,7 @@ fn write_pair<W: Write>(pair: PairLine, out: &mut W) -> Result<(), WriteFault>
 #[tactic(auto, unfolding(crate::specs::private::Written::line_text, crate::specs::CertText::spelling, crate::specs::CertText::words_of, crate::specs::CertText::text_of_lines))]
 fn write_corners<W: Write>(flat: bool, t: Triangle, out: &mut W) -> Result<(), WriteFault>
     ensures { OnOk result (Appends (W.contents out.old) (W.contents out.new)
-        (line_text (corner_line flat (corners_of t)))) }
+        (line_text (corner_line flat (corner_numbers t)))) }
 {
     let (x1, y1, x2, y2, x3, y3) = (t.a.x, t.a.y, t.b.x, t.b.y, t.c.x, t.c.y);
     if flat {

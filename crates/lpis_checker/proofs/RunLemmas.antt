@@ -12,7 +12,7 @@ use Rattle.lpis_points.specs.declared.point.Point.{Point}
 use Rattle.lpis_points.specs.Plane.{same_point}
 use Rattle.lpis_checker.specs.declared.signed.SignedEdge.{SignedEdge}
 use Rattle.lpis_checker.specs.private.SignedEdges.{weight, is_at, sum_at, SumsAreZero, same_ends, IsGrouped, EndsRun}
-use Rattle.lpis_checker.proofs.PointOrder.{both_same}
+use Rattle.lpis_checker.proofs.PointOrderLemmas.{both_same}
 
 -- edges with the same ends lie between the same points
 same_at : (x y : SignedEdge) → same_ends x y ≡ true → (a b : Point) → is_at a b x ≡ is_at a b y

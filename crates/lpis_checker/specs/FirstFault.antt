@@ -74,9 +74,10 @@ place_of r c (LineAt k) = line_place (slice_get c.pairs k)
 place_of r c (PairAt i j) = place.Pair i j
 
 -- a fault that is told is that one; want of memory may stand in its place
-abbrev pub Tells : Contents → Cert → CheckFault → Type 0
-Tells r c fault.Memory = ⊤
-Tells r c (fault.At code at) = (site : Site) × IsFault r c code site × (at ≡ place_of r c site)
+abbrev pub ReportsFirst : Contents → Cert → CheckFault → Type 0
+ReportsFirst r c fault.Memory = ⊤
+ReportsFirst r c (fault.At code at) = (site : Site) × IsFault r c code site
+    × (at ≡ place_of r c site)
 
 -- the fault is one of the parts, below the conditions on pairs of triangles
 abbrev pub IsOfParts : CheckFault → Type 0

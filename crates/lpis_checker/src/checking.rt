@@ -2,7 +2,7 @@
 
 ghost use Rattle.std.specs.Prelude.{◌≡◌, IfErr, IfOk, OnOk};
 ghost use Rattle.lpis_checker.specs.Codes.{code_of};
-ghost use Rattle.lpis_checker.specs.FirstFault.{HoldBelow, IsOfParts, Tells};
+ghost use Rattle.lpis_checker.specs.FirstFault.{HoldBelow, IsOfParts, ReportsFirst};
 ghost use Rattle.lpis_checker.specs.GoodCertificate.{IsGood};
 ghost use Rattle.lpis_checker.specs.private.Searches.{FoundFault, IsToldOf};
 ghost use Rattle.lpis_checker.specs.SoundMap.{AreasAdd, IsSoundMap};
@@ -43,7 +43,7 @@ pub fn check_parts(alloc: Global, release: &Release, cert: &Cert) -> Result<(), 
     ensures holds { OnOk result (HoldBelow release.now cert.now (code_of NearPairs)) }
     ensures areas { OnOk result (AreasAdd release.now) }
     ensures turns { OnOk result (TurnsAdd release.now cert.now) }
-    ensures fault { IfErr result (Tells release.now cert.now) }
+    ensures fault { IfErr result (ReportsFirst release.now cert.now) }
     ensures parts { IfErr result IsOfParts }
 {
     match part_fault(alloc, release, cert)? {
@@ -87,7 +87,7 @@ pub fn check<'a, S: PairSource>(
     ensures release { IfOk result (λ yes. yes ≡ release.now) }
     ensures good { OnOk result (IsGood release.now cert.now) }
     ensures sound { OnOk result (IsSoundMap release.now) }
-    ensures fault { IfErr result (Tells release.now cert.now) }
+    ensures fault { IfErr result (ReportsFirst release.now cert.now) }
 {
     // Its parcels' identifiers differ.
     let _ = release.parcels();

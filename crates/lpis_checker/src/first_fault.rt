@@ -3,8 +3,9 @@
 ghost use Rattle.std.specs.Prelude.{◌≡◌, ◌+◌, IfOk, MatchOption};
 ghost use Rattle.lpis_pairs.specs.NearPairs.{IsNearList};
 ghost use Rattle.lpis_checker.specs.Codes.{code_of};
-ghost use Rattle.lpis_checker.specs.FirstFault.{HoldBelow, parcel_id as parcel_id_lem};
-ghost use Rattle.lpis_checker.specs.FirstFault.{piece_id as piece_id_lem, place_of as place_of_lem};
+ghost use Rattle.lpis_checker.specs.FirstFault.{HoldBelow, parcel_id as parcel_id_spec};
+ghost use Rattle.lpis_checker.specs.FirstFault.{piece_id as piece_id_spec};
+ghost use Rattle.lpis_checker.specs.FirstFault.{place_of as place_of_spec};
 ghost use Rattle.lpis_checker.specs.GoodCertificate.{Holds, triangles_of};
 ghost use Rattle.lpis_checker.specs.private.Searches.{FindsBelow, HasNoParcel, HasNoPiece};
 ghost use Rattle.lpis_checker.specs.private.Searches.{IsOfLine, IsOfPart};
@@ -12,7 +13,7 @@ ghost use Rattle.lpis_checker.specs.private.Searches.{IsOfLine, IsOfPart};
 use crate::condition::{Condition, Failing, Site};
 use crate::fault::Place;
 use crate::near_pairs::unnamed_pair;
-use crate::searching::{first_at_parts, first_line, misnamed};
+use crate::searching::{first_at_names, first_at_parts, first_line};
 use lpis_cert::Cert;
 use lpis_covers::Id;
 use lpis_pairs::PairSource;
@@ -24,7 +25,7 @@ use std::alloc::{AllocError, Global};
 /// ended.
 fn piece_id<'a>(release: &'a Release, cert: &'a Cert, place: usize) -> Option<&'a Id>
     ensures { MatchOption result (HasNoPiece release.now cert.now place)
-        (λ id. id.now ≡ piece_id_lem release.now cert.now place) }
+        (λ id. id.now ≡ piece_id_spec release.now cert.now place) }
 {
     match cert.pieces.as_slice().get(place) {
         Some(part) => Some(&part.id),
@@ -39,7 +40,7 @@ fn piece_id<'a>(release: &'a Release, cert: &'a Cert, place: usize) -> Option<&'
 /// ended.
 fn parcel_id<'a>(release: &'a Release, cert: &'a Cert, place: usize) -> Option<&'a Id>
     ensures { MatchOption result (HasNoParcel release.now cert.now place)
-        (λ id. id.now ≡ parcel_id_lem release.now cert.now place) }
+        (λ id. id.now ≡ parcel_id_spec release.now cert.now place) }
 {
     match cert.parcels.as_slice().get(place) {
         Some(part) => Some(&part.id),
@@ -53,7 +54,7 @@ fn parcel_id<'a>(release: &'a Release, cert: &'a Cert, place: usize) -> Option<&
 /// The place that is told of a site at which a condition fails.
 pub(crate) fn place_of(release: &Release, cert: &Cert, found: &Failing) -> Result<Place, AllocError>
     requires { Holds release.now cert.now found.now.condition found.now.site → ⊥ }
-    ensures { IfOk result (λ place. place ≡ place_of_lem release.now cert.now found.now.site) }
+    ensures { IfOk result (λ place. place ≡ place_of_spec release.now cert.now found.now.site) }
 {
     match found.site {
         Site::PieceAt(place) => match piece_id(release, cert, place) {
@@ -97,7 +98,7 @@ pub(crate) fn part_fault(
 ) -> Result<Option<Failing>, AllocError>
     ensures { IfOk result (FindsBelow release.now cert.now 67) }
 {
-    if let Some(site) = misnamed(alloc, release, cert)? {
+    if let Some(site) = first_at_names(alloc, release, cert)? {
         let condition = Condition::Names;
         return Ok(Some(Failing { condition, site }));
     }

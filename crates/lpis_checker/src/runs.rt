@@ -1,22 +1,22 @@
 //! Whether equal edges cancel, by one walk over them in order.
 
 ghost use Rattle.std.specs.Prelude.{◌≡◌, ◌↔◌, ◌<◌, ◌≤◌, ◌^◌, IsTrue, length, unsigned_abs};
-ghost use Rattle.lpis_checker.specs.private.SignedEdges.{same_ends as same_ends_lem};
-ghost use Rattle.lpis_checker.specs.private.SignedEdges.{weight as weight_lem, IsGrouped};
+ghost use Rattle.lpis_checker.specs.private.SignedEdges.{same_ends as same_ends_spec};
+ghost use Rattle.lpis_checker.specs.private.SignedEdges.{weight as weight_spec, IsGrouped};
 ghost use Rattle.lpis_checker.specs.private.SignedEdges.{SumsAreZero, EndsRun};
 
 use crate::signed::SignedEdge;
 
 /// Whether two edges lie between the same points.
 fn same_ends(x: &SignedEdge, y: &SignedEdge) -> bool
-    ensures { result ≡ same_ends_lem x.now y.now }
+    ensures { result ≡ same_ends_spec x.now y.now }
 {
     x.low == y.low && x.high == y.high
 }
 
 /// The sign of an edge.
 fn weight(x: &SignedEdge) -> i64
-    ensures is { result ≡ weight_lem x.now }
+    ensures is { result ≡ weight_spec x.now }
     ensures small { unsigned_abs result ≤ 1 }
 {
     if x.forward { 1 } else { -1 }

@@ -180,7 +180,7 @@ pub(crate) fn first_at_parts(
 
 /// The first part with another name than its piece or parcel, or the first pair line that is out of
 /// order.
-pub(crate) fn misnamed(
+pub(crate) fn first_at_names(
     alloc: Global,
     release: &Release,
     cert: &Cert,

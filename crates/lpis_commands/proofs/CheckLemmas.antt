@@ -5,7 +5,7 @@ use Rattle.lpis_cert.specs.declared.cert.Cert.{Cert}
 use Rattle.lpis_cert.specs.declared.fault.CertCode.{CertCode}
 use Rattle.lpis_cert.specs.Contents.{cert_text}
 use Rattle.lpis_cert.specs.Faults.{verdict}
-use Rattle.lpis_cert.proofs.LawProofs.{no_fault}
+use Rattle.lpis_cert.proofs.LawLemmas.{no_fault}
 use Rattle.lpis_checker.specs.GoodCertificate.{IsGood}
 use Rattle.lpis_checker.specs.SoundMap.{IsSoundMap}
 use Rattle.lpis_commands.specs.CheckAnswer.{Answer, Inputs, IsCertAnswer, IsProved}

@@ -1,4 +1,4 @@
-pub mod AnswerLaws
+pub mod AnswerLawLemmas
 pub mod AreaLemmas
 pub mod CheckLemmas
 pub mod CommandLemmas

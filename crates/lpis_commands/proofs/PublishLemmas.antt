@@ -19,9 +19,9 @@ use Rattle.lpis_lineage.specs.Kinds.{kind}
 use Rattle.lpis_lineage.specs.Lawful.{IsAnswered}
 use Rattle.lpis_lineage.specs.Lineage.{ended, is_of, last_live, last_year, names}
 use Rattle.lpis_lineage.specs.LineageTable.{lineage_table}
-use Rattle.lpis_lineage.proofs.Basics.{and-right}
-use Rattle.lpis_lineage.proofs.Clean.{follows-from-clean, mono}
-use Rattle.lpis_lineage.proofs.RowCounts.{counted-ended}
+use Rattle.lpis_lineage.proofs.IdentifierLemmas.{and-right}
+use Rattle.lpis_lineage.proofs.CleanLemmas.{follows-from-clean, mono}
+use Rattle.lpis_lineage.proofs.RowCountLemmas.{counted-ended}
 use Rattle.lpis_register.specs.declared.fault.PublishFault.TheVariants as publish
 use Rattle.lpis_cert.specs.declared.cert.Cert.{Cert}
 use Rattle.lpis_cert.specs.Contents.{cert_text}

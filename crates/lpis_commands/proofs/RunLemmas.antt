@@ -5,7 +5,7 @@ use Rattle.std.specs.List.{flat_map}
 use Rattle.std.specs.Prelude.{if◌then◌else◌, option_to_list}
 use Rattle.csv.specs.Reading.{default_config, records, strip_bom}
 use Rattle.lpis_rings.specs.declared.polygon.Member.{Member}
-use Rattle.lpis_covers.specs.Faults.{polygon_faults, polygon_in, row_faults, told, values_of}
+use Rattle.lpis_covers.specs.Faults.{polygon_faults, polygon_in, row_faults, unless_faulty, values_of}
 use Rattle.lpis_covers.specs.Table.{Advances, Answers as Finds, Reading, Record, field_of, has_mark, places_of, rows_under, table_of, under_header}
 use Rattle.lpis_covers.specs.declared.fault.Table.{Table}
 use Rattle.lpis_covers.specs.declared.fault.Table.TheVariants.{Area}
@@ -13,7 +13,7 @@ use Rattle.lpis_covers.specs.declared.fault.TableCode.{TableCode}
 use Rattle.lpis_covers.specs.declared.fault.TableFault.{TableFault}
 use Rattle.lpis_covers.specs.declared.fault.TableFault.TheVariants.{Memory, At}
 use Rattle.lpis_commands.specs.AreaAnswer.{answer_from, answer_of, area_table, line_of}
-use Rattle.lpis_commands.specs.private.Runs.{Tells, polygons_left}
+use Rattle.lpis_commands.specs.private.Runs.{AnswersLines, polygons_left}
 use Rattle.lpis_commands.specs.Status.{done}
 
 -- from the first reading, no fault was found, and the lines were written up to now
@@ -38,11 +38,11 @@ pub row_faults-end : (n : ℕ) → row_faults area_table [] n [] ≡ []
 unfolding row_faults
 row_faults-end n = refl
 
-told-ok : {A : Type 0} (faults : List TableFault) (value a : A) → told faults value ≡ Ok a → (faults ≡ []) × (value ≡ a)
+told-ok : {A : Type 0} (faults : List TableFault) (value a : A) → unless_faulty faults value ≡ Ok a → (faults ≡ []) × (value ≡ a)
 told-ok [] value a e = (refl, cc e)
 told-ok (fault ∷ faults) value a e = cc e
 
-pub told-err : {A B : Type 0} (faults more : List TableFault) (value : A) (other : B) (fault : TableFault) → told faults value ≡ Err fault → told (faults ++ more) other ≡ Err fault
+pub told-err : {A B : Type 0} (faults more : List TableFault) (value : A) (other : B) (fault : TableFault) → unless_faulty faults value ≡ Err fault → unless_faulty (faults ++ more) other ≡ Err fault
 told-err [] more value other fault e = cc e
 told-err (first ∷ faults) more value other fault e = let same : first ≡ fault = cc e in ap Err same
 
@@ -65,7 +65,7 @@ goes_on-start t h = record { table = h; faults = refl; written = refl }
 
 -- a row whose polygon was read
 pub goes_on-row : (first now next : Reading) (lines : List ℕ) (polygon : List Member) → GoesOn first lines now → Advances now next (Ok true)
-    → told (polygon_faults next.table next.number (field_of next.row 0)) (polygon_in (field_of next.row 0)) ≡ Ok polygon
+    → unless_faulty (polygon_faults next.table next.number (field_of next.row 0)) (polygon_in (field_of next.row 0)) ≡ Ok polygon
     → GoesOn first (lines ++ line_of polygon) next
 goes_on-row first now next lines polygon g h e =
     let table : next.table ≡ Area = h.3 ∙ g.table in
@@ -80,17 +80,17 @@ goes_on-row first now next lines polygon g h e =
 
 -- a row with a fault
 pub goes_on-fault : (first now next : Reading) (lines : List ℕ) (fault : TableFault) → GoesOn first lines now → Advances now next (Ok true)
-    → told (polygon_faults next.table next.number (field_of next.row 0)) (polygon_in (field_of next.row 0)) ≡ Err fault
+    → unless_faulty (polygon_faults next.table next.number (field_of next.row 0)) (polygon_in (field_of next.row 0)) ≡ Err fault
     → polygons_left first ≡ Err fault
 goes_on-fault first now next lines fault g h e =
-    ap (λ (fs : List TableFault). told fs (map area_table.value first.rows)) (g.faults ∙ faults_left-row now next h)
+    ap (λ (fs : List TableFault). unless_faulty fs (map area_table.value first.rows)) (g.faults ∙ faults_left-row now next h)
     ∙ told-err (polygon_faults Area next.number (field_of next.row 0)) (faults_left next) _ _ fault (rw (h.3 ∙ g.table) at e)
 
 -- the fault that stops the rows
 pub goes_on-stop : (first now : Reading) (lines : List ℕ) (fault : TableFault) → GoesOn first lines now → now.rows ≡ [] → now.stop ≡ Some fault
     → polygons_left first ≡ Err fault
 goes_on-stop first now lines fault g rows stop =
-    ap (λ (fs : List TableFault). told fs (map area_table.value first.rows))
+    ap (λ (fs : List TableFault). unless_faulty fs (map area_table.value first.rows))
     (g.faults ∙ ap (λ (rs : List Record). row_faults area_table [] (now.number + 1) rs ++ option_to_list now.stop) rows
     ∙ ap (λ (fs : List TableFault). fs ++ option_to_list now.stop) (row_faults-end (now.number + 1)) ∙ ap option_to_list stop)
 
@@ -98,7 +98,7 @@ goes_on-stop first now lines fault g rows stop =
 pub goes_on-end : (first now : Reading) (lines : List ℕ) → GoesOn first lines now → now.rows ≡ [] → now.stop ≡ None
     → answer_from (polygons_left first) ≡ (lines, done)
 goes_on-end first now lines g rows stop =
-    ap (λ (fs : List TableFault). answer_from (told fs (map area_table.value first.rows)))
+    ap (λ (fs : List TableFault). answer_from (unless_faulty fs (map area_table.value first.rows)))
     (g.faults ∙ ap (λ (rs : List Record). row_faults area_table [] (now.number + 1) rs ++ option_to_list now.stop) rows
     ∙ ap (λ (fs : List TableFault). fs ++ option_to_list now.stop) (row_faults-end (now.number + 1)) ∙ ap option_to_list stop)
     ∙ ap (λ (text : List ℕ). (text, done)) (g.written ∙ ap (λ (rs : List Record). lines ++ flat_map line_of (map area_table.value rs)) rows ∙ append-nil lines)
@@ -130,17 +130,17 @@ pub rows-answer : (names : List (List ℕ)) (bytes : List ℕ) (reading : Readin
     → answer_from (polygons_left reading) ≡ answer_of bytes
 rows-answer names bytes reading wkt e =
     let first = (table_of-begins Area names bytes reading e).1 in
-    ap (λ (n : ℕ). answer_from (told (row_faults area_table [] (n + 1) reading.rows ++ option_to_list reading.stop) (map area_table.value reading.rows))) first
+    ap (λ (n : ℕ). answer_from (unless_faulty (row_faults area_table [] (n + 1) reading.rows ++ option_to_list reading.stop) (map area_table.value reading.rows))) first
     ∙ ap (λ (said : Result Reading TableFault). answer_from (values_of area_table said)) (sym e ∙ ap (λ (ns : List (List ℕ)). table_of Area ns bytes) wkt)
 
 -- what a call that stops tells of the answer
 pub tells-stop : {V : Type 0} (text : V → List ℕ) (first now next : Reading) (lines : List ℕ) (fault : TableFault) → GoesOn first lines now → Advances now next (Err fault)
-    → Tells text (Err fault) (answer_from (polygons_left first))
+    → AnswersLines text (Err fault) (answer_from (polygons_left first))
 tells-stop text first now next lines Memory g h = tt
 tells-stop text first now next lines (At code table row wkt) g h = ap answer_from (goes_on-stop first now lines (At code table row wkt) g h.0 h.1)
 
 pub tells-fault : {V : Type 0} (text : V → List ℕ) (first now next : Reading) (lines : List ℕ) (fault : TableFault) → GoesOn first lines now → Advances now next (Ok true)
-    → Finds {A = List Member} (Err fault) (told (polygon_faults next.table next.number (field_of next.row 0)) (polygon_in (field_of next.row 0)))
-    → Tells text (Err fault) (answer_from (polygons_left first))
+    → Finds {A = List Member} (Err fault) (unless_faulty (polygon_faults next.table next.number (field_of next.row 0)) (polygon_in (field_of next.row 0)))
+    → AnswersLines text (Err fault) (answer_from (polygons_left first))
 tells-fault text first now next lines Memory g h e = tt
 tells-fault text first now next lines (At code table row wkt) g h e = ap answer_from (goes_on-fault first now next lines (At code table row wkt) g h e)

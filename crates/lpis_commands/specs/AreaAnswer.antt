@@ -40,8 +40,9 @@ abbrev pub answer_of : List ℕ → List ℕ × ℕ
 answer_of bytes = answer_from (rows_of area_table bytes)
 
 -- the run answered with this status, and wrote the text
-abbrev pub Answers : List ℕ → ℕ → Option (List ℕ) → Option (List ℕ) → Type 0
-Answers bytes status old new = (status ≡ (answer_of bytes).1) × Appends old new (answer_of bytes).0
+abbrev pub AnswersArea : List ℕ → ℕ → Option (List ℕ) → Option (List ℕ) → Type 0
+AnswersArea bytes status old new = (status ≡ (answer_of bytes).1)
+    × Appends old new (answer_of bytes).0
 
 -- the run of a table gave no answer: its reader failed, or the writer did after a beginning of the
 -- answer

@@ -9,7 +9,7 @@ mod large;
 mod readers;
 mod tables;
 
-use crate::running::run_area;
+use crate::area::run_area;
 use std::test::Fail;
 
 /// A square of ten metres.

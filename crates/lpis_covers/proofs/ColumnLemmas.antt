@@ -13,7 +13,7 @@ use Rattle.std.proofs.Math.Seq.{drop-cons}
 use Rattle.std.proofs.lemmas.List.{append-nil, take_all, drop_all}
 use Rattle.lpis_covers.specs.declared.fault.TableCode.{TableCode}
 use Rattle.lpis_covers.specs.declared.fault.TableCode.TheVariants.{MissingColumn, DoubledColumn}
-use Rattle.lpis_covers.specs.Table.{and_place, has_mark, one_place, picked, place_of, places_of, places_of_name, texts}
+use Rattle.lpis_covers.specs.Table.{and_index, has_mark, one_index, picked, column_index, places_of, places_of_name, texts}
 
 pub with-mark : (xs : List ℕ) → has_mark xs ≡ true → take (length xs - 3) (drop 3 xs) ≡ strip_bom xs
 unfolding strip_bom
@@ -73,7 +73,7 @@ unfolding places_of_name
 step-other name i fs f test at says t = rw (drop-field fs i f at, same-name f name test says ∙ t) refl
 
 -- a second field of the name
-pub place-twice : (found : Option ℕ) (i : ℕ) (more : List ℕ) → is_some found ≡ true → one_place (option_to_list found ++ i ∷ more) ≡ Err DoubledColumn
+pub place-twice : (found : Option ℕ) (i : ℕ) (more : List ℕ) → is_some found ≡ true → one_index (option_to_list found ++ i ∷ more) ≡ Err DoubledColumn
 place-twice None i more e = cc e
 place-twice (Some p) i more e = refl
 
@@ -82,7 +82,7 @@ place-first None i more e = refl
 place-first (Some p) i more e = cc e
 
 pub place-end : (name : List ℕ) (i : ℕ) (found : Option ℕ) (fs : List (List ℕ)) (r : Result ℕ TableCode) → length fs ≤ i → r ≡ ok_or found MissingColumn
-    → r ≡ one_place (option_to_list found ++ places_of_name name i (drop i fs))
+    → r ≡ one_index (option_to_list found ++ places_of_name name i (drop i fs))
 unfolding places_of_name
 place-end name i None fs r h e = rw (drop_all i fs h) e
 place-end name i (Some p) fs r h e = rw (drop_all i fs h) e
@@ -95,18 +95,18 @@ after_places front (Err e) = Err e
 texts-drop : (names : List (Bor (List ℕ))) (i : ℕ) (d : Bor (List ℕ)) → i < length names → texts (drop i names) ≡ (get_or names i d).now ∷ texts (drop (i + 1) names)
 texts-drop names i d h = rw (add-one, drop-cons names i d) refl
 
-after-step : (front : List ℕ) (p : ℕ) (more : Result (List ℕ) TableCode) → after_places (front ++ (p ∷ [])) more ≡ after_places front (and_place p more)
+after-step : (front : List ℕ) (p : ℕ) (more : Result (List ℕ) TableCode) → after_places (front ++ (p ∷ [])) more ≡ after_places front (and_index p more)
 after-step front p (Ok ps) = ap Ok (append_assoc front (p ∷ []) ps)
 after-step front p (Err e) = refl
 
 pub places-more : (names : List (Bor (List ℕ))) (i : ℕ) (d : Bor (List ℕ)) (header : List (List ℕ)) (front : List ℕ) (p : ℕ) → i < length names
-    → place_of header (get_or names i d).now ≡ Ok p
+    → column_index header (get_or names i d).now ≡ Ok p
     → after_places (front ++ (p ∷ [])) (places_of header (texts (drop (i + 1) names))) ≡ after_places front (places_of header (texts (drop i names)))
 unfolding places_of
 places-more names i d header front p h e = rw (texts-drop names i d h, e) (after-step front p _)
 
 pub places-bad : (names : List (Bor (List ℕ))) (i : ℕ) (d : Bor (List ℕ)) (header : List (List ℕ)) (front : List ℕ) (e : TableCode) → i < length names
-    → place_of header (get_or names i d).now ≡ Err e
+    → column_index header (get_or names i d).now ≡ Err e
     → after_places front (places_of header (texts (drop i names))) ≡ Err e
 unfolding places_of
 places-bad names i d header front e h is = rw (texts-drop names i d h, is) refl

@@ -4,6 +4,6 @@ pub mod ColumnLemmas
 pub mod ReadingLemmas
 pub mod IdLemmas
 pub mod KeyedLemmas
-pub mod RowsRead
+pub mod RowLemmas
 pub mod PolygonLemmas
 pub mod PieceLemmas

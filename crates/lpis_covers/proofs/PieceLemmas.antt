@@ -5,15 +5,15 @@ use Rattle.lpis_covers.specs.declared.fault.Table.TheVariants.{Covers}
 use Rattle.lpis_covers.specs.declared.fault.TableFault.{TableFault}
 use Rattle.lpis_covers.specs.declared.piece.Piece.{Piece}
 use Rattle.lpis_covers.specs.Covers.{more_piece_faults, piece_of}
-use Rattle.lpis_covers.specs.Faults.{id_faults, polygon_faults, polygon_in, told}
+use Rattle.lpis_covers.specs.Faults.{id_faults, polygon_faults, polygon_in, unless_faulty}
 use Rattle.lpis_covers.specs.Table.{Answers, Record, field_of}
-use Rattle.lpis_covers.proofs.RowsRead.{column-passed, fault-retold}
+use Rattle.lpis_covers.proofs.RowLemmas.{column-passed, fault-retold}
 
 pub piece-polygon-fault : (n : ℕ) (row : Record) (parcel class : List ℕ) (f : TableFault)
-    → told (id_faults Covers n (field_of row 1)) (field_of row 1) ≡ Ok parcel
-    → told (id_faults Covers n (field_of row 2)) (field_of row 2) ≡ Ok class
-    → Answers {A = List Member} (Err f) (told (polygon_faults Covers n (field_of row 3)) (polygon_in (field_of row 3)))
-    → Answers {A = Piece} (Err f) (told (more_piece_faults n row) (piece_of row))
+    → unless_faulty (id_faults Covers n (field_of row 1)) (field_of row 1) ≡ Ok parcel
+    → unless_faulty (id_faults Covers n (field_of row 2)) (field_of row 2) ≡ Ok class
+    → Answers {A = List Member} (Err f) (unless_faulty (polygon_faults Covers n (field_of row 3)) (polygon_in (field_of row 3)))
+    → Answers {A = Piece} (Err f) (unless_faulty (more_piece_faults n row) (piece_of row))
 piece-polygon-fault n row parcel class f b c h =
     let last = polygon_faults Covers n (field_of row 3) in
     column-passed (id_faults Covers n (field_of row 1)) _ (field_of row 1) parcel (Err f) (piece_of row) b

@@ -9,7 +9,7 @@ use Rattle.lpis_wkt.specs.Answer.{polygon_of}
 use Rattle.lpis_covers.specs.declared.fault.Table.{Table}
 use Rattle.lpis_covers.specs.declared.fault.TableCode.TheVariants.{NotCsv, BadGeometry}
 use Rattle.lpis_covers.specs.declared.fault.TableFault.TheVariants.{At}
-use Rattle.lpis_covers.specs.Faults.{polygon_faults, polygon_in, told}
+use Rattle.lpis_covers.specs.Faults.{polygon_faults, polygon_in, unless_faulty}
 use Rattle.lpis_covers.specs.Table.{fault_at}
 
 not-utf8 : (bs : List ℕ) → ¬ (IsUtf8 bs) → is_utf8 bs ≡ false
@@ -18,13 +18,13 @@ not-utf8 bs none = by (is_utf8 bs) refl where
   by true e = absurd (none (IsUtf8-from_is_utf8 bs e))
   by false e = e
 
-pub field-no-text : (table : Table) (n : ℕ) (field text : List ℕ) (v : List Member) → text ≡ field → ¬ (IsUtf8 text) → told (polygon_faults table n field) v ≡ Err (fault_at NotCsv table n)
+pub field-no-text : (table : Table) (n : ℕ) (field text : List ℕ) (v : List Member) → text ≡ field → ¬ (IsUtf8 text) → unless_faulty (polygon_faults table n field) v ≡ Err (fault_at NotCsv table n)
 field-no-text table n field text v e none = rw (← e, not-utf8 text none) refl
 
 pub field-polygon : (table : Table) (n : ℕ) (field text : List ℕ) (members : List Member) → text ≡ field → IsUtf8 text → polygon_of text ≡ Ok members
-    → told (polygon_faults table n field) (polygon_in field) ≡ Ok members
+    → unless_faulty (polygon_faults table n field) (polygon_in field) ≡ Ok members
 field-polygon table n field text members e utf8 p = rw (← e, is_utf8-from_IsUtf8 text utf8, p) refl
 
 pub field-no-polygon : (table : Table) (n : ℕ) (field text : List ℕ) (v : List Member) (code : WktCode) (offset : ℕ) → text ≡ field → IsUtf8 text → polygon_of text ≡ Err (code, offset)
-    → told (polygon_faults table n field) v ≡ Err (At BadGeometry table n (Some (In code offset)))
+    → unless_faulty (polygon_faults table n field) v ≡ Err (At BadGeometry table n (Some (In code offset)))
 field-no-polygon table n field text v code offset e utf8 p = rw (← e, is_utf8-from_IsUtf8 text utf8, p) refl

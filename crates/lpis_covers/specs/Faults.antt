@@ -1,4 +1,4 @@
--- The values of a table's rows, and its faults in the order in which the first is told.
+-- The values of a table's rows, and its faults in the order in which the first is reported.
 use Rattle.std.specs.Prelude.{◌+◌, ◌∷◌, ◌++◌, Bool, true, false, not, ℕ, List, [], map, Some}
 use Rattle.std.specs.Prelude.{option_to_list, Result, Ok, Err, if◌then◌else◌}
 use Rattle.std.specs.Str.{is_utf8}
@@ -15,9 +15,9 @@ use Rattle.lpis_covers.specs.Ids.{has_id, is_id}
 use Rattle.lpis_covers.specs.Table.{Reading, Record, fault_at, field_of, table_of}
 
 -- a value where there is no fault, and else the first fault
-abbrev pub told : {A : Type 0} → List TableFault → A → Result A TableFault
-told [] value = Ok value
-told (fault ∷ more) value = Err fault
+abbrev pub unless_faulty : {A : Type 0} → List TableFault → A → Result A TableFault
+unless_faulty [] value = Ok value
+unless_faulty (fault ∷ more) value = Err fault
 
 -- a fault where the test is true
 abbrev pub fault_if : Bool → TableFault → List TableFault
@@ -71,7 +71,7 @@ row_faults kind keys n (r ∷ rs) = kind.faults keys n r
 -- stops the rows
 abbrev pub values_of : {A : Type 0} → RowsOf A → Result Reading TableFault
     → Result (List A) TableFault
-values_of kind (Ok t) = told (row_faults kind [] 1 t.rows ++ option_to_list t.stop)
+values_of kind (Ok t) = unless_faulty (row_faults kind [] 1 t.rows ++ option_to_list t.stop)
     (map kind.value t.rows)
 values_of kind (Err fault) = Err fault
 

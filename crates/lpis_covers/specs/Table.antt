@@ -40,26 +40,26 @@ places_of_name name i (field ∷ fields) =
     places_of_name name (i + 1) fields
 
 -- a column stands where the header has its name, once
-abbrev pub one_place : List ℕ → Result ℕ TableCode
-one_place [] = Err MissingColumn
-one_place (place ∷ []) = Ok place
-one_place (place ∷ other ∷ more) = Err DoubledColumn
+abbrev pub one_index : List ℕ → Result ℕ TableCode
+one_index [] = Err MissingColumn
+one_index (place ∷ []) = Ok place
+one_index (place ∷ other ∷ more) = Err DoubledColumn
 
-abbrev pub place_of : Record → List ℕ → Result ℕ TableCode
-place_of header name = one_place (places_of_name name 0 header)
+abbrev pub column_index : Record → List ℕ → Result ℕ TableCode
+column_index header name = one_index (places_of_name name 0 header)
 
-abbrev pub and_place : ℕ → Result (List ℕ) TableCode → Result (List ℕ) TableCode
-and_place place (Ok places) = Ok (place ∷ places)
-and_place place (Err code) = Err code
+abbrev pub and_index : ℕ → Result (List ℕ) TableCode → Result (List ℕ) TableCode
+and_index place (Ok places) = Ok (place ∷ places)
+and_index place (Err code) = Err code
 
 abbrev pub then_places : Result ℕ TableCode → Result (List ℕ) TableCode → Result (List ℕ) TableCode
-then_places (Ok place) more = and_place place more
+then_places (Ok place) more = and_index place more
 then_places (Err code) more = Err code
 
 -- the places of the columns of these names, or the fault of the first that has one
 unfoldable pub places_of : Record → List (List ℕ) → Result (List ℕ) TableCode
 places_of header [] = Ok []
-places_of header (name ∷ names) = then_places (place_of header name) (places_of header names)
+places_of header (name ∷ names) = then_places (column_index header name) (places_of header names)
 
 -- the field at a place, empty past the last one
 abbrev pub field_of : Record → ℕ → List ℕ

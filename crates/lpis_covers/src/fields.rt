@@ -1,7 +1,8 @@
 //! The fields of a row: identifiers and polygons.
 
 ghost use Rattle.std.specs.Prelude.{◌≡◌, ◌++◌, ◌∷◌, [], IfOk, OnErr};
-ghost use Rattle.lpis_covers.specs.Faults.{id_faults, key_faults, polygon_faults, polygon_in, told};
+ghost use Rattle.lpis_covers.specs.Faults.{id_faults, key_faults, polygon_faults, polygon_in};
+ghost use Rattle.lpis_covers.specs.Faults.{unless_faulty};
 ghost use Rattle.lpis_covers.specs.Table.{Answers, field_of};
 
 use crate::fault::{TableCode, TableFault};
@@ -16,7 +17,7 @@ impl<'a> TableReader<'a> {
     /// The identifier in the k-th wanted field of the row that was read last.
     pub fn id(&self, alloc: Global, k: usize) -> Result<Id, TableFault>
         ensures { let field = field_of self.now.row k in
-            Answers result (told (id_faults self.now.table self.now.number field) field) }
+            Answers result (unless_faulty (id_faults self.now.table self.now.number field) field) }
     {
         match Id::read(alloc, self.field(k))? {
             Some(id) => Ok(id),
@@ -28,7 +29,7 @@ impl<'a> TableReader<'a> {
     /// keys of the rows before it and may not be among them. A refusal adds nothing.
     pub(crate) fn key(&self, alloc: Global, k: usize, keys: &mut Keys) -> Result<Id, TableFault>
         ensures answers { let field = field_of self.now.row k in
-            Answers result (told (key_faults self.now.table self.now.number keys.old field) field) }
+            Answers result (unless_faulty (key_faults self.now.table self.now.number keys.old field) field) }
         ensures added { IfOk result (λ id. keys.new ≡ keys.old ++ id ∷ []) }
         ensures refused { OnErr result (keys.new ≡ keys.old) }
     {
@@ -42,7 +43,7 @@ impl<'a> TableReader<'a> {
     /// The polygon in the k-th wanted field of the row that was read last.
     pub fn polygon(&self, alloc: Global, k: usize) -> Result<Polygon, TableFault>
         ensures { let field = field_of self.now.row k in
-            Answers result (told (polygon_faults self.now.table self.now.number field)
+            Answers result (unless_faulty (polygon_faults self.now.table self.now.number field)
             (polygon_in field)) }
     {
         let Ok(text) = str::from_utf8(self.field(k)) else {

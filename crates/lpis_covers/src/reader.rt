@@ -4,7 +4,7 @@ ghost use Rattle.std.specs.Prelude.{◌≡◌, ◌≤◌, ◌∷◌, [], None, S
 ghost use Rattle.csv.specs.Records.{fields_of};
 ghost use Rattle.csv.specs.Reading.{strip_bom};
 ghost use Rattle.lpis_covers.specs.Table.{Advances, Answers, fault_at, field_of, has_mark, picked};
-ghost use Rattle.lpis_covers.specs.Table.{place_of, places_of, table_of, texts};
+ghost use Rattle.lpis_covers.specs.Table.{column_index, places_of, table_of, texts};
 ghost use Rattle.lpis_covers.specs.declared.fault.TableCode.TheVariants.{BadGeometry};
 ghost use Rattle.lpis_covers.specs.declared.fault.TableFault.TheVariants.{At};
 ghost use Rattle.lpis_covers.specs.private.Columns.{TellsColumn};
@@ -67,7 +67,7 @@ fn without_mark(text: &[u8]) -> &[u8]
 
 /// The place of the one field of a name.
 fn column_place(header: &ByteRecord, name: &[u8]) -> Result<usize, TableCode>
-    ensures { result ≡ place_of (fields_of header.now) name.now }
+    ensures { result ≡ column_index (fields_of header.now) name.now }
 {
     let mut found: Option<usize> = None;
     for i in 0..header.len() {

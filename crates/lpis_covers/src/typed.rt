@@ -1,7 +1,7 @@
 //! The rows of a table as values of a type.
 
 ghost use Rattle.std.specs.Prelude.{◌≡◌, ◌++◌, ◌∷◌, [], Err, IfErr, OnOk};
-ghost use Rattle.lpis_covers.specs.Faults.{rows_of, told};
+ghost use Rattle.lpis_covers.specs.Faults.{rows_of, unless_faulty};
 ghost use Rattle.lpis_covers.specs.Table.{Answers, field_of};
 
 use crate::fault::{Table, TableFault};
@@ -15,7 +15,7 @@ use std::alloc::Global;
 pub trait TableRow: Identified + Drop {
     ghost use Rattle.std.specs.Prelude.{◌≡◌, ◌++◌, List, ℕ};
     ghost use Rattle.lpis_covers.specs.declared.fault.TableFault.{TableFault};
-    ghost use Rattle.lpis_covers.specs.Faults.{RowsOf, key_faults, told};
+    ghost use Rattle.lpis_covers.specs.Faults.{RowsOf, key_faults, unless_faulty};
     ghost use Rattle.lpis_covers.specs.Table.{Answers, Record, field_of, texts};
 
     ghost kind: { RowsOf Self };
@@ -35,7 +35,7 @@ pub trait TableRow: Identified + Drop {
         requires table { reader.now.table ≡ kind.table }
         requires key { id ≡ field_of reader.now.row 0 }
         ensures { Answers result
-            (told (others reader.now.number reader.now.row) (kind.value reader.now.row)) };
+            (unless_faulty (others reader.now.number reader.now.row) (kind.value reader.now.row)) };
 
     ghost key_is_first: { (row : Record) → Self.identifier (kind.value row) ≡ field_of row 0 };
 
@@ -51,7 +51,7 @@ fn add_row<T: TableRow>(
     rows: &mut Vec<T>,
 ) -> Result<(), TableFault>
     requires table { reader.now.table ≡ T.kind.table }
-    ensures fault { IfErr result (λ fault. Answers (Err fault) (told (T.kind.faults keys.old
+    ensures fault { IfErr result (λ fault. Answers (Err fault) (unless_faulty (T.kind.faults keys.old
         reader.now.number reader.now.row) (T.kind.value reader.now.row))) }
     ensures good { OnOk result (T.kind.faults keys.old reader.now.number reader.now.row ≡ []) }
     ensures keys { OnOk result (keys.new ≡ keys.old ++ field_of reader.now.row 0 ∷ []) }

@@ -1,4 +1,4 @@
 pub mod FanLemmas
-pub mod Unsound
-pub mod Counting
+pub mod UnsoundLemmas
+pub mod CountingLemmas
 pub mod PieceLemmas

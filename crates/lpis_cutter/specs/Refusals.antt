@@ -78,9 +78,9 @@ Says r (Disagreement parcel at) = Disagrees r parcel (rational_of at)
 Says r (NoFlats parcel) = IsUneven r parcel
 
 -- what is said of a release where there is no certificate
-abbrev pub Tells : Contents → CutFault → Type 0
-Tells r Memory = ⊤
-Tells r (Refused refusal) = Says r refusal
+abbrev pub RefusesRightly : Contents → CutFault → Type 0
+RefusesRightly r Memory = ⊤
+RefusesRightly r (Refused refusal) = Says r refusal
 
 -- a point is told
 abbrev pub HasPoint : CutFault → Type 0

@@ -8,7 +8,7 @@ ghost use Rattle.lpis_checker.specs.GoodCertificate.{IsGood};
 ghost use Rattle.lpis_checker.specs.SoundMap.{IsSoundEverywhere};
 ghost use Rattle.lpis_cutter.specs.declared.fault.Refusal.TheVariants.{NoCut};
 ghost use Rattle.lpis_cutter.specs.Fans.{IsFan};
-ghost use Rattle.lpis_cutter.specs.Refusals.{HasPoint, Tells};
+ghost use Rattle.lpis_cutter.specs.Refusals.{HasPoint, RefusesRightly};
 ghost use Rattle.lpis_cutter.specs.private.Cutting.{IsTooMany, SaysIfAny};
 
 use crate::fault::{CutFault, Refusal};
@@ -53,7 +53,7 @@ fn no_cut(piece: &Piece) -> Result<Refusal, AllocError>
 
 /// The parts of all pieces.
 fn cut_pieces(cutter: &mut Cutter, alloc: Global, release: &Release) -> Result<Parts, CutFault>
-    ensures { IfErr result (Tells release.now) }
+    ensures { IfErr result (RefusesRightly release.now) }
 {
     let mut parts = no_parts(alloc);
     for piece in release.pieces() {
@@ -139,7 +139,7 @@ fn add_parcel(
     parcel: &Parcel,
     parts: Parts,
 ) -> Result<Parts, CutFault>
-    ensures { IfErr result (Tells release.now) }
+    ensures { IfErr result (RefusesRightly release.now) }
 {
     let flats = parts.flats;
     let own = match flats_that_fit(&tools.net, alloc, flats)? {
@@ -167,7 +167,7 @@ fn fill_parcels(
     parts: Parts,
 ) -> Result<Filled, CutFault>
     ensures ok { IfOk result (λ filled. SaysIfAny release.now filled.kept) }
-    ensures err { IfErr result (Tells release.now) }
+    ensures err { IfErr result (RefusesRightly release.now) }
 {
     let mut parts = parts;
     let mut kept = None;
@@ -195,7 +195,7 @@ fn near_pairs(alloc: Global, triangles: &[Triangle]) -> Result<Vec<(u32, u32)>, 
 /// The certificate of these parts with the separators of their near pairs.
 fn join(alloc: Global, budget: Budget, release: &Release, filled: Filled) -> Result<Cert, CutFault>
     requires kept { SaysIfAny release.now filled.kept }
-    ensures { IfErr result (Tells release.now) }
+    ensures { IfErr result (RefusesRightly release.now) }
 {
     let Filled { parts, kept } = filled;
     let numbered = Numbered::of(alloc, &parts)?;
@@ -231,7 +231,7 @@ fn finish(
     parts: Parts,
     lines: Vec<PairLine>,
 ) -> Result<Cert, CutFault>
-    ensures { IfErr result (Tells release.now) }
+    ensures { IfErr result (RefusesRightly release.now) }
 {
     if let Some(line) = lines.get(GREATEST_COUNT as usize)
         && let Some(refusal) = unseparated(release, numbered, line.i, line.j)?
@@ -245,7 +245,7 @@ fn finish(
 
 /// The certificate of a release, or what it is refused for.
 fn cut_release(alloc: Global, release: &Release) -> Result<Cert, CutFault>
-    ensures { IfErr result (Tells release.now) }
+    ensures { IfErr result (RefusesRightly release.now) }
 {
     let mut tools = Tools {
         cutter: Cutter::new(alloc),
@@ -269,7 +269,7 @@ fn cut_release(alloc: Global, release: &Release) -> Result<Cert, CutFault>
 /// refused without a point only where its edges have other net counts than those of its pieces. A
 /// release of which a point is told is not sound, so that no certificate is good for it.
 pub fn cut(alloc: Global, release: &Release) -> Result<Cert, CutFault>
-    ensures tells { IfErr result (Tells release.now) }
+    ensures tells { IfErr result (RefusesRightly release.now) }
     ensures unsound { IfErr result (λ e. HasPoint e → IsSoundEverywhere release.now → ⊥) }
     ensures no_certificate { IfErr result (λ e. HasPoint e → (c : Cert) → IsGood release.now c → ⊥) }
 {

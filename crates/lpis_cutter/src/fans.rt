@@ -2,7 +2,7 @@
 
 ghost use Rattle.std.specs.Prelude.{◌≡◌, ◌≤◌, ◌<◌, ◌+◌, ◌<ℤ◌, ◌↔◌, pos, IfOk, IsTrue, MatchOption};
 ghost use Rattle.std.specs.Prelude.{length};
-ghost use Rattle.lpis_points.specs.Plane.{orient as orient_lem};
+ghost use Rattle.lpis_points.specs.Plane.{orient as orient_spec};
 ghost use Rattle.lpis_rings.specs.Edges.{edges_of};
 ghost use Rattle.lpis_rings.specs.Polygon.{points_of};
 ghost use Rattle.lpis_cutter.specs.Fans.{IsFan, IsOneRing, SeesAll};
@@ -34,7 +34,7 @@ fn is_one_ring(polygon: &Polygon) -> bool
 
 /// Whether a point is strictly left of the line from a to b.
 fn is_left(a: Point, b: Point, point: Point) -> bool
-    ensures { IsTrue result ↔ (pos 0 <ℤ orient_lem a b point) }
+    ensures { IsTrue result ↔ (pos 0 <ℤ orient_spec a b point) }
 {
     orient(a, b, point) > 0
 }

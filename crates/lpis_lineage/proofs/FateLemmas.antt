@@ -15,9 +15,9 @@ use Rattle.lpis_lineage.specs.private.Tally.{IsTally}
 use Rattle.lpis_lineage.specs.declared.kind.Kind.{Kind}
 use Rattle.lpis_lineage.specs.declared.kind.Kind.TheVariants.{Kept, Ended}
 use Rattle.lpis_lineage.specs.private.Fates.{olds, on_some, is_shared, AreFates}
-use Rattle.lpis_lineage.proofs.RowCounts.{filter-some}
-use Rattle.lpis_lineage.proofs.Clean.{or-left, or-right}
-use Rattle.lpis_lineage.proofs.Basics.{same-sym, or-cases}
+use Rattle.lpis_lineage.proofs.RowCountLemmas.{filter-some}
+use Rattle.lpis_lineage.proofs.CleanLemmas.{or-left, or-right}
+use Rattle.lpis_lineage.proofs.IdentifierLemmas.{same-sym, or-cases}
 use Rattle.lpis_lineage.proofs.SeenLemmas.{any-push, or-cond, or-false, and-true, and-false}
 
 -- an identifier has as many successors as rows with one

@@ -13,7 +13,7 @@ use Rattle.lpis_covers.specs.Ids.{has_id, same_id}
 use Rattle.lpis_lineage.specs.Lineage.{ended, succeeded, is_of, names, is_this, same_new, same_row}
 use Rattle.lpis_lineage.specs.Faults.{clashes}
 use Rattle.lpis_lineage.specs.private.Seen.{IsSeen}
-use Rattle.lpis_lineage.proofs.Basics.{same-sym}
+use Rattle.lpis_lineage.proofs.IdentifierLemmas.{same-sym}
 
 pub any-same : {A : Type 0} (p q : A → Bool) (xs : List A) → ((x : A) → p x ≡ q x) → list_any p xs ≡ list_any q xs
 any-same p q [] e = refl

@@ -1,4 +1,4 @@
--- The faults of a release's lineage, in the order in which the first is told.
+-- The faults of a release's lineage, in the order in which the first is reported.
 use Rattle.std.specs.Prelude.{◌&&◌, ◌||◌, Bool, false, not, cond, ℕ, List, [], ◌∷◌, ◌++◌, ◌≡◌, ◌⊎◌}
 use Rattle.std.specs.Prelude.{Result, Ok, Err, Option, None, Some, is_some, ◌+◌}
 use Rattle.std.specs.List.{list_any}
@@ -15,8 +15,8 @@ use Rattle.lpis_lineage.specs.Lineage.{is_of, same_row, last_live}
 use Rattle.lpis_lineage.specs.Spans.{last_held}
 
 -- a fault where the test is true, before the others
-abbrev pub told : Bool → LineageFault → List LineageFault → List LineageFault
-told b fault others = cond b (fault ∷ others) others
+abbrev pub fault_before : Bool → LineageFault → List LineageFault → List LineageFault
+fault_before b fault others = cond b (fault ∷ others) others
 
 -- the successor, where there is one, is not in the release
 abbrev pub is_missing : List (List ℕ) → Option (List ℕ) → Bool
@@ -32,11 +32,11 @@ clashes r q = same_id r.old q.old
 abbrev pub faults_of_row : List (List ℕ) → List (List ℕ) → List Row → ℕ → Row → List LineageFault
     → List LineageFault
 faults_of_row last live before k r others =
-    told (not (has_id last r.old)) (OldNotLive k) (
-    told (has_id live r.old) (OldStillLive k) (
-    told (is_missing live r.new) (SuccessorMissing k) (
-    told (list_any (same_row r) before) (DoubledRow k) (
-    told (list_any (clashes r) before) (EndingBesideSuccessor k) others))))
+    fault_before (not (has_id last r.old)) (OldNotLive k) (
+    fault_before (has_id live r.old) (OldStillLive k) (
+    fault_before (is_missing live r.new) (SuccessorMissing k) (
+    fault_before (list_any (same_row r) before) (DoubledRow k) (
+    fault_before (list_any (clashes r) before) (EndingBesideSuccessor k) others))))
 
 -- the faults of the rows, of which the first has this number; the rows `before` stand above them
 abbrev pub row_faults : List (List ℕ) → List (List ℕ) → List Row → ℕ → List Row → List LineageFault
@@ -47,17 +47,18 @@ row_faults last live before k (r ∷ rs) = faults_of_row last live before k r
 -- the identifiers that are dropped and have no row
 abbrev pub dropped_faults : List (List ℕ) → List Row → List (List ℕ) → List LineageFault
 dropped_faults live rows [] = []
-dropped_faults live rows (id ∷ ids) = told (not (has_id live id) && not (list_any (is_of id) rows))
+dropped_faults live rows (id ∷ ids) =
+    fault_before (not (has_id live id) && not (list_any (is_of id) rows))
     (NoRow id) (dropped_faults live rows ids)
 
 -- where it was held, and is not live in the last release, that is a fault
-abbrev pub told_used : Option ℕ → Bool → List ℕ → List LineageFault → List LineageFault
-told_used None live id others = others
-told_used (Some year) live id others = told (not live) (UsedBefore id year) others
+abbrev pub used_fault_before : Option ℕ → Bool → List ℕ → List LineageFault → List LineageFault
+used_fault_before None live id others = others
+used_fault_before (Some year) live id others = fault_before (not live) (UsedBefore id year) others
 
 abbrev pub used_faults : List Entry → List (List ℕ) → List (List ℕ) → List LineageFault
 used_faults h last [] = []
-used_faults h last (id ∷ ids) = told_used (last_held h id) (has_id last id) id
+used_faults h last (id ∷ ids) = used_fault_before (last_held h id) (has_id last id) id
     (used_faults h last ids)
 
 -- all faults, in the order: those of the rows, then dropped identifiers, then used ones
@@ -71,6 +72,6 @@ first [] = None
 first (f ∷ fs) = Some f
 
 -- an answer tells the first of these faults, is Ok exactly where there is none, or wants memory
-abbrev pub Tells : {A : Type 0} → List LineageFault → Result A LineageFault → Type 0
-Tells fs (Ok a) = fs ≡ []
-Tells fs (Err e) = (e ≡ Memory) ⊎ (first fs ≡ Some e)
+abbrev pub ReportsFirstOf : {A : Type 0} → List LineageFault → Result A LineageFault → Type 0
+ReportsFirstOf fs (Ok a) = fs ≡ []
+ReportsFirstOf fs (Err e) = (e ≡ Memory) ⊎ (first fs ≡ Some e)

@@ -5,7 +5,7 @@ ghost use Rattle.lpis_covers.specs.Ids.{has_id};
 ghost use Rattle.lpis_lineage.specs.declared.row.Row.{Row};
 ghost use Rattle.lpis_lineage.specs.Lineage.{last_live};
 ghost use Rattle.lpis_lineage.specs.Faults.{faults_of_row, row_faults, dropped_faults, used_faults};
-ghost use Rattle.lpis_lineage.specs.Faults.{faults, Tells};
+ghost use Rattle.lpis_lineage.specs.Faults.{faults, ReportsFirstOf};
 ghost use Rattle.lpis_lineage.specs.private.Seen.{IsSeen};
 ghost use Rattle.lpis_lineage.specs.Accepts.{Decides};
 ghost use Rattle.lpis_lineage.specs.Changes.{IsChange};
@@ -28,7 +28,7 @@ fn check_row(
     number: usize,
 ) -> Result<(), LineageFault>
     ensures tells { (before : List Row) → IsSeen seen.old before
-        → Tells (faults_of_row last.now live.now before number row.now []) result }
+        → ReportsFirstOf (faults_of_row last.now live.now before number row.now []) result }
     ensures seen { (before : List Row) → IsSeen seen.old before
         → OnOk result (IsSeen seen.new (before ++ row.now ∷ [])) }
 {
@@ -51,7 +51,7 @@ fn check_row(
 
 /// Looks at the rows.
 fn check_rows(alloc: Global, last: &IdSet, live: &IdSet, rows: &[Row]) -> Result<Seen, LineageFault>
-    ensures tells { Tells (row_faults last.now live.now [] 1 rows.now) result }
+    ensures tells { ReportsFirstOf (row_faults last.now live.now [] 1 rows.now) result }
     ensures seen { IfOk result (λ s. IsSeen s rows.now) }
 {
     let mut seen = Seen::new(alloc);
@@ -64,7 +64,7 @@ fn check_rows(alloc: Global, last: &IdSet, live: &IdSet, rows: &[Row]) -> Result
 /// Looks for dropped identifiers without a row.
 fn check_dropped(last: &IdSet, live: &IdSet, seen: &Seen) -> Result<(), LineageFault>
     ensures { (rows : List Row) → IsSeen seen.now rows
-        → Tells (dropped_faults live.now rows last.now) result }
+        → ReportsFirstOf (dropped_faults live.now rows last.now) result }
 {
     for id in last.lacking(live) {
         if !seen.has_row(id) {
@@ -90,7 +90,7 @@ fn none_used(history: &History, set: &IdSet) -> bool
 /// Looks for identifiers that were used before; the set has the same ones.
 fn check_used(history: &History, set: &IdSet, ids: &[Id]) -> Result<(), LineageFault>
     requires alike { (q : List ℕ) → has_id set.now q ≡ has_id ids.now q }
-    ensures { Tells (used_faults history.now (last_live history.now) ids.now) result }
+    ensures { ReportsFirstOf (used_faults history.now (last_live history.now) ids.now) result }
 {
     if none_used(history, set) {
         return Ok(());
@@ -100,7 +100,7 @@ fn check_used(history: &History, set: &IdSet, ids: &[Id]) -> Result<(), LineageF
 
 /// Looks for the first identifier that was used before, in their order.
 fn find_used(history: &History, ids: &[Id]) -> Result<(), LineageFault>
-    ensures { Tells (used_faults history.now (last_live history.now) ids.now) result }
+    ensures { ReportsFirstOf (used_faults history.now (last_live history.now) ids.now) result }
 {
     for id in ids {
         if !history.is_live(id) {
@@ -128,7 +128,7 @@ pub fn accept(
     live: &[Id],
     rows: &[Row],
 ) -> Result<Change, LineageFault>
-    ensures tells { Tells (faults history.now live.now rows.now) result }
+    ensures tells { ReportsFirstOf (faults history.now live.now rows.now) result }
     ensures decides { Decides history.now live.now rows.now result }
     ensures change { IfOk result (IsChange (last_live history.now) live.now rows.now) }
 {
@@ -146,7 +146,7 @@ pub(crate) fn check(
     live: &[Id],
     rows: &[Row],
 ) -> Result<IdSet, LineageFault>
-    ensures tells { Tells (faults history.now live.now rows.now) result }
+    ensures tells { ReportsFirstOf (faults history.now live.now rows.now) result }
     ensures decides { Decides history.now live.now rows.now result }
     ensures set { IfOk result (λ s. (q : List ℕ) → has_id s q ≡ has_id live.now q) }
 {
@@ -161,7 +161,7 @@ fn first_fault(
     live: &[Id],
     rows: &[Row],
 ) -> Result<IdSet, LineageFault>
-    ensures tells { Tells (faults history.now live.now rows.now) result }
+    ensures tells { ReportsFirstOf (faults history.now live.now rows.now) result }
     ensures set { IfOk result (λ s. (q : List ℕ) → has_id s q ≡ has_id live.now q) }
 {
     let set = IdSet::of(alloc, live)?;

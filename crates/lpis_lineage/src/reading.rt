@@ -1,7 +1,7 @@
 //! The table of lineage.
 
 ghost use Rattle.std.specs.Prelude.{◌≡◌, ◌∷◌, [], codes};
-ghost use Rattle.lpis_covers.specs.Faults.{rows_of, told};
+ghost use Rattle.lpis_covers.specs.Faults.{rows_of, unless_faulty};
 ghost use Rattle.lpis_covers.specs.Table.{Answers, field_of, texts};
 ghost use Rattle.lpis_covers.specs.declared.fault.Table.TheVariants as tables;
 ghost use Rattle.lpis_lineage.specs.LineageTable.{AnswersRows, lineage_faults, lineage_table};
@@ -22,7 +22,7 @@ fn columns() -> &'static [&'static [u8]]
 fn read_successor(alloc: Global, reader: &TableReader<'_>) -> Result<Option<Id>, TableFault>
     requires { reader.now.table ≡ tables.Lineage }
     ensures { let field = field_of reader.now.row 1 in
-        Answers result (told (successor_faults reader.now.number field) (successor_of field)) }
+        Answers result (unless_faulty (successor_faults reader.now.number field) (successor_of field)) }
 {
     if reader.field(1).is_empty() {
         return Ok(None);
@@ -34,7 +34,7 @@ fn read_successor(alloc: Global, reader: &TableReader<'_>) -> Result<Option<Id>,
 /// The row that was read last.
 fn read_row(alloc: Global, reader: &TableReader<'_>) -> Result<Row, TableFault>
     requires { reader.now.table ≡ tables.Lineage }
-    ensures { Answers result (told (lineage_faults reader.now.number reader.now.row)
+    ensures { Answers result (unless_faulty (lineage_faults reader.now.number reader.now.row)
         (row_of reader.now.row)) }
 {
     let old = reader.id(alloc, 0)?;

@@ -4,7 +4,7 @@ ghost use Rattle.std.specs.Prelude.{◌≡◌, ◌++◌, ◌∷◌, List, [], On
 ghost use Rattle.std.specs.List.{list_any};
 ghost use Rattle.lpis_lineage.specs.declared.row.Row.{Row};
 ghost use Rattle.lpis_lineage.specs.Lineage.{same_row, is_of};
-ghost use Rattle.lpis_lineage.specs.Faults.{told, clashes, Tells};
+ghost use Rattle.lpis_lineage.specs.Faults.{fault_before, clashes, ReportsFirstOf};
 ghost use Rattle.lpis_lineage.specs.declared.fault.LineageFault.TheVariants.{DoubledRow};
 ghost use Rattle.lpis_lineage.specs.declared.fault.LineageFault.TheVariants.{EndingBesideSuccessor};
 ghost use Rattle.lpis_lineage.specs.private.Seen.{IsSeen};
@@ -40,8 +40,8 @@ impl Seen {
     pub(crate) fn end(&mut self, row: &Row, number: usize) -> Result<(), LineageFault>
         requires { row.now.new ≡ None }
         ensures tells { (before : List Row) → IsSeen self.old before
-            → Tells (told (list_any (same_row row.now) before) (DoubledRow number)
-            (told (list_any (clashes row.now) before) (EndingBesideSuccessor number) [])) result }
+            → ReportsFirstOf (fault_before (list_any (same_row row.now) before) (DoubledRow number)
+            (fault_before (list_any (clashes row.now) before) (EndingBesideSuccessor number) [])) result }
         ensures seen { (before : List Row) → IsSeen self.old before
             → OnOk result (IsSeen self.new (before ++ row.now ∷ [])) }
     {
@@ -65,8 +65,8 @@ impl Seen {
     ) -> Result<(), LineageFault>
         requires { row.now.new ≡ Some heir.now }
         ensures tells { (before : List Row) → IsSeen self.old before
-            → Tells (told (list_any (same_row row.now) before) (DoubledRow number)
-            (told (list_any (clashes row.now) before) (EndingBesideSuccessor number) [])) result }
+            → ReportsFirstOf (fault_before (list_any (same_row row.now) before) (DoubledRow number)
+            (fault_before (list_any (clashes row.now) before) (EndingBesideSuccessor number) [])) result }
         ensures seen { (before : List Row) → IsSeen self.old before
             → OnOk result (IsSeen self.new (before ++ row.now ∷ [])) }
     {

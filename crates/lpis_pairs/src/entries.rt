@@ -10,7 +10,7 @@ use std::alloc::{AllocError, Global};
 
 /// A box in a strip. Sorted, entries run strip by strip, and in a strip by where boxes begin.
 #[derive(Clone, Copy, Debug, PartialEq, Eq, PartialOrd, Ord)]
-pub struct Entry {
+pub struct Event {
     pub strip: u64,
     /// Where the box begins, and where it ends.
     pub left: u64,
@@ -26,7 +26,7 @@ pub fn entries_of(
     alloc: Global,
     triangles: &[Triangle],
     height: u64,
-) -> Result<Vec<Entry>, AllocError>
+) -> Result<Vec<Event>, AllocError>
     requires few { length triangles.now ≤ most_triangles }
     requires strips { 0 < height }
     ensures { IfOk result (λ entries. HasEntries triangles.now height entries.items) }
@@ -36,7 +36,7 @@ pub fn entries_of(
         let span = span_of(triangle);
         let first = span.bottom / height;
         for strip in first..span.top / height + 1 {
-            entries.push(Entry {
+            entries.push(Event {
                 strip,
                 left: span.left,
                 right: span.right,

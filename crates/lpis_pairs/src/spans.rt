@@ -2,13 +2,13 @@
 
 ghost use Rattle.std.specs.Prelude.{◌≡◌, ◌<◌};
 ghost use Rattle.lpis_points.specs.Range.{IsInRange};
-ghost use Rattle.lpis_pairs.specs.private.Strips.{offset as offset_lem, span_of as span_of_lem};
+ghost use Rattle.lpis_pairs.specs.private.Strips.{offset as offset_spec, span_of as span_of_spec};
 
 use lpis_points::{LIMIT, Triangle, box_of};
 
 /// A box, measured from the least x and the least y in range: none of its numbers is below 0.
 #[derive(Clone, Copy, Debug)]
-pub struct Span {
+pub struct Extent {
     pub left: u64,
     pub bottom: u64,
     pub right: u64,
@@ -18,17 +18,17 @@ pub struct Span {
 /// How far a coordinate is above the least in range.
 fn offset(coordinate: i64) -> u64
     requires { IsInRange coordinate }
-    ensures { result ≡ offset_lem coordinate }
+    ensures { result ≡ offset_spec coordinate }
 {
     (coordinate + LIMIT) as u64
 }
 
 /// The box of a triangle.
-pub fn span_of(triangle: &Triangle) -> Span
-    ensures { result ≡ span_of_lem triangle.now }
+pub fn span_of(triangle: &Triangle) -> Extent
+    ensures { result ≡ span_of_spec triangle.now }
 {
     let corners = box_of(triangle);
-    Span {
+    Extent {
         left: offset(corners.x0),
         bottom: offset(corners.y0),
         right: offset(corners.x1),

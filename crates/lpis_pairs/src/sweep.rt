@@ -4,7 +4,7 @@ ghost use Rattle.std.specs.Prelude.{◌≡◌, ◌↔◌, ℕ, ◌<◌, ◌||◌
 ghost use Rattle.lpis_pairs.specs.NearPairs.{IsNear};
 ghost use Rattle.lpis_pairs.specs.private.Entering.{AreEntries, AreInOrder, AreNear, Joins};
 
-use crate::entries::{Entry, entries_of};
+use crate::entries::{Event, entries_of};
 use crate::near::is_near;
 use crate::order::in_order;
 use crate::source::PairSource;
@@ -42,7 +42,7 @@ fn push_near(
 }
 
 /// Whether the second entry stands in the strip of the first, and begins before that ends.
-fn is_met(first: &Entry, second: &Entry) -> bool
+fn is_met(first: &Event, second: &Event) -> bool
     ensures { IsTrue result
         ↔ ((first.now.strip ≡ second.now.strip) × (second.now.left < first.now.right)) }
 {
@@ -50,7 +50,7 @@ fn is_met(first: &Entry, second: &Entry) -> bool
 }
 
 /// Whether one of the two boxes starts in this strip: of the strips that both meet only the lowest.
-fn one_starts(first: &Entry, second: &Entry) -> bool
+fn one_starts(first: &Event, second: &Event) -> bool
     ensures { result ≡ (first.now.starts || second.now.starts) }
 {
     first.starts || second.starts
@@ -60,7 +60,7 @@ fn one_starts(first: &Entry, second: &Entry) -> bool
 /// where its box has ended.
 fn join_ahead(
     triangles: &[Triangle],
-    entries: &[Entry],
+    entries: &[Event],
     at: usize,
     pairs: &mut Vec<(u32, u32)>,
 ) -> Result<(), AllocError>
@@ -88,7 +88,7 @@ fn join_ahead(
 fn join(
     alloc: Global,
     triangles: &[Triangle],
-    entries: &[Entry],
+    entries: &[Event],
 ) -> Result<Vec<(u32, u32)>, AllocError>
     requires entries { AreEntries triangles.now entries.now }
     requires order { AreInOrder entries.now }

@@ -5,7 +5,7 @@ use Rattle.std.specs.Prelude.{◌||◌, is_some, slice_get}
 use Rattle.std.specs.List.{IsDistinct, list_any, AllByRecursion}
 use Rattle.std.proofs.lemmas.List.{map-append}
 use Rattle.std.proofs.lemmas.Option.{same_Some}
-use Rattle.lpis_covers.proofs.RowsRead.{column-fault}
+use Rattle.lpis_covers.proofs.RowLemmas.{column-fault}
 use Rattle.lpis_parcels.specs.private.Joined.{AreJoins}
 use Rattle.std.proofs.lemmas.Slice.Eq.{bytes_eq-Decides}
 use Rattle.lpis_covers.specs.declared.class.Class.{Class}
@@ -13,13 +13,13 @@ use Rattle.lpis_covers.specs.declared.piece.Piece.{Piece}
 use Rattle.lpis_covers.specs.declared.fault.TableFault.{TableFault}
 use Rattle.lpis_covers.specs.declared.fault.Table.TheVariants as table
 use Rattle.lpis_covers.specs.declared.fault.TableCode.TheVariants.{UnknownParcel, UnknownClass, ParcelWithoutPieces}
-use Rattle.lpis_covers.specs.Faults.{fault_if, told}
+use Rattle.lpis_covers.specs.Faults.{fault_if, unless_faulty}
 use Rattle.lpis_covers.specs.Ids.{has_id, same_id}
 use Rattle.lpis_covers.specs.Table.{fault_at}
 use Rattle.lpis_parcels.specs.declared.parcel.Parcel.{Parcel}
 use Rattle.lpis_parcels.specs.Eligible.{class_named}
 use Rattle.lpis_parcels.specs.private.Groups.{Refuses, empty_faults, is_nil, places_where}
-use Rattle.lpis_parcels.specs.Release.{class_codes, names, parcel_faults, parcel_ids, piece_faults, unknown_faults}
+use Rattle.lpis_parcels.specs.Release.{class_codes, names, parcel_faults, parcel_ids, join_faults, unknown_faults}
 
 -- identifiers
 same-refl : (a : List ℕ) → same_id a a ≡ true
@@ -36,14 +36,14 @@ same-sym-false a b e = by (same_id b a) refl where
 
 -- one row's unknown parcel or class
 pub parcel-unknown : (parcels : List Parcel) (classes : List Class) (n : ℕ) (piece : Piece) (o : Option ℕ)
-    → is_some o ≡ has_id (parcel_ids parcels) piece.parcel → o ≡ None → told {A = Unit {0}} (unknown_faults parcels classes n piece) (tt {0}) ≡ Err (fault_at UnknownParcel table.Covers n)
+    → is_some o ≡ has_id (parcel_ids parcels) piece.parcel → o ≡ None → unless_faulty {A = Unit {0}} (unknown_faults parcels classes n piece) (tt {0}) ≡ Err (fault_at UnknownParcel table.Covers n)
 parcel-unknown parcels classes n piece o found none =
     let absent : has_id (parcel_ids parcels) piece.parcel ≡ false = sym found ∙ ap is_some none in
     rw absent refl
 
 pub class-unknown : (parcels : List Parcel) (classes : List Class) (n : ℕ) (piece : Piece) (o p : Option ℕ) (k : ℕ)
     → is_some o ≡ has_id (parcel_ids parcels) piece.parcel → o ≡ Some k → is_some p ≡ has_id (class_codes classes) piece.class → p ≡ None
-    → told {A = Unit {0}} (unknown_faults parcels classes n piece) (tt {0}) ≡ Err (fault_at UnknownClass table.Covers n)
+    → unless_faulty {A = Unit {0}} (unknown_faults parcels classes n piece) (tt {0}) ≡ Err (fault_at UnknownClass table.Covers n)
 class-unknown parcels classes n piece o p k found some there none =
     let present : has_id (parcel_ids parcels) piece.parcel ≡ true = sym found ∙ ap is_some some in
     let absent : has_id (class_codes classes) piece.class ≡ false = sym there ∙ ap is_some none in
@@ -172,12 +172,12 @@ joins-more parcels pieces classes groups after places places_after i k j piece d
 
 -- the faults of the pieces, one further
 pub pieces-more : (parcels : List Parcel) (classes : List Class) (n i : ℕ) (pieces : List Piece) (piece : Piece) → slice_get pieces i ≡ Some piece → unknown_faults parcels classes n piece ≡ []
-    → piece_faults parcels classes n (drop i pieces) ≡ piece_faults parcels classes (n + 1) (drop (i + 1) pieces)
+    → join_faults parcels classes n (drop i pieces) ≡ join_faults parcels classes (n + 1) (drop (i + 1) pieces)
 pieces-more parcels classes n i pieces piece at none =
-    ap (piece_faults parcels classes n) (drop-at pieces i piece at) ∙ ap (λ (fs : List TableFault). fs ++ piece_faults parcels classes (n + 1) (drop (i + 1) pieces)) none
+    ap (join_faults parcels classes n) (drop-at pieces i piece at) ∙ ap (λ (fs : List TableFault). fs ++ join_faults parcels classes (n + 1) (drop (i + 1) pieces)) none
 
 pub pieces-fault : (parcels : List Parcel) (classes : List Class) (n i : ℕ) (pieces : List Piece) (piece : Piece) (all : List TableFault) (f : TableFault) → slice_get pieces i ≡ Some piece
-    → all ≡ piece_faults parcels classes n (drop i pieces) → Refuses (unknown_faults parcels classes n piece) f → Refuses all f
+    → all ≡ join_faults parcels classes n (drop i pieces) → Refuses (unknown_faults parcels classes n piece) f → Refuses all f
 pieces-fault parcels classes n i pieces piece all f at is h =
     rw (is, drop-at pieces i piece at) (column-fault (unknown_faults parcels classes n piece) _ tt tt f h)
 
@@ -210,7 +210,7 @@ group-within parcels F groups x k e at = rw e (by parcels k at) where
   by (p ∷ ps) zero at = omega arith
   by (p ∷ ps) (suc k) at = let lt = by ps k at in omega (arith, lt)
 
-pub told-none : (fs : List TableFault) → told {A = Unit {0}} fs (tt {0}) ≡ Ok (tt {0}) → fs ≡ []
+pub told-none : (fs : List TableFault) → unless_faulty {A = Unit {0}} fs (tt {0}) ≡ Ok (tt {0}) → fs ≡ []
 told-none [] h = refl
 told-none (f ∷ fs) h = cc h
 

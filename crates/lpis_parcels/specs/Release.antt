@@ -9,7 +9,7 @@ use Rattle.lpis_covers.specs.declared.fault.TableCode.TheVariants.{ParcelWithout
 use Rattle.lpis_covers.specs.declared.fault.TableFault.{TableFault}
 use Rattle.lpis_covers.specs.Classes.{classes_table}
 use Rattle.lpis_covers.specs.Covers.{covers_table}
-use Rattle.lpis_covers.specs.Faults.{fault_if, rows_of, told}
+use Rattle.lpis_covers.specs.Faults.{fault_if, rows_of, unless_faulty}
 use Rattle.lpis_covers.specs.Ids.{has_id, same_id}
 use Rattle.lpis_covers.specs.Table.{fault_at}
 use Rattle.lpis_parcels.specs.declared.parcel.Parcel.{Parcel}
@@ -39,10 +39,10 @@ unknown_faults parcels classes n piece =
     (fault_at UnknownClass table.Covers n)
 
 -- the same of pieces, row by row from this one on
-abbrev pub piece_faults : List Parcel → List Class → ℕ → List Piece → List TableFault
-piece_faults parcels classes n [] = []
-piece_faults parcels classes n (p ∷ ps) = unknown_faults parcels classes n p
-    ++ piece_faults parcels classes (n + 1) ps
+abbrev pub join_faults : List Parcel → List Class → ℕ → List Piece → List TableFault
+join_faults parcels classes n [] = []
+join_faults parcels classes n (p ∷ ps) = unknown_faults parcels classes n p
+    ++ join_faults parcels classes (n + 1) ps
 
 -- a piece names the parcel of this identifier
 abbrev pub names : List ℕ → Piece → Bool
@@ -57,10 +57,10 @@ parcel_faults pieces n (p ∷ ps) =
 
 -- the faults of the joins: those of each piece in order, then those of each parcel
 abbrev pub join_faults : Contents → List TableFault
-join_faults c = piece_faults c.parcels c.classes 1 c.pieces ++ parcel_faults c.pieces 1 c.parcels
+join_faults c = join_faults c.parcels c.classes 1 c.pieces ++ parcel_faults c.pieces 1 c.parcels
 
 abbrev pub joined : Contents → Result Contents TableFault
-joined c = told (join_faults c) c
+joined c = unless_faulty (join_faults c) c
 
 abbrev pub then_read : {A B : Type 0} → Result A TableFault → (A → Result B TableFault)
     → Result B TableFault

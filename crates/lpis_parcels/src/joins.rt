@@ -4,10 +4,10 @@ ghost use Rattle.std.specs.Prelude.{◌≡◌, ◌<◌, ◌≤◌, ◌++◌, ◌
 ghost use Rattle.std.specs.Prelude.{length, replicate, slice_get, slice_index_or, slice_set};
 ghost use Rattle.std.specs.Prelude.{vec_len};
 ghost use Rattle.std.specs.List.{IsDistinct};
-ghost use Rattle.lpis_covers.specs.Faults.{told};
+ghost use Rattle.lpis_covers.specs.Faults.{unless_faulty};
 ghost use Rattle.lpis_covers.specs.Ids.{same_id};
 ghost use Rattle.lpis_covers.specs.Table.{Answers, fault_at, most_rows};
-ghost use Rattle.lpis_parcels.specs.Release.{class_codes, join_faults, parcel_ids, piece_faults};
+ghost use Rattle.lpis_parcels.specs.Release.{class_codes, join_faults, parcel_ids, join_faults};
 ghost use Rattle.lpis_parcels.specs.Release.{unknown_faults};
 ghost use Rattle.lpis_parcels.specs.private.Groups.{Refuses, empty_faults};
 ghost use Rattle.lpis_parcels.specs.private.Joined.{AreJoins, group_lists};
@@ -85,10 +85,10 @@ fn join_pieces(
     classes: &Classes,
 ) -> Result<Joins, TableFault>
     requires { IsDistinct same_id (class_codes classes.now) }
-    ensures none { IfOk result (λ _. piece_faults parcels.now classes.now 1 pieces.now ≡ []) }
+    ensures none { IfOk result (λ _. join_faults parcels.now classes.now 1 pieces.now ≡ []) }
     ensures joins { IfOk result (λ j. AreJoins parcels.now pieces.now classes.now (group_lists j.groups.items)
         j.classes.items) }
-    ensures err { IfErr result (Refuses (piece_faults parcels.now classes.now 1 pieces.now)) }
+    ensures err { IfErr result (Refuses (join_faults parcels.now classes.now 1 pieces.now)) }
 {
     let mut groups = empty_groups(alloc, parcels.as_slice().len())?;
     let mut class_places = Vec::new(alloc);
@@ -106,7 +106,7 @@ fn join_pieces(
 /// Looks for a parcel without pieces.
 fn check_groups(groups: &[Vec<usize>]) -> Result<(), TableFault>
     requires { length groups.now ≤ most_rows }
-    ensures { Answers result (told (empty_faults 1 (group_lists groups.now)) tt) }
+    ensures { Answers result (unless_faulty (empty_faults 1 (group_lists groups.now)) tt) }
 {
     for (k, group) in groups.iter().enumerate() {
         if group.is_empty() {

@@ -1,7 +1,7 @@
 //! Boxes of triangles.
 
 ghost use Rattle.std.specs.Prelude.{◌≡◌};
-ghost use Rattle.lpis_points.specs.Triangles.{are_apart, box_of as box_of_lem, ends_before};
+ghost use Rattle.lpis_points.specs.Triangles.{are_apart, box_of as box_of_spec, ends_before};
 ghost use Rattle.lpis_points.specs.Triangles.{greatest, least};
 
 use crate::triangle::Triangle;
@@ -29,7 +29,7 @@ fn greatest_of(a: i64, b: i64, c: i64) -> i64
 
 /// The box of a triangle: the least and greatest x and y of its corners.
 pub fn box_of(triangle: &Triangle) -> Box4
-    ensures { result ≡ box_of_lem triangle.now }
+    ensures { result ≡ box_of_spec triangle.now }
 {
     let Triangle { a, b, c } = *triangle;
     Box4 {

@@ -1,8 +1,8 @@
 //! On which side of a line a point lies, and how an edge passes it.
 
 ghost use Rattle.std.specs.Prelude.{◌≡◌, ◌-ℤ◌, ◌*ℤ◌, ◌≤◌, unsigned_abs};
-ghost use Rattle.lpis_points.specs.Plane.{crossing as crossing_lem, crossing_of};
-ghost use Rattle.lpis_points.specs.Plane.{orient as orient_lem, orient_at as orient_at_lem};
+ghost use Rattle.lpis_points.specs.Plane.{crossing as crossing_spec, crossing_of};
+ghost use Rattle.lpis_points.specs.Plane.{orient as orient_spec, orient_at as orient_at_spec};
 ghost use Rattle.lpis_points.specs.RatPoints.{rational_of};
 ghost use Rattle.lpis_points.specs.private.Margins.{coordinate_margin, denominator_margin};
 ghost use Rattle.lpis_points.specs.private.Margins.{step_margin, height_margin, offset_margin};
@@ -80,7 +80,7 @@ fn passing(from: i128, to: i128, y: i128, side: i128) -> i8
 /// is twice the signed area of the triangle, in square centimetres.
 #[tactic(auto, unfolding(crate::specs::Plane::orient))]
 pub fn orient(a: Point, b: Point, c: Point) -> i128
-    ensures { result ≡ orient_lem a b c }
+    ensures { result ≡ orient_spec a b c }
 {
     turn(
         step(a.x, b.x),
@@ -93,7 +93,7 @@ pub fn orient(a: Point, b: Point, c: Point) -> i128
 /// Above 0 where `p` is left of the directed line from `a` to `b`, 0 on it, below 0 right of it:
 /// `orient`, times the point's `d`.
 pub fn orient_at(a: Point, b: Point, p: &RatPoint) -> i128
-    ensures { result ≡ orient_at_lem a b (rational_of p.now) }
+    ensures { result ≡ orient_at_spec a b (rational_of p.now) }
 {
     turn(
         step(a.x, b.x),
@@ -108,7 +108,7 @@ pub fn orient_at(a: Point, b: Point, p: &RatPoint) -> i128
 /// -1 where it goes down past it with the point on its right, and else 0. An edge has its lower end
 ///   and not its upper one.
 pub fn crossing(a: Point, b: Point, p: &RatPoint) -> i8
-    ensures { result ≡ crossing_lem a b (rational_of p.now) }
+    ensures { result ≡ crossing_spec a b (rational_of p.now) }
 {
     let side = orient_at(a, b, p);
     passing(height(a.y, p.d), height(b.y, p.d), p.y as i128, side)

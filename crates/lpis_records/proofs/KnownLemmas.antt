@@ -10,13 +10,13 @@ use Rattle.std.proofs.lemmas.List.{map-append, take-append-drop}
 use Rattle.std.proofs.lemmas.List.Elements.{All-push}
 use Rattle.lpis_covers.specs.Ids.{has_id, is_id, same_id}
 use Rattle.lpis_lineage.specs.declared.row.Row.{Row}
-use Rattle.lpis_lineage.proofs.Basics.{add-by_order, has-by_order, same-exact, same-refl, same-sym}
-use Rattle.lpis_lineage.proofs.RowCounts.{filter-append, filter-none, filter-some}
+use Rattle.lpis_lineage.proofs.IdentifierLemmas.{add-by_order, has-by_order, same-exact, same-refl, same-sym}
+use Rattle.lpis_lineage.proofs.RowCountLemmas.{filter-append, filter-none, filter-some}
 use Rattle.lpis_lineage.proofs.SeenLemmas.{any-push, or-cond}
-use Rattle.lpis_lineage.proofs.Telling.{take-at}
+use Rattle.lpis_lineage.proofs.TellingLemmas.{take-at}
 use Rattle.lpis_records.specs.declared.known.KnownLine.{KnownLine}
 use Rattle.lpis_records.specs.declared.known.KnownSpan.{KnownSpan}
-use Rattle.lpis_records.specs.Content.{Line, Span, lines_from, text_of}
+use Rattle.lpis_records.specs.Content.{Line, StoredSpan, lines_from, text_of}
 use Rattle.lpis_records.specs.private.Covering.{covers}
 use Rattle.lpis_records.specs.private.Known.{line_at, line_in, span_in}
 
@@ -137,7 +137,7 @@ live-else spans i s ids year lt at doesnt live = subst (AreLive ids year) (take-
     ∙ ap (λ (b : Bool). list_any (λ t. same_id q t.id && covers (span_in t) year) (take i spans) || b) (sym (and-false (same_id q s.id)) ∙ ap (λ (b : Bool). same_id q s.id && b) (sym doesnt))
     ∙ sym (any-push (λ (t : KnownSpan). same_id q t.id && covers (span_in t) year) (take i spans) s))
 
-pub spans-more : (rows : List Span) (i : ℕ) (row : Span) (known new : List KnownSpan) (s : KnownSpan) → i < length rows → row ≡ get_or rows i row
+pub spans-more : (rows : List StoredSpan) (i : ℕ) (row : StoredSpan) (known new : List KnownSpan) (s : KnownSpan) → i < length rows → row ≡ get_or rows i row
     → span_in s ≡ row → is_id s.id ≡ true → new ≡ known ++ s ∷ []
     → (map span_in known ≡ take i rows) × All (λ s. is_id s.id ≡ true) known → (map span_in new ≡ take (i + 1) rows) × All (λ s. is_id s.id ≡ true) new
 spans-more rows i row known new s lt at is id n inv = rw n (read-more span_in known s rows i row inv.0 lt at is, All-push (λ (s : KnownSpan). is_id s.id ≡ true) known s inv.1 id)

@@ -12,7 +12,7 @@ pub record Format : Type 0 where
 
 -- a row of `lpis_span`: an identifier, the year of the first release that holds it and that of the
 -- last, or 0
-pub record Span : Type 0 where
+pub record StoredSpan : Type 0 where
   pub id : List ℕ
   pub since : ℤ
   pub until : ℤ
@@ -34,7 +34,7 @@ pub record Live : Type 0 where
 pub record Content : Type 0 where
   pub formats : List Format
   pub years : List ℤ
-  pub spans : List Span
+  pub spans : List StoredSpan
   pub lines : List Line
   pub live : List Live
 
@@ -54,7 +54,7 @@ no_content = record {
 abbrev pub with_year : ℤ → Content → Content
 with_year y c = record c { years = y ∷ c.years }
 
-abbrev pub with_whole_span : Content → Span → Content
+abbrev pub with_whole_span : Content → StoredSpan → Content
 with_whole_span c s = record c { spans = s ∷ c.spans }
 
 -- an identifier that is live from a year on
@@ -65,7 +65,7 @@ abbrev pub with_line : Content → Line → Content
 with_line c l = record c { lines = l ∷ c.lines }
 
 -- the identifier's span ends with this year
-abbrev pub end_at : List ℕ → ℤ → Span → Span
+abbrev pub end_at : List ℕ → ℤ → StoredSpan → StoredSpan
 end_at id y s = if bytes_eq s.id id then record s { until = y } else s
 
 abbrev pub ended : ℤ → Content → List ℕ → Content
@@ -91,7 +91,7 @@ all_ended y ids c = fold (ended y) c ids
 abbrev pub with_spans : ℤ → List (List ℕ) → Content → Content
 with_spans y ids c = fold (with_span y) c ids
 
-abbrev pub with_whole_spans : List Span → Content → Content
+abbrev pub with_whole_spans : List StoredSpan → Content → Content
 with_whole_spans spans c = fold with_whole_span c spans
 
 abbrev pub with_lines : List Line → Content → Content
@@ -120,5 +120,5 @@ published year last gone fresh rows c = with_lines (lines_from year 0 rows)
     (with_spans year fresh (all_ended last gone (with_year year c)))
 
 -- these spans in place of any, no live rows, version 2
-abbrev pub moved : List Span → Content → Content
+abbrev pub moved : List StoredSpan → Content → Content
 moved spans c = with_version (pos 2) (without_live (with_whole_spans spans (without_spans c)))

@@ -9,7 +9,7 @@ use Rattle.lpis_lineage.specs.Lawful.{IsLawful, RowsFit}
 use Rattle.lpis_lineage.specs.Lineage.{entry_at, holds, last_live}
 use Rattle.lpis_lineage.specs.Order.{IsAscending}
 use Rattle.lpis_lineage.specs.Spans.{span_of}
-use Rattle.lpis_records.specs.Content.{Content, Format, Line, Live, Span, lines_from}
+use Rattle.lpis_records.specs.Content.{Content, Format, Line, Live, StoredSpan, lines_from}
 
 -- the greatest year
 abbrev pub last_of_years : ℕ
@@ -39,11 +39,11 @@ shown (Some s) = Some (pos s.first, pos s.last)
 
 -- the row is the span of its identifier: `since` is the year of the first release that holds it;
 -- `until` is 0 while it is live in the last release, else the year of the last release that held it
-abbrev pub IsSpanRow : List Entry → Span → Type 0
+abbrev pub IsSpanRow : List Entry → StoredSpan → Type 0
 IsSpanRow h s = shown (span_of h s.id) ≡ Some (s.since, s.until)
 
 -- the rows of `lpis_span` are the spans of the history's identifiers
-pub record SpansTell (spans : List Span) (h : List Entry) : Type 0 where
+pub record SpansTell (spans : List StoredSpan) (h : List Entry) : Type 0 where
   -- no identifier has two
   pub once : (id : List ℕ) → length (filter (λ s. same_id id s.id) spans) ≤ 1
   pub right : AllByRecursion (IsSpanRow h) spans

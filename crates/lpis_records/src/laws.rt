@@ -7,7 +7,7 @@ ghost use Rattle.lpis_lineage.specs.Lawful.{IsLawful, RowsFit};
 ghost use Rattle.lpis_lineage.specs.Lineage.{last_live, last_year};
 ghost use Rattle.lpis_lineage.specs.declared.row.Entry.{Entry};
 ghost use Rattle.lpis_lineage.specs.declared.row.Row.{Row};
-ghost use Rattle.lpis_records.specs.Content.{Content, Span, moved, no_content, published};
+ghost use Rattle.lpis_records.specs.Content.{Content, StoredSpan, moved, no_content, published};
 ghost use Rattle.lpis_records.specs.Tells.{IsFresh, IsSameContent, IsSameHistory, IsWriting};
 ghost use Rattle.lpis_records.specs.Tells.{SpansTell, Tells, TellsLive, last_of_years};
 
@@ -42,7 +42,8 @@ pub fn order_of_rows_is_free()
 /// Where tables of version 1 say a history, they say it as version 2 after its spans are put in
 /// place of the live rows.
 pub fn moving_keeps_the_history()
-    ensures { (c : Content) (spans : List Span) (h : List Entry) → TellsLive c h → SpansTell spans h
+    ensures { (c : Content) (spans : List StoredSpan) (h : List Entry) → TellsLive c h
+        → SpansTell spans h
         → Tells (moved spans c) h }
 {}
 

@@ -46,9 +46,9 @@ pub struct SpanRow {
 
 impl Model for SpanRow {
     ghost use Rattle.std.specs.Prelude.{string_bytes};
-    ghost use Rattle.lpis_records.specs.Content.{Span};
+    ghost use Rattle.lpis_records.specs.Content.{StoredSpan};
 
-    ghost Value = { Span };
+    ghost Value = { StoredSpan };
 
     ghost view = { λ a. record { id = string_bytes a.id; since = a.since; until = a.until } };
 }

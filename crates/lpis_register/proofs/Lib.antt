@@ -1,6 +1,6 @@
-pub mod Published
-pub mod Readings
-pub mod Ordered
-pub mod OneHistory
-pub mod Openings
-pub mod Commits
+pub mod PublishedLemmas
+pub mod ReadingLemmas
+pub mod OrderedLemmas
+pub mod OneHistoryLemmas
+pub mod OpeningLemmas
+pub mod CommitLemmas

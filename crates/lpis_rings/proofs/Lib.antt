@@ -1,7 +1,7 @@
 pub mod AreaLemmas
 pub mod RingWalkLemmas
-pub mod EdgeCounts
-pub mod Parity
-pub mod AreaByEdges
-pub mod AreaByTriangles
-pub mod Covering
+pub mod EdgeCountLemmas
+pub mod ParityLemmas
+pub mod AreaByEdgesLemmas
+pub mod AreaByTrianglesLemmas
+pub mod CoveringLemmas

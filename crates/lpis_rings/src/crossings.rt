@@ -3,7 +3,7 @@
 ghost use Rattle.std.specs.Prelude.{◌≡◌, ◌≤◌, ◌↔◌, IsTrue, length};
 ghost use Rattle.lpis_points.specs.RatPoints.{rational_of};
 ghost use Rattle.lpis_rings.specs.Polygon.{most_points};
-ghost use Rattle.lpis_rings.specs.Edges.{Contains, edges_of, turns as turns_lem};
+ghost use Rattle.lpis_rings.specs.Edges.{Contains, edges_of, turns as turns_spec};
 
 use crate::polygon::Polygon;
 use crate::walks::Edges;
@@ -21,7 +21,7 @@ pub fn edges(polygon: &Polygon) -> Edges<'_>
 
 /// The sum of the crossings of a polygon's edges by a point.
 pub fn turns(polygon: &Polygon, p: &RatPoint) -> i64
-    ensures { result ≡ turns_lem polygon.now (rational_of p.now) }
+    ensures { result ≡ turns_spec polygon.now (rational_of p.now) }
 {
     let mut sum = 0;
     for (a, b) in edges(polygon) {

@@ -2,7 +2,7 @@
 use Rattle.std.specs.Prelude.{◌≡◌, Bool, List, IsTrue}
 use Rattle.sqlite.specs.Tree.{Trees}
 use Rattle.sqlite.specs.State.{State}
-use Rattle.lpis_records.specs.Content.{Content, Span, moved, no_content}
+use Rattle.lpis_records.specs.Content.{Content, StoredSpan, moved, no_content}
 use Rattle.lpis_records.specs.Tells.{only_format}
 use Rattle.lpis_tables.specs.Bare.{IsBare}
 use Rattle.lpis_tables.specs.Shapes.{Shape, New, First, Moved, with_span_table}
@@ -14,7 +14,7 @@ abbrev pub LeavesMade : Bool → State → Trees → Type 0
 LeavesMade is_new old trees = IsTrue is_new → IsBare old → Leaves New no_content trees
 
 -- these spans in place of the rows of version 1
-abbrev pub LeavesMoved : Bool → Bool → List Span → State → Trees → Type 0
+abbrev pub LeavesMoved : Bool → Bool → List StoredSpan → State → Trees → Type 0
 LeavesMoved spans lives rows old trees =
     (shape : Shape) → IsWith spans lives shape → (c : Content) → c.formats ≡ only_format 1
     → IsStored shape old c → Leaves (with_span_table shape) (moved rows c) trees

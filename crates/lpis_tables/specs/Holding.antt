@@ -7,7 +7,7 @@ use Rattle.sqlite.specs.Tree.{Trees, rowid}
 use Rattle.sqlite_rules.specs.Lists.{Has}
 use Rattle.sqlite.specs.Effect.{Database, IsDatabase}
 use Rattle.sqlite.specs.State.{State}
-use Rattle.lpis_records.specs.Content.{Format, Span, Line, Live, Content}
+use Rattle.lpis_records.specs.Content.{Format, StoredSpan, Line, Live, Content}
 use Rattle.lpis_tables.specs.Shapes.{Shape, schema_of, has_spans, has_live, span_tree}
 
 -- ---- rows as the tables keep them: whole where the key is the rowid, else less the rowid
@@ -18,7 +18,7 @@ format_row f = Int f.one ∷ Null ∷ Int f.version ∷ []
 abbrev pub year_row : ℤ → Row
 year_row y = Int y ∷ Null ∷ []
 
-abbrev pub span_row : Span → Row
+abbrev pub span_row : StoredSpan → Row
 span_row s = Text s.id ∷ Int s.since ∷ Int s.until ∷ []
 
 abbrev pub line_row : Line → Row

@@ -3,12 +3,12 @@
 #![tactic(auto)]
 
 mod coordinate;
+mod fast_path;
 mod fault;
 pub mod laws;
 mod number;
 mod parser;
 mod reading;
-mod scanning;
 mod tokens;
 mod words;
 

@@ -9,7 +9,7 @@ ghost use Rattle.lpis_wkt.specs.private.Coordinates.{coordinate};
 ghost use Rattle.lpis_wkt.specs.private.Views.{placed};
 
 use crate::coordinate::Coordinate;
-use crate::scanning::common_coordinate;
+use crate::fast_path::common_coordinate;
 use std::marker::Model;
 
 /// A `(`, a `)`, a `,` or a word, which is borrowed from the text.

@@ -10,7 +10,7 @@ use Rattle.lpis_cert.specs.CertText.{Line, PieceLine, ParcelLine, PairsLine, Pie
 use Rattle.lpis_cert.specs.CertText.{ParcelBlock, piece_lines, parcel_lines, lines_of}
 use Rattle.lpis_cert.specs.CertText.{text_of_lines}
 use Rattle.lpis_cert.specs.Faults.{Place, InBody, outcome, lines as cut}
-use Rattle.lpis_cert.specs.private.Taken.{Follows}
+use Rattle.lpis_cert.specs.private.Taken.{ReadsLines}
 use Rattle.lpis_cert.specs.Contents.{piece_of, parcel_of, content_of}
 
 -- the line that begins a block
@@ -32,21 +32,21 @@ blocks ps qs = pieces_lines ps ++ parcels_lines qs
 abbrev pub draft_lines : Draft → List Line
 draft_lines d = blocks (map piece_of d.pieces.items) (map parcel_of d.parcels.items)
 
-abbrev pub place_of : Draft → Place
-place_of d = InBody d.stage 0 0 (record { triangles = d.triangles; flats = d.flats })
+abbrev pub draft_place : Draft → Place
+draft_place d = InBody d.stage 0 0 (record { triangles = d.triangles; flats = d.flats })
 
 -- further lines of a text were taken, from line n on
 pub record Grown (before after : List Line) (p q : Place) (text : List ℕ) (n : ℕ) (rest : List ℕ)
     (m : ℕ) : Type 0 where
   pub added : List Line
-  pub follows : Follows text n added rest m
+  pub follows : ReadsLines text n added rest m
   pub lines : after ≡ before ++ added
   pub place : outcome n p (cut text) ≡ outcome m q (cut rest)
   pub shorter : length rest < length text
 
 abbrev pub DraftGrown : Draft → Draft → List ℕ → ℕ → List ℕ → ℕ → Type 0
-DraftGrown old new text n rest m = Grown (draft_lines old) (draft_lines new) (place_of old)
-    (place_of new) text n rest m
+DraftGrown old new text n rest m = Grown (draft_lines old) (draft_lines new) (draft_place old)
+    (draft_place new) text n rest m
 
 -- the whole rest of a text
 pub record Whole (before more : List Line) (text : List ℕ) : Type 0 where

@@ -2,5 +2,5 @@
 use Rattle.std.specs.Prelude.{ℕ}
 
 -- coordinates in centimetres, without their sign
-abbrev pub coordinate_margin : ℕ
-coordinate_margin = 2000000000
+abbrev pub written_margin : ℕ
+written_margin = 2000000000

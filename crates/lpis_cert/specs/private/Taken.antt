@@ -37,9 +37,10 @@ LineFault Memory n e text = Unit {0}
 LineFault (At c m) n e text = (m ≡ n) × FailsWith e text c
 
 -- these lines, from line n on, and then the rest, from line m on
-pub record Follows (text : List ℕ) (n : ℕ) (ls : List Line) (rest : List ℕ) (m : ℕ) : Type 0 where
-  pub parts : text ≡ text_of_lines ls ++ rest
-  pub next : m ≡ n + length ls
+pub record ReadsLines (text : List ℕ) (n : ℕ) (ls : List Line) (rest : List ℕ) (m : ℕ) : Type 0
+  where
+    pub parts : text ≡ text_of_lines ls ++ rest
+    pub next : m ≡ n + length ls
 
 -- the first fault from here on
 abbrev pub FaultFrom : CertFault → ℕ → Place → List ℕ → Type 0

@@ -10,13 +10,13 @@ use Rattle.lpis_cert.specs.Versions.{first_line, written}
 use Rattle.lpis_cert.specs.CertText.{Line, PieceLine, ParcelLine, PairsLine, EndLine, text_of_lines}
 use Rattle.lpis_cert.specs.CertText.{PairLine as separator_line}
 use Rattle.lpis_cert.specs.private.Taken.{corner_line}
-use Rattle.lpis_cert.specs.Contents.{corners_of, separator_of}
+use Rattle.lpis_cert.specs.Contents.{corner_numbers, separator_of}
 
 unfoldable pub line_text : Line → List ℕ
 line_text l = text_of_lines (l ∷ [])
 
 abbrev pub corners_text : Bool → List Triangle → List ℕ
-corners_text flat ts = flat_map (λ t. line_text (corner_line flat (corners_of t))) ts
+corners_text flat ts = flat_map (λ t. line_text (corner_line flat (corner_numbers t))) ts
 
 abbrev pub piece_text : PiecePart → List ℕ
 piece_text p = line_text (PieceLine p.id (length p.triangles) (length p.flats))

@@ -1,6 +1,6 @@
 -- The bytes that a check has read.
 use Rattle.lpis_commands.specs.CheckAnswer.{Inputs}
-use Rattle.lpis_commands.specs.declared.checking.InputBytes.{InputBytes}
+use Rattle.lpis_commands.specs.declared.check.InputBytes.{InputBytes}
 
 abbrev pub inputs_of : InputBytes → Inputs
 inputs_of i = record {

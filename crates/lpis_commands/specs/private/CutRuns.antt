@@ -1,7 +1,7 @@
 -- What a cut has decided. Machinery: only private contracts cite this file.
 use Rattle.std.specs.Option.{option_map}
 use Rattle.lpis_commands.specs.CutAnswer.{CutAnswer}
-use Rattle.lpis_commands.specs.declared.cutting.Outcome.{Outcome}
+use Rattle.lpis_commands.specs.declared.cut.Outcome.{Outcome}
 
 abbrev pub answered : Outcome → CutAnswer
 answered o = record {

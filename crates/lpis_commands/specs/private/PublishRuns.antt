@@ -14,7 +14,7 @@ use Rattle.lpis_commands.specs.declared.failure.Failure.{Failure}
 use Rattle.lpis_commands.specs.declared.failure.Failure.TheVariants.{Memory, Store}
 use Rattle.lpis_commands.specs.PublishAnswer.{Publication}
 use Rattle.lpis_commands.specs.private.CheckRuns.{inputs_of}
-use Rattle.lpis_commands.specs.declared.publishing.PublicationBytes.{PublicationBytes}
+use Rattle.lpis_commands.specs.declared.publish.PublicationBytes.{PublicationBytes}
 
 abbrev pub publication_of : ℕ → PublicationBytes → Publication
 publication_of year p = record {

@@ -81,7 +81,7 @@ fn prefixes_of_a_square_are_refused(rt: HostRuntime) -> Result<(), Fail> {
         let prefix = SQUARE.get(..length).ok_or("a prefix")?;
         let table = table_of(&rt, prefix)?;
         let mut out = Vec::new(rt.alloc());
-        let status = crate::running::run_area(rt.alloc(), table.as_bytes(), &mut out)?;
+        let status = crate::area::run_area(rt.alloc(), table.as_bytes(), &mut out)?;
         assert!(rt; status == 2, "{prefix}");
         assert!(rt; out.starts_with(b"refused 38 area row 1 wkt "), "{prefix}");
     }

@@ -1,6 +1,6 @@
 //! Releases with certificates: their reports and refusals.
 
-use crate::checking::run_check;
+use crate::check::run_check;
 use std::test::Fail;
 
 /// A square of ten metres, and its two halves.

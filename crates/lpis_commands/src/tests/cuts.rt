@@ -2,8 +2,8 @@
 
 use super::checks::{CLASSES, COVERS, LEFT_RING, PARCELS, RIGHT_RING, SQUARE_RING, expect_check};
 use super::devices::Full;
+use crate::cut::run_cut;
 use crate::cut_line::print_refusal;
-use crate::cutting::run_cut;
 use crate::failure::{Failure, Name};
 use lpis_covers::Id;
 use lpis_cutter::Refusal;

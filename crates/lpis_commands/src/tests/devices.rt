@@ -2,12 +2,12 @@
 
 use super::checks::{CLASSES, COVERS, PARCELS, SQUARE_RING, WHOLE};
 use super::{SQUARE, table_of};
-use crate::checking::run_check;
+use crate::area::run_area;
+use crate::check::run_check;
 use crate::failure::{Failure, Name, print_failure};
 use crate::printing::{PrintFault, print_area};
 use crate::reading::{ReadFault, read_all};
 use crate::report::write_report;
-use crate::running::run_area;
 use lpis_cert::read_cert;
 use lpis_checker::check;
 use lpis_pairs::Sweep;

@@ -2,8 +2,8 @@
 
 use super::checks::{CLASSES, COVERS, PARCELS, SQUARE_RING, WHOLE};
 use super::devices::Halting;
-use crate::checking::run_check;
-use crate::cutting::run_cut;
+use crate::check::run_check;
+use crate::cut::run_cut;
 use crate::failure::{Failure, Name};
 use std::test::Fail;
 

@@ -2,7 +2,7 @@
 use Rattle.std.specs.Prelude.{◌≡◌, ℕ, ◌<◌, ◌≤◌, ◌/◌, ◌⊎◌, ◌||◌, nat_eq, true, List, All, Contains}
 use Rattle.std.specs.Prelude.{slice_get, Some}
 use Rattle.lpis_points.specs.declared.triangle.Triangle.{Triangle}
-use Rattle.lpis_pairs.specs.declared.entries.Entry.{Entry}
+use Rattle.lpis_pairs.specs.declared.entries.Event.{Event}
 use Rattle.lpis_pairs.specs.NearPairs.{IsNear, IsBelow}
 use Rattle.lpis_pairs.specs.private.Strips.{span_of}
 
@@ -12,7 +12,7 @@ IsRising ps = (k m : ℕ) (p q : ℕ × ℕ) → k < m → slice_get ps k ≡ So
     → IsBelow p.0 p.1 q.0 q.1
 
 -- the triangle i, in a strip, where strips have a height
-abbrev pub entry : ℕ → Triangle → ℕ → ℕ → Entry
+abbrev pub entry : ℕ → Triangle → ℕ → ℕ → Event
 entry height t i strip = record {
   strip = strip;
   left = (span_of t).left;
@@ -22,31 +22,31 @@ entry height t i strip = record {
 }
 
 -- an entry has the ends of its triangle's box
-pub record IsEntry (ts : List Triangle) (e : Entry) : Type 0 where
+pub record IsEntry (ts : List Triangle) (e : Event) : Type 0 where
   pub t : Triangle
   pub at : slice_get ts e.index ≡ Some t
   pub left : e.left ≡ (span_of t).left
   pub right : e.right ≡ (span_of t).right
 
-abbrev pub AreEntries : List Triangle → List Entry → Type 0
+abbrev pub AreEntries : List Triangle → List Event → Type 0
 AreEntries ts es = All (IsEntry ts) es
 
 -- each triangle has its entry in each strip that its box meets, and there are no others
-pub record HasEntries (ts : List Triangle) (height : ℕ) (es : List Entry) : Type 0 where
+pub record HasEntries (ts : List Triangle) (height : ℕ) (es : List Event) : Type 0 where
   pub only : AreEntries ts es
   pub all : (i strip : ℕ) (t : Triangle) → slice_get ts i ≡ Some t → (span_of t).bottom / height
       ≤ strip → strip ≤ (span_of t).top / height → Contains es (entry height t i strip)
 
 -- by strip, and in a strip by where boxes begin
-abbrev pub AreInOrder : List Entry → Type 0
-AreInOrder es = (k m : ℕ) (e f : Entry) → k < m → slice_get es k ≡ Some e → slice_get es m ≡ Some f
+abbrev pub AreInOrder : List Event → Type 0
+AreInOrder es = (k m : ℕ) (e f : Event) → k < m → slice_get es k ≡ Some e → slice_get es m ≡ Some f
     → (e.strip < f.strip) ⊎ ((e.strip ≡ f.strip) × (e.left ≤ f.left))
 
 -- of two entries of one strip, in which one of them starts, and the second of which begins before
 -- the first ends, the near pair is listed
-abbrev pub Joins : List Triangle → List Entry → List (ℕ × ℕ) → ℕ → ℕ → Type 0
+abbrev pub Joins : List Triangle → List Event → List (ℕ × ℕ) → ℕ → ℕ → Type 0
 Joins ts es ps k m =
-    (e f : Entry) → slice_get es k ≡ Some e → slice_get es m ≡ Some f → e.strip ≡ f.strip
+    (e f : Event) → slice_get es k ≡ Some e → slice_get es m ≡ Some f → e.strip ≡ f.strip
     → f.left < e.right → (e.starts || f.starts) ≡ true
     → (IsNear ts e.index f.index → Contains ps (e.index, f.index))
     × (IsNear ts f.index e.index → Contains ps (f.index, e.index))

@@ -4,7 +4,7 @@ use Rattle.std.specs.Prelude.{option_to_list, Err, if◌then◌else◌}
 use Rattle.lpis_covers.specs.declared.fault.Table.TheVariants as table
 use Rattle.lpis_covers.specs.declared.fault.TableCode.TheVariants.{ParcelWithoutPieces}
 use Rattle.lpis_covers.specs.declared.fault.TableFault.{TableFault}
-use Rattle.lpis_covers.specs.Faults.{fault_if, told}
+use Rattle.lpis_covers.specs.Faults.{fault_if, unless_faulty}
 use Rattle.lpis_covers.specs.Table.{Answers, fault_at}
 
 -- the places of the items that pass a test, the first item at place i
@@ -20,7 +20,7 @@ at_places xs (i ∷ is) = option_to_list (slice_get xs i) ++ at_places xs is
 
 -- the fault is the first of these, or memory ran out
 abbrev pub Refuses : List TableFault → TableFault → Type 0
-Refuses faults fault = Answers {A = Unit {0}} (Err fault) (told faults tt)
+Refuses faults fault = Answers {A = Unit {0}} (Err fault) (unless_faulty faults tt)
 
 abbrev pub is_nil : List ℕ → Bool
 is_nil [] = true

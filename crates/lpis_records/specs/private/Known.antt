@@ -10,11 +10,11 @@ use Rattle.lpis_lineage.specs.declared.row.Row.{Row}
 use Rattle.lpis_lineage.specs.Lineage.{entry_at, holds}
 use Rattle.lpis_records.specs.declared.known.KnownSpan.{KnownSpan}
 use Rattle.lpis_records.specs.declared.known.KnownLine.{KnownLine}
-use Rattle.lpis_records.specs.Content.{Line, Live, Span, text_of}
+use Rattle.lpis_records.specs.Content.{Line, Live, StoredSpan, text_of}
 use Rattle.lpis_records.specs.Tells.{last_of_years}
 use Rattle.lpis_records.specs.private.Covering.{covers}
 
-abbrev pub span_in : KnownSpan → Span
+abbrev pub span_in : KnownSpan → StoredSpan
 span_in s = record { id = s.id; since = s.since; until = s.until }
 
 abbrev pub line_in : KnownLine → Line
@@ -26,11 +26,11 @@ all_live [] = []
 all_live (e ∷ h) = e.live ++ all_live h
 
 -- a live row as a span of one year
-abbrev pub one_year : Live → Span
+abbrev pub one_year : Live → StoredSpan
 one_year l = record { id = l.id; since = l.year; until = l.year }
 
 -- each release holds the identifiers whose span covers its year
-abbrev pub SetsAre : List Span → List Entry → Type 0
+abbrev pub SetsAre : List StoredSpan → List Entry → Type 0
 SetsAre spans h = (i : ℕ) → i < length h → (id : List ℕ)
     → holds h i id ≡ list_any (λ s. same_id id s.id && covers s (entry_at h i).year) spans
 

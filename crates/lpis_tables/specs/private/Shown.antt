@@ -4,7 +4,7 @@ use Rattle.sqlite.specs.declared.types.Value.{Value}
 use Rattle.sqlite.specs.declared.types.Value.TheVariants.{Null, Int, Real, Text, Blob}
 use Rattle.sqlite.specs.Order.{Row, column}
 use Rattle.sqlite.specs.Edit.{id_in}
-use Rattle.lpis_records.specs.Content.{Format, Span, Line, Live}
+use Rattle.lpis_records.specs.Content.{Format, StoredSpan, Line, Live}
 
 abbrev pub text_in : Value → List ℕ
 text_in Null = []
@@ -19,7 +19,7 @@ format_shown row = record { one = id_in (column row 0); version = id_in (column 
 abbrev pub year_shown : Row → ℤ
 year_shown row = id_in (column row 0)
 
-abbrev pub span_shown : Row → Span
+abbrev pub span_shown : Row → StoredSpan
 span_shown row = record {
   id = text_in (column row 0);
   since = id_in (column row 1);

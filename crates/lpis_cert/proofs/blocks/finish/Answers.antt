@@ -4,8 +4,8 @@ use Rattle.std.proofs.lemmas.Bool.Decides.{nat_tests}
 use Rattle.std.proofs.lemmas.Result.{err_from_is_err_and}
 use Rattle.std.proofs.lemmas.List.{length-map}
 use Rattle.lpis_cert.specs.Contents.{piece_of, parcel_of, separator_of}
-use Rattle.lpis_cert.proofs.BlockProofs.{separators_fit}
-use Rattle.lpis_cert.proofs.DraftProofs.{pairs_fault, end_fault, trailing_fault, pairs_follow, whole_of, whole_cert}
+use Rattle.lpis_cert.proofs.BlockLemmas.{separators_fit}
+use Rattle.lpis_cert.proofs.DraftLemmas.{pairs_fault, end_fault, trailing_fault, pairs_follow, whole_of, whole_cert}
 use Rattle.lpis_cert.proofs.blocks.finish.Goals as goal
 
 pub returns-in_err-pairs-clause-err : goal.returns-in_err-pairs-clause-err

@@ -4,10 +4,10 @@ use Rattle.std.proofs.lemmas.Result.{err_from_is_err_and}
 use Rattle.std.proofs.lemmas.List.{length-map}
 use Rattle.lpis_cert.specs.CertText.{ParcelBlock, ParcelLine}
 use Rattle.lpis_cert.specs.Faults.{InBody, grow_flats}
-use Rattle.lpis_cert.specs.Contents.{piece_of, parcel_of, all_corners, corners_of}
-use Rattle.lpis_cert.proofs.BlockProofs.{all_corners_fit}
-use Rattle.lpis_cert.proofs.StepProofs.{fault_after}
-use Rattle.lpis_cert.proofs.DraftProofs.{too_many_parcel, parcel_open, parcel_grown, parcel_pushed}
+use Rattle.lpis_cert.specs.Contents.{piece_of, parcel_of, all_corners, corner_numbers}
+use Rattle.lpis_cert.proofs.BlockLemmas.{all_corners_fit}
+use Rattle.lpis_cert.proofs.StepLemmas.{fault_after}
+use Rattle.lpis_cert.proofs.DraftLemmas.{too_many_parcel, parcel_open, parcel_grown, parcel_pushed}
 use Rattle.lpis_cert.proofs.blocks.parcel_block.Goals as goal
 
 pub returns-then-all_flats-gt-MOST_FLATS-clause-err : goal.returns-then-all_flats-gt-MOST_FLATS-clause-err
@@ -39,4 +39,4 @@ returns-clause-ok c =
     parcel_grown (map piece_of d.pieces.items) (map parcel_of d.parcels.items) (map parcel_of c.push.new.self.items) q d.stage (record { triangles = d.triangles; flats = d.flats }) c.args.flat_count
     c.args.start.text.now c.args.start.line c.args.after.text.now c.args.after.line c.in_ok-own_flats.rest.text.now c.in_ok-own_flats.rest.line
     grown (c.requires.named, omega arith) d.triangles_few c.if-all_flats-gt-MOST_FLATS.false (all_corners_fit fs)
-    (length-map fs corners_of ∙ c.in_ok-own_flats.ensures.count) c.requires.begins c.in_ok-own_flats.ensures.ok
+    (length-map fs corner_numbers ∙ c.in_ok-own_flats.ensures.count) c.requires.begins c.in_ok-own_flats.ensures.ok

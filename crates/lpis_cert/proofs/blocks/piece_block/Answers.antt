@@ -5,9 +5,9 @@ use Rattle.std.proofs.lemmas.List.{length-map}
 use Rattle.lpis_cert.specs.Limits.{most_triangles, most_flats}
 use Rattle.lpis_cert.specs.CertText.{PieceBlock}
 use Rattle.lpis_cert.specs.Faults.{grow}
-use Rattle.lpis_cert.specs.Contents.{piece_of, parcel_of, all_corners, corners_of}
-use Rattle.lpis_cert.proofs.BlockProofs.{all_corners_fit}
-use Rattle.lpis_cert.proofs.DraftProofs.{too_many_piece, piece_grown, piece_fault, flat_fault, piece_pushed}
+use Rattle.lpis_cert.specs.Contents.{piece_of, parcel_of, all_corners, corner_numbers}
+use Rattle.lpis_cert.proofs.BlockLemmas.{all_corners_fit}
+use Rattle.lpis_cert.proofs.DraftLemmas.{too_many_piece, piece_grown, piece_fault, flat_fault, piece_pushed}
 use Rattle.lpis_cert.proofs.blocks.piece_block.Goals as goal
 use Rattle.lpis_cert.proofs.blocks.piece_block.Goals.{then-all_triangles-gt-MOST_TRIANGLES-via-then-all_triangles-gt-MOST_TRIANGLES}
 use Rattle.lpis_cert.proofs.blocks.piece_block.Goals.{then-all_triangles-gt-MOST_TRIANGLES-via-else-all_triangles-gt-MOST_TRIANGLES+then-all_flats-gt-MOST_FLATS}
@@ -43,7 +43,7 @@ returns-in_err-own_flats-clause-err c =
     c.args.after.text.now c.args.after.line
     c.in_ok-own_triangles.middle.text.now c.in_ok-own_triangles.middle.line
     c.requires.fresh (c.requires.named, omega arith, omega arith) c.if-all_triangles-gt-MOST_TRIANGLES.false
-    c.if-all_flats-gt-MOST_FLATS.false c.requires.begins (all_corners_fit ts) (length-map ts corners_of
+    c.if-all_flats-gt-MOST_FLATS.false c.requires.begins (all_corners_fit ts) (length-map ts corner_numbers
     ∙ c.in_ok-own_triangles.ensures.count) c.in_ok-own_triangles.ensures.ok
     (c.in_err-own_flats.ensures.err stage.Pieces 0 (grow (record { triangles = d.triangles; flats = d.flats }) c.args.triangle_count c.args.flat_count)))
 
@@ -63,6 +63,6 @@ returns-clause-ok c =
     c.in_ok-own_triangles.middle.text.now c.in_ok-own_triangles.middle.line c.in_ok-own_flats.rest.text.now
     c.in_ok-own_flats.rest.line
     grown c.requires.fresh none (c.requires.named, omega arith, omega arith) c.if-all_triangles-gt-MOST_TRIANGLES.false c.if-all_flats-gt-MOST_FLATS.false (all_corners_fit ts) (all_corners_fit fs)
-    (length-map ts corners_of ∙ c.in_ok-own_triangles.ensures.count) (length-map fs corners_of
+    (length-map ts corner_numbers ∙ c.in_ok-own_triangles.ensures.count) (length-map fs corner_numbers
     ∙ c.in_ok-own_flats.ensures.count) c.requires.begins c.in_ok-own_triangles.ensures.ok
     c.in_ok-own_flats.ensures.ok

@@ -1,8 +1,8 @@
 use Rattle.std.proofs.Common.{refl}
 use Rattle.lpis_cert.specs.declared.kind.Expected.TheVariants.{Block}
 use Rattle.lpis_cert.specs.CertText.{PieceLine, ParcelLine, PairsLine}
-use Rattle.lpis_cert.proofs.StepProofs.{taken, untaken}
-use Rattle.lpis_cert.proofs.HeadProofs.{values_piece, values_parcel, values_pairs, stands_of, no_block}
+use Rattle.lpis_cert.proofs.StepLemmas.{taken, untaken}
+use Rattle.lpis_cert.proofs.HeadLemmas.{values_piece, values_parcel, values_pairs, stands_of, no_block}
 use Rattle.lpis_cert.proofs.head.head_at.Goals as goal
 
 pub named-requires : goal.named-requires

@@ -1,6 +1,6 @@
 use Rattle.std.proofs.Common.{◌∙◌, ap}
 use Rattle.lpis_cert.specs.Reading.{number}
-use Rattle.lpis_cert.proofs.Numbers.{number_again, number_takes}
+use Rattle.lpis_cert.proofs.NumberLemmas.{number_again, number_takes}
 use Rattle.lpis_cert.proofs.laws.canonical_numbers.Goals as goal
 
 pub returns : goal.returns

@@ -1,4 +1,4 @@
-use Rattle.lpis_cert.proofs.LawProofs.{prefix_cut}
+use Rattle.lpis_cert.proofs.LawLemmas.{prefix_cut}
 use Rattle.lpis_cert.proofs.laws.cut_texts.Goals as goal
 
 pub returns : goal.returns

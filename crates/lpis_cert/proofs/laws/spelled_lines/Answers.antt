@@ -1,4 +1,4 @@
-use Rattle.lpis_cert.proofs.LineProofs.{read_again, read_takes}
+use Rattle.lpis_cert.proofs.LineLemmas.{read_again, read_takes}
 use Rattle.lpis_cert.proofs.laws.spelled_lines.Goals as goal
 
 pub returns : goal.returns

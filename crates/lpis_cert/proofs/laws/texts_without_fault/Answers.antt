@@ -1,4 +1,4 @@
-use Rattle.lpis_cert.proofs.Readback.{whose}
+use Rattle.lpis_cert.proofs.ReadbackLemmas.{whose}
 use Rattle.lpis_cert.proofs.laws.texts_without_fault.Goals as goal
 
 pub returns : goal.returns

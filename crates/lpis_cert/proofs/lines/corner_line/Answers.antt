@@ -1,14 +1,15 @@
 use Rattle.std.proofs.Common.{refl}
-use Rattle.lpis_cert.proofs.BlockProofs.{corner_taken, corner_untaken}
-use Rattle.lpis_cert.specs.Contents.{corners_of}
+use Rattle.lpis_cert.proofs.BlockLemmas.{corner_taken, corner_untaken}
+use Rattle.lpis_cert.specs.Contents.{corner_numbers}
 use Rattle.lpis_cert.specs.private.Taken.{corner_line}
-use Rattle.lpis_cert.proofs.QuickProofs.{begun}
+use Rattle.lpis_cert.proofs.QuickLemmas.{begun}
 use Rattle.lpis_cert.proofs.lines.corner_line.Goals as goal
 
 pub returns-in-Some-corners : goal.returns-in-Some-corners
 returns-in-Some-corners c =
     let kind = c.corner_kind.ensures in
-    corner_taken c.args.flat c.args.rest.text.now c.args.rest.line c.in_ok-words.field-0-0 _ _ _ (corners_of c.in-Some-corners.triangle) (rw kind at c.in_ok-words.ensures) c.in-Some-corners.ensures
+    corner_taken c.args.flat c.args.rest.text.now c.args.rest.line c.in_ok-words.field-0-0 _ _ _
+    (corner_numbers c.in-Some-corners.triangle) (rw kind at c.in_ok-words.ensures) c.in-Some-corners.ensures
 
 pub returns-in-None : goal.returns-in-None
 returns-in-None c =
@@ -16,4 +17,4 @@ returns-in-None c =
     (refl, corner_untaken c.args.flat c.args.rest.text.now c.args.rest.line c.in_ok-words.field-0-0 _ _ _ (rw kind at c.in_ok-words.ensures) c.in-None.ensures)
 
 pub returns-in-Some : goal.returns-in-Some
-returns-in-Some c = begun c.args.rest.text.now c.args.rest.line (corner_line c.args.flat (corners_of c.in-Some.triangle)) c.in-Some.text.now c.in-Some.ensures
+returns-in-Some c = begun c.args.rest.text.now c.args.rest.line (corner_line c.args.flat (corner_numbers c.in-Some.triangle)) c.in-Some.text.now c.in-Some.ensures

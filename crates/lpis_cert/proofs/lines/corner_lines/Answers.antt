@@ -1,9 +1,9 @@
 use Rattle.std.proofs.Common.{◌≡◌, ◌+◌, ◌++◌, ◌∷◌, [], ap, ◌∙◌, length-append, refl, ℕ}
 use Rattle.std.proofs.lemmas.Result.{err_from_is_err_and}
 use Rattle.std.proofs.lemmas.List.{length-map}
-use Rattle.lpis_cert.specs.Contents.{corners_of, all_corners}
-use Rattle.lpis_cert.proofs.StepProofs.{follows_none}
-use Rattle.lpis_cert.proofs.BlockProofs.{corner_fault, corner_more, all_corners_fit}
+use Rattle.lpis_cert.specs.Contents.{corner_numbers, all_corners}
+use Rattle.lpis_cert.proofs.StepLemmas.{follows_none}
+use Rattle.lpis_cert.proofs.BlockLemmas.{corner_fault, corner_more, all_corners_fit}
 use Rattle.lpis_cert.proofs.lines.corner_lines.Goals as goal
 
 pub loop-init : goal.loop-init
@@ -16,7 +16,7 @@ returns-in_err-triangle-clause-err c =
     let p = err_from_is_err_and c.from_residual.result c.from_residual.ensures.1 in
     let ts = c.loop.triangles.items in
     rw (p.1, p.2) (corner_fault c.in_err-triangle.field-0.0 c.args.flat (all_corners ts) c.args.count c.loop.counter c.args.rest.text.now c.args.rest.line c.loop.left.text.now c.loop.left.line
-    (all_corners_fit ts) c.loop-test.true (length-map ts corners_of ∙ c.loop.invariant.count) c.loop.invariant.follows c.in_err-triangle.ensures)
+    (all_corners_fit ts) c.loop-test.true (length-map ts corner_numbers ∙ c.loop.invariant.count) c.loop.invariant.follows c.in_err-triangle.ensures)
 
 pub loop-preserved : goal.loop-preserved
 loop-preserved c =

@@ -1,10 +1,10 @@
 use Rattle.std.proofs.Common.{◌≡◌, map, length}
-use Rattle.lpis_cert.specs.private.Taken.{Follows, corner_line}
+use Rattle.lpis_cert.specs.private.Taken.{ReadsLines, corner_line}
 use Rattle.lpis_cert.specs.Contents.{all_corners}
 use Rattle.lpis_cert.proofs.lines.corner_lines.Given as goal
 
 abbrev pub invariant-loop : goal.invariant-loop
 invariant-loop l = record {
-  follows : Follows l.rest.text.now l.rest.line (map (corner_line l.flat) (all_corners l.triangles.items)) l.left.text.now l.left.line;
+  follows : ReadsLines l.rest.text.now l.rest.line (map (corner_line l.flat) (all_corners l.triangles.items)) l.left.text.now l.left.line;
   count : length l.triangles.items ≡ l.counter;
 }

@@ -1,5 +1,5 @@
 use Rattle.std.proofs.Common.{refl}
-use Rattle.lpis_cert.proofs.BlockProofs.{end_taken, end_untaken}
+use Rattle.lpis_cert.proofs.BlockLemmas.{end_taken, end_untaken}
 use Rattle.lpis_cert.proofs.lines.end_line.Goals as goal
 
 pub returns-in-None : goal.returns-in-None

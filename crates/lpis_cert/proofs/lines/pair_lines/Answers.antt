@@ -2,8 +2,8 @@ use Rattle.std.proofs.Common.{◌≡◌, ◌+◌, ◌++◌, ◌∷◌, [], map, 
 use Rattle.std.proofs.lemmas.Result.{err_from_is_err_and}
 use Rattle.std.proofs.lemmas.List.{length-map}
 use Rattle.lpis_cert.specs.Contents.{separator_of}
-use Rattle.lpis_cert.proofs.StepProofs.{follows_none}
-use Rattle.lpis_cert.proofs.BlockProofs.{pair_fault, pair_more, separators_fit}
+use Rattle.lpis_cert.proofs.StepLemmas.{follows_none}
+use Rattle.lpis_cert.proofs.BlockLemmas.{pair_fault, pair_more, separators_fit}
 use Rattle.lpis_cert.proofs.lines.pair_lines.Goals as goal
 
 pub loop-init : goal.loop-init

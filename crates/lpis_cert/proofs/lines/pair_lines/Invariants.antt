@@ -1,11 +1,11 @@
 use Rattle.std.proofs.Common.{◌≡◌, map, length}
 use Rattle.lpis_cert.specs.CertText.{PairLine}
-use Rattle.lpis_cert.specs.private.Taken.{Follows}
+use Rattle.lpis_cert.specs.private.Taken.{ReadsLines}
 use Rattle.lpis_cert.specs.Contents.{separator_of}
 use Rattle.lpis_cert.proofs.lines.pair_lines.Given as goal
 
 abbrev pub invariant-loop : goal.invariant-loop
 invariant-loop l = record {
-  follows : Follows l.rest.text.now l.rest.line (map PairLine (map separator_of l.pairs.items)) l.left.text.now l.left.line;
+  follows : ReadsLines l.rest.text.now l.rest.line (map PairLine (map separator_of l.pairs.items)) l.left.text.now l.left.line;
   count : length l.pairs.items ≡ l.counter;
 }

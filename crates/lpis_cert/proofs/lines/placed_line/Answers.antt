@@ -1,5 +1,5 @@
 use Rattle.std.proofs.Common.{refl, inr}
-use Rattle.lpis_cert.proofs.StepProofs.{misplaced}
+use Rattle.lpis_cert.proofs.StepLemmas.{misplaced}
 use Rattle.lpis_cert.proofs.lines.placed_line.Goals as goal
 
 pub returns-in-Err : goal.returns-in-Err

@@ -1,5 +1,5 @@
 use Rattle.std.proofs.Common.{sym, ◌∙◌}
-use Rattle.lpis_cert.proofs.ReadProofs.{no_line, other_version, this_version}
+use Rattle.lpis_cert.proofs.ReadLemmas.{no_line, other_version, this_version}
 use Rattle.lpis_cert.proofs.reading.after_version.Goals as goal
 
 pub returns-in_default : goal.returns-in_default

@@ -1,9 +1,9 @@
 use Rattle.std.proofs.Common.{refl, ◌∙◌, sym}
-use Rattle.lpis_cert.proofs.StepProofs.{follows_none}
-use Rattle.lpis_cert.proofs.ReadProofs.{follows_grown, whole_text}
+use Rattle.lpis_cert.proofs.StepLemmas.{follows_none}
+use Rattle.lpis_cert.proofs.ReadLemmas.{follows_grown, whole_text}
 use Rattle.lpis_cert.specs.CertText.{lines_of}
 use Rattle.lpis_cert.specs.Contents.{content_of}
-use Rattle.lpis_cert.specs.private.Drafts.{draft_lines, place_of}
+use Rattle.lpis_cert.specs.private.Drafts.{draft_lines, draft_place}
 use Rattle.lpis_cert.proofs.reading.read_blocks.Goals as goal
 
 pub reading-init : goal.reading-init
@@ -18,7 +18,7 @@ reading-preserved c =
     let grown = rw is at c.in_ok-grown.ensures.ok in
     record {
       follows = follows_grown c.args.start.text.now c.args.start.line (draft_lines c.reading.draft)
-          (draft_lines c.in-More.grown) (place_of c.reading.draft) (place_of c.in-More.grown) c.reading.rest.text.now
+          (draft_lines c.in-More.grown) (draft_place c.reading.draft) (draft_place c.in-More.grown) c.reading.rest.text.now
           c.reading.rest.line c.in-More.left.text.now c.in-More.left.line c.reading.invariant.follows grown;
       place = sym grown.place ∙ c.reading.invariant.place;
     }

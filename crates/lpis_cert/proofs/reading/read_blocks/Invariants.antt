@@ -1,14 +1,14 @@
 use Rattle.std.proofs.Common.{◌≡◌, length}
 use Rattle.lpis_cert.specs.Faults.{lines, outcome, InBody, none_declared}
-use Rattle.lpis_cert.specs.private.Drafts.{draft_lines, place_of}
-use Rattle.lpis_cert.specs.private.Taken.{Follows}
+use Rattle.lpis_cert.specs.private.Drafts.{draft_lines, draft_place}
+use Rattle.lpis_cert.specs.private.Taken.{ReadsLines}
 use Rattle.lpis_cert.specs.declared.kind.Stage.TheVariants.{Pieces}
 use Rattle.lpis_cert.proofs.reading.read_blocks.Given as goal
 
 abbrev pub invariant-reading : goal.invariant-reading
 invariant-reading l = record {
-  follows : Follows l.start.text.now l.start.line (draft_lines l.draft) l.rest.text.now l.rest.line;
-  place : outcome l.rest.line (place_of l.draft) (lines l.rest.text.now) ≡ outcome l.start.line (InBody Pieces 0 0 none_declared) (lines l.start.text.now);
+  follows : ReadsLines l.start.text.now l.start.line (draft_lines l.draft) l.rest.text.now l.rest.line;
+  place : outcome l.rest.line (draft_place l.draft) (lines l.rest.text.now) ≡ outcome l.start.line (InBody Pieces 0 0 none_declared) (lines l.start.text.now);
 }
 
 abbrev pub decreases-reading : goal.decreases-reading

@@ -1,4 +1,4 @@
-use Rattle.lpis_cert.proofs.LawProofs.{is_only}
+use Rattle.lpis_cert.proofs.LawLemmas.{is_only}
 use Rattle.lpis_cert.proofs.reading.read_cert.Goals as goal
 
 pub returns-clause-only : goal.returns-clause-only

@@ -1,5 +1,5 @@
 use Rattle.std.proofs.Common.{◌≡◌, ◌≤◌, false, drop}
-use Rattle.lpis_cert.proofs.Splitting.{gaps}
+use Rattle.lpis_cert.proofs.SplittingLemmas.{gaps}
 use Rattle.lpis_cert.proofs.words.count.Given as goal
 
 abbrev pub invariant-loop-b : goal.invariant-loop-b

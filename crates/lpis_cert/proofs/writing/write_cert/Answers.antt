@@ -1,4 +1,4 @@
-use Rattle.lpis_cert.proofs.WriteProofs.{parts_text_is}
+use Rattle.lpis_cert.proofs.WriteLemmas.{parts_text_is}
 use Rattle.lpis_cert.proofs.writing.write_cert.Goals as goal
 
 pub returns : goal.returns

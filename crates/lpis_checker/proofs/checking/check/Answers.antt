@@ -1,6 +1,6 @@
 use Rattle.lpis_checker.specs.FirstFault.{HoldBelow}
-use Rattle.lpis_checker.proofs.Lowest.{all_hold}
-use Rattle.lpis_checker.proofs.Sound.{good_means_sound}
+use Rattle.lpis_checker.proofs.LowestLemmas.{all_hold}
+use Rattle.lpis_checker.proofs.SoundMapLemmas.{good_means_sound}
 use Rattle.lpis_checker.proofs.checking.check.Goals as goal
 
 pub invariant_of-result : goal.invariant_of-result

@@ -1,8 +1,8 @@
 use Rattle.std.proofs.Common.{arith}
 use Rattle.lpis_checker.specs.declared.condition.Condition.TheVariants.{Names, Triangles, Turned, Flats, Corners, PieceEdges, ParcelEdges}
 use Rattle.lpis_checker.specs.FirstFault.{HoldBelow}
-use Rattle.lpis_checker.proofs.OffLines.{turns_add}
-use Rattle.lpis_checker.proofs.Sound.{areas_add}
+use Rattle.lpis_checker.proofs.OffLinesLemmas.{turns_add}
+use Rattle.lpis_checker.proofs.SoundMapLemmas.{areas_add}
 use Rattle.lpis_checker.proofs.checking.check_parts.Goals as goal
 
 pub returns-in-None-clause-areas : goal.returns-in-None-clause-areas

@@ -2,7 +2,7 @@ use Rattle.std.proofs.Common.{◌≡◌, ◌<◌, ◌≤◌, ℕ, Bool, true, fa
 use Rattle.std.specs.List.{slice_get}
 use Rattle.std.proofs.lemmas.Option.{slice_get_read, slice_get_within, same_Some}
 use Rattle.lpis_cert.specs.declared.part.PairLine.{PairLine}
-use Rattle.lpis_checker.proofs.PairLines.{NamesAt}
+use Rattle.lpis_checker.proofs.PairLineLemmas.{NamesAt}
 use Rattle.lpis_checker.proofs.near_pairs.names_at.Goals as goal
 
 there : (lines : List PairLine) (at i j : ℕ) (l : PairLine) (b : Bool) → slice_get lines at ≡ Some l → (IsTrue b ↔ ((l.i ≡ i) × (l.j ≡ j))) → IsTrue b ↔ NamesAt lines at i j

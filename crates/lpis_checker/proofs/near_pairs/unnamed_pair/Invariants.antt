@@ -1,4 +1,4 @@
-use Rattle.lpis_checker.proofs.PairLines.{WalkAt}
+use Rattle.lpis_checker.proofs.PairLineLemmas.{WalkAt}
 use Rattle.lpis_checker.proofs.near_pairs.unnamed_pair.Given as goal
 
 abbrev pub invariant-loop-i : goal.invariant-loop-i

@@ -1,4 +1,4 @@
-use Rattle.lpis_checker.proofs.NetSums.{cancels_when_same, grows_as}
+use Rattle.lpis_checker.proofs.NetSumLemmas.{cancels_when_same, grows_as}
 use Rattle.lpis_checker.proofs.nets.is_filled.Goals as goal
 
 pub returns : goal.returns

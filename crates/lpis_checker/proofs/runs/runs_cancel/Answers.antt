@@ -2,7 +2,7 @@ use Rattle.std.proofs.Common.{◌≡◌, ℕ, ◌+◌, ◌<◌, ◌≤◌, ◌^�
 use Rattle.std.proofs.lemmas.Int.{ints}
 use Rattle.std.proofs.lemmas.Option.{slice_get_read}
 use Rattle.lpis_checker.specs.private.SignedEdges.{weight}
-use Rattle.lpis_checker.proofs.Sites.{untrue}
+use Rattle.lpis_checker.proofs.SiteLemmas.{untrue}
 use Rattle.lpis_checker.proofs.RunLemmas.{WalkAt, walk_none, walk_zero, walk_on, walk_all, walk_fault}
 use Rattle.lpis_checker.proofs.runs.runs_cancel.Goals as goal
 use Rattle.lpis_checker.proofs.runs.runs_cancel.Goals.{then-sum-ne0+else-ends_run, else-sum-ne0}

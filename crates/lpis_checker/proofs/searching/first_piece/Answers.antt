@@ -3,7 +3,7 @@ use Rattle.lpis_covers.specs.declared.piece.Piece.{Piece}
 use Rattle.lpis_cert.specs.declared.part.PiecePart.{PiecePart}
 use Rattle.lpis_checker.specs.GoodCertificate.{Holds}
 use Rattle.lpis_checker.specs.declared.condition.Site.TheVariants.{PieceAt}
-use Rattle.lpis_checker.proofs.Sites.{at_each, past_pieces}
+use Rattle.lpis_checker.proofs.SiteLemmas.{at_each, past_pieces}
 use Rattle.lpis_checker.proofs.searching.first_piece.Goals as goal
 
 pub returns : goal.returns

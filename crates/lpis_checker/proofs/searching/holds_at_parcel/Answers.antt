@@ -4,7 +4,7 @@ use Rattle.std.proofs.lemmas.Option.{slice_get_within}
 use Rattle.std.proofs.lemmas.Result.{IfOk-weaker}
 use Rattle.lpis_parcels.specs.declared.parcel.Parcel.{Parcel}
 use Rattle.lpis_cert.specs.declared.part.ParcelPart.{ParcelPart}
-use Rattle.lpis_checker.proofs.Sites.{no_parcel, on_parcel, read_at, within_same}
+use Rattle.lpis_checker.proofs.SiteLemmas.{no_parcel, on_parcel, read_at, within_same}
 use Rattle.lpis_checker.proofs.searching.holds_at_parcel.Goals as goal
 
 pub returns-in-Some-Some : goal.returns-in-Some-Some

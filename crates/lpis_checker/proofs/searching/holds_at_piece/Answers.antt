@@ -4,7 +4,7 @@ use Rattle.std.proofs.lemmas.Option.{slice_get_within}
 use Rattle.std.proofs.lemmas.Result.{IfOk-weaker}
 use Rattle.lpis_covers.specs.declared.piece.Piece.{Piece}
 use Rattle.lpis_cert.specs.declared.part.PiecePart.{PiecePart}
-use Rattle.lpis_checker.proofs.Sites.{no_piece, on_piece, read_at, within_same}
+use Rattle.lpis_checker.proofs.SiteLemmas.{no_piece, on_piece, read_at, within_same}
 use Rattle.lpis_checker.proofs.searching.holds_at_piece.Goals as goal
 
 pub returns-in-Some-Some : goal.returns-in-Some-Some

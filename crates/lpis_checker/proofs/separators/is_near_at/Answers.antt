@@ -3,8 +3,8 @@ use Rattle.std.specs.List.{slice_get}
 use Rattle.lpis_checker.specs.GoodCertificate.{triangles_of, IsInOrder}
 use Rattle.lpis_pairs.specs.NearPairs.{IsNear}
 use Rattle.lpis_checker.specs.declared.condition.Site.TheVariants.{LineAt}
-use Rattle.lpis_checker.proofs.Sites.{of_line, read_at}
-use Rattle.lpis_checker.proofs.PairLines.{line_bounds, near_two}
+use Rattle.lpis_checker.proofs.SiteLemmas.{of_line, read_at}
+use Rattle.lpis_checker.proofs.PairLineLemmas.{line_bounds, near_two}
 use Rattle.lpis_checker.proofs.separators.is_near_at.Goals as goal
 
 pub names_near-requires : goal.names_near-requires

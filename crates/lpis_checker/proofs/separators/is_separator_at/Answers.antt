@@ -2,8 +2,8 @@ use Rattle.std.proofs.Common.{◌≡◌, ◌↔◌, IsTrue, List, Some, subst}
 use Rattle.std.specs.List.{slice_get}
 use Rattle.lpis_points.specs.declared.triangle.Triangle.{Triangle}
 use Rattle.lpis_checker.specs.GoodCertificate.{triangles_of, LineSeparates, OfTwo}
-use Rattle.lpis_checker.proofs.Sites.{of_line, read_at}
-use Rattle.lpis_checker.proofs.PairLines.{line_bounds}
+use Rattle.lpis_checker.proofs.SiteLemmas.{of_line, read_at}
+use Rattle.lpis_checker.proofs.PairLineLemmas.{line_bounds}
 use Rattle.lpis_checker.proofs.separators.is_separator_at.Goals as goal
 
 pub line_separates-requires : goal.line_separates-requires

@@ -1,7 +1,7 @@
 use Rattle.std.proofs.Common.{refl}
 use Rattle.lpis_checker.specs.GoodCertificate.{LineSeparates}
-use Rattle.lpis_checker.proofs.Sites.{read_at}
-use Rattle.lpis_checker.proofs.PairLines.{of_two}
+use Rattle.lpis_checker.proofs.SiteLemmas.{read_at}
+use Rattle.lpis_checker.proofs.PairLineLemmas.{of_two}
 use Rattle.lpis_checker.proofs.separators.line_separates.Goals as goal
 
 pub returns : goal.returns

@@ -1,5 +1,5 @@
 use Rattle.std.proofs.Common.{refl}
-use Rattle.lpis_checker.proofs.NetSums.{pushed, passed}
+use Rattle.lpis_checker.proofs.NetSumLemmas.{pushed, passed}
 use Rattle.lpis_checker.proofs.signed.push_edge.Goals as goal
 
 pub returns-in_ok-push : goal.returns-in_ok-push

@@ -1,5 +1,5 @@
 use Rattle.std.proofs.Common.{[], ◌∷◌, ◌∙◌}
-use Rattle.lpis_checker.proofs.NetSums.{growing_none, growing_more, growing_all}
+use Rattle.lpis_checker.proofs.NetSumLemmas.{growing_none, growing_more, growing_all}
 use Rattle.lpis_checker.proofs.signed.push_polygon.Goals as goal
 
 pub loop-a-init : goal.loop-a-init

@@ -1,5 +1,5 @@
 use Rattle.lpis_rings.specs.Edges.{edges_of}
-use Rattle.lpis_checker.proofs.NetSums.{Growing}
+use Rattle.lpis_checker.proofs.NetSumLemmas.{Growing}
 use Rattle.lpis_checker.proofs.signed.push_polygon.Given as goal
 
 abbrev pub invariant-loop-a : goal.invariant-loop-a

@@ -1,6 +1,6 @@
 use Rattle.std.proofs.Common.{false}
 use Rattle.std.proofs.lemmas.Result.{IfOk-weaker}
-use Rattle.lpis_checker.proofs.NetSums.{grows_then}
+use Rattle.lpis_checker.proofs.NetSumLemmas.{grows_then}
 use Rattle.lpis_checker.proofs.signed.take_triangle.Goals as goal
 
 pub returns : goal.returns

@@ -4,7 +4,7 @@ use Rattle.std.proofs.lemmas.List.{at_drop_more}
 use Rattle.lpis_points.specs.declared.triangle.Triangle.{Triangle}
 use Rattle.lpis_points.specs.Triangles.{triangle_edges}
 use Rattle.lpis_rings.specs.Map.{edges_of_triangles}
-use Rattle.lpis_checker.proofs.NetSums.{growing_none, growing_more, growing_all}
+use Rattle.lpis_checker.proofs.NetSumLemmas.{growing_none, growing_more, growing_all}
 use Rattle.lpis_checker.proofs.signed.take_triangles.Goals as goal
 
 pub loop-triangle-init : goal.loop-triangle-init

@@ -1,7 +1,7 @@
 use Rattle.std.proofs.Common.{◌∙◌, ◌++◌, List, ℕ, sym, ap, arith}
 use Rattle.std.specs.Prelude.{option_to_list}
 use Rattle.csv.specs.Records.{fields_of}
-use Rattle.lpis_covers.specs.Table.{one_place}
+use Rattle.lpis_covers.specs.Table.{one_index}
 use Rattle.lpis_covers.proofs.ColumnLemmas.{no-field, place-end, place-first, place-twice, step-named, step-other}
 use Rattle.lpis_covers.proofs.reader.column_place.Goals as goal
 use Rattle.lpis_covers.proofs.reader.column_place.Goals.{in-Some+then-eq_ignore_ascii_case+else-is_some, in-Some+else-eq_ignore_ascii_case, in_default}
@@ -11,7 +11,7 @@ returns-then-is_some c =
     let at = rw c.in-Some.is at c.get.ensures.value in
     let step = step-named c.args.name.now c.loop-i.i (fields_of c.args.header.now) c.in-Some.field.now
     c.eq_ignore_ascii_case.result at c.eq_ignore_ascii_case.ensures.test c.if-eq_ignore_ascii_case.true in
-    sym (place-twice c.loop-i.found c.loop-i.i _ (sym c.is_some.ensures ∙ c.if-is_some.true)) ∙ sym (ap (λ (ps : List ℕ). one_place (option_to_list c.loop-i.found ++ ps)) step) ∙ c.loop-i.invariant
+    sym (place-twice c.loop-i.found c.loop-i.i _ (sym c.is_some.ensures ∙ c.if-is_some.true)) ∙ sym (ap (λ (ps : List ℕ). one_index (option_to_list c.loop-i.found ++ ps)) step) ∙ c.loop-i.invariant
 
 pub loop-i-preserved : goal.loop-i-preserved
 loop-i-preserved c = elim c.match-get.branch [
@@ -19,13 +19,13 @@ loop-i-preserved c = elim c.match-get.branch [
       let at = rw w.in-Some.is at c.get.ensures.value in
       let step = step-named c.args.name.now c.loop-i.i (fields_of c.args.header.now) w.in-Some.field.now
       w.eq_ignore_ascii_case.result at w.eq_ignore_ascii_case.ensures.test w.if-eq_ignore_ascii_case.true in
-      rw w.found-is (ap one_place (place-first c.loop-i.found c.loop-i.i _ (sym w.is_some.ensures ∙ w.if-is_some.false))
-      ∙ sym (ap (λ (ps : List ℕ). one_place (option_to_list c.loop-i.found ++ ps)) step) ∙ c.loop-i.invariant)
+      rw w.found-is (ap one_index (place-first c.loop-i.found c.loop-i.i _ (sym w.is_some.ensures ∙ w.if-is_some.false))
+      ∙ sym (ap (λ (ps : List ℕ). one_index (option_to_list c.loop-i.found ++ ps)) step) ∙ c.loop-i.invariant)
   | in-Some+else-eq_ignore_ascii_case w ↦
       let at = rw w.in-Some.is at c.get.ensures.value in
       let step = step-other c.args.name.now c.loop-i.i (fields_of c.args.header.now) w.in-Some.field.now
       w.eq_ignore_ascii_case.result at w.eq_ignore_ascii_case.ensures.test w.if-eq_ignore_ascii_case.false in
-      rw w.found-is (sym (ap (λ (ps : List ℕ). one_place (option_to_list c.loop-i.found ++ ps)) step) ∙ c.loop-i.invariant)
+      rw w.found-is (sym (ap (λ (ps : List ℕ). one_index (option_to_list c.loop-i.found ++ ps)) step) ∙ c.loop-i.invariant)
   | in_default w ↦ let past = no-field (fields_of c.args.header.now) c.loop-i.i (rw w.in_default.is at c.get.ensures.value) in absurd (omega (arith, past))
 ]
 

@@ -1,5 +1,5 @@
 use Rattle.std.proofs.Common.{◌≡◌, length, map}
-use Rattle.lpis_covers.proofs.RowsRead.{IsRead}
+use Rattle.lpis_covers.proofs.RowLemmas.{IsRead}
 use Rattle.lpis_covers.proofs.typed.read_rows.Given as goal
 
 abbrev pub invariant-rows : goal.invariant-rows

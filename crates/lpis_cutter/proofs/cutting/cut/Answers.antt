@@ -1,4 +1,4 @@
-use Rattle.lpis_cutter.proofs.Unsound.{told_unsound, told_no_certificate}
+use Rattle.lpis_cutter.proofs.UnsoundLemmas.{told_unsound, told_no_certificate}
 use Rattle.lpis_cutter.proofs.cutting.cut.Goals as goal
 
 pub returns-clause-unsound : goal.returns-clause-unsound

@@ -1,7 +1,7 @@
 use Rattle.lpis_rings.specs.Edges.{edges_of}
 use Rattle.lpis_parcels.specs.Release.{pieces_named}
 use Rattle.lpis_checker.specs.GoodCertificate.{edges_of_pieces}
-use Rattle.lpis_cutter.proofs.Counting.{uneven_edges}
+use Rattle.lpis_cutter.proofs.CountingLemmas.{uneven_edges}
 use Rattle.lpis_cutter.proofs.telling.is_uneven.Goals as goal
 
 pub returns : goal.returns

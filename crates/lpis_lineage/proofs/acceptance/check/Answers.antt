@@ -1,4 +1,4 @@
-use Rattle.lpis_lineage.proofs.Accepting.{decides}
+use Rattle.lpis_lineage.proofs.AcceptingLemmas.{decides}
 use Rattle.lpis_lineage.proofs.acceptance.check.Goals as goal
 
 pub returns-clause-decides : goal.returns-clause-decides

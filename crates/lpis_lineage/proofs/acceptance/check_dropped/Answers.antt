@@ -1,5 +1,5 @@
 use Rattle.std.proofs.Common.{◌≡◌, ◌∙◌, sym, ap, List, ℕ}
-use Rattle.lpis_lineage.proofs.Walking.{rowless, dropped-rowless}
+use Rattle.lpis_lineage.proofs.WalkingLemmas.{rowless, dropped-rowless}
 use Rattle.lpis_lineage.proofs.acceptance.check_dropped.Goals as goal
 
 pub loop-id-init : goal.loop-id-init

@@ -1,5 +1,5 @@
 use Rattle.lpis_lineage.specs.Lineage.{last_live}
-use Rattle.lpis_lineage.proofs.Walking.{used-alike}
+use Rattle.lpis_lineage.proofs.WalkingLemmas.{used-alike}
 use Rattle.lpis_lineage.proofs.acceptance.check_used.Goals as goal
 
 pub returns-then-none_used : goal.returns-then-none_used

@@ -4,7 +4,7 @@ use Rattle.lpis_lineage.specs.declared.fault.LineageFault.{LineageFault}
 use Rattle.lpis_lineage.specs.Faults.{row_faults, dropped_faults, used_faults, first}
 use Rattle.lpis_lineage.specs.declared.fault.LineageFault.TheVariants.{Memory}
 use Rattle.std.proofs.lemmas.Result.{err_from_is_err_and}
-use Rattle.lpis_lineage.proofs.Telling.{passed, stops-after, rows-live, dropped-live}
+use Rattle.lpis_lineage.proofs.TellingLemmas.{passed, stops-after, rows-live, dropped-live}
 use Rattle.lpis_lineage.proofs.acceptance.first_fault.Goals as goal
 
 pub returns-in_err-check_dropped-clause-tells : goal.returns-in_err-check_dropped-clause-tells

@@ -4,7 +4,7 @@ use Rattle.std.specs.List.{filter}
 use Rattle.lpis_covers.specs.Ids.{has_id}
 use Rattle.lpis_lineage.specs.Lineage.{last_live}
 use Rattle.lpis_lineage.specs.Faults.{used_faults}
-use Rattle.lpis_lineage.proofs.Walking.{used-lacking, used-unheld}
+use Rattle.lpis_lineage.proofs.WalkingLemmas.{used-lacking, used-unheld}
 use Rattle.lpis_lineage.proofs.acceptance.none_used.Goals as goal
 
 pub loop-id-init : goal.loop-id-init

@@ -1,9 +1,9 @@
 use Rattle.std.proofs.Common.{◌∙◌, ap, ℕ, List, true, ◌≡◌}
 use Rattle.lpis_covers.specs.Ids.{has_id, same_id}
 use Rattle.lpis_lineage.specs.Kinds.{kind}
-use Rattle.lpis_lineage.proofs.Basics.{same-refl}
-use Rattle.lpis_lineage.proofs.Clean.{or-left, or-right}
-use Rattle.lpis_lineage.proofs.KindSteps.{kinds-step}
+use Rattle.lpis_lineage.proofs.IdentifierLemmas.{same-refl}
+use Rattle.lpis_lineage.proofs.CleanLemmas.{or-left, or-right}
+use Rattle.lpis_lineage.proofs.KindStepLemmas.{kinds-step}
 use Rattle.lpis_lineage.proofs.change.kinds_of.Goals as goal
 
 pub loop-id-preserved : goal.loop-id-preserved

@@ -1,4 +1,4 @@
-use Rattle.lpis_lineage.proofs.Accepting.{may-follow, never-follows}
+use Rattle.lpis_lineage.proofs.AcceptingLemmas.{may-follow, never-follows}
 use Rattle.lpis_lineage.proofs.laws.decided_by_faults.Goals as goal
 
 pub returns-clause-follows : goal.returns-clause-follows

@@ -1,4 +1,4 @@
-use Rattle.lpis_lineage.proofs.SpanSteps.{none-held, some-held}
+use Rattle.lpis_lineage.proofs.SpanStepLemmas.{none-held, some-held}
 use Rattle.lpis_lineage.proofs.laws.held_identifiers_have_spans.Goals as goal
 
 pub returns-clause-held : goal.returns-clause-held

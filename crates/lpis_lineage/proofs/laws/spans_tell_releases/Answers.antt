@@ -1,4 +1,4 @@
-use Rattle.lpis_lineage.proofs.SpanLaw.{live-in-law}
+use Rattle.lpis_lineage.proofs.SpanLemmas.{live-in-law}
 use Rattle.lpis_lineage.proofs.laws.spans_tell_releases.Goals as goal
 
 pub returns : goal.returns

@@ -1,9 +1,9 @@
 use Rattle.std.proofs.Common.{◌≡◌, ◌∙◌, ◌++◌, ◌∷◌, [], ℕ, List, Ok, ap, map, sym}
 use Rattle.std.proofs.lemmas.List.{map-append}
 use Rattle.std.proofs.lemmas.Result.{err_from_is_err_and}
-use Rattle.lpis_covers.proofs.RowsRead.{rows-end, rows-fault, rows-start, rows-step, rows-stop}
+use Rattle.lpis_covers.proofs.RowLemmas.{rows-end, rows-fault, rows-start, rows-step, rows-stop}
 use Rattle.lpis_covers.specs.declared.fault.TableFault.{TableFault}
-use Rattle.lpis_covers.specs.Faults.{told}
+use Rattle.lpis_covers.specs.Faults.{unless_faulty}
 use Rattle.lpis_covers.specs.Table.{field_of}
 use Rattle.lpis_lineage.specs.declared.row.Row.{Row}
 use Rattle.lpis_lineage.specs.LineageTable.{lineage_faults, lineage_table, row_of}
@@ -37,8 +37,8 @@ returns-in_err-row c =
     c.next_row.new.self (map (λ (r : Row). r.old) c.rows.rows.items) c.rows.rows.items c.in_err-row.field-0.0 opened
     c.rows.invariant advanced c.in_err-row.ensures))
 
--- a row that is told without a fault
-told-old : (faults : List TableFault) (said row : Row) → told faults said ≡ Ok row → said.old ≡ row.old
+-- a row that is read without a fault
+told-old : (faults : List TableFault) (said row : Row) → unless_faulty faults said ≡ Ok row → said.old ≡ row.old
 told-old [] said row h = cc h
 told-old (f ∷ fs) said row h = cc h
 

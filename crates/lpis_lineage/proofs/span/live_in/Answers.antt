@@ -1,5 +1,5 @@
 use Rattle.std.proofs.Common.{◌∙◌, sym}
-use Rattle.lpis_lineage.proofs.SpanPicks.{live-then, live-else}
+use Rattle.lpis_lineage.proofs.SpanPickLemmas.{live-then, live-else}
 use Rattle.lpis_lineage.proofs.span.live_in.Goals.{then-holds+in_ok-copy+in_ok-push, else-holds}
 use Rattle.lpis_lineage.proofs.span.live_in.Goals as goal
 

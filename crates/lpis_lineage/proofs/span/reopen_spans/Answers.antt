@@ -3,7 +3,7 @@ use Rattle.std.specs.HashMap.{get}
 use Rattle.std.specs.Option.{option_copied_mut}
 use Rattle.lpis_covers.specs.Ids.{has_id, same_id}
 use Rattle.lpis_lineage.specs.private.Keeping.{ended_in}
-use Rattle.lpis_lineage.proofs.TakingBack.{reopen-some}
+use Rattle.lpis_lineage.proofs.TakingBackLemmas.{reopen-some}
 use Rattle.lpis_lineage.proofs.span.reopen_spans.Goals as goal
 
 pub loop-id-preserved-in-Some-get_mut : goal.loop-id-preserved-in-Some-get_mut

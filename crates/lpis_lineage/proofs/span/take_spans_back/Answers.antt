@@ -3,7 +3,7 @@ use Rattle.std.specs.HashMap.{get}
 use Rattle.lpis_covers.specs.Ids.{has_id, same_id}
 use Rattle.lpis_lineage.specs.declared.span.Span.{Span}
 use Rattle.lpis_lineage.specs.private.Keeping.{ended_in, forgotten}
-use Rattle.lpis_lineage.proofs.Extends.{last-entry}
+use Rattle.lpis_lineage.proofs.ExtensionLemmas.{last-entry}
 use Rattle.lpis_lineage.proofs.span.take_spans_back.Goals as goal
 
 pub returns-in-Some : goal.returns-in-Some

@@ -1,5 +1,5 @@
 use Rattle.std.specs.Prelude.{Result, Ok, Err, IfOk}
-use Rattle.lpis_lineage.proofs.Chains.{live-reached}
+use Rattle.lpis_lineage.proofs.ChainLemmas.{live-reached}
 use Rattle.lpis_lineage.proofs.tracing.descendants.Goals as goal
 
 if-ok : {A E : Type 0} (P Q : A → Type 0) (r : Result A E) → ((x : A) → P x → Q x) → IfOk r P → IfOk r Q

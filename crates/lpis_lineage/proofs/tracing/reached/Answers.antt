@@ -3,7 +3,7 @@ use Rattle.lpis_lineage.specs.declared.row.Row.{Row}
 use Rattle.lpis_lineage.specs.Descendants.{all_rows}
 use Rattle.lpis_lineage.specs.private.Following.{Reaches, AreFresh}
 use Rattle.lpis_lineage.specs.Lawful.{IsLawful, RowsFit}
-use Rattle.lpis_lineage.proofs.Chains.{reach-start, release-fresh, rows-more}
+use Rattle.lpis_lineage.proofs.ChainLemmas.{reach-start, release-fresh, rows-more}
 use Rattle.lpis_lineage.proofs.tracing.reached.Goals as goal
 
 pub loop-entry-init : goal.loop-entry-init

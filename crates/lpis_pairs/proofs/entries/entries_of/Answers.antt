@@ -1,9 +1,9 @@
 use Rattle.std.proofs.Common.{◌≡◌, ◌+◌, ◌/◌, ◌≤◌, nat_eq, List, [], ◌∷◌, ◌++◌, length, refl, ap, sym, ◌∙◌, subst}
 use Rattle.std.proofs.lemmas.Option.{slice_get_read}
-use Rattle.lpis_pairs.specs.declared.entries.Entry.{Entry}
-use Rattle.lpis_pairs.specs.declared.spans.Span.{Span}
+use Rattle.lpis_pairs.specs.declared.entries.Event.{Event}
+use Rattle.lpis_pairs.specs.declared.spans.Extent.{Extent}
 use Rattle.lpis_pairs.specs.private.Entering.{entry}
-use Rattle.lpis_pairs.proofs.Entered.{EntriesUpTo, nothing_yet, start_triangle, one_more, end_triangle, whole}
+use Rattle.lpis_pairs.proofs.EnteredLemmas.{EntriesUpTo, nothing_yet, start_triangle, one_more, end_triangle, whole}
 use Rattle.lpis_pairs.proofs.entries.entries_of.Goals as goal
 
 pub loop-i-init : goal.loop-i-init
@@ -17,7 +17,7 @@ loop-strip-init c =
     let i = c.loop-i.i in
     let t = c.index-triangles-i.result in
     let at = slice_get_read ts (length ts) i t refl c.loop-i-test.true c.index-triangles-i.is in
-    subst (λ (s : Span). EntriesUpTo ts height es i (s.bottom / height)) (sym c.span_of-span.ensures) (start_triangle ts height es i t at c.loop-i.invariant)
+    subst (λ (s : Extent). EntriesUpTo ts height es i (s.bottom / height)) (sym c.span_of-span.ensures) (start_triangle ts height es i t at c.loop-i.invariant)
 
 pub loop-strip-preserved : goal.loop-strip-preserved
 loop-strip-preserved c =
@@ -28,9 +28,9 @@ loop-strip-preserved c =
     let strip = c.loop-strip.strip in
     let t = c.index-triangles-i.result in
     let at = slice_get_read ts (length ts) i t refl c.loop-i-test.true c.index-triangles-i.is in
-    let made = ap (λ (s : Span). es ++ record { strip = strip; left = s.left; right = s.right; index = i; starts = nat_eq strip (s.bottom / height) } ∷ []) c.span_of-span.ensures in
+    let made = ap (λ (s : Extent). es ++ record { strip = strip; left = s.left; right = s.right; index = i; starts = nat_eq strip (s.bottom / height) } ∷ []) c.span_of-span.ensures in
     let e : c.push.new.self.items ≡ es ++ entry height t i strip ∷ [] = c.in_ok-push.ensures.items ∙ made in
-    subst (λ (xs : List Entry). EntriesUpTo ts height xs i (strip + 1)) (sym e) (one_more ts height es i strip t at c.loop-strip.invariant)
+    subst (λ (xs : List Event). EntriesUpTo ts height xs i (strip + 1)) (sym e) (one_more ts height es i strip t at c.loop-strip.invariant)
 
 pub loop-i-preserved : goal.loop-i-preserved
 loop-i-preserved c =
@@ -40,7 +40,7 @@ loop-i-preserved c =
     let i = c.loop-i.i in
     let t = c.index-triangles-i.result in
     let at = slice_get_read ts (length ts) i t refl c.loop-i-test.true c.index-triangles-i.is in
-    let past = subst (λ (s : Span). s.top / height + 1 ≤ c.loop-strip.strip) c.span_of-span.ensures c.loop-strip-test.false in
+    let past = subst (λ (s : Extent). s.top / height + 1 ≤ c.loop-strip.strip) c.span_of-span.ensures c.loop-strip-test.false in
     end_triangle ts height es i c.loop-strip.strip t at past c.loop-strip.invariant
 
 pub returns : goal.returns

@@ -1,4 +1,4 @@
-use Rattle.lpis_pairs.proofs.Entered.{EntriesBelow, EntriesUpTo}
+use Rattle.lpis_pairs.proofs.EnteredLemmas.{EntriesBelow, EntriesUpTo}
 use Rattle.lpis_pairs.proofs.entries.entries_of.Given as goal
 
 abbrev pub invariant-loop-strip : goal.invariant-loop-strip

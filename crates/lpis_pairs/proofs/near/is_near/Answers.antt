@@ -1,4 +1,4 @@
-use Rattle.lpis_pairs.proofs.Nearness.{decided}
+use Rattle.lpis_pairs.proofs.NearnessLemmas.{decided}
 use Rattle.lpis_pairs.proofs.near.is_near.Goals as goal
 
 pub returns-then-i-j : goal.returns-then-i-j

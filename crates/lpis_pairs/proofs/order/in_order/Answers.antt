@@ -1,6 +1,6 @@
 use Rattle.std.proofs.lemmas.List.Filters.{dedup_is}
 use Rattle.std.proofs.lemmas.List.Sorted.{Contains-permutation, IsPermutation-sym}
-use Rattle.lpis_pairs.proofs.PairOrder.{pair_eq, rising, kept, no_other}
+use Rattle.lpis_pairs.proofs.PairOrderLemmas.{pair_eq, rising, kept, no_other}
 use Rattle.lpis_pairs.proofs.order.in_order.Goals as goal
 
 pub returns-clause-rising : goal.returns-clause-rising

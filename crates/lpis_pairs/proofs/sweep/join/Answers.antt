@@ -1,4 +1,4 @@
-use Rattle.lpis_pairs.proofs.Joined.{joins_one_more, joins_all}
+use Rattle.lpis_pairs.proofs.JoinedLemmas.{joins_one_more, joins_all}
 use Rattle.lpis_pairs.proofs.sweep.join.Goals as goal
 
 pub loop-at-preserved : goal.loop-at-preserved

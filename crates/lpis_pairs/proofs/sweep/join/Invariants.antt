@@ -1,4 +1,4 @@
-use Rattle.lpis_pairs.proofs.Joined.{JoinsBelow}
+use Rattle.lpis_pairs.proofs.JoinedLemmas.{JoinsBelow}
 use Rattle.lpis_pairs.proofs.sweep.join.Given as goal
 
 abbrev pub invariant-loop-at : goal.invariant-loop-at

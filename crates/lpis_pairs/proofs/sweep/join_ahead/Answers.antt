@@ -1,18 +1,18 @@
 use Rattle.std.proofs.Common.{◌≡◌, ℕ, ◌+◌, ◌<◌, Bool, IsTrue, true, false, ◌||◌, List, length, get_or, Vec, Global, sym, subst, arith}
 use Rattle.std.proofs.lemmas.Option.{slice_get-get_or, slice_get_within}
 use Rattle.lpis_points.specs.declared.triangle.Triangle.{Triangle}
-use Rattle.lpis_pairs.specs.declared.entries.Entry.{Entry}
+use Rattle.lpis_pairs.specs.declared.entries.Event.{Event}
 use Rattle.lpis_pairs.specs.private.Entering.{AreEntries, Joins}
-use Rattle.lpis_pairs.proofs.Joined.{JoinsUpTo, joined_next, joins_read, found_all, found_to_end}
+use Rattle.lpis_pairs.proofs.JoinedLemmas.{JoinsUpTo, joined_next, joins_read, found_all, found_to_end}
 use Rattle.lpis_pairs.proofs.sweep.join_ahead.Goals as goal
 use Rattle.lpis_pairs.proofs.sweep.join_ahead.Goals.{then-one_starts+in_ok-push_near, else-one_starts}
 
 -- what the code reads past the end of the entries
-none : Entry
+none : Event
 none = record { strip = 0; left = 0; right = 0; index = 0; starts = false }
 
 -- the number of an entry is one of a triangle
-within : (ts : List Triangle) (es : List Entry) (k : ℕ) (d : Entry) → AreEntries ts es → k < length es → (get_or es k d).index < length ts
+within : (ts : List Triangle) (es : List Event) (k : ℕ) (d : Event) → AreEntries ts es → k < length es → (get_or es k d).index < length ts
 within ts es k d h l = let e = h k d l in slice_get_within ts (get_or es k d).index e.t e.at
 
 untrue : (r : Bool) → r ≡ false → IsTrue r → ⊥

@@ -1,4 +1,4 @@
-use Rattle.lpis_pairs.proofs.Joined.{JoinsUpTo}
+use Rattle.lpis_pairs.proofs.JoinedLemmas.{JoinsUpTo}
 use Rattle.lpis_pairs.proofs.sweep.join_ahead.Given as goal
 
 abbrev pub invariant-loop-m : goal.invariant-loop-m

@@ -1,5 +1,5 @@
 use Rattle.std.proofs.Common.{◌≡◌, ◌↔◌, Bool, true, false, not, refl}
-use Rattle.lpis_points.proofs.Points.{same_point-equality}
+use Rattle.lpis_points.proofs.PointLemmas.{same_point-equality}
 use Rattle.lpis_points.proofs.triangle.differ.Goals as goal
 
 unequal : (E : Type 0) (r s : Bool) → r ≡ not s → (s ≡ true ↔ E) → (r ≡ true) ↔ (E → ⊥)

@@ -3,8 +3,8 @@ use Rattle.std.proofs.lemmas.Result.{err_from_is_err_and}
 use Rattle.lpis_lineage.specs.declared.row.Row.{Row}
 use Rattle.lpis_lineage.specs.Accepts.{AddTells, Adds}
 use Rattle.lpis_records.specs.private.Known.{line_in}
-use Rattle.lpis_records.proofs.ReleaseMore.{lines-added, sets-added, year-added}
-use Rattle.lpis_records.proofs.Fronts.{due-added, due-refused, due-rows, due-run}
+use Rattle.lpis_records.proofs.ReleaseMoreLemmas.{lines-added, sets-added, year-added}
+use Rattle.lpis_records.proofs.FrontLemmas.{due-added, due-refused, due-rows, due-run}
 use Rattle.lpis_records.proofs.building.add_year.Goals as goal
 
 pub returns-in-Ok-clause-years : goal.returns-in-Ok-clause-years

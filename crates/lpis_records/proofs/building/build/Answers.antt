@@ -1,6 +1,6 @@
 use Rattle.std.proofs.lemmas.Result.{err_from_is_err_and}
 use Rattle.lpis_records.specs.Tells.{years_of}
-use Rattle.lpis_records.proofs.Fronts.{as-long, due-now, front-whole, lines-whole, years-more}
+use Rattle.lpis_records.proofs.FrontLemmas.{as-long, due-now, front-whole, lines-whole, years-more}
 use Rattle.lpis_records.proofs.building.build.Goals as goal
 
 pub returns-in_err-next-clause-refused : goal.returns-in_err-next-clause-refused

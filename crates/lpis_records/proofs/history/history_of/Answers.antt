@@ -5,13 +5,13 @@ use Rattle.std.proofs.lemmas.Result.{err_from_is_err_and}
 use Rattle.lpis_covers.specs.Ids.{is_id, same_id}
 use Rattle.lpis_records.specs.declared.known.KnownSpan.{KnownSpan}
 use Rattle.lpis_records.specs.declared.known.KnownLine.{KnownLine}
-use Rattle.lpis_records.specs.Content.{Line, Span}
+use Rattle.lpis_records.specs.Content.{Line, StoredSpan}
 use Rattle.lpis_records.specs.Tells.{IsSpanRow, last_of_years, lines_of, years_of}
 use Rattle.lpis_records.specs.private.Fronts.{IsSaid}
 use Rattle.lpis_records.specs.private.Known.{IsReadable, IsYear, SetsAre, line_in, span_in}
 use Rattle.lpis_records.proofs.KnownLemmas.{no-both}
-use Rattle.lpis_records.proofs.Refusing.{told-few, told-ids, told-lines, told-right, told-said, told-sorted-years, told-years}
-use Rattle.lpis_records.proofs.Saying.{says}
+use Rattle.lpis_records.proofs.RefusingLemmas.{told-few, told-ids, told-lines, told-right, told-said, told-sorted-years, told-years}
+use Rattle.lpis_records.proofs.SayingLemmas.{says}
 use Rattle.lpis_records.proofs.history.history_of.Goals as goal
 
 pub returns-clause-ok : goal.returns-clause-ok
@@ -40,7 +40,9 @@ returns-in_err-years-clause-unlawful c =
 pub returns-in_err-spans-clause-unlawful : goal.returns-in_err-spans-clause-unlawful
 returns-in_err-spans-clause-unlawful c =
     let p = err_from_is_err_and c.from_residual-in_err-spans.result c.from_residual-in_err-spans.ensures.1 in
-    rw (p.1, p.2) (λ e h t. c.in_err-spans.ensures.refused e (subst (λ (l : List Span). All (λ s. is_id s.id ≡ true) l) (sym c.spans.ensures) (told-ids h c.args.rows.now.spans t.kept t.spans_are)))
+    rw (p.1, p.2)
+    (λ e h t. c.in_err-spans.ensures.refused e (subst (λ (l : List StoredSpan). All (λ s. is_id s.id ≡ true) l)
+    (sym c.spans.ensures) (told-ids h c.args.rows.now.spans t.kept t.spans_are)))
 
 pub returns-in_err-lines-clause-unlawful : goal.returns-in_err-lines-clause-unlawful
 returns-in_err-lines-clause-unlawful c =

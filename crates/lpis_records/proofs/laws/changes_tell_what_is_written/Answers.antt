@@ -2,7 +2,7 @@ use Rattle.std.proofs.Common.{◌∙◌, ap, ℕ, List}
 use Rattle.std.specs.Prelude.{not}
 use Rattle.lpis_covers.specs.Ids.{has_id}
 use Rattle.lpis_lineage.specs.Lineage.{last_live}
-use Rattle.lpis_lineage.proofs.Picking.{has-filter}
+use Rattle.lpis_lineage.proofs.PickingLemmas.{has-filter}
 use Rattle.lpis_records.proofs.laws.changes_tell_what_is_written.Goals as goal
 
 pub returns : goal.returns

@@ -1,4 +1,4 @@
-use Rattle.lpis_records.proofs.Moving.{moved-tells}
+use Rattle.lpis_records.proofs.MovingLemmas.{moved-tells}
 use Rattle.lpis_records.proofs.laws.moving_keeps_the_history.Goals as goal
 
 pub returns : goal.returns

@@ -1,4 +1,4 @@
-use Rattle.lpis_records.proofs.Moving.{reordered-tells, reordered-tells-live, nothing-tells}
+use Rattle.lpis_records.proofs.MovingLemmas.{reordered-tells, reordered-tells-live, nothing-tells}
 use Rattle.lpis_records.proofs.laws.order_of_rows_is_free.Goals as goal
 
 pub returns-clause-reordered : goal.returns-clause-reordered

@@ -1,5 +1,5 @@
 use Rattle.lpis_records.proofs.laws.publishing_adds_the_release.Goals as goal
-use Rattle.lpis_records.proofs.Publishing.{published-tells}
+use Rattle.lpis_records.proofs.PublishingLemmas.{published-tells}
 
 pub returns : goal.returns
 returns c = published-tells

@@ -10,9 +10,9 @@ use Rattle.lpis_records.specs.Tells.{last_of_years, lines_of, years_of}
 use Rattle.lpis_records.specs.private.Fronts.{IsSaid}
 use Rattle.lpis_records.specs.private.Known.{IsReadable, IsYear, SetsAre, line_in, one_year, span_in}
 use Rattle.lpis_records.proofs.KnownLemmas.{no-both}
-use Rattle.lpis_records.proofs.LiveRefusing.{live-ids, live-said, live-years}
-use Rattle.lpis_records.proofs.LiveRows.{live-says}
-use Rattle.lpis_records.proofs.Refusing.{told-lines, told-sorted-years, told-years}
+use Rattle.lpis_records.proofs.LiveRefusingLemmas.{live-ids, live-said, live-years}
+use Rattle.lpis_records.proofs.LiveRowLemmas.{live-says}
+use Rattle.lpis_records.proofs.RefusingLemmas.{told-lines, told-sorted-years, told-years}
 use Rattle.lpis_records.proofs.live.live_history_of.Goals as goal
 
 pub returns-clause-ok : goal.returns-clause-ok

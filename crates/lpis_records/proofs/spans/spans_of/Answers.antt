@@ -2,7 +2,7 @@ use Rattle.std.proofs.Common.{◌∙◌, sym, ap, ℕ, List}
 use Rattle.std.proofs.lemmas.List.Filters.{dedup_is}
 use Rattle.lpis_covers.specs.Ids.{has_id, same_id}
 use Rattle.lpis_records.specs.private.Known.{all_live}
-use Rattle.lpis_records.proofs.SpanLists.{held-span, sorted-has, spans-listed}
+use Rattle.lpis_records.proofs.SpanListLemmas.{held-span, sorted-has, spans-listed}
 use Rattle.lpis_records.proofs.spans.spans_of.Goals as goal
 
 pub span_rows-requires : goal.span_rows-requires

@@ -1,6 +1,6 @@
 use Rattle.std.proofs.lemmas.List.Filters.{dedup_is}
 use Rattle.lpis_covers.specs.Ids.{same_id}
-use Rattle.lpis_records.proofs.Fresh.{fresh-sorted}
+use Rattle.lpis_records.proofs.FreshLemmas.{fresh-sorted}
 use Rattle.lpis_records.proofs.writing.fresh_ids.Goals as goal
 
 pub returns : goal.returns

@@ -1,6 +1,6 @@
 use Rattle.sqlite.specs.Held.{state}
-use Rattle.lpis_register.proofs.Openings.{any_err}
-use Rattle.lpis_register.proofs.Commits.{found_settled, none_settled}
+use Rattle.lpis_register.proofs.OpeningLemmas.{any_err}
+use Rattle.lpis_register.proofs.CommitLemmas.{found_settled, none_settled}
 use Rattle.lpis_register.proofs.adopting.open_found.Goals as goal
 
 pub returns-clause-ok : goal.returns-clause-ok

@@ -3,8 +3,8 @@ use Rattle.std.proofs.lemmas.Result.{IfOk-weaker}
 use Rattle.sqlite.specs.Held.{state}
 use Rattle.lpis_records.specs.Content.{no_content}
 use Rattle.lpis_tables.specs.Shapes.{New}
-use Rattle.lpis_register.proofs.Openings.{made_never, none_found, none_said}
-use Rattle.lpis_register.proofs.Commits.{opened_found, opened_made, opened_unmade}
+use Rattle.lpis_register.proofs.OpeningLemmas.{made_never, none_found, none_said}
+use Rattle.lpis_register.proofs.CommitLemmas.{opened_found, opened_made, opened_unmade}
 use Rattle.lpis_register.proofs.adopting.open_tables.Goals as goal
 
 pub returns-in-Ok-clause-bare : goal.returns-in-Ok-clause-bare

@@ -1,5 +1,5 @@
 use Rattle.std.proofs.lemmas.Result.{IfOk-weaker}
-use Rattle.lpis_register.proofs.Openings.{refused_whole, says_whole}
+use Rattle.lpis_register.proofs.OpeningLemmas.{refused_whole, says_whole}
 use Rattle.lpis_register.proofs.finding.find_history.Goals as goal
 
 pub returns-in-Ok-clause-says : goal.returns-in-Ok-clause-says

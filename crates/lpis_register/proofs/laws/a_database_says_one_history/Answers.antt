@@ -1,5 +1,5 @@
 use Rattle.sqlite.specs.Held.{state}
-use Rattle.lpis_register.proofs.OneHistory.{one_history}
+use Rattle.lpis_register.proofs.OneHistoryLemmas.{one_history}
 use Rattle.lpis_register.proofs.laws.a_database_says_one_history.Goals as goal
 
 pub returns : goal.returns

@@ -1,4 +1,4 @@
-use Rattle.lpis_register.proofs.OneHistory.{one_said}
+use Rattle.lpis_register.proofs.OneHistoryLemmas.{one_said}
 use Rattle.lpis_register.proofs.laws.rows_say_one_history.Goals as goal
 
 pub returns : goal.returns

@@ -1,6 +1,6 @@
 use Rattle.std.proofs.lemmas.Result.{IfOk-weaker, IfErr-weaker}
 use Rattle.sqlite.specs.Held.{state}
-use Rattle.lpis_register.proofs.Readings.{tells_whole, tells_read, holds_read}
+use Rattle.lpis_register.proofs.ReadingLemmas.{tells_whole, tells_read, holds_read}
 use Rattle.lpis_register.proofs.opening.read_history.Goals as goal
 
 pub returns-in-Ok-clause-ok : goal.returns-in-Ok-clause-ok

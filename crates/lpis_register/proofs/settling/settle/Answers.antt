@@ -5,7 +5,7 @@ use Rattle.lpis_tables.specs.Shapes.{Moved}
 use Rattle.lpis_tables.specs.Holding.{IsStored}
 use Rattle.lpis_register.specs.Opening.{SaysAt}
 use Rattle.lpis_register.specs.private.Commits.{LeavesSettled}
-use Rattle.lpis_register.proofs.Commits.{beside_settled, must_be_first}
+use Rattle.lpis_register.proofs.CommitLemmas.{beside_settled, must_be_first}
 use Rattle.lpis_register.proofs.settling.settle.Goals as goal
 
 pub returns-in-Ok-clause-ok : goal.returns-in-Ok-clause-ok

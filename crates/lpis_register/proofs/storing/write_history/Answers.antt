@@ -2,7 +2,7 @@ use Rattle.std.proofs.Common.{◌≤◌, pos, arith, sym, subst, ◌∙◌}
 use Rattle.sqlite.specs.Held.{state}
 use Rattle.lpis_records.specs.Content.{published}
 use Rattle.lpis_records.specs.Tells.{Tells}
-use Rattle.lpis_register.proofs.Published.{holds_ok, holds_err, survives_with, left_ok}
+use Rattle.lpis_register.proofs.PublishedLemmas.{holds_ok, holds_err, survives_with, left_ok}
 use Rattle.lpis_register.proofs.storing.write_history.Goals as goal
 
 pub returns-clause-ok : goal.returns-clause-ok

@@ -2,7 +2,7 @@ use Rattle.std.proofs.Common.{◌≡◌, ◌≤◌, ℕ, length, List, ap, ◌�
 use Rattle.lpis_points.specs.declared.point.Point.{Point}
 use Rattle.lpis_rings.specs.declared.polygon.Member.{Member}
 use Rattle.lpis_rings.specs.Edges.{edges_of}
-use Rattle.lpis_rings.proofs.EdgeCounts.{edges-few}
+use Rattle.lpis_rings.proofs.EdgeCountLemmas.{edges-few}
 use Rattle.lpis_rings.proofs.crossings.edges.Goals as goal
 
 at_most : (n m k l : ℕ) → n ≡ m → m ≤ k → k ≤ l → n ≤ l

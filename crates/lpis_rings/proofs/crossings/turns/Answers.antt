@@ -2,7 +2,7 @@ use Rattle.std.proofs.Common.{◌≡◌, ℕ, suc, ◌+◌, ◌≤◌, ℤ, ◌+
 use Rattle.std.proofs.lemmas.Int.{ints}
 use Rattle.lpis_points.specs.declared.point.Point.{Point}
 use Rattle.lpis_points.specs.RatPoints.{rational_of}
-use Rattle.lpis_points.proofs.Odd.{crossing-small}
+use Rattle.lpis_points.proofs.OddLemmas.{crossing-small}
 use Rattle.lpis_rings.specs.Edges.{edge_turns}
 use Rattle.lpis_rings.specs.Polygon.{most_points}
 use Rattle.lpis_rings.proofs.crossings.turns.Goals as goal

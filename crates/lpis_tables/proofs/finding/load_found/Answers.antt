@@ -1,6 +1,6 @@
 use Rattle.sqlite.specs.Held.{state}
 use Rattle.lpis_tables.specs.Quiet.{IsWith}
-use Rattle.lpis_tables.proofs.Quiet.{Stays, narrowed, quiet_on}
+use Rattle.lpis_tables.proofs.QuietLemmas.{Stays, narrowed, quiet_on}
 use Rattle.lpis_tables.proofs.finding.load_found.Goals as goal
 
 pub returns-in_err-formats-clause-survives : goal.returns-in_err-formats-clause-survives

@@ -1,5 +1,5 @@
 use Rattle.std.proofs.Common.{◌≡◌, true, codes, refl, ap, ◌∙◌}
-use Rattle.lpis_tables.proofs.Named.{has_named, tables_there}
+use Rattle.lpis_tables.proofs.NamedLemmas.{has_named, tables_there}
 use Rattle.lpis_tables.proofs.found.tables_in.Goals as goal
 
 pub returns-clause-shaped : goal.returns-clause-shaped

@@ -1,5 +1,5 @@
 use Rattle.sqlite.specs.Held.{state}
-use Rattle.lpis_tables.proofs.OneContent.{one_content}
+use Rattle.lpis_tables.proofs.OneContentLemmas.{one_content}
 use Rattle.lpis_tables.proofs.laws.a_database_holds_one_content.Goals as goal
 
 pub returns : goal.returns

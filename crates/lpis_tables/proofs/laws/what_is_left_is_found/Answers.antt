@@ -1,5 +1,5 @@
 use Rattle.sqlite.specs.Held.{state}
-use Rattle.lpis_tables.proofs.Schemas.{opened_bare, opened_stored}
+use Rattle.lpis_tables.proofs.SchemaLemmas.{opened_bare, opened_stored}
 use Rattle.lpis_tables.proofs.laws.what_is_left_is_found.Goals as goal
 
 pub returns : goal.returns

@@ -6,7 +6,7 @@ use Rattle.sqlite.proofs.Callers.{survives_begin}
 use Rattle.lpis_tables.specs.Shapes.{First, Moved}
 use Rattle.lpis_tables.specs.Holding.{IsStored, Leaves}
 use Rattle.lpis_tables.specs.Commits.{LeavesBeside}
-use Rattle.lpis_tables.proofs.Steps.{begun_inside, commit_ok, moved_err, leaves, crashed}
+use Rattle.lpis_tables.proofs.StepLemmas.{begun_inside, commit_ok, moved_err, leaves, crashed}
 use Rattle.lpis_tables.proofs.moving.add_spans.Goals as goal
 
 pub returns-clause-ok : goal.returns-clause-ok

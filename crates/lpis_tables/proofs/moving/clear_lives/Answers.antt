@@ -1,5 +1,5 @@
 use Rattle.sqlite.specs.Held.{state}
-use Rattle.lpis_tables.proofs.Clears.{clear_live_inside}
+use Rattle.lpis_tables.proofs.ClearLemmas.{clear_live_inside}
 use Rattle.lpis_tables.proofs.moving.clear_lives.Goals as goal
 
 pub returns-clause-cleared : goal.returns-clause-cleared

@@ -3,7 +3,7 @@ use Rattle.sqlite.specs.Held.{state}
 use Rattle.sqlite.specs.State.{HasCleanDisk}
 use Rattle.lpis_records.specs.Content.{without_spans}
 use Rattle.lpis_tables.specs.Shapes.{with_span_table}
-use Rattle.lpis_tables.proofs.Moves.{formats_stay, live_as_before, spans_stand}
+use Rattle.lpis_tables.proofs.MoveLemmas.{formats_stay, live_as_before, spans_stand}
 use Rattle.lpis_tables.proofs.moving.fill_moved.Goals as goal
 
 pub returns-clause-moved : goal.returns-clause-moved

@@ -1,5 +1,5 @@
 use Rattle.sqlite.specs.Held.{state}
-use Rattle.lpis_tables.proofs.Moves.{version_inside}
+use Rattle.lpis_tables.proofs.MoveLemmas.{version_inside}
 use Rattle.lpis_tables.proofs.moving.set_version.Goals as goal
 
 pub returns-clause-set : goal.returns-clause-set

@@ -7,7 +7,7 @@ use Rattle.lpis_records.specs.Content.{moved}
 use Rattle.lpis_tables.specs.Shapes.{with_span_table}
 use Rattle.lpis_tables.specs.Holding.{IsStored, Leaves}
 use Rattle.lpis_tables.specs.Commits.{LeavesMoved}
-use Rattle.lpis_tables.proofs.Steps.{begun_inside, commit_ok, moved_err, leaves, crashed}
+use Rattle.lpis_tables.proofs.StepLemmas.{begun_inside, commit_ok, moved_err, leaves, crashed}
 use Rattle.lpis_tables.proofs.moving.write_moved.Goals as goal
 
 pub returns-clause-ok : goal.returns-clause-ok

@@ -6,7 +6,7 @@ use Rattle.sqlite.specs.State.{HasCleanDisk, Survives}
 use Rattle.sqlite.proofs.Callers.{survives_begin}
 use Rattle.lpis_records.specs.Content.{published}
 use Rattle.lpis_tables.specs.Holding.{IsStored, Leaves}
-use Rattle.lpis_tables.proofs.Steps.{begun_inside, commit_ok, commit_err, durable, leaves, crashed, quiet_then}
+use Rattle.lpis_tables.proofs.StepLemmas.{begun_inside, commit_ok, commit_err, durable, leaves, crashed, quiet_then}
 use Rattle.lpis_tables.proofs.publishing.write_release.Goals as goal
 
 pub returns-clause-ok : goal.returns-clause-ok

@@ -1,8 +1,8 @@
 use Rattle.std.proofs.lemmas.Result.{IfOk-weaker}
 use Rattle.sqlite.specs.Held.{state}
 use Rattle.lpis_tables.specs.private.Texts.{read_line}
-use Rattle.lpis_tables.proofs.Meanings.{read_line_means}
-use Rattle.lpis_tables.proofs.Showing.{lines_shown, kept_by_query, ok_by_query, quiet_query}
+use Rattle.lpis_tables.proofs.MeaningLemmas.{read_line_means}
+use Rattle.lpis_tables.proofs.ShowingLemmas.{lines_shown, kept_by_query, ok_by_query, quiet_query}
 use Rattle.lpis_tables.proofs.queries.line_rows.Goals as goal
 
 pub returns-clause-rows : goal.returns-clause-rows

@@ -1,8 +1,8 @@
 use Rattle.std.proofs.lemmas.Result.{IfOk-weaker}
 use Rattle.sqlite.specs.Held.{state}
 use Rattle.lpis_tables.specs.private.Texts.{read_live}
-use Rattle.lpis_tables.proofs.Meanings.{read_live_means}
-use Rattle.lpis_tables.proofs.Showing.{live_shown_are, kept_by_query, ok_by_query, quiet_query}
+use Rattle.lpis_tables.proofs.MeaningLemmas.{read_live_means}
+use Rattle.lpis_tables.proofs.ShowingLemmas.{live_shown_are, kept_by_query, ok_by_query, quiet_query}
 use Rattle.lpis_tables.proofs.queries.live_rows.Goals as goal
 
 pub returns-clause-rows : goal.returns-clause-rows

@@ -1,8 +1,8 @@
 use Rattle.std.proofs.lemmas.Result.{IfOk-weaker}
 use Rattle.sqlite.specs.Held.{state}
 use Rattle.lpis_tables.specs.private.Texts.{read_release}
-use Rattle.lpis_tables.proofs.Meanings.{read_release_means}
-use Rattle.lpis_tables.proofs.Showing.{years_shown, kept_by_query, ok_by_query, quiet_query}
+use Rattle.lpis_tables.proofs.MeaningLemmas.{read_release_means}
+use Rattle.lpis_tables.proofs.ShowingLemmas.{years_shown, kept_by_query, ok_by_query, quiet_query}
 use Rattle.lpis_tables.proofs.queries.release_rows.Goals as goal
 
 pub returns-clause-rows : goal.returns-clause-rows

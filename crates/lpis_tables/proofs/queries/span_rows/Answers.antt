@@ -1,8 +1,8 @@
 use Rattle.std.proofs.lemmas.Result.{IfOk-weaker}
 use Rattle.sqlite.specs.Held.{state}
 use Rattle.lpis_tables.specs.private.Texts.{read_span}
-use Rattle.lpis_tables.proofs.Meanings.{read_span_means}
-use Rattle.lpis_tables.proofs.Showing.{spans_shown, kept_by_query, ok_by_query, quiet_query}
+use Rattle.lpis_tables.proofs.MeaningLemmas.{read_span_means}
+use Rattle.lpis_tables.proofs.ShowingLemmas.{spans_shown, kept_by_query, ok_by_query, quiet_query}
 use Rattle.lpis_tables.proofs.queries.span_rows.Goals as goal
 
 pub returns-clause-rows : goal.returns-clause-rows

@@ -1,6 +1,6 @@
 use Rattle.std.proofs.Common.{pos}
 use Rattle.sqlite.specs.Held.{state}
-use Rattle.lpis_tables.proofs.Ends.{end_inside}
+use Rattle.lpis_tables.proofs.EndLemmas.{end_inside}
 use Rattle.lpis_tables.proofs.statements.end_span.Goals as goal
 
 pub returns-clause-adds : goal.returns-clause-adds

@@ -1,6 +1,6 @@
 use Rattle.std.proofs.Common.{pos}
 use Rattle.sqlite.specs.Held.{state}
-use Rattle.lpis_tables.proofs.Inserts.{release_inside}
+use Rattle.lpis_tables.proofs.InsertLemmas.{release_inside}
 use Rattle.lpis_tables.proofs.statements.insert_release.Goals as goal
 
 pub returns-clause-adds : goal.returns-clause-adds

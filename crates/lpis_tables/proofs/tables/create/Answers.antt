@@ -8,7 +8,7 @@ use Rattle.lpis_tables.specs.Bare.{IsBare}
 use Rattle.lpis_tables.specs.Shapes.{New}
 use Rattle.lpis_tables.specs.Holding.{IsStored, Leaves}
 use Rattle.lpis_tables.specs.Commits.{LeavesMade}
-use Rattle.lpis_tables.proofs.Steps.{begun_bare, bare_err, commit_ok, leaves, crashed}
+use Rattle.lpis_tables.proofs.StepLemmas.{begun_bare, bare_err, commit_ok, leaves, crashed}
 use Rattle.lpis_tables.proofs.tables.create.Goals as goal
 
 pub returns-clause-made : goal.returns-clause-made

@@ -1,5 +1,5 @@
 use Rattle.sqlite.specs.Held.{state}
-use Rattle.lpis_tables.proofs.Stages.{begins}
+use Rattle.lpis_tables.proofs.StageLemmas.{begins}
 use Rattle.lpis_tables.proofs.tables.insert_format.Goals as goal
 
 pub returns-clause-begun : goal.returns-clause-begun

@@ -4,8 +4,8 @@ use Rattle.lpis_tables.specs.Shapes.{no_schema}
 use Rattle.lpis_tables.specs.private.Stages.{one_table}
 use Rattle.lpis_tables.specs.Tables.{format_table}
 use Rattle.lpis_tables.specs.private.Texts.{make_format as text}
-use Rattle.lpis_tables.proofs.Meanings.{format_is}
-use Rattle.lpis_tables.proofs.Stages.{stage_next}
+use Rattle.lpis_tables.proofs.MeaningLemmas.{format_is}
+use Rattle.lpis_tables.proofs.StageLemmas.{stage_next}
 use Rattle.lpis_tables.proofs.tables.make_format.Goals as goal
 
 pub returns-clause-made : goal.returns-clause-made

@@ -3,8 +3,8 @@ use Rattle.sqlite.specs.Held.{state}
 use Rattle.lpis_tables.specs.private.Stages.{one_table, two_tables}
 use Rattle.lpis_tables.specs.Tables.{release_table}
 use Rattle.lpis_tables.specs.private.Texts.{make_release as text}
-use Rattle.lpis_tables.proofs.Meanings.{release_is}
-use Rattle.lpis_tables.proofs.Stages.{stage_next}
+use Rattle.lpis_tables.proofs.MeaningLemmas.{release_is}
+use Rattle.lpis_tables.proofs.StageLemmas.{stage_next}
 use Rattle.lpis_tables.proofs.tables.make_release.Goals as goal
 
 pub returns-clause-made : goal.returns-clause-made

@@ -4,8 +4,8 @@ use Rattle.lpis_tables.specs.private.Stages.{three_tables}
 use Rattle.lpis_tables.specs.Shapes.{New, schema_of}
 use Rattle.lpis_tables.specs.Tables.{row_table}
 use Rattle.lpis_tables.specs.private.Texts.{make_row as text}
-use Rattle.lpis_tables.proofs.Meanings.{row_is}
-use Rattle.lpis_tables.proofs.Stages.{stage_next}
+use Rattle.lpis_tables.proofs.MeaningLemmas.{row_is}
+use Rattle.lpis_tables.proofs.StageLemmas.{stage_next}
 use Rattle.lpis_tables.proofs.tables.make_row.Goals as goal
 
 pub returns-clause-made : goal.returns-clause-made

@@ -3,9 +3,9 @@ use Rattle.sqlite.specs.Held.{state}
 use Rattle.lpis_tables.specs.private.Stages.{two_tables, three_tables}
 use Rattle.lpis_tables.specs.Tables.{span_table}
 use Rattle.lpis_tables.specs.private.Texts.{make_span as text}
-use Rattle.lpis_tables.proofs.Meanings.{span_is}
-use Rattle.lpis_tables.proofs.Moves.{span_beside}
-use Rattle.lpis_tables.proofs.Stages.{stage_next}
+use Rattle.lpis_tables.proofs.MeaningLemmas.{span_is}
+use Rattle.lpis_tables.proofs.MoveLemmas.{span_beside}
+use Rattle.lpis_tables.proofs.StageLemmas.{stage_next}
 use Rattle.lpis_tables.proofs.tables.make_span.Goals as goal
 
 pub returns-clause-made : goal.returns-clause-made

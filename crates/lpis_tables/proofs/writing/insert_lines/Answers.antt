@@ -5,8 +5,8 @@ use Rattle.sqlite.specs.State.{HasCleanDisk}
 use Rattle.lpis_records.specs.Content.{with_line, with_lines, lines_from}
 use Rattle.lpis_tables.specs.private.Lines.{line_of}
 use Rattle.lpis_tables.specs.private.Inside.{Inside}
-use Rattle.lpis_tables.proofs.Steps.{kept_then, quiet_then}
-use Rattle.lpis_tables.proofs.Loops.{lines_more}
+use Rattle.lpis_tables.proofs.StepLemmas.{kept_then, quiet_then}
+use Rattle.lpis_tables.proofs.LoopLemmas.{lines_more}
 use Rattle.lpis_tables.proofs.writing.insert_lines.Goals as goal
 
 pub loop-place-preserved : goal.loop-place-preserved

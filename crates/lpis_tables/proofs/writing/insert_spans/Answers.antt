@@ -4,8 +4,8 @@ use Rattle.sqlite.specs.Held.{state}
 use Rattle.sqlite.specs.State.{HasCleanDisk}
 use Rattle.lpis_records.specs.Content.{with_span, with_spans}
 use Rattle.lpis_tables.specs.private.Inside.{Inside}
-use Rattle.lpis_tables.proofs.Steps.{kept_then, quiet_then}
-use Rattle.lpis_tables.proofs.Loops.{more}
+use Rattle.lpis_tables.proofs.StepLemmas.{kept_then, quiet_then}
+use Rattle.lpis_tables.proofs.LoopLemmas.{more}
 use Rattle.lpis_tables.proofs.writing.insert_spans.Goals as goal
 
 pub loop-id-preserved : goal.loop-id-preserved

@@ -1,4 +1,4 @@
-use Rattle.lpis_wkt.proofs.Exact.{exact, below, above}
+use Rattle.lpis_wkt.proofs.ExactLemmas.{exact, below, above}
 use Rattle.lpis_wkt.proofs.laws.exact_numbers.Goals as goal
 
 pub returns : goal.returns

@@ -1,4 +1,4 @@
-use Rattle.lpis_wkt.proofs.Outcomes.{polygon-answer, answer-polygon, fault-answer, answer-fault}
+use Rattle.lpis_wkt.proofs.OutcomeLemmas.{polygon-answer, answer-polygon, fault-answer, answer-fault}
 use Rattle.lpis_wkt.proofs.laws.function_of_text.Goals as goal
 
 pub returns : goal.returns

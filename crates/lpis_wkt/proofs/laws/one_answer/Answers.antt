@@ -1,4 +1,4 @@
-use Rattle.lpis_wkt.proofs.Outcomes.{some_answer, one_polygon, one_fault, never_both}
+use Rattle.lpis_wkt.proofs.OutcomeLemmas.{some_answer, one_polygon, one_fault, never_both}
 use Rattle.lpis_wkt.proofs.laws.one_answer.Goals as goal
 
 pub returns : goal.returns

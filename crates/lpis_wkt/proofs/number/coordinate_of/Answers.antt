@@ -1,6 +1,6 @@
 use Rattle.std.proofs.Common.{ℤ, Ok, sym, ap, ◌∙◌, rules, w64, SFits, to_z-of_z}
 use Rattle.lpis_points.specs.Range.{IsInRange}
-use Rattle.lpis_wkt.proofs.Points.{coordinate-ok, coordinate-err}
+use Rattle.lpis_wkt.proofs.PointLemmas.{coordinate-ok, coordinate-err}
 use Rattle.lpis_wkt.proofs.number.coordinate_of.Goals as goal
 
 fits : (z : ℤ) → IsInRange z → SFits w64 z

@@ -1,4 +1,4 @@
-use Rattle.lpis_wkt.proofs.Digits.{parts_some, parts_none}
+use Rattle.lpis_wkt.proofs.DigitLemmas.{parts_some, parts_none}
 use Rattle.std.proofs.Common.{sym, ◌∙◌}
 use Rattle.lpis_wkt.proofs.number.parts.Goals as goal
 

@@ -1,5 +1,5 @@
 use Rattle.std.proofs.Common.{arith}
-use Rattle.lpis_wkt.proofs.Digits.{above}
+use Rattle.lpis_wkt.proofs.DigitLemmas.{above}
 use Rattle.lpis_wkt.proofs.number.whole_number.Goals as goal
 
 pub returns-then-value-gt-GREATEST : goal.returns-then-value-gt-GREATEST

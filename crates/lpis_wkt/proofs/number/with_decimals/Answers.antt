@@ -1,6 +1,6 @@
 use Rattle.std.proofs.Common.{◌≡◌, ◌-◌, ◌∙◌, sym, arith}
 use Rattle.lpis_wkt.specs.Number.{coordinate_decimals}
-use Rattle.lpis_wkt.proofs.Digits.{decimal_above, decimal_step}
+use Rattle.lpis_wkt.proofs.DigitLemmas.{decimal_above, decimal_step}
 use Rattle.lpis_wkt.proofs.number.with_decimals.Goals as goal
 
 pub returns-then-value-gt-GREATEST : goal.returns-then-value-gt-GREATEST

@@ -1,5 +1,5 @@
 use Rattle.lpis_wkt.specs.Answer.{Gives, polygon_of}
-use Rattle.lpis_wkt.proofs.Outcomes.{gives, is_polygon_text, is_only, is_fault}
+use Rattle.lpis_wkt.proofs.OutcomeLemmas.{gives, is_polygon_text, is_only, is_fault}
 use Rattle.lpis_wkt.proofs.reading.read.Goals as goal
 
 pub returns : goal.returns

@@ -1,5 +1,5 @@
 use Rattle.std.proofs.Common.{arith, sym, ◌∙◌}
-use Rattle.lpis_wkt.proofs.Splitting.{word_token}
+use Rattle.lpis_wkt.proofs.SplittingLemmas.{word_token}
 use Rattle.lpis_wkt.proofs.tokens.past_word.Goals as goal
 
 pub returns-else-is_word-clause-word : goal.returns-else-is_word-clause-word

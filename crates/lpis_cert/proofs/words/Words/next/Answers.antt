@@ -1,6 +1,6 @@
 use Rattle.std.proofs.Common.{◌∙◌, sym}
 use Rattle.lpis_cert.specs.Reading.{is_gap}
-use Rattle.lpis_cert.proofs.Splitting.{whole, cut}
+use Rattle.lpis_cert.proofs.SplittingLemmas.{whole, cut}
 use Rattle.lpis_cert.proofs.words.Words.next.Goals as goal
 
 pub returns-in-None : goal.returns-in-None

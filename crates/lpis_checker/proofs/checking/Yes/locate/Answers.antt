@@ -5,7 +5,7 @@ use Rattle.std.proofs.lemmas.Option.{slice_get-get_or}
 use Rattle.lpis_points.specs.RatPoints.{rational_of}
 use Rattle.lpis_parcels.specs.Release.{Contents}
 use Rattle.lpis_checker.specs.SoundMap.{IsSoundMap}
-use Rattle.lpis_checker.proofs.Sound.{good_means_sound, no_gap}
+use Rattle.lpis_checker.proofs.SoundMapLemmas.{good_means_sound, no_gap}
 use Rattle.lpis_checker.proofs.checking.Yes.locate.Goals as goal
 
 pub unreachable-requires : goal.unreachable-requires

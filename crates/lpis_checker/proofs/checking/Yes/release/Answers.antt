@@ -1,7 +1,7 @@
 use Rattle.std.proofs.Common.{subst}
 use Rattle.lpis_parcels.specs.Release.{Contents}
 use Rattle.lpis_checker.specs.SoundMap.{IsSoundMap}
-use Rattle.lpis_checker.proofs.Sound.{good_means_sound}
+use Rattle.lpis_checker.proofs.SoundMapLemmas.{good_means_sound}
 use Rattle.lpis_checker.proofs.checking.Yes.release.Goals as goal
 
 pub returns-clause-sound : goal.returns-clause-sound

@@ -3,7 +3,7 @@ use Rattle.std.specs.Prelude.{Contains, is_ok}
 use Rattle.std.specs.List.Sorted.{IsSorted}
 use Rattle.lpis_points.specs.declared.point.Point.{Point}
 use Rattle.lpis_checker.specs.private.SignedEdges.{point_order}
-use Rattle.lpis_checker.proofs.PointSets.{found}
+use Rattle.lpis_checker.proofs.PointSetLemmas.{found}
 use Rattle.lpis_checker.proofs.corners.PointSet.contains.Goals as goal
 
 pub returns : goal.returns

@@ -1,7 +1,7 @@
 use Rattle.std.proofs.Common.{◌↔◌, IsTrue, Bool, ◌++◌, sym, subst}
 use Rattle.lpis_checker.specs.GoodCertificate.{HaveCorners}
-use Rattle.lpis_checker.proofs.PointSets.{both_have, first_lacks}
-use Rattle.lpis_checker.proofs.Sites.{untrue}
+use Rattle.lpis_checker.proofs.PointSetLemmas.{both_have, first_lacks}
+use Rattle.lpis_checker.proofs.SiteLemmas.{untrue}
 use Rattle.lpis_checker.proofs.corners.PointSet.has_corners_of_both.Goals as goal
 
 pub returns-then-has_all_corners : goal.returns-then-has_all_corners

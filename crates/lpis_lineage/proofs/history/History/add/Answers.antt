@@ -1,4 +1,4 @@
-use Rattle.lpis_lineage.proofs.Accepting.{clean-live}
+use Rattle.lpis_lineage.proofs.AcceptingLemmas.{clean-live}
 use Rattle.lpis_lineage.proofs.history.History.add.Goals as goal
 
 pub append-requires-clause-clean : goal.append-requires-clause-clean

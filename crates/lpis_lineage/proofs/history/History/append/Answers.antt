@@ -8,7 +8,7 @@ use Rattle.lpis_lineage.specs.Faults.{faults}
 use Rattle.lpis_lineage.specs.private.Keeping.{ended_in}
 use Rattle.lpis_lineage.specs.Lineage.{last_live, last_year}
 use Rattle.lpis_lineage.specs.Spans.{span_of}
-use Rattle.lpis_lineage.proofs.SpanSteps.{history-more, history-same}
+use Rattle.lpis_lineage.proofs.SpanStepLemmas.{history-more, history-same}
 use Rattle.lpis_lineage.proofs.history.History.append.Goals as goal
 
 pub invariant_of-self-in_err-push : goal.invariant_of-self-in_err-push

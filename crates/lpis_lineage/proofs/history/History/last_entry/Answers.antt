@@ -3,7 +3,7 @@ use Rattle.std.specs.Prelude.{IfSome}
 use Rattle.std.specs.Slice.{IsGetResult}
 use Rattle.lpis_lineage.specs.declared.row.Entry.{Entry}
 use Rattle.lpis_lineage.specs.Lineage.{last_live, last_year}
-use Rattle.lpis_lineage.proofs.Extends.{last-entry}
+use Rattle.lpis_lineage.proofs.ExtensionLemmas.{last-entry}
 use Rattle.lpis_lineage.proofs.history.History.last_entry.Goals as goal
 
 -- what is lent is the last release

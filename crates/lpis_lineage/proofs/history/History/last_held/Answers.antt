@@ -1,5 +1,5 @@
 use Rattle.std.proofs.Common.{◌∙◌, sym}
-use Rattle.lpis_lineage.proofs.SpanSteps.{unlive-some, unlive-none}
+use Rattle.lpis_lineage.proofs.SpanStepLemmas.{unlive-some, unlive-none}
 use Rattle.lpis_lineage.proofs.history.History.last_held.Goals as goal
 
 pub returns-in-Some : goal.returns-in-Some

@@ -1,7 +1,7 @@
 use Rattle.std.proofs.Common.{refl}
 use Rattle.std.specs.HashMap.{get}
 use Rattle.lpis_covers.specs.Ids.{same_id}
-use Rattle.lpis_lineage.proofs.TakingBack.{history-less}
+use Rattle.lpis_lineage.proofs.TakingBackLemmas.{history-less}
 use Rattle.lpis_lineage.proofs.history.History.take_back.Goals as goal
 
 pub invariant_of-self : goal.invariant_of-self

@@ -4,7 +4,7 @@ use Rattle.std.specs.List.{filter}
 use Rattle.lpis_covers.specs.Ids.{has_id}
 use Rattle.lpis_lineage.specs.Lineage.{last_live}
 use Rattle.lpis_lineage.specs.Spans.{span_of}
-use Rattle.lpis_lineage.proofs.Walking.{unheld-lacking}
+use Rattle.lpis_lineage.proofs.WalkingLemmas.{unheld-lacking}
 use Rattle.lpis_lineage.proofs.history.History.unheld.Goals as goal
 
 pub loop-id-init : goal.loop-id-init

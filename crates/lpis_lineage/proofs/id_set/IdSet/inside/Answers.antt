@@ -3,7 +3,7 @@ use Rattle.std.specs.List.{filter}
 use Rattle.std.proofs.lemmas.List.{append-nil}
 use Rattle.lpis_covers.specs.Ids.{has_id}
 use Rattle.lpis_lineage.specs.Order.{IsAscending}
-use Rattle.lpis_lineage.proofs.Picking.{ascending-filter}
+use Rattle.lpis_lineage.proofs.PickingLemmas.{ascending-filter}
 use Rattle.lpis_lineage.proofs.id_set.IdSet.inside.Goals as goal
 
 pub returns-clause-ascending : goal.returns-clause-ascending

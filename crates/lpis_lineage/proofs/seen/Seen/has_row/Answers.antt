@@ -1,5 +1,5 @@
 use Rattle.std.proofs.Common.{◌∙◌}
-use Rattle.lpis_lineage.proofs.Telling.{row-then, row-else}
+use Rattle.lpis_lineage.proofs.TellingLemmas.{row-then, row-else}
 use Rattle.lpis_lineage.proofs.seen.Seen.has_row.Goals as goal
 
 pub returns-then-contains : goal.returns-then-contains

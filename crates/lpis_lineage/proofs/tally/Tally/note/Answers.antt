@@ -1,6 +1,6 @@
 use Rattle.std.proofs.Common.{◌∙◌, ap, sym, refl, List, ℕ, cond, true}
 use Rattle.lpis_covers.specs.Ids.{has_id, same_id}
-use Rattle.lpis_lineage.proofs.Tallies.{tally-again, tally-new}
+use Rattle.lpis_lineage.proofs.TallyLemmas.{tally-again, tally-new}
 use Rattle.lpis_lineage.proofs.tally.Tally.note.Goals as goal
 
 pub returns-in_ok-add : goal.returns-in_ok-add

@@ -1,5 +1,5 @@
 use Rattle.std.proofs.Common.{ℕ, ◌+◌, List, inl, inr, subst, sym}
-use Rattle.lpis_pairs.proofs.Rows.{NearUpTo, start, begin_row, passed_by, pushed, end_row, whole}
+use Rattle.lpis_pairs.proofs.RowLemmas.{NearUpTo, start, begin_row, passed_by, pushed, end_row, whole}
 use Rattle.lpis_pairs.proofs.all_pairs.AllPairsPairSource.pairs.Goals as goal
 
 pub loop-i-init : goal.loop-i-init

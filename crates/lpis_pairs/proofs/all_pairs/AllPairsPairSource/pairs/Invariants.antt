@@ -1,4 +1,4 @@
-use Rattle.lpis_pairs.proofs.Rows.{NearUpTo}
+use Rattle.lpis_pairs.proofs.RowLemmas.{NearUpTo}
 use Rattle.lpis_pairs.proofs.all_pairs.AllPairsPairSource.pairs.Given as goal
 
 abbrev pub invariant-loop-j : goal.invariant-loop-j

@@ -1,5 +1,5 @@
-use Rattle.lpis_points.proofs.Points.{point_eq}
-use Rattle.lpis_points.proofs.Shift.{orient_at-shifted, shifted_off, crossing-shifted}
+use Rattle.lpis_points.proofs.PointLemmas.{point_eq}
+use Rattle.lpis_points.proofs.ShiftLemmas.{orient_at-shifted, shifted_off, crossing-shifted}
 use Rattle.lpis_points.proofs.laws.shift.the_shifted_point_is_off_every_line_and_crossed_alike.Goals as goal
 
 pub returns : goal.returns

@@ -1,4 +1,4 @@
-use Rattle.lpis_points.proofs.Triangles.{terms_sum}
+use Rattle.lpis_points.proofs.TriangleLemmas.{terms_sum}
 use Rattle.lpis_points.proofs.laws.triangles.an_area_is_of_its_terms.Goals as goal
 
 pub returns : goal.returns

@@ -1,5 +1,5 @@
-use Rattle.lpis_points.proofs.ApartBoxes.{apart_share_nothing}
-use Rattle.lpis_points.proofs.Separation.{separated_share_nothing}
+use Rattle.lpis_points.proofs.ApartBoxeLemmas.{apart_share_nothing}
+use Rattle.lpis_points.proofs.SeparationLemmas.{separated_share_nothing}
 use Rattle.lpis_points.proofs.laws.triangles.triangles_keep_apart.Goals as goal
 
 pub returns : goal.returns

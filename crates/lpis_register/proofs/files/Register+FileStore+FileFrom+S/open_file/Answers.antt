@@ -2,7 +2,7 @@ use Rattle.std.proofs.Common.{ap, ◌∙◌, sym, subst}
 use Rattle.sqlite.specs.Tree.{Trees}
 use Rattle.sqlite_trees.specs.Objects.{catalog_tree}
 use Rattle.lpis_tables.specs.Holding.{Leaves}
-use Rattle.lpis_register.proofs.Openings.{none_in_nothing}
+use Rattle.lpis_register.proofs.OpeningLemmas.{none_in_nothing}
 use Rattle.lpis_register.proofs.files.Register+FileStore+FileFrom+S.open_file.Goals as goal
 
 pub returns-in-Ok-adopt : goal.returns-in-Ok-adopt

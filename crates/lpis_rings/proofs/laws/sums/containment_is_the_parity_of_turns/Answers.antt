@@ -1,4 +1,4 @@
-use Rattle.lpis_rings.proofs.Parity.{contains_by_odd_turns, contains_by_one_turn}
+use Rattle.lpis_rings.proofs.ParityLemmas.{contains_by_odd_turns, contains_by_one_turn}
 use Rattle.lpis_rings.proofs.laws.sums.containment_is_the_parity_of_turns.Goals as goal
 
 pub returns : goal.returns

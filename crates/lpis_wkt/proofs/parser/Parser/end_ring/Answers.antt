@@ -1,6 +1,6 @@
 use Rattle.std.proofs.Common.{◌≡◌, sym, ap, ◌∙◌, refl, Err}
 use Rattle.lpis_wkt.specs.private.Machine.{Context, close_ring}
-use Rattle.lpis_wkt.proofs.Closing.{short_ring, open_ring, points_at}
+use Rattle.lpis_wkt.proofs.ClosingLemmas.{short_ring, open_ring, points_at}
 use Rattle.lpis_wkt.proofs.parser.Parser.end_ring.Goals as goal
 use Rattle.lpis_wkt.proofs.parser.Parser.end_ring.Goals.{in-Short, in-Unclosed}
 

@@ -1,0 +1,146 @@
+-- The lines of blocks.
+use Rattle.std.proofs.Common.{◌≡◌, ℕ, suc, ◌+◌, ◌-◌, ◌<◌, Bool, true, false, List, [], ◌∷◌, ◌++◌, length, map, Some, None, Ok, refl, ap, ◌∙◌, arith}
+use Rattle.std.proofs.lemmas.List.{map_push}
+use Rattle.std.specs.List.{AllByRecursion}
+use Rattle.lpis_points.specs.declared.triangle.Triangle.{Triangle}
+use Rattle.lpis_cert.specs.declared.kind.Stage.{Stage}
+use Rattle.lpis_cert.specs.declared.part.PairLine.{PairLine}
+use Rattle.lpis_cert.specs.declared.fault.CertCode.TheVariants as code
+use Rattle.lpis_cert.specs.declared.fault.CertFault.{CertFault}
+use Rattle.lpis_cert.specs.declared.kind.Kind.{Kind}
+use Rattle.lpis_cert.specs.declared.kind.Kind.TheVariants as kind
+use Rattle.lpis_cert.specs.declared.kind.Expected.TheVariants.{One}
+use Rattle.lpis_cert.specs.Versions.{written}
+use Rattle.lpis_cert.specs.CertText.{Corners, Separator, TriangleLine, FlatLine, EndLine, spelling}
+use Rattle.lpis_cert.specs.Fitting.{CornersFit, SeparatorFits}
+use Rattle.lpis_cert.specs.CertText.{PairLine as separator_line}
+use Rattle.lpis_cert.specs.Reading.{values, corners, separator}
+use Rattle.lpis_cert.specs.Faults.{step, InPairs, Declared}
+use Rattle.lpis_cert.specs.Fitting.{LineFits}
+use Rattle.lpis_cert.specs.private.Taken.{Placed, FailsWith, LineFault, ReadsLines, FaultFrom, corner_kind, corner_line, wanting}
+use Rattle.lpis_cert.specs.Contents.{corner_numbers, all_corners, separator_of}
+use Rattle.lpis_cert.proofs.LineLemmas.{read_again}
+use Rattle.lpis_cert.proofs.StepLemmas.{alone, taken, untaken, Wants, fault_here, Goes, after, fault_after, follows_both}
+
+pub corners_fit : (t : Triangle) → CornersFit (corner_numbers t)
+corners_fit t = record { x1 = t.a.x_in_range; y1 = t.a.y_in_range; x2 = t.b.x_in_range; y2 = t.b.y_in_range; x3 = t.c.x_in_range; y3 = t.c.y_in_range }
+
+corner_values : (flat : Bool) (ws : List (List ℕ)) (c : Corners) → corners written ws ≡ Some c → values written (corner_kind flat) ws ≡ Some (corner_line flat c)
+unfolding values
+corner_values true ws c h = rw h refl
+corner_values false ws c h = rw h refl
+
+no_corner_values : (flat : Bool) (ws : List (List ℕ)) → corners written ws ≡ None → values written (corner_kind flat) ws ≡ None
+unfolding values
+no_corner_values true ws h = rw h refl
+no_corner_values false ws h = rw h refl
+
+pub corner_taken : (flat : Bool) (text : List ℕ) (n : ℕ) (k : Kind) (ws : List (List ℕ)) (rest : List ℕ) (m : ℕ)
+    (c : Corners) → Placed (One (corner_kind flat)) text n k ws rest m → corners written ws ≡ Some c
+    → ReadsLines text n (corner_line flat c ∷ []) rest m
+corner_taken flat text n k ws rest m c p h =
+    let is = alone (corner_kind flat) text n k ws rest m p in
+    (taken (One (corner_kind flat)) text n k ws rest m (corner_line flat c) p (rw is (corner_values flat ws c h))).0
+
+pub corner_untaken : (flat : Bool) (text : List ℕ) (n : ℕ) (k : Kind) (ws : List (List ℕ)) (rest : List ℕ) (m : ℕ)
+    → Placed (One (corner_kind flat)) text n k ws rest m → corners written ws ≡ None
+    → FailsWith (One (corner_kind flat)) text code.Number
+corner_untaken flat text n k ws rest m p h =
+    let is = alone (corner_kind flat) text n k ws rest m p in
+    untaken (One (corner_kind flat)) text n k ws rest m p (rw is (no_corner_values flat ws h))
+
+pub pair_taken : (text : List ℕ) (n : ℕ) (k : Kind) (ws : List (List ℕ)) (rest : List ℕ) (m : ℕ) (c : Separator)
+    → Placed (One kind.Pair) text n k ws rest m → separator ws ≡ Some c → ReadsLines text n (separator_line c ∷ []) rest m
+unfolding values
+pair_taken text n k ws rest m c p h =
+    let is = alone kind.Pair text n k ws rest m p in
+    (taken (One kind.Pair) text n k ws rest m (separator_line c) p (rw (is, h) refl)).0
+
+pub pair_untaken : (text : List ℕ) (n : ℕ) (k : Kind) (ws : List (List ℕ)) (rest : List ℕ) (m : ℕ)
+    → Placed (One kind.Pair) text n k ws rest m → separator ws ≡ None → FailsWith (One kind.Pair) text code.Number
+unfolding values
+pair_untaken text n k ws rest m p h =
+    let is = alone kind.Pair text n k ws rest m p in
+    untaken (One kind.Pair) text n k ws rest m p (rw (is, h) refl)
+
+pub end_taken : (text : List ℕ) (n : ℕ) (k : Kind) (ws : List (List ℕ)) (rest : List ℕ) (m : ℕ) → Placed (One kind.End) text n k ws rest m → ws ≡ [] → ReadsLines text n (EndLine ∷ []) rest m
+unfolding values
+end_taken text n k ws rest m p h =
+    let is = alone kind.End text n k ws rest m p in
+    (taken (One kind.End) text n k ws rest m EndLine p (rw (is, h) refl)).0
+
+pub end_untaken : (text : List ℕ) (n : ℕ) (k : Kind) (ws : List (List ℕ)) (rest : List ℕ) (m : ℕ) (w : List ℕ)
+    (vs : List (List ℕ)) → Placed (One kind.End) text n k ws rest m → ws ≡ w ∷ vs → FailsWith (One kind.End) text
+    code.Number
+unfolding values
+end_untaken text n k ws rest m w vs p h =
+    let is = alone kind.End text n k ws rest m p in
+    untaken (One kind.End) text n k ws rest m p (rw (is, h) refl)
+
+-- ---- many lines of one kind
+
+corner_step : (flat : Bool) (n : ℕ) (b : Stage) (f : ℕ) (d : Declared) (c : Corners) → CornersFit c
+    → LineFits (corner_line flat c)
+    × (step (wanting flat (suc n) b f d) (spelling (corner_line flat c)) ≡ Ok (wanting flat n b f d))
+unfolding step
+corner_step true n b f d c fits = (fits, rw (read_again (One kind.Flat) (FlatLine c) fits refl) refl)
+corner_step false n b f d c fits = (fits, rw (read_again (One kind.Triangle) (TriangleLine c) fits refl) refl)
+
+pub all_corners_fit : (ts : List Triangle) → AllByRecursion CornersFit (all_corners ts)
+all_corners_fit [] = tt
+all_corners_fit (t ∷ ts) = (corners_fit t, all_corners_fit ts)
+
+pub corners_go : (flat : Bool) (cs : List Corners) (n k : ℕ) (b : Stage) (f : ℕ) (d : Declared)
+    → AllByRecursion CornersFit cs → n ≡ length cs + k → Goes (wanting flat n b f d) (map (corner_line flat) cs)
+    (wanting flat k b f d)
+corners_go flat [] n k b f d fits e = let is : n ≡ k = omega arith in ap (λ (i : ℕ). wanting flat i b f d) is
+corners_go flat (c ∷ cs) n k b f d fits e =
+    let is : n ≡ suc (length cs + k) = omega arith in
+    let s = corner_step flat (length cs + k) b f d c fits.0 in
+    (s.0, (wanting flat (length cs + k) b f d, rw is s.1, corners_go flat cs (length cs + k) k b f d fits.1 refl))
+
+corner_wants : (flat : Bool) (n : ℕ) (b : Stage) (f : ℕ) (d : Declared) → Wants (wanting flat (suc n) b f d) (One (corner_kind flat))
+corner_wants true n b f d = refl
+corner_wants false n b f d = refl
+
+pub corner_fault : (x : CertFault) (flat : Bool) (cs : List Corners) (count i : ℕ) (text : List ℕ) (n : ℕ) (rest : List ℕ) (m : ℕ) → AllByRecursion CornersFit cs → i < count → length cs ≡ i
+    → ReadsLines text n (map (corner_line flat) cs) rest m → LineFault x m (One (corner_kind flat)) rest
+    → (b : Stage) (f : ℕ) (d : Declared) → FaultFrom x n (wanting flat count b f d) text
+corner_fault x flat cs count i text n rest m fits lt len follows fault b f d =
+    let left = suc (count - (i + 1)) in
+    fault_after x n (wanting flat count b f d) (wanting flat left b f d) text (map (corner_line flat) cs) rest m follows (corners_go flat cs count left b f d fits (omega arith))
+    (fault_here x m (wanting flat left b f d) (One (corner_kind flat)) rest (corner_wants flat (count - (i + 1)) b f d) fault)
+
+pub corner_more : (flat : Bool) (ts : List Triangle) (t : Triangle) (text : List ℕ) (n : ℕ) (rest : List ℕ) (m : ℕ) (after : List ℕ) (k : ℕ)
+    → ReadsLines text n (map (corner_line flat) (all_corners ts)) rest m → ReadsLines rest m (corner_line flat (corner_numbers t) ∷ []) after k
+    → ReadsLines text n (map (corner_line flat) (all_corners (ts ++ t ∷ []))) after k
+corner_more flat ts t text n rest m after k f g =
+    let e : map (corner_line flat) (all_corners (ts ++ t ∷ [])) ≡ map (corner_line flat) (all_corners ts) ++ (corner_line flat (corner_numbers t) ∷ []) =
+    ap (map (corner_line flat)) (map_push corner_numbers ts t) ∙ map_push (corner_line flat) (all_corners ts) (corner_numbers t) in
+    rw e (follows_both text n (map (corner_line flat) (all_corners ts)) rest m (corner_line flat (corner_numbers t) ∷ []) after k f g)
+
+pub separators_fit : (ps : List PairLine) → AllByRecursion SeparatorFits (map separator_of ps)
+separators_fit [] = tt
+separators_fit (p ∷ ps) = (record { i = p.i_fits; j = p.j_fits; k = p.k_fits }, separators_fit ps)
+
+pub pair_more : (ts : List PairLine) (t : PairLine) (text : List ℕ) (n : ℕ) (rest : List ℕ) (m : ℕ) (after : List ℕ) (k : ℕ)
+    → ReadsLines text n (map separator_line (map separator_of ts)) rest m → ReadsLines rest m (separator_line (separator_of t) ∷ []) after k
+    → ReadsLines text n (map separator_line (map separator_of (ts ++ t ∷ []))) after k
+pair_more ts t text n rest m after k f g =
+    let e : map separator_line (map separator_of (ts ++ t ∷ [])) ≡ map separator_line (map separator_of ts) ++ (separator_line (separator_of t) ∷ []) =
+    ap (map separator_line) (map_push separator_of ts t) ∙ map_push separator_line (map separator_of ts) (separator_of t) in
+    rw e (follows_both text n (map separator_line (map separator_of ts)) rest m (separator_line (separator_of t) ∷ []) after k f g)
+
+pub pairs_go : (ps : List Separator) (n k : ℕ) → AllByRecursion SeparatorFits ps → n ≡ length ps + k → Goes (InPairs n) (map separator_line ps) (InPairs k)
+unfolding step
+pairs_go [] n k fits e = let is : n ≡ k = omega arith in ap InPairs is
+pairs_go (p ∷ ps) n k fits e =
+    let is : n ≡ suc (length ps + k) = omega arith in
+    (fits.0, (InPairs (length ps + k), rw (is, read_again (One kind.Pair) (separator_line p) fits.0 refl) refl, pairs_go ps (length ps + k) k fits.1 refl))
+
+pub pair_fault : (x : CertFault) (ps : List Separator) (count i : ℕ) (text : List ℕ) (n : ℕ) (rest : List ℕ) (m : ℕ) → AllByRecursion SeparatorFits ps → i < count → length ps ≡ i
+    → ReadsLines text n (map separator_line ps) rest m → LineFault x m (One kind.Pair) rest → FaultFrom x n (InPairs count) text
+pair_fault x ps count i text n rest m fits lt len follows fault =
+    let left = suc (count - (i + 1)) in
+    fault_after x n (InPairs count) (InPairs left) text (map separator_line ps) rest m follows (pairs_go ps count left fits (omega arith))
+    (fault_here x m (InPairs left) (One kind.Pair) rest refl fault)

@@ -1,0 +1,32 @@
+-- The lines that begin blocks.
+use Rattle.std.proofs.Common.{◌≡◌, ℕ, true, List, Option, ◌⊎◌, inl, inr}
+use Rattle.lpis_cert.specs.declared.kind.Stage.{Stage}
+use Rattle.lpis_cert.specs.declared.kind.Kind.{Kind}
+use Rattle.lpis_cert.specs.declared.kind.Kind.TheVariants.{Piece, Triangle, Flat, Parcel, Pairs, Pair, End}
+use Rattle.lpis_cert.specs.declared.kind.Expected.TheVariants.{Block}
+use Rattle.lpis_cert.specs.Versions.{written}
+use Rattle.lpis_cert.specs.CertText.{Line}
+use Rattle.lpis_cert.specs.Reading.{values, can_stand, piece_line, parcel_line, pairs_line}
+use Rattle.lpis_cert.specs.private.Taken.{Placed}
+use Rattle.lpis_cert.proofs.StepLemmas.{formed_stands}
+
+pub values_piece : (k : Kind) (ws : List (List ℕ)) (o : Option Line) → k ≡ Piece → piece_line ws ≡ o → values written k ws ≡ o
+unfolding values
+values_piece k ws o is h = rw is h
+
+pub values_parcel : (k : Kind) (ws : List (List ℕ)) (o : Option Line) → k ≡ Parcel → parcel_line ws ≡ o → values written k ws ≡ o
+unfolding values
+values_parcel k ws o is h = rw is h
+
+pub values_pairs : (k : Kind) (ws : List (List ℕ)) (o : Option Line) → k ≡ Pairs → pairs_line ws ≡ o → values written k ws ≡ o
+unfolding values
+values_pairs k ws o is h = rw is h
+
+pub stands_of : (b : Stage) (text : List ℕ) (n : ℕ) (k : Kind) (ws : List (List ℕ)) (rest : List ℕ) (m : ℕ) → Placed (Block b) text n k ws rest m → can_stand (Block b) k ≡ true
+stands_of b text n k ws rest m p = formed_stands (Block b) p.line k ws p.placed
+
+pub no_block : (b : Stage) (k : Kind) → can_stand (Block b) k ≡ true → (k ≡ Triangle) ⊎ ((k ≡ Flat) ⊎ ((k ≡ Pair) ⊎ (k ≡ End))) → ⊥
+no_block b k h (inl e) = cc (rw e at h)
+no_block b k h (inr (inl e)) = cc (rw e at h)
+no_block b k h (inr (inr (inl e))) = cc (rw e at h)
+no_block b k h (inr (inr (inr e))) = cc (rw e at h)

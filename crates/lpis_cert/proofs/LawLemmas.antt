@@ -1,0 +1,308 @@
+-- Laws of the text.
+use Rattle.std.proofs.Common.{◌≡◌, ℕ, ◌+◌, ◌<◌, Bool, true, false, cond, List, [], ◌∷◌, ◌++◌, length, map, Result, Ok, Err, refl, sym, ap, ap₂, ◌∙◌, arith, append_assoc, length-append, eqb}
+use Rattle.std.proofs.lemmas.Bool.Decides.{nat_tests}
+use Rattle.std.proofs.lemmas.List.Splits.{join_with_byte-slice_split}
+use Rattle.std.specs.List.{onto_first, join_with_byte, AllByRecursion}
+use Rattle.std.specs.Prelude.{sum_by, IfOk, IfErr, MatchResult}
+use Rattle.std.proofs.lemmas.List.{length-map}
+use Rattle.std.proofs.lemmas.List.Sums.{sum_by-cons}
+use Rattle.lpis_cert.specs.declared.kind.Stage.TheVariants as stage
+use Rattle.lpis_cert.specs.declared.part.PiecePart.{PiecePart}
+use Rattle.lpis_cert.specs.declared.part.ParcelPart.{ParcelPart}
+use Rattle.lpis_cert.specs.declared.cert.Cert.{Cert}
+use Rattle.lpis_cert.specs.declared.fault.CertFault.{CertFault}
+use Rattle.lpis_cert.specs.declared.fault.CertFault.TheVariants.{Memory, At}
+use Rattle.lpis_cert.specs.Contents.{corner_numbers, piece_of, parcel_of, separator_of, content_of, cert_text}
+use Rattle.lpis_cert.proofs.CertEqualityLemmas.{cert_eq}
+use Rattle.lpis_cert.specs.private.Fits.{PieceFits, ParcelFits}
+use Rattle.lpis_cert.specs.private.Taken.{FaultFrom}
+use Rattle.lpis_cert.proofs.BlockLemmas.{all_corners_fit, separators_fit}
+use Rattle.lpis_cert.specs.declared.fault.CertCode.{CertCode}
+use Rattle.lpis_cert.specs.declared.fault.CertCode.TheVariants as code
+use Rattle.lpis_cert.specs.Versions.{first_line, written}
+use Rattle.lpis_cert.specs.CertText.{Corners, Separator, PieceBlock, ParcelBlock, Content, Line, PieceLine, ParcelLine, TriangleLine, FlatLine, PairsLine, PairLine, EndLine, text_of, text_of_lines}
+use Rattle.lpis_cert.specs.CertText.{spelling, lines_of, piece_lines, parcel_lines, end_lines}
+use Rattle.lpis_cert.specs.Fitting.{LineFits}
+use Rattle.lpis_cert.specs.private.Fits.{Fits}
+use Rattle.lpis_cert.specs.Reading.{◌>>=◌}
+use Rattle.lpis_cert.specs.Faults.{is_lf, lines, outcome, at_last, at_line, step, Place, AtVersion, InBody, InPairs, AtEnd, none_declared, verdict}
+use Rattle.lpis_cert.specs.private.Drafts.{pieces_lines, parcels_lines}
+use Rattle.lpis_cert.proofs.SplittingLemmas.{split_some}
+use Rattle.lpis_cert.proofs.WordLemmas.{lines_from}
+use Rattle.lpis_cert.proofs.LineLemmas.{spelling_injective}
+use Rattle.lpis_cert.proofs.StepLemmas.{Goes}
+use Rattle.lpis_cert.proofs.ReadLemmas.{certificate_goes, accepted}
+
+-- ---- a prefix
+
+glue : List (List ℕ) → List (List ℕ) → List (List ℕ)
+glue [] b = b
+glue (r ∷ []) [] = r ∷ []
+glue (r ∷ []) (h ∷ t) = (r ++ h) ∷ t
+glue (l ∷ m ∷ ls) b = l ∷ glue (m ∷ ls) b
+
+glued_empty : (b : List (List ℕ)) → ((v : List ℕ) × (vs : List (List ℕ)) × (b ≡ v ∷ vs)) → b ≡ glue ([] ∷ []) b
+unfolding glue
+glued_empty [] h = absurd (cc h.2)
+glued_empty (v ∷ vs) h = refl
+
+glued_end : (a b : List (List ℕ)) → ((v : List ℕ) × (vs : List (List ℕ)) × (a ≡ v ∷ vs)) → ◌≡◌ {A = List (List ℕ)} ([] ∷ glue a b) (glue ([] ∷ a) b)
+unfolding glue
+glued_end [] b h = absurd (cc h.2)
+glued_end (v ∷ vs) b h = refl
+
+glued_first : (c : ℕ) (a b : List (List ℕ)) → ((v : List ℕ) × (vs : List (List ℕ)) × (a ≡ v ∷ vs))
+    → ((v : List ℕ) × (vs : List (List ℕ)) × (b ≡ v ∷ vs)) → onto_first c (glue a b) ≡ glue (onto_first c a) b
+unfolding glue
+glued_first c [] b h k = absurd (cc h.2)
+glued_first c (v ∷ []) [] h k = absurd (cc k.2)
+glued_first c (v ∷ []) (w ∷ ws) h k = refl
+glued_first c (v ∷ x ∷ vs) b h k = refl
+
+lines-append : (p q : List ℕ) → lines (p ++ q) ≡ glue (lines p) (lines q)
+lines-append [] q = glued_empty (lines q) (split_some is_lf q)
+lines-append (b ∷ p) q = by_test (is_lf b) (lines-append p q)
+  where
+    by_test : (t : Bool) → lines (p ++ q) ≡ glue (lines p) (lines q) → cond t ([] ∷ lines (p ++ q)) (onto_first b (lines (p ++ q))) ≡ glue (cond t ([] ∷ lines p) (onto_first b (lines p))) (lines q)
+    by_test true e = ap (λ (x : List (List ℕ)). [] ∷ x) e ∙ glued_end (lines p) (lines q) (split_some is_lf p)
+    by_test false e = ap (onto_first b) e ∙ glued_first b (lines p) (lines q) (split_some is_lf p) (split_some is_lf q)
+
+glue_some : (w : List ℕ) (ws : List (List ℕ)) (h : List ℕ) (t : List (List ℕ)) → (v : List ℕ) × (vs : List (List ℕ)) × (glue (w ∷ ws) (h ∷ t) ≡ v ∷ vs)
+unfolding glue
+glue_some w [] h t = (w ++ h, t, refl)
+glue_some w (x ∷ ws) h t = (w, glue (x ∷ ws) (h ∷ t), refl)
+
+went : {A : Type 0} (n : ℕ) (r : Result Place CertCode) (f : Place → Result A (CertCode × ℕ)) (k : A) → (at_line n r >>= f) ≡ Ok k → (q : Place) × (r ≡ Ok q) × (f q ≡ Ok k)
+went n (Ok q) f k h = (q, refl, h)
+went n (Err c) f k h = absurd cc
+
+-- the text ends where the grammar has not
+stops : (n : ℕ) (p : Place) (v h : List ℕ) (t : List (List ℕ)) (k : ℕ) → 0 < length h + length t → outcome n p ((v ++ h) ∷ t) ≡ Ok k → outcome n p (v ∷ []) ≡ Err (code.Truncated, n)
+unfolding outcome at_last step
+stops n AtVersion v h t k some e = refl
+stops n (InBody b x f d) v h t k some e = refl
+stops n (InPairs i) v h t k some e = refl
+stops n AtEnd v h [] k some e = absurd (full (length (v ++ h)) k (omega (arith, length-append v h)) e)
+  where
+    full : (i k : ℕ) → 0 < i → cond {A = Result ℕ (CertCode × ℕ)} (eqb i 0) (Ok n) (Err (code.TextAfterEnd, n)) ≡ Ok k → ⊥
+    full i k lt e = let no : eqb i 0 ≡ false = grind (arith, nat_tests) in cc (rw no at e)
+stops n AtEnd v h (x ∷ t) k some e = absurd (cc e)
+
+cut_short : (n : ℕ) (p : Place) (v : List ℕ) (vs : List (List ℕ)) (h : List ℕ) (t : List (List ℕ)) (k : ℕ)
+    → 0 < length h + length t → outcome n p (glue (v ∷ vs) (h ∷ t)) ≡ Ok k
+    → outcome n p (v ∷ vs) ≡ Err (code.Truncated, n + length vs)
+unfolding outcome glue
+cut_short n p v [] h t k some e = stops n p v h t k some e ∙ ap (λ (i : ℕ). Err (code.Truncated, i)) (omega arith)
+cut_short n p v (w ∷ ws) h t k some e =
+    let g = glue_some w ws h t in
+    let more = g.2 in
+    let s = went n (step p v) (λ q. outcome (n + 1) q (g.0 ∷ g.1)) k (rw more at e) in
+    let rest : outcome (n + 1) s.0 (glue (w ∷ ws) (h ∷ t)) ≡ Ok k = rw more s.2 in
+    let at = s.1 in
+    let end = cut_short (n + 1) s.0 w ws h t k some rest in
+    rw (at, end) (ap (λ (i : ℕ). Err (code.Truncated, i)) (omega arith))
+
+more_lines : (q : List ℕ) → 0 < length q → (h : List ℕ) × (t : List (List ℕ)) × (lines q ≡ h ∷ t) × (0 < length h + length t)
+more_lines [] lt = absurd (omega arith)
+more_lines (c ∷ q) lt = by_test (is_lf c) (split_some is_lf q)
+  where
+    by_test : (b : Bool) → ((v : List ℕ) × (vs : List (List ℕ)) × (lines q ≡ v ∷ vs)) → (h : List ℕ)
+        × (t : List (List ℕ)) × (cond b ([] ∷ lines q) (onto_first c (lines q)) ≡ h ∷ t) × (0 < length h + length t)
+    by_test true s = ([], s.0 ∷ s.1, ap (λ (x : List (List ℕ)). [] ∷ x) s.2, omega arith)
+    by_test false s = (c ∷ s.0, s.1, ap (onto_first c) s.2, omega arith)
+
+-- the line that is missing or unended
+pub prefix_cut : (p q : List ℕ) (k : ℕ) → verdict (p ++ q) ≡ Ok k → 0 < length q → verdict p ≡ Err (code.Truncated, length (lines p))
+prefix_cut p q k e lt =
+    let s = split_some is_lf p in
+    let m = more_lines q lt in
+    let a = s.2 in
+    let b = m.2 in
+    let glued : outcome 1 AtVersion (glue (s.0 ∷ s.1) (m.0 ∷ m.1)) ≡ Ok k = rw (← a, ← b, ← lines-append p q) e in
+    rw a (cut_short 1 AtVersion s.0 s.1 m.0 m.1 k m.3 glued ∙ ap (λ (i : ℕ). Err (code.Truncated, i)) (omega arith))
+
+pub prefix_of_text : (c : Content) (p q : List ℕ) → Fits c → p ++ q ≡ text_of c → 0 < length q → verdict p ≡ Err (code.Truncated, length (lines p))
+prefix_of_text c p q fits e lt = prefix_cut p q _ (ap verdict e ∙ accepted c fits) lt
+
+-- ---- one value a text
+
+fits_of : (p q : Place) (ls : List Line) → Goes p ls q → AllByRecursion LineFits ls
+fits_of p q [] g = tt
+fits_of p q (l ∷ ls) g = (g.0, fits_of g.1.0 q ls g.1.2)
+
+same_head : (a b : List ℕ) (x y : List (List ℕ)) → ◌≡◌ {A = List (List ℕ)} (a ∷ x) (b ∷ y) → (a ≡ b) × (x ≡ y)
+same_head a b x y e = (cc e, cc e)
+
+same_lines : (a b : List ℕ) → lines a ≡ lines b → a ≡ b
+same_lines a b e = sym (join_with_byte-slice_split 10 a) ∙ ap (join_with_byte 10) e ∙ join_with_byte-slice_split 10 b
+
+no_text : (l : Line) (ls : List Line) → text_of_lines [] ≡ text_of_lines (l ∷ ls) → ⊥
+unfolding text_of_lines
+no_text l ls e = let len : 0 ≡ length (spelling l ++ (10 ∷ text_of_lines ls)) = ap length e in omega (arith, len, length-append (spelling l) (10 ∷ text_of_lines ls))
+
+lines_injective : (xs ys : List Line) → AllByRecursion LineFits xs → AllByRecursion LineFits ys → text_of_lines xs ≡ text_of_lines ys → xs ≡ ys
+unfolding text_of_lines
+lines_injective [] [] fx fy e = refl
+lines_injective [] (y ∷ ys) fx fy e = absurd (no_text y ys e)
+lines_injective (x ∷ xs) [] fx fy e = absurd (no_text x xs (sym e))
+lines_injective (x ∷ xs) (y ∷ ys) fx fy e =
+    let cut = sym (lines_from x (text_of_lines xs) fx.0) ∙ ap lines e ∙ lines_from y (text_of_lines ys) fy.0 in
+    let parts = same_head (spelling x) (spelling y) (lines (text_of_lines xs)) (lines (text_of_lines ys)) cut in
+    let first = spelling_injective x y fx.0 fy.0 parts.0 in
+    let rest = lines_injective xs ys fx.1 fy.1 (same_lines (text_of_lines xs) (text_of_lines ys) parts.1) in
+    rw (first, rest) refl
+
+same_first : (x y : Line) (xs ys : List Line) → ◌≡◌ {A = List Line} (x ∷ xs) (y ∷ ys) → (x ≡ y) × (xs ≡ ys)
+same_first x y xs ys e = (cc e, cc e)
+
+-- as many lines of one kind at the front
+fronts : {A : Type 0} (f : A → Line) (xs ys : List A) (us vs : List Line) → ((a b : A) → f a ≡ f b → a ≡ b) → length xs ≡ length ys → map f xs ++ us ≡ map f ys ++ vs → (xs ≡ ys) × (us ≡ vs)
+fronts f [] [] us vs inj n e = (refl, e)
+fronts f [] (y ∷ ys) us vs inj n e = absurd (omega arith)
+fronts f (x ∷ xs) [] us vs inj n e = absurd (omega arith)
+fronts f (x ∷ xs) (y ∷ ys) us vs inj n e =
+    let s = same_first (f x) (f y) (map f xs ++ us) (map f ys ++ vs) e in
+    let r = fronts f xs ys us vs inj (omega arith) s.1 in
+    let first = inj x y s.0 in
+    let rest = r.0 in
+    (rw (first, rest) refl, r.1)
+
+end_injective : (xs ys : List Separator) → end_lines xs ≡ end_lines ys → xs ≡ ys
+end_injective xs ys e =
+    let s = same_first (PairsLine (length xs)) (PairsLine (length ys)) (map PairLine xs ++ (EndLine ∷ [])) (map PairLine ys ++ (EndLine ∷ [])) e in
+    let n : length xs ≡ length ys = cc s.0 in
+    (fronts PairLine xs ys (EndLine ∷ []) (EndLine ∷ []) (λ a b h. cc h) n s.1).0
+
+abbrev made_piece : List ℕ → List Corners → List Corners → PieceBlock
+made_piece i ts fs = record { id = i; triangles = ts; flats = fs }
+
+abbrev made_parcel : List ℕ → List Corners → ParcelBlock
+made_parcel i fs = record { id = i; flats = fs }
+
+parcel_front : (q r : ParcelBlock) (us vs : List Line) → parcel_lines q ++ us ≡ parcel_lines r ++ vs → (q ≡ r) × (us ≡ vs)
+parcel_front q r us vs e =
+    let s = same_first (ParcelLine q.id (length q.flats)) (ParcelLine r.id (length r.flats)) (map FlatLine q.flats ++ us) (map FlatLine r.flats ++ vs) e in
+    let id : q.id ≡ r.id = cc s.0 in
+    let n : length q.flats ≡ length r.flats = cc s.0 in
+    let f = fronts FlatLine q.flats r.flats us vs (λ a b h. cc h) n s.1 in
+    let fs = f.0 in
+    let same : made_parcel q.id q.flats ≡ made_parcel r.id r.flats = ap (λ (i : List ℕ). made_parcel i q.flats) id ∙ ap (λ (x : List Corners). made_parcel r.id x) fs in
+    (same, f.1)
+
+piece_front : (q r : PieceBlock) (us vs : List Line) → piece_lines q ++ us ≡ piece_lines r ++ vs → (q ≡ r) × (us ≡ vs)
+piece_front q r us vs e =
+    let s = same_first (PieceLine q.id (length q.triangles) (length q.flats))
+    (PieceLine r.id (length r.triangles) (length r.flats)) ((map TriangleLine q.triangles ++ map FlatLine q.flats)
+    ++ us) ((map TriangleLine r.triangles ++ map FlatLine r.flats) ++ vs) e in
+    let id : q.id ≡ r.id = cc s.0 in
+    let n : length q.triangles ≡ length r.triangles = cc s.0 in
+    let m : length q.flats ≡ length r.flats = cc s.0 in
+    let body = sym (append_assoc (map TriangleLine q.triangles) (map FlatLine q.flats) us) ∙ s.1 ∙ append_assoc (map TriangleLine r.triangles) (map FlatLine r.flats) vs in
+    let t = fronts TriangleLine q.triangles r.triangles (map FlatLine q.flats ++ us) (map FlatLine r.flats ++ vs) (λ a b h. cc h) n body in
+    let f = fronts FlatLine q.flats r.flats us vs (λ a b h. cc h) m t.1 in
+    let ts = t.0 in
+    let fs = f.0 in
+    let same : made_piece q.id q.triangles q.flats ≡ made_piece r.id r.triangles r.flats =
+    ap (λ (i : List ℕ). made_piece i q.triangles q.flats) id ∙ ap (λ (x : List Corners). made_piece r.id x q.flats)
+    ts ∙ ap (λ (x : List Corners). made_piece r.id r.triangles x) fs in
+    (same, f.1)
+
+parcels_injective : (qs rs : List ParcelBlock) (xs ys : List Separator) → parcels_lines qs ++ end_lines xs ≡ parcels_lines rs ++ end_lines ys → (qs ≡ rs) × (xs ≡ ys)
+parcels_injective [] [] xs ys e = (refl, end_injective xs ys e)
+parcels_injective [] (r ∷ rs) xs ys e = absurd (cc e)
+parcels_injective (q ∷ qs) [] xs ys e = absurd (cc e)
+parcels_injective (q ∷ qs) (r ∷ rs) xs ys e =
+    let s = parcel_front q r (parcels_lines qs ++ end_lines xs) (parcels_lines rs ++ end_lines ys)
+    (sym (append_assoc (parcel_lines q) (parcels_lines qs) (end_lines xs)) ∙ e ∙ append_assoc (parcel_lines r)
+    (parcels_lines rs) (end_lines ys)) in
+    let t = parcels_injective qs rs xs ys s.1 in
+    let first = s.0 in
+    let rest = t.0 in
+    (ap₂ (λ (a : ParcelBlock) (b : List ParcelBlock). a ∷ b) first rest, t.1)
+
+pieces_injective : (ps ps2 : List PieceBlock) (qs rs : List ParcelBlock) (xs ys : List Separator) → pieces_lines ps
+    ++ (parcels_lines qs ++ end_lines xs) ≡ pieces_lines ps2 ++ (parcels_lines rs ++ end_lines ys) → (ps ≡ ps2)
+    × (qs ≡ rs) × (xs ≡ ys)
+pieces_injective [] [] qs rs xs ys e = let r = parcels_injective qs rs xs ys e in (refl, r.0, r.1)
+pieces_injective [] (p ∷ ps) [] rs xs ys e = absurd (cc e)
+pieces_injective [] (p ∷ ps) (q ∷ qs) rs xs ys e = absurd (cc e)
+pieces_injective (p ∷ ps) [] qs [] xs ys e = absurd (cc e)
+pieces_injective (p ∷ ps) [] qs (r ∷ rs) xs ys e = absurd (cc e)
+pieces_injective (p ∷ ps) (p2 ∷ ps2) qs rs xs ys e =
+    let a = parcels_lines qs ++ end_lines xs in
+    let b = parcels_lines rs ++ end_lines ys in
+    let s = piece_front p p2 (pieces_lines ps ++ (parcels_lines qs ++ end_lines xs))
+    (pieces_lines ps2 ++ (parcels_lines rs ++ end_lines ys))
+    (sym (append_assoc (piece_lines p) (pieces_lines ps) (parcels_lines qs ++ end_lines xs)) ∙ e
+    ∙ append_assoc (piece_lines p2) (pieces_lines ps2) (parcels_lines rs ++ end_lines ys)) in
+    let t = pieces_injective ps ps2 qs rs xs ys s.1 in
+    let first = s.0 in
+    let rest = t.0 in
+    (ap₂ (λ (a : PieceBlock) (b : List PieceBlock). a ∷ b) first rest, t.1, t.2)
+
+abbrev made : List PieceBlock → List ParcelBlock → List Separator → Content
+made ps qs rs = record { pieces = ps; parcels = qs; pairs = rs }
+
+same_body : (a b : List ℕ) → first_line written ++ (10 ∷ a) ≡ first_line written ++ (10 ∷ b) → a ≡ b
+same_body a b e = cc e
+
+-- each certificate has a text of its own
+pub one_value : (c d : Content) → Fits c → Fits d → text_of c ≡ text_of d → c ≡ d
+unfolding text_of lines_of
+one_value c d fc fd e =
+    let body = same_body (text_of_lines (lines_of c)) (text_of_lines (lines_of d)) e in
+    let ls = lines_injective (lines_of c) (lines_of d) (fits_of (InBody stage.Pieces 0 0 none_declared) AtEnd
+    (lines_of c) (certificate_goes c fc)) (fits_of (InBody stage.Pieces 0 0 none_declared) AtEnd (lines_of d)
+    (certificate_goes d fd)) body in
+    let s = pieces_injective c.pieces d.pieces c.parcels d.parcels c.pairs d.pairs ls in
+    let p = s.0 in
+    let q = s.1 in
+    let r = s.2 in
+    ap (λ (x : List PieceBlock). made x c.parcels c.pairs) p ∙ ap (λ (x : List ParcelBlock). made d.pieces x c.pairs) q ∙ ap (λ (x : List Separator). made d.pieces d.parcels x) r
+
+-- ---- the values of the code
+
+pieces_fit : (ps : List PiecePart) → AllByRecursion PieceFits (map piece_of ps)
+pieces_fit [] = tt
+pieces_fit (p ∷ ps) = (record { id = p.named; triangles = all_corners_fit p.triangles; flats = all_corners_fit p.flats }, pieces_fit ps)
+
+parcels_fit : (ps : List ParcelPart) → AllByRecursion ParcelFits (map parcel_of ps)
+parcels_fit [] = tt
+parcels_fit (p ∷ ps) = (record { id = p.named; flats = all_corners_fit p.flats }, parcels_fit ps)
+
+pub sum-map : {A B : Type 0} (f : A → B) (g : B → ℕ) (h : A → ℕ) → ((x : A) → g (f x) ≡ h x) → (xs : List A) → sum_by g (map f xs) ≡ sum_by h xs
+sum-map f g h e [] = refl
+sum-map f g h e (x ∷ xs) = sum_by-cons g (f x) (map f xs) ∙ ap₂ (λ (a b : ℕ). a + b) (e x) (sum-map f g h e xs) ∙ sym (sum_by-cons h x xs)
+
+pub cert_fits : (c : Cert) → Fits (content_of c)
+cert_fits c =
+    let t = sum-map piece_of (λ p. length p.triangles) (λ p. length p.triangles) (λ p. length-map p.triangles corner_numbers) c.pieces in
+    let f = sum-map piece_of (λ p. length p.flats) (λ p. length p.flats) (λ p. length-map p.flats corner_numbers) c.pieces in
+    let g = sum-map parcel_of (λ p. length p.flats) (λ p. length p.flats) (λ p. length-map p.flats corner_numbers) c.parcels in
+    let n = length-map c.pairs separator_of in
+    record {
+      pieces = pieces_fit c.pieces;
+      parcels = parcels_fit c.parcels;
+      pairs = separators_fit c.pairs;
+      triangles_few = omega (arith, t, c.triangles_few);
+      flats_few = omega (arith, f, g, c.flats_few);
+      pairs_few = omega (arith, n, c.pairs_few);
+    }
+
+-- two certificates have two texts
+pub one_cert : (c d : Cert) → cert_text c ≡ cert_text d → c ≡ d
+one_cert c d e = cert_eq c d (one_value (content_of c) (content_of d) (cert_fits c) (cert_fits d) e)
+
+-- the text of a certificate has no fault
+pub no_fault : (c : Cert) → verdict (cert_text c) ≡ Ok (2 + length (lines_of (content_of c)))
+no_fault c = accepted (content_of c) (cert_fits c)
+
+pub is_only : (r : Result Cert CertFault) (bytes : List ℕ) → IfOk r (λ x. bytes ≡ cert_text x)
+    → IfErr r (λ e. FaultFrom e 1 AtVersion bytes) → (c : Cert) → bytes ≡ cert_text c
+    → MatchResult r (λ x. x ≡ c) (λ e. e ≡ Memory)
+is_only (Ok x) bytes found fault c e = one_cert x c (sym found ∙ e)
+is_only (Err Memory) bytes found fault c e = refl
+is_only (Err (At k n)) bytes found fault c e = absurd (clash (sym fault ∙ ap verdict e ∙ no_fault c))
+  where
+    clash : ◌≡◌ {A = Result ℕ (CertCode × ℕ)} (Err (k, n)) (Ok (2 + length (lines_of (content_of c)))) → ⊥
+    clash h = cc h

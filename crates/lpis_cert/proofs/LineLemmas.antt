@@ -1,0 +1,328 @@
+-- What a line says, and its spelling.
+use Rattle.std.specs.Str.{bytes_eq}
+use Rattle.std.proofs.lemmas.Slice.Eq.{bytes_eq-Decides}
+use Rattle.std.proofs.Common.{◌≡◌, ℕ, ◌+◌, ◌≤◌, Bool, true, false, cond, ◌&&◌, List, [], ◌∷◌, length, Option, Some, None, Result, Ok, Err, refl, sym, ap, subst, ◌∙◌, arith, eqb, ℤ}
+use Rattle.std.proofs.lemmas.List.Splits.{join_with_byte-slice_split}
+use Rattle.std.specs.Prelude.{codes}
+use Rattle.std.specs.List.{list_any, join_with_byte, AllByRecursion}
+use Rattle.std.specs.Fmt.{decimal, signed_decimal}
+use Rattle.lpis_covers.specs.Ids.{is_id}
+use Rattle.lpis_points.specs.Range.{IsInRange, limit}
+use Rattle.lpis_cert.specs.Limits.{greatest_count, last_edge, number_margin}
+use Rattle.lpis_cert.specs.Versions.{written}
+use Rattle.lpis_cert.specs.declared.fault.CertCode.TheVariants as code
+use Rattle.lpis_cert.specs.declared.kind.Kind.{Kind}
+use Rattle.lpis_cert.specs.declared.kind.Kind.TheVariants.{Piece, Triangle, Flat, Parcel, Pairs, Pair, End}
+use Rattle.lpis_cert.specs.declared.kind.Expected.{Expected}
+use Rattle.lpis_cert.specs.CertText.{Corners, Separator, Line, PieceLine, TriangleLine, FlatLine, ParcelLine, PairsLine, PairLine, EndLine, words_of, corner_words, spelling}
+use Rattle.lpis_cert.specs.Fitting.{CornersFit, SeparatorFits, LineFits}
+use Rattle.lpis_cert.specs.Reading.{◌>>=◌, ◌>>?◌, is_empty, words, kind_of, word_count, first_is_id, names, form, can_stand, front, last, natural, number, coordinate, point, corners, separator}
+use Rattle.lpis_cert.specs.Reading.{piece_line, parcel_line, pairs_line, values, with_form, or_number, placed, read_line}
+use Rattle.lpis_cert.specs.Kinds.{line_kind}
+use Rattle.lpis_cert.proofs.NumberLemmas.{opened, both, number_again, number_takes, coordinate_again, coordinate_takes}
+use Rattle.lpis_cert.proofs.WordLemmas.{IsWordText, none_empty, kind_word, fields, words_are, field_words, spelling_words}
+
+-- ---- what is written is read
+
+kind_again : (k : Kind) → kind_of (kind_word k) ≡ Some k
+unfolding kind_of
+kind_again Piece = refl
+kind_again Triangle = refl
+kind_again Flat = refl
+kind_again Parcel = refl
+kind_again Pairs = refl
+kind_again Pair = refl
+kind_again End = refl
+
+full : (k : Kind) (ws : List (List ℕ)) → list_any is_empty (kind_word k ∷ ws) ≡ list_any is_empty ws
+full Piece ws = refl
+full Triangle ws = refl
+full Flat ws = refl
+full Parcel ws = refl
+full Pairs ws = refl
+full Pair ws = refl
+full End ws = refl
+
+form_again : (k : Kind) (ws : List (List ℕ)) → AllByRecursion IsWordText ws → eqb (length ws + 1) (word_count k) ≡ true → names k ws ≡ true → form (kind_word k ∷ ws) ≡ Some (k, ws)
+unfolding form
+form_again k ws h len named = rw (full k ws, none_empty ws h, kind_again k, len, named) refl
+
+length_right : (l : Line) → eqb (length (fields l) + 1) (word_count (line_kind l)) ≡ true
+length_right (PieceLine id t f) = refl
+length_right (TriangleLine c) = refl
+length_right (FlatLine c) = refl
+length_right (ParcelLine id f) = refl
+length_right (PairsLine n) = refl
+length_right (PairLine p) = refl
+length_right EndLine = refl
+
+names_right : (l : Line) → LineFits l → names (line_kind l) (fields l) ≡ true
+names_right (PieceLine id t f) fits = fits.0
+names_right (TriangleLine c) fits = refl
+names_right (FlatLine c) fits = refl
+names_right (ParcelLine id f) fits = fits.0
+names_right (PairsLine n) fits = refl
+names_right (PairLine p) fits = refl
+names_right EndLine fits = refl
+
+corners_again : (c : Corners) → CornersFit c → corners written (corner_words c) ≡ Some c
+unfolding corners point
+corners_again c fits = rw (
+  coordinate_again c.x1 fits.x1,
+  coordinate_again c.y1 fits.y1,
+  coordinate_again c.x2 fits.x2,
+  coordinate_again c.y2 fits.y2,
+  coordinate_again c.x3 fits.x3,
+  coordinate_again c.y3 fits.y3,
+) refl
+
+separator_again : (p : Separator) → SeparatorFits p → separator (decimal p.i ∷ decimal p.j ∷ decimal p.k ∷ []) ≡ Some p
+unfolding separator
+separator_again p fits = rw (number_again greatest_count p.i (omega arith) fits.i, number_again greatest_count p.j (omega arith) fits.j, number_again last_edge p.k (omega arith) fits.k) refl
+
+values_again : (l : Line) → LineFits l → values written (line_kind l) (fields l) ≡ Some l
+unfolding values piece_line parcel_line pairs_line
+values_again (PieceLine id t f) fits = rw (number_again greatest_count t (omega arith) fits.1, number_again greatest_count f (omega arith) fits.2) refl
+values_again (TriangleLine c) fits = rw (corners_again c fits) refl
+values_again (FlatLine c) fits = rw (corners_again c fits) refl
+values_again (ParcelLine id f) fits = rw (number_again greatest_count f (omega arith) fits.1) refl
+values_again (PairsLine n) fits = rw (number_again greatest_count n (omega arith) fits) refl
+values_again (PairLine p) fits = rw (separator_again p fits) refl
+values_again EndLine fits = refl
+
+pub read_again : (e : Expected) (l : Line) → LineFits l → can_stand e (line_kind l) ≡ true → read_line written e (spelling l) ≡ Ok l
+unfolding read_line placed
+read_again e l fits can = rw (spelling_words l fits, form_again (line_kind l) (fields l) (field_words l fits) (length_right l) (names_right l fits), can, values_again l fits) refl
+
+-- ---- what is read was written so
+
+pub word_is : (w text : List ℕ) → bytes_eq w text ≡ true → w ≡ text
+word_is w text h = (bytes_eq-Decides w text).0 h
+
+pub bind_ok : {A B E : Type 0} (r : Result A E) (f : A → Result B E) (y : B) → (r >>= f) ≡ Ok y → (x : A) × (r ≡ Ok x) × (f x ≡ Ok y)
+bind_ok (Ok x) f y e = (x, refl, e)
+bind_ok (Err d) f y e = absurd cc
+
+then_some : {A B : Type 0} (o : Option A) (f : A → Option B) (y : B) → (o >>? f) ≡ Some y → (x : A) × (o ≡ Some x) × (f x ≡ Some y)
+then_some (Some x) f y e = (x, refl, e)
+then_some None f y e = absurd cc
+
+chosen : (w : List ℕ) (k k' : Kind) (more : Option Kind) → (more ≡ Some k → w ≡ kind_word k) → (b : Bool) → (b ≡ true → w ≡ kind_word k') → cond b (Some k') more ≡ Some k → w ≡ kind_word k
+chosen w k k' more other true is h = let e : k' ≡ k = cc h in rw (← e) (is refl)
+chosen w k k' more other false is h = other h
+
+kind_takes : (w : List ℕ) (k : Kind) → kind_of w ≡ Some k → w ≡ kind_word k
+unfolding kind_of
+kind_takes w k h =
+    chosen w k Triangle _
+    (chosen w k Flat _
+    (chosen w k Pair _
+    (chosen w k Piece _
+    (chosen w k Parcel _
+    (chosen w k Pairs _
+    (chosen w k End None (λ none. absurd (nothing none)) (bytes_eq w (codes "end")) (word_is w (codes "end")))
+    (bytes_eq w (codes "pairs")) (word_is w (codes "pairs")))
+    (bytes_eq w (codes "parcel")) (word_is w (codes "parcel")))
+    (bytes_eq w (codes "piece")) (word_is w (codes "piece")))
+    (bytes_eq w (codes "s")) (word_is w (codes "s")))
+    (bytes_eq w (codes "f")) (word_is w (codes "f")))
+    (bytes_eq w (codes "t")) (word_is w (codes "t")) h
+  where
+    nothing : ◌≡◌ {A = Option Kind} None (Some k) → ⊥
+    nothing e = cc e
+
+unless : {A : Type 0} (b : Bool) (x : Option A) (y : A) → cond b None x ≡ Some y → (b ≡ false) × (x ≡ Some y)
+unless true x y h = absurd cc
+unless false x y h = (refl, h)
+
+form_takes : (ws : List (List ℕ)) (k : Kind) (vs : List (List ℕ)) → form ws ≡ Some (k, vs) → (ws ≡ kind_word k ∷ vs) × (names k vs ≡ true)
+unfolding form
+form_takes [] k vs h = absurd cc
+form_takes (w ∷ ws) k vs h =
+    let u = unless (list_any is_empty (w ∷ ws)) _ (k, vs) h in
+    let t = then_some (kind_of w) (λ k. cond (eqb (length ws + 1) (word_count k) && names k ws) (Some (k, ws)) None) (k, vs) u.1 in
+    let o = opened (eqb (length ws + 1) (word_count t.0) && names t.0 ws) (Some (t.0, ws)) (k, vs) t.2 in
+    let n = both (eqb (length ws + 1) (word_count t.0)) (names t.0 ws) o.0 in
+    let same : ◌≡◌ {A = Kind × List (List ℕ)} (t.0, ws) (k, vs) = cc o.1 in
+    subst (λ (p : Kind × List (List ℕ)). (w ∷ ws ≡ kind_word p.0 ∷ p.1) × (names p.0 p.1 ≡ true)) same (ap (λ (x : List ℕ). x ∷ ws) (kind_takes w t.0 t.1), n.1)
+
+front_takes : {A : Type 0} (read : List ℕ → Option A) (ws : List (List ℕ)) (x : A × List (List ℕ)) → front read ws ≡ Some x → (w : List ℕ) × (ws ≡ w ∷ x.1) × (read w ≡ Some x.0)
+front_takes read [] x h = absurd cc
+front_takes read (w ∷ ws) x h = let t = then_some (read w) (λ y. Some (y, ws)) x h in let same : (t.0, ws) ≡ x =
+    cc t.2 in subst (λ y. (v : List ℕ) × (◌≡◌ {A = List (List ℕ)} (w ∷ ws) (v ∷ y.1)) × (read v ≡ Some y.0)) same
+    (w, refl, t.1)
+
+last_takes : {A : Type 0} (x y : A) (ws : List (List ℕ)) → last x ws ≡ Some y → (x ≡ y) × (ws ≡ [])
+last_takes x y [] h = (cc, refl)
+last_takes x y (w ∷ ws) h = absurd cc
+
+point_takes : (ws : List (List ℕ)) (p : (ℤ × ℤ) × List (List ℕ)) → point written ws ≡ Some p → (ws ≡ signed_decimal p.0.0 ∷ signed_decimal p.0.1 ∷ p.1) × (IsInRange p.0.0 × IsInRange p.0.1)
+unfolding point
+point_takes ws p h =
+    let a = then_some (front (coordinate written) ws) (λ x. front (coordinate written) x.1 >>? λ y. Some ((x.0, y.0), y.1)) p h in
+    let b = then_some (front (coordinate written) a.0.1) (λ y. Some ((a.0.0, y.0), y.1)) p a.2 in
+    let fa = front_takes (coordinate written) ws a.0 a.1 in
+    let fb = front_takes (coordinate written) a.0.1 b.0 b.1 in
+    let ca = coordinate_takes fa.0 a.0.0 fa.2 in
+    let cb = coordinate_takes fb.0 b.0.0 fb.2 in
+    let same : ((a.0.0, b.0.0), b.0.1) ≡ p = cc b.2 in
+    let words : ws ≡ signed_decimal a.0.0 ∷ signed_decimal b.0.0 ∷ b.0.1 = fa.1 ∙ ap (λ (v : List ℕ). v ∷ a.0.1) ca.0
+    ∙ ap (λ (vs : List (List ℕ)). signed_decimal a.0.0 ∷ vs) (fb.1 ∙ ap (λ (v : List ℕ). v ∷ b.0.1) cb.0) in
+    subst (λ (q : (ℤ × ℤ) × List (List ℕ)). (ws ≡ signed_decimal q.0.0 ∷ signed_decimal q.0.1 ∷ q.1) × (IsInRange q.0.0 × IsInRange q.0.1)) same (words, (ca.1, cb.1))
+
+corners_take : (ws : List (List ℕ)) (c : Corners) → corners written ws ≡ Some c → (ws ≡ corner_words c) × CornersFit c
+unfolding corners
+corners_take ws c h =
+    let a = then_some (point written ws) _ c h in
+    let b = then_some (point written a.0.1) _ c a.2 in
+    let d = then_some (point written b.0.1) _ c b.2 in
+    let made : Corners = record { x1 = a.0.0.0; y1 = a.0.0.1; x2 = b.0.0.0; y2 = b.0.0.1; x3 = d.0.0.0; y3 = d.0.0.1 } in
+    let l = last_takes made c d.0.1 d.2 in
+    let pa = point_takes ws a.0 a.1 in
+    let pb = point_takes a.0.1 b.0 b.1 in
+    let pd = point_takes b.0.1 d.0 d.1 in
+    let words : ws ≡ corner_words made =
+    pa.0 ∙ ap (λ (vs : List (List ℕ)). signed_decimal made.x1 ∷ signed_decimal made.y1 ∷ vs)
+    (pb.0 ∙ ap (λ (vs : List (List ℕ)). signed_decimal made.x2 ∷ signed_decimal made.y2 ∷ vs)
+    (pd.0 ∙ ap (λ (vs : List (List ℕ)). signed_decimal made.x3 ∷ signed_decimal made.y3 ∷ vs) l.1)) in
+    subst (λ (c : Corners). (ws ≡ corner_words c) × CornersFit c) l.0 (words, record { x1 = pa.1.0; y1 = pa.1.1; x2 = pb.1.0; y2 = pb.1.1; x3 = pd.1.0; y3 = pd.1.1 })
+
+natural_front : (limit : ℕ) (ws : List (List ℕ)) (x : ℕ × List (List ℕ)) → limit ≤ number_margin → front (number limit) ws ≡ Some x → (ws ≡ decimal x.0 ∷ x.1) × (x.0 ≤ limit)
+natural_front limit ws x small h = let f = front_takes (number limit) ws x h in let t = number_takes limit f.0 x.0 small f.2 in (f.1 ∙ ap (λ (v : List ℕ). v ∷ x.1) t.0, t.1)
+
+separator_takes : (ws : List (List ℕ)) (p : Separator) → separator ws ≡ Some p → (ws ≡ decimal p.i ∷ decimal p.j ∷ decimal p.k ∷ []) × SeparatorFits p
+unfolding separator
+separator_takes ws p h =
+    let a = then_some (front natural ws) _ p h in
+    let b = then_some (front natural a.0.1) _ p a.2 in
+    let d = then_some (front (number last_edge) b.0.1) _ p b.2 in
+    let made : Separator = record { i = a.0.0; j = b.0.0; k = d.0.0 } in
+    let l = last_takes made p d.0.1 d.2 in
+    let pa = natural_front greatest_count ws a.0 (omega arith) a.1 in
+    let pb = natural_front greatest_count a.0.1 b.0 (omega arith) b.1 in
+    let pd = natural_front last_edge b.0.1 d.0 (omega arith) d.1 in
+    let words : ws ≡ decimal made.i ∷ decimal made.j ∷ decimal made.k ∷ [] =
+    pa.0 ∙ ap (λ (vs : List (List ℕ)). decimal made.i ∷ vs) (pb.0 ∙ ap (λ (vs : List (List ℕ)). decimal made.j ∷ vs) (pd.0 ∙ ap (λ (vs : List (List ℕ)). decimal made.k ∷ vs) l.1)) in
+    subst (λ (p : Separator). (ws ≡ decimal p.i ∷ decimal p.j ∷ decimal p.k ∷ []) × SeparatorFits p) l.0 (words, record { i = pa.1; j = pb.1; k = pd.1 })
+
+-- a line of this kind, with these further words
+pub record IsLine (k : Kind) (ws : List (List ℕ)) (l : Line) : Type 0 where
+  pub kind : k ≡ line_kind l
+  pub fields : ws ≡ fields l
+  pub fits : LineFits l
+
+first_id : (w : List ℕ) (ws vs : List (List ℕ)) → ws ≡ w ∷ vs → first_is_id ws ≡ true → is_id w ≡ true
+first_id w ws vs e h = rw e at h
+
+piece_takes : (ws : List (List ℕ)) (l : Line) → first_is_id ws ≡ true → piece_line ws ≡ Some l → IsLine Piece ws l
+unfolding piece_line
+piece_takes ws l named h =
+    let a = then_some (front (λ w. Some w) ws) _ l h in
+    let b = then_some (front natural a.0.1) _ l a.2 in
+    let d = then_some (front natural b.0.1) _ l b.2 in
+    let made : Line = PieceLine a.0.0 b.0.0 d.0.0 in
+    let e = last_takes made l d.0.1 d.2 in
+    let pa = front_takes (λ w. Some w) ws a.0 a.1 in
+    let pb = natural_front greatest_count a.0.1 b.0 (omega arith) b.1 in
+    let pd = natural_front greatest_count b.0.1 d.0 (omega arith) d.1 in
+    let same : pa.0 ≡ a.0.0 = cc pa.2 in
+    let first : ws ≡ a.0.0 ∷ a.0.1 = rw same at pa.1 in
+    let words : ws ≡ fields made = first ∙ ap (λ (vs : List (List ℕ)). a.0.0 ∷ vs)
+    (pb.0 ∙ ap (λ (vs : List (List ℕ)). decimal b.0.0 ∷ vs) (pd.0 ∙ ap (λ (vs : List (List ℕ)). decimal d.0.0 ∷ vs)
+    e.1)) in
+    subst (λ (l : Line). IsLine Piece ws l) e.0 (record { kind = refl; fields = words; fits = (first_id a.0.0 ws a.0.1 first named, pb.1, pd.1) })
+
+parcel_takes : (ws : List (List ℕ)) (l : Line) → first_is_id ws ≡ true → parcel_line ws ≡ Some l → IsLine Parcel ws l
+unfolding parcel_line
+parcel_takes ws l named h =
+    let a = then_some (front (λ w. Some w) ws) _ l h in
+    let d = then_some (front natural a.0.1) _ l a.2 in
+    let made : Line = ParcelLine a.0.0 d.0.0 in
+    let e = last_takes made l d.0.1 d.2 in
+    let pa = front_takes (λ w. Some w) ws a.0 a.1 in
+    let pd = natural_front greatest_count a.0.1 d.0 (omega arith) d.1 in
+    let same : pa.0 ≡ a.0.0 = cc pa.2 in
+    let first : ws ≡ a.0.0 ∷ a.0.1 = rw same at pa.1 in
+    let words : ws ≡ fields made = first ∙ ap (λ (vs : List (List ℕ)). a.0.0 ∷ vs) (pd.0 ∙ ap (λ (vs : List (List ℕ)). decimal d.0.0 ∷ vs) e.1) in
+    subst (λ (l : Line). IsLine Parcel ws l) e.0 (record { kind = refl; fields = words; fits = (first_id a.0.0 ws a.0.1 first named, pd.1) })
+
+pairs_take : (ws : List (List ℕ)) (l : Line) → pairs_line ws ≡ Some l → IsLine Pairs ws l
+unfolding pairs_line
+pairs_take ws l h =
+    let d = then_some (front natural ws) _ l h in
+    let made : Line = PairsLine d.0.0 in
+    let e = last_takes made l d.0.1 d.2 in
+    let pd = natural_front greatest_count ws d.0 (omega arith) d.1 in
+    subst (λ (l : Line). IsLine Pairs ws l) e.0 (record { kind = refl; fields = pd.0 ∙ ap (λ (vs : List (List ℕ)). decimal d.0.0 ∷ vs) e.1; fits = pd.1 })
+
+pub values_take : (k : Kind) (ws : List (List ℕ)) (l : Line) → names k ws ≡ true → values written k ws ≡ Some l → IsLine k ws l
+unfolding values
+values_take Piece ws l named h = piece_takes ws l named h
+values_take Triangle ws l named h =
+    let a = then_some (corners written ws) (λ c. Some (TriangleLine c)) l h in
+    let t = corners_take ws a.0 a.1 in
+    let same : TriangleLine a.0 ≡ l = cc a.2 in
+    subst (λ (l : Line). IsLine Triangle ws l) same (record { kind = refl; fields = t.0; fits = t.1 })
+values_take Flat ws l named h =
+    let a = then_some (corners written ws) (λ c. Some (FlatLine c)) l h in
+    let t = corners_take ws a.0 a.1 in
+    let same : FlatLine a.0 ≡ l = cc a.2 in
+    subst (λ (l : Line). IsLine Flat ws l) same (record { kind = refl; fields = t.0; fits = t.1 })
+values_take Parcel ws l named h = parcel_takes ws l named h
+values_take Pairs ws l named h = pairs_take ws l h
+values_take Pair ws l named h =
+    let a = then_some (separator ws) (λ c. Some (PairLine c)) l h in
+    let t = separator_takes ws a.0 a.1 in
+    let same : PairLine a.0 ≡ l = cc a.2 in
+    subst (λ (l : Line). IsLine Pair ws l) same (record { kind = refl; fields = t.0; fits = t.1 })
+values_take End ws l named h =
+    let t = last_takes EndLine l ws h in
+    subst (λ (l : Line). IsLine End ws l) t.0 (record { kind = refl; fields = t.1; fits = tt })
+
+-- a line that can stand here, and its text
+pub record ReadsAs (e : Expected) (line : List ℕ) (l : Line) : Type 0 where
+  pub text : line ≡ spelling l
+  pub fits : LineFits l
+  pub stands : can_stand e (line_kind l) ≡ true
+
+formed_ok : (e : Expected) (o : Option (Kind × List (List ℕ))) (p : Kind × List (List ℕ)) → with_form e o ≡ Ok p → (o ≡ Some p) × (can_stand e p.0 ≡ true)
+formed_ok e None p h = absurd cc
+formed_ok e (Some q) p h = by_test (can_stand e q.0) refl h
+  where
+    by_test : (b : Bool) → can_stand e q.0 ≡ b → cond b (Ok q) (Err code.BadPlace) ≡ Ok p → (Some q ≡ Some p) × (can_stand e p.0 ≡ true)
+    by_test true c h = let same : q ≡ p = cc h in (ap (λ (x : Kind × List (List ℕ)). Some x) same, subst (λ (x : Kind × List (List ℕ)). can_stand e x.0 ≡ true) same c)
+    by_test false c h = absurd cc
+
+number_ok : (o : Option Line) (l : Line) → or_number o ≡ Ok l → o ≡ Some l
+number_ok None l h = absurd cc
+number_ok (Some m) l h = cc
+
+pub placed_takes : (e : Expected) (line : List ℕ) (k : Kind) (ws : List (List ℕ)) (l : Line) → placed e line ≡ Ok (k, ws) → values written k ws ≡ Some l → ReadsAs e line l
+unfolding placed spelling
+placed_takes e line k ws l h v =
+    let f = formed_ok e (form (words line)) (k, ws) h in
+    let t = form_takes (words line) k ws f.0 in
+    let is = values_take k ws l t.1 v in
+    let kind = is.kind in
+    let all : words line ≡ words_of l = t.0 ∙ ap (λ (k : Kind). kind_word k ∷ ws) kind ∙ ap (λ (vs : List (List ℕ)). kind_word (line_kind l) ∷ vs) is.fields ∙ sym (words_are l) in
+    record { text = sym (join_with_byte-slice_split 32 line) ∙ ap (join_with_byte 32) all; fits = is.fits; stands = rw (← kind) f.1 }
+
+pub read_takes : (e : Expected) (line : List ℕ) (l : Line) → read_line written e line ≡ Ok l → ReadsAs e line l
+unfolding read_line
+read_takes e line l h =
+    let b = bind_ok (placed e line) (λ p. or_number (values written p.0 p.1)) l h in
+    placed_takes e line b.0.0 b.0.1 l b.1 (number_ok (values written b.0.0 b.0.1) l b.2)
+
+-- ---- one value a text
+
+decode : List (List ℕ) → Option Line
+decode ws = form ws >>? λ p. values written p.0 p.1
+
+decoded : (l : Line) → LineFits l → decode (words (spelling l)) ≡ Some l
+unfolding decode
+decoded l fits = rw (spelling_words l fits, form_again (line_kind l) (fields l) (field_words l fits) (length_right l) (names_right l fits), values_again l fits) refl
+
+pub spelling_injective : (l m : Line) → LineFits l → LineFits m → spelling l ≡ spelling m → l ≡ m
+spelling_injective l m fl fm e =
+    let same : Some l ≡ Some m = sym (decoded l fl) ∙ ap (λ (x : List ℕ). decode (words x)) e ∙ decoded m fm in
+    cc same

@@ -1,0 +1,108 @@
+-- Lines of corners, read in one pass.
+use Rattle.std.proofs.Common.{◌≡◌, ℕ, zero, suc, ◌+◌, ◌-◌, ◌*◌, ◌<◌, ◌≤◌, Bool, true, false, cond, ◌&&◌, List, [], ◌∷◌, ◌++◌, length, take, drop, get_or, Some, None, refl, sym, ap, ◌∙◌, arith, nat_le}
+use Rattle.std.proofs.Common.{nat_lt, eqb, append_assoc, length-append, length-drop, drop-cons, add-one}
+use Rattle.std.proofs.lemmas.Bool.Decides.{nat_tests}
+use Rattle.std.proofs.lemmas.Fmt.{decimal_digit}
+use Rattle.std.proofs.lemmas.List.{take_all, take-append-drop, take_more}
+use Rattle.std.specs.Char.{digit_value, is_ascii_digit}
+use Rattle.std.specs.Fmt.{decimal, signed_decimal}
+use Rattle.lpis_cert.specs.Limits.{number_margin}
+use Rattle.lpis_cert.specs.CertText.{Corners, Line, spelling, words_of, text_of_lines}
+use Rattle.lpis_cert.specs.Reading.{digits_on, number}
+use Rattle.lpis_cert.specs.private.Taken.{Begins, ReadsLines, corner_line}
+use Rattle.lpis_cert.proofs.NumberLemmas.{number_takes}
+
+-- the rest, as a slice of the code is seen
+rest_is : (xs : List ℕ) (i : ℕ) → take (length xs - (i + 1)) (drop (i + 1) xs) ≡ drop (i + 1) xs
+rest_is xs i = take_all (length xs - (i + 1)) (drop (i + 1) xs) (simp length-drop (omega arith))
+
+pub digits_on-append : (limit n : ℕ) (xs ys : List ℕ) (v : ℕ) → digits_on limit n xs ≡ Some v → digits_on limit n (xs ++ ys) ≡ digits_on limit v ys
+digits_on-append limit n [] ys v h = let e : n ≡ v = cc h in ap (λ (k : ℕ). digits_on limit k ys) e
+digits_on-append limit n (d ∷ xs) ys v h = by_test (is_ascii_digit d && nat_le (n * 10 + digit_value d) limit) (digits_on-append limit (n * 10 + digit_value d) xs ys v) h
+  where
+    by_test : (b : Bool) → (digits_on limit (n * 10 + digit_value d) xs ≡ Some v → digits_on limit (n * 10 + digit_value d) (xs ++ ys) ≡ digits_on limit v ys)
+        → cond b (digits_on limit (n * 10 + digit_value d) xs) None ≡ Some v → cond b (digits_on limit (n * 10 + digit_value d) (xs ++ ys)) None ≡ digits_on limit v ys
+    by_test true more h = more h
+    by_test false more h = absurd cc
+
+digit_is : (d : ℕ) → is_ascii_digit d ≡ true → digit_value d ≡ d - 48
+digit_is d h =
+    let low : 48 ≤ d = grind (arith, nat_tests) in
+    let high : d < 58 = grind (arith, nat_tests) in
+    let a : nat_lt d 48 ≡ false = grind (arith, nat_tests) in
+    let b : nat_lt d 58 ≡ true = grind (arith, nat_tests) in
+    rw (a, b) refl
+
+-- one more digit
+pub digit_more : (limit i v r : ℕ) (xs : List ℕ) → i < length xs → digits_on limit 0 (take i xs) ≡ Some v → is_ascii_digit (get_or xs i 0) ≡ true → r ≡ get_or xs i 0 - 48 → v * 10 + r ≤ limit
+    → digits_on limit 0 (take (i + 1) xs) ≡ Some (v * 10 + r)
+digit_more limit i v r xs lt h digit is le =
+    let value : digit_value (get_or xs i 0) ≡ r = digit_is (get_or xs i 0) digit ∙ sym is in
+    let more = take_more xs i 0 lt in
+    let small : nat_le (v * 10 + r) limit ≡ true = grind (arith, nat_tests) in
+    ap (digits_on limit 0) more ∙ digits_on-append limit 0 (take i xs) (get_or xs i 0 ∷ []) v h ∙ rw (digit, value, small) refl
+
+not_zero : (d : ℕ) → 48 < d → eqb d 48 ≡ false
+not_zero d h = grind (arith, nat_tests)
+
+leading : (limit i end : ℕ) (xs : List ℕ) (v : ℕ) → i < length xs → end < 48 → 48 < get_or xs 0 0 → get_or xs i 0 ≡ end → digits_on limit 0 (take i xs) ≡ Some v → number limit (take i xs) ≡ Some v
+unfolding number
+leading limit zero end xs v lt apart first last h = absurd (omega arith)
+leading limit (suc i) end [] v lt apart first last h = absurd (omega arith)
+leading limit (suc i) end (d ∷ xs) v lt apart first last h = let no = not_zero d first in rw no h
+
+-- the digits before a byte
+pub digits_begin : (limit i end : ℕ) (xs : List ℕ) (v : ℕ) → limit ≤ number_margin → i < length xs → end < 48 → 48 < get_or xs 0 0 → get_or xs i 0 ≡ end → digits_on limit 0 (take i xs) ≡ Some v
+    → Begins xs (decimal v) end (take (length xs - (i + 1)) (drop (i + 1) xs)) × (v ≤ limit)
+digits_begin limit i end xs v small lt apart first last h =
+    let is = number_takes limit (take i xs) v small (leading limit i end xs v lt apart first last h) in
+    let cons : drop i xs ≡ end ∷ drop (i + 1) xs = rw add-one (drop-cons xs i 0 lt) ∙ ap (λ (b : ℕ). b ∷ drop (i + 1) xs) last in
+    (rw (rest_is xs i) (sym (take-append-drop i xs) ∙ ap (λ (t : List ℕ). take i xs ++ t) cons ∙ ap (λ (w : List ℕ). w ++ (end ∷ drop (i + 1) xs)) is.0), is.1)
+
+-- the first byte
+pub first_byte : (xs : List ℕ) (b : ℕ) → 1 ≤ length xs → get_or xs 0 0 ≡ b → xs ≡ b ∷ take (length xs - 1) (drop 1 xs)
+first_byte [] b some first = absurd (omega arith)
+first_byte (x ∷ xs) b some first = let all = take_all (length (x ∷ xs) - 1) xs (omega arith) in rw (first, all) refl
+
+pub zero_begins : (text after rest : List ℕ) (end limit : ℕ) → text ≡ 48 ∷ after → after ≡ end ∷ rest → Begins text (decimal 0) end rest × (0 ≤ limit)
+zero_begins text after rest end limit h k = let zero = decimal_digit 0 (omega arith) in (rw (h, k, zero) refl, omega arith)
+
+-- ---- a line of corners
+
+link : (a x y r : List ℕ) → x ++ r ≡ y → (a ++ (32 ∷ x)) ++ r ≡ a ++ (32 ∷ y)
+link a x y r h = append_assoc a (32 ∷ x) r ∙ ap (λ (t : List ℕ). a ++ (32 ∷ t)) h
+
+six : (a b c d e f r : List ℕ) → (a ++ (32 ∷ (b ++ (32 ∷ (c ++ (32 ∷ (d ++ (32 ∷ (e ++ (32 ∷ f)))))))))) ++ r ≡ a ++ (32 ∷ (b ++ (32 ∷ (c ++ (32 ∷ (d ++ (32 ∷ (e ++ (32 ∷ (f ++ r))))))))))
+six a b c d e f r = link a _ _ r (link b _ _ r (link c _ _ r (link d _ _ r (link e _ _ r refl))))
+
+pub corners_spelled : (flat : Bool) (c : Corners) (rest : List ℕ)
+    → cond flat 102 116 ∷ 32 ∷ (signed_decimal c.x1
+    ++ (32 ∷ (signed_decimal c.y1
+    ++ (32 ∷ (signed_decimal c.x2
+    ++ (32 ∷ (signed_decimal c.y2
+    ++ (32 ∷ (signed_decimal c.x3 ++ (32 ∷ (signed_decimal c.y3 ++ (10 ∷ rest))))))))))))
+    ≡ spelling (corner_line flat c) ++ (10 ∷ rest)
+unfolding spelling words_of
+corners_spelled true c rest = ap (λ (t : List ℕ). 102 ∷ 32 ∷ t)
+    (sym (six (signed_decimal c.x1) (signed_decimal c.y1) (signed_decimal c.x2) (signed_decimal c.y2)
+    (signed_decimal c.x3) (signed_decimal c.y3) (10 ∷ rest)))
+corners_spelled false c rest = ap (λ (t : List ℕ). 116 ∷ 32 ∷ t)
+    (sym (six (signed_decimal c.x1) (signed_decimal c.y1) (signed_decimal c.x2) (signed_decimal c.y2)
+    (signed_decimal c.x3) (signed_decimal c.y3) (10 ∷ rest)))
+
+pub corners_begin : (flat : Bool) (letter : ℕ) (text after fields : List ℕ) (c : Corners) (rest : List ℕ) → letter ≡ cond flat 102 116 → text ≡ letter ∷ after → after ≡ 32 ∷ fields
+    → fields ≡ signed_decimal c.x1
+    ++ (32 ∷ (signed_decimal c.y1
+    ++ (32 ∷ (signed_decimal c.x2
+    ++ (32 ∷ (signed_decimal c.y2
+    ++ (32 ∷ (signed_decimal c.x3 ++ (32 ∷ (signed_decimal c.y3 ++ (10 ∷ rest)))))))))))
+    → Begins text (spelling (corner_line flat c)) 10 rest
+corners_begin flat letter text after fields c rest is h k all = rw (h, k, all, is) (corners_spelled flat c rest)
+
+-- a line that begins the text was taken
+pub begun : (text : List ℕ) (n : ℕ) (l : Line) (rest : List ℕ) → Begins text (spelling l) 10 rest → ReadsLines text n (l ∷ []) rest (n + 1)
+unfolding text_of_lines
+begun text n l rest h = record { parts = h ∙ sym (append_assoc (spelling l) (10 ∷ []) rest); next = refl }
+
+pub shorter : (text : List ℕ) (w : List ℕ) (rest : List ℕ) → Begins text w 10 rest → length rest + 1 ≤ length text
+shorter text w rest h = let e = ap length h in let a = length-append w (10 ∷ rest) in omega arith

@@ -1,0 +1,417 @@
+-- A text without a fault is that of a certificate.
+use Rattle.std.specs.Str.{bytes_eq}
+use Rattle.std.specs.Prelude.{sum_by}
+use Rattle.std.specs.List.{AllByRecursion, join_with_byte, flat_map}
+use Rattle.std.proofs.Common.{◌≡◌, ℕ, zero, suc, ◌+◌, ◌<◌, ◌≤◌, Bool, true, false, cond, ◌&&◌, List, [], ◌∷◌, ◌++◌, length, map, Result, Ok, Err, refl, sym, ap, ap₂, subst, ◌∙◌, arith, append_assoc}
+use Rattle.std.proofs.Common.{eqb, nat_le}
+use Rattle.std.proofs.lemmas.Bool.Decides.{nat_tests}
+use Rattle.std.proofs.lemmas.List.{nil_from_length, length-map}
+use Rattle.std.proofs.lemmas.List.Sums.{sum_by-cons}
+use Rattle.std.proofs.lemmas.List.Splits.{join_with_byte-slice_split}
+use Rattle.lpis_points.specs.declared.triangle.Triangle.{Triangle}
+use Rattle.lpis_covers.specs.Ids.{is_id}
+use Rattle.lpis_cert.specs.declared.kind.Stage.{Stage}
+use Rattle.lpis_cert.specs.declared.kind.Stage.TheVariants as stage
+use Rattle.lpis_cert.specs.declared.kind.Kind.TheVariants as kind
+use Rattle.lpis_cert.specs.declared.kind.Expected.TheVariants.{One, Block}
+use Rattle.lpis_cert.specs.declared.fault.CertCode.{CertCode}
+use Rattle.lpis_cert.specs.declared.fault.CertCode.TheVariants as code
+use Rattle.lpis_cert.specs.declared.part.PiecePart.{PiecePart}
+use Rattle.lpis_cert.specs.declared.part.ParcelPart.{ParcelPart}
+use Rattle.lpis_cert.specs.declared.part.PairLine as part
+use Rattle.lpis_cert.specs.declared.cert.Cert.{Cert}
+use Rattle.lpis_cert.specs.Limits.{most_triangles, most_flats, greatest_count}
+use Rattle.lpis_cert.specs.Versions.{first_line, written}
+use Rattle.lpis_cert.specs.CertText.{Corners, Separator, PieceBlock, ParcelBlock, Content, Line, PieceLine, TriangleLine, FlatLine, ParcelLine, PairsLine, PairLine, EndLine, spelling, text_of_lines}
+use Rattle.lpis_cert.specs.CertText.{piece_lines, parcel_lines, end_lines, lines_of, text_of}
+use Rattle.lpis_cert.specs.Contents.{corner_numbers, all_corners, piece_of, parcel_of, separator_of, content_of, cert_text}
+use Rattle.lpis_cert.specs.Fitting.{CornersFit, SeparatorFits}
+use Rattle.lpis_cert.specs.private.Fits.{PieceFits, ParcelFits, Fits}
+use Rattle.lpis_cert.specs.Reading.{read_line}
+use Rattle.lpis_cert.specs.Faults.{lines, outcome, at_last, at_line, step, open_block, within, Place, AtVersion, InBody, InPairs, AtEnd, Declared, none_declared, grow, grow_flats, verdict}
+use Rattle.lpis_cert.proofs.LineLemmas.{ReadsAs, read_takes, bind_ok, word_is}
+use Rattle.lpis_cert.proofs.LawLemmas.{sum-map}
+
+-- ---- what a text may be from a place on
+
+-- in a body: the triangles and flats that the block still wants, and then a content that fits what was declared before
+record Left (b : Stage) (t f : ℕ) (d : Declared) (ts fs : List Corners) (c : Content) (text : List ℕ) : Type 0 where
+  pub triangle_count : length ts ≡ t
+  pub flat_count : length fs ≡ f
+  pub triangles : AllByRecursion CornersFit ts
+  pub flats : AllByRecursion CornersFit fs
+  pub pieces : AllByRecursion PieceFits c.pieces
+  pub parcels : AllByRecursion ParcelFits c.parcels
+  pub pairs : AllByRecursion SeparatorFits c.pairs
+  pub no_pieces : b ≡ stage.Parcels → c.pieces ≡ []
+  pub triangles_few : d.triangles + sum_by (λ p. length p.triangles) c.pieces ≤ most_triangles
+  pub flats_few : d.flats + (sum_by (λ p. length p.flats) c.pieces + sum_by (λ p. length p.flats) c.parcels) ≤ most_flats
+  pub pairs_few : length c.pairs ≤ greatest_count
+  pub spelled : text ≡ text_of_lines (map TriangleLine ts ++ (map FlatLine fs ++ lines_of c))
+
+abbrev May : Place → List ℕ → Type 0
+May AtVersion text = (c : Content) × Fits c × (text ≡ text_of c)
+May (InBody b t f d) text = (ts : List Corners) × (fs : List Corners) × (c : Content) × Left b t f d ts fs c text
+May (InPairs n) text = (ps : List Separator) × (length ps ≡ n) × AllByRecursion SeparatorFits ps × (text ≡ text_of_lines (map PairLine ps ++ (EndLine ∷ [])))
+May AtEnd text = text ≡ []
+
+-- what was declared is within the limits
+abbrev Small : Place → Type 0
+Small AtVersion = Unit {0}
+Small (InBody b t f d) = (d.triangles ≤ most_triangles) × (d.flats ≤ most_flats)
+Small (InPairs n) = Unit {0}
+Small AtEnd = Unit {0}
+
+line_more : (l : Line) (ls : List Line) (line rest : List ℕ) → line ≡ spelling l → rest ≡ text_of_lines ls → line ++ (10 ∷ rest) ≡ text_of_lines (l ∷ ls)
+unfolding text_of_lines
+line_more l ls line rest e g = ap₂ (λ (x y : List ℕ). x ++ (10 ∷ y)) e g
+
+-- ---- one line back
+
+triangle_more : (b : Stage) (t f : ℕ) (d : Declared) (ts fs : List Corners) (c : Content) (line rest : List ℕ) (l : Line) → ReadsAs (One kind.Triangle) line l → Left b t f d ts fs c rest
+    → May (InBody b (suc t) f d) (line ++ (10 ∷ rest))
+triangle_more b t f d ts fs c line rest (TriangleLine x) r m = (
+  x ∷ ts,
+  fs,
+  c,
+  record {
+    triangle_count = ap suc m.triangle_count;
+    flat_count = m.flat_count;
+    triangles = (r.fits, m.triangles);
+    flats = m.flats;
+    pieces = m.pieces;
+    parcels = m.parcels;
+    pairs = m.pairs;
+    no_pieces = m.no_pieces;
+    triangles_few = m.triangles_few;
+    flats_few = m.flats_few;
+    pairs_few = m.pairs_few;
+    spelled = line_more (TriangleLine x) (map TriangleLine ts ++ (map FlatLine fs ++ lines_of c)) line rest r.text m.spelled;
+  },
+)
+triangle_more b t f d ts fs c line rest _ r m = let no = r.stands in absurd (cc no)
+
+-- no triangle is left
+bare : (b : Stage) (f : ℕ) (d : Declared) (ts fs : List Corners) (c : Content) (text : List ℕ) → Left b 0 f d ts fs c text → Left b 0 f d [] fs c text
+bare b f d ts fs c text m = subst (λ (xs : List Corners). Left b 0 f d xs fs c text) (nil_from_length ts m.triangle_count) m
+
+flat_more : (b : Stage) (f : ℕ) (d : Declared) (fs : List Corners) (c : Content) (line rest : List ℕ) (l : Line) → ReadsAs (One kind.Flat) line l → Left b 0 f d [] fs c rest
+    → May (InBody b 0 (suc f) d) (line ++ (10 ∷ rest))
+flat_more b f d fs c line rest (FlatLine x) r m = (
+  [],
+  x ∷ fs,
+  c,
+  record {
+    triangle_count = refl;
+    flat_count = ap suc m.flat_count;
+    triangles = tt;
+    flats = (r.fits, m.flats);
+    pieces = m.pieces;
+    parcels = m.parcels;
+    pairs = m.pairs;
+    no_pieces = m.no_pieces;
+    triangles_few = m.triangles_few;
+    flats_few = m.flats_few;
+    pairs_few = m.pairs_few;
+    spelled = line_more (FlatLine x) (map FlatLine fs ++ lines_of c) line rest r.text m.spelled;
+  },
+)
+flat_more b f d fs c line rest _ r m = let no = r.stands in absurd (cc no)
+
+-- ---- blocks
+
+regrouped : (a b c q : List Line) → a ++ (b ++ (c ++ q)) ≡ ((a ++ b) ++ c) ++ q
+regrouped a b c q = sym (append_assoc a b (c ++ q)) ∙ sym (append_assoc (a ++ b) c q)
+
+piece_more : (d : Declared) (id : List ℕ) (ts fs : List Corners) (c : Content) (line rest : List ℕ) → line ≡ spelling (PieceLine id (length ts) (length fs)) → is_id id ≡ true
+    → Left stage.Pieces (length ts) (length fs) (grow d (length ts) (length fs)) ts fs c rest → May (InBody stage.Pieces 0 0 d) (line ++ (10 ∷ rest))
+unfolding lines_of
+piece_more d id ts fs c line rest spelled named m =
+    let p : PieceBlock = record { id = id; triangles = ts; flats = fs } in
+    let st = sum_by-cons (λ (p : PieceBlock). length p.triangles) p c.pieces in
+    let sf = sum_by-cons (λ (p : PieceBlock). length p.flats) p c.pieces in (
+      [],
+      [],
+      record { pieces = p ∷ c.pieces; parcels = c.parcels; pairs = c.pairs },
+      record {
+        triangle_count = refl;
+        flat_count = refl;
+        triangles = tt;
+        flats = tt;
+        pieces = (record { id = named; triangles = m.triangles; flats = m.flats }, m.pieces);
+        parcels = m.parcels;
+        pairs = m.pairs;
+        no_pieces = λ other. absurd (cc other);
+        triangles_few = omega (arith, st, m.triangles_few);
+        flats_few = omega (arith, sf, m.flats_few);
+        pairs_few = m.pairs_few;
+        spelled = line_more (PieceLine id (length ts) (length fs)) (map TriangleLine ts ++ (map FlatLine fs ++ lines_of c)) line rest spelled m.spelled
+            ∙ ap (λ (ls : List Line). text_of_lines (PieceLine id (length ts) (length fs) ∷ ls))
+            (regrouped (map TriangleLine ts) (map FlatLine fs) (flat_map piece_lines c.pieces) (flat_map parcel_lines c.parcels ++ end_lines c.pairs));
+      },
+    )
+
+parcel_more : (b : Stage) (d : Declared) (id : List ℕ) (fs : List Corners) (qs : List ParcelBlock) (rs : List Separator)
+    (line rest : List ℕ) → line ≡ spelling (ParcelLine id (length fs)) → is_id id ≡ true
+    → Left stage.Parcels 0 (length fs) (grow_flats d (length fs)) [] fs (record { pieces = []; parcels = qs; pairs = rs }) rest → May (InBody b 0 0 d) (line ++ (10 ∷ rest))
+unfolding lines_of
+parcel_more b d id fs qs rs line rest spelled named m =
+    let q : ParcelBlock = record { id = id; flats = fs } in
+    let sf = sum_by-cons (λ (p : ParcelBlock). length p.flats) q qs in (
+      [],
+      [],
+      record { pieces = []; parcels = q ∷ qs; pairs = rs },
+      record {
+        triangle_count = refl;
+        flat_count = refl;
+        triangles = tt;
+        flats = tt;
+        pieces = tt;
+        parcels = (record { id = named; flats = m.flats }, m.parcels);
+        pairs = m.pairs;
+        no_pieces = λ _. refl;
+        triangles_few = m.triangles_few;
+        flats_few = omega (arith, sf, m.flats_few);
+        pairs_few = m.pairs_few;
+        spelled = line_more (ParcelLine id (length fs)) (map FlatLine fs ++ (flat_map parcel_lines qs ++ end_lines rs)) line rest spelled m.spelled
+            ∙ ap (λ (ls : List Line). text_of_lines (ParcelLine id (length fs) ∷ ls)) (sym (append_assoc (map FlatLine fs) (flat_map parcel_lines qs) (end_lines rs)));
+      },
+    )
+
+pairs_more : (b : Stage) (d : Declared) (ps : List Separator) (line rest : List ℕ) → Small (InBody b 0 0 d)
+    → line ≡ spelling (PairsLine (length ps)) → length ps ≤ greatest_count → AllByRecursion SeparatorFits ps
+    → rest ≡ text_of_lines (map PairLine ps ++ (EndLine ∷ [])) → May (InBody b 0 0 d) (line ++ (10 ∷ rest))
+unfolding lines_of
+pairs_more b d ps line rest s spelled few fits e = (
+  [],
+  [],
+  record { pieces = []; parcels = []; pairs = ps },
+  record {
+    triangle_count = refl;
+    flat_count = refl;
+    triangles = tt;
+    flats = tt;
+    pieces = tt;
+    parcels = tt;
+    pairs = fits;
+    no_pieces = λ _. refl;
+    triangles_few = omega (arith, s.0);
+    flats_few = omega (arith, s.1);
+    pairs_few = few;
+    spelled = line_more (PairsLine (length ps)) (map PairLine ps ++ (EndLine ∷ [])) line rest spelled e;
+  },
+)
+
+-- both limits hold, and the place is the next one
+within_ok : (d : Declared) (next q : Place) → within d next ≡ Ok q → Small (InBody stage.Pieces 0 0 d) × (next ≡ q)
+within_ok d next q h =
+    let t = by_tests (nat_le d.triangles most_triangles) (nat_le d.flats most_flats) h in
+    let x = t.0 in
+    let y = t.1 in
+    let less : d.triangles ≤ most_triangles = grind (arith, nat_tests) in
+    let few : d.flats ≤ most_flats = grind (arith, nat_tests) in
+    ((less, few), t.2)
+  where
+    by_tests : (a b : Bool) → ◌≡◌ {A = Result Place CertCode} (cond (a && b) (Ok next) (Err code.TooMany)) (Ok q) → (a ≡ true) × (b ≡ true) × (next ≡ q)
+    by_tests true true h = (refl, refl, cc h)
+    by_tests true false h = absurd (cc h)
+    by_tests false b h = absurd (cc h)
+
+piece_sized : (d : Declared) (id : List ℕ) (t f : ℕ) (ts fs : List Corners) (c : Content) (line rest : List ℕ)
+    → is_id id ≡ true → line ≡ spelling (PieceLine id t f) → Left stage.Pieces t f (grow d t f) ts fs c rest
+    → May (InBody stage.Pieces 0 0 d) (line ++ (10 ∷ rest))
+piece_sized d id t f ts fs c line rest named spelled m =
+    subst (λ (n : ℕ). line ≡ spelling (PieceLine id n f) → Left stage.Pieces n f (grow d n f) ts fs c rest → May (InBody stage.Pieces 0 0 d) (line ++ (10 ∷ rest))) m.triangle_count
+    (subst (λ (k : ℕ). line ≡ spelling (PieceLine id (length ts) k) → Left stage.Pieces (length ts) k
+    (grow d (length ts) k) ts fs c rest → May (InBody stage.Pieces 0 0 d) (line ++ (10 ∷ rest))) m.flat_count
+    (λ s l. piece_more d id ts fs c line rest s named l)) spelled m
+
+parcel_sized : (b : Stage) (d : Declared) (id : List ℕ) (f : ℕ) (ts fs : List Corners) (c : Content)
+    (line rest : List ℕ) → is_id id ≡ true → line ≡ spelling (ParcelLine id f) → Left stage.Parcels 0 f (grow_flats d f)
+    ts fs c rest
+    → May (InBody b 0 0 d) (line ++ (10 ∷ rest))
+parcel_sized b d id f ts fs c line rest named spelled m =
+    let l = bare stage.Parcels f (grow_flats d f) ts fs c rest m in
+    let none = subst (λ (ps : List PieceBlock). Left stage.Parcels 0 f (grow_flats d f) [] fs (record { pieces = ps; parcels = c.parcels; pairs = c.pairs }) rest) (l.no_pieces refl) l in
+    subst (λ (k : ℕ). line ≡ spelling (ParcelLine id k) → Left stage.Parcels 0 k (grow_flats d k) [] fs
+    (record { pieces = []; parcels = c.parcels; pairs = c.pairs }) rest
+    → May (InBody b 0 0 d) (line ++ (10 ∷ rest))) m.flat_count
+    (λ s l. parcel_more b d id fs c.parcels c.pairs line rest s named l) spelled none
+
+-- a line that took a place on, and the text before it
+abbrev Back : Place → List ℕ → Place → Type 0
+Back p line q = Small q × ((rest : List ℕ) → May q rest → May p (line ++ (10 ∷ rest)))
+
+block_back : (b : Stage) (d : Declared) (l : Line) (q : Place) (line : List ℕ) → Small (InBody b 0 0 d) → ReadsAs (Block b) line l → open_block d l ≡ Ok q → Back (InBody b 0 0 d) line q
+block_back stage.Pieces d (PieceLine id t f) q line s r h =
+    let w = within_ok (grow d t f) (InBody stage.Pieces t f (grow d t f)) q h in
+    subst (λ (x : Place). Back (InBody stage.Pieces 0 0 d) line x) w.1 (w.0, λ rest m. piece_sized d id t f m.0 m.1 m.2 line rest r.fits.0 r.text m.3)
+block_back stage.Parcels d (PieceLine id t f) q line s r h = let no = r.stands in absurd (cc no)
+block_back b d (ParcelLine id f) q line s r h =
+    let w = within_ok (grow_flats d f) (InBody stage.Parcels 0 f (grow_flats d f)) q h in
+    subst (λ (x : Place). Back (InBody b 0 0 d) line x) w.1 (w.0, λ rest m. parcel_sized b d id f m.0 m.1 m.2 line rest r.fits.0 r.text m.3)
+block_back b d (PairsLine n) q line s r h =
+    let same : InPairs n ≡ q = cc h in
+    subst (λ (x : Place). Back (InBody b 0 0 d) line x) same (
+      tt,
+      λ rest m. subst (λ (k : ℕ). line ≡ spelling (PairsLine k) → k ≤ greatest_count → May (InBody b 0 0 d) (line ++ (10 ∷ rest))) m.1
+          (λ spelled few. pairs_more b d m.0 line rest s spelled few m.2 m.3) r.text r.fits,
+    )
+block_back b d (TriangleLine c) q line s r h = absurd (cc h)
+block_back b d (FlatLine c) q line s r h = absurd (cc h)
+block_back b d (PairLine p) q line s r h = absurd (cc h)
+block_back b d EndLine q line s r h = absurd (cc h)
+
+pair_more : (n : ℕ) (line rest : List ℕ) (l : Line) → ReadsAs (One kind.Pair) line l → May (InPairs n) rest → May (InPairs (suc n)) (line ++ (10 ∷ rest))
+pair_more n line rest (PairLine p) r m = (p ∷ m.0, ap suc m.1, (r.fits, m.2), line_more (PairLine p) (map PairLine m.0 ++ (EndLine ∷ [])) line rest r.text m.3)
+pair_more n line rest _ r m = let no = r.stands in absurd (cc no)
+
+end_more : (line rest : List ℕ) (l : Line) → ReadsAs (One kind.End) line l → rest ≡ [] → May (InPairs 0) (line ++ (10 ∷ rest))
+unfolding text_of_lines
+end_more line rest EndLine r m = ([], refl, tt, line_more EndLine [] line rest r.text m)
+end_more line rest _ r m = let no = r.stands in absurd (cc no)
+
+first_more : (line rest : List ℕ) (ts fs : List Corners) (c : Content) → line ≡ first_line written → Left stage.Pieces 0 0 none_declared ts fs c rest → May AtVersion (line ++ (10 ∷ rest))
+unfolding text_of
+first_more line rest ts fs c spelled m =
+    let l = bare stage.Pieces 0 none_declared ts fs c rest m in
+    let none = subst (λ (xs : List Corners). Left stage.Pieces 0 0 none_declared [] xs c rest) (nil_from_length fs l.flat_count) l in (
+      c,
+      record {
+        pieces = m.pieces;
+        parcels = m.parcels;
+        pairs = m.pairs;
+        triangles_few = omega (arith, m.triangles_few);
+        flats_few = omega (arith, m.flats_few);
+        pairs_few = m.pairs_few;
+      },
+      ap₂ (λ (x y : List ℕ). x ++ (10 ∷ y)) spelled none.spelled,
+    )
+
+back : (p q : Place) (line : List ℕ) → Small p → step p line ≡ Ok q → Back p line q
+unfolding step
+back AtVersion q line s h = by_test (bytes_eq line (first_line written)) refl h
+  where
+    by_test : (b : Bool) → bytes_eq line (first_line written) ≡ b → ◌≡◌ {A = Result Place CertCode}
+        (cond b (Ok (InBody stage.Pieces 0 0 none_declared)) (Err code.Version)) (Ok q) → Back AtVersion line q
+    by_test true is h =
+        let same : InBody stage.Pieces 0 0 none_declared ≡ q = cc h in
+        subst (λ (x : Place). Back AtVersion line x) same ((omega arith, omega arith), λ rest m. first_more line rest m.0 m.1 m.2 (word_is line (first_line written) is) m.3)
+    by_test false is h = absurd (cc h)
+back (InBody b (suc t) f d) q line s h =
+    let o = bind_ok (read_line written (One kind.Triangle) line) (λ _. Ok (InBody b t f d)) q h in
+    let same : InBody b t f d ≡ q = cc o.2 in
+    subst (λ (x : Place). Back (InBody b (suc t) f d) line x) same (s, λ rest m. triangle_more b t f d m.0 m.1 m.2 line rest o.0 (read_takes (One kind.Triangle) line o.0 o.1) m.3)
+back (InBody b zero (suc f) d) q line s h =
+    let o = bind_ok (read_line written (One kind.Flat) line) (λ _. Ok (InBody b zero f d)) q h in
+    let same : InBody b zero f d ≡ q = cc o.2 in
+    subst (λ (x : Place). Back (InBody b zero (suc f) d) line x) same (s, λ rest m. flat_more b f d m.1 m.2 line rest o.0 (read_takes (One kind.Flat) line o.0 o.1) (bare b f d m.0 m.1 m.2 rest m.3))
+back (InBody b zero zero d) q line s h =
+    let o = bind_ok (read_line written (Block b) line) (open_block d) q h in
+    block_back b d o.0 q line s (read_takes (Block b) line o.0 o.1) o.2
+back (InPairs (suc n)) q line s h =
+    let o = bind_ok (read_line written (One kind.Pair) line) (λ _. Ok (InPairs n)) q h in
+    let same : InPairs n ≡ q = cc o.2 in
+    subst (λ (x : Place). Back (InPairs (suc n)) line x) same (tt, λ rest m. pair_more n line rest o.0 (read_takes (One kind.Pair) line o.0 o.1) m)
+back (InPairs zero) q line s h =
+    let o = bind_ok (read_line written (One kind.End) line) (λ _. Ok AtEnd) q h in
+    let same : AtEnd ≡ q = cc o.2 in
+    subst (λ (x : Place). Back (InPairs zero) line x) same (tt, λ rest m. end_more line rest o.0 (read_takes (One kind.End) line o.0 o.1) m)
+back AtEnd q line s h = absurd (cc h)
+
+-- ---- all lines back
+
+last_back : (n m : ℕ) (p : Place) (rest : List ℕ) → at_last n p rest ≡ Ok m → May p rest
+unfolding at_last
+last_back n m AtVersion rest h = absurd (cc h)
+last_back n m (InBody b t f d) rest h = absurd (cc h)
+last_back n m (InPairs k) rest h = absurd (cc h)
+last_back n m AtEnd [] h = refl
+last_back n m AtEnd (x ∷ xs) h = let no : eqb (length (x ∷ xs)) 0 ≡ false = positive (length (x ∷ xs)) (omega arith) in let e = rw no at h in absurd (cc e)
+  where
+    positive : (k : ℕ) → 0 < k → eqb k 0 ≡ false
+    positive k h = grind (arith, nat_tests)
+
+line_ok : (n : ℕ) (r : Result Place CertCode) (q : Place) → at_line n r ≡ Ok q → r ≡ Ok q
+line_ok n (Ok x) q h = let same : x ≡ q = cc h in ap (λ (y : Place). Ok y) same
+line_ok n (Err e) q h = absurd (cc h)
+
+read_back : (ls : List (List ℕ)) (n m : ℕ) (p : Place) → Small p → outcome n p ls ≡ Ok m → May p (join_with_byte 10 ls)
+unfolding outcome
+read_back [] n m p s h = last_back n m p [] h
+read_back (l ∷ []) n m p s h = last_back n m p l h
+read_back (l ∷ k ∷ ls) n m p s h =
+    let o = bind_ok (at_line n (step p l)) (λ q. outcome (n + 1) q (k ∷ ls)) m h in
+    let b = back p o.0 l s (line_ok n (step p l) o.0 o.1) in
+    b.1 (join_with_byte 10 (k ∷ ls)) (read_back (k ∷ ls) (n + 1) m o.0 b.0 o.2)
+
+-- ---- the certificate of a content
+
+abbrev triangle_of : (c : Corners) → CornersFit c → Triangle
+triangle_of c f = record {
+  a = record { x = c.x1; y = c.y1; x_in_range = f.x1; y_in_range = f.y1 };
+  b = record { x = c.x2; y = c.y2; x_in_range = f.x2; y_in_range = f.y2 };
+  c = record { x = c.x3; y = c.y3; x_in_range = f.x3; y_in_range = f.y3 };
+}
+
+triangles_of : (cs : List Corners) → AllByRecursion CornersFit cs → (ts : List Triangle) × (all_corners ts ≡ cs)
+triangles_of [] fits = ([], refl)
+triangles_of (c ∷ cs) fits = let r = triangles_of cs fits.1 in (triangle_of c fits.0 ∷ r.0, ap (λ (xs : List Corners). c ∷ xs) r.1)
+
+pieces_of : (ps : List PieceBlock) → AllByRecursion PieceFits ps → (qs : List PiecePart) × (map piece_of qs ≡ ps)
+pieces_of [] fits = ([], refl)
+pieces_of (p ∷ ps) fits =
+    let t = triangles_of p.triangles fits.0.triangles in
+    let f = triangles_of p.flats fits.0.flats in
+    let r = pieces_of ps fits.1 in
+    let q : PiecePart = record { id = p.id; triangles = t.0; flats = f.0; named = fits.0.id } in
+    let same : piece_of q ≡ p = ap₂ (λ (x y : List Corners). record { id = p.id; triangles = x; flats = y }) t.1 f.1 in
+    (q ∷ r.0, ap₂ (λ (x : PieceBlock) (xs : List PieceBlock). x ∷ xs) same r.1)
+
+parcels_of : (ps : List ParcelBlock) → AllByRecursion ParcelFits ps → (qs : List ParcelPart) × (map parcel_of qs ≡ ps)
+parcels_of [] fits = ([], refl)
+parcels_of (p ∷ ps) fits =
+    let f = triangles_of p.flats fits.0.flats in
+    let r = parcels_of ps fits.1 in
+    let q : ParcelPart = record { id = p.id; flats = f.0; named = fits.0.id } in
+    let same : parcel_of q ≡ p = ap (λ (x : List Corners). record { id = p.id; flats = x }) f.1 in
+    (q ∷ r.0, ap₂ (λ (x : ParcelBlock) (xs : List ParcelBlock). x ∷ xs) same r.1)
+
+pairs_of : (ps : List Separator) → AllByRecursion SeparatorFits ps → (qs : List part.PairLine) × (map separator_of qs ≡ ps)
+pairs_of [] fits = ([], refl)
+pairs_of (p ∷ ps) fits =
+    let r = pairs_of ps fits.1 in
+    (record { i = p.i; j = p.j; k = p.k; i_fits = fits.0.i; j_fits = fits.0.j; k_fits = fits.0.k } ∷ r.0, ap (λ (xs : List Separator). p ∷ xs) r.1)
+
+cert_of : (c : Content) → Fits c → (x : Cert) × (content_of x ≡ c)
+cert_of c fits =
+    let ps = pieces_of c.pieces fits.pieces in
+    let qs = parcels_of c.parcels fits.parcels in
+    let rs = pairs_of c.pairs fits.pairs in
+    let t = sum-map piece_of (λ p. length p.triangles) (λ p. length p.triangles) (λ p. length-map p.triangles corner_numbers) ps.0 in
+    let f = sum-map piece_of (λ p. length p.flats) (λ p. length p.flats) (λ p. length-map p.flats corner_numbers) ps.0 in
+    let g = sum-map parcel_of (λ p. length p.flats) (λ p. length p.flats) (λ p. length-map p.flats corner_numbers) qs.0 in
+    let n = length-map rs.0 separator_of in
+    let tc = ap (λ (xs : List PieceBlock). sum_by (λ p. length p.triangles) xs) ps.1 in
+    let fc = ap (λ (xs : List PieceBlock). sum_by (λ p. length p.flats) xs) ps.1 in
+    let gc = ap (λ (xs : List ParcelBlock). sum_by (λ p. length p.flats) xs) qs.1 in
+    let nc = ap (λ (xs : List Separator). length xs) rs.1 in (
+      record {
+        pieces = ps.0;
+        parcels = qs.0;
+        pairs = rs.0;
+        triangles_few = omega (arith, t, tc, fits.triangles_few);
+        flats_few = omega (arith, f, fc, g, gc, fits.flats_few);
+        pairs_few = omega (arith, n, nc, fits.pairs_few);
+      },
+      ap (λ (x : List PieceBlock). record { pieces = x; parcels = map parcel_of qs.0; pairs = map separator_of rs.0 }) ps.1
+          ∙ ap (λ (x : List ParcelBlock). record { pieces = c.pieces; parcels = x; pairs = map separator_of rs.0 }) qs.1
+          ∙ ap (λ (x : List Separator). record { pieces = c.pieces; parcels = c.parcels; pairs = x }) rs.1,
+    )
+
+-- a text without a fault is a certificate's
+pub whose : (text : List ℕ) (after : ℕ) → verdict text ≡ Ok after → (c : Cert) × (text ≡ cert_text c)
+whose text after h =
+    let r = read_back (lines text) 1 after AtVersion tt h in
+    let x = cert_of r.0 r.1 in
+    (x.0, sym (join_with_byte-slice_split 10 text) ∙ r.2 ∙ ap (λ (c : Content). text_of c) (sym x.1))

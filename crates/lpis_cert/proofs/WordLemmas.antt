@@ -1,0 +1,184 @@
+-- The words of a line.
+use Rattle.std.proofs.Common.{◌≡◌, ℕ, suc, ◌<◌, ◌≤◌, Bool, true, false, not, ◌&&◌, List, [], ◌∷◌, ◌++◌, length, refl, ap, ◌∙◌, arith, ℤ, pos, negsuc, neg_ℤ, ◌≤ℤ◌}
+use Rattle.std.proofs.lemmas.Bool.Decides.{nat_tests}
+use Rattle.std.proofs.lemmas.Int.{ints}
+use Rattle.std.proofs.lemmas.Fmt.{decimal_is_IsNumeral}
+use Rattle.std.proofs.lemmas.Str.Parse.{digit_from_value}
+use Rattle.std.specs.Prelude.{codes, nat_le}
+use Rattle.std.specs.List.{slice_split, onto_first, list_all, list_any, join_with_byte, AllByRecursion}
+use Rattle.std.specs.Fmt.{decimal, signed_decimal}
+use Rattle.std.specs.Int.{IsInRange as IsBetween}
+use Rattle.std.specs.Str.Parse.{AllDigits}
+use Rattle.lpis_covers.specs.Ids.{is_id, is_id_byte}
+use Rattle.lpis_points.specs.Range.{IsInRange, limit}
+use Rattle.lpis_cert.specs.Limits.{greatest_count, number_margin}
+use Rattle.lpis_cert.specs.declared.kind.Kind.{Kind}
+use Rattle.lpis_cert.specs.declared.kind.Kind.TheVariants.{Piece, Triangle, Flat, Parcel, Pairs, Pair, End}
+use Rattle.lpis_cert.specs.CertText.{Corners, Line, PieceLine, TriangleLine, FlatLine, ParcelLine, PairsLine, PairLine, EndLine, words_of, corner_words, spelling}
+use Rattle.lpis_cert.specs.Fitting.{CornersFit, LineFits}
+use Rattle.lpis_cert.specs.Reading.{is_gap, is_empty, words}
+use Rattle.lpis_cert.specs.Faults.{is_lf, lines}
+use Rattle.lpis_cert.specs.Kinds.{line_kind}
+use Rattle.lpis_cert.proofs.NumberLemmas.{both}
+
+-- ---- bytes of words
+
+-- neither a space nor a line end
+abbrev pub IsPlain : List ℕ → Type 0
+IsPlain w = AllByRecursion (λ b. (is_gap b ≡ false) × (is_lf b ≡ false)) w
+
+-- a word, in a text
+pub record IsWordText (w : List ℕ) : Type 0 where
+  pub some : is_empty w ≡ false
+  pub plain : IsPlain w
+
+digits_plain : (ds : List ℕ) → AllDigits 10 ds → IsPlain ds
+digits_plain [] h = tt
+digits_plain (d ∷ ds) h = let r = digit_from_value d h.0 in (plain d r, digits_plain ds h.1)
+  where
+    plain : (d : ℕ) → IsBetween 48 57 d → (is_gap d ≡ false) × (is_lf d ≡ false)
+    plain d r = (grind (arith, nat_tests), grind (arith, nat_tests))
+
+not-empty : (w : List ℕ) → 0 < length w → is_empty w ≡ false
+not-empty [] h = absurd (omega arith)
+not-empty (b ∷ bs) h = refl
+
+pub decimal_word : (n : ℕ) → n ≤ number_margin → IsWordText (decimal n)
+decimal_word n le = let d = decimal_is_IsNumeral n (omega arith) in record { some = not-empty (decimal n) d.0.0; plain = digits_plain (decimal n) d.0.1 }
+
+pub signed_word : (z : ℤ) → IsInRange z → IsWordText (signed_decimal z)
+signed_word (pos n) fits = decimal_word n (below n fits.1)
+  where
+    below : (n : ℕ) → pos n ≤ℤ limit → n ≤ number_margin
+    below n h = omega (arith, ints)
+signed_word (negsuc n) fits = let d = decimal_word (suc n) (below n fits.0) in record { some = refl; plain = ((refl, refl), d.plain) }
+  where
+    below : (n : ℕ) → neg_ℤ limit ≤ℤ negsuc n → suc n ≤ number_margin
+    below n h = omega (arith, ints)
+
+id_plain : (bs : List ℕ) → list_all is_id_byte bs ≡ true → IsPlain bs
+id_plain [] h = tt
+id_plain (b ∷ bs) h = let t = both (is_id_byte b) (list_all is_id_byte bs) h in (plain b t.0, id_plain bs t.1)
+  where
+    plain : (d : ℕ) → is_id_byte d ≡ true → (is_gap d ≡ false) × (is_lf d ≡ false)
+    plain d r = (grind (arith, nat_tests), grind (arith, nat_tests))
+
+pub id_word : (bs : List ℕ) → is_id bs ≡ true → IsWordText bs
+id_word bs h =
+    let t = both (nat_le 1 (length bs) && nat_le (length bs) 40) (list_all is_id_byte bs) h in
+    let u = both (nat_le 1 (length bs)) (nat_le (length bs) 40) t.0 in
+    record { some = not-empty bs (above (length bs) u.0); plain = id_plain bs t.1 }
+  where
+    above : (n : ℕ) → nat_le 1 n ≡ true → 0 < n
+    above n h = grind (arith, nat_tests)
+
+-- ---- cutting what was joined
+
+pub part : (p : ℕ → Bool) (w rest : List ℕ) → AllByRecursion (λ b. p b ≡ false) w → (c : ℕ) → p c ≡ true → slice_split p (w ++ (c ∷ rest)) ≡ w ∷ slice_split p rest
+part p [] rest h c at = rw at refl
+part p (b ∷ w) rest h c at = let off = h.0 in rw off (ap (onto_first b) (part p w rest h.1 c at))
+
+pub only_part : (p : ℕ → Bool) (w : List ℕ) → AllByRecursion (λ b. p b ≡ false) w → slice_split p w ≡ w ∷ []
+only_part p [] h = refl
+only_part p (b ∷ w) h = let off = h.0 in rw off (ap (onto_first b) (only_part p w h.1))
+
+no_gap : (w : List ℕ) → IsPlain w → AllByRecursion (λ b. is_gap b ≡ false) w
+no_gap [] h = tt
+no_gap (b ∷ w) h = (h.0.0, no_gap w h.1)
+
+pub no_end : (w : List ℕ) → IsPlain w → AllByRecursion (λ b. is_lf b ≡ false) w
+no_end [] h = tt
+no_end (b ∷ w) h = (h.0.1, no_end w h.1)
+
+pub words_again : (w : List ℕ) (ws : List (List ℕ)) → IsPlain w → AllByRecursion IsWordText ws → words (join_with_byte 32 (w ∷ ws)) ≡ w ∷ ws
+words_again w [] h hs = only_part is_gap w (no_gap w h)
+words_again w (v ∷ vs) h hs = part is_gap w (join_with_byte 32 (v ∷ vs)) (no_gap w h) 32 refl ∙ ap (λ (x : List (List ℕ)). w ∷ x) (words_again v vs hs.0.plain hs.1)
+
+ends-append : (v w : List ℕ) → AllByRecursion (λ b. is_lf b ≡ false) v → AllByRecursion (λ b. is_lf b ≡ false) w → AllByRecursion (λ b. is_lf b ≡ false) (v ++ w)
+ends-append [] w h k = k
+ends-append (b ∷ v) w h k = (h.0, ends-append v w h.1 k)
+
+ends_joined : (w : List ℕ) (ws : List (List ℕ)) → IsPlain w → AllByRecursion IsWordText ws → AllByRecursion (λ b. is_lf b ≡ false) (join_with_byte 32 (w ∷ ws))
+ends_joined w [] h hs = no_end w h
+ends_joined w (v ∷ vs) h hs = ends-append w (32 ∷ join_with_byte 32 (v ∷ vs)) (no_end w h) (refl, ends_joined v vs hs.0.plain hs.1)
+
+pub none_empty : (ws : List (List ℕ)) → AllByRecursion IsWordText ws → list_any is_empty ws ≡ false
+none_empty [] h = refl
+none_empty (w ∷ ws) h = let e = h.0.some in rw e (none_empty ws h.1)
+
+-- ---- the words of a line
+
+abbrev pub kind_word : Kind → List ℕ
+kind_word Piece = codes "piece"
+kind_word Triangle = codes "t"
+kind_word Flat = codes "f"
+kind_word Parcel = codes "parcel"
+kind_word Pairs = codes "pairs"
+kind_word Pair = codes "s"
+kind_word End = codes "end"
+
+abbrev pub fields : Line → List (List ℕ)
+fields (PieceLine id t f) = id ∷ decimal t ∷ decimal f ∷ []
+fields (TriangleLine c) = corner_words c
+fields (FlatLine c) = corner_words c
+fields (ParcelLine id f) = id ∷ decimal f ∷ []
+fields (PairsLine n) = decimal n ∷ []
+fields (PairLine p) = decimal p.i ∷ decimal p.j ∷ decimal p.k ∷ []
+fields EndLine = []
+
+pub words_are : (l : Line) → words_of l ≡ kind_word (line_kind l) ∷ fields l
+unfolding words_of
+words_are (PieceLine id t f) = refl
+words_are (TriangleLine c) = refl
+words_are (FlatLine c) = refl
+words_are (ParcelLine id f) = refl
+words_are (PairsLine n) = refl
+words_are (PairLine p) = refl
+words_are EndLine = refl
+
+pub corner_fields : (c : Corners) → CornersFit c → AllByRecursion IsWordText (corner_words c)
+corner_fields c fits = (signed_word c.x1 fits.x1, (signed_word c.y1 fits.y1, (signed_word c.x2 fits.x2, (signed_word c.y2 fits.y2, (signed_word c.x3 fits.x3, (signed_word c.y3 fits.y3, tt))))))
+
+count_word : (n : ℕ) → n ≤ greatest_count → IsWordText (decimal n)
+count_word n le = decimal_word n (omega arith)
+
+pub field_words : (l : Line) → LineFits l → AllByRecursion IsWordText (fields l)
+field_words (PieceLine id t f) fits = (id_word id fits.0, (count_word t fits.1, (count_word f fits.2, tt)))
+field_words (TriangleLine c) fits = corner_fields c fits
+field_words (FlatLine c) fits = corner_fields c fits
+field_words (ParcelLine id f) fits = (id_word id fits.0, (count_word f fits.1, tt))
+field_words (PairsLine n) fits = (count_word n fits, tt)
+field_words (PairLine p) fits = (count_word p.i fits.i, (count_word p.j fits.j, (decimal_word p.k (omega (arith, fits.k)), tt)))
+field_words EndLine fits = tt
+
+plain_codes : (w : List ℕ) → list_all (λ b. not (is_gap b) && not (is_lf b)) w ≡ true → IsPlain w
+plain_codes [] h = tt
+plain_codes (b ∷ w) h =
+    let t = both (not (is_gap b) && not (is_lf b)) (list_all (λ b. not (is_gap b) && not (is_lf b)) w) h in
+    let u = both (not (is_gap b)) (not (is_lf b)) t.0 in
+    ((off (is_gap b) u.0, off (is_lf b) u.1), plain_codes w t.1)
+  where
+    off : (b : Bool) → not b ≡ true → b ≡ false
+    off true h = absurd cc
+    off false h = refl
+
+pub kind_plain : (k : Kind) → IsPlain (kind_word k)
+kind_plain Piece = plain_codes (codes "piece") refl
+kind_plain Triangle = plain_codes (codes "t") refl
+kind_plain Flat = plain_codes (codes "f") refl
+kind_plain Parcel = plain_codes (codes "parcel") refl
+kind_plain Pairs = plain_codes (codes "pairs") refl
+kind_plain Pair = plain_codes (codes "s") refl
+kind_plain End = plain_codes (codes "end") refl
+
+pub spelling_words : (l : Line) → LineFits l → words (spelling l) ≡ kind_word (line_kind l) ∷ fields l
+unfolding spelling
+spelling_words l fits = rw (words_are l) (words_again (kind_word (line_kind l)) (fields l) (kind_plain (line_kind l)) (field_words l fits))
+
+pub spelling_ends : (l : Line) → LineFits l → AllByRecursion (λ b. is_lf b ≡ false) (spelling l)
+unfolding spelling
+spelling_ends l fits = rw (words_are l) (ends_joined (kind_word (line_kind l)) (fields l) (kind_plain (line_kind l)) (field_words l fits))
+
+-- the lines of a text that begins with a line
+pub lines_from : (l : Line) (rest : List ℕ) → LineFits l → lines (spelling l ++ (10 ∷ rest)) ≡ spelling l ∷ lines rest
+lines_from l rest fits = part is_lf (spelling l) rest (spelling_ends l fits) 10 refl

@@ -1,0 +1,339 @@
+-- A good certificate shows a sound map.
+use Rattle.std.proofs.Common.{◌≡◌, ℕ, suc, ◌-◌, ◌<◌, nat_lt, ℤ, pos, ◌+ℤ◌, ◌≤ℤ◌, ◌<ℤ◌, Bool, true, false, cond, List, [], ◌∷◌, ◌++◌, length, get_or, Option, Some, None, inl, inr, ◌↔◌, All, filter, ap}
+use Rattle.std.proofs.Common.{ap₂, sym, refl, ◌∙◌, subst, arith}
+use Rattle.std.specs.Prelude.{MatchOption}
+use Rattle.std.proofs.lemmas.Int.{ints}
+use Rattle.std.specs.List.{slice_get, IsDistinct}
+use Rattle.std.specs.Option.{option_map}
+use Rattle.std.proofs.lemmas.List.Elements.{All-cons, All-filter, All-head, All-nil, All-tail, All-weaker}
+use Rattle.std.proofs.lemmas.Option.{none-some, slice_get-get_or, same_Some}
+use Rattle.std.proofs.lemmas.Slice.Eq.{bytes_eq-Decides}
+use Rattle.lpis_points.specs.declared.point.Point.{Point}
+use Rattle.lpis_points.specs.declared.triangle.Triangle.{Triangle}
+use Rattle.lpis_points.specs.Plane.{RationalPoint, same_point}
+use Rattle.lpis_points.specs.Chain.{SameNet}
+use Rattle.lpis_points.specs.Triangles.{triangle_edges, IsCounterClockwise, IsFlat, Separates, are_apart}
+use Rattle.lpis_rings.specs.Map.{edges_of_triangles, KeepApart, AllKeepApart, IsCut, CutPiece, all_triangles, all_edges, all_turns, all_areas, IsOneOrNone}
+use Rattle.lpis_rings.specs.Edges.{edges_of, edge_turns, turns}
+use Rattle.lpis_rings.specs.Area.{area2}
+use Rattle.lpis_rings.proofs.CoveringLemmas.{pieces_share_nothing, parcel_is_its_pieces}
+use Rattle.lpis_rings.proofs.ParityLemmas.{contains_by_one_turn}
+use Rattle.lpis_rings.proofs.AreaByTrianglesLemmas.{area_is_positive, area_is_of_its_pieces}
+use Rattle.lpis_rings.proofs.AreaByEdgesLemmas.{area2_is}
+use Rattle.lpis_covers.specs.declared.piece.Piece.{Piece}
+use Rattle.lpis_covers.specs.Ids.{same_id}
+use Rattle.lpis_parcels.specs.declared.parcel.Parcel.{Parcel}
+use Rattle.lpis_parcels.specs.Release.{Contents, names, parcel_ids, pieces_named}
+use Rattle.lpis_parcels.specs.Eligible.{areas2, eligible2, is_eligible}
+use Rattle.lpis_cert.specs.declared.cert.Cert.{Cert}
+use Rattle.lpis_cert.specs.declared.part.PiecePart.{PiecePart}
+use Rattle.lpis_cert.specs.declared.part.ParcelPart.{ParcelPart}
+use Rattle.lpis_checker.specs.SoundMap.{AtMostOne, ExactlyOne, IsInParcel, IsInPiece, IsSoundMap, TurnsTell, AreasAdd}
+use Rattle.lpis_checker.specs.declared.condition.Condition.TheVariants.{Names, Triangles, Turned, Flats, PieceEdges, ParcelEdges, NearPairs, Separating}
+use Rattle.lpis_checker.specs.declared.condition.Site.TheVariants.{PieceAt, ParcelAt, LineAt, PairAt}
+use Rattle.lpis_checker.specs.GoodCertificate.{triangles_of, edges_of_pieces, EdgeSeparates, LineSeparates, HoldsEverywhere, IsGood}
+use Rattle.lpis_checker.proofs.DistinctLemmas.{same_place}
+use Rattle.lpis_checker.proofs.SiteLemmas.{some_item}
+use Rattle.lpis_checker.proofs.AreaSumLemmas.{total, Found, found_any, any_found, all_at, all_from, one_of_some, at_most_one, one_found, total_one, total-filter, filter_kept}
+
+-- ---- pieces beside their parts
+abbrev SameIds : List Piece → List PiecePart → Type 0
+SameIds xs ts = (k : ℕ) → option_map (λ (t : PiecePart). t.id) (slice_get ts k) ≡ option_map (λ (x : Piece). x.id) (slice_get xs k)
+
+-- what the conditions on parts say of a piece
+pub record GoodPart (x : Piece) (t : PiecePart) : Type 0 where
+  pub some : 0 < length t.triangles
+  pub ccw : All IsCounterClockwise t.triangles
+  pub flat : All IsFlat t.flats
+  pub net : SameNet same_point (edges_of x.polygon) (edges_of_triangles t.triangles ++ edges_of_triangles t.flats)
+
+abbrev pub GoodParts : List Piece → List PiecePart → Type 0
+GoodParts xs ts = (k : ℕ) (x : Piece) (t : PiecePart) → slice_get xs k ≡ Some x → slice_get ts k ≡ Some t → GoodPart x t
+
+abbrev cut_piece : Piece → PiecePart → CutPiece
+cut_piece x t = record { edges = edges_of x.polygon; triangles = t.triangles; flats = t.flats }
+
+abbrev joined : List Piece → List PiecePart → List CutPiece
+joined [] ts = []
+joined (x ∷ xs) [] = []
+joined (x ∷ xs) (t ∷ ts) = cut_piece x t ∷ joined xs ts
+
+some_none : {A : Type 0} (x : A) → Some x ≡ None → ⊥
+some_none x e = cc
+
+abbrev turns_at : RationalPoint → Piece → ℤ
+turns_at s x = turns x.polygon s
+
+joined_turns : (xs : List Piece) (ts : List PiecePart) (s : RationalPoint) → SameIds xs ts → all_turns (joined xs ts) s ≡ total (turns_at s) xs
+joined_turns [] ts s h = refl
+joined_turns (x ∷ xs) [] s h = absurd (none-some x.id (h 0))
+joined_turns (x ∷ xs) (t ∷ ts) s h = ap (λ (z : ℤ). turns x.polygon s +ℤ z) (joined_turns xs ts s (λ k. h (suc k)))
+
+joined_triangles : (xs : List Piece) (ts : List PiecePart) → SameIds xs ts → all_triangles (joined xs ts) ≡ triangles_of ts
+joined_triangles [] [] h = refl
+joined_triangles [] (t ∷ ts) h = absurd (some_none t.id (h 0))
+joined_triangles (x ∷ xs) [] h = absurd (none-some x.id (h 0))
+joined_triangles (x ∷ xs) (t ∷ ts) h = ap (λ (us : List Triangle). t.triangles ++ us) (joined_triangles xs ts (λ k. h (suc k)))
+
+abbrev PartCut : CutPiece → Type 0
+PartCut p = IsCut p.edges p.triangles p.flats
+
+joined_cut : (xs : List Piece) (ts : List PiecePart) → GoodParts xs ts → All PartCut (joined xs ts)
+joined_cut [] ts g = All-nil PartCut
+joined_cut (x ∷ xs) [] g = All-nil PartCut
+joined_cut (x ∷ xs) (t ∷ ts) g =
+    let h = g 0 x t refl refl in
+    All-cons PartCut (cut_piece x t) (joined xs ts) (record { ccw = h.ccw; flat = h.flat; net = h.net }) (joined_cut xs ts (λ k y u e f. g (suc k) y u e f))
+
+abbrev OneAt : RationalPoint → Piece → Type 0
+OneAt s x = IsOneOrNone (turns x.polygon s)
+
+abbrev CutOnce : RationalPoint → CutPiece → Type 0
+CutOnce s p = IsOneOrNone (edge_turns p.edges s)
+
+joined_one : (xs : List Piece) (ts : List PiecePart) (s : RationalPoint) → SameIds xs ts → All (CutOnce s) (joined xs ts) → All (OneAt s) xs
+joined_one [] ts s h a = All-nil (OneAt s)
+joined_one (x ∷ xs) [] s h a = absurd (none-some x.id (h 0))
+joined_one (x ∷ xs) (t ∷ ts) s h a =
+    All-cons (OneAt s) x xs (All-head (CutOnce s) (cut_piece x t) (joined xs ts) a) (joined_one xs ts s (λ k. h (suc k)) (All-tail (CutOnce s) (cut_piece x t) (joined xs ts) a))
+
+-- ---- triangles keep apart
+keep_apart : (ts : List Triangle) → ((i j : ℕ) (t u : Triangle) → slice_get ts i ≡ Some t → slice_get ts j ≡ Some u → i < j → KeepApart t u) → AllKeepApart ts
+keep_apart [] h = tt
+keep_apart (t ∷ ts) h = (
+  λ k d l. h 0 (suc k) t (get_or ts k d) refl (slice_get-get_or ts k d l) (below k),
+  keep_apart ts (λ i j u v e f l. h (suc i) (suc j) u v e f (grown i j l)),
+)
+  where
+    below : (k : ℕ) → 0 < suc k
+    below k = omega arith
+
+    grown : (i j : ℕ) → i < j → suc i < suc j
+    grown i j l = omega arith
+
+edge_between : (k : ℕ) (t u : Triangle) → EdgeSeparates k t u → (line : Point × Point) × Separates line t u
+edge_between k t u h = by (slice_get (triangle_edges t) k) h
+  where
+    by : (o : Option (Point × Point)) → MatchOption o ⊥ (λ line. Separates line t u) → (line : Point × Point) × Separates line t u
+    by None s = absurd s
+    by (Some line) s = (line, s)
+
+line_keeps : (k : ℕ) (t u : Triangle) → LineSeparates k t u → KeepApart t u
+line_keeps k t u h = by (nat_lt k 3) h
+  where
+    by : (b : Bool) → cond b (EdgeSeparates k t u) (EdgeSeparates (k - 3) u t) → KeepApart t u
+    by true s = inr (inl (edge_between k t u s))
+    by false s = inr (inr (edge_between (k - 3) u t s))
+
+good_keeps : (r : Contents) (c : Cert) → IsGood r c → (i j : ℕ) (t u : Triangle) → slice_get (triangles_of c.pieces) i ≡ Some t → slice_get (triangles_of c.pieces) j ≡ Some u → i < j → KeepApart t u
+good_keeps r c g i j t u e f l = by (are_apart t u) refl
+  where
+    near : are_apart t u ≡ false → KeepApart t u
+    near n =
+        let m = g.holds NearPairs (PairAt i j) (record { rising = l; t = t; u = u; at_i = e; at_j = f; near = n }) in
+        line_keeps m.1.k t u (g.holds Separating (LineAt m.0) m.1 m.2 t u (ap (λ (a : ℕ). slice_get (triangles_of c.pieces) a) m.3 ∙ e) (ap (λ (a : ℕ). slice_get (triangles_of c.pieces) a) m.4 ∙ f))
+
+    by : (b : Bool) → are_apart t u ≡ b → KeepApart t u
+    by true n = inl n
+    by false n = near n
+
+-- ---- pieces
+pub good_parts : (r : Contents) (c : Cert) → HoldsEverywhere r c Triangles → HoldsEverywhere r c Turned → HoldsEverywhere r c Flats → HoldsEverywhere r c PieceEdges → GoodParts r.pieces c.pieces
+good_parts r c triangles turned flats net k x t e f = record {
+  some = triangles (PieceAt k) x t e f;
+  ccw = turned (PieceAt k) x t e f;
+  flat = flats (PieceAt k) x t e f;
+  net = net (PieceAt k) x t e f;
+}
+
+all_good_parts : (r : Contents) (c : Cert) → IsGood r c → GoodParts r.pieces c.pieces
+all_good_parts r c g = good_parts r c (g.holds Triangles) (g.holds Turned) (g.holds Flats) (g.holds PieceEdges)
+
+-- the pieces' turns are 0 or 1, and so is their sum
+record Once (r : Contents) (s : RationalPoint) : Type 0 where
+  each : All (OneAt s) r.pieces
+  sum : IsOneOrNone (total (turns_at s) r.pieces)
+
+once : (r : Contents) (c : Cert) → IsGood r c → (s : RationalPoint) → pos 0 <ℤ s.d → Once r s
+once r c g s d =
+    let ids : SameIds r.pieces c.pieces = λ k. g.holds Names (PieceAt k) in
+    let k : AllKeepApart (all_triangles (joined r.pieces c.pieces)) = subst AllKeepApart (sym (joined_triangles r.pieces c.pieces ids)) (keep_apart (triangles_of c.pieces) (good_keeps r c g)) in
+    let both = pieces_share_nothing (joined r.pieces c.pieces) (joined_cut r.pieces c.pieces (all_good_parts r c g)) k s d in
+    record {
+      each = joined_one r.pieces c.pieces s ids both.0;
+      sum = subst IsOneOrNone (joined_turns r.pieces c.pieces s ids) both.1;
+    }
+
+piece_in : (s : RationalPoint) (x : Piece) → OneAt s x → IsInPiece s x ↔ (turns_at s x ≡ pos 1)
+piece_in s x o = contains_by_one_turn x.polygon s o
+
+-- ---- parcels
+abbrev bare : List Piece → List CutPiece
+bare [] = []
+bare (x ∷ xs) = record { edges = edges_of x.polygon; triangles = []; flats = [] } ∷ bare xs
+
+bare_edges : (xs : List Piece) → all_edges (bare xs) ≡ edges_of_pieces xs
+bare_edges [] = refl
+bare_edges (x ∷ xs) = ap (λ (es : List (Point × Point)). edges_of x.polygon ++ es) (bare_edges xs)
+
+bare_turns : (xs : List Piece) (s : RationalPoint) → all_turns (bare xs) s ≡ total (turns_at s) xs
+bare_turns [] s = refl
+bare_turns (x ∷ xs) s = ap (λ (z : ℤ). turns x.polygon s +ℤ z) (bare_turns xs s)
+
+bare_areas : (xs : List Piece) → all_areas (bare xs) ≡ areas2 xs
+bare_areas [] = refl
+bare_areas (x ∷ xs) = ap₂ (λ (a b : ℤ). a +ℤ b) (area2_is x.polygon) (bare_areas xs)
+
+pub record GoodParcel (r : Contents) (x : Parcel) : Type 0 where
+  pub fs : List Triangle
+  pub flat : All IsFlat fs
+  pub net : SameNet same_point (edges_of x.polygon) (edges_of_pieces (pieces_named r x.id) ++ edges_of_triangles fs)
+
+pub good_parcel : (r : Contents) (c : Cert) → HoldsEverywhere r c Names → HoldsEverywhere r c Flats
+    → HoldsEverywhere r c ParcelEdges → (k : ℕ) (x : Parcel) → slice_get r.parcels k ≡ Some x → GoodParcel r x
+good_parcel r c ids flats net k x e =
+    let p = some_item (λ (t : ParcelPart). t.id) (slice_get c.parcels k) x.id (ids (ParcelAt k) ∙ ap (λ (o : Option Parcel). option_map (λ (y : Parcel). y.id) o) e) in
+    record { fs = p.0.flats; flat = flats (ParcelAt k) x p.0 e p.1; net = net (ParcelAt k) x p.0 e p.1 }
+
+bare_net : (r : Contents) (x : Parcel) (g : GoodParcel r x) → SameNet same_point (edges_of x.polygon) (all_edges (bare (pieces_named r x.id)) ++ edges_of_triangles g.fs)
+bare_net r x g = subst (λ (es : List (Point × Point)). SameNet same_point (edges_of x.polygon) (es ++ edges_of_triangles g.fs)) (sym (bare_edges (pieces_named r x.id))) g.net
+
+pub parcel_turns : (r : Contents) (x : Parcel) → GoodParcel r x → (s : RationalPoint) → pos 0 <ℤ s.d → turns x.polygon s ≡ total (turns_at s) (pieces_named r x.id)
+parcel_turns r x g s d =
+    parcel_is_its_pieces (edges_of x.polygon) g.fs (bare (pieces_named r x.id)) g.flat (bare_net r x g) s d ∙ bare_turns (pieces_named r x.id) s
+
+-- all that is needed of a parcel at a point
+record ParcelFacts (r : Contents) (s : RationalPoint) (x : Parcel) : Type 0 where
+  one : IsOneOrNone (turns x.polygon s)
+  each : All (OneAt s) (pieces_named r x.id)
+  sum : turns x.polygon s ≡ total (turns_at s) (pieces_named r x.id)
+
+parcel_at : (r : Contents) (c : Cert) → IsGood r c → (s : RationalPoint) → pos 0 <ℤ s.d → (k : ℕ) (x : Parcel) → slice_get r.parcels k ≡ Some x → ParcelFacts r s x
+parcel_at r c g s d k x e =
+    let o = once r c g s d in
+    let t = parcel_turns r x (good_parcel r c (g.holds Names) (g.holds Flats) (g.holds ParcelEdges) k x e) s d in
+    record {
+      one = subst IsOneOrNone (sym t) (one_of_some (turns_at s) (names x.id) r.pieces o.each o.sum);
+      each = All-filter (names x.id) (OneAt s) r.pieces o.each;
+      sum = t;
+    }
+
+parcel_in : (r : Contents) (s : RationalPoint) (x : Parcel) → ParcelFacts r s x → IsInParcel s x ↔ (turns x.polygon s ≡ pos 1)
+parcel_in r s x a = contains_by_one_turn x.polygon s a.one
+
+-- a piece of the parcel that contains the point, where the parcel does
+inside_found : (r : Contents) (s : RationalPoint) (x : Parcel) → ParcelFacts r s x → IsInParcel s x → Found (IsInPiece s) (pieces_named r x.id)
+inside_found r s x a h =
+    let f = one_found (turns_at s) (pieces_named r x.id) a.each (sym a.sum ∙ (parcel_in r s x a).0 h) in
+    record { place = f.place; item = f.item; at = f.at; has = (piece_in s f.item (all_at (OneAt s) (pieces_named r x.id) f.place f.item f.at a.each)).1 f.has }
+
+found_inside : (r : Contents) (s : RationalPoint) (x : Parcel) → ParcelFacts r s x → Found (IsInPiece s) (pieces_named r x.id) → IsInParcel s x
+found_inside r s x a f =
+    (parcel_in r s x a).1 (a.sum ∙ total_one (turns_at s) (pieces_named r x.id) a.each (subst IsOneOrNone a.sum a.one)
+    (record {
+      place = f.place;
+      item = f.item;
+      at = f.at;
+      has =
+          (piece_in s f.item (all_at (OneAt s) (pieces_named r x.id) f.place f.item f.at a.each)).0 f.has;
+    }))
+
+few_pieces : (s : RationalPoint) (xs : List Piece) → All (OneAt s) xs → IsOneOrNone (total (turns_at s) xs) → AtMostOne (IsInPiece s) xs
+few_pieces s xs h o i j a b e f p q =
+    at_most_one (turns_at s) xs h o i j a b e f ((piece_in s a (all_at (OneAt s) xs i a e h)).0 p) ((piece_in s b (all_at (OneAt s) xs j b f h)).0 q)
+
+few_parcels : (r : Contents) (c : Cert) → IsDistinct same_id (parcel_ids r.parcels) → IsGood r c → (s : RationalPoint) → pos 0 <ℤ s.d → AtMostOne (IsInParcel s) r.parcels
+few_parcels r c n g s d i j a b e f p q =
+    let o = once r c g s d in
+    let x = inside_found r s a (parcel_at r c g s d i a e) p in
+    let y = inside_found r s b (parcel_at r c g s d j b f) q in
+    let v = filter_kept (names a.id) r.pieces x.place x.item x.at in
+    let w = filter_kept (names b.id) r.pieces y.place y.item y.at in
+    let m : v.place ≡ w.place = few_pieces s r.pieces o.each o.sum v.place w.place x.item y.item v.at w.at x.has y.has in
+    let z : x.item ≡ y.item = same_Some x.item y.item (sym v.at ∙ ap (λ (k : ℕ). slice_get r.pieces k) m ∙ w.at) in
+    same_place r.parcels n i j a b e f ((bytes_eq-Decides a.id x.item.parcel).0 v.passes ∙ ap (λ (t : Piece). t.parcel) z ∙ sym ((bytes_eq-Decides b.id y.item.parcel).0 w.passes))
+
+-- exactly one of its pieces contains a point that the parcel contains
+parcel_iff : (r : Contents) (s : RationalPoint) (x : Parcel) → ParcelFacts r s x → IsInParcel s x ↔ ExactlyOne (IsInPiece s) (pieces_named r x.id)
+parcel_iff r s x a = (
+  λ h. (found_any (IsInPiece s) (pieces_named r x.id) (inside_found r s x a h), few_pieces s (pieces_named r x.id) a.each (subst IsOneOrNone a.sum a.one)),
+  λ h. found_inside r s x a (any_found (IsInPiece s) (pieces_named r x.id) h.0),
+)
+
+all_parcels : (r : Contents) (c : Cert) → IsGood r c → (s : RationalPoint) → pos 0 <ℤ s.d → All (λ (k : Parcel). IsInParcel s k ↔ ExactlyOne (IsInPiece s) (pieces_named r k.id)) r.parcels
+all_parcels r c g s d =
+    all_from (λ (x : Parcel). IsInParcel s x ↔ ExactlyOne (IsInPiece s) (pieces_named r x.id)) r.parcels (λ k x e. parcel_iff r s x (parcel_at r c g s d k x e))
+
+-- ---- areas
+abbrev HasArea : Piece → Type 0
+HasArea x = pos 0 <ℤ area2 x.polygon
+
+piece_area : (x : Piece) (t : PiecePart) → GoodPart x t → HasArea x
+piece_area x t g = subst (λ (z : ℤ). pos 0 <ℤ z) (area2_is x.polygon) (area_is_positive (edges_of x.polygon) t.triangles t.flats (record { ccw = g.ccw; flat = g.flat; net = g.net }) g.some)
+
+parcel_area : (r : Contents) (x : Parcel) → GoodParcel r x → area2 x.polygon ≡ areas2 (pieces_named r x.id)
+parcel_area r x g =
+    sym (area2_is x.polygon) ∙ area_is_of_its_pieces (edges_of x.polygon) g.fs (bare (pieces_named r x.id)) g.flat (bare_net r x g) ∙ bare_areas (pieces_named r x.id)
+
+-- the areas of some of the pieces
+areas_total : (xs : List Piece) → total (λ (x : Piece). area2 x.polygon) xs ≡ areas2 xs
+areas_total [] = refl
+areas_total (x ∷ xs) = ap (λ (z : ℤ). area2 x.polygon +ℤ z) (areas_total xs)
+
+some_areas : (q : Piece → Bool) (xs : List Piece) → All HasArea xs → (pos 0 ≤ℤ areas2 (filter q xs)) × (areas2 (filter q xs) ≤ℤ areas2 xs)
+some_areas q xs h =
+    let area : Piece → ℤ = λ x. area2 x.polygon in
+    let k = total-filter area q xs (All-weaker HasArea (λ x. pos 0 ≤ℤ area x) (λ x p. by (area x) p) xs h) in (
+      subst (λ (z : ℤ). pos 0 ≤ℤ z) (areas_total (filter q xs)) k.0,
+      subst (λ (z : ℤ). areas2 (filter q xs) ≤ℤ z)
+          (areas_total xs) (subst (λ (z : ℤ). z ≤ℤ total area xs) (areas_total (filter q xs)) k.1),
+    )
+  where
+    by : (a : ℤ) → pos 0 <ℤ a → pos 0 ≤ℤ a
+    by a p = omega (arith, ints)
+
+pub areas_add : (r : Contents) (c : Cert) → HoldsEverywhere r c Names → HoldsEverywhere r c Triangles
+    → HoldsEverywhere r c Turned → HoldsEverywhere r c Flats → HoldsEverywhere r c PieceEdges
+    → HoldsEverywhere r c ParcelEdges → AreasAdd r
+areas_add r c ids triangles turned flats piece_net parcel_net = record {
+  pieces = each;
+  parcels = all_from (λ (x : Parcel). area2 x.polygon ≡ areas2 (pieces_named r x.id)) r.parcels parcel;
+  eligible = all_from (λ (x : Parcel). (pos 0 ≤ℤ eligible2 r x.id) × (eligible2 r x.id ≤ℤ area2 x.polygon)) r.parcels (λ k x e.
+      let few = some_areas (is_eligible r.classes) (pieces_named r x.id) (All-filter (names x.id) HasArea r.pieces each) in
+      (few.0, subst (λ (z : ℤ). eligible2 r x.id ≤ℤ z) (sym (parcel k x e)) few.1));
+}
+  where
+    each : All HasArea r.pieces
+    each = all_from HasArea r.pieces (λ k x e.
+        let p = some_item (λ (t : PiecePart). t.id) (slice_get c.pieces k) x.id (ids (PieceAt k) ∙ ap (λ (o : Option Piece). option_map (λ (y : Piece). y.id) o) e) in
+        piece_area x p.0 (good_parts r c triangles turned flats piece_net k x p.0 e p.1))
+
+    parcel : (k : ℕ) (x : Parcel) → slice_get r.parcels k ≡ Some x → area2 x.polygon ≡ areas2 (pieces_named r x.id)
+    parcel k x e = parcel_area r x (good_parcel r c ids flats parcel_net k x e)
+
+-- ---- the theorem
+pub good_means_sound : (r : Contents) (c : Cert) → IsDistinct same_id (parcel_ids r.parcels) → IsGood r c → IsSoundMap r
+good_means_sound r c n g = record {
+  off = record {
+    one_parcel = λ s d off. few_parcels r c n g s d;
+    filled = λ s d off. all_parcels r c g s d;
+  };
+  everywhere = record {
+    one_piece = λ s d. let o = once r c g s d in few_pieces s r.pieces o.each o.sum;
+    one_parcel = λ s d. few_parcels r c n g s d;
+    filled = λ s d. all_parcels r c g s d;
+  };
+  turns = record {
+    pieces = λ s d. let o = once r c g s d in all_from (λ (x : Piece). TurnsTell (IsInPiece s x) (turns x.polygon s))
+        r.pieces (λ k x e. let one = all_at (OneAt s) r.pieces k x e o.each in (one, piece_in s x one));
+    parcels = λ s d. all_from (λ (x : Parcel). TurnsTell (IsInParcel s x) (turns x.polygon s)) r.parcels (λ k x e. let a = parcel_at r c g s d k x e in (a.one, parcel_in r s x a));
+  };
+  areas = areas_add r c (g.holds Names) (g.holds Triangles) (g.holds Turned) (g.holds Flats) (g.holds PieceEdges) (g.holds ParcelEdges);
+}
+
+-- a piece of the parcel at a point that the parcel contains
+pub no_gap : (r : Contents) (c : Cert) → IsGood r c → (s : RationalPoint) → pos 0 <ℤ s.d → (k : ℕ) (x : Parcel)
+    → slice_get r.parcels k ≡ Some x → IsInParcel s x → All (λ (y : Piece). IsInPiece s y → ⊥) (pieces_named r x.id) → ⊥
+no_gap r c g s d k x e h none =
+    let f = inside_found r s x (parcel_at r c g s d k x e) h in
+    all_at (λ (y : Piece). IsInPiece s y → ⊥) (pieces_named r x.id) f.place f.item f.at none f.has

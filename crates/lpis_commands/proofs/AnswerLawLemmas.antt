@@ -1,0 +1,172 @@
+-- The inputs of a check have one answer.
+use Rattle.std.proofs.Common.{◌≡◌, ◌∙◌, ◌<◌, ◌-◌, ◌⊎◌, zero, suc, inl, inr, ap, ap₂, sym, refl, subst, arith, ℕ, List, Result, Ok, Err}
+use Rattle.lpis_covers.specs.declared.fault.TableFault.{TableFault}
+use Rattle.lpis_parcels.specs.Release.{Contents, release_of}
+use Rattle.lpis_cert.specs.declared.cert.Cert.{Cert}
+use Rattle.lpis_cert.specs.declared.fault.CertCode.{CertCode}
+use Rattle.lpis_cert.specs.Faults.{verdict}
+use Rattle.lpis_cert.proofs.LawLemmas.{one_cert}
+use Rattle.lpis_checker.specs.declared.condition.Condition.{Condition}
+use Rattle.lpis_checker.specs.declared.condition.Condition.TheVariants.{Names, Triangles, Turned, Flats, Corners, PieceEdges, ParcelEdges, NearPairs, NotApart, Separating}
+use Rattle.lpis_checker.specs.declared.condition.Site.{Site}
+use Rattle.lpis_checker.specs.declared.condition.Site.TheVariants.{PieceAt, ParcelAt, LineAt, PairAt}
+use Rattle.lpis_checker.specs.declared.fault.CheckFault.TheVariants as check
+use Rattle.lpis_checker.specs.Codes.{code_of}
+use Rattle.lpis_checker.specs.FirstFault.{IsEarlier, IsFault, IsFirst, place_of}
+use Rattle.lpis_checker.specs.GoodCertificate.{IsGood}
+use Rattle.lpis_commands.specs.CheckAnswer.{Answer, Inputs, IsAnswer, IsCertAnswer, IsCheckAnswer, IsReleaseAnswer, IsTableAnswer}
+use Rattle.lpis_commands.specs.Refusals.{check_refusal_text}
+use Rattle.lpis_commands.specs.Report.{report_text}
+use Rattle.lpis_commands.specs.Status.{done, refused}
+
+-- of two numbers one is below the other, or they are equal
+three : (i j : ℕ) → (i < j) ⊎ ((j < i) ⊎ (i ≡ j))
+three i j = search arith
+
+-- a code names its condition
+from_60 : ℕ → Condition
+from_60 zero = Names
+from_60 (suc zero) = Triangles
+from_60 (suc (suc zero)) = Turned
+from_60 (suc (suc (suc zero))) = Flats
+from_60 (suc (suc (suc (suc zero)))) = Corners
+from_60 (suc (suc (suc (suc (suc zero))))) = PieceEdges
+from_60 (suc (suc (suc (suc (suc (suc zero)))))) = ParcelEdges
+from_60 (suc (suc (suc (suc (suc (suc (suc zero))))))) = NearPairs
+from_60 (suc (suc (suc (suc (suc (suc (suc (suc zero)))))))) = NotApart
+from_60 _ = Separating
+
+condition_at : ℕ → Condition
+condition_at n = from_60 (n - 60)
+
+named_by : (q : Condition) → condition_at (code_of q) ≡ q
+unfolding condition_at from_60
+named_by Names = refl
+named_by Triangles = refl
+named_by Turned = refl
+named_by Flats = refl
+named_by Corners = refl
+named_by PieceEdges = refl
+named_by ParcelEdges = refl
+named_by NearPairs = refl
+named_by NotApart = refl
+named_by Separating = refl
+
+code-injective : (q s : Condition) → code_of q ≡ code_of s → q ≡ s
+code-injective q s e = sym (named_by q) ∙ ap condition_at e ∙ named_by s
+
+-- of two sites one is earlier, or they are equal
+Ordered : Site → Site → Type 0
+Ordered a b = IsEarlier a b ⊎ (IsEarlier b a ⊎ (a ≡ b))
+
+by_number : (f : ℕ → Site) (k m : ℕ) → (k < m → IsEarlier (f k) (f m)) → (m < k → IsEarlier (f m) (f k)) → Ordered (f k) (f m)
+unfolding Ordered
+by_number f k m below above = elim (three k m) [
+  | inl l ↦ inl (below l)
+  | inr o ↦ elim o [
+    | inl l ↦ inr (inl (above l))
+    | inr e ↦ inr (inr (ap f e))
+  ]
+]
+
+pair-ordered : (i j m n : ℕ) → Ordered (PairAt i j) (PairAt m n)
+unfolding Ordered
+pair-ordered i j m n = elim (three i m) [
+  | inl l ↦ inl (inl l)
+  | inr o ↦ elim o [
+    | inl l ↦ inr (inl (inl l))
+    | inr e ↦ elim (three j n) [
+      | inl l ↦ inl (inr (e, l))
+      | inr p ↦ elim p [
+        | inl l ↦ inr (inl (inr (sym e, l)))
+        | inr f ↦ inr (inr (ap₂ PairAt e f))
+      ]
+    ]
+  ]
+]
+
+ordered : (a b : Site) → Ordered a b
+unfolding Ordered
+ordered (PieceAt k) (PieceAt m) = by_number PieceAt k m (λ l. l) (λ l. l)
+ordered (PieceAt k) (ParcelAt m) = inl tt
+ordered (PieceAt k) (LineAt m) = inl tt
+ordered (PieceAt k) (PairAt m n) = inl tt
+ordered (ParcelAt k) (PieceAt m) = inr (inl tt)
+ordered (ParcelAt k) (ParcelAt m) = by_number ParcelAt k m (λ l. l) (λ l. l)
+ordered (ParcelAt k) (LineAt m) = inl tt
+ordered (ParcelAt k) (PairAt m n) = inl tt
+ordered (LineAt k) (PieceAt m) = inr (inl tt)
+ordered (LineAt k) (ParcelAt m) = inr (inl tt)
+ordered (LineAt k) (LineAt m) = by_number LineAt k m (λ l. l) (λ l. l)
+ordered (LineAt k) (PairAt m n) = inl tt
+ordered (PairAt i j) (PieceAt m) = inr (inl tt)
+ordered (PairAt i j) (ParcelAt m) = inr (inl tt)
+ordered (PairAt i j) (LineAt m) = inr (inl tt)
+ordered (PairAt i j) (PairAt m n) = pair-ordered i j m n
+
+-- a condition fails first at one site
+one_site : (r : Contents) (c : Cert) (q : Condition) (a b : Site) → IsFirst r c q a → IsFirst r c q b → a ≡ b
+unfolding Ordered
+one_site r c q a b f g = elim (ordered a b) [
+  | inl e ↦ absurd (f.fails (g.earlier a e))
+  | inr o ↦ elim o [
+    | inl e ↦ absurd (g.fails (f.earlier b e))
+    | inr e ↦ e
+  ]
+]
+
+-- a certificate has one fault
+one_condition : (r : Contents) (c : Cert) (q s : Condition) (a b : Site) → IsFault r c q a → IsFault r c s b → q ≡ s
+one_condition r c q s a b f g = elim (three (code_of q) (code_of s)) [
+  | inl l ↦ absurd (f.first.fails (g.lower q l a))
+  | inr o ↦ elim o [
+    | inl l ↦ absurd (g.first.fails (f.lower s l b))
+    | inr e ↦ code-injective q s e
+  ]
+]
+
+fault_line : Contents → Cert → Condition → Site → Answer
+fault_line r c q a = (check_refusal_text (check.At q (place_of r c a)), refused)
+
+one_fault : (r : Contents) (c : Cert) (q s : Condition) (a b : Site) → IsFault r c q a → IsFault r c s b → fault_line r c q a ≡ fault_line r c s b
+one_fault r c q s a b f g =
+    let same = one_condition r c q s a b f g in
+    let at = one_site r c q a b f.first (subst (λ (t : Condition). IsFirst r c t b) (sym same) g.first) in
+    ap₂ (fault_line r c) same at
+
+-- a certificate that is good has no fault
+good_or_not : (r : Contents) (c : Cert) (q : Condition) (a : Site) → IsGood r c → IsFault r c q a → ⊥
+good_or_not r c q a good f = f.first.fails (good.holds q a)
+
+check_answer : (r : Contents) (c : Cert) (good a b : Answer) → IsCheckAnswer r c good a → IsCheckAnswer r c good b → a ≡ b
+unfolding fault_line
+check_answer r c good a b (inl x) (inl y) = x.1 ∙ sym y.1
+check_answer r c good a b (inl x) (inr y) = absurd (good_or_not r c y.0 y.1 x.0 y.2)
+check_answer r c good a b (inr x) (inl y) = absurd (good_or_not r c x.0 x.1 y.0 x.2)
+check_answer r c good a b (inr x) (inr y) = x.3 ∙ one_fault r c x.0 y.0 x.1 y.1 x.2 y.2 ∙ sym y.3
+
+-- what leaves no choice
+Decides : (Answer → Type 0) → Type 0
+Decides IsNext = (a b : Answer) → IsNext a → IsNext b → a ≡ b
+
+cert_answer : (IsNext : Cert → Answer → Type 0) (text : List ℕ) (said : Result ℕ (CertCode × ℕ)) → ((c : Cert) → Decides (IsNext c))
+    → Decides (IsCertAnswer IsNext text said)
+unfolding Decides
+cert_answer IsNext text (Err fault) one a b x y = x ∙ sym y
+cert_answer IsNext text (Ok lines) one a b x y =
+    let same = one_cert x.0 y.0 (sym x.1 ∙ y.1) in
+    one y.0 a b (subst (λ (c : Cert). IsNext c a) same x.2) y.2
+
+table_answer : {A : Type 0} (IsNext : A → Answer → Type 0) (said : Result A TableFault) → ((x : A) → Decides (IsNext x)) → Decides (IsTableAnswer IsNext said)
+unfolding Decides
+table_answer IsNext (Err fault) one a b x y = x ∙ sym y
+table_answer IsNext (Ok v) one a b x y = one v a b x y
+
+release_answer : (text : List ℕ) (r : Contents) → Decides (IsReleaseAnswer text r)
+unfolding Decides
+release_answer text r = cert_answer (λ c. IsCheckAnswer r c (report_text r, done)) text (verdict text) (λ c. check_answer r c (report_text r, done))
+
+-- the inputs of a check have one answer
+pub one_answer : (x : Inputs) (a b : Answer) → IsAnswer x a → IsAnswer x b → a ≡ b
+unfolding Decides
+one_answer x a b f g = table_answer (IsReleaseAnswer x.cert) (release_of x.parcels x.covers x.classes) (release_answer x.cert) a b f g

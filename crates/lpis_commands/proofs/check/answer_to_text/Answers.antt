@@ -1,0 +1,16 @@
+use Rattle.std.proofs.lemmas.Result.{IfOk-weaker}
+use Rattle.lpis_commands.specs.CheckAnswer.{IsCheckAnswer}
+use Rattle.lpis_commands.specs.Report.{report_text}
+use Rattle.lpis_commands.specs.Status.{done}
+use Rattle.lpis_commands.proofs.CheckLemmas.{answer-of-text}
+use Rattle.lpis_commands.proofs.check.answer_to_text.Goals as goal
+
+pub returns-in-Ok-clause-answer : goal.returns-in-Ok-clause-answer
+returns-in-Ok-clause-answer c =
+    IfOk-weaker c.answer_to_cert.result _ _
+    (λ a. answer-of-text (λ k. IsCheckAnswer c.args.release.now k (report_text c.args.release.now, done))
+    c.args.text.now c.in-Ok.cert (a.text.items, a.status) c.in-Ok.ensures.found) c.answer_to_cert.ensures.answer
+
+pub returns-in-Ok-clause-proved : goal.returns-in-Ok-clause-proved
+returns-in-Ok-clause-proved c =
+    IfOk-weaker c.answer_to_cert.result _ _ (λ a proved is_done. ((proved is_done).0, (c.in-Ok.cert, c.in-Ok.ensures.found, (proved is_done).1))) c.answer_to_cert.ensures.proved

@@ -1,0 +1,19 @@
+use Rattle.std.proofs.lemmas.Result.{IfOk-weaker}
+use Rattle.lpis_commands.specs.private.PublishRuns.{publication_of}
+use Rattle.lpis_commands.proofs.PublishLemmas.{both-ok, published-of}
+use Rattle.lpis_commands.proofs.publish.answer_to.Goals as goal
+
+pub returns-in-Ok-clause-moves : goal.returns-in-Ok-clause-moves
+returns-in-Ok-clause-moves g c =
+    let x = publication_of c.args.year c.args.inputs.now in
+    let old = c.args.register.now.history in
+    let new = c.answer_to_text.new.register.history in
+    let tables = rw (c.as_slice-parcels.ensures.value, c.as_slice-covers.ensures.value, c.as_slice-classes.ensures.value) at c.in-Ok.ensures in
+    IfOk-weaker c.answer_to_text.result _ _
+    (λ a known. (
+      (λ is_done.
+          let was = known.0 is_done in
+          published-of x c.in-Ok.release was.1.0 was.2.0 old new tables was.0 was.1.1 was.1.2 was.2.1 was.2.2),
+      known.1,
+    ))
+    (both-ok c.answer_to_text.result _ _ c.answer_to_text.ensures.added c.answer_to_text.ensures.same)

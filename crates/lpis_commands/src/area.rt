@@ -1,0 +1,73 @@
+//! The run of `area`, over any reader and writer.
+
+ghost use Rattle.std.specs.Prelude.{◌≡◌, ℕ, List, IfErr, IfOk};
+ghost use Rattle.lpis_commands.specs.AreaAnswer.{AnswersArea, Halts, answer_from, answer_of};
+ghost use Rattle.lpis_commands.specs.private.Runs.{AnswersLines, polygons_left};
+ghost use Rattle.lpis_commands.specs.Streams.{IsRead};
+ghost use Rattle.lpis_covers.specs.declared.fault.Table.TheVariants as tables;
+
+use crate::answer::Answer;
+use crate::failure::{Failure, Name};
+use crate::printing::print_line;
+use crate::reading::read_named;
+use crate::status::DONE;
+use lpis_covers::{Table, TableFault, TableReader};
+use lpis_rings::area2;
+use std::alloc::{AllocError, Global};
+use std::io::{Read, Write};
+
+/// The area of each row that is left, on a line of its own.
+fn lines_under(alloc: Global, reader: &mut TableReader<'_>) -> Result<Vec<u8>, TableFault>
+    requires { reader.old.table ≡ tables.Area }
+    ensures { AnswersLines (λ v. v.items) result (answer_from (polygons_left reader.old)) }
+{
+    let mut lines = Vec::new(alloc);
+    while reader.next_row()? {
+        let polygon = reader.polygon(alloc, 0)?;
+        if print_line(area2(&polygon), &mut lines).is_err() {
+            return Err(TableFault::Memory);
+        }
+    }
+    Ok(lines)
+}
+
+/// The area of each row of a table, on a line of its own.
+fn area_lines(alloc: Global, bytes: &[u8]) -> Result<Vec<u8>, TableFault>
+    ensures { AnswersLines (λ v. v.items) result (answer_of bytes.now) }
+{
+    let columns = [b"wkt".as_slice()];
+    let mut reader = TableReader::open(alloc, bytes, Table::Area, columns.as_slice())?;
+    lines_under(alloc, &mut reader)
+}
+
+/// The answer to a table: the area of each row, or the line of its first fault.
+fn answer_to(alloc: Global, bytes: &[u8]) -> Result<Answer, AllocError>
+    ensures { IfOk result (λ a. (a.text.items, a.status) ≡ answer_of bytes.now) }
+{
+    match area_lines(alloc, bytes) {
+        Ok(text) => Ok(Answer { text, status: DONE }),
+        Err(TableFault::Memory) => Err(AllocError),
+        Err(fault) => Answer::refuse_table(alloc, &fault),
+    }
+}
+
+/// Prints the area of each row of a table with a column `wkt`, a line each, or the line of the
+/// table's first fault.
+///
+/// The table is read to its end before anything is written. Ok is the status: `DONE` or
+/// `UNREADABLE`.
+pub fn run_area<R: Read + Drop, W: Write>(
+    alloc: Global,
+    table: R,
+    out: &mut W,
+) -> Result<u8, Failure>
+    ensures answer { IfOk result (λ status. (bytes : List ℕ) × IsRead bytes (R.remaining table)
+        × AnswersArea bytes status (W.contents out.old) (W.contents out.new)) }
+    // A beginning of the answer was written, or nothing.
+    ensures failure { IfErr result (λ failure. Halts failure (R.remaining table) (W.contents out.old)
+        (W.contents out.new)) }
+{
+    let bytes = read_named(alloc, table, Name::Area)?;
+    let answer = answer_to(alloc, bytes.as_slice())?;
+    answer.write_to(out)
+}

@@ -1,0 +1,373 @@
+//! The run of `publish`, over any register, readers and writer.
+
+ghost use Rattle.std.specs.Prelude.{◌≡◌, ◌≢◌, ◌≤◌, ◌<◌, ◌⊎◌, ◌++◌, IfErr, IfOk, OnOk, ℕ};
+ghost use Rattle.std.specs.Io.KnownBytes.{Appends};
+ghost use Rattle.std.specs.List.{flat_map};
+ghost use Rattle.sqlite.specs.Held.{state};
+ghost use Rattle.lpis_cert.specs.Contents.{cert_text};
+ghost use Rattle.lpis_cert.specs.declared.cert.Cert.{Cert};
+ghost use Rattle.lpis_checker.specs.GoodCertificate.{IsGood};
+ghost use Rattle.lpis_checker.specs.SoundMap.{IsSoundMap};
+ghost use Rattle.lpis_covers.specs.Faults.{rows_of};
+ghost use Rattle.lpis_lineage.specs.Changes.{dropped, kind_at};
+ghost use Rattle.lpis_lineage.specs.Lineage.{last_live};
+ghost use Rattle.lpis_lineage.specs.LineageTable.{lineage_table};
+ghost use Rattle.lpis_lineage.specs.Order.{IsAscending};
+ghost use Rattle.lpis_parcels.specs.Release.{parcel_ids};
+ghost use Rattle.lpis_commands.specs.CheckAnswer.{IsCheckAnswer, IsTableAnswer};
+ghost use Rattle.lpis_commands.specs.Failures.{IsUnpublished};
+ghost use Rattle.lpis_commands.specs.LineageLines.{lineage_line, publish_refusal_text};
+ghost use Rattle.lpis_commands.specs.LineageLines.{published_line};
+ghost use Rattle.lpis_commands.specs.PublishAnswer.{AreAllRead, Ends, Halts, IsPublishAnswer};
+ghost use Rattle.lpis_commands.specs.PublishAnswer.{IsReleaseAnswer, Moves, Publication};
+ghost use Rattle.lpis_commands.specs.PublishAnswer.{history_answer};
+ghost use Rattle.lpis_commands.specs.Report.{report_text};
+ghost use Rattle.lpis_commands.specs.Status.{done, refused};
+ghost use Rattle.lpis_commands.specs.Stored.{Stays, StaysOpen};
+ghost use Rattle.lpis_commands.specs.private.PublishRuns.{IsAdded, IsAddedWith, IsStopped};
+ghost use Rattle.lpis_commands.specs.private.PublishRuns.{publication_of};
+
+use crate::answer::Answer;
+use crate::check::{InputBytes, read_inputs, refuse_cert, refuse_text};
+use crate::failure::{Failure, Name};
+use crate::lineage_lines::{print_lineage, print_publish_fault, print_published};
+use crate::printing::PrintFault;
+use crate::reading::read_named;
+use crate::report::write_report;
+use crate::status::{DONE, REFUSED};
+use lpis_cert::{Cert, CertFault, read_cert};
+use lpis_checker::{CheckFault, Yes, check};
+use lpis_covers::TableFault;
+use lpis_lineage::{Change, Row, read_rows};
+use lpis_pairs::Sweep;
+use lpis_parcels::{Release, read_release};
+use lpis_register::{PublishFault, Register};
+use sqlite::Alter;
+use std::alloc::{AllocError, Global};
+use std::io::{Read, Write};
+
+/// The bytes of a release, a certificate and a lineage table.
+#[derive(Drop)]
+struct PublicationBytes {
+    checked: InputBytes,
+    lineage: Vec<u8>,
+}
+
+/// The line of a refusal of the register.
+pub(crate) fn refuse(alloc: Global, fault: &PublishFault) -> Result<Answer, AllocError>
+    ensures { IfOk result (λ a. (a.text.items ≡ publish_refusal_text fault.now) ×
+        (a.status ≡ refused)) }
+{
+    let mut text = Vec::new(alloc);
+    match print_publish_fault(fault, &mut text) {
+        Ok(()) => Ok(Answer {
+            text,
+            status: REFUSED,
+        }),
+        Err(_) => Err(AllocError),
+    }
+}
+
+/// Writes the report of a release, the line of each identifier that it drops, and its year.
+fn print_publication<W: Write>(
+    yes: &Yes<'_>,
+    year: u16,
+    change: &Change,
+    out: &mut W,
+) -> Result<(), PrintFault>
+    ensures { OnOk result (Appends (W.contents out.old) (W.contents out.new) (report_text yes.now
+        ++ flat_map (lineage_line (kind_at change.now)) change.now.dropped_ids ++ published_line
+        year)) }
+{
+    write_report(yes, out)?;
+    print_lineage(change, out)?;
+    print_published(year, out)
+}
+
+/// What is printed of a release that is published.
+fn tell_change(
+    alloc: Global,
+    yes: &Yes<'_>,
+    year: u16,
+    change: &Change,
+) -> Result<Answer, AllocError>
+    ensures lines { IfOk result (λ a. (a.text.items ≡ report_text yes.now ++ flat_map
+        (lineage_line (kind_at change.now)) change.now.dropped_ids ++ published_line year) ×
+        (a.status ≡ done)) }
+    ensures ascend { IsAscending change.now.dropped_ids }
+{
+    // Its dropped identifiers ascend.
+    let _ = change.dropped();
+    let mut text = Vec::new(alloc);
+    match print_publication(yes, year, change, &mut text) {
+        Ok(()) => Ok(Answer { text, status: DONE }),
+        Err(_) => Err(AllocError),
+    }
+}
+
+/// The answer of a register to a checked release. Nothing is written.
+fn answer_to_checked<S: Alter>(
+    alloc: Global,
+    register: &Register<S>,
+    year: u16,
+    yes: &Yes<'_>,
+    rows: &[Row],
+) -> Result<Answer, AllocError>
+    ensures answer { IfOk result (λ a. (a.text.items, a.status) ≡ history_answer
+        register.now.history year yes.now rows.now) }
+    ensures ascend { IfOk result (λ a. a.status ≡ done → IsAscending
+        (dropped (last_live register.now.history) (parcel_ids yes.now.parcels))) }
+{
+    match register.preview(year, yes, rows) {
+        Ok(change) => tell_change(alloc, yes, year, &change),
+        Err(PublishFault::Year { last }) => refuse(alloc, &PublishFault::Year { last }),
+        Err(PublishFault::Lineage(fault)) => refuse(alloc, &PublishFault::Lineage(fault)),
+        // Nothing else is refused.
+        Err(_) => Err(AllocError),
+    }
+}
+
+/// Publishes a checked release where the history lets it follow. What is printed is in memory
+/// before.
+fn publish_checked<S: Alter>(
+    alloc: Global,
+    register: &mut Register<S>,
+    year: u16,
+    yes: &Yes<'_>,
+    rows: &[Row],
+) -> Result<Answer, Failure>
+    ensures answer { IfOk result (λ a. (a.text.items, a.status) ≡ history_answer
+        register.old.history year yes.now rows.now) }
+    ensures added { IfOk result (λ a. a.status ≡ done → IsAdded year yes.now rows.now
+        register.old.history register.new.history) }
+    ensures same { IfOk result
+        (λ a. a.status ≢ done → register.new.history ≡ register.old.history) }
+    ensures failure { IfErr result (λ failure. IsStopped failure ×
+        (register.new.history ≡ register.old.history)) }
+    ensures holds { StaysOpen (state S.Store register.old.conn) register.old.history
+        (state S.Store register.new.conn) register.new.history }
+    ensures ok { OnOk result (Stays (state S.Store register.old.conn) register.old.history
+        (state S.Store register.new.conn) register.new.history) }
+{
+    let answer = answer_to_checked(alloc, register, year, yes, rows)?;
+    if answer.status != DONE {
+        return Ok(answer);
+    }
+    match register.publish(year, yes, rows) {
+        Ok(_) => Ok(answer),
+        Err(PublishFault::Memory) => Err(Failure::Memory),
+        Err(PublishFault::Store) => Err(Failure::Store),
+        // What the register refuses has been refused above.
+        Err(PublishFault::Year { .. } | PublishFault::Lineage(_)) => unreachable!(),
+        Err(PublishFault::Unknown | PublishFault::Unlawful) => unreachable!(),
+    }
+}
+
+/// The answer to a release, a certificate and rows of lineage.
+fn answer_to_rows<S: Alter>(
+    alloc: Global,
+    register: &mut Register<S>,
+    year: u16,
+    release: &Release,
+    cert: &Cert,
+    rows: &[Row],
+) -> Result<Answer, Failure>
+    ensures answer { IfOk result (λ a. IsCheckAnswer release.now cert.now
+        (history_answer register.old.history year release.now rows.now) (a.text.items, a.status)) }
+    ensures added { IfOk result (λ a. a.status ≡ done → IsSoundMap release.now × IsGood
+        release.now cert.now × IsAdded year release.now rows.now register.old.history
+        register.new.history) }
+    ensures same { IfOk result
+        (λ a. a.status ≢ done → register.new.history ≡ register.old.history) }
+    ensures failure { IfErr result (λ failure. IsStopped failure ×
+        (register.new.history ≡ register.old.history)) }
+    ensures holds { StaysOpen (state S.Store register.old.conn) register.old.history
+        (state S.Store register.new.conn) register.new.history }
+    ensures ok { OnOk result (Stays (state S.Store register.old.conn) register.old.history
+        (state S.Store register.new.conn) register.new.history) }
+{
+    match check(alloc, release, cert, &Sweep) {
+        Ok(yes) => {
+            // What is checked is a sound map.
+            let _ = yes.release();
+            publish_checked(alloc, register, year, &yes, rows)
+        }
+        Err(CheckFault::Memory) => Err(Failure::Memory),
+        Err(fault) => {
+            let answer = refuse_cert(alloc, &fault)?;
+            Ok(answer)
+        }
+    }
+}
+
+/// The answer to a release, a certificate and a lineage table.
+fn answer_to_lineage<S: Alter>(
+    alloc: Global,
+    register: &mut Register<S>,
+    year: u16,
+    release: &Release,
+    cert: &Cert,
+    lineage: &[u8],
+) -> Result<Answer, Failure>
+    ensures answer { IfOk result (λ a. IsTableAnswer (λ rows. IsCheckAnswer release.now cert.now
+        (history_answer register.old.history year release.now rows))
+        (rows_of lineage_table lineage.now) (a.text.items, a.status)) }
+    ensures added { IfOk result (λ a. a.status ≡ done → IsSoundMap release.now × IsGood
+        release.now cert.now × IsAddedWith year release.now lineage.now register.old.history
+        register.new.history) }
+    ensures same { IfOk result
+        (λ a. a.status ≢ done → register.new.history ≡ register.old.history) }
+    ensures failure { IfErr result (λ failure. IsStopped failure ×
+        (register.new.history ≡ register.old.history)) }
+    ensures holds { StaysOpen (state S.Store register.old.conn) register.old.history
+        (state S.Store register.new.conn) register.new.history }
+    ensures ok { OnOk result (Stays (state S.Store register.old.conn) register.old.history
+        (state S.Store register.new.conn) register.new.history) }
+{
+    match read_rows(alloc, lineage) {
+        Ok(rows) => answer_to_rows(alloc, register, year, release, cert, rows.as_slice()),
+        Err(TableFault::Memory) => Err(Failure::Memory),
+        Err(fault) => {
+            let answer = Answer::refuse_table(alloc, &fault)?;
+            Ok(answer)
+        }
+    }
+}
+
+/// The answer to a release, the text of a certificate and a lineage table.
+fn answer_to_text<S: Alter>(
+    alloc: Global,
+    register: &mut Register<S>,
+    year: u16,
+    release: &Release,
+    inputs: &PublicationBytes,
+) -> Result<Answer, Failure>
+    ensures answer { IfOk result (λ a. IsReleaseAnswer (publication_of year inputs.now)
+        register.old.history release.now (a.text.items, a.status)) }
+    ensures added { IfOk result (λ a. a.status ≡ done → IsSoundMap release.now × ((c : Cert) ×
+        (inputs.now.checked.cert.items ≡ cert_text c) × IsGood release.now c) × IsAddedWith year
+        release.now inputs.now.lineage.items register.old.history register.new.history) }
+    ensures same { IfOk result
+        (λ a. a.status ≢ done → register.new.history ≡ register.old.history) }
+    ensures failure { IfErr result (λ failure. IsStopped failure ×
+        (register.new.history ≡ register.old.history)) }
+    ensures holds { StaysOpen (state S.Store register.old.conn) register.old.history
+        (state S.Store register.new.conn) register.new.history }
+    ensures ok { OnOk result (Stays (state S.Store register.old.conn) register.old.history
+        (state S.Store register.new.conn) register.new.history) }
+{
+    match read_cert(alloc, inputs.checked.cert.as_slice()) {
+        Ok(cert) => {
+            let lineage = inputs.lineage.as_slice();
+            answer_to_lineage(alloc, register, year, release, &cert, lineage)
+        }
+        Err(CertFault::Memory) => Err(Failure::Memory),
+        Err(fault) => {
+            let answer = refuse_text(alloc, &fault)?;
+            Ok(answer)
+        }
+    }
+}
+
+/// The answer to what is to be published.
+fn answer_to<S: Alter>(
+    alloc: Global,
+    register: &mut Register<S>,
+    year: u16,
+    inputs: &PublicationBytes,
+) -> Result<Answer, Failure>
+    ensures answer { IfOk result (λ a. IsPublishAnswer (publication_of year inputs.now)
+        register.old.history (a.text.items, a.status)) }
+    ensures moves { IfOk result (λ a. Moves (publication_of year inputs.now) a.status
+        register.old.history register.new.history) }
+    ensures failure { IfErr result (λ failure. IsStopped failure ×
+        (register.new.history ≡ register.old.history)) }
+    ensures holds { StaysOpen (state S.Store register.old.conn) register.old.history
+        (state S.Store register.new.conn) register.new.history }
+    ensures ok { OnOk result (Stays (state S.Store register.old.conn) register.old.history
+        (state S.Store register.new.conn) register.new.history) }
+{
+    let tables = &inputs.checked.tables;
+    let parcels = tables.parcels.as_slice();
+    let covers = tables.covers.as_slice();
+    let classes = tables.classes.as_slice();
+    match read_release(alloc, parcels, covers, classes) {
+        Ok(release) => answer_to_text(alloc, register, year, &release, inputs),
+        Err(TableFault::Memory) => Err(Failure::Memory),
+        Err(fault) => {
+            let answer = Answer::refuse_table(alloc, &fault)?;
+            Ok(answer)
+        }
+    }
+}
+
+/// All bytes of the inputs, which are read in this order.
+fn read_publication<P: Read + Drop, C: Read + Drop, K: Read + Drop, E: Read + Drop, L: Read + Drop>(
+    alloc: Global,
+    parcels: P,
+    covers: C,
+    classes: K,
+    cert: E,
+    lineage: L,
+) -> Result<PublicationBytes, Failure>
+    ensures bytes { (year : ℕ) → IfOk result (λ p. AreAllRead (publication_of year p) year
+        (P.remaining parcels) (C.remaining covers) (K.remaining classes) (E.remaining cert)
+        (L.remaining lineage)) }
+    ensures failure { IfErr result (IsUnpublished (P.remaining parcels) (C.remaining covers)
+        (K.remaining classes) (E.remaining cert)) }
+{
+    let checked = read_inputs(alloc, parcels, covers, classes, cert)?;
+    let lineage = read_named(alloc, lineage, Name::Lineage)?;
+    Ok(PublicationBytes { checked, lineage })
+}
+
+/// Checks the release of three tables against a certificate and publishes it in a register, with
+/// its year and the rows of a lineage
+/// table. It prints the report of a release that is a sound map, what became of each identifier
+/// that it drops, and its year; or the line of the
+/// first fault: of the tables, of the certificate's text, of the lineage table, of the
+/// certificate, of the register.
+///
+/// All inputs are read to their ends, in the order in which they stand here, before anything is
+/// decided, and what is printed is whole
+/// in memory before the register is written. Ok is the status: `DONE`, where the release was
+/// published, or `REFUSED` or `UNREADABLE`, where the
+/// register is as it was. So it is at each failure but that of the output: then the release may
+/// be published, as `trace` shows.
+pub fn run_publish<
+    S: Alter,
+    P: Read + Drop,
+    C: Read + Drop,
+    K: Read + Drop,
+    E: Read + Drop,
+    L: Read + Drop,
+    W: Write,
+>(
+    alloc: Global,
+    register: &mut Register<S>,
+    year: u16,
+    parcels: P,
+    covers: C,
+    classes: K,
+    cert: E,
+    lineage: L,
+    out: &mut W,
+) -> Result<u8, Failure>
+    ensures answer { IfOk result (λ status. (x : Publication) × AreAllRead x year
+        (P.remaining parcels) (C.remaining covers) (K.remaining classes) (E.remaining cert)
+        (L.remaining lineage) × Ends x status register.old.history register.new.history
+        (W.contents out.old) (W.contents out.new)) }
+    // A beginning of the answer was written, or nothing.
+    ensures failure { IfErr result (λ failure. Halts failure year (P.remaining parcels)
+        (C.remaining covers) (K.remaining classes) (E.remaining cert) (L.remaining lineage)
+        register.old.history register.new.history (W.contents out.old) (W.contents out.new)) }
+    // The database says the history, as long as it is open and its disk keeps what was written.
+    ensures holds { StaysOpen (state S.Store register.old.conn) register.old.history
+        (state S.Store register.new.conn) register.new.history }
+    ensures ok { OnOk result (Stays (state S.Store register.old.conn) register.old.history
+        (state S.Store register.new.conn) register.new.history) }
+{
+    let inputs = read_publication(alloc, parcels, covers, classes, cert, lineage)?;
+    let answer = answer_to(alloc, register, year, &inputs)?;
+    answer.write_to(out)
+}

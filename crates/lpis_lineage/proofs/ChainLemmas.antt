@@ -1,0 +1,168 @@
+-- Chains over one row more, and over a lawful history.
+use Rattle.std.proofs.Common.{◌≡◌, ◌∙◌, ◌<◌, ◌≤◌, ◌+◌, ◌⊎◌, inl, inr, refl, sym, ap, subst, arith, ℕ, zero, suc, List, [], ◌∷◌, ◌++◌, length, Bool, true, false, Option, None, Some, cond, take, drop}
+use Rattle.std.proofs.Common.{get_or, append_assoc}
+use Rattle.std.proofs.lemmas.List.{append-nil}
+use Rattle.std.specs.List.{list_any}
+use Rattle.std.proofs.lemmas.List.Folds.{list_any-append}
+use Rattle.lpis_lineage.specs.declared.row.Row.{Row}
+use Rattle.lpis_lineage.specs.declared.row.Entry.{Entry}
+use Rattle.lpis_covers.specs.Ids.{has_id, same_id}
+use Rattle.lpis_lineage.specs.Lineage.{last_live, holds, entry_at, is_of, is_this, names}
+use Rattle.lpis_lineage.specs.Lawful.{IsLawful, RowsFit}
+use Rattle.std.specs.Prelude.{◌&&◌, ◌↔◌}
+use Rattle.std.specs.List.{filter}
+use Rattle.lpis_lineage.specs.Descendants.{IsDescendant}
+use Rattle.lpis_lineage.proofs.PickingLemmas.{has-filter}
+use Rattle.lpis_lineage.specs.Descendants.{all_rows, leads, Chain, Here, Step}
+use Rattle.lpis_lineage.specs.private.Following.{Reaches, IsFresh, AreFresh}
+use Rattle.lpis_lineage.proofs.IdentifierLemmas.{same-exact, same-refl, either, and-left, and-right, or-cases}
+use Rattle.lpis_lineage.proofs.CleanLemmas.{mono, any-left, any-mid, any-last, or-left, and-both}
+use Rattle.lpis_lineage.proofs.ExtensionLemmas.{entry-get}
+use Rattle.lpis_lineage.proofs.TellingLemmas.{take-at}
+use Rattle.std.proofs.lemmas.List.{take-append-drop}
+
+pub chain-more : (rows : List Row) (r : Row) (a b : List ℕ) → Chain rows a b → Chain (rows ++ r ∷ []) a b
+chain-more rows r a _ Here = Here
+chain-more rows r a _ (Step m b ch l) = Step m b (chain-more rows r a m ch) (any-left (leads m b) rows (r ∷ []) l)
+
+-- a chain over one row more ends before it, or with it
+chain-less : (rows : List Row) (r : Row) (a c : List ℕ) → IsFresh rows r → Chain (rows ++ r ∷ []) a c → (Chain rows a c) ⊎ ((Chain rows a r.old) × (is_this c r.new ≡ true))
+chain-less rows r a _ fresh Here = inl Here
+chain-less rows r a _ fresh (Step m c ch l) = next rows r a m c fresh (chain-less rows r a m fresh ch) l where
+  next : (rows : List Row) (r : Row) (a m c : List ℕ) → IsFresh rows r → (Chain rows a m)
+      ⊎ ((Chain rows a r.old) × (is_this m r.new ≡ true)) → list_any (leads m c) (rows ++ r ∷ []) ≡ true
+      → (Chain rows a c) ⊎ ((Chain rows a r.old) × (is_this c r.new ≡ true))
+  next rows r a m c fresh (inl ch) l = elim (any-last (leads m c) rows r l) as (λ _. (Chain rows a c) ⊎ ((Chain rows a r.old) × (is_this c r.new ≡ true))) [
+    | inl x ↦ inl (Step m c ch x)
+    | inr y ↦ inr (let P : List ℕ → Type 0 = λ z. Chain rows a z in subst P (same-exact m r.old (and-left _ _ y)) ch, and-right (is_of m r) _ y)
+  ]
+  next rows r a m c fresh (inr (ch, t)) l = absurd (
+      let has-row : list_any (is_of m) (rows ++ r ∷ []) ≡ true = mono (leads m c) (is_of m) (rows ++ r ∷ []) (λ q h. and-left _ _ h) l in
+      let none = fresh m t in cc)
+
+-- the row has no successor
+pub reach-none : (ids : List (List ℕ)) (rows : List Row) (r : Row) (id : List ℕ) → Reaches ids rows id → IsFresh rows r → r.new ≡ None → Reaches ids (rows ++ r ∷ []) id
+reach-none ids rows r id reach fresh none = record {
+  sound = λ q h. chain-more rows r id q (reach.sound q h);
+  whole = λ q ch. elim (chain-less rows r id q fresh ch) as (λ _. has_id ids q ≡ true) [
+    | inl x ↦ reach.whole q x
+    | inr y ↦ absurd (let t = y.1 in let n = ap (λ (o : Option (List ℕ)). is_this q o) none
+        in cc)
+  ];
+}
+
+-- the row's old identifier is not reached
+pub reach-skip : (ids : List (List ℕ)) (rows : List Row) (r : Row) (id : List ℕ) → Reaches ids rows id → IsFresh rows r → has_id ids r.old ≡ false → Reaches ids (rows ++ r ∷ []) id
+reach-skip ids rows r id reach fresh no-old = record {
+  sound = λ q h. chain-more rows r id q (reach.sound q h);
+  whole = λ q ch. elim (chain-less rows r id q fresh ch) as (λ _. has_id ids q ≡ true) [ inl x ↦ reach.whole q x | inr y ↦ absurd (let t = reach.whole r.old y.0 in cc) ];
+}
+
+-- it is, and its successor is added
+pub reach-add : (ids more : List (List ℕ)) (rows : List Row) (r : Row) (id heir : List ℕ) → Reaches ids rows id
+    → IsFresh rows r → r.new ≡ Some heir → has_id ids r.old ≡ true
+    → ((q : List ℕ) → has_id more q ≡ cond (same_id heir q) true (has_id ids q)) → Reaches more (rows ++ r ∷ []) id
+reach-add ids more rows r id heir reach fresh some old new = record {
+  sound = λ q h. by-test q (same_id heir q) refl (sym (new q) ∙ h);
+  whole = λ q ch. elim (chain-less rows r id q fresh ch) as (λ _. has_id more q ≡ true) [
+    | inl x ↦ new q ∙ keep (same_id heir q) _ (reach.whole q x)
+    | inr y ↦ new q ∙ ap (λ (b : Bool). cond b true (has_id ids q)) (turn q heir (ap (λ (o : Option (List ℕ)). is_this q o) (sym some) ∙ y.1))
+  ];
+} where
+  keep : (b c : Bool) → c ≡ true → cond b true c ≡ true
+  keep true c e = refl
+  keep false c e = e
+
+  turn : (q heir : List ℕ) → same_id q heir ≡ true → same_id heir q ≡ true
+  turn q heir e = let g : q ≡ heir = same-exact q heir e in let P : List ℕ → Type 0 = λ z. same_id heir z ≡ true in subst P (sym g) (same-refl heir)
+
+  by-test : (q : List ℕ) (b : Bool) → b ≡ same_id heir q → cond b true (has_id ids q) ≡ true → Chain (rows ++ r ∷ []) id q
+  by-test q true e h =
+      let g : heir ≡ q = same-exact heir q (sym e) in
+      let names-it : is_this q r.new ≡ true = ap (λ (o : Option (List ℕ)). is_this q o) some ∙ ap (λ (z : List ℕ). same_id q z) g ∙ same-refl q in
+      Step r.old q (chain-more rows r id r.old (reach.sound r.old old)) (any-mid (leads r.old q) rows r [] (and-both _ _ (same-refl r.old) names-it))
+  by-test q false e h = chain-more rows r id q (reach.sound q h)
+
+-- one row further among rows that are fresh
+pub fresh-row : (before rows : List Row) (i : ℕ) (r : Row) → AreFresh before rows → i < length rows → r ≡ get_or rows i r → IsFresh (before ++ take i rows) r
+fresh-row before rows i r fresh lt is s names-it = elim (either (list_any (is_of s) ((before ++ take i rows) ++ r ∷ []))) as (λ _. list_any (is_of s) ((before ++ take i rows) ++ r ∷ []) ≡ false) [
+  | inl t ↦ absurd (
+      let split : rows ≡ (take i rows ++ r ∷ []) ++ drop (i + 1) rows = sym (take-append-drop (i + 1) rows) ∙ ap (λ (l : List Row). l ++ drop (i + 1) rows) (sym (take-at rows i r lt is)) in
+      let there : list_any (names s) rows ≡ true = ap (λ (l : List Row). list_any (names s) l) split
+      ∙ any-left (names s) (take i rows ++ r ∷ []) (drop (i + 1) rows)
+      (any-mid (names s) (take i rows) r [] names-it) in
+      let none = fresh s there in
+      let all : list_any (is_of s) (before ++ rows) ≡ true =
+      ap (λ (l : List Row). list_any (is_of s) (before ++ l)) split ∙ ap (λ (l : List Row). list_any (is_of s) l) (sym (append_assoc before (take i rows ++ r ∷ []) (drop (i + 1) rows)))
+      ∙ any-left (is_of s) (before ++ (take i rows ++ r ∷ [])) (drop (i + 1) rows) (ap (λ (l : List Row). list_any (is_of s) l) (sym (append_assoc before (take i rows) (r ∷ []))) ∙ t) in cc)
+  | inr f ↦ f
+]
+
+-- ---- in a lawful history
+-- the rows of some first releases: some row of an identifier stands in a release that drops it
+pub row-place : (h : List Entry) (n : ℕ) (id : List ℕ) → list_any (is_of id) (all_rows (take n h)) ≡ true → (j : ℕ) × (j < n) × (list_any (is_of id) (entry_at h j).rows ≡ true)
+row-place [] zero id e = cc e
+row-place [] (suc n) id e = cc e
+row-place (x ∷ h) zero id e = cc e
+row-place (x ∷ h) (suc n) id e =
+    elim (or-cases (list_any (is_of id) x.rows) _ (sym (list_any-append (is_of id) x.rows (all_rows (take n h))) ∙ e))
+    as (λ _. (j : ℕ) × (j < suc n) × (list_any (is_of id) (entry_at (x ∷ h) j).rows ≡ true)) [
+      | inl a ↦ (0, omega arith, a)
+      | inr b ↦ let r = row-place h n id b in (suc r.0, (let k = r.1 in omega arith), r.2)
+    ]
+
+no-row-of : (h : List Entry) → IsLawful h → RowsFit h → (i j : ℕ) (s : List ℕ) → j ≤ i → holds h i s ≡ true → list_any (is_of s) (entry_at h j).rows ≡ true → false ≡ true
+no-row-of h law fit i zero s le live of = let n = ap (λ (l : List Row). list_any (is_of s) l) fit.first in sym n ∙ of
+no-row-of h law fit i (suc j) s le live of =
+    let k : suc j ≡ j + 1 = omega arith in
+    let d = fit.of_dropped s j (ap (λ (m : ℕ). list_any (is_of s) (entry_at h m).rows) (sym k) ∙ of) in
+    sym d.2 ∙ law.consecutive s j (j + 1) i (omega arith) (omega arith) d.1 live
+
+-- the rows of a release are fresh after those before
+pub release-fresh : (h : List Entry) → IsLawful h → RowsFit h → (i : ℕ) (e : Entry) → i < length h → e ≡ get_or h i e → AreFresh (all_rows (take i h)) e.rows
+release-fresh h law fit i e lt is s names-it =
+    let at : e ≡ entry_at h i = is ∙ entry-get h i e lt in
+    let live : holds h i s ≡ true = law.successors s i (ap (λ (x : Entry). list_any (names s) x.rows) (sym at) ∙ names-it) in
+    elim (either (list_any (is_of s) (all_rows (take i h) ++ e.rows))) as (λ _. list_any (is_of s) (all_rows (take i h) ++ e.rows) ≡ false) [
+      | inl t ↦ elim (or-cases (list_any (is_of s) (all_rows (take i h))) _
+          (sym (list_any-append (is_of s) (all_rows (take i h)) e.rows) ∙ t)) as
+          (λ _. list_any (is_of s) (all_rows (take i h) ++ e.rows) ≡ false) [
+            | inl a ↦ absurd (let p = row-place h i s a in let w = no-row-of h law fit i p.0 s (let k = p.1 in omega arith) live p.2 in cc)
+            | inr b ↦ absurd (let w = no-row-of h law fit i i s (omega arith) live (ap (λ (x : Entry). list_any (is_of s) x.rows) (sym at) ∙ b) in cc)
+          ]
+      | inr f ↦ f
+    ]
+
+pub rows-more : (h : List Entry) (i : ℕ) (e : Entry) → i < length h → e ≡ get_or h i e → all_rows (take i h) ++ e.rows ≡ all_rows (take (i + 1) h)
+rows-more h i e lt is = sym (all-snoc (take i h) e) ∙ ap all_rows (take-at h i e lt is) where
+  all-snoc : (h : List Entry) (e : Entry) → all_rows (h ++ e ∷ []) ≡ all_rows h ++ e.rows
+  all-snoc [] e = append-nil e.rows
+  all-snoc (x ∷ h) e = ap (λ (l : List Row). x.rows ++ l) (all-snoc h e) ∙ sym (append_assoc x.rows (all_rows h) e.rows)
+
+pub rows-whole : (h : List Entry) → all_rows (take (length h) h) ≡ all_rows h
+rows-whole h = ap all_rows (take_all h) where
+  take_all : (h : List Entry) → take (length h) h ≡ h
+  take_all [] = refl
+  take_all (x ∷ h) = ap (λ (l : List Entry). x ∷ l) (take_all h)
+
+-- the start
+pub reach-start : (id copy : List ℕ) → copy ≡ id → Reaches (copy ∷ []) [] id
+reach-start id copy e = record {
+  sound = λ q h. let same-q : same_id q copy ≡ true = (elim (or-cases (same_id q copy) false h) as (λ _. same_id q copy ≡ true) [ inl a ↦ a | inr b ↦ cc b ]) in
+      let g : q ≡ id = same-exact q copy same-q ∙ e in let P : List ℕ → Type 0 = λ z. Chain [] id z in subst P (sym g) Here;
+  whole = λ q ch. or-left _ _ (start q ch);
+} where
+  start : (q : List ℕ) → Chain [] id q → same_id q copy ≡ true
+  start _ Here = ap (λ (z : List ℕ). same_id id z) e ∙ same-refl id
+  start _ (Step m c ch l) = cc l
+
+-- the live ones of those reached
+pub live-reached : (h : List Entry) (id : List ℕ) (reached ids found : List (List ℕ)) → Reaches reached (all_rows h) id
+    → ids ≡ last_live h → found ≡ filter (λ k. has_id reached k) ids → (q : List ℕ) → (has_id found q ≡ true)
+    ↔ IsDescendant h id q
+live-reached h id reached ids found reach e f q =
+    let tested : has_id found q ≡ (has_id (last_live h) q && has_id reached q) =
+    ap (λ (l : List (List ℕ)). has_id l q) f ∙ has-filter (λ k. has_id reached k) ids q ∙ ap (λ (l : List (List ℕ)). has_id l q && has_id reached q) e in (
+      λ t. (reach.sound q (and-right (has_id (last_live h) q) (has_id reached q) (sym tested ∙ t)), and-left (has_id (last_live h) q) (has_id reached q) (sym tested ∙ t)),
+      λ d. tested ∙ and-both _ _ d.1 (reach.whole q d.0),
+    )

@@ -1,0 +1,66 @@
+-- How many rows a test picks, and how many end an identifier.
+use Rattle.std.proofs.Common.{◌≡◌, ◌∙◌, ◌≤◌, ◌+◌, inl, inr, refl, sym, ap, arith, suc, ℕ, List, [], ◌∷◌, ◌++◌, length, Bool, true, false, Option, None, Some, cond}
+use Rattle.std.specs.Prelude.{◌&&◌, ◌||◌, not, is_some}
+use Rattle.std.specs.List.{list_any, filter}
+use Rattle.lpis_lineage.specs.declared.row.Row.{Row}
+use Rattle.lpis_lineage.specs.Lineage.{ended, succeeded, is_of, same_new, same_row}
+use Rattle.lpis_lineage.specs.Lawful.{endings, IsAnswered}
+use Rattle.lpis_lineage.proofs.IdentifierLemmas.{either}
+
+pub filter-append : {A : Type 0} (p : A → Bool) (xs ys : List A) → length (filter p (xs ++ ys)) ≡ length (filter p xs) + length (filter p ys)
+filter-append p [] ys = omega arith
+filter-append p (x ∷ xs) ys = by-test p x xs ys (p x) refl (filter-append p xs ys) where
+  by-test : {A : Type 0} (p : A → Bool) (x : A) (xs ys : List A) (b : Bool) → b ≡ p x → length (filter p (xs ++ ys))
+      ≡ length (filter p xs) + length (filter p ys) → length (cond b (x ∷ filter p (xs ++ ys)) (filter p (xs ++ ys)))
+      ≡ length (cond b (x ∷ filter p xs) (filter p xs)) + length (filter p ys)
+  by-test p x xs ys true e ih = omega (arith, ih)
+  by-test p x xs ys false e ih = ih
+
+pub filter-none : {A : Type 0} (p : A → Bool) (xs : List A) → list_any p xs ≡ false → length (filter p xs) ≡ 0
+filter-none p [] e = refl
+filter-none p (x ∷ xs) e = by-test p x xs (p x) (filter-none p xs) e where
+  by-test : {A : Type 0} (p : A → Bool) (x : A) (xs : List A) (b : Bool)
+      → (list_any p xs ≡ false → length (filter p xs) ≡ 0) → (b || list_any p xs) ≡ false
+      → length (cond b (x ∷ filter p xs) (filter p xs)) ≡ 0
+  by-test p x xs true ih e = absurd cc
+  by-test p x xs false ih e = ih e
+
+pub filter-some : {A : Type 0} (p : A → Bool) (xs : List A) → list_any p xs ≡ true → 1 ≤ length (filter p xs)
+filter-some p [] e = cc e
+filter-some p (x ∷ xs) e = by-test p x xs (p x) (filter-some p xs) e where
+  by-test : {A : Type 0} (p : A → Bool) (x : A) (xs : List A) (b : Bool)
+      → (list_any p xs ≡ true → 1 ≤ length (filter p xs)) → (b || list_any p xs) ≡ true
+      → 1 ≤ length (cond b (x ∷ filter p xs) (filter p xs))
+  by-test p x xs true ih e = omega arith
+  by-test p x xs false ih e = ih e
+
+-- endings of one identifier are equal rows
+pub one-ending : (rows : List Row) (id : List ℕ) → ((row : Row) → length (filter (same_row row) rows) ≤ 1) → endings rows id ≤ 1
+one-ending rows id once = let same = filter-alike _ (same_row (record { old = id; new = None })) rows
+    (λ r. ap (λ (b : Bool). is_of id r && b) (no-heir r.new)) in let few = once (record { old = id; new = None }) in
+    omega (arith, same, few)
+  where
+    no-heir : (o : Option (List ℕ)) → not (is_some o) ≡ same_new None o
+    no-heir None = refl
+    no-heir (Some s) = refl
+
+    filter-alike : (p q : Row → Bool) (rs : List Row) → ((r : Row) → p r ≡ q r) → length (filter p rs) ≡ length (filter q rs)
+    filter-alike p q [] alike = refl
+    filter-alike p q (r ∷ rs) alike = by-test (p r) (q r) (alike r) (filter-alike p q rs alike)
+      where
+        by-test : (a b : Bool) → a ≡ b → length (filter p rs) ≡ length (filter q rs) → length (cond a (r ∷ filter p rs) (filter p rs)) ≡ length (cond b (r ∷ filter q rs) (filter q rs))
+        by-test true true e more = ap suc more
+        by-test false false e more = more
+        by-test true false e more = absurd (cc e)
+        by-test false true e more = absurd (cc e)
+
+-- what has an ending has a row that is one
+ended-counted : (rows : List Row) (id : List ℕ) → ended rows id ≡ true → endings rows id ≡ 0 → false ≡ true
+ended-counted rows id e none = absurd (let some = filter-some _ rows e in omega (arith, some, none))
+
+pub counted-ended : (rows : List Row) (id : List ℕ) → endings rows id ≡ 1 → ended rows id ≡ true
+counted-ended rows id one = elim (either (ended rows id)) as (λ _. ended rows id ≡ true) [ inl e ↦ e | inr n ↦ absurd (let none = filter-none _ rows n in omega (arith, one, none)) ]
+
+pub from-answered : (rows : List Row) (id : List ℕ) → IsAnswered rows id → ended rows id ≡ true → succeeded rows id ≡ true → false ≡ true
+from-answered rows id (inl l) e s = sym l.1 ∙ s
+from-answered rows id (inr r) e s = ended-counted rows id e r.0

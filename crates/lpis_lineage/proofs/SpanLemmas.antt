@@ -1,0 +1,156 @@
+-- The spans of a lawful history tell each release's set.
+use Rattle.std.proofs.Common.{◌≡◌, ◌∙◌, ◌<◌, ◌≤◌, inl, inr, refl, sym, ap, arith, ℕ, zero, suc, List, [], ◌∷◌, length, Bool, true, false, Option, None, Some, cond}
+use Rattle.std.proofs.lemmas.Bool.Decides.{nat_tests}
+use Rattle.std.specs.Option.{is_some}
+use Rattle.lpis_lineage.proofs.CleanLemmas.{held-some}
+use Rattle.std.specs.Option.{option_or}
+use Rattle.lpis_lineage.specs.declared.row.Entry.{Entry}
+use Rattle.lpis_covers.specs.Ids.{has_id}
+use Rattle.lpis_lineage.specs.Lineage.{holds, entry_at, last_live}
+use Rattle.lpis_lineage.specs.Lawful.{IsLawful}
+use Rattle.std.specs.Prelude.{◌&&◌, ◌||◌, nat_le, nat_eq}
+use Rattle.std.specs.List.{filter}
+use Rattle.lpis_lineage.specs.declared.span.Span.{Span}
+use Rattle.lpis_lineage.specs.Spans.{first_held, last_held, span_between, span_of, in_span, live_in, ids_of, AreSpansOf}
+use Rattle.lpis_lineage.proofs.PickingLemmas.{has-filter}
+use Rattle.lpis_lineage.proofs.IdentifierLemmas.{either, in-history}
+use Rattle.lpis_lineage.proofs.ExtensionLemmas.{place, last-some}
+
+-- a year is in a span, by its years
+abbrev in_years : ℕ → ℕ → ℕ → Bool
+in_years first last year = nat_le first year && (nat_eq last 0 || nat_le year last)
+
+abbrev until : List Entry → List ℕ → ℕ → ℕ
+until h id last = cond (has_id (last_live h) id) 0 last
+
+-- the first release that holds it
+pub first-place : (h : List Entry) (id : List ℕ) (y : ℕ) → first_held h id ≡ Some y → (a : ℕ) × (holds h a id ≡ true) × (y ≡ (entry_at h a).year) × ((j : ℕ) → holds h j id ≡ true → a ≤ j)
+first-place [] id y e = cc e
+first-place (x ∷ h) id y e = elim (either (has_id x.live id)) as (λ _. (a : ℕ) × (holds (x ∷ h) a id ≡ true) × (y ≡ (entry_at (x ∷ h) a).year) × ((j : ℕ) → holds (x ∷ h) j id ≡ true → a ≤ j)) [
+  | inl t ↦ (0, t, some-eq y x.year (sym e ∙ ap (λ (b : Bool). cond b (Some x.year) (first_held h id)) t), λ j hj. omega arith)
+  | inr f ↦ let r = first-place h id y (sym (ap (λ (b : Bool). cond b (Some x.year) (first_held h id)) f) ∙ e) in (suc r.0, r.1, r.2, later x h id r.0 f r.3)
+] where
+  some-eq : (a b : ℕ) → Some a ≡ Some b → a ≡ b
+  some-eq a b e = cc
+
+  later : (x : Entry) (h : List Entry) (id : List ℕ) (a : ℕ) → has_id x.live id ≡ false → ((j : ℕ) → holds h j id ≡ true → a ≤ j) → (j : ℕ) → holds (x ∷ h) j id ≡ true → suc a ≤ j
+  later x h id a f min zero hj = absurd cc
+  later x h id a f min (suc j) hj = let m = min j hj in omega arith
+
+-- the last one
+pub last-place : (h : List Entry) (id : List ℕ) (y : ℕ) → last_held h id ≡ Some y → (b : ℕ) × (holds h b id ≡ true) × (y ≡ (entry_at h b).year) × ((j : ℕ) → holds h j id ≡ true → j ≤ b)
+last-place [] id y e = cc e
+last-place (x ∷ h) id y e = by x h id y (last-place h id) (last_held h id) refl e where
+  some-eq : (a b : ℕ) → Some a ≡ Some b → a ≡ b
+  some-eq a b e = cc
+
+  later : (x : Entry) (h : List Entry) (id : List ℕ) (b : ℕ) → ((j : ℕ) → holds h j id ≡ true → j ≤ b) → (j : ℕ) → holds (x ∷ h) j id ≡ true → j ≤ suc b
+  later x h id b max zero hj = omega arith
+  later x h id b max (suc j) hj = let m = max j hj in omega arith
+
+  only : (x : Entry) (h : List Entry) (id : List ℕ) → None ≡ last_held h id → (j : ℕ) → holds (x ∷ h) j id ≡ true → j ≤ 0
+  only x h id none zero hj = omega arith
+  only x h id none (suc j) hj = absurd (let s = held-some h id j hj in let n = ap is_some none in cc)
+
+  test : (b : Bool) (x y : ℕ) → cond b (Some x) None ≡ Some y → (b ≡ true) × (y ≡ x)
+  test true x y e = (refl, some-eq y x (sym e))
+  test false x y e = cc e
+
+  by : (x : Entry) (h : List Entry) (id : List ℕ) (y : ℕ) → ((z : ℕ) → last_held h id ≡ Some z → (b : ℕ) × (holds h b id ≡ true) × (z ≡ (entry_at h b).year) × ((j : ℕ) → holds h j id ≡ true → j ≤ b))
+      → (o : Option ℕ) → o ≡ last_held h id → option_or o (cond (has_id x.live id) (Some x.year) None) ≡ Some y
+      → (b : ℕ) × (holds (x ∷ h) b id ≡ true) × (y ≡ (entry_at (x ∷ h) b).year) × ((j : ℕ) → holds (x ∷ h) j id ≡ true → j ≤ b)
+  by x h id y ih (Some z) o e = let r = ih z (sym o) in (suc r.0, r.1, some-eq y z (sym e) ∙ r.2, later x h id r.0 r.3)
+  by x h id y ih None o e = let t = test (has_id x.live id) x.year y e in (0, t.0, t.1, only x h id o)
+
+years-mono : (h : List Entry) → IsLawful h → (i j : ℕ) → i ≤ j → j < length h → (entry_at h i).year ≤ (entry_at h j).year
+years-mono h law i j le lt = elim (place i j) as (λ _. (entry_at h i).year ≤ (entry_at h j).year) [
+  | inl a ↦ let r = law.years_rise i j a lt in omega (arith, r)
+  | inr b ↦ elim b as (λ _. (entry_at h i).year ≤ (entry_at h j).year) [ inl e ↦ let r = ap (λ (k : ℕ). (entry_at h k).year) e in omega (arith, r) | inr c ↦ absurd (omega arith) ]
+]
+
+-- an earlier or same year is that of an earlier or the same place
+years-back : (h : List Entry) → IsLawful h → (i j : ℕ) → i < length h → j < length h → (entry_at h i).year ≤ (entry_at h j).year → i ≤ j
+years-back h law i j il jl le = elim (place j i) as (λ _. i ≤ j) [
+  | inl a ↦ absurd (let r = law.years_rise j i a il in omega (arith, r))
+  | inr b ↦ elim b as (λ _. i ≤ j) [ inl e ↦ omega arith | inr c ↦ omega arith ]
+]
+
+above-zero : (h : List Entry) → IsLawful h → (i : ℕ) → i < length h → 0 < (entry_at h i).year
+above-zero h law i lt = let f = law.first_year (omega arith) in let m = years-mono h law 0 i (omega arith) lt in omega (arith, f, m)
+
+span-live : (f y : ℕ) → f ≤ y → in_years f 0 y ≡ true
+span-live f y le = grind (arith, nat_tests)
+
+span-until : (f l y : ℕ) → f ≤ y → y ≤ l → in_years f l y ≡ true
+span-until f l y a b = grind (arith, nat_tests)
+
+span-low : (f l y : ℕ) → in_years f l y ≡ true → f ≤ y
+span-low f l y e = grind (arith, nat_tests)
+
+span-high : (f l y : ℕ) → in_years f l y ≡ true → 0 < l → y ≤ l
+span-high f l y e p = grind (arith, nat_tests)
+
+-- the law: a year of a release is in an identifier's span exactly where that release holds it
+span-law : (h : List Entry) → IsLawful h → (id : List ℕ) (f l : ℕ) → first_held h id ≡ Some f → last_held h id ≡ Some l
+    → (i : ℕ) → i < length h → in_years f (until h id l) (entry_at h i).year ≡ holds h i id
+span-law h law id f l ef el i lt =
+    let a = first-place h id f ef in
+    let b = last-place h id l el in
+    let al = in-history h a.0 id a.1 in
+    let bl = in-history h b.0 id b.1 in
+    elim (either (holds h i id)) as (λ _. in_years f (until h id l) (entry_at h i).year ≡ holds h i id) [
+      | inl t ↦
+          let low : f ≤ (entry_at h i).year = (let m = years-mono h law a.0 i (a.3 i t) lt in let e = a.2 in omega (arith, m, e)) in
+          let high : (entry_at h i).year ≤ l = (let m = years-mono h law i b.0 (b.3 i t) bl in let e = b.2 in omega (arith, m, e)) in
+          elim (either (has_id (last_live h) id)) as (λ _. in_years f (until h id l) (entry_at h i).year ≡ holds h i id) [
+            | inl live ↦ ap (λ (c : Bool). in_years f (cond c 0 l) (entry_at h i).year) live ∙ span-live f _ low ∙ sym t
+            | inr gone ↦ ap (λ (c : Bool). in_years f (cond c 0 l) (entry_at h i).year) gone ∙ span-until f l _ low high ∙ sym t
+          ]
+      | inr n ↦ elim (either (in_years f (until h id l) (entry_at h i).year)) as (λ _. in_years f (until h id l) (entry_at h i).year ≡ holds h i id) [
+        | inl s ↦
+            let low = span-low f _ _ s in
+            let ai : a.0 ≤ i = years-back h law a.0 i al lt (let e = a.2 in omega (arith, e, low)) in
+            elim (either (has_id (last_live h) id)) as (λ _. in_years f (until h id l) (entry_at h i).year ≡ holds h i id) [
+              | inl live ↦ let r = last-some h id live in s ∙ sym (law.consecutive id a.0 i r.0 ai (let k = r.1 in omega (arith, k)) a.1 r.2)
+              | inr gone ↦
+                  let s2 = sym (ap (λ (c : Bool). in_years f (cond c 0 l) (entry_at h i).year) gone) ∙ s in
+                  let pos : 0 < l = (let z = above-zero h law b.0 bl in let e = b.2 in omega (arith, z, e)) in
+                  let high = span-high f l _ s2 pos in
+                  let ib : i ≤ b.0 = years-back h law i b.0 lt bl (let e = b.2 in omega (arith, e, high)) in
+                  s ∙ sym (law.consecutive id a.0 i b.0 ai ib a.1 b.1)
+            ]
+        | inr s ↦ s ∙ sym n
+      ]
+    ]
+
+-- the span tells each release's set
+pub span-tells : (h : List Entry) → IsLawful h → (id : List ℕ) (s : Span) → span_of h id ≡ Some s → (i : ℕ) → i < length h → in_span s (entry_at h i).year ≡ holds h i id
+span-tells h law id s e i lt = by (first_held h id) refl (last_held h id) refl e where
+  some-eq : (a b : Span) → Some a ≡ Some b → a ≡ b
+  some-eq a b e = cc
+
+  by : (f : Option ℕ) → f ≡ first_held h id → (l : Option ℕ) → l ≡ last_held h id → span_between f l (has_id (last_live h) id) ≡ Some s → in_span s (entry_at h i).year ≡ holds h i id
+  by None ef l el e = absurd cc
+  by (Some f) ef None el e = absurd cc
+  by (Some f) ef (Some l) el e = ap (λ (t : Span). in_span t (entry_at h i).year) (sym (some-eq _ _ e)) ∙ span-law h law id f l (sym ef) (sym el) i lt
+
+-- the identifiers whose span holds a release's year are those of the spans' that the release holds
+live-in-held : (h : List Entry) → IsLawful h → (spans : List (List ℕ × Span)) → AreSpansOf h spans → (i : ℕ)
+    → i < length h → live_in spans (entry_at h i).year ≡ filter (λ id. holds h i id) (ids_of spans)
+live-in-held h law [] are i lt = refl
+live-in-held h law (p ∷ ps) are i lt =
+    ap (λ (b : Bool). cond b (p.0 ∷ live_in ps (entry_at h i).year) (live_in ps (entry_at h i).year)) (span-tells h law p.0 p.1 are.0 i lt)
+    ∙ ap (λ (l : List (List ℕ)). cond (holds h i p.0) (p.0 ∷ l) l) (live-in-held h law ps are.1 i lt)
+
+pub live-in-law : (h : List Entry) (spans : List (List ℕ × Span)) → IsLawful h → AreSpansOf h spans
+    → ((id : List ℕ) (i : ℕ) → holds h i id ≡ true → has_id (ids_of spans) id ≡ true) → (i : ℕ) → i < length h
+    → (id : List ℕ) → has_id (live_in spans (entry_at h i).year) id ≡ holds h i id
+live-in-law h spans law are whole i lt id =
+    ap (λ (l : List (List ℕ)). has_id l id) (live-in-held h law spans are i lt) ∙ has-filter (λ q. holds h i q) (ids_of spans) id ∙ by (holds h i id) refl where
+      no : (b : Bool) → (b && false) ≡ false
+      no true = refl
+      no false = refl
+
+      by : (b : Bool) → b ≡ holds h i id → (has_id (ids_of spans) id && holds h i id) ≡ holds h i id
+      by true e = ap (λ (t : Bool). t && holds h i id) (whole id i (sym e))
+      by false e = ap (λ (t : Bool). has_id (ids_of spans) id && t) (sym e) ∙ no (has_id (ids_of spans) id) ∙ e

@@ -1,0 +1,130 @@
+-- Lists of faults, one element more.
+use Rattle.std.proofs.Common.{◌≡◌, ◌∙◌, ◌<◌, ◌+◌, ◌⊎◌, inl, inr, refl, sym, ap, subst, arith, ℕ, zero, suc, List, [], ◌∷◌, ◌++◌, length, Bool, true, false, Option, None, Some, take, drop, get_or}
+use Rattle.std.specs.Prelude.{◌&&◌, ◌||◌, not, is_some}
+use Rattle.std.specs.List.{list_any}
+use Rattle.lpis_lineage.specs.declared.row.Row.{Row}
+use Rattle.lpis_lineage.specs.declared.row.Entry.{Entry}
+use Rattle.lpis_lineage.specs.declared.fault.LineageFault.{LineageFault}
+use Rattle.lpis_lineage.specs.declared.fault.LineageFault.TheVariants.{Memory, OldNotLive, OldStillLive, SuccessorMissing, DoubledRow, EndingBesideSuccessor, NoRow}
+use Rattle.lpis_covers.specs.Ids.{has_id}
+use Rattle.lpis_lineage.specs.Lineage.{ended, succeeded, is_of, last_live, same_row}
+use Rattle.lpis_lineage.specs.Faults.{fault_before, is_missing, clashes, faults, faults_of_row, row_faults, dropped_faults, used_faults, first}
+
+pub record Falls (some none others : List LineageFault) : Type 0 where
+  pub when_none : none ≡ [] → some ≡ others
+  pub when_told : (e : LineageFault) → first none ≡ Some e → first some ≡ Some e
+
+-- `fault_before` before nothing reports what it reports before others
+told-falls : (b : Bool) (f : LineageFault) (some none others : List LineageFault) → Falls some none others → Falls (fault_before b f some) (fault_before b f none) others
+told-falls true f some none others h = record { when_none = λ e. absurd cc; when_told = λ e t. t }
+told-falls false f some none others h = h
+
+falls-none : (others : List LineageFault) → Falls others [] others
+falls-none others = record { when_none = λ e. refl; when_told = λ e t. cc t }
+
+pub row-falls : (last live : List (List ℕ)) (before : List Row) (k : ℕ) (r : Row) (others : List LineageFault)
+    → Falls (faults_of_row last live before k r others) (faults_of_row last live before k r []) others
+row-falls last live before k r others =
+    (told-falls (not (has_id last r.old)) (OldNotLive k) _ _ _ (told-falls (has_id live r.old) (OldStillLive k) _ _ _
+    (told-falls (is_missing live r.new) (SuccessorMissing k) _ _ _
+    (told-falls (list_any (same_row r) before) (DoubledRow k) _ _ _
+    (told-falls (list_any (clashes r) before) (EndingBesideSuccessor k) _ _ _ (falls-none others))))))
+
+told-same : (b c : Bool) (f : LineageFault) (xs ys : List LineageFault) → b ≡ c → xs ≡ ys → fault_before b f xs ≡ fault_before c f ys
+told-same b c f xs ys e g = ap (λ (t : Bool). fault_before t f xs) e ∙ ap (λ (l : List LineageFault). fault_before c f l) g
+
+pub first-append : (xs ys : List LineageFault) (e : LineageFault) → first xs ≡ Some e → first (xs ++ ys) ≡ Some e
+first-append [] ys e h = cc h
+first-append (x ∷ xs) ys e h = h
+
+pub drop-at : {A : Type 0} (xs : List A) (i : ℕ) (x : A) → i < length xs → x ≡ get_or xs i x → drop i xs ≡ x ∷ drop (i + 1) xs
+drop-at {A = A} xs i x lt is = by xs i x lt ∙ ap (λ (y : A). y ∷ drop (suc i) xs) (sym is) ∙ (let n : suc i ≡ i + 1 = omega arith in ap (λ (k : ℕ). x ∷ drop k xs) n) where
+  by : {A : Type 0} (xs : List A) (i : ℕ) (d : A) → i < length xs → drop i xs ≡ get_or xs i d ∷ drop (suc i) xs
+  by [] i d lt = absurd (omega arith)
+  by (x ∷ xs) zero d lt = refl
+  by (x ∷ xs) (suc i) d lt = by xs i d (omega arith)
+
+pub take-at : {A : Type 0} (xs : List A) (i : ℕ) (x : A) → i < length xs → x ≡ get_or xs i x → take i xs ++ x ∷ [] ≡ take (i + 1) xs
+take-at {A = A} xs i x lt is = ap (λ (y : A). take i xs ++ y ∷ []) is ∙ by xs i x lt ∙ (let n : suc i ≡ i + 1 = omega arith in ap (λ (k : ℕ). take k xs) n) where
+  by : {A : Type 0} (xs : List A) (i : ℕ) (d : A) → i < length xs → take i xs ++ get_or xs i d ∷ [] ≡ take (suc i) xs
+  by [] i d lt = absurd (omega arith)
+  by (x ∷ xs) zero d lt = refl
+  by {A = A} (x ∷ xs) (suc i) d lt = ap (λ (l : List A). x ∷ l) (by xs i d (omega arith))
+
+-- the rows, one further
+pub rows-step : (last live : List (List ℕ)) (rows : List Row) (i k : ℕ) (r : Row) → i < length rows → r ≡ get_or rows i r → faults_of_row last live (take i rows) k r [] ≡ []
+    → row_faults last live (take i rows) k (drop i rows) ≡ row_faults last live (take (i + 1) rows) (k + 1) (drop (i + 1) rows)
+rows-step last live rows i k r lt is none =
+    ap (λ (xs : List Row). row_faults last live (take i rows) k xs) (drop-at rows i r lt is)
+    ∙ (row-falls last live (take i rows) k r _).when_none none
+    ∙ ap (λ (xs : List Row). row_faults last live xs (k + 1) (drop (i + 1) rows)) (take-at rows i r lt is)
+
+pub rows-stop : (last live : List (List ℕ)) (rows : List Row) (i k : ℕ) (r : Row) (e : LineageFault) → i < length rows → r ≡ get_or rows i r
+    → (e ≡ Memory) ⊎ (first (faults_of_row last live (take i rows) k r []) ≡ Some e)
+    → (all : List LineageFault) → all ≡ row_faults last live (take i rows) k (drop i rows) → (e ≡ Memory) ⊎ (first all ≡ Some e)
+rows-stop last live rows i k r e lt is (inl m) all eq = inl m
+rows-stop last live rows i k r e lt is (inr t) all eq = inr (
+    ap first eq ∙ ap (λ (xs : List Row). first (row_faults last live (take i rows) k xs)) (drop-at rows i r lt is)
+    ∙ (row-falls last live (take i rows) k r _).when_told e t)
+
+pub seen-next : (rows : List Row) (i : ℕ) (r : Row) (P : List Row → Type 0) → i < length rows → r ≡ get_or rows i r → P (take i rows ++ r ∷ []) → P (take (i + 1) rows)
+seen-next rows i r P lt is p = subst P (take-at rows i r lt is) p
+
+pub used-step : (h : List Entry) (last ids : List (List ℕ)) (i : ℕ) (id : List ℕ) → i < length ids
+    → id ≡ get_or ids i id → used_faults h last (id ∷ drop (i + 1) ids) ≡ used_faults h last (drop (i + 1) ids)
+    → used_faults h last (drop i ids) ≡ used_faults h last (drop (i + 1) ids)
+used-step h last ids i id lt is e = ap (λ (l : List (List ℕ)). used_faults h last l) (drop-at ids i id lt is) ∙ e
+
+pub used-stop : (h : List Entry) (last ids : List (List ℕ)) (i : ℕ) (id : List ℕ) (f : LineageFault) → i < length ids
+    → id ≡ get_or ids i id → first (used_faults h last (id ∷ drop (i + 1) ids)) ≡ Some f
+    → first (used_faults h last (drop i ids)) ≡ Some f
+used-stop h last ids i id f lt is t = ap (λ (l : List (List ℕ)). first (used_faults h last l)) (drop-at ids i id lt is) ∙ t
+
+-- a set with the same members has the same faults
+pub rows-live : (last a b : List (List ℕ)) (before : List Row) (k : ℕ) (rows : List Row) → ((q : List ℕ) → has_id a q ≡ has_id b q) → row_faults last a before k rows ≡ row_faults last b before k rows
+rows-live last a b before k [] e = refl
+rows-live last a b before k (r ∷ rs) e =
+    (told-same (not (has_id last r.old)) (not (has_id last r.old)) (OldNotLive k) _ _ refl
+    (told-same (has_id a r.old) (has_id b r.old) (OldStillLive k) _ _ (e r.old)
+    (told-same (is_missing a r.new) (is_missing b r.new) (SuccessorMissing k) _ _ (miss a b e r.new)
+    (told-same (list_any (same_row r) before) (list_any (same_row r) before) (DoubledRow k) _ _ refl
+    (told-same (list_any (clashes r) before) (list_any (clashes r) before) (EndingBesideSuccessor k) _ _ refl
+    (rows-live last a b (before ++ r ∷ []) (k + 1) rs e)))))) where
+      miss : (a b : List (List ℕ)) → ((q : List ℕ) → has_id a q ≡ has_id b q) → (o : Option (List ℕ)) → is_missing a o ≡ is_missing b o
+      miss a b e None = refl
+      miss a b e (Some s) = ap not (e s)
+
+pub dropped-live : (a b : List (List ℕ)) (rows : List Row) (ids : List (List ℕ)) → ((q : List ℕ) → has_id a q ≡ has_id b q) → dropped_faults a rows ids ≡ dropped_faults b rows ids
+dropped-live a b rows [] e = refl
+dropped-live a b rows (x ∷ xs) e = told-same (not (has_id a x) && not (list_any (is_of x) rows))
+    (not (has_id b x) && not (list_any (is_of x) rows)) (NoRow x) _ _
+    (ap (λ (t : Bool). not t && not (list_any (is_of x) rows)) (e x)) (dropped-live a b rows xs e)
+
+-- a row's old identifier has an ending or a successor
+pub of-either : (rows : List Row) (id : List ℕ) → (ended rows id || succeeded rows id) ≡ list_any (is_of id) rows
+of-either [] id = refl
+of-either (r ∷ rs) id = by (is_of id r) (is_some r.new) _ _ ∙ ap (λ (b : Bool). is_of id r || b) (of-either rs id) where
+  by : (a b c d : Bool) → (((a && not b) || c) || ((a && b) || d)) ≡ (a || (c || d))
+  by true true true d = refl
+  by true true false d = refl
+  by true false c d = refl
+  by false b c d = refl
+
+pub row-then : (rows : List Row) (id : List ℕ) (x : Bool) → x ≡ ended rows id → x ≡ true → x ≡ list_any (is_of id) rows
+row-then rows id x e t = t ∙ sym (ap (λ (b : Bool). b || succeeded rows id) (sym e ∙ t)) ∙ of-either rows id
+
+pub row-else : (rows : List Row) (id : List ℕ) (x y : Bool) → x ≡ ended rows id → x ≡ false → y ≡ succeeded rows id → y ≡ list_any (is_of id) rows
+row-else rows id x y e f g = g ∙ sym (ap (λ (b : Bool). b || succeeded rows id) (sym e ∙ f)) ∙ of-either rows id
+
+-- where rows and dropped identifiers have no fault, those of used identifiers are left
+pub passed : (h : List Entry) (set live : List (List ℕ)) (rows : List Row)
+    → ((q : List ℕ) → has_id set q ≡ has_id live q) → row_faults (last_live h) set [] 1 rows ≡ []
+    → dropped_faults set rows (last_live h) ≡ []
+    → faults h live rows ≡ used_faults h (last_live h) live
+passed h set live rows alike no-rows none =
+    ap (λ (l : List LineageFault). l ++ (dropped_faults live rows (last_live h) ++ used_faults h (last_live h) live)) (sym (rows-live (last_live h) set live [] 1 rows alike) ∙ no-rows)
+    ∙ ap (λ (l : List LineageFault). l ++ used_faults h (last_live h) live) (sym (dropped-live set live rows (last_live h) alike) ∙ none)
+
+pub stops-after : (xs ys zs : List LineageFault) (e : LineageFault) → xs ≡ [] → (e ≡ Memory) ⊎ (first ys ≡ Some e) → (e ≡ Memory) ⊎ (first (xs ++ (ys ++ zs)) ≡ Some e)
+stops-after xs ys zs e n (inl m) = inl m
+stops-after xs ys zs e n (inr t) = inr (ap (λ (l : List LineageFault). first (l ++ (ys ++ zs))) n ∙ first-append ys zs e t)

@@ -1,0 +1,72 @@
+-- Faults of identifiers, looked for among those alone that another set lacks.
+use Rattle.std.proofs.Common.{◌≡◌, ◌∙◌, refl, sym, ap, ℕ, List, [], ◌∷◌, ◌++◌, Bool, true, false, Option, None, Some, cond}
+use Rattle.std.specs.Prelude.{◌&&◌, not, is_some}
+use Rattle.std.specs.List.{filter, list_any}
+use Rattle.lpis_covers.specs.Ids.{has_id}
+use Rattle.lpis_lineage.specs.declared.row.Row.{Row}
+use Rattle.lpis_lineage.specs.declared.row.Entry.{Entry}
+use Rattle.lpis_lineage.specs.declared.span.Span.{Span}
+use Rattle.lpis_lineage.specs.declared.fault.LineageFault.{LineageFault}
+use Rattle.lpis_lineage.specs.declared.fault.LineageFault.TheVariants.{NoRow}
+use Rattle.lpis_lineage.specs.Lineage.{holds, is_of, last_live}
+use Rattle.lpis_lineage.specs.Faults.{fault_before, used_fault_before, dropped_faults, used_faults}
+use Rattle.lpis_lineage.specs.Spans.{last_held, span_of}
+use Rattle.lpis_lineage.proofs.CleanLemmas.{used-clean, clean-used}
+use Rattle.lpis_lineage.proofs.ExtensionLemmas.{last-some}
+use Rattle.lpis_lineage.proofs.SpanStepLemmas.{none-held, unlive-none}
+
+-- the faults of identifiers that have no row
+abbrev pub rowless : List Row → List (List ℕ) → List LineageFault
+rowless rows [] = []
+rowless rows (id ∷ ids) = fault_before (not (list_any (is_of id) rows)) (NoRow id) (rowless rows ids)
+
+pub dropped-rowless : (live : List (List ℕ)) (rows : List Row) (ids : List (List ℕ)) → dropped_faults live rows ids ≡ rowless rows (filter (λ id. not (has_id live id)) ids)
+dropped-rowless live rows [] = refl
+dropped-rowless live rows (x ∷ xs) = by (has_id live x) (dropped_faults live rows xs) (dropped-rowless live rows xs) where
+  by : (b : Bool) (d : List LineageFault) → d ≡ rowless rows (filter (λ id. not (has_id live id)) xs)
+      → fault_before (not b && not (list_any (is_of x) rows)) (NoRow x) d ≡ rowless rows (cond (not b) (x ∷ filter (λ id. not (has_id live id)) xs) (filter (λ id. not (has_id live id)) xs))
+  by true d e = e
+  by false d e = ap (λ (l : List LineageFault). fault_before (not (list_any (is_of x) rows)) (NoRow x) l) e
+
+-- identifiers of the last release are no faults
+pub used-lacking : (h : List Entry) (last ids : List (List ℕ)) → used_faults h last ids ≡ used_faults h last (filter (λ id. not (has_id last id)) ids)
+used-lacking h last [] = refl
+used-lacking h last (x ∷ xs) = by (filter (λ id. not (has_id last id)) xs) (has_id last x) refl (last_held h x) refl (used-lacking h last xs) where
+  by : (rest : List (List ℕ)) (b : Bool) → b ≡ has_id last x → (o : Option ℕ) → o ≡ last_held h x
+      → used_faults h last xs ≡ used_faults h last rest → used_fault_before o b x (used_faults h last xs) ≡ used_faults h last
+      (cond (not b) (x ∷ rest) rest)
+  by rest true eb None eo e = e
+  by rest true eb (Some y) eo e = e
+  by rest false eb o eo e = ap (λ (l : List LineageFault). used_fault_before o false x l) e
+      ∙ ap (λ (c : Bool). used_fault_before o c x (used_faults h last rest)) eb
+      ∙ ap (λ (p : Option ℕ). used_fault_before p (has_id last x) x (used_faults h last rest)) eo
+
+-- an identifier that no release holds is no fault
+pub used-unheld : (h : List Entry) (last : List (List ℕ)) (id : List ℕ) (rest : List (List ℕ)) (span : Option Span)
+    → span ≡ span_of h id → is_some span ≡ false → used_faults h last (id ∷ rest) ≡ used_faults h last rest
+used-unheld h last id rest None e none = ap (λ (o : Option ℕ). used_fault_before o (has_id last id) id (used_faults h last rest)) (sym (unlive-none h id (sym e)))
+used-unheld h last id rest (Some s) e none = absurd cc
+
+-- a list with the same members has no fault either
+pub used-alike : (h : List Entry) (last a b : List (List ℕ)) → ((q : List ℕ) → has_id a q ≡ has_id b q) → used_faults h last a ≡ [] → used_faults h last b ≡ []
+used-alike h last a b alike none = clean-used h last b (λ id i hi is. used-clean h last a none id i hi (alike id ∙ is))
+
+-- identifiers that no release holds are among those that the last one lacks
+pub unheld-lacking : (h : List Entry) (ids : List (List ℕ)) → filter (λ id. not (is_some (span_of h id)))
+    (filter (λ id. not (has_id (last_live h) id)) ids) ≡ filter (λ id. not (is_some (span_of h id))) ids
+unheld-lacking h [] = refl
+unheld-lacking h (x ∷ xs) = by (filter (λ id. not (has_id (last_live h) id)) xs) (has_id (last_live h) x) refl (is_some (span_of h x)) refl (unheld-lacking h xs) where
+  unheld : List (List ℕ) → List (List ℕ)
+  unheld ids = filter (λ id. not (is_some (span_of h id))) ids
+
+  has-span : has_id (last_live h) x ≡ true → is_some (span_of h x) ≡ true
+  has-span was = seen (span_of h x) refl where
+    seen : (o : Option Span) → o ≡ span_of h x → is_some o ≡ true
+    seen None e = absurd (let p = last-some h x was in let n = none-held h x (sym e) p.0 in let y = p.2 in cc)
+    seen (Some s) e = refl
+
+  by : (rest : List (List ℕ)) (b : Bool) → b ≡ has_id (last_live h) x → (s : Bool) → s ≡ is_some (span_of h x)
+      → unheld rest ≡ unheld xs → unheld (cond (not b) (x ∷ rest) rest) ≡ cond (not s) (x ∷ unheld xs) (unheld xs)
+  by rest true eb true es e = e
+  by rest true eb false es e = absurd (let t = has-span (sym eb) in cc)
+  by rest false eb s es e = ap (λ (t : Bool). cond (not t) (x ∷ unheld rest) (unheld rest)) (sym es) ∙ ap (λ (l : List (List ℕ)). cond (not s) (x ∷ l) l) e

@@ -1,0 +1,107 @@
+-- A sweep finds every near pair: the two triangles have entries in the lowest strip that both meet, and there they are
+-- joined.
+use Rattle.std.proofs.Common.{◌≡◌, ℕ, ◌*◌, ◌/◌, ◌<◌, ◌≤◌, Bool, true, false, ◌||◌, nat_eq, List, Some, ◌⊎◌, inl, inr, refl, ap, sym, ◌∙◌, subst, arith}
+use Rattle.std.specs.List.{Contains, slice_get}
+use Rattle.std.specs.List.Sorted.{IsPermutation}
+use Rattle.std.proofs.Math.Nat.{div-mul-le_self}
+use Rattle.std.proofs.lemmas.Nat.{le-div}
+use Rattle.std.proofs.lemmas.Bool.Decides.{nat_tests}
+use Rattle.std.proofs.lemmas.List.Sorted.{Contains-permutation}
+use Rattle.std.proofs.lemmas.List.Elements.{All-contains}
+use Rattle.std.proofs.lemmas.Option.{same_Some, slice_get-get_or, slice_get_within, get_or_from_slice_get}
+use Rattle.lpis_points.specs.declared.triangle.Triangle.{Triangle}
+use Rattle.lpis_pairs.specs.declared.entries.Event.{Event}
+use Rattle.lpis_pairs.specs.private.Strips.{span_of}
+use Rattle.lpis_pairs.specs.NearPairs.{IsNear, IsNearList}
+use Rattle.lpis_pairs.specs.private.Entering.{AreNear, HasEntries, IsRising, Joins, entry}
+use Rattle.lpis_pairs.proofs.SpanLemmas.{Meet, meet, upright}
+
+-- a higher place is in no lower strip
+strips_rise : (height x y : ℕ) → 0 < height → x ≤ y → x / height ≤ y / height
+strips_rise height x y h l = le-div (x / height) y height h (along (div-mul-le_self x height))
+  where
+    along : x / height * height ≤ x → x / height * height ≤ y
+    along k = omega arith
+
+stands : (es : List Event) (e : Event) → Contains es e → (k : ℕ) × (slice_get es k ≡ Some e)
+stands es e c = (c.0, slice_get-get_or es c.0 e c.1 ∙ ap (λ (x : Event). Some x) c.2)
+
+swapped : (a b : Bool) → (a || b) ≡ true → (b || a) ≡ true
+swapped true true e = refl
+swapped true false e = refl
+swapped false true e = refl
+swapped false false e = absurd (cc)
+
+order : (k m : ℕ) → (k < m) ⊎ ((m < k) ⊎ (k ≡ m))
+order k m = grind arith
+
+at_strip : (ts : List Triangle) (height : ℕ) (before es : List Event) (ps : List (ℕ × ℕ)) → HasEntries ts height before
+    → IsPermutation before es → ((k m : ℕ) → k < m → Joins ts es ps k m) → (i j : ℕ) (n : IsNear ts i j) (s : ℕ)
+    → (span_of n.t).bottom / height ≤ s → s ≤ (span_of n.t).top / height → (span_of n.u).bottom / height ≤ s
+    → s ≤ (span_of n.u).top / height
+    → (nat_eq s ((span_of n.t).bottom / height) || nat_eq s ((span_of n.u).bottom / height)) ≡ true → Contains ps (i, j)
+at_strip ts height before es ps has moved join i j n s p q v w o = by_case (order x.0 y.0)
+  where
+    m : Meet n.t n.u
+    m = meet n.t n.u n.near
+
+    x : (k : ℕ) × (slice_get es k ≡ Some (entry height n.t i s))
+    x = stands es (entry height n.t i s) (Contains-permutation before es (entry height n.t i s) moved (has.all i s n.t n.at_i p q))
+
+    y : (k : ℕ) × (slice_get es k ≡ Some (entry height n.u j s))
+    y = stands es (entry height n.u j s) (Contains-permutation before es (entry height n.u j s) moved (has.all j s n.u n.at_j v w))
+
+    two : (k l : ℕ) → k ≡ l → k < l → ⊥
+    two k l e r = omega arith
+
+    by_case : (x.0 < y.0) ⊎ ((y.0 < x.0) ⊎ (x.0 ≡ y.0)) → Contains ps (i, j)
+    by_case (inl l) = (join x.0 y.0 l (entry height n.t i s) (entry height n.u j s) x.1 y.1 refl m.right o).0 n
+    by_case (inr (inl l)) = (join y.0 x.0 l (entry height n.u j s) (entry height n.t i s) y.1 x.1 refl m.left
+        (swapped (nat_eq s ((span_of n.t).bottom / height)) (nat_eq s ((span_of n.u).bottom / height)) o)).1 n
+    by_case (inr (inr e)) =
+        let g : slice_get es y.0 ≡ Some (entry height n.t i s) = subst (λ (k : ℕ). slice_get es k ≡ Some (entry height n.t i s)) e x.1 in
+        let f : Some (entry height n.t i s) ≡ Some (entry height n.u j s) = sym g ∙ y.1 in
+        let same : i ≡ j = ap (λ (v : Event). v.index) (same_Some (entry height n.t i s) (entry height n.u j s) f) in
+        absurd (two i j same n.rising)
+
+itself : (a b : ℕ) → (nat_eq b a || nat_eq b b) ≡ true
+itself a b = grind (arith, nat_tests)
+
+itself_first : (a b : ℕ) → (nat_eq a a || nat_eq a b) ≡ true
+itself_first a b = grind (arith, nat_tests)
+
+pub finds : (ts : List Triangle) (height : ℕ) (before es : List Event) (ps : List (ℕ × ℕ)) → 0 < height
+    → HasEntries ts height before → IsPermutation before es → ((k m : ℕ) → k < m → Joins ts es ps k m) → (i j : ℕ)
+    → IsNear ts i j → Contains ps (i, j)
+finds ts height before es ps h has moved join i j n = by_case (split ((span_of n.t).bottom / height) ((span_of n.u).bottom / height))
+  where
+    split : (x y : ℕ) → (x ≤ y) ⊎ (y ≤ x)
+    split x y = grind arith
+
+    upto : (x y : ℕ) → x < y → x ≤ y
+    upto x y l = omega arith
+
+    equal : (x : ℕ) → x ≤ x
+    equal x = omega arith
+
+    by_case : ((span_of n.t).bottom / height ≤ (span_of n.u).bottom / height) ⊎ ((span_of n.u).bottom / height ≤ (span_of n.t).bottom / height) → Contains ps (i, j)
+    by_case (inl l) = at_strip ts height before es ps has moved join i j n ((span_of n.u).bottom / height) l
+        (strips_rise height (span_of n.u).bottom (span_of n.t).top h
+        (upto (span_of n.u).bottom (span_of n.t).top (meet n.t n.u n.near).top)) (equal ((span_of n.u).bottom / height))
+        (strips_rise height (span_of n.u).bottom (span_of n.u).top h (upright n.u))
+        (itself ((span_of n.t).bottom / height) ((span_of n.u).bottom / height))
+    by_case (inr l) = at_strip ts height before es ps has moved join i j n ((span_of n.t).bottom / height)
+        (equal ((span_of n.t).bottom / height)) (strips_rise height (span_of n.t).bottom (span_of n.t).top h
+        (upright n.t)) l (strips_rise height (span_of n.t).bottom (span_of n.u).top h
+        (upto (span_of n.t).bottom (span_of n.u).top (meet n.t n.u n.near).bottom))
+        (itself_first ((span_of n.t).bottom / height) ((span_of n.u).bottom / height))
+
+-- the whole list, in order
+pub near_list : (ts : List Triangle) (ps qs : List (ℕ × ℕ)) → AreNear ts ps
+    → ((i j : ℕ) → IsNear ts i j → Contains ps (i, j)) → IsRising qs
+    → ((p : ℕ × ℕ) → (Contains qs p → Contains ps p) × (Contains ps p → Contains qs p)) → IsNearList ts qs
+near_list ts ps qs near all rising same = record {
+  ascending = rising;
+  near = λ k p f. All-contains (λ (q : ℕ × ℕ). IsNear ts q.0 q.1) ps p near ((same p).0 (k, slice_get_within qs k p f, get_or_from_slice_get qs k p p f));
+  all = λ i j n. let c = (same (i, j)).1 (all i j n) in (c.0, slice_get-get_or qs c.0 (i, j) c.1 ∙ ap (λ (p : ℕ × ℕ). Some p) c.2);
+}

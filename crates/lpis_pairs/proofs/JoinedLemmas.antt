@@ -1,0 +1,156 @@
+-- The pairs that a sweep has joined so far.
+use Rattle.std.proofs.Common.{◌≡◌, ℕ, ◌+◌, ◌<◌, ◌≤◌, true, ◌||◌, List, [], length, Some, ◌⊎◌, inl, inr, ap, sym, ◌∙◌, subst, arith}
+use Rattle.std.specs.List.{Contains, slice_get}
+use Rattle.std.proofs.lemmas.List.Elements.{All-nil}
+use Rattle.std.proofs.lemmas.Option.{slice_get_within}
+use Rattle.lpis_points.specs.declared.triangle.Triangle.{Triangle}
+use Rattle.lpis_pairs.specs.declared.entries.Event.{Event}
+use Rattle.lpis_pairs.specs.NearPairs.{IsNear}
+use Rattle.lpis_pairs.specs.private.Entering.{AreInOrder, AreNear, Joins}
+
+-- each pair of the first list is in the second
+abbrev pub Keeps : List (ℕ × ℕ) → List (ℕ × ℕ) → Type 0
+Keeps ps qs = (p : ℕ × ℕ) → Contains ps p → Contains qs p
+
+-- what stands behind the entry `at` and before m is joined with it
+pub record JoinsUpTo (ts : List Triangle) (es : List Event) (old new : List (ℕ × ℕ)) (at m : ℕ) : Type 0 where
+  pub kept : Keeps old new
+  pub near : AreNear ts old → AreNear ts new
+  pub found : (k : ℕ) → at < k → k < m → Joins ts es new at k
+
+joins_kept : (ts : List Triangle) (es : List Event) (ps qs : List (ℕ × ℕ)) (k m : ℕ) → Keeps ps qs → Joins ts es ps k m → Joins ts es qs k m
+joins_kept ts es ps qs k m h j = λ e f g i s l o. let r = j e f g i s l o in (λ n. h _ (r.0 n), λ n. h _ (r.1 n))
+
+pub nothing_joined : (ts : List Triangle) (es : List Event) (ps : List (ℕ × ℕ)) (at : ℕ) → JoinsUpTo ts es ps ps at (at + 1)
+nothing_joined ts es ps at = record {
+  kept = λ p h. h;
+  near = λ h. h;
+  found = λ k l m. absurd (none k l m);
+}
+  where
+    none : (k : ℕ) → at < k → k < at + 1 → ⊥
+    none k l m = omega arith
+
+-- the entry m is joined, where it has to be
+pub joined_next : (ts : List Triangle) (es : List Event) (old ps qs : List (ℕ × ℕ)) (at m : ℕ)
+    → JoinsUpTo ts es old ps at m → Keeps ps qs → (AreNear ts ps → AreNear ts qs) → Joins ts es qs at m
+    → JoinsUpTo ts es old qs at (m + 1)
+joined_next ts es old ps qs at m h k n j = record {
+  kept = λ p c. k p (h.kept p c);
+  near = λ a. n (h.near a);
+  found = λ i l r. by_case i l (split i r);
+}
+  where
+    split : (i : ℕ) → i < m + 1 → (i < m) ⊎ (i ≡ m)
+    split i r = grind arith
+
+    by_case : (i : ℕ) → at < i → (i < m) ⊎ (i ≡ m) → Joins ts es qs at i
+    by_case i l (inl r) = joins_kept ts es ps qs at i k (h.found i l r)
+    by_case i l (inr e) = subst (λ (v : ℕ). Joins ts es qs at v) (sym e) j
+
+-- the two entries, as the code reads them
+pub joins_read : (ts : List Triangle) (es : List Event) (qs : List (ℕ × ℕ)) (at m : ℕ) (e f : Event)
+    → slice_get es at ≡ Some e → slice_get es m ≡ Some f
+    → (e.strip ≡ f.strip → f.left < e.right → (e.starts || f.starts) ≡ true
+    → (IsNear ts e.index f.index → Contains qs (e.index, f.index))
+    × (IsNear ts f.index e.index → Contains qs (f.index, e.index))) → Joins ts es qs at m
+joins_read ts es qs at m e f g h j = λ e' f' g' h'.
+    let a : Some e ≡ Some e' = sym g ∙ g' in
+    let b : Some f ≡ Some f' = sym h ∙ h' in
+    let p : e ≡ e' = cc in
+    let q : f ≡ f' = cc in
+    subst (λ (x : Event). x.strip ≡ f'.strip → f'.left < x.right → (x.starts || f'.starts) ≡ true
+    → (IsNear ts x.index f'.index → Contains qs (x.index, f'.index))
+    × (IsNear ts f'.index x.index → Contains qs (f'.index, x.index))) p
+    (subst (λ (y : Event). e.strip ≡ y.strip → y.left < e.right → (e.starts || y.starts) ≡ true
+    → (IsNear ts e.index y.index → Contains qs (e.index, y.index))
+    × (IsNear ts y.index e.index → Contains qs (y.index, e.index))) q j)
+
+not_met : (e f e' f' : Event) → (e.strip ≡ f.strip → f.left < e.right → ⊥) → (e.strip < f.strip)
+    ⊎ ((e.strip ≡ f.strip) × (e.left ≤ f.left)) → (f.strip < f'.strip) ⊎ ((f.strip ≡ f'.strip) × (f.left ≤ f'.left))
+    → e ≡ e' → e'.strip ≡ f'.strip → f'.left < e'.right → ⊥
+not_met e f e' f' stop l m o s r =
+    let p : e.strip ≡ e'.strip = ap (λ (x : Event). x.strip) o in
+    let q : e.right ≡ e'.right = ap (λ (x : Event). x.right) o in
+    stop (one e.strip f.strip e.left f.left f'.strip f'.left e'.strip l m p s) (two e.strip f.strip e.left f.left f'.strip f'.left e'.strip e.right e'.right l m p q s r)
+  where
+    one : (s t a b s' b' u : ℕ) → (s < t) ⊎ ((s ≡ t) × (a ≤ b)) → (t < s') ⊎ ((t ≡ s') × (b ≤ b')) → s ≡ u → u ≡ s' → s ≡ t
+    one s t a b s' b' u l m p e = grind arith
+
+    two : (s t a b s' b' u v w : ℕ) → (s < t) ⊎ ((s ≡ t) × (a ≤ b)) → (t < s') ⊎ ((t ≡ s') × (b ≤ b')) → s ≡ u → v ≡ w → u ≡ s' → b' < w → b < v
+    two s t a b s' b' u v w l m p q e r = grind arith
+
+-- where the entry m is in another strip, or begins where the entry `at` has ended, so does each behind it
+pub none_behind : (ts : List Triangle) (es : List Event) (qs : List (ℕ × ℕ)) (at m k : ℕ) (e f : Event) → AreInOrder es
+    → at < m → m ≤ k → slice_get es at ≡ Some e → slice_get es m ≡ Some f → (e.strip ≡ f.strip → f.left < e.right → ⊥)
+    → Joins ts es qs at k
+none_behind ts es qs at m k e f order l r g h stop = λ e' f' g' h' i j o. absurd (by_case e' f' g' h' i j (split r))
+  where
+    split : m ≤ k → (m < k) ⊎ (k ≡ m)
+    split r = grind arith
+
+    by_case : (e' f' : Event) → slice_get es at ≡ Some e' → slice_get es k ≡ Some f' → e'.strip ≡ f'.strip → f'.left < e'.right → (m < k) ⊎ (k ≡ m) → ⊥
+    by_case e' f' g' h' i j (inl s) =
+        let a : Some e ≡ Some e' = sym g ∙ g' in
+        let same : e ≡ e' = cc in
+        not_met e f e' f' stop (order at m e f l g h) (order m k f f' s h h') same i j
+    by_case e' f' g' h' i j (inr s) =
+        let a : Some e ≡ Some e' = sym g ∙ g' in
+        let p : e ≡ e' = cc in
+        let b : Some f ≡ Some f' = sym h ∙ (subst (λ (v : ℕ). slice_get es v ≡ Some f') s h') in
+        let q : f ≡ f' = cc in
+        stop (ap (λ (x : Event). x.strip) p ∙ i ∙ sym (ap (λ (x : Event). x.strip) q))
+        (subst (λ (v : ℕ). v < e.right) (sym (ap (λ (x : Event). x.left) q))
+        (subst (λ (v : ℕ). f'.left < v) (sym (ap (λ (x : Event). x.right) p)) j))
+
+-- the walk ends at m, as nothing behind is met
+pub found_all : (ts : List Triangle) (es : List Event) (old qs : List (ℕ × ℕ)) (at m : ℕ) (e f : Event) → AreInOrder es
+    → at < m → slice_get es at ≡ Some e → slice_get es m ≡ Some f → (e.strip ≡ f.strip → f.left < e.right → ⊥)
+    → JoinsUpTo ts es old qs at m → (k : ℕ) → at < k → Joins ts es qs at k
+found_all ts es old qs at m e f order l g h stop j k r = by_case (split k)
+  where
+    split : (i : ℕ) → (i < m) ⊎ (m ≤ i)
+    split i = grind arith
+
+    by_case : (k < m) ⊎ (m ≤ k) → Joins ts es qs at k
+    by_case (inl s) = j.found k r s
+    by_case (inr s) = none_behind ts es qs at m k e f order l s g h stop
+
+-- the walk ends at the end
+pub found_to_end : (ts : List Triangle) (es : List Event) (old qs : List (ℕ × ℕ)) (at m : ℕ) → length es ≤ m → JoinsUpTo ts es old qs at m → (k : ℕ) → at < k → Joins ts es qs at k
+found_to_end ts es old qs at m l j k r = λ e f g h. j.found k r (under (slice_get_within es k f h)) e f g h
+  where
+    under : k < length es → k < m
+    under s = omega arith
+
+-- the entries below n are joined with those behind them
+pub record JoinsBelow (ts : List Triangle) (es : List Event) (ps : List (ℕ × ℕ)) (n : ℕ) : Type 0 where
+  pub near : AreNear ts ps
+  pub found : (k m : ℕ) → k < n → k < m → Joins ts es ps k m
+
+pub joins_none : (ts : List Triangle) (es : List Event) (ps : List (ℕ × ℕ)) → ps ≡ [] → JoinsBelow ts es ps 0
+joins_none ts es ps e = record {
+  near = subst (λ (qs : List (ℕ × ℕ)). AreNear ts qs) (sym e) (All-nil (λ (p : ℕ × ℕ). IsNear ts p.0 p.1));
+  found = λ k m l. absurd (omega arith);
+}
+
+pub joins_one_more : (ts : List Triangle) (es : List Event) (ps qs : List (ℕ × ℕ)) (n : ℕ) → JoinsBelow ts es ps n
+    → Keeps ps qs → (AreNear ts ps → AreNear ts qs) → ((m : ℕ) → n < m → Joins ts es qs n m)
+    → JoinsBelow ts es qs (n + 1)
+joins_one_more ts es ps qs n h k a j = record {
+  near = a h.near;
+  found = λ i m l r. by_case i m r (split i l);
+}
+  where
+    split : (i : ℕ) → i < n + 1 → (i < n) ⊎ (i ≡ n)
+    split i l = grind arith
+
+    by_case : (i m : ℕ) → i < m → (i < n) ⊎ (i ≡ n) → Joins ts es qs i m
+    by_case i m r (inl l) = joins_kept ts es ps qs i m k (h.found i m l r)
+    by_case i m r (inr e) = subst (λ (v : ℕ). Joins ts es qs v m) (sym e) (j m (subst (λ (v : ℕ). v < m) e r))
+
+pub joins_all : (ts : List Triangle) (es : List Event) (ps : List (ℕ × ℕ)) (n : ℕ) → length es ≤ n → JoinsBelow ts es ps n → (k m : ℕ) → k < m → Joins ts es ps k m
+joins_all ts es ps n l h k m r = λ e f g i. h.found k m (under (slice_get_within es k e g)) r e f g i
+  where
+    under : k < length es → k < n
+    under s = omega arith

@@ -1,0 +1,124 @@
+-- The near pairs that stand before (i, j), as a list: what the two nested loops have found when they come to (i, j).
+use Rattle.std.proofs.Common.{◌≡◌, ℕ, ◌+◌, ◌<◌, ◌≤◌, List, [], ◌∷◌, ◌++◌, length, Option, Some, ◌⊎◌, inl, inr, refl, sym, ◌∙◌, subst, arith}
+use Rattle.std.specs.List.{slice_get}
+use Rattle.std.proofs.lemmas.Option.{slice_get_within}
+use Rattle.lpis_points.specs.declared.triangle.Triangle.{Triangle}
+use Rattle.lpis_pairs.specs.NearPairs.{IsNear, IsBelow, IsNearList}
+use Rattle.lpis_pairs.proofs.PusheLemmas.{push_cases, push_old, push_new}
+
+pub record NearUpTo (ts : List Triangle) (ps : List (ℕ × ℕ)) (i j : ℕ) : Type 0 where
+  pub ascending : (k m : ℕ) (p q : ℕ × ℕ) → k < m → slice_get ps k ≡ Some p → slice_get ps m ≡ Some q → IsBelow p.0 p.1 q.0 q.1
+  pub near : (k : ℕ) (p : ℕ × ℕ) → slice_get ps k ≡ Some p → IsNear ts p.0 p.1
+  pub before : (k : ℕ) (p : ℕ × ℕ) → slice_get ps k ≡ Some p → IsBelow p.0 p.1 i j
+  pub all : (a b : ℕ) → IsNear ts a b → IsBelow a b i j → (k : ℕ) × (slice_get ps k ≡ Some (a, b))
+
+nothing : (P : Type 0) (k : ℕ) (p : ℕ × ℕ) → slice_get [] k ≡ Some p → P
+nothing P k p e = absurd (cc)
+
+none_before : (a b : ℕ) → IsBelow a b 0 0 → ⊥
+none_before a b h = omega arith
+
+pub start : (ts : List Triangle) (ps : List (ℕ × ℕ)) → ps ≡ [] → NearUpTo ts ps 0 0
+start ts ps e = subst (λ (qs : List (ℕ × ℕ)). NearUpTo ts qs 0 0) (sym e) (record {
+  ascending = λ k m p q h f g. nothing _ k p f;
+  near = λ k p f. nothing _ k p f;
+  before = λ k p f. nothing _ k p f;
+  all = λ a b n h. absurd (none_before a b h);
+})
+
+-- no pair stands between (i, 0) and (i, i + 1)
+pub begin_row : (ts : List Triangle) (ps : List (ℕ × ℕ)) (i : ℕ) → NearUpTo ts ps i 0 → NearUpTo ts ps i (i + 1)
+begin_row ts ps i h = record {
+  ascending = h.ascending;
+  near = h.near;
+  before = λ k p f. later p.0 p.1 (h.before k p f);
+  all = λ a b n l. h.all a b n (sooner a b n.rising l);
+}
+  where
+    later : (a b : ℕ) → IsBelow a b i 0 → IsBelow a b i (i + 1)
+    later a b l = grind arith
+
+    sooner : (a b : ℕ) → a < b → IsBelow a b i (i + 1) → IsBelow a b i 0
+    sooner a b r l = grind arith
+
+pub passed_by : (ts : List Triangle) (ps : List (ℕ × ℕ)) (i j : ℕ) → NearUpTo ts ps i j → (IsNear ts i j → ⊥) → NearUpTo ts ps i (j + 1)
+passed_by ts ps i j h not = record {
+  ascending = h.ascending;
+  near = h.near;
+  before = λ k p f. later p.0 p.1 (h.before k p f);
+  all = λ a b n l. elim (last a b l) [ inl s ↦ h.all a b n s | inr e ↦ absurd (not (at a b e.0 e.1 n)) ];
+}
+  where
+    later : (a b : ℕ) → IsBelow a b i j → IsBelow a b i (j + 1)
+    later a b l = grind arith
+
+    last : (a b : ℕ) → IsBelow a b i (j + 1) → IsBelow a b i j ⊎ ((a ≡ i) × (b ≡ j))
+    last a b l = grind arith
+
+    at : (a b : ℕ) → a ≡ i → b ≡ j → IsNear ts a b → IsNear ts i j
+    at a b e f n = subst (λ (v : ℕ). IsNear ts v j) e (subst (λ (v : ℕ). IsNear ts a v) f n)
+
+pub pushed : (ts : List Triangle) (ps : List (ℕ × ℕ)) (i j : ℕ) → NearUpTo ts ps i j → IsNear ts i j → NearUpTo ts (ps ++ (i, j) ∷ []) i (j + 1)
+pushed ts ps i j h n = record {
+  ascending = λ k m p q l f g. rises k m p q l (push_cases ps (i, j) p k f) (push_cases ps (i, j) q m g);
+  near = λ k p f. elim (push_cases ps (i, j) p k f) [
+    | inl s ↦ h.near k p s
+    | inr e ↦ subst (λ (v : ℕ × ℕ). IsNear ts v.0 v.1) e.1 n
+  ];
+  before = λ k p f. elim (push_cases ps (i, j) p k f) [
+    | inl s ↦ later p.0 p.1 (h.before k p s)
+    | inr e ↦ subst (λ (v : ℕ × ℕ). IsBelow v.0 v.1 i (j + 1)) e.1 (here i j)
+  ];
+  all = λ a b m l. elim (last a b l) [
+    | inl s ↦ let w = h.all a b m s in (w.0, push_old ps (i, j) (a, b) w.0 w.1)
+    | inr e ↦ (length ps, push_new ps (i, j) ∙ pair a b e.0 e.1)
+  ];
+}
+  where
+    later : (a b : ℕ) → IsBelow a b i j → IsBelow a b i (j + 1)
+    later a b l = grind arith
+
+    here : (a b : ℕ) → IsBelow a b a (b + 1)
+    here a b = inr (refl, omega arith)
+
+    last : (a b : ℕ) → IsBelow a b i (j + 1) → IsBelow a b i j ⊎ ((a ≡ i) × (b ≡ j))
+    last a b l = grind arith
+
+    pair : (a b : ℕ) → a ≡ i → b ≡ j → ◌≡◌ {A = Option (ℕ × ℕ)} (Some (i, j)) (Some (a, b))
+    pair a b e f = cc
+
+    over : (k m : ℕ) → k < m → k ≡ length ps → m < length ps → ⊥
+    over k m l e f = omega arith
+
+    both : (k m : ℕ) → k < m → k ≡ length ps → m ≡ length ps → ⊥
+    both k m l e f = omega arith
+
+    rises : (k m : ℕ) (p q : ℕ × ℕ) → k < m → (slice_get ps k ≡ Some p) ⊎ ((k ≡ length ps) × ((i, j) ≡ p)) → (slice_get ps m ≡ Some q) ⊎ ((m ≡ length ps) × ((i, j) ≡ q)) → IsBelow p.0 p.1 q.0 q.1
+    rises k m p q l (inl f) (inl g) = h.ascending k m p q l f g
+    rises k m p q l (inl f) (inr g) = subst (λ (v : ℕ × ℕ). IsBelow p.0 p.1 v.0 v.1) g.1 (h.before k p f)
+    rises k m p q l (inr f) (inl g) = absurd (over k m l f.0 (slice_get_within ps m q g))
+    rises k m p q l (inr f) (inr g) = absurd (both k m l f.0 g.0)
+
+pub end_row : (ts : List Triangle) (ps : List (ℕ × ℕ)) (i j : ℕ) → length ts ≤ j → NearUpTo ts ps i j → NearUpTo ts ps (i + 1) 0
+end_row ts ps i j e h = record {
+  ascending = h.ascending;
+  near = h.near;
+  before = λ k p f. later p.0 p.1 (h.before k p f);
+  all = λ a b n l. h.all a b n (sooner a b (slice_get_within ts b n.u n.at_j) l);
+}
+  where
+    later : (a b : ℕ) → IsBelow a b i j → IsBelow a b (i + 1) 0
+    later a b l = grind arith
+
+    sooner : (a b : ℕ) → b < length ts → IsBelow a b (i + 1) 0 → IsBelow a b i j
+    sooner a b s l = grind arith
+
+pub whole : (ts : List Triangle) (ps : List (ℕ × ℕ)) (i : ℕ) → length ts ≤ i → NearUpTo ts ps i 0 → IsNearList ts ps
+whole ts ps i e h = record {
+  ascending = h.ascending;
+  near = h.near;
+  all = λ a b n. h.all a b n (inl (under a b n.rising (slice_get_within ts b n.u n.at_j)));
+}
+  where
+    under : (a b : ℕ) → a < b → b < length ts → a < i
+    under a b r s = omega arith

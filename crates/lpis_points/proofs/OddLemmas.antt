@@ -1,0 +1,67 @@
+-- The crossing by a point and the shoelace term change sign with the edge.
+use Rattle.std.proofs.Common.{◌≤◌, negsuc, nat_abs, ◌⊎◌, inl, inr, ◌≡◌, ℤ, pos, ◌-ℤ◌, ◌*ℤ◌, neg_ℤ, [], ◌∷◌, ap, sym, ◌∙◌, arith, refl}
+use Rattle.std.proofs.lemmas.Int.{ints, by_lt_z}
+use Rattle.lpis_points.specs.declared.point.Point.{Point}
+use Rattle.lpis_points.specs.Plane.{RationalPoint, orient_at, crossing, crossing_of, shoelace_term}
+use Rattle.lpis_points.specs.Chain.{IsOdd}
+use Rattle.lpis_points.proofs.IntRingLemmas.{var, con, ◌⊖◌, ◌⊗◌, ring}
+use Rattle.lpis_points.proofs.CrossingLemmas.{up_left, up_not_left, down_right, down_not_right, both_below, both_above}
+
+less : (x : ℤ) → pos 0 -ℤ x ≡ neg_ℤ x
+less x = omega (arith, ints)
+
+orient_at-reversed : (a b : Point) (p : RationalPoint) → orient_at b a p ≡ neg_ℤ (orient_at a b p)
+unfolding orient_at
+orient_at-reversed a b p =
+    ring (a.x ∷ (a.y ∷ (b.x ∷ (b.y ∷ (p.x ∷ (p.y ∷ (p.d ∷ [])))))))
+    ((var 0 ⊖ var 2) ⊗ (var 5 ⊖ var 3 ⊗ var 6) ⊖ (var 1 ⊖ var 3) ⊗ (var 4 ⊖ var 2 ⊗ var 6))
+    (con (pos 0) ⊖ ((var 2 ⊖ var 0) ⊗ (var 5 ⊖ var 1 ⊗ var 6) ⊖ (var 3 ⊖ var 1) ⊗ (var 4 ⊖ var 0 ⊗ var 6))) tt
+    ∙ less (orient_at a b p)
+
+crossing_of-reversed : (s t y o : ℤ) → crossing_of t s y (neg_ℤ o) ≡ neg_ℤ (crossing_of s t y o)
+crossing_of-reversed s t y o = by_lt_z y s
+    (λ hs. by_lt_z y t
+    (λ ht. both_above t s y (neg_ℤ o) ht hs ∙ ap neg_ℤ (sym (both_above s t y o hs ht)))
+    (λ ht. by_lt_z o (pos 0)
+    (λ l. up_left t s y (neg_ℤ o) ht hs (omega (arith, ints)) ∙ ap neg_ℤ (sym (down_right s t y o hs ht l)))
+    (λ l. up_not_left t s y (neg_ℤ o) ht hs (omega (arith, ints)) ∙ ap neg_ℤ (sym (down_not_right s t y o hs ht l)))))
+    (λ hs. by_lt_z y t
+    (λ ht. by_lt_z (pos 0) o
+    (λ l. down_right t s y (neg_ℤ o) ht hs (omega (arith, ints)) ∙ ap neg_ℤ (sym (up_left s t y o hs ht l)))
+    (λ l. down_not_right t s y (neg_ℤ o) ht hs (omega (arith, ints)) ∙ ap neg_ℤ (sym (up_not_left s t y o hs ht l))))
+    (λ ht. both_below t s y (neg_ℤ o) ht hs ∙ ap neg_ℤ (sym (both_below s t y o hs ht))))
+
+crossing_of_loop : (s y o : ℤ) → crossing_of s s y o ≡ pos 0
+crossing_of_loop s y o = by_lt_z y s (λ h. both_above s s y o h h) (λ h. both_below s s y o h h)
+
+pub crossing-odd : (p : RationalPoint) → IsOdd (λ a b. crossing a b p)
+unfolding crossing
+crossing-odd p = record {
+  reversed = λ a b. ap (λ (z : ℤ). crossing_of (b.y *ℤ p.d) (a.y *ℤ p.d) p.y z) (orient_at-reversed a b p) ∙ crossing_of-reversed (a.y *ℤ p.d) (b.y *ℤ p.d) p.y (orient_at a b p);
+  loop = λ a. crossing_of_loop (a.y *ℤ p.d) p.y (orient_at a a p);
+}
+
+pub shoelace_term-odd : IsOdd shoelace_term
+shoelace_term-odd = record { reversed = λ a b. turned (a.x *ℤ b.y) (b.x *ℤ a.y); loop = λ a. self (a.x *ℤ a.y) }
+  where
+    turned : (x y : ℤ) → y -ℤ x ≡ neg_ℤ (x -ℤ y)
+    turned x y = omega (arith, ints)
+
+    self : (x : ℤ) → x -ℤ x ≡ pos 0
+    self x = omega (arith, ints)
+
+crossing_of-cases : (s t y o : ℤ) → (crossing_of s t y o ≡ pos 0) ⊎ ((crossing_of s t y o ≡ pos 1) ⊎ (crossing_of s t y o ≡ negsuc 0))
+crossing_of-cases s t y o = grind (arith, ints)
+
+-- a crossing is 0, 1 or -1
+pub crossing-cases : (a b : Point) (p : RationalPoint) → (crossing a b p ≡ pos 0) ⊎ ((crossing a b p ≡ pos 1) ⊎ (crossing a b p ≡ negsuc 0))
+unfolding crossing
+crossing-cases a b p = crossing_of-cases (a.y *ℤ p.d) (b.y *ℤ p.d) p.y (orient_at a b p)
+
+pub crossing-small : (a b : Point) (p : RationalPoint) → nat_abs (crossing a b p) ≤ 1
+crossing-small a b p = by (crossing a b p) (crossing-cases a b p)
+  where
+    by : (c : ℤ) → (c ≡ pos 0) ⊎ ((c ≡ pos 1) ⊎ (c ≡ negsuc 0)) → nat_abs c ≤ 1
+    by c (inl e) = omega (arith, ints)
+    by c (inr (inl e)) = omega (arith, ints)
+    by c (inr (inr e)) = omega (arith, ints)

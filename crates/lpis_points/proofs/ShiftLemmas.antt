@@ -1,0 +1,136 @@
+-- The shift law: a point close to p that lies on no line through two points in range, and that each edge passes as it
+-- passes p.
+use Rattle.std.proofs.Common.{◌≡◌, ◌≢◌, ℤ, pos, neg_ℤ, ◌+ℤ◌, ◌-ℤ◌, ◌*ℤ◌, ◌≤ℤ◌, ◌<ℤ◌, [], ◌∷◌, ap, sym, ◌∙◌, arith}
+use Rattle.std.proofs.lemmas.Int.{ints, by_lt_z}
+use Rattle.lpis_points.specs.declared.point.Point.{Point}
+use Rattle.lpis_points.specs.Plane.{RationalPoint, orient_at, crossing, crossing_of}
+use Rattle.lpis_points.specs.Shift.{shifted}
+use Rattle.lpis_points.proofs.IntRingLemmas.{var, con, ◌⊕◌, ◌⊖◌, ◌⊗◌, ring}
+use Rattle.lpis_points.proofs.CrossingLemmas.{up_left, down_right, both_below, both_above, up_not_left, down_not_right}
+use Rattle.lpis_points.proofs.SignLemmas.{pos-mul-not_neg, neg-mul-not_neg}
+
+-- a point shifted by any n
+pub shift_any : (ax ay bx by_ x y d n : ℤ) → (bx -ℤ ax) *ℤ ((y *ℤ n *ℤ n +ℤ pos 1) -ℤ ay *ℤ (d *ℤ n *ℤ n)) -ℤ
+    (by_ -ℤ ay) *ℤ ((x *ℤ n *ℤ n +ℤ n) -ℤ ax *ℤ (d *ℤ n *ℤ n)) ≡ n *ℤ n *ℤ
+    ((bx -ℤ ax) *ℤ (y -ℤ ay *ℤ d) -ℤ (by_ -ℤ ay) *ℤ (x -ℤ ax *ℤ d)) -ℤ n *ℤ (by_ -ℤ ay) +ℤ (bx -ℤ ax)
+shift_any ax ay bx by_ x y d n = ring (ax ∷ (ay ∷ (bx ∷ (by_ ∷ (x ∷ (y ∷ (d ∷ (n ∷ []))))))))
+    ((var 2 ⊖ var 0) ⊗ ((var 5 ⊗ var 7 ⊗ var 7 ⊕ con (pos 1)) ⊖ var 1 ⊗ (var 6 ⊗ var 7 ⊗ var 7)) ⊖ (var 3 ⊖ var 1) ⊗ ((var 4 ⊗ var 7 ⊗ var 7 ⊕ var 7) ⊖ var 0 ⊗ (var 6 ⊗ var 7 ⊗ var 7)))
+    (var 7 ⊗ var 7 ⊗ ((var 2 ⊖ var 0) ⊗ (var 5 ⊖ var 1 ⊗ var 6) ⊖ (var 3 ⊖ var 1) ⊗ (var 4 ⊖ var 0 ⊗ var 6)) ⊖ var 7 ⊗ (var 3 ⊖ var 1) ⊕ (var 2 ⊖ var 0)) tt
+
+pub orient_at-shifted : (a b : Point) (p : RationalPoint) → orient_at a b (shifted p) ≡ pos 1000000000000 *ℤ pos 1000000000000 *ℤ orient_at a b p -ℤ pos 1000000000000 *ℤ (b.y -ℤ a.y) +ℤ (b.x -ℤ a.x)
+unfolding orient_at
+orient_at-shifted a b p = shift_any a.x a.y b.x b.y p.x p.y p.d (pos 1000000000000)
+
+-- a number from -40000000000 to 40000000000: a step between coordinates, ten times over
+record IsStep (z : ℤ) : Type 0 where
+  low : neg_ℤ (pos 40000000000) ≤ℤ z
+  high : z ≤ℤ pos 40000000000
+
+step_x : (a b : Point) → IsStep (b.x -ℤ a.x)
+step_x a b = record {
+  low = omega (arith, ints, a.x_in_range.0, a.x_in_range.1, b.x_in_range.0, b.x_in_range.1);
+  high =
+      omega (arith, ints, a.x_in_range.0, a.x_in_range.1, b.x_in_range.0, b.x_in_range.1);
+}
+
+step_y : (a b : Point) → IsStep (b.y -ℤ a.y)
+step_y a b = record {
+  low = omega (arith, ints, a.y_in_range.0, a.y_in_range.1, b.y_in_range.0, b.y_in_range.1);
+  high =
+      omega (arith, ints, a.y_in_range.0, a.y_in_range.1, b.y_in_range.0, b.y_in_range.1);
+}
+
+not_nought : (k dx dy : ℤ) → IsStep dx → IsStep dy → (dx ≡ pos 0 → dy ≡ pos 0 → ⊥) → pos 1000000000000000000000000 *ℤ k -ℤ pos 1000000000000 *ℤ dy +ℤ dx ≡ pos 0 → ⊥
+not_nought k dx dy sx sy n e =
+    let z : dx ≡ pos 0 = omega (arith, ints, sx.low, sx.high, sy.low, sy.high) in
+    let w : dy ≡ pos 0 = omega (arith, ints, sx.low, sx.high, sy.low, sy.high) in
+    n z w
+
+pub shifted_off : (a b : Point) (p : RationalPoint) → (a.x ≡ b.x → a.y ≡ b.y → ⊥) → orient_at a b (shifted p) ≢ pos 0
+shifted_off a b p n e = not_nought (orient_at a b p) (b.x -ℤ a.x) (b.y -ℤ a.y) (step_x a b) (step_y a b)
+    (λ z w. n (same a.x b.x z) (same a.y b.y w))
+    (sym (orient_at-shifted a b p) ∙ e)
+  where
+    same : (u v : ℤ) → v -ℤ u ≡ pos 0 → u ≡ v
+    same u v e = omega (arith, ints)
+
+-- ---- the crossings
+-- the edge from height s to height t rises by dy, times a positive number
+record Rises (s t dy : ℤ) : Type 0 where
+  up : s <ℤ t → pos 0 <ℤ dy
+  down : t <ℤ s → dy <ℤ pos 0
+
+abbrev far : ℤ → ℤ
+far z = pos 1000000000000000000000000 *ℤ z
+
+abbrev side_of : ℤ → ℤ → ℤ → ℤ
+side_of k dx dy = pos 1000000000000000000000000 *ℤ k -ℤ pos 1000000000000 *ℤ dy +ℤ dx
+
+far_le : (s y : ℤ) → s ≤ℤ y → far s ≤ℤ (far y +ℤ pos 1)
+far_le s y h = omega (arith, ints)
+
+far_lt : (s y : ℤ) → y <ℤ s → (far y +ℤ pos 1) <ℤ far s
+far_lt s y h = omega (arith, ints)
+
+side_up_yes : (k dx dy : ℤ) → IsStep dx → IsStep dy → pos 0 <ℤ dy → pos 0 <ℤ k → pos 0 <ℤ side_of k dx dy
+side_up_yes k dx dy sx sy h p = omega (arith, ints, sx.low, sx.high, sy.low, sy.high)
+
+side_up_no : (k dx dy : ℤ) → IsStep dx → IsStep dy → pos 0 <ℤ dy → k ≤ℤ pos 0 → side_of k dx dy ≤ℤ pos 0
+side_up_no k dx dy sx sy h p = omega (arith, ints, sx.low, sx.high, sy.low, sy.high)
+
+side_down_yes : (k dx dy : ℤ) → IsStep dx → IsStep dy → dy <ℤ pos 0 → k <ℤ pos 0 → side_of k dx dy <ℤ pos 0
+side_down_yes k dx dy sx sy h p = omega (arith, ints, sx.low, sx.high, sy.low, sy.high)
+
+side_down_no : (k dx dy : ℤ) → IsStep dx → IsStep dy → dy <ℤ pos 0 → pos 0 ≤ℤ k → pos 0 ≤ℤ side_of k dx dy
+side_down_no k dx dy sx sy h p = omega (arith, ints, sx.low, sx.high, sy.low, sy.high)
+
+same_crossing : (s t y k dx dy : ℤ) → IsStep dx → IsStep dy → Rises s t dy → crossing_of (far s) (far t) (far y +ℤ pos 1) (side_of k dx dy) ≡ crossing_of s t y k
+same_crossing s t y k dx dy sx sy r = by_lt_z y s
+    (λ hs. by_lt_z y t
+    (λ ht. both_above (far s) (far t) (far y +ℤ pos 1) (side_of k dx dy) (far_lt s y hs) (far_lt t y ht) ∙ sym (both_above s t y k hs ht))
+    (λ ht. let n = r.down (falls t y s ht hs) in by_lt_z k (pos 0)
+    (λ l. down_right (far s) (far t) (far y +ℤ pos 1) (side_of k dx dy) (far_lt s y hs) (far_le t y ht) (side_down_yes k dx dy sx sy n l) ∙ sym (down_right s t y k hs ht l))
+    (λ l. down_not_right (far s) (far t) (far y +ℤ pos 1) (side_of k dx dy) (far_lt s y hs) (far_le t y ht) (side_down_no k dx dy sx sy n l) ∙ sym (down_not_right s t y k hs ht l))))
+    (λ hs. by_lt_z y t
+    (λ ht. let p = r.up (falls s y t hs ht) in by_lt_z (pos 0) k
+    (λ l. up_left (far s) (far t) (far y +ℤ pos 1) (side_of k dx dy) (far_le s y hs) (far_lt t y ht) (side_up_yes k dx dy sx sy p l) ∙ sym (up_left s t y k hs ht l))
+    (λ l. up_not_left (far s) (far t) (far y +ℤ pos 1) (side_of k dx dy) (far_le s y hs) (far_lt t y ht) (side_up_no k dx dy sx sy p l) ∙ sym (up_not_left s t y k hs ht l)))
+    (λ ht. both_below (far s) (far t) (far y +ℤ pos 1) (side_of k dx dy) (far_le s y hs) (far_le t y ht) ∙ sym (both_below s t y k hs ht)))
+  where
+    falls : (a b c : ℤ) → a ≤ℤ b → b <ℤ c → a <ℤ c
+    falls a b c h k = omega (arith, ints)
+
+rise : (ay by_ d : ℤ) → by_ *ℤ d -ℤ ay *ℤ d ≡ (by_ -ℤ ay) *ℤ d
+rise ay by_ d = ring (ay ∷ (by_ ∷ (d ∷ []))) (var 1 ⊗ var 2 ⊖ var 0 ⊗ var 2) ((var 1 ⊖ var 0) ⊗ var 2) tt
+
+rises : (ay by_ d : ℤ) → pos 0 <ℤ d → Rises (ay *ℤ d) (by_ *ℤ d) (by_ -ℤ ay)
+rises ay by_ d h = record {
+  up = λ l. by_lt_z (pos 0) (by_ -ℤ ay) (λ p. p) (λ q. absurd (clash (ay *ℤ d) (by_ *ℤ d) ((by_ -ℤ ay) *ℤ d) (rise ay by_ d) l (neg-mul-not_neg (by_ -ℤ ay) d q (not_neg d h))));
+  down = λ l. by_lt_z (by_ -ℤ ay) (pos 0) (λ p. p) (λ q. absurd (clash' (ay *ℤ d) (by_ *ℤ d) ((by_ -ℤ ay) *ℤ d) (rise ay by_ d) l (pos-mul-not_neg (by_ -ℤ ay) d q (not_neg d h))));
+}
+  where
+    not_neg : (x : ℤ) → pos 0 <ℤ x → pos 0 ≤ℤ x
+    not_neg x h = omega (arith, ints)
+
+    clash : (u v w : ℤ) → v -ℤ u ≡ w → u <ℤ v → w ≤ℤ pos 0 → ⊥
+    clash u v w e h k = omega (arith, ints)
+
+    clash' : (u v w : ℤ) → v -ℤ u ≡ w → v <ℤ u → pos 0 ≤ℤ w → ⊥
+    clash' u v w e h k = omega (arith, ints)
+
+far_height : (y d : ℤ) → y *ℤ (d *ℤ pos 1000000000000 *ℤ pos 1000000000000) ≡ far (y *ℤ d)
+far_height y d = ring (y ∷ (d ∷ [])) (var 0 ⊗ (var 1 ⊗ con (pos 1000000000000) ⊗ con (pos 1000000000000))) (con (pos 1000000000000000000000000) ⊗ (var 0 ⊗ var 1)) tt
+
+far_level : (y : ℤ) → y *ℤ pos 1000000000000 *ℤ pos 1000000000000 ≡ far y
+far_level y = ring (y ∷ []) (var 0 ⊗ con (pos 1000000000000) ⊗ con (pos 1000000000000)) (con (pos 1000000000000000000000000) ⊗ var 0) tt
+
+four : {A B C D : Type 0} (f : A → B → C → D → ℤ) {a a' : A} {b b' : B} {c c' : C} {d d' : D} → a ≡ a' → b ≡ b' → c ≡ c' → d ≡ d' → f a b c d ≡ f a' b' c' d'
+four f p q r s = cc
+
+-- each edge passes the shifted point as it passes the point
+pub crossing-shifted : (a b : Point) (p : RationalPoint) → pos 0 <ℤ p.d → crossing a b (shifted p) ≡ crossing a b p
+unfolding crossing
+crossing-shifted a b p h =
+    four crossing_of (far_height a.y p.d) (far_height b.y p.d) (ap (λ (z : ℤ). z +ℤ pos 1) (far_level p.y))
+    (orient_at-shifted a b p) ∙ same_crossing (a.y *ℤ p.d) (b.y *ℤ p.d) p.y (orient_at a b p) (b.x -ℤ a.x)
+    (b.y -ℤ a.y) (step_x a b) (step_y a b) (rises a.y b.y p.d h)

@@ -1,0 +1,204 @@
+-- Triangles and rational points, by their corners.
+use Rattle.std.proofs.Common.{◌≡◌, ◌≢◌, ℤ, pos, ◌+ℤ◌, ◌-ℤ◌, ◌*ℤ◌, ◌≤ℤ◌, ◌<ℤ◌, int_lt, Bool, true, cond, ◌&&◌, List, [], ◌∷◌, ap, ap₂, sym, ◌∙◌, arith}
+use Rattle.std.proofs.lemmas.Int.{ints}
+use Rattle.lpis_points.specs.declared.point.Point.{Point}
+use Rattle.lpis_points.specs.Plane.{RationalPoint, orient, orient_at, crossing, shoelace_term}
+use Rattle.lpis_points.proofs.SignLemmas.{pos-mul-not_neg, pos-mul-not_pos, zero_of_mul}
+use Rattle.lpis_points.proofs.CrossingLemmas.{Around, around_total, inside_none}
+use Rattle.lpis_points.proofs.IntRingLemmas.{Expr, var, con, ◌⊕◌, ◌⊖◌, ◌⊗◌, ring}
+
+-- p is off the lines of the three edges
+pub record IsOff (a b c : Point) (p : RationalPoint) : Type 0 where
+  pub ab : orient_at a b p ≢ pos 0
+  pub bc : orient_at b c p ≢ pos 0
+  pub ca : orient_at c a p ≢ pos 0
+
+-- p is strictly left of the three edges
+abbrev pub left_of_all : Point → Point → Point → RationalPoint → Bool
+left_of_all a b c p =
+    int_lt (pos 0) (orient_at a b p) && int_lt (pos 0) (orient_at b c p) && int_lt (pos 0) (orient_at c a p)
+
+-- the sum of the crossings of the three edges
+abbrev pub turns_of : Point → Point → Point → RationalPoint → ℤ
+turns_of a b c p = crossing a b p +ℤ crossing b c p +ℤ crossing c a p
+
+-- the height of a above p
+abbrev pub over : Point → RationalPoint → ℤ
+over a p = a.y *ℤ p.d -ℤ p.y
+
+-- the unknowns of a triangle a b c, a point p, a line u v and a number n
+abbrev ax : Expr
+ax = var 0
+
+abbrev ay : Expr
+ay = var 1
+
+abbrev bx : Expr
+bx = var 2
+
+abbrev by_ : Expr
+by_ = var 3
+
+abbrev cx : Expr
+cx = var 4
+
+abbrev cy : Expr
+cy = var 5
+
+abbrev px : Expr
+px = var 6
+
+abbrev py : Expr
+py = var 7
+
+abbrev d : Expr
+d = var 8
+
+abbrev ux : Expr
+ux = var 9
+
+abbrev uy : Expr
+uy = var 10
+
+abbrev vx : Expr
+vx = var 11
+
+abbrev vy : Expr
+vy = var 12
+
+abbrev n : Expr
+n = var 13
+
+abbrev unknowns_of : Point → Point → Point → RationalPoint → Point → Point → ℤ → List ℤ
+unknowns_of a b c p u v m = a.x ∷ (a.y ∷ (b.x ∷ (b.y ∷ (c.x ∷ (c.y ∷ (p.x ∷ (p.y ∷ (p.d ∷ (u.x ∷ (u.y ∷ (v.x ∷ (v.y ∷ (m ∷ [])))))))))))))
+
+abbrev side : Expr → Expr → Expr → Expr → Expr
+side sx sy tx ty = (tx ⊖ sx) ⊗ (py ⊖ sy ⊗ d) ⊖ (ty ⊖ sy) ⊗ (px ⊖ sx ⊗ d)
+
+abbrev turn : Expr → Expr → Expr → Expr → Expr → Expr → Expr
+turn sx sy tx ty wx wy = (tx ⊖ sx) ⊗ (wy ⊖ sy) ⊖ (ty ⊖ sy) ⊗ (wx ⊖ sx)
+
+-- the three sides of p add up to d times the triangle
+pub sides_sum : (a b c : Point) (p : RationalPoint) → orient_at a b p +ℤ orient_at b c p +ℤ orient_at c a p ≡ p.d *ℤ orient a b c
+unfolding orient orient_at
+sides_sum a b c p = ring (unknowns_of a b c p a a (pos 0))
+    (side ax ay bx by_ ⊕ side bx by_ cx cy ⊕ side cx cy ax ay)
+    (d ⊗ turn ax ay bx by_ cx cy) tt
+
+-- the heights of the corners over p, each by the side of the edge across
+pub heights_sum : (a b c : Point) (p : RationalPoint) → orient_at b c p *ℤ over a p +ℤ orient_at c a p *ℤ over b p +ℤ orient_at a b p *ℤ over c p ≡ pos 0
+unfolding orient orient_at
+heights_sum a b c p = ring (unknowns_of a b c p a a (pos 0))
+    (side bx by_ cx cy ⊗ (ay ⊗ d ⊖ py) ⊕ side cx cy ax ay ⊗ (by_ ⊗ d ⊖ py) ⊕ side ax ay bx by_ ⊗ (cy ⊗ d ⊖ py))
+    (con (pos 0)) tt
+
+-- the side of p to a line, by the sides of the corners
+pub line_sum : (a b c u v : Point) (p : RationalPoint) → orient_at b c p *ℤ orient u v a +ℤ orient_at c a p *ℤ orient u v b +ℤ orient_at a b p *ℤ orient u v c ≡ orient a b c *ℤ orient_at u v p
+unfolding orient orient_at
+line_sum a b c u v p = ring (unknowns_of a b c p u v (pos 0))
+    (side bx by_ cx cy ⊗ turn ux uy vx vy ax ay ⊕ side cx cy ax ay ⊗ turn ux uy vx vy bx by_ ⊕ side ax ay bx by_ ⊗ turn ux uy vx vy cx cy)
+    (turn ax ay bx by_ cx cy ⊗ side ux uy vx vy) tt
+
+-- the corners' distances from an upright line at m
+pub upright_sum : (a b c : Point) (p : RationalPoint) (m : ℤ) → orient_at b c p *ℤ (a.x -ℤ m) +ℤ orient_at c a p *ℤ (b.x -ℤ m) +ℤ orient_at a b p *ℤ (c.x -ℤ m) ≡ orient a b c *ℤ (p.x -ℤ m *ℤ p.d)
+unfolding orient orient_at
+upright_sum a b c p m = ring (unknowns_of a b c p a a m)
+    (side bx by_ cx cy ⊗ (ax ⊖ n) ⊕ side cx cy ax ay ⊗ (bx ⊖ n) ⊕ side ax ay bx by_ ⊗ (cx ⊖ n))
+    (turn ax ay bx by_ cx cy ⊗ (px ⊖ n ⊗ d)) tt
+
+pub level_sum : (a b c : Point) (p : RationalPoint) (m : ℤ) → orient_at b c p *ℤ (a.y -ℤ m) +ℤ orient_at c a p *ℤ (b.y -ℤ m) +ℤ orient_at a b p *ℤ (c.y -ℤ m) ≡ orient a b c *ℤ (p.y -ℤ m *ℤ p.d)
+unfolding orient orient_at
+level_sum a b c p m = ring (unknowns_of a b c p a a m)
+    (side bx by_ cx cy ⊗ (ay ⊖ n) ⊕ side cx cy ax ay ⊗ (by_ ⊖ n) ⊕ side ax ay bx by_ ⊗ (cy ⊖ n))
+    (turn ax ay bx by_ cx cy ⊗ (py ⊖ n ⊗ d)) tt
+
+-- the shoelace terms of a triangle
+pub terms_sum : (a b c : Point) → shoelace_term a b +ℤ shoelace_term b c +ℤ shoelace_term c a ≡ orient a b c
+unfolding orient
+terms_sum a b c = ring (a.x ∷ (a.y ∷ (b.x ∷ (b.y ∷ (c.x ∷ (c.y ∷ []))))))
+    ((ax ⊗ by_ ⊖ bx ⊗ ay) ⊕ (bx ⊗ cy ⊖ cx ⊗ by_) ⊕ (cx ⊗ ay ⊖ ax ⊗ cy))
+    (turn ax ay bx by_ cx cy) tt
+
+-- ---- three corners and a point off their lines
+-- where all three corners have the height of p, p lies on their line
+level_side : (a b : Point) (p : RationalPoint) → orient_at a b p *ℤ p.d ≡ (b.x -ℤ a.x) *ℤ p.d *ℤ (p.y -ℤ a.y *ℤ p.d) -ℤ (b.y *ℤ p.d -ℤ a.y *ℤ p.d) *ℤ (p.x -ℤ a.x *ℤ p.d)
+unfolding orient orient_at
+level_side a b p = ring (unknowns_of a b a p a a (pos 0))
+    (side ax ay bx by_ ⊗ d)
+    ((bx ⊖ ax) ⊗ d ⊗ (py ⊖ ay ⊗ d) ⊖ (by_ ⊗ d ⊖ ay ⊗ d) ⊗ (px ⊖ ax ⊗ d)) tt
+
+on_level : (m y s t z : ℤ) → s ≡ y → t ≡ y → m *ℤ (y -ℤ s) -ℤ (t -ℤ s) *ℤ z ≡ pos 0
+on_level m y s t z e f =
+    ap₂ (λ (v w : ℤ). m *ℤ v -ℤ w *ℤ z) (nought y s (sym e)) (nought t s (f ∙ sym e)) ∙ nothing m z
+  where
+    nought : (v w : ℤ) → v ≡ w → v -ℤ w ≡ pos 0
+    nought v w e = omega (arith, ints)
+
+    nothing : (m z : ℤ) → m *ℤ pos 0 -ℤ pos 0 *ℤ z ≡ pos 0
+    nothing m z = omega (arith, ints)
+
+not_neg_of : (x y : ℤ) → x ≡ y → pos 0 ≤ℤ y → pos 0 ≤ℤ x
+not_neg_of x y e h = omega (arith, ints)
+
+not_neg : (x : ℤ) → pos 0 <ℤ x → pos 0 ≤ℤ x
+not_neg x h = omega (arith, ints)
+
+pub around : (a b c : Point) (p : RationalPoint) → pos 0 <ℤ p.d → pos 0 ≤ℤ orient a b c → IsOff a b c p
+    → Around (a.y *ℤ p.d) (b.y *ℤ p.d) (c.y *ℤ p.d) p.y (orient_at a b p) (orient_at b c p) (orient_at c a p)
+around a b c p h t o = record {
+  off₁ = o.ab;
+  off₂ = o.bc;
+  off₃ = o.ca;
+  heights = heights_sum a b c p;
+  sum = not_neg_of _ _ (sides_sum a b c p) (pos-mul-not_neg p.d (orient a b c) (not_neg p.d h) t);
+  spread = λ e f g. o.ab (zero_of_mul (orient_at a b p) p.d h (level_side a b p ∙ on_level ((b.x -ℤ a.x) *ℤ p.d) p.y (a.y *ℤ p.d) (b.y *ℤ p.d) (p.x -ℤ a.x *ℤ p.d) e f));
+}
+
+-- the edges of a counter-clockwise triangle turn once round a point inside, and not at all round one outside
+pub triangle_turns : (a b c : Point) (p : RationalPoint) → pos 0 <ℤ p.d → pos 0 <ℤ orient a b c → IsOff a b c p → turns_of a b c p ≡ cond (left_of_all a b c p) (pos 1) (pos 0)
+unfolding crossing
+triangle_turns a b c p h t o = around_total _ _ _ _ _ _ _ (around a b c p h (not_neg (orient a b c) t) o)
+
+-- those of a flat do not turn round any point off its line
+pub flat_turns : (a b c : Point) (p : RationalPoint) → pos 0 <ℤ p.d → orient a b c ≡ pos 0 → IsOff a b c p → turns_of a b c p ≡ pos 0
+unfolding crossing
+flat_turns a b c p h t o =
+    around_total _ _ _ _ _ _ _ (around a b c p h (nought (orient a b c) t) o) ∙ inside_none (orient_at a b p)
+    (orient_at b c p) (orient_at c a p) (none (orient_at a b p) (orient_at b c p) (orient_at c a p)
+    (sides_sum a b c p ∙ ap (λ (z : ℤ). p.d *ℤ z) t ∙ by_nought p.d))
+  where
+    nought : (x : ℤ) → x ≡ pos 0 → pos 0 ≤ℤ x
+    nought x e = omega (arith, ints)
+
+    by_nought : (x : ℤ) → x *ℤ pos 0 ≡ pos 0
+    by_nought x = omega (arith, ints)
+
+    none : (x y z : ℤ) → x +ℤ y +ℤ z ≡ pos 0 → pos 0 <ℤ x → pos 0 <ℤ y → pos 0 <ℤ z → ⊥
+    none x y z e p q r = omega (arith, ints)
+
+-- ---- two triangles
+-- what `left_of_all` tells
+pub record Inside (a b c : Point) (p : RationalPoint) : Type 0 where
+  pub ab : pos 0 <ℤ orient_at a b p
+  pub bc : pos 0 <ℤ orient_at b c p
+  pub ca : pos 0 <ℤ orient_at c a p
+
+pub inside_is : (a b c : Point) (p : RationalPoint) → left_of_all a b c p ≡ true → Inside a b c p
+inside_is a b c p e = let r = parts (orient_at a b p) (orient_at b c p) (orient_at c a p) e in record { ab = r.0; bc = r.1; ca = r.2 }
+  where
+    parts : (x y z : ℤ) → (int_lt (pos 0) x && int_lt (pos 0) y && int_lt (pos 0) z) ≡ true → (pos 0 <ℤ x) × (pos 0 <ℤ y) × (pos 0 <ℤ z)
+    parts x y z e = grind (arith, ints)
+
+pub weighted_up : (o₁ o₂ o₃ x y z : ℤ) → pos 0 <ℤ o₁ → pos 0 <ℤ o₂ → pos 0 <ℤ o₃ → pos 0 ≤ℤ x → pos 0 ≤ℤ y → pos 0 ≤ℤ z → pos 0 ≤ℤ (o₁ *ℤ x +ℤ o₂ *ℤ y +ℤ o₃ *ℤ z)
+weighted_up o₁ o₂ o₃ x y z p q r h k l =
+    sum (o₁ *ℤ x) (o₂ *ℤ y) (o₃ *ℤ z) (pos-mul-not_neg o₁ x (not_neg o₁ p) h) (pos-mul-not_neg o₂ y (not_neg o₂ q) k) (pos-mul-not_neg o₃ z (not_neg o₃ r) l)
+  where
+    sum : (u v w : ℤ) → pos 0 ≤ℤ u → pos 0 ≤ℤ v → pos 0 ≤ℤ w → pos 0 ≤ℤ (u +ℤ v +ℤ w)
+    sum u v w p q r = omega (arith, ints)
+
+pub weighted_down : (o₁ o₂ o₃ x y z : ℤ) → pos 0 <ℤ o₁ → pos 0 <ℤ o₂ → pos 0 <ℤ o₃ → x ≤ℤ pos 0 → y ≤ℤ pos 0 → z ≤ℤ pos 0 → (o₁ *ℤ x +ℤ o₂ *ℤ y +ℤ o₃ *ℤ z) ≤ℤ pos 0
+weighted_down o₁ o₂ o₃ x y z p q r h k l =
+    sum (o₁ *ℤ x) (o₂ *ℤ y) (o₃ *ℤ z) (pos-mul-not_pos o₁ x (not_neg o₁ p) h) (pos-mul-not_pos o₂ y (not_neg o₂ q) k) (pos-mul-not_pos o₃ z (not_neg o₃ r) l)
+  where
+    sum : (u v w : ℤ) → u ≤ℤ pos 0 → v ≤ℤ pos 0 → w ≤ℤ pos 0 → (u +ℤ v +ℤ w) ≤ℤ pos 0
+    sum u v w p q r = omega (arith, ints)

@@ -1,0 +1,83 @@
+-- Rings walked backwards, and areas by the edges in normal orientation.
+use Rattle.std.proofs.Common.{◌≡◌, ℤ, pos, ◌+ℤ◌, ◌-ℤ◌, neg_ℤ, int_lt, nat_abs, Bool, true, false, cond, List, [], ◌∷◌, ◌++◌, reverse, ap, ap₂, sym, refl, ◌∙◌, arith}
+use Rattle.std.proofs.lemmas.Int.{ints}
+use Rattle.std.specs.List.{flat_map}
+use Rattle.std.proofs.lemmas.List.{reverse-append}
+use Rattle.lpis_points.specs.declared.point.Point.{Point}
+use Rattle.lpis_points.specs.Plane.{shoelace_term}
+use Rattle.lpis_points.specs.Chain.{edge_sum, IsOdd}
+use Rattle.lpis_points.proofs.ChainLemmas.{edge_sum-append}
+use Rattle.lpis_points.proofs.OddLemmas.{shoelace_term-odd}
+use Rattle.lpis_rings.specs.declared.polygon.Member.{Member}
+use Rattle.lpis_rings.specs.Area.{steps, shoelace, absolute_sums, area2}
+use Rattle.lpis_rings.specs.Edges.{walk, shell_edges, hole_edges, member_edges, edges_of}
+
+steps-push : (f : Point → Point → ℤ) (xs : List Point) (y z : Point) → edge_sum f (steps ((xs ++ y ∷ []) ++ z ∷ [])) ≡ edge_sum f (steps (xs ++ y ∷ [])) +ℤ f y z
+steps-push f [] y z = only (f y z)
+  where
+    only : (x : ℤ) → x +ℤ pos 0 ≡ pos 0 +ℤ x
+    only x = omega (arith, ints)
+steps-push f (x ∷ []) y z = moved (f x y) (f y z)
+  where
+    moved : (a b : ℤ) → a +ℤ (b +ℤ pos 0) ≡ (a +ℤ pos 0) +ℤ b
+    moved a b = omega (arith, ints)
+steps-push f (x ∷ (w ∷ xs)) y z = grown (f x w) (edge_sum f (steps (((w ∷ xs) ++ y ∷ []) ++ z ∷ []))) (edge_sum f (steps ((w ∷ xs) ++ y ∷ []))) (f y z) (steps-push f (w ∷ xs) y z)
+  where
+    grown : (a t u v : ℤ) → t ≡ u +ℤ v → a +ℤ t ≡ (a +ℤ u) +ℤ v
+    grown a t u v e = omega (arith, ints)
+
+reverse-cons : (a : Point) (xs : List Point) → reverse (a ∷ xs) ≡ reverse xs ++ a ∷ []
+reverse-cons a xs = reverse-append (a ∷ []) xs
+
+-- walked backwards, every odd function has the opposite sum
+pub steps-reverse : (f : Point → Point → ℤ) → IsOdd f → (ps : List Point) → edge_sum f (steps (reverse ps)) ≡ neg_ℤ (edge_sum f (steps ps))
+steps-reverse f o [] = refl
+steps-reverse f o (a ∷ []) = refl
+steps-reverse f o (a ∷ (b ∷ ps)) =
+    ap (λ (xs : List Point). edge_sum f (steps xs)) (reverse-cons a (b ∷ ps) ∙ ap (λ (xs : List Point). xs ++ a ∷ []) (reverse-cons b ps))
+    ∙ steps-push f (reverse ps) b a ∙ turned (edge_sum f (steps (reverse ps ++ b ∷ []))) (edge_sum f (steps (b ∷ ps)))
+    (f a b) (f b a) (ap (λ (xs : List Point). edge_sum f (steps xs)) (sym (reverse-cons b ps))
+    ∙ steps-reverse f o (b ∷ ps)) (o.reversed a b)
+  where
+    turned : (x y v w : ℤ) → x ≡ neg_ℤ y → w ≡ neg_ℤ v → x +ℤ w ≡ neg_ℤ (v +ℤ y)
+    turned x y v w e g = omega (arith, ints)
+
+abs_walk : (x y : ℤ) → y ≡ neg_ℤ x → cond (int_lt x (pos 0)) y x ≡ pos (nat_abs x)
+abs_walk x y e = grind (arith, ints)
+
+abs_hole : (x y : ℤ) → y ≡ neg_ℤ x → cond (int_lt (pos 0) x) y x ≡ neg_ℤ (pos (nat_abs x))
+abs_hole x y e = grind (arith, ints)
+
+walk_sum : (t : Bool) (ps : List Point) → edge_sum shoelace_term (steps (walk t ps)) ≡ cond t (edge_sum shoelace_term (steps (reverse ps))) (shoelace ps)
+walk_sum true ps = refl
+walk_sum false ps = refl
+
+shell_sum : (ps : List Point) → edge_sum shoelace_term (shell_edges ps) ≡ pos (nat_abs (shoelace ps))
+unfolding shell_edges
+shell_sum ps = walk_sum (int_lt (shoelace ps) (pos 0)) ps ∙ abs_walk (shoelace ps) (edge_sum shoelace_term (steps (reverse ps))) (steps-reverse shoelace_term shoelace_term-odd ps)
+
+hole_sum : (ps : List Point) → edge_sum shoelace_term (hole_edges ps) ≡ neg_ℤ (pos (nat_abs (shoelace ps)))
+unfolding hole_edges
+hole_sum ps = walk_sum (int_lt (pos 0) (shoelace ps)) ps ∙ abs_hole (shoelace ps) (edge_sum shoelace_term (steps (reverse ps))) (steps-reverse shoelace_term shoelace_term-odd ps)
+
+holes_sum : (hs : List (List Point)) → edge_sum shoelace_term (flat_map hole_edges hs) ≡ neg_ℤ (absolute_sums hs)
+holes_sum [] = refl
+holes_sum (h ∷ hs) = edge_sum-append shoelace_term (hole_edges h) (flat_map hole_edges hs)
+    ∙ both (edge_sum shoelace_term (hole_edges h)) (edge_sum shoelace_term (flat_map hole_edges hs))
+    (pos (nat_abs (shoelace h))) (absolute_sums hs) (hole_sum h) (holes_sum hs)
+  where
+    both : (x y a b : ℤ) → x ≡ neg_ℤ a → y ≡ neg_ℤ b → x +ℤ y ≡ neg_ℤ (a +ℤ b)
+    both x y a b e f = omega (arith, ints)
+
+-- `area2` is the sum of the shoelace terms of the edges in normal orientation
+pub area2_is : (ms : List Member) → edge_sum shoelace_term (edges_of ms) ≡ area2 ms
+area2_is [] = refl
+area2_is (m ∷ ms) =
+    edge_sum-append shoelace_term (member_edges m) (edges_of ms)
+    ∙ ap₂ (λ (x y : ℤ). x +ℤ y) (edge_sum-append shoelace_term (shell_edges m.shell) (flat_map hole_edges m.holes)
+    ∙ less (edge_sum shoelace_term (shell_edges m.shell)) (edge_sum shoelace_term (flat_map hole_edges m.holes))
+    (pos (nat_abs (shoelace m.shell))) (absolute_sums m.holes) (shell_sum m.shell) (holes_sum m.holes))
+    (area2_is ms)
+  where
+    less : (x y a b : ℤ) → x ≡ a → y ≡ neg_ℤ b → x +ℤ y ≡ a -ℤ b
+    less x y a b e f = omega (arith, ints)

@@ -1,0 +1,170 @@
+-- What DELETE with no WHERE makes of a table.
+use Rattle.std.proofs.Common.{◌≡◌, ℕ, ℤ, List, [], ◌∷◌, map, drop, slice_get, true, false, not, Some, None, Ok, refl, sym, ap, subst, ◌∙◌, IsPermutation, true≢false}
+use Rattle.std.specs.Prelude.{Option}
+use Rattle.std.proofs.lemmas.List.Concat.{flat_map_single}
+use Rattle.std.proofs.lemmas.List.Sorted.{IsPermutation-refl, IsPermutation-map}
+use Rattle.sqlite.specs.declared.types.Value.TheVariants.{Null}
+use Rattle.sqlite.specs.Order.{Row}
+use Rattle.sqlite.specs.Table.{Table}
+use Rattle.sqlite.specs.Schema.{Schema}
+use Rattle.sqlite.specs.Program.{overlay}
+use Rattle.sqlite.specs.Query.{IsAnswer, Output, output}
+use Rattle.sqlite.specs.Command.TheVariants.{Delete}
+use Rattle.sqlite.specs.Edit.{without_all, edit_of}
+use Rattle.sqlite.specs.Rowids.TheVariants.{Given}
+use Rattle.sqlite.specs.Tree.{Trees}
+use Rattle.sqlite.specs.Does.{Tally, Does, AtPlace, OnRows}
+use Rattle.sqlite.specs.Effect.{Database, IsDatabase, Answers}
+use Rattle.sqlite.specs.Rows.{Written, Edited, Task}
+use Rattle.sqlite.specs.declared.run.Mode.{Mode}
+use Rattle.sqlite.specs.State.{State, mode_of, Executes, ExecutesInside}
+use Rattle.sqlite.specs.Listing.{understood}
+use Rattle.sqlite_schema.specs.declared.schema.Keys.{Keys}
+use Rattle.sqlite_schema.specs.declared.program.Program.{Program}
+use Rattle.sqlite_rules.specs.Calls.{ids_of}
+use Rattle.sqlite.proofs.Callers.{statement_of, runs_as}
+use Rattle.lpis_records.specs.Content.{Content, without_spans, without_live}
+use Rattle.lpis_tables.specs.Tables.{span_table, live_table}
+use Rattle.lpis_tables.specs.Shapes.{Shape, New, First, Moved, schema_of, has_spans, has_live, span_tree}
+use Rattle.lpis_tables.specs.private.Places.{span_place}
+use Rattle.lpis_tables.specs.private.Texts.{clear_span, clear_live}
+use Rattle.lpis_tables.specs.Holding.{AreKeyed, span_row, live_row}
+use Rattle.lpis_tables.specs.private.Inside.{Inside}
+use Rattle.lpis_tables.proofs.MeaningLemmas.{Says, whole, ids_query, clear_span_means, clear_live_means}
+use Rattle.lpis_tables.proofs.UpdateLemmas.{without_is, filter_same, gone_are, key_of}
+use Rattle.lpis_tables.proofs.PartLemmas.{far, far_span, span_not_live, live_not_span, keeps_there, there_keeps, formats_kept, years_kept, spans_kept, lines_kept, live_kept, own_spans}
+use Rattle.lpis_tables.proofs.InsertLemmas.{inside_next, span_stands}
+use Rattle.lpis_tables.proofs.WriteLemmas.{went, same_value, step_of, Kept, kept_of}
+
+pub record Clearing (schema : Schema) (keys : Keys) (trees : Trees) (table : Table) (q : Program) (params : Row) (after : Database) : Type 0 where
+  pub found : List Row
+  pub answer : Answers (record { schema = schema; trees = trees }) q params found
+  pub schema_is : after.schema ≡ schema
+  pub edited : Edited schema keys trees (edit_of trees table (ids_of found) Given 0 []) (Ok after.trees)
+
+-- DELETE is one query and one step
+pub deletes : (limit : Option ℕ) (mode : Mode) (params : Row) (schema : Schema) (trees : Trees) (text : List ℕ) (place : ℕ) (table : Table) (q : Program) (tally : Tally) (after : Database)
+    → slice_get schema.tables place ≡ Some table
+    → Does limit mode params (record { schema = schema; trees = trees }) text None (Delete place q) (Ok (tally, after))
+    → Clearing schema mode.keys trees table q params after
+deletes limit mode params schema trees text place table q tally after at h =
+    let task : Table → Task = λ t. record { limit = limit; keys = mode.keys; schema = schema; table = t; params = params } in
+    let done = went (subst (λ t. AtPlace (λ t. OnRows (task t) mode None (Delete place q) trees) t (Ok (tally, after))) at h) in
+    let now = ap (λ (p : Tally × Database). p.1) (same_value (went (went done.2).2).2) in
+    let given = went done.1 in
+    let written = went given.2 in
+    let trees_are : done.0.trees ≡ written.0 = ap (λ (it : Written). it.trees) (same_value written.2) in
+    record {
+      found = given.0;
+      answer = given.1;
+      schema_is = ap (λ (d : Database). d.schema) now;
+      edited = subst (λ (t : Trees). Edited schema mode.keys trees (edit_of trees table (ids_of given.0) Given 0 []) (Ok t)) (sym (ap (λ (d : Database). d.trees) now ∙ trees_are)) written.1;
+    }
+
+keys_out : (tree : ℕ) (rows : List Row) → map key_of (map (λ (o : Output). o.1) (map (output (ids_query tree)) (map (λ r. [] ∷ r ∷ []) rows))) ≡ map key_of rows
+keys_out tree [] = refl
+keys_out tree (r ∷ rows) = ap (λ l. key_of r ∷ l) (keys_out tree rows)
+
+pub all_kept : {X : Type 0} (xs : List X) → Rattle.std.specs.Prelude.filter (λ x. true) xs ≡ xs
+all_kept [] = refl
+all_kept (x ∷ xs) = ap (λ l. x ∷ l) (all_kept xs)
+
+pub none_kept : {X : Type 0} (xs : List X) → Rattle.std.specs.Prelude.filter (λ x. false) xs ≡ []
+none_kept [] = refl
+none_kept (x ∷ xs) = none_kept xs
+
+-- all rowids taken out leave nothing
+pub emptied : (rows : List Row) (ids : List ℤ) → AreKeyed rows → IsPermutation (map key_of rows) ids → without_all rows ids ≡ []
+emptied rows ids keyed same =
+    let gone = gone_are (λ r. true) rows ids keyed (subst (λ l. IsPermutation (map key_of l) ids) (sym (all_kept rows)) same) in
+    without_is ids rows ∙ filter_same _ (λ r. false) rows (λ r there. ap not (gone r there)) ∙ none_kept rows
+
+-- a table that this empties
+pub record Empties (s : Shape) (old new : State) (tree : ℕ) : Type 0 where
+  pub schema : new.now.schema ≡ schema_of s
+  pub sound : IsDatabase new.now
+  pub empty : new.now.trees tree ≡ []
+  pub others : Kept s tree old.now.trees new.now.trees
+
+pub clears : (s : Shape) (sql : List ℕ) (place tree : ℕ) (table : Table) (old new : State) (count : ℕ)
+    → table.tree ≡ tree → old.now.schema ≡ schema_of s → slice_get (schema_of s).tables place ≡ Some table
+    → Says s sql (Delete place (whole (ids_query tree))) → overlay old.now.trees [] tree ≡ old.now.trees tree
+    → AreKeyed (old.now.trees tree) → Executes sql [] old new (Ok count) → Empties s old new tree
+clears s sql place tree table old new count named has at says own keyed h =
+    let db = old.now.trees in
+    let q = ids_query tree in
+    let command = Delete place (whole q) in
+    let w = runs_as sql [] old new (schema_of s) has command says.0 says.1 count h in
+    let text = statement_of sql (understood (schema_of s) sql) in
+    let it = deletes old.step_limit (mode_of old) [] (schema_of s) db text place table (whole q) w.tally new.now at
+    (subst (λ s. Does old.step_limit (mode_of old) [] (record old.now { schema = s }) text None command
+    (Ok (w.tally, new.now))) has w.changed) in
+    let step = step_of s db new.now.trees _ it.edited in
+    let a : IsAnswer q (overlay db []) [] it.found = it.answer.answer Null in
+    let shows : Output → Row = λ o. o.1 in
+    let rows = db tree in
+    let staged : a.staged ≡ map (λ r. [] ∷ r ∷ []) rows = a.grouped ∙ flat_map_single (λ r. [] ∷ r ∷ []) (overlay db [] tree) ∙ ap (map (λ r. [] ∷ r ∷ [])) own in
+    let from : map key_of (map shows a.kept) ≡ map key_of rows = ap (λ l. map key_of (map shows l)) (a.distinct ∙ ap (map (output q)) staged) ∙ keys_out tree rows in
+    let to : map key_of (map shows a.ordered) ≡ ids_of it.found = ap (map key_of) (sym a.shown) in
+    let same : IsPermutation (map key_of rows) (ids_of it.found) = subst (λ l. IsPermutation l (ids_of it.found)) from
+    (subst (IsPermutation (map key_of (map shows a.kept))) to
+    (IsPermutation-map key_of _ _ (IsPermutation-map shows _ _ a.same))) in
+    record {
+      schema = it.schema_is;
+      sound = w.sound;
+      empty = subst (λ t. new.now.trees t ≡ []) named (step.rows ∙ ap (λ t. without_all (db t) (ids_of it.found)) named ∙ emptied rows (ids_of it.found) keyed same);
+      others = subst (λ t. Kept s t db new.now.trees) named (kept_of s table.tree db new.now.trees step.tables);
+    }
+
+pub none_keyed : AreKeyed []
+none_keyed = record { whole = λ x none. absurd none; alone = λ x y none more e. absurd none }
+
+pub clear_spans_inside : (s : Shape) (base : Database) (old new : State) (c : Content) (count : ℕ) → has_spans s ≡ true → Inside s base old c
+    → ExecutesInside 0 clear_span [] old new (Ok count) → Inside s base new (without_spans c)
+clear_spans_inside s base old new c count spans before h =
+    let m = before.holds.means in
+    let db = old.now.trees in
+    let next = new.now.trees in
+    let tree = span_tree s in
+    let there = keeps_there (has_spans s) span_row c.spans (db tree) spans m.spans_are in
+    let e = clears s clear_span (span_place s) tree (span_table tree) old new count refl before.holds.schema (span_stands s spans) (clear_span_means s spans) (own_spans s db) there.1 h.0 in
+    inside_next s s base old new c _ before h.1 (record {
+      schema = e.schema;
+      sound = e.sound;
+      means = record {
+        formats_are = formats_kept s tree db next c e.others m (far_span s 0 refl refl);
+        years_are = years_kept s tree db next c e.others m (far_span s 1 refl refl);
+        spans_are = there_keeps (has_spans s) span_row [] (next tree) spans
+            (subst (λ (rs : List Row). IsPermutation [] (map (drop 1) rs)) (sym e.empty) (IsPermutation-refl []))
+            (subst AreKeyed (sym e.empty) none_keyed);
+        lines_are = lines_kept s tree db next c e.others m (far_span s 4 refl refl);
+        live_are = live_kept s tree db next c e.others m (live_not_span s);
+      };
+    })
+
+live_stands : (s : Shape) → has_live s ≡ true → slice_get (schema_of s).tables 2 ≡ Some (live_table 2)
+live_stands New is = absurd (true≢false (sym is))
+live_stands First is = refl
+live_stands Moved is = refl
+
+pub clear_live_inside : (s : Shape) (base : Database) (old new : State) (c : Content) (count : ℕ) → has_live s ≡ true → Inside s base old c
+    → ExecutesInside 0 clear_live [] old new (Ok count) → Inside s base new (without_live c)
+clear_live_inside s base old new c count live before h =
+    let m = before.holds.means in
+    let db = old.now.trees in
+    let next = new.now.trees in
+    let there = keeps_there (has_live s) live_row c.live (db 2) live m.live_are in
+    let e = clears s clear_live 2 2 (live_table 2) old new count refl before.holds.schema (live_stands s live) (clear_live_means s live) refl there.1 h.0 in
+    inside_next s s base old new c _ before h.1 (record {
+      schema = e.schema;
+      sound = e.sound;
+      means = record {
+        formats_are = formats_kept s 2 db next c e.others m (far 0 2 refl);
+        years_are = years_kept s 2 db next c e.others m (far 1 2 refl);
+        spans_are = spans_kept s 2 db next c e.others m (λ is. span_not_live s live);
+        lines_are = lines_kept s 2 db next c e.others m (far 4 2 refl);
+        live_are = there_keeps (has_live s) live_row [] (next 2) live
+            (subst (λ (rs : List Row). IsPermutation [] (map (drop 1) rs)) (sym e.empty) (IsPermutation-refl []))
+            (subst AreKeyed (sym e.empty) none_keyed);
+      };
+    })

@@ -1,0 +1,37 @@
+-- A `)` that closes no ring.
+use Rattle.std.proofs.Common.{◌≡◌, ◌<◌, false, true, Bool, List, length, Err, refl, arith, nat_lt}
+use Rattle.std.proofs.lemmas.Bool.Decides.{nat_tests}
+use Rattle.lpis_points.specs.declared.point.Point.{Point}
+use Rattle.lpis_rings.specs.Ring.{IsRing}
+use Rattle.lpis_wkt.specs.declared.fault.WktCode.TheVariants.{TooFewPoints, NotClosed}
+use Rattle.lpis_wkt.specs.declared.parser.Place.{Place}
+use Rattle.lpis_wkt.specs.declared.parser.Place.TheVariants as place
+use Rattle.lpis_wkt.specs.private.Machine.{Context, AfterPoint, is_closed, close_ring}
+use Rattle.lpis_wkt.specs.private.Parsing.{state_of}
+use Rattle.lpis_wkt.proofs.PointLemmas.{is_closed-true}
+
+pub short_ring : (b : Context) (ps : List Point) → length ps < 4 → close_ring b ps ≡ Err TooFewPoints
+short_ring b ps lt = let few : nat_lt (length ps) 4 ≡ true = grind (arith, nat_tests) in rw few refl
+
+open_by : (b : Context) (ps : List Point) (closed : Bool) → is_closed ps ≡ closed → nat_lt (length ps) 4 ≡ false → (IsRing ps → ⊥) → close_ring b ps ≡ Err NotClosed
+open_by b ps true e few cannot = absurd (cannot (record { four = grind (arith, nat_tests); closed = is_closed-true ps e }))
+open_by b ps false e few cannot = rw (few, e) refl
+
+pub open_ring : (b : Context) (ps : List Point) → (length ps < 4 → ⊥) → (IsRing ps → ⊥) → close_ring b ps ≡ Err NotClosed
+open_ring b ps long cannot = open_by b ps (is_closed ps) refl (is_long ps (nat_lt (length ps) 4) refl long) cannot where
+  is_long : (ps : List Point) (few : Bool) → nat_lt (length ps) 4 ≡ few → (length ps < 4 → ⊥) → nat_lt (length ps) 4 ≡ false
+  is_long ps true e long = absurd (long (grind (arith, nat_tests)))
+  is_long ps false e long = e
+
+-- the points after which `,` or `)` is expected
+pub points_at : (p : Place) (b b' : Context) (ps ps' : List Point) → state_of p b ps ≡ AfterPoint b' ps' → ps ≡ ps'
+points_at place.Keyword b b' ps ps' e = cc
+points_at place.FirstBody b b' ps ps' e = cc
+points_at place.Body b b' ps ps' e = cc
+points_at place.Ring b b' ps ps' e = cc
+points_at place.X b b' ps ps' e = cc
+points_at (place.Y x) b b' ps ps' e = cc
+points_at place.PointEnd b b' ps ps' e = cc
+points_at place.RingEnd b b' ps ps' e = cc
+points_at place.BodyEnd b b' ps ps' e = cc
+points_at place.End b b' ps ps' e = cc

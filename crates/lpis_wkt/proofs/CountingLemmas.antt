@@ -1,0 +1,246 @@
+-- The words that stand before each state, and the limit on points.
+use Rattle.std.proofs.Common.{◌≡◌, ℕ, ◌+◌, ◌*◌, ◌<◌, ◌≤◌, Bool, true, false, cond, List, [], ◌∷◌, ◌++◌, length, Ok, refl, ◌∙◌, inl, inr, arith, length-append}
+use Rattle.std.proofs.lemmas.Bool.Decides.{nat_tests}
+use Rattle.std.proofs.lemmas.List.Sums.{sum_by-append, sum_by_push}
+use Rattle.lpis_points.specs.declared.point.Point.{Point}
+use Rattle.lpis_rings.specs.declared.polygon.Member.{Member}
+use Rattle.lpis_rings.specs.Polygon.{points_in, points_of, most_points}
+use Rattle.lpis_wkt.specs.Tokens.{Token, Open, Close, Comma, Word, End}
+use Rattle.lpis_wkt.specs.private.Coordinates.{point_of}
+use Rattle.lpis_wkt.specs.Grammar.{Accepts}
+use Rattle.lpis_wkt.specs.Viable.{words, most_words, Viable}
+use Rattle.lpis_wkt.specs.private.Machine.{Context, State, AtKeyword, AfterKeyword, AtBody, AtRing, AtX, AtY, AfterPoint, AfterRing, AfterBody, AtEnd, Finished, with_ring, close_body, new_body}
+use Rattle.lpis_wkt.specs.private.Machine.{open_text, member_of, points_before, step, run, is_too_many, limited_step, limited_run}
+use Rattle.lpis_wkt.proofs.StepLemmas.{then-ok, with_coordinate-ok, cond-err, close_ring-ok, keyword-ok}
+use Rattle.lpis_wkt.proofs.CompletenessLemmas.{reads_runs}
+use Rattle.lpis_wkt.proofs.SoundnessLemmas.{runs_reads}
+use Rattle.lpis_wkt.proofs.CompletingLemmas.{begins, begun}
+
+-- the limit
+abbrev pub has_words : State → ℕ
+has_words AtKeyword = 0
+has_words (AfterKeyword m) = 1
+has_words (AtBody ms) = 2 * points_of ms + 1
+has_words (AtRing b) = 2 * points_before b + 1
+has_words (AtX b ps) = 2 * (points_before b + length ps) + 1
+has_words (AtY b ps x) = 2 * (points_before b + length ps) + 2
+has_words (AfterPoint b ps) = 2 * (points_before b + length ps) + 1
+has_words (AfterRing b) = 2 * points_before b + 1
+has_words (AfterBody ms) = 2 * points_of ms + 1
+has_words (AtEnd ms) = 2 * points_of ms + 1
+has_words (Finished ms) = 2 * points_of ms + 1
+
+points_in-push : (rs : List (List Point)) (r : List Point) → points_in (rs ++ r ∷ []) ≡ points_in rs + length r
+points_in-push rs r = sum_by_push length rs r
+
+pub points_of-push : (ms : List Member) (m : Member) → points_of (ms ++ m ∷ []) ≡ points_of ms + (length m.shell + points_in m.holes)
+points_of-push ms m = sum_by_push (λ m. length m.shell + points_in m.holes) ms m
+
+pub points_in-cons : (r : List Point) (rs : List (List Point)) → points_in (r ∷ rs) ≡ length r + points_in rs
+points_in-cons r rs = omega (arith, sum_by-append (λ (l : List Point). length l) (r ∷ []) rs)
+
+member-points : (rs : List (List Point)) → length (member_of rs).shell + points_in (member_of rs).holes ≡ points_in rs
+member-points [] = refl
+member-points (r ∷ rs) = omega (arith, sum_by-append (λ (l : List Point). length l) (r ∷ []) rs)
+
+open-words : (m : Bool) → has_words (open_text m) ≡ 1
+open-words true = refl
+open-words false = refl
+
+close-words-by : (m : Bool) (ms : List Member) → has_words (cond m (AfterBody ms) (AtEnd ms)) ≡ 2 * points_of ms + 1
+close-words-by true ms = refl
+close-words-by false ms = refl
+
+close-words : (b : Context) → has_words (close_body b) ≡ 2 * points_before b + 1
+close-words b = close-words-by b.multi (b.members ++ member_of b.rings ∷ [])
+    ∙ (let e = points_of-push b.members (member_of b.rings) in let f = member-points b.rings in
+    let g : points_of (b.members ++ member_of b.rings ∷ []) ≡ points_before b = omega arith in rw g refl)
+
+ring-words : (b : Context) (ps : List Point) → has_words (AfterRing (with_ring b ps)) ≡ 2 * (points_before b + length ps) + 1
+ring-words b ps = omega (arith, points_in-push b.rings ps)
+
+abbrev word : Token → ℕ
+word (Word w) = 1
+word _ = 0
+
+words-cons : (t : Token) (ts : List Token) → words (t ∷ ts) ≡ word t + words ts
+words-cons Open ts = omega arith
+words-cons Close ts = omega arith
+words-cons Comma ts = omega arith
+words-cons End ts = omega arith
+words-cons (Word w) ts = omega arith
+
+one_word : (s : State) (t : Token) (s' : State) → step s t ≡ Ok s' → has_words s' ≡ has_words s + word t
+one_word AtKeyword Open s' h = cc
+one_word AtKeyword Close s' h = cc
+one_word AtKeyword Comma s' h = cc
+one_word AtKeyword End s' h = cc
+one_word AtKeyword (Word w) s' h = elim (keyword-ok w s' h) [ inl e ↦ rw (← e.1) refl | inr e ↦ rw (← e.1) refl ]
+one_word (AfterKeyword m) Open s' h = let e : open_text m ≡ s' = cc in rw (← e) (rw (open-words m) refl)
+one_word (AfterKeyword m) Close s' h = cc
+one_word (AfterKeyword m) Comma s' h = cc
+one_word (AfterKeyword m) End s' h = cc
+one_word (AfterKeyword m) (Word w) s' h = cc
+one_word (AtBody ms) Open s' h = let e : new_body true ms ≡ s' = cc in rw (← e) (omega arith)
+one_word (AtBody ms) Close s' h = cc
+one_word (AtBody ms) Comma s' h = cc
+one_word (AtBody ms) End s' h = cc
+one_word (AtBody ms) (Word w) s' h = cc
+one_word (AtRing b) Open s' h = let e : AtX b [] ≡ s' = cc in rw (← e) (omega arith)
+one_word (AtRing b) Close s' h = cc
+one_word (AtRing b) Comma s' h = cc
+one_word (AtRing b) End s' h = cc
+one_word (AtRing b) (Word w) s' h = cc
+one_word (AtX b ps) Open s' h = cc
+one_word (AtX b ps) Close s' h = cc
+one_word (AtX b ps) Comma s' h = cc
+one_word (AtX b ps) End s' h = cc
+one_word (AtX b ps) (Word w) s' h = let n = with_coordinate-ok _ _ _ h in rw (← n.2) (omega arith)
+one_word (AtY b ps x) Open s' h = cc
+one_word (AtY b ps x) Close s' h = cc
+one_word (AtY b ps x) Comma s' h = cc
+one_word (AtY b ps x) End s' h = cc
+one_word (AtY b ps x) (Word w) s' h = let n = with_coordinate-ok _ _ _ h in rw (← n.2) (omega (arith, length-append ps (point_of x n.0 ∷ [])))
+one_word (AfterPoint b ps) Open s' h = cc
+one_word (AfterPoint b ps) Close s' h = rw (← (close_ring-ok b ps s' h).1) (ring-words b ps ∙ omega arith)
+one_word (AfterPoint b ps) Comma s' h = let e : AtX b ps ≡ s' = cc in rw (← e) (omega arith)
+one_word (AfterPoint b ps) End s' h = cc
+one_word (AfterPoint b ps) (Word w) s' h = cc
+one_word (AfterRing b) Open s' h = cc
+one_word (AfterRing b) Close s' h = let e : close_body b ≡ s' = cc in rw (← e) (rw (close-words b) (omega arith))
+one_word (AfterRing b) Comma s' h = let e : AtRing b ≡ s' = cc in rw (← e) (omega arith)
+one_word (AfterRing b) End s' h = cc
+one_word (AfterRing b) (Word w) s' h = cc
+one_word (AfterBody ms) Open s' h = cc
+one_word (AfterBody ms) Close s' h = let e : AtEnd ms ≡ s' = cc in rw (← e) (omega arith)
+one_word (AfterBody ms) Comma s' h = let e : AtBody ms ≡ s' = cc in rw (← e) (omega arith)
+one_word (AfterBody ms) End s' h = cc
+one_word (AfterBody ms) (Word w) s' h = cc
+one_word (AtEnd ms) Open s' h = cc
+one_word (AtEnd ms) Close s' h = cc
+one_word (AtEnd ms) Comma s' h = cc
+one_word (AtEnd ms) End s' h = let e : Finished ms ≡ s' = cc in rw (← e) (omega arith)
+one_word (AtEnd ms) (Word w) s' h = cc
+one_word (Finished ms) t s' h = cc
+
+word-le : (t : Token) → word t ≤ 1
+word-le Open = omega arith
+word-le Close = omega arith
+word-le Comma = omega arith
+word-le End = omega arith
+word-le (Word w) = omega arith
+
+-- a token that is too many makes one word more than the most_words has, and no other does
+too-many : (s : State) (t : Token) (s' : State) → step s t ≡ Ok s' → is_too_many s t ≡ true → most_words < has_words s'
+too-many AtKeyword t s' h k = cc
+too-many (AfterKeyword m) t s' h k = cc
+too-many (AtBody ms) t s' h k = cc
+too-many (AtRing b) t s' h k = cc
+too-many (AtX b ps) Open s' h k = cc
+too-many (AtX b ps) Close s' h k = cc
+too-many (AtX b ps) Comma s' h k = cc
+too-many (AtX b ps) End s' h k = cc
+too-many (AtX b ps) (Word w) s' h k = let n = with_coordinate-ok _ _ _ h in let many : most_points ≤ points_before b + length ps = grind (arith, nat_tests) in rw (← n.2) (omega arith)
+too-many (AtY b ps x) t s' h k = cc
+too-many (AfterPoint b ps) t s' h k = cc
+too-many (AfterRing b) t s' h k = cc
+too-many (AfterBody ms) t s' h k = cc
+too-many (AtEnd ms) t s' h k = cc
+too-many (Finished ms) t s' h k = cc
+
+not-too-many : (s : State) (t : Token) (s' : State) → step s t ≡ Ok s' → is_too_many s t ≡ false → has_words s ≤ most_words → has_words s' ≤ most_words
+not-too-many AtKeyword t s' h k le = rw (one_word AtKeyword t s' h) (omega (arith, word-le t))
+not-too-many (AfterKeyword m) t s' h k le = rw (one_word (AfterKeyword m) t s' h) (omega (arith, word-le t))
+not-too-many (AtBody ms) Open s' h k le = rw (one_word (AtBody ms) Open s' h) (omega arith)
+not-too-many (AtBody ms) Close s' h k le = rw (one_word (AtBody ms) Close s' h) (omega arith)
+not-too-many (AtBody ms) Comma s' h k le = rw (one_word (AtBody ms) Comma s' h) (omega arith)
+not-too-many (AtBody ms) End s' h k le = rw (one_word (AtBody ms) End s' h) (omega arith)
+not-too-many (AtBody ms) (Word w) s' h k le = cc
+not-too-many (AtRing b) Open s' h k le = rw (one_word (AtRing b) Open s' h) (omega arith)
+not-too-many (AtRing b) Close s' h k le = rw (one_word (AtRing b) Close s' h) (omega arith)
+not-too-many (AtRing b) Comma s' h k le = rw (one_word (AtRing b) Comma s' h) (omega arith)
+not-too-many (AtRing b) End s' h k le = rw (one_word (AtRing b) End s' h) (omega arith)
+not-too-many (AtRing b) (Word w) s' h k le = cc
+not-too-many (AtX b ps) Open s' h k le = cc
+not-too-many (AtX b ps) Close s' h k le = cc
+not-too-many (AtX b ps) Comma s' h k le = cc
+not-too-many (AtX b ps) End s' h k le = cc
+not-too-many (AtX b ps) (Word w) s' h k le = let few : points_before b + length ps < most_points = grind (arith, nat_tests) in rw (one_word (AtX b ps) (Word w) s' h) (omega arith)
+not-too-many (AtY b ps x) t s' h k le = rw (one_word (AtY b ps x) t s' h) (omega (arith, word-le t))
+not-too-many (AfterPoint b ps) Open s' h k le = rw (one_word (AfterPoint b ps) Open s' h) (omega arith)
+not-too-many (AfterPoint b ps) Close s' h k le = rw (one_word (AfterPoint b ps) Close s' h) (omega arith)
+not-too-many (AfterPoint b ps) Comma s' h k le = rw (one_word (AfterPoint b ps) Comma s' h) (omega arith)
+not-too-many (AfterPoint b ps) End s' h k le = rw (one_word (AfterPoint b ps) End s' h) (omega arith)
+not-too-many (AfterPoint b ps) (Word w) s' h k le = cc
+not-too-many (AfterRing b) Open s' h k le = rw (one_word (AfterRing b) Open s' h) (omega arith)
+not-too-many (AfterRing b) Close s' h k le = rw (one_word (AfterRing b) Close s' h) (omega arith)
+not-too-many (AfterRing b) Comma s' h k le = rw (one_word (AfterRing b) Comma s' h) (omega arith)
+not-too-many (AfterRing b) End s' h k le = rw (one_word (AfterRing b) End s' h) (omega arith)
+not-too-many (AfterRing b) (Word w) s' h k le = cc
+not-too-many (AfterBody ms) Open s' h k le = rw (one_word (AfterBody ms) Open s' h) (omega arith)
+not-too-many (AfterBody ms) Close s' h k le = rw (one_word (AfterBody ms) Close s' h) (omega arith)
+not-too-many (AfterBody ms) Comma s' h k le = rw (one_word (AfterBody ms) Comma s' h) (omega arith)
+not-too-many (AfterBody ms) End s' h k le = rw (one_word (AfterBody ms) End s' h) (omega arith)
+not-too-many (AfterBody ms) (Word w) s' h k le = cc
+not-too-many (AtEnd ms) Open s' h k le = rw (one_word (AtEnd ms) Open s' h) (omega arith)
+not-too-many (AtEnd ms) Close s' h k le = rw (one_word (AtEnd ms) Close s' h) (omega arith)
+not-too-many (AtEnd ms) Comma s' h k le = rw (one_word (AtEnd ms) Comma s' h) (omega arith)
+not-too-many (AtEnd ms) End s' h k le = rw (one_word (AtEnd ms) End s' h) (omega arith)
+not-too-many (AtEnd ms) (Word w) s' h k le = cc
+not-too-many (Finished ms) t s' h k le = cc
+
+limited-step-ok : (s : State) (t : Token) (s' : State) → limited_step s t ≡ Ok s' → (is_too_many s t ≡ false) × (step s t ≡ Ok s')
+limited-step-ok s t s' h = cond-err _ _ _ _ h
+
+pub limited-run-ok : (ts : List Token) (s s' : State) → has_words s ≤ most_words → limited_run s ts ≡ Ok s' → (run s ts ≡ Ok s') × (has_words s + words ts ≤ most_words)
+limited-run-ok [] s s' le h = (h, omega arith)
+limited-run-ok (t ∷ ts) s s' le h =
+    let a = then-ok _ _ _ h in
+    let b = limited-step-ok s t a.0 a.1 in
+    let one : has_words a.0 ≡ has_words s + word t = one_word s t a.0 b.1 in
+    let le2 : has_words a.0 ≤ most_words = not-too-many s t a.0 b.1 b.0 le in
+    let r = limited-run-ok ts a.0 s' le2 a.2 in
+    let total : has_words a.0 + words ts ≤ most_words = r.1 in
+    let all : words (t ∷ ts) ≡ word t + words ts = words-cons t ts in
+    (rw b.1 r.0, rw all (omega arith))
+
+fine-step : (b : Bool) → (b ≡ true → ⊥) → b ≡ false
+fine-step true h = absurd (h refl)
+fine-step false h = refl
+
+pub run-limited : (ts : List Token) (s s' : State) → run s ts ≡ Ok s' → has_words s + words ts ≤ most_words → limited_run s ts ≡ Ok s'
+run-limited [] s s' h le = h
+run-limited (t ∷ ts) s s' h le =
+    let a = then-ok _ _ _ h in
+    let one : has_words a.0 ≡ has_words s + word t = one_word s t a.0 a.1 in
+    let all : words (t ∷ ts) ≡ word t + words ts = words-cons t ts in
+    let le2 : has_words a.0 + words ts ≤ most_words = let le3 = rw all at le in omega arith in
+    let fine : is_too_many s t ≡ false = fine-step (is_too_many s t) (λ k. (let big = too-many s t a.0 a.1 k in omega arith)) in
+    rw (fine, a.1) (run-limited ts a.0 s' a.2 le2)
+
+pub viable : (ts : List Token) (s : State) → limited_run AtKeyword ts ≡ Ok s → Viable ts
+viable ts s h = let r = limited-run-ok ts AtKeyword s (omega arith) h in (begins ts s r.0, omega (arith, r.1))
+
+pub taken : (ts : List Token) → Viable ts → (s : State) × (limited_run AtKeyword ts ≡ Ok s)
+taken ts v = let b = begun ts v.0 in (b.0, run-limited ts AtKeyword b.0 b.1 (omega (arith, v.1)))
+
+pub words-run : (ts : List Token) (s s' : State) → run s ts ≡ Ok s' → has_words s' ≡ has_words s + words ts
+words-run [] s s' h = let e : s ≡ s' = cc in rw (← e) (omega arith)
+words-run (t ∷ ts) s s' h =
+    let a = then-ok _ _ _ h in
+    let one : has_words a.0 ≡ has_words s + word t = one_word s t a.0 a.1 in
+    let all : words (t ∷ ts) ≡ word t + words ts = words-cons t ts in
+    let rest : has_words s' ≡ has_words a.0 + words ts = words-run ts a.0 s' a.2 in
+    rw all (omega arith)
+
+pub finished : (ts : List Token) (ps : List Member) → limited_run AtKeyword ts ≡ Ok (Finished ps) → Accepts ts ps
+finished ts ps h =
+    let r = limited-run-ok ts AtKeyword (Finished ps) (omega arith) h in
+    let n : 2 * points_of ps + 1 ≡ 0 + words ts = words-run ts AtKeyword (Finished ps) r.0 in
+    (runs_reads ts ps r.0, omega (arith, r.1))
+
+pub accepted : (ts : List Token) (ps : List Member) → Accepts ts ps → limited_run AtKeyword ts ≡ Ok (Finished ps)
+accepted ts ps h =
+    let r = reads_runs ts ps h.0 in
+    let n : 2 * points_of ps + 1 ≡ 0 + words ts = words-run ts AtKeyword (Finished ps) r in
+    run-limited ts AtKeyword (Finished ps) r (omega (arith, h.1))

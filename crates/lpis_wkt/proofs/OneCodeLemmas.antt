@@ -1,0 +1,264 @@
+-- The table gives one code for one place.
+use Rattle.std.proofs.Common.{◌≡◌, ℕ, ◌+◌, ◌<◌, ◌≤◌, Bool, true, false, cond, ◌==◌, List, [], ◌∷◌, ◌++◌, length, Result, Ok, Err, refl, sym, ap, ◌∙◌, arith, append-nil, nat_le, nat_lt}
+use Rattle.std.specs.Prelude.{codes}
+use Rattle.lpis_points.specs.declared.point.Point.{Point}
+use Rattle.lpis_rings.specs.declared.polygon.Member.{Member}
+use Rattle.lpis_rings.specs.Polygon.{most_points}
+use Rattle.lpis_wkt.specs.declared.fault.WktCode.{WktCode}
+use Rattle.lpis_wkt.specs.declared.fault.WktCode.TheVariants.{Syntax, TooManyPoints}
+use Rattle.lpis_wkt.specs.Tokens.{Token, Open, Close, Comma, Word, End}
+use Rattle.lpis_wkt.specs.Number.{number}
+use Rattle.lpis_wkt.specs.private.Coordinates.{point_of}
+use Rattle.lpis_wkt.specs.Grammar.{PointText, Commas, is_polygon, is_multi}
+use Rattle.lpis_wkt.specs.Viable.{Stands, Viable, words, most_words}
+use Rattle.lpis_wkt.specs.Table.{RingSoFar, EndsWith, keyword_code, open_code, first_open_code, number_code, coordinate_code, point_code, TableCode, at_keyword, at_first_open, at_open, at_coordinate}
+use Rattle.lpis_wkt.specs.Table.{at_after_point, at_after_close, at_past_end}
+use Rattle.lpis_wkt.specs.private.Machine.{Context, State, AtKeyword, AfterKeyword, AtBody, AtRing, AtX, AtY, AfterPoint, AfterRing, AfterBody, AtEnd, Finished, is_closed, with_ring, close_body}
+use Rattle.lpis_wkt.specs.private.Machine.{new_body, member_of, points_before, and_then, step, run, limited_step, limited_run}
+use Rattle.lpis_wkt.proofs.StepLemmas.{then-ok, close_ring-ok, run-append, limited-append}
+use Rattle.lpis_wkt.proofs.CompletenessLemmas.{points_run}
+use Rattle.lpis_wkt.proofs.CompletingLemmas.{begun}
+use Rattle.lpis_wkt.proofs.CountingLemmas.{has_words, viable, taken, words-run, limited-run-ok}
+use Rattle.lpis_wkt.proofs.TailLemmas.{Tail, tail}
+use Rattle.lpis_wkt.proofs.RowLemmas.{keyword-code, limited-code, number-code, close-code, same-test, even-test}
+
+-- a token that can stand is taken
+stood : (before : List Token) (s : State) (t : Token) → run AtKeyword before ≡ Ok s → Stands before t → (s' : State) × (step s t ≡ Ok s')
+stood before s t h stands =
+    let b = begun (before ++ t ∷ []) stands in
+    let whole : and_then (run AtKeyword before) (λ s. run s (t ∷ [])) ≡ Ok b.0 = sym (run-append AtKeyword before (t ∷ [])) ∙ b.1 in
+    let here : run s (t ∷ []) ≡ Ok b.0 = rw h at whole in
+    let a = then-ok _ _ _ here in
+    (a.0, a.1)
+
+keyword-only : (t : Token) (c : WktCode) → limited_step AtKeyword t ≡ Err c → keyword_code t ≡ c
+keyword-only Open c h = cc
+keyword-only Close c h = cc
+keyword-only Comma c h = cc
+keyword-only End c h = cc
+keyword-only (Word w) c h = keyword-code (is_polygon w) (is_multi w) (keyword_code (Word w)) c h
+
+first_open-only : (s s' : State) (before : List Token) (t : Token) (c : WktCode) → step s Open ≡ Ok s' → Tail s before → length before ≡ 1 → limited_step s t ≡ Err c → first_open_code t ≡ c
+first_open-only AtKeyword s' before t c k r one h = cc
+first_open-only (AfterKeyword m) s' before Open c k r one h = cc
+first_open-only (AfterKeyword m) s' before Close c k r one h = cc
+first_open-only (AfterKeyword m) s' before Comma c k r one h = cc
+first_open-only (AfterKeyword m) s' before End c k r one h = cc
+first_open-only (AfterKeyword m) s' before (Word w) c k r one h = cc
+first_open-only (AtBody ms) s' before t c k r one h = absurd (omega arith)
+first_open-only (AtRing b) s' before t c k r one h = absurd (omega arith)
+first_open-only (AtX b ps) s' before t c k r one h = cc
+first_open-only (AtY b ps x) s' before t c k r one h = cc
+first_open-only (AfterPoint b ps) s' before t c k r one h = cc
+first_open-only (AfterRing b) s' before t c k r one h = cc
+first_open-only (AfterBody ms) s' before t c k r one h = cc
+first_open-only (AtEnd ms) s' before t c k r one h = cc
+first_open-only (Finished ms) s' before t c k r one h = cc
+
+open-only : (s s' : State) (before : List Token) (t : Token) (c : WktCode) → step s Open ≡ Ok s' → Tail s before → 1 < length before → limited_step s t ≡ Err c → open_code t ≡ c
+open-only AtKeyword s' before t c k r more h = cc
+open-only (AfterKeyword m) s' before t c k r more h = absurd (omega arith)
+open-only (AtBody ms) s' before Open c k r more h = cc
+open-only (AtBody ms) s' before Close c k r more h = cc
+open-only (AtBody ms) s' before Comma c k r more h = cc
+open-only (AtBody ms) s' before End c k r more h = cc
+open-only (AtBody ms) s' before (Word w) c k r more h = cc
+open-only (AtRing b) s' before Open c k r more h = cc
+open-only (AtRing b) s' before Close c k r more h = cc
+open-only (AtRing b) s' before Comma c k r more h = cc
+open-only (AtRing b) s' before End c k r more h = cc
+open-only (AtRing b) s' before (Word w) c k r more h = cc
+open-only (AtX b ps) s' before t c k r more h = cc
+open-only (AtY b ps x) s' before t c k r more h = cc
+open-only (AfterPoint b ps) s' before t c k r more h = cc
+open-only (AfterRing b) s' before t c k r more h = cc
+open-only (AfterBody ms) s' before t c k r more h = cc
+open-only (AtEnd ms) s' before t c k r more h = cc
+open-only (Finished ms) s' before t c k r more h = cc
+
+coordinate-only : (s s' : State) (n : ℕ) (t : Token) (c : WktCode) → step s (Word (codes "0")) ≡ Ok s' → has_words s ≡ n → n ≤ most_words → limited_step s t ≡ Err c → coordinate_code n t ≡ c
+coordinate-only AtKeyword s' n t c k words few h = cc
+coordinate-only (AfterKeyword m) s' n t c k words few h = cc
+coordinate-only (AtBody ms) s' n t c k words few h = cc
+coordinate-only (AtRing b) s' n t c k words few h = cc
+coordinate-only (AtX b ps) s' n Open c k words few h = cc
+coordinate-only (AtX b ps) s' n Close c k words few h = cc
+coordinate-only (AtX b ps) s' n Comma c k words few h = cc
+coordinate-only (AtX b ps) s' n End c k words few h = cc
+coordinate-only (AtX b ps) s' n (Word w) c k words few h =
+    let same : nat_le most_points (points_before b + length ps) ≡ (n == most_words) = same-test (points_before b + length ps) n (sym words) (omega arith) in
+    ap (λ (v : Bool). cond v TooManyPoints (number_code (number w))) (sym same) ∙ limited-code _ w (AtY b ps) c h
+coordinate-only (AtY b ps x) s' n Open c k words few h = cc
+coordinate-only (AtY b ps x) s' n Close c k words few h = cc
+coordinate-only (AtY b ps x) s' n Comma c k words few h = cc
+coordinate-only (AtY b ps x) s' n End c k words few h = cc
+coordinate-only (AtY b ps x) s' n (Word w) c k words few h =
+    let same : (n == most_words) ≡ false = even-test (points_before b + length ps) n (sym words) in
+    ap (λ (v : Bool). cond v TooManyPoints (number_code (number w))) same ∙ number-code w (λ y. AfterPoint b (ps ++ point_of x y ∷ [])) c h
+coordinate-only (AfterPoint b ps) s' n t c k words few h = cc
+coordinate-only (AfterRing b) s' n t c k words few h = cc
+coordinate-only (AfterBody ms) s' n t c k words few h = cc
+coordinate-only (AtEnd ms) s' n t c k words few h = cc
+coordinate-only (Finished ms) s' n t c k words few h = cc
+
+begins_with_word : (ps : List Point) (body : List Token) → Commas PointText ps body → (w : List ℕ) × (rest : List Token) × (body ≡ Word w ∷ rest)
+begins_with_word [] body h = absurd h
+begins_with_word (p ∷ []) body (x, y, e, hx, hy) = (x, Word y ∷ [], e)
+begins_with_word (p ∷ q ∷ ps) body (front, back, (x, y, e, hx, hy), split, more) = (x, Word y ∷ Comma ∷ back, split ∙ ap (λ (l : List Token). l ++ Comma ∷ back) e)
+
+-- after the `(` of a ring and some points
+after_open : (s0 s1 s : State) (ps : List Point) (body : List Token) → step s0 Open ≡ Ok s1 → Commas PointText ps body → run s1 body ≡ Ok s → (b : Context) × (s ≡ AfterPoint b ps)
+after_open AtKeyword s1 s ps body k text h = cc
+after_open (AfterKeyword true) s1 s ps body k text h =
+    let (w, rest, e) = begins_with_word ps body text in
+    let start : AtBody [] ≡ s1 = cc in
+    let no : run (AtBody []) (Word w ∷ rest) ≡ Ok s = rw (← start, e) at h in
+    cc
+after_open (AfterKeyword false) s1 s ps body k text h =
+    let (w, rest, e) = begins_with_word ps body text in
+    let start : new_body false [] ≡ s1 = cc in
+    let no : run (new_body false []) (Word w ∷ rest) ≡ Ok s = rw (← start, e) at h in
+    cc
+after_open (AtBody ms) s1 s ps body k text h =
+    let (w, rest, e) = begins_with_word ps body text in
+    let start : new_body true ms ≡ s1 = cc in
+    let no : run (new_body true ms) (Word w ∷ rest) ≡ Ok s = rw (← start, e) at h in
+    cc
+after_open (AtRing b) s1 s ps body k text h =
+    let start : AtX b [] ≡ s1 = cc in
+    let goes : run (AtX b []) (body ++ []) ≡ Ok (AfterPoint b ps) = points_run b [] ps body [] text in
+    let goes2 : run (AtX b []) body ≡ Ok (AfterPoint b ps) = ap (run (AtX b [])) (sym (append-nil body)) ∙ goes in
+    let here : run (AtX b []) body ≡ Ok s = ap (λ (v : State). run v body) start ∙ h in
+    (b, cc)
+after_open (AtX b ps') s1 s ps body k text h = cc
+after_open (AtY b ps' x) s1 s ps body k text h = cc
+after_open (AfterPoint b ps') s1 s ps body k text h = cc
+after_open (AfterRing b) s1 s ps body k text h = cc
+after_open (AfterBody ms) s1 s ps body k text h = cc
+after_open (AtEnd ms) s1 s ps body k text h = cc
+after_open (Finished ms) s1 s ps body k text h = cc
+
+point-only : (b : Context) (ps : List Point) (t : Token) (c : WktCode) → limited_step (AfterPoint b ps) t ≡ Err c → point_code ps t ≡ c
+point-only b ps Open c h = cc
+point-only b ps Close c h = close-code (nat_lt (length ps) 4) (is_closed ps) (AfterRing (with_ring b ps)) c h
+point-only b ps Comma c h = cc
+point-only b ps End c h = cc
+point-only b ps (Word w) c h = cc
+
+ring-code : (before : List Token) (s : State) (ps : List Point) (t : Token) (c : WktCode) → RingSoFar before ps → run AtKeyword before ≡ Ok s → limited_step s t ≡ Err c → point_code ps t ≡ c
+ring-code before s ps t c (front, body, e, text) h k =
+    let whole : and_then (run AtKeyword front) (λ s. run s (Open ∷ body)) ≡ Ok s = sym (run-append AtKeyword front (Open ∷ body)) ∙ ap (run AtKeyword) (sym e) ∙ h in
+    let a = then-ok (run AtKeyword front) (λ (v : State). run v (Open ∷ body)) s whole in
+    let o = then-ok (step a.0 Open) (λ (v : State). run v body) s a.2 in
+    let r = after_open a.0 o.0 s ps body o.1 text o.2 in
+    point-only r.0 ps t c (rw r.1 at k)
+
+abbrev IsAfterClose : State → Type 0
+IsAfterClose (AfterRing b) = Unit {0}
+IsAfterClose (AfterBody ms) = Unit {0}
+IsAfterClose (AtEnd ms) = Unit {0}
+IsAfterClose _ = ⊥
+
+after_body : (m : Bool) (ms : List Member) → IsAfterClose (cond m (AfterBody ms) (AtEnd ms))
+after_body true ms = tt
+after_body false ms = tt
+
+after_close : (s0 s : State) → step s0 Close ≡ Ok s → IsAfterClose s
+after_close AtKeyword s h = cc
+after_close (AfterKeyword m) s h = cc
+after_close (AtBody ms) s h = cc
+after_close (AtRing b) s h = cc
+after_close (AtX b ps) s h = cc
+after_close (AtY b ps x) s h = cc
+after_close (AfterPoint b ps) s h = rw (← (close_ring-ok b ps s h).1) tt
+after_close (AfterRing b) s h = let e : close_body b ≡ s = cc in rw (← e) (after_body b.multi (b.members ++ member_of b.rings ∷ []))
+after_close (AfterBody ms) s h = let e : AtEnd ms ≡ s = cc in rw (← e) tt
+after_close (AtEnd ms) s h = cc
+after_close (Finished ms) s h = cc
+
+close-only : (s : State) (t : Token) (c : WktCode) → IsAfterClose s → limited_step s t ≡ Err c → Syntax ≡ c
+close-only AtKeyword t c is h = absurd is
+close-only (AfterKeyword m) t c is h = absurd is
+close-only (AtBody ms) t c is h = absurd is
+close-only (AtRing b) t c is h = absurd is
+close-only (AtX b ps) t c is h = absurd is
+close-only (AtY b ps x) t c is h = absurd is
+close-only (AfterPoint b ps) t c is h = absurd is
+close-only (AfterRing b) Open c is h = cc
+close-only (AfterRing b) Close c is h = cc
+close-only (AfterRing b) Comma c is h = cc
+close-only (AfterRing b) End c is h = cc
+close-only (AfterRing b) (Word w) c is h = cc
+close-only (AfterBody ms) Open c is h = cc
+close-only (AfterBody ms) Close c is h = cc
+close-only (AfterBody ms) Comma c is h = cc
+close-only (AfterBody ms) End c is h = cc
+close-only (AfterBody ms) (Word w) c is h = cc
+close-only (AtEnd ms) Open c is h = cc
+close-only (AtEnd ms) Close c is h = cc
+close-only (AtEnd ms) Comma c is h = cc
+close-only (AtEnd ms) End c is h = cc
+close-only (AtEnd ms) (Word w) c is h = cc
+close-only (Finished ms) t c is h = absurd is
+
+pub after_end : (s0 s : State) → step s0 End ≡ Ok s → (ms : List Member) × (s ≡ Finished ms)
+after_end AtKeyword s h = cc
+after_end (AfterKeyword m) s h = cc
+after_end (AtBody ms) s h = cc
+after_end (AtRing b) s h = cc
+after_end (AtX b ps) s h = cc
+after_end (AtY b ps x) s h = cc
+after_end (AfterPoint b ps) s h = cc
+after_end (AfterRing b) s h = cc
+after_end (AfterBody ms) s h = cc
+after_end (AtEnd ms) s h = (ms, cc)
+after_end (Finished ms) s h = cc
+
+-- the step that took the last of the tokens before
+last_step : (before : List Token) (s : State) (t : Token) → EndsWith before t → run AtKeyword before ≡ Ok s → (s0 : State) × (step s0 t ≡ Ok s)
+last_step before s t (front, e) h =
+    let whole : and_then (run AtKeyword front) (λ s. run s (t ∷ [])) ≡ Ok s = sym (run-append AtKeyword front (t ∷ [])) ∙ ap (run AtKeyword) (sym e) ∙ h in
+    let a = then-ok (run AtKeyword front) (λ (v : State). run v (t ∷ [])) s whole in
+    let o = then-ok (step a.0 t) (λ (v : State). run v []) s a.2 in
+    let same : Ok o.0 ≡ Ok s = o.2 in
+    (a.0, o.1 ∙ same)
+
+past_end-only : (s : State) (t : Token) (c : WktCode) (ms : List Member) → s ≡ Finished ms → limited_step s t ≡ Err c → Syntax ≡ c
+past_end-only s t c ms e h = let k : limited_step (Finished ms) t ≡ Err c = rw e at h in cc
+
+-- the code of a row is that of the machine's step
+row-only : (before : List Token) (t : Token) (code c : WktCode) (s : State) → TableCode before t code → Tail s before
+    → run AtKeyword before ≡ Ok s → has_words s ≡ words before → words before ≤ most_words
+    → limited_step s t ≡ Err c → code ≡ c
+row-only before t code c s at_keyword r h n few k = let e : AtKeyword ≡ s = cc in keyword-only t c (rw (← e) at k)
+row-only before t code c s (at_first_open stands one) r h n few k = let o = stood before s Open h stands in first_open-only s o.0 before t c o.1 r one k
+row-only before t code c s (at_open stands more) r h n few k = let o = stood before s Open h stands in open-only s o.0 before t c o.1 r more k
+row-only before t code c s (at_coordinate stands) r h n few k = let o = stood before s (Word (codes "0")) h stands in coordinate-only s o.0 (words before) t c o.1 n few k
+row-only before t code c s (at_after_point ps ring) r h n few k = ring-code before s ps t c ring h k
+row-only before t code c s (at_after_close ends) r h n few k = let o = last_step before s Close ends h in close-only s t c (after_close o.0 s o.1) k
+row-only before t code c s (at_past_end ends) r h n few k = let o = last_step before s End ends h in let e = after_end o.0 s o.1 in past_end-only s t c e.0 e.1 k
+
+pub only_code : (before : List Token) (t : Token) (code c : WktCode) (s : State) → TableCode before t code → limited_run AtKeyword before ≡ Ok s → limited_step s t ≡ Err c → code ≡ c
+only_code before t code c s row h k =
+    let r = limited-run-ok before AtKeyword s (omega arith) h in
+    let n : has_words s ≡ words before = words-run before AtKeyword s r.0 ∙ omega arith in
+    row-only before t code c s row (tail before s r.0) r.0 n (omega (arith, r.1)) k
+
+refused : (before : List Token) (t : Token) (s : State) (r : Result State WktCode) → limited_step s t ≡ r
+    → limited_run AtKeyword before ≡ Ok s → (Viable (before ++ t ∷ []) → ⊥) → (c : WktCode) × (limited_step s t ≡ Err c)
+refused before t s (Ok s') e h cannot =
+    let goes : limited_run AtKeyword (before ++ t ∷ []) ≡ Ok s' = limited-append AtKeyword before (t ∷ []) ∙ rw (h, e) refl in
+    absurd (cannot (viable (before ++ t ∷ []) s' goes))
+refused before t s (Err c) e h cannot = (c, e)
+
+-- where the tokens before are viable and this token cannot stand, the machine stops
+pub stopped : (before : List Token) (t : Token) → Viable before → (Viable (before ++ t ∷ []) → ⊥) → (s : State) × (c : WktCode) × (limited_run AtKeyword before ≡ Ok s) × (limited_step s t ≡ Err c)
+stopped before t v cannot =
+    let (s, h) = taken before v in
+    let (c, k) = refused before t s (limited_step s t) refl h cannot in
+    (s, c, h, k)
+
+pub one_code : (before : List Token) (t : Token) (code code' : WktCode) → Viable before → (Viable (before ++ t ∷ []) → ⊥) → TableCode before t code → TableCode before t code' → code ≡ code'
+one_code before t code code' v cannot row row' =
+    let (s, c, h, k) = stopped before t v cannot in
+    only_code before t code c s row h k ∙ sym (only_code before t code' c s row' h k)

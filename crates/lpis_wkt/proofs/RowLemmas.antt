@@ -1,0 +1,159 @@
+-- The code of the first fault is that of the table.
+use Rattle.std.proofs.Common.{◌≡◌, ℕ, ◌+◌, ◌*◌, ◌≤◌, Bool, true, false, cond, ◌==◌, List, [], ◌∷◌, ◌++◌, length, Result, Ok, Err, refl, sym, ap, subst, ◌∙◌, inl, inr, arith, nat_le, nat_lt}
+use Rattle.std.specs.Prelude.{codes}
+use Rattle.std.proofs.lemmas.Bool.{cases_lt}
+use Rattle.std.proofs.lemmas.Bool.Decides.{nat_tests}
+use Rattle.lpis_rings.specs.Polygon.{most_points}
+use Rattle.lpis_wkt.specs.declared.fault.WktCode.{WktCode}
+use Rattle.lpis_wkt.specs.declared.fault.WktCode.TheVariants.{Keyword, Syntax, TooFewPoints, NotClosed, TooManyPoints}
+use Rattle.lpis_wkt.specs.declared.coordinate.Coordinate.{Coordinate}
+use Rattle.lpis_wkt.specs.Tokens.{Token, Open, Close, Comma, Word, End}
+use Rattle.lpis_wkt.specs.Number.{number}
+use Rattle.lpis_wkt.specs.private.Coordinates.{coordinate, point_of}
+use Rattle.lpis_wkt.specs.Grammar.{is_polygon, is_multi}
+use Rattle.lpis_wkt.specs.Viable.{Stands, words, most_words}
+use Rattle.lpis_wkt.specs.Table.{keyword_code, open_code, first_open_code, number_code, coordinate_code, point_code, TableCode, at_keyword, at_first_open, at_open, at_coordinate, at_after_point}
+use Rattle.lpis_wkt.specs.Table.{at_after_close, at_past_end}
+use Rattle.lpis_wkt.specs.private.Machine.{State, AtKeyword, AfterKeyword, AtBody, AtRing, AtX, AtY, AfterPoint, AfterRing, AfterBody, AtEnd, Finished, is_closed, with_coordinate, with_ring, new_body}
+use Rattle.lpis_wkt.specs.private.Machine.{open_text, points_before, step, run, limited_step, limited_run}
+use Rattle.lpis_wkt.proofs.PointLemmas.{err-coordinate}
+use Rattle.lpis_wkt.proofs.StepLemmas.{run-append}
+use Rattle.lpis_wkt.proofs.CompletingLemmas.{origin, zero_spelled, begins}
+use Rattle.lpis_wkt.proofs.CountingLemmas.{has_words, words-run, limited-run-ok}
+use Rattle.lpis_wkt.proofs.TailLemmas.{Tail, tail}
+
+-- a token that the step takes can stand
+pub stands : (before : List Token) (s s' : State) (t : Token) → run AtKeyword before ≡ Ok s → step s t ≡ Ok s' → Stands before t
+stands before s s' t h k = begins (before ++ t ∷ []) s' (run-append AtKeyword before (t ∷ []) ∙ rw (h, k) refl)
+
+err-same : {A : Type 0} (a b : WktCode) → ◌≡◌ {A = Result A WktCode} (Err a) (Err b) → a ≡ b
+err-same a b h = cc
+
+pub keyword-code : (p m : Bool) (f code : WktCode) → cond p (Ok (AfterKeyword false)) (cond m (Ok (AfterKeyword true)) (Err f)) ≡ Err code → f ≡ code
+keyword-code true m f code h = cc
+keyword-code false true f code h = cc
+keyword-code false false f code h = cc
+
+coordinate-code : (r : Result Coordinate WktCode) (f : Coordinate → State) (code : WktCode) → with_coordinate r f ≡ Err code → r ≡ Err code
+coordinate-code (Ok z) f code h = cc
+coordinate-code (Err e) f code h = cc
+
+pub number-code : (w : List ℕ) (f : Coordinate → State) (code : WktCode) → with_coordinate (coordinate w) f ≡ Err code → number_code (number w) ≡ code
+number-code w f code h = rw (err-coordinate w code (coordinate-code (coordinate w) f code h)) refl
+
+pub limited-code : (many : Bool) (w : List ℕ) (f : Coordinate → State) (code : WktCode) → cond many (Err TooManyPoints)
+    (with_coordinate (coordinate w) f) ≡ Err code → cond many TooManyPoints (number_code (number w)) ≡ code
+limited-code true w f code h = cc
+limited-code false w f code h = number-code w f code h
+
+pub close-code : (few closed : Bool) (b : State) (code : WktCode) → cond few (Err TooFewPoints) (cond closed (Ok b) (Err NotClosed)) ≡ Err code → cond few TooFewPoints NotClosed ≡ code
+close-code true closed b code h = cc
+close-code false true b code h = cc
+close-code false false b code h = cc
+
+pub same-test : (n words : ℕ) → words ≡ 2 * n + 1 → n ≤ most_points → nat_le most_points n ≡ (words == most_words)
+same-test n words h le = elim (cases_lt n most_points) [
+  | inl lt ↦ (let a : nat_le most_points n ≡ false = grind (arith, nat_tests) in let b : (words == most_words) ≡ false = grind (arith, nat_tests) in a ∙ sym b)
+  | inr ge ↦ (let a : nat_le most_points n ≡ true = grind (arith, nat_tests) in let b : (words == most_words) ≡ true = grind (arith, nat_tests) in a ∙ sym b)
+]
+
+pub even-test : (n words : ℕ) → words ≡ 2 * n + 2 → (words == most_words) ≡ false
+even-test n words h = grind (arith, nat_tests)
+
+coded : (before : List Token) (t : Token) (s : State) (code : WktCode) → Tail s before → run AtKeyword before ≡ Ok s → has_words s ≡ words before → has_words s ≤ most_words
+    → limited_step s t ≡ Err code → TableCode before t code
+coded before Open AtKeyword code r h n le k = subst (TableCode before Open) (err-same {A = State} Keyword code k) (subst (λ (l : List Token). TableCode l Open (keyword_code Open)) (sym r) at_keyword)
+coded before Close AtKeyword code r h n le k = subst (TableCode before Close) (err-same {A = State} Keyword code k)
+    (subst (λ (l : List Token). TableCode l Close (keyword_code Close)) (sym r) at_keyword)
+coded before Comma AtKeyword code r h n le k = subst (TableCode before Comma) (err-same {A = State} Keyword code k)
+    (subst (λ (l : List Token). TableCode l Comma (keyword_code Comma)) (sym r) at_keyword)
+coded before End AtKeyword code r h n le k = subst (TableCode before End) (err-same {A = State} Keyword code k) (subst (λ (l : List Token). TableCode l End (keyword_code End)) (sym r) at_keyword)
+coded before (Word w) AtKeyword code r h n le k = subst (TableCode before (Word w))
+    (keyword-code (is_polygon w) (is_multi w) (keyword_code (Word w)) code k)
+    (subst (λ (l : List Token). TableCode l (Word w) (keyword_code (Word w))) (sym r) at_keyword)
+coded before Open (AfterKeyword m) code r h n le k = cc
+coded before Close (AfterKeyword m) code r h n le k = subst (TableCode before Close)
+    (err-same {A = State} (first_open_code Close) code k)
+    (at_first_open (stands before (AfterKeyword m) (open_text m) Open h refl) r)
+coded before Comma (AfterKeyword m) code r h n le k = subst (TableCode before Comma)
+    (err-same {A = State} (first_open_code Comma) code k)
+    (at_first_open (stands before (AfterKeyword m) (open_text m) Open h refl) r)
+coded before End (AfterKeyword m) code r h n le k =
+    subst (TableCode before End) (err-same {A = State} (first_open_code End) code k)
+    (at_first_open (stands before (AfterKeyword m) (open_text m) Open h refl) r)
+coded before (Word w) (AfterKeyword m) code r h n le k = subst (TableCode before (Word w))
+    (err-same {A = State} (first_open_code (Word w)) code k)
+    (at_first_open (stands before (AfterKeyword m) (open_text m) Open h refl) r)
+coded before Open (AtBody ms) code r h n le k = cc
+coded before Close (AtBody ms) code r h n le k = subst (TableCode before Close) (err-same {A = State} (open_code Close) code k) (at_open (stands before (AtBody ms) (new_body true ms) Open h refl) r)
+coded before Comma (AtBody ms) code r h n le k = subst (TableCode before Comma) (err-same {A = State} (open_code Comma) code k) (at_open (stands before (AtBody ms) (new_body true ms) Open h refl) r)
+coded before End (AtBody ms) code r h n le k = subst (TableCode before End) (err-same {A = State} (open_code End) code k) (at_open (stands before (AtBody ms) (new_body true ms) Open h refl) r)
+coded before (Word w) (AtBody ms) code r h n le k = subst (TableCode before (Word w))
+    (err-same {A = State} (open_code (Word w)) code k)
+    (at_open (stands before (AtBody ms) (new_body true ms) Open h refl) r)
+coded before Open (AtRing b) code r h n le k = cc
+coded before Close (AtRing b) code r h n le k = subst (TableCode before Close) (err-same {A = State} (open_code Close) code k) (at_open (stands before (AtRing b) (AtX b []) Open h refl) r)
+coded before Comma (AtRing b) code r h n le k = subst (TableCode before Comma) (err-same {A = State} (open_code Comma) code k) (at_open (stands before (AtRing b) (AtX b []) Open h refl) r)
+coded before End (AtRing b) code r h n le k = subst (TableCode before End) (err-same {A = State} (open_code End) code k) (at_open (stands before (AtRing b) (AtX b []) Open h refl) r)
+coded before (Word w) (AtRing b) code r h n le k = subst (TableCode before (Word w)) (err-same {A = State} (open_code (Word w)) code k) (at_open (stands before (AtRing b) (AtX b []) Open h refl) r)
+coded before Open (AtX b ps) code r h n le k = subst (TableCode before Open) (err-same {A = State} Syntax code k)
+    (at_coordinate (stands before (AtX b ps) (AtY b ps origin) (Word (codes "0")) h (rw zero_spelled refl)))
+coded before Close (AtX b ps) code r h n le k = subst (TableCode before Close) (err-same {A = State} Syntax code k)
+    (at_coordinate (stands before (AtX b ps) (AtY b ps origin) (Word (codes "0")) h (rw zero_spelled refl)))
+coded before Comma (AtX b ps) code r h n le k = subst (TableCode before Comma) (err-same {A = State} Syntax code k)
+    (at_coordinate (stands before (AtX b ps) (AtY b ps origin) (Word (codes "0")) h (rw zero_spelled refl)))
+coded before End (AtX b ps) code r h n le k = subst (TableCode before End) (err-same {A = State} Syntax code k)
+    (at_coordinate (stands before (AtX b ps) (AtY b ps origin) (Word (codes "0")) h (rw zero_spelled refl)))
+coded before (Word w) (AtX b ps) code r h n le k =
+    let same : nat_le most_points (points_before b + length ps) ≡ (words before == most_words) = same-test (points_before b + length ps) (words before) (sym n) (omega arith) in
+    let c : cond (nat_le most_points (points_before b + length ps)) TooManyPoints (number_code (number w)) ≡ code = limited-code _ w (AtY b ps) code k in
+    let c2 : coordinate_code (words before) (Word w) ≡ code = ap (λ (v : Bool). cond v TooManyPoints (number_code (number w))) (sym same) ∙ c in
+    subst (TableCode before (Word w)) c2 (at_coordinate (stands before (AtX b ps) (AtY b ps origin) (Word (codes "0")) h (rw zero_spelled refl)))
+coded before Open (AtY b ps x) code r h n le k = subst (TableCode before Open) (err-same {A = State} Syntax code k)
+    (at_coordinate (stands before (AtY b ps x) (AfterPoint b (ps ++ point_of x origin ∷ [])) (Word (codes "0")) h
+    (rw zero_spelled refl)))
+coded before Close (AtY b ps x) code r h n le k = subst (TableCode before Close) (err-same {A = State} Syntax code k)
+    (at_coordinate (stands before (AtY b ps x) (AfterPoint b (ps ++ point_of x origin ∷ [])) (Word (codes "0")) h
+    (rw zero_spelled refl)))
+coded before Comma (AtY b ps x) code r h n le k = subst (TableCode before Comma) (err-same {A = State} Syntax code k)
+    (at_coordinate (stands before (AtY b ps x) (AfterPoint b (ps ++ point_of x origin ∷ [])) (Word (codes "0")) h
+    (rw zero_spelled refl)))
+coded before End (AtY b ps x) code r h n le k = subst (TableCode before End) (err-same {A = State} Syntax code k)
+    (at_coordinate (stands before (AtY b ps x) (AfterPoint b (ps ++ point_of x origin ∷ [])) (Word (codes "0")) h
+    (rw zero_spelled refl)))
+coded before (Word w) (AtY b ps x) code r h n le k =
+    let same : (words before == most_words) ≡ false = even-test (points_before b + length ps) (words before) (sym n) in
+    let c : number_code (number w) ≡ code = number-code w (λ y. AfterPoint b (ps ++ point_of x y ∷ [])) code k in
+    let c2 : coordinate_code (words before) (Word w) ≡ code = ap (λ (v : Bool). cond v TooManyPoints (number_code (number w))) same ∙ c in
+    subst (TableCode before (Word w)) c2 (at_coordinate (stands before (AtY b ps x) (AfterPoint b (ps ++ point_of x origin ∷ [])) (Word (codes "0")) h (rw zero_spelled refl)))
+coded before Open (AfterPoint b ps) code r h n le k = subst (TableCode before Open) (err-same {A = State} (point_code ps Open) code k) (at_after_point ps r)
+coded before Close (AfterPoint b ps) code r h n le k = subst (TableCode before Close) (close-code (nat_lt (length ps) 4) (is_closed ps) (AfterRing (with_ring b ps)) code k) (at_after_point ps r)
+coded before Comma (AfterPoint b ps) code r h n le k = cc
+coded before End (AfterPoint b ps) code r h n le k = subst (TableCode before End) (err-same {A = State} (point_code ps End) code k) (at_after_point ps r)
+coded before (Word w) (AfterPoint b ps) code r h n le k = subst (TableCode before (Word w)) (err-same {A = State} (point_code ps (Word w)) code k) (at_after_point ps r)
+coded before Open (AfterRing b) code r h n le k = subst (TableCode before Open) (err-same {A = State} Syntax code k) (at_after_close r)
+coded before Close (AfterRing b) code r h n le k = cc
+coded before Comma (AfterRing b) code r h n le k = cc
+coded before End (AfterRing b) code r h n le k = subst (TableCode before End) (err-same {A = State} Syntax code k) (at_after_close r)
+coded before (Word w) (AfterRing b) code r h n le k = subst (TableCode before (Word w)) (err-same {A = State} Syntax code k) (at_after_close r)
+coded before Open (AfterBody ms) code r h n le k = subst (TableCode before Open) (err-same {A = State} Syntax code k) (at_after_close r)
+coded before Close (AfterBody ms) code r h n le k = cc
+coded before Comma (AfterBody ms) code r h n le k = cc
+coded before End (AfterBody ms) code r h n le k = subst (TableCode before End) (err-same {A = State} Syntax code k) (at_after_close r)
+coded before (Word w) (AfterBody ms) code r h n le k = subst (TableCode before (Word w)) (err-same {A = State} Syntax code k) (at_after_close r)
+coded before Open (AtEnd ms) code r h n le k = subst (TableCode before Open) (err-same {A = State} Syntax code k) (at_after_close r)
+coded before Close (AtEnd ms) code r h n le k = subst (TableCode before Close) (err-same {A = State} Syntax code k) (at_after_close r)
+coded before Comma (AtEnd ms) code r h n le k = subst (TableCode before Comma) (err-same {A = State} Syntax code k) (at_after_close r)
+coded before End (AtEnd ms) code r h n le k = cc
+coded before (Word w) (AtEnd ms) code r h n le k = subst (TableCode before (Word w)) (err-same {A = State} Syntax code k) (at_after_close r)
+coded before Open (Finished ms) code r h n le k = subst (TableCode before Open) (err-same {A = State} Syntax code k) (at_past_end r)
+coded before Close (Finished ms) code r h n le k = subst (TableCode before Close) (err-same {A = State} Syntax code k) (at_past_end r)
+coded before Comma (Finished ms) code r h n le k = subst (TableCode before Comma) (err-same {A = State} Syntax code k) (at_past_end r)
+coded before End (Finished ms) code r h n le k = subst (TableCode before End) (err-same {A = State} Syntax code k) (at_past_end r)
+coded before (Word w) (Finished ms) code r h n le k = subst (TableCode before (Word w)) (err-same {A = State} Syntax code k) (at_past_end r)
+
+pub table_code : (before : List Token) (t : Token) (s : State) (code : WktCode) → limited_run AtKeyword before ≡ Ok s → limited_step s t ≡ Err code → TableCode before t code
+table_code before t s code h k =
+    let r = limited-run-ok before AtKeyword s (omega arith) h in
+    let n : has_words s ≡ words before = words-run before AtKeyword s r.0 ∙ omega arith in
+    coded before t s code (tail before s r.0) r.0 n (rw n (omega (arith, r.1))) k
