@@ -4,7 +4,7 @@ pub mod WordLemmas
 pub mod LineLemmas
 pub mod StepLemmas
 pub mod BlockLemmas
-pub mod QuickLemmas
+pub mod FastPathLemmas
 pub mod HeadLemmas
 pub mod DraftLemmas
 pub mod ReadLemmas

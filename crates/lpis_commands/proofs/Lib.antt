@@ -1,4 +1,4 @@
-pub mod AnswerLawLemmas
+pub mod OneAnswerLemmas
 pub mod AreaLemmas
 pub mod CheckLemmas
 pub mod CommandLemmas

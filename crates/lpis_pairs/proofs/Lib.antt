@@ -1,4 +1,4 @@
-pub mod PusheLemmas
+pub mod PushLemmas
 pub mod RowLemmas
 pub mod NearnessLemmas
 pub mod SpanLemmas

@@ -4,7 +4,7 @@ use Rattle.std.specs.List.{slice_get}
 use Rattle.std.proofs.lemmas.Option.{slice_get_within}
 use Rattle.lpis_points.specs.declared.triangle.Triangle.{Triangle}
 use Rattle.lpis_pairs.specs.NearPairs.{IsNear, IsBelow, IsNearList}
-use Rattle.lpis_pairs.proofs.PusheLemmas.{push_cases, push_old, push_new}
+use Rattle.lpis_pairs.proofs.PushLemmas.{push_cases, push_old, push_new}
 
 pub record NearUpTo (ts : List Triangle) (ps : List (ℕ × ℕ)) (i j : ℕ) : Type 0 where
   pub ascending : (k m : ℕ) (p q : ℕ × ℕ) → k < m → slice_get ps k ≡ Some p → slice_get ps m ≡ Some q → IsBelow p.0 p.1 q.0 q.1

@@ -1,12 +1,12 @@
 -- Machinery: laws of ℤ that std lacks: `*ℤ` is associative and distributes over `+ℤ`.
 use Rattle.std.proofs.Common.{◌≡◌, ℕ, ◌*◌, ℤ, pos, ◌+ℤ◌, ◌*ℤ◌, neg_ℤ, ap, arith}
 use Rattle.std.proofs.lemmas.Int.{ints}
-use borrow.Author.Differences.{up, down, sum_is_std, product_is, neg_is}
+use borrow.Author.Differences.{up, down, sum_is_lem, product_is, neg_is}
 
 pub mul-add_z : (a b c : ℤ) → a *ℤ (b +ℤ c) ≡ a *ℤ b +ℤ a *ℤ c
 mul-add_z a b c =
-    let e₁ = ap (λ (t : ℕ). up a * t) (sum_is_std b c) in
-    let e₂ = ap (λ (t : ℕ). down a * t) (sum_is_std b c) in
+    let e₁ = ap (λ (t : ℕ). up a * t) (sum_is_lem b c) in
+    let e₂ = ap (λ (t : ℕ). down a * t) (sum_is_lem b c) in
     omega (arith, ints)
 
 pub mul_comm_z : (a b : ℤ) → a *ℤ b ≡ b *ℤ a

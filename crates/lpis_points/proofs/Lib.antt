@@ -6,7 +6,7 @@ pub mod CrossingLemmas
 pub mod TriangleLemmas
 pub mod TurningLemmas
 pub mod SeparationLemmas
-pub mod ApartBoxeLemmas
+pub mod ApartBoxLemmas
 pub mod ShiftLemmas
 pub mod ChainLemmas
 pub mod OddLemmas

@@ -30,7 +30,7 @@ use Rattle.lpis_records.specs.private.Known.{HasText, line_at, line_in, span_in}
 use Rattle.lpis_records.proofs.AscendingLemmas.{Ascends, below, below-alone}
 use Rattle.lpis_records.proofs.KnownLemmas.{AreLive, take-whole}
 use Rattle.lpis_records.proofs.OneHistoryLemmas.{have-texts, rows-apart}
-use Rattle.lpis_records.proofs.ReleaseMoreLemmas.{any-map}
+use Rattle.lpis_records.proofs.NextReleaseLemmas.{any-map}
 use Rattle.lpis_records.proofs.SayingLemmas.{first_of, rest}
 use Rattle.lpis_records.proofs.YearLemmas.{lines-above, years-ascend}
 

@@ -7,7 +7,7 @@ pub mod OneHistoryLemmas
 pub mod MovingLemmas
 pub mod FreshLemmas
 pub mod KnownLemmas
-pub mod ReleaseMoreLemmas
+pub mod NextReleaseLemmas
 pub mod SayingLemmas
 pub mod LiveRowLemmas
 pub mod SpanListLemmas

@@ -22,7 +22,7 @@ use Rattle.lpis_records.specs.private.Known.{HasText, SetsAre, line_cmp, line_in
 use Rattle.lpis_records.proofs.FreshLemmas.{same-truth}
 use Rattle.lpis_records.proofs.LiveRowLemmas.{above-zero, any-contains, covered, covers-one, one-covers, some-contained}
 use Rattle.lpis_records.proofs.RefusingLemmas.{told-sorted-lines}
-use Rattle.lpis_records.proofs.ReleaseMoreLemmas.{any-map}
+use Rattle.lpis_records.proofs.NextReleaseLemmas.{any-map}
 
 pub live-ids : (h : List Entry) (live : List Live) → IsKept h → LiveTells live h → All (λ l. is_id l.id ≡ true) live
 live-ids h live kept t k d lt = let r = t.right (get_or live k d) (Contains-get_or live k d lt) in kept.ids (get_or live k d).id r.0 r.3

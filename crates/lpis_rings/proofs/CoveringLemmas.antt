@@ -15,7 +15,7 @@ use Rattle.lpis_points.proofs.OddLemmas.{crossing-odd}
 use Rattle.lpis_points.proofs.ShiftLemmas.{shifted_off, crossing-shifted}
 use Rattle.lpis_points.proofs.TurningLemmas.{turns_round-is, flats_never_turn}
 use Rattle.lpis_points.proofs.CornerLemmas.{corners_differ}
-use Rattle.lpis_points.proofs.ApartBoxeLemmas.{apart_share_nothing}
+use Rattle.lpis_points.proofs.ApartBoxLemmas.{apart_share_nothing}
 use Rattle.lpis_points.proofs.SeparationLemmas.{separated_share_nothing}
 use Rattle.lpis_rings.specs.Edges.{edge_turns}
 use Rattle.lpis_rings.specs.Map.{edges_of_triangles, KeepApart, AllKeepApart, IsCut, inside_count, CutPiece, all_triangles, all_edges, all_turns, IsOneOrNone}

@@ -1,5 +1,5 @@
 use Rattle.lpis_cert.specs.Contents.{corner_numbers}
-use Rattle.lpis_cert.proofs.QuickLemmas.{corners_begin}
+use Rattle.lpis_cert.proofs.FastPathLemmas.{corners_begin}
 use Rattle.lpis_cert.proofs.fast_path.leading_corners.Goals as goal
 
 pub returns : goal.returns

@@ -1,5 +1,5 @@
 use Rattle.std.proofs.Common.{◌+◌, ℕ, ap, sym, ◌∙◌}
-use Rattle.lpis_cert.proofs.QuickLemmas.{digits_begin, digit_more}
+use Rattle.lpis_cert.proofs.FastPathLemmas.{digits_begin, digit_more}
 use Rattle.lpis_cert.proofs.fast_path.leading_digits.Goals as goal
 
 pub returns-then-b-end : goal.returns-then-b-end

@@ -1,4 +1,4 @@
-use Rattle.lpis_cert.proofs.QuickLemmas.{zero_begins}
+use Rattle.lpis_cert.proofs.FastPathLemmas.{zero_begins}
 use Rattle.lpis_cert.proofs.fast_path.leading_number.Goals as goal
 
 pub returns-in-Some : goal.returns-in-Some

@@ -1,4 +1,4 @@
-use Rattle.lpis_cert.proofs.QuickLemmas.{first_byte}
+use Rattle.lpis_cert.proofs.FastPathLemmas.{first_byte}
 use Rattle.lpis_cert.proofs.fast_path.skip.Goals as goal
 
 pub returns-then-first-byte : goal.returns-then-first-byte

@@ -3,7 +3,7 @@ use Rattle.std.proofs.lemmas.Result.{err_from_is_err_and}
 use Rattle.lpis_lineage.specs.declared.row.Row.{Row}
 use Rattle.lpis_lineage.specs.Accepts.{AddTells, Adds}
 use Rattle.lpis_records.specs.private.Known.{line_in}
-use Rattle.lpis_records.proofs.ReleaseMoreLemmas.{lines-added, sets-added, year-added}
+use Rattle.lpis_records.proofs.NextReleaseLemmas.{lines-added, sets-added, year-added}
 use Rattle.lpis_records.proofs.FrontLemmas.{due-added, due-refused, due-rows, due-run}
 use Rattle.lpis_records.proofs.building.add_year.Goals as goal
 

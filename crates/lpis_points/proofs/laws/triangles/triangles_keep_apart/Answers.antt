@@ -1,4 +1,4 @@
-use Rattle.lpis_points.proofs.ApartBoxeLemmas.{apart_share_nothing}
+use Rattle.lpis_points.proofs.ApartBoxLemmas.{apart_share_nothing}
 use Rattle.lpis_points.proofs.SeparationLemmas.{separated_share_nothing}
 use Rattle.lpis_points.proofs.laws.triangles.triangles_keep_apart.Goals as goal
 
