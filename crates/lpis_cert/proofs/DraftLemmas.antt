@@ -195,8 +195,7 @@ whole_of ps qs rs start n rest m f none =
       added = end_lines rs;
       parts = f.parts ∙ ap (λ (r : List ℕ). text_of_lines (end_lines rs) ++ r) no
           ∙ append-nil (text_of_lines (end_lines rs));
-      lines =
-          sym (append_assoc (pieces_lines ps) (parcels_lines qs) (end_lines rs));
+      lines = sym (append_assoc (pieces_lines ps) (parcels_lines qs) (end_lines rs));
     }
 
 -- ---- faults inside a block

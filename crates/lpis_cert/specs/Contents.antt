@@ -26,8 +26,7 @@ abbrev pub content_of : Cert → Content
 content_of c = record {
   pieces = map piece_of c.pieces;
   parcels = map parcel_of c.parcels;
-  pairs =
-      map separator_of c.pairs;
+  pairs = map separator_of c.pairs;
 }
 
 -- the text of a certificate

@@ -234,8 +234,7 @@ found_inside r s x a f =
       place = f.place;
       item = f.item;
       at = f.at;
-      has =
-          (piece_in s f.item (all_at (OneAt s) (pieces_named r x.id) f.place f.item f.at a.each)).0 f.has;
+      has = (piece_in s f.item (all_at (OneAt s) (pieces_named r x.id) f.place f.item f.at a.each)).0 f.has;
     }))
 
 few_pieces : (s : RationalPoint) (xs : List Piece) → All (OneAt s) xs → IsOneOrNone (total (turns_at s) xs) → AtMostOne (IsInPiece s) xs

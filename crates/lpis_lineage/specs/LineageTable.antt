@@ -32,8 +32,7 @@ abbrev pub lineage_table : RowsOf Row
 lineage_table = record {
   table = Lineage;
   columns = codes "old" ∷ codes "new" ∷ [];
-  faults =
-      λ keys. lineage_faults;
+  faults = λ keys. lineage_faults;
   value = row_of;
 }
 

@@ -36,8 +36,7 @@ impl Model for Change {
     ghost view = { λ a. record {
       kinds = a.kinds.entries;
       dropped_ids = a.dropped.items;
-      rows =
-          a.rows.items;
+      rows = a.rows.items;
     } };
 
     ghost invariant = { λ a. IsAscending a.dropped.items };

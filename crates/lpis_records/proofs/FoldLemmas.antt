@@ -60,10 +60,8 @@ pub published-is : (year last : ℤ) (gone fresh : List (List ℕ)) (rows : List
     → published year last gone fresh rows c ≡ record {
       formats = c.formats;
       years = year ∷ c.years;
-      spans =
-          rev_onto (map (fresh_span year) fresh) (map (end_among last gone) c.spans);
-      lines =
-          rev_onto (lines_from year 0 rows) c.lines;
+      spans = rev_onto (map (fresh_span year) fresh) (map (end_among last gone) c.spans);
+      lines = rev_onto (lines_from year 0 rows) c.lines;
       live = c.live;
     }
 published-is year last gone fresh rows c =

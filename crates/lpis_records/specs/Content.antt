@@ -43,8 +43,7 @@ abbrev pub no_content : Content
 no_content = record {
   formats = (record { one = pos 1; version = pos 2 }) ∷ [];
   years = [];
-  spans =
-      [];
+  spans = [];
   lines = [];
   live = [];
 }

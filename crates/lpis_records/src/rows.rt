@@ -105,8 +105,7 @@ impl Model for LineRow {
       year = a.year;
       place = a.place;
       old = string_bytes a.old;
-      new =
-          string_bytes a.new;
+      new = string_bytes a.new;
     } };
 }
 

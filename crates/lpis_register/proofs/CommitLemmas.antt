@@ -61,8 +61,7 @@ pub opened_unmade : (is_new : Bool) (old new : State) → ((shape : Shape) (c : 
 opened_unmade is_new old new never fresh told =
     survives_weaker old new _ _ (λ _ db left. record {
       found = λ shape c r. absurd (never shape c r);
-      bare =
-          λ bare. made_history db told (left (fresh bare) bare);
+      bare = λ bare. made_history db told (left (fresh bare) bare);
     })
 
 -- where they are made

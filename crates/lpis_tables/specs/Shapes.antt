@@ -16,8 +16,7 @@ abbrev pub schema_of : Shape → Schema
 schema_of New =
     record {
       tables = format_table 0 ∷ release_table 1 ∷ span_table 2 ∷ row_table 4 ∷ [];
-      indexes =
-          span_index 2 ∷ row_index 4 ∷ [];
+      indexes = span_index 2 ∷ row_index 4 ∷ [];
       views = [];
     }
 schema_of First = record {

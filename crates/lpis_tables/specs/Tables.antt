@@ -18,8 +18,7 @@ strict name kind = record {
   kind = kind;
   is_strict = true;
   not_null = true;
-  default =
-      Null;
+  default = Null;
   collation = Binary;
 }
 
@@ -27,8 +26,7 @@ abbrev pub to_release : Reference
 to_release = record {
   columns = 1 ∷ [];
   parent = codes "lpis_release";
-  parent_columns =
-      codes "year" ∷ [];
+  parent_columns = codes "year" ∷ [];
   on_delete = NoAction;
   on_update = NoAction;
   is_deferred = false;

@@ -6,7 +6,6 @@ abbrev pub inputs_of : InputBytes → Inputs
 inputs_of i = record {
   parcels = i.tables.parcels.items;
   covers = i.tables.covers.items;
-  classes =
-      i.tables.classes.items;
+  classes = i.tables.classes.items;
   cert = i.cert.items;
 }

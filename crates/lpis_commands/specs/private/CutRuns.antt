@@ -7,6 +7,5 @@ abbrev pub answered : Outcome → CutAnswer
 answered o = record {
   cert = option_map (λ v. v.items) o.cert;
   line = o.printed.text.items;
-  status =
-      o.printed.status;
+  status = o.printed.status;
 }

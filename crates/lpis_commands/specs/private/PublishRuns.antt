@@ -20,8 +20,7 @@ abbrev pub publication_of : ℕ → PublicationBytes → Publication
 publication_of year p = record {
   year = year;
   checked = inputs_of p.checked;
-  lineage =
-      p.lineage.items;
+  lineage = p.lineage.items;
 }
 
 -- a release was put at the end of a history, after which it may follow

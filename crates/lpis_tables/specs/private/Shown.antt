@@ -23,16 +23,14 @@ abbrev pub span_shown : Row → StoredSpan
 span_shown row = record {
   id = text_in (column row 0);
   since = id_in (column row 1);
-  until =
-      id_in (column row 2);
+  until = id_in (column row 2);
 }
 
 abbrev pub line_shown : Row → Line
 line_shown row = record {
   year = id_in (column row 0);
   place = id_in (column row 1);
-  old =
-      text_in (column row 2);
+  old = text_in (column row 2);
   new = text_in (column row 3);
 }
 
