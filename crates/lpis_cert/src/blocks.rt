@@ -76,13 +76,15 @@ fn piece_block<'a>(
     start: Rest<'a>,
     after: Rest<'a>,
 ) -> Result<(Draft, Rest<'a>), CertFault>
-    requires begins { ReadsLines start.text.now start.line (PieceLine id triangle_count flat_count ∷ [])
+    requires begins { ReadsLines start.text.now start.line
+        (PieceLine id triangle_count flat_count ∷ [])
         after.text.now after.line }
     requires named { is_id id ≡ true }
     requires fresh { draft.stage ≡ stage.Pieces }
-    ensures ok { IfOk result (λ x. DraftGrown draft x.0 start.entry.text.now start.entry.line x.1.text.now
-        x.1.line) }
-    ensures err { IfErr result (λ e. FaultFrom e start.entry.line (draft_place draft) start.entry.text.now) }
+    ensures ok { IfOk result (λ x. DraftGrown draft x.0 start.entry.text.now start.entry.line
+        x.1.text.now x.1.line) }
+    ensures err { IfErr result (λ e. FaultFrom e start.entry.line (draft_place draft)
+        start.entry.text.now) }
 {
     let Draft {
         mut pieces,
@@ -124,9 +126,10 @@ fn parcel_block<'a>(
     requires begins { ReadsLines start.text.now start.line (ParcelLine id flat_count ∷ [])
         after.text.now after.line }
     requires named { is_id id ≡ true }
-    ensures ok { IfOk result (λ x. DraftGrown draft x.0 start.entry.text.now start.entry.line x.1.text.now
-        x.1.line) }
-    ensures err { IfErr result (λ e. FaultFrom e start.entry.line (draft_place draft) start.entry.text.now) }
+    ensures ok { IfOk result (λ x. DraftGrown draft x.0 start.entry.text.now start.entry.line
+        x.1.text.now x.1.line) }
+    ensures err { IfErr result (λ e. FaultFrom e start.entry.line (draft_place draft)
+        start.entry.text.now) }
 {
     let Draft {
         pieces,
@@ -166,7 +169,8 @@ fn finish(
         after.line }
     ensures ok { IfOk result (λ cert. Whole (draft_lines draft) (lines_of (content_of cert))
         start.entry.text.now) }
-    ensures err { IfErr result (λ e. FaultFrom e start.entry.line (draft_place draft) start.entry.text.now) }
+    ensures err { IfErr result (λ e. FaultFrom e start.entry.line (draft_place draft)
+        start.entry.text.now) }
 {
     let (pairs, last) = pair_lines(alloc, count, after)?;
     let rest = end_line(last)?;
@@ -195,7 +199,8 @@ pub(crate) fn next_block<'a>(
     rest: Rest<'a>,
 ) -> Result<Progress<'a>, CertFault>
     ensures ok { IfOk result (λ t. Progressed draft t rest.entry.text.now rest.entry.line) }
-    ensures err { IfErr result (λ e. FaultFrom e rest.entry.line (draft_place draft) rest.entry.text.now) }
+    ensures err { IfErr result (λ e. FaultFrom e rest.entry.line (draft_place draft)
+        rest.entry.text.now) }
 {
     let (head, after) = head_at(alloc, draft.stage, rest)?;
     match head {

@@ -123,8 +123,8 @@ fn letter(flat: bool) -> u8
 
 /// A triangle line or a flat line, and the text after its end.
 pub(crate) fn leading_corners(flat: bool, text: &[u8]) -> Option<(Triangle, &[u8])>
-    ensures { IfSome result (λ t. Begins text.now (spelling (corner_line flat (corner_numbers t.0))) 10
-        t.1.now) }
+    ensures { IfSome result (λ t. Begins text.now (spelling (corner_line flat (corner_numbers t.0)))
+        10 t.1.now) }
 {
     let after = skip(text, letter(flat))?;
     let fields = skip(after, b' ')?;

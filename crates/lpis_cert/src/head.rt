@@ -79,11 +79,12 @@ pub(crate) fn head_at(
     stage: Stage,
     rest: Rest<'_>,
 ) -> Result<(Head, Rest<'_>), CertFault>
-    ensures ok { IfOk result (λ x. ReadsLines rest.entry.text.now rest.entry.line (head_line x.0 ∷ [])
-        x.1.text.now x.1.line) }
+    ensures ok { IfOk result (λ x. ReadsLines rest.entry.text.now rest.entry.line
+        (head_line x.0 ∷ []) x.1.text.now x.1.line) }
     ensures fits { IfOk result (λ x. LineFits (head_line x.0)) }
     ensures stands { IfOk result (λ x. can_stand (Block stage) (line_kind (head_line x.0)) ≡ true) }
-    ensures err { IfErr result (λ e. LineFault e rest.entry.line (Block stage) rest.entry.text.now) }
+    ensures err { IfErr result
+        (λ e. LineFault e rest.entry.line (Block stage) rest.entry.text.now) }
 {
     let (kind, words, after) = placed_line(Expected::Block(stage), rest)?;
     let line = rest.line;

@@ -105,7 +105,8 @@ pub(crate) fn corner_lines(
 /// A pair line.
 pub(crate) fn pair_line(rest: Rest<'_>) -> Result<(PairLine, Rest<'_>), CertFault>
     ensures { MatchResult result
-        (λ x. ReadsLines rest.entry.text.now rest.entry.line (separator_line (separator_of x.0) ∷ [])
+        (λ x. ReadsLines rest.entry.text.now rest.entry.line
+        (separator_line (separator_of x.0) ∷ [])
         x.1.text.now x.1.line)
         (λ e. LineFault e rest.entry.line (One kind.Pair) rest.entry.text.now) }
 {
@@ -129,7 +130,8 @@ pub(crate) fn pair_lines(
         (λ x. ReadsLines rest.entry.text.now rest.entry.line
         (map separator_line (map separator_of x.0.items)) x.1.text.now x.1.line) }
     ensures count { IfOk result (λ x. length x.0.items ≡ count) }
-    ensures err { IfErr result (λ e. FaultFrom e rest.entry.line (InPairs count) rest.entry.text.now) }
+    ensures err { IfErr result
+        (λ e. FaultFrom e rest.entry.line (InPairs count) rest.entry.text.now) }
 {
     let mut pairs = Vec::new(alloc);
     let mut left = rest;

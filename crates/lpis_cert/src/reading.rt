@@ -29,7 +29,8 @@ fn is_first_line(line: &[u8]) -> bool
 
 /// What comes after the first line.
 fn after_version(rest: Rest<'_>) -> Result<Rest<'_>, CertFault>
-    ensures { MatchResult result (λ x. (rest.entry.text.now ≡ first_line written ++ (10 ∷ x.text.now))
+    ensures { MatchResult result
+        (λ x. (rest.entry.text.now ≡ first_line written ++ (10 ∷ x.text.now))
         × (outcome rest.entry.line AtVersion (lines rest.entry.text.now) ≡ outcome x.line
         (InBody Pieces 0 0 none_declared) (lines x.text.now)))
         (λ e. FaultFrom e rest.entry.line AtVersion rest.entry.text.now) }
@@ -65,7 +66,8 @@ fn no_blocks(alloc: Global) -> Draft
 
 /// The certificate of the lines after the first.
 fn read_blocks(alloc: Global, start: Rest<'_>) -> Result<Cert, CertFault>
-    ensures ok { IfOk result (λ cert. start.entry.text.now ≡ text_of_lines (lines_of (content_of cert))) }
+    ensures ok { IfOk result
+        (λ cert. start.entry.text.now ≡ text_of_lines (lines_of (content_of cert))) }
     ensures err { IfErr result (λ e. FaultFrom e start.entry.line (InBody Pieces 0 0 none_declared)
         start.entry.text.now) }
 {

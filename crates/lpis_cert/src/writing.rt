@@ -79,7 +79,8 @@ fn write_all_corners<W: Write>(
 #[tactic(auto, unfolding(crate::specs::private::Written::line_text, crate::specs::CertText::spelling, crate::specs::CertText::words_of, crate::specs::CertText::text_of_lines))]
 fn write_piece_line<W: Write>(piece: &PiecePart, out: &mut W) -> Result<(), WriteFault>
     ensures { OnOk result (Appends (W.contents out.old) (W.contents out.new)
-        (line_text (PieceLine piece.now.id (length piece.now.triangles) (length piece.now.flats)))) }
+        (line_text (PieceLine piece.now.id (length piece.now.triangles)
+        (length piece.now.flats)))) }
 {
     let id = piece.id.as_str();
     let triangles = piece.triangles.as_slice().len();
@@ -89,7 +90,8 @@ fn write_piece_line<W: Write>(piece: &PiecePart, out: &mut W) -> Result<(), Writ
 }
 
 fn write_piece<W: Write>(piece: &PiecePart, out: &mut W) -> Result<(), WriteFault>
-    ensures { OnOk result (Appends (W.contents out.old) (W.contents out.new) (piece_text piece.now)) }
+    ensures { OnOk result (Appends (W.contents out.old) (W.contents out.new)
+        (piece_text piece.now)) }
 {
     write_piece_line(piece, out)?;
     write_all_corners(false, piece.triangles.as_slice(), out)?;
@@ -108,7 +110,8 @@ fn write_parcel_line<W: Write>(parcel: &ParcelPart, out: &mut W) -> Result<(), W
 }
 
 fn write_parcel<W: Write>(parcel: &ParcelPart, out: &mut W) -> Result<(), WriteFault>
-    ensures { OnOk result (Appends (W.contents out.old) (W.contents out.new) (parcel_text parcel.now)) }
+    ensures { OnOk result (Appends (W.contents out.old) (W.contents out.new)
+        (parcel_text parcel.now)) }
 {
     write_parcel_line(parcel, out)?;
     write_all_corners(true, parcel.flats.as_slice(), out)
@@ -135,7 +138,8 @@ fn write_parcels<W: Write>(parcels: &[ParcelPart], out: &mut W) -> Result<(), Wr
 }
 
 fn write_pairs<W: Write>(pairs: &[PairLine], out: &mut W) -> Result<(), WriteFault>
-    ensures { OnOk result (Appends (W.contents out.old) (W.contents out.new) (pairs_text pairs.now)) }
+    ensures { OnOk result (Appends (W.contents out.old) (W.contents out.new)
+        (pairs_text pairs.now)) }
 {
     for pair in pairs {
         write_pair(*pair, out)?;
@@ -186,7 +190,8 @@ fn write_from_parcels<W: Write>(cert: &Cert, out: &mut W) -> Result<(), WriteFau
 }
 
 fn write_parts<W: Write>(cert: &Cert, out: &mut W) -> Result<(), WriteFault>
-    ensures { OnOk result (Appends (W.contents out.old) (W.contents out.new) (parts_text cert.now)) }
+    ensures { OnOk result (Appends (W.contents out.old) (W.contents out.new)
+        (parts_text cert.now)) }
 {
     write_version(out)?;
     write_pieces(cert.pieces.as_slice(), out)?;

@@ -115,7 +115,8 @@ impl<'a> Yes<'a> {
     /// The identifiers of the one parcel and of the one piece that contain a point. None exactly
     /// where no parcel contains it. It takes no memory.
     pub fn locate(&self, p: &RatPoint) -> Option<(&'a Id, &'a Id)>
-        ensures found { IfSome result (λ ids. IsLocated self.now (rational_of p.now) ids.0.now ids.1.now) }
+        ensures found { IfSome result (λ ids. IsLocated self.now (rational_of p.now) ids.0.now
+            ids.1.now) }
         ensures nowhere { IfNone result (IsNowhere self.now (rational_of p.now)) }
         ensures sound { IsSoundMap self.now }
     {

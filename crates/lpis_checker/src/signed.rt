@@ -99,7 +99,8 @@ pub(crate) fn take_triangles(
     sum: &mut Vec<SignedEdge>,
     triangles: &[Triangle],
 ) -> Result<(), AllocError>
-    ensures { OnOk result (Grows false (edges_of_triangles triangles.now) sum.old.items sum.new.items) }
+    ensures { OnOk result (Grows false (edges_of_triangles triangles.now) sum.old.items
+        sum.new.items) }
 {
     for triangle in triangles {
         take_triangle(sum, triangle)?;

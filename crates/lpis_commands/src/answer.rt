@@ -26,7 +26,8 @@ pub(crate) struct Answer {
 impl Answer {
     /// The line of a refused table.
     pub(crate) fn refuse_table(alloc: Global, fault: &TableFault) -> Result<Answer, AllocError>
-        ensures { IfOk result (λ a. (a.text.items ≡ refusal_text fault.now) × (a.status ≡ unreadable)) }
+        ensures { IfOk result (λ a. (a.text.items ≡ refusal_text fault.now)
+            × (a.status ≡ unreadable)) }
     {
         let mut text = Vec::new(alloc);
         match print_table_fault(fault, &mut text) {
@@ -41,7 +42,8 @@ impl Answer {
     /// Writes its text. Ok is its status.
     pub(crate) fn write_to<W: Write>(&self, out: &mut W) -> Result<u8, Failure>
         ensures status { IfOk result (λ status. status ≡ self.now.status) }
-        ensures text { OnOk result (Appends (W.contents out.old) (W.contents out.new) self.now.text.items) }
+        ensures text { OnOk result (Appends (W.contents out.old) (W.contents out.new)
+            self.now.text.items) }
         ensures failure { IfErr result (λ failure. (failure ≡ Failure.Write Name.Out)
             × Begins (W.contents out.old) (W.contents out.new) self.now.text.items) }
     {

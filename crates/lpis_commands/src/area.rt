@@ -64,7 +64,8 @@ pub fn run_area<R: Read + Drop, W: Write>(
     ensures answer { IfOk result (λ status. (bytes : List ℕ) × IsRead bytes (R.remaining table)
         × AnswersArea bytes status (W.contents out.old) (W.contents out.new)) }
     // A beginning of the answer was written, or nothing.
-    ensures failure { IfErr result (λ failure. Halts failure (R.remaining table) (W.contents out.old)
+    ensures failure { IfErr result
+        (λ failure. Halts failure (R.remaining table) (W.contents out.old)
         (W.contents out.new)) }
 {
     let bytes = read_named(alloc, table, Name::Area)?;

@@ -52,7 +52,8 @@ pub(crate) fn refuse_text(alloc: Global, fault: &CertFault) -> Result<Answer, Al
 
 /// The line of a certificate that is not good.
 pub(crate) fn refuse_cert(alloc: Global, fault: &CheckFault) -> Result<Answer, AllocError>
-    ensures { IfOk result (λ a. (a.text.items ≡ check_refusal_text fault.now) × (a.status ≡ refused)) }
+    ensures { IfOk result (λ a. (a.text.items ≡ check_refusal_text fault.now)
+        × (a.status ≡ refused)) }
 {
     let mut text = Vec::new(alloc);
     match print_check_fault(fault, &mut text) {
@@ -77,7 +78,8 @@ fn report(alloc: Global, yes: &Yes<'_>) -> Result<Answer, AllocError>
 
 /// The answer to a release and a certificate.
 fn answer_to_cert(alloc: Global, release: &Release, cert: &Cert) -> Result<Answer, AllocError>
-    ensures answer { IfOk result (λ a. IsCheckAnswer release.now cert.now (report_text release.now, done)
+    ensures answer { IfOk result
+        (λ a. IsCheckAnswer release.now cert.now (report_text release.now, done)
         (a.text.items, a.status)) }
     ensures proved { IfOk result (λ a. a.status ≡ done → IsSoundMap release.now
         × IsGood release.now cert.now) }
@@ -95,7 +97,8 @@ fn answer_to_cert(alloc: Global, release: &Release, cert: &Cert) -> Result<Answe
 
 /// The answer to a release and the text of a certificate.
 fn answer_to_text(alloc: Global, release: &Release, text: &[u8]) -> Result<Answer, AllocError>
-    ensures answer { IfOk result (λ a. IsReleaseAnswer text.now release.now (a.text.items, a.status)) }
+    ensures answer { IfOk result
+        (λ a. IsReleaseAnswer text.now release.now (a.text.items, a.status)) }
     ensures proved { IfOk result (λ a. a.status ≡ done → IsSoundMap release.now
         × ((c : Cert) × (text.now ≡ cert_text c) × IsGood release.now c)) }
 {
@@ -129,7 +132,8 @@ pub(crate) fn read_inputs<P: Read + Drop, C: Read + Drop, K: Read + Drop, E: Rea
     classes: K,
     cert: E,
 ) -> Result<InputBytes, Failure>
-    ensures bytes { IfOk result (λ i. AreRead (inputs_of i) (P.remaining parcels) (C.remaining covers)
+    ensures bytes { IfOk result
+        (λ i. AreRead (inputs_of i) (P.remaining parcels) (C.remaining covers)
         (K.remaining classes) (E.remaining cert)) }
     ensures failure { IfErr result (IsUnchecked (P.remaining parcels) (C.remaining covers)
         (K.remaining classes)) }
@@ -154,11 +158,12 @@ pub fn run_check<P: Read + Drop, C: Read + Drop, K: Read + Drop, E: Read + Drop,
     cert: E,
     out: &mut W,
 ) -> Result<u8, Failure>
-    ensures answer { IfOk result (λ status. (x : Inputs) × AreRead x (P.remaining parcels) (C.remaining covers)
-        (K.remaining classes) (E.remaining cert) × Ends x status (W.contents out.old)
-        (W.contents out.new)) }
+    ensures answer { IfOk result (λ status. (x : Inputs) × AreRead x (P.remaining parcels)
+        (C.remaining covers) (K.remaining classes) (E.remaining cert)
+        × Ends x status (W.contents out.old) (W.contents out.new)) }
     // A beginning of the answer was written, or nothing.
-    ensures failure { IfErr result (λ failure. Halts failure (P.remaining parcels) (C.remaining covers)
+    ensures failure { IfErr result
+        (λ failure. Halts failure (P.remaining parcels) (C.remaining covers)
         (K.remaining classes) (E.remaining cert) (W.contents out.old) (W.contents out.new)) }
 {
     let inputs = read_inputs(alloc, parcels, covers, classes, cert)?;

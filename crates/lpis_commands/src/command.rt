@@ -234,7 +234,8 @@ fn command_line<'a>(alloc: Global) -> Result<Command<'a>, AllocError>
 
 /// The word of an argument.
 fn word_of<'a>(matches: &ArgMatches<'a>, id: &str) -> Option<&'a str>
-    ensures { IfSome result (λ word. first_of id.now (rows_of (found_of matches.now)) ≡ Some word.now) }
+    ensures { IfSome result (λ word. first_of id.now (rows_of (found_of matches.now)) ≡ Some
+        word.now) }
 {
     matches.get_str(id)
 }

@@ -40,7 +40,8 @@ impl Outcome {
         ensures whole { OnOk result (Gets (E.contents cert_out.old) (E.contents cert_out.new)
             (answered self.now).cert) }
         ensures part { IfErr result (λ failure. (failure ≡ Failure.Write Name.Cert)
-            × GetsPart (E.contents cert_out.old) (E.contents cert_out.new) (answered self.now).cert) }
+            × GetsPart (E.contents cert_out.old) (E.contents cert_out.new)
+            (answered self.now).cert) }
     {
         match &self.cert {
             Some(text) => write_text(text.as_slice(), Name::Cert, cert_out),
@@ -51,7 +52,8 @@ impl Outcome {
 
 /// The line of a release that gets no certificate.
 fn refuse_release(alloc: Global, refusal: &Refusal) -> Result<Answer, AllocError>
-    ensures { IfOk result (λ a. (a.text.items ≡ cut_refusal_text refusal.now) × (a.status ≡ refused)) }
+    ensures { IfOk result (λ a. (a.text.items ≡ cut_refusal_text refusal.now)
+        × (a.status ≡ refused)) }
 {
     let mut text = Vec::new(alloc);
     match print_refusal(refusal, &mut text) {
@@ -127,7 +129,8 @@ fn refuse_tables(alloc: Global, fault: &TableFault) -> Result<Outcome, AllocErro
 
 /// The release of three tables, whose bytes are let go.
 fn release_in(alloc: Global, tables: TableBytes) -> Result<Release, TableFault>
-    ensures { Answers result (release_of tables.parcels.items tables.covers.items tables.classes.items) }
+    ensures { Answers result (release_of tables.parcels.items tables.covers.items
+        tables.classes.items) }
 {
     let parcels = tables.parcels.as_slice();
     let covers = tables.covers.as_slice();
@@ -155,8 +158,8 @@ fn decide<P: Read + Drop, C: Read + Drop, K: Read + Drop>(
     covers: C,
     classes: K,
 ) -> Result<Outcome, Failure>
-    ensures cuts { IfOk result (λ o. Cuts (P.remaining parcels) (C.remaining covers) (K.remaining classes)
-        (answered o)) }
+    ensures cuts { IfOk result (λ o. Cuts (P.remaining parcels) (C.remaining covers)
+        (K.remaining classes) (answered o)) }
     ensures unread { IfErr result (IsUnreadRelease (P.remaining parcels) (C.remaining covers)) }
 {
     let tables = read_tables(alloc, parcels, covers, classes)?;
@@ -179,13 +182,15 @@ pub fn run_cut<P: Read + Drop, C: Read + Drop, K: Read + Drop, E: Write, W: Writ
     cert_out: &mut E,
     out: &mut W,
 ) -> Result<u8, Failure>
-    ensures answer { IfOk result (λ status. (a : CutAnswer) × Cuts (P.remaining parcels) (C.remaining covers)
+    ensures answer { IfOk result (λ status. (a : CutAnswer)
+        × Cuts (P.remaining parcels) (C.remaining covers)
         (K.remaining classes) a
         × Writes a status (held (E.contents cert_out.old) (W.contents out.old))
         (held (E.contents cert_out.new) (W.contents out.new))) }
     // A beginning of the certificate was written, or the certificate and a beginning of the line,
     // or nothing.
-    ensures failure { IfErr result (λ failure. Halts failure (P.remaining parcels) (C.remaining covers)
+    ensures failure { IfErr result
+        (λ failure. Halts failure (P.remaining parcels) (C.remaining covers)
         (K.remaining classes) (held (E.contents cert_out.old) (W.contents out.old))
         (held (E.contents cert_out.new) (W.contents out.new))) }
 {

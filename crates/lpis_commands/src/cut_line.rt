@@ -22,7 +22,8 @@ fn print_point<W: Write>(at: &RatPoint, out: &mut W) -> Result<(), PrintFault>
 
 /// Writes what a refusal names, and the point where it tells one.
 fn print_named<W: Write>(refusal: &Refusal, out: &mut W) -> Result<(), PrintFault>
-    ensures { OnOk result (Appends (W.contents out.old) (W.contents out.new) (named_text refusal.now)) }
+    ensures { OnOk result (Appends (W.contents out.old) (W.contents out.new)
+        (named_text refusal.now)) }
 {
     match refusal {
         Refusal::NoCut { piece } => write!(out, "piece {}", piece.as_str())?,
@@ -70,7 +71,8 @@ fn count_triangles(cert: &Cert) -> usize
 
 /// Writes the line of a certificate's counts.
 pub fn print_counts<W: Write>(cert: &Cert, out: &mut W) -> Result<(), PrintFault>
-    ensures { OnOk result (Appends (W.contents out.old) (W.contents out.new) (counts_text cert.now)) }
+    ensures { OnOk result (Appends (W.contents out.old) (W.contents out.new)
+        (counts_text cert.now)) }
 {
     let triangles = count_triangles(cert);
     let pairs = cert.pairs.as_slice().len();

@@ -76,7 +76,8 @@ impl<T: Drop> From<AllocFailed<T>> for Failure {
 
 /// Writes the line of a failure.
 pub fn print_failure<W: Write>(failure: Failure, out: &mut W) -> Result<(), PrintFault>
-    ensures { OnOk result (Appends (W.contents out.old) (W.contents out.new) (failure_text failure)) }
+    ensures { OnOk result (Appends (W.contents out.old) (W.contents out.new)
+        (failure_text failure)) }
 {
     match failure {
         Failure::Memory => out.write_all(b"failed memory\n")?,

@@ -12,7 +12,8 @@ use std::io::{ErrorKind, Write};
 #[tactic(auto, using(crate::proofs::WriteLemmas::kept))]
 fn write_some<W: Write>(text: &[u8], out: &mut W) -> Option<usize>
     ensures within { IfSome result (λ n. n ≤ length text.now) }
-    ensures taken { IfSome result (λ n. Appends (W.contents out.old) (W.contents out.new) (take n text.now)) }
+    ensures taken { IfSome result (λ n. Appends (W.contents out.old) (W.contents out.new)
+        (take n text.now)) }
     ensures refused { IfNone result (Keeps (W.contents out.old) (W.contents out.new)) }
 {
     match out.write(text) {

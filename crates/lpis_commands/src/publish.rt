@@ -76,8 +76,8 @@ fn print_publication<W: Write>(
     out: &mut W,
 ) -> Result<(), PrintFault>
     ensures { OnOk result (Appends (W.contents out.old) (W.contents out.new) (report_text yes.now
-        ++ flat_map (lineage_line (kind_at change.now)) change.now.dropped_ids ++ published_line
-        year)) }
+        ++ flat_map (lineage_line (kind_at change.now)) change.now.dropped_ids
+        ++ published_line year)) }
 {
     write_report(yes, out)?;
     print_lineage(change, out)?;
@@ -91,9 +91,9 @@ fn tell_change(
     year: u16,
     change: &Change,
 ) -> Result<Answer, AllocError>
-    ensures lines { IfOk result (λ a. (a.text.items ≡ report_text yes.now ++ flat_map
-        (lineage_line (kind_at change.now)) change.now.dropped_ids ++ published_line year) ×
-        (a.status ≡ done)) }
+    ensures lines { IfOk result
+        (λ a. (a.text.items ≡ report_text yes.now ++ flat_map (lineage_line (kind_at change.now))
+        change.now.dropped_ids ++ published_line year) × (a.status ≡ done)) }
     ensures ascend { IsAscending change.now.dropped_ids }
 {
     // Its dropped identifiers ascend.

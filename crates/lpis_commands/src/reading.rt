@@ -56,8 +56,8 @@ pub fn read_all<R: Read + Drop>(
 /// answer is `TooLong` exactly where that is more than `limit` bytes.
 pub fn read_from<R: Read>(alloc: Global, reader: &mut R, limit: usize) -> Result<Vec<u8>, ReadFault>
     requires { limit ≤ GREATEST_LIMIT }
-    ensures all { IfOk result (λ v. Consumes (R.remaining reader.old) (R.remaining reader.new) v.items
-        × IsAtEnd (R.remaining reader.new) × (vec_len v ≤ limit)) }
+    ensures all { IfOk result (λ v. Consumes (R.remaining reader.old) (R.remaining reader.new)
+        v.items × IsAtEnd (R.remaining reader.new) × (vec_len v ≤ limit)) }
     ensures part { IfErr result (λ fault. (given : List ℕ) × Consumes (R.remaining reader.old)
         (R.remaining reader.new) given × ((fault ≡ ReadFault.TooLong) ↔ (limit < length given))) }
 {
@@ -76,8 +76,8 @@ fn read_by<R: Read>(
 ) -> Result<Vec<u8>, ReadFault>
     requires limit { limit ≤ GREATEST_LIMIT }
     requires room { 0 < length chunk.old }
-    ensures all { IfOk result (λ v. Consumes (R.remaining reader.old) (R.remaining reader.new) v.items
-        × IsAtEnd (R.remaining reader.new) × (vec_len v ≤ limit)) }
+    ensures all { IfOk result (λ v. Consumes (R.remaining reader.old) (R.remaining reader.new)
+        v.items × IsAtEnd (R.remaining reader.new) × (vec_len v ≤ limit)) }
     ensures part { IfErr result (λ fault. (given : List ℕ) × Consumes (R.remaining reader.old)
         (R.remaining reader.new) given × ((fault ≡ ReadFault.TooLong) ↔ (limit < length given))) }
 {

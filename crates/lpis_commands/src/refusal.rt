@@ -25,7 +25,8 @@ fn print_wkt_fault<W: Write>(wkt: &Option<WktFault>, out: &mut W) -> Result<(), 
 
 /// Writes the line of a refused table. Want of memory is no refusal, and has no line.
 pub fn print_table_fault<W: Write>(fault: &TableFault, out: &mut W) -> Result<(), PrintFault>
-    ensures { OnOk result (Appends (W.contents out.old) (W.contents out.new) (refusal_text fault.now)) }
+    ensures { OnOk result (Appends (W.contents out.old) (W.contents out.new)
+        (refusal_text fault.now)) }
 {
     let TableFault::At {
         code,
@@ -61,7 +62,8 @@ pub fn print_cert_fault<W: Write>(fault: &CertFault, out: &mut W) -> Result<(), 
 
 /// Writes where a condition fails.
 fn print_place<W: Write>(place: &Place, out: &mut W) -> Result<(), PrintFault>
-    ensures { OnOk result (Appends (W.contents out.old) (W.contents out.new) (place_text place.now)) }
+    ensures { OnOk result (Appends (W.contents out.old) (W.contents out.new)
+        (place_text place.now)) }
 {
     match place {
         Place::Piece(id) => write!(out, "piece {}", id.as_str())?,

@@ -61,7 +61,8 @@ fn print_areas<W: Write>(areas: Areas, out: &mut W) -> Result<(), PrintFault>
 
 /// Writes the line that counts parcels and pieces.
 fn print_counts<W: Write>(release: &Release, out: &mut W) -> Result<(), PrintFault>
-    ensures { OnOk result (Appends (W.contents out.old) (W.contents out.new) (counts_line release.now)) }
+    ensures { OnOk result (Appends (W.contents out.old) (W.contents out.new)
+        (counts_line release.now)) }
 {
     let parcels = release.parcels().len();
     let pieces = release.pieces().len();
@@ -92,7 +93,8 @@ fn print_parcel<W: Write>(
 ) -> Result<Areas, PrintFault>
     requires areas { AreasAdd release.now }
     requires among { Contains release.now.parcels parcel.now }
-    ensures area { IfOk result (λ a. (a.area ≡ area2 parcel.now.polygon) × (nat_abs a.area ≤ most_area)) }
+    ensures area { IfOk result (λ a. (a.area ≡ area2 parcel.now.polygon)
+        × (nat_abs a.area ≤ most_area)) }
     ensures eligible { IfOk result (λ a. (a.eligible ≡ eligible2 release.now parcel.now.id)
         × (nat_abs a.eligible ≤ most_area)) }
     ensures text { OnOk result (Appends (W.contents out.old) (W.contents out.new)
@@ -143,7 +145,8 @@ fn print_total<W: Write>(sum: Areas, out: &mut W) -> Result<(), PrintFault>
 /// Writes the report of a release whose areas are known to add.
 fn print_report<W: Write>(release: &Release, out: &mut W) -> Result<(), PrintFault>
     requires { AreasAdd release.now }
-    ensures { OnOk result (Appends (W.contents out.old) (W.contents out.new) (report_text release.now)) }
+    ensures { OnOk result (Appends (W.contents out.old) (W.contents out.new)
+        (report_text release.now)) }
 {
     print_counts(release, out)?;
     let sum = print_parcels(release, out)?;
@@ -154,7 +157,8 @@ fn print_report<W: Write>(release: &Release, out: &mut W) -> Result<(), PrintFau
 /// maximum eligible area of each parcel in the order of their table, the sums over all parcels, and
 /// the yes.
 pub fn write_report<W: Write>(yes: &Yes<'_>, out: &mut W) -> Result<(), PrintFault>
-    ensures { OnOk result (Appends (W.contents out.old) (W.contents out.new) (report_text yes.now)) }
+    ensures { OnOk result (Appends (W.contents out.old) (W.contents out.new)
+        (report_text yes.now)) }
 {
     print_report(yes.release(), out)
 }

@@ -29,7 +29,8 @@ impl<'a> TableReader<'a> {
     /// keys of the rows before it and may not be among them. A refusal adds nothing.
     pub(crate) fn key(&self, alloc: Global, k: usize, keys: &mut Keys) -> Result<Id, TableFault>
         ensures answers { let field = field_of self.now.row k in
-            Answers result (unless_faulty (key_faults self.now.table self.now.number keys.old field) field) }
+            Answers result (unless_faulty (key_faults self.now.table self.now.number keys.old field)
+            field) }
         ensures added { IfOk result (λ id. keys.new ≡ keys.old ++ id ∷ []) }
         ensures refused { OnErr result (keys.new ≡ keys.old) }
     {

@@ -86,7 +86,8 @@ impl Ord for Id {
 impl Id {
     /// The identifier of these bytes, or `None` where they are none.
     pub fn read(alloc: Global, bytes: &[u8]) -> Result<Option<Id>, AllocError>
-        ensures some { IfOk result (λ o. IfSome o (λ id. (id ≡ bytes.now) × (is_id bytes.now ≡ true))) }
+        ensures some { IfOk result
+            (λ o. IfSome o (λ id. (id ≡ bytes.now) × (is_id bytes.now ≡ true))) }
         ensures none { IfOk result (λ o. IfNone o (is_id bytes.now ≡ false)) }
     {
         if !is_id_text(bytes) {

@@ -39,7 +39,8 @@ impl Keys {
     /// not added again; a refusal adds nothing.
     pub(crate) fn add(&mut self, id: &Id) -> Result<bool, AllocError>
         ensures new { IfOk result (λ new. new ≡ not (has_id self.old id.now)) }
-        ensures added { IfOk result (λ new. self.new ≡ (if new then self.old ++ id.now ∷ [] else self.old)) }
+        ensures added { IfOk result
+            (λ new. self.new ≡ (if new then self.old ++ id.now ∷ [] else self.old)) }
         ensures refused { OnErr result (self.new ≡ self.old) }
     {
         let new = self.ids.insert(id.copy()?)?;

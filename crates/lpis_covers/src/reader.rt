@@ -90,8 +90,10 @@ fn column_places(
     table: Table,
     names: &[&[u8]],
 ) -> Result<Vec<usize>, TableFault>
-    ensures ok { IfOk result (λ v. places_of (fields_of header.now) (texts names.now) ≡ Ok v.items) }
-    ensures err { IfErr result (TellsColumn table (places_of (fields_of header.now) (texts names.now))) }
+    ensures ok { IfOk result (λ v. places_of (fields_of header.now) (texts names.now) ≡ Ok
+        v.items) }
+    ensures err { IfErr result
+        (TellsColumn table (places_of (fields_of header.now) (texts names.now))) }
 {
     let mut places = Vec::new(alloc);
     for name in names {

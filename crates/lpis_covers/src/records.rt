@@ -75,7 +75,8 @@ impl<'a> Records<'a> {
         text: &'a [u8],
         header: &mut ByteRecord,
     ) -> Result<Option<Records<'a>>, AllocError>
-        ensures none { IfOk result (λ o. MatchOption o (records default_config (strip_bom text.now) ≡ [])
+        ensures none { IfOk result
+            (λ o. MatchOption o (records default_config (strip_bom text.now) ≡ [])
             (λ r. records default_config (strip_bom text.now) ≡ fields_of header.new ∷ r.records)) }
         ensures width { IfOk result
             (λ o. MatchOption o (Unit {0}) (λ r. r.width ≡ length (fields_of header.new))) }

@@ -51,7 +51,8 @@ fn add_row<T: TableRow>(
     rows: &mut Vec<T>,
 ) -> Result<(), TableFault>
     requires table { reader.now.table ≡ T.kind.table }
-    ensures fault { IfErr result (λ fault. Answers (Err fault) (unless_faulty (T.kind.faults keys.old
+    ensures fault { IfErr result
+        (λ fault. Answers (Err fault) (unless_faulty (T.kind.faults keys.old
         reader.now.number reader.now.row) (T.kind.value reader.now.row))) }
     ensures good { OnOk result (T.kind.faults keys.old reader.now.number reader.now.row ≡ []) }
     ensures keys { OnOk result (keys.new ≡ keys.old ++ field_of reader.now.row 0 ∷ []) }

@@ -271,7 +271,8 @@ fn cut_release(alloc: Global, release: &Release) -> Result<Cert, CutFault>
 pub fn cut(alloc: Global, release: &Release) -> Result<Cert, CutFault>
     ensures tells { IfErr result (RefusesRightly release.now) }
     ensures unsound { IfErr result (λ e. HasPoint e → IsSoundEverywhere release.now → ⊥) }
-    ensures no_certificate { IfErr result (λ e. HasPoint e → (c : Cert) → IsGood release.now c → ⊥) }
+    ensures no_certificate { IfErr result (λ e. HasPoint e → (c : Cert) → IsGood release.now c
+        → ⊥) }
 {
     // Its parcels' identifiers differ.
     let _ = release.parcels();

@@ -65,7 +65,8 @@ pub(crate) fn no_parts(alloc: Global) -> Parts
 pub(crate) fn with_piece(parts: Parts, id: Id, cut: Cut) -> Result<Option<Parts>, AllocError>
     ensures triangles { IfOk result
         (λ o. IfSome o (λ more. more.triangles ≡ parts.triangles + length cut.triangles.items)) }
-    ensures flats { IfOk result (λ o. IfSome o (λ more. more.flats ≡ parts.flats + length cut.flats.items)) }
+    ensures flats { IfOk result
+        (λ o. IfSome o (λ more. more.flats ≡ parts.flats + length cut.flats.items)) }
     ensures none { IfOk result
         (λ o. IfNone o ((most_triangles < parts.triangles + length cut.triangles.items)
         ⊎ (most_flats < parts.flats + length cut.flats.items))) }

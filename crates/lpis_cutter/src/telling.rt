@@ -108,7 +108,8 @@ fn count_in(polygon: &Polygon, a: Point, b: Point) -> usize
 
 /// How many edges of a parcel's pieces go from a to b, where the number fits.
 fn count_in_pieces(release: &Release, parcel: &Id, a: Point, b: Point) -> Option<usize>
-    ensures { IfSome result (λ n. n ≡ times a b (edges_of_pieces (pieces_named release.now parcel.now))) }
+    ensures { IfSome result
+        (λ n. n ≡ times a b (edges_of_pieces (pieces_named release.now parcel.now))) }
 {
     let mut count: usize = 0;
     for piece in pieces_of(release, parcel) {

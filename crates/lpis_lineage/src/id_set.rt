@@ -105,7 +105,8 @@ impl IdSet {
 
     /// Copies of those identifiers of another set that are not in this one, ascending.
     pub(crate) fn outside(&self, alloc: Global, other: &IdSet) -> Result<Vec<Id>, AllocError>
-        ensures list { IfOk result (λ v. v.items ≡ filter (λ id. not (has_id self.now id)) other.now) }
+        ensures list { IfOk result (λ v. v.items ≡ filter (λ id. not (has_id self.now id))
+            other.now) }
         ensures ascending { IfOk result (λ v. IsAscending v.items) }
     {
         let mut found = Vec::new(alloc);

@@ -22,7 +22,8 @@ fn columns() -> &'static [&'static [u8]]
 fn read_successor(alloc: Global, reader: &TableReader<'_>) -> Result<Option<Id>, TableFault>
     requires { reader.now.table ≡ tables.Lineage }
     ensures { let field = field_of reader.now.row 1 in
-        Answers result (unless_faulty (successor_faults reader.now.number field) (successor_of field)) }
+        Answers result (unless_faulty (successor_faults reader.now.number field)
+        (successor_of field)) }
 {
     if reader.field(1).is_empty() {
         return Ok(None);

@@ -41,7 +41,8 @@ impl Seen {
         requires { row.now.new ≡ None }
         ensures tells { (before : List Row) → IsSeen self.old before
             → ReportsFirstOf (fault_before (list_any (same_row row.now) before) (DoubledRow number)
-            (fault_before (list_any (clashes row.now) before) (EndingBesideSuccessor number) [])) result }
+            (fault_before (list_any (clashes row.now) before) (EndingBesideSuccessor number) []))
+            result }
         ensures seen { (before : List Row) → IsSeen self.old before
             → OnOk result (IsSeen self.new (before ++ row.now ∷ [])) }
     {
@@ -66,7 +67,8 @@ impl Seen {
         requires { row.now.new ≡ Some heir.now }
         ensures tells { (before : List Row) → IsSeen self.old before
             → ReportsFirstOf (fault_before (list_any (same_row row.now) before) (DoubledRow number)
-            (fault_before (list_any (clashes row.now) before) (EndingBesideSuccessor number) [])) result }
+            (fault_before (list_any (clashes row.now) before) (EndingBesideSuccessor number) []))
+            result }
         ensures seen { (before : List Row) → IsSeen self.old before
             → OnOk result (IsSeen self.new (before ++ row.now ∷ [])) }
     {

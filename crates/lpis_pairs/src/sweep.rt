@@ -69,7 +69,8 @@ fn join_ahead(
     requires order { AreInOrder entries.now }
     ensures kept { (pair : ℕ × ℕ) → Contains pairs.old.items pair → Contains pairs.new.items pair }
     ensures near { AreNear triangles.now pairs.old.items → AreNear triangles.now pairs.new.items }
-    ensures found { OnOk result ((m : ℕ) → at < m → Joins triangles.now entries.now pairs.new.items at m) }
+    ensures found { OnOk result ((m : ℕ) → at < m → Joins triangles.now entries.now pairs.new.items
+        at m) }
 {
     let first = &entries[at];
     for m in at + 1..entries.len() {
@@ -93,8 +94,8 @@ fn join(
     requires entries { AreEntries triangles.now entries.now }
     requires order { AreInOrder entries.now }
     ensures near { IfOk result (λ pairs. AreNear triangles.now pairs.items) }
-    ensures found { IfOk result (λ pairs. (k m : ℕ) → k < m → Joins triangles.now entries.now pairs.items k
-        m) }
+    ensures found { IfOk result (λ pairs. (k m : ℕ) → k < m → Joins triangles.now entries.now
+        pairs.items k m) }
 {
     let mut pairs = Vec::new(alloc);
     for at in 0..entries.len() {

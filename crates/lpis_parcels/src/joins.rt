@@ -43,8 +43,10 @@ fn joined_places(
     row: u32,
 ) -> Result<(usize, usize), TableFault>
     ensures none { IfOk result (λ _. unknown_faults parcels.now classes.now row piece.now ≡ []) }
-    ensures parcel { IfOk result (λ r. slice_get (parcel_ids parcels.now) r.0 ≡ Some piece.now.parcel) }
-    ensures class { IfOk result (λ r. slice_get (class_codes classes.now) r.1 ≡ Some piece.now.class) }
+    ensures parcel { IfOk result (λ r. slice_get (parcel_ids parcels.now) r.0 ≡ Some
+        piece.now.parcel) }
+    ensures class { IfOk result (λ r. slice_get (class_codes classes.now) r.1 ≡ Some
+        piece.now.class) }
     ensures err { IfErr result (Refuses (unknown_faults parcels.now classes.now row piece.now)) }
 {
     let Some(parcel) = parcels.position(&piece.parcel) else {
@@ -70,8 +72,8 @@ fn empty_groups(alloc: Global, count: usize) -> Result<Vec<Vec<usize>>, AllocErr
 /// Adds a place to a group.
 fn add_to_group(groups: &mut Vec<Vec<usize>>, group: usize, place: usize) -> Result<(), AllocError>
     requires { group < vec_len groups.old }
-    ensures { OnOk result (group_lists groups.new.items ≡ slice_set (group_lists groups.old.items) group
-        (slice_index_or (group_lists groups.old.items) group [] ++ place ∷ [])) }
+    ensures { OnOk result (group_lists groups.new.items ≡ slice_set (group_lists groups.old.items)
+        group (slice_index_or (group_lists groups.old.items) group [] ++ place ∷ [])) }
 {
     groups[group].push(place)?;
     Ok(())
@@ -86,7 +88,8 @@ fn join_pieces(
 ) -> Result<Joins, TableFault>
     requires { IsDistinct same_id (class_codes classes.now) }
     ensures none { IfOk result (λ _. join_faults parcels.now classes.now 1 pieces.now ≡ []) }
-    ensures joins { IfOk result (λ j. AreJoins parcels.now pieces.now classes.now (group_lists j.groups.items)
+    ensures joins { IfOk result
+        (λ j. AreJoins parcels.now pieces.now classes.now (group_lists j.groups.items)
         j.classes.items) }
     ensures err { IfErr result (Refuses (join_faults parcels.now classes.now 1 pieces.now)) }
 {
@@ -123,7 +126,8 @@ pub(crate) fn join(
     pieces: &Pieces,
     classes: &Classes,
 ) -> Result<Joins, TableFault>
-    ensures joins { IfOk result (λ j. AreJoins parcels.now pieces.now classes.now (group_lists j.groups.items)
+    ensures joins { IfOk result
+        (λ j. AreJoins parcels.now pieces.now classes.now (group_lists j.groups.items)
         j.classes.items) }
     ensures none { IfOk result
         (λ _. join_faults

@@ -32,7 +32,8 @@ impl Model for Release {
 
     ghost view = { λ r. record { parcels = r.parcels; pieces = r.pieces; classes = r.classes } };
 
-    ghost invariant = { λ r. IsRelease (record { parcels = r.parcels; pieces = r.pieces; classes = r.classes })
+    ghost invariant = { λ r. IsRelease
+        (record { parcels = r.parcels; pieces = r.pieces; classes = r.classes })
         (group_lists r.joins.groups.items) r.joins.classes.items };
 }
 

@@ -27,13 +27,14 @@ fn add_year(
     requires within { from ≤ length lines.now }
     ensures within { IfOk result (λ next. next ≤ length lines.now) }
     ensures years { OnOk result (years_of history.new ≡ years_of history.old ++ pos year ∷ []) }
-    ensures sets { OnOk result (SetsAre (map span_in spans.now) history.old → SetsAre (map span_in spans.now)
-        history.new) }
+    ensures sets { OnOk result (SetsAre (map span_in spans.now) history.old
+        → SetsAre (map span_in spans.now) history.new) }
     ensures lines { lines_of history.old ≡ map line_in (take from lines.now)
         → IfOk result (λ next. lines_of history.new ≡ map line_in (take next lines.now)) }
     ensures front { OnOk result ((h : List Entry) → IsSaid spans.now lines.now h
         → IsDue history.old lines.now from year h → IsFront history.new h) }
-    ensures refused { IfErr result (λ e. e ≡ Unlawful → (h : List Entry) → IsSaid spans.now lines.now h
+    ensures refused { IfErr result (λ e. e ≡ Unlawful → (h : List Entry)
+        → IsSaid spans.now lines.now h
         → IsDue history.old lines.now from year h → ⊥) }
 {
     let live = live_ids(alloc, spans, year)?;
@@ -67,7 +68,8 @@ pub(crate) fn build(
     ensures lines { IfOk result (λ h. lines_of h ≡ map line_in lines.now) }
     ensures same { IfOk result (λ g. (h : List Entry) → IsSaid spans.now lines.now h
         → years_of h ≡ map (λ y. pos y) years.now → IsSameHistory g h) }
-    ensures refused { IfErr result (λ e. e ≡ Unlawful → (h : List Entry) → IsSaid spans.now lines.now h
+    ensures refused { IfErr result (λ e. e ≡ Unlawful → (h : List Entry)
+        → IsSaid spans.now lines.now h
         → years_of h ≡ map (λ y. pos y) years.now → ⊥) }
 {
     let mut history = History::new(alloc);

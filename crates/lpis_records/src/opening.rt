@@ -84,8 +84,8 @@ pub(crate) fn rows_of_year(
     year: u16,
 ) -> Result<(Vec<Row>, usize), RecordsFault>
     requires within { from ≤ length lines.now }
-    ensures rows { IfOk result (λ p. map line_in (take p.1 lines.now) ≡ map line_in (take from lines.now)
-        ++ lines_from (pos year) 0 p.0.items) }
+    ensures rows { IfOk result (λ p. map line_in (take p.1 lines.now) ≡ map line_in
+        (take from lines.now) ++ lines_from (pos year) 0 p.0.items) }
     ensures within { IfOk result (λ p. p.1 ≤ length lines.now) }
     ensures texts { All (λ l. HasText l.row) lines.now → IfOk result (λ p. All HasText p.0.items) }
     ensures run { IfOk result (λ p. (stop : ℕ) → IsRun (map line_in lines.now) from year stop

@@ -53,9 +53,11 @@ pub(crate) fn prepare(
     rows: &[Row],
 ) -> Result<Prepared, PublishFault>
     ensures tells { PublishTells history.now year live.now rows.now result }
-    ensures change { IfOk result (λ p. IsChange (last_live history.now) live.now rows.now p.change) }
+    ensures change { IfOk result (λ p. IsChange (last_live history.now) live.now rows.now
+        p.change) }
     ensures no_store { IfErr result (λ fault. (fault ≡ Store) → ⊥) }
-    ensures writing { IfOk result (λ p. IsWriting history.now live.now p.change.dropped_ids p.fresh.items) }
+    ensures writing { IfOk result (λ p. IsWriting history.now live.now p.change.dropped_ids
+        p.fresh.items) }
 {
     let change = preview(alloc, history, year, live, rows)?;
     let fresh = fresh_ids(alloc, history, live)?;

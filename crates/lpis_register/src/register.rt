@@ -60,8 +60,8 @@ impl<S: Alter> Register<S> {
     pub fn preview(&self, year: u16, yes: &Yes<'_>, rows: &[Row]) -> Result<Change, PublishFault>
         ensures tells { PublishTells self.now.history year (parcel_ids yes.now.parcels) rows.now
             result }
-        ensures change { IfOk result (IsChange (last_live self.now.history) (parcel_ids yes.now.parcels)
-            rows.now) }
+        ensures change { IfOk result
+            (IsChange (last_live self.now.history) (parcel_ids yes.now.parcels) rows.now) }
         ensures no_store { IfErr result (λ fault. (fault ≡ Store) → ⊥) }
     {
         let live = live_ids(self.alloc, yes)?;
@@ -82,12 +82,13 @@ impl<S: Alter> Register<S> {
     ) -> Result<Change, PublishFault>
         ensures tells { PublishTells self.old.history year (parcel_ids yes.now.parcels) rows.now
             result }
-        ensures adds { OnOk result (Adds self.old.history self.new.history year (parcel_ids yes.now.parcels)
-            rows.now) }
+        ensures adds { OnOk result
+            (Adds self.old.history self.new.history year (parcel_ids yes.now.parcels) rows.now) }
         ensures refused { OnErr result (self.new.history ≡ self.old.history) }
-        ensures change { IfOk result (IsChange (last_live self.old.history) (parcel_ids yes.now.parcels)
-            rows.now) }
-        ensures untouched { IfErr result (λ fault. (fault ≡ Store) ⊎ (self.new.conn ≡ self.old.conn)) }
+        ensures change { IfOk result
+            (IsChange (last_live self.old.history) (parcel_ids yes.now.parcels) rows.now) }
+        ensures untouched { IfErr result (λ fault. (fault ≡ Store)
+            ⊎ (self.new.conn ≡ self.old.conn)) }
         ensures ok { HasCleanDisk (state S.Store self.new.conn)
             → HoldsHistory (state S.Store self.old.conn) self.old.history
             → OnOk result (HoldsHistory (state S.Store self.new.conn) self.new.history) }

@@ -48,7 +48,8 @@ pub struct BadRing {
 
 /// Whether the last point equals the first.
 fn is_closed(points: &[Point]) -> bool
-    ensures { IsTrue result ↔ (slice_get points.now (length points.now - 1) ≡ slice_get points.now 0) }
+    ensures { IsTrue result ↔
+        (slice_get points.now (length points.now - 1) ≡ slice_get points.now 0) }
 {
     match (points.first(), points.last()) {
         (Some(first), Some(last)) => last == first,

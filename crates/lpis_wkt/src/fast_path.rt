@@ -45,7 +45,8 @@ fn past_decimals(text: &[u8], at: usize) -> usize
 /// A numeral with no sign, and where it ends.
 fn plain_number(text: &[u8], at: usize) -> Option<(u64, usize)>
     requires { at ≤ length text.now }
-    ensures body { IfSome result (λ r. (body : List ℕ) × IsPart text.now at r.1 body × IsPlain body r.0) }
+    ensures body { IfSome result (λ r. (body : List ℕ) × IsPart text.now at r.1 body
+        × IsPlain body r.0) }
     ensures range { IfSome result (λ r. r.0 ≤ GREATEST) }
 {
     let (whole, point) = leading_digits(text, at);
