@@ -19,7 +19,7 @@ use Rattle.lpis_covers.specs.Table.{fault_at}
 use Rattle.lpis_parcels.specs.declared.parcel.Parcel.{Parcel}
 use Rattle.lpis_parcels.specs.Eligible.{class_named}
 use Rattle.lpis_parcels.specs.private.Groups.{Refuses, empty_faults, is_nil, places_where}
-use Rattle.lpis_parcels.specs.Release.{class_codes, names, parcel_faults, parcel_ids, join_faults, unknown_faults}
+use Rattle.lpis_parcels.specs.Release.{class_codes, names, parcel_faults, parcel_ids, reference_faults, unknown_faults}
 
 -- identifiers
 same-refl : (a : List ℕ) → same_id a a ≡ true
@@ -172,12 +172,12 @@ joins-more parcels pieces classes groups after places places_after i k j piece d
 
 -- the faults of the pieces, one further
 pub pieces-more : (parcels : List Parcel) (classes : List Class) (n i : ℕ) (pieces : List Piece) (piece : Piece) → slice_get pieces i ≡ Some piece → unknown_faults parcels classes n piece ≡ []
-    → join_faults parcels classes n (drop i pieces) ≡ join_faults parcels classes (n + 1) (drop (i + 1) pieces)
+    → reference_faults parcels classes n (drop i pieces) ≡ reference_faults parcels classes (n + 1) (drop (i + 1) pieces)
 pieces-more parcels classes n i pieces piece at none =
-    ap (join_faults parcels classes n) (drop-at pieces i piece at) ∙ ap (λ (fs : List TableFault). fs ++ join_faults parcels classes (n + 1) (drop (i + 1) pieces)) none
+    ap (reference_faults parcels classes n) (drop-at pieces i piece at) ∙ ap (λ (fs : List TableFault). fs ++ reference_faults parcels classes (n + 1) (drop (i + 1) pieces)) none
 
 pub pieces-fault : (parcels : List Parcel) (classes : List Class) (n i : ℕ) (pieces : List Piece) (piece : Piece) (all : List TableFault) (f : TableFault) → slice_get pieces i ≡ Some piece
-    → all ≡ join_faults parcels classes n (drop i pieces) → Refuses (unknown_faults parcels classes n piece) f → Refuses all f
+    → all ≡ reference_faults parcels classes n (drop i pieces) → Refuses (unknown_faults parcels classes n piece) f → Refuses all f
 pieces-fault parcels classes n i pieces piece all f at is h =
     rw (is, drop-at pieces i piece at) (column-fault (unknown_faults parcels classes n piece) _ tt tt f h)
 

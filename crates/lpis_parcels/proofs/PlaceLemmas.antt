@@ -10,7 +10,7 @@ use Rattle.lpis_covers.specs.Ids.{has_id}
 use Rattle.lpis_parcels.specs.declared.parcel.Parcel.{Parcel}
 use Rattle.lpis_parcels.specs.Eligible.{class_named, eligible_mark, is_eligible}
 use Rattle.lpis_parcels.specs.private.Groups.{at_places, places_where}
-use Rattle.lpis_parcels.specs.Release.{Contents, names, parcel_ids, join_faults, unknown_faults}
+use Rattle.lpis_parcels.specs.Release.{Contents, names, parcel_ids, reference_faults, unknown_faults}
 
 item-here : {A : Type 0} (front : List A) (x : A) (xs : List A) (i : ℕ) → i ≡ length front → slice_get (front ++ x ∷ xs) i ≡ Some x
 item-here [] x xs i e = rw e refl
@@ -77,7 +77,7 @@ known parcels classes n p h = by (has_id (parcel_ids parcels) p.parcel) refl whe
   by true e = e
   by false e = cc (rw e at h)
 
-pub stranger-none : (parcels : List Parcel) (classes : List Class) (n i : ℕ) (pieces : List Piece) (id : List ℕ) → join_faults parcels classes n pieces ≡ [] → has_id (parcel_ids parcels) id ≡ false
+pub stranger-none : (parcels : List Parcel) (classes : List Class) (n i : ℕ) (pieces : List Piece) (id : List ℕ) → reference_faults parcels classes n pieces ≡ [] → has_id (parcel_ids parcels) id ≡ false
     → places_where (names id) i pieces ≡ []
 stranger-none parcels classes n i [] id h s = refl
 stranger-none parcels classes n i (p ∷ ps) id h s =
@@ -90,7 +90,7 @@ stranger-none parcels classes n i (p ∷ ps) id h s =
     by false e k = e
 
 pub first-faults : (parcels : List Parcel) (classes : List Class) (pieces : List Piece) (others : List TableFault)
-    → join_faults parcels classes 1 pieces ++ others ≡ [] → join_faults parcels classes 1 pieces ≡ []
+    → reference_faults parcels classes 1 pieces ++ others ≡ [] → reference_faults parcels classes 1 pieces ≡ []
 first-faults parcels classes pieces others h = none-left _ others h
 
 -- the class of the piece at a place

@@ -39,10 +39,10 @@ unknown_faults parcels classes n piece =
     (fault_at UnknownClass table.Covers n)
 
 -- the same of pieces, row by row from this one on
-abbrev pub join_faults : List Parcel → List Class → ℕ → List Piece → List TableFault
-join_faults parcels classes n [] = []
-join_faults parcels classes n (p ∷ ps) = unknown_faults parcels classes n p
-    ++ join_faults parcels classes (n + 1) ps
+abbrev pub reference_faults : List Parcel → List Class → ℕ → List Piece → List TableFault
+reference_faults parcels classes n [] = []
+reference_faults parcels classes n (p ∷ ps) = unknown_faults parcels classes n p
+    ++ reference_faults parcels classes (n + 1) ps
 
 -- a piece names the parcel of this identifier
 abbrev pub names : List ℕ → Piece → Bool
@@ -57,7 +57,7 @@ parcel_faults pieces n (p ∷ ps) =
 
 -- the faults of the joins: those of each piece in order, then those of each parcel
 abbrev pub join_faults : Contents → List TableFault
-join_faults c = join_faults c.parcels c.classes 1 c.pieces ++ parcel_faults c.pieces 1 c.parcels
+join_faults c = reference_faults c.parcels c.classes 1 c.pieces ++ parcel_faults c.pieces 1 c.parcels
 
 abbrev pub joined : Contents → Result Contents TableFault
 joined c = unless_faulty (join_faults c) c

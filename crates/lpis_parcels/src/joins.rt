@@ -7,7 +7,7 @@ ghost use Rattle.std.specs.List.{IsDistinct};
 ghost use Rattle.lpis_covers.specs.Faults.{unless_faulty};
 ghost use Rattle.lpis_covers.specs.Ids.{same_id};
 ghost use Rattle.lpis_covers.specs.Table.{Answers, fault_at, most_rows};
-ghost use Rattle.lpis_parcels.specs.Release.{class_codes, join_faults, parcel_ids, join_faults};
+ghost use Rattle.lpis_parcels.specs.Release.{class_codes, join_faults, parcel_ids, reference_faults};
 ghost use Rattle.lpis_parcels.specs.Release.{unknown_faults};
 ghost use Rattle.lpis_parcels.specs.private.Groups.{Refuses, empty_faults};
 ghost use Rattle.lpis_parcels.specs.private.Joined.{AreJoins, group_lists};
@@ -87,11 +87,11 @@ fn join_pieces(
     classes: &Classes,
 ) -> Result<Joins, TableFault>
     requires { IsDistinct same_id (class_codes classes.now) }
-    ensures none { IfOk result (λ _. join_faults parcels.now classes.now 1 pieces.now ≡ []) }
+    ensures none { IfOk result (λ _. reference_faults parcels.now classes.now 1 pieces.now ≡ []) }
     ensures joins { IfOk result
         (λ j. AreJoins parcels.now pieces.now classes.now (group_lists j.groups.items)
         j.classes.items) }
-    ensures err { IfErr result (Refuses (join_faults parcels.now classes.now 1 pieces.now)) }
+    ensures err { IfErr result (Refuses (reference_faults parcels.now classes.now 1 pieces.now)) }
 {
     let mut groups = empty_groups(alloc, parcels.as_slice().len())?;
     let mut class_places = Vec::new(alloc);
