@@ -58,16 +58,17 @@ history_answer h year r rows =
     else lineage_answer (publication_text h year r rows)
     (first (faults h (parcel_ids r.parcels) rows))
 
--- of a release and a certificate: faults of the lineage table come first, then those of the
--- certificate, then the history's refusal
-abbrev pub IsLineageAnswer : Publication → List Entry → Contents → Cert → Answer → Type 0
-IsLineageAnswer x h r c =
-    IsTableAnswer (λ rows. IsCheckAnswer r c (history_answer h x.year r rows))
-    (rows_of lineage_table x.lineage)
+-- of a year, the bytes of a lineage table, a history, a release and a certificate: faults of the
+-- table come first, then those of the certificate, then the history's refusal
+abbrev pub IsLineageAnswer : ℕ → List ℕ → List Entry → Contents → Cert → Answer → Type 0
+IsLineageAnswer year lineage h r c =
+    IsTableAnswer (λ rows. IsCheckAnswer r c (history_answer h year r rows))
+    (rows_of lineage_table lineage)
 
 -- of a release: faults of the certificate's text come first
 abbrev pub IsReleaseAnswer : Publication → List Entry → Contents → Answer → Type 0
-IsReleaseAnswer x h r = IsCertAnswer (IsLineageAnswer x h r) x.checked.cert (verdict x.checked.cert)
+IsReleaseAnswer x h r =
+    IsCertAnswer (IsLineageAnswer x.year x.lineage h r) x.checked.cert (verdict x.checked.cert)
 
 -- the answer to what is to be published after a history: faults of the release's tables come first
 abbrev pub IsPublishAnswer : Publication → List Entry → Answer → Type 0

@@ -2,6 +2,7 @@
 
 ghost use Rattle.std.specs.Prelude.{◌≡◌, IfErr, IfOk};
 ghost use Rattle.lpis_cert.specs.Contents.{cert_text};
+ghost use Rattle.lpis_cert.specs.Faults.{IsFirstFault};
 ghost use Rattle.lpis_cert.specs.declared.cert.Cert.{Cert};
 ghost use Rattle.lpis_checker.specs.GoodCertificate.{IsGood};
 ghost use Rattle.lpis_checker.specs.SoundMap.{IsSoundMap};
@@ -17,14 +18,14 @@ use crate::answer::Answer;
 use crate::failure::{Failure, Name};
 use crate::reading::read_named;
 use crate::refusal::{print_cert_fault, print_check_fault};
-use crate::releases::{TableBytes, read_tables};
+use crate::releases::{TableBytes, read_tables, release_in};
 use crate::report::write_report;
 use crate::status::{DONE, REFUSED, UNREADABLE};
 use lpis_cert::{Cert, CertFault, read_cert};
 use lpis_checker::{CheckFault, Yes, check};
 use lpis_covers::TableFault;
 use lpis_pairs::Sweep;
-use lpis_parcels::{Release, read_release};
+use lpis_parcels::Release;
 use std::alloc::{AllocError, Global};
 use std::io::{Read, Write};
 
@@ -95,30 +96,36 @@ fn answer_to_cert(alloc: Global, release: &Release, cert: &Cert) -> Result<Answe
     }
 }
 
-/// The answer to a release and the text of a certificate.
-fn answer_to_text(alloc: Global, release: &Release, text: &[u8]) -> Result<Answer, AllocError>
-    ensures answer { IfOk result
-        (λ a. IsReleaseAnswer text.now release.now (a.text.items, a.status)) }
-    ensures proved { IfOk result (λ a. a.status ≡ done → IsSoundMap release.now
-        × ((c : Cert) × (text.now ≡ cert_text c) × IsGood release.now c)) }
+/// The certificate of a text, whose bytes are let go, or the text's first fault.
+pub(crate) fn cert_in(alloc: Global, text: Vec<u8>) -> Result<Cert, CertFault>
+    ensures found { IfOk result (λ cert. text.items ≡ cert_text cert) }
+    ensures fault { IfErr result (λ e. IsFirstFault e text.items) }
 {
-    match read_cert(alloc, text) {
+    read_cert(alloc, text.as_slice())
+}
+
+/// The answer to a release and the text of a certificate.
+fn answer_to_text(alloc: Global, release: &Release, text: Vec<u8>) -> Result<Answer, AllocError>
+    ensures answer { IfOk result
+        (λ a. IsReleaseAnswer text.items release.now (a.text.items, a.status)) }
+    ensures proved { IfOk result (λ a. a.status ≡ done → IsSoundMap release.now
+        × ((c : Cert) × (text.items ≡ cert_text c) × IsGood release.now c)) }
+{
+    match cert_in(alloc, text) {
         Ok(cert) => answer_to_cert(alloc, release, &cert),
         Err(CertFault::Memory) => Err(AllocError),
         Err(fault) => refuse_text(alloc, &fault),
     }
 }
 
-/// The answer to three tables and a certificate.
-fn answer_to(alloc: Global, inputs: &InputBytes) -> Result<Answer, AllocError>
-    ensures answer { IfOk result (λ a. IsAnswer (inputs_of inputs.now) (a.text.items, a.status)) }
-    ensures proved { IfOk result (λ a. a.status ≡ done → IsProved (inputs_of inputs.now)) }
+/// The answer to three tables and a certificate. The bytes of each are let go when it is read.
+fn answer_to(alloc: Global, inputs: InputBytes) -> Result<Answer, AllocError>
+    ensures answer { IfOk result (λ a. IsAnswer (inputs_of inputs) (a.text.items, a.status)) }
+    ensures proved { IfOk result (λ a. a.status ≡ done → IsProved (inputs_of inputs)) }
 {
-    let parcels = inputs.tables.parcels.as_slice();
-    let covers = inputs.tables.covers.as_slice();
-    let classes = inputs.tables.classes.as_slice();
-    match read_release(alloc, parcels, covers, classes) {
-        Ok(release) => answer_to_text(alloc, &release, inputs.cert.as_slice()),
+    let InputBytes { tables, cert } = inputs;
+    match release_in(alloc, tables) {
+        Ok(release) => answer_to_text(alloc, &release, cert),
         Err(TableFault::Memory) => Err(AllocError),
         Err(fault) => Answer::refuse_table(alloc, &fault),
     }
@@ -167,6 +174,6 @@ pub fn run_check<P: Read + Drop, C: Read + Drop, K: Read + Drop, E: Read + Drop,
         (K.remaining classes) (E.remaining cert) (W.contents out.old) (W.contents out.new)) }
 {
     let inputs = read_inputs(alloc, parcels, covers, classes, cert)?;
-    let answer = answer_to(alloc, &inputs)?;
+    let answer = answer_to(alloc, inputs)?;
     answer.write_to(out)
 }

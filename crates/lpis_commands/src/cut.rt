@@ -2,7 +2,6 @@
 
 ghost use Rattle.std.specs.Prelude.{◌≡◌, IfErr, IfOk, OnOk, Ok};
 ghost use Rattle.lpis_cert.specs.Contents.{cert_text};
-ghost use Rattle.lpis_covers.specs.Table.{Answers};
 ghost use Rattle.lpis_parcels.specs.Release.{release_of};
 ghost use Rattle.lpis_commands.specs.CutAnswer.{CutAnswer, Cuts, Gets, GetsPart, Halts};
 ghost use Rattle.lpis_commands.specs.CutAnswer.{IsCut, IsCutAnswer, IsUnreadable, Writes};
@@ -18,12 +17,12 @@ use crate::answer::Answer;
 use crate::cut_line::{print_counts, print_refusal};
 use crate::failure::{Failure, Name};
 use crate::outputs::write_text;
-use crate::releases::{TableBytes, read_tables};
+use crate::releases::{TableBytes, read_tables, release_in};
 use crate::status::{DONE, REFUSED};
 use lpis_cert::{Cert, write_cert};
 use lpis_covers::TableFault;
 use lpis_cutter::{CutFault, Refusal, cut};
-use lpis_parcels::{Release, read_release};
+use lpis_parcels::Release;
 use std::alloc::{AllocError, Global};
 use std::io::{Read, Write};
 
@@ -125,17 +124,6 @@ fn refuse_tables(alloc: Global, fault: &TableFault) -> Result<Outcome, AllocErro
         cert: None,
         printed,
     })
-}
-
-/// The release of three tables, whose bytes are let go.
-fn release_in(alloc: Global, tables: TableBytes) -> Result<Release, TableFault>
-    ensures { Answers result (release_of tables.parcels.items tables.covers.items
-        tables.classes.items) }
-{
-    let parcels = tables.parcels.as_slice();
-    let covers = tables.covers.as_slice();
-    let classes = tables.classes.as_slice();
-    read_release(alloc, parcels, covers, classes)
 }
 
 /// The answer to three tables.

@@ -5,21 +5,20 @@ ghost use Rattle.std.specs.Io.KnownBytes.{Appends};
 ghost use Rattle.std.specs.List.{flat_map};
 ghost use Rattle.sqlite.specs.Held.{state};
 ghost use Rattle.lpis_cert.specs.Contents.{cert_text};
+ghost use Rattle.lpis_cert.specs.Faults.{verdict};
 ghost use Rattle.lpis_cert.specs.declared.cert.Cert.{Cert};
 ghost use Rattle.lpis_checker.specs.GoodCertificate.{IsGood};
 ghost use Rattle.lpis_checker.specs.SoundMap.{IsSoundMap};
-ghost use Rattle.lpis_covers.specs.Faults.{rows_of};
 ghost use Rattle.lpis_lineage.specs.Changes.{dropped, kind_at};
 ghost use Rattle.lpis_lineage.specs.Lineage.{last_live};
-ghost use Rattle.lpis_lineage.specs.LineageTable.{lineage_table};
 ghost use Rattle.lpis_lineage.specs.Order.{IsAscending};
 ghost use Rattle.lpis_parcels.specs.Release.{parcel_ids};
-ghost use Rattle.lpis_commands.specs.CheckAnswer.{IsCheckAnswer, IsTableAnswer};
+ghost use Rattle.lpis_commands.specs.CheckAnswer.{IsCertAnswer, IsCheckAnswer};
 ghost use Rattle.lpis_commands.specs.Failures.{IsUnpublished};
 ghost use Rattle.lpis_commands.specs.LineageLines.{lineage_line, publish_refusal_text};
 ghost use Rattle.lpis_commands.specs.LineageLines.{published_line};
 ghost use Rattle.lpis_commands.specs.PublishAnswer.{AreAllRead, Ends, Halts, IsPublishAnswer};
-ghost use Rattle.lpis_commands.specs.PublishAnswer.{IsReleaseAnswer, Moves, Publication};
+ghost use Rattle.lpis_commands.specs.PublishAnswer.{IsLineageAnswer, Moves, Publication};
 ghost use Rattle.lpis_commands.specs.PublishAnswer.{history_answer};
 ghost use Rattle.lpis_commands.specs.Report.{report_text};
 ghost use Rattle.lpis_commands.specs.Status.{done, refused};
@@ -28,19 +27,20 @@ ghost use Rattle.lpis_commands.specs.private.PublishRuns.{IsAdded, IsAddedWith, 
 ghost use Rattle.lpis_commands.specs.private.PublishRuns.{publication_of};
 
 use crate::answer::Answer;
-use crate::check::{InputBytes, read_inputs, refuse_cert, refuse_text};
+use crate::check::{InputBytes, cert_in, read_inputs, refuse_cert, refuse_text};
 use crate::failure::{Failure, Name};
 use crate::lineage_lines::{print_lineage, print_publish_fault, print_published};
 use crate::printing::PrintFault;
 use crate::reading::read_named;
+use crate::releases::release_in;
 use crate::report::write_report;
 use crate::status::{DONE, REFUSED};
-use lpis_cert::{Cert, CertFault, read_cert};
+use lpis_cert::{Cert, CertFault};
 use lpis_checker::{CheckFault, Yes, check};
 use lpis_covers::TableFault;
 use lpis_lineage::{Change, Row, read_rows};
 use lpis_pairs::Sweep;
-use lpis_parcels::{Release, read_release};
+use lpis_parcels::Release;
 use lpis_register::{PublishFault, Register};
 use sqlite::Alter;
 use std::alloc::{AllocError, Global};
@@ -209,9 +209,8 @@ fn answer_to_lineage<S: Alter>(
     cert: &Cert,
     lineage: &[u8],
 ) -> Result<Answer, Failure>
-    ensures answer { IfOk result (λ a. IsTableAnswer (λ rows. IsCheckAnswer release.now cert.now
-        (history_answer register.old.history year release.now rows))
-        (rows_of lineage_table lineage.now) (a.text.items, a.status)) }
+    ensures answer { IfOk result (λ a. IsLineageAnswer year lineage.now register.old.history
+        release.now cert.now (a.text.items, a.status)) }
     ensures added { IfOk result (λ a. a.status ≡ done → IsSoundMap release.now × IsGood
         release.now cert.now × IsAddedWith year release.now lineage.now register.old.history
         register.new.history) }
@@ -240,13 +239,14 @@ fn answer_to_text<S: Alter>(
     register: &mut Register<S>,
     year: u16,
     release: &Release,
-    inputs: &PublicationBytes,
+    text: Vec<u8>,
+    lineage: &[u8],
 ) -> Result<Answer, Failure>
-    ensures answer { IfOk result (λ a. IsReleaseAnswer (publication_of year inputs.now)
-        register.old.history release.now (a.text.items, a.status)) }
+    ensures answer { IfOk result (λ a. IsCertAnswer (IsLineageAnswer year lineage.now
+        register.old.history release.now) text.items (verdict text.items) (a.text.items, a.status)) }
     ensures added { IfOk result (λ a. a.status ≡ done → IsSoundMap release.now × ((c : Cert) ×
-        (inputs.now.checked.cert.items ≡ cert_text c) × IsGood release.now c) × IsAddedWith year
-        release.now inputs.now.lineage.items register.old.history register.new.history) }
+        (text.items ≡ cert_text c) × IsGood release.now c) × IsAddedWith year
+        release.now lineage.now register.old.history register.new.history) }
     ensures same { IfOk result
         (λ a. a.status ≢ done → register.new.history ≡ register.old.history) }
     ensures failure { IfErr result (λ failure. IsStopped failure ×
@@ -256,11 +256,8 @@ fn answer_to_text<S: Alter>(
     ensures ok { OnOk result (Stays (state S.Store register.old.conn) register.old.history
         (state S.Store register.new.conn) register.new.history) }
 {
-    match read_cert(alloc, inputs.checked.cert.as_slice()) {
-        Ok(cert) => {
-            let lineage = inputs.lineage.as_slice();
-            answer_to_lineage(alloc, register, year, release, &cert, lineage)
-        }
+    match cert_in(alloc, text) {
+        Ok(cert) => answer_to_lineage(alloc, register, year, release, &cert, lineage),
         Err(CertFault::Memory) => Err(Failure::Memory),
         Err(fault) => {
             let answer = refuse_text(alloc, &fault)?;
@@ -269,16 +266,17 @@ fn answer_to_text<S: Alter>(
     }
 }
 
-/// The answer to what is to be published.
+/// The answer to what is to be published. The bytes of a release and of a certificate are let go
+/// when they are read.
 fn answer_to<S: Alter>(
     alloc: Global,
     register: &mut Register<S>,
     year: u16,
-    inputs: &PublicationBytes,
+    inputs: PublicationBytes,
 ) -> Result<Answer, Failure>
-    ensures answer { IfOk result (λ a. IsPublishAnswer (publication_of year inputs.now)
+    ensures answer { IfOk result (λ a. IsPublishAnswer (publication_of year inputs)
         register.old.history (a.text.items, a.status)) }
-    ensures moves { IfOk result (λ a. Moves (publication_of year inputs.now) a.status
+    ensures moves { IfOk result (λ a. Moves (publication_of year inputs) a.status
         register.old.history register.new.history) }
     ensures failure { IfErr result (λ failure. IsStopped failure ×
         (register.new.history ≡ register.old.history)) }
@@ -287,12 +285,10 @@ fn answer_to<S: Alter>(
     ensures ok { OnOk result (Stays (state S.Store register.old.conn) register.old.history
         (state S.Store register.new.conn) register.new.history) }
 {
-    let tables = &inputs.checked.tables;
-    let parcels = tables.parcels.as_slice();
-    let covers = tables.covers.as_slice();
-    let classes = tables.classes.as_slice();
-    match read_release(alloc, parcels, covers, classes) {
-        Ok(release) => answer_to_text(alloc, register, year, &release, inputs),
+    let PublicationBytes { checked, lineage } = inputs;
+    let InputBytes { tables, cert } = checked;
+    match release_in(alloc, tables) {
+        Ok(release) => { answer_to_text(alloc, register, year, &release, cert, lineage.as_slice()) }
         Err(TableFault::Memory) => Err(Failure::Memory),
         Err(fault) => {
             let answer = Answer::refuse_table(alloc, &fault)?;
@@ -368,6 +364,6 @@ pub fn run_publish<
         (state S.Store register.new.conn) register.new.history) }
 {
     let inputs = read_publication(alloc, parcels, covers, classes, cert, lineage)?;
-    let answer = answer_to(alloc, register, year, &inputs)?;
+    let answer = answer_to(alloc, register, year, inputs)?;
     answer.write_to(out)
 }

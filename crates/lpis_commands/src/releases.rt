@@ -1,11 +1,15 @@
-//! Reading the three tables of a release.
+//! The three tables of a release, and the release that they say.
 
 ghost use Rattle.std.specs.Prelude.{◌≡◌, IfErr, IfOk};
+ghost use Rattle.lpis_covers.specs.Table.{Answers};
+ghost use Rattle.lpis_parcels.specs.Release.{release_of};
 ghost use Rattle.lpis_commands.specs.Failures.{IsUnreadRelease};
 ghost use Rattle.lpis_commands.specs.Streams.{IsRead};
 
 use crate::failure::{Failure, Name};
 use crate::reading::read_named;
+use lpis_covers::TableFault;
+use lpis_parcels::{Release, read_release};
 use std::alloc::Global;
 use std::io::Read;
 
@@ -37,4 +41,15 @@ pub(crate) fn read_tables<P: Read + Drop, C: Read + Drop, K: Read + Drop>(
         covers,
         classes,
     })
+}
+
+/// The release of three tables, whose bytes are let go.
+pub(crate) fn release_in(alloc: Global, tables: TableBytes) -> Result<Release, TableFault>
+    ensures { Answers result (release_of tables.parcels.items tables.covers.items
+        tables.classes.items) }
+{
+    let parcels = tables.parcels.as_slice();
+    let covers = tables.covers.as_slice();
+    let classes = tables.classes.as_slice();
+    read_release(alloc, parcels, covers, classes)
 }

@@ -1,4 +1,3 @@
-use Rattle.std.proofs.Common.{◌∙◌, sym}
 use Rattle.std.proofs.lemmas.Result.{IfOk-weaker}
 use Rattle.lpis_commands.specs.private.CheckRuns.{inputs_of}
 use Rattle.lpis_commands.proofs.CheckLemmas.{proved-of}
@@ -6,7 +5,5 @@ use Rattle.lpis_commands.proofs.check.answer_to.Goals as goal
 
 pub returns-in-Ok-clause-proved : goal.returns-in-Ok-clause-proved
 returns-in-Ok-clause-proved c =
-    let tables = rw (c.as_slice-parcels.ensures.value, c.as_slice-covers.ensures.value, c.as_slice-classes.ensures.value) at c.in-Ok.ensures in
-    IfOk-weaker c.answer_to_text.result _ _ (λ a proved is_done. proved-of (inputs_of c.args.inputs.now) c.in-Ok.release
-    tables (proved is_done).0 (proved is_done).1.0 (sym c.as_slice.ensures.value ∙ (proved is_done).1.1)
-    (proved is_done).1.2) c.answer_to_text.ensures.proved
+    IfOk-weaker c.answer_to_text.result _ _ (λ a proved is_done. proved-of (inputs_of c.args.inputs) c.in-Ok.release
+    c.in-Ok.ensures (proved is_done).0 (proved is_done).1.0 (proved is_done).1.1 (proved is_done).1.2) c.answer_to_text.ensures.proved

@@ -9,7 +9,7 @@ pub returns-in-Ok-clause-answer : goal.returns-in-Ok-clause-answer
 returns-in-Ok-clause-answer c =
     IfOk-weaker c.answer_to_cert.result _ _
     (λ a. answer-of-text (λ k. IsCheckAnswer c.args.release.now k (report_text c.args.release.now, done))
-    c.args.text.now c.in-Ok.cert (a.text.items, a.status) c.in-Ok.ensures.found) c.answer_to_cert.ensures.answer
+    c.args.text.items c.in-Ok.cert (a.text.items, a.status) c.in-Ok.ensures.found) c.answer_to_cert.ensures.answer
 
 pub returns-in-Ok-clause-proved : goal.returns-in-Ok-clause-proved
 returns-in-Ok-clause-proved c =

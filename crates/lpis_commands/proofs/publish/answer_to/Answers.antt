@@ -5,10 +5,10 @@ use Rattle.lpis_commands.proofs.publish.answer_to.Goals as goal
 
 pub returns-in-Ok-clause-moves : goal.returns-in-Ok-clause-moves
 returns-in-Ok-clause-moves g c =
-    let x = publication_of c.args.year c.args.inputs.now in
+    let x = publication_of c.args.year c.args.inputs in
     let old = c.args.register.now.history in
     let new = c.answer_to_text.new.register.history in
-    let tables = rw (c.as_slice-parcels.ensures.value, c.as_slice-covers.ensures.value, c.as_slice-classes.ensures.value) at c.in-Ok.ensures in
+    let tables = c.in-Ok.ensures in
     IfOk-weaker c.answer_to_text.result _ _
     (λ a known. (
       (λ is_done.
