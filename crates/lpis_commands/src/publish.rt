@@ -243,7 +243,8 @@ fn answer_to_text<S: Alter>(
     lineage: &[u8],
 ) -> Result<Answer, Failure>
     ensures answer { IfOk result (λ a. IsCertAnswer (IsLineageAnswer year lineage.now
-        register.old.history release.now) text.items (verdict text.items) (a.text.items, a.status)) }
+        register.old.history release.now) text.items (verdict text.items)
+        (a.text.items, a.status)) }
     ensures added { IfOk result (λ a. a.status ≡ done → IsSoundMap release.now × ((c : Cert) ×
         (text.items ≡ cert_text c) × IsGood release.now c) × IsAddedWith year
         release.now lineage.now register.old.history register.new.history) }

@@ -77,7 +77,8 @@ known parcels classes n p h = by (has_id (parcel_ids parcels) p.parcel) refl whe
   by true e = e
   by false e = cc (rw e at h)
 
-pub stranger-none : (parcels : List Parcel) (classes : List Class) (n i : ℕ) (pieces : List Piece) (id : List ℕ) → reference_faults parcels classes n pieces ≡ [] → has_id (parcel_ids parcels) id ≡ false
+pub stranger-none : (parcels : List Parcel) (classes : List Class) (n i : ℕ) (pieces : List Piece) (id : List ℕ)
+    → reference_faults parcels classes n pieces ≡ [] → has_id (parcel_ids parcels) id ≡ false
     → places_where (names id) i pieces ≡ []
 stranger-none parcels classes n i [] id h s = refl
 stranger-none parcels classes n i (p ∷ ps) id h s =

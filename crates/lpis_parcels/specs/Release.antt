@@ -57,7 +57,8 @@ parcel_faults pieces n (p ∷ ps) =
 
 -- the faults of the joins: those of each piece in order, then those of each parcel
 abbrev pub join_faults : Contents → List TableFault
-join_faults c = reference_faults c.parcels c.classes 1 c.pieces ++ parcel_faults c.pieces 1 c.parcels
+join_faults c = reference_faults c.parcels c.classes 1 c.pieces
+    ++ parcel_faults c.pieces 1 c.parcels
 
 abbrev pub joined : Contents → Result Contents TableFault
 joined c = unless_faulty (join_faults c) c
