@@ -16,4 +16,4 @@ returns-in-Ok-clause-moves g c =
           published-of x c.in-Ok.release was.1.0 was.2.0 old new tables was.0 was.1.1 was.1.2 was.2.1 was.2.2),
       known.1,
     ))
-    (both-ok c.answer_to_text.result _ _ c.answer_to_text.ensures.added c.answer_to_text.ensures.same)
+    (both-ok c.answer_to_text.result _ _ (rw c.as_slice.ensures.value at c.answer_to_text.ensures.added) c.answer_to_text.ensures.same)
