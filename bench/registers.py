@@ -35,14 +35,15 @@ def made(path, *scripts):
 
 
 def history(path):
-    """Each release of a register, ascending: its year, its identifiers and its rows of lineage. Nothing where there is no register yet. What
-    is not whole by SQLite's integrity_check and foreign_key_check comes as one text in place of a list."""
+    """Each release of a register, ascending: its year, its identifiers and its rows of lineage. Nothing where there is no register yet.
+    What is not whole by SQLite's integrity_check and foreign_key_check comes as one text in place of a list."""
     if not os.path.exists(path):
         return []
     connection, end = sqlite3.connect(path), time.monotonic() + SECONDS
     connection.set_progress_handler(lambda: time.monotonic() > end, 100_000)
     try:
-        faults = [row for pragma in ("integrity_check", "foreign_key_check") for row in connection.execute(f"PRAGMA {pragma}") if row != ("ok",)]
+        found = [row for pragma in ("integrity_check", "foreign_key_check") for row in connection.execute(f"PRAGMA {pragma}")]
+        faults = [row for row in found if row != ("ok",)]
         return str(faults) if faults else read_history(connection)
     except (sqlite3.Error, KeyError, ValueError) as error:
         return repr(error)

@@ -2,9 +2,8 @@
 
 import os
 import shutil
-import subprocess
 
-from programs import HERE, lpis
+from common import CERT, done, lpis, make
 
 
 def read(path):
@@ -22,7 +21,7 @@ class Years:
 
     def __init__(self, folder, count):
         self.first = os.path.join(folder, "first")
-        subprocess.run([os.path.join(HERE, "make_parcels.py"), str(count), self.first], check=True)
+        make("make_parcels.py", count, self.first)
         self.parcels, self.covers = read(os.path.join(self.first, "parcels.csv")), read(os.path.join(self.first, "covers.csv"))
         self.names = {line.split(",", 1)[0]: line.split(",", 1)[0] for line in self.parcels[1:]}
         self.folder, self.count = folder, len(self.names)
@@ -44,6 +43,6 @@ class Years:
         write(os.path.join(folder, "parcels.csv"), self.parcels[:1] + [f"{self.names[name]},{rest}" for name, rest in renamed])
         pieces = [line.split(",", 2) for line in self.covers[1:]]
         write(os.path.join(folder, "covers.csv"), self.covers[:1] + [f"{piece},{self.names[name]},{rest}" for piece, name, rest in pieces])
-        cert = os.path.join(folder, "cert.txt")
-        subprocess.run([lpis(), "cut", folder, cert], stdout=subprocess.DEVNULL, check=True)
+        cert = os.path.join(folder, CERT)
+        done([lpis(), "cut", folder, cert])
         return folder, cert, rows

@@ -1,0 +1,257 @@
+"""What the benches share. A bench is a script of this folder that measures one thing. Its docstring says what is measured beside what,
+what is wanted and with which words it is run; constants and a `main` follow. It prints a section of Markdown: a heading, a line on what
+it is, a table, and under it what was wanted and what was got. `bench/all` runs them and puts their sections into docs/BENCH.md.
+
+`CUT=PROGRAM` in the environment names another program that knows `cut DIR CERT`, `LPIS=PROGRAM` a proved `lpis` that is built already;
+without them the repository's own is proved and built where that is needed."""
+
+import collections
+import contextlib
+import functools
+import json
+import os
+import resource
+import shutil
+import subprocess
+import sys
+import tempfile
+import textwrap
+
+HERE = os.path.dirname(os.path.realpath(__file__))
+TOP = os.path.dirname(HERE)
+MEGABYTE = 1_000_000
+RUNS, WIDTH = 3, 158
+TABLES = ["parcels.csv", "covers.csv", "classes.csv"]
+CERT = "cert.txt"
+
+# The command line and the temporary files.
+
+
+def options(*flags, words=""):
+    """Which of these flags are on the command line, and the other words. Where words that begin with a dash are none of them, or no other
+    words are taken, the docstring is printed."""
+    given = [word for word in sys.argv[1:] if word in flags]
+    others = [word for word in sys.argv[1:] if word not in flags]
+    if any(word.startswith("-") for word in others) or (others and not words):
+        print(sys.modules["__main__"].__doc__)
+        sys.exit(0 if others[0] in ("-h", "--help") else 2)
+    return *(flag in given for flag in flags), others
+
+
+def temporary(where=None):
+    """A folder that is gone at the end of a `with`."""
+    return tempfile.TemporaryDirectory(prefix="lpis-bench-", dir=where)
+
+
+def make(maker, *words):
+    """Runs one of the scripts that write inputs."""
+    subprocess.run([sys.executable, os.path.join(HERE, maker), *map(str, words)], check=True)
+
+
+def bytes_of(folder, names):
+    return sum(os.path.getsize(os.path.join(folder, name)) for name in names)
+
+
+# The programs.
+
+
+@functools.cache
+def lpis():
+    if "LPIS" in os.environ:
+        return os.path.realpath(os.environ["LPIS"])
+    subprocess.run([os.path.join(TOP, "lpis"), "--help"], stdout=subprocess.DEVNULL, check=True)
+    return os.path.join(TOP, "crates", "lpis", "out", "lpis")
+
+
+def cutter():
+    return os.environ.get("CUT") or lpis()
+
+
+def proved(folder, name, source, uses, words=()):
+    """The path of a small program of bench/, proved and built in a folder over copies of the crates that it stands on, with what
+    earlier checks kept in their out/. The words are for its first run, in which rt links it."""
+    with open(os.path.join(TOP, "crates.txt"), encoding="utf-8") as file:
+        lines = dict(line.split(":", 1) for line in file if ":" in line)
+    needed = [crate for crate in uses if crate in lines]
+    for crate in needed:
+        needed += [it for it in lines[crate].split() if it in lines and it not in needed]
+    crates = os.path.join(folder, "crates")
+    for crate in needed:
+        shutil.copytree(os.path.join(TOP, "crates", crate), os.path.join(crates, crate))
+    os.makedirs(os.path.join(crates, name, "src"))
+    shutil.copy(os.path.join(HERE, source), os.path.join(crates, name, "src", "main.rt"))
+    shutil.copy(os.path.join(TOP, "HANDLES"), folder)
+    with open(os.path.join(folder, "crates.txt"), "w", encoding="utf-8") as file:
+        file.writelines([f"{crate}:{lines[crate]}" for crate in needed] + [f"{name}: {' '.join(uses)}\n"])
+    print(f"proving and building {name} ..", file=sys.stderr, flush=True)
+    rt = shutil.which("rt") or "/opt/rattle/bin/rt"
+    _, *said = answer([rt, "run", "--", *words], os.path.join(crates, name))
+    path = os.path.join(crates, name, "out", name)
+    if not os.path.exists(path):
+        sys.exit("".join(said))
+    return path
+
+
+# Runs.
+
+# A run's peak counts that of the process that starts it, so a small one does: a floor of about 10 MB.
+STARTER = """
+import json, os, resource, sys, time
+end, limits, wall = json.loads(sys.argv[1])
+os.set_inheritable(end, False)
+for kind, most in limits:
+    resource.setrlimit(kind, (most, most))
+start = time.perf_counter()
+child = os.posix_spawn(sys.argv[2], sys.argv[2:], os.environ)
+pid, status, usage = os.wait4(child, os.WNOHANG if wall else 0)
+while not pid:
+    time.sleep(0.003)
+    if time.perf_counter() - start > wall:
+        os.kill(child, 9)
+    pid, status, usage = os.wait4(child, os.WNOHANG)
+took = time.perf_counter() - start
+os.write(end, json.dumps([os.waitstatus_to_exitcode(status), usage.ru_utime + usage.ru_stime, took, usage.ru_maxrss * 1024]).encode())
+"""
+
+Run = collections.namedtuple("Run", "status text told seconds wall peak")
+
+
+def limited(room, seconds_):
+    """Limits of an address space of so many bytes, so many seconds of a processor, and no dump."""
+    return [(resource.RLIMIT_AS, room), (resource.RLIMIT_CPU, seconds_), (resource.RLIMIT_CORE, 0)]
+
+
+def run(words, folder=None, limits=(), wall=None):
+    """Status, standard output, standard error, processor seconds, wall seconds and peak bytes of a run in a folder, with what the
+    script `lpis` sets. Limits are pairs as of `setrlimit`; after so many seconds of wall the run is killed."""
+    surroundings = {"MALLOC_MMAP_THRESHOLD_": "131072", **os.environ}
+    words = [str(word) for word in words]
+    words[0] = shutil.which(words[0]) or sys.exit(f"there is no {words[0]}")
+    end, other = os.pipe()
+    with tempfile.TemporaryFile() as out, tempfile.TemporaryFile() as err, os.fdopen(end, "rb") as figures:
+        starter = [sys.executable, "-I", "-S", "-c", STARTER, json.dumps([other, list(limits), wall])]
+        process = subprocess.Popen([*starter, *words], cwd=folder, stdin=subprocess.DEVNULL, stdout=out, stderr=err, env=surroundings,
+                                   pass_fds=[other])
+        os.close(other)
+        said = figures.read()
+        process.wait()
+        texts = []
+        for file in (out, err):
+            file.seek(0)
+            texts.append(file.read().decode("utf-8", "replace"))
+    if not said:
+        sys.exit(f"{words[0]} was not started: {texts[1][-300:]}")
+    status, *rest = json.loads(said)
+    return Run(status, *texts, *rest)
+
+
+def answer(words, folder=None):
+    """Status, standard output and standard error of a run of which no figure is wanted: it starts sooner."""
+    found = subprocess.run([str(word) for word in words], cwd=folder, stdin=subprocess.DEVNULL, capture_output=True, text=True, check=False)
+    return found.returncode, found.stdout, found.stderr
+
+
+def done(words, folder=None):
+    """A run that has to end well."""
+    found = run(words, folder)
+    if found.status != 0:
+        sys.exit(f"{' '.join(map(str, words))}: status {found.status}: {(found.text + found.told)[-300:]}")
+    return found
+
+
+def best(words, runs=RUNS, folder=None):
+    """The least seconds and the greatest peak of some runs that have to end well and to print the same."""
+    made = [done(words, folder) for _ in range(runs)]
+    if len({it.text for it in made}) != 1:
+        sys.exit(f"{' '.join(map(str, words))}: the runs print different texts")
+    return made[0]._replace(seconds=min(it.seconds for it in made), wall=min(it.wall for it in made), peak=max(it.peak for it in made))
+
+
+# Sections.
+
+
+def wrapped(text, indent=""):
+    return textwrap.fill(text, WIDTH, subsequent_indent=indent, break_long_words=False, break_on_hyphens=False)
+
+
+def section(what):
+    """The heading, and a line on what is measured."""
+    name = os.path.relpath(os.path.realpath(sys.modules["__main__"].__file__), TOP)
+    print(f"## `{name}`\n\n{wrapped(what)}\n", flush=True)
+
+
+class Table:
+    """A table of Markdown, printed row by row."""
+
+    def __init__(self, *columns):
+        self.row(*columns)
+        self.row(*["---"] * len(columns))
+
+    def row(self, *cells):
+        print(f"| {' | '.join(map(str, cells))} |", flush=True)
+
+
+class Wanted:
+    """The lines under a table: what was got, what was wanted, and whether it was met."""
+
+    def __init__(self):
+        self.lines = []
+
+    def line(self, text):
+        self.lines.append(wrapped(f"- {text}", "  "))
+
+    def most(self, most, got, text, places=1):
+        """The text says what was got, which stands in place of its braces."""
+        self.judged(round(got, places) <= most, f"{most} or less", got, text, places)
+
+    def least(self, least, got, text, places=1):
+        self.judged(round(got, places) >= least, f"{least} or more", got, text, places)
+
+    def judged(self, is_met, wanted, got, text, places):
+        self.line(f"{text.format(f'{got:.{places}f}')} (wanted: {wanted}{'' if is_met else '; not met'})")
+
+    def tell(self):
+        print("\n" + "\n".join(self.lines), flush=True)
+
+
+def seconds(value):
+    return f"{value:.3f} s"
+
+
+def megabytes(value):
+    return f"{value / MEGABYTE:.1f} MB"
+
+
+def counted(passed, failed):
+    """The last line of a bench that judges answers; answers its status."""
+    print(f"{passed} passed, {failed} failed")
+    return 1 if failed else 0
+
+
+def shares(words, steps):
+    """Where `perf` is there, the share of each step in the samples of one run, as a text: a step lasts from its first sample to that of the
+    next. A step is a name with words, of which its first sample has one."""
+    if not shutil.which("perf"):
+        return "not measured, there is no `perf`"
+    with temporary() as folder:
+        data = os.path.join(folder, "perf.data")
+        status, _, told = answer(["perf", "record", "-q", "-F", "4999", "-o", data, *words])
+        if status != 0:
+            return f"not measured, `perf` ended with {status}: {(told.strip().splitlines() or ['?'])[-1][:100]}"
+        _, script, _ = answer(["perf", "script", "-i", data, "-F", "ip,sym"])
+    samples = [line for line in script.splitlines() if line.strip()]
+    step, counts = 0, [0] * len(steps)
+    for sample in samples:
+        while step + 1 < len(steps) and any(word in sample for word in steps[step + 1][1]):
+            step += 1
+        counts[step] += 1
+    return ", ".join(f"{name} {100 * count / max(1, len(samples)):.0f}" for (name, _), count in zip(steps, counts)) + " of 100"
+
+
+@contextlib.contextmanager
+def told_faults():
+    """Collects lines about what is not right, which come under the table."""
+    lines = []
+    yield lines
+    if lines:
+        print("\n" + "\n".join(wrapped(f"- {line}", "  ") for line in lines), flush=True)
