@@ -5,7 +5,7 @@ use Rattle.lpis_points.specs.declared.point.Point.{Point}
 use Rattle.lpis_points.specs.Plane.{RationalPoint, orient, orient_at}
 use Rattle.lpis_points.specs.declared.triangle.Triangle.{Triangle}
 use Rattle.lpis_points.specs.Triangles.{IsCounterClockwise, is_inside, greatest, least, are_apart}
-use Rattle.lpis_points.proofs.SignLemmas.{pos-mul-not_neg, pos-mul-not_pos, not_neg_of_mul}
+use Rattle.lpis_points.proofs.SignLemmas.{not_neg, not_zero, pos-mul-not_neg, pos-mul-not_pos, not_neg_of_mul}
 use Rattle.lpis_points.proofs.CrossingLemmas.{same_height}
 use Rattle.lpis_points.proofs.TriangleLemmas.{Inside, inside_is, upright_sum, level_sum, weighted_up}
 
@@ -32,9 +32,6 @@ below_greatest o₁ o₂ o₃ x y z m t e w h k l = by_lt_z e (pos 0) (λ n. n) 
   where
     under : (x m : ℤ) → x ≤ℤ m → (x -ℤ m) ≤ℤ pos 0
     under x m h = omega (arith, ints)
-
-    not_neg : (x : ℤ) → pos 0 <ℤ x → pos 0 ≤ℤ x
-    not_neg x h = omega (arith, ints)
 
     zeros : (u v w s : ℤ) → u ≤ℤ pos 0 → v ≤ℤ pos 0 → w ≤ℤ pos 0 → u +ℤ v +ℤ w ≡ s → pos 0 ≤ℤ s → (u ≡ pos 0) × (v ≡ pos 0) × (w ≡ pos 0)
     zeros u v w s p q r e h = omega (arith, ints)
@@ -68,9 +65,6 @@ no_height ax ay bx by_ cx cy m e f g =
 
     nothing : (m z : ℤ) → m *ℤ pos 0 -ℤ pos 0 *ℤ z ≡ pos 0
     nothing m z = omega (arith, ints)
-
-not_zero : (x : ℤ) → pos 0 <ℤ x → x ≡ pos 0 → ⊥
-not_zero x h e = omega (arith, ints)
 
 upright : (a b c : Point) (p : RationalPoint) (m : ℤ) → pos 0 <ℤ orient a b c → Inside a b c p
     → Weighted (orient_at b c p) (orient_at c a p) (orient_at a b p) a.x b.x c.x m (orient a b c) (p.x -ℤ m *ℤ p.d)

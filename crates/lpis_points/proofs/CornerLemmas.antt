@@ -1,9 +1,9 @@
 -- The corners of a triangle with an area differ.
-use Rattle.std.proofs.Common.{◌≡◌, ◌≢◌, ℤ, pos, ◌<ℤ◌, [], ◌∷◌, sym, subst, arith}
-use Rattle.std.proofs.lemmas.Int.{ints}
+use Rattle.std.proofs.Common.{◌≡◌, ◌≢◌, pos, ◌<ℤ◌, [], ◌∷◌, sym, subst}
 use Rattle.lpis_points.specs.declared.point.Point.{Point}
 use Rattle.lpis_points.specs.Plane.{orient}
 use Rattle.lpis_points.proofs.IntRingLemmas.{var, con, ◌⊖◌, ◌⊗◌, ring}
+use Rattle.lpis_points.proofs.SignLemmas.{not_zero}
 
 orient_same₁ : (a c : Point) → orient a a c ≡ pos 0
 unfolding orient
@@ -17,9 +17,6 @@ orient_same₃ : (a b : Point) → orient a b a ≡ pos 0
 unfolding orient
 orient_same₃ a b = ring (a.x ∷ (a.y ∷ (b.x ∷ (b.y ∷ [])))) ((var 2 ⊖ var 0) ⊗ (var 1 ⊖ var 1) ⊖ (var 3 ⊖ var 1) ⊗ (var 0 ⊖ var 0)) (con (pos 0)) tt
 
-not_nought : (x : ℤ) → pos 0 <ℤ x → x ≡ pos 0 → ⊥
-not_nought x h e = omega (arith, ints)
-
 pub record CornersDiffer (a b c : Point) : Type 0 where
   pub ab : a ≢ b
   pub bc : b ≢ c
@@ -27,7 +24,7 @@ pub record CornersDiffer (a b c : Point) : Type 0 where
 
 pub corners_differ : (a b c : Point) → pos 0 <ℤ orient a b c → CornersDiffer a b c
 corners_differ a b c h = record {
-  ab = λ e. not_nought (orient a b c) h (subst (λ (x : Point). orient a x c ≡ pos 0) e (orient_same₁ a c));
-  bc = λ e. not_nought (orient a b c) h (subst (λ (x : Point). orient a b x ≡ pos 0) e (orient_same₂ a b));
-  ca = λ e. not_nought (orient a b c) h (subst (λ (x : Point). orient a b x ≡ pos 0) (sym e) (orient_same₃ a b));
+  ab = λ e. not_zero (orient a b c) h (subst (λ (x : Point). orient a x c ≡ pos 0) e (orient_same₁ a c));
+  bc = λ e. not_zero (orient a b c) h (subst (λ (x : Point). orient a b x ≡ pos 0) e (orient_same₂ a b));
+  ca = λ e. not_zero (orient a b c) h (subst (λ (x : Point). orient a b x ≡ pos 0) (sym e) (orient_same₃ a b));
 }

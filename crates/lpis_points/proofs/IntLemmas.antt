@@ -1,16 +1,13 @@
 -- Machinery: laws of ℤ that std lacks: `*ℤ` is associative and distributes over `+ℤ`.
-use Rattle.std.proofs.Common.{◌≡◌, ℕ, ◌*◌, ℤ, pos, ◌+ℤ◌, ◌*ℤ◌, neg_ℤ, ap, arith}
+use Rattle.std.proofs.Common.{◌≡◌, ℕ, ◌*◌, ℤ, pos, ◌+ℤ◌, ◌*ℤ◌, ap, arith}
 use Rattle.std.proofs.lemmas.Int.{ints}
-use borrow.Author.Differences.{up, down, sum_is_lem, product_is, neg_is}
+use borrow.Author.Differences.{up, down, sum_is_lem, product_is}
 
 pub mul-add_z : (a b c : ℤ) → a *ℤ (b +ℤ c) ≡ a *ℤ b +ℤ a *ℤ c
 mul-add_z a b c =
     let e₁ = ap (λ (t : ℕ). up a * t) (sum_is_lem b c) in
     let e₂ = ap (λ (t : ℕ). down a * t) (sum_is_lem b c) in
     omega (arith, ints)
-
-pub mul_comm_z : (a b : ℤ) → a *ℤ b ≡ b *ℤ a
-mul_comm_z a b = omega (arith, ints)
 
 pub mul_assoc_z : (a b c : ℤ) → (a *ℤ b) *ℤ c ≡ a *ℤ (b *ℤ c)
 mul_assoc_z a b c =
@@ -24,22 +21,5 @@ mul_assoc_z a b c =
     let r₄ = ap (λ (t : ℕ). down a * t) ((product_is b c).1) in
     omega (arith, ints)
 
-pub neg-mul_z : (a b : ℤ) → neg_ℤ a *ℤ b ≡ neg_ℤ (a *ℤ b)
-neg-mul_z a b =
-    let l₁ = ap (λ (t : ℕ). t * up b) ((neg_is a).0) in
-    let l₂ = ap (λ (t : ℕ). t * down b) ((neg_is a).0) in
-    let l₃ = ap (λ (t : ℕ). t * up b) ((neg_is a).1) in
-    let l₄ = ap (λ (t : ℕ). t * down b) ((neg_is a).1) in
-    omega (arith, ints)
-
 pub one-mul_z : (a : ℤ) → pos 1 *ℤ a ≡ a
 one-mul_z a = omega (arith, ints)
-
-pub zero-mul_z : (a : ℤ) → pos 0 *ℤ a ≡ pos 0
-zero-mul_z a = omega (arith, ints)
-
-pub add_comm_z : (a b : ℤ) → a +ℤ b ≡ b +ℤ a
-add_comm_z a b = omega (arith, ints)
-
-pub add_assoc_z : (a b c : ℤ) → (a +ℤ b) +ℤ c ≡ a +ℤ (b +ℤ c)
-add_assoc_z a b c = omega (arith, ints)

@@ -2,8 +2,9 @@
 -- multiplies it out, and `ring` concludes that two expressions have one value wherever their difference has a normal
 -- form of zeros.
 use Rattle.std.proofs.Common.{◌≡◌, ℕ, zero, suc, ℤ, pos, negsuc, ◌+ℤ◌, ◌-ℤ◌, ◌*ℤ◌, neg_ℤ, Bool, true, false, cond, T, List, [], ◌∷◌, leb, eqb, eqb→eq, ap, ap₂, sym, refl, ◌∙◌, arith}
+use Rattle.std.proofs.Math.IntN.{+ℤ_assoc, *ℤ_comm, zero-*ℤ}
 use Rattle.std.proofs.lemmas.Int.{ints}
-use Rattle.lpis_points.proofs.IntLemmas.{mul-add_z, mul_comm_z, mul_assoc_z, one-mul_z, zero-mul_z, add_assoc_z}
+use Rattle.lpis_points.proofs.IntLemmas.{mul-add_z, mul_assoc_z, one-mul_z}
 
 pub data Expr : Type 0 where
   var : ℕ → Expr
@@ -102,7 +103,7 @@ put_is r v [] = refl
 put_is r v (w ∷ m) = by (put_is r v m) (leb v w)
   where
     swap_z : (x y z : ℤ) → y *ℤ (x *ℤ z) ≡ x *ℤ (y *ℤ z)
-    swap_z x y z = sym (mul_assoc_z y x z) ∙ ap (λ (t : ℤ). t *ℤ z) (mul_comm_z y x) ∙ mul_assoc_z x y z
+    swap_z x y z = sym (mul_assoc_z y x z) ∙ ap (λ (t : ℤ). t *ℤ z) (*ℤ_comm y x) ∙ mul_assoc_z x y z
 
     by : unknowns r (put v m) ≡ at r v *ℤ unknowns r m → (t : Bool) → unknowns r (cond t (v ∷ (w ∷ m)) (w ∷ put v m)) ≡ at r v *ℤ (at r w *ℤ unknowns r m)
     by e true = refl
@@ -128,7 +129,7 @@ add_term_is r c m none = refl
 add_term_is r c m (term d n p) = by (add_term_is r c m p) (same m n) (same_is m n)
   where
     joined : (c d u p : ℤ) → (c +ℤ d) *ℤ u +ℤ p ≡ c *ℤ u +ℤ (d *ℤ u +ℤ p)
-    joined c d u p = let e = mul-add_z u c d in omega (arith, ints, mul_comm_z u c, mul_comm_z u d, mul_comm_z u (c +ℤ d))
+    joined c d u p = let e = mul-add_z u c d in omega (arith, ints, *ℤ_comm u c, *ℤ_comm u d, *ℤ_comm u (c +ℤ d))
 
     moved : (x y z w : ℤ) → w ≡ x +ℤ z → y +ℤ w ≡ x +ℤ (y +ℤ z)
     moved x y z w e = omega (arith, ints)
@@ -145,7 +146,7 @@ add_all_is r none q = zero_add (total r q)
     zero_add : (x : ℤ) → x ≡ pos 0 +ℤ x
     zero_add x = omega (arith, ints)
 add_all_is r (term c m p) q =
-    add_term_is r c m (add_all p q) ∙ ap (λ (t : ℤ). c *ℤ unknowns r m +ℤ t) (add_all_is r p q) ∙ sym (add_assoc_z (c *ℤ unknowns r m) (total r p) (total r q))
+    add_term_is r c m (add_all p q) ∙ ap (λ (t : ℤ). c *ℤ unknowns r m +ℤ t) (add_all_is r p q) ∙ sym (+ℤ_assoc (c *ℤ unknowns r m) (total r p) (total r q))
 
 term_times_is : (r : List ℤ) (c : ℤ) (m : List ℕ) (p : Poly) → total r (term_times c m p) ≡ (c *ℤ unknowns r m) *ℤ total r p
 term_times_is r c m none = zero (c *ℤ unknowns r m)
@@ -160,15 +161,15 @@ term_times_is r c m (term d n p) =
       where
         turned : (c *ℤ d) *ℤ (x *ℤ y) ≡ (c *ℤ x) *ℤ (d *ℤ y)
         turned =
-            mul_assoc_z c d (x *ℤ y) ∙ ap (λ (t : ℤ). c *ℤ t) (sym (mul_assoc_z d x y) ∙ ap (λ (t : ℤ). t *ℤ y) (mul_comm_z d x) ∙ mul_assoc_z x d y) ∙ sym (mul_assoc_z c x (d *ℤ y))
+            mul_assoc_z c d (x *ℤ y) ∙ ap (λ (t : ℤ). c *ℤ t) (sym (mul_assoc_z d x y) ∙ ap (λ (t : ℤ). t *ℤ y) (*ℤ_comm d x) ∙ mul_assoc_z x d y) ∙ sym (mul_assoc_z c x (d *ℤ y))
 
 times_all_is : (r : List ℤ) (p q : Poly) → total r (times_all p q) ≡ total r p *ℤ total r q
-times_all_is r none q = sym (zero-mul_z (total r q))
+times_all_is r none q = sym (zero-*ℤ (total r q))
 times_all_is r (term c m p) q =
     add_all_is r (term_times c m q) (times_all p q) ∙ ap₂ (λ (s t : ℤ). s +ℤ t) (term_times_is r c m q) (times_all_is r p q) ∙ gathered (c *ℤ unknowns r m) (total r p) (total r q)
   where
     gathered : (x p q : ℤ) → x *ℤ q +ℤ p *ℤ q ≡ (x +ℤ p) *ℤ q
-    gathered x p q = ap₂ (λ (s t : ℤ). s +ℤ t) (mul_comm_z x q) (mul_comm_z p q) ∙ sym (mul-add_z q x p) ∙ mul_comm_z q (x +ℤ p)
+    gathered x p q = ap₂ (λ (s t : ℤ). s +ℤ t) (*ℤ_comm x q) (*ℤ_comm p q) ∙ sym (mul-add_z q x p) ∙ *ℤ_comm q (x +ℤ p)
 
 norm_is : (r : List ℤ) (e : Expr) → total r (norm e) ≡ value r e
 norm_is r (var k) = one_of (at r k)

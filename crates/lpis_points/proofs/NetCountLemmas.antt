@@ -1,5 +1,6 @@
 -- Net counts need comparing only at the edges of the two lists.
 use Rattle.std.proofs.Common.{◌≡◌, ℤ, pos, ◌-ℤ◌, ◌+ℤ◌, neg_ℤ, Bool, true, false, cond, ◌&&◌, List, [], ◌∷◌, ◌⊎◌, inl, inr, All, ap, sym, refl, ◌∙◌, subst, arith}
+use Rattle.std.proofs.lemmas.Bool.{and_parts}
 use Rattle.std.proofs.lemmas.Int.{ints}
 use Rattle.std.proofs.lemmas.List.Elements.{All-head, All-tail}
 use Rattle.lpis_points.specs.declared.point.Point.{Point}
@@ -12,8 +13,8 @@ counted : (a b : Point) (es : List (Point × Point)) (Q : Point → Point → Ty
     → All (λ (e : Point × Point). Q e.0 e.1) es → Q a b ⊎ (net_count same_point a b es ≡ pos 0)
 counted a b [] Q turn h = inr refl
 counted a b (e ∷ es) Q turn h = by (same_point a e.0 && same_point b e.1) (same_point b e.0 && same_point a e.1) (net_count same_point a b es)
-    (λ t. let r = both (same_point a e.0) (same_point b e.1) t in subst₂' (sym ((same_point-equality a e.0).0 r.0)) (sym ((same_point-equality b e.1).0 r.1)) here)
-    (λ t. let r = both (same_point b e.0) (same_point a e.1) t in turn b a (subst₂' (sym ((same_point-equality b e.0).0 r.0)) (sym ((same_point-equality a e.1).0 r.1)) here))
+    (λ t. let r = and_parts (same_point a e.0) (same_point b e.1) t in subst₂' (sym ((same_point-equality a e.0).0 r.0)) (sym ((same_point-equality b e.1).0 r.1)) here)
+    (λ t. let r = and_parts (same_point b e.0) (same_point a e.1) t in turn b a (subst₂' (sym ((same_point-equality b e.0).0 r.0)) (sym ((same_point-equality a e.1).0 r.1)) here))
     (counted a b es Q turn (All-tail (λ (g : Point × Point). Q g.0 g.1) e es h))
   where
     here : Q e.0 e.1
@@ -21,10 +22,6 @@ counted a b (e ∷ es) Q turn h = by (same_point a e.0 && same_point b e.1) (sam
 
     subst₂' : {x y x' y' : Point} → x ≡ x' → y ≡ y' → Q x y → Q x' y'
     subst₂' {x} {y} {x'} {y'} p q k = subst (λ (v : Point). Q x' v) q (subst (λ (v : Point). Q v y) p k)
-
-    both : (p q : Bool) → (p && q) ≡ true → (p ≡ true) × (q ≡ true)
-    both true q e = (refl, e)
-    both false q e = cc
 
     nought : (x : ℤ) → x ≡ pos 0 → (pos 0 -ℤ pos 0) +ℤ x ≡ pos 0
     nought x e = omega (arith, ints)

@@ -1,5 +1,6 @@
 -- Equal points.
-use Rattle.std.proofs.Common.{◌≡◌, ℤ, Bool, true, false, ◌&&◌, ap, ap₂, ◌∙◌, subst, refl, arith, int_eq}
+use Rattle.std.proofs.Common.{◌≡◌, ℤ, true, ap, ◌∙◌, subst, arith, int_eq}
+use Rattle.std.proofs.lemmas.Bool.{and_from, and_parts}
 use Rattle.std.proofs.lemmas.Int.{ints}
 use lib.Dec.{T_prop}
 use Rattle.lpis_points.specs.declared.point.Point.{Point}
@@ -32,16 +33,9 @@ int_eq_yes x y e = grind (arith, ints)
 int_eq_same : (x : ℤ) → int_eq x x ≡ true
 int_eq_same x = grind (arith, ints)
 
-and_parts : (p q : Bool) → (p && q) ≡ true → (p ≡ true) × (q ≡ true)
-and_parts true q e = (refl, e)
-and_parts false q e = cc
-
-and_both : (p q : Bool) → p ≡ true → q ≡ true → (p && q) ≡ true
-and_both p q e f = ap₂ (λ (v w : Bool). v && w) e f
-
 -- `same_point` tells equal points
 pub same_point-equality : IsEquality same_point
 same_point-equality a b = (
   λ e. let r = and_parts (int_eq a.x b.x) (int_eq a.y b.y) e in point_eq a b (int_eq_yes a.x b.x r.0) (int_eq_yes a.y b.y r.1),
-  λ e. subst (λ (v : Point). same_point a v ≡ true) e (and_both (int_eq a.x a.x) (int_eq a.y a.y) (int_eq_same a.x) (int_eq_same a.y)),
+  λ e. subst (λ (v : Point). same_point a v ≡ true) e (and_from (int_eq a.x a.x) (int_eq a.y a.y) (int_eq_same a.x) (int_eq_same a.y)),
 )

@@ -1,5 +1,6 @@
 -- Two counter-clockwise triangles on two sides of a line have no inner point in common.
 use Rattle.std.proofs.Common.{◌≡◌, ◌≢◌, true, ℤ, pos, ◌+ℤ◌, ◌-ℤ◌, ◌*ℤ◌, ◌≤ℤ◌, ◌<ℤ◌, [], ◌∷◌, ap₂, ◌∙◌, arith}
+use Rattle.std.proofs.Math.IntN.{*ℤ_comm}
 use Rattle.std.proofs.lemmas.Int.{ints}
 use Rattle.lpis_points.specs.declared.point.Point.{Point}
 use Rattle.lpis_points.specs.declared.triangle.Triangle.{Triangle}
@@ -7,7 +8,7 @@ use Rattle.lpis_points.specs.Plane.{RationalPoint, orient, orient_at}
 use Rattle.lpis_points.specs.Triangles.{IsCounterClockwise, is_inside, Separates}
 use Rattle.lpis_points.proofs.IntRingLemmas.{var, ◌⊖◌, ◌⊗◌, ring}
 use Rattle.lpis_points.proofs.PointLemmas.{point_eq}
-use Rattle.lpis_points.proofs.SignLemmas.{pos-mul-not_neg, zero_of_mul, not_neg_of_mul, not_pos_of_mul}
+use Rattle.lpis_points.proofs.SignLemmas.{not_neg, pos-mul-not_neg, zero_of_mul, not_neg_of_mul, not_pos_of_mul}
 use Rattle.lpis_points.proofs.TriangleLemmas.{inside_is, line_sum, weighted_up, weighted_down}
 
 -- ---- corners on one line make no area
@@ -55,18 +56,12 @@ on_line a b c u v n t e f g = n (point_eq u v (same u.x v.x x) (same u.y v.y y))
     y = zero_of_mul (v.y -ℤ u.y) (orient a b c) t (y_by_sides a b c u v ∙ nothing (b.y -ℤ a.y) (c.y -ℤ a.y) (orient u v a) (orient u v b) (orient u v c) e f g)
 
 -- ---- a point inside a triangle that is on one side of a line
-not_neg : (x : ℤ) → pos 0 <ℤ x → pos 0 ≤ℤ x
-not_neg x h = omega (arith, ints)
-
-no_product : (o z : ℤ) → o *ℤ z ≡ z *ℤ o
-no_product o z = omega (arith, ints)
-
 -- weights above 0 on numbers of one sign, with the sum 0
 zeros_up : (o₁ o₂ o₃ x y z s : ℤ) → pos 0 <ℤ o₁ → pos 0 <ℤ o₂ → pos 0 <ℤ o₃ → pos 0 ≤ℤ x → pos 0 ≤ℤ y → pos 0 ≤ℤ z
     → o₁ *ℤ x +ℤ o₂ *ℤ y +ℤ o₃ *ℤ z ≡ s → s ≡ pos 0 → (x ≡ pos 0) × (y ≡ pos 0) × (z ≡ pos 0)
 zeros_up o₁ o₂ o₃ x y z s p q r h k l e f =
     let w = parts (o₁ *ℤ x) (o₂ *ℤ y) (o₃ *ℤ z) s (pos-mul-not_neg o₁ x (not_neg o₁ p) h) (pos-mul-not_neg o₂ y (not_neg o₂ q) k) (pos-mul-not_neg o₃ z (not_neg o₃ r) l) e f in
-    (zero_of_mul x o₁ p (no_product x o₁ ∙ w.0), zero_of_mul y o₂ q (no_product y o₂ ∙ w.1), zero_of_mul z o₃ r (no_product z o₃ ∙ w.2))
+    (zero_of_mul x o₁ p (*ℤ_comm x o₁ ∙ w.0), zero_of_mul y o₂ q (*ℤ_comm y o₂ ∙ w.1), zero_of_mul z o₃ r (*ℤ_comm z o₃ ∙ w.2))
   where
     parts : (u v w s : ℤ) → pos 0 ≤ℤ u → pos 0 ≤ℤ v → pos 0 ≤ℤ w → u +ℤ v +ℤ w ≡ s → s ≡ pos 0 → (u ≡ pos 0) × (v ≡ pos 0) × (w ≡ pos 0)
     parts u v w s p q r e f = omega (arith, ints)

@@ -7,7 +7,7 @@ use Rattle.lpis_points.specs.Plane.{RationalPoint, orient_at, crossing, crossing
 use Rattle.lpis_points.specs.Shift.{shifted}
 use Rattle.lpis_points.proofs.IntRingLemmas.{var, con, ◌⊕◌, ◌⊖◌, ◌⊗◌, ring}
 use Rattle.lpis_points.proofs.CrossingLemmas.{up_left, down_right, both_below, both_above, up_not_left, down_not_right}
-use Rattle.lpis_points.proofs.SignLemmas.{pos-mul-not_neg, neg-mul-not_neg}
+use Rattle.lpis_points.proofs.SignLemmas.{not_neg, pos-mul-not_neg, neg-mul-not_neg}
 
 -- a point shifted by any n
 pub shift_any : (ax ay bx by_ x y d n : ℤ) → (bx -ℤ ax) *ℤ ((y *ℤ n *ℤ n +ℤ pos 1) -ℤ ay *ℤ (d *ℤ n *ℤ n)) -ℤ
@@ -109,9 +109,6 @@ rises ay by_ d h = record {
   down = λ l. by_lt_z (by_ -ℤ ay) (pos 0) (λ p. p) (λ q. absurd (clash' (ay *ℤ d) (by_ *ℤ d) ((by_ -ℤ ay) *ℤ d) (rise ay by_ d) l (pos-mul-not_neg (by_ -ℤ ay) d q (not_neg d h))));
 }
   where
-    not_neg : (x : ℤ) → pos 0 <ℤ x → pos 0 ≤ℤ x
-    not_neg x h = omega (arith, ints)
-
     clash : (u v w : ℤ) → v -ℤ u ≡ w → u <ℤ v → w ≤ℤ pos 0 → ⊥
     clash u v w e h k = omega (arith, ints)
 

@@ -2,6 +2,12 @@
 use Rattle.std.proofs.Common.{◌≡◌, suc, zero, ℤ, pos, negsuc, ◌*ℤ◌, neg_ℤ, ◌≤ℤ◌, ◌<ℤ◌, arith}
 use Rattle.std.proofs.lemmas.Int.{ints, by_lt_z}
 
+pub not_neg : (x : ℤ) → pos 0 <ℤ x → pos 0 ≤ℤ x
+not_neg x h = omega (arith, ints)
+
+pub not_zero : (x : ℤ) → pos 0 <ℤ x → x ≡ pos 0 → ⊥
+not_zero x h e = omega (arith, ints)
+
 pub pos-mul-pos : (a b : ℤ) → pos 0 <ℤ a → pos 0 <ℤ b → pos 0 <ℤ (a *ℤ b)
 pos-mul-pos (pos zero) b h k = absurd (omega (arith, ints))
 pos-mul-pos (pos (suc a)) (pos zero) h k = absurd (omega (arith, ints))
@@ -35,13 +41,10 @@ neg-mul-not_pos a b h k = let n : pos 0 ≤ℤ neg_ℤ a = omega (arith, ints) i
 pub zero_of_mul : (o d : ℤ) → pos 0 <ℤ d → o *ℤ d ≡ pos 0 → o ≡ pos 0
 zero_of_mul o d h e = by_lt_z o (pos 0)
     (λ n. absurd (below (o *ℤ d) (neg-mul-pos o d n h) e))
-    (λ k. by_lt_z (pos 0) o (λ p. absurd (above (o *ℤ d) (pos-mul-pos o d p h) e)) (λ l. omega (arith, ints)))
+    (λ k. by_lt_z (pos 0) o (λ p. absurd (not_zero (o *ℤ d) (pos-mul-pos o d p h) e)) (λ l. omega (arith, ints)))
   where
     below : (x : ℤ) → x <ℤ pos 0 → x ≡ pos 0 → ⊥
     below x l e = omega (arith, ints)
-
-    above : (x : ℤ) → pos 0 <ℤ x → x ≡ pos 0 → ⊥
-    above x l e = omega (arith, ints)
 
 -- the sign of a factor, from that of the product with a positive one
 pub not_neg_of_mul : (d z : ℤ) → pos 0 <ℤ d → pos 0 ≤ℤ (d *ℤ z) → pos 0 ≤ℤ z

@@ -3,7 +3,7 @@ use Rattle.std.proofs.Common.{◌≡◌, ◌≢◌, ℤ, pos, ◌+ℤ◌, ◌-�
 use Rattle.std.proofs.lemmas.Int.{ints}
 use Rattle.lpis_points.specs.declared.point.Point.{Point}
 use Rattle.lpis_points.specs.Plane.{RationalPoint, orient, orient_at, crossing, shoelace_term}
-use Rattle.lpis_points.proofs.SignLemmas.{pos-mul-not_neg, pos-mul-not_pos, zero_of_mul}
+use Rattle.lpis_points.proofs.SignLemmas.{not_neg, pos-mul-not_neg, pos-mul-not_pos, zero_of_mul}
 use Rattle.lpis_points.proofs.CrossingLemmas.{Around, around_total, inside_none}
 use Rattle.lpis_points.proofs.IntRingLemmas.{Expr, var, con, ◌⊕◌, ◌⊖◌, ◌⊗◌, ring}
 
@@ -139,9 +139,6 @@ on_level m y s t z e f =
 
 not_neg_of : (x y : ℤ) → x ≡ y → pos 0 ≤ℤ y → pos 0 ≤ℤ x
 not_neg_of x y e h = omega (arith, ints)
-
-not_neg : (x : ℤ) → pos 0 <ℤ x → pos 0 ≤ℤ x
-not_neg x h = omega (arith, ints)
 
 pub around : (a b c : Point) (p : RationalPoint) → pos 0 <ℤ p.d → pos 0 ≤ℤ orient a b c → IsOff a b c p
     → Around (a.y *ℤ p.d) (b.y *ℤ p.d) (c.y *ℤ p.d) p.y (orient_at a b p) (orient_at b c p) (orient_at c a p)
