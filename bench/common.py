@@ -161,10 +161,23 @@ def done(words, folder=None):
 
 def best(words, runs=RUNS, folder=None):
     """The least seconds and the greatest peak of some runs that have to end well and to print the same."""
-    made = [done(words, folder) for _ in range(runs)]
-    if len({it.text for it in made}) != 1:
-        sys.exit(f"{' '.join(map(str, words))}: the runs print different texts")
-    return made[0]._replace(seconds=min(it.seconds for it in made), wall=min(it.wall for it in made), peak=max(it.peak for it in made))
+    return bests([words], runs, folder)[0]
+
+
+def bests(commands, runs=RUNS, folder=None):
+    """The same of some commands that are held against one another: they take turns, since a machine is not as quick in each minute."""
+    turns = [[done(words, folder) for words in commands] for _ in range(runs)]
+    found = []
+    for words, made in zip(commands, zip(*turns)):
+        if len({it.text for it in made}) != 1:
+            sys.exit(f"{' '.join(map(str, words))}: the runs print different texts")
+        found.append(least(made))
+    return found
+
+
+def least(runs):
+    """The least seconds and the greatest peak of runs of one command."""
+    return runs[0]._replace(seconds=min(it.seconds for it in runs), wall=min(it.wall for it in runs), peak=max(it.peak for it in runs))
 
 
 # Sections.

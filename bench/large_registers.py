@@ -101,33 +101,29 @@ def copied(path):
     return copy
 
 
-def least(took):
-    return tuple(min(column) for column in zip(*took))
+def by_program(path, words, line):
+    """Seconds of a program over a copy of a register, whose path comes in place of None; its last line has to be this one."""
+    copy = copied(path)
+    found = done([copy if word is None else word for word in words])
+    if found.text.splitlines()[-1:] != [line]:
+        sys.exit(f"{' '.join(map(str, words))}: {found.text[-300:]}")
+    return found.wall, found.seconds
 
 
-def of_program(path, words, line, runs):
-    """A program over copies of a register, whose path comes in place of None; its last line has to be this one."""
-    took = []
-    for _ in range(runs):
-        copy = copied(path)
-        found = done([copy if word is None else word for word in words])
-        if found.text.splitlines()[-1:] != [line]:
-            sys.exit(f"{' '.join(map(str, words))}: {found.text[-300:]}")
-        took.append((found.wall, found.seconds))
-    return least(took)
+def by_sqlite(path, work):
+    """Seconds of sqlite3 over a copy of a register, from the opening to the closing."""
+    copy = copied(path)
+    start, started = time.perf_counter(), time.process_time()
+    connection = opened(copy)
+    work(connection)
+    connection.close()
+    return time.perf_counter() - start, time.process_time() - started
 
 
-def of_sqlite(path, work, runs):
-    """sqlite3 over copies of a register, from the opening to the closing."""
-    took = []
-    for _ in range(runs):
-        copy = copied(path)
-        start, started = time.perf_counter(), time.process_time()
-        connection = opened(copy)
-        work(connection)
-        connection.close()
-        took.append((time.perf_counter() - start, time.process_time() - started))
-    return least(took)
+def in_turns(runs, *works):
+    """The least seconds of each of some works, which take turns, since a machine is not as quick in each minute."""
+    turns = [[work() for work in works] for _ in range(runs)]
+    return [tuple(min(column) for column in zip(*took)) for took in zip(*turns)]
 
 
 def both(wall, busy):
