@@ -15,11 +15,12 @@ use Rattle.lpis_lineage.specs.Descendants.{IsDescendant}
 use Rattle.lpis_lineage.proofs.PickingLemmas.{has-filter}
 use Rattle.lpis_lineage.specs.Descendants.{all_rows, leads, Chain, Here, Step}
 use Rattle.lpis_lineage.specs.private.Following.{Reaches, IsFresh, AreFresh}
-use Rattle.lpis_lineage.proofs.IdentifierLemmas.{same-exact, same-refl, either, and-left, and-right, or-cases}
-use Rattle.lpis_lineage.proofs.CleanLemmas.{mono, any-left, any-mid, any-last, or-left, and-both}
+use Rattle.lpis_lineage.proofs.IdentifierLemmas.{same-exact, same-refl}
+use Rattle.lpis_lineage.proofs.CleanLemmas.{mono, any-left, any-mid, any-last}
 use Rattle.lpis_lineage.proofs.ExtensionLemmas.{entry-get}
 use Rattle.lpis_lineage.proofs.TellingLemmas.{take-at}
 use Rattle.std.proofs.lemmas.List.{take-append-drop}
+use Rattle.std.proofs.lemmas.Bool.{and_parts, or_left, or_cases, cases_Bool, and_from}
 
 pub chain-more : (rows : List Row) (r : Row) (a b : List ℕ) → Chain rows a b → Chain (rows ++ r ∷ []) a b
 chain-more rows r a _ Here = Here
@@ -34,10 +35,10 @@ chain-less rows r a _ fresh (Step m c ch l) = next rows r a m c fresh (chain-les
       → (Chain rows a c) ⊎ ((Chain rows a r.old) × (is_this c r.new ≡ true))
   next rows r a m c fresh (inl ch) l = elim (any-last (leads m c) rows r l) as (λ _. (Chain rows a c) ⊎ ((Chain rows a r.old) × (is_this c r.new ≡ true))) [
     | inl x ↦ inl (Step m c ch x)
-    | inr y ↦ inr (let P : List ℕ → Type 0 = λ z. Chain rows a z in subst P (same-exact m r.old (and-left _ _ y)) ch, and-right (is_of m r) _ y)
+    | inr y ↦ inr (let P : List ℕ → Type 0 = λ z. Chain rows a z in subst P (same-exact m r.old (and_parts _ _ y).0) ch, (and_parts (is_of m r) _ y).1)
   ]
   next rows r a m c fresh (inr (ch, t)) l = absurd (
-      let has-row : list_any (is_of m) (rows ++ r ∷ []) ≡ true = mono (leads m c) (is_of m) (rows ++ r ∷ []) (λ q h. and-left _ _ h) l in
+      let has-row : list_any (is_of m) (rows ++ r ∷ []) ≡ true = mono (leads m c) (is_of m) (rows ++ r ∷ []) (λ q h. (and_parts _ _ h).0) l in
       let none = fresh m t in cc)
 
 -- the row has no successor
@@ -80,12 +81,12 @@ reach-add ids more rows r id heir reach fresh some old new = record {
   by-test q true e h =
       let g : heir ≡ q = same-exact heir q (sym e) in
       let names-it : is_this q r.new ≡ true = ap (λ (o : Option (List ℕ)). is_this q o) some ∙ ap (λ (z : List ℕ). same_id q z) g ∙ same-refl q in
-      Step r.old q (chain-more rows r id r.old (reach.sound r.old old)) (any-mid (leads r.old q) rows r [] (and-both _ _ (same-refl r.old) names-it))
+      Step r.old q (chain-more rows r id r.old (reach.sound r.old old)) (any-mid (leads r.old q) rows r [] (and_from _ _ (same-refl r.old) names-it))
   by-test q false e h = chain-more rows r id q (reach.sound q h)
 
 -- one row further among rows that are fresh
 pub fresh-row : (before rows : List Row) (i : ℕ) (r : Row) → AreFresh before rows → i < length rows → r ≡ get_or rows i r → IsFresh (before ++ take i rows) r
-fresh-row before rows i r fresh lt is s names-it = elim (either (list_any (is_of s) ((before ++ take i rows) ++ r ∷ []))) as (λ _. list_any (is_of s) ((before ++ take i rows) ++ r ∷ []) ≡ false) [
+fresh-row before rows i r fresh lt is s names-it = elim (cases_Bool (list_any (is_of s) ((before ++ take i rows) ++ r ∷ []))) as (λ _. list_any (is_of s) ((before ++ take i rows) ++ r ∷ []) ≡ false) [
   | inl t ↦ absurd (
       let split : rows ≡ (take i rows ++ r ∷ []) ++ drop (i + 1) rows = sym (take-append-drop (i + 1) rows) ∙ ap (λ (l : List Row). l ++ drop (i + 1) rows) (sym (take-at rows i r lt is)) in
       let there : list_any (names s) rows ≡ true = ap (λ (l : List Row). list_any (names s) l) split
@@ -105,7 +106,7 @@ row-place [] zero id e = cc e
 row-place [] (suc n) id e = cc e
 row-place (x ∷ h) zero id e = cc e
 row-place (x ∷ h) (suc n) id e =
-    elim (or-cases (list_any (is_of id) x.rows) _ (sym (list_any-append (is_of id) x.rows (all_rows (take n h))) ∙ e))
+    elim (or_cases (list_any (is_of id) x.rows) _ (sym (list_any-append (is_of id) x.rows (all_rows (take n h))) ∙ e))
     as (λ _. (j : ℕ) × (j < suc n) × (list_any (is_of id) (entry_at (x ∷ h) j).rows ≡ true)) [
       | inl a ↦ (0, omega arith, a)
       | inr b ↦ let r = row-place h n id b in (suc r.0, (let k = r.1 in omega arith), r.2)
@@ -123,8 +124,8 @@ pub release-fresh : (h : List Entry) → IsLawful h → RowsFit h → (i : ℕ) 
 release-fresh h law fit i e lt is s names-it =
     let at : e ≡ entry_at h i = is ∙ entry-get h i e lt in
     let live : holds h i s ≡ true = law.successors s i (ap (λ (x : Entry). list_any (names s) x.rows) (sym at) ∙ names-it) in
-    elim (either (list_any (is_of s) (all_rows (take i h) ++ e.rows))) as (λ _. list_any (is_of s) (all_rows (take i h) ++ e.rows) ≡ false) [
-      | inl t ↦ elim (or-cases (list_any (is_of s) (all_rows (take i h))) _
+    elim (cases_Bool (list_any (is_of s) (all_rows (take i h) ++ e.rows))) as (λ _. list_any (is_of s) (all_rows (take i h) ++ e.rows) ≡ false) [
+      | inl t ↦ elim (or_cases (list_any (is_of s) (all_rows (take i h))) _
           (sym (list_any-append (is_of s) (all_rows (take i h)) e.rows) ∙ t)) as
           (λ _. list_any (is_of s) (all_rows (take i h) ++ e.rows) ≡ false) [
             | inl a ↦ absurd (let p = row-place h i s a in let w = no-row-of h law fit i p.0 s (let k = p.1 in omega arith) live p.2 in cc)
@@ -148,9 +149,9 @@ rows-whole h = ap all_rows (take_all h) where
 -- the start
 pub reach-start : (id copy : List ℕ) → copy ≡ id → Reaches (copy ∷ []) [] id
 reach-start id copy e = record {
-  sound = λ q h. let same-q : same_id q copy ≡ true = (elim (or-cases (same_id q copy) false h) as (λ _. same_id q copy ≡ true) [ inl a ↦ a | inr b ↦ cc b ]) in
+  sound = λ q h. let same-q : same_id q copy ≡ true = (elim (or_cases (same_id q copy) false h) as (λ _. same_id q copy ≡ true) [ inl a ↦ a | inr b ↦ cc b ]) in
       let g : q ≡ id = same-exact q copy same-q ∙ e in let P : List ℕ → Type 0 = λ z. Chain [] id z in subst P (sym g) Here;
-  whole = λ q ch. or-left _ _ (start q ch);
+  whole = λ q ch. or_left _ _ (start q ch);
 } where
   start : (q : List ℕ) → Chain [] id q → same_id q copy ≡ true
   start _ Here = ap (λ (z : List ℕ). same_id id z) e ∙ same-refl id
@@ -163,6 +164,6 @@ pub live-reached : (h : List Entry) (id : List ℕ) (reached ids found : List (L
 live-reached h id reached ids found reach e f q =
     let tested : has_id found q ≡ (has_id (last_live h) q && has_id reached q) =
     ap (λ (l : List (List ℕ)). has_id l q) f ∙ has-filter (λ k. has_id reached k) ids q ∙ ap (λ (l : List (List ℕ)). has_id l q && has_id reached q) e in (
-      λ t. (reach.sound q (and-right (has_id (last_live h) q) (has_id reached q) (sym tested ∙ t)), and-left (has_id (last_live h) q) (has_id reached q) (sym tested ∙ t)),
-      λ d. tested ∙ and-both _ _ d.1 (reach.whole q d.0),
+      λ t. (reach.sound q (and_parts (has_id (last_live h) q) (has_id reached q) (sym tested ∙ t)).1, (and_parts (has_id (last_live h) q) (has_id reached q) (sym tested ∙ t)).0),
+      λ d. tested ∙ and_from _ _ d.1 (reach.whole q d.0),
     )

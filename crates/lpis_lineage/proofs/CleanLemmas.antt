@@ -5,6 +5,7 @@ use Rattle.std.specs.Prelude.{◌&&◌, ◌||◌, not, is_some}
 use Rattle.std.specs.List.{list_any, filter}
 use Rattle.std.specs.Option.{option_or}
 use Rattle.std.proofs.lemmas.List.Folds.{list_any-append}
+use Rattle.std.proofs.lemmas.Bool.{and_parts, or_left, or_right, or_cases, cases_Bool, and_from, not_from_true, not-false}
 use Rattle.lpis_lineage.specs.declared.row.Row.{Row}
 use Rattle.lpis_lineage.specs.declared.row.Entry.{Entry}
 use Rattle.lpis_lineage.specs.declared.fault.LineageFault.{LineageFault}
@@ -14,7 +15,7 @@ use Rattle.lpis_lineage.specs.Lawful.{IsAnswered}
 use Rattle.lpis_lineage.specs.private.Follows.{Follows}
 use Rattle.lpis_lineage.specs.Faults.{fault_before, is_missing, clashes, row_faults, dropped_faults, used_fault_before, used_faults, faults, first}
 use Rattle.lpis_lineage.specs.Spans.{last_held}
-use Rattle.lpis_lineage.proofs.IdentifierLemmas.{same-exact, same-refl, either, and-left, and-right, or-cases}
+use Rattle.lpis_lineage.proofs.IdentifierLemmas.{same-exact, same-refl}
 use Rattle.lpis_lineage.proofs.RowCountLemmas.{filter-append, filter-none, filter-some, one-ending, counted-ended, from-answered}
 
 -- ---- lists and tests
@@ -30,41 +31,21 @@ both-nil : {A : Type 0} (xs ys : List A) → xs ++ ys ≡ [] → (xs ≡ []) × 
 both-nil [] ys e = (refl, e)
 both-nil (x ∷ xs) ys e = absurd cc
 
-not-false : (b : Bool) → not b ≡ false → b ≡ true
-not-false true e = refl
-not-false false e = cc e
-
-not-of : (b : Bool) → b ≡ true → not b ≡ false
-not-of true e = refl
-not-of false e = cc e
-
-pub or-left : (a b : Bool) → a ≡ true → (a || b) ≡ true
-or-left true b e = refl
-or-left false b e = cc e
-
-pub or-right : (a b : Bool) → b ≡ true → (a || b) ≡ true
-or-right true b e = refl
-or-right false b e = e
-
-pub and-both : (a b : Bool) → a ≡ true → b ≡ true → (a && b) ≡ true
-and-both true b e f = f
-and-both false b e f = cc e
-
 pub mono : {A : Type 0} (p q : A → Bool) (xs : List A) → ((x : A) → p x ≡ true → q x ≡ true) → list_any p xs ≡ true → list_any q xs ≡ true
 mono p q [] into e = e
-mono p q (x ∷ xs) into e = elim (or-cases (p x) (list_any p xs) e) as (λ _. list_any q (x ∷ xs) ≡ true) [ inl a ↦ or-left (q x) _ (into x a) | inr b ↦ or-right (q x) _ (mono p q xs into b) ]
+mono p q (x ∷ xs) into e = elim (or_cases (p x) (list_any p xs) e) as (λ _. list_any q (x ∷ xs) ≡ true) [ inl a ↦ or_left (q x) _ (into x a) | inr b ↦ or_right (q x) _ (mono p q xs into b) ]
 
 pub any-left : {A : Type 0} (p : A → Bool) (xs ys : List A) → list_any p xs ≡ true → list_any p (xs ++ ys) ≡ true
-any-left p xs ys e = list_any-append p xs ys ∙ or-left (list_any p xs) _ e
+any-left p xs ys e = list_any-append p xs ys ∙ or_left (list_any p xs) _ e
 
 pub any-mid : {A : Type 0} (p : A → Bool) (xs : List A) (x : A) (ys : List A) → p x ≡ true → list_any p (xs ++ x ∷ ys) ≡ true
-any-mid p xs x ys e = list_any-append p xs (x ∷ ys) ∙ or-right (list_any p xs) _ (or-left (p x) _ e)
+any-mid p xs x ys e = list_any-append p xs (x ∷ ys) ∙ or_right (list_any p xs) _ (or_left (p x) _ e)
 
 pub any-last : {A : Type 0} (p : A → Bool) (xs : List A) (x : A) → list_any p (xs ++ x ∷ []) ≡ true → (list_any p xs ≡ true) ⊎ (p x ≡ true)
-any-last p xs x e = elim (or-cases (list_any p xs) _ (sym (list_any-append p xs (x ∷ [])) ∙ e)) as
+any-last p xs x e = elim (or_cases (list_any p xs) _ (sym (list_any-append p xs (x ∷ [])) ∙ e)) as
     (λ _. (list_any p xs ≡ true) ⊎ (p x ≡ true)) [
       | inl a ↦ inl a
-      | inr b ↦ elim (or-cases (p x) false b) as
+      | inr b ↦ elim (or_cases (p x) false b) as
           (λ _. (list_any p xs ≡ true) ⊎ (p x ≡ true)) [ inl a ↦ inr a | inr c ↦ absurd cc ]
     ]
 
@@ -82,10 +63,10 @@ same-new-refl (Some s) = same-refl s
 pub same-row-exact : (r q : Row) → same_row r q ≡ true → r ≡ q
 same-row-exact r q e =
     let mk : List ℕ → Option (List ℕ) → Row = λ o n. record { old = o; new = n } in
-    ap (λ (o : List ℕ). mk o r.new) (same-exact r.old q.old (and-left _ _ e)) ∙ ap (λ (n : Option (List ℕ)). mk q.old n) (same-new-exact r.new q.new (and-right (same_id r.old q.old) _ e))
+    ap (λ (o : List ℕ). mk o r.new) (same-exact r.old q.old (and_parts _ _ e).0) ∙ ap (λ (n : Option (List ℕ)). mk q.old n) (same-new-exact r.new q.new (and_parts (same_id r.old q.old) _ e).1)
 
 pub same-row-refl : (r : Row) → same_row r r ≡ true
-same-row-refl r = and-both _ _ (same-refl r.old) (same-new-refl r.new)
+same-row-refl r = and_from _ _ (same-refl r.old) (same-new-refl r.new)
 
 missing-named : (live : List (List ℕ)) (o : Option (List ℕ)) → is_missing live o ≡ false → (id : List ℕ) → is_this id o ≡ true → has_id live id ≡ true
 missing-named live None e id is = cc is
@@ -93,7 +74,7 @@ missing-named live (Some s) e id is = let P : List ℕ → Type 0 = λ x. has_id
 
 none-missing : (live : List (List ℕ)) (o : Option (List ℕ)) → ((s : List ℕ) → is_this s o ≡ true → has_id live s ≡ true) → is_missing live o ≡ false
 none-missing live None all = refl
-none-missing live (Some s) all = not-of (has_id live s) (all s (same-refl s))
+none-missing live (Some s) all = not_from_true (has_id live s) (all s (same-refl s))
 
 -- ---- from no fault of the rows
 pub record CleanRow (last live : List (List ℕ)) (before : List Row) (r : Row) : Type 0 where
@@ -118,13 +99,13 @@ rows-named : (last live : List (List ℕ)) (before : List Row) (k : ℕ) (rows :
     rows ≡ [] → (id : List ℕ) → list_any (names id) rows ≡ true → has_id live id ≡ true
 rows-named last live before k [] e id is = cc is
 rows-named last live before k (r ∷ rs) e id is = let c = clean-row last live before k r rs e in
-    elim (or-cases (names id r) _ is) as (λ _. has_id live id ≡ true) [ inl a ↦ missing-named live r.new c.0.there id a | inr b ↦ rows-named last live (before ++ r ∷ []) (k + 1) rs c.1 id b ]
+    elim (or_cases (names id r) _ is) as (λ _. has_id live id ≡ true) [ inl a ↦ missing-named live r.new c.0.there id a | inr b ↦ rows-named last live (before ++ r ∷ []) (k + 1) rs c.1 id b ]
 
 rows-dropped : (last live : List (List ℕ)) (before : List Row) (k : ℕ) (rows : List Row) → row_faults last live before k
     rows ≡ [] → (id : List ℕ) → list_any (is_of id) rows ≡ true → (has_id last id ≡ true) × (has_id live id ≡ false)
 rows-dropped last live before k [] e id is = cc is
 rows-dropped last live before k (r ∷ rs) e id is = let c = clean-row last live before k r rs e in
-    elim (or-cases (is_of id r) _ is) as (λ _. (has_id last id ≡ true) × (has_id live id ≡ false)) [
+    elim (or_cases (is_of id r) _ is) as (λ _. (has_id last id ≡ true) × (has_id live id ≡ false)) [
       | inl a ↦ let P : List ℕ → Type 0 = λ x. (has_id last x ≡ true) × (has_id live x ≡ false) in subst P (sym (same-exact id r.old a)) (c.0.was, c.0.gone)
       | inr b ↦ rows-dropped last live (before ++ r ∷ []) (k + 1) rs c.1 id b
     ]
@@ -132,7 +113,7 @@ rows-dropped last live before k (r ∷ rs) e id is = let c = clean-row last live
 once-step : (before : List Row) (r row : Row) → list_any (same_row r) before ≡ false → length (filter (same_row row) before) ≤ 1 → length (filter (same_row row) (before ++ r ∷ [])) ≤ 1
 once-step before r row once le =
     let n = filter-append (same_row row) before (r ∷ []) in
-    elim (either (same_row row r)) as (λ _. length (filter (same_row row) (before ++ r ∷ [])) ≤ 1) [
+    elim (cases_Bool (same_row row r)) as (λ _. length (filter (same_row row) (before ++ r ∷ [])) ≤ 1) [
       | inl t ↦
           let none = filter-none (same_row r) before once in
           let alike : row ≡ r = same-row-exact row r t in
@@ -156,15 +137,15 @@ Apart rows = (id : List ℕ) → ended rows id ≡ true → succeeded rows id �
 
 clash-end : (r : Row) (before : List Row) (id : List ℕ) → is_of id r ≡ true → is_some r.new ≡ true → ended before id ≡ true → list_any (clashes r) before ≡ true
 clash-end r before id of some e = mono _ (clashes r) before (λ q h.
-    let s : same_id r.old q.old ≡ true = ap (λ (x : List ℕ). same_id x q.old) (sym (same-exact id r.old of)) ∙ and-left _ _ h in
-    let n : not (is_some q.new) ≡ true = and-right (is_of id q) _ h in
-    and-both _ _ s (or-left _ _ (and-both _ _ some n))) e
+    let s : same_id r.old q.old ≡ true = ap (λ (x : List ℕ). same_id x q.old) (sym (same-exact id r.old of)) ∙ (and_parts _ _ h).0 in
+    let n : not (is_some q.new) ≡ true = (and_parts (is_of id q) _ h).1 in
+    and_from _ _ s (or_left _ _ (and_from _ _ some n))) e
 
 clash-heir : (r : Row) (before : List Row) (id : List ℕ) → is_of id r ≡ true → not (is_some r.new) ≡ true → succeeded before id ≡ true → list_any (clashes r) before ≡ true
 clash-heir r before id of some e = mono _ (clashes r) before (λ q h.
-    let s : same_id r.old q.old ≡ true = ap (λ (x : List ℕ). same_id x q.old) (sym (same-exact id r.old of)) ∙ and-left _ _ h in
-    let n : is_some q.new ≡ true = and-right (is_of id q) _ h in
-    and-both _ _ s (or-right (is_some r.new && not (is_some q.new)) _ (and-both _ _ some n))) e
+    let s : same_id r.old q.old ≡ true = ap (λ (x : List ℕ). same_id x q.old) (sym (same-exact id r.old of)) ∙ (and_parts _ _ h).0 in
+    let n : is_some q.new ≡ true = (and_parts (is_of id q) _ h).1 in
+    and_from _ _ s (or_right (is_some r.new && not (is_some q.new)) _ (and_from _ _ some n))) e
 
 not-both : (b : Bool) → b ≡ true → not b ≡ true → false ≡ true
 not-both true e f = f
@@ -175,11 +156,11 @@ apart-step before r clear ap-before id e s =
     elim (any-last (λ row. is_of id row && not (is_some row.new)) before r e) as (λ _. false ≡ true) [
       | inl eb ↦ elim (any-last (λ row. is_of id row && is_some row.new) before r s) as (λ _. false ≡ true) [
         | inl sb ↦ ap-before id eb sb
-        | inr sr ↦ let t = clash-end r before id (and-left _ _ sr) (and-right (is_of id r) _ sr) eb in sym clear ∙ t
+        | inr sr ↦ let t = clash-end r before id (and_parts _ _ sr).0 (and_parts (is_of id r) _ sr).1 eb in sym clear ∙ t
       ]
       | inr er ↦ elim (any-last (λ row. is_of id row && is_some row.new) before r s) as (λ _. false ≡ true) [
-        | inl sb ↦ let t = clash-heir r before id (and-left _ _ er) (and-right (is_of id r) _ er) sb in sym clear ∙ t
-        | inr sr ↦ not-both (is_some r.new) (and-right (is_of id r) _ sr) (and-right (is_of id r) _ er)
+        | inl sb ↦ let t = clash-heir r before id (and_parts _ _ er).0 (and_parts (is_of id r) _ er).1 sb in sym clear ∙ t
+        | inr sr ↦ not-both (is_some r.new) (and_parts (is_of id r) _ sr).1 (and_parts (is_of id r) _ er).1
       ]
     ]
 
@@ -191,23 +172,23 @@ rows-apart last live before k (r ∷ rs) e a =
 
 -- ---- to no fault of the rows
 once-back : (before : List Row) (r : Row) (rs : List Row) → length (filter (same_row r) (before ++ r ∷ rs)) ≤ 1 → list_any (same_row r) before ≡ false
-once-back before r rs le = elim (either (list_any (same_row r) before)) as (λ _. list_any (same_row r) before ≡ false) [
+once-back before r rs le = elim (cases_Bool (list_any (same_row r) before)) as (λ _. list_any (same_row r) before ≡ false) [
   | inl t ↦ absurd (
       let n = filter-append (same_row r) before (r ∷ rs) in
       let one = filter-some (same_row r) before t in
-      let two = filter-some (same_row r) (r ∷ rs) (or-left _ _ (same-row-refl r)) in omega (arith, n, one, two, le))
+      let two = filter-some (same_row r) (r ∷ rs) (or_left _ _ (same-row-refl r)) in omega (arith, n, one, two, le))
   | inr f ↦ f
 ]
 
 apart-back : (before : List Row) (r : Row) (rs : List Row) → Apart (before ++ r ∷ rs) → list_any (clashes r) before ≡ false
-apart-back before r rs a = elim (either (list_any (clashes r) before)) as (λ _. list_any (clashes r) before ≡ false) [
-  | inl t ↦ elim (either (is_some r.new)) as (λ _. list_any (clashes r) before ≡ false) [
+apart-back before r rs a = elim (cases_Bool (list_any (clashes r) before)) as (λ _. list_any (clashes r) before ≡ false) [
+  | inl t ↦ elim (cases_Bool (is_some r.new)) as (λ _. list_any (clashes r) before ≡ false) [
     | inl some ↦
-        let e = mono (clashes r) (λ q. is_of r.old q && not (is_some q.new)) before (λ q h. and-both _ _ (and-left _ _ h) (other-none r q some (and-right (same_id r.old q.old) _ h))) t in
-        absurd (let w = a r.old (any-left _ before (r ∷ rs) e) (any-mid _ before r rs (and-both _ _ (same-refl r.old) some)) in cc)
+        let e = mono (clashes r) (λ q. is_of r.old q && not (is_some q.new)) before (λ q h. and_from _ _ (and_parts _ _ h).0 (other-none r q some (and_parts (same_id r.old q.old) _ h).1)) t in
+        absurd (let w = a r.old (any-left _ before (r ∷ rs) e) (any-mid _ before r rs (and_from _ _ (same-refl r.old) some)) in cc)
     | inr none ↦
-        let e = mono (clashes r) (λ q. is_of r.old q && is_some q.new) before (λ q h. and-both _ _ (and-left _ _ h) (other-some r q none (and-right (same_id r.old q.old) _ h))) t in
-        absurd (let w = a r.old (any-mid _ before r rs (and-both _ _ (same-refl r.old) (ap not none))) (any-left _ before (r ∷ rs) e) in cc)
+        let e = mono (clashes r) (λ q. is_of r.old q && is_some q.new) before (λ q h. and_from _ _ (and_parts _ _ h).0 (other-some r q none (and_parts (same_id r.old q.old) _ h).1)) t in
+        absurd (let w = a r.old (any-mid _ before r rs (and_from _ _ (same-refl r.old) (ap not none))) (any-left _ before (r ∷ rs) e) in cc)
   ]
   | inr f ↦ f
 ] where
@@ -238,7 +219,7 @@ rows-clean last live before k (r ∷ rs) named dropped once a =
     let N : List Row → Type 0 = λ xs. (id : List ℕ) → list_any (names id) xs ≡ true → has_id live id ≡ true in
     let D : List Row → Type 0 = λ xs. (id : List ℕ) → list_any (is_of id) xs ≡ true → (has_id last id ≡ true) × (has_id live id ≡ false) in
     let O : List Row → Type 0 = λ xs. (row : Row) → length (filter (same_row row) xs) ≤ 1 in
-    told-none _ _ _ (not-of _ d.0) (
+    told-none _ _ _ (not_from_true _ d.0) (
     told-none _ _ _ d.1 (
     told-none _ _ _ (none-missing live r.new (λ s is. named s (any-mid (names s) before r rs is))) (
     told-none _ _ _ (once-back before r rs (once r)) (
@@ -251,7 +232,7 @@ dropped-clean : (live : List (List ℕ)) (rows : List Row) (ids : List (List ℕ
 dropped-clean live rows [] e id is gone = cc is
 dropped-clean live rows (x ∷ xs) e id is gone =
     let t = told-nil _ _ _ e in
-    elim (or-cases (same_id id x) _ is) as (λ _. list_any (is_of id) rows ≡ true) [
+    elim (or_cases (same_id id x) _ is) as (λ _. list_any (is_of id) rows ≡ true) [
       | inl a ↦ let alike : id ≡ x = same-exact id x a in
           let P : List ℕ → Type 0 = λ y. (not (has_id live y) && not (list_any (is_of y) rows)) ≡ false in
           row-there (has_id live id) _ gone (subst P (sym alike) t.0)
@@ -266,11 +247,11 @@ clean-dropped : (live : List (List ℕ)) (rows : List Row) (ids : List (List ℕ
     → ((id : List ℕ) → has_id ids id ≡ true → has_id live id ≡ false → list_any (is_of id) rows ≡ true)
     → dropped_faults live rows ids ≡ []
 clean-dropped live rows [] all = refl
-clean-dropped live rows (x ∷ xs) all = told-none _ _ _ (no-fault (has_id live x) _ (all x (or-left _ _ (same-refl x))))
-    (clean-dropped live rows xs (λ id is. all id (or-right (same_id id x) _ is))) where
+clean-dropped live rows (x ∷ xs) all = told-none _ _ _ (no-fault (has_id live x) _ (all x (or_left _ _ (same-refl x))))
+    (clean-dropped live rows xs (λ id is. all id (or_right (same_id id x) _ is))) where
       no-fault : (a b : Bool) → (a ≡ false → b ≡ true) → (not a && not b) ≡ false
       no-fault true b f = refl
-      no-fault false b f = not-of b (f refl)
+      no-fault false b f = not_from_true b (f refl)
 
 -- ---- used identifiers
 pub held-some : (h : List Entry) (id : List ℕ) (i : ℕ) → holds h i id ≡ true → is_some (last_held h id) ≡ true
@@ -287,7 +268,7 @@ held-some (x ∷ h) id (suc i) e = later (last_held h id) _ (held-some h id i e)
 
 some-held : (h : List Entry) (id : List ℕ) → is_some (last_held h id) ≡ true → (i : ℕ) × (holds h i id ≡ true)
 some-held [] id e = cc e
-some-held (x ∷ h) id e = elim (either (is_some (last_held h id))) as (λ _. (i : ℕ) × (holds (x ∷ h) i id ≡ true)) [
+some-held (x ∷ h) id e = elim (cases_Bool (is_some (last_held h id))) as (λ _. (i : ℕ) × (holds (x ∷ h) i id ≡ true)) [
   | inl a ↦ let r = some-held h id a in (suc r.0, r.1)
   | inr b ↦ (0, here (last_held h id) x.year (has_id x.live id) b e)
 ] where
@@ -302,13 +283,13 @@ used-nil (Some y) b id rest e = let t = told-nil _ _ _ e in ((λ _. not-false b 
 
 used-none : (o : Option ℕ) (b : Bool) (id : List ℕ) (rest : List LineageFault) → (is_some o ≡ true → b ≡ true) → rest ≡ [] → used_fault_before o b id rest ≡ []
 used-none None b id rest f e = e
-used-none (Some y) b id rest f e = told-none _ _ _ (not-of b (f refl)) e
+used-none (Some y) b id rest f e = told-none _ _ _ (not_from_true b (f refl)) e
 
 pub used-clean : (h : List Entry) (last ids : List (List ℕ)) → used_faults h last ids ≡ [] → (id : List ℕ) (i : ℕ) → holds h i id ≡ true → has_id ids id ≡ true → has_id last id ≡ true
 used-clean h last [] e id i hi is = cc is
 used-clean h last (x ∷ xs) e id i hi is =
     let t = used-nil (last_held h x) (has_id last x) x _ e in
-    elim (or-cases (same_id id x) _ is) as (λ _. has_id last id ≡ true) [
+    elim (or_cases (same_id id x) _ is) as (λ _. has_id last id ≡ true) [
       | inl a ↦ let alike : id ≡ x = same-exact id x a in
           let P : List ℕ → Type 0 = λ y. is_some (last_held h y) ≡ true → has_id last y ≡ true in
           subst P (sym alike) t.0 (held-some h id i hi)
@@ -318,8 +299,8 @@ used-clean h last (x ∷ xs) e id i hi is =
 pub clean-used : (h : List Entry) (last ids : List (List ℕ)) → ((id : List ℕ) (i : ℕ) → holds h i id ≡ true → has_id ids id ≡ true → has_id last id ≡ true) → used_faults h last ids ≡ []
 clean-used h last [] all = refl
 clean-used h last (x ∷ xs) all = used-none (last_held h x) (has_id last x) x _ (λ s. let r = some-held h x s in
-    all x r.0 r.1 (or-left _ _ (same-refl x)))
-    (clean-used h last xs (λ id i hi is. all id i hi (or-right (same_id id x) _ is)))
+    all x r.0 r.1 (or_left _ _ (same-refl x)))
+    (clean-used h last xs (λ id i hi is. all id i hi (or_right (same_id id x) _ is)))
 
 -- ---- all together
 heir-or-end : (rows : List Row) (id : List ℕ) → list_any (is_of id) rows ≡ true → succeeded rows id ≡ false → ended rows id ≡ true
@@ -332,8 +313,8 @@ heir-or-end (r ∷ rs) id e f = by (is_of id r) (is_some r.new) _ _ _ (heir-or-e
 
 answered : (rows : List Row) (id : List ℕ) → ((row : Row) → length (filter (same_row row) rows) ≤ 1) → Apart rows → list_any (is_of id) rows ≡ true → IsAnswered rows id
 answered rows id once a is =
-    elim (either (succeeded rows id)) as (λ _. IsAnswered rows id) [
-      | inl s ↦ elim (either (ended rows id)) as (λ _. IsAnswered rows id) [ inl e ↦ absurd (let w = a id e s in cc) | inr n ↦ inr (filter-none _ rows n, s) ]
+    elim (cases_Bool (succeeded rows id)) as (λ _. IsAnswered rows id) [
+      | inl s ↦ elim (cases_Bool (ended rows id)) as (λ _. IsAnswered rows id) [ inl e ↦ absurd (let w = a id e s in cc) | inr n ↦ inr (filter-none _ rows n, s) ]
       | inr n ↦ let some = filter-some _ rows (heir-or-end rows id is n) in let few = one-ending rows id once in inl (omega (arith, some, few), n)
     ]
 
@@ -353,7 +334,7 @@ follows-from-clean h live rows e =
 
 pub clean-from-follows : (h : List Entry) (live : List (List ℕ)) (rows : List Row) → Follows h live rows → faults h live rows ≡ []
 clean-from-follows h live rows f =
-    let a : Apart rows = λ id e s. let d = f.dropped id (mono _ (is_of id) rows (λ r h. and-left (is_of id r) _ h) e) in from-answered rows id (f.answered id d.0 d.1) e s in
+    let a : Apart rows = λ id e s. let d = f.dropped id (mono _ (is_of id) rows (λ r h. (and_parts (is_of id r) _ h).0) e) in from-answered rows id (f.answered id d.0 d.1) e s in
     let r = rows-clean (last_live h) live [] 1 rows f.named f.dropped f.once a in
     let d = clean-dropped live rows (last_live h) (λ id was gone. any-of rows id (f.answered id was gone)) in
     let u = clean-used h (last_live h) live f.not_used in
@@ -361,9 +342,9 @@ clean-from-follows h live rows f =
     ∙ ap (λ (x : List LineageFault). x ++ used_faults h (last_live h) live) d ∙ u where
       any-of : (rows : List Row) (id : List ℕ) → IsAnswered rows id → list_any (is_of id) rows ≡ true
       any-of rows id e = elim e as (λ _. list_any (is_of id) rows ≡ true) [
-        | inl l ↦ mono _ (is_of id) rows (λ r h. and-left (is_of id r) _ h) (counted-ended rows id l.0)
+        | inl l ↦ mono _ (is_of id) rows (λ r h. (and_parts (is_of id r) _ h).0) (counted-ended rows id l.0)
         | inr r ↦ mono
-            _ (is_of id) rows (λ r h. and-left (is_of id r) _ h) r.1
+            _ (is_of id) rows (λ r h. (and_parts (is_of id r) _ h).0) r.1
       ]
 
 pub first-told : (b : Bool) (f : LineageFault) (rest : List LineageFault) → b ≡ true → first (fault_before b f rest) ≡ Some f

@@ -6,6 +6,8 @@ use Rattle.std.specs.Prelude.{◌&&◌, ◌||◌, not, is_some, nat_lt}
 use Rattle.std.specs.List.{list_any, filter}
 use Rattle.lpis_lineage.specs.declared.row.Row.{Row}
 use Rattle.std.proofs.lemmas.List.{append-nil}
+use Rattle.std.proofs.lemmas.Bool.{or_left, or_right, or_cases}
+use Rattle.std.proofs.Math.Bool.{and-true, and-false, or-false}
 use Rattle.lpis_lineage.specs.declared.tally.Tally.{Tally}
 use Rattle.lpis_lineage.specs.declared.fates.Fates.{Fates}
 use Rattle.lpis_covers.specs.Ids.{has_id, same_id}
@@ -16,9 +18,8 @@ use Rattle.lpis_lineage.specs.declared.kind.Kind.{Kind}
 use Rattle.lpis_lineage.specs.declared.kind.Kind.TheVariants.{Kept, Ended}
 use Rattle.lpis_lineage.specs.private.Fates.{olds, on_some, is_shared, AreFates}
 use Rattle.lpis_lineage.proofs.RowCountLemmas.{filter-some}
-use Rattle.lpis_lineage.proofs.CleanLemmas.{or-left, or-right}
-use Rattle.lpis_lineage.proofs.IdentifierLemmas.{same-sym, or-cases}
-use Rattle.lpis_lineage.proofs.SeenLemmas.{any-push, or-cond, or-false, and-true, and-false}
+use Rattle.lpis_lineage.proofs.IdentifierLemmas.{same-sym}
+use Rattle.lpis_lineage.proofs.SeenLemmas.{any-push, or-cond}
 
 -- an identifier has as many successors as rows with one
 pub successors-count : (rows : List Row) (id : List ℕ) → length (successors rows id) ≡ times (olds rows) id
@@ -117,7 +118,7 @@ heirs-has [] s e = cc e
 heirs-has (r ∷ rs) s e = by r.new (heirs rs) (heirs-has rs s) e where
   by : (o : Option (List ℕ)) (ids : List (List ℕ)) → (list_any (names s) rs ≡ true → has_id ids s ≡ true) → (is_this s o || list_any (names s) rs) ≡ true → has_id (with_some o ids) s ≡ true
   by None ids ih e = ih e
-  by (Some t) ids ih e = elim (or-cases (same_id s t) _ e) as (λ _. has_id (t ∷ ids) s ≡ true) [ inl a ↦ or-left _ _ a | inr b ↦ or-right (same_id s t) _ (ih b) ]
+  by (Some t) ids ih e = elim (or_cases (same_id s t) _ e) as (λ _. has_id (t ∷ ids) s ≡ true) [ inl a ↦ or_left _ _ a | inr b ↦ or_right (same_id s t) _ (ih b) ]
 
 pub heir-named : (rows : List Row) (i : ℕ) (r : Row) → i < length rows → r ≡ get_or rows i r → (s : List ℕ) → is_this s r.new ≡ true → has_id (heirs rows) s ≡ true
 heir-named rows i r lt is s e = heirs-has rows s (list_any_at (names s) rows i r lt (ap (λ (x : Row). names s x) (sym is) ∙ e))

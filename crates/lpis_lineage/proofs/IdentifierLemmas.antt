@@ -1,14 +1,13 @@
 -- Identifiers compare equal exactly where they are equal; places in a history with one more release.
-use Rattle.std.proofs.Common.{◌≡◌, ◌∙◌, ◌<◌, ◌≤◌, ◌+◌, ◌⊎◌, inl, inr, refl, sym, ap, subst, arith, rules, ℕ, zero, suc, List, [], ◌∷◌, ◌++◌, length, Bool, true, false}
+use Rattle.std.proofs.Common.{◌≡◌, ◌∙◌, ◌<◌, ◌≤◌, ◌+◌, refl, sym, ap, subst, arith, ℕ, zero, suc, List, [], ◌∷◌, ◌++◌, length, Bool, true, false}
 use Rattle.std.specs.Prelude.{◌&&◌, ◌||◌}
 use Rattle.std.proofs.Common.{cond, take, get_or}
 use Rattle.std.proofs.lemmas.List.Folds.{list_any_more}
 use Rattle.std.specs.Ordering.{is_eq, nat_cmp}
 use Rattle.std.specs.Cmp.Lexicographic.{slice_cmp, texts_ties}
 use Rattle.std.specs.List.{list_any}
-use Rattle.std.specs.declared.cmp.Ordering.{Ordering}
-use Rattle.std.specs.declared.cmp.Ordering.TheVariants.{Less, Equal, Greater}
-use Rattle.std.proofs.lemmas.Map.Lookups.{exact_bytes}
+use Rattle.std.proofs.lemmas.Bool.{and_parts}
+use Rattle.std.proofs.lemmas.Slice.Eq.{bytes_eq-Decides}
 use Rattle.lpis_lineage.specs.declared.row.Entry.{Entry}
 use Rattle.lpis_covers.specs.Ids.{has_id, same_id}
 use Rattle.lpis_lineage.specs.Lineage.{entry_at}
@@ -29,42 +28,17 @@ add-by_order old new id q u =
     sym (has-by_order new q) ∙ u ∙ ap (λ (b : Bool). cond b true (list_any (λ k. is_eq (slice_cmp nat_cmp q k)) old)) (sym (same-by_order id q))
     ∙ ap (λ (b : Bool). cond (same_id id q) true b) (has-by_order old q)
 
-is_eq-true : (o : Ordering) → is_eq o ≡ true → o ≡ Equal
-is_eq-true Less h = cc h
-is_eq-true Equal h = refl
-is_eq-true Greater h = cc h
-
 -- identifiers that are the same are equal
 pub same-exact : (a b : List ℕ) → same_id a b ≡ true → a ≡ b
-same-exact a b h = exact_bytes a b (is_eq-true (slice_cmp nat_cmp a b) (sym (same-by_order a b) ∙ h))
-
-nat-refl : (a : ℕ) → nat_cmp a a ≡ Equal
-nat-refl a = search rules
-
-bytes-refl : (a : List ℕ) → slice_cmp nat_cmp a a ≡ Equal
-bytes-refl [] = refl
-bytes-refl (x ∷ xs) = rw (nat-refl x) (bytes-refl xs)
+same-exact a b h = (bytes_eq-Decides a b).0 h
 
 -- an identifier is the same as itself
 pub same-refl : (a : List ℕ) → same_id a a ≡ true
-same-refl a = same-by_order a a ∙ ap is_eq (bytes-refl a)
+same-refl a = (bytes_eq-Decides a a).1 refl
 
 -- tests
-pub and-left : (a b : Bool) → (a && b) ≡ true → a ≡ true
-and-left true b h = refl
-and-left false b h = cc h
-
 pub and-right : (a b : Bool) → (a && b) ≡ true → b ≡ true
-and-right true b h = h
-and-right false b h = cc h
-
-pub or-cases : (a b : Bool) → (a || b) ≡ true → (a ≡ true) ⊎ (b ≡ true)
-or-cases true b h = inl refl
-or-cases false b h = inr h
-
-pub either : (b : Bool) → (b ≡ true) ⊎ (b ≡ false)
-either true = inl refl
-either false = inr refl
+and-right a b h = (and_parts a b h).1
 
 -- places
 pub entry-before : (h : List Entry) (e : Entry) (i : ℕ) → i < length h → entry_at (h ++ e ∷ []) i ≡ entry_at h i

@@ -2,10 +2,10 @@
 use Rattle.std.proofs.Common.{◌≡◌, ◌∙◌, ◌≤◌, ◌+◌, inl, inr, refl, sym, ap, arith, suc, ℕ, List, [], ◌∷◌, ◌++◌, length, Bool, true, false, Option, None, Some, cond}
 use Rattle.std.specs.Prelude.{◌&&◌, ◌||◌, not, is_some}
 use Rattle.std.specs.List.{list_any, filter}
+use Rattle.std.proofs.lemmas.Bool.{cases_Bool}
 use Rattle.lpis_lineage.specs.declared.row.Row.{Row}
 use Rattle.lpis_lineage.specs.Lineage.{ended, succeeded, is_of, same_new, same_row}
 use Rattle.lpis_lineage.specs.Lawful.{endings, IsAnswered}
-use Rattle.lpis_lineage.proofs.IdentifierLemmas.{either}
 
 pub filter-append : {A : Type 0} (p : A → Bool) (xs ys : List A) → length (filter p (xs ++ ys)) ≡ length (filter p xs) + length (filter p ys)
 filter-append p [] ys = omega arith
@@ -59,7 +59,7 @@ ended-counted : (rows : List Row) (id : List ℕ) → ended rows id ≡ true →
 ended-counted rows id e none = absurd (let some = filter-some _ rows e in omega (arith, some, none))
 
 pub counted-ended : (rows : List Row) (id : List ℕ) → endings rows id ≡ 1 → ended rows id ≡ true
-counted-ended rows id one = elim (either (ended rows id)) as (λ _. ended rows id ≡ true) [ inl e ↦ e | inr n ↦ absurd (let none = filter-none _ rows n in omega (arith, one, none)) ]
+counted-ended rows id one = elim (cases_Bool (ended rows id)) as (λ _. ended rows id ≡ true) [ inl e ↦ e | inr n ↦ absurd (let none = filter-none _ rows n in omega (arith, one, none)) ]
 
 pub from-answered : (rows : List Row) (id : List ℕ) → IsAnswered rows id → ended rows id ≡ true → succeeded rows id ≡ true → false ≡ true
 from-answered rows id (inl l) e s = sym l.1 ∙ s

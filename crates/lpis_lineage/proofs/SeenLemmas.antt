@@ -7,6 +7,7 @@ use Rattle.std.specs.Cmp.Lexicographic.{slice_cmp, texts_ties}
 use Rattle.std.specs.declared.cmp.Ordering.{Ordering}
 use Rattle.std.specs.declared.cmp.Ordering.TheVariants.{Less, Equal, Greater}
 use Rattle.std.proofs.lemmas.List.Folds.{list_any-append}
+use Rattle.std.proofs.Math.Bool.{and-true, and-false, or-false}
 use Rattle.lpis_lineage.specs.declared.row.Row.{Row}
 use Rattle.lpis_lineage.specs.declared.seen.Seen.{Seen}
 use Rattle.lpis_covers.specs.Ids.{has_id, same_id}
@@ -20,28 +21,13 @@ any-same p q [] e = refl
 any-same p q (x ∷ xs) e = ap (λ (b : Bool). b || list_any p xs) (e x) ∙ ap (λ (b : Bool). q x || b) (any-same p q xs e)
 
 pub any-push : {A : Type 0} (p : A → Bool) (xs : List A) (x : A) → list_any p (xs ++ x ∷ []) ≡ (list_any p xs || p x)
-any-push p xs x = list_any-append p xs (x ∷ []) ∙ ap (λ (b : Bool). list_any p xs || b) (or-false (p x)) where
-  or-false : (b : Bool) → (b || false) ≡ b
-  or-false true = refl
-  or-false false = refl
+any-push p xs x = list_any-append p xs (x ∷ []) ∙ ap (λ (b : Bool). list_any p xs || b) (or-false (p x))
 
 pub or-cond : (a b : Bool) → cond a true b ≡ (b || a)
 or-cond true true = refl
 or-cond true false = refl
 or-cond false true = refl
 or-cond false false = refl
-
-pub and-true : (b : Bool) → (b && true) ≡ b
-and-true true = refl
-and-true false = refl
-
-pub and-false : (b : Bool) → (b && false) ≡ false
-and-false true = refl
-and-false false = refl
-
-pub or-false : (b : Bool) → (b || false) ≡ b
-or-false true = refl
-or-false false = refl
 
 -- a pair compares equal where both parts do
 pub pair-eq : (a b : List ℕ) (p : List ℕ × List ℕ) → is_eq (ordering_then (slice_cmp nat_cmp a p.0) (slice_cmp nat_cmp b p.1)) ≡ (same_id a p.0 && same_id b p.1)

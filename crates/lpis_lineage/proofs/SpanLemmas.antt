@@ -10,10 +10,11 @@ use Rattle.lpis_lineage.specs.Lineage.{holds, entry_at, last_live}
 use Rattle.lpis_lineage.specs.Lawful.{IsLawful}
 use Rattle.std.specs.Prelude.{◌&&◌, ◌||◌, nat_le, nat_eq}
 use Rattle.std.specs.List.{filter}
+use Rattle.std.proofs.lemmas.Bool.{cases_Bool}
 use Rattle.lpis_lineage.specs.declared.span.Span.{Span}
 use Rattle.lpis_lineage.specs.Spans.{first_held, last_held, span_between, span_of, in_span, live_in, ids_of, AreSpansOf}
 use Rattle.lpis_lineage.proofs.PickingLemmas.{has-filter}
-use Rattle.lpis_lineage.proofs.IdentifierLemmas.{either, in-history}
+use Rattle.lpis_lineage.proofs.IdentifierLemmas.{in-history}
 use Rattle.lpis_lineage.proofs.ExtensionLemmas.{place, last-some}
 
 -- a year is in a span, by its years
@@ -26,7 +27,7 @@ until h id last = cond (has_id (last_live h) id) 0 last
 -- the first release that holds it
 pub first-place : (h : List Entry) (id : List ℕ) (y : ℕ) → first_held h id ≡ Some y → (a : ℕ) × (holds h a id ≡ true) × (y ≡ (entry_at h a).year) × ((j : ℕ) → holds h j id ≡ true → a ≤ j)
 first-place [] id y e = cc e
-first-place (x ∷ h) id y e = elim (either (has_id x.live id)) as (λ _. (a : ℕ) × (holds (x ∷ h) a id ≡ true) × (y ≡ (entry_at (x ∷ h) a).year) × ((j : ℕ) → holds (x ∷ h) j id ≡ true → a ≤ j)) [
+first-place (x ∷ h) id y e = elim (cases_Bool (has_id x.live id)) as (λ _. (a : ℕ) × (holds (x ∷ h) a id ≡ true) × (y ≡ (entry_at (x ∷ h) a).year) × ((j : ℕ) → holds (x ∷ h) j id ≡ true → a ≤ j)) [
   | inl t ↦ (0, t, some-eq y x.year (sym e ∙ ap (λ (b : Bool). cond b (Some x.year) (first_held h id)) t), λ j hj. omega arith)
   | inr f ↦ let r = first-place h id y (sym (ap (λ (b : Bool). cond b (Some x.year) (first_held h id)) f) ∙ e) in (suc r.0, r.1, r.2, later x h id r.0 f r.3)
 ] where
@@ -75,7 +76,7 @@ years-back h law i j il jl le = elim (place j i) as (λ _. i ≤ j) [
   | inr b ↦ elim b as (λ _. i ≤ j) [ inl e ↦ omega arith | inr c ↦ omega arith ]
 ]
 
-above-zero : (h : List Entry) → IsLawful h → (i : ℕ) → i < length h → 0 < (entry_at h i).year
+pub above-zero : (h : List Entry) → IsLawful h → (i : ℕ) → i < length h → 0 < (entry_at h i).year
 above-zero h law i lt = let f = law.first_year (omega arith) in let m = years-mono h law 0 i (omega arith) lt in omega (arith, f, m)
 
 span-live : (f y : ℕ) → f ≤ y → in_years f 0 y ≡ true
@@ -98,19 +99,19 @@ span-law h law id f l ef el i lt =
     let b = last-place h id l el in
     let al = in-history h a.0 id a.1 in
     let bl = in-history h b.0 id b.1 in
-    elim (either (holds h i id)) as (λ _. in_years f (until h id l) (entry_at h i).year ≡ holds h i id) [
+    elim (cases_Bool (holds h i id)) as (λ _. in_years f (until h id l) (entry_at h i).year ≡ holds h i id) [
       | inl t ↦
           let low : f ≤ (entry_at h i).year = (let m = years-mono h law a.0 i (a.3 i t) lt in let e = a.2 in omega (arith, m, e)) in
           let high : (entry_at h i).year ≤ l = (let m = years-mono h law i b.0 (b.3 i t) bl in let e = b.2 in omega (arith, m, e)) in
-          elim (either (has_id (last_live h) id)) as (λ _. in_years f (until h id l) (entry_at h i).year ≡ holds h i id) [
+          elim (cases_Bool (has_id (last_live h) id)) as (λ _. in_years f (until h id l) (entry_at h i).year ≡ holds h i id) [
             | inl live ↦ ap (λ (c : Bool). in_years f (cond c 0 l) (entry_at h i).year) live ∙ span-live f _ low ∙ sym t
             | inr gone ↦ ap (λ (c : Bool). in_years f (cond c 0 l) (entry_at h i).year) gone ∙ span-until f l _ low high ∙ sym t
           ]
-      | inr n ↦ elim (either (in_years f (until h id l) (entry_at h i).year)) as (λ _. in_years f (until h id l) (entry_at h i).year ≡ holds h i id) [
+      | inr n ↦ elim (cases_Bool (in_years f (until h id l) (entry_at h i).year)) as (λ _. in_years f (until h id l) (entry_at h i).year ≡ holds h i id) [
         | inl s ↦
             let low = span-low f _ _ s in
             let ai : a.0 ≤ i = years-back h law a.0 i al lt (let e = a.2 in omega (arith, e, low)) in
-            elim (either (has_id (last_live h) id)) as (λ _. in_years f (until h id l) (entry_at h i).year ≡ holds h i id) [
+            elim (cases_Bool (has_id (last_live h) id)) as (λ _. in_years f (until h id l) (entry_at h i).year ≡ holds h i id) [
               | inl live ↦ let r = last-some h id live in s ∙ sym (law.consecutive id a.0 i r.0 ai (let k = r.1 in omega (arith, k)) a.1 r.2)
               | inr gone ↦
                   let s2 = sym (ap (λ (c : Bool). in_years f (cond c 0 l) (entry_at h i).year) gone) ∙ s in

@@ -1,9 +1,10 @@
 use Rattle.std.proofs.Common.{◌∙◌, sym, ap, refl, List, ℕ, Bool, true, false, cond, Option}
 use Rattle.std.specs.Prelude.{◌||◌}
+use Rattle.std.proofs.Math.Bool.{and-true, and-false, or-false}
 use Rattle.lpis_covers.specs.Ids.{has_id, same_id}
 use Rattle.lpis_lineage.specs.Lineage.{is_this}
 use Rattle.lpis_lineage.proofs.IdentifierLemmas.{same-refl}
-use Rattle.lpis_lineage.proofs.SeenLemmas.{or-cond, or-false, and-true, and-false}
+use Rattle.lpis_lineage.proofs.SeenLemmas.{or-cond}
 use Rattle.lpis_lineage.proofs.FateLemmas.{fates-end, fates-heir}
 use Rattle.lpis_lineage.proofs.fates.note_row.Goals as goal
 
