@@ -13,7 +13,8 @@ use Rattle.lpis_points.proofs.OddLemmas.{shoelace_term-odd}
 use Rattle.lpis_points.proofs.TriangleLemmas.{terms_sum}
 use Rattle.lpis_rings.specs.Map.{edges_of_triangles, IsCut, triangle_areas, CutPiece, all_edges, all_areas}
 
-grouped : (x y z w v u : ℤ) → x +ℤ y +ℤ z ≡ v → w ≡ u → x +ℤ (y +ℤ (z +ℤ w)) ≡ v +ℤ u
+-- three terms and the rest
+pub grouped : (x y z w v u : ℤ) → x +ℤ y +ℤ z ≡ v → w ≡ u → x +ℤ (y +ℤ (z +ℤ w)) ≡ v +ℤ u
 grouped x y z w v u e f = omega (arith, ints)
 
 triangles_area : (ts : List Triangle) → edge_sum shoelace_term (edges_of_triangles ts) ≡ triangle_areas ts

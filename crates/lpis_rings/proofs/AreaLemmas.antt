@@ -1,5 +1,6 @@
 -- Machinery: areas fit their types.
 use Rattle.std.proofs.Common.{◌≡◌, ◌≤◌, ◌<◌, ◌+◌, ◌-◌, ◌*◌, ℕ, zero, suc, ℤ, pos, ◌-ℤ◌, ◌+ℤ◌, nat_abs, List, [], ◌∷◌, ◌++◌, length, take, drop, get_or, arith, refl, sym, ap, subst, ◌∙◌}
+use Rattle.std.proofs.Math.IntN.{+ℤ_comm}
 use Rattle.std.proofs.lemmas.List.{length-drop, take_more}
 use Rattle.std.proofs.lemmas.List.Sums.{sum_by_more, sum_by_more_le}
 use Rattle.std.proofs.lemmas.Int.{ints, to_z-of_z}
@@ -90,11 +91,8 @@ edges-done s i ps h total = nothing-more s ∙ ap (λ (es : List (Point × Point
 regroup-right : (x y z w : ℤ) → w ≡ y +ℤ z → x +ℤ w ≡ (x +ℤ y) +ℤ z
 regroup-right x y z w e = omega (arith, ints)
 
-only : (x : ℤ) → x +ℤ pos 0 ≡ pos 0 +ℤ x
-only x = omega (arith, ints)
-
 absolute_sums-push : (rings : List (List Point)) (ring : List Point) → absolute_sums (rings ++ ring ∷ []) ≡ absolute_sums rings +ℤ pos (nat_abs (shoelace ring))
-absolute_sums-push [] ring = only (pos (nat_abs (shoelace ring)))
+absolute_sums-push [] ring = +ℤ_comm (pos (nat_abs (shoelace ring))) (pos 0)
 absolute_sums-push (r ∷ rings) ring = regroup-right (pos (nat_abs (shoelace r))) (absolute_sums rings)
     (pos (nat_abs (shoelace ring))) (absolute_sums (rings ++ ring ∷ [])) (absolute_sums-push rings ring)
 
@@ -114,7 +112,7 @@ points_in-more rings i ring h e =
     (omega arith, omega arith)
 
 area2-push : (members : List Member) (m : Member) → area2 (members ++ m ∷ []) ≡ area2 members +ℤ member_area2 m
-area2-push [] m = only (member_area2 m)
+area2-push [] m = +ℤ_comm (member_area2 m) (pos 0)
 area2-push (n ∷ members) m = regroup-right (member_area2 n) (area2 members) (member_area2 m) (area2 (members ++ m ∷ [])) (area2-push members m)
 
 -- one more member

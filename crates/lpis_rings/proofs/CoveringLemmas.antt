@@ -19,6 +19,7 @@ use Rattle.lpis_points.proofs.ApartBoxLemmas.{apart_share_nothing}
 use Rattle.lpis_points.proofs.SeparationLemmas.{separated_share_nothing}
 use Rattle.lpis_rings.specs.Edges.{edge_turns}
 use Rattle.lpis_rings.specs.Map.{edges_of_triangles, KeepApart, AllKeepApart, IsCut, inside_count, CutPiece, all_triangles, all_edges, all_turns, IsOneOrNone}
+use Rattle.lpis_rings.proofs.AreaByTrianglesLemmas.{grouped}
 
 -- a point off every line through two points
 pub record Free (s : RationalPoint) : Type 0 where
@@ -46,9 +47,6 @@ off_of t s f ab bc ca = record { ab = f.off t.a t.b ab; bc = f.off t.b t.c bc; c
 
 off_ccw : (t : Triangle) (s : RationalPoint) → Free s → IsCounterClockwise t → IsOffItsLines t s
 off_ccw t s f h = let d = corners_differ t.a t.b t.c h in off_of t s f d.ab d.bc d.ca
-
-grouped : (x y z w v u : ℤ) → x +ℤ y +ℤ z ≡ v → w ≡ u → x +ℤ (y +ℤ (z +ℤ w)) ≡ v +ℤ u
-grouped x y z w v u e f = omega (arith, ints)
 
 -- the point is off the lines of each triangle
 abbrev AllOff : List Triangle → RationalPoint → Type 0

@@ -1,4 +1,5 @@
-use Rattle.std.proofs.Common.{◌≡◌, ◌∙◌, ◌≤◌, ◌+◌, ◌-◌, ◌*◌, ℕ, ℤ, pos, ◌+ℤ◌, nat_abs, arith, ap, length}
+use Rattle.std.proofs.Common.{◌≡◌, ◌∙◌, ◌≤◌, ◌+◌, ◌-◌, ◌*◌, ℕ, ℤ, nat_abs, arith, ap, length}
+use Rattle.std.proofs.Math.IntN.{+ℤ_idl}
 use Rattle.std.proofs.lemmas.Int.{ints}
 use Rattle.lpis_rings.specs.Area.{shoelace}
 use Rattle.lpis_rings.specs.AreaBounds.{most_term}
@@ -7,14 +8,11 @@ use mir.Syntax.{w128}
 use mir.Val.{to_z}
 use Rattle.lpis_rings.proofs.area.shoelace.Goals as goal
 
-nothing : (x : ℤ) → pos 0 +ℤ x ≡ x
-nothing x = omega (arith, ints)
-
 within : (s : ℤ) (n i m : ℕ) → nat_abs s ≤ most_term * (i - 1) → i ≤ n → n ≡ m → nat_abs s ≤ most_term * m
 within s n i m h l e = omega (arith, ints)
 
 pub loop-i-init : goal.loop-i-init
-loop-i-init c = (nothing _, omega arith)
+loop-i-init c = (+ℤ_idl _, omega arith)
 
 pub overflow_add-sum : goal.overflow_add-sum
 overflow_add-sum c = (sum-more (to_z w128 c.loop-i.sum-bits) c.shoelace_term-sum.result (c.loop-i.i - 1) 1 c.loop-i.invariant.1 c.shoelace_term-sum.ensures.small (omega arith)).0
