@@ -5,6 +5,7 @@ use Rattle.std.specs.List.{Contains, slice_get}
 use Rattle.std.specs.List.Sorted.{IsPermutation}
 use Rattle.std.proofs.Math.Nat.{div-mul-le_self}
 use Rattle.std.proofs.lemmas.Nat.{le-div}
+use Rattle.std.proofs.lemmas.Bool.{cases_order}
 use Rattle.std.proofs.lemmas.Bool.Decides.{nat_tests}
 use Rattle.std.proofs.lemmas.List.Sorted.{Contains-permutation}
 use Rattle.std.proofs.lemmas.List.Elements.{All-contains}
@@ -32,15 +33,12 @@ swapped true false e = refl
 swapped false true e = refl
 swapped false false e = absurd (cc)
 
-order : (k m : ℕ) → (k < m) ⊎ ((m < k) ⊎ (k ≡ m))
-order k m = grind arith
-
 at_strip : (ts : List Triangle) (height : ℕ) (before es : List Event) (ps : List (ℕ × ℕ)) → HasEntries ts height before
     → IsPermutation before es → ((k m : ℕ) → k < m → Joins ts es ps k m) → (i j : ℕ) (n : IsNear ts i j) (s : ℕ)
     → (span_of n.t).bottom / height ≤ s → s ≤ (span_of n.t).top / height → (span_of n.u).bottom / height ≤ s
     → s ≤ (span_of n.u).top / height
     → (nat_eq s ((span_of n.t).bottom / height) || nat_eq s ((span_of n.u).bottom / height)) ≡ true → Contains ps (i, j)
-at_strip ts height before es ps has moved join i j n s p q v w o = by_case (order x.0 y.0)
+at_strip ts height before es ps has moved join i j n s p q v w o = by_case (cases_order x.0 y.0)
   where
     m : Meet n.t n.u
     m = meet n.t n.u n.near
@@ -54,11 +52,11 @@ at_strip ts height before es ps has moved join i j n s p q v w o = by_case (orde
     two : (k l : ℕ) → k ≡ l → k < l → ⊥
     two k l e r = omega arith
 
-    by_case : (x.0 < y.0) ⊎ ((y.0 < x.0) ⊎ (x.0 ≡ y.0)) → Contains ps (i, j)
-    by_case (inl l) = (join x.0 y.0 l (entry height n.t i s) (entry height n.u j s) x.1 y.1 refl m.right o).0 n
-    by_case (inr (inl l)) = (join y.0 x.0 l (entry height n.u j s) (entry height n.t i s) y.1 x.1 refl m.left
+    by_case : (x.0 ≡ y.0) ⊎ ((x.0 < y.0) ⊎ (y.0 < x.0)) → Contains ps (i, j)
+    by_case (inr (inl l)) = (join x.0 y.0 l (entry height n.t i s) (entry height n.u j s) x.1 y.1 refl m.right o).0 n
+    by_case (inr (inr l)) = (join y.0 x.0 l (entry height n.u j s) (entry height n.t i s) y.1 x.1 refl m.left
         (swapped (nat_eq s ((span_of n.t).bottom / height)) (nat_eq s ((span_of n.u).bottom / height)) o)).1 n
-    by_case (inr (inr e)) =
+    by_case (inl e) =
         let g : slice_get es y.0 ≡ Some (entry height n.t i s) = subst (λ (k : ℕ). slice_get es k ≡ Some (entry height n.t i s)) e x.1 in
         let f : Some (entry height n.t i s) ≡ Some (entry height n.u j s) = sym g ∙ y.1 in
         let same : i ≡ j = ap (λ (v : Event). v.index) (same_Some (entry height n.t i s) (entry height n.u j s) f) in
