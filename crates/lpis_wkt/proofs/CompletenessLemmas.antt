@@ -1,10 +1,11 @@
 -- The machine takes what the grammar spells.
-use Rattle.std.proofs.Common.{◌≡◌, ℕ, suc, Bool, true, false, cond, ◌&&◌, List, [], ◌∷◌, ◌++◌, length, Ok, refl, sym, ap, ◌∙◌, inl, inr, append_assoc, arith, nat_lt, map}
+use Rattle.std.proofs.Common.{◌≡◌, ℕ, suc, Bool, true, false, cond, List, [], ◌∷◌, ◌++◌, length, Ok, refl, sym, ap, ◌∙◌, inl, inr, append_assoc, arith, nat_lt, map}
 use Rattle.std.specs.Prelude.{codes, nat_eq}
 use Rattle.std.specs.Char.{to_ascii_lowercase}
 use Rattle.std.specs.Str.{str_eq_ignore_ascii_case, str_to_ascii_lowercase}
 use Rattle.std.specs.Cmp.Lexicographic.{pointwise}
 use Rattle.std.proofs.lemmas.List.{append-nil}
+use Rattle.std.proofs.lemmas.Bool.{and_parts, false_from_ne_true}
 use Rattle.std.proofs.lemmas.Bool.Decides.{nat_tests}
 use Rattle.lpis_points.specs.declared.point.Point.{Point}
 use Rattle.lpis_rings.specs.declared.polygon.Member.{Member}
@@ -14,10 +15,6 @@ use Rattle.lpis_wkt.specs.Tokens.{Token, Open, Close, Comma, Word, End}
 use Rattle.lpis_wkt.specs.Grammar.{PointText, Commas, RingText, BodyText, is_polygon, is_multi, Reads}
 use Rattle.lpis_wkt.specs.private.Machine.{Context, State, AtKeyword, AtBody, AtRing, AtX, AfterPoint, AfterRing, AfterBody, AtEnd, Finished, with_ring, run}
 use Rattle.lpis_wkt.proofs.PointLemmas.{coordinate-ok, true-is_closed}
-
-and-both : (a b : Bool) → (a && b) ≡ true → (a ≡ true) × (b ≡ true)
-and-both true b h = (refl, h)
-and-both false b h = cc
 
 -- one or more things with commas, where one of them is taken and a comma goes on
 abbrev pub adds : {S A : Type 0} → (S → A → S) → S → List A → S
@@ -85,7 +82,7 @@ pointwise-length : (a b : List ℕ) → pointwise nat_eq a b ≡ true → length
 pointwise-length [] [] h = refl
 pointwise-length [] (y ∷ b) h = cc
 pointwise-length (x ∷ a) [] h = cc
-pointwise-length (x ∷ a) (y ∷ b) h = ap suc (pointwise-length a b (and-both _ _ h).1)
+pointwise-length (x ∷ a) (y ∷ b) h = ap suc (pointwise-length a b (and_parts _ _ h).1)
 
 map-length : (f : ℕ → ℕ) (a : List ℕ) → length (map f a) ≡ length a
 map-length f [] = refl
@@ -98,10 +95,6 @@ length-lower a b h = sym (map-length to_ascii_lowercase a) ∙ pointwise-length 
 apart : (w : List ℕ) → is_polygon w ≡ true → is_multi w ≡ true → ⊥
 apart w h k = absurd (omega (arith, length-lower w (codes "POLYGON") h, length-lower w (codes "MULTIPOLYGON") k))
 
-not-true : (b : Bool) → (b ≡ true → ⊥) → b ≡ false
-not-true true h = absurd (h refl)
-not-true false h = refl
-
 pub reads_runs : (ts : List Token) (ms : List Member) → Reads ts ms → run AtKeyword ts ≡ Ok (Finished ms)
 reads_runs ts ms (k, body, e, inl (keyword, (m, one, (inner, h, e2)))) =
     let whole : ts ≡ Word k ∷ Open ∷ inner ++ Close ∷ End ∷ [] = e ∙ ap (λ (l : List Token). Word k ∷ l ++ End ∷ []) e2
@@ -110,5 +103,5 @@ reads_runs ts ms (k, body, e, inl (keyword, (m, one, (inner, h, e2)))) =
 reads_runs ts ms (k, body, e, inr (keyword, (inner, h, e2))) =
     let whole : ts ≡ Word k ∷ Open ∷ inner ++ Close ∷ End ∷ [] = e ∙ ap (λ (l : List Token). Word k ∷ l ++ End ∷ []) e2
     ∙ ap (λ (l : List Token). Word k ∷ Open ∷ l) (append_assoc inner (Close ∷ []) (End ∷ [])) in
-    let other : is_polygon k ≡ false = not-true (is_polygon k) (λ p. apart k p keyword) in
+    let other : is_polygon k ≡ false = false_from_ne_true (is_polygon k) (λ p. apart k p keyword) in
     rw whole (rw (other, keyword) (members_run [] ms inner (Close ∷ End ∷ []) h))

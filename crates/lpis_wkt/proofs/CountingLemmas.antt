@@ -1,5 +1,6 @@
 -- The words that stand before each state, and the limit on points.
 use Rattle.std.proofs.Common.{◌≡◌, ℕ, ◌+◌, ◌*◌, ◌<◌, ◌≤◌, Bool, true, false, cond, List, [], ◌∷◌, ◌++◌, length, Ok, refl, ◌∙◌, inl, inr, arith, length-append}
+use Rattle.std.proofs.lemmas.Bool.{false_from_ne_true}
 use Rattle.std.proofs.lemmas.Bool.Decides.{nat_tests}
 use Rattle.std.proofs.lemmas.List.Sums.{sum_by-append, sum_by_push}
 use Rattle.lpis_points.specs.declared.point.Point.{Point}
@@ -204,10 +205,6 @@ limited-run-ok (t ∷ ts) s s' le h =
     let all : words (t ∷ ts) ≡ word t + words ts = words-cons t ts in
     (rw b.1 r.0, rw all (omega arith))
 
-fine-step : (b : Bool) → (b ≡ true → ⊥) → b ≡ false
-fine-step true h = absurd (h refl)
-fine-step false h = refl
-
 pub run-limited : (ts : List Token) (s s' : State) → run s ts ≡ Ok s' → has_words s + words ts ≤ most_words → limited_run s ts ≡ Ok s'
 run-limited [] s s' h le = h
 run-limited (t ∷ ts) s s' h le =
@@ -215,7 +212,7 @@ run-limited (t ∷ ts) s s' h le =
     let one : has_words a.0 ≡ has_words s + word t = one_word s t a.0 a.1 in
     let all : words (t ∷ ts) ≡ word t + words ts = words-cons t ts in
     let le2 : has_words a.0 + words ts ≤ most_words = let le3 = rw all at le in omega arith in
-    let fine : is_too_many s t ≡ false = fine-step (is_too_many s t) (λ k. (let big = too-many s t a.0 a.1 k in omega arith)) in
+    let fine : is_too_many s t ≡ false = false_from_ne_true (is_too_many s t) (λ k. (let big = too-many s t a.0 a.1 k in omega arith)) in
     rw (fine, a.1) (run-limited ts a.0 s' a.2 le2)
 
 pub viable : (ts : List Token) (s : State) → limited_run AtKeyword ts ≡ Ok s → Viable ts

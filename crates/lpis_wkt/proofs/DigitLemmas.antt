@@ -1,6 +1,7 @@
 -- Digits and the number that they write.
-use Rattle.std.proofs.Common.{suc, add-zero, get_or-drop, ◌≡◌, ℕ, ◌+◌, ◌-◌, ◌*◌, ◌<◌, ◌≤◌, Bool, true, false, cond, ◌&&◌, List, [], ◌∷◌, ◌++◌, length, take, drop, get_or, Option, Some, None, refl}
+use Rattle.std.proofs.Common.{suc, add-zero, get_or-drop, ◌≡◌, ℕ, ◌+◌, ◌-◌, ◌*◌, ◌<◌, ◌≤◌, Bool, true, false, cond, List, [], ◌∷◌, ◌++◌, length, take, drop, get_or, Option, Some, None, refl}
 use Rattle.std.proofs.Common.{sym, ap, ◌∙◌, arith, nat_lt, drop-cons, add-one, length-drop, MatchOption}
+use Rattle.std.proofs.lemmas.Bool.{and_parts}
 use Rattle.std.proofs.lemmas.Bool.Decides.{nat_tests}
 use Rattle.std.proofs.lemmas.List.{drop_all, take_all, drop-drop}
 use Rattle.std.specs.List.{position, position_or_len, before_first, after_first, list_all}
@@ -40,7 +41,7 @@ parts_none xs h =
     let past = not-found xs h in
     (sym (take_all (position_or_len is_point xs) xs past), sym (drop_all (position_or_len is_point xs + 1) xs (omega arith)))
 
-between : (b : ℕ) → is_ascii_digit b ≡ true → (48 ≤ b) × (b < 58)
+pub between : (b : ℕ) → is_ascii_digit b ≡ true → (48 ≤ b) × (b < 58)
 between b h = (grind (arith, nat_tests), grind (arith, nat_tests))
 
 pub is-digit : (b : ℕ) → is_ascii_digit b ≡ true → digit_value b ≡ b - 48
@@ -50,15 +51,11 @@ is-digit b h =
     let high : nat_lt b 58 ≡ true = grind (arith, nat_tests) in
     rw (low, high) refl
 
-and-first : (a b : Bool) → (a && b) ≡ true → a ≡ true
-and-first true b h = refl
-and-first false b h = cc
-
 pub value_step : (n : ℕ) (ds : List ℕ) (i : ℕ) → i < length ds → list_all is_ascii_digit (drop i ds) ≡ true
     → digits_value_after 10 n (drop i ds) ≡ digits_value_after 10 (n * 10 + (get_or ds i 0 - 48)) (drop (i + 1) ds)
 value_step n ds i lt h =
     let cons : drop i ds ≡ get_or ds i 0 ∷ drop (i + 1) ds = rw add-one (drop-cons ds i 0 lt) in
-    let first : is_ascii_digit (get_or ds i 0) ≡ true = and-first _ _ (rw cons at h) in
+    let first : is_ascii_digit (get_or ds i 0) ≡ true = (and_parts _ _ (rw cons at h)).0 in
     rw cons (ap (λ (v : ℕ). digits_value_after 10 (n * 10 + v) (drop (i + 1) ds)) (is-digit _ first))
 
 pub above : (n total : ℕ) (ds : List ℕ) (i : ℕ) → i < length ds → list_all is_ascii_digit (drop i ds) ≡ true → digits_value_after 10 n (drop i ds) ≡ total → n * 10 + (get_or ds i 0 - 48) ≤ total

@@ -1,6 +1,7 @@
 -- A number is read exactly.
-use Rattle.std.proofs.Common.{◌≡◌, ℕ, zero, suc, ◌+◌, ◌*◌, ◌^◌, Bool, true, false, cond, not, ◌&&◌, ◌==◌, List, [], ◌∷◌, ◌++◌, length, drop, ℤ, pos, neg_ℤ, nat_abs, Ok, Err, refl, sym, ap, ◌∙◌, arith}
+use Rattle.std.proofs.Common.{◌≡◌, ℕ, zero, suc, ◌+◌, ◌*◌, ◌^◌, Bool, true, false, cond, not, ◌==◌, List, [], ◌∷◌, ◌++◌, length, drop, ℤ, pos, neg_ℤ, nat_abs, Ok, Err, refl, sym, ap, ◌∙◌, arith}
 use Rattle.std.proofs.Common.{nat_lt}
+use Rattle.std.proofs.lemmas.Bool.{and_parts}
 use Rattle.std.proofs.lemmas.Bool.Decides.{nat_tests}
 use Rattle.std.specs.List.{list_all}
 use Rattle.std.specs.Char.{digit_value}
@@ -8,10 +9,6 @@ use Rattle.std.specs.Str.Parse.{digits_value, digits_value_after}
 use Rattle.lpis_wkt.specs.declared.fault.WktCode.{WktCode}
 use Rattle.lpis_wkt.specs.Number.{coordinate_decimals, greatest, number, whole, decimals, size, padded, is_numeral, is_fine, is_zero, is_negative, signed}
 use Rattle.lpis_wkt.proofs.DigitLemmas.{value-append}
-
-and-both : (a b : Bool) → (a && b) ≡ true → (a ≡ true) × (b ≡ true)
-and-both true b h = (refl, h)
-and-both false b h = cc
 
 digit_zero : (b : ℕ) → (b == 48) ≡ true → digit_value b ≡ 0
 digit_zero b h = let e : b ≡ 48 = grind (arith, nat_tests) in rw e refl
@@ -26,7 +23,7 @@ ten v p = omega arith
 zeros : (v : ℕ) (ds : List ℕ) → list_all is_zero ds ≡ true → digits_value_after 10 v ds ≡ v * 10 ^ length ds
 zeros v [] h = omega arith
 zeros v (d ∷ ds) h =
-    let both = and-both (is_zero d) (list_all is_zero ds) h in
+    let both = and_parts (is_zero d) (list_all is_zero ds) h in
     let z : digit_value d ≡ 0 = digit_zero d both.0 in
     rw z (zeros (v * 10 + 0) ds both.1 ∙ ten v (10 ^ length ds) ∙ ap (λ (p : ℕ). v * p) (sym (power (length ds))))
 

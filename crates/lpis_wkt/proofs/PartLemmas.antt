@@ -1,6 +1,7 @@
 -- Parts of a text that grow by a byte, and the numerals that they are.
 use Rattle.std.proofs.Common.{◌≡◌, ℕ, suc, ◌+◌, ◌-◌, ◌*◌, ◌<◌, ◌≤◌, Bool, true, false, cond, not, ◌&&◌, ◌||◌, ◌==◌, List, [], ◌∷◌, ◌++◌, length, take, drop, get_or, refl, sym, ap, ◌∙◌, arith}
 use Rattle.std.proofs.Common.{append_assoc, append-nil, length-append, drop-cons, add-one, one-add, nat_lt}
+use Rattle.std.proofs.lemmas.Bool.{and_parts}
 use Rattle.std.proofs.lemmas.Bool.Decides.{nat_tests}
 use Rattle.std.proofs.lemmas.List.{drop_all}
 use Rattle.std.specs.List.{list_all, position_or_len, before_first, after_first}
@@ -13,12 +14,8 @@ use Rattle.lpis_wkt.specs.private.Runs.{is_word}
 use Rattle.std.specs.Prelude.{ℤ, Ok, Err, slice_range}
 use Rattle.lpis_wkt.specs.declared.fault.WktCode.{WktCode}
 use Rattle.lpis_wkt.specs.declared.fault.WktCode.TheVariants.{NotANumber, TooFine, OutOfRange}
-use Rattle.lpis_wkt.proofs.DigitLemmas.{value-append, is-digit}
+use Rattle.lpis_wkt.proofs.DigitLemmas.{value-append, between, is-digit}
 use Rattle.lpis_wkt.proofs.SplittingLemmas.{whole_word, stops-at}
-
-and-both : (a b : Bool) → (a && b) ≡ true → (a ≡ true) × (b ≡ true)
-and-both true b h = (refl, h)
-and-both false b h = cc
 
 pub no_part : (text : List ℕ) (at : ℕ) → at ≤ length text → IsPart text at at []
 no_part text at le = record { from = refl; past = omega arith; within = le }
@@ -41,13 +38,10 @@ joined text a b c first second p q = record {
 
 pub digits-push : (ds : List ℕ) (b : ℕ) → list_all is_ascii_digit ds ≡ true → is_ascii_digit b ≡ true → list_all is_ascii_digit (ds ++ b ∷ []) ≡ true
 digits-push [] b h d = rw d refl
-digits-push (x ∷ ds) b h d = let both = and-both (is_ascii_digit x) (list_all is_ascii_digit ds) h in rw both.0 (digits-push ds b both.1 d)
+digits-push (x ∷ ds) b h d = let both = and_parts (is_ascii_digit x) (list_all is_ascii_digit ds) h in rw both.0 (digits-push ds b both.1 d)
 
 pub value-push : (ds : List ℕ) (b : ℕ) → is_ascii_digit b ≡ true → digits_value 10 (ds ++ b ∷ []) ≡ digits_value 10 ds * 10 + (b - 48)
 value-push ds b d = value-append 0 ds (b ∷ []) ∙ rw (is-digit b d) refl
-
-between : (b : ℕ) → is_ascii_digit b ≡ true → (48 ≤ b) × (b < 58)
-between b h = (grind (arith, nat_tests), grind (arith, nat_tests))
 
 -- what a digit is not
 no_point : (b : ℕ) → is_ascii_digit b ≡ true → is_point b ≡ false
@@ -69,7 +63,7 @@ digit-word b h = let d = between b h in letter b (omega arith)
 
 digits-word : (ds : List ℕ) → list_all is_ascii_digit ds ≡ true → AllWord ds
 digits-word [] h = tt
-digits-word (b ∷ ds) h = let both = and-both (is_ascii_digit b) (list_all is_ascii_digit ds) h in (digit-word b both.0, digits-word ds both.1)
+digits-word (b ∷ ds) h = let both = and_parts (is_ascii_digit b) (list_all is_ascii_digit ds) h in (digit-word b both.0, digits-word ds both.1)
 
 words-append : (a b : List ℕ) → AllWord a → AllWord b → AllWord (a ++ b)
 words-append [] b h k = k
@@ -79,11 +73,11 @@ words-append (x ∷ a) b h k = (h.0, words-append a b h.1 k)
 
 point_past : (ds : List ℕ) → list_all is_ascii_digit ds ≡ true → position_or_len is_point ds ≡ length ds
 point_past [] h = refl
-point_past (b ∷ ds) h = let both = and-both (is_ascii_digit b) (list_all is_ascii_digit ds) h in rw (no_point b both.0) (rw one-add (ap suc (point_past ds both.1)))
+point_past (b ∷ ds) h = let both = and_parts (is_ascii_digit b) (list_all is_ascii_digit ds) h in rw (no_point b both.0) (rw one-add (ap suc (point_past ds both.1)))
 
 point_at : (ds more : List ℕ) → list_all is_ascii_digit ds ≡ true → position_or_len is_point (ds ++ 46 ∷ more) ≡ length ds
 point_at [] more h = refl
-point_at (b ∷ ds) more h = let both = and-both (is_ascii_digit b) (list_all is_ascii_digit ds) h in rw (no_point b both.0) (rw one-add (ap suc (point_at ds more both.1)))
+point_at (b ∷ ds) more h = let both = and_parts (is_ascii_digit b) (list_all is_ascii_digit ds) h in rw (no_point b both.0) (rw one-add (ap suc (point_at ds more both.1)))
 
 take-front : (a b : List ℕ) → take (length a) (a ++ b) ≡ a
 take-front [] b = refl
@@ -109,7 +103,7 @@ whole_only ds h = (rw (point_past ds h) (take-whole ds), rw (point_past ds h) (r
 
 plain_sign : (ds more : List ℕ) → list_all is_ascii_digit ds ≡ true → 0 < length ds → (unsigned (ds ++ more) ≡ ds ++ more) × (is_negative (ds ++ more) ≡ false)
 plain_sign [] more h some = absurd (omega arith)
-plain_sign (b ∷ ds) more h some = let both = and-both (is_ascii_digit b) (list_all is_ascii_digit ds) h in let d = no_sign b both.0 in (rw (d.0, d.1) refl, d.1)
+plain_sign (b ∷ ds) more h some = let both = and_parts (is_ascii_digit b) (list_all is_ascii_digit ds) h in let d = no_sign b both.0 in (rw (d.0, d.1) refl, d.1)
 
 no_more : (n : ℕ) (more : List ℕ) → length more ≤ n → drop n more ≡ []
 no_more n more le = drop_all n more le

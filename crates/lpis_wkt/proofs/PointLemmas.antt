@@ -1,6 +1,7 @@
 -- Coordinates and points are equal where their numbers are.
-use Rattle.std.proofs.Common.{◌≡◌, ℕ, ◌-◌, ℤ, Bool, true, false, ◌&&◌, List, length, Option, Some, None, Result, Ok, Err, refl, ap, subst, ◌∙◌, arith, int_eq}
+use Rattle.std.proofs.Common.{◌≡◌, ℕ, ◌-◌, ℤ, true, List, length, Option, Some, None, Result, Ok, Err, refl, ap, subst, ◌∙◌, arith, int_eq}
 use Rattle.std.specs.Prelude.{slice_get}
+use Rattle.std.proofs.lemmas.Bool.{and_parts}
 use Rattle.std.proofs.lemmas.Int.{ints}
 use lib.Dec.{T_prop}
 use Rattle.lpis_points.specs.declared.point.Point.{Point}
@@ -66,10 +67,6 @@ err-coordinate w code e = err-with_range (number w) (number-in_range w) code e
 
 -- equal ends
 
-and-both : (a b : Bool) → (a && b) ≡ true → (a ≡ true) × (b ≡ true)
-and-both true b h = (refl, h)
-and-both false b h = cc
-
 int_eq-true : (x y : ℤ) → int_eq x y ≡ true → x ≡ y
 int_eq-true x y h = grind (arith, ints)
 
@@ -77,7 +74,7 @@ int_eq-refl : (x : ℤ) → int_eq x x ≡ true
 int_eq-refl x = grind (arith, ints)
 
 same_point-true : (p q : Point) → same_point p q ≡ true → p ≡ q
-same_point-true p q h = let both = and-both _ _ h in point_eq p q (int_eq-true p.x q.x both.0) (int_eq-true p.y q.y both.1)
+same_point-true p q h = let both = and_parts _ _ h in point_eq p q (int_eq-true p.x q.x both.0) (int_eq-true p.y q.y both.1)
 
 same_point-refl : (p : Point) → same_point p p ≡ true
 same_point-refl p = rw (int_eq-refl p.x, int_eq-refl p.y) refl
