@@ -3,6 +3,7 @@ use Rattle.std.proofs.Common.{◌≡◌, ℕ, zero, suc, ◌+◌, ◌-◌, ◌*�
 use Rattle.std.proofs.Common.{nat_lt, eqb, append_assoc, length-append, length-drop, drop-cons, add-one}
 use Rattle.std.proofs.lemmas.Bool.Decides.{nat_tests}
 use Rattle.std.proofs.lemmas.Fmt.{decimal_digit}
+use Rattle.std.proofs.lemmas.Str.{digit_value_digit}
 use Rattle.std.proofs.lemmas.List.{take_all, take-append-drop, take_more}
 use Rattle.std.specs.Char.{digit_value, is_ascii_digit}
 use Rattle.std.specs.Fmt.{decimal, signed_decimal}
@@ -10,11 +11,8 @@ use Rattle.lpis_cert.specs.Limits.{number_margin}
 use Rattle.lpis_cert.specs.CertText.{Corners, Line, spelling, words_of, text_of_lines}
 use Rattle.lpis_cert.specs.Reading.{digits_on, number}
 use Rattle.lpis_cert.specs.private.Taken.{Begins, ReadsLines, corner_line}
-use Rattle.lpis_cert.proofs.NumberLemmas.{number_takes}
-
--- the rest, as a slice of the code is seen
-rest_is : (xs : List ℕ) (i : ℕ) → take (length xs - (i + 1)) (drop (i + 1) xs) ≡ drop (i + 1) xs
-rest_is xs i = take_all (length xs - (i + 1)) (drop (i + 1) xs) (simp length-drop (omega arith))
+use Rattle.lpis_cert.proofs.NumberLemmas.{not-zero, number_takes}
+use Rattle.lpis_cert.proofs.SplittingLemmas.{rest_is}
 
 pub digits_on-append : (limit n : ℕ) (xs ys : List ℕ) (v : ℕ) → digits_on limit n xs ≡ Some v → digits_on limit n (xs ++ ys) ≡ digits_on limit v ys
 digits_on-append limit n [] ys v h = let e : n ≡ v = cc h in ap (λ (k : ℕ). digits_on limit k ys) e
@@ -28,10 +26,8 @@ digits_on-append limit n (d ∷ xs) ys v h = by_test (is_ascii_digit d && nat_le
 digit_is : (d : ℕ) → is_ascii_digit d ≡ true → digit_value d ≡ d - 48
 digit_is d h =
     let low : 48 ≤ d = grind (arith, nat_tests) in
-    let high : d < 58 = grind (arith, nat_tests) in
-    let a : nat_lt d 48 ≡ false = grind (arith, nat_tests) in
-    let b : nat_lt d 58 ≡ true = grind (arith, nat_tests) in
-    rw (a, b) refl
+    let high : d ≤ 57 = grind (arith, nat_tests) in
+    omega (arith, digit_value_digit d (low, high))
 
 -- one more digit
 pub digit_more : (limit i v r : ℕ) (xs : List ℕ) → i < length xs → digits_on limit 0 (take i xs) ≡ Some v → is_ascii_digit (get_or xs i 0) ≡ true → r ≡ get_or xs i 0 - 48 → v * 10 + r ≤ limit
@@ -42,14 +38,11 @@ digit_more limit i v r xs lt h digit is le =
     let small : nat_le (v * 10 + r) limit ≡ true = grind (arith, nat_tests) in
     ap (digits_on limit 0) more ∙ digits_on-append limit 0 (take i xs) (get_or xs i 0 ∷ []) v h ∙ rw (digit, value, small) refl
 
-not_zero : (d : ℕ) → 48 < d → eqb d 48 ≡ false
-not_zero d h = grind (arith, nat_tests)
-
 leading : (limit i end : ℕ) (xs : List ℕ) (v : ℕ) → i < length xs → end < 48 → 48 < get_or xs 0 0 → get_or xs i 0 ≡ end → digits_on limit 0 (take i xs) ≡ Some v → number limit (take i xs) ≡ Some v
 unfolding number
 leading limit zero end xs v lt apart first last h = absurd (omega arith)
 leading limit (suc i) end [] v lt apart first last h = absurd (omega arith)
-leading limit (suc i) end (d ∷ xs) v lt apart first last h = let no = not_zero d first in rw no h
+leading limit (suc i) end (d ∷ xs) v lt apart first last h = let no = not-zero d first in rw no h
 
 -- the digits before a byte
 pub digits_begin : (limit i end : ℕ) (xs : List ℕ) (v : ℕ) → limit ≤ number_margin → i < length xs → end < 48 → 48 < get_or xs 0 0 → get_or xs i 0 ≡ end → digits_on limit 0 (take i xs) ≡ Some v

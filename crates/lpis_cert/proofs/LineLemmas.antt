@@ -2,6 +2,7 @@
 use Rattle.std.specs.Str.{bytes_eq}
 use Rattle.std.proofs.lemmas.Slice.Eq.{bytes_eq-Decides}
 use Rattle.std.proofs.Common.{◌≡◌, ℕ, ◌+◌, ◌≤◌, Bool, true, false, cond, ◌&&◌, List, [], ◌∷◌, length, Option, Some, None, Result, Ok, Err, refl, sym, ap, subst, ◌∙◌, arith, eqb, ℤ}
+use Rattle.std.proofs.lemmas.Bool.{and_parts}
 use Rattle.std.proofs.lemmas.List.Splits.{join_with_byte-slice_split}
 use Rattle.std.specs.Prelude.{codes}
 use Rattle.std.specs.List.{list_any, join_with_byte, AllByRecursion}
@@ -19,7 +20,7 @@ use Rattle.lpis_cert.specs.Fitting.{CornersFit, SeparatorFits, LineFits}
 use Rattle.lpis_cert.specs.Reading.{◌>>=◌, ◌>>?◌, is_empty, words, kind_of, word_count, first_is_id, names, form, can_stand, front, last, natural, number, coordinate, point, corners, separator}
 use Rattle.lpis_cert.specs.Reading.{piece_line, parcel_line, pairs_line, values, with_form, or_number, placed, read_line}
 use Rattle.lpis_cert.specs.Kinds.{line_kind}
-use Rattle.lpis_cert.proofs.NumberLemmas.{opened, both, number_again, number_takes, coordinate_again, coordinate_takes}
+use Rattle.lpis_cert.proofs.NumberLemmas.{opened, number_again, number_takes, coordinate_again, coordinate_takes}
 use Rattle.lpis_cert.proofs.WordLemmas.{IsWordText, none_empty, kind_word, fields, words_are, field_words, spelling_words}
 
 -- ---- what is written is read
@@ -142,7 +143,7 @@ form_takes (w ∷ ws) k vs h =
     let u = unless (list_any is_empty (w ∷ ws)) _ (k, vs) h in
     let t = then_some (kind_of w) (λ k. cond (eqb (length ws + 1) (word_count k) && names k ws) (Some (k, ws)) None) (k, vs) u.1 in
     let o = opened (eqb (length ws + 1) (word_count t.0) && names t.0 ws) (Some (t.0, ws)) (k, vs) t.2 in
-    let n = both (eqb (length ws + 1) (word_count t.0)) (names t.0 ws) o.0 in
+    let n = and_parts (eqb (length ws + 1) (word_count t.0)) (names t.0 ws) o.0 in
     let same : ◌≡◌ {A = Kind × List (List ℕ)} (t.0, ws) (k, vs) = cc o.1 in
     subst (λ (p : Kind × List (List ℕ)). (w ∷ ws ≡ kind_word p.0 ∷ p.1) × (names p.0 p.1 ≡ true)) same (ap (λ (x : List ℕ). x ∷ ws) (kind_takes w t.0 t.1), n.1)
 

@@ -2,7 +2,7 @@
 use Rattle.std.proofs.Common.{◌≡◌, ℕ, zero, suc, ◌+◌, ◌*◌, ◌<◌, ◌≤◌, Bool, true, false, cond, ◌&&◌, List, [], ◌∷◌, length, get_or, Option, Some, None, refl, sym, ap, ◌∙◌, arith, nat_le, nat_lt, eqb}
 use Rattle.std.proofs.Common.{ℤ, pos, negsuc, neg_ℤ, ◌≤ℤ◌}
 use Rattle.std.proofs.lemmas.Bool.Decides.{nat_tests}
-use Rattle.std.proofs.lemmas.Bool.{eqb-true}
+use Rattle.std.proofs.lemmas.Bool.{eqb-true, and_parts}
 use Rattle.std.proofs.lemmas.Int.{ints}
 use Rattle.std.proofs.lemmas.Fmt.{decimal_digit, decimal_is_IsNumeral, first_decimal, decimal-digits_value}
 use Rattle.std.proofs.lemmas.Str.Parse.{IsNumeralModel, numerals_by_value, tells_digits, digit_from_value}
@@ -18,10 +18,6 @@ use Rattle.lpis_cert.specs.Reading.{digits_on, number, coordinate, minus, plus}
 pub opened : {A : Type 0} (b : Bool) (x : Option A) (y : A) → cond b x None ≡ Some y → (b ≡ true) × (x ≡ Some y)
 opened true x y h = (refl, h)
 opened false x y h = absurd cc
-
-pub both : (a b : Bool) → (a && b) ≡ true → (a ≡ true) × (b ≡ true)
-both true b h = (refl, h)
-both false b h = absurd cc
 
 pub value-ge : (n : ℕ) (ds : List ℕ) → n ≤ digits_value_after 10 n ds
 value-ge n [] = omega arith
@@ -53,7 +49,7 @@ digits_on_takes : (limit n : ℕ) (ds : List ℕ) (m : ℕ) → n ≤ limit → 
 digits_on_takes limit n [] m le h = let e : n ≡ m = cc h in (tt, e, omega arith)
 digits_on_takes limit n (d ∷ ds) m le h =
     let o = opened (is_ascii_digit d && nat_le (n * 10 + digit_value d) limit) (digits_on limit (n * 10 + digit_value d) ds) m h in
-    let tests = both (is_ascii_digit d) (nat_le (n * 10 + digit_value d) limit) o.0 in
+    let tests = and_parts (is_ascii_digit d) (nat_le (n * 10 + digit_value d) limit) o.0 in
     let r = digits_on_takes limit (n * 10 + digit_value d) ds m (below (n * 10 + digit_value d) limit tests.1) o.1 in
     ((digit_small d tests.0, r.0), r.1, r.2)
   where
@@ -63,7 +59,7 @@ digits_on_takes limit n (d ∷ ds) m le h =
 own : IsNumeralModel (AllDigits 10) (digits_value 10)
 own = numerals_by_value (AllDigits 10) tells_digits
 
-not-zero : (d : ℕ) → 48 < d → eqb d 48 ≡ false
+pub not-zero : (d : ℕ) → 48 < d → eqb d 48 ≡ false
 not-zero d h = grind (arith, nat_tests)
 
 numeral : (limit : ℕ) (ds : List ℕ) → AllDigits 10 ds → 48 < get_or ds 0 0 → digits_value 10 ds ≤ limit → number limit ds ≡ Some (digits_value 10 ds)

@@ -28,7 +28,7 @@ pub whole : (p : ℕ → Bool) (xs : List ℕ) → position p xs ≡ None → sl
 whole p xs h = let past = missed p xs h in slice_split_none p xs (λ i d lt. fails_before_first p xs i d (omega arith))
 
 -- the rest, as a slice of the code is seen
-rest_is : (xs : List ℕ) (i : ℕ) → take (length xs - (i + 1)) (drop (i + 1) xs) ≡ drop (i + 1) xs
+pub rest_is : (xs : List ℕ) (i : ℕ) → take (length xs - (i + 1)) (drop (i + 1) xs) ≡ drop (i + 1) xs
 rest_is xs i = take_all (length xs - (i + 1)) (drop (i + 1) xs) (simp length-drop (omega arith))
 
 pub cut : (p : ℕ → Bool) (xs : List ℕ) (i : ℕ) → position p xs ≡ Some i

@@ -1,5 +1,6 @@
 -- The words of a line.
 use Rattle.std.proofs.Common.{◌≡◌, ℕ, suc, ◌<◌, ◌≤◌, Bool, true, false, not, ◌&&◌, List, [], ◌∷◌, ◌++◌, length, refl, ap, ◌∙◌, arith, ℤ, pos, negsuc, neg_ℤ, ◌≤ℤ◌}
+use Rattle.std.proofs.lemmas.Bool.{and_parts}
 use Rattle.std.proofs.lemmas.Bool.Decides.{nat_tests}
 use Rattle.std.proofs.lemmas.Int.{ints}
 use Rattle.std.proofs.lemmas.Fmt.{decimal_is_IsNumeral}
@@ -19,7 +20,6 @@ use Rattle.lpis_cert.specs.Fitting.{CornersFit, LineFits}
 use Rattle.lpis_cert.specs.Reading.{is_gap, is_empty, words}
 use Rattle.lpis_cert.specs.Faults.{is_lf, lines}
 use Rattle.lpis_cert.specs.Kinds.{line_kind}
-use Rattle.lpis_cert.proofs.NumberLemmas.{both}
 
 -- ---- bytes of words
 
@@ -58,15 +58,15 @@ signed_word (negsuc n) fits = let d = decimal_word (suc n) (below n fits.0) in r
 
 id_plain : (bs : List ℕ) → list_all is_id_byte bs ≡ true → IsPlain bs
 id_plain [] h = tt
-id_plain (b ∷ bs) h = let t = both (is_id_byte b) (list_all is_id_byte bs) h in (plain b t.0, id_plain bs t.1)
+id_plain (b ∷ bs) h = let t = and_parts (is_id_byte b) (list_all is_id_byte bs) h in (plain b t.0, id_plain bs t.1)
   where
     plain : (d : ℕ) → is_id_byte d ≡ true → (is_gap d ≡ false) × (is_lf d ≡ false)
     plain d r = (grind (arith, nat_tests), grind (arith, nat_tests))
 
 pub id_word : (bs : List ℕ) → is_id bs ≡ true → IsWordText bs
 id_word bs h =
-    let t = both (nat_le 1 (length bs) && nat_le (length bs) 40) (list_all is_id_byte bs) h in
-    let u = both (nat_le 1 (length bs)) (nat_le (length bs) 40) t.0 in
+    let t = and_parts (nat_le 1 (length bs) && nat_le (length bs) 40) (list_all is_id_byte bs) h in
+    let u = and_parts (nat_le 1 (length bs)) (nat_le (length bs) 40) t.0 in
     record { some = not-empty bs (above (length bs) u.0); plain = id_plain bs t.1 }
   where
     above : (n : ℕ) → nat_le 1 n ≡ true → 0 < n
@@ -154,8 +154,8 @@ field_words EndLine fits = tt
 plain_codes : (w : List ℕ) → list_all (λ b. not (is_gap b) && not (is_lf b)) w ≡ true → IsPlain w
 plain_codes [] h = tt
 plain_codes (b ∷ w) h =
-    let t = both (not (is_gap b) && not (is_lf b)) (list_all (λ b. not (is_gap b) && not (is_lf b)) w) h in
-    let u = both (not (is_gap b)) (not (is_lf b)) t.0 in
+    let t = and_parts (not (is_gap b) && not (is_lf b)) (list_all (λ b. not (is_gap b) && not (is_lf b)) w) h in
+    let u = and_parts (not (is_gap b)) (not (is_lf b)) t.0 in
     ((off (is_gap b) u.0, off (is_lf b) u.1), plain_codes w t.1)
   where
     off : (b : Bool) → not b ≡ true → b ≡ false
