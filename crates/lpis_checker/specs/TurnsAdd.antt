@@ -1,5 +1,6 @@
 -- What the conditions on parts show of turns.
 use Rattle.std.specs.Prelude.{◌≡◌, ℕ, ℤ, pos, ◌+ℤ◌, ◌<ℤ◌, List, [], ◌∷◌, All}
+use Rattle.lpis_points.specs.Sums.{int_sum_by}
 use Rattle.lpis_points.specs.Plane.{RationalPoint}
 use Rattle.lpis_rings.specs.Edges.{turns}
 use Rattle.lpis_rings.specs.Map.{inside_count}
@@ -12,8 +13,7 @@ use Rattle.lpis_checker.specs.SoundMap.{IsOffLines}
 
 -- the turns of pieces, added
 abbrev pub turns_of_pieces : List Piece → RationalPoint → ℤ
-turns_of_pieces [] p = pos 0
-turns_of_pieces (x ∷ xs) p = turns x.polygon p +ℤ turns_of_pieces xs p
+turns_of_pieces xs p = int_sum_by (λ (x : Piece). turns x.polygon p) xs
 
 -- off the lines each piece turns round a point as often as triangles of its part have the point
 -- inside; everywhere each parcel turns round it as often as its pieces together

@@ -9,7 +9,7 @@ use Rattle.csv.proofs.WriteFacts.{appends-more}
 use Rattle.lpis_covers.specs.Table.{most_rows}
 use Rattle.lpis_parcels.specs.declared.parcel.Parcel.{Parcel}
 use Rattle.lpis_rings.specs.AreaBounds.{most_area}
-use Rattle.lpis_commands.specs.Report.{sum_over}
+use Rattle.lpis_points.specs.Sums.{int_sum_by}
 
 add-assoc : (a b c : ℤ) → a +ℤ (b +ℤ c) ≡ (a +ℤ b) +ℤ c
 add-assoc a b c = omega (arith, ints)
@@ -18,13 +18,13 @@ zero-sum : (a : ℤ) → a +ℤ pos 0 ≡ pos 0 +ℤ a
 zero-sum a = omega (arith, ints)
 
 -- one parcel more at the end
-sum_over-push : (f : Parcel → ℤ) (ks : List Parcel) (k : Parcel) → sum_over f (ks ++ k ∷ []) ≡ sum_over f ks +ℤ f k
-sum_over-push f [] k = zero-sum (f k)
-sum_over-push f (x ∷ ks) k = ap (λ (z : ℤ). f x +ℤ z) (sum_over-push f ks k) ∙ add-assoc (f x) (sum_over f ks) (f k)
+int_sum_by-push : (f : Parcel → ℤ) (ks : List Parcel) (k : Parcel) → int_sum_by f (ks ++ k ∷ []) ≡ int_sum_by f ks +ℤ f k
+int_sum_by-push f [] k = zero-sum (f k)
+int_sum_by-push f (x ∷ ks) k = ap (λ (z : ℤ). f x +ℤ z) (int_sum_by-push f ks k) ∙ add-assoc (f x) (int_sum_by f ks) (f k)
 
 -- the sum over one parcel more of a list
-pub sum_over-more : (f : Parcel → ℤ) (ks : List Parcel) (i : ℕ) (k : Parcel) → i < length ks → sum_over f (take i ks) +ℤ f (get_or ks i k) ≡ sum_over f (take (i + 1) ks)
-sum_over-more f ks i k lt = sym (ap (sum_over f) (take_more ks i k lt) ∙ sum_over-push f (take i ks) (get_or ks i k))
+pub int_sum_by-more : (f : Parcel → ℤ) (ks : List Parcel) (i : ℕ) (k : Parcel) → i < length ks → int_sum_by f (take i ks) +ℤ f (get_or ks i k) ≡ int_sum_by f (take (i + 1) ks)
+int_sum_by-more f ks i k lt = sym (ap (int_sum_by f) (take_more ks i k lt) ∙ int_sum_by-push f (take i ks) (get_or ks i k))
 
 -- a sum over the parcels of a table can be printed
 pub sum-small : (d : ℤ) (n : ℕ) → n ≤ most_rows → nat_abs d ≤ most_area * n → nat_abs d ≤ 10 ^ 36
@@ -32,9 +32,9 @@ sum-small d n few small = omega (arith, few, small)
 
 -- the sum so far, and one parcel more
 pub sum-goes-on : (f : Parcel → ℤ) (ks : List Parcel) (i : ℕ) (k d : Parcel) (sum part new : ℤ) → i < length ks → k ≡ get_or ks i d → new ≡ sum +ℤ part
-    → sum ≡ sum_over f (take i ks) → part ≡ f k → new ≡ sum_over f (take (i + 1) ks)
+    → sum ≡ int_sum_by f (take i ks) → part ≡ f k → new ≡ int_sum_by f (take (i + 1) ks)
 sum-goes-on f ks i k d sum part new lt is added so_far this =
-    added ∙ ap (λ (z : ℤ). z +ℤ part) so_far ∙ ap (λ (z : ℤ). sum_over f (take i ks) +ℤ z) (this ∙ ap f is) ∙ sum_over-more f ks i d lt
+    added ∙ ap (λ (z : ℤ). z +ℤ part) so_far ∙ ap (λ (z : ℤ). int_sum_by f (take i ks) +ℤ z) (this ∙ ap f is) ∙ int_sum_by-more f ks i d lt
 
 -- the texts so far, and one item's more
 pub text-goes-on : {A : Type 0} (f : A → List ℕ) (ks : List A) (i : ℕ) (k d : A) (start now next : Option (List ℕ)) → i < length ks → k ≡ get_or ks i d

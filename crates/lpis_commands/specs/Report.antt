@@ -2,16 +2,12 @@
 use Rattle.std.specs.Prelude.{◌++◌, ◌∷◌, [], ◌+ℤ◌, ℕ, ℤ, pos, List, codes, length}
 use Rattle.std.specs.Fmt.{decimal}
 use Rattle.std.specs.List.{flat_map}
+use Rattle.lpis_points.specs.Sums.{int_sum_by}
 use Rattle.lpis_rings.specs.Area.{area2}
 use Rattle.lpis_parcels.specs.declared.parcel.Parcel.{Parcel}
 use Rattle.lpis_parcels.specs.Eligible.{eligible2}
 use Rattle.lpis_parcels.specs.Release.{Contents}
 use Rattle.lpis_commands.specs.Area.{area_text}
-
--- a number of each parcel, over all parcels
-abbrev pub sum_over : (Parcel → ℤ) → List Parcel → ℤ
-sum_over f [] = pos 0
-sum_over f (k ∷ ks) = f k +ℤ sum_over f ks
 
 -- an area and how much of it is eligible, up to the end of the line
 unfoldable pub areas_text : ℤ → ℤ → List ℕ
@@ -29,8 +25,8 @@ parcel_line r k = codes "parcel " ++ k.id ++ areas_text (area2 k.polygon) (eligi
 
 -- the line of all parcels together
 abbrev pub total_line : Contents → List ℕ
-total_line r = codes "total" ++ areas_text (sum_over (λ k. area2 k.polygon) r.parcels)
-    (sum_over (λ k. eligible2 r k.id) r.parcels)
+total_line r = codes "total" ++ areas_text (int_sum_by (λ k. area2 k.polygon) r.parcels)
+    (int_sum_by (λ k. eligible2 r k.id) r.parcels)
 
 -- the report: the counts, a line a parcel in the order of the table, the sums over all parcels, and
 -- the yes

@@ -10,7 +10,7 @@ ghost use Rattle.lpis_parcels.specs.Eligible.{eligible2};
 ghost use Rattle.lpis_rings.specs.Area.{area2};
 ghost use Rattle.lpis_rings.specs.AreaBounds.{most_area};
 ghost use Rattle.lpis_commands.specs.Report.{areas_text, counts_line, parcel_line, report_text};
-ghost use Rattle.lpis_commands.specs.Report.{sum_over};
+ghost use Rattle.lpis_points.specs.Sums.{int_sum_by};
 
 use crate::printing::{PrintFault, print_area};
 use lpis_checker::Yes;
@@ -110,10 +110,10 @@ fn print_parcel<W: Write>(
 /// Writes the line of each parcel, and answers the sums of their areas.
 fn print_parcels<W: Write>(release: &Release, out: &mut W) -> Result<Areas, PrintFault>
     requires { AreasAdd release.now }
-    ensures area { IfOk result (λ a. (a.area ≡ sum_over (λ k. area2 k.polygon) release.now.parcels)
+    ensures area { IfOk result (λ a. (a.area ≡ int_sum_by (λ k. area2 k.polygon) release.now.parcels)
         × (nat_abs a.area ≤ 10 ^ 36)) }
     ensures eligible { IfOk result
-        (λ a. (a.eligible ≡ sum_over (λ k. eligible2 release.now k.id) release.now.parcels)
+        (λ a. (a.eligible ≡ int_sum_by (λ k. eligible2 release.now k.id) release.now.parcels)
         × (nat_abs a.eligible ≤ 10 ^ 36)) }
     ensures text { OnOk result (Appends (W.contents out.old) (W.contents out.new)
         (flat_map (parcel_line release.now) release.now.parcels)) }

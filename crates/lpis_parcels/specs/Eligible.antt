@@ -2,6 +2,7 @@
 use Rattle.std.specs.Prelude.{ℤ, pos, ◌+ℤ◌, Bool, false, ℕ, List, [], ◌∷◌, Option, Some, None}
 use Rattle.std.specs.Prelude.{filter}
 use Rattle.std.specs.List.{find}
+use Rattle.lpis_points.specs.Sums.{int_sum_by}
 use Rattle.lpis_covers.specs.declared.class.Class.{Class}
 use Rattle.lpis_covers.specs.declared.piece.Piece.{Piece}
 use Rattle.lpis_covers.specs.Ids.{same_id}
@@ -22,8 +23,7 @@ is_eligible classes piece = eligible_mark (class_named classes piece.class)
 
 -- the doubled areas of pieces, added
 abbrev pub areas2 : List Piece → ℤ
-areas2 [] = pos 0
-areas2 (p ∷ ps) = area2 p.polygon +ℤ areas2 ps
+areas2 ps = int_sum_by (λ (p : Piece). area2 p.polygon) ps
 
 -- the doubled eligible area of a parcel: that of its pieces whose class is eligible
 abbrev pub eligible2 : Contents → List ℕ → ℤ

@@ -2,6 +2,7 @@
 use Rattle.std.specs.Prelude.{ℤ, pos, ◌+ℤ◌, ◌-ℤ◌, nat_abs, List, [], ◌∷◌}
 use Rattle.lpis_points.specs.declared.point.Point.{Point}
 use Rattle.lpis_points.specs.Plane.{shoelace_term}
+use Rattle.lpis_points.specs.Sums.{int_sum_by}
 use Rattle.lpis_points.specs.Chain.{edge_sum}
 use Rattle.lpis_rings.specs.declared.polygon.Member.{Member}
 
@@ -18,8 +19,7 @@ shoelace ring = edge_sum shoelace_term (steps ring)
 
 -- the absolute sums of rings
 abbrev pub absolute_sums : List (List Point) → ℤ
-absolute_sums [] = pos 0
-absolute_sums (ring ∷ rings) = pos (nat_abs (shoelace ring)) +ℤ absolute_sums rings
+absolute_sums rings = int_sum_by (λ (ring : List Point). pos (nat_abs (shoelace ring))) rings
 
 -- twice the area of a member: the absolute sum of its shell less those of its holes
 abbrev pub member_area2 : Member → ℤ
@@ -27,5 +27,4 @@ member_area2 m = pos (nat_abs (shoelace m.shell)) -ℤ absolute_sums m.holes
 
 -- twice the area of a polygon
 abbrev pub area2 : List Member → ℤ
-area2 [] = pos 0
-area2 (m ∷ ms) = member_area2 m +ℤ area2 ms
+area2 ms = int_sum_by member_area2 ms

@@ -6,6 +6,7 @@ use Rattle.lpis_points.specs.declared.triangle.Triangle.{Triangle}
 use Rattle.lpis_points.specs.Plane.{RationalPoint, orient, same_point, shoelace_term}
 use Rattle.lpis_points.specs.Triangles.{triangle_edges, IsCounterClockwise, IsFlat, is_inside}
 use Rattle.lpis_points.specs.Triangles.{Separates, are_apart}
+use Rattle.lpis_points.specs.Sums.{int_sum_by}
 use Rattle.lpis_points.specs.Chain.{edge_sum, SameNet}
 use Rattle.lpis_rings.specs.Edges.{edge_turns}
 
@@ -15,8 +16,7 @@ edges_of_triangles ts = flat_map triangle_edges ts
 
 -- the doubled areas of triangles, added
 abbrev pub triangle_areas : List Triangle → ℤ
-triangle_areas [] = pos 0
-triangle_areas (t ∷ ts) = orient t.a t.b t.c +ℤ triangle_areas ts
+triangle_areas ts = int_sum_by (λ (t : Triangle). orient t.a t.b t.c) ts
 
 -- how many of the triangles have the point inside
 abbrev pub inside_count : List Triangle → RationalPoint → ℕ
@@ -56,13 +56,11 @@ all_edges (p ∷ ps) = p.edges ++ all_edges ps
 
 -- how often the edges of pieces turn round a point, added
 abbrev pub all_turns : List CutPiece → RationalPoint → ℤ
-all_turns [] s = pos 0
-all_turns (p ∷ ps) s = edge_turns p.edges s +ℤ all_turns ps s
+all_turns ps s = int_sum_by (λ (p : CutPiece). edge_turns p.edges s) ps
 
 -- the sums of the shoelace terms of the edges of pieces, added
 abbrev pub all_areas : List CutPiece → ℤ
-all_areas [] = pos 0
-all_areas (p ∷ ps) = edge_sum shoelace_term p.edges +ℤ all_areas ps
+all_areas ps = int_sum_by (λ (p : CutPiece). edge_sum shoelace_term p.edges) ps
 
 -- 0 or 1
 abbrev pub IsOneOrNone : ℤ → Type 0

@@ -3,6 +3,7 @@ use Rattle.std.specs.Prelude.{◌≡◌, ℕ, ◌+◌, ◌<◌, ℤ, pos, negsuc
 use Rattle.std.specs.Prelude.{◌&&◌, cond, List, [], ◌∷◌, slice_get, Option, Some, None, not, ◌⊎◌}
 use Rattle.std.specs.declared.cmp.Ordering.{Ordering}
 use Rattle.std.specs.Ordering.{is_lt, ordering_then, int_cmp}
+use Rattle.lpis_points.specs.Sums.{int_sum_by}
 use Rattle.lpis_points.specs.declared.point.Point.{Point}
 use Rattle.lpis_points.specs.Plane.{same_point}
 use Rattle.lpis_points.specs.Chain.{net_count}
@@ -18,8 +19,7 @@ is_at a b x = same_point a x.low && same_point b x.high
 
 -- the signs of the edges between a and b
 abbrev pub sum_at : Point → Point → List SignedEdge → ℤ
-sum_at a b [] = pos 0
-sum_at a b (x ∷ xs) = cond (is_at a b x) (weight x) (pos 0) +ℤ sum_at a b xs
+sum_at a b xs = int_sum_by (λ (x : SignedEdge). cond (is_at a b x) (weight x) (pos 0)) xs
 
 abbrev pub SumsAreZero : List SignedEdge → Type 0
 SumsAreZero xs = (a b : Point) → sum_at a b xs ≡ pos 0

@@ -4,13 +4,14 @@ use Rattle.std.specs.List.{flat_map}
 use Rattle.lpis_parcels.specs.Eligible.{eligible2}
 use Rattle.lpis_rings.specs.Area.{area2}
 use Rattle.lpis_rings.specs.AreaBounds.{most_area}
-use Rattle.lpis_commands.specs.Report.{parcel_line, sum_over}
+use Rattle.lpis_points.specs.Sums.{int_sum_by}
+use Rattle.lpis_commands.specs.Report.{parcel_line}
 use Rattle.lpis_commands.proofs.report.print_parcels.Given as goal
 
 abbrev pub invariant-loop-count : goal.invariant-loop-count
 invariant-loop-count g l =
-    (l.sum.area ≡ sum_over (λ k. area2 k.polygon) (take l.count l.parcel-items))
-    × (l.sum.eligible ≡ sum_over (λ k. eligible2 l.release k.id) (take l.count l.parcel-items))
+    (l.sum.area ≡ int_sum_by (λ k. area2 k.polygon) (take l.count l.parcel-items))
+    × (l.sum.eligible ≡ int_sum_by (λ k. eligible2 l.release k.id) (take l.count l.parcel-items))
     × (nat_abs l.sum.area ≤ most_area * l.count)
     × (nat_abs l.sum.eligible ≤ most_area * l.count)
     × Appends (g.W.Write.contents l.fn.out) (g.W.Write.contents l.out) (flat_map (parcel_line l.release) (take l.count l.parcel-items))
