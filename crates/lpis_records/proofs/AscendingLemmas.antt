@@ -2,7 +2,7 @@
 use Rattle.std.proofs.Common.{◌≡◌, ◌∙◌, ◌<◌, ◌⊎◌, inl, inr, refl, sym, ap₂, subst, arith, ℤ, pos, negsuc, List, [], ◌∷◌, ◌++◌, IsPermutation}
 use Rattle.std.specs.List.{AllByRecursion}
 use Rattle.std.proofs.lemmas.List.Elements.{All-from_recursion, recursion_from_All}
-use Rattle.std.proofs.lemmas.List.Sorted.{All-permutation, IsPermutation-sym}
+use Rattle.std.proofs.lemmas.List.Sorted.{All-permutation, IsPermutation-sym, IsPermutation-trans}
 
 abbrev pub Ascends : {A : Type 0} → (A → A → Type 0) → List A → Type 0
 Ascends R [] = Unit {0}
@@ -71,3 +71,6 @@ pub below-alone : (x y : ℤ) → below x y → below y x → ⊥
 below-alone (pos a) (pos b) r s = omega arith
 below-alone (pos a) (negsuc b) r s = r
 below-alone (negsuc a) z r s = r
+
+pub both-orders : {A : Type 0} (xs ys zs : List A) → IsPermutation xs ys → IsPermutation xs zs → IsPermutation ys zs
+both-orders xs ys zs a b = IsPermutation-trans ys xs zs (IsPermutation-sym xs ys a) b

@@ -7,6 +7,8 @@ use Rattle.std.specs.Cmp.Lexicographic.{slice_cmp, nat_list_cmp_total, nat_list_
 use Rattle.std.proofs.lemmas.List.Elements.{All-contains, All-from_recursion}
 use Rattle.std.proofs.lemmas.List.Kept.{Contains-dedup, Contains-from_dedup, IsStrictlySortedBy-dedup}
 use Rattle.std.proofs.lemmas.List.Sorted.{list_any-IsPermutation}
+use Rattle.std.specs.Cmp.{both_ways}
+use Rattle.std.proofs.lemmas.Bool.{or_right}
 use Rattle.lpis_covers.specs.Ids.{has_id, is_id, same_id}
 use Rattle.lpis_lineage.specs.declared.row.Entry.{Entry}
 use Rattle.lpis_lineage.specs.Spans.{span_of}
@@ -16,13 +18,9 @@ use Rattle.lpis_records.specs.Tells.{IsFresh}
 
 pub has-contained : (xs : List (List ℕ)) (q : List ℕ) → Contains xs q → has_id xs q ≡ true
 has-contained xs q there = All-contains (λ z. has_id xs z ≡ true) xs q (All-from_recursion (λ z. has_id xs z ≡ true) xs (among xs (λ z h. h))) there where
-  or-right : (a b : Bool) → b ≡ true → (a || b) ≡ true
-  or-right true b h = refl
-  or-right false b h = h
-
   among : (ys : List (List ℕ)) → ((z : List ℕ) → has_id ys z ≡ true → has_id xs z ≡ true) → AllByRecursion (λ z. has_id xs z ≡ true) ys
   among [] f = tt
-  among (y ∷ ys) f = (f y (ap (λ (b : Bool). b || has_id ys y) (same-refl y)), among ys (λ z h. f z (or-right (same_id z y) (has_id ys z) h)))
+  among (y ∷ ys) f = (f y (ap (λ (b : Bool). b || has_id ys y) (same-refl y)), among ys (λ z h. f z (or_right (same_id z y) (has_id ys z) h)))
 
 pub contained-has : (xs : List (List ℕ)) (q : List ℕ) → has_id xs q ≡ true → Contains xs q
 contained-has [] q h = cc h
@@ -31,13 +29,8 @@ contained-has (x ∷ xs) q h = by (contained-has xs q) (same_id q x) refl h wher
   by ih true e h = (0, omega arith, sym (same-exact q x (sym e)))
   by ih false e h = let c = ih h in (suc c.0, (let lt = c.1 in omega (arith, lt)), c.2)
 
-pub same-truth : (a b : Bool) → (a ≡ true → b ≡ true) → (b ≡ true → a ≡ true) → a ≡ b
-same-truth true b f g = sym (f refl)
-same-truth false true f g = g refl
-same-truth false false f g = refl
-
 pub has-dedup : (xs : List (List ℕ)) (q : List ℕ) → has_id (dedup same_id xs) q ≡ has_id xs q
-has-dedup xs q = same-truth (has_id (dedup same_id xs) q) (has_id xs q)
+has-dedup xs q = both_ways (has_id (dedup same_id xs) q) (has_id xs q)
     (λ h. has-contained xs q (Contains-from_dedup same_id xs q (contained-has (dedup same_id xs) q h)))
     (λ h. has-contained (dedup same_id xs) q (Contains-dedup nat_list_eq_equiv same-exact xs q (contained-has xs q h)))
 

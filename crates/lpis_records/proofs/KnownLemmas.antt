@@ -6,8 +6,10 @@ use Rattle.std.specs.Ordering.{is_eq, nat_cmp}
 use Rattle.std.specs.Cmp.Lexicographic.{slice_cmp}
 use Rattle.std.proofs.lemmas.Grind.{common_steps}
 use Rattle.std.proofs.lemmas.Bool.Decides.{nat_tests}
-use Rattle.std.proofs.lemmas.List.{map-append, take-append-drop}
+use Rattle.std.proofs.lemmas.List.{map-append, take-append-drop, append_assoc}
 use Rattle.std.proofs.lemmas.List.Elements.{All-push}
+use Rattle.std.proofs.lemmas.Bool.{not-false}
+use Rattle.std.proofs.Math.Bool.{and-true, and-false, or-false}
 use Rattle.lpis_covers.specs.Ids.{has_id, is_id, same_id}
 use Rattle.lpis_lineage.specs.declared.row.Row.{Row}
 use Rattle.lpis_lineage.proofs.IdentifierLemmas.{add-by_order, has-by_order, same-exact, same-refl, same-sym}
@@ -101,26 +103,11 @@ seen-twice spans i s old id added lt at is add isnt seen few =
     let whole = filter-append (λ (t : KnownSpan). same_id s.id t.id) (take (i + 1) spans) (drop (i + 1) spans) in
     let joined = ap (λ (l : List KnownSpan). length (filter (λ t. same_id s.id t.id) l)) (take-append-drop (i + 1) spans) in
     let f = few s.id in
-    absurd (omega (arith, some, one, first, read, whole, joined, f)) where
-      not-false : (b : Bool) → not b ≡ false → b ≡ true
-      not-false true e = refl
-      not-false false e = cc e
+    absurd (omega (arith, some, one, first, read, whole, joined, f))
 
 -- the identifiers whose span covers a year, one further
 abbrev pub AreLive : List (List ℕ) → ℕ → List KnownSpan → Type 0
 AreLive ids year spans = (id : List ℕ) → has_id ids id ≡ list_any (λ s. same_id id s.id && covers (span_in s) year) spans
-
-and-false : (b : Bool) → (b && false) ≡ false
-and-false true = refl
-and-false false = refl
-
-and-true : (b : Bool) → (b && true) ≡ b
-and-true true = refl
-and-true false = refl
-
-or-false : (b : Bool) → (b || false) ≡ b
-or-false true = refl
-or-false false = refl
 
 pub live-then : (spans : List KnownSpan) (i : ℕ) (s : KnownSpan) (ids new : List (List ℕ)) (id : List ℕ) (year : ℕ) → i < length spans
     → s ≡ get_or spans i s → covers (span_in s) year ≡ true → id ≡ s.id → new ≡ ids ++ id ∷ [] → AreLive ids year (take i spans)
@@ -153,10 +140,6 @@ take-whole {A = A} (x ∷ xs) (suc i) le = ap (λ (l : List A). x ∷ l) (take-w
 pub all-whole : {A : Type 0} (P : A → Type 0) (xs : List A) (i : ℕ) → length xs ≤ i → All P (take i xs) → All P xs
 all-whole P xs i le all = subst (All P) (take-whole xs i le) all
 
-append-assoc : {A : Type 0} (xs ys zs : List A) → (xs ++ ys) ++ zs ≡ xs ++ (ys ++ zs)
-append-assoc [] ys zs = refl
-append-assoc {A = A} (x ∷ xs) ys zs = ap (λ (l : List A). x ∷ l) (append-assoc xs ys zs)
-
 lines-push : (y : ℤ) (n m : ℕ) (rs : List Row) (r : Row) → m ≡ n + length rs → lines_from y n (rs ++ r ∷ []) ≡ lines_from y n rs ++ lines_from y m (r ∷ [])
 lines-push y n m [] r e = let s : n ≡ m = omega (arith, e) in ap (λ (k : ℕ). lines_from y k (r ∷ [])) s
 lines-push y n m (q ∷ rs) r e = ap (λ (l : List Line). (record { year = y; place = pos n; old = q.old; new = text_of q.new }) ∷ l) (lines-push y (n + 1) m rs r (omega (arith, e)))
@@ -165,5 +148,5 @@ lines-push y n m (q ∷ rs) r e = ap (λ (l : List Line). (record { year = y; pl
 pub rows-more : (y : ℤ) (front here next : List Line) (rs new : List Row) (r : Row) (m : ℕ) → here ≡ front ++ lines_from y 0 rs
     → next ≡ here ++ lines_from y m (r ∷ []) → m ≡ length rs → new ≡ rs ++ r ∷ [] → next ≡ front ++ lines_from y 0 new
 rows-more y front here next rs new r m h n e w =
-    n ∙ ap (λ (l : List Line). l ++ lines_from y m (r ∷ [])) h ∙ append-assoc front (lines_from y 0 rs) (lines_from y m (r ∷ []))
+    n ∙ ap (λ (l : List Line). l ++ lines_from y m (r ∷ [])) h ∙ append_assoc front (lines_from y 0 rs) (lines_from y m (r ∷ []))
     ∙ ap (λ (l : List Line). front ++ l) (sym (lines-push y 0 m rs r (omega (arith, e))) ∙ ap (lines_from y 0) (sym w))

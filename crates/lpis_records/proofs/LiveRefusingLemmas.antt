@@ -5,12 +5,13 @@ use Rattle.std.specs.List.{All, AllByRecursion, Contains, list_any}
 use Rattle.std.specs.List.Sorted.{IsSortedByKey}
 use Rattle.std.proofs.lemmas.List.{get_or_default, map-append}
 use Rattle.std.proofs.lemmas.List.Elements.{All-from_recursion, Contains-get_or, Contains-push_cases, recursion_from_All}
+use Rattle.std.specs.Cmp.{both_ways}
+use Rattle.std.proofs.lemmas.Bool.{and_parts}
 use Rattle.lpis_covers.specs.Ids.{is_id, same_id}
 use Rattle.lpis_lineage.specs.declared.row.Entry.{Entry}
 use Rattle.lpis_lineage.specs.Lawful.{IsLawful}
 use Rattle.lpis_lineage.specs.Lineage.{entry_at, holds}
-use Rattle.lpis_lineage.proofs.IdentifierLemmas.{and-left, and-right, same-exact, same-refl}
-use Rattle.lpis_lineage.proofs.ExtensionLemmas.{place}
+use Rattle.lpis_lineage.proofs.IdentifierLemmas.{same-exact, same-refl}
 use Rattle.lpis_lineage.proofs.TellingLemmas.{take-at}
 use Rattle.lpis_records.specs.declared.known.KnownLine.{KnownLine}
 use Rattle.lpis_records.specs.declared.known.KnownSpan.{KnownSpan}
@@ -19,25 +20,19 @@ use Rattle.lpis_records.specs.Tells.{IsKept, LiveTells, TellsLive, years_of}
 use Rattle.lpis_records.specs.private.Covering.{covers}
 use Rattle.lpis_records.specs.private.Fronts.{IsSaid}
 use Rattle.lpis_records.specs.private.Known.{HasText, SetsAre, line_cmp, line_in, one_year, span_in}
-use Rattle.lpis_records.proofs.FreshLemmas.{same-truth}
-use Rattle.lpis_records.proofs.LiveRowLemmas.{above-zero, any-contains, covered, covers-one, one-covers, some-contained}
+use Rattle.lpis_records.proofs.LiveRowLemmas.{any-contains, covered, covers-one, one-covers, some-contained, since_of, rest_of}
 use Rattle.lpis_records.proofs.RefusingLemmas.{told-sorted-lines}
 use Rattle.lpis_records.proofs.NextReleaseLemmas.{any-map}
+use Rattle.lpis_lineage.proofs.SpanLemmas.{above-zero}
+use Rattle.lpis_records.proofs.OneHistoryLemmas.{same-place}
 
 pub live-ids : (h : List Entry) (live : List Live) → IsKept h → LiveTells live h → All (λ l. is_id l.id ≡ true) live
 live-ids h live kept t k d lt = let r = t.right (get_or live k d) (Contains-get_or live k d lt) in kept.ids (get_or live k d).id r.0 r.3
 
 -- ---- sets
 
--- two releases of one year are one
-same-place : (h : List Entry) → IsLawful h → (i j : ℕ) → i < length h → j < length h → (entry_at h i).year ≡ (entry_at h j).year → i ≡ j
-same-place h law i j il jl e = elim (place i j) as (λ _. i ≡ j) [
-  | inl lt ↦ absurd (let r = law.years_rise i j lt jl in omega (arith, e, r))
-  | inr r ↦ elim r as (λ _. i ≡ j) [ inl at ↦ at | inr gt ↦ absurd (let r = law.years_rise j i gt il in omega (arith, e, r)) ]
-]
-
 live-sets : (h : List Entry) (live : List Live) → IsLawful h → LiveTells live h → SetsAre (map one_year live) h
-live-sets h live law t i lt id = same-truth (holds h i id) (list_any (λ s. same_id id s.id && covers s (entry_at h i).year) (map one_year live)) to from where
+live-sets h live law t i lt id = both_ways (holds h i id) (list_any (λ s. same_id id s.id && covers s (entry_at h i).year) (map one_year live)) to from where
   test : Live → Bool
   test l = same_id id l.id && covers (one_year l) (entry_at h i).year
 
@@ -57,9 +52,9 @@ live-sets h live law t i lt id = same-truth (holds h i id) (list_any (λ s. same
       let l : Live = found.0 in
       let r = t.right l found.1 in
       let m : ℕ = (entry_at h r.0).year in
-      let covering : covers (one_year l) y ≡ true = and-right (same_id id l.id) (covers (one_year l) y) found.2 in
+      let covering : covers (one_year l) y ≡ true = (and_parts (same_id id l.id) (covers (one_year l) y) found.2).1 in
       let same : m ≡ y = one-covers m y (sym (covered l m y r.2) ∙ covering) (above-zero h law r.0 r.1) in
-      ap₂ (λ (k : ℕ) (q : List ℕ). holds h k q) (sym (same-place h law r.0 i r.1 lt same)) (same-exact id l.id (and-left (same_id id l.id) (covers (one_year l) y) found.2)) ∙ r.3
+      ap₂ (λ (k : ℕ) (q : List ℕ). holds h k q) (sym (same-place h law r.0 i r.1 lt same)) (same-exact id l.id (and_parts (same_id id l.id) (covers (one_year l) y) found.2).0) ∙ r.3
 
 pub live-said : (c : Content) (h : List Entry) (spans : List KnownSpan) (lines : List KnownLine) → TellsLive c h
     → map span_in spans ≡ map one_year c.live → IsPermutation c.lines (map line_in lines) → IsSortedByKey line_in line_cmp lines
@@ -81,20 +76,12 @@ year-contained (x ∷ h) (suc i) lt = let r = year-contained h i (omega (arith, 
 all-years : (h : List Entry) (live : List Live) → LiveTells live h → All (λ l. Contains (years_of h) l.year) live
 all-years h live t k d lt = let r = t.right (get_or live k d) (Contains-get_or live k d lt) in subst (Contains (years_of h)) (sym r.2) (year-contained h r.0 r.1)
 
-abbrev since_in : List StoredSpan → ℤ
-since_in [] = pos 0
-since_in (s ∷ ss) = s.since
-
-abbrev rest_in : List StoredSpan → List StoredSpan
-rest_in [] = []
-rest_in (s ∷ ss) = ss
-
 since-years : (spans : List KnownSpan) (live : List Live) (ys : List ℤ) → map span_in spans ≡ map one_year live
     → AllByRecursion (λ l. Contains ys l.year) live → AllByRecursion (λ s. Contains ys s.since) spans
 since-years [] [] ys e all = tt
 since-years [] (l ∷ ls) ys e all = absurd cc
 since-years (s ∷ ss) [] ys e all = absurd cc
-since-years (s ∷ ss) (l ∷ ls) ys e all = (subst (Contains ys) (sym (ap since_in e)) all.0, since-years ss ls ys (ap rest_in e) all.1)
+since-years (s ∷ ss) (l ∷ ls) ys e all = (subst (Contains ys) (sym (ap since_of e)) all.0, since-years ss ls ys (ap rest_of e) all.1)
 
 pub live-years : (h : List Entry) (live : List Live) (spans : List KnownSpan) (ys : List ℤ) → LiveTells live h → map span_in spans ≡ map one_year live
     → years_of h ≡ ys → All (λ s. Contains ys s.since) spans

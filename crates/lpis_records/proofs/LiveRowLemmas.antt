@@ -7,6 +7,7 @@ use Rattle.std.specs.Int.Signed.{le_z}
 use Rattle.std.proofs.lemmas.Bool.Decides.{nat_tests}
 use Rattle.std.proofs.lemmas.List.{map-append}
 use Rattle.std.proofs.lemmas.List.Elements.{All-contains, All-from_recursion, All-push, recursion_from_All}
+use Rattle.std.proofs.lemmas.Bool.{and_parts}
 use Rattle.lpis_covers.specs.Ids.{is_id, same_id}
 use Rattle.lpis_lineage.specs.declared.row.Entry.{Entry}
 use Rattle.lpis_lineage.specs.Lawful.{IsLawful, RowsFit}
@@ -21,6 +22,8 @@ use Rattle.lpis_records.specs.private.Covering.{covers}
 use Rattle.lpis_records.specs.private.Known.{SetsAre, line_in, one_year, span_in}
 use Rattle.lpis_records.proofs.OneHistoryLemmas.{covers-years}
 use Rattle.lpis_records.proofs.SayingLemmas.{kept-said}
+use Rattle.lpis_lineage.proofs.SpanLemmas.{above-zero}
+use Rattle.lpis_records.proofs.NextReleaseLemmas.{any-map}
 
 pub lives-more : (rows : List Live) (i : ℕ) (row : Live) (known new : List KnownSpan) (s : KnownSpan) → i < length rows → row ≡ get_or rows i row
     → span_in s ≡ one_year row → is_id s.id ≡ true → new ≡ known ++ s ∷ []
@@ -59,17 +62,9 @@ one-covers m y e p = grind (arith, nat_tests)
 pub covers-one : (m : ℕ) → (nat_le m m && (nat_eq m 0 || nat_le m m)) ≡ true
 covers-one m = grind (arith, nat_tests)
 
-pub above-zero : (h : List Entry) → IsLawful h → (i : ℕ) → i < length h → 0 < (entry_at h i).year
-above-zero h law zero lt = law.first_year lt
-above-zero h law (suc i) lt = let r = law.years_rise 0 (suc i) (omega arith) lt in omega (arith, r)
-
 -- a live row covers one year
 pub covered : (l : Live) (m y : ℕ) → l.year ≡ pos m → covers (one_year l) y ≡ (nat_le m y && (nat_eq m 0 || nat_le y m))
 covered l m y e = ap (λ (z : ℤ). le_z z (pos y) && (int_eq z (pos 0) || le_z (pos y) z)) e ∙ covers-years (record { first = m; last = m }) y
-
-any-map : {A B : Type 0} (p : B → Bool) (f : A → B) (xs : List A) → list_any p (map f xs) ≡ list_any (λ x. p (f x)) xs
-any-map p f [] = refl
-any-map p f (x ∷ xs) = ap (λ (b : Bool). p (f x) || b) (any-map p f xs)
 
 pub live-told : (h : List Entry) (live : List Live) → IsLawful h → SetsAre (map one_year live) h → ((l : Live) → Contains live l → Contains (years_of h) l.year) → LiveTells live h
 live-told h live law sets years = record { right = right; whole = whole } where
@@ -88,10 +83,6 @@ live-told h live law sets years = record { right = right; whole = whole } where
             ∙ any-contains (λ (m : Live). same_id l.id m.id && covers (one_year m) y) live l there passes,
       )
 
-  both-left : (a b : Bool) → (a && b) ≡ true → (a ≡ true) × (b ≡ true)
-  both-left true b e = (refl, e)
-  both-left false b e = cc e
-
   whole : (id : List ℕ) (i : ℕ) → holds h i id ≡ true → Contains live (record { year = pos (entry_at h i).year; id = id })
   whole id i held =
       let y : ℕ = (entry_at h i).year in
@@ -99,16 +90,16 @@ live-told h live law sets years = record { right = right; whole = whole } where
       (sym (any-map (λ (s : StoredSpan). same_id id s.id && covers s y) one_year live)
       ∙ sym (sets i (in-history h i id held) id) ∙ held) in
       let l : Live = found.0 in
-      let both = both-left (same_id id l.id) (covers (one_year l) y) found.2 in
+      let both = and_parts (same_id id l.id) (covers (one_year l) y) found.2 in
       let p = year-place h l.year (years l found.1) in
       let same : (entry_at h p.0).year ≡ y = one-covers (entry_at h p.0).year y (sym (covered l (entry_at h p.0).year y p.2) ∙ both.1) (above-zero h law p.0 p.1) in
       subst (Contains live) (ap₂ (λ (z : ℤ) (q : List ℕ). record { year = z; id = q }) (p.2 ∙ ap pos same) (sym (same-exact id l.id both.0))) found.1
 
-abbrev since_of : List StoredSpan → ℤ
+abbrev pub since_of : List StoredSpan → ℤ
 since_of [] = pos 0
 since_of (s ∷ ss) = s.since
 
-abbrev rest_of : List StoredSpan → List StoredSpan
+abbrev pub rest_of : List StoredSpan → List StoredSpan
 rest_of [] = []
 rest_of (s ∷ ss) = ss
 

@@ -2,15 +2,13 @@
 use Rattle.std.proofs.Common.{◌≡◌, ◌∙◌, refl, sym, ap, subst, arith, ℕ, pos, zero, suc, List, [], ◌∷◌, length, map, IsPermutation}
 use Rattle.std.specs.List.{Contains}
 use Rattle.std.proofs.lemmas.List.{append-nil}
-use Rattle.std.proofs.lemmas.List.Sorted.{IsPermutation-refl, IsPermutation-sym, IsPermutation-trans, Contains-permutation, length_permutation}
+use Rattle.std.proofs.lemmas.List.Sorted.{IsPermutation-refl, IsPermutation-sym, Contains-permutation, length_permutation}
 use Rattle.lpis_lineage.specs.declared.row.Entry.{Entry}
 use Rattle.lpis_records.specs.Content.{Content, Format, Live, StoredSpan, at_version, moved, no_content, with_version, without_live, without_spans}
 use Rattle.lpis_records.specs.Tells.{IsSameContent, LiveTells, SpansTell, Tells, TellsLive, only_format}
 use Rattle.lpis_records.proofs.FoldLemmas.{rev-moved, rev_onto, whole-spans-made}
 use Rattle.lpis_records.proofs.SpanRowLemmas.{spans-moved}
-
-moved-from : {A : Type 0} (xs ys zs : List A) → IsPermutation xs ys → IsPermutation xs zs → IsPermutation ys zs
-moved-from xs ys zs a b = IsPermutation-trans ys xs zs (IsPermutation-sym xs ys a) b
+use Rattle.lpis_records.proofs.AscendingLemmas.{both-orders}
 
 -- one row stays one row
 one-format : (fs gs : List Format) (version : ℕ) → IsPermutation fs gs → fs ≡ only_format version → gs ≡ only_format version
@@ -28,9 +26,9 @@ pub reordered-tells : (c d : Content) (h : List Entry) → IsSameContent c d →
 reordered-tells c d h m t = record {
   kept = t.kept;
   formats_are = one-format c.formats d.formats 2 m.formats t.formats_are;
-  years_are = moved-from c.years d.years _ m.years t.years_are;
+  years_are = both-orders c.years d.years _ m.years t.years_are;
   spans_are = spans-moved c.spans d.spans h m.spans t.spans_are;
-  lines_are = moved-from c.lines d.lines _ m.lines t.lines_are;
+  lines_are = both-orders c.lines d.lines _ m.lines t.lines_are;
 }
 
 live-moved : (xs ys : List Live) (h : List Entry) → IsPermutation xs ys → LiveTells xs h → LiveTells ys h
@@ -43,9 +41,9 @@ pub reordered-tells-live : (c d : Content) (h : List Entry) → IsSameContent c 
 reordered-tells-live c d h m t = record {
   kept = t.kept;
   formats_are = one-format c.formats d.formats 1 m.formats t.formats_are;
-  years_are = moved-from c.years d.years _ m.years t.years_are;
+  years_are = both-orders c.years d.years _ m.years t.years_are;
   live_are = live-moved c.live d.live h m.live t.live_are;
-  lines_are = moved-from c.lines d.lines _ m.lines t.lines_are;
+  lines_are = both-orders c.lines d.lines _ m.lines t.lines_are;
 }
 
 pub moved-tells : (c : Content) (spans : List StoredSpan) (h : List Entry) → TellsLive c h → SpansTell spans h → Tells (moved spans c) h

@@ -1,13 +1,14 @@
 -- Tables say one history.
 use Rattle.std.proofs.Common.{◌≡◌, ◌∙◌, ◌<◌, ◌≤◌, ◌+◌, inl, inr, refl, sym, ap, ap₂, subst, arith, ℕ, zero, suc, ℤ, pos, List, [], ◌∷◌, ◌++◌, Bool, true, false, length, Option, None, Some}
-use Rattle.std.proofs.Common.{IsPermutation}
 use Rattle.std.specs.Prelude.{◌&&◌, ◌||◌, nat_le, nat_eq}
 use Rattle.std.specs.Ordering.{int_eq}
 use Rattle.std.specs.Int.Signed.{le_z}
 use Rattle.std.specs.List.{AllByRecursion, list_any}
-use Rattle.std.proofs.lemmas.List.Sorted.{IsPermutation-sym, IsPermutation-trans}
 use Rattle.std.proofs.lemmas.Int.{ints}
 use Rattle.std.proofs.lemmas.Bool.Decides.{nat_tests}
+use Rattle.std.specs.Cmp.{both_ways}
+use Rattle.std.proofs.lemmas.Bool.{or_left, or_right}
+use Rattle.std.proofs.Math.Bool.{and-false}
 use Rattle.lpis_covers.specs.Ids.{has_id, is_id, same_id}
 use Rattle.lpis_lineage.specs.declared.row.Entry.{Entry}
 use Rattle.lpis_lineage.specs.declared.row.Row.{Row}
@@ -16,15 +17,15 @@ use Rattle.lpis_lineage.specs.Lawful.{IsLawful}
 use Rattle.lpis_lineage.specs.Lineage.{entry_at, holds, is_this, names}
 use Rattle.lpis_lineage.specs.Spans.{in_span, span_of}
 use Rattle.lpis_lineage.proofs.IdentifierLemmas.{entry-after, in-history, same-exact}
-use Rattle.lpis_lineage.proofs.CleanLemmas.{or-left, or-right}
 use Rattle.lpis_lineage.proofs.ExtensionLemmas.{place}
 use Rattle.lpis_lineage.proofs.SpanLemmas.{span-tells}
 use Rattle.lpis_records.specs.Content.{Content, Line, Live, StoredSpan, lines_from, text_of}
 use Rattle.lpis_records.specs.Tells.{IsKept, IsSameHistory, IsSpanRow, LiveTells, SpansTell, Tells, TellsLive, lines_of, shown, years_of}
 use Rattle.lpis_records.specs.private.Covering.{covers}
 use Rattle.lpis_records.specs.private.Known.{HasText}
-use Rattle.lpis_records.proofs.AscendingLemmas.{Ascends, below, below-alone, same-ascending}
+use Rattle.lpis_records.proofs.AscendingLemmas.{Ascends, below, below-alone, same-ascending, both-orders}
 use Rattle.lpis_records.proofs.YearLemmas.{all-entries, line-alone, line_below, lines-above, lines-ascend, years-ascend}
+use Rattle.lpis_records.proofs.SayingLemmas.{rest}
 
 -- ---- sets
 
@@ -59,10 +60,6 @@ row-covers h law s is i lt = by (span_of h s.id) refl is where
 pub sets-told : (h : List Entry) (spans : List StoredSpan) → IsLawful h → SpansTell spans h → (i : ℕ) → i < length h → (id : List ℕ)
     → holds h i id ≡ list_any (λ s. same_id id s.id && covers s (entry_at h i).year) spans
 sets-told h spans law t i lt id = sym (with-test spans t.right ∙ by (list_any (λ s. same_id id s.id) spans) refl (holds h i id) refl) where
-  and-false : (b : Bool) → (b && false) ≡ false
-  and-false true = refl
-  and-false false = refl
-
   one : (s : StoredSpan) → IsSpanRow h s → (b : Bool) → b ≡ same_id id s.id → (same_id id s.id && covers s (entry_at h i).year) ≡ (same_id id s.id && holds h i id)
   one s is true e = ap (λ (b : Bool). same_id id s.id && b) (row-covers h law s is i lt ∙ ap (λ (q : List ℕ). holds h i q) (sym (same-exact id s.id (sym e))))
   one s is false e = ap (λ (b : Bool). b && covers s (entry_at h i).year) (sym e) ∙ ap (λ (b : Bool). b && holds h i id) e
@@ -88,8 +85,8 @@ rows-have-texts : (rows : List Row) → ((id : List ℕ) → list_any (names id)
 rows-have-texts [] f = tt
 rows-have-texts (r ∷ rs) f = (
   λ e. let n : names [] r ≡ true = ap (is_this []) e in let i =
-      f [] (or-left (names [] r) (list_any (names []) rs) n) in cc,
-  rows-have-texts rs (λ id n. f id (or-right (names id r) (list_any (names id) rs) n)),
+      f [] (or_left (names [] r) (list_any (names []) rs) n) in cc,
+  rows-have-texts rs (λ id n. f id (or_right (names id r) (list_any (names id) rs) n)),
 )
 
 pub have-texts : (h : List Entry) → IsKept h → AllByRecursion (λ e. AllByRecursion HasText e.rows) h
@@ -128,10 +125,6 @@ abbrev year_in : List ℤ → ℤ
 year_in [] = pos 0
 year_in (y ∷ ys) = y
 
-abbrev years_rest : List ℤ → List ℤ
-years_rest [] = []
-years_rest (y ∷ ys) = ys
-
 abbrev nat_in : ℤ → ℕ
 nat_in (pos n) = n
 nat_in z = 0
@@ -140,7 +133,7 @@ pub same-years : (h k : List Entry) → years_of h ≡ years_of k → (length h 
 same-years [] [] e = (refl, λ i. refl)
 same-years [] (y ∷ k) e = absurd cc
 same-years (x ∷ h) [] e = absurd cc
-same-years (x ∷ h) (y ∷ k) e = let more = same-years h k (ap years_rest e) in (ap suc more.0, by more.1) where
+same-years (x ∷ h) (y ∷ k) e = let more = same-years h k (ap rest e) in (ap suc more.0, by more.1) where
   by : ((i : ℕ) → (entry_at h i).year ≡ (entry_at k i).year) → (i : ℕ) → (entry_at (x ∷ h) i).year ≡ (entry_at (y ∷ k) i).year
   by more zero = ap (λ (l : List ℤ). nat_in (year_in l)) e
   by more (suc i) = more i
@@ -156,15 +149,12 @@ same-rows (x ∷ h) (y ∷ k) e a b f g l i =
     let both = rows-apart x.year 0 x.rows y.rows (lines_of h) (lines_of k) (lines-above (pos x.year) h a.0)
     (lines-above (pos x.year) k (subst (λ (z : ℤ). AllByRecursion (below z) (years_of k)) (sym at) b.0)) f.0 g.0
     (l ∙ ap (λ (z : ℤ). lines_from z 0 y.rows ++ lines_of k) (sym at)) in
-    by i both.0 (same-rows h k (ap years_rest e) a.1 b.1 f.1 g.1 both.1) where
+    by i both.0 (same-rows h k (ap rest e) a.1 b.1 f.1 g.1 both.1) where
       by : (i : ℕ) → x.rows ≡ y.rows → ((j : ℕ) → (entry_at h j).rows ≡ (entry_at k j).rows) → (entry_at (x ∷ h) i).rows ≡ (entry_at (y ∷ k) i).rows
       by zero now more = now
       by (suc j) now more = more j
 
 -- ---- the law
-
-both-orders : {A : Type 0} (xs ys zs : List A) → IsPermutation xs ys → IsPermutation xs zs → IsPermutation ys zs
-both-orders xs ys zs a b = IsPermutation-trans ys xs zs (IsPermutation-sym xs ys a) b
 
 pub one-history : (c : Content) (h k : List Entry) → Tells c h → Tells c k → IsSameHistory h k
 one-history c h k s t = record { lengths = alike.0; years = alike.1; sets = sets; rows = same-rows h k years up also (have-texts h s.kept) (have-texts k t.kept) lines } where
@@ -203,7 +193,7 @@ one-history c h k s t = record { lengths = alike.0; years = alike.1; sets = sets
 -- ---- the same of version 1
 
 -- years rise, so each has one place
-same-place : (h : List Entry) → IsLawful h → (i j : ℕ) → i < length h → j < length h → (entry_at h i).year ≡ (entry_at h j).year → i ≡ j
+pub same-place : (h : List Entry) → IsLawful h → (i j : ℕ) → i < length h → j < length h → (entry_at h i).year ≡ (entry_at h j).year → i ≡ j
 same-place h law i j a b e = elim (place i j) as (λ _. i ≡ j) [
   | inl lt ↦ absurd (let r = law.years_rise i j lt b in omega (arith, r, e))
   | inr r ↦ elim r as (λ _. i ≡ j) [
@@ -225,11 +215,6 @@ live-held h k live a b law lengths years i id held =
     let same = same-place k law i at.0 (omega (arith, lt, lengths)) at.1 year in
     ap (λ (n : ℕ). holds k n id) same ∙ at.3
 
-same-tests : (a b : Bool) → (a ≡ true → b ≡ true) → (b ≡ true → a ≡ true) → a ≡ b
-same-tests true b f g = sym (f refl)
-same-tests false true f g = g refl
-same-tests false false f g = refl
-
 pub one-live-history : (c : Content) (h k : List Entry) → TellsLive c h → TellsLive c k → IsSameHistory h k
 one-live-history c h k s t = record { lengths = alike.0; years = alike.1; sets = sets; rows = same-rows h k years up also (have-texts h s.kept) (have-texts k t.kept) lines } where
   up : Ascends below (years_of h)
@@ -248,6 +233,6 @@ one-live-history c h k s t = record { lengths = alike.0; years = alike.1; sets =
   alike = same-years h k years
 
   sets : (i : ℕ) (id : List ℕ) → holds h i id ≡ holds k i id
-  sets i id = same-tests (holds h i id) (holds k i id)
+  sets i id = both_ways (holds h i id) (holds k i id)
       (live-held h k c.live s.live_are t.live_are t.kept.lawful alike.0 alike.1 i id)
       (live-held k h c.live t.live_are s.live_are s.kept.lawful (sym alike.0) (λ j. sym (alike.1 j)) i id)

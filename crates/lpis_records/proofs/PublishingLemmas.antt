@@ -7,8 +7,9 @@ use Rattle.std.specs.List.Sorted.{IsStrictlySortedBy}
 use Rattle.std.specs.Ordering.{is_eq, nat_cmp}
 use Rattle.std.specs.Cmp.Lexicographic.{slice_cmp}
 use Rattle.std.specs.declared.cmp.Ordering.TheVariants.{Less}
-use Rattle.std.proofs.lemmas.List.{append-nil}
+use Rattle.std.proofs.lemmas.List.{append-nil, append_assoc}
 use Rattle.std.proofs.lemmas.List.Sorted.{IsPermutation-sym, IsPermutation-trans, IsPermutation-cons, IsPermutation-to_front, IsPermutation-append_right, IsPermutation-append_comm}
+use Rattle.std.proofs.lemmas.Bool.{or_left, or_right}
 use Rattle.lpis_covers.specs.Ids.{has_id, is_id, same_id}
 use Rattle.lpis_lineage.specs.declared.row.Entry.{Entry}
 use Rattle.lpis_lineage.specs.declared.row.Row.{Row}
@@ -22,7 +23,6 @@ use Rattle.lpis_lineage.specs.Order.{IsAscending}
 use Rattle.lpis_lineage.specs.Spans.{first_held, last_held, span_between, span_of}
 use Rattle.lpis_lineage.proofs.IdentifierLemmas.{entry-after, entry-before, entry-here, same-by_order, same-exact, same-refl}
 use Rattle.lpis_lineage.proofs.RowCountLemmas.{filter-append, filter-none}
-use Rattle.lpis_lineage.proofs.CleanLemmas.{or-left, or-right}
 use Rattle.lpis_lineage.proofs.ExtensionLemmas.{follows-back, longer, place}
 use Rattle.lpis_lineage.proofs.SpanLemmas.{first-place}
 use Rattle.lpis_lineage.proofs.SpanStepLemmas.{span-more}
@@ -38,14 +38,10 @@ pub years-more : (h : List Entry) (e : Entry) → years_of (h ++ e ∷ []) ≡ y
 years-more [] e = refl
 years-more (x ∷ h) e = ap (λ (l : List ℤ). pos x.year ∷ l) (years-more h e)
 
-pub append-assoc : {A : Type 0} (xs ys zs : List A) → (xs ++ ys) ++ zs ≡ xs ++ (ys ++ zs)
-append-assoc [] ys zs = refl
-append-assoc {A = A} (x ∷ xs) ys zs = ap (λ (l : List A). x ∷ l) (append-assoc xs ys zs)
-
 pub lines-more : (h : List Entry) (e : Entry) → lines_of (h ++ e ∷ []) ≡ lines_of h ++ lines_from (pos e.year) 0 e.rows
 lines-more [] e = append-nil (lines_from (pos e.year) 0 e.rows)
 lines-more (x ∷ h) e = ap (λ (l : List Line). lines_from (pos x.year) 0 x.rows ++ l) (lines-more h e)
-    ∙ sym (append-assoc (lines_from (pos x.year) 0 x.rows) (lines_of h) (lines_from (pos e.year) 0 e.rows))
+    ∙ sym (append_assoc (lines_from (pos x.year) 0 x.rows) (lines_of h) (lines_from (pos e.year) 0 e.rows))
 
 years-told : (ys : List ℤ) (h : List Entry) (e : Entry) → IsPermutation ys (years_of h) → IsPermutation (pos e.year ∷ ys) (years_of (h ++ e ∷ []))
 years-told ys h e m = subst (λ (l : List ℤ). IsPermutation (pos e.year ∷ ys) l) (sym (years-more h e)) (
@@ -241,7 +237,7 @@ spans-told spans h e live gone fresh follows alike w t = spans-moved (new ++ old
     all-new (q ∷ qs) among = (
       fresh-right h e live gone fresh q follows alike w
           (among q (ap (λ (b : Bool). b || has_id qs q) (same-refl q))),
-      all-new qs (λ id is. among id (or-right (same_id id q) (has_id qs id) is)),
+      all-new qs (λ id is. among id (or_right (same_id id q) (has_id qs id) is)),
     )
 
     all-old : (ss : List StoredSpan) → AllByRecursion (IsSpanRow h) ss → AllByRecursion (IsSpanRow (h ++ e ∷ [])) (map (end_among (pos (last_year h)) gone) ss)
@@ -260,12 +256,12 @@ spans-told spans h e live gone fresh follows alike w t = spans-moved (new ++ old
       (λ _. (list_any (λ s. same_id id s.id) new || list_any (λ s. same_id id s.id) old) ≡ true) [
         | inl was ↦ here i was
         | inr is ↦ elim (fresh-or-old h live gone fresh id w (sym (alike id) ∙ is)) as (λ _. (list_any (λ s. same_id id s.id) new || list_any (λ s. same_id id s.id) old) ≡ true) [
-          | inl f ↦ or-left (list_any (λ s. same_id id s.id) new) (list_any (λ s. same_id id s.id) old) (any-fresh (pos e.year) id fresh ∙ f)
+          | inl f ↦ or_left (list_any (λ s. same_id id s.id) new) (list_any (λ s. same_id id s.id) old) (any-fresh (pos e.year) id fresh ∙ f)
           | inr o ↦ here o.0 o.1
         ]
       ] where
         here : (j : ℕ) → holds h j id ≡ true → (list_any (λ s. same_id id s.id) new || list_any (λ s. same_id id s.id) old) ≡ true
-        here j was = or-right (list_any (λ s. same_id id s.id) new) (list_any (λ s. same_id id s.id) old) (any-ended (pos (last_year h)) gone id spans ∙ t.whole id j was)
+        here j was = or_right (list_any (λ s. same_id id s.id) new) (list_any (λ s. same_id id s.id) old) (any-ended (pos (last_year h)) gone id spans ∙ t.whole id j was)
 
 -- the law
 pub published-tells : (c : Content) (h k : List Entry) (year : ℕ) (live gone fresh : List (List ℕ)) (rows : List Row)

@@ -6,6 +6,7 @@ use Rattle.std.specs.List.Sorted.{IsSortedByKey}
 use Rattle.std.specs.Ordering.{nat_cmp}
 use Rattle.std.proofs.lemmas.List.Elements.{All-from_recursion}
 use Rattle.std.proofs.lemmas.List.Sorted.{All-permutation, IsPermutation-sym}
+use Rattle.std.proofs.lemmas.Bool.{or_left, or_right}
 use Rattle.lpis_covers.specs.Ids.{is_id, same_id}
 use Rattle.lpis_lineage.specs.declared.row.Entry.{Entry}
 use Rattle.lpis_lineage.specs.declared.row.Row.{Row}
@@ -13,7 +14,6 @@ use Rattle.lpis_lineage.specs.declared.span.Span.{Span as Years}
 use Rattle.lpis_lineage.specs.Lineage.{entry_at, is_of, is_this, names}
 use Rattle.lpis_lineage.specs.Spans.{span_of}
 use Rattle.lpis_lineage.proofs.IdentifierLemmas.{same-refl}
-use Rattle.lpis_lineage.proofs.CleanLemmas.{or-left, or-right}
 use Rattle.lpis_records.specs.declared.known.KnownLine.{KnownLine}
 use Rattle.lpis_records.specs.declared.known.KnownSpan.{KnownSpan}
 use Rattle.lpis_records.specs.Content.{Content, Line, StoredSpan, lines_from, text_of}
@@ -22,12 +22,12 @@ use Rattle.lpis_records.specs.private.Fronts.{IsSaid}
 use Rattle.lpis_records.specs.private.Known.{HasText, IsReadable, IsYear, SetsAre, line_cmp, line_in, span_in}
 use Rattle.lpis_records.proofs.AscendingLemmas.{all-append, all-map}
 use Rattle.lpis_records.proofs.FrontLemmas.{span-same}
-use Rattle.lpis_records.proofs.LiveRowLemmas.{above-zero}
 use Rattle.lpis_records.proofs.OneHistoryLemmas.{sets-told}
 use Rattle.lpis_records.proofs.PublishingLemmas.{spanned}
 use Rattle.lpis_records.proofs.SayingLemmas.{count-map}
 use Rattle.lpis_records.proofs.SortingLemmas.{sorted-lines, sorted-years}
 use Rattle.lpis_records.proofs.YearLemmas.{all-entries, lines-ascend, years-ascend}
+use Rattle.lpis_lineage.proofs.SpanLemmas.{above-zero}
 
 all-moved-from : {A : Type 0} (P : A → Type 0) (xs ys : List A) → IsPermutation xs ys → AllByRecursion P ys → All P xs
 all-moved-from P xs ys p all = All-permutation P ys xs (IsPermutation-sym xs ys p) (All-from_recursion P ys all)
@@ -69,12 +69,12 @@ readable-rows : (y : ℤ) (n : ℕ) (rows : List Row) → ((id : List ℕ) → l
 readable-rows y n [] old new = tt
 readable-rows y n (r ∷ rs) old new = (
   (
-    old r.old (or-left (is_of r.old r) (list_any (is_of r.old) rs) (same-refl r.old)),
+    old r.old (or_left (is_of r.old r) (list_any (is_of r.old) rs) (same-refl r.old)),
     readable-new r.new
-        (λ id e. new id (or-left (names id r) (list_any (names id) rs) (ap (λ (o : Option (List ℕ)). is_this id o) e
+        (λ id e. new id (or_left (names id r) (list_any (names id) rs) (ap (λ (o : Option (List ℕ)). is_this id o) e
         ∙ same-refl id))),
   ),
-  readable-rows y (n + 1) rs (λ id e. old id (or-right (is_of id r) (list_any (is_of id) rs) e)) (λ id e. new id (or-right (names id r) (list_any (names id) rs) e)),
+  readable-rows y (n + 1) rs (λ id e. old id (or_right (is_of id r) (list_any (is_of id) rs) e)) (λ id e. new id (or_right (names id r) (list_any (names id) rs) e)),
 )
 
 readable-entry : (h : List Entry) → IsKept h → (i : ℕ) → AllByRecursion IsReadable (lines_from (pos (entry_at h i).year) 0 (entry_at h i).rows)

@@ -4,7 +4,7 @@ use Rattle.std.specs.Prelude.{◌||◌, is_some, IsSorted}
 use Rattle.std.specs.List.{All, dedup, filter, list_any}
 use Rattle.std.specs.Ordering.{nat_cmp}
 use Rattle.std.specs.Cmp.Lexicographic.{slice_cmp, nat_list_cmp_total, texts_ties}
-use Rattle.std.proofs.lemmas.List.{append-nil}
+use Rattle.std.proofs.lemmas.List.{append-nil, append_assoc}
 use Rattle.std.proofs.lemmas.List.Elements.{All-push, recursion_from_All}
 use Rattle.std.proofs.lemmas.List.Kept.{IsStrictlySortedBy-dedup}
 use Rattle.std.proofs.lemmas.List.Sorted.{list_any-IsPermutation}
@@ -21,11 +21,11 @@ use Rattle.lpis_records.specs.Tells.{IsSpanRow, SpansTell}
 use Rattle.lpis_records.specs.private.Known.{all_live}
 use Rattle.lpis_records.proofs.FreshLemmas.{has-dedup}
 use Rattle.lpis_records.proofs.KnownLemmas.{read-more}
-use Rattle.lpis_records.proofs.PublishingLemmas.{append-assoc, once-ascending, same-length}
+use Rattle.lpis_records.proofs.PublishingLemmas.{once-ascending, same-length}
 
 live-push : (h : List Entry) (e : Entry) → all_live (h ++ e ∷ []) ≡ all_live h ++ e.live
 live-push [] e = append-nil e.live
-live-push (x ∷ h) e = ap (λ (l : List (List ℕ)). x.live ++ l) (live-push h e) ∙ sym (append-assoc x.live (all_live h) e.live)
+live-push (x ∷ h) e = ap (λ (l : List (List ℕ)). x.live ++ l) (live-push h e) ∙ sym (append_assoc x.live (all_live h) e.live)
 
 pub live-more : (h : List Entry) (i : ℕ) (e : Entry) (old new : List (List ℕ)) → i < length h → e ≡ get_or h i e → old ≡ all_live (take i h) → new ≡ old ++ e.live → new ≡ all_live (take (i + 1) h)
 live-more h i e old new lt at o n = n ∙ ap (λ (l : List (List ℕ)). l ++ e.live) o ∙ sym (live-push (take i h) e) ∙ ap all_live (take-at h i e lt at)
