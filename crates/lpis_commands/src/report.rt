@@ -110,7 +110,8 @@ fn print_parcel<W: Write>(
 /// Writes the line of each parcel, and answers the sums of their areas.
 fn print_parcels<W: Write>(release: &Release, out: &mut W) -> Result<Areas, PrintFault>
     requires { AreasAdd release.now }
-    ensures area { IfOk result (λ a. (a.area ≡ int_sum_by (λ k. area2 k.polygon) release.now.parcels)
+    ensures area { IfOk result
+        (λ a. (a.area ≡ int_sum_by (λ k. area2 k.polygon) release.now.parcels)
         × (nat_abs a.area ≤ 10 ^ 36)) }
     ensures eligible { IfOk result
         (λ a. (a.eligible ≡ int_sum_by (λ k. eligible2 release.now k.id) release.now.parcels)
