@@ -5,7 +5,7 @@ use Rattle.std.specs.Str.{bytes_eq}
 use Rattle.std.specs.List.{flat_map, list_all}
 use Rattle.std.specs.Ordering.{nat_cmp}
 use Rattle.std.specs.Cmp.Lexicographic.{slice_cmp}
-use Rattle.std.proofs.lemmas.Bool.{cases_Bool}
+use Rattle.std.proofs.lemmas.Bool.{cases_Bool, not-true}
 use Rattle.std.proofs.lemmas.List.Sorted.{IsPermutation-refl, IsPermutation-trans, IsPermutation-map}
 use Rattle.std.proofs.lemmas.Map.Text.{is_eq-slice_cmp}
 use Rattle.sqlite.specs.declared.types.Value.TheVariants.{Null, Int, Text}
@@ -40,7 +40,6 @@ use Rattle.lpis_tables.specs.private.Shown.{text_in}
 use Rattle.lpis_tables.specs.Holding.{AreKeyed, span_row}
 use Rattle.lpis_tables.specs.private.Inside.{Inside}
 use Rattle.lpis_tables.proofs.MeaningLemmas.{ends_query, end_span_means, whole}
-use Rattle.lpis_tables.proofs.PutLemmas.{not_taken}
 use Rattle.lpis_tables.proofs.PartLemmas.{far_span, live_not_span, keeps_there, there_keeps, formats_kept, years_kept, lines_kept, live_kept, own_spans}
 use Rattle.lpis_tables.proofs.InsertLemmas.{inside_next, span_stands}
 use Rattle.lpis_tables.proofs.WriteLemmas.{cast_int, updates, step_of, kept_of}
@@ -140,7 +139,7 @@ module _ (tree : ℕ) (y : ℤ) (id : List ℕ) where
           (it.0, was.0, ap rowid it.2 ∙ at.4.key ∙ sym at.2, inl (was.1, it.2))
       | inr old ↦
           let was = has_filtered (λ r. not (hits r)) rows x old in
-          (x, was.0, refl, inr (not_taken _ was.1, refl))
+          (x, was.0, refl, inr (not-true _ was.1, refl))
     ]
 
     keyed_after : (next : List Row) → IsPermutation (map made (filter hits rows) ++ filter (λ r. not (hits r)) rows) next → AreKeyed next

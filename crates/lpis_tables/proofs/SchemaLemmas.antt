@@ -1,6 +1,6 @@
 -- Trees that list a schema of the register list no other.
 use Rattle.std.proofs.Common.{◌≡◌, inl, inr, ℕ, zero, suc, ◌+◌, pos, List, [], ◌∷◌, Bool, true, false, not, slice_get, Some, Ok, Result, refl, sym, ap, ap₂, subst, ◌∙◌, arith, true≢false}
-use Rattle.std.proofs.lemmas.Bool.{cases_Bool}
+use Rattle.std.proofs.lemmas.Bool.{cases_Bool, and_parts, not-true}
 use Rattle.std.proofs.lemmas.Bool.Decides.{nat_tests}
 use Rattle.std.specs.Prelude.{Option, filter, ◌&&◌, ◌||◌}
 use Rattle.std.specs.List.{AllZip, list_all, list_any}
@@ -23,7 +23,6 @@ use Rattle.lpis_records.specs.Content.{Content}
 use Rattle.lpis_tables.specs.Bare.{IsBare}
 use Rattle.lpis_tables.specs.Holding.{Holds, IsStored, Leaves}
 use Rattle.lpis_tables.specs.Shapes.{Shape, New, First, Moved, schema_of, no_schema}
-use Rattle.lpis_tables.proofs.PutLemmas.{not_taken, both}
 
 same_ok : {A E : Type 0} (r : Result A E) (a b : A) → r ≡ Ok a → r ≡ Ok b → a ≡ b
 same_ok r a b p q = cc
@@ -73,9 +72,9 @@ not_listed t u (v ∷ tables) none there e = elim (cases_Bool (bytes_eq t.name v
 same_owner : (tables : List Table) (t u : Table) → are_apart tables ≡ true → Has tables t → Has tables u → t.name ≡ u.name → t ≡ u
 same_owner [] t u apart ht hu e = absurd ht
 same_owner (v ∷ tables) t u apart (inl a) (inl b) e = a ∙ sym b
-same_owner (v ∷ tables) t u apart (inl a) (inr b) e = absurd (not_listed v u tables (not_taken _ (both _ _ apart).0) b (sym (ap (λ (x : Table). x.name) a) ∙ e))
-same_owner (v ∷ tables) t u apart (inr a) (inl b) e = absurd (not_listed v t tables (not_taken _ (both _ _ apart).0) a (sym (ap (λ (x : Table). x.name) b) ∙ sym e))
-same_owner (v ∷ tables) t u apart (inr a) (inr b) e = same_owner tables t u (both _ _ apart).1 a b e
+same_owner (v ∷ tables) t u apart (inl a) (inr b) e = absurd (not_listed v u tables (not-true _ (and_parts _ _ apart).0) b (sym (ap (λ (x : Table). x.name) a) ∙ e))
+same_owner (v ∷ tables) t u apart (inr a) (inl b) e = absurd (not_listed v t tables (not-true _ (and_parts _ _ apart).0) a (sym (ap (λ (x : Table). x.name) b) ∙ sym e))
+same_owner (v ∷ tables) t u apart (inr a) (inr b) e = same_owner tables t u (and_parts _ _ apart).1 a b e
 
 -- no table has two keys that want an index
 abbrev is_short : List (List ℕ) → Bool
@@ -97,8 +96,8 @@ first_only (y ∷ z ∷ xs) (suc at) x few is = absurd (true≢false (sym few))
 
 listed_all : (p : Table → Bool) (tables : List Table) (t : Table) → list_all p tables ≡ true → Has tables t → p t ≡ true
 listed_all p [] t all there = absurd there
-listed_all p (v ∷ tables) t all (inl same) = ap p same ∙ (both _ _ all).0
-listed_all p (v ∷ tables) t all (inr more) = listed_all p tables t (both _ _ all).1 more
+listed_all p (v ∷ tables) t all (inl same) = ap p same ∙ (and_parts _ _ all).0
+listed_all p (v ∷ tables) t all (inr more) = listed_all p tables t (and_parts _ _ all).1 more
 
 module _ (tables : List Table) (apart : are_apart tables ≡ true) (few : list_all has_one_key tables ≡ true) where
   same_index : (row : Row) (i j : Index) → IsIndexRow tables row i → IsIndexRow tables row j → i ≡ j

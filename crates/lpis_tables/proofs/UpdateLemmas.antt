@@ -4,7 +4,7 @@ use Rattle.std.proofs.lemmas.Int.{ints}
 use Rattle.std.proofs.lemmas.Bool.Decides.{nat_tests}
 use Rattle.std.specs.Prelude.{if◌then◌else◌, ◌||◌, filter}
 use Rattle.std.specs.List.{list_any}
-use Rattle.std.proofs.lemmas.Bool.{cases_Bool}
+use Rattle.std.proofs.lemmas.Bool.{cases_Bool, and_parts, not-true}
 use Rattle.std.proofs.lemmas.List.Sorted.{IsPermutation-refl, IsPermutation-sym, IsPermutation-trans, IsPermutation-map, IsPermutation-middle, IsPermutation-append, IsPermutation-append_right}
 use Rattle.std.proofs.lemmas.List.Sorted.{IsPermutation-filter_both}
 use Rattle.std.proofs.lemmas.List.{map-append}
@@ -20,7 +20,7 @@ use Rattle.sqlite_rules.proofs.ListLemmas.{has_filtered, has_kept, some_has, all
 use Rattle.sqlite_rules.proofs.ProbeLemmas.{mapped_has, has_mapped}
 use Rattle.sqlite_trees.proofs.ListLemmas.{all-permutation}
 use Rattle.lpis_tables.specs.Holding.{AreKeyed}
-use Rattle.lpis_tables.proofs.PutLemmas.{put_more, not_taken, both}
+use Rattle.lpis_tables.proofs.PutLemmas.{put_more}
 
 pub has_permuted : {X : Type 0} (xs ys : List X) (x : X) → IsPermutation xs ys → Has ys x → Has xs x
 has_permuted xs ys x same = all_has (Has xs) ys x (all-permutation (Has xs) xs ys same (all_from (Has xs) xs (λ e h. h)))
@@ -29,9 +29,9 @@ has_permuted xs ys x same = all_has (Has xs) ys x (all-permutation (Has xs) xs y
 pub put_all_more : (news rows : List Row) → are_fresh rows news ≡ true → IsPermutation (news ++ rows) (put_all rows news)
 put_all_more [] rows fresh = IsPermutation-refl rows
 put_all_more (n ∷ news) rows fresh =
-    let both_are = both _ _ fresh in
+    let both_are = and_parts _ _ fresh in
     IsPermutation-trans _ _ _ (IsPermutation-trans _ _ _ (IsPermutation-sym _ _ (IsPermutation-middle news n rows))
-    (IsPermutation-append_right news _ _ (put_more n rows (not_taken (is_taken rows n) both_are.0))))
+    (IsPermutation-append_right news _ _ (put_more n rows (not-true (is_taken rows n) both_are.0))))
     (put_all_more news (put_row n rows) both_are.1)
 
 filter_twice : {X : Type 0} (p q : X → Bool) (xs : List X) → filter (λ x. not (q x)) (filter (λ x. not (p x)) xs) ≡ filter (λ x. not (p x || q x)) xs

@@ -5,6 +5,7 @@ use Rattle.std.specs.Prelude.{if◌then◌else◌, ◌||◌, ◌/◌, ◌==◌, 
 use Rattle.std.specs.List.{flat_map, filter_map, AllByRecursion}
 use Rattle.std.specs.Ordering.{is_lt, int_cmp}
 use Rattle.std.proofs.lemmas.Cmp.{tied_itself}
+use Rattle.std.proofs.lemmas.Bool.{and_parts, not-true}
 use Rattle.sqlite_value.proofs.OrderLemmas.{value_cmp_total}
 use Rattle.sqlite.specs.declared.types.Value.{Value}
 use Rattle.sqlite.specs.declared.types.Value.TheVariants.{Null, Int}
@@ -39,7 +40,7 @@ use Rattle.sqlite.proofs.Callers.{statement_of, runs_as, one_step}
 use Rattle.lpis_tables.specs.Shapes.{Shape, New, First, Moved, schema_of, has_spans, has_live, span_tree}
 use Rattle.lpis_tables.specs.Holding.{AreKeyed}
 use Rattle.lpis_tables.proofs.MeaningLemmas.{Says}
-use Rattle.lpis_tables.proofs.PutLemmas.{put_more, not_taken, both}
+use Rattle.lpis_tables.proofs.PutLemmas.{put_more}
 
 either : (b : Bool) (x : Value) → cond b x x ≡ x
 either true x = refl
@@ -175,7 +176,7 @@ adds s sql place width table terms params row old new count has at plain_key mea
     (subst (λ s. Does old.step_limit (mode_of old) params (record old.now { schema = s }) text None
     (Insert place (Values terms width)) (Ok (w.tally, new.now))) has w.changed) in
     let step = step_of s db new.now.trees _ made.1 in
-    let free : is_taken (db table.tree) row ≡ false = not_taken _ (both _ _ (subst (λ n. are_fresh (db table.tree) n ≡ true) news step.fresh)).0 in
+    let free : is_taken (db table.tree) row ≡ false = not-true _ (and_parts _ _ (subst (λ n. are_fresh (db table.tree) n ≡ true) news step.fresh)).0 in
     let rows : new.now.trees table.tree ≡ put_row row (db table.tree) = step.rows ∙ ap (λ n. put_all (db table.tree) n) news in
     record {
       schema = made.0;
