@@ -4,6 +4,7 @@ use Rattle.std.specs.Prelude.{nat_abs, slice_get}
 use Rattle.std.proofs.lemmas.Int.{ints, to_z-of_z}
 use Rattle.std.proofs.lemmas.List.{drop_all}
 use Rattle.std.proofs.lemmas.Option.{slice_get_read}
+use Rattle.std.proofs.Math.IntN.{+ℤ_assoc, +ℤ_idl, +ℤ_idr}
 use mir.Syntax.{w128}
 use mir.Val.{SFits, to_z, of_z}
 use Rattle.lpis_covers.specs.Table.{most_rows}
@@ -20,26 +21,17 @@ use Rattle.lpis_parcels.proofs.PlaceLemmas.{at-places-where}
 abbrev pub eligible_at : Contents → List ℕ → ℤ
 eligible_at c places = areas2 (filter (is_eligible c.classes) (at_places c.pieces places))
 
-add-assoc : (a b c : ℤ) → (a +ℤ b) +ℤ c ≡ a +ℤ (b +ℤ c)
-add-assoc a b c = omega (arith, ints)
-
-add-zero : (a : ℤ) → a +ℤ pos 0 ≡ a
-add-zero a = omega (arith, ints)
-
-zero-add : (a : ℤ) → pos 0 +ℤ a ≡ a
-zero-add a = omega (arith, ints)
-
 pub eligible-start : (c : Contents) (id : List ℕ) (places : List ℕ) → places ≡ places_where (names id) 0 c.pieces → pos 0 +ℤ eligible_at c places ≡ eligible2 c id
 eligible-start c id places e =
-    zero-add _ ∙ ap (λ (ps : List Piece). areas2 (filter (is_eligible c.classes) ps)) (at-places-where (names id) c.pieces c.pieces places refl e)
+    +ℤ_idl _ ∙ ap (λ (ps : List Piece). areas2 (filter (is_eligible c.classes) ps)) (at-places-where (names id) c.pieces c.pieces places refl e)
 
 next-places : (places : List ℕ) (i place : ℕ) → i < length places → place ≡ get_or places i place → drop i places ≡ place ∷ drop (i + 1) places
 next-places places i place lt e = drop-at places i place (slice_get_read places _ i place refl lt e)
 
 part-added : (b : Bool) (sum area part : ℤ) (x : Piece) (rest : List Piece) → area ≡ area2 x.polygon
     → part ≡ cond b area (pos 0) → (sum +ℤ part) +ℤ areas2 rest ≡ sum +ℤ areas2 (cond b (x ∷ rest) rest)
-part-added true sum area part x rest a p = rw (p, a) (add-assoc sum (area2 x.polygon) (areas2 rest))
-part-added false sum area part x rest a p = rw p (ap (λ (z : ℤ). z +ℤ areas2 rest) (add-zero sum))
+part-added true sum area part x rest a p = rw (p, a) (+ℤ_assoc sum (area2 x.polygon) (areas2 rest))
+part-added false sum area part x rest a p = rw p (ap (λ (z : ℤ). z +ℤ areas2 rest) (+ℤ_idr sum))
 
 pub eligible-added : (c : Contents) (places : List ℕ) (i place : ℕ) (piece : Piece) (sum part whole : ℤ) → i < length places → place ≡ get_or places i place → slice_get c.pieces place ≡ Some piece
     → part ≡ cond (is_eligible c.classes piece) (area2 piece.polygon) (pos 0) → sum +ℤ eligible_at c (drop i places) ≡ whole → (sum +ℤ part) +ℤ eligible_at c (drop (i + 1) places) ≡ whole
@@ -49,7 +41,7 @@ eligible-added c places i place piece sum part whole lt e at is h =
     ∙ (rw (next-places places i place lt e, at) at h)
 
 pub eligible-end : (c : Contents) (places : List ℕ) (i : ℕ) (sum whole : ℤ) → length places ≤ i → sum +ℤ eligible_at c (drop i places) ≡ whole → sum ≡ whole
-eligible-end c places i sum whole past h = sym (add-zero sum) ∙ (rw (drop_all i places past) at h)
+eligible-end c places i sum whole past h = sym (+ℤ_idr sum) ∙ (rw (drop_all i places past) at h)
 
 -- one part more, each at most the greatest area
 pub sum-more : (s t : ℤ) (n : ℕ) → nat_abs s ≤ most_area * n → nat_abs t ≤ most_area → n < most_rows

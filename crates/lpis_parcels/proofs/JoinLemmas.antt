@@ -22,16 +22,10 @@ use Rattle.lpis_parcels.specs.private.Groups.{Refuses, empty_faults, is_nil, pla
 use Rattle.lpis_parcels.specs.Release.{class_codes, names, parcel_faults, parcel_ids, reference_faults, unknown_faults}
 
 -- identifiers
-same-refl : (a : List ℕ) → same_id a a ≡ true
-same-refl a = (bytes_eq-Decides a a).1 refl
-
-same-exact : (a b : List ℕ) → same_id a b ≡ true → a ≡ b
-same-exact a b h = (bytes_eq-Decides a b).0 h
-
 same-sym-false : (a b : List ℕ) → same_id a b ≡ false → same_id b a ≡ false
 same-sym-false a b e = by (same_id b a) refl where
   by : (t : Bool) → same_id b a ≡ t → same_id b a ≡ false
-  by true t = absurd (let s : b ≡ a = same-exact b a t in let r : same_id a b ≡ true = rw s (same-refl a) in cc)
+  by true t = absurd (let s : b ≡ a = (bytes_eq-Decides b a).0 t in let r : same_id a b ≡ true = rw s ((bytes_eq-Decides a a).1 refl) in cc)
   by false t = t
 
 -- one row's unknown parcel or class
@@ -86,7 +80,7 @@ unfolding IsDistinct
 group-grown [] F x k i d e = cc e
 group-grown (p ∷ ps) F x zero i d e =
     let is : p.id ≡ x = cc e in
-    let same : same_id p.id x ≡ true = rw (← is) (same-refl p.id) in
+    let same : same_id p.id x ≡ true = rw (← is) ((bytes_eq-Decides p.id p.id).1 refl) in
     rw same (ap (λ (l : List (List ℕ)). (F p.id ++ i ∷ []) ∷ l) (unchanged ps F x i (rw is at d.0)))
 group-grown (p ∷ ps) F x (suc k) i d e =
     let other : same_id p.id x ≡ false = other-ids p.id x (parcel_ids ps) k d.0 e in
@@ -113,7 +107,7 @@ unfolding IsDistinct
 class-at [] code j d e = cc e
 class-at (k ∷ ks) code zero d e =
     let is : k.code ≡ code = cc e in
-    let same : same_id code k.code ≡ true = rw is (same-refl code) in
+    let same : same_id code k.code ≡ true = rw is ((bytes_eq-Decides code code).1 refl) in
     rw same refl
 class-at (k ∷ ks) code (suc j) d e =
     let other : same_id code k.code ≡ false = same-sym-false k.code code (other-ids k.code code (class_codes ks) j d.0 e) in
