@@ -1,6 +1,6 @@
 -- Lines of corners, read in one pass.
 use Rattle.std.proofs.Common.{◌≡◌, ℕ, zero, suc, ◌+◌, ◌-◌, ◌*◌, ◌<◌, ◌≤◌, Bool, true, false, cond, ◌&&◌, List, [], ◌∷◌, ◌++◌, length, take, drop, get_or, Some, None, refl, sym, ap, ◌∙◌, arith, nat_le}
-use Rattle.std.proofs.Common.{nat_lt, eqb, append_assoc, length-append, length-drop, drop-cons, add-one}
+use Rattle.std.proofs.Common.{append_assoc, length-append, drop-cons, add-one}
 use Rattle.std.proofs.lemmas.Bool.Decides.{nat_tests}
 use Rattle.std.proofs.lemmas.Fmt.{decimal_digit}
 use Rattle.std.proofs.lemmas.Str.{digit_value_digit}
