@@ -3,6 +3,7 @@ use Rattle.std.proofs.Common.{suc, add-zero, get_or-drop, ◌≡◌, ℕ, ◌+�
 use Rattle.std.proofs.Common.{sym, ap, ◌∙◌, arith, nat_lt, drop-cons, add-one, length-drop, MatchOption}
 use Rattle.std.proofs.lemmas.Bool.{and_parts}
 use Rattle.std.proofs.lemmas.Bool.Decides.{nat_tests}
+use Rattle.std.proofs.lemmas.Str.{digit_value_digit}
 use Rattle.std.proofs.lemmas.List.{drop_all, take_all, drop-drop}
 use Rattle.std.specs.List.{position, position_or_len, before_first, after_first, list_all}
 use Rattle.std.specs.Str.Parse.{digits_value_after}
@@ -45,11 +46,7 @@ pub between : (b : ℕ) → is_ascii_digit b ≡ true → (48 ≤ b) × (b < 58)
 between b h = (grind (arith, nat_tests), grind (arith, nat_tests))
 
 pub is-digit : (b : ℕ) → is_ascii_digit b ≡ true → digit_value b ≡ b - 48
-is-digit b h =
-    let digit = between b h in
-    let low : nat_lt b 48 ≡ false = grind (arith, nat_tests) in
-    let high : nat_lt b 58 ≡ true = grind (arith, nat_tests) in
-    rw (low, high) refl
+is-digit b h = let d = between b h in omega (arith, digit_value_digit b (d.0, omega arith))
 
 pub value_step : (n : ℕ) (ds : List ℕ) (i : ℕ) → i < length ds → list_all is_ascii_digit (drop i ds) ≡ true
     → digits_value_after 10 n (drop i ds) ≡ digits_value_after 10 (n * 10 + (get_or ds i 0 - 48)) (drop (i + 1) ds)
