@@ -137,11 +137,17 @@ Advances old new (Err Memory) = Unit {0}
 Advances old new (Err (At code table row wkt)) = (old.rows ≡ [])
     × (old.stop ≡ Some (At code table row wkt))
 
--- a call answers what the definition says, or that memory ran out
+-- a call answers a value that fits what the definition says, or the fault that it says, or that
+-- memory ran out
+abbrev pub AnswersBy : {A B : Type 0} → (A → Result B TableFault → Type 0) → Result A TableFault
+    → Result B TableFault → Type 0
+AnswersBy Fits (Ok x) said = Fits x said
+AnswersBy Fits (Err Memory) said = Unit {0}
+AnswersBy Fits (Err (At code table row wkt)) said = said ≡ Err (At code table row wkt)
+
+-- the same of the very value
 abbrev pub Answers : {A : Type 0} → Result A TableFault → Result A TableFault → Type 0
-Answers (Ok x) said = said ≡ Ok x
-Answers (Err Memory) said = Unit {0}
-Answers (Err (At code table row wkt)) said = said ≡ Err (At code table row wkt)
+Answers {A} result said = AnswersBy (λ (x : A) (s : Result A TableFault). s ≡ Ok x) result said
 
 -- the texts of borrowed names
 abbrev pub texts : List (Bor (List ℕ)) → List (List ℕ)

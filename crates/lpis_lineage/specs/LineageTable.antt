@@ -1,13 +1,11 @@
 -- The table of lineage: its rows, and its first fault.
 use Rattle.std.specs.Prelude.{◌≡◌, ◌∷◌, ◌++◌, ℕ, List, [], codes, Option, None, Some, Result, Ok}
-use Rattle.std.specs.Prelude.{Err}
 use Rattle.std.specs.declared.vec.Vec.{Vec}
 use Rattle.std.specs.declared.alloc.Global.{Global}
 use Rattle.lpis_covers.specs.declared.fault.Table.TheVariants.{Lineage}
 use Rattle.lpis_covers.specs.declared.fault.TableFault.{TableFault}
-use Rattle.lpis_covers.specs.declared.fault.TableFault.TheVariants.{Memory, At}
 use Rattle.lpis_covers.specs.Faults.{RowsOf, id_faults}
-use Rattle.lpis_covers.specs.Table.{Record, field_of}
+use Rattle.lpis_covers.specs.Table.{AnswersBy, Record, field_of}
 use Rattle.lpis_lineage.specs.declared.row.Row.{Row}
 
 -- the successor in a field: none where it is empty
@@ -38,6 +36,6 @@ lineage_table = record {
 
 -- a call answers these rows or this fault, or that memory ran out
 abbrev pub AnswersRows : Result (Vec Row Global) TableFault → Result (List Row) TableFault → Type 0
-AnswersRows (Ok rows) said = said ≡ Ok rows.items
-AnswersRows (Err Memory) said = Unit {0}
-AnswersRows (Err (At code table row wkt)) said = said ≡ Err (At code table row wkt)
+AnswersRows result said =
+    AnswersBy (λ (rows : Vec Row Global) (s : Result (List Row) TableFault). s ≡ Ok rows.items)
+    result said
