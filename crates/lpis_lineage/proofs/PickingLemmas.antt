@@ -6,6 +6,7 @@ use Rattle.std.specs.List.Sorted.{IsStrictlySortedBy}
 use Rattle.std.specs.Ordering.{nat_cmp}
 use Rattle.std.specs.Cmp.Lexicographic.{slice_cmp}
 use Rattle.std.specs.declared.cmp.Ordering.TheVariants.{Less}
+use Rattle.std.proofs.Math.Bool.{and-false}
 use Rattle.lpis_covers.specs.Ids.{has_id, same_id}
 use Rattle.lpis_lineage.specs.Order.{IsAscending}
 use Rattle.lpis_lineage.proofs.IdentifierLemmas.{same-exact}
@@ -14,14 +15,10 @@ use Rattle.lpis_lineage.proofs.IdentifierLemmas.{same-exact}
 pub has-filter : (p : List ℕ → Bool) (ids : List (List ℕ)) (q : List ℕ) → has_id (filter p ids) q ≡ (has_id ids q && p q)
 has-filter p [] q = refl
 has-filter p (x ∷ xs) q = by (p x) refl (same_id q x) refl (has-filter p xs q) where
-  no : (b : Bool) → (b && false) ≡ false
-  no true = refl
-  no false = refl
-
   by : (b : Bool) → b ≡ p x → (s : Bool) → s ≡ same_id q x → has_id (filter p xs) q ≡ (has_id xs q && p q) → has_id (cond b (x ∷ filter p xs) (filter p xs)) q ≡ ((s || has_id xs q) && p q)
   by true eb true es ih = ap (λ (t : Bool). t || has_id (filter p xs) q) (sym es) ∙ eb ∙ ap p (sym (same-exact q x (sym es)))
   by true eb false es ih = ap (λ (t : Bool). t || has_id (filter p xs) q) (sym es) ∙ ih
-  by false eb true es ih = let f : p q ≡ false = ap p (same-exact q x (sym es)) ∙ sym eb in ih ∙ ap (λ (t : Bool). has_id xs q && t) f ∙ no (has_id xs q) ∙ sym f
+  by false eb true es ih = let f : p q ≡ false = ap p (same-exact q x (sym es)) ∙ sym eb in ih ∙ ap (λ (t : Bool). has_id xs q && t) f ∙ and-false (has_id xs q) ∙ sym f
   by false eb false es ih = ih
 
 -- tests that agree pass the same

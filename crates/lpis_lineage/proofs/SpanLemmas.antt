@@ -11,6 +11,7 @@ use Rattle.lpis_lineage.specs.Lawful.{IsLawful}
 use Rattle.std.specs.Prelude.{◌&&◌, ◌||◌, nat_le, nat_eq}
 use Rattle.std.specs.List.{filter}
 use Rattle.std.proofs.lemmas.Bool.{cases_Bool}
+use Rattle.std.proofs.Math.Bool.{and-false}
 use Rattle.lpis_lineage.specs.declared.span.Span.{Span}
 use Rattle.lpis_lineage.specs.Spans.{first_held, last_held, span_between, span_of, in_span, live_in, ids_of, AreSpansOf}
 use Rattle.lpis_lineage.proofs.PickingLemmas.{has-filter}
@@ -148,10 +149,6 @@ pub live-in-law : (h : List Entry) (spans : List (List ℕ × Span)) → IsLawfu
     → (id : List ℕ) → has_id (live_in spans (entry_at h i).year) id ≡ holds h i id
 live-in-law h spans law are whole i lt id =
     ap (λ (l : List (List ℕ)). has_id l id) (live-in-held h law spans are i lt) ∙ has-filter (λ q. holds h i q) (ids_of spans) id ∙ by (holds h i id) refl where
-      no : (b : Bool) → (b && false) ≡ false
-      no true = refl
-      no false = refl
-
       by : (b : Bool) → b ≡ holds h i id → (has_id (ids_of spans) id && holds h i id) ≡ holds h i id
       by true e = ap (λ (t : Bool). t && holds h i id) (whole id i (sym e))
-      by false e = ap (λ (t : Bool). has_id (ids_of spans) id && t) (sym e) ∙ no (has_id (ids_of spans) id) ∙ e
+      by false e = ap (λ (t : Bool). has_id (ids_of spans) id && t) (sym e) ∙ and-false (has_id (ids_of spans) id) ∙ e

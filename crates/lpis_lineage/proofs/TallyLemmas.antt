@@ -2,6 +2,7 @@
 use Rattle.std.proofs.Common.{◌≡◌, ◌∙◌, ◌<◌, ◌+◌, refl, sym, ap, subst, arith, ℕ, List, [], ◌∷◌, ◌++◌, length, Bool, true, false, Option, None, Some, cond, take, get_or}
 use Rattle.std.proofs.lemmas.Bool.Decides.{nat_tests}
 use Rattle.std.specs.Prelude.{◌||◌, nat_lt}
+use Rattle.std.proofs.Math.Bool.{or-false}
 use Rattle.lpis_lineage.specs.declared.row.Row.{Row}
 use Rattle.lpis_lineage.specs.declared.tally.Tally.{Tally}
 use Rattle.lpis_covers.specs.Ids.{has_id, same_id}
@@ -39,10 +40,7 @@ tally-again s t ids id tally there once new = record {
 } where
   by-once : (q : List ℕ) (b : Bool) → b ≡ same_id q id → has_id ids q ≡ (has_id ids q || b)
   by-once q true e = let h = same-both id q ids true (sym (tally.once_are id) ∙ there) (sym e) in grind arith
-  by-once q false e = or-nothing (has_id ids q) where
-    or-nothing : (b : Bool) → b ≡ (b || false)
-    or-nothing true = refl
-    or-nothing false = refl
+  by-once q false e = sym (or-false (has_id ids q))
 
   by-twice : (q : List ℕ) (b : Bool) → b ≡ same_id q id → cond b true (nat_lt 1 (times ids q)) ≡ cond b (nat_lt 0 (times ids q)) (nat_lt 1 (times ids q))
   by-twice q true e = sym (some-times ids q ∙ same-both id q ids true (sym (tally.once_are id) ∙ there) (sym e))
