@@ -10,6 +10,8 @@ use Rattle.std.specs.declared.cmp.Ordering.TheVariants.{Less}
 use Rattle.std.proofs.lemmas.List.{append-nil, append_assoc}
 use Rattle.std.proofs.lemmas.List.Sorted.{IsPermutation-sym, IsPermutation-trans, IsPermutation-cons, IsPermutation-to_front, IsPermutation-append_right, IsPermutation-append_comm}
 use Rattle.std.proofs.lemmas.Bool.{or_left, or_right}
+use Rattle.std.proofs.Math.Bool.{and-false}
+use Rattle.std.proofs.lemmas.List.Folds.{list_any-append}
 use Rattle.lpis_covers.specs.Ids.{has_id, is_id, same_id}
 use Rattle.lpis_lineage.specs.declared.row.Entry.{Entry}
 use Rattle.lpis_lineage.specs.declared.row.Row.{Row}
@@ -114,13 +116,9 @@ span-next h e live gone fresh id follows alike w =
 -- a fresh identifier is in the release, is not dropped, and had no span
 fresh-facts : (h : List Entry) (live gone fresh : List (List ℕ)) (id : List ℕ) → IsWriting h live gone fresh → has_id fresh id ≡ true → (has_id gone id ≡ false) × (is_some (span_of h id) ≡ false)
 fresh-facts h live gone fresh id w is = by (has_id live id) refl (is_some (span_of h id)) refl (sym (w.fresh_are.are id) ∙ is) where
-  no : (b : Bool) → (b && false) ≡ false
-  no true = refl
-  no false = refl
-
   by : (l : Bool) → l ≡ has_id live id → (s : Bool) → s ≡ is_some (span_of h id) → (l && not s) ≡ true → (has_id gone id ≡ false) × (is_some (span_of h id) ≡ false)
   by true el true es e = absurd cc
-  by true el false es e = (w.gone_are id ∙ ap (λ (t : Bool). has_id (last_live h) id && not t) (sym el) ∙ no (has_id (last_live h) id), sym es)
+  by true el false es e = (w.gone_are id ∙ ap (λ (t : Bool). has_id (last_live h) id && not t) (sym el) ∙ and-false (has_id (last_live h) id), sym es)
   by false el s es e = absurd cc
 
 abbrev both : ℤ → ℤ → Option (ℤ × ℤ)
@@ -244,15 +242,8 @@ spans-told spans h e live gone fresh follows alike w t = spans-moved (new ++ old
     all-old [] a = tt
     all-old (s ∷ ss) a = (old-right h e live gone fresh s follows alike w a.0, all-old ss a.1)
 
-  any-append : (p : StoredSpan → Bool) (xs ys : List StoredSpan) → list_any p (xs ++ ys) ≡ (list_any p xs || list_any p ys)
-  any-append p [] ys = refl
-  any-append p (x ∷ xs) ys = ap (λ (b : Bool). p x || b) (any-append p xs ys) ∙ assoc (p x) (list_any p xs) (list_any p ys) where
-    assoc : (a b c : Bool) → (a || (b || c)) ≡ ((a || b) || c)
-    assoc true b c = refl
-    assoc false b c = refl
-
   whole : (id : List ℕ) (i : ℕ) → holds (h ++ e ∷ []) i id ≡ true → list_any (λ s. same_id id s.id) (new ++ old) ≡ true
-  whole id i held = any-append (λ (s : StoredSpan). same_id id s.id) new old ∙ elim (holds-more h e i id held) as
+  whole id i held = list_any-append (λ (s : StoredSpan). same_id id s.id) new old ∙ elim (holds-more h e i id held) as
       (λ _. (list_any (λ s. same_id id s.id) new || list_any (λ s. same_id id s.id) old) ≡ true) [
         | inl was ↦ here i was
         | inr is ↦ elim (fresh-or-old h live gone fresh id w (sym (alike id) ∙ is)) as (λ _. (list_any (λ s. same_id id s.id) new || list_any (λ s. same_id id s.id) old) ≡ true) [

@@ -8,6 +8,7 @@ use Rattle.std.proofs.lemmas.List.{append-nil, append_assoc}
 use Rattle.std.proofs.lemmas.List.Elements.{All-push, recursion_from_All}
 use Rattle.std.proofs.lemmas.List.Kept.{IsStrictlySortedBy-dedup}
 use Rattle.std.proofs.lemmas.List.Sorted.{list_any-IsPermutation}
+use Rattle.std.proofs.lemmas.List.Folds.{list_any-append}
 use Rattle.lpis_covers.specs.Ids.{has_id, same_id}
 use Rattle.lpis_lineage.specs.declared.row.Entry.{Entry}
 use Rattle.lpis_lineage.specs.Lineage.{holds, last_live}
@@ -43,25 +44,18 @@ pub rows-more : (h : List Entry) (ids : List (List ℕ)) (i : ℕ) (id : List �
     → (map (λ (s : StoredSpan). s.id) rows ≡ take i ids) × All (IsSpanRow h) rows → (map (λ (s : StoredSpan). s.id) new ≡ take (i + 1) ids) × All (IsSpanRow h) new
 rows-more h ids i id rows new s lt at is right n inv = rw n (read-more (λ (s : StoredSpan). s.id) rows s ids i id inv.0 lt at is, All-push (IsSpanRow h) rows s inv.1 right)
 
-has-append : (xs ys : List (List ℕ)) (q : List ℕ) → has_id (xs ++ ys) q ≡ (has_id xs q || has_id ys q)
-has-append [] ys q = refl
-has-append (x ∷ xs) ys q = ap (λ (b : Bool). same_id q x || b) (has-append xs ys q) ∙ assoc (same_id q x) (has_id xs q) (has_id ys q) where
-  assoc : (a b c : Bool) → (a || (b || c)) ≡ ((a || b) || c)
-  assoc true b c = refl
-  assoc false b c = refl
-
 -- what a release holds has a span, and the other way round
 live-held : (h : List Entry) (i : ℕ) (q : List ℕ) → holds h i q ≡ true → has_id (all_live h) q ≡ true
 live-held [] i q e = cc e
-live-held (x ∷ h) zero q e = has-append x.live (all_live h) q ∙ ap (λ (b : Bool). b || has_id (all_live h) q) e
-live-held (x ∷ h) (suc i) q e = has-append x.live (all_live h) q ∙ later (has_id x.live q) (live-held h i q e) where
+live-held (x ∷ h) zero q e = list_any-append (same_id q) x.live (all_live h) ∙ ap (λ (b : Bool). b || has_id (all_live h) q) e
+live-held (x ∷ h) (suc i) q e = list_any-append (same_id q) x.live (all_live h) ∙ later (has_id x.live q) (live-held h i q e) where
   later : (b : Bool) → has_id (all_live h) q ≡ true → (b || has_id (all_live h) q) ≡ true
   later true e = refl
   later false e = e
 
 held-first : (h : List Entry) (q : List ℕ) → has_id (all_live h) q ≡ true → is_some (first_held h q) ≡ true
 held-first [] q e = cc e
-held-first (x ∷ h) q e = by (held-first h q) (has_id x.live q) refl (sym (has-append x.live (all_live h) q) ∙ e) where
+held-first (x ∷ h) q e = by (held-first h q) (has_id x.live q) refl (sym (list_any-append (same_id q) x.live (all_live h)) ∙ e) where
   by : (has_id (all_live h) q ≡ true → is_some (first_held h q) ≡ true) → (b : Bool) → b ≡ has_id x.live q
       → (b || has_id (all_live h) q) ≡ true → is_some (cond b (Some x.year) (first_held h q)) ≡ true
   by ih true eb is = refl
