@@ -1,6 +1,6 @@
 -- What UPDATE makes of the spans.
 use Rattle.std.proofs.Common.{◌≡◌, ◌⊎◌, inl, inr, ℕ, ℤ, List, [], ◌∷◌, ◌++◌, map, drop, Bool, true, false, not, None, Ok, refl, sym, ap, ap₂, subst, ◌∙◌, IsPermutation, is_eq, true≢false}
-use Rattle.std.specs.Prelude.{if◌then◌else◌, ◌&&◌, filter}
+use Rattle.std.specs.Prelude.{if◌then◌else◌, filter}
 use Rattle.std.specs.Str.{bytes_eq}
 use Rattle.std.specs.List.{flat_map, list_all}
 use Rattle.std.specs.Ordering.{nat_cmp}
@@ -8,6 +8,7 @@ use Rattle.std.specs.Cmp.Lexicographic.{slice_cmp}
 use Rattle.std.proofs.lemmas.Bool.{cases_Bool, not-true}
 use Rattle.std.proofs.lemmas.List.Sorted.{IsPermutation-refl, IsPermutation-trans, IsPermutation-map}
 use Rattle.std.proofs.lemmas.Map.Text.{is_eq-slice_cmp}
+use Rattle.std.proofs.Math.Bool.{and-true}
 use Rattle.sqlite.specs.declared.types.Value.TheVariants.{Null, Int, Text}
 use Rattle.sqlite.specs.Order.{Row, column, value_cmp}
 use Rattle.sqlite.specs.Ops.{binary, is_true}
@@ -75,10 +76,6 @@ module _ (tree : ℕ) (y : ℤ) (id : List ℕ) where
     | inr miss ↦ rw miss (sym miss ∙ is_eq-slice_cmp a b)
   ]
 
-  and_true : (b : Bool) → (b && true) ≡ b
-  and_true true = refl
-  and_true false = refl
-
   record Point (s : StoredSpan) (n : ℤ) (r : Row) : Type 0 where
     pub hit : hits r ≡ bytes_eq s.id id
     pub rest : drop 1 (made r) ≡ span_row (record s { until = y })
@@ -86,7 +83,7 @@ module _ (tree : ℕ) (y : ℤ) (id : List ℕ) where
 
   point : (r : Row) (s : StoredSpan) (n : ℤ) → drop 1 r ≡ span_row s → rowid r ≡ Int n → Point s n r
   point [] s n e k = absurd (let f = k in cc)
-  point (v ∷ rest) s n e k = subst (Point s n) (sym (ap₂ ◌∷◌ k e)) (record { hit = and_true _ ∙ same_text s.id id; rest = rw (cast_int s.since, cast_int y); key = cast_int n })
+  point (v ∷ rest) s n e k = subst (Point s n) (sym (ap₂ ◌∷◌ k e)) (record { hit = and-true _ ∙ same_text s.id id; rest = rw (cast_int s.since, cast_int y); key = cast_int n })
 
   module _ (rows : List Row) (spans : List StoredSpan) (are : IsPermutation (map span_row spans) (map (drop 1) rows)) (keyed : AreKeyed rows) where
     at_row : (r : Row) → Has rows r → (s : StoredSpan) × (n : ℤ) × (rowid r ≡ Int n) × (drop 1 r ≡ span_row s) × Point s n r
