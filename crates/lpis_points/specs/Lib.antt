@@ -3,6 +3,7 @@ pub mod RationalRange
 pub mod RatPoints
 pub mod Plane
 pub mod Triangles
+pub mod Memory
 pub mod Sums
 pub mod Chain
 pub mod Shift

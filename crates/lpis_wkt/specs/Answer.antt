@@ -1,9 +1,10 @@
 -- What a text says, as a function.
-use Rattle.std.specs.Prelude.{◌≡◌, ℕ, List, Result, Ok, Err}
+use Rattle.std.specs.Prelude.{ℕ, List, Result}
 use Rattle.lpis_rings.specs.declared.polygon.Member.{Member}
 use Rattle.lpis_wkt.specs.declared.fault.WktCode.{WktCode}
 use Rattle.lpis_wkt.specs.declared.fault.WktFault.{WktFault}
-use Rattle.lpis_wkt.specs.declared.fault.WktFault.TheVariants.{Memory, At}
+use Rattle.lpis_points.specs.Memory.{AnswersSame}
+use Rattle.lpis_wkt.specs.Text.{report}
 use Rattle.lpis_wkt.specs.Tokens.{tokens}
 use Rattle.lpis_wkt.specs.private.Machine.{AtKeyword, outcome, answer_of}
 
@@ -14,6 +15,4 @@ polygon_of text = answer_of (outcome AtKeyword (tokens text))
 
 -- a call answered what the text says, unless memory ran out
 abbrev pub Gives : Result (List Member) WktFault → Result (List Member) (WktCode × ℕ) → Type 0
-Gives (Ok members) says = says ≡ Ok members
-Gives (Err Memory) says = Unit {0}
-Gives (Err (At code offset)) says = says ≡ Err (code, offset)
+Gives answer says = AnswersSame report says answer

@@ -1,5 +1,6 @@
 -- What a text says: a polygon, or its first fault.
-use Rattle.std.specs.Prelude.{ℕ, List}
+use Rattle.std.specs.Prelude.{ℕ, List, Option, Some, None}
+use Rattle.lpis_points.specs.Memory.{UnlessMemory}
 use Rattle.lpis_rings.specs.declared.polygon.Member.{Member}
 use Rattle.lpis_wkt.specs.declared.fault.WktCode.{WktCode}
 use Rattle.lpis_wkt.specs.declared.fault.WktFault.{WktFault}
@@ -16,7 +17,11 @@ PolygonText text members = Accepts (kinds (tokens text)) members
 unfoldable pub TextFault : List ℕ → WktCode → ℕ → Type 0
 TextFault text code offset = FirstFault (tokens text) code offset
 
+-- what a fault reports: its code, and its offset in bytes
+abbrev pub report : WktFault → Option (WktCode × ℕ)
+report Memory = None
+report (At code offset) = Some (code, offset)
+
 -- a fault that is not of memory is the first of the text
 abbrev pub IsTextFault : List ℕ → WktFault → Type 0
-IsTextFault text Memory = Unit {0}
-IsTextFault text (At code offset) = TextFault text code offset
+IsTextFault text fault = UnlessMemory (λ (r : WktCode × ℕ). TextFault text r.0 r.1) (report fault)
