@@ -19,7 +19,7 @@ use Rattle.lpis_cert.specs.CertText.{Corners, Separator, Line, PieceLine, Triang
 use Rattle.lpis_cert.specs.Fitting.{CornersFit, SeparatorFits, LineFits}
 use Rattle.lpis_cert.specs.Reading.{◌>>=◌, ◌>>?◌, is_empty, words, kind_of, word_count, first_is_id, names, form, can_stand, front, last, natural, number, coordinate, point, corners, separator}
 use Rattle.lpis_cert.specs.Reading.{piece_line, parcel_line, pairs_line, values, with_form, or_number, placed, read_line}
-use Rattle.lpis_cert.specs.Kinds.{line_kind}
+use Rattle.lpis_cert.specs.LineKinds.{line_kind}
 use Rattle.lpis_cert.proofs.NumberLemmas.{opened, number_again, number_takes, coordinate_again, coordinate_takes}
 use Rattle.lpis_cert.proofs.WordLemmas.{IsWordText, none_empty, kind_word, fields, words_are, field_words, spelling_words}
 

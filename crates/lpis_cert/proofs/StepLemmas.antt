@@ -14,7 +14,7 @@ use Rattle.lpis_cert.specs.CertText.{Line, spelling, text_of_lines}
 use Rattle.lpis_cert.specs.Reading.{with_form, same_kind, can_stand, values, placed, read_line}
 use Rattle.lpis_cert.specs.Faults.{is_lf, lines, outcome, at_last, step, Place, AtVersion, InBody, InPairs, AtEnd}
 use Rattle.lpis_cert.specs.Fitting.{LineFits}
-use Rattle.lpis_cert.specs.Kinds.{line_kind}
+use Rattle.lpis_cert.specs.LineKinds.{line_kind}
 use Rattle.lpis_cert.specs.private.Taken.{Placed, FailsWith, LineFault, ReadsLines, FaultFrom}
 use Rattle.lpis_cert.proofs.SplittingLemmas.{split_some}
 use Rattle.lpis_cert.proofs.WordLemmas.{lines_from}

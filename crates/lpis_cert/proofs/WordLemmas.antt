@@ -19,7 +19,7 @@ use Rattle.lpis_cert.specs.CertText.{Corners, Line, PieceLine, TriangleLine, Fla
 use Rattle.lpis_cert.specs.Fitting.{CornersFit, LineFits}
 use Rattle.lpis_cert.specs.Reading.{is_gap, is_empty, words}
 use Rattle.lpis_cert.specs.Faults.{is_lf, lines}
-use Rattle.lpis_cert.specs.Kinds.{line_kind}
+use Rattle.lpis_cert.specs.LineKinds.{line_kind}
 
 -- ---- bytes of words
 

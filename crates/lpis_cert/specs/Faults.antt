@@ -1,14 +1,15 @@
 -- The first fault of a text, line by line.
 use Rattle.std.specs.Str.{bytes_eq}
 use Rattle.std.specs.Prelude.{◌≡◌, ℕ, zero, suc, ◌+◌, Bool, cond, ◌&&◌, ◌==◌, List, [], ◌∷◌, length}
-use Rattle.std.specs.Prelude.{Result, Ok, Err, nat_le}
+use Rattle.std.specs.Prelude.{Option, Some, None, Result, Ok, Err, nat_le}
 use Rattle.std.specs.List.{slice_split}
+use Rattle.lpis_points.specs.Memory.{UnlessMemory}
 use Rattle.lpis_cert.specs.declared.kind.Stage.{Stage}
 use Rattle.lpis_cert.specs.declared.kind.Stage.TheVariants as stage
 use Rattle.lpis_cert.specs.declared.fault.CertCode.{CertCode}
 use Rattle.lpis_cert.specs.declared.fault.CertCode.TheVariants as code
 use Rattle.lpis_cert.specs.declared.fault.CertFault.{CertFault}
-use Rattle.lpis_cert.specs.declared.fault.CertFault.TheVariants as fault
+use Rattle.lpis_cert.specs.declared.fault.CertFault.TheVariants.{Memory, At}
 use Rattle.lpis_cert.specs.declared.kind.Kind.TheVariants as kind
 use Rattle.lpis_cert.specs.declared.kind.Expected.TheVariants.{One, Block}
 use Rattle.lpis_cert.specs.CertText.{Line, PieceLine, ParcelLine, PairsLine}
@@ -90,7 +91,11 @@ outcome n p (l ∷ m ∷ ls) = at_line n (step p l) >>= λ q. outcome (n + 1) q 
 abbrev pub verdict : List ℕ → Result ℕ (CertCode × ℕ)
 verdict text = outcome 1 AtVersion (lines text)
 
+-- what a fault reports: its code, and its line
+abbrev pub report : CertFault → Option (CertCode × ℕ)
+report Memory = None
+report (At c n) = Some (c, n)
+
 -- what a reader may answer in place of a certificate
 abbrev pub IsFirstFault : CertFault → List ℕ → Type 0
-IsFirstFault fault.Memory text = Unit {0}
-IsFirstFault (fault.At c n) text = verdict text ≡ Err (c, n)
+IsFirstFault fault text = UnlessMemory (λ (r : CertCode × ℕ). verdict text ≡ Err r) (report fault)

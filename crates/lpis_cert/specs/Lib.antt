@@ -6,5 +6,5 @@ pub mod Fitting
 pub mod Reading
 pub mod Faults
 pub mod Contents
-pub mod Kinds
+pub mod LineKinds
 pub mod private

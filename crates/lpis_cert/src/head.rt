@@ -4,7 +4,7 @@ ghost use Rattle.std.specs.Prelude.{◌≡◌, ◌∷◌, [], true, IfOk, IfErr,
 ghost use Rattle.lpis_covers.specs.Ids.{is_id};
 ghost use Rattle.lpis_cert.specs.CertText.{PieceLine, ParcelLine, PairsLine};
 ghost use Rattle.lpis_cert.specs.Fitting.{LineFits};
-ghost use Rattle.lpis_cert.specs.Kinds.{line_kind};
+ghost use Rattle.lpis_cert.specs.LineKinds.{line_kind};
 ghost use Rattle.lpis_cert.specs.Reading.{piece_line, parcel_line, pairs_line, can_stand};
 ghost use Rattle.lpis_cert.specs.private.Taken.{ReadsLines, LineFault};
 ghost use Rattle.lpis_cert.specs.private.Drafts.{head_line};

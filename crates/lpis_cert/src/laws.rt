@@ -9,7 +9,7 @@ ghost use Rattle.lpis_cert.specs.CertText.{lines_of, Line, spelling};
 ghost use Rattle.lpis_cert.specs.Fitting.{LineFits};
 ghost use Rattle.lpis_cert.specs.Contents.{cert_text, content_of};
 ghost use Rattle.lpis_cert.specs.Reading.{number, read_line, can_stand};
-ghost use Rattle.lpis_cert.specs.Kinds.{line_kind};
+ghost use Rattle.lpis_cert.specs.LineKinds.{line_kind};
 ghost use Rattle.lpis_cert.specs.Faults.{lines, verdict};
 ghost use Rattle.lpis_cert.specs.declared.cert.Cert.{Cert};
 ghost use Rattle.lpis_cert.specs.declared.kind.Expected.{Expected};

@@ -1,17 +1,17 @@
 -- What the reader has taken from the front of a text.
 use Rattle.std.specs.Prelude.{ℕ, ◌+◌, ◌≡◌, ◌⊎◌, Bool, cond, List, [], ◌∷◌, ◌++◌, length, Ok, Err}
+use Rattle.lpis_points.specs.Memory.{UnlessMemory}
 use Rattle.lpis_cert.specs.declared.kind.Stage.{Stage}
 use Rattle.lpis_cert.specs.declared.fault.CertCode.{CertCode}
 use Rattle.lpis_cert.specs.declared.fault.CertCode.TheVariants as code
 use Rattle.lpis_cert.specs.declared.fault.CertFault.{CertFault}
-use Rattle.lpis_cert.specs.declared.fault.CertFault.TheVariants.{Memory, At}
 use Rattle.lpis_cert.specs.declared.kind.Kind.{Kind}
 use Rattle.lpis_cert.specs.declared.kind.Kind.TheVariants as kind
 use Rattle.lpis_cert.specs.declared.kind.Expected.{Expected}
 use Rattle.lpis_cert.specs.CertText.{Corners, Line, TriangleLine, FlatLine, text_of_lines}
 use Rattle.lpis_cert.specs.Versions.{written}
 use Rattle.lpis_cert.specs.Reading.{placed, read_line}
-use Rattle.lpis_cert.specs.Faults.{lines, outcome, Place, InBody, Declared}
+use Rattle.lpis_cert.specs.Faults.{lines, outcome, report, Place, InBody, Declared}
 
 -- line n of the text is this line, and the rest begins with line m
 pub record TakesLine (text : List ℕ) (n : ℕ) (line rest : List ℕ) (m : ℕ) : Type 0 where
@@ -33,8 +33,8 @@ FailsWith e text c = ((lines text ≡ text ∷ []) × (c ≡ code.Truncated))
     × (read_line written e line ≡ Err c))
 
 abbrev pub LineFault : CertFault → ℕ → Expected → List ℕ → Type 0
-LineFault Memory n e text = Unit {0}
-LineFault (At c m) n e text = (m ≡ n) × FailsWith e text c
+LineFault fault n e text =
+    UnlessMemory (λ (r : CertCode × ℕ). (r.1 ≡ n) × FailsWith e text r.0) (report fault)
 
 -- these lines, from line n on, and then the rest, from line m on
 pub record ReadsLines (text : List ℕ) (n : ℕ) (ls : List Line) (rest : List ℕ) (m : ℕ) : Type 0
@@ -44,8 +44,8 @@ pub record ReadsLines (text : List ℕ) (n : ℕ) (ls : List Line) (rest : List 
 
 -- the first fault from here on
 abbrev pub FaultFrom : CertFault → ℕ → Place → List ℕ → Type 0
-FaultFrom Memory n p text = Unit {0}
-FaultFrom (At c m) n p text = outcome n p (lines text) ≡ Err (c, m)
+FaultFrom fault n p text =
+    UnlessMemory (λ (r : CertCode × ℕ). outcome n p (lines text) ≡ Err r) (report fault)
 
 -- ---- triangle lines and flat lines
 
