@@ -13,7 +13,7 @@ use Rattle.lpis_cert.specs.declared.cert.Cert.{Cert}
 use Rattle.lpis_cert.specs.declared.fault.CertFault.{CertFault}
 use Rattle.lpis_cert.specs.declared.fault.CertFault.TheVariants.{Memory, At}
 use Rattle.lpis_cert.specs.Contents.{corner_numbers, piece_of, parcel_of, separator_of, content_of, cert_text}
-use Rattle.lpis_cert.proofs.CertEqualityLemmas.{cert_eq}
+use Rattle.lpis_cert.proofs.CertEqualityLemmas.{cert_eq, same_content}
 use Rattle.lpis_cert.specs.private.Fits.{PieceFits, ParcelFits}
 use Rattle.lpis_cert.specs.private.Taken.{FaultFrom}
 use Rattle.lpis_cert.proofs.BlockLemmas.{all_corners_fit, separators_fit}
@@ -240,9 +240,6 @@ pieces_injective (p ∷ ps) (p2 ∷ ps2) qs rs xs ys e =
     let rest = t.0 in
     (ap₂ (λ (a : PieceBlock) (b : List PieceBlock). a ∷ b) first rest, t.1, t.2)
 
-abbrev made : List PieceBlock → List ParcelBlock → List Separator → Content
-made ps qs rs = record { pieces = ps; parcels = qs; pairs = rs }
-
 same_body : (a b : List ℕ) → first_line written ++ (10 ∷ a) ≡ first_line written ++ (10 ∷ b) → a ≡ b
 same_body a b e = cc e
 
@@ -255,10 +252,7 @@ one_value c d fc fd e =
     (lines_of c) (certificate_goes c fc)) (fits_of (InBody stage.Pieces 0 0 none_declared) AtEnd (lines_of d)
     (certificate_goes d fd)) body in
     let s = pieces_injective c.pieces d.pieces c.parcels d.parcels c.pairs d.pairs ls in
-    let p = s.0 in
-    let q = s.1 in
-    let r = s.2 in
-    ap (λ (x : List PieceBlock). made x c.parcels c.pairs) p ∙ ap (λ (x : List ParcelBlock). made d.pieces x c.pairs) q ∙ ap (λ (x : List Separator). made d.pieces d.parcels x) r
+    same_content s.0 s.1 s.2
 
 -- ---- the values of the code
 
@@ -270,23 +264,28 @@ parcels_fit : (ps : List ParcelPart) → AllByRecursion ParcelFits (map parcel_o
 parcels_fit [] = tt
 parcels_fit (p ∷ ps) = (record { id = p.named; flats = all_corners_fit p.flats }, parcels_fit ps)
 
-pub sum-map : {A B : Type 0} (f : A → B) (g : B → ℕ) (h : A → ℕ) → ((x : A) → g (f x) ≡ h x) → (xs : List A) → sum_by g (map f xs) ≡ sum_by h xs
+sum-map : {A B : Type 0} (f : A → B) (g : B → ℕ) (h : A → ℕ) → ((x : A) → g (f x) ≡ h x) → (xs : List A) → sum_by g (map f xs) ≡ sum_by h xs
 sum-map f g h e [] = refl
 sum-map f g h e (x ∷ xs) = sum_by-cons g (f x) (map f xs) ∙ ap₂ (λ (a b : ℕ). a + b) (e x) (sum-map f g h e xs) ∙ sym (sum_by-cons h x xs)
 
+pub triangle_sum : (ps : List PiecePart) → sum_by (λ (p : PieceBlock). length p.triangles) (map piece_of ps) ≡ sum_by (λ p. length p.triangles) ps
+triangle_sum ps = sum-map piece_of (λ p. length p.triangles) (λ p. length p.triangles) (λ p. length-map p.triangles corner_numbers) ps
+
+pub flat_sum : (ps : List PiecePart) → sum_by (λ (p : PieceBlock). length p.flats) (map piece_of ps) ≡ sum_by (λ p. length p.flats) ps
+flat_sum ps = sum-map piece_of (λ p. length p.flats) (λ p. length p.flats) (λ p. length-map p.flats corner_numbers) ps
+
+pub parcel_flat_sum : (ps : List ParcelPart) → sum_by (λ (p : ParcelBlock). length p.flats) (map parcel_of ps) ≡ sum_by (λ p. length p.flats) ps
+parcel_flat_sum ps = sum-map parcel_of (λ p. length p.flats) (λ p. length p.flats) (λ p. length-map p.flats corner_numbers) ps
+
 pub cert_fits : (c : Cert) → Fits (content_of c)
 cert_fits c =
-    let t = sum-map piece_of (λ p. length p.triangles) (λ p. length p.triangles) (λ p. length-map p.triangles corner_numbers) c.pieces in
-    let f = sum-map piece_of (λ p. length p.flats) (λ p. length p.flats) (λ p. length-map p.flats corner_numbers) c.pieces in
-    let g = sum-map parcel_of (λ p. length p.flats) (λ p. length p.flats) (λ p. length-map p.flats corner_numbers) c.parcels in
-    let n = length-map c.pairs separator_of in
     record {
       pieces = pieces_fit c.pieces;
       parcels = parcels_fit c.parcels;
       pairs = separators_fit c.pairs;
-      triangles_few = omega (arith, t, c.triangles_few);
-      flats_few = omega (arith, f, g, c.flats_few);
-      pairs_few = omega (arith, n, c.pairs_few);
+      triangles_few = omega (arith, triangle_sum c.pieces, c.triangles_few);
+      flats_few = omega (arith, flat_sum c.pieces, parcel_flat_sum c.parcels, c.flats_few);
+      pairs_few = omega (arith, length-map c.pairs separator_of, c.pairs_few);
     }
 
 -- two certificates have two texts

@@ -30,16 +30,13 @@ use Rattle.lpis_cert.specs.private.Fits.{PieceFits, ParcelFits, Fits}
 use Rattle.lpis_cert.specs.Reading.{read_line}
 use Rattle.lpis_cert.specs.Faults.{lines, outcome, at_last, at_line, step, open_block, within, Place, AtVersion, InBody, InPairs, AtEnd, Declared, none_declared, grow, grow_flats, verdict}
 use Rattle.lpis_cert.proofs.LineLemmas.{ReadsAs, read_takes, bind_ok, word_is}
-use Rattle.lpis_cert.proofs.LawLemmas.{sum-map}
+use Rattle.lpis_cert.proofs.LawLemmas.{triangle_sum, flat_sum, parcel_flat_sum}
+use Rattle.lpis_cert.proofs.CertEqualityLemmas.{same_content}
 
 -- ---- what a text may be from a place on
 
--- in a body: the triangles and flats that the block still wants, and then a content that fits what was declared before
-record Left (b : Stage) (t f : ℕ) (d : Declared) (ts fs : List Corners) (c : Content) (text : List ℕ) : Type 0 where
-  pub triangle_count : length ts ≡ t
-  pub flat_count : length fs ≡ f
-  pub triangles : AllByRecursion CornersFit ts
-  pub flats : AllByRecursion CornersFit fs
+-- in a body: a content that fits what was declared before
+record Remains (b : Stage) (d : Declared) (c : Content) : Type 0 where
   pub pieces : AllByRecursion PieceFits c.pieces
   pub parcels : AllByRecursion ParcelFits c.parcels
   pub pairs : AllByRecursion SeparatorFits c.pairs
@@ -47,6 +44,14 @@ record Left (b : Stage) (t f : ℕ) (d : Declared) (ts fs : List Corners) (c : C
   pub triangles_few : d.triangles + sum_by (λ p. length p.triangles) c.pieces ≤ most_triangles
   pub flats_few : d.flats + (sum_by (λ p. length p.flats) c.pieces + sum_by (λ p. length p.flats) c.parcels) ≤ most_flats
   pub pairs_few : length c.pairs ≤ greatest_count
+
+-- the triangles and flats that the block still wants, and then such a content
+record Left (b : Stage) (t f : ℕ) (d : Declared) (ts fs : List Corners) (c : Content) (text : List ℕ) : Type 0 where
+  pub triangle_count : length ts ≡ t
+  pub flat_count : length fs ≡ f
+  pub triangles : AllByRecursion CornersFit ts
+  pub flats : AllByRecursion CornersFit fs
+  pub content : Remains b d c
   pub spelled : text ≡ text_of_lines (map TriangleLine ts ++ (map FlatLine fs ++ lines_of c))
 
 abbrev May : Place → List ℕ → Type 0
@@ -79,13 +84,7 @@ triangle_more b t f d ts fs c line rest (TriangleLine x) r m = (
     flat_count = m.flat_count;
     triangles = (r.fits, m.triangles);
     flats = m.flats;
-    pieces = m.pieces;
-    parcels = m.parcels;
-    pairs = m.pairs;
-    no_pieces = m.no_pieces;
-    triangles_few = m.triangles_few;
-    flats_few = m.flats_few;
-    pairs_few = m.pairs_few;
+    content = m.content;
     spelled = line_more (TriangleLine x) (map TriangleLine ts ++ (map FlatLine fs ++ lines_of c)) line rest r.text m.spelled;
   },
 )
@@ -106,19 +105,18 @@ flat_more b f d fs c line rest (FlatLine x) r m = (
     flat_count = ap suc m.flat_count;
     triangles = tt;
     flats = (r.fits, m.flats);
-    pieces = m.pieces;
-    parcels = m.parcels;
-    pairs = m.pairs;
-    no_pieces = m.no_pieces;
-    triangles_few = m.triangles_few;
-    flats_few = m.flats_few;
-    pairs_few = m.pairs_few;
+    content = m.content;
     spelled = line_more (FlatLine x) (map FlatLine fs ++ lines_of c) line rest r.text m.spelled;
   },
 )
 flat_more b f d fs c line rest _ r m = let no = r.stands in absurd (cc no)
 
 -- ---- blocks
+
+-- the block wants no more
+wanting_none : (b : Stage) (d : Declared) (c : Content) (text : List ℕ) → Remains b d c → text ≡ text_of_lines (lines_of c) → May (InBody b 0 0 d) text
+wanting_none b d c text m spelled =
+    ([], [], c, record { triangle_count = refl; flat_count = refl; triangles = tt; flats = tt; content = m; spelled = spelled })
 
 regrouped : (a b c q : List Line) → a ++ (b ++ (c ++ q)) ≡ ((a ++ b) ++ c) ++ q
 regrouped a b c q = sym (append_assoc a b (c ++ q)) ∙ sym (append_assoc (a ++ b) c q)
@@ -129,27 +127,21 @@ unfolding lines_of
 piece_more d id ts fs c line rest spelled named m =
     let p : PieceBlock = record { id = id; triangles = ts; flats = fs } in
     let st = sum_by-cons (λ (p : PieceBlock). length p.triangles) p c.pieces in
-    let sf = sum_by-cons (λ (p : PieceBlock). length p.flats) p c.pieces in (
-      [],
-      [],
-      record { pieces = p ∷ c.pieces; parcels = c.parcels; pairs = c.pairs },
-      record {
-        triangle_count = refl;
-        flat_count = refl;
-        triangles = tt;
-        flats = tt;
-        pieces = (record { id = named; triangles = m.triangles; flats = m.flats }, m.pieces);
-        parcels = m.parcels;
-        pairs = m.pairs;
-        no_pieces = λ other. absurd (cc other);
-        triangles_few = omega (arith, st, m.triangles_few);
-        flats_few = omega (arith, sf, m.flats_few);
-        pairs_few = m.pairs_few;
-        spelled = line_more (PieceLine id (length ts) (length fs)) (map TriangleLine ts ++ (map FlatLine fs ++ lines_of c)) line rest spelled m.spelled
-            ∙ ap (λ (ls : List Line). text_of_lines (PieceLine id (length ts) (length fs) ∷ ls))
-            (regrouped (map TriangleLine ts) (map FlatLine fs) (flat_map piece_lines c.pieces) (flat_map parcel_lines c.parcels ++ end_lines c.pairs));
-      },
-    )
+    let sf = sum_by-cons (λ (p : PieceBlock). length p.flats) p c.pieces in
+    let own = m.content in
+    let more : Remains stage.Pieces d (record { pieces = p ∷ c.pieces; parcels = c.parcels; pairs = c.pairs }) = record {
+      pieces = (record { id = named; triangles = m.triangles; flats = m.flats }, own.pieces);
+      parcels = own.parcels;
+      pairs = own.pairs;
+      no_pieces = λ other. absurd (cc other);
+      triangles_few = omega (arith, st, own.triangles_few);
+      flats_few = omega (arith, sf, own.flats_few);
+      pairs_few = own.pairs_few;
+    } in
+    wanting_none stage.Pieces d _ _ more
+    (line_more (PieceLine id (length ts) (length fs)) (map TriangleLine ts ++ (map FlatLine fs ++ lines_of c)) line rest spelled m.spelled
+    ∙ ap (λ (ls : List Line). text_of_lines (PieceLine id (length ts) (length fs) ∷ ls))
+    (regrouped (map TriangleLine ts) (map FlatLine fs) (flat_map piece_lines c.pieces) (flat_map parcel_lines c.parcels ++ end_lines c.pairs)))
 
 parcel_more : (b : Stage) (d : Declared) (id : List ℕ) (fs : List Corners) (qs : List ParcelBlock) (rs : List Separator)
     (line rest : List ℕ) → line ≡ spelling (ParcelLine id (length fs)) → is_id id ≡ true
@@ -157,50 +149,36 @@ parcel_more : (b : Stage) (d : Declared) (id : List ℕ) (fs : List Corners) (qs
 unfolding lines_of
 parcel_more b d id fs qs rs line rest spelled named m =
     let q : ParcelBlock = record { id = id; flats = fs } in
-    let sf = sum_by-cons (λ (p : ParcelBlock). length p.flats) q qs in (
-      [],
-      [],
-      record { pieces = []; parcels = q ∷ qs; pairs = rs },
-      record {
-        triangle_count = refl;
-        flat_count = refl;
-        triangles = tt;
-        flats = tt;
-        pieces = tt;
-        parcels = (record { id = named; flats = m.flats }, m.parcels);
-        pairs = m.pairs;
-        no_pieces = λ _. refl;
-        triangles_few = m.triangles_few;
-        flats_few = omega (arith, sf, m.flats_few);
-        pairs_few = m.pairs_few;
-        spelled = line_more (ParcelLine id (length fs)) (map FlatLine fs ++ (flat_map parcel_lines qs ++ end_lines rs)) line rest spelled m.spelled
-            ∙ ap (λ (ls : List Line). text_of_lines (ParcelLine id (length fs) ∷ ls)) (sym (append_assoc (map FlatLine fs) (flat_map parcel_lines qs) (end_lines rs)));
-      },
-    )
+    let sf = sum_by-cons (λ (p : ParcelBlock). length p.flats) q qs in
+    let own = m.content in
+    let more : Remains b d (record { pieces = []; parcels = q ∷ qs; pairs = rs }) = record {
+      pieces = tt;
+      parcels = (record { id = named; flats = m.flats }, own.parcels);
+      pairs = own.pairs;
+      no_pieces = λ _. refl;
+      triangles_few = own.triangles_few;
+      flats_few = omega (arith, sf, own.flats_few);
+      pairs_few = own.pairs_few;
+    } in
+    wanting_none b d _ _ more
+    (line_more (ParcelLine id (length fs)) (map FlatLine fs ++ (flat_map parcel_lines qs ++ end_lines rs)) line rest spelled m.spelled
+    ∙ ap (λ (ls : List Line). text_of_lines (ParcelLine id (length fs) ∷ ls)) (sym (append_assoc (map FlatLine fs) (flat_map parcel_lines qs) (end_lines rs))))
 
 pairs_more : (b : Stage) (d : Declared) (ps : List Separator) (line rest : List ℕ) → Small (InBody b 0 0 d)
     → line ≡ spelling (PairsLine (length ps)) → length ps ≤ greatest_count → AllByRecursion SeparatorFits ps
     → rest ≡ text_of_lines (map PairLine ps ++ (EndLine ∷ [])) → May (InBody b 0 0 d) (line ++ (10 ∷ rest))
 unfolding lines_of
-pairs_more b d ps line rest s spelled few fits e = (
-  [],
-  [],
-  record { pieces = []; parcels = []; pairs = ps },
-  record {
-    triangle_count = refl;
-    flat_count = refl;
-    triangles = tt;
-    flats = tt;
-    pieces = tt;
-    parcels = tt;
-    pairs = fits;
-    no_pieces = λ _. refl;
-    triangles_few = omega (arith, s.0);
-    flats_few = omega (arith, s.1);
-    pairs_few = few;
-    spelled = line_more (PairsLine (length ps)) (map PairLine ps ++ (EndLine ∷ [])) line rest spelled e;
-  },
-)
+pairs_more b d ps line rest s spelled few fits e =
+    let more : Remains b d (record { pieces = []; parcels = []; pairs = ps }) = record {
+      pieces = tt;
+      parcels = tt;
+      pairs = fits;
+      no_pieces = λ _. refl;
+      triangles_few = omega (arith, s.0);
+      flats_few = omega (arith, s.1);
+      pairs_few = few;
+    } in
+    wanting_none b d _ _ more (line_more (PairsLine (length ps)) (map PairLine ps ++ (EndLine ∷ [])) line rest spelled e)
 
 -- both limits hold, and the place is the next one
 within_ok : (d : Declared) (next q : Place) → within d next ≡ Ok q → Small (InBody stage.Pieces 0 0 d) × (next ≡ q)
@@ -232,7 +210,7 @@ parcel_sized : (b : Stage) (d : Declared) (id : List ℕ) (f : ℕ) (ts fs : Lis
     → May (InBody b 0 0 d) (line ++ (10 ∷ rest))
 parcel_sized b d id f ts fs c line rest named spelled m =
     let l = bare stage.Parcels f (grow_flats d f) ts fs c rest m in
-    let none = subst (λ (ps : List PieceBlock). Left stage.Parcels 0 f (grow_flats d f) [] fs (record { pieces = ps; parcels = c.parcels; pairs = c.pairs }) rest) (l.no_pieces refl) l in
+    let none = subst (λ (ps : List PieceBlock). Left stage.Parcels 0 f (grow_flats d f) [] fs (record { pieces = ps; parcels = c.parcels; pairs = c.pairs }) rest) (l.content.no_pieces refl) l in
     subst (λ (k : ℕ). line ≡ spelling (ParcelLine id k) → Left stage.Parcels 0 k (grow_flats d k) [] fs
     (record { pieces = []; parcels = c.parcels; pairs = c.pairs }) rest
     → May (InBody b 0 0 d) (line ++ (10 ∷ rest))) m.flat_count
@@ -278,12 +256,12 @@ first_more line rest ts fs c spelled m =
     let none = subst (λ (xs : List Corners). Left stage.Pieces 0 0 none_declared [] xs c rest) (nil_from_length fs l.flat_count) l in (
       c,
       record {
-        pieces = m.pieces;
-        parcels = m.parcels;
-        pairs = m.pairs;
-        triangles_few = omega (arith, m.triangles_few);
-        flats_few = omega (arith, m.flats_few);
-        pairs_few = m.pairs_few;
+        pieces = m.content.pieces;
+        parcels = m.content.parcels;
+        pairs = m.content.pairs;
+        triangles_few = omega (arith, m.content.triangles_few);
+        flats_few = omega (arith, m.content.flats_few);
+        pairs_few = m.content.pairs_few;
       },
       ap₂ (λ (x y : List ℕ). x ++ (10 ∷ y)) spelled none.spelled,
     )
@@ -354,59 +332,48 @@ triangle_of c f = record {
   c = record { x = c.x3; y = c.y3; x_in_range = f.x3; y_in_range = f.y3 };
 }
 
+-- each item of a list is what is read of one that fits
+each_of : {A B : Type 0} (Fit : B → Type 0) (read : A → B) → ((y : B) → Fit y → (x : A) × (read x ≡ y))
+    → (ys : List B) → AllByRecursion Fit ys → (xs : List A) × (map read xs ≡ ys)
+each_of Fit read one [] fits = ([], refl)
+each_of Fit read one (y ∷ ys) fits =
+    let x = one y fits.0 in
+    let r = each_of Fit read one ys fits.1 in
+    (x.0 ∷ r.0, ap₂ (λ (z : _) (zs : List _). z ∷ zs) x.1 r.1)
+
 triangles_of : (cs : List Corners) → AllByRecursion CornersFit cs → (ts : List Triangle) × (all_corners ts ≡ cs)
-triangles_of [] fits = ([], refl)
-triangles_of (c ∷ cs) fits = let r = triangles_of cs fits.1 in (triangle_of c fits.0 ∷ r.0, ap (λ (xs : List Corners). c ∷ xs) r.1)
+triangles_of cs fits = each_of CornersFit corner_numbers (λ c f. (triangle_of c f, refl)) cs fits
 
-pieces_of : (ps : List PieceBlock) → AllByRecursion PieceFits ps → (qs : List PiecePart) × (map piece_of qs ≡ ps)
-pieces_of [] fits = ([], refl)
-pieces_of (p ∷ ps) fits =
-    let t = triangles_of p.triangles fits.0.triangles in
-    let f = triangles_of p.flats fits.0.flats in
-    let r = pieces_of ps fits.1 in
-    let q : PiecePart = record { id = p.id; triangles = t.0; flats = f.0; named = fits.0.id } in
-    let same : piece_of q ≡ p = ap₂ (λ (x y : List Corners). record { id = p.id; triangles = x; flats = y }) t.1 f.1 in
-    (q ∷ r.0, ap₂ (λ (x : PieceBlock) (xs : List PieceBlock). x ∷ xs) same r.1)
+a_piece_of : (p : PieceBlock) → PieceFits p → (q : PiecePart) × (piece_of q ≡ p)
+a_piece_of p fits =
+    let t = triangles_of p.triangles fits.triangles in
+    let f = triangles_of p.flats fits.flats in
+    (record { id = p.id; triangles = t.0; flats = f.0; named = fits.id }, ap₂ (λ (x y : List Corners). record { id = p.id; triangles = x; flats = y }) t.1 f.1)
 
-parcels_of : (ps : List ParcelBlock) → AllByRecursion ParcelFits ps → (qs : List ParcelPart) × (map parcel_of qs ≡ ps)
-parcels_of [] fits = ([], refl)
-parcels_of (p ∷ ps) fits =
-    let f = triangles_of p.flats fits.0.flats in
-    let r = parcels_of ps fits.1 in
-    let q : ParcelPart = record { id = p.id; flats = f.0; named = fits.0.id } in
-    let same : parcel_of q ≡ p = ap (λ (x : List Corners). record { id = p.id; flats = x }) f.1 in
-    (q ∷ r.0, ap₂ (λ (x : ParcelBlock) (xs : List ParcelBlock). x ∷ xs) same r.1)
+a_parcel_of : (p : ParcelBlock) → ParcelFits p → (q : ParcelPart) × (parcel_of q ≡ p)
+a_parcel_of p fits =
+    let f = triangles_of p.flats fits.flats in
+    (record { id = p.id; flats = f.0; named = fits.id }, ap (λ (x : List Corners). record { id = p.id; flats = x }) f.1)
 
-pairs_of : (ps : List Separator) → AllByRecursion SeparatorFits ps → (qs : List part.PairLine) × (map separator_of qs ≡ ps)
-pairs_of [] fits = ([], refl)
-pairs_of (p ∷ ps) fits =
-    let r = pairs_of ps fits.1 in
-    (record { i = p.i; j = p.j; k = p.k; i_fits = fits.0.i; j_fits = fits.0.j; k_fits = fits.0.k } ∷ r.0, ap (λ (xs : List Separator). p ∷ xs) r.1)
+a_pair_of : (p : Separator) → SeparatorFits p → (q : part.PairLine) × (separator_of q ≡ p)
+a_pair_of p fits = (record { i = p.i; j = p.j; k = p.k; i_fits = fits.i; j_fits = fits.j; k_fits = fits.k }, refl)
 
 cert_of : (c : Content) → Fits c → (x : Cert) × (content_of x ≡ c)
 cert_of c fits =
-    let ps = pieces_of c.pieces fits.pieces in
-    let qs = parcels_of c.parcels fits.parcels in
-    let rs = pairs_of c.pairs fits.pairs in
-    let t = sum-map piece_of (λ p. length p.triangles) (λ p. length p.triangles) (λ p. length-map p.triangles corner_numbers) ps.0 in
-    let f = sum-map piece_of (λ p. length p.flats) (λ p. length p.flats) (λ p. length-map p.flats corner_numbers) ps.0 in
-    let g = sum-map parcel_of (λ p. length p.flats) (λ p. length p.flats) (λ p. length-map p.flats corner_numbers) qs.0 in
-    let n = length-map rs.0 separator_of in
-    let tc = ap (λ (xs : List PieceBlock). sum_by (λ p. length p.triangles) xs) ps.1 in
-    let fc = ap (λ (xs : List PieceBlock). sum_by (λ p. length p.flats) xs) ps.1 in
-    let gc = ap (λ (xs : List ParcelBlock). sum_by (λ p. length p.flats) xs) qs.1 in
-    let nc = ap (λ (xs : List Separator). length xs) rs.1 in (
+    let ps = each_of PieceFits piece_of a_piece_of c.pieces fits.pieces in
+    let qs = each_of ParcelFits parcel_of a_parcel_of c.parcels fits.parcels in
+    let rs = each_of SeparatorFits separator_of a_pair_of c.pairs fits.pairs in
+    let same = same_content ps.1 qs.1 rs.1 in
+    let own = subst Fits (sym same) fits in (
       record {
         pieces = ps.0;
         parcels = qs.0;
         pairs = rs.0;
-        triangles_few = omega (arith, t, tc, fits.triangles_few);
-        flats_few = omega (arith, f, fc, g, gc, fits.flats_few);
-        pairs_few = omega (arith, n, nc, fits.pairs_few);
+        triangles_few = omega (arith, triangle_sum ps.0, own.triangles_few);
+        flats_few = omega (arith, flat_sum ps.0, parcel_flat_sum qs.0, own.flats_few);
+        pairs_few = omega (arith, length-map rs.0 separator_of, own.pairs_few);
       },
-      ap (λ (x : List PieceBlock). record { pieces = x; parcels = map parcel_of qs.0; pairs = map separator_of rs.0 }) ps.1
-          ∙ ap (λ (x : List ParcelBlock). record { pieces = c.pieces; parcels = x; pairs = map separator_of rs.0 }) qs.1
-          ∙ ap (λ (x : List Separator). record { pieces = c.pieces; parcels = c.parcels; pairs = x }) rs.1,
+      same,
     )
 
 -- a text without a fault is a certificate's
