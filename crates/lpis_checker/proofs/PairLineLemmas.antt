@@ -16,6 +16,7 @@ use Rattle.lpis_checker.specs.declared.condition.Site.{Site}
 use Rattle.lpis_checker.specs.declared.condition.Site.TheVariants.{PieceAt, ParcelAt, LineAt, PairAt}
 use Rattle.lpis_checker.specs.GoodCertificate.{triangles_of, IsNamed, IsInOrder, OfTwo, Holds, HoldsEverywhere}
 use Rattle.lpis_checker.specs.FirstFault.{IsEarlier, IsFirst}
+use Rattle.lpis_checker.proofs.SiteLemmas.{read_at}
 
 -- ---- the order of pairs
 below_trans : (a b c d e f : ℕ) → IsBelow a b c d → IsBelow c d e f → IsBelow a b e f
@@ -53,27 +54,22 @@ lines_ascend r c h k (suc m) p q l e f = by (split l) (λ x w g. lines_ascend r 
         below_trans p.i p.j x.i x.j q.i q.j (rec x s g) (o.after m x next g)
 
 -- ---- the triangles that a line names
-pub line_bounds : (r : Contents) (c : Cert) (ts : List Triangle) → HoldsEverywhere r c Names
-    → ts ≡ triangles_of c.pieces → (k : ℕ) (l : PairLine) → slice_get c.pairs k ≡ Some l → (l.i < length ts)
-    × (l.j < length ts)
-line_bounds r c ts h e k l f =
-    let o : IsInOrder c k l = h (LineAt k) l f in
-    let j : l.j < length ts = subst (λ (us : List Triangle). l.j < length us) (sym e) o.within in
-    let i = o.rising in
-    (omega arith, j)
+pub record LineRead (c : Cert) (ts : List Triangle) (k : ℕ) (l : PairLine) : Type 0 where
+  pub at : slice_get c.pairs k ≡ Some l
+  pub rising : l.i < l.j
+  pub within : l.j < length ts
 
--- a test of the two triangles
-pub of_two : (ts : List Triangle) (i j : ℕ) (P : Triangle → Triangle → Type 0) (b : Bool) (t u : Triangle)
-    → slice_get ts i ≡ Some t → slice_get ts j ≡ Some u → (IsTrue b ↔ P t u) → IsTrue b ↔ OfTwo ts i j P
-of_two ts i j P b t u e f h = (
-  λ y v w g k. subst (λ (z : Triangle). P v z) (same_Some u w (sym f ∙ k)) (subst (λ (z : Triangle). P z u) (same_Some t v (sym e ∙ g)) (h.0 y)),
-  λ w. h.1 (w t u e f),
-)
+pub line_read : (r : Contents) (c : Cert) (ts : List Triangle) → HoldsEverywhere r c Names → ts ≡ triangles_of c.pieces
+    → {slice : List PairLine} (k : ℕ) (l : PairLine) → slice ≡ c.pairs → k < length c.pairs → l ≡ get_or slice k l → LineRead c ts k l
+line_read r c ts h e {slice} k l same inside is =
+    let f = read_at slice c.pairs k l same inside is in
+    let o : IsInOrder c k l = h (LineAt k) l f in
+    record { at = f; rising = o.rising; within = subst (λ (us : List Triangle). l.j < length us) (sym e) o.within }
 
 -- two triangles that are there are near where they are not apart
-pub near_two : (ts us : List Triangle) (i j : ℕ) (b : Bool) → ts ≡ us → i < j → (i < length ts) × (j < length ts) → (IsTrue b ↔ OfTwo ts i j (λ t u. are_apart t u ≡ false)) → IsTrue b ↔ IsNear us i j
+pub near_two : (ts us : List Triangle) (i j : ℕ) (b : Bool) → ts ≡ us → i < j → j < length ts → (IsTrue b ↔ OfTwo ts i j (λ t u. are_apart t u ≡ false)) → IsTrue b ↔ IsNear us i j
 near_two ts us i j b same rising within h = subst (λ (vs : List Triangle). IsTrue b ↔ IsNear vs i j) same (
-  λ y. to (item-within ts i within.0) (item-within ts j within.1) y,
+  λ y. to (item-within ts i (omega (arith, rising, within))) (item-within ts j within) y,
   λ n. h.1 (λ t u e f. subst (λ (z : Triangle). are_apart t z ≡ false) (same_Some n.u u (sym n.at_j ∙ f))
       (subst (λ (z : Triangle). are_apart z n.u ≡ false) (same_Some n.t t (sym n.at_i ∙ e)) n.near)),
 )

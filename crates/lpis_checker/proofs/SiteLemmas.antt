@@ -3,6 +3,8 @@ use Rattle.std.proofs.Common.{◌≡◌, ℕ, ◌+◌, ◌<◌, ◌≤◌, Bool,
 use Rattle.std.proofs.lemmas.Bool.{cases_eq, cases_lt}
 use Rattle.std.specs.List.{slice_get}
 use Rattle.std.specs.Option.{option_map}
+use Rattle.std.specs.Prelude.{IfOk, Result, ⊤}
+use Rattle.std.proofs.lemmas.Result.{IfOk-weaker}
 use Rattle.std.proofs.lemmas.Option.{none-some, same_Some, slice_get_past, slice_get_read, slice_get_within}
 use Rattle.lpis_covers.specs.declared.piece.Piece.{Piece}
 use Rattle.lpis_parcels.specs.declared.parcel.Parcel.{Parcel}
@@ -15,9 +17,9 @@ use Rattle.lpis_checker.specs.declared.condition.Condition.{Condition}
 use Rattle.lpis_checker.specs.declared.condition.Condition.TheVariants.{Names, Triangles, Turned, Flats, Corners, PieceEdges, ParcelEdges, NearPairs, NotApart, Separating}
 use Rattle.lpis_checker.specs.declared.condition.Site.{Site}
 use Rattle.lpis_checker.specs.declared.condition.Site.TheVariants.{PieceAt, ParcelAt, LineAt, PairAt}
-use Rattle.lpis_checker.specs.GoodCertificate.{Holds, HoldsEverywhere, OfPiece, OfParcel, OfLine}
+use Rattle.lpis_checker.specs.GoodCertificate.{Holds, HoldsEverywhere, OfBoth, OfPiece, OfParcel, OfLine, OnParcel, OnPiece}
 use Rattle.lpis_checker.specs.FirstFault.{IsEarlier, IsFirst}
-use Rattle.lpis_checker.specs.private.Searches.{IsOfLine, OnParcel, OnPiece}
+use Rattle.lpis_checker.specs.private.Searches.{IsOfLine}
 
 -- ---- holding everywhere
 pub at_all_sites : (r : Contents) (c : Cert) (q : Condition) → ((k : ℕ) → Holds r c q (PieceAt k))
@@ -50,20 +52,12 @@ pub some_item : {A : Type 0} (id : A → List ℕ) (o : Option A) (n : List ℕ)
 some_item id None n e = absurd (none-some n e)
 some_item id (Some x) n e = (x, refl)
 
--- ---- a test of the part at a site
-pub of_piece : (r : Contents) (c : Cert) (P : Piece → PiecePart → Type 0) (b : Bool) (k : ℕ) (x : Piece) (t : PiecePart)
-    → slice_get r.pieces k ≡ Some x → slice_get c.pieces k ≡ Some t → (IsTrue b ↔ P x t) → IsTrue b ↔ OfPiece r c k P
-of_piece r c P b k x t e f h = (
-  λ y z u g i. subst (λ (v : PiecePart). P z v) (same_Some t u (sym f ∙ i)) (subst (λ (w : Piece). P w t) (same_Some x z (sym e ∙ g)) (h.0 y)),
-  λ w. h.1 (w x t e f),
-)
-
-pub of_parcel : (r : Contents) (c : Cert) (P : Parcel → ParcelPart → Type 0) (b : Bool) (k : ℕ) (x : Parcel)
-    (t : ParcelPart) → slice_get r.parcels k ≡ Some x → slice_get c.parcels k ≡ Some t → (IsTrue b ↔ P x t) → IsTrue b
-    ↔ OfParcel r c k P
-of_parcel r c P b k x t e f h = (
-  λ y z u g i. subst (λ (v : ParcelPart). P z v) (same_Some t u (sym f ∙ i)) (subst (λ (w : Parcel). P w t) (same_Some x z (sym e ∙ g)) (h.0 y)),
-  λ w. h.1 (w x t e f),
+-- ---- a test of what is at a site
+pub of_both : {A B : Type 0} (xs : List A) (i : ℕ) (ys : List B) (j : ℕ) (P : A → B → Type 0) (b : Bool) (x : A) (y : B)
+    → slice_get xs i ≡ Some x → slice_get ys j ≡ Some y → (IsTrue b ↔ P x y) → IsTrue b ↔ OfBoth xs i ys j P
+of_both {A} {B} xs i ys j P b x y e f h = (
+  λ t z u g k. subst (λ (v : B). P z v) (same_Some y u (sym f ∙ k)) (subst (λ (w : A). P w y) (same_Some x z (sym e ∙ g)) (h.0 t)),
+  λ w. h.1 (w x y e f),
 )
 
 pub of_line : (c : Cert) (P : PairLine → Type 0) (b : Bool) (k : ℕ) (l : PairLine) → slice_get c.pairs k ≡ Some l → (IsTrue b ↔ P l) → IsTrue b ↔ OfLine c k P
@@ -81,63 +75,44 @@ pub read_at : {A : Type 0} (slice items : List A) (i : ℕ) (x : A) → slice �
 read_at slice items i x e l r =
     slice_get_read items (length items) i x refl l (r ∙ ap (λ (xs : List _). get_or xs i x) e)
 
+-- the same of a slice that is as long
+pub read_in : {A : Type 0} {slice items : List A} {k : ℕ} {x : A} → slice ≡ items → k < length slice → x ≡ get_or slice k x → slice_get items k ≡ Some x
+read_in {slice = slice} {items} {k} {x} e l r = read_at slice items k x e (subst (λ (xs : List _). k < length xs) e l) r
+
 -- ---- a test of the part at a place
-pub on_piece : (r : Contents) (c : Cert) (q : Condition) (b : Bool) (k : ℕ) (x : Piece) (t : PiecePart)
-    → (q ≡ Names → ⊥) → slice_get r.pieces k ≡ Some x → slice_get c.pieces k ≡ Some t → (IsTrue b ↔ OnPiece q x t)
-    → IsTrue b ↔ Holds r c q (PieceAt k)
-on_piece r c Names b k x t other e f h = absurd (other refl)
-on_piece r c Triangles b k x t other e f h = of_piece r c (OnPiece Triangles) b k x t e f h
-on_piece r c Turned b k x t other e f h = of_piece r c (OnPiece Turned) b k x t e f h
-on_piece r c Flats b k x t other e f h = of_piece r c (OnPiece Flats) b k x t e f h
-on_piece r c Corners b k x t other e f h = of_piece r c (OnPiece Corners) b k x t e f h
-on_piece r c PieceEdges b k x t other e f h = of_piece r c (OnPiece PieceEdges) b k x t e f h
-on_piece r c ParcelEdges b k x t other e f h = h
-on_piece r c NearPairs b k x t other e f h = h
-on_piece r c NotApart b k x t other e f h = h
-on_piece r c Separating b k x t other e f h = h
+-- what a condition other than that of names says there
+same : {P : Type 0} → P ↔ P
+same = (λ p. p, λ p. p)
 
-pub on_parcel : (r : Contents) (c : Cert) (q : Condition) (b : Bool) (k : ℕ) (x : Parcel) (t : ParcelPart)
-    → (q ≡ Names → ⊥) → slice_get r.parcels k ≡ Some x → slice_get c.parcels k ≡ Some t → (IsTrue b ↔ OnParcel r q x t)
-    → IsTrue b ↔ Holds r c q (ParcelAt k)
-on_parcel r c Names b k x t other e f h = absurd (other refl)
-on_parcel r c Triangles b k x t other e f h = h
-on_parcel r c Turned b k x t other e f h = h
-on_parcel r c Flats b k x t other e f h = of_parcel r c (OnParcel r Flats) b k x t e f h
-on_parcel r c Corners b k x t other e f h = of_parcel r c (OnParcel r Corners) b k x t e f h
-on_parcel r c PieceEdges b k x t other e f h = h
-on_parcel r c ParcelEdges b k x t other e f h = of_parcel r c (OnParcel r ParcelEdges) b k x t e f h
-on_parcel r c NearPairs b k x t other e f h = h
-on_parcel r c NotApart b k x t other e f h = h
-on_parcel r c Separating b k x t other e f h = h
+nothing : {A B : Type 0} {F : A → Type 0} {G : B → Type 0} → ⊤ ↔ ((x : A) (y : B) → F x → G y → ⊤)
+nothing = (λ t x y e f. tt, λ h. tt)
 
--- where the certificate or the release has no such part, a condition other than that of names holds
-pub no_piece : (r : Contents) (c : Cert) (q : Condition) (k : ℕ) → (q ≡ Names → ⊥)
-    → ((x : Piece) (t : PiecePart) → slice_get r.pieces k ≡ Some x → slice_get c.pieces k ≡ Some t → ⊥)
-    → Holds r c q (PieceAt k)
-no_piece r c Names k other none = absurd (other refl)
-no_piece r c Triangles k other none = λ x t e f. absurd (none x t e f)
-no_piece r c Turned k other none = λ x t e f. absurd (none x t e f)
-no_piece r c Flats k other none = λ x t e f. absurd (none x t e f)
-no_piece r c Corners k other none = λ x t e f. absurd (none x t e f)
-no_piece r c PieceEdges k other none = λ x t e f. absurd (none x t e f)
-no_piece r c ParcelEdges k other none = tt
-no_piece r c NearPairs k other none = tt
-no_piece r c NotApart k other none = tt
-no_piece r c Separating k other none = tt
+pub of_parts : (r : Contents) (c : Cert) (q : Condition) (k : ℕ) → (q ≡ Names → ⊥) → (Holds r c q (PieceAt k) ↔ OfPiece r c k (OnPiece q)) × (Holds r c q (ParcelAt k) ↔ OfParcel r c k (OnParcel r q))
+of_parts r c Names k other = absurd (other refl)
+of_parts r c Triangles k other = (same, nothing)
+of_parts r c Turned k other = (same, nothing)
+of_parts r c Flats k other = (same, same)
+of_parts r c Corners k other = (same, same)
+of_parts r c PieceEdges k other = (same, nothing)
+of_parts r c ParcelEdges k other = (nothing, same)
+of_parts r c NearPairs k other = (nothing, nothing)
+of_parts r c NotApart k other = (nothing, nothing)
+of_parts r c Separating k other = (nothing, nothing)
 
-pub no_parcel : (r : Contents) (c : Cert) (q : Condition) (k : ℕ) → (q ≡ Names → ⊥)
-    → ((x : Parcel) (t : ParcelPart) → slice_get r.parcels k ≡ Some x → slice_get c.parcels k ≡ Some t → ⊥)
-    → Holds r c q (ParcelAt k)
-no_parcel r c Names k other none = absurd (other refl)
-no_parcel r c Triangles k other none = tt
-no_parcel r c Turned k other none = tt
-no_parcel r c Flats k other none = λ x t e f. absurd (none x t e f)
-no_parcel r c Corners k other none = λ x t e f. absurd (none x t e f)
-no_parcel r c PieceEdges k other none = tt
-no_parcel r c ParcelEdges k other none = λ x t e f. absurd (none x t e f)
-no_parcel r c NearPairs k other none = tt
-no_parcel r c NotApart k other none = tt
-no_parcel r c Separating k other none = tt
+-- a test of the items at a place of two lists
+pub told_of_both : {A B E H : Type 0} (xs : List A) (ts : List B) (k : ℕ) (P : A → B → Type 0) {x : A} {t : B} (result : Result Bool E)
+    → (H ↔ OfBoth xs k ts k P) → slice_get xs k ≡ Some x → slice_get ts k ≡ Some t → IfOk result (λ b. IsTrue b ↔ P x t) → IfOk result (λ b. IsTrue b ↔ H)
+told_of_both xs ts k P {x} {t} result says e f told =
+    IfOk-weaker result _ _ (λ b h. let o = of_both xs k ts k P b x t e f h in (λ y. says.1 (o.0 y), λ y. o.1 (says.0 y))) told
+
+-- nothing is said past the end of one of them
+pub past_first : {A B H : Type 0} (xs : List A) {slice : List A} (ts : List B) (k : ℕ) {P : A → B → Type 0} → (H ↔ OfBoth xs k ts k P) → slice ≡ xs → length slice ≤ k → IsTrue true ↔ H
+past_first xs ts k says e l =
+    (λ t. says.1 (λ x y f g. absurd (none-some x (sym (slice_get_past xs k (subst (λ (zs : List _). length zs ≤ k) e l)) ∙ f))), λ h. refl)
+
+pub past_second : {A B H : Type 0} (xs : List A) (ts : List B) {slice : List B} (k : ℕ) {P : A → B → Type 0} → (H ↔ OfBoth xs k ts k P) → slice ≡ ts → length slice ≤ k → IsTrue true ↔ H
+past_second xs ts k says e l =
+    (λ t. says.1 (λ x y f g. absurd (none-some y (sym (slice_get_past ts k (subst (λ (zs : List _). length zs ≤ k) e l)) ∙ g))), λ h. refl)
 
 -- past the ends of both lists each condition holds
 is_names : (q : Condition) → (q ≡ Names) ⊎ (q ≡ Names → ⊥)
@@ -152,27 +127,20 @@ is_names NearPairs = inr (λ e. cc)
 is_names NotApart = inr (λ e. cc)
 is_names Separating = inr (λ e. cc)
 
+no_ids : {A B : Type 0} (id : A → List ℕ) (name : B → List ℕ) (xs : List A) (ts : List B) (k : ℕ) → length ts ≤ k → length xs ≤ k → option_map name (slice_get ts k) ≡ option_map id (slice_get xs k)
+no_ids id name xs ts k parts own = ap (λ (o : Option _). option_map name o) (slice_get_past ts k parts) ∙ sym (ap (λ (o : Option _). option_map id o) (slice_get_past xs k own))
+
 pub past_pieces : (r : Contents) (c : Cert) (q : Condition) (k : ℕ) → length c.pieces ≤ k → length r.pieces ≤ k → Holds r c q (PieceAt k)
-past_pieces r c q k parts own =
-    let f = slice_get_past c.pieces k parts in
-    let e = slice_get_past r.pieces k own in
-    elim (is_names q) [
-      | inl named ↦ subst (λ (s : Condition). Holds r c s (PieceAt k)) (sym named)
-          (ap (λ (o : Option PiecePart). option_map (λ (t : PiecePart). t.id) o) f
-          ∙ sym (ap (λ (o : Option Piece). option_map (λ (x : Piece). x.id) o) e))
-      | inr other ↦ no_piece r c q k other (λ x t g h. none-some x (sym e ∙ g))
-    ]
+past_pieces r c q k parts own = elim (is_names q) [
+  | inl named ↦ subst (λ (s : Condition). Holds r c s (PieceAt k)) (sym named) (no_ids (λ (x : Piece). x.id) (λ (t : PiecePart). t.id) r.pieces c.pieces k parts own)
+  | inr other ↦ (past_first r.pieces c.pieces k (of_parts r c q k other).0 refl own).0 refl
+]
 
 pub past_parcels : (r : Contents) (c : Cert) (q : Condition) (k : ℕ) → length c.parcels ≤ k → length r.parcels ≤ k → Holds r c q (ParcelAt k)
-past_parcels r c q k parts own =
-    let f = slice_get_past c.parcels k parts in
-    let e = slice_get_past r.parcels k own in
-    elim (is_names q) [
-      | inl named ↦ subst (λ (s : Condition). Holds r c s (ParcelAt k)) (sym named)
-          (ap (λ (o : Option ParcelPart). option_map (λ (t : ParcelPart). t.id) o) f
-          ∙ sym (ap (λ (o : Option Parcel). option_map (λ (x : Parcel). x.id) o) e))
-      | inr other ↦ no_parcel r c q k other (λ x t g h. none-some x (sym e ∙ g))
-    ]
+past_parcels r c q k parts own = elim (is_names q) [
+  | inl named ↦ subst (λ (s : Condition). Holds r c s (ParcelAt k)) (sym named) (no_ids (λ (x : Parcel). x.id) (λ (t : ParcelPart). t.id) r.parcels c.parcels k parts own)
+  | inr other ↦ (past_first r.parcels c.parcels k (of_parts r c q k other).1 refl own).0 refl
+]
 
 -- what holds below a place that is past the ends holds everywhere
 pub at_each : (P : ℕ → Type 0) (k n m : ℕ) → ((i : ℕ) → n ≤ i → m ≤ i → P i) → n ≤ k → m ≤ k → ((i : ℕ) → i < k → P i) → (i : ℕ) → P i
@@ -195,10 +163,6 @@ past_lines r c q k long = by q
     by NearPairs = tt
     by NotApart = λ l e. absurd (never l e)
     by Separating = λ l e. absurd (never l e)
-
--- within a slice of the list
-pub within_same : {A : Type 0} {slice items : List A} {k : ℕ} → slice ≡ items → k < length slice → k < length items
-within_same {k = k} e l = subst (λ (xs : List _). k < length xs) e l
 
 -- a condition on the triangles of pair lines says nothing elsewhere
 pub of_lines : (r : Contents) (c : Cert) (q : Condition) → IsOfLine q → ((m : ℕ) → Holds r c q (PieceAt m)) × ((m : ℕ) → Holds r c q (ParcelAt m)) × ((i j : ℕ) → Holds r c q (PairAt i j))

@@ -1,6 +1,7 @@
 -- What is told of a certificate that is not good: the lowest code that fails, with its first place.
 use Rattle.std.specs.Prelude.{◌≡◌, ℕ, ◌<◌, List, [], Option, Some, None, unwrap_or, slice_get, ⊤}
 use Rattle.std.specs.Option.{option_map}
+use Rattle.lpis_points.specs.Memory.{UnlessMemory}
 use Rattle.lpis_covers.specs.declared.piece.Piece.{Piece}
 use Rattle.lpis_parcels.specs.declared.parcel.Parcel.{Parcel}
 use Rattle.lpis_parcels.specs.Release.{Contents}
@@ -17,7 +18,7 @@ use Rattle.lpis_checker.specs.declared.condition.Site.TheVariants.{PairAt}
 use Rattle.lpis_checker.specs.declared.fault.Place.{Place}
 use Rattle.lpis_checker.specs.declared.fault.Place.TheVariants as place
 use Rattle.lpis_checker.specs.declared.fault.CheckFault.{CheckFault}
-use Rattle.lpis_checker.specs.declared.fault.CheckFault.TheVariants as fault
+use Rattle.lpis_checker.specs.declared.fault.CheckFault.TheVariants.{Memory, At}
 use Rattle.lpis_checker.specs.Codes.{code_of}
 use Rattle.lpis_checker.specs.GoodCertificate.{Holds, HoldsEverywhere}
 
@@ -73,13 +74,18 @@ place_of r c (ParcelAt k) = place.Parcel (parcel_id r c k)
 place_of r c (LineAt k) = line_place (slice_get c.pairs k)
 place_of r c (PairAt i j) = place.Pair i j
 
+-- what a fault reports: its code and its place
+abbrev pub report : CheckFault → Option (Condition × Place)
+report Memory = None
+report (At code at) = Some (code, at)
+
 -- a fault that is told is that one; want of memory may stand in its place
 abbrev pub ReportsFirst : Contents → Cert → CheckFault → Type 0
-ReportsFirst r c fault.Memory = ⊤
-ReportsFirst r c (fault.At code at) = (site : Site) × IsFault r c code site
-    × (at ≡ place_of r c site)
+ReportsFirst r c fault =
+    UnlessMemory (λ (t : Condition × Place). (site : Site) × IsFault r c t.0 site
+    × (t.1 ≡ place_of r c site)) (report fault)
 
 -- the fault is one of the parts, below the conditions on pairs of triangles
 abbrev pub IsOfParts : CheckFault → Type 0
-IsOfParts fault.Memory = ⊤
-IsOfParts (fault.At code at) = code_of code < code_of NearPairs
+IsOfParts fault =
+    UnlessMemory (λ (t : Condition × Place). code_of t.0 < code_of NearPairs) (report fault)

@@ -65,15 +65,18 @@ pub record IsInOrder (c : Cert) (k : ℕ) (l : PairLine) : Type 0 where
       → IsBelow before.i before.j l.i l.j
 
 -- ---- what is said at a site
--- of the piece at k and its part, where both are there
+-- of the items at i and j of two lists, where both are there
+abbrev pub OfBoth : {A B : Type 0} → List A → ℕ → List B → ℕ → (A → B → Type 0) → Type 0
+OfBoth {A} {B} xs i ys j P = (x : A) (y : B) → slice_get xs i ≡ Some x → slice_get ys j ≡ Some y
+    → P x y
+
+-- of the piece at k and its part
 abbrev pub OfPiece : Contents → Cert → ℕ → (Piece → PiecePart → Type 0) → Type 0
-OfPiece r c k P = (x : Piece) (t : PiecePart) → slice_get r.pieces k ≡ Some x
-    → slice_get c.pieces k ≡ Some t → P x t
+OfPiece r c k P = OfBoth r.pieces k c.pieces k P
 
 -- of the parcel at k and its part
 abbrev pub OfParcel : Contents → Cert → ℕ → (Parcel → ParcelPart → Type 0) → Type 0
-OfParcel r c k P = (x : Parcel) (t : ParcelPart) → slice_get r.parcels k ≡ Some x
-    → slice_get c.parcels k ≡ Some t → P x t
+OfParcel r c k P = OfBoth r.parcels k c.parcels k P
 
 -- of the pair line at k
 abbrev pub OfLine : Cert → ℕ → (PairLine → Type 0) → Type 0
@@ -81,7 +84,28 @@ OfLine c k P = (l : PairLine) → slice_get c.pairs k ≡ Some l → P l
 
 -- of the triangles i and j
 abbrev pub OfTwo : List Triangle → ℕ → ℕ → (Triangle → Triangle → Type 0) → Type 0
-OfTwo ts i j P = (t u : Triangle) → slice_get ts i ≡ Some t → slice_get ts j ≡ Some u → P t u
+OfTwo ts i j P = OfBoth ts i ts j P
+
+-- what a condition other than that of names says of a piece and its part
+abbrev pub OnPiece : Condition → Piece → PiecePart → Type 0
+OnPiece Triangles x t = 0 < length t.triangles
+OnPiece Turned x t = All IsCounterClockwise t.triangles
+OnPiece Flats x t = All IsFlat t.flats
+OnPiece Corners x t = HaveCorners (corners_of x.polygon) (t.triangles ++ t.flats)
+OnPiece PieceEdges x t =
+    SameNet same_point (edges_of x.polygon)
+    (edges_of_triangles t.triangles ++ edges_of_triangles t.flats)
+OnPiece _ x t = ⊤
+
+-- of a parcel and its part
+abbrev pub OnParcel : Contents → Condition → Parcel → ParcelPart → Type 0
+OnParcel r Flats x t = All IsFlat t.flats
+OnParcel r Corners x t =
+    HaveCorners (corners_of x.polygon ++ corners_of_pieces (pieces_named r x.id)) t.flats
+OnParcel r ParcelEdges x t =
+    SameNet same_point (edges_of x.polygon)
+    (edges_of_pieces (pieces_named r x.id) ++ edges_of_triangles t.flats)
+OnParcel r _ x t = ⊤
 
 -- what each condition says, site by site
 abbrev pub Holds : Contents → Cert → Condition → Site → Type 0
@@ -90,22 +114,14 @@ Holds r c Names (PieceAt k) = option_map (λ (t : PiecePart). t.id) (slice_get c
 Holds r c Names (ParcelAt k) = option_map (λ (t : ParcelPart). t.id) (slice_get c.parcels k)
     ≡ option_map (λ (x : Parcel). x.id) (slice_get r.parcels k)
 Holds r c Names (LineAt k) = OfLine c k (IsInOrder c k)
-Holds r c Triangles (PieceAt k) = OfPiece r c k (λ x t. 0 < length t.triangles)
-Holds r c Turned (PieceAt k) = OfPiece r c k (λ x t. All IsCounterClockwise t.triangles)
-Holds r c Flats (PieceAt k) = OfPiece r c k (λ x t. All IsFlat t.flats)
-Holds r c Flats (ParcelAt k) = OfParcel r c k (λ x t. All IsFlat t.flats)
-Holds r c Corners (PieceAt k) =
-    OfPiece r c k (λ x t. HaveCorners (corners_of x.polygon) (t.triangles ++ t.flats))
-Holds r c Corners (ParcelAt k) =
-    OfParcel r c k
-    (λ x t. HaveCorners (corners_of x.polygon ++ corners_of_pieces (pieces_named r x.id)) t.flats)
-Holds r c PieceEdges (PieceAt k) =
-    OfPiece r c k (λ x t. SameNet same_point (edges_of x.polygon) (edges_of_triangles t.triangles
-    ++ edges_of_triangles t.flats))
-Holds r c ParcelEdges (ParcelAt k) =
-    OfParcel r c k
-    (λ x t. SameNet same_point (edges_of x.polygon) (edges_of_pieces (pieces_named r x.id)
-    ++ edges_of_triangles t.flats))
+Holds r c Triangles (PieceAt k) = OfPiece r c k (OnPiece Triangles)
+Holds r c Turned (PieceAt k) = OfPiece r c k (OnPiece Turned)
+Holds r c Flats (PieceAt k) = OfPiece r c k (OnPiece Flats)
+Holds r c Flats (ParcelAt k) = OfParcel r c k (OnParcel r Flats)
+Holds r c Corners (PieceAt k) = OfPiece r c k (OnPiece Corners)
+Holds r c Corners (ParcelAt k) = OfParcel r c k (OnParcel r Corners)
+Holds r c PieceEdges (PieceAt k) = OfPiece r c k (OnPiece PieceEdges)
+Holds r c ParcelEdges (ParcelAt k) = OfParcel r c k (OnParcel r ParcelEdges)
 Holds r c NearPairs (PairAt i j) = IsNear (triangles_of c.pieces) i j → IsNamed c.pairs i j
 Holds r c NotApart (LineAt k) = OfLine c k (λ l. IsNear (triangles_of c.pieces) l.i l.j)
 Holds r c Separating (LineAt k) =

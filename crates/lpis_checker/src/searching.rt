@@ -1,10 +1,10 @@
 //! The first site at which a condition fails.
 
 ghost use Rattle.std.specs.Prelude.{◌≡◌, ◌↔◌, ◌<◌, ℕ, IsTrue, IfOk, length};
-ghost use Rattle.lpis_checker.specs.GoodCertificate.{Holds, HoldsEverywhere, triangles_of};
+ghost use Rattle.lpis_checker.specs.GoodCertificate.{Holds, HoldsEverywhere, OnParcel, OnPiece};
+ghost use Rattle.lpis_checker.specs.GoodCertificate.{triangles_of};
 ghost use Rattle.lpis_checker.specs.private.Searches.{FindsFirst, FindsParcel, FindsPart};
-ghost use Rattle.lpis_checker.specs.private.Searches.{FindsPiece, IsOfLine, IsOfPart, OnParcel};
-ghost use Rattle.lpis_checker.specs.private.Searches.{OnPiece};
+ghost use Rattle.lpis_checker.specs.private.Searches.{FindsPiece, IsOfLine, IsOfPart};
 ghost use Rattle.lpis_checker.specs.declared.condition.Condition.TheVariants.{Names};
 ghost use Rattle.lpis_checker.specs.declared.condition.Site.TheVariants.{LineAt, ParcelAt, PieceAt};
 
@@ -13,7 +13,7 @@ use crate::corners::{has_corners_of_parcel, has_corners_of_piece};
 use crate::names::{disordered_line, is_parcel_named, is_piece_named};
 use crate::nets::{is_cut, is_filled};
 use crate::parts::{are_flat, has_triangle, is_turned};
-use crate::separators::{is_near_at, is_separator_at};
+use crate::separators::{line_separates, names_near};
 use crate::signed::SignedEdge;
 use lpis_cert::{Cert, ParcelPart, PiecePart};
 use lpis_covers::Piece;
@@ -209,9 +209,10 @@ fn holds_at_line(
     requires within { place < length cert.now.pairs }
     ensures { IsTrue result ↔ Holds release.now cert.now condition (LineAt place) }
 {
+    let line = &cert.pairs.as_slice()[place];
     match condition {
-        Condition::NotApart => is_near_at(release, cert, triangles, place),
-        Condition::Separating => is_separator_at(release, cert, triangles, place),
+        Condition::NotApart => names_near(triangles, line),
+        Condition::Separating => line_separates(triangles, line),
         _ => true,
     }
 }

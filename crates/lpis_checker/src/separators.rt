@@ -1,19 +1,14 @@
-//! Conditions on the triangles of each pair line.
+//! Tests of the two triangles of a pair line.
 
 ghost use Rattle.std.specs.Prelude.{◌≡◌, ◌↔◌, ◌<◌, IsTrue, false, length};
 ghost use Rattle.lpis_points.specs.Triangles.{are_apart};
-ghost use Rattle.lpis_checker.specs.GoodCertificate.{EdgeSeparates, Holds, HoldsEverywhere};
-ghost use Rattle.lpis_checker.specs.GoodCertificate.{LineSeparates, OfTwo, triangles_of};
-ghost use Rattle.lpis_checker.specs.declared.condition.Condition.TheVariants.{Names, NotApart};
-ghost use Rattle.lpis_checker.specs.declared.condition.Condition.TheVariants.{Separating};
-ghost use Rattle.lpis_checker.specs.declared.condition.Site.TheVariants.{LineAt};
+ghost use Rattle.lpis_checker.specs.GoodCertificate.{EdgeSeparates, LineSeparates, OfTwo};
 
-use lpis_cert::{Cert, PairLine};
-use lpis_parcels::Release;
+use lpis_cert::PairLine;
 use lpis_points::{Triangle, apart, edge, separates};
 
 /// Whether the triangles that a line names are not apart.
-fn names_near(triangles: &[Triangle], line: &PairLine) -> bool
+pub(crate) fn names_near(triangles: &[Triangle], line: &PairLine) -> bool
     requires i { line.now.i < length triangles.now }
     requires j { line.now.j < length triangles.now }
     ensures { IsTrue result ↔ OfTwo triangles.now line.now.i line.now.j
@@ -44,7 +39,7 @@ fn separates_by(k: u8, first: &Triangle, second: &Triangle) -> bool
 }
 
 /// Whether the edge that a line names separates its triangles.
-fn line_separates(triangles: &[Triangle], line: &PairLine) -> bool
+pub(crate) fn line_separates(triangles: &[Triangle], line: &PairLine) -> bool
     requires i { line.now.i < length triangles.now }
     requires j { line.now.j < length triangles.now }
     ensures { IsTrue result ↔ OfTwo triangles.now line.now.i line.now.j
@@ -55,34 +50,4 @@ fn line_separates(triangles: &[Triangle], line: &PairLine) -> bool
         &triangles[line.i as usize],
         &triangles[line.j as usize],
     )
-}
-
-/// Whether the triangles of the pair line at a place are not apart.
-pub(crate) fn is_near_at(
-    release: &Release,
-    cert: &Cert,
-    triangles: &[Triangle],
-    place: usize,
-) -> bool
-    requires names { HoldsEverywhere release.now cert.now Names }
-    requires numbered { triangles.now ≡ triangles_of cert.now.pieces }
-    requires within { place < length cert.now.pairs }
-    ensures { IsTrue result ↔ Holds release.now cert.now NotApart (LineAt place) }
-{
-    names_near(triangles, &cert.pairs.as_slice()[place])
-}
-
-/// Whether the edge that the pair line at a place names separates its triangles.
-pub(crate) fn is_separator_at(
-    release: &Release,
-    cert: &Cert,
-    triangles: &[Triangle],
-    place: usize,
-) -> bool
-    requires names { HoldsEverywhere release.now cert.now Names }
-    requires numbered { triangles.now ≡ triangles_of cert.now.pieces }
-    requires within { place < length cert.now.pairs }
-    ensures { IsTrue result ↔ Holds release.now cert.now Separating (LineAt place) }
-{
-    line_separates(triangles, &cert.pairs.as_slice()[place])
 }

@@ -1,27 +1,14 @@
 -- What searches for the first site of a condition answer.
-use Rattle.std.specs.Prelude.{◌≡◌, ℕ, ◌<◌, ◌++◌, All, Option, None, MatchOption, length, slice_get}
-use Rattle.std.specs.Prelude.{⊤}
-use Rattle.lpis_points.specs.Plane.{same_point}
-use Rattle.lpis_points.specs.Chain.{SameNet}
-use Rattle.lpis_points.specs.Triangles.{IsCounterClockwise, IsFlat}
-use Rattle.lpis_rings.specs.Edges.{edges_of}
-use Rattle.lpis_rings.specs.Map.{edges_of_triangles}
-use Rattle.lpis_covers.specs.declared.piece.Piece.{Piece}
-use Rattle.lpis_parcels.specs.declared.parcel.Parcel.{Parcel}
-use Rattle.lpis_cert.specs.declared.part.PiecePart.{PiecePart}
-use Rattle.lpis_cert.specs.declared.part.ParcelPart.{ParcelPart}
-use Rattle.lpis_checker.specs.Corners.{corners_of, corners_of_pieces}
-use Rattle.lpis_parcels.specs.Release.{Contents, pieces_named}
+use Rattle.std.specs.Prelude.{◌≡◌, ℕ, ◌<◌, Option, None, MatchOption, slice_get, ⊤}
+use Rattle.lpis_parcels.specs.Release.{Contents}
 use Rattle.lpis_cert.specs.declared.cert.Cert.{Cert}
 use Rattle.lpis_checker.specs.declared.condition.Condition.{Condition}
-use Rattle.lpis_checker.specs.declared.condition.Condition.TheVariants.{Names, Triangles, Turned}
-use Rattle.lpis_checker.specs.declared.condition.Condition.TheVariants.{Flats, Corners, PieceEdges}
-use Rattle.lpis_checker.specs.declared.condition.Condition.TheVariants.{ParcelEdges, NearPairs}
+use Rattle.lpis_checker.specs.declared.condition.Condition.TheVariants.{Names, NearPairs}
 use Rattle.lpis_checker.specs.declared.condition.Condition.TheVariants.{NotApart, Separating}
 use Rattle.lpis_checker.specs.declared.condition.Site.{Site}
 use Rattle.lpis_checker.specs.declared.condition.Site.TheVariants.{PieceAt, ParcelAt, LineAt}
 use Rattle.lpis_checker.specs.Codes.{code_of}
-use Rattle.lpis_checker.specs.GoodCertificate.{HaveCorners, Holds, HoldsEverywhere, edges_of_pieces}
+use Rattle.lpis_checker.specs.GoodCertificate.{Holds, HoldsEverywhere}
 use Rattle.lpis_checker.specs.FirstFault.{HoldBelow, IsFirst, IsFault, place_of}
 use Rattle.lpis_checker.specs.declared.fault.CheckFault.{CheckFault}
 use Rattle.lpis_checker.specs.declared.fault.CheckFault.TheVariants.{Memory, At}
@@ -51,26 +38,6 @@ abbrev pub FindsPart : Contents → Cert → Condition → Option Site → Type 
 FindsPart r c q o =
     MatchOption o (((m : ℕ) → Holds r c q (PieceAt m)) × ((m : ℕ) → Holds r c q (ParcelAt m)))
     (IsFirst r c q)
-
--- ---- what a condition other than that of names says of one part
-abbrev pub OnPiece : Condition → Piece → PiecePart → Type 0
-OnPiece Triangles x t = 0 < length t.triangles
-OnPiece Turned x t = All IsCounterClockwise t.triangles
-OnPiece Flats x t = All IsFlat t.flats
-OnPiece Corners x t = HaveCorners (corners_of x.polygon) (t.triangles ++ t.flats)
-OnPiece PieceEdges x t =
-    SameNet same_point (edges_of x.polygon)
-    (edges_of_triangles t.triangles ++ edges_of_triangles t.flats)
-OnPiece _ x t = ⊤
-
-abbrev pub OnParcel : Contents → Condition → Parcel → ParcelPart → Type 0
-OnParcel r Flats x t = All IsFlat t.flats
-OnParcel r Corners x t =
-    HaveCorners (corners_of x.polygon ++ corners_of_pieces (pieces_named r x.id)) t.flats
-OnParcel r ParcelEdges x t =
-    SameNet same_point (edges_of x.polygon)
-    (edges_of_pieces (pieces_named r x.id) ++ edges_of_triangles t.flats)
-OnParcel r _ x t = ⊤
 
 -- a condition that says nothing of pair lines and of pairs of triangles
 abbrev pub IsOfPart : Condition → Type 0

@@ -1,6 +1,6 @@
 -- Edges with a sign, and the sums of their signs.
 use Rattle.std.specs.Prelude.{◌≡◌, ℕ, ◌+◌, ◌<◌, ℤ, pos, negsuc, ◌+ℤ◌, neg_ℤ, Bool, true, false}
-use Rattle.std.specs.Prelude.{◌&&◌, cond, List, [], ◌∷◌, slice_get, Option, Some, None, not, ◌⊎◌}
+use Rattle.std.specs.Prelude.{◌&&◌, cond, List, slice_get, Option, Some, None, not, ◌⊎◌}
 use Rattle.std.specs.declared.cmp.Ordering.{Ordering}
 use Rattle.std.specs.Ordering.{is_lt, ordering_then, int_cmp}
 use Rattle.lpis_points.specs.Sums.{int_sum_by}

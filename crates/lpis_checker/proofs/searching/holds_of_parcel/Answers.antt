@@ -1,5 +1,5 @@
 use Rattle.std.proofs.Common.{◌↔◌, Bool, IfOk, IsTrue, subst, sym}
-use Rattle.lpis_checker.specs.private.Searches.{OnParcel}
+use Rattle.lpis_checker.specs.GoodCertificate.{OnParcel}
 use Rattle.lpis_checker.specs.declared.condition.Condition.{Condition}
 use Rattle.lpis_checker.proofs.searching.holds_of_parcel.Goals as goal
 
