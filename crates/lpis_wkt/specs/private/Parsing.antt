@@ -1,16 +1,17 @@
 -- The parser's values, as the machine's states.
 use Rattle.std.specs.Prelude.{◌≡◌, ℕ, ◌+◌, ◌<◌, ◌≤◌, true, List, [], ◌++◌, length, Result, Ok, Err}
+use Rattle.lpis_points.specs.Memory.{AnswersUnless}
 use Rattle.lpis_points.specs.declared.point.Point.{Point}
 use Rattle.lpis_rings.specs.declared.polygon.Member.{Member}
 use Rattle.lpis_rings.specs.Polygon.{most_points}
 use Rattle.lpis_wkt.specs.declared.fault.WktCode.{WktCode}
 use Rattle.lpis_wkt.specs.declared.fault.WktFault.{WktFault}
-use Rattle.lpis_wkt.specs.declared.fault.WktFault.TheVariants.{Memory, At}
 use Rattle.lpis_wkt.specs.declared.parser.Place.{Place}
 use Rattle.lpis_wkt.specs.declared.parser.Place.TheVariants as place
 use Rattle.lpis_wkt.specs.private.Machine.{Context, State, AtKeyword, AfterKeyword, AtBody, AtRing}
 use Rattle.lpis_wkt.specs.private.Machine.{AtX, AtY, AfterPoint, AfterRing, AfterBody, AtEnd}
 use Rattle.lpis_wkt.specs.private.Machine.{Finished, points_before, outcome}
+use Rattle.lpis_wkt.specs.Text.{report}
 use Rattle.lpis_wkt.specs.Tokens.{Token}
 
 abbrev pub state_of : Place → Context → List Point → State
@@ -66,17 +67,18 @@ pub record Kept (p : Place) (b : Context) (ps : List Point) (count : ℕ) : Type
   pub few : count ≤ most_points
   pub place : Holds p b ps
 
--- what a call returned is what a step gives, unless memory ran out
+-- a call returned what a step gives, as the state that its value stands for, unless memory ran out
+abbrev pub TookAs : {A : Type 0} → (A → State) → Result A WktFault → Result State WktCode → ℕ
+    → Type 0
+TookAs {A} state answer r at = AnswersUnless report (λ (x : A). r ≡ Ok (state x))
+    (λ (f : WktCode × ℕ). (r ≡ Err f.0) × (f.1 ≡ at)) answer
+
 abbrev pub Took : Result State WktFault → Result State WktCode → ℕ → Type 0
-Took (Ok s) r at = r ≡ Ok s
-Took (Err Memory) r at = Unit {0}
-Took (Err (At code offset)) r at = (r ≡ Err code) × (offset ≡ at)
+Took answer r at = TookAs (λ s. s) answer r at
 
 -- the members where the last step finishes with them
 abbrev pub Ends : Result (List Member) WktFault → Result State WktCode → ℕ → Type 0
-Ends (Ok ms) r end = r ≡ Ok (Finished ms)
-Ends (Err Memory) r end = Unit {0}
-Ends (Err (At code offset)) r end = (r ≡ Err code) × (offset ≡ end)
+Ends answer r end = TookAs Finished answer r end
 
 -- the keyword or a `(` is expected
 abbrev pub IsOpening : State → Type 0
@@ -107,9 +109,8 @@ IsAfterRing _ = ⊥
 
 -- what a call returned is the outcome of a whole text, unless memory ran out
 abbrev pub Told : Result (List Member) WktFault → Result State (WktCode × ℕ) → Type 0
-Told (Ok ms) r = r ≡ Ok (Finished ms)
-Told (Err Memory) r = Unit {0}
-Told (Err (At code offset)) r = r ≡ Err (code, offset)
+Told answer r =
+    AnswersUnless report (λ (ms : List Member). r ≡ Ok (Finished ms)) (λ f. r ≡ Err f) answer
 
 -- what comes of these states and tokens is the same, whatever tokens follow
 abbrev pub SameOutcome : State → List (ℕ × Token) → State → List (ℕ × Token) → Type 0
