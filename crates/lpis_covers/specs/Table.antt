@@ -5,6 +5,7 @@ use Rattle.std.specs.Prelude.{if◌then◌else◌}
 use Rattle.std.specs.Str.{str_eq_ignore_ascii_case}
 use Rattle.std.specs.Borrow.{Bor}
 use Rattle.csv.specs.Reading.{default_config, is_bom, records, strip_bom}
+use Rattle.lpis_points.specs.Memory.{AnswersSame, AnswersUnless, UnlessMemory}
 use Rattle.lpis_covers.specs.declared.fault.Table.{Table}
 use Rattle.lpis_covers.specs.declared.fault.TableCode.{TableCode}
 use Rattle.lpis_covers.specs.declared.fault.TableCode.TheVariants.{NotCsv, MissingColumn}
@@ -127,27 +128,30 @@ table_of table names bytes =
     if has_mark (strip_bom bytes) then Err (fault_at NotCsv table 0)
     else under_header table names (records default_config (strip_bom bytes))
 
+-- what a fault reports: itself, but that memory ran out
+abbrev pub report : TableFault → Option TableFault
+report Memory = None
+report (At code table row wkt) = Some (At code table row wkt)
+
 -- what reading the next row does
 abbrev pub Advances : Reading → Reading → Result Bool TableFault → Type 0
 Advances old new (Ok true) =
     (old.rows ≡ new.row ∷ new.rows) × (new.stop ≡ old.stop) × (new.number ≡ old.number + 1)
     × (new.table ≡ old.table) × (new.number ≤ most_rows)
 Advances old new (Ok false) = (old.rows ≡ []) × (old.stop ≡ None)
-Advances old new (Err Memory) = Unit {0}
-Advances old new (Err (At code table row wkt)) = (old.rows ≡ [])
-    × (old.stop ≡ Some (At code table row wkt))
+Advances old new (Err fault) =
+    UnlessMemory (λ (f : TableFault). (old.rows ≡ []) × (old.stop ≡ Some f)) (report fault)
 
--- a call answers a value that fits what the definition says, or the fault that it says, or that
+-- a call answers a value that fits what the definition says, or the fault that it says, unless
 -- memory ran out
 abbrev pub AnswersBy : {A B : Type 0} → (A → Result B TableFault → Type 0) → Result A TableFault
     → Result B TableFault → Type 0
-AnswersBy Fits (Ok x) said = Fits x said
-AnswersBy Fits (Err Memory) said = Unit {0}
-AnswersBy Fits (Err (At code table row wkt)) said = said ≡ Err (At code table row wkt)
+AnswersBy {A} Fits result said =
+    AnswersUnless report (λ (x : A). Fits x said) (λ (f : TableFault). said ≡ Err f) result
 
 -- the same of the very value
 abbrev pub Answers : {A : Type 0} → Result A TableFault → Result A TableFault → Type 0
-Answers {A} result said = AnswersBy (λ (x : A) (s : Result A TableFault). s ≡ Ok x) result said
+Answers result said = AnswersSame report said result
 
 -- the texts of borrowed names
 abbrev pub texts : List (Bor (List ℕ)) → List (List ℕ)
