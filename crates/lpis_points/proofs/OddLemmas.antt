@@ -1,11 +1,10 @@
 -- The crossing by a point and the shoelace term change sign with the edge.
-use Rattle.std.proofs.Common.{◌≤◌, negsuc, nat_abs, ◌⊎◌, inl, inr, ◌≡◌, ℤ, pos, ◌-ℤ◌, ◌*ℤ◌, neg_ℤ, [], ◌∷◌, ap, sym, ◌∙◌, arith, refl}
-use Rattle.std.proofs.lemmas.Int.{ints, by_lt_z}
+use Rattle.std.proofs.Common.{◌≤◌, negsuc, nat_abs, ◌⊎◌, inl, inr, ◌≡◌, ℤ, pos, ◌-ℤ◌, ◌*ℤ◌, neg_ℤ, [], ◌∷◌, ap, ◌∙◌, arith}
+use Rattle.std.proofs.lemmas.Int.{ints}
 use Rattle.lpis_points.specs.declared.point.Point.{Point}
 use Rattle.lpis_points.specs.Plane.{RationalPoint, orient_at, crossing, crossing_of, shoelace_term}
 use Rattle.lpis_points.specs.Chain.{IsOdd}
 use Rattle.lpis_points.proofs.IntRingLemmas.{var, con, ◌⊖◌, ◌⊗◌, ring}
-use Rattle.lpis_points.proofs.CrossingLemmas.{up_left, up_not_left, down_right, down_not_right, both_below, both_above}
 
 less : (x : ℤ) → pos 0 -ℤ x ≡ neg_ℤ x
 less x = omega (arith, ints)
@@ -19,20 +18,10 @@ orient_at-reversed a b p =
     ∙ less (orient_at a b p)
 
 crossing_of-reversed : (s t y o : ℤ) → crossing_of t s y (neg_ℤ o) ≡ neg_ℤ (crossing_of s t y o)
-crossing_of-reversed s t y o = by_lt_z y s
-    (λ hs. by_lt_z y t
-    (λ ht. both_above t s y (neg_ℤ o) ht hs ∙ ap neg_ℤ (sym (both_above s t y o hs ht)))
-    (λ ht. by_lt_z o (pos 0)
-    (λ l. up_left t s y (neg_ℤ o) ht hs (omega (arith, ints)) ∙ ap neg_ℤ (sym (down_right s t y o hs ht l)))
-    (λ l. up_not_left t s y (neg_ℤ o) ht hs (omega (arith, ints)) ∙ ap neg_ℤ (sym (down_not_right s t y o hs ht l)))))
-    (λ hs. by_lt_z y t
-    (λ ht. by_lt_z (pos 0) o
-    (λ l. down_right t s y (neg_ℤ o) ht hs (omega (arith, ints)) ∙ ap neg_ℤ (sym (up_left s t y o hs ht l)))
-    (λ l. down_not_right t s y (neg_ℤ o) ht hs (omega (arith, ints)) ∙ ap neg_ℤ (sym (up_not_left s t y o hs ht l))))
-    (λ ht. both_below t s y (neg_ℤ o) ht hs ∙ ap neg_ℤ (sym (both_below s t y o hs ht))))
+crossing_of-reversed s t y o = grind (arith, ints)
 
 crossing_of_loop : (s y o : ℤ) → crossing_of s s y o ≡ pos 0
-crossing_of_loop s y o = by_lt_z y s (λ h. both_above s s y o h h) (λ h. both_below s s y o h h)
+crossing_of_loop s y o = grind (arith, ints)
 
 pub crossing-odd : (p : RationalPoint) → IsOdd (λ a b. crossing a b p)
 unfolding crossing

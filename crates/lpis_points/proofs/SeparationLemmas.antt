@@ -1,5 +1,5 @@
 -- Two counter-clockwise triangles on two sides of a line have no inner point in common.
-use Rattle.std.proofs.Common.{◌≡◌, ◌≢◌, true, ℤ, pos, ◌+ℤ◌, ◌-ℤ◌, ◌*ℤ◌, ◌≤ℤ◌, ◌<ℤ◌, [], ◌∷◌, ap₂, ◌∙◌, arith}
+use Rattle.std.proofs.Common.{◌≡◌, ◌≢◌, true, ℤ, pos, ◌+ℤ◌, ◌-ℤ◌, ◌*ℤ◌, ◌≤ℤ◌, ◌<ℤ◌, [], ◌∷◌, subst, ◌∙◌, arith}
 use Rattle.std.proofs.Math.IntN.{*ℤ_comm}
 use Rattle.std.proofs.lemmas.Int.{ints}
 use Rattle.lpis_points.specs.declared.point.Point.{Point}
@@ -34,13 +34,7 @@ y_by_sides a b c u v =
     ((var 8 ⊖ var 6) ⊗ (var 1 ⊖ var 7) ⊖ (var 9 ⊖ var 7) ⊗ (var 0 ⊖ var 6))) ⊗ (var 5 ⊖ var 1)) tt
 
 nothing : (m n o p q : ℤ) → o ≡ pos 0 → p ≡ pos 0 → q ≡ pos 0 → m *ℤ (q -ℤ o) -ℤ (p -ℤ o) *ℤ n ≡ pos 0
-nothing m n o p q e f g = ap₂ (λ (v w : ℤ). m *ℤ v -ℤ w *ℤ n) (nought q o g e) (nought p o f e) ∙ none m n
-  where
-    nought : (v w : ℤ) → v ≡ pos 0 → w ≡ pos 0 → v -ℤ w ≡ pos 0
-    nought v w e f = omega (arith, ints)
-
-    none : (m n : ℤ) → m *ℤ pos 0 -ℤ pos 0 *ℤ n ≡ pos 0
-    none m n = omega (arith, ints)
+nothing m n o p q e f g = rw (e, f, g) (omega (arith, ints))
 
 same : (x y : ℤ) → y -ℤ x ≡ pos 0 → x ≡ y
 same x y e = omega (arith, ints)
@@ -60,40 +54,24 @@ on_line a b c u v n t e f g = n (point_eq u v (same u.x v.x x) (same u.y v.y y))
 zeros_up : (o₁ o₂ o₃ x y z s : ℤ) → pos 0 <ℤ o₁ → pos 0 <ℤ o₂ → pos 0 <ℤ o₃ → pos 0 ≤ℤ x → pos 0 ≤ℤ y → pos 0 ≤ℤ z
     → o₁ *ℤ x +ℤ o₂ *ℤ y +ℤ o₃ *ℤ z ≡ s → s ≡ pos 0 → (x ≡ pos 0) × (y ≡ pos 0) × (z ≡ pos 0)
 zeros_up o₁ o₂ o₃ x y z s p q r h k l e f =
-    let w = parts (o₁ *ℤ x) (o₂ *ℤ y) (o₃ *ℤ z) s (pos-mul-not_neg o₁ x (not_neg o₁ p) h) (pos-mul-not_neg o₂ y (not_neg o₂ q) k) (pos-mul-not_neg o₃ z (not_neg o₃ r) l) e f in
-    (zero_of_mul x o₁ p (*ℤ_comm x o₁ ∙ w.0), zero_of_mul y o₂ q (*ℤ_comm y o₂ ∙ w.1), zero_of_mul z o₃ r (*ℤ_comm z o₃ ∙ w.2))
-  where
-    parts : (u v w s : ℤ) → pos 0 ≤ℤ u → pos 0 ≤ℤ v → pos 0 ≤ℤ w → u +ℤ v +ℤ w ≡ s → s ≡ pos 0 → (u ≡ pos 0) × (v ≡ pos 0) × (w ≡ pos 0)
-    parts u v w s p q r e f = omega (arith, ints)
-
-along : (x y : ℤ) → x ≡ y → pos 0 ≤ℤ x → pos 0 ≤ℤ y
-along x y e h = omega (arith, ints)
-
-along_down : (x y : ℤ) → x ≡ y → x ≤ℤ pos 0 → y ≤ℤ pos 0
-along_down x y e h = omega (arith, ints)
+    let a = pos-mul-not_neg o₁ x (not_neg o₁ p) h in
+    let b = pos-mul-not_neg o₂ y (not_neg o₂ q) k in
+    let c = pos-mul-not_neg o₃ z (not_neg o₃ r) l in
+    (zero_of_mul x o₁ p (*ℤ_comm x o₁ ∙ omega (arith, ints)), zero_of_mul y o₂ q (*ℤ_comm y o₂ ∙ omega (arith, ints)), zero_of_mul z o₃ r (*ℤ_comm z o₃ ∙ omega (arith, ints)))
 
 by_nought : (o z : ℤ) → z ≡ pos 0 → o *ℤ z ≡ pos 0
-by_nought o z e = ap₂ (λ (v w : ℤ). v *ℤ w) (refl_of o) e ∙ none o
-  where
-    refl_of : (x : ℤ) → x ≡ x
-    refl_of x = omega (arith, ints)
-
-    none : (x : ℤ) → x *ℤ pos 0 ≡ pos 0
-    none x = omega (arith, ints)
+by_nought o z e = rw e (omega (arith, ints))
 
 pub separated_share_nothing : (line : Point × Point) (t u : Triangle) (p : RationalPoint) → IsCounterClockwise t
     → IsCounterClockwise u → Separates line t u → is_inside t p ≡ true → is_inside u p ≡ true → ⊥
 separated_share_nothing line t u p h k s e f =
-    let i = inside_is t.a t.b t.c p e in
-    let j = inside_is u.a u.b u.c p f in
+    let i = inside_is t p e in
+    let j = inside_is u p f in
     let l = s.left_of in
     let r = s.right_of in
     let side = orient_at line.0 line.1 p in
     let sum = line_sum t.a t.b t.c line.0 line.1 p in
-    let above = not_neg_of_mul (orient t.a t.b t.c) side h (along _ _ sum (weighted_up _ _ _ _ _ _ i.bc i.ca i.ab l.0 l.1 l.2)) in
-    let below = not_pos_of_mul (orient u.a u.b u.c) side k (along_down _ _ (line_sum u.a u.b u.c line.0 line.1 p) (weighted_down _ _ _ _ _ _ j.bc j.ca j.ab r.0 r.1 r.2)) in
-    let z = zeros_up _ _ _ _ _ _ (orient t.a t.b t.c *ℤ side) i.bc i.ca i.ab l.0 l.1 l.2 sum (by_nought (orient t.a t.b t.c) side (nought side above below)) in
+    let above = not_neg_of_mul (orient t.a t.b t.c) side h (subst (λ (z : ℤ). pos 0 ≤ℤ z) sum (weighted_up _ _ _ _ _ _ i.bc i.ca i.ab l.0 l.1 l.2)) in
+    let below = not_pos_of_mul (orient u.a u.b u.c) side k (subst (λ (z : ℤ). z ≤ℤ pos 0) (line_sum u.a u.b u.c line.0 line.1 p) (weighted_down _ _ _ _ _ _ j.bc j.ca j.ab r.0 r.1 r.2)) in
+    let z = zeros_up _ _ _ _ _ _ (orient t.a t.b t.c *ℤ side) i.bc i.ca i.ab l.0 l.1 l.2 sum (by_nought (orient t.a t.b t.c) side (omega (arith, ints))) in
     on_line t.a t.b t.c line.0 line.1 s.differ h z.0 z.1 z.2
-  where
-    nought : (z : ℤ) → pos 0 ≤ℤ z → z ≤ℤ pos 0 → z ≡ pos 0
-    nought z h k = omega (arith, ints)

@@ -29,30 +29,22 @@ record IsStep (z : ℤ) : Type 0 where
 step_x : (a b : Point) → IsStep (b.x -ℤ a.x)
 step_x a b = record {
   low = omega (arith, ints, a.x_in_range.0, a.x_in_range.1, b.x_in_range.0, b.x_in_range.1);
-  high =
-      omega (arith, ints, a.x_in_range.0, a.x_in_range.1, b.x_in_range.0, b.x_in_range.1);
+  high = omega (arith, ints, a.x_in_range.0, a.x_in_range.1, b.x_in_range.0, b.x_in_range.1);
 }
 
 step_y : (a b : Point) → IsStep (b.y -ℤ a.y)
 step_y a b = record {
   low = omega (arith, ints, a.y_in_range.0, a.y_in_range.1, b.y_in_range.0, b.y_in_range.1);
-  high =
-      omega (arith, ints, a.y_in_range.0, a.y_in_range.1, b.y_in_range.0, b.y_in_range.1);
+  high = omega (arith, ints, a.y_in_range.0, a.y_in_range.1, b.y_in_range.0, b.y_in_range.1);
 }
 
 not_nought : (k dx dy : ℤ) → IsStep dx → IsStep dy → (dx ≡ pos 0 → dy ≡ pos 0 → ⊥) → pos 1000000000000000000000000 *ℤ k -ℤ pos 1000000000000 *ℤ dy +ℤ dx ≡ pos 0 → ⊥
 not_nought k dx dy sx sy n e =
-    let z : dx ≡ pos 0 = omega (arith, ints, sx.low, sx.high, sy.low, sy.high) in
-    let w : dy ≡ pos 0 = omega (arith, ints, sx.low, sx.high, sy.low, sy.high) in
-    n z w
+    n (omega (arith, ints, sx.low, sx.high, sy.low, sy.high)) (omega (arith, ints, sx.low, sx.high, sy.low, sy.high))
 
 pub shifted_off : (a b : Point) (p : RationalPoint) → (a.x ≡ b.x → a.y ≡ b.y → ⊥) → orient_at a b (shifted p) ≢ pos 0
 shifted_off a b p n e = not_nought (orient_at a b p) (b.x -ℤ a.x) (b.y -ℤ a.y) (step_x a b) (step_y a b)
-    (λ z w. n (same a.x b.x z) (same a.y b.y w))
-    (sym (orient_at-shifted a b p) ∙ e)
-  where
-    same : (u v : ℤ) → v -ℤ u ≡ pos 0 → u ≡ v
-    same u v e = omega (arith, ints)
+    (λ z w. n (omega (arith, ints)) (omega (arith, ints))) (sym (orient_at-shifted a b p) ∙ e)
 
 -- ---- the crossings
 -- the edge from height s to height t rises by dy, times a positive number
@@ -87,33 +79,26 @@ side_down_no k dx dy sx sy h p = omega (arith, ints, sx.low, sx.high, sy.low, sy
 same_crossing : (s t y k dx dy : ℤ) → IsStep dx → IsStep dy → Rises s t dy → crossing_of (far s) (far t) (far y +ℤ pos 1) (side_of k dx dy) ≡ crossing_of s t y k
 same_crossing s t y k dx dy sx sy r = by_lt_z y s
     (λ hs. by_lt_z y t
-    (λ ht. both_above (far s) (far t) (far y +ℤ pos 1) (side_of k dx dy) (far_lt s y hs) (far_lt t y ht) ∙ sym (both_above s t y k hs ht))
-    (λ ht. let n = r.down (falls t y s ht hs) in by_lt_z k (pos 0)
-    (λ l. down_right (far s) (far t) (far y +ℤ pos 1) (side_of k dx dy) (far_lt s y hs) (far_le t y ht) (side_down_yes k dx dy sx sy n l) ∙ sym (down_right s t y k hs ht l))
-    (λ l. down_not_right (far s) (far t) (far y +ℤ pos 1) (side_of k dx dy) (far_lt s y hs) (far_le t y ht) (side_down_no k dx dy sx sy n l) ∙ sym (down_not_right s t y k hs ht l))))
+    (λ ht. both_above _ _ _ (side_of k dx dy) (far_lt s y hs) (far_lt t y ht) ∙ sym (both_above _ _ _ k hs ht))
+    (λ ht. let n = r.down (omega (arith, ints)) in by_lt_z k (pos 0)
+    (λ l. down_right _ _ _ _ (far_lt s y hs) (far_le t y ht) (side_down_yes k dx dy sx sy n l) ∙ sym (down_right _ _ _ _ hs ht l))
+    (λ l. down_not_right _ _ _ _ (far_lt s y hs) (far_le t y ht) (side_down_no k dx dy sx sy n l) ∙ sym (down_not_right _ _ _ _ hs ht l))))
     (λ hs. by_lt_z y t
-    (λ ht. let p = r.up (falls s y t hs ht) in by_lt_z (pos 0) k
-    (λ l. up_left (far s) (far t) (far y +ℤ pos 1) (side_of k dx dy) (far_le s y hs) (far_lt t y ht) (side_up_yes k dx dy sx sy p l) ∙ sym (up_left s t y k hs ht l))
-    (λ l. up_not_left (far s) (far t) (far y +ℤ pos 1) (side_of k dx dy) (far_le s y hs) (far_lt t y ht) (side_up_no k dx dy sx sy p l) ∙ sym (up_not_left s t y k hs ht l)))
-    (λ ht. both_below (far s) (far t) (far y +ℤ pos 1) (side_of k dx dy) (far_le s y hs) (far_le t y ht) ∙ sym (both_below s t y k hs ht)))
-  where
-    falls : (a b c : ℤ) → a ≤ℤ b → b <ℤ c → a <ℤ c
-    falls a b c h k = omega (arith, ints)
+    (λ ht. let p = r.up (omega (arith, ints)) in by_lt_z (pos 0) k
+    (λ l. up_left _ _ _ _ (far_le s y hs) (far_lt t y ht) (side_up_yes k dx dy sx sy p l) ∙ sym (up_left _ _ _ _ hs ht l))
+    (λ l. up_not_left _ _ _ _ (far_le s y hs) (far_lt t y ht) (side_up_no k dx dy sx sy p l) ∙ sym (up_not_left _ _ _ _ hs ht l)))
+    (λ ht. both_below _ _ _ (side_of k dx dy) (far_le s y hs) (far_le t y ht) ∙ sym (both_below _ _ _ k hs ht)))
 
 rise : (ay by_ d : ℤ) → by_ *ℤ d -ℤ ay *ℤ d ≡ (by_ -ℤ ay) *ℤ d
 rise ay by_ d = ring (ay ∷ (by_ ∷ (d ∷ []))) (var 1 ⊗ var 2 ⊖ var 0 ⊗ var 2) ((var 1 ⊖ var 0) ⊗ var 2) tt
 
 rises : (ay by_ d : ℤ) → pos 0 <ℤ d → Rises (ay *ℤ d) (by_ *ℤ d) (by_ -ℤ ay)
-rises ay by_ d h = record {
-  up = λ l. by_lt_z (pos 0) (by_ -ℤ ay) (λ p. p) (λ q. absurd (clash (ay *ℤ d) (by_ *ℤ d) ((by_ -ℤ ay) *ℤ d) (rise ay by_ d) l (neg-mul-not_neg (by_ -ℤ ay) d q (not_neg d h))));
-  down = λ l. by_lt_z (by_ -ℤ ay) (pos 0) (λ p. p) (λ q. absurd (clash' (ay *ℤ d) (by_ *ℤ d) ((by_ -ℤ ay) *ℤ d) (rise ay by_ d) l (pos-mul-not_neg (by_ -ℤ ay) d q (not_neg d h))));
-}
-  where
-    clash : (u v w : ℤ) → v -ℤ u ≡ w → u <ℤ v → w ≤ℤ pos 0 → ⊥
-    clash u v w e h k = omega (arith, ints)
-
-    clash' : (u v w : ℤ) → v -ℤ u ≡ w → v <ℤ u → pos 0 ≤ℤ w → ⊥
-    clash' u v w e h k = omega (arith, ints)
+rises ay by_ d h =
+    let e = rise ay by_ d in
+    record {
+      up = λ l. by_lt_z (pos 0) (by_ -ℤ ay) (λ p. p) (λ q. let n = neg-mul-not_neg (by_ -ℤ ay) d q (not_neg d h) in absurd (omega (arith, ints)));
+      down = λ l. by_lt_z (by_ -ℤ ay) (pos 0) (λ p. p) (λ q. let n = pos-mul-not_neg (by_ -ℤ ay) d q (not_neg d h) in absurd (omega (arith, ints)));
+    }
 
 far_height : (y d : ℤ) → y *ℤ (d *ℤ pos 1000000000000 *ℤ pos 1000000000000) ≡ far (y *ℤ d)
 far_height y d = ring (y ∷ (d ∷ [])) (var 0 ⊗ (var 1 ⊗ con (pos 1000000000000) ⊗ con (pos 1000000000000))) (con (pos 1000000000000000000000000) ⊗ (var 0 ⊗ var 1)) tt

@@ -1,26 +1,13 @@
 -- Triangles and rational points, by their corners.
-use Rattle.std.proofs.Common.{◌≡◌, ◌≢◌, ℤ, pos, ◌+ℤ◌, ◌-ℤ◌, ◌*ℤ◌, ◌≤ℤ◌, ◌<ℤ◌, int_lt, Bool, true, cond, ◌&&◌, List, [], ◌∷◌, ap, ap₂, sym, ◌∙◌, arith}
+use Rattle.std.proofs.Common.{◌≡◌, ℤ, pos, ◌+ℤ◌, ◌-ℤ◌, ◌*ℤ◌, ◌≤ℤ◌, ◌<ℤ◌, int_lt, true, cond, ◌&&◌, List, [], ◌∷◌, ap, subst, sym, ◌∙◌, arith}
 use Rattle.std.proofs.lemmas.Int.{ints}
 use Rattle.lpis_points.specs.declared.point.Point.{Point}
+use Rattle.lpis_points.specs.declared.triangle.Triangle.{Triangle}
+use Rattle.lpis_points.specs.Triangles.{IsCounterClockwise, IsOffItsLines, is_inside, turns_round}
 use Rattle.lpis_points.specs.Plane.{RationalPoint, orient, orient_at, crossing, shoelace_term}
 use Rattle.lpis_points.proofs.SignLemmas.{not_neg, pos-mul-not_neg, pos-mul-not_pos, zero_of_mul}
 use Rattle.lpis_points.proofs.CrossingLemmas.{Around, around_total, inside_none}
 use Rattle.lpis_points.proofs.IntRingLemmas.{Expr, var, con, ◌⊕◌, ◌⊖◌, ◌⊗◌, ring}
-
--- p is off the lines of the three edges
-pub record IsOff (a b c : Point) (p : RationalPoint) : Type 0 where
-  pub ab : orient_at a b p ≢ pos 0
-  pub bc : orient_at b c p ≢ pos 0
-  pub ca : orient_at c a p ≢ pos 0
-
--- p is strictly left of the three edges
-abbrev pub left_of_all : Point → Point → Point → RationalPoint → Bool
-left_of_all a b c p =
-    int_lt (pos 0) (orient_at a b p) && int_lt (pos 0) (orient_at b c p) && int_lt (pos 0) (orient_at c a p)
-
--- the sum of the crossings of the three edges
-abbrev pub turns_of : Point → Point → Point → RationalPoint → ℤ
-turns_of a b c p = crossing a b p +ℤ crossing b c p +ℤ crossing c a p
 
 -- the height of a above p
 abbrev pub over : Point → RationalPoint → ℤ
@@ -128,74 +115,51 @@ level_side a b p = ring (unknowns_of a b a p a a (pos 0))
     ((bx ⊖ ax) ⊗ d ⊗ (py ⊖ ay ⊗ d) ⊖ (by_ ⊗ d ⊖ ay ⊗ d) ⊗ (px ⊖ ax ⊗ d)) tt
 
 on_level : (m y s t z : ℤ) → s ≡ y → t ≡ y → m *ℤ (y -ℤ s) -ℤ (t -ℤ s) *ℤ z ≡ pos 0
-on_level m y s t z e f =
-    ap₂ (λ (v w : ℤ). m *ℤ v -ℤ w *ℤ z) (nought y s (sym e)) (nought t s (f ∙ sym e)) ∙ nothing m z
-  where
-    nought : (v w : ℤ) → v ≡ w → v -ℤ w ≡ pos 0
-    nought v w e = omega (arith, ints)
+on_level m y s t z e f = rw (e, f) (ring (m ∷ (y ∷ (z ∷ []))) (var 0 ⊗ (var 1 ⊖ var 1) ⊖ (var 1 ⊖ var 1) ⊗ var 2) (con (pos 0)) tt)
 
-    nothing : (m z : ℤ) → m *ℤ pos 0 -ℤ pos 0 *ℤ z ≡ pos 0
-    nothing m z = omega (arith, ints)
-
-not_neg_of : (x y : ℤ) → x ≡ y → pos 0 ≤ℤ y → pos 0 ≤ℤ x
-not_neg_of x y e h = omega (arith, ints)
-
-pub around : (a b c : Point) (p : RationalPoint) → pos 0 <ℤ p.d → pos 0 ≤ℤ orient a b c → IsOff a b c p
-    → Around (a.y *ℤ p.d) (b.y *ℤ p.d) (c.y *ℤ p.d) p.y (orient_at a b p) (orient_at b c p) (orient_at c a p)
-around a b c p h t o = record {
+around : (t : Triangle) (p : RationalPoint) → pos 0 <ℤ p.d → pos 0 ≤ℤ orient t.a t.b t.c → IsOffItsLines t p
+    → Around (t.a.y *ℤ p.d) (t.b.y *ℤ p.d) (t.c.y *ℤ p.d) p.y (orient_at t.a t.b p) (orient_at t.b t.c p) (orient_at t.c t.a p)
+around t p h k o = record {
   off₁ = o.ab;
   off₂ = o.bc;
   off₃ = o.ca;
-  heights = heights_sum a b c p;
-  sum = not_neg_of _ _ (sides_sum a b c p) (pos-mul-not_neg p.d (orient a b c) (not_neg p.d h) t);
-  spread = λ e f g. o.ab (zero_of_mul (orient_at a b p) p.d h (level_side a b p ∙ on_level ((b.x -ℤ a.x) *ℤ p.d) p.y (a.y *ℤ p.d) (b.y *ℤ p.d) (p.x -ℤ a.x *ℤ p.d) e f));
+  heights = heights_sum t.a t.b t.c p;
+  sum = subst (λ (z : ℤ). pos 0 ≤ℤ z) (sym (sides_sum t.a t.b t.c p)) (pos-mul-not_neg p.d (orient t.a t.b t.c) (not_neg p.d h) k);
+  spread = λ e f g. o.ab (zero_of_mul (orient_at t.a t.b p) p.d h (level_side t.a t.b p ∙ on_level ((t.b.x -ℤ t.a.x) *ℤ p.d) p.y (t.a.y *ℤ p.d) (t.b.y *ℤ p.d) (p.x -ℤ t.a.x *ℤ p.d) e f));
 }
 
 -- the edges of a counter-clockwise triangle turn once round a point inside, and not at all round one outside
-pub triangle_turns : (a b c : Point) (p : RationalPoint) → pos 0 <ℤ p.d → pos 0 <ℤ orient a b c → IsOff a b c p → turns_of a b c p ≡ cond (left_of_all a b c p) (pos 1) (pos 0)
+pub turns_round-is : (t : Triangle) (p : RationalPoint) → pos 0 <ℤ p.d → IsCounterClockwise t → IsOffItsLines t p → turns_round t p ≡ cond (is_inside t p) (pos 1) (pos 0)
 unfolding crossing
-triangle_turns a b c p h t o = around_total _ _ _ _ _ _ _ (around a b c p h (not_neg (orient a b c) t) o)
+turns_round-is t p h k o = around_total _ _ _ _ _ _ _ (around t p h (not_neg (orient t.a t.b t.c) k) o)
 
 -- those of a flat do not turn round any point off its line
-pub flat_turns : (a b c : Point) (p : RationalPoint) → pos 0 <ℤ p.d → orient a b c ≡ pos 0 → IsOff a b c p → turns_of a b c p ≡ pos 0
+pub flats_never_turn : (t : Triangle) (p : RationalPoint) → pos 0 <ℤ p.d → orient t.a t.b t.c ≡ pos 0 → IsOffItsLines t p → turns_round t p ≡ pos 0
 unfolding crossing
-flat_turns a b c p h t o =
-    around_total _ _ _ _ _ _ _ (around a b c p h (nought (orient a b c) t) o) ∙ inside_none (orient_at a b p)
-    (orient_at b c p) (orient_at c a p) (none (orient_at a b p) (orient_at b c p) (orient_at c a p)
-    (sides_sum a b c p ∙ ap (λ (z : ℤ). p.d *ℤ z) t ∙ by_nought p.d))
+flats_never_turn t p h e o =
+    around_total _ _ _ _ _ _ _ (around t p h (omega (arith, ints)) o)
+    ∙ inside_none (orient_at t.a t.b p) (orient_at t.b t.c p) (orient_at t.c t.a p) (none _ _ _ p.d (sides_sum t.a t.b t.c p ∙ ap (λ (v : ℤ). p.d *ℤ v) e))
   where
-    nought : (x : ℤ) → x ≡ pos 0 → pos 0 ≤ℤ x
-    nought x e = omega (arith, ints)
-
-    by_nought : (x : ℤ) → x *ℤ pos 0 ≡ pos 0
-    by_nought x = omega (arith, ints)
-
-    none : (x y z : ℤ) → x +ℤ y +ℤ z ≡ pos 0 → pos 0 <ℤ x → pos 0 <ℤ y → pos 0 <ℤ z → ⊥
-    none x y z e p q r = omega (arith, ints)
+    none : (x y z d : ℤ) → x +ℤ y +ℤ z ≡ d *ℤ pos 0 → pos 0 <ℤ x → pos 0 <ℤ y → pos 0 <ℤ z → ⊥
+    none x y z d e p q r = omega (arith, ints)
 
 -- ---- two triangles
--- what `left_of_all` tells
-pub record Inside (a b c : Point) (p : RationalPoint) : Type 0 where
-  pub ab : pos 0 <ℤ orient_at a b p
-  pub bc : pos 0 <ℤ orient_at b c p
-  pub ca : pos 0 <ℤ orient_at c a p
+-- what `is_inside` tells
+pub record Inside (t : Triangle) (p : RationalPoint) : Type 0 where
+  pub ab : pos 0 <ℤ orient_at t.a t.b p
+  pub bc : pos 0 <ℤ orient_at t.b t.c p
+  pub ca : pos 0 <ℤ orient_at t.c t.a p
 
-pub inside_is : (a b c : Point) (p : RationalPoint) → left_of_all a b c p ≡ true → Inside a b c p
-inside_is a b c p e = let r = parts (orient_at a b p) (orient_at b c p) (orient_at c a p) e in record { ab = r.0; bc = r.1; ca = r.2 }
+pub inside_is : (t : Triangle) (p : RationalPoint) → is_inside t p ≡ true → Inside t p
+inside_is t p e = let r = parts (orient_at t.a t.b p) (orient_at t.b t.c p) (orient_at t.c t.a p) e in record { ab = r.0; bc = r.1; ca = r.2 }
   where
     parts : (x y z : ℤ) → (int_lt (pos 0) x && int_lt (pos 0) y && int_lt (pos 0) z) ≡ true → (pos 0 <ℤ x) × (pos 0 <ℤ y) × (pos 0 <ℤ z)
     parts x y z e = grind (arith, ints)
 
 pub weighted_up : (o₁ o₂ o₃ x y z : ℤ) → pos 0 <ℤ o₁ → pos 0 <ℤ o₂ → pos 0 <ℤ o₃ → pos 0 ≤ℤ x → pos 0 ≤ℤ y → pos 0 ≤ℤ z → pos 0 ≤ℤ (o₁ *ℤ x +ℤ o₂ *ℤ y +ℤ o₃ *ℤ z)
 weighted_up o₁ o₂ o₃ x y z p q r h k l =
-    sum (o₁ *ℤ x) (o₂ *ℤ y) (o₃ *ℤ z) (pos-mul-not_neg o₁ x (not_neg o₁ p) h) (pos-mul-not_neg o₂ y (not_neg o₂ q) k) (pos-mul-not_neg o₃ z (not_neg o₃ r) l)
-  where
-    sum : (u v w : ℤ) → pos 0 ≤ℤ u → pos 0 ≤ℤ v → pos 0 ≤ℤ w → pos 0 ≤ℤ (u +ℤ v +ℤ w)
-    sum u v w p q r = omega (arith, ints)
+    omega (arith, ints, pos-mul-not_neg o₁ x (not_neg o₁ p) h, pos-mul-not_neg o₂ y (not_neg o₂ q) k, pos-mul-not_neg o₃ z (not_neg o₃ r) l)
 
 pub weighted_down : (o₁ o₂ o₃ x y z : ℤ) → pos 0 <ℤ o₁ → pos 0 <ℤ o₂ → pos 0 <ℤ o₃ → x ≤ℤ pos 0 → y ≤ℤ pos 0 → z ≤ℤ pos 0 → (o₁ *ℤ x +ℤ o₂ *ℤ y +ℤ o₃ *ℤ z) ≤ℤ pos 0
 weighted_down o₁ o₂ o₃ x y z p q r h k l =
-    sum (o₁ *ℤ x) (o₂ *ℤ y) (o₃ *ℤ z) (pos-mul-not_pos o₁ x (not_neg o₁ p) h) (pos-mul-not_pos o₂ y (not_neg o₂ q) k) (pos-mul-not_pos o₃ z (not_neg o₃ r) l)
-  where
-    sum : (u v w : ℤ) → u ≤ℤ pos 0 → v ≤ℤ pos 0 → w ≤ℤ pos 0 → (u +ℤ v +ℤ w) ≤ℤ pos 0
-    sum u v w p q r = omega (arith, ints)
+    omega (arith, ints, pos-mul-not_pos o₁ x (not_neg o₁ p) h, pos-mul-not_pos o₂ y (not_neg o₂ q) k, pos-mul-not_pos o₃ z (not_neg o₃ r) l)

@@ -2,20 +2,13 @@
 use Rattle.std.proofs.Common.{◌≡◌, ◌≢◌, ℤ, pos, ◌<ℤ◌, Bool, true, false, cond, ap, refl, ◌∙◌, arith}
 use Rattle.std.proofs.lemmas.Int.{ints}
 use Rattle.lpis_points.specs.declared.triangle.Triangle.{Triangle}
-use Rattle.lpis_points.specs.Plane.{RationalPoint, orient, orient_at}
+use Rattle.lpis_points.specs.Plane.{RationalPoint, orient_at}
 use Rattle.lpis_points.specs.Triangles.{IsCounterClockwise, is_inside, IsOffItsLines, turns_round}
-use Rattle.lpis_points.proofs.TriangleLemmas.{IsOff, inside_is, triangle_turns, flat_turns}
-
-off_of : (t : Triangle) (p : RationalPoint) → IsOffItsLines t p → IsOff t.a t.b t.c p
-off_of t p o = record { ab = o.ab; bc = o.bc; ca = o.ca }
-
--- 1 round a point inside, and 0 elsewhere
-pub turns_round-is : (t : Triangle) (p : RationalPoint) → pos 0 <ℤ p.d → IsCounterClockwise t → IsOffItsLines t p → turns_round t p ≡ cond (is_inside t p) (pos 1) (pos 0)
-turns_round-is t p h c o = triangle_turns t.a t.b t.c p h c (off_of t p o)
+use Rattle.lpis_points.proofs.TriangleLemmas.{inside_is, turns_round-is}
 
 pub turns_once_inside : (t : Triangle) (p : RationalPoint) → pos 0 <ℤ p.d → IsCounterClockwise t → is_inside t p ≡ true → turns_round t p ≡ pos 1
 turns_once_inside t p h c e =
-    let i = inside_is t.a t.b t.c p e in
+    let i = inside_is t p e in
     turns_round-is t p h c (record { ab = above (orient_at t.a t.b p) i.ab; bc = above (orient_at t.b t.c p) i.bc; ca = above (orient_at t.c t.a p) i.ca })
     ∙ ap (λ (b : Bool). cond b (pos 1) (pos 0)) e
   where
@@ -28,6 +21,3 @@ never_turns_outside t p h c o n = turns_round-is t p h c o ∙ by (is_inside t p
     by : (b : Bool) → (b ≡ true → ⊥) → cond b (pos 1) (pos 0) ≡ pos 0
     by true n = absurd (n refl)
     by false n = refl
-
-pub flats_never_turn : (t : Triangle) (p : RationalPoint) → pos 0 <ℤ p.d → orient t.a t.b t.c ≡ pos 0 → IsOffItsLines t p → turns_round t p ≡ pos 0
-flats_never_turn t p h e o = flat_turns t.a t.b t.c p h e (off_of t p o)

@@ -13,7 +13,7 @@ use Rattle.lpis_points.proofs.ChainLemmas.{chain_lemma, edge_sum-append}
 use Rattle.lpis_points.proofs.PointLemmas.{same_point-equality, point_eq}
 use Rattle.lpis_points.proofs.OddLemmas.{crossing-odd}
 use Rattle.lpis_points.proofs.ShiftLemmas.{shifted_off, crossing-shifted}
-use Rattle.lpis_points.proofs.TurningLemmas.{turns_round-is, flats_never_turn}
+use Rattle.lpis_points.proofs.TriangleLemmas.{turns_round-is, flats_never_turn}
 use Rattle.lpis_points.proofs.CornerLemmas.{corners_differ}
 use Rattle.lpis_points.proofs.ApartBoxLemmas.{apart_share_nothing}
 use Rattle.lpis_points.proofs.SeparationLemmas.{separated_share_nothing}
