@@ -1,4 +1,4 @@
--- A sweep finds every near pair: the two triangles have entries in the lowest strip that both meet, and there they are
+-- A sweep finds every near pair: the two triangles have events in the lowest strip that both meet, and there they are
 -- joined.
 use Rattle.std.proofs.Common.{◌≡◌, ℕ, ◌*◌, ◌/◌, ◌<◌, ◌≤◌, Bool, true, false, ◌||◌, nat_eq, List, Some, ◌⊎◌, inl, inr, refl, ap, sym, ◌∙◌, subst, arith}
 use Rattle.std.specs.List.{Contains, slice_get}
@@ -11,11 +11,11 @@ use Rattle.std.proofs.lemmas.List.Sorted.{Contains-permutation}
 use Rattle.std.proofs.lemmas.List.Elements.{All-contains}
 use Rattle.std.proofs.lemmas.Option.{same_Some, slice_get-get_or, slice_get_within, get_or_from_slice_get}
 use Rattle.lpis_points.specs.declared.triangle.Triangle.{Triangle}
-use Rattle.lpis_pairs.specs.declared.entries.Event.{Event}
-use Rattle.lpis_pairs.specs.private.Strips.{span_of}
+use Rattle.lpis_pairs.specs.declared.events.Event.{Event}
+use Rattle.lpis_pairs.specs.private.Strips.{extent_of}
 use Rattle.lpis_pairs.specs.NearPairs.{IsNear, IsNearList}
-use Rattle.lpis_pairs.specs.private.Entering.{AreNear, HasEntries, IsRising, Joins, entry}
-use Rattle.lpis_pairs.proofs.SpanLemmas.{Meet, meet, upright}
+use Rattle.lpis_pairs.specs.private.Sweeping.{AreNear, HasEvents, IsRising, Joins, event}
+use Rattle.lpis_pairs.proofs.ExtentLemmas.{Meet, meet, upright}
 
 -- a higher place is in no lower strip
 strips_rise : (height x y : ℕ) → 0 < height → x ≤ y → x / height ≤ y / height
@@ -33,33 +33,33 @@ swapped true false e = refl
 swapped false true e = refl
 swapped false false e = absurd (cc)
 
-at_strip : (ts : List Triangle) (height : ℕ) (before es : List Event) (ps : List (ℕ × ℕ)) → HasEntries ts height before
+at_strip : (ts : List Triangle) (height : ℕ) (before es : List Event) (ps : List (ℕ × ℕ)) → HasEvents ts height before
     → IsPermutation before es → ((k m : ℕ) → k < m → Joins ts es ps k m) → (i j : ℕ) (n : IsNear ts i j) (s : ℕ)
-    → (span_of n.t).bottom / height ≤ s → s ≤ (span_of n.t).top / height → (span_of n.u).bottom / height ≤ s
-    → s ≤ (span_of n.u).top / height
-    → (nat_eq s ((span_of n.t).bottom / height) || nat_eq s ((span_of n.u).bottom / height)) ≡ true → Contains ps (i, j)
+    → (extent_of n.t).bottom / height ≤ s → s ≤ (extent_of n.t).top / height → (extent_of n.u).bottom / height ≤ s
+    → s ≤ (extent_of n.u).top / height
+    → (nat_eq s ((extent_of n.t).bottom / height) || nat_eq s ((extent_of n.u).bottom / height)) ≡ true → Contains ps (i, j)
 at_strip ts height before es ps has moved join i j n s p q v w o = by_case (cases_order x.0 y.0)
   where
     m : Meet n.t n.u
     m = meet n.t n.u n.near
 
-    x : (k : ℕ) × (slice_get es k ≡ Some (entry height n.t i s))
-    x = stands es (entry height n.t i s) (Contains-permutation before es (entry height n.t i s) moved (has.all i s n.t n.at_i p q))
+    x : (k : ℕ) × (slice_get es k ≡ Some (event height n.t i s))
+    x = stands es (event height n.t i s) (Contains-permutation before es (event height n.t i s) moved (has.all i s n.t n.at_i p q))
 
-    y : (k : ℕ) × (slice_get es k ≡ Some (entry height n.u j s))
-    y = stands es (entry height n.u j s) (Contains-permutation before es (entry height n.u j s) moved (has.all j s n.u n.at_j v w))
+    y : (k : ℕ) × (slice_get es k ≡ Some (event height n.u j s))
+    y = stands es (event height n.u j s) (Contains-permutation before es (event height n.u j s) moved (has.all j s n.u n.at_j v w))
 
     two : (k l : ℕ) → k ≡ l → k < l → ⊥
     two k l e r = omega arith
 
     by_case : (x.0 ≡ y.0) ⊎ ((x.0 < y.0) ⊎ (y.0 < x.0)) → Contains ps (i, j)
-    by_case (inr (inl l)) = (join x.0 y.0 l (entry height n.t i s) (entry height n.u j s) x.1 y.1 refl m.right o).0 n
-    by_case (inr (inr l)) = (join y.0 x.0 l (entry height n.u j s) (entry height n.t i s) y.1 x.1 refl m.left
-        (swapped (nat_eq s ((span_of n.t).bottom / height)) (nat_eq s ((span_of n.u).bottom / height)) o)).1 n
+    by_case (inr (inl l)) = (join x.0 y.0 l (event height n.t i s) (event height n.u j s) x.1 y.1 refl m.right o).0 n
+    by_case (inr (inr l)) = (join y.0 x.0 l (event height n.u j s) (event height n.t i s) y.1 x.1 refl m.left
+        (swapped (nat_eq s ((extent_of n.t).bottom / height)) (nat_eq s ((extent_of n.u).bottom / height)) o)).1 n
     by_case (inl e) =
-        let g : slice_get es y.0 ≡ Some (entry height n.t i s) = subst (λ (k : ℕ). slice_get es k ≡ Some (entry height n.t i s)) e x.1 in
-        let f : Some (entry height n.t i s) ≡ Some (entry height n.u j s) = sym g ∙ y.1 in
-        let same : i ≡ j = ap (λ (v : Event). v.index) (same_Some (entry height n.t i s) (entry height n.u j s) f) in
+        let g : slice_get es y.0 ≡ Some (event height n.t i s) = subst (λ (k : ℕ). slice_get es k ≡ Some (event height n.t i s)) e x.1 in
+        let f : Some (event height n.t i s) ≡ Some (event height n.u j s) = sym g ∙ y.1 in
+        let same : i ≡ j = ap (λ (v : Event). v.index) (same_Some (event height n.t i s) (event height n.u j s) f) in
         absurd (two i j same n.rising)
 
 itself : (a b : ℕ) → (nat_eq b a || nat_eq b b) ≡ true
@@ -69,9 +69,9 @@ itself_first : (a b : ℕ) → (nat_eq a a || nat_eq a b) ≡ true
 itself_first a b = grind (arith, nat_tests)
 
 pub finds : (ts : List Triangle) (height : ℕ) (before es : List Event) (ps : List (ℕ × ℕ)) → 0 < height
-    → HasEntries ts height before → IsPermutation before es → ((k m : ℕ) → k < m → Joins ts es ps k m) → (i j : ℕ)
+    → HasEvents ts height before → IsPermutation before es → ((k m : ℕ) → k < m → Joins ts es ps k m) → (i j : ℕ)
     → IsNear ts i j → Contains ps (i, j)
-finds ts height before es ps h has moved join i j n = by_case (split ((span_of n.t).bottom / height) ((span_of n.u).bottom / height))
+finds ts height before es ps h has moved join i j n = by_case (split ((extent_of n.t).bottom / height) ((extent_of n.u).bottom / height))
   where
     split : (x y : ℕ) → (x ≤ y) ⊎ (y ≤ x)
     split x y = grind arith
@@ -82,17 +82,17 @@ finds ts height before es ps h has moved join i j n = by_case (split ((span_of n
     equal : (x : ℕ) → x ≤ x
     equal x = omega arith
 
-    by_case : ((span_of n.t).bottom / height ≤ (span_of n.u).bottom / height) ⊎ ((span_of n.u).bottom / height ≤ (span_of n.t).bottom / height) → Contains ps (i, j)
-    by_case (inl l) = at_strip ts height before es ps has moved join i j n ((span_of n.u).bottom / height) l
-        (strips_rise height (span_of n.u).bottom (span_of n.t).top h
-        (upto (span_of n.u).bottom (span_of n.t).top (meet n.t n.u n.near).top)) (equal ((span_of n.u).bottom / height))
-        (strips_rise height (span_of n.u).bottom (span_of n.u).top h (upright n.u))
-        (itself ((span_of n.t).bottom / height) ((span_of n.u).bottom / height))
-    by_case (inr l) = at_strip ts height before es ps has moved join i j n ((span_of n.t).bottom / height)
-        (equal ((span_of n.t).bottom / height)) (strips_rise height (span_of n.t).bottom (span_of n.t).top h
-        (upright n.t)) l (strips_rise height (span_of n.t).bottom (span_of n.u).top h
-        (upto (span_of n.t).bottom (span_of n.u).top (meet n.t n.u n.near).bottom))
-        (itself_first ((span_of n.t).bottom / height) ((span_of n.u).bottom / height))
+    by_case : ((extent_of n.t).bottom / height ≤ (extent_of n.u).bottom / height) ⊎ ((extent_of n.u).bottom / height ≤ (extent_of n.t).bottom / height) → Contains ps (i, j)
+    by_case (inl l) = at_strip ts height before es ps has moved join i j n ((extent_of n.u).bottom / height) l
+        (strips_rise height (extent_of n.u).bottom (extent_of n.t).top h
+        (upto (extent_of n.u).bottom (extent_of n.t).top (meet n.t n.u n.near).top)) (equal ((extent_of n.u).bottom / height))
+        (strips_rise height (extent_of n.u).bottom (extent_of n.u).top h (upright n.u))
+        (itself ((extent_of n.t).bottom / height) ((extent_of n.u).bottom / height))
+    by_case (inr l) = at_strip ts height before es ps has moved join i j n ((extent_of n.t).bottom / height)
+        (equal ((extent_of n.t).bottom / height)) (strips_rise height (extent_of n.t).bottom (extent_of n.t).top h
+        (upright n.t)) l (strips_rise height (extent_of n.t).bottom (extent_of n.u).top h
+        (upto (extent_of n.t).bottom (extent_of n.u).top (meet n.t n.u n.near).bottom))
+        (itself_first ((extent_of n.t).bottom / height) ((extent_of n.u).bottom / height))
 
 -- the whole list, in order
 pub near_list : (ts : List Triangle) (ps qs : List (ℕ × ℕ)) → AreNear ts ps

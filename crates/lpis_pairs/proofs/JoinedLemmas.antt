@@ -4,15 +4,15 @@ use Rattle.std.specs.List.{Contains, slice_get}
 use Rattle.std.proofs.lemmas.List.Elements.{All-nil}
 use Rattle.std.proofs.lemmas.Option.{slice_get_within}
 use Rattle.lpis_points.specs.declared.triangle.Triangle.{Triangle}
-use Rattle.lpis_pairs.specs.declared.entries.Event.{Event}
+use Rattle.lpis_pairs.specs.declared.events.Event.{Event}
 use Rattle.lpis_pairs.specs.NearPairs.{IsNear}
-use Rattle.lpis_pairs.specs.private.Entering.{AreInOrder, AreNear, Joins}
+use Rattle.lpis_pairs.specs.private.Sweeping.{AreInOrder, AreNear, Joins}
 
 -- each pair of the first list is in the second
 abbrev pub Keeps : List (ℕ × ℕ) → List (ℕ × ℕ) → Type 0
 Keeps ps qs = (p : ℕ × ℕ) → Contains ps p → Contains qs p
 
--- what stands behind the entry `at` and before m is joined with it
+-- what stands behind the event `at` and before m is joined with it
 pub record JoinsUpTo (ts : List Triangle) (es : List Event) (old new : List (ℕ × ℕ)) (at m : ℕ) : Type 0 where
   pub kept : Keeps old new
   pub near : AreNear ts old → AreNear ts new
@@ -31,7 +31,7 @@ nothing_joined ts es ps at = record {
     none : (k : ℕ) → at < k → k < at + 1 → ⊥
     none k l m = omega arith
 
--- the entry m is joined, where it has to be
+-- the event m is joined, where it has to be
 pub joined_next : (ts : List Triangle) (es : List Event) (old ps qs : List (ℕ × ℕ)) (at m : ℕ)
     → JoinsUpTo ts es old ps at m → Keeps ps qs → (AreNear ts ps → AreNear ts qs) → Joins ts es qs at m
     → JoinsUpTo ts es old qs at (m + 1)
@@ -48,7 +48,7 @@ joined_next ts es old ps qs at m h k n j = record {
     by_case i l (inl r) = joins_kept ts es ps qs at i k (h.found i l r)
     by_case i l (inr e) = subst (λ (v : ℕ). Joins ts es qs at v) (sym e) j
 
--- the two entries, as the code reads them
+-- the two events, as the code reads them
 pub joins_read : (ts : List Triangle) (es : List Event) (qs : List (ℕ × ℕ)) (at m : ℕ) (e f : Event)
     → slice_get es at ≡ Some e → slice_get es m ≡ Some f
     → (e.strip ≡ f.strip → f.left < e.right → (e.starts || f.starts) ≡ true
@@ -80,7 +80,7 @@ not_met e f e' f' stop l m o s r =
     two : (s t a b s' b' u v w : ℕ) → (s < t) ⊎ ((s ≡ t) × (a ≤ b)) → (t < s') ⊎ ((t ≡ s') × (b ≤ b')) → s ≡ u → v ≡ w → u ≡ s' → b' < w → b < v
     two s t a b s' b' u v w l m p q e r = grind arith
 
--- where the entry m is in another strip, or begins where the entry `at` has ended, so does each behind it
+-- where the event m is in another strip, or begins where the event `at` has ended, so does each behind it
 pub none_behind : (ts : List Triangle) (es : List Event) (qs : List (ℕ × ℕ)) (at m k : ℕ) (e f : Event) → AreInOrder es
     → at < m → m ≤ k → slice_get es at ≡ Some e → slice_get es m ≡ Some f → (e.strip ≡ f.strip → f.left < e.right → ⊥)
     → Joins ts es qs at k
@@ -123,7 +123,7 @@ found_to_end ts es old qs at m l j k r = λ e f g h. j.found k r (under (slice_g
     under : k < length es → k < m
     under s = omega arith
 
--- the entries below n are joined with those behind them
+-- the events below n are joined with those behind them
 pub record JoinsBelow (ts : List Triangle) (es : List Event) (ps : List (ℕ × ℕ)) (n : ℕ) : Type 0 where
   pub near : AreNear ts ps
   pub found : (k m : ℕ) → k < n → k < m → Joins ts es ps k m

@@ -1,9 +1,9 @@
 pub mod PushLemmas
 pub mod RowLemmas
 pub mod NearnessLemmas
-pub mod SpanLemmas
+pub mod ExtentLemmas
 pub mod PairOrderLemmas
-pub mod EnteredLemmas
+pub mod EventLemmas
 pub mod JoinedLemmas
 pub mod OrderedLemmas
 pub mod FoundLemmas

@@ -1,4 +1,4 @@
--- Sorted entries run strip by strip, and in a strip by where boxes begin.
+-- Sorted events run strip by strip, and in a strip by where boxes begin.
 use Rattle.std.proofs.Common.{◌≡◌, ℕ, ◌<◌, ◌≤◌, false, List, Ordering, ◌⊎◌, ap₂, sym, ◌∙◌, arith}
 use Rattle.std.specs.Cmp.{IsTotalOrder, bool_cmp_total}
 use Rattle.std.specs.List.Sorted.{IsSorted}
@@ -7,15 +7,15 @@ use Rattle.std.proofs.lemmas.Bool.Decides.{nat_tests}
 use Rattle.std.proofs.lemmas.Cmp.{nat_cmp_total, on_total, then_total}
 use Rattle.std.proofs.lemmas.List.Sorted.{ranks_by, sorted_far}
 use Rattle.std.proofs.lemmas.Option.{slice_get_within, get_or_from_slice_get}
-use Rattle.lpis_pairs.specs.declared.entries.Event.{Event}
-use Rattle.lpis_pairs.specs.private.Entering.{AreInOrder}
+use Rattle.lpis_pairs.specs.declared.events.Event.{Event}
+use Rattle.lpis_pairs.specs.private.Sweeping.{AreInOrder}
 
--- the derived order of entries
-abbrev pub entry_cmp : Event → Event → Ordering
-entry_cmp e f =
+-- the derived order of events
+abbrev pub event_cmp : Event → Event → Ordering
+event_cmp e f =
     ordering_then (nat_cmp e.strip f.strip) (ordering_then (nat_cmp e.left f.left) (ordering_then (nat_cmp e.right f.right) (ordering_then (nat_cmp e.index f.index) (bool_cmp e.starts f.starts))))
 
-total : IsTotalOrder entry_cmp
+total : IsTotalOrder event_cmp
 total = then_total (on_total (λ (e : Event). e.strip) nat_cmp_total)
     (then_total (on_total (λ (e : Event). e.left) nat_cmp_total)
     (then_total (on_total (λ (e : Event). e.right) nat_cmp_total)
@@ -24,7 +24,7 @@ total = then_total (on_total (λ (e : Event). e.strip) nat_cmp_total)
 not_less : (s t a b : ℕ) (r : Ordering) → is_lt (ordering_then (nat_cmp t s) (ordering_then (nat_cmp b a) r)) ≡ false → (s < t) ⊎ ((s ≡ t) × (a ≤ b))
 not_less s t a b r e = grind (arith, nat_tests)
 
-pub in_order : (es : List Event) → IsSorted entry_cmp es → AreInOrder es
+pub in_order : (es : List Event) → IsSorted event_cmp es → AreInOrder es
 in_order es sorted k m e f l g h =
-    let far = sorted_far (λ (x y : Event). is_lt (entry_cmp x y)) (ranks_by total (λ (x : Event). x)) es sorted k m e (omega arith) (slice_get_within es m f h) in
-    not_less e.strip f.strip e.left f.left _ (sym (ap₂ (λ (x y : Event). is_lt (entry_cmp x y)) (get_or_from_slice_get es m f e h) (get_or_from_slice_get es k e e g)) ∙ far)
+    let far = sorted_far (λ (x y : Event). is_lt (event_cmp x y)) (ranks_by total (λ (x : Event). x)) es sorted k m e (omega arith) (slice_get_within es m f h) in
+    not_less e.strip f.strip e.left f.left _ (sym (ap₂ (λ (x y : Event). is_lt (event_cmp x y)) (get_or_from_slice_get es m f e h) (get_or_from_slice_get es k e e g)) ∙ far)

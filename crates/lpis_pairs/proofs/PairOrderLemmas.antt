@@ -10,7 +10,7 @@ use Rattle.std.proofs.lemmas.List.Kept.{Contains-dedup, Contains-from_dedup, IsS
 use Rattle.std.proofs.lemmas.Map.Keys.{Less-from_sorted}
 use Rattle.std.proofs.lemmas.Option.{slice_get_within, get_or_from_slice_get}
 use Rattle.lpis_pairs.specs.NearPairs.{IsBelow}
-use Rattle.lpis_pairs.specs.private.Entering.{IsRising}
+use Rattle.lpis_pairs.specs.private.Sweeping.{IsRising}
 
 -- the derived order and test of pairs
 abbrev pub pair_cmp : ℕ × ℕ → ℕ × ℕ → Ordering

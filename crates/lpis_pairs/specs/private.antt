@@ -1,3 +1,3 @@
 -- Machinery, cited by private contracts alone: no promise rests on it.
-pub mod Entering
+pub mod Sweeping
 pub mod Strips

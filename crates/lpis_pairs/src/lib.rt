@@ -2,11 +2,11 @@
 #![tactic(auto)]
 
 mod all_pairs;
-mod entries;
+mod events;
+mod extents;
 mod near;
 mod order;
 mod source;
-mod spans;
 mod sweep;
 #[cfg(test)]
 mod tests;

@@ -1,7 +1,7 @@
 //! Pairs in order, each once.
 
 ghost use Rattle.std.specs.Prelude.{ℕ, ◌↔◌, Contains};
-ghost use Rattle.lpis_pairs.specs.private.Entering.{IsRising};
+ghost use Rattle.lpis_pairs.specs.private.Sweeping.{IsRising};
 
 /// The same pairs, ascending by the first number and then by the second, each once.
 pub fn in_order(pairs: Vec<(u32, u32)>) -> Vec<(u32, u32)>

@@ -2,20 +2,20 @@
 
 ghost use Rattle.std.specs.Prelude.{◌≡◌, ◌↔◌, ℕ, ◌<◌, ◌||◌, IsTrue, Contains, IfOk, OnOk, length};
 ghost use Rattle.lpis_pairs.specs.NearPairs.{IsNear};
-ghost use Rattle.lpis_pairs.specs.private.Entering.{AreEntries, AreInOrder, AreNear, Joins};
+ghost use Rattle.lpis_pairs.specs.private.Sweeping.{AreEvents, AreInOrder, AreNear, Joins};
 
-use crate::entries::{Event, entries_of};
+use crate::events::{Event, events_of};
+use crate::extents::strip_height;
 use crate::near::is_near;
 use crate::order::in_order;
 use crate::source::PairSource;
-use crate::spans::strip_height;
 use lpis_points::Triangle;
 use std::alloc::{AllocError, Global};
 
 /// Sweeps over the boxes strip by strip: horizontal strips a little higher than the mean box, and
 /// in each strip the boxes that meet it by their least x. A box is compared only with those that
 /// begin in its x range, in a strip that both meet. With N triangles there are fewer than 3 N
-/// entries; the time is of sorting these and the pairs, and of the boxes compared.
+/// events; the time is of sorting these and the pairs, and of the boxes compared.
 #[derive(Clone, Copy, Debug)]
 pub struct Sweep;
 
@@ -41,7 +41,7 @@ fn push_near(
     Ok(())
 }
 
-/// Whether the second entry stands in the strip of the first, and begins before that ends.
+/// Whether the second event stands in the strip of the first, and begins before that ends.
 fn is_met(first: &Event, second: &Event) -> bool
     ensures { IsTrue result
         ↔ ((first.now.strip ≡ second.now.strip) × (second.now.left < first.now.right)) }
@@ -56,25 +56,25 @@ fn one_starts(first: &Event, second: &Event) -> bool
     first.starts || second.starts
 }
 
-/// Adds the near pairs of an entry and those behind it in its strip, up to the first that begins
+/// Adds the near pairs of an event and those behind it in its strip, up to the first that begins
 /// where its box has ended.
 fn join_ahead(
     triangles: &[Triangle],
-    entries: &[Event],
+    events: &[Event],
     at: usize,
     pairs: &mut Vec<(u32, u32)>,
 ) -> Result<(), AllocError>
-    requires within { at < length entries.now }
-    requires entries { AreEntries triangles.now entries.now }
-    requires order { AreInOrder entries.now }
+    requires within { at < length events.now }
+    requires events { AreEvents triangles.now events.now }
+    requires order { AreInOrder events.now }
     ensures kept { (pair : ℕ × ℕ) → Contains pairs.old.items pair → Contains pairs.new.items pair }
     ensures near { AreNear triangles.now pairs.old.items → AreNear triangles.now pairs.new.items }
-    ensures found { OnOk result ((m : ℕ) → at < m → Joins triangles.now entries.now pairs.new.items
+    ensures found { OnOk result ((m : ℕ) → at < m → Joins triangles.now events.now pairs.new.items
         at m) }
 {
-    let first = &entries[at];
-    for m in at + 1..entries.len() {
-        let second = &entries[m];
+    let first = &events[at];
+    for m in at + 1..events.len() {
+        let second = &events[m];
         if !is_met(first, second) {
             return Ok(());
         }
@@ -85,30 +85,30 @@ fn join_ahead(
     Ok(())
 }
 
-/// The near pairs of entries that stand in order, in no order, and maybe more than once.
+/// The near pairs of events that stand in order, in no order, and maybe more than once.
 fn join(
     alloc: Global,
     triangles: &[Triangle],
-    entries: &[Event],
+    events: &[Event],
 ) -> Result<Vec<(u32, u32)>, AllocError>
-    requires entries { AreEntries triangles.now entries.now }
-    requires order { AreInOrder entries.now }
+    requires events { AreEvents triangles.now events.now }
+    requires order { AreInOrder events.now }
     ensures near { IfOk result (λ pairs. AreNear triangles.now pairs.items) }
-    ensures found { IfOk result (λ pairs. (k m : ℕ) → k < m → Joins triangles.now entries.now
+    ensures found { IfOk result (λ pairs. (k m : ℕ) → k < m → Joins triangles.now events.now
         pairs.items k m) }
 {
     let mut pairs = Vec::new(alloc);
-    for at in 0..entries.len() {
-        join_ahead(triangles, entries, at, &mut pairs)?;
+    for at in 0..events.len() {
+        join_ahead(triangles, events, at, &mut pairs)?;
     }
     Ok(pairs)
 }
 
 impl PairSource for Sweep {
     fn pairs(&self, alloc: Global, triangles: &[Triangle]) -> Result<Vec<(u32, u32)>, AllocError> {
-        let mut entries = entries_of(alloc, triangles, strip_height(triangles))?;
-        entries.sort_unstable();
-        let pairs = join(alloc, triangles, &entries)?;
+        let mut events = events_of(alloc, triangles, strip_height(triangles))?;
+        events.sort_unstable();
+        let pairs = join(alloc, triangles, &events)?;
         Ok(in_order(pairs))
     }
 }

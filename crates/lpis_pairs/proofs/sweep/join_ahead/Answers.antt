@@ -1,18 +1,18 @@
 use Rattle.std.proofs.Common.{◌≡◌, ℕ, ◌+◌, ◌<◌, Bool, IsTrue, true, false, ◌||◌, List, length, get_or, Vec, Global, sym, subst, arith}
 use Rattle.std.proofs.lemmas.Option.{slice_get-get_or, slice_get_within}
 use Rattle.lpis_points.specs.declared.triangle.Triangle.{Triangle}
-use Rattle.lpis_pairs.specs.declared.entries.Event.{Event}
-use Rattle.lpis_pairs.specs.private.Entering.{AreEntries, Joins}
+use Rattle.lpis_pairs.specs.declared.events.Event.{Event}
+use Rattle.lpis_pairs.specs.private.Sweeping.{AreEvents, Joins}
 use Rattle.lpis_pairs.proofs.JoinedLemmas.{JoinsUpTo, joined_next, joins_read, found_all, found_to_end}
 use Rattle.lpis_pairs.proofs.sweep.join_ahead.Goals as goal
 use Rattle.lpis_pairs.proofs.sweep.join_ahead.Goals.{then-one_starts+in_ok-push_near, else-one_starts}
 
--- what the code reads past the end of the entries
+-- what the code reads past the end of the events
 none : Event
 none = record { strip = 0; left = 0; right = 0; index = 0; starts = false }
 
--- the number of an entry is one of a triangle
-within : (ts : List Triangle) (es : List Event) (k : ℕ) (d : Event) → AreEntries ts es → k < length es → (get_or es k d).index < length ts
+-- the number of an event is one of a triangle
+within : (ts : List Triangle) (es : List Event) (k : ℕ) (d : Event) → AreEvents ts es → k < length es → (get_or es k d).index < length ts
 within ts es k d h l = let e = h k d l in slice_get_within ts (get_or es k d).index e.t e.at
 
 untrue : (r : Bool) → r ≡ false → IsTrue r → ⊥
@@ -23,11 +23,11 @@ unequal a r e f g = cc
 
 pub push_near-requires-clause-first : goal.push_near-requires-clause-first
 unfolding none
-push_near-requires-clause-first c = within c.args.triangles.now c.args.entries.now c.args.at none c.requires.entries c.requires.within
+push_near-requires-clause-first c = within c.args.triangles.now c.args.events.now c.args.at none c.requires.events c.requires.within
 
 pub push_near-requires-clause-second : goal.push_near-requires-clause-second
 unfolding none
-push_near-requires-clause-second c = within c.args.triangles.now c.args.entries.now c.loop-m.m none c.requires.entries c.loop-m-test.true
+push_near-requires-clause-second c = within c.args.triangles.now c.args.events.now c.loop-m.m none c.requires.events c.loop-m-test.true
 
 pub returns-in_err-push_near-clause-near : goal.returns-in_err-push_near-clause-near
 returns-in_err-push_near-clause-near c = λ h. c.push_near.ensures.near (c.loop-m.invariant.near h)
@@ -35,7 +35,7 @@ returns-in_err-push_near-clause-near c = λ h. c.push_near.ensures.near (c.loop-
 pub returns-then-not-is_met-clause-found : goal.returns-then-not-is_met-clause-found
 unfolding none
 returns-then-not-is_met-clause-found c =
-    let es = c.args.entries.now in
+    let es = c.args.events.now in
     let at = c.args.at in
     let m = c.loop-m.m in
     found_all c.args.triangles.now es c.args.pairs.now.items c.loop-m.pairs.items at m (get_or es at none)
@@ -47,7 +47,7 @@ pub loop-m-preserved : goal.loop-m-preserved
 unfolding none
 loop-m-preserved c =
     let ts = c.args.triangles.now in
-    let es = c.args.entries.now in
+    let es = c.args.events.now in
     let old = c.args.pairs.now.items in
     let ps = c.loop-m.pairs.items in
     let at = c.args.at in
@@ -68,4 +68,4 @@ loop-m-preserved c =
     ]
 
 pub returns-clause-found : goal.returns-clause-found
-returns-clause-found c = found_to_end c.args.triangles.now c.args.entries.now c.args.pairs.now.items c.loop-m.pairs.items c.args.at c.loop-m.m c.loop-m-test.false c.loop-m.invariant
+returns-clause-found c = found_to_end c.args.triangles.now c.args.events.now c.args.pairs.now.items c.loop-m.pairs.items c.args.at c.loop-m.m c.loop-m-test.false c.loop-m.invariant

@@ -1,15 +1,15 @@
 use Rattle.std.proofs.Common.{ℕ, ◌<◌, List, sym, subst}
 use Rattle.std.proofs.lemmas.List.Sorted.{All-permutation}
-use Rattle.lpis_pairs.specs.declared.entries.Event.{Event}
-use Rattle.lpis_pairs.specs.private.Entering.{IsEntry, AreEntries, AreInOrder, Joins}
+use Rattle.lpis_pairs.specs.declared.events.Event.{Event}
+use Rattle.lpis_pairs.specs.private.Sweeping.{IsEvent, AreEvents, AreInOrder, Joins}
 use Rattle.lpis_pairs.proofs.OrderedLemmas.{in_order}
 use Rattle.lpis_pairs.proofs.FoundLemmas.{finds, near_list}
 use Rattle.lpis_pairs.proofs.sweep.SweepPairSource.pairs.Goals as goal
 
-pub join-requires-clause-entries : goal.join-requires-clause-entries
-join-requires-clause-entries c =
+pub join-requires-clause-events : goal.join-requires-clause-events
+join-requires-clause-events c =
     let ts = c.args.triangles.now in
-    subst (λ (es : List Event). AreEntries ts es) (sym c.deref.ensures.value) (All-permutation (IsEntry ts) _ _ c.sort_unstable.ensures.permutation c.in_ok-entries.ensures.only)
+    subst (λ (es : List Event). AreEvents ts es) (sym c.deref.ensures.value) (All-permutation (IsEvent ts) _ _ c.sort_unstable.ensures.permutation c.in_ok-events.ensures.only)
 
 pub join-requires-clause-order : goal.join-requires-clause-order
 join-requires-clause-order c =
@@ -18,10 +18,10 @@ join-requires-clause-order c =
 pub returns : goal.returns
 returns c =
     let ts = c.args.triangles.now in
-    let before = c.in_ok-entries.entries.items in
+    let before = c.in_ok-events.events.items in
     let es = c.sort_unstable.new.self.items in
     let ps = c.in_ok-pairs.pairs.items in
     let joined = subst (λ (xs : List Event). (k m : ℕ) → k < m → Joins ts xs ps k m) c.deref.ensures.value c.in_ok-pairs.ensures.found in
     near_list ts ps c.in_order.result.items c.in_ok-pairs.ensures.near
-    (finds ts c.strip_height.result before es ps c.strip_height.ensures c.in_ok-entries.ensures
+    (finds ts c.strip_height.result before es ps c.strip_height.ensures c.in_ok-events.ensures
     c.sort_unstable.ensures.permutation joined) c.in_order.ensures.rising c.in_order.ensures.same

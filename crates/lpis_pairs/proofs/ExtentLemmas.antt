@@ -4,7 +4,7 @@ use Rattle.std.proofs.lemmas.Int.{ints, clamps}
 use Rattle.lpis_points.specs.Range.{IsInRange}
 use Rattle.lpis_points.specs.declared.triangle.Triangle.{Triangle}
 use Rattle.lpis_points.specs.Triangles.{are_apart, box_of, least, greatest}
-use Rattle.lpis_pairs.specs.private.Strips.{offset, span_of}
+use Rattle.lpis_pairs.specs.private.Strips.{offset, extent_of}
 
 -- the least and the greatest of three numbers
 pub least_in_range : (a b c : ℤ) → IsInRange a → IsInRange b → IsInRange c → IsInRange (least a b c)
@@ -22,15 +22,15 @@ offset_below y z h l = omega (arith, ints, h.0)
 offset_upto : (y z : ℤ) → IsInRange y → y ≤ℤ z → offset y ≤ offset z
 offset_upto y z h l = omega (arith, ints, h.0)
 
-pub upright : (t : Triangle) → (span_of t).bottom ≤ (span_of t).top
+pub upright : (t : Triangle) → (extent_of t).bottom ≤ (extent_of t).top
 upright t = offset_upto _ _ (least_in_range t.a.y t.b.y t.c.y t.a.y_in_range t.b.y_in_range t.c.y_in_range) (least_upto_greatest t.a.y t.b.y t.c.y)
 
 -- the boxes meet inside in both directions
 pub record Meet (t u : Triangle) : Type 0 where
-  pub left : (span_of t).left < (span_of u).right
-  pub right : (span_of u).left < (span_of t).right
-  pub bottom : (span_of t).bottom < (span_of u).top
-  pub top : (span_of u).bottom < (span_of t).top
+  pub left : (extent_of t).left < (extent_of u).right
+  pub right : (extent_of u).left < (extent_of t).right
+  pub bottom : (extent_of t).bottom < (extent_of u).top
+  pub top : (extent_of u).bottom < (extent_of t).top
 
 four : (g h k l s t u v : ℤ) → ((int_le g h || int_le k l) || (int_le s t || int_le u v)) ≡ false → (h <ℤ g) × (l <ℤ k) × (t <ℤ s) × (v <ℤ u)
 four g h k l s t u v e = (grind (arith, ints), grind (arith, ints), grind (arith, ints), grind (arith, ints))

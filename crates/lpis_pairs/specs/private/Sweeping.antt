@@ -1,10 +1,10 @@
--- Entries of boxes in strips, and what a sweep over them finds.
+-- Events of boxes in strips, and what a sweep over them finds.
 use Rattle.std.specs.Prelude.{◌≡◌, ℕ, ◌<◌, ◌≤◌, ◌/◌, ◌⊎◌, ◌||◌, nat_eq, true, List, All, Contains}
 use Rattle.std.specs.Prelude.{slice_get, Some}
 use Rattle.lpis_points.specs.declared.triangle.Triangle.{Triangle}
-use Rattle.lpis_pairs.specs.declared.entries.Event.{Event}
+use Rattle.lpis_pairs.specs.declared.events.Event.{Event}
 use Rattle.lpis_pairs.specs.NearPairs.{IsNear, IsBelow}
-use Rattle.lpis_pairs.specs.private.Strips.{span_of}
+use Rattle.lpis_pairs.specs.private.Strips.{extent_of}
 
 -- the pairs ascend
 abbrev pub IsRising : List (ℕ × ℕ) → Type 0
@@ -12,37 +12,37 @@ IsRising ps = (k m : ℕ) (p q : ℕ × ℕ) → k < m → slice_get ps k ≡ So
     → IsBelow p.0 p.1 q.0 q.1
 
 -- the triangle i, in a strip, where strips have a height
-abbrev pub entry : ℕ → Triangle → ℕ → ℕ → Event
-entry height t i strip = record {
+abbrev pub event : ℕ → Triangle → ℕ → ℕ → Event
+event height t i strip = record {
   strip = strip;
-  left = (span_of t).left;
-  right = (span_of t).right;
+  left = (extent_of t).left;
+  right = (extent_of t).right;
   index = i;
-  starts = nat_eq strip ((span_of t).bottom / height);
+  starts = nat_eq strip ((extent_of t).bottom / height);
 }
 
--- an entry has the ends of its triangle's box
-pub record IsEntry (ts : List Triangle) (e : Event) : Type 0 where
+-- an event has the ends of its triangle's box
+pub record IsEvent (ts : List Triangle) (e : Event) : Type 0 where
   pub t : Triangle
   pub at : slice_get ts e.index ≡ Some t
-  pub left : e.left ≡ (span_of t).left
-  pub right : e.right ≡ (span_of t).right
+  pub left : e.left ≡ (extent_of t).left
+  pub right : e.right ≡ (extent_of t).right
 
-abbrev pub AreEntries : List Triangle → List Event → Type 0
-AreEntries ts es = All (IsEntry ts) es
+abbrev pub AreEvents : List Triangle → List Event → Type 0
+AreEvents ts es = All (IsEvent ts) es
 
--- each triangle has its entry in each strip that its box meets, and there are no others
-pub record HasEntries (ts : List Triangle) (height : ℕ) (es : List Event) : Type 0 where
-  pub only : AreEntries ts es
-  pub all : (i strip : ℕ) (t : Triangle) → slice_get ts i ≡ Some t → (span_of t).bottom / height
-      ≤ strip → strip ≤ (span_of t).top / height → Contains es (entry height t i strip)
+-- each triangle has its event in each strip that its box meets, and there are no others
+pub record HasEvents (ts : List Triangle) (height : ℕ) (es : List Event) : Type 0 where
+  pub only : AreEvents ts es
+  pub all : (i strip : ℕ) (t : Triangle) → slice_get ts i ≡ Some t → (extent_of t).bottom / height
+      ≤ strip → strip ≤ (extent_of t).top / height → Contains es (event height t i strip)
 
 -- by strip, and in a strip by where boxes begin
 abbrev pub AreInOrder : List Event → Type 0
 AreInOrder es = (k m : ℕ) (e f : Event) → k < m → slice_get es k ≡ Some e → slice_get es m ≡ Some f
     → (e.strip < f.strip) ⊎ ((e.strip ≡ f.strip) × (e.left ≤ f.left))
 
--- of two entries of one strip, in which one of them starts, and the second of which begins before
+-- of two events of one strip, in which one of them starts, and the second of which begins before
 -- the first ends, the near pair is listed
 abbrev pub Joins : List Triangle → List Event → List (ℕ × ℕ) → ℕ → ℕ → Type 0
 Joins ts es ps k m =

@@ -2,7 +2,7 @@
 
 ghost use Rattle.std.specs.Prelude.{◌≡◌, ◌<◌};
 ghost use Rattle.lpis_points.specs.Range.{IsInRange};
-ghost use Rattle.lpis_pairs.specs.private.Strips.{offset as offset_spec, span_of as span_of_spec};
+ghost use Rattle.lpis_pairs.specs.private.Strips.{offset as offset_spec, extent_of as extent_of_spec};
 
 use lpis_points::{LIMIT, Triangle, box_of};
 
@@ -24,8 +24,8 @@ fn offset(coordinate: i64) -> u64
 }
 
 /// The box of a triangle.
-pub fn span_of(triangle: &Triangle) -> Extent
-    ensures { result ≡ span_of_spec triangle.now }
+pub fn extent_of(triangle: &Triangle) -> Extent
+    ensures { result ≡ extent_of_spec triangle.now }
 {
     let corners = box_of(triangle);
     Extent {
@@ -37,14 +37,14 @@ pub fn span_of(triangle: &Triangle) -> Extent
 }
 
 /// The height of a strip: more than the mean height of a box, so that there are fewer than three
-/// entries a triangle.
+/// events a triangle.
 pub fn strip_height(triangles: &[Triangle]) -> u64
     ensures { 0 < result }
 {
     let mut sum: u64 = 0;
     for triangle in triangles {
-        let span = span_of(triangle);
-        sum = sum.saturating_add(span.top.saturating_sub(span.bottom));
+        let extent = extent_of(triangle);
+        sum = sum.saturating_add(extent.top.saturating_sub(extent.bottom));
     }
     let count = triangles.len().max(1) as u64;
     (sum / count).saturating_add(1)

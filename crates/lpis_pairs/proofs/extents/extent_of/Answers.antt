@@ -2,8 +2,8 @@ use Rattle.std.proofs.Common.{◌≡◌, ℤ, to_z, of_z, to_z-of_z, SFits, w64,
 use Rattle.std.proofs.lemmas.Int.{ints}
 use Rattle.lpis_points.specs.Range.{IsInRange}
 use Rattle.lpis_points.specs.declared.boxes.Box4.{Box4}
-use Rattle.lpis_pairs.proofs.SpanLemmas.{least_in_range, greatest_in_range}
-use Rattle.lpis_pairs.proofs.spans.span_of.Goals as goal
+use Rattle.lpis_pairs.proofs.ExtentLemmas.{least_in_range, greatest_in_range}
+use Rattle.lpis_pairs.proofs.extents.extent_of.Goals as goal
 
 -- a number in range that a call answered, as the code hands it on
 handed : (z r : ℤ) → IsInRange z → r ≡ z → IsInRange (to_z w64 (of_z w64 r))

@@ -2,13 +2,13 @@
 
 ghost use Rattle.std.specs.Prelude.{◌≤◌, ◌<◌, length, IfOk};
 ghost use Rattle.lpis_pairs.specs.NearPairs.{most_triangles};
-ghost use Rattle.lpis_pairs.specs.private.Entering.{HasEntries};
+ghost use Rattle.lpis_pairs.specs.private.Sweeping.{HasEvents};
 
-use crate::spans::span_of;
+use crate::extents::extent_of;
 use lpis_points::Triangle;
 use std::alloc::{AllocError, Global};
 
-/// A box in a strip. Sorted, entries run strip by strip, and in a strip by where boxes begin.
+/// A box in a strip. Sorted, events run strip by strip, and in a strip by where boxes begin.
 #[derive(Clone, Copy, Debug, PartialEq, Eq, PartialOrd, Ord)]
 pub struct Event {
     pub strip: u64,
@@ -21,29 +21,29 @@ pub struct Event {
     pub starts: bool,
 }
 
-/// An entry for each triangle in each strip that its box meets.
-pub fn entries_of(
+/// An event for each triangle in each strip that its box meets.
+pub fn events_of(
     alloc: Global,
     triangles: &[Triangle],
     height: u64,
 ) -> Result<Vec<Event>, AllocError>
     requires few { length triangles.now ≤ most_triangles }
     requires strips { 0 < height }
-    ensures { IfOk result (λ entries. HasEntries triangles.now height entries.items) }
+    ensures { IfOk result (λ events. HasEvents triangles.now height events.items) }
 {
-    let mut entries = Vec::new(alloc);
+    let mut events = Vec::new(alloc);
     for (i, triangle) in triangles.iter().enumerate() {
-        let span = span_of(triangle);
-        let first = span.bottom / height;
-        for strip in first..span.top / height + 1 {
-            entries.push(Event {
+        let extent = extent_of(triangle);
+        let first = extent.bottom / height;
+        for strip in first..extent.top / height + 1 {
+            events.push(Event {
                 strip,
-                left: span.left,
-                right: span.right,
+                left: extent.left,
+                right: extent.right,
                 index: i as u32,
                 starts: strip == first,
             })?;
         }
     }
-    Ok(entries)
+    Ok(events)
 }
