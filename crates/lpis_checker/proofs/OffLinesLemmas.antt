@@ -7,7 +7,7 @@ use Rattle.lpis_points.specs.declared.point.Point.{Point}
 use Rattle.lpis_points.specs.declared.triangle.Triangle.{Triangle}
 use Rattle.lpis_points.specs.Plane.{RationalPoint}
 use Rattle.lpis_points.specs.Triangles.{IsCounterClockwise, IsFlat, IsOffItsLines}
-use Rattle.lpis_points.proofs.CornerLemmas.{corners_differ}
+use Rattle.lpis_points.proofs.TriangleLemmas.{corners_differ}
 use Rattle.lpis_rings.specs.Edges.{edges_of, turns}
 use Rattle.lpis_rings.proofs.CoveringLemmas.{piece_turns}
 use Rattle.lpis_covers.specs.declared.piece.Piece.{Piece}

@@ -58,25 +58,17 @@ adds p q r v h = omega (arith, ints)
 -- one corner below, two above
 below_left : (s t u y o₁ o₂ o₃ : ℤ) → Around s t u y o₁ o₂ o₃ → s ≤ℤ y → y <ℤ t → y <ℤ u → pos 0 <ℤ o₁ → pos 0 <ℤ o₃ → o₂ <ℤ pos 0 → ⊥
 below_left s t u y o₁ o₂ o₃ r hs ht hu p₁ p₃ n₂ =
-    omega (
-      arith,
-      ints,
-      r.heights,
-      neg-mul-not_pos o₂ (s -ℤ y) (omega (arith, ints)) (omega (arith, ints)),
-      pos-mul-pos o₃ (t -ℤ y) p₃ (omega (arith, ints)),
-      pos-mul-pos o₁ (u -ℤ y) p₁ (omega (arith, ints)),
-    )
+    let one = neg-mul-not_pos o₂ (s -ℤ y) (omega (arith, ints)) (omega (arith, ints)) in
+    let two = pos-mul-pos o₃ (t -ℤ y) p₃ (omega (arith, ints)) in
+    let three = pos-mul-pos o₁ (u -ℤ y) p₁ (omega (arith, ints)) in
+    omega (arith, ints, r.heights)
 
 below_right : (s t u y o₁ o₂ o₃ : ℤ) → Around s t u y o₁ o₂ o₃ → s ≤ℤ y → y <ℤ t → y <ℤ u → o₁ <ℤ pos 0 → o₃ <ℤ pos 0 → ⊥
 below_right s t u y o₁ o₂ o₃ r hs ht hu n₁ n₃ =
-    omega (
-      arith,
-      ints,
-      r.heights,
-      pos-mul-not_pos o₂ (s -ℤ y) (omega (arith, ints, r.sum)) (omega (arith, ints)),
-      neg-mul-pos o₃ (t -ℤ y) n₃ (omega (arith, ints)),
-      neg-mul-pos o₁ (u -ℤ y) n₁ (omega (arith, ints)),
-    )
+    let one = pos-mul-not_pos o₂ (s -ℤ y) (omega (arith, ints, r.sum)) (omega (arith, ints)) in
+    let two = neg-mul-pos o₃ (t -ℤ y) n₃ (omega (arith, ints)) in
+    let three = neg-mul-pos o₁ (u -ℤ y) n₁ (omega (arith, ints)) in
+    omega (arith, ints, r.heights)
 
 one_below : (s t u y o₁ o₂ o₃ : ℤ) → Around s t u y o₁ o₂ o₃ → s ≤ℤ y → y <ℤ t → y <ℤ u → total_of s t u y o₁ o₂ o₃ ≡ inside_of o₁ o₂ o₃
 one_below s t u y o₁ o₂ o₃ r hs ht hu = by_lt_z o₁ (pos 0)
@@ -95,25 +87,17 @@ one_below s t u y o₁ o₂ o₃ r hs ht hu = by_lt_z o₁ (pos 0)
 -- one corner above, two below
 above_left : (s t u y o₁ o₂ o₃ : ℤ) → Around s t u y o₁ o₂ o₃ → y <ℤ s → t ≤ℤ y → u ≤ℤ y → pos 0 <ℤ o₁ → pos 0 <ℤ o₃ → o₂ <ℤ pos 0 → ⊥
 above_left s t u y o₁ o₂ o₃ r hs ht hu p₁ p₃ n₂ =
-    omega (
-      arith,
-      ints,
-      r.heights,
-      neg-mul-pos o₂ (s -ℤ y) n₂ (omega (arith, ints)),
-      pos-mul-not_pos o₃ (t -ℤ y) (not_neg o₃ p₃) (omega (arith, ints)),
-      pos-mul-not_pos o₁ (u -ℤ y) (not_neg o₁ p₁) (omega (arith, ints)),
-    )
+    let one = neg-mul-pos o₂ (s -ℤ y) n₂ (omega (arith, ints)) in
+    let two = pos-mul-not_pos o₃ (t -ℤ y) (not_neg o₃ p₃) (omega (arith, ints)) in
+    let three = pos-mul-not_pos o₁ (u -ℤ y) (not_neg o₁ p₁) (omega (arith, ints)) in
+    omega (arith, ints, r.heights)
 
 above_right : (s t u y o₁ o₂ o₃ : ℤ) → Around s t u y o₁ o₂ o₃ → y <ℤ s → t ≤ℤ y → u ≤ℤ y → o₁ <ℤ pos 0 → o₃ <ℤ pos 0 → ⊥
 above_right s t u y o₁ o₂ o₃ r hs ht hu n₁ n₃ =
-    omega (
-      arith,
-      ints,
-      r.heights,
-      pos-mul-pos o₂ (s -ℤ y) (omega (arith, ints, r.sum)) (omega (arith, ints)),
-      neg-mul-not_pos o₃ (t -ℤ y) (omega (arith, ints)) (omega (arith, ints)),
-      neg-mul-not_pos o₁ (u -ℤ y) (omega (arith, ints)) (omega (arith, ints)),
-    )
+    let one = pos-mul-pos o₂ (s -ℤ y) (omega (arith, ints, r.sum)) (omega (arith, ints)) in
+    let two = neg-mul-not_pos o₃ (t -ℤ y) (omega (arith, ints)) (omega (arith, ints)) in
+    let three = neg-mul-not_pos o₁ (u -ℤ y) (omega (arith, ints)) (omega (arith, ints)) in
+    omega (arith, ints, r.heights)
 
 one_above : (s t u y o₁ o₂ o₃ : ℤ) → Around s t u y o₁ o₂ o₃ → y <ℤ s → t ≤ℤ y → u ≤ℤ y → total_of s t u y o₁ o₂ o₃ ≡ inside_of o₁ o₂ o₃
 one_above s t u y o₁ o₂ o₃ r hs ht hu = by_lt_z o₁ (pos 0)

@@ -10,5 +10,4 @@ pub mod ApartBoxLemmas
 pub mod ShiftLemmas
 pub mod ChainLemmas
 pub mod OddLemmas
-pub mod CornerLemmas
 pub mod NetCountLemmas

@@ -1,38 +1,16 @@
 -- Two counter-clockwise triangles on two sides of a line have no inner point in common.
-use Rattle.std.proofs.Common.{◌≡◌, ◌≢◌, true, ℤ, pos, ◌+ℤ◌, ◌-ℤ◌, ◌*ℤ◌, ◌≤ℤ◌, ◌<ℤ◌, [], ◌∷◌, subst, ◌∙◌, arith}
+use Rattle.std.proofs.Common.{◌≡◌, ◌≢◌, true, ℤ, pos, ◌+ℤ◌, ◌-ℤ◌, ◌*ℤ◌, ◌≤ℤ◌, ◌<ℤ◌, subst, ◌∙◌, arith}
 use Rattle.std.proofs.Math.IntN.{*ℤ_comm}
 use Rattle.std.proofs.lemmas.Int.{ints}
 use Rattle.lpis_points.specs.declared.point.Point.{Point}
 use Rattle.lpis_points.specs.declared.triangle.Triangle.{Triangle}
 use Rattle.lpis_points.specs.Plane.{RationalPoint, orient, orient_at}
 use Rattle.lpis_points.specs.Triangles.{IsCounterClockwise, is_inside, Separates}
-use Rattle.lpis_points.proofs.IntRingLemmas.{var, ◌⊖◌, ◌⊗◌, ring}
 use Rattle.lpis_points.proofs.PointLemmas.{point_eq}
 use Rattle.lpis_points.proofs.SignLemmas.{not_neg, pos-mul-not_neg, zero_of_mul, not_neg_of_mul, not_pos_of_mul}
-use Rattle.lpis_points.proofs.TriangleLemmas.{inside_is, line_sum, weighted_up, weighted_down}
+use Rattle.lpis_points.proofs.TriangleLemmas.{x_by_sides, y_by_sides, inside_is, line_sum, weighted_up, weighted_down}
 
 -- ---- corners on one line make no area
--- the step of a line, times a triangle's area, by the corners' sides to the line
-x_by_sides : (a b c u v : Point) → (v.x -ℤ u.x) *ℤ orient a b c ≡ (b.x -ℤ a.x) *ℤ (orient u v c -ℤ orient u v a) -ℤ (orient u v b -ℤ orient u v a) *ℤ (c.x -ℤ a.x)
-unfolding orient
-x_by_sides a b c u v =
-    ring (a.x ∷ (a.y ∷ (b.x ∷ (b.y ∷ (c.x ∷ (c.y ∷ (u.x ∷ (u.y ∷ (v.x ∷ (v.y ∷ []))))))))))
-    ((var 8 ⊖ var 6) ⊗ ((var 2 ⊖ var 0) ⊗ (var 5 ⊖ var 1) ⊖ (var 3 ⊖ var 1) ⊗ (var 4 ⊖ var 0)))
-    ((var 2 ⊖ var 0) ⊗ (((var 8 ⊖ var 6) ⊗ (var 5 ⊖ var 7) ⊖ (var 9 ⊖ var 7) ⊗ (var 4 ⊖ var 6)) ⊖
-    ((var 8 ⊖ var 6) ⊗ (var 1 ⊖ var 7) ⊖ (var 9 ⊖ var 7) ⊗ (var 0 ⊖ var 6))) ⊖
-    (((var 8 ⊖ var 6) ⊗ (var 3 ⊖ var 7) ⊖ (var 9 ⊖ var 7) ⊗ (var 2 ⊖ var 6)) ⊖
-    ((var 8 ⊖ var 6) ⊗ (var 1 ⊖ var 7) ⊖ (var 9 ⊖ var 7) ⊗ (var 0 ⊖ var 6))) ⊗ (var 4 ⊖ var 0)) tt
-
-y_by_sides : (a b c u v : Point) → (v.y -ℤ u.y) *ℤ orient a b c ≡ (b.y -ℤ a.y) *ℤ (orient u v c -ℤ orient u v a) -ℤ (orient u v b -ℤ orient u v a) *ℤ (c.y -ℤ a.y)
-unfolding orient
-y_by_sides a b c u v =
-    ring (a.x ∷ (a.y ∷ (b.x ∷ (b.y ∷ (c.x ∷ (c.y ∷ (u.x ∷ (u.y ∷ (v.x ∷ (v.y ∷ []))))))))))
-    ((var 9 ⊖ var 7) ⊗ ((var 2 ⊖ var 0) ⊗ (var 5 ⊖ var 1) ⊖ (var 3 ⊖ var 1) ⊗ (var 4 ⊖ var 0)))
-    ((var 3 ⊖ var 1) ⊗ (((var 8 ⊖ var 6) ⊗ (var 5 ⊖ var 7) ⊖ (var 9 ⊖ var 7) ⊗ (var 4 ⊖ var 6)) ⊖
-    ((var 8 ⊖ var 6) ⊗ (var 1 ⊖ var 7) ⊖ (var 9 ⊖ var 7) ⊗ (var 0 ⊖ var 6))) ⊖
-    (((var 8 ⊖ var 6) ⊗ (var 3 ⊖ var 7) ⊖ (var 9 ⊖ var 7) ⊗ (var 2 ⊖ var 6)) ⊖
-    ((var 8 ⊖ var 6) ⊗ (var 1 ⊖ var 7) ⊖ (var 9 ⊖ var 7) ⊗ (var 0 ⊖ var 6))) ⊗ (var 5 ⊖ var 1)) tt
-
 nothing : (m n o p q : ℤ) → o ≡ pos 0 → p ≡ pos 0 → q ≡ pos 0 → m *ℤ (q -ℤ o) -ℤ (p -ℤ o) *ℤ n ≡ pos 0
 nothing m n o p q e f g = rw (e, f, g) (omega (arith, ints))
 

@@ -7,6 +7,7 @@ use Rattle.lpis_points.specs.Plane.{RationalPoint, orient_at, crossing, crossing
 use Rattle.lpis_points.specs.Shift.{shifted}
 use Rattle.lpis_points.proofs.IntRingLemmas.{var, con, ◌⊕◌, ◌⊖◌, ◌⊗◌, ring}
 use Rattle.lpis_points.proofs.CrossingLemmas.{up_left, down_right, both_below, both_above, up_not_left, down_not_right}
+use Rattle.lpis_points.proofs.PointLemmas.{point_eq}
 use Rattle.lpis_points.proofs.SignLemmas.{not_neg, pos-mul-not_neg, neg-mul-not_neg}
 
 -- a point shifted by any n
@@ -42,9 +43,9 @@ not_nought : (k dx dy : ℤ) → IsStep dx → IsStep dy → (dx ≡ pos 0 → d
 not_nought k dx dy sx sy n e =
     n (omega (arith, ints, sx.low, sx.high, sy.low, sy.high)) (omega (arith, ints, sx.low, sx.high, sy.low, sy.high))
 
-pub shifted_off : (a b : Point) (p : RationalPoint) → (a.x ≡ b.x → a.y ≡ b.y → ⊥) → orient_at a b (shifted p) ≢ pos 0
+pub shifted_off : (a b : Point) (p : RationalPoint) → a ≢ b → orient_at a b (shifted p) ≢ pos 0
 shifted_off a b p n e = not_nought (orient_at a b p) (b.x -ℤ a.x) (b.y -ℤ a.y) (step_x a b) (step_y a b)
-    (λ z w. n (omega (arith, ints)) (omega (arith, ints))) (sym (orient_at-shifted a b p) ∙ e)
+    (λ z w. n (point_eq a b (omega (arith, ints)) (omega (arith, ints)))) (sym (orient_at-shifted a b p) ∙ e)
 
 -- ---- the crossings
 -- the edge from height s to height t rises by dy, times a positive number

@@ -1,11 +1,11 @@
 -- Triangles and rational points, by their corners.
-use Rattle.std.proofs.Common.{◌≡◌, ℤ, pos, ◌+ℤ◌, ◌-ℤ◌, ◌*ℤ◌, ◌≤ℤ◌, ◌<ℤ◌, int_lt, true, cond, ◌&&◌, List, [], ◌∷◌, ap, subst, sym, ◌∙◌, arith}
+use Rattle.std.proofs.Common.{◌≡◌, ◌≢◌, ℤ, pos, ◌+ℤ◌, ◌-ℤ◌, ◌*ℤ◌, ◌≤ℤ◌, ◌<ℤ◌, int_lt, true, cond, ◌&&◌, List, [], ◌∷◌, ap, subst, sym, ◌∙◌, arith}
 use Rattle.std.proofs.lemmas.Int.{ints}
 use Rattle.lpis_points.specs.declared.point.Point.{Point}
 use Rattle.lpis_points.specs.declared.triangle.Triangle.{Triangle}
 use Rattle.lpis_points.specs.Triangles.{IsCounterClockwise, IsOffItsLines, is_inside, turns_round}
 use Rattle.lpis_points.specs.Plane.{RationalPoint, orient, orient_at, crossing, shoelace_term}
-use Rattle.lpis_points.proofs.SignLemmas.{not_neg, pos-mul-not_neg, pos-mul-not_pos, zero_of_mul}
+use Rattle.lpis_points.proofs.SignLemmas.{not_neg, not_zero, pos-mul-not_neg, pos-mul-not_pos, zero_of_mul}
 use Rattle.lpis_points.proofs.CrossingLemmas.{Around, around_total, inside_none}
 use Rattle.lpis_points.proofs.IntRingLemmas.{Expr, var, con, ◌⊕◌, ◌⊖◌, ◌⊗◌, ring}
 
@@ -13,7 +13,7 @@ use Rattle.lpis_points.proofs.IntRingLemmas.{Expr, var, con, ◌⊕◌, ◌⊖�
 abbrev pub over : Point → RationalPoint → ℤ
 over a p = a.y *ℤ p.d -ℤ p.y
 
--- the unknowns of a triangle a b c, a point p, a line u v and a number n
+-- the unknowns of a triangle a b c, a line u v, a point p and a number n
 abbrev ax : Expr
 ax = var 0
 
@@ -33,31 +33,31 @@ abbrev cy : Expr
 cy = var 5
 
 abbrev px : Expr
-px = var 6
+px = var 10
 
 abbrev py : Expr
-py = var 7
+py = var 11
 
 abbrev d : Expr
-d = var 8
+d = var 12
 
 abbrev ux : Expr
-ux = var 9
+ux = var 6
 
 abbrev uy : Expr
-uy = var 10
+uy = var 7
 
 abbrev vx : Expr
-vx = var 11
+vx = var 8
 
 abbrev vy : Expr
-vy = var 12
+vy = var 9
 
 abbrev n : Expr
 n = var 13
 
 abbrev unknowns_of : Point → Point → Point → RationalPoint → Point → Point → ℤ → List ℤ
-unknowns_of a b c p u v m = a.x ∷ (a.y ∷ (b.x ∷ (b.y ∷ (c.x ∷ (c.y ∷ (p.x ∷ (p.y ∷ (p.d ∷ (u.x ∷ (u.y ∷ (v.x ∷ (v.y ∷ (m ∷ [])))))))))))))
+unknowns_of a b c p u v m = a.x ∷ (a.y ∷ (b.x ∷ (b.y ∷ (c.x ∷ (c.y ∷ (u.x ∷ (u.y ∷ (v.x ∷ (v.y ∷ (p.x ∷ (p.y ∷ (p.d ∷ (m ∷ [])))))))))))))
 
 abbrev side : Expr → Expr → Expr → Expr → Expr
 side sx sy tx ty = (tx ⊖ sx) ⊗ (py ⊖ sy ⊗ d) ⊖ (ty ⊖ sy) ⊗ (px ⊖ sx ⊗ d)
@@ -98,6 +98,44 @@ unfolding orient orient_at
 level_sum a b c p m = ring (unknowns_of a b c p a a m)
     (side bx by_ cx cy ⊗ (ay ⊖ n) ⊕ side cx cy ax ay ⊗ (by_ ⊖ n) ⊕ side ax ay bx by_ ⊗ (cy ⊖ n))
     (turn ax ay bx by_ cx cy ⊗ (py ⊖ n ⊗ d)) tt
+
+-- the step of a line, times a triangle's area, by the corners' sides to the line
+pub x_by_sides : (a b c u v : Point) → (v.x -ℤ u.x) *ℤ orient a b c ≡ (b.x -ℤ a.x) *ℤ (orient u v c -ℤ orient u v a) -ℤ (orient u v b -ℤ orient u v a) *ℤ (c.x -ℤ a.x)
+unfolding orient
+x_by_sides a b c u v = ring (a.x ∷ a.y ∷ b.x ∷ b.y ∷ c.x ∷ c.y ∷ u.x ∷ u.y ∷ v.x ∷ v.y ∷ [])
+    ((vx ⊖ ux) ⊗ turn ax ay bx by_ cx cy)
+    ((bx ⊖ ax) ⊗ (turn ux uy vx vy cx cy ⊖ turn ux uy vx vy ax ay) ⊖ (turn ux uy vx vy bx by_ ⊖ turn ux uy vx vy ax ay) ⊗ (cx ⊖ ax)) tt
+
+pub y_by_sides : (a b c u v : Point) → (v.y -ℤ u.y) *ℤ orient a b c ≡ (b.y -ℤ a.y) *ℤ (orient u v c -ℤ orient u v a) -ℤ (orient u v b -ℤ orient u v a) *ℤ (c.y -ℤ a.y)
+unfolding orient
+y_by_sides a b c u v = ring (a.x ∷ a.y ∷ b.x ∷ b.y ∷ c.x ∷ c.y ∷ u.x ∷ u.y ∷ v.x ∷ v.y ∷ [])
+    ((vy ⊖ uy) ⊗ turn ax ay bx by_ cx cy)
+    ((by_ ⊖ ay) ⊗ (turn ux uy vx vy cx cy ⊖ turn ux uy vx vy ax ay) ⊖ (turn ux uy vx vy bx by_ ⊖ turn ux uy vx vy ax ay) ⊗ (cy ⊖ ay)) tt
+
+-- the corners of a triangle with an area differ
+orient_same₁ : (a b : Point) → orient a a b ≡ pos 0
+unfolding orient
+orient_same₁ a b = ring (a.x ∷ a.y ∷ b.x ∷ b.y ∷ []) (turn ax ay ax ay bx by_) (con (pos 0)) tt
+
+orient_same₂ : (a b : Point) → orient a b b ≡ pos 0
+unfolding orient
+orient_same₂ a b = ring (a.x ∷ a.y ∷ b.x ∷ b.y ∷ []) (turn ax ay bx by_ bx by_) (con (pos 0)) tt
+
+orient_same₃ : (a b : Point) → orient a b a ≡ pos 0
+unfolding orient
+orient_same₃ a b = ring (a.x ∷ a.y ∷ b.x ∷ b.y ∷ []) (turn ax ay bx by_ ax ay) (con (pos 0)) tt
+
+pub record CornersDiffer (a b c : Point) : Type 0 where
+  pub ab : a ≢ b
+  pub bc : b ≢ c
+  pub ca : c ≢ a
+
+pub corners_differ : (a b c : Point) → pos 0 <ℤ orient a b c → CornersDiffer a b c
+corners_differ a b c h = record {
+  ab = λ e. not_zero (orient a b c) h (subst (λ (x : Point). orient a x c ≡ pos 0) e (orient_same₁ a c));
+  bc = λ e. not_zero (orient a b c) h (subst (λ (x : Point). orient a b x ≡ pos 0) e (orient_same₂ a b));
+  ca = λ e. not_zero (orient a b c) h (subst (λ (x : Point). orient a b x ≡ pos 0) (sym e) (orient_same₃ a b));
+}
 
 -- the shoelace terms of a triangle
 pub terms_sum : (a b c : Point) → shoelace_term a b +ℤ shoelace_term b c +ℤ shoelace_term c a ≡ orient a b c

@@ -1,5 +1,5 @@
 -- Rings walked backwards, and areas by the edges in normal orientation.
-use Rattle.std.proofs.Common.{◌≡◌, ℤ, pos, ◌+ℤ◌, ◌-ℤ◌, neg_ℤ, int_lt, nat_abs, Bool, true, false, cond, List, [], ◌∷◌, ◌++◌, reverse, ap, ap₂, sym, refl, ◌∙◌, arith}
+use Rattle.std.proofs.Common.{◌≡◌, ℤ, pos, ◌+ℤ◌, neg_ℤ, int_lt, nat_abs, Bool, true, false, cond, List, [], ◌∷◌, ◌++◌, reverse, ap, sym, refl, ◌∙◌, arith}
 use Rattle.std.proofs.lemmas.Int.{ints}
 use Rattle.std.specs.List.{flat_map}
 use Rattle.std.proofs.lemmas.List.{reverse-append}
@@ -13,18 +13,9 @@ use Rattle.lpis_rings.specs.Area.{steps, shoelace, absolute_sums, area2}
 use Rattle.lpis_rings.specs.Edges.{walk, shell_edges, hole_edges, member_edges, edges_of}
 
 steps-push : (f : Point → Point → ℤ) (xs : List Point) (y z : Point) → edge_sum f (steps ((xs ++ y ∷ []) ++ z ∷ [])) ≡ edge_sum f (steps (xs ++ y ∷ [])) +ℤ f y z
-steps-push f [] y z = only (f y z)
-  where
-    only : (x : ℤ) → x +ℤ pos 0 ≡ pos 0 +ℤ x
-    only x = omega (arith, ints)
-steps-push f (x ∷ []) y z = moved (f x y) (f y z)
-  where
-    moved : (a b : ℤ) → a +ℤ (b +ℤ pos 0) ≡ (a +ℤ pos 0) +ℤ b
-    moved a b = omega (arith, ints)
-steps-push f (x ∷ (w ∷ xs)) y z = grown (f x w) (edge_sum f (steps (((w ∷ xs) ++ y ∷ []) ++ z ∷ []))) (edge_sum f (steps ((w ∷ xs) ++ y ∷ []))) (f y z) (steps-push f (w ∷ xs) y z)
-  where
-    grown : (a t u v : ℤ) → t ≡ u +ℤ v → a +ℤ t ≡ (a +ℤ u) +ℤ v
-    grown a t u v e = omega (arith, ints)
+steps-push f [] y z = omega (arith, ints)
+steps-push f (x ∷ []) y z = omega (arith, ints)
+steps-push f (x ∷ (w ∷ xs)) y z = omega (arith, ints, steps-push f (w ∷ xs) y z)
 
 reverse-cons : (a : Point) (xs : List Point) → reverse (a ∷ xs) ≡ reverse xs ++ a ∷ []
 reverse-cons a xs = reverse-append (a ∷ []) xs
@@ -62,22 +53,12 @@ hole_sum ps = walk_sum (int_lt (pos 0) (shoelace ps)) ps ∙ abs_hole (shoelace 
 
 holes_sum : (hs : List (List Point)) → edge_sum shoelace_term (flat_map hole_edges hs) ≡ neg_ℤ (absolute_sums hs)
 holes_sum [] = refl
-holes_sum (h ∷ hs) = edge_sum-append shoelace_term (hole_edges h) (flat_map hole_edges hs)
-    ∙ both (edge_sum shoelace_term (hole_edges h)) (edge_sum shoelace_term (flat_map hole_edges hs))
-    (pos (nat_abs (shoelace h))) (absolute_sums hs) (hole_sum h) (holes_sum hs)
-  where
-    both : (x y a b : ℤ) → x ≡ neg_ℤ a → y ≡ neg_ℤ b → x +ℤ y ≡ neg_ℤ (a +ℤ b)
-    both x y a b e f = omega (arith, ints)
+holes_sum (h ∷ hs) = omega (arith, ints, edge_sum-append shoelace_term (hole_edges h) (flat_map hole_edges hs), hole_sum h, holes_sum hs)
 
 -- `area2` is the sum of the shoelace terms of the edges in normal orientation
 pub area2_is : (ms : List Member) → edge_sum shoelace_term (edges_of ms) ≡ area2 ms
 area2_is [] = refl
 area2_is (m ∷ ms) =
-    edge_sum-append shoelace_term (member_edges m) (edges_of ms)
-    ∙ ap₂ (λ (x y : ℤ). x +ℤ y) (edge_sum-append shoelace_term (shell_edges m.shell) (flat_map hole_edges m.holes)
-    ∙ less (edge_sum shoelace_term (shell_edges m.shell)) (edge_sum shoelace_term (flat_map hole_edges m.holes))
-    (pos (nat_abs (shoelace m.shell))) (absolute_sums m.holes) (shell_sum m.shell) (holes_sum m.holes))
-    (area2_is ms)
-  where
-    less : (x y a b : ℤ) → x ≡ a → y ≡ neg_ℤ b → x +ℤ y ≡ a -ℤ b
-    less x y a b e f = omega (arith, ints)
+    let one = edge_sum-append shoelace_term (member_edges m) (edges_of ms) in
+    let two = edge_sum-append shoelace_term (shell_edges m.shell) (flat_map hole_edges m.holes) in
+    omega (arith, ints, shell_sum m.shell, holes_sum m.holes, area2_is ms)

@@ -1,7 +1,6 @@
 -- Machinery: areas fit their types.
-use Rattle.std.proofs.Common.{◌≡◌, ◌≤◌, ◌<◌, ◌+◌, ◌-◌, ◌*◌, ℕ, zero, suc, ℤ, pos, ◌-ℤ◌, ◌+ℤ◌, nat_abs, List, [], ◌∷◌, ◌++◌, length, take, drop, get_or, arith, refl, sym, ap, subst, ◌∙◌}
-use Rattle.std.proofs.Math.IntN.{+ℤ_comm}
-use Rattle.std.proofs.lemmas.List.{length-drop, take_more}
+use Rattle.std.proofs.Common.{◌≡◌, ◌≤◌, ◌<◌, ◌+◌, ◌-◌, ◌*◌, ℕ, zero, suc, ℤ, pos, ◌-ℤ◌, ◌+ℤ◌, nat_abs, List, [], ◌∷◌, length, take, drop, get_or, arith, refl, sym, ap, subst, ◌∙◌}
+use Rattle.std.proofs.lemmas.List.{length-drop}
 use Rattle.std.proofs.lemmas.List.Sums.{sum_by_more, sum_by_more_le}
 use Rattle.std.proofs.lemmas.Int.{ints, to_z-of_z}
 use mir.Syntax.{w64, w128}
@@ -11,7 +10,7 @@ use Rattle.lpis_points.specs.Range.{IsInRange}
 use Rattle.lpis_points.specs.declared.point.Point.{Point}
 use Rattle.lpis_points.specs.Chain.{edge_sum}
 use Rattle.lpis_points.specs.Plane.{shoelace_term}
-use Rattle.lpis_rings.specs.Area.{absolute_sums, area2, member_area2, shoelace, steps}
+use Rattle.lpis_rings.specs.Area.{shoelace, steps}
 use Rattle.lpis_rings.specs.Polygon.{member_points, points_in, points_of}
 use Rattle.lpis_rings.specs.declared.polygon.Member.{Member}
 use Rattle.lpis_rings.specs.AreaBounds.{most_term}
@@ -88,20 +87,6 @@ nothing-more s = omega (arith, ints)
 pub edges-done : (s : ℤ) (i : ℕ) (ps : List Point) → length ps ≤ i → s +ℤ edge_sum shoelace_term (steps (drop (i - 1) ps)) ≡ shoelace ps → s ≡ shoelace ps
 edges-done s i ps h total = nothing-more s ∙ ap (λ (es : List (Point × Point)). s +ℤ edge_sum shoelace_term es) (sym (no_steps i ps h)) ∙ total
 
-regroup-right : (x y z w : ℤ) → w ≡ y +ℤ z → x +ℤ w ≡ (x +ℤ y) +ℤ z
-regroup-right x y z w e = omega (arith, ints)
-
-absolute_sums-push : (rings : List (List Point)) (ring : List Point) → absolute_sums (rings ++ ring ∷ []) ≡ absolute_sums rings +ℤ pos (nat_abs (shoelace ring))
-absolute_sums-push [] ring = +ℤ_comm (pos (nat_abs (shoelace ring))) (pos 0)
-absolute_sums-push (r ∷ rings) ring = regroup-right (pos (nat_abs (shoelace r))) (absolute_sums rings)
-    (pos (nat_abs (shoelace ring))) (absolute_sums (rings ++ ring ∷ [])) (absolute_sums-push rings ring)
-
--- one more ring
-pub absolute_sums-more : (rings : List (List Point)) (i : ℕ) (ring : List Point) → i < length rings → ring ≡ get_or rings i ring
-    → absolute_sums (take (i + 1) rings) ≡ absolute_sums (take i rings) +ℤ pos (nat_abs (shoelace ring))
-absolute_sums-more rings i ring h e =
-    ap absolute_sums (take_more rings i ring h ∙ ap (λ (r : List Point). take i rings ++ r ∷ []) (sym e)) ∙ absolute_sums-push (take i rings) ring
-
 -- one more ring's points are still among all points
 pub points_in-more : (rings : List (List Point)) (i : ℕ) (ring : List Point) → i < length rings → ring ≡ get_or rings i ring
     → (points_in (take (i + 1) rings) ≡ points_in (take i rings) + length ring) × (points_in (take i rings) + length ring ≤ points_in rings)
@@ -110,16 +95,6 @@ points_in-more rings i ring h e =
     let more = sum_by_more length rings i ring h in
     let le = sum_by_more_le length rings i ring h in
     (omega arith, omega arith)
-
-area2-push : (members : List Member) (m : Member) → area2 (members ++ m ∷ []) ≡ area2 members +ℤ member_area2 m
-area2-push [] m = +ℤ_comm (member_area2 m) (pos 0)
-area2-push (n ∷ members) m = regroup-right (member_area2 n) (area2 members) (member_area2 m) (area2 (members ++ m ∷ [])) (area2-push members m)
-
--- one more member
-pub area2-more : (members : List Member) (i : ℕ) (m : Member) → i < length members → m ≡ get_or members i m
-    → area2 (take (i + 1) members) ≡ area2 (take i members) +ℤ member_area2 m
-area2-more members i m h e =
-    ap area2 (take_more members i m h ∙ ap (λ (r : Member). take i members ++ r ∷ []) (sym e)) ∙ area2-push (take i members) m
 
 pub points_of-more : (members : List Member) (i : ℕ) (m : Member) → i < length members → m ≡ get_or members i m
     → (points_of (take (i + 1) members) ≡ points_of (take i members) + member_points m) × (points_of (take i members) + member_points m ≤ points_of members)

@@ -1,5 +1,5 @@
 -- Shoelace sums, and the doubled area of a polygon: its shells added, its holes taken off.
-use Rattle.std.specs.Prelude.{ℤ, pos, ◌+ℤ◌, ◌-ℤ◌, nat_abs, List, [], ◌∷◌}
+use Rattle.std.specs.Prelude.{ℤ, pos, ◌-ℤ◌, nat_abs, List, [], ◌∷◌}
 use Rattle.lpis_points.specs.declared.point.Point.{Point}
 use Rattle.lpis_points.specs.Plane.{shoelace_term}
 use Rattle.lpis_points.specs.Sums.{int_sum_by}

@@ -1,5 +1,5 @@
 -- Lists of edges and triangles as they cover the plane.
-use Rattle.std.specs.Prelude.{◌≡◌, ℕ, ℤ, pos, ◌+ℤ◌, List, [], ◌∷◌, ◌++◌, length, filter, flat_map}
+use Rattle.std.specs.Prelude.{◌≡◌, ℕ, ℤ, pos, List, [], ◌∷◌, ◌++◌, length, filter, flat_map}
 use Rattle.std.specs.Prelude.{◌⊎◌, IsTrue, All}
 use Rattle.lpis_points.specs.declared.point.Point.{Point}
 use Rattle.lpis_points.specs.declared.triangle.Triangle.{Triangle}
@@ -46,13 +46,14 @@ pub record CutPiece : Type 0 where
   pub triangles : List Triangle
   pub flats : List Triangle
 
+abbrev pub IsCutPiece : CutPiece → Type 0
+IsCutPiece p = IsCut p.edges p.triangles p.flats
+
 abbrev pub all_triangles : List CutPiece → List Triangle
-all_triangles [] = []
-all_triangles (p ∷ ps) = p.triangles ++ all_triangles ps
+all_triangles ps = flat_map (λ (p : CutPiece). p.triangles) ps
 
 abbrev pub all_edges : List CutPiece → List (Point × Point)
-all_edges [] = []
-all_edges (p ∷ ps) = p.edges ++ all_edges ps
+all_edges ps = flat_map (λ (p : CutPiece). p.edges) ps
 
 -- how often the edges of pieces turn round a point, added
 abbrev pub all_turns : List CutPiece → RationalPoint → ℤ

@@ -10,8 +10,8 @@ use Rattle.lpis_rings.specs.declared.polygon.Member.{Member}
 use Rattle.lpis_rings.specs.Area.{area2}
 use Rattle.lpis_rings.specs.Edges.{edges_of, edge_turns, turns, Contains}
 use Rattle.lpis_rings.specs.Map.{edges_of_triangles, triangle_areas, inside_count, AllKeepApart}
-use Rattle.lpis_rings.specs.Map.{IsCut, CutPiece, all_triangles, all_edges, all_turns, all_areas}
-use Rattle.lpis_rings.specs.Map.{IsOneOrNone}
+use Rattle.lpis_rings.specs.Map.{IsCut, CutPiece, IsCutPiece, all_triangles, all_edges, all_turns}
+use Rattle.lpis_rings.specs.Map.{all_areas, IsOneOrNone}
 
 -- a polygon contains a point exactly where its turns round the point are odd
 abbrev pub ContainsByOddTurns : Type 0
@@ -40,8 +40,8 @@ TurnsAreOfTriangles =
 -- are those of all together
 abbrev pub PiecesShareNothing : Type 0
 PiecesShareNothing =
-    (ps : List CutPiece) → All (λ p. IsCut p.edges p.triangles p.flats) ps
-    → AllKeepApart (all_triangles ps) → (s : RationalPoint) → pos 0 <ℤ s.d
+    (ps : List CutPiece) → All IsCutPiece ps → AllKeepApart (all_triangles ps)
+    → (s : RationalPoint) → pos 0 <ℤ s.d
     → All (λ p. IsOneOrNone (edge_turns p.edges s)) ps × IsOneOrNone (all_turns ps s)
 
 -- edges with the net counts of the edges of pieces and of flats have the turns of the pieces

@@ -1,7 +1,9 @@
-use Rattle.std.proofs.Common.{◌≡◌, ◌<◌, ◌+◌, ◌+ℤ◌, arith, sym, length, take}
+use Rattle.std.proofs.Common.{◌≡◌, ◌<◌, ◌+◌, pos, ◌+ℤ◌, List, nat_abs, arith, sym, length, take}
 use Rattle.lpis_rings.specs.Polygon.{points_in}
-use Rattle.lpis_rings.specs.Area.{absolute_sums}
-use Rattle.lpis_rings.proofs.AreaLemmas.{absolute_sums-more, points_in-more, sum-more}
+use Rattle.lpis_points.specs.declared.point.Point.{Point}
+use Rattle.lpis_points.proofs.ChainLemmas.{int_sum_by-more}
+use Rattle.lpis_rings.specs.Area.{absolute_sums, shoelace}
+use Rattle.lpis_rings.proofs.AreaLemmas.{points_in-more, sum-more}
 use mir.Syntax.{w128}
 use mir.Val.{to_z}
 use Rattle.lpis_rings.proofs.area.absolute_sums.Goals as goal
@@ -21,7 +23,7 @@ loop-ring-preserved c =
     let few : points_in (take i c.args.rings.now) + length c.ring-item.result < 18446744073709551616 = omega (arith, points.1, c.requires) in
     let more = sum-more (to_z w128 c.loop-ring.sum-bits) c.absolute_sum-sum.result (points_in (take i c.args.rings.now))
     (length c.ring-item.result) c.loop-ring.invariant.1 c.absolute_sum-sum.ensures.small few in
-    let next = absolute_sums-more c.args.rings.now i c.ring-item.result c.loop-ring-test.true c.ring-item.is in
+    let next = int_sum_by-more (λ (r : List Point). pos (nat_abs (shoelace r))) c.args.rings.now i c.ring-item.result c.loop-ring-test.true c.ring-item.is in
     let sum : to_z w128 c.loop-ring.sum-bits +ℤ c.absolute_sum-sum.result ≡ absolute_sums (take (i + 1) c.args.rings.now) =
     rw (c.loop-ring.invariant.0, c.absolute_sum-sum.ensures.value) (sym next) in
     rw more.1 (sum, rw points.0 more.2)

@@ -4,9 +4,10 @@ use Rattle.std.proofs.lemmas.List.Sums.{sum_by-take-le}
 use Rattle.std.proofs.lemmas.Int.{ints}
 use Rattle.lpis_rings.specs.declared.polygon.Member.{Member}
 use Rattle.lpis_rings.specs.Polygon.{member_points, points_of}
-use Rattle.lpis_rings.specs.Area.{area2}
+use Rattle.lpis_rings.specs.Area.{area2, member_area2}
+use Rattle.lpis_points.proofs.ChainLemmas.{int_sum_by-more}
 use Rattle.lpis_rings.specs.AreaBounds.{most_area, most_term}
-use Rattle.lpis_rings.proofs.AreaLemmas.{area2-more, points_of-more, sum-more}
+use Rattle.lpis_rings.proofs.AreaLemmas.{points_of-more, sum-more}
 use mir.Syntax.{w128}
 use mir.Val.{to_z}
 use Rattle.lpis_rings.proofs.area.area2.Goals as goal
@@ -36,7 +37,7 @@ loop-member-preserved c =
     let fit : points_of (take i ms) + member_points c.member-item.result < 18446744073709551616 = omega (arith, points.1, all) in
     let more = sum-more (to_z w128 c.loop-member.sum-bits) c.member_area2-sum.result (points_of (take i ms))
     (member_points c.member-item.result) c.loop-member.invariant.1 c.member_area2-sum.ensures.small fit in
-    let next = area2-more ms i c.member-item.result c.loop-member-test.true c.member-item.is in
+    let next = int_sum_by-more member_area2 ms i c.member-item.result c.loop-member-test.true c.member-item.is in
     let sum : to_z w128 c.loop-member.sum-bits +ℤ c.member_area2-sum.result ≡ area2 (take (i + 1) ms) = rw (c.loop-member.invariant.0, c.member_area2-sum.ensures.value) (sym next) in
     rw more.1 (sum, rw points.0 more.2)
 
