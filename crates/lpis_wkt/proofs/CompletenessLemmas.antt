@@ -4,7 +4,7 @@ use Rattle.std.specs.Prelude.{codes, nat_eq}
 use Rattle.std.specs.Char.{to_ascii_lowercase}
 use Rattle.std.specs.Str.{str_eq_ignore_ascii_case, str_to_ascii_lowercase}
 use Rattle.std.specs.Cmp.Lexicographic.{pointwise}
-use Rattle.std.proofs.lemmas.List.{append-nil}
+use Rattle.std.proofs.lemmas.List.{append-nil, length-map}
 use Rattle.std.proofs.lemmas.Bool.{and_parts, false_from_ne_true}
 use Rattle.std.proofs.lemmas.Bool.Decides.{nat_tests}
 use Rattle.lpis_points.specs.declared.point.Point.{Point}
@@ -84,12 +84,8 @@ pointwise-length [] (y ∷ b) h = cc
 pointwise-length (x ∷ a) [] h = cc
 pointwise-length (x ∷ a) (y ∷ b) h = ap suc (pointwise-length a b (and_parts _ _ h).1)
 
-map-length : (f : ℕ → ℕ) (a : List ℕ) → length (map f a) ≡ length a
-map-length f [] = refl
-map-length f (x ∷ a) = ap suc (map-length f a)
-
 length-lower : (a b : List ℕ) → str_eq_ignore_ascii_case a b ≡ true → length a ≡ length b
-length-lower a b h = sym (map-length to_ascii_lowercase a) ∙ pointwise-length (str_to_ascii_lowercase a) (str_to_ascii_lowercase b) h ∙ map-length to_ascii_lowercase b
+length-lower a b h = sym (length-map a to_ascii_lowercase) ∙ pointwise-length (str_to_ascii_lowercase a) (str_to_ascii_lowercase b) h ∙ length-map b to_ascii_lowercase
 
 -- no word is both keywords
 apart : (w : List ℕ) → is_polygon w ≡ true → is_multi w ≡ true → ⊥

@@ -124,13 +124,6 @@ one_word (AtEnd ms) End s' h = let e : Finished ms ≡ s' = cc in rw (← e) (om
 one_word (AtEnd ms) (Word w) s' h = cc
 one_word (Finished ms) t s' h = cc
 
-word-le : (t : Token) → word t ≤ 1
-word-le Open = omega arith
-word-le Close = omega arith
-word-le Comma = omega arith
-word-le End = omega arith
-word-le (Word w) = omega arith
-
 -- a token that is too many makes one word more than the most_words has, and no other does
 too-many : (s : State) (t : Token) (s' : State) → step s t ≡ Ok s' → is_too_many s t ≡ true → most_words < has_words s'
 too-many AtKeyword t s' h k = cc
@@ -150,54 +143,27 @@ too-many (AtEnd ms) t s' h k = cc
 too-many (Finished ms) t s' h k = cc
 
 not-too-many : (s : State) (t : Token) (s' : State) → step s t ≡ Ok s' → is_too_many s t ≡ false → has_words s ≤ most_words → has_words s' ≤ most_words
-not-too-many AtKeyword t s' h k le = rw (one_word AtKeyword t s' h) (omega (arith, word-le t))
-not-too-many (AfterKeyword m) t s' h k le = rw (one_word (AfterKeyword m) t s' h) (omega (arith, word-le t))
-not-too-many (AtBody ms) Open s' h k le = rw (one_word (AtBody ms) Open s' h) (omega arith)
-not-too-many (AtBody ms) Close s' h k le = rw (one_word (AtBody ms) Close s' h) (omega arith)
-not-too-many (AtBody ms) Comma s' h k le = rw (one_word (AtBody ms) Comma s' h) (omega arith)
-not-too-many (AtBody ms) End s' h k le = rw (one_word (AtBody ms) End s' h) (omega arith)
+not-too-many s Open s' h k le = rw (one_word s Open s' h) (omega arith)
+not-too-many s Close s' h k le = rw (one_word s Close s' h) (omega arith)
+not-too-many s Comma s' h k le = rw (one_word s Comma s' h) (omega arith)
+not-too-many s End s' h k le = rw (one_word s End s' h) (omega arith)
+not-too-many AtKeyword (Word w) s' h k le = rw (one_word AtKeyword (Word w) s' h) (omega arith)
+not-too-many (AfterKeyword m) (Word w) s' h k le = cc
 not-too-many (AtBody ms) (Word w) s' h k le = cc
-not-too-many (AtRing b) Open s' h k le = rw (one_word (AtRing b) Open s' h) (omega arith)
-not-too-many (AtRing b) Close s' h k le = rw (one_word (AtRing b) Close s' h) (omega arith)
-not-too-many (AtRing b) Comma s' h k le = rw (one_word (AtRing b) Comma s' h) (omega arith)
-not-too-many (AtRing b) End s' h k le = rw (one_word (AtRing b) End s' h) (omega arith)
 not-too-many (AtRing b) (Word w) s' h k le = cc
-not-too-many (AtX b ps) Open s' h k le = cc
-not-too-many (AtX b ps) Close s' h k le = cc
-not-too-many (AtX b ps) Comma s' h k le = cc
-not-too-many (AtX b ps) End s' h k le = cc
 not-too-many (AtX b ps) (Word w) s' h k le = let few : points_before b + length ps < most_points = grind (arith, nat_tests) in rw (one_word (AtX b ps) (Word w) s' h) (omega arith)
-not-too-many (AtY b ps x) t s' h k le = rw (one_word (AtY b ps x) t s' h) (omega (arith, word-le t))
-not-too-many (AfterPoint b ps) Open s' h k le = rw (one_word (AfterPoint b ps) Open s' h) (omega arith)
-not-too-many (AfterPoint b ps) Close s' h k le = rw (one_word (AfterPoint b ps) Close s' h) (omega arith)
-not-too-many (AfterPoint b ps) Comma s' h k le = rw (one_word (AfterPoint b ps) Comma s' h) (omega arith)
-not-too-many (AfterPoint b ps) End s' h k le = rw (one_word (AfterPoint b ps) End s' h) (omega arith)
+not-too-many (AtY b ps x) (Word w) s' h k le = rw (one_word (AtY b ps x) (Word w) s' h) (omega arith)
 not-too-many (AfterPoint b ps) (Word w) s' h k le = cc
-not-too-many (AfterRing b) Open s' h k le = rw (one_word (AfterRing b) Open s' h) (omega arith)
-not-too-many (AfterRing b) Close s' h k le = rw (one_word (AfterRing b) Close s' h) (omega arith)
-not-too-many (AfterRing b) Comma s' h k le = rw (one_word (AfterRing b) Comma s' h) (omega arith)
-not-too-many (AfterRing b) End s' h k le = rw (one_word (AfterRing b) End s' h) (omega arith)
 not-too-many (AfterRing b) (Word w) s' h k le = cc
-not-too-many (AfterBody ms) Open s' h k le = rw (one_word (AfterBody ms) Open s' h) (omega arith)
-not-too-many (AfterBody ms) Close s' h k le = rw (one_word (AfterBody ms) Close s' h) (omega arith)
-not-too-many (AfterBody ms) Comma s' h k le = rw (one_word (AfterBody ms) Comma s' h) (omega arith)
-not-too-many (AfterBody ms) End s' h k le = rw (one_word (AfterBody ms) End s' h) (omega arith)
 not-too-many (AfterBody ms) (Word w) s' h k le = cc
-not-too-many (AtEnd ms) Open s' h k le = rw (one_word (AtEnd ms) Open s' h) (omega arith)
-not-too-many (AtEnd ms) Close s' h k le = rw (one_word (AtEnd ms) Close s' h) (omega arith)
-not-too-many (AtEnd ms) Comma s' h k le = rw (one_word (AtEnd ms) Comma s' h) (omega arith)
-not-too-many (AtEnd ms) End s' h k le = rw (one_word (AtEnd ms) End s' h) (omega arith)
 not-too-many (AtEnd ms) (Word w) s' h k le = cc
-not-too-many (Finished ms) t s' h k le = cc
-
-limited-step-ok : (s : State) (t : Token) (s' : State) → limited_step s t ≡ Ok s' → (is_too_many s t ≡ false) × (step s t ≡ Ok s')
-limited-step-ok s t s' h = cond-err _ _ _ _ h
+not-too-many (Finished ms) (Word w) s' h k le = cc
 
 pub limited-run-ok : (ts : List Token) (s s' : State) → has_words s ≤ most_words → limited_run s ts ≡ Ok s' → (run s ts ≡ Ok s') × (has_words s + words ts ≤ most_words)
 limited-run-ok [] s s' le h = (h, omega arith)
 limited-run-ok (t ∷ ts) s s' le h =
     let a = then-ok _ _ _ h in
-    let b = limited-step-ok s t a.0 a.1 in
+    let b = cond-err _ _ _ _ a.1 in
     let one : has_words a.0 ≡ has_words s + word t = one_word s t a.0 b.1 in
     let le2 : has_words a.0 ≤ most_words = not-too-many s t a.0 b.1 b.0 le in
     let r = limited-run-ok ts a.0 s' le2 a.2 in

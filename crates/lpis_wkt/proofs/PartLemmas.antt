@@ -3,7 +3,8 @@ use Rattle.std.proofs.Common.{◌≡◌, ℕ, suc, ◌+◌, ◌-◌, ◌*◌, �
 use Rattle.std.proofs.Common.{append_assoc, append-nil, length-append, drop-cons, add-one, one-add, nat_lt}
 use Rattle.std.proofs.lemmas.Bool.{and_parts}
 use Rattle.std.proofs.lemmas.Bool.Decides.{nat_tests}
-use Rattle.std.proofs.lemmas.List.{drop_all}
+use Rattle.std.proofs.Math.Seq.{take-append_seam, take-length}
+use Rattle.std.proofs.lemmas.List.{drop_all, take_at}
 use Rattle.std.specs.List.{list_all, position_or_len, before_first, after_first}
 use Rattle.std.specs.Char.{is_ascii_digit}
 use Rattle.std.specs.Str.Parse.{digits_value}
@@ -79,34 +80,19 @@ point_at : (ds more : List ℕ) → list_all is_ascii_digit ds ≡ true → posi
 point_at [] more h = refl
 point_at (b ∷ ds) more h = let both = and_parts (is_ascii_digit b) (list_all is_ascii_digit ds) h in rw (no_point b both.0) (rw one-add (ap suc (point_at ds more both.1)))
 
-take-front : (a b : List ℕ) → take (length a) (a ++ b) ≡ a
-take-front [] b = refl
-take-front (x ∷ a) b = ap (λ (l : List ℕ). x ∷ l) (take-front a b)
-
 drop-front : (a b : List ℕ) (x : ℕ) → drop (suc (length a)) (a ++ x ∷ b) ≡ b
 drop-front [] b x = refl
 drop-front (y ∷ a) b x = drop-front a b x
 
-take-whole : (a : List ℕ) → take (length a) a ≡ a
-take-whole [] = refl
-take-whole (x ∷ a) = ap (λ (l : List ℕ). x ∷ l) (take-whole a)
-
-drop-whole : (a : List ℕ) → drop (suc (length a)) a ≡ []
-drop-whole [] = refl
-drop-whole (x ∷ a) = drop-whole a
-
 pub whole_of : (ds more : List ℕ) → list_all is_ascii_digit ds ≡ true → (before_first is_point (ds ++ 46 ∷ more) ≡ ds) × (after_first is_point (ds ++ 46 ∷ more) ≡ more)
-whole_of ds more h = (rw (point_at ds more h) (take-front ds (46 ∷ more)), rw (point_at ds more h) (rw add-one (drop-front ds more 46)))
+whole_of ds more h = (rw (point_at ds more h) (take-append_seam ds (46 ∷ more)), rw (point_at ds more h) (rw add-one (drop-front ds more 46)))
 
 pub whole_only : (ds : List ℕ) → list_all is_ascii_digit ds ≡ true → (before_first is_point ds ≡ ds) × (after_first is_point ds ≡ [])
-whole_only ds h = (rw (point_past ds h) (take-whole ds), rw (point_past ds h) (rw add-one (drop-whole ds)))
+whole_only ds h = (rw (point_past ds h) (take-length ds), rw (point_past ds h) (drop_all (length ds + 1) ds (omega arith)))
 
 plain_sign : (ds more : List ℕ) → list_all is_ascii_digit ds ≡ true → 0 < length ds → (unsigned (ds ++ more) ≡ ds ++ more) × (is_negative (ds ++ more) ≡ false)
 plain_sign [] more h some = absurd (omega arith)
 plain_sign (b ∷ ds) more h some = let both = and_parts (is_ascii_digit b) (list_all is_ascii_digit ds) h in let d = no_sign b both.0 in (rw (d.0, d.1) refl, d.1)
-
-no_more : (n : ℕ) (more : List ℕ) → length more ≤ n → drop n more ≡ []
-no_more n more le = drop_all n more le
 
 -- digits, a point and no more decimals than a coordinate has
 pub plain_decimals : (ds more : List ℕ) (n : ℕ) → list_all is_ascii_digit ds ≡ true → 0 < length ds → list_all is_ascii_digit more ≡ true → length more ≤ coordinate_decimals
@@ -114,7 +100,7 @@ pub plain_decimals : (ds more : List ℕ) (n : ℕ) → list_all is_ascii_digit 
 plain_decimals ds more n h some k few size le =
     let parts = whole_of ds more h in
     let sign = plain_sign ds (46 ∷ more) h some in
-    let none : drop coordinate_decimals more ≡ [] = no_more coordinate_decimals more few in
+    let none : drop coordinate_decimals more ≡ [] = drop_all coordinate_decimals more few in
     record {
       whole = rw parts.0 h;
       decimals = rw parts.1 k;
@@ -145,13 +131,10 @@ plain_whole ds n h some size le =
       word = digits-word ds h;
     }
 
-take-part : (a b : List ℕ) (n : ℕ) → n ≡ length a → take n (a ++ b) ≡ a
-take-part a b n e = rw e (take-front a b)
-
 pub part_is : (text : List ℕ) (at end : ℕ) (part : List ℕ) → IsPart text at end part → slice_range text at end ≡ part
 part_is text at end part p =
     let n : end - at ≡ length part = let e = p.past in omega arith in
-    ap (take (end - at)) p.from ∙ take-part part (drop end text) (end - at) n
+    ap (take (end - at)) p.from ∙ take_at part (drop end text) (end - at) (sym n)
 
 -- the number of a word
 

@@ -14,7 +14,8 @@ use Rattle.lpis_wkt.specs.Grammar.{is_polygon, is_multi}
 use Rattle.lpis_wkt.specs.Viable.{Stands, words, most_words}
 use Rattle.lpis_wkt.specs.Table.{keyword_code, open_code, first_open_code, number_code, coordinate_code, point_code, TableCode, at_keyword, at_first_open, at_open, at_coordinate, at_after_point}
 use Rattle.lpis_wkt.specs.Table.{at_after_close, at_past_end}
-use Rattle.lpis_wkt.specs.private.Machine.{State, AtKeyword, AfterKeyword, AtBody, AtRing, AtX, AtY, AfterPoint, AfterRing, AfterBody, AtEnd, Finished, is_closed, with_coordinate, with_ring, new_body}
+use Rattle.lpis_points.specs.declared.point.Point.{Point}
+use Rattle.lpis_wkt.specs.private.Machine.{Context, State, AtKeyword, AfterKeyword, AtBody, AtRing, AtX, AtY, AfterPoint, AfterRing, AfterBody, AtEnd, Finished, is_closed, with_coordinate, with_ring, new_body}
 use Rattle.lpis_wkt.specs.private.Machine.{open_text, points_before, step, run, limited_step, limited_run}
 use Rattle.lpis_wkt.proofs.PointLemmas.{err-coordinate}
 use Rattle.lpis_wkt.proofs.StepLemmas.{run-append}
@@ -26,8 +27,18 @@ use Rattle.lpis_wkt.proofs.TailLemmas.{Tail, tail}
 pub stands : (before : List Token) (s s' : State) (t : Token) → run AtKeyword before ≡ Ok s → step s t ≡ Ok s' → Stands before t
 stands before s s' t h k = begins (before ++ t ∷ []) s' (run-append AtKeyword before (t ∷ []) ∙ rw (h, k) refl)
 
-err-same : {A : Type 0} (a b : WktCode) → ◌≡◌ {A = Result A WktCode} (Err a) (Err b) → a ≡ b
-err-same a b h = cc
+-- the code of an error is that of the table
+told : {before : List Token} {t : Token} {a code : WktCode} → TableCode before t a → ◌≡◌ {A = Result State WktCode} (Err a) (Err code) → TableCode before t code
+told {before} {t} h k = subst (TableCode before t) (cc k) h
+
+at_start : {before : List Token} {t : Token} → before ≡ [] → TableCode before t (keyword_code t)
+at_start {before} {t} r = subst (λ (l : List Token). TableCode l t (keyword_code t)) (sym r) at_keyword
+
+x-stands : (before : List Token) (b : Context) (ps : List Point) → run AtKeyword before ≡ Ok (AtX b ps) → Stands before (Word (codes "0"))
+x-stands before b ps h = stands before _ (AtY b ps origin) (Word (codes "0")) h (rw zero_spelled refl)
+
+y-stands : (before : List Token) (b : Context) (ps : List Point) (x : Coordinate) → run AtKeyword before ≡ Ok (AtY b ps x) → Stands before (Word (codes "0"))
+y-stands before b ps x h = stands before _ (AfterPoint b (ps ++ point_of x origin ∷ [])) (Word (codes "0")) h (rw zero_spelled refl)
 
 pub keyword-code : (p m : Bool) (f code : WktCode) → cond p (Ok (AfterKeyword false)) (cond m (Ok (AfterKeyword true)) (Err f)) ≡ Err code → f ≡ code
 keyword-code true m f code h = cc
@@ -62,95 +73,65 @@ even-test n words h = grind (arith, nat_tests)
 
 coded : (before : List Token) (t : Token) (s : State) (code : WktCode) → Tail s before → run AtKeyword before ≡ Ok s → has_words s ≡ words before → has_words s ≤ most_words
     → limited_step s t ≡ Err code → TableCode before t code
-coded before Open AtKeyword code r h n le k = subst (TableCode before Open) (err-same {A = State} Keyword code k) (subst (λ (l : List Token). TableCode l Open (keyword_code Open)) (sym r) at_keyword)
-coded before Close AtKeyword code r h n le k = subst (TableCode before Close) (err-same {A = State} Keyword code k)
-    (subst (λ (l : List Token). TableCode l Close (keyword_code Close)) (sym r) at_keyword)
-coded before Comma AtKeyword code r h n le k = subst (TableCode before Comma) (err-same {A = State} Keyword code k)
-    (subst (λ (l : List Token). TableCode l Comma (keyword_code Comma)) (sym r) at_keyword)
-coded before End AtKeyword code r h n le k = subst (TableCode before End) (err-same {A = State} Keyword code k) (subst (λ (l : List Token). TableCode l End (keyword_code End)) (sym r) at_keyword)
-coded before (Word w) AtKeyword code r h n le k = subst (TableCode before (Word w))
-    (keyword-code (is_polygon w) (is_multi w) (keyword_code (Word w)) code k)
-    (subst (λ (l : List Token). TableCode l (Word w) (keyword_code (Word w))) (sym r) at_keyword)
+coded before Open AtKeyword code r h n le k = told (at_start r) k
+coded before Close AtKeyword code r h n le k = told (at_start r) k
+coded before Comma AtKeyword code r h n le k = told (at_start r) k
+coded before End AtKeyword code r h n le k = told (at_start r) k
+coded before (Word w) AtKeyword code r h n le k = subst (TableCode before (Word w)) (keyword-code (is_polygon w) (is_multi w) (keyword_code (Word w)) code k) (at_start r)
 coded before Open (AfterKeyword m) code r h n le k = cc
-coded before Close (AfterKeyword m) code r h n le k = subst (TableCode before Close)
-    (err-same {A = State} (first_open_code Close) code k)
-    (at_first_open (stands before (AfterKeyword m) (open_text m) Open h refl) r)
-coded before Comma (AfterKeyword m) code r h n le k = subst (TableCode before Comma)
-    (err-same {A = State} (first_open_code Comma) code k)
-    (at_first_open (stands before (AfterKeyword m) (open_text m) Open h refl) r)
-coded before End (AfterKeyword m) code r h n le k =
-    subst (TableCode before End) (err-same {A = State} (first_open_code End) code k)
-    (at_first_open (stands before (AfterKeyword m) (open_text m) Open h refl) r)
-coded before (Word w) (AfterKeyword m) code r h n le k = subst (TableCode before (Word w))
-    (err-same {A = State} (first_open_code (Word w)) code k)
-    (at_first_open (stands before (AfterKeyword m) (open_text m) Open h refl) r)
+coded before Close (AfterKeyword m) code r h n le k = told (at_first_open (stands before _ _ Open h refl) r) k
+coded before Comma (AfterKeyword m) code r h n le k = told (at_first_open (stands before _ _ Open h refl) r) k
+coded before End (AfterKeyword m) code r h n le k = told (at_first_open (stands before _ _ Open h refl) r) k
+coded before (Word w) (AfterKeyword m) code r h n le k = told (at_first_open (stands before _ _ Open h refl) r) k
 coded before Open (AtBody ms) code r h n le k = cc
-coded before Close (AtBody ms) code r h n le k = subst (TableCode before Close) (err-same {A = State} (open_code Close) code k) (at_open (stands before (AtBody ms) (new_body true ms) Open h refl) r)
-coded before Comma (AtBody ms) code r h n le k = subst (TableCode before Comma) (err-same {A = State} (open_code Comma) code k) (at_open (stands before (AtBody ms) (new_body true ms) Open h refl) r)
-coded before End (AtBody ms) code r h n le k = subst (TableCode before End) (err-same {A = State} (open_code End) code k) (at_open (stands before (AtBody ms) (new_body true ms) Open h refl) r)
-coded before (Word w) (AtBody ms) code r h n le k = subst (TableCode before (Word w))
-    (err-same {A = State} (open_code (Word w)) code k)
-    (at_open (stands before (AtBody ms) (new_body true ms) Open h refl) r)
+coded before Close (AtBody ms) code r h n le k = told (at_open (stands before _ _ Open h refl) r) k
+coded before Comma (AtBody ms) code r h n le k = told (at_open (stands before _ _ Open h refl) r) k
+coded before End (AtBody ms) code r h n le k = told (at_open (stands before _ _ Open h refl) r) k
+coded before (Word w) (AtBody ms) code r h n le k = told (at_open (stands before _ _ Open h refl) r) k
 coded before Open (AtRing b) code r h n le k = cc
-coded before Close (AtRing b) code r h n le k = subst (TableCode before Close) (err-same {A = State} (open_code Close) code k) (at_open (stands before (AtRing b) (AtX b []) Open h refl) r)
-coded before Comma (AtRing b) code r h n le k = subst (TableCode before Comma) (err-same {A = State} (open_code Comma) code k) (at_open (stands before (AtRing b) (AtX b []) Open h refl) r)
-coded before End (AtRing b) code r h n le k = subst (TableCode before End) (err-same {A = State} (open_code End) code k) (at_open (stands before (AtRing b) (AtX b []) Open h refl) r)
-coded before (Word w) (AtRing b) code r h n le k = subst (TableCode before (Word w)) (err-same {A = State} (open_code (Word w)) code k) (at_open (stands before (AtRing b) (AtX b []) Open h refl) r)
-coded before Open (AtX b ps) code r h n le k = subst (TableCode before Open) (err-same {A = State} Syntax code k)
-    (at_coordinate (stands before (AtX b ps) (AtY b ps origin) (Word (codes "0")) h (rw zero_spelled refl)))
-coded before Close (AtX b ps) code r h n le k = subst (TableCode before Close) (err-same {A = State} Syntax code k)
-    (at_coordinate (stands before (AtX b ps) (AtY b ps origin) (Word (codes "0")) h (rw zero_spelled refl)))
-coded before Comma (AtX b ps) code r h n le k = subst (TableCode before Comma) (err-same {A = State} Syntax code k)
-    (at_coordinate (stands before (AtX b ps) (AtY b ps origin) (Word (codes "0")) h (rw zero_spelled refl)))
-coded before End (AtX b ps) code r h n le k = subst (TableCode before End) (err-same {A = State} Syntax code k)
-    (at_coordinate (stands before (AtX b ps) (AtY b ps origin) (Word (codes "0")) h (rw zero_spelled refl)))
+coded before Close (AtRing b) code r h n le k = told (at_open (stands before _ _ Open h refl) r) k
+coded before Comma (AtRing b) code r h n le k = told (at_open (stands before _ _ Open h refl) r) k
+coded before End (AtRing b) code r h n le k = told (at_open (stands before _ _ Open h refl) r) k
+coded before (Word w) (AtRing b) code r h n le k = told (at_open (stands before _ _ Open h refl) r) k
+coded before Open (AtX b ps) code r h n le k = told (at_coordinate (x-stands before b ps h)) k
+coded before Close (AtX b ps) code r h n le k = told (at_coordinate (x-stands before b ps h)) k
+coded before Comma (AtX b ps) code r h n le k = told (at_coordinate (x-stands before b ps h)) k
+coded before End (AtX b ps) code r h n le k = told (at_coordinate (x-stands before b ps h)) k
 coded before (Word w) (AtX b ps) code r h n le k =
     let same : nat_le most_points (points_before b + length ps) ≡ (words before == most_words) = same-test (points_before b + length ps) (words before) (sym n) (omega arith) in
     let c : cond (nat_le most_points (points_before b + length ps)) TooManyPoints (number_code (number w)) ≡ code = limited-code _ w (AtY b ps) code k in
     let c2 : coordinate_code (words before) (Word w) ≡ code = ap (λ (v : Bool). cond v TooManyPoints (number_code (number w))) (sym same) ∙ c in
-    subst (TableCode before (Word w)) c2 (at_coordinate (stands before (AtX b ps) (AtY b ps origin) (Word (codes "0")) h (rw zero_spelled refl)))
-coded before Open (AtY b ps x) code r h n le k = subst (TableCode before Open) (err-same {A = State} Syntax code k)
-    (at_coordinate (stands before (AtY b ps x) (AfterPoint b (ps ++ point_of x origin ∷ [])) (Word (codes "0")) h
-    (rw zero_spelled refl)))
-coded before Close (AtY b ps x) code r h n le k = subst (TableCode before Close) (err-same {A = State} Syntax code k)
-    (at_coordinate (stands before (AtY b ps x) (AfterPoint b (ps ++ point_of x origin ∷ [])) (Word (codes "0")) h
-    (rw zero_spelled refl)))
-coded before Comma (AtY b ps x) code r h n le k = subst (TableCode before Comma) (err-same {A = State} Syntax code k)
-    (at_coordinate (stands before (AtY b ps x) (AfterPoint b (ps ++ point_of x origin ∷ [])) (Word (codes "0")) h
-    (rw zero_spelled refl)))
-coded before End (AtY b ps x) code r h n le k = subst (TableCode before End) (err-same {A = State} Syntax code k)
-    (at_coordinate (stands before (AtY b ps x) (AfterPoint b (ps ++ point_of x origin ∷ [])) (Word (codes "0")) h
-    (rw zero_spelled refl)))
+    subst (TableCode before (Word w)) c2 (at_coordinate (x-stands before b ps h))
+coded before Open (AtY b ps x) code r h n le k = told (at_coordinate (y-stands before b ps x h)) k
+coded before Close (AtY b ps x) code r h n le k = told (at_coordinate (y-stands before b ps x h)) k
+coded before Comma (AtY b ps x) code r h n le k = told (at_coordinate (y-stands before b ps x h)) k
+coded before End (AtY b ps x) code r h n le k = told (at_coordinate (y-stands before b ps x h)) k
 coded before (Word w) (AtY b ps x) code r h n le k =
     let same : (words before == most_words) ≡ false = even-test (points_before b + length ps) (words before) (sym n) in
     let c : number_code (number w) ≡ code = number-code w (λ y. AfterPoint b (ps ++ point_of x y ∷ [])) code k in
     let c2 : coordinate_code (words before) (Word w) ≡ code = ap (λ (v : Bool). cond v TooManyPoints (number_code (number w))) same ∙ c in
-    subst (TableCode before (Word w)) c2 (at_coordinate (stands before (AtY b ps x) (AfterPoint b (ps ++ point_of x origin ∷ [])) (Word (codes "0")) h (rw zero_spelled refl)))
-coded before Open (AfterPoint b ps) code r h n le k = subst (TableCode before Open) (err-same {A = State} (point_code ps Open) code k) (at_after_point ps r)
+    subst (TableCode before (Word w)) c2 (at_coordinate (y-stands before b ps x h))
+coded before Open (AfterPoint b ps) code r h n le k = told (at_after_point ps r) k
 coded before Close (AfterPoint b ps) code r h n le k = subst (TableCode before Close) (close-code (nat_lt (length ps) 4) (is_closed ps) (AfterRing (with_ring b ps)) code k) (at_after_point ps r)
 coded before Comma (AfterPoint b ps) code r h n le k = cc
-coded before End (AfterPoint b ps) code r h n le k = subst (TableCode before End) (err-same {A = State} (point_code ps End) code k) (at_after_point ps r)
-coded before (Word w) (AfterPoint b ps) code r h n le k = subst (TableCode before (Word w)) (err-same {A = State} (point_code ps (Word w)) code k) (at_after_point ps r)
-coded before Open (AfterRing b) code r h n le k = subst (TableCode before Open) (err-same {A = State} Syntax code k) (at_after_close r)
+coded before End (AfterPoint b ps) code r h n le k = told (at_after_point ps r) k
+coded before (Word w) (AfterPoint b ps) code r h n le k = told (at_after_point ps r) k
+coded before Open (AfterRing b) code r h n le k = told (at_after_close r) k
 coded before Close (AfterRing b) code r h n le k = cc
 coded before Comma (AfterRing b) code r h n le k = cc
-coded before End (AfterRing b) code r h n le k = subst (TableCode before End) (err-same {A = State} Syntax code k) (at_after_close r)
-coded before (Word w) (AfterRing b) code r h n le k = subst (TableCode before (Word w)) (err-same {A = State} Syntax code k) (at_after_close r)
-coded before Open (AfterBody ms) code r h n le k = subst (TableCode before Open) (err-same {A = State} Syntax code k) (at_after_close r)
+coded before End (AfterRing b) code r h n le k = told (at_after_close r) k
+coded before (Word w) (AfterRing b) code r h n le k = told (at_after_close r) k
+coded before Open (AfterBody ms) code r h n le k = told (at_after_close r) k
 coded before Close (AfterBody ms) code r h n le k = cc
 coded before Comma (AfterBody ms) code r h n le k = cc
-coded before End (AfterBody ms) code r h n le k = subst (TableCode before End) (err-same {A = State} Syntax code k) (at_after_close r)
-coded before (Word w) (AfterBody ms) code r h n le k = subst (TableCode before (Word w)) (err-same {A = State} Syntax code k) (at_after_close r)
-coded before Open (AtEnd ms) code r h n le k = subst (TableCode before Open) (err-same {A = State} Syntax code k) (at_after_close r)
-coded before Close (AtEnd ms) code r h n le k = subst (TableCode before Close) (err-same {A = State} Syntax code k) (at_after_close r)
-coded before Comma (AtEnd ms) code r h n le k = subst (TableCode before Comma) (err-same {A = State} Syntax code k) (at_after_close r)
+coded before End (AfterBody ms) code r h n le k = told (at_after_close r) k
+coded before (Word w) (AfterBody ms) code r h n le k = told (at_after_close r) k
+coded before Open (AtEnd ms) code r h n le k = told (at_after_close r) k
+coded before Close (AtEnd ms) code r h n le k = told (at_after_close r) k
+coded before Comma (AtEnd ms) code r h n le k = told (at_after_close r) k
 coded before End (AtEnd ms) code r h n le k = cc
-coded before (Word w) (AtEnd ms) code r h n le k = subst (TableCode before (Word w)) (err-same {A = State} Syntax code k) (at_after_close r)
-coded before Open (Finished ms) code r h n le k = subst (TableCode before Open) (err-same {A = State} Syntax code k) (at_past_end r)
-coded before Close (Finished ms) code r h n le k = subst (TableCode before Close) (err-same {A = State} Syntax code k) (at_past_end r)
-coded before Comma (Finished ms) code r h n le k = subst (TableCode before Comma) (err-same {A = State} Syntax code k) (at_past_end r)
-coded before End (Finished ms) code r h n le k = subst (TableCode before End) (err-same {A = State} Syntax code k) (at_past_end r)
-coded before (Word w) (Finished ms) code r h n le k = subst (TableCode before (Word w)) (err-same {A = State} Syntax code k) (at_past_end r)
+coded before (Word w) (AtEnd ms) code r h n le k = told (at_after_close r) k
+coded before t (Finished ms) code r h n le k = told (at_past_end r) k
 
 pub table_code : (before : List Token) (t : Token) (s : State) (code : WktCode) → limited_run AtKeyword before ≡ Ok s → limited_step s t ≡ Err code → TableCode before t code
 table_code before t s code h k =
