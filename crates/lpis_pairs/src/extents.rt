@@ -2,7 +2,8 @@
 
 ghost use Rattle.std.specs.Prelude.{◌≡◌, ◌<◌};
 ghost use Rattle.lpis_points.specs.Range.{IsInRange};
-ghost use Rattle.lpis_pairs.specs.private.Strips.{offset as offset_spec, extent_of as extent_of_spec};
+ghost use Rattle.lpis_pairs.specs.private.Strips.{extent_of as extent_of_spec};
+ghost use Rattle.lpis_pairs.specs.private.Strips.{offset as offset_spec};
 
 use lpis_points::{LIMIT, Triangle, box_of};
 
