@@ -1,11 +1,11 @@
 //! The history that a database of either version says, read.
 
-ghost use Rattle.std.specs.Prelude.{◌≡◌, false, IsTrue, IfOk, IfErr};
+ghost use Rattle.std.specs.Prelude.{◌≡◌, false, IfOk, IfErr};
 ghost use Rattle.sqlite.specs.Held.{state};
-ghost use Rattle.sqlite.specs.State.{HasCleanDisk, Survives};
+ghost use Rattle.sqlite.specs.State.{HasCleanDisk};
 ghost use Rattle.lpis_tables.specs.Shapes.{has_spans, has_live};
 ghost use Rattle.lpis_tables.specs.Holding.{IsStored};
-ghost use Rattle.lpis_tables.specs.Quiet.{IsWith, LeavesNone};
+ghost use Rattle.lpis_tables.specs.Quiet.{IsWith, Reads};
 ghost use Rattle.lpis_register.specs.Opening.{IsOpeningFault, SaysAt};
 ghost use Rattle.lpis_register.specs.declared.fault.PublishFault.TheVariants.{Unlawful};
 
@@ -45,21 +45,11 @@ pub(crate) fn find_history<S: Alter>(
 ) -> Result<(History, bool), PublishFault>
     requires autocommit { conn.old.in_transaction ≡ false }
     ensures autocommit { conn.new.in_transaction ≡ false }
-    ensures says { HasCleanDisk (state S.Store conn.new) → (shape : _) → spans ≡ has_spans shape
-        → lives ≡ has_live shape → (c : _)
-        → IsStored shape (state S.Store conn.old) c
-        → IfOk result (λ found. SaysAt found.1 c found.0
-        × IsStored shape (state S.Store conn.new) c) }
-    ensures same { HasCleanDisk (state S.Store conn.new) → IsTrue (state S.Store conn.new).is_open
-        → (shape : _)
-        → spans ≡ has_spans shape → lives ≡ has_live shape → (c : _)
-        → IsStored shape (state S.Store conn.old) c → IsStored shape (state S.Store conn.new) c }
+    ensures reads { Reads (IsWith spans lives) (λ c found. SaysAt found.1 c found.0)
+        (state S.Store conn.old) (state S.Store conn.new) result }
     ensures unlawful { HasCleanDisk (state S.Store conn.new) → (shape : _) → spans ≡ has_spans shape
         → lives ≡ has_live shape → (c : _) → IsStored shape (state S.Store conn.old) c
         → IfErr result (λ e. e ≡ Unlawful → (first : _) (h : _) → SaysAt first c h → ⊥) }
-    ensures clean { HasCleanDisk (state S.Store conn.new) → HasCleanDisk (state S.Store conn.old) }
-    ensures survives { Survives (state S.Store conn.old) (state S.Store conn.new)
-        (LeavesNone (IsWith spans lives) (state S.Store conn.old)) }
     ensures kinds { IfErr result IsOpeningFault }
 {
     order_of_rows_is_free();

@@ -11,15 +11,15 @@ use Rattle.lpis_records.specs.Tells.{IsSameContent}
 use Rattle.lpis_tables.specs.Shapes.{Shape, New, First, Moved, schema_of, has_spans, span_tree}
 use Rattle.lpis_tables.specs.private.Shown.{year_shown, span_shown, line_shown}
 use Rattle.lpis_tables.specs.Holding.{IsStored, Keeps, Means, format_row, year_row, span_row, line_row}
-use Rattle.lpis_tables.proofs.ShowingLemmas.{format_kept, formats_back, years_back, spans_back, lines_back}
+use Rattle.lpis_tables.proofs.ShowingLemmas.{format_kept, back}
 
 -- what a table keeps is known up to its order
-same_rows : {X : Type 0} (row : X → Row) (shown : Row → X) → ((xs : List X) → map shown (map row xs) ≡ xs) → (xs ys : List X) (rows : List Row)
+same_rows : {X : Type 0} (row : X → Row) (shown : Row → X) → ((x : X) → shown (row x) ≡ x) → (xs ys : List X) (rows : List Row)
     → IsPermutation (map row xs) rows → IsPermutation (map row ys) rows → IsPermutation xs ys
-same_rows row shown back xs ys rows p q =
+same_rows row shown same xs ys rows p q =
     let both = IsPermutation-trans (map row xs) rows (map row ys) p (IsPermutation-sym _ _ q) in
     let read = IsPermutation-map shown (map row xs) (map row ys) both in
-    subst (λ zs. IsPermutation zs ys) (back xs) (subst (λ zs. IsPermutation (map shown (map row xs)) zs) (back ys) read)
+    subst (λ zs. IsPermutation zs ys) (back row shown same xs) (subst (λ zs. IsPermutation (map shown (map row xs)) zs) (back row shown same ys) read)
 
 one_shape : (s t : Shape) → has_spans s ≡ true → has_spans t ≡ true → schema_of s ≡ schema_of t → s ≡ t
 one_shape New New a b e = refl
@@ -35,10 +35,10 @@ same_content s trees c d spans m n =
     let m_spans = subst (λ b. Keeps b span_row c.spans (trees (span_tree s))) spans m.spans_are in
     let n_spans = subst (λ b. Keeps b span_row d.spans (trees (span_tree s))) spans n.spans_are in
     record {
-      formats = same_rows format_row format_kept formats_back c.formats d.formats _ m.formats_are n.formats_are;
-      years = same_rows year_row year_shown years_back c.years d.years _ m.years_are n.years_are;
-      spans = same_rows span_row span_shown spans_back c.spans d.spans _ m_spans.0 n_spans.0;
-      lines = same_rows line_row line_shown lines_back c.lines d.lines _ m.lines_are n.lines_are;
+      formats = same_rows format_row format_kept (λ x. refl) c.formats d.formats _ m.formats_are n.formats_are;
+      years = same_rows year_row year_shown (λ x. refl) c.years d.years _ m.years_are n.years_are;
+      spans = same_rows span_row span_shown (λ x. refl) c.spans d.spans _ m_spans.0 n_spans.0;
+      lines = same_rows line_row line_shown (λ x. refl) c.lines d.lines _ m.lines_are n.lines_are;
       live = IsPermutation-refl [];
     }
 

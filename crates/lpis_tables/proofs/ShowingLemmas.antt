@@ -1,7 +1,8 @@
 -- What the queries show.
-use Rattle.std.proofs.Common.{◌≡◌, ◌⊎◌, inl, inr, ℕ, ℤ, List, [], ◌∷◌, map, drop, Ok, Err, Result, IfOk, OnOk, refl, sym, ap, subst, ◌∙◌, IsPermutation, IsTrue, true}
+use Rattle.std.proofs.Common.{◌≡◌, ◌⊎◌, inl, inr, ℕ, ℤ, List, [], ◌∷◌, map, drop, Ok, Err, Result, IfOk, OnOk, refl, sym, ap, ap₂, subst, ◌∙◌, IsPermutation, IsTrue, true}
 use Rattle.std.specs.Prelude.{IfErr, Vec, IsSorted}
 use Rattle.std.specs.declared.alloc.Global.{Global}
+use Rattle.std.proofs.lemmas.List.{map-id}
 use Rattle.std.proofs.lemmas.List.Concat.{flat_map_single}
 use Rattle.std.proofs.lemmas.List.Sorted.{IsPermutation-map, IsPermutation-trans}
 use Rattle.sqlite.specs.declared.types.Value.TheVariants.{Null}
@@ -14,14 +15,14 @@ use Rattle.sqlite.specs.Clock.{timed}
 use Rattle.sqlite.specs.Effect.{Database}
 use Rattle.sqlite.specs.Listing.{understood}
 use Rattle.sqlite.specs.declared.error.Error.{Error}
-use Rattle.sqlite.specs.State.{State, Shown, IsUnchanged, IsRolledBack, IsNotRun, FailsToQuery, FailsToShow, ShowsRows, Survives, CommitsShowing}
+use Rattle.sqlite.specs.State.{State, Shown, IsUnchanged, IsRolledBack, IsNotRun, FailsToQuery, FailsToShow, ShowsRows, HasCleanDisk, Survives, CommitsShowing}
 use Rattle.sqlite.proofs.Callers.{reads_as, IsPlain, never_commits}
 use Rattle.sqlite.proofs.StateLemmas.{survives_weaker}
 use Rattle.lpis_records.specs.Content.{Content, Format, StoredSpan, Line, Live}
 use Rattle.lpis_tables.specs.Shapes.{Shape, schema_of, has_spans, has_live, span_tree}
 use Rattle.lpis_tables.specs.private.Texts.{read_format, read_release, read_span, read_line, read_live}
 use Rattle.lpis_tables.specs.Holding.{Holds, IsStored, format_row, year_row, span_row, line_row, live_row}
-use Rattle.lpis_tables.specs.Quiet.{LeavesNone}
+use Rattle.lpis_tables.specs.Quiet.{LeavesNone, Reads}
 use Rattle.lpis_tables.specs.private.Shown.{year_shown, format_shown, span_shown, line_shown, live_shown}
 use Rattle.lpis_tables.proofs.MeaningLemmas.{Asks, from_all, read_format_means, read_release_means, read_span_means, read_line_means, read_live_means, release_query, span_query, line_query}
 use Rattle.lpis_tables.proofs.MeaningLemmas.{live_query}
@@ -54,101 +55,70 @@ sorts s sql tree project order names asks old new rows has h own =
       shown = a.shown;
     }
 
--- what a reader of the rows has of the table
-pub seen_as : {X : Type 0} (q : Query) (table rows : List Row) (f : Row → X) → Sorts q table rows → IsPermutation (map f (map (λ (o : Output). o.1) (map (output q) (map env table)))) (map f rows)
-seen_as q table rows f h =
+pub back : {X : Type 0} (row : X → Row) (g : Row → X) → ((x : X) → g (row x) ≡ x) → (xs : List X) → map g (map row xs) ≡ xs
+back row g same [] = refl
+back row g same (x ∷ xs) = ap₂ ◌∷◌ (same x) (back row g same xs)
+
+-- what a reader of the rows has of the table: all that the table keeps
+shows_kept : {X : Type 0} (q : Query) (f g : Row → X) (keep : Row → Row) (row : X → Row) → ((r : Row) → f (output q (env r)).1 ≡ g (keep r)) → ((x : X) → g (row x) ≡ x)
+    → (xs : List X) (table rows : List Row) → Sorts q table rows → IsPermutation (map row xs) (map keep table) → IsPermutation xs (map f rows)
+shows_kept {X} q f g keep row seen same xs table rows h kept =
     let shows : Output → Row = λ o. o.1 in
-    subst (λ l. IsPermutation (map f (map shows (map (output q) (map env table)))) (map f l)) (sym h.shown) (IsPermutation-map f _ _ (IsPermutation-map shows _ _ h.same))
+    let read : IsPermutation (map f (map shows (map (output q) (map env table)))) (map f rows) = subst (λ l. IsPermutation (map f (map shows (map (output q) (map env table)))) (map f l)) (sym h.shown)
+    (IsPermutation-map f _ _ (IsPermutation-map shows _ _ h.same)) in
+    IsPermutation-trans _ _ _ (subst (λ l. IsPermutation l (map g (map keep table))) (back row g same xs) (IsPermutation-map g _ _ kept))
+    (subst (λ l. IsPermutation l (map f rows)) (each table) read)
+  where
+    each : (rows : List Row) → map f (map (λ (o : Output). o.1) (map (output q) (map env rows))) ≡ map g (map keep rows)
+    each [] = refl
+    each (r ∷ rows) = ap₂ ◌∷◌ (seen r) (each rows)
 
-each_year : (table : List Row) → map year_shown (map (λ (o : Output). o.1) (map (output release_query) (map env table))) ≡ map year_shown table
-each_year [] = refl
-each_year (r ∷ table) = ap (λ l. year_shown r ∷ l) (each_year table)
+span_seen : (tree : ℕ) (r : Row) → span_shown (output (span_query tree) (env r)).1 ≡ span_shown (drop 1 r)
+span_seen tree [] = refl
+span_seen tree (v ∷ r) = refl
 
-pub years_back : (ys : List ℤ) → map year_shown (map year_row ys) ≡ ys
-years_back [] = refl
-years_back (y ∷ ys) = ap (λ l. y ∷ l) (years_back ys)
+line_seen : (r : Row) → line_shown (output line_query (env r)).1 ≡ line_shown (drop 1 r)
+line_seen [] = refl
+line_seen (v ∷ r) = refl
 
-each_span : (tree : ℕ) (table : List Row) → map span_shown (map (λ (o : Output). o.1) (map (output (span_query tree)) (map env table))) ≡ map span_shown (map (drop 1) table)
-each_span tree [] = refl
-each_span tree ([] ∷ table) = ap (λ l. span_shown [] ∷ l) (each_span tree table)
-each_span tree ((v ∷ r) ∷ table) = ap (λ l. span_shown r ∷ l) (each_span tree table)
-
-pub spans_back : (ss : List StoredSpan) → map span_shown (map span_row ss) ≡ ss
-spans_back [] = refl
-spans_back (s ∷ ss) = ap (λ l. s ∷ l) (spans_back ss)
-
-each_line : (table : List Row) → map line_shown (map (λ (o : Output). o.1) (map (output line_query) (map env table))) ≡ map line_shown (map (drop 1) table)
-each_line [] = refl
-each_line ([] ∷ table) = ap (λ l. line_shown [] ∷ l) (each_line table)
-each_line ((v ∷ r) ∷ table) = ap (λ l. line_shown r ∷ l) (each_line table)
-
-pub lines_back : (ls : List Line) → map line_shown (map line_row ls) ≡ ls
-lines_back [] = refl
-lines_back (l ∷ ls) = ap (λ more. l ∷ more) (lines_back ls)
-
-each_live : (table : List Row) → map live_shown (map (λ (o : Output). o.1) (map (output live_query) (map env table))) ≡ map live_shown (map (drop 1) table)
-each_live [] = refl
-each_live ([] ∷ table) = ap (λ l. live_shown [] ∷ l) (each_live table)
-each_live ((v ∷ r) ∷ table) = ap (λ l. live_shown r ∷ l) (each_live table)
-
-live_back : (ls : List Live) → map live_shown (map live_row ls) ≡ ls
-live_back [] = refl
-live_back (l ∷ ls) = ap (λ more. l ∷ more) (live_back ls)
+live_seen : (r : Row) → live_shown (output live_query (env r)).1 ≡ live_shown (drop 1 r)
+live_seen [] = refl
+live_seen (v ∷ r) = refl
 
 abbrev pub format_kept : Row → Format
 format_kept r = format_shown (column r 0 ∷ column r 2 ∷ [])
 
-each_format : (table : List Row) → map format_shown (map (λ (o : Output). o.1) (map (output format_query) (map env table))) ≡ map format_kept table
-each_format [] = refl
-each_format (r ∷ table) = ap (λ l. format_kept r ∷ l) (each_format table)
-
-pub formats_back : (fs : List Format) → map format_kept (map format_row fs) ≡ fs
-formats_back [] = refl
-formats_back (f ∷ fs) = ap (λ l. f ∷ l) (formats_back fs)
-
 -- ---- what is read is what the tables hold
+
+pub formats_shown : (s : Shape) (old new : State) (rows : List Row) (c : Content) → IsStored s old c → Shown read_format [] old new rows → IsPermutation c.formats (map format_shown rows)
+formats_shown s old new rows c r h =
+    shows_kept format_query format_shown format_kept (λ r. r) format_row (λ r. refl) (λ f. refl) c.formats _ rows
+    (sorts s read_format 0 _ _ _ (read_format_means s) old new rows r.holds.schema h refl)
+    (subst (IsPermutation (map format_row c.formats)) (sym (map-id (old.now.trees 0))) r.holds.means.formats_are)
 
 pub years_shown : (s : Shape) (old new : State) (rows : List Row) (c : Content) → IsStored s old c → Shown read_release [] old new rows → IsPermutation c.years (map year_shown rows)
 years_shown s old new rows c r h =
-    let it = sorts s read_release 1 _ _ _ (read_release_means s) old new rows r.holds.schema h refl in
-    let kept = IsPermutation-map year_shown _ _ r.holds.means.years_are in
-    IsPermutation-trans _ _ _ (subst (λ l. IsPermutation l (map year_shown (old.now.trees 1))) (years_back c.years)
-    kept) (subst (λ l. IsPermutation l (map year_shown rows)) (each_year (old.now.trees 1))
-    (seen_as release_query _ rows year_shown it))
+    shows_kept release_query year_shown year_shown (λ r. r) year_row (λ r. refl) (λ y. refl) c.years _ rows
+    (sorts s read_release 1 _ _ _ (read_release_means s) old new rows r.holds.schema h refl)
+    (subst (IsPermutation (map year_row c.years)) (sym (map-id (old.now.trees 1))) r.holds.means.years_are)
 
 pub spans_shown : (s : Shape) (old new : State) (rows : List Row) (c : Content) → has_spans s ≡ true → IsStored s old c → Shown read_span [] old new rows → IsPermutation c.spans (map span_shown rows)
 spans_shown s old new rows c spans r h =
     let tree = span_tree s in
-    let table = old.now.trees tree in
-    let it = sorts s read_span tree _ _ _ (read_span_means s spans) old new rows r.holds.schema h (own_spans s old.now.trees) in
-    let kept = IsPermutation-map span_shown _ _ (keeps_there (has_spans s) span_row c.spans table spans r.holds.means.spans_are).0 in
-    IsPermutation-trans _ _ _ (subst (λ l. IsPermutation l (map span_shown (map (drop 1) table))) (spans_back c.spans)
-    kept) (subst (λ l. IsPermutation l (map span_shown rows)) (each_span tree table)
-    (seen_as (span_query tree) _ rows span_shown it))
+    shows_kept (span_query tree) span_shown span_shown (drop 1) span_row (span_seen tree) (λ x. refl) c.spans _ rows
+    (sorts s read_span tree _ _ _ (read_span_means s spans) old new rows r.holds.schema h (own_spans s old.now.trees))
+    (keeps_there (has_spans s) span_row c.spans (old.now.trees tree) spans r.holds.means.spans_are).0
 
 pub lines_shown : (s : Shape) (old new : State) (rows : List Row) (c : Content) → IsStored s old c → Shown read_line [] old new rows → IsPermutation c.lines (map line_shown rows)
 lines_shown s old new rows c r h =
-    let it = sorts s read_line 4 _ _ _ (read_line_means s) old new rows r.holds.schema h refl in
-    let kept = IsPermutation-map line_shown _ _ r.holds.means.lines_are in
-    IsPermutation-trans _ _ _ (subst (λ l. IsPermutation l (map line_shown (map (drop 1) (old.now.trees 4))))
-    (lines_back c.lines) kept) (subst (λ l. IsPermutation l (map line_shown rows)) (each_line (old.now.trees 4))
-    (seen_as line_query _ rows line_shown it))
+    shows_kept line_query line_shown line_shown (drop 1) line_row line_seen (λ l. refl) c.lines _ rows
+    (sorts s read_line 4 _ _ _ (read_line_means s) old new rows r.holds.schema h refl) r.holds.means.lines_are
 
 pub live_shown_are : (s : Shape) (old new : State) (rows : List Row) (c : Content) → has_live s ≡ true → IsStored s old c → Shown read_live [] old new rows → IsPermutation c.live (map live_shown rows)
 live_shown_are s old new rows c live r h =
-    let it = sorts s read_live 2 _ _ _ (read_live_means s live) old new rows r.holds.schema h refl in
-    let kept = IsPermutation-map live_shown _ _ (keeps_there (has_live s) live_row c.live (old.now.trees 2) live r.holds.means.live_are).0 in
-    IsPermutation-trans _ _ _ (subst (λ l. IsPermutation l (map live_shown (map (drop 1) (old.now.trees 2))))
-    (live_back c.live) kept) (subst (λ l. IsPermutation l (map live_shown rows)) (each_live (old.now.trees 2))
-    (seen_as live_query _ rows live_shown it))
-
-pub formats_shown : (s : Shape) (old new : State) (rows : List Row) (c : Content) → IsStored s old c → Shown read_format [] old new rows → IsPermutation c.formats (map format_shown rows)
-formats_shown s old new rows c r h =
-    let it = sorts s read_format 0 _ _ _ (read_format_means s) old new rows r.holds.schema h refl in
-    let kept = IsPermutation-map format_kept _ _ r.holds.means.formats_are in
-    IsPermutation-trans _ _ _ (subst (λ l. IsPermutation l (map format_kept (old.now.trees 0))) (formats_back c.formats)
-    kept) (subst (λ l. IsPermutation l (map format_shown rows)) (each_format (old.now.trees 0))
-    (seen_as format_query _ rows format_shown it))
+    shows_kept live_query live_shown live_shown (drop 1) live_row live_seen (λ l. refl) c.live _ rows
+    (sorts s read_live 2 _ _ _ (read_live_means s live) old new rows r.holds.schema h refl)
+    (keeps_there (has_live s) live_row c.live (old.now.trees 2) live r.holds.means.live_are).0
 
 -- ---- a query changes nothing
 
@@ -184,20 +154,30 @@ fails_same sql params old new e plain (inr h) =
     let none = (subst IsPlain h.1.is plain).0 in
     let it = subst (FailsToShow old new sql h.0 (timed params h.0.formats h.1.now) e) none h.2 in inl it.3
 
-pub kept_by_query : (s : Shape) (sql : List ℕ) (old new : State) (c : Content) (r : Result (Vec Row Global) Error) → IsPlain (understood (schema_of s) sql) → IsStored s old c → IsTrue new.is_open
-    → IfOk r (λ rows. Shown sql [] old new rows.items) → IfErr r (FailsToQuery sql [] old new) → IsStored s new c
-kept_by_query s sql old new c (Ok rows) plain r up ok err = still s old new c r (shown_same sql [] old new rows.items (subst (λ it. IsPlain (understood it sql)) (sym r.holds.schema) plain) ok)
-kept_by_query s sql old new c (Err e) plain r up ok err = elim (fails_same sql [] old new e (subst (λ it. IsPlain (understood it sql)) (sym r.holds.schema) plain) err) [
-  | inl same ↦ still s old new c r same
-  | inr back ↦ undone s old new c r back up
-]
+-- a query reads
+pub by_query : (P : Shape → Type 0) (sql : List ℕ) (Says : Content → Vec Row Global → Type 0) (old new : State) (r : Result (Vec Row Global) Error)
+    → ((s : Shape) → P s → IsPlain (understood (schema_of s) sql))
+    → ((s : Shape) → P s → (c : Content) (rows : Vec Row Global) → IsStored s old c → Shown sql [] old new rows.items → Says c rows)
+    → (HasCleanDisk new → IfOk r (λ rows. Shown sql [] old new rows.items)) → (HasCleanDisk new → IfErr r (FailsToQuery sql [] old new))
+    → Survives old new (CommitsShowing sql [] old) → Reads P Says old new r
+by_query P sql Says old new r plain says ok err survives = go r ok err
+  where
+    plain_here : (s : Shape) → P s → (c : Content) → IsStored s old c → IsPlain (understood old.now.schema sql)
+    plain_here s p c h = subst (λ it. IsPlain (understood it sql)) (sym h.holds.schema) (plain s p)
 
-pub ok_by_query : (s : Shape) (sql : List ℕ) (old new : State) (c : Content) (r : Result (Vec Row Global) Error) → IsPlain (understood (schema_of s) sql) → IsStored s old c
-    → IfOk r (λ rows. Shown sql [] old new rows.items) → OnOk r (IsStored s new c)
-ok_by_query s sql old new c (Ok rows) plain r ok = still s old new c r (shown_same sql [] old new rows.items (subst (λ it. IsPlain (understood it sql)) (sym r.holds.schema) plain) ok)
-ok_by_query s sql old new c (Err e) plain r ok = tt
+    quiet : Survives old new (LeavesNone P old)
+    quiet = survives_weaker old new _ _ (λ _ db may s p c h. never_commits sql [] old db (plain_here s p c h) may) survives
 
-pub quiet_query : (P : Shape → Type 0) (sql : List ℕ) (old new : State) → ((s : Shape) → P s → IsPlain (understood (schema_of s) sql)) → Survives old new (CommitsShowing sql [] old)
-    → Survives old new (LeavesNone P old)
-quiet_query P sql old new plain =
-    survives_weaker old new _ _ (λ _ db may s p c r. never_commits sql [] old db (subst (λ it. IsPlain (understood it sql)) (sym r.holds.schema) (plain s p)) may)
+    go : (r : Result (Vec Row Global) Error) → (HasCleanDisk new → IfOk r (λ rows. Shown sql [] old new rows.items)) → (HasCleanDisk new → IfErr r (FailsToQuery sql [] old new)) → Reads P Says old new r
+    go (Ok rows) ok err =
+        let stays : HasCleanDisk new → (s : Shape) → P s → (c : Content) → IsStored s old c → IsStored s new c = λ clean s p c h. still s old new c h
+        (shown_same sql [] old new rows.items (plain_here s p c h) (ok clean)) in
+        record { ok = λ clean s p c h. (says s p c rows h (ok clean), stays clean s p c h); same = λ clean up. stays clean; survives = quiet }
+    go (Err e) ok err = record {
+      ok = λ clean s p c h. tt;
+      same = λ clean up s p c h. elim (fails_same sql [] old new e (plain_here s p c h) (err clean)) [
+        | inl same ↦ still s old new c h same
+        | inr undo ↦ undone s old new c h undo up
+      ];
+      survives = quiet;
+    }

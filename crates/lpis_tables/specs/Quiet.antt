@@ -1,7 +1,7 @@
--- What reading leaves.
-use Rattle.std.specs.Prelude.{◌≡◌, Bool}
+-- What reading answers, and what it leaves.
+use Rattle.std.specs.Prelude.{◌≡◌, Bool, Result, IfOk, IsTrue}
 use Rattle.sqlite.specs.Tree.{Trees}
-use Rattle.sqlite.specs.State.{State}
+use Rattle.sqlite.specs.State.{State, HasCleanDisk, Survives}
 use Rattle.lpis_records.specs.Content.{Content}
 use Rattle.lpis_tables.specs.Shapes.{Shape, has_spans, has_live}
 use Rattle.lpis_tables.specs.Holding.{IsStored}
@@ -14,3 +14,14 @@ LeavesNone P old trees = (shape : Shape) → P shape → (c : Content) → IsSto
 -- the order has `lpis_span`, and it has `lpis_live`, as these say
 abbrev pub IsWith : Bool → Bool → Shape → Type 0
 IsWith spans lives shape = (spans ≡ has_spans shape) × (lives ≡ has_live shape)
+
+-- a call that reads a database that holds rows of the register, its tables in such an order, and
+-- answers what those rows say
+pub record Reads {X E : Type 0} (P : Shape → Type 0) (Says : Content → X → Type 0)
+    (old new : State) (r : Result X E) : Type 0 where
+  pub ok : HasCleanDisk new → (shape : Shape) → P shape → (c : Content) → IsStored shape old c
+      → IfOk r (λ x. Says c x × IsStored shape new c)
+  -- the rows stay, also where it fails, unless the database is shut
+  pub same : HasCleanDisk new → IsTrue new.is_open → (shape : Shape) → P shape → (c : Content)
+      → IsStored shape old c → IsStored shape new c
+  pub survives : Survives old new (LeavesNone P old)

@@ -2,7 +2,6 @@
 //! statement. Nothing of a history.
 #![tactic(auto)]
 
-mod finding;
 mod found;
 mod laws;
 mod loading;
@@ -14,10 +13,9 @@ mod statements;
 mod tables;
 mod writing;
 
-pub use finding::load_found;
 pub use found::{Found, tables_in};
 pub use laws::{a_database_holds_one_content, what_is_left_is_found};
-pub use loading::load;
+pub use loading::{load, load_found};
 pub use moving::{add_spans, write_moved};
 pub use publishing::write_release;
 pub use tables::create;

@@ -1,115 +1,130 @@
-//! The queries, one a function.
+//! The queries, one a table.
 
-ghost use Rattle.std.specs.Prelude.{◌≡◌, map, true, false, IsTrue, IfOk, OnOk, IsPermutation};
-ghost use Rattle.sqlite.specs.Held.{state};
-ghost use Rattle.sqlite.specs.State.{HasCleanDisk, Survives};
-ghost use Rattle.lpis_tables.specs.Shapes.{has_spans, has_live};
-ghost use Rattle.lpis_tables.specs.Holding.{IsStored};
-ghost use Rattle.lpis_tables.specs.Quiet.{LeavesNone};
-ghost use Rattle.lpis_tables.specs.private.Shown.{format_shown, year_shown, span_shown, line_shown};
-ghost use Rattle.lpis_tables.specs.private.Shown.{live_shown};
-
+use crate::reading::Stored;
+use lpis_records::{FormatRow, LineRow, LiveRow, SpanRow};
 use sqlite::{Alter, Connection, Error, Row};
 
-/// The rows that tell the version.
-pub(crate) fn format_rows<S: Alter>(conn: &mut Connection<S>) -> Result<Vec<Row>, Error>
-    requires autocommit { conn.old.in_transaction ≡ false }
-    ensures autocommit { conn.new.in_transaction ≡ false }
-    ensures rows { HasCleanDisk (state S.Store conn.new) → (shape : _) → (c : _)
-        → IsStored shape (state S.Store conn.old) c
-        → IfOk result (λ rows. IsPermutation c.formats (map format_shown rows.items)) }
-    ensures stored { HasCleanDisk (state S.Store conn.new) → (shape : _) → (c : _)
-        → IsStored shape (state S.Store conn.old) c
-        → OnOk result (IsStored shape (state S.Store conn.new) c) }
-    ensures same { HasCleanDisk (state S.Store conn.new) → IsTrue (state S.Store conn.new).is_open
-        → (shape : _) → (c : _) → IsStored shape (state S.Store conn.old) c
-        → IsStored shape (state S.Store conn.new) c }
-    ensures clean { HasCleanDisk (state S.Store conn.new) → HasCleanDisk (state S.Store conn.old) }
-    ensures survives { Survives (state S.Store conn.old) (state S.Store conn.new)
-        (LeavesNone (λ _. Unit {0}) (state S.Store conn.old)) }
-{
-    conn.query_all("SELECT one, version FROM lpis_format", &[])
+impl Stored for FormatRow {
+    ghost use Rattle.std.specs.Prelude.{true};
+    ghost use Rattle.std.proofs.Common.{rules};
+    ghost use Rattle.lpis_tables.specs.private.Shown.{format_shown};
+
+    ghost rows = { λ c. c.formats };
+
+    ghost shown = { format_shown };
+
+    ghost has_table = { λ shape. true };
+
+    fn query<S: Alter>(conn: &mut Connection<S>) -> Result<Vec<Row>, Error> {
+        conn.query_all("SELECT one, version FROM lpis_format", &[])
+    }
+
+    fn read(row: &Row) -> Result<FormatRow, Error> {
+        let one = row.get(0)?;
+        let version = row.get(1)?;
+        Ok(FormatRow::new(one, version))
+    }
+
+    ghost without_table = { Prim.search rules };
 }
 
-/// The years of the releases.
-pub(crate) fn release_rows<S: Alter>(conn: &mut Connection<S>) -> Result<Vec<Row>, Error>
-    requires autocommit { conn.old.in_transaction ≡ false }
-    ensures autocommit { conn.new.in_transaction ≡ false }
-    ensures rows { HasCleanDisk (state S.Store conn.new) → (shape : _) → (c : _)
-        → IsStored shape (state S.Store conn.old) c
-        → IfOk result (λ rows. IsPermutation c.years (map year_shown rows.items)) }
-    ensures stored { HasCleanDisk (state S.Store conn.new) → (shape : _) → (c : _)
-        → IsStored shape (state S.Store conn.old) c
-        → OnOk result (IsStored shape (state S.Store conn.new) c) }
-    ensures same { HasCleanDisk (state S.Store conn.new) → IsTrue (state S.Store conn.new).is_open
-        → (shape : _) → (c : _) → IsStored shape (state S.Store conn.old) c
-        → IsStored shape (state S.Store conn.new) c }
-    ensures clean { HasCleanDisk (state S.Store conn.new) → HasCleanDisk (state S.Store conn.old) }
-    ensures survives { Survives (state S.Store conn.old) (state S.Store conn.new)
-        (LeavesNone (λ _. Unit {0}) (state S.Store conn.old)) }
-{
-    conn.query_all("SELECT year FROM lpis_release ORDER BY year", &[])
+/// A year of a release.
+impl Stored for i64 {
+    ghost use Rattle.std.specs.Prelude.{true};
+    ghost use Rattle.std.proofs.Common.{rules};
+    ghost use Rattle.lpis_tables.specs.private.Shown.{year_shown};
+
+    ghost rows = { λ c. c.years };
+
+    ghost shown = { year_shown };
+
+    ghost has_table = { λ shape. true };
+
+    fn query<S: Alter>(conn: &mut Connection<S>) -> Result<Vec<Row>, Error> {
+        conn.query_all("SELECT year FROM lpis_release ORDER BY year", &[])
+    }
+
+    fn read(row: &Row) -> Result<i64, Error> {
+        row.get(0)
+    }
+
+    ghost without_table = { Prim.search rules };
 }
 
-/// The spans of the identifiers.
-pub(crate) fn span_rows<S: Alter>(conn: &mut Connection<S>) -> Result<Vec<Row>, Error>
-    requires autocommit { conn.old.in_transaction ≡ false }
-    ensures autocommit { conn.new.in_transaction ≡ false }
-    ensures rows { HasCleanDisk (state S.Store conn.new) → (shape : _) → has_spans shape ≡ true
-        → (c : _) → IsStored shape (state S.Store conn.old) c
-        → IfOk result (λ rows. IsPermutation c.spans (map span_shown rows.items)) }
-    ensures stored { HasCleanDisk (state S.Store conn.new) → (shape : _) → has_spans shape ≡ true
-        → (c : _) → IsStored shape (state S.Store conn.old) c
-        → OnOk result (IsStored shape (state S.Store conn.new) c) }
-    ensures same { HasCleanDisk (state S.Store conn.new) → IsTrue (state S.Store conn.new).is_open
-        → (shape : _) → has_spans shape ≡ true → (c : _) → IsStored shape (state S.Store conn.old) c
-        → IsStored shape (state S.Store conn.new) c }
-    ensures clean { HasCleanDisk (state S.Store conn.new) → HasCleanDisk (state S.Store conn.old) }
-    ensures survives { Survives (state S.Store conn.old) (state S.Store conn.new)
-        (LeavesNone (λ shape. has_spans shape ≡ true) (state S.Store conn.old)) }
-{
-    conn.query_all("SELECT id, since, until FROM lpis_span ORDER BY id", &[])
+impl Stored for SpanRow {
+    ghost use Rattle.std.proofs.Common.{rules};
+    ghost use Rattle.lpis_tables.specs.private.Shown.{span_shown};
+    ghost use Rattle.lpis_tables.specs.Shapes.{has_spans};
+
+    ghost rows = { λ c. c.spans };
+
+    ghost shown = { span_shown };
+
+    ghost has_table = { has_spans };
+
+    fn query<S: Alter>(conn: &mut Connection<S>) -> Result<Vec<Row>, Error> {
+        conn.query_all("SELECT id, since, until FROM lpis_span ORDER BY id", &[])
+    }
+
+    fn read(row: &Row) -> Result<SpanRow, Error> {
+        let id = row.get(0)?;
+        let since = row.get(1)?;
+        let until = row.get(2)?;
+        Ok(SpanRow::new(id, since, until))
+    }
+
+    ghost without_table = { Prim.search rules };
 }
 
-/// The rows of lineage.
-pub(crate) fn line_rows<S: Alter>(conn: &mut Connection<S>) -> Result<Vec<Row>, Error>
-    requires autocommit { conn.old.in_transaction ≡ false }
-    ensures autocommit { conn.new.in_transaction ≡ false }
-    ensures rows { HasCleanDisk (state S.Store conn.new) → (shape : _) → (c : _)
-        → IsStored shape (state S.Store conn.old) c
-        → IfOk result (λ rows. IsPermutation c.lines (map line_shown rows.items)) }
-    ensures stored { HasCleanDisk (state S.Store conn.new) → (shape : _) → (c : _)
-        → IsStored shape (state S.Store conn.old) c
-        → OnOk result (IsStored shape (state S.Store conn.new) c) }
-    ensures same { HasCleanDisk (state S.Store conn.new) → IsTrue (state S.Store conn.new).is_open
-        → (shape : _) → (c : _) → IsStored shape (state S.Store conn.old) c
-        → IsStored shape (state S.Store conn.new) c }
-    ensures clean { HasCleanDisk (state S.Store conn.new) → HasCleanDisk (state S.Store conn.old) }
-    ensures survives { Survives (state S.Store conn.old) (state S.Store conn.new)
-        (LeavesNone (λ _. Unit {0}) (state S.Store conn.old)) }
-{
-    conn.query_all(
-        "SELECT year, pos, old, new FROM lpis_row ORDER BY year, pos",
-        &[],
-    )
+impl Stored for LineRow {
+    ghost use Rattle.std.specs.Prelude.{true};
+    ghost use Rattle.std.proofs.Common.{rules};
+    ghost use Rattle.lpis_tables.specs.private.Shown.{line_shown};
+
+    ghost rows = { λ c. c.lines };
+
+    ghost shown = { line_shown };
+
+    ghost has_table = { λ shape. true };
+
+    fn query<S: Alter>(conn: &mut Connection<S>) -> Result<Vec<Row>, Error> {
+        conn.query_all(
+            "SELECT year, pos, old, new FROM lpis_row ORDER BY year, pos",
+            &[],
+        )
+    }
+
+    fn read(row: &Row) -> Result<LineRow, Error> {
+        let year = row.get(0)?;
+        let place = row.get(1)?;
+        let old = row.get(2)?;
+        let new = row.get(3)?;
+        Ok(LineRow::new(year, place, old, new))
+    }
+
+    ghost without_table = { Prim.search rules };
 }
 
-/// The identifiers of each release, as version 1 keeps them.
-pub(crate) fn live_rows<S: Alter>(conn: &mut Connection<S>) -> Result<Vec<Row>, Error>
-    requires autocommit { conn.old.in_transaction ≡ false }
-    ensures autocommit { conn.new.in_transaction ≡ false }
-    ensures rows { HasCleanDisk (state S.Store conn.new) → (shape : _) → has_live shape ≡ true
-        → (c : _) → IsStored shape (state S.Store conn.old) c
-        → IfOk result (λ rows. IsPermutation c.live (map live_shown rows.items)) }
-    ensures stored { HasCleanDisk (state S.Store conn.new) → (shape : _) → has_live shape ≡ true
-        → (c : _) → IsStored shape (state S.Store conn.old) c
-        → OnOk result (IsStored shape (state S.Store conn.new) c) }
-    ensures same { HasCleanDisk (state S.Store conn.new) → IsTrue (state S.Store conn.new).is_open
-        → (shape : _) → has_live shape ≡ true → (c : _) → IsStored shape (state S.Store conn.old) c
-        → IsStored shape (state S.Store conn.new) c }
-    ensures clean { HasCleanDisk (state S.Store conn.new) → HasCleanDisk (state S.Store conn.old) }
-    ensures survives { Survives (state S.Store conn.old) (state S.Store conn.new)
-        (LeavesNone (λ shape. has_live shape ≡ true) (state S.Store conn.old)) }
-{
-    conn.query_all("SELECT year, id FROM lpis_live ORDER BY year, id", &[])
+impl Stored for LiveRow {
+    ghost use Rattle.std.proofs.Common.{rules};
+    ghost use Rattle.lpis_tables.specs.private.Shown.{live_shown};
+    ghost use Rattle.lpis_tables.specs.Shapes.{has_live};
+
+    ghost rows = { λ c. c.live };
+
+    ghost shown = { live_shown };
+
+    ghost has_table = { has_live };
+
+    fn query<S: Alter>(conn: &mut Connection<S>) -> Result<Vec<Row>, Error> {
+        conn.query_all("SELECT year, id FROM lpis_live ORDER BY year, id", &[])
+    }
+
+    fn read(row: &Row) -> Result<LiveRow, Error> {
+        let year = row.get(0)?;
+        let id = row.get(1)?;
+        Ok(LiveRow::new(year, id))
+    }
+
+    ghost without_table = { Prim.search rules };
 }

@@ -1,110 +1,73 @@
-//! Rows as the queries show them, read.
+//! The rows of a table, read, whichever it is.
 
-ghost use Rattle.std.specs.Prelude.{◌≡◌, map, IfOk};
-ghost use Rattle.lpis_tables.specs.private.Shown.{format_shown, year_shown, span_shown, line_shown};
-ghost use Rattle.lpis_tables.specs.private.Shown.{live_shown};
+ghost use Rattle.std.specs.Prelude.{◌≡◌, map, false, IfOk, IsPermutation};
+ghost use Rattle.sqlite.specs.Held.{state};
+ghost use Rattle.lpis_tables.specs.Quiet.{Reads};
 
-use lpis_records::{FormatRow, LineRow, LiveRow, SpanRow};
-use sqlite::{Error, Row};
+use sqlite::{Alter, Connection, Error, Row};
 use std::alloc::Global;
 
-/// A row of `lpis_format`.
-fn read_format(row: &Row) -> Result<FormatRow, Error>
-    ensures { IfOk result (λ it. format_shown row.now ≡ it) }
-{
-    let one = row.get(0)?;
-    let version = row.get(1)?;
-    Ok(FormatRow::new(one, version))
+/// A row of a table of the register.
+pub(crate) trait Stored: Drop {
+    ghost use Rattle.std.specs.Prelude.{◌≡◌, map, true, false, Bool, List, [], IfOk};
+    ghost use Rattle.std.specs.Prelude.{IsPermutation};
+    ghost use Rattle.sqlite.specs.Held.{state};
+    ghost use Rattle.sqlite.specs.Order.{Row};
+    ghost use Rattle.sqlite.specs.Tree.{Trees};
+    ghost use Rattle.lpis_records.specs.Content.{Content};
+    ghost use Rattle.lpis_tables.specs.Shapes.{Shape};
+    ghost use Rattle.lpis_tables.specs.Holding.{Means};
+    ghost use Rattle.lpis_tables.specs.Quiet.{Reads};
+
+    ghost rows: { Content → List Self };
+
+    ghost shown: { Row → Self };
+
+    ghost has_table: { Shape → Bool };
+
+    /// Its table, as a query shows it.
+    fn query<S: Alter>(conn: &mut Connection<S>) -> Result<Vec<Row>, Error>
+        requires autocommit { conn.old.in_transaction ≡ false }
+        ensures autocommit { conn.new.in_transaction ≡ false }
+        ensures reads { Reads (λ shape. has_table shape ≡ true)
+            (λ c all. IsPermutation (rows c) (map shown all.items))
+            (state S.Store conn.old) (state S.Store conn.new) result };
+
+    /// A row that the query showed.
+    fn read(row: &Row) -> Result<Self, Error>
+        ensures { IfOk result (λ it. shown row.now ≡ it) };
+
+    ghost without_table: { (shape : Shape) (trees : Trees) (c : Content) → Means shape trees c
+        → has_table shape ≡ false → rows c ≡ [] };
 }
 
 /// All of them.
-pub(crate) fn read_formats(alloc: Global, rows: &[Row]) -> Result<Vec<FormatRow>, Error>
-    ensures { IfOk result (λ all. all.items ≡ map format_shown rows.now) }
+fn read_all<T: Stored>(alloc: Global, rows: &[Row]) -> Result<Vec<T>, Error>
+    ensures { IfOk result (λ all. all.items ≡ map T.shown rows.now) }
 {
     let mut all = Vec::new(alloc);
     for row in rows {
-        all.push(read_format(row)?)?;
+        all.push(T::read(row)?)?;
     }
     Ok(all)
 }
 
-/// A row of `lpis_release`.
-fn read_year(row: &Row) -> Result<i64, Error>
-    ensures { IfOk result (λ it. year_shown row.now ≡ it) }
+/// The rows of a table, where it is there.
+pub(crate) fn load_rows<T: Stored, S: Alter>(
+    alloc: Global,
+    conn: &mut Connection<S>,
+    there: bool,
+) -> Result<Vec<T>, Error>
+    requires autocommit { conn.old.in_transaction ≡ false }
+    ensures autocommit { conn.new.in_transaction ≡ false }
+    ensures reads { Reads (λ shape. there ≡ T.has_table shape)
+        (λ c all. IsPermutation (T.rows c) all.items)
+        (state S.Store conn.old) (state S.Store conn.new) result }
 {
-    row.get(0)
-}
-
-/// All of them.
-pub(crate) fn read_years(alloc: Global, rows: &[Row]) -> Result<Vec<i64>, Error>
-    ensures { IfOk result (λ all. all.items ≡ map year_shown rows.now) }
-{
-    let mut all = Vec::new(alloc);
-    for row in rows {
-        all.push(read_year(row)?)?;
+    if there {
+        let rows = T::query(conn)?;
+        read_all(alloc, rows.as_slice())
+    } else {
+        Ok(Vec::new(alloc))
     }
-    Ok(all)
-}
-
-/// A row of `lpis_span`.
-fn read_span(row: &Row) -> Result<SpanRow, Error>
-    ensures { IfOk result (λ it. span_shown row.now ≡ it) }
-{
-    let id = row.get(0)?;
-    let since = row.get(1)?;
-    let until = row.get(2)?;
-    Ok(SpanRow::new(id, since, until))
-}
-
-/// All of them.
-pub(crate) fn read_spans(alloc: Global, rows: &[Row]) -> Result<Vec<SpanRow>, Error>
-    ensures { IfOk result (λ all. all.items ≡ map span_shown rows.now) }
-{
-    let mut all = Vec::new(alloc);
-    for row in rows {
-        all.push(read_span(row)?)?;
-    }
-    Ok(all)
-}
-
-/// A row of `lpis_row`.
-fn read_line(row: &Row) -> Result<LineRow, Error>
-    ensures { IfOk result (λ it. line_shown row.now ≡ it) }
-{
-    let year = row.get(0)?;
-    let place = row.get(1)?;
-    let old = row.get(2)?;
-    let new = row.get(3)?;
-    Ok(LineRow::new(year, place, old, new))
-}
-
-/// All of them.
-pub(crate) fn read_lines(alloc: Global, rows: &[Row]) -> Result<Vec<LineRow>, Error>
-    ensures { IfOk result (λ all. all.items ≡ map line_shown rows.now) }
-{
-    let mut all = Vec::new(alloc);
-    for row in rows {
-        all.push(read_line(row)?)?;
-    }
-    Ok(all)
-}
-
-/// A row of `lpis_live`.
-fn read_live(row: &Row) -> Result<LiveRow, Error>
-    ensures { IfOk result (λ it. live_shown row.now ≡ it) }
-{
-    let year = row.get(0)?;
-    let id = row.get(1)?;
-    Ok(LiveRow::new(year, id))
-}
-
-/// All of them.
-pub(crate) fn read_lives(alloc: Global, rows: &[Row]) -> Result<Vec<LiveRow>, Error>
-    ensures { IfOk result (λ all. all.items ≡ map live_shown rows.now) }
-{
-    let mut all = Vec::new(alloc);
-    for row in rows {
-        all.push(read_live(row)?)?;
-    }
-    Ok(all)
 }

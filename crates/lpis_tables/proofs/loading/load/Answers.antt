@@ -1,57 +1,32 @@
-use Rattle.std.proofs.Common.{◌∙◌, [], sym, subst, IsPermutation}
+use Rattle.std.proofs.Common.{◌∙◌, [], refl, sym, subst, IsPermutation}
 use Rattle.std.proofs.lemmas.List.Sorted.{IsPermutation-refl}
+use Rattle.std.proofs.lemmas.Result.{err_from_is_err_and}
+use Rattle.lpis_tables.proofs.QuietLemmas.{answered, nothing_yet, then, then_fails}
 use Rattle.lpis_tables.proofs.loading.load.Goals as goal
 
-pub returns-in_err-years-clause-same : goal.returns-in_err-years-clause-same
-returns-in_err-years-clause-same g c clean up shape there content r =
-    let clean_0 = c.load_years.ensures.clean clean in
-    c.load_years.ensures.same clean up shape content (c.in_ok-formats.ensures.stored clean_0 shape content r)
+pub returns-in_err-spans-clause-reads : goal.returns-in_err-spans-clause-reads
+returns-in_err-spans-clause-reads g c =
+    let formats = then (λ s p. refl) nothing_yet c.in_ok-formats.ensures.reads in
+    let years = then (λ s p. refl) formats c.in_ok-years.ensures.reads in
+    then_fails (err_from_is_err_and c.from_residual-in_err-spans.result c.from_residual-in_err-spans.ensures.1) (λ s p. sym p) years c.in_err-spans.ensures.reads
 
-pub returns-in_err-spans-clause-same : goal.returns-in_err-spans-clause-same
-returns-in_err-spans-clause-same g c clean up shape there content r =
-    let clean_1 = c.load_spans.ensures.clean clean in
-    let clean_0 = c.load_years.ensures.clean clean_1 in
-    c.load_spans.ensures.same clean up shape there content (c.in_ok-years.ensures.stored clean_1 shape content (c.in_ok-formats.ensures.stored clean_0 shape content r))
+pub returns-in_err-lines-clause-reads : goal.returns-in_err-lines-clause-reads
+returns-in_err-lines-clause-reads g c =
+    let formats = then (λ s p. refl) nothing_yet c.in_ok-formats.ensures.reads in
+    let years = then (λ s p. refl) formats c.in_ok-years.ensures.reads in
+    let spans = then (λ s p. sym p) years c.in_ok-spans.ensures.reads in
+    then_fails (err_from_is_err_and c.from_residual-in_err-lines.result c.from_residual-in_err-lines.ensures.1) (λ s p. refl) spans c.in_err-lines.ensures.reads
 
-pub returns-in_err-lines-clause-same : goal.returns-in_err-lines-clause-same
-returns-in_err-lines-clause-same g c clean up shape there content r =
-    let clean_2 = c.load_lines.ensures.clean clean in
-    let clean_1 = c.load_spans.ensures.clean clean_2 in
-    let clean_0 = c.load_years.ensures.clean clean_1 in
-    c.load_lines.ensures.same clean up shape content (c.in_ok-spans.ensures.stored clean_2 shape there content
-    (c.in_ok-years.ensures.stored clean_1 shape content (c.in_ok-formats.ensures.stored clean_0 shape content r)))
-
-pub returns-clause-stored : goal.returns-clause-stored
-returns-clause-stored g c clean shape there content r =
-    let clean_2 = c.load_lines.ensures.clean clean in
-    let clean_1 = c.load_spans.ensures.clean clean_2 in
-    let clean_0 = c.load_years.ensures.clean clean_1 in
-    c.in_ok-lines.ensures.stored clean shape content (c.in_ok-spans.ensures.stored clean_2 shape there content
-    (c.in_ok-years.ensures.stored clean_1 shape content (c.in_ok-formats.ensures.stored clean_0 shape content r)))
-
-pub returns-clause-same : goal.returns-clause-same
-returns-clause-same g c clean up shape there content r =
-    let clean_2 = c.load_lines.ensures.clean clean in
-    let clean_1 = c.load_spans.ensures.clean clean_2 in
-    let clean_0 = c.load_years.ensures.clean clean_1 in
-    c.in_ok-lines.ensures.stored clean shape content (c.in_ok-spans.ensures.stored clean_2 shape there content
-    (c.in_ok-years.ensures.stored clean_1 shape content (c.in_ok-formats.ensures.stored clean_0 shape content r)))
-
-pub returns-clause-rows : goal.returns-clause-rows
-returns-clause-rows g c clean shape there content r =
-    let clean_2 = c.load_lines.ensures.clean clean in
-    let clean_1 = c.load_spans.ensures.clean clean_2 in
-    let clean_0 = c.load_years.ensures.clean clean_1 in
-    let formats_are = c.in_ok-formats.ensures.rows clean_0 shape content r in
-    let years_are = c.in_ok-years.ensures.rows clean_1 shape content (c.in_ok-formats.ensures.stored clean_0 shape content r) in
-    let spans_are = c.in_ok-spans.ensures.rows clean_2 shape there content (c.in_ok-years.ensures.stored clean_1 shape content (c.in_ok-formats.ensures.stored clean_0 shape content r)) in
-    let lines_are = c.in_ok-lines.ensures.rows clean shape content
-    (c.in_ok-spans.ensures.stored clean_2 shape there content (c.in_ok-years.ensures.stored clean_1 shape content
-    (c.in_ok-formats.ensures.stored clean_0 shape content r))) in
-    record {
-      formats = subst (IsPermutation content.formats) (sym c.new-2.ensures.formats) formats_are;
-      years = subst (IsPermutation content.years) (sym c.new-2.ensures.years) years_are;
-      spans = subst (IsPermutation content.spans) (sym c.new-2.ensures.spans) spans_are;
-      lines = subst (IsPermutation content.lines) (sym c.new-2.ensures.lines) lines_are;
+pub returns-clause-reads : goal.returns-clause-reads
+returns-clause-reads g c =
+    let formats = then (λ s p. refl) nothing_yet c.in_ok-formats.ensures.reads in
+    let years = then (λ s p. refl) formats c.in_ok-years.ensures.reads in
+    let spans = then (λ s p. sym p) years c.in_ok-spans.ensures.reads in
+    let lines = then (λ s p. refl) spans c.in_ok-lines.ensures.reads in
+    answered lines (λ content all. record {
+      formats = subst (IsPermutation content.formats) (sym c.new-2.ensures.formats) all.0.0.0.1;
+      years = subst (IsPermutation content.years) (sym c.new-2.ensures.years) all.0.0.1;
+      spans = subst (IsPermutation content.spans) (sym c.new-2.ensures.spans) all.0.1;
+      lines = subst (IsPermutation content.lines) (sym c.new-2.ensures.lines) all.1;
       live = subst (IsPermutation []) (sym (c.new-2.ensures.live ∙ c.new.ensures.items)) (IsPermutation-refl []);
-    }
+    })

@@ -1,6 +1,0 @@
-use Rattle.std.proofs.Common.{◌≡◌, map, take}
-use Rattle.lpis_tables.specs.private.Shown.{format_shown}
-use Rattle.lpis_tables.proofs.reading.read_formats.Given as goal
-
-abbrev pub invariant-loop-row : goal.invariant-loop-row
-invariant-loop-row l = l.all.items ≡ map format_shown (take l.row-index l.rows)
