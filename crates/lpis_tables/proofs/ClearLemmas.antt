@@ -25,14 +25,14 @@ use Rattle.sqlite_rules.specs.Calls.{ids_of}
 use Rattle.sqlite.proofs.Callers.{statement_of, runs_as}
 use Rattle.lpis_records.specs.Content.{Content, without_spans, without_live}
 use Rattle.lpis_tables.specs.Tables.{span_table, live_table}
-use Rattle.lpis_tables.specs.Shapes.{Shape, New, First, Moved, schema_of, has_spans, has_live, span_tree}
+use Rattle.lpis_tables.specs.Shapes.{Shape, schema_of, has_spans, has_live, span_tree}
 use Rattle.lpis_tables.specs.private.Places.{span_place}
 use Rattle.lpis_tables.specs.private.Texts.{clear_span, clear_live}
 use Rattle.lpis_tables.specs.Holding.{AreKeyed, span_row, live_row}
 use Rattle.lpis_tables.specs.private.Inside.{Inside}
-use Rattle.lpis_tables.proofs.MeaningLemmas.{Says, whole, ids_query, clear_span_means, clear_live_means}
+use Rattle.lpis_tables.proofs.MeaningLemmas.{in_each, Says, whole, ids_query, clear_span_means, clear_live_means}
 use Rattle.lpis_tables.proofs.UpdateLemmas.{without_is, filter_same, gone_are, key_of}
-use Rattle.lpis_tables.proofs.PartLemmas.{far, far_span, span_not_live, live_not_span, keeps_there, there_keeps, formats_kept, years_kept, spans_kept, lines_kept, live_kept, own_spans}
+use Rattle.lpis_tables.proofs.PartLemmas.{far, span_not_live, keeps_there, there_keeps, formats_kept, years_kept, spans_kept, lines_kept, own_spans, spans_changed}
 use Rattle.lpis_tables.proofs.InsertLemmas.{inside_next, span_stands}
 use Rattle.lpis_tables.proofs.WriteLemmas.{went, same_value, step_of, Kept, kept_of}
 
@@ -124,28 +124,19 @@ pub clear_spans_inside : (s : Shape) (base : Database) (old new : State) (c : Co
 clear_spans_inside s base old new c count spans before h =
     let m = before.holds.means in
     let db = old.now.trees in
-    let next = new.now.trees in
     let tree = span_tree s in
     let there = keeps_there (has_spans s) span_row c.spans (db tree) spans m.spans_are in
     let e = clears s clear_span (span_place s) tree (span_table tree) old new count refl before.holds.schema (span_stands s spans) (clear_span_means s spans) (own_spans s db) there.1 h.0 in
     inside_next s s base old new c _ before h.1 (record {
       schema = e.schema;
       sound = e.sound;
-      means = record {
-        formats_are = formats_kept s tree db next c e.others m (far_span s 0 refl refl);
-        years_are = years_kept s tree db next c e.others m (far_span s 1 refl refl);
-        spans_are = there_keeps (has_spans s) span_row [] (next tree) spans
-            (subst (λ (rs : List Row). IsPermutation [] (map (drop 1) rs)) (sym e.empty) (IsPermutation-refl []))
-            (subst AreKeyed (sym e.empty) none_keyed);
-        lines_are = lines_kept s tree db next c e.others m (far_span s 4 refl refl);
-        live_are = live_kept s tree db next c e.others m (live_not_span s);
-      };
+      means = spans_changed s db new.now.trees c [] spans e.others m
+          (subst (λ (rs : List Row). IsPermutation [] (map (drop 1) rs)) (sym e.empty) (IsPermutation-refl []))
+          (subst AreKeyed (sym e.empty) none_keyed);
     })
 
 live_stands : (s : Shape) → has_live s ≡ true → slice_get (schema_of s).tables 2 ≡ Some (live_table 2)
-live_stands New is = absurd (true≢false (sym is))
-live_stands First is = refl
-live_stands Moved is = refl
+live_stands = in_each _ (λ is. absurd (true≢false (sym is))) (λ is. refl) (λ is. refl)
 
 pub clear_live_inside : (s : Shape) (base : Database) (old new : State) (c : Content) (count : ℕ) → has_live s ≡ true → Inside s base old c
     → ExecutesInside 0 clear_live [] old new (Ok count) → Inside s base new (without_live c)

@@ -41,7 +41,7 @@ use Rattle.lpis_tables.specs.private.Shown.{text_in}
 use Rattle.lpis_tables.specs.Holding.{AreKeyed, span_row}
 use Rattle.lpis_tables.specs.private.Inside.{Inside}
 use Rattle.lpis_tables.proofs.MeaningLemmas.{ends_query, end_span_means, whole}
-use Rattle.lpis_tables.proofs.PartLemmas.{far_span, live_not_span, keeps_there, there_keeps, formats_kept, years_kept, lines_kept, live_kept, own_spans}
+use Rattle.lpis_tables.proofs.PartLemmas.{keeps_there, spans_changed, own_spans}
 use Rattle.lpis_tables.proofs.InsertLemmas.{inside_next, span_stands}
 use Rattle.lpis_tables.proofs.WriteLemmas.{cast_int, updates, step_of, kept_of}
 use Rattle.lpis_tables.proofs.UpdateLemmas.{has_permuted, replaced, walked, map_same_at, numbered_given, key_of}
@@ -208,17 +208,10 @@ end_inside s base old new c id y count spans before h =
     let whole_list = subst (IsPermutation (map (made tree y id) (filter p rows) ++ filter (λ r. not (p r)) rows))
     (sym step.rows) (replaced p (made tree y id) rows (ids_of it.found) _ there.1 keys news step.fresh) in
     let next = new.now.trees in
-    let others = kept_of s tree db next step.tables in
     inside_next s s base old new c _ before h.1 (record {
       schema = it.schema_is;
       sound = w.sound;
-      means = record {
-        formats_are = formats_kept s tree db next c others m (far_span s 0 refl refl);
-        years_are = years_kept s tree db next c others m (far_span s 1 refl refl);
-        spans_are = there_keeps (has_spans s) span_row (map (end_at id y) c.spans) (next tree) spans
-            (spans_after tree y id rows c.spans there.0 there.1 (next tree) whole_list)
-            (keyed_after tree y id rows c.spans there.0 there.1 (next tree) whole_list);
-        lines_are = lines_kept s tree db next c others m (far_span s 4 refl refl);
-        live_are = live_kept s tree db next c others m (live_not_span s);
-      };
+      means = spans_changed s db next c (map (end_at id y) c.spans) spans (kept_of s tree db next step.tables) m
+          (spans_after tree y id rows c.spans there.0 there.1 (next tree) whole_list)
+          (keyed_after tree y id rows c.spans there.0 there.1 (next tree) whole_list);
     })

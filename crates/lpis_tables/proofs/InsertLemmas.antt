@@ -1,5 +1,5 @@
 -- What the statements that insert do.
-use Rattle.std.proofs.Common.{◌≡◌, ℕ, ℤ, pos, List, [], ◌∷◌, drop, slice_get, true, Some, Ok, refl, sym, subst, ◌∙◌}
+use Rattle.std.proofs.Common.{◌≡◌, ℕ, ℤ, pos, List, [], ◌∷◌, drop, slice_get, true, true≢false, Some, Ok, refl, sym, subst, ◌∙◌}
 use Rattle.std.proofs.lemmas.List.Sorted.{IsPermutation-trans, IsPermutation-cons, IsPermutation-map}
 use Rattle.sqlite.specs.declared.types.Value.TheVariants.{Int, Text}
 use Rattle.sqlite.specs.Order.{Row}
@@ -11,13 +11,14 @@ use Rattle.sqlite.specs.Tree.{Trees}
 use Rattle.sqlite.specs.State.{State, Shows, ExecutesInside}
 use Rattle.lpis_records.specs.Content.{StoredSpan, Line, Content, with_year, with_span, with_whole_span, with_line}
 use Rattle.lpis_tables.specs.Tables.{format_table, release_table, span_table, row_table}
-use Rattle.lpis_tables.specs.Shapes.{Shape, New, First, Moved, schema_of, has_spans, span_tree}
+use Rattle.lpis_tables.specs.Shapes.{Shape, schema_of, has_spans, span_tree}
 use Rattle.lpis_tables.specs.private.Places.{span_place}
 use Rattle.lpis_tables.specs.private.Texts.{insert_release, insert_span, insert_whole_span, insert_line}
 use Rattle.lpis_tables.specs.Holding.{AreKeyed, format_row, year_row, span_row, line_row, Holds}
 use Rattle.lpis_tables.specs.private.Inside.{Inside}
-use Rattle.lpis_tables.proofs.MeaningLemmas.{format_terms, insert_release_means, release_terms, insert_span_means, span_terms, insert_whole_span_means, whole_span_terms, insert_line_means, line_terms}
-use Rattle.lpis_tables.proofs.PartLemmas.{far, span_far, far_span, live_not_span, keeps_there, there_keeps, formats_kept, years_kept, spans_kept, lines_kept, live_kept}
+use Rattle.lpis_tables.proofs.MeaningLemmas.{in_each, format_terms, insert_release_means, release_terms, insert_span_means, span_terms, insert_whole_span_means, whole_span_terms}
+use Rattle.lpis_tables.proofs.MeaningLemmas.{insert_line_means, line_terms}
+use Rattle.lpis_tables.proofs.PartLemmas.{far, span_far, keeps_there, spans_changed, formats_kept, years_kept, spans_kept, lines_kept, live_kept}
 use Rattle.lpis_tables.proofs.WriteLemmas.{cast_null, cast_int, Adds, adds, keyed_more}
 
 -- the news of each INSERT
@@ -72,9 +73,7 @@ release_inside s base old new c year count before h =
     })
   where
     place : (s : Shape) → slice_get (schema_of s).tables 1 ≡ Some (release_table 1)
-    place New = refl
-    place First = refl
-    place Moved = refl
+    place = in_each _ refl refl refl
 
 -- one span more, however its row came to be written
 span_more : (s : Shape) (base : Database) (old new : State) (c : Content) (p : StoredSpan) → has_spans s ≡ true → Inside s base old c → Shows old new new.now old.committed true
@@ -82,27 +81,18 @@ span_more : (s : Shape) (base : Database) (old new : State) (c : Content) (p : S
 span_more s base old new c p spans before shown a =
     let m = before.holds.means in
     let db = old.now.trees in
-    let next = new.now.trees in
     let tree = span_tree s in
     let there = keeps_there (has_spans s) span_row c.spans (db tree) spans m.spans_are in
     inside_next s s base old new c _ before shown (record {
       schema = a.schema;
       sound = a.sound;
-      means = record {
-        formats_are = formats_kept s tree db next c a.others m (far_span s 0 refl refl);
-        years_are = years_kept s tree db next c a.others m (far_span s 1 refl refl);
-        spans_are = there_keeps (has_spans s) span_row (p ∷ c.spans) (next tree) spans
-            (IsPermutation-trans _ _ _ (IsPermutation-cons _ _ _ there.0) (IsPermutation-map (drop 1) _ _ a.more))
-            (subst AreKeyed (sym a.rows) (keyed_more (db tree) (next_rowid (db tree)) (span_row p) there.1 a.fresh));
-        lines_are = lines_kept s tree db next c a.others m (far_span s 4 refl refl);
-        live_are = live_kept s tree db next c a.others m (live_not_span s);
-      };
+      means = spans_changed s db new.now.trees c (p ∷ c.spans) spans a.others m
+          (IsPermutation-trans _ _ _ (IsPermutation-cons _ _ _ there.0) (IsPermutation-map (drop 1) _ _ a.more))
+          (subst AreKeyed (sym a.rows) (keyed_more (db tree) (next_rowid (db tree)) (span_row p) there.1 a.fresh));
     })
 
 pub span_stands : (s : Shape) → has_spans s ≡ true → slice_get (schema_of s).tables (span_place s) ≡ Some (span_table (span_tree s))
-span_stands New is = refl
-span_stands First is = absurd (let e = is in cc)
-span_stands Moved is = refl
+span_stands = in_each _ (λ is. refl) (λ is. absurd (true≢false (sym is))) (λ is. refl)
 
 pub span_inside : (s : Shape) (base : Database) (old new : State) (c : Content) (id : List ℕ) (since : ℤ) (count : ℕ) → has_spans s ≡ true → Inside s base old c
     → ExecutesInside 0 insert_span (Text id ∷ Int since ∷ []) old new (Ok count) → Inside s base new (with_span since c id)
@@ -141,6 +131,4 @@ line_inside s base old new c l count before h =
     })
   where
     place : (s : Shape) → slice_get (schema_of s).tables 3 ≡ Some (row_table 4)
-    place New = refl
-    place First = refl
-    place Moved = refl
+    place = in_each _ refl refl refl

@@ -1,5 +1,5 @@
 -- What the texts mean, in each order of the tables.
-use Rattle.std.proofs.Common.{◌≡◌, ℕ, Ok, refl, codes, [], ◌∷◌, None, true, false, pos, negsuc, List}
+use Rattle.std.proofs.Common.{◌≡◌, ℕ, Ok, refl, codes, [], ◌∷◌, None, true, false, pos, negsuc, List, sym, true≢false}
 use Rattle.sqlite.specs.declared.types.Value.TheVariants.{Null, Int}
 use Rattle.sqlite.specs.Compile.{table_defined_by}
 use Rattle.sqlite.specs.Term.{Term, lit, col, op2}
@@ -84,6 +84,12 @@ live_query = from_all 2 [] (col 1 1 ∷ col 1 2 ∷ []) ((col 1 1, ascending) �
 abbrev pub format_query : Query
 format_query = from_all 0 [] (col 1 0 ∷ col 1 2 ∷ []) []
 
+-- what holds of each order of the tables
+pub in_each : (P : Shape → Type 0) → P New → P First → P Moved → (s : Shape) → P s
+in_each P new first moved New = new
+in_each P new first moved First = first
+in_each P new first moved Moved = moved
+
 -- what a text that writes means
 abbrev pub Says : Shape → List ℕ → Command → Type 0
 Says s sql command = (command_of (understood (schema_of s) sql) ≡ command) × IsPlain (understood (schema_of s) sql)
@@ -94,87 +100,59 @@ Asks s sql q names = (command_of (understood (schema_of s) sql) ≡ Select (whol
 
 pub insert_format_means : (s : Shape) → Says s insert_format (Insert 0 (Values format_terms 3))
 unfolding understood everything
-insert_format_means New = (refl, (refl, refl))
-insert_format_means First = (refl, (refl, refl))
-insert_format_means Moved = (refl, (refl, refl))
+insert_format_means = in_each _ (refl, (refl, refl)) (refl, (refl, refl)) (refl, (refl, refl))
 
 pub insert_release_means : (s : Shape) → Says s insert_release (Insert 1 (Values release_terms 2))
 unfolding understood everything
-insert_release_means New = (refl, (refl, refl))
-insert_release_means First = (refl, (refl, refl))
-insert_release_means Moved = (refl, (refl, refl))
+insert_release_means = in_each _ (refl, (refl, refl)) (refl, (refl, refl)) (refl, (refl, refl))
 
 pub insert_line_means : (s : Shape) → Says s insert_line (Insert 3 (Values line_terms 5))
 unfolding understood everything
-insert_line_means New = (refl, (refl, refl))
-insert_line_means First = (refl, (refl, refl))
-insert_line_means Moved = (refl, (refl, refl))
+insert_line_means = in_each _ (refl, (refl, refl)) (refl, (refl, refl)) (refl, (refl, refl))
 
 pub insert_span_means : (s : Shape) → has_spans s ≡ true → Says s insert_span (Insert (span_place s) (Values span_terms 4))
 unfolding understood everything
-insert_span_means New p = (refl, (refl, refl))
-insert_span_means First p = absurd (let e = p in cc)
-insert_span_means Moved p = (refl, (refl, refl))
+insert_span_means = in_each _ (λ p. (refl, (refl, refl))) (λ p. absurd (true≢false (sym p))) (λ p. (refl, (refl, refl)))
 
 pub insert_whole_span_means : (s : Shape) → has_spans s ≡ true → Says s insert_whole_span (Insert (span_place s) (Values whole_span_terms 4))
 unfolding understood everything
-insert_whole_span_means New p = (refl, (refl, refl))
-insert_whole_span_means First p = absurd (let e = p in cc)
-insert_whole_span_means Moved p = (refl, (refl, refl))
+insert_whole_span_means = in_each _ (λ p. (refl, (refl, refl))) (λ p. absurd (true≢false (sym p))) (λ p. (refl, (refl, refl)))
 
 pub end_span_means : (s : Shape) → has_spans s ≡ true → Says s end_span (Update (span_place s) (whole (ends_query (span_tree s))))
 unfolding understood everything
-end_span_means New p = (refl, (refl, refl))
-end_span_means First p = absurd (let e = p in cc)
-end_span_means Moved p = (refl, (refl, refl))
+end_span_means = in_each _ (λ p. (refl, (refl, refl))) (λ p. absurd (true≢false (sym p))) (λ p. (refl, (refl, refl)))
 
 pub clear_span_means : (s : Shape) → has_spans s ≡ true → Says s clear_span (Delete (span_place s) (whole (ids_query (span_tree s))))
 unfolding understood everything
-clear_span_means New p = (refl, (refl, refl))
-clear_span_means First p = absurd (let e = p in cc)
-clear_span_means Moved p = (refl, (refl, refl))
+clear_span_means = in_each _ (λ p. (refl, (refl, refl))) (λ p. absurd (true≢false (sym p))) (λ p. (refl, (refl, refl)))
 
 pub clear_live_means : (s : Shape) → has_live s ≡ true → Says s clear_live (Delete 2 (whole (ids_query 2)))
 unfolding understood everything
-clear_live_means New p = absurd (let e = p in cc)
-clear_live_means First p = (refl, (refl, refl))
-clear_live_means Moved p = (refl, (refl, refl))
+clear_live_means = in_each _ (λ p. absurd (true≢false (sym p))) (λ p. (refl, (refl, refl))) (λ p. (refl, (refl, refl)))
 
 pub set_version_means : (s : Shape) → Says s set_version (Update 0 (whole version_query))
 unfolding understood everything
-set_version_means New = (refl, (refl, refl))
-set_version_means First = (refl, (refl, refl))
-set_version_means Moved = (refl, (refl, refl))
+set_version_means = in_each _ (refl, (refl, refl)) (refl, (refl, refl)) (refl, (refl, refl))
 
 pub read_format_means : (s : Shape) → Asks s read_format (format_query) (codes "one" ∷ codes "version" ∷ [])
 unfolding understood everything
-read_format_means New = (refl, refl, (refl, refl))
-read_format_means First = (refl, refl, (refl, refl))
-read_format_means Moved = (refl, refl, (refl, refl))
+read_format_means = in_each _ (refl, refl, (refl, refl)) (refl, refl, (refl, refl)) (refl, refl, (refl, refl))
 
 pub read_release_means : (s : Shape) → Asks s read_release (release_query) (codes "year" ∷ [])
 unfolding understood everything
-read_release_means New = (refl, refl, (refl, refl))
-read_release_means First = (refl, refl, (refl, refl))
-read_release_means Moved = (refl, refl, (refl, refl))
+read_release_means = in_each _ (refl, refl, (refl, refl)) (refl, refl, (refl, refl)) (refl, refl, (refl, refl))
 
 pub read_span_means : (s : Shape) → has_spans s ≡ true → Asks s read_span (span_query (span_tree s)) (codes "id" ∷ codes "since" ∷ codes "until" ∷ [])
 unfolding understood everything
-read_span_means New p = (refl, refl, (refl, refl))
-read_span_means First p = absurd (let e = p in cc)
-read_span_means Moved p = (refl, refl, (refl, refl))
+read_span_means = in_each _ (λ p. (refl, refl, (refl, refl))) (λ p. absurd (true≢false (sym p))) (λ p. (refl, refl, (refl, refl)))
 
 pub read_line_means : (s : Shape) → Asks s read_line (line_query) (codes "year" ∷ codes "pos" ∷ codes "old" ∷ codes "new" ∷ [])
 unfolding understood everything
-read_line_means New = (refl, refl, (refl, refl))
-read_line_means First = (refl, refl, (refl, refl))
-read_line_means Moved = (refl, refl, (refl, refl))
+read_line_means = in_each _ (refl, refl, (refl, refl)) (refl, refl, (refl, refl)) (refl, refl, (refl, refl))
 
 pub read_live_means : (s : Shape) → has_live s ≡ true → Asks s read_live (live_query) (codes "year" ∷ codes "id" ∷ [])
 unfolding understood everything
-read_live_means New p = absurd (let e = p in cc)
-read_live_means First p = (refl, refl, (refl, refl))
-read_live_means Moved p = (refl, refl, (refl, refl))
+read_live_means = in_each _ (λ p. absurd (true≢false (sym p))) (λ p. (refl, refl, (refl, refl))) (λ p. (refl, refl, (refl, refl)))
 
 -- the text makes this table
 pub record Makes (sql : List ℕ) (from into_ : Schema) (made : Table) : Type 0 where

@@ -27,7 +27,7 @@ use Rattle.lpis_tables.specs.Shapes.{Shape, New, First, Moved, schema_of, has_li
 use Rattle.lpis_tables.specs.private.Texts.{make_span, set_version}
 use Rattle.lpis_tables.specs.Holding.{AreKeyed, Keeps, format_row, year_row, span_row, line_row, live_row}
 use Rattle.lpis_tables.specs.private.Inside.{Inside}
-use Rattle.lpis_tables.proofs.MeaningLemmas.{whole, version_query, set_version_means, span_moves}
+use Rattle.lpis_tables.proofs.MeaningLemmas.{in_each, whole, version_query, set_version_means, span_moves}
 use Rattle.lpis_tables.proofs.ClearLemmas.{all_kept, none_kept, none_keyed}
 use Rattle.lpis_tables.proofs.InsertLemmas.{inside_next}
 use Rattle.lpis_tables.proofs.PartLemmas.{far, span_far, years_kept, spans_kept, lines_kept, live_kept}
@@ -105,9 +105,7 @@ one_keyed n rows same = record { whole = λ x there. (pos 1, ap rowid (is x ther
         only (inr none) = absurd none
 
 format_stands : (s : Shape) → slice_get (schema_of s).tables 0 ≡ Some (format_table 0)
-format_stands New = refl
-format_stands First = refl
-format_stands Moved = refl
+format_stands = in_each _ refl refl refl
 
 pub version_inside : (s : Shape) (base : Database) (old new : State) (c : Content) (count : ℕ) → c.formats ≡ only_format 1 → Inside s base old c
     → ExecutesInside 0 set_version [] old new (Ok count) → Inside s base new (with_version (pos 2) c)
@@ -159,19 +157,13 @@ version_inside s base old new c count one before h =
 -- ---- the steps joined
 
 pub spans_stand : (s : Shape) → has_spans (with_span_table s) ≡ true
-spans_stand New = refl
-spans_stand First = refl
-spans_stand Moved = refl
+spans_stand = in_each _ refl refl refl
 
 pub stands_already : (s : Shape) → has_spans s ≡ true → with_span_table s ≡ s
-stands_already New is = refl
-stands_already First is = absurd (true≢false (sym is))
-stands_already Moved is = refl
+stands_already = in_each _ (λ is. refl) (λ is. absurd (true≢false (sym is))) (λ is. refl)
 
 pub live_as_before : (s : Shape) → has_live (with_span_table s) ≡ has_live s
-live_as_before New = refl
-live_as_before First = refl
-live_as_before Moved = refl
+live_as_before = in_each _ refl refl refl
 
 pub formats_stay : (spans : List StoredSpan) (c : Content) → (with_whole_spans spans c).formats ≡ c.formats
 formats_stay [] c = refl

@@ -5,7 +5,7 @@ use Rattle.std.specs.Prelude.{nat_eq}
 use Rattle.sqlite.specs.Order.{Row}
 use Rattle.sqlite.specs.Tree.{Trees}
 use Rattle.sqlite.specs.Program.{overlay}
-use Rattle.lpis_records.specs.Content.{Content}
+use Rattle.lpis_records.specs.Content.{Content, StoredSpan}
 use Rattle.lpis_tables.specs.Shapes.{Shape, New, First, Moved, has_spans, has_live, span_tree}
 use Rattle.lpis_tables.specs.Holding.{AreKeyed, Keeps, Means, format_row, year_row, span_row, line_row, live_row}
 use Rattle.lpis_tables.proofs.WriteLemmas.{Kept}
@@ -60,6 +60,17 @@ module _ (s : Shape) (at : ℕ) (db next : Trees) (c : Content) (k : Kept s at d
 
   pub live_kept : (has_live s ≡ true → 2 ≡ at → ⊥) → Keeps (has_live s) live_row c.live (next 2)
   live_kept ne = keeps_same (has_live s) live_row c.live (db 2) (next 2) (λ is. k.live is (ne is)) m.live_are
+
+-- where only the spans change
+pub spans_changed : (s : Shape) (db next : Trees) (c : Content) (ss : List StoredSpan) → has_spans s ≡ true → Kept s (span_tree s) db next → Means s db c
+    → IsPermutation (map span_row ss) (map (drop 1) (next (span_tree s))) → AreKeyed (next (span_tree s)) → Means s next (record c { spans = ss })
+spans_changed s db next c ss spans k m same keyed = record {
+  formats_are = formats_kept s (span_tree s) db next c k m (far_span s 0 refl refl);
+  years_are = years_kept s (span_tree s) db next c k m (far_span s 1 refl refl);
+  spans_are = there_keeps (has_spans s) span_row ss (next (span_tree s)) spans same keyed;
+  lines_are = lines_kept s (span_tree s) db next c k m (far_span s 4 refl refl);
+  live_are = live_kept s (span_tree s) db next c k m (live_not_span s);
+}
 
 -- no query of the register has trees of its own
 pub own_spans : (s : Shape) (db : Trees) → overlay db [] (span_tree s) ≡ db (span_tree s)

@@ -34,8 +34,8 @@ then f told reads = record {
 }
 
 -- or fails
-pub then_fails : {P Q : Shape → Type 0} {Says : Content → Type 0} {X Y D E : Type 0} {More : Content → X → Type 0} {All : Content → Y → Type 0} {a b c : State} {d : D} {r : Result Y E} {Why : E → Type 0}
-    → (e : E) × (r ≡ Err e) × Why e → ((s : Shape) → P s → Q s) → Told P Says a b → Reads Q More b c (Err d) → Reads P All a c r
+pub then_fails : {P Q : Shape → Type 0} {Says : Content → Type 0} {X Y D E : Type 0} {More : Content → X → Type 0} {All : Content → Y → Type 0} {a b c : State} {d : D} {r : Result Y E}
+    {Why : E → Type 0} → (e : E) × (r ≡ Err e) × Why e → ((s : Shape) → P s → Q s) → Told P Says a b → Reads Q More b c (Err d) → Reads P All a c r
 then_fails failed f told reads = rw failed.1 (record {
   ok = λ clean s p content h. tt;
   same = λ clean up s p content h. reads.same clean up s (f s p) content (told.says (omega (arith, reads.survives.clean)) s p content h).1;

@@ -1,5 +1,5 @@
 -- What the queries show.
-use Rattle.std.proofs.Common.{◌≡◌, ◌⊎◌, inl, inr, ℕ, ℤ, List, [], ◌∷◌, map, drop, Ok, Err, Result, IfOk, OnOk, refl, sym, ap, ap₂, subst, ◌∙◌, IsPermutation, IsTrue, true}
+use Rattle.std.proofs.Common.{◌≡◌, ◌⊎◌, inl, inr, ℕ, List, [], ◌∷◌, map, drop, Ok, Err, Result, IfOk, refl, sym, ap, ap₂, subst, ◌∙◌, IsPermutation, IsTrue, true}
 use Rattle.std.specs.Prelude.{IfErr, Vec, IsSorted}
 use Rattle.std.specs.declared.alloc.Global.{Global}
 use Rattle.std.proofs.lemmas.List.{map-id}
@@ -18,7 +18,7 @@ use Rattle.sqlite.specs.declared.error.Error.{Error}
 use Rattle.sqlite.specs.State.{State, Shown, IsUnchanged, IsRolledBack, IsNotRun, FailsToQuery, FailsToShow, ShowsRows, HasCleanDisk, Survives, CommitsShowing}
 use Rattle.sqlite.proofs.Callers.{reads_as, IsPlain, never_commits}
 use Rattle.sqlite.proofs.StateLemmas.{survives_weaker}
-use Rattle.lpis_records.specs.Content.{Content, Format, StoredSpan, Line, Live}
+use Rattle.lpis_records.specs.Content.{Content, Format}
 use Rattle.lpis_tables.specs.Shapes.{Shape, schema_of, has_spans, has_live, span_tree}
 use Rattle.lpis_tables.specs.private.Texts.{read_format, read_release, read_span, read_line, read_live}
 use Rattle.lpis_tables.specs.Holding.{Holds, IsStored, format_row, year_row, span_row, line_row, live_row}
@@ -155,12 +155,12 @@ fails_same sql params old new e plain (inr h) =
     let it = subst (FailsToShow old new sql h.0 (timed params h.0.formats h.1.now) e) none h.2 in inl it.3
 
 -- a query reads
-pub by_query : (P : Shape → Type 0) (sql : List ℕ) (Says : Content → Vec Row Global → Type 0) (old new : State) (r : Result (Vec Row Global) Error)
+pub by_query : {P : Shape → Type 0} {Says : Content → Vec Row Global → Type 0} {old new : State} {r : Result (Vec Row Global) Error} (sql : List ℕ)
     → ((s : Shape) → P s → IsPlain (understood (schema_of s) sql))
     → ((s : Shape) → P s → (c : Content) (rows : Vec Row Global) → IsStored s old c → Shown sql [] old new rows.items → Says c rows)
     → (HasCleanDisk new → IfOk r (λ rows. Shown sql [] old new rows.items)) → (HasCleanDisk new → IfErr r (FailsToQuery sql [] old new))
     → Survives old new (CommitsShowing sql [] old) → Reads P Says old new r
-by_query P sql Says old new r plain says ok err survives = go r ok err
+by_query {P = P} {Says = Says} {old = old} {new = new} {r = r} sql plain says ok err survives = read r ok err
   where
     plain_here : (s : Shape) → P s → (c : Content) → IsStored s old c → IsPlain (understood old.now.schema sql)
     plain_here s p c h = subst (λ it. IsPlain (understood it sql)) (sym h.holds.schema) (plain s p)
@@ -168,12 +168,13 @@ by_query P sql Says old new r plain says ok err survives = go r ok err
     quiet : Survives old new (LeavesNone P old)
     quiet = survives_weaker old new _ _ (λ _ db may s p c h. never_commits sql [] old db (plain_here s p c h) may) survives
 
-    go : (r : Result (Vec Row Global) Error) → (HasCleanDisk new → IfOk r (λ rows. Shown sql [] old new rows.items)) → (HasCleanDisk new → IfErr r (FailsToQuery sql [] old new)) → Reads P Says old new r
-    go (Ok rows) ok err =
+    read : (r : Result (Vec Row Global) Error) → (HasCleanDisk new → IfOk r (λ rows. Shown sql [] old new rows.items)) → (HasCleanDisk new → IfErr r (FailsToQuery sql [] old new))
+        → Reads P Says old new r
+    read (Ok rows) ok err =
         let stays : HasCleanDisk new → (s : Shape) → P s → (c : Content) → IsStored s old c → IsStored s new c = λ clean s p c h. still s old new c h
         (shown_same sql [] old new rows.items (plain_here s p c h) (ok clean)) in
         record { ok = λ clean s p c h. (says s p c rows h (ok clean), stays clean s p c h); same = λ clean up. stays clean; survives = quiet }
-    go (Err e) ok err = record {
+    read (Err e) ok err = record {
       ok = λ clean s p c h. tt;
       same = λ clean up s p c h. elim (fails_same sql [] old new e (plain_here s p c h) (err clean)) [
         | inl same ↦ still s old new c h same

@@ -1,9 +1,10 @@
 -- How the steps of a publication join.
-use Rattle.std.proofs.Common.{◌≡◌, [], refl, sym, ap, subst, ◌∙◌, false, true, Ok, Err, Result, OnOk, inl, inr, IsTrue}
+use Rattle.std.proofs.Common.{◌≡◌, ◌+◌, ℕ, List, [], arith, length, take, refl, sym, ap, subst, ◌∙◌, false, true, Ok, Err, Result, OnOk, inl, inr, IsTrue}
 use Rattle.std.specs.Prelude.{◌⊎◌, IfErr, OnErr}
+use Rattle.std.proofs.Math.Seq.{take-length}
 use Rattle.sqlite.specs.Tree.{Trees}
 use Rattle.sqlite.specs.Effect.{Database}
-use Rattle.sqlite.specs.State.{State, Shows, KeepsCounts, IsRolledBack, HasCleanDisk, KeepsCommit, Survives}
+use Rattle.sqlite.specs.State.{State, Shows, KeepsCounts, IsRolledBack, HasCleanDisk, Survives}
 use Rattle.sqlite.specs.Steps.{FailsToCommit}
 use Rattle.sqlite.specs.Held.{Held, state}
 use Rattle.sqlite.specs.declared.error.Error.{Error}
@@ -11,16 +12,29 @@ use Rattle.sqlite_trees.specs.declared.store.Store as store
 use Rattle.sqlite.proofs.StateLemmas.{survives_then}
 use Rattle.lpis_records.specs.Content.{Content}
 use Rattle.lpis_tables.specs.Shapes.{Shape, no_schema}
-use Rattle.lpis_tables.specs.private.Inside.{Inside}
+use Rattle.lpis_tables.specs.private.Inside.{Inside, IsQuiet, Turns}
 use Rattle.lpis_tables.specs.Holding.{IsStored, Leaves, Holds}
 use Rattle.lpis_tables.specs.Bare.{IsBare}
 use Rattle.lpis_tables.specs.private.Stages.{Stage}
 
-pub kept_then : (a b c : State) → KeepsCommit a b → KeepsCommit b c → KeepsCommit a c
-kept_then a b c p q = record { was_open = λ o. p.was_open (q.was_open o); committed = λ o. q.committed o ∙ p.committed (q.was_open o) }
+pub quiet_on : (a b c : State) → IsQuiet a b → IsQuiet b c → IsQuiet a c
+quiet_on a b c one two = record {
+  kept = λ clean.
+      let p = one.kept (omega (arith, two.survives.clean)) in
+      let q = two.kept clean in record { was_open = λ o. p.was_open (q.was_open o); committed = λ o. q.committed o ∙ p.committed (q.was_open o) };
+  survives = survives_then a b c (λ _. ⊥) (λ _. ⊥) (λ _. ⊥) (λ _ db none. none) (λ _ db none. none) one.survives two.survives;
+}
 
-pub quiet_then : (a b c : State) → Survives a b (λ _. ⊥) → Survives b c (λ _. ⊥) → Survives a c (λ _. ⊥)
-quiet_then a b c = survives_then a b c (λ _. ⊥) (λ _. ⊥) (λ _. ⊥) (λ _ db none. none) (λ _ db none. none)
+-- one step more of a loop
+pub one_more : (P : Shape → Type 0) (turn : ℕ → Content → Content) (step : Content → Content) (i : ℕ) (old mid now : State) → IsQuiet mid now → Turns P (turn i) old mid (Ok tt)
+    → Turns P step mid now (Ok tt) → ((c : Content) → step (turn i c) ≡ turn (i + 1) c) → Turns P (turn (i + 1)) old now (Ok tt)
+one_more P turn step i old mid now quiet before after next clean shape p base c h =
+    subst (Inside shape base now) (next c) (after clean shape p base (turn i c) (before (omega (arith, quiet.survives.clean)) shape p base c h))
+
+-- and its end
+pub at_end : {Y : Type 0} (P : Shape → Type 0) (turn : List Y → Content → Content) (xs : List Y) (i : ℕ) (old now : State) → i ≡ length xs → Turns P (turn (take i xs)) old now (Ok tt)
+    → Turns P (turn xs) old now (Ok tt)
+at_end P turn xs i old now ends h = subst (λ ys. Turns P (turn ys) old now (Ok tt)) (ap (λ n. take n xs) ends ∙ take-length xs) h
 
 pub begun_inside : (s : Shape) {S : Type 0} (g : store.Ghosts S) (old now : Held S) (c : Content) → now ≡ record old { in_transaction = true } → IsStored s (state g old) c
     → Inside s (state g old).now (state g now) c

@@ -2,12 +2,12 @@
 
 ghost use Rattle.std.specs.Prelude.{◌≡◌, pos, true, false, IsTrue, OnOk, OnErr};
 ghost use Rattle.sqlite.specs.Held.{state};
-ghost use Rattle.sqlite.specs.State.{HasCleanDisk, KeepsCommit, Survives};
+ghost use Rattle.sqlite.specs.State.{HasCleanDisk, Survives};
 ghost use Rattle.lpis_records.specs.Content.{moved, with_version, with_whole_span};
 ghost use Rattle.lpis_records.specs.Content.{with_whole_spans, without_live, without_spans};
 ghost use Rattle.lpis_records.specs.Tells.{only_format};
 ghost use Rattle.lpis_tables.specs.Shapes.{First, Moved, has_live, has_spans, with_span_table};
-ghost use Rattle.lpis_tables.specs.private.Inside.{Inside};
+ghost use Rattle.lpis_tables.specs.private.Inside.{Inside, IsQuiet, Turns};
 ghost use Rattle.lpis_tables.specs.Holding.{IsStored};
 ghost use Rattle.lpis_tables.specs.private.Lines.{span_at};
 ghost use Rattle.lpis_tables.specs.Commits.{LeavesBeside, LeavesMoved};
@@ -19,14 +19,9 @@ use sqlite::{Alter, Connection, Error, Transaction, params};
 /// No span is left.
 fn clear_spans<S: Alter>(tx: &mut Transaction<'_, S>) -> Result<(), Error>
     ensures same_reference { tx.new.conn.ghost_name ≡ tx.old.conn.ghost_name }
-    ensures cleared { HasCleanDisk (state S.Store tx.new.conn.now) → (shape : _)
-        → has_spans shape ≡ true → (base : _) (c : _)
-        → Inside shape base (state S.Store tx.old.conn.now) c
-        → OnOk result (Inside shape base (state S.Store tx.new.conn.now) (without_spans c)) }
-    ensures kept { HasCleanDisk (state S.Store tx.new.conn.now)
-        → KeepsCommit (state S.Store tx.old.conn.now) (state S.Store tx.new.conn.now) }
-    ensures survives { Survives (state S.Store tx.old.conn.now) (state S.Store tx.new.conn.now)
-        (λ _. ⊥) }
+    ensures cleared { Turns (λ shape. has_spans shape ≡ true) without_spans
+        (state S.Store tx.old.conn.now) (state S.Store tx.new.conn.now) result }
+    ensures quiet { IsQuiet (state S.Store tx.old.conn.now) (state S.Store tx.new.conn.now) }
 {
     tx.execute("DELETE FROM lpis_span", &[])?;
     Ok(())
@@ -35,14 +30,9 @@ fn clear_spans<S: Alter>(tx: &mut Transaction<'_, S>) -> Result<(), Error>
 /// Nothing is left of what version 1 has in place of spans.
 fn clear_lives<S: Alter>(tx: &mut Transaction<'_, S>) -> Result<(), Error>
     ensures same_reference { tx.new.conn.ghost_name ≡ tx.old.conn.ghost_name }
-    ensures cleared { HasCleanDisk (state S.Store tx.new.conn.now) → (shape : _)
-        → has_live shape ≡ true → (base : _) (c : _)
-        → Inside shape base (state S.Store tx.old.conn.now) c
-        → OnOk result (Inside shape base (state S.Store tx.new.conn.now) (without_live c)) }
-    ensures kept { HasCleanDisk (state S.Store tx.new.conn.now)
-        → KeepsCommit (state S.Store tx.old.conn.now) (state S.Store tx.new.conn.now) }
-    ensures survives { Survives (state S.Store tx.old.conn.now) (state S.Store tx.new.conn.now)
-        (λ _. ⊥) }
+    ensures cleared { Turns (λ shape. has_live shape ≡ true) without_live
+        (state S.Store tx.old.conn.now) (state S.Store tx.new.conn.now) result }
+    ensures quiet { IsQuiet (state S.Store tx.old.conn.now) (state S.Store tx.new.conn.now) }
 {
     tx.execute("DELETE FROM lpis_live", &[])?;
     Ok(())
@@ -55,10 +45,7 @@ fn set_version<S: Alter>(tx: &mut Transaction<'_, S>) -> Result<(), Error>
         → c.formats ≡ only_format 1
         → Inside shape base (state S.Store tx.old.conn.now) c
         → OnOk result (Inside shape base (state S.Store tx.new.conn.now) (with_version (pos 2) c)) }
-    ensures kept { HasCleanDisk (state S.Store tx.new.conn.now)
-        → KeepsCommit (state S.Store tx.old.conn.now) (state S.Store tx.new.conn.now) }
-    ensures survives { Survives (state S.Store tx.old.conn.now) (state S.Store tx.new.conn.now)
-        (λ _. ⊥) }
+    ensures quiet { IsQuiet (state S.Store tx.old.conn.now) (state S.Store tx.new.conn.now) }
 {
     tx.execute("UPDATE lpis_format SET version = 2", &[])?;
     Ok(())
@@ -72,15 +59,10 @@ fn insert_span_at<S: Alter>(
     until: i64,
 ) -> Result<(), Error>
     ensures same_reference { tx.new.conn.ghost_name ≡ tx.old.conn.ghost_name }
-    ensures adds { HasCleanDisk (state S.Store tx.new.conn.now) → (shape : _)
-        → has_spans shape ≡ true → (base : _) (c : _)
-        → Inside shape base (state S.Store tx.old.conn.now) c
-        → OnOk result (Inside shape base (state S.Store tx.new.conn.now)
-        (with_whole_span c (span_at id.now since until))) }
-    ensures kept { HasCleanDisk (state S.Store tx.new.conn.now)
-        → KeepsCommit (state S.Store tx.old.conn.now) (state S.Store tx.new.conn.now) }
-    ensures survives { Survives (state S.Store tx.old.conn.now) (state S.Store tx.new.conn.now)
-        (λ _. ⊥) }
+    ensures adds { Turns (λ shape. has_spans shape ≡ true) (λ c. with_whole_span c
+        (span_at id.now since until)) (state S.Store tx.old.conn.now)
+        (state S.Store tx.new.conn.now) result }
+    ensures quiet { IsQuiet (state S.Store tx.old.conn.now) (state S.Store tx.new.conn.now) }
 {
     tx.execute(
         "INSERT INTO lpis_span (id, since, until) VALUES (?1, ?2, ?3)",
@@ -92,15 +74,9 @@ fn insert_span_at<S: Alter>(
 /// One more span.
 fn insert_whole_span<S: Alter>(tx: &mut Transaction<'_, S>, span: &SpanRow) -> Result<(), Error>
     ensures same_reference { tx.new.conn.ghost_name ≡ tx.old.conn.ghost_name }
-    ensures adds { HasCleanDisk (state S.Store tx.new.conn.now) → (shape : _)
-        → has_spans shape ≡ true → (base : _) (c : _)
-        → Inside shape base (state S.Store tx.old.conn.now) c
-        → OnOk result (Inside shape base (state S.Store tx.new.conn.now)
-        (with_whole_span c span.now)) }
-    ensures kept { HasCleanDisk (state S.Store tx.new.conn.now)
-        → KeepsCommit (state S.Store tx.old.conn.now) (state S.Store tx.new.conn.now) }
-    ensures survives { Survives (state S.Store tx.old.conn.now) (state S.Store tx.new.conn.now)
-        (λ _. ⊥) }
+    ensures adds { Turns (λ shape. has_spans shape ≡ true) (λ c. with_whole_span c span.now)
+        (state S.Store tx.old.conn.now) (state S.Store tx.new.conn.now) result }
+    ensures quiet { IsQuiet (state S.Store tx.old.conn.now) (state S.Store tx.new.conn.now) }
 {
     let id = span.id();
     let since = span.since();
@@ -111,15 +87,9 @@ fn insert_whole_span<S: Alter>(tx: &mut Transaction<'_, S>, span: &SpanRow) -> R
 /// Spans, in this order.
 fn insert_whole_spans<S: Alter>(tx: &mut Transaction<'_, S>, spans: &[SpanRow]) -> Result<(), Error>
     ensures same_reference { tx.new.conn.ghost_name ≡ tx.old.conn.ghost_name }
-    ensures adds { HasCleanDisk (state S.Store tx.new.conn.now) → (shape : _)
-        → has_spans shape ≡ true → (base : _) (c : _)
-        → Inside shape base (state S.Store tx.old.conn.now) c
-        → OnOk result (Inside shape base (state S.Store tx.new.conn.now)
-        (with_whole_spans spans.now c)) }
-    ensures kept { HasCleanDisk (state S.Store tx.new.conn.now)
-        → KeepsCommit (state S.Store tx.old.conn.now) (state S.Store tx.new.conn.now) }
-    ensures survives { Survives (state S.Store tx.old.conn.now) (state S.Store tx.new.conn.now)
-        (λ _. ⊥) }
+    ensures adds { Turns (λ shape. has_spans shape ≡ true) (with_whole_spans spans.now)
+        (state S.Store tx.old.conn.now) (state S.Store tx.new.conn.now) result }
+    ensures quiet { IsQuiet (state S.Store tx.old.conn.now) (state S.Store tx.new.conn.now) }
 {
     for span in spans {
         insert_whole_span(tx, span)?;
@@ -135,10 +105,7 @@ fn empty_spans<S: Alter>(tx: &mut Transaction<'_, S>, there: bool) -> Result<(),
         → Inside shape base (state S.Store tx.old.conn.now) c
         → OnOk result (Inside (with_span_table shape) base (state S.Store tx.new.conn.now)
         (without_spans c)) }
-    ensures kept { HasCleanDisk (state S.Store tx.new.conn.now)
-        → KeepsCommit (state S.Store tx.old.conn.now) (state S.Store tx.new.conn.now) }
-    ensures survives { Survives (state S.Store tx.old.conn.now) (state S.Store tx.new.conn.now)
-        (λ _. ⊥) }
+    ensures quiet { IsQuiet (state S.Store tx.old.conn.now) (state S.Store tx.new.conn.now) }
 {
     if there {
         clear_spans(tx)
@@ -150,14 +117,9 @@ fn empty_spans<S: Alter>(tx: &mut Transaction<'_, S>, there: bool) -> Result<(),
 /// Nothing is left in `lpis_live`, where it is there.
 fn empty_lives<S: Alter>(tx: &mut Transaction<'_, S>, there: bool) -> Result<(), Error>
     ensures same_reference { tx.new.conn.ghost_name ≡ tx.old.conn.ghost_name }
-    ensures emptied { HasCleanDisk (state S.Store tx.new.conn.now) → (shape : _)
-        → there ≡ has_live shape → (base : _) (c : _)
-        → Inside shape base (state S.Store tx.old.conn.now) c
-        → OnOk result (Inside shape base (state S.Store tx.new.conn.now) (without_live c)) }
-    ensures kept { HasCleanDisk (state S.Store tx.new.conn.now)
-        → KeepsCommit (state S.Store tx.old.conn.now) (state S.Store tx.new.conn.now) }
-    ensures survives { Survives (state S.Store tx.old.conn.now) (state S.Store tx.new.conn.now)
-        (λ _. ⊥) }
+    ensures emptied { Turns (λ shape. there ≡ has_live shape) without_live
+        (state S.Store tx.old.conn.now) (state S.Store tx.new.conn.now) result }
+    ensures quiet { IsQuiet (state S.Store tx.old.conn.now) (state S.Store tx.new.conn.now) }
 {
     if there { clear_lives(tx) } else { Ok(()) }
 }
@@ -176,10 +138,7 @@ fn fill_moved<S: Alter>(
         → Inside shape base (state S.Store tx.old.conn.now) c
         → OnOk result (Inside (with_span_table shape) base (state S.Store tx.new.conn.now)
         (moved spans.now c)) }
-    ensures kept { HasCleanDisk (state S.Store tx.new.conn.now)
-        → KeepsCommit (state S.Store tx.old.conn.now) (state S.Store tx.new.conn.now) }
-    ensures survives { Survives (state S.Store tx.old.conn.now) (state S.Store tx.new.conn.now)
-        (λ _. ⊥) }
+    ensures quiet { IsQuiet (state S.Store tx.old.conn.now) (state S.Store tx.new.conn.now) }
 {
     empty_spans(tx, spans_there)?;
     insert_whole_spans(tx, spans)?;

@@ -2,11 +2,11 @@
 
 ghost use Rattle.std.specs.Prelude.{◌≡◌, pos, true, false, IsTrue, OnOk, OnErr};
 ghost use Rattle.sqlite.specs.Held.{state};
-ghost use Rattle.sqlite.specs.State.{HasCleanDisk, KeepsCommit, Survives};
+ghost use Rattle.sqlite.specs.State.{HasCleanDisk, Survives};
 ghost use Rattle.lpis_records.specs.Content.{with_year, with_spans, all_ended};
 ghost use Rattle.lpis_records.specs.Content.{published};
 ghost use Rattle.lpis_tables.specs.Shapes.{has_spans};
-ghost use Rattle.lpis_tables.specs.private.Inside.{Inside};
+ghost use Rattle.lpis_tables.specs.private.Inside.{IsQuiet, Turns};
 ghost use Rattle.lpis_tables.specs.Holding.{IsStored, Leaves};
 
 use crate::statements::insert_release;
@@ -24,16 +24,10 @@ fn fill<S: Alter>(
     fresh: &[Id],
 ) -> Result<(), Error>
     ensures same_reference { tx.new.conn.ghost_name ≡ tx.old.conn.ghost_name }
-    ensures adds { HasCleanDisk (state S.Store tx.new.conn.now) → (shape : _)
-        → has_spans shape ≡ true → (base : _) (c : _)
-        → Inside shape base (state S.Store tx.old.conn.now) c
-        → OnOk result (Inside shape base (state S.Store tx.new.conn.now)
-        (with_spans (pos year) fresh.now
-        (all_ended (pos last) dropped.now (with_year (pos year) c)))) }
-    ensures kept { HasCleanDisk (state S.Store tx.new.conn.now)
-        → KeepsCommit (state S.Store tx.old.conn.now) (state S.Store tx.new.conn.now) }
-    ensures survives { Survives (state S.Store tx.old.conn.now) (state S.Store tx.new.conn.now)
-        (λ _. ⊥) }
+    ensures adds { Turns (λ shape. has_spans shape ≡ true) (λ c. with_spans (pos year) fresh.now
+        (all_ended (pos last) dropped.now (with_year (pos year) c)))
+        (state S.Store tx.old.conn.now) (state S.Store tx.new.conn.now) result }
+    ensures quiet { IsQuiet (state S.Store tx.old.conn.now) (state S.Store tx.new.conn.now) }
 {
     insert_release(tx, year)?;
     end_spans(tx, last, dropped)?;

@@ -1,11 +1,10 @@
 //! The statements that write, one a function.
 
-ghost use Rattle.std.specs.Prelude.{◌≡◌, ◌<◌, ◌^◌, pos, true, OnOk};
+ghost use Rattle.std.specs.Prelude.{◌≡◌, ◌<◌, ◌^◌, pos, true};
 ghost use Rattle.sqlite.specs.Held.{state};
-ghost use Rattle.sqlite.specs.State.{HasCleanDisk, KeepsCommit, Survives};
 ghost use Rattle.lpis_records.specs.Content.{with_year, with_span, with_line, ended, text_of};
 ghost use Rattle.lpis_tables.specs.Shapes.{has_spans};
-ghost use Rattle.lpis_tables.specs.private.Inside.{Inside};
+ghost use Rattle.lpis_tables.specs.private.Inside.{IsQuiet, Turns};
 ghost use Rattle.lpis_tables.specs.private.Lines.{line_at, line_of};
 
 use lpis_covers::Id;
@@ -15,13 +14,9 @@ use sqlite::{Alter, Error, Transaction, params};
 /// One more release, inside a transaction.
 pub(crate) fn insert_release<S: Alter>(tx: &mut Transaction<'_, S>, year: u32) -> Result<(), Error>
     ensures same_reference { tx.new.conn.ghost_name ≡ tx.old.conn.ghost_name }
-    ensures adds { HasCleanDisk (state S.Store tx.new.conn.now) → (shape : _) → (base : _) (c : _)
-        → Inside shape base (state S.Store tx.old.conn.now) c
-        → OnOk result (Inside shape base (state S.Store tx.new.conn.now) (with_year (pos year) c)) }
-    ensures kept { HasCleanDisk (state S.Store tx.new.conn.now)
-        → KeepsCommit (state S.Store tx.old.conn.now) (state S.Store tx.new.conn.now) }
-    ensures survives { Survives (state S.Store tx.old.conn.now) (state S.Store tx.new.conn.now)
-        (λ _. ⊥) }
+    ensures adds { Turns (λ _. Unit {0}) (with_year (pos year))
+        (state S.Store tx.old.conn.now) (state S.Store tx.new.conn.now) result }
+    ensures quiet { IsQuiet (state S.Store tx.old.conn.now) (state S.Store tx.new.conn.now) }
 {
     tx.execute("INSERT INTO lpis_release (year) VALUES (?1)", params![year])?;
     Ok(())
@@ -34,15 +29,9 @@ pub(crate) fn insert_span<S: Alter>(
     id: &Id,
 ) -> Result<(), Error>
     ensures same_reference { tx.new.conn.ghost_name ≡ tx.old.conn.ghost_name }
-    ensures adds { HasCleanDisk (state S.Store tx.new.conn.now) → (shape : _)
-        → has_spans shape ≡ true → (base : _) (c : _)
-        → Inside shape base (state S.Store tx.old.conn.now) c
-        → OnOk result (Inside shape base (state S.Store tx.new.conn.now)
-        (with_span (pos year) c id.now)) }
-    ensures kept { HasCleanDisk (state S.Store tx.new.conn.now)
-        → KeepsCommit (state S.Store tx.old.conn.now) (state S.Store tx.new.conn.now) }
-    ensures survives { Survives (state S.Store tx.old.conn.now) (state S.Store tx.new.conn.now)
-        (λ _. ⊥) }
+    ensures adds { Turns (λ shape. has_spans shape ≡ true) (λ c. with_span (pos year) c id.now)
+        (state S.Store tx.old.conn.now) (state S.Store tx.new.conn.now) result }
+    ensures quiet { IsQuiet (state S.Store tx.old.conn.now) (state S.Store tx.new.conn.now) }
 {
     let id = id.as_str();
     tx.execute(
@@ -59,15 +48,9 @@ pub(crate) fn end_span<S: Alter>(
     id: &Id,
 ) -> Result<(), Error>
     ensures same_reference { tx.new.conn.ghost_name ≡ tx.old.conn.ghost_name }
-    ensures adds { HasCleanDisk (state S.Store tx.new.conn.now) → (shape : _)
-        → has_spans shape ≡ true → (base : _) (c : _)
-        → Inside shape base (state S.Store tx.old.conn.now) c
-        → OnOk result (Inside shape base (state S.Store tx.new.conn.now)
-        (ended (pos year) c id.now)) }
-    ensures kept { HasCleanDisk (state S.Store tx.new.conn.now)
-        → KeepsCommit (state S.Store tx.old.conn.now) (state S.Store tx.new.conn.now) }
-    ensures survives { Survives (state S.Store tx.old.conn.now) (state S.Store tx.new.conn.now)
-        (λ _. ⊥) }
+    ensures adds { Turns (λ shape. has_spans shape ≡ true) (λ c. ended (pos year) c id.now)
+        (state S.Store tx.old.conn.now) (state S.Store tx.new.conn.now) result }
+    ensures quiet { IsQuiet (state S.Store tx.old.conn.now) (state S.Store tx.new.conn.now) }
 {
     let id = id.as_str();
     tx.execute(
@@ -97,14 +80,10 @@ fn insert_line<S: Alter>(
 ) -> Result<(), Error>
     requires small { place < 2 ^ 63 }
     ensures same_reference { tx.new.conn.ghost_name ≡ tx.old.conn.ghost_name }
-    ensures adds { HasCleanDisk (state S.Store tx.new.conn.now) → (shape : _) → (base : _) (c : _)
-        → Inside shape base (state S.Store tx.old.conn.now) c
-        → OnOk result (Inside shape base (state S.Store tx.new.conn.now)
-        (with_line c (line_at (pos year) (pos place) old.now new.now))) }
-    ensures kept { HasCleanDisk (state S.Store tx.new.conn.now)
-        → KeepsCommit (state S.Store tx.old.conn.now) (state S.Store tx.new.conn.now) }
-    ensures survives { Survives (state S.Store tx.old.conn.now) (state S.Store tx.new.conn.now)
-        (λ _. ⊥) }
+    ensures adds { Turns (λ _. Unit {0}) (λ c. with_line c
+        (line_at (pos year) (pos place) old.now new.now)) (state S.Store tx.old.conn.now)
+        (state S.Store tx.new.conn.now) result }
+    ensures quiet { IsQuiet (state S.Store tx.old.conn.now) (state S.Store tx.new.conn.now) }
 {
     let place = place as i64;
     tx.execute(
@@ -123,14 +102,9 @@ pub(crate) fn insert_row<S: Alter>(
 ) -> Result<(), Error>
     requires small { place < 2 ^ 63 }
     ensures same_reference { tx.new.conn.ghost_name ≡ tx.old.conn.ghost_name }
-    ensures adds { HasCleanDisk (state S.Store tx.new.conn.now) → (shape : _) → (base : _) (c : _)
-        → Inside shape base (state S.Store tx.old.conn.now) c
-        → OnOk result (Inside shape base (state S.Store tx.new.conn.now)
-        (with_line c (line_of (pos year) (pos place) row.now))) }
-    ensures kept { HasCleanDisk (state S.Store tx.new.conn.now)
-        → KeepsCommit (state S.Store tx.old.conn.now) (state S.Store tx.new.conn.now) }
-    ensures survives { Survives (state S.Store tx.old.conn.now) (state S.Store tx.new.conn.now)
-        (λ _. ⊥) }
+    ensures adds { Turns (λ _. Unit {0}) (λ c. with_line c (line_of (pos year) (pos place) row.now))
+        (state S.Store tx.old.conn.now) (state S.Store tx.new.conn.now) result }
+    ensures quiet { IsQuiet (state S.Store tx.old.conn.now) (state S.Store tx.new.conn.now) }
 {
     let old = row.old.as_str();
     let new = heir_text(&row.new);

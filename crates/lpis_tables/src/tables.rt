@@ -2,12 +2,12 @@
 
 ghost use Rattle.std.specs.Prelude.{◌≡◌, false, IsTrue, OnOk, OnErr};
 ghost use Rattle.sqlite.specs.Held.{state};
-ghost use Rattle.sqlite.specs.State.{HasCleanDisk, KeepsCommit, Survives};
+ghost use Rattle.sqlite.specs.State.{HasCleanDisk, Survives};
 ghost use Rattle.lpis_records.specs.Content.{no_content};
 ghost use Rattle.lpis_tables.specs.Shapes.{New, First, Moved, schema_of, no_schema};
 ghost use Rattle.lpis_tables.specs.private.Stages.{one_table, two_tables, three_tables, Stage};
 ghost use Rattle.lpis_tables.specs.Bare.{IsBare};
-ghost use Rattle.lpis_tables.specs.private.Inside.{Inside};
+ghost use Rattle.lpis_tables.specs.private.Inside.{Inside, IsQuiet};
 ghost use Rattle.lpis_tables.specs.Holding.{IsStored};
 ghost use Rattle.lpis_tables.specs.Commits.{LeavesMade};
 
@@ -19,10 +19,7 @@ fn make_format<S: Alter>(tx: &mut Transaction<'_, S>) -> Result<(), Error>
     ensures made { HasCleanDisk (state S.Store tx.new.conn.now) → (base : _)
         → Stage no_schema base (state S.Store tx.old.conn.now)
         → OnOk result (Stage one_table base (state S.Store tx.new.conn.now)) }
-    ensures kept { HasCleanDisk (state S.Store tx.new.conn.now)
-        → KeepsCommit (state S.Store tx.old.conn.now) (state S.Store tx.new.conn.now) }
-    ensures survives { Survives (state S.Store tx.old.conn.now) (state S.Store tx.new.conn.now)
-        (λ _. ⊥) }
+    ensures quiet { IsQuiet (state S.Store tx.old.conn.now) (state S.Store tx.new.conn.now) }
 {
     tx.execute(
         "CREATE TABLE IF NOT EXISTS lpis_format (one INTEGER NOT NULL PRIMARY KEY, version INTEGER NOT NULL) STRICT",
@@ -37,10 +34,7 @@ fn make_release<S: Alter>(tx: &mut Transaction<'_, S>) -> Result<(), Error>
     ensures made { HasCleanDisk (state S.Store tx.new.conn.now) → (base : _)
         → Stage one_table base (state S.Store tx.old.conn.now)
         → OnOk result (Stage two_tables base (state S.Store tx.new.conn.now)) }
-    ensures kept { HasCleanDisk (state S.Store tx.new.conn.now)
-        → KeepsCommit (state S.Store tx.old.conn.now) (state S.Store tx.new.conn.now) }
-    ensures survives { Survives (state S.Store tx.old.conn.now) (state S.Store tx.new.conn.now)
-        (λ _. ⊥) }
+    ensures quiet { IsQuiet (state S.Store tx.old.conn.now) (state S.Store tx.new.conn.now) }
 {
     tx.execute(
         "CREATE TABLE IF NOT EXISTS lpis_release (year INTEGER NOT NULL PRIMARY KEY) STRICT",
@@ -58,10 +52,7 @@ pub(crate) fn make_span<S: Alter>(tx: &mut Transaction<'_, S>) -> Result<(), Err
     ensures beside { HasCleanDisk (state S.Store tx.new.conn.now) → (base : _) (c : _)
         → Inside First base (state S.Store tx.old.conn.now) c
         → OnOk result (Inside Moved base (state S.Store tx.new.conn.now) c) }
-    ensures kept { HasCleanDisk (state S.Store tx.new.conn.now)
-        → KeepsCommit (state S.Store tx.old.conn.now) (state S.Store tx.new.conn.now) }
-    ensures survives { Survives (state S.Store tx.old.conn.now) (state S.Store tx.new.conn.now)
-        (λ _. ⊥) }
+    ensures quiet { IsQuiet (state S.Store tx.old.conn.now) (state S.Store tx.new.conn.now) }
 {
     tx.execute(
         "CREATE TABLE IF NOT EXISTS lpis_span (id TEXT NOT NULL PRIMARY KEY, since INTEGER NOT NULL REFERENCES lpis_release (year), until INTEGER NOT NULL) STRICT",
@@ -76,10 +67,7 @@ fn make_row<S: Alter>(tx: &mut Transaction<'_, S>) -> Result<(), Error>
     ensures made { HasCleanDisk (state S.Store tx.new.conn.now) → (base : _)
         → Stage three_tables base (state S.Store tx.old.conn.now)
         → OnOk result (Stage (schema_of New) base (state S.Store tx.new.conn.now)) }
-    ensures kept { HasCleanDisk (state S.Store tx.new.conn.now)
-        → KeepsCommit (state S.Store tx.old.conn.now) (state S.Store tx.new.conn.now) }
-    ensures survives { Survives (state S.Store tx.old.conn.now) (state S.Store tx.new.conn.now)
-        (λ _. ⊥) }
+    ensures quiet { IsQuiet (state S.Store tx.old.conn.now) (state S.Store tx.new.conn.now) }
 {
     tx.execute(
         "CREATE TABLE IF NOT EXISTS lpis_row (year INTEGER NOT NULL REFERENCES lpis_release (year), pos INTEGER NOT NULL, old TEXT NOT NULL, new TEXT NOT NULL, PRIMARY KEY (year, pos)) STRICT",
@@ -94,10 +82,7 @@ fn insert_format<S: Alter>(tx: &mut Transaction<'_, S>) -> Result<(), Error>
     ensures begun { HasCleanDisk (state S.Store tx.new.conn.now) → (base : _)
         → Stage (schema_of New) base (state S.Store tx.old.conn.now)
         → OnOk result (Inside New base (state S.Store tx.new.conn.now) no_content) }
-    ensures kept { HasCleanDisk (state S.Store tx.new.conn.now)
-        → KeepsCommit (state S.Store tx.old.conn.now) (state S.Store tx.new.conn.now) }
-    ensures survives { Survives (state S.Store tx.old.conn.now) (state S.Store tx.new.conn.now)
-        (λ _. ⊥) }
+    ensures quiet { IsQuiet (state S.Store tx.old.conn.now) (state S.Store tx.new.conn.now) }
 {
     tx.execute("INSERT INTO lpis_format (one, version) VALUES (1, 2)", &[])?;
     Ok(())
@@ -109,10 +94,7 @@ fn begin_format<S: Alter>(tx: &mut Transaction<'_, S>, is_new: bool) -> Result<(
     ensures begun { IsTrue is_new → HasCleanDisk (state S.Store tx.new.conn.now) → (base : _)
         → Stage (schema_of New) base (state S.Store tx.old.conn.now)
         → OnOk result (Inside New base (state S.Store tx.new.conn.now) no_content) }
-    ensures kept { HasCleanDisk (state S.Store tx.new.conn.now)
-        → KeepsCommit (state S.Store tx.old.conn.now) (state S.Store tx.new.conn.now) }
-    ensures survives { Survives (state S.Store tx.old.conn.now) (state S.Store tx.new.conn.now)
-        (λ _. ⊥) }
+    ensures quiet { IsQuiet (state S.Store tx.old.conn.now) (state S.Store tx.new.conn.now) }
 {
     if is_new { insert_format(tx) } else { Ok(()) }
 }
@@ -123,10 +105,7 @@ fn make_all<S: Alter>(tx: &mut Transaction<'_, S>, is_new: bool) -> Result<(), E
     ensures begun { IsTrue is_new → HasCleanDisk (state S.Store tx.new.conn.now) → (base : _)
         → Stage no_schema base (state S.Store tx.old.conn.now)
         → OnOk result (Inside New base (state S.Store tx.new.conn.now) no_content) }
-    ensures kept { HasCleanDisk (state S.Store tx.new.conn.now)
-        → KeepsCommit (state S.Store tx.old.conn.now) (state S.Store tx.new.conn.now) }
-    ensures survives { Survives (state S.Store tx.old.conn.now) (state S.Store tx.new.conn.now)
-        (λ _. ⊥) }
+    ensures quiet { IsQuiet (state S.Store tx.old.conn.now) (state S.Store tx.new.conn.now) }
 {
     make_format(tx)?;
     make_release(tx)?;

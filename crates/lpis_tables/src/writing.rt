@@ -1,11 +1,10 @@
 //! The loops that write, which rest on the statements' clauses alone.
 
-ghost use Rattle.std.specs.Prelude.{◌≡◌, pos, true, OnOk};
+ghost use Rattle.std.specs.Prelude.{◌≡◌, pos, true};
 ghost use Rattle.sqlite.specs.Held.{state};
-ghost use Rattle.sqlite.specs.State.{HasCleanDisk, KeepsCommit, Survives};
 ghost use Rattle.lpis_records.specs.Content.{with_spans, all_ended, with_lines, lines_from};
 ghost use Rattle.lpis_tables.specs.Shapes.{has_spans};
-ghost use Rattle.lpis_tables.specs.private.Inside.{Inside};
+ghost use Rattle.lpis_tables.specs.private.Inside.{IsQuiet, Turns};
 
 use crate::statements::{end_span, insert_row, insert_span};
 use lpis_covers::Id;
@@ -19,15 +18,9 @@ pub(crate) fn insert_spans<S: Alter>(
     ids: &[Id],
 ) -> Result<(), Error>
     ensures same_reference { tx.new.conn.ghost_name ≡ tx.old.conn.ghost_name }
-    ensures adds { HasCleanDisk (state S.Store tx.new.conn.now) → (shape : _)
-        → has_spans shape ≡ true → (base : _) (c : _)
-        → Inside shape base (state S.Store tx.old.conn.now) c
-        → OnOk result (Inside shape base (state S.Store tx.new.conn.now)
-        (with_spans (pos year) ids.now c)) }
-    ensures kept { HasCleanDisk (state S.Store tx.new.conn.now)
-        → KeepsCommit (state S.Store tx.old.conn.now) (state S.Store tx.new.conn.now) }
-    ensures survives { Survives (state S.Store tx.old.conn.now) (state S.Store tx.new.conn.now)
-        (λ _. ⊥) }
+    ensures adds { Turns (λ shape. has_spans shape ≡ true) (with_spans (pos year) ids.now)
+        (state S.Store tx.old.conn.now) (state S.Store tx.new.conn.now) result }
+    ensures quiet { IsQuiet (state S.Store tx.old.conn.now) (state S.Store tx.new.conn.now) }
 {
     for id in ids {
         insert_span(tx, year, id)?;
@@ -42,15 +35,9 @@ pub(crate) fn end_spans<S: Alter>(
     ids: &[Id],
 ) -> Result<(), Error>
     ensures same_reference { tx.new.conn.ghost_name ≡ tx.old.conn.ghost_name }
-    ensures adds { HasCleanDisk (state S.Store tx.new.conn.now) → (shape : _)
-        → has_spans shape ≡ true → (base : _) (c : _)
-        → Inside shape base (state S.Store tx.old.conn.now) c
-        → OnOk result (Inside shape base (state S.Store tx.new.conn.now)
-        (all_ended (pos year) ids.now c)) }
-    ensures kept { HasCleanDisk (state S.Store tx.new.conn.now)
-        → KeepsCommit (state S.Store tx.old.conn.now) (state S.Store tx.new.conn.now) }
-    ensures survives { Survives (state S.Store tx.old.conn.now) (state S.Store tx.new.conn.now)
-        (λ _. ⊥) }
+    ensures adds { Turns (λ shape. has_spans shape ≡ true) (all_ended (pos year) ids.now)
+        (state S.Store tx.old.conn.now) (state S.Store tx.new.conn.now) result }
+    ensures quiet { IsQuiet (state S.Store tx.old.conn.now) (state S.Store tx.new.conn.now) }
 {
     for id in ids {
         end_span(tx, year, id)?;
@@ -65,14 +52,9 @@ pub(crate) fn insert_lines<S: Alter>(
     rows: &[Row],
 ) -> Result<(), Error>
     ensures same_reference { tx.new.conn.ghost_name ≡ tx.old.conn.ghost_name }
-    ensures adds { HasCleanDisk (state S.Store tx.new.conn.now) → (shape : _) → (base : _) (c : _)
-        → Inside shape base (state S.Store tx.old.conn.now) c
-        → OnOk result (Inside shape base (state S.Store tx.new.conn.now)
-        (with_lines (lines_from (pos year) 0 rows.now) c)) }
-    ensures kept { HasCleanDisk (state S.Store tx.new.conn.now)
-        → KeepsCommit (state S.Store tx.old.conn.now) (state S.Store tx.new.conn.now) }
-    ensures survives { Survives (state S.Store tx.old.conn.now) (state S.Store tx.new.conn.now)
-        (λ _. ⊥) }
+    ensures adds { Turns (λ _. Unit {0}) (with_lines (lines_from (pos year) 0 rows.now))
+        (state S.Store tx.old.conn.now) (state S.Store tx.new.conn.now) result }
+    ensures quiet { IsQuiet (state S.Store tx.old.conn.now) (state S.Store tx.new.conn.now) }
 {
     // Which is below 2^63.
     let _ = rows.len();

@@ -43,7 +43,7 @@ returns-clause-crash g c =
     let last = state g.S.Store c.make_span.new.tx.conn.now in
     let new = state g.S.Store c.commit.new.self.0 in
     let same : c.commit.new.self.0 ≡ c.conn-2-1.given.0 = search rules in
-    let quiet_since = survives_begin g.S.Store c.args.conn.now last _ (rw c.transaction-tx.ensures.begun at c.make_span.ensures.survives) in
+    let quiet_since = survives_begin g.S.Store c.args.conn.now last _ (rw c.transaction-tx.ensures.begun at c.make_span.ensures.quiet.survives) in
     let P = LeavesBeside old in
     subst (λ h. Survives old (state g.S.Store h) P) same (crashed old last new _ P quiet_since c.commit.ensures.survives (λ clean db is content r.
     let at_last : HasCleanDisk last = omega (arith, c.commit.ensures.survives.clean) in

@@ -1,10 +1,8 @@
-use Rattle.std.proofs.Common.{◌≡◌, take, true}
-use Rattle.sqlite.specs.Effect.{Database}
+use Rattle.std.proofs.Common.{◌≡◌, Ok, take, true}
 use Rattle.sqlite.specs.Held.{state}
-use Rattle.sqlite.specs.State.{HasCleanDisk, KeepsCommit, Survives}
-use Rattle.lpis_records.specs.Content.{Content, with_whole_spans}
-use Rattle.lpis_tables.specs.Shapes.{Shape, has_spans}
-use Rattle.lpis_tables.specs.private.Inside.{Inside}
+use Rattle.lpis_records.specs.Content.{with_whole_spans}
+use Rattle.lpis_tables.specs.Shapes.{has_spans}
+use Rattle.lpis_tables.specs.private.Inside.{IsQuiet, Turns}
 use Rattle.lpis_tables.proofs.moving.insert_whole_spans.Given as goal
 
 abbrev pub invariant-loop-span : goal.invariant-loop-span
@@ -12,8 +10,6 @@ invariant-loop-span g l =
     let old = state g.S.Store l.fn.tx.conn.now in
     let now = state g.S.Store l.tx.conn.now in record {
       same_reference : l.tx.conn.ghost_name ≡ l.fn.tx.conn.ghost_name;
-      adds : HasCleanDisk now → (shape : Shape) → has_spans shape ≡ true → (base : Database) (c : Content)
-          → Inside shape base old c → Inside shape base now (with_whole_spans (take l.span-index l.spans) c);
-      kept : HasCleanDisk now → KeepsCommit old now;
-      survives : Survives old now (λ _. ⊥);
+      adds : Turns (λ shape. has_spans shape ≡ true) (with_whole_spans (take l.span-index l.spans)) old now (Ok tt);
+      quiet : IsQuiet old now;
     }

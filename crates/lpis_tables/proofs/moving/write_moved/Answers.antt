@@ -48,7 +48,7 @@ returns-clause-crash g c =
     let last = state g.S.Store c.fill_moved.new.tx.conn.now in
     let new = state g.S.Store c.commit.new.self.0 in
     let same : c.commit.new.self.0 ≡ c.conn-2-1.given.0 = search rules in
-    let quiet_since = survives_begin g.S.Store c.args.conn.now last _ (rw c.transaction-tx.ensures.begun at c.fill_moved.ensures.survives) in
+    let quiet_since = survives_begin g.S.Store c.args.conn.now last _ (rw c.transaction-tx.ensures.begun at c.fill_moved.ensures.quiet.survives) in
     let P = LeavesMoved c.args.spans_there c.args.lives_there c.args.spans.now old in
     subst (λ h. Survives old (state g.S.Store h) P) same (crashed old last new _ P quiet_since c.commit.ensures.survives (λ clean db is shape w content one r.
     let at_last : HasCleanDisk last = omega (arith, c.commit.ensures.survives.clean) in

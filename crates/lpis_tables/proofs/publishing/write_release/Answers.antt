@@ -6,7 +6,7 @@ use Rattle.sqlite.specs.State.{HasCleanDisk, Survives}
 use Rattle.sqlite.proofs.Callers.{survives_begin}
 use Rattle.lpis_records.specs.Content.{published}
 use Rattle.lpis_tables.specs.Holding.{IsStored, Leaves}
-use Rattle.lpis_tables.proofs.StepLemmas.{begun_inside, commit_ok, commit_err, durable, leaves, crashed, quiet_then}
+use Rattle.lpis_tables.proofs.StepLemmas.{begun_inside, commit_ok, commit_err, durable, leaves, crashed, quiet_on}
 use Rattle.lpis_tables.proofs.publishing.write_release.Goals as goal
 
 pub returns-clause-ok : goal.returns-clause-ok
@@ -19,9 +19,9 @@ returns-clause-ok g c clean shape spans content r =
     let same : c.commit.new.self.0 ≡ c.conn-2-1.given.0 = search rules in
     let late : HasCleanDisk new = search rules in
     let at_last : HasCleanDisk last = omega (arith, c.commit.ensures.survives.clean) in
-    let at_mid : HasCleanDisk mid = omega (arith, c.insert_lines.ensures.survives.clean) in
+    let at_mid : HasCleanDisk mid = omega (arith, c.insert_lines.ensures.quiet.survives.clean) in
     let begun = begun_inside shape g.S.Store c.args.conn.now first content c.transaction-tx.ensures.begun r in
-    let inside = c.in_ok-insert_lines.ensures.adds at_last shape _ _ (c.in_ok-fill.ensures.adds at_mid shape spans _ _ begun) in
+    let inside = c.in_ok-insert_lines.ensures.adds at_last shape tt _ _ (c.in_ok-fill.ensures.adds at_mid shape spans _ _ begun) in
     subst
     (λ h. OnOk c.commit.result
     (IsStored shape (state g.S.Store h) (published (pos c.args.year) (pos c.args.last) c.args.dropped.now
@@ -38,9 +38,9 @@ returns-clause-err g c clean up shape spans content r =
     let same : c.commit.new.self.0 ≡ c.conn-2-1.given.0 = search rules in
     let late : HasCleanDisk new = search rules in
     let at_last : HasCleanDisk last = omega (arith, c.commit.ensures.survives.clean) in
-    let at_mid : HasCleanDisk mid = omega (arith, c.insert_lines.ensures.survives.clean) in
+    let at_mid : HasCleanDisk mid = omega (arith, c.insert_lines.ensures.quiet.survives.clean) in
     let begun = begun_inside shape g.S.Store c.args.conn.now first content c.transaction-tx.ensures.begun r in
-    let inside = c.in_ok-insert_lines.ensures.adds at_last shape _ _ (c.in_ok-fill.ensures.adds at_mid shape spans _ _ begun) in
+    let inside = c.in_ok-insert_lines.ensures.adds at_last shape tt _ _ (c.in_ok-fill.ensures.adds at_mid shape spans _ _ begun) in
     let still : IsTrue new.is_open = search rules in
     subst (λ h. OnErr c.commit.result (IsStored shape (state g.S.Store h) content)) same (commit_err shape _ old last new content _ r inside refl still c.commit.result (c.commit.ensures.err late))
 
@@ -55,9 +55,9 @@ returns-clause-crash g c shape spans content r =
     let begun = begun_inside shape g.S.Store c.args.conn.now first content c.transaction-tx.ensures.begun r in
     let inside = λ (clean : HasCleanDisk new).
     let at_last : HasCleanDisk last = omega (arith, c.commit.ensures.survives.clean) in
-    let at_mid : HasCleanDisk mid = omega (arith, c.insert_lines.ensures.survives.clean) in
-    c.in_ok-insert_lines.ensures.adds at_last shape _ _ (c.in_ok-fill.ensures.adds at_mid shape spans _ _ begun) in
-    let quiet = quiet_then (state g.S.Store first) mid last c.fill.ensures.survives c.insert_lines.ensures.survives in
+    let at_mid : HasCleanDisk mid = omega (arith, c.insert_lines.ensures.quiet.survives.clean) in
+    c.in_ok-insert_lines.ensures.adds at_last shape tt _ _ (c.in_ok-fill.ensures.adds at_mid shape spans _ _ begun) in
+    let quiet = (quiet_on (state g.S.Store first) mid last c.fill.ensures.quiet c.insert_lines.ensures.quiet).survives in
     let quiet_since = survives_begin g.S.Store c.args.conn.now last _ (rw c.transaction-tx.ensures.begun at quiet) in
     let P = Leaves shape (published (pos c.args.year) (pos c.args.last) c.args.dropped.now c.args.fresh.now c.args.rows.now content) in
     subst (λ h. Survives old (state g.S.Store h) P) same (crashed old last new _ P quiet_since c.commit.ensures.survives
@@ -73,9 +73,9 @@ returns-clause-durable g c clean shape spans content r =
     let same : c.commit.new.self.0 ≡ c.conn-2-1.given.0 = search rules in
     let late : HasCleanDisk new = search rules in
     let at_last : HasCleanDisk last = omega (arith, c.commit.ensures.survives.clean) in
-    let at_mid : HasCleanDisk mid = omega (arith, c.insert_lines.ensures.survives.clean) in
+    let at_mid : HasCleanDisk mid = omega (arith, c.insert_lines.ensures.quiet.survives.clean) in
     let begun = begun_inside shape g.S.Store c.args.conn.now first content c.transaction-tx.ensures.begun r in
-    let inside = c.in_ok-insert_lines.ensures.adds at_last shape _ _ (c.in_ok-fill.ensures.adds at_mid shape spans _ _ begun) in
+    let inside = c.in_ok-insert_lines.ensures.adds at_last shape tt _ _ (c.in_ok-fill.ensures.adds at_mid shape spans _ _ begun) in
     subst (λ h. OnOk c.commit.result ((db : Trees) → (state g.S.Store h).may_leave db
     → Leaves shape (published (pos c.args.year) (pos c.args.last) c.args.dropped.now c.args.fresh.now
     c.args.rows.now content) db)) same

@@ -6,10 +6,10 @@ use Rattle.lpis_tables.specs.private.Inside.{Inside}
 use Rattle.lpis_tables.proofs.statements.insert_row.Goals as goal
 
 pub returns-clause-adds : goal.returns-clause-adds
-returns-clause-adds g c clean shape base content before =
+returns-clause-adds g c clean shape any base content before =
     let now = state g.S.Store c.insert_line.new.tx.conn.now in
     let old : c.as_str-old.result.now ≡ c.args.row.now.old = c.as_str-old.ensures.text in
     let new : c.heir_text-new.result.now ≡ text_of c.args.row.now.new = c.heir_text-new.ensures in
     subst (λ l. OnOk c.insert_line.result (Inside shape base now (with_line content l)))
     (ap₂ (line_at (pos c.args.year) (pos c.args.place)) old new)
-    (c.insert_line.ensures.adds clean shape base content before)
+    (c.insert_line.ensures.adds clean shape any base content before)

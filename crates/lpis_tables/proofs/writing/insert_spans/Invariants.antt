@@ -1,10 +1,8 @@
-use Rattle.std.proofs.Common.{◌≡◌, pos, take, true}
-use Rattle.sqlite.specs.Effect.{Database}
+use Rattle.std.proofs.Common.{◌≡◌, Ok, pos, take, true}
 use Rattle.sqlite.specs.Held.{state}
-use Rattle.sqlite.specs.State.{HasCleanDisk, KeepsCommit, Survives}
-use Rattle.lpis_records.specs.Content.{Content, with_spans}
-use Rattle.lpis_tables.specs.Shapes.{Shape, has_spans}
-use Rattle.lpis_tables.specs.private.Inside.{Inside}
+use Rattle.lpis_records.specs.Content.{with_spans}
+use Rattle.lpis_tables.specs.Shapes.{has_spans}
+use Rattle.lpis_tables.specs.private.Inside.{IsQuiet, Turns}
 use Rattle.lpis_tables.proofs.writing.insert_spans.Given as goal
 
 abbrev pub invariant-loop-id : goal.invariant-loop-id
@@ -12,8 +10,6 @@ invariant-loop-id g l =
     let old = state g.S.Store l.fn.tx.conn.now in
     let now = state g.S.Store l.tx.conn.now in record {
       same_reference : l.tx.conn.ghost_name ≡ l.fn.tx.conn.ghost_name;
-      adds : HasCleanDisk now → (shape : Shape) → has_spans shape ≡ true → (base : Database) (c : Content)
-          → Inside shape base old c → Inside shape base now (with_spans (pos l.year) (take l.id-index l.ids) c);
-      kept : HasCleanDisk now → KeepsCommit old now;
-      survives : Survives old now (λ _. ⊥);
+      adds : Turns (λ shape. has_spans shape ≡ true) (with_spans (pos l.year) (take l.id-index l.ids)) old now (Ok tt);
+      quiet : IsQuiet old now;
     }

@@ -1,4 +1,3 @@
-use Rattle.sqlite.specs.Held.{state}
 use Rattle.lpis_tables.specs.private.Texts.{read_release}
 use Rattle.lpis_tables.proofs.MeaningLemmas.{read_release_means}
 use Rattle.lpis_tables.proofs.ShowingLemmas.{by_query, years_shown}
@@ -6,5 +5,5 @@ use Rattle.lpis_tables.proofs.queries.I64Stored.query.Goals as goal
 
 pub returns-clause-reads : goal.returns-clause-reads
 returns-clause-reads g c =
-    by_query _ read_release _ (state g.S.Store c.args.conn.now) (state g.S.Store c.query_all.new.self) c.query_all.result (λ shape any. (read_release_means shape).2) (λ shape any content rows. years_shown shape _ _ rows.items content)
+    by_query read_release (λ shape any. (read_release_means shape).2) (λ shape any content rows. years_shown shape _ _ rows.items content)
     c.query_all.ensures.ok c.query_all.ensures.err c.query_all.ensures.survives

@@ -1,4 +1,3 @@
-use Rattle.sqlite.specs.Held.{state}
 use Rattle.lpis_tables.specs.private.Texts.{read_live}
 use Rattle.lpis_tables.proofs.MeaningLemmas.{read_live_means}
 use Rattle.lpis_tables.proofs.ShowingLemmas.{by_query, live_shown_are}
@@ -6,5 +5,5 @@ use Rattle.lpis_tables.proofs.queries.LiveRowStored.query.Goals as goal
 
 pub returns-clause-reads : goal.returns-clause-reads
 returns-clause-reads g c =
-    by_query _ read_live _ (state g.S.Store c.args.conn.now) (state g.S.Store c.query_all.new.self) c.query_all.result (λ shape there. (read_live_means shape there).2) (λ shape there content rows. live_shown_are shape _ _ rows.items content there)
+    by_query read_live (λ shape there. (read_live_means shape there).2) (λ shape there content rows. live_shown_are shape _ _ rows.items content there)
     c.query_all.ensures.ok c.query_all.ensures.err c.query_all.ensures.survives
