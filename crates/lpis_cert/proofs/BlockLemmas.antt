@@ -35,47 +35,46 @@ unfolding values
 no_corner_values true ws h = rw h refl
 no_corner_values false ws h = rw h refl
 
-pub corner_taken : (flat : Bool) (text : List ℕ) (n : ℕ) (k : Kind) (ws : List (List ℕ)) (rest : List ℕ) (m : ℕ)
-    (c : Corners) → Placed (One (corner_kind flat)) text n k ws rest m → corners written ws ≡ Some c
+pub corner_taken : {text : List ℕ} {n : ℕ} {k : Kind} {ws : List (List ℕ)} {rest : List ℕ} {m : ℕ} (flat : Bool) (c : Corners)
+    → Placed (One (corner_kind flat)) text n k ws rest m → corners written ws ≡ Some c
     → ReadsLines text n (corner_line flat c ∷ []) rest m
-corner_taken flat text n k ws rest m c p h =
-    let is = alone (corner_kind flat) text n k ws rest m p in
-    (taken (One (corner_kind flat)) text n k ws rest m (corner_line flat c) p (rw is (corner_values flat ws c h))).0
+corner_taken {ws = ws} flat c p h =
+    let is = alone {k = corner_kind flat} p in
+    (taken (corner_line flat c) p (rw is (corner_values flat ws c h))).0
 
-pub corner_untaken : (flat : Bool) (text : List ℕ) (n : ℕ) (k : Kind) (ws : List (List ℕ)) (rest : List ℕ) (m : ℕ)
-    → Placed (One (corner_kind flat)) text n k ws rest m → corners written ws ≡ None
+pub corner_untaken : {text : List ℕ} {n : ℕ} {k : Kind} {ws : List (List ℕ)} {rest : List ℕ} {m : ℕ} (flat : Bool) → Placed (One (corner_kind flat)) text n k ws rest m → corners written ws ≡ None
     → FailsWith (One (corner_kind flat)) text code.Number
-corner_untaken flat text n k ws rest m p h =
-    let is = alone (corner_kind flat) text n k ws rest m p in
-    untaken (One (corner_kind flat)) text n k ws rest m p (rw is (no_corner_values flat ws h))
+corner_untaken {ws = ws} flat p h =
+    let is = alone {k = corner_kind flat} p in
+    untaken p (rw is (no_corner_values flat ws h))
 
-pub pair_taken : (text : List ℕ) (n : ℕ) (k : Kind) (ws : List (List ℕ)) (rest : List ℕ) (m : ℕ) (c : Separator)
+pub pair_taken : {text : List ℕ} {n : ℕ} {k : Kind} {ws : List (List ℕ)} {rest : List ℕ} {m : ℕ} (c : Separator)
     → Placed (One kind.Pair) text n k ws rest m → separator ws ≡ Some c → ReadsLines text n (separator_line c ∷ []) rest m
 unfolding values
-pair_taken text n k ws rest m c p h =
-    let is = alone kind.Pair text n k ws rest m p in
-    (taken (One kind.Pair) text n k ws rest m (separator_line c) p (rw (is, h) refl)).0
+pair_taken c p h =
+    let is = alone p in
+    (taken (separator_line c) p (rw (is, h) refl)).0
 
-pub pair_untaken : (text : List ℕ) (n : ℕ) (k : Kind) (ws : List (List ℕ)) (rest : List ℕ) (m : ℕ)
+pub pair_untaken : {text : List ℕ} {n : ℕ} {k : Kind} {ws : List (List ℕ)} {rest : List ℕ} {m : ℕ}
     → Placed (One kind.Pair) text n k ws rest m → separator ws ≡ None → FailsWith (One kind.Pair) text code.Number
 unfolding values
-pair_untaken text n k ws rest m p h =
-    let is = alone kind.Pair text n k ws rest m p in
-    untaken (One kind.Pair) text n k ws rest m p (rw (is, h) refl)
+pair_untaken p h =
+    let is = alone p in
+    untaken p (rw (is, h) refl)
 
-pub end_taken : (text : List ℕ) (n : ℕ) (k : Kind) (ws : List (List ℕ)) (rest : List ℕ) (m : ℕ) → Placed (One kind.End) text n k ws rest m → ws ≡ [] → ReadsLines text n (EndLine ∷ []) rest m
+pub end_taken : {text : List ℕ} {n : ℕ} {k : Kind} {ws : List (List ℕ)} {rest : List ℕ} {m : ℕ} → Placed (One kind.End) text n k ws rest m → ws ≡ [] → ReadsLines text n (EndLine ∷ []) rest m
 unfolding values
-end_taken text n k ws rest m p h =
-    let is = alone kind.End text n k ws rest m p in
-    (taken (One kind.End) text n k ws rest m EndLine p (rw (is, h) refl)).0
+end_taken p h =
+    let is = alone p in
+    (taken EndLine p (rw (is, h) refl)).0
 
-pub end_untaken : (text : List ℕ) (n : ℕ) (k : Kind) (ws : List (List ℕ)) (rest : List ℕ) (m : ℕ) (w : List ℕ)
-    (vs : List (List ℕ)) → Placed (One kind.End) text n k ws rest m → ws ≡ w ∷ vs → FailsWith (One kind.End) text
+pub end_untaken : {text : List ℕ} {n : ℕ} {k : Kind} {ws : List (List ℕ)} {rest : List ℕ} {m : ℕ} {w : List ℕ}
+    {vs : List (List ℕ)} → Placed (One kind.End) text n k ws rest m → ws ≡ w ∷ vs → FailsWith (One kind.End) text
     code.Number
 unfolding values
-end_untaken text n k ws rest m w vs p h =
-    let is = alone kind.End text n k ws rest m p in
-    untaken (One kind.End) text n k ws rest m p (rw (is, h) refl)
+end_untaken p h =
+    let is = alone p in
+    untaken p (rw (is, h) refl)
 
 -- ---- many lines of one kind
 
@@ -103,33 +102,33 @@ corner_wants : (flat : Bool) (n : ℕ) (b : Stage) (f : ℕ) (d : Declared) → 
 corner_wants true n b f d = refl
 corner_wants false n b f d = refl
 
-pub corner_fault : (x : CertFault) (flat : Bool) (cs : List Corners) (count i : ℕ) (text : List ℕ) (n : ℕ) (rest : List ℕ) (m : ℕ) → AllByRecursion CornersFit cs → i < count → length cs ≡ i
+pub corner_fault : {text : List ℕ} {n : ℕ} {rest : List ℕ} {m : ℕ} (x : CertFault) (flat : Bool) (cs : List Corners) (count i : ℕ) → AllByRecursion CornersFit cs → i < count → length cs ≡ i
     → ReadsLines text n (map (corner_line flat) cs) rest m → LineFault x m (One (corner_kind flat)) rest
     → (b : Stage) (f : ℕ) (d : Declared) → FaultFrom x n (wanting flat count b f d) text
-corner_fault x flat cs count i text n rest m fits lt len follows fault b f d =
+corner_fault {rest = rest} {m} x flat cs count i fits lt len follows fault b f d =
     let left = suc (count - (i + 1)) in
-    fault_after x n (wanting flat count b f d) (wanting flat left b f d) text (map (corner_line flat) cs) rest m follows (corners_go flat cs count left b f d fits (omega arith))
+    fault_after x (wanting flat count b f d) (wanting flat left b f d) follows (corners_go flat cs count left b f d fits (omega arith))
     (fault_here x m (wanting flat left b f d) (One (corner_kind flat)) rest (corner_wants flat (count - (i + 1)) b f d) fault)
 
-pub corner_more : (flat : Bool) (ts : List Triangle) (t : Triangle) (text : List ℕ) (n : ℕ) (rest : List ℕ) (m : ℕ) (after : List ℕ) (k : ℕ)
+pub corner_more : {text : List ℕ} {n : ℕ} {rest : List ℕ} {m : ℕ} {after : List ℕ} {k : ℕ} (flat : Bool) (ts : List Triangle) (t : Triangle)
     → ReadsLines text n (map (corner_line flat) (all_corners ts)) rest m → ReadsLines rest m (corner_line flat (corner_numbers t) ∷ []) after k
     → ReadsLines text n (map (corner_line flat) (all_corners (ts ++ t ∷ []))) after k
-corner_more flat ts t text n rest m after k f g =
+corner_more flat ts t f g =
     let e : map (corner_line flat) (all_corners (ts ++ t ∷ [])) ≡ map (corner_line flat) (all_corners ts) ++ (corner_line flat (corner_numbers t) ∷ []) =
     ap (map (corner_line flat)) (map_push corner_numbers ts t) ∙ map_push (corner_line flat) (all_corners ts) (corner_numbers t) in
-    rw e (follows_both text n (map (corner_line flat) (all_corners ts)) rest m (corner_line flat (corner_numbers t) ∷ []) after k f g)
+    rw e (follows_both f g)
 
 pub separators_fit : (ps : List PairLine) → AllByRecursion SeparatorFits (map separator_of ps)
 separators_fit [] = tt
 separators_fit (p ∷ ps) = (record { i = p.i_fits; j = p.j_fits; k = p.k_fits }, separators_fit ps)
 
-pub pair_more : (ts : List PairLine) (t : PairLine) (text : List ℕ) (n : ℕ) (rest : List ℕ) (m : ℕ) (after : List ℕ) (k : ℕ)
+pub pair_more : {text : List ℕ} {n : ℕ} {rest : List ℕ} {m : ℕ} {after : List ℕ} {k : ℕ} (ts : List PairLine) (t : PairLine)
     → ReadsLines text n (map separator_line (map separator_of ts)) rest m → ReadsLines rest m (separator_line (separator_of t) ∷ []) after k
     → ReadsLines text n (map separator_line (map separator_of (ts ++ t ∷ []))) after k
-pair_more ts t text n rest m after k f g =
+pair_more ts t f g =
     let e : map separator_line (map separator_of (ts ++ t ∷ [])) ≡ map separator_line (map separator_of ts) ++ (separator_line (separator_of t) ∷ []) =
     ap (map separator_line) (map_push separator_of ts t) ∙ map_push separator_line (map separator_of ts) (separator_of t) in
-    rw e (follows_both text n (map separator_line (map separator_of ts)) rest m (separator_line (separator_of t) ∷ []) after k f g)
+    rw e (follows_both f g)
 
 pub pairs_go : (ps : List Separator) (n k : ℕ) → AllByRecursion SeparatorFits ps → n ≡ length ps + k → Goes (InPairs n) (map separator_line ps) (InPairs k)
 unfolding step
@@ -138,9 +137,9 @@ pairs_go (p ∷ ps) n k fits e =
     let is : n ≡ suc (length ps + k) = omega arith in
     (fits.0, (InPairs (length ps + k), rw (is, read_again (One kind.Pair) (separator_line p) fits.0 refl) refl, pairs_go ps (length ps + k) k fits.1 refl))
 
-pub pair_fault : (x : CertFault) (ps : List Separator) (count i : ℕ) (text : List ℕ) (n : ℕ) (rest : List ℕ) (m : ℕ) → AllByRecursion SeparatorFits ps → i < count → length ps ≡ i
+pub pair_fault : {text : List ℕ} {n : ℕ} {rest : List ℕ} {m : ℕ} (x : CertFault) (ps : List Separator) (count i : ℕ) → AllByRecursion SeparatorFits ps → i < count → length ps ≡ i
     → ReadsLines text n (map separator_line ps) rest m → LineFault x m (One kind.Pair) rest → FaultFrom x n (InPairs count) text
-pair_fault x ps count i text n rest m fits lt len follows fault =
+pair_fault {rest = rest} {m} x ps count i fits lt len follows fault =
     let left = suc (count - (i + 1)) in
-    fault_after x n (InPairs count) (InPairs left) text (map separator_line ps) rest m follows (pairs_go ps count left fits (omega arith))
+    fault_after x (InPairs count) (InPairs left) follows (pairs_go ps count left fits (omega arith))
     (fault_here x m (InPairs left) (One kind.Pair) rest refl fault)

@@ -79,37 +79,37 @@ pub end_goes : Goes (InPairs 0) (EndLine ∷ []) AtEnd
 unfolding step
 end_goes = (tt, (AtEnd, rw (read_again (One kind.End) EndLine tt refl) refl, refl))
 
-first_cut : (text : List ℕ) (n : ℕ) (l : Line) (rest : List ℕ) (m : ℕ) → LineFits l → ReadsLines text n (l ∷ []) rest m → lines text ≡ spelling l ∷ lines rest
+first_cut : {text : List ℕ} {n : ℕ} {l : Line} {rest : List ℕ} {m : ℕ} → LineFits l → ReadsLines text n (l ∷ []) rest m → lines text ≡ spelling l ∷ lines rest
 unfolding text_of_lines
-first_cut text n l rest m fits f = ap lines (f.parts ∙ append_assoc (spelling l) (10 ∷ []) rest) ∙ lines_from l rest fits
+first_cut {l = l} {rest} fits f = ap lines (f.parts ∙ append_assoc (spelling l) (10 ∷ []) rest) ∙ lines_from l rest fits
 
-pub too_many_piece : (d : Declared) (b : Stage) (id : List ℕ) (t f : ℕ) (text : List ℕ) (n : ℕ) (rest : List ℕ) (m : ℕ)
+pub too_many_piece : {text : List ℕ} {n : ℕ} {rest : List ℕ} {m : ℕ} (d : Declared) (b : Stage) (id : List ℕ) (t f : ℕ)
     → b ≡ stage.Pieces → LineFits (PieceLine id t f) → (most_triangles < d.triangles + t) ⊎ (most_flats < d.flats + f)
     → ReadsLines text n (PieceLine id t f ∷ []) rest m → outcome n (InBody b 0 0 d) (lines text) ≡ Err (code.TooMany, n)
 unfolding step
-too_many_piece d b id t f text n rest m is fits h g =
-    rw is (step_err n (InBody stage.Pieces 0 0 d) code.TooMany text (spelling (PieceLine id t f)) rest (first_cut text n (PieceLine id t f) rest m fits g)
+too_many_piece {text} {n} {rest} d b id t f is fits h g =
+    rw is (step_err n (InBody stage.Pieces 0 0 d) code.TooMany text (spelling (PieceLine id t f)) rest (first_cut fits g)
     (rw (read_again (Block stage.Pieces) (PieceLine id t f) fits refl, within_no (d.triangles + t) (d.flats + f) h) refl))
 
-pub too_many_parcel : (d : Declared) (b : Stage) (id : List ℕ) (f : ℕ) (text : List ℕ) (n : ℕ) (rest : List ℕ) (m : ℕ) → LineFits (ParcelLine id f) → most_flats < d.flats + f
+pub too_many_parcel : {text : List ℕ} {n : ℕ} {rest : List ℕ} {m : ℕ} (d : Declared) (b : Stage) (id : List ℕ) (f : ℕ) → LineFits (ParcelLine id f) → most_flats < d.flats + f
     → ReadsLines text n (ParcelLine id f ∷ []) rest m → outcome n (InBody b 0 0 d) (lines text) ≡ Err (code.TooMany, n)
 unfolding step
-too_many_parcel d b id f text n rest m fits h g =
-    step_err n (InBody b 0 0 d) code.TooMany text (spelling (ParcelLine id f)) rest (first_cut text n (ParcelLine id f) rest m fits g)
+too_many_parcel {text} {n} {rest} d b id f fits h g =
+    step_err n (InBody b 0 0 d) code.TooMany text (spelling (ParcelLine id f)) rest (first_cut fits g)
     (rw (read_again (Block b) (ParcelLine id f) fits refl, within_no d.triangles (d.flats + f) (inr h)) refl)
 
-shorter : (text : List ℕ) (n : ℕ) (l : Line) (ls : List Line) (rest : List ℕ) (m : ℕ) → ReadsLines text n (l ∷ ls) rest m → length rest < length text
+shorter : {text : List ℕ} {n : ℕ} {l : Line} {ls : List Line} {rest : List ℕ} {m : ℕ} → ReadsLines text n (l ∷ ls) rest m → length rest < length text
 unfolding text_of_lines
-shorter text n l ls rest m f =
+shorter {l = l} {ls} {rest} f =
     let e = ap length f.parts in
     let a = length-append (spelling l ++ (10 ∷ text_of_lines ls)) rest in
     let b = length-append (spelling l) (10 ∷ text_of_lines ls) in
     omega arith
 
-pub grown_by : (before more : List Line) (p q : Place) (l : Line) (ls : List Line) (text : List ℕ) (n : ℕ)
-    (rest : List ℕ) (m : ℕ) → ReadsLines text n (l ∷ ls) rest m → more ≡ before ++ (l ∷ ls) → Goes p (l ∷ ls) q
+pub grown_by : {text : List ℕ} {n : ℕ} {rest : List ℕ} {m : ℕ} {l : Line} {ls : List Line} (before more : List Line) (p q : Place)
+    → ReadsLines text n (l ∷ ls) rest m → more ≡ before ++ (l ∷ ls) → Goes p (l ∷ ls) q
     → Grown before more p q text n rest m
-grown_by before more p q l ls text n rest m f e g = record { added = l ∷ ls; follows = f; lines = e; place = after n p q text (l ∷ ls) rest m f g; shorter = shorter text n l ls rest m f }
+grown_by {l = l} {ls} before more p q f e g = record { added = l ∷ ls; follows = f; lines = e; place = after p q f g; shorter = shorter f }
 
 one_more_piece : (ps : List PieceBlock) (p : PieceBlock) → blocks (ps ++ p ∷ []) [] ≡ blocks ps [] ++ piece_lines p
 one_more_piece ps p =
@@ -123,16 +123,15 @@ one_more_parcel ps qs q =
     ∙ ap (λ (x : List Line). parcels_lines qs ++ x) (append-nil (parcel_lines q)))
     ∙ sym (append_assoc (pieces_lines ps) (parcels_lines qs) (parcel_lines q))
 
-pub piece_grown : (ps ps2 : List PieceBlock) (qs : List ParcelBlock) (p : PieceBlock) (b : Stage) (d : Declared)
-    (t f : ℕ) (start : List ℕ) (n : ℕ) (next : List ℕ) (m : ℕ) (middle : List ℕ) (k : ℕ) (rest : List ℕ) (j : ℕ)
+pub piece_grown : {start : List ℕ} {n : ℕ} {next : List ℕ} {m : ℕ} {middle : List ℕ} {k : ℕ} {rest : List ℕ} {j : ℕ}
+    (ps ps2 : List PieceBlock) (qs : List ParcelBlock) (p : PieceBlock) (b : Stage) (d : Declared) (t f : ℕ)
     → ps2 ≡ ps ++ p ∷ [] → b ≡ stage.Pieces → length qs ≡ 0 → LineFits (PieceLine p.id t f) → d.triangles + t ≤ most_triangles → d.flats + f ≤ most_flats
     → AllByRecursion CornersFit p.triangles → AllByRecursion CornersFit p.flats → length p.triangles ≡ t → length p.flats ≡ f
     → ReadsLines start n (PieceLine p.id t f ∷ []) next m → ReadsLines next m (map TriangleLine p.triangles) middle k → ReadsLines middle k (map FlatLine p.flats) rest j
     → Grown (blocks ps qs) (blocks ps2 qs) (InBody b 0 0 d) (InBody b 0 0 (grow d t f)) start n rest j
-piece_grown ps ps2 qs p b d t f start n next m middle k rest j e is none fits h1 h2 ft ff lt lf f1 f2 f3 =
+piece_grown ps ps2 qs p b d t f e is none fits h1 h2 ft ff lt lf f1 f2 f3 =
     let no : qs ≡ [] = nil_from_length qs none in
-    let body = follows_both next m (map TriangleLine p.triangles) middle k (map FlatLine p.flats) rest j f2 f3 in
-    let all = follows_both start n (PieceLine p.id t f ∷ []) next m (map TriangleLine p.triangles ++ map FlatLine p.flats) rest j f1 body in
+    let all = follows_both f1 (follows_both f2 f3) in
     let goes = goes_on (InBody stage.Pieces 0 0 d) (InBody stage.Pieces t f (grow d t f))
     (InBody stage.Pieces 0 0 (grow d t f)) (PieceLine p.id t f ∷ []) (map TriangleLine p.triangles
     ++ map FlatLine p.flats)
@@ -144,27 +143,25 @@ piece_grown ps ps2 qs p b d t f start n next m middle k rest j e is none fits h1
     ++ (PieceLine p.id t f ∷ (map TriangleLine p.triangles ++ map FlatLine p.flats)) = one_more_piece ps p
     ∙ ap (λ (x : Line). blocks ps [] ++ (x ∷ (map TriangleLine p.triangles ++ map FlatLine p.flats))) same in
     rw (e, is, no) (grown_by (blocks ps []) (blocks (ps ++ p ∷ []) []) (InBody stage.Pieces 0 0 d)
-    (InBody stage.Pieces 0 0 (grow d t f)) (PieceLine p.id t f) (map TriangleLine p.triangles
-    ++ map FlatLine p.flats) start n rest j all lines goes)
+    (InBody stage.Pieces 0 0 (grow d t f)) all lines goes)
 
-pub parcel_grown : (ps : List PieceBlock) (qs qs2 : List ParcelBlock) (q : ParcelBlock) (b : Stage) (d : Declared) (f : ℕ) (start : List ℕ) (n : ℕ) (next : List ℕ) (m : ℕ) (rest : List ℕ) (j : ℕ)
+pub parcel_grown : {start : List ℕ} {n : ℕ} {next : List ℕ} {m : ℕ} {rest : List ℕ} {j : ℕ} (ps : List PieceBlock) (qs qs2 : List ParcelBlock) (q : ParcelBlock) (b : Stage) (d : Declared) (f : ℕ)
     → qs2 ≡ qs ++ q ∷ [] → LineFits (ParcelLine q.id f) → d.triangles ≤ most_triangles → d.flats + f ≤ most_flats → AllByRecursion CornersFit q.flats → length q.flats ≡ f
     → ReadsLines start n (ParcelLine q.id f ∷ []) next m → ReadsLines next m (map FlatLine q.flats) rest j
     → Grown (blocks ps qs) (blocks ps qs2) (InBody b 0 0 d) (InBody stage.Parcels 0 0 (grow_flats d f)) start n rest j
-parcel_grown ps qs qs2 q b d f start n next m rest j e fits h1 h2 ff lf f1 f2 =
-    let all = follows_both start n (ParcelLine q.id f ∷ []) next m (map FlatLine q.flats) rest j f1 f2 in
+parcel_grown ps qs qs2 q b d f e fits h1 h2 ff lf f1 f2 =
+    let all = follows_both f1 f2 in
     let goes = goes_on (InBody b 0 0 d) (InBody stage.Parcels 0 f (grow_flats d f)) (InBody stage.Parcels 0 0 (grow_flats d f)) (ParcelLine q.id f ∷ []) (map FlatLine q.flats)
     (parcel_open b d q.id f fits h1 h2) (corners_go true q.flats f 0 stage.Parcels 0 (grow_flats d f) ff (omega arith)) in
     let same : ParcelLine q.id (length q.flats) ≡ ParcelLine q.id f = rw lf refl in
     let lines : blocks ps (qs ++ q ∷ []) ≡ blocks ps qs ++ (ParcelLine q.id f ∷ map FlatLine q.flats) = one_more_parcel ps qs q ∙ ap (λ (x : Line). blocks ps qs ++ (x ∷ map FlatLine q.flats)) same in
-    rw e (grown_by (blocks ps qs) (blocks ps (qs ++ q ∷ [])) (InBody b 0 0 d) (InBody stage.Parcels 0 0 (grow_flats d f)) (ParcelLine q.id f) (map FlatLine q.flats) start n rest j all lines goes)
+    rw e (grown_by (blocks ps qs) (blocks ps (qs ++ q ∷ [])) (InBody b 0 0 d) (InBody stage.Parcels 0 0 (grow_flats d f)) all lines goes)
 
 -- the lines from the pairs on
-pub pairs_follow : (start : List ℕ) (n : ℕ) (count : ℕ) (next : List ℕ) (m : ℕ) (ps : List Separator) (last : List ℕ) (k : ℕ) (rest : List ℕ) (j : ℕ) → length ps ≡ count
+pub pairs_follow : {start : List ℕ} {n : ℕ} {count : ℕ} {next : List ℕ} {m : ℕ} {last : List ℕ} {k : ℕ} {rest : List ℕ} {j : ℕ} (ps : List Separator) → length ps ≡ count
     → ReadsLines start n (PairsLine count ∷ []) next m → ReadsLines next m (map PairLine ps) last k → ReadsLines last k (EndLine ∷ []) rest j → ReadsLines start n (end_lines ps) rest j
-pairs_follow start n count next m ps last k rest j len f1 f2 f3 =
-    let g = follows_both start n (PairsLine count ∷ []) next m (map PairLine ps ++ (EndLine ∷ [])) rest j f1 (follows_both next m (map PairLine ps) last k (EndLine ∷ []) rest j f2 f3) in
-    subst (λ (c : ℕ). ReadsLines start n (PairsLine c ∷ (map PairLine ps ++ (EndLine ∷ []))) rest j) (sym len) g
+pairs_follow {start} {n} {rest = rest} {j} ps len f1 f2 f3 =
+    subst (λ (c : ℕ). ReadsLines start n (PairsLine c ∷ (map PairLine ps ++ (EndLine ∷ []))) rest j) (sym len) (follows_both f1 (follows_both f2 f3))
 
 pub pairs_goes : (b : Stage) (d : Declared) (ps : List Separator) → AllByRecursion SeparatorFits ps → length ps ≤ greatest_count → Goes (InBody b 0 0 d) (end_lines ps) AtEnd
 pairs_goes b d ps fits le =
@@ -186,10 +183,10 @@ trailing m rest some = by_lines (lines rest) (split_some is_lf rest) (join_with_
     by_lines (v ∷ []) h e = some_last v e
     by_lines (v ∷ w ∷ vs) h e = refl
 
-pub whole_of : (ps : List PieceBlock) (qs : List ParcelBlock) (rs : List Separator) (start : List ℕ) (n : ℕ) (rest : List ℕ) (m : ℕ) → ReadsLines start n (end_lines rs) rest m → length rest ≡ 0
+pub whole_of : {start : List ℕ} {n : ℕ} {rest : List ℕ} {m : ℕ} (ps : List PieceBlock) (qs : List ParcelBlock) (rs : List Separator) → ReadsLines start n (end_lines rs) rest m → length rest ≡ 0
     → Whole (blocks ps qs) (lines_of (record { pieces = ps; parcels = qs; pairs = rs })) start
 unfolding lines_of
-whole_of ps qs rs start n rest m f none =
+whole_of {rest = rest} ps qs rs f none =
     let no : rest ≡ [] = nil_from_length rest none in
     record {
       added = end_lines rs;
@@ -200,41 +197,39 @@ whole_of ps qs rs start n rest m f none =
 
 -- ---- faults inside a block
 
-pub piece_fault : (x : CertFault) (d : Declared) (b : Stage) (id : List ℕ) (t f : ℕ) (text : List ℕ) (n : ℕ)
-    (rest : List ℕ) (m : ℕ) → b ≡ stage.Pieces → LineFits (PieceLine id t f) → d.triangles + t ≤ most_triangles
+pub piece_fault : {text : List ℕ} {n : ℕ} {rest : List ℕ} {m : ℕ} (x : CertFault) (d : Declared) (b : Stage) (id : List ℕ) (t f : ℕ)
+    → b ≡ stage.Pieces → LineFits (PieceLine id t f) → d.triangles + t ≤ most_triangles
     → d.flats + f ≤ most_flats
     → ReadsLines text n (PieceLine id t f ∷ []) rest m → FaultFrom x m (InBody stage.Pieces t f (grow d t f)) rest → FaultFrom x n (InBody b 0 0 d) text
-piece_fault x d b id t f text n rest m is fits h1 h2 g k =
-    rw is (fault_after x n (InBody stage.Pieces 0 0 d) (InBody stage.Pieces t f (grow d t f)) text (PieceLine id t f ∷ []) rest m g (piece_open d id t f fits h1 h2) k)
+piece_fault x d b id t f is fits h1 h2 g k =
+    rw is (fault_after x (InBody stage.Pieces 0 0 d) (InBody stage.Pieces t f (grow d t f)) g (piece_open d id t f fits h1 h2) k)
 
-pub flat_fault : (x : CertFault) (d : Declared) (b : Stage) (id : List ℕ) (t f : ℕ) (ts : List Corners) (text : List ℕ)
-    (n : ℕ) (rest : List ℕ) (m : ℕ) (middle : List ℕ) (k : ℕ) → b ≡ stage.Pieces → LineFits (PieceLine id t f)
+pub flat_fault : {text : List ℕ} {n : ℕ} {rest : List ℕ} {m : ℕ} {middle : List ℕ} {k : ℕ} (x : CertFault) (d : Declared) (b : Stage) (id : List ℕ) (t f : ℕ) (ts : List Corners)
+    → b ≡ stage.Pieces → LineFits (PieceLine id t f)
     → d.triangles + t ≤ most_triangles → d.flats + f ≤ most_flats
     → ReadsLines text n (PieceLine id t f ∷ []) rest m → AllByRecursion CornersFit ts → length ts ≡ t
     → ReadsLines rest m (map TriangleLine ts) middle k → FaultFrom x k (InBody stage.Pieces 0 f (grow d t f)) middle
     → FaultFrom x n (InBody b 0 0 d) text
-flat_fault x d b id t f ts text n rest m middle k is fits h1 h2 g ft lt g2 h =
-    piece_fault x d b id t f text n rest m is fits h1 h2 g
-    (fault_after x m (InBody stage.Pieces t f (grow d t f)) (InBody stage.Pieces 0 f (grow d t f)) rest
-    (map TriangleLine ts) middle k g2 (corners_go false ts t 0 stage.Pieces f (grow d t f) ft (omega arith)) h)
+flat_fault x d b id t f ts is fits h1 h2 g ft lt g2 h =
+    piece_fault x d b id t f is fits h1 h2 g
+    (fault_after x (InBody stage.Pieces t f (grow d t f)) (InBody stage.Pieces 0 f (grow d t f)) g2 (corners_go false ts t 0 stage.Pieces f (grow d t f) ft (omega arith)) h)
 
-pub pairs_fault : (x : CertFault) (b : Stage) (d : Declared) (count : ℕ) (text : List ℕ) (n : ℕ) (rest : List ℕ) (m : ℕ) → count ≤ greatest_count
+pub pairs_fault : {text : List ℕ} {n : ℕ} {rest : List ℕ} {m : ℕ} (x : CertFault) (b : Stage) (d : Declared) (count : ℕ) → count ≤ greatest_count
     → ReadsLines text n (PairsLine count ∷ []) rest m → FaultFrom x m (InPairs count) rest → FaultFrom x n (InBody b 0 0 d) text
-pairs_fault x b d count text n rest m le g h = fault_after x n (InBody b 0 0 d) (InPairs count) text (PairsLine count ∷ []) rest m g (pairs_open b d count le) h
+pairs_fault x b d count le g h = fault_after x (InBody b 0 0 d) (InPairs count) g (pairs_open b d count le) h
 
-pub end_fault : (x : CertFault) (b : Stage) (d : Declared) (count : ℕ) (ps : List Separator) (text : List ℕ) (n : ℕ) (rest : List ℕ) (m : ℕ) (last : List ℕ) (k : ℕ) → count ≤ greatest_count
+pub end_fault : {text : List ℕ} {n : ℕ} {rest : List ℕ} {m : ℕ} {last : List ℕ} {k : ℕ} (x : CertFault) (b : Stage) (d : Declared) (count : ℕ) (ps : List Separator) → count ≤ greatest_count
     → ReadsLines text n (PairsLine count ∷ []) rest m → AllByRecursion SeparatorFits ps → length ps ≡ count
     → ReadsLines rest m (map PairLine ps) last k → LineFault x k (One kind.End) last → FaultFrom x n (InBody b 0 0 d)
     text
-end_fault x b d count ps text n rest m last k le g fits len g2 h =
-    pairs_fault x b d count text n rest m le g (fault_after x m (InPairs count) (InPairs 0) rest (map PairLine ps) last
-    k g2 (pairs_go ps count 0 fits (omega arith)) (fault_here x k (InPairs 0) (One kind.End) last refl h))
+end_fault {last = last} {k} x b d count ps le g fits len g2 h =
+    pairs_fault x b d count le g (fault_after x (InPairs count) (InPairs 0) g2 (pairs_go ps count 0 fits (omega arith)) (fault_here x k (InPairs 0) (One kind.End) last refl h))
 
-pub trailing_fault : (b : Stage) (d : Declared) (ps : List Separator) (text : List ℕ) (n : ℕ) (rest : List ℕ) (m : ℕ)
+pub trailing_fault : {text : List ℕ} {n : ℕ} {rest : List ℕ} {m : ℕ} (b : Stage) (d : Declared) (ps : List Separator)
     → AllByRecursion SeparatorFits ps → length ps ≤ greatest_count → ReadsLines text n (end_lines ps) rest m
     → 0 < length rest
     → outcome n (InBody b 0 0 d) (lines text) ≡ Err (code.TextAfterEnd, m)
-trailing_fault b d ps text n rest m fits le f some = after n (InBody b 0 0 d) AtEnd text (end_lines ps) rest m f (pairs_goes b d ps fits le) ∙ trailing m rest some
+trailing_fault {rest = rest} {m} b d ps fits le f some = after (InBody b 0 0 d) AtEnd f (pairs_goes b d ps fits le) ∙ trailing m rest some
 
 -- ---- values of the code
 

@@ -41,12 +41,13 @@ this_version text n line rest m t h =
 pub follows_grown : (start : List ℕ) (n : ℕ) (before more : List Line) (p q : Place) (text : List ℕ) (k : ℕ)
     (rest : List ℕ) (m : ℕ) → ReadsLines start n before text k → Grown before more p q text k rest m
     → ReadsLines start n more rest m
-follows_grown start n before more p q text k rest m f g = let e = g.lines in rw e (follows_both start n before text k g.added rest m f g.follows)
+follows_grown start n before more p q text k rest m f g = let e = g.lines in rw e (follows_both f g.follows)
 
 pub whole_text : (start : List ℕ) (n : ℕ) (before more : List Line) (text : List ℕ) (k : ℕ) → ReadsLines start n before text k → Whole before more text → start ≡ text_of_lines more
 whole_text start n before more text k f w =
     let e = w.lines in
-    let all = follows_both start n before text k w.added [] (k + length w.added) f (record { parts = w.parts ∙ sym (append-nil (text_of_lines w.added)); next = refl }) in
+    let more : ReadsLines text k w.added [] (k + length w.added) = record { parts = w.parts ∙ sym (append-nil (text_of_lines w.added)); next = refl } in
+    let all = follows_both f more in
     rw e (all.parts ∙ append-nil (text_of_lines (before ++ w.added)))
 
 -- ---- every certificate's text is taken

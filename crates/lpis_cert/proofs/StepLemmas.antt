@@ -45,21 +45,21 @@ formed_stands e line k ws h = by_form _ h
         by_test false c h = absurd cc
 
 -- the kind, where one alone can stand
-pub alone : (k : Kind) (text : List ℕ) (n : ℕ) (given : Kind) (ws rest : _) (m : ℕ) → Placed (One k) text n given ws rest m → given ≡ k
-alone k text n given ws rest m p = sym (same_kind_is k given (formed_stands (One k) p.line given ws p.placed))
+pub alone : {k : Kind} {text : List ℕ} {n : ℕ} {given : Kind} {ws : List (List ℕ)} {rest : List ℕ} {m : ℕ} → Placed (One k) text n given ws rest m → given ≡ k
+alone {k} {given = given} {ws} p = sym (same_kind_is k given (formed_stands (One k) p.line given ws p.placed))
 
 -- a line was taken
-pub taken : (e : Expected) (text : List ℕ) (n : ℕ) (k : Kind) (ws : List (List ℕ)) (rest : List ℕ) (m : ℕ) (l : Line) → Placed e text n k ws rest m → values written k ws ≡ Some l
+pub taken : {e : Expected} {text : List ℕ} {n : ℕ} {k : Kind} {ws : List (List ℕ)} {rest : List ℕ} {m : ℕ} (l : Line) → Placed e text n k ws rest m → values written k ws ≡ Some l
     → ReadsLines text n (l ∷ []) rest m × LineFits l × (can_stand e (line_kind l) ≡ true)
 unfolding text_of_lines
-taken e text n k ws rest m l p v =
+taken {e} {k = k} {ws} {rest} l p v =
     let r = placed_takes e p.line k ws l p.placed v in
     (record { parts = p.takes.parts ∙ ap (λ (x : List ℕ). x ++ (10 ∷ rest)) r.text ∙ sym (append_assoc (spelling l) (10 ∷ []) rest); next = p.takes.next }, r.fits, r.stands)
 
 -- or its values are no numbers
-pub untaken : (e : Expected) (text : List ℕ) (n : ℕ) (k : Kind) (ws : List (List ℕ)) (rest : List ℕ) (m : ℕ) → Placed e text n k ws rest m → values written k ws ≡ None → FailsWith e text code.Number
+pub untaken : {e : Expected} {text : List ℕ} {n : ℕ} {k : Kind} {ws : List (List ℕ)} {rest : List ℕ} {m : ℕ} → Placed e text n k ws rest m → values written k ws ≡ None → FailsWith e text code.Number
 unfolding read_line
-untaken e text n k ws rest m p v = let at = p.placed in inr (p.line, rest, p.takes.split, rw (at, v) refl)
+untaken {rest = rest} p v = let at = p.placed in inr (p.line, rest, p.takes.split, rw (at, v) refl)
 
 -- ---- one step of the definition
 
@@ -123,24 +123,24 @@ over n p q (l ∷ ls) rest h =
     let count : n + 1 + length ls ≡ n + length (l ∷ ls) = omega arith in
     ap (λ (t : List ℕ). outcome n p (lines t)) text ∙ first ∙ more ∙ ap (λ (k : ℕ). outcome k q (lines rest)) count
 
-pub after : (n : ℕ) (p q : Place) (text : List ℕ) (ls : List Line) (rest : List ℕ) (m : ℕ) → ReadsLines text n ls rest m → Goes p ls q → outcome n p (lines text) ≡ outcome m q (lines rest)
-after n p q text ls rest m f g =
+pub after : {text : List ℕ} {n : ℕ} {ls : List Line} {rest : List ℕ} {m : ℕ} (p q : Place) → ReadsLines text n ls rest m → Goes p ls q → outcome n p (lines text) ≡ outcome m q (lines rest)
+after {n = n} {ls} {rest} p q f g =
     let parts = f.parts in
     let next = f.next in
     rw (parts, next) (over n p q ls rest g)
 
-pub fault_after : (x : CertFault) (n : ℕ) (p q : Place) (text : List ℕ) (ls : List Line) (rest : List ℕ) (m : ℕ)
+pub fault_after : {text : List ℕ} {n : ℕ} {ls : List Line} {rest : List ℕ} {m : ℕ} (x : CertFault) (p q : Place)
     → ReadsLines text n ls rest m → Goes p ls q → FaultFrom x m q rest → FaultFrom x n p text
-fault_after Memory n p q text ls rest m f g h = tt
-fault_after (At c k) n p q text ls rest m f g h = after n p q text ls rest m f g ∙ h
+fault_after Memory p q f g h = tt
+fault_after (At c k) p q f g h = after p q f g ∙ h
 
 pub text-append : (xs ys : List Line) → text_of_lines (xs ++ ys) ≡ text_of_lines xs ++ text_of_lines ys
 unfolding text_of_lines
 text-append [] ys = refl
 text-append (l ∷ xs) ys = ap (λ (t : List ℕ). spelling l ++ (10 ∷ t)) (text-append xs ys) ∙ sym (append_assoc (spelling l) (10 ∷ text_of_lines xs) (text_of_lines ys))
 
-pub follows_both : (a : List ℕ) (n : ℕ) (xs : List Line) (b : List ℕ) (m : ℕ) (ys : List Line) (c : List ℕ) (k : ℕ) → ReadsLines a n xs b m → ReadsLines b m ys c k → ReadsLines a n (xs ++ ys) c k
-follows_both a n xs b m ys c k f g = record {
+pub follows_both : {a : List ℕ} {n : ℕ} {xs : List Line} {b : List ℕ} {m : ℕ} {ys : List Line} {c : List ℕ} {k : ℕ} → ReadsLines a n xs b m → ReadsLines b m ys c k → ReadsLines a n (xs ++ ys) c k
+follows_both {n = n} {xs} {m = m} {ys} {c} {k} f g = record {
   parts = f.parts ∙ ap (λ (t : List ℕ). text_of_lines xs ++ t) g.parts ∙ sym (append_assoc (text_of_lines xs) (text_of_lines ys) c) ∙ ap (λ (t : List ℕ). t ++ c) (sym (text-append xs ys));
   next = lengths n m k xs ys f.next g.next;
 }

@@ -13,7 +13,7 @@ returns-in_err-pairs-clause-err c =
     let p = err_from_is_err_and c.from_residual.result c.from_residual.ensures.1 in
     let d = c.args.draft in
     rw (p.1, p.2) (pairs_fault c.in_err-pairs.field-0.0 d.stage (record { triangles = d.triangles; flats = d.flats })
-    c.args.count c.args.start.text.now c.args.start.line c.args.after.text.now c.args.after.line (omega arith)
+    c.args.count (omega arith)
     c.requires c.in_err-pairs.ensures.err)
 
 pub returns-in_err-rest-clause-err : goal.returns-in_err-rest-clause-err
@@ -22,9 +22,7 @@ returns-in_err-rest-clause-err c =
     let d = c.args.draft in
     let ps = c.in_ok-pairs.pairs.items in
     rw (p.1, p.2) (end_fault c.in_err-rest.field-0.0 d.stage (record { triangles = d.triangles; flats = d.flats })
-    c.args.count (map separator_of ps) c.args.start.text.now c.args.start.line c.args.after.text.now
-    c.args.after.line
-    c.in_ok-pairs.last.text.now c.in_ok-pairs.last.line (omega arith) c.requires (separators_fit ps)
+    c.args.count (map separator_of ps) (omega arith) c.requires (separators_fit ps)
     (length-map ps separator_of ∙ c.in_ok-pairs.ensures.count) c.in_ok-pairs.ensures.ok c.in_err-rest.ensures)
 
 pub returns-then-not-is_empty-clause-err : goal.returns-then-not-is_empty-clause-err
@@ -35,9 +33,8 @@ returns-then-not-is_empty-clause-err c =
     let len = length-map ps separator_of ∙ c.in_ok-pairs.ensures.count in
     let some : 0 < length rest.text.now = grind (arith, nat_tests) in
     let small : length (map separator_of ps) ≤ greatest_count = omega arith in
-    trailing_fault d.stage (record { triangles = d.triangles; flats = d.flats }) (map separator_of ps) c.args.start.text.now c.args.start.line rest.text.now rest.line (separators_fit ps) small
-    (pairs_follow c.args.start.text.now c.args.start.line c.args.count c.args.after.text.now c.args.after.line
-    (map separator_of ps) c.in_ok-pairs.last.text.now c.in_ok-pairs.last.line rest.text.now rest.line len c.requires
+    trailing_fault d.stage (record { triangles = d.triangles; flats = d.flats }) (map separator_of ps) (separators_fit ps) small
+    (pairs_follow (map separator_of ps) len c.requires
     c.in_ok-pairs.ensures.ok c.in_ok-rest.ensures)
     some
 
@@ -51,8 +48,6 @@ returns-clause-ok c =
     whole_cert c.cert_of.result d.pieces.items d.parcels.items ps _ _ (c.cert_of.ensures.pieces
     ∙ c.in_ok-pieces.ensures) (c.cert_of.ensures.parcels ∙ c.in_ok-parcels.ensures) c.cert_of.ensures.pairs
     (whole_of (map piece_of d.pieces.items) (map parcel_of d.parcels.items) (map separator_of ps)
-    c.args.start.text.now c.args.start.line rest.text.now rest.line
-    (pairs_follow c.args.start.text.now c.args.start.line c.args.count c.args.after.text.now c.args.after.line
-    (map separator_of ps) c.in_ok-pairs.last.text.now c.in_ok-pairs.last.line rest.text.now rest.line len c.requires
+    (pairs_follow (map separator_of ps) len c.requires
     c.in_ok-pairs.ensures.ok c.in_ok-rest.ensures)
     none)

@@ -2,7 +2,7 @@ use Rattle.lpis_cert.specs.declared.kind.Stage.TheVariants as stage
 use Rattle.std.proofs.Common.{◌≡◌, ◌++◌, ◌∷◌, [], map, arith, ◌∙◌}
 use Rattle.std.proofs.lemmas.Result.{err_from_is_err_and}
 use Rattle.std.proofs.lemmas.List.{length-map}
-use Rattle.lpis_cert.specs.CertText.{ParcelBlock, ParcelLine}
+use Rattle.lpis_cert.specs.CertText.{ParcelBlock}
 use Rattle.lpis_cert.specs.Faults.{InBody, grow_flats}
 use Rattle.lpis_cert.specs.Contents.{piece_of, parcel_of, all_corners, corner_numbers}
 use Rattle.lpis_cert.proofs.BlockLemmas.{all_corners_fit}
@@ -13,18 +13,18 @@ use Rattle.lpis_cert.proofs.blocks.parcel_block.Goals as goal
 pub returns-then-all_flats-gt-MOST_FLATS-clause-err : goal.returns-then-all_flats-gt-MOST_FLATS-clause-err
 returns-then-all_flats-gt-MOST_FLATS-clause-err c =
     let d = c.args.draft in
-    too_many_parcel (record { triangles = d.triangles; flats = d.flats }) d.stage c.args.id c.args.flat_count c.args.start.text.now c.args.start.line c.args.after.text.now c.args.after.line
+    too_many_parcel (record { triangles = d.triangles; flats = d.flats }) d.stage c.args.id c.args.flat_count
     (c.requires.named, omega arith) c.if-all_flats-gt-MOST_FLATS.true c.requires.begins
 
 pub returns-in_err-own_flats-clause-err : goal.returns-in_err-own_flats-clause-err
 returns-in_err-own_flats-clause-err c =
     let p = err_from_is_err_and c.from_residual.result c.from_residual.ensures.1 in
     let d = c.args.draft in
-    rw (p.1, p.2) (fault_after c.in_err-own_flats.field-0.0 c.args.start.line
+    rw (p.1, p.2) (fault_after c.in_err-own_flats.field-0.0
     (InBody d.stage 0 0 (record { triangles = d.triangles; flats = d.flats }))
     (InBody stage.Parcels 0 c.args.flat_count (grow_flats (record { triangles = d.triangles; flats = d.flats })
     c.args.flat_count))
-    c.args.start.text.now (ParcelLine c.args.id c.args.flat_count ∷ []) c.args.after.text.now c.args.after.line c.requires.begins
+    c.requires.begins
     (parcel_open d.stage (record { triangles = d.triangles; flats = d.flats }) c.args.id c.args.flat_count (c.requires.named, omega arith) d.triangles_few c.if-all_flats-gt-MOST_FLATS.false)
     (c.in_err-own_flats.ensures.err stage.Parcels 0 (grow_flats (record { triangles = d.triangles; flats = d.flats }) c.args.flat_count)))
 
@@ -37,6 +37,5 @@ returns-clause-ok c =
     rw c.in_ok-push.ensures.items (parcel_pushed d.parcels.items c.parcel_part.result c.args.id fs
     c.parcel_part.ensures.id c.parcel_part.ensures.flats) in
     parcel_grown (map piece_of d.pieces.items) (map parcel_of d.parcels.items) (map parcel_of c.push.new.self.items) q d.stage (record { triangles = d.triangles; flats = d.flats }) c.args.flat_count
-    c.args.start.text.now c.args.start.line c.args.after.text.now c.args.after.line c.in_ok-own_flats.rest.text.now c.in_ok-own_flats.rest.line
     grown (c.requires.named, omega arith) d.triangles_few c.if-all_flats-gt-MOST_FLATS.false (all_corners_fit fs)
     (length-map fs corner_numbers ∙ c.in_ok-own_flats.ensures.count) c.requires.begins c.in_ok-own_flats.ensures.ok

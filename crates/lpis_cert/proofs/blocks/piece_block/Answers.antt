@@ -20,7 +20,7 @@ returns-then-all_triangles-gt-MOST_TRIANGLES-clause-err c =
       | then-all_triangles-gt-MOST_TRIANGLES-via-else-all_triangles-gt-MOST_TRIANGLES+then-all_flats-gt-MOST_FLATS w ↦ inr w.if-all_flats-gt-MOST_FLATS.true
     ] in
     too_many_piece (record { triangles = d.triangles; flats = d.flats }) d.stage c.args.id c.args.triangle_count
-    c.args.flat_count c.args.start.text.now c.args.start.line c.args.after.text.now c.args.after.line
+    c.args.flat_count
     c.requires.fresh (c.requires.named, omega arith, omega arith) over c.requires.begins
 
 pub returns-in_err-own_triangles-clause-err : goal.returns-in_err-own_triangles-clause-err
@@ -28,8 +28,7 @@ returns-in_err-own_triangles-clause-err c =
     let p = err_from_is_err_and c.from_residual.result c.from_residual.ensures.1 in
     let d = c.args.draft in
     rw (p.1, p.2) (piece_fault c.in_err-own_triangles.field-0.0 (record { triangles = d.triangles; flats = d.flats })
-    d.stage c.args.id c.args.triangle_count c.args.flat_count c.args.start.text.now c.args.start.line
-    c.args.after.text.now c.args.after.line
+    d.stage c.args.id c.args.triangle_count c.args.flat_count
     c.requires.fresh (c.requires.named, omega arith, omega arith) c.if-all_triangles-gt-MOST_TRIANGLES.false c.if-all_flats-gt-MOST_FLATS.false c.requires.begins
     (c.in_err-own_triangles.ensures.err stage.Pieces c.args.flat_count (grow (record { triangles = d.triangles; flats = d.flats }) c.args.triangle_count c.args.flat_count)))
 
@@ -39,9 +38,7 @@ returns-in_err-own_flats-clause-err c =
     let d = c.args.draft in
     let ts = c.in_ok-own_triangles.own_triangles.items in
     rw (p.1, p.2) (flat_fault c.in_err-own_flats.field-0.0 (record { triangles = d.triangles; flats = d.flats }) d.stage
-    c.args.id c.args.triangle_count c.args.flat_count (all_corners ts) c.args.start.text.now c.args.start.line
-    c.args.after.text.now c.args.after.line
-    c.in_ok-own_triangles.middle.text.now c.in_ok-own_triangles.middle.line
+    c.args.id c.args.triangle_count c.args.flat_count (all_corners ts)
     c.requires.fresh (c.requires.named, omega arith, omega arith) c.if-all_triangles-gt-MOST_TRIANGLES.false
     c.if-all_flats-gt-MOST_FLATS.false c.requires.begins (all_corners_fit ts) (length-map ts corner_numbers
     ∙ c.in_ok-own_triangles.ensures.count) c.in_ok-own_triangles.ensures.ok
@@ -59,9 +56,6 @@ returns-clause-ok c =
     let none = length-map d.parcels.items parcel_of ∙ d.no_parcels c.requires.fresh in
     piece_grown (map piece_of d.pieces.items) (map piece_of c.push.new.self.items) (map parcel_of d.parcels.items) q
     d.stage (record { triangles = d.triangles; flats = d.flats }) c.args.triangle_count c.args.flat_count
-    c.args.start.text.now c.args.start.line c.args.after.text.now c.args.after.line
-    c.in_ok-own_triangles.middle.text.now c.in_ok-own_triangles.middle.line c.in_ok-own_flats.rest.text.now
-    c.in_ok-own_flats.rest.line
     grown c.requires.fresh none (c.requires.named, omega arith, omega arith) c.if-all_triangles-gt-MOST_TRIANGLES.false c.if-all_flats-gt-MOST_FLATS.false (all_corners_fit ts) (all_corners_fit fs)
     (length-map ts corner_numbers ∙ c.in_ok-own_triangles.ensures.count) (length-map fs corner_numbers
     ∙ c.in_ok-own_flats.ensures.count) c.requires.begins c.in_ok-own_triangles.ensures.ok

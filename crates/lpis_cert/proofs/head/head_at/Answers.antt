@@ -1,5 +1,4 @@
 use Rattle.std.proofs.Common.{refl}
-use Rattle.lpis_cert.specs.declared.kind.Expected.TheVariants.{Block}
 use Rattle.lpis_cert.specs.CertText.{PieceLine, ParcelLine, PairsLine}
 use Rattle.lpis_cert.proofs.StepLemmas.{taken, untaken}
 use Rattle.lpis_cert.proofs.HeadLemmas.{values_piece, values_parcel, values_pairs, stands_of, no_block}
@@ -7,45 +6,44 @@ use Rattle.lpis_cert.proofs.head.head_at.Goals as goal
 
 pub named-requires : goal.named-requires
 named-requires c =
-    (taken (Block c.args.stage) _ _ _ _ _ _ (PieceLine c.in-Some.id.now c.in-Some.triangles c.in-Some.flats)
+    (taken (PieceLine c.in-Some.id.now c.in-Some.triangles c.in-Some.flats)
     c.in_ok-kind.ensures (values_piece _ _ _ c.in-Piece.is c.in-Some.ensures)).1.0
 
 pub named-requires-in-Some-parcel_fields : goal.named-requires-in-Some-parcel_fields
 named-requires-in-Some-parcel_fields c =
-    (taken (Block c.args.stage) _ _ _ _ _ _ (ParcelLine c.in-Some-parcel_fields.id.now c.in-Some-parcel_fields.flats)
+    (taken (ParcelLine c.in-Some-parcel_fields.id.now c.in-Some-parcel_fields.flats)
     c.in_ok-kind.ensures (values_parcel _ _ _ c.in-Parcel.is c.in-Some-parcel_fields.ensures)).1.0
 
 pub returns-in_ok-named-in-Some-clause-ok : goal.returns-in_ok-named-in-Some-clause-ok
 returns-in_ok-named-in-Some-clause-ok c =
     let id = c.in_ok-named-in-Some.ensures in
-    rw id (taken (Block c.args.stage) _ _ _ _ _ _ (PieceLine c.in-Some.id.now c.in-Some.triangles c.in-Some.flats) c.in_ok-kind.ensures (values_piece _ _ _ c.in-Piece.is c.in-Some.ensures)).0
+    rw id (taken (PieceLine c.in-Some.id.now c.in-Some.triangles c.in-Some.flats) c.in_ok-kind.ensures (values_piece _ _ _ c.in-Piece.is c.in-Some.ensures)).0
 
 pub returns-in_ok-named-in-Some-clause-stands : goal.returns-in_ok-named-in-Some-clause-stands
 returns-in_ok-named-in-Some-clause-stands c =
-    (taken (Block c.args.stage) _ _ _ _ _ _ (PieceLine c.in-Some.id.now c.in-Some.triangles c.in-Some.flats)
+    (taken (PieceLine c.in-Some.id.now c.in-Some.triangles c.in-Some.flats)
     c.in_ok-kind.ensures (values_piece _ _ _ c.in-Piece.is c.in-Some.ensures)).2
 
 pub returns-in-None-clause-err : goal.returns-in-None-clause-err
-returns-in-None-clause-err c = (refl, untaken (Block c.args.stage) _ _ _ _ _ _ c.in_ok-kind.ensures (values_piece _ _ _ c.in-Piece.is c.in-None.ensures))
+returns-in-None-clause-err c = (refl, untaken c.in_ok-kind.ensures (values_piece _ _ _ c.in-Piece.is c.in-None.ensures))
 
 pub returns-in_ok-named-in-Some-parcel_fields-clause-ok : goal.returns-in_ok-named-in-Some-parcel_fields-clause-ok
 returns-in_ok-named-in-Some-parcel_fields-clause-ok c =
     let id = c.in_ok-named-in-Some-parcel_fields.ensures in
     rw id
-    (taken (Block c.args.stage) _ _ _ _ _ _
-    (ParcelLine c.in-Some-parcel_fields.id.now c.in-Some-parcel_fields.flats) c.in_ok-kind.ensures
+    (taken (ParcelLine c.in-Some-parcel_fields.id.now c.in-Some-parcel_fields.flats) c.in_ok-kind.ensures
     (values_parcel _ _ _ c.in-Parcel.is c.in-Some-parcel_fields.ensures)).0
 
 pub returns-in-None-parcel_fields-clause-err : goal.returns-in-None-parcel_fields-clause-err
-returns-in-None-parcel_fields-clause-err c = (refl, untaken (Block c.args.stage) _ _ _ _ _ _ c.in_ok-kind.ensures (values_parcel _ _ _ c.in-Parcel.is c.in-None-parcel_fields.ensures))
+returns-in-None-parcel_fields-clause-err c = (refl, untaken c.in_ok-kind.ensures (values_parcel _ _ _ c.in-Parcel.is c.in-None-parcel_fields.ensures))
 
 pub returns-in-Some-pairs_fields-clause-ok : goal.returns-in-Some-pairs_fields-clause-ok
 returns-in-Some-pairs_fields-clause-ok c =
-    (taken (Block c.args.stage) _ _ _ _ _ _ (PairsLine c.in-Some-pairs_fields.count) c.in_ok-kind.ensures
+    (taken (PairsLine c.in-Some-pairs_fields.count) c.in_ok-kind.ensures
     (values_pairs _ _ _ c.in-Pairs.is c.in-Some-pairs_fields.ensures)).0
 
 pub returns-in-None-pairs_fields-clause-err : goal.returns-in-None-pairs_fields-clause-err
-returns-in-None-pairs_fields-clause-err c = (refl, untaken (Block c.args.stage) _ _ _ _ _ _ c.in_ok-kind.ensures (values_pairs _ _ _ c.in-Pairs.is c.in-None-pairs_fields.ensures))
+returns-in-None-pairs_fields-clause-err c = (refl, untaken c.in_ok-kind.ensures (values_pairs _ _ _ c.in-Pairs.is c.in-None-pairs_fields.ensures))
 
 pub unreachable-requires : goal.unreachable-requires
 unreachable-requires c = no_block c.args.stage c.in_ok-kind.kind (stands_of c.args.stage _ _ _ _ _ _ c.in_ok-kind.ensures) c.in-Triangle.is

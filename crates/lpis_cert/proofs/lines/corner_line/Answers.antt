@@ -8,13 +8,13 @@ use Rattle.lpis_cert.proofs.lines.corner_line.Goals as goal
 pub returns-in-Some-corners : goal.returns-in-Some-corners
 returns-in-Some-corners c =
     let kind = c.corner_kind.ensures in
-    corner_taken c.args.flat c.args.rest.text.now c.args.rest.line c.in_ok-words.field-0-0 _ _ _
+    corner_taken c.args.flat
     (corner_numbers c.in-Some-corners.triangle) (rw kind at c.in_ok-words.ensures) c.in-Some-corners.ensures
 
 pub returns-in-None : goal.returns-in-None
 returns-in-None c =
     let kind = c.corner_kind.ensures in
-    (refl, corner_untaken c.args.flat c.args.rest.text.now c.args.rest.line c.in_ok-words.field-0-0 _ _ _ (rw kind at c.in_ok-words.ensures) c.in-None.ensures)
+    (refl, corner_untaken c.args.flat (rw kind at c.in_ok-words.ensures) c.in-None.ensures)
 
 pub returns-in-Some : goal.returns-in-Some
 returns-in-Some c = begun c.args.rest.text.now c.args.rest.line (corner_line c.args.flat (corner_numbers c.in-Some.triangle)) c.in-Some.text.now c.in-Some.ensures

@@ -15,7 +15,7 @@ pub returns-in_err-triangle-clause-err : goal.returns-in_err-triangle-clause-err
 returns-in_err-triangle-clause-err c =
     let p = err_from_is_err_and c.from_residual.result c.from_residual.ensures.1 in
     let ts = c.loop.triangles.items in
-    rw (p.1, p.2) (corner_fault c.in_err-triangle.field-0.0 c.args.flat (all_corners ts) c.args.count c.loop.counter c.args.rest.text.now c.args.rest.line c.loop.left.text.now c.loop.left.line
+    rw (p.1, p.2) (corner_fault c.in_err-triangle.field-0.0 c.args.flat (all_corners ts) c.args.count c.loop.counter
     (all_corners_fit ts) c.loop-test.true (length-map ts corner_numbers ∙ c.loop.invariant.count) c.loop.invariant.follows c.in_err-triangle.ensures)
 
 pub loop-preserved : goal.loop-preserved
@@ -24,7 +24,6 @@ loop-preserved c =
     let t = c.in_ok-triangle.triangle in
     let e : c.push.new.self.items ≡ ts ++ t ∷ [] = c.in_ok-push.ensures.items in
     rw e (record {
-      follows = corner_more c.args.flat ts t c.args.rest.text.now c.args.rest.line c.loop.left.text.now c.loop.left.line
-          c.in_ok-triangle.after.text.now c.in_ok-triangle.after.line c.loop.invariant.follows c.in_ok-triangle.ensures;
+      follows = corner_more c.args.flat ts t c.loop.invariant.follows c.in_ok-triangle.ensures;
       count = length-append ts (t ∷ []) ∙ ap (λ (k : ℕ). k + 1) c.loop.invariant.count;
     })

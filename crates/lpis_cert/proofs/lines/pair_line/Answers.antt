@@ -4,7 +4,7 @@ use Rattle.lpis_cert.specs.Contents.{separator_of}
 use Rattle.lpis_cert.proofs.lines.pair_line.Goals as goal
 
 pub returns-in-Some : goal.returns-in-Some
-returns-in-Some c = pair_taken c.args.rest.text.now c.args.rest.line c.in_ok-words.field-0-0 _ _ _ (separator_of c.in-Some.pair) c.in_ok-words.ensures c.in-Some.ensures
+returns-in-Some c = pair_taken (separator_of c.in-Some.pair) c.in_ok-words.ensures c.in-Some.ensures
 
 pub returns-in-None : goal.returns-in-None
-returns-in-None c = (refl, pair_untaken c.args.rest.text.now c.args.rest.line c.in_ok-words.field-0-0 _ _ _ c.in_ok-words.ensures c.in-None.ensures)
+returns-in-None c = (refl, pair_untaken c.in_ok-words.ensures c.in-None.ensures)

@@ -15,7 +15,7 @@ pub returns-in_err-pair-clause-err : goal.returns-in_err-pair-clause-err
 returns-in_err-pair-clause-err c =
     let p = err_from_is_err_and c.from_residual.result c.from_residual.ensures.1 in
     let ts = c.loop.pairs.items in
-    rw (p.1, p.2) (pair_fault c.in_err-pair.field-0.0 (map separator_of ts) c.args.count c.loop.counter c.args.rest.text.now c.args.rest.line c.loop.left.text.now c.loop.left.line
+    rw (p.1, p.2) (pair_fault c.in_err-pair.field-0.0 (map separator_of ts) c.args.count c.loop.counter
     (separators_fit ts) c.loop-test.true (length-map ts separator_of ∙ c.loop.invariant.count) c.loop.invariant.follows c.in_err-pair.ensures)
 
 pub loop-preserved : goal.loop-preserved
@@ -24,7 +24,6 @@ loop-preserved c =
     let t = c.in_ok-pair.pair in
     let e : c.push.new.self.items ≡ ts ++ t ∷ [] = c.in_ok-push.ensures.items in
     rw e (record {
-      follows = pair_more ts t c.args.rest.text.now c.args.rest.line c.loop.left.text.now c.loop.left.line
-          c.in_ok-pair.after.text.now c.in_ok-pair.after.line c.loop.invariant.follows c.in_ok-pair.ensures;
+      follows = pair_more ts t c.loop.invariant.follows c.in_ok-pair.ensures;
       count = length-append ts (t ∷ []) ∙ ap (λ (k : ℕ). k + 1) c.loop.invariant.count;
     })
