@@ -1,16 +1,18 @@
 -- From what tables hold to the history that they say.
-use Rattle.std.proofs.Common.{◌≡◌, List, true, Ok, Err, Result, OnOk}
+use Rattle.std.proofs.Common.{◌≡◌, ℕ, List, true, Ok, Err, Result, OnOk}
 use Rattle.std.specs.Prelude.{OnErr}
 use Rattle.sqlite.specs.Tree.{Trees}
 use Rattle.sqlite.specs.State.{State, Survives}
 use Rattle.sqlite.specs.declared.error.Error.{Error}
 use Rattle.sqlite.proofs.StateLemmas.{survives_weaker}
 use Rattle.lpis_lineage.specs.declared.row.Entry.{Entry}
+use Rattle.lpis_lineage.specs.declared.row.Row.{Row}
 use Rattle.lpis_records.specs.Content.{Content}
 use Rattle.lpis_records.specs.Tells.{Tells}
 use Rattle.lpis_tables.specs.Shapes.{Shape, has_spans}
 use Rattle.lpis_tables.specs.Holding.{IsStored, Leaves}
 use Rattle.lpis_register.specs.Histories.{HoldsHistory, LeavesHistory}
+use Rattle.lpis_register.specs.private.Writes.{Writes}
 
 module _ (shape : Shape) (spans : has_spans shape ≡ true) (c : Content) (h : List Entry) (tells : Tells c h) where
   pub holds_ok : (new : State) (r : Result (Unit {0}) Error) → OnOk r (IsStored shape new c) → OnOk r (HoldsHistory new h)
@@ -30,3 +32,11 @@ module _ (shape : Shape) (spans : has_spans shape ≡ true) (c : Content) (h : L
   pub left_ok : (may : Trees → Type 0) (r : Result (Unit {0}) Error) → OnOk r ((db : Trees) → may db → Leaves shape c db) → OnOk r ((db : Trees) → may db → LeavesHistory h db)
   left_ok may (Ok _) left = λ db there. left_with db (left db there)
   left_ok may (Err e) none = tt
+
+-- with another fault in place of the database's error
+module _ {now : List Entry} {year last : ℕ} {gone fresh : List (List ℕ)} {rows : List Row} {old new : State} {D E : Type 0} where
+  pub wrote_as : {x y : Unit {0}} → Writes now year last gone fresh rows {E = D} old new (Ok x) → Writes now year last gone fresh rows {E = E} old new (Ok y)
+  wrote_as w = record { ok = w.ok; err = λ h clean up holds. tt; crash = w.crash; durable = w.durable }
+
+  pub fails_as : {d : D} {e : E} → Writes now year last gone fresh rows {E = D} old new (Err d) → Writes now year last gone fresh rows {E = E} old new (Err e)
+  fails_as w = record { ok = λ h due clean holds. tt; err = w.err; crash = w.crash; durable = λ h due clean holds. tt }

@@ -5,10 +5,10 @@ ghost use Rattle.sqlite.specs.Held.{state};
 ghost use Rattle.sqlite.specs.State.{HasCleanDisk, Survives};
 ghost use Rattle.lpis_lineage.specs.Accepts.{Adds};
 ghost use Rattle.lpis_lineage.specs.Changes.{IsChange};
-ghost use Rattle.lpis_lineage.specs.Lineage.{last_live, last_year};
-ghost use Rattle.lpis_records.specs.Tells.{IsWriting};
+ghost use Rattle.lpis_lineage.specs.Lineage.{last_live};
 ghost use Rattle.lpis_register.specs.Histories.{HoldsHistory, LeavesHistory, LeavesRelease};
 ghost use Rattle.lpis_register.specs.Histories.{PublishTells};
+ghost use Rattle.lpis_register.specs.private.Writes.{Writes};
 ghost use Rattle.lpis_register.specs.declared.fault.PublishFault.TheVariants.{Store};
 
 use crate::fault::PublishFault;
@@ -30,23 +30,8 @@ fn write_prepared<S: Alter>(
 ) -> Result<(), PublishFault>
     requires autocommit { conn.old.in_transaction ≡ false }
     ensures autocommit { conn.new.in_transaction ≡ false }
-    ensures ok { (h : _) (live : _) → Adds h history.now year live rows.now → last ≡ last_year h
-        → IsWriting h live prepared.now.change.dropped_ids prepared.now.fresh.items
-        → HasCleanDisk (state S.Store conn.new) → HoldsHistory (state S.Store conn.old) h
-        → OnOk result (HoldsHistory (state S.Store conn.new) history.now) }
-    ensures err { (h : _) → HasCleanDisk (state S.Store conn.new)
-        → IsTrue (state S.Store conn.new).is_open → HoldsHistory (state S.Store conn.old) h
-        → OnErr result (HoldsHistory (state S.Store conn.new) h) }
-    ensures crash { (h : _) (live : _) → Adds h history.now year live rows.now → last ≡ last_year h
-        → IsWriting h live prepared.now.change.dropped_ids prepared.now.fresh.items
-        → HoldsHistory (state S.Store conn.old) h → Survives (state S.Store conn.old)
-        (state S.Store conn.new) (LeavesHistory history.now) }
-    ensures durable { (h : _) (live : _) → Adds h history.now year live rows.now
-        → last ≡ last_year h → IsWriting h live prepared.now.change.dropped_ids
-        prepared.now.fresh.items → HasCleanDisk (state S.Store conn.new)
-        → HoldsHistory (state S.Store conn.old) h
-        → OnOk result ((db : _) → (state S.Store conn.new).may_leave db
-        → LeavesHistory history.now db) }
+    ensures writes { Writes history.now year last prepared.now.change.dropped_ids
+        prepared.now.fresh.items rows.now (state S.Store conn.old) (state S.Store conn.new) result }
     ensures fault { IfErr result (λ e. e ≡ Store) }
 {
     let dropped = prepared.change.dropped();

@@ -1,12 +1,8 @@
 //! Writing a release that the history has at its end.
 
-ghost use Rattle.std.specs.Prelude.{◌≡◌, false, IsTrue, OnOk, OnErr};
+ghost use Rattle.std.specs.Prelude.{◌≡◌, false};
 ghost use Rattle.sqlite.specs.Held.{state};
-ghost use Rattle.sqlite.specs.State.{HasCleanDisk, Survives};
-ghost use Rattle.lpis_lineage.specs.Accepts.{Adds};
-ghost use Rattle.lpis_lineage.specs.Lineage.{last_year};
-ghost use Rattle.lpis_records.specs.Tells.{IsWriting};
-ghost use Rattle.lpis_register.specs.Histories.{HoldsHistory, LeavesHistory};
+ghost use Rattle.lpis_register.specs.private.Writes.{Writes};
 
 use lpis_covers::Id;
 use lpis_lineage::{History, Row};
@@ -27,21 +23,8 @@ pub(crate) fn write_history<S: Alter>(
 ) -> Result<(), Error>
     requires autocommit { conn.old.in_transaction ≡ false }
     ensures autocommit { conn.new.in_transaction ≡ false }
-    ensures ok { (h : _) (live : _) → Adds h history.now year live rows.now → last ≡ last_year h
-        → IsWriting h live dropped.now fresh.now → HasCleanDisk (state S.Store conn.new)
-        → HoldsHistory (state S.Store conn.old) h
-        → OnOk result (HoldsHistory (state S.Store conn.new) history.now) }
-    ensures err { (h : _) → HasCleanDisk (state S.Store conn.new)
-        → IsTrue (state S.Store conn.new).is_open → HoldsHistory (state S.Store conn.old) h
-        → OnErr result (HoldsHistory (state S.Store conn.new) h) }
-    ensures crash { (h : _) (live : _) → Adds h history.now year live rows.now → last ≡ last_year h
-        → IsWriting h live dropped.now fresh.now → HoldsHistory (state S.Store conn.old) h
-        → Survives (state S.Store conn.old) (state S.Store conn.new) (LeavesHistory history.now) }
-    ensures durable { (h : _) (live : _) → Adds h history.now year live rows.now
-        → last ≡ last_year h → IsWriting h live dropped.now fresh.now
-        → HasCleanDisk (state S.Store conn.new) → HoldsHistory (state S.Store conn.old) h
-        → OnOk result ((db : _) → (state S.Store conn.new).may_leave db
-        → LeavesHistory history.now db) }
+    ensures writes { Writes history.now year last dropped.now fresh.now rows.now
+        (state S.Store conn.old) (state S.Store conn.new) result }
 {
     let _ = history.releases();
     publishing_adds_the_release();

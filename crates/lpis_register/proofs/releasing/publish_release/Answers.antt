@@ -5,7 +5,8 @@ use Rattle.lpis_register.proofs.releasing.publish_release.Goals as goal
 
 pub returns-in-Ok-clause-ok : goal.returns-in-Ok-clause-ok
 returns-in-Ok-clause-ok g c clean holds =
-    c.in-Ok.ensures.ok c.args.history.now c.args.live.now c.in_ok-grow.ensures.adds c.last_year-last.ensures c.in_ok-prepared.ensures.writing clean holds
+    c.in-Ok.ensures.writes.ok c.args.history.now
+    (record { live = c.args.live.now; adds = c.in_ok-grow.ensures.adds; last_is = c.last_year-last.ensures; writing = c.in_ok-prepared.ensures.writing }) clean holds
 
 pub returns-in-Ok-clause-crash : goal.returns-in-Ok-clause-crash
 returns-in-Ok-clause-crash g c holds =
@@ -14,11 +15,13 @@ returns-in-Ok-clause-crash g c holds =
     survives_weaker (state g.S.Store c.args.conn.now) (state g.S.Store c.write_prepared.new.conn)
     (LeavesHistory more) (LeavesRelease old c.args.year c.args.live.now c.args.rows.now)
     (λ clean db left. (more, c.in_ok-grow.ensures.adds, left))
-    (c.in-Ok.ensures.crash c.args.history.now c.args.live.now c.in_ok-grow.ensures.adds c.last_year-last.ensures c.in_ok-prepared.ensures.writing holds)
+    (c.in-Ok.ensures.writes.crash c.args.history.now
+    (record { live = c.args.live.now; adds = c.in_ok-grow.ensures.adds; last_is = c.last_year-last.ensures; writing = c.in_ok-prepared.ensures.writing }) holds)
 
 pub returns-in-Ok-clause-durable : goal.returns-in-Ok-clause-durable
 returns-in-Ok-clause-durable g c clean holds =
-    c.in-Ok.ensures.durable c.args.history.now c.args.live.now c.in_ok-grow.ensures.adds c.last_year-last.ensures c.in_ok-prepared.ensures.writing clean holds
+    c.in-Ok.ensures.writes.durable c.args.history.now
+    (record { live = c.args.live.now; adds = c.in_ok-grow.ensures.adds; last_is = c.last_year-last.ensures; writing = c.in_ok-prepared.ensures.writing }) clean holds
 
 pub returns-in-Err-clause-refused : goal.returns-in-Err-clause-refused
 returns-in-Err-clause-refused g c = let adds = c.in_ok-grow.ensures.adds in c.take_back.ensures c.args.history.now adds.0 adds.1
@@ -30,4 +33,5 @@ returns-in-Err-clause-crash g c holds =
     survives_weaker (state g.S.Store c.args.conn.now) (state g.S.Store c.write_prepared.new.conn)
     (LeavesHistory more) (LeavesRelease old c.args.year c.args.live.now c.args.rows.now)
     (λ clean db left. (more, c.in_ok-grow.ensures.adds, left))
-    (c.in-Err.ensures.crash c.args.history.now c.args.live.now c.in_ok-grow.ensures.adds c.last_year-last.ensures c.in_ok-prepared.ensures.writing holds)
+    (c.in-Err.ensures.writes.crash c.args.history.now
+    (record { live = c.args.live.now; adds = c.in_ok-grow.ensures.adds; last_is = c.last_year-last.ensures; writing = c.in_ok-prepared.ensures.writing }) holds)

@@ -1,46 +1,30 @@
-use Rattle.std.proofs.Common.{◌≤◌, pos, arith, sym, subst, ◌∙◌}
+use Rattle.std.proofs.Common.{◌≤◌, pos, arith, sym, subst₂, List, ◌∙◌}
 use Rattle.sqlite.specs.Held.{state}
+use Rattle.lpis_lineage.specs.declared.row.Entry.{Entry}
 use Rattle.lpis_records.specs.Content.{published}
 use Rattle.lpis_records.specs.Tells.{Tells}
+use Rattle.lpis_register.specs.Histories.{HoldsHistory}
+use Rattle.lpis_register.specs.private.Writes.{IsDue}
 use Rattle.lpis_register.proofs.PublishedLemmas.{holds_ok, holds_err, survives_with, left_ok}
 use Rattle.lpis_register.proofs.storing.write_history.Goals as goal
 
-pub returns-clause-ok : goal.returns-clause-ok
-returns-clause-ok g c h live adds last_is writing clean holds =
-    let low : c.args.year ≤ 65535 = omega (arith, c.ranges.year.fits) in
+pub returns-clause-writes : goal.returns-clause-writes
+returns-clause-writes g c =
+    let old = state g.S.Store c.args.conn.now in
+    let new = state g.S.Store c.write_release.new.conn in
     let now = c.args.history.now in
-    let told = c.publishing_adds_the_release.ensures holds.content h now c.args.year live c.args.dropped.now
-    c.args.fresh.now c.args.rows.now holds.tells adds c.releases.ensures.lawful c.releases.ensures.fits low writing
-    in
-    let then = subst (λ l. Tells (published (pos c.args.year) (pos l) c.args.dropped.now c.args.fresh.now c.args.rows.now holds.content) now) (sym last_is ∙ sym c.from-2.ensures) told in
-    let tells = subst (λ y. Tells (published (pos y) (pos c.from-2.result) c.args.dropped.now c.args.fresh.now c.args.rows.now holds.content) now) (sym c.from.ensures) then in
-    holds_ok holds.shape holds.spans _ now tells (state g.S.Store c.write_release.new.conn) c.write_release.result (c.write_release.ensures.ok clean holds.shape holds.spans holds.content holds.stored)
-
-pub returns-clause-err : goal.returns-clause-err
-returns-clause-err g c h clean up holds =
-    holds_err holds.shape holds.spans holds.content h holds.tells (state g.S.Store c.write_release.new.conn)
-    c.write_release.result (c.write_release.ensures.err clean up holds.shape holds.spans holds.content holds.stored)
-
-pub returns-clause-crash : goal.returns-clause-crash
-returns-clause-crash g c h live adds last_is writing holds =
+    let gone = c.args.dropped.now in
+    let fresh = c.args.fresh.now in
+    let rows = c.args.rows.now in
     let low : c.args.year ≤ 65535 = omega (arith, c.ranges.year.fits) in
-    let now = c.args.history.now in
-    let told = c.publishing_adds_the_release.ensures holds.content h now c.args.year live c.args.dropped.now
-    c.args.fresh.now c.args.rows.now holds.tells adds c.releases.ensures.lawful c.releases.ensures.fits low writing
-    in
-    let then = subst (λ l. Tells (published (pos c.args.year) (pos l) c.args.dropped.now c.args.fresh.now c.args.rows.now holds.content) now) (sym last_is ∙ sym c.from-2.ensures) told in
-    let tells = subst (λ y. Tells (published (pos y) (pos c.from-2.result) c.args.dropped.now c.args.fresh.now c.args.rows.now holds.content) now) (sym c.from.ensures) then in
-    survives_with holds.shape holds.spans _ now tells (state g.S.Store c.args.conn.now)
-    (state g.S.Store c.write_release.new.conn) (c.write_release.ensures.crash holds.shape holds.spans holds.content
-    holds.stored)
-
-pub returns-clause-durable : goal.returns-clause-durable
-returns-clause-durable g c h live adds last_is writing clean holds =
-    let low : c.args.year ≤ 65535 = omega (arith, c.ranges.year.fits) in
-    let now = c.args.history.now in
-    let told = c.publishing_adds_the_release.ensures holds.content h now c.args.year live c.args.dropped.now
-    c.args.fresh.now c.args.rows.now holds.tells adds c.releases.ensures.lawful c.releases.ensures.fits low writing
-    in
-    let then = subst (λ l. Tells (published (pos c.args.year) (pos l) c.args.dropped.now c.args.fresh.now c.args.rows.now holds.content) now) (sym last_is ∙ sym c.from-2.ensures) told in
-    let tells = subst (λ y. Tells (published (pos y) (pos c.from-2.result) c.args.dropped.now c.args.fresh.now c.args.rows.now holds.content) now) (sym c.from.ensures) then in
-    left_ok holds.shape holds.spans _ now tells _ c.write_release.result (c.write_release.ensures.durable clean holds.shape holds.spans holds.content holds.stored)
+    let tells : (h : List Entry) → IsDue now c.args.year c.args.last gone fresh rows h → (holds : HoldsHistory old h)
+    → Tells (published (pos c.from.result) (pos c.from-2.result) gone fresh rows holds.content) now =
+    λ h due holds. subst₂ (λ y l. Tells (published (pos y) (pos l) gone fresh rows holds.content) now) (sym c.from.ensures) (sym due.last_is ∙ sym c.from-2.ensures)
+    (c.publishing_adds_the_release.ensures holds.content h now c.args.year due.live gone fresh rows holds.tells due.adds c.releases.ensures.lawful c.releases.ensures.fits low due.writing) in
+    let wrote = c.write_release.ensures in
+    record {
+      ok = λ h due clean holds. holds_ok holds.shape holds.spans _ now (tells h due holds) new c.write_release.result (wrote.ok clean holds.shape holds.spans holds.content holds.stored);
+      err = λ h clean up holds. holds_err holds.shape holds.spans holds.content h holds.tells new c.write_release.result (wrote.err clean up holds.shape holds.spans holds.content holds.stored);
+      crash = λ h due holds. survives_with holds.shape holds.spans _ now (tells h due holds) old new (wrote.crash holds.shape holds.spans holds.content holds.stored);
+      durable = λ h due clean holds. left_ok holds.shape holds.spans _ now (tells h due holds) _ c.write_release.result (wrote.durable clean holds.shape holds.spans holds.content holds.stored);
+    }
