@@ -1,14 +1,7 @@
-use Rattle.std.proofs.Common.{◌≡◌, ◌∙◌, ◌≤◌, ℕ, ℤ, pos, sym, subst, List, true, length, map, IsPermutation}
-use Rattle.std.specs.List.{All, filter}
+use Rattle.std.proofs.Common.{◌∙◌, ◌≤◌, ℕ, sym}
 use Rattle.std.proofs.lemmas.List.Elements.{recursion_from_All}
 use Rattle.std.proofs.lemmas.Result.{err_from_is_err_and}
-use Rattle.lpis_covers.specs.Ids.{is_id, same_id}
-use Rattle.lpis_records.specs.declared.known.KnownSpan.{KnownSpan}
-use Rattle.lpis_records.specs.declared.known.KnownLine.{KnownLine}
-use Rattle.lpis_records.specs.Content.{Line, StoredSpan}
-use Rattle.lpis_records.specs.Tells.{IsSpanRow, last_of_years, lines_of, years_of}
-use Rattle.lpis_records.specs.private.Fronts.{IsSaid}
-use Rattle.lpis_records.specs.private.Known.{IsReadable, IsYear, SetsAre, line_in, span_in}
+use Rattle.lpis_records.specs.Tells.{last_of_years}
 use Rattle.lpis_records.proofs.KnownLemmas.{no-both}
 use Rattle.lpis_records.proofs.RefusingLemmas.{told-few, told-ids, told-lines, told-right, told-said, told-sorted-years, told-years}
 use Rattle.lpis_records.proofs.SayingLemmas.{says}
@@ -20,14 +13,14 @@ returns-clause-ok c =
     says c.args.rows.now h c.in_ok-years.years.items c.in_ok-spans.spans.items c.in_ok-lines.lines.items c.releases.ensures.lawful c.releases.ensures.fits
     (recursion_from_All (λ (y : ℕ). y ≤ last_of_years) c.in_ok-years.years.items c.in_ok-years.ensures.small)
     (sym c.formats.ensures ∙ c.has_version.ensures.0 c.if-not-has_version.false)
-    (subst (λ (l : List ℤ). IsPermutation l (map (λ y. pos y) c.in_ok-years.years.items)) c.years.ensures c.in_ok-years.ensures.same)
+    (rw c.years.ensures at c.in_ok-years.ensures.same)
     (c.in_ok-spans.ensures.same ∙ c.spans.ensures) c.in_ok-spans.ensures.ids
-    (subst (λ (l : List KnownSpan). (id : List ℕ) → length (filter (λ s. same_id id s.id) l) ≤ 1) c.as_slice.ensures.value (c.in_ok-once.ensures.once c.if-not-once.false))
-    (subst (λ (l : List Line). IsPermutation l (map line_in c.in_ok-lines.lines.items)) c.lines.ensures c.in_ok-lines.ensures.same)
-    (subst (λ (l : List ℕ). years_of h ≡ map (λ y. pos y) l) c.as_slice-2.ensures.value c.in_ok-history.ensures.years)
-    (subst (λ (l : List KnownSpan). SetsAre (map span_in l) h) c.as_slice-3.ensures.value c.in_ok-history.ensures.sets)
-    (subst (λ (l : List KnownLine). lines_of h ≡ map line_in l) c.as_slice-4.ensures.value c.in_ok-history.ensures.lines)
-    (subst (λ (l : List KnownSpan). All (λ s. IsSpanRow h (span_in s)) l) c.as_slice-5.ensures.value (c.are_told.ensures.0 c.if-not-are_told.false))
+    (rw c.as_slice.ensures.value at (c.in_ok-once.ensures.once c.if-not-once.false))
+    (rw c.lines.ensures at c.in_ok-lines.ensures.same)
+    (rw c.as_slice-2.ensures.value at c.in_ok-history.ensures.years)
+    (rw c.as_slice-3.ensures.value at c.in_ok-history.ensures.sets)
+    (rw c.as_slice-4.ensures.value at c.in_ok-history.ensures.lines)
+    (rw c.as_slice-5.ensures.value at (c.are_told.ensures.0 c.if-not-are_told.false))
 
 pub returns-then-not-has_version-clause-unlawful : goal.returns-then-not-has_version-clause-unlawful
 returns-then-not-has_version-clause-unlawful c = λ _ h t. no-both c.has_version.result (c.has_version.ensures.1 (c.formats.ensures ∙ t.formats_are)) c.if-not-has_version.true
@@ -35,24 +28,22 @@ returns-then-not-has_version-clause-unlawful c = λ _ h t. no-both c.has_version
 pub returns-in_err-years-clause-unlawful : goal.returns-in_err-years-clause-unlawful
 returns-in_err-years-clause-unlawful c =
     let p = err_from_is_err_and c.from_residual.result c.from_residual.ensures.1 in
-    rw (p.1, p.2) (λ e h t. c.in_err-years.ensures.refused e (subst (λ (l : List ℤ). All IsYear l) (sym c.years.ensures) (told-years h c.args.rows.now.years t.kept t.years_are)))
+    rw (p.1, p.2) (λ e h t. c.in_err-years.ensures.refused e (rw c.years.ensures (told-years h c.args.rows.now.years t.kept t.years_are)))
 
 pub returns-in_err-spans-clause-unlawful : goal.returns-in_err-spans-clause-unlawful
 returns-in_err-spans-clause-unlawful c =
     let p = err_from_is_err_and c.from_residual-in_err-spans.result c.from_residual-in_err-spans.ensures.1 in
     rw (p.1, p.2)
-    (λ e h t. c.in_err-spans.ensures.refused e (subst (λ (l : List StoredSpan). All (λ s. is_id s.id ≡ true) l)
-    (sym c.spans.ensures) (told-ids h c.args.rows.now.spans t.kept t.spans_are)))
+    (λ e h t. c.in_err-spans.ensures.refused e (rw c.spans.ensures (told-ids h c.args.rows.now.spans t.kept t.spans_are)))
 
 pub returns-in_err-lines-clause-unlawful : goal.returns-in_err-lines-clause-unlawful
 returns-in_err-lines-clause-unlawful c =
     let p = err_from_is_err_and c.from_residual-in_err-lines.result c.from_residual-in_err-lines.ensures.1 in
-    rw (p.1, p.2) (λ e h t. c.in_err-lines.ensures.refused e (subst (λ (l : List Line). All IsReadable l) (sym c.lines.ensures) (told-lines h c.args.rows.now.lines t.kept t.lines_are)))
+    rw (p.1, p.2) (λ e h t. c.in_err-lines.ensures.refused e (rw c.lines.ensures (told-lines h c.args.rows.now.lines t.kept t.lines_are)))
 
 pub returns-then-not-once-clause-unlawful : goal.returns-then-not-once-clause-unlawful
 returns-then-not-once-clause-unlawful c = λ _ h t. c.in_ok-once.ensures.twice c.if-not-once.true
-    (subst (λ (l : List KnownSpan). (id : List ℕ) → length (filter (λ s. same_id id s.id) l) ≤ 1)
-    (sym c.as_slice.ensures.value) (told-few h c.in_ok-spans.spans.items c.args.rows.now.spans
+    (rw c.as_slice.ensures.value (told-few h c.in_ok-spans.spans.items c.args.rows.now.spans
     (c.in_ok-spans.ensures.same ∙ c.spans.ensures) t.spans_are))
 
 pub returns-in_err-history-clause-unlawful : goal.returns-in_err-history-clause-unlawful
@@ -60,25 +51,18 @@ returns-in_err-history-clause-unlawful c =
     let p = err_from_is_err_and c.from_residual-in_err-history.result c.from_residual-in_err-history.ensures.1 in
     rw (p.1, p.2) (λ e h t.
     let said = told-said c.args.rows.now h c.in_ok-spans.spans.items c.in_ok-lines.lines.items t (c.in_ok-spans.ensures.same ∙ c.spans.ensures)
-    (subst (λ (l : List Line). IsPermutation l (map line_in c.in_ok-lines.lines.items)) c.lines.ensures c.in_ok-lines.ensures.same) c.in_ok-lines.ensures.sorted c.in_ok-lines.ensures.texts in
+    (rw c.lines.ensures at c.in_ok-lines.ensures.same) c.in_ok-lines.ensures.sorted c.in_ok-lines.ensures.texts in
     let years = told-sorted-years h c.args.rows.now.years c.in_ok-years.years.items t.kept c.in_ok-years.ensures.sorted
-    (subst (λ (l : List ℤ). IsPermutation l (map (λ y. pos y) c.in_ok-years.years.items)) c.years.ensures
-    c.in_ok-years.ensures.same) t.years_are in
-    c.in_err-history.ensures.refused e h (subst (λ (l : List KnownSpan). IsSaid l c.as_slice-4.result.now h)
-    (sym c.as_slice-3.ensures.value) (subst (λ (l : List KnownLine). IsSaid c.in_ok-spans.spans.items l h)
-    (sym c.as_slice-4.ensures.value) said))
-    (subst (λ (l : List ℕ). years_of h ≡ map (λ y. pos y) l) (sym c.as_slice-2.ensures.value) years))
+    (rw c.years.ensures at c.in_ok-years.ensures.same) t.years_are in
+    c.in_err-history.ensures.refused e h (rw (c.as_slice-3.ensures.value, c.as_slice-4.ensures.value) said)
+    (rw c.as_slice-2.ensures.value years))
 
 pub returns-then-not-are_told-clause-unlawful : goal.returns-then-not-are_told-clause-unlawful
 returns-then-not-are_told-clause-unlawful c = λ _ h t.
     let said = told-said c.args.rows.now h c.in_ok-spans.spans.items c.in_ok-lines.lines.items t (c.in_ok-spans.ensures.same ∙ c.spans.ensures)
-    (subst (λ (l : List Line). IsPermutation l (map line_in c.in_ok-lines.lines.items)) c.lines.ensures c.in_ok-lines.ensures.same) c.in_ok-lines.ensures.sorted c.in_ok-lines.ensures.texts in
+    (rw c.lines.ensures at c.in_ok-lines.ensures.same) c.in_ok-lines.ensures.sorted c.in_ok-lines.ensures.texts in
     let years = told-sorted-years h c.args.rows.now.years c.in_ok-years.years.items t.kept c.in_ok-years.ensures.sorted
-    (subst (λ (l : List ℤ). IsPermutation l (map (λ y. pos y) c.in_ok-years.years.items)) c.years.ensures
-    c.in_ok-years.ensures.same) t.years_are in
-    let same = c.in_ok-history.ensures.same h (subst (λ (l : List KnownSpan). IsSaid l c.as_slice-4.result.now h)
-    (sym c.as_slice-3.ensures.value) (subst (λ (l : List KnownLine). IsSaid c.in_ok-spans.spans.items l h)
-    (sym c.as_slice-4.ensures.value) said))
-    (subst (λ (l : List ℕ). years_of h ≡ map (λ y. pos y) l) (sym c.as_slice-2.ensures.value) years) in
-    no-both c.are_told.result (c.are_told.ensures.1 (subst (λ (l : List KnownSpan). All (λ s. IsSpanRow c.in_ok-history.history (span_in s)) l) (sym c.as_slice-5.ensures.value)
-    (told-right c.in_ok-history.history h c.in_ok-spans.spans.items c.args.rows.now.spans (c.in_ok-spans.ensures.same ∙ c.spans.ensures) t.spans_are same))) c.if-not-are_told.true
+    (rw c.years.ensures at c.in_ok-years.ensures.same) t.years_are in
+    let same = c.in_ok-history.ensures.same h (rw (c.as_slice-3.ensures.value, c.as_slice-4.ensures.value) said)
+    (rw c.as_slice-2.ensures.value years) in
+    no-both c.are_told.result (c.are_told.ensures.1 (rw c.as_slice-5.ensures.value (told-right c.in_ok-history.history h c.in_ok-spans.spans.items c.args.rows.now.spans (c.in_ok-spans.ensures.same ∙ c.spans.ensures) t.spans_are same))) c.if-not-are_told.true

@@ -1,14 +1,7 @@
-use Rattle.std.proofs.Common.{◌≡◌, ◌∙◌, ◌≤◌, ℕ, ℤ, pos, sym, subst, List, true, map, IsPermutation}
-use Rattle.std.specs.List.{All, Contains}
+use Rattle.std.proofs.Common.{◌∙◌, ◌≤◌, ℕ, pos, sym, map}
 use Rattle.std.proofs.lemmas.List.Elements.{recursion_from_All}
 use Rattle.std.proofs.lemmas.Result.{err_from_is_err_and}
-use Rattle.lpis_covers.specs.Ids.{is_id}
-use Rattle.lpis_records.specs.declared.known.KnownSpan.{KnownSpan}
-use Rattle.lpis_records.specs.declared.known.KnownLine.{KnownLine}
-use Rattle.lpis_records.specs.Content.{Line, Live}
-use Rattle.lpis_records.specs.Tells.{last_of_years, lines_of, years_of}
-use Rattle.lpis_records.specs.private.Fronts.{IsSaid}
-use Rattle.lpis_records.specs.private.Known.{IsReadable, IsYear, SetsAre, line_in, one_year, span_in}
+use Rattle.lpis_records.specs.Tells.{last_of_years}
 use Rattle.lpis_records.proofs.KnownLemmas.{no-both}
 use Rattle.lpis_records.proofs.LiveRefusingLemmas.{live-ids, live-said, live-years}
 use Rattle.lpis_records.proofs.LiveRowLemmas.{live-says}
@@ -21,16 +14,13 @@ returns-clause-ok c =
     live-says c.args.rows.now h c.in_ok-years.years.items c.in_ok-spans.spans.items c.in_ok-lines.lines.items c.releases.ensures.lawful c.releases.ensures.fits
     (recursion_from_All (λ (y : ℕ). y ≤ last_of_years) c.in_ok-years.years.items c.in_ok-years.ensures.small)
     (sym c.formats.ensures ∙ c.has_version.ensures.0 c.if-not-has_version.false)
-    (subst (λ (l : List ℤ). IsPermutation l (map (λ y. pos y) c.in_ok-years.years.items)) c.years.ensures c.in_ok-years.ensures.same)
-    (subst (λ (l : List Live). map span_in c.in_ok-spans.spans.items ≡ map one_year l) c.live.ensures c.in_ok-spans.ensures.same) c.in_ok-spans.ensures.ids
-    (subst (λ (l : List Line). IsPermutation l (map line_in c.in_ok-lines.lines.items)) c.lines.ensures c.in_ok-lines.ensures.same)
-    (subst (λ (l : List ℕ). years_of h ≡ map (λ y. pos y) l) c.as_slice-3.ensures.value c.in_ok-history.ensures.years)
-    (subst (λ (l : List KnownSpan). SetsAre (map span_in l) h) c.as_slice-4.ensures.value c.in_ok-history.ensures.sets)
-    (subst (λ (l : List KnownLine). lines_of h ≡ map line_in l) c.as_slice-5.ensures.value c.in_ok-history.ensures.lines)
-    (subst (λ (l : List KnownSpan). All (λ s. Contains (map (λ y. pos y) c.in_ok-years.years.items) s.since) l)
-    c.as_slice-2.ensures.value
-    (subst (λ (l : List ℕ). All (λ s. Contains (map (λ y. pos y) l) s.since) c.as_slice-2.result.now)
-    c.as_slice.ensures.value (c.have_years.ensures.0 c.if-not-have_years.false)))
+    (rw c.years.ensures at c.in_ok-years.ensures.same)
+    (rw c.live.ensures at c.in_ok-spans.ensures.same) c.in_ok-spans.ensures.ids
+    (rw c.lines.ensures at c.in_ok-lines.ensures.same)
+    (rw c.as_slice-3.ensures.value at c.in_ok-history.ensures.years)
+    (rw c.as_slice-4.ensures.value at c.in_ok-history.ensures.sets)
+    (rw c.as_slice-5.ensures.value at c.in_ok-history.ensures.lines)
+    (rw (c.as_slice-2.ensures.value, c.as_slice.ensures.value) at (c.have_years.ensures.0 c.if-not-have_years.false))
 
 pub returns-then-not-has_version-clause-unlawful : goal.returns-then-not-has_version-clause-unlawful
 returns-then-not-has_version-clause-unlawful c = λ _ h t. no-both c.has_version.result (c.has_version.ensures.1 (c.formats.ensures ∙ t.formats_are)) c.if-not-has_version.true
@@ -38,41 +28,33 @@ returns-then-not-has_version-clause-unlawful c = λ _ h t. no-both c.has_version
 pub returns-in_err-years-clause-unlawful : goal.returns-in_err-years-clause-unlawful
 returns-in_err-years-clause-unlawful c =
     let p = err_from_is_err_and c.from_residual.result c.from_residual.ensures.1 in
-    rw (p.1, p.2) (λ e h t. c.in_err-years.ensures.refused e (subst (λ (l : List ℤ). All IsYear l) (sym c.years.ensures) (told-years h c.args.rows.now.years t.kept t.years_are)))
+    rw (p.1, p.2) (λ e h t. c.in_err-years.ensures.refused e (rw c.years.ensures (told-years h c.args.rows.now.years t.kept t.years_are)))
 
 pub returns-in_err-spans-clause-unlawful : goal.returns-in_err-spans-clause-unlawful
 returns-in_err-spans-clause-unlawful c =
     let p = err_from_is_err_and c.from_residual-in_err-spans.result c.from_residual-in_err-spans.ensures.1 in
-    rw (p.1, p.2) (λ e h t. c.in_err-spans.ensures.refused e (subst (λ (l : List Live). All (λ m. is_id m.id ≡ true) l) (sym c.live.ensures) (live-ids h c.args.rows.now.live t.kept t.live_are)))
+    rw (p.1, p.2) (λ e h t. c.in_err-spans.ensures.refused e (rw c.live.ensures (live-ids h c.args.rows.now.live t.kept t.live_are)))
 
 pub returns-in_err-lines-clause-unlawful : goal.returns-in_err-lines-clause-unlawful
 returns-in_err-lines-clause-unlawful c =
     let p = err_from_is_err_and c.from_residual-in_err-lines.result c.from_residual-in_err-lines.ensures.1 in
-    rw (p.1, p.2) (λ e h t. c.in_err-lines.ensures.refused e (subst (λ (l : List Line). All IsReadable l) (sym c.lines.ensures) (told-lines h c.args.rows.now.lines t.kept t.lines_are)))
+    rw (p.1, p.2) (λ e h t. c.in_err-lines.ensures.refused e (rw c.lines.ensures (told-lines h c.args.rows.now.lines t.kept t.lines_are)))
 
 pub returns-then-not-have_years-clause-unlawful : goal.returns-then-not-have_years-clause-unlawful
 returns-then-not-have_years-clause-unlawful c = λ _ h t.
     let years = told-sorted-years h c.args.rows.now.years c.in_ok-years.years.items t.kept c.in_ok-years.ensures.sorted
-    (subst (λ (l : List ℤ). IsPermutation l (map (λ y. pos y) c.in_ok-years.years.items)) c.years.ensures
-    c.in_ok-years.ensures.same) t.years_are in
-    no-both c.have_years.result (c.have_years.ensures.1 (subst (λ (l : List ℕ). All (λ s. Contains (map (λ y. pos y) l) s.since) c.as_slice-2.result.now) (sym c.as_slice.ensures.value)
-    (subst (λ (l : List KnownSpan). All (λ s. Contains (map (λ y. pos y) c.in_ok-years.years.items) s.since) l) (sym c.as_slice-2.ensures.value)
-    (live-years h c.args.rows.now.live c.in_ok-spans.spans.items (map (λ y. pos y) c.in_ok-years.years.items) t.live_are
-    (subst (λ (l : List Live). map span_in c.in_ok-spans.spans.items ≡ map one_year l) c.live.ensures
-    c.in_ok-spans.ensures.same) years)))) c.if-not-have_years.true
+    (rw c.years.ensures at c.in_ok-years.ensures.same) t.years_are in
+    no-both c.have_years.result (c.have_years.ensures.1 (rw c.as_slice.ensures.value (rw c.as_slice-2.ensures.value (live-years h c.args.rows.now.live c.in_ok-spans.spans.items (map (λ y. pos y) c.in_ok-years.years.items) t.live_are
+    (rw c.live.ensures at c.in_ok-spans.ensures.same) years)))) c.if-not-have_years.true
 
 pub returns-in_err-history-clause-unlawful : goal.returns-in_err-history-clause-unlawful
 returns-in_err-history-clause-unlawful c =
     let p = err_from_is_err_and c.from_residual-in_err-history.result c.from_residual-in_err-history.ensures.1 in
     rw (p.1, p.2) (λ e h t.
     let said = live-said c.args.rows.now h c.in_ok-spans.spans.items c.in_ok-lines.lines.items t
-    (subst (λ (l : List Live). map span_in c.in_ok-spans.spans.items ≡ map one_year l) c.live.ensures
-    c.in_ok-spans.ensures.same)
-    (subst (λ (l : List Line). IsPermutation l (map line_in c.in_ok-lines.lines.items)) c.lines.ensures c.in_ok-lines.ensures.same) c.in_ok-lines.ensures.sorted c.in_ok-lines.ensures.texts in
+    (rw c.live.ensures at c.in_ok-spans.ensures.same)
+    (rw c.lines.ensures at c.in_ok-lines.ensures.same) c.in_ok-lines.ensures.sorted c.in_ok-lines.ensures.texts in
     let years = told-sorted-years h c.args.rows.now.years c.in_ok-years.years.items t.kept c.in_ok-years.ensures.sorted
-    (subst (λ (l : List ℤ). IsPermutation l (map (λ y. pos y) c.in_ok-years.years.items)) c.years.ensures
-    c.in_ok-years.ensures.same) t.years_are in
-    c.in_err-history.ensures.refused e h (subst (λ (l : List KnownSpan). IsSaid l c.as_slice-5.result.now h)
-    (sym c.as_slice-4.ensures.value) (subst (λ (l : List KnownLine). IsSaid c.in_ok-spans.spans.items l h)
-    (sym c.as_slice-5.ensures.value) said))
-    (subst (λ (l : List ℕ). years_of h ≡ map (λ y. pos y) l) (sym c.as_slice-3.ensures.value) years))
+    (rw c.years.ensures at c.in_ok-years.ensures.same) t.years_are in
+    c.in_err-history.ensures.refused e h (rw (c.as_slice-4.ensures.value, c.as_slice-5.ensures.value) said)
+    (rw c.as_slice-3.ensures.value years))
