@@ -65,4 +65,5 @@ returns-then-not-are_told-clause-unlawful c = λ _ h t.
     (rw c.years.ensures at c.in_ok-years.ensures.same) t.years_are in
     let same = c.in_ok-history.ensures.same h (rw (c.as_slice-3.ensures.value, c.as_slice-4.ensures.value) said)
     (rw c.as_slice-2.ensures.value years) in
-    no-both c.are_told.result (c.are_told.ensures.1 (rw c.as_slice-5.ensures.value (told-right c.in_ok-history.history h c.in_ok-spans.spans.items c.args.rows.now.spans (c.in_ok-spans.ensures.same ∙ c.spans.ensures) t.spans_are same))) c.if-not-are_told.true
+    no-both c.are_told.result (c.are_told.ensures.1 (rw c.as_slice-5.ensures.value
+    (told-right c.in_ok-history.history h c.in_ok-spans.spans.items c.args.rows.now.spans (c.in_ok-spans.ensures.same ∙ c.spans.ensures) t.spans_are same))) c.if-not-are_told.true

@@ -1,13 +1,11 @@
-use Rattle.std.proofs.Common.{List, map, subst, rules, IsPermutation}
+use Rattle.std.proofs.Common.{map, rules, IsPermutation}
 use Rattle.std.proofs.lemmas.List.Sorted.{All-permutation, IsPermutation-map, answers_always}
 use Rattle.lpis_records.specs.declared.known.KnownLine.{KnownLine}
-use Rattle.lpis_records.specs.Content.{Line}
 use Rattle.lpis_records.specs.private.Known.{HasText, line_in}
 use Rattle.lpis_records.proofs.known.read_lines.Goals as goal
 
 pub returns-clause-same : goal.returns-clause-same
-returns-clause-same c = subst (λ (l : List Line). IsPermutation l (map line_in c.sort_unstable_by_key.new.self.items))
-    c.in_ok-known.ensures.same (IsPermutation-map line_in c.in_ok-known.known.items
+returns-clause-same c = rw c.in_ok-known.ensures.same at (IsPermutation-map line_in c.in_ok-known.known.items
     c.sort_unstable_by_key.new.self.items c.sort_unstable_by_key.ensures.permutation)
 
 pub returns-clause-texts : goal.returns-clause-texts

@@ -1,11 +1,10 @@
-use Rattle.std.proofs.Common.{◌≤◌, ℕ, ℤ, pos, List, map, subst, IsPermutation}
+use Rattle.std.proofs.Common.{◌≤◌, ℕ, pos, map, IsPermutation}
 use Rattle.std.proofs.lemmas.List.Sorted.{All-permutation, IsPermutation-map}
 use Rattle.lpis_records.specs.Tells.{last_of_years}
 use Rattle.lpis_records.proofs.known.sorted_years.Goals as goal
 
 pub returns-clause-same : goal.returns-clause-same
-returns-clause-same c = subst (λ (l : List ℤ). IsPermutation l (map (λ y. pos y) c.sort_unstable.new.self.items))
-    c.in_ok-sorted.ensures.same (IsPermutation-map (λ y. pos y) c.in_ok-sorted.sorted.items
+returns-clause-same c = rw c.in_ok-sorted.ensures.same at (IsPermutation-map (λ y. pos y) c.in_ok-sorted.sorted.items
     c.sort_unstable.new.self.items c.sort_unstable.ensures.permutation)
 
 pub returns-clause-small : goal.returns-clause-small
