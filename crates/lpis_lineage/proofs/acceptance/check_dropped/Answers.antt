@@ -1,4 +1,4 @@
-use Rattle.std.proofs.Common.{◌≡◌, ◌∙◌, sym, ap, List, ℕ}
+use Rattle.std.proofs.Common.{◌∙◌, sym, ap, List, ℕ}
 use Rattle.lpis_lineage.proofs.WalkingLemmas.{rowless, dropped-rowless}
 use Rattle.lpis_lineage.proofs.acceptance.check_dropped.Goals as goal
 
