@@ -45,7 +45,8 @@ returns-then-not-have_years-clause-unlawful c = λ _ h t.
     let years = told-sorted-years h c.args.rows.now.years c.in_ok-years.years.items t.kept c.in_ok-years.ensures.sorted
     (rw c.years.ensures at c.in_ok-years.ensures.same) t.years_are in
     no-both c.have_years.result (c.have_years.ensures.1 (rw (c.as_slice.ensures.value, c.as_slice-2.ensures.value)
-    (live-years h c.args.rows.now.live c.in_ok-spans.spans.items (map (λ y. pos y) c.in_ok-years.years.items) t.live_are (rw c.live.ensures at c.in_ok-spans.ensures.same) years))) c.if-not-have_years.true
+    (live-years h c.args.rows.now.live c.in_ok-spans.spans.items (map (λ y. pos y) c.in_ok-years.years.items) t.live_are
+    (rw c.live.ensures at c.in_ok-spans.ensures.same) years))) c.if-not-have_years.true
 
 pub returns-in_err-history-clause-unlawful : goal.returns-in_err-history-clause-unlawful
 returns-in_err-history-clause-unlawful c =
