@@ -6,5 +6,4 @@ pub mod PublishLemmas
 pub mod ReadLemmas
 pub mod RefusalLemmas
 pub mod ReportLemmas
-pub mod RunLemmas
 pub mod WriteLemmas

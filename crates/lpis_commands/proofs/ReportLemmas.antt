@@ -36,12 +36,13 @@ pub sum-goes-on : (f : Parcel → ℤ) (ks : List Parcel) (i : ℕ) (k d : Parce
 sum-goes-on f ks i k d sum part new lt is added so_far this =
     added ∙ ap (λ (z : ℤ). z +ℤ part) so_far ∙ ap (λ (z : ℤ). int_sum_by f (take i ks) +ℤ z) (this ∙ ap f is) ∙ int_sum_by-more f ks i d lt
 
+-- the texts of items, and one item's more
+pub flat_map-push : {A B : Type 0} (f : A → List B) (xs : List A) (x : A) → flat_map f xs ++ f x ≡ flat_map f (xs ++ x ∷ [])
+flat_map-push {A} {B} f xs x = sym (flat_map-append f xs (x ∷ []) ∙ ap (λ (t : List B). flat_map f xs ++ t) (append-nil (f x)))
+
 -- the texts so far, and one item's more
 pub text-goes-on : {A : Type 0} (f : A → List ℕ) (ks : List A) (i : ℕ) (k d : A) (start now next : Option (List ℕ)) → i < length ks → k ≡ get_or ks i d
     → Appends start now (flat_map f (take i ks)) → Appends now next (f k) → Appends start next (flat_map f (take (i + 1) ks))
 text-goes-on {A} f ks i k d start now next lt is so_far this =
-    let more : flat_map f (take i ks) ++ f k ≡ flat_map f (take (i + 1) ks) =
-    sym (ap (flat_map f) (take_more ks i d lt ∙ ap (λ (x : A). take i ks ++ x ∷ []) (sym is))
-    ∙ flat_map-append f (take i ks) (k ∷ []) ∙ ap (λ (t : List ℕ). flat_map f (take i ks) ++ t) (append-nil (f k)))
-    in
-    subst (Appends start next) more (appends-more start now next (flat_map f (take i ks)) (f k) so_far this)
+    let items = sym (take_more ks i d lt ∙ ap (λ (x : A). take i ks ++ x ∷ []) (sym is)) in
+    subst (Appends start next) (flat_map-push f (take i ks) k ∙ ap (flat_map f) items) (appends-more start now next (flat_map f (take i ks)) (f k) so_far this)

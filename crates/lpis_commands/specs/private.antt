@@ -3,4 +3,3 @@ pub mod CheckRuns
 pub mod Commands
 pub mod CutRuns
 pub mod PublishRuns
-pub mod Runs

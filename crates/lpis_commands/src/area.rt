@@ -1,10 +1,12 @@
 //! The run of `area`, over any reader and writer.
 
 ghost use Rattle.std.specs.Prelude.{◌≡◌, ℕ, List, IfErr, IfOk};
+ghost use Rattle.lpis_covers.specs.Faults.{rows_of};
+ghost use Rattle.lpis_covers.specs.Table.{AnswersBy};
 ghost use Rattle.lpis_commands.specs.AreaAnswer.{AnswersArea, Halts, answer_from, answer_of};
-ghost use Rattle.lpis_commands.specs.private.Runs.{AnswersLines, polygons_left};
+ghost use Rattle.lpis_commands.specs.AreaAnswer.{area_table};
+ghost use Rattle.lpis_commands.specs.Status.{done};
 ghost use Rattle.lpis_commands.specs.Streams.{IsRead};
-ghost use Rattle.lpis_covers.specs.declared.fault.Table.TheVariants as tables;
 
 use crate::answer::Answer;
 use crate::failure::{Failure, Name};
@@ -16,28 +18,21 @@ use lpis_rings::area2;
 use std::alloc::{AllocError, Global};
 use std::io::{Read, Write};
 
-/// The area of each row that is left, on a line of its own.
-fn lines_under(alloc: Global, reader: &mut TableReader<'_>) -> Result<Vec<u8>, TableFault>
-    requires { reader.old.table ≡ tables.Area }
-    ensures { AnswersLines (λ v. v.items) result (answer_from (polygons_left reader.old)) }
+/// The area of each row of a table, on a line of its own.
+fn area_lines(alloc: Global, bytes: &[u8]) -> Result<Vec<u8>, TableFault>
+    ensures { AnswersBy (λ v said. answer_from said ≡ (v.items, done)) result
+        (rows_of area_table bytes.now) }
 {
+    let columns = [b"wkt".as_slice()];
+    let mut reader = TableReader::open(alloc, bytes, Table::Area, columns.as_slice())?;
     let mut lines = Vec::new(alloc);
-    while reader.next_row()? {
+    'rows: while reader.next_row()? {
         let polygon = reader.polygon(alloc, 0)?;
         if print_line(area2(&polygon), &mut lines).is_err() {
             return Err(TableFault::Memory);
         }
     }
     Ok(lines)
-}
-
-/// The area of each row of a table, on a line of its own.
-fn area_lines(alloc: Global, bytes: &[u8]) -> Result<Vec<u8>, TableFault>
-    ensures { AnswersLines (λ v. v.items) result (answer_of bytes.now) }
-{
-    let columns = [b"wkt".as_slice()];
-    let mut reader = TableReader::open(alloc, bytes, Table::Area, columns.as_slice())?;
-    lines_under(alloc, &mut reader)
 }
 
 /// The answer to a table: the area of each row, or the line of its first fault.

@@ -1,0 +1,14 @@
+use Rattle.std.proofs.Common.{◌≡◌, List, ℕ, length}
+use Rattle.std.specs.List.{flat_map}
+use Rattle.lpis_rings.specs.declared.polygon.Member.{Member}
+use Rattle.lpis_covers.proofs.RowLemmas.{IsRead}
+use Rattle.lpis_commands.specs.AreaAnswer.{area_table, line_of}
+use Rattle.lpis_commands.proofs.area.area_lines.Given as goal
+
+-- the lines of the rows so far were written
+abbrev pub invariant-rows : goal.invariant-rows
+invariant-rows l =
+    (keys : List (List ℕ)) × (polygons : List (List Member)) × IsRead area_table l.initial.reader keys polygons l.reader × (l.lines.items ≡ flat_map line_of polygons)
+
+abbrev pub decreases-rows : goal.decreases-rows
+decreases-rows l = length l.reader.rows
