@@ -1,6 +1,6 @@
 -- What a history answers to a release, and what is known of a release that was added to it.
-use Rattle.std.proofs.Common.{◌≡◌, ◌≢◌, ◌∙◌, ◌≤◌, ◌<◌, ◌⊎◌, ◌++◌, ◌∷◌, [], inl, inr, refl, sym, ap, ap₂, subst, arith, ℕ, List, true, false, Option, Some, None, Result, Ok, Err}
-use Rattle.std.specs.Prelude.{nat_le, IfErr, IfOk, OnOk}
+use Rattle.std.proofs.Common.{◌≡◌, ◌∙◌, ◌≤◌, ◌<◌, ◌++◌, ◌∷◌, [], inl, inr, refl, sym, ap, ap₂, subst, arith, ℕ, List, true, false, Option, Some, None, Result, Ok, Err}
+use Rattle.std.specs.Prelude.{nat_le, IfOk, OnOk}
 use Rattle.std.specs.Io.KnownBytes.{Appends}
 use Rattle.std.specs.List.{flat_map, list_any}
 use Rattle.std.proofs.lemmas.Bool.Decides.{leb_tells}
@@ -17,7 +17,7 @@ use Rattle.lpis_lineage.specs.Descendants.{leads}
 use Rattle.lpis_lineage.specs.Faults.{faults, first}
 use Rattle.lpis_lineage.specs.Kinds.{kind}
 use Rattle.lpis_lineage.specs.Lawful.{IsAnswered}
-use Rattle.lpis_lineage.specs.Lineage.{ended, is_of, last_live, last_year, names}
+use Rattle.lpis_lineage.specs.Lineage.{is_of, last_live, last_year, names}
 use Rattle.lpis_lineage.specs.LineageTable.{lineage_table}
 use Rattle.lpis_lineage.proofs.IdentifierLemmas.{and-right}
 use Rattle.lpis_lineage.proofs.CleanLemmas.{follows-from-clean, mono}
@@ -118,11 +118,6 @@ ends-of x a h k old new (Ok status) answer moves is written =
       moves = subst (λ (n : ℕ). Moves x n h k) (sym is) moves;
     }
 ends-of x a h k old new (Err failure) answer moves is written = tt
-
--- what follows of each failure
-pub weaker-err : {A E : Type 0} (r : Result A E) (P Q : E → Type 0) → ((e : E) → P e → Q e) → IfErr r P → IfErr r Q
-weaker-err (Ok a) P Q into h = tt
-weaker-err (Err e) P Q into h = into e h
 
 -- ---- a release that was added
 continued-of : (live : List (List ℕ)) (rows : List Row) (id : List ℕ) → ((s : List ℕ) → list_any (names s) rows ≡ true → has_id live s ≡ true) → IsAnswered rows id → IsContinued live rows id

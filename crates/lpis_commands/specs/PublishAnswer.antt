@@ -119,8 +119,8 @@ pub record AreAllRead (x : Publication) (year : ℕ)
   pub of_lineage : IsRead x.lineage lineage
 
 -- the run answered with this status, and wrote the text
-pub record Ends (x : Publication) (status : ℕ) (h k : List Entry) (old new : Option (List ℕ)) : Type
-    0 where
+pub record Ends (x : Publication) (status : ℕ) (h k : List Entry)
+    (old new : Option (List ℕ)) : Type 0 where
   pub text : List ℕ
   pub answer : IsPublishAnswer x h (text, status)
   pub written : Appends old new text

@@ -1,6 +1,6 @@
 //! The run of `publish`, over any register, readers and writer.
 
-ghost use Rattle.std.specs.Prelude.{◌≡◌, ◌≢◌, ◌≤◌, ◌<◌, ◌⊎◌, ◌++◌, IfErr, IfOk, OnOk, ℕ};
+ghost use Rattle.std.specs.Prelude.{◌≡◌, ◌++◌, IfErr, IfOk, OnOk, ℕ};
 ghost use Rattle.std.specs.Io.KnownBytes.{Appends};
 ghost use Rattle.std.specs.List.{flat_map};
 ghost use Rattle.sqlite.specs.Held.{state};
@@ -22,8 +22,8 @@ ghost use Rattle.lpis_commands.specs.PublishAnswer.{IsLineageAnswer, Moves, Publ
 ghost use Rattle.lpis_commands.specs.PublishAnswer.{history_answer};
 ghost use Rattle.lpis_commands.specs.Report.{report_text};
 ghost use Rattle.lpis_commands.specs.Status.{done, refused};
-ghost use Rattle.lpis_commands.specs.Stored.{Stays, StaysOpen};
-ghost use Rattle.lpis_commands.specs.private.PublishRuns.{IsAdded, IsAddedWith, IsStopped};
+ghost use Rattle.lpis_commands.specs.Stored.{Stays};
+ghost use Rattle.lpis_commands.specs.private.PublishRuns.{IsAdded, IsAddedWith, Leaves};
 ghost use Rattle.lpis_commands.specs.private.PublishRuns.{publication_of};
 
 use crate::answer::Answer;
@@ -140,14 +140,8 @@ fn publish_checked<S: Alter>(
         register.old.history year yes.now rows.now) }
     ensures added { IfOk result (λ a. a.status ≡ done → IsAdded year yes.now rows.now
         register.old.history register.new.history) }
-    ensures same { IfOk result
-        (λ a. a.status ≢ done → register.new.history ≡ register.old.history) }
-    ensures failure { IfErr result (λ failure. IsStopped failure ×
-        (register.new.history ≡ register.old.history)) }
-    ensures holds { StaysOpen (state S.Store register.old.conn) register.old.history
+    ensures leaves { Leaves result (state S.Store register.old.conn) register.old.history
         (state S.Store register.new.conn) register.new.history }
-    ensures ok { OnOk result (Stays (state S.Store register.old.conn) register.old.history
-        (state S.Store register.new.conn) register.new.history) }
 {
     let answer = answer_to_checked(alloc, register, year, yes, rows)?;
     if answer.status != DONE {
@@ -177,14 +171,8 @@ fn answer_to_rows<S: Alter>(
     ensures added { IfOk result (λ a. a.status ≡ done → IsSoundMap release.now × IsGood
         release.now cert.now × IsAdded year release.now rows.now register.old.history
         register.new.history) }
-    ensures same { IfOk result
-        (λ a. a.status ≢ done → register.new.history ≡ register.old.history) }
-    ensures failure { IfErr result (λ failure. IsStopped failure ×
-        (register.new.history ≡ register.old.history)) }
-    ensures holds { StaysOpen (state S.Store register.old.conn) register.old.history
+    ensures leaves { Leaves result (state S.Store register.old.conn) register.old.history
         (state S.Store register.new.conn) register.new.history }
-    ensures ok { OnOk result (Stays (state S.Store register.old.conn) register.old.history
-        (state S.Store register.new.conn) register.new.history) }
 {
     match check(alloc, release, cert, &Sweep) {
         Ok(yes) => {
@@ -193,10 +181,7 @@ fn answer_to_rows<S: Alter>(
             publish_checked(alloc, register, year, &yes, rows)
         }
         Err(CheckFault::Memory) => Err(Failure::Memory),
-        Err(fault) => {
-            let answer = refuse_cert(alloc, &fault)?;
-            Ok(answer)
-        }
+        Err(fault) => Ok(refuse_cert(alloc, &fault)?),
     }
 }
 
@@ -214,22 +199,13 @@ fn answer_to_lineage<S: Alter>(
     ensures added { IfOk result (λ a. a.status ≡ done → IsSoundMap release.now × IsGood
         release.now cert.now × IsAddedWith year release.now lineage.now register.old.history
         register.new.history) }
-    ensures same { IfOk result
-        (λ a. a.status ≢ done → register.new.history ≡ register.old.history) }
-    ensures failure { IfErr result (λ failure. IsStopped failure ×
-        (register.new.history ≡ register.old.history)) }
-    ensures holds { StaysOpen (state S.Store register.old.conn) register.old.history
+    ensures leaves { Leaves result (state S.Store register.old.conn) register.old.history
         (state S.Store register.new.conn) register.new.history }
-    ensures ok { OnOk result (Stays (state S.Store register.old.conn) register.old.history
-        (state S.Store register.new.conn) register.new.history) }
 {
     match read_rows(alloc, lineage) {
         Ok(rows) => answer_to_rows(alloc, register, year, release, cert, rows.as_slice()),
         Err(TableFault::Memory) => Err(Failure::Memory),
-        Err(fault) => {
-            let answer = Answer::refuse_table(alloc, &fault)?;
-            Ok(answer)
-        }
+        Err(fault) => Ok(Answer::refuse_table(alloc, &fault)?),
     }
 }
 
@@ -248,22 +224,13 @@ fn answer_to_text<S: Alter>(
     ensures added { IfOk result (λ a. a.status ≡ done → IsSoundMap release.now × ((c : Cert) ×
         (text.items ≡ cert_text c) × IsGood release.now c) × IsAddedWith year
         release.now lineage.now register.old.history register.new.history) }
-    ensures same { IfOk result
-        (λ a. a.status ≢ done → register.new.history ≡ register.old.history) }
-    ensures failure { IfErr result (λ failure. IsStopped failure ×
-        (register.new.history ≡ register.old.history)) }
-    ensures holds { StaysOpen (state S.Store register.old.conn) register.old.history
+    ensures leaves { Leaves result (state S.Store register.old.conn) register.old.history
         (state S.Store register.new.conn) register.new.history }
-    ensures ok { OnOk result (Stays (state S.Store register.old.conn) register.old.history
-        (state S.Store register.new.conn) register.new.history) }
 {
     match cert_in(alloc, text) {
         Ok(cert) => answer_to_lineage(alloc, register, year, release, &cert, lineage),
         Err(CertFault::Memory) => Err(Failure::Memory),
-        Err(fault) => {
-            let answer = refuse_text(alloc, &fault)?;
-            Ok(answer)
-        }
+        Err(fault) => Ok(refuse_text(alloc, &fault)?),
     }
 }
 
@@ -279,22 +246,15 @@ fn answer_to<S: Alter>(
         register.old.history (a.text.items, a.status)) }
     ensures moves { IfOk result (λ a. Moves (publication_of year inputs) a.status
         register.old.history register.new.history) }
-    ensures failure { IfErr result (λ failure. IsStopped failure ×
-        (register.new.history ≡ register.old.history)) }
-    ensures holds { StaysOpen (state S.Store register.old.conn) register.old.history
+    ensures leaves { Leaves result (state S.Store register.old.conn) register.old.history
         (state S.Store register.new.conn) register.new.history }
-    ensures ok { OnOk result (Stays (state S.Store register.old.conn) register.old.history
-        (state S.Store register.new.conn) register.new.history) }
 {
     let PublicationBytes { checked, lineage } = inputs;
     let InputBytes { tables, cert } = checked;
     match release_in(alloc, tables) {
-        Ok(release) => { answer_to_text(alloc, register, year, &release, cert, lineage.as_slice()) }
+        Ok(release) => answer_to_text(alloc, register, year, &release, cert, lineage.as_slice()),
         Err(TableFault::Memory) => Err(Failure::Memory),
-        Err(fault) => {
-            let answer = Answer::refuse_table(alloc, &fault)?;
-            Ok(answer)
-        }
+        Err(fault) => Ok(Answer::refuse_table(alloc, &fault)?),
     }
 }
 
@@ -319,16 +279,13 @@ fn read_publication<P: Read + Drop, C: Read + Drop, K: Read + Drop, E: Read + Dr
 }
 
 /// Checks the release of three tables against a certificate and publishes it in a register, with
-/// its year and the rows of a lineage
-/// table. It prints the report of a release that is a sound map, what became of each identifier
-/// that it drops, and its year; or the line of the
-/// first fault: of the tables, of the certificate's text, of the lineage table, of the
-/// certificate, of the register.
+/// its year and the rows of a lineage table. It prints the report of a release that is a sound map,
+/// what became of each identifier that it drops, and its year; or the line of the first fault: of
+/// the tables, of the certificate's text, of the lineage table, of the certificate, of the register.
 ///
 /// All inputs are read to their ends, in the order in which they stand here, before anything is
-/// decided, and what is printed is whole
-/// in memory before the register is written. Ok is the status: `DONE`, where the release was
-/// published, or `REFUSED` or `UNREADABLE`, where the
+/// decided, and what is printed is whole in memory before the register is written. Ok is the
+/// status: `DONE`, where the release was published, or `REFUSED` or `UNREADABLE`, where the
 /// register is as it was. So it is at each failure but that of the output: then the release may
 /// be published, as `trace` shows.
 pub fn run_publish<
@@ -359,10 +316,8 @@ pub fn run_publish<
         (C.remaining covers) (K.remaining classes) (E.remaining cert) (L.remaining lineage)
         register.old.history register.new.history (W.contents out.old) (W.contents out.new)) }
     // The database says the history, as long as it is open and its disk keeps what was written.
-    ensures holds { StaysOpen (state S.Store register.old.conn) register.old.history
+    ensures stored { Stays result (state S.Store register.old.conn) register.old.history
         (state S.Store register.new.conn) register.new.history }
-    ensures ok { OnOk result (Stays (state S.Store register.old.conn) register.old.history
-        (state S.Store register.new.conn) register.new.history) }
 {
     let inputs = read_publication(alloc, parcels, covers, classes, cert, lineage)?;
     let answer = answer_to(alloc, register, year, inputs)?;

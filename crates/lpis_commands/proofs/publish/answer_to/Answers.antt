@@ -8,12 +8,11 @@ returns-in-Ok-clause-moves g c =
     let x = publication_of c.args.year c.args.inputs in
     let old = c.args.register.now.history in
     let new = c.answer_to_text.new.register.history in
-    let tables = c.in-Ok.ensures in
     IfOk-weaker c.answer_to_text.result _ _
     (λ a known. (
       (λ is_done.
           let was = known.0 is_done in
-          published-of x c.in-Ok.release was.1.0 was.2.0 old new tables was.0 was.1.1 was.1.2 was.2.1 was.2.2),
+          published-of x c.in-Ok.release was.1.0 was.2.0 old new c.in-Ok.ensures was.0 was.1.1 was.1.2 was.2.1 was.2.2),
       known.1,
     ))
-    (both-ok c.answer_to_text.result _ _ (rw c.as_slice.ensures.value at c.answer_to_text.ensures.added) c.answer_to_text.ensures.same)
+    (both-ok c.answer_to_text.result _ _ (rw c.as_slice.ensures.value at c.answer_to_text.ensures.added) c.answer_to_text.ensures.leaves.same)

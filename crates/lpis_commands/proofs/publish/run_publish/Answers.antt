@@ -1,7 +1,7 @@
 use Rattle.std.proofs.Common.{inl}
-use Rattle.std.proofs.lemmas.Result.{IfOk-weaker}
+use Rattle.std.proofs.lemmas.Result.{IfErr-weaker, IfOk-weaker}
 use Rattle.lpis_commands.specs.private.PublishRuns.{publication_of}
-use Rattle.lpis_commands.proofs.PublishLemmas.{ends-of, weaker-err}
+use Rattle.lpis_commands.proofs.PublishLemmas.{ends-of}
 use Rattle.lpis_commands.proofs.publish.run_publish.Goals as goal
 
 pub returns-clause-answer : goal.returns-clause-answer
@@ -18,7 +18,7 @@ returns-clause-failure g c =
     let x = publication_of c.args.year c.in_ok-inputs.inputs in
     let a = c.in_ok-answer.answer in
     let told = c.in_ok-answer.ensures in
-    weaker-err c.write_to.result _ _
+    IfErr-weaker c.write_to.result _ _
     (λ failure stopped. inl (
       x,
       c.in_ok-inputs.ensures.bytes c.args.year,
