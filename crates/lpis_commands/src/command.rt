@@ -67,20 +67,20 @@ fn described<'a>(argument: Arg<'a>, text: &'a str) -> Arg<'a>
     argument.help(text)
 }
 
-/// A required argument of one word.
-fn word_argument<'a>(alloc: Global, id: &'a str) -> Arg<'a>
+/// A required argument of one word, with the text that help has for it.
+fn word_argument<'a>(alloc: Global, id: &'a str, text: &'a str) -> Arg<'a>
     ensures rule { rule_of result ≡ word_rule id.entry.now }
     ensures local { result.global ≡ false }
 {
-    Arg::new(alloc, id).required(true).action(ArgAction::Set)
+    let argument = Arg::new(alloc, id).required(true).action(ArgAction::Set);
+    described(argument, text)
 }
 
 /// `area FILE`.
 fn area_command<'a>(alloc: Global) -> Result<Command<'a>, AllocError>
     ensures { IfOk result (λ c. IsCommandOf area_app c) }
 {
-    let file = word_argument(alloc, "file");
-    let file = described(file, "A table in CSV with a column `wkt`");
+    let file = word_argument(alloc, "file", "A table in CSV with a column `wkt`");
     Command::new(alloc, "area")
         .about("Prints the area of each polygon of a table, in square metres")
         .arg(file)
@@ -91,8 +91,8 @@ fn dir_argument<'a>(alloc: Global) -> Arg<'a>
     ensures rule { rule_of result ≡ word_rule (codes "dir") }
     ensures local { result.global ≡ false }
 {
-    let dir = word_argument(alloc, "dir");
-    described(dir, "A folder with parcels.csv, covers.csv and classes.csv")
+    let text = "A folder with parcels.csv, covers.csv and classes.csv";
+    word_argument(alloc, "dir", text)
 }
 
 /// The certificate of a release.
@@ -100,8 +100,7 @@ fn cert_argument<'a>(alloc: Global) -> Arg<'a>
     ensures rule { rule_of result ≡ word_rule (codes "cert") }
     ensures local { result.global ≡ false }
 {
-    let cert = word_argument(alloc, "cert");
-    described(cert, "A certificate of triangles for the release")
+    word_argument(alloc, "cert", "A certificate of triangles for the release")
 }
 
 /// The register of releases.
@@ -109,8 +108,8 @@ fn db_argument<'a>(alloc: Global) -> Arg<'a>
     ensures rule { rule_of result ≡ word_rule (codes "db") }
     ensures local { result.global ≡ false }
 {
-    let db = word_argument(alloc, "db");
-    described(db, "The register of the published releases, an SQLite file")
+    let text = "The register of the published releases, an SQLite file";
+    word_argument(alloc, "db", text)
 }
 
 /// The year of a release.
@@ -118,8 +117,8 @@ fn year_argument<'a>(alloc: Global) -> Arg<'a>
     ensures rule { rule_of result ≡ year_rule }
     ensures local { result.global ≡ false }
 {
-    let year = word_argument(alloc, "year");
-    let year = described(year, "The release's year, a whole number from 1 to 9999");
+    let text = "The release's year, a whole number from 1 to 9999";
+    let year = word_argument(alloc, "year", text);
     year.value_parser(ValueParser::unsigned(1, 9999))
 }
 
@@ -128,8 +127,7 @@ fn cut_command<'a>(alloc: Global) -> Result<Command<'a>, AllocError>
     ensures { IfOk result (λ c. IsCommandOf cut_app c) }
 {
     let dir = dir_argument(alloc);
-    let cert = word_argument(alloc, "cert");
-    let cert = described(cert, "The file that the certificate is written to");
+    let cert = word_argument(alloc, "cert", "The file that the certificate is written to");
     Command::new(alloc, "cut")
         .about("Cuts a release into triangles, and writes a certificate for it")
         .arg(dir)?
@@ -148,18 +146,6 @@ fn check_command<'a>(alloc: Global) -> Result<Command<'a>, AllocError>
         .arg(cert)
 }
 
-/// The folder of a release that is published, which has a table more.
-fn published_dir_argument<'a>(alloc: Global) -> Arg<'a>
-    ensures rule { rule_of result ≡ word_rule (codes "dir") }
-    ensures local { result.global ≡ false }
-{
-    let dir = word_argument(alloc, "dir");
-    described(
-        dir,
-        "A folder with parcels.csv, covers.csv, classes.csv and lineage.csv",
-    )
-}
-
 /// `publish` with the register and the year.
 fn publish_command_for_year<'a>(alloc: Global) -> Result<Command<'a>, AllocError>
     ensures { IfOk result (λ c. IsCommandOf publish_year_app c) }
@@ -176,7 +162,8 @@ fn publish_command_for_year<'a>(alloc: Global) -> Result<Command<'a>, AllocError
 fn publish_command<'a>(alloc: Global) -> Result<Command<'a>, AllocError>
     ensures { IfOk result (λ c. IsCommandOf publish_app c) }
 {
-    let dir = published_dir_argument(alloc);
+    let text = "A folder with parcels.csv, covers.csv, classes.csv and lineage.csv";
+    let dir = word_argument(alloc, "dir", text);
     let cert = cert_argument(alloc);
     publish_command_for_year(alloc)?.arg(dir)?.arg(cert)
 }
@@ -186,8 +173,7 @@ fn trace_command<'a>(alloc: Global) -> Result<Command<'a>, AllocError>
     ensures { IfOk result (λ c. IsCommandOf trace_app c) }
 {
     let db = db_argument(alloc);
-    let id = word_argument(alloc, "id");
-    let id = described(id, "The identifier of a parcel of any release");
+    let id = word_argument(alloc, "id", "The identifier of a parcel of any release");
     Command::new(alloc, "trace")
         .about("Prints the parcels of the last release that came of an earlier one")
         .arg(db)?
