@@ -1,5 +1,6 @@
 -- The inputs of a check have one answer.
-use Rattle.std.proofs.Common.{◌≡◌, ◌∙◌, ◌<◌, ◌-◌, ◌⊎◌, zero, suc, inl, inr, ap, ap₂, sym, refl, subst, arith, ℕ, List, Result, Ok, Err}
+use Rattle.std.proofs.Common.{◌≡◌, ◌∙◌, ◌<◌, ◌-◌, ◌⊎◌, ◌∷◌, [], get_or, inl, inr, ap, ap₂, sym, refl, subst, ℕ, List, Result, Ok, Err}
+use Rattle.std.proofs.lemmas.Bool.{cases_order}
 use Rattle.lpis_covers.specs.declared.fault.TableFault.{TableFault}
 use Rattle.lpis_parcels.specs.Release.{Contents, release_of}
 use Rattle.lpis_cert.specs.declared.cert.Cert.{Cert}
@@ -19,28 +20,12 @@ use Rattle.lpis_commands.specs.Refusals.{check_refusal_text}
 use Rattle.lpis_commands.specs.Report.{report_text}
 use Rattle.lpis_commands.specs.Status.{done, refused}
 
--- of two numbers one is below the other, or they are equal
-three : (i j : ℕ) → (i < j) ⊎ ((j < i) ⊎ (i ≡ j))
-three i j = search arith
-
 -- a code names its condition
-from_60 : ℕ → Condition
-from_60 zero = Names
-from_60 (suc zero) = Triangles
-from_60 (suc (suc zero)) = Turned
-from_60 (suc (suc (suc zero))) = Flats
-from_60 (suc (suc (suc (suc zero)))) = Corners
-from_60 (suc (suc (suc (suc (suc zero))))) = PieceEdges
-from_60 (suc (suc (suc (suc (suc (suc zero)))))) = ParcelEdges
-from_60 (suc (suc (suc (suc (suc (suc (suc zero))))))) = NearPairs
-from_60 (suc (suc (suc (suc (suc (suc (suc (suc zero)))))))) = NotApart
-from_60 _ = Separating
-
 condition_at : ℕ → Condition
-condition_at n = from_60 (n - 60)
+condition_at n = get_or (Names ∷ Triangles ∷ Turned ∷ Flats ∷ Corners ∷ PieceEdges ∷ ParcelEdges ∷ NearPairs ∷ NotApart ∷ Separating ∷ []) (n - 60) Names
 
 named_by : (q : Condition) → condition_at (code_of q) ≡ q
-unfolding condition_at from_60
+unfolding condition_at
 named_by Names = refl
 named_by Triangles = refl
 named_by Turned = refl
@@ -55,73 +40,73 @@ named_by Separating = refl
 code-injective : (q s : Condition) → code_of q ≡ code_of s → q ≡ s
 code-injective q s e = sym (named_by q) ∙ ap condition_at e ∙ named_by s
 
--- of two sites one is earlier, or they are equal
+-- two sites are equal, or one is earlier
 Ordered : Site → Site → Type 0
-Ordered a b = IsEarlier a b ⊎ (IsEarlier b a ⊎ (a ≡ b))
+Ordered a b = (a ≡ b) ⊎ (IsEarlier a b ⊎ IsEarlier b a)
 
 by_number : (f : ℕ → Site) (k m : ℕ) → (k < m → IsEarlier (f k) (f m)) → (m < k → IsEarlier (f m) (f k)) → Ordered (f k) (f m)
 unfolding Ordered
-by_number f k m below above = elim (three k m) [
-  | inl l ↦ inl (below l)
+by_number f k m below above = elim (cases_order k m) [
+  | inl e ↦ inl (ap f e)
   | inr o ↦ elim o [
-    | inl l ↦ inr (inl (above l))
-    | inr e ↦ inr (inr (ap f e))
+    | inl l ↦ inr (inl (below l))
+    | inr l ↦ inr (inr (above l))
   ]
 ]
 
 pair-ordered : (i j m n : ℕ) → Ordered (PairAt i j) (PairAt m n)
 unfolding Ordered
-pair-ordered i j m n = elim (three i m) [
-  | inl l ↦ inl (inl l)
+pair-ordered i j m n = elim (cases_order i m) [
+  | inl e ↦ elim (cases_order j n) [
+    | inl f ↦ inl (ap₂ PairAt e f)
+    | inr o ↦ elim o [
+      | inl l ↦ inr (inl (inr (e, l)))
+      | inr l ↦ inr (inr (inr (sym e, l)))
+    ]
+  ]
   | inr o ↦ elim o [
     | inl l ↦ inr (inl (inl l))
-    | inr e ↦ elim (three j n) [
-      | inl l ↦ inl (inr (e, l))
-      | inr p ↦ elim p [
-        | inl l ↦ inr (inl (inr (sym e, l)))
-        | inr f ↦ inr (inr (ap₂ PairAt e f))
-      ]
-    ]
+    | inr l ↦ inr (inr (inl l))
   ]
 ]
 
 ordered : (a b : Site) → Ordered a b
 unfolding Ordered
 ordered (PieceAt k) (PieceAt m) = by_number PieceAt k m (λ l. l) (λ l. l)
-ordered (PieceAt k) (ParcelAt m) = inl tt
-ordered (PieceAt k) (LineAt m) = inl tt
-ordered (PieceAt k) (PairAt m n) = inl tt
-ordered (ParcelAt k) (PieceAt m) = inr (inl tt)
+ordered (PieceAt k) (ParcelAt m) = inr (inl tt)
+ordered (PieceAt k) (LineAt m) = inr (inl tt)
+ordered (PieceAt k) (PairAt m n) = inr (inl tt)
+ordered (ParcelAt k) (PieceAt m) = inr (inr tt)
 ordered (ParcelAt k) (ParcelAt m) = by_number ParcelAt k m (λ l. l) (λ l. l)
-ordered (ParcelAt k) (LineAt m) = inl tt
-ordered (ParcelAt k) (PairAt m n) = inl tt
-ordered (LineAt k) (PieceAt m) = inr (inl tt)
-ordered (LineAt k) (ParcelAt m) = inr (inl tt)
+ordered (ParcelAt k) (LineAt m) = inr (inl tt)
+ordered (ParcelAt k) (PairAt m n) = inr (inl tt)
+ordered (LineAt k) (PieceAt m) = inr (inr tt)
+ordered (LineAt k) (ParcelAt m) = inr (inr tt)
 ordered (LineAt k) (LineAt m) = by_number LineAt k m (λ l. l) (λ l. l)
-ordered (LineAt k) (PairAt m n) = inl tt
-ordered (PairAt i j) (PieceAt m) = inr (inl tt)
-ordered (PairAt i j) (ParcelAt m) = inr (inl tt)
-ordered (PairAt i j) (LineAt m) = inr (inl tt)
+ordered (LineAt k) (PairAt m n) = inr (inl tt)
+ordered (PairAt i j) (PieceAt m) = inr (inr tt)
+ordered (PairAt i j) (ParcelAt m) = inr (inr tt)
+ordered (PairAt i j) (LineAt m) = inr (inr tt)
 ordered (PairAt i j) (PairAt m n) = pair-ordered i j m n
 
 -- a condition fails first at one site
 one_site : (r : Contents) (c : Cert) (q : Condition) (a b : Site) → IsFirst r c q a → IsFirst r c q b → a ≡ b
 unfolding Ordered
 one_site r c q a b f g = elim (ordered a b) [
-  | inl e ↦ absurd (f.fails (g.earlier a e))
+  | inl e ↦ e
   | inr o ↦ elim o [
-    | inl e ↦ absurd (g.fails (f.earlier b e))
-    | inr e ↦ e
+    | inl e ↦ absurd (f.fails (g.earlier a e))
+    | inr e ↦ absurd (g.fails (f.earlier b e))
   ]
 ]
 
 -- a certificate has one fault
 one_condition : (r : Contents) (c : Cert) (q s : Condition) (a b : Site) → IsFault r c q a → IsFault r c s b → q ≡ s
-one_condition r c q s a b f g = elim (three (code_of q) (code_of s)) [
-  | inl l ↦ absurd (f.first.fails (g.lower q l a))
+one_condition r c q s a b f g = elim (cases_order (code_of q) (code_of s)) [
+  | inl e ↦ code-injective q s e
   | inr o ↦ elim o [
-    | inl l ↦ absurd (g.first.fails (f.lower s l b))
-    | inr e ↦ code-injective q s e
+    | inl l ↦ absurd (f.first.fails (g.lower q l a))
+    | inr l ↦ absurd (g.first.fails (f.lower s l b))
   ]
 ]
 
