@@ -39,11 +39,10 @@ same_first x y xs ys e = (cc e, cc e)
 
 maps_apart : {A B : Type 0} (f : A → B) (xs ys : List A) → ((x y : A) → f x ≡ f y → x ≡ y) → map f xs ≡ map f ys → xs ≡ ys
 maps_apart f [] [] one e = refl
-maps_apart f [] (y ∷ ys) one e = absurd (cc e)
-maps_apart f (x ∷ xs) [] one e = absurd (cc e)
 maps_apart f (x ∷ xs) (y ∷ ys) one e =
     let s = same_first (f x) (f y) (map f xs) (map f ys) e in
     ap₂ (λ (z : _) (zs : List _). z ∷ zs) (one x y s.0) (maps_apart f xs ys one s.1)
+maps_apart f _ _ one e = absurd (cc e)
 
 triangles_eq : (ts us : List Triangle) → all_corners ts ≡ all_corners us → ts ≡ us
 triangles_eq ts us e = maps_apart corner_numbers ts us triangle_eq e

@@ -40,9 +40,8 @@ digit_more limit i v r xs lt h digit is le =
 
 leading : (limit i end : ℕ) (xs : List ℕ) (v : ℕ) → i < length xs → end < 48 → 48 < get_or xs 0 0 → get_or xs i 0 ≡ end → digits_on limit 0 (take i xs) ≡ Some v → number limit (take i xs) ≡ Some v
 unfolding number
-leading limit zero end xs v lt apart first last h = absurd (omega arith)
-leading limit (suc i) end [] v lt apart first last h = absurd (omega arith)
 leading limit (suc i) end (d ∷ xs) v lt apart first last h = let no = not-zero d first in rw no h
+leading limit _ end _ v lt apart first last h = absurd (omega arith)
 
 -- the digits before a byte
 pub digits_begin : (limit i end : ℕ) (xs : List ℕ) (v : ℕ) → limit ≤ number_margin → i < length xs → end < 48 → 48 < get_or xs 0 0 → get_or xs i 0 ≡ end → digits_on limit 0 (take i xs) ≡ Some v

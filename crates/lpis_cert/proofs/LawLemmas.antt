@@ -56,8 +56,7 @@ glued_first : (c : ℕ) (a b : List (List ℕ)) → ((v : List ℕ) × (vs : Lis
 unfolding glue
 glued_first c [] b h k = absurd (cc h.2)
 glued_first c (v ∷ []) [] h k = absurd (cc k.2)
-glued_first c (v ∷ []) (w ∷ ws) h k = refl
-glued_first c (v ∷ x ∷ vs) b h k = refl
+glued_first _ _ _ _ _ = refl
 
 lines-append : (p q : List ℕ) → lines (p ++ q) ≡ glue (lines p) (lines q)
 lines-append [] q = glued_empty (lines q) (split_some is_lf q)
@@ -79,14 +78,12 @@ went n (Err c) f k h = absurd cc
 -- the text ends where the grammar has not
 stops : (n : ℕ) (p : Place) (v h : List ℕ) (t : List (List ℕ)) (k : ℕ) → 0 < length h + length t → outcome n p ((v ++ h) ∷ t) ≡ Ok k → outcome n p (v ∷ []) ≡ Err (code.Truncated, n)
 unfolding outcome at_last step
-stops n AtVersion v h t k some e = refl
-stops n (InBody b x f d) v h t k some e = refl
-stops n (InPairs i) v h t k some e = refl
 stops n AtEnd v h [] k some e = absurd (full (length (v ++ h)) k (omega (arith, length-append v h)) e)
   where
     full : (i k : ℕ) → 0 < i → cond {A = Result ℕ (CertCode × ℕ)} (eqb i 0) (Ok n) (Err (code.TextAfterEnd, n)) ≡ Ok k → ⊥
     full i k lt e = let no : eqb i 0 ≡ false = grind (arith, nat_tests) in cc (rw no at e)
 stops n AtEnd v h (x ∷ t) k some e = absurd (cc e)
+stops _ _ _ _ _ _ _ _ = refl
 
 cut_short : (n : ℕ) (p : Place) (v : List ℕ) (vs : List (List ℕ)) (h : List ℕ) (t : List (List ℕ)) (k : ℕ)
     → 0 < length h + length t → outcome n p (glue (v ∷ vs) (h ∷ t)) ≡ Ok k
@@ -158,14 +155,13 @@ same_first x y xs ys e = (cc e, cc e)
 -- as many lines of one kind at the front
 fronts : {A : Type 0} (f : A → Line) (xs ys : List A) (us vs : List Line) → ((a b : A) → f a ≡ f b → a ≡ b) → length xs ≡ length ys → map f xs ++ us ≡ map f ys ++ vs → (xs ≡ ys) × (us ≡ vs)
 fronts f [] [] us vs inj n e = (refl, e)
-fronts f [] (y ∷ ys) us vs inj n e = absurd (omega arith)
-fronts f (x ∷ xs) [] us vs inj n e = absurd (omega arith)
 fronts f (x ∷ xs) (y ∷ ys) us vs inj n e =
     let s = same_first (f x) (f y) (map f xs ++ us) (map f ys ++ vs) e in
     let r = fronts f xs ys us vs inj (omega arith) s.1 in
     let first = inj x y s.0 in
     let rest = r.0 in
     (rw (first, rest) refl, r.1)
+fronts f _ _ us vs inj n e = absurd (omega arith)
 
 end_injective : (xs ys : List Separator) → end_lines xs ≡ end_lines ys → xs ≡ ys
 end_injective xs ys e =
@@ -209,8 +205,6 @@ piece_front q r us vs e =
 
 parcels_injective : (qs rs : List ParcelBlock) (xs ys : List Separator) → parcels_lines qs ++ end_lines xs ≡ parcels_lines rs ++ end_lines ys → (qs ≡ rs) × (xs ≡ ys)
 parcels_injective [] [] xs ys e = (refl, end_injective xs ys e)
-parcels_injective [] (r ∷ rs) xs ys e = absurd (cc e)
-parcels_injective (q ∷ qs) [] xs ys e = absurd (cc e)
 parcels_injective (q ∷ qs) (r ∷ rs) xs ys e =
     let s = parcel_front q r (parcels_lines qs ++ end_lines xs) (parcels_lines rs ++ end_lines ys)
     (sym (append_assoc (parcel_lines q) (parcels_lines qs) (end_lines xs)) ∙ e ∙ append_assoc (parcel_lines r)
@@ -219,14 +213,13 @@ parcels_injective (q ∷ qs) (r ∷ rs) xs ys e =
     let first = s.0 in
     let rest = t.0 in
     (ap₂ (λ (a : ParcelBlock) (b : List ParcelBlock). a ∷ b) first rest, t.1)
+parcels_injective _ _ xs ys e = absurd (cc e)
 
 pieces_injective : (ps ps2 : List PieceBlock) (qs rs : List ParcelBlock) (xs ys : List Separator) → pieces_lines ps
     ++ (parcels_lines qs ++ end_lines xs) ≡ pieces_lines ps2 ++ (parcels_lines rs ++ end_lines ys) → (ps ≡ ps2)
     × (qs ≡ rs) × (xs ≡ ys)
 pieces_injective [] [] qs rs xs ys e = let r = parcels_injective qs rs xs ys e in (refl, r.0, r.1)
-pieces_injective [] (p ∷ ps) [] rs xs ys e = absurd (cc e)
 pieces_injective [] (p ∷ ps) (q ∷ qs) rs xs ys e = absurd (cc e)
-pieces_injective (p ∷ ps) [] qs [] xs ys e = absurd (cc e)
 pieces_injective (p ∷ ps) [] qs (r ∷ rs) xs ys e = absurd (cc e)
 pieces_injective (p ∷ ps) (p2 ∷ ps2) qs rs xs ys e =
     let a = parcels_lines qs ++ end_lines xs in
@@ -239,6 +232,7 @@ pieces_injective (p ∷ ps) (p2 ∷ ps2) qs rs xs ys e =
     let first = s.0 in
     let rest = t.0 in
     (ap₂ (λ (a : PieceBlock) (b : List PieceBlock). a ∷ b) first rest, t.1, t.2)
+pieces_injective _ _ _ _ xs ys e = absurd (cc e)
 
 same_body : (a b : List ℕ) → first_line written ++ (10 ∷ a) ≡ first_line written ++ (10 ∷ b) → a ≡ b
 same_body a b e = cc e

@@ -27,44 +27,25 @@ use Rattle.lpis_cert.proofs.WordLemmas.{IsWordText, none_empty, kind_word, field
 
 kind_again : (k : Kind) → kind_of (kind_word k) ≡ Some k
 unfolding kind_of
-kind_again Piece = refl
-kind_again Triangle = refl
-kind_again Flat = refl
-kind_again Parcel = refl
-kind_again Pairs = refl
-kind_again Pair = refl
 kind_again End = refl
+kind_again _ = refl
 
 full : (k : Kind) (ws : List (List ℕ)) → list_any is_empty (kind_word k ∷ ws) ≡ list_any is_empty ws
-full Piece ws = refl
-full Triangle ws = refl
-full Flat ws = refl
-full Parcel ws = refl
-full Pairs ws = refl
-full Pair ws = refl
 full End ws = refl
+full _ _ = refl
 
 form_again : (k : Kind) (ws : List (List ℕ)) → AllByRecursion IsWordText ws → eqb (length ws + 1) (word_count k) ≡ true → names k ws ≡ true → form (kind_word k ∷ ws) ≡ Some (k, ws)
 unfolding form
 form_again k ws h len named = rw (full k ws, none_empty ws h, kind_again k, len, named) refl
 
 length_right : (l : Line) → eqb (length (fields l) + 1) (word_count (line_kind l)) ≡ true
-length_right (PieceLine id t f) = refl
-length_right (TriangleLine c) = refl
-length_right (FlatLine c) = refl
-length_right (ParcelLine id f) = refl
-length_right (PairsLine n) = refl
-length_right (PairLine p) = refl
 length_right EndLine = refl
+length_right _ = refl
 
 names_right : (l : Line) → LineFits l → names (line_kind l) (fields l) ≡ true
 names_right (PieceLine id t f) fits = fits.0
-names_right (TriangleLine c) fits = refl
-names_right (FlatLine c) fits = refl
 names_right (ParcelLine id f) fits = fits.0
-names_right (PairsLine n) fits = refl
-names_right (PairLine p) fits = refl
-names_right EndLine fits = refl
+names_right _ _ = refl
 
 corners_again : (c : Corners) → CornersFit c → corners written (corner_words c) ≡ Some c
 unfolding corners point

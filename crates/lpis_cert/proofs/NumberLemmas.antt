@@ -128,9 +128,8 @@ coordinate_again (negsuc n) fits = signed n (number_again (greatest written) (su
     signed n h = rw h (ap (λ (k : ℕ). Some (neg_ℤ (pos k))) (once (suc n)))
 
 minus_takes : (v : Version) (o : Option ℕ) (z : ℤ) → minus v o ≡ Some z → (n : ℕ) × (o ≡ Some (suc n)) × (z ≡ neg_ℤ (pos (suc n * factor v)))
-minus_takes v None z h = absurd cc
-minus_takes v (Some zero) z h = absurd cc
 minus_takes v (Some (suc n)) z h = (n, refl, cc)
+minus_takes v _ z h = absurd cc
 
 plus_takes : (v : Version) (o : Option ℕ) (z : ℤ) → plus v o ≡ Some z → (n : ℕ) × (o ≡ Some n) × (z ≡ pos (n * factor v))
 plus_takes v None z h = absurd cc

@@ -62,10 +62,8 @@ May AtEnd text = text ≡ []
 
 -- what was declared is within the limits
 abbrev Small : Place → Type 0
-Small AtVersion = Unit {0}
 Small (InBody b t f d) = (d.triangles ≤ most_triangles) × (d.flats ≤ most_flats)
-Small (InPairs n) = Unit {0}
-Small AtEnd = Unit {0}
+Small _ = Unit {0}
 
 line_more : (l : Line) (ls : List Line) (line rest : List ℕ) → line ≡ spelling l → rest ≡ text_of_lines ls → line ++ (10 ∷ rest) ≡ text_of_lines (l ∷ ls)
 unfolding text_of_lines
@@ -301,14 +299,12 @@ back AtEnd q line s h = absurd (cc h)
 
 last_back : (n m : ℕ) (p : Place) (rest : List ℕ) → at_last n p rest ≡ Ok m → May p rest
 unfolding at_last
-last_back n m AtVersion rest h = absurd (cc h)
-last_back n m (InBody b t f d) rest h = absurd (cc h)
-last_back n m (InPairs k) rest h = absurd (cc h)
 last_back n m AtEnd [] h = refl
 last_back n m AtEnd (x ∷ xs) h = let no : eqb (length (x ∷ xs)) 0 ≡ false = positive (length (x ∷ xs)) (omega arith) in let e = rw no at h in absurd (cc e)
   where
     positive : (k : ℕ) → 0 < k → eqb k 0 ≡ false
     positive k h = grind (arith, nat_tests)
+last_back n m _ rest h = absurd (cc h)
 
 line_ok : (n : ℕ) (r : Result Place CertCode) (q : Place) → at_line n r ≡ Ok q → r ≡ Ok q
 line_ok n (Ok x) q h = let same : x ≡ q = cc h in ap (λ (y : Place). Ok y) same

@@ -75,8 +75,7 @@ one_gap : (w g : Bool) (n b : ℕ) (v : List ℕ) (vs : List (List ℕ)) (r s : 
     → cond g (cond w r None) s ≡ counted w n (cond g ([] ∷ v ∷ vs) (onto_first b (v ∷ vs)))
 one_gap true true n b v vs r s h k = h ∙ ap (λ (i : ℕ). cond (is_empty v || list_any is_empty vs) None (Some i)) (omega arith)
 one_gap false true n b v vs r s h k = refl
-one_gap true false n b v vs r s h k = k
-one_gap false false n b v vs r s h k = k
+one_gap _ _ n b v vs r s h k = k
 
 pub gaps_are : (in_word : Bool) (n : ℕ) (bs : List ℕ) → gaps in_word n bs ≡ counted in_word n (words bs)
 gaps_are true n [] = refl

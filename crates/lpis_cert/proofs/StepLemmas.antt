@@ -73,30 +73,26 @@ step_err n p c text line rest e h = let s = split_some is_lf rest in let more = 
 
 -- what one place wants
 abbrev pub Wants : Place → Expected → Type 0
-Wants AtVersion e = ⊥
 Wants (InBody b (suc t) f d) e = One Triangle ≡ e
 Wants (InBody b zero (suc f) d) e = One Flat ≡ e
 Wants (InBody b zero zero d) e = Block b ≡ e
 Wants (InPairs (suc n)) e = One Pair ≡ e
 Wants (InPairs zero) e = One End ≡ e
-Wants AtEnd e = ⊥
+Wants _ _ = ⊥
 
 step_fails : (p : Place) (e : Expected) (line : List ℕ) (c : CertCode) → Wants p e → read_line written e line ≡ Err c → step p line ≡ Err c
 unfolding step
 step_fails AtVersion e line c w h = absurd w
-step_fails (InBody b (suc t) f d) e line c w h = rw (w, h) refl
-step_fails (InBody b zero (suc f) d) e line c w h = rw (w, h) refl
 step_fails (InBody b zero zero d) e line c w h = rw (w, h) refl
-step_fails (InPairs (suc n)) e line c w h = rw (w, h) refl
 step_fails (InPairs zero) e line c w h = rw (w, h) refl
 step_fails AtEnd e line c w h = absurd w
+step_fails _ e line c w h = rw (w, h) refl
 
 last_fails : (n : ℕ) (p : Place) (e : Expected) (text : List ℕ) → Wants p e → lines text ≡ text ∷ [] → outcome n p (lines text) ≡ Err (code.Truncated, n)
 unfolding outcome at_last
-last_fails n AtVersion e text w h = absurd w
 last_fails n (InBody b t f d) e text w h = rw h refl
 last_fails n (InPairs k) e text w h = rw h refl
-last_fails n AtEnd e text w h = absurd w
+last_fails n _ e text w h = absurd w
 
 pub fails : (n : ℕ) (p : Place) (e : Expected) (text : List ℕ) (c : CertCode) → Wants p e → FailsWith e text c → outcome n p (lines text) ≡ Err (c, n)
 fails n p e text c w (inl h) = let is = h.1 in rw is (last_fails n p e text w h.0)

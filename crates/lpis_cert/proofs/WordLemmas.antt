@@ -128,13 +128,8 @@ fields EndLine = []
 
 pub words_are : (l : Line) → words_of l ≡ kind_word (line_kind l) ∷ fields l
 unfolding words_of
-words_are (PieceLine id t f) = refl
-words_are (TriangleLine c) = refl
-words_are (FlatLine c) = refl
-words_are (ParcelLine id f) = refl
-words_are (PairsLine n) = refl
-words_are (PairLine p) = refl
 words_are EndLine = refl
+words_are _ = refl
 
 pub corner_fields : (c : Corners) → CornersFit c → AllByRecursion IsWordText (corner_words c)
 corner_fields c fits = (signed_word c.x1 fits.x1, (signed_word c.y1 fits.y1, (signed_word c.x2 fits.x2, (signed_word c.y2 fits.y2, (signed_word c.x3 fits.x3, (signed_word c.y3 fits.y3, tt))))))

@@ -9,16 +9,8 @@ use Rattle.lpis_checker.specs.GoodCertificate.{IsGood}
 use Rattle.lpis_checker.specs.FirstFault.{HoldBelow}
 
 below_70 : (q : Condition) → code_of q < 70
-below_70 Names = omega arith
-below_70 Triangles = omega arith
-below_70 Turned = omega arith
-below_70 Flats = omega arith
-below_70 Corners = omega arith
-below_70 PieceEdges = omega arith
-below_70 ParcelEdges = omega arith
-below_70 NearPairs = omega arith
-below_70 NotApart = omega arith
 below_70 Separating = omega arith
+below_70 _ = omega arith
 
 pub all_hold : (r : Contents) (c : Cert) → HoldBelow r c 70 → IsGood r c
 all_hold r c below = record { holds = λ q. below.holds q (below_70 q) }

@@ -61,10 +61,9 @@ turned p q a b = by (is_low p q) (same_point p a) (same_point q b) (same_point q
     by true false false false false = refl
 
 weighted : (s t : Bool) (z : ℤ) → cond s (pos 1) (pos 0) ≡ z → cond s (cond t (pos 1) (negsuc 0)) (pos 0) ≡ signed_by t z
-weighted true true z e = e
 weighted true false z e = omega (arith, ints)
-weighted false true z e = e
 weighted false false z e = omega (arith, ints)
+weighted _ _ z e = e
 
 -- what a signed edge adds
 edge_adds : (a b : Point) (t : Bool) (e : SignedEdge) → IsSigned a b t (Some e) → (p q : Point) → cond (is_at p q e) (weight e) (pos 0) ≡ signed_by t (adds p q a b)

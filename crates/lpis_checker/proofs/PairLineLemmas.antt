@@ -192,7 +192,5 @@ walk_fault r c ts near names numbered law from at k p w e s not = record { fails
             absurd (below_not i j i j (below_trans i j p.0 p.1 i j b (law.ascending k x.0 p (i, j) strict e x.1)) refl refl)
 
     earlier : (b : Site) → IsEarlier b (PairAt p.0 p.1) → Holds r c NearPairs b
-    earlier (PieceAt m) h = tt
-    earlier (ParcelAt m) h = tt
-    earlier (LineAt m) h = tt
     earlier (PairAt i j) h = pair_earlier i j h
+    earlier _ _ = tt

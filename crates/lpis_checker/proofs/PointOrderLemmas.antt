@@ -50,9 +50,8 @@ tie a b o p h k = by (int_lt a b) (int_lt b a) refl refl h k
     by false false e f h k = (equal_of a b e f, h, k)
 
 assoc : (o p q : Ordering) → ordering_then (ordering_then o p) q ≡ ordering_then o (ordering_then p q)
-assoc Less p q = refl
-assoc Equal p q = refl
 assoc Greater p q = refl
+assoc _ _ _ = refl
 
 -- points of which neither is less, with what follows
 pub point_tie : (a b : Point) (o p : Ordering) → is_lt (ordering_then (point_order a b) o) ≡ false → is_lt (ordering_then (point_order b a) p) ≡ false → (a ≡ b) × (is_lt o ≡ false) × (is_lt p ≡ false)

@@ -89,15 +89,13 @@ nothing = (λ t x y e f. tt, λ h. tt)
 
 pub of_parts : (r : Contents) (c : Cert) (q : Condition) (k : ℕ) → (q ≡ Names → ⊥) → (Holds r c q (PieceAt k) ↔ OfPiece r c k (OnPiece q)) × (Holds r c q (ParcelAt k) ↔ OfParcel r c k (OnParcel r q))
 of_parts r c Names k other = absurd (other refl)
-of_parts r c Triangles k other = (same, nothing)
-of_parts r c Turned k other = (same, nothing)
 of_parts r c Flats k other = (same, same)
 of_parts r c Corners k other = (same, same)
-of_parts r c PieceEdges k other = (same, nothing)
 of_parts r c ParcelEdges k other = (nothing, same)
 of_parts r c NearPairs k other = (nothing, nothing)
 of_parts r c NotApart k other = (nothing, nothing)
 of_parts r c Separating k other = (nothing, nothing)
+of_parts r c _ k other = (same, nothing)
 
 -- a test of the items at a place of two lists
 pub told_of_both : {A B E H : Type 0} (xs : List A) (ts : List B) (k : ℕ) (P : A → B → Type 0) {x : A} {t : B} (result : Result Bool E)
@@ -117,15 +115,7 @@ past_second xs ts k says e l =
 -- past the ends of both lists each condition holds
 is_names : (q : Condition) → (q ≡ Names) ⊎ (q ≡ Names → ⊥)
 is_names Names = inl refl
-is_names Triangles = inr (λ e. cc)
-is_names Turned = inr (λ e. cc)
-is_names Flats = inr (λ e. cc)
-is_names Corners = inr (λ e. cc)
-is_names PieceEdges = inr (λ e. cc)
-is_names ParcelEdges = inr (λ e. cc)
-is_names NearPairs = inr (λ e. cc)
-is_names NotApart = inr (λ e. cc)
-is_names Separating = inr (λ e. cc)
+is_names _ = inr (λ e. cc)
 
 no_ids : {A B : Type 0} (id : A → List ℕ) (name : B → List ℕ) (xs : List A) (ts : List B) (k : ℕ) → length ts ≤ k → length xs ≤ k → option_map name (slice_get ts k) ≡ option_map id (slice_get xs k)
 no_ids id name xs ts k parts own = ap (λ (o : Option _). option_map name o) (slice_get_past ts k parts) ∙ sym (ap (λ (o : Option _). option_map id o) (slice_get_past xs k own))
@@ -154,25 +144,12 @@ past_lines r c q k long = by q
 
     by : (s : Condition) → Holds r c s (LineAt k)
     by Names = λ l e. absurd (never l e)
-    by Triangles = tt
-    by Turned = tt
-    by Flats = tt
-    by Corners = tt
-    by PieceEdges = tt
-    by ParcelEdges = tt
-    by NearPairs = tt
     by NotApart = λ l e. absurd (never l e)
     by Separating = λ l e. absurd (never l e)
+    by _ = tt
 
 -- a condition on the triangles of pair lines says nothing elsewhere
 pub of_lines : (r : Contents) (c : Cert) (q : Condition) → IsOfLine q → ((m : ℕ) → Holds r c q (PieceAt m)) × ((m : ℕ) → Holds r c q (ParcelAt m)) × ((i j : ℕ) → Holds r c q (PairAt i j))
 of_lines r c NotApart p = ((λ m. tt), (λ m. tt), (λ i j. tt))
 of_lines r c Separating p = ((λ m. tt), (λ m. tt), (λ i j. tt))
-of_lines r c Names p = absurd p
-of_lines r c Triangles p = absurd p
-of_lines r c Turned p = absurd p
-of_lines r c Flats p = absurd p
-of_lines r c Corners p = absurd p
-of_lines r c PieceEdges p = absurd p
-of_lines r c ParcelEdges p = absurd p
-of_lines r c NearPairs p = absurd p
+of_lines r c _ p = absurd p

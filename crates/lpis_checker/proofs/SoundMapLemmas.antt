@@ -54,9 +54,8 @@ abbrev cut_piece : Piece → PiecePart → CutPiece
 cut_piece x t = record { edges = edges_of x.polygon; triangles = t.triangles; flats = t.flats }
 
 abbrev joined : List Piece → List PiecePart → List CutPiece
-joined [] ts = []
-joined (x ∷ xs) [] = []
 joined (x ∷ xs) (t ∷ ts) = cut_piece x t ∷ joined xs ts
+joined _ _ = []
 
 some_none : {A : Type 0} (x : A) → Some x ≡ None → ⊥
 some_none x e = cc
@@ -79,11 +78,10 @@ abbrev PartCut : CutPiece → Type 0
 PartCut p = IsCut p.edges p.triangles p.flats
 
 joined_cut : (xs : List Piece) (ts : List PiecePart) → GoodParts xs ts → All PartCut (joined xs ts)
-joined_cut [] ts g = All-nil PartCut
-joined_cut (x ∷ xs) [] g = All-nil PartCut
 joined_cut (x ∷ xs) (t ∷ ts) g =
     let h = g 0 x t refl refl in
     All-cons PartCut (cut_piece x t) (joined xs ts) (record { ccw = h.ccw; flat = h.flat; net = h.net }) (joined_cut xs ts (λ k y u e f. g (suc k) y u e f))
+joined_cut _ _ g = All-nil PartCut
 
 abbrev OneAt : RationalPoint → Piece → Type 0
 OneAt s x = IsOneOrNone (turns x.polygon s)

@@ -87,13 +87,10 @@ disagrees r a s d t sound = by t.parted
 
 -- what is told with a point denies that the release is sound everywhere
 pub unsound : (r : Contents) (e : CutFault) → RefusesRightly r e → HasPoint e → IsSoundEverywhere r → ⊥
-unsound r Memory t h sound = absurd h
-unsound r (Refused (NoCut piece)) t h sound = absurd h
 unsound r (Refused (ParcelsOverlap first second at)) t h sound = parcels_share r first second (rational_of at) (positive at) t sound
 unsound r (Refused (PiecesOverlap first second at)) t h sound = pieces_share r first second (rational_of at) (positive at) t sound
-unsound r (Refused (NoSeparator first second)) t h sound = absurd h
 unsound r (Refused (Disagreement parcel at)) t h sound = disagrees r parcel (rational_of at) (positive at) t sound
-unsound r (Refused (NoFlats parcel)) t h sound = absurd h
+unsound r _ t h sound = absurd h
 
 pub told_unsound : (r : Contents) (x : Result Cert CutFault) → IfErr x (RefusesRightly r) → IfErr x (λ e. HasPoint e → IsSoundEverywhere r → ⊥)
 told_unsound r (Ok c) t = tt

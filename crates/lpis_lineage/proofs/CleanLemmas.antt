@@ -52,9 +52,8 @@ any-last p xs x e = elim (or_cases (list_any p xs) _ (sym (list_any-append p xs 
 -- ---- rows
 same-new-exact : (o p : Option (List ℕ)) → same_new o p ≡ true → o ≡ p
 same-new-exact None None e = refl
-same-new-exact None (Some t) e = cc e
-same-new-exact (Some s) None e = cc e
 same-new-exact (Some s) (Some t) e = ap Some (same-exact s t e)
+same-new-exact _ _ e = cc e
 
 same-new-refl : (o : Option (List ℕ)) → same_new o o ≡ true
 same-new-refl None = refl

@@ -24,10 +24,9 @@ pub any-push : {A : Type 0} (p : A → Bool) (xs : List A) (x : A) → list_any 
 any-push p xs x = list_any-append p xs (x ∷ []) ∙ ap (λ (b : Bool). list_any p xs || b) (or-false (p x))
 
 pub or-cond : (a b : Bool) → cond a true b ≡ (b || a)
-or-cond true true = refl
 or-cond true false = refl
-or-cond false true = refl
 or-cond false false = refl
+or-cond _ _ = refl
 
 -- a pair compares equal where both parts do
 pub pair-eq : (a b : List ℕ) (p : List ℕ × List ℕ) → is_eq (ordering_then (slice_cmp nat_cmp a p.0) (slice_cmp nat_cmp b p.1)) ≡ (same_id a p.0 && same_id b p.1)

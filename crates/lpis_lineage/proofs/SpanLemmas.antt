@@ -132,9 +132,8 @@ span-tells h law id s e i lt = by (first_held h id) refl (last_held h id) refl e
   some-eq a b e = cc
 
   by : (f : Option ℕ) → f ≡ first_held h id → (l : Option ℕ) → l ≡ last_held h id → span_between f l (has_id (last_live h) id) ≡ Some s → in_span s (entry_at h i).year ≡ holds h i id
-  by None ef l el e = absurd cc
-  by (Some f) ef None el e = absurd cc
   by (Some f) ef (Some l) el e = ap (λ (t : Span). in_span t (entry_at h i).year) (sym (some-eq _ _ e)) ∙ span-law h law id f l (sym ef) (sym el) i lt
+  by _ ef _ el e = absurd cc
 
 -- the identifiers whose span holds a release's year are those of the spans' that the release holds
 live-in-held : (h : List Entry) → IsLawful h → (spans : List (List ℕ × Span)) → AreSpansOf h spans → (i : ℕ)

@@ -84,13 +84,11 @@ calc : (f l : Option ℕ) (was is : Bool) (y last : ℕ)
     → ended_in (was && not is) last (begun (is && not (is_some (span_between f l was))) y (span_between f l was))
     ≡ span_between (option_or f (cond is (Some y) None)) (option_or (cond is (Some y) None) l) is
 calc None l true is y last none gone some used at = absurd (let g = gone refl in cc)
-calc None l false true y last none gone some used at = refl
 calc None l false false y last none gone some used at = refl
 calc (Some f) None was is y last none gone some used at = absurd (let s = some refl in cc)
-calc (Some f) (Some l) true true y last none gone some used at = refl
 calc (Some f) (Some l) false true y last none gone some used at = absurd (let u = used refl refl in cc)
 calc (Some f) (Some l) true false y last none gone some used at = ap (λ (n : ℕ). Some (record { first = f; last = n })) (sym (some-eq l last (at refl)))
-calc (Some f) (Some l) false false y last none gone some used at = refl
+calc _ _ _ _ _ _ _ _ _ _ _ = refl
 
 pub span-more : (h : List Entry) (e : Entry) (id : List ℕ) → Follows h e.live e.rows
     → ended_in (has_id (last_live h) id && not (has_id e.live id)) (last_year h) (begun (has_id e.live id && not (is_some (span_of h id))) e.year (span_of h id)) ≡ span_of (h ++ e ∷ []) id

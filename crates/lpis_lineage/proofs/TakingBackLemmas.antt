@@ -89,12 +89,10 @@ back : (f l : Option ℕ) (was is : Bool) (y last : ℕ)
     → ended_in was 0 (forgotten is y (ended_in (was && not is) last (begun (is && not (is_some (span_between f l was))) y (span_between f l was)))) ≡ span_between f l was
 back None l true is y last gone some below = absurd (let g = gone refl in cc)
 back None l false true y last gone some below = ap (λ (b : Bool). ended_in false 0 (cond b None (Some (record { first = y; last = 0 })))) (eq-eqb y y refl)
-back None l false false y last gone some below = refl
 back (Some f) None was is y last gone some below = absurd (let s = some refl in cc)
 back (Some f) (Some l) true true y last gone some below = ap (λ (b : Bool). ended_in true 0 (cond b None (Some (record { first = f; last = 0 })))) (below f refl)
 back (Some f) (Some l) false true y last gone some below = ap (λ (b : Bool). ended_in false 0 (cond b None (Some (record { first = f; last = l })))) (below f refl)
-back (Some f) (Some l) true false y last gone some below = refl
-back (Some f) (Some l) false false y last gone some below = refl
+back _ _ _ _ _ _ _ _ _ = refl
 
 span-less : (h : List Entry) (e : Entry) (id : List ℕ) → IsLawful (h ++ e ∷ []) → RowsFit (h ++ e ∷ [])
     → ended_in (has_id (last_live h) id) 0 (forgotten (has_id e.live id) e.year (span_of (h ++ e ∷ []) id)) ≡ span_of h id

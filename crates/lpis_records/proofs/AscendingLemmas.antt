@@ -64,13 +64,11 @@ same-ascending R alone xs ys a b p = same-within R alone xs ys a b (λ P all. al
 
 abbrev pub below : ℤ → ℤ → Type 0
 below (pos a) (pos b) = a < b
-below (pos a) (negsuc b) = ⊥
-below (negsuc a) z = ⊥
+below _ _ = ⊥
 
 pub below-alone : (x y : ℤ) → below x y → below y x → ⊥
 below-alone (pos a) (pos b) r s = omega arith
-below-alone (pos a) (negsuc b) r s = r
-below-alone (negsuc a) z r s = r
+below-alone _ _ r s = r
 
 pub both-orders : {A : Type 0} (xs ys zs : List A) → IsPermutation xs ys → IsPermutation xs zs → IsPermutation ys zs
 both-orders xs ys zs a b = IsPermutation-trans ys xs zs (IsPermutation-sym xs ys a) b

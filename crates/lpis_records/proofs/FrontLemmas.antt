@@ -126,21 +126,18 @@ front-whole g h f n = record {
 first-same : (g h : List Entry) (id : List ℕ) → length g ≡ length h → ((i : ℕ) → (entry_at g i).year ≡ (entry_at h i).year)
     → ((i : ℕ) → holds g i id ≡ holds h i id) → first_held g id ≡ first_held h id
 first-same [] [] id n y s = refl
-first-same [] (b ∷ h) id n y s = absurd (omega (arith, n))
-first-same (a ∷ g) [] id n y s = absurd (omega (arith, n))
 first-same (a ∷ g) (b ∷ h) id n y s = rw (s 0, y 0, first-same g h id (omega (arith, n)) (λ i. y (suc i)) (λ i. s (suc i))) refl
+first-same _ _ id n y s = absurd (omega (arith, n))
 
 last-same : (g h : List Entry) (id : List ℕ) → length g ≡ length h → ((i : ℕ) → (entry_at g i).year ≡ (entry_at h i).year) → ((i : ℕ) → holds g i id ≡ holds h i id) → last_held g id ≡ last_held h id
 last-same [] [] id n y s = refl
-last-same [] (b ∷ h) id n y s = absurd (omega (arith, n))
-last-same (a ∷ g) [] id n y s = absurd (omega (arith, n))
 last-same (a ∷ g) (b ∷ h) id n y s = rw (s 0, y 0, last-same g h id (omega (arith, n)) (λ i. y (suc i)) (λ i. s (suc i))) refl
+last-same _ _ id n y s = absurd (omega (arith, n))
 
 live-same : (g h : List Entry) (id : List ℕ) → length g ≡ length h → ((i : ℕ) → holds g i id ≡ holds h i id) → has_id (last_live g) id ≡ has_id (last_live h) id
 live-same [] [] id n s = refl
-live-same [] (b ∷ h) id n s = absurd (omega (arith, n))
-live-same (a ∷ g) [] id n s = absurd (omega (arith, n))
 live-same (a ∷ g) (b ∷ h) id n s = s (length g) ∙ (let m : length g ≡ length h = omega (arith, n) in ap (λ (k : ℕ). holds (b ∷ h) k id) m)
+live-same _ _ id n s = absurd (omega (arith, n))
 
 pub span-same : (g h : List Entry) (id : List ℕ) → IsSameHistory g h → span_of g id ≡ span_of h id
 span-same g h id same = rw (
@@ -204,9 +201,7 @@ record IsNextLines (g h : List Entry) (back : List Line) : Type 0 where
   pub above : AllByRecursion (λ l. below (pos (entry_at h (length g)).year) l.year) back
 
 next-lines : (g h : List Entry) → IsFront g h → length g < length h → Ascends below (years_of h) → (back : List Line) × IsNextLines g h back
-next-lines [] [] f lt a = absurd (omega (arith, lt))
 next-lines [] (y ∷ h) f lt a = (lines_of h, record { are = refl; above = lines-above (pos y.year) h a.0 })
-next-lines (x ∷ g) [] f lt a = absurd (omega (arith, lt))
 next-lines (x ∷ g) (y ∷ h) f lt a =
     let r = next-lines g h (tail-front x y g h f) (omega (arith, lt)) a.1 in
     let next : List Line = lines_from (pos (entry_at h (length g)).year) 0 (entry_at h (length g)).rows ++ r.0 in (
@@ -217,6 +212,7 @@ next-lines (x ∷ g) (y ∷ h) f lt a =
         above = r.1.above;
       },
     )
+next-lines _ _ f lt a = absurd (omega (arith, lt))
 
 -- reading goes on up to the end of the run
 pub run-more : (ls : List Line) (from y stop next : ℕ) → IsRun ls from y stop → next ≤ stop → (line_at ls next).year ≡ pos y → next + 1 ≤ stop
@@ -322,16 +318,14 @@ due-refused spans lines g h from year said due within live rows (Lineage fault) 
 
 years-length : (h : List Entry) (ys : List ℕ) → years_of h ≡ map (λ y. pos y) ys → length h ≡ length ys
 years-length [] [] e = refl
-years-length [] (y ∷ ys) e = absurd cc
-years-length (x ∷ h) [] e = absurd cc
 years-length (x ∷ h) (y ∷ ys) e = ap suc (years-length h ys (ap rest e))
+years-length _ _ e = absurd cc
 
 year-at-place : (h : List Entry) (ys : List ℕ) (i : ℕ) → years_of h ≡ map (λ y. pos y) ys → i < length ys → (entry_at h i).year ≡ get_or ys i 0
 year-at-place [] [] i e lt = absurd (omega (arith, lt))
-year-at-place [] (y ∷ ys) i e lt = absurd cc
-year-at-place (x ∷ h) [] i e lt = absurd cc
 year-at-place (x ∷ h) (y ∷ ys) zero e lt = ap first_of e
 year-at-place (x ∷ h) (y ∷ ys) (suc i) e lt = year-at-place h ys i (ap rest e) (omega (arith, lt))
+year-at-place _ _ i e lt = absurd cc
 
 pub as-long : (g h : List Entry) (ys : List ℕ) (i : ℕ) → years_of g ≡ map (λ y. pos y) (take i ys) → years_of h ≡ map (λ y. pos y) ys → length ys ≤ i → length g ≡ length h
 as-long g h ys i a b le = let n = years-length g (take i ys) a in let m = years-length h ys b in let w = ap length (take-whole ys i le) in omega (arith, n, m, w)
@@ -354,11 +348,10 @@ years-more ys i old new lt o n =
 
 same-lines : (g h : List Entry) → IsFront g h → length g ≡ length h → lines_of g ≡ lines_of h
 same-lines [] [] f n = refl
-same-lines [] (y ∷ h) f n = absurd (omega (arith, n))
-same-lines (x ∷ g) [] f n = absurd (omega (arith, n))
 same-lines (x ∷ g) (y ∷ h) f n =
     ap₂ (λ (n : ℕ) (rs : List Row). lines_from (pos n) 0 rs ++ lines_of g) (f.years 0 (omega arith)) (f.rows 0 (omega arith))
     ∙ ap (λ (l : List Line). lines_from (pos y.year) 0 y.rows ++ l) (same-lines g h (tail-front x y g h f) (omega (arith, n)))
+same-lines _ _ f n = absurd (omega (arith, n))
 
 -- with no release left no line is left
 pub lines-whole : (spans : List KnownSpan) (lines : List KnownLine) (g h : List Entry) (from : ℕ) → IsSaid spans lines h → IsFront g h

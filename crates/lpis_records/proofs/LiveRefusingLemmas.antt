@@ -79,9 +79,8 @@ all-years h live t k d lt = let r = t.right (get_or live k d) (Contains-get_or l
 since-years : (spans : List KnownSpan) (live : List Live) (ys : List ℤ) → map span_in spans ≡ map one_year live
     → AllByRecursion (λ l. Contains ys l.year) live → AllByRecursion (λ s. Contains ys s.since) spans
 since-years [] [] ys e all = tt
-since-years [] (l ∷ ls) ys e all = absurd cc
-since-years (s ∷ ss) [] ys e all = absurd cc
 since-years (s ∷ ss) (l ∷ ls) ys e all = (subst (Contains ys) (sym (ap since_of e)) all.0, since-years ss ls ys (ap rest_of e) all.1)
+since-years _ _ ys e all = absurd cc
 
 pub live-years : (h : List Entry) (live : List Live) (spans : List KnownSpan) (ys : List ℤ) → LiveTells live h → map span_in spans ≡ map one_year live
     → years_of h ≡ ys → All (λ s. Contains ys s.since) spans

@@ -107,9 +107,8 @@ rest_of (s ∷ ss) = ss
 years-of-live : (spans : List KnownSpan) (live : List Live) (ys : List ℤ) → map span_in spans ≡ map one_year live
     → AllByRecursion (λ s. Contains ys s.since) spans → AllByRecursion (λ l. Contains ys l.year) live
 years-of-live [] [] ys e all = tt
-years-of-live [] (l ∷ ls) ys e all = absurd cc
-years-of-live (s ∷ ss) [] ys e all = absurd cc
 years-of-live (s ∷ ss) (l ∷ ls) ys e all = (subst (Contains ys) (ap (λ (q : List StoredSpan). since_of q) e) all.0, years-of-live ss ls ys (ap (λ (q : List StoredSpan). rest_of q) e) all.1)
+years-of-live _ _ ys e all = absurd cc
 
 -- the history that rows of version 1 say
 pub live-says : (c : Content) (h : List Entry) (years : List ℕ) (spans : List KnownSpan) (lines : List KnownLine) → IsLawful h → RowsFit h

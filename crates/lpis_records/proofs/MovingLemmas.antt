@@ -18,9 +18,8 @@ one-format fs gs version m e = by gs (length_permutation fs gs m ∙ ap length e
   same f (suc i, lt, at) = absurd (omega arith)
 
   by : (ls : List Format) → length ls ≡ 1 → ((f : Format) → Contains ls f → Contains fs f) → ls ≡ only_format version
-  by [] n c = absurd (omega (arith, n))
   by (f ∷ []) n c = ap (λ (x : Format). x ∷ []) (same f (subst (λ (l : List Format). Contains l f) e (c f (0, omega arith, refl))))
-  by (f ∷ (g ∷ ls)) n c = absurd (omega (arith, n))
+  by _ n c = absurd (omega (arith, n))
 
 pub reordered-tells : (c d : Content) (h : List Entry) → IsSameContent c d → Tells c h → Tells d h
 reordered-tells c d h m t = record {

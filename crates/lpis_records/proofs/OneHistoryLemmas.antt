@@ -65,11 +65,9 @@ sets-told h spans law t i lt id = sym (with-test spans t.right ∙ by (list_any 
   one s is false e = ap (λ (b : Bool). b && covers s (entry_at h i).year) (sym e) ∙ ap (λ (b : Bool). b && holds h i id) e
 
   out : (a b c : Bool) → ((a && c) || (b && c)) ≡ ((a || b) && c)
-  out true true true = refl
   out true true false = refl
-  out true false true = refl
   out true false false = refl
-  out false b c = refl
+  out _ _ _ = refl
 
   with-test : (ss : List StoredSpan) → AllByRecursion (IsSpanRow h) ss → list_any (λ s. same_id id s.id && covers s (entry_at h i).year) ss ≡ (list_any (λ s. same_id id s.id) ss && holds h i id)
   with-test [] all = refl
@@ -131,19 +129,16 @@ nat_in z = 0
 
 pub same-years : (h k : List Entry) → years_of h ≡ years_of k → (length h ≡ length k) × ((i : ℕ) → (entry_at h i).year ≡ (entry_at k i).year)
 same-years [] [] e = (refl, λ i. refl)
-same-years [] (y ∷ k) e = absurd cc
-same-years (x ∷ h) [] e = absurd cc
 same-years (x ∷ h) (y ∷ k) e = let more = same-years h k (ap rest e) in (ap suc more.0, by more.1) where
   by : ((i : ℕ) → (entry_at h i).year ≡ (entry_at k i).year) → (i : ℕ) → (entry_at (x ∷ h) i).year ≡ (entry_at (y ∷ k) i).year
   by more zero = ap (λ (l : List ℤ). nat_in (year_in l)) e
   by more (suc i) = more i
+same-years _ _ e = absurd cc
 
 pub same-rows : (h k : List Entry) → years_of h ≡ years_of k → Ascends below (years_of h) → Ascends below (years_of k)
     → AllByRecursion (λ e. AllByRecursion HasText e.rows) h → AllByRecursion (λ e. AllByRecursion HasText e.rows) k
     → lines_of h ≡ lines_of k → (i : ℕ) → (entry_at h i).rows ≡ (entry_at k i).rows
 same-rows [] [] e a b f g l i = refl
-same-rows [] (y ∷ k) e a b f g l i = absurd cc
-same-rows (x ∷ h) [] e a b f g l i = absurd cc
 same-rows (x ∷ h) (y ∷ k) e a b f g l i =
     let at : pos x.year ≡ pos y.year = ap year_in e in
     let both = rows-apart x.year 0 x.rows y.rows (lines_of h) (lines_of k) (lines-above (pos x.year) h a.0)
@@ -153,6 +148,7 @@ same-rows (x ∷ h) (y ∷ k) e a b f g l i =
       by : (i : ℕ) → x.rows ≡ y.rows → ((j : ℕ) → (entry_at h j).rows ≡ (entry_at k j).rows) → (entry_at (x ∷ h) i).rows ≡ (entry_at (y ∷ k) i).rows
       by zero now more = now
       by (suc j) now more = more j
+same-rows _ _ e a b f g l i = absurd cc
 
 -- ---- the law
 

@@ -46,9 +46,8 @@ right-map h [] all = tt
 right-map h (s ∷ ss) all = (all.0, right-map h ss all.1)
 
 abbrev pub first_of : List ℤ → ℕ
-first_of [] = 0
 first_of (pos n ∷ l) = n
-first_of (negsuc n ∷ l) = 0
+first_of _ = 0
 
 abbrev pub rest : List ℤ → List ℤ
 rest [] = []

@@ -45,9 +45,8 @@ false-true true f t = cc f
 false-true false f t = cc t
 
 tied-parts : (a b : Bool) → (not a && not b) ≡ true → (a ≡ false) × (b ≡ false)
-tied-parts true b e = cc e
-tied-parts false true e = cc e
 tied-parts false false e = (refl, refl)
+tied-parts _ _ e = cc e
 
 -- of elements that ascend strictly at most one ties with another
 none-tied : {A : Type 0} (lt : A → A → Bool) → IsStrictWeakOrder lt → (z y : A) (xs : List A) → ties lt z y ≡ true → AllByRecursion (Less_by lt y) xs → list_any (ties lt z) xs ≡ false
@@ -108,8 +107,7 @@ sorted-same lt order xs ys up a p = same-ascending (Less_by lt) (λ x y r s. fal
 
 below-less : (a b : ℤ) → below a b → int_cmp a b ≡ Less
 below-less (pos a) (pos b) r = sym (int_cmp_is (pos a) (pos b) Less (omega (arith, ints, r)))
-below-less (pos a) (negsuc b) r = absurd r
-below-less (negsuc a) b r = absurd r
+below-less _ _ r = absurd r
 
 nat-int : (a b : ℕ) → is_lt (nat_cmp a b) ≡ is_lt (int_cmp (pos a) (pos b))
 nat-int a b = grind (arith, ints, nat_tests)

@@ -19,9 +19,8 @@ use Rattle.lpis_tables.proofs.MoveLemmas.{spans_stand}
 use Rattle.lpis_register.proofs.OpeningLemmas.{none_said}
 
 pub must_be_first : (s : Shape) → has_spans s ≡ false → s ≡ First
-must_be_first New is = absurd (true≢false is)
 must_be_first First is = refl
-must_be_first Moved is = absurd (true≢false is)
+must_be_first _ is = absurd (true≢false is)
 
 pub nothing_done : (P : Trees → Type 0) (a : State) → Survives a a P
 nothing_done P a = record { clean = omega arith; shield = λ s. s; counts = omega arith; limit = refl; closes = λ _ up. inl up; crash = λ _ db may. inl may }

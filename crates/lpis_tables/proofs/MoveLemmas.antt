@@ -171,11 +171,9 @@ formats_stay (s ∷ spans) c = formats_stay spans (with_whole_span c s)
 
 -- a table that is not there has no rows
 pub no_spans : (s : Shape) (base : Database) (st : State) (c : Content) → has_spans s ≡ false → Inside s base st c → without_spans c ≡ c
-no_spans New base st c is h = absurd (true≢false is)
 no_spans First base st c is h = ap (λ ss. record c { spans = ss }) (sym h.holds.means.spans_are)
-no_spans Moved base st c is h = absurd (true≢false is)
+no_spans _ base st c is h = absurd (true≢false is)
 
 pub no_live : (s : Shape) (base : Database) (st : State) (c : Content) → has_live s ≡ false → Inside s base st c → without_live c ≡ c
 no_live New base st c is h = ap (λ ls. record c { live = ls }) (sym h.holds.means.live_are)
-no_live First base st c is h = absurd (true≢false is)
-no_live Moved base st c is h = absurd (true≢false is)
+no_live _ base st c is h = absurd (true≢false is)

@@ -17,6 +17,5 @@ pub record AreThere (s : Shape) : Type 0 where
 
 pub tables_there : (s : Shape) → AreThere s
 unfolding same_name
-tables_there New = record { format = refl; release = refl; row = refl; spans = refl; lives = refl }
-tables_there First = record { format = refl; release = refl; row = refl; spans = refl; lives = refl }
 tables_there Moved = record { format = refl; release = refl; row = refl; spans = refl; lives = refl }
+tables_there _ = record { format = refl; release = refl; row = refl; spans = refl; lives = refl }

@@ -23,12 +23,10 @@ same_rows row shown same xs ys rows p q =
 
 one_shape : (s t : Shape) → has_spans s ≡ true → has_spans t ≡ true → schema_of s ≡ schema_of t → s ≡ t
 one_shape New New a b e = refl
-one_shape New First a b e = absurd cc
 one_shape New Moved a b e = absurd (let n : 4 ≡ 5 = ap (λ (c : Schema). length c.tables) e in cc)
-one_shape First t a b e = absurd cc
 one_shape Moved New a b e = absurd (let n : 5 ≡ 4 = ap (λ (c : Schema). length c.tables) e in cc)
-one_shape Moved First a b e = absurd cc
 one_shape Moved Moved a b e = refl
+one_shape _ _ a b e = absurd cc
 
 same_content : (s : Shape) (trees : Trees) (c d : Content) → has_spans s ≡ true → Means s trees c → Means s trees d → IsSameContent (without_live c) (without_live d)
 same_content s trees c d spans m n =

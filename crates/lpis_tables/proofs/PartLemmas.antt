@@ -18,8 +18,7 @@ far m n apart e = absurd (true≢false (sym (same m) ∙ ap (nat_eq m) e ∙ apa
 
 pub span_far : (s : Shape) (n : ℕ) → nat_eq 2 n ≡ false → nat_eq 6 n ≡ false → span_tree s ≡ n → ⊥
 span_far New n two six e = far 2 n two e
-span_far First n two six e = far 6 n six e
-span_far Moved n two six e = far 6 n six e
+span_far _ n two six e = far 6 n six e
 
 pub far_span : (s : Shape) (n : ℕ) → nat_eq 2 n ≡ false → nat_eq 6 n ≡ false → n ≡ span_tree s → ⊥
 far_span s n two six e = span_far s n two six (sym e)
@@ -27,8 +26,7 @@ far_span s n two six e = span_far s n two six (sym e)
 -- the spans are not kept where `lpis_live` is
 pub span_not_live : (s : Shape) → has_live s ≡ true → span_tree s ≡ 2 → ⊥
 span_not_live New is e = true≢false (sym is)
-span_not_live First is e = far 6 2 refl e
-span_not_live Moved is e = far 6 2 refl e
+span_not_live _ is e = far 6 2 refl e
 
 pub live_not_span : (s : Shape) → has_live s ≡ true → 2 ≡ span_tree s → ⊥
 live_not_span s is e = span_not_live s is (sym e)
@@ -74,9 +72,8 @@ spans_changed s db next c ss spans k m same keyed = record {
 
 -- no query of the register has trees of its own
 pub own_spans : (s : Shape) (db : Trees) → overlay db [] (span_tree s) ≡ db (span_tree s)
-own_spans New db = refl
-own_spans First db = refl
 own_spans Moved db = refl
+own_spans _ _ = refl
 
 pub none_there : {X : Type 0} (b : Bool) (row : X → Row) (xs : List X) (rows : List Row) → b ≡ false → Keeps b row xs rows → xs ≡ []
 none_there true row xs rows is k = absurd (true≢false is)

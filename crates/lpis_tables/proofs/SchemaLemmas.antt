@@ -39,11 +39,10 @@ same_table row t u p q =
 
 same_all : {X : Type 0} (R : Row → X → Type 0) → ((row : Row) (x y : X) → R row x → R row y → x ≡ y) → (rows : List Row) (xs ys : List X) → AllZip R rows xs → AllZip R rows ys → xs ≡ ys
 same_all R one [] [] [] p q = refl
-same_all R one [] [] (y ∷ ys) p q = absurd q
 same_all R one [] (x ∷ xs) ys p q = absurd p
 same_all R one (row ∷ rows) [] ys p q = absurd p
-same_all R one (row ∷ rows) (x ∷ xs) [] p q = absurd q
 same_all R one (row ∷ rows) (x ∷ xs) (y ∷ ys) p q = ap₂ ◌∷◌ (one row x y p.0 q.0) (same_all R one rows xs ys p.1 q.1)
+same_all _ one _ _ _ p q = absurd q
 
 -- no two tables have one name
 abbrev are_apart : List Table → Bool
@@ -78,9 +77,8 @@ same_owner (v ∷ tables) t u apart (inr a) (inr b) e = same_owner tables t u (a
 
 -- no table has two keys that want an index
 abbrev is_short : List (List ℕ) → Bool
-is_short [] = true
-is_short (x ∷ []) = true
 is_short (x ∷ y ∷ xs) = false
+is_short _ = true
 
 abbrev has_one_key : Table → Bool
 has_one_key t = is_short t.uniques
@@ -119,12 +117,10 @@ module _ (tables : List Table) (apart : are_apart tables ≡ true) (few : list_a
         where
           same_some : {X : Type 0} (o : Option X) (x y : X) → o ≡ Some x → o ≡ Some y → x ≡ y
           same_some o x y e f = cc
-      go (Int n) a b = absurd a
-      go (Real x) a b = absurd a
       go (Text sql) a b =
           let made : a.0 ≡ b.0 = same_ok _ _ _ a.1 (ap (λ t. index_defined_by t sql) owner ∙ b.1) in
           a.2 ∙ ap₂ (λ (m : Index) n. record m { tree = n; table = p.table.tree }) made tree ∙ ap (λ (t : Table). record b.0 { tree = j.tree; table = t.tree }) owner ∙ sym b.2
-      go (Blob b) a c = absurd a
+      go _ a _ = absurd a
 
 no_views : (rows : List Row) (views : List View) → AllZip IsViewRow rows [] → AllZip IsViewRow rows views → views ≡ []
 no_views [] [] p q = refl

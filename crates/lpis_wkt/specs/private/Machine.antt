@@ -78,58 +78,26 @@ keyword w = cond (is_polygon w) (Ok (AfterKeyword false))
 
 -- the grammar alone, with no limit on the points
 abbrev pub step : State → Token → Result State WktCode
-step AtKeyword Open = Err Keyword
-step AtKeyword Close = Err Keyword
-step AtKeyword Comma = Err Keyword
-step AtKeyword End = Err Keyword
 step AtKeyword (Word w) = keyword w
+step AtKeyword _ = Err Keyword
 step (AfterKeyword m) Open = Ok (open_text m)
-step (AfterKeyword m) Close = Err Syntax
-step (AfterKeyword m) Comma = Err Syntax
-step (AfterKeyword m) End = Err Syntax
 step (AfterKeyword m) (Word w) = Err (first_open_code (Word w))
 step (AtBody ms) Open = Ok (new_body true ms)
-step (AtBody ms) Close = Err Syntax
-step (AtBody ms) Comma = Err Syntax
-step (AtBody ms) End = Err Syntax
 step (AtBody ms) (Word w) = Err (open_code (Word w))
 step (AtRing b) Open = Ok (AtX b [])
-step (AtRing b) Close = Err Syntax
-step (AtRing b) Comma = Err Syntax
-step (AtRing b) End = Err Syntax
 step (AtRing b) (Word w) = Err (open_code (Word w))
-step (AtX b ps) Open = Err Syntax
-step (AtX b ps) Close = Err Syntax
-step (AtX b ps) Comma = Err Syntax
-step (AtX b ps) End = Err Syntax
 step (AtX b ps) (Word w) = with_coordinate (coordinate w) (AtY b ps)
-step (AtY b ps x) Open = Err Syntax
-step (AtY b ps x) Close = Err Syntax
-step (AtY b ps x) Comma = Err Syntax
-step (AtY b ps x) End = Err Syntax
 step (AtY b ps x) (Word w) = with_coordinate (coordinate w)
     (λ y. AfterPoint b (ps ++ point_of x y ∷ []))
-step (AfterPoint b ps) Open = Err Syntax
 step (AfterPoint b ps) Close = close_ring b ps
 step (AfterPoint b ps) Comma = Ok (AtX b ps)
-step (AfterPoint b ps) End = Err Syntax
 step (AfterPoint b ps) (Word w) = Err Dimension
-step (AfterRing b) Open = Err Syntax
 step (AfterRing b) Close = Ok (close_body b)
 step (AfterRing b) Comma = Ok (AtRing b)
-step (AfterRing b) End = Err Syntax
-step (AfterRing b) (Word w) = Err Syntax
-step (AfterBody ms) Open = Err Syntax
 step (AfterBody ms) Close = Ok (AtEnd ms)
 step (AfterBody ms) Comma = Ok (AtBody ms)
-step (AfterBody ms) End = Err Syntax
-step (AfterBody ms) (Word w) = Err Syntax
-step (AtEnd ms) Open = Err Syntax
-step (AtEnd ms) Close = Err Syntax
-step (AtEnd ms) Comma = Err Syntax
 step (AtEnd ms) End = Ok (Finished ms)
-step (AtEnd ms) (Word w) = Err Syntax
-step (Finished ms) t = Err Syntax
+step _ _ = Err Syntax
 
 abbrev pub and_then : {A B E : Type 0} → Result A E → (A → Result B E) → Result B E
 and_then (Ok x) f = f x
