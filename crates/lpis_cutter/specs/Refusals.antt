@@ -1,5 +1,7 @@
 -- What a refusal says of a release.
-use Rattle.std.specs.Prelude.{◌≡◌, ◌≢◌, ℕ, List, All, Any, Contains as IsAmong, ◌⊎◌, ⊤}
+use Rattle.std.specs.Prelude.{◌≡◌, ◌≢◌, ℕ, List, Option, Some, None, All, Any, ◌⊎◌, ⊤}
+use Rattle.std.specs.Prelude.{Contains as IsAmong}
+use Rattle.lpis_points.specs.Memory.{UnlessMemory}
 use Rattle.lpis_points.specs.Plane.{RationalPoint, same_point}
 use Rattle.lpis_points.specs.RatPoints.{rational_of}
 use Rattle.lpis_points.specs.Chain.{SameNet}
@@ -77,10 +79,14 @@ Says r (NoSeparator first second) = ((x : Piece) × IsPiece r first x)
 Says r (Disagreement parcel at) = Disagrees r parcel (rational_of at)
 Says r (NoFlats parcel) = IsUneven r parcel
 
+-- what a fault reports: a refusal
+abbrev pub report : CutFault → Option Refusal
+report Memory = None
+report (Refused refusal) = Some refusal
+
 -- what is said of a release where there is no certificate
 abbrev pub RefusesRightly : Contents → CutFault → Type 0
-RefusesRightly r Memory = ⊤
-RefusesRightly r (Refused refusal) = Says r refusal
+RefusesRightly r fault = UnlessMemory (Says r) (report fault)
 
 -- a point is told
 abbrev pub HasPoint : CutFault → Type 0

@@ -180,6 +180,23 @@ pub(crate) fn unseparated(
     }
 }
 
+/// What is kept, or else that the pieces of a pair have no separator.
+fn first_unseparated(
+    release: &Release,
+    numbered: &Numbered,
+    kept: Option<Refusal>,
+    i: u32,
+    j: u32,
+) -> Result<Option<Refusal>, AllocError>
+    requires { SaysIfAny release.now kept }
+    ensures { IfOk result (SaysIfAny release.now) }
+{
+    match kept {
+        Some(refusal) => Ok(Some(refusal)),
+        None => unseparated(release, numbered, i, j),
+    }
+}
+
 /// The separators of near pairs. Where there is none a point is looked for; without a point the
 /// first such pair is kept.
 pub(crate) fn separate(
@@ -199,9 +216,7 @@ pub(crate) fn separate(
             lines.push(line)?;
             continue;
         }
-        if kept.is_none() {
-            kept = unseparated(release, numbered, *i, *j)?;
-        }
+        kept = first_unseparated(release, numbered, kept, *i, *j)?;
         if !budget.search() {
             break;
         }

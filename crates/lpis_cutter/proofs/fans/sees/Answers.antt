@@ -1,4 +1,4 @@
-use Rattle.std.proofs.Common.{◌≡◌, ◌<◌, ◌∙◌, Some, length, arith, sym, ap}
+use Rattle.std.proofs.Common.{◌<◌, ◌∙◌, Some, length, arith, sym, ap}
 use Rattle.std.proofs.lemmas.Option.{slice_get-get_or}
 use Rattle.lpis_cutter.proofs.fans.sees.Goals as goal
 

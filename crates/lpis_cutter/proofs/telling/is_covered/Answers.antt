@@ -1,4 +1,4 @@
-use Rattle.std.proofs.Common.{◌≡◌, ◌∷◌, [], suc, List, All, sym, subst}
+use Rattle.std.proofs.Common.{◌≡◌, ◌∷◌, suc, List, All, sym, subst}
 use Rattle.std.specs.Prelude.{Any}
 use Rattle.std.proofs.lemmas.List.Elements.{All-cons}
 use Rattle.lpis_points.specs.RatPoints.{rational_of}
