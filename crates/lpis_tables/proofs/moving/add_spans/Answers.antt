@@ -1,10 +1,9 @@
-use Rattle.std.proofs.Common.{◌≡◌, arith, rules, refl, subst, sym, IsTrue, OnOk}
-use Rattle.std.specs.Prelude.{OnErr}
+use Rattle.std.proofs.Common.{◌≡◌, arith, rules, refl, subst, sym, IsTrue}
 use Rattle.sqlite.specs.Held.{state}
-use Rattle.sqlite.specs.State.{HasCleanDisk, Survives}
+use Rattle.sqlite.specs.State.{HasCleanDisk}
 use Rattle.sqlite.proofs.Callers.{survives_begin}
 use Rattle.lpis_tables.specs.Shapes.{First, Moved}
-use Rattle.lpis_tables.specs.Holding.{IsStored, Leaves}
+use Rattle.lpis_tables.specs.Holding.{Leaves}
 use Rattle.lpis_tables.specs.Commits.{LeavesBeside}
 use Rattle.lpis_tables.proofs.StepLemmas.{begun_inside, commit_ok, moved_err, leaves, crashed}
 use Rattle.lpis_tables.proofs.moving.add_spans.Goals as goal
@@ -19,7 +18,7 @@ returns-clause-ok g c clean content r =
     let at_last : HasCleanDisk last = omega (arith, c.commit.ensures.survives.clean) in
     let begun = begun_inside First g.S.Store c.args.conn.now first content c.transaction-tx.ensures.begun r in
     let inside = c.in_ok-make_span.ensures.beside at_last _ _ begun in
-    subst (λ h. OnOk c.commit.result (IsStored Moved (state g.S.Store h) content)) same (commit_ok Moved _ last new _ inside c.commit.result (c.commit.ensures.ok late))
+    rw (← same) (commit_ok Moved _ last new _ inside c.commit.result (c.commit.ensures.ok late))
 
 pub returns-clause-err : goal.returns-clause-err
 returns-clause-err g c clean up content r =
@@ -33,8 +32,7 @@ returns-clause-err g c clean up content r =
     let begun = begun_inside First g.S.Store c.args.conn.now first content c.transaction-tx.ensures.begun r in
     let inside = c.in_ok-make_span.ensures.beside at_last _ _ begun in
     let still : IsTrue new.is_open = search rules in
-    subst (λ h. OnErr c.commit.result (IsStored First (state g.S.Store h) content)) same
-    (moved_err First Moved _ old last new content _ r inside refl still c.commit.result (c.commit.ensures.err late))
+    rw (← same) (moved_err First Moved _ old last new content _ r inside refl still c.commit.result (c.commit.ensures.err late))
 
 pub returns-clause-crash : goal.returns-clause-crash
 returns-clause-crash g c =
@@ -45,7 +43,7 @@ returns-clause-crash g c =
     let same : c.commit.new.self.0 ≡ c.conn-2-1.given.0 = search rules in
     let quiet_since = survives_begin g.S.Store c.args.conn.now last _ (rw c.transaction-tx.ensures.begun at c.make_span.ensures.quiet.survives) in
     let P = LeavesBeside old in
-    subst (λ h. Survives old (state g.S.Store h) P) same (crashed old last new _ P quiet_since c.commit.ensures.survives (λ clean db is content r.
+    rw (← same) (crashed old last new _ P quiet_since c.commit.ensures.survives (λ clean db is content r.
     let at_last : HasCleanDisk last = omega (arith, c.commit.ensures.survives.clean) in
     let inside = c.in_ok-make_span.ensures.beside at_last _ _ (begun_inside First g.S.Store c.args.conn.now first content c.transaction-tx.ensures.begun r) in
     subst (Leaves Moved content) (sym is) (leaves Moved last.now _ inside.holds)))

@@ -1,11 +1,10 @@
-use Rattle.std.proofs.Common.{◌≡◌, arith, rules, refl, subst, sym, IsTrue, OnOk}
-use Rattle.std.specs.Prelude.{OnErr}
+use Rattle.std.proofs.Common.{◌≡◌, arith, rules, refl, subst, sym, IsTrue}
 use Rattle.sqlite.specs.Held.{state}
-use Rattle.sqlite.specs.State.{HasCleanDisk, Survives}
+use Rattle.sqlite.specs.State.{HasCleanDisk}
 use Rattle.sqlite.proofs.Callers.{survives_begin}
 use Rattle.lpis_records.specs.Content.{moved}
 use Rattle.lpis_tables.specs.Shapes.{with_span_table}
-use Rattle.lpis_tables.specs.Holding.{IsStored, Leaves}
+use Rattle.lpis_tables.specs.Holding.{Leaves}
 use Rattle.lpis_tables.specs.Commits.{LeavesMoved}
 use Rattle.lpis_tables.proofs.StepLemmas.{begun_inside, commit_ok, moved_err, leaves, crashed}
 use Rattle.lpis_tables.proofs.moving.write_moved.Goals as goal
@@ -20,9 +19,7 @@ returns-clause-ok g c clean shape spans lives content one r =
     let at_last : HasCleanDisk last = omega (arith, c.commit.ensures.survives.clean) in
     let begun = begun_inside shape g.S.Store c.args.conn.now first content c.transaction-tx.ensures.begun r in
     let inside = c.in_ok-fill_moved.ensures.moved at_last shape spans lives _ _ one begun in
-    subst
-    (λ h. OnOk c.commit.result (IsStored (with_span_table shape) (state g.S.Store h)
-    (moved c.args.spans.now content))) same (commit_ok (with_span_table shape) _ last new _ inside c.commit.result
+    rw (← same) (commit_ok (with_span_table shape) _ last new _ inside c.commit.result
     (c.commit.ensures.ok late))
 
 pub returns-clause-err : goal.returns-clause-err
@@ -37,8 +34,7 @@ returns-clause-err g c clean up shape spans lives content one r =
     let begun = begun_inside shape g.S.Store c.args.conn.now first content c.transaction-tx.ensures.begun r in
     let inside = c.in_ok-fill_moved.ensures.moved at_last shape spans lives _ _ one begun in
     let still : IsTrue new.is_open = search rules in
-    subst (λ h. OnErr c.commit.result (IsStored shape (state g.S.Store h) content)) same
-    (moved_err shape (with_span_table shape) _ old last new content _ r inside refl still c.commit.result
+    rw (← same) (moved_err shape (with_span_table shape) _ old last new content _ r inside refl still c.commit.result
     (c.commit.ensures.err late))
 
 pub returns-clause-crash : goal.returns-clause-crash
@@ -50,7 +46,7 @@ returns-clause-crash g c =
     let same : c.commit.new.self.0 ≡ c.conn-2-1.given.0 = search rules in
     let quiet_since = survives_begin g.S.Store c.args.conn.now last _ (rw c.transaction-tx.ensures.begun at c.fill_moved.ensures.quiet.survives) in
     let P = LeavesMoved c.args.spans_there c.args.lives_there c.args.spans.now old in
-    subst (λ h. Survives old (state g.S.Store h) P) same (crashed old last new _ P quiet_since c.commit.ensures.survives (λ clean db is shape w content one r.
+    rw (← same) (crashed old last new _ P quiet_since c.commit.ensures.survives (λ clean db is shape w content one r.
     let at_last : HasCleanDisk last = omega (arith, c.commit.ensures.survives.clean) in
     let begun = begun_inside shape g.S.Store c.args.conn.now first content c.transaction-tx.ensures.begun r in
     let inside = c.in_ok-fill_moved.ensures.moved at_last shape w.0 w.1 _ _ one begun in

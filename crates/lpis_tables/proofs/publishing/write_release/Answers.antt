@@ -1,18 +1,15 @@
-use Rattle.std.proofs.Common.{◌≡◌, pos, arith, rules, refl, subst, sym, IsTrue, OnOk}
-use Rattle.std.specs.Prelude.{OnErr}
+use Rattle.std.proofs.Common.{◌≡◌, pos, arith, rules, refl, subst, sym, IsTrue}
 use Rattle.sqlite.specs.Held.{state}
-use Rattle.sqlite.specs.Tree.{Trees}
-use Rattle.sqlite.specs.State.{HasCleanDisk, Survives}
+use Rattle.sqlite.specs.State.{HasCleanDisk}
 use Rattle.sqlite.proofs.Callers.{survives_begin}
 use Rattle.lpis_records.specs.Content.{published}
-use Rattle.lpis_tables.specs.Holding.{IsStored, Leaves}
+use Rattle.lpis_tables.specs.Holding.{Leaves}
 use Rattle.lpis_tables.proofs.StepLemmas.{begun_inside, commit_ok, commit_err, durable, leaves, crashed, quiet_on}
 use Rattle.lpis_tables.proofs.publishing.write_release.Goals as goal
 
 pub returns-clause-ok : goal.returns-clause-ok
 returns-clause-ok g c clean shape spans content r =
     let first = c.transaction-tx.result.conn.now in
-    let old = state g.S.Store c.args.conn.now in
     let mid = state g.S.Store c.fill.new.tx.conn.now in
     let last = state g.S.Store c.insert_lines.new.tx.conn.now in
     let new = state g.S.Store c.commit.new.self.0 in
@@ -22,11 +19,7 @@ returns-clause-ok g c clean shape spans content r =
     let at_mid : HasCleanDisk mid = omega (arith, c.insert_lines.ensures.quiet.survives.clean) in
     let begun = begun_inside shape g.S.Store c.args.conn.now first content c.transaction-tx.ensures.begun r in
     let inside = c.in_ok-insert_lines.ensures.adds at_last shape tt _ _ (c.in_ok-fill.ensures.adds at_mid shape spans _ _ begun) in
-    subst
-    (λ h. OnOk c.commit.result
-    (IsStored shape (state g.S.Store h) (published (pos c.args.year) (pos c.args.last) c.args.dropped.now
-    c.args.fresh.now c.args.rows.now content))) same (commit_ok shape _ last new _ inside c.commit.result
-    (c.commit.ensures.ok late))
+    rw (← same) (commit_ok shape _ last new _ inside c.commit.result (c.commit.ensures.ok late))
 
 pub returns-clause-err : goal.returns-clause-err
 returns-clause-err g c clean up shape spans content r =
@@ -42,7 +35,7 @@ returns-clause-err g c clean up shape spans content r =
     let begun = begun_inside shape g.S.Store c.args.conn.now first content c.transaction-tx.ensures.begun r in
     let inside = c.in_ok-insert_lines.ensures.adds at_last shape tt _ _ (c.in_ok-fill.ensures.adds at_mid shape spans _ _ begun) in
     let still : IsTrue new.is_open = search rules in
-    subst (λ h. OnErr c.commit.result (IsStored shape (state g.S.Store h) content)) same (commit_err shape _ old last new content _ r inside refl still c.commit.result (c.commit.ensures.err late))
+    rw (← same) (commit_err shape _ old last new content _ r inside refl still c.commit.result (c.commit.ensures.err late))
 
 pub returns-clause-crash : goal.returns-clause-crash
 returns-clause-crash g c shape spans content r =
@@ -60,13 +53,12 @@ returns-clause-crash g c shape spans content r =
     let quiet = (quiet_on (state g.S.Store first) mid last c.fill.ensures.quiet c.insert_lines.ensures.quiet).survives in
     let quiet_since = survives_begin g.S.Store c.args.conn.now last _ (rw c.transaction-tx.ensures.begun at quiet) in
     let P = Leaves shape (published (pos c.args.year) (pos c.args.last) c.args.dropped.now c.args.fresh.now c.args.rows.now content) in
-    subst (λ h. Survives old (state g.S.Store h) P) same (crashed old last new _ P quiet_since c.commit.ensures.survives
+    rw (← same) (crashed old last new _ P quiet_since c.commit.ensures.survives
     (λ clean db is. subst P (sym is) (leaves shape last.now _ (inside clean).holds)))
 
 pub returns-clause-durable : goal.returns-clause-durable
 returns-clause-durable g c clean shape spans content r =
     let first = c.transaction-tx.result.conn.now in
-    let old = state g.S.Store c.args.conn.now in
     let mid = state g.S.Store c.fill.new.tx.conn.now in
     let last = state g.S.Store c.insert_lines.new.tx.conn.now in
     let new = state g.S.Store c.commit.new.self.0 in
@@ -76,7 +68,4 @@ returns-clause-durable g c clean shape spans content r =
     let at_mid : HasCleanDisk mid = omega (arith, c.insert_lines.ensures.quiet.survives.clean) in
     let begun = begun_inside shape g.S.Store c.args.conn.now first content c.transaction-tx.ensures.begun r in
     let inside = c.in_ok-insert_lines.ensures.adds at_last shape tt _ _ (c.in_ok-fill.ensures.adds at_mid shape spans _ _ begun) in
-    subst (λ h. OnOk c.commit.result ((db : Trees) → (state g.S.Store h).may_leave db
-    → Leaves shape (published (pos c.args.year) (pos c.args.last) c.args.dropped.now c.args.fresh.now
-    c.args.rows.now content) db)) same
-    (durable shape new _ (λ up db may. g.met.S.Store.settled c.commit.new.self.0.store db up may) c.commit.result (commit_ok shape _ last new _ inside c.commit.result (c.commit.ensures.ok late)))
+    rw (← same) (durable shape new _ (λ up db may. g.met.S.Store.settled c.commit.new.self.0.store db up may) c.commit.result (commit_ok shape _ last new _ inside c.commit.result (c.commit.ensures.ok late)))

@@ -1,12 +1,10 @@
-use Rattle.std.proofs.Common.{◌≡◌, arith, refl, rules, subst, sym, IsTrue, OnOk}
-use Rattle.std.specs.Prelude.{OnErr}
+use Rattle.std.proofs.Common.{◌≡◌, arith, refl, rules, subst, sym, IsTrue}
 use Rattle.sqlite.specs.Held.{state}
-use Rattle.sqlite.specs.State.{HasCleanDisk, Survives}
+use Rattle.sqlite.specs.State.{HasCleanDisk}
 use Rattle.sqlite.proofs.Callers.{survives_begin}
 use Rattle.lpis_records.specs.Content.{no_content}
-use Rattle.lpis_tables.specs.Bare.{IsBare}
 use Rattle.lpis_tables.specs.Shapes.{New}
-use Rattle.lpis_tables.specs.Holding.{IsStored, Leaves}
+use Rattle.lpis_tables.specs.Holding.{Leaves}
 use Rattle.lpis_tables.specs.Commits.{LeavesMade}
 use Rattle.lpis_tables.proofs.StepLemmas.{begun_bare, bare_err, commit_ok, leaves, crashed}
 use Rattle.lpis_tables.proofs.tables.create.Goals as goal
@@ -20,8 +18,7 @@ returns-clause-made g c is_new clean r =
     let late : HasCleanDisk new = search rules in
     let at_last : HasCleanDisk last = omega (arith, c.commit.ensures.survives.clean) in
     let begun = begun_bare g.S.Store c.args.conn.now first c.transaction-tx.ensures.begun r in
-    subst (λ h. OnOk c.commit.result (IsStored New (state g.S.Store h) no_content)) same
-    (commit_ok New _ last new _ (c.in_ok-make_all.ensures.begun is_new at_last _ begun) c.commit.result
+    rw (← same) (commit_ok New _ last new _ (c.in_ok-make_all.ensures.begun is_new at_last _ begun) c.commit.result
     (c.commit.ensures.ok late))
 
 pub returns-clause-crash : goal.returns-clause-crash
@@ -33,7 +30,7 @@ returns-clause-crash g c =
     let same : c.commit.new.self.0 ≡ c.conn-2-1.given.0 = search rules in
     let quiet_since = survives_begin g.S.Store c.args.conn.now last _ (rw c.transaction-tx.ensures.begun at c.make_all.ensures.quiet.survives) in
     let P = LeavesMade c.args.is_new old in
-    subst (λ h. Survives old (state g.S.Store h) P) same (crashed old last new _ P quiet_since c.commit.ensures.survives (λ clean db is is_new r.
+    rw (← same) (crashed old last new _ P quiet_since c.commit.ensures.survives (λ clean db is is_new r.
     let at_last : HasCleanDisk last = omega (arith, c.commit.ensures.survives.clean) in
     let inside = c.in_ok-make_all.ensures.begun is_new at_last _ (begun_bare g.S.Store c.args.conn.now first c.transaction-tx.ensures.begun r) in
     subst (Leaves New no_content) (sym is) (leaves New last.now _ inside.holds)))
@@ -50,4 +47,4 @@ returns-clause-err g c is_new clean up r =
     let begun = begun_bare g.S.Store c.args.conn.now first c.transaction-tx.ensures.begun r in
     let inside = c.in_ok-make_all.ensures.begun is_new at_last _ begun in
     let still : IsTrue new.is_open = search rules in
-    subst (λ h. OnErr c.commit.result (IsBare (state g.S.Store h))) same (bare_err New _ old last new _ r inside refl still c.commit.result (c.commit.ensures.err late))
+    rw (← same) (bare_err New _ old last new _ r inside refl still c.commit.result (c.commit.ensures.err late))
