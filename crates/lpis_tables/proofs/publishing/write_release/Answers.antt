@@ -68,4 +68,5 @@ returns-clause-durable g c clean shape spans content r =
     let at_mid : HasCleanDisk mid = omega (arith, c.insert_lines.ensures.quiet.survives.clean) in
     let begun = begun_inside shape g.S.Store c.args.conn.now first content c.transaction-tx.ensures.begun r in
     let inside = c.in_ok-insert_lines.ensures.adds at_last shape tt _ _ (c.in_ok-fill.ensures.adds at_mid shape spans _ _ begun) in
-    rw (← same) (durable shape new _ (λ up db may. g.met.S.Store.settled c.commit.new.self.0.store db up may) c.commit.result (commit_ok shape _ last new _ inside c.commit.result (c.commit.ensures.ok late)))
+    rw (← same) (durable shape new _ (λ up db may. g.met.S.Store.settled c.commit.new.self.0.store db up may) c.commit.result
+    (commit_ok shape _ last new _ inside c.commit.result (c.commit.ensures.ok late)))
