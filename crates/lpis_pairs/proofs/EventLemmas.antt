@@ -2,7 +2,7 @@
 use Rattle.std.proofs.Common.{◌≡◌, ℕ, ◌+◌, ◌/◌, ◌<◌, ◌≤◌, List, [], ◌∷◌, ◌++◌, length, Some, ◌⊎◌, inl, inr, refl, ap, sym, ◌∙◌, subst, arith}
 use Rattle.std.specs.List.{Contains, slice_get}
 use Rattle.std.proofs.lemmas.List.Elements.{All-nil, All-push, Contains-append_left, Contains-push}
-use Rattle.std.proofs.lemmas.Option.{slice_get_within}
+use Rattle.std.proofs.lemmas.Option.{same_Some, slice_get_within}
 use Rattle.lpis_points.specs.declared.triangle.Triangle.{Triangle}
 use Rattle.lpis_pairs.specs.declared.events.Event.{Event}
 use Rattle.lpis_pairs.specs.private.Strips.{extent_of}
@@ -28,17 +28,8 @@ pub start_triangle : (ts : List Triangle) (height : ℕ) (es : List Event) (n : 
     → slice_get ts n ≡ Some t → EventsBelow ts height es n → EventsUpTo ts height es n ((extent_of t).bottom / height)
 start_triangle ts height es n t at h = record {
   earlier = h;
-  here = λ s u f l m. absurd (none u f s l m);
+  here = λ s u f l m. absurd (omega (arith, ap (λ (v : Triangle). (extent_of v).bottom / height) (same_Some u t (sym f ∙ at))));
 }
-  where
-    clash : (x y s : ℕ) → x ≡ y → x ≤ s → s < y → ⊥
-    clash x y s e l m = omega arith
-
-    none : (u : Triangle) → slice_get ts n ≡ Some u → (s : ℕ) → (extent_of u).bottom / height ≤ s → s < (extent_of t).bottom / height → ⊥
-    none u f s l m =
-        let e : Some u ≡ Some t = sym f ∙ at in
-        let same : u ≡ t = cc in
-        clash _ _ s (ap (λ (v : Triangle). (extent_of v).bottom / height) same) l m
 
 pub one_more : (ts : List Triangle) (height : ℕ) (es : List Event) (n strip : ℕ) (t : Triangle)
     → slice_get ts n ≡ Some t → EventsUpTo ts height es n strip
@@ -48,17 +39,13 @@ one_more ts height es n strip t at h = record {
     only = All-push (IsEvent ts) es (event height t n strip) h.earlier.only (record { t = t; at = at; left = refl; right = refl });
     all = λ i s u l f g k. Contains-append_left es _ _ (h.earlier.all i s u l f g k);
   };
-  here = λ s u f l m. at_strip s u f l (split s m);
+  here = λ s u f l m. at_strip s u f l (grind arith);
 }
   where
-    split : (s : ℕ) → s < strip + 1 → (s < strip) ⊎ (s ≡ strip)
-    split s m = grind arith
-
     at_strip : (s : ℕ) (u : Triangle) → slice_get ts n ≡ Some u → (extent_of u).bottom / height ≤ s → (s < strip) ⊎ (s ≡ strip) → Contains (es ++ event height t n strip ∷ []) (event height u n s)
     at_strip s u f l (inl m) = Contains-append_left es _ _ (h.here s u f l m)
     at_strip s u f l (inr e) =
-        let o : Some t ≡ Some u = sym at ∙ f in
-        let same : t ≡ u = cc in
+        let same = same_Some t u (sym at ∙ f) in
         let x : event height t n strip ≡ event height u n s = cc in
         subst (λ (v : Event). Contains (es ++ event height t n strip ∷ []) v) x (Contains-push es (event height t n strip))
 
@@ -67,28 +54,17 @@ pub end_triangle : (ts : List Triangle) (height : ℕ) (es : List Event) (n upto
     → EventsBelow ts height es (n + 1)
 end_triangle ts height es n upto t at k h = record {
   only = h.earlier.only;
-  all = λ i s u l f g m. by_case i s u f g m (split i l);
+  all = λ i s u l f g m. by_case i s u f g m (grind arith);
 }
   where
-    split : (i : ℕ) → i < n + 1 → (i < n) ⊎ (i ≡ n)
-    split i l = grind arith
-
-    under : (x y s : ℕ) → x ≡ y → y + 1 ≤ upto → s ≤ x → s < upto
-    under x y s e l m = omega arith
-
     by_case : (i s : ℕ) (u : Triangle) → slice_get ts i ≡ Some u → (extent_of u).bottom / height ≤ s → s ≤ (extent_of u).top / height → (i < n) ⊎ (i ≡ n) → Contains es (event height u i s)
     by_case i s u f g m (inl l) = h.earlier.all i s u l f g m
     by_case i s u f g m (inr e) =
         let f' : slice_get ts n ≡ Some u = subst (λ (v : ℕ). slice_get ts v ≡ Some u) e f in
-        let o : Some u ≡ Some t = sym f' ∙ at in
-        let same : u ≡ t = cc in
-        subst (λ (v : ℕ). Contains es (event height u v s)) (sym e) (h.here s u f' g (under _ _ s (ap (λ (v : Triangle). (extent_of v).top / height) same) k m))
+        subst (λ (v : ℕ). Contains es (event height u v s)) (sym e) (h.here s u f' g (omega (arith, ap (λ (v : Triangle). (extent_of v).top / height) (same_Some u t (sym f' ∙ at)))))
 
 pub whole : (ts : List Triangle) (height : ℕ) (es : List Event) (n : ℕ) → length ts ≤ n → EventsBelow ts height es n → HasEvents ts height es
 whole ts height es n l h = record {
   only = h.only;
-  all = λ i s t f g m. h.all i s t (under (slice_get_within ts i t f)) f g m;
+  all = λ i s t f g m. h.all i s t (omega (arith, slice_get_within ts i t f)) f g m;
 }
-  where
-    under : {i : ℕ} → i < length ts → i < n
-    under {i} k = omega arith

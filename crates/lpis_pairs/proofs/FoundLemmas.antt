@@ -19,19 +19,13 @@ use Rattle.lpis_pairs.proofs.ExtentLemmas.{Meet, meet, upright}
 
 -- a higher place is in no lower strip
 strips_rise : (height x y : ℕ) → 0 < height → x ≤ y → x / height ≤ y / height
-strips_rise height x y h l = le-div (x / height) y height h (along (div-mul-le_self x height))
-  where
-    along : x / height * height ≤ x → x / height * height ≤ y
-    along k = omega arith
+strips_rise height x y h l = le-div (x / height) y height h (omega (arith, div-mul-le_self x height))
 
 stands : (es : List Event) (e : Event) → Contains es e → (k : ℕ) × (slice_get es k ≡ Some e)
 stands es e c = (c.0, slice_get-get_or es c.0 e c.1 ∙ ap (λ (x : Event). Some x) c.2)
 
 swapped : (a b : Bool) → (a || b) ≡ true → (b || a) ≡ true
-swapped true true e = refl
-swapped true false e = refl
-swapped false true e = refl
-swapped false false e = absurd (cc)
+swapped a b e = grind arith
 
 at_strip : (ts : List Triangle) (height : ℕ) (before es : List Event) (ps : List (ℕ × ℕ)) → HasEvents ts height before
     → IsPermutation before es → ((k m : ℕ) → k < m → Joins ts es ps k m) → (i j : ℕ) (n : IsNear ts i j) (s : ℕ)
@@ -49,9 +43,6 @@ at_strip ts height before es ps has moved join i j n s p q v w o = by_case (case
     y : (k : ℕ) × (slice_get es k ≡ Some (event height n.u j s))
     y = stands es (event height n.u j s) (Contains-permutation before es (event height n.u j s) moved (has.all j s n.u n.at_j v w))
 
-    two : (k l : ℕ) → k ≡ l → k < l → ⊥
-    two k l e r = omega arith
-
     by_case : (x.0 ≡ y.0) ⊎ ((x.0 < y.0) ⊎ (y.0 < x.0)) → Contains ps (i, j)
     by_case (inr (inl l)) = (join x.0 y.0 l (event height n.t i s) (event height n.u j s) x.1 y.1 refl m.right o).0 n
     by_case (inr (inr l)) = (join y.0 x.0 l (event height n.u j s) (event height n.t i s) y.1 x.1 refl m.left
@@ -60,7 +51,7 @@ at_strip ts height before es ps has moved join i j n s p q v w o = by_case (case
         let g : slice_get es y.0 ≡ Some (event height n.t i s) = subst (λ (k : ℕ). slice_get es k ≡ Some (event height n.t i s)) e x.1 in
         let f : Some (event height n.t i s) ≡ Some (event height n.u j s) = sym g ∙ y.1 in
         let same : i ≡ j = ap (λ (v : Event). v.index) (same_Some (event height n.t i s) (event height n.u j s) f) in
-        absurd (two i j same n.rising)
+        absurd (omega (arith, n.rising))
 
 itself : (a b : ℕ) → (nat_eq b a || nat_eq b b) ≡ true
 itself a b = grind (arith, nat_tests)
@@ -76,22 +67,16 @@ finds ts height before es ps h has moved join i j n = by_case (split ((extent_of
     split : (x y : ℕ) → (x ≤ y) ⊎ (y ≤ x)
     split x y = grind arith
 
-    upto : (x y : ℕ) → x < y → x ≤ y
-    upto x y l = omega arith
-
-    equal : (x : ℕ) → x ≤ x
-    equal x = omega arith
-
     by_case : ((extent_of n.t).bottom / height ≤ (extent_of n.u).bottom / height) ⊎ ((extent_of n.u).bottom / height ≤ (extent_of n.t).bottom / height) → Contains ps (i, j)
     by_case (inl l) = at_strip ts height before es ps has moved join i j n ((extent_of n.u).bottom / height) l
         (strips_rise height (extent_of n.u).bottom (extent_of n.t).top h
-        (upto (extent_of n.u).bottom (extent_of n.t).top (meet n.t n.u n.near).top)) (equal ((extent_of n.u).bottom / height))
+        (omega (arith, (meet n.t n.u n.near).top))) (omega arith)
         (strips_rise height (extent_of n.u).bottom (extent_of n.u).top h (upright n.u))
         (itself ((extent_of n.t).bottom / height) ((extent_of n.u).bottom / height))
     by_case (inr l) = at_strip ts height before es ps has moved join i j n ((extent_of n.t).bottom / height)
-        (equal ((extent_of n.t).bottom / height)) (strips_rise height (extent_of n.t).bottom (extent_of n.t).top h
+        (omega arith) (strips_rise height (extent_of n.t).bottom (extent_of n.t).top h
         (upright n.t)) l (strips_rise height (extent_of n.t).bottom (extent_of n.u).top h
-        (upto (extent_of n.t).bottom (extent_of n.u).top (meet n.t n.u n.near).bottom))
+        (omega (arith, (meet n.t n.u n.near).bottom)))
         (itself_first ((extent_of n.t).bottom / height) ((extent_of n.u).bottom / height))
 
 -- the whole list, in order

@@ -2,7 +2,7 @@
 use Rattle.std.proofs.Common.{◌≡◌, ℕ, ◌+◌, ◌<◌, ◌≤◌, true, ◌||◌, List, [], length, Some, ◌⊎◌, inl, inr, ap, sym, ◌∙◌, subst, arith}
 use Rattle.std.specs.List.{Contains, slice_get}
 use Rattle.std.proofs.lemmas.List.Elements.{All-nil}
-use Rattle.std.proofs.lemmas.Option.{slice_get_within}
+use Rattle.std.proofs.lemmas.Option.{same_Some, slice_get_within}
 use Rattle.lpis_points.specs.declared.triangle.Triangle.{Triangle}
 use Rattle.lpis_pairs.specs.declared.events.Event.{Event}
 use Rattle.lpis_pairs.specs.NearPairs.{IsNear}
@@ -25,11 +25,8 @@ pub nothing_joined : (ts : List Triangle) (es : List Event) (ps : List (ℕ × �
 nothing_joined ts es ps at = record {
   kept = λ p h. h;
   near = λ h. h;
-  found = λ k l m. absurd (none k l m);
+  found = λ k l m. absurd (omega arith);
 }
-  where
-    none : (k : ℕ) → at < k → k < at + 1 → ⊥
-    none k l m = omega arith
 
 -- the event m is joined, where it has to be
 pub joined_next : (ts : List Triangle) (es : List Event) (old ps qs : List (ℕ × ℕ)) (at m : ℕ)
@@ -38,12 +35,9 @@ pub joined_next : (ts : List Triangle) (es : List Event) (old ps qs : List (ℕ 
 joined_next ts es old ps qs at m h k n j = record {
   kept = λ p c. k p (h.kept p c);
   near = λ a. n (h.near a);
-  found = λ i l r. by_case i l (split i r);
+  found = λ i l r. by_case i l (grind arith);
 }
   where
-    split : (i : ℕ) → i < m + 1 → (i < m) ⊎ (i ≡ m)
-    split i r = grind arith
-
     by_case : (i : ℕ) → at < i → (i < m) ⊎ (i ≡ m) → Joins ts es qs at i
     by_case i l (inl r) = joins_kept ts es ps qs at i k (h.found i l r)
     by_case i l (inr e) = subst (λ (v : ℕ). Joins ts es qs at v) (sym e) j
@@ -55,16 +49,7 @@ pub joins_read : (ts : List Triangle) (es : List Event) (qs : List (ℕ × ℕ))
     → (IsNear ts e.index f.index → Contains qs (e.index, f.index))
     × (IsNear ts f.index e.index → Contains qs (f.index, e.index))) → Joins ts es qs at m
 joins_read ts es qs at m e f g h j = λ e' f' g' h'.
-    let a : Some e ≡ Some e' = sym g ∙ g' in
-    let b : Some f ≡ Some f' = sym h ∙ h' in
-    let p : e ≡ e' = cc in
-    let q : f ≡ f' = cc in
-    subst (λ (x : Event). x.strip ≡ f'.strip → f'.left < x.right → (x.starts || f'.starts) ≡ true
-    → (IsNear ts x.index f'.index → Contains qs (x.index, f'.index))
-    × (IsNear ts f'.index x.index → Contains qs (f'.index, x.index))) p
-    (subst (λ (y : Event). e.strip ≡ y.strip → y.left < e.right → (e.starts || y.starts) ≡ true
-    → (IsNear ts e.index y.index → Contains qs (e.index, y.index))
-    × (IsNear ts y.index e.index → Contains qs (y.index, e.index))) q j)
+    rw (← same_Some e e' (sym g ∙ g'), ← same_Some f f' (sym h ∙ h')) j
 
 not_met : (e f e' f' : Event) → (e.strip ≡ f.strip → f.left < e.right → ⊥) → (e.strip < f.strip)
     ⊎ ((e.strip ≡ f.strip) × (e.left ≤ f.left)) → (f.strip < f'.strip) ⊎ ((f.strip ≡ f'.strip) × (f.left ≤ f'.left))
@@ -84,44 +69,29 @@ not_met e f e' f' stop l m o s r =
 pub none_behind : (ts : List Triangle) (es : List Event) (qs : List (ℕ × ℕ)) (at m k : ℕ) (e f : Event) → AreInOrder es
     → at < m → m ≤ k → slice_get es at ≡ Some e → slice_get es m ≡ Some f → (e.strip ≡ f.strip → f.left < e.right → ⊥)
     → Joins ts es qs at k
-none_behind ts es qs at m k e f order l r g h stop = λ e' f' g' h' i j o. absurd (by_case e' f' g' h' i j (split r))
+none_behind ts es qs at m k e f order l r g h stop = λ e' f' g' h' i j o. absurd (by_case e' f' g' h' i j (grind arith))
   where
-    split : m ≤ k → (m < k) ⊎ (k ≡ m)
-    split r = grind arith
-
     by_case : (e' f' : Event) → slice_get es at ≡ Some e' → slice_get es k ≡ Some f' → e'.strip ≡ f'.strip → f'.left < e'.right → (m < k) ⊎ (k ≡ m) → ⊥
     by_case e' f' g' h' i j (inl s) =
-        let a : Some e ≡ Some e' = sym g ∙ g' in
-        let same : e ≡ e' = cc in
-        not_met e f e' f' stop (order at m e f l g h) (order m k f f' s h h') same i j
+        not_met e f e' f' stop (order at m e f l g h) (order m k f f' s h h') (same_Some e e' (sym g ∙ g')) i j
     by_case e' f' g' h' i j (inr s) =
-        let a : Some e ≡ Some e' = sym g ∙ g' in
-        let p : e ≡ e' = cc in
-        let b : Some f ≡ Some f' = sym h ∙ (subst (λ (v : ℕ). slice_get es v ≡ Some f') s h') in
-        let q : f ≡ f' = cc in
-        stop (ap (λ (x : Event). x.strip) p ∙ i ∙ sym (ap (λ (x : Event). x.strip) q))
-        (subst (λ (v : ℕ). v < e.right) (sym (ap (λ (x : Event). x.left) q))
-        (subst (λ (v : ℕ). f'.left < v) (sym (ap (λ (x : Event). x.right) p)) j))
+        let p = same_Some e e' (sym g ∙ g') in
+        let q = same_Some f f' (sym h ∙ subst (λ (v : ℕ). slice_get es v ≡ Some f') s h') in
+        stop (rw (p, q) i) (rw (p, q) j)
 
 -- the walk ends at m, as nothing behind is met
 pub found_all : (ts : List Triangle) (es : List Event) (old qs : List (ℕ × ℕ)) (at m : ℕ) (e f : Event) → AreInOrder es
     → at < m → slice_get es at ≡ Some e → slice_get es m ≡ Some f → (e.strip ≡ f.strip → f.left < e.right → ⊥)
     → JoinsUpTo ts es old qs at m → (k : ℕ) → at < k → Joins ts es qs at k
-found_all ts es old qs at m e f order l g h stop j k r = by_case (split k)
+found_all ts es old qs at m e f order l g h stop j k r = by_case (grind arith)
   where
-    split : (i : ℕ) → (i < m) ⊎ (m ≤ i)
-    split i = grind arith
-
     by_case : (k < m) ⊎ (m ≤ k) → Joins ts es qs at k
     by_case (inl s) = j.found k r s
     by_case (inr s) = none_behind ts es qs at m k e f order l s g h stop
 
 -- the walk ends at the end
 pub found_to_end : (ts : List Triangle) (es : List Event) (old qs : List (ℕ × ℕ)) (at m : ℕ) → length es ≤ m → JoinsUpTo ts es old qs at m → (k : ℕ) → at < k → Joins ts es qs at k
-found_to_end ts es old qs at m l j k r = λ e f g h. j.found k r (under (slice_get_within es k f h)) e f g h
-  where
-    under : k < length es → k < m
-    under s = omega arith
+found_to_end ts es old qs at m l j k r = λ e f g h. j.found k r (omega (arith, slice_get_within es k f h)) e f g h
 
 -- the events below n are joined with those behind them
 pub record JoinsBelow (ts : List Triangle) (es : List Event) (ps : List (ℕ × ℕ)) (n : ℕ) : Type 0 where
@@ -139,18 +109,12 @@ pub joins_one_more : (ts : List Triangle) (es : List Event) (ps qs : List (ℕ �
     → JoinsBelow ts es qs (n + 1)
 joins_one_more ts es ps qs n h k a j = record {
   near = a h.near;
-  found = λ i m l r. by_case i m r (split i l);
+  found = λ i m l r. by_case i m r (grind arith);
 }
   where
-    split : (i : ℕ) → i < n + 1 → (i < n) ⊎ (i ≡ n)
-    split i l = grind arith
-
     by_case : (i m : ℕ) → i < m → (i < n) ⊎ (i ≡ n) → Joins ts es qs i m
     by_case i m r (inl l) = joins_kept ts es ps qs i m k (h.found i m l r)
     by_case i m r (inr e) = subst (λ (v : ℕ). Joins ts es qs v m) (sym e) (j m (subst (λ (v : ℕ). v < m) e r))
 
 pub joins_all : (ts : List Triangle) (es : List Event) (ps : List (ℕ × ℕ)) (n : ℕ) → length es ≤ n → JoinsBelow ts es ps n → (k m : ℕ) → k < m → Joins ts es ps k m
-joins_all ts es ps n l h k m r = λ e f g i. h.found k m (under (slice_get_within es k e g)) r e f g i
-  where
-    under : k < length es → k < n
-    under s = omega arith
+joins_all ts es ps n l h k m r = λ e f g i. h.found k m (omega (arith, slice_get_within es k e g)) r e f g i

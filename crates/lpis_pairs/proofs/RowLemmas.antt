@@ -12,18 +12,16 @@ pub record NearUpTo (ts : List Triangle) (ps : List (ℕ × ℕ)) (i j : ℕ) : 
   pub before : (k : ℕ) (p : ℕ × ℕ) → slice_get ps k ≡ Some p → IsBelow p.0 p.1 i j
   pub all : (a b : ℕ) → IsNear ts a b → IsBelow a b i j → (k : ℕ) × (slice_get ps k ≡ Some (a, b))
 
-nothing : (P : Type 0) (k : ℕ) (p : ℕ × ℕ) → slice_get [] k ≡ Some p → P
-nothing P k p e = absurd (cc)
-
-none_before : (a b : ℕ) → IsBelow a b 0 0 → ⊥
-none_before a b h = omega arith
+-- the place before (i, j + 1) is before (i, j), or there
+last : (i j a b : ℕ) → IsBelow a b i (j + 1) → IsBelow a b i j ⊎ ((a ≡ i) × (b ≡ j))
+last i j a b l = grind arith
 
 pub start : (ts : List Triangle) (ps : List (ℕ × ℕ)) → ps ≡ [] → NearUpTo ts ps 0 0
 start ts ps e = subst (λ (qs : List (ℕ × ℕ)). NearUpTo ts qs 0 0) (sym e) (record {
-  ascending = λ k m p q h f g. nothing _ k p f;
-  near = λ k p f. nothing _ k p f;
-  before = λ k p f. nothing _ k p f;
-  all = λ a b n h. absurd (none_before a b h);
+  ascending = λ k m p q h f g. absurd (cc);
+  near = λ k p f. absurd (cc);
+  before = λ k p f. absurd (cc);
+  all = λ a b n h. absurd (omega arith);
 })
 
 -- no pair stands between (i, 0) and (i, i + 1)
@@ -31,32 +29,17 @@ pub begin_row : (ts : List Triangle) (ps : List (ℕ × ℕ)) (i : ℕ) → Near
 begin_row ts ps i h = record {
   ascending = h.ascending;
   near = h.near;
-  before = λ k p f. later p.0 p.1 (h.before k p f);
-  all = λ a b n l. h.all a b n (sooner a b n.rising l);
+  before = λ k p f. let l = h.before k p f in grind arith;
+  all = λ a b n l. h.all a b n (let r = n.rising in grind arith);
 }
-  where
-    later : (a b : ℕ) → IsBelow a b i 0 → IsBelow a b i (i + 1)
-    later a b l = grind arith
-
-    sooner : (a b : ℕ) → a < b → IsBelow a b i (i + 1) → IsBelow a b i 0
-    sooner a b r l = grind arith
 
 pub passed_by : (ts : List Triangle) (ps : List (ℕ × ℕ)) (i j : ℕ) → NearUpTo ts ps i j → (IsNear ts i j → ⊥) → NearUpTo ts ps i (j + 1)
 passed_by ts ps i j h not = record {
   ascending = h.ascending;
   near = h.near;
-  before = λ k p f. later p.0 p.1 (h.before k p f);
-  all = λ a b n l. elim (last a b l) [ inl s ↦ h.all a b n s | inr e ↦ absurd (not (at a b e.0 e.1 n)) ];
+  before = λ k p f. let l = h.before k p f in grind arith;
+  all = λ a b n l. elim (last i j a b l) [ inl s ↦ h.all a b n s | inr e ↦ absurd (not (rw (← e.0, ← e.1) n)) ];
 }
-  where
-    later : (a b : ℕ) → IsBelow a b i j → IsBelow a b i (j + 1)
-    later a b l = grind arith
-
-    last : (a b : ℕ) → IsBelow a b i (j + 1) → IsBelow a b i j ⊎ ((a ≡ i) × (b ≡ j))
-    last a b l = grind arith
-
-    at : (a b : ℕ) → a ≡ i → b ≡ j → IsNear ts a b → IsNear ts i j
-    at a b e f n = subst (λ (v : ℕ). IsNear ts v j) e (subst (λ (v : ℕ). IsNear ts a v) f n)
 
 pub pushed : (ts : List Triangle) (ps : List (ℕ × ℕ)) (i j : ℕ) → NearUpTo ts ps i j → IsNear ts i j → NearUpTo ts (ps ++ (i, j) ∷ []) i (j + 1)
 pushed ts ps i j h n = record {
@@ -66,59 +49,35 @@ pushed ts ps i j h n = record {
     | inr e ↦ subst (λ (v : ℕ × ℕ). IsNear ts v.0 v.1) e.1 n
   ];
   before = λ k p f. elim (push_cases ps (i, j) p k f) [
-    | inl s ↦ later p.0 p.1 (h.before k p s)
-    | inr e ↦ subst (λ (v : ℕ × ℕ). IsBelow v.0 v.1 i (j + 1)) e.1 (here i j)
+    | inl s ↦ let l = h.before k p s in grind arith
+    | inr e ↦ subst (λ (v : ℕ × ℕ). IsBelow v.0 v.1 i (j + 1)) e.1 (inr (refl, omega arith))
   ];
-  all = λ a b m l. elim (last a b l) [
+  all = λ a b m l. elim (last i j a b l) [
     | inl s ↦ let w = h.all a b m s in (w.0, push_old ps (i, j) (a, b) w.0 w.1)
     | inr e ↦ (length ps, push_new ps (i, j) ∙ pair a b e.0 e.1)
   ];
 }
   where
-    later : (a b : ℕ) → IsBelow a b i j → IsBelow a b i (j + 1)
-    later a b l = grind arith
-
-    here : (a b : ℕ) → IsBelow a b a (b + 1)
-    here a b = inr (refl, omega arith)
-
-    last : (a b : ℕ) → IsBelow a b i (j + 1) → IsBelow a b i j ⊎ ((a ≡ i) × (b ≡ j))
-    last a b l = grind arith
-
     pair : (a b : ℕ) → a ≡ i → b ≡ j → ◌≡◌ {A = Option (ℕ × ℕ)} (Some (i, j)) (Some (a, b))
     pair a b e f = cc
-
-    over : (k m : ℕ) → k < m → k ≡ length ps → m < length ps → ⊥
-    over k m l e f = omega arith
-
-    both : (k m : ℕ) → k < m → k ≡ length ps → m ≡ length ps → ⊥
-    both k m l e f = omega arith
 
     rises : (k m : ℕ) (p q : ℕ × ℕ) → k < m → (slice_get ps k ≡ Some p) ⊎ ((k ≡ length ps) × ((i, j) ≡ p)) → (slice_get ps m ≡ Some q) ⊎ ((m ≡ length ps) × ((i, j) ≡ q)) → IsBelow p.0 p.1 q.0 q.1
     rises k m p q l (inl f) (inl g) = h.ascending k m p q l f g
     rises k m p q l (inl f) (inr g) = subst (λ (v : ℕ × ℕ). IsBelow p.0 p.1 v.0 v.1) g.1 (h.before k p f)
-    rises k m p q l (inr f) (inl g) = absurd (over k m l f.0 (slice_get_within ps m q g))
-    rises k m p q l (inr f) (inr g) = absurd (both k m l f.0 g.0)
+    rises k m p q l (inr f) (inl g) = absurd (omega (arith, f.0, slice_get_within ps m q g))
+    rises k m p q l (inr f) (inr g) = absurd (omega (arith, f.0, g.0))
 
 pub end_row : (ts : List Triangle) (ps : List (ℕ × ℕ)) (i j : ℕ) → length ts ≤ j → NearUpTo ts ps i j → NearUpTo ts ps (i + 1) 0
 end_row ts ps i j e h = record {
   ascending = h.ascending;
   near = h.near;
-  before = λ k p f. later p.0 p.1 (h.before k p f);
-  all = λ a b n l. h.all a b n (sooner a b (slice_get_within ts b n.u n.at_j) l);
+  before = λ k p f. let l = h.before k p f in grind arith;
+  all = λ a b n l. h.all a b n (let s = slice_get_within ts b n.u n.at_j in grind arith);
 }
-  where
-    later : (a b : ℕ) → IsBelow a b i j → IsBelow a b (i + 1) 0
-    later a b l = grind arith
-
-    sooner : (a b : ℕ) → b < length ts → IsBelow a b (i + 1) 0 → IsBelow a b i j
-    sooner a b s l = grind arith
 
 pub whole : (ts : List Triangle) (ps : List (ℕ × ℕ)) (i : ℕ) → length ts ≤ i → NearUpTo ts ps i 0 → IsNearList ts ps
 whole ts ps i e h = record {
   ascending = h.ascending;
   near = h.near;
-  all = λ a b n. h.all a b n (inl (under a b n.rising (slice_get_within ts b n.u n.at_j)));
+  all = λ a b n. h.all a b n (inl (omega (arith, n.rising, slice_get_within ts b n.u n.at_j)));
 }
-  where
-    under : (a b : ℕ) → a < b → b < length ts → a < i
-    under a b r s = omega arith

@@ -131,28 +131,18 @@ add_term_is r c m (term d n p) = by (add_term_is r c m p) (same m n) (same_is m 
     joined : (c d u p : ℤ) → (c +ℤ d) *ℤ u +ℤ p ≡ c *ℤ u +ℤ (d *ℤ u +ℤ p)
     joined c d u p = let e = mul-add_z u c d in omega (arith, ints, *ℤ_comm u c, *ℤ_comm u d, *ℤ_comm u (c +ℤ d))
 
-    moved : (x y z w : ℤ) → w ≡ x +ℤ z → y +ℤ w ≡ x +ℤ (y +ℤ z)
-    moved x y z w e = omega (arith, ints)
-
     by : total r (add_term c m p) ≡ c *ℤ unknowns r m +ℤ total r p → (t : Bool) → (T t → m ≡ n)
         → total r (cond t (term (c +ℤ d) n p) (term d n (add_term c m p))) ≡ c *ℤ unknowns r m +ℤ
         (d *ℤ unknowns r n +ℤ total r p)
     by i true e = rw (e tt) (joined c d (unknowns r n) (total r p))
-    by i false e = moved (c *ℤ unknowns r m) (d *ℤ unknowns r n) (total r p) (total r (add_term c m p)) i
+    by i false e = omega (arith, ints)
 
 add_all_is : (r : List ℤ) (p q : Poly) → total r (add_all p q) ≡ total r p +ℤ total r q
-add_all_is r none q = zero_add (total r q)
-  where
-    zero_add : (x : ℤ) → x ≡ pos 0 +ℤ x
-    zero_add x = omega (arith, ints)
-add_all_is r (term c m p) q =
-    add_term_is r c m (add_all p q) ∙ ap (λ (t : ℤ). c *ℤ unknowns r m +ℤ t) (add_all_is r p q) ∙ sym (+ℤ_assoc (c *ℤ unknowns r m) (total r p) (total r q))
+add_all_is r none q = omega (arith, ints)
+add_all_is r (term c m p) q = omega (arith, ints, add_term_is r c m (add_all p q), add_all_is r p q)
 
 term_times_is : (r : List ℤ) (c : ℤ) (m : List ℕ) (p : Poly) → total r (term_times c m p) ≡ (c *ℤ unknowns r m) *ℤ total r p
-term_times_is r c m none = zero (c *ℤ unknowns r m)
-  where
-    zero : (x : ℤ) → pos 0 ≡ x *ℤ pos 0
-    zero x = omega (arith, ints)
+term_times_is r c m none = omega (arith, ints)
 term_times_is r c m (term d n p) =
     add_term_is r (c *ℤ d) (join m n) (term_times c m p) ∙ ap₂ (λ (s t : ℤ). (c *ℤ d) *ℤ s +ℤ t) (join_is r m n) (term_times_is r c m p) ∙ spread c d (unknowns r m) (unknowns r n) (total r p)
   where
@@ -172,14 +162,8 @@ times_all_is r (term c m p) q =
     gathered x p q = ap₂ (λ (s t : ℤ). s +ℤ t) (*ℤ_comm x q) (*ℤ_comm p q) ∙ sym (mul-add_z q x p) ∙ *ℤ_comm q (x +ℤ p)
 
 norm_is : (r : List ℤ) (e : Expr) → total r (norm e) ≡ value r e
-norm_is r (var k) = one_of (at r k)
-  where
-    one_of : (x : ℤ) → pos 1 *ℤ (x *ℤ pos 1) +ℤ pos 0 ≡ x
-    one_of x = let e = one-mul_z (x *ℤ pos 1) in omega (arith, ints)
-norm_is r (con z) = one_of z
-  where
-    one_of : (x : ℤ) → x *ℤ pos 1 +ℤ pos 0 ≡ x
-    one_of x = omega (arith, ints)
+norm_is r (var k) = let e = one-mul_z (at r k *ℤ pos 1) in omega (arith, ints)
+norm_is r (con z) = omega (arith, ints)
 norm_is r (plus a b) = add_all_is r (norm a) (norm b) ∙ ap₂ (λ (s t : ℤ). s +ℤ t) (norm_is r a) (norm_is r b)
 norm_is r (times a b) = times_all_is r (norm a) (norm b) ∙ ap₂ (λ (s t : ℤ). s *ℤ t) (norm_is r a) (norm_is r b)
 norm_is r (minus a b) =
@@ -206,7 +190,4 @@ all_zero_is r (term c m p) h = by (λ k. all_zero_is r p k) (is_zero_z c) (zero_
 
 -- the equation at the unknowns r
 pub ring : (r : List ℤ) (a b : Expr) → T (all_zero (norm (minus a b))) → value r a ≡ value r b
-ring r a b h = difference (value r a) (value r b) (sym (norm_is r (minus a b)) ∙ all_zero_is r (norm (minus a b)) h)
-  where
-    difference : (x y : ℤ) → x -ℤ y ≡ pos 0 → x ≡ y
-    difference x y e = omega (arith, ints)
+ring r a b h = omega (arith, ints, norm_is r (minus a b), all_zero_is r (norm (minus a b)) h)

@@ -4,7 +4,6 @@ pub mod IntRingLemmas
 pub mod SignLemmas
 pub mod CrossingLemmas
 pub mod TriangleLemmas
-pub mod TurningLemmas
 pub mod SeparationLemmas
 pub mod ApartBoxLemmas
 pub mod ShiftLemmas

@@ -23,21 +23,15 @@ counted a b (e ∷ es) Q turn h = by (same_point a e.0 && same_point b e.1) (sam
     subst₂' : {x y x' y' : Point} → x ≡ x' → y ≡ y' → Q x y → Q x' y'
     subst₂' {x} {y} {x'} {y'} p q k = subst (λ (v : Point). Q x' v) q (subst (λ (v : Point). Q v y) p k)
 
-    nought : (x : ℤ) → x ≡ pos 0 → (pos 0 -ℤ pos 0) +ℤ x ≡ pos 0
-    nought x e = omega (arith, ints)
-
     by : (s t : Bool) (x : ℤ) → (s ≡ true → Q a b) → (t ≡ true → Q a b) → Q a b ⊎ (x ≡ pos 0) → Q a b ⊎ ((cond s (pos 1) (pos 0) -ℤ cond t (pos 1) (pos 0)) +ℤ x ≡ pos 0)
     by true t x f g o = inl (f refl)
     by false true x f g o = inl (g refl)
     by false false x f g (inl q) = inl q
-    by false false x f g (inr e) = inr (nought x e)
+    by false false x f g (inr e) = inr (omega (arith, ints))
 
 reversed_count : (a b : Point) (es : List (Point × Point)) → net_count same_point b a es ≡ neg_ℤ (net_count same_point a b es)
 reversed_count a b [] = refl
-reversed_count a b (e ∷ es) = turned (is_edge same_point a b e.0 e.1) (is_edge same_point b a e.0 e.1) (net_count same_point a b es) (net_count same_point b a es) (reversed_count a b es)
-  where
-    turned : (x y n m : ℤ) → m ≡ neg_ℤ n → (y -ℤ x) +ℤ m ≡ neg_ℤ ((x -ℤ y) +ℤ n)
-    turned x y n m e = omega (arith, ints)
+reversed_count a b (e ∷ es) = omega (arith, ints, reversed_count a b es)
 
 pub net_is_of_its_edges : (es fs : List (Point × Point))
     → All (λ (e : Point × Point). net_count same_point e.0 e.1 es ≡ net_count same_point e.0 e.1 fs) es

@@ -31,13 +31,7 @@ crossing-odd p = record {
 }
 
 pub shoelace_term-odd : IsOdd shoelace_term
-shoelace_term-odd = record { reversed = λ a b. turned (a.x *ℤ b.y) (b.x *ℤ a.y); loop = λ a. self (a.x *ℤ a.y) }
-  where
-    turned : (x y : ℤ) → y -ℤ x ≡ neg_ℤ (x -ℤ y)
-    turned x y = omega (arith, ints)
-
-    self : (x : ℤ) → x -ℤ x ≡ pos 0
-    self x = omega (arith, ints)
+shoelace_term-odd = record { reversed = λ a b. omega (arith, ints); loop = λ a. omega (arith, ints) }
 
 crossing_of-cases : (s t y o : ℤ) → (crossing_of s t y o ≡ pos 0) ⊎ ((crossing_of s t y o ≡ pos 1) ⊎ (crossing_of s t y o ≡ negsuc 0))
 crossing_of-cases s t y o = grind (arith, ints)
@@ -51,6 +45,4 @@ pub crossing-small : (a b : Point) (p : RationalPoint) → nat_abs (crossing a b
 crossing-small a b p = by (crossing a b p) (crossing-cases a b p)
   where
     by : (c : ℤ) → (c ≡ pos 0) ⊎ ((c ≡ pos 1) ⊎ (c ≡ negsuc 0)) → nat_abs c ≤ 1
-    by c (inl e) = omega (arith, ints)
-    by c (inr (inl e)) = omega (arith, ints)
-    by c (inr (inr e)) = omega (arith, ints)
+    by c e = grind (arith, ints)

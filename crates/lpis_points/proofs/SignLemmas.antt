@@ -1,5 +1,6 @@
 -- Machinery: signs of products over ℤ.
 use Rattle.std.proofs.Common.{◌≡◌, suc, zero, ℤ, pos, negsuc, ◌*ℤ◌, neg_ℤ, ◌≤ℤ◌, ◌<ℤ◌, arith}
+use Rattle.std.proofs.Math.IntN.{*ℤ_comm}
 use Rattle.std.proofs.lemmas.Int.{ints, by_lt_z}
 
 pub not_neg : (x : ℤ) → pos 0 <ℤ x → pos 0 ≤ℤ x
@@ -40,25 +41,12 @@ neg-mul-not_pos a b h k = let n : pos 0 ≤ℤ neg_ℤ a = omega (arith, ints) i
 
 pub zero_of_mul : (o d : ℤ) → pos 0 <ℤ d → o *ℤ d ≡ pos 0 → o ≡ pos 0
 zero_of_mul o d h e = by_lt_z o (pos 0)
-    (λ n. absurd (below (o *ℤ d) (neg-mul-pos o d n h) e))
-    (λ k. by_lt_z (pos 0) o (λ p. absurd (not_zero (o *ℤ d) (pos-mul-pos o d p h) e)) (λ l. omega (arith, ints)))
-  where
-    below : (x : ℤ) → x <ℤ pos 0 → x ≡ pos 0 → ⊥
-    below x l e = omega (arith, ints)
+    (λ n. let l = neg-mul-pos o d n h in absurd (omega (arith, ints)))
+    (λ k. by_lt_z (pos 0) o (λ p. let l = pos-mul-pos o d p h in absurd (omega (arith, ints))) (λ l. omega (arith, ints)))
 
 -- the sign of a factor, from that of the product with a positive one
 pub not_neg_of_mul : (d z : ℤ) → pos 0 <ℤ d → pos 0 ≤ℤ (d *ℤ z) → pos 0 ≤ℤ z
-not_neg_of_mul d z h k = by_lt_z z (pos 0)
-    (λ n. absurd (clash (d *ℤ z) (z *ℤ d) (omega (arith, ints)) (neg-mul-pos z d n h) k))
-    (λ l. l)
-  where
-    clash : (x y : ℤ) → x ≡ y → y <ℤ pos 0 → pos 0 ≤ℤ x → ⊥
-    clash x y e l k = omega (arith, ints)
+not_neg_of_mul d z h k = by_lt_z z (pos 0) (λ n. let l = neg-mul-pos z d n h in absurd (omega (arith, ints, *ℤ_comm d z))) (λ l. l)
 
 pub not_pos_of_mul : (d z : ℤ) → pos 0 <ℤ d → (d *ℤ z) ≤ℤ pos 0 → z ≤ℤ pos 0
-not_pos_of_mul d z h k = by_lt_z (pos 0) z
-    (λ n. absurd (clash (d *ℤ z) (pos-mul-pos d z h n) k))
-    (λ l. l)
-  where
-    clash : (x : ℤ) → pos 0 <ℤ x → x ≤ℤ pos 0 → ⊥
-    clash x l k = omega (arith, ints)
+not_pos_of_mul d z h k = by_lt_z (pos 0) z (λ n. let l = pos-mul-pos d z h n in absurd (omega (arith, ints))) (λ l. l)

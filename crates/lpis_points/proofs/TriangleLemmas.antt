@@ -1,5 +1,5 @@
 -- Triangles and rational points, by their corners.
-use Rattle.std.proofs.Common.{◌≡◌, ◌≢◌, ℤ, pos, ◌+ℤ◌, ◌-ℤ◌, ◌*ℤ◌, ◌≤ℤ◌, ◌<ℤ◌, int_lt, true, cond, ◌&&◌, List, [], ◌∷◌, ap, subst, sym, ◌∙◌, arith}
+use Rattle.std.proofs.Common.{◌≡◌, ◌≢◌, ℤ, pos, ◌+ℤ◌, ◌-ℤ◌, ◌*ℤ◌, ◌≤ℤ◌, ◌<ℤ◌, int_lt, Bool, true, false, cond, refl, ◌&&◌, List, [], ◌∷◌, ap, subst, sym, ◌∙◌, arith}
 use Rattle.std.proofs.lemmas.Int.{ints}
 use Rattle.lpis_points.specs.declared.point.Point.{Point}
 use Rattle.lpis_points.specs.declared.triangle.Triangle.{Triangle}
@@ -193,6 +193,22 @@ inside_is t p e = let r = parts (orient_at t.a t.b p) (orient_at t.b t.c p) (ori
   where
     parts : (x y z : ℤ) → (int_lt (pos 0) x && int_lt (pos 0) y && int_lt (pos 0) z) ≡ true → (pos 0 <ℤ x) × (pos 0 <ℤ y) × (pos 0 <ℤ z)
     parts x y z e = grind (arith, ints)
+
+pub turns_once_inside : (t : Triangle) (p : RationalPoint) → pos 0 <ℤ p.d → IsCounterClockwise t → is_inside t p ≡ true → turns_round t p ≡ pos 1
+turns_once_inside t p h c e =
+    let i = inside_is t p e in
+    turns_round-is t p h c (record { ab = above (orient_at t.a t.b p) i.ab; bc = above (orient_at t.b t.c p) i.bc; ca = above (orient_at t.c t.a p) i.ca })
+    ∙ ap (λ (b : Bool). cond b (pos 1) (pos 0)) e
+  where
+    above : (x : ℤ) → pos 0 <ℤ x → x ≢ pos 0
+    above x h e = omega (arith, ints)
+
+pub never_turns_outside : (t : Triangle) (p : RationalPoint) → pos 0 <ℤ p.d → IsCounterClockwise t → IsOffItsLines t p → (is_inside t p ≡ true → ⊥) → turns_round t p ≡ pos 0
+never_turns_outside t p h c o n = turns_round-is t p h c o ∙ by (is_inside t p) n
+  where
+    by : (b : Bool) → (b ≡ true → ⊥) → cond b (pos 1) (pos 0) ≡ pos 0
+    by true n = absurd (n refl)
+    by false n = refl
 
 pub weighted_up : (o₁ o₂ o₃ x y z : ℤ) → pos 0 <ℤ o₁ → pos 0 <ℤ o₂ → pos 0 <ℤ o₃ → pos 0 ≤ℤ x → pos 0 ≤ℤ y → pos 0 ≤ℤ z → pos 0 ≤ℤ (o₁ *ℤ x +ℤ o₂ *ℤ y +ℤ o₃ *ℤ z)
 weighted_up o₁ o₂ o₃ x y z p q r h k l =
