@@ -1,6 +1,6 @@
 -- Each state that is reached has tokens that complete it, so each prefix that the machine takes begins a text of the
 -- grammar.
-use Rattle.std.proofs.Common.{◌≡◌, ℕ, ◌-◌, ◌<◌, Bool, true, false, cond, List, [], ◌∷◌, ◌++◌, length, pos, Some, Ok, refl, sym, subst, ◌∙◌, inl, inr, append_assoc, arith, length-append}
+use Rattle.std.proofs.Common.{◌≡◌, ℕ, ◌-◌, ◌<◌, Bool, true, false, cond, List, [], ◌∷◌, ◌++◌, length, pos, Some, Ok, refl, sym, subst, ◌∙◌, append_assoc, arith, length-append}
 use Rattle.std.specs.Prelude.{codes, slice_get}
 use Rattle.std.proofs.lemmas.Int.{ints}
 use Rattle.lpis_points.specs.declared.point.Point.{Point}
@@ -12,10 +12,11 @@ use Rattle.lpis_wkt.specs.Number.{number}
 use Rattle.lpis_wkt.specs.private.Coordinates.{coordinate, point_of}
 use Rattle.lpis_wkt.specs.Grammar.{PointText, Commas}
 use Rattle.lpis_wkt.specs.Viable.{Begins}
-use Rattle.lpis_wkt.specs.private.Machine.{Context, State, AtKeyword, AfterKeyword, AtBody, AtRing, AtX, AtY, AfterPoint, AfterRing, AfterBody, AtEnd, Finished, with_ring, close_body, new_body}
-use Rattle.lpis_wkt.specs.private.Machine.{open_text, member_of, step, and_then, run}
+use Rattle.lpis_wkt.specs.private.Machine.{Context, State, AtKeyword, AfterKeyword, AtBody, AtRing, AtX, AtY, AfterPoint, AfterRing, AfterBody, AtEnd, Finished, with_ring, close_body}
+use Rattle.lpis_wkt.specs.private.Machine.{open_text, member_of, and_then, run}
 use Rattle.lpis_wkt.proofs.PointLemmas.{coordinate-ok, ok-coordinate}
-use Rattle.lpis_wkt.proofs.StepLemmas.{then-ok, with_coordinate-ok, close_ring-ok, keyword-ok, run-append}
+use Rattle.lpis_wkt.proofs.StepLemmas.{then-ok, run-append, Goes, goes, takes_keyword, opens_text, opens_body, opens_ring, takes_x, takes_y, closes_ring, next_point, closes_body, next_ring}
+use Rattle.lpis_wkt.proofs.StepLemmas.{closes_text, next_body, finishes}
 use Rattle.lpis_wkt.proofs.CompletenessLemmas.{points_run, ring_closes, reads_runs}
 use Rattle.lpis_wkt.proofs.SoundnessLemmas.{runs_reads}
 
@@ -51,66 +52,24 @@ reached-close-by false ms = tt
 reached-close : (b : Context) → Reached (close_body b)
 reached-close b = reached-close-by b.multi (b.members ++ member_of b.rings ∷ [])
 
-reached-step : (s : State) (t : Token) (s' : State) → step s t ≡ Ok s' → Reached s → Reached s'
-reached-step AtKeyword Open s' h r = cc
-reached-step AtKeyword Close s' h r = cc
-reached-step AtKeyword Comma s' h r = cc
-reached-step AtKeyword End s' h r = cc
-reached-step AtKeyword (Word w) s' h r = elim (keyword-ok w s' h) [ inl e ↦ subst Reached e.1 tt | inr e ↦ subst Reached e.1 tt ]
-reached-step (AfterKeyword m) Open s' h r = let e : open_text m ≡ s' = cc in subst Reached e (reached-open m)
-reached-step (AfterKeyword m) Close s' h r = cc
-reached-step (AfterKeyword m) Comma s' h r = cc
-reached-step (AfterKeyword m) End s' h r = cc
-reached-step (AfterKeyword m) (Word w) s' h r = cc
-reached-step (AtBody ms) Open s' h r = let e : new_body true ms ≡ s' = cc in subst Reached e (tt)
-reached-step (AtBody ms) Close s' h r = cc
-reached-step (AtBody ms) Comma s' h r = cc
-reached-step (AtBody ms) End s' h r = cc
-reached-step (AtBody ms) (Word w) s' h r = cc
-reached-step (AtRing b) Open s' h r = let e : AtX b [] ≡ s' = cc in subst Reached e (tt)
-reached-step (AtRing b) Close s' h r = cc
-reached-step (AtRing b) Comma s' h r = cc
-reached-step (AtRing b) End s' h r = cc
-reached-step (AtRing b) (Word w) s' h r = cc
-reached-step (AtX b ps) Open s' h r = cc
-reached-step (AtX b ps) Close s' h r = cc
-reached-step (AtX b ps) Comma s' h r = cc
-reached-step (AtX b ps) End s' h r = cc
-reached-step (AtX b ps) (Word w) s' h r = let n = with_coordinate-ok _ _ _ h in subst Reached n.2 (r, (w, ok-coordinate w n.0 n.1))
-reached-step (AtY b ps x) Open s' h r = cc
-reached-step (AtY b ps x) Close s' h r = cc
-reached-step (AtY b ps x) Comma s' h r = cc
-reached-step (AtY b ps x) End s' h r = cc
-reached-step (AtY b ps x) (Word w) s' h r =
-    let n = with_coordinate-ok _ _ _ h in
-    let p : Point = point_of x n.0 in
-    let spelled : Spells p = (r.1.0, w, r.1.1, ok-coordinate w n.0 n.1) in
-    subst Reached n.2 (first-push ps p r.0 spelled, some-push ps p)
-reached-step (AfterPoint b ps) Open s' h r = cc
-reached-step (AfterPoint b ps) Close s' h r = subst Reached (close_ring-ok b ps s' h).1 tt
-reached-step (AfterPoint b ps) Comma s' h r = let e : AtX b ps ≡ s' = cc in subst Reached e (r.0)
-reached-step (AfterPoint b ps) End s' h r = cc
-reached-step (AfterPoint b ps) (Word w) s' h r = cc
-reached-step (AfterRing b) Open s' h r = cc
-reached-step (AfterRing b) Close s' h r = let e : close_body b ≡ s' = cc in subst Reached e (reached-close b)
-reached-step (AfterRing b) Comma s' h r = let e : AtRing b ≡ s' = cc in subst Reached e (tt)
-reached-step (AfterRing b) End s' h r = cc
-reached-step (AfterRing b) (Word w) s' h r = cc
-reached-step (AfterBody ms) Open s' h r = cc
-reached-step (AfterBody ms) Close s' h r = let e : AtEnd ms ≡ s' = cc in subst Reached e (tt)
-reached-step (AfterBody ms) Comma s' h r = let e : AtBody ms ≡ s' = cc in subst Reached e (tt)
-reached-step (AfterBody ms) End s' h r = cc
-reached-step (AfterBody ms) (Word w) s' h r = cc
-reached-step (AtEnd ms) Open s' h r = cc
-reached-step (AtEnd ms) Close s' h r = cc
-reached-step (AtEnd ms) Comma s' h r = cc
-reached-step (AtEnd ms) End s' h r = let e : Finished ms ≡ s' = cc in subst Reached e (tt)
-reached-step (AtEnd ms) (Word w) s' h r = cc
-reached-step (Finished ms) t s' h r = cc
+reached-step : (s : State) (t : Token) (s' : State) → Goes s t s' → Reached s → Reached s'
+reached-step s t s' (takes_keyword w m) r = tt
+reached-step s t s' (opens_text m) r = reached-open m
+reached-step s t s' (opens_body ms) r = tt
+reached-step s t s' (opens_ring b) r = tt
+reached-step s t s' (takes_x b ps w z e) r = (r, (w, ok-coordinate w z e))
+reached-step s t s' (takes_y b ps v w z e) r = (first-push ps (point_of v z) r.0 (r.1.0, w, r.1.1, ok-coordinate w z e), some-push ps (point_of v z))
+reached-step s t s' (closes_ring b ps) r = tt
+reached-step s t s' (next_point b ps) r = r.0
+reached-step s t s' (closes_body b) r = reached-close b
+reached-step s t s' (next_ring b) r = tt
+reached-step s t s' (closes_text ms) r = tt
+reached-step s t s' (next_body ms) r = tt
+reached-step s t s' (finishes ms) r = tt
 
 reached-run : (ts : List Token) (s s' : State) → run s ts ≡ Ok s' → Reached s → Reached s'
 reached-run [] s s' h r = let e : s ≡ s' = cc in subst Reached e r
-reached-run (t ∷ ts) s s' h r = let a = then-ok _ _ _ h in reached-run ts a.0 s' a.2 (reached-step s t a.0 a.1 r)
+reached-run (t ∷ ts) s s' h r = let a = then-ok _ _ _ h in reached-run ts a.0 s' a.2 (reached-step s t a.0 (goes s t a.0 a.1) r)
 
 abbrev Completes : State → Type 0
 Completes s = (rest : List Token) × (ps : List Member) × (run s rest ≡ Ok (Finished ps))

@@ -1,5 +1,5 @@
 -- The words that stand before each state, and the limit on points.
-use Rattle.std.proofs.Common.{◌≡◌, ℕ, ◌+◌, ◌*◌, ◌<◌, ◌≤◌, Bool, true, false, cond, List, [], ◌∷◌, ◌++◌, length, Ok, refl, ◌∙◌, inl, inr, arith, length-append}
+use Rattle.std.proofs.Common.{◌≡◌, ℕ, ◌+◌, ◌*◌, ◌<◌, ◌≤◌, Bool, true, false, cond, List, [], ◌∷◌, ◌++◌, length, Ok, refl, ◌∙◌, arith, length-append}
 use Rattle.std.proofs.lemmas.Bool.{false_from_ne_true}
 use Rattle.std.proofs.lemmas.Bool.Decides.{nat_tests}
 use Rattle.std.proofs.lemmas.List.Sums.{sum_by-append, sum_by_push}
@@ -10,9 +10,10 @@ use Rattle.lpis_wkt.specs.Tokens.{Token, Open, Close, Comma, Word, End}
 use Rattle.lpis_wkt.specs.private.Coordinates.{point_of}
 use Rattle.lpis_wkt.specs.Grammar.{Accepts}
 use Rattle.lpis_wkt.specs.Viable.{words, most_words, Viable}
-use Rattle.lpis_wkt.specs.private.Machine.{Context, State, AtKeyword, AfterKeyword, AtBody, AtRing, AtX, AtY, AfterPoint, AfterRing, AfterBody, AtEnd, Finished, with_ring, close_body, new_body}
-use Rattle.lpis_wkt.specs.private.Machine.{open_text, member_of, points_before, step, run, is_too_many, limited_step, limited_run}
-use Rattle.lpis_wkt.proofs.StepLemmas.{then-ok, with_coordinate-ok, cond-err, close_ring-ok, keyword-ok}
+use Rattle.lpis_wkt.specs.private.Machine.{Context, State, AtKeyword, AfterKeyword, AtBody, AtRing, AtX, AtY, AfterPoint, AfterRing, AfterBody, AtEnd, Finished, with_ring, close_body}
+use Rattle.lpis_wkt.specs.private.Machine.{open_text, member_of, points_before, step, run, is_too_many, limited_run}
+use Rattle.lpis_wkt.proofs.StepLemmas.{then-ok, with_coordinate-ok, cond-err, Goes, goes, takes_keyword, opens_text, opens_body, opens_ring, takes_x, takes_y, closes_ring, next_point}
+use Rattle.lpis_wkt.proofs.StepLemmas.{closes_body, next_ring, closes_text, next_body, finishes}
 use Rattle.lpis_wkt.proofs.CompletenessLemmas.{reads_runs}
 use Rattle.lpis_wkt.proofs.SoundnessLemmas.{runs_reads}
 use Rattle.lpis_wkt.proofs.CompletingLemmas.{begins, begun}
@@ -71,58 +72,20 @@ words-cons Comma ts = omega arith
 words-cons End ts = omega arith
 words-cons (Word w) ts = omega arith
 
-one_word : (s : State) (t : Token) (s' : State) → step s t ≡ Ok s' → has_words s' ≡ has_words s + word t
-one_word AtKeyword Open s' h = cc
-one_word AtKeyword Close s' h = cc
-one_word AtKeyword Comma s' h = cc
-one_word AtKeyword End s' h = cc
-one_word AtKeyword (Word w) s' h = elim (keyword-ok w s' h) [ inl e ↦ rw (← e.1) refl | inr e ↦ rw (← e.1) refl ]
-one_word (AfterKeyword m) Open s' h = let e : open_text m ≡ s' = cc in rw (← e) (rw (open-words m) refl)
-one_word (AfterKeyword m) Close s' h = cc
-one_word (AfterKeyword m) Comma s' h = cc
-one_word (AfterKeyword m) End s' h = cc
-one_word (AfterKeyword m) (Word w) s' h = cc
-one_word (AtBody ms) Open s' h = let e : new_body true ms ≡ s' = cc in rw (← e) (omega arith)
-one_word (AtBody ms) Close s' h = cc
-one_word (AtBody ms) Comma s' h = cc
-one_word (AtBody ms) End s' h = cc
-one_word (AtBody ms) (Word w) s' h = cc
-one_word (AtRing b) Open s' h = let e : AtX b [] ≡ s' = cc in rw (← e) (omega arith)
-one_word (AtRing b) Close s' h = cc
-one_word (AtRing b) Comma s' h = cc
-one_word (AtRing b) End s' h = cc
-one_word (AtRing b) (Word w) s' h = cc
-one_word (AtX b ps) Open s' h = cc
-one_word (AtX b ps) Close s' h = cc
-one_word (AtX b ps) Comma s' h = cc
-one_word (AtX b ps) End s' h = cc
-one_word (AtX b ps) (Word w) s' h = let n = with_coordinate-ok _ _ _ h in rw (← n.2) (omega arith)
-one_word (AtY b ps x) Open s' h = cc
-one_word (AtY b ps x) Close s' h = cc
-one_word (AtY b ps x) Comma s' h = cc
-one_word (AtY b ps x) End s' h = cc
-one_word (AtY b ps x) (Word w) s' h = let n = with_coordinate-ok _ _ _ h in rw (← n.2) (omega (arith, length-append ps (point_of x n.0 ∷ [])))
-one_word (AfterPoint b ps) Open s' h = cc
-one_word (AfterPoint b ps) Close s' h = rw (← (close_ring-ok b ps s' h).1) (ring-words b ps ∙ omega arith)
-one_word (AfterPoint b ps) Comma s' h = let e : AtX b ps ≡ s' = cc in rw (← e) (omega arith)
-one_word (AfterPoint b ps) End s' h = cc
-one_word (AfterPoint b ps) (Word w) s' h = cc
-one_word (AfterRing b) Open s' h = cc
-one_word (AfterRing b) Close s' h = let e : close_body b ≡ s' = cc in rw (← e) (rw (close-words b) (omega arith))
-one_word (AfterRing b) Comma s' h = let e : AtRing b ≡ s' = cc in rw (← e) (omega arith)
-one_word (AfterRing b) End s' h = cc
-one_word (AfterRing b) (Word w) s' h = cc
-one_word (AfterBody ms) Open s' h = cc
-one_word (AfterBody ms) Close s' h = let e : AtEnd ms ≡ s' = cc in rw (← e) (omega arith)
-one_word (AfterBody ms) Comma s' h = let e : AtBody ms ≡ s' = cc in rw (← e) (omega arith)
-one_word (AfterBody ms) End s' h = cc
-one_word (AfterBody ms) (Word w) s' h = cc
-one_word (AtEnd ms) Open s' h = cc
-one_word (AtEnd ms) Close s' h = cc
-one_word (AtEnd ms) Comma s' h = cc
-one_word (AtEnd ms) End s' h = let e : Finished ms ≡ s' = cc in rw (← e) (omega arith)
-one_word (AtEnd ms) (Word w) s' h = cc
-one_word (Finished ms) t s' h = cc
+one_word : (s : State) (t : Token) (s' : State) → Goes s t s' → has_words s' ≡ has_words s + word t
+one_word s t s' (takes_keyword w m) = refl
+one_word s t s' (opens_text m) = open-words m
+one_word s t s' (opens_body ms) = omega arith
+one_word s t s' (opens_ring b) = omega arith
+one_word s t s' (takes_x b ps w z e) = omega arith
+one_word s t s' (takes_y b ps v w z e) = omega (arith, length-append ps (point_of v z ∷ []))
+one_word s t s' (closes_ring b ps) = ring-words b ps ∙ omega arith
+one_word s t s' (next_point b ps) = omega arith
+one_word s t s' (closes_body b) = close-words b ∙ omega arith
+one_word s t s' (next_ring b) = omega arith
+one_word s t s' (closes_text ms) = omega arith
+one_word s t s' (next_body ms) = omega arith
+one_word s t s' (finishes ms) = omega arith
 
 -- a token that is too many makes one word more than the most_words has, and no other does
 too-many : (s : State) (t : Token) (s' : State) → step s t ≡ Ok s' → is_too_many s t ≡ true → most_words < has_words s'
@@ -143,16 +106,16 @@ too-many (AtEnd ms) t s' h k = cc
 too-many (Finished ms) t s' h k = cc
 
 not-too-many : (s : State) (t : Token) (s' : State) → step s t ≡ Ok s' → is_too_many s t ≡ false → has_words s ≤ most_words → has_words s' ≤ most_words
-not-too-many s Open s' h k le = rw (one_word s Open s' h) (omega arith)
-not-too-many s Close s' h k le = rw (one_word s Close s' h) (omega arith)
-not-too-many s Comma s' h k le = rw (one_word s Comma s' h) (omega arith)
-not-too-many s End s' h k le = rw (one_word s End s' h) (omega arith)
-not-too-many AtKeyword (Word w) s' h k le = rw (one_word AtKeyword (Word w) s' h) (omega arith)
+not-too-many s Open s' h k le = rw (one_word _ _ _ (goes s Open s' h)) (omega arith)
+not-too-many s Close s' h k le = rw (one_word _ _ _ (goes s Close s' h)) (omega arith)
+not-too-many s Comma s' h k le = rw (one_word _ _ _ (goes s Comma s' h)) (omega arith)
+not-too-many s End s' h k le = rw (one_word _ _ _ (goes s End s' h)) (omega arith)
+not-too-many AtKeyword (Word w) s' h k le = rw (one_word _ _ _ (goes AtKeyword (Word w) s' h)) (omega arith)
 not-too-many (AfterKeyword m) (Word w) s' h k le = cc
 not-too-many (AtBody ms) (Word w) s' h k le = cc
 not-too-many (AtRing b) (Word w) s' h k le = cc
-not-too-many (AtX b ps) (Word w) s' h k le = let few : points_before b + length ps < most_points = grind (arith, nat_tests) in rw (one_word (AtX b ps) (Word w) s' h) (omega arith)
-not-too-many (AtY b ps x) (Word w) s' h k le = rw (one_word (AtY b ps x) (Word w) s' h) (omega arith)
+not-too-many (AtX b ps) (Word w) s' h k le = let few : points_before b + length ps < most_points = grind (arith, nat_tests) in rw (one_word _ _ _ (goes (AtX b ps) (Word w) s' h)) (omega arith)
+not-too-many (AtY b ps x) (Word w) s' h k le = rw (one_word _ _ _ (goes (AtY b ps x) (Word w) s' h)) (omega arith)
 not-too-many (AfterPoint b ps) (Word w) s' h k le = cc
 not-too-many (AfterRing b) (Word w) s' h k le = cc
 not-too-many (AfterBody ms) (Word w) s' h k le = cc
@@ -164,7 +127,7 @@ limited-run-ok [] s s' le h = (h, omega arith)
 limited-run-ok (t ∷ ts) s s' le h =
     let a = then-ok _ _ _ h in
     let b = cond-err _ _ _ _ a.1 in
-    let one : has_words a.0 ≡ has_words s + word t = one_word s t a.0 b.1 in
+    let one : has_words a.0 ≡ has_words s + word t = one_word s t a.0 (goes s t a.0 b.1) in
     let le2 : has_words a.0 ≤ most_words = not-too-many s t a.0 b.1 b.0 le in
     let r = limited-run-ok ts a.0 s' le2 a.2 in
     let total : has_words a.0 + words ts ≤ most_words = r.1 in
@@ -175,7 +138,7 @@ pub run-limited : (ts : List Token) (s s' : State) → run s ts ≡ Ok s' → ha
 run-limited [] s s' h le = h
 run-limited (t ∷ ts) s s' h le =
     let a = then-ok _ _ _ h in
-    let one : has_words a.0 ≡ has_words s + word t = one_word s t a.0 a.1 in
+    let one : has_words a.0 ≡ has_words s + word t = one_word s t a.0 (goes s t a.0 a.1) in
     let all : words (t ∷ ts) ≡ word t + words ts = words-cons t ts in
     let le2 : has_words a.0 + words ts ≤ most_words = let le3 = rw all at le in omega arith in
     let fine : is_too_many s t ≡ false = false_from_ne_true (is_too_many s t) (λ k. (let big = too-many s t a.0 a.1 k in omega arith)) in
@@ -191,7 +154,7 @@ pub words-run : (ts : List Token) (s s' : State) → run s ts ≡ Ok s' → has_
 words-run [] s s' h = let e : s ≡ s' = cc in rw (← e) (omega arith)
 words-run (t ∷ ts) s s' h =
     let a = then-ok _ _ _ h in
-    let one : has_words a.0 ≡ has_words s + word t = one_word s t a.0 a.1 in
+    let one : has_words a.0 ≡ has_words s + word t = one_word s t a.0 (goes s t a.0 a.1) in
     let all : words (t ∷ ts) ≡ word t + words ts = words-cons t ts in
     let rest : has_words s' ≡ has_words a.0 + words ts = words-run ts a.0 s' a.2 in
     rw all (omega arith)

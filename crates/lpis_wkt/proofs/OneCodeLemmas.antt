@@ -13,9 +13,9 @@ use Rattle.lpis_wkt.specs.Grammar.{PointText, Commas, is_polygon, is_multi}
 use Rattle.lpis_wkt.specs.Viable.{Stands, Viable, words, most_words}
 use Rattle.lpis_wkt.specs.Table.{RingSoFar, EndsWith, keyword_code, open_code, first_open_code, number_code, coordinate_code, point_code, TableCode, at_keyword, at_first_open, at_open, at_coordinate}
 use Rattle.lpis_wkt.specs.Table.{at_after_point, at_after_close, at_past_end}
-use Rattle.lpis_wkt.specs.private.Machine.{Context, State, AtKeyword, AfterKeyword, AtBody, AtRing, AtX, AtY, AfterPoint, AfterRing, AfterBody, AtEnd, Finished, is_closed, with_ring, close_body}
+use Rattle.lpis_wkt.specs.private.Machine.{Context, State, AtKeyword, AfterKeyword, AtBody, AtRing, AtX, AtY, AfterPoint, AfterRing, AfterBody, AtEnd, Finished, is_closed, with_ring}
 use Rattle.lpis_wkt.specs.private.Machine.{new_body, member_of, points_before, and_then, step, run, limited_step, limited_run}
-use Rattle.lpis_wkt.proofs.StepLemmas.{then-ok, close_ring-ok, run-append, limited-append}
+use Rattle.lpis_wkt.proofs.StepLemmas.{then-ok, run-append, limited-append, Goes, goes, opens_text, opens_body, opens_ring, closes_ring, closes_body, closes_text, finishes}
 use Rattle.lpis_wkt.proofs.CompletenessLemmas.{points_run}
 use Rattle.lpis_wkt.proofs.CompletingLemmas.{begun}
 use Rattle.lpis_wkt.proofs.CountingLemmas.{has_words, viable, taken, words-run, limited-run-ok}
@@ -38,43 +38,27 @@ keyword-only Comma c h = cc
 keyword-only End c h = cc
 keyword-only (Word w) c h = keyword-code (is_polygon w) (is_multi w) (keyword_code (Word w)) c h
 
-first_open-only : (s s' : State) (before : List Token) (t : Token) (c : WktCode) → step s Open ≡ Ok s' → Tail s before → length before ≡ 1 → limited_step s t ≡ Err c → first_open_code t ≡ c
-first_open-only AtKeyword s' before t c k r one h = cc
-first_open-only (AfterKeyword m) s' before Open c k r one h = cc
-first_open-only (AfterKeyword m) s' before Close c k r one h = cc
-first_open-only (AfterKeyword m) s' before Comma c k r one h = cc
-first_open-only (AfterKeyword m) s' before End c k r one h = cc
-first_open-only (AfterKeyword m) s' before (Word w) c k r one h = cc
-first_open-only (AtBody ms) s' before t c k r one h = absurd (omega arith)
-first_open-only (AtRing b) s' before t c k r one h = absurd (omega arith)
-first_open-only (AtX b ps) s' before t c k r one h = cc
-first_open-only (AtY b ps x) s' before t c k r one h = cc
-first_open-only (AfterPoint b ps) s' before t c k r one h = cc
-first_open-only (AfterRing b) s' before t c k r one h = cc
-first_open-only (AfterBody ms) s' before t c k r one h = cc
-first_open-only (AtEnd ms) s' before t c k r one h = cc
-first_open-only (Finished ms) s' before t c k r one h = cc
+first_open-only : (s s' : State) (before : List Token) (t : Token) (c : WktCode) → Goes s Open s' → Tail s before → length before ≡ 1 → limited_step s t ≡ Err c → first_open_code t ≡ c
+first_open-only s s' before Open c (opens_text m) r one h = cc
+first_open-only s s' before Close c (opens_text m) r one h = cc
+first_open-only s s' before Comma c (opens_text m) r one h = cc
+first_open-only s s' before End c (opens_text m) r one h = cc
+first_open-only s s' before (Word w) c (opens_text m) r one h = cc
+first_open-only s s' before t c (opens_body ms) r one h = absurd (omega arith)
+first_open-only s s' before t c (opens_ring b) r one h = absurd (omega arith)
 
-open-only : (s s' : State) (before : List Token) (t : Token) (c : WktCode) → step s Open ≡ Ok s' → Tail s before → 1 < length before → limited_step s t ≡ Err c → open_code t ≡ c
-open-only AtKeyword s' before t c k r more h = cc
-open-only (AfterKeyword m) s' before t c k r more h = absurd (omega arith)
-open-only (AtBody ms) s' before Open c k r more h = cc
-open-only (AtBody ms) s' before Close c k r more h = cc
-open-only (AtBody ms) s' before Comma c k r more h = cc
-open-only (AtBody ms) s' before End c k r more h = cc
-open-only (AtBody ms) s' before (Word w) c k r more h = cc
-open-only (AtRing b) s' before Open c k r more h = cc
-open-only (AtRing b) s' before Close c k r more h = cc
-open-only (AtRing b) s' before Comma c k r more h = cc
-open-only (AtRing b) s' before End c k r more h = cc
-open-only (AtRing b) s' before (Word w) c k r more h = cc
-open-only (AtX b ps) s' before t c k r more h = cc
-open-only (AtY b ps x) s' before t c k r more h = cc
-open-only (AfterPoint b ps) s' before t c k r more h = cc
-open-only (AfterRing b) s' before t c k r more h = cc
-open-only (AfterBody ms) s' before t c k r more h = cc
-open-only (AtEnd ms) s' before t c k r more h = cc
-open-only (Finished ms) s' before t c k r more h = cc
+open-only : (s s' : State) (before : List Token) (t : Token) (c : WktCode) → Goes s Open s' → Tail s before → 1 < length before → limited_step s t ≡ Err c → open_code t ≡ c
+open-only s s' before t c (opens_text m) r more h = absurd (omega arith)
+open-only s s' before Open c (opens_body ms) r more h = cc
+open-only s s' before Close c (opens_body ms) r more h = cc
+open-only s s' before Comma c (opens_body ms) r more h = cc
+open-only s s' before End c (opens_body ms) r more h = cc
+open-only s s' before (Word w) c (opens_body ms) r more h = cc
+open-only s s' before Open c (opens_ring b) r more h = cc
+open-only s s' before Close c (opens_ring b) r more h = cc
+open-only s s' before Comma c (opens_ring b) r more h = cc
+open-only s s' before End c (opens_ring b) r more h = cc
+open-only s s' before (Word w) c (opens_ring b) r more h = cc
 
 coordinate-only : (s s' : State) (n : ℕ) (t : Token) (c : WktCode) → step s (Word (codes "0")) ≡ Ok s' → has_words s ≡ n → n ≤ most_words → limited_step s t ≡ Err c → coordinate_code n t ≡ c
 coordinate-only AtKeyword s' n t c k words few h = cc
@@ -107,36 +91,22 @@ begins_with_word (p ∷ []) body (x, y, e, hx, hy) = (x, Word y ∷ [], e)
 begins_with_word (p ∷ q ∷ ps) body (front, back, (x, y, e, hx, hy), split, more) = (x, Word y ∷ Comma ∷ back, split ∙ ap (λ (l : List Token). l ++ Comma ∷ back) e)
 
 -- after the `(` of a ring and some points
-after_open : (s0 s1 s : State) (ps : List Point) (body : List Token) → step s0 Open ≡ Ok s1 → Commas PointText ps body → run s1 body ≡ Ok s → (b : Context) × (s ≡ AfterPoint b ps)
-after_open AtKeyword s1 s ps body k text h = cc
-after_open (AfterKeyword true) s1 s ps body k text h =
+after_open : (s0 s1 s : State) (ps : List Point) (body : List Token) → Goes s0 Open s1 → Commas PointText ps body → run s1 body ≡ Ok s → (b : Context) × (s ≡ AfterPoint b ps)
+after_open s0 s1 s ps body (opens_text true) text h =
     let (w, rest, e) = begins_with_word ps body text in
-    let start : AtBody [] ≡ s1 = cc in
-    let no : run (AtBody []) (Word w ∷ rest) ≡ Ok s = rw (← start, e) at h in
+    let no : run (AtBody []) (Word w ∷ rest) ≡ Ok s = rw e at h in
     cc
-after_open (AfterKeyword false) s1 s ps body k text h =
+after_open s0 s1 s ps body (opens_text false) text h =
     let (w, rest, e) = begins_with_word ps body text in
-    let start : new_body false [] ≡ s1 = cc in
-    let no : run (new_body false []) (Word w ∷ rest) ≡ Ok s = rw (← start, e) at h in
+    let no : run (new_body false []) (Word w ∷ rest) ≡ Ok s = rw e at h in
     cc
-after_open (AtBody ms) s1 s ps body k text h =
+after_open s0 s1 s ps body (opens_body ms) text h =
     let (w, rest, e) = begins_with_word ps body text in
-    let start : new_body true ms ≡ s1 = cc in
-    let no : run (new_body true ms) (Word w ∷ rest) ≡ Ok s = rw (← start, e) at h in
+    let no : run (new_body true ms) (Word w ∷ rest) ≡ Ok s = rw e at h in
     cc
-after_open (AtRing b) s1 s ps body k text h =
-    let start : AtX b [] ≡ s1 = cc in
-    let goes : run (AtX b []) (body ++ []) ≡ Ok (AfterPoint b ps) = points_run b [] ps body [] text in
-    let goes2 : run (AtX b []) body ≡ Ok (AfterPoint b ps) = ap (run (AtX b [])) (sym (append-nil body)) ∙ goes in
-    let here : run (AtX b []) body ≡ Ok s = ap (λ (v : State). run v body) start ∙ h in
+after_open s0 s1 s ps body (opens_ring b) text h =
+    let goes_on : run (AtX b []) body ≡ Ok (AfterPoint b ps) = ap (run (AtX b [])) (sym (append-nil body)) ∙ points_run b [] ps body [] text in
     (b, cc)
-after_open (AtX b ps') s1 s ps body k text h = cc
-after_open (AtY b ps' x) s1 s ps body k text h = cc
-after_open (AfterPoint b ps') s1 s ps body k text h = cc
-after_open (AfterRing b) s1 s ps body k text h = cc
-after_open (AfterBody ms) s1 s ps body k text h = cc
-after_open (AtEnd ms) s1 s ps body k text h = cc
-after_open (Finished ms) s1 s ps body k text h = cc
 
 point-only : (b : Context) (ps : List Point) (t : Token) (c : WktCode) → limited_step (AfterPoint b ps) t ≡ Err c → point_code ps t ≡ c
 point-only b ps Open c h = cc
@@ -150,7 +120,7 @@ ring-code before s ps t c (front, body, e, text) h k =
     let whole : and_then (run AtKeyword front) (λ s. run s (Open ∷ body)) ≡ Ok s = sym (run-append AtKeyword front (Open ∷ body)) ∙ ap (run AtKeyword) (sym e) ∙ h in
     let a = then-ok (run AtKeyword front) (λ (v : State). run v (Open ∷ body)) s whole in
     let o = then-ok (step a.0 Open) (λ (v : State). run v body) s a.2 in
-    let r = after_open a.0 o.0 s ps body o.1 text o.2 in
+    let r = after_open a.0 o.0 s ps body (goes a.0 Open o.0 o.1) text o.2 in
     point-only r.0 ps t c (rw r.1 at k)
 
 abbrev IsAfterClose : State → Type 0
@@ -163,18 +133,10 @@ after_body : (m : Bool) (ms : List Member) → IsAfterClose (cond m (AfterBody m
 after_body true ms = tt
 after_body false ms = tt
 
-after_close : (s0 s : State) → step s0 Close ≡ Ok s → IsAfterClose s
-after_close AtKeyword s h = cc
-after_close (AfterKeyword m) s h = cc
-after_close (AtBody ms) s h = cc
-after_close (AtRing b) s h = cc
-after_close (AtX b ps) s h = cc
-after_close (AtY b ps x) s h = cc
-after_close (AfterPoint b ps) s h = rw (← (close_ring-ok b ps s h).1) tt
-after_close (AfterRing b) s h = let e : close_body b ≡ s = cc in rw (← e) (after_body b.multi (b.members ++ member_of b.rings ∷ []))
-after_close (AfterBody ms) s h = let e : AtEnd ms ≡ s = cc in rw (← e) tt
-after_close (AtEnd ms) s h = cc
-after_close (Finished ms) s h = cc
+after_close : (s0 s : State) → Goes s0 Close s → IsAfterClose s
+after_close s0 s (closes_ring b ps) = tt
+after_close s0 s (closes_body b) = after_body b.multi (b.members ++ member_of b.rings ∷ [])
+after_close s0 s (closes_text ms) = tt
 
 close-only : (s : State) (t : Token) (c : WktCode) → IsAfterClose s → limited_step s t ≡ Err c → Syntax ≡ c
 close-only AtKeyword t c is h = absurd is
@@ -201,18 +163,11 @@ close-only (AtEnd ms) End c is h = cc
 close-only (AtEnd ms) (Word w) c is h = cc
 close-only (Finished ms) t c is h = absurd is
 
+ended : (s0 s : State) → Goes s0 End s → (ms : List Member) × (s ≡ Finished ms)
+ended s0 s (finishes ms) = (ms, refl)
+
 pub after_end : (s0 s : State) → step s0 End ≡ Ok s → (ms : List Member) × (s ≡ Finished ms)
-after_end AtKeyword s h = cc
-after_end (AfterKeyword m) s h = cc
-after_end (AtBody ms) s h = cc
-after_end (AtRing b) s h = cc
-after_end (AtX b ps) s h = cc
-after_end (AtY b ps x) s h = cc
-after_end (AfterPoint b ps) s h = cc
-after_end (AfterRing b) s h = cc
-after_end (AfterBody ms) s h = cc
-after_end (AtEnd ms) s h = (ms, cc)
-after_end (Finished ms) s h = cc
+after_end s0 s h = ended s0 s (goes s0 End s h)
 
 -- the step that took the last of the tokens before
 last_step : (before : List Token) (s : State) (t : Token) → EndsWith before t → run AtKeyword before ≡ Ok s → (s0 : State) × (step s0 t ≡ Ok s)
@@ -231,11 +186,11 @@ row-only : (before : List Token) (t : Token) (code c : WktCode) (s : State) → 
     → run AtKeyword before ≡ Ok s → has_words s ≡ words before → words before ≤ most_words
     → limited_step s t ≡ Err c → code ≡ c
 row-only before t code c s at_keyword r h n few k = let e : AtKeyword ≡ s = cc in keyword-only t c (rw (← e) at k)
-row-only before t code c s (at_first_open stands one) r h n few k = let o = stood before s Open h stands in first_open-only s o.0 before t c o.1 r one k
-row-only before t code c s (at_open stands more) r h n few k = let o = stood before s Open h stands in open-only s o.0 before t c o.1 r more k
+row-only before t code c s (at_first_open stands one) r h n few k = let o = stood before s Open h stands in first_open-only s o.0 before t c (goes s Open o.0 o.1) r one k
+row-only before t code c s (at_open stands more) r h n few k = let o = stood before s Open h stands in open-only s o.0 before t c (goes s Open o.0 o.1) r more k
 row-only before t code c s (at_coordinate stands) r h n few k = let o = stood before s (Word (codes "0")) h stands in coordinate-only s o.0 (words before) t c o.1 n few k
 row-only before t code c s (at_after_point ps ring) r h n few k = ring-code before s ps t c ring h k
-row-only before t code c s (at_after_close ends) r h n few k = let o = last_step before s Close ends h in close-only s t c (after_close o.0 s o.1) k
+row-only before t code c s (at_after_close ends) r h n few k = let o = last_step before s Close ends h in close-only s t c (after_close o.0 s (goes o.0 Close s o.1)) k
 row-only before t code c s (at_past_end ends) r h n few k = let o = last_step before s End ends h in let e = after_end o.0 s o.1 in past_end-only s t c e.0 e.1 k
 
 pub only_code : (before : List Token) (t : Token) (code c : WktCode) (s : State) → TableCode before t code → limited_run AtKeyword before ≡ Ok s → limited_step s t ≡ Err c → code ≡ c

@@ -5,18 +5,18 @@ use Rattle.std.proofs.lemmas.Bool.{cases_lt}
 use Rattle.std.proofs.lemmas.Bool.Decides.{nat_tests}
 use Rattle.lpis_rings.specs.Polygon.{most_points}
 use Rattle.lpis_wkt.specs.declared.fault.WktCode.{WktCode}
-use Rattle.lpis_wkt.specs.declared.fault.WktCode.TheVariants.{Keyword, Syntax, TooFewPoints, NotClosed, TooManyPoints}
+use Rattle.lpis_wkt.specs.declared.fault.WktCode.TheVariants.{TooFewPoints, NotClosed, TooManyPoints}
 use Rattle.lpis_wkt.specs.declared.coordinate.Coordinate.{Coordinate}
 use Rattle.lpis_wkt.specs.Tokens.{Token, Open, Close, Comma, Word, End}
 use Rattle.lpis_wkt.specs.Number.{number}
 use Rattle.lpis_wkt.specs.private.Coordinates.{coordinate, point_of}
 use Rattle.lpis_wkt.specs.Grammar.{is_polygon, is_multi}
 use Rattle.lpis_wkt.specs.Viable.{Stands, words, most_words}
-use Rattle.lpis_wkt.specs.Table.{keyword_code, open_code, first_open_code, number_code, coordinate_code, point_code, TableCode, at_keyword, at_first_open, at_open, at_coordinate, at_after_point}
+use Rattle.lpis_wkt.specs.Table.{keyword_code, number_code, coordinate_code, TableCode, at_keyword, at_first_open, at_open, at_coordinate, at_after_point}
 use Rattle.lpis_wkt.specs.Table.{at_after_close, at_past_end}
 use Rattle.lpis_points.specs.declared.point.Point.{Point}
 use Rattle.lpis_wkt.specs.private.Machine.{Context, State, AtKeyword, AfterKeyword, AtBody, AtRing, AtX, AtY, AfterPoint, AfterRing, AfterBody, AtEnd, Finished, is_closed, with_coordinate, with_ring}
-use Rattle.lpis_wkt.specs.private.Machine.{new_body, open_text, points_before, step, run, limited_step, limited_run}
+use Rattle.lpis_wkt.specs.private.Machine.{points_before, step, run, limited_step, limited_run}
 use Rattle.lpis_wkt.proofs.PointLemmas.{err-coordinate}
 use Rattle.lpis_wkt.proofs.StepLemmas.{run-append}
 use Rattle.lpis_wkt.proofs.CompletingLemmas.{origin, zero_spelled, begins}
