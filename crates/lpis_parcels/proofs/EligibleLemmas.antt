@@ -56,8 +56,3 @@ pub item-within : {A : Type 0} (xs : List A) (i : ℕ) → i < length xs → (x 
 item-within [] i lt = absurd (omega arith)
 item-within (x ∷ xs) zero lt = (x, refl)
 item-within (x ∷ xs) (suc i) lt = item-within xs i (omega arith)
-
-pub any-default : (xs : List ℕ) (i d e : ℕ) → i < length xs → get_or xs i d ≡ get_or xs i e
-any-default [] i d e lt = absurd (omega arith)
-any-default (x ∷ xs) zero d e lt = refl
-any-default (x ∷ xs) (suc i) d e lt = any-default xs i d e (omega arith)

@@ -1,10 +1,10 @@
 -- The joins, a row at a time.
 use Rattle.std.proofs.Common.{◌≡◌, ◌<◌, ◌+◌, ◌++◌, ◌∷◌, [], ℕ, zero, suc, List, length, map, take, drop, get_or, set, replicate, Bool, true, false, not, cond, Option, Some, None, Ok, Err, refl, sym}
-use Rattle.std.proofs.Common.{ap, ◌∙◌, arith}
+use Rattle.std.proofs.Common.{ap, ◌∙◌, arith, add-one, drop-cons}
 use Rattle.std.specs.Prelude.{◌||◌, is_some, slice_get}
 use Rattle.std.specs.List.{IsDistinct, list_any, AllByRecursion}
-use Rattle.std.proofs.lemmas.List.{map-append}
-use Rattle.std.proofs.lemmas.Option.{same_Some}
+use Rattle.std.proofs.lemmas.List.{map-append, take_more, length-take-le, length-map, get_or-map}
+use Rattle.std.proofs.lemmas.Option.{slice_get_within, get_or_from_slice_get}
 use Rattle.lpis_covers.proofs.RowLemmas.{column-fault}
 use Rattle.lpis_parcels.specs.private.Joined.{AreJoins}
 use Rattle.std.proofs.lemmas.Slice.Eq.{bytes_eq-Decides}
@@ -118,23 +118,13 @@ map-same f g [] h = refl
 map-same {B = B} f g (x ∷ xs) h = ap (λ (y : B). y ∷ map f xs) (h x) ∙ ap (λ (l : List B). g x ∷ l) (map-same f g xs h)
 
 take-more : {A : Type 0} (xs : List A) (i : ℕ) (x : A) → slice_get xs i ≡ Some x → take (i + 1) xs ≡ take i xs ++ x ∷ []
-take-more xs i x e = let n : i + 1 ≡ suc i = omega arith in rw n (by xs i e) where
-  by : {A : Type 0} {x : A} (xs : List A) (i : ℕ) → slice_get xs i ≡ Some x → take (suc i) xs ≡ take i xs ++ x ∷ []
-  by [] i e = cc e
-  by (y ∷ ys) zero e = let s = same_Some y _ e in ap (λ z. z ∷ []) s
-  by {A = A} (y ∷ ys) (suc i) e = ap (λ (l : List A). y ∷ l) (by ys i e)
+take-more {A} xs i x e = take_more xs i x (slice_get_within xs i x e) ∙ ap (λ (y : A). take i xs ++ y ∷ []) (get_or_from_slice_get xs i x x e)
 
 length-taken : {A : Type 0} (xs : List A) (i : ℕ) (x : A) → slice_get xs i ≡ Some x → length (take i xs) ≡ i
-length-taken [] i x e = cc e
-length-taken (y ∷ ys) zero x e = refl
-length-taken (y ∷ ys) (suc i) x e = ap suc (length-taken ys i x e)
+length-taken xs i x e = length-take-le i xs (omega (arith, slice_get_within xs i x e))
 
 pub drop-at : {A : Type 0} (xs : List A) (i : ℕ) (x : A) → slice_get xs i ≡ Some x → drop i xs ≡ x ∷ drop (i + 1) xs
-drop-at xs i x e = let n : i + 1 ≡ suc i = omega arith in rw n (by xs i e) where
-  by : {A : Type 0} {x : A} (xs : List A) (i : ℕ) → slice_get xs i ≡ Some x → drop i xs ≡ x ∷ drop (suc i) xs
-  by [] i e = cc e
-  by {A = A} (y ∷ ys) zero e = ap (λ (z : A). z ∷ ys) (same_Some y _ e)
-  by (y ∷ ys) (suc i) e = by ys i e
+drop-at {A} xs i x e = rw add-one (drop-cons xs i x (slice_get_within xs i x e) ∙ ap (λ (y : A). y ∷ drop (suc i) xs) (get_or_from_slice_get xs i x x e))
 
 -- no piece joined yet
 pub joins-none : (parcels : List Parcel) (classes : List Class) (groups : List (List ℕ)) → groups ≡ replicate (length parcels) [] → AreJoins parcels [] classes groups []
@@ -193,16 +183,10 @@ empty-groups pieces n (p ∷ ps) =
 
 -- an item of lists, and a list changed in its place
 pub list-at : {A : Type 0} (f : A → List ℕ) (xs : List A) (k : ℕ) (x : A) → k < length xs → x ≡ get_or xs k x → get_or (map f xs) k [] ≡ f x
-list-at f [] k x lt e = absurd (omega arith)
-list-at f (y ∷ ys) zero x lt e = ap f (sym e)
-list-at f (y ∷ ys) (suc k) x lt e = list-at f ys k x (omega arith) e
+list-at f xs k x lt e = get_or-map f xs k x [] lt ∙ ap f (sym e)
 
 pub group-within : (parcels : List Parcel) (F : Parcel → List ℕ) (groups : List (List ℕ)) (x : List ℕ) (k : ℕ) → groups ≡ map F parcels → slice_get (parcel_ids parcels) k ≡ Some x → k < length groups
-group-within parcels F groups x k e at = rw e (by parcels k at) where
-  by : (ps : List Parcel) (k : ℕ) → slice_get (parcel_ids ps) k ≡ Some x → k < length (map F ps)
-  by [] k at = cc at
-  by (p ∷ ps) zero at = omega arith
-  by (p ∷ ps) (suc k) at = let lt = by ps k at in omega (arith, lt)
+group-within parcels F groups x k e at = omega (arith, ap length e, slice_get_within (parcel_ids parcels) k x at, length-map parcels F, length-map parcels (λ (p : Parcel). p.id))
 
 pub told-none : (fs : List TableFault) → unless_faulty {A = Unit {0}} fs (tt {0}) ≡ Ok (tt {0}) → fs ≡ []
 told-none [] h = refl

@@ -1,5 +1,5 @@
 -- The eligible area of a parcel: the sum over its pieces whose class is eligible.
-use Rattle.std.specs.Prelude.{ℤ, pos, ◌+ℤ◌, Bool, false, ℕ, List, [], ◌∷◌, Option, Some, None}
+use Rattle.std.specs.Prelude.{ℤ, Bool, false, ℕ, List, Option, Some, None}
 use Rattle.std.specs.Prelude.{filter}
 use Rattle.std.specs.List.{find}
 use Rattle.lpis_points.specs.Sums.{int_sum_by}

@@ -1,7 +1,8 @@
 use Rattle.std.proofs.Common.{◌<◌, get_or, arith}
+use Rattle.std.proofs.lemmas.List.{get_or_default}
 use mir.Syntax.{w128}
 use mir.Val.{to_z}
-use Rattle.lpis_parcels.proofs.EligibleLemmas.{any-default, eligible-added, eligible-end, eligible-start, item-within, sum-more}
+use Rattle.lpis_parcels.proofs.EligibleLemmas.{eligible-added, eligible-end, eligible-start, item-within, sum-more}
 use Rattle.lpis_parcels.proofs.eligible.eligible2.Goals as goal
 
 pub loop-place-init : goal.loop-place-init
@@ -17,7 +18,7 @@ loop-place-preserved c =
     let more = sum-more sum c.eligible_part-sum.result i c.loop-place.invariant.1 c.eligible_part-sum.ensures.small few in
     rw more.0 (
       eligible-added c.args.release.now places i (get_or places i 0) item.0 sum c.eligible_part-sum.result _
-          c.loop-place-test.true (any-default places i 0 (get_or places i 0) c.loop-place-test.true) item.1
+          c.loop-place-test.true (get_or_default places i 0 (get_or places i 0) c.loop-place-test.true) item.1
           (c.eligible_part-sum.ensures.value item.0 item.1) c.loop-place.invariant.0,
       more.1,
     )
