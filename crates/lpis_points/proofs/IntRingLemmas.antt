@@ -2,7 +2,7 @@
 -- multiplies it out, and `ring` concludes that two expressions have one value wherever their difference has a normal
 -- form of zeros.
 use Rattle.std.proofs.Common.{◌≡◌, ℕ, zero, suc, ℤ, pos, negsuc, ◌+ℤ◌, ◌-ℤ◌, ◌*ℤ◌, neg_ℤ, Bool, true, false, cond, T, List, [], ◌∷◌, leb, eqb, eqb→eq, ap, ap₂, sym, refl, ◌∙◌, arith}
-use Rattle.std.proofs.Math.IntN.{+ℤ_assoc, *ℤ_comm, zero-*ℤ}
+use Rattle.std.proofs.Math.IntN.{*ℤ_comm, zero-*ℤ}
 use Rattle.std.proofs.lemmas.Int.{ints}
 use Rattle.lpis_points.proofs.IntLemmas.{mul-add_z, mul_assoc_z, one-mul_z}
 

@@ -5,7 +5,7 @@ use Rattle.std.proofs.lemmas.Int.{ints}
 use Rattle.std.proofs.lemmas.List.Elements.{All-head, All-tail}
 use Rattle.lpis_points.specs.declared.point.Point.{Point}
 use Rattle.lpis_points.specs.Plane.{same_point}
-use Rattle.lpis_points.specs.Chain.{is_edge, net_count, SameNet}
+use Rattle.lpis_points.specs.Chain.{net_count, SameNet}
 use Rattle.lpis_points.proofs.PointLemmas.{same_point-equality}
 
 -- a list has the edge from a to b, or its reverse, or a net count of 0 there

@@ -1,5 +1,5 @@
 -- The crossing by a point and the shoelace term change sign with the edge.
-use Rattle.std.proofs.Common.{◌≤◌, negsuc, nat_abs, ◌⊎◌, inl, inr, ◌≡◌, ℤ, pos, ◌-ℤ◌, ◌*ℤ◌, neg_ℤ, [], ◌∷◌, ap, ◌∙◌, arith}
+use Rattle.std.proofs.Common.{◌≤◌, negsuc, nat_abs, ◌⊎◌, ◌≡◌, ℤ, pos, ◌-ℤ◌, ◌*ℤ◌, neg_ℤ, [], ◌∷◌, ap, ◌∙◌, arith}
 use Rattle.std.proofs.lemmas.Int.{ints}
 use Rattle.lpis_points.specs.declared.point.Point.{Point}
 use Rattle.lpis_points.specs.Plane.{RationalPoint, orient_at, crossing, crossing_of, shoelace_term}
