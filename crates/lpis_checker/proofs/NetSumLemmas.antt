@@ -116,8 +116,8 @@ pushed t a b e xs ys h k = record {
     last : (z : ℤ) → z +ℤ pos 0 ≡ z
     last z = omega (arith, ints)
 
-pub passed : (t : Bool) (a b : Point) (xs ys : List SignedEdge) → IsSigned a b t None → ys ≡ xs → Grows t ((a, b) ∷ []) xs ys
-passed t a b xs ys h k =
+pub passed : {xs ys : List SignedEdge} (t : Bool) (a b : Point) → IsSigned a b t None → ys ≡ xs → Grows t ((a, b) ∷ []) xs ys
+passed {xs} {ys} t a b h k =
     record {
       sums = λ p q. same (sum_at p q xs) (sum_at p q ys) (signed_by t (low_count p q ((a, b) ∷ [])))
           (ap (sum_at p q) k) (ap (signed_by t) (one_count p q a b) ∙ loop_adds a b t h p q);
@@ -144,8 +144,8 @@ signed-append : (t : Bool) (p q : Point) (es fs : List (Point × Point)) → sig
 signed-append t p q es fs = signed_sum t (low_count p q es) (low_count p q fs) (low_count p q (es ++ fs)) (low_count-append p q es fs)
 
 -- one list after another
-pub grows_then : (t : Bool) (es fs : List (Point × Point)) (xs ys zs : List SignedEdge) → Grows t es xs ys → Grows t fs ys zs → Grows t (es ++ fs) xs zs
-grows_then t es fs xs ys zs h k =
+pub grows_then : {t : Bool} {es fs : List (Point × Point)} {xs ys zs : List SignedEdge} → Grows t es xs ys → Grows t fs ys zs → Grows t (es ++ fs) xs zs
+grows_then {t} {es} {fs} {xs} {ys} {zs} h k =
     record {
       sums = λ p q. by (sum_at p q xs) (sum_at p q ys) (sum_at p q zs) (signed_by t (low_count p q es))
           (signed_by t (low_count p q fs)) (signed_by t (low_count p q (es ++ fs))) (h.sums p q) (k.sums p q)
@@ -159,11 +159,11 @@ grows_then t es fs xs ys zs h k =
 pub record Growing (added : Bool) (left all : List (Point × Point)) (old now : List SignedEdge) : Type 0 where
   pub sums : (a b : Point) → sum_at a b now +ℤ signed_by added (low_count a b left) ≡ sum_at a b old +ℤ signed_by added (low_count a b all)
 
-pub growing_none : (t : Bool) (left all : List (Point × Point)) (xs : List SignedEdge) → left ≡ all → Growing t left all xs xs
-growing_none t left all xs e = record { sums = λ p q. ap (λ (es : List (Point × Point)). sum_at p q xs +ℤ signed_by t (low_count p q es)) e }
+pub growing_none : {left all : List (Point × Point)} {xs : List SignedEdge} (t : Bool) → left ≡ all → Growing t left all xs xs
+growing_none {xs = xs} t e = record { sums = λ p q. ap (λ (es : List (Point × Point)). sum_at p q xs +ℤ signed_by t (low_count p q es)) e }
 
-pub growing_more : (t : Bool) (es left next all : List (Point × Point)) (xs ys zs : List SignedEdge) → left ≡ es ++ next → Growing t left all xs ys → Grows t es ys zs → Growing t next all xs zs
-growing_more t es left next all xs ys zs e h k =
+pub growing_more : {t : Bool} {es left next all : List (Point × Point)} {xs ys zs : List SignedEdge} → left ≡ es ++ next → Growing t left all xs ys → Grows t es ys zs → Growing t next all xs zs
+growing_more {t} {es} {left} {next} {all} {xs} {ys} {zs} e h k =
     record {
       sums = λ p q. by (sum_at p q ys) (sum_at p q zs) (signed_by t (low_count p q es))
           (signed_by t (low_count p q next)) (signed_by t (low_count p q left))
@@ -174,8 +174,8 @@ growing_more t es left next all xs ys zs e h k =
     by : (b c x y z w : ℤ) → b +ℤ z ≡ w → c ≡ b +ℤ x → z ≡ x +ℤ y → c +ℤ y ≡ w
     by b c x y z w e f g = omega (arith, ints)
 
-pub growing_all : (t : Bool) (left all : List (Point × Point)) (xs ys : List SignedEdge) → left ≡ [] → Growing t left all xs ys → Grows t all xs ys
-growing_all t left all xs ys e h =
+pub growing_all : {t : Bool} {left all : List (Point × Point)} {xs ys : List SignedEdge} → left ≡ [] → Growing t left all xs ys → Grows t all xs ys
+growing_all {t} {all = all} {xs} {ys} e h =
     record {
       sums = λ p q. by t (is_low p q) (sum_at p q ys) (sum_at p q xs +ℤ signed_by t (low_count p q all))
           (ap (λ (fs : List (Point × Point)). sum_at p q ys +ℤ signed_by t (low_count p q fs)) (sym e) ∙ h.sums p q);
@@ -237,13 +237,13 @@ zero_when_same es fs xs ys h k = (
     less x y s e f = omega (arith, ints)
 
 -- one list added to nothing and two taken away
-pub cancels_when_same : (b : Bool) (es fs gs : List (Point × Point)) (none xs ys zs : List SignedEdge) → none ≡ []
+pub cancels_when_same : {es fs gs : List (Point × Point)} {none xs ys zs : List SignedEdge} (b : Bool) → none ≡ []
     → Grows true es none xs → Grows false fs xs ys → Grows false gs ys zs → (IsTrue b ↔ SumsAreZero zs) → IsTrue b
     ↔ SameNet same_point es (fs ++ gs)
-cancels_when_same b es fs gs none xs ys zs e h k l c =
-    let z = zero_when_same es (fs ++ gs) xs zs (subst (λ (us : List SignedEdge). Grows true es us xs) e h) (grows_then false fs gs xs ys zs k l) in
+cancels_when_same {es} {fs} {gs} {xs = xs} {zs = zs} b e h k l c =
+    let z = zero_when_same es (fs ++ gs) xs zs (subst (λ (us : List SignedEdge). Grows true es us xs) e h) (grows_then k l) in
     (λ t. z.0 (c.0 t), λ s. c.1 (z.1 s))
 
 -- triangles that are read from a slice
-pub grows_as : (ts us : List Triangle) (t : Bool) (xs ys : List SignedEdge) → ts ≡ us → Grows t (edges_of_triangles ts) xs ys → Grows t (edges_of_triangles us) xs ys
-grows_as ts us t xs ys e h = subst (λ (vs : List Triangle). Grows t (edges_of_triangles vs) xs ys) e h
+pub grows_as : {ts us : List Triangle} {t : Bool} {xs ys : List SignedEdge} → ts ≡ us → Grows t (edges_of_triangles ts) xs ys → Grows t (edges_of_triangles us) xs ys
+grows_as {t = t} {xs} {ys} e h = subst (λ (vs : List Triangle). Grows t (edges_of_triangles vs) xs ys) e h

@@ -3,7 +3,7 @@ use Rattle.lpis_checker.proofs.nets.is_cut.Goals as goal
 
 pub returns : goal.returns
 returns c =
-    cancels_when_same c.cancels.result _ _ _ _ _ _ _ c.clear.ensures.items c.in_ok-push_polygon.ensures
-    (grows_as _ _ _ _ _ c.as_slice.ensures c.in_ok-take_triangles.ensures)
-    (grows_as _ _ _ _ _ c.as_slice-2.ensures c.in_ok-take_triangles-2.ensures)
+    cancels_when_same c.cancels.result c.clear.ensures.items c.in_ok-push_polygon.ensures
+    (grows_as c.as_slice.ensures c.in_ok-take_triangles.ensures)
+    (grows_as c.as_slice-2.ensures c.in_ok-take_triangles-2.ensures)
     c.cancels.ensures

@@ -3,6 +3,6 @@ use Rattle.lpis_checker.proofs.nets.is_filled.Goals as goal
 
 pub returns : goal.returns
 returns c =
-    cancels_when_same c.cancels.result _ _ _ _ _ _ _ c.clear.ensures.items c.in_ok-push_polygon.ensures c.in_ok-take_pieces.ensures
-    (grows_as _ _ _ _ _ c.as_slice.ensures c.in_ok-take_triangles.ensures)
+    cancels_when_same c.cancels.result c.clear.ensures.items c.in_ok-push_polygon.ensures c.in_ok-take_pieces.ensures
+    (grows_as c.as_slice.ensures c.in_ok-take_triangles.ensures)
     c.cancels.ensures

@@ -6,4 +6,4 @@ pub returns-in_ok-push : goal.returns-in_ok-push
 returns-in_ok-push c = pushed c.args.added c.args.a c.args.b c.in-Some.edge _ _ c.in-Some.ensures c.in_ok-push.ensures.items
 
 pub returns-in_default : goal.returns-in_default
-returns-in_default c = passed c.args.added c.args.a c.args.b _ _ c.in_default.ensures refl
+returns-in_default c = passed c.args.added c.args.a c.args.b c.in_default.ensures refl
