@@ -1,6 +1,6 @@
 -- Tables say one history.
 use Rattle.std.proofs.Common.{◌≡◌, ◌∙◌, ◌<◌, ◌≤◌, ◌+◌, inl, inr, refl, sym, ap, ap₂, subst, arith, ℕ, zero, suc, ℤ, pos, List, [], ◌∷◌, ◌++◌, Bool, true, false, length, Option, None, Some}
-use Rattle.std.specs.Prelude.{◌&&◌, ◌||◌, nat_le, nat_eq}
+use Rattle.std.specs.Prelude.{◌&&◌, ◌||◌, nat_le, nat_eq, IsPermutation}
 use Rattle.std.specs.Ordering.{int_eq}
 use Rattle.std.specs.Int.Signed.{le_z}
 use Rattle.std.specs.List.{AllByRecursion, list_any}
@@ -152,37 +152,30 @@ same-rows _ _ e a b f g l i = absurd cc
 
 -- ---- the law
 
+-- the same years and rows of lineage; the sets are told in each version's own way
+same-history : (c : Content) (h k : List Entry) → IsKept h → IsKept k → IsPermutation c.years (years_of h) → IsPermutation c.years (years_of k)
+    → IsPermutation c.lines (lines_of h) → IsPermutation c.lines (lines_of k)
+    → (length h ≡ length k → ((i : ℕ) → (entry_at h i).year ≡ (entry_at k i).year) → (i : ℕ) (id : List ℕ) → holds h i id ≡ holds k i id) → IsSameHistory h k
+same-history c h k kept also_kept h_years k_years h_lines k_lines sets =
+    let up = years-ascend h kept.lawful in
+    let also = years-ascend k also_kept.lawful in
+    let years = same-ascending below below-alone (years_of h) (years_of k) up also (both-orders c.years (years_of h) (years_of k) h_years k_years) in
+    let lines = same-ascending line_below line-alone (lines_of h) (lines_of k) (lines-ascend h up) (lines-ascend k also) (both-orders c.lines (lines_of h) (lines_of k) h_lines k_lines) in
+    let alike = same-years h k years in
+    record { lengths = alike.0; years = alike.1; sets = sets alike.0 alike.1; rows = same-rows h k years up also (have-texts h kept) (have-texts k also_kept) lines }
+
 pub one-history : (c : Content) (h k : List Entry) → Tells c h → Tells c k → IsSameHistory h k
-one-history c h k s t = record { lengths = alike.0; years = alike.1; sets = sets; rows = same-rows h k years up also (have-texts h s.kept) (have-texts k t.kept) lines } where
-  up : Ascends below (years_of h)
-  up = years-ascend h s.kept.lawful
-
-  also : Ascends below (years_of k)
-  also = years-ascend k t.kept.lawful
-
-  years : years_of h ≡ years_of k
-  years = same-ascending below below-alone (years_of h) (years_of k) up also (both-orders c.years (years_of h) (years_of k) s.years_are t.years_are)
-
-  lines : lines_of h ≡ lines_of k
-  lines = same-ascending line_below line-alone (lines_of h) (lines_of k) (lines-ascend h up) (lines-ascend k also) (both-orders c.lines (lines_of h) (lines_of k) s.lines_are t.lines_are)
-
-  alike : (length h ≡ length k) × ((i : ℕ) → (entry_at h i).year ≡ (entry_at k i).year)
-  alike = same-years h k years
-
-  within : (i : ℕ) (id : List ℕ) → i < length h → holds h i id ≡ holds k i id
-  within i id lt =
-      sets-told h c.spans s.kept.lawful s.spans_are i lt id ∙ ap (λ (y : ℕ). list_any (λ s. same_id id s.id && covers s y) c.spans) (alike.1 i)
-      ∙ sym (sets-told k c.spans t.kept.lawful t.spans_are i (let e = alike.0 in omega (arith, e, lt)) id)
-
+one-history c h k s t = same-history c h k s.kept t.kept s.years_are t.years_are s.lines_are t.lines_are sets where
   beyond : (l : List Entry) (i : ℕ) (id : List ℕ) → length l ≤ i → holds l i id ≡ false
   beyond l i id le = ap (λ (e : Entry). has_id e.live id) (entry-after l i le)
 
-  sets : (i : ℕ) (id : List ℕ) → holds h i id ≡ holds k i id
-  sets i id = elim (place i (length h)) as (λ _. holds h i id ≡ holds k i id) [
-    | inl lt ↦ within i id lt
+  sets : length h ≡ length k → ((i : ℕ) → (entry_at h i).year ≡ (entry_at k i).year) → (i : ℕ) (id : List ℕ) → holds h i id ≡ holds k i id
+  sets n years i id = elim (place i (length h)) as (λ _. holds h i id ≡ holds k i id) [
+    | inl lt ↦ sets-told h c.spans s.kept.lawful s.spans_are i lt id ∙ ap (λ (y : ℕ). list_any (λ s. same_id id s.id && covers s y) c.spans) (years i)
+        ∙ sym (sets-told k c.spans t.kept.lawful t.spans_are i (omega (arith, n, lt)) id)
     | inr r ↦ elim r as (λ _. holds h i id ≡ holds k i id) [
-      | inl e ↦ beyond h i id (omega (arith, e)) ∙ sym (beyond k i id (let n = alike.0 in omega (arith, e, n)))
-      | inr g ↦ beyond h i id (omega (arith, g)) ∙ sym (beyond k i id (let n = alike.0 in omega (arith, g, n)))
+      | inl e ↦ beyond h i id (omega (arith, e)) ∙ sym (beyond k i id (omega (arith, e, n)))
+      | inr g ↦ beyond h i id (omega (arith, g)) ∙ sym (beyond k i id (omega (arith, g, n)))
     ]
   ]
 
@@ -212,23 +205,6 @@ live-held h k live a b law lengths years i id held =
     ap (λ (n : ℕ). holds k n id) same ∙ at.3
 
 pub one-live-history : (c : Content) (h k : List Entry) → TellsLive c h → TellsLive c k → IsSameHistory h k
-one-live-history c h k s t = record { lengths = alike.0; years = alike.1; sets = sets; rows = same-rows h k years up also (have-texts h s.kept) (have-texts k t.kept) lines } where
-  up : Ascends below (years_of h)
-  up = years-ascend h s.kept.lawful
-
-  also : Ascends below (years_of k)
-  also = years-ascend k t.kept.lawful
-
-  years : years_of h ≡ years_of k
-  years = same-ascending below below-alone (years_of h) (years_of k) up also (both-orders c.years (years_of h) (years_of k) s.years_are t.years_are)
-
-  lines : lines_of h ≡ lines_of k
-  lines = same-ascending line_below line-alone (lines_of h) (lines_of k) (lines-ascend h up) (lines-ascend k also) (both-orders c.lines (lines_of h) (lines_of k) s.lines_are t.lines_are)
-
-  alike : (length h ≡ length k) × ((i : ℕ) → (entry_at h i).year ≡ (entry_at k i).year)
-  alike = same-years h k years
-
-  sets : (i : ℕ) (id : List ℕ) → holds h i id ≡ holds k i id
-  sets i id = both_ways (holds h i id) (holds k i id)
-      (live-held h k c.live s.live_are t.live_are t.kept.lawful alike.0 alike.1 i id)
-      (live-held k h c.live t.live_are s.live_are s.kept.lawful (sym alike.0) (λ j. sym (alike.1 j)) i id)
+one-live-history c h k s t = same-history c h k s.kept t.kept s.years_are t.years_are s.lines_are t.lines_are (λ n years i id. both_ways (holds h i id) (holds k i id)
+    (live-held h k c.live s.live_are t.live_are t.kept.lawful n years i id)
+    (live-held k h c.live t.live_are s.live_are s.kept.lawful (sym n) (λ j. sym (years j)) i id))

@@ -1,4 +1,4 @@
-use Rattle.std.proofs.Common.{map, rules, IsPermutation}
+use Rattle.std.proofs.Common.{rules}
 use Rattle.std.proofs.lemmas.List.Sorted.{All-permutation, IsPermutation-map, answers_always}
 use Rattle.lpis_records.specs.declared.known.KnownLine.{KnownLine}
 use Rattle.lpis_records.specs.private.Known.{HasText, line_in}

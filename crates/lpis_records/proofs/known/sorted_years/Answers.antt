@@ -1,4 +1,4 @@
-use Rattle.std.proofs.Common.{◌≤◌, ℕ, pos, map, IsPermutation}
+use Rattle.std.proofs.Common.{◌≤◌, ℕ, pos}
 use Rattle.std.proofs.lemmas.List.Sorted.{All-permutation, IsPermutation-map}
 use Rattle.lpis_records.specs.Tells.{last_of_years}
 use Rattle.lpis_records.proofs.known.sorted_years.Goals as goal
