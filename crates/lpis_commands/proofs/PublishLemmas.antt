@@ -3,6 +3,7 @@ use Rattle.std.proofs.Common.{◌≡◌, ◌∙◌, ◌≤◌, ◌<◌, ◌++◌
 use Rattle.std.specs.Prelude.{nat_le, IfOk, OnOk}
 use Rattle.std.specs.Io.KnownBytes.{Appends}
 use Rattle.std.specs.List.{flat_map, list_any}
+use Rattle.std.proofs.lemmas.Bool.{and_parts}
 use Rattle.std.proofs.lemmas.Bool.Decides.{leb_tells}
 use Rattle.std.proofs.lemmas.List.Concat.{flat_map-cons}
 use Rattle.lpis_covers.specs.Faults.{rows_of}
@@ -19,7 +20,6 @@ use Rattle.lpis_lineage.specs.Kinds.{kind}
 use Rattle.lpis_lineage.specs.Lawful.{IsAnswered}
 use Rattle.lpis_lineage.specs.Lineage.{is_of, last_live, last_year, names}
 use Rattle.lpis_lineage.specs.LineageTable.{lineage_table}
-use Rattle.lpis_lineage.proofs.IdentifierLemmas.{and-right}
 use Rattle.lpis_lineage.proofs.CleanLemmas.{follows-from-clean, mono}
 use Rattle.lpis_lineage.proofs.RowCountLemmas.{counted-ended}
 use Rattle.lpis_register.specs.declared.fault.PublishFault.TheVariants as publish
@@ -122,7 +122,7 @@ ends-of x a h k old new (Err failure) answer moves is written = tt
 -- ---- a release that was added
 continued-of : (live : List (List ℕ)) (rows : List Row) (id : List ℕ) → ((s : List ℕ) → list_any (names s) rows ≡ true → has_id live s ≡ true) → IsAnswered rows id → IsContinued live rows id
 continued-of live rows id named (inl ending) = inl (counted-ended rows id ending.0)
-continued-of live rows id named (inr heirs) = inr (heirs.1, λ s is. named s (mono (leads id s) (names s) rows (λ row. and-right (is_of id row) (names s row)) is))
+continued-of live rows id named (inr heirs) = inr (heirs.1, λ s is. named s (mono (leads id s) (names s) rows (λ row h. (and_parts (is_of id row) (names s row) h).1) is))
 
 pub published-of : (x : Publication) (r : Contents) (c : Cert) (rows : List Row) (h k : List Entry) → release_of x.checked.parcels x.checked.covers x.checked.classes ≡ Ok r → IsSoundMap r
     → x.checked.cert ≡ cert_text c → IsGood r c → rows_of lineage_table x.lineage ≡ Ok rows → IsAdded x.year r rows h k → IsPublished x h k

@@ -1,12 +1,11 @@
 -- Identifiers compare equal exactly where they are equal; places in a history with one more release.
 use Rattle.std.proofs.Common.{◌≡◌, ◌∙◌, ◌<◌, ◌≤◌, ◌+◌, refl, sym, ap, subst, arith, ℕ, zero, suc, List, [], ◌∷◌, ◌++◌, length, Bool, true, false}
-use Rattle.std.specs.Prelude.{◌&&◌, ◌||◌}
+use Rattle.std.specs.Prelude.{◌||◌}
 use Rattle.std.proofs.Common.{cond, take, get_or}
 use Rattle.std.proofs.lemmas.List.Folds.{list_any_more}
 use Rattle.std.specs.Ordering.{is_eq, nat_cmp}
 use Rattle.std.specs.Cmp.Lexicographic.{slice_cmp, texts_ties}
 use Rattle.std.specs.List.{list_any}
-use Rattle.std.proofs.lemmas.Bool.{and_parts}
 use Rattle.std.proofs.lemmas.Slice.Eq.{bytes_eq-Decides}
 use Rattle.lpis_lineage.specs.declared.row.Entry.{Entry}
 use Rattle.lpis_covers.specs.Ids.{has_id, same_id}
@@ -35,10 +34,6 @@ same-exact a b h = (bytes_eq-Decides a b).0 h
 -- an identifier is the same as itself
 pub same-refl : (a : List ℕ) → same_id a a ≡ true
 same-refl a = (bytes_eq-Decides a a).1 refl
-
--- tests
-pub and-right : (a b : Bool) → (a && b) ≡ true → b ≡ true
-and-right a b h = (and_parts a b h).1
 
 -- places
 pub entry-before : (h : List Entry) (e : Entry) (i : ℕ) → i < length h → entry_at (h ++ e ∷ []) i ≡ entry_at h i
