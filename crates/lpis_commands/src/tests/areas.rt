@@ -1,6 +1,8 @@
 //! The areas of polygons, and the faults of their texts.
 
-use super::{SQUARE, expect_area, expect_line, expect_wkt_fault, table_of};
+use super::square::{HOLED, SQUARE, TWO_SQUARES};
+use super::{expect_area, expect_line, expect_wkt_fault, table_of};
+use crate::area::run_area;
 use std::test::Fail;
 
 #[test]
@@ -22,16 +24,8 @@ fn polygons_have_their_areas(rt: HostRuntime) -> Result<(), Fail> {
             "POLYGON((0 0,1 0,1 1,0 1,0 0),(0 0,2 0,2 2,0 2,0 0))",
             "-3.00000",
         ),
-        // two squares that touch in a corner
-        (
-            "MULTIPOLYGON(((0 0,10 0,10 10,0 10,0 0)),((10 10,20 10,20 20,10 20,10 10)))",
-            "200.00000",
-        ),
-        // a hole that touches its shell in a corner
-        (
-            "POLYGON((0 0,10 0,10 10,0 10,0 0),(0 0,4 2,2 4,0 0))",
-            "94.00000",
-        ),
+        (TWO_SQUARES, "200.00000"),
+        (HOLED, "94.00000"),
     ] {
         expect_line(&rt, text, area)?;
     }
@@ -81,7 +75,7 @@ fn prefixes_of_a_square_are_refused(rt: HostRuntime) -> Result<(), Fail> {
         let prefix = SQUARE.get(..length).ok_or("a prefix")?;
         let table = table_of(&rt, prefix)?;
         let mut out = Vec::new(rt.alloc());
-        let status = crate::area::run_area(rt.alloc(), table.as_bytes(), &mut out)?;
+        let status = run_area(rt.alloc(), table.as_bytes(), &mut out)?;
         assert!(rt; status == 2, "{prefix}");
         assert!(rt; out.starts_with(b"refused 38 area row 1 wkt "), "{prefix}");
     }

@@ -1,9 +1,8 @@
 //! Readers and writers that fail in mid-stream.
 
-use super::checks::{CLASSES, COVERS, PARCELS, SQUARE_RING, WHOLE};
-use super::{SQUARE, table_of};
+use super::square::{EMPTY_CERT, SQUARE, SQUARE_CERT, SQUARE_REPORT, one_piece, tables_of};
+use super::table_of;
 use crate::area::run_area;
-use crate::check::run_check;
 use crate::failure::{Failure, Name, print_failure};
 use crate::printing::{PrintFault, print_area};
 use crate::reading::{ReadFault, read_all};
@@ -111,15 +110,14 @@ impl Write for Refusing {
 #[test]
 fn a_writer_that_wants_memory_is_told_apart(rt: HostRuntime) -> Result<(), Fail> {
     let alloc = rt.alloc();
-    let parcels = format!(in alloc; "{PARCELS}A,{SQUARE_RING}\n")?;
-    let covers = format!(in alloc; "{COVERS}C1,A,G,{SQUARE_RING}\n")?;
+    let square = one_piece(&rt, SQUARE)?;
     let release = read_release(
         alloc,
-        parcels.as_bytes(),
-        covers.as_bytes(),
-        CLASSES.as_bytes(),
+        square.parcels.as_bytes(),
+        square.covers.as_bytes(),
+        square.classes.as_bytes(),
     )?;
-    let cert = read_cert(alloc, WHOLE.as_bytes())?;
+    let cert = read_cert(alloc, SQUARE_CERT.as_bytes())?;
     let yes = check(alloc, &release, &cert, &Sweep)?;
     for (kind, fault) in [
         (ErrorKind::OutOfMemory, PrintFault::Memory),
@@ -211,41 +209,24 @@ fn failures_have_their_lines(rt: HostRuntime) -> Result<(), Fail> {
 
 #[test]
 fn a_writer_of_a_report_may_fail(rt: HostRuntime) -> Result<(), Fail> {
-    let alloc = rt.alloc();
-    let covers = format!(in alloc; "{COVERS}C1,A,G,{SQUARE_RING}\n")?;
-    let parcels = format!(in alloc; "{PARCELS}A,{SQUARE_RING}\n")?;
+    let square = one_piece(&rt, SQUARE)?;
+    let bare = tables_of(&rt, &[("A", SQUARE)], &[])?;
     // the report, and the refusals of tables, of texts and of certificates
-    for (covers, cert, length) in [
-        (covers.as_str(), WHOLE, 106),
-        (COVERS, WHOLE, 25),
-        (covers.as_str(), "", 23),
-        (covers.as_str(), "lpis-cert 1\npairs 0\nend\n", 20),
+    for (tables, cert, length) in [
+        (&square, SQUARE_CERT, SQUARE_REPORT.len()),
+        (&bare, SQUARE_CERT, 25),
+        (&square, "", 23),
+        (&square, EMPTY_CERT, 20),
     ] {
         for room in 0..length {
-            let out = &mut Full { room };
-            let answer = run_check(
-                alloc,
-                parcels.as_bytes(),
-                covers.as_bytes(),
-                CLASSES.as_bytes(),
-                cert.as_bytes(),
-                out,
-            );
+            let answer = tables.check(&rt, cert, None, &mut Full { room });
             assert!(rt;
                 answer == Err(Failure::Write(Name::Out)),
                 "after {room} bytes"
             );
         }
         let out = &mut Full { room: length };
-        let answer = run_check(
-            alloc,
-            parcels.as_bytes(),
-            covers.as_bytes(),
-            CLASSES.as_bytes(),
-            cert.as_bytes(),
-            out,
-        );
-        assert!(rt; answer.is_ok());
+        assert!(rt; tables.check(&rt, cert, None, out).is_ok());
     }
     Ok(())
 }

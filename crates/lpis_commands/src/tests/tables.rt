@@ -1,13 +1,11 @@
 //! Tables of polygons, and their faults.
 
 use super::expect_area;
+use super::square::SQUARE;
 use std::test::Fail;
-
-static ROW: &str = "\"POLYGON((0 0,10 0,10 10,0 10,0 0))\"\n";
 
 #[test]
 fn tables_have_their_answers(rt: HostRuntime) -> Result<(), Fail> {
-    let row = ROW;
     for (table, text, status) in [
         ("", "refused 31 area row 0\n", 2),
         ("wkt\n", "", 0),
@@ -32,7 +30,7 @@ fn tables_have_their_answers(rt: HostRuntime) -> Result<(), Fail> {
         ("\u{feff}WKT\n", "100.00000\n", 0),
         ("\u{feff}\u{feff}wkt\n", "refused 30 area row 0\n", 2),
     ] {
-        let table = format!(in rt.alloc(); "{before}{row}")?;
+        let table = format!(in rt.alloc(); "{before}\"{SQUARE}\"\n")?;
         expect_area(&rt, table.as_bytes(), text, status)?;
     }
     Ok(())

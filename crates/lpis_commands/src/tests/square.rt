@@ -1,0 +1,207 @@
+//! A square of ten metres and its halves: the tables of releases, their certificates and reports.
+
+use super::devices::Halting;
+use super::expect;
+use crate::check::run_check;
+use crate::cut::run_cut;
+use crate::failure::Failure;
+use std::io::Write;
+use std::test::Fail;
+
+pub static SQUARE: &str = "POLYGON((0 0,10 0,10 10,0 10,0 0))";
+
+pub static LEFT: &str = "POLYGON((0 0,5 0,5 10,0 10,0 0))";
+
+pub static RIGHT: &str = "POLYGON((5 0,10 0,10 10,5 10,5 0))";
+
+/// The right half with its left side a centimetre too far to the right.
+pub static RIGHT_MOVED: &str = "POLYGON((5.01 0,10 0,10 10,5.01 10,5.01 0))";
+
+/// A polygon that has a strip of the square, a metre wide.
+pub static OVERLAPPING: &str = "POLYGON((9 0,20 0,20 10,9 10,9 0))";
+
+/// The square and another one, which touch in a corner.
+pub static TWO_SQUARES: &str =
+    "MULTIPOLYGON(((0 0,10 0,10 10,0 10,0 0)),((10 10,20 10,20 20,10 20,10 10)))";
+
+/// The square with a hole that touches its shell in a corner.
+pub static HOLED: &str = "POLYGON((0 0,10 0,10 10,0 10,0 0),(0 0,4 2,2 4,0 0))";
+
+/// The square with a hole that is a square of two metres.
+pub static RIM: &str = "POLYGON((0 0,10 0,10 10,0 10,0 0),(4 4,6 4,6 6,4 6,4 4))";
+
+pub static POND: &str = "POLYGON((4 4,6 4,6 6,4 6,4 4))";
+
+pub static CLASSES: &str = "class,eligible\nG,1\nW,0\n";
+
+/// For a parcel A and its piece C1 that are the square.
+pub static SQUARE_CERT: &str = "lpis-cert 1
+piece C1 2 0
+t 0 0 1000 0 1000 1000
+t 0 0 1000 1000 0 1000
+parcel A 0
+pairs 1
+s 0 1 2
+end
+";
+
+/// For a parcel A that is the square and its pieces L and R, the halves. The parcel's flats are for
+/// the two corners of the halves that it lacks.
+pub static HALVES_CERT: &str = "lpis-cert 1
+piece L 2 0
+t 0 0 500 0 500 1000
+t 0 0 500 1000 0 1000
+piece R 2 0
+t 500 0 1000 0 1000 1000
+t 500 0 1000 1000 500 1000
+parcel A 2
+f 0 0 1000 0 500 0
+f 1000 1000 0 1000 500 1000
+pairs 2
+s 0 1 2
+s 2 3 2
+end
+";
+
+/// For no parcel and no piece.
+pub static EMPTY_CERT: &str = "lpis-cert 1\npairs 0\nend\n";
+
+/// Of the square as a parcel A of one piece.
+pub static SQUARE_REPORT: &str = "parcels 1 pieces 1
+parcel A area 100.00000 eligible 100.00000
+total area 100.00000 eligible 100.00000
+yes
+";
+
+/// Of the square as a parcel A of its halves, the second of which is not eligible.
+pub static HALVES_REPORT: &str = "parcels 1 pieces 2
+parcel A area 100.00000 eligible 50.00000
+total area 100.00000 eligible 50.00000
+yes
+";
+
+/// The tables of a release.
+#[derive(Drop)]
+pub struct Tables {
+    pub parcels: String,
+    pub covers: String,
+    pub classes: &'static str,
+}
+
+/// A table of rows, each of these words before a polygon.
+fn table_of(rt: &HostRuntime, header: &str, rows: &[(&str, &str)]) -> Result<String, Fail> {
+    let mut table = format!(in rt.alloc(); "{header}\n")?;
+    for (words, polygon) in rows {
+        table.push_str(format!(in rt.alloc(); "{words},\"{polygon}\"\n")?.as_str())?;
+    }
+    Ok(table)
+}
+
+/// The tables with these rows of parcels and of pieces, each its words and its polygon.
+pub fn tables_of(
+    rt: &HostRuntime,
+    parcels: &[(&str, &str)],
+    pieces: &[(&str, &str)],
+) -> Result<Tables, Fail> {
+    Ok(Tables {
+        parcels: table_of(rt, "parcel,wkt", parcels)?,
+        covers: table_of(rt, "piece,parcel,class,wkt", pieces)?,
+        classes: CLASSES,
+    })
+}
+
+/// A parcel A and its one piece C1, both with this polygon.
+pub fn one_piece(rt: &HostRuntime, polygon: &str) -> Result<Tables, Fail> {
+    tables_of(rt, &[("A", polygon)], &[("C1,A,G", polygon)])
+}
+
+/// The parcel A, which is the square, with its left half L and a piece R with this polygon.
+pub fn two_pieces(rt: &HostRuntime, right: &str) -> Result<Tables, Fail> {
+    tables_of(rt, &[("A", SQUARE)], &[("L,A,G", LEFT), ("R,A,W", right)])
+}
+
+/// A text in which the first of each pair is replaced by the second, once.
+pub fn edited(rt: &HostRuntime, text: &str, edits: &[(&str, &str)]) -> Result<String, Fail> {
+    let mut text = format!(in rt.alloc(); "{text}")?;
+    for (old, new) in edits {
+        text = with_edit(rt, text.as_str(), old, new)?;
+    }
+    Ok(text)
+}
+
+/// A text with its first `old` replaced.
+fn with_edit(rt: &HostRuntime, text: &str, old: &str, new: &str) -> Result<String, Fail> {
+    let (before, after) = text.split_once(old).ok_or("no such text")?;
+    Ok(format!(in rt.alloc(); "{before}{new}{after}")?)
+}
+
+/// After how many bytes the input at a place fails: where a failing one stands before it, at once.
+fn left(place: usize, failing: Option<(usize, usize)>) -> Option<usize> {
+    match failing {
+        Some((first, bytes)) if place == first => Some(bytes),
+        Some((first, _)) if place > first => Some(0),
+        _ => None,
+    }
+}
+
+impl Tables {
+    /// A reader of the table at this place, which may fail.
+    fn reader(&self, place: usize, failing: Option<(usize, usize)>) -> Halting<'_> {
+        let text = match place {
+            0 => self.parcels.as_str(),
+            1 => self.covers.as_str(),
+            _ => self.classes,
+        };
+        Halting::new(text, left(place, failing))
+    }
+
+    /// Checks them with a certificate. The input at this place fails after so many bytes, and those
+    /// behind it at once.
+    pub fn check<W: Write>(
+        &self,
+        rt: &HostRuntime,
+        cert: &str,
+        failing: Option<(usize, usize)>,
+        out: &mut W,
+    ) -> Result<u8, Failure> {
+        run_check(
+            rt.alloc(),
+            self.reader(0, failing),
+            self.reader(1, failing),
+            self.reader(2, failing),
+            Halting::new(cert, left(3, failing)),
+            out,
+        )
+    }
+
+    /// Cuts them. The input at this place fails after so many bytes, and those behind it at once.
+    pub fn cut<E: Write, W: Write>(
+        &self,
+        rt: &HostRuntime,
+        failing: Option<(usize, usize)>,
+        cert_out: &mut E,
+        out: &mut W,
+    ) -> Result<u8, Failure> {
+        run_cut(
+            rt.alloc(),
+            self.reader(0, failing),
+            self.reader(1, failing),
+            self.reader(2, failing),
+            cert_out,
+            out,
+        )
+    }
+
+    /// Fails unless `check` writes this text of them and a certificate and answers this status.
+    pub fn expect_check(
+        &self,
+        rt: &HostRuntime,
+        cert: &str,
+        text: &str,
+        status: u8,
+    ) -> Result<(), Fail> {
+        let mut out = Vec::new(rt.alloc());
+        let answer = self.check(rt, cert, None, &mut out)?;
+        expect(out.as_slice(), answer, text, status)
+    }
+}
