@@ -1,26 +1,16 @@
 -- The lines of blocks.
 use Rattle.std.proofs.Common.{◌≡◌, ℕ, suc, ◌+◌, ◌-◌, ◌<◌, Bool, true, false, List, [], ◌∷◌, ◌++◌, length, map, Some, None, Ok, refl, ap, ◌∙◌, arith}
+use Rattle.lpis_cert.proofs.Common.{AllByRecursion, Triangle, Stage, CertFault, Kind, One, written, Corners, Separator, TriangleLine, FlatLine, EndLine, spelling, CornersFit, SeparatorFits, values}
+use Rattle.lpis_cert.proofs.Common.{step, InPairs, Declared, LineFits, Placed, LineFault, ReadsLines, FaultFrom, corner_line, corner_numbers, all_corners, separator_of}
 use Rattle.std.proofs.lemmas.List.{map_push}
-use Rattle.std.specs.List.{AllByRecursion}
-use Rattle.lpis_points.specs.declared.triangle.Triangle.{Triangle}
-use Rattle.lpis_cert.specs.declared.kind.Stage.{Stage}
 use Rattle.lpis_cert.specs.declared.part.PairLine.{PairLine}
-use Rattle.lpis_cert.specs.declared.fault.CertCode.TheVariants as code
-use Rattle.lpis_cert.specs.declared.fault.CertFault.{CertFault}
-use Rattle.lpis_cert.specs.declared.kind.Kind.{Kind}
-use Rattle.lpis_cert.specs.declared.kind.Kind.TheVariants as kind
-use Rattle.lpis_cert.specs.declared.kind.Expected.TheVariants.{One}
-use Rattle.lpis_cert.specs.Versions.{written}
-use Rattle.lpis_cert.specs.CertText.{Corners, Separator, TriangleLine, FlatLine, EndLine, spelling}
-use Rattle.lpis_cert.specs.Fitting.{CornersFit, SeparatorFits}
 use Rattle.lpis_cert.specs.CertText.{PairLine as separator_line}
-use Rattle.lpis_cert.specs.Reading.{values, corners, separator}
-use Rattle.lpis_cert.specs.Faults.{step, InPairs, Declared}
-use Rattle.lpis_cert.specs.Fitting.{LineFits}
-use Rattle.lpis_cert.specs.private.Taken.{Placed, FailsWith, LineFault, ReadsLines, FaultFrom, corner_kind, corner_line, wanting}
-use Rattle.lpis_cert.specs.Contents.{corner_numbers, all_corners, separator_of}
+use Rattle.lpis_cert.specs.Reading.{corners, separator}
+use Rattle.lpis_cert.specs.private.Taken.{FailsWith, corner_kind, wanting}
 use Rattle.lpis_cert.proofs.LineLemmas.{read_again}
 use Rattle.lpis_cert.proofs.StepLemmas.{alone, taken, untaken, Wants, fault_here, Goes, after, fault_after, follows_both}
+use Rattle.lpis_cert.specs.declared.fault.CertCode.TheVariants as code
+use Rattle.lpis_cert.specs.declared.kind.Kind.TheVariants as kind
 
 pub corners_fit : (t : Triangle) → CornersFit (corner_numbers t)
 corners_fit t = record { x1 = t.a.x_in_range; y1 = t.a.y_in_range; x2 = t.b.x_in_range; y2 = t.b.y_in_range; x3 = t.c.x_in_range; y3 = t.c.y_in_range }

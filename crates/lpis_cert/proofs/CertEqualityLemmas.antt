@@ -1,19 +1,13 @@
 -- Certificates of one content are equal.
-use Rattle.std.proofs.Common.{◌≡◌, ℕ, ◌+◌, ◌≤◌, true, List, [], ◌∷◌, length, map, refl, ap, ap₂, subst}
-use Rattle.std.specs.Prelude.{sum_by}
+use Rattle.std.proofs.Common.{◌≡◌, ℕ, ◌+◌, ◌≤◌, true, List, [], ◌∷◌, length, map, refl, ap, ap₂, subst, sum_by}
+use Rattle.lpis_cert.proofs.Common.{Triangle, is_id, PiecePart, ParcelPart, Cert, most_triangles, most_flats, greatest_count, Corners, PieceBlock, ParcelBlock, Separator, Content, corner_numbers}
+use Rattle.lpis_cert.proofs.Common.{all_corners, piece_of, parcel_of, separator_of, content_of}
 use Rattle.std.proofs.Math.Bridge.{le_prop}
 use mathlib.Core.Bool.{Bool-set}
 use Rattle.lpis_points.specs.declared.point.Point.{Point}
-use Rattle.lpis_points.specs.declared.triangle.Triangle.{Triangle}
-use Rattle.lpis_points.proofs.PointLemmas.{point_eq}
-use Rattle.lpis_covers.specs.Ids.{is_id}
-use Rattle.lpis_cert.specs.declared.part.PiecePart.{PiecePart}
-use Rattle.lpis_cert.specs.declared.part.ParcelPart.{ParcelPart}
+use Rattle.lpis_points.proofs.Shared.{point_eq}
 use Rattle.lpis_cert.specs.declared.part.PairLine.{PairLine}
-use Rattle.lpis_cert.specs.declared.cert.Cert.{Cert}
-use Rattle.lpis_cert.specs.Limits.{most_triangles, most_flats, greatest_count, last_edge}
-use Rattle.lpis_cert.specs.CertText.{Corners, PieceBlock, ParcelBlock, Separator, Content}
-use Rattle.lpis_cert.specs.Contents.{corner_numbers, all_corners, piece_of, parcel_of, separator_of, content_of}
+use Rattle.lpis_cert.specs.Limits.{last_edge}
 
 same_three : {A B C : Type 0} {a a' : A} {b b' : B} {c c' : C} → a ≡ a' → b ≡ b' → c ≡ c' → ◌≡◌ {A = A × B × C} (a, b, c) (a', b', c')
 same_three {A} {B} {C} e f g = ap₂ (λ (x : A) (y : B × C). (x, y.0, y.1)) e (ap₂ (λ (y : B) (z : C). (y, z)) f g)

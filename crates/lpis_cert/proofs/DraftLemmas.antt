@@ -1,35 +1,22 @@
 -- A draft with one more block.
 use Rattle.std.proofs.Common.{◌≡◌, ℕ, ◌+◌, ◌<◌, ◌≤◌, Bool, true, false, ◌&&◌, List, [], ◌∷◌, ◌++◌, length, map, Err, refl, sym, ap, subst, ◌∙◌, arith, append_assoc, length-append, ◌⊎◌, inl, inr, eqb}
 use Rattle.std.proofs.Common.{nat_le}
-use Rattle.std.proofs.lemmas.Bool.Decides.{nat_tests}
+use Rattle.lpis_cert.proofs.Common.{nat_tests, join_with_byte-slice_split, join_with_byte, AllByRecursion, Stage, CertFault, One, Block, most_triangles, most_flats, greatest_count, Corners, Separator}
+use Rattle.lpis_cert.proofs.Common.{PieceBlock, ParcelBlock, Line, PieceLine, TriangleLine, FlatLine, ParcelLine, PairsLine, PairLine, EndLine, spelling, text_of_lines, piece_lines, parcel_lines}
+use Rattle.lpis_cert.proofs.Common.{end_lines, lines_of, CornersFit, SeparatorFits, LineFits, is_lf, lines, outcome, at_last, step, Place, InBody, InPairs, AtEnd, Declared, grow, grow_flats}
+use Rattle.lpis_cert.proofs.Common.{ReadsLines, FaultFrom, LineFault, Triangle, PiecePart, ParcelPart, Cert, all_corners, piece_of, parcel_of, separator_of, content_of, pieces_lines, parcels_lines}
 use Rattle.std.proofs.lemmas.Grind.{flat_map-append}
 use Rattle.std.proofs.lemmas.List.{append-nil, nil_from_length, map_push}
-use Rattle.std.proofs.lemmas.List.Splits.{join_with_byte-slice_split}
-use Rattle.std.specs.List.{join_with_byte, AllByRecursion}
-use Rattle.lpis_cert.specs.declared.kind.Stage.{Stage}
-use Rattle.lpis_cert.specs.declared.kind.Stage.TheVariants as stage
-use Rattle.lpis_cert.specs.declared.fault.CertCode.TheVariants as code
-use Rattle.lpis_cert.specs.declared.fault.CertFault.{CertFault}
-use Rattle.lpis_cert.specs.declared.kind.Kind.TheVariants as kind
-use Rattle.lpis_cert.specs.declared.kind.Expected.TheVariants.{One, Block}
-use Rattle.lpis_cert.specs.Limits.{most_triangles, most_flats, greatest_count}
-use Rattle.lpis_cert.specs.CertText.{Corners, Separator, PieceBlock, ParcelBlock, Line, PieceLine, TriangleLine, FlatLine, ParcelLine, PairsLine, PairLine, EndLine, spelling, text_of_lines}
-use Rattle.lpis_cert.specs.CertText.{piece_lines, parcel_lines, end_lines, lines_of}
-use Rattle.lpis_cert.specs.Fitting.{CornersFit, SeparatorFits, LineFits}
-use Rattle.lpis_cert.specs.Faults.{is_lf, lines, outcome, at_last, step, Place, InBody, InPairs, AtEnd, Declared, grow, grow_flats}
-use Rattle.lpis_cert.specs.private.Taken.{ReadsLines, FaultFrom, LineFault}
-use Rattle.lpis_points.specs.declared.triangle.Triangle.{Triangle}
-use Rattle.lpis_cert.specs.declared.part.PiecePart.{PiecePart}
-use Rattle.lpis_cert.specs.declared.part.ParcelPart.{ParcelPart}
-use Rattle.lpis_cert.specs.declared.part.PairLine as part
-use Rattle.lpis_cert.specs.declared.cert.Cert.{Cert}
-use Rattle.lpis_cert.specs.Contents.{all_corners, piece_of, parcel_of, separator_of, content_of}
-use Rattle.lpis_cert.specs.private.Drafts.{blocks, pieces_lines, parcels_lines, Grown, Whole}
+use Rattle.lpis_cert.specs.private.Drafts.{blocks, Grown, Whole}
 use Rattle.lpis_cert.proofs.SplittingLemmas.{split_some}
 use Rattle.lpis_cert.proofs.WordLemmas.{lines_from}
 use Rattle.lpis_cert.proofs.LineLemmas.{read_again}
 use Rattle.lpis_cert.proofs.StepLemmas.{Goes, step_err, after, fault_here, fault_after, follows_both}
 use Rattle.lpis_cert.proofs.BlockLemmas.{corners_go, pairs_go}
+use Rattle.lpis_cert.specs.declared.kind.Stage.TheVariants as stage
+use Rattle.lpis_cert.specs.declared.fault.CertCode.TheVariants as code
+use Rattle.lpis_cert.specs.declared.kind.Kind.TheVariants as kind
+use Rattle.lpis_cert.specs.declared.part.PairLine as part
 
 pub goes_on : (p q r : Place) (xs ys : List Line) → Goes p xs q → Goes q ys r → Goes p (xs ++ ys) r
 goes_on p q r [] ys f g = subst (λ (x : Place). Goes x ys r) (sym f) g

@@ -1,16 +1,12 @@
 -- Lines of corners, read in one pass.
 use Rattle.std.proofs.Common.{◌≡◌, ℕ, zero, suc, ◌+◌, ◌-◌, ◌*◌, ◌<◌, ◌≤◌, Bool, true, false, cond, ◌&&◌, List, [], ◌∷◌, ◌++◌, length, take, drop, get_or, Some, None, refl, sym, ap, ◌∙◌, arith, nat_le}
-use Rattle.std.proofs.Common.{append_assoc, length-append, drop-cons, add-one}
-use Rattle.std.proofs.lemmas.Bool.Decides.{nat_tests}
+use Rattle.std.proofs.Common.{append_assoc, length-append, drop-cons, add-one, decimal}
+use Rattle.lpis_cert.proofs.Common.{nat_tests, signed_decimal, number_margin, Corners, Line, spelling, words_of, text_of_lines, digits_on, number, ReadsLines, corner_line}
 use Rattle.std.proofs.lemmas.Fmt.{decimal_digit}
 use Rattle.std.proofs.lemmas.Str.{digit_value_digit}
 use Rattle.std.proofs.lemmas.List.{take_all, take-append-drop, take_more}
 use Rattle.std.specs.Char.{digit_value, is_ascii_digit}
-use Rattle.std.specs.Fmt.{decimal, signed_decimal}
-use Rattle.lpis_cert.specs.Limits.{number_margin}
-use Rattle.lpis_cert.specs.CertText.{Corners, Line, spelling, words_of, text_of_lines}
-use Rattle.lpis_cert.specs.Reading.{digits_on, number}
-use Rattle.lpis_cert.specs.private.Taken.{Begins, ReadsLines, corner_line}
+use Rattle.lpis_cert.specs.private.Taken.{Begins}
 use Rattle.lpis_cert.proofs.NumberLemmas.{not-zero, number_takes}
 use Rattle.lpis_cert.proofs.SplittingLemmas.{rest_is}
 

@@ -1,13 +1,8 @@
 -- The lines that begin blocks.
 use Rattle.std.proofs.Common.{◌≡◌, ℕ, true, List, Option, ◌⊎◌, inl, inr}
-use Rattle.lpis_cert.specs.declared.kind.Stage.{Stage}
-use Rattle.lpis_cert.specs.declared.kind.Kind.{Kind}
-use Rattle.lpis_cert.specs.declared.kind.Kind.TheVariants.{Piece, Triangle, Flat, Parcel, Pairs, Pair, End}
-use Rattle.lpis_cert.specs.declared.kind.Expected.TheVariants.{Block}
-use Rattle.lpis_cert.specs.Versions.{written}
-use Rattle.lpis_cert.specs.CertText.{Line}
-use Rattle.lpis_cert.specs.Reading.{values, can_stand, piece_line, parcel_line, pairs_line}
-use Rattle.lpis_cert.specs.private.Taken.{Placed}
+use Rattle.lpis_cert.proofs.Common.{Stage, Kind, Piece, Flat, Parcel, Pairs, Pair, End, Block, written, Line, values, can_stand, Placed}
+use Rattle.lpis_cert.specs.declared.kind.Kind.TheVariants.{Triangle}
+use Rattle.lpis_cert.specs.Reading.{piece_line, parcel_line, pairs_line}
 use Rattle.lpis_cert.proofs.StepLemmas.{formed_stands}
 
 pub values_piece : (k : Kind) (ws : List (List ℕ)) (o : Option Line) → k ≡ Piece → piece_line ws ≡ o → values written k ws ≡ o

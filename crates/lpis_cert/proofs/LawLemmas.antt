@@ -1,37 +1,24 @@
 -- Laws of the text.
-use Rattle.std.proofs.Common.{◌≡◌, ℕ, ◌+◌, ◌<◌, Bool, true, false, cond, List, [], ◌∷◌, ◌++◌, length, map, Result, Ok, Err, refl, sym, ap, ap₂, ◌∙◌, arith, append_assoc, length-append, eqb}
-use Rattle.std.proofs.lemmas.Bool.Decides.{nat_tests}
-use Rattle.std.proofs.lemmas.List.Splits.{join_with_byte-slice_split}
-use Rattle.std.specs.List.{onto_first, join_with_byte, AllByRecursion}
-use Rattle.std.specs.Prelude.{sum_by, IfOk, IfErr, MatchResult}
-use Rattle.std.proofs.lemmas.List.{length-map}
-use Rattle.std.proofs.lemmas.List.Sums.{sum_by-cons}
-use Rattle.lpis_cert.specs.declared.kind.Stage.TheVariants as stage
-use Rattle.lpis_cert.specs.declared.part.PiecePart.{PiecePart}
-use Rattle.lpis_cert.specs.declared.part.ParcelPart.{ParcelPart}
-use Rattle.lpis_cert.specs.declared.cert.Cert.{Cert}
-use Rattle.lpis_cert.specs.declared.fault.CertFault.{CertFault}
+use Rattle.std.proofs.Common.{◌≡◌, ℕ, ◌+◌, ◌<◌, Bool, true, false, cond, List, [], ◌∷◌, ◌++◌, length, map, Result, Ok, Err, refl, sym, ap, ap₂, ◌∙◌, arith, append_assoc, length-append, eqb, sum_by}
+use Rattle.std.proofs.Common.{IfOk, IfErr, MatchResult}
+use Rattle.lpis_cert.proofs.Common.{nat_tests, join_with_byte-slice_split, onto_first, join_with_byte, AllByRecursion, length-map, sum_by-cons, PiecePart, ParcelPart, Cert, CertFault, corner_numbers}
+use Rattle.lpis_cert.proofs.Common.{piece_of, parcel_of, separator_of, content_of, PieceFits, ParcelFits, FaultFrom, CertCode, first_line, written, Corners, Separator, PieceBlock, ParcelBlock}
+use Rattle.lpis_cert.proofs.Common.{Content, Line, PieceLine, ParcelLine, TriangleLine, FlatLine, PairsLine, PairLine, EndLine, text_of, text_of_lines, spelling, lines_of, piece_lines, parcel_lines}
+use Rattle.lpis_cert.proofs.Common.{end_lines, LineFits, is_lf, lines, outcome, at_last, step, Place, AtVersion, InBody, InPairs, AtEnd, none_declared, verdict, pieces_lines, parcels_lines}
 use Rattle.lpis_cert.specs.declared.fault.CertFault.TheVariants.{Memory, At}
-use Rattle.lpis_cert.specs.Contents.{corner_numbers, piece_of, parcel_of, separator_of, content_of, cert_text}
+use Rattle.lpis_cert.specs.Contents.{cert_text}
 use Rattle.lpis_cert.proofs.CertEqualityLemmas.{cert_eq, same_content}
-use Rattle.lpis_cert.specs.private.Fits.{PieceFits, ParcelFits}
-use Rattle.lpis_cert.specs.private.Taken.{FaultFrom}
 use Rattle.lpis_cert.proofs.BlockLemmas.{all_corners_fit, separators_fit}
-use Rattle.lpis_cert.specs.declared.fault.CertCode.{CertCode}
-use Rattle.lpis_cert.specs.declared.fault.CertCode.TheVariants as code
-use Rattle.lpis_cert.specs.Versions.{first_line, written}
-use Rattle.lpis_cert.specs.CertText.{Corners, Separator, PieceBlock, ParcelBlock, Content, Line, PieceLine, ParcelLine, TriangleLine, FlatLine, PairsLine, PairLine, EndLine, text_of, text_of_lines}
-use Rattle.lpis_cert.specs.CertText.{spelling, lines_of, piece_lines, parcel_lines, end_lines}
-use Rattle.lpis_cert.specs.Fitting.{LineFits}
 use Rattle.lpis_cert.specs.private.Fits.{Fits}
 use Rattle.lpis_cert.specs.Reading.{◌>>=◌}
-use Rattle.lpis_cert.specs.Faults.{is_lf, lines, outcome, at_last, at_line, step, Place, AtVersion, InBody, InPairs, AtEnd, none_declared, verdict}
-use Rattle.lpis_cert.specs.private.Drafts.{pieces_lines, parcels_lines}
+use Rattle.lpis_cert.specs.Faults.{at_line}
 use Rattle.lpis_cert.proofs.SplittingLemmas.{split_some}
 use Rattle.lpis_cert.proofs.WordLemmas.{lines_from}
 use Rattle.lpis_cert.proofs.LineLemmas.{spelling_injective}
 use Rattle.lpis_cert.proofs.StepLemmas.{Goes}
 use Rattle.lpis_cert.proofs.ReadLemmas.{certificate_goes, accepted}
+use Rattle.lpis_cert.specs.declared.kind.Stage.TheVariants as stage
+use Rattle.lpis_cert.specs.declared.fault.CertCode.TheVariants as code
 
 -- ---- a prefix
 

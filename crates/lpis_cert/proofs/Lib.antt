@@ -1,3 +1,4 @@
+pub mod Common
 pub mod SplittingLemmas
 pub mod NumberLemmas
 pub mod WordLemmas
@@ -12,3 +13,4 @@ pub mod CertEqualityLemmas
 pub mod LawLemmas
 pub mod ReadbackLemmas
 pub mod WriteLemmas
+pub mod Shared

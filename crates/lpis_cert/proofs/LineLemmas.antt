@@ -1,27 +1,20 @@
 -- What a line says, and its spelling.
-use Rattle.std.specs.Str.{bytes_eq}
+use Rattle.std.proofs.Common.{bytes_eq, ◌≡◌, ℕ, ◌+◌, ◌≤◌, Bool, true, false, cond, ◌&&◌, List, [], ◌∷◌, length, Option, Some, None, Result, Ok, Err, refl, sym, ap, subst, ◌∙◌, arith, eqb, ℤ, codes}
+use Rattle.std.proofs.Common.{decimal}
+use Rattle.lpis_cert.proofs.Common.{and_parts, join_with_byte-slice_split, list_any, join_with_byte, AllByRecursion, signed_decimal, is_id, IsInRange, greatest_count, number_margin, written, Kind}
+use Rattle.lpis_cert.proofs.Common.{Piece, Flat, Parcel, Pairs, Pair, End, Corners, Separator, Line, PieceLine, TriangleLine, FlatLine, ParcelLine, PairsLine, PairLine, EndLine, words_of, spelling}
+use Rattle.lpis_cert.proofs.Common.{CornersFit, SeparatorFits, LineFits, is_empty, words, can_stand, number, values, read_line, line_kind}
 use Rattle.std.proofs.lemmas.Slice.Eq.{bytes_eq-Decides}
-use Rattle.std.proofs.Common.{◌≡◌, ℕ, ◌+◌, ◌≤◌, Bool, true, false, cond, ◌&&◌, List, [], ◌∷◌, length, Option, Some, None, Result, Ok, Err, refl, sym, ap, subst, ◌∙◌, arith, eqb, ℤ}
-use Rattle.std.proofs.lemmas.Bool.{and_parts}
-use Rattle.std.proofs.lemmas.List.Splits.{join_with_byte-slice_split}
-use Rattle.std.specs.Prelude.{codes}
-use Rattle.std.specs.List.{list_any, join_with_byte, AllByRecursion}
-use Rattle.std.specs.Fmt.{decimal, signed_decimal}
-use Rattle.lpis_covers.specs.Ids.{is_id}
-use Rattle.lpis_points.specs.Range.{IsInRange, limit}
-use Rattle.lpis_cert.specs.Limits.{greatest_count, last_edge, number_margin}
-use Rattle.lpis_cert.specs.Versions.{written}
-use Rattle.lpis_cert.specs.declared.fault.CertCode.TheVariants as code
-use Rattle.lpis_cert.specs.declared.kind.Kind.{Kind}
-use Rattle.lpis_cert.specs.declared.kind.Kind.TheVariants.{Piece, Triangle, Flat, Parcel, Pairs, Pair, End}
+use Rattle.lpis_points.specs.Range.{limit}
+use Rattle.lpis_cert.specs.Limits.{last_edge}
+use Rattle.lpis_cert.specs.declared.kind.Kind.TheVariants.{Triangle}
 use Rattle.lpis_cert.specs.declared.kind.Expected.{Expected}
-use Rattle.lpis_cert.specs.CertText.{Corners, Separator, Line, PieceLine, TriangleLine, FlatLine, ParcelLine, PairsLine, PairLine, EndLine, words_of, corner_words, spelling}
-use Rattle.lpis_cert.specs.Fitting.{CornersFit, SeparatorFits, LineFits}
-use Rattle.lpis_cert.specs.Reading.{◌>>=◌, ◌>>?◌, is_empty, words, kind_of, word_count, first_is_id, names, form, can_stand, front, last, natural, number, coordinate, point, corners, separator}
-use Rattle.lpis_cert.specs.Reading.{piece_line, parcel_line, pairs_line, values, with_form, or_number, placed, read_line}
-use Rattle.lpis_cert.specs.LineKinds.{line_kind}
+use Rattle.lpis_cert.specs.CertText.{corner_words}
+use Rattle.lpis_cert.specs.Reading.{◌>>=◌, ◌>>?◌, kind_of, word_count, first_is_id, names, form, front, last, natural, coordinate, point, corners, separator, piece_line, parcel_line, pairs_line}
+use Rattle.lpis_cert.specs.Reading.{with_form, or_number, placed}
 use Rattle.lpis_cert.proofs.NumberLemmas.{opened, number_again, number_takes, coordinate_again, coordinate_takes}
 use Rattle.lpis_cert.proofs.WordLemmas.{IsWordText, none_empty, kind_word, fields, words_are, field_words, spelling_words}
+use Rattle.lpis_cert.specs.declared.fault.CertCode.TheVariants as code
 
 -- ---- what is written is read
 

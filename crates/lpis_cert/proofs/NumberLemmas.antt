@@ -1,19 +1,16 @@
 -- A number has one spelling.
 use Rattle.std.proofs.Common.{◌≡◌, ℕ, zero, suc, ◌+◌, ◌*◌, ◌<◌, ◌≤◌, Bool, true, false, cond, ◌&&◌, List, [], ◌∷◌, length, get_or, Option, Some, None, refl, sym, ap, ◌∙◌, arith, nat_le, nat_lt, eqb}
-use Rattle.std.proofs.Common.{ℤ, pos, negsuc, neg_ℤ}
-use Rattle.std.proofs.lemmas.Bool.Decides.{nat_tests}
-use Rattle.std.proofs.lemmas.Bool.{eqb-true, and_parts}
+use Rattle.std.proofs.Common.{ℤ, pos, negsuc, neg_ℤ, decimal}
+use Rattle.lpis_cert.proofs.Common.{nat_tests, and_parts, signed_decimal, IsInRange, number_margin, written, digits_on, number}
+use Rattle.std.proofs.lemmas.Bool.{eqb-true}
 use Rattle.std.proofs.lemmas.Int.{ints}
 use Rattle.std.proofs.lemmas.Fmt.{decimal_digit, decimal_is_IsNumeral, first_decimal, decimal-digits_value}
 use Rattle.std.proofs.lemmas.Str.Parse.{IsNumeralModel, numerals_by_value, tells_digits, digit_from_value}
-use Rattle.std.specs.Fmt.{decimal, signed_decimal}
 use Rattle.std.specs.Char.{digit_value, is_ascii_digit}
 use Rattle.std.specs.Str.Parse.{digits_value, digits_value_after, AllDigits}
-use Rattle.lpis_points.specs.Range.{IsInRange}
 use Rattle.lpis_cert.specs.declared.version.Version.{Version}
-use Rattle.lpis_cert.specs.Limits.{number_margin}
-use Rattle.lpis_cert.specs.Versions.{greatest, factor, written}
-use Rattle.lpis_cert.specs.Reading.{digits_on, number, coordinate, minus, plus}
+use Rattle.lpis_cert.specs.Versions.{greatest, factor}
+use Rattle.lpis_cert.specs.Reading.{coordinate, minus, plus}
 
 pub opened : {A : Type 0} (b : Bool) (x : Option A) (y : A) → cond b x None ≡ Some y → (b ≡ true) × (x ≡ Some y)
 opened true x y h = (refl, h)

@@ -1,24 +1,18 @@
 -- The first line, and the whole text.
-use Rattle.std.specs.Str.{bytes_eq}
-use Rattle.std.proofs.Common.{◌≡◌, ℕ, ◌+◌, ◌≤◌, true, false, List, [], ◌∷◌, ◌++◌, length, map, Ok, Err, refl, sym, ap, ◌∙◌, arith}
-use Rattle.std.specs.Prelude.{sum_by}
+use Rattle.std.proofs.Common.{bytes_eq, ◌≡◌, ℕ, ◌+◌, ◌≤◌, true, false, List, [], ◌∷◌, ◌++◌, length, map, Ok, Err, refl, sym, ap, ◌∙◌, arith, sum_by}
+use Rattle.lpis_cert.proofs.Common.{sum_by-cons, AllByRecursion, Stage, first_line, written, most_triangles, most_flats, PieceBlock, ParcelBlock, Content, Line, PieceLine, ParcelLine, TriangleLine}
+use Rattle.lpis_cert.proofs.Common.{FlatLine, text_of, text_of_lines, lines_of, piece_lines, parcel_lines, end_lines, PieceFits, ParcelFits, lines, outcome, at_last, step, Place, AtVersion, InBody}
+use Rattle.lpis_cert.proofs.Common.{AtEnd, Declared, none_declared, grow, grow_flats, verdict, ReadsLines, pieces_lines, parcels_lines}
 use Rattle.std.proofs.lemmas.List.{append-nil}
-use Rattle.std.proofs.lemmas.List.Sums.{sum_by-cons}
-use Rattle.std.specs.List.{AllByRecursion}
-use Rattle.lpis_cert.specs.declared.kind.Stage.{Stage}
-use Rattle.lpis_cert.specs.declared.kind.Stage.TheVariants as stage
-use Rattle.lpis_cert.specs.declared.fault.CertCode.TheVariants as code
-use Rattle.lpis_cert.specs.Versions.{first_line, written}
-use Rattle.lpis_cert.specs.Limits.{most_triangles, most_flats}
-use Rattle.lpis_cert.specs.CertText.{PieceBlock, ParcelBlock, Content, Line, PieceLine, ParcelLine, TriangleLine, FlatLine, text_of, text_of_lines, lines_of, piece_lines, parcel_lines, end_lines}
-use Rattle.lpis_cert.specs.private.Fits.{PieceFits, ParcelFits, Fits}
-use Rattle.lpis_cert.specs.Faults.{lines, outcome, at_last, step, Place, AtVersion, InBody, AtEnd, Declared, none_declared, grow, grow_flats, verdict}
-use Rattle.lpis_cert.specs.private.Taken.{TakesLine, ReadsLines}
-use Rattle.lpis_cert.specs.private.Drafts.{Grown, Whole, pieces_lines, parcels_lines}
+use Rattle.lpis_cert.specs.private.Fits.{Fits}
+use Rattle.lpis_cert.specs.private.Taken.{TakesLine}
+use Rattle.lpis_cert.specs.private.Drafts.{Grown, Whole}
 use Rattle.lpis_cert.proofs.LineLemmas.{word_is}
 use Rattle.lpis_cert.proofs.StepLemmas.{step_ok, step_err, follows_both, Goes, over}
 use Rattle.lpis_cert.proofs.BlockLemmas.{corners_go}
 use Rattle.lpis_cert.proofs.DraftLemmas.{goes_on, piece_open, parcel_open, pairs_goes}
+use Rattle.lpis_cert.specs.declared.kind.Stage.TheVariants as stage
+use Rattle.lpis_cert.specs.declared.fault.CertCode.TheVariants as code
 
 pub no_line : (n : ℕ) (text : List ℕ) → lines text ≡ text ∷ [] → outcome n AtVersion (lines text) ≡ Err (code.Truncated, n)
 unfolding outcome at_last

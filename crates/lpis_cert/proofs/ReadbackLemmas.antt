@@ -1,37 +1,22 @@
 -- A text without a fault is that of a certificate.
-use Rattle.std.specs.Str.{bytes_eq}
-use Rattle.std.specs.Prelude.{sum_by}
-use Rattle.std.specs.List.{AllByRecursion, join_with_byte, flat_map}
-use Rattle.std.proofs.Common.{◌≡◌, ℕ, zero, suc, ◌+◌, ◌<◌, ◌≤◌, Bool, true, false, cond, ◌&&◌, List, [], ◌∷◌, ◌++◌, length, map, Result, Ok, Err, refl, sym, ap, ap₂, subst, ◌∙◌, arith, append_assoc}
-use Rattle.std.proofs.Common.{eqb, nat_le}
-use Rattle.std.proofs.lemmas.Bool.Decides.{nat_tests}
-use Rattle.std.proofs.lemmas.List.{nil_from_length, length-map}
-use Rattle.std.proofs.lemmas.List.Sums.{sum_by-cons}
-use Rattle.std.proofs.lemmas.List.Splits.{join_with_byte-slice_split}
-use Rattle.lpis_points.specs.declared.triangle.Triangle.{Triangle}
-use Rattle.lpis_covers.specs.Ids.{is_id}
-use Rattle.lpis_cert.specs.declared.kind.Stage.{Stage}
-use Rattle.lpis_cert.specs.declared.kind.Stage.TheVariants as stage
-use Rattle.lpis_cert.specs.declared.kind.Kind.TheVariants as kind
-use Rattle.lpis_cert.specs.declared.kind.Expected.TheVariants.{One, Block}
-use Rattle.lpis_cert.specs.declared.fault.CertCode.{CertCode}
-use Rattle.lpis_cert.specs.declared.fault.CertCode.TheVariants as code
-use Rattle.lpis_cert.specs.declared.part.PiecePart.{PiecePart}
-use Rattle.lpis_cert.specs.declared.part.ParcelPart.{ParcelPart}
-use Rattle.lpis_cert.specs.declared.part.PairLine as part
-use Rattle.lpis_cert.specs.declared.cert.Cert.{Cert}
-use Rattle.lpis_cert.specs.Limits.{most_triangles, most_flats, greatest_count}
-use Rattle.lpis_cert.specs.Versions.{first_line, written}
-use Rattle.lpis_cert.specs.CertText.{Corners, Separator, PieceBlock, ParcelBlock, Content, Line, PieceLine, TriangleLine, FlatLine, ParcelLine, PairsLine, PairLine, EndLine, spelling, text_of_lines}
-use Rattle.lpis_cert.specs.CertText.{piece_lines, parcel_lines, end_lines, lines_of, text_of}
-use Rattle.lpis_cert.specs.Contents.{corner_numbers, all_corners, piece_of, parcel_of, separator_of, content_of, cert_text}
-use Rattle.lpis_cert.specs.Fitting.{CornersFit, SeparatorFits}
-use Rattle.lpis_cert.specs.private.Fits.{PieceFits, ParcelFits, Fits}
-use Rattle.lpis_cert.specs.Reading.{read_line}
-use Rattle.lpis_cert.specs.Faults.{lines, outcome, at_last, at_line, step, open_block, within, Place, AtVersion, InBody, InPairs, AtEnd, Declared, none_declared, grow, grow_flats, verdict}
+use Rattle.std.proofs.Common.{bytes_eq, sum_by, flat_map, ◌≡◌, ℕ, zero, suc, ◌+◌, ◌<◌, ◌≤◌, Bool, true, false, cond, ◌&&◌, List, [], ◌∷◌, ◌++◌, length, map, Result, Ok, Err, refl, sym, ap, ap₂, subst}
+use Rattle.std.proofs.Common.{◌∙◌, arith, append_assoc, eqb, nat_le}
+use Rattle.lpis_cert.proofs.Common.{AllByRecursion, join_with_byte, nat_tests, length-map, sum_by-cons, join_with_byte-slice_split, Triangle, is_id, Stage, One, Block, CertCode, PiecePart, ParcelPart}
+use Rattle.lpis_cert.proofs.Common.{Cert, most_triangles, most_flats, greatest_count, first_line, written, Corners, Separator, PieceBlock, ParcelBlock, Content, Line, PieceLine, TriangleLine}
+use Rattle.lpis_cert.proofs.Common.{FlatLine, ParcelLine, PairsLine, PairLine, EndLine, spelling, text_of_lines, piece_lines, parcel_lines, end_lines, lines_of, text_of, corner_numbers, all_corners}
+use Rattle.lpis_cert.proofs.Common.{piece_of, parcel_of, separator_of, content_of, CornersFit, SeparatorFits, PieceFits, ParcelFits, read_line, lines, outcome, at_last, step, Place, AtVersion, InBody}
+use Rattle.lpis_cert.proofs.Common.{InPairs, AtEnd, Declared, none_declared, grow, grow_flats, verdict}
+use Rattle.std.proofs.lemmas.List.{nil_from_length}
+use Rattle.lpis_cert.specs.Contents.{cert_text}
+use Rattle.lpis_cert.specs.private.Fits.{Fits}
+use Rattle.lpis_cert.specs.Faults.{at_line, open_block, within}
 use Rattle.lpis_cert.proofs.LineLemmas.{ReadsAs, read_takes, bind_ok, word_is}
 use Rattle.lpis_cert.proofs.LawLemmas.{triangle_sum, flat_sum, parcel_flat_sum}
 use Rattle.lpis_cert.proofs.CertEqualityLemmas.{same_content}
+use Rattle.lpis_cert.specs.declared.kind.Stage.TheVariants as stage
+use Rattle.lpis_cert.specs.declared.kind.Kind.TheVariants as kind
+use Rattle.lpis_cert.specs.declared.fault.CertCode.TheVariants as code
+use Rattle.lpis_cert.specs.declared.part.PairLine as part
 
 -- ---- what a text may be from a place on
 

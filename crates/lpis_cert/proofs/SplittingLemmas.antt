@@ -1,13 +1,11 @@
 -- A list cut at the first element that passes a test.
 use Rattle.std.proofs.Common.{◌≡◌, ℕ, ◌+◌, ◌-◌, ◌<◌, ◌≤◌, Bool, true, false, cond, ◌||◌, List, [], ◌∷◌, ◌++◌, length, take, drop, get_or, Option, Some, None, refl, ap, ◌∙◌, arith, nat_lt, length-drop}
-use Rattle.std.proofs.Common.{drop-cons, add-one}
-use Rattle.std.proofs.lemmas.Bool.Decides.{nat_tests}
+use Rattle.std.proofs.Common.{drop-cons, add-one, position}
+use Rattle.lpis_cert.proofs.Common.{nat_tests, onto_first, list_any, is_gap, is_empty, words, is_lf}
 use Rattle.std.proofs.lemmas.List.{take_all, drop_all}
 use Rattle.std.proofs.lemmas.List.Sums.{split_at_first, fails_before_first, passes_at_first}
 use Rattle.std.proofs.lemmas.List.Splits.{slice_split_none, slice_split_first}
-use Rattle.std.specs.List.{slice_split, onto_first, position, position_or_len, list_any}
-use Rattle.lpis_cert.specs.Reading.{is_gap, is_empty, words}
-use Rattle.lpis_cert.specs.Faults.{is_lf}
+use Rattle.std.specs.List.{slice_split, position_or_len}
 use Rattle.lpis_cert.specs.private.Taken.{TakesLine}
 
 chosen-some : (k i : ℕ) (b : Bool) → cond b (Some k) None ≡ Some i → (b ≡ true) × (k ≡ i)

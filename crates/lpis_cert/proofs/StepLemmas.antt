@@ -1,24 +1,17 @@
 -- One line taken, and the lines after it.
 use Rattle.std.proofs.Common.{◌≡◌, ℕ, zero, suc, ◌+◌, Bool, true, false, cond, List, [], ◌∷◌, ◌++◌, length, Option, Some, None, Ok, Err, refl, sym, ap, subst, ◌∙◌, arith, append_assoc, length-append}
 use Rattle.std.proofs.Common.{inl, inr}
-use Rattle.lpis_cert.specs.declared.fault.CertCode.{CertCode}
-use Rattle.lpis_cert.specs.declared.fault.CertCode.TheVariants as code
-use Rattle.lpis_cert.specs.declared.fault.CertFault.{CertFault}
+use Rattle.lpis_cert.proofs.Common.{CertCode, CertFault, Kind, Piece, Flat, Parcel, Pairs, Pair, End, One, Block, written, Line, spelling, text_of_lines, can_stand, values, read_line, is_lf, lines}
+use Rattle.lpis_cert.proofs.Common.{outcome, at_last, step, Place, AtVersion, InBody, InPairs, AtEnd, LineFits, line_kind, Placed, LineFault, ReadsLines, FaultFrom}
 use Rattle.lpis_cert.specs.declared.fault.CertFault.TheVariants.{Memory, At}
-use Rattle.lpis_cert.specs.declared.kind.Kind.{Kind}
-use Rattle.lpis_cert.specs.declared.kind.Kind.TheVariants.{Piece, Triangle, Flat, Parcel, Pairs, Pair, End}
+use Rattle.lpis_cert.specs.declared.kind.Kind.TheVariants.{Triangle}
 use Rattle.lpis_cert.specs.declared.kind.Expected.{Expected}
-use Rattle.lpis_cert.specs.declared.kind.Expected.TheVariants.{One, Block}
-use Rattle.lpis_cert.specs.Versions.{written}
-use Rattle.lpis_cert.specs.CertText.{Line, spelling, text_of_lines}
-use Rattle.lpis_cert.specs.Reading.{with_form, same_kind, can_stand, values, placed, read_line}
-use Rattle.lpis_cert.specs.Faults.{is_lf, lines, outcome, at_last, step, Place, AtVersion, InBody, InPairs, AtEnd}
-use Rattle.lpis_cert.specs.Fitting.{LineFits}
-use Rattle.lpis_cert.specs.LineKinds.{line_kind}
-use Rattle.lpis_cert.specs.private.Taken.{Placed, FailsWith, LineFault, ReadsLines, FaultFrom}
+use Rattle.lpis_cert.specs.Reading.{with_form, same_kind, placed}
+use Rattle.lpis_cert.specs.private.Taken.{FailsWith}
 use Rattle.lpis_cert.proofs.SplittingLemmas.{split_some}
 use Rattle.lpis_cert.proofs.WordLemmas.{lines_from}
 use Rattle.lpis_cert.proofs.LineLemmas.{placed_takes}
+use Rattle.lpis_cert.specs.declared.fault.CertCode.TheVariants as code
 
 same_kind_is : (a b : Kind) → same_kind a b ≡ true → a ≡ b
 same_kind_is Piece Piece h = refl

@@ -1,25 +1,18 @@
 -- The words of a line.
-use Rattle.std.proofs.Common.{◌≡◌, ℕ, suc, ◌<◌, ◌≤◌, Bool, true, false, not, ◌&&◌, List, [], ◌∷◌, ◌++◌, length, refl, ap, ◌∙◌, arith, ℤ, pos, negsuc, neg_ℤ, ◌≤ℤ◌}
-use Rattle.std.proofs.lemmas.Bool.{and_parts}
-use Rattle.std.proofs.lemmas.Bool.Decides.{nat_tests}
+use Rattle.std.proofs.Common.{◌≡◌, ℕ, suc, ◌<◌, ◌≤◌, Bool, true, false, not, ◌&&◌, List, [], ◌∷◌, ◌++◌, length, refl, ap, ◌∙◌, arith, ℤ, pos, negsuc, neg_ℤ, ◌≤ℤ◌, codes, nat_le, decimal}
+use Rattle.lpis_cert.proofs.Common.{and_parts, nat_tests, onto_first, list_any, join_with_byte, AllByRecursion, signed_decimal, is_id, IsInRange, greatest_count, number_margin, Kind, Piece, Flat}
+use Rattle.lpis_cert.proofs.Common.{Parcel, Pairs, Pair, End, Corners, Line, PieceLine, TriangleLine, FlatLine, ParcelLine, PairsLine, PairLine, EndLine, words_of, spelling, CornersFit, LineFits}
+use Rattle.lpis_cert.proofs.Common.{is_gap, is_empty, words, is_lf, lines, line_kind}
 use Rattle.std.proofs.lemmas.Int.{ints}
 use Rattle.std.proofs.lemmas.Fmt.{decimal_is_IsNumeral}
 use Rattle.std.proofs.lemmas.Str.Parse.{digit_from_value}
-use Rattle.std.specs.Prelude.{codes, nat_le}
-use Rattle.std.specs.List.{slice_split, onto_first, list_all, list_any, join_with_byte, AllByRecursion}
-use Rattle.std.specs.Fmt.{decimal, signed_decimal}
+use Rattle.std.specs.List.{slice_split, list_all}
 use Rattle.std.specs.Int.{IsInRange as IsBetween}
 use Rattle.std.specs.Str.Parse.{AllDigits}
-use Rattle.lpis_covers.specs.Ids.{is_id, is_id_byte}
-use Rattle.lpis_points.specs.Range.{IsInRange, limit}
-use Rattle.lpis_cert.specs.Limits.{greatest_count, number_margin}
-use Rattle.lpis_cert.specs.declared.kind.Kind.{Kind}
-use Rattle.lpis_cert.specs.declared.kind.Kind.TheVariants.{Piece, Triangle, Flat, Parcel, Pairs, Pair, End}
-use Rattle.lpis_cert.specs.CertText.{Corners, Line, PieceLine, TriangleLine, FlatLine, ParcelLine, PairsLine, PairLine, EndLine, words_of, corner_words, spelling}
-use Rattle.lpis_cert.specs.Fitting.{CornersFit, LineFits}
-use Rattle.lpis_cert.specs.Reading.{is_gap, is_empty, words}
-use Rattle.lpis_cert.specs.Faults.{is_lf, lines}
-use Rattle.lpis_cert.specs.LineKinds.{line_kind}
+use Rattle.lpis_covers.specs.Ids.{is_id_byte}
+use Rattle.lpis_points.specs.Range.{limit}
+use Rattle.lpis_cert.specs.declared.kind.Kind.TheVariants.{Triangle}
+use Rattle.lpis_cert.specs.CertText.{corner_words}
 
 -- ---- bytes of words
 

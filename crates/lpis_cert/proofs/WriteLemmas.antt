@@ -1,15 +1,9 @@
 -- What is written is the text.
-use Rattle.std.proofs.Common.{◌≡◌, ℕ, List, [], ◌∷◌, ◌++◌, length, map, refl, sym, ap, ap₂, ◌∙◌}
-use Rattle.std.proofs.lemmas.List.{length-map}
+use Rattle.std.proofs.Common.{◌≡◌, ℕ, List, [], ◌∷◌, ◌++◌, length, map, refl, sym, ap, ap₂, ◌∙◌, flat_map}
+use Rattle.lpis_cert.proofs.Common.{length-map, PiecePart, ParcelPart, Cert, first_line, written, Line, PieceLine, ParcelLine, PairsLine, TriangleLine, FlatLine, EndLine, text_of, text_of_lines}
+use Rattle.lpis_cert.proofs.Common.{lines_of, piece_lines, parcel_lines, end_lines, corner_numbers, all_corners, piece_of, parcel_of, separator_of, content_of}
 use Rattle.std.proofs.lemmas.List.Concat.{flat_map-cons}
-use Rattle.std.specs.List.{flat_map}
-use Rattle.lpis_cert.specs.declared.part.PiecePart.{PiecePart}
-use Rattle.lpis_cert.specs.declared.part.ParcelPart.{ParcelPart}
-use Rattle.lpis_cert.specs.declared.cert.Cert.{Cert}
-use Rattle.lpis_cert.specs.Versions.{first_line, written}
-use Rattle.lpis_cert.specs.CertText.{Line, PieceLine, ParcelLine, PairsLine, TriangleLine, FlatLine, EndLine, text_of, text_of_lines, lines_of, piece_lines, parcel_lines, end_lines}
 use Rattle.lpis_cert.specs.CertText.{PairLine as separator_line}
-use Rattle.lpis_cert.specs.Contents.{corner_numbers, all_corners, piece_of, parcel_of, separator_of, content_of}
 use Rattle.lpis_cert.specs.private.Written.{line_text, piece_text, parcel_text, pairs_text, version_text, parts_text}
 use Rattle.lpis_cert.proofs.StepLemmas.{text-append}
 

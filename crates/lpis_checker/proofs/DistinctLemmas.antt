@@ -1,13 +1,11 @@
 -- Parcels of one identifier are one.
-use Rattle.std.proofs.Common.{◌≡◌, ◌≢◌, ℕ, ◌<◌, List, [], Some, ◌⊎◌, inl, inr, ap, sym, ◌∙◌, arith}
-use Rattle.std.specs.List.{slice_get, IsDistinct, AllPairs}
-use Rattle.std.specs.Option.{option_map}
-use Rattle.std.proofs.lemmas.Bool.{cases_eq, cases_lt}
-use Rattle.std.proofs.lemmas.Option.{slice_get-map, slice_get_within, get_or_from_slice_get}
+use Rattle.std.proofs.Common.{◌≡◌, ◌≢◌, ℕ, ◌<◌, List, [], Some, ◌⊎◌, inl, inr, ap, sym, ◌∙◌, arith, slice_get, AllPairs, option_map}
+use Rattle.lpis_checker.proofs.Common.{cases_eq, cases_lt, slice_get_within, get_or_from_slice_get, Parcel}
+use Rattle.std.specs.List.{IsDistinct}
+use Rattle.std.proofs.lemmas.Option.{slice_get-map}
 use Rattle.std.proofs.lemmas.Map.Made.{AllPairs-from_IsDistinct}
 use Rattle.std.proofs.lemmas.Slice.Eq.{bytes_eq-Decides}
 use Rattle.lpis_covers.specs.Ids.{same_id}
-use Rattle.lpis_parcels.specs.declared.parcel.Parcel.{Parcel}
 use Rattle.lpis_parcels.specs.Release.{parcel_ids}
 
 id_at : (xs : List Parcel) (i : ℕ) (a : Parcel) → slice_get xs i ≡ Some a → slice_get (parcel_ids xs) i ≡ Some a.id

@@ -1,17 +1,11 @@
 -- Sorted edges are grouped.
-use Rattle.std.proofs.Common.{◌≡◌, ℕ, ◌<◌, ◌≤◌, true, false, List, Some, ap₂, sym, ◌∙◌, arith}
-use Rattle.std.specs.declared.cmp.Ordering.{Ordering}
-use Rattle.std.specs.Ordering.{is_lt, ordering_then, bool_cmp}
-use Rattle.std.specs.Cmp.{IsTotalOrder}
+use Rattle.std.proofs.Common.{◌≡◌, ℕ, ◌<◌, ◌≤◌, true, false, List, Some, ap₂, sym, ◌∙◌, arith, Ordering, is_lt, slice_get, IsSorted}
+use Rattle.lpis_checker.proofs.Common.{slice_get_within, get_or_from_slice_get, Point, SignedEdge, IsGrouped, point_order}
+use Rattle.std.specs.Ordering.{ordering_then, bool_cmp}
+use Rattle.std.specs.Cmp.{IsTotalOrder, bool_cmp_total}
 use Rattle.std.proofs.lemmas.Cmp.{on_total, then_total}
-use Rattle.std.specs.Cmp.{bool_cmp_total}
-use Rattle.std.specs.List.{slice_get}
-use Rattle.std.specs.List.Sorted.{IsSorted}
 use Rattle.std.proofs.lemmas.List.Sorted.{sorted_far, ranks_by}
-use Rattle.std.proofs.lemmas.Option.{slice_get_within, get_or_from_slice_get}
-use Rattle.lpis_points.specs.declared.point.Point.{Point}
-use Rattle.lpis_checker.specs.declared.signed.SignedEdge.{SignedEdge}
-use Rattle.lpis_checker.specs.private.SignedEdges.{same_ends, IsGrouped, point_order}
+use Rattle.lpis_checker.specs.private.SignedEdges.{same_ends}
 use Rattle.lpis_checker.proofs.PointOrderLemmas.{both_same, point_total, point_tie}
 
 abbrev pub edge_order : SignedEdge → SignedEdge → Ordering

@@ -1,3 +1,4 @@
+pub mod Common
 pub mod SiteLemmas
 pub mod RunLemmas
 pub mod PointOrderLemmas
@@ -10,3 +11,4 @@ pub mod PairLineLemmas
 pub mod LowestLemmas
 pub mod OffLinesLemmas
 pub mod PointSetLemmas
+pub mod Shared

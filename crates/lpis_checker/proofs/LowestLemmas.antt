@@ -1,12 +1,9 @@
 -- The conditions by their codes.
 use Rattle.std.proofs.Common.{◌<◌, arith}
-use Rattle.lpis_parcels.specs.Release.{Contents}
-use Rattle.lpis_cert.specs.declared.cert.Cert.{Cert}
-use Rattle.lpis_checker.specs.declared.condition.Condition.{Condition}
-use Rattle.lpis_checker.specs.declared.condition.Condition.TheVariants.{Names, Triangles, Turned, Flats, Corners, PieceEdges, ParcelEdges, NearPairs, NotApart, Separating}
+use Rattle.lpis_checker.proofs.Common.{Contents, Cert, Condition, Names, Triangles, Turned, Flats, Corners, PieceEdges, ParcelEdges, NearPairs, Separating, HoldBelow}
+use Rattle.lpis_checker.specs.declared.condition.Condition.TheVariants.{NotApart}
 use Rattle.lpis_checker.specs.Codes.{code_of}
 use Rattle.lpis_checker.specs.GoodCertificate.{IsGood}
-use Rattle.lpis_checker.specs.FirstFault.{HoldBelow}
 
 below_70 : (q : Condition) → code_of q < 70
 below_70 Separating = omega arith

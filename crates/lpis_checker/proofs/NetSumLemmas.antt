@@ -1,15 +1,10 @@
 -- Sums over signed edges are net counts.
 use Rattle.std.proofs.Common.{◌≡◌, ◌≢◌, ℤ, pos, negsuc, ◌+ℤ◌, ◌-ℤ◌, neg_ℤ, Bool, true, false, not, ◌&&◌, cond, List, [], ◌∷◌, ◌++◌, Some, None, inl, inr, ap, ap₂, sym, refl, ◌∙◌, ◌↔◌, IsTrue, subst}
 use Rattle.std.proofs.Common.{arith}
-use Rattle.std.proofs.lemmas.Int.{ints}
-use Rattle.lpis_points.specs.declared.point.Point.{Point}
-use Rattle.lpis_points.specs.declared.triangle.Triangle.{Triangle}
-use Rattle.lpis_points.specs.Plane.{same_point}
+use Rattle.lpis_checker.proofs.Common.{ints, Point, Triangle, same_point, edges_of_triangles, SignedEdge, weight, sum_at}
 use Rattle.lpis_points.specs.Chain.{is_edge, net_count, SameNet}
-use Rattle.lpis_points.proofs.ChainLemmas.{edge_sum-append}
-use Rattle.lpis_rings.specs.Map.{edges_of_triangles}
-use Rattle.lpis_checker.specs.declared.signed.SignedEdge.{SignedEdge}
-use Rattle.lpis_checker.specs.private.SignedEdges.{weight, is_at, sum_at, SumsAreZero, is_low, IsSigned, signed_by, low_count, Grows}
+use Rattle.lpis_points.proofs.Shared.{edge_sum-append}
+use Rattle.lpis_checker.specs.private.SignedEdges.{is_at, SumsAreZero, is_low, IsSigned, signed_by, low_count, Grows}
 use Rattle.lpis_checker.proofs.RunLemmas.{sum_at-append}
 use Rattle.lpis_checker.proofs.PointOrderLemmas.{both_same, low_asym, point_tie_alone}
 
@@ -182,10 +177,9 @@ growing_all {t} {all = all} {xs} {ys} e h =
     }
   where
     by : (t l : Bool) (b w : ℤ) → b +ℤ signed_by t (cond l (pos 0) (pos 0)) ≡ w → b ≡ w
-    by true true b w e = omega (arith, ints)
     by true false b w e = omega (arith, ints)
-    by false true b w e = omega (arith, ints)
     by false false b w e = omega (arith, ints)
+    by _ _ b w e = omega (arith, ints)
 
 -- ---- equal net counts
 net_turned : (a b : Point) (es : List (Point × Point)) → net_count same_point b a es ≡ neg_ℤ (net_count same_point a b es)

@@ -1,23 +1,15 @@
 -- Off the lines of a release the turns of its polygons are those of triangles.
-use Rattle.std.proofs.Common.{◌≡◌, ◌≢◌, ℕ, zero, suc, ℤ, ◌+ℤ◌, List, [], ◌∷◌, ◌++◌, All, Some, ap, sym, refl, ◌∙◌, subst}
-use Rattle.std.specs.List.{slice_get, Contains, flat_map}
-use Rattle.std.proofs.lemmas.List.Elements.{Contains-append_left, Contains-append_right}
-use Rattle.std.proofs.lemmas.Option.{none-some, same_Some}
-use Rattle.lpis_points.specs.declared.point.Point.{Point}
-use Rattle.lpis_points.specs.declared.triangle.Triangle.{Triangle}
+use Rattle.std.proofs.Common.{◌≡◌, ◌≢◌, ℕ, zero, suc, ℤ, ◌+ℤ◌, List, [], ◌∷◌, ◌++◌, All, Some, ap, sym, refl, ◌∙◌, subst, slice_get, Contains, flat_map}
+use Rattle.lpis_checker.proofs.Common.{Contains-append_right, none-some, same_Some, Point, Triangle, edges_of, Piece, Parcel, Contents, pieces_named, Cert, Names, Triangles, Turned, Flats, Corners}
+use Rattle.lpis_checker.proofs.Common.{PieceEdges, ParcelEdges, PieceAt, corners_of, corners_of_pieces, HaveCorners, HoldsEverywhere}
+use Rattle.std.proofs.lemmas.List.Elements.{Contains-append_left}
 use Rattle.lpis_points.specs.Plane.{RationalPoint}
 use Rattle.lpis_points.specs.Triangles.{IsCounterClockwise, IsFlat, IsOffItsLines}
-use Rattle.lpis_points.proofs.TriangleLemmas.{corners_differ}
-use Rattle.lpis_rings.specs.Edges.{edges_of, turns}
-use Rattle.lpis_rings.proofs.CoveringLemmas.{piece_turns}
-use Rattle.lpis_covers.specs.declared.piece.Piece.{Piece}
-use Rattle.lpis_parcels.specs.declared.parcel.Parcel.{Parcel}
-use Rattle.lpis_parcels.specs.Release.{Contents, pieces_named}
-use Rattle.lpis_cert.specs.declared.cert.Cert.{Cert}
-use Rattle.lpis_checker.specs.declared.condition.Condition.TheVariants.{Names, Triangles, Turned, Flats, Corners, PieceEdges, ParcelEdges}
-use Rattle.lpis_checker.specs.declared.condition.Site.TheVariants.{PieceAt}
-use Rattle.lpis_checker.specs.Corners.{all_corners, corners_of, corners_of_pieces}
-use Rattle.lpis_checker.specs.GoodCertificate.{HasCorners, HaveCorners, HoldsEverywhere}
+use Rattle.lpis_points.proofs.Shared.{corners_differ}
+use Rattle.lpis_rings.specs.Edges.{turns}
+use Rattle.lpis_rings.proofs.Shared.{piece_turns}
+use Rattle.lpis_checker.specs.Corners.{all_corners}
+use Rattle.lpis_checker.specs.GoodCertificate.{HasCorners}
 use Rattle.lpis_checker.specs.SoundMap.{IsOffLines}
 use Rattle.lpis_checker.specs.TurnsAdd.{TurnsAdd, turns_of_pieces}
 use Rattle.lpis_checker.proofs.AreaSumLemmas.{total, all_at, all_from, all_left, all_right}

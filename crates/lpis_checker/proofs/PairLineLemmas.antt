@@ -1,20 +1,13 @@
 -- The pair lines: they ascend, each names two triangles, and a walk beside the near pairs finds the first that no line
 -- names.
-use Rattle.std.proofs.Common.{◌≡◌, ℕ, zero, suc, ◌+◌, ◌<◌, ◌≤◌, Bool, false, IsTrue, ◌↔◌, List, length, get_or, Some, ◌⊎◌, inl, inr, ap, sym, refl, ◌∙◌, subst, arith}
-use Rattle.std.proofs.lemmas.Bool.{cases_eq, cases_lt}
-use Rattle.std.specs.List.{slice_get}
-use Rattle.std.proofs.lemmas.Option.{same_Some, slice_get_within, slice_get-get_or}
-use Rattle.lpis_points.specs.declared.triangle.Triangle.{Triangle}
+use Rattle.std.proofs.Common.{◌≡◌, ℕ, zero, suc, ◌+◌, ◌<◌, ◌≤◌, Bool, false, IsTrue, ◌↔◌, List, length, get_or, Some, ◌⊎◌, inl, inr, ap, sym, refl, ◌∙◌, subst, arith, slice_get}
+use Rattle.lpis_checker.proofs.Common.{cases_eq, cases_lt, same_Some, slice_get_within, slice_get-get_or, Triangle, Contents, Cert, PairLine, Names, NearPairs, PieceAt, ParcelAt, LineAt, PairAt}
+use Rattle.lpis_checker.proofs.Common.{triangles_of, Holds, HoldsEverywhere}
 use Rattle.lpis_points.specs.Triangles.{are_apart}
-use Rattle.lpis_parcels.specs.Release.{Contents}
-use Rattle.lpis_parcels.proofs.EligibleLemmas.{item-within}
-use Rattle.lpis_cert.specs.declared.cert.Cert.{Cert}
-use Rattle.lpis_cert.specs.declared.part.PairLine.{PairLine}
+use Rattle.lpis_parcels.proofs.Shared.{item-within}
 use Rattle.lpis_pairs.specs.NearPairs.{IsNear, IsNearList, IsBelow}
-use Rattle.lpis_checker.specs.declared.condition.Condition.TheVariants.{Names, NearPairs}
 use Rattle.lpis_checker.specs.declared.condition.Site.{Site}
-use Rattle.lpis_checker.specs.declared.condition.Site.TheVariants.{PieceAt, ParcelAt, LineAt, PairAt}
-use Rattle.lpis_checker.specs.GoodCertificate.{triangles_of, IsNamed, IsInOrder, OfTwo, Holds, HoldsEverywhere}
+use Rattle.lpis_checker.specs.GoodCertificate.{IsNamed, IsInOrder, OfTwo}
 use Rattle.lpis_checker.specs.FirstFault.{IsEarlier, IsFirst}
 use Rattle.lpis_checker.proofs.SiteLemmas.{read_at}
 

@@ -1,15 +1,11 @@
 -- Points: when they are equal, and which of two is the lesser.
-use Rattle.std.proofs.Common.{◌≡◌, ℤ, int_lt, Bool, true, false, ◌&&◌, cond, ◌↔◌, ap, ap₂, sym, refl, ◌∙◌, arith}
-use Rattle.std.proofs.lemmas.Int.{ints}
-use Rattle.std.specs.declared.cmp.Ordering.{Ordering}
-use Rattle.std.specs.declared.cmp.Ordering.TheVariants.{Less, Equal, Greater}
-use Rattle.std.specs.Ordering.{is_lt, ordering_reverse, ordering_then, int_cmp}
+use Rattle.std.proofs.Common.{◌≡◌, ℤ, int_lt, Bool, true, false, ◌&&◌, cond, ◌↔◌, ap, ap₂, sym, refl, ◌∙◌, arith, Ordering, Less, Equal, Greater, is_lt, int_cmp}
+use Rattle.lpis_checker.proofs.Common.{ints, Point, same_point, point_order}
+use Rattle.std.specs.Ordering.{ordering_reverse, ordering_then}
 use Rattle.std.specs.Cmp.{IsTotalOrder}
 use Rattle.std.proofs.lemmas.Cmp.{int_cmp_total, on_total, then_total}
-use Rattle.lpis_points.specs.declared.point.Point.{Point}
-use Rattle.lpis_points.specs.Plane.{same_point}
-use Rattle.lpis_points.proofs.PointLemmas.{same_point-equality, point_eq}
-use Rattle.lpis_checker.specs.private.SignedEdges.{is_low, point_order}
+use Rattle.lpis_points.proofs.Shared.{same_point-equality, point_eq}
+use Rattle.lpis_checker.specs.private.SignedEdges.{is_low}
 
 -- ---- equal points
 -- two pairs of equal points

@@ -1,17 +1,12 @@
 -- One walk over grouped edges.
 use Rattle.std.proofs.Common.{◌≡◌, ℕ, zero, suc, ◌+◌, ◌<◌, ◌≤◌, ℤ, pos, negsuc, ◌+ℤ◌, ◌-ℤ◌, nat_abs, Bool, true, false, ◌&&◌, cond, List, [], ◌∷◌, ◌++◌, length, get_or, take, drop, Option, Some, None}
-use Rattle.std.proofs.Common.{ap, ap₂, sym, refl, ◌∙◌, arith, sum_by}
-use Rattle.std.proofs.lemmas.Int.{ints}
-use Rattle.std.specs.List.{slice_get}
-use Rattle.std.specs.List.Sorted.{IsPermutation}
+use Rattle.std.proofs.Common.{ap, ap₂, sym, refl, ◌∙◌, arith, sum_by, slice_get, IsPermutation}
+use Rattle.lpis_checker.proofs.Common.{ints, same_Some, slice_get_within, slice_get-get_or, Point, same_point, SignedEdge, weight, sum_at, IsGrouped}
 use Rattle.std.proofs.lemmas.List.{take_more, take_all, take-append-drop}
 use Rattle.std.proofs.lemmas.List.Sums.{sum_by-cons}
 use Rattle.std.proofs.lemmas.List.Sorted.{sum_by-IsPermutation}
-use Rattle.std.proofs.lemmas.Option.{same_Some, slice_get_past, slice_get_within, slice_get-get_or}
-use Rattle.lpis_points.specs.declared.point.Point.{Point}
-use Rattle.lpis_points.specs.Plane.{same_point}
-use Rattle.lpis_checker.specs.declared.signed.SignedEdge.{SignedEdge}
-use Rattle.lpis_checker.specs.private.SignedEdges.{weight, is_at, sum_at, SumsAreZero, same_ends, IsGrouped, EndsRun}
+use Rattle.std.proofs.lemmas.Option.{slice_get_past}
+use Rattle.lpis_checker.specs.private.SignedEdges.{is_at, SumsAreZero, same_ends, EndsRun}
 use Rattle.lpis_checker.proofs.PointOrderLemmas.{both_same}
 
 -- edges with the same ends lie between the same points

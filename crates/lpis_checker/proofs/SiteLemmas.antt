@@ -1,23 +1,14 @@
 -- From site to site: when a condition holds everywhere, and when it fails at a site first.
-use Rattle.std.proofs.Common.{◌≡◌, ℕ, ◌+◌, ◌<◌, ◌≤◌, Bool, true, false, List, get_or, length, Option, Some, None, inl, inr, ◌↔◌, ◌⊎◌, IsTrue, ap, sym, refl, ◌∙◌, subst, arith}
-use Rattle.std.proofs.lemmas.Bool.{cases_eq, cases_lt}
-use Rattle.std.specs.List.{slice_get}
-use Rattle.std.specs.Option.{option_map}
-use Rattle.std.specs.Prelude.{IfOk, Result, ⊤}
+use Rattle.std.proofs.Common.{◌≡◌, ℕ, ◌+◌, ◌<◌, ◌≤◌, Bool, true, false, List, get_or, length, Option, Some, None, inl, inr, ◌↔◌, ◌⊎◌, IsTrue, ap, sym, refl, ◌∙◌, subst, arith, slice_get, option_map}
+use Rattle.std.proofs.Common.{IfOk, Result}
+use Rattle.lpis_checker.proofs.Common.{cases_eq, cases_lt, none-some, same_Some, slice_get_read, slice_get_within, Piece, Parcel, Contents, Cert, PiecePart, ParcelPart, PairLine, Condition, Names}
+use Rattle.lpis_checker.proofs.Common.{Triangles, Turned, Flats, Corners, PieceEdges, ParcelEdges, NearPairs, Separating, PieceAt, ParcelAt, LineAt, PairAt, Holds, HoldsEverywhere, OnParcel, OnPiece}
+use Rattle.std.specs.Prelude.{⊤}
 use Rattle.std.proofs.lemmas.Result.{IfOk-weaker}
-use Rattle.std.proofs.lemmas.Option.{none-some, same_Some, slice_get_past, slice_get_read, slice_get_within}
-use Rattle.lpis_covers.specs.declared.piece.Piece.{Piece}
-use Rattle.lpis_parcels.specs.declared.parcel.Parcel.{Parcel}
-use Rattle.lpis_parcels.specs.Release.{Contents}
-use Rattle.lpis_cert.specs.declared.cert.Cert.{Cert}
-use Rattle.lpis_cert.specs.declared.part.PiecePart.{PiecePart}
-use Rattle.lpis_cert.specs.declared.part.ParcelPart.{ParcelPart}
-use Rattle.lpis_cert.specs.declared.part.PairLine.{PairLine}
-use Rattle.lpis_checker.specs.declared.condition.Condition.{Condition}
-use Rattle.lpis_checker.specs.declared.condition.Condition.TheVariants.{Names, Triangles, Turned, Flats, Corners, PieceEdges, ParcelEdges, NearPairs, NotApart, Separating}
+use Rattle.std.proofs.lemmas.Option.{slice_get_past}
+use Rattle.lpis_checker.specs.declared.condition.Condition.TheVariants.{NotApart}
 use Rattle.lpis_checker.specs.declared.condition.Site.{Site}
-use Rattle.lpis_checker.specs.declared.condition.Site.TheVariants.{PieceAt, ParcelAt, LineAt, PairAt}
-use Rattle.lpis_checker.specs.GoodCertificate.{Holds, HoldsEverywhere, OfBoth, OfPiece, OfParcel, OfLine, OnParcel, OnPiece}
+use Rattle.lpis_checker.specs.GoodCertificate.{OfBoth, OfPiece, OfParcel, OfLine}
 use Rattle.lpis_checker.specs.FirstFault.{IsEarlier, IsFirst}
 use Rattle.lpis_checker.specs.private.Searches.{IsOfLine}
 

@@ -1,37 +1,24 @@
 -- A good certificate shows a sound map.
 use Rattle.std.proofs.Common.{◌≡◌, ℕ, suc, ◌-◌, ◌<◌, nat_lt, ℤ, pos, ◌+ℤ◌, ◌≤ℤ◌, ◌<ℤ◌, Bool, true, false, cond, List, [], ◌∷◌, ◌++◌, length, get_or, Option, Some, None, inl, inr, ◌↔◌, All, filter, ap}
-use Rattle.std.proofs.Common.{ap₂, sym, refl, ◌∙◌, subst, arith}
-use Rattle.std.specs.Prelude.{MatchOption}
-use Rattle.std.proofs.lemmas.Int.{ints}
-use Rattle.std.specs.List.{slice_get, IsDistinct}
-use Rattle.std.specs.Option.{option_map}
+use Rattle.std.proofs.Common.{ap₂, sym, refl, ◌∙◌, subst, arith, MatchOption, slice_get, option_map}
+use Rattle.lpis_checker.proofs.Common.{ints, none-some, slice_get-get_or, same_Some, Point, Triangle, same_point, edges_of_triangles, edges_of, Piece, Parcel, Contents, pieces_named, Cert, PiecePart}
+use Rattle.lpis_checker.proofs.Common.{ParcelPart, IsInPiece, IsSoundMap, Names, Triangles, Turned, Flats, PieceEdges, ParcelEdges, NearPairs, Separating, PieceAt, ParcelAt, LineAt, PairAt}
+use Rattle.lpis_checker.proofs.Common.{triangles_of, edges_of_pieces, LineSeparates, HoldsEverywhere}
+use Rattle.std.specs.List.{IsDistinct}
 use Rattle.std.proofs.lemmas.List.Elements.{All-cons, All-filter, All-head, All-nil, All-tail, All-weaker}
-use Rattle.std.proofs.lemmas.Option.{none-some, slice_get-get_or, same_Some}
 use Rattle.std.proofs.lemmas.Slice.Eq.{bytes_eq-Decides}
-use Rattle.lpis_points.specs.declared.point.Point.{Point}
-use Rattle.lpis_points.specs.declared.triangle.Triangle.{Triangle}
-use Rattle.lpis_points.specs.Plane.{RationalPoint, same_point}
+use Rattle.lpis_points.specs.Plane.{RationalPoint}
 use Rattle.lpis_points.specs.Chain.{SameNet}
 use Rattle.lpis_points.specs.Triangles.{triangle_edges, IsCounterClockwise, IsFlat, Separates, are_apart}
-use Rattle.lpis_rings.specs.Map.{edges_of_triangles, KeepApart, AllKeepApart, IsCut, CutPiece, all_triangles, all_edges, all_turns, all_areas, IsOneOrNone}
-use Rattle.lpis_rings.specs.Edges.{edges_of, edge_turns, turns}
+use Rattle.lpis_rings.specs.Map.{KeepApart, AllKeepApart, IsCut, CutPiece, all_triangles, all_edges, all_turns, all_areas, IsOneOrNone}
+use Rattle.lpis_rings.specs.Edges.{edge_turns, turns}
 use Rattle.lpis_rings.specs.Area.{area2}
-use Rattle.lpis_rings.proofs.CoveringLemmas.{pieces_share_nothing, parcel_is_its_pieces}
-use Rattle.lpis_rings.proofs.ParityLemmas.{contains_by_one_turn}
-use Rattle.lpis_rings.proofs.AreaByTrianglesLemmas.{area_is_positive, area_is_of_its_pieces}
-use Rattle.lpis_rings.proofs.AreaByEdgesLemmas.{area2_is}
-use Rattle.lpis_covers.specs.declared.piece.Piece.{Piece}
+use Rattle.lpis_rings.proofs.Shared.{pieces_share_nothing, parcel_is_its_pieces, contains_by_one_turn, area_is_positive, area_is_of_its_pieces, area2_is}
 use Rattle.lpis_covers.specs.Ids.{same_id}
-use Rattle.lpis_parcels.specs.declared.parcel.Parcel.{Parcel}
-use Rattle.lpis_parcels.specs.Release.{Contents, names, parcel_ids, pieces_named}
+use Rattle.lpis_parcels.specs.Release.{names, parcel_ids}
 use Rattle.lpis_parcels.specs.Eligible.{areas2, eligible2, is_eligible}
-use Rattle.lpis_cert.specs.declared.cert.Cert.{Cert}
-use Rattle.lpis_cert.specs.declared.part.PiecePart.{PiecePart}
-use Rattle.lpis_cert.specs.declared.part.ParcelPart.{ParcelPart}
-use Rattle.lpis_checker.specs.SoundMap.{AtMostOne, ExactlyOne, IsInParcel, IsInPiece, IsSoundMap, TurnsTell, AreasAdd}
-use Rattle.lpis_checker.specs.declared.condition.Condition.TheVariants.{Names, Triangles, Turned, Flats, PieceEdges, ParcelEdges, NearPairs, Separating}
-use Rattle.lpis_checker.specs.declared.condition.Site.TheVariants.{PieceAt, ParcelAt, LineAt, PairAt}
-use Rattle.lpis_checker.specs.GoodCertificate.{triangles_of, edges_of_pieces, EdgeSeparates, LineSeparates, HoldsEverywhere, IsGood}
+use Rattle.lpis_checker.specs.SoundMap.{AtMostOne, ExactlyOne, IsInParcel, TurnsTell, AreasAdd}
+use Rattle.lpis_checker.specs.GoodCertificate.{EdgeSeparates, IsGood}
 use Rattle.lpis_checker.proofs.DistinctLemmas.{same_place}
 use Rattle.lpis_checker.proofs.SiteLemmas.{some_item}
 use Rattle.lpis_checker.proofs.AreaSumLemmas.{total, Found, found_any, any_found, all_at, all_from, one_of_some, at_most_one, one_found, total_one, total-filter, filter_kept}

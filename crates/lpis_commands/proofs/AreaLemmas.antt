@@ -1,13 +1,12 @@
 -- A number padded with zeros, and the text of an area.
 use Rattle.std.proofs.Common.{◌≡◌, ◌≤◌, ◌<◌, ◌+◌, ◌-◌, ◌*◌, ◌/◌, ◌%◌, ◌^◌, ◌++◌, ◌∷◌, [], ℕ, zero, suc, List, length, replicate, false, arith, refl, sym, ap, ◌∙◌, inl, inr, append_assoc}
-use Rattle.std.proofs.Common.{length-append}
-use Rattle.std.specs.Fmt.{char_count, decimal, format_spec, padded_integral, styled_decimal}
+use Rattle.std.proofs.Common.{length-append, decimal, ℤ, nat_abs, pos, negsuc, true, codes}
+use Rattle.std.specs.Fmt.{char_count, format_spec, padded_integral, styled_decimal}
 use Rattle.std.proofs.lemmas.Fmt.{decimal_digit, decimal_step_wide}
 use Rattle.std.proofs.lemmas.List.{append-nil, replicate-append-replicate}
 use Rattle.std.proofs.lemmas.Bool.{cases_lt}
 use Rattle.std.proofs.Math.Arith.{mod-mul}
 use Rattle.std.proofs.Math.Nat.{pow-suc}
-use Rattle.std.specs.Prelude.{ℤ, nat_abs, pos, negsuc, true, codes}
 use lib.Signed.{lt_z}
 use Rattle.std.proofs.lemmas.Bool.Decides.{nat_tests}
 use Rattle.lpis_commands.specs.Area.{area_text, last_digits, sign_text}

@@ -1,3 +1,4 @@
+pub mod Common
 pub mod OneAnswerLemmas
 pub mod AreaLemmas
 pub mod CheckLemmas

@@ -1,24 +1,21 @@
 -- The inputs of a check have one answer.
 use Rattle.std.proofs.Common.{◌≡◌, ◌∙◌, ◌<◌, ◌-◌, ◌⊎◌, ◌∷◌, [], get_or, inl, inr, ap, ap₂, sym, refl, subst, ℕ, List, Result, Ok, Err}
+use Rattle.lpis_commands.proofs.Common.{Contents, release_of, Cert, IsGood, Answer, report_text, done}
 use Rattle.std.proofs.lemmas.Bool.{cases_order}
 use Rattle.lpis_covers.specs.declared.fault.TableFault.{TableFault}
-use Rattle.lpis_parcels.specs.Release.{Contents, release_of}
-use Rattle.lpis_cert.specs.declared.cert.Cert.{Cert}
 use Rattle.lpis_cert.specs.declared.fault.CertCode.{CertCode}
 use Rattle.lpis_cert.specs.Faults.{verdict}
-use Rattle.lpis_cert.proofs.LawLemmas.{one_cert}
+use Rattle.lpis_cert.proofs.Shared.{one_cert}
 use Rattle.lpis_checker.specs.declared.condition.Condition.{Condition}
 use Rattle.lpis_checker.specs.declared.condition.Condition.TheVariants.{Names, Triangles, Turned, Flats, Corners, PieceEdges, ParcelEdges, NearPairs, NotApart, Separating}
 use Rattle.lpis_checker.specs.declared.condition.Site.{Site}
 use Rattle.lpis_checker.specs.declared.condition.Site.TheVariants.{PieceAt, ParcelAt, LineAt, PairAt}
-use Rattle.lpis_checker.specs.declared.fault.CheckFault.TheVariants as check
 use Rattle.lpis_checker.specs.Codes.{code_of}
 use Rattle.lpis_checker.specs.FirstFault.{IsEarlier, IsFault, IsFirst, place_of}
-use Rattle.lpis_checker.specs.GoodCertificate.{IsGood}
-use Rattle.lpis_commands.specs.CheckAnswer.{Answer, Inputs, IsAnswer, IsCertAnswer, IsCheckAnswer, IsReleaseAnswer, IsTableAnswer}
+use Rattle.lpis_commands.specs.CheckAnswer.{Inputs, IsAnswer, IsCertAnswer, IsCheckAnswer, IsReleaseAnswer, IsTableAnswer}
 use Rattle.lpis_commands.specs.Refusals.{check_refusal_text}
-use Rattle.lpis_commands.specs.Report.{report_text}
-use Rattle.lpis_commands.specs.Status.{done, refused}
+use Rattle.lpis_commands.specs.Status.{refused}
+use Rattle.lpis_checker.specs.declared.fault.CheckFault.TheVariants as check
 
 -- a code names its condition
 condition_at : ℕ → Condition
@@ -26,16 +23,8 @@ condition_at n = get_or (Names ∷ Triangles ∷ Turned ∷ Flats ∷ Corners �
 
 named_by : (q : Condition) → condition_at (code_of q) ≡ q
 unfolding condition_at
-named_by Names = refl
-named_by Triangles = refl
-named_by Turned = refl
-named_by Flats = refl
-named_by Corners = refl
-named_by PieceEdges = refl
-named_by ParcelEdges = refl
-named_by NearPairs = refl
-named_by NotApart = refl
 named_by Separating = refl
+named_by _ = refl
 
 code-injective : (q s : Condition) → code_of q ≡ code_of s → q ≡ s
 code-injective q s e = sym (named_by q) ∙ ap condition_at e ∙ named_by s
@@ -73,21 +62,16 @@ pair-ordered i j m n = elim (cases_order i m) [
 ordered : (a b : Site) → Ordered a b
 unfolding Ordered
 ordered (PieceAt k) (PieceAt m) = by_number PieceAt k m (λ l. l) (λ l. l)
-ordered (PieceAt k) (ParcelAt m) = inr (inl tt)
-ordered (PieceAt k) (LineAt m) = inr (inl tt)
-ordered (PieceAt k) (PairAt m n) = inr (inl tt)
 ordered (ParcelAt k) (PieceAt m) = inr (inr tt)
 ordered (ParcelAt k) (ParcelAt m) = by_number ParcelAt k m (λ l. l) (λ l. l)
-ordered (ParcelAt k) (LineAt m) = inr (inl tt)
-ordered (ParcelAt k) (PairAt m n) = inr (inl tt)
 ordered (LineAt k) (PieceAt m) = inr (inr tt)
 ordered (LineAt k) (ParcelAt m) = inr (inr tt)
 ordered (LineAt k) (LineAt m) = by_number LineAt k m (λ l. l) (λ l. l)
-ordered (LineAt k) (PairAt m n) = inr (inl tt)
 ordered (PairAt i j) (PieceAt m) = inr (inr tt)
 ordered (PairAt i j) (ParcelAt m) = inr (inr tt)
 ordered (PairAt i j) (LineAt m) = inr (inr tt)
 ordered (PairAt i j) (PairAt m n) = pair-ordered i j m n
+ordered _ _ = inr (inl tt)
 
 -- a condition fails first at one site
 one_site : (r : Contents) (c : Cert) (q : Condition) (a b : Site) → IsFirst r c q a → IsFirst r c q b → a ≡ b

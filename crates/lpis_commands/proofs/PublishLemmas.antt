@@ -1,39 +1,33 @@
 -- What a history answers to a release, and what is known of a release that was added to it.
-use Rattle.std.proofs.Common.{◌≡◌, ◌∙◌, ◌≤◌, ◌<◌, ◌++◌, ◌∷◌, [], inl, inr, refl, sym, ap, ap₂, subst, arith, ℕ, List, true, false, Option, Some, None, Result, Ok, Err}
-use Rattle.std.specs.Prelude.{nat_le, IfOk, OnOk}
-use Rattle.std.specs.Io.KnownBytes.{Appends}
-use Rattle.std.specs.List.{flat_map, list_any}
+use Rattle.std.proofs.Common.{◌≡◌, ◌∙◌, ◌≤◌, ◌<◌, ◌++◌, ◌∷◌, [], inl, inr, refl, sym, ap, ap₂, subst, arith, ℕ, List, true, false, Option, Some, None, Result, Ok, Err, nat_le, IfOk, OnOk, flat_map}
+use Rattle.lpis_commands.proofs.Common.{Appends, Contents, release_of, kind_at, Cert, IsGood, Answer, lineage_line, report_text, done}
+use Rattle.std.specs.List.{list_any}
 use Rattle.std.proofs.lemmas.Bool.{and_parts}
 use Rattle.std.proofs.lemmas.Bool.Decides.{leb_tells}
 use Rattle.std.proofs.lemmas.List.Concat.{flat_map-cons}
 use Rattle.lpis_covers.specs.Faults.{rows_of}
 use Rattle.lpis_covers.specs.Ids.{has_id}
-use Rattle.lpis_parcels.specs.Release.{Contents, parcel_ids, release_of}
+use Rattle.lpis_parcels.specs.Release.{parcel_ids}
 use Rattle.lpis_lineage.specs.declared.fault.LineageFault.{LineageFault}
 use Rattle.lpis_lineage.specs.declared.kind.Kind.{Kind}
 use Rattle.lpis_lineage.specs.declared.row.Entry.{Entry}
 use Rattle.lpis_lineage.specs.declared.row.Row.{Row}
-use Rattle.lpis_lineage.specs.Changes.{Changes, IsChange, dropped, kind_at}
+use Rattle.lpis_lineage.specs.Changes.{Changes, IsChange, dropped}
 use Rattle.lpis_lineage.specs.Descendants.{leads}
 use Rattle.lpis_lineage.specs.Faults.{faults, first}
 use Rattle.lpis_lineage.specs.Kinds.{kind}
 use Rattle.lpis_lineage.specs.Lawful.{IsAnswered}
 use Rattle.lpis_lineage.specs.Lineage.{is_of, last_live, last_year, names}
 use Rattle.lpis_lineage.specs.LineageTable.{lineage_table}
-use Rattle.lpis_lineage.proofs.CleanLemmas.{follows-from-clean, mono}
-use Rattle.lpis_lineage.proofs.RowCountLemmas.{counted-ended}
-use Rattle.lpis_register.specs.declared.fault.PublishFault.TheVariants as publish
-use Rattle.lpis_cert.specs.declared.cert.Cert.{Cert}
+use Rattle.lpis_lineage.proofs.Shared.{follows-from-clean, mono, counted-ended}
 use Rattle.lpis_cert.specs.Contents.{cert_text}
-use Rattle.lpis_checker.specs.GoodCertificate.{IsGood}
 use Rattle.lpis_checker.specs.SoundMap.{IsSoundMap}
-use Rattle.lpis_commands.specs.CheckAnswer.{Answer}
-use Rattle.lpis_commands.specs.LineageLines.{lineage_line, lineage_lines, publish_refusal_text, published_line}
+use Rattle.lpis_commands.specs.LineageLines.{lineage_lines, publish_refusal_text, published_line}
 use Rattle.lpis_commands.specs.declared.failure.Failure.{Failure}
-use Rattle.lpis_commands.specs.Report.{report_text}
 use Rattle.lpis_commands.specs.PublishAnswer.{Ends, IsContinued, IsPublishAnswer, IsPublished, Moves, Publication, history_answer, lineage_answer, publication_text}
-use Rattle.lpis_commands.specs.Status.{done, refused}
+use Rattle.lpis_commands.specs.Status.{refused}
 use Rattle.lpis_commands.specs.private.PublishRuns.{IsAdded}
+use Rattle.lpis_register.specs.declared.fault.PublishFault.TheVariants as publish
 
 -- ---- the lines of a change
 same-lines : {A : Type 0} (f g : A → List ℕ) (xs : List A) → ((x : A) → f x ≡ g x) → flat_map f xs ≡ flat_map g xs

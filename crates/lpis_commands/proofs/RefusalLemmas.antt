@@ -1,7 +1,6 @@
 -- The line of a certificate that is not good, part by part.
 use Rattle.std.proofs.Common.{◌≡◌, ◌++◌, ℕ, List, Option, codes, subst}
-use Rattle.std.specs.Io.KnownBytes.{Appends}
-use Rattle.csv.proofs.WriteFacts.{appends-more}
+use Rattle.lpis_commands.proofs.Common.{Appends, appends-more}
 use Rattle.lpis_checker.specs.declared.condition.Condition.{Condition}
 use Rattle.lpis_checker.specs.declared.fault.CheckFault.TheVariants.{At}
 use Rattle.lpis_checker.specs.declared.fault.Place.{Place}

@@ -1,9 +1,9 @@
 -- What a writer holds after a part of a text more.
 use Rattle.std.proofs.Common.{◌∙◌, ◌+◌, [], sym, subst, ℕ, List, Option, Some, None, take, drop}
+use Rattle.lpis_commands.proofs.Common.{Appends, appends-more}
 use Rattle.std.proofs.Math.Seq.{take-add}
 use Rattle.std.proofs.lemmas.List.{append-nil}
-use Rattle.std.specs.Io.KnownBytes.{Appends, Keeps}
-use Rattle.csv.proofs.WriteFacts.{appends-more}
+use Rattle.std.specs.Io.KnownBytes.{Keeps}
 
 -- what was written, and some bytes more
 pub begun_more : (text : List ℕ) (w n : ℕ) (start now next : Option (List ℕ)) → Appends start now (take w text) → Appends now next (take n (drop w text))

@@ -281,7 +281,8 @@ fn read_publication<P: Read + Drop, C: Read + Drop, K: Read + Drop, E: Read + Dr
 /// Checks the release of three tables against a certificate and publishes it in a register, with
 /// its year and the rows of a lineage table. It prints the report of a release that is a sound map,
 /// what became of each identifier that it drops, and its year; or the line of the first fault: of
-/// the tables, of the certificate's text, of the lineage table, of the certificate, of the register.
+/// the tables, of the certificate's text, of the lineage table, of the certificate, of the
+/// register.
 ///
 /// All inputs are read to their ends, in the order in which they stand here, before anything is
 /// decided, and what is printed is whole in memory before the register is written. Ok is the

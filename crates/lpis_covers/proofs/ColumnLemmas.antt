@@ -1,11 +1,9 @@
 -- Byte order marks and columns, a step at a time.
 use Rattle.std.proofs.Common.{◌≡◌, ◌+◌, ◌-◌, ◌<◌, ◌≤◌, ℕ, zero, suc, List, [], ◌∷◌, ◌++◌, length, map, take, drop, get_or, Option, Some, None, Result, Ok, Err, true, false, refl, ap, arith, ◌∙◌, Bool}
-use Rattle.std.proofs.Common.{add-one, Bor, IsTrue, ◌↔◌, append_assoc}
-use Rattle.std.specs.Prelude.{unwrap_or, option_map, option_to_list}
+use Rattle.std.proofs.Common.{add-one, Bor, IsTrue, ◌↔◌, append_assoc, unwrap_or, option_map, option_to_list, is_some, ok_or}
+use Rattle.lpis_covers.proofs.Common.{strip_bom, has_mark, one_index, picked, places_of, texts}
 use Rattle.std.specs.Str.{str_eq_ignore_ascii_case}
 use Rattle.std.specs.Char.{to_ascii_lowercase}
-use Rattle.std.specs.Option.{is_some, ok_or}
-use Rattle.csv.specs.Reading.{strip_bom}
 use Rattle.csv.specs.Records.{field_at}
 use Rattle.std.proofs.lemmas.Bool.Decides.{same_from_decides}
 use Rattle.std.proofs.lemmas.Slice.Eq.{bytes_eq-Decides}
@@ -13,30 +11,25 @@ use Rattle.std.proofs.Math.Seq.{drop-cons}
 use Rattle.std.proofs.lemmas.List.{append-nil, take_all, drop_all}
 use Rattle.lpis_covers.specs.declared.fault.TableCode.{TableCode}
 use Rattle.lpis_covers.specs.declared.fault.TableCode.TheVariants.{MissingColumn, DoubledColumn}
-use Rattle.lpis_covers.specs.Table.{and_index, has_mark, one_index, picked, column_index, places_of, places_of_name, texts}
+use Rattle.lpis_covers.specs.Table.{and_index, column_index, places_of_name}
 
 pub with-mark : (xs : List ℕ) → has_mark xs ≡ true → take (length xs - 3) (drop 3 xs) ≡ strip_bom xs
 unfolding strip_bom
-with-mark [] h = cc h
-with-mark (a ∷ []) h = cc h
-with-mark (a ∷ b ∷ []) h = cc h
 with-mark (a ∷ b ∷ c ∷ rest) h =
     let len : length (a ∷ b ∷ c ∷ rest) - 3 ≡ length rest = omega arith in
     rw (h, len) (take_all (length rest) rest (omega arith))
+with-mark _ h = cc h
 
 pub without-mark : (xs : List ℕ) → has_mark xs ≡ false → xs ≡ strip_bom xs
 unfolding strip_bom
-without-mark [] h = refl
-without-mark (a ∷ []) h = refl
-without-mark (a ∷ b ∷ []) h = refl
 without-mark (a ∷ b ∷ c ∷ rest) h = rw h refl
+without-mark _ _ = refl
 
 -- the fields from a place on
 drop-field : (fs : List (List ℕ)) (i : ℕ) (f : List ℕ) → Some f ≡ field_at fs i → drop i fs ≡ f ∷ drop (i + 1) fs
 unfolding field_at
-drop-field [] i f e = cc e
-drop-field (g ∷ gs) zero f e = cc e
 drop-field (g ∷ gs) (suc i) f e = let n : suc i + 1 ≡ suc (i + 1) = omega arith in rw n (drop-field gs i f e)
+drop-field _ _ f e = cc e
 
 pub no-field : (fs : List (List ℕ)) (i : ℕ) → ◌≡◌ {A = Option (List ℕ)} None (field_at fs i) → length fs ≤ i
 unfolding field_at
@@ -49,10 +42,9 @@ pub field-or : (fs : List (List ℕ)) (i : ℕ) (o : Option (Bor (List ℕ))) (d
     → (unwrap_or o d).now ≡ get_or fs i []
 unfolding field_at
 field-or [] i None d z e = z
-field-or [] i (Some x) d z e = cc e
-field-or (g ∷ gs) zero None d z e = cc e
 field-or (g ∷ gs) zero (Some x) d z e = cc e
 field-or (g ∷ gs) (suc i) o d z e = field-or gs i o d z e
+field-or _ _ _ d z e = cc e
 
 -- a test of two names says what the definition does
 same-name : (f name : List ℕ) (test : Bool) → IsTrue test ↔ (map to_ascii_lowercase f ≡ map to_ascii_lowercase name) → str_eq_ignore_ascii_case f name ≡ test

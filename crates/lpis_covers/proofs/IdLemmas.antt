@@ -1,10 +1,8 @@
 -- Identifiers are text.
-use Rattle.std.specs.Option.{is_some}
-use Rattle.std.proofs.Common.{Option, Some, None, ◌≡◌, ◌<◌, ℕ, List, [], ◌∷◌, length, true, false, refl, arith, slice_index, zero, suc}
-use Rattle.std.specs.Prelude.{◌&&◌, IsUtf8, nat_le}
+use Rattle.std.proofs.Common.{is_some, Option, Some, None, ◌≡◌, ◌<◌, ℕ, List, [], ◌∷◌, length, true, false, refl, arith, slice_index, zero, suc, ◌&&◌, IsUtf8, nat_le}
+use Rattle.lpis_covers.proofs.Common.{nat_tests}
 use Rattle.std.specs.List.{list_all}
 use Rattle.std.proofs.lemmas.Bool.{and_parts}
-use Rattle.std.proofs.lemmas.Bool.Decides.{nat_tests}
 use Rattle.std.proofs.lemmas.Str.{IsUtf8-from_ascii}
 use Rattle.lpis_covers.specs.Ids.{is_id, is_id_byte}
 

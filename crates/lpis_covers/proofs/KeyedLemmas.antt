@@ -1,6 +1,5 @@
 -- The place of an identifier.
-use Rattle.std.proofs.Common.{◌≡◌, [], ℕ, List, get_or, sym, ap, ◌∙◌}
-use Rattle.std.specs.Prelude.{IfSome, Option, Some, None, position, slice_get}
+use Rattle.std.proofs.Common.{◌≡◌, [], ℕ, List, get_or, sym, ap, ◌∙◌, IfSome, Option, Some, None, position, slice_get}
 use Rattle.std.proofs.lemmas.List.Quantifiers.{position-Some}
 use Rattle.std.proofs.lemmas.Option.{slice_get-get_or}
 use Rattle.std.proofs.lemmas.Slice.Eq.{bytes_eq-Decides}

@@ -1,3 +1,4 @@
+pub mod Common
 pub mod RecordLemmas
 pub mod ReaderLemmas
 pub mod ColumnLemmas
@@ -7,3 +8,4 @@ pub mod KeyedLemmas
 pub mod RowLemmas
 pub mod PolygonLemmas
 pub mod PieceLemmas
+pub mod Shared

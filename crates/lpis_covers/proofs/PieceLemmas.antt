@@ -1,12 +1,11 @@
 -- The faults of a piece, column by column.
 use Rattle.std.proofs.Common.{◌≡◌, ℕ, List, Ok, Err}
+use Rattle.lpis_covers.proofs.Common.{TableFault, polygon_in, unless_faulty, Answers, Record, field_of}
 use Rattle.lpis_rings.specs.declared.polygon.Member.{Member}
 use Rattle.lpis_covers.specs.declared.fault.Table.TheVariants.{Covers}
-use Rattle.lpis_covers.specs.declared.fault.TableFault.{TableFault}
 use Rattle.lpis_covers.specs.declared.piece.Piece.{Piece}
 use Rattle.lpis_covers.specs.Covers.{more_piece_faults, piece_of}
-use Rattle.lpis_covers.specs.Faults.{id_faults, polygon_faults, polygon_in, unless_faulty}
-use Rattle.lpis_covers.specs.Table.{Answers, Record, field_of}
+use Rattle.lpis_covers.specs.Faults.{id_faults, polygon_faults}
 use Rattle.lpis_covers.proofs.RowLemmas.{column-passed, fault-retold}
 
 pub piece-polygon-fault : (n : ℕ) (row : Record) (parcel class : List ℕ) (f : TableFault)

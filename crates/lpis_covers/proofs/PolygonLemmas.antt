@@ -1,15 +1,14 @@
 -- A field that is to be the text of a polygon.
-use Rattle.std.proofs.Common.{◌≡◌, ℕ, List, Bool, true, false, Some, Ok, Err, refl}
-use Rattle.std.specs.Str.{IsUtf8, is_utf8}
+use Rattle.std.proofs.Common.{◌≡◌, ℕ, List, Bool, true, false, Some, Ok, Err, refl, IsUtf8}
+use Rattle.lpis_covers.proofs.Common.{Table, At, polygon_in, unless_faulty}
+use Rattle.std.specs.Str.{is_utf8}
 use Rattle.std.proofs.lemmas.Str.{IsUtf8-from_is_utf8, is_utf8-from_IsUtf8}
 use Rattle.lpis_rings.specs.declared.polygon.Member.{Member}
 use Rattle.lpis_wkt.specs.declared.fault.WktCode.{WktCode}
 use Rattle.lpis_wkt.specs.declared.fault.WktFault.TheVariants.{At as In}
 use Rattle.lpis_wkt.specs.Answer.{polygon_of}
-use Rattle.lpis_covers.specs.declared.fault.Table.{Table}
 use Rattle.lpis_covers.specs.declared.fault.TableCode.TheVariants.{NotCsv, BadGeometry}
-use Rattle.lpis_covers.specs.declared.fault.TableFault.TheVariants.{At}
-use Rattle.lpis_covers.specs.Faults.{polygon_faults, polygon_in, unless_faulty}
+use Rattle.lpis_covers.specs.Faults.{polygon_faults}
 use Rattle.lpis_covers.specs.Table.{fault_at}
 
 not-utf8 : (bs : List ℕ) → ¬ (IsUtf8 bs) → is_utf8 bs ≡ false

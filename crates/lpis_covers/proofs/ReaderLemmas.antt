@@ -1,14 +1,13 @@
 -- What a read does to the records that a reader has left.
-use Rattle.std.proofs.Common.{◌≡◌, ◌≢◌, ℕ, List, [], ◌∷◌, length, Option, Some, None, true, false, refl, sym, ap, ◌∙◌, Bor}
-use Rattle.std.specs.Prelude.{IfSome}
+use Rattle.std.proofs.Common.{◌≡◌, ◌≢◌, ℕ, List, [], ◌∷◌, length, Option, Some, None, true, false, refl, sym, ap, ◌∙◌, Bor, IfSome}
+use Rattle.lpis_covers.proofs.Common.{default_config}
 use Rattle.csv.specs.Machine.{ends_at_end}
-use Rattle.csv.specs.Reading.{ReadRecord, Ready, TookRecord, default_config, expected_len, is_flexible, pending_of, reader_state}
+use Rattle.csv.specs.Reading.{ReadRecord, Ready, TookRecord, expected_len, is_flexible, pending_of, reader_state}
 use Rattle.csv.specs.declared.parser.State.{State}
-use Rattle.lpis_covers.specs.private.Left.{BytesReader, IsBetween, bytes_left, records_at, records_left}
-use Rattle.lpis_covers.specs.private.Left.{Steps}
-use Rattle.lpis_covers.specs.declared.records.Step.TheVariants as step
+use Rattle.lpis_covers.specs.private.Left.{BytesReader, IsBetween, bytes_left, records_at, records_left, Steps}
 use Rattle.csv.proofs.ReadFacts.{rows-end}
 use Rattle.lpis_covers.proofs.RecordLemmas.{left-none, left-some, shrinks, took}
+use Rattle.lpis_covers.specs.declared.records.Step.TheVariants as step
 
 abbrev slice-rem : Bor (List ℕ) → Option (List ℕ)
 slice-rem s = Some s.now

@@ -1,15 +1,12 @@
 -- A table's reader, a row at a time.
-use Rattle.std.proofs.Common.{◌≡◌, ◌≢◌, ◌+◌, ◌<◌, ◌≤◌, ℕ, zero, suc, List, [], ◌∷◌, length, get_or, Some, None, Ok, Err, true, false, refl, ap, arith}
-use Rattle.std.specs.Prelude.{◌==◌, nat_lt}
-use Rattle.std.proofs.lemmas.Bool.Decides.{nat_tests}
-use Rattle.csv.specs.Reading.{default_config, records, strip_bom}
+use Rattle.std.proofs.Common.{◌≡◌, ◌≢◌, ◌+◌, ◌<◌, ◌≤◌, ℕ, zero, suc, List, [], ◌∷◌, length, get_or, Some, None, Ok, Err, true, false, refl, ap, arith, ◌==◌, nat_lt}
+use Rattle.lpis_covers.proofs.Common.{nat_tests, default_config, strip_bom, Table, TableFault, At, Answers, Reading, Record, field_of, has_mark, picked, places_of, under_header}
+use Rattle.csv.specs.Reading.{records}
 use Rattle.lpis_covers.proofs.ColumnLemmas.{without-mark}
-use Rattle.lpis_covers.specs.declared.fault.Table.{Table}
 use Rattle.lpis_covers.specs.declared.fault.TableCode.TheVariants.{NotCsv, TooManyRows}
-use Rattle.lpis_covers.specs.declared.fault.TableFault.{TableFault}
-use Rattle.lpis_covers.specs.declared.fault.TableFault.TheVariants.{Memory, At}
+use Rattle.lpis_covers.specs.declared.fault.TableFault.TheVariants.{Memory}
 use Rattle.lpis_covers.specs.private.Columns.{TellsColumn}
-use Rattle.lpis_covers.specs.Table.{Answers, Reading, Record, fault_at, field_of, has_mark, most_rows, picked, places_of, reading, rows_from, stopped, table_of, under_header, with_row}
+use Rattle.lpis_covers.specs.Table.{fault_at, most_rows, reading, rows_from, stopped, table_of, with_row}
 
 rows-more : (table : Table) (w : ℕ) (places : List ℕ) (n : ℕ) (r : Record) (rs : List Record) → length r ≡ w → n ≤ most_rows
     → rows_from table w places n (r ∷ rs) ≡ with_row (picked places r) (rows_from table w places (n + 1) rs)

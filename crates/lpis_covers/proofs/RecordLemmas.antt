@@ -1,15 +1,15 @@
 -- How a read of a record takes the first of the records that are left.
-use Rattle.std.proofs.Common.{◌≡◌, ◌≤◌, ◌<◌, ◌+◌, ℕ, List, [], ◌∷◌, length, Option, Some, None, true, false, refl, ap, arith, Bool, zero, suc, add-one}
-use Rattle.std.specs.Prelude.{◌==◌, ◌&&◌, if◌then◌else◌}
+use Rattle.std.proofs.Common.{◌≡◌, ◌≤◌, ◌<◌, ◌+◌, ℕ, List, [], ◌∷◌, length, Option, Some, None, true, false, refl, ap, arith, Bool, zero, suc, add-one, ◌==◌, ◌&&◌, if◌then◌else◌}
+use Rattle.lpis_covers.proofs.Common.{default_config}
 use Rattle.csv.specs.Machine.{Read, after_end, carriage_return, ends_at_end, ends_with, field_after, fields_after, in_field, is_byte, is_end, line_feed, next_record, start_field, start_record, step}
-use Rattle.csv.specs.Reading.{NextIs, ReadsNext, default_config, records_from, records_next}
+use Rattle.csv.specs.Reading.{NextIs, ReadsNext, records_from, records_next}
 use Rattle.csv.specs.declared.parser.Config.{Config}
 use Rattle.csv.specs.declared.parser.State.{State}
 use Rattle.csv.specs.declared.parser.Action.{Action}
 use Rattle.csv.specs.declared.parser.Terminator.{Terminator}
+use Rattle.lpis_covers.specs.private.Left.{records_at}
 use Rattle.csv.specs.declared.parser.Terminator.TheVariants as term
 use Rattle.csv.specs.declared.parser.State.TheVariants as st
-use Rattle.lpis_covers.specs.private.Left.{records_at}
 
 -- a step that ends a record goes to a state in which the end of the text ends none
 abbrev pub Good : State × Action → Type 0
@@ -89,8 +89,6 @@ shrinks cfg s (c ∷ rest) p f e = by (is_end (step cfg s c).1) refl
 pub enough : (cfg : Config) (n m : ℕ) (s : State) (xs : List ℕ) → ends_at_end s ≡ false → length xs < n → length xs < m
     → records_from cfg n s xs ≡ records_from cfg m s xs
 unfolding records_from
-enough cfg zero m s xs f a b = absurd (omega arith)
-enough cfg (suc n) zero s xs f a b = absurd (omega arith)
 enough cfg (suc n) (suc m) s xs f a b = by (next_record cfg s [] [] xs) refl (λ s2 ys g x y. enough cfg n m s2 ys g x y)
   where
     by : (o : Option Read) → next_record cfg s [] [] xs ≡ o
@@ -100,6 +98,7 @@ enough cfg (suc n) (suc m) s xs f a b = by (next_record cfg s [] [] xs) refl (λ
     by (Some p) e more =
         let h = shrinks cfg s xs p f e in
         ap (λ (t : List (List (List ℕ))). p.0 ∷ t) (more p.1 p.2 h.1 (omega (arith, h.0)) (omega (arith, h.0)))
+enough cfg _ _ s xs f a b = absurd (omega arith)
 
 -- the records that are left, by the next read
 pub left-none : (s : State) (xs : List ℕ) → next_record default_config s [] [] xs ≡ None → records_at s (Some xs) ≡ []

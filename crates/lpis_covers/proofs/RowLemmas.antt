@@ -1,14 +1,12 @@
 -- Reading rows as values, a row at a time.
-use Rattle.std.proofs.Common.{◌≡◌, ◌≤◌, ◌+◌, ◌++◌, ◌∷◌, [], ℕ, List, length, map, Bool, true, false, Result, Ok, Err, refl, sym, ap, ◌∙◌, arith, append_assoc}
-use Rattle.std.specs.Prelude.{option_to_list}
+use Rattle.std.proofs.Common.{◌≡◌, ◌≤◌, ◌+◌, ◌++◌, ◌∷◌, [], ℕ, List, length, map, Bool, true, false, Result, Ok, Err, refl, sym, ap, ◌∙◌, arith, append_assoc, option_to_list}
+use Rattle.lpis_covers.proofs.Common.{default_config, strip_bom, Table, TableFault, At, unless_faulty, Answers, Reading, Record, field_of, has_mark, places_of, under_header}
 use Rattle.std.proofs.lemmas.List.{append-nil, map-append, length-append}
-use Rattle.csv.specs.Reading.{default_config, records, strip_bom}
-use Rattle.lpis_covers.specs.declared.fault.Table.{Table}
+use Rattle.csv.specs.Reading.{records}
 use Rattle.lpis_covers.specs.declared.fault.TableCode.{TableCode}
-use Rattle.lpis_covers.specs.declared.fault.TableFault.{TableFault}
-use Rattle.lpis_covers.specs.declared.fault.TableFault.TheVariants.{Memory, At}
-use Rattle.lpis_covers.specs.Faults.{RowsOf, row_faults, unless_faulty, rows_of}
-use Rattle.lpis_covers.specs.Table.{Advances, Answers, Reading, Record, field_of, has_mark, most_rows, places_of, table_of, under_header}
+use Rattle.lpis_covers.specs.declared.fault.TableFault.TheVariants.{Memory}
+use Rattle.lpis_covers.specs.Faults.{RowsOf, row_faults, rows_of}
+use Rattle.lpis_covers.specs.Table.{Advances, most_rows, table_of}
 
 -- a reader of the table t has read these rows, with these keys, and no fault yet
 pub record IsRead {A : Type 0} (kind : RowsOf A) (t : Reading) (keys : List (List ℕ)) (rows : List A) (r : Reading) : Type 0 where

@@ -1,10 +1,9 @@
 -- Pieces that are cut one by one.
-use Rattle.std.proofs.Common.{◌≡◌, ℕ, ◌+◌, ◌<◌, ◌≤◌, List, length, take, get_or, inl, inr, refl, sym, subst, arith}
-use Rattle.std.specs.Prelude.{Contains}
+use Rattle.std.proofs.Common.{◌≡◌, ℕ, ◌+◌, ◌<◌, ◌≤◌, List, length, take, get_or, inl, inr, refl, sym, subst, arith, Contains}
+use Rattle.lpis_cutter.proofs.Common.{Piece}
 use Rattle.std.proofs.lemmas.List.Elements.{Contains-get_or}
 use Rattle.std.proofs.lemmas.List.Sums.{sum_by_more, sum_by_more_le}
 use Rattle.lpis_rings.specs.Polygon.{points_of}
-use Rattle.lpis_covers.specs.declared.piece.Piece.{Piece}
 use Rattle.lpis_parcels.specs.Release.{Contents}
 use Rattle.lpis_cert.specs.Limits.{most_triangles}
 use Rattle.lpis_cutter.specs.declared.fault.Refusal.TheVariants.{NoCut}

@@ -1,22 +1,22 @@
 -- A release of which a point is told is not sound everywhere.
-use Rattle.std.proofs.Common.{◌≡◌, ℕ, zero, suc, ℤ, pos, ◌<ℤ◌, Bool, true, false, cond, List, [], ◌∷◌, Some, Result, Ok, Err, IfErr, inl, inr, ◌⊎◌, ◌↔◌, filter, ap, sym, refl, ◌∙◌, subst, arith}
-use Rattle.std.specs.Prelude.{All, Contains as IsAmong}
+use Rattle.std.proofs.Common.{◌≡◌, ℕ, zero, suc, ℤ, pos, ◌<ℤ◌, Bool, true, false, cond, List, [], ◌∷◌, Some, Result, Ok, Err, IfErr, inl, inr, ◌⊎◌, ◌↔◌, filter, ap, sym, refl, ◌∙◌, subst, arith, All}
+use Rattle.std.proofs.Common.{slice_get, Any}
+use Rattle.lpis_cutter.proofs.Common.{rational_of, Piece, pieces_named, IsInPiece}
+use Rattle.std.specs.Prelude.{Contains as IsAmong}
 use Rattle.std.proofs.lemmas.Int.{ints}
-use Rattle.std.specs.List.{slice_get, Any, IsDistinct}
+use Rattle.std.specs.List.{IsDistinct}
 use Rattle.std.proofs.lemmas.List.Elements.{All-contains}
 use Rattle.std.proofs.lemmas.Option.{none-some, same_Some}
 use Rattle.lpis_points.specs.declared.rational.RatPoint.{RatPoint}
 use Rattle.lpis_points.specs.Plane.{RationalPoint}
-use Rattle.lpis_points.specs.RatPoints.{rational_of}
-use Rattle.lpis_covers.specs.declared.piece.Piece.{Piece}
 use Rattle.lpis_parcels.specs.declared.parcel.Parcel.{Parcel}
 use Rattle.lpis_covers.specs.Ids.{same_id}
-use Rattle.lpis_parcels.specs.Release.{Contents, names, parcel_ids, pieces_named}
+use Rattle.lpis_parcels.specs.Release.{Contents, names, parcel_ids}
 use Rattle.lpis_cert.specs.declared.cert.Cert.{Cert}
 use Rattle.lpis_checker.specs.GoodCertificate.{IsGood}
 use Rattle.lpis_checker.specs.Laws.{GoodMeansSound}
-use Rattle.lpis_checker.specs.SoundMap.{AtMostOne, ExactlyOne, IsInParcel, IsInPiece, IsSoundEverywhere}
-use Rattle.lpis_checker.proofs.AreaSumLemmas.{Found, any_found, all_at, filter_kept}
+use Rattle.lpis_checker.specs.SoundMap.{AtMostOne, ExactlyOne, IsInParcel, IsSoundEverywhere}
+use Rattle.lpis_checker.proofs.Shared.{Found, any_found, all_at, filter_kept}
 use Rattle.lpis_cutter.specs.declared.fault.Refusal.TheVariants.{NoCut, ParcelsOverlap, PiecesOverlap, NoSeparator, Disagreement, NoFlats}
 use Rattle.lpis_cutter.specs.declared.fault.CutFault.{CutFault}
 use Rattle.lpis_cutter.specs.declared.fault.CutFault.TheVariants.{Memory, Refused}

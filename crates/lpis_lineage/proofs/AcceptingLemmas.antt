@@ -1,13 +1,7 @@
 -- A release is accepted exactly where it has no fault.
-use Rattle.std.proofs.Common.{◌≡◌, ◌∙◌, inl, inr, sym, ap, subst, ℕ, List, [], Some}
-use Rattle.std.specs.Prelude.{Result, Ok, Err}
-use Rattle.lpis_lineage.specs.declared.row.Row.{Row}
-use Rattle.lpis_lineage.specs.declared.row.Entry.{Entry}
-use Rattle.lpis_lineage.specs.declared.fault.LineageFault.{LineageFault}
-use Rattle.lpis_covers.specs.Ids.{has_id}
-use Rattle.lpis_lineage.specs.Lawful.{IsLawful, RowsFit}
-use Rattle.lpis_lineage.specs.private.Follows.{Follows}
-use Rattle.lpis_lineage.specs.Faults.{faults, first, ReportsFirstOf}
+use Rattle.std.proofs.Common.{◌≡◌, ◌∙◌, inl, inr, sym, ap, subst, ℕ, List, [], Some, Result, Ok, Err}
+use Rattle.lpis_lineage.proofs.Common.{Row, Entry, LineageFault, has_id, IsLawful, RowsFit, Follows, faults, first}
+use Rattle.lpis_lineage.specs.Faults.{ReportsFirstOf}
 use Rattle.lpis_lineage.specs.Accepts.{IsRelease, MayFollow, NeverFollows, Decides}
 use Rattle.lpis_lineage.proofs.ExtensionLemmas.{lawful-more, fits-more, follows-back}
 use Rattle.lpis_lineage.proofs.CleanLemmas.{follows-from-clean, clean-from-follows}

@@ -1,26 +1,17 @@
 -- Chains over one row more, and over a lawful history.
 use Rattle.std.proofs.Common.{◌≡◌, ◌∙◌, ◌<◌, ◌≤◌, ◌+◌, ◌⊎◌, inl, inr, refl, sym, ap, subst, arith, ℕ, zero, suc, List, [], ◌∷◌, ◌++◌, length, Bool, true, false, Option, None, Some, cond, take, drop}
-use Rattle.std.proofs.Common.{get_or, append_assoc}
-use Rattle.std.proofs.lemmas.List.{append-nil}
-use Rattle.std.specs.List.{list_any}
-use Rattle.std.proofs.lemmas.List.Folds.{list_any-append}
-use Rattle.lpis_lineage.specs.declared.row.Row.{Row}
-use Rattle.lpis_lineage.specs.declared.row.Entry.{Entry}
-use Rattle.lpis_covers.specs.Ids.{has_id, same_id}
-use Rattle.lpis_lineage.specs.Lineage.{last_live, holds, entry_at, is_of, is_this, names}
-use Rattle.lpis_lineage.specs.Lawful.{IsLawful, RowsFit}
-use Rattle.std.specs.Prelude.{◌&&◌, ◌↔◌}
-use Rattle.std.specs.List.{filter}
-use Rattle.lpis_lineage.specs.Descendants.{IsDescendant}
+use Rattle.std.proofs.Common.{get_or, append_assoc, ◌&&◌, ◌↔◌, filter}
+use Rattle.lpis_lineage.proofs.Common.{list_any, list_any-append, Row, Entry, has_id, same_id, last_live, holds, entry_at, is_of, is_this, names, IsLawful, RowsFit, all_rows, Reaches, AreFresh}
+use Rattle.lpis_lineage.proofs.Common.{or_left, or_cases, cases_Bool}
+use Rattle.std.proofs.lemmas.List.{append-nil, take-append-drop}
+use Rattle.lpis_lineage.specs.Descendants.{IsDescendant, leads, Chain, Here, Step}
 use Rattle.lpis_lineage.proofs.PickingLemmas.{has-filter}
-use Rattle.lpis_lineage.specs.Descendants.{all_rows, leads, Chain, Here, Step}
-use Rattle.lpis_lineage.specs.private.Following.{Reaches, IsFresh, AreFresh}
+use Rattle.lpis_lineage.specs.private.Following.{IsFresh}
 use Rattle.lpis_lineage.proofs.IdentifierLemmas.{same-exact, same-refl}
 use Rattle.lpis_lineage.proofs.CleanLemmas.{mono, any-left, any-mid, any-last}
 use Rattle.lpis_lineage.proofs.ExtensionLemmas.{entry-get}
 use Rattle.lpis_lineage.proofs.TellingLemmas.{take-at}
-use Rattle.std.proofs.lemmas.List.{take-append-drop}
-use Rattle.std.proofs.lemmas.Bool.{and_parts, or_left, or_cases, cases_Bool, and_from}
+use Rattle.std.proofs.lemmas.Bool.{and_parts, and_from}
 
 pub chain-more : (rows : List Row) (r : Row) (a b : List ℕ) → Chain rows a b → Chain (rows ++ r ∷ []) a b
 chain-more rows r a _ Here = Here

@@ -1,13 +1,7 @@
 -- One release more: the whole list is lawful and its rows fit exactly where the release follows.
-use Rattle.std.proofs.Common.{◌≡◌, ◌∙◌, ◌<◌, ◌≤◌, ◌+◌, ◌⊎◌, inl, inr, refl, sym, ap, subst, arith, ℕ, zero, suc, List, [], ◌∷◌, ◌++◌, length, Bool, true, false, length-append, get_or}
-use Rattle.std.specs.Prelude.{◌||◌}
-use Rattle.std.specs.List.{list_any, filter}
-use Rattle.lpis_lineage.specs.declared.row.Row.{Row}
-use Rattle.lpis_lineage.specs.declared.row.Entry.{Entry}
-use Rattle.lpis_covers.specs.Ids.{has_id}
-use Rattle.lpis_lineage.specs.Lineage.{holds, entry_at, names, is_of, same_row, last_live, last_year}
-use Rattle.lpis_lineage.specs.Lawful.{Drops, IsAnswered, IsLawful, RowsFit}
-use Rattle.lpis_lineage.specs.private.Follows.{Follows}
+use Rattle.std.proofs.Common.{◌≡◌, ◌∙◌, ◌<◌, ◌≤◌, ◌+◌, ◌⊎◌, inl, inr, refl, sym, ap, subst, arith, ℕ, zero, suc, List, [], ◌∷◌, ◌++◌, length, Bool, true, false, length-append, get_or, ◌||◌, filter}
+use Rattle.lpis_lineage.proofs.Common.{list_any, Row, Entry, has_id, holds, entry_at, names, is_of, same_row, last_live, last_year, IsAnswered, IsLawful, RowsFit, Follows}
+use Rattle.lpis_lineage.specs.Lawful.{Drops}
 use Rattle.lpis_lineage.proofs.IdentifierLemmas.{same-refl, entry-before, entry-here, entry-after, in-history}
 
 -- a place is before n, at n, or after

@@ -1,22 +1,15 @@
 -- The kinds, from the two passes over the rows.
-use Rattle.std.proofs.Common.{◌≡◌, ◌∙◌, ◌<◌, ◌≤◌, ◌+◌, refl, sym, ap, subst, arith, ℕ, suc, List, [], ◌∷◌, ◌++◌, length, Bool, true, false, Option, None, Some, cond, inl, inr, get_or}
+use Rattle.std.proofs.Common.{◌≡◌, ◌∙◌, ◌<◌, ◌≤◌, ◌+◌, refl, sym, ap, subst, arith, ℕ, suc, List, [], ◌∷◌, ◌++◌, length, Bool, true, false, Option, None, Some, cond, inl, inr, get_or, ◌&&◌, ◌||◌, not}
+use Rattle.std.proofs.Common.{is_some, nat_lt, filter}
+use Rattle.lpis_lineage.proofs.Common.{nat_tests, list_any, Row, or_left, or_right, or_cases, and-true, and-false, or-false, Tally, has_id, same_id, is_of, ended, names, is_this, times, heirs, kind}
+use Rattle.lpis_lineage.proofs.Common.{IsTally, AreFates}
 use Rattle.std.proofs.lemmas.List.Folds.{list_any_at}
-use Rattle.std.proofs.lemmas.Bool.Decides.{nat_tests}
-use Rattle.std.specs.Prelude.{◌&&◌, ◌||◌, not, is_some, nat_lt}
-use Rattle.std.specs.List.{list_any, filter}
-use Rattle.lpis_lineage.specs.declared.row.Row.{Row}
 use Rattle.std.proofs.lemmas.List.{append-nil}
-use Rattle.std.proofs.lemmas.Bool.{or_left, or_right, or_cases}
-use Rattle.std.proofs.Math.Bool.{and-true, and-false, or-false}
-use Rattle.lpis_lineage.specs.declared.tally.Tally.{Tally}
 use Rattle.lpis_lineage.specs.declared.fates.Fates.{Fates}
-use Rattle.lpis_covers.specs.Ids.{has_id, same_id}
-use Rattle.lpis_lineage.specs.Lineage.{is_of, ended, names, is_this}
-use Rattle.lpis_lineage.specs.Kinds.{times, heirs, with_some, successors, by_counts, kind}
-use Rattle.lpis_lineage.specs.private.Tally.{IsTally}
+use Rattle.lpis_lineage.specs.Kinds.{with_some, successors, by_counts}
 use Rattle.lpis_lineage.specs.declared.kind.Kind.{Kind}
 use Rattle.lpis_lineage.specs.declared.kind.Kind.TheVariants.{Kept, Ended}
-use Rattle.lpis_lineage.specs.private.Fates.{olds, on_some, is_shared, AreFates}
+use Rattle.lpis_lineage.specs.private.Fates.{olds, on_some, is_shared}
 use Rattle.lpis_lineage.proofs.RowCountLemmas.{filter-some}
 use Rattle.lpis_lineage.proofs.IdentifierLemmas.{same-sym}
 use Rattle.lpis_lineage.proofs.SeenLemmas.{any-push, or-cond}

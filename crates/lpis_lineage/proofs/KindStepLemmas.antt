@@ -1,13 +1,9 @@
 -- The kinds of identifiers, one further.
-use Rattle.std.proofs.Common.{◌≡◌, ◌∙◌, ◌∷◌, ◌+◌, refl, sym, ap, ℕ, List, length, Bool, true, false, Option, None, Some, cond}
-use Rattle.std.specs.Prelude.{◌&&◌, ◌||◌, not, nat_lt}
-use Rattle.std.specs.List.{list_any}
-use Rattle.lpis_covers.specs.Ids.{has_id, same_id}
+use Rattle.std.proofs.Common.{◌≡◌, ◌∙◌, ◌∷◌, ◌+◌, refl, sym, ap, ℕ, List, length, Bool, true, false, Option, None, Some, cond, ◌&&◌, ◌||◌, not, nat_lt}
+use Rattle.lpis_lineage.proofs.Common.{list_any, has_id, same_id, Row, ended, heirs, kind, times}
 use Rattle.lpis_lineage.specs.declared.kind.Kind.{Kind}
 use Rattle.lpis_lineage.specs.declared.kind.Kind.TheVariants.{Kept, Ended}
-use Rattle.lpis_lineage.specs.declared.row.Row.{Row}
-use Rattle.lpis_lineage.specs.Lineage.{ended}
-use Rattle.lpis_lineage.specs.Kinds.{by_counts, heirs, kind, predecessors, successors, times}
+use Rattle.lpis_lineage.specs.Kinds.{by_counts, predecessors, successors}
 use Rattle.lpis_lineage.proofs.IdentifierLemmas.{same-exact, same-sym}
 use Rattle.lpis_lineage.proofs.PickingLemmas.{filter-same}
 use Rattle.lpis_lineage.specs.Changes.{Changes, IsChange}

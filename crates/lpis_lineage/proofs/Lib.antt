@@ -1,3 +1,4 @@
+pub mod Common
 pub mod IdentifierLemmas
 pub mod RowCountLemmas
 pub mod ExtensionLemmas
@@ -17,3 +18,4 @@ pub mod PopStepLemmas
 pub mod SpanPickLemmas
 pub mod RowsLemmas
 pub mod WalkingLemmas
+pub mod Shared

@@ -1,9 +1,6 @@
 -- Spans begun and ended for the identifiers of a list, one after the other from its end.
-use Rattle.std.proofs.Common.{◌≡◌, ◌∙◌, refl, sym, ap, ℕ, List, [], ◌∷◌, ◌++◌, Bool, true, false, Option, None, Some, cond}
-use Rattle.std.specs.Prelude.{◌||◌}
-use Rattle.lpis_covers.specs.Ids.{has_id, same_id}
-use Rattle.lpis_lineage.specs.declared.span.Span.{Span}
-use Rattle.lpis_lineage.specs.private.Keeping.{begun, ended_in}
+use Rattle.std.proofs.Common.{◌≡◌, ◌∙◌, refl, sym, ap, ℕ, List, [], ◌∷◌, ◌++◌, Bool, true, false, Option, None, Some, cond, ◌||◌}
+use Rattle.lpis_lineage.proofs.Common.{has_id, same_id, Span, begun, ended_in}
 use Rattle.lpis_lineage.proofs.IdentifierLemmas.{same-exact, same-sym}
 use Rattle.lpis_lineage.proofs.SeenLemmas.{any-push}
 

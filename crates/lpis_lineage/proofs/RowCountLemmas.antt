@@ -1,11 +1,7 @@
 -- How many rows a test picks, and how many end an identifier.
-use Rattle.std.proofs.Common.{◌≡◌, ◌∙◌, ◌≤◌, ◌+◌, inl, inr, refl, sym, ap, arith, suc, ℕ, List, [], ◌∷◌, ◌++◌, length, Bool, true, false, Option, None, Some, cond}
-use Rattle.std.specs.Prelude.{◌&&◌, ◌||◌, not, is_some}
-use Rattle.std.specs.List.{list_any, filter}
-use Rattle.std.proofs.lemmas.Bool.{cases_Bool}
-use Rattle.lpis_lineage.specs.declared.row.Row.{Row}
-use Rattle.lpis_lineage.specs.Lineage.{ended, succeeded, is_of, same_new, same_row}
-use Rattle.lpis_lineage.specs.Lawful.{endings, IsAnswered}
+use Rattle.std.proofs.Common.{◌≡◌, ◌∙◌, ◌≤◌, ◌+◌, inl, inr, refl, sym, ap, arith, suc, ℕ, List, [], ◌∷◌, ◌++◌, length, Bool, true, false, Option, None, Some, cond, ◌&&◌, ◌||◌, not, is_some, filter}
+use Rattle.lpis_lineage.proofs.Common.{list_any, cases_Bool, Row, ended, succeeded, is_of, same_new, same_row, IsAnswered}
+use Rattle.lpis_lineage.specs.Lawful.{endings}
 
 pub filter-append : {A : Type 0} (p : A → Bool) (xs ys : List A) → length (filter p (xs ++ ys)) ≡ length (filter p xs) + length (filter p ys)
 filter-append p [] ys = omega arith

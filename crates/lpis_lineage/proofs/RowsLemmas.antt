@@ -1,12 +1,12 @@
 -- Rows of the table of lineage.
 use Rattle.std.proofs.Common.{◌≡◌, ◌++◌, ◌∷◌, [], ℕ, List, Option, None, Some, Result, Ok, Err, refl, ap, ◌∙◌}
+use Rattle.lpis_lineage.proofs.Common.{Row}
 use Rattle.lpis_covers.specs.declared.fault.Table.TheVariants.{Lineage}
 use Rattle.lpis_covers.specs.declared.fault.TableFault.{TableFault}
 use Rattle.lpis_covers.specs.declared.fault.TableFault.TheVariants.{Memory, At}
 use Rattle.lpis_covers.specs.Faults.{id_faults, unless_faulty}
 use Rattle.lpis_covers.specs.Table.{Answers, Record, field_of}
-use Rattle.lpis_covers.proofs.RowLemmas.{column-fault, column-passed, fault-retold}
-use Rattle.lpis_lineage.specs.declared.row.Row.{Row}
+use Rattle.lpis_covers.proofs.Shared.{column-fault, column-passed, fault-retold}
 use Rattle.lpis_lineage.specs.LineageTable.{AnswersRows, lineage_faults, row_of, successor_faults, successor_of}
 
 -- an empty field

@@ -1,19 +1,10 @@
 -- What the sets of rows seen say of the next row.
-use Rattle.std.proofs.Common.{◌≡◌, ◌∙◌, refl, sym, ap, ℕ, List, [], ◌∷◌, ◌++◌, Bool, true, false, Option, None, Some, cond}
-use Rattle.std.specs.Prelude.{◌&&◌, ◌||◌, not, is_some}
-use Rattle.std.specs.List.{list_any}
-use Rattle.std.specs.Ordering.{is_eq, nat_cmp, ordering_then}
-use Rattle.std.specs.Cmp.Lexicographic.{slice_cmp, texts_ties}
-use Rattle.std.specs.declared.cmp.Ordering.{Ordering}
-use Rattle.std.specs.declared.cmp.Ordering.TheVariants.{Less, Equal, Greater}
-use Rattle.std.proofs.lemmas.List.Folds.{list_any-append}
-use Rattle.std.proofs.Math.Bool.{and-true, and-false, or-false}
-use Rattle.lpis_lineage.specs.declared.row.Row.{Row}
+use Rattle.std.proofs.Common.{◌≡◌, ◌∙◌, refl, sym, ap, ℕ, List, [], ◌∷◌, ◌++◌, Bool, true, false, Option, None, Some, cond, ◌&&◌, ◌||◌, not, is_some, is_eq, nat_cmp, Ordering, Less, Equal, Greater}
+use Rattle.lpis_lineage.proofs.Common.{list_any, slice_cmp, list_any-append, and-true, and-false, or-false, Row, has_id, same_id, ended, succeeded, is_of, names, is_this, same_new, same_row, clashes}
+use Rattle.lpis_lineage.proofs.Common.{IsSeen}
+use Rattle.std.specs.Ordering.{ordering_then}
+use Rattle.std.specs.Cmp.Lexicographic.{texts_ties}
 use Rattle.lpis_lineage.specs.declared.seen.Seen.{Seen}
-use Rattle.lpis_covers.specs.Ids.{has_id, same_id}
-use Rattle.lpis_lineage.specs.Lineage.{ended, succeeded, is_of, names, is_this, same_new, same_row}
-use Rattle.lpis_lineage.specs.Faults.{clashes}
-use Rattle.lpis_lineage.specs.private.Seen.{IsSeen}
 use Rattle.lpis_lineage.proofs.IdentifierLemmas.{same-sym}
 
 pub any-same : {A : Type 0} (p q : A → Bool) (xs : List A) → ((x : A) → p x ≡ q x) → list_any p xs ≡ list_any q xs

@@ -1,19 +1,9 @@
 -- The spans of a lawful history tell each release's set.
-use Rattle.std.proofs.Common.{◌≡◌, ◌∙◌, ◌<◌, ◌≤◌, inl, inr, refl, sym, ap, arith, ℕ, zero, suc, List, [], ◌∷◌, length, Bool, true, false, Option, None, Some, cond}
-use Rattle.std.proofs.lemmas.Bool.Decides.{nat_tests}
-use Rattle.std.specs.Option.{is_some}
+use Rattle.std.proofs.Common.{◌≡◌, ◌∙◌, ◌<◌, ◌≤◌, inl, inr, refl, sym, ap, arith, ℕ, zero, suc, List, [], ◌∷◌, length, Bool, true, false, Option, None, Some, cond, is_some, ◌&&◌, ◌||◌, nat_le, nat_eq}
+use Rattle.std.proofs.Common.{filter}
+use Rattle.lpis_lineage.proofs.Common.{nat_tests, option_or, Entry, has_id, holds, entry_at, last_live, IsLawful, cases_Bool, and-false, Span, first_held, last_held, span_between, span_of, live_in}
 use Rattle.lpis_lineage.proofs.CleanLemmas.{held-some}
-use Rattle.std.specs.Option.{option_or}
-use Rattle.lpis_lineage.specs.declared.row.Entry.{Entry}
-use Rattle.lpis_covers.specs.Ids.{has_id}
-use Rattle.lpis_lineage.specs.Lineage.{holds, entry_at, last_live}
-use Rattle.lpis_lineage.specs.Lawful.{IsLawful}
-use Rattle.std.specs.Prelude.{◌&&◌, ◌||◌, nat_le, nat_eq}
-use Rattle.std.specs.List.{filter}
-use Rattle.std.proofs.lemmas.Bool.{cases_Bool}
-use Rattle.std.proofs.Math.Bool.{and-false}
-use Rattle.lpis_lineage.specs.declared.span.Span.{Span}
-use Rattle.lpis_lineage.specs.Spans.{first_held, last_held, span_between, span_of, in_span, live_in, ids_of, AreSpansOf}
+use Rattle.lpis_lineage.specs.Spans.{in_span, ids_of, AreSpansOf}
 use Rattle.lpis_lineage.proofs.PickingLemmas.{has-filter}
 use Rattle.lpis_lineage.proofs.IdentifierLemmas.{in-history}
 use Rattle.lpis_lineage.proofs.ExtensionLemmas.{place, last-some}

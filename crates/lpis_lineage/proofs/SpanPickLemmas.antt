@@ -1,8 +1,8 @@
 -- The identifiers whose span holds a year, one further.
 use Rattle.std.proofs.Common.{◌≡◌, ◌∙◌, ◌<◌, ◌+◌, refl, sym, ap, ℕ, List, [], ◌∷◌, ◌++◌, length, Bool, true, false, cond, take, get_or}
+use Rattle.lpis_lineage.proofs.Common.{Span, live_in}
 use Rattle.std.proofs.lemmas.List.{append-nil}
-use Rattle.lpis_lineage.specs.declared.span.Span.{Span}
-use Rattle.lpis_lineage.specs.Spans.{in_span, live_in}
+use Rattle.lpis_lineage.specs.Spans.{in_span}
 use Rattle.lpis_lineage.proofs.TellingLemmas.{take-at}
 
 live-push : (ps : List (List ℕ × Span)) (p : List ℕ × Span) (y : ℕ) → live_in (ps ++ p ∷ []) y ≡ live_in ps y ++ cond (in_span p.1 y) (p.0 ∷ []) []

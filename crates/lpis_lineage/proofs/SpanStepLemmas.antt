@@ -1,19 +1,9 @@
 -- Spans in a history with one release more.
-use Rattle.std.proofs.Common.{◌≡◌, ◌∙◌, ◌<◌, ◌≤◌, refl, sym, ap, subst, arith, ℕ, List, [], ◌∷◌, ◌++◌, length, Bool, true, false, Option, None, Some, cond}
-use Rattle.std.specs.Prelude.{◌&&◌, not}
-use Rattle.std.specs.List.{filter}
-use Rattle.std.specs.Option.{is_some, option_or}
-use Rattle.lpis_covers.specs.Ids.{has_id}
-use Rattle.lpis_lineage.specs.declared.row.Row.{Row}
-use Rattle.lpis_lineage.specs.declared.row.Entry.{Entry}
-use Rattle.lpis_lineage.specs.declared.span.Span.{Span}
-use Rattle.lpis_lineage.specs.Lineage.{entry_at, holds, last_live, last_year}
-use Rattle.lpis_lineage.specs.Lawful.{IsLawful, RowsFit}
-use Rattle.lpis_lineage.specs.Faults.{faults}
+use Rattle.std.proofs.Common.{◌≡◌, ◌∙◌, ◌<◌, ◌≤◌, refl, sym, ap, subst, arith, ℕ, List, [], ◌∷◌, ◌++◌, length, Bool, true, false, Option, None, Some, cond, ◌&&◌, not, filter, is_some}
+use Rattle.lpis_lineage.proofs.Common.{option_or, has_id, Row, Entry, Span, entry_at, holds, last_live, last_year, IsLawful, RowsFit, faults, Follows, first_held, last_held, span_between, span_of}
+use Rattle.lpis_lineage.proofs.Common.{begun, ended_in}
 use Rattle.lpis_lineage.specs.Accepts.{IsRelease}
-use Rattle.lpis_lineage.specs.private.Follows.{Follows}
-use Rattle.lpis_lineage.specs.Spans.{first_held, last_held, span_between, span_of}
-use Rattle.lpis_lineage.specs.private.Keeping.{IsHistory, begun, ended_in}
+use Rattle.lpis_lineage.specs.private.Keeping.{IsHistory}
 use Rattle.lpis_lineage.proofs.IdentifierLemmas.{in-history, entry-here}
 use Rattle.lpis_lineage.proofs.ExtensionLemmas.{last-at, last-some, longer, year-at}
 use Rattle.lpis_lineage.proofs.CleanLemmas.{follows-from-clean, held-some}

@@ -1,18 +1,12 @@
 -- A history less its last release.
-use Rattle.std.proofs.Common.{◌≡◌, ◌∙◌, ◌<◌, ◌≤◌, ◌+◌, inl, inr, refl, sym, ap, subst, arith, ℕ, List, [], ◌∷◌, ◌++◌, length, Bool, true, false, Option, None, Some, cond}
+use Rattle.std.proofs.Common.{◌≡◌, ◌∙◌, ◌<◌, ◌≤◌, ◌+◌, inl, inr, refl, sym, ap, subst, arith, ℕ, List, [], ◌∷◌, ◌++◌, length, Bool, true, false, Option, None, Some, cond, ◌&&◌, ◌||◌, not, nat_eq}
+use Rattle.std.proofs.Common.{is_some, filter}
+use Rattle.lpis_lineage.proofs.Common.{list_any, has_id, same_id, Row, Entry, Span, holds, entry_at, names, is_of, same_row, last_live, last_year, IsAnswered, IsLawful, RowsFit, first_held, last_held}
+use Rattle.lpis_lineage.proofs.Common.{span_between, span_of, begun, ended_in, forgotten}
 use Rattle.std.proofs.lemmas.Bool.{eq-eqb}
 use Rattle.std.proofs.lemmas.Bool.Decides.{eqb_tells}
-use Rattle.std.specs.Prelude.{◌&&◌, ◌||◌, not, nat_eq}
-use Rattle.std.specs.Option.{is_some}
-use Rattle.std.specs.List.{list_any, filter}
-use Rattle.lpis_covers.specs.Ids.{has_id, same_id}
-use Rattle.lpis_lineage.specs.declared.row.Row.{Row}
-use Rattle.lpis_lineage.specs.declared.row.Entry.{Entry}
-use Rattle.lpis_lineage.specs.declared.span.Span.{Span}
-use Rattle.lpis_lineage.specs.Lineage.{holds, entry_at, names, is_of, same_row, last_live, last_year}
-use Rattle.lpis_lineage.specs.Lawful.{Drops, IsAnswered, IsLawful, RowsFit}
-use Rattle.lpis_lineage.specs.Spans.{first_held, last_held, span_between, span_of}
-use Rattle.lpis_lineage.specs.private.Keeping.{IsHistory, begun, ended_in, forgotten}
+use Rattle.lpis_lineage.specs.Lawful.{Drops}
+use Rattle.lpis_lineage.specs.private.Keeping.{IsHistory}
 use Rattle.lpis_lineage.proofs.IdentifierLemmas.{entry-before, entry-here, entry-after, in-history, same-exact, same-sym}
 use Rattle.lpis_lineage.proofs.ExtensionLemmas.{place, longer, beyond, follows-back, hold-before}
 use Rattle.lpis_lineage.proofs.SpanLemmas.{first-place}

@@ -1,13 +1,7 @@
 -- A list, one identifier longer.
-use Rattle.std.proofs.Common.{◌≡◌, ◌∙◌, ◌<◌, ◌+◌, refl, sym, ap, subst, arith, ℕ, List, [], ◌∷◌, ◌++◌, length, Bool, true, false, Option, None, Some, cond, take, get_or}
-use Rattle.std.proofs.lemmas.Bool.Decides.{nat_tests}
-use Rattle.std.specs.Prelude.{◌||◌, nat_lt}
-use Rattle.std.proofs.Math.Bool.{or-false}
-use Rattle.lpis_lineage.specs.declared.row.Row.{Row}
-use Rattle.lpis_lineage.specs.declared.tally.Tally.{Tally}
-use Rattle.lpis_covers.specs.Ids.{has_id, same_id}
-use Rattle.lpis_lineage.specs.Kinds.{times, heirs, with_some}
-use Rattle.lpis_lineage.specs.private.Tally.{IsTally}
+use Rattle.std.proofs.Common.{◌≡◌, ◌∙◌, ◌<◌, ◌+◌, refl, sym, ap, subst, arith, ℕ, List, [], ◌∷◌, ◌++◌, length, Bool, true, false, Option, None, Some, cond, take, get_or, ◌||◌, nat_lt}
+use Rattle.lpis_lineage.proofs.Common.{nat_tests, or-false, Row, Tally, has_id, same_id, times, heirs, IsTally}
+use Rattle.lpis_lineage.specs.Kinds.{with_some}
 use Rattle.lpis_lineage.proofs.IdentifierLemmas.{same-exact, same-sym}
 use Rattle.lpis_lineage.proofs.RowCountLemmas.{filter-append, filter-none, filter-some}
 use Rattle.lpis_lineage.proofs.SeenLemmas.{any-push, or-cond}

@@ -1,14 +1,10 @@
 -- Lists of faults, one element more.
 use Rattle.std.proofs.Common.{◌≡◌, ◌∙◌, ◌<◌, ◌+◌, ◌⊎◌, inl, inr, refl, sym, ap, subst, arith, ℕ, zero, suc, List, [], ◌∷◌, ◌++◌, length, Bool, true, false, Option, None, Some, take, drop, get_or}
-use Rattle.std.specs.Prelude.{◌&&◌, ◌||◌, not, is_some}
-use Rattle.std.specs.List.{list_any}
-use Rattle.lpis_lineage.specs.declared.row.Row.{Row}
-use Rattle.lpis_lineage.specs.declared.row.Entry.{Entry}
-use Rattle.lpis_lineage.specs.declared.fault.LineageFault.{LineageFault}
+use Rattle.std.proofs.Common.{◌&&◌, ◌||◌, not, is_some}
+use Rattle.lpis_lineage.proofs.Common.{list_any, Row, Entry, LineageFault, has_id, ended, succeeded, is_of, last_live, same_row, fault_before, clashes, faults, row_faults, dropped_faults, used_faults}
+use Rattle.lpis_lineage.proofs.Common.{first}
 use Rattle.lpis_lineage.specs.declared.fault.LineageFault.TheVariants.{Memory, OldNotLive, OldStillLive, SuccessorMissing, DoubledRow, EndingBesideSuccessor, NoRow}
-use Rattle.lpis_covers.specs.Ids.{has_id}
-use Rattle.lpis_lineage.specs.Lineage.{ended, succeeded, is_of, last_live, same_row}
-use Rattle.lpis_lineage.specs.Faults.{fault_before, is_missing, clashes, faults, faults_of_row, row_faults, dropped_faults, used_faults, first}
+use Rattle.lpis_lineage.specs.Faults.{is_missing, faults_of_row}
 
 pub record Falls (some none others : List LineageFault) : Type 0 where
   pub when_none : none ≡ [] → some ≡ others

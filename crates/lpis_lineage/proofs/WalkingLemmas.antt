@@ -1,16 +1,8 @@
 -- Faults of identifiers, looked for among those alone that another set lacks.
-use Rattle.std.proofs.Common.{◌≡◌, ◌∙◌, refl, sym, ap, ℕ, List, [], ◌∷◌, Bool, true, false, Option, None, Some, cond}
-use Rattle.std.specs.Prelude.{◌&&◌, not, is_some}
-use Rattle.std.specs.List.{filter, list_any}
-use Rattle.lpis_covers.specs.Ids.{has_id}
-use Rattle.lpis_lineage.specs.declared.row.Row.{Row}
-use Rattle.lpis_lineage.specs.declared.row.Entry.{Entry}
-use Rattle.lpis_lineage.specs.declared.span.Span.{Span}
-use Rattle.lpis_lineage.specs.declared.fault.LineageFault.{LineageFault}
+use Rattle.std.proofs.Common.{◌≡◌, ◌∙◌, refl, sym, ap, ℕ, List, [], ◌∷◌, Bool, true, false, Option, None, Some, cond, ◌&&◌, not, is_some, filter}
+use Rattle.lpis_lineage.proofs.Common.{list_any, has_id, Row, Entry, Span, LineageFault, is_of, last_live, fault_before, dropped_faults, used_faults, last_held, span_of}
 use Rattle.lpis_lineage.specs.declared.fault.LineageFault.TheVariants.{NoRow}
-use Rattle.lpis_lineage.specs.Lineage.{is_of, last_live}
-use Rattle.lpis_lineage.specs.Faults.{fault_before, used_fault_before, dropped_faults, used_faults}
-use Rattle.lpis_lineage.specs.Spans.{last_held, span_of}
+use Rattle.lpis_lineage.specs.Faults.{used_fault_before}
 use Rattle.lpis_lineage.proofs.CleanLemmas.{used-clean, clean-used}
 use Rattle.lpis_lineage.proofs.ExtensionLemmas.{last-some}
 use Rattle.lpis_lineage.proofs.SpanStepLemmas.{none-held, unlive-none}

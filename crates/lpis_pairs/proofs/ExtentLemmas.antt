@@ -1,10 +1,10 @@
 -- Boxes measured from the corner of the range: what two of them say when their triangles are not apart.
 use Rattle.std.proofs.Common.{◌≡◌, ℤ, ◌<◌, ◌≤◌, ◌≤ℤ◌, ◌<ℤ◌, false, ◌||◌, int_le, arith}
+use Rattle.lpis_pairs.proofs.Common.{Triangle, extent_of}
 use Rattle.std.proofs.lemmas.Int.{ints, clamps}
 use Rattle.lpis_points.specs.Range.{IsInRange}
-use Rattle.lpis_points.specs.declared.triangle.Triangle.{Triangle}
 use Rattle.lpis_points.specs.Triangles.{are_apart, box_of, least, greatest}
-use Rattle.lpis_pairs.specs.private.Strips.{offset, extent_of}
+use Rattle.lpis_pairs.specs.private.Strips.{offset}
 
 -- the least and the greatest of three numbers
 pub least_in_range : (a b c : ℤ) → IsInRange a → IsInRange b → IsInRange c → IsInRange (least a b c)

@@ -1,20 +1,15 @@
 -- A sweep finds every near pair: the two triangles have events in the lowest strip that both meet, and there they are
 -- joined.
-use Rattle.std.proofs.Common.{◌≡◌, ℕ, ◌/◌, ◌<◌, ◌≤◌, Bool, true, ◌||◌, nat_eq, List, Some, ◌⊎◌, inl, inr, refl, ap, sym, ◌∙◌, subst, arith}
-use Rattle.std.specs.List.{Contains, slice_get}
-use Rattle.std.specs.List.Sorted.{IsPermutation}
+use Rattle.std.proofs.Common.{◌≡◌, ℕ, ◌/◌, ◌<◌, ◌≤◌, Bool, true, ◌||◌, nat_eq, List, Some, ◌⊎◌, inl, inr, refl, ap, sym, ◌∙◌, subst, arith, Contains, slice_get, IsPermutation}
+use Rattle.lpis_pairs.proofs.Common.{nat_tests, same_Some, slice_get_within, get_or_from_slice_get, Triangle, Event, extent_of, IsNear, AreNear, Joins, event}
 use Rattle.std.proofs.Math.Nat.{div-mul-le_self}
 use Rattle.std.proofs.lemmas.Nat.{le-div}
 use Rattle.std.proofs.lemmas.Bool.{cases_order}
-use Rattle.std.proofs.lemmas.Bool.Decides.{nat_tests}
 use Rattle.std.proofs.lemmas.List.Sorted.{Contains-permutation}
 use Rattle.std.proofs.lemmas.List.Elements.{All-contains}
-use Rattle.std.proofs.lemmas.Option.{same_Some, slice_get-get_or, slice_get_within, get_or_from_slice_get}
-use Rattle.lpis_points.specs.declared.triangle.Triangle.{Triangle}
-use Rattle.lpis_pairs.specs.declared.events.Event.{Event}
-use Rattle.lpis_pairs.specs.private.Strips.{extent_of}
-use Rattle.lpis_pairs.specs.NearPairs.{IsNear, IsNearList}
-use Rattle.lpis_pairs.specs.private.Sweeping.{AreNear, HasEvents, IsRising, Joins, event}
+use Rattle.std.proofs.lemmas.Option.{slice_get-get_or}
+use Rattle.lpis_pairs.specs.NearPairs.{IsNearList}
+use Rattle.lpis_pairs.specs.private.Sweeping.{HasEvents, IsRising}
 use Rattle.lpis_pairs.proofs.ExtentLemmas.{Meet, meet, upright}
 
 -- a higher place is in no lower strip

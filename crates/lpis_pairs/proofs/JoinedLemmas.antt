@@ -1,12 +1,7 @@
 -- The pairs that a sweep has joined so far.
-use Rattle.std.proofs.Common.{◌≡◌, ℕ, ◌+◌, ◌<◌, ◌≤◌, true, ◌||◌, List, [], length, Some, ◌⊎◌, inl, inr, ap, sym, ◌∙◌, subst, arith}
-use Rattle.std.specs.List.{Contains, slice_get}
+use Rattle.std.proofs.Common.{◌≡◌, ℕ, ◌+◌, ◌<◌, ◌≤◌, true, ◌||◌, List, [], length, Some, ◌⊎◌, inl, inr, ap, sym, ◌∙◌, subst, arith, Contains, slice_get}
+use Rattle.lpis_pairs.proofs.Common.{same_Some, slice_get_within, Triangle, Event, IsNear, AreInOrder, AreNear, Joins}
 use Rattle.std.proofs.lemmas.List.Elements.{All-nil}
-use Rattle.std.proofs.lemmas.Option.{same_Some, slice_get_within}
-use Rattle.lpis_points.specs.declared.triangle.Triangle.{Triangle}
-use Rattle.lpis_pairs.specs.declared.events.Event.{Event}
-use Rattle.lpis_pairs.specs.NearPairs.{IsNear}
-use Rattle.lpis_pairs.specs.private.Sweeping.{AreInOrder, AreNear, Joins}
 
 -- each pair of the first list is in the second
 abbrev pub Keeps : List (ℕ × ℕ) → List (ℕ × ℕ) → Type 0

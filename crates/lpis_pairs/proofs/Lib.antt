@@ -1,3 +1,4 @@
+pub mod Common
 pub mod PushLemmas
 pub mod RowLemmas
 pub mod NearnessLemmas

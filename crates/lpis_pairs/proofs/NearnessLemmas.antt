@@ -1,9 +1,8 @@
 -- Near pairs as the code reads them: i and j are numbers of triangles, and t and u what it reads there.
 use Rattle.std.proofs.Common.{◌≡◌, ℕ, ◌<◌, Bool, IsTrue, not, true, false, List, length, get_or, Some, refl, sym, ◌∙◌, arith}
+use Rattle.lpis_pairs.proofs.Common.{Triangle, IsNear}
 use Rattle.std.proofs.lemmas.Option.{slice_get_read}
-use Rattle.lpis_points.specs.declared.triangle.Triangle.{Triangle}
 use Rattle.lpis_points.specs.Triangles.{are_apart}
-use Rattle.lpis_pairs.specs.NearPairs.{IsNear}
 
 pub near : (ts : List Triangle) (i j : ℕ) (t u : Triangle) → i < j → j < length ts → t ≡ get_or ts i t → u ≡ get_or ts j u → are_apart t u ≡ false → IsNear ts i j
 near ts i j t u r l e f n = record {

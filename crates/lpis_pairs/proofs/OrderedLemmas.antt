@@ -1,14 +1,10 @@
 -- Sorted events run strip by strip, and in a strip by where boxes begin.
-use Rattle.std.proofs.Common.{◌≡◌, ℕ, ◌<◌, ◌≤◌, false, List, Ordering, ◌⊎◌, ap₂, sym, ◌∙◌, arith}
+use Rattle.std.proofs.Common.{◌≡◌, ℕ, ◌<◌, ◌≤◌, false, List, Ordering, ◌⊎◌, ap₂, sym, ◌∙◌, arith, IsSorted, nat_cmp, is_lt}
+use Rattle.lpis_pairs.proofs.Common.{nat_tests, slice_get_within, get_or_from_slice_get, Event, AreInOrder}
 use Rattle.std.specs.Cmp.{IsTotalOrder, bool_cmp_total}
-use Rattle.std.specs.List.Sorted.{IsSorted}
-use Rattle.std.specs.Ordering.{nat_cmp, bool_cmp, ordering_then, is_lt}
-use Rattle.std.proofs.lemmas.Bool.Decides.{nat_tests}
+use Rattle.std.specs.Ordering.{bool_cmp, ordering_then}
 use Rattle.std.proofs.lemmas.Cmp.{nat_cmp_total, on_total, then_total}
 use Rattle.std.proofs.lemmas.List.Sorted.{ranks_by, sorted_far}
-use Rattle.std.proofs.lemmas.Option.{slice_get_within, get_or_from_slice_get}
-use Rattle.lpis_pairs.specs.declared.events.Event.{Event}
-use Rattle.lpis_pairs.specs.private.Sweeping.{AreInOrder}
 
 -- the derived order of events
 abbrev pub event_cmp : Event → Event → Ordering

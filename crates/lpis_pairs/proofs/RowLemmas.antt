@@ -1,9 +1,7 @@
 -- The near pairs that stand before (i, j), as a list: what the two nested loops have found when they come to (i, j).
-use Rattle.std.proofs.Common.{◌≡◌, ℕ, ◌+◌, ◌<◌, ◌≤◌, List, [], ◌∷◌, ◌++◌, length, Option, Some, ◌⊎◌, inl, inr, refl, sym, ◌∙◌, subst, arith}
-use Rattle.std.specs.List.{slice_get}
-use Rattle.std.proofs.lemmas.Option.{slice_get_within}
-use Rattle.lpis_points.specs.declared.triangle.Triangle.{Triangle}
-use Rattle.lpis_pairs.specs.NearPairs.{IsNear, IsBelow, IsNearList}
+use Rattle.std.proofs.Common.{◌≡◌, ℕ, ◌+◌, ◌<◌, ◌≤◌, List, [], ◌∷◌, ◌++◌, length, Option, Some, ◌⊎◌, inl, inr, refl, sym, ◌∙◌, subst, arith, slice_get}
+use Rattle.lpis_pairs.proofs.Common.{slice_get_within, Triangle, IsNear}
+use Rattle.lpis_pairs.specs.NearPairs.{IsBelow, IsNearList}
 use Rattle.lpis_pairs.proofs.PushLemmas.{push_cases, push_old, push_new}
 
 pub record NearUpTo (ts : List Triangle) (ps : List (ℕ × ℕ)) (i j : ℕ) : Type 0 where

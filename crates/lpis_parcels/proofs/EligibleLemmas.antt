@@ -1,19 +1,17 @@
 -- Eligible areas, a piece at a time.
-use Rattle.std.proofs.Common.{◌≡◌, ◌≤◌, ◌<◌, ◌+◌, ◌*◌, ◌∷◌, [], ℕ, zero, suc, ℤ, pos, ◌+ℤ◌, List, length, drop, get_or, filter, Bool, true, false, cond, Some, refl, sym, ap, ◌∙◌, arith}
-use Rattle.std.specs.Prelude.{nat_abs, slice_get}
+use Rattle.std.proofs.Common.{◌≡◌, ◌≤◌, ◌<◌, ◌+◌, ◌*◌, ◌∷◌, [], ℕ, zero, suc, ℤ, pos, ◌+ℤ◌, List, length, drop, get_or, filter, Bool, true, false, cond, Some, refl, sym, ap, ◌∙◌, arith, nat_abs}
+use Rattle.std.proofs.Common.{slice_get}
+use Rattle.lpis_parcels.proofs.Common.{slice_get_read, Piece, places_where, Contents, names}
 use Rattle.std.proofs.lemmas.Int.{ints, to_z-of_z}
 use Rattle.std.proofs.lemmas.List.{drop_all}
-use Rattle.std.proofs.lemmas.Option.{slice_get_read}
 use Rattle.std.proofs.Math.IntN.{+ℤ_assoc, +ℤ_idl, +ℤ_idr}
 use mir.Syntax.{w128}
 use mir.Val.{SFits, to_z, of_z}
 use Rattle.lpis_covers.specs.Table.{most_rows}
-use Rattle.lpis_covers.specs.declared.piece.Piece.{Piece}
 use Rattle.lpis_rings.specs.Area.{area2}
 use Rattle.lpis_rings.specs.AreaBounds.{most_area}
 use Rattle.lpis_parcels.specs.Eligible.{areas2, eligible2, is_eligible}
-use Rattle.lpis_parcels.specs.private.Groups.{at_places, places_where}
-use Rattle.lpis_parcels.specs.Release.{Contents, names}
+use Rattle.lpis_parcels.specs.private.Groups.{at_places}
 use Rattle.lpis_parcels.proofs.JoinLemmas.{drop-at}
 use Rattle.lpis_parcels.proofs.PlaceLemmas.{at-places-where}
 

@@ -1,25 +1,22 @@
 -- The joins, a row at a time.
 use Rattle.std.proofs.Common.{◌≡◌, ◌<◌, ◌+◌, ◌++◌, ◌∷◌, [], ℕ, zero, suc, List, length, map, take, drop, get_or, set, replicate, Bool, true, false, not, cond, Option, Some, None, Ok, Err, refl, sym}
-use Rattle.std.proofs.Common.{ap, ◌∙◌, arith, add-one, drop-cons}
-use Rattle.std.specs.Prelude.{◌||◌, is_some, slice_get}
+use Rattle.std.proofs.Common.{ap, ◌∙◌, arith, add-one, drop-cons, ◌||◌, is_some, slice_get}
+use Rattle.lpis_parcels.proofs.Common.{length-map, Class, Piece, Parcel, places_where, names, reference_faults}
 use Rattle.std.specs.List.{IsDistinct, list_any, AllByRecursion}
-use Rattle.std.proofs.lemmas.List.{map-append, take_more, length-take-le, length-map, get_or-map}
+use Rattle.std.proofs.lemmas.List.{map-append, take_more, length-take-le, get_or-map}
 use Rattle.std.proofs.lemmas.Option.{slice_get_within, get_or_from_slice_get}
-use Rattle.lpis_covers.proofs.RowLemmas.{column-fault}
+use Rattle.lpis_covers.proofs.Shared.{column-fault}
 use Rattle.lpis_parcels.specs.private.Joined.{AreJoins}
 use Rattle.std.proofs.lemmas.Slice.Eq.{bytes_eq-Decides}
-use Rattle.lpis_covers.specs.declared.class.Class.{Class}
-use Rattle.lpis_covers.specs.declared.piece.Piece.{Piece}
 use Rattle.lpis_covers.specs.declared.fault.TableFault.{TableFault}
-use Rattle.lpis_covers.specs.declared.fault.Table.TheVariants as table
 use Rattle.lpis_covers.specs.declared.fault.TableCode.TheVariants.{UnknownParcel, UnknownClass, ParcelWithoutPieces}
 use Rattle.lpis_covers.specs.Faults.{fault_if, unless_faulty}
 use Rattle.lpis_covers.specs.Ids.{has_id, same_id}
 use Rattle.lpis_covers.specs.Table.{fault_at}
-use Rattle.lpis_parcels.specs.declared.parcel.Parcel.{Parcel}
 use Rattle.lpis_parcels.specs.Eligible.{class_named}
-use Rattle.lpis_parcels.specs.private.Groups.{Refuses, empty_faults, is_nil, places_where}
-use Rattle.lpis_parcels.specs.Release.{class_codes, names, parcel_faults, parcel_ids, reference_faults, unknown_faults}
+use Rattle.lpis_parcels.specs.private.Groups.{Refuses, empty_faults, is_nil}
+use Rattle.lpis_parcels.specs.Release.{class_codes, parcel_faults, parcel_ids, unknown_faults}
+use Rattle.lpis_covers.specs.declared.fault.Table.TheVariants as table
 
 -- identifiers
 same-sym-false : (a b : List ℕ) → same_id a b ≡ false → same_id b a ≡ false

@@ -1,3 +1,5 @@
+pub mod Common
 pub mod JoinLemmas
 pub mod PlaceLemmas
 pub mod EligibleLemmas
+pub mod Shared

@@ -1,16 +1,14 @@
 -- The places of a parcel's pieces, and what stands there.
 use Rattle.std.proofs.Common.{◌≡◌, ◌≤◌, ◌<◌, ◌+◌, ◌++◌, ◌∷◌, [], ℕ, zero, suc, List, length, map, get_or, filter, Bool, true, false, cond, Option, Some, refl, sym, ap, subst, ◌∙◌, arith, append_assoc}
-use Rattle.std.specs.Prelude.{All, slice_get}
+use Rattle.std.proofs.Common.{All, slice_get}
+use Rattle.lpis_parcels.proofs.Common.{Class, Piece, Parcel, places_where, Contents, names, reference_faults}
 use Rattle.std.proofs.lemmas.List.{length-append}
 use Rattle.std.proofs.lemmas.Slice.Eq.{bytes_eq-Decides}
-use Rattle.lpis_covers.specs.declared.class.Class.{Class}
-use Rattle.lpis_covers.specs.declared.piece.Piece.{Piece}
 use Rattle.lpis_covers.specs.declared.fault.TableFault.{TableFault}
 use Rattle.lpis_covers.specs.Ids.{has_id}
-use Rattle.lpis_parcels.specs.declared.parcel.Parcel.{Parcel}
 use Rattle.lpis_parcels.specs.Eligible.{class_named, eligible_mark, is_eligible}
-use Rattle.lpis_parcels.specs.private.Groups.{at_places, places_where}
-use Rattle.lpis_parcels.specs.Release.{Contents, names, parcel_ids, reference_faults, unknown_faults}
+use Rattle.lpis_parcels.specs.private.Groups.{at_places}
+use Rattle.lpis_parcels.specs.Release.{parcel_ids, unknown_faults}
 
 item-here : {A : Type 0} (front : List A) (x : A) (xs : List A) (i : ℕ) → i ≡ length front → slice_get (front ++ x ∷ xs) i ≡ Some x
 item-here [] x xs i e = rw e refl
@@ -98,13 +96,12 @@ first-faults parcels classes pieces others h = none-left _ others h
 pub class-of-place : (classes : List Class) (places : List ℕ) (pieces : List Piece) (i j : ℕ) (piece : Piece) → map (slice_get classes) places ≡ map (λ (p : Piece). class_named classes p.class) pieces
     → slice_get pieces i ≡ Some piece → j ≡ get_or places i j → slice_get classes j ≡ class_named classes piece.class
 class-of-place classes [] [] i j piece e at is = cc at
-class-of-place classes [] (p ∷ ps) i j piece e at is = cc e
-class-of-place classes (q ∷ qs) [] i j piece e at is = cc e
 class-of-place classes (q ∷ qs) (p ∷ ps) zero j piece e at is =
     let same : p ≡ piece = cc at in
     let first : slice_get classes q ≡ class_named classes p.class = cc e in
     ap (slice_get classes) is ∙ first ∙ ap (λ (p : Piece). class_named classes p.class) same
 class-of-place classes (q ∷ qs) (p ∷ ps) (suc i) j piece e at is = class-of-place classes qs ps i j piece (cc e) at is
+class-of-place classes _ _ i j piece e at is = cc e
 
 -- going over the items at places
 pub others-within : (n p : ℕ) (places ps : List ℕ) → places ≡ p ∷ ps → All (λ i. i < n) places → All (λ i. i < n) ps

@@ -1,9 +1,8 @@
 -- Two triangles whose boxes are apart have no inner point in common.
 use Rattle.std.proofs.Common.{◌≡◌, ℤ, pos, ◌+ℤ◌, ◌-ℤ◌, ◌*ℤ◌, ◌≤ℤ◌, ◌<ℤ◌, int_le, true, ◌||◌, ◌⊎◌, inl, inr, [], ◌∷◌, subst, arith}
-use Rattle.std.proofs.lemmas.Int.{ints, clamps, by_lt_z}
-use Rattle.lpis_points.specs.Plane.{RationalPoint, orient, orient_at}
-use Rattle.lpis_points.specs.declared.triangle.Triangle.{Triangle}
-use Rattle.lpis_points.specs.Triangles.{IsCounterClockwise, is_inside, greatest, least, box_of, are_apart}
+use Rattle.lpis_points.proofs.Common.{ints, by_lt_z, RationalPoint, orient, orient_at, Triangle, IsCounterClockwise, is_inside}
+use Rattle.std.proofs.lemmas.Int.{clamps}
+use Rattle.lpis_points.specs.Triangles.{greatest, least, box_of, are_apart}
 use Rattle.lpis_points.proofs.SignLemmas.{not_neg, not_zero, pos-mul-not_neg, not_neg_of_mul}
 use Rattle.lpis_points.proofs.CrossingLemmas.{all_level}
 use Rattle.lpis_points.proofs.IntRingLemmas.{var, con, ◌⊖◌, ◌⊗◌, ring}

@@ -1,8 +1,6 @@
 -- How the three edges of a triangle pass a point, by signs alone.
 use Rattle.std.proofs.Common.{◌≡◌, ◌≢◌, ℤ, pos, negsuc, ◌+ℤ◌, ◌-ℤ◌, ◌*ℤ◌, ◌≤ℤ◌, ◌<ℤ◌, int_lt, cond, ◌&&◌, arith, refl, ◌∙◌}
-use Rattle.std.proofs.Math.IntN.{*ℤ_comm}
-use Rattle.std.proofs.lemmas.Int.{ints, by_lt_z}
-use Rattle.lpis_points.specs.Plane.{crossing_of}
+use Rattle.lpis_points.proofs.Common.{*ℤ_comm, ints, by_lt_z, crossing_of}
 use Rattle.lpis_points.proofs.SignLemmas.{not_neg, pos-mul-pos, neg-mul-pos, pos-mul-not_pos, neg-mul-not_pos, zero_of_mul}
 
 pub up_left : (s t y o : ℤ) → s ≤ℤ y → y <ℤ t → pos 0 <ℤ o → crossing_of s t y o ≡ pos 1

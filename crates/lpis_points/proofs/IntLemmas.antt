@@ -1,6 +1,6 @@
 -- Machinery: laws of ℤ that std lacks: `*ℤ` is associative and distributes over `+ℤ`.
 use Rattle.std.proofs.Common.{◌≡◌, ℕ, ◌*◌, ℤ, pos, ◌+ℤ◌, ◌*ℤ◌, ap, arith}
-use Rattle.std.proofs.lemmas.Int.{ints}
+use Rattle.lpis_points.proofs.Common.{ints}
 use borrow.Author.Differences.{up, down, sum_is_lem, product_is}
 
 pub mul-add_z : (a b c : ℤ) → a *ℤ (b +ℤ c) ≡ a *ℤ b +ℤ a *ℤ c

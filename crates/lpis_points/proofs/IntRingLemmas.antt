@@ -2,8 +2,8 @@
 -- multiplies it out, and `ring` concludes that two expressions have one value wherever their difference has a normal
 -- form of zeros.
 use Rattle.std.proofs.Common.{◌≡◌, ℕ, zero, suc, ℤ, pos, negsuc, ◌+ℤ◌, ◌-ℤ◌, ◌*ℤ◌, neg_ℤ, Bool, true, false, cond, T, List, [], ◌∷◌, leb, eqb, eqb→eq, ap, ap₂, sym, refl, ◌∙◌, arith}
-use Rattle.std.proofs.Math.IntN.{*ℤ_comm, zero-*ℤ}
-use Rattle.std.proofs.lemmas.Int.{ints}
+use Rattle.lpis_points.proofs.Common.{*ℤ_comm, ints}
+use Rattle.std.proofs.Math.IntN.{zero-*ℤ}
 use Rattle.lpis_points.proofs.IntLemmas.{mul-add_z, mul_assoc_z, one-mul_z}
 
 pub data Expr : Type 0 where
@@ -61,9 +61,8 @@ join (v ∷ n) m = put v (join n m)
 
 abbrev pub same : List ℕ → List ℕ → Bool
 same [] [] = true
-same [] (w ∷ n) = false
-same (v ∷ m) [] = false
 same (v ∷ m) (w ∷ n) = cond (eqb v w) (same m n) false
+same _ _ = false
 
 abbrev pub add_term : ℤ → List ℕ → Poly → Poly
 add_term c m none = term c m none
@@ -90,8 +89,7 @@ norm (minus a b) = add_all (norm a) (term_times (negsuc 0) [] (norm b))
 
 abbrev pub is_zero_z : ℤ → Bool
 is_zero_z (pos zero) = true
-is_zero_z (pos (suc n)) = false
-is_zero_z (negsuc n) = false
+is_zero_z _ = false
 
 abbrev pub all_zero : Poly → Bool
 all_zero none = true
@@ -116,13 +114,12 @@ join_is r (v ∷ n) m =
 
 same_is : (m n : List ℕ) → T (same m n) → m ≡ n
 same_is [] [] h = refl
-same_is [] (w ∷ n) h = absurd h
-same_is (v ∷ m) [] h = absurd h
 same_is (v ∷ m) (w ∷ n) h = by (λ k. same_is m n k) (eqb v w) (λ t. eqb→eq v w t) h
   where
     by : (T (same m n) → m ≡ n) → (t : Bool) → (T t → v ≡ w) → T (cond t (same m n) false) → (v ∷ m) ≡ (w ∷ n)
     by f true e k = ap₂ (λ (x : ℕ) (y : List ℕ). x ∷ y) (e tt) (f k)
     by f false e k = absurd k
+same_is _ _ h = absurd h
 
 add_term_is : (r : List ℤ) (c : ℤ) (m : List ℕ) (p : Poly) → total r (add_term c m p) ≡ c *ℤ unknowns r m +ℤ total r p
 add_term_is r c m none = refl
@@ -174,8 +171,7 @@ norm_is r (minus a b) =
 
 zero_is : (z : ℤ) → T (is_zero_z z) → z ≡ pos 0
 zero_is (pos zero) h = refl
-zero_is (pos (suc n)) h = absurd h
-zero_is (negsuc n) h = absurd h
+zero_is _ h = absurd h
 
 all_zero_is : (r : List ℤ) (p : Poly) → T (all_zero p) → total r p ≡ pos 0
 all_zero_is r none h = refl

@@ -1,3 +1,4 @@
+pub mod Common
 pub mod PointLemmas
 pub mod IntLemmas
 pub mod IntRingLemmas
@@ -10,3 +11,4 @@ pub mod ShiftLemmas
 pub mod ChainLemmas
 pub mod OddLemmas
 pub mod NetCountLemmas
+pub mod Shared

@@ -1,10 +1,8 @@
 -- Net counts need comparing only at the edges of the two lists.
 use Rattle.std.proofs.Common.{◌≡◌, ℤ, pos, ◌-ℤ◌, ◌+ℤ◌, neg_ℤ, Bool, true, false, cond, ◌&&◌, List, [], ◌∷◌, ◌⊎◌, inl, inr, All, ap, sym, refl, ◌∙◌, subst, arith}
+use Rattle.lpis_points.proofs.Common.{ints, Point, same_point}
 use Rattle.std.proofs.lemmas.Bool.{and_parts}
-use Rattle.std.proofs.lemmas.Int.{ints}
 use Rattle.std.proofs.lemmas.List.Elements.{All-head, All-tail}
-use Rattle.lpis_points.specs.declared.point.Point.{Point}
-use Rattle.lpis_points.specs.Plane.{same_point}
 use Rattle.lpis_points.specs.Chain.{net_count, SameNet}
 use Rattle.lpis_points.proofs.PointLemmas.{same_point-equality}
 

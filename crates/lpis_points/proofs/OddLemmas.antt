@@ -1,8 +1,7 @@
 -- The crossing by a point and the shoelace term change sign with the edge.
 use Rattle.std.proofs.Common.{◌≤◌, negsuc, nat_abs, ◌⊎◌, ◌≡◌, ℤ, pos, ◌-ℤ◌, ◌*ℤ◌, neg_ℤ, [], ◌∷◌, ap, ◌∙◌, arith}
-use Rattle.std.proofs.lemmas.Int.{ints}
-use Rattle.lpis_points.specs.declared.point.Point.{Point}
-use Rattle.lpis_points.specs.Plane.{RationalPoint, orient_at, crossing, crossing_of, shoelace_term}
+use Rattle.lpis_points.proofs.Common.{ints, Point, RationalPoint, orient_at, crossing, crossing_of}
+use Rattle.lpis_points.specs.Plane.{shoelace_term}
 use Rattle.lpis_points.specs.Chain.{IsOdd}
 use Rattle.lpis_points.proofs.IntRingLemmas.{var, con, ◌⊖◌, ◌⊗◌, ring}
 

@@ -1,11 +1,9 @@
 -- Equal points.
 use Rattle.std.proofs.Common.{◌≡◌, ℤ, true, ap, ◌∙◌, subst, arith, int_eq}
+use Rattle.lpis_points.proofs.Common.{ints, Point, same_point}
 use Rattle.std.proofs.lemmas.Bool.{and_from, and_parts}
-use Rattle.std.proofs.lemmas.Int.{ints}
 use lib.Dec.{T_prop}
-use Rattle.lpis_points.specs.declared.point.Point.{Point}
 use Rattle.lpis_points.specs.Range.{IsInRange}
-use Rattle.lpis_points.specs.Plane.{same_point}
 use Rattle.lpis_points.specs.Chain.{IsEquality}
 
 in_range-prop : (z : ℤ) → IsProp (IsInRange z)

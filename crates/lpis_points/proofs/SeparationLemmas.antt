@@ -1,11 +1,7 @@
 -- Two counter-clockwise triangles on two sides of a line have no inner point in common.
 use Rattle.std.proofs.Common.{◌≡◌, ◌≢◌, true, ℤ, pos, ◌+ℤ◌, ◌-ℤ◌, ◌*ℤ◌, ◌≤ℤ◌, ◌<ℤ◌, subst, ◌∙◌, arith}
-use Rattle.std.proofs.Math.IntN.{*ℤ_comm}
-use Rattle.std.proofs.lemmas.Int.{ints}
-use Rattle.lpis_points.specs.declared.point.Point.{Point}
-use Rattle.lpis_points.specs.declared.triangle.Triangle.{Triangle}
-use Rattle.lpis_points.specs.Plane.{RationalPoint, orient, orient_at}
-use Rattle.lpis_points.specs.Triangles.{IsCounterClockwise, is_inside, Separates}
+use Rattle.lpis_points.proofs.Common.{*ℤ_comm, ints, Point, Triangle, RationalPoint, orient, orient_at, IsCounterClockwise, is_inside}
+use Rattle.lpis_points.specs.Triangles.{Separates}
 use Rattle.lpis_points.proofs.PointLemmas.{point_eq}
 use Rattle.lpis_points.proofs.SignLemmas.{not_neg, pos-mul-not_neg, zero_of_mul, not_neg_of_mul, not_pos_of_mul}
 use Rattle.lpis_points.proofs.TriangleLemmas.{x_by_sides, y_by_sides, inside_is, line_sum, weighted_up, weighted_down}

@@ -1,9 +1,7 @@
 -- The shift law: a point close to p that lies on no line through two points in range, and that each edge passes as it
 -- passes p.
 use Rattle.std.proofs.Common.{◌≡◌, ◌≢◌, ℤ, pos, neg_ℤ, ◌+ℤ◌, ◌-ℤ◌, ◌*ℤ◌, ◌≤ℤ◌, ◌<ℤ◌, [], ◌∷◌, ap, sym, ◌∙◌, arith}
-use Rattle.std.proofs.lemmas.Int.{ints, by_lt_z}
-use Rattle.lpis_points.specs.declared.point.Point.{Point}
-use Rattle.lpis_points.specs.Plane.{RationalPoint, orient_at, crossing, crossing_of}
+use Rattle.lpis_points.proofs.Common.{ints, by_lt_z, Point, RationalPoint, orient_at, crossing, crossing_of}
 use Rattle.lpis_points.specs.Shift.{shifted}
 use Rattle.lpis_points.proofs.IntRingLemmas.{var, con, ◌⊕◌, ◌⊖◌, ◌⊗◌, ring}
 use Rattle.lpis_points.proofs.CrossingLemmas.{up_left, down_right, both_below, both_above, up_not_left, down_not_right}

@@ -1,7 +1,6 @@
 -- Machinery: signs of products over ℤ.
 use Rattle.std.proofs.Common.{◌≡◌, suc, zero, ℤ, pos, negsuc, ◌*ℤ◌, neg_ℤ, ◌≤ℤ◌, ◌<ℤ◌, arith}
-use Rattle.std.proofs.Math.IntN.{*ℤ_comm}
-use Rattle.std.proofs.lemmas.Int.{ints, by_lt_z}
+use Rattle.lpis_points.proofs.Common.{*ℤ_comm, ints, by_lt_z}
 
 pub not_neg : (x : ℤ) → pos 0 <ℤ x → pos 0 ≤ℤ x
 not_neg x h = omega (arith, ints)
@@ -10,16 +9,12 @@ pub not_zero : (x : ℤ) → pos 0 <ℤ x → x ≡ pos 0 → ⊥
 not_zero x h e = omega (arith, ints)
 
 pub pos-mul-pos : (a b : ℤ) → pos 0 <ℤ a → pos 0 <ℤ b → pos 0 <ℤ (a *ℤ b)
-pos-mul-pos (pos zero) b h k = absurd (omega (arith, ints))
-pos-mul-pos (pos (suc a)) (pos zero) h k = absurd (omega (arith, ints))
 pos-mul-pos (pos (suc a)) (pos (suc b)) h k = omega (arith, ints)
-pos-mul-pos (pos (suc a)) (negsuc b) h k = absurd (omega (arith, ints))
-pos-mul-pos (negsuc a) b h k = absurd (omega (arith, ints))
+pos-mul-pos _ _ h k = absurd (omega (arith, ints))
 
 pub neg_mul : (a b : ℤ) → neg_ℤ a *ℤ b ≡ neg_ℤ (a *ℤ b)
-neg_mul (pos zero) b = omega (arith, ints)
 neg_mul (pos (suc a)) b = omega (arith, ints)
-neg_mul (negsuc a) b = omega (arith, ints)
+neg_mul _ b = omega (arith, ints)
 
 pub neg-mul-pos : (a b : ℤ) → a <ℤ pos 0 → pos 0 <ℤ b → (a *ℤ b) <ℤ pos 0
 neg-mul-pos a b h k = let n : pos 0 <ℤ neg_ℤ a = omega (arith, ints) in omega (arith, ints, pos-mul-pos (neg_ℤ a) b n k, neg_mul a b)
@@ -27,8 +22,7 @@ neg-mul-pos a b h k = let n : pos 0 <ℤ neg_ℤ a = omega (arith, ints) in omeg
 -- weak signs
 pub pos-mul-not_neg : (a b : ℤ) → pos 0 ≤ℤ a → pos 0 ≤ℤ b → pos 0 ≤ℤ (a *ℤ b)
 pos-mul-not_neg (pos a) (pos b) h k = omega (arith, ints)
-pos-mul-not_neg (pos a) (negsuc b) h k = absurd (omega (arith, ints))
-pos-mul-not_neg (negsuc a) b h k = absurd (omega (arith, ints))
+pos-mul-not_neg _ _ h k = absurd (omega (arith, ints))
 
 pub pos-mul-not_pos : (a b : ℤ) → pos 0 ≤ℤ a → b ≤ℤ pos 0 → (a *ℤ b) ≤ℤ pos 0
 pos-mul-not_pos a b h k = let n : pos 0 ≤ℤ neg_ℤ b = omega (arith, ints) in omega (arith, ints, pos-mul-not_neg (neg_ℤ b) a n h, neg_mul b a)

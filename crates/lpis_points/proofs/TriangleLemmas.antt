@@ -1,10 +1,8 @@
 -- Triangles and rational points, by their corners.
 use Rattle.std.proofs.Common.{◌≡◌, ◌≢◌, ℤ, pos, ◌+ℤ◌, ◌-ℤ◌, ◌*ℤ◌, ◌≤ℤ◌, ◌<ℤ◌, int_lt, Bool, true, false, cond, refl, ◌&&◌, List, [], ◌∷◌, ap, subst, sym, ◌∙◌, arith}
-use Rattle.std.proofs.lemmas.Int.{ints}
-use Rattle.lpis_points.specs.declared.point.Point.{Point}
-use Rattle.lpis_points.specs.declared.triangle.Triangle.{Triangle}
-use Rattle.lpis_points.specs.Triangles.{IsCounterClockwise, IsOffItsLines, is_inside, turns_round}
-use Rattle.lpis_points.specs.Plane.{RationalPoint, orient, orient_at, crossing, shoelace_term}
+use Rattle.lpis_points.proofs.Common.{ints, Point, Triangle, IsCounterClockwise, is_inside, RationalPoint, orient, orient_at, crossing}
+use Rattle.lpis_points.specs.Triangles.{IsOffItsLines, turns_round}
+use Rattle.lpis_points.specs.Plane.{shoelace_term}
 use Rattle.lpis_points.proofs.SignLemmas.{not_neg, not_zero, pos-mul-not_neg, pos-mul-not_pos, zero_of_mul}
 use Rattle.lpis_points.proofs.CrossingLemmas.{Around, around_total, inside_none}
 use Rattle.lpis_points.proofs.IntRingLemmas.{Expr, var, con, ◌⊕◌, ◌⊖◌, ◌⊗◌, ring}

@@ -1,10 +1,8 @@
 -- What the changes of a list of rows make, whole.
-use Rattle.std.proofs.Common.{◌≡◌, ◌∙◌, refl, sym, ap, ap₂, ℕ, ℤ, pos, List, [], ◌∷◌, ◌++◌, Bool, true, false, map, IsPermutation}
-use Rattle.std.specs.Prelude.{if◌then◌else◌}
-use Rattle.std.proofs.lemmas.List.Sorted.{IsPermutation-sym, IsPermutation-trans, IsPermutation-refl, IsPermutation-middle}
-use Rattle.lpis_covers.specs.Ids.{has_id, same_id}
-use Rattle.lpis_lineage.specs.declared.row.Row.{Row}
-use Rattle.lpis_records.specs.Content.{Content, Line, StoredSpan, with_year, with_span, with_line, end_at, ended, all_ended, with_spans, with_lines, with_whole_spans, lines_from, published}
+use Rattle.std.proofs.Common.{◌≡◌, ◌∙◌, refl, sym, ap, ap₂, ℕ, ℤ, pos, List, [], ◌∷◌, ◌++◌, Bool, true, false, map, IsPermutation, if◌then◌else◌}
+use Rattle.lpis_records.proofs.Common.{IsPermutation-sym, IsPermutation-trans, has_id, same_id, Row, Content, Line, StoredSpan, lines_from}
+use Rattle.std.proofs.lemmas.List.Sorted.{IsPermutation-refl, IsPermutation-middle}
+use Rattle.lpis_records.specs.Content.{with_year, with_span, with_line, end_at, ended, all_ended, with_spans, with_lines, with_whole_spans, published}
 
 -- the first list, last item first, before the second
 abbrev pub rev_onto : {A : Type 0} → List A → List A → List A

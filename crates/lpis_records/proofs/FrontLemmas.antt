@@ -1,32 +1,20 @@
 -- A history put together release by release is the front of the one that the rows say.
 use Rattle.std.proofs.Common.{◌≡◌, ◌∙◌, ◌<◌, ◌≤◌, ◌+◌, inl, inr, refl, sym, ap, ap₂, subst, arith, ℕ, zero, suc, ℤ, pos, List, [], ◌∷◌, ◌++◌, Bool, true, Some, Err, length, map, take, get_or}
-use Rattle.std.proofs.Common.{length-append}
-use Rattle.std.specs.Prelude.{◌&&◌}
-use Rattle.std.specs.List.{All, AllByRecursion, filter, list_any}
-use Rattle.std.proofs.lemmas.List.{append-nil, append_assoc, append_cancel_left, length-map, length-take-le, get_or_default, map-append, take-append-le, take-map}
-use Rattle.std.proofs.lemmas.List.Elements.{recursion_from_All}
-use Rattle.lpis_covers.specs.Ids.{has_id, same_id}
+use Rattle.std.proofs.Common.{length-append, ◌&&◌, All, filter}
+use Rattle.lpis_records.proofs.Common.{AllByRecursion, list_any, map-append, recursion_from_All, has_id, same_id, Entry, Row, Adds, IsLawful, RowsFit, entry_at, holds, last_live, names, first_held}
+use Rattle.lpis_records.proofs.Common.{last_held, span_of, entry-after, entry-before, entry-here, in-history, longer, place, take-at, KnownSpan, KnownLine, Line, StoredSpan, lines_from, IsSameHistory}
+use Rattle.lpis_records.proofs.Common.{lines_of, years_of, covers, IsSaid, HasText, line_in, span_in}
+use Rattle.std.proofs.lemmas.List.{append-nil, append_assoc, append_cancel_left, length-map, length-take-le, get_or_default, take-append-le, take-map}
 use Rattle.lpis_lineage.specs.declared.fault.LineageFault.{LineageFault}
-use Rattle.lpis_lineage.specs.declared.row.Entry.{Entry}
-use Rattle.lpis_lineage.specs.declared.row.Row.{Row}
 use Rattle.lpis_lineage.specs.declared.fault.AddFault.{AddFault}
 use Rattle.lpis_lineage.specs.declared.fault.AddFault.TheVariants.{Memory as WantsMemory, Year, Lineage}
-use Rattle.lpis_lineage.specs.Accepts.{AddTells, Adds}
+use Rattle.lpis_lineage.specs.Accepts.{AddTells}
 use Rattle.lpis_lineage.specs.Faults.{faults, first}
-use Rattle.lpis_lineage.specs.Lawful.{IsAnswered, IsLawful, RowsFit}
-use Rattle.lpis_lineage.specs.Lineage.{entry_at, holds, is_of, last_live, last_year, names, same_row}
-use Rattle.lpis_lineage.specs.Spans.{first_held, last_held, span_of}
-use Rattle.lpis_lineage.proofs.AcceptingLemmas.{never-follows}
-use Rattle.lpis_lineage.proofs.IdentifierLemmas.{entry-after, entry-before, entry-here, in-history}
-use Rattle.lpis_lineage.proofs.ExtensionLemmas.{longer, place}
-use Rattle.lpis_lineage.proofs.TellingLemmas.{take-at}
-use Rattle.lpis_records.specs.declared.known.KnownSpan.{KnownSpan}
-use Rattle.lpis_records.specs.declared.known.KnownLine.{KnownLine}
-use Rattle.lpis_records.specs.Content.{Line, StoredSpan, lines_from}
-use Rattle.lpis_records.specs.Tells.{IsSameHistory, lines_of, years_of}
-use Rattle.lpis_records.specs.private.Covering.{covers}
-use Rattle.lpis_records.specs.private.Fronts.{IsDue, IsFront, IsRun, IsSaid}
-use Rattle.lpis_records.specs.private.Known.{HasText, line_at, line_in, span_in}
+use Rattle.lpis_lineage.specs.Lawful.{IsAnswered}
+use Rattle.lpis_lineage.specs.Lineage.{is_of, last_year, same_row}
+use Rattle.lpis_lineage.proofs.Shared.{never-follows}
+use Rattle.lpis_records.specs.private.Fronts.{IsDue, IsFront, IsRun}
+use Rattle.lpis_records.specs.private.Known.{line_at}
 use Rattle.lpis_records.proofs.AscendingLemmas.{Ascends, below, below-alone}
 use Rattle.lpis_records.proofs.KnownLemmas.{AreLive, take-whole}
 use Rattle.lpis_records.proofs.OneHistoryLemmas.{have-texts, rows-apart}

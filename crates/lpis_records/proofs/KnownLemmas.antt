@@ -1,26 +1,14 @@
 -- Rows with their identifiers read, one more.
-use Rattle.std.proofs.Common.{◌≡◌, ◌∙◌, ◌<◌, ◌≤◌, ◌+◌, refl, sym, ap, ap₂, subst, arith, ℕ, ℤ, pos, zero, suc, List, [], ◌∷◌, ◌++◌, Bool, true, false, cond, length, map, take, drop, get_or}
-use Rattle.std.specs.Prelude.{◌||◌, ◌&&◌, not, nat_lt}
-use Rattle.std.specs.List.{All, filter, list_any}
-use Rattle.std.specs.Ordering.{is_eq, nat_cmp}
-use Rattle.std.specs.Cmp.Lexicographic.{slice_cmp}
+use Rattle.std.proofs.Common.{◌≡◌, ◌∙◌, ◌<◌, ◌≤◌, ◌+◌, refl, sym, ap, ap₂, subst, arith, ℕ, ℤ, pos, zero, suc, List, [], ◌∷◌, ◌++◌, Bool, true, false, cond, length, map, take, drop, get_or, ◌||◌}
+use Rattle.std.proofs.Common.{◌&&◌, not, nat_lt, All, filter, is_eq, nat_cmp}
+use Rattle.lpis_records.proofs.Common.{list_any, slice_cmp, nat_tests, map-append, All-push, and-false, has_id, is_id, same_id, Row, same-exact, same-refl, filter-none, take-at, KnownLine, KnownSpan}
+use Rattle.lpis_records.proofs.Common.{Line, StoredSpan, lines_from, text_of, covers, line_in, span_in}
 use Rattle.std.proofs.lemmas.Grind.{common_steps}
-use Rattle.std.proofs.lemmas.Bool.Decides.{nat_tests}
-use Rattle.std.proofs.lemmas.List.{map-append, take-append-drop, append_assoc}
-use Rattle.std.proofs.lemmas.List.Elements.{All-push}
+use Rattle.std.proofs.lemmas.List.{take-append-drop, append_assoc}
 use Rattle.std.proofs.lemmas.Bool.{not-false}
-use Rattle.std.proofs.Math.Bool.{and-true, and-false, or-false}
-use Rattle.lpis_covers.specs.Ids.{has_id, is_id, same_id}
-use Rattle.lpis_lineage.specs.declared.row.Row.{Row}
-use Rattle.lpis_lineage.proofs.IdentifierLemmas.{add-by_order, has-by_order, same-exact, same-refl, same-sym}
-use Rattle.lpis_lineage.proofs.RowCountLemmas.{filter-append, filter-none, filter-some}
-use Rattle.lpis_lineage.proofs.SeenLemmas.{any-push, or-cond}
-use Rattle.lpis_lineage.proofs.TellingLemmas.{take-at}
-use Rattle.lpis_records.specs.declared.known.KnownLine.{KnownLine}
-use Rattle.lpis_records.specs.declared.known.KnownSpan.{KnownSpan}
-use Rattle.lpis_records.specs.Content.{Line, StoredSpan, lines_from, text_of}
-use Rattle.lpis_records.specs.private.Covering.{covers}
-use Rattle.lpis_records.specs.private.Known.{line_at, line_in, span_in}
+use Rattle.std.proofs.Math.Bool.{and-true, or-false}
+use Rattle.lpis_lineage.proofs.Shared.{add-by_order, has-by_order, same-sym, filter-append, filter-some, any-push, or-cond}
+use Rattle.lpis_records.specs.private.Known.{line_at}
 
 -- no test is both true and false
 pub no-both : {P : Type 0} → (b : Bool) → b ≡ true → b ≡ false → P

@@ -1,3 +1,4 @@
+pub mod Common
 pub mod AscendingLemmas
 pub mod FoldLemmas
 pub mod SpanRowLemmas

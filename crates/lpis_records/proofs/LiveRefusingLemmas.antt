@@ -1,29 +1,15 @@
 -- What live rows that say a history have: what they are refused for otherwise.
-use Rattle.std.proofs.Common.{◌≡◌, ◌∙◌, ◌<◌, ◌+◌, inl, inr, refl, sym, ap, ap₂, subst, arith, ℕ, zero, suc, ℤ, pos, List, [], ◌∷◌, ◌++◌, Bool, true, length, map, take, get_or, IsPermutation}
-use Rattle.std.specs.Prelude.{◌&&◌}
-use Rattle.std.specs.List.{All, AllByRecursion, Contains, list_any}
-use Rattle.std.specs.List.Sorted.{IsSortedByKey}
-use Rattle.std.proofs.lemmas.List.{get_or_default, map-append}
-use Rattle.std.proofs.lemmas.List.Elements.{All-from_recursion, Contains-get_or, Contains-push_cases, recursion_from_All}
-use Rattle.std.specs.Cmp.{both_ways}
+use Rattle.std.proofs.Common.{◌≡◌, ◌∙◌, ◌<◌, ◌+◌, inl, inr, refl, sym, ap, ap₂, subst, arith, ℕ, zero, suc, ℤ, pos, List, [], ◌∷◌, ◌++◌, Bool, true, length, map, take, get_or, IsPermutation, ◌&&◌}
+use Rattle.std.proofs.Common.{All, Contains, IsSortedByKey}
+use Rattle.lpis_records.proofs.Common.{AllByRecursion, list_any, map-append, All-from_recursion, recursion_from_All, both_ways, is_id, same_id, Entry, IsLawful, entry_at, holds, same-exact, same-refl}
+use Rattle.lpis_records.proofs.Common.{take-at, above-zero, KnownLine, KnownSpan, Content, Live, StoredSpan, IsKept, LiveTells, TellsLive, years_of, covers, IsSaid, HasText, SetsAre, line_cmp}
+use Rattle.lpis_records.proofs.Common.{line_in, one_year, span_in}
+use Rattle.std.proofs.lemmas.List.{get_or_default}
+use Rattle.std.proofs.lemmas.List.Elements.{Contains-get_or, Contains-push_cases}
 use Rattle.std.proofs.lemmas.Bool.{and_parts}
-use Rattle.lpis_covers.specs.Ids.{is_id, same_id}
-use Rattle.lpis_lineage.specs.declared.row.Entry.{Entry}
-use Rattle.lpis_lineage.specs.Lawful.{IsLawful}
-use Rattle.lpis_lineage.specs.Lineage.{entry_at, holds}
-use Rattle.lpis_lineage.proofs.IdentifierLemmas.{same-exact, same-refl}
-use Rattle.lpis_lineage.proofs.TellingLemmas.{take-at}
-use Rattle.lpis_records.specs.declared.known.KnownLine.{KnownLine}
-use Rattle.lpis_records.specs.declared.known.KnownSpan.{KnownSpan}
-use Rattle.lpis_records.specs.Content.{Content, Live, StoredSpan}
-use Rattle.lpis_records.specs.Tells.{IsKept, LiveTells, TellsLive, years_of}
-use Rattle.lpis_records.specs.private.Covering.{covers}
-use Rattle.lpis_records.specs.private.Fronts.{IsSaid}
-use Rattle.lpis_records.specs.private.Known.{HasText, SetsAre, line_cmp, line_in, one_year, span_in}
 use Rattle.lpis_records.proofs.LiveRowLemmas.{any-contains, covered, covers-one, one-covers, some-contained, since_of, rest_of}
 use Rattle.lpis_records.proofs.RefusingLemmas.{told-sorted-lines}
 use Rattle.lpis_records.proofs.NextReleaseLemmas.{any-map}
-use Rattle.lpis_lineage.proofs.SpanLemmas.{above-zero}
 use Rattle.lpis_records.proofs.OneHistoryLemmas.{same-place}
 
 pub live-ids : (h : List Entry) (live : List Live) → IsKept h → LiveTells live h → All (λ l. is_id l.id ≡ true) live

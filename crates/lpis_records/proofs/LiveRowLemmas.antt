@@ -1,28 +1,14 @@
 -- Live rows as spans of one year.
-use Rattle.std.proofs.Common.{◌≡◌, ◌∙◌, ◌<◌, ◌≤◌, ◌+◌, refl, sym, ap, ap₂, subst, arith, ℕ, zero, suc, ℤ, pos, List, [], ◌∷◌, ◌++◌, Bool, true, false, length, map, take, get_or, IsPermutation}
-use Rattle.std.specs.Prelude.{◌&&◌, ◌||◌, nat_eq, nat_le}
-use Rattle.std.specs.List.{All, AllByRecursion, Contains, list_any}
-use Rattle.std.specs.Ordering.{int_eq}
+use Rattle.std.proofs.Common.{◌≡◌, ◌∙◌, ◌<◌, ◌≤◌, ◌+◌, refl, sym, ap, ap₂, subst, arith, ℕ, zero, suc, ℤ, pos, List, [], ◌∷◌, ◌++◌, Bool, true, false, length, map, take, get_or, IsPermutation, ◌&&◌}
+use Rattle.std.proofs.Common.{◌||◌, nat_eq, nat_le, All, Contains, int_eq}
+use Rattle.lpis_records.proofs.Common.{AllByRecursion, list_any, nat_tests, map-append, All-from_recursion, All-push, recursion_from_All, is_id, same_id, Entry, IsLawful, RowsFit, entry_at, holds}
+use Rattle.lpis_records.proofs.Common.{in-history, same-exact, same-refl, take-at, above-zero, KnownSpan, KnownLine, Content, Live, StoredSpan, LiveTells, TellsLive, last_of_years, lines_of}
+use Rattle.lpis_records.proofs.Common.{only_format, years_of, covers, SetsAre, line_in, one_year, span_in}
 use Rattle.std.specs.Int.Signed.{le_z}
-use Rattle.std.proofs.lemmas.Bool.Decides.{nat_tests}
-use Rattle.std.proofs.lemmas.List.{map-append}
-use Rattle.std.proofs.lemmas.List.Elements.{All-contains, All-from_recursion, All-push, recursion_from_All}
+use Rattle.std.proofs.lemmas.List.Elements.{All-contains}
 use Rattle.std.proofs.lemmas.Bool.{and_parts}
-use Rattle.lpis_covers.specs.Ids.{is_id, same_id}
-use Rattle.lpis_lineage.specs.declared.row.Entry.{Entry}
-use Rattle.lpis_lineage.specs.Lawful.{IsLawful, RowsFit}
-use Rattle.lpis_lineage.specs.Lineage.{entry_at, holds}
-use Rattle.lpis_lineage.proofs.IdentifierLemmas.{in-history, same-exact, same-refl}
-use Rattle.lpis_lineage.proofs.TellingLemmas.{take-at}
-use Rattle.lpis_records.specs.declared.known.KnownSpan.{KnownSpan}
-use Rattle.lpis_records.specs.declared.known.KnownLine.{KnownLine}
-use Rattle.lpis_records.specs.Content.{Content, Live, StoredSpan}
-use Rattle.lpis_records.specs.Tells.{LiveTells, TellsLive, last_of_years, lines_of, only_format, years_of}
-use Rattle.lpis_records.specs.private.Covering.{covers}
-use Rattle.lpis_records.specs.private.Known.{SetsAre, line_in, one_year, span_in}
 use Rattle.lpis_records.proofs.OneHistoryLemmas.{covers-years}
 use Rattle.lpis_records.proofs.SayingLemmas.{kept-said}
-use Rattle.lpis_lineage.proofs.SpanLemmas.{above-zero}
 use Rattle.lpis_records.proofs.NextReleaseLemmas.{any-map}
 
 pub lives-more : (rows : List Live) (i : ℕ) (row : Live) (known new : List KnownSpan) (s : KnownSpan) → i < length rows → row ≡ get_or rows i row

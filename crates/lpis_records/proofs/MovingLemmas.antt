@@ -1,11 +1,10 @@
 -- Rows in another order; moving from version 1 to 2; tables with no release.
-use Rattle.std.proofs.Common.{◌≡◌, ◌∙◌, refl, sym, ap, subst, arith, ℕ, pos, zero, suc, List, [], ◌∷◌, length, map, IsPermutation}
-use Rattle.std.specs.List.{Contains}
+use Rattle.std.proofs.Common.{◌≡◌, ◌∙◌, refl, sym, ap, subst, arith, ℕ, pos, zero, suc, List, [], ◌∷◌, length, map, IsPermutation, Contains}
+use Rattle.lpis_records.proofs.Common.{IsPermutation-sym, Entry, Content, Live, StoredSpan, LiveTells, SpansTell, Tells, TellsLive, only_format}
 use Rattle.std.proofs.lemmas.List.{append-nil}
-use Rattle.std.proofs.lemmas.List.Sorted.{IsPermutation-refl, IsPermutation-sym, Contains-permutation, length_permutation}
-use Rattle.lpis_lineage.specs.declared.row.Entry.{Entry}
-use Rattle.lpis_records.specs.Content.{Content, Format, Live, StoredSpan, at_version, moved, no_content, with_version, without_live, without_spans}
-use Rattle.lpis_records.specs.Tells.{IsSameContent, LiveTells, SpansTell, Tells, TellsLive, only_format}
+use Rattle.std.proofs.lemmas.List.Sorted.{IsPermutation-refl, Contains-permutation, length_permutation}
+use Rattle.lpis_records.specs.Content.{Format, at_version, moved, no_content, with_version, without_live, without_spans}
+use Rattle.lpis_records.specs.Tells.{IsSameContent}
 use Rattle.lpis_records.proofs.FoldLemmas.{rev-moved, rev_onto, whole-spans-made}
 use Rattle.lpis_records.proofs.SpanRowLemmas.{spans-moved}
 use Rattle.lpis_records.proofs.AscendingLemmas.{both-orders}

@@ -1,19 +1,7 @@
 -- A history with one release more, put together from rows.
-use Rattle.std.proofs.Common.{◌≡◌, ◌∙◌, ◌<◌, inl, inr, refl, sym, ap, ap₂, subst, arith, ℕ, pos, List, [], ◌∷◌, ◌++◌, Bool, length, map}
-use Rattle.std.specs.Prelude.{◌&&◌, ◌||◌}
-use Rattle.std.specs.List.{list_any}
-use Rattle.lpis_covers.specs.Ids.{has_id, same_id}
-use Rattle.lpis_lineage.specs.declared.row.Entry.{Entry}
-use Rattle.lpis_lineage.specs.declared.row.Row.{Row}
-use Rattle.lpis_lineage.specs.Accepts.{Adds}
-use Rattle.lpis_lineage.specs.Lineage.{entry_at, holds}
-use Rattle.lpis_lineage.proofs.IdentifierLemmas.{entry-before, entry-here}
-use Rattle.lpis_lineage.proofs.ExtensionLemmas.{longer, place}
-use Rattle.lpis_records.specs.declared.known.KnownSpan.{KnownSpan}
-use Rattle.lpis_records.specs.Content.{Line, StoredSpan, lines_from}
-use Rattle.lpis_records.specs.Tells.{lines_of, years_of}
-use Rattle.lpis_records.specs.private.Covering.{covers}
-use Rattle.lpis_records.specs.private.Known.{SetsAre, span_in}
+use Rattle.std.proofs.Common.{◌≡◌, ◌∙◌, ◌<◌, inl, inr, refl, sym, ap, ap₂, subst, arith, ℕ, pos, List, [], ◌∷◌, ◌++◌, Bool, length, map, ◌&&◌, ◌||◌}
+use Rattle.lpis_records.proofs.Common.{list_any, has_id, same_id, Entry, Row, Adds, entry_at, holds, entry-before, entry-here, longer, place, KnownSpan, Line, StoredSpan, lines_from, lines_of}
+use Rattle.lpis_records.proofs.Common.{years_of, covers, SetsAre, span_in}
 use Rattle.lpis_records.proofs.KnownLemmas.{AreLive}
 use Rattle.lpis_records.proofs.PublishingLemmas.{lines-more, years-more}
 

@@ -1,28 +1,15 @@
 -- Tables say one history.
-use Rattle.std.proofs.Common.{◌≡◌, ◌∙◌, ◌<◌, ◌≤◌, ◌+◌, inl, inr, refl, sym, ap, ap₂, subst, arith, ℕ, zero, suc, ℤ, pos, List, [], ◌∷◌, ◌++◌, Bool, true, false, length, Option, None, Some}
-use Rattle.std.specs.Prelude.{◌&&◌, ◌||◌, nat_le, nat_eq, IsPermutation}
-use Rattle.std.specs.Ordering.{int_eq}
+use Rattle.std.proofs.Common.{◌≡◌, ◌∙◌, ◌<◌, ◌≤◌, ◌+◌, inl, inr, refl, sym, ap, ap₂, subst, arith, ℕ, zero, suc, ℤ, pos, List, [], ◌∷◌, ◌++◌, Bool, true, false, length, Option, None, Some, ◌&&◌, ◌||◌}
+use Rattle.std.proofs.Common.{nat_le, nat_eq, IsPermutation, int_eq}
+use Rattle.lpis_records.proofs.Common.{AllByRecursion, list_any, nat_tests, both_ways, or_left, or_right, and-false, has_id, is_id, same_id, Entry, Row, IsLawful, entry_at, holds, names, span_of}
+use Rattle.lpis_records.proofs.Common.{entry-after, in-history, same-exact, place, Content, Line, Live, StoredSpan, lines_from, text_of, IsKept, IsSameHistory, IsSpanRow, LiveTells, SpansTell, Tells}
+use Rattle.lpis_records.proofs.Common.{TellsLive, lines_of, shown, years_of, covers, HasText}
 use Rattle.std.specs.Int.Signed.{le_z}
-use Rattle.std.specs.List.{AllByRecursion, list_any}
 use Rattle.std.proofs.lemmas.Int.{ints}
-use Rattle.std.proofs.lemmas.Bool.Decides.{nat_tests}
-use Rattle.std.specs.Cmp.{both_ways}
-use Rattle.std.proofs.lemmas.Bool.{or_left, or_right}
-use Rattle.std.proofs.Math.Bool.{and-false}
-use Rattle.lpis_covers.specs.Ids.{has_id, is_id, same_id}
-use Rattle.lpis_lineage.specs.declared.row.Entry.{Entry}
-use Rattle.lpis_lineage.specs.declared.row.Row.{Row}
 use Rattle.lpis_lineage.specs.declared.span.Span.{Span as Years}
-use Rattle.lpis_lineage.specs.Lawful.{IsLawful}
-use Rattle.lpis_lineage.specs.Lineage.{entry_at, holds, is_this, names}
-use Rattle.lpis_lineage.specs.Spans.{in_span, span_of}
-use Rattle.lpis_lineage.proofs.IdentifierLemmas.{entry-after, in-history, same-exact}
-use Rattle.lpis_lineage.proofs.ExtensionLemmas.{place}
-use Rattle.lpis_lineage.proofs.SpanLemmas.{span-tells}
-use Rattle.lpis_records.specs.Content.{Content, Line, Live, StoredSpan, lines_from, text_of}
-use Rattle.lpis_records.specs.Tells.{IsKept, IsSameHistory, IsSpanRow, LiveTells, SpansTell, Tells, TellsLive, lines_of, shown, years_of}
-use Rattle.lpis_records.specs.private.Covering.{covers}
-use Rattle.lpis_records.specs.private.Known.{HasText}
+use Rattle.lpis_lineage.specs.Lineage.{is_this}
+use Rattle.lpis_lineage.specs.Spans.{in_span}
+use Rattle.lpis_lineage.proofs.Shared.{span-tells}
 use Rattle.lpis_records.proofs.AscendingLemmas.{Ascends, below, below-alone, same-ascending, both-orders}
 use Rattle.lpis_records.proofs.YearLemmas.{all-entries, line-alone, line_below, lines-above, lines-ascend, years-ascend}
 use Rattle.lpis_records.proofs.SayingLemmas.{rest}

@@ -1,35 +1,22 @@
 -- Publishing: what the tables say after it.
 use Rattle.std.proofs.Common.{◌≡◌, ◌∙◌, ◌≤◌, ◌+◌, ◌⊎◌, inl, inr, refl, sym, ap, ap₂, subst, arith, ℕ, suc, ℤ, pos, List, [], ◌∷◌, ◌++◌, Bool, true, false, cond, map, length, Option, None, Some}
-use Rattle.std.proofs.Common.{IsPermutation}
-use Rattle.std.specs.Prelude.{◌&&◌, ◌||◌, not, is_some}
-use Rattle.std.specs.List.{AllByRecursion, filter, list_any}
+use Rattle.std.proofs.Common.{IsPermutation, ◌&&◌, ◌||◌, not, is_some, filter, is_eq, nat_cmp, Less}
+use Rattle.lpis_records.proofs.Common.{AllByRecursion, list_any, slice_cmp, IsPermutation-sym, IsPermutation-trans, or_left, or_right, and-false, has_id, is_id, same_id, Entry, Row, Adds, IsLawful}
+use Rattle.lpis_records.proofs.Common.{RowsFit, entry_at, holds, last_live, first_held, last_held, span_of, entry-after, entry-before, entry-here, same-exact, same-refl, filter-none, longer, place}
+use Rattle.lpis_records.proofs.Common.{Content, Line, StoredSpan, lines_from, IsKept, IsSpanRow, SpansTell, Tells, last_of_years, lines_of, shown, years_of}
 use Rattle.std.specs.List.Sorted.{IsStrictlySortedBy}
-use Rattle.std.specs.Ordering.{is_eq, nat_cmp}
-use Rattle.std.specs.Cmp.Lexicographic.{slice_cmp}
-use Rattle.std.specs.declared.cmp.Ordering.TheVariants.{Less}
 use Rattle.std.proofs.lemmas.List.{append-nil, append_assoc}
-use Rattle.std.proofs.lemmas.List.Sorted.{IsPermutation-sym, IsPermutation-trans, IsPermutation-cons, IsPermutation-to_front, IsPermutation-append_right, IsPermutation-append_comm}
-use Rattle.std.proofs.lemmas.Bool.{or_left, or_right}
-use Rattle.std.proofs.Math.Bool.{and-false}
+use Rattle.std.proofs.lemmas.List.Sorted.{IsPermutation-cons, IsPermutation-to_front, IsPermutation-append_right, IsPermutation-append_comm}
 use Rattle.std.proofs.lemmas.List.Folds.{list_any-append}
-use Rattle.lpis_covers.specs.Ids.{has_id, is_id, same_id}
-use Rattle.lpis_lineage.specs.declared.row.Entry.{Entry}
-use Rattle.lpis_lineage.specs.declared.row.Row.{Row}
 use Rattle.lpis_lineage.specs.declared.span.Span.{Span as Years}
-use Rattle.lpis_lineage.specs.Accepts.{Adds}
 use Rattle.lpis_lineage.specs.private.Follows.{Follows}
 use Rattle.lpis_lineage.specs.private.Keeping.{begun, ended_in}
-use Rattle.lpis_lineage.specs.Lawful.{IsLawful, RowsFit}
-use Rattle.lpis_lineage.specs.Lineage.{entry_at, holds, last_live, last_year}
+use Rattle.lpis_lineage.specs.Lineage.{last_year}
 use Rattle.lpis_lineage.specs.Order.{IsAscending}
-use Rattle.lpis_lineage.specs.Spans.{first_held, last_held, span_between, span_of}
-use Rattle.lpis_lineage.proofs.IdentifierLemmas.{entry-after, entry-before, entry-here, same-by_order, same-exact, same-refl}
-use Rattle.lpis_lineage.proofs.RowCountLemmas.{filter-append, filter-none}
-use Rattle.lpis_lineage.proofs.ExtensionLemmas.{follows-back, longer, place}
-use Rattle.lpis_lineage.proofs.SpanLemmas.{first-place}
-use Rattle.lpis_lineage.proofs.SpanStepLemmas.{span-more}
-use Rattle.lpis_records.specs.Content.{Content, Line, StoredSpan, lines_from, published}
-use Rattle.lpis_records.specs.Tells.{IsKept, IsSpanRow, IsWriting, SpansTell, Tells, last_of_years, lines_of, shown, years_of}
+use Rattle.lpis_lineage.specs.Spans.{span_between}
+use Rattle.lpis_lineage.proofs.Shared.{same-by_order, filter-append, follows-back, first-place, span-more}
+use Rattle.lpis_records.specs.Content.{published}
+use Rattle.lpis_records.specs.Tells.{IsWriting}
 use Rattle.lpis_records.proofs.AscendingLemmas.{all-append}
 use Rattle.lpis_records.proofs.FoldLemmas.{end_among, fresh_span, published-is, rev-moved, rev_onto}
 use Rattle.lpis_records.proofs.SpanRowLemmas.{spans-moved, told-some}

@@ -1,25 +1,12 @@
 -- What rows that say a history have: what they are refused for otherwise.
-use Rattle.std.proofs.Common.{◌≡◌, ◌∙◌, ◌≤◌, ◌+◌, ◌⊎◌, inl, inr, refl, sym, ap, subst, arith, ℕ, zero, suc, ℤ, pos, List, [], ◌∷◌, true, Option, None, Some, length, map, IsPermutation}
-use Rattle.std.specs.Prelude.{is_some, IsSorted}
-use Rattle.std.specs.List.{All, AllByRecursion, filter, list_any}
-use Rattle.std.specs.List.Sorted.{IsSortedByKey}
-use Rattle.std.specs.Ordering.{nat_cmp}
-use Rattle.std.proofs.lemmas.List.Elements.{All-from_recursion}
-use Rattle.std.proofs.lemmas.List.Sorted.{All-permutation, IsPermutation-sym}
-use Rattle.std.proofs.lemmas.Bool.{or_left, or_right}
-use Rattle.lpis_covers.specs.Ids.{is_id, same_id}
-use Rattle.lpis_lineage.specs.declared.row.Entry.{Entry}
-use Rattle.lpis_lineage.specs.declared.row.Row.{Row}
+use Rattle.std.proofs.Common.{◌≡◌, ◌∙◌, ◌≤◌, ◌+◌, ◌⊎◌, inl, inr, refl, sym, ap, subst, arith, ℕ, zero, suc, ℤ, pos, List, [], ◌∷◌, true, Option, None, Some, length, map, IsPermutation, is_some}
+use Rattle.std.proofs.Common.{IsSorted, All, filter, IsSortedByKey, nat_cmp}
+use Rattle.lpis_records.proofs.Common.{AllByRecursion, list_any, All-from_recursion, All-permutation, IsPermutation-sym, or_left, or_right, is_id, same_id, Entry, Row, entry_at, names, span_of}
+use Rattle.lpis_records.proofs.Common.{same-refl, above-zero, KnownLine, KnownSpan, Content, Line, StoredSpan, lines_from, text_of, IsKept, IsSameHistory, IsSpanRow, SpansTell, Tells, lines_of, shown}
+use Rattle.lpis_records.proofs.Common.{years_of, IsSaid, HasText, SetsAre, line_cmp, line_in, span_in}
 use Rattle.lpis_lineage.specs.declared.span.Span.{Span as Years}
-use Rattle.lpis_lineage.specs.Lineage.{entry_at, is_of, is_this, names}
-use Rattle.lpis_lineage.specs.Spans.{span_of}
-use Rattle.lpis_lineage.proofs.IdentifierLemmas.{same-refl}
-use Rattle.lpis_records.specs.declared.known.KnownLine.{KnownLine}
-use Rattle.lpis_records.specs.declared.known.KnownSpan.{KnownSpan}
-use Rattle.lpis_records.specs.Content.{Content, Line, StoredSpan, lines_from, text_of}
-use Rattle.lpis_records.specs.Tells.{IsKept, IsSameHistory, IsSpanRow, SpansTell, Tells, lines_of, shown, years_of}
-use Rattle.lpis_records.specs.private.Fronts.{IsSaid}
-use Rattle.lpis_records.specs.private.Known.{HasText, IsReadable, IsYear, SetsAre, line_cmp, line_in, span_in}
+use Rattle.lpis_lineage.specs.Lineage.{is_of, is_this}
+use Rattle.lpis_records.specs.private.Known.{IsReadable, IsYear}
 use Rattle.lpis_records.proofs.AscendingLemmas.{all-append, all-map}
 use Rattle.lpis_records.proofs.FrontLemmas.{span-same}
 use Rattle.lpis_records.proofs.OneHistoryLemmas.{sets-told}
@@ -27,7 +14,6 @@ use Rattle.lpis_records.proofs.PublishingLemmas.{spanned}
 use Rattle.lpis_records.proofs.SayingLemmas.{count-map}
 use Rattle.lpis_records.proofs.SortingLemmas.{sorted-lines, sorted-years}
 use Rattle.lpis_records.proofs.YearLemmas.{all-entries, lines-ascend, years-ascend}
-use Rattle.lpis_lineage.proofs.SpanLemmas.{above-zero}
 
 all-moved-from : {A : Type 0} (P : A → Type 0) (xs ys : List A) → IsPermutation xs ys → AllByRecursion P ys → All P xs
 all-moved-from P xs ys p all = All-permutation P ys xs (IsPermutation-sym xs ys p) (All-from_recursion P ys all)

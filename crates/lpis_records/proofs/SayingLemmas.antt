@@ -1,19 +1,7 @@
 -- A history put together from rows is what they say.
-use Rattle.std.proofs.Common.{◌≡◌, ◌∙◌, ◌≤◌, refl, sym, ap, subst, arith, ℕ, zero, suc, ℤ, pos, negsuc, List, [], ◌∷◌, Bool, true, false, cond, length, map, IsPermutation}
-use Rattle.std.specs.Prelude.{◌&&◌, ◌||◌}
-use Rattle.std.specs.List.{All, AllByRecursion, filter, list_any}
-use Rattle.std.proofs.lemmas.List.Elements.{recursion_from_All}
-use Rattle.lpis_covers.specs.Ids.{is_id, same_id}
-use Rattle.lpis_lineage.specs.declared.row.Entry.{Entry}
-use Rattle.lpis_lineage.specs.Lawful.{IsLawful, RowsFit}
-use Rattle.lpis_lineage.specs.Lineage.{entry_at, holds}
-use Rattle.lpis_lineage.proofs.IdentifierLemmas.{in-history, same-exact}
-use Rattle.lpis_records.specs.declared.known.KnownSpan.{KnownSpan}
-use Rattle.lpis_records.specs.declared.known.KnownLine.{KnownLine}
-use Rattle.lpis_records.specs.Content.{Content, StoredSpan}
-use Rattle.lpis_records.specs.Tells.{IsKept, IsSpanRow, SpansTell, Tells, last_of_years, lines_of, only_format, years_of}
-use Rattle.lpis_records.specs.private.Covering.{covers}
-use Rattle.lpis_records.specs.private.Known.{SetsAre, line_in, span_in}
+use Rattle.std.proofs.Common.{◌≡◌, ◌∙◌, ◌≤◌, refl, sym, ap, subst, arith, ℕ, zero, suc, ℤ, pos, negsuc, List, [], ◌∷◌, Bool, true, false, cond, length, map, IsPermutation, ◌&&◌, ◌||◌, All, filter}
+use Rattle.lpis_records.proofs.Common.{AllByRecursion, list_any, recursion_from_All, is_id, same_id, Entry, IsLawful, RowsFit, entry_at, holds, in-history, same-exact, KnownSpan, KnownLine, Content}
+use Rattle.lpis_records.proofs.Common.{StoredSpan, IsKept, IsSpanRow, SpansTell, Tells, last_of_years, lines_of, only_format, years_of, covers, SetsAre, line_in, span_in}
 
 -- what a test passes with another it passes alone
 any-left : {A : Type 0} (p q : A → Bool) (xs : List A) → list_any (λ x. p x && q x) xs ≡ true → list_any p xs ≡ true

@@ -1,19 +1,14 @@
 -- What is sorted and has the elements of a list that ascends strictly is that list.
-use Rattle.std.proofs.Common.{◌≡◌, ◌∙◌, ◌<◌, ◌≤◌, inl, inr, refl, sym, ap, arith, ℕ, suc, ℤ, pos, negsuc, List, [], ◌∷◌, Bool, true, false, cond, length, map, get_or, IsPermutation, Ordering}
-use Rattle.std.specs.Prelude.{◌&&◌, ◌||◌, not, IsSorted}
+use Rattle.std.proofs.Common.{◌≡◌, ◌∙◌, ◌<◌, ◌≤◌, inl, inr, refl, sym, ap, arith, ℕ, suc, ℤ, pos, negsuc, List, [], ◌∷◌, Bool, true, false, cond, length, map, get_or, IsPermutation, Ordering, ◌&&◌}
+use Rattle.std.proofs.Common.{◌||◌, not, IsSorted, Less, Equal, filter, IsSortedByKey, int_cmp, is_lt, nat_cmp}
+use Rattle.lpis_records.proofs.Common.{AllByRecursion, list_any, nat_tests, IsPermutation-sym, IsPermutation-trans, filter-none, KnownLine, Line, line_cmp, line_in}
 use Rattle.std.specs.Cmp.{IsStrictWeakOrder, IsTotalOrder, int_cmp_is}
-use Rattle.std.specs.declared.cmp.Ordering.TheVariants.{Less, Equal}
-use Rattle.std.specs.List.{AllByRecursion, filter, list_any}
-use Rattle.std.specs.List.Sorted.{IsSortedByKey, ties}
-use Rattle.std.specs.Ordering.{int_cmp, is_lt, nat_cmp, ordering_then}
-use Rattle.std.proofs.lemmas.Bool.Decides.{nat_tests}
+use Rattle.std.specs.List.Sorted.{ties}
+use Rattle.std.specs.Ordering.{ordering_then}
 use Rattle.std.proofs.lemmas.Cmp.{int_cmp_total, nat_cmp_total, on_total, then_total}
 use Rattle.std.proofs.lemmas.Int.{ints}
-use Rattle.std.proofs.lemmas.List.Sorted.{IsPermutation-sym, IsPermutation-trans, ranks_by, sorted_far}
-use Rattle.lpis_lineage.proofs.RowCountLemmas.{filter-none, filter-some}
-use Rattle.lpis_records.specs.declared.known.KnownLine.{KnownLine}
-use Rattle.lpis_records.specs.Content.{Line}
-use Rattle.lpis_records.specs.private.Known.{line_cmp, line_in}
+use Rattle.std.proofs.lemmas.List.Sorted.{ranks_by, sorted_far}
+use Rattle.lpis_lineage.proofs.Shared.{filter-some}
 use Rattle.lpis_records.proofs.AscendingLemmas.{Ascends, all-map, below, same-ascending}
 use Rattle.lpis_records.proofs.SpanRowLemmas.{count-moved}
 use Rattle.lpis_records.proofs.YearLemmas.{line_below}

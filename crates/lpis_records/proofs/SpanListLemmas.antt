@@ -1,25 +1,15 @@
 -- The spans of a history's identifiers, as a list of rows.
 use Rattle.std.proofs.Common.{◌≡◌, ◌∙◌, ◌<◌, ◌+◌, refl, sym, ap, ap₂, arith, ℕ, zero, suc, List, [], ◌∷◌, ◌++◌, Bool, true, false, Option, None, Some, cond, length, map, take, get_or, IsPermutation}
-use Rattle.std.specs.Prelude.{◌||◌, is_some, IsSorted}
-use Rattle.std.specs.List.{All, dedup, filter, list_any}
-use Rattle.std.specs.Ordering.{nat_cmp}
-use Rattle.std.specs.Cmp.Lexicographic.{slice_cmp, nat_list_cmp_total, texts_ties}
+use Rattle.std.proofs.Common.{◌||◌, is_some, IsSorted, All, filter, nat_cmp}
+use Rattle.lpis_records.proofs.Common.{list_any, slice_cmp, All-push, recursion_from_All, list_any-IsPermutation, has_id, same_id, Entry, holds, last_live, first_held, last_held, span_of, same-refl}
+use Rattle.lpis_records.proofs.Common.{take-at, StoredSpan, IsSpanRow, SpansTell, all_live}
+use Rattle.std.specs.List.{dedup}
+use Rattle.std.specs.Cmp.Lexicographic.{nat_list_cmp_total, texts_ties}
 use Rattle.std.proofs.lemmas.List.{append-nil, append_assoc}
-use Rattle.std.proofs.lemmas.List.Elements.{All-push, recursion_from_All}
 use Rattle.std.proofs.lemmas.List.Kept.{IsStrictlySortedBy-dedup}
-use Rattle.std.proofs.lemmas.List.Sorted.{list_any-IsPermutation}
 use Rattle.std.proofs.lemmas.List.Folds.{list_any-append}
-use Rattle.lpis_covers.specs.Ids.{has_id, same_id}
-use Rattle.lpis_lineage.specs.declared.row.Entry.{Entry}
-use Rattle.lpis_lineage.specs.Lineage.{holds, last_live}
-use Rattle.lpis_lineage.specs.Spans.{first_held, last_held, span_between, span_of}
-use Rattle.lpis_lineage.proofs.IdentifierLemmas.{same-refl}
-use Rattle.lpis_lineage.proofs.CleanLemmas.{held-some}
-use Rattle.lpis_lineage.proofs.SpanLemmas.{first-place}
-use Rattle.lpis_lineage.proofs.TellingLemmas.{take-at}
-use Rattle.lpis_records.specs.Content.{StoredSpan}
-use Rattle.lpis_records.specs.Tells.{IsSpanRow, SpansTell}
-use Rattle.lpis_records.specs.private.Known.{all_live}
+use Rattle.lpis_lineage.specs.Spans.{span_between}
+use Rattle.lpis_lineage.proofs.Shared.{held-some, first-place}
 use Rattle.lpis_records.proofs.FreshLemmas.{has-dedup}
 use Rattle.lpis_records.proofs.KnownLemmas.{read-more}
 use Rattle.lpis_records.proofs.PublishingLemmas.{once-ascending, same-length}

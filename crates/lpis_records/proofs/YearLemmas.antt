@@ -1,12 +1,6 @@
 -- The years and the rows of a lawful history ascend.
 use Rattle.std.proofs.Common.{◌≡◌, ◌<◌, ◌≤◌, ◌+◌, ◌⊎◌, inl, inr, refl, sym, subst, arith, ℕ, suc, ℤ, pos, List, [], ◌∷◌, length}
-use Rattle.std.specs.List.{AllByRecursion}
-use Rattle.lpis_lineage.specs.declared.row.Entry.{Entry}
-use Rattle.lpis_lineage.specs.declared.row.Row.{Row}
-use Rattle.lpis_lineage.specs.Lawful.{IsLawful}
-use Rattle.lpis_lineage.specs.Lineage.{entry_at}
-use Rattle.lpis_records.specs.Content.{Line, lines_from, text_of}
-use Rattle.lpis_records.specs.Tells.{lines_of, years_of}
+use Rattle.lpis_records.proofs.Common.{AllByRecursion, Entry, Row, IsLawful, entry_at, Line, lines_from, text_of, lines_of, years_of}
 use Rattle.lpis_records.proofs.AscendingLemmas.{Ascends, all-map, all-append, ascends-append, below, below-alone}
 
 -- what holds at each place holds of each release

@@ -1,21 +1,16 @@
 -- What the steps of an opening commit, joined.
-use Rattle.std.specs.Prelude.{List, IsTrue}
-use Rattle.std.proofs.Common.{◌≡◌, ◌∙◌, Bool, true, false, [], inl, refl, sym, subst, arith, true≢false}
-use Rattle.sqlite.specs.Tree.{Trees}
-use Rattle.sqlite.specs.State.{HasCleanDisk, State, Survives}
-use Rattle.sqlite.proofs.StateLemmas.{survives_then, survives_weaker}
-use Rattle.lpis_lineage.specs.declared.row.Entry.{Entry}
-use Rattle.lpis_records.specs.Content.{Content, StoredSpan, moved, no_content}
-use Rattle.lpis_records.specs.Tells.{Tells, TellsLive}
+use Rattle.std.proofs.Common.{List, IsTrue, ◌≡◌, ◌∙◌, Bool, true, false, [], inl, refl, sym, subst, arith, true≢false}
+use Rattle.lpis_register.proofs.Common.{Trees, State, Survives, survives_weaker, Entry, Content, no_content, Tells, TellsLive, Shape, New, has_spans, IsStored, Leaves, LeavesHistory, SaysAt}
+use Rattle.sqlite.specs.State.{HasCleanDisk}
+use Rattle.sqlite.proofs.StateLemmas.{survives_then}
+use Rattle.lpis_records.specs.Content.{StoredSpan, moved}
 use Rattle.lpis_tables.specs.Bare.{IsBare}
-use Rattle.lpis_tables.specs.Shapes.{Shape, First, Moved, New, has_spans, with_span_table}
-use Rattle.lpis_tables.specs.Holding.{IsStored, Leaves}
-use Rattle.lpis_register.specs.Histories.{LeavesHistory}
-use Rattle.lpis_register.specs.Opening.{LeavesOpened, SaysAt}
+use Rattle.lpis_tables.specs.Shapes.{First, Moved, with_span_table}
+use Rattle.lpis_register.specs.Opening.{LeavesOpened}
 use Rattle.lpis_tables.specs.Quiet.{IsWith, LeavesNone}
 use Rattle.lpis_tables.specs.Commits.{LeavesBeside, LeavesMade, LeavesMoved}
 use Rattle.lpis_register.specs.private.Commits.{LeavesFound, LeavesSettled}
-use Rattle.lpis_tables.proofs.MoveLemmas.{spans_stand}
+use Rattle.lpis_tables.proofs.Shared.{spans_stand}
 use Rattle.lpis_register.proofs.OpeningLemmas.{none_said}
 
 pub must_be_first : (s : Shape) → has_spans s ≡ false → s ≡ First

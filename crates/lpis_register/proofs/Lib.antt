@@ -1,3 +1,4 @@
+pub mod Common
 pub mod PublishedLemmas
 pub mod ReadingLemmas
 pub mod OrderedLemmas

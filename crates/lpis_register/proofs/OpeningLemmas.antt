@@ -1,20 +1,14 @@
 -- From rows of either version to the history that they say.
-use Rattle.std.specs.Prelude.{IfErr, OnErr}
-use Rattle.std.proofs.Common.{◌≡◌, ◌<◌, inl, inr, Result, Ok, Err, Bool, true, false, List, [], ◌∷◌, refl, ap, length, arith, IsPermutation}
+use Rattle.std.proofs.Common.{IfErr, OnErr, ◌≡◌, ◌<◌, inl, inr, Result, Ok, Err, Bool, true, false, List, [], ◌∷◌, refl, ap, length, arith, IsPermutation}
+use Rattle.lpis_register.proofs.Common.{Trees, State, Entry, Content, no_content, IsSameContent, Tells, TellsLive, New, IsStored, SaysAt}
 use Rattle.std.proofs.lemmas.List.Sorted.{length_permutation}
-use Rattle.sqlite.specs.Tree.{Trees}
-use Rattle.sqlite.specs.State.{State}
 use Rattle.sqlite.specs.Files.{AreFoundIn}
 use Rattle.sqlite_trees.specs.Objects.{catalog_tree}
 use Rattle.sqlite_wal.specs.Recovery.{Image}
-use Rattle.lpis_lineage.specs.declared.row.Entry.{Entry}
-use Rattle.lpis_records.specs.Content.{Content, no_content}
-use Rattle.lpis_records.specs.Tells.{IsSameContent, Tells, TellsLive, years_of}
+use Rattle.lpis_records.specs.Tells.{years_of}
 use Rattle.lpis_register.specs.declared.fault.PublishFault.{PublishFault}
 use Rattle.lpis_register.specs.declared.fault.PublishFault.TheVariants.{Unlawful}
-use Rattle.lpis_tables.specs.Shapes.{New}
-use Rattle.lpis_tables.specs.Holding.{IsStored}
-use Rattle.lpis_register.specs.Opening.{FindsHistory, SaysAt}
+use Rattle.lpis_register.specs.Opening.{FindsHistory}
 use Rattle.lpis_register.proofs.ReadingLemmas.{same_back}
 
 -- the order of rows is free in either version

@@ -1,17 +1,8 @@
 -- From what tables hold to the history that they say.
-use Rattle.std.proofs.Common.{◌≡◌, ℕ, List, true, Ok, Err, Result, OnOk}
-use Rattle.std.specs.Prelude.{OnErr}
-use Rattle.sqlite.specs.Tree.{Trees}
-use Rattle.sqlite.specs.State.{State, Survives}
+use Rattle.std.proofs.Common.{◌≡◌, ℕ, List, true, Ok, Err, Result, OnOk, OnErr}
+use Rattle.lpis_register.proofs.Common.{Trees, State, Survives, survives_weaker, Entry, Content, Tells, Shape, has_spans, IsStored, Leaves, HoldsHistory, LeavesHistory}
 use Rattle.sqlite.specs.declared.error.Error.{Error}
-use Rattle.sqlite.proofs.StateLemmas.{survives_weaker}
-use Rattle.lpis_lineage.specs.declared.row.Entry.{Entry}
 use Rattle.lpis_lineage.specs.declared.row.Row.{Row}
-use Rattle.lpis_records.specs.Content.{Content}
-use Rattle.lpis_records.specs.Tells.{Tells}
-use Rattle.lpis_tables.specs.Shapes.{Shape, has_spans}
-use Rattle.lpis_tables.specs.Holding.{IsStored, Leaves}
-use Rattle.lpis_register.specs.Histories.{HoldsHistory, LeavesHistory}
 use Rattle.lpis_register.specs.private.Writes.{Writes}
 
 module _ (shape : Shape) (spans : has_spans shape ≡ true) (c : Content) (h : List Entry) (tells : Tells c h) where

@@ -1,13 +1,8 @@
 -- From rows that were read to the history that the tables say.
 use Rattle.std.proofs.Common.{◌≡◌, List, true}
+use Rattle.lpis_register.proofs.Common.{State, Entry, Content, IsSameContent, Tells, Shape, has_spans, IsStored, HoldsHistory}
 use Rattle.std.proofs.lemmas.List.Sorted.{IsPermutation-sym}
-use Rattle.sqlite.specs.State.{State}
-use Rattle.lpis_lineage.specs.declared.row.Entry.{Entry}
-use Rattle.lpis_records.specs.Content.{Content, without_live}
-use Rattle.lpis_records.specs.Tells.{IsSameContent, Tells}
-use Rattle.lpis_tables.specs.Shapes.{Shape, has_spans}
-use Rattle.lpis_tables.specs.Holding.{IsStored}
-use Rattle.lpis_register.specs.Histories.{HoldsHistory}
+use Rattle.lpis_records.specs.Content.{without_live}
 
 pub same_back : (c d : Content) → IsSameContent c d → IsSameContent d c
 same_back c d s = record {

@@ -1,29 +1,20 @@
 -- Rings walked backwards, and areas by the edges in normal orientation.
-use Rattle.std.proofs.Common.{◌≡◌, ℤ, pos, ◌+ℤ◌, neg_ℤ, int_lt, nat_abs, Bool, true, false, cond, List, [], ◌∷◌, ◌++◌, reverse, ap, sym, refl, ◌∙◌, arith}
-use Rattle.std.proofs.lemmas.Int.{ints}
-use Rattle.std.specs.List.{flat_map}
+use Rattle.std.proofs.Common.{◌≡◌, ℤ, pos, ◌+ℤ◌, neg_ℤ, int_lt, nat_abs, Bool, true, false, cond, List, [], ◌∷◌, ◌++◌, reverse, ap, sym, refl, ◌∙◌, arith, flat_map}
+use Rattle.lpis_rings.proofs.Common.{ints, Point, shoelace_term, edge_sum, Member, steps, shoelace, absolute_sums, area2, shell_edges, hole_edges, edges_of}
 use Rattle.std.proofs.lemmas.List.{reverse-append}
-use Rattle.lpis_points.specs.declared.point.Point.{Point}
-use Rattle.lpis_points.specs.Plane.{shoelace_term}
-use Rattle.lpis_points.specs.Chain.{edge_sum, IsOdd}
-use Rattle.lpis_points.proofs.ChainLemmas.{edge_sum-append}
-use Rattle.lpis_points.proofs.OddLemmas.{shoelace_term-odd}
-use Rattle.lpis_rings.specs.declared.polygon.Member.{Member}
-use Rattle.lpis_rings.specs.Area.{steps, shoelace, absolute_sums, area2}
-use Rattle.lpis_rings.specs.Edges.{walk, shell_edges, hole_edges, member_edges, edges_of}
+use Rattle.lpis_points.specs.Chain.{IsOdd}
+use Rattle.lpis_points.proofs.Shared.{edge_sum-append, shoelace_term-odd}
+use Rattle.lpis_rings.specs.Edges.{walk, member_edges}
 
 steps-push : (f : Point → Point → ℤ) (xs : List Point) (y z : Point) → edge_sum f (steps ((xs ++ y ∷ []) ++ z ∷ [])) ≡ edge_sum f (steps (xs ++ y ∷ [])) +ℤ f y z
-steps-push f [] y z = omega (arith, ints)
-steps-push f (x ∷ []) y z = omega (arith, ints)
 steps-push f (x ∷ (w ∷ xs)) y z = omega (arith, ints, steps-push f (w ∷ xs) y z)
+steps-push f _ y z = omega (arith, ints)
 
 reverse-cons : (a : Point) (xs : List Point) → reverse (a ∷ xs) ≡ reverse xs ++ a ∷ []
 reverse-cons a xs = reverse-append (a ∷ []) xs
 
 -- walked backwards, every odd function has the opposite sum
 pub steps-reverse : (f : Point → Point → ℤ) → IsOdd f → (ps : List Point) → edge_sum f (steps (reverse ps)) ≡ neg_ℤ (edge_sum f (steps ps))
-steps-reverse f o [] = refl
-steps-reverse f o (a ∷ []) = refl
 steps-reverse f o (a ∷ (b ∷ ps)) =
     ap (λ (xs : List Point). edge_sum f (steps xs)) (reverse-cons a (b ∷ ps) ∙ ap (λ (xs : List Point). xs ++ a ∷ []) (reverse-cons b ps))
     ∙ steps-push f (reverse ps) b a ∙ turned (edge_sum f (steps (reverse ps ++ b ∷ []))) (edge_sum f (steps (b ∷ ps)))
@@ -32,6 +23,7 @@ steps-reverse f o (a ∷ (b ∷ ps)) =
   where
     turned : (x y v w : ℤ) → x ≡ neg_ℤ y → w ≡ neg_ℤ v → x +ℤ w ≡ neg_ℤ (v +ℤ y)
     turned x y v w e g = omega (arith, ints)
+steps-reverse _ _ _ = refl
 
 abs_walk : (x y : ℤ) → y ≡ neg_ℤ x → cond (int_lt x (pos 0)) y x ≡ pos (nat_abs x)
 abs_walk x y e = grind (arith, ints)

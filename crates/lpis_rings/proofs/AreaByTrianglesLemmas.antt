@@ -1,17 +1,13 @@
 -- The area of edges that triangles and flats make up.
 use Rattle.std.proofs.Common.{◌≡◌, ◌<◌, ℤ, pos, ◌+ℤ◌, ◌<ℤ◌, ◌≤ℤ◌, length, List, [], ◌∷◌, ◌++◌, All, get_or, refl, ◌∙◌, arith}
-use Rattle.std.proofs.lemmas.Int.{ints}
+use Rattle.lpis_rings.proofs.Common.{ints, Point, shoelace_term, edge_sum}
 use Rattle.std.proofs.lemmas.List.Elements.{All-head, All-tail}
-use Rattle.lpis_points.specs.declared.point.Point.{Point}
 use Rattle.lpis_points.specs.declared.triangle.Triangle.{Triangle}
-use Rattle.lpis_points.specs.Plane.{orient, same_point, shoelace_term}
+use Rattle.lpis_points.specs.Plane.{orient, same_point}
 use Rattle.lpis_points.specs.Triangles.{IsCounterClockwise, IsFlat}
-use Rattle.lpis_points.specs.Chain.{edge_sum, SameNet, IsOdd}
+use Rattle.lpis_points.specs.Chain.{SameNet, IsOdd}
 use Rattle.lpis_points.specs.Sums.{int_sum_by}
-use Rattle.lpis_points.proofs.ChainLemmas.{chain_lemma, edge_sum-append, int_sum_by-flat_map, int_sum_by-not_neg}
-use Rattle.lpis_points.proofs.PointLemmas.{same_point-equality}
-use Rattle.lpis_points.proofs.OddLemmas.{shoelace_term-odd}
-use Rattle.lpis_points.proofs.TriangleLemmas.{terms_sum}
+use Rattle.lpis_points.proofs.Shared.{chain_lemma, edge_sum-append, int_sum_by-flat_map, int_sum_by-not_neg, same_point-equality, shoelace_term-odd, terms_sum}
 use Rattle.lpis_rings.specs.Map.{edges_of_triangles, IsCut, triangle_areas, CutPiece, all_edges, all_areas}
 
 -- a sum over the edges of triangles, by the sum round each

@@ -1,19 +1,12 @@
 -- Machinery: areas fit their types.
-use Rattle.std.proofs.Common.{◌≡◌, ◌≤◌, ◌<◌, ◌+◌, ◌-◌, ◌*◌, ℕ, zero, suc, ℤ, pos, ◌-ℤ◌, ◌+ℤ◌, nat_abs, List, [], ◌∷◌, length, take, drop, get_or, arith, refl, sym, ap, subst, ◌∙◌}
+use Rattle.std.proofs.Common.{◌≡◌, ◌≤◌, ◌<◌, ◌+◌, ◌-◌, ◌*◌, ℕ, zero, suc, ℤ, pos, ◌-ℤ◌, ◌+ℤ◌, nat_abs, List, [], ◌∷◌, length, take, drop, get_or, arith, refl, sym, ap, subst, ◌∙◌, FitsSigned}
+use Rattle.lpis_rings.proofs.Common.{ints, w128, Point, edge_sum, shoelace_term, shoelace, steps, member_points, points_in, points_of, Member, most_term}
 use Rattle.std.proofs.lemmas.List.{length-drop}
 use Rattle.std.proofs.lemmas.List.Sums.{sum_by_more, sum_by_more_le}
-use Rattle.std.proofs.lemmas.Int.{ints, to_z-of_z}
-use mir.Syntax.{w64, w128}
+use Rattle.std.proofs.lemmas.Int.{to_z-of_z}
+use mir.Syntax.{w64}
 use mir.Val.{SFits, to_z, of_z}
-use Rattle.std.specs.Prelude.{FitsSigned}
 use Rattle.lpis_points.specs.Range.{IsInRange}
-use Rattle.lpis_points.specs.declared.point.Point.{Point}
-use Rattle.lpis_points.specs.Chain.{edge_sum}
-use Rattle.lpis_points.specs.Plane.{shoelace_term}
-use Rattle.lpis_rings.specs.Area.{shoelace, steps}
-use Rattle.lpis_rings.specs.Polygon.{member_points, points_in, points_of}
-use Rattle.lpis_rings.specs.declared.polygon.Member.{Member}
-use Rattle.lpis_rings.specs.AreaBounds.{most_term}
 
 -- a coordinate as a machine number
 pub coordinate-is : (x : ℤ) → IsInRange x → to_z w64 (of_z w64 x) ≡ x
@@ -47,11 +40,9 @@ sum-more s t n k h l few =
     (rw d g, rw d (to_z-of_z w128 (s +ℤ t) g), omega (arith, ints))
 
 steps_suc : (j : ℕ) (ps : List Point) (a b : Point) → suc j < length ps → a ≡ get_or ps j a → b ≡ get_or ps (suc j) b → steps (drop j ps) ≡ (a, b) ∷ steps (drop (suc j) ps)
-steps_suc zero [] a b h e f = absurd (omega arith)
-steps_suc zero (p ∷ []) a b h e f = absurd (omega arith)
 steps_suc zero (p ∷ (q ∷ ps)) a b h e f = rw (e, f) refl
-steps_suc (suc j) [] a b h e f = absurd (omega arith)
 steps_suc (suc j) (p ∷ ps) a b h e f = steps_suc j ps a b (omega arith) e f
+steps_suc _ _ a b h e f = absurd (omega arith)
 
 -- the edges from a place on
 pub steps_at : (i : ℕ) (ps : List Point) (a b : Point) → 1 ≤ i → i < length ps → a ≡ get_or ps (i - 1) a → b ≡ get_or ps i b → steps (drop (i - 1) ps) ≡ (a, b) ∷ steps (drop i ps)
@@ -62,9 +53,8 @@ steps_at (suc j) ps a b some h e f =
     subst (λ (n : ℕ). steps (drop n ps) ≡ (a, b) ∷ steps (drop (suc j) ps)) (sym same) (steps_suc j ps a b h first f)
 
 short : (ps : List Point) → length ps ≤ 1 → steps ps ≡ []
-short [] h = refl
-short (p ∷ []) h = refl
 short (p ∷ (q ∷ ps)) h = absurd (omega arith)
+short _ _ = refl
 
 pub no_steps : (i : ℕ) (ps : List Point) → length ps ≤ i → steps (drop (i - 1) ps) ≡ []
 no_steps i ps h = short (drop (i - 1) ps) (simp length-drop (omega arith))

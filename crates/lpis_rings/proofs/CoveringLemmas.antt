@@ -1,22 +1,17 @@
 -- Triangles that keep apart cover each point at most once: first at the shifted point, which is off every line, and so
 -- everywhere.
 use Rattle.std.proofs.Common.{◌≡◌, ◌≢◌, ℤ, pos, ◌+ℤ◌, ◌≤ℤ◌, ◌<ℤ◌, Bool, true, false, cond, List, [], ◌∷◌, ◌++◌, inl, inr, All, sym, refl, ◌∙◌, subst, arith, get_or, filter, length}
-use Rattle.std.proofs.lemmas.Int.{ints, by_lt_z}
+use Rattle.lpis_rings.proofs.Common.{ints, Point, edge_turns}
+use Rattle.std.proofs.lemmas.Int.{by_lt_z}
 use Rattle.std.proofs.lemmas.List.Elements.{All-cons, All-head, All-tail, All-append}
-use Rattle.lpis_points.specs.declared.point.Point.{Point}
 use Rattle.lpis_points.specs.declared.triangle.Triangle.{Triangle}
 use Rattle.lpis_points.specs.Plane.{RationalPoint, orient_at, crossing, same_point}
 use Rattle.lpis_points.specs.Triangles.{IsCounterClockwise, IsFlat, IsOffItsLines, is_inside}
 use Rattle.lpis_points.specs.Shift.{shifted}
 use Rattle.lpis_points.specs.Chain.{SameNet}
 use Rattle.lpis_points.specs.Sums.{int_sum_by}
-use Rattle.lpis_points.proofs.ChainLemmas.{int_sum_by-append, int_sum_by-flat_map, int_sum_by-not_neg, int_sum_by-same}
-use Rattle.lpis_points.proofs.OddLemmas.{crossing-odd}
-use Rattle.lpis_points.proofs.ShiftLemmas.{shifted_off, crossing-shifted}
-use Rattle.lpis_points.proofs.TriangleLemmas.{corners_differ, turns_round-is, flats_never_turn}
-use Rattle.lpis_points.proofs.ApartBoxLemmas.{apart_share_nothing}
-use Rattle.lpis_points.proofs.SeparationLemmas.{separated_share_nothing}
-use Rattle.lpis_rings.specs.Edges.{edge_turns}
+use Rattle.lpis_points.proofs.Shared.{int_sum_by-append, int_sum_by-flat_map, int_sum_by-not_neg, int_sum_by-same, crossing-odd, shifted_off, crossing-shifted, corners_differ, turns_round-is}
+use Rattle.lpis_points.proofs.Shared.{flats_never_turn, apart_share_nothing, separated_share_nothing}
 use Rattle.lpis_rings.specs.Map.{edges_of_triangles, KeepApart, AllKeepApart, IsCut, inside_count, CutPiece, IsCutPiece, all_triangles, all_edges, all_turns, IsOneOrNone}
 use Rattle.lpis_rings.proofs.AreaByTrianglesLemmas.{triangles_sum, no_sum, chained}
 

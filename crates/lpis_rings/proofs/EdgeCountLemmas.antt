@@ -1,18 +1,13 @@
 -- A polygon has no more edges than points.
-use Rattle.std.proofs.Common.{◌≡◌, ◌≤◌, Bool, true, false, List, [], ◌∷◌, length, length-append, arith}
+use Rattle.std.proofs.Common.{◌≡◌, ◌≤◌, Bool, true, false, List, [], ◌∷◌, length, length-append, arith, flat_map}
+use Rattle.lpis_rings.proofs.Common.{Point, Member, steps, shell_edges, hole_edges, edges_of, points_in, member_points, points_of}
 use Rattle.std.proofs.lemmas.List.{length-reverse}
-use Rattle.std.specs.List.{flat_map}
 use Rattle.std.proofs.lemmas.List.Sums.{sum_by-cons}
-use Rattle.lpis_points.specs.declared.point.Point.{Point}
-use Rattle.lpis_rings.specs.declared.polygon.Member.{Member}
-use Rattle.lpis_rings.specs.Area.{steps}
-use Rattle.lpis_rings.specs.Edges.{walk, shell_edges, hole_edges, member_edges, edges_of}
-use Rattle.lpis_rings.specs.Polygon.{points_in, member_points, points_of}
+use Rattle.lpis_rings.specs.Edges.{walk, member_edges}
 
 length-steps : (ps : List Point) → length (steps ps) ≤ length ps
-length-steps [] = omega arith
-length-steps (p ∷ []) = omega arith
 length-steps (p ∷ (q ∷ ps)) = omega (arith, length-steps (q ∷ ps))
+length-steps _ = omega arith
 
 length-walk : (b : Bool) (ps : List Point) → length (walk b ps) ≡ length ps
 length-walk true ps = length-reverse ps

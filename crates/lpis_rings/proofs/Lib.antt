@@ -1,3 +1,4 @@
+pub mod Common
 pub mod AreaLemmas
 pub mod RingWalkLemmas
 pub mod EdgeCountLemmas
@@ -5,3 +6,4 @@ pub mod ParityLemmas
 pub mod AreaByEdgesLemmas
 pub mod AreaByTrianglesLemmas
 pub mod CoveringLemmas
+pub mod Shared

@@ -1,11 +1,9 @@
 -- The number of edges with a crossing other than 0, and the sum of their crossings.
 use Rattle.std.proofs.Common.{◌≡◌, ℕ, suc, ◌+◌, ◌*◌, ◌%◌, ℤ, pos, negsuc, ◌+ℤ◌, nat_abs, not, cond, int_eq, List, [], ◌∷◌, ◌⊎◌, inl, inr, ◌↔◌, length, sym, refl, ◌∙◌, arith}
-use Rattle.std.proofs.lemmas.Int.{ints}
-use Rattle.lpis_points.specs.declared.point.Point.{Point}
+use Rattle.lpis_rings.proofs.Common.{ints, Point, Member, edge_turns, edges_of}
 use Rattle.lpis_points.specs.Plane.{RationalPoint, crossing}
-use Rattle.lpis_points.proofs.OddLemmas.{crossing-cases}
-use Rattle.lpis_rings.specs.declared.polygon.Member.{Member}
-use Rattle.lpis_rings.specs.Edges.{edge_turns, crossed, edges_of, turns, Contains}
+use Rattle.lpis_points.proofs.Shared.{crossing-cases}
+use Rattle.lpis_rings.specs.Edges.{crossed, turns, Contains}
 use Rattle.lpis_rings.specs.Map.{IsOneOrNone}
 
 -- the sum of the crossings, and twice the edges crossed by -1, are the number of edges crossed

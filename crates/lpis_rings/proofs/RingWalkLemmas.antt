@@ -1,9 +1,6 @@
 -- The walks of a polygon make up its edges.
-use Rattle.std.proofs.Common.{◌≡◌, List, [], ◌∷◌, ◌++◌, map, append_assoc, ap, ap₂, sym, refl, ◌∙◌}
-use Rattle.std.specs.List.{flat_map}
-use Rattle.lpis_points.specs.declared.point.Point.{Point}
-use Rattle.lpis_rings.specs.declared.polygon.Member.{Member}
-use Rattle.lpis_rings.specs.Edges.{shell_edges, hole_edges, edges_of}
+use Rattle.std.proofs.Common.{◌≡◌, List, [], ◌∷◌, ◌++◌, map, append_assoc, ap, ap₂, sym, refl, ◌∙◌, flat_map}
+use Rattle.lpis_rings.proofs.Common.{Point, Member, shell_edges, hole_edges, edges_of}
 use Rattle.lpis_rings.specs.private.RingWalks.{joined, walks_of}
 
 joined-append : (vs ws : List (List (Point × Point))) → joined (vs ++ ws) ≡ joined vs ++ joined ws

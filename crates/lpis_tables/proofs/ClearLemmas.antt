@@ -1,35 +1,17 @@
 -- What DELETE with no WHERE makes of a table.
-use Rattle.std.proofs.Common.{◌≡◌, ℕ, ℤ, List, [], ◌∷◌, map, drop, slice_get, true, false, not, Some, None, Ok, refl, sym, ap, subst, ◌∙◌, IsPermutation, true≢false}
-use Rattle.std.specs.Prelude.{Option}
-use Rattle.std.proofs.lemmas.List.Concat.{flat_map_single}
-use Rattle.std.proofs.lemmas.List.Sorted.{IsPermutation-refl, IsPermutation-map}
-use Rattle.sqlite.specs.declared.types.Value.TheVariants.{Null}
-use Rattle.sqlite.specs.Order.{Row}
-use Rattle.sqlite.specs.Table.{Table}
-use Rattle.sqlite.specs.Schema.{Schema}
-use Rattle.sqlite.specs.Program.{overlay}
-use Rattle.sqlite.specs.Query.{IsAnswer, Output, output}
+use Rattle.std.proofs.Common.{◌≡◌, ℕ, ℤ, List, [], ◌∷◌, map, drop, slice_get, true, false, not, Some, None, Ok, refl, sym, ap, subst, ◌∙◌, IsPermutation, true≢false, Option}
+use Rattle.lpis_tables.proofs.Common.{flat_map_single, IsPermutation-refl, IsPermutation-map, Null, Row, Table, Schema, overlay, IsAnswer, Output, output, edit_of, Given, Trees, Tally, Does, Database}
+use Rattle.lpis_tables.proofs.Common.{Mode, State, mode_of, ExecutesInside, understood, Program, ids_of, statement_of, runs_as, Content, without_spans, without_live, span_table, Shape, schema_of}
+use Rattle.lpis_tables.proofs.Common.{has_spans, has_live, span_tree, span_place, AreKeyed, span_row, live_row, Inside}
 use Rattle.sqlite.specs.Command.TheVariants.{Delete}
-use Rattle.sqlite.specs.Edit.{without_all, edit_of}
-use Rattle.sqlite.specs.Rowids.TheVariants.{Given}
-use Rattle.sqlite.specs.Tree.{Trees}
-use Rattle.sqlite.specs.Does.{Tally, Does, AtPlace, OnRows}
-use Rattle.sqlite.specs.Effect.{Database, IsDatabase, Answers}
+use Rattle.sqlite.specs.Edit.{without_all}
+use Rattle.sqlite.specs.Does.{AtPlace, OnRows}
+use Rattle.sqlite.specs.Effect.{IsDatabase, Answers}
 use Rattle.sqlite.specs.Rows.{Written, Edited, Task}
-use Rattle.sqlite.specs.declared.run.Mode.{Mode}
-use Rattle.sqlite.specs.State.{State, mode_of, Executes, ExecutesInside}
-use Rattle.sqlite.specs.Listing.{understood}
+use Rattle.sqlite.specs.State.{Executes}
 use Rattle.sqlite_schema.specs.declared.schema.Keys.{Keys}
-use Rattle.sqlite_schema.specs.declared.program.Program.{Program}
-use Rattle.sqlite_rules.specs.Calls.{ids_of}
-use Rattle.sqlite.proofs.Callers.{statement_of, runs_as}
-use Rattle.lpis_records.specs.Content.{Content, without_spans, without_live}
-use Rattle.lpis_tables.specs.Tables.{span_table, live_table}
-use Rattle.lpis_tables.specs.Shapes.{Shape, schema_of, has_spans, has_live, span_tree}
-use Rattle.lpis_tables.specs.private.Places.{span_place}
+use Rattle.lpis_tables.specs.Tables.{live_table}
 use Rattle.lpis_tables.specs.private.Texts.{clear_span, clear_live}
-use Rattle.lpis_tables.specs.Holding.{AreKeyed, span_row, live_row}
-use Rattle.lpis_tables.specs.private.Inside.{Inside}
 use Rattle.lpis_tables.proofs.MeaningLemmas.{in_each, Says, whole, ids_query, clear_span_means, clear_live_means}
 use Rattle.lpis_tables.proofs.UpdateLemmas.{without_is, filter_same, gone_are, key_of}
 use Rattle.lpis_tables.proofs.PartLemmas.{far, span_not_live, keeps_there, there_keeps, formats_kept, years_kept, spans_kept, lines_kept, own_spans, spans_changed}

@@ -1,45 +1,26 @@
 -- What UPDATE makes of the spans.
 use Rattle.std.proofs.Common.{◌≡◌, ◌⊎◌, inl, inr, ℕ, ℤ, List, [], ◌∷◌, ◌++◌, map, drop, Bool, true, false, not, None, Ok, refl, sym, ap, ap₂, subst, ◌∙◌, IsPermutation, is_eq, true≢false}
-use Rattle.std.specs.Prelude.{if◌then◌else◌, filter}
-use Rattle.std.specs.Str.{bytes_eq}
-use Rattle.std.specs.List.{flat_map, list_all}
-use Rattle.std.specs.Ordering.{nat_cmp}
+use Rattle.std.proofs.Common.{if◌then◌else◌, filter, bytes_eq, flat_map, nat_cmp}
+use Rattle.lpis_tables.proofs.Common.{cases_Bool, not-true, IsPermutation-refl, IsPermutation-trans, IsPermutation-map, Null, Int, Row, column, value_cmp, Update, edit_of, ids_of, Has, Given, Does}
+use Rattle.lpis_tables.proofs.Common.{Database, IsAnswer, Output, output, overlay, rowid, understood, State, mode_of, ExecutesInside, statement_of, runs_as, StoredSpan, Content, span_table, Shape}
+use Rattle.lpis_tables.proofs.Common.{schema_of, has_spans, span_tree, span_place, AreKeyed, span_row, Inside}
+use Rattle.std.specs.List.{list_all}
 use Rattle.std.specs.Cmp.Lexicographic.{slice_cmp}
-use Rattle.std.proofs.lemmas.Bool.{cases_Bool, not-true}
-use Rattle.std.proofs.lemmas.List.Sorted.{IsPermutation-refl, IsPermutation-trans, IsPermutation-map}
 use Rattle.std.proofs.lemmas.Map.Text.{is_eq-slice_cmp}
 use Rattle.std.proofs.Math.Bool.{and-true}
-use Rattle.sqlite.specs.declared.types.Value.TheVariants.{Null, Int, Text}
-use Rattle.sqlite.specs.Order.{Row, column, value_cmp}
+use Rattle.sqlite.specs.declared.types.Value.TheVariants.{Text}
 use Rattle.sqlite.specs.Ops.{binary, is_true}
 use Rattle.sqlite_sql.specs.declared.ops.BinaryOp.TheVariants.{Compare}
 use Rattle.sqlite_sql.specs.declared.ops.CompareOp.TheVariants.{Eq}
 use Rattle.sqlite_value.specs.declared.keys.Collation.TheVariants.{Binary}
-use Rattle.sqlite.specs.Command.TheVariants.{Update}
-use Rattle.sqlite.specs.Edit.{edit_of, id_in}
-use Rattle.sqlite_rules.specs.Calls.{ids_of}
-use Rattle.sqlite_rules.specs.Lists.{Has}
+use Rattle.sqlite.specs.Edit.{id_in}
 use Rattle.sqlite_rules.proofs.ListLemmas.{has_filtered, has_either}
 use Rattle.sqlite_rules.proofs.ProbeLemmas.{mapped_has, has_mapped}
 use Rattle.sqlite.specs.Cast.{cast_row}
-use Rattle.sqlite.specs.Rowids.TheVariants.{Given}
-use Rattle.sqlite.specs.Does.{Does}
-use Rattle.sqlite.specs.Effect.{Database}
 use Rattle.sqlite.specs.Term.{holds}
-use Rattle.sqlite.specs.Query.{IsAnswer, Output, output}
-use Rattle.sqlite.specs.Program.{overlay}
-use Rattle.sqlite.specs.Tree.{rowid}
-use Rattle.sqlite.specs.Listing.{understood}
-use Rattle.sqlite.specs.State.{State, mode_of, ExecutesInside}
-use Rattle.sqlite.proofs.Callers.{statement_of, runs_as}
-use Rattle.lpis_records.specs.Content.{StoredSpan, Content, end_at, ended}
-use Rattle.lpis_tables.specs.Tables.{span_table}
-use Rattle.lpis_tables.specs.Shapes.{Shape, schema_of, has_spans, span_tree}
-use Rattle.lpis_tables.specs.private.Places.{span_place}
+use Rattle.lpis_records.specs.Content.{end_at, ended}
 use Rattle.lpis_tables.specs.private.Texts.{end_span}
 use Rattle.lpis_tables.specs.private.Shown.{text_in}
-use Rattle.lpis_tables.specs.Holding.{AreKeyed, span_row}
-use Rattle.lpis_tables.specs.private.Inside.{Inside}
 use Rattle.lpis_tables.proofs.MeaningLemmas.{ends_query, end_span_means, whole}
 use Rattle.lpis_tables.proofs.PartLemmas.{keeps_there, spans_changed, own_spans}
 use Rattle.lpis_tables.proofs.InsertLemmas.{inside_next, span_stands}

@@ -1,23 +1,18 @@
 -- What the statements that insert do.
 use Rattle.std.proofs.Common.{◌≡◌, ℕ, ℤ, pos, List, [], ◌∷◌, drop, slice_get, true, true≢false, Some, Ok, refl, sym, subst, ◌∙◌}
-use Rattle.std.proofs.lemmas.List.Sorted.{IsPermutation-trans, IsPermutation-cons, IsPermutation-map}
-use Rattle.sqlite.specs.declared.types.Value.TheVariants.{Int, Text}
-use Rattle.sqlite.specs.Order.{Row}
-use Rattle.sqlite.specs.Edit.{edit_of, next_rowid}
+use Rattle.lpis_tables.proofs.Common.{IsPermutation-trans, IsPermutation-map, Int, Row, edit_of, Database, Trees, State, ExecutesInside, StoredSpan, Content, with_whole_span, with_line, format_table}
+use Rattle.lpis_tables.proofs.Common.{release_table, span_table, row_table, Shape, schema_of, has_spans, span_tree, span_place, AreKeyed, format_row, year_row, span_row, line_row, Holds, Inside}
+use Rattle.std.proofs.lemmas.List.Sorted.{IsPermutation-cons}
+use Rattle.sqlite.specs.declared.types.Value.TheVariants.{Text}
+use Rattle.sqlite.specs.Edit.{next_rowid}
 use Rattle.sqlite.specs.Rowids.TheVariants.{Chosen}
 use Rattle.sqlite.specs.Rows.{stamped}
-use Rattle.sqlite.specs.Effect.{value_rows, Database}
-use Rattle.sqlite.specs.Tree.{Trees}
-use Rattle.sqlite.specs.State.{State, Shows, ExecutesInside}
-use Rattle.lpis_records.specs.Content.{StoredSpan, Line, Content, with_year, with_span, with_whole_span, with_line}
-use Rattle.lpis_tables.specs.Tables.{format_table, release_table, span_table, row_table}
-use Rattle.lpis_tables.specs.Shapes.{Shape, schema_of, has_spans, span_tree}
-use Rattle.lpis_tables.specs.private.Places.{span_place}
+use Rattle.sqlite.specs.Effect.{value_rows}
+use Rattle.sqlite.specs.State.{Shows}
+use Rattle.lpis_records.specs.Content.{Line, with_year, with_span}
 use Rattle.lpis_tables.specs.private.Texts.{insert_release, insert_span, insert_whole_span, insert_line}
-use Rattle.lpis_tables.specs.Holding.{AreKeyed, format_row, year_row, span_row, line_row, Holds}
-use Rattle.lpis_tables.specs.private.Inside.{Inside}
-use Rattle.lpis_tables.proofs.MeaningLemmas.{in_each, format_terms, insert_release_means, release_terms, insert_span_means, span_terms, insert_whole_span_means, whole_span_terms}
-use Rattle.lpis_tables.proofs.MeaningLemmas.{insert_line_means, line_terms}
+use Rattle.lpis_tables.proofs.MeaningLemmas.{in_each, format_terms, insert_release_means, release_terms, insert_span_means, span_terms, insert_whole_span_means, whole_span_terms, insert_line_means}
+use Rattle.lpis_tables.proofs.MeaningLemmas.{line_terms}
 use Rattle.lpis_tables.proofs.PartLemmas.{far, span_far, keeps_there, spans_changed, formats_kept, years_kept, spans_kept, lines_kept, live_kept}
 use Rattle.lpis_tables.proofs.WriteLemmas.{cast_null, cast_int, Adds, adds, keyed_more}
 

@@ -1,3 +1,4 @@
+pub mod Common
 pub mod MeaningLemmas
 pub mod PutLemmas
 pub mod UpdateLemmas
@@ -15,3 +16,4 @@ pub mod NamedLemmas
 pub mod OneContentLemmas
 pub mod SchemaLemmas
 pub mod QuietLemmas
+pub mod Shared

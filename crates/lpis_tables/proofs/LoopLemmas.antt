@@ -1,10 +1,9 @@
 -- One step more of each loop.
-use Rattle.std.proofs.Common.{◌≡◌, ℕ, ℤ, pos, List, [], ◌∷◌, ◌++◌, ◌+◌, ◌<◌, zero, suc, length, take, get_or, sym, ap, ◌∙◌, arith}
-use Rattle.std.specs.Prelude.{fold}
+use Rattle.std.proofs.Common.{◌≡◌, ℕ, ℤ, pos, List, [], ◌∷◌, ◌++◌, ◌+◌, ◌<◌, zero, suc, length, take, get_or, sym, ap, ◌∙◌, arith, fold}
+use Rattle.lpis_tables.proofs.Common.{Content, with_line, with_lines, lines_from}
 use Rattle.std.proofs.lemmas.List.{take_more}
 use Rattle.std.proofs.lemmas.List.Sums.{fold_push}
 use Rattle.lpis_lineage.specs.declared.row.Row.{Row}
-use Rattle.lpis_records.specs.Content.{Content, with_line, with_lines, lines_from}
 use Rattle.lpis_tables.specs.private.Lines.{line_of}
 
 -- a fold over the first items

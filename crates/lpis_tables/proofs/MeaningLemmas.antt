@@ -1,29 +1,23 @@
 -- What the texts mean, in each order of the tables.
 use Rattle.std.proofs.Common.{◌≡◌, ℕ, Ok, refl, codes, [], ◌∷◌, None, true, false, pos, negsuc, List, sym, true≢false}
-use Rattle.sqlite.specs.declared.types.Value.TheVariants.{Null, Int}
-use Rattle.sqlite.specs.Compile.{table_defined_by}
-use Rattle.sqlite.specs.Term.{Term, lit, col, op2}
+use Rattle.lpis_tables.proofs.Common.{Null, Int, table_defined_by, Term, Program, Update, CreateTable, understood, statement_of, Schema, Table, format_table, release_table, span_table, row_table}
+use Rattle.lpis_tables.proofs.Common.{Shape, New, First, Moved, schema_of, has_spans, has_live, span_tree, no_schema, span_place, one_table, two_tables, three_tables, read_format, read_release}
+use Rattle.lpis_tables.proofs.Common.{read_span, read_line, read_live}
+use Rattle.sqlite.specs.Term.{lit, col, op2}
 use Rattle.sqlite_sql.specs.declared.ops.BinaryOp.TheVariants.{Compare}
 use Rattle.sqlite_sql.specs.declared.ops.CompareOp.TheVariants.{Eq}
 use Rattle.sqlite_value.specs.declared.keys.Collation.TheVariants.{Binary}
 use Rattle.sqlite_value.specs.declared.keys.Key.{Key}
-use Rattle.sqlite_schema.specs.declared.program.Program.{Program}
 use Rattle.sqlite.specs.Query.{Query, inner, end}
 use Rattle.sqlite.specs.Source.TheVariants.{Values}
 use Rattle.sqlite_schema.specs.declared.command.Command.{Command}
-use Rattle.sqlite.specs.Command.TheVariants.{Insert, Select, Update, Delete, CreateTable}
+use Rattle.sqlite.specs.Command.TheVariants.{Insert, Select, Delete}
 use Rattle.sqlite.specs.Change.{created}
-use Rattle.sqlite.specs.Listing.{understood, reads_listing}
-use Rattle.sqlite.proofs.Callers.{IsPlain, command_of, statement_of}
+use Rattle.sqlite.specs.Listing.{reads_listing}
+use Rattle.sqlite.proofs.Callers.{IsPlain, command_of}
 use Rattle.sqlite_tied.specs.Compute.{everything}
-use Rattle.sqlite.specs.Schema.{Schema}
-use Rattle.sqlite.specs.Table.{Table}
-use Rattle.lpis_tables.specs.Tables.{format_table, release_table, span_table, row_table}
-use Rattle.lpis_tables.specs.Shapes.{Shape, New, First, Moved, schema_of, has_spans, has_live, span_tree, no_schema}
-use Rattle.lpis_tables.specs.private.Places.{span_place}
-use Rattle.lpis_tables.specs.private.Stages.{one_table, two_tables, three_tables}
-use Rattle.lpis_tables.specs.private.Texts.{make_format, make_release, make_span, make_row, insert_format, insert_release, insert_span, insert_line, end_span, read_format, read_release, read_span}
-use Rattle.lpis_tables.specs.private.Texts.{read_line, clear_span, read_live, insert_whole_span, clear_live, set_version}
+use Rattle.lpis_tables.specs.private.Texts.{make_format, make_release, make_span, make_row, insert_format, insert_release, insert_span, insert_line, end_span, clear_span, insert_whole_span}
+use Rattle.lpis_tables.specs.private.Texts.{clear_live, set_version}
 
 abbrev pub ascending : Key
 ascending = record { collation = Binary; descending = false }

@@ -1,32 +1,15 @@
 -- What the statements that move a database of version 1 do.
 use Rattle.std.proofs.Common.{◌≡◌, inl, inr, ℕ, pos, List, [], ◌∷◌, ◌++◌, map, drop, slice_get, true, false, not, Some, None, Ok, refl, sym, ap, ap₂, subst, subst₂, ◌∙◌, append-nil, IsPermutation}
-use Rattle.std.proofs.Common.{true≢false}
-use Rattle.std.specs.Prelude.{filter}
-use Rattle.std.proofs.lemmas.List.Concat.{flat_map_single}
-use Rattle.std.proofs.lemmas.List.Sorted.{IsPermutation-refl, IsPermutation-trans, IsPermutation-map}
-use Rattle.sqlite.specs.declared.types.Value.TheVariants.{Null}
-use Rattle.sqlite.specs.Order.{Row}
-use Rattle.sqlite.specs.Tree.{rowid}
-use Rattle.sqlite.specs.Program.{overlay}
-use Rattle.sqlite.specs.Query.{IsAnswer, Output, output}
-use Rattle.sqlite.specs.Command.TheVariants.{CreateTable, Update}
-use Rattle.sqlite.specs.Edit.{edit_of}
+use Rattle.std.proofs.Common.{true≢false, filter}
+use Rattle.lpis_tables.proofs.Common.{flat_map_single, IsPermutation-refl, IsPermutation-trans, IsPermutation-map, Null, Row, rowid, overlay, IsAnswer, Output, output, CreateTable, Update, edit_of}
+use Rattle.lpis_tables.proofs.Common.{Given, Does, Database, State, mode_of, ExecutesInside, understood, ids_of, Has, statement_of, runs_as, Content, Format, StoredSpan, with_whole_span}
+use Rattle.lpis_tables.proofs.Common.{with_whole_spans, without_live, without_spans, format_table, span_table, Shape, New, First, Moved, schema_of, has_live, has_spans, with_span_table, AreKeyed}
+use Rattle.lpis_tables.proofs.Common.{Keeps, format_row, year_row, span_row, line_row, live_row, Inside}
 use Rattle.sqlite.specs.Cast.{cast_row}
-use Rattle.sqlite.specs.Rowids.TheVariants.{Given}
-use Rattle.sqlite.specs.Does.{Does, lacks_sequence}
-use Rattle.sqlite.specs.Effect.{Database}
-use Rattle.sqlite.specs.State.{State, mode_of, ExecutesInside}
-use Rattle.sqlite.specs.Listing.{understood}
-use Rattle.sqlite_rules.specs.Calls.{ids_of}
-use Rattle.sqlite_rules.specs.Lists.{Has}
-use Rattle.sqlite.proofs.Callers.{statement_of, runs_as}
-use Rattle.lpis_records.specs.Content.{Content, Format, StoredSpan, at_version, with_version, with_whole_span, with_whole_spans, without_live, without_spans}
+use Rattle.sqlite.specs.Does.{lacks_sequence}
+use Rattle.lpis_records.specs.Content.{at_version, with_version}
 use Rattle.lpis_records.specs.Tells.{only_format}
-use Rattle.lpis_tables.specs.Tables.{format_table, span_table}
-use Rattle.lpis_tables.specs.Shapes.{Shape, New, First, Moved, schema_of, has_live, has_spans, with_span_table}
 use Rattle.lpis_tables.specs.private.Texts.{make_span, set_version}
-use Rattle.lpis_tables.specs.Holding.{AreKeyed, Keeps, format_row, year_row, span_row, line_row, live_row}
-use Rattle.lpis_tables.specs.private.Inside.{Inside}
 use Rattle.lpis_tables.proofs.MeaningLemmas.{in_each, whole, version_query, set_version_means, span_moves}
 use Rattle.lpis_tables.proofs.ClearLemmas.{all_kept, none_kept, none_keyed}
 use Rattle.lpis_tables.proofs.InsertLemmas.{inside_next}

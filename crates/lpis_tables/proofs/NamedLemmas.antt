@@ -1,9 +1,7 @@
 -- The names of the tables.
-use Rattle.std.specs.List.{list_any}
 use Rattle.std.proofs.Common.{◌≡◌, ℕ, codes, Bool, true, List, refl}
-use Rattle.sqlite.specs.Schema.{Schema}
+use Rattle.lpis_tables.proofs.Common.{list_any, Schema, Shape, New, First, Moved, has_live, has_spans, schema_of}
 use Rattle.sqlite_schema.specs.Names.{same_name}
-use Rattle.lpis_tables.specs.Shapes.{Shape, New, First, Moved, has_live, has_spans, schema_of}
 
 abbrev pub has_named : List ℕ → Schema → Bool
 has_named name schema = list_any (λ t. same_name t.name name) schema.tables

@@ -1,16 +1,11 @@
 -- A database holds one content.
-use Rattle.std.proofs.Common.{◌≡◌, ◌∙◌, refl, sym, ap, subst, [], List, map, length, true}
-use Rattle.std.specs.Prelude.{IsPermutation}
-use Rattle.std.proofs.lemmas.List.Sorted.{IsPermutation-map, IsPermutation-refl, IsPermutation-sym, IsPermutation-trans}
-use Rattle.sqlite.specs.Order.{Row}
-use Rattle.sqlite.specs.Tree.{Trees}
-use Rattle.sqlite.specs.Schema.{Schema}
-use Rattle.sqlite.specs.State.{State}
-use Rattle.lpis_records.specs.Content.{Content, without_live}
+use Rattle.std.proofs.Common.{◌≡◌, ◌∙◌, refl, sym, ap, subst, [], List, map, length, true, IsPermutation}
+use Rattle.lpis_tables.proofs.Common.{IsPermutation-map, IsPermutation-refl, IsPermutation-trans, Row, Trees, Schema, State, Content, without_live, Shape, New, First, Moved, schema_of, has_spans}
+use Rattle.lpis_tables.proofs.Common.{span_tree, IsStored, Keeps, format_row, year_row, span_row, line_row}
+use Rattle.std.proofs.lemmas.List.Sorted.{IsPermutation-sym}
 use Rattle.lpis_records.specs.Tells.{IsSameContent}
-use Rattle.lpis_tables.specs.Shapes.{Shape, New, First, Moved, schema_of, has_spans, span_tree}
 use Rattle.lpis_tables.specs.private.Shown.{year_shown, span_shown, line_shown}
-use Rattle.lpis_tables.specs.Holding.{IsStored, Keeps, Means, format_row, year_row, span_row, line_row}
+use Rattle.lpis_tables.specs.Holding.{Means}
 use Rattle.lpis_tables.proofs.ShowingLemmas.{format_kept, back}
 
 -- what a table keeps is known up to its order

@@ -1,13 +1,8 @@
 -- The parts of what the tables hold, carried over a step that leaves them.
-use Rattle.std.proofs.Common.{◌≡◌, ℕ, List, [], map, drop, Bool, true, false, refl, sym, ap, subst, ◌∙◌, arith, IsPermutation, true≢false}
-use Rattle.std.proofs.lemmas.Bool.Decides.{nat_tests}
-use Rattle.std.specs.Prelude.{nat_eq}
-use Rattle.sqlite.specs.Order.{Row}
-use Rattle.sqlite.specs.Tree.{Trees}
-use Rattle.sqlite.specs.Program.{overlay}
-use Rattle.lpis_records.specs.Content.{Content, StoredSpan}
-use Rattle.lpis_tables.specs.Shapes.{Shape, New, First, Moved, has_spans, has_live, span_tree}
-use Rattle.lpis_tables.specs.Holding.{AreKeyed, Keeps, Means, format_row, year_row, span_row, line_row, live_row}
+use Rattle.std.proofs.Common.{◌≡◌, ℕ, List, [], map, drop, Bool, true, false, refl, sym, ap, subst, ◌∙◌, arith, IsPermutation, true≢false, nat_eq}
+use Rattle.lpis_tables.proofs.Common.{nat_tests, Row, Trees, overlay, Content, StoredSpan, Shape, New, First, Moved, has_spans, has_live, span_tree, AreKeyed, Keeps, format_row, year_row, span_row}
+use Rattle.lpis_tables.proofs.Common.{line_row, live_row}
+use Rattle.lpis_tables.specs.Holding.{Means}
 use Rattle.lpis_tables.proofs.WriteLemmas.{Kept}
 
 pub far : (m n : ℕ) → nat_eq m n ≡ false → m ≡ n → ⊥

@@ -1,10 +1,7 @@
 -- How calls that only read join.
 use Rattle.std.proofs.Common.{arith, refl, inl, ◌≡◌, Ok, Err, Result}
-use Rattle.sqlite.specs.State.{HasCleanDisk, State, Survives}
+use Rattle.lpis_tables.proofs.Common.{HasCleanDisk, State, Survives, Content, Shape, IsStored}
 use Rattle.sqlite.proofs.StateLemmas.{survives_then}
-use Rattle.lpis_records.specs.Content.{Content}
-use Rattle.lpis_tables.specs.Shapes.{Shape}
-use Rattle.lpis_tables.specs.Holding.{IsStored}
 use Rattle.lpis_tables.specs.Quiet.{LeavesNone, Reads}
 
 -- what the calls so far have told, each of which has answered

@@ -1,28 +1,18 @@
 -- Trees that list a schema of the register list no other.
-use Rattle.std.proofs.Common.{◌≡◌, inl, inr, ℕ, zero, suc, ◌+◌, pos, List, [], ◌∷◌, Bool, true, false, not, slice_get, Some, Ok, Result, refl, sym, ap, ap₂, subst, ◌∙◌, arith, true≢false}
-use Rattle.std.proofs.lemmas.Bool.{cases_Bool, and_parts, not-true}
-use Rattle.std.proofs.lemmas.Bool.Decides.{nat_tests}
-use Rattle.std.specs.Prelude.{Option, filter, ◌&&◌, ◌||◌}
-use Rattle.std.specs.List.{AllZip, list_all, list_any}
-use Rattle.std.specs.Str.{bytes_eq}
+use Rattle.std.proofs.Common.{◌≡◌, inl, inr, ℕ, zero, suc, ◌+◌, pos, List, [], ◌∷◌, Bool, true, false, not, slice_get, Some, Ok, Result, refl, sym, ap, ap₂, subst, ◌∙◌, arith, true≢false, Option}
+use Rattle.std.proofs.Common.{filter, ◌&&◌, ◌||◌, bytes_eq}
+use Rattle.lpis_tables.proofs.Common.{cases_Bool, and_parts, not-true, nat_tests, list_any, Row, column, Database, State, Table, Schema, Trees, Has, table_defined_by, Content, Holds, IsStored, Leaves}
+use Rattle.lpis_tables.proofs.Common.{Shape, New, First, Moved, schema_of, no_schema}
+use Rattle.std.specs.List.{AllZip, list_all}
 use Rattle.sqlite_value.specs.declared.value.Value.{Value}
 use Rattle.sqlite_value.specs.declared.value.Value.TheVariants.{Null, Int, Real, Text, Blob}
-use Rattle.sqlite.specs.Order.{Row, column}
-use Rattle.sqlite.specs.Effect.{Database}
-use Rattle.sqlite.specs.State.{State, Opens, IsLive}
-use Rattle.sqlite.specs.Table.{Table}
-use Rattle.sqlite.specs.Schema.{Schema}
-use Rattle.sqlite.specs.Tree.{Trees}
+use Rattle.sqlite.specs.State.{Opens, IsLive}
 use Rattle.sqlite_schema.specs.declared.schema.Index.{Index}
 use Rattle.sqlite_schema.specs.declared.schema.View.{View}
-use Rattle.sqlite_rules.specs.Lists.{Has}
 use Rattle.sqlite_catalog.specs.Listing.{IsTableRow, IsIndexRow, IsViewRow, IsDefined, automatic, IsSound, is_index_row, is_table_row, is_view_row}
 use Rattle.sqlite_trees.specs.Objects.{catalog_tree}
-use Rattle.sqlite.specs.Compile.{table_defined_by, index_defined_by}
-use Rattle.lpis_records.specs.Content.{Content}
+use Rattle.sqlite.specs.Compile.{index_defined_by}
 use Rattle.lpis_tables.specs.Bare.{IsBare}
-use Rattle.lpis_tables.specs.Holding.{Holds, IsStored, Leaves}
-use Rattle.lpis_tables.specs.Shapes.{Shape, New, First, Moved, schema_of, no_schema}
 
 same_ok : {A E : Type 0} (r : Result A E) (a b : A) → r ≡ Ok a → r ≡ Ok b → a ≡ b
 same_ok r a b p q = cc

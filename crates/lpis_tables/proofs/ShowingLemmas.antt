@@ -1,32 +1,19 @@
 -- What the queries show.
-use Rattle.std.proofs.Common.{◌≡◌, ◌⊎◌, inl, inr, ℕ, List, [], ◌∷◌, map, drop, Ok, Err, Result, IfOk, refl, sym, ap, ap₂, subst, ◌∙◌, IsPermutation, IsTrue, true}
-use Rattle.std.specs.Prelude.{IfErr, Vec, IsSorted}
-use Rattle.std.specs.declared.alloc.Global.{Global}
+use Rattle.std.proofs.Common.{◌≡◌, ◌⊎◌, inl, inr, ℕ, List, [], ◌∷◌, map, drop, Ok, Err, Result, IfOk, refl, sym, ap, ap₂, subst, ◌∙◌, IsPermutation, IsTrue, true, IfErr, Vec, IsSorted, Global}
+use Rattle.lpis_tables.proofs.Common.{flat_map_single, IsPermutation-map, IsPermutation-trans, Null, Row, column, Term, overlay, IsAnswer, Output, output, Database, understood, Error, State}
+use Rattle.lpis_tables.proofs.Common.{HasCleanDisk, Survives, Content, Format, Shape, schema_of, has_spans, has_live, span_tree, read_format, read_release, read_span, read_line, read_live, Holds}
+use Rattle.lpis_tables.proofs.Common.{IsStored, format_row, year_row, span_row, line_row, live_row}
 use Rattle.std.proofs.lemmas.List.{map-id}
-use Rattle.std.proofs.lemmas.List.Concat.{flat_map_single}
-use Rattle.std.proofs.lemmas.List.Sorted.{IsPermutation-map, IsPermutation-trans}
-use Rattle.sqlite.specs.declared.types.Value.TheVariants.{Null}
-use Rattle.sqlite.specs.Order.{Row, column}
-use Rattle.sqlite.specs.Term.{Term}
 use Rattle.sqlite_value.specs.declared.keys.Key.{Key}
-use Rattle.sqlite.specs.Program.{overlay}
-use Rattle.sqlite.specs.Query.{Query, IsAnswer, Output, output, output_cmp}
+use Rattle.sqlite.specs.Query.{Query, output_cmp}
 use Rattle.sqlite.specs.Clock.{timed}
-use Rattle.sqlite.specs.Effect.{Database}
-use Rattle.sqlite.specs.Listing.{understood}
-use Rattle.sqlite.specs.declared.error.Error.{Error}
-use Rattle.sqlite.specs.State.{State, Shown, IsUnchanged, IsRolledBack, IsNotRun, FailsToQuery, FailsToShow, ShowsRows, HasCleanDisk, Survives, CommitsShowing}
+use Rattle.sqlite.specs.State.{Shown, IsUnchanged, IsRolledBack, IsNotRun, FailsToQuery, FailsToShow, ShowsRows, CommitsShowing}
 use Rattle.sqlite.proofs.Callers.{reads_as, IsPlain, never_commits}
 use Rattle.sqlite.proofs.StateLemmas.{survives_weaker}
-use Rattle.lpis_records.specs.Content.{Content, Format}
-use Rattle.lpis_tables.specs.Shapes.{Shape, schema_of, has_spans, has_live, span_tree}
-use Rattle.lpis_tables.specs.private.Texts.{read_format, read_release, read_span, read_line, read_live}
-use Rattle.lpis_tables.specs.Holding.{Holds, IsStored, format_row, year_row, span_row, line_row, live_row}
 use Rattle.lpis_tables.specs.Quiet.{LeavesNone, Reads}
 use Rattle.lpis_tables.specs.private.Shown.{year_shown, format_shown, span_shown, line_shown, live_shown}
 use Rattle.lpis_tables.proofs.MeaningLemmas.{Asks, from_all, read_format_means, read_release_means, read_span_means, read_line_means, read_live_means, release_query, span_query, line_query}
-use Rattle.lpis_tables.proofs.MeaningLemmas.{live_query}
-use Rattle.lpis_tables.proofs.MeaningLemmas.{format_query}
+use Rattle.lpis_tables.proofs.MeaningLemmas.{live_query, format_query}
 use Rattle.lpis_tables.proofs.PartLemmas.{keeps_there, own_spans}
 
 abbrev pub env : Row → List Row

@@ -1,28 +1,13 @@
 -- What the statements that make the tables do.
-use Rattle.std.proofs.Common.{◌≡◌, ℕ, pos, List, [], ◌∷◌, ◌++◌, map, drop, false, None, Ok, Result, refl, sym, ap, subst, ◌∙◌, IsPermutation}
-use Rattle.std.specs.Prelude.{Option, MatchBool}
+use Rattle.std.proofs.Common.{◌≡◌, ℕ, pos, List, [], ◌∷◌, ◌++◌, map, drop, false, None, Ok, Result, refl, sym, ap, subst, ◌∙◌, IsPermutation, Option, MatchBool}
+use Rattle.lpis_tables.proofs.Common.{IsPermutation-refl, Row, Table, Schema, CreateTable, table_defined_by, Tally, Does, Trees, Mode, Error, Database, State, mode_of, ExecutesInside, runs_as}
+use Rattle.lpis_tables.proofs.Common.{format_table, New, schema_of, Format, AreKeyed, format_row, Inside}
 use Rattle.std.specs.List.{AllByRecursion}
-use Rattle.std.proofs.lemmas.List.Sorted.{IsPermutation-refl}
-use Rattle.sqlite.specs.Order.{Row}
-use Rattle.sqlite.specs.Table.{Table}
-use Rattle.sqlite.specs.Schema.{Schema}
-use Rattle.sqlite.specs.Command.TheVariants.{CreateTable}
-use Rattle.sqlite.specs.Compile.{table_defined_by}
 use Rattle.sqlite.specs.Change.{created, next_tree, KeepsRows}
-use Rattle.sqlite.specs.Does.{Tally, Does, lacks_sequence, MakesTable, sequence_text}
-use Rattle.sqlite.specs.Tree.{Trees}
-use Rattle.sqlite.specs.declared.run.Mode.{Mode}
-use Rattle.sqlite.specs.declared.error.Error.{Error}
-use Rattle.sqlite.specs.Effect.{Database}
-use Rattle.sqlite.specs.State.{State, mode_of, ExecutesInside}
-use Rattle.sqlite.proofs.Callers.{runs_as}
-use Rattle.lpis_tables.specs.Tables.{format_table}
-use Rattle.lpis_tables.specs.Shapes.{New, schema_of}
+use Rattle.sqlite.specs.Does.{lacks_sequence, MakesTable, sequence_text}
 use Rattle.lpis_tables.specs.private.Texts.{insert_format}
 use Rattle.lpis_tables.specs.private.Stages.{Stage}
-use Rattle.lpis_records.specs.Content.{Format, no_content}
-use Rattle.lpis_tables.specs.Holding.{AreKeyed, format_row}
-use Rattle.lpis_tables.specs.private.Inside.{Inside}
+use Rattle.lpis_records.specs.Content.{no_content}
 use Rattle.lpis_tables.proofs.MeaningLemmas.{insert_format_means, format_terms, Makes}
 use Rattle.lpis_tables.proofs.WriteLemmas.{went, same_value, adds}
 use Rattle.lpis_tables.proofs.PartLemmas.{far}

@@ -1,21 +1,14 @@
 -- How the steps of a publication join.
-use Rattle.std.proofs.Common.{◌≡◌, ◌+◌, ℕ, List, [], arith, length, take, refl, sym, ap, subst, ◌∙◌, false, true, Ok, Err, Result, OnOk, inl, inr, IsTrue}
-use Rattle.std.specs.Prelude.{◌⊎◌, IfErr, OnErr}
+use Rattle.std.proofs.Common.{◌≡◌, ◌+◌, ℕ, List, [], arith, length, take, refl, sym, ap, subst, ◌∙◌, false, true, Ok, Err, Result, OnOk, inl, inr, IsTrue, ◌⊎◌, IfErr, OnErr}
+use Rattle.lpis_tables.proofs.Common.{Trees, Database, State, HasCleanDisk, Survives, state, Error, Content, Shape, no_schema, Inside, IsQuiet, Turns, IsStored, Leaves, Holds}
 use Rattle.std.proofs.Math.Seq.{take-length}
-use Rattle.sqlite.specs.Tree.{Trees}
-use Rattle.sqlite.specs.Effect.{Database}
-use Rattle.sqlite.specs.State.{State, Shows, KeepsCounts, IsRolledBack, HasCleanDisk, Survives}
+use Rattle.sqlite.specs.State.{Shows, KeepsCounts, IsRolledBack}
 use Rattle.sqlite.specs.Steps.{FailsToCommit}
-use Rattle.sqlite.specs.Held.{Held, state}
-use Rattle.sqlite.specs.declared.error.Error.{Error}
-use Rattle.sqlite_trees.specs.declared.store.Store as store
+use Rattle.sqlite.specs.Held.{Held}
 use Rattle.sqlite.proofs.StateLemmas.{survives_then}
-use Rattle.lpis_records.specs.Content.{Content}
-use Rattle.lpis_tables.specs.Shapes.{Shape, no_schema}
-use Rattle.lpis_tables.specs.private.Inside.{Inside, IsQuiet, Turns}
-use Rattle.lpis_tables.specs.Holding.{IsStored, Leaves, Holds}
 use Rattle.lpis_tables.specs.Bare.{IsBare}
 use Rattle.lpis_tables.specs.private.Stages.{Stage}
+use Rattle.sqlite_trees.specs.declared.store.Store as store
 
 pub quiet_on : (a b c : State) → IsQuiet a b → IsQuiet b c → IsQuiet a c
 quiet_on a b c one two = record {

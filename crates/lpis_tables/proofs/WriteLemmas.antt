@@ -1,44 +1,29 @@
 -- What a statement that writes does to the trees.
 use Rattle.std.proofs.Common.{◌≡◌, ◌≢◌, ◌⊎◌, inl, inr, ℕ, ℤ, List, [], ◌∷◌, length, slice_get, Bool, true, false, cond, Some, None, Ok, Err, Result, refl, sym, ap, subst, ◌∙◌, IsPermutation, is_eq}
-use Rattle.std.proofs.Common.{true≢false}
-use Rattle.std.specs.Prelude.{if◌then◌else◌, ◌||◌, ◌/◌, ◌==◌, Option, MatchBool}
-use Rattle.std.specs.List.{flat_map, filter_map, AllByRecursion}
-use Rattle.std.specs.Ordering.{is_lt, int_cmp}
+use Rattle.std.proofs.Common.{true≢false, if◌then◌else◌, ◌||◌, ◌/◌, ◌==◌, Option, MatchBool, flat_map, filter_map, is_lt, int_cmp}
+use Rattle.lpis_tables.proofs.Common.{and_parts, not-true, Null, Int, Row, value_cmp, Table, Update, edit_of, is_taken, ids_of, Has, Program, Given, Tally, Does, Database, Mode, Schema, Term, Trees}
+use Rattle.lpis_tables.proofs.Common.{rowid, put_row, Error, understood, State, mode_of, statement_of, runs_as, Shape, New, First, Moved, schema_of, has_spans, has_live, span_tree, AreKeyed}
+use Rattle.std.specs.List.{AllByRecursion}
 use Rattle.std.proofs.lemmas.Cmp.{tied_itself}
-use Rattle.std.proofs.lemmas.Bool.{and_parts, not-true}
 use Rattle.sqlite_value.proofs.OrderLemmas.{value_cmp_total}
 use Rattle.sqlite.specs.declared.types.Value.{Value}
-use Rattle.sqlite.specs.declared.types.Value.TheVariants.{Null, Int}
-use Rattle.sqlite.specs.Order.{Row, value_cmp}
 use Rattle.sqlite.specs.Ops.{unary}
-use Rattle.sqlite.specs.Table.{Table}
 use Rattle.sqlite.specs.Kind.TheVariants.{Integer}
 use Rattle.sqlite.specs.Source.TheVariants.{Values}
-use Rattle.sqlite.specs.Command.TheVariants.{Insert, Update}
-use Rattle.sqlite.specs.Edit.{Edit, Applies, edit_of, is_taken, are_fresh, put_all, taken_by}
+use Rattle.sqlite.specs.Command.TheVariants.{Insert}
+use Rattle.sqlite.specs.Edit.{Edit, Applies, are_fresh, put_all, taken_by}
 use Rattle.sqlite_rules.specs.Action.{works, work_by, pairs, deed_for}
-use Rattle.sqlite_rules.specs.Calls.{ids_of}
-use Rattle.sqlite_rules.specs.Lists.{Has}
 use Rattle.sqlite_rules.proofs.TableLemmas.{put_has}
 use Rattle.sqlite_schema.specs.Rules.{parent_key}
 use Rattle.sqlite_schema.specs.declared.schema.Keys.{Keys}
 use Rattle.sqlite_schema.specs.declared.schema.Keys.TheVariants.{Enforced}
-use Rattle.sqlite_schema.specs.declared.program.Program.{Program}
 use Rattle.sqlite.specs.Cast.{cast}
-use Rattle.sqlite.specs.Rowids.TheVariants.{Chosen, Given}
-use Rattle.sqlite.specs.Does.{Tally, Does, AtPlace, OnRows}
+use Rattle.sqlite.specs.Rowids.TheVariants.{Chosen}
+use Rattle.sqlite.specs.Does.{AtPlace, OnRows}
 use Rattle.sqlite.specs.Rows.{Written, Edited, stamped, Task, rowids_for, Counts, CountsIn, count_of, sequence}
-use Rattle.sqlite.specs.Effect.{value_rows, Database, IsDatabase, Answers}
-use Rattle.sqlite.specs.declared.run.Mode.{Mode}
-use Rattle.sqlite.specs.Schema.{Schema}
-use Rattle.sqlite.specs.Term.{Term}
-use Rattle.sqlite.specs.Tree.{Trees, rowid, put_row}
-use Rattle.sqlite.specs.declared.error.Error.{Error}
-use Rattle.sqlite.specs.Listing.{understood}
-use Rattle.sqlite.specs.State.{State, mode_of, Executes}
-use Rattle.sqlite.proofs.Callers.{statement_of, runs_as, one_step}
-use Rattle.lpis_tables.specs.Shapes.{Shape, New, First, Moved, schema_of, has_spans, has_live, span_tree}
-use Rattle.lpis_tables.specs.Holding.{AreKeyed}
+use Rattle.sqlite.specs.Effect.{value_rows, IsDatabase, Answers}
+use Rattle.sqlite.specs.State.{Executes}
+use Rattle.sqlite.proofs.Callers.{one_step}
 use Rattle.lpis_tables.proofs.MeaningLemmas.{Says}
 use Rattle.lpis_tables.proofs.PutLemmas.{put_more}
 

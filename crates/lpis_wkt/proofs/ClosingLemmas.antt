@@ -1,14 +1,11 @@
 -- A `)` that closes no ring.
 use Rattle.std.proofs.Common.{◌≡◌, ◌<◌, false, true, Bool, List, length, Err, refl, arith, nat_lt}
-use Rattle.std.proofs.lemmas.Bool.Decides.{nat_tests}
-use Rattle.lpis_points.specs.declared.point.Point.{Point}
-use Rattle.lpis_rings.specs.Ring.{IsRing}
+use Rattle.lpis_wkt.proofs.Common.{nat_tests, Point, IsRing, Context, AfterPoint, is_closed, close_ring}
 use Rattle.lpis_wkt.specs.declared.fault.WktCode.TheVariants.{TooFewPoints, NotClosed}
 use Rattle.lpis_wkt.specs.declared.parser.Place.{Place}
-use Rattle.lpis_wkt.specs.declared.parser.Place.TheVariants as place
-use Rattle.lpis_wkt.specs.private.Machine.{Context, AfterPoint, is_closed, close_ring}
 use Rattle.lpis_wkt.specs.private.Parsing.{state_of}
 use Rattle.lpis_wkt.proofs.PointLemmas.{is_closed-true}
+use Rattle.lpis_wkt.specs.declared.parser.Place.TheVariants as place
 
 pub short_ring : (b : Context) (ps : List Point) → length ps < 4 → close_ring b ps ≡ Err TooFewPoints
 short_ring b ps lt = let few : nat_lt (length ps) 4 ≡ true = grind (arith, nat_tests) in rw few refl
@@ -25,13 +22,5 @@ open_ring b ps long cannot = open_by b ps (is_closed ps) refl (is_long ps (nat_l
 
 -- the points after which `,` or `)` is expected
 pub points_at : (p : Place) (b b' : Context) (ps ps' : List Point) → state_of p b ps ≡ AfterPoint b' ps' → ps ≡ ps'
-points_at place.Keyword b b' ps ps' e = cc
-points_at place.FirstBody b b' ps ps' e = cc
-points_at place.Body b b' ps ps' e = cc
-points_at place.Ring b b' ps ps' e = cc
-points_at place.X b b' ps ps' e = cc
-points_at (place.Y x) b b' ps ps' e = cc
-points_at place.PointEnd b b' ps ps' e = cc
-points_at place.RingEnd b b' ps ps' e = cc
-points_at place.BodyEnd b b' ps ps' e = cc
 points_at place.End b b' ps ps' e = cc
+points_at _ b b' ps ps' e = cc

@@ -1,19 +1,13 @@
 -- The machine takes what the grammar spells.
-use Rattle.std.proofs.Common.{◌≡◌, ℕ, suc, Bool, true, false, cond, List, [], ◌∷◌, ◌++◌, length, Ok, refl, sym, ap, ◌∙◌, inl, inr, append_assoc, arith, nat_lt}
-use Rattle.std.specs.Prelude.{codes, nat_eq}
+use Rattle.std.proofs.Common.{◌≡◌, ℕ, suc, Bool, true, false, cond, List, [], ◌∷◌, ◌++◌, length, Ok, refl, sym, ap, ◌∙◌, inl, inr, append_assoc, arith, nat_lt, codes, nat_eq}
+use Rattle.lpis_wkt.proofs.Common.{and_parts, nat_tests, Point, Member, IsRing, Coordinate, Token, Open, Close, Comma, Word, End, PointText, Commas, is_polygon, is_multi, Context, State, AtKeyword}
+use Rattle.lpis_wkt.proofs.Common.{AtBody, AtRing, AtX, AfterPoint, AfterRing, AfterBody, AtEnd, Finished, with_ring, run}
 use Rattle.std.specs.Char.{to_ascii_lowercase}
 use Rattle.std.specs.Str.{str_eq_ignore_ascii_case, str_to_ascii_lowercase}
 use Rattle.std.specs.Cmp.Lexicographic.{pointwise}
 use Rattle.std.proofs.lemmas.List.{append-nil, length-map}
-use Rattle.std.proofs.lemmas.Bool.{and_parts, false_from_ne_true}
-use Rattle.std.proofs.lemmas.Bool.Decides.{nat_tests}
-use Rattle.lpis_points.specs.declared.point.Point.{Point}
-use Rattle.lpis_rings.specs.declared.polygon.Member.{Member}
-use Rattle.lpis_rings.specs.Ring.{IsRing}
-use Rattle.lpis_wkt.specs.declared.coordinate.Coordinate.{Coordinate}
-use Rattle.lpis_wkt.specs.Tokens.{Token, Open, Close, Comma, Word, End}
-use Rattle.lpis_wkt.specs.Grammar.{PointText, Commas, RingText, BodyText, is_polygon, is_multi, Reads}
-use Rattle.lpis_wkt.specs.private.Machine.{Context, State, AtKeyword, AtBody, AtRing, AtX, AfterPoint, AfterRing, AfterBody, AtEnd, Finished, with_ring, run}
+use Rattle.std.proofs.lemmas.Bool.{false_from_ne_true}
+use Rattle.lpis_wkt.specs.Grammar.{RingText, BodyText, Reads}
 use Rattle.lpis_wkt.proofs.PointLemmas.{coordinate-ok, true-is_closed}
 
 -- one or more things with commas, where one of them is taken and a comma goes on
@@ -80,9 +74,8 @@ members_run ms more ts rest h =
 
 pointwise-length : (a b : List ℕ) → pointwise nat_eq a b ≡ true → length a ≡ length b
 pointwise-length [] [] h = refl
-pointwise-length [] (y ∷ b) h = cc
-pointwise-length (x ∷ a) [] h = cc
 pointwise-length (x ∷ a) (y ∷ b) h = ap suc (pointwise-length a b (and_parts _ _ h).1)
+pointwise-length _ _ h = cc
 
 length-lower : (a b : List ℕ) → str_eq_ignore_ascii_case a b ≡ true → length a ≡ length b
 length-lower a b h = sym (length-map a to_ascii_lowercase) ∙ pointwise-length (str_to_ascii_lowercase a) (str_to_ascii_lowercase b) h ∙ length-map b to_ascii_lowercase

@@ -1,19 +1,10 @@
 -- Each state that is reached has tokens that complete it, so each prefix that the machine takes begins a text of the
 -- grammar.
-use Rattle.std.proofs.Common.{◌≡◌, ℕ, ◌-◌, ◌<◌, Bool, true, false, cond, List, [], ◌∷◌, ◌++◌, length, pos, Some, Ok, refl, sym, subst, ◌∙◌, append_assoc, arith, length-append}
-use Rattle.std.specs.Prelude.{codes, slice_get}
+use Rattle.std.proofs.Common.{◌≡◌, ℕ, ◌-◌, ◌<◌, Bool, true, false, cond, List, [], ◌∷◌, ◌++◌, length, pos, Some, Ok, refl, sym, subst, ◌∙◌, append_assoc, arith, length-append, codes, slice_get}
+use Rattle.lpis_wkt.proofs.Common.{Point, Member, IsRing, Coordinate, Token, Open, Close, Comma, Word, End, number, coordinate, point_of, PointText, Commas, Context, State, AtKeyword, AfterKeyword}
+use Rattle.lpis_wkt.proofs.Common.{AtBody, AtRing, AtX, AtY, AfterPoint, AfterRing, AfterBody, AtEnd, Finished, with_ring, close_body, open_text, member_of, and_then, run}
 use Rattle.std.proofs.lemmas.Int.{ints}
-use Rattle.lpis_points.specs.declared.point.Point.{Point}
-use Rattle.lpis_rings.specs.declared.polygon.Member.{Member}
-use Rattle.lpis_rings.specs.Ring.{IsRing}
-use Rattle.lpis_wkt.specs.declared.coordinate.Coordinate.{Coordinate}
-use Rattle.lpis_wkt.specs.Tokens.{Token, Open, Close, Comma, Word, End}
-use Rattle.lpis_wkt.specs.Number.{number}
-use Rattle.lpis_wkt.specs.private.Coordinates.{coordinate, point_of}
-use Rattle.lpis_wkt.specs.Grammar.{PointText, Commas}
 use Rattle.lpis_wkt.specs.Viable.{Begins}
-use Rattle.lpis_wkt.specs.private.Machine.{Context, State, AtKeyword, AfterKeyword, AtBody, AtRing, AtX, AtY, AfterPoint, AfterRing, AfterBody, AtEnd, Finished, with_ring, close_body}
-use Rattle.lpis_wkt.specs.private.Machine.{open_text, member_of, and_then, run}
 use Rattle.lpis_wkt.proofs.PointLemmas.{coordinate-ok, ok-coordinate}
 use Rattle.lpis_wkt.proofs.StepLemmas.{then-ok, run-append, Goes, goes, takes_keyword, opens_text, opens_body, opens_ring, takes_x, takes_y, closes_ring, next_point, closes_body, next_ring}
 use Rattle.lpis_wkt.proofs.StepLemmas.{closes_text, next_body, finishes}

@@ -1,19 +1,14 @@
 -- The words that stand before each state, and the limit on points.
 use Rattle.std.proofs.Common.{◌≡◌, ℕ, ◌+◌, ◌*◌, ◌<◌, ◌≤◌, Bool, true, false, cond, List, [], ◌∷◌, ◌++◌, length, Ok, refl, ◌∙◌, arith, length-append}
+use Rattle.lpis_wkt.proofs.Common.{nat_tests, Point, Member, most_points, Token, Open, Close, Comma, Word, End, point_of, words, most_words, Viable, Context, State, AtKeyword, AfterKeyword, AtBody}
+use Rattle.lpis_wkt.proofs.Common.{AtRing, AtX, AtY, AfterPoint, AfterRing, AfterBody, AtEnd, Finished, with_ring, close_body, open_text, member_of, points_before, step, run, limited_run}
 use Rattle.std.proofs.lemmas.Bool.{false_from_ne_true}
-use Rattle.std.proofs.lemmas.Bool.Decides.{nat_tests}
 use Rattle.std.proofs.lemmas.List.Sums.{sum_by-append, sum_by_push}
-use Rattle.lpis_points.specs.declared.point.Point.{Point}
-use Rattle.lpis_rings.specs.declared.polygon.Member.{Member}
-use Rattle.lpis_rings.specs.Polygon.{points_in, points_of, most_points}
-use Rattle.lpis_wkt.specs.Tokens.{Token, Open, Close, Comma, Word, End}
-use Rattle.lpis_wkt.specs.private.Coordinates.{point_of}
+use Rattle.lpis_rings.specs.Polygon.{points_in, points_of}
 use Rattle.lpis_wkt.specs.Grammar.{Accepts}
-use Rattle.lpis_wkt.specs.Viable.{words, most_words, Viable}
-use Rattle.lpis_wkt.specs.private.Machine.{Context, State, AtKeyword, AfterKeyword, AtBody, AtRing, AtX, AtY, AfterPoint, AfterRing, AfterBody, AtEnd, Finished, with_ring, close_body}
-use Rattle.lpis_wkt.specs.private.Machine.{open_text, member_of, points_before, step, run, is_too_many, limited_run}
-use Rattle.lpis_wkt.proofs.StepLemmas.{then-ok, with_coordinate-ok, cond-err, Goes, goes, takes_keyword, opens_text, opens_body, opens_ring, takes_x, takes_y, closes_ring, next_point}
-use Rattle.lpis_wkt.proofs.StepLemmas.{closes_body, next_ring, closes_text, next_body, finishes}
+use Rattle.lpis_wkt.specs.private.Machine.{is_too_many}
+use Rattle.lpis_wkt.proofs.StepLemmas.{then-ok, with_coordinate-ok, cond-err, Goes, goes, takes_keyword, opens_text, opens_body, opens_ring, takes_x, takes_y, closes_ring, next_point, closes_body}
+use Rattle.lpis_wkt.proofs.StepLemmas.{next_ring, closes_text, next_body, finishes}
 use Rattle.lpis_wkt.proofs.CompletenessLemmas.{reads_runs}
 use Rattle.lpis_wkt.proofs.SoundnessLemmas.{runs_reads}
 use Rattle.lpis_wkt.proofs.CompletingLemmas.{begins, begun}
@@ -66,11 +61,8 @@ word (Word w) = 1
 word _ = 0
 
 words-cons : (t : Token) (ts : List Token) → words (t ∷ ts) ≡ word t + words ts
-words-cons Open ts = omega arith
-words-cons Close ts = omega arith
-words-cons Comma ts = omega arith
-words-cons End ts = omega arith
 words-cons (Word w) ts = omega arith
+words-cons _ ts = omega arith
 
 one_word : (s : State) (t : Token) (s' : State) → Goes s t s' → has_words s' ≡ has_words s + word t
 one_word s t s' (takes_keyword w m) = refl
@@ -89,21 +81,8 @@ one_word s t s' (finishes ms) = omega arith
 
 -- a token that is too many makes one word more than the most_words has, and no other does
 too-many : (s : State) (t : Token) (s' : State) → step s t ≡ Ok s' → is_too_many s t ≡ true → most_words < has_words s'
-too-many AtKeyword t s' h k = cc
-too-many (AfterKeyword m) t s' h k = cc
-too-many (AtBody ms) t s' h k = cc
-too-many (AtRing b) t s' h k = cc
-too-many (AtX b ps) Open s' h k = cc
-too-many (AtX b ps) Close s' h k = cc
-too-many (AtX b ps) Comma s' h k = cc
-too-many (AtX b ps) End s' h k = cc
 too-many (AtX b ps) (Word w) s' h k = let n = with_coordinate-ok _ _ _ h in let many : most_points ≤ points_before b + length ps = grind (arith, nat_tests) in rw (← n.2) (omega arith)
-too-many (AtY b ps x) t s' h k = cc
-too-many (AfterPoint b ps) t s' h k = cc
-too-many (AfterRing b) t s' h k = cc
-too-many (AfterBody ms) t s' h k = cc
-too-many (AtEnd ms) t s' h k = cc
-too-many (Finished ms) t s' h k = cc
+too-many _ _ s' h k = cc
 
 not-too-many : (s : State) (t : Token) (s' : State) → step s t ≡ Ok s' → is_too_many s t ≡ false → has_words s ≤ most_words → has_words s' ≤ most_words
 not-too-many s Open s' h k le = rw (one_word _ _ _ (goes s Open s' h)) (omega arith)
@@ -111,16 +90,9 @@ not-too-many s Close s' h k le = rw (one_word _ _ _ (goes s Close s' h)) (omega 
 not-too-many s Comma s' h k le = rw (one_word _ _ _ (goes s Comma s' h)) (omega arith)
 not-too-many s End s' h k le = rw (one_word _ _ _ (goes s End s' h)) (omega arith)
 not-too-many AtKeyword (Word w) s' h k le = rw (one_word _ _ _ (goes AtKeyword (Word w) s' h)) (omega arith)
-not-too-many (AfterKeyword m) (Word w) s' h k le = cc
-not-too-many (AtBody ms) (Word w) s' h k le = cc
-not-too-many (AtRing b) (Word w) s' h k le = cc
 not-too-many (AtX b ps) (Word w) s' h k le = let few : points_before b + length ps < most_points = grind (arith, nat_tests) in rw (one_word _ _ _ (goes (AtX b ps) (Word w) s' h)) (omega arith)
 not-too-many (AtY b ps x) (Word w) s' h k le = rw (one_word _ _ _ (goes (AtY b ps x) (Word w) s' h)) (omega arith)
-not-too-many (AfterPoint b ps) (Word w) s' h k le = cc
-not-too-many (AfterRing b) (Word w) s' h k le = cc
-not-too-many (AfterBody ms) (Word w) s' h k le = cc
-not-too-many (AtEnd ms) (Word w) s' h k le = cc
-not-too-many (Finished ms) (Word w) s' h k le = cc
+not-too-many _ _ s' h k le = cc
 
 pub limited-run-ok : (ts : List Token) (s s' : State) → has_words s ≤ most_words → limited_run s ts ≡ Ok s' → (run s ts ≡ Ok s') × (has_words s + words ts ≤ most_words)
 limited-run-ok [] s s' le h = (h, omega arith)

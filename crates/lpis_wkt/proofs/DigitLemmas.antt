@@ -1,14 +1,12 @@
 -- Digits and the number that they write.
-use Rattle.std.proofs.Common.{suc, add-zero, get_or-drop, ◌≡◌, ℕ, ◌+◌, ◌-◌, ◌*◌, ◌<◌, ◌≤◌, Bool, true, false, cond, List, [], ◌∷◌, ◌++◌, length, take, drop, get_or, Option, Some, None, refl}
-use Rattle.std.proofs.Common.{sym, ap, ◌∙◌, arith, nat_lt, drop-cons, add-one, length-drop, MatchOption}
-use Rattle.std.proofs.lemmas.Bool.{and_parts}
-use Rattle.std.proofs.lemmas.Bool.Decides.{nat_tests}
+use Rattle.std.proofs.Common.{suc, add-zero, get_or-drop, ◌≡◌, ℕ, ◌+◌, ◌-◌, ◌*◌, ◌<◌, ◌≤◌, Bool, true, false, cond, List, [], ◌∷◌, ◌++◌, length, take, drop, get_or, Option, Some, None, refl, sym, ap}
+use Rattle.std.proofs.Common.{◌∙◌, arith, nat_lt, drop-cons, add-one, length-drop, MatchOption, position}
+use Rattle.lpis_wkt.proofs.Common.{and_parts, nat_tests, list_all, digits_value_after, is_ascii_digit, greatest, padded}
 use Rattle.std.proofs.lemmas.Str.{digit_value_digit}
 use Rattle.std.proofs.lemmas.List.{drop_all, take_all, drop-drop}
-use Rattle.std.specs.List.{position, position_or_len, before_first, after_first, list_all}
-use Rattle.std.specs.Str.Parse.{digits_value_after}
-use Rattle.std.specs.Char.{digit_value, is_ascii_digit}
-use Rattle.lpis_wkt.specs.Number.{greatest, is_point, padded}
+use Rattle.std.specs.List.{position_or_len, before_first, after_first}
+use Rattle.std.specs.Char.{digit_value}
+use Rattle.lpis_wkt.specs.Number.{is_point}
 
 pub value-ge : (n : ℕ) (ds : List ℕ) → n ≤ digits_value_after 10 n ds
 value-ge n [] = omega arith

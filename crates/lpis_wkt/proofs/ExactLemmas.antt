@@ -1,13 +1,9 @@
 -- A number is read exactly.
 use Rattle.std.proofs.Common.{◌≡◌, ℕ, zero, suc, ◌+◌, ◌*◌, ◌^◌, Bool, true, false, cond, not, ◌==◌, List, [], ◌∷◌, ◌++◌, length, drop, ℤ, pos, neg_ℤ, nat_abs, Ok, Err, refl, sym, ap, ◌∙◌, arith}
 use Rattle.std.proofs.Common.{nat_lt}
-use Rattle.std.proofs.lemmas.Bool.{and_parts}
-use Rattle.std.proofs.lemmas.Bool.Decides.{nat_tests}
-use Rattle.std.specs.List.{list_all}
+use Rattle.lpis_wkt.proofs.Common.{and_parts, nat_tests, list_all, digits_value, digits_value_after, WktCode, coordinate_decimals, greatest, number, padded}
 use Rattle.std.specs.Char.{digit_value}
-use Rattle.std.specs.Str.Parse.{digits_value, digits_value_after}
-use Rattle.lpis_wkt.specs.declared.fault.WktCode.{WktCode}
-use Rattle.lpis_wkt.specs.Number.{coordinate_decimals, greatest, number, whole, decimals, size, padded, is_numeral, is_fine, is_zero, is_negative, signed}
+use Rattle.lpis_wkt.specs.Number.{whole, decimals, size, is_numeral, is_fine, is_zero, is_negative, signed}
 use Rattle.lpis_wkt.proofs.DigitLemmas.{value-append}
 
 digit_zero : (b : ℕ) → (b == 48) ≡ true → digit_value b ≡ 0
@@ -50,14 +46,11 @@ scaled (suc n) v (d ∷ ds) h =
 
 accepted-by : (a b c : Bool) (x y z : WktCode) (n v : ℤ) → cond (not a) (Err x) (cond (not b) (Err y) (cond c (Err z) (Ok n))) ≡ Ok v → (b ≡ true) × (n ≡ v)
 accepted-by true true false x y z n v h = (refl, cc)
-accepted-by true true true x y z n v h = cc
-accepted-by true false c x y z n v h = cc
-accepted-by false b c x y z n v h = cc
+accepted-by _ _ _ x y z n v h = cc
 
 abs-signed : (negative : Bool) (n : ℕ) → nat_abs (signed negative n) ≡ n
-abs-signed false n = refl
-abs-signed true zero = refl
 abs-signed true (suc n) = refl
+abs-signed _ _ = refl
 
 pub exact : (w : List ℕ) (z : ℤ) → number w ≡ Ok z → nat_abs z * 10 ^ length (decimals w) ≡ 10 ^ coordinate_decimals * digits_value 10 (whole w ++ decimals w)
 unfolding number

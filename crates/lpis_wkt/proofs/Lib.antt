@@ -1,3 +1,4 @@
+pub mod Common
 pub mod SplittingLemmas
 pub mod DigitLemmas
 pub mod PartLemmas

@@ -1,20 +1,12 @@
 -- The table gives one code for one place.
-use Rattle.std.proofs.Common.{◌≡◌, ℕ, ◌+◌, ◌<◌, ◌≤◌, Bool, true, false, cond, ◌==◌, List, [], ◌∷◌, ◌++◌, length, Result, Ok, Err, refl, sym, ap, ◌∙◌, arith, append-nil, nat_le, nat_lt}
-use Rattle.std.specs.Prelude.{codes}
-use Rattle.lpis_points.specs.declared.point.Point.{Point}
-use Rattle.lpis_rings.specs.declared.polygon.Member.{Member}
-use Rattle.lpis_rings.specs.Polygon.{most_points}
-use Rattle.lpis_wkt.specs.declared.fault.WktCode.{WktCode}
+use Rattle.std.proofs.Common.{◌≡◌, ℕ, ◌+◌, ◌<◌, ◌≤◌, Bool, true, false, cond, ◌==◌, List, [], ◌∷◌, ◌++◌, length, Result, Ok, Err, refl, sym, ap, ◌∙◌, arith, append-nil, nat_le, nat_lt, codes}
+use Rattle.lpis_wkt.proofs.Common.{Point, Member, most_points, WktCode, Token, Open, Close, Comma, Word, End, number, point_of, PointText, Commas, is_polygon, is_multi, Viable, words, most_words}
+use Rattle.lpis_wkt.proofs.Common.{keyword_code, Context, State, AtKeyword, AfterKeyword, AtBody, AtRing, AtX, AtY, AfterPoint, AfterRing, AfterBody, AtEnd, Finished, is_closed, with_ring, new_body}
+use Rattle.lpis_wkt.proofs.Common.{member_of, points_before, and_then, step, run, limited_step, limited_run}
 use Rattle.lpis_wkt.specs.declared.fault.WktCode.TheVariants.{Syntax, TooManyPoints}
-use Rattle.lpis_wkt.specs.Tokens.{Token, Open, Close, Comma, Word, End}
-use Rattle.lpis_wkt.specs.Number.{number}
-use Rattle.lpis_wkt.specs.private.Coordinates.{point_of}
-use Rattle.lpis_wkt.specs.Grammar.{PointText, Commas, is_polygon, is_multi}
-use Rattle.lpis_wkt.specs.Viable.{Stands, Viable, words, most_words}
-use Rattle.lpis_wkt.specs.Table.{RingSoFar, EndsWith, keyword_code, open_code, first_open_code, number_code, coordinate_code, point_code, TableCode, at_keyword, at_first_open, at_open, at_coordinate}
+use Rattle.lpis_wkt.specs.Viable.{Stands}
+use Rattle.lpis_wkt.specs.Table.{RingSoFar, EndsWith, open_code, first_open_code, number_code, coordinate_code, point_code, TableCode, at_keyword, at_first_open, at_open, at_coordinate}
 use Rattle.lpis_wkt.specs.Table.{at_after_point, at_after_close, at_past_end}
-use Rattle.lpis_wkt.specs.private.Machine.{Context, State, AtKeyword, AfterKeyword, AtBody, AtRing, AtX, AtY, AfterPoint, AfterRing, AfterBody, AtEnd, Finished, is_closed, with_ring}
-use Rattle.lpis_wkt.specs.private.Machine.{new_body, member_of, points_before, and_then, step, run, limited_step, limited_run}
 use Rattle.lpis_wkt.proofs.StepLemmas.{then-ok, run-append, limited-append, Goes, goes, opens_text, opens_body, opens_ring, closes_ring, closes_body, closes_text, finishes}
 use Rattle.lpis_wkt.proofs.CompletenessLemmas.{points_run}
 use Rattle.lpis_wkt.proofs.CompletingLemmas.{begun}
@@ -32,11 +24,8 @@ stood before s t h stands =
     (a.0, a.1)
 
 keyword-only : (t : Token) (c : WktCode) → limited_step AtKeyword t ≡ Err c → keyword_code t ≡ c
-keyword-only Open c h = cc
-keyword-only Close c h = cc
-keyword-only Comma c h = cc
-keyword-only End c h = cc
 keyword-only (Word w) c h = keyword-code (is_polygon w) (is_multi w) (keyword_code (Word w)) c h
+keyword-only _ c h = cc
 
 first_open-only : (s s' : State) (before : List Token) (t : Token) (c : WktCode) → Goes s Open s' → Tail s before → length before ≡ 1 → limited_step s t ≡ Err c → first_open_code t ≡ c
 first_open-only s s' before Open c (opens_text m) r one h = cc
@@ -61,29 +50,13 @@ open-only s s' before End c (opens_ring b) r more h = cc
 open-only s s' before (Word w) c (opens_ring b) r more h = cc
 
 coordinate-only : (s s' : State) (n : ℕ) (t : Token) (c : WktCode) → step s (Word (codes "0")) ≡ Ok s' → has_words s ≡ n → n ≤ most_words → limited_step s t ≡ Err c → coordinate_code n t ≡ c
-coordinate-only AtKeyword s' n t c k words few h = cc
-coordinate-only (AfterKeyword m) s' n t c k words few h = cc
-coordinate-only (AtBody ms) s' n t c k words few h = cc
-coordinate-only (AtRing b) s' n t c k words few h = cc
-coordinate-only (AtX b ps) s' n Open c k words few h = cc
-coordinate-only (AtX b ps) s' n Close c k words few h = cc
-coordinate-only (AtX b ps) s' n Comma c k words few h = cc
-coordinate-only (AtX b ps) s' n End c k words few h = cc
 coordinate-only (AtX b ps) s' n (Word w) c k words few h =
     let same : nat_le most_points (points_before b + length ps) ≡ (n == most_words) = same-test (points_before b + length ps) n (sym words) (omega arith) in
     ap (λ (v : Bool). cond v TooManyPoints (number_code (number w))) (sym same) ∙ limited-code _ w (AtY b ps) c h
-coordinate-only (AtY b ps x) s' n Open c k words few h = cc
-coordinate-only (AtY b ps x) s' n Close c k words few h = cc
-coordinate-only (AtY b ps x) s' n Comma c k words few h = cc
-coordinate-only (AtY b ps x) s' n End c k words few h = cc
 coordinate-only (AtY b ps x) s' n (Word w) c k words few h =
     let same : (n == most_words) ≡ false = even-test (points_before b + length ps) n (sym words) in
     ap (λ (v : Bool). cond v TooManyPoints (number_code (number w))) same ∙ number-code w (λ y. AfterPoint b (ps ++ point_of x y ∷ [])) c h
-coordinate-only (AfterPoint b ps) s' n t c k words few h = cc
-coordinate-only (AfterRing b) s' n t c k words few h = cc
-coordinate-only (AfterBody ms) s' n t c k words few h = cc
-coordinate-only (AtEnd ms) s' n t c k words few h = cc
-coordinate-only (Finished ms) s' n t c k words few h = cc
+coordinate-only _ s' n _ c k words few h = cc
 
 begins_with_word : (ps : List Point) (body : List Token) → Commas PointText ps body → (w : List ℕ) × (rest : List Token) × (body ≡ Word w ∷ rest)
 begins_with_word [] body h = absurd h
@@ -109,11 +82,8 @@ after_open s0 s1 s ps body (opens_ring b) text h =
     (b, cc)
 
 point-only : (b : Context) (ps : List Point) (t : Token) (c : WktCode) → limited_step (AfterPoint b ps) t ≡ Err c → point_code ps t ≡ c
-point-only b ps Open c h = cc
 point-only b ps Close c h = close-code (nat_lt (length ps) 4) (is_closed ps) (AfterRing (with_ring b ps)) c h
-point-only b ps Comma c h = cc
-point-only b ps End c h = cc
-point-only b ps (Word w) c h = cc
+point-only b ps _ c h = cc
 
 ring-code : (before : List Token) (s : State) (ps : List Point) (t : Token) (c : WktCode) → RingSoFar before ps → run AtKeyword before ≡ Ok s → limited_step s t ≡ Err c → point_code ps t ≡ c
 ring-code before s ps t c (front, body, e, text) h k =
@@ -146,22 +116,11 @@ close-only (AtRing b) t c is h = absurd is
 close-only (AtX b ps) t c is h = absurd is
 close-only (AtY b ps x) t c is h = absurd is
 close-only (AfterPoint b ps) t c is h = absurd is
-close-only (AfterRing b) Open c is h = cc
-close-only (AfterRing b) Close c is h = cc
-close-only (AfterRing b) Comma c is h = cc
-close-only (AfterRing b) End c is h = cc
 close-only (AfterRing b) (Word w) c is h = cc
-close-only (AfterBody ms) Open c is h = cc
-close-only (AfterBody ms) Close c is h = cc
-close-only (AfterBody ms) Comma c is h = cc
-close-only (AfterBody ms) End c is h = cc
 close-only (AfterBody ms) (Word w) c is h = cc
-close-only (AtEnd ms) Open c is h = cc
-close-only (AtEnd ms) Close c is h = cc
-close-only (AtEnd ms) Comma c is h = cc
-close-only (AtEnd ms) End c is h = cc
 close-only (AtEnd ms) (Word w) c is h = cc
 close-only (Finished ms) t c is h = absurd is
+close-only _ _ c is h = cc
 
 ended : (s0 s : State) → Goes s0 End s → (ms : List Member) × (s ≡ Finished ms)
 ended s0 s (finishes ms) = (ms, refl)

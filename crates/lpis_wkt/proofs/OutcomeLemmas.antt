@@ -1,17 +1,14 @@
 -- The outcome of a text is its polygon, or its first fault.
 use Rattle.std.proofs.Common.{MatchResult, IfOk, IfErr, ◌≡◌, ℕ, List, [], ◌∷◌, ◌++◌, Result, Ok, Err, refl, sym, ap, ◌∙◌, inl, inr, ◌⊎◌, length}
-use Rattle.lpis_rings.specs.declared.polygon.Member.{Member}
-use Rattle.lpis_wkt.specs.declared.fault.WktCode.{WktCode}
+use Rattle.lpis_wkt.proofs.Common.{Member, WktCode, Token, End, tokens_from, Viable, State, AtKeyword, Finished, and_then, limited_step, limited_run}
 use Rattle.lpis_wkt.specs.declared.fault.WktFault.{WktFault}
 use Rattle.lpis_wkt.specs.declared.fault.WktFault.TheVariants.{Memory, At}
-use Rattle.lpis_wkt.specs.Tokens.{Token, End, kinds, tokens, tokens_from}
-use Rattle.lpis_wkt.specs.Viable.{Viable}
+use Rattle.lpis_wkt.specs.Tokens.{kinds, tokens}
 use Rattle.lpis_wkt.specs.Table.{FirstFault}
 use Rattle.lpis_wkt.specs.Text.{PolygonText, TextFault, IsTextFault}
 use Rattle.lpis_wkt.specs.Answer.{polygon_of, Gives}
-use Rattle.lpis_wkt.specs.private.Machine.{members_of, answer_of}
+use Rattle.lpis_wkt.specs.private.Machine.{members_of, answer_of, located, outcome}
 use Rattle.lpis_wkt.specs.private.Parsing.{Told}
-use Rattle.lpis_wkt.specs.private.Machine.{State, AtKeyword, Finished, and_then, limited_step, limited_run, located, outcome}
 use Rattle.lpis_wkt.proofs.StepLemmas.{then-ok, limited-append, cond-err}
 use Rattle.lpis_wkt.proofs.CountingLemmas.{viable, taken, finished, accepted}
 use Rattle.lpis_wkt.proofs.RowLemmas.{table_code}
@@ -156,9 +153,8 @@ never_both text ms code offset h k = let e = polygon-answer text ms h in let f =
 -- what the parser answers is what the text says
 pub gives : (text : List ℕ) (r : Result (List Member) WktFault) → Told r (outcome AtKeyword (tokens text)) → Gives r (polygon_of text)
 unfolding polygon_of
-gives text (Ok ms) h = rw h refl
 gives text (Err Memory) h = tt
-gives text (Err (At code offset)) h = rw h refl
+gives text _ h = rw h refl
 
 pub is_polygon_text : (text : List ℕ) (r : Result (List Member) WktFault) → Gives r (polygon_of text) → IfOk r (λ ms. PolygonText text ms)
 is_polygon_text text (Ok ms) h = answer-polygon text ms h
@@ -170,6 +166,5 @@ is_only text (Err Memory) h ms k = refl
 is_only text (Err (At code offset)) h ms k = absurd (never_both text ms code offset k (answer-fault text code offset h))
 
 pub is_fault : (text : List ℕ) (r : Result (List Member) WktFault) → Gives r (polygon_of text) → IfErr r (λ e. IsTextFault text e)
-is_fault text (Ok qs) h = tt
-is_fault text (Err Memory) h = tt
 is_fault text (Err (At code offset)) h = answer-fault text code offset h
+is_fault _ _ _ = tt

@@ -1,19 +1,12 @@
 -- Parts of a text that grow by a byte, and the numerals that they are.
 use Rattle.std.proofs.Common.{◌≡◌, ℕ, suc, ◌+◌, ◌-◌, ◌*◌, ◌<◌, ◌≤◌, Bool, true, false, cond, not, ◌&&◌, ◌||◌, ◌==◌, List, [], ◌∷◌, ◌++◌, length, take, drop, get_or, refl, sym, ap, ◌∙◌, arith}
-use Rattle.std.proofs.Common.{append_assoc, append-nil, length-append, drop-cons, add-one, one-add, nat_lt}
-use Rattle.std.proofs.lemmas.Bool.{and_parts}
-use Rattle.std.proofs.lemmas.Bool.Decides.{nat_tests}
+use Rattle.std.proofs.Common.{append_assoc, append-nil, length-append, drop-cons, add-one, one-add, nat_lt, ℤ, Ok, Err, slice_range}
+use Rattle.lpis_wkt.proofs.Common.{and_parts, nat_tests, list_all, is_ascii_digit, digits_value, coordinate_decimals, greatest, padded, number, IsPart, Word, tokens_from, is_word, WktCode}
 use Rattle.std.proofs.Math.Seq.{take-append_seam, take-length}
 use Rattle.std.proofs.lemmas.List.{drop_all, take_at}
-use Rattle.std.specs.List.{list_all, position_or_len, before_first, after_first}
-use Rattle.std.specs.Char.{is_ascii_digit}
-use Rattle.std.specs.Str.Parse.{digits_value}
-use Rattle.lpis_wkt.specs.Number.{coordinate_decimals, greatest, is_point, is_numeral, is_fine, padded, size, signed, unsigned, is_negative, number}
-use Rattle.lpis_wkt.specs.private.Runs.{IsPart, IsPlain, AllWord, Stops, IsSign, none, plus, minus}
-use Rattle.lpis_wkt.specs.Tokens.{Word, tokens_from}
-use Rattle.lpis_wkt.specs.private.Runs.{is_word}
-use Rattle.std.specs.Prelude.{ℤ, Ok, Err, slice_range}
-use Rattle.lpis_wkt.specs.declared.fault.WktCode.{WktCode}
+use Rattle.std.specs.List.{position_or_len, before_first, after_first}
+use Rattle.lpis_wkt.specs.Number.{is_point, is_numeral, is_fine, size, signed, unsigned, is_negative}
+use Rattle.lpis_wkt.specs.private.Runs.{IsPlain, AllWord, Stops, IsSign, none, plus, minus}
 use Rattle.lpis_wkt.specs.declared.fault.WktCode.TheVariants.{NotANumber, TooFine, OutOfRange}
 use Rattle.lpis_wkt.proofs.DigitLemmas.{value-append, between, is-digit}
 use Rattle.lpis_wkt.proofs.SplittingLemmas.{whole_word, stops-at}

@@ -1,17 +1,12 @@
 -- Coordinates and points are equal where their numbers are.
-use Rattle.std.proofs.Common.{◌≡◌, ℕ, ◌-◌, ℤ, true, List, length, Option, Some, None, Result, Ok, Err, refl, ap, subst, ◌∙◌, arith, int_eq}
-use Rattle.std.specs.Prelude.{slice_get}
-use Rattle.std.proofs.lemmas.Bool.{and_parts}
+use Rattle.std.proofs.Common.{◌≡◌, ℕ, ◌-◌, ℤ, true, List, length, Option, Some, None, Result, Ok, Err, refl, ap, subst, ◌∙◌, arith, int_eq, slice_get}
+use Rattle.lpis_wkt.proofs.Common.{and_parts, Point, WktCode, Coordinate, number, coordinate, point_of, is_closed}
 use Rattle.std.proofs.lemmas.Int.{ints}
 use lib.Dec.{T_prop}
-use Rattle.lpis_points.specs.declared.point.Point.{Point}
 use Rattle.lpis_points.specs.Range.{IsInRange}
 use Rattle.lpis_points.specs.Plane.{same_point}
-use Rattle.lpis_wkt.specs.declared.fault.WktCode.{WktCode}
-use Rattle.lpis_wkt.specs.declared.coordinate.Coordinate.{Coordinate}
-use Rattle.lpis_wkt.specs.Number.{number}
-use Rattle.lpis_wkt.specs.private.Coordinates.{coordinate, with_range, number-in_range, point_of}
-use Rattle.lpis_wkt.specs.private.Machine.{same_end, is_closed}
+use Rattle.lpis_wkt.specs.private.Coordinates.{with_range, number-in_range}
+use Rattle.lpis_wkt.specs.private.Machine.{same_end}
 
 in_range_prop : (z : ℤ) → IsProp (IsInRange z)
 in_range_prop z = hlevel T_prop
@@ -81,9 +76,8 @@ same_point-refl p = rw (int_eq-refl p.x, int_eq-refl p.y) refl
 
 same_end-true : (a b : Option Point) → same_end a b ≡ true → a ≡ b
 same_end-true (Some p) (Some q) h = ap Some (same_point-true p q h)
-same_end-true (Some p) None h = cc
-same_end-true None (Some q) h = cc
 same_end-true None None h = refl
+same_end-true _ _ h = cc
 
 same_end-refl : (a : Option Point) → same_end a a ≡ true
 same_end-refl (Some p) = same_point-refl p

@@ -1,22 +1,13 @@
 -- The code of the first fault is that of the table.
-use Rattle.std.proofs.Common.{◌≡◌, ℕ, ◌+◌, ◌*◌, ◌≤◌, Bool, true, false, cond, ◌==◌, List, [], ◌∷◌, ◌++◌, length, Result, Ok, Err, refl, sym, ap, subst, ◌∙◌, inl, inr, arith, nat_le, nat_lt}
-use Rattle.std.specs.Prelude.{codes}
+use Rattle.std.proofs.Common.{◌≡◌, ℕ, ◌+◌, ◌*◌, ◌≤◌, Bool, true, false, cond, ◌==◌, List, [], ◌∷◌, ◌++◌, length, Result, Ok, Err, refl, sym, ap, subst, ◌∙◌, inl, inr, arith, nat_le, nat_lt, codes}
+use Rattle.lpis_wkt.proofs.Common.{nat_tests, most_points, WktCode, Coordinate, Token, Open, Close, Comma, Word, End, number, coordinate, point_of, is_polygon, is_multi, words, most_words}
+use Rattle.lpis_wkt.proofs.Common.{keyword_code, Point, Context, State, AtKeyword, AfterKeyword, AtBody, AtRing, AtX, AtY, AfterPoint, AfterRing, AfterBody, AtEnd, Finished, is_closed, with_ring}
+use Rattle.lpis_wkt.proofs.Common.{points_before, step, run, limited_step, limited_run}
 use Rattle.std.proofs.lemmas.Bool.{cases_lt}
-use Rattle.std.proofs.lemmas.Bool.Decides.{nat_tests}
-use Rattle.lpis_rings.specs.Polygon.{most_points}
-use Rattle.lpis_wkt.specs.declared.fault.WktCode.{WktCode}
 use Rattle.lpis_wkt.specs.declared.fault.WktCode.TheVariants.{TooFewPoints, NotClosed, TooManyPoints}
-use Rattle.lpis_wkt.specs.declared.coordinate.Coordinate.{Coordinate}
-use Rattle.lpis_wkt.specs.Tokens.{Token, Open, Close, Comma, Word, End}
-use Rattle.lpis_wkt.specs.Number.{number}
-use Rattle.lpis_wkt.specs.private.Coordinates.{coordinate, point_of}
-use Rattle.lpis_wkt.specs.Grammar.{is_polygon, is_multi}
-use Rattle.lpis_wkt.specs.Viable.{Stands, words, most_words}
-use Rattle.lpis_wkt.specs.Table.{keyword_code, number_code, coordinate_code, TableCode, at_keyword, at_first_open, at_open, at_coordinate, at_after_point}
-use Rattle.lpis_wkt.specs.Table.{at_after_close, at_past_end}
-use Rattle.lpis_points.specs.declared.point.Point.{Point}
-use Rattle.lpis_wkt.specs.private.Machine.{Context, State, AtKeyword, AfterKeyword, AtBody, AtRing, AtX, AtY, AfterPoint, AfterRing, AfterBody, AtEnd, Finished, is_closed, with_coordinate, with_ring}
-use Rattle.lpis_wkt.specs.private.Machine.{points_before, step, run, limited_step, limited_run}
+use Rattle.lpis_wkt.specs.Viable.{Stands}
+use Rattle.lpis_wkt.specs.Table.{number_code, coordinate_code, TableCode, at_keyword, at_first_open, at_open, at_coordinate, at_after_point, at_after_close, at_past_end}
+use Rattle.lpis_wkt.specs.private.Machine.{with_coordinate}
 use Rattle.lpis_wkt.proofs.PointLemmas.{err-coordinate}
 use Rattle.lpis_wkt.proofs.StepLemmas.{run-append}
 use Rattle.lpis_wkt.proofs.CompletingLemmas.{origin, zero_spelled, begins}
@@ -41,9 +32,8 @@ y-stands : (before : List Token) (b : Context) (ps : List Point) (x : Coordinate
 y-stands before b ps x h = stands before _ (AfterPoint b (ps ++ point_of x origin ∷ [])) (Word (codes "0")) h (rw zero_spelled refl)
 
 pub keyword-code : (p m : Bool) (f code : WktCode) → cond p (Ok (AfterKeyword false)) (cond m (Ok (AfterKeyword true)) (Err f)) ≡ Err code → f ≡ code
-keyword-code true m f code h = cc
-keyword-code false true f code h = cc
 keyword-code false false f code h = cc
+keyword-code _ _ f code h = cc
 
 coordinate-code : (r : Result Coordinate WktCode) (f : Coordinate → State) (code : WktCode) → with_coordinate r f ≡ Err code → r ≡ Err code
 coordinate-code (Ok z) f code h = cc
@@ -58,9 +48,8 @@ limited-code true w f code h = cc
 limited-code false w f code h = number-code w f code h
 
 pub close-code : (few closed : Bool) (b : State) (code : WktCode) → cond few (Err TooFewPoints) (cond closed (Ok b) (Err NotClosed)) ≡ Err code → cond few TooFewPoints NotClosed ≡ code
-close-code true closed b code h = cc
-close-code false true b code h = cc
 close-code false false b code h = cc
+close-code _ _ b code h = cc
 
 pub same-test : (n words : ℕ) → words ≡ 2 * n + 1 → n ≤ most_points → nat_le most_points n ≡ (words == most_words)
 same-test n words h le = elim (cases_lt n most_points) [
@@ -116,22 +105,13 @@ coded before Close (AfterPoint b ps) code r h n le k = subst (TableCode before C
 coded before Comma (AfterPoint b ps) code r h n le k = cc
 coded before End (AfterPoint b ps) code r h n le k = told (at_after_point ps r) k
 coded before (Word w) (AfterPoint b ps) code r h n le k = told (at_after_point ps r) k
-coded before Open (AfterRing b) code r h n le k = told (at_after_close r) k
 coded before Close (AfterRing b) code r h n le k = cc
 coded before Comma (AfterRing b) code r h n le k = cc
-coded before End (AfterRing b) code r h n le k = told (at_after_close r) k
-coded before (Word w) (AfterRing b) code r h n le k = told (at_after_close r) k
-coded before Open (AfterBody ms) code r h n le k = told (at_after_close r) k
 coded before Close (AfterBody ms) code r h n le k = cc
 coded before Comma (AfterBody ms) code r h n le k = cc
-coded before End (AfterBody ms) code r h n le k = told (at_after_close r) k
-coded before (Word w) (AfterBody ms) code r h n le k = told (at_after_close r) k
-coded before Open (AtEnd ms) code r h n le k = told (at_after_close r) k
-coded before Close (AtEnd ms) code r h n le k = told (at_after_close r) k
-coded before Comma (AtEnd ms) code r h n le k = told (at_after_close r) k
 coded before End (AtEnd ms) code r h n le k = cc
-coded before (Word w) (AtEnd ms) code r h n le k = told (at_after_close r) k
 coded before t (Finished ms) code r h n le k = told (at_past_end r) k
+coded before _ _ code r h n le k = told (at_after_close r) k
 
 pub table_code : (before : List Token) (t : Token) (s : State) (code : WktCode) → limited_run AtKeyword before ≡ Ok s → limited_step s t ≡ Err code → TableCode before t code
 table_code before t s code h k =

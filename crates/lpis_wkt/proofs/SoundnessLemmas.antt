@@ -1,15 +1,8 @@
 -- What the machine takes to the end, the grammar spells.
 use Rattle.std.proofs.Common.{◌≡◌, ℕ, zero, suc, ◌<◌, ◌≤◌, Bool, true, false, cond, List, [], ◌∷◌, ◌++◌, length, Ok, refl, sym, ap, subst, ◌∙◌, inl, inr, ◌⊎◌, append_assoc, arith}
-use Rattle.lpis_points.specs.declared.point.Point.{Point}
-use Rattle.lpis_rings.specs.declared.polygon.Member.{Member}
-use Rattle.lpis_rings.specs.Ring.{IsRing}
-use Rattle.lpis_wkt.specs.declared.coordinate.Coordinate.{Coordinate}
-use Rattle.lpis_wkt.specs.Tokens.{Token, Open, Close, Comma, Word, End}
-use Rattle.lpis_wkt.specs.Number.{number}
-use Rattle.lpis_wkt.specs.private.Coordinates.{point_of}
-use Rattle.lpis_wkt.specs.Grammar.{PointText, Commas, RingText, BodyText, is_polygon, is_multi, Reads}
-use Rattle.lpis_wkt.specs.private.Machine.{Context, State, AtKeyword, AfterKeyword, AtBody, AtRing, AtX, AtY, AfterPoint, AfterRing, AfterBody, AtEnd, Finished, with_ring, close_body, new_body}
-use Rattle.lpis_wkt.specs.private.Machine.{open_text, run}
+use Rattle.lpis_wkt.proofs.Common.{Point, Member, IsRing, Coordinate, Token, Open, Close, Comma, Word, End, number, point_of, PointText, Commas, is_polygon, is_multi, Context, State, AtKeyword}
+use Rattle.lpis_wkt.proofs.Common.{AfterKeyword, AtBody, AtRing, AtX, AtY, AfterPoint, AfterRing, AfterBody, AtEnd, Finished, with_ring, close_body, new_body, open_text, run}
+use Rattle.lpis_wkt.specs.Grammar.{RingText, BodyText, Reads}
 use Rattle.lpis_wkt.proofs.PointLemmas.{ok-coordinate}
 use Rattle.lpis_wkt.proofs.StepLemmas.{then-ok, with_coordinate-ok, close_ring-ok, keyword-ok}
 use Rattle.lpis_wkt.proofs.CompletenessLemmas.{adds, adds-append, adds-rings}
@@ -54,28 +47,20 @@ module _ (q : List Member) where
   at_x : (b : Context) (ps : List Point) (ts : List Token) → Reaches q (AtX b ps) ts → (w : List ℕ)
       × (rest : List Token) × (x : Coordinate) × (ts ≡ Word w ∷ rest) × (number w ≡ Ok x.value)
       × Reaches q (AtY b ps x) rest
-  at_x b ps [] h = cc
-  at_x b ps (Open ∷ ts) h = cc
-  at_x b ps (Close ∷ ts) h = cc
-  at_x b ps (Comma ∷ ts) h = cc
-  at_x b ps (End ∷ ts) h = cc
   at_x b ps (Word w ∷ ts) h =
       let a = then-ok _ _ _ h in
       let n = with_coordinate-ok _ _ _ a.1 in
       (w, ts, n.0, refl, ok-coordinate w n.0 n.1, rw n.2 a.2)
+  at_x b ps _ h = cc
 
   at_y : (b : Context) (ps : List Point) (x : Coordinate) (ts : List Token) → Reaches q (AtY b ps x) ts → (w : List ℕ)
       × (rest : List Token) × (y : Coordinate) × (ts ≡ Word w ∷ rest) × (number w ≡ Ok y.value)
       × Reaches q (AfterPoint b (ps ++ point_of x y ∷ [])) rest
-  at_y b ps x [] h = cc
-  at_y b ps x (Open ∷ ts) h = cc
-  at_y b ps x (Close ∷ ts) h = cc
-  at_y b ps x (Comma ∷ ts) h = cc
-  at_y b ps x (End ∷ ts) h = cc
   at_y b ps x (Word w ∷ ts) h =
       let a = then-ok _ _ _ h in
       let n = with_coordinate-ok _ _ _ a.1 in
       (w, ts, n.0, refl, ok-coordinate w n.0 n.1, rw n.2 a.2)
+  at_y b ps x _ h = cc
 
   abbrev RingOut : Context → List Point → List Token → Type 0
   RingOut b ps ts = (rest : List Token) × (ts ≡ Close ∷ rest) × IsRing ps × Reaches q (AfterRing (with_ring b ps)) rest
@@ -87,67 +72,42 @@ module _ (q : List Member) where
   MultiOut ms ts = (rest : List Token) × (ts ≡ Close ∷ rest) × Reaches q (AtEnd ms) rest
 
   after_point : (b : Context) (ps : List Point) (ts : List Token) → Reaches q (AfterPoint b ps) ts → ((rest : List Token) × (ts ≡ Comma ∷ rest) × Reaches q (AtX b ps) rest) ⊎ RingOut b ps ts
-  after_point b ps [] h = cc
-  after_point b ps (Open ∷ ts) h = cc
   after_point b ps (Close ∷ ts) h =
       let a = then-ok _ _ _ h in
       let ring = close_ring-ok b ps a.0 a.1 in
       inr (ts, refl, ring.0, rw ring.1 a.2)
   after_point b ps (Comma ∷ ts) h = inl (ts, refl, h)
-  after_point b ps (End ∷ ts) h = cc
-  after_point b ps (Word w ∷ ts) h = cc
+  after_point b ps _ h = cc
 
   after_ring : (b : Context) (ts : List Token) → Reaches q (AfterRing b) ts → ((rest : List Token) × (ts ≡ Comma ∷ rest) × Reaches q (AtRing b) rest) ⊎ BodyOut b ts
-  after_ring b [] h = cc
-  after_ring b (Open ∷ ts) h = cc
   after_ring b (Close ∷ ts) h = inr (ts, refl, h)
   after_ring b (Comma ∷ ts) h = inl (ts, refl, h)
-  after_ring b (End ∷ ts) h = cc
-  after_ring b (Word w ∷ ts) h = cc
+  after_ring b _ h = cc
 
   after_body : (ms : List Member) (ts : List Token) → Reaches q (AfterBody ms) ts → ((rest : List Token) × (ts ≡ Comma ∷ rest) × Reaches q (AtBody ms) rest) ⊎ MultiOut ms ts
-  after_body ms [] h = cc
-  after_body ms (Open ∷ ts) h = cc
   after_body ms (Close ∷ ts) h = inr (ts, refl, h)
   after_body ms (Comma ∷ ts) h = inl (ts, refl, h)
-  after_body ms (End ∷ ts) h = cc
-  after_body ms (Word w ∷ ts) h = cc
+  after_body ms _ h = cc
 
   at_ring : (b : Context) (ts : List Token) → Reaches q (AtRing b) ts → (rest : List Token) × (ts ≡ Open ∷ rest) × Reaches q (AtX b []) rest
-  at_ring b [] h = cc
   at_ring b (Open ∷ ts) h = (ts, refl, h)
-  at_ring b (Close ∷ ts) h = cc
-  at_ring b (Comma ∷ ts) h = cc
-  at_ring b (End ∷ ts) h = cc
-  at_ring b (Word w ∷ ts) h = cc
+  at_ring b _ h = cc
 
   at_body : (ms : List Member) (ts : List Token) → Reaches q (AtBody ms) ts → (rest : List Token) × (ts ≡ Open ∷ rest) × Reaches q (new_body true ms) rest
-  at_body ms [] h = cc
   at_body ms (Open ∷ ts) h = (ts, refl, h)
-  at_body ms (Close ∷ ts) h = cc
-  at_body ms (Comma ∷ ts) h = cc
-  at_body ms (End ∷ ts) h = cc
-  at_body ms (Word w ∷ ts) h = cc
+  at_body ms _ h = cc
 
   after_keyword : (m : Bool) (ts : List Token) → Reaches q (AfterKeyword m) ts → (rest : List Token) × (ts ≡ Open ∷ rest) × Reaches q (open_text m) rest
-  after_keyword m [] h = cc
   after_keyword m (Open ∷ ts) h = (ts, refl, h)
-  after_keyword m (Close ∷ ts) h = cc
-  after_keyword m (Comma ∷ ts) h = cc
-  after_keyword m (End ∷ ts) h = cc
-  after_keyword m (Word w ∷ ts) h = cc
+  after_keyword m _ h = cc
 
   is_over : (ms : List Member) (ts : List Token) → Reaches q (Finished ms) ts → (ts ≡ []) × (ms ≡ q)
   is_over ms [] h = (refl, cc)
   is_over ms (t ∷ ts) h = cc
 
   at_end : (ms : List Member) (ts : List Token) → Reaches q (AtEnd ms) ts → (ts ≡ End ∷ []) × (ms ≡ q)
-  at_end ms [] h = cc
-  at_end ms (Open ∷ ts) h = cc
-  at_end ms (Close ∷ ts) h = cc
-  at_end ms (Comma ∷ ts) h = cc
   at_end ms (End ∷ ts) h = let r = is_over ms ts h in (ap (λ (l : List Token). End ∷ l) r.0, r.1)
-  at_end ms (Word w ∷ ts) h = cc
+  at_end ms _ h = cc
 
   abbrev Keyworded : List Token → Type 0
   Keyworded ts = (w : List ℕ) × (rest : List Token) × (ts ≡ Word w ∷ rest)
@@ -155,17 +115,13 @@ module _ (q : List Member) where
       ⊎ ((is_multi w ≡ true) × Reaches q (AfterKeyword true) rest))
 
   at_keyword : (ts : List Token) → Reaches q AtKeyword ts → Keyworded ts
-  at_keyword [] h = cc
-  at_keyword (Open ∷ ts) h = cc
-  at_keyword (Close ∷ ts) h = cc
-  at_keyword (Comma ∷ ts) h = cc
-  at_keyword (End ∷ ts) h = cc
   at_keyword (Word w ∷ ts) h =
       let a = then-ok _ _ _ h in
       elim (keyword-ok w a.0 a.1) [
         | inl (p, e) ↦ (w, ts, refl, inl (p, rw e a.2))
         | inr (m, e) ↦ (w, ts, refl, inr (m, rw e a.2))
       ]
+  at_keyword _ h = cc
 
   point_item : (b : Context) → Item PointText (AtX b) (AfterPoint b) (λ l p. l ++ p ∷ []) (RingOut b) q
   point_item b ps ts h =

@@ -1,12 +1,11 @@
 -- Where a word or a space stands, the tokens from there on are those after it.
 use Rattle.std.proofs.Common.{◌≡◌, ℕ, zero, suc, ◌+◌, ◌-◌, ◌<◌, ◌≤◌, Bool, true, false, cond, not, ◌||◌, ◌==◌, List, [], ◌∷◌, ◌++◌, length, take, drop, get_or, refl, sym, ap, ◌∙◌, arith, drop-cons}
 use Rattle.std.proofs.Common.{add-one, slice_range, length-drop, inl, inr}
+use Rattle.lpis_wkt.proofs.Common.{nat_tests, Token, Open, Close, Comma, Word, End, tokens_from, is_word}
 use Rattle.std.proofs.lemmas.Bool.{cases_lt}
 use Rattle.std.proofs.lemmas.List.{take-append-drop, length-take-le, drop-drop, nil_from_length}
-use Rattle.std.proofs.lemmas.Bool.Decides.{nat_tests}
 use Rattle.lpis_wkt.specs.private.Runs.{AllWord, Stops}
-use Rattle.lpis_wkt.specs.Tokens.{Token, Open, Close, Comma, Word, End, is_space, join, tokens_from}
-use Rattle.lpis_wkt.specs.private.Runs.{is_word}
+use Rattle.lpis_wkt.specs.Tokens.{is_space, join}
 
 abbrev Tokens : Type 0
 Tokens = List (ℕ × Token)
@@ -16,11 +15,8 @@ abbrev token_by_byte : Bool → Bool → Bool → Bool → ℕ → Tokens → To
 token_by_byte s o c m at rest w = cond s rest (cond o ((at, Open) ∷ rest) (cond c ((at, Close) ∷ rest) (cond m ((at, Comma) ∷ rest) w)))
 
 token_of_letter : (s o c m : Bool) (at : ℕ) (rest w : Tokens) → not (s || o || c || m) ≡ true → token_by_byte s o c m at rest w ≡ w
-token_of_letter true o c m at rest w h = cc
-token_of_letter false true c m at rest w h = cc
-token_of_letter false false true m at rest w h = cc
-token_of_letter false false false true at rest w h = cc
 token_of_letter false false false false at rest w h = refl
+token_of_letter _ _ _ _ at rest w h = cc
 
 -- the first token stands at n or after it
 abbrev From : ℕ → Tokens → Type 0
@@ -28,15 +24,11 @@ From n [] = Unit {0}
 From n (t ∷ ts) = n ≤ t.0
 
 from-join : (at b : ℕ) (ts : Tokens) → From at (join at b ts)
-from-join at b [] = omega arith
-from-join at b ((next, Open) ∷ ts) = omega arith
-from-join at b ((next, Close) ∷ ts) = omega arith
-from-join at b ((next, Comma) ∷ ts) = omega arith
-from-join at b ((next, End) ∷ ts) = omega arith
 from-join at b ((next, Word w) ∷ ts) =
     elim (next == at + 1) as
     (λ v. From at (cond v ((at, Word (b ∷ w)) ∷ ts) ((at, Word (b ∷ [])) ∷ (next, Word w) ∷ ts)))
     [ true ↦ omega arith | false ↦ omega arith ]
+from-join at b _ = omega arith
 
 from-later : (m n : ℕ) (ts : Tokens) → m ≤ n → From n ts → From m ts
 from-later m n [] le h = tt
@@ -44,10 +36,8 @@ from-later m n (t ∷ ts) le h = omega arith
 
 from-token_by_byte : (s o c m : Bool) (at : ℕ) (rest w : Tokens) → From at rest → From at w → From at (token_by_byte s o c m at rest w)
 from-token_by_byte true o c m at rest w h k = h
-from-token_by_byte false true c m at rest w h k = omega arith
-from-token_by_byte false false true m at rest w h k = omega arith
-from-token_by_byte false false false true at rest w h k = omega arith
 from-token_by_byte false false false false at rest w h k = k
+from-token_by_byte _ _ _ _ at rest w h k = omega arith
 
 from-tokens : (at : ℕ) (bs : List ℕ) → From at (tokens_from at bs)
 from-tokens at [] = tt
@@ -56,23 +46,17 @@ from-tokens at (b ∷ bs) = from-token_by_byte (is_space b) (b == 40) (b == 41) 
     (from-join at b (tokens_from (at + 1) bs))
 
 apart : (at b : ℕ) (ts : Tokens) → From (at + 2) ts → join at b ts ≡ (at, Word (b ∷ [])) ∷ ts
-apart at b [] h = refl
-apart at b ((next, Open) ∷ ts) h = refl
-apart at b ((next, Close) ∷ ts) h = refl
-apart at b ((next, Comma) ∷ ts) h = refl
-apart at b ((next, End) ∷ ts) h = refl
 apart at b ((next, Word w) ∷ ts) h =
     let other : (next == at + 1) ≡ false = grind (arith, nat_tests) in
     rw other refl
+apart _ _ _ _ = refl
 
 apart-token_by_byte : (s o c m : Bool) (at b : ℕ) (rest w : Tokens) → not (s || o || c || m) ≡ false
     → From (at + 2) rest → join at b (token_by_byte s o c m (at + 1) rest w) ≡ (at, Word (b ∷ [])) ∷ token_by_byte s o c
     m (at + 1) rest w
 apart-token_by_byte true o c m at b rest w h k = apart at b rest k
-apart-token_by_byte false true c m at b rest w h k = refl
-apart-token_by_byte false false true m at b rest w h k = refl
-apart-token_by_byte false false false true at b rest w h k = refl
 apart-token_by_byte false false false false at b rest w h k = cc
+apart-token_by_byte _ _ _ _ _ _ _ _ _ _ = refl
 
 last_byte : (at b : ℕ) (rest : List ℕ) → Stops rest → join at b (tokens_from (at + 1) rest) ≡ (at, Word (b ∷ [])) ∷ tokens_from (at + 1) rest
 last_byte at b [] h = refl

@@ -1,17 +1,9 @@
 -- What a step that is taken says.
 use Rattle.std.proofs.Common.{◌≡◌, ℕ, ◌≤◌, Bool, true, false, cond, List, [], ◌∷◌, ◌++◌, length, Result, Ok, Err, refl, subst, inl, inr, ◌⊎◌, arith, nat_lt}
-use Rattle.std.proofs.lemmas.Bool.Decides.{nat_tests}
-use Rattle.lpis_points.specs.declared.point.Point.{Point}
-use Rattle.lpis_rings.specs.Ring.{IsRing}
-use Rattle.lpis_wkt.specs.declared.fault.WktCode.{WktCode}
-use Rattle.lpis_wkt.specs.declared.coordinate.Coordinate.{Coordinate}
-use Rattle.lpis_wkt.specs.Tokens.{Token, Open, Close, Comma, Word, End}
-use Rattle.lpis_wkt.specs.private.Coordinates.{coordinate, point_of}
-use Rattle.lpis_rings.specs.declared.polygon.Member.{Member}
-use Rattle.lpis_wkt.specs.Grammar.{is_polygon, is_multi}
-use Rattle.lpis_wkt.specs.Table.{keyword_code}
-use Rattle.lpis_wkt.specs.private.Machine.{Context, State, AtKeyword, AfterKeyword, AtBody, AtRing, AtX, AtY, AfterPoint, AfterRing, AfterBody, AtEnd, Finished, with_coordinate, with_ring}
-use Rattle.lpis_wkt.specs.private.Machine.{close_body, close_ring, keyword, new_body, open_text, step, and_then, run, limited_step, limited_run}
+use Rattle.lpis_wkt.proofs.Common.{nat_tests, Point, IsRing, WktCode, Coordinate, Token, Open, Close, Comma, Word, End, coordinate, point_of, Member, is_polygon, is_multi, keyword_code, Context}
+use Rattle.lpis_wkt.proofs.Common.{State, AtKeyword, AfterKeyword, AtBody, AtRing, AtX, AtY, AfterPoint, AfterRing, AfterBody, AtEnd, Finished, with_ring, close_body, close_ring, new_body, open_text}
+use Rattle.lpis_wkt.proofs.Common.{step, and_then, run, limited_step, limited_run}
+use Rattle.lpis_wkt.specs.private.Machine.{with_coordinate, keyword}
 use Rattle.lpis_wkt.proofs.PointLemmas.{is_closed-true}
 
 pub then-ok : {A B E : Type 0} (r : Result A E) (f : A → Result B E) (z : B) → and_then r f ≡ Ok z → (v : A) × (r ≡ Ok v) × (f v ≡ Ok z)
@@ -64,57 +56,20 @@ pub data Goes : State → Token → State → Type 0 where
   finishes : (ms : List Member) → Goes (AtEnd ms) End (Finished ms)
 
 pub goes : (s : State) (t : Token) (s' : State) → step s t ≡ Ok s' → Goes s t s'
-goes AtKeyword Open s' h = cc
-goes AtKeyword Close s' h = cc
-goes AtKeyword Comma s' h = cc
-goes AtKeyword End s' h = cc
 goes AtKeyword (Word w) s' h = elim (keyword-ok w s' h) [ inl e ↦ subst (Goes AtKeyword (Word w)) e.1 (takes_keyword w false) | inr e ↦ subst (Goes AtKeyword (Word w)) e.1 (takes_keyword w true) ]
 goes (AfterKeyword m) Open s' h = subst (Goes (AfterKeyword m) Open) (cc h) (opens_text m)
-goes (AfterKeyword m) Close s' h = cc
-goes (AfterKeyword m) Comma s' h = cc
-goes (AfterKeyword m) End s' h = cc
-goes (AfterKeyword m) (Word w) s' h = cc
 goes (AtBody ms) Open s' h = subst (Goes (AtBody ms) Open) (cc h) (opens_body ms)
-goes (AtBody ms) Close s' h = cc
-goes (AtBody ms) Comma s' h = cc
-goes (AtBody ms) End s' h = cc
-goes (AtBody ms) (Word w) s' h = cc
 goes (AtRing b) Open s' h = subst (Goes (AtRing b) Open) (cc h) (opens_ring b)
-goes (AtRing b) Close s' h = cc
-goes (AtRing b) Comma s' h = cc
-goes (AtRing b) End s' h = cc
-goes (AtRing b) (Word w) s' h = cc
-goes (AtX b ps) Open s' h = cc
-goes (AtX b ps) Close s' h = cc
-goes (AtX b ps) Comma s' h = cc
-goes (AtX b ps) End s' h = cc
 goes (AtX b ps) (Word w) s' h = let n = with_coordinate-ok _ _ _ h in subst (Goes (AtX b ps) (Word w)) n.2 (takes_x b ps w n.0 n.1)
-goes (AtY b ps x) Open s' h = cc
-goes (AtY b ps x) Close s' h = cc
-goes (AtY b ps x) Comma s' h = cc
-goes (AtY b ps x) End s' h = cc
 goes (AtY b ps x) (Word w) s' h = let n = with_coordinate-ok _ _ _ h in subst (Goes (AtY b ps x) (Word w)) n.2 (takes_y b ps x w n.0 n.1)
-goes (AfterPoint b ps) Open s' h = cc
 goes (AfterPoint b ps) Close s' h = subst (Goes (AfterPoint b ps) Close) (close_ring-ok b ps s' h).1 (closes_ring b ps)
 goes (AfterPoint b ps) Comma s' h = subst (Goes (AfterPoint b ps) Comma) (cc h) (next_point b ps)
-goes (AfterPoint b ps) End s' h = cc
-goes (AfterPoint b ps) (Word w) s' h = cc
-goes (AfterRing b) Open s' h = cc
 goes (AfterRing b) Close s' h = subst (Goes (AfterRing b) Close) (cc h) (closes_body b)
 goes (AfterRing b) Comma s' h = subst (Goes (AfterRing b) Comma) (cc h) (next_ring b)
-goes (AfterRing b) End s' h = cc
-goes (AfterRing b) (Word w) s' h = cc
-goes (AfterBody ms) Open s' h = cc
 goes (AfterBody ms) Close s' h = subst (Goes (AfterBody ms) Close) (cc h) (closes_text ms)
 goes (AfterBody ms) Comma s' h = subst (Goes (AfterBody ms) Comma) (cc h) (next_body ms)
-goes (AfterBody ms) End s' h = cc
-goes (AfterBody ms) (Word w) s' h = cc
-goes (AtEnd ms) Open s' h = cc
-goes (AtEnd ms) Close s' h = cc
-goes (AtEnd ms) Comma s' h = cc
 goes (AtEnd ms) End s' h = subst (Goes (AtEnd ms) End) (cc h) (finishes ms)
-goes (AtEnd ms) (Word w) s' h = cc
-goes (Finished ms) t s' h = cc
+goes _ _ s' h = cc
 
 pub run-append : (s : State) (a b : List Token) → run s (a ++ b) ≡ and_then (run s a) (λ s. run s b)
 run-append s [] b = refl

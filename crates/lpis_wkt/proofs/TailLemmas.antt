@@ -1,14 +1,8 @@
 -- How the tokens before each state end.
 use Rattle.std.proofs.Common.{◌≡◌, ℕ, suc, ◌<◌, Bool, true, false, cond, List, [], ◌∷◌, ◌++◌, length, Ok, refl, sym, ap, subst, append_assoc, arith, length-append, append-nil}
-use Rattle.lpis_points.specs.declared.point.Point.{Point}
-use Rattle.lpis_rings.specs.declared.polygon.Member.{Member}
-use Rattle.lpis_wkt.specs.Tokens.{Token, Open, Close, Comma, Word, End}
-use Rattle.lpis_wkt.specs.Number.{number}
-use Rattle.lpis_wkt.specs.private.Coordinates.{point_of}
-use Rattle.lpis_wkt.specs.Grammar.{PointText, Commas}
+use Rattle.lpis_wkt.proofs.Common.{Point, Member, Token, Open, Close, Comma, Word, End, number, point_of, PointText, Commas, State, AtKeyword, AfterKeyword, AtBody, AtRing, AtX, AtY, AfterPoint}
+use Rattle.lpis_wkt.proofs.Common.{AfterRing, AfterBody, AtEnd, Finished, open_text, member_of, run}
 use Rattle.lpis_wkt.specs.Table.{RingSoFar, EndsWith}
-use Rattle.lpis_wkt.specs.private.Machine.{State, AtKeyword, AfterKeyword, AtBody, AtRing, AtX, AtY, AfterPoint, AfterRing, AfterBody, AtEnd, Finished, open_text, member_of}
-use Rattle.lpis_wkt.specs.private.Machine.{run}
 use Rattle.lpis_wkt.proofs.PointLemmas.{ok-coordinate}
 use Rattle.lpis_wkt.proofs.StepLemmas.{then-ok, Goes, goes, takes_keyword, opens_text, opens_body, opens_ring, takes_x, takes_y, closes_ring, next_point, closes_body, next_ring, closes_text}
 use Rattle.lpis_wkt.proofs.StepLemmas.{next_body, finishes}
@@ -23,14 +17,12 @@ abbrev pub Tail : State → List Token → Type 0
 Tail (AtX b ps) before = (front body : List Token) × (before ≡ front ++ Open ∷ body) × Pending ps body
 Tail (AtY b ps x) before = (front body : List Token) × (w : List ℕ) × (before ≡ front ++ Open ∷ body ++ Word w ∷ []) × (number w ≡ Ok x.value) × Pending ps body
 Tail (AfterPoint b ps) before = RingSoFar before ps
-Tail (AfterRing b) before = EndsWith before Close
-Tail (AfterBody ms) before = EndsWith before Close
-Tail (AtEnd ms) before = EndsWith before Close
 Tail AtKeyword before = before ≡ []
 Tail (AfterKeyword m) before = length before ≡ 1
 Tail (AtBody ms) before = 1 < length before
 Tail (AtRing b) before = 1 < length before
 Tail (Finished ms) before = EndsWith before End
+Tail _ before = EndsWith before Close
 
 commas-snoc : (ps : List Point) (p : Point) (text f : List Token) → Commas PointText ps text → PointText p f → Commas PointText (ps ++ p ∷ []) (text ++ Comma ∷ f)
 commas-snoc [] p text f h k = absurd h

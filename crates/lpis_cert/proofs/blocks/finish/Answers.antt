@@ -1,9 +1,5 @@
-use Rattle.lpis_cert.specs.Limits.{greatest_count}
 use Rattle.std.proofs.Common.{◌≡◌, map, length, arith, ◌∙◌, ◌<◌, ◌≤◌}
-use Rattle.std.proofs.lemmas.Bool.Decides.{nat_tests}
-use Rattle.std.proofs.lemmas.Result.{err_from_is_err_and}
-use Rattle.std.proofs.lemmas.List.{length-map}
-use Rattle.lpis_cert.specs.Contents.{piece_of, parcel_of, separator_of}
+use Rattle.lpis_cert.proofs.Common.{greatest_count, nat_tests, err_from_is_err_and, length-map, piece_of, parcel_of, separator_of}
 use Rattle.lpis_cert.proofs.BlockLemmas.{separators_fit}
 use Rattle.lpis_cert.proofs.DraftLemmas.{pairs_fault, end_fault, trailing_fault, pairs_follow, whole_of, whole_cert}
 use Rattle.lpis_cert.proofs.blocks.finish.Goals as goal

@@ -1,7 +1,5 @@
 use Rattle.std.proofs.Common.{refl}
-use Rattle.std.proofs.lemmas.Result.{err_from_is_err_and}
-use Rattle.lpis_cert.specs.declared.kind.Expected.TheVariants.{Block}
-use Rattle.lpis_cert.specs.private.Drafts.{draft_place}
+use Rattle.lpis_cert.proofs.Common.{err_from_is_err_and, Block, draft_place}
 use Rattle.lpis_cert.proofs.StepLemmas.{fault_here}
 use Rattle.lpis_cert.proofs.blocks.next_block.Goals as goal
 

@@ -1,10 +1,6 @@
 use Rattle.lpis_cert.specs.declared.kind.Stage.TheVariants as stage
 use Rattle.std.proofs.Common.{◌≡◌, ◌++◌, ◌∷◌, [], map, arith, ◌∙◌}
-use Rattle.std.proofs.lemmas.Result.{err_from_is_err_and}
-use Rattle.std.proofs.lemmas.List.{length-map}
-use Rattle.lpis_cert.specs.CertText.{ParcelBlock}
-use Rattle.lpis_cert.specs.Faults.{InBody, grow_flats}
-use Rattle.lpis_cert.specs.Contents.{piece_of, parcel_of, all_corners, corner_numbers}
+use Rattle.lpis_cert.proofs.Common.{err_from_is_err_and, length-map, ParcelBlock, InBody, grow_flats, piece_of, parcel_of, all_corners, corner_numbers}
 use Rattle.lpis_cert.proofs.BlockLemmas.{all_corners_fit}
 use Rattle.lpis_cert.proofs.StepLemmas.{fault_after}
 use Rattle.lpis_cert.proofs.DraftLemmas.{too_many_parcel, parcel_open, parcel_grown, parcel_pushed}

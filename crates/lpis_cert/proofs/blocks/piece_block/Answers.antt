@@ -1,16 +1,11 @@
 use Rattle.lpis_cert.specs.declared.kind.Stage.TheVariants as stage
 use Rattle.std.proofs.Common.{◌≡◌, ◌++◌, ◌∷◌, [], map, arith, ◌∙◌, ◌<◌, ◌+◌, ◌⊎◌, inl, inr}
-use Rattle.std.proofs.lemmas.Result.{err_from_is_err_and}
-use Rattle.std.proofs.lemmas.List.{length-map}
-use Rattle.lpis_cert.specs.Limits.{most_triangles, most_flats}
-use Rattle.lpis_cert.specs.CertText.{PieceBlock}
-use Rattle.lpis_cert.specs.Faults.{grow}
-use Rattle.lpis_cert.specs.Contents.{piece_of, parcel_of, all_corners, corner_numbers}
+use Rattle.lpis_cert.proofs.Common.{err_from_is_err_and, length-map, most_triangles, most_flats, PieceBlock, grow, piece_of, parcel_of, all_corners, corner_numbers}
 use Rattle.lpis_cert.proofs.BlockLemmas.{all_corners_fit}
 use Rattle.lpis_cert.proofs.DraftLemmas.{too_many_piece, piece_grown, piece_fault, flat_fault, piece_pushed}
-use Rattle.lpis_cert.proofs.blocks.piece_block.Goals as goal
 use Rattle.lpis_cert.proofs.blocks.piece_block.Goals.{then-all_triangles-gt-MOST_TRIANGLES-via-then-all_triangles-gt-MOST_TRIANGLES}
 use Rattle.lpis_cert.proofs.blocks.piece_block.Goals.{then-all_triangles-gt-MOST_TRIANGLES-via-else-all_triangles-gt-MOST_TRIANGLES+then-all_flats-gt-MOST_FLATS}
+use Rattle.lpis_cert.proofs.blocks.piece_block.Goals as goal
 
 pub returns-then-all_triangles-gt-MOST_TRIANGLES-clause-err : goal.returns-then-all_triangles-gt-MOST_TRIANGLES-clause-err
 returns-then-all_triangles-gt-MOST_TRIANGLES-clause-err c =

@@ -1,4 +1,4 @@
-use Rattle.lpis_cert.specs.Contents.{corner_numbers}
+use Rattle.lpis_cert.proofs.Common.{corner_numbers}
 use Rattle.lpis_cert.proofs.FastPathLemmas.{corners_begin}
 use Rattle.lpis_cert.proofs.fast_path.leading_corners.Goals as goal
 

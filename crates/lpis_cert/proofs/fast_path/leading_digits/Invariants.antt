@@ -1,5 +1,5 @@
 use Rattle.std.proofs.Common.{◌≡◌, ◌≤◌, take, Some}
-use Rattle.lpis_cert.specs.Reading.{digits_on}
+use Rattle.lpis_cert.proofs.Common.{digits_on}
 use Rattle.lpis_cert.proofs.fast_path.leading_digits.Given as goal
 
 abbrev pub invariant-loop-b : goal.invariant-loop-b

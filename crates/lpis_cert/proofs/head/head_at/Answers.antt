@@ -1,5 +1,5 @@
 use Rattle.std.proofs.Common.{refl}
-use Rattle.lpis_cert.specs.CertText.{PieceLine, ParcelLine, PairsLine}
+use Rattle.lpis_cert.proofs.Common.{PieceLine, ParcelLine, PairsLine}
 use Rattle.lpis_cert.proofs.StepLemmas.{taken, untaken}
 use Rattle.lpis_cert.proofs.HeadLemmas.{values_piece, values_parcel, values_pairs, stands_of, no_block}
 use Rattle.lpis_cert.proofs.head.head_at.Goals as goal

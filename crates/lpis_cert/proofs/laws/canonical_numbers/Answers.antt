@@ -1,5 +1,5 @@
 use Rattle.std.proofs.Common.{◌∙◌, ap}
-use Rattle.lpis_cert.specs.Reading.{number}
+use Rattle.lpis_cert.proofs.Common.{number}
 use Rattle.lpis_cert.proofs.NumberLemmas.{number_again, number_takes}
 use Rattle.lpis_cert.proofs.laws.canonical_numbers.Goals as goal
 

@@ -1,7 +1,6 @@
 use Rattle.std.proofs.Common.{refl}
+use Rattle.lpis_cert.proofs.Common.{corner_numbers, corner_line}
 use Rattle.lpis_cert.proofs.BlockLemmas.{corner_taken, corner_untaken}
-use Rattle.lpis_cert.specs.Contents.{corner_numbers}
-use Rattle.lpis_cert.specs.private.Taken.{corner_line}
 use Rattle.lpis_cert.proofs.FastPathLemmas.{begun}
 use Rattle.lpis_cert.proofs.lines.corner_line.Goals as goal
 

@@ -1,7 +1,5 @@
 use Rattle.std.proofs.Common.{◌≡◌, ◌+◌, ◌++◌, ◌∷◌, [], ap, ◌∙◌, length-append, refl, ℕ}
-use Rattle.std.proofs.lemmas.Result.{err_from_is_err_and}
-use Rattle.std.proofs.lemmas.List.{length-map}
-use Rattle.lpis_cert.specs.Contents.{corner_numbers, all_corners}
+use Rattle.lpis_cert.proofs.Common.{err_from_is_err_and, length-map, corner_numbers, all_corners}
 use Rattle.lpis_cert.proofs.StepLemmas.{follows_none}
 use Rattle.lpis_cert.proofs.BlockLemmas.{corner_fault, corner_more, all_corners_fit}
 use Rattle.lpis_cert.proofs.lines.corner_lines.Goals as goal

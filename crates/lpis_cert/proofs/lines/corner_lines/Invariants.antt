@@ -1,6 +1,5 @@
 use Rattle.std.proofs.Common.{◌≡◌, map, length}
-use Rattle.lpis_cert.specs.private.Taken.{ReadsLines, corner_line}
-use Rattle.lpis_cert.specs.Contents.{all_corners}
+use Rattle.lpis_cert.proofs.Common.{ReadsLines, corner_line, all_corners}
 use Rattle.lpis_cert.proofs.lines.corner_lines.Given as goal
 
 abbrev pub invariant-loop : goal.invariant-loop

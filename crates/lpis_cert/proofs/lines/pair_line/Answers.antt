@@ -1,6 +1,6 @@
 use Rattle.std.proofs.Common.{refl}
+use Rattle.lpis_cert.proofs.Common.{separator_of}
 use Rattle.lpis_cert.proofs.BlockLemmas.{pair_taken, pair_untaken}
-use Rattle.lpis_cert.specs.Contents.{separator_of}
 use Rattle.lpis_cert.proofs.lines.pair_line.Goals as goal
 
 pub returns-in-Some : goal.returns-in-Some

@@ -1,7 +1,5 @@
 use Rattle.std.proofs.Common.{◌≡◌, ◌+◌, ◌++◌, ◌∷◌, [], map, ap, ◌∙◌, length-append, refl, ℕ}
-use Rattle.std.proofs.lemmas.Result.{err_from_is_err_and}
-use Rattle.std.proofs.lemmas.List.{length-map}
-use Rattle.lpis_cert.specs.Contents.{separator_of}
+use Rattle.lpis_cert.proofs.Common.{err_from_is_err_and, length-map, separator_of}
 use Rattle.lpis_cert.proofs.StepLemmas.{follows_none}
 use Rattle.lpis_cert.proofs.BlockLemmas.{pair_fault, pair_more, separators_fit}
 use Rattle.lpis_cert.proofs.lines.pair_lines.Goals as goal

@@ -1,7 +1,5 @@
 use Rattle.std.proofs.Common.{◌≡◌, map, length}
-use Rattle.lpis_cert.specs.CertText.{PairLine}
-use Rattle.lpis_cert.specs.private.Taken.{ReadsLines}
-use Rattle.lpis_cert.specs.Contents.{separator_of}
+use Rattle.lpis_cert.proofs.Common.{PairLine, ReadsLines, separator_of}
 use Rattle.lpis_cert.proofs.lines.pair_lines.Given as goal
 
 abbrev pub invariant-loop : goal.invariant-loop

@@ -1,9 +1,8 @@
 use Rattle.std.proofs.Common.{refl, ◌∙◌, sym}
+use Rattle.lpis_cert.proofs.Common.{lines_of, content_of, draft_place}
 use Rattle.lpis_cert.proofs.StepLemmas.{follows_none}
 use Rattle.lpis_cert.proofs.ReadLemmas.{follows_grown, whole_text}
-use Rattle.lpis_cert.specs.CertText.{lines_of}
-use Rattle.lpis_cert.specs.Contents.{content_of}
-use Rattle.lpis_cert.specs.private.Drafts.{draft_lines, draft_place}
+use Rattle.lpis_cert.specs.private.Drafts.{draft_lines}
 use Rattle.lpis_cert.proofs.reading.read_blocks.Goals as goal
 
 pub reading-init : goal.reading-init

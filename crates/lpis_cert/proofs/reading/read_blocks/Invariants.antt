@@ -1,7 +1,6 @@
 use Rattle.std.proofs.Common.{◌≡◌, length}
-use Rattle.lpis_cert.specs.Faults.{lines, outcome, InBody, none_declared}
-use Rattle.lpis_cert.specs.private.Drafts.{draft_lines, draft_place}
-use Rattle.lpis_cert.specs.private.Taken.{ReadsLines}
+use Rattle.lpis_cert.proofs.Common.{lines, outcome, InBody, none_declared, draft_place, ReadsLines}
+use Rattle.lpis_cert.specs.private.Drafts.{draft_lines}
 use Rattle.lpis_cert.specs.declared.kind.Stage.TheVariants.{Pieces}
 use Rattle.lpis_cert.proofs.reading.read_blocks.Given as goal
 

@@ -1,5 +1,5 @@
 use Rattle.std.proofs.Common.{◌∙◌, sym}
-use Rattle.lpis_cert.specs.Faults.{is_lf}
+use Rattle.lpis_cert.proofs.Common.{is_lf}
 use Rattle.lpis_cert.proofs.SplittingLemmas.{whole, takes_line}
 use Rattle.lpis_cert.proofs.rest.front_line.Goals as goal
 

@@ -1,6 +1,5 @@
 use Rattle.std.proofs.Common.{◌≡◌, ◌∙◌, sym, true, false, arith, get_or, eq-eqb}
-use Rattle.std.proofs.lemmas.Bool.Decides.{nat_tests}
-use Rattle.lpis_cert.specs.Reading.{is_gap}
+use Rattle.lpis_cert.proofs.Common.{nat_tests, is_gap}
 use Rattle.lpis_cert.proofs.SplittingLemmas.{count_is, stopped, ended}
 use Rattle.lpis_cert.proofs.words.count.Goals as goal
 

@@ -1,5 +1,5 @@
 use Rattle.std.proofs.Common.{take}
-use Rattle.std.specs.Io.KnownBytes.{Appends}
+use Rattle.lpis_cert.proofs.Common.{Appends}
 use Rattle.lpis_cert.specs.private.Written.{corners_text}
 use Rattle.lpis_cert.proofs.writing.write_all_corners.Given as goal
 

@@ -1,6 +1,5 @@
-use Rattle.std.proofs.Common.{take}
-use Rattle.std.specs.List.{flat_map}
-use Rattle.std.specs.Io.KnownBytes.{Appends}
+use Rattle.std.proofs.Common.{take, flat_map}
+use Rattle.lpis_cert.proofs.Common.{Appends}
 use Rattle.lpis_cert.specs.private.Written.{parcel_text}
 use Rattle.lpis_cert.proofs.writing.write_parcels.Given as goal
 

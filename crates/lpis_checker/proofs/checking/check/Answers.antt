@@ -1,4 +1,4 @@
-use Rattle.lpis_checker.specs.FirstFault.{HoldBelow}
+use Rattle.lpis_checker.proofs.Common.{HoldBelow}
 use Rattle.lpis_checker.proofs.LowestLemmas.{all_hold}
 use Rattle.lpis_checker.proofs.SoundMapLemmas.{good_means_sound}
 use Rattle.lpis_checker.proofs.checking.check.Goals as goal

@@ -1,6 +1,5 @@
 use Rattle.std.proofs.Common.{arith}
-use Rattle.lpis_checker.specs.declared.condition.Condition.TheVariants.{Names, Triangles, Turned, Flats, Corners, PieceEdges, ParcelEdges}
-use Rattle.lpis_checker.specs.FirstFault.{HoldBelow}
+use Rattle.lpis_checker.proofs.Common.{Names, Triangles, Turned, Flats, Corners, PieceEdges, ParcelEdges, HoldBelow}
 use Rattle.lpis_checker.proofs.OffLinesLemmas.{turns_add}
 use Rattle.lpis_checker.proofs.SoundMapLemmas.{areas_add}
 use Rattle.lpis_checker.proofs.checking.check_parts.Goals as goal

@@ -1,5 +1,5 @@
 use Rattle.std.proofs.Common.{◌≡◌, ◌++◌, take}
-use Rattle.lpis_checker.specs.Corners.{corners_of}
+use Rattle.lpis_checker.proofs.Common.{corners_of}
 use Rattle.lpis_checker.proofs.corners.add_corners.Given as goal
 
 abbrev pub invariant-loop-member : goal.invariant-loop-member

@@ -1,6 +1,5 @@
 use Rattle.std.proofs.Common.{◌≡◌, ◌++◌}
-use Rattle.lpis_parcels.specs.Release.{pieces_named}
-use Rattle.lpis_checker.specs.Corners.{corners_of_pieces}
+use Rattle.lpis_checker.proofs.Common.{pieces_named, corners_of_pieces}
 use Rattle.lpis_checker.proofs.corners.add_corners_of_pieces.Given as goal
 
 abbrev pub invariant-loop-piece : goal.invariant-loop-piece

@@ -1,7 +1,5 @@
 use Rattle.std.proofs.Common.{◌∙◌, ◌++◌, List, ap}
-use Rattle.lpis_points.specs.declared.point.Point.{Point}
-use Rattle.lpis_parcels.specs.Release.{pieces_named}
-use Rattle.lpis_checker.specs.Corners.{corners_of, corners_of_pieces}
+use Rattle.lpis_checker.proofs.Common.{Point, pieces_named, corners_of, corners_of_pieces}
 use Rattle.lpis_checker.proofs.PointSetLemmas.{told_of}
 use Rattle.lpis_checker.proofs.corners.has_corners_of_parcel.Goals as goal
 

@@ -1,7 +1,5 @@
 use Rattle.std.proofs.Common.{◌∙◌, ◌++◌, List, ap, ap₂}
-use Rattle.lpis_points.specs.declared.point.Point.{Point}
-use Rattle.lpis_points.specs.declared.triangle.Triangle.{Triangle}
-use Rattle.lpis_checker.specs.Corners.{corners_of}
+use Rattle.lpis_checker.proofs.Common.{Point, Triangle, corners_of}
 use Rattle.lpis_checker.proofs.PointSetLemmas.{told_of}
 use Rattle.lpis_checker.proofs.corners.has_corners_of_piece.Goals as goal
 

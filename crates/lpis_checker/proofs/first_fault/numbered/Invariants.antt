@@ -1,5 +1,5 @@
 use Rattle.std.proofs.Common.{◌≡◌, take}
-use Rattle.lpis_checker.specs.GoodCertificate.{triangles_of}
+use Rattle.lpis_checker.proofs.Common.{triangles_of}
 use Rattle.lpis_checker.proofs.first_fault.numbered.Given as goal
 
 abbrev pub invariant-loop-part : goal.invariant-loop-part

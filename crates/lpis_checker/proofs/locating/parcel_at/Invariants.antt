@@ -1,6 +1,5 @@
 use Rattle.std.proofs.Common.{All, take}
-use Rattle.lpis_points.specs.RatPoints.{rational_of}
-use Rattle.lpis_parcels.specs.declared.parcel.Parcel.{Parcel}
+use Rattle.lpis_checker.proofs.Common.{rational_of, Parcel}
 use Rattle.lpis_checker.specs.SoundMap.{IsInParcel}
 use Rattle.lpis_checker.proofs.locating.parcel_at.Given as goal
 

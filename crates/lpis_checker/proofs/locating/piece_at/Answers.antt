@@ -1,9 +1,6 @@
-use Rattle.std.proofs.Common.{◌≡◌, ◌∷◌, [], List, All, sym, subst}
-use Rattle.std.specs.Prelude.{Contains}
-use Rattle.std.proofs.lemmas.List.Elements.{All-cons, Contains-append_right}
-use Rattle.lpis_points.specs.RatPoints.{rational_of}
-use Rattle.lpis_covers.specs.declared.piece.Piece.{Piece}
-use Rattle.lpis_checker.specs.SoundMap.{IsInPiece}
+use Rattle.std.proofs.Common.{◌≡◌, ◌∷◌, [], List, All, sym, subst, Contains}
+use Rattle.lpis_checker.proofs.Common.{Contains-append_right, rational_of, Piece, IsInPiece}
+use Rattle.std.proofs.lemmas.List.Elements.{All-cons}
 use Rattle.lpis_checker.proofs.SiteLemmas.{untrue}
 use Rattle.lpis_checker.proofs.locating.piece_at.Goals as goal
 

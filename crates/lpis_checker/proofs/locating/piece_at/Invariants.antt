@@ -1,9 +1,5 @@
-use Rattle.std.proofs.Common.{All}
-use Rattle.std.specs.Prelude.{Contains}
-use Rattle.lpis_points.specs.RatPoints.{rational_of}
-use Rattle.lpis_covers.specs.declared.piece.Piece.{Piece}
-use Rattle.lpis_parcels.specs.Release.{pieces_named}
-use Rattle.lpis_checker.specs.SoundMap.{IsInPiece}
+use Rattle.std.proofs.Common.{All, Contains}
+use Rattle.lpis_checker.proofs.Common.{rational_of, Piece, pieces_named, IsInPiece}
 use Rattle.lpis_checker.proofs.locating.piece_at.Given as goal
 
 abbrev pub invariant-loop-piece : goal.invariant-loop-piece

@@ -1,7 +1,7 @@
 use Rattle.std.proofs.Common.{◌∙◌, List, length, sum_by, sym, ap}
+use Rattle.lpis_checker.proofs.Common.{PiecePart}
 use Rattle.std.proofs.lemmas.List.{take_all}
 use Rattle.std.proofs.lemmas.List.Concat.{length-flat_map}
-use Rattle.lpis_cert.specs.declared.part.PiecePart.{PiecePart}
 use Rattle.lpis_checker.proofs.names.triangle_count.Goals as goal
 
 pub returns : goal.returns

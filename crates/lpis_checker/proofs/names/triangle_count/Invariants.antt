@@ -1,5 +1,5 @@
 use Rattle.std.proofs.Common.{◌≡◌, length, sum_by, take}
-use Rattle.lpis_cert.specs.declared.part.PiecePart.{PiecePart}
+use Rattle.lpis_checker.proofs.Common.{PiecePart}
 use Rattle.lpis_checker.proofs.names.triangle_count.Given as goal
 
 abbrev pub invariant-loop-part : goal.invariant-loop-part

@@ -1,6 +1,5 @@
-use Rattle.std.proofs.Common.{◌≡◌, ℕ, ◌<◌, ◌≤◌, Some}
-use Rattle.std.specs.List.{slice_get}
-use Rattle.lpis_cert.specs.declared.part.PairLine.{PairLine}
+use Rattle.std.proofs.Common.{◌≡◌, ℕ, ◌<◌, ◌≤◌, Some, slice_get}
+use Rattle.lpis_checker.proofs.Common.{PairLine}
 use Rattle.lpis_pairs.specs.NearPairs.{IsBelow}
 use Rattle.lpis_checker.proofs.near_pairs.skip_to.Given as goal
 

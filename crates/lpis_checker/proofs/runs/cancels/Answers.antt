@@ -1,6 +1,5 @@
 use Rattle.std.proofs.Common.{◌≡◌, pos, sym, ◌∙◌, subst, List, arith}
-use Rattle.lpis_checker.specs.declared.signed.SignedEdge.{SignedEdge}
-use Rattle.lpis_checker.specs.private.SignedEdges.{sum_at, IsGrouped}
+use Rattle.lpis_checker.proofs.Common.{SignedEdge, sum_at, IsGrouped}
 use Rattle.lpis_checker.proofs.GroupingLemmas.{grouped}
 use Rattle.lpis_checker.proofs.RunLemmas.{sum_at-permutation}
 use Rattle.lpis_checker.proofs.runs.cancels.Goals as goal

@@ -1,11 +1,9 @@
 use Rattle.std.proofs.Common.{◌≡◌, ℕ, ◌+◌, ◌<◌, ◌≤◌, ◌^◌, ℤ, pos, ◌+ℤ◌, nat_abs, true, false, length, sym, refl, subst, arith, to_z, of_z, w64, SFits}
-use Rattle.std.proofs.lemmas.Int.{ints}
-use Rattle.std.proofs.lemmas.Option.{slice_get_read}
-use Rattle.lpis_checker.specs.private.SignedEdges.{weight}
+use Rattle.lpis_checker.proofs.Common.{ints, slice_get_read, weight}
 use Rattle.lpis_checker.proofs.SiteLemmas.{untrue}
 use Rattle.lpis_checker.proofs.RunLemmas.{WalkAt, walk_none, walk_zero, walk_on, walk_all, walk_fault}
-use Rattle.lpis_checker.proofs.runs.runs_cancel.Goals as goal
 use Rattle.lpis_checker.proofs.runs.runs_cancel.Goals.{then-sum-ne0+else-ends_run, else-sum-ne0}
+use Rattle.lpis_checker.proofs.runs.runs_cancel.Goals as goal
 
 next_fits : (s r : ℤ) (k n : ℕ) → nat_abs s ≤ k → k < n → n < 2 ^ 63 → nat_abs r ≤ 1 → SFits w64 (s +ℤ to_z w64 (of_z w64 r))
 next_fits s r k n h l m g = omega (arith, ints)

@@ -1,7 +1,5 @@
 use Rattle.std.proofs.Common.{◌≤◌, length, List, subst, arith}
-use Rattle.lpis_cert.specs.declared.part.PairLine.{PairLine}
-use Rattle.lpis_checker.specs.GoodCertificate.{Holds}
-use Rattle.lpis_checker.specs.declared.condition.Site.TheVariants.{LineAt}
+use Rattle.lpis_checker.proofs.Common.{PairLine, Holds, LineAt}
 use Rattle.lpis_checker.proofs.SiteLemmas.{at_all_sites, at_each, first_at_line, of_lines, one_more, past_lines, untrue}
 use Rattle.lpis_checker.proofs.searching.first_line.Goals as goal
 

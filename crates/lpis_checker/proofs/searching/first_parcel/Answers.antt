@@ -1,8 +1,5 @@
 use Rattle.std.proofs.Common.{◌≤◌, length, List, rules, subst}
-use Rattle.lpis_parcels.specs.declared.parcel.Parcel.{Parcel}
-use Rattle.lpis_cert.specs.declared.part.ParcelPart.{ParcelPart}
-use Rattle.lpis_checker.specs.GoodCertificate.{Holds}
-use Rattle.lpis_checker.specs.declared.condition.Site.TheVariants.{ParcelAt}
+use Rattle.lpis_checker.proofs.Common.{Parcel, ParcelPart, Holds, ParcelAt}
 use Rattle.lpis_checker.proofs.SiteLemmas.{at_each, past_parcels}
 use Rattle.lpis_checker.proofs.searching.first_parcel.Goals as goal
 

@@ -1,6 +1,5 @@
 use Rattle.std.proofs.Common.{ℕ, ◌<◌}
-use Rattle.lpis_checker.specs.GoodCertificate.{Holds}
-use Rattle.lpis_checker.specs.declared.condition.Site.TheVariants.{ParcelAt}
+use Rattle.lpis_checker.proofs.Common.{Holds, ParcelAt}
 use Rattle.lpis_checker.proofs.searching.first_parcel.Given as goal
 
 abbrev pub invariant-loop-place : goal.invariant-loop-place

@@ -1,8 +1,5 @@
 use Rattle.std.proofs.Common.{◌≤◌, length, List, rules, subst}
-use Rattle.lpis_covers.specs.declared.piece.Piece.{Piece}
-use Rattle.lpis_cert.specs.declared.part.PiecePart.{PiecePart}
-use Rattle.lpis_checker.specs.GoodCertificate.{Holds}
-use Rattle.lpis_checker.specs.declared.condition.Site.TheVariants.{PieceAt}
+use Rattle.lpis_checker.proofs.Common.{Piece, PiecePart, Holds, PieceAt}
 use Rattle.lpis_checker.proofs.SiteLemmas.{at_each, past_pieces}
 use Rattle.lpis_checker.proofs.searching.first_piece.Goals as goal
 

@@ -1,9 +1,7 @@
 use Rattle.std.proofs.Common.{◌↔◌, IsTrue, List, subst, sym, arith}
-use Rattle.lpis_points.specs.declared.triangle.Triangle.{Triangle}
+use Rattle.lpis_checker.proofs.Common.{Triangle, Holds, LineSeparates, triangles_of, Condition, LineAt}
 use Rattle.lpis_pairs.specs.NearPairs.{IsNear}
-use Rattle.lpis_checker.specs.GoodCertificate.{Holds, LineSeparates, OfTwo, triangles_of}
-use Rattle.lpis_checker.specs.declared.condition.Condition.{Condition}
-use Rattle.lpis_checker.specs.declared.condition.Site.TheVariants.{LineAt}
+use Rattle.lpis_checker.specs.GoodCertificate.{OfTwo}
 use Rattle.lpis_checker.proofs.SiteLemmas.{of_line}
 use Rattle.lpis_checker.proofs.PairLineLemmas.{line_read, near_two}
 use Rattle.lpis_checker.proofs.searching.holds_at_line.Goals as goal

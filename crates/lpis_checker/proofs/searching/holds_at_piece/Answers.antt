@@ -1,5 +1,5 @@
 use Rattle.std.proofs.Common.{rules}
-use Rattle.lpis_checker.specs.GoodCertificate.{OnPiece}
+use Rattle.lpis_checker.proofs.Common.{OnPiece}
 use Rattle.lpis_checker.proofs.SiteLemmas.{of_parts, past_first, past_second, read_in, told_of_both}
 use Rattle.lpis_checker.proofs.searching.holds_at_piece.Goals as goal
 

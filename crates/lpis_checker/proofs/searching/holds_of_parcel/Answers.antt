@@ -1,6 +1,5 @@
 use Rattle.std.proofs.Common.{◌↔◌, Bool, IfOk, IsTrue, subst, sym}
-use Rattle.lpis_checker.specs.GoodCertificate.{OnParcel}
-use Rattle.lpis_checker.specs.declared.condition.Condition.{Condition}
+use Rattle.lpis_checker.proofs.Common.{OnParcel, Condition}
 use Rattle.lpis_checker.proofs.searching.holds_of_parcel.Goals as goal
 
 pub returns-in-Corners : goal.returns-in-Corners

@@ -1,6 +1,5 @@
 use Rattle.std.proofs.Common.{◌↔◌, Bool, IfOk, IsTrue, subst, sym}
-use Rattle.lpis_checker.specs.GoodCertificate.{OnPiece}
-use Rattle.lpis_checker.specs.declared.condition.Condition.{Condition}
+use Rattle.lpis_checker.proofs.Common.{OnPiece, Condition}
 use Rattle.lpis_checker.proofs.searching.holds_of_piece.Goals as goal
 
 pub returns-in-Corners : goal.returns-in-Corners

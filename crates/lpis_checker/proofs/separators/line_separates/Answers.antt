@@ -1,5 +1,5 @@
 use Rattle.std.proofs.Common.{refl}
-use Rattle.lpis_checker.specs.GoodCertificate.{LineSeparates}
+use Rattle.lpis_checker.proofs.Common.{LineSeparates}
 use Rattle.lpis_checker.proofs.SiteLemmas.{of_both, read_at}
 use Rattle.lpis_checker.proofs.separators.line_separates.Goals as goal
 

@@ -1,6 +1,5 @@
 use Rattle.std.proofs.Common.{false, ap, List, ◌∙◌}
-use Rattle.lpis_covers.specs.declared.piece.Piece.{Piece}
-use Rattle.lpis_checker.specs.GoodCertificate.{edges_of_pieces}
+use Rattle.lpis_checker.proofs.Common.{Piece, edges_of_pieces}
 use Rattle.lpis_checker.proofs.NetSumLemmas.{growing_none, growing_more, growing_all}
 use Rattle.lpis_checker.proofs.signed.take_pieces.Goals as goal
 

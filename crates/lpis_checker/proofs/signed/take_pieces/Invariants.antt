@@ -1,6 +1,5 @@
 use Rattle.std.proofs.Common.{false}
-use Rattle.lpis_parcels.specs.Release.{pieces_named}
-use Rattle.lpis_checker.specs.GoodCertificate.{edges_of_pieces}
+use Rattle.lpis_checker.proofs.Common.{pieces_named, edges_of_pieces}
 use Rattle.lpis_checker.proofs.NetSumLemmas.{Growing}
 use Rattle.lpis_checker.proofs.signed.take_pieces.Given as goal
 

@@ -1,20 +1,19 @@
-use Rattle.std.proofs.Common.{◌≡◌, ◌∙◌, ◌++◌, ◌∷◌, [], ap, sym, rules, true, codes, ℕ, ℤ, List, Result, Ok, Err, OnOk, is_ok, Vec, Global}
+use Rattle.std.proofs.Common.{◌≡◌, ◌∙◌, ◌++◌, ◌∷◌, [], ap, sym, rules, true, codes, ℕ, ℤ, List, Result, Ok, Err, OnOk, is_ok, Vec, Global, Bor}
+use Rattle.lpis_commands.proofs.Common.{done}
 use Rattle.std.proofs.lemmas.Int.{to_z-of_z}
 use Rattle.std.proofs.lemmas.Result.{err_from_is_err_and}
-use Rattle.std.specs.Borrow.{Bor}
 use Rattle.lpis_rings.specs.declared.polygon.Member.{Member}
 use Rattle.lpis_covers.specs.declared.fault.Table.TheVariants.{Area}
 use Rattle.lpis_covers.specs.declared.fault.TableFault.{TableFault}
 use Rattle.lpis_covers.specs.declared.fault.TableFault.TheVariants.{Memory, At}
 use Rattle.lpis_covers.specs.Table.{Answers, AnswersBy, Reading, field_of, table_of, texts}
-use Rattle.lpis_covers.proofs.RowLemmas.{rows-end, rows-fault, rows-start, rows-step, rows-stop}
+use Rattle.lpis_covers.proofs.Shared.{rows-end, rows-fault, rows-start, rows-step, rows-stop}
 use Rattle.lpis_commands.specs.Area.{area_line}
 use Rattle.lpis_commands.specs.AreaAnswer.{answer_from, area_table, line_of}
-use Rattle.lpis_commands.specs.Status.{done}
 use Rattle.lpis_commands.proofs.ReportLemmas.{flat_map-push}
-use Rattle.lpis_commands.proofs.area.area_lines.Goals as goal
 use mir.Syntax.{w128}
 use mir.Val.{SFits}
+use Rattle.lpis_commands.proofs.area.area_lines.Goals as goal
 
 at-ok : {A E P : Type 0} (r : Result A E) → is_ok r ≡ true → OnOk r P → P
 at-ok (Ok a) is h = h

@@ -1,7 +1,6 @@
-use Rattle.std.proofs.Common.{◌≡◌, List, ℕ, length}
-use Rattle.std.specs.List.{flat_map}
+use Rattle.std.proofs.Common.{◌≡◌, List, ℕ, length, flat_map}
 use Rattle.lpis_rings.specs.declared.polygon.Member.{Member}
-use Rattle.lpis_covers.proofs.RowLemmas.{IsRead}
+use Rattle.lpis_covers.proofs.Shared.{IsRead}
 use Rattle.lpis_commands.specs.AreaAnswer.{area_table, line_of}
 use Rattle.lpis_commands.proofs.area.area_lines.Given as goal
 

@@ -1,7 +1,5 @@
-use Rattle.std.proofs.lemmas.Result.{IfOk-weaker}
+use Rattle.lpis_commands.proofs.Common.{IfOk-weaker, report_text, done}
 use Rattle.lpis_commands.specs.CheckAnswer.{IsCheckAnswer}
-use Rattle.lpis_commands.specs.Report.{report_text}
-use Rattle.lpis_commands.specs.Status.{done}
 use Rattle.lpis_commands.proofs.CheckLemmas.{answer-of-text}
 use Rattle.lpis_commands.proofs.check.answer_to_text.Goals as goal
 

@@ -1,5 +1,4 @@
-use Rattle.std.proofs.Common.{◌≡◌, length, take}
-use Rattle.std.specs.Prelude.{sum_by}
+use Rattle.std.proofs.Common.{◌≡◌, length, take, sum_by}
 use Rattle.lpis_commands.proofs.cut_line.count_triangles.Given as goal
 
 abbrev pub invariant-loop-piece : goal.invariant-loop-piece

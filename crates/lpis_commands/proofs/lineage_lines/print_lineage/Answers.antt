@@ -1,5 +1,4 @@
-use Rattle.lpis_lineage.specs.Changes.{kind_at}
-use Rattle.lpis_commands.specs.LineageLines.{lineage_line}
+use Rattle.lpis_commands.proofs.Common.{kind_at, lineage_line}
 use Rattle.lpis_commands.proofs.ReportLemmas.{text-goes-on}
 use Rattle.lpis_commands.proofs.lineage_lines.print_lineage.Goals as goal
 

@@ -1,8 +1,5 @@
-use Rattle.std.proofs.Common.{take}
-use Rattle.std.specs.Io.KnownBytes.{Appends}
-use Rattle.std.specs.List.{flat_map}
-use Rattle.lpis_lineage.specs.Changes.{kind_at}
-use Rattle.lpis_commands.specs.LineageLines.{lineage_line}
+use Rattle.std.proofs.Common.{take, flat_map}
+use Rattle.lpis_commands.proofs.Common.{Appends, kind_at, lineage_line}
 use Rattle.lpis_commands.proofs.lineage_lines.print_lineage.Given as goal
 
 -- the lines of the first identifiers were written

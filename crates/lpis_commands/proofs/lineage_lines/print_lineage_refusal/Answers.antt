@@ -1,5 +1,5 @@
 use Rattle.std.proofs.Common.{◌++◌, codes}
-use Rattle.csv.proofs.WriteFacts.{appends-more}
+use Rattle.lpis_commands.proofs.Common.{appends-more}
 use Rattle.lpis_commands.specs.LineageLines.{lineage_fault_text}
 use Rattle.lpis_commands.proofs.lineage_lines.print_lineage_refusal.Goals as goal
 

@@ -1,5 +1,5 @@
 use Rattle.std.proofs.Common.{◌≤◌, length, take}
-use Rattle.std.specs.Io.KnownBytes.{Appends}
+use Rattle.lpis_commands.proofs.Common.{Appends}
 use Rattle.lpis_commands.proofs.outputs.write_text.Given as goal
 
 -- the first bytes of the text were written

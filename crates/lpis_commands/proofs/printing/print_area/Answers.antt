@@ -4,8 +4,8 @@ use lib.Signed.{lt_z}
 use mir.Syntax.{w128}
 use Rattle.lpis_commands.specs.Area.{sign_text}
 use Rattle.lpis_commands.proofs.AreaLemmas.{area-shown, sign-above, sign-below}
-use Rattle.lpis_commands.proofs.printing.print_area.Goals as goal
 use Rattle.lpis_commands.proofs.printing.print_area.Goals.{then-d-lt0, else-d-lt0}
+use Rattle.lpis_commands.proofs.printing.print_area.Goals as goal
 
 pub returns : goal.returns
 returns g c =

@@ -1,4 +1,4 @@
-use Rattle.std.proofs.lemmas.Result.{IfOk-weaker}
+use Rattle.lpis_commands.proofs.Common.{IfOk-weaker}
 use Rattle.lpis_commands.specs.private.PublishRuns.{publication_of}
 use Rattle.lpis_commands.proofs.PublishLemmas.{both-ok, published-of}
 use Rattle.lpis_commands.proofs.publish.answer_to.Goals as goal

@@ -1,5 +1,5 @@
 use Rattle.std.proofs.Common.{subst}
-use Rattle.std.proofs.lemmas.Result.{IfOk-weaker}
+use Rattle.lpis_commands.proofs.Common.{IfOk-weaker}
 use Rattle.lpis_lineage.specs.Order.{IsAscending}
 use Rattle.lpis_commands.proofs.PublishLemmas.{answer-told}
 use Rattle.lpis_commands.proofs.publish.answer_to_checked.Goals as goal

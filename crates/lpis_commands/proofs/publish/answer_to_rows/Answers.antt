@@ -1,6 +1,5 @@
 use Rattle.std.proofs.Common.{◌∙◌, ap, inl}
-use Rattle.std.proofs.lemmas.Result.{IfOk-weaker}
-use Rattle.lpis_parcels.specs.Release.{Contents}
+use Rattle.lpis_commands.proofs.Common.{IfOk-weaker, Contents}
 use Rattle.lpis_commands.specs.PublishAnswer.{history_answer}
 use Rattle.lpis_commands.proofs.publish.answer_to_rows.Goals as goal
 

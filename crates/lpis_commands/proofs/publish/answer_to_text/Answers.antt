@@ -1,4 +1,4 @@
-use Rattle.std.proofs.lemmas.Result.{IfOk-weaker}
+use Rattle.lpis_commands.proofs.Common.{IfOk-weaker}
 use Rattle.lpis_commands.specs.PublishAnswer.{IsLineageAnswer}
 use Rattle.lpis_commands.proofs.CheckLemmas.{answer-of-text}
 use Rattle.lpis_commands.proofs.publish.answer_to_text.Goals as goal

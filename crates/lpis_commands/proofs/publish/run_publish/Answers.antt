@@ -1,5 +1,6 @@
 use Rattle.std.proofs.Common.{inl}
-use Rattle.std.proofs.lemmas.Result.{IfErr-weaker, IfOk-weaker}
+use Rattle.lpis_commands.proofs.Common.{IfOk-weaker}
+use Rattle.std.proofs.lemmas.Result.{IfErr-weaker}
 use Rattle.lpis_commands.specs.private.PublishRuns.{publication_of}
 use Rattle.lpis_commands.proofs.PublishLemmas.{ends-of}
 use Rattle.lpis_commands.proofs.publish.run_publish.Goals as goal

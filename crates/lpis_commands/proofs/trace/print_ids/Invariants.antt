@@ -1,6 +1,5 @@
-use Rattle.std.proofs.Common.{take}
-use Rattle.std.specs.Io.KnownBytes.{Appends}
-use Rattle.std.specs.List.{flat_map}
+use Rattle.std.proofs.Common.{take, flat_map}
+use Rattle.lpis_commands.proofs.Common.{Appends}
 use Rattle.lpis_commands.specs.TraceAnswer.{id_line}
 use Rattle.lpis_commands.proofs.trace.print_ids.Given as goal
 

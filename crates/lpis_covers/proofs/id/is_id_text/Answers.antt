@@ -1,6 +1,5 @@
-use Rattle.std.proofs.Common.{◌≡◌, length, true, arith}
-use Rattle.std.specs.Prelude.{nat_le}
-use Rattle.std.proofs.lemmas.Bool.Decides.{nat_tests}
+use Rattle.std.proofs.Common.{◌≡◌, length, true, arith, nat_le}
+use Rattle.lpis_covers.proofs.Common.{nat_tests}
 use Rattle.lpis_covers.proofs.id.is_id_text.Goals as goal
 
 pub returns-then-bytes-le-LONGEST_ID : goal.returns-then-bytes-le-LONGEST_ID

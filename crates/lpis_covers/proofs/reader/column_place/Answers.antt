@@ -1,10 +1,8 @@
-use Rattle.std.proofs.Common.{◌∙◌, ◌++◌, List, ℕ, sym, ap, arith}
-use Rattle.std.specs.Prelude.{option_to_list}
-use Rattle.csv.specs.Records.{fields_of}
-use Rattle.lpis_covers.specs.Table.{one_index}
+use Rattle.std.proofs.Common.{◌∙◌, ◌++◌, List, ℕ, sym, ap, arith, option_to_list}
+use Rattle.lpis_covers.proofs.Common.{fields_of, one_index}
 use Rattle.lpis_covers.proofs.ColumnLemmas.{no-field, place-end, place-first, place-twice, step-named, step-other}
-use Rattle.lpis_covers.proofs.reader.column_place.Goals as goal
 use Rattle.lpis_covers.proofs.reader.column_place.Goals.{in-Some+then-eq_ignore_ascii_case+else-is_some, in-Some+else-eq_ignore_ascii_case, in_default}
+use Rattle.lpis_covers.proofs.reader.column_place.Goals as goal
 
 pub returns-then-is_some : goal.returns-then-is_some
 returns-then-is_some c =

@@ -1,7 +1,6 @@
-use Rattle.std.proofs.Common.{◌≡◌, ◌++◌, drop}
-use Rattle.std.specs.Prelude.{option_to_list}
-use Rattle.csv.specs.Records.{fields_of}
-use Rattle.lpis_covers.specs.Table.{one_index, column_index, places_of_name}
+use Rattle.std.proofs.Common.{◌≡◌, ◌++◌, drop, option_to_list}
+use Rattle.lpis_covers.proofs.Common.{fields_of, one_index}
+use Rattle.lpis_covers.specs.Table.{column_index, places_of_name}
 use Rattle.lpis_covers.proofs.reader.column_place.Given as goal
 
 abbrev pub invariant-loop-i : goal.invariant-loop-i

@@ -1,7 +1,5 @@
-use Rattle.std.proofs.Common.{◌≡◌, ◌∙◌, sym, ap, refl, List, ℕ, rules, true, drop, ◌+◌}
-use Rattle.std.specs.Result.{is_ok}
-use Rattle.csv.specs.Records.{fields_of}
-use Rattle.lpis_covers.specs.Table.{places_of, texts}
+use Rattle.std.proofs.Common.{◌≡◌, ◌∙◌, sym, ap, refl, List, ℕ, rules, true, drop, ◌+◌, is_ok}
+use Rattle.lpis_covers.proofs.Common.{fields_of, places_of, texts}
 use Rattle.lpis_covers.proofs.ColumnLemmas.{after_places, places-bad, places-end, places-more}
 use Rattle.lpis_covers.proofs.reader.column_places.Goals as goal
 

@@ -1,6 +1,5 @@
 use Rattle.std.proofs.Common.{◌≡◌, drop}
-use Rattle.csv.specs.Records.{fields_of}
-use Rattle.lpis_covers.specs.Table.{places_of, texts}
+use Rattle.lpis_covers.proofs.Common.{fields_of, places_of, texts}
 use Rattle.lpis_covers.proofs.ColumnLemmas.{after_places}
 use Rattle.lpis_covers.proofs.reader.column_places.Given as goal
 

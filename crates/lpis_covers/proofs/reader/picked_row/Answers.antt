@@ -1,6 +1,6 @@
 use Rattle.std.proofs.Common.{◌≡◌, ◌∙◌, ◌+◌, ◌++◌, ◌∷◌, [], ℕ, List, Bor, drop, get_or, ap, refl}
-use Rattle.csv.specs.Records.{fields_of, partial_of}
-use Rattle.lpis_covers.specs.Table.{picked}
+use Rattle.lpis_covers.proofs.Common.{fields_of, picked}
+use Rattle.csv.specs.Records.{partial_of}
 use Rattle.lpis_covers.proofs.ColumnLemmas.{field-or, picked-more}
 use Rattle.lpis_covers.proofs.reader.picked_row.Goals as goal
 

@@ -1,6 +1,6 @@
 use Rattle.std.proofs.Common.{◌≡◌, ◌++◌, [], drop}
-use Rattle.csv.specs.Records.{fields_of, partial_of}
-use Rattle.lpis_covers.specs.Table.{picked}
+use Rattle.lpis_covers.proofs.Common.{fields_of, picked}
+use Rattle.csv.specs.Records.{partial_of}
 use Rattle.lpis_covers.proofs.reader.picked_row.Given as goal
 
 abbrev pub invariant-loop-place : goal.invariant-loop-place

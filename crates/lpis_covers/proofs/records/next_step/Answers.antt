@@ -1,5 +1,5 @@
 use Rattle.std.proofs.Common.{◌∙◌, sym, inl}
-use Rattle.csv.specs.Records.{fields_of}
+use Rattle.lpis_covers.proofs.Common.{fields_of}
 use Rattle.lpis_covers.proofs.ReaderLemmas.{read-ended, read-found, read-uneven}
 use Rattle.lpis_covers.proofs.records.next_step.Goals as goal
 

@@ -1,5 +1,5 @@
 use Rattle.std.proofs.Common.{◌≡◌, ◌++◌, length, map}
-use Rattle.csv.specs.Records.{fields_of}
+use Rattle.lpis_covers.proofs.Common.{fields_of}
 use Rattle.lpis_covers.proofs.rows.read_table.Given as goal
 
 abbrev pub invariant-rows : goal.invariant-rows

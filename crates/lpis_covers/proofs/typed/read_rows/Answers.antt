@@ -1,5 +1,5 @@
 use Rattle.std.proofs.Common.{refl}
-use Rattle.std.proofs.lemmas.Result.{err_from_is_err_and}
+use Rattle.lpis_covers.proofs.Common.{err_from_is_err_and}
 use Rattle.lpis_covers.proofs.RowLemmas.{rows-added, rows-end, rows-fault, rows-start, rows-stop}
 use Rattle.lpis_covers.proofs.typed.read_rows.Goals as goal
 

@@ -1,5 +1,5 @@
 use Rattle.std.proofs.Common.{◌≡◌, ◌++◌}
-use Rattle.lpis_rings.specs.Edges.{edges_of}
+use Rattle.lpis_cutter.proofs.Common.{edges_of}
 use Rattle.lpis_cutter.proofs.fans.edges_in.Given as goal
 
 abbrev pub invariant-loop-edge : goal.invariant-loop-edge

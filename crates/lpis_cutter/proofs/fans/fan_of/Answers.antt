@@ -1,6 +1,6 @@
 use Rattle.std.proofs.Common.{◌≡◌, ◌∙◌, Bool, true, false, List, sym, subst}
+use Rattle.lpis_cutter.proofs.Common.{edges_of}
 use Rattle.lpis_points.specs.declared.point.Point.{Point}
-use Rattle.lpis_rings.specs.Edges.{edges_of}
 use Rattle.lpis_cutter.specs.Fans.{SeesAll}
 use Rattle.lpis_cutter.proofs.fans.fan_of.Goals as goal
 

@@ -1,5 +1,5 @@
 use Rattle.std.proofs.Common.{◌≡◌, ◌+◌}
-use Rattle.lpis_parcels.specs.Release.{pieces_named}
+use Rattle.lpis_cutter.proofs.Common.{pieces_named}
 use Rattle.lpis_checker.specs.GoodCertificate.{edges_of_pieces}
 use Rattle.lpis_cutter.specs.private.Cutting.{times}
 use Rattle.lpis_cutter.proofs.telling.count_in_pieces.Given as goal

@@ -1,11 +1,7 @@
-use Rattle.std.proofs.Common.{◌≡◌, ◌∷◌, suc, List, All, sym, subst}
-use Rattle.std.specs.Prelude.{Any}
+use Rattle.std.proofs.Common.{◌≡◌, ◌∷◌, suc, List, All, sym, subst, Any}
+use Rattle.lpis_cutter.proofs.Common.{rational_of, Piece, IsInPiece}
 use Rattle.std.proofs.lemmas.List.Elements.{All-cons}
-use Rattle.lpis_points.specs.RatPoints.{rational_of}
-use Rattle.lpis_covers.specs.declared.piece.Piece.{Piece}
-use Rattle.lpis_checker.specs.SoundMap.{IsInPiece}
-use Rattle.lpis_checker.proofs.SiteLemmas.{untrue}
-use Rattle.lpis_checker.proofs.AreaSumLemmas.{any_found, found_any}
+use Rattle.lpis_checker.proofs.Shared.{untrue, any_found, found_any}
 use Rattle.lpis_cutter.proofs.telling.is_covered.Goals as goal
 
 any_later : {A : Type 0} (P : A → Type 0) (x : A) (xs : List A) → Any P xs → Any P (x ∷ xs)

@@ -1,9 +1,5 @@
-use Rattle.std.proofs.Common.{All}
-use Rattle.std.specs.Prelude.{Any}
-use Rattle.lpis_points.specs.RatPoints.{rational_of}
-use Rattle.lpis_parcels.specs.Release.{pieces_named}
-use Rattle.lpis_checker.specs.SoundMap.{IsInPiece}
-use Rattle.lpis_covers.specs.declared.piece.Piece.{Piece}
+use Rattle.std.proofs.Common.{All, Any}
+use Rattle.lpis_cutter.proofs.Common.{rational_of, pieces_named, IsInPiece, Piece}
 use Rattle.lpis_cutter.proofs.telling.is_covered.Given as goal
 
 abbrev pub invariant-loop-piece : goal.invariant-loop-piece

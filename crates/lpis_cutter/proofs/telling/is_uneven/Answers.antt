@@ -1,5 +1,4 @@
-use Rattle.lpis_rings.specs.Edges.{edges_of}
-use Rattle.lpis_parcels.specs.Release.{pieces_named}
+use Rattle.lpis_cutter.proofs.Common.{edges_of, pieces_named}
 use Rattle.lpis_checker.specs.GoodCertificate.{edges_of_pieces}
 use Rattle.lpis_cutter.proofs.CountingLemmas.{uneven_edges}
 use Rattle.lpis_cutter.proofs.telling.is_uneven.Goals as goal

@@ -1,7 +1,5 @@
 use Rattle.std.proofs.Common.{◌≡◌, List}
-use Rattle.lpis_lineage.specs.declared.row.Row.{Row}
-use Rattle.lpis_lineage.specs.Faults.{dropped_faults}
-use Rattle.lpis_lineage.specs.private.Seen.{IsSeen}
+use Rattle.lpis_lineage.proofs.Common.{Row, dropped_faults, IsSeen}
 use Rattle.lpis_lineage.proofs.WalkingLemmas.{rowless}
 use Rattle.lpis_lineage.proofs.acceptance.check_dropped.Given as goal
 

@@ -1,6 +1,5 @@
 use Rattle.std.proofs.Common.{◌≡◌, ◌+◌, [], take, drop}
-use Rattle.lpis_lineage.specs.private.Seen.{IsSeen}
-use Rattle.lpis_lineage.specs.Faults.{row_faults}
+use Rattle.lpis_lineage.proofs.Common.{IsSeen, row_faults}
 use Rattle.lpis_lineage.proofs.acceptance.check_rows.Given as goal
 
 abbrev pub invariant-loop-i : goal.invariant-loop-i

@@ -1,4 +1,4 @@
-use Rattle.lpis_lineage.specs.Lineage.{last_live}
+use Rattle.lpis_lineage.proofs.Common.{last_live}
 use Rattle.lpis_lineage.proofs.WalkingLemmas.{used-alike}
 use Rattle.lpis_lineage.proofs.acceptance.check_used.Goals as goal
 

@@ -1,6 +1,5 @@
 use Rattle.std.proofs.Common.{◌≡◌, drop}
-use Rattle.lpis_lineage.specs.Lineage.{last_live}
-use Rattle.lpis_lineage.specs.Faults.{used_faults}
+use Rattle.lpis_lineage.proofs.Common.{last_live, used_faults}
 use Rattle.lpis_lineage.proofs.acceptance.find_used.Given as goal
 
 abbrev pub invariant-loop-id : goal.invariant-loop-id

@@ -1,7 +1,5 @@
 use Rattle.std.proofs.Common.{◌≡◌, ◌∙◌, sym, ap, subst, List, ℕ, [], ◌⊎◌, Some}
-use Rattle.lpis_lineage.specs.Lineage.{last_live}
-use Rattle.lpis_lineage.specs.declared.fault.LineageFault.{LineageFault}
-use Rattle.lpis_lineage.specs.Faults.{row_faults, dropped_faults, used_faults, first}
+use Rattle.lpis_lineage.proofs.Common.{last_live, LineageFault, row_faults, dropped_faults, used_faults, first}
 use Rattle.lpis_lineage.specs.declared.fault.LineageFault.TheVariants.{Memory}
 use Rattle.std.proofs.lemmas.Result.{err_from_is_err_and}
 use Rattle.lpis_lineage.proofs.TellingLemmas.{passed, stops-after, rows-live, dropped-live}

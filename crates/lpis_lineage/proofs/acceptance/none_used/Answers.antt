@@ -1,9 +1,5 @@
-use Rattle.std.proofs.Common.{◌∙◌, sym, ap, List, ℕ}
-use Rattle.std.specs.Prelude.{not}
-use Rattle.std.specs.List.{filter}
-use Rattle.lpis_covers.specs.Ids.{has_id}
-use Rattle.lpis_lineage.specs.Lineage.{last_live}
-use Rattle.lpis_lineage.specs.Faults.{used_faults}
+use Rattle.std.proofs.Common.{◌∙◌, sym, ap, List, ℕ, not, filter}
+use Rattle.lpis_lineage.proofs.Common.{has_id, last_live, used_faults}
 use Rattle.lpis_lineage.proofs.WalkingLemmas.{used-lacking, used-unheld}
 use Rattle.lpis_lineage.proofs.acceptance.none_used.Goals as goal
 

@@ -1,9 +1,5 @@
 use Rattle.std.proofs.Common.{◌≡◌, ℕ, List, true, cond}
-use Rattle.std.specs.HashMap.{get}
-use Rattle.lpis_covers.specs.Ids.{has_id, same_id}
-use Rattle.lpis_lineage.specs.declared.row.Row.{Row}
-use Rattle.lpis_lineage.specs.private.Fates.{AreFates}
-use Rattle.lpis_lineage.specs.Kinds.{kind}
+use Rattle.lpis_lineage.proofs.Common.{get, has_id, same_id, Row, AreFates, kind}
 use Rattle.lpis_lineage.proofs.change.kinds_of.Given as goal
 
 abbrev pub invariant-loop-id : goal.invariant-loop-id

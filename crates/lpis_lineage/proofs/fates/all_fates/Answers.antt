@@ -1,6 +1,5 @@
 use Rattle.std.proofs.Common.{List, take}
-use Rattle.lpis_lineage.specs.declared.row.Row.{Row}
-use Rattle.lpis_lineage.specs.private.Fates.{AreFates}
+use Rattle.lpis_lineage.proofs.Common.{Row, AreFates}
 use Rattle.lpis_lineage.proofs.TellingLemmas.{seen-next}
 use Rattle.lpis_lineage.proofs.FateLemmas.{heir-named}
 use Rattle.lpis_lineage.proofs.fates.all_fates.Goals as goal

@@ -1,5 +1,5 @@
 use Rattle.std.proofs.Common.{take}
-use Rattle.lpis_lineage.specs.private.Fates.{AreFates}
+use Rattle.lpis_lineage.proofs.Common.{AreFates}
 use Rattle.lpis_lineage.proofs.fates.all_fates.Given as goal
 
 abbrev pub invariant-loop-row : goal.invariant-loop-row

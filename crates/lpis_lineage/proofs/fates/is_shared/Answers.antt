@@ -1,5 +1,5 @@
 use Rattle.std.proofs.Common.{◌∙◌, sym}
-use Rattle.lpis_lineage.specs.Kinds.{heirs}
+use Rattle.lpis_lineage.proofs.Common.{heirs}
 use Rattle.lpis_lineage.proofs.FateLemmas.{last-part, shared-test}
 use Rattle.lpis_lineage.proofs.fates.is_shared.Goals as goal
 

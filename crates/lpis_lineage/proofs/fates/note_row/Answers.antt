@@ -1,8 +1,5 @@
-use Rattle.std.proofs.Common.{◌∙◌, sym, ap, refl, List, ℕ, Bool, true, false, cond, Option}
-use Rattle.std.specs.Prelude.{◌||◌}
-use Rattle.std.proofs.Math.Bool.{and-true, and-false, or-false}
-use Rattle.lpis_covers.specs.Ids.{has_id, same_id}
-use Rattle.lpis_lineage.specs.Lineage.{is_this}
+use Rattle.std.proofs.Common.{◌∙◌, sym, ap, refl, List, ℕ, Bool, true, false, cond, Option, ◌||◌}
+use Rattle.lpis_lineage.proofs.Common.{and-true, and-false, or-false, has_id, same_id, is_this}
 use Rattle.lpis_lineage.proofs.IdentifierLemmas.{same-refl}
 use Rattle.lpis_lineage.proofs.SeenLemmas.{or-cond}
 use Rattle.lpis_lineage.proofs.FateLemmas.{fates-end, fates-heir}

@@ -1,11 +1,11 @@
 use Rattle.std.proofs.Common.{◌≡◌, ◌∙◌, ◌++◌, ◌∷◌, [], ℕ, List, Ok, ap, map, sym}
+use Rattle.lpis_lineage.proofs.Common.{Row}
 use Rattle.std.proofs.lemmas.List.{map-append}
 use Rattle.std.proofs.lemmas.Result.{err_from_is_err_and}
-use Rattle.lpis_covers.proofs.RowLemmas.{rows-end, rows-fault, rows-start, rows-step, rows-stop}
+use Rattle.lpis_covers.proofs.Shared.{rows-end, rows-fault, rows-start, rows-step, rows-stop}
 use Rattle.lpis_covers.specs.declared.fault.TableFault.{TableFault}
 use Rattle.lpis_covers.specs.Faults.{unless_faulty}
 use Rattle.lpis_covers.specs.Table.{field_of}
-use Rattle.lpis_lineage.specs.declared.row.Row.{Row}
 use Rattle.lpis_lineage.specs.LineageTable.{lineage_faults, lineage_table, row_of}
 use Rattle.lpis_lineage.proofs.RowsLemmas.{rows-answered}
 use Rattle.lpis_lineage.proofs.reading.read_rows.Goals as goal

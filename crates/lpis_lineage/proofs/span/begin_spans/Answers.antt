@@ -1,6 +1,5 @@
 use Rattle.std.proofs.Common.{◌∙◌, arith}
-use Rattle.std.specs.HashMap.{get}
-use Rattle.lpis_covers.specs.Ids.{same_id}
+use Rattle.lpis_lineage.proofs.Common.{get, same_id}
 use Rattle.lpis_lineage.proofs.PopStepLemmas.{begun-pop}
 use Rattle.lpis_lineage.proofs.span.begin_spans.Goals as goal
 

@@ -1,7 +1,6 @@
 use Rattle.std.proofs.Common.{◌≡◌, ◌≤◌, ℕ, List, length}
-use Rattle.std.specs.HashMap.{get, spare}
-use Rattle.lpis_covers.specs.Ids.{has_id, same_id}
-use Rattle.lpis_lineage.specs.private.Keeping.{begun}
+use Rattle.lpis_lineage.proofs.Common.{get, has_id, same_id, begun}
+use Rattle.std.specs.HashMap.{spare}
 use Rattle.lpis_lineage.proofs.span.begin_spans.Given as goal
 
 abbrev pub invariant-ids : goal.invariant-ids

@@ -1,6 +1,5 @@
 use Rattle.std.proofs.Common.{◌≡◌, ◌∙◌, sym, Some, None}
-use Rattle.std.specs.HashMap.{get}
-use Rattle.lpis_covers.specs.Ids.{same_id}
+use Rattle.lpis_lineage.proofs.Common.{get, same_id}
 use Rattle.lpis_lineage.proofs.PopStepLemmas.{ended-pop, ended-pop-none}
 use Rattle.lpis_lineage.proofs.span.end_spans.Goals as goal
 

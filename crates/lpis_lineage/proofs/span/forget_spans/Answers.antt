@@ -1,7 +1,5 @@
 use Rattle.std.proofs.Common.{◌≡◌, ◌∙◌, sym, ap, ℕ, List, Some}
-use Rattle.std.specs.HashMap.{get}
-use Rattle.lpis_covers.specs.Ids.{has_id, same_id}
-use Rattle.lpis_lineage.specs.private.Keeping.{forgotten}
+use Rattle.lpis_lineage.proofs.Common.{get, has_id, same_id, forgotten}
 use Rattle.lpis_lineage.proofs.TakingBackLemmas.{forget-gone}
 use Rattle.lpis_lineage.proofs.span.forget_spans.Goals as goal
 

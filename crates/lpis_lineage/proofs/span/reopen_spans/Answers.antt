@@ -1,8 +1,6 @@
 use Rattle.std.proofs.Common.{◌≡◌, ◌∙◌, refl, sym, subst, ap, ℕ, List, Some, IsSome}
-use Rattle.std.specs.HashMap.{get}
+use Rattle.lpis_lineage.proofs.Common.{get, has_id, same_id, ended_in}
 use Rattle.std.specs.Option.{option_copied_mut}
-use Rattle.lpis_covers.specs.Ids.{has_id, same_id}
-use Rattle.lpis_lineage.specs.private.Keeping.{ended_in}
 use Rattle.lpis_lineage.proofs.TakingBackLemmas.{reopen-some}
 use Rattle.lpis_lineage.proofs.span.reopen_spans.Goals as goal
 

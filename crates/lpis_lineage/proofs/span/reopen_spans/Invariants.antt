@@ -1,7 +1,5 @@
 use Rattle.std.proofs.Common.{◌≡◌, ℕ, List}
-use Rattle.std.specs.HashMap.{get}
-use Rattle.lpis_covers.specs.Ids.{has_id, same_id}
-use Rattle.lpis_lineage.specs.private.Keeping.{ended_in}
+use Rattle.lpis_lineage.proofs.Common.{get, has_id, same_id, ended_in}
 use Rattle.lpis_lineage.proofs.span.reopen_spans.Given as goal
 
 abbrev pub invariant-loop-id : goal.invariant-loop-id

@@ -1,8 +1,5 @@
 use Rattle.std.proofs.Common.{◌∙◌, ◌-◌, ap, arith, length, ℕ, List, Option}
-use Rattle.std.specs.HashMap.{get}
-use Rattle.lpis_covers.specs.Ids.{has_id, same_id}
-use Rattle.lpis_lineage.specs.declared.span.Span.{Span}
-use Rattle.lpis_lineage.specs.private.Keeping.{ended_in, forgotten}
+use Rattle.lpis_lineage.proofs.Common.{get, has_id, same_id, Span, ended_in, forgotten}
 use Rattle.lpis_lineage.proofs.ExtensionLemmas.{last-entry}
 use Rattle.lpis_lineage.proofs.span.take_spans_back.Goals as goal
 

@@ -1,6 +1,5 @@
 use Rattle.std.proofs.Common.{take}
-use Rattle.lpis_lineage.specs.Kinds.{heirs}
-use Rattle.lpis_lineage.specs.private.Tally.{IsTally}
+use Rattle.lpis_lineage.proofs.Common.{heirs, IsTally}
 use Rattle.lpis_lineage.proofs.tally.tally_heirs.Given as goal
 
 abbrev pub invariant-loop-row : goal.invariant-loop-row

@@ -1,4 +1,4 @@
-use Rattle.std.specs.Prelude.{Result, Ok, Err, IfOk}
+use Rattle.std.proofs.Common.{Result, Ok, Err, IfOk}
 use Rattle.lpis_lineage.proofs.ChainLemmas.{live-reached}
 use Rattle.lpis_lineage.proofs.tracing.descendants.Goals as goal
 

@@ -1,6 +1,5 @@
 use Rattle.std.proofs.Common.{◌∙◌, ap, subst, List, take, ◌++◌, append_assoc}
-use Rattle.lpis_lineage.specs.declared.row.Row.{Row}
-use Rattle.lpis_lineage.specs.private.Following.{Reaches}
+use Rattle.lpis_lineage.proofs.Common.{Row, Reaches}
 use Rattle.lpis_lineage.proofs.ChainLemmas.{fresh-row}
 use Rattle.lpis_lineage.proofs.TellingLemmas.{take-at}
 use Rattle.lpis_lineage.proofs.tracing.follow.Goals as goal

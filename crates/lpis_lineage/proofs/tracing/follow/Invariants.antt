@@ -1,6 +1,5 @@
 use Rattle.std.proofs.Common.{ℕ, List, take, ◌++◌}
-use Rattle.lpis_lineage.specs.declared.row.Row.{Row}
-use Rattle.lpis_lineage.specs.private.Following.{Reaches, AreFresh}
+use Rattle.lpis_lineage.proofs.Common.{Row, Reaches, AreFresh}
 use Rattle.lpis_lineage.proofs.tracing.follow.Given as goal
 
 abbrev pub invariant-loop-row : goal.invariant-loop-row

@@ -1,5 +1,5 @@
 use Rattle.std.proofs.Common.{◌∙◌, ap, sym, List, ℕ, cond, true}
-use Rattle.lpis_covers.specs.Ids.{has_id, same_id}
+use Rattle.lpis_lineage.proofs.Common.{has_id, same_id}
 use Rattle.lpis_lineage.proofs.ChainLemmas.{reach-none, reach-skip, reach-add}
 use Rattle.lpis_lineage.proofs.tracing.follow_row.Goals as goal
 

@@ -1,8 +1,5 @@
 use Rattle.std.proofs.Common.{◌∙◌, ap, sym, subst, List, ℕ, take, ◌++◌, [], refl}
-use Rattle.lpis_lineage.specs.declared.row.Row.{Row}
-use Rattle.lpis_lineage.specs.Descendants.{all_rows}
-use Rattle.lpis_lineage.specs.private.Following.{Reaches, AreFresh}
-use Rattle.lpis_lineage.specs.Lawful.{IsLawful, RowsFit}
+use Rattle.lpis_lineage.proofs.Common.{Row, all_rows, Reaches, AreFresh, IsLawful, RowsFit}
 use Rattle.lpis_lineage.proofs.ChainLemmas.{reach-start, release-fresh, rows-more}
 use Rattle.lpis_lineage.proofs.tracing.reached.Goals as goal
 

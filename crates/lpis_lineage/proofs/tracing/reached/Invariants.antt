@@ -1,6 +1,5 @@
 use Rattle.std.proofs.Common.{take}
-use Rattle.lpis_lineage.specs.Descendants.{all_rows}
-use Rattle.lpis_lineage.specs.private.Following.{Reaches}
+use Rattle.lpis_lineage.proofs.Common.{all_rows, Reaches}
 use Rattle.lpis_lineage.proofs.tracing.reached.Given as goal
 
 abbrev pub invariant-loop-entry : goal.invariant-loop-entry

@@ -1,8 +1,7 @@
 use Rattle.std.proofs.Common.{◌≡◌, ◌+◌, ◌/◌, ◌≤◌, nat_eq, List, [], ◌∷◌, ◌++◌, length, refl, ap, sym, ◌∙◌, subst}
+use Rattle.lpis_pairs.proofs.Common.{Event, event}
 use Rattle.std.proofs.lemmas.Option.{slice_get_read}
-use Rattle.lpis_pairs.specs.declared.events.Event.{Event}
 use Rattle.lpis_pairs.specs.declared.extents.Extent.{Extent}
-use Rattle.lpis_pairs.specs.private.Sweeping.{event}
 use Rattle.lpis_pairs.proofs.EventLemmas.{EventsUpTo, nothing_yet, start_triangle, one_more, end_triangle, whole}
 use Rattle.lpis_pairs.proofs.events.events_of.Goals as goal
 

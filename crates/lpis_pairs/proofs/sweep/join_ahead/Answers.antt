@@ -1,11 +1,9 @@
 use Rattle.std.proofs.Common.{◌≡◌, ℕ, ◌+◌, ◌<◌, Bool, IsTrue, true, false, ◌||◌, List, length, get_or, Vec, Global, sym, subst, arith}
-use Rattle.std.proofs.lemmas.Option.{slice_get-get_or, slice_get_within}
-use Rattle.lpis_points.specs.declared.triangle.Triangle.{Triangle}
-use Rattle.lpis_pairs.specs.declared.events.Event.{Event}
-use Rattle.lpis_pairs.specs.private.Sweeping.{AreEvents, Joins}
+use Rattle.lpis_pairs.proofs.Common.{slice_get_within, Triangle, Event, AreEvents, Joins}
+use Rattle.std.proofs.lemmas.Option.{slice_get-get_or}
 use Rattle.lpis_pairs.proofs.JoinedLemmas.{JoinsUpTo, joined_next, joins_read, found_all, found_to_end}
-use Rattle.lpis_pairs.proofs.sweep.join_ahead.Goals as goal
 use Rattle.lpis_pairs.proofs.sweep.join_ahead.Goals.{then-one_starts+in_ok-push_near, else-one_starts}
+use Rattle.lpis_pairs.proofs.sweep.join_ahead.Goals as goal
 
 -- what the code reads past the end of the events
 none : Event

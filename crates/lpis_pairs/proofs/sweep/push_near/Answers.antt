@@ -1,7 +1,6 @@
 use Rattle.std.proofs.Common.{ℕ, List, sym, subst}
+use Rattle.lpis_pairs.proofs.Common.{IsNear, AreNear}
 use Rattle.std.proofs.lemmas.List.Elements.{All-push}
-use Rattle.lpis_pairs.specs.NearPairs.{IsNear}
-use Rattle.lpis_pairs.specs.private.Sweeping.{AreNear}
 use Rattle.lpis_pairs.proofs.sweep.push_near.Goals as goal
 
 pub returns-in_ok-push-clause-near : goal.returns-in_ok-push-clause-near

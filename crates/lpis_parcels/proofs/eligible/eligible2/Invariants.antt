@@ -1,5 +1,4 @@
-use Rattle.std.proofs.Common.{◌≡◌, ◌≤◌, ◌*◌, ◌+ℤ◌, drop}
-use Rattle.std.specs.Prelude.{unsigned_abs}
+use Rattle.std.proofs.Common.{◌≡◌, ◌≤◌, ◌*◌, ◌+ℤ◌, drop, unsigned_abs}
 use Rattle.lpis_rings.specs.AreaBounds.{most_area}
 use Rattle.lpis_parcels.specs.Eligible.{eligible2}
 use Rattle.lpis_parcels.proofs.EligibleLemmas.{eligible_at}

@@ -1,6 +1,6 @@
 use Rattle.std.proofs.Common.{◌∙◌, ◌++◌, ◌∷◌, [], List, ℕ, ap, sym, set, arith}
+use Rattle.lpis_parcels.proofs.Common.{group_lists}
 use Rattle.std.proofs.lemmas.List.{map-set}
-use Rattle.lpis_parcels.specs.private.Joined.{group_lists}
 use Rattle.lpis_parcels.proofs.JoinLemmas.{list-at}
 use Rattle.lpis_parcels.proofs.joins.add_to_group.Goals as goal
 

@@ -1,6 +1,6 @@
 use Rattle.std.proofs.Common.{◌≡◌, ◌+◌, drop}
+use Rattle.lpis_parcels.proofs.Common.{group_lists}
 use Rattle.lpis_parcels.specs.private.Groups.{empty_faults}
-use Rattle.lpis_parcels.specs.private.Joined.{group_lists}
 use Rattle.lpis_parcels.proofs.joins.check_groups.Given as goal
 
 abbrev pub invariant-loop-k : goal.invariant-loop-k

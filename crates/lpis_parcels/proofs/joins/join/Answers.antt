@@ -1,6 +1,6 @@
 use Rattle.std.proofs.Common.{◌∙◌, ap, sym}
+use Rattle.lpis_parcels.proofs.Common.{group_lists}
 use Rattle.std.proofs.lemmas.Result.{err_from_is_err_and}
-use Rattle.lpis_parcels.specs.private.Joined.{group_lists}
 use Rattle.lpis_parcels.proofs.JoinLemmas.{groups-faults, told-none}
 use Rattle.lpis_parcels.proofs.joins.join.Goals as goal
 

@@ -1,10 +1,5 @@
-use Rattle.std.proofs.Common.{◌≡◌, ◌∙◌, ◌<◌, ◌+◌, [], List, Some, refl, ap, subst, arith, length, replicate}
-use Rattle.std.specs.Prelude.{slice_get}
-use Rattle.std.proofs.lemmas.List.{length-map}
-use Rattle.std.proofs.lemmas.Option.{slice_get_read}
-use Rattle.lpis_covers.specs.declared.piece.Piece.{Piece}
-use Rattle.lpis_parcels.specs.declared.parcel.Parcel.{Parcel}
-use Rattle.lpis_parcels.specs.private.Joined.{group_lists}
+use Rattle.std.proofs.Common.{◌≡◌, ◌∙◌, ◌<◌, ◌+◌, [], List, Some, refl, ap, subst, arith, length, replicate, slice_get}
+use Rattle.lpis_parcels.proofs.Common.{length-map, slice_get_read, Piece, Parcel, group_lists}
 use Rattle.lpis_parcels.proofs.JoinLemmas.{group-within, joins-more, joins-none, pieces-more}
 use Rattle.lpis_parcels.proofs.joins.join_pieces.Goals as goal
 

@@ -1,6 +1,6 @@
 use Rattle.std.proofs.Common.{◌≡◌, ◌+◌, take, drop}
-use Rattle.lpis_parcels.specs.private.Joined.{AreJoins, group_lists}
-use Rattle.lpis_parcels.specs.Release.{reference_faults}
+use Rattle.lpis_parcels.proofs.Common.{group_lists, reference_faults}
+use Rattle.lpis_parcels.specs.private.Joined.{AreJoins}
 use Rattle.lpis_parcels.proofs.joins.join_pieces.Given as goal
 
 abbrev pub invariant-loop-i : goal.invariant-loop-i

@@ -1,4 +1,4 @@
-use Rattle.lpis_parcels.specs.Release.{names}
+use Rattle.lpis_parcels.proofs.Common.{names}
 use Rattle.lpis_parcels.proofs.PlaceLemmas.{at-places-where}
 use Rattle.lpis_parcels.proofs.pieces.pieces_of.Goals as goal
 

@@ -1,5 +1,5 @@
 use Rattle.std.proofs.Common.{◌≡◌, ℤ, arith, to_z, of_z, to_z-of_z, SFits, w64, ◌∙◌}
-use Rattle.std.proofs.lemmas.Int.{ints}
+use Rattle.lpis_points.proofs.Common.{ints}
 use Rattle.lpis_points.specs.declared.boxes.Box4.{Box4}
 use Rattle.lpis_points.specs.Range.{IsInRange}
 use Rattle.lpis_points.specs.Triangles.{greatest, least}

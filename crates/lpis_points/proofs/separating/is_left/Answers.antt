@@ -1,6 +1,5 @@
 use Rattle.std.proofs.Common.{arith, to_z-of_z, SFits}
-use Rattle.std.specs.Int.{w128}
-use Rattle.std.proofs.lemmas.Int.{ints}
+use Rattle.lpis_points.proofs.Common.{w128, ints}
 use Rattle.lpis_points.proofs.separating.is_left.Goals as goal
 
 pub returns : goal.returns

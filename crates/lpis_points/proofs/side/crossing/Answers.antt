@@ -1,7 +1,5 @@
 use Rattle.std.proofs.Common.{arith, to_z-of_z, SFits, w64, w8, ◌∙◌}
-use Rattle.std.specs.Int.{w128}
-use Rattle.std.proofs.lemmas.Int.{ints}
-use Rattle.lpis_points.specs.Plane.{crossing}
+use Rattle.lpis_points.proofs.Common.{w128, ints, crossing}
 use Rattle.lpis_points.proofs.side.crossing.Goals as goal
 
 pub returns : goal.returns

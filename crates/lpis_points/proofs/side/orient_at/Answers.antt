@@ -1,7 +1,5 @@
 use Rattle.std.proofs.Common.{arith, to_z-of_z, SFits, w64, ◌∙◌}
-use Rattle.std.specs.Int.{w128}
-use Rattle.std.proofs.lemmas.Int.{ints}
-use Rattle.lpis_points.specs.Plane.{orient_at}
+use Rattle.lpis_points.proofs.Common.{w128, ints, orient_at}
 use Rattle.lpis_points.proofs.side.orient_at.Goals as goal
 
 pub step-requires-2-clause-to_in : goal.step-requires-2-clause-to_in

@@ -1,5 +1,5 @@
 use Rattle.std.proofs.Common.{to_z-of_z, lit<, mul-le-mul}
-use Rattle.std.specs.Int.{w128}
+use Rattle.lpis_points.proofs.Common.{w128}
 use Rattle.std.proofs.lemmas.Int.{fits_signed_mul, unsigned_abs-mul}
 use Rattle.lpis_points.specs.private.Margins.{step_margin, offset_margin}
 use Rattle.lpis_points.proofs.side.product.Goals as goal

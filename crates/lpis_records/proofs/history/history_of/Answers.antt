@@ -1,7 +1,5 @@
 use Rattle.std.proofs.Common.{◌∙◌, ◌≤◌, ℕ, sym}
-use Rattle.std.proofs.lemmas.List.Elements.{recursion_from_All}
-use Rattle.std.proofs.lemmas.Result.{err_from_is_err_and}
-use Rattle.lpis_records.specs.Tells.{last_of_years}
+use Rattle.lpis_records.proofs.Common.{recursion_from_All, err_from_is_err_and, last_of_years}
 use Rattle.lpis_records.proofs.KnownLemmas.{no-both}
 use Rattle.lpis_records.proofs.RefusingLemmas.{told-few, told-ids, told-lines, told-right, told-said, told-sorted-years, told-years}
 use Rattle.lpis_records.proofs.SayingLemmas.{says}

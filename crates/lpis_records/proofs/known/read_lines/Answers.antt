@@ -1,7 +1,6 @@
 use Rattle.std.proofs.Common.{rules}
-use Rattle.std.proofs.lemmas.List.Sorted.{All-permutation, IsPermutation-map, answers_always}
-use Rattle.lpis_records.specs.declared.known.KnownLine.{KnownLine}
-use Rattle.lpis_records.specs.private.Known.{HasText, line_in}
+use Rattle.lpis_records.proofs.Common.{All-permutation, KnownLine, HasText, line_in}
+use Rattle.std.proofs.lemmas.List.Sorted.{IsPermutation-map, answers_always}
 use Rattle.lpis_records.proofs.known.read_lines.Goals as goal
 
 pub returns-clause-same : goal.returns-clause-same

@@ -1,5 +1,5 @@
 use Rattle.std.proofs.Common.{◌∙◌, ap, arith, sym}
-use Rattle.lpis_records.specs.Content.{Line}
+use Rattle.lpis_records.proofs.Common.{Line}
 use Rattle.lpis_records.proofs.KnownLemmas.{known-at, no-both}
 use Rattle.lpis_records.proofs.opening.row_at.Goals as goal
 

@@ -1,7 +1,5 @@
 use Rattle.std.proofs.Common.{◌+◌, ◌∷◌, [], ap, arith, length, length-append, pos, map, take, rules, List}
-use Rattle.std.proofs.lemmas.Result.{err_from_is_err_and}
-use Rattle.lpis_lineage.specs.declared.row.Row.{Row}
-use Rattle.lpis_records.specs.private.Known.{HasText, line_in}
+use Rattle.lpis_records.proofs.Common.{err_from_is_err_and, Row, HasText, line_in}
 use Rattle.lpis_records.proofs.FrontLemmas.{run-end, run-more, run-place}
 use Rattle.lpis_records.proofs.KnownLemmas.{all-pushed, no-both, rows-more}
 use Rattle.lpis_records.proofs.opening.rows_of_year.Goals as goal

@@ -1,4 +1,4 @@
-use Rattle.sqlite.specs.Held.{state}
+use Rattle.lpis_register.proofs.Common.{state}
 use Rattle.lpis_register.proofs.OpeningLemmas.{any_err}
 use Rattle.lpis_register.proofs.CommitLemmas.{found_settled, none_settled}
 use Rattle.lpis_register.proofs.adopting.open_found.Goals as goal

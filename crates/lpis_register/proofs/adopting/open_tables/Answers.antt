@@ -1,8 +1,5 @@
 use Rattle.std.proofs.Common.{true, not, IsTrue, refl, sym, ap, ◌∙◌, true≢false}
-use Rattle.std.proofs.lemmas.Result.{IfOk-weaker}
-use Rattle.sqlite.specs.Held.{state}
-use Rattle.lpis_records.specs.Content.{no_content}
-use Rattle.lpis_tables.specs.Shapes.{New}
+use Rattle.lpis_register.proofs.Common.{IfOk-weaker, state, no_content, New}
 use Rattle.lpis_register.proofs.OpeningLemmas.{made_never, none_found, none_said}
 use Rattle.lpis_register.proofs.CommitLemmas.{opened_found, opened_made, opened_unmade}
 use Rattle.lpis_register.proofs.adopting.open_tables.Goals as goal

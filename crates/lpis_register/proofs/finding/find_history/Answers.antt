@@ -1,4 +1,4 @@
-use Rattle.std.proofs.lemmas.Result.{IfOk-weaker}
+use Rattle.lpis_register.proofs.Common.{IfOk-weaker}
 use Rattle.lpis_register.proofs.OpeningLemmas.{refused_whole, says_whole}
 use Rattle.lpis_register.proofs.finding.find_history.Goals as goal
 

@@ -1,5 +1,5 @@
-use Rattle.std.proofs.lemmas.Result.{IfOk-weaker, IfErr-weaker}
-use Rattle.sqlite.specs.Held.{state}
+use Rattle.lpis_register.proofs.Common.{IfOk-weaker, state}
+use Rattle.std.proofs.lemmas.Result.{IfErr-weaker}
 use Rattle.lpis_register.proofs.ReadingLemmas.{tells_whole, tells_read, holds_read}
 use Rattle.lpis_register.proofs.opening.read_history.Goals as goal
 

@@ -1,6 +1,5 @@
-use Rattle.sqlite.specs.Held.{state}
-use Rattle.sqlite.proofs.StateLemmas.{survives_weaker}
-use Rattle.lpis_register.specs.Histories.{LeavesHistory, LeavesRelease}
+use Rattle.lpis_register.proofs.Common.{state, survives_weaker, LeavesHistory}
+use Rattle.lpis_register.specs.Histories.{LeavesRelease}
 use Rattle.lpis_register.proofs.releasing.publish_release.Goals as goal
 
 pub returns-in-Ok-clause-ok : goal.returns-in-Ok-clause-ok

@@ -1,8 +1,8 @@
 use Rattle.std.proofs.Common.{List, subst, sym}
-use Rattle.sqlite.specs.Held.{state}
+use Rattle.lpis_register.proofs.Common.{state}
 use Rattle.lpis_records.specs.Content.{StoredSpan}
 use Rattle.lpis_records.specs.Tells.{SpansTell}
-use Rattle.lpis_tables.proofs.MoveLemmas.{spans_stand}
+use Rattle.lpis_tables.proofs.Shared.{spans_stand}
 use Rattle.lpis_register.proofs.CommitLemmas.{moved_settled, nothing_done}
 use Rattle.lpis_tables.specs.Shapes.{with_span_table}
 use Rattle.lpis_register.proofs.settling.move_first.Goals as goal

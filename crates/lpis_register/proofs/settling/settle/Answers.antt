@@ -1,9 +1,6 @@
 use Rattle.std.proofs.Common.{◌≡◌, false, refl, rules, subst, sym, ◌∙◌}
-use Rattle.sqlite.specs.Held.{state}
-use Rattle.sqlite.specs.State.{Survives}
+use Rattle.lpis_register.proofs.Common.{state, Survives, IsStored, SaysAt}
 use Rattle.lpis_tables.specs.Shapes.{Moved}
-use Rattle.lpis_tables.specs.Holding.{IsStored}
-use Rattle.lpis_register.specs.Opening.{SaysAt}
 use Rattle.lpis_register.specs.private.Commits.{LeavesSettled}
 use Rattle.lpis_register.proofs.CommitLemmas.{beside_settled, must_be_first}
 use Rattle.lpis_register.proofs.settling.settle.Goals as goal

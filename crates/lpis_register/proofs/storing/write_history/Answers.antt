@@ -1,9 +1,6 @@
 use Rattle.std.proofs.Common.{◌≤◌, pos, arith, sym, subst₂, List, ◌∙◌}
-use Rattle.sqlite.specs.Held.{state}
-use Rattle.lpis_lineage.specs.declared.row.Entry.{Entry}
+use Rattle.lpis_register.proofs.Common.{state, Entry, Tells, HoldsHistory}
 use Rattle.lpis_records.specs.Content.{published}
-use Rattle.lpis_records.specs.Tells.{Tells}
-use Rattle.lpis_register.specs.Histories.{HoldsHistory}
 use Rattle.lpis_register.specs.private.Writes.{IsDue}
 use Rattle.lpis_register.proofs.PublishedLemmas.{holds_ok, holds_err, survives_with, left_ok}
 use Rattle.lpis_register.proofs.storing.write_history.Goals as goal

@@ -1,10 +1,7 @@
 use Rattle.std.proofs.Common.{◌≡◌, ◌<◌, ◌+◌, pos, ◌+ℤ◌, List, nat_abs, arith, sym, length, take}
-use Rattle.lpis_rings.specs.Polygon.{points_in}
-use Rattle.lpis_points.specs.declared.point.Point.{Point}
-use Rattle.lpis_points.proofs.ChainLemmas.{int_sum_by-more}
-use Rattle.lpis_rings.specs.Area.{absolute_sums, shoelace}
+use Rattle.lpis_rings.proofs.Common.{points_in, Point, absolute_sums, shoelace, w128}
+use Rattle.lpis_points.proofs.Shared.{int_sum_by-more}
 use Rattle.lpis_rings.proofs.AreaLemmas.{points_in-more, sum-more}
-use mir.Syntax.{w128}
 use mir.Val.{to_z}
 use Rattle.lpis_rings.proofs.area.absolute_sums.Goals as goal
 

@@ -1,7 +1,5 @@
 use Rattle.std.proofs.Common.{◌≡◌, ◌≤◌, ◌*◌, take, nat_abs}
-use Rattle.lpis_rings.specs.Area.{absolute_sums}
-use Rattle.lpis_rings.specs.AreaBounds.{most_term}
-use Rattle.lpis_rings.specs.Polygon.{points_in}
+use Rattle.lpis_rings.proofs.Common.{absolute_sums, most_term, points_in}
 use Rattle.lpis_rings.proofs.area.absolute_sums.Given as goal
 
 abbrev pub invariant-loop-ring : goal.invariant-loop-ring

@@ -1,14 +1,11 @@
 use Rattle.std.proofs.Common.{◌≡◌, ◌∙◌, ◌≤◌, ◌<◌, ◌+◌, ◌*◌, ℕ, ℤ, ◌+ℤ◌, nat_abs, arith, ap, sym, List, take}
+use Rattle.lpis_rings.proofs.Common.{ints, Member, member_points, points_of, area2, most_term, w128}
 use Rattle.std.proofs.lemmas.List.{take_all}
 use Rattle.std.proofs.lemmas.List.Sums.{sum_by-take-le}
-use Rattle.std.proofs.lemmas.Int.{ints}
-use Rattle.lpis_rings.specs.declared.polygon.Member.{Member}
-use Rattle.lpis_rings.specs.Polygon.{member_points, points_of}
-use Rattle.lpis_rings.specs.Area.{area2, member_area2}
-use Rattle.lpis_points.proofs.ChainLemmas.{int_sum_by-more}
-use Rattle.lpis_rings.specs.AreaBounds.{most_area, most_term}
+use Rattle.lpis_rings.specs.Area.{member_area2}
+use Rattle.lpis_points.proofs.Shared.{int_sum_by-more}
+use Rattle.lpis_rings.specs.AreaBounds.{most_area}
 use Rattle.lpis_rings.proofs.AreaLemmas.{points_of-more, sum-more}
-use mir.Syntax.{w128}
 use mir.Val.{to_z}
 use Rattle.lpis_rings.proofs.area.area2.Goals as goal
 

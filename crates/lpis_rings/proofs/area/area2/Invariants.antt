@@ -1,7 +1,5 @@
 use Rattle.std.proofs.Common.{◌≡◌, ◌≤◌, ◌*◌, take, nat_abs}
-use Rattle.lpis_rings.specs.Area.{area2}
-use Rattle.lpis_rings.specs.AreaBounds.{most_term}
-use Rattle.lpis_rings.specs.Polygon.{points_of}
+use Rattle.lpis_rings.proofs.Common.{area2, most_term, points_of}
 use Rattle.lpis_rings.proofs.area.area2.Given as goal
 
 abbrev pub invariant-loop-member : goal.invariant-loop-member

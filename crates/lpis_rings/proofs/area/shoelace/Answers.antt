@@ -1,10 +1,7 @@
 use Rattle.std.proofs.Common.{◌≡◌, ◌∙◌, ◌≤◌, ◌+◌, ◌-◌, ◌*◌, ℕ, ℤ, nat_abs, arith, ap, length}
+use Rattle.lpis_rings.proofs.Common.{ints, shoelace, most_term, w128}
 use Rattle.std.proofs.Math.IntN.{+ℤ_idl}
-use Rattle.std.proofs.lemmas.Int.{ints}
-use Rattle.lpis_rings.specs.Area.{shoelace}
-use Rattle.lpis_rings.specs.AreaBounds.{most_term}
 use Rattle.lpis_rings.proofs.AreaLemmas.{edge-more, edges-done, sum-more}
-use mir.Syntax.{w128}
 use mir.Val.{to_z}
 use Rattle.lpis_rings.proofs.area.shoelace.Goals as goal
 

@@ -1,5 +1,5 @@
 use Rattle.std.proofs.Common.{◌≡◌, ◌∙◌, ◌≤◌, ap₂, ℤ, ◌*ℤ◌, ◌-ℤ◌, nat_abs, subst, sym}
-use Rattle.lpis_rings.specs.AreaBounds.{most_term}
+use Rattle.lpis_rings.proofs.Common.{most_term}
 use Rattle.lpis_rings.proofs.AreaLemmas.{coordinate-is, term-fits, term-is}
 use Rattle.lpis_rings.proofs.area.shoelace_term.Goals as goal
 

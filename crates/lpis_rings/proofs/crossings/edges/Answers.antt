@@ -1,7 +1,5 @@
 use Rattle.std.proofs.Common.{◌≡◌, ◌≤◌, ℕ, length, List, ap, ◌∙◌, arith}
-use Rattle.lpis_points.specs.declared.point.Point.{Point}
-use Rattle.lpis_rings.specs.declared.polygon.Member.{Member}
-use Rattle.lpis_rings.specs.Edges.{edges_of}
+use Rattle.lpis_rings.proofs.Common.{Point, Member, edges_of}
 use Rattle.lpis_rings.proofs.EdgeCountLemmas.{edges-few}
 use Rattle.lpis_rings.proofs.crossings.edges.Goals as goal
 

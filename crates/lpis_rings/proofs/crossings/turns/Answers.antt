@@ -1,10 +1,7 @@
 use Rattle.std.proofs.Common.{◌≡◌, ℕ, suc, ◌+◌, ◌≤◌, ℤ, ◌+ℤ◌, nat_abs, List, length, ap, arith, to_z, of_z, w8, w64}
-use Rattle.std.proofs.lemmas.Int.{ints}
-use Rattle.lpis_points.specs.declared.point.Point.{Point}
+use Rattle.lpis_rings.proofs.Common.{ints, Point, edge_turns, most_points}
 use Rattle.lpis_points.specs.RatPoints.{rational_of}
-use Rattle.lpis_points.proofs.OddLemmas.{crossing-small}
-use Rattle.lpis_rings.specs.Edges.{edge_turns}
-use Rattle.lpis_rings.specs.Polygon.{most_points}
+use Rattle.lpis_points.proofs.Shared.{crossing-small}
 use Rattle.lpis_rings.proofs.crossings.turns.Goals as goal
 
 -- one more edge, as the code's numbers have it

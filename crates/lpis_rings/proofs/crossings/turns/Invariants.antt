@@ -1,7 +1,7 @@
 use Rattle.std.proofs.Common.{◌≡◌, ◌+◌, ◌≤◌, ◌+ℤ◌, length, unsigned_abs}
+use Rattle.lpis_rings.proofs.Common.{edge_turns, most_points}
 use Rattle.lpis_points.specs.RatPoints.{rational_of}
-use Rattle.lpis_rings.specs.Edges.{edge_turns, turns}
-use Rattle.lpis_rings.specs.Polygon.{most_points}
+use Rattle.lpis_rings.specs.Edges.{turns}
 use Rattle.lpis_rings.proofs.crossings.turns.Given as goal
 
 abbrev pub invariant-loop-a : goal.invariant-loop-a

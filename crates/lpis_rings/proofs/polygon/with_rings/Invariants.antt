@@ -1,5 +1,5 @@
 use Rattle.std.proofs.Common.{◌≡◌, ◌≤◌, ◌+◌, take}
-use Rattle.lpis_rings.specs.Polygon.{most_points, points_in}
+use Rattle.lpis_rings.proofs.Common.{most_points, points_in}
 use Rattle.lpis_rings.proofs.polygon.with_rings.Given as goal
 
 abbrev pub invariant-loop-ring : goal.invariant-loop-ring

@@ -1,5 +1,5 @@
 use Rattle.std.proofs.Common.{◌∙◌, [], refl, sym, subst, IsPermutation}
-use Rattle.std.proofs.lemmas.List.Sorted.{IsPermutation-refl}
+use Rattle.lpis_tables.proofs.Common.{IsPermutation-refl}
 use Rattle.std.proofs.lemmas.Result.{err_from_is_err_and}
 use Rattle.lpis_tables.proofs.QuietLemmas.{answered, nothing_yet, then, then_fails}
 use Rattle.lpis_tables.proofs.loading.load.Goals as goal

@@ -1,9 +1,5 @@
 use Rattle.std.proofs.Common.{◌≡◌, arith, rules, refl, subst, sym, IsTrue}
-use Rattle.sqlite.specs.Held.{state}
-use Rattle.sqlite.specs.State.{HasCleanDisk}
-use Rattle.sqlite.proofs.Callers.{survives_begin}
-use Rattle.lpis_tables.specs.Shapes.{First, Moved}
-use Rattle.lpis_tables.specs.Holding.{Leaves}
+use Rattle.lpis_tables.proofs.Common.{state, HasCleanDisk, survives_begin, First, Moved, Leaves}
 use Rattle.lpis_tables.specs.Commits.{LeavesBeside}
 use Rattle.lpis_tables.proofs.StepLemmas.{begun_inside, commit_ok, moved_err, leaves, crashed}
 use Rattle.lpis_tables.proofs.moving.add_spans.Goals as goal

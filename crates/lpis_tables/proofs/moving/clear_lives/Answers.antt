@@ -1,4 +1,4 @@
-use Rattle.sqlite.specs.Held.{state}
+use Rattle.lpis_tables.proofs.Common.{state}
 use Rattle.lpis_tables.proofs.ClearLemmas.{clear_live_inside}
 use Rattle.lpis_tables.proofs.moving.clear_lives.Goals as goal
 

@@ -1,8 +1,5 @@
 use Rattle.std.proofs.Common.{arith, sym, ◌∙◌}
-use Rattle.sqlite.specs.Held.{state}
-use Rattle.sqlite.specs.State.{HasCleanDisk}
-use Rattle.lpis_records.specs.Content.{without_spans}
-use Rattle.lpis_tables.specs.Shapes.{with_span_table}
+use Rattle.lpis_tables.proofs.Common.{state, HasCleanDisk, without_spans, with_span_table}
 use Rattle.lpis_tables.proofs.MoveLemmas.{formats_stay, live_as_before, spans_stand}
 use Rattle.lpis_tables.proofs.moving.fill_moved.Goals as goal
 

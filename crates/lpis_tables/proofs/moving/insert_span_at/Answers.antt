@@ -1,6 +1,6 @@
 use Rattle.std.proofs.Common.{w64}
+use Rattle.lpis_tables.proofs.Common.{state}
 use Rattle.std.proofs.lemmas.Int.{to_z-of_z}
-use Rattle.sqlite.specs.Held.{state}
 use Rattle.lpis_tables.specs.private.Lines.{span_at}
 use Rattle.lpis_tables.proofs.InsertLemmas.{whole_span_inside}
 use Rattle.lpis_tables.proofs.moving.insert_span_at.Goals as goal

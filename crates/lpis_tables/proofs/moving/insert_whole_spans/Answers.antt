@@ -1,7 +1,5 @@
 use Rattle.std.proofs.Common.{◌≡◌, arith, take, length, ◌<◌, true}
-use Rattle.sqlite.specs.Held.{state}
-use Rattle.lpis_records.specs.Content.{with_whole_spans, with_whole_span}
-use Rattle.lpis_tables.specs.Shapes.{has_spans}
+use Rattle.lpis_tables.proofs.Common.{state, with_whole_spans, with_whole_span, has_spans}
 use Rattle.lpis_tables.proofs.StepLemmas.{at_end, one_more, quiet_on}
 use Rattle.lpis_tables.proofs.LoopLemmas.{more}
 use Rattle.lpis_tables.proofs.moving.insert_whole_spans.Goals as goal

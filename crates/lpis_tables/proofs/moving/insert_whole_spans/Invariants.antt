@@ -1,8 +1,5 @@
 use Rattle.std.proofs.Common.{◌≡◌, Ok, take, true}
-use Rattle.sqlite.specs.Held.{state}
-use Rattle.lpis_records.specs.Content.{with_whole_spans}
-use Rattle.lpis_tables.specs.Shapes.{has_spans}
-use Rattle.lpis_tables.specs.private.Inside.{IsQuiet, Turns}
+use Rattle.lpis_tables.proofs.Common.{state, with_whole_spans, has_spans, IsQuiet, Turns}
 use Rattle.lpis_tables.proofs.moving.insert_whole_spans.Given as goal
 
 abbrev pub invariant-loop-span : goal.invariant-loop-span

@@ -1,4 +1,4 @@
-use Rattle.sqlite.specs.Held.{state}
+use Rattle.lpis_tables.proofs.Common.{state}
 use Rattle.lpis_tables.proofs.MoveLemmas.{version_inside}
 use Rattle.lpis_tables.proofs.moving.set_version.Goals as goal
 

@@ -1,10 +1,6 @@
 use Rattle.std.proofs.Common.{◌≡◌, arith, rules, refl, subst, sym, IsTrue}
-use Rattle.sqlite.specs.Held.{state}
-use Rattle.sqlite.specs.State.{HasCleanDisk}
-use Rattle.sqlite.proofs.Callers.{survives_begin}
+use Rattle.lpis_tables.proofs.Common.{state, HasCleanDisk, survives_begin, with_span_table, Leaves}
 use Rattle.lpis_records.specs.Content.{moved}
-use Rattle.lpis_tables.specs.Shapes.{with_span_table}
-use Rattle.lpis_tables.specs.Holding.{Leaves}
 use Rattle.lpis_tables.specs.Commits.{LeavesMoved}
 use Rattle.lpis_tables.proofs.StepLemmas.{begun_inside, commit_ok, moved_err, leaves, crashed}
 use Rattle.lpis_tables.proofs.moving.write_moved.Goals as goal

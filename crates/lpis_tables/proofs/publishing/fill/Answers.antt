@@ -1,6 +1,5 @@
 use Rattle.std.proofs.Common.{arith}
-use Rattle.sqlite.specs.Held.{state}
-use Rattle.sqlite.specs.State.{HasCleanDisk}
+use Rattle.lpis_tables.proofs.Common.{state, HasCleanDisk}
 use Rattle.lpis_tables.proofs.publishing.fill.Goals as goal
 
 pub returns-clause-adds : goal.returns-clause-adds

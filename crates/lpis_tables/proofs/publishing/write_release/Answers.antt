@@ -1,9 +1,6 @@
 use Rattle.std.proofs.Common.{◌≡◌, pos, arith, rules, refl, subst, sym, IsTrue}
-use Rattle.sqlite.specs.Held.{state}
-use Rattle.sqlite.specs.State.{HasCleanDisk}
-use Rattle.sqlite.proofs.Callers.{survives_begin}
+use Rattle.lpis_tables.proofs.Common.{state, HasCleanDisk, survives_begin, Leaves}
 use Rattle.lpis_records.specs.Content.{published}
-use Rattle.lpis_tables.specs.Holding.{Leaves}
 use Rattle.lpis_tables.proofs.StepLemmas.{begun_inside, commit_ok, commit_err, durable, leaves, crashed, quiet_on}
 use Rattle.lpis_tables.proofs.publishing.write_release.Goals as goal
 

@@ -1,5 +1,5 @@
 use Rattle.std.proofs.Common.{pos}
-use Rattle.sqlite.specs.Held.{state}
+use Rattle.lpis_tables.proofs.Common.{state}
 use Rattle.lpis_tables.proofs.EndLemmas.{end_inside}
 use Rattle.lpis_tables.proofs.statements.end_span.Goals as goal
 

@@ -1,6 +1,6 @@
 use Rattle.std.proofs.Common.{◌≡◌, pos, to_z, w64}
+use Rattle.lpis_tables.proofs.Common.{state}
 use Rattle.std.proofs.lemmas.Int.{to_z_pos}
-use Rattle.sqlite.specs.Held.{state}
 use Rattle.lpis_tables.specs.private.Lines.{line_at}
 use Rattle.lpis_tables.proofs.InsertLemmas.{line_inside}
 use Rattle.lpis_tables.proofs.statements.insert_line.Goals as goal

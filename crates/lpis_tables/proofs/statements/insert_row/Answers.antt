@@ -1,8 +1,7 @@
 use Rattle.std.proofs.Common.{◌≡◌, pos, ap₂, subst, OnOk}
-use Rattle.sqlite.specs.Held.{state}
-use Rattle.lpis_records.specs.Content.{with_line, text_of}
+use Rattle.lpis_tables.proofs.Common.{state, with_line, Inside}
+use Rattle.lpis_records.specs.Content.{text_of}
 use Rattle.lpis_tables.specs.private.Lines.{line_at}
-use Rattle.lpis_tables.specs.private.Inside.{Inside}
 use Rattle.lpis_tables.proofs.statements.insert_row.Goals as goal
 
 pub returns-clause-adds : goal.returns-clause-adds

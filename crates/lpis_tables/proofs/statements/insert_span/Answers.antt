@@ -1,5 +1,5 @@
 use Rattle.std.proofs.Common.{pos}
-use Rattle.sqlite.specs.Held.{state}
+use Rattle.lpis_tables.proofs.Common.{state}
 use Rattle.lpis_tables.proofs.InsertLemmas.{span_inside}
 use Rattle.lpis_tables.proofs.statements.insert_span.Goals as goal
 

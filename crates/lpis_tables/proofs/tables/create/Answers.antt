@@ -1,10 +1,6 @@
 use Rattle.std.proofs.Common.{◌≡◌, arith, refl, rules, subst, sym, IsTrue}
-use Rattle.sqlite.specs.Held.{state}
-use Rattle.sqlite.specs.State.{HasCleanDisk}
-use Rattle.sqlite.proofs.Callers.{survives_begin}
+use Rattle.lpis_tables.proofs.Common.{state, HasCleanDisk, survives_begin, New, Leaves}
 use Rattle.lpis_records.specs.Content.{no_content}
-use Rattle.lpis_tables.specs.Shapes.{New}
-use Rattle.lpis_tables.specs.Holding.{Leaves}
 use Rattle.lpis_tables.specs.Commits.{LeavesMade}
 use Rattle.lpis_tables.proofs.StepLemmas.{begun_bare, bare_err, commit_ok, leaves, crashed}
 use Rattle.lpis_tables.proofs.tables.create.Goals as goal

@@ -1,6 +1,5 @@
 use Rattle.std.proofs.Common.{arith}
-use Rattle.sqlite.specs.Held.{state}
-use Rattle.sqlite.specs.State.{HasCleanDisk}
+use Rattle.lpis_tables.proofs.Common.{state, HasCleanDisk}
 use Rattle.lpis_tables.proofs.tables.make_all.Goals as goal
 
 pub returns-clause-begun : goal.returns-clause-begun

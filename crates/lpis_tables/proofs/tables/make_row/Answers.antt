@@ -1,8 +1,5 @@
 use Rattle.std.proofs.Common.{refl}
-use Rattle.sqlite.specs.Held.{state}
-use Rattle.lpis_tables.specs.private.Stages.{three_tables}
-use Rattle.lpis_tables.specs.Shapes.{New, schema_of}
-use Rattle.lpis_tables.specs.Tables.{row_table}
+use Rattle.lpis_tables.proofs.Common.{state, three_tables, New, schema_of, row_table}
 use Rattle.lpis_tables.specs.private.Texts.{make_row as text}
 use Rattle.lpis_tables.proofs.MeaningLemmas.{row_is}
 use Rattle.lpis_tables.proofs.StageLemmas.{stage_next}

@@ -1,7 +1,5 @@
 use Rattle.std.proofs.Common.{refl}
-use Rattle.sqlite.specs.Held.{state}
-use Rattle.lpis_tables.specs.private.Stages.{two_tables, three_tables}
-use Rattle.lpis_tables.specs.Tables.{span_table}
+use Rattle.lpis_tables.proofs.Common.{state, two_tables, three_tables, span_table}
 use Rattle.lpis_tables.specs.private.Texts.{make_span as text}
 use Rattle.lpis_tables.proofs.MeaningLemmas.{span_is}
 use Rattle.lpis_tables.proofs.MoveLemmas.{span_beside}

@@ -1,8 +1,6 @@
 use Rattle.std.proofs.Common.{◌≡◌, Ok, pos, take, true}
-use Rattle.sqlite.specs.Held.{state}
+use Rattle.lpis_tables.proofs.Common.{state, has_spans, IsQuiet, Turns}
 use Rattle.lpis_records.specs.Content.{all_ended}
-use Rattle.lpis_tables.specs.Shapes.{has_spans}
-use Rattle.lpis_tables.specs.private.Inside.{IsQuiet, Turns}
 use Rattle.lpis_tables.proofs.writing.end_spans.Given as goal
 
 abbrev pub invariant-loop-id : goal.invariant-loop-id

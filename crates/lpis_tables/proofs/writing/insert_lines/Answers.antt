@@ -1,6 +1,5 @@
 use Rattle.std.proofs.Common.{pos, arith, take, length, ◌<◌}
-use Rattle.sqlite.specs.Held.{state}
-use Rattle.lpis_records.specs.Content.{lines_from, with_lines}
+use Rattle.lpis_tables.proofs.Common.{state, lines_from, with_lines}
 use Rattle.lpis_tables.proofs.StepLemmas.{at_end, one_more, quiet_on}
 use Rattle.lpis_tables.proofs.LoopLemmas.{lines_more}
 use Rattle.lpis_tables.proofs.writing.insert_lines.Goals as goal

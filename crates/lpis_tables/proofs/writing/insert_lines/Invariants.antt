@@ -1,7 +1,5 @@
 use Rattle.std.proofs.Common.{◌≡◌, Ok, pos, take}
-use Rattle.sqlite.specs.Held.{state}
-use Rattle.lpis_records.specs.Content.{lines_from, with_lines}
-use Rattle.lpis_tables.specs.private.Inside.{IsQuiet, Turns}
+use Rattle.lpis_tables.proofs.Common.{state, lines_from, with_lines, IsQuiet, Turns}
 use Rattle.lpis_tables.proofs.writing.insert_lines.Given as goal
 
 abbrev pub invariant-loop-place : goal.invariant-loop-place

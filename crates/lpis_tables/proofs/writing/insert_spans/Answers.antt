@@ -1,7 +1,6 @@
 use Rattle.std.proofs.Common.{◌≡◌, pos, arith, take, length, ◌<◌, true}
-use Rattle.sqlite.specs.Held.{state}
+use Rattle.lpis_tables.proofs.Common.{state, has_spans}
 use Rattle.lpis_records.specs.Content.{with_spans, with_span}
-use Rattle.lpis_tables.specs.Shapes.{has_spans}
 use Rattle.lpis_tables.proofs.StepLemmas.{at_end, one_more, quiet_on}
 use Rattle.lpis_tables.proofs.LoopLemmas.{more}
 use Rattle.lpis_tables.proofs.writing.insert_spans.Goals as goal

@@ -1,9 +1,9 @@
 use Rattle.std.proofs.Common.{Ok, ◌≡◌, ◌<◌, false, ◌++◌, sym, ap, ◌∙◌, length, arith, get_or}
-use Rattle.lpis_wkt.specs.private.Runs.{is_word}
+use Rattle.lpis_wkt.proofs.Common.{is_word}
 use Rattle.lpis_wkt.proofs.PointLemmas.{coordinate-ok}
 use Rattle.lpis_wkt.proofs.PartLemmas.{signed_number, signed_word}
-use Rattle.lpis_wkt.proofs.fast_path.common_coordinate.Goals as goal
 use Rattle.lpis_wkt.proofs.fast_path.common_coordinate.Goals.{else-end-text-via-then-end-text+else-is_word, else-end-text-via-else-end-text}
+use Rattle.lpis_wkt.proofs.fast_path.common_coordinate.Goals as goal
 
 pub returns-clause-word : goal.returns-clause-word
 returns-clause-word c =

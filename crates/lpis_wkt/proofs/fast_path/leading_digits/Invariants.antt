@@ -1,9 +1,5 @@
 use Rattle.std.proofs.Common.{◌≡◌, ◌≤◌, ◌-◌, ◌+◌, ◌*◌, ℕ, List, length, true}
-use Rattle.std.specs.List.{list_all}
-use Rattle.std.specs.Char.{is_ascii_digit}
-use Rattle.std.specs.Str.Parse.{digits_value}
-use Rattle.lpis_wkt.specs.Number.{greatest}
-use Rattle.lpis_wkt.specs.private.Runs.{IsPart}
+use Rattle.lpis_wkt.proofs.Common.{list_all, is_ascii_digit, digits_value, greatest, IsPart}
 use Rattle.lpis_wkt.proofs.fast_path.leading_digits.Given as goal
 
 abbrev pub invariant-loop-i : goal.invariant-loop-i

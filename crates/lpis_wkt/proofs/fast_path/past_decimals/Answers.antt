@@ -1,5 +1,5 @@
 use Rattle.std.proofs.Common.{◌≡◌, ℕ, true, sym, ◌∙◌, refl, arith, get_or, ◌∷◌, ◌++◌, [], length-append}
-use Rattle.std.specs.Char.{is_ascii_digit}
+use Rattle.lpis_wkt.proofs.Common.{is_ascii_digit}
 use Rattle.lpis_wkt.proofs.PartLemmas.{no_part, one_more, digits-push}
 use Rattle.lpis_wkt.proofs.fast_path.past_decimals.Goals as goal
 

@@ -1,8 +1,5 @@
 use Rattle.std.proofs.Common.{◌≡◌, ◌≤◌, ◌-◌, ℕ, List, length, true}
-use Rattle.std.specs.List.{list_all}
-use Rattle.std.specs.Char.{is_ascii_digit}
-use Rattle.lpis_wkt.specs.Number.{coordinate_decimals}
-use Rattle.lpis_wkt.specs.private.Runs.{IsPart}
+use Rattle.lpis_wkt.proofs.Common.{list_all, is_ascii_digit, coordinate_decimals, IsPart}
 use Rattle.lpis_wkt.proofs.fast_path.past_decimals.Given as goal
 
 abbrev pub invariant-loop-i : goal.invariant-loop-i

@@ -1,5 +1,6 @@
 use Rattle.std.proofs.Common.{ℕ, ◌+◌, List, [], ◌∷◌, subst, arith}
-use Rattle.lpis_wkt.specs.private.Runs.{IsPart, none, plus, minus}
+use Rattle.lpis_wkt.proofs.Common.{IsPart}
+use Rattle.lpis_wkt.specs.private.Runs.{none, plus, minus}
 use Rattle.lpis_wkt.proofs.PartLemmas.{no_part, one_more}
 use Rattle.lpis_wkt.proofs.fast_path.past_sign.Goals as goal
 

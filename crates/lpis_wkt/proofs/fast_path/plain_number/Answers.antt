@@ -1,7 +1,5 @@
 use Rattle.std.proofs.Common.{◌≡◌, ℕ, ◌+◌, ◌<◌, List, [], ◌∷◌, ◌++◌, sym, ap, subst, ◌∙◌, length, arith, slice_range}
-use Rattle.std.specs.Str.Parse.{digits_value, digits_value_after}
-use Rattle.lpis_wkt.specs.Number.{coordinate_decimals, padded}
-use Rattle.lpis_wkt.specs.private.Runs.{IsPart}
+use Rattle.lpis_wkt.proofs.Common.{digits_value, digits_value_after, coordinate_decimals, padded, IsPart}
 use Rattle.lpis_wkt.proofs.DigitLemmas.{size_after}
 use Rattle.lpis_wkt.proofs.PartLemmas.{no_part, one_more, joined, part_is, plain_decimals, plain_whole}
 use Rattle.lpis_wkt.proofs.fast_path.plain_number.Goals as goal

@@ -1,5 +1,5 @@
-use Rattle.lpis_wkt.proofs.DigitLemmas.{parts_some, parts_none}
 use Rattle.std.proofs.Common.{sym, ◌∙◌}
+use Rattle.lpis_wkt.proofs.DigitLemmas.{parts_some, parts_none}
 use Rattle.lpis_wkt.proofs.number.parts.Goals as goal
 
 pub returns-in-Some : goal.returns-in-Some

@@ -1,6 +1,5 @@
 use Rattle.std.proofs.Common.{◌≡◌, ◌≤◌, ◌++◌}
-use Rattle.std.specs.Str.Parse.{digits_value}
-use Rattle.lpis_wkt.specs.Number.{coordinate_decimals, greatest, padded}
+use Rattle.lpis_wkt.proofs.Common.{digits_value, coordinate_decimals, greatest, padded}
 use Rattle.lpis_wkt.proofs.DigitLemmas.{size_after, whole_above}
 use Rattle.lpis_wkt.proofs.number.size.Goals as goal
 

@@ -1,8 +1,5 @@
 use Rattle.std.proofs.Common.{◌≡◌, ◌≤◌, drop, true}
-use Rattle.std.specs.List.{list_all}
-use Rattle.std.specs.Char.{is_ascii_digit}
-use Rattle.std.specs.Str.Parse.{digits_value_after}
-use Rattle.lpis_wkt.specs.Number.{greatest}
+use Rattle.lpis_wkt.proofs.Common.{list_all, is_ascii_digit, digits_value_after, greatest}
 use Rattle.lpis_wkt.proofs.number.whole_number.Given as goal
 
 abbrev pub invariant-loop-b : goal.invariant-loop-b

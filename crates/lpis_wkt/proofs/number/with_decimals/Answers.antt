@@ -1,5 +1,5 @@
 use Rattle.std.proofs.Common.{◌≡◌, ◌-◌, ◌∙◌, sym, arith}
-use Rattle.lpis_wkt.specs.Number.{coordinate_decimals}
+use Rattle.lpis_wkt.proofs.Common.{coordinate_decimals}
 use Rattle.lpis_wkt.proofs.DigitLemmas.{decimal_above, decimal_step}
 use Rattle.lpis_wkt.proofs.number.with_decimals.Goals as goal
 

@@ -1,6 +1,5 @@
 use Rattle.std.proofs.Common.{◌≡◌, ◌≤◌, ◌-◌, drop}
-use Rattle.std.specs.Str.Parse.{digits_value_after}
-use Rattle.lpis_wkt.specs.Number.{coordinate_decimals, greatest, padded}
+use Rattle.lpis_wkt.proofs.Common.{digits_value_after, coordinate_decimals, greatest, padded}
 use Rattle.lpis_wkt.proofs.number.with_decimals.Given as goal
 
 abbrev pub invariant-loop-i : goal.invariant-loop-i

@@ -1,6 +1,7 @@
 use Rattle.std.proofs.Common.{◌≡◌, length, ◌∷◌, ◌++◌, []}
-use Rattle.lpis_wkt.specs.Tokens.{tokens, End}
-use Rattle.lpis_wkt.specs.private.Machine.{AtKeyword, outcome}
+use Rattle.lpis_wkt.proofs.Common.{End, AtKeyword}
+use Rattle.lpis_wkt.specs.Tokens.{tokens}
+use Rattle.lpis_wkt.specs.private.Machine.{outcome}
 use Rattle.lpis_wkt.proofs.reading.parse.Given as goal
 
 abbrev pub invariant-loop-token : goal.invariant-loop-token

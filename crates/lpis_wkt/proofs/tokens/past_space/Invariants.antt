@@ -1,5 +1,5 @@
 use Rattle.std.proofs.Common.{length, ◌-◌, ◌≡◌, ◌≤◌, drop}
-use Rattle.lpis_wkt.specs.Tokens.{tokens_from}
+use Rattle.lpis_wkt.proofs.Common.{tokens_from}
 use Rattle.lpis_wkt.proofs.tokens.past_space.Given as goal
 
 abbrev pub invariant-loop-i : goal.invariant-loop-i

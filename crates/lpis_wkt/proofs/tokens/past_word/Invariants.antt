@@ -1,5 +1,5 @@
 use Rattle.std.proofs.Common.{length, ◌-◌, ◌≡◌, ◌<◌, ◌≤◌, ℕ, true, get_or}
-use Rattle.lpis_wkt.specs.private.Runs.{is_word}
+use Rattle.lpis_wkt.proofs.Common.{is_word}
 use Rattle.lpis_wkt.proofs.tokens.past_word.Given as goal
 
 abbrev pub invariant-loop-i : goal.invariant-loop-i

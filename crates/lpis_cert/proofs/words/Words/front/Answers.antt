@@ -1,5 +1,5 @@
 use Rattle.std.proofs.Common.{◌∙◌, sym, [], length, ◌-◌, ◌+◌, take, drop}
-use Rattle.lpis_cert.specs.Reading.{is_gap, words}
+use Rattle.lpis_cert.proofs.Common.{is_gap, words}
 use Rattle.lpis_cert.proofs.SplittingLemmas.{whole, cut}
 use Rattle.lpis_cert.proofs.words.Words.front.Goals as goal
 

@@ -1,5 +1,5 @@
 use Rattle.std.proofs.Common.{◌∙◌, sym}
-use Rattle.lpis_cert.specs.Reading.{is_gap}
+use Rattle.lpis_cert.proofs.Common.{is_gap}
 use Rattle.lpis_cert.proofs.SplittingLemmas.{whole, cut}
 use Rattle.lpis_cert.proofs.words.Words.next.Goals as goal
 

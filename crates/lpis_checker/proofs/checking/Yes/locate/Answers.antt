@@ -1,10 +1,5 @@
-use Rattle.std.proofs.Common.{◌≡◌, ◌∙◌, Some, ap, subst, arith}
-use Rattle.std.specs.List.{slice_get}
-use Rattle.std.proofs.lemmas.Int.{ints}
-use Rattle.std.proofs.lemmas.Option.{slice_get-get_or}
-use Rattle.lpis_points.specs.RatPoints.{rational_of}
-use Rattle.lpis_parcels.specs.Release.{Contents}
-use Rattle.lpis_checker.specs.SoundMap.{IsSoundMap}
+use Rattle.std.proofs.Common.{◌≡◌, ◌∙◌, Some, ap, subst, arith, slice_get}
+use Rattle.lpis_checker.proofs.Common.{ints, slice_get-get_or, rational_of, Contents, IsSoundMap}
 use Rattle.lpis_checker.proofs.SoundMapLemmas.{good_means_sound, no_gap}
 use Rattle.lpis_checker.proofs.checking.Yes.locate.Goals as goal
 

@@ -1,6 +1,5 @@
 use Rattle.std.proofs.Common.{subst}
-use Rattle.lpis_parcels.specs.Release.{Contents}
-use Rattle.lpis_checker.specs.SoundMap.{IsSoundMap}
+use Rattle.lpis_checker.proofs.Common.{Contents, IsSoundMap}
 use Rattle.lpis_checker.proofs.SoundMapLemmas.{good_means_sound}
 use Rattle.lpis_checker.proofs.checking.Yes.release.Goals as goal
 

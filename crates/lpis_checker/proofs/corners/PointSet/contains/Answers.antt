@@ -1,8 +1,5 @@
-use Rattle.std.proofs.Common.{◌∙◌, ◌↔◌, IsTrue, Bool, List, sym, subst}
-use Rattle.std.specs.Prelude.{Contains, is_ok}
-use Rattle.std.specs.List.Sorted.{IsSorted}
-use Rattle.lpis_points.specs.declared.point.Point.{Point}
-use Rattle.lpis_checker.specs.private.SignedEdges.{point_order}
+use Rattle.std.proofs.Common.{◌∙◌, ◌↔◌, IsTrue, Bool, List, sym, subst, Contains, is_ok, IsSorted}
+use Rattle.lpis_checker.proofs.Common.{Point, point_order}
 use Rattle.lpis_checker.proofs.PointSetLemmas.{found}
 use Rattle.lpis_checker.proofs.corners.PointSet.contains.Goals as goal
 

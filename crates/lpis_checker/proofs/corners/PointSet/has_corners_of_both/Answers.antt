@@ -1,5 +1,5 @@
 use Rattle.std.proofs.Common.{◌↔◌, IsTrue, Bool, ◌++◌, sym, subst}
-use Rattle.lpis_checker.specs.GoodCertificate.{HaveCorners}
+use Rattle.lpis_checker.proofs.Common.{HaveCorners}
 use Rattle.lpis_checker.proofs.PointSetLemmas.{both_have, first_lacks}
 use Rattle.lpis_checker.proofs.SiteLemmas.{untrue}
 use Rattle.lpis_checker.proofs.corners.PointSet.has_corners_of_both.Goals as goal

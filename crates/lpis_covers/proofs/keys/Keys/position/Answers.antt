@@ -1,5 +1,4 @@
-use Rattle.std.proofs.Common.{List, ℕ, ap, ◌∙◌}
-use Rattle.std.specs.Prelude.{position}
+use Rattle.std.proofs.Common.{List, ℕ, ap, ◌∙◌, position}
 use Rattle.lpis_covers.specs.Ids.{same_id}
 use Rattle.lpis_covers.proofs.KeyedLemmas.{at-position}
 use Rattle.lpis_covers.proofs.keys.Keys.position.Goals as goal

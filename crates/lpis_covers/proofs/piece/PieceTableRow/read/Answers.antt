@@ -1,4 +1,4 @@
-use Rattle.std.proofs.lemmas.Result.{err_from_is_err_and}
+use Rattle.lpis_covers.proofs.Common.{err_from_is_err_and}
 use Rattle.lpis_covers.proofs.PieceLemmas.{piece-polygon-fault}
 use Rattle.lpis_covers.proofs.piece.PieceTableRow.read.Goals as goal
 

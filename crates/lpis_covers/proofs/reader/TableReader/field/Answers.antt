@@ -1,6 +1,5 @@
 use Rattle.std.proofs.Common.{◌≡◌, ◌∙◌, ◌<◌, length, get_or, ap, refl, subst, List, ℕ, Bor}
-use Rattle.csv.specs.Records.{fields_of}
-use Rattle.lpis_covers.specs.Table.{Reading, field_of}
+use Rattle.lpis_covers.proofs.Common.{fields_of, Reading, field_of}
 use Rattle.lpis_covers.proofs.ColumnLemmas.{field-or}
 use Rattle.lpis_covers.proofs.ReadingLemmas.{picked-field}
 use Rattle.lpis_covers.proofs.reader.TableReader.field.Goals as goal

@@ -1,5 +1,5 @@
 use Rattle.std.proofs.Common.{◌<◌, arith}
-use Rattle.csv.specs.Records.{fields_of}
+use Rattle.lpis_covers.proofs.Common.{fields_of}
 use Rattle.lpis_covers.proofs.ReadingLemmas.{next-end, next-many, next-odd, next-row}
 use Rattle.lpis_covers.proofs.reader.TableReader.next_row.Goals as goal
 

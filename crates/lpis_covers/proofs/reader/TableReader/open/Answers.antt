@@ -1,7 +1,5 @@
 use Rattle.std.proofs.Common.{◌∙◌, sym, ap}
-use Rattle.std.proofs.lemmas.Result.{err_from_is_err_and}
-use Rattle.csv.specs.Records.{fields_of}
-use Rattle.lpis_covers.specs.Table.{texts, under_header}
+use Rattle.lpis_covers.proofs.Common.{err_from_is_err_and, fields_of, texts, under_header}
 use Rattle.lpis_covers.proofs.ReadingLemmas.{column-fault, header-found, table-marked, table-unmarked}
 use Rattle.lpis_covers.proofs.reader.TableReader.open.Goals as goal
 

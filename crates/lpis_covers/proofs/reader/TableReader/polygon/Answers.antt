@@ -1,7 +1,5 @@
-use Rattle.std.proofs.Common.{◌∙◌, List, ℕ, subst, sym}
-use Rattle.std.specs.Str.{IsUtf8}
-use Rattle.lpis_covers.specs.Faults.{polygon_in}
-use Rattle.lpis_covers.specs.Table.{field_of}
+use Rattle.std.proofs.Common.{◌∙◌, List, ℕ, subst, sym, IsUtf8}
+use Rattle.lpis_covers.proofs.Common.{polygon_in, field_of}
 use Rattle.lpis_covers.proofs.PolygonLemmas.{field-no-polygon, field-no-text, field-polygon}
 use Rattle.lpis_covers.proofs.reader.TableReader.polygon.Goals as goal
 

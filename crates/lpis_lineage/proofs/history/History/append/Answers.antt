@@ -1,13 +1,5 @@
-use Rattle.std.proofs.Common.{◌≡◌, ◌<◌, ◌∙◌, sym, ap, arith, [], ℕ, List}
-use Rattle.std.specs.Prelude.{not, is_some}
-use Rattle.std.specs.HashMap.{get}
-use Rattle.std.specs.List.{filter}
-use Rattle.lpis_covers.specs.Ids.{has_id, same_id}
-use Rattle.lpis_lineage.specs.declared.row.Entry.{Entry}
-use Rattle.lpis_lineage.specs.Faults.{faults}
-use Rattle.lpis_lineage.specs.private.Keeping.{ended_in}
-use Rattle.lpis_lineage.specs.Lineage.{last_live, last_year}
-use Rattle.lpis_lineage.specs.Spans.{span_of}
+use Rattle.std.proofs.Common.{◌≡◌, ◌<◌, ◌∙◌, sym, ap, arith, [], ℕ, List, not, is_some, filter}
+use Rattle.lpis_lineage.proofs.Common.{get, has_id, same_id, Entry, faults, ended_in, last_live, last_year, span_of}
 use Rattle.lpis_lineage.proofs.SpanStepLemmas.{history-more, history-same}
 use Rattle.lpis_lineage.proofs.history.History.append.Goals as goal
 

@@ -1,8 +1,6 @@
-use Rattle.std.proofs.Common.{◌≡◌, ◌∙◌, ◌-◌, ap, arith, List, Option, Some, None, Bor, length}
-use Rattle.std.specs.Prelude.{IfSome}
+use Rattle.std.proofs.Common.{◌≡◌, ◌∙◌, ◌-◌, ap, arith, List, Option, Some, None, Bor, length, IfSome}
+use Rattle.lpis_lineage.proofs.Common.{Entry, last_live, last_year}
 use Rattle.std.specs.Slice.{IsGetResult}
-use Rattle.lpis_lineage.specs.declared.row.Entry.{Entry}
-use Rattle.lpis_lineage.specs.Lineage.{last_live, last_year}
 use Rattle.lpis_lineage.proofs.ExtensionLemmas.{last-entry}
 use Rattle.lpis_lineage.proofs.history.History.last_entry.Goals as goal
 

@@ -1,6 +1,5 @@
 use Rattle.std.proofs.Common.{refl}
-use Rattle.std.specs.HashMap.{get}
-use Rattle.lpis_covers.specs.Ids.{same_id}
+use Rattle.lpis_lineage.proofs.Common.{get, same_id}
 use Rattle.lpis_lineage.proofs.TakingBackLemmas.{history-less}
 use Rattle.lpis_lineage.proofs.history.History.take_back.Goals as goal
 

@@ -1,8 +1,5 @@
-use Rattle.std.proofs.Common.{◌∙◌, ◌++◌, ap, List, ℕ}
-use Rattle.std.specs.Prelude.{not, is_some}
-use Rattle.std.specs.List.{filter}
-use Rattle.lpis_covers.specs.Ids.{has_id}
-use Rattle.lpis_lineage.specs.Spans.{span_of}
+use Rattle.std.proofs.Common.{◌∙◌, ◌++◌, ap, List, ℕ, not, is_some, filter}
+use Rattle.lpis_lineage.proofs.Common.{has_id, span_of}
 use Rattle.lpis_lineage.proofs.WalkingLemmas.{unheld-lacking}
 use Rattle.lpis_lineage.proofs.history.History.unheld.Goals as goal
 

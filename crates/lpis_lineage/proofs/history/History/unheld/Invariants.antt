@@ -1,7 +1,5 @@
-use Rattle.std.proofs.Common.{◌≡◌, ◌++◌}
-use Rattle.std.specs.Prelude.{not, is_some}
-use Rattle.std.specs.List.{filter}
-use Rattle.lpis_lineage.specs.Spans.{span_of}
+use Rattle.std.proofs.Common.{◌≡◌, ◌++◌, not, is_some, filter}
+use Rattle.lpis_lineage.proofs.Common.{span_of}
 use Rattle.lpis_lineage.proofs.history.History.unheld.Given as goal
 
 abbrev pub invariant-loop-id : goal.invariant-loop-id

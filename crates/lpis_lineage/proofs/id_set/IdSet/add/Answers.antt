@@ -1,5 +1,5 @@
 use Rattle.std.proofs.Common.{◌∙◌, ℕ, List, true, cond, ap}
-use Rattle.lpis_covers.specs.Ids.{has_id, same_id}
+use Rattle.lpis_lineage.proofs.Common.{has_id, same_id}
 use Rattle.lpis_lineage.proofs.IdentifierLemmas.{add-by_order}
 use Rattle.lpis_lineage.proofs.id_set.IdSet.add.Goals as goal
 

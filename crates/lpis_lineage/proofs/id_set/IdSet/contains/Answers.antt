@@ -1,5 +1,5 @@
 use Rattle.std.proofs.Common.{◌∙◌, ap, List, ℕ}
-use Rattle.lpis_covers.specs.Ids.{has_id}
+use Rattle.lpis_lineage.proofs.Common.{has_id}
 use Rattle.lpis_lineage.proofs.IdentifierLemmas.{has-by_order}
 use Rattle.lpis_lineage.proofs.id_set.IdSet.contains.Goals as goal
 

@@ -1,7 +1,6 @@
-use Rattle.std.proofs.Common.{◌≡◌, ◌∙◌, sym, ap, subst, ◌++◌, ℕ, List, Bool}
-use Rattle.std.specs.List.{filter}
+use Rattle.std.proofs.Common.{◌≡◌, ◌∙◌, sym, ap, subst, ◌++◌, ℕ, List, Bool, filter}
+use Rattle.lpis_lineage.proofs.Common.{has_id}
 use Rattle.std.proofs.lemmas.List.{append-nil}
-use Rattle.lpis_covers.specs.Ids.{has_id}
 use Rattle.lpis_lineage.specs.Order.{IsAscending}
 use Rattle.lpis_lineage.proofs.PickingLemmas.{ascending-filter}
 use Rattle.lpis_lineage.proofs.id_set.IdSet.inside.Goals as goal

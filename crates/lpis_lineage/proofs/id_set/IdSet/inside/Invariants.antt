@@ -1,6 +1,5 @@
-use Rattle.std.proofs.Common.{◌≡◌, ◌++◌}
-use Rattle.std.specs.List.{filter}
-use Rattle.lpis_covers.specs.Ids.{has_id}
+use Rattle.std.proofs.Common.{◌≡◌, ◌++◌, filter}
+use Rattle.lpis_lineage.proofs.Common.{has_id}
 use Rattle.lpis_lineage.proofs.id_set.IdSet.inside.Given as goal
 
 abbrev pub invariant-loop-id : goal.invariant-loop-id

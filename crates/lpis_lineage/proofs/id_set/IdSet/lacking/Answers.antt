@@ -1,7 +1,5 @@
-use Rattle.std.proofs.Common.{◌∙◌, ap, List, ℕ}
-use Rattle.std.specs.Prelude.{not}
-use Rattle.std.specs.List.{filter}
-use Rattle.lpis_covers.specs.Ids.{has_id}
+use Rattle.std.proofs.Common.{◌∙◌, ap, List, ℕ, not, filter}
+use Rattle.lpis_lineage.proofs.Common.{has_id}
 use Rattle.lpis_lineage.proofs.IdentifierLemmas.{has-by_order}
 use Rattle.lpis_lineage.proofs.PickingLemmas.{filter-same}
 use Rattle.lpis_lineage.proofs.id_set.IdSet.lacking.Goals as goal

@@ -1,8 +1,8 @@
 use Rattle.std.proofs.Common.{◌≡◌, ◌∙◌, sym, ap, rules, List, ℕ}
+use Rattle.lpis_lineage.proofs.Common.{has_id}
 use Rattle.std.proofs.lemmas.Iterator.{items_from_drains}
 use Rattle.std.proofs.lemmas.Iterator.Adapters.{YieldsList-from_vec}
 use Rattle.std.proofs.lemmas.List.{map-id}
-use Rattle.lpis_covers.specs.Ids.{has_id}
 use Rattle.lpis_lineage.proofs.IdentifierLemmas.{has-by_order}
 use Rattle.lpis_lineage.proofs.id_set.IdSet.of.Goals as goal
 

@@ -1,7 +1,5 @@
-use Rattle.std.proofs.Common.{◌≡◌, ◌++◌}
-use Rattle.std.specs.Prelude.{not}
-use Rattle.std.specs.List.{filter}
-use Rattle.lpis_covers.specs.Ids.{has_id}
+use Rattle.std.proofs.Common.{◌≡◌, ◌++◌, not, filter}
+use Rattle.lpis_lineage.proofs.Common.{has_id}
 use Rattle.lpis_lineage.proofs.id_set.IdSet.outside.Given as goal
 
 abbrev pub invariant-loop-id : goal.invariant-loop-id

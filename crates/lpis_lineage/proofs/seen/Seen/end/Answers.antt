@@ -1,7 +1,6 @@
 use Rattle.std.proofs.Common.{◌∙◌, inr, refl, sym, ap, List, ℕ, cond, true}
-use Rattle.lpis_covers.specs.Ids.{has_id, same_id}
+use Rattle.lpis_lineage.proofs.Common.{has_id, same_id, first}
 use Rattle.lpis_lineage.proofs.CleanLemmas.{first-told, told-skip, told-none}
-use Rattle.lpis_lineage.specs.Faults.{first}
 use Rattle.lpis_lineage.proofs.SeenLemmas.{doubled-end, clash-end-set, seen-end}
 use Rattle.lpis_lineage.proofs.seen.Seen.end.Goals as goal
 

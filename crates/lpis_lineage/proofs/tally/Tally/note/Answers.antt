@@ -1,5 +1,5 @@
 use Rattle.std.proofs.Common.{◌∙◌, ap, sym, refl, List, ℕ, cond, true}
-use Rattle.lpis_covers.specs.Ids.{has_id, same_id}
+use Rattle.lpis_lineage.proofs.Common.{has_id, same_id}
 use Rattle.lpis_lineage.proofs.TallyLemmas.{tally-again, tally-new}
 use Rattle.lpis_lineage.proofs.tally.Tally.note.Goals as goal
 

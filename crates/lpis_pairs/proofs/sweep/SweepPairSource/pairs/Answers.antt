@@ -1,7 +1,7 @@
 use Rattle.std.proofs.Common.{ℕ, ◌<◌, List, sym, subst}
+use Rattle.lpis_pairs.proofs.Common.{Event, AreEvents, AreInOrder, Joins}
 use Rattle.std.proofs.lemmas.List.Sorted.{All-permutation}
-use Rattle.lpis_pairs.specs.declared.events.Event.{Event}
-use Rattle.lpis_pairs.specs.private.Sweeping.{IsEvent, AreEvents, AreInOrder, Joins}
+use Rattle.lpis_pairs.specs.private.Sweeping.{IsEvent}
 use Rattle.lpis_pairs.proofs.OrderedLemmas.{in_order}
 use Rattle.lpis_pairs.proofs.FoundLemmas.{finds, near_list}
 use Rattle.lpis_pairs.proofs.sweep.SweepPairSource.pairs.Goals as goal

@@ -1,7 +1,6 @@
-use Rattle.std.proofs.Common.{◌≡◌, List, Some, None, subst, refl}
-use Rattle.std.specs.Prelude.{slice_get}
-use Rattle.std.proofs.lemmas.Option.{slice_get_read, slice_get_past}
-use Rattle.lpis_covers.specs.declared.class.Class.{Class}
+use Rattle.std.proofs.Common.{◌≡◌, List, Some, None, subst, refl, slice_get}
+use Rattle.lpis_parcels.proofs.Common.{slice_get_read, Class}
+use Rattle.std.proofs.lemmas.Option.{slice_get_past}
 use Rattle.lpis_parcels.proofs.PlaceLemmas.{mark-of-place}
 use Rattle.lpis_parcels.proofs.release.Release.is_eligible.Goals as goal
 

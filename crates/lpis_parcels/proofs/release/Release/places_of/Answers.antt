@@ -1,9 +1,5 @@
-use Rattle.std.proofs.Common.{◌∙◌, ◌<◌, length, sym, ap}
-use Rattle.std.specs.Prelude.{is_some}
-use Rattle.std.proofs.lemmas.List.{length-map}
-use Rattle.lpis_parcels.specs.private.Joined.{group_lists}
-use Rattle.lpis_parcels.specs.Release.{Contents, names}
-use Rattle.lpis_parcels.specs.private.Groups.{places_where}
+use Rattle.std.proofs.Common.{◌∙◌, ◌<◌, length, sym, ap, is_some}
+use Rattle.lpis_parcels.proofs.Common.{length-map, group_lists, Contents, names, places_where}
 use Rattle.lpis_parcels.proofs.JoinLemmas.{group-within, list-at}
 use Rattle.lpis_parcels.proofs.PlaceLemmas.{few-places, first-faults, group-places, stranger-none, within-places}
 use Rattle.lpis_parcels.proofs.release.Release.places_of.Goals as goal

@@ -1,4 +1,4 @@
-use Rattle.lpis_points.specs.Plane.{same_point}
+use Rattle.lpis_points.proofs.Common.{same_point}
 use Rattle.lpis_points.proofs.ChainLemmas.{chain_lemma}
 use Rattle.lpis_points.proofs.PointLemmas.{same_point-equality}
 use Rattle.lpis_points.proofs.laws.chains.equal_net_counts_give_equal_sums.Goals as goal

@@ -1,7 +1,6 @@
 use Rattle.std.proofs.Common.{ap, ◌∙◌, sym, subst}
-use Rattle.sqlite.specs.Tree.{Trees}
+use Rattle.lpis_register.proofs.Common.{Trees, Leaves}
 use Rattle.sqlite_trees.specs.Objects.{catalog_tree}
-use Rattle.lpis_tables.specs.Holding.{Leaves}
 use Rattle.lpis_register.proofs.OpeningLemmas.{none_in_nothing}
 use Rattle.lpis_register.proofs.files.Register+FileStore+FileFrom+S.open_file.Goals as goal
 

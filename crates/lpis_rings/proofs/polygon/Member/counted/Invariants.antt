@@ -1,5 +1,5 @@
 use Rattle.std.proofs.Common.{◌≡◌, ◌≤◌, take}
-use Rattle.lpis_rings.specs.Polygon.{most_points, points_of}
+use Rattle.lpis_rings.proofs.Common.{most_points, points_of}
 use Rattle.lpis_rings.proofs.polygon.Member.counted.Given as goal
 
 abbrev pub invariant-loop-member : goal.invariant-loop-member

@@ -1,4 +1,4 @@
-use Rattle.lpis_tables.specs.private.Texts.{read_format}
+use Rattle.lpis_tables.proofs.Common.{read_format}
 use Rattle.lpis_tables.proofs.MeaningLemmas.{read_format_means}
 use Rattle.lpis_tables.proofs.ShowingLemmas.{by_query, formats_shown}
 use Rattle.lpis_tables.proofs.queries.FormatRowStored.query.Goals as goal

@@ -1,4 +1,4 @@
-use Rattle.lpis_tables.specs.private.Texts.{read_release}
+use Rattle.lpis_tables.proofs.Common.{read_release}
 use Rattle.lpis_tables.proofs.MeaningLemmas.{read_release_means}
 use Rattle.lpis_tables.proofs.ShowingLemmas.{by_query, years_shown}
 use Rattle.lpis_tables.proofs.queries.I64Stored.query.Goals as goal

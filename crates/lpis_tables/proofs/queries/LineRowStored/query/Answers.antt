@@ -1,4 +1,4 @@
-use Rattle.lpis_tables.specs.private.Texts.{read_line}
+use Rattle.lpis_tables.proofs.Common.{read_line}
 use Rattle.lpis_tables.proofs.MeaningLemmas.{read_line_means}
 use Rattle.lpis_tables.proofs.ShowingLemmas.{by_query, lines_shown}
 use Rattle.lpis_tables.proofs.queries.LineRowStored.query.Goals as goal

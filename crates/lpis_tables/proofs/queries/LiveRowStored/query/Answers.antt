@@ -1,4 +1,4 @@
-use Rattle.lpis_tables.specs.private.Texts.{read_live}
+use Rattle.lpis_tables.proofs.Common.{read_live}
 use Rattle.lpis_tables.proofs.MeaningLemmas.{read_live_means}
 use Rattle.lpis_tables.proofs.ShowingLemmas.{by_query, live_shown_are}
 use Rattle.lpis_tables.proofs.queries.LiveRowStored.query.Goals as goal

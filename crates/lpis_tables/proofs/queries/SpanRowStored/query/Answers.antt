@@ -1,4 +1,4 @@
-use Rattle.lpis_tables.specs.private.Texts.{read_span}
+use Rattle.lpis_tables.proofs.Common.{read_span}
 use Rattle.lpis_tables.proofs.MeaningLemmas.{read_span_means}
 use Rattle.lpis_tables.proofs.ShowingLemmas.{by_query, spans_shown}
 use Rattle.lpis_tables.proofs.queries.SpanRowStored.query.Goals as goal

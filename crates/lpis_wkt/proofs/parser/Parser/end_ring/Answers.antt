@@ -1,8 +1,8 @@
 use Rattle.std.proofs.Common.{◌≡◌, sym, ap, ◌∙◌, refl, Err}
-use Rattle.lpis_wkt.specs.private.Machine.{Context, close_ring}
+use Rattle.lpis_wkt.proofs.Common.{Context, close_ring}
 use Rattle.lpis_wkt.proofs.ClosingLemmas.{short_ring, open_ring, points_at}
-use Rattle.lpis_wkt.proofs.parser.Parser.end_ring.Goals as goal
 use Rattle.lpis_wkt.proofs.parser.Parser.end_ring.Goals.{in-Short, in-Unclosed}
+use Rattle.lpis_wkt.proofs.parser.Parser.end_ring.Goals as goal
 
 pub returns-after-bad : goal.returns-after-bad
 returns-after-bad c = λ b ps e.

@@ -1,6 +1,5 @@
 use Rattle.std.proofs.Common.{◌≡◌, sym, ◌∙◌, refl, List}
-use Rattle.lpis_points.specs.declared.point.Point.{Point}
-use Rattle.lpis_wkt.specs.private.Machine.{Context, AfterPoint, AfterRing}
+use Rattle.lpis_wkt.proofs.Common.{Point, Context, AfterPoint, AfterRing}
 use Rattle.lpis_wkt.proofs.parser.Parser.take_closing.Goals as goal
 
 pub returns-in-Close : goal.returns-in-Close

@@ -1,0 +1,12 @@
+-- The names that most proofs of this crate cite, passed on from one place. Declares nothing.
+pub use Rattle.csv.specs.Reading.{default_config}
+unfoldable pub use Rattle.csv.specs.Reading.{strip_bom}
+pub use Rattle.csv.specs.Records.{fields_of}
+pub use Rattle.lpis_covers.specs.Faults.{polygon_in, unless_faulty}
+pub use Rattle.lpis_covers.specs.Table.{Answers, Reading, Record, field_of, has_mark, one_index, picked, texts, under_header}
+unfoldable pub use Rattle.lpis_covers.specs.Table.{places_of}
+pub use Rattle.lpis_covers.specs.declared.fault.Table.{Table}
+pub use Rattle.lpis_covers.specs.declared.fault.TableFault.{TableFault}
+pub use Rattle.lpis_covers.specs.declared.fault.TableFault.TheVariants.{At}
+pub use Rattle.std.proofs.lemmas.Bool.Decides.{nat_tests}
+pub use Rattle.std.proofs.lemmas.Result.{err_from_is_err_and}
