@@ -15,7 +15,8 @@ pub use Rattle.sqlite.specs.Edit.{edit_of, is_taken}
 pub use Rattle.sqlite.specs.Effect.{Database}
 pub use Rattle.sqlite.specs.Held.{state}
 unfoldable pub use Rattle.sqlite.specs.Listing.{understood}
-pub use Rattle.sqlite.specs.Order.{Row, column, value_cmp}
+pub use Rattle.sqlite.specs.Order.{Row, column}
+unfoldable pub use Rattle.sqlite.specs.Order.{value_cmp}
 pub use Rattle.sqlite.specs.Program.{overlay}
 pub use Rattle.sqlite.specs.Query.{IsAnswer, Output, output}
 pub use Rattle.sqlite.specs.Rowids.TheVariants.{Given}
