@@ -11,10 +11,10 @@ use std::alloc::{AllocError, Global};
 /// A box in a strip. Sorted, events run strip by strip, and in a strip by where boxes begin.
 #[derive(Clone, Copy, Debug, PartialEq, Eq, PartialOrd, Ord)]
 pub struct Event {
-    pub strip: u64,
+    pub strip: u32,
     /// Where the box begins, and where it ends.
-    pub left: u64,
-    pub right: u64,
+    pub left: u32,
+    pub right: u32,
     /// The number of the triangle.
     pub index: u32,
     /// Whether this is the lowest strip that the box meets.
@@ -25,7 +25,7 @@ pub struct Event {
 pub fn events_of(
     alloc: Global,
     triangles: &[Triangle],
-    height: u64,
+    height: u32,
 ) -> Result<Vec<Event>, AllocError>
     requires few { length triangles.now ≤ most_triangles }
     requires strips { 0 < height }

@@ -10,18 +10,18 @@ use lpis_points::{LIMIT, Triangle, box_of};
 /// A box, measured from the least x and the least y in range: none of its numbers is below 0.
 #[derive(Clone, Copy, Debug)]
 pub struct Extent {
-    pub left: u64,
-    pub bottom: u64,
-    pub right: u64,
-    pub top: u64,
+    pub left: u32,
+    pub bottom: u32,
+    pub right: u32,
+    pub top: u32,
 }
 
 /// How far a coordinate is above the least in range.
-fn offset(coordinate: i64) -> u64
+fn offset(coordinate: i64) -> u32
     requires { IsInRange coordinate }
     ensures { result ≡ offset_spec coordinate }
 {
-    (coordinate + LIMIT) as u64
+    (coordinate + LIMIT) as u32
 }
 
 /// The box of a triangle.
@@ -39,14 +39,16 @@ pub fn extent_of(triangle: &Triangle) -> Extent
 
 /// The height of a strip: more than the mean height of a box, so that there are fewer than three
 /// events a triangle.
-pub fn strip_height(triangles: &[Triangle]) -> u64
+pub fn strip_height(triangles: &[Triangle]) -> u32
     ensures { 0 < result }
 {
     let mut sum: u64 = 0;
     for triangle in triangles {
         let extent = extent_of(triangle);
-        sum = sum.saturating_add(extent.top.saturating_sub(extent.bottom));
+        sum = sum.saturating_add(extent.top.saturating_sub(extent.bottom) as u64);
     }
     let count = triangles.len().max(1) as u64;
-    (sum / count).saturating_add(1)
+    u32::try_from(sum / count)
+        .unwrap_or(u32::MAX)
+        .saturating_add(1)
 }
