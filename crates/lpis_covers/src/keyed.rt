@@ -60,6 +60,16 @@ impl<T: Identified> Keyed<T> {
         self.rows.as_slice()
     }
 
+    /// The rows alone, in the order of the table; their keys are let go.
+    pub fn into_rows(self) -> Vec<T>
+        ensures rows { result.items ≡ self }
+        ensures distinct { IsDistinct same_id (map T.identifier self) }
+        ensures few { length self ≤ most_rows }
+    {
+        let Keyed { rows, .. } = self;
+        rows
+    }
+
     /// The place of the row with this identifier.
     pub fn position(&self, id: &Id) -> Option<usize>
         ensures place { result ≡ position (same_id id.now) (map T.identifier self.now) }

@@ -19,7 +19,7 @@ use std::marker::Model;
 #[derive(Drop)]
 pub struct Release {
     parcels: Parcels,
-    pieces: Pieces,
+    pieces: Vec<Piece>,
     classes: Classes,
     joins: Joins,
 }
@@ -30,10 +30,11 @@ impl Model for Release {
 
     ghost Value = { Contents };
 
-    ghost view = { λ r. record { parcels = r.parcels; pieces = r.pieces; classes = r.classes } };
+    ghost view = { λ r. record
+        { parcels = r.parcels; pieces = r.pieces.items; classes = r.classes } };
 
     ghost invariant = { λ r. IsRelease
-        (record { parcels = r.parcels; pieces = r.pieces; classes = r.classes })
+        (record { parcels = r.parcels; pieces = r.pieces.items; classes = r.classes })
         (group_lists r.joins.groups.items) r.joins.classes.items };
 }
 
@@ -55,7 +56,7 @@ impl Release {
         let joins = join(alloc, &parcels, &pieces, &classes)?;
         Ok(Release {
             parcels,
-            pieces,
+            pieces: pieces.into_rows(),
             classes,
             joins,
         })

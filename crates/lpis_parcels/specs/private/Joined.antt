@@ -1,13 +1,16 @@
 -- What a release keeps beside its rows.
-use Rattle.std.specs.Prelude.{◌≡◌, ℕ, List, [], map, slice_get}
+use Rattle.std.specs.Prelude.{◌≡◌, ◌≤◌, ℕ, List, [], length, map, slice_get}
+use Rattle.std.specs.List.{IsDistinct}
 use Rattle.std.specs.declared.vec.Vec.{Vec}
 use Rattle.std.specs.declared.alloc.Global.{Global}
 use Rattle.lpis_covers.specs.declared.class.Class.{Class}
 use Rattle.lpis_covers.specs.declared.piece.Piece.{Piece}
+use Rattle.lpis_covers.specs.Ids.{same_id}
+use Rattle.lpis_covers.specs.Table.{most_rows}
 use Rattle.lpis_parcels.specs.declared.parcel.Parcel.{Parcel}
 use Rattle.lpis_parcels.specs.Eligible.{class_named}
 use Rattle.lpis_parcels.specs.private.Groups.{places_where}
-use Rattle.lpis_parcels.specs.Release.{Contents, join_faults, names}
+use Rattle.lpis_parcels.specs.Release.{Contents, join_faults, names, piece_ids}
 
 -- groups of places, as lists
 abbrev pub group_lists : List (Vec ℕ Global) → List (List ℕ)
@@ -20,7 +23,9 @@ pub record AreJoins (parcels : List Parcel) (pieces : List Piece) (classes : Lis
   pub classes_are : map (slice_get classes) class_places ≡ map
       (λ (p : Piece). class_named classes p.class) pieces
 
--- what a release keeps: the joins hold, and these are their places
+-- what a release keeps: the joins hold, these are their places, and the pieces are few, no two of one identifier
 pub record IsRelease (c : Contents) (groups : List (List ℕ)) (class_places : List ℕ) : Type 0 where
   pub joined : join_faults c ≡ []
+  pub distinct : IsDistinct same_id (piece_ids c.pieces)
+  pub few : length c.pieces ≤ most_rows
   pub joins : AreJoins c.parcels c.pieces c.classes groups class_places

@@ -20,8 +20,8 @@ returns-in-Some-clause-few c = few-places (names c.args.parcel.now) c.args.self.
 
 pub returns-in-None-clause-places : goal.returns-in-None-clause-places
 returns-in-None-clause-places c =
-    let none = first-faults c.self.inside.parcels c.self.inside.classes c.self.inside.pieces _ c.self.invariant.joined in
+    let none = first-faults c.self.inside.parcels c.self.inside.classes c.self.inside.pieces.items _ c.self.invariant.joined in
     let absent = sym c.position.ensures.found ∙ ap is_some c.in-None.is in
     sym (ap (λ (r : Contents). places_where (names c.args.parcel.now) 0 r.pieces) (sym c.self.view_is)
-    ∙ stranger-none c.self.inside.parcels c.self.inside.classes 1 0 c.self.inside.pieces c.args.parcel.now none
+    ∙ stranger-none c.self.inside.parcels c.self.inside.classes 1 0 c.self.inside.pieces.items c.args.parcel.now none
     absent)
