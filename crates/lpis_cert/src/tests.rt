@@ -1,46 +1,6 @@
 use super::*;
+use lpis_testing::{HALVES_CERT, PARCELS_CERT, SQUARE_CERT, edited};
 use std::test::*;
-
-const ONE_PIECE: &str = "lpis-cert 1
-piece C1 2 0
-t 0 0 1000 0 1000 1000
-t 0 0 1000 1000 0 1000
-parcel A 0
-pairs 1
-s 0 1 2
-end
-";
-
-const TWO_PIECES: &str = "lpis-cert 1
-piece L 2 0
-t 0 0 500 0 500 1000
-t 0 0 500 1000 0 1000
-piece R 2 0
-t 500 0 1000 0 1000 1000
-t 500 0 1000 1000 500 1000
-parcel A 2
-f 0 0 1000 0 500 0
-f 1000 1000 0 1000 500 1000
-pairs 2
-s 0 1 2
-s 2 3 2
-end
-";
-
-const TWO_PARCELS: &str = "lpis-cert 1
-piece b1 2 0
-t 0 0 500 0 500 1000
-t 0 0 500 1000 0 1000
-piece c1 2 0
-t 500 0 1000 0 1000 1000
-t 500 0 1000 1000 500 1000
-parcel B 0
-parcel C 0
-pairs 2
-s 0 1 2
-s 2 3 2
-end
-";
 
 const CUT_AFTER_MANY_PAIRS: &str = "lpis-cert 1
 piece C1 2 0
@@ -59,32 +19,12 @@ fn answer(rt: &HostRuntime, text: &[u8]) -> (&'static str, u64) {
     }
 }
 
-/// One line in place of another, once.
-fn with_line(rt: &HostRuntime, text: &str, old: &str, new: &str) -> Result<String, Fail> {
-    let mut edited = String::new(rt.alloc());
-    let mut found = false;
-    for line in text.lines() {
-        if line == old && !found {
-            found = true;
-            edited.push_str(new)?;
-        } else {
-            edited.push_str(line)?;
-        }
-        edited.push('\n')?;
-    }
-    if found {
-        Ok(edited)
-    } else {
-        Err("no such line".into())
-    }
-}
-
 #[test]
 fn certificates_are_read_and_written_byte_for_byte(rt: HostRuntime) -> Result<(), Fail> {
     for text in [
-        ONE_PIECE,
-        TWO_PIECES,
-        TWO_PARCELS,
+        SQUARE_CERT,
+        HALVES_CERT,
+        PARCELS_CERT,
         "lpis-cert 1\npairs 0\nend\n",
     ] {
         let cert = read_cert(rt.alloc(), text.as_bytes()).ok().ok_or("read")?;
@@ -97,7 +37,7 @@ fn certificates_are_read_and_written_byte_for_byte(rt: HostRuntime) -> Result<()
 
 #[test]
 fn a_certificate_has_its_parts_in_order(rt: HostRuntime) -> Result<(), Fail> {
-    let cert = read_cert(rt.alloc(), TWO_PIECES.as_bytes())
+    let cert = read_cert(rt.alloc(), HALVES_CERT.as_bytes())
         .ok()
         .ok_or("read")?;
     let [_, right] = cert.pieces.as_slice() else {
@@ -124,7 +64,7 @@ fn a_certificate_has_its_parts_in_order(rt: HostRuntime) -> Result<(), Fail> {
 
 #[test]
 fn a_certificate_cut_at_each_byte_lacks_its_next_line(rt: HostRuntime) {
-    for text in [ONE_PIECE, TWO_PIECES, TWO_PARCELS] {
+    for text in [SQUARE_CERT, HALVES_CERT, PARCELS_CERT] {
         let bytes = text.as_bytes();
         for at in 0..bytes.len() {
             let front = &bytes[..at];
@@ -165,7 +105,7 @@ fn first_faults(rt: HostRuntime) -> Result<(), Fail> {
         ("s 0 1 2", "s 1 0 2", "ok", 0),
         ("end", "end\n", "55", 9),
     ] {
-        let text = with_line(&rt, ONE_PIECE, old, new)?;
+        let text = edited(rt.alloc(), SQUARE_CERT, &[(old, new)])?;
         assert_eq!(rt; answer(&rt, text.as_bytes()), (code, line), "{new}");
     }
     Ok(())
@@ -174,7 +114,7 @@ fn first_faults(rt: HostRuntime) -> Result<(), Fail> {
 #[test]
 fn no_list_grows_by_a_declared_count(rt: HostRuntime) -> Result<(), Fail> {
     assert_eq!(rt; answer(&rt, CUT_AFTER_MANY_PAIRS.as_bytes()), ("54", 7));
-    let text = with_line(&rt, ONE_PIECE, "pairs 1", "pairs 4294967295")?;
+    let text = edited(rt.alloc(), SQUARE_CERT, &[("pairs 1", "pairs 4294967295")])?;
     assert_eq!(rt; answer(&rt, text.as_bytes()), ("53", 8));
     assert_eq!(rt;
         answer(&rt, b"lpis-cert 1\npiece A 2000000 2000000\n"),

@@ -10,50 +10,11 @@ use crate::{CheckFault, Place, check, check_parts};
 use lpis_cert::{Cert, read_cert};
 use lpis_pairs::{AllPairs, PairSource, Sweep};
 use lpis_parcels::{Release, read_release};
+use lpis_testing::{CLASSES, HALVES_CERT, LEFT, RIGHT, SQUARE, SQUARE_CERT, edited, expect};
 use std::test::Fail;
-
-static SQUARE: &str = "POLYGON((0 0,10 0,10 10,0 10,0 0))";
 
 /// The square covered twice.
 static SQUARE_TWICE: &str = "MULTIPOLYGON(((0 0,10 0,10 10,0 10,0 0)),((0 0,10 0,10 10,0 10,0 0)))";
-
-static LEFT: &str = "POLYGON((0 0,5 0,5 10,0 10,0 0))";
-
-static RIGHT: &str = "POLYGON((5 0,10 0,10 10,5 10,5 0))";
-
-/// The right half with its left side a centimetre too far to the right.
-static RIGHT_MOVED: &str = "POLYGON((5.01 0,10 0,10 10,5.01 10,5.01 0))";
-
-static CLASSES: &str = "class,eligible\nG,1\nW,0\n";
-
-/// For a parcel A and its piece C1 that are the square.
-static SQUARE_CERT: &str = "lpis-cert 1
-piece C1 2 0
-t 0 0 1000 0 1000 1000
-t 0 0 1000 1000 0 1000
-parcel A 0
-pairs 1
-s 0 1 2
-end
-";
-
-/// For a parcel A that is the square and its pieces L and R, the halves. The parcel's flats are for
-/// the two corners of the halves that it lacks.
-static HALVES_CERT: &str = "lpis-cert 1
-piece L 2 0
-t 0 0 500 0 500 1000
-t 0 0 500 1000 0 1000
-piece R 2 0
-t 500 0 1000 0 1000 1000
-t 500 0 1000 1000 500 1000
-parcel A 2
-f 0 0 1000 0 500 0
-f 1000 1000 0 1000 500 1000
-pairs 2
-s 0 1 2
-s 2 3 2
-end
-";
 
 /// The release of a parcel A with this polygon and of these pieces.
 fn release_of(rt: &HostRuntime, parcel: &str, pieces: &str) -> Result<Release, Fail> {
@@ -77,29 +38,6 @@ fn one_piece(rt: &HostRuntime, polygon: &str) -> Result<Release, Fail> {
 fn two_pieces(rt: &HostRuntime, right: &str) -> Result<Release, Fail> {
     let pieces = format!(in rt.alloc(); "L,A,G,\"{LEFT}\"\nR,A,W,\"{right}\"\n")?;
     release_of(rt, SQUARE, pieces.as_str())
-}
-
-/// A text in which the first of each pair is replaced by the second, once.
-fn edited(rt: &HostRuntime, text: &str, edits: &[(&str, &str)]) -> Result<String, Fail> {
-    let mut text = format!(in rt.alloc(); "{text}")?;
-    for (old, new) in edits {
-        text = with_edit(rt, text.as_str(), old, new)?;
-    }
-    Ok(text)
-}
-
-/// A text with its first `old` replaced.
-fn with_edit(rt: &HostRuntime, text: &str, old: &str, new: &str) -> Result<String, Fail> {
-    let (before, after) = text.split_once(old).ok_or("no such text")?;
-    Ok(format!(in rt.alloc(); "{before}{new}{after}")?)
-}
-
-/// Fails unless the texts are one.
-fn expect(told: &str, wanted: &str) -> Result<(), Fail> {
-    if told == wanted {
-        return Ok(());
-    }
-    Err(Fail::new(format_args!("{told} in place of {wanted}")))
 }
 
 /// A place as it is told.
@@ -169,12 +107,12 @@ fn expect_told(rt: &HostRuntime, release: &Release, cert: &str, wanted: &str) ->
 
 /// Fails unless this is told of the square with its certificate so edited.
 fn expect_square(rt: &HostRuntime, edits: &[(&str, &str)], wanted: &str) -> Result<(), Fail> {
-    let cert = edited(rt, SQUARE_CERT, edits)?;
+    let cert = edited(rt.alloc(), SQUARE_CERT, edits)?;
     expect_told(rt, &one_piece(rt, SQUARE)?, cert.as_str(), wanted)
 }
 
 /// Fails unless this is told of the two halves with their certificate so edited.
 fn expect_halves(rt: &HostRuntime, edits: &[(&str, &str)], wanted: &str) -> Result<(), Fail> {
-    let cert = edited(rt, HALVES_CERT, edits)?;
+    let cert = edited(rt.alloc(), HALVES_CERT, edits)?;
     expect_told(rt, &two_pieces(rt, RIGHT)?, cert.as_str(), wanted)
 }

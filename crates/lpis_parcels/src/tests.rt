@@ -2,27 +2,19 @@
 
 use crate::{Release, eligible2, pieces_of, read_release};
 use lpis_covers::{Id, TableFault};
+use lpis_testing::{CLASSES, LEFT, RIGHT, SQUARE, expect};
 use std::test::Fail;
 
 static PARCELS: &str = "parcel,wkt\nA,\"POLYGON((0 0,10 0,10 10,0 10,0 0))\"\n";
 
 static COVERS: &str = "piece,parcel,class,wkt\n";
 
-static LEFT: &str = "L,A,G,\"POLYGON((0 0,5 0,5 10,0 10,0 0))\"\n";
-
-static RIGHT: &str = "\"POLYGON((5 0,10 0,10 10,5 10,5 0))\"\n";
-
-static CLASSES: &str = "class,eligible\nG,1\nW,0\n";
-
-/// A square of ten metres, and the end of its row.
-static SQUARE: &str = "\"POLYGON((0 0,10 0,10 10,0 10,0 0))\"\n";
-
 /// The most rows of a table.
 static MANY: u32 = 200_000;
 
 /// The covers table with the left piece and a right one of this beginning.
 fn covers_with(rt: &HostRuntime, right: &str) -> Result<String, Fail> {
-    Ok(format!(in rt.alloc(); "{COVERS}{LEFT}{right},{RIGHT}")?)
+    Ok(format!(in rt.alloc(); "{COVERS}L,A,G,\"{LEFT}\"\n{right},\"{RIGHT}\"\n")?)
 }
 
 /// The release of these tables.
@@ -33,14 +25,6 @@ fn release(rt: &HostRuntime, parcels: &str, covers: &str, classes: &str) -> Resu
         covers.as_bytes(),
         classes.as_bytes(),
     )?)
-}
-
-/// Fails unless the texts are one.
-fn expect(told: &str, wanted: &str) -> Result<(), Fail> {
-    if told == wanted {
-        return Ok(());
-    }
-    Err(Fail::new(format_args!("{told} in place of {wanted}")))
 }
 
 /// Fails unless the tables are refused with this code, table and row.
@@ -163,7 +147,7 @@ fn squares(rt: &HostRuntime, count: u32) -> Result<String, Fail> {
     let mut table = String::new(rt.alloc());
     table.push_str("parcel,wkt\n")?;
     for number in 0..count {
-        let row = format!(in rt.alloc(); "{number},{SQUARE}")?;
+        let row = format!(in rt.alloc(); "{number},\"{SQUARE}\"\n")?;
         table.push_str(row.as_str())?;
     }
     Ok(table)
@@ -174,7 +158,7 @@ fn covers_of_squares(rt: &HostRuntime, count: u32) -> Result<String, Fail> {
     let mut table = String::new(rt.alloc());
     table.push_str(COVERS)?;
     for number in 0..count {
-        let row = format!(in rt.alloc(); "{number},{number},G,{SQUARE}")?;
+        let row = format!(in rt.alloc(); "{number},{number},G,\"{SQUARE}\"\n")?;
         table.push_str(row.as_str())?;
     }
     Ok(table)

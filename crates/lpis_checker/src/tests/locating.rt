@@ -1,6 +1,6 @@
 //! The parcel and the piece at a point.
 
-use super::{HALVES_CERT, RIGHT, expect, two_pieces};
+use super::two_pieces;
 use crate::{Yes, check};
 use lpis_cert::{Cert, read_cert};
 use lpis_covers::Id;
@@ -8,6 +8,7 @@ use lpis_pairs::Sweep;
 use lpis_parcels::Release;
 use lpis_points::RatPoint;
 use lpis_rings::{Polygon, contains, turns};
+use lpis_testing::{HALVES_CERT, RIGHT, expect};
 use std::test::Fail;
 
 fn rational(x: i64, y: i64, d: i64) -> Result<RatPoint, Fail> {

@@ -1,9 +1,7 @@
 //! Triangles, flats and edges that are not those of the release.
 
-use super::{
-    HALVES_CERT, RIGHT_MOVED, SQUARE_CERT, SQUARE_TWICE, edited, expect_halves, expect_square,
-    expect_told, one_piece, two_pieces,
-};
+use super::{SQUARE_TWICE, expect_halves, expect_square, expect_told, one_piece, two_pieces};
+use lpis_testing::{HALVES_CERT, RIGHT_MOVED, SQUARE_CERT, edited};
 use std::test::Fail;
 
 /// Turns the first triangle of the left half round.
@@ -83,7 +81,7 @@ fn tells_edges_of_a_square_covered_twice(rt: HostRuntime) -> Result<(), Fail> {
 
 #[test]
 fn tells_a_gap_of_a_centimetre(rt: HostRuntime) -> Result<(), Fail> {
-    let cert = edited(&rt, HALVES_CERT, &MOVED)?;
+    let cert = edited(rt.alloc(), HALVES_CERT, &MOVED)?;
     expect_told(
         &rt,
         &two_pieces(&rt, RIGHT_MOVED)?,

@@ -1,0 +1,58 @@
+//! A square of ten metres and its halves: polygons, classes and certificates.
+
+pub static SQUARE: &str = "POLYGON((0 0,10 0,10 10,0 10,0 0))";
+
+pub static LEFT: &str = "POLYGON((0 0,5 0,5 10,0 10,0 0))";
+
+pub static RIGHT: &str = "POLYGON((5 0,10 0,10 10,5 10,5 0))";
+
+/// The right half with its left side a centimetre too far to the right.
+pub static RIGHT_MOVED: &str = "POLYGON((5.01 0,10 0,10 10,5.01 10,5.01 0))";
+
+/// The table of two classes, the first of which is eligible.
+pub static CLASSES: &str = "class,eligible\nG,1\nW,0\n";
+
+/// For a parcel A and its piece C1 that are the square.
+pub static SQUARE_CERT: &str = "lpis-cert 1
+piece C1 2 0
+t 0 0 1000 0 1000 1000
+t 0 0 1000 1000 0 1000
+parcel A 0
+pairs 1
+s 0 1 2
+end
+";
+
+/// For a parcel A that is the square and its pieces L and R, the halves. The parcel's flats are for
+/// the two corners of the halves that it lacks.
+pub static HALVES_CERT: &str = "lpis-cert 1
+piece L 2 0
+t 0 0 500 0 500 1000
+t 0 0 500 1000 0 1000
+piece R 2 0
+t 500 0 1000 0 1000 1000
+t 500 0 1000 1000 500 1000
+parcel A 2
+f 0 0 1000 0 500 0
+f 1000 1000 0 1000 500 1000
+pairs 2
+s 0 1 2
+s 2 3 2
+end
+";
+
+/// For two parcels B and C that are the halves, each of one piece, b1 and c1.
+pub static PARCELS_CERT: &str = "lpis-cert 1
+piece b1 2 0
+t 0 0 500 0 500 1000
+t 0 0 500 1000 0 1000
+piece c1 2 0
+t 500 0 1000 0 1000 1000
+t 500 0 1000 1000 500 1000
+parcel B 0
+parcel C 0
+pairs 2
+s 0 1 2
+s 2 3 2
+end
+";
