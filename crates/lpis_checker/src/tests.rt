@@ -20,11 +20,12 @@ static SQUARE_TWICE: &str = "MULTIPOLYGON(((0 0,10 0,10 10,0 10,0 0)),((0 0,10 0
 fn release_of(rt: &HostRuntime, parcel: &str, pieces: &str) -> Result<Release, Fail> {
     let parcels = format!(in rt.alloc(); "parcel,wkt\nA,\"{parcel}\"\n")?;
     let covers = format!(in rt.alloc(); "piece,parcel,class,wkt\n{pieces}")?;
+    let classes = Vec::from_slice(rt.alloc(), CLASSES.as_bytes())?;
     Ok(read_release(
         rt.alloc(),
-        parcels.as_bytes(),
-        covers.as_bytes(),
-        CLASSES.as_bytes(),
+        parcels.into_bytes(),
+        covers.into_bytes(),
+        classes,
     )?)
 }
 

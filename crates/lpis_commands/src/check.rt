@@ -1,14 +1,13 @@
 //! The run of `check`, over any readers and writer.
 
-ghost use Rattle.std.specs.Prelude.{◌≡◌, IfErr, IfOk};
+ghost use Rattle.std.specs.Prelude.{◌≡◌, IfErr, IfOk, List, ℕ};
 ghost use Rattle.lpis_cert.specs.Contents.{cert_text};
-ghost use Rattle.lpis_cert.specs.Faults.{IsFirstFault};
 ghost use Rattle.lpis_cert.specs.declared.cert.Cert.{Cert};
 ghost use Rattle.lpis_checker.specs.GoodCertificate.{IsGood};
 ghost use Rattle.lpis_checker.specs.SoundMap.{IsSoundMap};
 ghost use Rattle.lpis_commands.specs.CheckAnswer.{AreRead, Ends, Halts, Inputs, IsAnswer};
 ghost use Rattle.lpis_commands.specs.CheckAnswer.{IsCheckAnswer, IsProved, IsReleaseAnswer};
-ghost use Rattle.lpis_commands.specs.private.CheckRuns.{inputs_of};
+ghost use Rattle.lpis_commands.specs.private.CheckRuns.{IsReadAs, inputs_of};
 ghost use Rattle.lpis_commands.specs.Failures.{IsUnchecked};
 ghost use Rattle.lpis_commands.specs.Refusals.{cert_refusal_text, check_refusal_text};
 ghost use Rattle.lpis_commands.specs.Report.{report_text};
@@ -98,34 +97,39 @@ fn answer_to_cert(alloc: Global, release: &Release, cert: &Cert) -> Result<Answe
 
 /// The certificate of a text, whose bytes are let go, or the text's first fault.
 pub(crate) fn cert_in(alloc: Global, text: Vec<u8>) -> Result<Cert, CertFault>
-    ensures found { IfOk result (λ cert. text.items ≡ cert_text cert) }
-    ensures fault { IfErr result (λ e. IsFirstFault e text.items) }
+    ensures { IsReadAs text.items result }
 {
     read_cert(alloc, text.as_slice())
 }
 
-/// The answer to a release and the text of a certificate.
-fn answer_to_text(alloc: Global, release: &Release, text: Vec<u8>) -> Result<Answer, AllocError>
-    ensures answer { IfOk result
-        (λ a. IsReleaseAnswer text.items release.now (a.text.items, a.status)) }
-    ensures proved { IfOk result (λ a. a.status ≡ done → IsSoundMap release.now
-        × ((c : Cert) × (text.items ≡ cert_text c) × IsGood release.now c)) }
+/// The answer to a release and what a text was read as.
+fn answer_to_text(
+    alloc: Global,
+    release: &Release,
+    read: Result<Cert, CertFault>,
+) -> Result<Answer, AllocError>
+    ensures answer { (text : List ℕ) → IsReadAs text read → IfOk result
+        (λ a. IsReleaseAnswer text release.now (a.text.items, a.status)) }
+    ensures proved { (text : List ℕ) → IsReadAs text read → IfOk result (λ a. a.status ≡ done
+        → IsSoundMap release.now × ((c : Cert) × (text ≡ cert_text c) × IsGood release.now c)) }
 {
-    match cert_in(alloc, text) {
+    match read {
         Ok(cert) => answer_to_cert(alloc, release, &cert),
         Err(CertFault::Memory) => Err(AllocError),
         Err(fault) => refuse_text(alloc, &fault),
     }
 }
 
-/// The answer to three tables and a certificate. The bytes of each are let go when it is read.
+/// The answer to three tables and a certificate. The certificate is read first, since its text is
+/// the longest as a rule, and the bytes of each input are let go when it is read.
 fn answer_to(alloc: Global, inputs: InputBytes) -> Result<Answer, AllocError>
     ensures answer { IfOk result (λ a. IsAnswer (inputs_of inputs) (a.text.items, a.status)) }
     ensures proved { IfOk result (λ a. a.status ≡ done → IsProved (inputs_of inputs)) }
 {
     let InputBytes { tables, cert } = inputs;
+    let read = cert_in(alloc, cert);
     match release_in(alloc, tables) {
-        Ok(release) => answer_to_text(alloc, &release, cert),
+        Ok(release) => answer_to_text(alloc, &release, read),
         Err(TableFault::Memory) => Err(AllocError),
         Err(fault) => Answer::refuse_table(alloc, &fault),
     }

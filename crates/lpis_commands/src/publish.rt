@@ -1,6 +1,6 @@
 //! The run of `publish`, over any register, readers and writer.
 
-ghost use Rattle.std.specs.Prelude.{◌≡◌, ◌++◌, IfErr, IfOk, OnOk, ℕ};
+ghost use Rattle.std.specs.Prelude.{◌≡◌, ◌++◌, IfErr, IfOk, List, OnOk, ℕ};
 ghost use Rattle.std.specs.Io.KnownBytes.{Appends};
 ghost use Rattle.std.specs.List.{flat_map};
 ghost use Rattle.sqlite.specs.Held.{state};
@@ -23,6 +23,7 @@ ghost use Rattle.lpis_commands.specs.PublishAnswer.{history_answer};
 ghost use Rattle.lpis_commands.specs.Report.{report_text};
 ghost use Rattle.lpis_commands.specs.Status.{done, refused};
 ghost use Rattle.lpis_commands.specs.Stored.{Stays};
+ghost use Rattle.lpis_commands.specs.private.CheckRuns.{IsReadAs};
 ghost use Rattle.lpis_commands.specs.private.PublishRuns.{IsAdded, IsAddedWith, Leaves};
 ghost use Rattle.lpis_commands.specs.private.PublishRuns.{publication_of};
 
@@ -192,50 +193,53 @@ fn answer_to_lineage<S: Alter>(
     year: u16,
     release: &Release,
     cert: &Cert,
-    lineage: &[u8],
+    lineage: Vec<u8>,
 ) -> Result<Answer, Failure>
-    ensures answer { IfOk result (λ a. IsLineageAnswer year lineage.now register.old.history
+    ensures answer { IfOk result (λ a. IsLineageAnswer year lineage.items register.old.history
         release.now cert.now (a.text.items, a.status)) }
     ensures added { IfOk result (λ a. a.status ≡ done → IsSoundMap release.now × IsGood
-        release.now cert.now × IsAddedWith year release.now lineage.now register.old.history
+        release.now cert.now × IsAddedWith year release.now lineage.items register.old.history
         register.new.history) }
     ensures leaves { Leaves result (state S.Store register.old.conn) register.old.history
         (state S.Store register.new.conn) register.new.history }
 {
-    match read_rows(alloc, lineage) {
+    let read = read_rows(alloc, &lineage);
+    drop(lineage);
+    match read {
         Ok(rows) => answer_to_rows(alloc, register, year, release, cert, rows.as_slice()),
         Err(TableFault::Memory) => Err(Failure::Memory),
         Err(fault) => Ok(Answer::refuse_table(alloc, &fault)?),
     }
 }
 
-/// The answer to a release, the text of a certificate and a lineage table.
+/// The answer to a release, what a text was read as, and a lineage table.
 fn answer_to_text<S: Alter>(
     alloc: Global,
     register: &mut Register<S>,
     year: u16,
     release: &Release,
-    text: Vec<u8>,
-    lineage: &[u8],
+    read: Result<Cert, CertFault>,
+    lineage: Vec<u8>,
 ) -> Result<Answer, Failure>
-    ensures answer { IfOk result (λ a. IsCertAnswer (IsLineageAnswer year lineage.now
-        register.old.history release.now) text.items (verdict text.items)
-        (a.text.items, a.status)) }
-    ensures added { IfOk result (λ a. a.status ≡ done → IsSoundMap release.now × ((c : Cert) ×
-        (text.items ≡ cert_text c) × IsGood release.now c) × IsAddedWith year
-        release.now lineage.now register.old.history register.new.history) }
+    ensures answer { (text : List ℕ) → IsReadAs text read → IfOk result
+        (λ a. IsCertAnswer (IsLineageAnswer year lineage.items register.old.history release.now)
+        text (verdict text) (a.text.items, a.status)) }
+    ensures added { (text : List ℕ) → IsReadAs text read → IfOk result (λ a. a.status ≡ done
+        → IsSoundMap release.now × ((c : Cert) × (text ≡ cert_text c) × IsGood release.now c)
+        × IsAddedWith year release.now lineage.items register.old.history
+        register.new.history) }
     ensures leaves { Leaves result (state S.Store register.old.conn) register.old.history
         (state S.Store register.new.conn) register.new.history }
 {
-    match cert_in(alloc, text) {
+    match read {
         Ok(cert) => answer_to_lineage(alloc, register, year, release, &cert, lineage),
         Err(CertFault::Memory) => Err(Failure::Memory),
         Err(fault) => Ok(refuse_text(alloc, &fault)?),
     }
 }
 
-/// The answer to what is to be published. The bytes of a release and of a certificate are let go
-/// when they are read.
+/// The answer to what is to be published. The certificate is read first, since its text is the
+/// longest as a rule, and the bytes of each input are let go when it is read.
 fn answer_to<S: Alter>(
     alloc: Global,
     register: &mut Register<S>,
@@ -251,8 +255,9 @@ fn answer_to<S: Alter>(
 {
     let PublicationBytes { checked, lineage } = inputs;
     let InputBytes { tables, cert } = checked;
+    let read = cert_in(alloc, cert);
     match release_in(alloc, tables) {
-        Ok(release) => answer_to_text(alloc, register, year, &release, cert, lineage.as_slice()),
+        Ok(release) => answer_to_text(alloc, register, year, &release, read, lineage),
         Err(TableFault::Memory) => Err(Failure::Memory),
         Err(fault) => Ok(Answer::refuse_table(alloc, &fault)?),
     }

@@ -48,8 +48,10 @@ pub(crate) fn release_in(alloc: Global, tables: TableBytes) -> Result<Release, T
     ensures { Answers result (release_of tables.parcels.items tables.covers.items
         tables.classes.items) }
 {
-    let parcels = tables.parcels.as_slice();
-    let covers = tables.covers.as_slice();
-    let classes = tables.classes.as_slice();
+    let TableBytes {
+        parcels,
+        covers,
+        classes,
+    } = tables;
     read_release(alloc, parcels, covers, classes)
 }

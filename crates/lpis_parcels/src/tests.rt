@@ -18,13 +18,17 @@ fn covers_with(rt: &HostRuntime, right: &str) -> Result<String, Fail> {
 }
 
 /// The release of these tables.
-fn release(rt: &HostRuntime, parcels: &str, covers: &str, classes: &str) -> Result<Release, Fail> {
-    Ok(read_release(
-        rt.alloc(),
-        parcels.as_bytes(),
-        covers.as_bytes(),
-        classes.as_bytes(),
-    )?)
+fn release(
+    rt: &HostRuntime,
+    parcels: &str,
+    covers: &str,
+    classes: &str,
+) -> Result<Release, TableFault> {
+    let alloc = rt.alloc();
+    let parcels = Vec::from_slice(alloc, parcels.as_bytes())?;
+    let covers = Vec::from_slice(alloc, covers.as_bytes())?;
+    let classes = Vec::from_slice(alloc, classes.as_bytes())?;
+    read_release(alloc, parcels, covers, classes)
 }
 
 /// Fails unless the tables are refused with this code, table and row.
@@ -35,12 +39,7 @@ fn expect_refusal(
     classes: &str,
     refusal: &str,
 ) -> Result<(), Fail> {
-    match read_release(
-        rt.alloc(),
-        parcels.as_bytes(),
-        covers.as_bytes(),
-        classes.as_bytes(),
-    ) {
+    match release(rt, parcels, covers, classes) {
         Err(
             TableFault::At {
                 code,

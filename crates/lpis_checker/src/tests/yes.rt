@@ -21,11 +21,10 @@ fn the_edge_may_be_the_second_triangles(rt: HostRuntime) -> Result<(), Fail> {
 
 #[test]
 fn nothing_is_a_sound_map(rt: HostRuntime) -> Result<(), Fail> {
-    let release = read_release(
-        rt.alloc(),
-        b"parcel,wkt\n",
-        b"piece,parcel,class,wkt\n",
-        b"class,eligible\n",
-    )?;
+    let alloc = rt.alloc();
+    let parcels = Vec::from_slice(alloc, b"parcel,wkt\n")?;
+    let covers = Vec::from_slice(alloc, b"piece,parcel,class,wkt\n")?;
+    let classes = Vec::from_slice(alloc, b"class,eligible\n")?;
+    let release = read_release(alloc, parcels, covers, classes)?;
     expect_told(&rt, &release, "lpis-cert 1\npairs 0\nend\n", "yes")
 }

@@ -1,4 +1,9 @@
--- The bytes that a check has read.
+-- The bytes that a check has read, and what those of a certificate say.
+use Rattle.std.specs.Prelude.{◌≡◌, ℕ, List, Result, Ok, Err}
+use Rattle.lpis_cert.specs.Contents.{cert_text}
+use Rattle.lpis_cert.specs.Faults.{IsFirstFault}
+use Rattle.lpis_cert.specs.declared.cert.Cert.{Cert}
+use Rattle.lpis_cert.specs.declared.fault.CertFault.{CertFault}
 use Rattle.lpis_commands.specs.CheckAnswer.{Inputs}
 use Rattle.lpis_commands.specs.declared.check.InputBytes.{InputBytes}
 
@@ -9,3 +14,8 @@ inputs_of i = record {
   classes = i.tables.classes.items;
   cert = i.cert.items;
 }
+
+-- what a text was read as: the certificate whose text it is, or its first fault
+abbrev pub IsReadAs : List ℕ → Result Cert CertFault → Type 0
+IsReadAs text (Ok c) = text ≡ cert_text c
+IsReadAs text (Err fault) = IsFirstFault fault text

@@ -1,6 +1,6 @@
 //! Readers and writers that fail in mid-stream.
 
-use super::square::{EMPTY_CERT, SQUARE, SQUARE_CERT, SQUARE_REPORT, one_piece, tables_of};
+use super::square::{EMPTY_CERT, SQUARE, SQUARE_CERT, SQUARE_REPORT, Tables, one_piece, tables_of};
 use super::table_of;
 use crate::area::run_area;
 use crate::failure::{Failure, Name, print_failure};
@@ -110,13 +110,13 @@ impl Write for Refusing {
 #[test]
 fn a_writer_that_wants_memory_is_told_apart(rt: HostRuntime) -> Result<(), Fail> {
     let alloc = rt.alloc();
-    let square = one_piece(&rt, SQUARE)?;
-    let release = read_release(
-        alloc,
-        square.parcels.as_bytes(),
-        square.covers.as_bytes(),
-        square.classes.as_bytes(),
-    )?;
+    let Tables {
+        parcels,
+        covers,
+        classes,
+    } = one_piece(&rt, SQUARE)?;
+    let classes = Vec::from_slice(alloc, classes.as_bytes())?;
+    let release = read_release(alloc, parcels.into_bytes(), covers.into_bytes(), classes)?;
     let cert = read_cert(alloc, SQUARE_CERT.as_bytes())?;
     let yes = check(alloc, &release, &cert, &Sweep)?;
     for (kind, fault) in [

@@ -72,24 +72,22 @@ pub(super) struct Publication<'a> {
     pub(super) rows: Vec<Row>,
 }
 
+/// The release of these tables.
+fn release(alloc: Global, parcels: &str, covers: &str) -> Result<Release, Fail> {
+    let parcels = Vec::from_slice(alloc, parcels.as_bytes())?;
+    let covers = Vec::from_slice(alloc, covers.as_bytes())?;
+    let classes = Vec::from_slice(alloc, CLASSES.as_bytes())?;
+    Ok(read_release(alloc, parcels, covers, classes)?)
+}
+
 /// The release of the square.
 pub(super) fn square(alloc: Global) -> Result<Release, Fail> {
-    Ok(read_release(
-        alloc,
-        SQUARE_PARCELS.as_bytes(),
-        SQUARE_COVERS.as_bytes(),
-        CLASSES.as_bytes(),
-    )?)
+    release(alloc, SQUARE_PARCELS, SQUARE_COVERS)
 }
 
 /// The release of its halves.
 pub(super) fn halves(alloc: Global) -> Result<Release, Fail> {
-    Ok(read_release(
-        alloc,
-        HALVES_PARCELS.as_bytes(),
-        HALVES_COVERS.as_bytes(),
-        CLASSES.as_bytes(),
-    )?)
+    release(alloc, HALVES_PARCELS, HALVES_COVERS)
 }
 
 /// The square in 2024, with no rows.

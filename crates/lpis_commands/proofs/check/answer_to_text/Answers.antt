@@ -4,11 +4,11 @@ use Rattle.lpis_commands.proofs.CheckLemmas.{answer-of-text}
 use Rattle.lpis_commands.proofs.check.answer_to_text.Goals as goal
 
 pub returns-in-Ok-clause-answer : goal.returns-in-Ok-clause-answer
-returns-in-Ok-clause-answer c =
+returns-in-Ok-clause-answer c text read =
     IfOk-weaker c.answer_to_cert.result _ _
     (λ a. answer-of-text (λ k. IsCheckAnswer c.args.release.now k (report_text c.args.release.now, done))
-    c.args.text.items c.in-Ok.cert (a.text.items, a.status) c.in-Ok.ensures.found) c.answer_to_cert.ensures.answer
+    text c.in-Ok.cert (a.text.items, a.status) (rw c.in-Ok.is at read)) c.answer_to_cert.ensures.answer
 
 pub returns-in-Ok-clause-proved : goal.returns-in-Ok-clause-proved
-returns-in-Ok-clause-proved c =
-    IfOk-weaker c.answer_to_cert.result _ _ (λ a proved is_done. ((proved is_done).0, (c.in-Ok.cert, c.in-Ok.ensures.found, (proved is_done).1))) c.answer_to_cert.ensures.proved
+returns-in-Ok-clause-proved c text read =
+    IfOk-weaker c.answer_to_cert.result _ _ (λ a proved is_done. ((proved is_done).0, (c.in-Ok.cert, rw c.in-Ok.is at read, (proved is_done).1))) c.answer_to_cert.ensures.proved

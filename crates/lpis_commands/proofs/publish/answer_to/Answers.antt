@@ -3,6 +3,9 @@ use Rattle.lpis_commands.specs.private.PublishRuns.{publication_of}
 use Rattle.lpis_commands.proofs.PublishLemmas.{both-ok, published-of}
 use Rattle.lpis_commands.proofs.publish.answer_to.Goals as goal
 
+pub returns-in-Ok-clause-answer : goal.returns-in-Ok-clause-answer
+returns-in-Ok-clause-answer g c = rw c.in-Ok.ensures (c.answer_to_text.ensures.answer _ c.cert_in-read.ensures)
+
 pub returns-in-Ok-clause-moves : goal.returns-in-Ok-clause-moves
 returns-in-Ok-clause-moves g c =
     let x = publication_of c.args.year c.args.inputs in
@@ -15,4 +18,4 @@ returns-in-Ok-clause-moves g c =
           published-of x c.in-Ok.release was.1.0 was.2.0 old new c.in-Ok.ensures was.0 was.1.1 was.1.2 was.2.1 was.2.2),
       known.1,
     ))
-    (both-ok c.answer_to_text.result _ _ (rw c.as_slice.ensures.value at c.answer_to_text.ensures.added) c.answer_to_text.ensures.leaves.same)
+    (both-ok c.answer_to_text.result _ _ (c.answer_to_text.ensures.added _ c.cert_in-read.ensures) c.answer_to_text.ensures.leaves.same)
