@@ -2,7 +2,7 @@
 use Rattle.std.proofs.Common.{◌≡◌, ◌∙◌, ◌<◌, ◌≤◌, ◌+◌, ◌⊎◌, inl, inr, refl, sym, ap, subst, arith, ℕ, zero, suc, List, [], ◌∷◌, ◌++◌, length, Bool, true, false, Option, None, Some, cond, take, drop}
 use Rattle.std.proofs.Common.{get_or, append_assoc, ◌&&◌, ◌↔◌, filter}
 use Rattle.lpis_lineage.proofs.Common.{list_any, list_any-append, Row, Entry, has_id, same_id, last_live, holds, entry_at, is_of, is_this, names, IsLawful, RowsFit, all_rows, Reaches, AreFresh}
-use Rattle.lpis_lineage.proofs.Common.{or_left, or_cases, cases_Bool}
+use Rattle.lpis_lineage.proofs.Common.{or_left, cases_Bool}
 use Rattle.std.proofs.lemmas.List.{append-nil, take-append-drop}
 use Rattle.lpis_lineage.specs.Descendants.{IsDescendant, leads, Chain, Here, Step}
 use Rattle.lpis_lineage.proofs.PickingLemmas.{has-filter}
@@ -11,7 +11,7 @@ use Rattle.lpis_lineage.proofs.IdentifierLemmas.{same-exact, same-refl}
 use Rattle.lpis_lineage.proofs.CleanLemmas.{mono, any-left, any-mid, any-last}
 use Rattle.lpis_lineage.proofs.ExtensionLemmas.{entry-get}
 use Rattle.lpis_lineage.proofs.TellingLemmas.{take-at}
-use Rattle.std.proofs.lemmas.Bool.{and_parts, and_from}
+use Rattle.std.proofs.lemmas.Bool.{and_parts, and_from, or_cases}
 
 pub chain-more : (rows : List Row) (r : Row) (a b : List ℕ) → Chain rows a b → Chain (rows ++ r ∷ []) a b
 chain-more rows r a _ Here = Here

@@ -1,10 +1,11 @@
 -- A release follows a history exactly where its lineage has no fault.
 use Rattle.std.proofs.Common.{◌≡◌, ◌∙◌, ◌≤◌, ◌+◌, ◌⊎◌, inl, inr, refl, sym, ap, subst, arith, ℕ, zero, suc, List, [], ◌∷◌, ◌++◌, length, Bool, true, false, Option, None, Some, cond, append_assoc}
 use Rattle.std.proofs.Common.{◌&&◌, ◌||◌, not, is_some, filter}
-use Rattle.lpis_lineage.proofs.Common.{list_any, option_or, list_any-append, or_left, or_right, or_cases, cases_Bool, Row, Entry, LineageFault, has_id, same_id, holds, ended, succeeded, names, is_of}
-use Rattle.lpis_lineage.proofs.Common.{is_this, same_new, same_row, last_live, IsAnswered, Follows, fault_before, clashes, row_faults, dropped_faults, used_faults, faults, first, last_held}
+use Rattle.lpis_lineage.proofs.Common.{list_any, option_or, list_any-append, or_left, cases_Bool, Row, Entry, LineageFault, has_id, same_id, holds, ended, succeeded, names, is_of}
+use Rattle.lpis_lineage.proofs.Common.{is_this, same_row, last_live, IsAnswered, Follows, fault_before, clashes, row_faults, dropped_faults, used_faults, faults, first, last_held}
+use Rattle.lpis_lineage.specs.Lineage.{same_new}
 use Rattle.std.proofs.lemmas.List.{append-nil}
-use Rattle.std.proofs.lemmas.Bool.{and_parts, and_from, not_from_true, not-false}
+use Rattle.std.proofs.lemmas.Bool.{and_parts, and_from, not_from_true, not-false, or_cases, or_right}
 use Rattle.lpis_lineage.specs.Faults.{is_missing, used_fault_before}
 use Rattle.lpis_lineage.proofs.IdentifierLemmas.{same-exact, same-refl}
 use Rattle.lpis_lineage.proofs.RowCountLemmas.{filter-append, filter-none, filter-some, one-ending, counted-ended, from-answered}

@@ -4,21 +4,19 @@ pub use Rattle.lpis_lineage.specs.Descendants.{all_rows}
 pub use Rattle.lpis_lineage.specs.Faults.{clashes, dropped_faults, fault_before, faults, first, row_faults, used_faults}
 pub use Rattle.lpis_lineage.specs.Kinds.{heirs, kind, times}
 pub use Rattle.lpis_lineage.specs.Lawful.{IsAnswered, IsLawful, RowsFit}
-pub use Rattle.lpis_lineage.specs.Lineage.{ended, entry_at, holds, is_of, is_this, last_live, last_year, names, same_new, same_row, succeeded}
+pub use Rattle.lpis_lineage.specs.Lineage.{ended, entry_at, holds, is_of, is_this, last_live, last_year, names, same_row, succeeded}
 pub use Rattle.lpis_lineage.specs.Spans.{first_held, last_held, live_in, span_between, span_of}
 pub use Rattle.lpis_lineage.specs.declared.fault.LineageFault.{LineageFault}
 pub use Rattle.lpis_lineage.specs.declared.row.Entry.{Entry}
 pub use Rattle.lpis_lineage.specs.declared.row.Row.{Row}
 pub use Rattle.lpis_lineage.specs.declared.span.Span.{Span}
-pub use Rattle.lpis_lineage.specs.declared.tally.Tally.{Tally}
 pub use Rattle.lpis_lineage.specs.private.Fates.{AreFates}
 pub use Rattle.lpis_lineage.specs.private.Following.{AreFresh, Reaches}
 pub use Rattle.lpis_lineage.specs.private.Follows.{Follows}
 pub use Rattle.lpis_lineage.specs.private.Keeping.{begun, ended_in, forgotten}
 pub use Rattle.lpis_lineage.specs.private.Seen.{IsSeen}
 pub use Rattle.lpis_lineage.specs.private.Tally.{IsTally}
-pub use Rattle.std.proofs.Math.Bool.{and-false, and-true, or-false}
-pub use Rattle.std.proofs.lemmas.Bool.{cases_Bool, or_cases, or_left, or_right}
+pub use Rattle.std.proofs.lemmas.Bool.{cases_Bool, or_left}
 pub use Rattle.std.proofs.lemmas.Bool.Decides.{nat_tests}
 pub use Rattle.std.proofs.lemmas.List.Folds.{list_any-append}
 pub use Rattle.std.specs.Cmp.Lexicographic.{slice_cmp}

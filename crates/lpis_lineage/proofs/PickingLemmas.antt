@@ -1,6 +1,7 @@
 -- Lists of the identifiers that pass a test.
 use Rattle.std.proofs.Common.{◌≡◌, ◌∙◌, refl, sym, ap, ℕ, List, [], ◌∷◌, Bool, true, false, cond, ◌&&◌, ◌||◌, filter, nat_cmp, Less}
-use Rattle.lpis_lineage.proofs.Common.{slice_cmp, and-false, has_id, same_id}
+use Rattle.lpis_lineage.proofs.Common.{slice_cmp, has_id, same_id}
+use Rattle.std.proofs.Math.Bool.{and-false}
 use Rattle.std.specs.List.{AllByRecursion}
 use Rattle.std.specs.List.Sorted.{IsStrictlySortedBy}
 use Rattle.lpis_lineage.specs.Order.{IsAscending}

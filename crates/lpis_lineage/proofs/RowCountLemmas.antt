@@ -1,6 +1,7 @@
 -- How many rows a test picks, and how many end an identifier.
 use Rattle.std.proofs.Common.{◌≡◌, ◌∙◌, ◌≤◌, ◌+◌, inl, inr, refl, sym, ap, arith, suc, ℕ, List, [], ◌∷◌, ◌++◌, length, Bool, true, false, Option, None, Some, cond, ◌&&◌, ◌||◌, not, is_some, filter}
-use Rattle.lpis_lineage.proofs.Common.{list_any, cases_Bool, Row, ended, succeeded, is_of, same_new, same_row, IsAnswered}
+use Rattle.lpis_lineage.proofs.Common.{list_any, cases_Bool, Row, ended, succeeded, is_of, same_row, IsAnswered}
+use Rattle.lpis_lineage.specs.Lineage.{same_new}
 use Rattle.lpis_lineage.specs.Lawful.{endings}
 
 pub filter-append : {A : Type 0} (p : A → Bool) (xs ys : List A) → length (filter p (xs ++ ys)) ≡ length (filter p xs) + length (filter p ys)

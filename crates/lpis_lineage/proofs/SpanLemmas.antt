@@ -1,7 +1,8 @@
 -- The spans of a lawful history tell each release's set.
 use Rattle.std.proofs.Common.{◌≡◌, ◌∙◌, ◌<◌, ◌≤◌, inl, inr, refl, sym, ap, arith, ℕ, zero, suc, List, [], ◌∷◌, length, Bool, true, false, Option, None, Some, cond, is_some, ◌&&◌, ◌||◌, nat_le, nat_eq}
 use Rattle.std.proofs.Common.{filter}
-use Rattle.lpis_lineage.proofs.Common.{nat_tests, option_or, Entry, has_id, holds, entry_at, last_live, IsLawful, cases_Bool, and-false, Span, first_held, last_held, span_between, span_of, live_in}
+use Rattle.lpis_lineage.proofs.Common.{nat_tests, option_or, Entry, has_id, holds, entry_at, last_live, IsLawful, cases_Bool, Span, first_held, last_held, span_between, span_of, live_in}
+use Rattle.std.proofs.Math.Bool.{and-false}
 use Rattle.lpis_lineage.proofs.CleanLemmas.{held-some}
 use Rattle.lpis_lineage.specs.Spans.{in_span, ids_of, AreSpansOf}
 use Rattle.lpis_lineage.proofs.PickingLemmas.{has-filter}

@@ -1,6 +1,8 @@
 -- A list, one identifier longer.
 use Rattle.std.proofs.Common.{◌≡◌, ◌∙◌, ◌<◌, ◌+◌, refl, sym, ap, subst, arith, ℕ, List, [], ◌∷◌, ◌++◌, length, Bool, true, false, Option, None, Some, cond, take, get_or, ◌||◌, nat_lt}
-use Rattle.lpis_lineage.proofs.Common.{nat_tests, or-false, Row, Tally, has_id, same_id, times, heirs, IsTally}
+use Rattle.lpis_lineage.proofs.Common.{nat_tests, Row, has_id, same_id, times, heirs, IsTally}
+use Rattle.std.proofs.Math.Bool.{or-false}
+use Rattle.lpis_lineage.specs.declared.tally.Tally.{Tally}
 use Rattle.lpis_lineage.specs.Kinds.{with_some}
 use Rattle.lpis_lineage.proofs.IdentifierLemmas.{same-exact, same-sym}
 use Rattle.lpis_lineage.proofs.RowCountLemmas.{filter-append, filter-none, filter-some}

@@ -1,5 +1,6 @@
 use Rattle.std.proofs.Common.{◌∙◌, ap, ℕ, List, true, ◌≡◌}
-use Rattle.lpis_lineage.proofs.Common.{or_left, or_right, has_id, same_id, kind}
+use Rattle.lpis_lineage.proofs.Common.{or_left, has_id, same_id, kind}
+use Rattle.std.proofs.lemmas.Bool.{or_right}
 use Rattle.lpis_lineage.proofs.IdentifierLemmas.{same-refl}
 use Rattle.lpis_lineage.proofs.KindStepLemmas.{kinds-step}
 use Rattle.lpis_lineage.proofs.change.kinds_of.Goals as goal

@@ -1,13 +1,13 @@
-use Rattle.std.proofs.Common.{◌∙◌, sym, ap, refl, List, ℕ, Bool, true, false, cond, Option, ◌||◌}
-use Rattle.lpis_lineage.proofs.Common.{and-true, and-false, or-false, has_id, same_id, is_this}
+use Rattle.std.proofs.Common.{◌∙◌, sym, ap, refl, List, ℕ, true, false, cond, Option}
+use Rattle.lpis_lineage.proofs.Common.{has_id, same_id, is_this}
 use Rattle.lpis_lineage.proofs.IdentifierLemmas.{same-refl}
-use Rattle.lpis_lineage.proofs.SeenLemmas.{or-cond}
 use Rattle.lpis_lineage.proofs.FateLemmas.{fates-end, fates-heir}
 use Rattle.lpis_lineage.proofs.fates.note_row.Goals as goal
 
 pub returns-in_ok-add-in-None : goal.returns-in_ok-add-in-None
 returns-in_ok-add-in-None c = λ all before tally named are. fates-end _ _ all before c.args.fates.now _ c.args.row.now are c.in-None.is
-    (λ q. c.in_ok-add-in-None.ensures.ok q ∙ ap (λ (k : List ℕ). cond (same_id k q) true (has_id c.args.fates.now.ended q)) c.in_ok-old-in-None.ensures) refl refl
+    (λ q. c.in_ok-add-in-None.ensures.ok q
+    ∙ ap (λ (k : List ℕ). cond (same_id k q) true (has_id c.args.fates.now.ended q)) c.in_ok-old-in-None.ensures) refl refl
 
 pub returns-in_ok-add-in-Some : goal.returns-in_ok-add-in-Some
 returns-in_ok-add-in-Some c = λ all before tally named are.
@@ -15,15 +15,11 @@ returns-in_ok-add-in-Some c = λ all before tally named are.
     fates-heir _ _ all before c.args.fates.now _ c.args.row.now c.in-Some.heir true are c.in-Some.is
     (sym c.if-is_shared.true ∙ c.is_shared.ensures all tally there) refl
     (c.in_ok-note-in-Some.ensures _ are.olds_are)
-    (λ q. c.in_ok-add-in-Some.ensures.ok q
-    ∙ ap (λ (k : List ℕ). cond (same_id k q) true (has_id c.args.fates.now.shared q)) c.in_ok-old-in-Some.ensures
-    ∙ or-cond (same_id c.args.row.now.old q) _ ∙ ap (λ (b : Bool). has_id c.args.fates.now.shared q || b)
-    (sym (and-true (same_id c.args.row.now.old q))))
+    (λ q. c.in_ok-add-in-Some.ensures.ok q ∙ ap (λ (k : List ℕ). cond (same_id k q) true (has_id c.args.fates.now.shared q)) c.in_ok-old-in-Some.ensures)
 
 pub returns-else-is_shared : goal.returns-else-is_shared
 returns-else-is_shared c = λ all before tally named are.
     let there = named c.in-Some.heir (ap (λ (o : Option (List ℕ)). is_this c.in-Some.heir o) c.in-Some.is ∙ same-refl c.in-Some.heir) in
     fates-heir _ _ all before c.args.fates.now _ c.args.row.now c.in-Some.heir false are c.in-Some.is
     (sym c.if-is_shared.false ∙ c.is_shared.ensures all tally there) refl
-    (c.in_ok-note-in-Some.ensures _ are.olds_are)
-    (λ q. sym (or-false _) ∙ ap (λ (b : Bool). has_id c.args.fates.now.shared q || b) (sym (and-false (same_id c.args.row.now.old q))))
+    (c.in_ok-note-in-Some.ensures _ are.olds_are) (λ q. refl)

@@ -1,5 +1,6 @@
 use Rattle.std.proofs.Common.{sym, subst, List, ℕ, take, ◌+◌}
-use Rattle.lpis_lineage.proofs.Common.{Tally, heirs, IsTally}
+use Rattle.lpis_lineage.proofs.Common.{heirs, IsTally}
+use Rattle.lpis_lineage.specs.declared.tally.Tally.{Tally}
 use Rattle.lpis_lineage.proofs.TallyLemmas.{heirs-some, heirs-none}
 use Rattle.lpis_lineage.proofs.tally.tally_heirs.Goals.{in-None, in-Some+in_ok-note-in-Some}
 use Rattle.lpis_lineage.proofs.tally.tally_heirs.Goals as goal
