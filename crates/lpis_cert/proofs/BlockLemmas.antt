@@ -1,21 +1,24 @@
 -- The lines of blocks.
 use Rattle.std.proofs.Common.{◌≡◌, ℕ, suc, ◌+◌, ◌-◌, ◌<◌, Bool, true, false, List, [], ◌∷◌, ◌++◌, length, map, Some, None, Ok, refl, ap, ◌∙◌, arith}
-use Rattle.lpis_cert.proofs.Common.{AllByRecursion, Triangle, Stage, CertFault, Kind, One, written, Corners, Separator, TriangleLine, FlatLine, EndLine, spelling, CornersFit, SeparatorFits, values}
-use Rattle.lpis_cert.proofs.Common.{step, InPairs, Declared, LineFits, Placed, LineFault, ReadsLines, FaultFrom, corner_line, corner_numbers, all_corners, separator_of}
+use Rattle.lpis_cert.proofs.Common.{AllByRecursion, Triangle, Stage, CertFault, Kind, One, written, Corners, Separator, FlatLine, EndLine, spelling, CornersFit}
+use Rattle.lpis_cert.proofs.Common.{SeparatorFits, values}
+use Rattle.lpis_cert.proofs.Common.{step, InPairs, Declared, LineFits, Placed, LineFault, ReadsLines, FaultFrom, corner_line, corner_numbers, all_corners}
+use Rattle.lpis_cert.proofs.Common.{separator_of}
 use Rattle.std.proofs.lemmas.List.{map_push}
 use Rattle.lpis_cert.specs.declared.part.PairLine.{PairLine}
 use Rattle.lpis_cert.specs.CertText.{PairLine as separator_line}
 use Rattle.lpis_cert.specs.Reading.{corners, separator}
 use Rattle.lpis_cert.specs.private.Taken.{FailsWith, corner_kind, wanting}
 use Rattle.lpis_cert.proofs.LineLemmas.{read_again}
-use Rattle.lpis_cert.proofs.StepLemmas.{alone, taken, untaken, Wants, fault_here, Goes, after, fault_after, follows_both}
+use Rattle.lpis_cert.proofs.StepLemmas.{alone, taken, untaken, Wants, fault_here, Goes, fault_after, follows_both}
 use Rattle.lpis_cert.specs.declared.fault.CertCode.TheVariants as code
 use Rattle.lpis_cert.specs.declared.kind.Kind.TheVariants as kind
 
 pub corners_fit : (t : Triangle) → CornersFit (corner_numbers t)
-corners_fit t = record { x1 = t.a.x_in_range; y1 = t.a.y_in_range; x2 = t.b.x_in_range; y2 = t.b.y_in_range; x3 = t.c.x_in_range; y3 = t.c.y_in_range }
+corners_fit t = grind arith
 
-corner_values : (flat : Bool) (ws : List (List ℕ)) (c : Corners) → corners written ws ≡ Some c → values written (corner_kind flat) ws ≡ Some (corner_line flat c)
+corner_values : (flat : Bool) (ws : List (List ℕ)) (c : Corners) → corners written ws ≡ Some c
+    → values written (corner_kind flat) ws ≡ Some (corner_line flat c)
 unfolding values
 corner_values true ws c h = rw h refl
 corner_values false ws c h = rw h refl
@@ -32,7 +35,8 @@ corner_taken {ws = ws} flat c p h =
     let is = alone {k = corner_kind flat} p in
     (taken (corner_line flat c) p (rw is (corner_values flat ws c h))).0
 
-pub corner_untaken : {text : List ℕ} {n : ℕ} {k : Kind} {ws : List (List ℕ)} {rest : List ℕ} {m : ℕ} (flat : Bool) → Placed (One (corner_kind flat)) text n k ws rest m → corners written ws ≡ None
+pub corner_untaken : {text : List ℕ} {n : ℕ} {k : Kind} {ws : List (List ℕ)} {rest : List ℕ} {m : ℕ} (flat : Bool)
+    → Placed (One (corner_kind flat)) text n k ws rest m → corners written ws ≡ None
     → FailsWith (One (corner_kind flat)) text code.Number
 corner_untaken {ws = ws} flat p h =
     let is = alone {k = corner_kind flat} p in
@@ -52,7 +56,8 @@ pair_untaken p h =
     let is = alone p in
     untaken p (rw (is, h) refl)
 
-pub end_taken : {text : List ℕ} {n : ℕ} {k : Kind} {ws : List (List ℕ)} {rest : List ℕ} {m : ℕ} → Placed (One kind.End) text n k ws rest m → ws ≡ [] → ReadsLines text n (EndLine ∷ []) rest m
+pub end_taken : {text : List ℕ} {n : ℕ} {k : Kind} {ws : List (List ℕ)} {rest : List ℕ} {m : ℕ} → Placed (One kind.End) text n k ws rest m → ws ≡ []
+    → ReadsLines text n (EndLine ∷ []) rest m
 unfolding values
 end_taken p h =
     let is = alone p in
@@ -73,7 +78,7 @@ corner_step : (flat : Bool) (n : ℕ) (b : Stage) (f : ℕ) (d : Declared) (c : 
     × (step (wanting flat (suc n) b f d) (spelling (corner_line flat c)) ≡ Ok (wanting flat n b f d))
 unfolding step
 corner_step true n b f d c fits = (fits, rw (read_again (One kind.Flat) (FlatLine c) fits refl) refl)
-corner_step false n b f d c fits = (fits, rw (read_again (One kind.Triangle) (TriangleLine c) fits refl) refl)
+corner_step false n b f d c fits = grind (arith, read_again)
 
 pub all_corners_fit : (ts : List Triangle) → AllByRecursion CornersFit (all_corners ts)
 all_corners_fit [] = tt
@@ -82,7 +87,7 @@ all_corners_fit (t ∷ ts) = (corners_fit t, all_corners_fit ts)
 pub corners_go : (flat : Bool) (cs : List Corners) (n k : ℕ) (b : Stage) (f : ℕ) (d : Declared)
     → AllByRecursion CornersFit cs → n ≡ length cs + k → Goes (wanting flat n b f d) (map (corner_line flat) cs)
     (wanting flat k b f d)
-corners_go flat [] n k b f d fits e = let is : n ≡ k = omega arith in ap (λ (i : ℕ). wanting flat i b f d) is
+corners_go flat [] n k b f d fits e = grind arith
 corners_go flat (c ∷ cs) n k b f d fits e =
     let is : n ≡ suc (length cs + k) = omega arith in
     let s = corner_step flat (length cs + k) b f d c fits.0 in
@@ -92,7 +97,8 @@ corner_wants : (flat : Bool) (n : ℕ) (b : Stage) (f : ℕ) (d : Declared) → 
 corner_wants true n b f d = refl
 corner_wants false n b f d = refl
 
-pub corner_fault : {text : List ℕ} {n : ℕ} {rest : List ℕ} {m : ℕ} (x : CertFault) (flat : Bool) (cs : List Corners) (count i : ℕ) → AllByRecursion CornersFit cs → i < count → length cs ≡ i
+pub corner_fault : {text : List ℕ} {n : ℕ} {rest : List ℕ} {m : ℕ} (x : CertFault) (flat : Bool) (cs : List Corners) (count i : ℕ)
+    → AllByRecursion CornersFit cs → i < count → length cs ≡ i
     → ReadsLines text n (map (corner_line flat) cs) rest m → LineFault x m (One (corner_kind flat)) rest
     → (b : Stage) (f : ℕ) (d : Declared) → FaultFrom x n (wanting flat count b f d) text
 corner_fault {rest = rest} {m} x flat cs count i fits lt len follows fault b f d =
@@ -110,7 +116,7 @@ corner_more flat ts t f g =
 
 pub separators_fit : (ps : List PairLine) → AllByRecursion SeparatorFits (map separator_of ps)
 separators_fit [] = tt
-separators_fit (p ∷ ps) = (record { i = p.i_fits; j = p.j_fits; k = p.k_fits }, separators_fit ps)
+separators_fit (p ∷ ps) = grind (arith, separators_fit ps)
 
 pub pair_more : {text : List ℕ} {n : ℕ} {rest : List ℕ} {m : ℕ} {after : List ℕ} {k : ℕ} (ts : List PairLine) (t : PairLine)
     → ReadsLines text n (map separator_line (map separator_of ts)) rest m → ReadsLines rest m (separator_line (separator_of t) ∷ []) after k
@@ -127,7 +133,8 @@ pairs_go (p ∷ ps) n k fits e =
     let is : n ≡ suc (length ps + k) = omega arith in
     (fits.0, (InPairs (length ps + k), rw (is, read_again (One kind.Pair) (separator_line p) fits.0 refl) refl, pairs_go ps (length ps + k) k fits.1 refl))
 
-pub pair_fault : {text : List ℕ} {n : ℕ} {rest : List ℕ} {m : ℕ} (x : CertFault) (ps : List Separator) (count i : ℕ) → AllByRecursion SeparatorFits ps → i < count → length ps ≡ i
+pub pair_fault : {text : List ℕ} {n : ℕ} {rest : List ℕ} {m : ℕ} (x : CertFault) (ps : List Separator) (count i : ℕ) → AllByRecursion SeparatorFits ps
+    → i < count → length ps ≡ i
     → ReadsLines text n (map separator_line ps) rest m → LineFault x m (One kind.Pair) rest → FaultFrom x n (InPairs count) text
 pair_fault {rest = rest} {m} x ps count i fits lt len follows fault =
     let left = suc (count - (i + 1)) in

@@ -1,6 +1,7 @@
 -- Certificates of one content are equal.
 use Rattle.std.proofs.Common.{◌≡◌, ℕ, ◌+◌, ◌≤◌, true, List, [], ◌∷◌, length, map, refl, ap, ap₂, subst, sum_by}
-use Rattle.lpis_cert.proofs.Common.{Triangle, is_id, PiecePart, ParcelPart, Cert, most_triangles, most_flats, greatest_count, Corners, PieceBlock, ParcelBlock, Separator, Content, corner_numbers}
+use Rattle.lpis_cert.proofs.Common.{Triangle, is_id, PiecePart, ParcelPart, Cert, most_triangles, most_flats, greatest_count, Corners, PieceBlock, ParcelBlock}
+use Rattle.lpis_cert.proofs.Common.{Separator, Content, corner_numbers}
 use Rattle.lpis_cert.proofs.Common.{all_corners, piece_of, parcel_of, separator_of, content_of}
 use Rattle.std.proofs.Math.Bridge.{le_prop}
 use mathlib.Core.Bool.{Bool-set}
@@ -10,15 +11,16 @@ use Rattle.lpis_cert.specs.declared.part.PairLine.{PairLine}
 use Rattle.lpis_cert.specs.Limits.{last_edge}
 
 same_three : {A B C : Type 0} {a a' : A} {b b' : B} {c c' : C} → a ≡ a' → b ≡ b' → c ≡ c' → ◌≡◌ {A = A × B × C} (a, b, c) (a', b', c')
-same_three {A} {B} {C} e f g = ap₂ (λ (x : A) (y : B × C). (x, y.0, y.1)) e (ap₂ (λ (y : B) (z : C). (y, z)) f g)
+same_three {A} {B} {C} e f g = cc
 
 -- contents of the same lists are one
 pub same_content : {ps ps' : List PieceBlock} {qs qs' : List ParcelBlock} {rs rs' : List Separator} → ps ≡ ps' → qs ≡ qs' → rs ≡ rs'
     → ◌≡◌ {A = Content} (record { pieces = ps; parcels = qs; pairs = rs }) (record { pieces = ps'; parcels = qs'; pairs = rs' })
-same_content e f g = ap (λ (x : List PieceBlock × List ParcelBlock × List Separator). record { pieces = x.0; parcels = x.1; pairs = x.2 }) (same_three e f g)
+same_content e f g = cc (same_three e f g)
 
 -- what is made of a value and of a proof, where all proofs are one
-made_same : {A R : Type 0} (P : A → Type 0) (make : (x : A) → P x → R) → ((x : A) (p q : P x) → p ≡ q) → {x y : A} → x ≡ y → (p : P x) (q : P y) → make x p ≡ make y q
+made_same : {A R : Type 0} (P : A → Type 0) (make : (x : A) → P x → R) → ((x : A) (p q : P x) → p ≡ q) → {x y : A} → x ≡ y → (p : P x) (q : P y)
+    → make x p ≡ make y q
 made_same P make one {x} {y} e = subst (λ (z : _). (p : P x) (q : P z) → make x p ≡ make z q) e (λ p q. ap (λ (v : P x). make x v) (one x p q))
 
 triangle_eq : (t u : Triangle) → corner_numbers t ≡ corner_numbers u → t ≡ u
@@ -45,11 +47,13 @@ piece_eq : (p q : PiecePart) → piece_of p ≡ piece_of q → p ≡ q
 piece_eq p q e =
     let same = same_three (ap (λ (b : PieceBlock). b.id) e) (triangles_eq p.triangles q.triangles (ap (λ (b : PieceBlock). b.triangles) e))
     (triangles_eq p.flats q.flats (ap (λ (b : PieceBlock). b.flats) e)) in
-    made_same (λ (x : List ℕ × List Triangle × List Triangle). is_id x.0 ≡ true) (λ x h. record { id = x.0; triangles = x.1; flats = x.2; named = h }) (λ x. Bool-set _ _) same p.named q.named
+    made_same (λ (x : List ℕ × List Triangle × List Triangle). is_id x.0 ≡ true) (λ x h. record { id = x.0; triangles = x.1; flats = x.2; named = h })
+    (λ x. Bool-set _ _) same p.named q.named
 
 parcel_eq : (p q : ParcelPart) → parcel_of p ≡ parcel_of q → p ≡ q
 parcel_eq p q e =
-    let same = ap₂ (λ (i : List ℕ) (ts : List Triangle). (i, ts)) (ap (λ (b : ParcelBlock). b.id) e) (triangles_eq p.flats q.flats (ap (λ (b : ParcelBlock). b.flats) e)) in
+    let same = ap₂ (λ (i : List ℕ) (ts : List Triangle). (i, ts)) (ap (λ (b : ParcelBlock). b.id) e)
+    (triangles_eq p.flats q.flats (ap (λ (b : ParcelBlock). b.flats) e)) in
     made_same (λ (x : List ℕ × List Triangle). is_id x.0 ≡ true) (λ x h. record { id = x.0; flats = x.1; named = h }) (λ x. Bool-set _ _) same p.named q.named
 
 abbrev PairBounds : ℕ × ℕ × ℕ → Type 0
@@ -59,7 +63,8 @@ pair_eq : (p q : PairLine) → separator_of p ≡ separator_of q → p ≡ q
 pair_eq p q e =
     made_same PairBounds (λ x h. record { i = x.0; j = x.1; k = x.2; i_fits = h.0; j_fits = h.1; k_fits = h.2 })
     (λ x g h. same_three (le_prop g.0 h.0) (le_prop g.1 h.1) (le_prop g.2 h.2))
-    (same_three (ap (λ (s : Separator). s.i) e) (ap (λ (s : Separator). s.j) e) (ap (λ (s : Separator). s.k) e)) (p.i_fits, p.j_fits, p.k_fits) (q.i_fits, q.j_fits, q.k_fits)
+    (same_three (ap (λ (s : Separator). s.i) e) (ap (λ (s : Separator). s.j) e) (ap (λ (s : Separator). s.k) e)) (p.i_fits, p.j_fits, p.k_fits)
+    (q.i_fits, q.j_fits, q.k_fits)
 
 abbrev AreFew : List PiecePart × List ParcelPart × List PairLine → Type 0
 AreFew x =

@@ -1,10 +1,15 @@
 -- A draft with one more block.
-use Rattle.std.proofs.Common.{◌≡◌, ℕ, ◌+◌, ◌<◌, ◌≤◌, Bool, true, false, ◌&&◌, List, [], ◌∷◌, ◌++◌, length, map, Err, refl, sym, ap, subst, ◌∙◌, arith, append_assoc, length-append, ◌⊎◌, inl, inr, eqb}
+use Rattle.std.proofs.Common.{◌≡◌, ℕ, ◌+◌, ◌<◌, ◌≤◌, true, false, ◌&&◌, List, [], ◌∷◌, ◌++◌, length, map, Err, refl, sym, ap, subst, ◌∙◌, arith, append_assoc}
+use Rattle.std.proofs.Common.{length-append, ◌⊎◌, inl, inr}
 use Rattle.std.proofs.Common.{nat_le}
-use Rattle.lpis_cert.proofs.Common.{nat_tests, join_with_byte-slice_split, join_with_byte, AllByRecursion, Stage, CertFault, One, Block, most_triangles, most_flats, greatest_count, Corners, Separator}
-use Rattle.lpis_cert.proofs.Common.{PieceBlock, ParcelBlock, Line, PieceLine, TriangleLine, FlatLine, ParcelLine, PairsLine, PairLine, EndLine, spelling, text_of_lines, piece_lines, parcel_lines}
-use Rattle.lpis_cert.proofs.Common.{end_lines, lines_of, CornersFit, SeparatorFits, LineFits, is_lf, lines, outcome, at_last, step, Place, InBody, InPairs, AtEnd, Declared, grow, grow_flats}
-use Rattle.lpis_cert.proofs.Common.{ReadsLines, FaultFrom, LineFault, Triangle, PiecePart, ParcelPart, Cert, all_corners, piece_of, parcel_of, separator_of, content_of, pieces_lines, parcels_lines}
+use Rattle.lpis_cert.proofs.Common.{nat_tests, join_with_byte-slice_split, AllByRecursion, Stage, CertFault, One, Block, most_triangles, most_flats}
+use Rattle.lpis_cert.proofs.Common.{greatest_count, Corners, Separator}
+use Rattle.lpis_cert.proofs.Common.{PieceBlock, ParcelBlock, Line, PieceLine, TriangleLine, FlatLine, ParcelLine, PairsLine, PairLine, EndLine, spelling}
+use Rattle.lpis_cert.proofs.Common.{text_of_lines, piece_lines, parcel_lines}
+use Rattle.lpis_cert.proofs.Common.{end_lines, lines_of, CornersFit, SeparatorFits, LineFits, is_lf, lines, outcome, at_last, step, Place, InBody, InPairs}
+use Rattle.lpis_cert.proofs.Common.{AtEnd, Declared, grow, grow_flats}
+use Rattle.lpis_cert.proofs.Common.{ReadsLines, FaultFrom, LineFault, Triangle, PiecePart, ParcelPart, Cert, all_corners, piece_of, parcel_of, separator_of}
+use Rattle.lpis_cert.proofs.Common.{content_of, pieces_lines, parcels_lines}
 use Rattle.std.proofs.lemmas.Grind.{flat_map-append}
 use Rattle.std.proofs.lemmas.List.{append-nil, nil_from_length, map_push}
 use Rattle.lpis_cert.specs.private.Drafts.{blocks, Grown, Whole}
@@ -23,48 +28,31 @@ goes_on p q r [] ys f g = subst (λ (x : Place). Goes x ys r) (sym f) g
 goes_on p q r (x ∷ xs) ys f g = (f.0, (f.1.0, f.1.1, goes_on f.1.0 q r xs ys f.1.2 g))
 
 within_yes : (a b : ℕ) → a ≤ most_triangles → b ≤ most_flats → (nat_le a most_triangles && nat_le b most_flats) ≡ true
-within_yes a b h k =
-    let x : nat_le a most_triangles ≡ true = grind (arith, nat_tests) in
-    let y : nat_le b most_flats ≡ true = grind (arith, nat_tests) in
-    rw (x, y) refl
+within_yes a b h k = grind (arith, nat_tests)
 
 within_no : (a b : ℕ) → (most_triangles < a) ⊎ (most_flats < b) → (nat_le a most_triangles && nat_le b most_flats) ≡ false
-within_no a b (inl h) = let x : nat_le a most_triangles ≡ false = grind (arith, nat_tests) in rw x refl
-within_no a b (inr h) = let y : nat_le b most_flats ≡ false = grind (arith, nat_tests) in rw y (neither (nat_le a most_triangles))
-  where
-    neither : (t : Bool) → (t && false) ≡ false
-    neither true = refl
-    neither false = refl
+within_no a b (inl h) = grind (arith, nat_tests)
+within_no a b (inr h) = grind (arith, nat_tests)
 
 pub piece_open : (d : Declared) (id : List ℕ) (t f : ℕ) → LineFits (PieceLine id t f) → d.triangles + t ≤ most_triangles
     → d.flats + f ≤ most_flats → Goes (InBody stage.Pieces 0 0 d) (PieceLine id t f ∷ [])
     (InBody stage.Pieces t f (grow d t f))
 unfolding step
-piece_open d id t f fits h k = (
-  fits,
-  (
-    InBody stage.Pieces t f (grow d t f),
-    rw (
-      read_again (Block stage.Pieces) (PieceLine id t f) fits refl,
-      within_yes (d.triangles + t) (d.flats + f) h k,
-    ) refl,
-    refl,
-  ),
-)
+piece_open d id t f fits h k = grind (arith, read_again, within_yes)
 
 pub parcel_open : (b : Stage) (d : Declared) (id : List ℕ) (f : ℕ) → LineFits (ParcelLine id f)
     → d.triangles ≤ most_triangles → d.flats + f ≤ most_flats → Goes (InBody b 0 0 d) (ParcelLine id f ∷ [])
     (InBody stage.Parcels 0 f (grow_flats d f))
 unfolding step
-parcel_open b d id f fits h k = (fits, (InBody stage.Parcels 0 f (grow_flats d f), rw (read_again (Block b) (ParcelLine id f) fits refl, within_yes d.triangles (d.flats + f) h k) refl, refl))
+parcel_open b d id f fits h k = grind (arith, read_again, within_yes)
 
 pub pairs_open : (b : Stage) (d : Declared) (n : ℕ) → LineFits (PairsLine n) → Goes (InBody b 0 0 d) (PairsLine n ∷ []) (InPairs n)
 unfolding step
-pairs_open b d n fits = (fits, (InPairs n, rw (read_again (Block b) (PairsLine n) fits refl) refl, refl))
+pairs_open b d n fits = grind (arith, read_again)
 
 pub end_goes : Goes (InPairs 0) (EndLine ∷ []) AtEnd
 unfolding step
-end_goes = (tt, (AtEnd, rw (read_again (One kind.End) EndLine tt refl) refl, refl))
+end_goes = grind (arith, read_again)
 
 first_cut : {text : List ℕ} {n : ℕ} {l : Line} {rest : List ℕ} {m : ℕ} → LineFits l → ReadsLines text n (l ∷ []) rest m → lines text ≡ spelling l ∷ lines rest
 unfolding text_of_lines
@@ -78,7 +66,8 @@ too_many_piece {text} {n} {rest} d b id t f is fits h g =
     rw is (step_err n (InBody stage.Pieces 0 0 d) code.TooMany text (spelling (PieceLine id t f)) rest (first_cut fits g)
     (rw (read_again (Block stage.Pieces) (PieceLine id t f) fits refl, within_no (d.triangles + t) (d.flats + f) h) refl))
 
-pub too_many_parcel : {text : List ℕ} {n : ℕ} {rest : List ℕ} {m : ℕ} (d : Declared) (b : Stage) (id : List ℕ) (f : ℕ) → LineFits (ParcelLine id f) → most_flats < d.flats + f
+pub too_many_parcel : {text : List ℕ} {n : ℕ} {rest : List ℕ} {m : ℕ} (d : Declared) (b : Stage) (id : List ℕ) (f : ℕ) → LineFits (ParcelLine id f)
+    → most_flats < d.flats + f
     → ReadsLines text n (ParcelLine id f ∷ []) rest m → outcome n (InBody b 0 0 d) (lines text) ≡ Err (code.TooMany, n)
 unfolding step
 too_many_parcel {text} {n} {rest} d b id f fits h g =
@@ -87,11 +76,7 @@ too_many_parcel {text} {n} {rest} d b id f fits h g =
 
 shorter : {text : List ℕ} {n : ℕ} {l : Line} {ls : List Line} {rest : List ℕ} {m : ℕ} → ReadsLines text n (l ∷ ls) rest m → length rest < length text
 unfolding text_of_lines
-shorter {l = l} {ls} {rest} f =
-    let e = ap length f.parts in
-    let a = length-append (spelling l ++ (10 ∷ text_of_lines ls)) rest in
-    let b = length-append (spelling l) (10 ∷ text_of_lines ls) in
-    omega arith
+shorter {l = l} {ls} {rest} f = grind (arith, length-append)
 
 pub grown_by : {text : List ℕ} {n : ℕ} {rest : List ℕ} {m : ℕ} {l : Line} {ls : List Line} (before more : List Line) (p q : Place)
     → ReadsLines text n (l ∷ ls) rest m → more ≡ before ++ (l ∷ ls) → Goes p (l ∷ ls) q
@@ -100,21 +85,18 @@ grown_by {l = l} {ls} before more p q f e g = record { added = l ∷ ls; follows
 
 one_more_piece : (ps : List PieceBlock) (p : PieceBlock) → blocks (ps ++ p ∷ []) [] ≡ blocks ps [] ++ piece_lines p
 one_more_piece ps p =
-    append-nil (pieces_lines (ps ++ p ∷ [])) ∙ flat_map-append piece_lines ps (p ∷ [])
-    ∙ ap (λ (x : List Line). pieces_lines ps ++ x) (append-nil (piece_lines p))
-    ∙ ap (λ (x : List Line). x ++ piece_lines p) (sym (append-nil (pieces_lines ps)))
+    cc (append-nil (pieces_lines (ps ++ p ∷ [])), append-nil (piece_lines p), append-nil (pieces_lines ps), flat_map-append piece_lines ps (p ∷ []))
 
 one_more_parcel : (ps : List PieceBlock) (qs : List ParcelBlock) (q : ParcelBlock) → blocks ps (qs ++ q ∷ []) ≡ blocks ps qs ++ parcel_lines q
 one_more_parcel ps qs q =
-    ap (λ (x : List Line). pieces_lines ps ++ x) (flat_map-append parcel_lines qs (q ∷ [])
-    ∙ ap (λ (x : List Line). parcels_lines qs ++ x) (append-nil (parcel_lines q)))
-    ∙ sym (append_assoc (pieces_lines ps) (parcels_lines qs) (parcel_lines q))
+    cc (flat_map-append parcel_lines qs (q ∷ []), append-nil (parcel_lines q), append_assoc (pieces_lines ps) (parcels_lines qs) (parcel_lines q))
 
 pub piece_grown : {start : List ℕ} {n : ℕ} {next : List ℕ} {m : ℕ} {middle : List ℕ} {k : ℕ} {rest : List ℕ} {j : ℕ}
     (ps ps2 : List PieceBlock) (qs : List ParcelBlock) (p : PieceBlock) (b : Stage) (d : Declared) (t f : ℕ)
     → ps2 ≡ ps ++ p ∷ [] → b ≡ stage.Pieces → length qs ≡ 0 → LineFits (PieceLine p.id t f) → d.triangles + t ≤ most_triangles → d.flats + f ≤ most_flats
     → AllByRecursion CornersFit p.triangles → AllByRecursion CornersFit p.flats → length p.triangles ≡ t → length p.flats ≡ f
-    → ReadsLines start n (PieceLine p.id t f ∷ []) next m → ReadsLines next m (map TriangleLine p.triangles) middle k → ReadsLines middle k (map FlatLine p.flats) rest j
+    → ReadsLines start n (PieceLine p.id t f ∷ []) next m → ReadsLines next m (map TriangleLine p.triangles) middle k
+    → ReadsLines middle k (map FlatLine p.flats) rest j
     → Grown (blocks ps qs) (blocks ps2 qs) (InBody b 0 0 d) (InBody b 0 0 (grow d t f)) start n rest j
 piece_grown ps ps2 qs p b d t f e is none fits h1 h2 ft ff lt lf f1 f2 f3 =
     let no : qs ≡ [] = nil_from_length qs none in
@@ -123,8 +105,10 @@ piece_grown ps ps2 qs p b d t f e is none fits h1 h2 ft ff lt lf f1 f2 f3 =
     (InBody stage.Pieces 0 0 (grow d t f)) (PieceLine p.id t f ∷ []) (map TriangleLine p.triangles
     ++ map FlatLine p.flats)
     (piece_open d p.id t f fits h1 h2)
-    (goes_on (InBody stage.Pieces t f (grow d t f)) (InBody stage.Pieces 0 f (grow d t f)) (InBody stage.Pieces 0 0 (grow d t f)) (map TriangleLine p.triangles) (map FlatLine p.flats)
-    (corners_go false p.triangles t 0 stage.Pieces f (grow d t f) ft (omega arith)) (corners_go true p.flats f 0 stage.Pieces 0 (grow d t f) ff (omega arith))) in
+    (goes_on (InBody stage.Pieces t f (grow d t f)) (InBody stage.Pieces 0 f (grow d t f)) (InBody stage.Pieces 0 0 (grow d t f)) (map TriangleLine p.triangles)
+    (map FlatLine p.flats)
+    (corners_go false p.triangles t 0 stage.Pieces f (grow d t f) ft (omega arith))
+    (corners_go true p.flats f 0 stage.Pieces 0 (grow d t f) ff (omega arith))) in
     let same : PieceLine p.id (length p.triangles) (length p.flats) ≡ PieceLine p.id t f = rw (lt, lf) refl in
     let lines : blocks (ps ++ p ∷ []) [] ≡ blocks ps []
     ++ (PieceLine p.id t f ∷ (map TriangleLine p.triangles ++ map FlatLine p.flats)) = one_more_piece ps p
@@ -132,55 +116,44 @@ piece_grown ps ps2 qs p b d t f e is none fits h1 h2 ft ff lt lf f1 f2 f3 =
     rw (e, is, no) (grown_by (blocks ps []) (blocks (ps ++ p ∷ []) []) (InBody stage.Pieces 0 0 d)
     (InBody stage.Pieces 0 0 (grow d t f)) all lines goes)
 
-pub parcel_grown : {start : List ℕ} {n : ℕ} {next : List ℕ} {m : ℕ} {rest : List ℕ} {j : ℕ} (ps : List PieceBlock) (qs qs2 : List ParcelBlock) (q : ParcelBlock) (b : Stage) (d : Declared) (f : ℕ)
-    → qs2 ≡ qs ++ q ∷ [] → LineFits (ParcelLine q.id f) → d.triangles ≤ most_triangles → d.flats + f ≤ most_flats → AllByRecursion CornersFit q.flats → length q.flats ≡ f
+pub parcel_grown : {start : List ℕ} {n : ℕ} {next : List ℕ} {m : ℕ} {rest : List ℕ} {j : ℕ} (ps : List PieceBlock) (qs qs2 : List ParcelBlock) (q : ParcelBlock)
+    (b : Stage) (d : Declared) (f : ℕ)
+    → qs2 ≡ qs ++ q ∷ [] → LineFits (ParcelLine q.id f) → d.triangles ≤ most_triangles → d.flats + f ≤ most_flats → AllByRecursion CornersFit q.flats
+    → length q.flats ≡ f
     → ReadsLines start n (ParcelLine q.id f ∷ []) next m → ReadsLines next m (map FlatLine q.flats) rest j
     → Grown (blocks ps qs) (blocks ps qs2) (InBody b 0 0 d) (InBody stage.Parcels 0 0 (grow_flats d f)) start n rest j
 parcel_grown ps qs qs2 q b d f e fits h1 h2 ff lf f1 f2 =
     let all = follows_both f1 f2 in
-    let goes = goes_on (InBody b 0 0 d) (InBody stage.Parcels 0 f (grow_flats d f)) (InBody stage.Parcels 0 0 (grow_flats d f)) (ParcelLine q.id f ∷ []) (map FlatLine q.flats)
+    let goes = goes_on (InBody b 0 0 d) (InBody stage.Parcels 0 f (grow_flats d f)) (InBody stage.Parcels 0 0 (grow_flats d f)) (ParcelLine q.id f ∷ [])
+    (map FlatLine q.flats)
     (parcel_open b d q.id f fits h1 h2) (corners_go true q.flats f 0 stage.Parcels 0 (grow_flats d f) ff (omega arith)) in
     let same : ParcelLine q.id (length q.flats) ≡ ParcelLine q.id f = rw lf refl in
-    let lines : blocks ps (qs ++ q ∷ []) ≡ blocks ps qs ++ (ParcelLine q.id f ∷ map FlatLine q.flats) = one_more_parcel ps qs q ∙ ap (λ (x : Line). blocks ps qs ++ (x ∷ map FlatLine q.flats)) same in
+    let lines : blocks ps (qs ++ q ∷ []) ≡ blocks ps qs ++ (ParcelLine q.id f ∷ map FlatLine q.flats) =
+    one_more_parcel ps qs q ∙ ap (λ (x : Line). blocks ps qs ++ (x ∷ map FlatLine q.flats)) same in
     rw e (grown_by (blocks ps qs) (blocks ps (qs ++ q ∷ [])) (InBody b 0 0 d) (InBody stage.Parcels 0 0 (grow_flats d f)) all lines goes)
 
 -- the lines from the pairs on
-pub pairs_follow : {start : List ℕ} {n : ℕ} {count : ℕ} {next : List ℕ} {m : ℕ} {last : List ℕ} {k : ℕ} {rest : List ℕ} {j : ℕ} (ps : List Separator) → length ps ≡ count
-    → ReadsLines start n (PairsLine count ∷ []) next m → ReadsLines next m (map PairLine ps) last k → ReadsLines last k (EndLine ∷ []) rest j → ReadsLines start n (end_lines ps) rest j
-pairs_follow {start} {n} {rest = rest} {j} ps len f1 f2 f3 =
-    subst (λ (c : ℕ). ReadsLines start n (PairsLine c ∷ (map PairLine ps ++ (EndLine ∷ []))) rest j) (sym len) (follows_both f1 (follows_both f2 f3))
+pub pairs_follow : {start : List ℕ} {n : ℕ} {count : ℕ} {next : List ℕ} {m : ℕ} {last : List ℕ} {k : ℕ} {rest : List ℕ} {j : ℕ} (ps : List Separator)
+    → length ps ≡ count
+    → ReadsLines start n (PairsLine count ∷ []) next m → ReadsLines next m (map PairLine ps) last k → ReadsLines last k (EndLine ∷ []) rest j
+    → ReadsLines start n (end_lines ps) rest j
+pairs_follow {start} {n} {rest = rest} {j} ps len f1 f2 f3 = grind (arith, follows_both f1 (follows_both f2 f3), follows_both f2 f3)
 
-pub pairs_goes : (b : Stage) (d : Declared) (ps : List Separator) → AllByRecursion SeparatorFits ps → length ps ≤ greatest_count → Goes (InBody b 0 0 d) (end_lines ps) AtEnd
+pub pairs_goes : (b : Stage) (d : Declared) (ps : List Separator) → AllByRecursion SeparatorFits ps → length ps ≤ greatest_count
+    → Goes (InBody b 0 0 d) (end_lines ps) AtEnd
 pairs_goes b d ps fits le =
     goes_on (InBody b 0 0 d) (InPairs (length ps)) AtEnd (PairsLine (length ps) ∷ []) (map PairLine ps ++ (EndLine ∷ [])) (pairs_open b d (length ps) le)
     (goes_on (InPairs (length ps)) (InPairs 0) AtEnd (map PairLine ps) (EndLine ∷ []) (pairs_go ps (length ps) 0 fits (omega arith)) end_goes)
 
 pub trailing : (m : ℕ) (rest : List ℕ) → 0 < length rest → outcome m AtEnd (lines rest) ≡ Err (code.TextAfterEnd, m)
 unfolding outcome at_last step
-trailing m rest some = by_lines (lines rest) (split_some is_lf rest) (join_with_byte-slice_split 10 rest)
-  where
-    some_last : (v : List ℕ) → v ≡ rest → at_last m AtEnd v ≡ Err (code.TextAfterEnd, m)
-    some_last v e = let no : eqb (length v) 0 ≡ false = rw e (positive (length rest) some) in rw no refl
-      where
-        positive : (k : ℕ) → 0 < k → eqb k 0 ≡ false
-        positive k h = grind (arith, nat_tests)
+trailing m rest some = grind (arith, nat_tests, split_some is_lf rest, join_with_byte-slice_split 10 rest)
 
-    by_lines : (ls : List (List ℕ)) → ((v : List ℕ) × (vs : List (List ℕ)) × (ls ≡ v ∷ vs)) → join_with_byte 10 ls ≡ rest → outcome m AtEnd ls ≡ Err (code.TextAfterEnd, m)
-    by_lines [] h e = absurd (cc h.2)
-    by_lines (v ∷ []) h e = some_last v e
-    by_lines (v ∷ w ∷ vs) h e = refl
-
-pub whole_of : {start : List ℕ} {n : ℕ} {rest : List ℕ} {m : ℕ} (ps : List PieceBlock) (qs : List ParcelBlock) (rs : List Separator) → ReadsLines start n (end_lines rs) rest m → length rest ≡ 0
+pub whole_of : {start : List ℕ} {n : ℕ} {rest : List ℕ} {m : ℕ} (ps : List PieceBlock) (qs : List ParcelBlock) (rs : List Separator)
+    → ReadsLines start n (end_lines rs) rest m → length rest ≡ 0
     → Whole (blocks ps qs) (lines_of (record { pieces = ps; parcels = qs; pairs = rs })) start
 unfolding lines_of
-whole_of {rest = rest} ps qs rs f none =
-    let no : rest ≡ [] = nil_from_length rest none in
-    record {
-      added = end_lines rs;
-      parts = f.parts ∙ ap (λ (r : List ℕ). text_of_lines (end_lines rs) ++ r) no
-          ∙ append-nil (text_of_lines (end_lines rs));
-      lines = sym (append_assoc (pieces_lines ps) (parcels_lines qs) (end_lines rs));
-    }
+whole_of {rest = rest} ps qs rs f none = grind (arith, nil_from_length, append-nil, append_assoc)
 
 -- ---- faults inside a block
 
@@ -191,7 +164,8 @@ pub piece_fault : {text : List ℕ} {n : ℕ} {rest : List ℕ} {m : ℕ} (x : C
 piece_fault x d b id t f is fits h1 h2 g k =
     rw is (fault_after x (InBody stage.Pieces 0 0 d) (InBody stage.Pieces t f (grow d t f)) g (piece_open d id t f fits h1 h2) k)
 
-pub flat_fault : {text : List ℕ} {n : ℕ} {rest : List ℕ} {m : ℕ} {middle : List ℕ} {k : ℕ} (x : CertFault) (d : Declared) (b : Stage) (id : List ℕ) (t f : ℕ) (ts : List Corners)
+pub flat_fault : {text : List ℕ} {n : ℕ} {rest : List ℕ} {m : ℕ} {middle : List ℕ} {k : ℕ} (x : CertFault) (d : Declared) (b : Stage) (id : List ℕ) (t f : ℕ)
+    (ts : List Corners)
     → b ≡ stage.Pieces → LineFits (PieceLine id t f)
     → d.triangles + t ≤ most_triangles → d.flats + f ≤ most_flats
     → ReadsLines text n (PieceLine id t f ∷ []) rest m → AllByRecursion CornersFit ts → length ts ≡ t
@@ -199,18 +173,21 @@ pub flat_fault : {text : List ℕ} {n : ℕ} {rest : List ℕ} {m : ℕ} {middle
     → FaultFrom x n (InBody b 0 0 d) text
 flat_fault x d b id t f ts is fits h1 h2 g ft lt g2 h =
     piece_fault x d b id t f is fits h1 h2 g
-    (fault_after x (InBody stage.Pieces t f (grow d t f)) (InBody stage.Pieces 0 f (grow d t f)) g2 (corners_go false ts t 0 stage.Pieces f (grow d t f) ft (omega arith)) h)
+    (fault_after x (InBody stage.Pieces t f (grow d t f)) (InBody stage.Pieces 0 f (grow d t f)) g2
+    (corners_go false ts t 0 stage.Pieces f (grow d t f) ft (omega arith)) h)
 
 pub pairs_fault : {text : List ℕ} {n : ℕ} {rest : List ℕ} {m : ℕ} (x : CertFault) (b : Stage) (d : Declared) (count : ℕ) → count ≤ greatest_count
     → ReadsLines text n (PairsLine count ∷ []) rest m → FaultFrom x m (InPairs count) rest → FaultFrom x n (InBody b 0 0 d) text
 pairs_fault x b d count le g h = fault_after x (InBody b 0 0 d) (InPairs count) g (pairs_open b d count le) h
 
-pub end_fault : {text : List ℕ} {n : ℕ} {rest : List ℕ} {m : ℕ} {last : List ℕ} {k : ℕ} (x : CertFault) (b : Stage) (d : Declared) (count : ℕ) (ps : List Separator) → count ≤ greatest_count
+pub end_fault : {text : List ℕ} {n : ℕ} {rest : List ℕ} {m : ℕ} {last : List ℕ} {k : ℕ} (x : CertFault) (b : Stage) (d : Declared) (count : ℕ)
+    (ps : List Separator) → count ≤ greatest_count
     → ReadsLines text n (PairsLine count ∷ []) rest m → AllByRecursion SeparatorFits ps → length ps ≡ count
     → ReadsLines rest m (map PairLine ps) last k → LineFault x k (One kind.End) last → FaultFrom x n (InBody b 0 0 d)
     text
 end_fault {last = last} {k} x b d count ps le g fits len g2 h =
-    pairs_fault x b d count le g (fault_after x (InPairs count) (InPairs 0) g2 (pairs_go ps count 0 fits (omega arith)) (fault_here x k (InPairs 0) (One kind.End) last refl h))
+    pairs_fault x b d count le g
+    (fault_after x (InPairs count) (InPairs 0) g2 (pairs_go ps count 0 fits (omega arith)) (fault_here x k (InPairs 0) (One kind.End) last refl h))
 
 pub trailing_fault : {text : List ℕ} {n : ℕ} {rest : List ℕ} {m : ℕ} (b : Stage) (d : Declared) (ps : List Separator)
     → AllByRecursion SeparatorFits ps → length ps ≤ greatest_count → ReadsLines text n (end_lines ps) rest m
@@ -228,6 +205,8 @@ pub parcel_pushed : (qs : List ParcelPart) (q : ParcelPart) (id : List ℕ) (fs 
     → map parcel_of (qs ++ q ∷ []) ≡ map parcel_of qs ++ record { id = id; flats = all_corners fs } ∷ []
 parcel_pushed qs q id fs e g = map_push parcel_of qs q ∙ rw (e, g) refl
 
-pub whole_cert : (c : Cert) (ps : List PiecePart) (qs : List ParcelPart) (rs : List part.PairLine) (before : List Line) (text : List ℕ) → c.pieces ≡ ps → c.parcels ≡ qs → c.pairs ≡ rs
-    → Whole before (lines_of (record { pieces = map piece_of ps; parcels = map parcel_of qs; pairs = map separator_of rs })) text → Whole before (lines_of (content_of c)) text
+pub whole_cert : (c : Cert) (ps : List PiecePart) (qs : List ParcelPart) (rs : List part.PairLine) (before : List Line) (text : List ℕ) → c.pieces ≡ ps
+    → c.parcels ≡ qs → c.pairs ≡ rs
+    → Whole before (lines_of (record { pieces = map piece_of ps; parcels = map parcel_of qs; pairs = map separator_of rs })) text
+    → Whole before (lines_of (content_of c)) text
 whole_cert c ps qs rs before text e f g w = rw (e, f, g) w

@@ -1,7 +1,9 @@
 -- Lines of corners, read in one pass.
-use Rattle.std.proofs.Common.{◌≡◌, ℕ, zero, suc, ◌+◌, ◌-◌, ◌*◌, ◌<◌, ◌≤◌, Bool, true, false, cond, ◌&&◌, List, [], ◌∷◌, ◌++◌, length, take, drop, get_or, Some, None, refl, sym, ap, ◌∙◌, arith, nat_le}
+use Rattle.std.proofs.Common.{◌≡◌, ℕ, suc, ◌+◌, ◌-◌, ◌*◌, ◌<◌, ◌≤◌, Bool, true, false, cond, List, [], ◌∷◌, ◌++◌, length, take, drop, get_or, Some, sym, ap}
+use Rattle.std.proofs.Common.{◌∙◌, arith}
 use Rattle.std.proofs.Common.{append_assoc, length-append, drop-cons, add-one, decimal}
-use Rattle.lpis_cert.proofs.Common.{nat_tests, signed_decimal, number_margin, Corners, Line, spelling, words_of, text_of_lines, digits_on, number, ReadsLines, corner_line}
+use Rattle.lpis_cert.proofs.Common.{nat_tests, signed_decimal, number_margin, Corners, Line, spelling, words_of, text_of_lines, digits_on, number, ReadsLines}
+use Rattle.lpis_cert.proofs.Common.{corner_line}
 use Rattle.std.proofs.lemmas.Fmt.{decimal_digit}
 use Rattle.std.proofs.lemmas.Str.{digit_value_digit}
 use Rattle.std.proofs.lemmas.List.{take_all, take-append-drop, take_more}
@@ -12,35 +14,27 @@ use Rattle.lpis_cert.proofs.SplittingLemmas.{rest_is}
 
 pub digits_on-append : (limit n : ℕ) (xs ys : List ℕ) (v : ℕ) → digits_on limit n xs ≡ Some v → digits_on limit n (xs ++ ys) ≡ digits_on limit v ys
 digits_on-append limit n [] ys v h = let e : n ≡ v = cc h in ap (λ (k : ℕ). digits_on limit k ys) e
-digits_on-append limit n (d ∷ xs) ys v h = by_test (is_ascii_digit d && nat_le (n * 10 + digit_value d) limit) (digits_on-append limit (n * 10 + digit_value d) xs ys v) h
-  where
-    by_test : (b : Bool) → (digits_on limit (n * 10 + digit_value d) xs ≡ Some v → digits_on limit (n * 10 + digit_value d) (xs ++ ys) ≡ digits_on limit v ys)
-        → cond b (digits_on limit (n * 10 + digit_value d) xs) None ≡ Some v → cond b (digits_on limit (n * 10 + digit_value d) (xs ++ ys)) None ≡ digits_on limit v ys
-    by_test true more h = more h
-    by_test false more h = absurd cc
+digits_on-append limit n (d ∷ xs) ys v h = grind (arith, digits_on-append limit (n * 10 + digit_value d) xs ys v)
 
 digit_is : (d : ℕ) → is_ascii_digit d ≡ true → digit_value d ≡ d - 48
-digit_is d h =
-    let low : 48 ≤ d = grind (arith, nat_tests) in
-    let high : d ≤ 57 = grind (arith, nat_tests) in
-    omega (arith, digit_value_digit d (low, high))
+digit_is d h = grind (arith, nat_tests, digit_value_digit)
 
 -- one more digit
-pub digit_more : (limit i v r : ℕ) (xs : List ℕ) → i < length xs → digits_on limit 0 (take i xs) ≡ Some v → is_ascii_digit (get_or xs i 0) ≡ true → r ≡ get_or xs i 0 - 48 → v * 10 + r ≤ limit
+pub digit_more : (limit i v r : ℕ) (xs : List ℕ) → i < length xs → digits_on limit 0 (take i xs) ≡ Some v → is_ascii_digit (get_or xs i 0) ≡ true
+    → r ≡ get_or xs i 0 - 48 → v * 10 + r ≤ limit
     → digits_on limit 0 (take (i + 1) xs) ≡ Some (v * 10 + r)
 digit_more limit i v r xs lt h digit is le =
-    let value : digit_value (get_or xs i 0) ≡ r = digit_is (get_or xs i 0) digit ∙ sym is in
-    let more = take_more xs i 0 lt in
-    let small : nat_le (v * 10 + r) limit ≡ true = grind (arith, nat_tests) in
-    ap (digits_on limit 0) more ∙ digits_on-append limit 0 (take i xs) (get_or xs i 0 ∷ []) v h ∙ rw (digit, value, small) refl
+    grind (arith, nat_tests, digit_is (get_or xs i 0) digit, take_more, digits_on-append limit 0 (take i xs) (get_or xs i 0 ∷ []) v h)
 
-leading : (limit i end : ℕ) (xs : List ℕ) (v : ℕ) → i < length xs → end < 48 → 48 < get_or xs 0 0 → get_or xs i 0 ≡ end → digits_on limit 0 (take i xs) ≡ Some v → number limit (take i xs) ≡ Some v
+leading : (limit i end : ℕ) (xs : List ℕ) (v : ℕ) → i < length xs → end < 48 → 48 < get_or xs 0 0 → get_or xs i 0 ≡ end → digits_on limit 0 (take i xs) ≡ Some v
+    → number limit (take i xs) ≡ Some v
 unfolding number
 leading limit (suc i) end (d ∷ xs) v lt apart first last h = let no = not-zero d first in rw no h
 leading limit _ end _ v lt apart first last h = absurd (omega arith)
 
 -- the digits before a byte
-pub digits_begin : (limit i end : ℕ) (xs : List ℕ) (v : ℕ) → limit ≤ number_margin → i < length xs → end < 48 → 48 < get_or xs 0 0 → get_or xs i 0 ≡ end → digits_on limit 0 (take i xs) ≡ Some v
+pub digits_begin : (limit i end : ℕ) (xs : List ℕ) (v : ℕ) → limit ≤ number_margin → i < length xs → end < 48 → 48 < get_or xs 0 0 → get_or xs i 0 ≡ end
+    → digits_on limit 0 (take i xs) ≡ Some v
     → Begins xs (decimal v) end (take (length xs - (i + 1)) (drop (i + 1) xs)) × (v ≤ limit)
 digits_begin limit i end xs v small lt apart first last h =
     let is = number_takes limit (take i xs) v small (leading limit i end xs v lt apart first last h) in
@@ -50,18 +44,20 @@ digits_begin limit i end xs v small lt apart first last h =
 -- the first byte
 pub first_byte : (xs : List ℕ) (b : ℕ) → 1 ≤ length xs → get_or xs 0 0 ≡ b → xs ≡ b ∷ take (length xs - 1) (drop 1 xs)
 first_byte [] b some first = absurd (omega arith)
-first_byte (x ∷ xs) b some first = let all = take_all (length (x ∷ xs) - 1) xs (omega arith) in rw (first, all) refl
+first_byte (x ∷ xs) b some first = grind (arith, take_all)
 
 pub zero_begins : (text after rest : List ℕ) (end limit : ℕ) → text ≡ 48 ∷ after → after ≡ end ∷ rest → Begins text (decimal 0) end rest × (0 ≤ limit)
-zero_begins text after rest end limit h k = let zero = decimal_digit 0 (omega arith) in (rw (h, k, zero) refl, omega arith)
+zero_begins text after rest end limit h k = grind (arith, decimal_digit)
 
 -- ---- a line of corners
 
 link : (a x y r : List ℕ) → x ++ r ≡ y → (a ++ (32 ∷ x)) ++ r ≡ a ++ (32 ∷ y)
 link a x y r h = append_assoc a (32 ∷ x) r ∙ ap (λ (t : List ℕ). a ++ (32 ∷ t)) h
 
-six : (a b c d e f r : List ℕ) → (a ++ (32 ∷ (b ++ (32 ∷ (c ++ (32 ∷ (d ++ (32 ∷ (e ++ (32 ∷ f)))))))))) ++ r ≡ a ++ (32 ∷ (b ++ (32 ∷ (c ++ (32 ∷ (d ++ (32 ∷ (e ++ (32 ∷ (f ++ r))))))))))
-six a b c d e f r = link a _ _ r (link b _ _ r (link c _ _ r (link d _ _ r (link e _ _ r refl))))
+six : (a b c d e f r : List ℕ)
+    → (a ++ (32 ∷ (b ++ (32 ∷ (c ++ (32 ∷ (d ++ (32 ∷ (e ++ (32 ∷ f)))))))))) ++ r
+    ≡ a ++ (32 ∷ (b ++ (32 ∷ (c ++ (32 ∷ (d ++ (32 ∷ (e ++ (32 ∷ (f ++ r))))))))))
+six a b c d e f r = grind (arith, link)
 
 pub corners_spelled : (flat : Bool) (c : Corners) (rest : List ℕ)
     → cond flat 102 116 ∷ 32 ∷ (signed_decimal c.x1
@@ -71,14 +67,13 @@ pub corners_spelled : (flat : Bool) (c : Corners) (rest : List ℕ)
     ++ (32 ∷ (signed_decimal c.x3 ++ (32 ∷ (signed_decimal c.y3 ++ (10 ∷ rest))))))))))))
     ≡ spelling (corner_line flat c) ++ (10 ∷ rest)
 unfolding spelling words_of
-corners_spelled true c rest = ap (λ (t : List ℕ). 102 ∷ 32 ∷ t)
-    (sym (six (signed_decimal c.x1) (signed_decimal c.y1) (signed_decimal c.x2) (signed_decimal c.y2)
-    (signed_decimal c.x3) (signed_decimal c.y3) (10 ∷ rest)))
-corners_spelled false c rest = ap (λ (t : List ℕ). 116 ∷ 32 ∷ t)
-    (sym (six (signed_decimal c.x1) (signed_decimal c.y1) (signed_decimal c.x2) (signed_decimal c.y2)
-    (signed_decimal c.x3) (signed_decimal c.y3) (10 ∷ rest)))
+corners_spelled true c rest =
+    cc (six (signed_decimal c.x1) (signed_decimal c.y1) (signed_decimal c.x2) (signed_decimal c.y2) (signed_decimal c.x3) (signed_decimal c.y3) (10 ∷ rest))
+corners_spelled false c rest =
+    cc (six (signed_decimal c.x1) (signed_decimal c.y1) (signed_decimal c.x2) (signed_decimal c.y2) (signed_decimal c.x3) (signed_decimal c.y3) (10 ∷ rest))
 
-pub corners_begin : (flat : Bool) (letter : ℕ) (text after fields : List ℕ) (c : Corners) (rest : List ℕ) → letter ≡ cond flat 102 116 → text ≡ letter ∷ after → after ≡ 32 ∷ fields
+pub corners_begin : (flat : Bool) (letter : ℕ) (text after fields : List ℕ) (c : Corners) (rest : List ℕ) → letter ≡ cond flat 102 116 → text ≡ letter ∷ after
+    → after ≡ 32 ∷ fields
     → fields ≡ signed_decimal c.x1
     ++ (32 ∷ (signed_decimal c.y1
     ++ (32 ∷ (signed_decimal c.x2
@@ -90,7 +85,7 @@ corners_begin flat letter text after fields c rest is h k all = rw (h, k, all, i
 -- a line that begins the text was taken
 pub begun : (text : List ℕ) (n : ℕ) (l : Line) (rest : List ℕ) → Begins text (spelling l) 10 rest → ReadsLines text n (l ∷ []) rest (n + 1)
 unfolding text_of_lines
-begun text n l rest h = record { parts = h ∙ sym (append_assoc (spelling l) (10 ∷ []) rest); next = refl }
+begun text n l rest h = grind (arith, append_assoc)
 
 pub shorter : (text : List ℕ) (w : List ℕ) (rest : List ℕ) → Begins text w 10 rest → length rest + 1 ≤ length text
-shorter text w rest h = let e = ap length h in let a = length-append w (10 ∷ rest) in omega arith
+shorter text w rest h = grind (arith, length-append)

@@ -17,7 +17,8 @@ pub values_pairs : (k : Kind) (ws : List (List ℕ)) (o : Option Line) → k ≡
 unfolding values
 values_pairs k ws o is h = rw is h
 
-pub stands_of : (b : Stage) (text : List ℕ) (n : ℕ) (k : Kind) (ws : List (List ℕ)) (rest : List ℕ) (m : ℕ) → Placed (Block b) text n k ws rest m → can_stand (Block b) k ≡ true
+pub stands_of : (b : Stage) (text : List ℕ) (n : ℕ) (k : Kind) (ws : List (List ℕ)) (rest : List ℕ) (m : ℕ) → Placed (Block b) text n k ws rest m
+    → can_stand (Block b) k ≡ true
 stands_of b text n k ws rest m p = formed_stands (Block b) p.line k ws p.placed
 
 pub no_block : (b : Stage) (k : Kind) → can_stand (Block b) k ≡ true → (k ≡ Triangle) ⊎ ((k ≡ Flat) ⊎ ((k ≡ Pair) ⊎ (k ≡ End))) → ⊥

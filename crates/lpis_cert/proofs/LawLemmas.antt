@@ -1,10 +1,14 @@
 -- Laws of the text.
-use Rattle.std.proofs.Common.{◌≡◌, ℕ, ◌+◌, ◌<◌, Bool, true, false, cond, List, [], ◌∷◌, ◌++◌, length, map, Result, Ok, Err, refl, sym, ap, ap₂, ◌∙◌, arith, append_assoc, length-append, eqb, sum_by}
+use Rattle.std.proofs.Common.{◌≡◌, ℕ, ◌+◌, ◌<◌, Bool, true, false, cond, List, [], ◌∷◌, ◌++◌, length, map, Result, Ok, Err, refl, sym, ap, ap₂, ◌∙◌, arith}
+use Rattle.std.proofs.Common.{append_assoc, length-append, sum_by}
 use Rattle.std.proofs.Common.{IfOk, IfErr, MatchResult}
-use Rattle.lpis_cert.proofs.Common.{nat_tests, join_with_byte-slice_split, onto_first, join_with_byte, AllByRecursion, length-map, sum_by-cons, PiecePart, ParcelPart, Cert, CertFault, corner_numbers}
-use Rattle.lpis_cert.proofs.Common.{piece_of, parcel_of, separator_of, content_of, PieceFits, ParcelFits, FaultFrom, CertCode, first_line, written, Corners, Separator, PieceBlock, ParcelBlock}
-use Rattle.lpis_cert.proofs.Common.{Content, Line, PieceLine, ParcelLine, TriangleLine, FlatLine, PairsLine, PairLine, EndLine, text_of, text_of_lines, spelling, lines_of, piece_lines, parcel_lines}
-use Rattle.lpis_cert.proofs.Common.{end_lines, LineFits, is_lf, lines, outcome, at_last, step, Place, AtVersion, InBody, InPairs, AtEnd, none_declared, verdict, pieces_lines, parcels_lines}
+use Rattle.lpis_cert.proofs.Common.{nat_tests, join_with_byte-slice_split, onto_first, AllByRecursion, length-map, sum_by-cons, PiecePart, ParcelPart, Cert}
+use Rattle.lpis_cert.proofs.Common.{CertFault}
+use Rattle.lpis_cert.proofs.Common.{piece_of, parcel_of, content_of, PieceFits, ParcelFits, FaultFrom, CertCode, first_line, written, Corners, Separator}
+use Rattle.lpis_cert.proofs.Common.{PieceBlock, ParcelBlock}
+use Rattle.lpis_cert.proofs.Common.{Content, Line, text_of, text_of_lines, spelling, lines_of, piece_lines, parcel_lines}
+use Rattle.lpis_cert.proofs.Common.{end_lines, LineFits, is_lf, lines, outcome, at_last, step, Place, AtVersion, InBody, AtEnd, none_declared, verdict}
+use Rattle.lpis_cert.proofs.Common.{pieces_lines, parcels_lines}
 use Rattle.lpis_cert.specs.declared.fault.CertFault.TheVariants.{Memory, At}
 use Rattle.lpis_cert.specs.Contents.{cert_text}
 use Rattle.lpis_cert.proofs.CertEqualityLemmas.{cert_eq, same_content}
@@ -47,28 +51,23 @@ glued_first _ _ _ _ _ = refl
 
 lines-append : (p q : List ℕ) → lines (p ++ q) ≡ glue (lines p) (lines q)
 lines-append [] q = glued_empty (lines q) (split_some is_lf q)
-lines-append (b ∷ p) q = by_test (is_lf b) (lines-append p q)
-  where
-    by_test : (t : Bool) → lines (p ++ q) ≡ glue (lines p) (lines q) → cond t ([] ∷ lines (p ++ q)) (onto_first b (lines (p ++ q))) ≡ glue (cond t ([] ∷ lines p) (onto_first b (lines p))) (lines q)
-    by_test true e = ap (λ (x : List (List ℕ)). [] ∷ x) e ∙ glued_end (lines p) (lines q) (split_some is_lf p)
-    by_test false e = ap (onto_first b) e ∙ glued_first b (lines p) (lines q) (split_some is_lf p) (split_some is_lf q)
+lines-append (b ∷ p) q = grind (arith, lines-append p q, glue, glued_end, split_some, glued_first)
 
 glue_some : (w : List ℕ) (ws : List (List ℕ)) (h : List ℕ) (t : List (List ℕ)) → (v : List ℕ) × (vs : List (List ℕ)) × (glue (w ∷ ws) (h ∷ t) ≡ v ∷ vs)
 unfolding glue
 glue_some w [] h t = (w ++ h, t, refl)
 glue_some w (x ∷ ws) h t = (w, glue (x ∷ ws) (h ∷ t), refl)
 
-went : {A : Type 0} (n : ℕ) (r : Result Place CertCode) (f : Place → Result A (CertCode × ℕ)) (k : A) → (at_line n r >>= f) ≡ Ok k → (q : Place) × (r ≡ Ok q) × (f q ≡ Ok k)
+went : {A : Type 0} (n : ℕ) (r : Result Place CertCode) (f : Place → Result A (CertCode × ℕ)) (k : A) → (at_line n r >>= f) ≡ Ok k
+    → (q : Place) × (r ≡ Ok q) × (f q ≡ Ok k)
 went n (Ok q) f k h = (q, refl, h)
 went n (Err c) f k h = absurd cc
 
 -- the text ends where the grammar has not
-stops : (n : ℕ) (p : Place) (v h : List ℕ) (t : List (List ℕ)) (k : ℕ) → 0 < length h + length t → outcome n p ((v ++ h) ∷ t) ≡ Ok k → outcome n p (v ∷ []) ≡ Err (code.Truncated, n)
+stops : (n : ℕ) (p : Place) (v h : List ℕ) (t : List (List ℕ)) (k : ℕ) → 0 < length h + length t → outcome n p ((v ++ h) ∷ t) ≡ Ok k
+    → outcome n p (v ∷ []) ≡ Err (code.Truncated, n)
 unfolding outcome at_last step
-stops n AtEnd v h [] k some e = absurd (full (length (v ++ h)) k (omega (arith, length-append v h)) e)
-  where
-    full : (i k : ℕ) → 0 < i → cond {A = Result ℕ (CertCode × ℕ)} (eqb i 0) (Ok n) (Err (code.TextAfterEnd, n)) ≡ Ok k → ⊥
-    full i k lt e = let no : eqb i 0 ≡ false = grind (arith, nat_tests) in cc (rw no at e)
+stops n AtEnd v h [] k some e = grind (arith, nat_tests, length-append)
 stops n AtEnd v h (x ∷ t) k some e = absurd (cc e)
 stops _ _ _ _ _ _ _ _ = refl
 
@@ -76,7 +75,7 @@ cut_short : (n : ℕ) (p : Place) (v : List ℕ) (vs : List (List ℕ)) (h : Lis
     → 0 < length h + length t → outcome n p (glue (v ∷ vs) (h ∷ t)) ≡ Ok k
     → outcome n p (v ∷ vs) ≡ Err (code.Truncated, n + length vs)
 unfolding outcome glue
-cut_short n p v [] h t k some e = stops n p v h t k some e ∙ ap (λ (i : ℕ). Err (code.Truncated, i)) (omega arith)
+cut_short n p v [] h t k some e = grind (arith, stops)
 cut_short n p v (w ∷ ws) h t k some e =
     let g = glue_some w ws h t in
     let more = g.2 in
@@ -118,11 +117,11 @@ same_head : (a b : List ℕ) (x y : List (List ℕ)) → ◌≡◌ {A = List (Li
 same_head a b x y e = (cc e, cc e)
 
 same_lines : (a b : List ℕ) → lines a ≡ lines b → a ≡ b
-same_lines a b e = sym (join_with_byte-slice_split 10 a) ∙ ap (join_with_byte 10) e ∙ join_with_byte-slice_split 10 b
+same_lines a b e = cc (join_with_byte-slice_split 10 a, join_with_byte-slice_split 10 b)
 
 no_text : (l : Line) (ls : List Line) → text_of_lines [] ≡ text_of_lines (l ∷ ls) → ⊥
 unfolding text_of_lines
-no_text l ls e = let len : 0 ≡ length (spelling l ++ (10 ∷ text_of_lines ls)) = ap length e in omega (arith, len, length-append (spelling l) (10 ∷ text_of_lines ls))
+no_text l ls e = grind (arith, length-append (spelling l) (10 ∷ text_of_lines ls))
 
 lines_injective : (xs ys : List Line) → AllByRecursion LineFits xs → AllByRecursion LineFits ys → text_of_lines xs ≡ text_of_lines ys → xs ≡ ys
 unfolding text_of_lines
@@ -140,7 +139,8 @@ same_first : (x y : Line) (xs ys : List Line) → ◌≡◌ {A = List Line} (x �
 same_first x y xs ys e = (cc e, cc e)
 
 -- as many lines of one kind at the front
-fronts : {A : Type 0} (f : A → Line) (xs ys : List A) (us vs : List Line) → ((a b : A) → f a ≡ f b → a ≡ b) → length xs ≡ length ys → map f xs ++ us ≡ map f ys ++ vs → (xs ≡ ys) × (us ≡ vs)
+fronts : {A : Type 0} (f : A → Line) (xs ys : List A) (us vs : List Line) → ((a b : A) → f a ≡ f b → a ≡ b) → length xs ≡ length ys
+    → map f xs ++ us ≡ map f ys ++ vs → (xs ≡ ys) × (us ≡ vs)
 fronts f [] [] us vs inj n e = (refl, e)
 fronts f (x ∷ xs) (y ∷ ys) us vs inj n e =
     let s = same_first (f x) (f y) (map f xs ++ us) (map f ys ++ vs) e in
@@ -151,10 +151,7 @@ fronts f (x ∷ xs) (y ∷ ys) us vs inj n e =
 fronts f _ _ us vs inj n e = absurd (omega arith)
 
 end_injective : (xs ys : List Separator) → end_lines xs ≡ end_lines ys → xs ≡ ys
-end_injective xs ys e =
-    let s = same_first (PairsLine (length xs)) (PairsLine (length ys)) (map PairLine xs ++ (EndLine ∷ [])) (map PairLine ys ++ (EndLine ∷ [])) e in
-    let n : length xs ≡ length ys = cc s.0 in
-    (fronts PairLine xs ys (EndLine ∷ []) (EndLine ∷ []) (λ a b h. cc h) n s.1).0
+end_injective xs ys e = grind (arith, same_first, fronts)
 
 abbrev made_piece : List ℕ → List Corners → List Corners → PieceBlock
 made_piece i ts fs = record { id = i; triangles = ts; flats = fs }
@@ -163,34 +160,13 @@ abbrev made_parcel : List ℕ → List Corners → ParcelBlock
 made_parcel i fs = record { id = i; flats = fs }
 
 parcel_front : (q r : ParcelBlock) (us vs : List Line) → parcel_lines q ++ us ≡ parcel_lines r ++ vs → (q ≡ r) × (us ≡ vs)
-parcel_front q r us vs e =
-    let s = same_first (ParcelLine q.id (length q.flats)) (ParcelLine r.id (length r.flats)) (map FlatLine q.flats ++ us) (map FlatLine r.flats ++ vs) e in
-    let id : q.id ≡ r.id = cc s.0 in
-    let n : length q.flats ≡ length r.flats = cc s.0 in
-    let f = fronts FlatLine q.flats r.flats us vs (λ a b h. cc h) n s.1 in
-    let fs = f.0 in
-    let same : made_parcel q.id q.flats ≡ made_parcel r.id r.flats = ap (λ (i : List ℕ). made_parcel i q.flats) id ∙ ap (λ (x : List Corners). made_parcel r.id x) fs in
-    (same, f.1)
+parcel_front q r us vs e = grind (arith, same_first, fronts, made_parcel)
 
 piece_front : (q r : PieceBlock) (us vs : List Line) → piece_lines q ++ us ≡ piece_lines r ++ vs → (q ≡ r) × (us ≡ vs)
-piece_front q r us vs e =
-    let s = same_first (PieceLine q.id (length q.triangles) (length q.flats))
-    (PieceLine r.id (length r.triangles) (length r.flats)) ((map TriangleLine q.triangles ++ map FlatLine q.flats)
-    ++ us) ((map TriangleLine r.triangles ++ map FlatLine r.flats) ++ vs) e in
-    let id : q.id ≡ r.id = cc s.0 in
-    let n : length q.triangles ≡ length r.triangles = cc s.0 in
-    let m : length q.flats ≡ length r.flats = cc s.0 in
-    let body = sym (append_assoc (map TriangleLine q.triangles) (map FlatLine q.flats) us) ∙ s.1 ∙ append_assoc (map TriangleLine r.triangles) (map FlatLine r.flats) vs in
-    let t = fronts TriangleLine q.triangles r.triangles (map FlatLine q.flats ++ us) (map FlatLine r.flats ++ vs) (λ a b h. cc h) n body in
-    let f = fronts FlatLine q.flats r.flats us vs (λ a b h. cc h) m t.1 in
-    let ts = t.0 in
-    let fs = f.0 in
-    let same : made_piece q.id q.triangles q.flats ≡ made_piece r.id r.triangles r.flats =
-    ap (λ (i : List ℕ). made_piece i q.triangles q.flats) id ∙ ap (λ (x : List Corners). made_piece r.id x q.flats)
-    ts ∙ ap (λ (x : List Corners). made_piece r.id r.triangles x) fs in
-    (same, f.1)
+piece_front q r us vs e = grind (arith, same_first, append_assoc, fronts, made_piece)
 
-parcels_injective : (qs rs : List ParcelBlock) (xs ys : List Separator) → parcels_lines qs ++ end_lines xs ≡ parcels_lines rs ++ end_lines ys → (qs ≡ rs) × (xs ≡ ys)
+parcels_injective : (qs rs : List ParcelBlock) (xs ys : List Separator) → parcels_lines qs ++ end_lines xs ≡ parcels_lines rs ++ end_lines ys
+    → (qs ≡ rs) × (xs ≡ ys)
 parcels_injective [] [] xs ys e = (refl, end_injective xs ys e)
 parcels_injective (q ∷ qs) (r ∷ rs) xs ys e =
     let s = parcel_front q r (parcels_lines qs ++ end_lines xs) (parcels_lines rs ++ end_lines ys)
@@ -228,50 +204,49 @@ same_body a b e = cc e
 pub one_value : (c d : Content) → Fits c → Fits d → text_of c ≡ text_of d → c ≡ d
 unfolding text_of lines_of
 one_value c d fc fd e =
-    let body = same_body (text_of_lines (lines_of c)) (text_of_lines (lines_of d)) e in
-    let ls = lines_injective (lines_of c) (lines_of d) (fits_of (InBody stage.Pieces 0 0 none_declared) AtEnd
-    (lines_of c) (certificate_goes c fc)) (fits_of (InBody stage.Pieces 0 0 none_declared) AtEnd (lines_of d)
-    (certificate_goes d fd)) body in
-    let s = pieces_injective c.pieces d.pieces c.parcels d.parcels c.pairs d.pairs ls in
-    same_content s.0 s.1 s.2
+    grind (
+      arith,
+      same_body,
+      lines_injective,
+      fits_of (InBody stage.Pieces 0 0 none_declared) AtEnd (lines_of c) (certificate_goes c fc),
+      fits_of
+          (InBody stage.Pieces 0 0 none_declared) AtEnd (lines_of d)
+          (certificate_goes d fd),
+      certificate_goes c fc,
+      certificate_goes d fd,
+      pieces_injective,
+      same_content,
+    )
 
 -- ---- the values of the code
 
 pieces_fit : (ps : List PiecePart) → AllByRecursion PieceFits (map piece_of ps)
 pieces_fit [] = tt
-pieces_fit (p ∷ ps) = (record { id = p.named; triangles = all_corners_fit p.triangles; flats = all_corners_fit p.flats }, pieces_fit ps)
+pieces_fit (p ∷ ps) = grind (arith, pieces_fit ps, all_corners_fit)
 
 parcels_fit : (ps : List ParcelPart) → AllByRecursion ParcelFits (map parcel_of ps)
 parcels_fit [] = tt
-parcels_fit (p ∷ ps) = (record { id = p.named; flats = all_corners_fit p.flats }, parcels_fit ps)
+parcels_fit (p ∷ ps) = grind (arith, parcels_fit ps, all_corners_fit)
 
 sum-map : {A B : Type 0} (f : A → B) (g : B → ℕ) (h : A → ℕ) → ((x : A) → g (f x) ≡ h x) → (xs : List A) → sum_by g (map f xs) ≡ sum_by h xs
 sum-map f g h e [] = refl
-sum-map f g h e (x ∷ xs) = sum_by-cons g (f x) (map f xs) ∙ ap₂ (λ (a b : ℕ). a + b) (e x) (sum-map f g h e xs) ∙ sym (sum_by-cons h x xs)
+sum-map f g h e (x ∷ xs) = grind (arith, sum-map f g h e xs, sum_by-cons)
 
 pub triangle_sum : (ps : List PiecePart) → sum_by (λ (p : PieceBlock). length p.triangles) (map piece_of ps) ≡ sum_by (λ p. length p.triangles) ps
-triangle_sum ps = sum-map piece_of (λ p. length p.triangles) (λ p. length p.triangles) (λ p. length-map p.triangles corner_numbers) ps
+triangle_sum ps = grind (arith, sum-map, length-map)
 
 pub flat_sum : (ps : List PiecePart) → sum_by (λ (p : PieceBlock). length p.flats) (map piece_of ps) ≡ sum_by (λ p. length p.flats) ps
-flat_sum ps = sum-map piece_of (λ p. length p.flats) (λ p. length p.flats) (λ p. length-map p.flats corner_numbers) ps
+flat_sum ps = grind (arith, sum-map, length-map)
 
 pub parcel_flat_sum : (ps : List ParcelPart) → sum_by (λ (p : ParcelBlock). length p.flats) (map parcel_of ps) ≡ sum_by (λ p. length p.flats) ps
-parcel_flat_sum ps = sum-map parcel_of (λ p. length p.flats) (λ p. length p.flats) (λ p. length-map p.flats corner_numbers) ps
+parcel_flat_sum ps = grind (arith, sum-map, length-map)
 
 pub cert_fits : (c : Cert) → Fits (content_of c)
-cert_fits c =
-    record {
-      pieces = pieces_fit c.pieces;
-      parcels = parcels_fit c.parcels;
-      pairs = separators_fit c.pairs;
-      triangles_few = omega (arith, triangle_sum c.pieces, c.triangles_few);
-      flats_few = omega (arith, flat_sum c.pieces, parcel_flat_sum c.parcels, c.flats_few);
-      pairs_few = omega (arith, length-map c.pairs separator_of, c.pairs_few);
-    }
+cert_fits c = grind (arith, pieces_fit, parcels_fit, separators_fit, triangle_sum, flat_sum, parcel_flat_sum, length-map)
 
 -- two certificates have two texts
 pub one_cert : (c d : Cert) → cert_text c ≡ cert_text d → c ≡ d
-one_cert c d e = cert_eq c d (one_value (content_of c) (content_of d) (cert_fits c) (cert_fits d) e)
+one_cert c d e = grind (arith, cert_eq, one_value, cert_fits)
 
 -- the text of a certificate has no fault
 pub no_fault : (c : Cert) → verdict (cert_text c) ≡ Ok (2 + length (lines_of (content_of c)))
@@ -282,7 +257,4 @@ pub is_only : (r : Result Cert CertFault) (bytes : List ℕ) → IfOk r (λ x. b
     → MatchResult r (λ x. x ≡ c) (λ e. e ≡ Memory)
 is_only (Ok x) bytes found fault c e = one_cert x c (sym found ∙ e)
 is_only (Err Memory) bytes found fault c e = refl
-is_only (Err (At k n)) bytes found fault c e = absurd (clash (sym fault ∙ ap verdict e ∙ no_fault c))
-  where
-    clash : ◌≡◌ {A = Result ℕ (CertCode × ℕ)} (Err (k, n)) (Ok (2 + length (lines_of (content_of c)))) → ⊥
-    clash h = cc h
+is_only (Err (At k n)) bytes found fault c e = cc (no_fault c)

@@ -1,8 +1,11 @@
 -- What a line says, and its spelling.
-use Rattle.std.proofs.Common.{bytes_eq, ◌≡◌, ℕ, ◌+◌, ◌≤◌, Bool, true, false, cond, ◌&&◌, List, [], ◌∷◌, length, Option, Some, None, Result, Ok, Err, refl, sym, ap, subst, ◌∙◌, arith, eqb, ℤ, codes}
+use Rattle.std.proofs.Common.{bytes_eq, ◌≡◌, ℕ, ◌+◌, ◌≤◌, Bool, true, false, cond, ◌&&◌, List, [], ◌∷◌, length, Option, Some, None, Result, Ok, Err, refl, sym}
+use Rattle.std.proofs.Common.{ap, subst, ◌∙◌, arith, eqb, ℤ, codes}
 use Rattle.std.proofs.Common.{decimal}
-use Rattle.lpis_cert.proofs.Common.{and_parts, join_with_byte-slice_split, list_any, join_with_byte, AllByRecursion, signed_decimal, is_id, IsInRange, greatest_count, number_margin, written, Kind}
-use Rattle.lpis_cert.proofs.Common.{Piece, Flat, Parcel, Pairs, Pair, End, Corners, Separator, Line, PieceLine, TriangleLine, FlatLine, ParcelLine, PairsLine, PairLine, EndLine, words_of, spelling}
+use Rattle.lpis_cert.proofs.Common.{and_parts, join_with_byte-slice_split, list_any, join_with_byte, AllByRecursion, signed_decimal, is_id, IsInRange}
+use Rattle.lpis_cert.proofs.Common.{greatest_count, number_margin, written, Kind}
+use Rattle.lpis_cert.proofs.Common.{Piece, Flat, Parcel, Pairs, Pair, End, Corners, Separator, Line, PieceLine, TriangleLine, FlatLine, ParcelLine, PairsLine}
+use Rattle.lpis_cert.proofs.Common.{PairLine, EndLine, words_of, spelling}
 use Rattle.lpis_cert.proofs.Common.{CornersFit, SeparatorFits, LineFits, is_empty, words, can_stand, number, values, read_line, line_kind}
 use Rattle.std.proofs.lemmas.Slice.Eq.{bytes_eq-Decides}
 use Rattle.lpis_points.specs.Range.{limit}
@@ -10,11 +13,11 @@ use Rattle.lpis_cert.specs.Limits.{last_edge}
 use Rattle.lpis_cert.specs.declared.kind.Kind.TheVariants.{Triangle}
 use Rattle.lpis_cert.specs.declared.kind.Expected.{Expected}
 use Rattle.lpis_cert.specs.CertText.{corner_words}
-use Rattle.lpis_cert.specs.Reading.{◌>>=◌, ◌>>?◌, kind_of, word_count, first_is_id, names, form, front, last, natural, coordinate, point, corners, separator, piece_line, parcel_line, pairs_line}
+use Rattle.lpis_cert.specs.Reading.{◌>>=◌, ◌>>?◌, kind_of, word_count, first_is_id, names, form, front, last, natural, coordinate, point, corners, separator}
+use Rattle.lpis_cert.specs.Reading.{piece_line, parcel_line, pairs_line}
 use Rattle.lpis_cert.specs.Reading.{with_form, or_number, placed}
 use Rattle.lpis_cert.proofs.NumberLemmas.{opened, number_again, number_takes, coordinate_again, coordinate_takes}
 use Rattle.lpis_cert.proofs.WordLemmas.{IsWordText, none_empty, kind_word, fields, words_are, field_words, spelling_words}
-use Rattle.lpis_cert.specs.declared.fault.CertCode.TheVariants as code
 
 -- ---- what is written is read
 
@@ -27,7 +30,8 @@ full : (k : Kind) (ws : List (List ℕ)) → list_any is_empty (kind_word k ∷ 
 full End ws = refl
 full _ _ = refl
 
-form_again : (k : Kind) (ws : List (List ℕ)) → AllByRecursion IsWordText ws → eqb (length ws + 1) (word_count k) ≡ true → names k ws ≡ true → form (kind_word k ∷ ws) ≡ Some (k, ws)
+form_again : (k : Kind) (ws : List (List ℕ)) → AllByRecursion IsWordText ws → eqb (length ws + 1) (word_count k) ≡ true → names k ws ≡ true
+    → form (kind_word k ∷ ws) ≡ Some (k, ws)
 unfolding form
 form_again k ws h len named = rw (full k ws, none_empty ws h, kind_again k, len, named) refl
 
@@ -42,22 +46,15 @@ names_right _ _ = refl
 
 corners_again : (c : Corners) → CornersFit c → corners written (corner_words c) ≡ Some c
 unfolding corners point
-corners_again c fits = rw (
-  coordinate_again c.x1 fits.x1,
-  coordinate_again c.y1 fits.y1,
-  coordinate_again c.x2 fits.x2,
-  coordinate_again c.y2 fits.y2,
-  coordinate_again c.x3 fits.x3,
-  coordinate_again c.y3 fits.y3,
-) refl
+corners_again c fits = grind (arith, coordinate_again)
 
 separator_again : (p : Separator) → SeparatorFits p → separator (decimal p.i ∷ decimal p.j ∷ decimal p.k ∷ []) ≡ Some p
 unfolding separator
-separator_again p fits = rw (number_again greatest_count p.i (omega arith) fits.i, number_again greatest_count p.j (omega arith) fits.j, number_again last_edge p.k (omega arith) fits.k) refl
+separator_again p fits = grind (arith, number_again)
 
 values_again : (l : Line) → LineFits l → values written (line_kind l) (fields l) ≡ Some l
 unfolding values piece_line parcel_line pairs_line
-values_again (PieceLine id t f) fits = rw (number_again greatest_count t (omega arith) fits.1, number_again greatest_count f (omega arith) fits.2) refl
+values_again (PieceLine id t f) fits = grind (arith, number_again)
 values_again (TriangleLine c) fits = rw (corners_again c fits) refl
 values_again (FlatLine c) fits = rw (corners_again c fits) refl
 values_again (ParcelLine id f) fits = rw (number_again greatest_count f (omega arith) fits.1) refl
@@ -67,7 +64,7 @@ values_again EndLine fits = refl
 
 pub read_again : (e : Expected) (l : Line) → LineFits l → can_stand e (line_kind l) ≡ true → read_line written e (spelling l) ≡ Ok l
 unfolding read_line placed
-read_again e l fits can = rw (spelling_words l fits, form_again (line_kind l) (fields l) (field_words l fits) (length_right l) (names_right l fits), can, values_again l fits) refl
+read_again e l fits can = grind (arith, spelling_words, form_again, field_words, length_right, names_right, values_again)
 
 -- ---- what is read was written so
 
@@ -82,29 +79,14 @@ then_some : {A B : Type 0} (o : Option A) (f : A → Option B) (y : B) → (o >>
 then_some (Some x) f y e = (x, refl, e)
 then_some None f y e = absurd cc
 
-chosen : (w : List ℕ) (k k' : Kind) (more : Option Kind) → (more ≡ Some k → w ≡ kind_word k) → (b : Bool) → (b ≡ true → w ≡ kind_word k') → cond b (Some k') more ≡ Some k → w ≡ kind_word k
+chosen : (w : List ℕ) (k k' : Kind) (more : Option Kind) → (more ≡ Some k → w ≡ kind_word k) → (b : Bool) → (b ≡ true → w ≡ kind_word k')
+    → cond b (Some k') more ≡ Some k → w ≡ kind_word k
 chosen w k k' more other true is h = let e : k' ≡ k = cc h in rw (← e) (is refl)
 chosen w k k' more other false is h = other h
 
 kind_takes : (w : List ℕ) (k : Kind) → kind_of w ≡ Some k → w ≡ kind_word k
 unfolding kind_of
-kind_takes w k h =
-    chosen w k Triangle _
-    (chosen w k Flat _
-    (chosen w k Pair _
-    (chosen w k Piece _
-    (chosen w k Parcel _
-    (chosen w k Pairs _
-    (chosen w k End None (λ none. absurd (nothing none)) (bytes_eq w (codes "end")) (word_is w (codes "end")))
-    (bytes_eq w (codes "pairs")) (word_is w (codes "pairs")))
-    (bytes_eq w (codes "parcel")) (word_is w (codes "parcel")))
-    (bytes_eq w (codes "piece")) (word_is w (codes "piece")))
-    (bytes_eq w (codes "s")) (word_is w (codes "s")))
-    (bytes_eq w (codes "f")) (word_is w (codes "f")))
-    (bytes_eq w (codes "t")) (word_is w (codes "t")) h
-  where
-    nothing : ◌≡◌ {A = Option Kind} None (Some k) → ⊥
-    nothing e = cc e
+kind_takes w k h = grind (arith, codes, word_is)
 
 unless : {A : Type 0} (b : Bool) (x : Option A) (y : A) → cond b None x ≡ Some y → (b ≡ false) × (x ≡ Some y)
 unless true x y h = absurd cc
@@ -121,17 +103,17 @@ form_takes (w ∷ ws) k vs h =
     let same : ◌≡◌ {A = Kind × List (List ℕ)} (t.0, ws) (k, vs) = cc o.1 in
     subst (λ (p : Kind × List (List ℕ)). (w ∷ ws ≡ kind_word p.0 ∷ p.1) × (names p.0 p.1 ≡ true)) same (ap (λ (x : List ℕ). x ∷ ws) (kind_takes w t.0 t.1), n.1)
 
-front_takes : {A : Type 0} (read : List ℕ → Option A) (ws : List (List ℕ)) (x : A × List (List ℕ)) → front read ws ≡ Some x → (w : List ℕ) × (ws ≡ w ∷ x.1) × (read w ≡ Some x.0)
+front_takes : {A : Type 0} (read : List ℕ → Option A) (ws : List (List ℕ)) (x : A × List (List ℕ)) → front read ws ≡ Some x
+    → (w : List ℕ) × (ws ≡ w ∷ x.1) × (read w ≡ Some x.0)
 front_takes read [] x h = absurd cc
-front_takes read (w ∷ ws) x h = let t = then_some (read w) (λ y. Some (y, ws)) x h in let same : (t.0, ws) ≡ x =
-    cc t.2 in subst (λ y. (v : List ℕ) × (◌≡◌ {A = List (List ℕ)} (w ∷ ws) (v ∷ y.1)) × (read v ≡ Some y.0)) same
-    (w, refl, t.1)
+front_takes read (w ∷ ws) x h = grind arith
 
 last_takes : {A : Type 0} (x y : A) (ws : List (List ℕ)) → last x ws ≡ Some y → (x ≡ y) × (ws ≡ [])
 last_takes x y [] h = (cc, refl)
 last_takes x y (w ∷ ws) h = absurd cc
 
-point_takes : (ws : List (List ℕ)) (p : (ℤ × ℤ) × List (List ℕ)) → point written ws ≡ Some p → (ws ≡ signed_decimal p.0.0 ∷ signed_decimal p.0.1 ∷ p.1) × (IsInRange p.0.0 × IsInRange p.0.1)
+point_takes : (ws : List (List ℕ)) (p : (ℤ × ℤ) × List (List ℕ)) → point written ws ≡ Some p
+    → (ws ≡ signed_decimal p.0.0 ∷ signed_decimal p.0.1 ∷ p.1) × (IsInRange p.0.0 × IsInRange p.0.1)
 unfolding point
 point_takes ws p h =
     let a = then_some (front (coordinate written) ws) (λ x. front (coordinate written) x.1 >>? λ y. Some ((x.0, y.0), y.1)) p h in
@@ -143,7 +125,8 @@ point_takes ws p h =
     let same : ((a.0.0, b.0.0), b.0.1) ≡ p = cc b.2 in
     let words : ws ≡ signed_decimal a.0.0 ∷ signed_decimal b.0.0 ∷ b.0.1 = fa.1 ∙ ap (λ (v : List ℕ). v ∷ a.0.1) ca.0
     ∙ ap (λ (vs : List (List ℕ)). signed_decimal a.0.0 ∷ vs) (fb.1 ∙ ap (λ (v : List ℕ). v ∷ b.0.1) cb.0) in
-    subst (λ (q : (ℤ × ℤ) × List (List ℕ)). (ws ≡ signed_decimal q.0.0 ∷ signed_decimal q.0.1 ∷ q.1) × (IsInRange q.0.0 × IsInRange q.0.1)) same (words, (ca.1, cb.1))
+    subst (λ (q : (ℤ × ℤ) × List (List ℕ)). (ws ≡ signed_decimal q.0.0 ∷ signed_decimal q.0.1 ∷ q.1) × (IsInRange q.0.0 × IsInRange q.0.1)) same
+    (words, (ca.1, cb.1))
 
 corners_take : (ws : List (List ℕ)) (c : Corners) → corners written ws ≡ Some c → (ws ≡ corner_words c) × CornersFit c
 unfolding corners
@@ -160,10 +143,13 @@ corners_take ws c h =
     pa.0 ∙ ap (λ (vs : List (List ℕ)). signed_decimal made.x1 ∷ signed_decimal made.y1 ∷ vs)
     (pb.0 ∙ ap (λ (vs : List (List ℕ)). signed_decimal made.x2 ∷ signed_decimal made.y2 ∷ vs)
     (pd.0 ∙ ap (λ (vs : List (List ℕ)). signed_decimal made.x3 ∷ signed_decimal made.y3 ∷ vs) l.1)) in
-    subst (λ (c : Corners). (ws ≡ corner_words c) × CornersFit c) l.0 (words, record { x1 = pa.1.0; y1 = pa.1.1; x2 = pb.1.0; y2 = pb.1.1; x3 = pd.1.0; y3 = pd.1.1 })
+    subst (λ (c : Corners). (ws ≡ corner_words c) × CornersFit c) l.0
+    (words, record { x1 = pa.1.0; y1 = pa.1.1; x2 = pb.1.0; y2 = pb.1.1; x3 = pd.1.0; y3 = pd.1.1 })
 
-natural_front : (limit : ℕ) (ws : List (List ℕ)) (x : ℕ × List (List ℕ)) → limit ≤ number_margin → front (number limit) ws ≡ Some x → (ws ≡ decimal x.0 ∷ x.1) × (x.0 ≤ limit)
-natural_front limit ws x small h = let f = front_takes (number limit) ws x h in let t = number_takes limit f.0 x.0 small f.2 in (f.1 ∙ ap (λ (v : List ℕ). v ∷ x.1) t.0, t.1)
+natural_front : (limit : ℕ) (ws : List (List ℕ)) (x : ℕ × List (List ℕ)) → limit ≤ number_margin → front (number limit) ws ≡ Some x
+    → (ws ≡ decimal x.0 ∷ x.1) × (x.0 ≤ limit)
+natural_front limit ws x small h = let f = front_takes (number limit) ws x h in let t =
+    number_takes limit f.0 x.0 small f.2 in (f.1 ∙ ap (λ (v : List ℕ). v ∷ x.1) t.0, t.1)
 
 separator_takes : (ws : List (List ℕ)) (p : Separator) → separator ws ≡ Some p → (ws ≡ decimal p.i ∷ decimal p.j ∷ decimal p.k ∷ []) × SeparatorFits p
 unfolding separator
@@ -177,7 +163,8 @@ separator_takes ws p h =
     let pb = natural_front greatest_count a.0.1 b.0 (omega arith) b.1 in
     let pd = natural_front last_edge b.0.1 d.0 (omega arith) d.1 in
     let words : ws ≡ decimal made.i ∷ decimal made.j ∷ decimal made.k ∷ [] =
-    pa.0 ∙ ap (λ (vs : List (List ℕ)). decimal made.i ∷ vs) (pb.0 ∙ ap (λ (vs : List (List ℕ)). decimal made.j ∷ vs) (pd.0 ∙ ap (λ (vs : List (List ℕ)). decimal made.k ∷ vs) l.1)) in
+    pa.0 ∙ ap (λ (vs : List (List ℕ)). decimal made.i ∷ vs)
+    (pb.0 ∙ ap (λ (vs : List (List ℕ)). decimal made.j ∷ vs) (pd.0 ∙ ap (λ (vs : List (List ℕ)). decimal made.k ∷ vs) l.1)) in
     subst (λ (p : Separator). (ws ≡ decimal p.i ∷ decimal p.j ∷ decimal p.k ∷ []) × SeparatorFits p) l.0 (words, record { i = pa.1; j = pb.1; k = pd.1 })
 
 -- a line of this kind, with these further words
@@ -250,9 +237,7 @@ values_take Pair ws l named h =
     let t = separator_takes ws a.0 a.1 in
     let same : PairLine a.0 ≡ l = cc a.2 in
     subst (λ (l : Line). IsLine Pair ws l) same (record { kind = refl; fields = t.0; fits = t.1 })
-values_take End ws l named h =
-    let t = last_takes EndLine l ws h in
-    subst (λ (l : Line). IsLine End ws l) t.0 (record { kind = refl; fields = t.1; fits = tt })
+values_take End ws l named h = grind (arith, last_takes)
 
 -- a line that can stand here, and its text
 pub record ReadsAs (e : Expected) (line : List ℕ) (l : Line) : Type 0 where
@@ -262,24 +247,22 @@ pub record ReadsAs (e : Expected) (line : List ℕ) (l : Line) : Type 0 where
 
 formed_ok : (e : Expected) (o : Option (Kind × List (List ℕ))) (p : Kind × List (List ℕ)) → with_form e o ≡ Ok p → (o ≡ Some p) × (can_stand e p.0 ≡ true)
 formed_ok e None p h = absurd cc
-formed_ok e (Some q) p h = by_test (can_stand e q.0) refl h
-  where
-    by_test : (b : Bool) → can_stand e q.0 ≡ b → cond b (Ok q) (Err code.BadPlace) ≡ Ok p → (Some q ≡ Some p) × (can_stand e p.0 ≡ true)
-    by_test true c h = let same : q ≡ p = cc h in (ap (λ (x : Kind × List (List ℕ)). Some x) same, subst (λ (x : Kind × List (List ℕ)). can_stand e x.0 ≡ true) same c)
-    by_test false c h = absurd cc
+formed_ok e (Some q) p h = grind arith
 
 number_ok : (o : Option Line) (l : Line) → or_number o ≡ Ok l → o ≡ Some l
 number_ok None l h = absurd cc
 number_ok (Some m) l h = cc
 
-pub placed_takes : (e : Expected) (line : List ℕ) (k : Kind) (ws : List (List ℕ)) (l : Line) → placed e line ≡ Ok (k, ws) → values written k ws ≡ Some l → ReadsAs e line l
+pub placed_takes : (e : Expected) (line : List ℕ) (k : Kind) (ws : List (List ℕ)) (l : Line) → placed e line ≡ Ok (k, ws) → values written k ws ≡ Some l
+    → ReadsAs e line l
 unfolding placed spelling
 placed_takes e line k ws l h v =
     let f = formed_ok e (form (words line)) (k, ws) h in
     let t = form_takes (words line) k ws f.0 in
     let is = values_take k ws l t.1 v in
     let kind = is.kind in
-    let all : words line ≡ words_of l = t.0 ∙ ap (λ (k : Kind). kind_word k ∷ ws) kind ∙ ap (λ (vs : List (List ℕ)). kind_word (line_kind l) ∷ vs) is.fields ∙ sym (words_are l) in
+    let all : words line ≡ words_of l =
+    t.0 ∙ ap (λ (k : Kind). kind_word k ∷ ws) kind ∙ ap (λ (vs : List (List ℕ)). kind_word (line_kind l) ∷ vs) is.fields ∙ sym (words_are l) in
     record { text = sym (join_with_byte-slice_split 32 line) ∙ ap (join_with_byte 32) all; fits = is.fits; stands = rw (← kind) f.1 }
 
 pub read_takes : (e : Expected) (line : List ℕ) (l : Line) → read_line written e line ≡ Ok l → ReadsAs e line l
@@ -295,7 +278,7 @@ decode ws = form ws >>? λ p. values written p.0 p.1
 
 decoded : (l : Line) → LineFits l → decode (words (spelling l)) ≡ Some l
 unfolding decode
-decoded l fits = rw (spelling_words l fits, form_again (line_kind l) (fields l) (field_words l fits) (length_right l) (names_right l fits), values_again l fits) refl
+decoded l fits = grind (arith, spelling_words, form_again, field_words, length_right, names_right, values_again)
 
 pub spelling_injective : (l m : Line) → LineFits l → LineFits m → spelling l ≡ spelling m → l ≡ m
 spelling_injective l m fl fm e =

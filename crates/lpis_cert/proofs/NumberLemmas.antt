@@ -1,5 +1,6 @@
 -- A number has one spelling.
-use Rattle.std.proofs.Common.{◌≡◌, ℕ, zero, suc, ◌+◌, ◌*◌, ◌<◌, ◌≤◌, Bool, true, false, cond, ◌&&◌, List, [], ◌∷◌, length, get_or, Option, Some, None, refl, sym, ap, ◌∙◌, arith, nat_le, nat_lt, eqb}
+use Rattle.std.proofs.Common.{◌≡◌, ℕ, zero, suc, ◌+◌, ◌*◌, ◌<◌, ◌≤◌, Bool, true, false, cond, ◌&&◌, List, [], ◌∷◌, length, get_or, Option, Some, None, refl}
+use Rattle.std.proofs.Common.{sym, ap, ◌∙◌, arith, nat_le, eqb}
 use Rattle.std.proofs.Common.{ℤ, pos, negsuc, neg_ℤ, decimal}
 use Rattle.lpis_cert.proofs.Common.{nat_tests, and_parts, signed_decimal, IsInRange, number_margin, written, digits_on, number}
 use Rattle.std.proofs.lemmas.Bool.{eqb-true}
@@ -24,25 +25,22 @@ digit_yes : (d : ℕ) → digit_value d < 10 → is_ascii_digit d ≡ true
 digit_yes d h = let r = digit_from_value d h in grind (arith, nat_tests)
 
 digit_small : (d : ℕ) → is_ascii_digit d ≡ true → digit_value d < 10
-digit_small d h =
-    let low : 48 ≤ d = grind (arith, nat_tests) in
-    let high : d < 58 = grind (arith, nat_tests) in
-    let a : nat_lt d 48 ≡ false = grind (arith, nat_tests) in
-    let b : nat_lt d 58 ≡ true = grind (arith, nat_tests) in
-    rw (a, b) (omega arith)
+digit_small d h = grind (arith, nat_tests)
 
 digits_on_is : (limit n : ℕ) (ds : List ℕ) → AllDigits 10 ds → digits_value_after 10 n ds ≤ limit → digits_on limit n ds ≡ Some (digits_value_after 10 n ds)
 digits_on_is limit n [] all le = refl
 digits_on_is limit n (d ∷ ds) all le =
     let ge = value-ge (n * 10 + digit_value d) ds in
     let yes = digit_yes d all.0 in
-    let small : nat_le (n * 10 + digit_value d) limit ≡ true = within (n * 10 + digit_value d) (digits_value_after 10 (n * 10 + digit_value d) ds) limit ge le in
+    let small : nat_le (n * 10 + digit_value d) limit ≡ true =
+    within (n * 10 + digit_value d) (digits_value_after 10 (n * 10 + digit_value d) ds) limit ge le in
     rw (yes, small) (digits_on_is limit (n * 10 + digit_value d) ds all.1 le)
   where
     within : (a b c : ℕ) → a ≤ b → b ≤ c → nat_le a c ≡ true
     within a b c h k = grind (arith, nat_tests)
 
-digits_on_takes : (limit n : ℕ) (ds : List ℕ) (m : ℕ) → n ≤ limit → digits_on limit n ds ≡ Some m → AllDigits 10 ds × (digits_value_after 10 n ds ≡ m) × (m ≤ limit)
+digits_on_takes : (limit n : ℕ) (ds : List ℕ) (m : ℕ) → n ≤ limit → digits_on limit n ds ≡ Some m
+    → AllDigits 10 ds × (digits_value_after 10 n ds ≡ m) × (m ≤ limit)
 digits_on_takes limit n [] m le h = let e : n ≡ m = cc h in (tt, e, omega arith)
 digits_on_takes limit n (d ∷ ds) m le h =
     let o = opened (is_ascii_digit d && nat_le (n * 10 + digit_value d) limit) (digits_on limit (n * 10 + digit_value d) ds) m h in
@@ -75,10 +73,7 @@ number_again limit (suc n) small le =
 
 zero_alone : (ds : List ℕ) (n : ℕ) → cond (eqb (length ds) 0) (Some 0) None ≡ Some n → (ds ≡ []) × (n ≡ 0)
 zero_alone [] n h = (refl, cc)
-zero_alone (d ∷ ds) n h = absurd (impossible (length ds) n h)
-  where
-    impossible : (k n : ℕ) → cond (eqb (suc k) 0) (Some 0) None ≡ Some n → ⊥
-    impossible k n h = let no : eqb (suc k) 0 ≡ false = grind (arith, nat_tests) in cc (rw no at h)
+zero_alone (d ∷ ds) n h = grind (arith, nat_tests)
 
 differs : (d : ℕ) → eqb d 48 ≡ false → d ≡ 48 → ⊥
 differs d e is = grind (arith, nat_tests)
@@ -89,7 +84,8 @@ unfolding number
 number_takes limit [] n small h = absurd cc
 number_takes limit (d ∷ ds) n small h = by_zero (eqb d 48) refl h
   where
-    by_zero : (b : Bool) → eqb d 48 ≡ b → cond b (cond (eqb (length ds) 0) (Some 0) None) (digits_on limit 0 (d ∷ ds)) ≡ Some n → (◌≡◌ {A = List ℕ} (d ∷ ds) (decimal n)) × (n ≤ limit)
+    by_zero : (b : Bool) → eqb d 48 ≡ b → cond b (cond (eqb (length ds) 0) (Some 0) None) (digits_on limit 0 (d ∷ ds)) ≡ Some n
+        → (◌≡◌ {A = List ℕ} (d ∷ ds) (decimal n)) × (n ≤ limit)
     by_zero true e h =
         let z = zero_alone ds n h in
         let first : d ≡ 48 = eqb-true d 48 e in
@@ -110,7 +106,8 @@ once n = omega arith
 -- what is written is read
 pub coordinate_again : (z : ℤ) → IsInRange z → coordinate written (signed_decimal z) ≡ Some z
 unfolding coordinate number
-coordinate_again (pos n) fits = unsigned (decimal n) n (number_again (greatest written) n (omega arith) (omega (arith, ints, fits.1))) (nonminus n (omega (arith, ints, fits.1)))
+coordinate_again (pos n) fits =
+    unsigned (decimal n) n (number_again (greatest written) n (omega arith) (omega (arith, ints, fits.1))) (nonminus n (omega (arith, ints, fits.1)))
   where
     unsigned : (w : List ℕ) (n : ℕ) → number (greatest written) w ≡ Some n → eqb (get_or w 0 0) 45 ≡ false → coordinate written w ≡ Some (pos n)
     unsigned [] n h first = absurd cc
@@ -132,7 +129,8 @@ plus_takes : (v : Version) (o : Option ℕ) (z : ℤ) → plus v o ≡ Some z �
 plus_takes v None z h = absurd cc
 plus_takes v (Some n) z h = (n, refl, cc)
 
-made_minus : (d n : ℕ) (ds : List ℕ) (z : ℤ) → d ≡ 45 → ds ≡ decimal (suc n) → z ≡ negsuc n → suc n ≤ greatest written → (◌≡◌ {A = List ℕ} (d ∷ ds) (signed_decimal z)) × IsInRange z
+made_minus : (d n : ℕ) (ds : List ℕ) (z : ℤ) → d ≡ 45 → ds ≡ decimal (suc n) → z ≡ negsuc n → suc n ≤ greatest written
+    → (◌≡◌ {A = List ℕ} (d ∷ ds) (signed_decimal z)) × IsInRange z
 made_minus d n ds z e f g most = rw (e, f, g) (refl, (omega (arith, ints), omega (arith, ints)))
 
 made_plus : (n : ℕ) (w : List ℕ) (z : ℤ) → w ≡ decimal n → z ≡ pos n → n ≤ greatest written → (w ≡ signed_decimal z) × IsInRange z

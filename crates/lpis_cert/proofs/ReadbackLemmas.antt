@@ -1,10 +1,15 @@
 -- A text without a fault is that of a certificate.
-use Rattle.std.proofs.Common.{bytes_eq, sum_by, flat_map, ◌≡◌, ℕ, zero, suc, ◌+◌, ◌<◌, ◌≤◌, Bool, true, false, cond, ◌&&◌, List, [], ◌∷◌, ◌++◌, length, map, Result, Ok, Err, refl, sym, ap, ap₂, subst}
-use Rattle.std.proofs.Common.{◌∙◌, arith, append_assoc, eqb, nat_le}
-use Rattle.lpis_cert.proofs.Common.{AllByRecursion, join_with_byte, nat_tests, length-map, sum_by-cons, join_with_byte-slice_split, Triangle, is_id, Stage, One, Block, CertCode, PiecePart, ParcelPart}
-use Rattle.lpis_cert.proofs.Common.{Cert, most_triangles, most_flats, greatest_count, first_line, written, Corners, Separator, PieceBlock, ParcelBlock, Content, Line, PieceLine, TriangleLine}
-use Rattle.lpis_cert.proofs.Common.{FlatLine, ParcelLine, PairsLine, PairLine, EndLine, spelling, text_of_lines, piece_lines, parcel_lines, end_lines, lines_of, text_of, corner_numbers, all_corners}
-use Rattle.lpis_cert.proofs.Common.{piece_of, parcel_of, separator_of, content_of, CornersFit, SeparatorFits, PieceFits, ParcelFits, read_line, lines, outcome, at_last, step, Place, AtVersion, InBody}
+use Rattle.std.proofs.Common.{bytes_eq, sum_by, flat_map, ◌≡◌, ℕ, zero, suc, ◌+◌, ◌≤◌, Bool, true, false, cond, List, [], ◌∷◌, ◌++◌, length, map, Result, Ok}
+use Rattle.std.proofs.Common.{Err, refl, sym, ap, ap₂, subst}
+use Rattle.std.proofs.Common.{◌∙◌, arith, append_assoc}
+use Rattle.lpis_cert.proofs.Common.{AllByRecursion, join_with_byte, nat_tests, length-map, sum_by-cons, join_with_byte-slice_split, Triangle, is_id, Stage, One}
+use Rattle.lpis_cert.proofs.Common.{Block, CertCode, PiecePart, ParcelPart}
+use Rattle.lpis_cert.proofs.Common.{Cert, most_triangles, most_flats, greatest_count, first_line, written, Corners, Separator, PieceBlock, ParcelBlock, Content}
+use Rattle.lpis_cert.proofs.Common.{Line, PieceLine, TriangleLine}
+use Rattle.lpis_cert.proofs.Common.{FlatLine, ParcelLine, PairsLine, PairLine, EndLine, spelling, text_of_lines, piece_lines, parcel_lines, end_lines, lines_of}
+use Rattle.lpis_cert.proofs.Common.{text_of, corner_numbers, all_corners}
+use Rattle.lpis_cert.proofs.Common.{piece_of, parcel_of, separator_of, content_of, CornersFit, SeparatorFits, PieceFits, ParcelFits, read_line, lines, outcome}
+use Rattle.lpis_cert.proofs.Common.{at_last, step, Place, AtVersion, InBody}
 use Rattle.lpis_cert.proofs.Common.{InPairs, AtEnd, Declared, none_declared, grow, grow_flats, verdict}
 use Rattle.std.proofs.lemmas.List.{nil_from_length}
 use Rattle.lpis_cert.specs.Contents.{cert_text}
@@ -56,7 +61,8 @@ line_more l ls line rest e g = ap₂ (λ (x y : List ℕ). x ++ (10 ∷ y)) e g
 
 -- ---- one line back
 
-triangle_more : (b : Stage) (t f : ℕ) (d : Declared) (ts fs : List Corners) (c : Content) (line rest : List ℕ) (l : Line) → ReadsAs (One kind.Triangle) line l → Left b t f d ts fs c rest
+triangle_more : (b : Stage) (t f : ℕ) (d : Declared) (ts fs : List Corners) (c : Content) (line rest : List ℕ) (l : Line) → ReadsAs (One kind.Triangle) line l
+    → Left b t f d ts fs c rest
     → May (InBody b (suc t) f d) (line ++ (10 ∷ rest))
 triangle_more b t f d ts fs c line rest (TriangleLine x) r m = (
   x ∷ ts,
@@ -75,9 +81,10 @@ triangle_more b t f d ts fs c line rest _ r m = let no = r.stands in absurd (cc 
 
 -- no triangle is left
 bare : (b : Stage) (f : ℕ) (d : Declared) (ts fs : List Corners) (c : Content) (text : List ℕ) → Left b 0 f d ts fs c text → Left b 0 f d [] fs c text
-bare b f d ts fs c text m = subst (λ (xs : List Corners). Left b 0 f d xs fs c text) (nil_from_length ts m.triangle_count) m
+bare b f d ts fs c text m = grind (arith, nil_from_length)
 
-flat_more : (b : Stage) (f : ℕ) (d : Declared) (fs : List Corners) (c : Content) (line rest : List ℕ) (l : Line) → ReadsAs (One kind.Flat) line l → Left b 0 f d [] fs c rest
+flat_more : (b : Stage) (f : ℕ) (d : Declared) (fs : List Corners) (c : Content) (line rest : List ℕ) (l : Line) → ReadsAs (One kind.Flat) line l
+    → Left b 0 f d [] fs c rest
     → May (InBody b 0 (suc f) d) (line ++ (10 ∷ rest))
 flat_more b f d fs c line rest (FlatLine x) r m = (
   [],
@@ -104,7 +111,8 @@ wanting_none b d c text m spelled =
 regrouped : (a b c q : List Line) → a ++ (b ++ (c ++ q)) ≡ ((a ++ b) ++ c) ++ q
 regrouped a b c q = sym (append_assoc a b (c ++ q)) ∙ sym (append_assoc (a ++ b) c q)
 
-piece_more : (d : Declared) (id : List ℕ) (ts fs : List Corners) (c : Content) (line rest : List ℕ) → line ≡ spelling (PieceLine id (length ts) (length fs)) → is_id id ≡ true
+piece_more : (d : Declared) (id : List ℕ) (ts fs : List Corners) (c : Content) (line rest : List ℕ) → line ≡ spelling (PieceLine id (length ts) (length fs))
+    → is_id id ≡ true
     → Left stage.Pieces (length ts) (length fs) (grow d (length ts) (length fs)) ts fs c rest → May (InBody stage.Pieces 0 0 d) (line ++ (10 ∷ rest))
 unfolding lines_of
 piece_more d id ts fs c line rest spelled named m =
@@ -128,7 +136,8 @@ piece_more d id ts fs c line rest spelled named m =
 
 parcel_more : (b : Stage) (d : Declared) (id : List ℕ) (fs : List Corners) (qs : List ParcelBlock) (rs : List Separator)
     (line rest : List ℕ) → line ≡ spelling (ParcelLine id (length fs)) → is_id id ≡ true
-    → Left stage.Parcels 0 (length fs) (grow_flats d (length fs)) [] fs (record { pieces = []; parcels = qs; pairs = rs }) rest → May (InBody b 0 0 d) (line ++ (10 ∷ rest))
+    → Left stage.Parcels 0 (length fs) (grow_flats d (length fs)) [] fs (record { pieces = []; parcels = qs; pairs = rs }) rest
+    → May (InBody b 0 0 d) (line ++ (10 ∷ rest))
 unfolding lines_of
 parcel_more b d id fs qs rs line rest spelled named m =
     let q : ParcelBlock = record { id = id; flats = fs } in
@@ -165,24 +174,14 @@ pairs_more b d ps line rest s spelled few fits e =
 
 -- both limits hold, and the place is the next one
 within_ok : (d : Declared) (next q : Place) → within d next ≡ Ok q → Small (InBody stage.Pieces 0 0 d) × (next ≡ q)
-within_ok d next q h =
-    let t = by_tests (nat_le d.triangles most_triangles) (nat_le d.flats most_flats) h in
-    let x = t.0 in
-    let y = t.1 in
-    let less : d.triangles ≤ most_triangles = grind (arith, nat_tests) in
-    let few : d.flats ≤ most_flats = grind (arith, nat_tests) in
-    ((less, few), t.2)
-  where
-    by_tests : (a b : Bool) → ◌≡◌ {A = Result Place CertCode} (cond (a && b) (Ok next) (Err code.TooMany)) (Ok q) → (a ≡ true) × (b ≡ true) × (next ≡ q)
-    by_tests true true h = (refl, refl, cc h)
-    by_tests true false h = absurd (cc h)
-    by_tests false b h = absurd (cc h)
+within_ok d next q h = grind (arith, nat_tests)
 
 piece_sized : (d : Declared) (id : List ℕ) (t f : ℕ) (ts fs : List Corners) (c : Content) (line rest : List ℕ)
     → is_id id ≡ true → line ≡ spelling (PieceLine id t f) → Left stage.Pieces t f (grow d t f) ts fs c rest
     → May (InBody stage.Pieces 0 0 d) (line ++ (10 ∷ rest))
 piece_sized d id t f ts fs c line rest named spelled m =
-    subst (λ (n : ℕ). line ≡ spelling (PieceLine id n f) → Left stage.Pieces n f (grow d n f) ts fs c rest → May (InBody stage.Pieces 0 0 d) (line ++ (10 ∷ rest))) m.triangle_count
+    subst (λ (n : ℕ). line ≡ spelling (PieceLine id n f) → Left stage.Pieces n f (grow d n f) ts fs c rest
+    → May (InBody stage.Pieces 0 0 d) (line ++ (10 ∷ rest))) m.triangle_count
     (subst (λ (k : ℕ). line ≡ spelling (PieceLine id (length ts) k) → Left stage.Pieces (length ts) k
     (grow d (length ts) k) ts fs c rest → May (InBody stage.Pieces 0 0 d) (line ++ (10 ∷ rest))) m.flat_count
     (λ s l. piece_more d id ts fs c line rest s named l)) spelled m
@@ -193,7 +192,8 @@ parcel_sized : (b : Stage) (d : Declared) (id : List ℕ) (f : ℕ) (ts fs : Lis
     → May (InBody b 0 0 d) (line ++ (10 ∷ rest))
 parcel_sized b d id f ts fs c line rest named spelled m =
     let l = bare stage.Parcels f (grow_flats d f) ts fs c rest m in
-    let none = subst (λ (ps : List PieceBlock). Left stage.Parcels 0 f (grow_flats d f) [] fs (record { pieces = ps; parcels = c.parcels; pairs = c.pairs }) rest) (l.content.no_pieces refl) l in
+    let none = subst (λ (ps : List PieceBlock). Left stage.Parcels 0 f (grow_flats d f) [] fs
+    (record { pieces = ps; parcels = c.parcels; pairs = c.pairs }) rest) (l.content.no_pieces refl) l in
     subst (λ (k : ℕ). line ≡ spelling (ParcelLine id k) → Left stage.Parcels 0 k (grow_flats d k) [] fs
     (record { pieces = []; parcels = c.parcels; pairs = c.pairs }) rest
     → May (InBody b 0 0 d) (line ++ (10 ∷ rest))) m.flat_count
@@ -203,7 +203,8 @@ parcel_sized b d id f ts fs c line rest named spelled m =
 abbrev Back : Place → List ℕ → Place → Type 0
 Back p line q = Small q × ((rest : List ℕ) → May q rest → May p (line ++ (10 ∷ rest)))
 
-block_back : (b : Stage) (d : Declared) (l : Line) (q : Place) (line : List ℕ) → Small (InBody b 0 0 d) → ReadsAs (Block b) line l → open_block d l ≡ Ok q → Back (InBody b 0 0 d) line q
+block_back : (b : Stage) (d : Declared) (l : Line) (q : Place) (line : List ℕ) → Small (InBody b 0 0 d) → ReadsAs (Block b) line l → open_block d l ≡ Ok q
+    → Back (InBody b 0 0 d) line q
 block_back stage.Pieces d (PieceLine id t f) q line s r h =
     let w = within_ok (grow d t f) (InBody stage.Pieces t f (grow d t f)) q h in
     subst (λ (x : Place). Back (InBody stage.Pieces 0 0 d) line x) w.1 (w.0, λ rest m. piece_sized d id t f m.0 m.1 m.2 line rest r.fits.0 r.text m.3)
@@ -232,22 +233,10 @@ unfolding text_of_lines
 end_more line rest EndLine r m = ([], refl, tt, line_more EndLine [] line rest r.text m)
 end_more line rest _ r m = let no = r.stands in absurd (cc no)
 
-first_more : (line rest : List ℕ) (ts fs : List Corners) (c : Content) → line ≡ first_line written → Left stage.Pieces 0 0 none_declared ts fs c rest → May AtVersion (line ++ (10 ∷ rest))
+first_more : (line rest : List ℕ) (ts fs : List Corners) (c : Content) → line ≡ first_line written → Left stage.Pieces 0 0 none_declared ts fs c rest
+    → May AtVersion (line ++ (10 ∷ rest))
 unfolding text_of
-first_more line rest ts fs c spelled m =
-    let l = bare stage.Pieces 0 none_declared ts fs c rest m in
-    let none = subst (λ (xs : List Corners). Left stage.Pieces 0 0 none_declared [] xs c rest) (nil_from_length fs l.flat_count) l in (
-      c,
-      record {
-        pieces = m.content.pieces;
-        parcels = m.content.parcels;
-        pairs = m.content.pairs;
-        triangles_few = omega (arith, m.content.triangles_few);
-        flats_few = omega (arith, m.content.flats_few);
-        pairs_few = m.content.pairs_few;
-      },
-      ap₂ (λ (x y : List ℕ). x ++ (10 ∷ y)) spelled none.spelled,
-    )
+first_more line rest ts fs c spelled m = grind (arith, nil_from_length)
 
 back : (p q : Place) (line : List ℕ) → Small p → step p line ≡ Ok q → Back p line q
 unfolding step
@@ -257,27 +246,26 @@ back AtVersion q line s h = by_test (bytes_eq line (first_line written)) refl h
         (cond b (Ok (InBody stage.Pieces 0 0 none_declared)) (Err code.Version)) (Ok q) → Back AtVersion line q
     by_test true is h =
         let same : InBody stage.Pieces 0 0 none_declared ≡ q = cc h in
-        subst (λ (x : Place). Back AtVersion line x) same ((omega arith, omega arith), λ rest m. first_more line rest m.0 m.1 m.2 (word_is line (first_line written) is) m.3)
+        subst (λ (x : Place). Back AtVersion line x) same
+        ((omega arith, omega arith), λ rest m. first_more line rest m.0 m.1 m.2 (word_is line (first_line written) is) m.3)
     by_test false is h = absurd (cc h)
 back (InBody b (suc t) f d) q line s h =
     let o = bind_ok (read_line written (One kind.Triangle) line) (λ _. Ok (InBody b t f d)) q h in
-    let same : InBody b t f d ≡ q = cc o.2 in
-    subst (λ (x : Place). Back (InBody b (suc t) f d) line x) same (s, λ rest m. triangle_more b t f d m.0 m.1 m.2 line rest o.0 (read_takes (One kind.Triangle) line o.0 o.1) m.3)
+    let same : InBody b t f d ≡ q = cc o.2 in let takes = read_takes (One kind.Triangle) line o.0 o.1 in
+    rw (← same) (s, λ rest m. triangle_more b t f d m.0 m.1 m.2 line rest o.0 takes m.3)
 back (InBody b zero (suc f) d) q line s h =
     let o = bind_ok (read_line written (One kind.Flat) line) (λ _. Ok (InBody b zero f d)) q h in
-    let same : InBody b zero f d ≡ q = cc o.2 in
-    subst (λ (x : Place). Back (InBody b zero (suc f) d) line x) same (s, λ rest m. flat_more b f d m.1 m.2 line rest o.0 (read_takes (One kind.Flat) line o.0 o.1) (bare b f d m.0 m.1 m.2 rest m.3))
+    let same : InBody b zero f d ≡ q = cc o.2 in let takes = read_takes (One kind.Flat) line o.0 o.1 in
+    rw (← same) (s, λ rest m. flat_more b f d m.1 m.2 line rest o.0 takes (bare b f d m.0 m.1 m.2 rest m.3))
 back (InBody b zero zero d) q line s h =
     let o = bind_ok (read_line written (Block b) line) (open_block d) q h in
     block_back b d o.0 q line s (read_takes (Block b) line o.0 o.1) o.2
 back (InPairs (suc n)) q line s h =
     let o = bind_ok (read_line written (One kind.Pair) line) (λ _. Ok (InPairs n)) q h in
-    let same : InPairs n ≡ q = cc o.2 in
-    subst (λ (x : Place). Back (InPairs (suc n)) line x) same (tt, λ rest m. pair_more n line rest o.0 (read_takes (One kind.Pair) line o.0 o.1) m)
+    let same : InPairs n ≡ q = cc o.2 in rw (← same) (tt, λ rest m. pair_more n line rest o.0 (read_takes (One kind.Pair) line o.0 o.1) m)
 back (InPairs zero) q line s h =
     let o = bind_ok (read_line written (One kind.End) line) (λ _. Ok AtEnd) q h in
-    let same : AtEnd ≡ q = cc o.2 in
-    subst (λ (x : Place). Back (InPairs zero) line x) same (tt, λ rest m. end_more line rest o.0 (read_takes (One kind.End) line o.0 o.1) m)
+    let same : AtEnd ≡ q = cc o.2 in rw (← same) (tt, λ rest m. end_more line rest o.0 (read_takes (One kind.End) line o.0 o.1) m)
 back AtEnd q line s h = absurd (cc h)
 
 -- ---- all lines back
@@ -285,10 +273,7 @@ back AtEnd q line s h = absurd (cc h)
 last_back : (n m : ℕ) (p : Place) (rest : List ℕ) → at_last n p rest ≡ Ok m → May p rest
 unfolding at_last
 last_back n m AtEnd [] h = refl
-last_back n m AtEnd (x ∷ xs) h = let no : eqb (length (x ∷ xs)) 0 ≡ false = positive (length (x ∷ xs)) (omega arith) in let e = rw no at h in absurd (cc e)
-  where
-    positive : (k : ℕ) → 0 < k → eqb k 0 ≡ false
-    positive k h = grind (arith, nat_tests)
+last_back n m AtEnd (x ∷ xs) h = grind (arith, nat_tests)
 last_back n m _ rest h = absurd (cc h)
 
 line_ok : (n : ℕ) (r : Result Place CertCode) (q : Place) → at_line n r ≡ Ok q → r ≡ Ok q

@@ -1,5 +1,6 @@
 -- A list cut at the first element that passes a test.
-use Rattle.std.proofs.Common.{◌≡◌, ℕ, ◌+◌, ◌-◌, ◌<◌, ◌≤◌, Bool, true, false, cond, ◌||◌, List, [], ◌∷◌, ◌++◌, length, take, drop, get_or, Option, Some, None, refl, ap, ◌∙◌, arith, nat_lt, length-drop}
+use Rattle.std.proofs.Common.{◌≡◌, ℕ, ◌+◌, ◌-◌, ◌<◌, ◌≤◌, Bool, true, false, cond, ◌||◌, List, [], ◌∷◌, ◌++◌, length, take, drop, get_or, Option, Some, None}
+use Rattle.std.proofs.Common.{refl, ap, ◌∙◌, arith, length-drop}
 use Rattle.std.proofs.Common.{drop-cons, add-one, position}
 use Rattle.lpis_cert.proofs.Common.{nat_tests, onto_first, list_any, is_gap, is_empty, words, is_lf}
 use Rattle.std.proofs.lemmas.List.{take_all, drop_all}
@@ -17,30 +18,23 @@ chosen-none k true h = absurd cc
 chosen-none k false h = refl
 
 found : (p : ℕ → Bool) (xs : List ℕ) (i : ℕ) → position p xs ≡ Some i → (i < length xs) × (position_or_len p xs ≡ i)
-found p xs i h = let e = chosen-some (position_or_len p xs) i (nat_lt (position_or_len p xs) (length xs)) h in let lt = e.0 in let is = e.1 in (grind (arith, nat_tests), is)
+found p xs i h = grind (arith, nat_tests, chosen-some)
 
 missed : (p : ℕ → Bool) (xs : List ℕ) → position p xs ≡ None → length xs ≤ position_or_len p xs
-missed p xs h = let past = chosen-none (position_or_len p xs) (nat_lt (position_or_len p xs) (length xs)) h in grind (arith, nat_tests)
+missed p xs h = grind (arith, nat_tests, chosen-none)
 
 pub whole : (p : ℕ → Bool) (xs : List ℕ) → position p xs ≡ None → slice_split p xs ≡ xs ∷ []
-whole p xs h = let past = missed p xs h in slice_split_none p xs (λ i d lt. fails_before_first p xs i d (omega arith))
+whole p xs h = grind (arith, slice_split_none, fails_before_first)
 
 -- the rest, as a slice of the code is seen
 pub rest_is : (xs : List ℕ) (i : ℕ) → take (length xs - (i + 1)) (drop (i + 1) xs) ≡ drop (i + 1) xs
-rest_is xs i = take_all (length xs - (i + 1)) (drop (i + 1) xs) (simp length-drop (omega arith))
+rest_is xs i = grind (arith, take_all, length-drop)
 
 pub cut : (p : ℕ → Bool) (xs : List ℕ) (i : ℕ) → position p xs ≡ Some i
     → (slice_split p xs ≡ take i xs ∷ slice_split p (take (length xs - (i + 1)) (drop (i + 1) xs)))
     × (xs ≡ take i xs ++ (get_or xs i 0 ∷ take (length xs - (i + 1)) (drop (i + 1) xs)))
     × (p (get_or xs i 0) ≡ true)
-cut p xs i h =
-    let at = found p xs i h in
-    let lt : position_or_len p xs < length xs = omega (arith, at.0, at.1) in
-    let split = slice_split_first p xs 0 lt in
-    let parts = split_at_first p xs 0 lt in
-    let passes = passes_at_first p xs 0 lt in
-    let e = at.1 in
-    rw (rest_is xs i) (rw e at split, rw e at parts, rw e at passes)
+cut p xs i h = grind (arith, slice_split_first, split_at_first, passes_at_first, rest_is)
 
 is_ten : (b : ℕ) → is_lf b ≡ true → b ≡ 10
 is_ten b h = grind (arith, nat_tests)
@@ -65,13 +59,14 @@ pub split_some : (p : ℕ → Bool) (bs : List ℕ) → (v : List ℕ) × (vs : 
 split_some p [] = ([], [], refl)
 split_some p (b ∷ bs) = by_test (p b) b (slice_split p bs) (split_some p bs)
   where
-    by_test : (t : Bool) (b : ℕ) (ws : List (List ℕ)) → ((v : List ℕ) × (vs : List (List ℕ)) × (ws ≡ v ∷ vs)) → (v : List ℕ) × (vs : List (List ℕ)) × (cond t ([] ∷ ws) (onto_first b ws) ≡ v ∷ vs)
+    by_test : (t : Bool) (b : ℕ) (ws : List (List ℕ)) → ((v : List ℕ) × (vs : List (List ℕ)) × (ws ≡ v ∷ vs))
+        → (v : List ℕ) × (vs : List (List ℕ)) × (cond t ([] ∷ ws) (onto_first b ws) ≡ v ∷ vs)
     by_test true b ws h = ([], ws, refl)
     by_test false b ws h = (b ∷ h.0, h.1, ap (onto_first b) h.2)
 
 one_gap : (w g : Bool) (n b : ℕ) (v : List ℕ) (vs : List (List ℕ)) (r s : Option ℕ) → r ≡ counted false (n + 1) (v ∷ vs) → s ≡ counted true n (v ∷ vs)
     → cond g (cond w r None) s ≡ counted w n (cond g ([] ∷ v ∷ vs) (onto_first b (v ∷ vs)))
-one_gap true true n b v vs r s h k = h ∙ ap (λ (i : ℕ). cond (is_empty v || list_any is_empty vs) None (Some i)) (omega arith)
+one_gap true true n b v vs r s h k = grind arith
 one_gap false true n b v vs r s h k = refl
 one_gap _ _ n b v vs r s h k = k
 
@@ -85,15 +80,16 @@ gaps_are w n (b ∷ bs) =
     let k : gaps true n bs ≡ counted true n (words bs) = gaps_are true n bs in
     rw e (one_gap w (is_gap b) n b parts.0 parts.1 (gaps false (n + 1) bs) (gaps true n bs) (rw e at h) (rw e at k))
 
-counted_is : (ws : List (List ℕ)) → ((v : List ℕ) × (vs : List (List ℕ)) × (ws ≡ v ∷ vs)) → counted false 0 ws ≡ cond (list_any is_empty ws) None (Some (length ws))
+counted_is : (ws : List (List ℕ)) → ((v : List ℕ) × (vs : List (List ℕ)) × (ws ≡ v ∷ vs))
+    → counted false 0 ws ≡ cond (list_any is_empty ws) None (Some (length ws))
 counted_is [] h = absurd cc
-counted_is (w ∷ ws) h = ap (λ (i : ℕ). cond (list_any is_empty (w ∷ ws)) None (Some i)) (omega arith)
+counted_is (w ∷ ws) h = grind arith
 
 pub count_is : (bs : List ℕ) → gaps false 0 bs ≡ cond (list_any is_empty (words bs)) None (Some (length (words bs)))
 count_is bs = gaps_are false 0 bs ∙ counted_is (words bs) (split_some is_gap bs)
 
 pub stopped : (w : Bool) (n i : ℕ) (bs : List ℕ) → i < length bs → is_gap (get_or bs i 0) ≡ true → w ≡ false → gaps w n (drop i bs) ≡ None
-stopped w n i bs lt g f = let cons : drop i bs ≡ get_or bs i 0 ∷ drop (i + 1) bs = rw add-one (drop-cons bs i 0 lt) in rw (cons, g, f) refl
+stopped w n i bs lt g f = grind (arith, add-one, drop-cons)
 
 pub ended : (w v : Bool) (n i : ℕ) (bs : List ℕ) → length bs ≤ i → w ≡ v → gaps w n (drop i bs) ≡ cond v (Some (n + 1)) None
 ended w v n i bs le e = rw (drop_all i bs le, e) refl

@@ -1,12 +1,14 @@
 -- One line taken, and the lines after it.
-use Rattle.std.proofs.Common.{◌≡◌, ℕ, zero, suc, ◌+◌, Bool, true, false, cond, List, [], ◌∷◌, ◌++◌, length, Option, Some, None, Ok, Err, refl, sym, ap, subst, ◌∙◌, arith, append_assoc, length-append}
+use Rattle.std.proofs.Common.{◌≡◌, ℕ, zero, suc, ◌+◌, true, List, [], ◌∷◌, ◌++◌, length, Some, None, Ok, Err, refl, ap, ◌∙◌, arith, append_assoc, length-append}
 use Rattle.std.proofs.Common.{inl, inr}
-use Rattle.lpis_cert.proofs.Common.{CertCode, CertFault, Kind, Piece, Flat, Parcel, Pairs, Pair, End, One, Block, written, Line, spelling, text_of_lines, can_stand, values, read_line, is_lf, lines}
-use Rattle.lpis_cert.proofs.Common.{outcome, at_last, step, Place, AtVersion, InBody, InPairs, AtEnd, LineFits, line_kind, Placed, LineFault, ReadsLines, FaultFrom}
+use Rattle.lpis_cert.proofs.Common.{CertCode, CertFault, Kind, Piece, Flat, Parcel, Pairs, Pair, End, One, Block, written, Line, spelling, text_of_lines}
+use Rattle.lpis_cert.proofs.Common.{can_stand, values, read_line, is_lf, lines}
+use Rattle.lpis_cert.proofs.Common.{outcome, at_last, step, Place, AtVersion, InBody, InPairs, AtEnd, LineFits, line_kind, Placed, LineFault, ReadsLines}
+use Rattle.lpis_cert.proofs.Common.{FaultFrom}
 use Rattle.lpis_cert.specs.declared.fault.CertFault.TheVariants.{Memory, At}
 use Rattle.lpis_cert.specs.declared.kind.Kind.TheVariants.{Triangle}
 use Rattle.lpis_cert.specs.declared.kind.Expected.{Expected}
-use Rattle.lpis_cert.specs.Reading.{with_form, same_kind, placed}
+use Rattle.lpis_cert.specs.Reading.{same_kind, placed}
 use Rattle.lpis_cert.specs.private.Taken.{FailsWith}
 use Rattle.lpis_cert.proofs.SplittingLemmas.{split_some}
 use Rattle.lpis_cert.proofs.WordLemmas.{lines_from}
@@ -27,42 +29,36 @@ same_kind_is _ _ h = absurd cc
 
 pub formed_stands : (e : Expected) (line : List ℕ) (k : Kind) (ws : List (List ℕ)) → placed e line ≡ Ok (k, ws) → can_stand e k ≡ true
 unfolding placed
-formed_stands e line k ws h = by_form _ h
-  where
-    by_form : (o : Option (Kind × List (List ℕ))) → with_form e o ≡ Ok (k, ws) → can_stand e k ≡ true
-    by_form None h = absurd cc
-    by_form (Some p) h = by_test (can_stand e p.0) refl h
-      where
-        by_test : (b : Bool) → can_stand e p.0 ≡ b → cond b (Ok p) (Err code.BadPlace) ≡ Ok (k, ws) → can_stand e k ≡ true
-        by_test true c h = let same : p ≡ (k, ws) = cc h in subst (λ (x : Kind × List (List ℕ)). can_stand e x.0 ≡ true) same c
-        by_test false c h = absurd cc
+formed_stands e line k ws h = grind arith
 
 -- the kind, where one alone can stand
 pub alone : {k : Kind} {text : List ℕ} {n : ℕ} {given : Kind} {ws : List (List ℕ)} {rest : List ℕ} {m : ℕ} → Placed (One k) text n given ws rest m → given ≡ k
-alone {k} {given = given} {ws} p = sym (same_kind_is k given (formed_stands (One k) p.line given ws p.placed))
+alone {k} {given = given} {ws} p = grind (arith, same_kind_is, formed_stands)
 
 -- a line was taken
-pub taken : {e : Expected} {text : List ℕ} {n : ℕ} {k : Kind} {ws : List (List ℕ)} {rest : List ℕ} {m : ℕ} (l : Line) → Placed e text n k ws rest m → values written k ws ≡ Some l
+pub taken : {e : Expected} {text : List ℕ} {n : ℕ} {k : Kind} {ws : List (List ℕ)} {rest : List ℕ} {m : ℕ} (l : Line) → Placed e text n k ws rest m
+    → values written k ws ≡ Some l
     → ReadsLines text n (l ∷ []) rest m × LineFits l × (can_stand e (line_kind l) ≡ true)
 unfolding text_of_lines
-taken {e} {k = k} {ws} {rest} l p v =
-    let r = placed_takes e p.line k ws l p.placed v in
-    (record { parts = p.takes.parts ∙ ap (λ (x : List ℕ). x ++ (10 ∷ rest)) r.text ∙ sym (append_assoc (spelling l) (10 ∷ []) rest); next = p.takes.next }, r.fits, r.stands)
+taken {e} {k = k} {ws} {rest} l p v = grind (arith, placed_takes, append_assoc (spelling l) (10 ∷ []) rest)
 
 -- or its values are no numbers
-pub untaken : {e : Expected} {text : List ℕ} {n : ℕ} {k : Kind} {ws : List (List ℕ)} {rest : List ℕ} {m : ℕ} → Placed e text n k ws rest m → values written k ws ≡ None → FailsWith e text code.Number
+pub untaken : {e : Expected} {text : List ℕ} {n : ℕ} {k : Kind} {ws : List (List ℕ)} {rest : List ℕ} {m : ℕ} → Placed e text n k ws rest m
+    → values written k ws ≡ None → FailsWith e text code.Number
 unfolding read_line
-untaken {rest = rest} p v = let at = p.placed in inr (p.line, rest, p.takes.split, rw (at, v) refl)
+untaken {rest = rest} p v = grind arith
 
 -- ---- one step of the definition
 
-pub step_ok : (n : ℕ) (p q : Place) (text line rest : List ℕ) → lines text ≡ line ∷ lines rest → step p line ≡ Ok q → outcome n p (lines text) ≡ outcome (n + 1) q (lines rest)
+pub step_ok : (n : ℕ) (p q : Place) (text line rest : List ℕ) → lines text ≡ line ∷ lines rest → step p line ≡ Ok q
+    → outcome n p (lines text) ≡ outcome (n + 1) q (lines rest)
 unfolding outcome
-step_ok n p q text line rest e h = let s = split_some is_lf rest in let more = s.2 in rw (e, more, h) refl
+step_ok n p q text line rest e h = grind (arith, split_some is_lf rest)
 
-pub step_err : (n : ℕ) (p : Place) (c : CertCode) (text line rest : List ℕ) → lines text ≡ line ∷ lines rest → step p line ≡ Err c → outcome n p (lines text) ≡ Err (c, n)
+pub step_err : (n : ℕ) (p : Place) (c : CertCode) (text line rest : List ℕ) → lines text ≡ line ∷ lines rest → step p line ≡ Err c
+    → outcome n p (lines text) ≡ Err (c, n)
 unfolding outcome
-step_err n p c text line rest e h = let s = split_some is_lf rest in let more = s.2 in rw (e, more, h) refl
+step_err n p c text line rest e h = grind (arith, split_some is_lf rest)
 
 -- what one place wants
 abbrev pub Wants : Place → Expected → Type 0
@@ -102,17 +98,21 @@ abbrev pub Goes : Place → List Line → Place → Type 0
 Goes p [] q = p ≡ q
 Goes p (l ∷ ls) q = LineFits l × ((r : Place) × (step p (spelling l) ≡ Ok r) × Goes r ls q)
 
-pub over : (n : ℕ) (p q : Place) (ls : List Line) (rest : List ℕ) → Goes p ls q → outcome n p (lines (text_of_lines ls ++ rest)) ≡ outcome (n + length ls) q (lines rest)
+pub over : (n : ℕ) (p q : Place) (ls : List Line) (rest : List ℕ) → Goes p ls q
+    → outcome n p (lines (text_of_lines ls ++ rest)) ≡ outcome (n + length ls) q (lines rest)
 unfolding text_of_lines
-over n p q [] rest h = let same : n ≡ n + 0 = omega arith in ap (λ (x : Place). outcome n x (lines rest)) h ∙ ap (λ (k : ℕ). outcome k q (lines rest)) same
+over n p q [] rest h = grind arith
 over n p q (l ∷ ls) rest h =
-    let text : (spelling l ++ (10 ∷ text_of_lines ls)) ++ rest ≡ spelling l ++ (10 ∷ (text_of_lines ls ++ rest)) = append_assoc (spelling l) (10 ∷ text_of_lines ls) rest in
-    let first = step_ok n p h.1.0 (spelling l ++ (10 ∷ (text_of_lines ls ++ rest))) (spelling l) (text_of_lines ls ++ rest) (lines_from l (text_of_lines ls ++ rest) h.0) h.1.1 in
+    let text : (spelling l ++ (10 ∷ text_of_lines ls)) ++ rest ≡ spelling l ++ (10 ∷ (text_of_lines ls ++ rest)) =
+    append_assoc (spelling l) (10 ∷ text_of_lines ls) rest in
+    let first = step_ok n p h.1.0 (spelling l ++ (10 ∷ (text_of_lines ls ++ rest))) (spelling l) (text_of_lines ls ++ rest)
+    (lines_from l (text_of_lines ls ++ rest) h.0) h.1.1 in
     let more = over (n + 1) h.1.0 q ls rest h.1.2 in
     let count : n + 1 + length ls ≡ n + length (l ∷ ls) = omega arith in
     ap (λ (t : List ℕ). outcome n p (lines t)) text ∙ first ∙ more ∙ ap (λ (k : ℕ). outcome k q (lines rest)) count
 
-pub after : {text : List ℕ} {n : ℕ} {ls : List Line} {rest : List ℕ} {m : ℕ} (p q : Place) → ReadsLines text n ls rest m → Goes p ls q → outcome n p (lines text) ≡ outcome m q (lines rest)
+pub after : {text : List ℕ} {n : ℕ} {ls : List Line} {rest : List ℕ} {m : ℕ} (p q : Place) → ReadsLines text n ls rest m → Goes p ls q
+    → outcome n p (lines text) ≡ outcome m q (lines rest)
 after {n = n} {ls} {rest} p q f g =
     let parts = f.parts in
     let next = f.next in
@@ -126,16 +126,11 @@ fault_after (At c k) p q f g h = after p q f g ∙ h
 pub text-append : (xs ys : List Line) → text_of_lines (xs ++ ys) ≡ text_of_lines xs ++ text_of_lines ys
 unfolding text_of_lines
 text-append [] ys = refl
-text-append (l ∷ xs) ys = ap (λ (t : List ℕ). spelling l ++ (10 ∷ t)) (text-append xs ys) ∙ sym (append_assoc (spelling l) (10 ∷ text_of_lines xs) (text_of_lines ys))
+text-append (l ∷ xs) ys = cc (text-append xs ys, append_assoc (spelling l) (10 ∷ text_of_lines xs) (text_of_lines ys))
 
-pub follows_both : {a : List ℕ} {n : ℕ} {xs : List Line} {b : List ℕ} {m : ℕ} {ys : List Line} {c : List ℕ} {k : ℕ} → ReadsLines a n xs b m → ReadsLines b m ys c k → ReadsLines a n (xs ++ ys) c k
-follows_both {n = n} {xs} {m = m} {ys} {c} {k} f g = record {
-  parts = f.parts ∙ ap (λ (t : List ℕ). text_of_lines xs ++ t) g.parts ∙ sym (append_assoc (text_of_lines xs) (text_of_lines ys) c) ∙ ap (λ (t : List ℕ). t ++ c) (sym (text-append xs ys));
-  next = lengths n m k xs ys f.next g.next;
-}
-  where
-    lengths : (n m k : ℕ) (xs ys : List Line) → m ≡ n + length xs → k ≡ m + length ys → k ≡ n + length (xs ++ ys)
-    lengths n m k xs ys e f = omega (arith, length-append xs ys)
+pub follows_both : {a : List ℕ} {n : ℕ} {xs : List Line} {b : List ℕ} {m : ℕ} {ys : List Line} {c : List ℕ} {k : ℕ} → ReadsLines a n xs b m
+    → ReadsLines b m ys c k → ReadsLines a n (xs ++ ys) c k
+follows_both {n = n} {xs} {m = m} {ys} {c} {k} f g = grind (arith, append_assoc, text-append, length-append)
 
 pub follows_none : (a : List ℕ) (n : ℕ) → ReadsLines a n [] a n
 unfolding text_of_lines

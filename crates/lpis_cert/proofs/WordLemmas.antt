@@ -1,13 +1,15 @@
 -- The words of a line.
-use Rattle.std.proofs.Common.{◌≡◌, ℕ, suc, ◌<◌, ◌≤◌, Bool, true, false, not, ◌&&◌, List, [], ◌∷◌, ◌++◌, length, refl, ap, ◌∙◌, arith, ℤ, pos, negsuc, neg_ℤ, ◌≤ℤ◌, codes, nat_le, decimal}
-use Rattle.lpis_cert.proofs.Common.{and_parts, nat_tests, onto_first, list_any, join_with_byte, AllByRecursion, signed_decimal, is_id, IsInRange, greatest_count, number_margin, Kind, Piece, Flat}
-use Rattle.lpis_cert.proofs.Common.{Parcel, Pairs, Pair, End, Corners, Line, PieceLine, TriangleLine, FlatLine, ParcelLine, PairsLine, PairLine, EndLine, words_of, spelling, CornersFit, LineFits}
+use Rattle.std.proofs.Common.{◌≡◌, ℕ, suc, ◌<◌, ◌≤◌, Bool, true, false, not, ◌&&◌, List, [], ◌∷◌, ◌++◌, length, refl, ap, ◌∙◌, arith, ℤ, pos, negsuc, neg_ℤ}
+use Rattle.std.proofs.Common.{◌≤ℤ◌, codes, decimal}
+use Rattle.lpis_cert.proofs.Common.{and_parts, nat_tests, onto_first, list_any, join_with_byte, AllByRecursion, signed_decimal, is_id, IsInRange}
+use Rattle.lpis_cert.proofs.Common.{greatest_count, number_margin, Kind, Piece, Flat}
+use Rattle.lpis_cert.proofs.Common.{Parcel, Pairs, Pair, End, Corners, Line, PieceLine, TriangleLine, FlatLine, ParcelLine, PairsLine, PairLine, EndLine}
+use Rattle.lpis_cert.proofs.Common.{words_of, spelling, CornersFit, LineFits}
 use Rattle.lpis_cert.proofs.Common.{is_gap, is_empty, words, is_lf, lines, line_kind}
 use Rattle.std.proofs.lemmas.Int.{ints}
 use Rattle.std.proofs.lemmas.Fmt.{decimal_is_IsNumeral}
 use Rattle.std.proofs.lemmas.Str.Parse.{digit_from_value}
 use Rattle.std.specs.List.{slice_split, list_all}
-use Rattle.std.specs.Int.{IsInRange as IsBetween}
 use Rattle.std.specs.Str.Parse.{AllDigits}
 use Rattle.lpis_covers.specs.Ids.{is_id_byte}
 use Rattle.lpis_points.specs.Range.{limit}
@@ -27,10 +29,7 @@ pub record IsWordText (w : List ℕ) : Type 0 where
 
 digits_plain : (ds : List ℕ) → AllDigits 10 ds → IsPlain ds
 digits_plain [] h = tt
-digits_plain (d ∷ ds) h = let r = digit_from_value d h.0 in (plain d r, digits_plain ds h.1)
-  where
-    plain : (d : ℕ) → IsBetween 48 57 d → (is_gap d ≡ false) × (is_lf d ≡ false)
-    plain d r = (grind (arith, nat_tests), grind (arith, nat_tests))
+digits_plain (d ∷ ds) h = grind (arith, nat_tests, digits_plain ds h.1, digit_from_value)
 
 not-empty : (w : List ℕ) → 0 < length w → is_empty w ≡ false
 not-empty [] h = absurd (omega arith)
@@ -57,17 +56,12 @@ id_plain (b ∷ bs) h = let t = and_parts (is_id_byte b) (list_all is_id_byte bs
     plain d r = (grind (arith, nat_tests), grind (arith, nat_tests))
 
 pub id_word : (bs : List ℕ) → is_id bs ≡ true → IsWordText bs
-id_word bs h =
-    let t = and_parts (nat_le 1 (length bs) && nat_le (length bs) 40) (list_all is_id_byte bs) h in
-    let u = and_parts (nat_le 1 (length bs)) (nat_le (length bs) 40) t.0 in
-    record { some = not-empty bs (above (length bs) u.0); plain = id_plain bs t.1 }
-  where
-    above : (n : ℕ) → nat_le 1 n ≡ true → 0 < n
-    above n h = grind (arith, nat_tests)
+id_word bs h = grind (arith, nat_tests, and_parts, not-empty, id_plain)
 
 -- ---- cutting what was joined
 
-pub part : (p : ℕ → Bool) (w rest : List ℕ) → AllByRecursion (λ b. p b ≡ false) w → (c : ℕ) → p c ≡ true → slice_split p (w ++ (c ∷ rest)) ≡ w ∷ slice_split p rest
+pub part : (p : ℕ → Bool) (w rest : List ℕ) → AllByRecursion (λ b. p b ≡ false) w → (c : ℕ) → p c ≡ true
+    → slice_split p (w ++ (c ∷ rest)) ≡ w ∷ slice_split p rest
 part p [] rest h c at = rw at refl
 part p (b ∷ w) rest h c at = let off = h.0 in rw off (ap (onto_first b) (part p w rest h.1 c at))
 
@@ -85,15 +79,17 @@ no_end (b ∷ w) h = (h.0.1, no_end w h.1)
 
 pub words_again : (w : List ℕ) (ws : List (List ℕ)) → IsPlain w → AllByRecursion IsWordText ws → words (join_with_byte 32 (w ∷ ws)) ≡ w ∷ ws
 words_again w [] h hs = only_part is_gap w (no_gap w h)
-words_again w (v ∷ vs) h hs = part is_gap w (join_with_byte 32 (v ∷ vs)) (no_gap w h) 32 refl ∙ ap (λ (x : List (List ℕ)). w ∷ x) (words_again v vs hs.0.plain hs.1)
+words_again w (v ∷ vs) h hs =
+    part is_gap w (join_with_byte 32 (v ∷ vs)) (no_gap w h) 32 refl ∙ ap (λ (x : List (List ℕ)). w ∷ x) (words_again v vs hs.0.plain hs.1)
 
-ends-append : (v w : List ℕ) → AllByRecursion (λ b. is_lf b ≡ false) v → AllByRecursion (λ b. is_lf b ≡ false) w → AllByRecursion (λ b. is_lf b ≡ false) (v ++ w)
+ends-append : (v w : List ℕ) → AllByRecursion (λ b. is_lf b ≡ false) v → AllByRecursion (λ b. is_lf b ≡ false) w
+    → AllByRecursion (λ b. is_lf b ≡ false) (v ++ w)
 ends-append [] w h k = k
 ends-append (b ∷ v) w h k = (h.0, ends-append v w h.1 k)
 
 ends_joined : (w : List ℕ) (ws : List (List ℕ)) → IsPlain w → AllByRecursion IsWordText ws → AllByRecursion (λ b. is_lf b ≡ false) (join_with_byte 32 (w ∷ ws))
 ends_joined w [] h hs = no_end w h
-ends_joined w (v ∷ vs) h hs = ends-append w (32 ∷ join_with_byte 32 (v ∷ vs)) (no_end w h) (refl, ends_joined v vs hs.0.plain hs.1)
+ends_joined w (v ∷ vs) h hs = grind (arith, ends_joined v vs hs.0.plain hs.1, ends-append, no_end)
 
 pub none_empty : (ws : List (List ℕ)) → AllByRecursion IsWordText ws → list_any is_empty ws ≡ false
 none_empty [] h = refl
@@ -125,7 +121,10 @@ words_are EndLine = refl
 words_are _ = refl
 
 pub corner_fields : (c : Corners) → CornersFit c → AllByRecursion IsWordText (corner_words c)
-corner_fields c fits = (signed_word c.x1 fits.x1, (signed_word c.y1 fits.y1, (signed_word c.x2 fits.x2, (signed_word c.y2 fits.y2, (signed_word c.x3 fits.x3, (signed_word c.y3 fits.y3, tt))))))
+corner_fields c fits = (
+  signed_word c.x1 fits.x1,
+  (signed_word c.y1 fits.y1, (signed_word c.x2 fits.x2, (signed_word c.y2 fits.y2, (signed_word c.x3 fits.x3, (signed_word c.y3 fits.y3, tt))))),
+)
 
 count_word : (n : ℕ) → n ≤ greatest_count → IsWordText (decimal n)
 count_word n le = decimal_word n (omega arith)
@@ -161,11 +160,11 @@ kind_plain End = plain_codes (codes "end") refl
 
 pub spelling_words : (l : Line) → LineFits l → words (spelling l) ≡ kind_word (line_kind l) ∷ fields l
 unfolding spelling
-spelling_words l fits = rw (words_are l) (words_again (kind_word (line_kind l)) (fields l) (kind_plain (line_kind l)) (field_words l fits))
+spelling_words l fits = grind (arith, words_are, words_again, kind_word, kind_plain, field_words)
 
 pub spelling_ends : (l : Line) → LineFits l → AllByRecursion (λ b. is_lf b ≡ false) (spelling l)
 unfolding spelling
-spelling_ends l fits = rw (words_are l) (ends_joined (kind_word (line_kind l)) (fields l) (kind_plain (line_kind l)) (field_words l fits))
+spelling_ends l fits = grind (arith, words_are, ends_joined, kind_word, kind_plain, field_words)
 
 -- the lines of a text that begins with a line
 pub lines_from : (l : Line) (rest : List ℕ) → LineFits l → lines (spelling l ++ (10 ∷ rest)) ≡ spelling l ∷ lines rest

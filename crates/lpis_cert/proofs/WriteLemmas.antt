@@ -1,6 +1,8 @@
 -- What is written is the text.
+use Rattle.std.proofs.Common.{arith}
 use Rattle.std.proofs.Common.{◌≡◌, ℕ, List, [], ◌∷◌, ◌++◌, length, map, refl, sym, ap, ap₂, ◌∙◌, flat_map}
-use Rattle.lpis_cert.proofs.Common.{length-map, PiecePart, ParcelPart, Cert, first_line, written, Line, PieceLine, ParcelLine, PairsLine, TriangleLine, FlatLine, EndLine, text_of, text_of_lines}
+use Rattle.lpis_cert.proofs.Common.{length-map, PiecePart, ParcelPart, Cert, Line, PieceLine, ParcelLine, PairsLine, TriangleLine, FlatLine, EndLine, text_of}
+use Rattle.lpis_cert.proofs.Common.{text_of_lines}
 use Rattle.lpis_cert.proofs.Common.{lines_of, piece_lines, parcel_lines, end_lines, corner_numbers, all_corners, piece_of, parcel_of, separator_of, content_of}
 use Rattle.std.proofs.lemmas.List.Concat.{flat_map-cons}
 use Rattle.lpis_cert.specs.CertText.{PairLine as separator_line}
@@ -27,7 +29,8 @@ piece_is p =
     let n = length-map p.triangles corner_numbers in
     let m = length-map p.flats corner_numbers in
     ap₂ (λ (a b : List ℕ). line_text (PieceLine p.id (length p.triangles) (length p.flats)) ++ (a ++ b)) ts fs
-    ∙ ap (λ (t : List ℕ). line_text (PieceLine p.id (length p.triangles) (length p.flats)) ++ t) (sym (text-append (map TriangleLine (all_corners p.triangles)) (map FlatLine (all_corners p.flats))))
+    ∙ ap (λ (t : List ℕ). line_text (PieceLine p.id (length p.triangles) (length p.flats)) ++ t)
+    (sym (text-append (map TriangleLine (all_corners p.triangles)) (map FlatLine (all_corners p.flats))))
     ∙ one_line (PieceLine p.id (length p.triangles) (length p.flats)) (map TriangleLine (all_corners p.triangles) ++ map FlatLine (all_corners p.flats))
     ∙ ap₂ (λ (i j : ℕ). text_of_lines (PieceLine p.id i j ∷ (map TriangleLine (all_corners p.triangles) ++ map FlatLine (all_corners p.flats)))) (sym n) (sym m)
 
@@ -44,16 +47,14 @@ blocks_are : {A B : Type 0} (text : A → List ℕ) (view : A → B) (ls : B →
     (flat_map ls (map view xs))
 unfolding text_of_lines
 blocks_are text view ls h [] = refl
-blocks_are text view ls h (x ∷ xs) = flat_map-cons text x xs ∙ ap₂ (λ (a b : List ℕ). a ++ b) (h x)
-    (blocks_are text view ls h xs) ∙ sym (text-append (ls (view x)) (flat_map ls (map view xs)))
-    ∙ ap text_of_lines (sym (flat_map-cons ls (view x) (map view xs)))
+blocks_are text view ls h (x ∷ xs) = grind (arith, blocks_are text view ls h xs, flat_map-cons, text-append)
 
 end_line : line_text EndLine ≡ text_of_lines (EndLine ∷ [])
 unfolding line_text
 end_line = refl
 
 last_line : (ls : List Line) → text_of_lines ls ++ line_text EndLine ≡ text_of_lines (ls ++ (EndLine ∷ []))
-last_line ls = ap (λ (t : List ℕ). text_of_lines ls ++ t) end_line ∙ sym (text-append ls (EndLine ∷ []))
+last_line ls = cc (end_line, text-append ls (EndLine ∷ []))
 
 end_is : (c : Cert) → line_text (PairsLine (length c.pairs)) ++ (pairs_text c.pairs ++ line_text EndLine) ≡ text_of_lines (end_lines (map separator_of c.pairs))
 end_is c =
@@ -66,10 +67,4 @@ end_is c =
 
 pub parts_text_is : (c : Cert) → parts_text c ≡ text_of (content_of c)
 unfolding version_text text_of lines_of
-parts_text_is c =
-    let ps = blocks_are piece_text piece_of piece_lines piece_is c.pieces in
-    let qs = blocks_are parcel_text parcel_of parcel_lines parcel_is c.parcels in
-    let a = flat_map piece_lines (map piece_of c.pieces) in
-    let b = flat_map parcel_lines (map parcel_of c.parcels) in
-    let e = end_lines (map separator_of c.pairs) in
-    ap (λ (t : List ℕ). first_line written ++ (10 ∷ t)) (ap₂ (λ (x y : List ℕ). x ++ y) ps (ap₂ (λ (x y : List ℕ). x ++ y) qs (end_is c) ∙ sym (text-append b e)) ∙ sym (text-append a (b ++ e)))
+parts_text_is c = grind (arith, blocks_are, piece_is, parcel_is, end_is, text-append)
