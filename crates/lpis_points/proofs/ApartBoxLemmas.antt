@@ -1,11 +1,13 @@
 -- Two triangles whose boxes are apart have no inner point in common.
-use Rattle.std.proofs.Common.{◌≡◌, ℤ, pos, ◌+ℤ◌, ◌-ℤ◌, ◌*ℤ◌, ◌≤ℤ◌, ◌<ℤ◌, int_le, true, ◌||◌, ◌⊎◌, inl, inr, [], ◌∷◌, subst, arith}
+use Rattle.std.proofs.Common.{◌≡◌, ℤ, pos, ◌+ℤ◌, ◌-ℤ◌, ◌*ℤ◌, ◌≤ℤ◌, ◌<ℤ◌, int_le, true, ◌||◌, ◌⊎◌, inl, inr, subst, arith}
 use Rattle.lpis_points.proofs.Common.{ints, by_lt_z, RationalPoint, orient, orient_at, Triangle, IsCounterClockwise, is_inside}
 use Rattle.std.proofs.lemmas.Int.{clamps}
 use Rattle.lpis_points.specs.Triangles.{greatest, least, box_of, are_apart}
 use Rattle.lpis_points.proofs.SignLemmas.{not_neg, not_zero, pos-mul-not_neg, not_neg_of_mul}
 use Rattle.lpis_points.proofs.CrossingLemmas.{all_level}
-use Rattle.lpis_points.proofs.IntRingLemmas.{var, con, ◌⊖◌, ◌⊗◌, ring}
+use Rattle.lpis_points.proofs.IntRingLemmas.{con, ring}
+use Rattle.lpis_points.proofs.UnknownsLemmas.{ax, ay, bx, by_, cx, cy, n, unknowns_of, turn}
+use Rattle.lpis_points.specs.declared.point.Point.{Point}
 use Rattle.lpis_points.proofs.TriangleLemmas.{Inside, inside_is, upright_sum, level_sum, weighted_up}
 
 -- the point at `z` from a border: a positive sum of the corners' distances
@@ -26,13 +28,13 @@ below_greatest o₁ o₂ o₃ x y z m t e w h k l = by_lt_z e (pos 0) (λ n. n)
     (λ n. let r = all_level o₁ o₂ o₃ x y z m (t *ℤ e) w.p₁ w.p₂ w.p₃ h k l w.sum (pos-mul-not_neg t e (not_neg t w.area) n) in absurd (w.spread r.0 r.1 r.2))
 
 -- a triangle whose corners have one x, or one y, is flat
-no_width : (ax ay bx by_ cx cy m : ℤ) → ax ≡ m → bx ≡ m → cx ≡ m → (bx -ℤ ax) *ℤ (cy -ℤ ay) -ℤ (by_ -ℤ ay) *ℤ (cx -ℤ ax) ≡ pos 0
-no_width ax ay bx by_ cx cy m e f g = rw (e, f, g) (ring (m ∷ (ay ∷ (by_ ∷ (cy ∷ []))))
-    ((var 0 ⊖ var 0) ⊗ (var 3 ⊖ var 1) ⊖ (var 2 ⊖ var 1) ⊗ (var 0 ⊖ var 0)) (con (pos 0)) tt)
+no_width : (a b c : Point) (p : RationalPoint) (m : ℤ) → a.x ≡ m → b.x ≡ m → c.x ≡ m → orient a b c ≡ pos 0
+unfolding orient
+no_width a b c p m e f g = rw (e, f, g) (ring (unknowns_of a b c p a a m) (turn n ay n by_ n cy) (con (pos 0)) tt)
 
-no_height : (ax ay bx by_ cx cy m : ℤ) → ay ≡ m → by_ ≡ m → cy ≡ m → (bx -ℤ ax) *ℤ (cy -ℤ ay) -ℤ (by_ -ℤ ay) *ℤ (cx -ℤ ax) ≡ pos 0
-no_height ax ay bx by_ cx cy m e f g = rw (e, f, g) (ring (m ∷ (ax ∷ (bx ∷ (cx ∷ []))))
-    ((var 2 ⊖ var 1) ⊗ (var 0 ⊖ var 0) ⊖ (var 0 ⊖ var 0) ⊗ (var 3 ⊖ var 1)) (con (pos 0)) tt)
+no_height : (a b c : Point) (p : RationalPoint) (m : ℤ) → a.y ≡ m → b.y ≡ m → c.y ≡ m → orient a b c ≡ pos 0
+unfolding orient
+no_height a b c p m e f g = rw (e, f, g) (ring (unknowns_of a b c p a a m) (turn ax n bx n cx n) (con (pos 0)) tt)
 
 upright : (t : Triangle) (p : RationalPoint) (m : ℤ) → IsCounterClockwise t → Inside t p
     → Weighted (orient_at t.b t.c p) (orient_at t.c t.a p) (orient_at t.a t.b p) t.a.x t.b.x t.c.x m (orient t.a t.b t.c) (p.x -ℤ m *ℤ p.d)
@@ -43,7 +45,7 @@ upright t p m h i = record {
   p₃ = i.ab;
   sum = upright_sum t.a t.b t.c p m;
   area = h;
-  spread = λ e f g. not_zero (orient t.a t.b t.c) h (no_width t.a.x t.a.y t.b.x t.b.y t.c.x t.c.y m e f g);
+  spread = λ e f g. not_zero (orient t.a t.b t.c) h (no_width t.a t.b t.c p m e f g);
 }
 
 level : (t : Triangle) (p : RationalPoint) (m : ℤ) → IsCounterClockwise t → Inside t p
@@ -55,7 +57,7 @@ level t p m h i = record {
   p₃ = i.ab;
   sum = level_sum t.a t.b t.c p m;
   area = h;
-  spread = λ e f g. not_zero (orient t.a t.b t.c) h (no_height t.a.x t.a.y t.b.x t.b.y t.c.x t.c.y m e f g);
+  spread = λ e f g. not_zero (orient t.a t.b t.c) h (no_height t.a t.b t.c p m e f g);
 }
 
 -- three numbers that end where three others begin

@@ -2,6 +2,7 @@ pub mod Common
 pub mod PointLemmas
 pub mod IntLemmas
 pub mod IntRingLemmas
+pub mod UnknownsLemmas
 pub mod SignLemmas
 pub mod CrossingLemmas
 pub mod TriangleLemmas

@@ -1,20 +1,17 @@
 -- The crossing by a point and the shoelace term change sign with the edge.
-use Rattle.std.proofs.Common.{◌≤◌, negsuc, nat_abs, ◌⊎◌, ◌≡◌, ℤ, pos, ◌-ℤ◌, ◌*ℤ◌, neg_ℤ, [], ◌∷◌, ap, ◌∙◌, arith}
+use Rattle.std.proofs.Common.{◌≤◌, negsuc, nat_abs, ◌⊎◌, ◌≡◌, ℤ, pos, ◌-ℤ◌, ◌*ℤ◌, neg_ℤ, ap, ◌∙◌, arith}
 use Rattle.lpis_points.proofs.Common.{ints, Point, RationalPoint, orient_at, crossing, crossing_of}
 use Rattle.lpis_points.specs.Plane.{shoelace_term}
 use Rattle.lpis_points.specs.Chain.{IsOdd}
-use Rattle.lpis_points.proofs.IntRingLemmas.{var, con, ◌⊖◌, ◌⊗◌, ring}
+use Rattle.lpis_points.proofs.IntRingLemmas.{con, ◌⊖◌, ring}
+use Rattle.lpis_points.proofs.UnknownsLemmas.{ax, ay, bx, by_, unknowns_of, side}
 
 less : (x : ℤ) → pos 0 -ℤ x ≡ neg_ℤ x
 less x = omega (arith, ints)
 
 orient_at-reversed : (a b : Point) (p : RationalPoint) → orient_at b a p ≡ neg_ℤ (orient_at a b p)
 unfolding orient_at
-orient_at-reversed a b p =
-    ring (a.x ∷ (a.y ∷ (b.x ∷ (b.y ∷ (p.x ∷ (p.y ∷ (p.d ∷ [])))))))
-    ((var 0 ⊖ var 2) ⊗ (var 5 ⊖ var 3 ⊗ var 6) ⊖ (var 1 ⊖ var 3) ⊗ (var 4 ⊖ var 2 ⊗ var 6))
-    (con (pos 0) ⊖ ((var 2 ⊖ var 0) ⊗ (var 5 ⊖ var 1 ⊗ var 6) ⊖ (var 3 ⊖ var 1) ⊗ (var 4 ⊖ var 0 ⊗ var 6))) tt
-    ∙ less (orient_at a b p)
+orient_at-reversed a b p = ring (unknowns_of a b a p a a (pos 0)) (side bx by_ ax ay) (con (pos 0) ⊖ side ax ay bx by_) tt ∙ less (orient_at a b p)
 
 crossing_of-reversed : (s t y o : ℤ) → crossing_of t s y (neg_ℤ o) ≡ neg_ℤ (crossing_of s t y o)
 crossing_of-reversed s t y o = grind (arith, ints)

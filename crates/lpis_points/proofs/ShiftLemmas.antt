@@ -4,21 +4,22 @@ use Rattle.std.proofs.Common.{◌≡◌, ◌≢◌, ℤ, pos, neg_ℤ, ◌+ℤ�
 use Rattle.lpis_points.proofs.Common.{ints, by_lt_z, Point, RationalPoint, orient_at, crossing, crossing_of}
 use Rattle.lpis_points.specs.Shift.{shifted}
 use Rattle.lpis_points.proofs.IntRingLemmas.{var, con, ◌⊕◌, ◌⊖◌, ◌⊗◌, ring}
+use Rattle.lpis_points.proofs.UnknownsLemmas.{ax, ay, bx, by_, px, py, d, n, unknowns_of, side}
 use Rattle.lpis_points.proofs.CrossingLemmas.{up_left, down_right, both_below, both_above, up_not_left, down_not_right}
 use Rattle.lpis_points.proofs.PointLemmas.{point_eq}
 use Rattle.lpis_points.proofs.SignLemmas.{not_neg, pos-mul-not_neg, neg-mul-not_neg}
 
 -- a point shifted by any n
-pub shift_any : (ax ay bx by_ x y d n : ℤ) → (bx -ℤ ax) *ℤ ((y *ℤ n *ℤ n +ℤ pos 1) -ℤ ay *ℤ (d *ℤ n *ℤ n)) -ℤ
-    (by_ -ℤ ay) *ℤ ((x *ℤ n *ℤ n +ℤ n) -ℤ ax *ℤ (d *ℤ n *ℤ n)) ≡ n *ℤ n *ℤ
-    ((bx -ℤ ax) *ℤ (y -ℤ ay *ℤ d) -ℤ (by_ -ℤ ay) *ℤ (x -ℤ ax *ℤ d)) -ℤ n *ℤ (by_ -ℤ ay) +ℤ (bx -ℤ ax)
-shift_any ax ay bx by_ x y d n = ring (ax ∷ (ay ∷ (bx ∷ (by_ ∷ (x ∷ (y ∷ (d ∷ (n ∷ []))))))))
-    ((var 2 ⊖ var 0) ⊗ ((var 5 ⊗ var 7 ⊗ var 7 ⊕ con (pos 1)) ⊖ var 1 ⊗ (var 6 ⊗ var 7 ⊗ var 7)) ⊖ (var 3 ⊖ var 1) ⊗ ((var 4 ⊗ var 7 ⊗ var 7 ⊕ var 7) ⊖ var 0 ⊗ (var 6 ⊗ var 7 ⊗ var 7)))
-    (var 7 ⊗ var 7 ⊗ ((var 2 ⊖ var 0) ⊗ (var 5 ⊖ var 1 ⊗ var 6) ⊖ (var 3 ⊖ var 1) ⊗ (var 4 ⊖ var 0 ⊗ var 6)) ⊖ var 7 ⊗ (var 3 ⊖ var 1) ⊕ (var 2 ⊖ var 0)) tt
+shift_any : (a b : Point) (p : RationalPoint) (m : ℤ) → (b.x -ℤ a.x) *ℤ ((p.y *ℤ m *ℤ m +ℤ pos 1) -ℤ a.y *ℤ (p.d *ℤ m *ℤ m)) -ℤ
+    (b.y -ℤ a.y) *ℤ ((p.x *ℤ m *ℤ m +ℤ m) -ℤ a.x *ℤ (p.d *ℤ m *ℤ m)) ≡ m *ℤ m *ℤ orient_at a b p -ℤ m *ℤ (b.y -ℤ a.y) +ℤ (b.x -ℤ a.x)
+unfolding orient_at
+shift_any a b p m = ring (unknowns_of a b a p a a m)
+    ((bx ⊖ ax) ⊗ ((py ⊗ n ⊗ n ⊕ con (pos 1)) ⊖ ay ⊗ (d ⊗ n ⊗ n)) ⊖ (by_ ⊖ ay) ⊗ ((px ⊗ n ⊗ n ⊕ n) ⊖ ax ⊗ (d ⊗ n ⊗ n)))
+    (n ⊗ n ⊗ side ax ay bx by_ ⊖ n ⊗ (by_ ⊖ ay) ⊕ (bx ⊖ ax)) tt
 
 pub orient_at-shifted : (a b : Point) (p : RationalPoint) → orient_at a b (shifted p) ≡ pos 1000000000000 *ℤ pos 1000000000000 *ℤ orient_at a b p -ℤ pos 1000000000000 *ℤ (b.y -ℤ a.y) +ℤ (b.x -ℤ a.x)
 unfolding orient_at
-orient_at-shifted a b p = shift_any a.x a.y b.x b.y p.x p.y p.d (pos 1000000000000)
+orient_at-shifted a b p = shift_any a b p (pos 1000000000000)
 
 -- a number from -40000000000 to 40000000000: a step between coordinates, ten times over
 record IsStep (z : ℤ) : Type 0 where
@@ -88,8 +89,8 @@ same_crossing s t y k dx dy sx sy r = by_lt_z y s
     (λ l. up_not_left _ _ _ _ (far_le s y hs) (far_lt t y ht) (side_up_no k dx dy sx sy p l) ∙ sym (up_not_left _ _ _ _ hs ht l)))
     (λ ht. both_below _ _ _ (side_of k dx dy) (far_le s y hs) (far_le t y ht) ∙ sym (both_below _ _ _ k hs ht)))
 
-rise : (ay by_ d : ℤ) → by_ *ℤ d -ℤ ay *ℤ d ≡ (by_ -ℤ ay) *ℤ d
-rise ay by_ d = ring (ay ∷ (by_ ∷ (d ∷ []))) (var 1 ⊗ var 2 ⊖ var 0 ⊗ var 2) ((var 1 ⊖ var 0) ⊗ var 2) tt
+rise : (low high unit : ℤ) → high *ℤ unit -ℤ low *ℤ unit ≡ (high -ℤ low) *ℤ unit
+rise low high unit = let l = var 0 in let h = var 1 in let u = var 2 in ring (low ∷ high ∷ unit ∷ []) (h ⊗ u ⊖ l ⊗ u) ((h ⊖ l) ⊗ u) tt
 
 rises : (ay by_ d : ℤ) → pos 0 <ℤ d → Rises (ay *ℤ d) (by_ *ℤ d) (by_ -ℤ ay)
 rises ay by_ d h =
@@ -100,10 +101,12 @@ rises ay by_ d h =
     }
 
 far_height : (y d : ℤ) → y *ℤ (d *ℤ pos 1000000000000 *ℤ pos 1000000000000) ≡ far (y *ℤ d)
-far_height y d = ring (y ∷ (d ∷ [])) (var 0 ⊗ (var 1 ⊗ con (pos 1000000000000) ⊗ con (pos 1000000000000))) (con (pos 1000000000000000000000000) ⊗ (var 0 ⊗ var 1)) tt
+far_height y d =
+    let height = var 0 in let unit = var 1 in let shift = con (pos 1000000000000) in
+    ring (y ∷ d ∷ []) (height ⊗ (unit ⊗ shift ⊗ shift)) (con (pos 1000000000000000000000000) ⊗ (height ⊗ unit)) tt
 
 far_level : (y : ℤ) → y *ℤ pos 1000000000000 *ℤ pos 1000000000000 ≡ far y
-far_level y = ring (y ∷ []) (var 0 ⊗ con (pos 1000000000000) ⊗ con (pos 1000000000000)) (con (pos 1000000000000000000000000) ⊗ var 0) tt
+far_level y = let height = var 0 in ring (y ∷ []) (height ⊗ con (pos 1000000000000) ⊗ con (pos 1000000000000)) (con (pos 1000000000000000000000000) ⊗ height) tt
 
 four : {A B C D : Type 0} (f : A → B → C → D → ℤ) {a a' : A} {b b' : B} {c c' : C} {d d' : D} → a ≡ a' → b ≡ b' → c ≡ c' → d ≡ d' → f a b c d ≡ f a' b' c' d'
 four f p q r s = cc

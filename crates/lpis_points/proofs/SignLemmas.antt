@@ -1,5 +1,5 @@
 -- Machinery: signs of products over ℤ.
-use Rattle.std.proofs.Common.{◌≡◌, suc, zero, ℤ, pos, negsuc, ◌*ℤ◌, neg_ℤ, ◌≤ℤ◌, ◌<ℤ◌, arith}
+use Rattle.std.proofs.Common.{◌≡◌, suc, ℤ, pos, ◌*ℤ◌, neg_ℤ, ◌≤ℤ◌, ◌<ℤ◌, arith}
 use Rattle.lpis_points.proofs.Common.{*ℤ_comm, ints, by_lt_z}
 
 pub not_neg : (x : ℤ) → pos 0 <ℤ x → pos 0 ≤ℤ x

@@ -1,67 +1,16 @@
 -- Triangles and rational points, by their corners.
-use Rattle.std.proofs.Common.{◌≡◌, ◌≢◌, ℤ, pos, ◌+ℤ◌, ◌-ℤ◌, ◌*ℤ◌, ◌≤ℤ◌, ◌<ℤ◌, int_lt, Bool, true, false, cond, refl, ◌&&◌, List, [], ◌∷◌, ap, subst, sym, ◌∙◌, arith}
+use Rattle.std.proofs.Common.{◌≡◌, ◌≢◌, ℤ, pos, ◌+ℤ◌, ◌-ℤ◌, ◌*ℤ◌, ◌≤ℤ◌, ◌<ℤ◌, int_lt, Bool, true, false, cond, refl, ◌&&◌, [], ◌∷◌, ap, subst, sym, ◌∙◌, arith}
 use Rattle.lpis_points.proofs.Common.{ints, Point, Triangle, IsCounterClockwise, is_inside, RationalPoint, orient, orient_at, crossing}
 use Rattle.lpis_points.specs.Triangles.{IsOffItsLines, turns_round}
 use Rattle.lpis_points.specs.Plane.{shoelace_term}
 use Rattle.lpis_points.proofs.SignLemmas.{not_neg, not_zero, pos-mul-not_neg, pos-mul-not_pos, zero_of_mul}
 use Rattle.lpis_points.proofs.CrossingLemmas.{Around, around_total, inside_none}
-use Rattle.lpis_points.proofs.IntRingLemmas.{Expr, var, con, ◌⊕◌, ◌⊖◌, ◌⊗◌, ring}
+use Rattle.lpis_points.proofs.IntRingLemmas.{var, con, ◌⊕◌, ◌⊖◌, ◌⊗◌, ring}
+use Rattle.lpis_points.proofs.UnknownsLemmas.{ax, ay, bx, by_, cx, cy, ux, uy, vx, vy, px, py, d, n, unknowns_of, side, turn}
 
 -- the height of a above p
 abbrev pub over : Point → RationalPoint → ℤ
 over a p = a.y *ℤ p.d -ℤ p.y
-
--- the unknowns of a triangle a b c, a line u v, a point p and a number n
-abbrev ax : Expr
-ax = var 0
-
-abbrev ay : Expr
-ay = var 1
-
-abbrev bx : Expr
-bx = var 2
-
-abbrev by_ : Expr
-by_ = var 3
-
-abbrev cx : Expr
-cx = var 4
-
-abbrev cy : Expr
-cy = var 5
-
-abbrev px : Expr
-px = var 10
-
-abbrev py : Expr
-py = var 11
-
-abbrev d : Expr
-d = var 12
-
-abbrev ux : Expr
-ux = var 6
-
-abbrev uy : Expr
-uy = var 7
-
-abbrev vx : Expr
-vx = var 8
-
-abbrev vy : Expr
-vy = var 9
-
-abbrev n : Expr
-n = var 13
-
-abbrev unknowns_of : Point → Point → Point → RationalPoint → Point → Point → ℤ → List ℤ
-unknowns_of a b c p u v m = a.x ∷ (a.y ∷ (b.x ∷ (b.y ∷ (c.x ∷ (c.y ∷ (u.x ∷ (u.y ∷ (v.x ∷ (v.y ∷ (p.x ∷ (p.y ∷ (p.d ∷ (m ∷ [])))))))))))))
-
-abbrev side : Expr → Expr → Expr → Expr → Expr
-side sx sy tx ty = (tx ⊖ sx) ⊗ (py ⊖ sy ⊗ d) ⊖ (ty ⊖ sy) ⊗ (px ⊖ sx ⊗ d)
-
-abbrev turn : Expr → Expr → Expr → Expr → Expr → Expr → Expr
-turn sx sy tx ty wx wy = (tx ⊖ sx) ⊗ (wy ⊖ sy) ⊖ (ty ⊖ sy) ⊗ (wx ⊖ sx)
 
 -- the three sides of p add up to d times the triangle
 pub sides_sum : (a b c : Point) (p : RationalPoint) → orient_at a b p +ℤ orient_at b c p +ℤ orient_at c a p ≡ p.d *ℤ orient a b c
@@ -138,7 +87,7 @@ corners_differ a b c h = record {
 -- the shoelace terms of a triangle
 pub terms_sum : (a b c : Point) → shoelace_term a b +ℤ shoelace_term b c +ℤ shoelace_term c a ≡ orient a b c
 unfolding orient
-terms_sum a b c = ring (a.x ∷ (a.y ∷ (b.x ∷ (b.y ∷ (c.x ∷ (c.y ∷ []))))))
+terms_sum a b c = ring (a.x ∷ a.y ∷ b.x ∷ b.y ∷ c.x ∷ c.y ∷ [])
     ((ax ⊗ by_ ⊖ bx ⊗ ay) ⊕ (bx ⊗ cy ⊖ cx ⊗ by_) ⊕ (cx ⊗ ay ⊖ ax ⊗ cy))
     (turn ax ay bx by_ cx cy) tt
 
@@ -151,7 +100,9 @@ level_side a b p = ring (unknowns_of a b a p a a (pos 0))
     ((bx ⊖ ax) ⊗ d ⊗ (py ⊖ ay ⊗ d) ⊖ (by_ ⊗ d ⊖ ay ⊗ d) ⊗ (px ⊖ ax ⊗ d)) tt
 
 on_level : (m y s t z : ℤ) → s ≡ y → t ≡ y → m *ℤ (y -ℤ s) -ℤ (t -ℤ s) *ℤ z ≡ pos 0
-on_level m y s t z e f = rw (e, f) (ring (m ∷ (y ∷ (z ∷ []))) (var 0 ⊗ (var 1 ⊖ var 1) ⊖ (var 1 ⊖ var 1) ⊗ var 2) (con (pos 0)) tt)
+on_level m y s t z e f =
+    let step = var 0 in let level = var 1 in let way = var 2 in
+    rw (e, f) (ring (m ∷ y ∷ z ∷ []) (step ⊗ (level ⊖ level) ⊖ (level ⊖ level) ⊗ way) (con (pos 0)) tt)
 
 around : (t : Triangle) (p : RationalPoint) → pos 0 <ℤ p.d → pos 0 ≤ℤ orient t.a t.b t.c → IsOffItsLines t p
     → Around (t.a.y *ℤ p.d) (t.b.y *ℤ p.d) (t.c.y *ℤ p.d) p.y (orient_at t.a t.b p) (orient_at t.b t.c p) (orient_at t.c t.a p)

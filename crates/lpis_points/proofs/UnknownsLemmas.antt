@@ -1,0 +1,56 @@
+-- The names of the unknowns of an equation of plane geometry: a triangle a b c, a line u v, a point p and a number n.
+use Rattle.std.proofs.Common.{ℤ, List, [], ◌∷◌}
+use Rattle.lpis_points.proofs.Common.{Point, RationalPoint}
+use Rattle.lpis_points.proofs.IntRingLemmas.{Expr, var, ◌⊖◌, ◌⊗◌}
+
+abbrev pub ax : Expr
+ax = var 0
+
+abbrev pub ay : Expr
+ay = var 1
+
+abbrev pub bx : Expr
+bx = var 2
+
+abbrev pub by_ : Expr
+by_ = var 3
+
+abbrev pub cx : Expr
+cx = var 4
+
+abbrev pub cy : Expr
+cy = var 5
+
+abbrev pub ux : Expr
+ux = var 6
+
+abbrev pub uy : Expr
+uy = var 7
+
+abbrev pub vx : Expr
+vx = var 8
+
+abbrev pub vy : Expr
+vy = var 9
+
+abbrev pub px : Expr
+px = var 10
+
+abbrev pub py : Expr
+py = var 11
+
+abbrev pub d : Expr
+d = var 12
+
+abbrev pub n : Expr
+n = var 13
+
+abbrev pub unknowns_of : Point → Point → Point → RationalPoint → Point → Point → ℤ → List ℤ
+unknowns_of a b c p u v m = a.x ∷ a.y ∷ b.x ∷ b.y ∷ c.x ∷ c.y ∷ u.x ∷ u.y ∷ v.x ∷ v.y ∷ p.x ∷ p.y ∷ p.d ∷ m ∷ []
+
+-- the side of p to an edge, and of a point to it
+abbrev pub side : Expr → Expr → Expr → Expr → Expr
+side sx sy tx ty = (tx ⊖ sx) ⊗ (py ⊖ sy ⊗ d) ⊖ (ty ⊖ sy) ⊗ (px ⊖ sx ⊗ d)
+
+abbrev pub turn : Expr → Expr → Expr → Expr → Expr → Expr → Expr
+turn sx sy tx ty wx wy = (tx ⊖ sx) ⊗ (wy ⊖ sy) ⊖ (ty ⊖ sy) ⊗ (wx ⊖ sx)
