@@ -16,7 +16,7 @@ same_three {A} {B} {C} e f g = cc
 -- contents of the same lists are one
 pub same_content : {ps ps' : List PieceBlock} {qs qs' : List ParcelBlock} {rs rs' : List Separator} → ps ≡ ps' → qs ≡ qs' → rs ≡ rs'
     → ◌≡◌ {A = Content} (record { pieces = ps; parcels = qs; pairs = rs }) (record { pieces = ps'; parcels = qs'; pairs = rs' })
-same_content e f g = cc (same_three e f g)
+same_content e f g = cc
 
 -- what is made of a value and of a proof, where all proofs are one
 made_same : {A R : Type 0} (P : A → Type 0) (make : (x : A) → P x → R) → ((x : A) (p q : P x) → p ≡ q) → {x y : A} → x ≡ y → (p : P x) (q : P y)
