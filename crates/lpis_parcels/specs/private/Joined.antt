@@ -23,7 +23,8 @@ pub record AreJoins (parcels : List Parcel) (pieces : List Piece) (classes : Lis
   pub classes_are : map (slice_get classes) class_places ≡ map
       (λ (p : Piece). class_named classes p.class) pieces
 
--- what a release keeps: the joins hold, these are their places, and the pieces are few, no two of one identifier
+-- what a release keeps: the joins hold, these are their places, and the pieces are few, no two
+-- of one identifier
 pub record IsRelease (c : Contents) (groups : List (List ℕ)) (class_places : List ℕ) : Type 0 where
   pub joined : join_faults c ≡ []
   pub distinct : IsDistinct same_id (piece_ids c.pieces)
