@@ -11,6 +11,7 @@ mod square;
 mod tables;
 
 use crate::area::run_area;
+use lpis_testing::expect_answer;
 use std::test::Fail;
 
 /// A table with the column `wkt` and this one text.
@@ -18,23 +19,11 @@ fn table_of(rt: &HostRuntime, text: &str) -> Result<String, Fail> {
     Ok(format!(in rt.alloc(); "wkt\n\"{text}\"\n")?)
 }
 
-/// Fails unless a run wrote this text and answered this status.
-fn expect(out: &[u8], answer: u8, text: &str, status: u8) -> Result<(), Fail> {
-    if out != text.as_bytes() {
-        let written = str::from_utf8(out).unwrap_or("no text");
-        return Err(Fail::new(format_args!("{written} in place of {text}")));
-    }
-    if answer != status {
-        return Err(Fail::new(format_args!("status {answer} at {text}")));
-    }
-    Ok(())
-}
-
 /// Fails unless `area` writes this text of a table and answers this status.
 fn expect_area(rt: &HostRuntime, table: &[u8], text: &str, status: u8) -> Result<(), Fail> {
     let mut out = Vec::new(rt.alloc());
     let answer = run_area(rt.alloc(), table, &mut out)?;
-    expect(out.as_slice(), answer, text, status)
+    expect_answer(out.as_slice(), answer, text, status)
 }
 
 /// Fails unless the area of one polygon is this, with status 0.

@@ -1,4 +1,4 @@
-//! A comparison that tells what was found.
+//! Comparisons that tell what was found.
 
 use std::test::Fail;
 
@@ -8,4 +8,13 @@ pub fn expect(told: &str, wanted: &str) -> Result<(), Fail> {
         return Ok(());
     }
     Err(Fail::new(format_args!("{told} in place of {wanted}")))
+}
+
+/// Fails unless a run wrote this text and answered this status.
+pub fn expect_answer(out: &[u8], answer: u8, text: &str, status: u8) -> Result<(), Fail> {
+    expect(str::from_utf8(out).unwrap_or("no text"), text)?;
+    if answer != status {
+        return Err(Fail::new(format_args!("status {answer} at {text}")));
+    }
+    Ok(())
 }

@@ -2,6 +2,7 @@
 
 use lpis_covers::Id;
 use lpis_lineage::{Change, History, Kind, Row, Span, accept, descendants, live_in, read_rows};
+use lpis_testing::expect;
 use std::alloc::Global;
 use std::test::Fail;
 
@@ -26,14 +27,6 @@ fn ids(alloc: Global, words: &str) -> Result<Vec<Id>, Fail> {
 fn rows(alloc: Global, lines: &str) -> Result<Vec<Row>, Fail> {
     let table = format!(in alloc; "old,new\n{lines}")?;
     Ok(read_rows(alloc, table.as_bytes())?)
-}
-
-/// Fails unless a text is this.
-fn expect(text: &str, wanted: &str) -> Result<(), Fail> {
-    if text == wanted {
-        return Ok(());
-    }
-    Err(Fail::new(format_args!("{text} in place of {wanted}")))
 }
 
 /// Fails unless these are the words of identifiers, each with a space behind it.

@@ -1,8 +1,7 @@
 //! Releases whose parcels are strips of a map, and what is handed in to publish one.
 
+use lpis_testing::{CLASSES, HALVES_CERT, LEFT, PARCELS_CERT, RIGHT, SQUARE, SQUARE_CERT};
 use std::test::Fail;
-
-pub static CLASSES: &str = "class,eligible\nG,1\nW,0\n";
 
 /// A parcel of one piece of class G: a strip of the map, ten metres high, between two distances in
 /// metres.
@@ -73,30 +72,11 @@ impl Inputs {
     /// lacks two points of theirs.
     pub fn of_two_pieces(rt: &HostRuntime) -> Result<Inputs, Fail> {
         let alloc = rt.alloc();
-        let parcels = format!(in alloc; "parcel,wkt\nA,\"POLYGON((0 0,10 0,10 10,0 10,0 0))\"\n")?;
+        let parcels = format!(in alloc; "parcel,wkt\nA,\"{SQUARE}\"\n")?;
         let covers = format!(in alloc;
-            "\
-                piece,parcel,class,wkt\n\
-                L,A,G,\"POLYGON((0 0,5 0,5 10,0 10,0 0))\"\n\
-                R,A,W,\"POLYGON((5 0,10 0,10 10,5 10,5 0))\"\n"
+            "piece,parcel,class,wkt\nL,A,G,\"{LEFT}\"\nR,A,W,\"{RIGHT}\"\n"
         )?;
-        let cert = format!(in alloc;
-            "\
-                lpis-cert 1\n\
-                piece L 2 0\n\
-                t 0 0 500 0 500 1000\n\
-                t 0 0 500 1000 0 1000\n\
-                piece R 2 0\n\
-                t 500 0 1000 0 1000 1000\n\
-                t 500 0 1000 1000 500 1000\n\
-                parcel A 2\n\
-                f 0 0 1000 0 500 0\n\
-                f 1000 1000 0 1000 500 1000\n\
-                pairs 2\n\
-                s 0 1 2\n\
-                s 2 3 2\n\
-                end\n"
-        )?;
+        let cert = format!(in alloc; "{HALVES_CERT}")?;
         let lineage = format!(in alloc; "old,new\n")?;
         Ok(Inputs {
             parcels,
@@ -148,30 +128,7 @@ fn cert_of(rt: &HostRuntime, strips: &[Strip]) -> Result<String, Fail> {
 
 #[test]
 fn certificates_are_those_of_the_square_and_its_halves(rt: HostRuntime) -> Result<(), Fail> {
-    let whole = "\
-        lpis-cert 1\n\
-        piece C1 2 0\n\
-        t 0 0 1000 0 1000 1000\n\
-        t 0 0 1000 1000 0 1000\n\
-        parcel A 0\n\
-        pairs 1\n\
-        s 0 1 2\n\
-        end\n";
-    let halved = "\
-        lpis-cert 1\n\
-        piece b1 2 0\n\
-        t 0 0 500 0 500 1000\n\
-        t 0 0 500 1000 0 1000\n\
-        piece c1 2 0\n\
-        t 500 0 1000 0 1000 1000\n\
-        t 500 0 1000 1000 500 1000\n\
-        parcel B 0\n\
-        parcel C 0\n\
-        pairs 2\n\
-        s 0 1 2\n\
-        s 2 3 2\n\
-        end\n";
-    assert!(rt; cert_of(&rt, square().as_slice())?.as_str() == whole);
-    assert!(rt; cert_of(&rt, halves().as_slice())?.as_str() == halved);
+    assert!(rt; cert_of(&rt, square().as_slice())?.as_str() == SQUARE_CERT);
+    assert!(rt; cert_of(&rt, halves().as_slice())?.as_str() == PARCELS_CERT);
     Ok(())
 }

@@ -1,10 +1,11 @@
 //! A register in memory and the runs over it, each called at one place alone.
 
-use crate::devices::{Halting, Paper};
-use crate::maps::{CLASSES, Inputs, halves, square};
+use crate::devices::Paper;
+use crate::maps::{Inputs, halves, square};
 use lpis_commands::{Failure, run_publish, run_trace};
 use lpis_lineage::History;
 use lpis_register::Register;
+use lpis_testing::{CLASSES, Halting, expect, expect_answer};
 use sqlite::MemStore;
 use std::test::Fail;
 
@@ -30,27 +31,6 @@ pub static SPLIT_REPORT: &str = "\
 #[derive(Drop)]
 pub struct Office {
     register: Register<MemStore>,
-}
-
-/// Fails unless a run ended with this status and wrote this text.
-fn expect(written: &Paper, status: u8, text: &str, wanted: u8) -> Result<(), Fail> {
-    let written = str::from_utf8(written.text.as_slice()).unwrap_or("no text");
-    if written != text {
-        return Err(Fail::new(format_args!("{written} in place of {text}")));
-    }
-    if status != wanted {
-        return Err(Fail::new(format_args!("status {status} at {text}")));
-    }
-    Ok(())
-}
-
-/// After how many bytes the input at a place fails: where a failing one stands before it, at once.
-fn left(place: usize, failing: Option<(usize, usize)>) -> Option<usize> {
-    match failing {
-        Some((first, bytes)) if place == first => Some(bytes),
-        Some((first, _)) if place > first => Some(0),
-        _ => None,
-    }
 }
 
 /// The releases of a history: years, identifiers and rows.
@@ -108,11 +88,11 @@ impl Office {
             rt.alloc(),
             &mut self.register,
             year,
-            Halting::new(inputs.parcels.as_str(), left(0, failing)),
-            Halting::new(inputs.covers.as_str(), left(1, failing)),
-            Halting::new(CLASSES, left(2, failing)),
-            Halting::new(inputs.cert.as_str(), left(3, failing)),
-            Halting::new(inputs.lineage.as_str(), left(4, failing)),
+            Halting::at(0, inputs.parcels.as_str(), failing),
+            Halting::at(1, inputs.covers.as_str(), failing),
+            Halting::at(2, CLASSES, failing),
+            Halting::at(3, inputs.cert.as_str(), failing),
+            Halting::at(4, inputs.lineage.as_str(), failing),
             out,
         )
     }
@@ -128,7 +108,7 @@ impl Office {
     ) -> Result<(), Fail> {
         let mut out = Paper::new(rt.alloc(), None);
         let ended = self.publish(rt, year, inputs, None, &mut out)?;
-        expect(&out, ended, text, status)
+        expect_answer(out.text.as_slice(), ended, text, status)
     }
 
     /// Fails unless `publish` refuses with this line and this status, and leaves the history.
@@ -160,7 +140,7 @@ impl Office {
     ) -> Result<(), Fail> {
         let mut out = Paper::new(rt.alloc(), None);
         let ended = self.trace(rt, word, &mut out)?;
-        expect(&out, ended, text, status)
+        expect_answer(out.text.as_slice(), ended, text, status)
     }
 
     /// The history: a line a release, with its year, its identifiers and its rows. Fails unless the
@@ -177,11 +157,6 @@ impl Office {
 
     /// Fails unless this is the history.
     pub fn expect_history(&mut self, rt: &HostRuntime, wanted: &str) -> Result<(), Fail> {
-        let history = self.history(rt)?;
-        if history.as_str() != wanted {
-            let history = history.as_str();
-            return Err(Fail::new(format_args!("{history} in place of {wanted}")));
-        }
-        Ok(())
+        expect(self.history(rt)?.as_str(), wanted)
     }
 }

@@ -1,8 +1,9 @@
 //! The areas of polygons, and the faults of their texts.
 
-use super::square::{HOLED, SQUARE, TWO_SQUARES};
+use super::square::{HOLED, TWO_SQUARES};
 use super::{expect_area, expect_line, expect_wkt_fault, table_of};
 use crate::area::run_area;
+use lpis_testing::SQUARE;
 use std::test::Fail;
 
 #[test]

@@ -1,9 +1,10 @@
 //! Releases with certificates: their reports and refusals.
 
 use super::square::{
-    EMPTY_CERT, HALVES_CERT, HALVES_REPORT, LEFT, OVERLAPPING, RIGHT, RIGHT_MOVED, SQUARE,
-    SQUARE_CERT, SQUARE_REPORT, TWO_SQUARES, edited, one_piece, tables_of, two_pieces,
+    EMPTY_CERT, HALVES_REPORT, OVERLAPPING, SQUARE_REPORT, TWO_SQUARES, one_piece, tables_of,
+    two_pieces,
 };
+use lpis_testing::{HALVES_CERT, LEFT, RIGHT, RIGHT_MOVED, SQUARE, SQUARE_CERT, edited};
 use std::test::Fail;
 
 /// Fails unless this is the answer to the square as one piece with its certificate so edited.
@@ -13,7 +14,7 @@ fn expect_square(
     text: &str,
     status: u8,
 ) -> Result<(), Fail> {
-    let cert = edited(rt, SQUARE_CERT, edits)?;
+    let cert = edited(rt.alloc(), SQUARE_CERT, edits)?;
     one_piece(rt, SQUARE)?.expect_check(rt, cert.as_str(), text, status)
 }
 
@@ -39,7 +40,7 @@ fn a_release_may_have_two_parcels(rt: HostRuntime) -> Result<(), Fail> {
         ("piece R", "piece c1"),
         (flats, "parcel B 0\nparcel C 0\n"),
     ];
-    let cert = edited(&rt, HALVES_CERT, &edits)?;
+    let cert = edited(rt.alloc(), HALVES_CERT, &edits)?;
     let report =
         "parcels 2 pieces 2\nparcel B area 50.00000 eligible 50.00000\nparcel C area 50.00000 eligible 50.00000\ntotal area 100.00000 eligible 100.00000\nyes\n";
     tables.expect_check(&rt, cert.as_str(), report, 0)
@@ -53,7 +54,7 @@ fn squares_may_touch_in_a_corner(rt: HostRuntime) -> Result<(), Fail> {
         ("parcel A 0", second),
         ("pairs 1\ns 0 1 2\n", "pairs 2\ns 0 1 2\ns 2 3 2\n"),
     ];
-    let cert = edited(&rt, SQUARE_CERT, &edits)?;
+    let cert = edited(rt.alloc(), SQUARE_CERT, &edits)?;
     let report =
         "parcels 1 pieces 1\nparcel A area 200.00000 eligible 200.00000\ntotal area 200.00000 eligible 200.00000\nyes\n";
     one_piece(&rt, TWO_SQUARES)?.expect_check(&rt, cert.as_str(), report, 0)
@@ -106,12 +107,12 @@ fn other_halves_are_refused(rt: HostRuntime) -> Result<(), Fail> {
         ("t 500 0 1000 0 1000 1000", "t 501 0 1000 0 1000 1000"),
         ("t 500 0 1000 1000 500 1000", "t 501 0 1000 1000 501 1000"),
     ];
-    let gap = edited(&rt, HALVES_CERT, &edits)?;
+    let gap = edited(rt.alloc(), HALVES_CERT, &edits)?;
     let refusal = "refused 66 parcel A\n";
     two_pieces(&rt, RIGHT_MOVED)?.expect_check(&rt, gap.as_str(), refusal, 1)?;
     // a line for two triangles that are apart
     let line = ("pairs 2\ns 0 1 2\n", "pairs 3\ns 0 1 2\ns 0 2 0\n");
-    let apart = edited(&rt, HALVES_CERT, &[line])?;
+    let apart = edited(rt.alloc(), HALVES_CERT, &[line])?;
     let refusal = "refused 68 pair 0 2\n";
     two_pieces(&rt, RIGHT)?.expect_check(&rt, apart.as_str(), refusal, 1)
 }

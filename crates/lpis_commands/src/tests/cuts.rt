@@ -2,14 +2,15 @@
 
 use super::devices::Full;
 use super::square::{
-    EMPTY_CERT, HALVES_REPORT, HOLED, LEFT, OVERLAPPING, POND, RIGHT, RIGHT_MOVED, RIM, SQUARE,
-    SQUARE_REPORT, TWO_SQUARES, Tables, one_piece, tables_of, two_pieces,
+    EMPTY_CERT, HALVES_REPORT, HOLED, OVERLAPPING, POND, RIM, SQUARE_REPORT, TWO_SQUARES, Tables,
+    one_piece, tables_of, two_pieces,
 };
 use crate::cut_line::print_refusal;
 use crate::failure::{Failure, Name};
 use lpis_covers::Id;
 use lpis_cutter::Refusal;
 use lpis_points::RatPoint;
+use lpis_testing::{LEFT, RIGHT, RIGHT_MOVED, SQUARE};
 use std::test::Fail;
 
 /// An identifier of this text.

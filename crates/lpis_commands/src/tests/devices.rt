@@ -1,6 +1,6 @@
 //! Readers and writers that fail in mid-stream.
 
-use super::square::{EMPTY_CERT, SQUARE, SQUARE_CERT, SQUARE_REPORT, Tables, one_piece, tables_of};
+use super::square::{EMPTY_CERT, SQUARE_REPORT, Tables, one_piece, tables_of};
 use super::table_of;
 use crate::area::run_area;
 use crate::failure::{Failure, Name, print_failure};
@@ -11,6 +11,7 @@ use lpis_cert::read_cert;
 use lpis_checker::check;
 use lpis_pairs::Sweep;
 use lpis_parcels::read_release;
+use lpis_testing::{Halting, SQUARE, SQUARE_CERT};
 use std::io;
 use std::io::{Error, ErrorKind, Read, Write};
 use std::test::Fail;
@@ -25,48 +26,6 @@ impl Read for Interrupted<'_> {
     fn read(&mut self, _buf: &mut [u8]) -> io::Result<usize> {
         *self.reads = self.reads.saturating_add(1);
         Err(Error::from(ErrorKind::Interrupted))
-    }
-}
-
-/// A reader of single bytes with an interruption before each, which fails where `left` bytes were
-/// read, if it is told.
-#[derive(Drop)]
-pub struct Halting<'a> {
-    bytes: &'a [u8],
-    is_interrupted: bool,
-    left: Option<usize>,
-}
-
-impl<'a> Halting<'a> {
-    /// A reader of a text, which fails after so many bytes, if it is told.
-    pub fn new(text: &'a str, left: Option<usize>) -> Halting<'a> {
-        Halting {
-            bytes: text.as_bytes(),
-            is_interrupted: false,
-            left,
-        }
-    }
-}
-
-impl Read for Halting<'_> {
-    fn read(&mut self, buf: &mut [u8]) -> io::Result<usize> {
-        self.is_interrupted = !self.is_interrupted;
-        if self.is_interrupted {
-            return Err(Error::from(ErrorKind::Interrupted));
-        }
-        if self.left == Some(0) {
-            return Err(Error::from(ErrorKind::Other));
-        }
-        let Some((first, rest)) = self.bytes.split_first() else {
-            return Ok(0);
-        };
-        let Some(place) = buf.first_mut() else {
-            return Ok(0);
-        };
-        *place = *first;
-        self.bytes = rest;
-        self.left = self.left.map(|left| left.saturating_sub(1));
-        Ok(1)
     }
 }
 

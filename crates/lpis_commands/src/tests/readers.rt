@@ -1,7 +1,8 @@
 //! Releases whose inputs come a byte at a time, or fail at one of their reads.
 
-use super::square::{SQUARE, SQUARE_CERT, SQUARE_REPORT, Tables, one_piece};
+use super::square::{SQUARE_REPORT, Tables, one_piece};
 use crate::failure::{Failure, Name};
+use lpis_testing::{SQUARE, SQUARE_CERT};
 use std::test::Fail;
 
 /// The inputs of a check in their order: the name and the length of each.

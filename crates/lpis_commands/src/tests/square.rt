@@ -1,21 +1,11 @@
 //! A square of ten metres and its halves: the tables of releases, their certificates and reports.
 
-use super::devices::Halting;
-use super::expect;
 use crate::check::run_check;
 use crate::cut::run_cut;
 use crate::failure::Failure;
+use lpis_testing::{CLASSES, Halting, LEFT, SQUARE, expect_answer};
 use std::io::Write;
 use std::test::Fail;
-
-pub static SQUARE: &str = "POLYGON((0 0,10 0,10 10,0 10,0 0))";
-
-pub static LEFT: &str = "POLYGON((0 0,5 0,5 10,0 10,0 0))";
-
-pub static RIGHT: &str = "POLYGON((5 0,10 0,10 10,5 10,5 0))";
-
-/// The right half with its left side a centimetre too far to the right.
-pub static RIGHT_MOVED: &str = "POLYGON((5.01 0,10 0,10 10,5.01 10,5.01 0))";
 
 /// A polygon that has a strip of the square, a metre wide.
 pub static OVERLAPPING: &str = "POLYGON((9 0,20 0,20 10,9 10,9 0))";
@@ -31,37 +21,6 @@ pub static HOLED: &str = "POLYGON((0 0,10 0,10 10,0 10,0 0),(0 0,4 2,2 4,0 0))";
 pub static RIM: &str = "POLYGON((0 0,10 0,10 10,0 10,0 0),(4 4,6 4,6 6,4 6,4 4))";
 
 pub static POND: &str = "POLYGON((4 4,6 4,6 6,4 6,4 4))";
-
-pub static CLASSES: &str = "class,eligible\nG,1\nW,0\n";
-
-/// For a parcel A and its piece C1 that are the square.
-pub static SQUARE_CERT: &str = "lpis-cert 1
-piece C1 2 0
-t 0 0 1000 0 1000 1000
-t 0 0 1000 1000 0 1000
-parcel A 0
-pairs 1
-s 0 1 2
-end
-";
-
-/// For a parcel A that is the square and its pieces L and R, the halves. The parcel's flats are for
-/// the two corners of the halves that it lacks.
-pub static HALVES_CERT: &str = "lpis-cert 1
-piece L 2 0
-t 0 0 500 0 500 1000
-t 0 0 500 1000 0 1000
-piece R 2 0
-t 500 0 1000 0 1000 1000
-t 500 0 1000 1000 500 1000
-parcel A 2
-f 0 0 1000 0 500 0
-f 1000 1000 0 1000 500 1000
-pairs 2
-s 0 1 2
-s 2 3 2
-end
-";
 
 /// For no parcel and no piece.
 pub static EMPTY_CERT: &str = "lpis-cert 1\npairs 0\nend\n";
@@ -120,30 +79,6 @@ pub fn two_pieces(rt: &HostRuntime, right: &str) -> Result<Tables, Fail> {
     tables_of(rt, &[("A", SQUARE)], &[("L,A,G", LEFT), ("R,A,W", right)])
 }
 
-/// A text in which the first of each pair is replaced by the second, once.
-pub fn edited(rt: &HostRuntime, text: &str, edits: &[(&str, &str)]) -> Result<String, Fail> {
-    let mut text = format!(in rt.alloc(); "{text}")?;
-    for (old, new) in edits {
-        text = with_edit(rt, text.as_str(), old, new)?;
-    }
-    Ok(text)
-}
-
-/// A text with its first `old` replaced.
-fn with_edit(rt: &HostRuntime, text: &str, old: &str, new: &str) -> Result<String, Fail> {
-    let (before, after) = text.split_once(old).ok_or("no such text")?;
-    Ok(format!(in rt.alloc(); "{before}{new}{after}")?)
-}
-
-/// After how many bytes the input at a place fails: where a failing one stands before it, at once.
-fn left(place: usize, failing: Option<(usize, usize)>) -> Option<usize> {
-    match failing {
-        Some((first, bytes)) if place == first => Some(bytes),
-        Some((first, _)) if place > first => Some(0),
-        _ => None,
-    }
-}
-
 impl Tables {
     /// A reader of the table at this place, which may fail.
     fn reader(&self, place: usize, failing: Option<(usize, usize)>) -> Halting<'_> {
@@ -152,7 +87,7 @@ impl Tables {
             1 => self.covers.as_str(),
             _ => self.classes,
         };
-        Halting::new(text, left(place, failing))
+        Halting::at(place, text, failing)
     }
 
     /// Checks them with a certificate. The input at this place fails after so many bytes, and those
@@ -169,7 +104,7 @@ impl Tables {
             self.reader(0, failing),
             self.reader(1, failing),
             self.reader(2, failing),
-            Halting::new(cert, left(3, failing)),
+            Halting::at(3, cert, failing),
             out,
         )
     }
@@ -202,6 +137,6 @@ impl Tables {
     ) -> Result<(), Fail> {
         let mut out = Vec::new(rt.alloc());
         let answer = self.check(rt, cert, None, &mut out)?;
-        expect(out.as_slice(), answer, text, status)
+        expect_answer(out.as_slice(), answer, text, status)
     }
 }

@@ -1,7 +1,7 @@
 //! Tables of polygons, and their faults.
 
 use super::expect_area;
-use super::square::SQUARE;
+use lpis_testing::SQUARE;
 use std::test::Fail;
 
 #[test]
