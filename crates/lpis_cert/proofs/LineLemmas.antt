@@ -1,5 +1,6 @@
 -- What a line says, and its spelling.
 use Rattle.std.proofs.Common.{bytes_eq, ◌≡◌, ℕ, ◌+◌, ◌≤◌, Bool, true, false, cond, ◌&&◌, List, [], ◌∷◌, length, Option, Some, None, Result, Ok, Err, refl, sym}
+use Rattle.std.proofs.NetLemmas.Options.{cond_none}
 use Rattle.std.proofs.Common.{ap, subst, ◌∙◌, arith, eqb, ℤ, codes}
 use Rattle.std.proofs.Common.{decimal}
 use Rattle.lpis_cert.proofs.Common.{and_parts, join_with_byte-slice_split, list_any, join_with_byte, AllByRecursion, signed_decimal, is_id, IsInRange}
@@ -88,15 +89,11 @@ kind_takes : (w : List ℕ) (k : Kind) → kind_of w ≡ Some k → w ≡ kind_w
 unfolding kind_of
 kind_takes w k h = grind (arith, codes, word_is)
 
-unless : {A : Type 0} (b : Bool) (x : Option A) (y : A) → cond b None x ≡ Some y → (b ≡ false) × (x ≡ Some y)
-unless true x y h = absurd cc
-unless false x y h = (refl, h)
-
 form_takes : (ws : List (List ℕ)) (k : Kind) (vs : List (List ℕ)) → form ws ≡ Some (k, vs) → (ws ≡ kind_word k ∷ vs) × (names k vs ≡ true)
 unfolding form
 form_takes [] k vs h = absurd cc
 form_takes (w ∷ ws) k vs h =
-    let u = unless (list_any is_empty (w ∷ ws)) _ (k, vs) h in
+    let u = cond_none (list_any is_empty (w ∷ ws)) _ (k, vs) h in
     let t = then_some (kind_of w) (λ k. cond (eqb (length ws + 1) (word_count k) && names k ws) (Some (k, ws)) None) (k, vs) u.1 in
     let o = opened (eqb (length ws + 1) (word_count t.0) && names t.0 ws) (Some (t.0, ws)) (k, vs) t.2 in
     let n = and_parts (eqb (length ws + 1) (word_count t.0)) (names t.0 ws) o.0 in

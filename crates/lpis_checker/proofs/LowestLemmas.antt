@@ -1,7 +1,6 @@
 -- The conditions by their codes.
 use Rattle.std.proofs.Common.{◌<◌, arith}
-use Rattle.lpis_checker.proofs.Common.{Contents, Cert, Condition, Names, Triangles, Turned, Flats, Corners, PieceEdges, ParcelEdges, NearPairs, Separating, HoldBelow}
-use Rattle.lpis_checker.specs.declared.condition.Condition.TheVariants.{NotApart}
+use Rattle.lpis_checker.proofs.Common.{Contents, Cert, Condition, Separating, HoldBelow}
 use Rattle.lpis_checker.specs.Codes.{code_of}
 use Rattle.lpis_checker.specs.GoodCertificate.{IsGood}
 

@@ -3,7 +3,7 @@ use Rattle.std.proofs.Common.{◌≡◌, ◌≢◌, ℤ, pos, negsuc, ◌+ℤ◌
 use Rattle.std.proofs.Common.{arith}
 use Rattle.lpis_checker.proofs.Common.{ints, Point, Triangle, same_point, edges_of_triangles, SignedEdge, weight, sum_at}
 use Rattle.lpis_points.specs.Chain.{is_edge, net_count, SameNet}
-use Rattle.lpis_points.proofs.Shared.{edge_sum-append}
+use Rattle.lpis_points.proofs.Shared.{edge_sum-append, reversed_count}
 use Rattle.lpis_checker.specs.private.SignedEdges.{is_at, SumsAreZero, is_low, IsSigned, signed_by, low_count, Grows}
 use Rattle.lpis_checker.proofs.RunLemmas.{sum_at-append}
 use Rattle.lpis_checker.proofs.PointOrderLemmas.{both_same, low_asym, point_tie_alone}
@@ -182,12 +182,6 @@ growing_all {t} {all = all} {xs} {ys} e h =
     by _ _ b w e = omega (arith, ints)
 
 -- ---- equal net counts
-net_turned : (a b : Point) (es : List (Point × Point)) → net_count same_point b a es ≡ neg_ℤ (net_count same_point a b es)
-net_turned a b [] = refl
-net_turned a b (e ∷ es) = less (is_edge same_point b a e.0 e.1) (is_edge same_point a b e.0 e.1) (net_count same_point b a es) (net_count same_point a b es) (net_turned a b es)
-  where
-    less : (x y v w : ℤ) → v ≡ neg_ℤ w → (x -ℤ y) +ℤ v ≡ neg_ℤ ((y -ℤ x) +ℤ w)
-    less x y v w e = omega (arith, ints)
 
 -- one list added to nothing and another taken away
 difference : (es fs : List (Point × Point)) (xs ys : List SignedEdge) → Grows true es [] xs → Grows false fs xs ys → (p q : Point) → sum_at p q ys ≡ low_count p q es -ℤ low_count p q fs
@@ -208,7 +202,7 @@ zero_is_same es fs h a b n = by (is_low a b) (is_low b a) refl refl
 
     by : (s t : Bool) → is_low a b ≡ s → is_low b a ≡ t → net_count same_point a b es ≡ net_count same_point a b fs
     by true t e f = here a b true e refl
-    by false true e f = net_turned b a es ∙ ap neg_ℤ (here b a true f refl) ∙ sym (net_turned b a fs)
+    by false true e f = reversed_count b a es ∙ ap neg_ℤ (here b a true f refl) ∙ sym (reversed_count b a fs)
     by false false e f = absurd (n (point_tie_alone a b e f))
 
 same_is_zero : (es fs : List (Point × Point)) → SameNet same_point es fs → (p q : Point) → low_count p q es ≡ low_count p q fs

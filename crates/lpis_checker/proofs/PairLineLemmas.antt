@@ -1,7 +1,7 @@
 -- The pair lines: they ascend, each names two triangles, and a walk beside the near pairs finds the first that no line
 -- names.
 use Rattle.std.proofs.Common.{◌≡◌, ℕ, zero, suc, ◌+◌, ◌<◌, ◌≤◌, Bool, false, IsTrue, ◌↔◌, List, length, get_or, Some, ◌⊎◌, inl, inr, ap, sym, refl, ◌∙◌, subst, arith, slice_get}
-use Rattle.lpis_checker.proofs.Common.{cases_eq, cases_lt, same_Some, slice_get_within, slice_get-get_or, Triangle, Contents, Cert, PairLine, Names, NearPairs, PieceAt, ParcelAt, LineAt, PairAt}
+use Rattle.lpis_checker.proofs.Common.{cases_eq, cases_lt, same_Some, slice_get_within, slice_get-get_or, Triangle, Contents, Cert, PairLine, Names, NearPairs, LineAt, PairAt}
 use Rattle.lpis_checker.proofs.Common.{triangles_of, Holds, HoldsEverywhere}
 use Rattle.lpis_points.specs.Triangles.{are_apart}
 use Rattle.lpis_parcels.proofs.Shared.{item-within}

@@ -2,7 +2,7 @@
 use Rattle.std.proofs.Common.{◌≡◌, ℕ, ◌+◌, ◌<◌, ◌≤◌, Bool, true, false, List, get_or, length, Option, Some, None, inl, inr, ◌↔◌, ◌⊎◌, IsTrue, ap, sym, refl, ◌∙◌, subst, arith, slice_get, option_map}
 use Rattle.std.proofs.Common.{IfOk, Result}
 use Rattle.lpis_checker.proofs.Common.{cases_eq, cases_lt, none-some, same_Some, slice_get_read, slice_get_within, Piece, Parcel, Contents, Cert, PiecePart, ParcelPart, PairLine, Condition, Names}
-use Rattle.lpis_checker.proofs.Common.{Triangles, Turned, Flats, Corners, PieceEdges, ParcelEdges, NearPairs, Separating, PieceAt, ParcelAt, LineAt, PairAt, Holds, HoldsEverywhere, OnParcel, OnPiece}
+use Rattle.lpis_checker.proofs.Common.{Flats, Corners, ParcelEdges, NearPairs, Separating, PieceAt, ParcelAt, LineAt, PairAt, Holds, HoldsEverywhere, OnParcel, OnPiece}
 use Rattle.std.specs.Prelude.{⊤}
 use Rattle.std.proofs.lemmas.Result.{IfOk-weaker}
 use Rattle.std.proofs.lemmas.Option.{slice_get_past}

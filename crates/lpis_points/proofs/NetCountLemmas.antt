@@ -27,7 +27,7 @@ counted a b (e ∷ es) Q turn h = by (same_point a e.0 && same_point b e.1) (sam
     by false false x f g (inl q) = inl q
     by false false x f g (inr e) = inr (omega (arith, ints))
 
-reversed_count : (a b : Point) (es : List (Point × Point)) → net_count same_point b a es ≡ neg_ℤ (net_count same_point a b es)
+pub reversed_count : (a b : Point) (es : List (Point × Point)) → net_count same_point b a es ≡ neg_ℤ (net_count same_point a b es)
 reversed_count a b [] = refl
 reversed_count a b (e ∷ es) = omega (arith, ints, reversed_count a b es)
 

@@ -1,6 +1,7 @@
 -- The lemmas that the crates above cite, passed on from one place. Declares nothing.
 pub use Rattle.lpis_points.proofs.ApartBoxLemmas.{apart_share_nothing}
 pub use Rattle.lpis_points.proofs.ChainLemmas.{chain_lemma, edge_sum-append, int_sum_by-append, int_sum_by-flat_map, int_sum_by-more, int_sum_by-not_neg, int_sum_by-same}
+pub use Rattle.lpis_points.proofs.NetCountLemmas.{reversed_count}
 pub use Rattle.lpis_points.proofs.OddLemmas.{crossing-cases, crossing-odd, crossing-small, shoelace_term-odd}
 pub use Rattle.lpis_points.proofs.PointLemmas.{point_eq, same_point-equality}
 pub use Rattle.lpis_points.proofs.SeparationLemmas.{separated_share_nothing}

@@ -1,6 +1,6 @@
 -- The names of the tables.
 use Rattle.std.proofs.Common.{◌≡◌, ℕ, codes, Bool, true, List, refl}
-use Rattle.lpis_tables.proofs.Common.{list_any, Schema, Shape, New, First, Moved, has_live, has_spans, schema_of}
+use Rattle.lpis_tables.proofs.Common.{list_any, Schema, Shape, Moved, has_live, has_spans, schema_of}
 use Rattle.sqlite_schema.specs.Names.{same_name}
 
 abbrev pub has_named : List ℕ → Schema → Bool

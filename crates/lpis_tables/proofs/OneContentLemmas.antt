@@ -1,6 +1,6 @@
 -- A database holds one content.
 use Rattle.std.proofs.Common.{◌≡◌, ◌∙◌, refl, sym, ap, subst, [], List, map, length, true, IsPermutation}
-use Rattle.lpis_tables.proofs.Common.{IsPermutation-map, IsPermutation-refl, IsPermutation-trans, Row, Trees, Schema, State, Content, without_live, Shape, New, First, Moved, schema_of, has_spans}
+use Rattle.lpis_tables.proofs.Common.{IsPermutation-map, IsPermutation-refl, IsPermutation-trans, Row, Trees, Schema, State, Content, without_live, Shape, New, Moved, schema_of, has_spans}
 use Rattle.lpis_tables.proofs.Common.{span_tree, IsStored, Keeps, format_row, year_row, span_row, line_row}
 use Rattle.std.proofs.lemmas.List.Sorted.{IsPermutation-sym}
 use Rattle.lpis_records.specs.Tells.{IsSameContent}

@@ -1,6 +1,6 @@
 -- The parts of what the tables hold, carried over a step that leaves them.
 use Rattle.std.proofs.Common.{◌≡◌, ℕ, List, [], map, drop, Bool, true, false, refl, sym, ap, subst, ◌∙◌, arith, IsPermutation, true≢false, nat_eq}
-use Rattle.lpis_tables.proofs.Common.{nat_tests, Row, Trees, overlay, Content, StoredSpan, Shape, New, First, Moved, has_spans, has_live, span_tree, AreKeyed, Keeps, format_row, year_row, span_row}
+use Rattle.lpis_tables.proofs.Common.{nat_tests, Row, Trees, overlay, Content, StoredSpan, Shape, New, Moved, has_spans, has_live, span_tree, AreKeyed, Keeps, format_row, year_row, span_row}
 use Rattle.lpis_tables.proofs.Common.{line_row, live_row}
 use Rattle.lpis_tables.specs.Holding.{Means}
 use Rattle.lpis_tables.proofs.WriteLemmas.{Kept}

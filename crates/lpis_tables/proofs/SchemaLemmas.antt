@@ -5,7 +5,7 @@ use Rattle.lpis_tables.proofs.Common.{cases_Bool, and_parts, not-true, nat_tests
 use Rattle.lpis_tables.proofs.Common.{Shape, New, First, Moved, schema_of, no_schema}
 use Rattle.std.specs.List.{AllZip, list_all}
 use Rattle.sqlite_value.specs.declared.value.Value.{Value}
-use Rattle.sqlite_value.specs.declared.value.Value.TheVariants.{Null, Int, Real, Text, Blob}
+use Rattle.sqlite_value.specs.declared.value.Value.TheVariants.{Null, Int, Text}
 use Rattle.sqlite.specs.State.{Opens, IsLive}
 use Rattle.sqlite_schema.specs.declared.schema.Index.{Index}
 use Rattle.sqlite_schema.specs.declared.schema.View.{View}

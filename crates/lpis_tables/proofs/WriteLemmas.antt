@@ -1,6 +1,7 @@
 -- What a statement that writes does to the trees.
 use Rattle.std.proofs.Common.{◌≡◌, ◌≢◌, ◌⊎◌, inl, inr, ℕ, ℤ, List, [], ◌∷◌, length, slice_get, Bool, true, false, cond, Some, None, Ok, Err, Result, refl, sym, ap, subst, ◌∙◌, IsPermutation, is_eq}
-use Rattle.std.proofs.Common.{true≢false, if◌then◌else◌, ◌||◌, ◌/◌, ◌==◌, Option, MatchBool, flat_map, filter_map, is_lt, int_cmp}
+use Rattle.std.proofs.lemmas.Bool.{or_parts}
+use Rattle.std.proofs.Common.{true≢false, if◌then◌else◌, ◌/◌, ◌==◌, Option, MatchBool, flat_map, filter_map, is_lt, int_cmp}
 use Rattle.lpis_tables.proofs.Common.{and_parts, not-true, Null, Int, Row, value_cmp, Table, Update, edit_of, is_taken, ids_of, Has, Program, Given, Tally, Does, Database, Mode, Schema, Term, Trees}
 use Rattle.lpis_tables.proofs.Common.{rowid, put_row, Error, understood, State, mode_of, statement_of, runs_as, Shape, New, First, Moved, schema_of, has_spans, has_live, span_tree, AreKeyed}
 use Rattle.std.specs.List.{AllByRecursion}
@@ -172,10 +173,6 @@ adds s sql place width table terms params row old new count has at plain_key mea
       others = kept_of s table.tree db new.now.trees step.tables;
     }
 
-or_false : (a b : Bool) → (a || b) ≡ false → (a ≡ false) × (b ≡ false)
-or_false true b h = absurd (true≢false h)
-or_false false b h = (refl, h)
-
 -- a fresh row with a number keeps the rowids apart
 pub keyed_more : (rows : List Row) (n : ℤ) (rest : Row) → AreKeyed rows → is_taken rows (Int n ∷ rest) ≡ false → AreKeyed (put_row (Int n ∷ rest) rows)
 keyed_more rows n rest k fresh = record { whole = whole; alone = alone }
@@ -188,8 +185,8 @@ keyed_more rows n rest k fresh = record { whole = whole; alone = alone }
     apart (y ∷ xs) x (inl same) free e =
         let tie : is_eq (value_cmp (rowid y) (Int n)) ≡ true = ap (λ (r : Row). is_eq (value_cmp (rowid r) (Int n)))
         (sym same) ∙ ap (λ v. is_eq (value_cmp v (Int n))) e ∙ ap is_eq (tied_itself value_cmp_total (Int n)) in
-        true≢false (sym tie ∙ (or_false _ _ free).0)
-    apart (y ∷ xs) x (inr more) free e = apart xs x more (or_false _ _ free).1 e
+        true≢false (sym tie ∙ (or_parts _ _ free).0)
+    apart (y ∷ xs) x (inr more) free e = apart xs x more (or_parts _ _ free).1 e
 
     whole : (x : Row) → Has (put_row (Int n ∷ rest) rows) x → (m : ℤ) × (rowid x ≡ Int m)
     whole x there = elim (put_has (Int n ∷ rest) rows x there) [

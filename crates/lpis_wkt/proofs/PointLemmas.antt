@@ -1,10 +1,9 @@
 -- Coordinates and points are equal where their numbers are.
-use Rattle.std.proofs.Common.{◌≡◌, ℕ, ◌-◌, ℤ, true, List, length, Option, Some, None, Result, Ok, Err, refl, ap, subst, ◌∙◌, arith, int_eq, slice_get}
-use Rattle.lpis_wkt.proofs.Common.{and_parts, Point, WktCode, Coordinate, number, coordinate, point_of, is_closed}
-use Rattle.std.proofs.lemmas.Int.{ints}
+use Rattle.std.proofs.Common.{◌≡◌, ℕ, ◌-◌, ℤ, true, List, length, Option, Some, None, Result, Ok, Err, refl, ap, subst, slice_get}
+use Rattle.lpis_wkt.proofs.Common.{Point, WktCode, Coordinate, number, coordinate, is_closed}
 use lib.Dec.{T_prop}
+use Rattle.lpis_points.proofs.Shared.{same_point-equality}
 use Rattle.lpis_points.specs.Range.{IsInRange}
-use Rattle.lpis_points.specs.Plane.{same_point}
 use Rattle.lpis_wkt.specs.private.Coordinates.{with_range, number-in_range}
 use Rattle.lpis_wkt.specs.private.Machine.{same_end}
 
@@ -19,14 +18,6 @@ made-same x y e = subst (λ (v : ℤ). (h : IsInRange x) (k : IsInRange v) → m
 
 pub coordinate_eq : (a b : Coordinate) → a.value ≡ b.value → a ≡ b
 coordinate_eq a b e = made-same a.value b.value e a.in_range b.in_range
-
-pub point_eq : (p q : Point) → p.x ≡ q.x → p.y ≡ q.y → p ≡ q
-point_eq p q e f =
-    let a : Coordinate = made p.x p.x_in_range in
-    let b : Coordinate = made p.y p.y_in_range in
-    let c : Coordinate = made q.x q.x_in_range in
-    let d : Coordinate = made q.y q.y_in_range in
-    ap (λ (v : Coordinate). point_of v b) (coordinate_eq a c e) ∙ ap (point_of c) (coordinate_eq b d f)
 
 with_range-ok : (r : Result ℤ WktCode) (h : (z : ℤ) → r ≡ Ok z → IsInRange z) (c : Coordinate) → r ≡ Ok c.value → with_range r h ≡ Ok c
 with_range-ok (Ok z) h c e = let same : z ≡ c.value = cc in ap Ok (coordinate_eq (made z (h z refl)) c same)
@@ -62,25 +53,13 @@ err-coordinate w code e = err-with_range (number w) (number-in_range w) code e
 
 -- equal ends
 
-int_eq-true : (x y : ℤ) → int_eq x y ≡ true → x ≡ y
-int_eq-true x y h = grind (arith, ints)
-
-int_eq-refl : (x : ℤ) → int_eq x x ≡ true
-int_eq-refl x = grind (arith, ints)
-
-same_point-true : (p q : Point) → same_point p q ≡ true → p ≡ q
-same_point-true p q h = let both = and_parts _ _ h in point_eq p q (int_eq-true p.x q.x both.0) (int_eq-true p.y q.y both.1)
-
-same_point-refl : (p : Point) → same_point p p ≡ true
-same_point-refl p = rw (int_eq-refl p.x, int_eq-refl p.y) refl
-
 same_end-true : (a b : Option Point) → same_end a b ≡ true → a ≡ b
-same_end-true (Some p) (Some q) h = ap Some (same_point-true p q h)
+same_end-true (Some p) (Some q) h = ap Some ((same_point-equality p q).0 h)
 same_end-true None None h = refl
 same_end-true _ _ h = cc
 
 same_end-refl : (a : Option Point) → same_end a a ≡ true
-same_end-refl (Some p) = same_point-refl p
+same_end-refl (Some p) = (same_point-equality p p).1 refl
 same_end-refl None = refl
 
 pub is_closed-true : (ps : List Point) → is_closed ps ≡ true → slice_get ps (length ps - 1) ≡ slice_get ps 0

@@ -1,7 +1,7 @@
 -- Where a word or a space stands, the tokens from there on are those after it.
 use Rattle.std.proofs.Common.{◌≡◌, ℕ, zero, suc, ◌+◌, ◌-◌, ◌<◌, ◌≤◌, Bool, true, false, cond, not, ◌||◌, ◌==◌, List, [], ◌∷◌, ◌++◌, length, take, drop, get_or, refl, sym, ap, ◌∙◌, arith, drop-cons}
 use Rattle.std.proofs.Common.{add-one, slice_range, length-drop, inl, inr}
-use Rattle.lpis_wkt.proofs.Common.{nat_tests, Token, Open, Close, Comma, Word, End, tokens_from, is_word}
+use Rattle.lpis_wkt.proofs.Common.{nat_tests, Token, Open, Close, Comma, Word, tokens_from, is_word}
 use Rattle.std.proofs.lemmas.Bool.{cases_lt}
 use Rattle.std.proofs.lemmas.List.{take-append-drop, length-take-le, drop-drop, nil_from_length}
 use Rattle.lpis_wkt.specs.private.Runs.{AllWord, Stops}

@@ -1,7 +1,7 @@
 -- How the tokens before each state end.
 use Rattle.std.proofs.Common.{◌≡◌, ℕ, suc, ◌<◌, Bool, true, false, cond, List, [], ◌∷◌, ◌++◌, length, Ok, refl, sym, ap, subst, append_assoc, arith, length-append, append-nil}
 use Rattle.lpis_wkt.proofs.Common.{Point, Member, Token, Open, Close, Comma, Word, End, number, point_of, PointText, Commas, State, AtKeyword, AfterKeyword, AtBody, AtRing, AtX, AtY, AfterPoint}
-use Rattle.lpis_wkt.proofs.Common.{AfterRing, AfterBody, AtEnd, Finished, open_text, member_of, run}
+use Rattle.lpis_wkt.proofs.Common.{AfterBody, AtEnd, Finished, open_text, member_of, run}
 use Rattle.lpis_wkt.specs.Table.{RingSoFar, EndsWith}
 use Rattle.lpis_wkt.proofs.PointLemmas.{ok-coordinate}
 use Rattle.lpis_wkt.proofs.StepLemmas.{then-ok, Goes, goes, takes_keyword, opens_text, opens_body, opens_ring, takes_x, takes_y, closes_ring, next_point, closes_body, next_ring, closes_text}
