@@ -1,6 +1,7 @@
 -- Lists of faults, one element more.
-use Rattle.std.proofs.Common.{◌≡◌, ◌∙◌, ◌<◌, ◌+◌, ◌⊎◌, inl, inr, refl, sym, ap, subst, arith, ℕ, zero, suc, List, [], ◌∷◌, ◌++◌, length, Bool, true, false, Option, None, Some, take, drop, get_or}
-use Rattle.std.proofs.Common.{◌&&◌, ◌||◌, not, is_some}
+use Rattle.std.proofs.Common.{◌≡◌, ◌∙◌, ◌<◌, ◌+◌, ◌⊎◌, inl, inr, refl, sym, ap, subst, ℕ, suc, List, [], ◌∷◌, ◌++◌, length, Bool, true, false, Option, None, Some, take, drop, get_or}
+use Rattle.std.proofs.Common.{◌&&◌, ◌||◌, not, is_some, add-one, drop-cons}
+use Rattle.std.proofs.lemmas.List.{take_more}
 use Rattle.lpis_lineage.proofs.Common.{list_any, Row, Entry, LineageFault, has_id, ended, succeeded, is_of, last_live, same_row, fault_before, clashes, faults, row_faults, dropped_faults, used_faults}
 use Rattle.lpis_lineage.proofs.Common.{first}
 use Rattle.lpis_lineage.specs.declared.fault.LineageFault.TheVariants.{Memory, OldNotLive, OldStillLive, SuccessorMissing, DoubledRow, EndingBesideSuccessor, NoRow}
@@ -34,18 +35,10 @@ first-append [] ys e h = cc h
 first-append (x ∷ xs) ys e h = h
 
 pub drop-at : {A : Type 0} (xs : List A) (i : ℕ) (x : A) → i < length xs → x ≡ get_or xs i x → drop i xs ≡ x ∷ drop (i + 1) xs
-drop-at {A = A} xs i x lt is = by xs i x lt ∙ ap (λ (y : A). y ∷ drop (suc i) xs) (sym is) ∙ (let n : suc i ≡ i + 1 = omega arith in ap (λ (k : ℕ). x ∷ drop k xs) n) where
-  by : {A : Type 0} (xs : List A) (i : ℕ) (d : A) → i < length xs → drop i xs ≡ get_or xs i d ∷ drop (suc i) xs
-  by [] i d lt = absurd (omega arith)
-  by (x ∷ xs) zero d lt = refl
-  by (x ∷ xs) (suc i) d lt = by xs i d (omega arith)
+drop-at {A} xs i x lt is = rw add-one (drop-cons xs i x lt ∙ ap (λ (y : A). y ∷ drop (suc i) xs) (sym is))
 
 pub take-at : {A : Type 0} (xs : List A) (i : ℕ) (x : A) → i < length xs → x ≡ get_or xs i x → take i xs ++ x ∷ [] ≡ take (i + 1) xs
-take-at {A = A} xs i x lt is = ap (λ (y : A). take i xs ++ y ∷ []) is ∙ by xs i x lt ∙ (let n : suc i ≡ i + 1 = omega arith in ap (λ (k : ℕ). take k xs) n) where
-  by : {A : Type 0} (xs : List A) (i : ℕ) (d : A) → i < length xs → take i xs ++ get_or xs i d ∷ [] ≡ take (suc i) xs
-  by [] i d lt = absurd (omega arith)
-  by (x ∷ xs) zero d lt = refl
-  by {A = A} (x ∷ xs) (suc i) d lt = ap (λ (l : List A). x ∷ l) (by xs i d (omega arith))
+take-at {A} xs i x lt is = ap (λ (y : A). take i xs ++ y ∷ []) is ∙ sym (take_more xs i x lt)
 
 -- the rows, one further
 pub rows-step : (last live : List (List ℕ)) (rows : List Row) (i k : ℕ) (r : Row) → i < length rows → r ≡ get_or rows i r → faults_of_row last live (take i rows) k r [] ≡ []
