@@ -6,53 +6,9 @@ use lpis_checker::{Yes, check};
 use lpis_lineage::{Entry, History, Row, read_rows};
 use lpis_pairs::AllPairs;
 use lpis_parcels::{Release, read_release};
+use lpis_testing::{CLASSES, LEFT, PARCELS_CERT, RIGHT, SQUARE, SQUARE_CERT};
 use std::alloc::{AllocError, Global};
 use std::test::Fail;
-
-static SQUARE_PARCELS: &str = "parcel,wkt
-A,\"POLYGON((0 0,10 0,10 10,0 10,0 0))\"
-";
-
-static SQUARE_COVERS: &str = "piece,parcel,class,wkt
-S,A,G,\"POLYGON((0 0,10 0,10 10,0 10,0 0))\"
-";
-
-static SQUARE_CERT: &str = "lpis-cert 1
-piece S 2 0
-t 0 0 1000 0 1000 1000
-t 0 0 1000 1000 0 1000
-parcel A 0
-pairs 1
-s 0 1 2
-end
-";
-
-static HALVES_PARCELS: &str = "parcel,wkt
-B,\"POLYGON((0 0,5 0,5 10,0 10,0 0))\"
-C,\"POLYGON((5 0,10 0,10 10,5 10,5 0))\"
-";
-
-static HALVES_COVERS: &str = "piece,parcel,class,wkt
-L,B,G,\"POLYGON((0 0,5 0,5 10,0 10,0 0))\"
-R,C,G,\"POLYGON((5 0,10 0,10 10,5 10,5 0))\"
-";
-
-static HALVES_CERT: &str = "lpis-cert 1
-piece L 2 0
-t 0 0 500 0 500 1000
-t 0 0 500 1000 0 1000
-piece R 2 0
-t 500 0 1000 0 1000 1000
-t 500 0 1000 1000 500 1000
-parcel B 0
-parcel C 0
-pairs 2
-s 0 1 2
-s 2 3 2
-end
-";
-
-static CLASSES: &str = "class,eligible\nG,1\n";
 
 /// The history before the first release.
 pub(super) static NO_YEAR: &str = "";
@@ -73,21 +29,24 @@ pub(super) struct Publication<'a> {
 }
 
 /// The release of these tables.
-fn release(alloc: Global, parcels: &str, covers: &str) -> Result<Release, Fail> {
-    let parcels = Vec::from_slice(alloc, parcels.as_bytes())?;
-    let covers = Vec::from_slice(alloc, covers.as_bytes())?;
+fn release(alloc: Global, parcels: String, covers: String) -> Result<Release, Fail> {
     let classes = Vec::from_slice(alloc, CLASSES.as_bytes())?;
-    Ok(read_release(alloc, parcels, covers, classes)?)
+    Ok(read_release(alloc, parcels.into_bytes(), covers.into_bytes(), classes)?)
 }
 
 /// The release of the square.
 pub(super) fn square(alloc: Global) -> Result<Release, Fail> {
-    release(alloc, SQUARE_PARCELS, SQUARE_COVERS)
+    let parcels = format!(in alloc; "parcel,wkt\nA,\"{SQUARE}\"\n")?;
+    let covers = format!(in alloc; "piece,parcel,class,wkt\nC1,A,G,\"{SQUARE}\"\n")?;
+    release(alloc, parcels, covers)
 }
 
 /// The release of its halves.
 pub(super) fn halves(alloc: Global) -> Result<Release, Fail> {
-    release(alloc, HALVES_PARCELS, HALVES_COVERS)
+    let parcels = format!(in alloc; "parcel,wkt\nB,\"{LEFT}\"\nC,\"{RIGHT}\"\n")?;
+    let pieces = format!(in alloc; "b1,B,G,\"{LEFT}\"\nc1,C,G,\"{RIGHT}\"\n")?;
+    let covers = format!(in alloc; "piece,parcel,class,wkt\n{pieces}")?;
+    release(alloc, parcels, covers)
 }
 
 /// The square in 2024, with no rows.
@@ -103,7 +62,7 @@ pub(super) fn halves_in_2025<'a>(
     alloc: Global,
     halves: &'a Release,
 ) -> Result<Publication<'a>, Fail> {
-    prepared(alloc, 2025, halves, HALVES_CERT, "old,new\nA,B\nA,C\n")
+    prepared(alloc, 2025, halves, PARCELS_CERT, "old,new\nA,B\nA,C\n")
 }
 
 /// The halves in 2026, which keeps both.
@@ -111,7 +70,7 @@ pub(super) fn halves_in_2026<'a>(
     alloc: Global,
     halves: &'a Release,
 ) -> Result<Publication<'a>, Fail> {
-    prepared(alloc, 2026, halves, HALVES_CERT, "old,new\n")
+    prepared(alloc, 2026, halves, PARCELS_CERT, "old,new\n")
 }
 
 /// A release with its year, its certificate's text and its table of lineage.
