@@ -1,3 +1,4 @@
+pub mod GroupLemmas
 pub mod Common
 pub mod JoinLemmas
 pub mod PlaceLemmas

@@ -34,7 +34,7 @@ pub fn eligible2(release: &Release, parcel: &Id) -> i128
     let _ = release.pieces();
     let mut sum = 0;
     for place in release.places_of(parcel) {
-        sum += eligible_part(release, *place);
+        sum += eligible_part(release, *place as usize);
     }
     sum
 }

@@ -13,6 +13,7 @@ ghost use Rattle.lpis_parcels.specs.Release.{unknown_faults};
 ghost use Rattle.lpis_parcels.specs.private.Groups.{Refuses, empty_faults};
 ghost use Rattle.lpis_parcels.specs.private.Joined.{AreJoins, group_lists};
 
+use crate::groups::Groups;
 use crate::parcel::Parcels;
 use lpis_covers::{Classes, Piece, Pieces, Table, TableCode, TableFault};
 use std::alloc::{AllocError, Global};
@@ -20,8 +21,15 @@ use std::alloc::{AllocError, Global};
 /// The places of each parcel's pieces, and of each piece's class.
 #[derive(Drop)]
 pub(crate) struct Joins {
-    pub groups: Vec<Vec<usize>>,
+    pub groups: Groups,
     pub classes: Vec<usize>,
+}
+
+/// The same while the pieces are gone over.
+#[derive(Drop)]
+struct Gathered {
+    groups: Vec<Vec<u32>>,
+    classes: Vec<usize>,
 }
 
 /// A fault in a row of a table.
@@ -60,7 +68,7 @@ fn joined_places(
 }
 
 /// So many empty groups.
-fn empty_groups(alloc: Global, count: usize) -> Result<Vec<Vec<usize>>, AllocError>
+fn empty_groups(alloc: Global, count: usize) -> Result<Vec<Vec<u32>>, AllocError>
     ensures { IfOk result (λ groups. group_lists groups.items ≡ replicate count []) }
 {
     let mut groups = Vec::with_capacity(alloc, count)?;
@@ -71,7 +79,7 @@ fn empty_groups(alloc: Global, count: usize) -> Result<Vec<Vec<usize>>, AllocErr
 }
 
 /// Adds a place to a group.
-fn add_to_group(groups: &mut Vec<Vec<usize>>, group: usize, place: usize) -> Result<(), AllocError>
+fn add_to_group(groups: &mut Vec<Vec<u32>>, group: usize, place: u32) -> Result<(), AllocError>
     requires { group < vec_len groups.old }
     ensures { OnOk result (group_lists groups.new.items ≡ slice_set (group_lists groups.old.items)
         group (slice_index_or (group_lists groups.old.items) group [] ++ place ∷ [])) }
@@ -86,7 +94,7 @@ fn join_pieces(
     parcels: &Parcels,
     pieces: &Pieces,
     classes: &Classes,
-) -> Result<Joins, TableFault>
+) -> Result<Gathered, TableFault>
     requires { IsDistinct same_id (class_codes classes.now) }
     ensures none { IfOk result (λ _. reference_faults parcels.now classes.now 1 pieces.now ≡ []) }
     ensures joins { IfOk result
@@ -98,17 +106,17 @@ fn join_pieces(
     let mut class_places = Vec::new(alloc);
     for (i, piece) in pieces.as_slice().iter().enumerate() {
         let (parcel, class) = joined_places(parcels, classes, piece, i as u32 + 1)?;
-        add_to_group(&mut groups, parcel, i)?;
+        add_to_group(&mut groups, parcel, i as u32)?;
         class_places.push(class)?;
     }
-    Ok(Joins {
+    Ok(Gathered {
         groups,
         classes: class_places,
     })
 }
 
 /// Looks for a parcel without pieces.
-fn check_groups(groups: &[Vec<usize>]) -> Result<(), TableFault>
+fn check_groups(groups: &[Vec<u32>]) -> Result<(), TableFault>
     requires { length groups.now ≤ most_rows }
     ensures { Answers result (unless_faulty (empty_faults 1 (group_lists groups.now)) tt) }
 {
@@ -128,8 +136,7 @@ pub(crate) fn join(
     classes: &Classes,
 ) -> Result<Joins, TableFault>
     ensures joins { IfOk result
-        (λ j. AreJoins parcels.now pieces.now classes.now (group_lists j.groups.items)
-        j.classes.items) }
+        (λ j. AreJoins parcels.now pieces.now classes.now j.groups j.classes.items) }
     ensures none { IfOk result
         (λ _. join_faults
         (record { parcels = parcels.now; pieces = pieces.now; classes = classes.now }) ≡ []) }
@@ -141,7 +148,10 @@ pub(crate) fn join(
     // No two classes have one code, and the parcels are not too many.
     let _ = classes.as_slice();
     let _ = parcels.as_slice();
-    let joins = join_pieces(alloc, parcels, pieces, classes)?;
-    check_groups(&joins.groups)?;
-    Ok(joins)
+    let gathered = join_pieces(alloc, parcels, pieces, classes)?;
+    check_groups(&gathered.groups)?;
+    Ok(Joins {
+        groups: Groups::of(alloc, &gathered.groups)?,
+        classes: gathered.classes,
+    })
 }

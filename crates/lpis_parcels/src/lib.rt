@@ -2,6 +2,7 @@
 #![tactic(auto)]
 
 mod eligible;
+mod groups;
 mod joins;
 mod parcel;
 mod pieces;

@@ -13,7 +13,7 @@ use std::marker::Model;
 #[derive(Drop)]
 pub struct PiecesOf<'a> {
     pieces: &'a [Piece],
-    places: &'a [usize],
+    places: &'a [u32],
 }
 
 impl<'a> Model for PiecesOf<'a> {
@@ -29,11 +29,11 @@ impl<'a> Model for PiecesOf<'a> {
 }
 
 /// The piece at a place.
-fn piece_at(pieces: &[Piece], place: usize) -> &Piece
+fn piece_at(pieces: &[Piece], place: u32) -> &Piece
     requires { place < length pieces.now }
     ensures { slice_get pieces.now place ≡ Some result.now }
 {
-    &pieces[place]
+    &pieces[place as usize]
 }
 
 impl<'a> Iterator for PiecesOf<'a> {

@@ -26,7 +26,7 @@ pub struct Release {
 
 impl Model for Release {
     ghost use Rattle.lpis_parcels.specs.Release.{Contents};
-    ghost use Rattle.lpis_parcels.specs.private.Joined.{IsRelease, group_lists};
+    ghost use Rattle.lpis_parcels.specs.private.Joined.{IsRelease};
 
     ghost Value = { Contents };
 
@@ -35,7 +35,7 @@ impl Model for Release {
 
     ghost invariant = { λ r. IsRelease
         (record { parcels = r.parcels; pieces = r.pieces.items; classes = r.classes })
-        (group_lists r.joins.groups.items) r.joins.classes.items };
+        r.joins.groups r.joins.classes.items };
 }
 
 impl Release {
@@ -93,13 +93,13 @@ impl Release {
     }
 
     /// The places of a parcel's pieces.
-    pub(crate) fn places_of(&self, parcel: &Id) -> &[usize]
+    pub(crate) fn places_of(&self, parcel: &Id) -> &[u32]
         ensures places { result.now ≡ places_where (names parcel.now) 0 self.now.pieces }
         ensures within { All (λ i. i < length self.now.pieces) result.now }
         ensures few { length result.now ≤ length self.now.pieces }
     {
         match self.parcels.position(parcel) {
-            Some(place) => self.joins.groups[place].as_slice(),
+            Some(place) => self.joins.groups.get(place),
             None => &[],
         }
     }

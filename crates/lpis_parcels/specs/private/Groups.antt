@@ -1,11 +1,12 @@
 -- The places of items, and what the joins' steps tell.
 use Rattle.std.specs.Prelude.{◌+◌, ◌∷◌, ◌++◌, Bool, true, false, ℕ, List, [], slice_get}
-use Rattle.std.specs.Prelude.{option_to_list, Err, if◌then◌else◌}
+use Rattle.std.specs.Prelude.{option_to_list, Err, if◌then◌else◌, ◌≤◌, length, map, slice_range}
 use Rattle.lpis_covers.specs.declared.fault.Table.TheVariants as table
 use Rattle.lpis_covers.specs.declared.fault.TableCode.TheVariants.{ParcelWithoutPieces}
 use Rattle.lpis_covers.specs.declared.fault.TableFault.{TableFault}
 use Rattle.lpis_covers.specs.Faults.{fault_if, unless_faulty}
 use Rattle.lpis_covers.specs.Table.{Answers, fault_at}
+use Rattle.lpis_parcels.specs.declared.groups.Bounds.{Bounds}
 
 -- the places of the items that pass a test, the first item at place i
 abbrev pub places_where : {A : Type 0} → (A → Bool) → ℕ → List A → List ℕ
@@ -17,6 +18,14 @@ places_where test i (x ∷ xs) = if test x then i ∷ places_where test (i + 1) 
 abbrev pub at_places : {A : Type 0} → List A → List ℕ → List A
 at_places xs [] = []
 at_places xs (i ∷ is) = option_to_list (slice_get xs i) ++ at_places xs is
+
+-- groups of places that stand in one list
+abbrev pub groups_in : List ℕ → List Bounds → List (List ℕ)
+groups_in places bounds = map (λ (b : Bounds). slice_range places b.start b.end) bounds
+
+-- bounds of a group that is in the list
+abbrev pub IsWithin : List ℕ → Bounds → Type 0
+IsWithin places b = (b.start ≤ b.end) × (b.end ≤ length places)
 
 -- the fault is the first of these, or memory ran out
 abbrev pub Refuses : List TableFault → TableFault → Type 0

@@ -1,22 +1,22 @@
-use Rattle.std.proofs.Common.{◌∙◌, ◌<◌, length, sym, ap, is_some}
-use Rattle.lpis_parcels.proofs.Common.{length-map, group_lists, Contents, names, places_where}
-use Rattle.lpis_parcels.proofs.JoinLemmas.{group-within, list-at}
+use Rattle.std.proofs.Common.{◌∙◌, sym, ap, is_some}
+use Rattle.lpis_parcels.proofs.Common.{Contents, names, places_where}
+use Rattle.lpis_parcels.proofs.JoinLemmas.{group-within}
 use Rattle.lpis_parcels.proofs.PlaceLemmas.{few-places, first-faults, group-places, stranger-none, within-places}
 use Rattle.lpis_parcels.proofs.release.Release.places_of.Goals as goal
 
+pub get-requires : goal.get-requires
+get-requires c = group-within c.self.inside.parcels _ c.self.inside.joins.groups _ c.in-Some.place c.self.invariant.joins.groups_are c.in-Some.ensures.at_place
+
 pub returns-in-Some-clause-places : goal.returns-in-Some-clause-places
 returns-in-Some-clause-places c =
-    let groups = c.self.inside.joins.groups.items in
-    let within : c.in-Some.place < length (group_lists groups) = group-within c.self.inside.parcels _
-    (group_lists groups) _ c.in-Some.place c.self.invariant.joins.groups_are c.in-Some.ensures.at_place in
-    c.as_slice.ensures.value ∙ sym (list-at (λ g. g.items) groups c.in-Some.place c.index.result.now (simp length-map at within) c.index.ensures)
-    ∙ group-places _ c.args.self.now (group_lists groups) c.args.parcel.now c.in-Some.place c.self.view_is c.self.invariant.joins.groups_are c.in-Some.ensures.at_place
+    c.get.ensures
+    ∙ group-places _ c.args.self.now c.self.inside.joins.groups c.args.parcel.now c.in-Some.place c.self.view_is c.self.invariant.joins.groups_are c.in-Some.ensures.at_place
 
 pub returns-in-Some-clause-within : goal.returns-in-Some-clause-within
-returns-in-Some-clause-within c = within-places (names c.args.parcel.now) c.args.self.now.pieces c.as_slice.result.now (returns-in-Some-clause-places c)
+returns-in-Some-clause-within c = within-places (names c.args.parcel.now) c.args.self.now.pieces c.get.result.now (returns-in-Some-clause-places c)
 
 pub returns-in-Some-clause-few : goal.returns-in-Some-clause-few
-returns-in-Some-clause-few c = few-places (names c.args.parcel.now) c.args.self.now.pieces c.as_slice.result.now (returns-in-Some-clause-places c)
+returns-in-Some-clause-few c = few-places (names c.args.parcel.now) c.args.self.now.pieces c.get.result.now (returns-in-Some-clause-places c)
 
 pub returns-in-None-clause-places : goal.returns-in-None-clause-places
 returns-in-None-clause-places c =
