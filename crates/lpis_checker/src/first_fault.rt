@@ -1,6 +1,6 @@
 //! The fault that is told: the condition of the lowest code that fails, with its first place.
 
-ghost use Rattle.std.specs.Prelude.{◌≡◌, ◌+◌, IfOk, MatchOption};
+ghost use Rattle.std.specs.Prelude.{◌≡◌, ◌+◌, IfOk, MatchOption, length, sum_by};
 ghost use Rattle.lpis_pairs.specs.NearPairs.{IsNearList};
 ghost use Rattle.lpis_checker.specs.Codes.{code_of};
 ghost use Rattle.lpis_checker.specs.FirstFault.{HoldBelow, parcel_id as parcel_id_spec};
@@ -158,11 +158,19 @@ fn pair_fault(
     failing_line(release, cert, triangles, Condition::Separating)
 }
 
+/// How many triangles a certificate has.
+fn triangle_count(cert: &Cert) -> usize
+    ensures { result ≡ sum_by (λ part. length part.triangles) cert.now.pieces }
+{
+    let parts = cert.pieces.as_slice().iter();
+    parts.map(|part| part.triangles.as_slice().len()).sum()
+}
+
 /// The triangles of a certificate, in the order of their numbers.
 fn numbered(alloc: Global, cert: &Cert) -> Result<Vec<Triangle>, AllocError>
     ensures { IfOk result (λ v. v.items ≡ triangles_of cert.now.pieces) }
 {
-    let mut triangles = Vec::new(alloc);
+    let mut triangles = Vec::with_capacity(alloc, triangle_count(cert))?;
     for part in cert.pieces.as_slice() {
         triangles.extend_from_slice(part.triangles.as_slice())?;
     }
