@@ -1,9 +1,9 @@
 -- The joins, a row at a time.
 use Rattle.std.proofs.Common.{◌≡◌, ◌<◌, ◌+◌, ◌++◌, ◌∷◌, [], ℕ, zero, suc, List, length, map, take, drop, get_or, set, replicate, Bool, true, false, not, cond, Option, Some, None, Ok, Err, refl, sym}
 use Rattle.std.proofs.Common.{ap, ◌∙◌, arith, add-one, drop-cons, ◌||◌, is_some, slice_get}
-use Rattle.lpis_parcels.proofs.Common.{length-map, Class, Piece, Parcel, places_where, names, reference_faults}
+use Rattle.lpis_parcels.proofs.Common.{Class, Piece, Parcel, places_where, names, reference_faults}
 use Rattle.std.specs.List.{IsDistinct, list_any, AllByRecursion}
-use Rattle.std.proofs.lemmas.List.{map-append, take_more, length-take-le, get_or-map}
+use Rattle.std.proofs.lemmas.List.{length-map, map-append, take_more, length-take-le, get_or-map}
 use Rattle.std.proofs.lemmas.Option.{slice_get_within, get_or_from_slice_get}
 use Rattle.lpis_covers.proofs.Shared.{column-fault}
 use Rattle.lpis_parcels.specs.private.Joined.{AreJoins}

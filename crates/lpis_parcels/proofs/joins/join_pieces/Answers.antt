@@ -1,5 +1,6 @@
 use Rattle.std.proofs.Common.{◌≡◌, ◌∙◌, ◌<◌, ◌+◌, [], List, Some, refl, ap, subst, arith, length, replicate, slice_get}
-use Rattle.lpis_parcels.proofs.Common.{length-map, slice_get_read, Piece, Parcel, group_lists}
+use Rattle.lpis_parcels.proofs.Common.{slice_get_read, Piece, Parcel, group_lists}
+use Rattle.std.proofs.lemmas.List.{length-map}
 use Rattle.lpis_parcels.proofs.JoinLemmas.{group-within, joins-more, joins-none, pieces-more}
 use Rattle.lpis_parcels.proofs.joins.join_pieces.Goals as goal
 
