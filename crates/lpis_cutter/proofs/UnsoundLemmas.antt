@@ -1,5 +1,5 @@
 -- A release of which a point is told is not sound everywhere.
-use Rattle.std.proofs.Common.{◌≡◌, ℕ, zero, suc, ℤ, pos, ◌<ℤ◌, Bool, true, false, cond, List, [], ◌∷◌, Some, Result, Ok, Err, IfErr, inl, inr, ◌⊎◌, ◌↔◌, filter, ap, sym, refl, ◌∙◌, subst, arith, All}
+use Rattle.std.proofs.Common.{◌≡◌, ℕ, zero, suc, pos, ◌<ℤ◌, Bool, true, false, cond, List, [], ◌∷◌, Some, Result, Ok, Err, IfErr, inl, inr, ◌⊎◌, ◌↔◌, filter, ap, sym, refl, ◌∙◌, subst, arith, All}
 use Rattle.std.proofs.Common.{slice_get, Any}
 use Rattle.lpis_cutter.proofs.Common.{rational_of, Piece, pieces_named, IsInPiece}
 use Rattle.std.specs.Prelude.{Contains as IsAmong}
@@ -17,9 +17,9 @@ use Rattle.lpis_checker.specs.GoodCertificate.{IsGood}
 use Rattle.lpis_checker.specs.Laws.{GoodMeansSound}
 use Rattle.lpis_checker.specs.SoundMap.{AtMostOne, ExactlyOne, IsInParcel, IsSoundEverywhere}
 use Rattle.lpis_checker.proofs.Shared.{Found, any_found, all_at, filter_kept}
-use Rattle.lpis_cutter.specs.declared.fault.Refusal.TheVariants.{NoCut, ParcelsOverlap, PiecesOverlap, NoSeparator, Disagreement, NoFlats}
+use Rattle.lpis_cutter.specs.declared.fault.Refusal.TheVariants.{ParcelsOverlap, PiecesOverlap, Disagreement}
 use Rattle.lpis_cutter.specs.declared.fault.CutFault.{CutFault}
-use Rattle.lpis_cutter.specs.declared.fault.CutFault.TheVariants.{Memory, Refused}
+use Rattle.lpis_cutter.specs.declared.fault.CutFault.TheVariants.{Refused}
 use Rattle.lpis_cutter.specs.Refusals.{ParcelsShare, PiecesShare, Disagrees, RefusesRightly, HasPoint}
 
 -- an item that is among others has a place

@@ -79,7 +79,7 @@ fn triangles_of(alloc: Global, list: &[(Point, Point)]) -> Result<Vec<Triangle>,
 }
 
 /// The triangles of a fan: fewer than it has points. `None` where the polygon is no fan.
-#[tactic(auto, using(crate::proofs::FanLemmas::edges_few))]
+#[tactic(auto, using(lpis_rings::proofs::Shared::edges_few))]
 pub(crate) fn fan_of(alloc: Global, polygon: &Polygon) -> Result<Option<Vec<Triangle>>, AllocError>
     ensures { IfOk result (λ o. IsFan polygon.now
         → MatchOption o ⊥ (λ triangles. length triangles.items ≤ points_of polygon.now)) }

@@ -53,7 +53,7 @@ fn is_small(cut: &Cut, most: usize) -> bool
 
 /// The cut of a polygon; `None` where none is found. A fan has one of no more triangles and flats
 /// than points: its own, where the sweep finds none so small.
-#[tactic(auto, using(crate::proofs::FanLemmas::edges_few))]
+#[tactic(auto, using(lpis_rings::proofs::Shared::edges_few))]
 pub(crate) fn cut_of(cutter: &mut Cutter, polygon: &Polygon) -> Result<Option<Cut>, AllocError>
     ensures triangles { IfOk result (λ o. IsFan polygon.now
         → MatchOption o ⊥ (λ cut. length cut.triangles.items ≤ points_of polygon.now)) }
