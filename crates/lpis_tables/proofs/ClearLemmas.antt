@@ -6,29 +6,22 @@ use Rattle.lpis_tables.proofs.Common.{has_spans, has_live, span_tree, span_place
 use Rattle.sqlite.specs.Command.TheVariants.{Delete}
 use Rattle.sqlite.specs.Edit.{without_all}
 use Rattle.sqlite.specs.Does.{AtPlace, OnRows}
-use Rattle.sqlite.specs.Effect.{IsDatabase, Answers}
+use Rattle.sqlite.specs.Effect.{IsDatabase}
 use Rattle.sqlite.specs.Rows.{Written, Edited, Task}
 use Rattle.sqlite.specs.State.{Executes}
-use Rattle.sqlite_schema.specs.declared.schema.Keys.{Keys}
 use Rattle.lpis_tables.specs.Tables.{live_table}
 use Rattle.lpis_tables.specs.private.Texts.{clear_span, clear_live}
 use Rattle.lpis_tables.proofs.MeaningLemmas.{in_each, Says, whole, ids_query, clear_span_means, clear_live_means}
 use Rattle.lpis_tables.proofs.UpdateLemmas.{without_is, filter_same, gone_are, key_of}
 use Rattle.lpis_tables.proofs.PartLemmas.{far, span_not_live, keeps_there, there_keeps, formats_kept, years_kept, spans_kept, lines_kept, own_spans, spans_changed}
 use Rattle.lpis_tables.proofs.InsertLemmas.{inside_next, span_stands}
-use Rattle.lpis_tables.proofs.WriteLemmas.{went, same_value, step_of, Kept, kept_of}
-
-pub record Clearing (schema : Schema) (keys : Keys) (trees : Trees) (table : Table) (q : Program) (params : Row) (after : Database) : Type 0 where
-  pub found : List Row
-  pub answer : Answers (record { schema = schema; trees = trees }) q params found
-  pub schema_is : after.schema ≡ schema
-  pub edited : Edited schema keys trees (edit_of trees table (ids_of found) Given 0 []) (Ok after.trees)
+use Rattle.lpis_tables.proofs.WriteLemmas.{Finding, went, same_value, step_of, Kept, kept_of}
 
 -- DELETE is one query and one step
 pub deletes : (limit : Option ℕ) (mode : Mode) (params : Row) (schema : Schema) (trees : Trees) (text : List ℕ) (place : ℕ) (table : Table) (q : Program) (tally : Tally) (after : Database)
     → slice_get schema.tables place ≡ Some table
     → Does limit mode params (record { schema = schema; trees = trees }) text None (Delete place q) (Ok (tally, after))
-    → Clearing schema mode.keys trees table q params after
+    → Finding schema mode.keys trees q params (λ rows. edit_of trees table (ids_of rows) Given 0 []) after
 deletes limit mode params schema trees text place table q tally after at h =
     let task : Table → Task = λ t. record { limit = limit; keys = mode.keys; schema = schema; table = t; params = params } in
     let done = went (subst (λ t. AtPlace (λ t. OnRows (task t) mode None (Delete place q) trees) t (Ok (tally, after))) at h) in

@@ -83,17 +83,18 @@ inserts limit mode params schema trees text place table terms width tally after 
           (sym (ap (λ (d : Database). d.trees) now ∙ trees_are ∙ moved)) step2,
     )
 
-pub record Finding (schema : Schema) (keys : Keys) (trees : Trees) (table : Table) (q : Program) (params : Row) (after : Database) : Type 0 where
+-- the rows that a query finds, and one edit by them
+pub record Finding (schema : Schema) (keys : Keys) (trees : Trees) (q : Program) (params : Row) (edit_by : List Row → Edit) (after : Database) : Type 0 where
   pub found : List Row
   pub answer : Answers (record { schema = schema; trees = trees }) q params found
   pub schema_is : after.schema ≡ schema
-  pub edited : Edited schema keys trees (edit_of trees table (ids_of found) Given 1 found) (Ok after.trees)
+  pub edited : Edited schema keys trees (edit_by found) (Ok after.trees)
 
 -- UPDATE is one query and one step
 pub updates : (limit : Option ℕ) (mode : Mode) (params : Row) (schema : Schema) (trees : Trees) (text : List ℕ) (place : ℕ) (table : Table) (q : Program) (tally : Tally) (after : Database)
     → slice_get schema.tables place ≡ Some table
     → Does limit mode params (record { schema = schema; trees = trees }) text None (Update place q) (Ok (tally, after))
-    → Finding schema mode.keys trees table q params after
+    → Finding schema mode.keys trees q params (λ rows. edit_of trees table (ids_of rows) Given 1 rows) after
 updates limit mode params schema trees text place table q tally after at h =
     let task : Table → Task = λ t. record { limit = limit; keys = mode.keys; schema = schema; table = t; params = params } in
     let done = went (subst (λ t. AtPlace (λ t. OnRows (task t) mode None (Update place q) trees) t (Ok (tally, after))) at h) in
