@@ -9,6 +9,7 @@ use Rattle.std.proofs.lemmas.Fmt.{decimal_digit, decimal_is_IsNumeral, first_dec
 use Rattle.std.proofs.lemmas.Str.Parse.{IsNumeralModel, numerals_by_value, tells_digits, digit_from_value}
 use Rattle.std.specs.Char.{digit_value, is_ascii_digit}
 use Rattle.std.specs.Str.Parse.{digits_value, digits_value_after, AllDigits}
+use Rattle.lpis_covers.proofs.Shared.{value-ge}
 use Rattle.lpis_cert.specs.declared.version.Version.{Version}
 use Rattle.lpis_cert.specs.Versions.{greatest, factor}
 use Rattle.lpis_cert.specs.Reading.{coordinate, minus, plus}
@@ -16,10 +17,6 @@ use Rattle.lpis_cert.specs.Reading.{coordinate, minus, plus}
 pub opened : {A : Type 0} (b : Bool) (x : Option A) (y : A) → cond b x None ≡ Some y → (b ≡ true) × (x ≡ Some y)
 opened true x y h = (refl, h)
 opened false x y h = absurd cc
-
-pub value-ge : (n : ℕ) (ds : List ℕ) → n ≤ digits_value_after 10 n ds
-value-ge n [] = omega arith
-value-ge n (d ∷ ds) = omega (arith, value-ge (n * 10 + digit_value d) ds)
 
 digit_yes : (d : ℕ) → digit_value d < 10 → is_ascii_digit d ≡ true
 digit_yes d h = let r = digit_from_value d h in grind (arith, nat_tests)

@@ -1,5 +1,5 @@
 -- How a read of a record takes the first of the records that are left.
-use Rattle.std.proofs.Common.{◌≡◌, ◌≤◌, ◌<◌, ◌+◌, ℕ, List, [], ◌∷◌, length, Option, Some, None, true, false, refl, ap, arith, Bool, zero, suc, add-one, ◌==◌, ◌&&◌, if◌then◌else◌}
+use Rattle.std.proofs.Common.{◌≡◌, ◌≤◌, ◌<◌, ◌+◌, ℕ, List, [], ◌∷◌, length, Option, Some, None, true, false, refl, ap, arith, Bool, suc, add-one, ◌==◌, ◌&&◌, if◌then◌else◌}
 use Rattle.lpis_covers.proofs.Common.{default_config}
 use Rattle.csv.specs.Machine.{Read, after_end, carriage_return, ends_at_end, ends_with, field_after, fields_after, in_field, is_byte, is_end, line_feed, next_record, start_field, start_record, step}
 use Rattle.csv.specs.Reading.{NextIs, ReadsNext, records_from, records_next}

@@ -1,15 +1,8 @@
 //! Worked tables, with their faults.
 
 use crate::{Id, Rows, Table, TableFault, read_classes, read_pieces, read_table};
+use lpis_testing::expect;
 use std::test::Fail;
-
-/// Fails unless the texts are one.
-fn expect(told: &str, wanted: &str) -> Result<(), Fail> {
-    if told == wanted {
-        return Ok(());
-    }
-    Err(Fail::new(format_args!("{told} in place of {wanted}")))
-}
 
 /// The code, the table and the row of a fault.
 fn line(rt: &HostRuntime, fault: &TableFault) -> Result<String, Fail> {

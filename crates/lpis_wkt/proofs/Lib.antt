@@ -14,3 +14,4 @@ pub mod RowLemmas
 pub mod OneCodeLemmas
 pub mod OutcomeLemmas
 pub mod ExactLemmas
+pub mod Shared
