@@ -32,7 +32,7 @@ pub one_more : (ts : List Triangle) (height : ℕ) (es : List Event) (n strip : 
     → EventsUpTo ts height (es ++ event height t n strip ∷ []) n (strip + 1)
 one_more ts height es n strip t at h = record {
   earlier = record {
-    only = All-push (IsEvent ts) es (event height t n strip) h.earlier.only (record { t = t; at = at; left = refl; right = refl });
+    only = All-push (IsEvent ts) es (event height t n strip) h.earlier.only (record { t = t; at = at; left = refl });
     all = λ i s u l f g k. Contains-append_left es _ _ (h.earlier.all i s u l f g k);
   };
   here = λ s u f l m. at_strip s u f l (grind arith);

@@ -39,8 +39,8 @@ at_strip ts height before es ps has moved join i j n s p q v w o = by_case (case
     y = stands es (event height n.u j s) (Contains-permutation before es (event height n.u j s) moved (has.all j s n.u n.at_j v w))
 
     by_case : (x.0 ≡ y.0) ⊎ ((x.0 < y.0) ⊎ (y.0 < x.0)) → Contains ps (i, j)
-    by_case (inr (inl l)) = (join x.0 y.0 l (event height n.t i s) (event height n.u j s) x.1 y.1 refl m.right o).0 n
-    by_case (inr (inr l)) = (join y.0 x.0 l (event height n.u j s) (event height n.t i s) y.1 x.1 refl m.left
+    by_case (inr (inl l)) = (join x.0 y.0 l (event height n.t i s) (event height n.u j s) x.1 y.1 refl (rw n.at_i m.right) o).0 n
+    by_case (inr (inr l)) = (join y.0 x.0 l (event height n.u j s) (event height n.t i s) y.1 x.1 refl (rw n.at_j m.left)
         (swapped (nat_eq s ((extent_of n.t).bottom / height)) (nat_eq s ((extent_of n.u).bottom / height)) o)).1 n
     by_case (inl e) =
         let g : slice_get es y.0 ≡ Some (event height n.t i s) = subst (λ (k : ℕ). slice_get es k ≡ Some (event height n.t i s)) e x.1 in

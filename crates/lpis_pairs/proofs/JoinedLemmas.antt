@@ -1,6 +1,7 @@
 -- The pairs that a sweep has joined so far.
 use Rattle.std.proofs.Common.{◌≡◌, ℕ, ◌+◌, ◌<◌, ◌≤◌, true, ◌||◌, List, [], length, Some, ◌⊎◌, inl, inr, ap, sym, ◌∙◌, subst, arith, Contains, slice_get}
 use Rattle.lpis_pairs.proofs.Common.{same_Some, slice_get_within, Triangle, Event, IsNear, AreInOrder, AreNear, Joins}
+use Rattle.lpis_pairs.specs.private.Sweeping.{right_end}
 use Rattle.std.proofs.lemmas.List.Elements.{All-nil}
 
 -- each pair of the first list is in the second
@@ -40,19 +41,19 @@ joined_next ts es old ps qs at m h k n j = record {
 -- the two events, as the code reads them
 pub joins_read : (ts : List Triangle) (es : List Event) (qs : List (ℕ × ℕ)) (at m : ℕ) (e f : Event)
     → slice_get es at ≡ Some e → slice_get es m ≡ Some f
-    → (e.strip ≡ f.strip → f.left < e.right → (e.starts || f.starts) ≡ true
+    → (e.strip ≡ f.strip → f.left < right_end (slice_get ts e.index) → (e.starts || f.starts) ≡ true
     → (IsNear ts e.index f.index → Contains qs (e.index, f.index))
     × (IsNear ts f.index e.index → Contains qs (f.index, e.index))) → Joins ts es qs at m
 joins_read ts es qs at m e f g h j = λ e' f' g' h'.
     rw (← same_Some e e' (sym g ∙ g'), ← same_Some f f' (sym h ∙ h')) j
 
-not_met : (e f e' f' : Event) → (e.strip ≡ f.strip → f.left < e.right → ⊥) → (e.strip < f.strip)
+not_met : (ts : List Triangle) (e f e' f' : Event) → (e.strip ≡ f.strip → f.left < right_end (slice_get ts e.index) → ⊥) → (e.strip < f.strip)
     ⊎ ((e.strip ≡ f.strip) × (e.left ≤ f.left)) → (f.strip < f'.strip) ⊎ ((f.strip ≡ f'.strip) × (f.left ≤ f'.left))
-    → e ≡ e' → e'.strip ≡ f'.strip → f'.left < e'.right → ⊥
-not_met e f e' f' stop l m o s r =
+    → e ≡ e' → e'.strip ≡ f'.strip → f'.left < right_end (slice_get ts e'.index) → ⊥
+not_met ts e f e' f' stop l m o s r =
     let p : e.strip ≡ e'.strip = ap (λ (x : Event). x.strip) o in
-    let q : e.right ≡ e'.right = ap (λ (x : Event). x.right) o in
-    stop (one e.strip f.strip e.left f.left f'.strip f'.left e'.strip l m p s) (two e.strip f.strip e.left f.left f'.strip f'.left e'.strip e.right e'.right l m p q s r)
+    let q : right_end (slice_get ts e.index) ≡ right_end (slice_get ts e'.index) = ap (λ (x : Event). right_end (slice_get ts x.index)) o in
+    stop (one e.strip f.strip e.left f.left f'.strip f'.left e'.strip l m p s) (two e.strip f.strip e.left f.left f'.strip f'.left e'.strip _ _ l m p q s r)
   where
     one : (s t a b s' b' u : ℕ) → (s < t) ⊎ ((s ≡ t) × (a ≤ b)) → (t < s') ⊎ ((t ≡ s') × (b ≤ b')) → s ≡ u → u ≡ s' → s ≡ t
     one s t a b s' b' u l m p e = grind arith
@@ -62,13 +63,13 @@ not_met e f e' f' stop l m o s r =
 
 -- where the event m is in another strip, or begins where the event `at` has ended, so does each behind it
 pub none_behind : (ts : List Triangle) (es : List Event) (qs : List (ℕ × ℕ)) (at m k : ℕ) (e f : Event) → AreInOrder es
-    → at < m → m ≤ k → slice_get es at ≡ Some e → slice_get es m ≡ Some f → (e.strip ≡ f.strip → f.left < e.right → ⊥)
+    → at < m → m ≤ k → slice_get es at ≡ Some e → slice_get es m ≡ Some f → (e.strip ≡ f.strip → f.left < right_end (slice_get ts e.index) → ⊥)
     → Joins ts es qs at k
 none_behind ts es qs at m k e f order l r g h stop = λ e' f' g' h' i j o. absurd (by_case e' f' g' h' i j (grind arith))
   where
-    by_case : (e' f' : Event) → slice_get es at ≡ Some e' → slice_get es k ≡ Some f' → e'.strip ≡ f'.strip → f'.left < e'.right → (m < k) ⊎ (k ≡ m) → ⊥
+    by_case : (e' f' : Event) → slice_get es at ≡ Some e' → slice_get es k ≡ Some f' → e'.strip ≡ f'.strip → f'.left < right_end (slice_get ts e'.index) → (m < k) ⊎ (k ≡ m) → ⊥
     by_case e' f' g' h' i j (inl s) =
-        not_met e f e' f' stop (order at m e f l g h) (order m k f f' s h h') (same_Some e e' (sym g ∙ g')) i j
+        not_met ts e f e' f' stop (order at m e f l g h) (order m k f f' s h h') (same_Some e e' (sym g ∙ g')) i j
     by_case e' f' g' h' i j (inr s) =
         let p = same_Some e e' (sym g ∙ g') in
         let q = same_Some f f' (sym h ∙ subst (λ (v : ℕ). slice_get es v ≡ Some f') s h') in
@@ -76,7 +77,7 @@ none_behind ts es qs at m k e f order l r g h stop = λ e' f' g' h' i j o. absur
 
 -- the walk ends at m, as nothing behind is met
 pub found_all : (ts : List Triangle) (es : List Event) (old qs : List (ℕ × ℕ)) (at m : ℕ) (e f : Event) → AreInOrder es
-    → at < m → slice_get es at ≡ Some e → slice_get es m ≡ Some f → (e.strip ≡ f.strip → f.left < e.right → ⊥)
+    → at < m → slice_get es at ≡ Some e → slice_get es m ≡ Some f → (e.strip ≡ f.strip → f.left < right_end (slice_get ts e.index) → ⊥)
     → JoinsUpTo ts es old qs at m → (k : ℕ) → at < k → Joins ts es qs at k
 found_all ts es old qs at m e f order l g h stop j k r = by_case (grind arith)
   where

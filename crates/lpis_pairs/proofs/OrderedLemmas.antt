@@ -9,13 +9,12 @@ use Rattle.std.proofs.lemmas.List.Sorted.{ranks_by, sorted_far}
 -- the derived order of events
 abbrev pub event_cmp : Event → Event → Ordering
 event_cmp e f =
-    ordering_then (nat_cmp e.strip f.strip) (ordering_then (nat_cmp e.left f.left) (ordering_then (nat_cmp e.right f.right) (ordering_then (nat_cmp e.index f.index) (bool_cmp e.starts f.starts))))
+    ordering_then (nat_cmp e.strip f.strip) (ordering_then (nat_cmp e.left f.left) (ordering_then (nat_cmp e.index f.index) (bool_cmp e.starts f.starts)))
 
 total : IsTotalOrder event_cmp
 total = then_total (on_total (λ (e : Event). e.strip) nat_cmp_total)
     (then_total (on_total (λ (e : Event). e.left) nat_cmp_total)
-    (then_total (on_total (λ (e : Event). e.right) nat_cmp_total)
-    (then_total (on_total (λ (e : Event). e.index) nat_cmp_total) (on_total (λ (e : Event). e.starts) bool_cmp_total))))
+    (then_total (on_total (λ (e : Event). e.index) nat_cmp_total) (on_total (λ (e : Event). e.starts) bool_cmp_total)))
 
 not_less : (s t a b : ℕ) (r : Ordering) → is_lt (ordering_then (nat_cmp t s) (ordering_then (nat_cmp b a) r)) ≡ false → (s < t) ⊎ ((s ≡ t) × (a ≤ b))
 not_less s t a b r e = grind (arith, nat_tests)

@@ -12,9 +12,8 @@ use std::alloc::{AllocError, Global};
 #[derive(Clone, Copy, Debug, PartialEq, Eq, PartialOrd, Ord)]
 pub struct Event {
     pub strip: u32,
-    /// Where the box begins, and where it ends.
+    /// Where the box begins.
     pub left: u32,
-    pub right: u32,
     /// The number of the triangle.
     pub index: u32,
     /// Whether this is the lowest strip that the box meets.
@@ -39,7 +38,6 @@ pub fn events_of(
             events.push(Event {
                 strip,
                 left: extent.left,
-                right: extent.right,
                 index: i as u32,
                 starts: strip == first,
             })?;

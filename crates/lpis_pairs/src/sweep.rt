@@ -5,7 +5,7 @@ ghost use Rattle.lpis_pairs.specs.NearPairs.{IsNear};
 ghost use Rattle.lpis_pairs.specs.private.Sweeping.{AreEvents, AreInOrder, AreNear, Joins};
 
 use crate::events::{Event, events_of};
-use crate::extents::strip_height;
+use crate::extents::{extent_of, strip_height};
 use crate::near::is_near;
 use crate::order::in_order;
 use crate::source::PairSource;
@@ -41,12 +41,13 @@ fn push_near(
     Ok(())
 }
 
-/// Whether the second event stands in the strip of the first, and begins before that ends.
-fn is_met(first: &Event, second: &Event) -> bool
+/// Whether the second event stands in the strip of the first, and begins before the first one's
+/// box ends.
+fn is_met(first: &Event, right: u32, second: &Event) -> bool
     ensures { IsTrue result
-        ↔ ((first.now.strip ≡ second.now.strip) × (second.now.left < first.now.right)) }
+        ↔ ((first.now.strip ≡ second.now.strip) × (second.now.left < right)) }
 {
-    first.strip == second.strip && second.left < first.right
+    first.strip == second.strip && second.left < right
 }
 
 /// Whether one of the two boxes starts in this strip: of the strips that both meet only the lowest.
@@ -73,9 +74,10 @@ fn join_ahead(
         at m) }
 {
     let first = &events[at];
+    let right = extent_of(&triangles[first.index as usize]).right;
     for m in at + 1..events.len() {
         let second = &events[m];
-        if !is_met(first, second) {
+        if !is_met(first, right, second) {
             return Ok(());
         }
         if one_starts(first, second) {

@@ -1,6 +1,6 @@
 -- Events of boxes in strips, and what a sweep over them finds.
 use Rattle.std.specs.Prelude.{◌≡◌, ℕ, ◌<◌, ◌≤◌, ◌/◌, ◌⊎◌, ◌||◌, nat_eq, true, List, All, Contains}
-use Rattle.std.specs.Prelude.{slice_get, Some}
+use Rattle.std.specs.Prelude.{slice_get, Option, None, Some}
 use Rattle.lpis_points.specs.declared.triangle.Triangle.{Triangle}
 use Rattle.lpis_pairs.specs.declared.events.Event.{Event}
 use Rattle.lpis_pairs.specs.NearPairs.{IsNear, IsBelow}
@@ -16,17 +16,15 @@ abbrev pub event : ℕ → Triangle → ℕ → ℕ → Event
 event height t i strip = record {
   strip = strip;
   left = (extent_of t).left;
-  right = (extent_of t).right;
   index = i;
   starts = nat_eq strip ((extent_of t).bottom / height);
 }
 
--- an event has the ends of its triangle's box
+-- an event begins where its triangle's box does
 pub record IsEvent (ts : List Triangle) (e : Event) : Type 0 where
   pub t : Triangle
   pub at : slice_get ts e.index ≡ Some t
   pub left : e.left ≡ (extent_of t).left
-  pub right : e.right ≡ (extent_of t).right
 
 abbrev pub AreEvents : List Triangle → List Event → Type 0
 AreEvents ts es = All (IsEvent ts) es
@@ -42,12 +40,17 @@ abbrev pub AreInOrder : List Event → Type 0
 AreInOrder es = (k m : ℕ) (e f : Event) → k < m → slice_get es k ≡ Some e → slice_get es m ≡ Some f
     → (e.strip < f.strip) ⊎ ((e.strip ≡ f.strip) × (e.left ≤ f.left))
 
+-- where the box of a triangle ends, if there is one
+abbrev pub right_end : Option Triangle → ℕ
+right_end None = 0
+right_end (Some t) = (extent_of t).right
+
 -- of two events of one strip, in which one of them starts, and the second of which begins before
--- the first ends, the near pair is listed
+-- the box of the first ends, the near pair is listed
 abbrev pub Joins : List Triangle → List Event → List (ℕ × ℕ) → ℕ → ℕ → Type 0
 Joins ts es ps k m =
     (e f : Event) → slice_get es k ≡ Some e → slice_get es m ≡ Some f → e.strip ≡ f.strip
-    → f.left < e.right → (e.starts || f.starts) ≡ true
+    → f.left < right_end (slice_get ts e.index) → (e.starts || f.starts) ≡ true
     → (IsNear ts e.index f.index → Contains ps (e.index, f.index))
     × (IsNear ts f.index e.index → Contains ps (f.index, e.index))
 

@@ -27,7 +27,7 @@ loop-strip-preserved c =
     let strip = c.loop-strip.strip in
     let t = c.index-triangles-i.result in
     let at = slice_get_read ts (length ts) i t refl c.loop-i-test.true c.index-triangles-i.is in
-    let made = ap (λ (s : Extent). es ++ record { strip = strip; left = s.left; right = s.right; index = i; starts = nat_eq strip (s.bottom / height) } ∷ []) c.extent_of-extent.ensures in
+    let made = ap (λ (s : Extent). es ++ record { strip = strip; left = s.left; index = i; starts = nat_eq strip (s.bottom / height) } ∷ []) c.extent_of-extent.ensures in
     let e : c.push.new.self.items ≡ es ++ event height t i strip ∷ [] = c.in_ok-push.ensures.items ∙ made in
     subst (λ (xs : List Event). EventsUpTo ts height xs i (strip + 1)) (sym e) (one_more ts height es i strip t at c.loop-strip.invariant)
 

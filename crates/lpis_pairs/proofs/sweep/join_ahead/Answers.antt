@@ -1,13 +1,15 @@
-use Rattle.std.proofs.Common.{◌≡◌, ℕ, ◌+◌, ◌<◌, Bool, IsTrue, true, false, ◌||◌, List, length, get_or, Vec, Global, sym, subst, arith}
+use Rattle.std.proofs.Common.{◌≡◌, ℕ, ◌+◌, ◌<◌, Bool, IsTrue, true, false, ◌||◌, List, length, get_or, Vec, Global, Some, refl, ap, sym, subst, arith, slice_get}
 use Rattle.lpis_pairs.proofs.Common.{slice_get_within, Triangle, Event, AreEvents, Joins}
-use Rattle.std.proofs.lemmas.Option.{slice_get-get_or}
+use Rattle.std.proofs.lemmas.Option.{slice_get-get_or, slice_get_read}
+use Rattle.lpis_pairs.specs.declared.extents.Extent.{Extent}
+use Rattle.lpis_pairs.specs.private.Sweeping.{right_end}
 use Rattle.lpis_pairs.proofs.JoinedLemmas.{JoinsUpTo, joined_next, joins_read, found_all, found_to_end}
 use Rattle.lpis_pairs.proofs.sweep.join_ahead.Goals.{then-one_starts+in_ok-push_near, else-one_starts}
 use Rattle.lpis_pairs.proofs.sweep.join_ahead.Goals as goal
 
 -- what the code reads past the end of the events
 none : Event
-none = record { strip = 0; left = 0; right = 0; index = 0; starts = false }
+none = record { strip = 0; left = 0; index = 0; starts = false }
 
 -- the number of an event is one of a triangle
 within : (ts : List Triangle) (es : List Event) (k : ℕ) (d : Event) → AreEvents ts es → k < length es → (get_or es k d).index < length ts
@@ -27,6 +29,9 @@ pub push_near-requires-clause-second : goal.push_near-requires-clause-second
 unfolding none
 push_near-requires-clause-second c = within c.args.triangles.now c.args.events.now c.loop-m.m none c.requires.events c.loop-m-test.true
 
+pub returns-in_err-push_near-clause-kept : goal.returns-in_err-push_near-clause-kept
+returns-in_err-push_near-clause-kept c = λ p h. c.push_near.ensures.kept p (c.loop-m.invariant.kept p h)
+
 pub returns-in_err-push_near-clause-near : goal.returns-in_err-push_near-clause-near
 returns-in_err-push_near-clause-near c = λ h. c.push_near.ensures.near (c.loop-m.invariant.near h)
 
@@ -36,10 +41,15 @@ returns-then-not-is_met-clause-found c =
     let es = c.args.events.now in
     let at = c.args.at in
     let m = c.loop-m.m in
-    found_all c.args.triangles.now es c.args.pairs.now.items c.loop-m.pairs.items at m (get_or es at none)
+    let ts = c.args.triangles.now in
+    let e = get_or es at none in
+    let t = c.index-triangles-first.result in
+    let read : slice_get ts e.index ≡ Some t = slice_get_read ts (length ts) e.index t refl (within ts es at none c.requires.events c.requires.within) c.index-triangles-first.is in
+    let right : right_end (slice_get ts e.index) ≡ c.extent_of-right.result.right = rw read (ap (λ (s : Extent). s.right) (sym c.extent_of-right.ensures)) in
+    found_all ts es c.args.pairs.now.items c.loop-m.pairs.items at m e
     (get_or es m none) c.requires.order (omega (arith, c.loop-m.auto.m))
     (slice_get-get_or es at none c.requires.within) (slice_get-get_or es m none c.loop-m-test.true)
-    (λ s l. untrue c.is_met.result c.if-not-is_met.true (c.is_met.ensures.1 (s, l))) c.loop-m.invariant
+    (λ s l. untrue c.is_met.result c.if-not-is_met.true (c.is_met.ensures.1 (s, subst (λ (n : ℕ). (get_or es m none).left < n) right l))) c.loop-m.invariant
 
 pub loop-m-preserved : goal.loop-m-preserved
 unfolding none
