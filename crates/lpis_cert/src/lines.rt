@@ -1,6 +1,6 @@
 //! Lines of one kind.
 
-ghost use Rattle.std.specs.Prelude.{◌≡◌, ℕ, [], ◌∷◌, ◌++◌, map, length, Some, None};
+ghost use Rattle.std.specs.Prelude.{◌≡◌, ℕ, [], ◌∷◌, map, length, Some, None};
 ghost use Rattle.std.specs.Prelude.{MatchResult, IfOk, IfErr};
 ghost use Rattle.lpis_cert.specs.CertText.{PairLine as separator_line, EndLine};
 ghost use Rattle.lpis_cert.specs.declared.kind.Expected.TheVariants.{One};

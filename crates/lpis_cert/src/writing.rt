@@ -1,6 +1,6 @@
 //! The text of a certificate.
 
-ghost use Rattle.std.specs.Prelude.{◌≡◌, ◌∷◌, [], ◌++◌, OnOk, length};
+ghost use Rattle.std.specs.Prelude.{◌++◌, OnOk, length};
 ghost use Rattle.std.specs.List.{flat_map};
 ghost use Rattle.std.specs.Io.KnownBytes.{Appends};
 ghost use Rattle.lpis_cert.specs.CertText.{PairLine as separator_line, PieceLine, ParcelLine};

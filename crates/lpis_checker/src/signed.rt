@@ -1,7 +1,7 @@
 //! Edges with their lesser point first and a sign, so that equal edges stand together once they are
 //! sorted.
 
-ghost use Rattle.std.specs.Prelude.{◌≡◌, ◌∷◌, [], OnOk, false};
+ghost use Rattle.std.specs.Prelude.{◌∷◌, [], OnOk, false};
 ghost use Rattle.lpis_points.specs.Triangles.{triangle_edges};
 ghost use Rattle.lpis_rings.specs.Edges.{edges_of};
 ghost use Rattle.lpis_rings.specs.Map.{edges_of_triangles};

@@ -1,7 +1,7 @@
 -- The answer to a release that is to be published: text and status, of the year, the bytes of the
 -- five inputs and the history before; and the history after.
 use Rattle.std.specs.Prelude.{◌≡◌, ◌≢◌, ◌<◌, ◌⊎◌, ◌++◌, if◌then◌else◌, nat_le, true, false, ℕ, List}
-use Rattle.std.specs.Prelude.{[], Option, Some, None, Ok}
+use Rattle.std.specs.Prelude.{Option, Some, None, Ok}
 use Rattle.std.specs.List.{list_any}
 use Rattle.std.specs.Io.KnownBytes.{Appends, Keeps}
 use Rattle.lpis_covers.specs.Faults.{rows_of}

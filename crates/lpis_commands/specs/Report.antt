@@ -1,5 +1,5 @@
 -- The report of a release.
-use Rattle.std.specs.Prelude.{◌++◌, ◌∷◌, [], ◌+ℤ◌, ℕ, ℤ, pos, List, codes, length}
+use Rattle.std.specs.Prelude.{◌++◌, ℕ, ℤ, List, codes, length}
 use Rattle.std.specs.Fmt.{decimal}
 use Rattle.std.specs.List.{flat_map}
 use Rattle.lpis_points.specs.Sums.{int_sum_by}

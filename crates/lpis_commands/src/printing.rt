@@ -1,6 +1,6 @@
 //! Printed areas.
 
-ghost use Rattle.std.specs.Prelude.{◌≡◌, ◌≤◌, ◌^◌, OnOk, nat_abs};
+ghost use Rattle.std.specs.Prelude.{◌≤◌, ◌^◌, OnOk, nat_abs};
 ghost use Rattle.std.specs.Io.KnownBytes.{Appends};
 ghost use Rattle.lpis_commands.specs.Area.{area_line, area_text};
 

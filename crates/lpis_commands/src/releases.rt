@@ -1,6 +1,6 @@
 //! The three tables of a release, and the release that they say.
 
-ghost use Rattle.std.specs.Prelude.{◌≡◌, IfErr, IfOk};
+ghost use Rattle.std.specs.Prelude.{IfErr, IfOk};
 ghost use Rattle.lpis_covers.specs.Table.{Answers};
 ghost use Rattle.lpis_parcels.specs.Release.{release_of};
 ghost use Rattle.lpis_commands.specs.Failures.{IsUnreadRelease};

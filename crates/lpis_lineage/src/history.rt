@@ -1,6 +1,6 @@
 //! Histories.
 
-ghost use Rattle.std.specs.Prelude.{◌≡◌, ◌<◌, ◌&&◌, ◌++◌, ◌∷◌, not, is_some, List, [], IfOk};
+ghost use Rattle.std.specs.Prelude.{◌≡◌, ◌<◌, ◌++◌, ◌∷◌, not, is_some, List, [], IfOk};
 ghost use Rattle.std.specs.Prelude.{IfSome, IfNone, OnOk, OnErr, false};
 ghost use Rattle.std.specs.List.{filter};
 ghost use Rattle.lpis_covers.specs.Ids.{has_id};

@@ -1,6 +1,6 @@
 //! Sets of identifiers.
 
-ghost use Rattle.std.specs.Prelude.{◌≡◌, ◌&&◌, not, ℕ, List, IfOk, OnOk, true, cond, [], ◌∷◌};
+ghost use Rattle.std.specs.Prelude.{◌≡◌, not, ℕ, List, IfOk, OnOk, true, cond, [], ◌∷◌};
 ghost use Rattle.std.specs.List.{filter};
 ghost use Rattle.lpis_covers.specs.Ids.{has_id, same_id};
 ghost use Rattle.lpis_lineage.specs.Order.{IsAscending};

@@ -1,6 +1,6 @@
 //! Spans: from which year to which year an identifier is live.
 
-ghost use Rattle.std.specs.Prelude.{◌≡◌, ◌≤◌, ◌+◌, ℕ, List, length, IfOk};
+ghost use Rattle.std.specs.Prelude.{◌≡◌, ◌≤◌, ℕ, List, length, IfOk};
 ghost use Rattle.std.specs.HashMap.{get, spare};
 ghost use Rattle.lpis_covers.specs.Ids.{has_id, same_id};
 ghost use Rattle.lpis_lineage.specs.private.Keeping.{begun, ended_in as ended, forgotten};

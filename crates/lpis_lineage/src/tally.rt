@@ -1,6 +1,6 @@
 //! Which identifiers a list has, and which more than once.
 
-ghost use Rattle.std.specs.Prelude.{◌≡◌, ◌++◌, ◌∷◌, ℕ, List, [], OnOk, IfOk};
+ghost use Rattle.std.specs.Prelude.{◌++◌, ◌∷◌, ℕ, List, [], OnOk, IfOk};
 ghost use Rattle.lpis_lineage.specs.Kinds.{heirs};
 ghost use Rattle.lpis_lineage.specs.private.Tally.{IsTally};
 

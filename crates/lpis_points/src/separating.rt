@@ -1,6 +1,6 @@
 //! Lines between triangles.
 
-ghost use Rattle.std.specs.Prelude.{◌≡◌, ◌↔◌, ◌≤ℤ◌, IsTrue, pos};
+ghost use Rattle.std.specs.Prelude.{◌↔◌, ◌≤ℤ◌, IsTrue, pos};
 ghost use Rattle.lpis_points.specs.Triangles.{IsLeft, IsRight, Separates};
 
 use crate::point::Point;

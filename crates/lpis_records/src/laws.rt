@@ -1,6 +1,6 @@
 //! Laws of the definitions: functions that do nothing, and whose contracts say them.
 
-ghost use Rattle.std.specs.Prelude.{◌≡◌, ◌≤◌, ℕ, List, [], pos};
+ghost use Rattle.std.specs.Prelude.{◌≤◌, ℕ, List, [], pos};
 ghost use Rattle.lpis_lineage.specs.Accepts.{Adds};
 ghost use Rattle.lpis_lineage.specs.Changes.{Changes, IsChange};
 ghost use Rattle.lpis_lineage.specs.Lawful.{IsLawful, RowsFit};
