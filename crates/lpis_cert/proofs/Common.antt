@@ -3,7 +3,7 @@ pub use Rattle.lpis_cert.specs.CertText.{Content, Corners, EndLine, FlatLine, Li
 pub use Rattle.lpis_cert.specs.CertText.{parcel_lines, piece_lines}
 unfoldable pub use Rattle.lpis_cert.specs.CertText.{lines_of, spelling, text_of, text_of_lines, words_of}
 pub use Rattle.lpis_cert.specs.Contents.{all_corners, content_of, corner_numbers, parcel_of, piece_of, separator_of}
-pub use Rattle.lpis_cert.specs.Faults.{AtEnd, AtVersion, Declared, InBody, InPairs, Place, grow, grow_flats, is_lf, lines, none_declared, verdict}
+pub use Rattle.lpis_cert.specs.Faults.{AtEnd, AtVersion, Declared, InBody, InPairs, State, grow, grow_flats, is_lf, lines, none_declared, verdict}
 unfoldable pub use Rattle.lpis_cert.specs.Faults.{at_last, outcome, step}
 pub use Rattle.lpis_cert.specs.Fitting.{CornersFit, LineFits, SeparatorFits}
 pub use Rattle.lpis_cert.specs.Limits.{greatest_count, most_flats, most_triangles, number_margin}
@@ -20,7 +20,7 @@ pub use Rattle.lpis_cert.specs.declared.kind.Kind.TheVariants.{End, Flat, Pair, 
 pub use Rattle.lpis_cert.specs.declared.kind.Stage.{Stage}
 pub use Rattle.lpis_cert.specs.declared.part.ParcelPart.{ParcelPart}
 pub use Rattle.lpis_cert.specs.declared.part.PiecePart.{PiecePart}
-pub use Rattle.lpis_cert.specs.private.Drafts.{draft_place, parcels_lines, pieces_lines}
+pub use Rattle.lpis_cert.specs.private.Drafts.{draft_state, parcels_lines, pieces_lines}
 pub use Rattle.lpis_cert.specs.private.Fits.{ParcelFits, PieceFits}
 pub use Rattle.lpis_cert.specs.private.Taken.{FaultFrom, LineFault, Placed, ReadsLines, corner_line}
 pub use Rattle.lpis_covers.specs.Ids.{is_id}

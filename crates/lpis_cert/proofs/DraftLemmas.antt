@@ -6,7 +6,7 @@ use Rattle.lpis_cert.proofs.Common.{nat_tests, join_with_byte-slice_split, AllBy
 use Rattle.lpis_cert.proofs.Common.{greatest_count, Corners, Separator}
 use Rattle.lpis_cert.proofs.Common.{PieceBlock, ParcelBlock, Line, PieceLine, TriangleLine, FlatLine, ParcelLine, PairsLine, PairLine, EndLine, spelling}
 use Rattle.lpis_cert.proofs.Common.{text_of_lines, piece_lines, parcel_lines}
-use Rattle.lpis_cert.proofs.Common.{end_lines, lines_of, CornersFit, SeparatorFits, LineFits, is_lf, lines, outcome, at_last, step, Place, InBody, InPairs}
+use Rattle.lpis_cert.proofs.Common.{end_lines, lines_of, CornersFit, SeparatorFits, LineFits, is_lf, lines, outcome, at_last, step, State, InBody, InPairs}
 use Rattle.lpis_cert.proofs.Common.{AtEnd, Declared, grow, grow_flats}
 use Rattle.lpis_cert.proofs.Common.{ReadsLines, FaultFrom, LineFault, Triangle, PiecePart, ParcelPart, Cert, all_corners, piece_of, parcel_of, separator_of}
 use Rattle.lpis_cert.proofs.Common.{content_of, pieces_lines, parcels_lines}
@@ -23,8 +23,8 @@ use Rattle.lpis_cert.specs.declared.fault.CertCode.TheVariants as code
 use Rattle.lpis_cert.specs.declared.kind.Kind.TheVariants as kind
 use Rattle.lpis_cert.specs.declared.part.PairLine as part
 
-pub goes_on : (p q r : Place) (xs ys : List Line) → Goes p xs q → Goes q ys r → Goes p (xs ++ ys) r
-goes_on p q r [] ys f g = subst (λ (x : Place). Goes x ys r) (sym f) g
+pub goes_on : (p q r : State) (xs ys : List Line) → Goes p xs q → Goes q ys r → Goes p (xs ++ ys) r
+goes_on p q r [] ys f g = subst (λ (x : State). Goes x ys r) (sym f) g
 goes_on p q r (x ∷ xs) ys f g = (f.0, (f.1.0, f.1.1, goes_on f.1.0 q r xs ys f.1.2 g))
 
 within_yes : (a b : ℕ) → a ≤ most_triangles → b ≤ most_flats → (nat_le a most_triangles && nat_le b most_flats) ≡ true
@@ -78,10 +78,10 @@ shorter : {text : List ℕ} {n : ℕ} {l : Line} {ls : List Line} {rest : List �
 unfolding text_of_lines
 shorter {l = l} {ls} {rest} f = grind (arith, length-append)
 
-pub grown_by : {text : List ℕ} {n : ℕ} {rest : List ℕ} {m : ℕ} {l : Line} {ls : List Line} (before more : List Line) (p q : Place)
+pub grown_by : {text : List ℕ} {n : ℕ} {rest : List ℕ} {m : ℕ} {l : Line} {ls : List Line} (before more : List Line) (p q : State)
     → ReadsLines text n (l ∷ ls) rest m → more ≡ before ++ (l ∷ ls) → Goes p (l ∷ ls) q
     → Grown before more p q text n rest m
-grown_by {l = l} {ls} before more p q f e g = record { added = l ∷ ls; follows = f; lines = e; place = after p q f g; shorter = shorter f }
+grown_by {l = l} {ls} before more p q f e g = record { added = l ∷ ls; follows = f; lines = e; state = after p q f g; shorter = shorter f }
 
 one_more_piece : (ps : List PieceBlock) (p : PieceBlock) → blocks (ps ++ p ∷ []) [] ≡ blocks ps [] ++ piece_lines p
 one_more_piece ps p =

@@ -7,7 +7,7 @@ use Rattle.lpis_cert.proofs.Common.{CertFault}
 use Rattle.lpis_cert.proofs.Common.{piece_of, parcel_of, content_of, PieceFits, ParcelFits, FaultFrom, CertCode, first_line, written, Corners, Separator}
 use Rattle.lpis_cert.proofs.Common.{PieceBlock, ParcelBlock}
 use Rattle.lpis_cert.proofs.Common.{Content, Line, text_of, text_of_lines, spelling, lines_of, piece_lines, parcel_lines}
-use Rattle.lpis_cert.proofs.Common.{end_lines, LineFits, is_lf, lines, outcome, at_last, step, Place, AtVersion, InBody, AtEnd, none_declared, verdict}
+use Rattle.lpis_cert.proofs.Common.{end_lines, LineFits, is_lf, lines, outcome, at_last, step, State, AtVersion, InBody, AtEnd, none_declared, verdict}
 use Rattle.lpis_cert.proofs.Common.{pieces_lines, parcels_lines}
 use Rattle.lpis_cert.specs.declared.fault.CertFault.TheVariants.{Memory, At}
 use Rattle.lpis_cert.specs.Contents.{cert_text}
@@ -58,20 +58,20 @@ unfolding glue
 glue_some w [] h t = (w ++ h, t, refl)
 glue_some w (x ∷ ws) h t = (w, glue (x ∷ ws) (h ∷ t), refl)
 
-went : {A : Type 0} (n : ℕ) (r : Result Place CertCode) (f : Place → Result A (CertCode × ℕ)) (k : A) → (at_line n r >>= f) ≡ Ok k
-    → (q : Place) × (r ≡ Ok q) × (f q ≡ Ok k)
+went : {A : Type 0} (n : ℕ) (r : Result State CertCode) (f : State → Result A (CertCode × ℕ)) (k : A) → (at_line n r >>= f) ≡ Ok k
+    → (q : State) × (r ≡ Ok q) × (f q ≡ Ok k)
 went n (Ok q) f k h = (q, refl, h)
 went n (Err c) f k h = absurd cc
 
 -- the text ends where the grammar has not
-stops : (n : ℕ) (p : Place) (v h : List ℕ) (t : List (List ℕ)) (k : ℕ) → 0 < length h + length t → outcome n p ((v ++ h) ∷ t) ≡ Ok k
+stops : (n : ℕ) (p : State) (v h : List ℕ) (t : List (List ℕ)) (k : ℕ) → 0 < length h + length t → outcome n p ((v ++ h) ∷ t) ≡ Ok k
     → outcome n p (v ∷ []) ≡ Err (code.Truncated, n)
 unfolding outcome at_last step
 stops n AtEnd v h [] k some e = grind (arith, nat_tests, length-append)
 stops n AtEnd v h (x ∷ t) k some e = absurd (cc e)
 stops _ _ _ _ _ _ _ _ = refl
 
-cut_short : (n : ℕ) (p : Place) (v : List ℕ) (vs : List (List ℕ)) (h : List ℕ) (t : List (List ℕ)) (k : ℕ)
+cut_short : (n : ℕ) (p : State) (v : List ℕ) (vs : List (List ℕ)) (h : List ℕ) (t : List (List ℕ)) (k : ℕ)
     → 0 < length h + length t → outcome n p (glue (v ∷ vs) (h ∷ t)) ≡ Ok k
     → outcome n p (v ∷ vs) ≡ Err (code.Truncated, n + length vs)
 unfolding outcome glue
@@ -109,7 +109,7 @@ prefix_of_text c p q fits e lt = prefix_cut p q _ (ap verdict e ∙ accepted c f
 
 -- ---- one value a text
 
-fits_of : (p q : Place) (ls : List Line) → Goes p ls q → AllByRecursion LineFits ls
+fits_of : (p q : State) (ls : List Line) → Goes p ls q → AllByRecursion LineFits ls
 fits_of p q [] g = tt
 fits_of p q (l ∷ ls) g = (g.0, fits_of g.1.0 q ls g.1.2)
 

@@ -3,7 +3,7 @@ use Rattle.std.proofs.Common.{bytes_eq, ◌≡◌, ℕ, ◌+◌, ◌≤◌, true
 use Rattle.lpis_cert.proofs.Common.{sum_by-cons, AllByRecursion, Stage, first_line, written, most_triangles, most_flats, PieceBlock, ParcelBlock, Content, Line}
 use Rattle.lpis_cert.proofs.Common.{PieceLine, ParcelLine, TriangleLine}
 use Rattle.lpis_cert.proofs.Common.{FlatLine, text_of, text_of_lines, lines_of, piece_lines, parcel_lines, end_lines, PieceFits, ParcelFits, lines, outcome}
-use Rattle.lpis_cert.proofs.Common.{at_last, step, Place, AtVersion, InBody}
+use Rattle.lpis_cert.proofs.Common.{at_last, step, State, AtVersion, InBody}
 use Rattle.lpis_cert.proofs.Common.{AtEnd, Declared, none_declared, grow, grow_flats, verdict, ReadsLines, pieces_lines, parcels_lines}
 use Rattle.std.proofs.lemmas.List.{append-nil}
 use Rattle.lpis_cert.specs.private.Fits.{Fits}
@@ -33,7 +33,7 @@ this_version text n line rest m t h =
     grind (arith, word_is line (first_line written) h, step_ok n AtVersion (InBody stage.Pieces 0 0 none_declared) text line rest t.split (rw h refl))
 
 -- one more turn
-pub follows_grown : (start : List ℕ) (n : ℕ) (before more : List Line) (p q : Place) (text : List ℕ) (k : ℕ)
+pub follows_grown : (start : List ℕ) (n : ℕ) (before more : List Line) (p q : State) (text : List ℕ) (k : ℕ)
     (rest : List ℕ) (m : ℕ) → ReadsLines start n before text k → Grown before more p q text k rest m
     → ReadsLines start n more rest m
 follows_grown start n before more p q text k rest m f g = let e = g.lines in rw e (follows_both f g.follows)

@@ -9,7 +9,7 @@ use Rattle.lpis_cert.proofs.Common.{Line, PieceLine, TriangleLine}
 use Rattle.lpis_cert.proofs.Common.{FlatLine, ParcelLine, PairsLine, PairLine, EndLine, spelling, text_of_lines, piece_lines, parcel_lines, end_lines, lines_of}
 use Rattle.lpis_cert.proofs.Common.{text_of, corner_numbers, all_corners}
 use Rattle.lpis_cert.proofs.Common.{piece_of, parcel_of, separator_of, content_of, CornersFit, SeparatorFits, PieceFits, ParcelFits, read_line, lines, outcome}
-use Rattle.lpis_cert.proofs.Common.{at_last, step, Place, AtVersion, InBody}
+use Rattle.lpis_cert.proofs.Common.{at_last, step, State, AtVersion, InBody}
 use Rattle.lpis_cert.proofs.Common.{InPairs, AtEnd, Declared, none_declared, grow, grow_flats, verdict}
 use Rattle.std.proofs.lemmas.List.{nil_from_length}
 use Rattle.lpis_cert.specs.Contents.{cert_text}
@@ -23,7 +23,7 @@ use Rattle.lpis_cert.specs.declared.kind.Kind.TheVariants as kind
 use Rattle.lpis_cert.specs.declared.fault.CertCode.TheVariants as code
 use Rattle.lpis_cert.specs.declared.part.PairLine as part
 
--- ---- what a text may be from a place on
+-- ---- what a text may be from a state on
 
 -- in a body: a content that fits what was declared before
 record Remains (b : Stage) (d : Declared) (c : Content) : Type 0 where
@@ -44,14 +44,14 @@ record Left (b : Stage) (t f : ℕ) (d : Declared) (ts fs : List Corners) (c : C
   pub content : Remains b d c
   pub spelled : text ≡ text_of_lines (map TriangleLine ts ++ (map FlatLine fs ++ lines_of c))
 
-abbrev May : Place → List ℕ → Type 0
+abbrev May : State → List ℕ → Type 0
 May AtVersion text = (c : Content) × Fits c × (text ≡ text_of c)
 May (InBody b t f d) text = (ts : List Corners) × (fs : List Corners) × (c : Content) × Left b t f d ts fs c text
 May (InPairs n) text = (ps : List Separator) × (length ps ≡ n) × AllByRecursion SeparatorFits ps × (text ≡ text_of_lines (map PairLine ps ++ (EndLine ∷ [])))
 May AtEnd text = text ≡ []
 
 -- what was declared is within the limits
-abbrev Small : Place → Type 0
+abbrev Small : State → Type 0
 Small (InBody b t f d) = (d.triangles ≤ most_triangles) × (d.flats ≤ most_flats)
 Small _ = Unit {0}
 
@@ -172,8 +172,8 @@ pairs_more b d ps line rest s spelled few fits e =
     } in
     wanting_none b d _ _ more (line_more (PairsLine (length ps)) (map PairLine ps ++ (EndLine ∷ [])) line rest spelled e)
 
--- both limits hold, and the place is the next one
-within_ok : (d : Declared) (next q : Place) → within d next ≡ Ok q → Small (InBody stage.Pieces 0 0 d) × (next ≡ q)
+-- both limits hold, and the state is the next one
+within_ok : (d : Declared) (next q : State) → within d next ≡ Ok q → Small (InBody stage.Pieces 0 0 d) × (next ≡ q)
 within_ok d next q h = grind (arith, nat_tests)
 
 piece_sized : (d : Declared) (id : List ℕ) (t f : ℕ) (ts fs : List Corners) (c : Content) (line rest : List ℕ)
@@ -199,22 +199,22 @@ parcel_sized b d id f ts fs c line rest named spelled m =
     → May (InBody b 0 0 d) (line ++ (10 ∷ rest))) m.flat_count
     (λ s l. parcel_more b d id fs c.parcels c.pairs line rest s named l) spelled none
 
--- a line that took a place on, and the text before it
-abbrev Back : Place → List ℕ → Place → Type 0
+-- a line that took a state on, and the text before it
+abbrev Back : State → List ℕ → State → Type 0
 Back p line q = Small q × ((rest : List ℕ) → May q rest → May p (line ++ (10 ∷ rest)))
 
-block_back : (b : Stage) (d : Declared) (l : Line) (q : Place) (line : List ℕ) → Small (InBody b 0 0 d) → ReadsAs (Block b) line l → open_block d l ≡ Ok q
+block_back : (b : Stage) (d : Declared) (l : Line) (q : State) (line : List ℕ) → Small (InBody b 0 0 d) → ReadsAs (Block b) line l → open_block d l ≡ Ok q
     → Back (InBody b 0 0 d) line q
 block_back stage.Pieces d (PieceLine id t f) q line s r h =
     let w = within_ok (grow d t f) (InBody stage.Pieces t f (grow d t f)) q h in
-    subst (λ (x : Place). Back (InBody stage.Pieces 0 0 d) line x) w.1 (w.0, λ rest m. piece_sized d id t f m.0 m.1 m.2 line rest r.fits.0 r.text m.3)
+    subst (λ (x : State). Back (InBody stage.Pieces 0 0 d) line x) w.1 (w.0, λ rest m. piece_sized d id t f m.0 m.1 m.2 line rest r.fits.0 r.text m.3)
 block_back stage.Parcels d (PieceLine id t f) q line s r h = let no = r.stands in absurd (cc no)
 block_back b d (ParcelLine id f) q line s r h =
     let w = within_ok (grow_flats d f) (InBody stage.Parcels 0 f (grow_flats d f)) q h in
-    subst (λ (x : Place). Back (InBody b 0 0 d) line x) w.1 (w.0, λ rest m. parcel_sized b d id f m.0 m.1 m.2 line rest r.fits.0 r.text m.3)
+    subst (λ (x : State). Back (InBody b 0 0 d) line x) w.1 (w.0, λ rest m. parcel_sized b d id f m.0 m.1 m.2 line rest r.fits.0 r.text m.3)
 block_back b d (PairsLine n) q line s r h =
     let same : InPairs n ≡ q = cc h in
-    subst (λ (x : Place). Back (InBody b 0 0 d) line x) same (
+    subst (λ (x : State). Back (InBody b 0 0 d) line x) same (
       tt,
       λ rest m. subst (λ (k : ℕ). line ≡ spelling (PairsLine k) → k ≤ greatest_count → May (InBody b 0 0 d) (line ++ (10 ∷ rest))) m.1
           (λ spelled few. pairs_more b d m.0 line rest s spelled few m.2 m.3) r.text r.fits,
@@ -238,15 +238,15 @@ first_more : (line rest : List ℕ) (ts fs : List Corners) (c : Content) → lin
 unfolding text_of
 first_more line rest ts fs c spelled m = grind (arith, nil_from_length)
 
-back : (p q : Place) (line : List ℕ) → Small p → step p line ≡ Ok q → Back p line q
+back : (p q : State) (line : List ℕ) → Small p → step p line ≡ Ok q → Back p line q
 unfolding step
 back AtVersion q line s h = by_test (bytes_eq line (first_line written)) refl h
   where
-    by_test : (b : Bool) → bytes_eq line (first_line written) ≡ b → ◌≡◌ {A = Result Place CertCode}
+    by_test : (b : Bool) → bytes_eq line (first_line written) ≡ b → ◌≡◌ {A = Result State CertCode}
         (cond b (Ok (InBody stage.Pieces 0 0 none_declared)) (Err code.Version)) (Ok q) → Back AtVersion line q
     by_test true is h =
         let same : InBody stage.Pieces 0 0 none_declared ≡ q = cc h in
-        subst (λ (x : Place). Back AtVersion line x) same
+        subst (λ (x : State). Back AtVersion line x) same
         ((omega arith, omega arith), λ rest m. first_more line rest m.0 m.1 m.2 (word_is line (first_line written) is) m.3)
     by_test false is h = absurd (cc h)
 back (InBody b (suc t) f d) q line s h =
@@ -270,17 +270,17 @@ back AtEnd q line s h = absurd (cc h)
 
 -- ---- all lines back
 
-last_back : (n m : ℕ) (p : Place) (rest : List ℕ) → at_last n p rest ≡ Ok m → May p rest
+last_back : (n m : ℕ) (p : State) (rest : List ℕ) → at_last n p rest ≡ Ok m → May p rest
 unfolding at_last
 last_back n m AtEnd [] h = refl
 last_back n m AtEnd (x ∷ xs) h = grind (arith, nat_tests)
 last_back n m _ rest h = absurd (cc h)
 
-line_ok : (n : ℕ) (r : Result Place CertCode) (q : Place) → at_line n r ≡ Ok q → r ≡ Ok q
-line_ok n (Ok x) q h = let same : x ≡ q = cc h in ap (λ (y : Place). Ok y) same
+line_ok : (n : ℕ) (r : Result State CertCode) (q : State) → at_line n r ≡ Ok q → r ≡ Ok q
+line_ok n (Ok x) q h = let same : x ≡ q = cc h in ap (λ (y : State). Ok y) same
 line_ok n (Err e) q h = absurd (cc h)
 
-read_back : (ls : List (List ℕ)) (n m : ℕ) (p : Place) → Small p → outcome n p ls ≡ Ok m → May p (join_with_byte 10 ls)
+read_back : (ls : List (List ℕ)) (n m : ℕ) (p : State) → Small p → outcome n p ls ≡ Ok m → May p (join_with_byte 10 ls)
 unfolding outcome
 read_back [] n m p s h = last_back n m p [] h
 read_back (l ∷ []) n m p s h = last_back n m p l h

@@ -3,7 +3,7 @@ use Rattle.std.proofs.Common.{◌≡◌, ℕ, zero, suc, ◌+◌, true, List, []
 use Rattle.std.proofs.Common.{inl, inr}
 use Rattle.lpis_cert.proofs.Common.{CertCode, CertFault, Kind, Piece, Flat, Parcel, Pairs, Pair, End, One, Block, written, Line, spelling, text_of_lines}
 use Rattle.lpis_cert.proofs.Common.{can_stand, values, read_line, is_lf, lines}
-use Rattle.lpis_cert.proofs.Common.{outcome, at_last, step, Place, AtVersion, InBody, InPairs, AtEnd, LineFits, line_kind, Placed, LineFault, ReadsLines}
+use Rattle.lpis_cert.proofs.Common.{outcome, at_last, step, State, AtVersion, InBody, InPairs, AtEnd, LineFits, line_kind, Placed, LineFault, ReadsLines}
 use Rattle.lpis_cert.proofs.Common.{FaultFrom}
 use Rattle.lpis_cert.specs.declared.fault.CertFault.TheVariants.{Memory, At}
 use Rattle.lpis_cert.specs.declared.kind.Kind.TheVariants.{Triangle}
@@ -50,18 +50,18 @@ untaken {rest = rest} p v = grind arith
 
 -- ---- one step of the definition
 
-pub step_ok : (n : ℕ) (p q : Place) (text line rest : List ℕ) → lines text ≡ line ∷ lines rest → step p line ≡ Ok q
+pub step_ok : (n : ℕ) (p q : State) (text line rest : List ℕ) → lines text ≡ line ∷ lines rest → step p line ≡ Ok q
     → outcome n p (lines text) ≡ outcome (n + 1) q (lines rest)
 unfolding outcome
 step_ok n p q text line rest e h = grind (arith, split_some is_lf rest)
 
-pub step_err : (n : ℕ) (p : Place) (c : CertCode) (text line rest : List ℕ) → lines text ≡ line ∷ lines rest → step p line ≡ Err c
+pub step_err : (n : ℕ) (p : State) (c : CertCode) (text line rest : List ℕ) → lines text ≡ line ∷ lines rest → step p line ≡ Err c
     → outcome n p (lines text) ≡ Err (c, n)
 unfolding outcome
 step_err n p c text line rest e h = grind (arith, split_some is_lf rest)
 
--- what one place wants
-abbrev pub Wants : Place → Expected → Type 0
+-- what one state wants
+abbrev pub Wants : State → Expected → Type 0
 Wants (InBody b (suc t) f d) e = One Triangle ≡ e
 Wants (InBody b zero (suc f) d) e = One Flat ≡ e
 Wants (InBody b zero zero d) e = Block b ≡ e
@@ -69,7 +69,7 @@ Wants (InPairs (suc n)) e = One Pair ≡ e
 Wants (InPairs zero) e = One End ≡ e
 Wants _ _ = ⊥
 
-step_fails : (p : Place) (e : Expected) (line : List ℕ) (c : CertCode) → Wants p e → read_line written e line ≡ Err c → step p line ≡ Err c
+step_fails : (p : State) (e : Expected) (line : List ℕ) (c : CertCode) → Wants p e → read_line written e line ≡ Err c → step p line ≡ Err c
 unfolding step
 step_fails AtVersion e line c w h = absurd w
 step_fails (InBody b zero zero d) e line c w h = rw (w, h) refl
@@ -77,28 +77,28 @@ step_fails (InPairs zero) e line c w h = rw (w, h) refl
 step_fails AtEnd e line c w h = absurd w
 step_fails _ e line c w h = rw (w, h) refl
 
-last_fails : (n : ℕ) (p : Place) (e : Expected) (text : List ℕ) → Wants p e → lines text ≡ text ∷ [] → outcome n p (lines text) ≡ Err (code.Truncated, n)
+last_fails : (n : ℕ) (p : State) (e : Expected) (text : List ℕ) → Wants p e → lines text ≡ text ∷ [] → outcome n p (lines text) ≡ Err (code.Truncated, n)
 unfolding outcome at_last
 last_fails n (InBody b t f d) e text w h = rw h refl
 last_fails n (InPairs k) e text w h = rw h refl
 last_fails n _ e text w h = absurd w
 
-pub fails : (n : ℕ) (p : Place) (e : Expected) (text : List ℕ) (c : CertCode) → Wants p e → FailsWith e text c → outcome n p (lines text) ≡ Err (c, n)
+pub fails : (n : ℕ) (p : State) (e : Expected) (text : List ℕ) (c : CertCode) → Wants p e → FailsWith e text c → outcome n p (lines text) ≡ Err (c, n)
 fails n p e text c w (inl h) = let is = h.1 in rw is (last_fails n p e text w h.0)
 fails n p e text c w (inr h) = step_err n p c text h.0 h.1 h.2 (step_fails p e h.0 c w h.3)
 
-pub fault_here : (x : CertFault) (n : ℕ) (p : Place) (e : Expected) (text : List ℕ) → Wants p e → LineFault x n e text → FaultFrom x n p text
+pub fault_here : (x : CertFault) (n : ℕ) (p : State) (e : Expected) (text : List ℕ) → Wants p e → LineFault x n e text → FaultFrom x n p text
 fault_here Memory n p e text w h = tt
 fault_here (At c m) n p e text w h = let is = h.0 in rw is (fails n p e text c w h.1)
 
 -- ---- lines that were taken
 
--- each of these lines takes the place on
-abbrev pub Goes : Place → List Line → Place → Type 0
+-- each of these lines takes the state on
+abbrev pub Goes : State → List Line → State → Type 0
 Goes p [] q = p ≡ q
-Goes p (l ∷ ls) q = LineFits l × ((r : Place) × (step p (spelling l) ≡ Ok r) × Goes r ls q)
+Goes p (l ∷ ls) q = LineFits l × ((r : State) × (step p (spelling l) ≡ Ok r) × Goes r ls q)
 
-pub over : (n : ℕ) (p q : Place) (ls : List Line) (rest : List ℕ) → Goes p ls q
+pub over : (n : ℕ) (p q : State) (ls : List Line) (rest : List ℕ) → Goes p ls q
     → outcome n p (lines (text_of_lines ls ++ rest)) ≡ outcome (n + length ls) q (lines rest)
 unfolding text_of_lines
 over n p q [] rest h = grind arith
@@ -111,14 +111,14 @@ over n p q (l ∷ ls) rest h =
     let count : n + 1 + length ls ≡ n + length (l ∷ ls) = omega arith in
     ap (λ (t : List ℕ). outcome n p (lines t)) text ∙ first ∙ more ∙ ap (λ (k : ℕ). outcome k q (lines rest)) count
 
-pub after : {text : List ℕ} {n : ℕ} {ls : List Line} {rest : List ℕ} {m : ℕ} (p q : Place) → ReadsLines text n ls rest m → Goes p ls q
+pub after : {text : List ℕ} {n : ℕ} {ls : List Line} {rest : List ℕ} {m : ℕ} (p q : State) → ReadsLines text n ls rest m → Goes p ls q
     → outcome n p (lines text) ≡ outcome m q (lines rest)
 after {n = n} {ls} {rest} p q f g =
     let parts = f.parts in
     let next = f.next in
     rw (parts, next) (over n p q ls rest g)
 
-pub fault_after : {text : List ℕ} {n : ℕ} {ls : List Line} {rest : List ℕ} {m : ℕ} (x : CertFault) (p q : Place)
+pub fault_after : {text : List ℕ} {n : ℕ} {ls : List Line} {rest : List ℕ} {m : ℕ} (x : CertFault) (p q : State)
     → ReadsLines text n ls rest m → Goes p ls q → FaultFrom x m q rest → FaultFrom x n p text
 fault_after Memory p q f g h = tt
 fault_after (At c k) p q f g h = after p q f g ∙ h

@@ -27,13 +27,13 @@ none_declared = record { triangles = 0; flats = 0 }
 
 -- What can stand next: in a body, which blocks may begin, and the triangle lines and flat lines
 -- that the block still wants; in the pairs, the lines that are still wanted.
-pub data Place : Type 0 where
-  AtVersion : Place
-  InBody : Stage → ℕ → ℕ → Declared → Place
-  InPairs : ℕ → Place
-  AtEnd : Place
+pub data State : Type 0 where
+  AtVersion : State
+  InBody : Stage → ℕ → ℕ → Declared → State
+  InPairs : ℕ → State
+  AtEnd : State
 
-abbrev pub within : Declared → Place → Result Place CertCode
+abbrev pub within : Declared → State → Result State CertCode
 within d next = cond (nat_le d.triangles most_triangles && nat_le d.flats most_flats) (Ok next)
     (Err code.TooMany)
 
@@ -43,15 +43,15 @@ grow d t f = record { triangles = d.triangles + t; flats = d.flats + f }
 abbrev pub grow_flats : Declared → ℕ → Declared
 grow_flats d f = record { triangles = d.triangles; flats = d.flats + f }
 
--- the place after a block's first line
-abbrev pub open_block : Declared → Line → Result Place CertCode
+-- the state after a block's first line
+abbrev pub open_block : Declared → Line → Result State CertCode
 open_block d (PieceLine id t f) = within (grow d t f) (InBody stage.Pieces t f (grow d t f))
 open_block d (ParcelLine id f) = within (grow_flats d f) (InBody stage.Parcels 0 f (grow_flats d f))
 open_block d (PairsLine n) = Ok (InPairs n)
 open_block d _ = Err code.BadPlace
 
--- the place after a line, or the line's fault
-unfoldable pub step : Place → List ℕ → Result Place CertCode
+-- the state after a line, or the line's fault
+unfoldable pub step : State → List ℕ → Result State CertCode
 step AtVersion line = cond (bytes_eq line (first_line written))
     (Ok (InBody stage.Pieces 0 0 none_declared)) (Err code.Version)
 step (InBody b (suc t) f d) line = read_line written (One kind.Triangle) line >>= λ _. Ok
@@ -71,7 +71,7 @@ abbrev pub lines : List ℕ → List (List ℕ)
 lines text = slice_split is_lf text
 
 -- what comes after the last line end
-unfoldable pub at_last : ℕ → Place → List ℕ → Result ℕ (CertCode × ℕ)
+unfoldable pub at_last : ℕ → State → List ℕ → Result ℕ (CertCode × ℕ)
 at_last n AtVersion rest = Err (code.Truncated, n)
 at_last n (InBody b t f d) rest = Err (code.Truncated, n)
 at_last n (InPairs k) rest = Err (code.Truncated, n)
@@ -82,7 +82,7 @@ at_line n (Ok x) = Ok x
 at_line n (Err c) = Err (c, n)
 
 -- the first fault of lines from line n on, or no fault (and the number of the line after the last)
-unfoldable pub outcome : ℕ → Place → List (List ℕ) → Result ℕ (CertCode × ℕ)
+unfoldable pub outcome : ℕ → State → List (List ℕ) → Result ℕ (CertCode × ℕ)
 outcome n p [] = at_last n p []
 outcome n p (l ∷ []) = at_last n p l
 outcome n p (l ∷ m ∷ ls) = at_line n (step p l) >>= λ q. outcome (n + 1) q (m ∷ ls)

@@ -7,7 +7,7 @@ ghost use Rattle.lpis_cert.specs.declared.kind.Stage.TheVariants as stage;
 ghost use Rattle.lpis_cert.specs.CertText.{PieceLine, ParcelLine, PairsLine, lines_of};
 ghost use Rattle.lpis_cert.specs.private.Taken.{ReadsLines, FaultFrom};
 ghost use Rattle.lpis_cert.specs.Contents.{content_of};
-ghost use Rattle.lpis_cert.specs.private.Drafts.{DraftGrown, Progressed, Whole, draft_place};
+ghost use Rattle.lpis_cert.specs.private.Drafts.{DraftGrown, Progressed, Whole, draft_state};
 ghost use Rattle.lpis_cert.specs.private.Drafts.{draft_lines};
 
 use crate::cert::{Cert, MOST_FLATS, MOST_TRIANGLES};
@@ -83,7 +83,7 @@ fn piece_block<'a>(
     requires fresh { draft.stage ≡ stage.Pieces }
     ensures ok { IfOk result (λ x. DraftGrown draft x.0 start.entry.text.now start.entry.line
         x.1.text.now x.1.line) }
-    ensures err { IfErr result (λ e. FaultFrom e start.entry.line (draft_place draft)
+    ensures err { IfErr result (λ e. FaultFrom e start.entry.line (draft_state draft)
         start.entry.text.now) }
 {
     let Draft {
@@ -128,7 +128,7 @@ fn parcel_block<'a>(
     requires named { is_id id ≡ true }
     ensures ok { IfOk result (λ x. DraftGrown draft x.0 start.entry.text.now start.entry.line
         x.1.text.now x.1.line) }
-    ensures err { IfErr result (λ e. FaultFrom e start.entry.line (draft_place draft)
+    ensures err { IfErr result (λ e. FaultFrom e start.entry.line (draft_state draft)
         start.entry.text.now) }
 {
     let Draft {
@@ -169,7 +169,7 @@ fn finish(
         after.line }
     ensures ok { IfOk result (λ cert. Whole (draft_lines draft) (lines_of (content_of cert))
         start.entry.text.now) }
-    ensures err { IfErr result (λ e. FaultFrom e start.entry.line (draft_place draft)
+    ensures err { IfErr result (λ e. FaultFrom e start.entry.line (draft_state draft)
         start.entry.text.now) }
 {
     let (pairs, last) = pair_lines(alloc, count, after)?;
@@ -199,7 +199,7 @@ pub(crate) fn next_block<'a>(
     rest: Rest<'a>,
 ) -> Result<Progress<'a>, CertFault>
     ensures ok { IfOk result (λ t. Progressed draft t rest.entry.text.now rest.entry.line) }
-    ensures err { IfErr result (λ e. FaultFrom e rest.entry.line (draft_place draft)
+    ensures err { IfErr result (λ e. FaultFrom e rest.entry.line (draft_state draft)
         rest.entry.text.now) }
 {
     let (head, after) = head_at(alloc, draft.stage, rest)?;

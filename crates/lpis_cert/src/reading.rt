@@ -9,7 +9,7 @@ ghost use Rattle.lpis_cert.specs.Faults.{AtVersion, InBody, lines, outcome, IsFi
 ghost use Rattle.lpis_cert.specs.Faults.{none_declared};
 ghost use Rattle.lpis_cert.specs.private.Taken.{FaultFrom};
 ghost use Rattle.lpis_cert.specs.Contents.{cert_text, content_of};
-ghost use Rattle.lpis_cert.specs.private.Drafts.{draft_lines, draft_place};
+ghost use Rattle.lpis_cert.specs.private.Drafts.{draft_lines, draft_state};
 
 use crate::blocks::next_block;
 use crate::cert::Cert;
@@ -53,7 +53,7 @@ fn after_version(rest: Rest<'_>) -> Result<Rest<'_>, CertFault>
 /// What has been read before the first block.
 fn no_blocks(alloc: Global) -> Draft
     ensures lines { draft_lines result ≡ [] }
-    ensures place { draft_place result ≡ InBody Pieces 0 0 none_declared }
+    ensures state { draft_state result ≡ InBody Pieces 0 0 none_declared }
 {
     Draft {
         pieces: Vec::new(alloc),

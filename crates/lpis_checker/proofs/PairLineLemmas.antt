@@ -80,7 +80,7 @@ pub record WalkAt (c : Cert) (near : List (ℕ × ℕ)) (at k : ℕ) : Type 0 wh
 pub walk_none : (c : Cert) (near : List (ℕ × ℕ)) → WalkAt c near 0 0
 walk_none c near = record { within = omega arith; behind = λ m l n p h e k f. absurd (omega arith); passed = λ n p h e. absurd (omega arith) }
 
--- the next place: lines from the last one on up to it name earlier pairs, its own line doesn't
+-- the next index: lines from the last one on up to it name earlier pairs, its own line doesn't
 pub record Skips (c : Cert) (from at i j : ℕ) : Type 0 where
   pub high : at ≤ length c.pairs
   pub before : (m : ℕ) (l : PairLine) → from ≤ m → m < at → slice_get c.pairs m ≡ Some l → IsBelow l.i l.j i j
@@ -98,7 +98,7 @@ skips_over c lines from at i j e high before stop = record {
 abbrev pub NamesAt : List PairLine → ℕ → ℕ → ℕ → Type 0
 NamesAt lines at i j = (l : PairLine) × (slice_get lines at ≡ Some l) × (l.i ≡ i) × (l.j ≡ j)
 
--- the lines below the next place stand before the pair
+-- the lines below the next index stand before the pair
 skipped : (c : Cert) (near : List (ℕ × ℕ)) (from at k : ℕ) (p : ℕ × ℕ) → WalkAt c near from k
     → slice_get near k ≡ Some p → Skips c from at p.0 p.1 → (m : ℕ) (l : PairLine) → m < at
     → slice_get c.pairs m ≡ Some l → IsBelow l.i l.j p.0 p.1
@@ -144,7 +144,7 @@ walk_all r c ts near numbered law at k l w i j n =
     below : (m : ℕ) → m < length near → m < k
     below m g = omega arith
 
--- a near pair that the line at the next place doesn't name is the first that none names
+-- a near pair that the line at the next index doesn't name is the first that none names
 pub walk_fault : (r : Contents) (c : Cert) (ts : List Triangle) (near : List (ℕ × ℕ)) → HoldsEverywhere r c Names
     → ts ≡ triangles_of c.pieces → IsNearList ts near → (from at k : ℕ) (p : ℕ × ℕ) → WalkAt c near from k
     → slice_get near k ≡ Some p → Skips c from at p.0 p.1 → (NamesAt c.pairs at p.0 p.1 → ⊥)

@@ -10,15 +10,15 @@ use Rattle.lpis_checker.specs.GoodCertificate.{HasCorners}
 use Rattle.lpis_checker.proofs.PointOrderLemmas.{point_total, same_in_order}
 use Rattle.lpis_checker.proofs.AreaSumLemmas.{all_left, all_right}
 
--- what is among sorted points lies neither before nor after the place to insert it
+-- what is among sorted points lies neither before nor after the index to insert it
 unsplit : (xs : List Point) (x : Point) (i : ℕ) → IsPartitionPoint (λ y. point_order y x ≡ Less) (λ y. point_order y x ≡ Greater) xs i → Contains xs x → ⊥
-unsplit xs x i h w = elim (by_place w.0 i) [
+unsplit xs x i h w = elim (by_index w.0 i) [
   | inl l ↦ less (sym (itself xs x w) ∙ h.0 w.0 x (omega arith) l)
   | inr l ↦ greater (sym (itself xs x w) ∙ h.1 w.0 x l w.1)
 ]
   where
-    by_place : (k i : ℕ) → (k < i) ⊎ (i ≤ k)
-    by_place k i = grind arith
+    by_index : (k i : ℕ) → (k < i) ⊎ (i ≤ k)
+    by_index k i = grind arith
 
     itself : (ys : List Point) (y : Point) (v : Contains ys y) → point_order (get_or ys v.0 y) y ≡ Equal
     itself ys y v = ap (λ (z : Point). point_order z y) v.2 ∙ tied_itself point_total y

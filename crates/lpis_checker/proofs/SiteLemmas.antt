@@ -70,7 +70,7 @@ read_at slice items i x e l r =
 pub read_in : {A : Type 0} {slice items : List A} {k : ℕ} {x : A} → slice ≡ items → k < length slice → x ≡ get_or slice k x → slice_get items k ≡ Some x
 read_in {slice = slice} {items} {k} {x} e l r = read_at slice items k x e (subst (λ (xs : List _). k < length xs) e l) r
 
--- ---- a test of the part at a place
+-- ---- a test of the part at an index
 -- what a condition other than that of names says there
 same : {P : Type 0} → P ↔ P
 same = (λ p. p, λ p. p)
@@ -88,7 +88,7 @@ of_parts r c NotApart k other = (nothing, nothing)
 of_parts r c Separating k other = (nothing, nothing)
 of_parts r c _ k other = (same, nothing)
 
--- a test of the items at a place of two lists
+-- a test of the items at an index of two lists
 pub told_of_both : {A B E H : Type 0} (xs : List A) (ts : List B) (k : ℕ) (P : A → B → Type 0) {x : A} {t : B} (result : Result Bool E)
     → (H ↔ OfBoth xs k ts k P) → slice_get xs k ≡ Some x → slice_get ts k ≡ Some t → IfOk result (λ b. IsTrue b ↔ P x t) → IfOk result (λ b. IsTrue b ↔ H)
 told_of_both xs ts k P {x} {t} result says e f told =
@@ -123,7 +123,7 @@ past_parcels r c q k parts own = elim (is_names q) [
   | inr other ↦ (past_first r.parcels c.parcels k (of_parts r c q k other).1 refl own).0 refl
 ]
 
--- what holds below a place that is past the ends holds everywhere
+-- what holds below an index that is past the ends holds everywhere
 pub at_each : (P : ℕ → Type 0) (k n m : ℕ) → ((i : ℕ) → n ≤ i → m ≤ i → P i) → n ≤ k → m ≤ k → ((i : ℕ) → i < k → P i) → (i : ℕ) → P i
 at_each P k n m past long wide below i = elim (cases_lt i k) [ inl l ↦ below i l | inr g ↦ past i (omega arith) (omega arith) ]
 

@@ -19,7 +19,7 @@ use Rattle.lpis_parcels.specs.Release.{names, parcel_ids}
 use Rattle.lpis_parcels.specs.Eligible.{areas2, eligible2, is_eligible}
 use Rattle.lpis_checker.specs.SoundMap.{AtMostOne, ExactlyOne, IsInParcel, TurnsTell, AreasAdd}
 use Rattle.lpis_checker.specs.GoodCertificate.{EdgeSeparates, IsGood}
-use Rattle.lpis_checker.proofs.DistinctLemmas.{same_place}
+use Rattle.lpis_checker.proofs.DistinctLemmas.{same_index}
 use Rattle.lpis_checker.proofs.SiteLemmas.{some_item}
 use Rattle.lpis_checker.proofs.AreaSumLemmas.{total, Found, found_any, any_found, all_at, all_from, one_of_some, at_most_one, one_found, total_one, total-filter, filter_kept}
 
@@ -210,16 +210,16 @@ parcel_in r s x a = contains_by_one_turn x.polygon s a.one
 inside_found : (r : Contents) (s : RationalPoint) (x : Parcel) → ParcelFacts r s x → IsInParcel s x → Found (IsInPiece s) (pieces_named r x.id)
 inside_found r s x a h =
     let f = one_found (turns_at s) (pieces_named r x.id) a.each (sym a.sum ∙ (parcel_in r s x a).0 h) in
-    record { place = f.place; item = f.item; at = f.at; has = (piece_in s f.item (all_at (OneAt s) (pieces_named r x.id) f.place f.item f.at a.each)).1 f.has }
+    record { index = f.index; item = f.item; at = f.at; has = (piece_in s f.item (all_at (OneAt s) (pieces_named r x.id) f.index f.item f.at a.each)).1 f.has }
 
 found_inside : (r : Contents) (s : RationalPoint) (x : Parcel) → ParcelFacts r s x → Found (IsInPiece s) (pieces_named r x.id) → IsInParcel s x
 found_inside r s x a f =
     (parcel_in r s x a).1 (a.sum ∙ total_one (turns_at s) (pieces_named r x.id) a.each (subst IsOneOrNone a.sum a.one)
     (record {
-      place = f.place;
+      index = f.index;
       item = f.item;
       at = f.at;
-      has = (piece_in s f.item (all_at (OneAt s) (pieces_named r x.id) f.place f.item f.at a.each)).0 f.has;
+      has = (piece_in s f.item (all_at (OneAt s) (pieces_named r x.id) f.index f.item f.at a.each)).0 f.has;
     }))
 
 few_pieces : (s : RationalPoint) (xs : List Piece) → All (OneAt s) xs → IsOneOrNone (total (turns_at s) xs) → AtMostOne (IsInPiece s) xs
@@ -231,11 +231,11 @@ few_parcels r c n g s d i j a b e f p q =
     let o = once r c g s d in
     let x = inside_found r s a (parcel_at r c g s d i a e) p in
     let y = inside_found r s b (parcel_at r c g s d j b f) q in
-    let v = filter_kept (names a.id) r.pieces x.place x.item x.at in
-    let w = filter_kept (names b.id) r.pieces y.place y.item y.at in
-    let m : v.place ≡ w.place = few_pieces s r.pieces o.each o.sum v.place w.place x.item y.item v.at w.at x.has y.has in
+    let v = filter_kept (names a.id) r.pieces x.index x.item x.at in
+    let w = filter_kept (names b.id) r.pieces y.index y.item y.at in
+    let m : v.index ≡ w.index = few_pieces s r.pieces o.each o.sum v.index w.index x.item y.item v.at w.at x.has y.has in
     let z : x.item ≡ y.item = same_Some x.item y.item (sym v.at ∙ ap (λ (k : ℕ). slice_get r.pieces k) m ∙ w.at) in
-    same_place r.parcels n i j a b e f ((bytes_eq-Decides a.id x.item.parcel).0 v.passes ∙ ap (λ (t : Piece). t.parcel) z ∙ sym ((bytes_eq-Decides b.id y.item.parcel).0 w.passes))
+    same_index r.parcels n i j a b e f ((bytes_eq-Decides a.id x.item.parcel).0 v.passes ∙ ap (λ (t : Piece). t.parcel) z ∙ sym ((bytes_eq-Decides b.id y.item.parcel).0 w.passes))
 
 -- exactly one of its pieces contains a point that the parcel contains
 parcel_iff : (r : Contents) (s : RationalPoint) (x : Parcel) → ParcelFacts r s x → IsInParcel s x ↔ ExactlyOne (IsInPiece s) (pieces_named r x.id)
@@ -320,4 +320,4 @@ pub no_gap : (r : Contents) (c : Cert) → IsGood r c → (s : RationalPoint) �
     → slice_get r.parcels k ≡ Some x → IsInParcel s x → All (λ (y : Piece). IsInPiece s y → ⊥) (pieces_named r x.id) → ⊥
 no_gap r c g s d k x e h none =
     let f = inside_found r s x (parcel_at r c g s d k x e) h in
-    all_at (λ (y : Piece). IsInPiece s y → ⊥) (pieces_named r x.id) f.place f.item f.at none f.has
+    all_at (λ (y : Piece). IsInPiece s y → ⊥) (pieces_named r x.id) f.index f.item f.at none f.has

@@ -15,8 +15,8 @@ use Rattle.lpis_checker.specs.declared.condition.Condition.TheVariants.{NearPair
 use Rattle.lpis_checker.specs.declared.condition.Site.{Site}
 use Rattle.lpis_checker.specs.declared.condition.Site.TheVariants.{PieceAt, ParcelAt, LineAt}
 use Rattle.lpis_checker.specs.declared.condition.Site.TheVariants.{PairAt}
-use Rattle.lpis_checker.specs.declared.fault.Place.{Place}
-use Rattle.lpis_checker.specs.declared.fault.Place.TheVariants as place
+use Rattle.lpis_checker.specs.declared.fault.Location.{Location}
+use Rattle.lpis_checker.specs.declared.fault.Location.TheVariants as location
 use Rattle.lpis_checker.specs.declared.fault.CheckFault.{CheckFault}
 use Rattle.lpis_checker.specs.declared.fault.CheckFault.TheVariants.{Memory, At}
 use Rattle.lpis_checker.specs.Codes.{code_of}
@@ -50,7 +50,7 @@ pub record IsFault (r : Contents) (c : Cert) (q : Condition) (at : Site) : Type 
   pub lower : (s : Condition) → code_of s < code_of q → HoldsEverywhere r c s
   pub first : IsFirst r c q at
 
--- ---- the place that is told of a site
+-- ---- the location that is told of a site
 abbrev pub id_or : Option (List ℕ) → Option (List ℕ) → List ℕ
 id_or id other = unwrap_or id (unwrap_or other [])
 
@@ -64,28 +64,28 @@ parcel_id r c k = id_or (option_map (λ (t : ParcelPart). t.id) (slice_get c.par
     (option_map (λ (x : Parcel). x.id) (slice_get r.parcels k))
 
 -- a condition fails at a pair line only where there is one, so the first case is never told
-abbrev pub line_place : Option PairLine → Place
-line_place None = place.Pair 0 0
-line_place (Some l) = place.Pair l.i l.j
+abbrev pub line_location : Option PairLine → Location
+line_location None = location.Pair 0 0
+line_location (Some l) = location.Pair l.i l.j
 
-abbrev pub place_of : Contents → Cert → Site → Place
-place_of r c (PieceAt k) = place.Piece (piece_id r c k)
-place_of r c (ParcelAt k) = place.Parcel (parcel_id r c k)
-place_of r c (LineAt k) = line_place (slice_get c.pairs k)
-place_of r c (PairAt i j) = place.Pair i j
+abbrev pub location_of : Contents → Cert → Site → Location
+location_of r c (PieceAt k) = location.Piece (piece_id r c k)
+location_of r c (ParcelAt k) = location.Parcel (parcel_id r c k)
+location_of r c (LineAt k) = line_location (slice_get c.pairs k)
+location_of r c (PairAt i j) = location.Pair i j
 
--- what a fault reports: its code and its place
-abbrev pub report : CheckFault → Option (Condition × Place)
+-- what a fault reports: its code and its location
+abbrev pub report : CheckFault → Option (Condition × Location)
 report Memory = None
 report (At code at) = Some (code, at)
 
 -- a fault that is told is that one; want of memory may stand in its place
 abbrev pub ReportsFirst : Contents → Cert → CheckFault → Type 0
 ReportsFirst r c fault =
-    UnlessMemory (λ (t : Condition × Place). (site : Site) × IsFault r c t.0 site
-    × (t.1 ≡ place_of r c site)) (report fault)
+    UnlessMemory (λ (t : Condition × Location). (site : Site) × IsFault r c t.0 site
+    × (t.1 ≡ location_of r c site)) (report fault)
 
 -- the fault is one of the parts, below the conditions on pairs of triangles
 abbrev pub IsOfParts : CheckFault → Type 0
 IsOfParts fault =
-    UnlessMemory (λ (t : Condition × Place). code_of t.0 < code_of NearPairs) (report fault)
+    UnlessMemory (λ (t : Condition × Location). code_of t.0 < code_of NearPairs) (report fault)

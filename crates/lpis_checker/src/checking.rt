@@ -11,7 +11,7 @@ ghost use Rattle.lpis_checker.specs.declared.condition.Condition.TheVariants.{Ne
 
 use crate::condition::Failing;
 use crate::fault::CheckFault;
-use crate::first_fault::{first_fault, part_fault, place_of};
+use crate::first_fault::{first_fault, location_of, part_fault};
 use crate::locating::{parcel_at, piece_at};
 use lpis_cert::Cert;
 use lpis_covers::Id;
@@ -26,7 +26,7 @@ fn told(release: &Release, cert: &Cert, found: &Failing) -> Result<CheckFault, A
     requires { FoundFault release.now cert.now found.now }
     ensures { IfOk result (λ fault. IsToldOf release.now cert.now found.now fault) }
 {
-    let place = place_of(release, cert, found)?;
+    let place = location_of(release, cert, found)?;
     Ok(CheckFault::At {
         code: found.condition,
         place,

@@ -51,7 +51,7 @@ impl Condition {
     }
 }
 
-/// Where a condition may fail: at the piece, the parcel or the pair line of a place, counted from
+/// Where a condition may fail: at the piece, the parcel or the pair line of an index, counted from
 /// 0, or at two triangles.
 #[derive(Clone, Copy, Debug, PartialEq, Eq)]
 pub enum Site {

@@ -10,7 +10,7 @@ use thiserror::Error;
 
 /// The piece, the parcel or the two triangles, by their numbers, at which a condition fails.
 #[derive(Debug, Drop)]
-pub enum Place {
+pub enum Location {
     Piece(Id),
     Parcel(Id),
     Pair(u32, u32),
@@ -24,7 +24,7 @@ pub enum CheckFault {
     Memory,
     /// The condition of the lowest code that fails, and the first place at which it does.
     #[error("condition {} fails", .code.as_str())]
-    At { code: Condition, place: Place },
+    At { code: Condition, place: Location },
 }
 
 impl From<AllocError> for CheckFault {

@@ -5,13 +5,13 @@ ghost use Rattle.lpis_pairs.specs.NearPairs.{IsNearList};
 ghost use Rattle.lpis_checker.specs.Codes.{code_of};
 ghost use Rattle.lpis_checker.specs.FirstFault.{HoldBelow, parcel_id as parcel_id_spec};
 ghost use Rattle.lpis_checker.specs.FirstFault.{piece_id as piece_id_spec};
-ghost use Rattle.lpis_checker.specs.FirstFault.{place_of as place_of_spec};
+ghost use Rattle.lpis_checker.specs.FirstFault.{location_of as location_of_spec};
 ghost use Rattle.lpis_checker.specs.GoodCertificate.{Holds, triangles_of};
 ghost use Rattle.lpis_checker.specs.private.Searches.{FindsBelow, HasNoParcel, HasNoPiece};
 ghost use Rattle.lpis_checker.specs.private.Searches.{IsOfLine, IsOfPart};
 
 use crate::condition::{Condition, Failing, Site};
-use crate::fault::Place;
+use crate::fault::Location;
 use crate::near_pairs::unnamed_pair;
 use crate::searching::{first_at_names, first_at_parts, first_line};
 use lpis_cert::Cert;
@@ -23,13 +23,13 @@ use std::alloc::{AllocError, Global};
 
 /// The identifier of a piece in the certificate, or the release's where the certificate's list has
 /// ended.
-fn piece_id<'a>(release: &'a Release, cert: &'a Cert, place: usize) -> Option<&'a Id>
-    ensures { MatchOption result (HasNoPiece release.now cert.now place)
-        (λ id. id.now ≡ piece_id_spec release.now cert.now place) }
+fn piece_id<'a>(release: &'a Release, cert: &'a Cert, index: usize) -> Option<&'a Id>
+    ensures { MatchOption result (HasNoPiece release.now cert.now index)
+        (λ id. id.now ≡ piece_id_spec release.now cert.now index) }
 {
-    match cert.pieces.as_slice().get(place) {
+    match cert.pieces.as_slice().get(index) {
         Some(part) => Some(&part.id),
-        None => match release.pieces().get(place) {
+        None => match release.pieces().get(index) {
             Some(piece) => Some(&piece.id),
             None => None,
         },
@@ -38,38 +38,42 @@ fn piece_id<'a>(release: &'a Release, cert: &'a Cert, place: usize) -> Option<&'
 
 /// The identifier of a parcel in the certificate, or the release's where the certificate's list has
 /// ended.
-fn parcel_id<'a>(release: &'a Release, cert: &'a Cert, place: usize) -> Option<&'a Id>
-    ensures { MatchOption result (HasNoParcel release.now cert.now place)
-        (λ id. id.now ≡ parcel_id_spec release.now cert.now place) }
+fn parcel_id<'a>(release: &'a Release, cert: &'a Cert, index: usize) -> Option<&'a Id>
+    ensures { MatchOption result (HasNoParcel release.now cert.now index)
+        (λ id. id.now ≡ parcel_id_spec release.now cert.now index) }
 {
-    match cert.parcels.as_slice().get(place) {
+    match cert.parcels.as_slice().get(index) {
         Some(part) => Some(&part.id),
-        None => match release.parcels().get(place) {
+        None => match release.parcels().get(index) {
             Some(parcel) => Some(&parcel.id),
             None => None,
         },
     }
 }
 
-/// The place that is told of a site at which a condition fails.
-pub(crate) fn place_of(release: &Release, cert: &Cert, found: &Failing) -> Result<Place, AllocError>
+/// The location that is told of a site at which a condition fails.
+pub(crate) fn location_of(
+    release: &Release,
+    cert: &Cert,
+    found: &Failing,
+) -> Result<Location, AllocError>
     requires { Holds release.now cert.now found.now.condition found.now.site → ⊥ }
-    ensures { IfOk result (λ place. place ≡ place_of_spec release.now cert.now found.now.site) }
+    ensures { IfOk result (λ index. index ≡ location_of_spec release.now cert.now found.now.site) }
 {
     match found.site {
-        Site::PieceAt(place) => match piece_id(release, cert, place) {
-            Some(id) => Ok(Place::Piece(id.copy()?)),
+        Site::PieceAt(index) => match piece_id(release, cert, index) {
+            Some(id) => Ok(Location::Piece(id.copy()?)),
             None => unreachable!(),
         },
-        Site::ParcelAt(place) => match parcel_id(release, cert, place) {
-            Some(id) => Ok(Place::Parcel(id.copy()?)),
+        Site::ParcelAt(index) => match parcel_id(release, cert, index) {
+            Some(id) => Ok(Location::Parcel(id.copy()?)),
             None => unreachable!(),
         },
-        Site::LineAt(place) => match cert.pairs.as_slice().get(place) {
-            Some(line) => Ok(Place::Pair(line.i, line.j)),
+        Site::LineAt(index) => match cert.pairs.as_slice().get(index) {
+            Some(line) => Ok(Location::Pair(line.i, line.j)),
             None => unreachable!(),
         },
-        Site::PairAt(i, j) => Ok(Place::Pair(i, j)),
+        Site::PairAt(i, j) => Ok(Location::Pair(i, j)),
     }
 }
 

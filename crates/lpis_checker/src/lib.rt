@@ -19,7 +19,7 @@ mod signed;
 
 pub use checking::{Yes, check, check_parts};
 pub use condition::{Condition, Site};
-pub use fault::{CheckFault, Place};
+pub use fault::{CheckFault, Location};
 
 #[cfg(test)]
 mod tests;

@@ -18,13 +18,13 @@ fn is_same(part: &Id, own: &Id) -> bool
     part == own
 }
 
-/// Whether the piece at a place has its part's identifier, or neither is there.
-pub(crate) fn is_piece_named(release: &Release, cert: &Cert, place: usize) -> bool
-    ensures { IsTrue result ↔ Holds release.now cert.now Names (PieceAt place) }
+/// Whether the piece at an index has its part's identifier, or neither is there.
+pub(crate) fn is_piece_named(release: &Release, cert: &Cert, index: usize) -> bool
+    ensures { IsTrue result ↔ Holds release.now cert.now Names (PieceAt index) }
 {
     match (
-        cert.pieces.as_slice().get(place),
-        release.pieces().get(place),
+        cert.pieces.as_slice().get(index),
+        release.pieces().get(index),
     ) {
         (Some(part), Some(piece)) => is_same(&part.id, &piece.id),
         (None, None) => true,
@@ -32,13 +32,13 @@ pub(crate) fn is_piece_named(release: &Release, cert: &Cert, place: usize) -> bo
     }
 }
 
-/// Whether the parcel at a place has its part's identifier, or neither is there.
-pub(crate) fn is_parcel_named(release: &Release, cert: &Cert, place: usize) -> bool
-    ensures { IsTrue result ↔ Holds release.now cert.now Names (ParcelAt place) }
+/// Whether the parcel at an index has its part's identifier, or neither is there.
+pub(crate) fn is_parcel_named(release: &Release, cert: &Cert, index: usize) -> bool
+    ensures { IsTrue result ↔ Holds release.now cert.now Names (ParcelAt index) }
 {
     match (
-        cert.parcels.as_slice().get(place),
-        release.parcels().get(place),
+        cert.parcels.as_slice().get(index),
+        release.parcels().get(index),
     ) {
         (Some(part), Some(parcel)) => is_same(&part.id, &parcel.id),
         (None, None) => true,
@@ -64,21 +64,21 @@ fn names_two(line: &PairLine, count: usize) -> bool
     line.i < line.j && (line.j as usize) < count
 }
 
-/// Whether the pair line at a place names two triangles and a later pair than the line before it.
-fn is_in_order(release: &Release, cert: &Cert, count: usize, place: usize) -> bool
+/// Whether the pair line at an index names two triangles and a later pair than the line before it.
+fn is_in_order(release: &Release, cert: &Cert, count: usize, index: usize) -> bool
     requires count { count ≡ length (triangles_of cert.now.pieces) }
-    requires within { place < length cert.now.pairs }
-    ensures { IsTrue result ↔ Holds release.now cert.now Names (LineAt place) }
+    requires within { index < length cert.now.pairs }
+    ensures { IsTrue result ↔ Holds release.now cert.now Names (LineAt index) }
 {
     let lines = cert.pairs.as_slice();
-    let line = &lines[place];
+    let line = &lines[index];
     if !names_two(line, count) {
         return false;
     }
-    if place == 0 {
+    if index == 0 {
         return true;
     }
-    is_before(&lines[place - 1], line.i, line.j)
+    is_before(&lines[index - 1], line.i, line.j)
 }
 
 /// The first pair line that is out of order.
@@ -88,9 +88,9 @@ pub(crate) fn disordered_line(release: &Release, cert: &Cert) -> Option<usize>
     ensures { FindsLine release.now cert.now Names result }
 {
     let count = triangle_count(cert);
-    for place in 0..cert.pairs.as_slice().len() {
-        if !is_in_order(release, cert, count, place) {
-            return Some(place);
+    for index in 0..cert.pairs.as_slice().len() {
+        if !is_in_order(release, cert, count, index) {
+            return Some(index);
         }
     }
     None

@@ -19,7 +19,7 @@ pub(crate) fn is_before(line: &PairLine, i: u32, j: u32) -> bool
     line.i < i || line.i == i && line.j < j
 }
 
-/// The first line from a place on that names (i, j) or a later pair.
+/// The first line from an index on that names (i, j) or a later pair.
 fn skip_to(lines: &[PairLine], from: usize, i: u32, j: u32) -> usize
     requires { from ≤ length lines.now }
     ensures low { from ≤ result }
@@ -28,9 +28,9 @@ fn skip_to(lines: &[PairLine], from: usize, i: u32, j: u32) -> usize
         → IsBelow l.i l.j i j }
     ensures stop { (l : PairLine) → slice_get lines.now result ≡ Some l → IsBelow l.i l.j i j → ⊥ }
 {
-    for place in from..lines.len() {
-        if !is_before(&lines[place], i, j) {
-            return place;
+    for index in from..lines.len() {
+        if !is_before(&lines[index], i, j) {
+            return index;
         }
     }
     lines.len()
@@ -43,12 +43,12 @@ fn names_pair(line: &PairLine, i: u32, j: u32) -> bool
     line.i == i && line.j == j
 }
 
-/// Whether there is a line at a place, and it names (i, j).
-fn names_at(lines: &[PairLine], place: usize, i: u32, j: u32) -> bool
-    ensures { IsTrue result ↔ ((l : PairLine) × (slice_get lines.now place ≡ Some l) × (l.i ≡ i)
+/// Whether there is a line at an index, and it names (i, j).
+fn names_at(lines: &[PairLine], index: usize, i: u32, j: u32) -> bool
+    ensures { IsTrue result ↔ ((l : PairLine) × (slice_get lines.now index ≡ Some l) × (l.i ≡ i)
         × (l.j ≡ j)) }
 {
-    match lines.get(place) {
+    match lines.get(index) {
         Some(line) => names_pair(line, i, j),
         None => false,
     }

@@ -62,46 +62,46 @@ fn holds_of_parcel(
     }
 }
 
-/// Whether a condition holds at the piece of a place.
+/// Whether a condition holds at the piece of an index.
 fn holds_at_piece(
     alloc: Global,
     sum: &mut Vec<SignedEdge>,
     release: &Release,
     cert: &Cert,
     condition: Condition,
-    place: usize,
+    index: usize,
 ) -> Result<bool, AllocError>
-    ensures { IfOk result (λ b. IsTrue b ↔ Holds release.now cert.now condition (PieceAt place)) }
+    ensures { IfOk result (λ b. IsTrue b ↔ Holds release.now cert.now condition (PieceAt index)) }
 {
     if condition == Condition::Names {
-        return Ok(is_piece_named(release, cert, place));
+        return Ok(is_piece_named(release, cert, index));
     }
     match (
-        cert.pieces.as_slice().get(place),
-        release.pieces().get(place),
+        cert.pieces.as_slice().get(index),
+        release.pieces().get(index),
     ) {
         (Some(part), Some(piece)) => holds_of_piece(alloc, sum, condition, piece, part),
         _ => Ok(true),
     }
 }
 
-/// Whether a condition holds at the parcel of a place.
+/// Whether a condition holds at the parcel of an index.
 fn holds_at_parcel(
     alloc: Global,
     sum: &mut Vec<SignedEdge>,
     release: &Release,
     cert: &Cert,
     condition: Condition,
-    place: usize,
+    index: usize,
 ) -> Result<bool, AllocError>
-    ensures { IfOk result (λ b. IsTrue b ↔ Holds release.now cert.now condition (ParcelAt place)) }
+    ensures { IfOk result (λ b. IsTrue b ↔ Holds release.now cert.now condition (ParcelAt index)) }
 {
     if condition == Condition::Names {
-        return Ok(is_parcel_named(release, cert, place));
+        return Ok(is_parcel_named(release, cert, index));
     }
     match (
-        cert.parcels.as_slice().get(place),
-        release.parcels().get(place),
+        cert.parcels.as_slice().get(index),
+        release.parcels().get(index),
     ) {
         (Some(part), Some(parcel)) => holds_of_parcel(alloc, sum, release, condition, parcel, part),
         _ => Ok(true),
@@ -119,9 +119,9 @@ fn first_piece(
 {
     let mut sum = Vec::new(alloc);
     let end = cert.pieces.as_slice().len().max(release.pieces().len());
-    for place in 0..end {
-        if !holds_at_piece(alloc, &mut sum, release, cert, condition, place)? {
-            return Ok(Some(place));
+    for index in 0..end {
+        if !holds_at_piece(alloc, &mut sum, release, cert, condition, index)? {
+            return Ok(Some(index));
         }
     }
     Ok(None)
@@ -139,9 +139,9 @@ fn first_parcel(
 {
     let mut sum = Vec::new(alloc);
     let end = cert.parcels.as_slice().len().max(release.parcels().len());
-    for place in 0..end {
-        if !holds_at_parcel(alloc, &mut sum, release, cert, condition, place)? {
-            return Ok(Some(place));
+    for index in 0..end {
+        if !holds_at_parcel(alloc, &mut sum, release, cert, condition, index)? {
+            return Ok(Some(index));
         }
     }
     Ok(None)
@@ -156,11 +156,11 @@ fn first_part(
 ) -> Result<Option<Site>, AllocError>
     ensures { IfOk result (λ o. FindsPart release.now cert.now condition o) }
 {
-    if let Some(place) = first_piece(alloc, release, cert, condition)? {
-        return Ok(Some(Site::PieceAt(place)));
+    if let Some(index) = first_piece(alloc, release, cert, condition)? {
+        return Ok(Some(Site::PieceAt(index)));
     }
     match first_parcel(alloc, release, cert, condition)? {
-        Some(place) => Ok(Some(Site::ParcelAt(place))),
+        Some(index) => Ok(Some(Site::ParcelAt(index))),
         None => Ok(None),
     }
 }
@@ -191,25 +191,25 @@ pub(crate) fn first_at_names(
         return Ok(Some(site));
     }
     match disordered_line(release, cert) {
-        Some(place) => Ok(Some(Site::LineAt(place))),
+        Some(index) => Ok(Some(Site::LineAt(index))),
         None => Ok(None),
     }
 }
 
-/// Whether one of the two conditions on the triangles of a pair line holds at a place.
+/// Whether one of the two conditions on the triangles of a pair line holds at an index.
 fn holds_at_line(
     release: &Release,
     cert: &Cert,
     triangles: &[Triangle],
     condition: Condition,
-    place: usize,
+    index: usize,
 ) -> bool
     requires names { HoldsEverywhere release.now cert.now Names }
     requires numbered { triangles.now ≡ triangles_of cert.now.pieces }
-    requires within { place < length cert.now.pairs }
-    ensures { IsTrue result ↔ Holds release.now cert.now condition (LineAt place) }
+    requires within { index < length cert.now.pairs }
+    ensures { IsTrue result ↔ Holds release.now cert.now condition (LineAt index) }
 {
-    let line = &cert.pairs.as_slice()[place];
+    let line = &cert.pairs.as_slice()[index];
     match condition {
         Condition::NotApart => names_near(triangles, line),
         Condition::Separating => line_separates(triangles, line),
@@ -229,9 +229,9 @@ pub(crate) fn first_line(
     requires numbered { triangles.now ≡ triangles_of cert.now.pieces }
     ensures { FindsFirst release.now cert.now condition result }
 {
-    for place in 0..cert.pairs.as_slice().len() {
-        if !holds_at_line(release, cert, triangles, condition, place) {
-            return Some(Site::LineAt(place));
+    for index in 0..cert.pairs.as_slice().len() {
+        if !holds_at_line(release, cert, triangles, condition, index) {
+            return Some(Site::LineAt(index));
         }
     }
     None

@@ -6,7 +6,7 @@ mod pairs;
 mod parts;
 mod yes;
 
-use crate::{CheckFault, Place, check, check_parts};
+use crate::{CheckFault, Location, check, check_parts};
 use lpis_cert::{Cert, read_cert};
 use lpis_pairs::{AllPairs, PairSource, Sweep};
 use lpis_parcels::{Release, read_release};
@@ -41,12 +41,12 @@ fn two_pieces(rt: &HostRuntime, right: &str) -> Result<Release, Fail> {
     release_of(rt, SQUARE, pieces.as_str())
 }
 
-/// A place as it is told.
-fn place_text(rt: &HostRuntime, place: &Place) -> Result<String, Fail> {
-    match place {
-        Place::Piece(id) => Ok(format!(in rt.alloc(); "piece {}", id.as_str())?),
-        Place::Parcel(id) => Ok(format!(in rt.alloc(); "parcel {}", id.as_str())?),
-        Place::Pair(i, j) => Ok(format!(in rt.alloc(); "pair {i} {j}")?),
+/// A location as it is told.
+fn location_text(rt: &HostRuntime, location: &Location) -> Result<String, Fail> {
+    match location {
+        Location::Piece(id) => Ok(format!(in rt.alloc(); "piece {}", id.as_str())?),
+        Location::Parcel(id) => Ok(format!(in rt.alloc(); "parcel {}", id.as_str())?),
+        Location::Pair(i, j) => Ok(format!(in rt.alloc(); "pair {i} {j}")?),
     }
 }
 
@@ -55,7 +55,7 @@ fn fault_text(rt: &HostRuntime, fault: &CheckFault) -> Result<String, Fail> {
     match fault {
         CheckFault::Memory => Err("out of memory".into()),
         CheckFault::At { code, place } => {
-            let place = place_text(rt, place)?;
+            let place = location_text(rt, place)?;
             Ok(format!(in rt.alloc(); "{} {place}", code.as_str())?)
         }
     }

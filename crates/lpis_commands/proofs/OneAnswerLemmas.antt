@@ -11,7 +11,7 @@ use Rattle.lpis_checker.specs.declared.condition.Condition.TheVariants.{Names, T
 use Rattle.lpis_checker.specs.declared.condition.Site.{Site}
 use Rattle.lpis_checker.specs.declared.condition.Site.TheVariants.{PieceAt, ParcelAt, LineAt, PairAt}
 use Rattle.lpis_checker.specs.Codes.{code_of}
-use Rattle.lpis_checker.specs.FirstFault.{IsEarlier, IsFault, IsFirst, place_of}
+use Rattle.lpis_checker.specs.FirstFault.{IsEarlier, IsFault, IsFirst, location_of}
 use Rattle.lpis_commands.specs.CheckAnswer.{Inputs, IsAnswer, IsCertAnswer, IsCheckAnswer, IsReleaseAnswer, IsTableAnswer}
 use Rattle.lpis_commands.specs.Refusals.{check_refusal_text}
 use Rattle.lpis_commands.specs.Status.{refused}
@@ -95,7 +95,7 @@ one_condition r c q s a b f g = elim (cases_order (code_of q) (code_of s)) [
 ]
 
 fault_line : Contents → Cert → Condition → Site → Answer
-fault_line r c q a = (check_refusal_text (check.At q (place_of r c a)), refused)
+fault_line r c q a = (check_refusal_text (check.At q (location_of r c a)), refused)
 
 one_fault : (r : Contents) (c : Cert) (q s : Condition) (a b : Site) → IsFault r c q a → IsFault r c s b → fault_line r c q a ≡ fault_line r c s b
 one_fault r c q s a b f g =

@@ -11,7 +11,7 @@ use Rattle.lpis_cert.specs.Faults.{verdict}
 use Rattle.lpis_checker.specs.declared.condition.Condition.{Condition}
 use Rattle.lpis_checker.specs.declared.condition.Site.{Site}
 use Rattle.lpis_checker.specs.declared.fault.CheckFault.TheVariants as check
-use Rattle.lpis_checker.specs.FirstFault.{IsFault, place_of}
+use Rattle.lpis_checker.specs.FirstFault.{IsFault, location_of}
 use Rattle.lpis_checker.specs.GoodCertificate.{IsGood}
 use Rattle.lpis_checker.specs.SoundMap.{IsSoundMap}
 use Rattle.lpis_commands.specs.Failures.{IsUnchecked}
@@ -40,7 +40,7 @@ abbrev pub IsCheckAnswer : Contents → Cert → Answer → Answer → Type 0
 IsCheckAnswer r c good a =
     (IsGood r c × (a ≡ good))
     ⊎ ((code : Condition) × (site : Site) × IsFault r c code site
-    × (a ≡ (check_refusal_text (check.At code (place_of r c site)), refused)))
+    × (a ≡ (check_refusal_text (check.At code (location_of r c site)), refused)))
 
 -- of a text: the line of its first fault, or the answer to the certificate whose text it is
 abbrev pub IsCertAnswer : (Cert → Answer → Type 0) → List ℕ → Result ℕ (CertCode × ℕ) → Answer

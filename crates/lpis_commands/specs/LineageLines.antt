@@ -48,25 +48,25 @@ published_line year = codes "published " ++ decimal year ++ codes "\n"
 
 -- ---- refusals of the register
 -- the row, or the identifier and, where it was used before, the last year in which it was live
-abbrev pub lineage_place_text : LineageFault → List ℕ
-lineage_place_text lineage.Memory = []
-lineage_place_text (lineage.OldNotLive row) = codes "row " ++ decimal row
-lineage_place_text (lineage.OldStillLive row) = codes "row " ++ decimal row
-lineage_place_text (lineage.SuccessorMissing row) = codes "row " ++ decimal row
-lineage_place_text (lineage.DoubledRow row) = codes "row " ++ decimal row
-lineage_place_text (lineage.EndingBesideSuccessor row) = codes "row " ++ decimal row
-lineage_place_text (lineage.NoRow id) = id
-lineage_place_text (lineage.UsedBefore id year) = id ++ codes " " ++ decimal year
+abbrev pub lineage_location_text : LineageFault → List ℕ
+lineage_location_text lineage.Memory = []
+lineage_location_text (lineage.OldNotLive row) = codes "row " ++ decimal row
+lineage_location_text (lineage.OldStillLive row) = codes "row " ++ decimal row
+lineage_location_text (lineage.SuccessorMissing row) = codes "row " ++ decimal row
+lineage_location_text (lineage.DoubledRow row) = codes "row " ++ decimal row
+lineage_location_text (lineage.EndingBesideSuccessor row) = codes "row " ++ decimal row
+lineage_location_text (lineage.NoRow id) = id
+lineage_location_text (lineage.UsedBefore id year) = id ++ codes " " ++ decimal year
 
--- the code of a lineage and its place; want of memory is no fault of a lineage
+-- the code of a lineage and its location; want of memory is no fault of a lineage
 abbrev pub lineage_code_text : Option LineageCode → List ℕ → List ℕ
-lineage_code_text None place = []
-lineage_code_text (Some c) place = codes "lineage " ++ lineage_codes.code_text c ++ codes " "
-    ++ place
+lineage_code_text None location = []
+lineage_code_text (Some c) location = codes "lineage " ++ lineage_codes.code_text c ++ codes " "
+    ++ location
 
 unfoldable pub lineage_fault_text : LineageFault → List ℕ
 lineage_fault_text fault = lineage_code_text (lineage_codes.code_of fault)
-    (lineage_place_text fault)
+    (lineage_location_text fault)
 
 -- of the register: the code, and the last year or the lineage's fault; want of memory and a failed
 -- store are no refusals, and have no line

@@ -12,8 +12,8 @@ use Rattle.lpis_cert.specs.declared.fault.CertFault.TheVariants as cert
 use Rattle.lpis_cert.specs.Codes as cert_codes
 use Rattle.lpis_checker.specs.declared.fault.CheckFault.{CheckFault}
 use Rattle.lpis_checker.specs.declared.fault.CheckFault.TheVariants as check
-use Rattle.lpis_checker.specs.declared.fault.Place.{Place}
-use Rattle.lpis_checker.specs.declared.fault.Place.TheVariants.{Piece, Parcel, Pair}
+use Rattle.lpis_checker.specs.declared.fault.Location.{Location}
+use Rattle.lpis_checker.specs.declared.fault.Location.TheVariants.{Piece, Parcel, Pair}
 use Rattle.lpis_checker.specs.Codes as check_codes
 
 -- where a text is no polygon; want of memory is no fault of a text, and has no line
@@ -38,13 +38,13 @@ cert_refusal_text (cert.At code line) = codes "refused " ++ cert_codes.code_text
     ++ codes " cert line " ++ decimal line ++ codes "\n"
 
 -- a piece or a parcel by its identifier, or two triangles by their numbers
-abbrev pub place_text : Place → List ℕ
-place_text (Piece id) = codes "piece " ++ id
-place_text (Parcel id) = codes "parcel " ++ id
-place_text (Pair i j) = codes "pair " ++ decimal i ++ codes " " ++ decimal j
+abbrev pub location_text : Location → List ℕ
+location_text (Piece id) = codes "piece " ++ id
+location_text (Parcel id) = codes "parcel " ++ id
+location_text (Pair i j) = codes "pair " ++ decimal i ++ codes " " ++ decimal j
 
--- of a certificate that is not good: the code and the place
+-- of a certificate that is not good: the code and the location
 abbrev pub check_refusal_text : CheckFault → List ℕ
 check_refusal_text check.Memory = []
-check_refusal_text (check.At code place) = codes "refused " ++ check_codes.code_text code
-    ++ codes " " ++ place_text place ++ codes "\n"
+check_refusal_text (check.At code location) = codes "refused " ++ check_codes.code_text code
+    ++ codes " " ++ location_text location ++ codes "\n"

@@ -6,7 +6,7 @@ ghost use Rattle.std.specs.List.{flat_map};
 ghost use Rattle.lpis_lineage.specs.Changes.{kind_at};
 ghost use Rattle.lpis_register.specs.declared.fault.PublishFault.TheVariants.{Lineage};
 ghost use Rattle.lpis_commands.specs.LineageLines.{fate_text, kind_text, lineage_fault_text};
-ghost use Rattle.lpis_commands.specs.LineageLines.{lineage_line, lineage_place_text};
+ghost use Rattle.lpis_commands.specs.LineageLines.{lineage_line, lineage_location_text};
 ghost use Rattle.lpis_commands.specs.LineageLines.{publish_refusal_text, published_line};
 
 use crate::printing::PrintFault;
@@ -71,9 +71,9 @@ pub(crate) fn print_published<W: Write>(year: u16, out: &mut W) -> Result<(), Pr
 }
 
 /// Writes the row or the identifier for which a lineage is refused.
-fn print_lineage_place<W: Write>(fault: &LineageFault, out: &mut W) -> Result<(), PrintFault>
+fn print_lineage_location<W: Write>(fault: &LineageFault, out: &mut W) -> Result<(), PrintFault>
     ensures { OnOk result (Appends (W.contents out.old) (W.contents out.new)
-        (lineage_place_text fault.now)) }
+        (lineage_location_text fault.now)) }
 {
     match fault {
         LineageFault::Memory => {}
@@ -98,7 +98,7 @@ fn print_lineage_fault<W: Write>(fault: &LineageFault, out: &mut W) -> Result<()
         return Ok(());
     };
     write!(out, "lineage {} ", code.as_str())?;
-    print_lineage_place(fault, out)
+    print_lineage_location(fault, out)
 }
 
 /// Writes the line of a refused lineage.

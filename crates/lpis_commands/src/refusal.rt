@@ -2,12 +2,13 @@
 
 ghost use Rattle.std.specs.Prelude.{OnOk};
 ghost use Rattle.std.specs.Io.KnownBytes.{Appends};
-ghost use Rattle.lpis_commands.specs.Refusals.{cert_refusal_text, check_refusal_text, place_text};
+ghost use Rattle.lpis_commands.specs.Refusals.{cert_refusal_text, check_refusal_text};
+ghost use Rattle.lpis_commands.specs.Refusals.{location_text};
 ghost use Rattle.lpis_commands.specs.Refusals.{refusal_text, wkt_text};
 
 use crate::printing::PrintFault;
 use lpis_cert::CertFault;
-use lpis_checker::{CheckFault, Place};
+use lpis_checker::{CheckFault, Location};
 use lpis_covers::TableFault;
 use lpis_wkt::WktFault;
 use std::io::Write;
@@ -61,14 +62,14 @@ pub fn print_cert_fault<W: Write>(fault: &CertFault, out: &mut W) -> Result<(), 
 }
 
 /// Writes where a condition fails.
-fn print_place<W: Write>(place: &Place, out: &mut W) -> Result<(), PrintFault>
+fn print_location<W: Write>(location: &Location, out: &mut W) -> Result<(), PrintFault>
     ensures { OnOk result (Appends (W.contents out.old) (W.contents out.new)
-        (place_text place.now)) }
+        (location_text location.now)) }
 {
-    match place {
-        Place::Piece(id) => write!(out, "piece {}", id.as_str())?,
-        Place::Parcel(id) => write!(out, "parcel {}", id.as_str())?,
-        Place::Pair(i, j) => write!(out, "pair {i} {j}")?,
+    match location {
+        Location::Piece(id) => write!(out, "piece {}", id.as_str())?,
+        Location::Parcel(id) => write!(out, "parcel {}", id.as_str())?,
+        Location::Pair(i, j) => write!(out, "pair {i} {j}")?,
     }
     Ok(())
 }
@@ -83,7 +84,7 @@ pub fn print_check_fault<W: Write>(fault: &CheckFault, out: &mut W) -> Result<()
         return Ok(());
     };
     write!(out, "refused {} ", code.as_str())?;
-    print_place(place, out)?;
+    print_location(place, out)?;
     out.write_all(b"\n")?;
     Ok(())
 }

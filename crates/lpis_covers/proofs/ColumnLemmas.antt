@@ -1,7 +1,7 @@
 -- Byte order marks and columns, a step at a time.
 use Rattle.std.proofs.Common.{◌≡◌, ◌+◌, ◌-◌, ◌<◌, ◌≤◌, ℕ, zero, suc, List, [], ◌∷◌, ◌++◌, length, map, take, drop, get_or, Option, Some, None, Result, Ok, Err, true, false, refl, ap, arith, ◌∙◌, Bool}
 use Rattle.std.proofs.Common.{add-one, Bor, IsTrue, ◌↔◌, append_assoc, unwrap_or, option_map, option_to_list, is_some, ok_or}
-use Rattle.lpis_covers.proofs.Common.{strip_bom, has_mark, one_index, picked, places_of, texts}
+use Rattle.lpis_covers.proofs.Common.{strip_bom, has_mark, one_index, picked, indices_of, texts}
 use Rattle.std.specs.Str.{str_eq_ignore_ascii_case}
 use Rattle.std.specs.Char.{to_ascii_lowercase}
 use Rattle.csv.specs.Records.{field_at}
@@ -11,7 +11,7 @@ use Rattle.std.proofs.Math.Seq.{drop-cons}
 use Rattle.std.proofs.lemmas.List.{append-nil, take_all, drop_all}
 use Rattle.lpis_covers.specs.declared.fault.TableCode.{TableCode}
 use Rattle.lpis_covers.specs.declared.fault.TableCode.TheVariants.{MissingColumn, DoubledColumn}
-use Rattle.lpis_covers.specs.Table.{and_index, column_index, places_of_name}
+use Rattle.lpis_covers.specs.Table.{and_index, column_index, indices_of_name}
 
 pub with-mark : (xs : List ℕ) → has_mark xs ≡ true → take (length xs - 3) (drop 3 xs) ≡ strip_bom xs
 unfolding strip_bom
@@ -25,7 +25,7 @@ unfolding strip_bom
 without-mark (a ∷ b ∷ c ∷ rest) h = rw h refl
 without-mark _ _ = refl
 
--- the fields from a place on
+-- the fields from an index on
 drop-field : (fs : List (List ℕ)) (i : ℕ) (f : List ℕ) → Some f ≡ field_at fs i → drop i fs ≡ f ∷ drop (i + 1) fs
 unfolding field_at
 drop-field (g ∷ gs) (suc i) f e = let n : suc i + 1 ≡ suc (i + 1) = omega arith in rw n (drop-field gs i f e)
@@ -37,7 +37,7 @@ no-field [] i e = omega arith
 no-field (g ∷ gs) zero e = cc e
 no-field (g ∷ gs) (suc i) e = let m = no-field gs i e in omega (arith, m)
 
--- the field at a place, empty where there is none
+-- the field at an index, empty where there is none
 pub field-or : (fs : List (List ℕ)) (i : ℕ) (o : Option (Bor (List ℕ))) (d : Bor (List ℕ)) → d.now ≡ [] → option_map (λ (s : Bor (List ℕ)). s.now) o ≡ field_at fs i
     → (unwrap_or o d).now ≡ get_or fs i []
 unfolding field_at
@@ -51,64 +51,64 @@ same-name : (f name : List ℕ) (test : Bool) → IsTrue test ↔ (map to_ascii_
 same-name f name true says = same_from_decides _ true (bytes_eq-Decides _ _) ((λ e. says.0 refl), (λ p. refl))
 same-name f name false says = same_from_decides _ false (bytes_eq-Decides _ _) ((λ e. cc e), (λ p. cc (says.1 p)))
 
--- the places of a name, one field further
+-- the indices of a name, one field further
 pub step-named : (name : List ℕ) (i : ℕ) (fs : List (List ℕ)) (f : List ℕ) (test : Bool)
     → Some f ≡ field_at fs i → IsTrue test ↔ (map to_ascii_lowercase f ≡ map to_ascii_lowercase name) → test ≡ true
-    → places_of_name name i (drop i fs) ≡ i ∷ places_of_name name (i + 1) (drop (i + 1) fs)
-unfolding places_of_name
+    → indices_of_name name i (drop i fs) ≡ i ∷ indices_of_name name (i + 1) (drop (i + 1) fs)
+unfolding indices_of_name
 step-named name i fs f test at says t = rw (drop-field fs i f at, same-name f name test says ∙ t) refl
 
 pub step-other : (name : List ℕ) (i : ℕ) (fs : List (List ℕ)) (f : List ℕ) (test : Bool)
     → Some f ≡ field_at fs i → IsTrue test ↔ (map to_ascii_lowercase f ≡ map to_ascii_lowercase name) → test ≡ false
-    → places_of_name name i (drop i fs) ≡ places_of_name name (i + 1) (drop (i + 1) fs)
-unfolding places_of_name
+    → indices_of_name name i (drop i fs) ≡ indices_of_name name (i + 1) (drop (i + 1) fs)
+unfolding indices_of_name
 step-other name i fs f test at says t = rw (drop-field fs i f at, same-name f name test says ∙ t) refl
 
 -- a second field of the name
-pub place-twice : (found : Option ℕ) (i : ℕ) (more : List ℕ) → is_some found ≡ true → one_index (option_to_list found ++ i ∷ more) ≡ Err DoubledColumn
-place-twice None i more e = cc e
-place-twice (Some p) i more e = refl
+pub index-twice : (found : Option ℕ) (i : ℕ) (more : List ℕ) → is_some found ≡ true → one_index (option_to_list found ++ i ∷ more) ≡ Err DoubledColumn
+index-twice None i more e = cc e
+index-twice (Some p) i more e = refl
 
-pub place-first : (found : Option ℕ) (i : ℕ) (more : List ℕ) → is_some found ≡ false → option_to_list (Some i) ++ more ≡ option_to_list found ++ i ∷ more
-place-first None i more e = refl
-place-first (Some p) i more e = cc e
+pub index-first : (found : Option ℕ) (i : ℕ) (more : List ℕ) → is_some found ≡ false → option_to_list (Some i) ++ more ≡ option_to_list found ++ i ∷ more
+index-first None i more e = refl
+index-first (Some p) i more e = cc e
 
-pub place-end : (name : List ℕ) (i : ℕ) (found : Option ℕ) (fs : List (List ℕ)) (r : Result ℕ TableCode) → length fs ≤ i → r ≡ ok_or found MissingColumn
-    → r ≡ one_index (option_to_list found ++ places_of_name name i (drop i fs))
-unfolding places_of_name
-place-end name i None fs r h e = rw (drop_all i fs h) e
-place-end name i (Some p) fs r h e = rw (drop_all i fs h) e
+pub index-end : (name : List ℕ) (i : ℕ) (found : Option ℕ) (fs : List (List ℕ)) (r : Result ℕ TableCode) → length fs ≤ i → r ≡ ok_or found MissingColumn
+    → r ≡ one_index (option_to_list found ++ indices_of_name name i (drop i fs))
+unfolding indices_of_name
+index-end name i None fs r h e = rw (drop_all i fs h) e
+index-end name i (Some p) fs r h e = rw (drop_all i fs h) e
 
--- places found so far, and the rest of them
-abbrev pub after_places : List ℕ → Result (List ℕ) TableCode → Result (List ℕ) TableCode
-after_places front (Ok ps) = Ok (front ++ ps)
-after_places front (Err e) = Err e
+-- indices found so far, and the rest of them
+abbrev pub after_indices : List ℕ → Result (List ℕ) TableCode → Result (List ℕ) TableCode
+after_indices front (Ok ps) = Ok (front ++ ps)
+after_indices front (Err e) = Err e
 
 texts-drop : (names : List (Bor (List ℕ))) (i : ℕ) (d : Bor (List ℕ)) → i < length names → texts (drop i names) ≡ (get_or names i d).now ∷ texts (drop (i + 1) names)
 texts-drop names i d h = rw (add-one, drop-cons names i d) refl
 
-after-step : (front : List ℕ) (p : ℕ) (more : Result (List ℕ) TableCode) → after_places (front ++ (p ∷ [])) more ≡ after_places front (and_index p more)
+after-step : (front : List ℕ) (p : ℕ) (more : Result (List ℕ) TableCode) → after_indices (front ++ (p ∷ [])) more ≡ after_indices front (and_index p more)
 after-step front p (Ok ps) = ap Ok (append_assoc front (p ∷ []) ps)
 after-step front p (Err e) = refl
 
-pub places-more : (names : List (Bor (List ℕ))) (i : ℕ) (d : Bor (List ℕ)) (header : List (List ℕ)) (front : List ℕ) (p : ℕ) → i < length names
+pub indices-more : (names : List (Bor (List ℕ))) (i : ℕ) (d : Bor (List ℕ)) (header : List (List ℕ)) (front : List ℕ) (p : ℕ) → i < length names
     → column_index header (get_or names i d).now ≡ Ok p
-    → after_places (front ++ (p ∷ [])) (places_of header (texts (drop (i + 1) names))) ≡ after_places front (places_of header (texts (drop i names)))
-unfolding places_of
-places-more names i d header front p h e = rw (texts-drop names i d h, e) (after-step front p _)
+    → after_indices (front ++ (p ∷ [])) (indices_of header (texts (drop (i + 1) names))) ≡ after_indices front (indices_of header (texts (drop i names)))
+unfolding indices_of
+indices-more names i d header front p h e = rw (texts-drop names i d h, e) (after-step front p _)
 
-pub places-bad : (names : List (Bor (List ℕ))) (i : ℕ) (d : Bor (List ℕ)) (header : List (List ℕ)) (front : List ℕ) (e : TableCode) → i < length names
+pub indices-bad : (names : List (Bor (List ℕ))) (i : ℕ) (d : Bor (List ℕ)) (header : List (List ℕ)) (front : List ℕ) (e : TableCode) → i < length names
     → column_index header (get_or names i d).now ≡ Err e
-    → after_places front (places_of header (texts (drop i names))) ≡ Err e
-unfolding places_of
-places-bad names i d header front e h is = rw (texts-drop names i d h, is) refl
+    → after_indices front (indices_of header (texts (drop i names))) ≡ Err e
+unfolding indices_of
+indices-bad names i d header front e h is = rw (texts-drop names i d h, is) refl
 
-pub places-end : (names : List (Bor (List ℕ))) (i : ℕ) (header : List (List ℕ)) (front : List ℕ) → length names ≤ i
-    → after_places front (places_of header (texts (drop i names))) ≡ Ok front
-unfolding places_of
-places-end names i header front h = rw (drop_all i names h, append-nil front) refl
+pub indices-end : (names : List (Bor (List ℕ))) (i : ℕ) (header : List (List ℕ)) (front : List ℕ) → length names ≤ i
+    → after_indices front (indices_of header (texts (drop i names))) ≡ Ok front
+unfolding indices_of
+indices-end names i header front h = rw (drop_all i names h, append-nil front) refl
 
 -- one more field picked
-pub picked-more : (front : List (List ℕ)) (places : List ℕ) (i : ℕ) (fields : List (List ℕ)) → i < length places
-    → (front ++ (get_or fields (get_or places i 0) [] ∷ [])) ++ picked (drop (i + 1) places) fields ≡ front ++ picked (drop i places) fields
-picked-more front places i fields h = rw (add-one, drop-cons places i 0, append_assoc) refl
+pub picked-more : (front : List (List ℕ)) (indices : List ℕ) (i : ℕ) (fields : List (List ℕ)) → i < length indices
+    → (front ++ (get_or fields (get_or indices i 0) [] ∷ [])) ++ picked (drop (i + 1) indices) fields ≡ front ++ picked (drop i indices) fields
+picked-more front indices i fields h = rw (add-one, drop-cons indices i 0, append_assoc) refl

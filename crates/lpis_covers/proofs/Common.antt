@@ -4,7 +4,7 @@ unfoldable pub use Rattle.csv.specs.Reading.{strip_bom}
 pub use Rattle.csv.specs.Records.{fields_of}
 pub use Rattle.lpis_covers.specs.Faults.{polygon_in, unless_faulty}
 pub use Rattle.lpis_covers.specs.Table.{Answers, Reading, Record, field_of, has_mark, one_index, picked, texts, under_header}
-unfoldable pub use Rattle.lpis_covers.specs.Table.{places_of}
+unfoldable pub use Rattle.lpis_covers.specs.Table.{indices_of}
 pub use Rattle.lpis_covers.specs.declared.fault.Table.{Table}
 pub use Rattle.lpis_covers.specs.declared.fault.TableFault.{TableFault}
 pub use Rattle.lpis_covers.specs.declared.fault.TableFault.TheVariants.{At}

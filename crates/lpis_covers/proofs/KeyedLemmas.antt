@@ -1,11 +1,11 @@
--- The place of an identifier.
+-- The index of an identifier.
 use Rattle.std.proofs.Common.{◌≡◌, [], ℕ, List, get_or, sym, ap, ◌∙◌, IfSome, Option, Some, None, position, slice_get}
 use Rattle.std.proofs.lemmas.List.Quantifiers.{position-Some}
 use Rattle.std.proofs.lemmas.Option.{slice_get-get_or}
 use Rattle.std.proofs.lemmas.Slice.Eq.{bytes_eq-Decides}
 use Rattle.lpis_covers.specs.Ids.{same_id}
 
--- the place of an identifier has it
+-- the index of an identifier has it
 pub at-position : (ids : List (List ℕ)) (id : List ℕ) (r : Option ℕ) → r ≡ position (same_id id) ids → IfSome r (λ i. slice_get ids i ≡ Some id)
 at-position ids id None e = tt
 at-position ids id (Some i) e =

@@ -1,6 +1,6 @@
 -- Reading rows as values, a row at a time.
 use Rattle.std.proofs.Common.{◌≡◌, ◌≤◌, ◌+◌, ◌++◌, ◌∷◌, [], ℕ, List, length, map, Bool, true, false, Result, Ok, Err, refl, sym, ap, ◌∙◌, arith, append_assoc, option_to_list}
-use Rattle.lpis_covers.proofs.Common.{default_config, strip_bom, Table, TableFault, At, unless_faulty, Answers, Reading, Record, field_of, has_mark, places_of, under_header}
+use Rattle.lpis_covers.proofs.Common.{default_config, strip_bom, Table, TableFault, At, unless_faulty, Answers, Reading, Record, field_of, has_mark, indices_of, under_header}
 use Rattle.std.proofs.lemmas.List.{append-nil, map-append, length-append}
 use Rattle.csv.specs.Reading.{records}
 use Rattle.lpis_covers.specs.declared.fault.TableCode.{TableCode}
@@ -26,8 +26,8 @@ told-fault [] more v w f h = cc h
 told-fault (g ∷ fs) more v w f h = ap Err (cc h)
 
 -- the header's table and number
-start-header : (table : Table) (names : List (List ℕ)) (header : Record) (rs : List Record) (places : Result (List ℕ) TableCode) (t : Reading)
-    → Rattle.lpis_covers.specs.Table.rows_under table header rs places ≡ Ok t → (t.table ≡ table) × (t.number ≡ 0)
+start-header : (table : Table) (names : List (List ℕ)) (header : Record) (rs : List Record) (indices : Result (List ℕ) TableCode) (t : Reading)
+    → Rattle.lpis_covers.specs.Table.rows_under table header rs indices ≡ Ok t → (t.table ≡ table) × (t.number ≡ 0)
 start-header table names header rs (Ok ps) t h = let e = Ok-parts _ t h in (sym (ap (λ (r : Reading). r.table) e), sym (ap (λ (r : Reading). r.number) e)) where
   Ok-parts : (s t : Reading) → ◌≡◌ {A = Result Reading TableFault} (Ok s) (Ok t) → s ≡ t
   Ok-parts s t h = cc h
@@ -35,7 +35,7 @@ start-header table names header rs (Err code) t h = cc h
 
 start-records : (table : Table) (names : List (List ℕ)) (all : List Record) (t : Reading) → under_header table names all ≡ Ok t → (t.table ≡ table) × (t.number ≡ 0)
 start-records table names [] t h = cc h
-start-records table names (header ∷ rs) t h = start-header table names header rs (places_of header names) t h
+start-records table names (header ∷ rs) t h = start-header table names header rs (indices_of header names) t h
 
 pub table-start : (table : Table) (names : List (List ℕ)) (bytes : List ℕ) (t : Reading) → table_of table names bytes ≡ Ok t → (t.table ≡ table) × (t.number ≡ 0)
 unfolding table_of

@@ -32,43 +32,43 @@ has_mark (a ∷ []) = false
 has_mark (a ∷ b ∷ []) = false
 has_mark (a ∷ b ∷ c ∷ rest) = is_bom a b c
 
--- the places of the fields that have this name, compared in any mix of ASCII cases; the first field
--- is at place i
-unfoldable pub places_of_name : List ℕ → ℕ → Record → List ℕ
-places_of_name name i [] = []
-places_of_name name i (field ∷ fields) =
-    if str_eq_ignore_ascii_case field name then i ∷ places_of_name name (i + 1) fields else
-    places_of_name name (i + 1) fields
+-- the indices of the fields that have this name, compared in any mix of ASCII cases; the first
+-- field is at index i
+unfoldable pub indices_of_name : List ℕ → ℕ → Record → List ℕ
+indices_of_name name i [] = []
+indices_of_name name i (field ∷ fields) =
+    if str_eq_ignore_ascii_case field name then i ∷ indices_of_name name (i + 1) fields else
+    indices_of_name name (i + 1) fields
 
 -- a column stands where the header has its name, once
 abbrev pub one_index : List ℕ → Result ℕ TableCode
 one_index [] = Err MissingColumn
-one_index (place ∷ []) = Ok place
-one_index (place ∷ other ∷ more) = Err DoubledColumn
+one_index (index ∷ []) = Ok index
+one_index (index ∷ other ∷ more) = Err DoubledColumn
 
 abbrev pub column_index : Record → List ℕ → Result ℕ TableCode
-column_index header name = one_index (places_of_name name 0 header)
+column_index header name = one_index (indices_of_name name 0 header)
 
 abbrev pub and_index : ℕ → Result (List ℕ) TableCode → Result (List ℕ) TableCode
-and_index place (Ok places) = Ok (place ∷ places)
-and_index place (Err code) = Err code
+and_index index (Ok indices) = Ok (index ∷ indices)
+and_index index (Err code) = Err code
 
-abbrev pub then_places : Result ℕ TableCode → Result (List ℕ) TableCode → Result (List ℕ) TableCode
-then_places (Ok place) more = and_index place more
-then_places (Err code) more = Err code
+abbrev pub then_indices : Result ℕ TableCode → Result (List ℕ) TableCode → Result (List ℕ) TableCode
+then_indices (Ok index) more = and_index index more
+then_indices (Err code) more = Err code
 
--- the places of the columns of these names, or the fault of the first that has one
-unfoldable pub places_of : Record → List (List ℕ) → Result (List ℕ) TableCode
-places_of header [] = Ok []
-places_of header (name ∷ names) = then_places (column_index header name) (places_of header names)
+-- the indices of the columns of these names, or the fault of the first that has one
+unfoldable pub indices_of : Record → List (List ℕ) → Result (List ℕ) TableCode
+indices_of header [] = Ok []
+indices_of header (name ∷ names) = then_indices (column_index header name) (indices_of header names)
 
--- the field at a place, empty past the last one
+-- the field at an index, empty past the last one
 abbrev pub field_of : Record → ℕ → List ℕ
-field_of fields place = slice_index_or fields place []
+field_of fields index = slice_index_or fields index []
 
--- the fields at these places
+-- the fields at these indices
 abbrev pub picked : List ℕ → Record → Record
-picked places fields = map (field_of fields) places
+picked indices fields = map (field_of fields) indices
 
 -- the wanted fields of rows, and the fault that stops them, if one does
 pub record Found : Type 0 where
@@ -84,11 +84,11 @@ stopped fault = record { rows = []; stop = Some fault }
 -- the rows before the first whose length is not the header's or whose number is past the most, in
 -- this order; the first record is row n
 unfoldable pub rows_from : Table → ℕ → List ℕ → ℕ → List Record → Found
-rows_from table width places n [] = record { rows = []; stop = None }
-rows_from table width places n (r ∷ rs) =
+rows_from table width indices n [] = record { rows = []; stop = None }
+rows_from table width indices n (r ∷ rs) =
     if length r == width then
     (if nat_lt most_rows n then stopped (fault_at TooManyRows table n)
-    else with_row (picked places r) (rows_from table width places (n + 1) rs))
+    else with_row (picked indices r) (rows_from table width indices (n + 1) rs))
     else stopped (fault_at NotCsv table n)
 
 -- where a reader of a table stands: the number and the wanted fields of the row that it read last
@@ -112,14 +112,14 @@ reading table n row found = record {
 
 abbrev pub rows_under : Table → Record → List Record → Result (List ℕ) TableCode
     → Result Reading TableFault
-rows_under table header rs (Ok places) =
-    Ok (reading table 0 (picked places header) (rows_from table (length header) places 1 rs))
+rows_under table header rs (Ok indices) =
+    Ok (reading table 0 (picked indices header) (rows_from table (length header) indices 1 rs))
 rows_under table header rs (Err code) = Err (fault_at code table 0)
 
 -- the first record is the header; a text without one lacks its first column
 abbrev pub under_header : Table → List (List ℕ) → List Record → Result Reading TableFault
 under_header table names [] = Err (fault_at MissingColumn table 0)
-under_header table names (header ∷ rs) = rows_under table header rs (places_of header names)
+under_header table names (header ∷ rs) = rows_under table header rs (indices_of header names)
 
 -- the table of a text, by the names of the wanted columns: one byte order mark is skipped, and a
 -- second one is a fault

@@ -70,11 +70,11 @@ impl<T: Identified> Keyed<T> {
         rows
     }
 
-    /// The place of the row with this identifier.
+    /// The index of the row with this identifier.
     pub fn position(&self, id: &Id) -> Option<usize>
-        ensures place { result ≡ position (same_id id.now) (map T.identifier self.now) }
+        ensures index { result ≡ position (same_id id.now) (map T.identifier self.now) }
         ensures found { is_some result ≡ has_id (map T.identifier self.now) id.now }
-        ensures at_place { IfSome result (λ i. slice_get (map T.identifier self.now) i ≡ Some
+        ensures at_index { IfSome result (λ i. slice_get (map T.identifier self.now) i ≡ Some
             id.now) }
     {
         self.keys.position(id)

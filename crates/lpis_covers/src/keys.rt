@@ -55,11 +55,11 @@ impl Keys {
         self.ids.len()
     }
 
-    /// The place of an identifier.
+    /// The index of an identifier.
     pub(crate) fn position(&self, id: &Id) -> Option<usize>
-        ensures place { result ≡ position (same_id id.now) self.now }
+        ensures index { result ≡ position (same_id id.now) self.now }
         ensures found { is_some result ≡ has_id self.now id.now }
-        ensures at_place { IfSome result (λ i. slice_get self.now i ≡ Some id.now) }
+        ensures at_index { IfSome result (λ i. slice_get self.now i ≡ Some id.now) }
     {
         self.ids.get_index_of(id)
     }

@@ -4,7 +4,7 @@ ghost use Rattle.std.specs.Prelude.{◌≡◌, ◌≤◌, [], None, Some, IfOk, 
 ghost use Rattle.csv.specs.Records.{fields_of};
 ghost use Rattle.csv.specs.Reading.{strip_bom};
 ghost use Rattle.lpis_covers.specs.Table.{Advances, Answers, fault_at, field_of, has_mark, picked};
-ghost use Rattle.lpis_covers.specs.Table.{column_index, places_of, table_of, texts};
+ghost use Rattle.lpis_covers.specs.Table.{column_index, indices_of, table_of, texts};
 ghost use Rattle.lpis_covers.specs.declared.fault.TableCode.TheVariants.{BadGeometry};
 ghost use Rattle.lpis_covers.specs.declared.fault.TableFault.TheVariants.{At};
 ghost use Rattle.lpis_covers.specs.private.Columns.{TellsColumn};
@@ -26,7 +26,7 @@ const MOST_ROWS: u32 = 200_000;
 pub struct TableReader<'a> {
     records: Records<'a>,
     current: ByteRecord,
-    places: Vec<usize>,
+    indices: Vec<usize>,
     table: Table,
     number: u32,
 }
@@ -38,8 +38,8 @@ impl<'a> Model for TableReader<'a> {
 
     ghost Value = { Reading };
 
-    ghost view = { λ r. reading r.table r.number (picked r.places.items (fields_of r.current))
-        (rows_from r.table r.records.width r.places.items (r.number + 1) r.records.records) };
+    ghost view = { λ r. reading r.table r.number (picked r.indices.items (fields_of r.current))
+        (rows_from r.table r.records.width r.indices.items (r.number + 1) r.records.records) };
 
     ghost invariant = { λ r. r.number ≤ most_rows };
 }
@@ -65,8 +65,8 @@ fn without_mark(text: &[u8]) -> &[u8]
     }
 }
 
-/// The place of the one field of a name.
-fn column_place(header: &ByteRecord, name: &[u8]) -> Result<usize, TableCode>
+/// The index of the one field of a name.
+fn column_index(header: &ByteRecord, name: &[u8]) -> Result<usize, TableCode>
     ensures { result ≡ column_index (fields_of header.now) name.now }
 {
     let mut found: Option<usize> = None;
@@ -83,35 +83,35 @@ fn column_place(header: &ByteRecord, name: &[u8]) -> Result<usize, TableCode>
     found.ok_or(TableCode::MissingColumn)
 }
 
-/// The places of the columns of these names.
-fn column_places(
+/// The indices of the columns of these names.
+fn column_indices(
     alloc: Global,
     header: &ByteRecord,
     table: Table,
     names: &[&[u8]],
 ) -> Result<Vec<usize>, TableFault>
-    ensures ok { IfOk result (λ v. places_of (fields_of header.now) (texts names.now) ≡ Ok
+    ensures ok { IfOk result (λ v. indices_of (fields_of header.now) (texts names.now) ≡ Ok
         v.items) }
     ensures err { IfErr result
-        (TellsColumn table (places_of (fields_of header.now) (texts names.now))) }
+        (TellsColumn table (indices_of (fields_of header.now) (texts names.now))) }
 {
-    let mut places = Vec::new(alloc);
+    let mut indices = Vec::new(alloc);
     for name in names {
-        match column_place(header, name) {
-            Ok(place) => places.push(place)?,
+        match column_index(header, name) {
+            Ok(index) => indices.push(index)?,
             Err(code) => return Err(fault(code, table, 0)),
         }
     }
-    Ok(places)
+    Ok(indices)
 }
 
-/// A copy of the fields at these places.
-fn picked_row(alloc: Global, row: &ByteRecord, places: &[usize]) -> Result<ByteRecord, AllocError>
-    ensures { IfOk result (λ r. fields_of r ≡ picked places.now (fields_of row.now)) }
+/// A copy of the fields at these indices.
+fn picked_row(alloc: Global, row: &ByteRecord, indices: &[usize]) -> Result<ByteRecord, AllocError>
+    ensures { IfOk result (λ r. fields_of r ≡ picked indices.now (fields_of row.now)) }
 {
     let mut wanted = ByteRecord::new(alloc);
-    for place in places {
-        wanted.push_field(row.get(*place).unwrap_or(&[]))?;
+    for index in indices {
+        wanted.push_field(row.get(*index).unwrap_or(&[]))?;
     }
     Ok(wanted)
 }
@@ -149,11 +149,11 @@ impl<'a> TableReader<'a> {
         let mut header = ByteRecord::new(alloc);
         match Records::open(alloc, text, &mut header)? {
             Some(records) => {
-                let places = column_places(alloc, &header, table, columns)?;
+                let indices = column_indices(alloc, &header, table, columns)?;
                 Ok(TableReader {
                     records,
                     current: header,
-                    places,
+                    indices,
                     table,
                     number: 0,
                 })
@@ -184,8 +184,8 @@ impl<'a> TableReader<'a> {
     pub fn field(&self, k: usize) -> &[u8]
         ensures { result.now ≡ field_of self.now.row k }
     {
-        match self.places.get(k) {
-            Some(place) => self.current.get(*place).unwrap_or(&[]),
+        match self.indices.get(k) {
+            Some(index) => self.current.get(*index).unwrap_or(&[]),
             None => &[],
         }
     }
@@ -194,7 +194,7 @@ impl<'a> TableReader<'a> {
     pub(crate) fn copy_row(&self, alloc: Global) -> Result<ByteRecord, AllocError>
         ensures { IfOk result (λ r. fields_of r ≡ self.now.row) }
     {
-        picked_row(alloc, &self.current, &self.places)
+        picked_row(alloc, &self.current, &self.indices)
     }
 
     /// A fault in the row that was read last.

@@ -14,7 +14,7 @@ use Rattle.lpis_cutter.specs.private.Cutting.{AreFans, IsTooMany, points_in_piec
 abbrev points : Piece → ℕ
 points x = points_of x.polygon
 
--- the piece at a place is a fan where all are
+-- the piece at an index is a fan where all are
 pub fan_at : (ys xs : List Piece) (i : ℕ) (x : Piece) → xs ≡ ys → i < length xs → x ≡ get_or xs i x → AreFans ys → IsFan x.polygon
 fan_at ys xs i x e within is fans =
     subst (λ (z : Piece). IsFan z.polygon) (sym is) ((subst (λ (zs : List Piece). AreFans zs) (sym e) fans) i x within)

@@ -22,7 +22,7 @@ use Rattle.lpis_cutter.specs.declared.fault.CutFault.{CutFault}
 use Rattle.lpis_cutter.specs.declared.fault.CutFault.TheVariants.{Refused}
 use Rattle.lpis_cutter.specs.Refusals.{ParcelsShare, PiecesShare, Disagrees, RefusesRightly, HasPoint}
 
--- an item that is among others has a place
+-- an item that is among others has an index
 among_found : {A : Type 0} (xs : List A) (x : A) → IsAmong xs x → Found (λ y. y ≡ x) xs
 among_found xs x a = any_found (λ y. y ≡ x) xs (a.0, x, a.1, a.2, refl)
 
@@ -31,7 +31,7 @@ one_item : {A : Type 0} (P : A → Type 0) (xs : List A) (x y : A) → AtMostOne
 one_item P xs x y one a b p q =
     let f = among_found xs x a in
     let g = among_found xs y b in
-    let same = one f.place g.place f.item g.item f.at g.at (subst P (sym f.has) p) (subst P (sym g.has) q) in
+    let same = one f.index g.index f.item g.item f.at g.at (subst P (sym f.has) p) (subst P (sym g.has) q) in
     sym f.has ∙ same_Some f.item g.item (sym f.at ∙ ap (λ k. slice_get xs k) same ∙ g.at) ∙ g.has
 
 pub one-filter : {A : Type 0} (P : A → Type 0) (q : A → Bool) (xs : List A) → AtMostOne P xs → AtMostOne P (filter q xs)
@@ -47,7 +47,7 @@ one-filter {A} P q (x ∷ xs) h = by (q x) (one-filter P q xs (λ i j a b e f p 
     apart : (j : ℕ) (a b : A) → x ≡ a → slice_get (filter q xs) j ≡ Some b → P a → P b → ⊥
     apart j a b e f p r =
         let k = filter_kept q xs j b f in
-        clash k.place (h 0 (suc k.place) a b (ap Some e) k.at p r)
+        clash k.index (h 0 (suc k.index) a b (ap Some e) k.at p r)
 
     by : (b : Bool) → AtMostOne P (filter q xs) → AtMostOne P (cond b (x ∷ filter q xs) (filter q xs))
     by false rest i j a b e f p r = rest i j a b e f p r
@@ -82,7 +82,7 @@ disagrees r a s d t sound = by t.parted
     by : (IsInParcel s t.x × All (λ (y : Piece). IsInPiece s y → ⊥) (pieces_named r a)) ⊎ ((IsInParcel s t.x → ⊥) × Any (IsInPiece s) (pieces_named r a)) → ⊥
     by (inl h) =
         let f = any_found (IsInPiece s) (pieces_named r a) (filled.0 h.0).0 in
-        all_at (λ (y : Piece). IsInPiece s y → ⊥) (pieces_named r a) f.place f.item f.at h.1 f.has
+        all_at (λ (y : Piece). IsInPiece s y → ⊥) (pieces_named r a) f.index f.item f.at h.1 f.has
     by (inr h) = h.0 (filled.1 (h.1, one-filter (IsInPiece s) (names a) r.pieces (sound.one_piece s d)))
 
 -- what is told with a point denies that the release is sound everywhere

@@ -66,11 +66,11 @@ fn cut_pieces(cutter: &mut Cutter, alloc: Global, release: &Release) -> Result<P
 }
 
 /// A refusal of a parcel that shows no point of a fault: one of its residual edges is counted anew.
-fn refuse_parcel(release: &Release, place: usize, net: &Net) -> Result<Option<Refusal>, AllocError>
+fn refuse_parcel(release: &Release, index: usize, net: &Net) -> Result<Option<Refusal>, AllocError>
     ensures { IfOk result (SaysIfAny release.now) }
 {
     match net.edge_left() {
-        Some((a, b)) => unevenness(release, place, a, b),
+        Some((a, b)) => unevenness(release, index, a, b),
         None => Ok(None),
     }
 }
@@ -97,12 +97,12 @@ fn load_parcel(net: &mut Net, release: &Release, parcel: &Parcel) -> Result<(), 
     net.settle()
 }
 
-/// A point at which the parcel at a place and its pieces disagree, looked for where its edges are
+/// A point at which the parcel at an index and its pieces disagree, looked for where its edges are
 /// not even.
 fn find_fault(
     tools: &mut Tools,
     release: &Release,
-    place: usize,
+    index: usize,
 ) -> Result<Option<Refusal>, AllocError>
     ensures { IfOk result (SaysIfAny release.now) }
 {
@@ -113,7 +113,7 @@ fn find_fault(
         &mut tools.cutter.mesher,
         &mut tools.budget,
         release,
-        place,
+        index,
         &tools.net,
     )
 }
@@ -135,7 +135,7 @@ fn add_parcel(
     alloc: Global,
     tools: &mut Tools,
     release: &Release,
-    place: usize,
+    index: usize,
     parcel: &Parcel,
     parts: Parts,
 ) -> Result<Parts, CutFault>
@@ -144,7 +144,7 @@ fn add_parcel(
     let flats = parts.flats;
     let own = match flats_that_fit(&tools.net, alloc, flats)? {
         Some(own) => own,
-        None => match refuse_parcel(release, place, &tools.net)? {
+        None => match refuse_parcel(release, index, &tools.net)? {
             Some(refusal) => return Err(CutFault::Refused(refusal)),
             None => Vec::new(alloc),
         },
@@ -171,15 +171,15 @@ fn fill_parcels(
 {
     let mut parts = parts;
     let mut kept = None;
-    for (place, parcel) in release.parcels().iter().enumerate() {
+    for (index, parcel) in release.parcels().iter().enumerate() {
         load_parcel(&mut tools.net, release, parcel)?;
-        if let Some(refusal) = find_fault(tools, release, place)? {
+        if let Some(refusal) = find_fault(tools, release, index)? {
             return Err(CutFault::Refused(refusal));
         }
         if kept.is_none() && !tools.net.is_flat() {
-            kept = refuse_parcel(release, place, &tools.net)?;
+            kept = refuse_parcel(release, index, &tools.net)?;
         }
-        parts = add_parcel(alloc, tools, release, place, parcel, parts)?;
+        parts = add_parcel(alloc, tools, release, index, parcel, parts)?;
     }
     Ok(Filled { parts, kept })
 }

@@ -39,7 +39,7 @@ fn is_left(a: Point, b: Point, point: Point) -> bool
     orient(a, b, point) > 0
 }
 
-/// Whether the point from which the first edge goes is strictly left of the edge at a place.
+/// Whether the point from which the first edge goes is strictly left of the edge at an index.
 fn sees(list: &[(Point, Point)], k: usize) -> bool
     ensures { SeesAll list.now → 0 < k → k + 1 < length list.now → IsTrue result }
 {

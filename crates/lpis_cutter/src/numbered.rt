@@ -4,7 +4,7 @@ use crate::parts::Parts;
 use lpis_points::Triangle;
 use std::alloc::{AllocError, Global};
 
-/// The triangles of all pieces, numbered from 0, and the place of the piece of each.
+/// The triangles of all pieces, numbered from 0, and the index of the piece of each.
 #[derive(Drop)]
 pub(crate) struct Numbered {
     pub(crate) triangles: Vec<Triangle>,
@@ -19,8 +19,8 @@ impl Numbered {
         let mut triangles = Vec::with_capacity(alloc, count)?;
         let mut owners = Vec::with_capacity(alloc, count)?;
         let mut firsts = Vec::with_capacity(alloc, parts.pieces.len())?;
-        for (place, part) in parts.pieces.iter().enumerate() {
-            let owner = u32::try_from(place).unwrap_or(u32::MAX);
+        for (index, part) in parts.pieces.iter().enumerate() {
+            let owner = u32::try_from(index).unwrap_or(u32::MAX);
             firsts.push(u32::try_from(triangles.len()).unwrap_or(u32::MAX))?;
             for triangle in part.triangles.as_slice() {
                 triangles.push(*triangle)?;
@@ -38,7 +38,7 @@ impl Numbered {
         self.triangles.get(number as usize)
     }
 
-    /// The places of the pieces of two triangles.
+    /// The indices of the pieces of two triangles.
     pub(crate) fn owners_of(&self, i: u32, j: u32) -> Option<(usize, usize)> {
         let first = *self.owners.get(i as usize)?;
         let second = *self.owners.get(j as usize)?;

@@ -72,12 +72,12 @@ fn size_of(polygon: &Polygon) -> usize {
     size
 }
 
-/// The first of these points at which the parcel at a place and its pieces disagree; each costs so
+/// The first of these points at which the parcel at an index and its pieces disagree; each costs so
 /// many edges.
 fn first_disagreement(
     budget: &mut Budget,
     release: &Release,
-    place: usize,
+    index: usize,
     size: usize,
     points: &[RatPoint],
 ) -> Result<Option<Refusal>, AllocError>
@@ -87,7 +87,7 @@ fn first_disagreement(
         if !budget.look(size) {
             return Ok(None);
         }
-        let found = disagreement(release, place, p)?;
+        let found = disagreement(release, index, p)?;
         if found.is_some() {
             return Ok(found);
         }
@@ -95,20 +95,20 @@ fn first_disagreement(
     Ok(None)
 }
 
-/// A point at which the parcel at a place and its pieces disagree, looked for where residual edges
+/// A point at which the parcel at an index and its pieces disagree, looked for where residual edges
 /// leave rooms between them.
 pub(crate) fn find_disagreement(
     mesher: &mut Mesher,
     budget: &mut Budget,
     release: &Release,
-    place: usize,
+    index: usize,
     net: &Net,
 ) -> Result<Option<Refusal>, AllocError>
     ensures { IfOk result (SaysIfAny release.now) }
 {
     let size = net.size();
     let points = net.middles(mesher)?;
-    let found = first_disagreement(budget, release, place, size, &points)?;
+    let found = first_disagreement(budget, release, index, size, &points)?;
     if found.is_some() {
         return Ok(found);
     }
@@ -117,7 +117,7 @@ pub(crate) fn find_disagreement(
         let Some(points) = corners.next_points()? else {
             return Ok(None);
         };
-        let found = first_disagreement(budget, release, place, size, &points)?;
+        let found = first_disagreement(budget, release, index, size, &points)?;
         if found.is_some() {
             return Ok(found);
         }
@@ -125,14 +125,14 @@ pub(crate) fn find_disagreement(
     Ok(None)
 }
 
-/// The place of the parcel of an identifier.
-fn place_of(release: &Release, id: &Id) -> usize {
+/// The index of the parcel of an identifier.
+fn index_of(release: &Release, id: &Id) -> usize {
     let parcels = release.parcels();
-    for place in 0..parcels.len() {
-        if let Some(parcel) = parcels.get(place)
+    for index in 0..parcels.len() {
+        if let Some(parcel) = parcels.get(index)
             && parcel.id == *id
         {
-            return place;
+            return index;
         }
     }
     parcels.len()
@@ -155,7 +155,7 @@ fn overlap_at(
     pieces_overlap(release, pieces.0, pieces.1, p)
 }
 
-/// A point that shows an overlap of the pieces at two places or of their parcels, looked for where
+/// A point that shows an overlap of the pieces at two indices or of their parcels, looked for where
 /// two of their triangles overlap.
 pub(crate) fn find_overlap(
     alloc: Global,
@@ -173,7 +173,7 @@ pub(crate) fn find_overlap(
     ) else {
         return Ok(None);
     };
-    let parcels = (place_of(release, &x.parcel), place_of(release, &y.parcel));
+    let parcels = (index_of(release, &x.parcel), index_of(release, &y.parcel));
     let size = size_of(&x.polygon)
         .saturating_add(size_of(&y.polygon))
         .saturating_mul(2);

@@ -104,21 +104,21 @@ fn do_overlap(numbered: &Numbered, i: u32, j: u32) -> bool {
     }
 }
 
-/// The overlap of the triangle at a place with one of the next, where a point is found.
+/// The overlap of the triangle at an index with one of the next, where a point is found.
 fn overlap_with_next(
     alloc: Global,
     budget: &mut Budget,
     release: &Release,
     numbered: &Numbered,
     placed: &[Placed],
-    place: usize,
+    index: usize,
 ) -> Result<Option<Refusal>, AllocError>
     ensures { IfOk result (SaysIfAny release.now) }
 {
-    let Some(own) = placed.get(place) else {
+    let Some(own) = placed.get(index) else {
         return Ok(None);
     };
-    for other in placed.iter().skip(place.saturating_add(1)).take(NEXT) {
+    for other in placed.iter().skip(index.saturating_add(1)).take(NEXT) {
         let (i, j) = (own.number.min(other.number), own.number.max(other.number));
         if do_overlap(numbered, i, j) && budget.search() {
             let found = overlap_of(alloc, budget, release, numbered, i, j)?;
@@ -141,8 +141,8 @@ pub(crate) fn early_overlap(
     ensures { IfOk result (SaysIfAny release.now) }
 {
     let placed = firsts_in_order(alloc, numbered)?;
-    for place in 0..placed.len() {
-        let found = overlap_with_next(alloc, budget, release, numbered, &placed, place)?;
+    for index in 0..placed.len() {
+        let found = overlap_with_next(alloc, budget, release, numbered, &placed, index)?;
         if found.is_some() {
             return Ok(found);
         }

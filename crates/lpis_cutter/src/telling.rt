@@ -17,7 +17,7 @@ use lpis_points::{Point, RatPoint};
 use lpis_rings::{Polygon, contains, edges};
 use std::alloc::AllocError;
 
-/// That the pieces at two places overlap, where both contain the point and they have two
+/// That the pieces at two indices overlap, where both contain the point and they have two
 /// identifiers.
 pub(crate) fn pieces_overlap(
     release: &Release,
@@ -79,15 +79,15 @@ fn is_covered(release: &Release, parcel: &Id, p: &RatPoint) -> bool
     false
 }
 
-/// That the parcel at a place and its pieces disagree at the point, where they do.
+/// That the parcel at an index and its pieces disagree at the point, where they do.
 pub(crate) fn disagreement(
     release: &Release,
-    place: usize,
+    index: usize,
     p: &RatPoint,
 ) -> Result<Option<Refusal>, AllocError>
     ensures { IfOk result (SaysIfAny release.now) }
 {
-    let Some(x) = release.parcels().get(place) else {
+    let Some(x) = release.parcels().get(index) else {
         return Ok(None);
     };
     let inside = contains(&x.polygon, p);
@@ -154,17 +154,17 @@ fn is_uneven(release: &Release, parcel: &Parcel, a: Point, b: Point) -> bool
     differ(own_along, own_back, along, back)
 }
 
-/// That the edges of the parcel at a place have other net counts than its pieces' edges, where this
-/// edge has.
+/// That the edges of the parcel at an index have other net counts than its pieces' edges, where
+/// this edge has.
 pub(crate) fn unevenness(
     release: &Release,
-    place: usize,
+    index: usize,
     a: Point,
     b: Point,
 ) -> Result<Option<Refusal>, AllocError>
     ensures { IfOk result (SaysIfAny release.now) }
 {
-    let Some(x) = release.parcels().get(place) else {
+    let Some(x) = release.parcels().get(index) else {
         return Ok(None);
     };
     if !is_uneven(release, x, a, b) {
@@ -174,7 +174,7 @@ pub(crate) fn unevenness(
     Ok(Some(Refusal::NoFlats { parcel }))
 }
 
-/// That two triangles of the pieces at two places have no separator.
+/// That two triangles of the pieces at two indices have no separator.
 pub(crate) fn no_separator(
     release: &Release,
     i: usize,

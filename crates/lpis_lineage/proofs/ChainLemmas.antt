@@ -92,15 +92,15 @@ fresh-row before rows i r fresh lt is s names-it = elim (cases_Bool (list_any (i
 
 -- ---- in a lawful history
 -- the rows of some first releases: some row of an identifier stands in a release that drops it
-pub row-place : (h : List Entry) (n : ℕ) (id : List ℕ) → list_any (is_of id) (all_rows (take n h)) ≡ true → (j : ℕ) × (j < n) × (list_any (is_of id) (entry_at h j).rows ≡ true)
-row-place [] (suc n) id e = cc e
-row-place (x ∷ h) (suc n) id e =
+pub row-index : (h : List Entry) (n : ℕ) (id : List ℕ) → list_any (is_of id) (all_rows (take n h)) ≡ true → (j : ℕ) × (j < n) × (list_any (is_of id) (entry_at h j).rows ≡ true)
+row-index [] (suc n) id e = cc e
+row-index (x ∷ h) (suc n) id e =
     elim (or_cases (list_any (is_of id) x.rows) _ (sym (list_any-append (is_of id) x.rows (all_rows (take n h))) ∙ e))
     as (λ _. (j : ℕ) × (j < suc n) × (list_any (is_of id) (entry_at (x ∷ h) j).rows ≡ true)) [
       | inl a ↦ (0, omega arith, a)
-      | inr b ↦ let r = row-place h n id b in (suc r.0, (let k = r.1 in omega arith), r.2)
+      | inr b ↦ let r = row-index h n id b in (suc r.0, (let k = r.1 in omega arith), r.2)
     ]
-row-place _ _ id e = cc e
+row-index _ _ id e = cc e
 
 no-row-of : (h : List Entry) → IsLawful h → RowsFit h → (i j : ℕ) (s : List ℕ) → j ≤ i → holds h i s ≡ true → list_any (is_of s) (entry_at h j).rows ≡ true → false ≡ true
 no-row-of h law fit i zero s le live of = let n = ap (λ (l : List Row). list_any (is_of s) l) fit.first in sym n ∙ of
@@ -118,7 +118,7 @@ release-fresh h law fit i e lt is s names-it =
       | inl t ↦ elim (or_cases (list_any (is_of s) (all_rows (take i h))) _
           (sym (list_any-append (is_of s) (all_rows (take i h)) e.rows) ∙ t)) as
           (λ _. list_any (is_of s) (all_rows (take i h) ++ e.rows) ≡ false) [
-            | inl a ↦ absurd (let p = row-place h i s a in let w = no-row-of h law fit i p.0 s (let k = p.1 in omega arith) live p.2 in cc)
+            | inl a ↦ absurd (let p = row-index h i s a in let w = no-row-of h law fit i p.0 s (let k = p.1 in omega arith) live p.2 in cc)
             | inr b ↦ absurd (let w = no-row-of h law fit i i s (omega arith) live (ap (λ (x : Entry). list_any (is_of s) x.rows) (sym at) ∙ b) in cc)
           ]
       | inr f ↦ f

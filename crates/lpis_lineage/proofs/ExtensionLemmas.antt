@@ -4,18 +4,18 @@ use Rattle.lpis_lineage.proofs.Common.{list_any, Row, Entry, has_id, holds, entr
 use Rattle.lpis_lineage.specs.Lawful.{Drops}
 use Rattle.lpis_lineage.proofs.IdentifierLemmas.{same-refl, entry-before, entry-here, entry-after, in-history}
 
--- a place is before n, at n, or after
-pub place : (i n : ℕ) → (i < n) ⊎ ((i ≡ n) ⊎ (n < i))
-place zero zero = inr (inl refl)
-place zero (suc n) = inl (omega arith)
-place (suc i) zero = inr (inr (omega arith))
-place (suc i) (suc n) = elim (place i n) as (λ _. (suc i < suc n) ⊎ ((suc i ≡ suc n) ⊎ (suc n < suc i))) [
+-- an index is before n, at n, or after
+pub before-at-after : (i n : ℕ) → (i < n) ⊎ ((i ≡ n) ⊎ (n < i))
+before-at-after zero zero = inr (inl refl)
+before-at-after zero (suc n) = inl (omega arith)
+before-at-after (suc i) zero = inr (inr (omega arith))
+before-at-after (suc i) (suc n) = elim (before-at-after i n) as (λ _. (suc i < suc n) ⊎ ((suc i ≡ suc n) ⊎ (suc n < suc i))) [
   | inl a ↦ inl (omega arith)
   | inr b ↦ elim b as (λ _. (suc i < suc n) ⊎ ((suc i ≡ suc n) ⊎ (suc n < suc i)))
       [ inl e ↦ inr (inl (ap suc e)) | inr c ↦ inr (inr (omega arith)) ]
 ]
 
--- the last release's identifiers, by place
+-- the last release's identifiers, by index
 pub last-at : (h : List Entry) (i : ℕ) → i + 1 ≡ length h → (entry_at h i).live ≡ last_live h
 last-at [] i e = absurd (omega arith)
 last-at (x ∷ h) i e = let j : i ≡ length h = omega arith in ap (λ (k : ℕ). (entry_at (x ∷ h) k).live) j
@@ -31,7 +31,7 @@ year-at (x ∷ h) i e = let j : i ≡ length h = omega arith in ap (λ (k : ℕ)
 
 years-below : (h : List Entry) → IsLawful h → (i : ℕ) → i < length h → (entry_at h i).year ≤ last_year h
 years-below [] law i lt = absurd (omega arith)
-years-below (x ∷ h) law i lt = elim (place i (length h)) as (λ _. (entry_at (x ∷ h) i).year ≤ last_year (x ∷ h)) [
+years-below (x ∷ h) law i lt = elim (before-at-after i (length h)) as (λ _. (entry_at (x ∷ h) i).year ≤ last_year (x ∷ h)) [
   | inl a ↦ let r = law.years_rise i (length h) a (omega arith) in omega (arith, r)
   | inr b ↦ elim b as (λ _. (entry_at (x ∷ h) i).year ≤ last_year (x ∷ h)) [
     | inl e ↦ let y = ap (λ (k : ℕ). (entry_at (x ∷ h) k).year) e in omega (arith, y)
@@ -39,7 +39,7 @@ years-below (x ∷ h) law i lt = elim (place i (length h)) as (λ _. (entry_at (
   ]
 ]
 
--- what the longer list holds, by place
+-- what the longer list holds, by index
 pub hold-before : (h : List Entry) (e : Entry) (i : ℕ) (id : List ℕ) → i < length h → holds (h ++ e ∷ []) i id ≡ holds h i id
 hold-before h e i id lt = ap (λ (x : Entry). has_id x.live id) (entry-before h e i lt)
 
@@ -58,7 +58,7 @@ first-year [] e law y = y
 first-year (x ∷ h) e law y = law.first_year (omega arith)
 
 rise : (h : List Entry) (e : Entry) → IsLawful h → last_year h < e.year → (i j : ℕ) → i < j → j < length (h ++ e ∷ []) → (entry_at (h ++ e ∷ []) i).year < (entry_at (h ++ e ∷ []) j).year
-rise h e law y i j lt within = let n = longer h e in elim (place j (length h)) as (λ _. (entry_at (h ++ e ∷ []) i).year < (entry_at (h ++ e ∷ []) j).year) [
+rise h e law y i j lt within = let n = longer h e in elim (before-at-after j (length h)) as (λ _. (entry_at (h ++ e ∷ []) i).year < (entry_at (h ++ e ∷ []) j).year) [
   | inl a ↦ let il : i < length h = omega arith in let p = ap (λ (x : Entry). x.year) (entry-before h e i il) in let q =
       ap (λ (x : Entry). x.year) (entry-before h e j a) in let r = law.years_rise i j lt a in omega (arith, p, q, r)
   | inr b ↦ elim b as (λ _. (entry_at (h ++ e ∷ []) i).year < (entry_at (h ++ e ∷ []) j).year) [
@@ -79,7 +79,7 @@ together : (h : List Entry) (e : Entry) → IsLawful h → Follows h e.live e.ro
 together h e law f id i j k ij jk hi hk =
     let n = longer h e in
     let kl : k < length (h ++ e ∷ []) = in-history (h ++ e ∷ []) k id hk in
-    elim (place k (length h)) as (λ _. holds (h ++ e ∷ []) j id ≡ true) [
+    elim (before-at-after k (length h)) as (λ _. holds (h ++ e ∷ []) j id ≡ true) [
       | inl a ↦
           let il : i < length h = omega arith in
           let jl : j < length h = omega arith in
@@ -87,7 +87,7 @@ together h e law f id i j k ij jk hi hk =
       | inr b ↦ elim b as (λ _. holds (h ++ e ∷ []) j id ≡ true) [
         | inl at ↦
             let here : has_id e.live id ≡ true = sym (hold-here h e k id at) ∙ hk in
-            elim (place j (length h)) as (λ _. holds (h ++ e ∷ []) j id ≡ true) [
+            elim (before-at-after j (length h)) as (λ _. holds (h ++ e ∷ []) j id ≡ true) [
               | inl jl ↦
                   let il : i < length h = omega arith in
                   hold-before h e j id jl ∙ used-last h e law f id i j ij jl (sym (hold-before h e i id il) ∙ hi) here
@@ -102,7 +102,7 @@ answers h e law f id i d =
     let n = longer h e in
     let P : Entry → Type 0 = λ x. IsAnswered x.rows id in
     let il : i < length h = let w = d.0 in omega (arith, n, w) in
-    elim (place (i + 1) (length h)) as (λ _. IsAnswered (entry_at (h ++ e ∷ []) (i + 1)).rows id) [
+    elim (before-at-after (i + 1) (length h)) as (λ _. IsAnswered (entry_at (h ++ e ∷ []) (i + 1)).rows id) [
       | inl a ↦ subst P (sym (entry-before h e (i + 1) a)) (law.continued id i (a, sym (hold-before h e i id il) ∙ d.1, sym (hold-before h e (i + 1) id a) ∙ d.2))
       | inr b ↦ elim b as (λ _. IsAnswered (entry_at (h ++ e ∷ []) (i + 1)).rows id) [
         | inl at ↦ subst P (sym (entry-at h e (i + 1) at))
@@ -118,7 +118,7 @@ beyond h i le test = ap (λ (x : Entry). list_any test x.rows) (entry-after h i 
 heirs : (h : List Entry) (e : Entry) → IsLawful h → Follows h e.live e.rows → (id : List ℕ) (i : ℕ) → list_any (names id) (entry_at (h ++ e ∷ []) i).rows ≡ true → holds (h ++ e ∷ []) i id ≡ true
 heirs h e law f id i named =
     let n = longer h e in
-    elim (place i (length h)) as (λ _. holds (h ++ e ∷ []) i id ≡ true) [
+    elim (before-at-after i (length h)) as (λ _. holds (h ++ e ∷ []) i id ≡ true) [
       | inl a ↦ hold-before h e i id a ∙ law.successors id i (ap (λ (x : Entry). list_any (names id) x.rows) (sym (entry-before h e i a)) ∙ named)
       | inr b ↦ elim b as (λ _. holds (h ++ e ∷ []) i id ≡ true) [
         | inl at ↦ hold-here h e i id at ∙ f.named id (ap (λ (x : Entry). list_any (names id) x.rows) (sym (entry-at h e i at)) ∙ named)
@@ -147,7 +147,7 @@ once-more : (h : List Entry) (e : Entry) → RowsFit h → Follows h e.live e.ro
 once-more h e fit f row i =
     let n = longer h e in
     let P : Entry → Type 0 = λ x. length (filter (same_row row) x.rows) ≤ 1 in
-    elim (place i (length h)) as (λ _. length (filter (same_row row) (entry_at (h ++ e ∷ []) i).rows) ≤ 1) [
+    elim (before-at-after i (length h)) as (λ _. length (filter (same_row row) (entry_at (h ++ e ∷ []) i).rows) ≤ 1) [
       | inl a ↦ subst P (sym (entry-before h e i a)) (fit.once row i)
       | inr b ↦ elim b as (λ _. length (filter (same_row row) (entry_at (h ++ e ∷ []) i).rows) ≤ 1) [
         | inl at ↦ subst P (sym (entry-at h e i at)) (f.once row)
@@ -158,7 +158,7 @@ once-more h e fit f row i =
 drops-more : (h : List Entry) (e : Entry) → RowsFit h → Follows h e.live e.rows → (id : List ℕ) (i : ℕ) → list_any (is_of id) (entry_at (h ++ e ∷ []) (i + 1)).rows ≡ true → Drops (h ++ e ∷ []) i id
 drops-more h e fit f id i is =
     let n = longer h e in
-    elim (place (i + 1) (length h)) as (λ _. Drops (h ++ e ∷ []) i id) [
+    elim (before-at-after (i + 1) (length h)) as (λ _. Drops (h ++ e ∷ []) i id) [
       | inl a ↦
           let il : i < length h = omega arith in
           let d = fit.of_dropped id i (ap (λ (x : Entry). list_any (is_of id) x.rows) (sym (entry-before h e (i + 1) a)) ∙ is) in
@@ -220,7 +220,7 @@ follows-back h e law fit = record {
   dropped = back-dropped h e fit;
 }
 
--- places as code reads them
+-- indices as code reads them
 pub entry-get : (h : List Entry) (i : ℕ) (d : Entry) → i < length h → get_or h i d ≡ entry_at h i
 entry-get [] i d lt = absurd (omega arith)
 entry-get (x ∷ h) zero d lt = refl

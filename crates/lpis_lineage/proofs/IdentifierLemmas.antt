@@ -1,4 +1,4 @@
--- Identifiers compare equal exactly where they are equal; places in a history with one more release.
+-- Identifiers compare equal exactly where they are equal; indices in a history with one more release.
 use Rattle.std.proofs.Common.{◌≡◌, ◌∙◌, ◌<◌, ◌≤◌, ◌+◌, refl, sym, ap, subst, arith, ℕ, zero, suc, List, [], ◌∷◌, ◌++◌, length, Bool, true, false, ◌||◌, cond, take, get_or, is_eq, nat_cmp}
 use Rattle.lpis_lineage.proofs.Common.{slice_cmp, list_any, Entry, has_id, same_id, entry_at}
 use Rattle.std.proofs.lemmas.List.Folds.{list_any_more}
@@ -29,7 +29,7 @@ same-exact a b h = (bytes_eq-Decides a b).0 h
 pub same-refl : (a : List ℕ) → same_id a a ≡ true
 same-refl a = (bytes_eq-Decides a a).1 refl
 
--- places
+-- indices
 pub entry-before : (h : List Entry) (e : Entry) (i : ℕ) → i < length h → entry_at (h ++ e ∷ []) i ≡ entry_at h i
 entry-before [] e i lt = absurd (omega arith)
 entry-before (x ∷ h) e zero lt = refl
@@ -44,7 +44,7 @@ entry-after [] i le = refl
 entry-after (x ∷ h) zero le = absurd (omega arith)
 entry-after (x ∷ h) (suc i) le = entry-after h i (omega arith)
 
--- a place holds an identifier only where there is a release
+-- an index holds an identifier only where there is a release
 pub in-history : (h : List Entry) (i : ℕ) (id : List ℕ) → has_id (entry_at h i).live id ≡ true → i < length h
 in-history [] i id e = cc e
 in-history (x ∷ h) zero id e = omega arith

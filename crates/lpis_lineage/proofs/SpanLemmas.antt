@@ -7,7 +7,7 @@ use Rattle.lpis_lineage.proofs.CleanLemmas.{held-some}
 use Rattle.lpis_lineage.specs.Spans.{in_span, ids_of, AreSpansOf}
 use Rattle.lpis_lineage.proofs.PickingLemmas.{has-filter}
 use Rattle.lpis_lineage.proofs.IdentifierLemmas.{in-history}
-use Rattle.lpis_lineage.proofs.ExtensionLemmas.{place, last-some}
+use Rattle.lpis_lineage.proofs.ExtensionLemmas.{before-at-after, last-some}
 
 -- a year is in a span, by its years
 abbrev in_years : ℕ → ℕ → ℕ → Bool
@@ -17,11 +17,11 @@ abbrev until : List Entry → List ℕ → ℕ → ℕ
 until h id last = cond (has_id (last_live h) id) 0 last
 
 -- the first release that holds it
-pub first-place : (h : List Entry) (id : List ℕ) (y : ℕ) → first_held h id ≡ Some y → (a : ℕ) × (holds h a id ≡ true) × (y ≡ (entry_at h a).year) × ((j : ℕ) → holds h j id ≡ true → a ≤ j)
-first-place [] id y e = cc e
-first-place (x ∷ h) id y e = elim (cases_Bool (has_id x.live id)) as (λ _. (a : ℕ) × (holds (x ∷ h) a id ≡ true) × (y ≡ (entry_at (x ∷ h) a).year) × ((j : ℕ) → holds (x ∷ h) j id ≡ true → a ≤ j)) [
+pub first-index : (h : List Entry) (id : List ℕ) (y : ℕ) → first_held h id ≡ Some y → (a : ℕ) × (holds h a id ≡ true) × (y ≡ (entry_at h a).year) × ((j : ℕ) → holds h j id ≡ true → a ≤ j)
+first-index [] id y e = cc e
+first-index (x ∷ h) id y e = elim (cases_Bool (has_id x.live id)) as (λ _. (a : ℕ) × (holds (x ∷ h) a id ≡ true) × (y ≡ (entry_at (x ∷ h) a).year) × ((j : ℕ) → holds (x ∷ h) j id ≡ true → a ≤ j)) [
   | inl t ↦ (0, t, some-eq y x.year (sym e ∙ ap (λ (b : Bool). cond b (Some x.year) (first_held h id)) t), λ j hj. omega arith)
-  | inr f ↦ let r = first-place h id y (sym (ap (λ (b : Bool). cond b (Some x.year) (first_held h id)) f) ∙ e) in (suc r.0, r.1, r.2, later x h id r.0 f r.3)
+  | inr f ↦ let r = first-index h id y (sym (ap (λ (b : Bool). cond b (Some x.year) (first_held h id)) f) ∙ e) in (suc r.0, r.1, r.2, later x h id r.0 f r.3)
 ] where
   some-eq : (a b : ℕ) → Some a ≡ Some b → a ≡ b
   some-eq a b e = cc
@@ -31,9 +31,9 @@ first-place (x ∷ h) id y e = elim (cases_Bool (has_id x.live id)) as (λ _. (a
   later x h id a f min (suc j) hj = let m = min j hj in omega arith
 
 -- the last one
-pub last-place : (h : List Entry) (id : List ℕ) (y : ℕ) → last_held h id ≡ Some y → (b : ℕ) × (holds h b id ≡ true) × (y ≡ (entry_at h b).year) × ((j : ℕ) → holds h j id ≡ true → j ≤ b)
-last-place [] id y e = cc e
-last-place (x ∷ h) id y e = by x h id y (last-place h id) (last_held h id) refl e where
+pub last-index : (h : List Entry) (id : List ℕ) (y : ℕ) → last_held h id ≡ Some y → (b : ℕ) × (holds h b id ≡ true) × (y ≡ (entry_at h b).year) × ((j : ℕ) → holds h j id ≡ true → j ≤ b)
+last-index [] id y e = cc e
+last-index (x ∷ h) id y e = by x h id y (last-index h id) (last_held h id) refl e where
   some-eq : (a b : ℕ) → Some a ≡ Some b → a ≡ b
   some-eq a b e = cc
 
@@ -56,14 +56,14 @@ last-place (x ∷ h) id y e = by x h id y (last-place h id) (last_held h id) ref
   by x h id y ih None o e = let t = test (has_id x.live id) x.year y e in (0, t.0, t.1, only x h id o)
 
 years-mono : (h : List Entry) → IsLawful h → (i j : ℕ) → i ≤ j → j < length h → (entry_at h i).year ≤ (entry_at h j).year
-years-mono h law i j le lt = elim (place i j) as (λ _. (entry_at h i).year ≤ (entry_at h j).year) [
+years-mono h law i j le lt = elim (before-at-after i j) as (λ _. (entry_at h i).year ≤ (entry_at h j).year) [
   | inl a ↦ let r = law.years_rise i j a lt in omega (arith, r)
   | inr b ↦ elim b as (λ _. (entry_at h i).year ≤ (entry_at h j).year) [ inl e ↦ let r = ap (λ (k : ℕ). (entry_at h k).year) e in omega (arith, r) | inr c ↦ absurd (omega arith) ]
 ]
 
--- an earlier or same year is that of an earlier or the same place
+-- an earlier or same year is that of an earlier or the same index
 years-back : (h : List Entry) → IsLawful h → (i j : ℕ) → i < length h → j < length h → (entry_at h i).year ≤ (entry_at h j).year → i ≤ j
-years-back h law i j il jl le = elim (place j i) as (λ _. i ≤ j) [
+years-back h law i j il jl le = elim (before-at-after j i) as (λ _. i ≤ j) [
   | inl a ↦ absurd (let r = law.years_rise j i a il in omega (arith, r))
   | inr b ↦ elim b as (λ _. i ≤ j) [ inl e ↦ omega arith | inr c ↦ omega arith ]
 ]
@@ -87,8 +87,8 @@ span-high f l y e p = grind (arith, nat_tests)
 span-law : (h : List Entry) → IsLawful h → (id : List ℕ) (f l : ℕ) → first_held h id ≡ Some f → last_held h id ≡ Some l
     → (i : ℕ) → i < length h → in_years f (until h id l) (entry_at h i).year ≡ holds h i id
 span-law h law id f l ef el i lt =
-    let a = first-place h id f ef in
-    let b = last-place h id l el in
+    let a = first-index h id f ef in
+    let b = last-index h id l el in
     let al = in-history h a.0 id a.1 in
     let bl = in-history h b.0 id b.1 in
     elim (cases_Bool (holds h i id)) as (λ _. in_years f (until h id l) (entry_at h i).year ≡ holds h i id) [

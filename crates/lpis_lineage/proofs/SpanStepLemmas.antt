@@ -9,7 +9,7 @@ use Rattle.lpis_lineage.proofs.ExtensionLemmas.{last-at, last-some, longer, year
 use Rattle.lpis_lineage.proofs.CleanLemmas.{follows-from-clean, held-some}
 use Rattle.lpis_lineage.proofs.AcceptingLemmas.{may-follow, to-release}
 use Rattle.lpis_lineage.proofs.PickingLemmas.{has-filter}
-use Rattle.lpis_lineage.proofs.SpanLemmas.{first-place, last-place}
+use Rattle.lpis_lineage.proofs.SpanLemmas.{first-index, last-index}
 
 or-none : (o : Option ℕ) → option_or o None ≡ o
 or-none None = refl
@@ -51,7 +51,7 @@ pub first-some : (h : List Entry) (id : List ℕ) → is_some (first_held h id) 
 first-some h id s = by (first_held h id) refl s where
   by : (o : Option ℕ) → o ≡ first_held h id → is_some o ≡ true → is_some (last_held h id) ≡ true
   by None e s = absurd cc
-  by (Some y) e s = let p = first-place h id y (sym e) in held-some h id p.0 p.1
+  by (Some y) e s = let p = first-index h id y (sym e) in held-some h id p.0 p.1
 
 -- the last release is the last that holds a live identifier
 pub live-year : (h : List Entry) (id : List ℕ) → has_id (last_live h) id ≡ true → last_held h id ≡ Some (last_year h)
@@ -60,7 +60,7 @@ live-year h id was = by (last_held h id) refl where
   by None e = absurd (let p = last-some h id was in let s = held-some h id p.0 p.2 in let n = ap is_some e in cc)
   by (Some z) e =
       let p = last-some h id was in
-      let b = last-place h id z (sym e) in
+      let b = last-index h id z (sym e) in
       let le : p.0 ≤ b.0 = b.3 p.0 p.2 in
       let lt : b.0 < length h = in-history h b.0 id b.1 in
       let at : b.0 ≡ p.0 = (let n = p.1 in omega (arith, n, le, lt)) in
@@ -96,7 +96,7 @@ span-more h e id follows =
       used here s = by (first_held h id) refl s where
         by : (o : Option ℕ) → o ≡ first_held h id → is_some o ≡ true → has_id (last_live h) id ≡ true
         by None e s = absurd cc
-        by (Some y) e s = let p = first-place h id y (sym e) in follows.not_used id p.0 p.1 here
+        by (Some y) e s = let p = first-index h id y (sym e) in follows.not_used id p.0 p.1 here
 
 -- the same history
 pub history-same : (h new : List Entry) (old spans : List ℕ → Option Span) → IsHistory h old → new ≡ h → ((q : List ℕ) → spans q ≡ old q) → IsHistory new spans
@@ -158,4 +158,4 @@ pub some-held : (h : List Entry) (id : List ℕ) (s : Span) → span_of h id ≡
 some-held h id s e = by (first_held h id) refl (last_held h id) refl e where
   by : (f : Option ℕ) → f ≡ first_held h id → (l : Option ℕ) → l ≡ last_held h id → span_between f l (has_id (last_live h) id) ≡ Some s → (i : ℕ) × (holds h i id ≡ true)
   by None ef l el e = absurd cc
-  by (Some y) ef l el e = let p = first-place h id y (sym ef) in (p.0, p.1)
+  by (Some y) ef l el e = let p = first-index h id y (sym ef) in (p.0, p.1)

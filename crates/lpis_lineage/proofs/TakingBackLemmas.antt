@@ -8,8 +8,8 @@ use Rattle.std.proofs.lemmas.Bool.Decides.{eqb_tells}
 use Rattle.lpis_lineage.specs.Lawful.{Drops}
 use Rattle.lpis_lineage.specs.private.Keeping.{IsHistory}
 use Rattle.lpis_lineage.proofs.IdentifierLemmas.{entry-before, entry-here, entry-after, in-history, same-exact, same-sym}
-use Rattle.lpis_lineage.proofs.ExtensionLemmas.{place, longer, beyond, follows-back, hold-before}
-use Rattle.lpis_lineage.proofs.SpanLemmas.{first-place}
+use Rattle.lpis_lineage.proofs.ExtensionLemmas.{before-at-after, longer, beyond, follows-back, hold-before}
+use Rattle.lpis_lineage.proofs.SpanLemmas.{first-index}
 use Rattle.lpis_lineage.proofs.SpanStepLemmas.{first-none, first-some, live-year, span-more}
 
 -- ---- lawful
@@ -28,7 +28,7 @@ more-drops h e i id d =
     (omega (arith, n), hold-before h e i id il ∙ d.1, hold-before h e (i + 1) id next ∙ d.2)
 
 less-named : (h : List Entry) (e : Entry) → IsLawful (h ++ e ∷ []) → (id : List ℕ) (i : ℕ) → list_any (names id) (entry_at h i).rows ≡ true → holds h i id ≡ true
-less-named h e law id i named = elim (place i (length h)) as (λ _. holds h i id ≡ true) [
+less-named h e law id i named = elim (before-at-after i (length h)) as (λ _. holds h i id ≡ true) [
   | inl a ↦ sym (hold-before h e i id a) ∙ law.successors id i (ap (λ (x : Entry). list_any (names id) x.rows) (entry-before h e i a) ∙ named)
   | inr b ↦ absurd (let no = beyond h i (elim b as (λ _. length h ≤ i) [ inl at ↦ omega arith | inr c ↦ omega arith ]) (names id) in cc)
 ]
@@ -57,13 +57,13 @@ less-first (x ∷ h) e fit = fit.first
 less-once : (h : List Entry) (e : Entry) → RowsFit (h ++ e ∷ []) → (row : Row) (i : ℕ) → length (filter (same_row row) (entry_at h i).rows) ≤ 1
 less-once h e fit row i =
     let P : Entry → Type 0 = λ x. length (filter (same_row row) x.rows) ≤ 1 in
-    elim (place i (length h)) as (λ _. P (entry_at h i)) [
+    elim (before-at-after i (length h)) as (λ _. P (entry_at h i)) [
       | inl a ↦ subst P (entry-before h e i a) (fit.once row i)
       | inr b ↦ subst P (sym (entry-after h i (elim b as (λ _. length h ≤ i) [ inl at ↦ omega arith | inr c ↦ omega arith ]))) (omega arith)
     ]
 
 less-dropped : (h : List Entry) (e : Entry) → RowsFit (h ++ e ∷ []) → (id : List ℕ) (i : ℕ) → list_any (is_of id) (entry_at h (i + 1)).rows ≡ true → Drops h i id
-less-dropped h e fit id i is = elim (place (i + 1) (length h)) as (λ _. Drops h i id) [
+less-dropped h e fit id i is = elim (before-at-after (i + 1) (length h)) as (λ _. Drops h i id) [
   | inl a ↦
       let il : i < length h = omega arith in
       let d = fit.of_dropped id i (ap (λ (x : Entry). list_any (is_of id) x.rows) (entry-before h e (i + 1) a) ∙ is) in
@@ -99,7 +99,7 @@ span-less h e id law fit =
 
       below : (n : ℕ) → first_held h id ≡ Some n → nat_eq n e.year ≡ false
       below n first =
-          let p = first-place h id n first in
+          let p = first-index h id n first in
           let pl : p.0 < length h = in-history h p.0 id p.1 in
           let more = longer h e in
           let rise = law.years_rise p.0 (length h) pl (omega (arith, more)) in

@@ -6,7 +6,7 @@ use Rattle.lpis_lineage.specs.declared.row.Row.{Row}
 use Rattle.lpis_lineage.specs.declared.row.Entry.{Entry}
 use Rattle.lpis_lineage.specs.Lineage.{holds, entry_at, succeeded, names, is_of, same_row}
 
--- the release after place i drops the identifier: the one at i holds it, and the next doesn't
+-- the release after index i drops the identifier: the one at i holds it, and the next doesn't
 abbrev pub Drops : List Entry → ℕ → List ℕ → Type 0
 Drops h i id = (i + 1 < length h) × (holds h i id ≡ true) × (holds h (i + 1) id ≡ false)
 

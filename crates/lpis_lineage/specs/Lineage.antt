@@ -38,13 +38,13 @@ same_new (Some s) (Some t) = same_id s t
 abbrev pub same_row : Row → Row → Bool
 same_row r q = same_id r.old q.old && same_new r.new q.new
 
--- the release at a place, from 0; past the end an empty one
+-- the release at an index, from 0; past the end an empty one
 abbrev pub entry_at : List Entry → ℕ → Entry
 entry_at [] i = record { year = 0; live = []; rows = [] }
 entry_at (e ∷ h) zero = e
 entry_at (e ∷ h) (suc i) = entry_at h i
 
--- the release at a place holds an identifier
+-- the release at an index holds an identifier
 abbrev pub holds : List Entry → ℕ → List ℕ → Bool
 holds h i id = has_id (entry_at h i).live id
 

@@ -211,9 +211,9 @@ impl Improver {
         let room = box_round_both(old_first, old_second);
         let mut was = overlap(old_first, old_second);
         let mut will = overlap(new_first, new_second);
-        for (place, other) in self.boxes.iter().enumerate() {
-            let is_one = place == quad.side.triangle as usize
-                || place == quad.other.triangle as usize;
+        for (index, other) in self.boxes.iter().enumerate() {
+            let is_one = index == quad.side.triangle as usize
+                || index == quad.other.triangle as usize;
             if !is_one && meet(&room, other) {
                 was = was.wrapping_add(overlap(old_first, other));
                 was = was.wrapping_add(overlap(old_second, other));
@@ -276,8 +276,8 @@ impl Improver {
         for _ in 0..mesh.triangles.len() {
             self.waits.push([false; 3])?;
         }
-        for place in 0..mesh.triangles.len() {
-            let triangle = number_of(place)?;
+        for index in 0..mesh.triangles.len() {
+            let triangle = number_of(index)?;
             for k in 0..3 {
                 let side = Side { triangle, k };
                 if let Some(other) = mesh.across(side)

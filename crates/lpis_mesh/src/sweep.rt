@@ -112,7 +112,7 @@ impl Sweep {
             return Ok(());
         }
         let below = match at.checked_sub(1) {
-            Some(place) => self.status.get(place).copied(),
+            Some(index) => self.status.get(index).copied(),
             None => None,
         };
         let under = self.turns_above(below)?;
@@ -180,12 +180,12 @@ impl Sweep {
         Ok(())
     }
 
-    /// The edges of the status through a point, from a place on. They stand together, unless edges
+    /// The edges of the status through a point, from an index on. They stand together, unless edges
     /// cross.
     fn take_left(&mut self, at: usize, point: u32) -> Result<(), Halt> {
         self.left.clear();
-        for place in at..self.status.len() {
-            let Some(edge) = self.status.get(place).copied() else {
+        for index in at..self.status.len() {
+            let Some(edge) = self.status.get(index).copied() else {
                 break;
             };
             match self.plane.side_of(edge, point).cmp(&0) {
@@ -234,8 +234,8 @@ impl Sweep {
         self.find_right(point)?;
         self.right.clear();
         let mut nearest: Option<u32> = None;
-        for place in 0..self.found.len() {
-            let Some(edge) = self.found.get(place).copied() else {
+        for index in 0..self.found.len() {
+            let Some(edge) = self.found.get(index).copied() else {
                 break;
             };
             match nearest {
@@ -345,8 +345,8 @@ impl Sweep {
     /// Closes the rooms between two edges that end at a point.
     fn close_rooms(&mut self, point: u32) -> Result<(), Halt> {
         let between = self.left.len().saturating_sub(1);
-        for place in 0..between {
-            let edge = self.left.get(place).copied().ok_or(Halt::NoCut)?;
+        for index in 0..between {
+            let edge = self.left.get(index).copied().ok_or(Halt::NoCut)?;
             if self.is_room(self.plane.edge(edge)?.above) {
                 let chain = self.chain_above(edge)?;
                 self.chains.close(&self.plane.points, chain, point)?;
@@ -358,8 +358,8 @@ impl Sweep {
     /// Starts the rooms between two edges that begin at a point.
     fn start_rooms(&mut self, point: u32) -> Result<(), Halt> {
         let between = self.right.len().saturating_sub(1);
-        for place in 0..between {
-            let edge = self.right.get(place).copied().ok_or(Halt::NoCut)?;
+        for index in 0..between {
+            let edge = self.right.get(index).copied().ok_or(Halt::NoCut)?;
             if self.is_room(self.plane.edge(edge)?.above) {
                 let chain = self.chains.start(point)?;
                 self.plane.set_chain(edge, Some(chain));
@@ -370,8 +370,8 @@ impl Sweep {
 
     /// Puts the edges that go on into the status, in place of those that end.
     fn replace(&mut self, at: usize) -> Result<(), Halt> {
-        for place in 0..self.right.len() {
-            if let Some(edge) = self.right.get(place) {
+        for index in 0..self.right.len() {
+            if let Some(edge) = self.right.get(index) {
                 let end = self.plane.edge(*edge)?.high;
                 self.add_end(end);
             }

@@ -1,7 +1,7 @@
 -- The joins, a row at a time.
 use Rattle.std.proofs.Common.{◌≡◌, ◌<◌, ◌+◌, ◌++◌, ◌∷◌, [], ℕ, zero, suc, List, length, map, take, drop, get_or, set, replicate, Bool, true, false, not, cond, Option, Some, None, Ok, Err, refl, sym}
 use Rattle.std.proofs.Common.{ap, ◌∙◌, arith, add-one, drop-cons, ◌||◌, is_some, slice_get}
-use Rattle.lpis_parcels.proofs.Common.{Class, Piece, Parcel, places_where, names, reference_faults}
+use Rattle.lpis_parcels.proofs.Common.{Class, Piece, Parcel, indices_where, names, reference_faults}
 use Rattle.std.specs.List.{IsDistinct, list_any, AllByRecursion}
 use Rattle.std.proofs.lemmas.List.{length-map, map-append, take_more, length-take-le, get_or-map}
 use Rattle.std.proofs.lemmas.Option.{slice_get_within, get_or_from_slice_get}
@@ -49,17 +49,17 @@ none-unknown parcels classes n piece o p k j found some there also =
     rw (present, known) refl
 
 -- groups of no pieces
-pub no-places : {A B : Type 0} (test : A → B → Bool) (xs : List A) → map (λ x. places_where (test x) 0 []) xs ≡ map (λ _. []) xs
-no-places test [] = refl
-no-places test (x ∷ xs) = ap (λ (l : List (List ℕ)). [] ∷ l) (no-places test xs)
+pub no-indices : {A B : Type 0} (test : A → B → Bool) (xs : List A) → map (λ x. indices_where (test x) 0 []) xs ≡ map (λ _. []) xs
+no-indices test [] = refl
+no-indices test (x ∷ xs) = ap (λ (l : List (List ℕ)). [] ∷ l) (no-indices test xs)
 
--- the place of the identifier of one item only
+-- the index of the identifier of one item only
 other-ids : (id x : List ℕ) (ids : List (List ℕ)) (k : ℕ) → AllByRecursion (λ (y : List ℕ). same_id id y ≡ false) ids → slice_get ids k ≡ Some x → same_id id x ≡ false
 other-ids id x [] k h e = cc e
 other-ids id x (y ∷ ys) zero h e = let s : y ≡ x = cc e in rw (← s) h.0
 other-ids id x (y ∷ ys) (suc k) h e = other-ids id x ys k h.1 e
 
--- one piece more, whose parcel is at place k
+-- one piece more, whose parcel is at index k
 abbrev grown : List ℕ → List ℕ → ℕ → List ℕ → List ℕ
 grown id x i group = cond (same_id id x) (group ++ i ∷ []) group
 
@@ -83,14 +83,14 @@ group-grown (p ∷ ps) F x (suc k) i d e =
     let other : same_id p.id x ≡ false = other-ids p.id x (parcel_ids ps) k d.0 e in
     rw other (ap (λ (l : List (List ℕ)). F p.id ∷ l) (group-grown ps F x k i d.1 e))
 
--- the places with one item more
-places-more : {A : Type 0} (test : A → Bool) (i : ℕ) (xs : List A) (x : A)
-    → places_where test i (xs ++ x ∷ []) ≡ cond (test x) (places_where test i xs ++ (i + length xs) ∷ []) (places_where test i xs)
-places-more test i [] x = by (test x) where
+-- the indices with one item more
+indices-more : {A : Type 0} (test : A → Bool) (i : ℕ) (xs : List A) (x : A)
+    → indices_where test i (xs ++ x ∷ []) ≡ cond (test x) (indices_where test i xs ++ (i + length xs) ∷ []) (indices_where test i xs)
+indices-more test i [] x = by (test x) where
   by : (b : Bool) → cond b (i ∷ []) [] ≡ cond b ([] ++ (i + 0) ∷ []) []
   by true = let n : i ≡ i + 0 = omega arith in ap (λ (m : ℕ). m ∷ []) n
   by false = refl
-places-more test i (y ∷ ys) x = by (test y) (test x) _ _ (places-more test (i + 1) ys x) where
+indices-more test i (y ∷ ys) x = by (test y) (test x) _ _ (indices-more test (i + 1) ys x) where
   by : (b c : Bool) (after before : List ℕ) → after ≡ cond c (before ++ (i + 1 + length ys) ∷ []) before
       → cond b (i ∷ after) after ≡ cond c (cond b (i ∷ before) before ++ (i + suc (length ys)) ∷ []) (cond b (i ∷ before) before)
   by true true after before h = let n : i + 1 + length ys ≡ i + suc (length ys) = omega arith in ap (λ (l : List ℕ). i ∷ l) h ∙ ap (λ (m : ℕ). i ∷ (before ++ m ∷ [])) n
@@ -126,26 +126,26 @@ drop-at {A} xs i x e = rw add-one (drop-cons xs i x (slice_get_within xs i x e) 
 -- no piece joined yet
 pub joins-none : (parcels : List Parcel) (classes : List Class) (groups : List (List ℕ)) → groups ≡ replicate (length parcels) [] → AreJoins parcels [] classes groups []
 joins-none parcels classes groups e = record { groups_are = e ∙ by parcels; classes_are = refl } where
-  by : (ps : List Parcel) → replicate (length ps) [] ≡ map (λ (p : Parcel). places_where (names p.id) 0 []) ps
+  by : (ps : List Parcel) → replicate (length ps) [] ≡ map (λ (p : Parcel). indices_where (names p.id) 0 []) ps
   by [] = refl
   by (p ∷ ps) = ap (λ (l : List (List ℕ)). [] ∷ l) (by ps)
 
 -- one piece more
-pub joins-more : (parcels : List Parcel) (pieces : List Piece) (classes : List Class) (groups after : List (List ℕ)) (places places_after : List ℕ) (i k j : ℕ) (piece : Piece)
+pub joins-more : (parcels : List Parcel) (pieces : List Piece) (classes : List Class) (groups after : List (List ℕ)) (indices indices_after : List ℕ) (i k j : ℕ) (piece : Piece)
     → IsDistinct same_id (parcel_ids parcels) → IsDistinct same_id (class_codes classes)
     → slice_get pieces i ≡ Some piece → slice_get (parcel_ids parcels) k ≡ Some piece.parcel → slice_get (class_codes classes) j ≡ Some piece.class
-    → AreJoins parcels (take i pieces) classes groups places
-    → after ≡ set groups k (get_or groups k [] ++ i ∷ []) → places_after ≡ places ++ j ∷ []
-    → AreJoins parcels (take (i + 1) pieces) classes after places_after
-joins-more parcels pieces classes groups after places places_after i k j piece d e at parcel class h is also =
+    → AreJoins parcels (take i pieces) classes groups indices
+    → after ≡ set groups k (get_or groups k [] ++ i ∷ []) → indices_after ≡ indices ++ j ∷ []
+    → AreJoins parcels (take (i + 1) pieces) classes after indices_after
+joins-more parcels pieces classes groups after indices indices_after i k j piece d e at parcel class h is also =
     let n : 0 + length (take i pieces) ≡ i = omega (arith, length-taken pieces i piece at) in
-    let F : List ℕ → List ℕ = λ id. places_where (names id) 0 (take i pieces) in
-    let each : (p : Parcel) → grown p.id piece.parcel i (F p.id) ≡ places_where (names p.id) 0 (take (i + 1) pieces) =
-    λ p. sym (ap (λ (ps : List Piece). places_where (names p.id) 0 ps) (take-more pieces i piece at) ∙ places-more (names p.id) 0 (take i pieces) piece
+    let F : List ℕ → List ℕ = λ id. indices_where (names id) 0 (take i pieces) in
+    let each : (p : Parcel) → grown p.id piece.parcel i (F p.id) ≡ indices_where (names p.id) 0 (take (i + 1) pieces) =
+    λ p. sym (ap (λ (ps : List Piece). indices_where (names p.id) 0 ps) (take-more pieces i piece at) ∙ indices-more (names p.id) 0 (take i pieces) piece
     ∙ ap (λ (m : ℕ). cond (names p.id piece) (F p.id ++ m ∷ []) (F p.id)) n) in
     record {
       groups_are = is ∙ ap (λ (gs : List (List ℕ)). set gs k (get_or gs k [] ++ i ∷ [])) h.groups_are ∙ group-grown parcels F piece.parcel k i d parcel ∙ map-same _ _ parcels each;
-      classes_are = ap (map (slice_get classes)) also ∙ map-append (slice_get classes) places (j ∷ [])
+      classes_are = ap (map (slice_get classes)) also ∙ map-append (slice_get classes) indices (j ∷ [])
           ∙ ap (λ (l : List (Option Class)). l ++ slice_get classes j ∷ []) h.classes_are
           ∙ ap (λ (o : Option Class). map (λ (p : Piece). class_named classes p.class) (take i pieces) ++ o ∷ []) (class-at classes piece.class j e class)
           ∙ sym (ap (map (λ (p : Piece). class_named classes p.class)) (take-more pieces i piece at) ∙ map-append (λ (p : Piece). class_named classes p.class) (take i pieces) (piece ∷ []));
@@ -163,22 +163,22 @@ pieces-fault parcels classes n i pieces piece all f at is h =
     rw (is, drop-at pieces i piece at) (column-fault (unknown_faults parcels classes n piece) _ tt tt f h)
 
 -- a group is empty where no piece names its parcel
-nil-places : {A : Type 0} (test : A → Bool) (i : ℕ) (xs : List A) → is_nil (places_where test i xs) ≡ not (list_any test xs)
-nil-places test i [] = refl
-nil-places test i (x ∷ xs) = by (test x) (places_where test (i + 1) xs) (list_any test xs) (nil-places test (i + 1) xs) where
-  by : (b : Bool) (places : List ℕ) (any : Bool) → is_nil places ≡ not any → is_nil (cond b (i ∷ places) places) ≡ not (b || any)
-  by true places any h = refl
-  by false places any h = h
+nil-indices : {A : Type 0} (test : A → Bool) (i : ℕ) (xs : List A) → is_nil (indices_where test i xs) ≡ not (list_any test xs)
+nil-indices test i [] = refl
+nil-indices test i (x ∷ xs) = by (test x) (indices_where test (i + 1) xs) (list_any test xs) (nil-indices test (i + 1) xs) where
+  by : (b : Bool) (indices : List ℕ) (any : Bool) → is_nil indices ≡ not any → is_nil (cond b (i ∷ indices) indices) ≡ not (b || any)
+  by true indices any h = refl
+  by false indices any h = h
 
-pub empty-groups : (pieces : List Piece) (n : ℕ) (parcels : List Parcel) → empty_faults n (map (λ (p : Parcel). places_where (names p.id) 0 pieces) parcels) ≡ parcel_faults pieces n parcels
+pub empty-groups : (pieces : List Piece) (n : ℕ) (parcels : List Parcel) → empty_faults n (map (λ (p : Parcel). indices_where (names p.id) 0 pieces) parcels) ≡ parcel_faults pieces n parcels
 empty-groups pieces n [] = refl
 empty-groups pieces n (p ∷ ps) =
     ap (λ (b : Bool). fault_if b (fault_at ParcelWithoutPieces table.Parcels n)
-    ++ empty_faults (n + 1) (map (λ (p : Parcel). places_where (names p.id) 0 pieces) ps))
-    (nil-places (names p.id) 0 pieces)
+    ++ empty_faults (n + 1) (map (λ (p : Parcel). indices_where (names p.id) 0 pieces) ps))
+    (nil-indices (names p.id) 0 pieces)
     ∙ ap (λ (fs : List TableFault). fault_if (not (list_any (names p.id) pieces)) (fault_at ParcelWithoutPieces table.Parcels n) ++ fs) (empty-groups pieces (n + 1) ps)
 
--- an item of lists, and a list changed in its place
+-- an item of lists, and a list changed in one item
 pub list-at : {A : Type 0} (f : A → List ℕ) (xs : List A) (k : ℕ) (x : A) → k < length xs → x ≡ get_or xs k x → get_or (map f xs) k [] ≡ f x
 list-at f xs k x lt e = get_or-map f xs k x [] lt ∙ ap f (sym e)
 
@@ -190,6 +190,7 @@ told-none [] h = refl
 told-none (f ∷ fs) h = cc h
 
 -- the faults of the groups are those of the parcels
-pub groups-faults : (parcels : List Parcel) (pieces : List Piece) (classes : List Class) (held groups : List (List ℕ)) (places : List ℕ) → held ≡ groups → AreJoins parcels pieces classes groups places
+pub groups-faults : (parcels : List Parcel) (pieces : List Piece) (classes : List Class) (held groups : List (List ℕ)) (indices : List ℕ)
+    → held ≡ groups → AreJoins parcels pieces classes groups indices
     → empty_faults 1 held ≡ parcel_faults pieces 1 parcels
-groups-faults parcels pieces classes held groups places same joins = ap (empty_faults 1) (same ∙ joins.groups_are) ∙ empty-groups pieces 1 parcels
+groups-faults parcels pieces classes held groups indices same joins = ap (empty_faults 1) (same ∙ joins.groups_are) ∙ empty-groups pieces 1 parcels

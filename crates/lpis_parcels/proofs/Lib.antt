@@ -1,6 +1,6 @@
 pub mod GroupLemmas
 pub mod Common
 pub mod JoinLemmas
-pub mod PlaceLemmas
+pub mod IndexLemmas
 pub mod EligibleLemmas
 pub mod Shared

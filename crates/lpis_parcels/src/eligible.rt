@@ -11,15 +11,15 @@ use crate::release::Release;
 use lpis_covers::Id;
 use lpis_rings::area2;
 
-/// Twice the area of the piece at a place, where its class is eligible, and else 0.
-fn eligible_part(release: &Release, place: usize) -> i128
-    requires { place < length release.now.pieces }
-    ensures value { (piece : Piece) → slice_get release.now.pieces place ≡ Some piece
+/// Twice the area of the piece at an index, where its class is eligible, and else 0.
+fn eligible_part(release: &Release, index: usize) -> i128
+    requires { index < length release.now.pieces }
+    ensures value { (piece : Piece) → slice_get release.now.pieces index ≡ Some piece
         → result ≡ (if is_eligible release.now.classes piece then area2 piece.polygon else pos 0) }
     ensures small { unsigned_abs result ≤ most_area }
 {
-    if release.is_eligible(place) {
-        area2(&release.pieces()[place].polygon)
+    if release.is_eligible(index) {
+        area2(&release.pieces()[index].polygon)
     } else {
         0
     }
@@ -33,8 +33,8 @@ pub fn eligible2(release: &Release, parcel: &Id) -> i128
     // They are not too many for the sum.
     let _ = release.pieces();
     let mut sum = 0;
-    for place in release.places_of(parcel) {
-        sum += eligible_part(release, *place as usize);
+    for index in release.indices_of(parcel) {
+        sum += eligible_part(release, *index as usize);
     }
     sum
 }

@@ -1,4 +1,4 @@
-//! Lists of places, one behind the other in one list.
+//! Lists of indices, one behind the other in one list.
 
 ghost use Rattle.std.specs.Prelude.{◌≡◌, ◌<◌, ◌++◌, ◌∷◌, [], IfOk, OnOk, length, slice_index_or};
 ghost use Rattle.lpis_parcels.specs.private.Joined.{group_lists};
@@ -6,18 +6,18 @@ ghost use Rattle.lpis_parcels.specs.private.Joined.{group_lists};
 use std::alloc::{AllocError, Global};
 use std::marker::Model;
 
-/// Where a group begins in the list of all places, and where it ends.
+/// Where a group begins in the list of all indices, and where it ends.
 #[derive(Clone, Copy, Debug)]
 struct Bounds {
     start: usize,
     end: usize,
 }
 
-/// Groups of places. They stand one behind the other in one list, since a list for each takes some
+/// Groups of indices. They stand one behind the other in one list, since a list for each takes some
 /// three times the room. Contracts see them as lists.
 #[derive(Drop)]
 pub(crate) struct Groups {
-    places: Vec<u32>,
+    indices: Vec<u32>,
     bounds: Vec<Bounds>,
 }
 
@@ -27,9 +27,9 @@ impl Model for Groups {
 
     ghost Value = { List (List ℕ) };
 
-    ghost view = { λ g. groups_in g.places.items g.bounds.items };
+    ghost view = { λ g. groups_in g.indices.items g.bounds.items };
 
-    ghost invariant = { λ g. All (IsWithin g.places.items) g.bounds.items };
+    ghost invariant = { λ g. All (IsWithin g.indices.items) g.bounds.items };
 }
 
 impl Groups {
@@ -38,7 +38,7 @@ impl Groups {
         ensures { IfOk result (λ groups. groups ≡ group_lists lists.now) }
     {
         let mut groups = Groups {
-            places: Vec::new(alloc),
+            indices: Vec::new(alloc),
             bounds: Vec::with_capacity(alloc, lists.len())?,
         };
         for list in lists {
@@ -51,19 +51,19 @@ impl Groups {
     fn add(&mut self, group: &[u32]) -> Result<(), AllocError>
         ensures { OnOk result (self.new ≡ self.old ++ group.now ∷ []) }
     {
-        let start = self.places.len();
-        self.places.extend_from_slice(group)?;
-        let end = self.places.len();
+        let start = self.indices.len();
+        self.indices.extend_from_slice(group)?;
+        let end = self.indices.len();
         self.bounds.push(Bounds { start, end })?;
         Ok(())
     }
 
-    /// The group at a place.
+    /// The group at an index.
     pub(crate) fn get(&self, group: usize) -> &[u32]
         requires { group < length self.now }
         ensures { result.now ≡ slice_index_or self.now group [] }
     {
         let Bounds { start, end } = self.bounds[group];
-        &self.places[start..end]
+        &self.indices[start..end]
     }
 }

@@ -18,7 +18,7 @@ use crate::parcel::Parcels;
 use lpis_covers::{Classes, Piece, Pieces, Table, TableCode, TableFault};
 use std::alloc::{AllocError, Global};
 
-/// The places of each parcel's pieces, and of each piece's class.
+/// The indices of each parcel's pieces, and of each piece's class.
 #[derive(Drop)]
 pub(crate) struct Joins {
     pub groups: Groups,
@@ -44,8 +44,8 @@ fn fault(code: TableCode, table: Table, row: u32) -> TableFault
     }
 }
 
-/// The places of the parcel and the class of a piece in this row.
-fn joined_places(
+/// The indices of the parcel and the class of a piece in this row.
+fn joined_indices(
     parcels: &Parcels,
     classes: &Classes,
     piece: &Piece,
@@ -78,13 +78,13 @@ fn empty_groups(alloc: Global, count: usize) -> Result<Vec<Vec<u32>>, AllocError
     Ok(groups)
 }
 
-/// Adds a place to a group.
-fn add_to_group(groups: &mut Vec<Vec<u32>>, group: usize, place: u32) -> Result<(), AllocError>
+/// Adds an index to a group.
+fn add_to_group(groups: &mut Vec<Vec<u32>>, group: usize, index: u32) -> Result<(), AllocError>
     requires { group < vec_len groups.old }
     ensures { OnOk result (group_lists groups.new.items ≡ slice_set (group_lists groups.old.items)
-        group (slice_index_or (group_lists groups.old.items) group [] ++ place ∷ [])) }
+        group (slice_index_or (group_lists groups.old.items) group [] ++ index ∷ [])) }
 {
-    groups[group].push(place)?;
+    groups[group].push(index)?;
     Ok(())
 }
 
@@ -103,15 +103,15 @@ fn join_pieces(
     ensures err { IfErr result (Refuses (reference_faults parcels.now classes.now 1 pieces.now)) }
 {
     let mut groups = empty_groups(alloc, parcels.as_slice().len())?;
-    let mut class_places = Vec::new(alloc);
+    let mut class_indices = Vec::new(alloc);
     for (i, piece) in pieces.as_slice().iter().enumerate() {
-        let (parcel, class) = joined_places(parcels, classes, piece, i as u32 + 1)?;
+        let (parcel, class) = joined_indices(parcels, classes, piece, i as u32 + 1)?;
         add_to_group(&mut groups, parcel, i as u32)?;
-        class_places.push(class)?;
+        class_indices.push(class)?;
     }
     Ok(Gathered {
         groups,
-        classes: class_places,
+        classes: class_indices,
     })
 }
 

@@ -13,27 +13,27 @@ use std::marker::Model;
 #[derive(Drop)]
 pub struct PiecesOf<'a> {
     pieces: &'a [Piece],
-    places: &'a [u32],
+    indices: &'a [u32],
 }
 
 impl<'a> Model for PiecesOf<'a> {
     ghost use Rattle.std.specs.Prelude.{◌<◌, All, List, length};
     ghost use Rattle.lpis_covers.specs.declared.piece.Piece.{Piece};
-    ghost use Rattle.lpis_parcels.specs.private.Groups.{at_places};
+    ghost use Rattle.lpis_parcels.specs.private.Groups.{at_indices};
 
     ghost Value = { List Piece };
 
-    ghost view = { λ it. at_places it.pieces.now it.places.now };
+    ghost view = { λ it. at_indices it.pieces.now it.indices.now };
 
-    ghost invariant = { λ it. All (λ i. i < length it.pieces.now) it.places.now };
+    ghost invariant = { λ it. All (λ i. i < length it.pieces.now) it.indices.now };
 }
 
-/// The piece at a place.
-fn piece_at(pieces: &[Piece], place: u32) -> &Piece
-    requires { place < length pieces.now }
-    ensures { slice_get pieces.now place ≡ Some result.now }
+/// The piece at an index.
+fn piece_at(pieces: &[Piece], index: u32) -> &Piece
+    requires { index < length pieces.now }
+    ensures { slice_get pieces.now index ≡ Some result.now }
 {
-    &pieces[place as usize]
+    &pieces[index as usize]
 }
 
 impl<'a> Iterator for PiecesOf<'a> {
@@ -44,9 +44,9 @@ impl<'a> Iterator for PiecesOf<'a> {
     ghost remaining = { item_count (λ it. it) };
 
     fn next(&mut self) -> Option<&'a Piece> {
-        let (first, others) = self.places.split_first()?;
+        let (first, others) = self.indices.split_first()?;
         let piece = piece_at(self.pieces, *first);
-        self.places = others;
+        self.indices = others;
         Some(piece)
     }
 }
@@ -58,6 +58,6 @@ pub fn pieces_of<'a>(release: &'a Release, parcel: &Id) -> PiecesOf<'a>
 {
     PiecesOf {
         pieces: release.pieces(),
-        places: release.places_of(parcel),
+        indices: release.indices_of(parcel),
     }
 }

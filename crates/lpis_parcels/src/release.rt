@@ -41,7 +41,7 @@ impl Model for Release {
 impl Release {
     ghost use Rattle.lpis_covers.specs.declared.piece.Piece.{Piece};
     ghost use Rattle.lpis_parcels.specs.Eligible.{is_eligible};
-    ghost use Rattle.lpis_parcels.specs.private.Groups.{places_where};
+    ghost use Rattle.lpis_parcels.specs.private.Groups.{indices_where};
 
     /// The release of these rows, or the first fault of their joins.
     pub(crate) fn of(
@@ -92,25 +92,25 @@ impl Release {
         self.classes.as_slice()
     }
 
-    /// The places of a parcel's pieces.
-    pub(crate) fn places_of(&self, parcel: &Id) -> &[u32]
-        ensures places { result.now ≡ places_where (names parcel.now) 0 self.now.pieces }
+    /// The indices of a parcel's pieces.
+    pub(crate) fn indices_of(&self, parcel: &Id) -> &[u32]
+        ensures indices { result.now ≡ indices_where (names parcel.now) 0 self.now.pieces }
         ensures within { All (λ i. i < length self.now.pieces) result.now }
         ensures few { length result.now ≤ length self.now.pieces }
     {
         match self.parcels.position(parcel) {
-            Some(place) => self.joins.groups.get(place),
+            Some(index) => self.joins.groups.get(index),
             None => &[],
         }
     }
 
-    /// Whether the class of the piece at a place is eligible.
-    pub(crate) fn is_eligible(&self, place: usize) -> bool
-        requires { place < length self.now.pieces }
-        ensures { (piece : Piece) → slice_get self.now.pieces place ≡ Some piece
+    /// Whether the class of the piece at an index is eligible.
+    pub(crate) fn is_eligible(&self, index: usize) -> bool
+        requires { index < length self.now.pieces }
+        ensures { (piece : Piece) → slice_get self.now.pieces index ≡ Some piece
             → result ≡ is_eligible self.now.classes piece }
     {
-        let class = self.joins.classes[place];
+        let class = self.joins.classes[index];
         match self.classes.as_slice().get(class) {
             Some(class) => class.eligible,
             None => false,

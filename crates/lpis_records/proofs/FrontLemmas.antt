@@ -2,7 +2,8 @@
 use Rattle.std.proofs.Common.{◌≡◌, ◌∙◌, ◌<◌, ◌≤◌, ◌+◌, inl, inr, refl, sym, ap, ap₂, subst, arith, ℕ, zero, suc, ℤ, pos, List, [], ◌∷◌, ◌++◌, Bool, true, Some, Err, length, map, take, get_or}
 use Rattle.std.proofs.Common.{length-append, ◌&&◌, All, filter}
 use Rattle.lpis_records.proofs.Common.{AllByRecursion, list_any, map-append, recursion_from_All, has_id, same_id, Entry, Row, Adds, IsLawful, RowsFit, entry_at, holds, last_live, names, first_held}
-use Rattle.lpis_records.proofs.Common.{last_held, span_of, entry-after, entry-before, entry-here, in-history, longer, place, take-at, KnownSpan, KnownLine, Line, StoredSpan, lines_from, IsSameHistory}
+use Rattle.lpis_records.proofs.Common.{last_held, span_of, entry-after, entry-before, entry-here, in-history, longer, before-at-after, take-at, KnownSpan}
+use Rattle.lpis_records.proofs.Common.{KnownLine, Line, StoredSpan, lines_from, IsSameHistory}
 use Rattle.lpis_records.proofs.Common.{lines_of, years_of, covers, IsSaid, HasText, line_in, span_in}
 use Rattle.std.proofs.lemmas.List.{append-nil, append_assoc, append_cancel_left, length-map, length-take-le, get_or_default, take-append-le, take-map}
 use Rattle.lpis_lineage.specs.declared.fault.LineageFault.{LineageFault}
@@ -47,7 +48,7 @@ front-lawful g h f law = record {
 front-fits : (g h : List Entry) → IsFront g h → RowsFit h → RowsFit g
 front-fits g h f fit = record {
   first = first-rows g f;
-  once = λ row i. elim (place i (length g)) as (λ _. length (filter (same_row row) (entry_at g i).rows) ≤ 1) [
+  once = λ row i. elim (before-at-after i (length g)) as (λ _. length (filter (same_row row) (entry_at g i).rows) ≤ 1) [
     | inl lt ↦ let n = ap (λ (rs : List Row). length (filter (same_row row) rs)) (f.rows i lt) in let o = fit.once row i in omega (arith, n, o)
     | inr r ↦ beyond row i (elim r as (λ _. length g ≤ i) [ inl e ↦ omega (arith, e) | inr lt ↦ omega (arith, lt) ])
   ];
@@ -65,9 +66,9 @@ front-fits g h f fit = record {
 
 -- ---- one release more, and the whole
 
--- what holds of a history's places and of one place more
-more-place : (P : ℕ → Type 0) (n i : ℕ) → ((j : ℕ) → j < n → P j) → P n → i < n + 1 → P i
-more-place P n i before here lt = elim (place i n) as (λ _. P i) [
+-- what holds of a history's positions and of one position more
+more-index : (P : ℕ → Type 0) (n i : ℕ) → ((j : ℕ) → j < n → P j) → P n → i < n + 1 → P i
+more-index P n i before here lt = elim (before-at-after i n) as (λ _. P i) [
   | inl a ↦ before i a
   | inr b ↦ elim b as (λ _. P i) [ inl e ↦ subst P (sym e) here | inr c ↦ absurd (omega (arith, lt, c)) ]
 ]
@@ -77,13 +78,13 @@ front-more : (g h : List Entry) (e : Entry) → IsFront g h → length g < lengt
     → IsFront (g ++ e ∷ []) h
 front-more g h e f more year set rows = record {
   short = let n = longer g e in omega (arith, n, more);
-  years = λ i lt. more-place (λ (j : ℕ). (entry_at (g ++ e ∷ []) j).year ≡ (entry_at h j).year) (length g) i
+  years = λ i lt. more-index (λ (j : ℕ). (entry_at (g ++ e ∷ []) j).year ≡ (entry_at h j).year) (length g) i
       (λ j a. ap (λ (x : Entry). x.year) (entry-before g e j a) ∙ f.years j a) (ap (λ (x : Entry). x.year) (entry-here g e) ∙ year) (let n = longer g e in omega (arith, n, lt));
-  sets = λ i lt. more-place (λ (j : ℕ). (id : List ℕ) → holds (g ++ e ∷ []) j id ≡ holds h j id) (length g) i
+  sets = λ i lt. more-index (λ (j : ℕ). (id : List ℕ) → holds (g ++ e ∷ []) j id ≡ holds h j id) (length g) i
       (λ j a id. ap (λ (x : Entry). has_id x.live id) (entry-before g e j a) ∙ f.sets j a id)
       (λ id. ap (λ (x : Entry). has_id x.live id) (entry-here g e) ∙ set id) (let n = longer g e in
       omega (arith, n, lt));
-  rows = λ i lt. more-place (λ (j : ℕ). (entry_at (g ++ e ∷ []) j).rows ≡ (entry_at h j).rows) (length g) i
+  rows = λ i lt. more-index (λ (j : ℕ). (entry_at (g ++ e ∷ []) j).rows ≡ (entry_at h j).rows) (length g) i
       (λ j a. ap (λ (x : Entry). x.rows) (entry-before g e j a) ∙ f.rows j a) (ap (λ (x : Entry). x.rows) (entry-here g e) ∙ rows) (let n = longer g e in omega (arith, n, lt));
 }
 
@@ -104,7 +105,7 @@ front-whole g h f n = record {
   beyond P p i le = subst (λ (x : Entry). P x (entry_at h i)) (sym (entry-after g i le)) (subst (λ (y : Entry). P none y) (sym (entry-after h i (omega (arith, n, le)))) p)
 
   by : (P : Entry → Entry → Type 0) → P none none → ((i : ℕ) → i < length g → P (entry_at g i) (entry_at h i)) → (i : ℕ) → P (entry_at g i) (entry_at h i)
-  by P p f i = elim (place i (length g)) as (λ _. P (entry_at g i) (entry_at h i)) [
+  by P p f i = elim (before-at-after i (length g)) as (λ _. P (entry_at g i) (entry_at h i)) [
     | inl lt ↦ f i lt
     | inr r ↦ beyond P p i (elim r as (λ _. length g ≤ i) [ inl e ↦ omega (arith, e) | inr lt ↦ omega (arith, lt) ])
   ]
@@ -143,7 +144,7 @@ at-append (x ∷ xs) ys zero k e = absurd (omega (arith, e))
 at-append (x ∷ xs) ys (suc n) k e = at-append xs ys n k (omega (arith, e))
 
 at-lines : (y : ℤ) (n : ℕ) (rs : List Row) (back : List Line) (k : ℕ) → k < length rs
-    → ((line_at (lines_from y n rs ++ back) k).year ≡ y) × ((line_at (lines_from y n rs ++ back) k).place ≡ pos (n + k))
+    → ((line_at (lines_from y n rs ++ back) k).year ≡ y) × ((line_at (lines_from y n rs ++ back) k).position ≡ pos (n + k))
 at-lines y n [] back k lt = absurd (omega (arith, lt))
 at-lines y n (r ∷ rs) back zero lt = (refl, (let e : n ≡ n + 0 = omega arith in ap (λ (m : ℕ). pos m) e))
 at-lines y n (r ∷ rs) back (suc k) lt = let ih = at-lines y (n + 1) rs back k (omega (arith, lt)) in (ih.0, ih.1 ∙ (let e : n + 1 + k ≡ n + suc k = omega arith in ap (λ (m : ℕ). pos m) e))
@@ -163,7 +164,7 @@ lines-run y front rs back whole from w n above = record {
   here = λ k lt. let l = at-lines (pos y) 0 rs back k (omega (arith, lt)) in let at =
       there (from + k) k (omega (arith, n)) in (
         ap (λ (x : Line). x.year) at ∙ l.0,
-        ap (λ (x : Line). x.place) at ∙ l.1
+        ap (λ (x : Line). x.position) at ∙ l.1
             ∙ (let e : 0 + k ≡ k = omega arith in ap (λ (m : ℕ). pos m) e),
       );
   after =
@@ -204,19 +205,19 @@ next-lines _ _ f lt a = absurd (omega (arith, lt))
 
 -- reading goes on up to the end of the run
 pub run-more : (ls : List Line) (from y stop next : ℕ) → IsRun ls from y stop → next ≤ stop → (line_at ls next).year ≡ pos y → next + 1 ≤ stop
-run-more ls from y stop next run le e = elim (place next stop) as (λ _. next + 1 ≤ stop) [
+run-more ls from y stop next run le e = elim (before-at-after next stop) as (λ _. next + 1 ≤ stop) [
   | inl lt ↦ omega (arith, lt)
   | inr r ↦ elim r as (λ _. next + 1 ≤ stop) [ inl at ↦ absurd (run.after (ap (λ (n : ℕ). (line_at ls n).year) (sym at) ∙ e)) | inr gt ↦ absurd (omega (arith, le, gt)) ]
 ]
 
 pub run-end : (ls : List Line) (from y stop next k : ℕ) → IsRun ls from y stop → next ≤ stop → next ≡ from + k → ((line_at ls next).year ≡ pos y → ⊥) → next ≡ stop
-run-end ls from y stop next k run le at not = elim (place next stop) as (λ _. next ≡ stop) [
+run-end ls from y stop next k run le at not = elim (before-at-after next stop) as (λ _. next ≡ stop) [
   | inl lt ↦ absurd (not (ap (λ (n : ℕ). (line_at ls n).year) at ∙ (run.here k (omega (arith, at, lt))).0))
   | inr r ↦ elim r as (λ _. next ≡ stop) [ inl e ↦ e | inr gt ↦ absurd (omega (arith, le, gt)) ]
 ]
 
-pub run-place : (ls : List Line) (from y stop next k : ℕ) → IsRun ls from y stop → next ≡ from + k → next + 1 ≤ stop → (line_at ls next).place ≡ pos k
-run-place ls from y stop next k run at le = ap (λ (n : ℕ). (line_at ls n).place) at ∙ (run.here k (omega (arith, at, le))).1
+pub run-position : (ls : List Line) (from y stop next k : ℕ) → IsRun ls from y stop → next ≡ from + k → next + 1 ≤ stop → (line_at ls next).position ≡ pos k
+run-position ls from y stop next k run at le = ap (λ (n : ℕ). (line_at ls n).position) at ∙ (run.here k (omega (arith, at, le))).1
 
 -- ---- the next release that rows say
 
@@ -229,7 +230,7 @@ last-below : (g h : List Entry) → IsFront g h → IsLawful h → length g < le
 last-below [] h f law lt = law.first_year lt
 last-below (x ∷ g) h f law lt = let y = f.years (length g) (omega arith) in let r = law.years_rise (length g) (length (x ∷ g)) (omega arith) lt in omega (arith, y, r)
 
--- two lists of rows that stand at one place, before others or at the end, are one
+-- two lists of rows that stand at one position, before others or at the end, are one
 rows-cut : (y : ℕ) (front : List Line) (rows others : List Row) (back whole read : List Line) (next : ℕ) → next ≡ length front + length rows
     → whole ≡ front ++ (lines_from (pos y) 0 rows ++ back) → read ≡ take next whole → read ≡ front ++ lines_from (pos y) 0 others
     → AllByRecursion HasText rows → AllByRecursion HasText others → others ≡ rows
@@ -309,11 +310,11 @@ years-length [] [] e = refl
 years-length (x ∷ h) (y ∷ ys) e = ap suc (years-length h ys (ap rest e))
 years-length _ _ e = absurd cc
 
-year-at-place : (h : List Entry) (ys : List ℕ) (i : ℕ) → years_of h ≡ map (λ y. pos y) ys → i < length ys → (entry_at h i).year ≡ get_or ys i 0
-year-at-place [] [] i e lt = absurd (omega (arith, lt))
-year-at-place (x ∷ h) (y ∷ ys) zero e lt = ap first_of e
-year-at-place (x ∷ h) (y ∷ ys) (suc i) e lt = year-at-place h ys i (ap rest e) (omega (arith, lt))
-year-at-place _ _ i e lt = absurd cc
+year-at-index : (h : List Entry) (ys : List ℕ) (i : ℕ) → years_of h ≡ map (λ y. pos y) ys → i < length ys → (entry_at h i).year ≡ get_or ys i 0
+year-at-index [] [] i e lt = absurd (omega (arith, lt))
+year-at-index (x ∷ h) (y ∷ ys) zero e lt = ap first_of e
+year-at-index (x ∷ h) (y ∷ ys) (suc i) e lt = year-at-index h ys i (ap rest e) (omega (arith, lt))
+year-at-index _ _ i e lt = absurd cc
 
 pub as-long : (g h : List Entry) (ys : List ℕ) (i : ℕ) → years_of g ≡ map (λ y. pos y) (take i ys) → years_of h ≡ map (λ y. pos y) ys → length ys ≤ i → length g ≡ length h
 as-long g h ys i a b le = let n = years-length g (take i ys) a in let m = years-length h ys b in let w = ap length (take-whole ys i le) in omega (arith, n, m, w)
@@ -327,7 +328,7 @@ due-now g h lines from ys i lt front a b l =
     let m = years-length h ys b in
     let t = length-take-le i ys (omega (arith, lt)) in
     let at : length g ≡ i = omega (arith, n, t) in
-    record { front = front; more = omega (arith, at, m, lt); year_is = ap (λ (k : ℕ). (entry_at h k).year) at ∙ year-at-place h ys i b lt; lines_are = l }
+    record { front = front; more = omega (arith, at, m, lt); year_is = ap (λ (k : ℕ). (entry_at h k).year) at ∙ year-at-index h ys i b lt; lines_are = l }
 
 pub years-more : (ys : List ℕ) (i : ℕ) (old new : List ℤ) → i < length ys → old ≡ map (λ y. pos y) (take i ys) → new ≡ old ++ pos (get_or ys i 0) ∷ [] → new ≡ map (λ y. pos y) (take (i + 1) ys)
 years-more ys i old new lt o n =

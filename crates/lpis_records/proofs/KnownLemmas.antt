@@ -18,14 +18,14 @@ no-both false t f = cc t
 pub not-below : {P : Type 0} → (a b : ℕ) → b ≤ a → nat_lt a b ≡ true → P
 not-below a b le t = absurd (let lt : a < b = grind (arith, nat_tests, t) in omega (arith, le, lt))
 
--- what holds of each element holds of the one at a place
+-- what holds of each element holds of the one at a position
 pub all-at : {A : Type 0} (P : A → Type 0) (xs : List A) (i : ℕ) (x : A) → i < length xs → x ≡ get_or xs i x → All P xs → P x
 all-at P xs i x lt at all = subst P (sym at) (all i x lt)
 
 pub all-pushed : {A : Type 0} (P : A → Type 0) (xs new : List A) (x : A) → new ≡ xs ++ x ∷ [] → All P xs → P x → All P new
 all-pushed P xs new x n all p = subst (All P) (sym n) (All-push P xs x all p)
 
--- the line at a place of those that were read
+-- the line at a position of those that were read
 pub known-at : (ks : List KnownLine) (i : ℕ) (l : KnownLine) → i < length ks → l ≡ get_or ks i l → line_at (map line_in ks) i ≡ line_in l
 known-at [] i l lt at = absurd (omega (arith, lt))
 known-at (k ∷ ks) zero l lt at = ap line_in (sym at)
@@ -130,7 +130,7 @@ all-whole P xs i le all = subst (All P) (take-whole xs i le) all
 
 lines-push : (y : ℤ) (n m : ℕ) (rs : List Row) (r : Row) → m ≡ n + length rs → lines_from y n (rs ++ r ∷ []) ≡ lines_from y n rs ++ lines_from y m (r ∷ [])
 lines-push y n m [] r e = let s : n ≡ m = omega (arith, e) in ap (λ (k : ℕ). lines_from y k (r ∷ [])) s
-lines-push y n m (q ∷ rs) r e = ap (λ (l : List Line). (record { year = y; place = pos n; old = q.old; new = text_of q.new }) ∷ l) (lines-push y (n + 1) m rs r (omega (arith, e)))
+lines-push y n m (q ∷ rs) r e = ap (λ (l : List Line). (record { year = y; position = pos n; old = q.old; new = text_of q.new }) ∷ l) (lines-push y (n + 1) m rs r (omega (arith, e)))
 
 -- the rows of a year, one further
 pub rows-more : (y : ℤ) (front here next : List Line) (rs new : List Row) (r : Row) (m : ℕ) → here ≡ front ++ lines_from y 0 rs

@@ -2,7 +2,8 @@
 use Rattle.std.proofs.Common.{◌≡◌, ◌∙◌, ◌<◌, ◌≤◌, ◌+◌, inl, inr, refl, sym, ap, ap₂, subst, arith, ℕ, zero, suc, ℤ, pos, List, [], ◌∷◌, ◌++◌, Bool, true, false, length, Option, None, Some, ◌&&◌, ◌||◌}
 use Rattle.std.proofs.Common.{nat_le, nat_eq, IsPermutation, int_eq}
 use Rattle.lpis_records.proofs.Common.{AllByRecursion, list_any, nat_tests, both_ways, or_left, or_right, and-false, has_id, is_id, same_id, Entry, Row, IsLawful, entry_at, holds, names, span_of}
-use Rattle.lpis_records.proofs.Common.{entry-after, in-history, same-exact, place, Content, Line, Live, StoredSpan, lines_from, text_of, IsKept, IsSameHistory, IsSpanRow, LiveTells, SpansTell, Tells}
+use Rattle.lpis_records.proofs.Common.{entry-after, in-history, same-exact, before-at-after, Content, Line, Live, StoredSpan, lines_from, text_of}
+use Rattle.lpis_records.proofs.Common.{IsKept, IsSameHistory, IsSpanRow, LiveTells, SpansTell, Tells}
 use Rattle.lpis_records.proofs.Common.{TellsLive, lines_of, shown, years_of, covers, HasText}
 use Rattle.std.specs.Int.Signed.{le_z}
 use Rattle.std.proofs.lemmas.Int.{ints}
@@ -99,7 +100,7 @@ rows-apart y n [] [] ls ms a b f g e = (refl, e)
 rows-apart y n [] (q ∷ qs) ls ms a b f g e = absurd (let all = subst (AllByRecursion (λ l. below (pos y) l.year)) e a in below-alone (pos y) (pos y) all.0 all.0)
 rows-apart y n (r ∷ rs) [] ls ms a b f g e = absurd (let all = subst (AllByRecursion (λ l. below (pos y) l.year)) (sym e) b in below-alone (pos y) (pos y) all.0 all.0)
 rows-apart y n (r ∷ rs) (q ∷ qs) ls ms a b f g e =
-    let d : Line = record { year = pos y; place = pos n; old = r.old; new = text_of r.new } in
+    let d : Line = record { year = pos y; position = pos n; old = r.old; new = text_of r.new } in
     let one = ap (line_in d) e in
     let old : r.old ≡ q.old = ap (λ (l : Line). l.old) one in
     let new : r.new ≡ q.new = same-text r.new q.new f.0 g.0 (ap (λ (l : Line). l.new) one) in
@@ -157,7 +158,7 @@ one-history c h k s t = same-history c h k s.kept t.kept s.years_are t.years_are
   beyond l i id le = ap (λ (e : Entry). has_id e.live id) (entry-after l i le)
 
   sets : length h ≡ length k → ((i : ℕ) → (entry_at h i).year ≡ (entry_at k i).year) → (i : ℕ) (id : List ℕ) → holds h i id ≡ holds k i id
-  sets n years i id = elim (place i (length h)) as (λ _. holds h i id ≡ holds k i id) [
+  sets n years i id = elim (before-at-after i (length h)) as (λ _. holds h i id ≡ holds k i id) [
     | inl lt ↦ sets-told h c.spans s.kept.lawful s.spans_are i lt id ∙ ap (λ (y : ℕ). list_any (λ s. same_id id s.id && covers s y) c.spans) (years i)
         ∙ sym (sets-told k c.spans t.kept.lawful t.spans_are i (omega (arith, n, lt)) id)
     | inr r ↦ elim r as (λ _. holds h i id ≡ holds k i id) [
@@ -168,9 +169,9 @@ one-history c h k s t = same-history c h k s.kept t.kept s.years_are t.years_are
 
 -- ---- the same of version 1
 
--- years rise, so each has one place
-pub same-place : (h : List Entry) → IsLawful h → (i j : ℕ) → i < length h → j < length h → (entry_at h i).year ≡ (entry_at h j).year → i ≡ j
-same-place h law i j a b e = elim (place i j) as (λ _. i ≡ j) [
+-- years rise, so each has one position
+pub same-index : (h : List Entry) → IsLawful h → (i j : ℕ) → i < length h → j < length h → (entry_at h i).year ≡ (entry_at h j).year → i ≡ j
+same-index h law i j a b e = elim (before-at-after i j) as (λ _. i ≡ j) [
   | inl lt ↦ absurd (let r = law.years_rise i j lt b in omega (arith, r, e))
   | inr r ↦ elim r as (λ _. i ≡ j) [
     | inl same ↦ same
@@ -188,7 +189,7 @@ live-held h k live a b law lengths years i id held =
     let at = b.right _ (a.whole id i held) in
     let lt = in-history h i id held in
     let year : (entry_at k i).year ≡ (entry_at k at.0).year = sym (years i) ∙ nat-of _ _ at.2 in
-    let same = same-place k law i at.0 (omega (arith, lt, lengths)) at.1 year in
+    let same = same-index k law i at.0 (omega (arith, lt, lengths)) at.1 year in
     ap (λ (n : ℕ). holds k n id) same ∙ at.3
 
 pub one-live-history : (c : Content) (h k : List Entry) → TellsLive c h → TellsLive c k → IsSameHistory h k

@@ -2,7 +2,8 @@
 use Rattle.std.proofs.Common.{◌≡◌, ◌∙◌, ◌≤◌, ◌+◌, ◌⊎◌, inl, inr, refl, sym, ap, ap₂, subst, arith, ℕ, suc, ℤ, pos, List, [], ◌∷◌, ◌++◌, Bool, true, false, cond, map, length, Option, None, Some}
 use Rattle.std.proofs.Common.{IsPermutation, ◌&&◌, ◌||◌, not, is_some, filter, is_eq, nat_cmp, Less}
 use Rattle.lpis_records.proofs.Common.{AllByRecursion, list_any, slice_cmp, IsPermutation-sym, IsPermutation-trans, or_left, or_right, and-false, has_id, is_id, same_id, Entry, Row, Adds, IsLawful}
-use Rattle.lpis_records.proofs.Common.{RowsFit, entry_at, holds, last_live, first_held, last_held, span_of, entry-after, entry-before, entry-here, same-exact, same-refl, filter-none, longer, place}
+use Rattle.lpis_records.proofs.Common.{RowsFit, entry_at, holds, last_live, first_held, last_held, span_of, entry-after, entry-before, entry-here}
+use Rattle.lpis_records.proofs.Common.{same-exact, same-refl, filter-none, longer, before-at-after}
 use Rattle.lpis_records.proofs.Common.{Content, Line, StoredSpan, lines_from, IsKept, IsSpanRow, SpansTell, Tells, last_of_years, lines_of, shown, years_of}
 use Rattle.std.specs.List.Sorted.{IsStrictlySortedBy}
 use Rattle.std.proofs.lemmas.List.{append-nil, append_assoc}
@@ -14,7 +15,7 @@ use Rattle.lpis_lineage.specs.private.Keeping.{begun, ended_in}
 use Rattle.lpis_lineage.specs.Lineage.{last_year}
 use Rattle.lpis_lineage.specs.Order.{IsAscending}
 use Rattle.lpis_lineage.specs.Spans.{span_between}
-use Rattle.lpis_lineage.proofs.Shared.{same-by_order, filter-append, follows-back, first-place, span-more}
+use Rattle.lpis_lineage.proofs.Shared.{same-by_order, filter-append, follows-back, first-index, span-more}
 use Rattle.lpis_records.specs.Content.{published}
 use Rattle.lpis_records.specs.Tells.{IsWriting}
 use Rattle.lpis_records.proofs.AscendingLemmas.{all-append}
@@ -49,7 +50,7 @@ lines-told ls h e m =
 holds-more : (h : List Entry) (e : Entry) (i : ℕ) (id : List ℕ) → holds (h ++ e ∷ []) i id ≡ true → (holds h i id ≡ true) ⊎ (has_id e.live id ≡ true)
 holds-more h e i id held =
     let n = longer h e in
-    elim (place i (length h)) as (λ _. (holds h i id ≡ true) ⊎ (has_id e.live id ≡ true)) [
+    elim (before-at-after i (length h)) as (λ _. (holds h i id ≡ true) ⊎ (has_id e.live id ≡ true)) [
       | inl a ↦ inl (ap (λ (x : Entry). has_id x.live id) (sym (entry-before h e i a)) ∙ held)
       | inr b ↦ elim b as (λ _. (holds h i id ≡ true) ⊎ (has_id e.live id ≡ true)) [
         | inl at ↦ inr (ap (λ (x : Entry). has_id x.live id) (sym (entry-here h e) ∙ ap (λ (k : ℕ). entry_at (h ++ e ∷ []) k) (sym at)) ∙ held)
@@ -62,7 +63,7 @@ pub spanned : (h : List Entry) (id : List ℕ) → is_some (span_of h id) ≡ tr
 spanned h id s = by (first_held h id) refl s where
   by : (f : Option ℕ) → f ≡ first_held h id → is_some (span_between f (last_held h id) (has_id (last_live h) id)) ≡ true → (i : ℕ) × (holds h i id ≡ true)
   by None e s = absurd cc
-  by (Some y) e s = let p = first-place h id y (sym e) in (p.0, p.1)
+  by (Some y) e s = let p = first-index h id y (sym e) in (p.0, p.1)
 
 -- a new identifier is fresh or was in some release
 fresh-or-old : (h : List Entry) (live gone fresh : List (List ℕ)) (id : List ℕ) → IsWriting h live gone fresh → has_id live id ≡ true → (has_id fresh id ≡ true) ⊎ ((i : ℕ) × (holds h i id ≡ true))
@@ -80,7 +81,7 @@ kept-more h e live gone fresh kept law fit small alike w = record {
     | inl old ↦ kept.ids id i old
     | inr new ↦ elim (fresh-or-old h live gone fresh id w (sym (alike id) ∙ new)) as (λ _. is_id id ≡ true) [ inl f ↦ w.fresh_are.ids id f | inr o ↦ kept.ids id o.0 o.1 ]
   ];
-  years = λ i. let n = longer h e in elim (place i (length h)) as (λ _. (entry_at (h ++ e ∷ []) i).year ≤ last_of_years) [
+  years = λ i. let n = longer h e in elim (before-at-after i (length h)) as (λ _. (entry_at (h ++ e ∷ []) i).year ≤ last_of_years) [
     | inl a ↦ let y = kept.years i in let s = ap (λ (x : Entry). x.year) (entry-before h e i a) in omega (arith, y, s)
     | inr b ↦ elim b as (λ _. (entry_at (h ++ e ∷ []) i).year ≤ last_of_years) [
       | inl at ↦ let s = ap (λ (k : ℕ). (entry_at (h ++ e ∷ []) k).year) at in let t = ap (λ (x : Entry). x.year) (entry-here h e) in omega (arith, s, t, small)

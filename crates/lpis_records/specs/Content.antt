@@ -17,11 +17,11 @@ pub record StoredSpan : Type 0 where
   pub since : ℤ
   pub until : ℤ
 
--- a row of `lpis_row`: the row of lineage at a place, from 0, of the release of a year; `new` is
+-- a row of `lpis_row`: the row of lineage at a position, from 0, of the release of a year; `new` is
 -- empty for an ending
 pub record Line : Type 0 where
   pub year : ℤ
-  pub place : ℤ
+  pub position : ℤ
   pub old : List ℕ
   pub new : List ℕ
 
@@ -103,17 +103,17 @@ abbrev pub text_of : Option (List ℕ) → List ℕ
 text_of None = []
 text_of (Some id) = id
 
--- the rows of a year's release, of which the first has this place
+-- the rows of a year's release, of which the first has this position
 abbrev pub lines_from : ℤ → ℕ → List Row → List Line
 lines_from year n [] = []
 lines_from year n (r ∷ rs) =
-    (record { year = year; place = pos n; old = r.old; new = text_of r.new }) ∷ lines_from year
+    (record { year = year; position = pos n; old = r.old; new = text_of r.new }) ∷ lines_from year
     (n + 1) rs
 
 -- ---- publishing, and moving from version 1 to 2
 
 -- a release more: the spans of dropped identifiers end with the last release's year, those of fresh
--- ones begin with this one; its rows of lineage stand by their places from 0
+-- ones begin with this one; its rows of lineage stand by their positions from 0
 abbrev pub published : ℤ → ℤ → List (List ℕ) → List (List ℕ) → List Row → Content → Content
 published year last gone fresh rows c = with_lines (lines_from year 0 rows)
     (with_spans year fresh (all_ended last gone (with_year year c)))

@@ -27,7 +27,7 @@ abbrev pub years_of : List Entry → List ℤ
 years_of [] = []
 years_of (e ∷ h) = pos e.year ∷ years_of h
 
--- the rows of lineage of all releases, each with its year and its place
+-- the rows of lineage of all releases, each with its year and its position
 abbrev pub lines_of : List Entry → List Line
 lines_of [] = []
 lines_of (e ∷ h) = lines_from (pos e.year) 0 e.rows ++ lines_of h

@@ -90,7 +90,7 @@ impl SpanRow {
 #[derive(Drop)]
 pub struct LineRow {
     year: i64,
-    place: i64,
+    position: i64,
     old: String,
     new: String,
 }
@@ -103,23 +103,24 @@ impl Model for LineRow {
 
     ghost view = { λ a. record {
       year = a.year;
-      place = a.place;
+      position = a.position;
       old = string_bytes a.old;
       new = string_bytes a.new;
     } };
 }
 
 impl LineRow {
-    /// The row of lineage at a place, from 0, of a year's release; an empty `new` makes an ending.
-    pub fn new(year: i64, place: i64, old: String, new: String) -> LineRow
+    /// The row of lineage at a position, from 0, of a year's release; an empty `new` makes an
+    /// ending.
+    pub fn new(year: i64, position: i64, old: String, new: String) -> LineRow
         ensures year { result.year ≡ year }
-        ensures place { result.place ≡ place }
+        ensures position { result.position ≡ position }
         ensures old { result.old ≡ string_bytes old }
         ensures new { result.new ≡ string_bytes new }
     {
         LineRow {
             year,
-            place,
+            position,
             old,
             new,
         }
@@ -132,11 +133,11 @@ impl LineRow {
         self.year
     }
 
-    /// Its place among the rows of the release, from 0.
-    pub(crate) fn place(&self) -> i64
-        ensures { result ≡ self.now.place }
+    /// Its position among the rows of the release, from 0.
+    pub(crate) fn position(&self) -> i64
+        ensures { result ≡ self.now.position }
     {
-        self.place
+        self.position
     }
 
     /// The old identifier's text.

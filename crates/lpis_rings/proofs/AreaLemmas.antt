@@ -44,7 +44,7 @@ steps_suc zero (p ∷ (q ∷ ps)) a b h e f = rw (e, f) refl
 steps_suc (suc j) (p ∷ ps) a b h e f = steps_suc j ps a b (omega arith) e f
 steps_suc _ _ a b h e f = absurd (omega arith)
 
--- the edges from a place on
+-- the edges from an index on
 pub steps_at : (i : ℕ) (ps : List Point) (a b : Point) → 1 ≤ i → i < length ps → a ≡ get_or ps (i - 1) a → b ≡ get_or ps i b → steps (drop (i - 1) ps) ≡ (a, b) ∷ steps (drop i ps)
 steps_at zero ps a b some h e f = absurd (omega arith)
 steps_at (suc j) ps a b some h e f =

@@ -2,7 +2,7 @@
 use Rattle.std.proofs.Common.{◌≡◌, ℕ, ℤ, List, [], ◌∷◌, map, drop, slice_get, true, false, not, Some, None, Ok, refl, sym, ap, subst, ◌∙◌, IsPermutation, true≢false, Option}
 use Rattle.lpis_tables.proofs.Common.{flat_map_single, IsPermutation-refl, IsPermutation-map, Null, Row, Table, Schema, overlay, IsAnswer, Output, output, edit_of, Given, Trees, Tally, Does, Database}
 use Rattle.lpis_tables.proofs.Common.{Mode, State, mode_of, ExecutesInside, understood, Program, ids_of, statement_of, runs_as, Content, without_spans, without_live, span_table, Shape, schema_of}
-use Rattle.lpis_tables.proofs.Common.{has_spans, has_live, span_tree, span_place, AreKeyed, span_row, live_row, Inside}
+use Rattle.lpis_tables.proofs.Common.{has_spans, has_live, span_tree, span_table_index, AreKeyed, span_row, live_row, Inside}
 use Rattle.sqlite.specs.Command.TheVariants.{Delete}
 use Rattle.sqlite.specs.Edit.{without_all}
 use Rattle.sqlite.specs.Does.{AtPlace, OnRows}
@@ -18,13 +18,13 @@ use Rattle.lpis_tables.proofs.InsertLemmas.{inside_next, span_stands}
 use Rattle.lpis_tables.proofs.WriteLemmas.{Finding, went, same_value, step_of, Kept, kept_of}
 
 -- DELETE is one query and one step
-pub deletes : (limit : Option ℕ) (mode : Mode) (params : Row) (schema : Schema) (trees : Trees) (text : List ℕ) (place : ℕ) (table : Table) (q : Program) (tally : Tally) (after : Database)
-    → slice_get schema.tables place ≡ Some table
-    → Does limit mode params (record { schema = schema; trees = trees }) text None (Delete place q) (Ok (tally, after))
+pub deletes : (limit : Option ℕ) (mode : Mode) (params : Row) (schema : Schema) (trees : Trees) (text : List ℕ) (index : ℕ) (table : Table) (q : Program) (tally : Tally) (after : Database)
+    → slice_get schema.tables index ≡ Some table
+    → Does limit mode params (record { schema = schema; trees = trees }) text None (Delete index q) (Ok (tally, after))
     → Finding schema mode.keys trees q params (λ rows. edit_of trees table (ids_of rows) Given 0 []) after
-deletes limit mode params schema trees text place table q tally after at h =
+deletes limit mode params schema trees text index table q tally after at h =
     let task : Table → Task = λ t. record { limit = limit; keys = mode.keys; schema = schema; table = t; params = params } in
-    let done = went (subst (λ t. AtPlace (λ t. OnRows (task t) mode None (Delete place q) trees) t (Ok (tally, after))) at h) in
+    let done = went (subst (λ t. AtPlace (λ t. OnRows (task t) mode None (Delete index q) trees) t (Ok (tally, after))) at h) in
     let now = ap (λ (p : Tally × Database). p.1) (same_value (went (went done.2).2).2) in
     let given = went done.1 in
     let written = went given.2 in
@@ -61,17 +61,17 @@ pub record Empties (s : Shape) (old new : State) (tree : ℕ) : Type 0 where
   pub empty : new.now.trees tree ≡ []
   pub others : Kept s tree old.now.trees new.now.trees
 
-pub clears : (s : Shape) (sql : List ℕ) (place tree : ℕ) (table : Table) (old new : State) (count : ℕ)
-    → table.tree ≡ tree → old.now.schema ≡ schema_of s → slice_get (schema_of s).tables place ≡ Some table
-    → Says s sql (Delete place (whole (ids_query tree))) → overlay old.now.trees [] tree ≡ old.now.trees tree
+pub clears : (s : Shape) (sql : List ℕ) (index tree : ℕ) (table : Table) (old new : State) (count : ℕ)
+    → table.tree ≡ tree → old.now.schema ≡ schema_of s → slice_get (schema_of s).tables index ≡ Some table
+    → Says s sql (Delete index (whole (ids_query tree))) → overlay old.now.trees [] tree ≡ old.now.trees tree
     → AreKeyed (old.now.trees tree) → Executes sql [] old new (Ok count) → Empties s old new tree
-clears s sql place tree table old new count named has at says own keyed h =
+clears s sql index tree table old new count named has at says own keyed h =
     let db = old.now.trees in
     let q = ids_query tree in
-    let command = Delete place (whole q) in
+    let command = Delete index (whole q) in
     let w = runs_as sql [] old new (schema_of s) has command says.0 says.1 count h in
     let text = statement_of sql (understood (schema_of s) sql) in
-    let it = deletes old.step_limit (mode_of old) [] (schema_of s) db text place table (whole q) w.tally new.now at
+    let it = deletes old.step_limit (mode_of old) [] (schema_of s) db text index table (whole q) w.tally new.now at
     (subst (λ s. Does old.step_limit (mode_of old) [] (record old.now { schema = s }) text None command
     (Ok (w.tally, new.now))) has w.changed) in
     let step = step_of s db new.now.trees _ it.edited in
@@ -101,7 +101,7 @@ clear_spans_inside s base old new c count spans before h =
     let db = old.now.trees in
     let tree = span_tree s in
     let there = keeps_there (has_spans s) span_row c.spans (db tree) spans m.spans_are in
-    let e = clears s clear_span (span_place s) tree (span_table tree) old new count refl before.holds.schema (span_stands s spans) (clear_span_means s spans) (own_spans s db) there.1 h.0 in
+    let e = clears s clear_span (span_table_index s) tree (span_table tree) old new count refl before.holds.schema (span_stands s spans) (clear_span_means s spans) (own_spans s db) there.1 h.0 in
     inside_next s s base old new c _ before h.1 (record {
       schema = e.schema;
       sound = e.sound;

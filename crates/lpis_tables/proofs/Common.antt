@@ -4,7 +4,7 @@ pub use Rattle.lpis_tables.specs.Holding.{AreKeyed, Holds, IsStored, Keeps, Leav
 pub use Rattle.lpis_tables.specs.Shapes.{First, Moved, New, Shape, has_live, has_spans, no_schema, schema_of, span_tree, with_span_table}
 pub use Rattle.lpis_tables.specs.Tables.{format_table, release_table, row_table, span_table}
 pub use Rattle.lpis_tables.specs.private.Inside.{Inside, IsQuiet, Turns}
-pub use Rattle.lpis_tables.specs.private.Places.{span_place}
+pub use Rattle.lpis_tables.specs.private.Indices.{span_table_index}
 pub use Rattle.lpis_tables.specs.private.Stages.{one_table, three_tables, two_tables}
 pub use Rattle.lpis_tables.specs.private.Texts.{read_format, read_line, read_live, read_release, read_span}
 pub use Rattle.sqlite.proofs.Callers.{runs_as, statement_of, survives_begin}

@@ -3,7 +3,7 @@ use Rattle.std.proofs.Common.{◌≡◌, ◌⊎◌, inl, inr, ℕ, ℤ, List, []
 use Rattle.std.proofs.Common.{if◌then◌else◌, filter, bytes_eq, flat_map, nat_cmp}
 use Rattle.lpis_tables.proofs.Common.{cases_Bool, not-true, IsPermutation-refl, IsPermutation-trans, IsPermutation-map, Null, Int, Row, column, value_cmp, Update, edit_of, ids_of, Has, Given, Does}
 use Rattle.lpis_tables.proofs.Common.{Database, IsAnswer, Output, output, overlay, rowid, understood, State, mode_of, ExecutesInside, statement_of, runs_as, StoredSpan, Content, span_table, Shape}
-use Rattle.lpis_tables.proofs.Common.{schema_of, has_spans, span_tree, span_place, AreKeyed, span_row, Inside}
+use Rattle.lpis_tables.proofs.Common.{schema_of, has_spans, span_tree, span_table_index, AreKeyed, span_row, Inside}
 use Rattle.std.specs.List.{list_all}
 use Rattle.std.specs.Cmp.Lexicographic.{slice_cmp}
 use Rattle.std.proofs.lemmas.Map.Text.{is_eq-slice_cmp}
@@ -155,14 +155,14 @@ end_inside s base old new c id y count spans before h =
     let m = before.holds.means in
     let db = old.now.trees in
     let tree = span_tree s in
-    let place = span_place s in
+    let index = span_table_index s in
     let q = ends_query tree in
     let params = Int y ∷ Text id ∷ [] in
-    let command = Update place (whole q) in
+    let command = Update index (whole q) in
     let says = end_span_means s spans in
     let w = runs_as end_span params old new (schema_of s) before.holds.schema command says.0 says.1 count h.0 in
     let text = statement_of end_span (understood (schema_of s) end_span) in
-    let it = updates old.step_limit (mode_of old) params (schema_of s) db text place (span_table tree) (whole q) w.tally
+    let it = updates old.step_limit (mode_of old) params (schema_of s) db text index (span_table tree) (whole q) w.tally
     new.now (span_stands s spans)
     (subst (λ s. Does old.step_limit (mode_of old) params (record old.now { schema = s }) text None command
     (Ok (w.tally, new.now))) before.holds.schema w.changed) in

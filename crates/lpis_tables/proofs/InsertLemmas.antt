@@ -1,7 +1,7 @@
 -- What the statements that insert do.
 use Rattle.std.proofs.Common.{◌≡◌, ℕ, ℤ, pos, List, [], ◌∷◌, drop, slice_get, true, true≢false, Some, Ok, refl, sym, subst, ◌∙◌}
 use Rattle.lpis_tables.proofs.Common.{IsPermutation-trans, IsPermutation-map, Int, Row, edit_of, Database, Trees, State, ExecutesInside, StoredSpan, Content, with_whole_span, with_line, format_table}
-use Rattle.lpis_tables.proofs.Common.{release_table, span_table, row_table, Shape, schema_of, has_spans, span_tree, span_place, AreKeyed, format_row, year_row, span_row, line_row, Holds, Inside}
+use Rattle.lpis_tables.proofs.Common.{release_table, span_table, row_table, Shape, schema_of, has_spans, span_tree, span_table_index, AreKeyed, format_row, year_row, span_row, line_row, Holds, Inside}
 use Rattle.std.proofs.lemmas.List.Sorted.{IsPermutation-cons}
 use Rattle.sqlite.specs.declared.types.Value.TheVariants.{Text}
 use Rattle.sqlite.specs.Edit.{next_rowid}
@@ -39,7 +39,7 @@ pub whole_span_news : (trees : Trees) (tree : ℕ) (p : StoredSpan)
 whole_span_news trees tree p = rw (cast_null, cast_int p.since, cast_int p.until)
 
 pub line_news : (trees : Trees) (l : Line) → (edit_of trees (row_table 4) [] Chosen 0 (value_rows (stamped (row_table 4) (line_row l)) 5 1 line_terms)).news ≡ next_row trees 4 (line_row l) ∷ []
-line_news trees l = rw (cast_null, cast_int l.year, cast_int l.place)
+line_news trees l = rw (cast_null, cast_int l.year, cast_int l.position)
 
 -- ---- inside a transaction
 
@@ -52,7 +52,7 @@ pub release_inside : (s : Shape) (base : Database) (old new : State) (c : Conten
 release_inside s base old new c year count before h =
     let m = before.holds.means in
     let a = adds s insert_release 1 2 (release_table 1) release_terms (Int year ∷ []) (year_row year) old new count
-    before.holds.schema (place s) refl (insert_release_means s) (release_news old.now.trees year) h.0 in
+    before.holds.schema (index s) refl (insert_release_means s) (release_news old.now.trees year) h.0 in
     let db = old.now.trees in
     let next = new.now.trees in
     inside_next s s base old new c _ before h.1 (record {
@@ -67,8 +67,8 @@ release_inside s base old new c year count before h =
       };
     })
   where
-    place : (s : Shape) → slice_get (schema_of s).tables 1 ≡ Some (release_table 1)
-    place = in_each _ refl refl refl
+    index : (s : Shape) → slice_get (schema_of s).tables 1 ≡ Some (release_table 1)
+    index = in_each _ refl refl refl
 
 -- one span more, however its row came to be written
 span_more : (s : Shape) (base : Database) (old new : State) (c : Content) (p : StoredSpan) → has_spans s ≡ true → Inside s base old c → Shows old new new.now old.committed true
@@ -86,14 +86,14 @@ span_more s base old new c p spans before shown a =
           (subst AreKeyed (sym a.rows) (keyed_more (db tree) (next_rowid (db tree)) (span_row p) there.1 a.fresh));
     })
 
-pub span_stands : (s : Shape) → has_spans s ≡ true → slice_get (schema_of s).tables (span_place s) ≡ Some (span_table (span_tree s))
+pub span_stands : (s : Shape) → has_spans s ≡ true → slice_get (schema_of s).tables (span_table_index s) ≡ Some (span_table (span_tree s))
 span_stands = in_each _ (λ is. refl) (λ is. absurd (true≢false (sym is))) (λ is. refl)
 
 pub span_inside : (s : Shape) (base : Database) (old new : State) (c : Content) (id : List ℕ) (since : ℤ) (count : ℕ) → has_spans s ≡ true → Inside s base old c
     → ExecutesInside 0 insert_span (Text id ∷ Int since ∷ []) old new (Ok count) → Inside s base new (with_span since c id)
 span_inside s base old new c id since count spans before h =
     span_more s base old new c (record { id = id; since = since; until = pos 0 }) spans before h.1
-    (adds s insert_span (span_place s) 4 (span_table (span_tree s)) span_terms (Text id ∷ Int since ∷ []) _ old new
+    (adds s insert_span (span_table_index s) 4 (span_table (span_tree s)) span_terms (Text id ∷ Int since ∷ []) _ old new
     count before.holds.schema (span_stands s spans) refl (insert_span_means s spans)
     (span_news old.now.trees (span_tree s) id since) h.0)
 
@@ -101,7 +101,7 @@ pub whole_span_inside : (s : Shape) (base : Database) (old new : State) (c : Con
     → ExecutesInside 0 insert_whole_span (span_row p) old new (Ok count) → Inside s base new (with_whole_span c p)
 whole_span_inside s base old new c p count spans before h =
     span_more s base old new c p spans before h.1
-    (adds s insert_whole_span (span_place s) 4 (span_table (span_tree s)) whole_span_terms (span_row p) _ old new count
+    (adds s insert_whole_span (span_table_index s) 4 (span_table (span_tree s)) whole_span_terms (span_row p) _ old new count
     before.holds.schema (span_stands s spans) refl (insert_whole_span_means s spans)
     (whole_span_news old.now.trees (span_tree s) p) h.0)
 
@@ -112,7 +112,7 @@ line_inside s base old new c l count before h =
     let m = before.holds.means in
     let db = old.now.trees in
     let next = new.now.trees in
-    let a = adds s insert_line 3 5 (row_table 4) line_terms (line_row l) _ old new count before.holds.schema (place s) refl (insert_line_means s) (line_news db l) h.0 in
+    let a = adds s insert_line 3 5 (row_table 4) line_terms (line_row l) _ old new count before.holds.schema (index s) refl (insert_line_means s) (line_news db l) h.0 in
     inside_next s s base old new c _ before h.1 (record {
       schema = a.schema;
       sound = a.sound;
@@ -125,5 +125,5 @@ line_inside s base old new c l count before h =
       };
     })
   where
-    place : (s : Shape) → slice_get (schema_of s).tables 3 ≡ Some (row_table 4)
-    place = in_each _ refl refl refl
+    index : (s : Shape) → slice_get (schema_of s).tables 3 ≡ Some (row_table 4)
+    index = in_each _ refl refl refl

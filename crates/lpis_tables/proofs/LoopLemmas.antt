@@ -17,8 +17,8 @@ lines_take y n [] i d low = absurd (omega arith)
 lines_take y n (r ∷ rows) zero d low = ap (λ k. line_of y (pos k) r ∷ []) (let e : n ≡ n + 0 = omega arith in e)
 lines_take y n (r ∷ rows) (suc i) d low =
     let more = lines_take y (n + 1) rows i d (omega arith) in
-    let place : n + 1 + i ≡ n + suc i = omega arith in
-    ap (λ l. line_of y (pos n) r ∷ l) (more ∙ ap (λ k. lines_from y (n + 1) (take i rows) ++ line_of y (pos k) (get_or rows i d) ∷ []) place)
+    let position : n + 1 + i ≡ n + suc i = omega arith in
+    ap (λ l. line_of y (pos n) r ∷ l) (more ∙ ap (λ k. lines_from y (n + 1) (take i rows) ++ line_of y (pos k) (get_or rows i d) ∷ []) position)
 
 pub lines_more : (y : ℤ) (rows : List Row) (i : ℕ) (d r : Row) (c : Content) → i < length rows → r ≡ get_or rows i d
     → with_line (with_lines (lines_from y 0 (take i rows)) c) (line_of y (pos i) r) ≡ with_lines (lines_from y 0 (take (i + 1) rows)) c

@@ -1,7 +1,7 @@
 -- What the texts mean, in each order of the tables.
 use Rattle.std.proofs.Common.{◌≡◌, ℕ, Ok, refl, codes, [], ◌∷◌, None, true, false, pos, negsuc, List, sym, true≢false}
 use Rattle.lpis_tables.proofs.Common.{Null, Int, table_defined_by, Term, Program, Update, CreateTable, understood, statement_of, Schema, Table, format_table, release_table, span_table, row_table}
-use Rattle.lpis_tables.proofs.Common.{Shape, New, First, Moved, schema_of, has_spans, has_live, span_tree, no_schema, span_place, one_table, two_tables, three_tables, read_format, read_release}
+use Rattle.lpis_tables.proofs.Common.{Shape, New, First, Moved, schema_of, has_spans, has_live, span_tree, no_schema, span_table_index, one_table, two_tables, three_tables, read_format, read_release}
 use Rattle.lpis_tables.proofs.Common.{read_span, read_line, read_live}
 use Rattle.sqlite.specs.Term.{lit, col, op2}
 use Rattle.sqlite_sql.specs.declared.ops.BinaryOp.TheVariants.{Compare}
@@ -104,19 +104,19 @@ pub insert_line_means : (s : Shape) → Says s insert_line (Insert 3 (Values lin
 unfolding understood everything
 insert_line_means = in_each _ (refl, (refl, refl)) (refl, (refl, refl)) (refl, (refl, refl))
 
-pub insert_span_means : (s : Shape) → has_spans s ≡ true → Says s insert_span (Insert (span_place s) (Values span_terms 4))
+pub insert_span_means : (s : Shape) → has_spans s ≡ true → Says s insert_span (Insert (span_table_index s) (Values span_terms 4))
 unfolding understood everything
 insert_span_means = in_each _ (λ p. (refl, (refl, refl))) (λ p. absurd (true≢false (sym p))) (λ p. (refl, (refl, refl)))
 
-pub insert_whole_span_means : (s : Shape) → has_spans s ≡ true → Says s insert_whole_span (Insert (span_place s) (Values whole_span_terms 4))
+pub insert_whole_span_means : (s : Shape) → has_spans s ≡ true → Says s insert_whole_span (Insert (span_table_index s) (Values whole_span_terms 4))
 unfolding understood everything
 insert_whole_span_means = in_each _ (λ p. (refl, (refl, refl))) (λ p. absurd (true≢false (sym p))) (λ p. (refl, (refl, refl)))
 
-pub end_span_means : (s : Shape) → has_spans s ≡ true → Says s end_span (Update (span_place s) (whole (ends_query (span_tree s))))
+pub end_span_means : (s : Shape) → has_spans s ≡ true → Says s end_span (Update (span_table_index s) (whole (ends_query (span_tree s))))
 unfolding understood everything
 end_span_means = in_each _ (λ p. (refl, (refl, refl))) (λ p. absurd (true≢false (sym p))) (λ p. (refl, (refl, refl)))
 
-pub clear_span_means : (s : Shape) → has_spans s ≡ true → Says s clear_span (Delete (span_place s) (whole (ids_query (span_tree s))))
+pub clear_span_means : (s : Shape) → has_spans s ≡ true → Says s clear_span (Delete (span_table_index s) (whole (ids_query (span_tree s))))
 unfolding understood everything
 clear_span_means = in_each _ (λ p. (refl, (refl, refl))) (λ p. absurd (true≢false (sym p))) (λ p. (refl, (refl, refl)))
 

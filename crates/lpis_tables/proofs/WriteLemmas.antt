@@ -60,13 +60,13 @@ chosen table top e = rw e
 
 -- INSERT .. VALUES into a table with no AUTOINCREMENT is one step
 pub inserts : (limit : Option ℕ) (mode : Mode) (params : Row) (schema : Schema) (trees : Trees) (text : List ℕ)
-    (place : ℕ) (table : Table) (terms : List Term) (width : ℕ) (tally : Tally) (after : Database)
-    → slice_get schema.tables place ≡ Some table → table.is_counted ≡ false
-    → Does limit mode params (record { schema = schema; trees = trees }) text None (Insert place (Values terms width)) (Ok (tally, after))
+    (index : ℕ) (table : Table) (terms : List Term) (width : ℕ) (tally : Tally) (after : Database)
+    → slice_get schema.tables index ≡ Some table → table.is_counted ≡ false
+    → Does limit mode params (record { schema = schema; trees = trees }) text None (Insert index (Values terms width)) (Ok (tally, after))
     → (after.schema ≡ schema) × Edited schema mode.keys trees (edit_of trees table [] Chosen 0 (value_rows (stamped table params) width (length terms / width) terms)) (Ok after.trees)
-inserts limit mode params schema trees text place table terms width tally after at plain h =
+inserts limit mode params schema trees text index table terms width tally after at plain h =
     let task : Table → Task = λ t. record { limit = limit; keys = mode.keys; schema = schema; table = t; params = params } in
-    let done = went (subst (λ t. AtPlace (λ t. OnRows (task t) mode None (Insert place (Values terms width)) trees) t (Ok (tally, after))) at h) in
+    let done = went (subst (λ t. AtPlace (λ t. OnRows (task t) mode None (Insert index (Values terms width)) trees) t (Ok (tally, after))) at h) in
     let now = ap (λ (p : Tally × Database). p.1) (same_value (went (went done.2).2).2) in
     let given = went done.1 in
     let counter = went given.2 in
@@ -91,13 +91,13 @@ pub record Finding (schema : Schema) (keys : Keys) (trees : Trees) (q : Program)
   pub edited : Edited schema keys trees (edit_by found) (Ok after.trees)
 
 -- UPDATE is one query and one step
-pub updates : (limit : Option ℕ) (mode : Mode) (params : Row) (schema : Schema) (trees : Trees) (text : List ℕ) (place : ℕ) (table : Table) (q : Program) (tally : Tally) (after : Database)
-    → slice_get schema.tables place ≡ Some table
-    → Does limit mode params (record { schema = schema; trees = trees }) text None (Update place q) (Ok (tally, after))
+pub updates : (limit : Option ℕ) (mode : Mode) (params : Row) (schema : Schema) (trees : Trees) (text : List ℕ) (index : ℕ) (table : Table) (q : Program) (tally : Tally) (after : Database)
+    → slice_get schema.tables index ≡ Some table
+    → Does limit mode params (record { schema = schema; trees = trees }) text None (Update index q) (Ok (tally, after))
     → Finding schema mode.keys trees q params (λ rows. edit_of trees table (ids_of rows) Given 1 rows) after
-updates limit mode params schema trees text place table q tally after at h =
+updates limit mode params schema trees text index table q tally after at h =
     let task : Table → Task = λ t. record { limit = limit; keys = mode.keys; schema = schema; table = t; params = params } in
-    let done = went (subst (λ t. AtPlace (λ t. OnRows (task t) mode None (Update place q) trees) t (Ok (tally, after))) at h) in
+    let done = went (subst (λ t. AtPlace (λ t. OnRows (task t) mode None (Update index q) trees) t (Ok (tally, after))) at h) in
     let now = ap (λ (p : Tally × Database). p.1) (same_value (went (went done.2).2).2) in
     let given = went done.1 in
     let written = went given.2 in
@@ -149,19 +149,19 @@ pub record Adds (s : Shape) (old new : State) (tree : ℕ) (row : Row) : Type 0 
   pub fresh : is_taken (old.now.trees tree) row ≡ false
   pub others : Kept s tree old.now.trees new.now.trees
 
-pub adds : (s : Shape) (sql : List ℕ) (place width : ℕ) (table : Table) (terms : List Term) (params row : Row) (old new : State) (count : ℕ) → old.now.schema ≡ (schema_of s)
-    → slice_get (schema_of s).tables place ≡ Some table → table.is_counted ≡ false
-    → Says s sql (Insert place (Values terms width))
+pub adds : (s : Shape) (sql : List ℕ) (index width : ℕ) (table : Table) (terms : List Term) (params row : Row) (old new : State) (count : ℕ) → old.now.schema ≡ (schema_of s)
+    → slice_get (schema_of s).tables index ≡ Some table → table.is_counted ≡ false
+    → Says s sql (Insert index (Values terms width))
     → (edit_of old.now.trees table [] Chosen 0 (value_rows (stamped table params) width (length terms / width) terms)).news ≡ row ∷ []
     → Executes sql params old new (Ok count) → Adds s old new table.tree row
-adds s sql place width table terms params row old new count has at plain_key means news h =
+adds s sql index width table terms params row old new count has at plain_key means news h =
     let db = old.now.trees in
-    let w = runs_as sql params old new (schema_of s) has (Insert place (Values terms width)) means.0 means.1 count h in
+    let w = runs_as sql params old new (schema_of s) has (Insert index (Values terms width)) means.0 means.1 count h in
     let text = statement_of sql (understood (schema_of s) sql) in
-    let made = inserts old.step_limit (mode_of old) params (schema_of s) db text place table terms width w.tally new.now
+    let made = inserts old.step_limit (mode_of old) params (schema_of s) db text index table terms width w.tally new.now
     at plain_key
     (subst (λ s. Does old.step_limit (mode_of old) params (record old.now { schema = s }) text None
-    (Insert place (Values terms width)) (Ok (w.tally, new.now))) has w.changed) in
+    (Insert index (Values terms width)) (Ok (w.tally, new.now))) has w.changed) in
     let step = step_of s db new.now.trees _ made.1 in
     let free : is_taken (db table.tree) row ≡ false = not-true _ (and_parts _ _ (subst (λ n. are_fresh (db table.tree) n ≡ true) news step.fresh)).0 in
     let rows : new.now.trees table.tree ≡ put_row row (db table.tree) = step.rows ∙ ap (λ n. put_all (db table.tree) n) news in

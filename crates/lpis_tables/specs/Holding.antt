@@ -22,7 +22,7 @@ abbrev pub span_row : StoredSpan → Row
 span_row s = Text s.id ∷ Int s.since ∷ Int s.until ∷ []
 
 abbrev pub line_row : Line → Row
-line_row l = Int l.year ∷ Int l.place ∷ Text l.old ∷ Text l.new ∷ []
+line_row l = Int l.year ∷ Int l.position ∷ Text l.old ∷ Text l.new ∷ []
 
 abbrev pub live_row : Live → Row
 live_row l = Int l.year ∷ Text l.id ∷ []

@@ -3,5 +3,5 @@ pub mod Lines
 pub mod Shown
 pub mod Texts
 pub mod Stages
-pub mod Places
+pub mod Indices
 pub mod Inside

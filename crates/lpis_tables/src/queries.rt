@@ -96,10 +96,10 @@ impl Stored for LineRow {
 
     fn read(row: &Row) -> Result<LineRow, Error> {
         let year = row.get(0)?;
-        let place = row.get(1)?;
+        let position = row.get(1)?;
         let old = row.get(2)?;
         let new = row.get(3)?;
-        Ok(LineRow::new(year, place, old, new))
+        Ok(LineRow::new(year, position, old, new))
     }
 
     ghost without_table = { Prim.search rules };

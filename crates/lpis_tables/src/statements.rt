@@ -74,39 +74,40 @@ fn heir_text(heir: &Option<Id>) -> &str
 fn insert_line<S: Alter>(
     tx: &mut Transaction<'_, S>,
     year: u32,
-    place: usize,
+    position: usize,
     old: &str,
     new: &str,
 ) -> Result<(), Error>
-    requires small { place < 2 ^ 63 }
+    requires small { position < 2 ^ 63 }
     ensures same_reference { tx.new.conn.ghost_name ≡ tx.old.conn.ghost_name }
     ensures adds { Turns (λ _. Unit {0}) (λ c. with_line c
-        (line_at (pos year) (pos place) old.now new.now)) (state S.Store tx.old.conn.now)
+        (line_at (pos year) (pos position) old.now new.now)) (state S.Store tx.old.conn.now)
         (state S.Store tx.new.conn.now) result }
     ensures quiet { IsQuiet (state S.Store tx.old.conn.now) (state S.Store tx.new.conn.now) }
 {
-    let place = place as i64;
+    let position = position as i64;
     tx.execute(
         "INSERT INTO lpis_row (year, pos, old, new) VALUES (?1, ?2, ?3, ?4)",
-        params![year, place, old, new],
+        params![year, position, old, new],
     )?;
     Ok(())
 }
 
-/// One more row of lineage, at its place in the release.
+/// One more row of lineage, at its position in the release.
 pub(crate) fn insert_row<S: Alter>(
     tx: &mut Transaction<'_, S>,
     year: u32,
-    place: usize,
+    position: usize,
     row: &Row,
 ) -> Result<(), Error>
-    requires small { place < 2 ^ 63 }
+    requires small { position < 2 ^ 63 }
     ensures same_reference { tx.new.conn.ghost_name ≡ tx.old.conn.ghost_name }
-    ensures adds { Turns (λ _. Unit {0}) (λ c. with_line c (line_of (pos year) (pos place) row.now))
+    ensures adds { Turns (λ _. Unit {0})
+        (λ c. with_line c (line_of (pos year) (pos position) row.now))
         (state S.Store tx.old.conn.now) (state S.Store tx.new.conn.now) result }
     ensures quiet { IsQuiet (state S.Store tx.old.conn.now) (state S.Store tx.new.conn.now) }
 {
     let old = row.old.as_str();
     let new = heir_text(&row.new);
-    insert_line(tx, year, place, old, new)
+    insert_line(tx, year, position, old, new)
 }

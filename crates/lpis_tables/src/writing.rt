@@ -45,7 +45,7 @@ pub(crate) fn end_spans<S: Alter>(
     Ok(())
 }
 
-/// The rows of lineage of a release, at their places from 0.
+/// The rows of lineage of a release, at their positions from 0.
 pub(crate) fn insert_lines<S: Alter>(
     tx: &mut Transaction<'_, S>,
     year: u32,
@@ -58,8 +58,8 @@ pub(crate) fn insert_lines<S: Alter>(
 {
     // Which is below 2^63.
     let _ = rows.len();
-    for (place, row) in rows.iter().enumerate() {
-        insert_row(tx, year, place, row)?;
+    for (position, row) in rows.iter().enumerate() {
+        insert_row(tx, year, position, row)?;
     }
     Ok(())
 }

@@ -22,12 +22,12 @@ impl<'a> Halting<'a> {
         }
     }
 
-    /// A reader of the input at a place. Where one is told to fail it does so after so many bytes,
+    /// A reader of the input at an index. Where one is told to fail it does so after so many bytes,
     /// and those behind it at once.
-    pub fn at(place: usize, text: &'a str, failing: Option<(usize, usize)>) -> Halting<'a> {
+    pub fn at(index: usize, text: &'a str, failing: Option<(usize, usize)>) -> Halting<'a> {
         let left = match failing {
-            Some((first, bytes)) if place == first => Some(bytes),
-            Some((first, _)) if place > first => Some(0),
+            Some((first, bytes)) if index == first => Some(bytes),
+            Some((first, _)) if index > first => Some(0),
             _ => None,
         };
         Halting::new(text, left)
@@ -46,10 +46,10 @@ impl Read for Halting<'_> {
         let Some((first, rest)) = self.bytes.split_first() else {
             return Ok(0);
         };
-        let Some(place) = buf.first_mut() else {
+        let Some(slot) = buf.first_mut() else {
             return Ok(0);
         };
-        *place = *first;
+        *slot = *first;
         self.bytes = rest;
         self.left = self.left.map(|left| left.saturating_sub(1));
         Ok(1)

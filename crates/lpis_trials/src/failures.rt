@@ -20,10 +20,10 @@ fn a_publication_fails_at_each_read_of_each_input(rt: HostRuntime) -> Result<(),
     let mut office = Office::with_square(&rt)?;
     let inputs = Inputs::new(&rt, halves().as_slice(), "A,B\nA,C\n")?;
     let lengths = inputs.lengths();
-    for (place, (name, length)) in NAMES.iter().zip(lengths.iter()).enumerate() {
+    for (index, (name, length)) in NAMES.iter().zip(lengths.iter()).enumerate() {
         for bytes in 0..=*length {
             let mut out = Paper::new(rt.alloc(), None);
-            let answer = office.publish(&rt, 2025, &inputs, Some((place, bytes)), &mut out);
+            let answer = office.publish(&rt, 2025, &inputs, Some((index, bytes)), &mut out);
             assert!(rt; answer == Err(Failure::Read(*name)), "after {bytes} bytes");
             assert!(rt; out.text.is_empty(), "after {bytes} bytes");
         }

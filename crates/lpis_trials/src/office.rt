@@ -75,7 +75,7 @@ impl Office {
         Ok(office)
     }
 
-    /// Publishes. The input at this place fails after so many bytes, and those behind it at once.
+    /// Publishes. The input at this index fails after so many bytes, and those behind it at once.
     pub fn publish(
         &mut self,
         rt: &HostRuntime,

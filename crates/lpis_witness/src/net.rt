@@ -147,12 +147,12 @@ impl Net {
 
     fn sum_edges(&mut self) -> Result<(), AllocError> {
         let mut sum: i64 = 0;
-        for place in 0..self.edges.len() {
-            let Some(edge) = self.edges.get(place).copied() else {
+        for index in 0..self.edges.len() {
+            let Some(edge) = self.edges.get(index).copied() else {
                 break;
             };
             sum = sum.wrapping_add(edge.count);
-            let is_last = match self.edges.get(place.saturating_add(1)) {
+            let is_last = match self.edges.get(index.saturating_add(1)) {
                 Some(next) => next.low != edge.low || next.high != edge.high,
                 None => true,
             };
@@ -169,9 +169,9 @@ impl Net {
     /// Goes over the edges line by line.
     fn take_lines(&mut self) -> Result<(), AllocError> {
         let mut start = 0;
-        for place in 0..self.net.len() {
-            let next = place.saturating_add(1);
-            let is_last = match (self.net.get(place), self.net.get(next)) {
+        for index in 0..self.net.len() {
+            let next = index.saturating_add(1);
+            let is_last = match (self.net.get(index), self.net.get(next)) {
                 (Some(e), Some(f)) => compare_lines(e, f) != Ordering::Equal,
                 _ => true,
             };
@@ -188,8 +188,8 @@ impl Net {
         if self.is_even(from, to)? {
             return self.add_flats(from, to);
         }
-        for place in from..to {
-            if let Some(edge) = self.net.get(place) {
+        for index in from..to {
+            if let Some(edge) = self.net.get(index) {
                 self.rest.push(*edge)?;
             }
         }
@@ -198,8 +198,8 @@ impl Net {
 
     fn is_even(&mut self, from: usize, to: usize) -> Result<bool, AllocError> {
         self.ends.clear();
-        for place in from..to {
-            if let Some(edge) = self.net.get(place).copied() {
+        for index in from..to {
+            if let Some(edge) = self.net.get(index).copied() {
                 let count = edge.count;
                 self.ends.push(End {
                     point: edge.low,
@@ -229,8 +229,8 @@ impl Net {
     /// The flats of one line: those of each stretch of edges that overlap go to its first point.
     fn add_flats(&mut self, from: usize, to: usize) -> Result<(), AllocError> {
         let mut stretch: Option<(Point, Point)> = None;
-        for place in from..to {
-            let Some(edge) = self.net.get(place).copied() else {
+        for index in from..to {
+            let Some(edge) = self.net.get(index).copied() else {
                 break;
             };
             let (anchor, reach) = match stretch {

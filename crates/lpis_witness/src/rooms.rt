@@ -18,7 +18,7 @@ const PARTS: i64 = 1_099_511_627_776;
 struct Sized {
     /// Twice its area, below 0, so that the largest come first.
     size: i128,
-    place: usize,
+    index: usize,
 }
 
 /// The triangles of the rooms between edges, up to where these cross.
@@ -58,14 +58,14 @@ pub(crate) fn middles(
 ) -> Result<Vec<RatPoint>, AllocError> {
     let triangles = triangles_of_rooms(mesher, rest)?;
     let mut sized = Vec::new(alloc);
-    for (place, triangle) in triangles.iter().enumerate() {
+    for (index, triangle) in triangles.iter().enumerate() {
         let size = orient(triangle.a, triangle.b, triangle.c).wrapping_neg();
-        sized.push(Sized { size, place })?;
+        sized.push(Sized { size, index })?;
     }
     sized.sort_unstable();
     let mut points = Vec::new(alloc);
     for largest in sized.iter().take(MOST_TRIES) {
-        if let Some(triangle) = triangles.get(largest.place)
+        if let Some(triangle) = triangles.get(largest.index)
             && let Some(p) = centroid(triangle)
         {
             points.push(p)?;
@@ -112,17 +112,17 @@ fn reach(rest: &[NetEdge], from: Point, m: Vector) -> i64 {
     for edge in rest {
         let e = step(edge.low, edge.high);
         let g = step(from, edge.low);
-        let (turn, way, place) = (cross(m, e), cross(g, e), cross(g, m));
-        let (turn, way, place) = if turn < 0 {
+        let (turn, way, across) = (cross(m, e), cross(g, e), cross(g, m));
+        let (turn, way, across) = if turn < 0 {
             (
                 turn.wrapping_neg(),
                 way.wrapping_neg(),
-                place.wrapping_neg(),
+                across.wrapping_neg(),
             )
         } else {
-            (turn, way, place)
+            (turn, way, across)
         };
-        if turn > 0 && 0 < way && way < turn && 0 <= place && place <= turn {
+        if turn > 0 && 0 < way && way < turn && 0 <= across && across <= turn {
             reach = reach.min(floor_div(way.wrapping_mul(PARTS as i128), turn));
         }
     }

@@ -2,10 +2,10 @@
 use Rattle.std.proofs.Common.{◌≡◌, ◌<◌, false, true, Bool, List, length, Err, refl, arith, nat_lt}
 use Rattle.lpis_wkt.proofs.Common.{nat_tests, Point, IsRing, Context, AfterPoint, is_closed, close_ring}
 use Rattle.lpis_wkt.specs.declared.fault.WktCode.TheVariants.{TooFewPoints, NotClosed}
-use Rattle.lpis_wkt.specs.declared.parser.Place.{Place}
+use Rattle.lpis_wkt.specs.declared.parser.Expecting.{Expecting}
 use Rattle.lpis_wkt.specs.private.Parsing.{state_of}
 use Rattle.lpis_wkt.proofs.PointLemmas.{is_closed-true}
-use Rattle.lpis_wkt.specs.declared.parser.Place.TheVariants as place
+use Rattle.lpis_wkt.specs.declared.parser.Expecting.TheVariants as expecting
 
 pub short_ring : (b : Context) (ps : List Point) → length ps < 4 → close_ring b ps ≡ Err TooFewPoints
 short_ring b ps lt = let few : nat_lt (length ps) 4 ≡ true = grind (arith, nat_tests) in rw few refl
@@ -21,6 +21,6 @@ open_ring b ps long cannot = open_by b ps (is_closed ps) refl (is_long ps (nat_l
   is_long ps false e long = e
 
 -- the points after which `,` or `)` is expected
-pub points_at : (p : Place) (b b' : Context) (ps ps' : List Point) → state_of p b ps ≡ AfterPoint b' ps' → ps ≡ ps'
-points_at place.End b b' ps ps' e = cc
+pub points_at : (p : Expecting) (b b' : Context) (ps ps' : List Point) → state_of p b ps ≡ AfterPoint b' ps' → ps ≡ ps'
+points_at expecting.End b b' ps ps' e = cc
 points_at _ b b' ps ps' e = cc

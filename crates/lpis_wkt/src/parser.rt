@@ -24,7 +24,7 @@ use std::marker::Model;
 
 /// What is expected next.
 #[derive(Clone, Copy)]
-pub enum Place {
+pub enum Expecting {
     /// The keyword.
     Keyword,
     /// The `(` directly after the keyword.
@@ -50,7 +50,7 @@ pub enum Place {
 /// What was read, and what is expected next.
 #[derive(Drop)]
 pub struct Parser {
-    place: Place,
+    expecting: Expecting,
     multi: bool,
     members: Vec<Member>,
     rings: Vec<Ring>,
@@ -64,11 +64,11 @@ impl Model for Parser {
 
     ghost Value = { State };
 
-    ghost view = { λ p. state_of p.place
+    ghost view = { λ p. state_of p.expecting
         (record { multi = p.multi; members = p.members.items; rings = p.rings.items })
         p.points.items };
 
-    ghost invariant = { λ p. Kept p.place
+    ghost invariant = { λ p. Kept p.expecting
         (record { multi = p.multi; members = p.members.items; rings = p.rings.items })
         p.points.items p.count };
 }
@@ -109,7 +109,7 @@ impl Parser {
         ensures { result ≡ AtKeyword }
     {
         Parser {
-            place: Place::Keyword,
+            expecting: Expecting::Keyword,
             multi: false,
             members: Vec::new(alloc),
             rings: Vec::new(alloc),
@@ -122,12 +122,11 @@ impl Parser {
     pub fn take(self, alloc: Global, next: Placed<'_>) -> Result<Parser, WktFault>
         ensures { Took result (limited_step self (token_of next.entry.token)) next.entry.offset }
     {
-        match self.place {
-            Place::Keyword | Place::FirstBody | Place::Body | Place::Ring => self.take_opening(
-                next,
-            ),
-            Place::X | Place::Y(_) => self.take_coordinate(next),
-            Place::PointEnd | Place::RingEnd | Place::BodyEnd | Place::End => {
+        match self.expecting {
+            Expecting::Keyword | Expecting::FirstBody | Expecting::Body | Expecting::Ring =>
+                self.take_opening(next),
+            Expecting::X | Expecting::Y(_) => self.take_coordinate(next),
+            Expecting::PointEnd | Expecting::RingEnd | Expecting::BodyEnd | Expecting::End => {
                 self.take_closing(alloc, next)
             }
         }
@@ -139,38 +138,42 @@ impl Parser {
         ensures { Took result (limited_step self (token_of next.entry.token)) next.entry.offset }
     {
         let offset = next.offset;
-        let code = match self.place {
-            Place::Keyword => match next.token {
+        let code = match self.expecting {
+            Expecting::Keyword => match next.token {
                 Token::Word(word) if is_polygon(word) => {
-                    self.place = Place::FirstBody;
+                    self.expecting = Expecting::FirstBody;
                     self.multi = false;
                     return Ok(self);
                 }
                 Token::Word(word) if is_multi(word) => {
-                    self.place = Place::FirstBody;
+                    self.expecting = Expecting::FirstBody;
                     self.multi = true;
                     return Ok(self);
                 }
                 Token::Word(word) => keyword_code(word),
                 _ => WktCode::Keyword,
             },
-            Place::FirstBody => match next.token {
+            Expecting::FirstBody => match next.token {
                 Token::Open => {
-                    self.place = if self.multi { Place::Body } else { Place::Ring };
+                    self.expecting = if self.multi {
+                        Expecting::Body
+                    } else {
+                        Expecting::Ring
+                    };
                     return Ok(self);
                 }
                 token => first_open_code(token),
             },
-            Place::Body => match next.token {
+            Expecting::Body => match next.token {
                 Token::Open => {
-                    self.place = Place::Ring;
+                    self.expecting = Expecting::Ring;
                     return Ok(self);
                 }
                 token => open_code(token),
             },
-            Place::Ring => match next.token {
+            Expecting::Ring => match next.token {
                 Token::Open => {
-                    self.place = Place::X;
+                    self.expecting = Expecting::X;
                     return Ok(self);
                 }
                 token => open_code(token),
@@ -186,24 +189,24 @@ impl Parser {
         ensures { Took result (limited_step self (token_of next.entry.token)) next.entry.offset }
     {
         let offset = next.offset;
-        let code = match self.place {
-            Place::X => match next.token {
+        let code = match self.expecting {
+            Expecting::X => match next.token {
                 Token::Word(_) if self.count >= MOST_POINTS => WktCode::TooManyPoints,
                 Token::Word(word) => match coordinate_of(word) {
                     Ok(x) => {
-                        self.place = Place::Y(x);
+                        self.expecting = Expecting::Y(x);
                         return Ok(self);
                     }
                     Err(code) => code,
                 },
                 _ => WktCode::Syntax,
             },
-            Place::Y(x) => match next.token {
+            Expecting::Y(x) => match next.token {
                 Token::Word(word) => match coordinate_of(word) {
                     Ok(y) => {
                         self.points.push(point_of(x, y))?;
                         self.count += 1;
-                        self.place = Place::PointEnd;
+                        self.expecting = Expecting::PointEnd;
                         return Ok(self);
                     }
                     Err(code) => code,
@@ -221,36 +224,36 @@ impl Parser {
         ensures { Took result (limited_step self (token_of next.entry.token)) next.entry.offset }
     {
         let offset = next.offset;
-        let code = match self.place {
-            Place::PointEnd => match next.token {
+        let code = match self.expecting {
+            Expecting::PointEnd => match next.token {
                 Token::Comma => {
-                    self.place = Place::X;
+                    self.expecting = Expecting::X;
                     return Ok(self);
                 }
                 Token::Close => return self.end_ring(alloc, offset),
                 Token::Word(_) => WktCode::Dimension,
                 Token::Open => WktCode::Syntax,
             },
-            Place::RingEnd => match next.token {
+            Expecting::RingEnd => match next.token {
                 Token::Comma => {
-                    self.place = Place::Ring;
+                    self.expecting = Expecting::Ring;
                     return Ok(self);
                 }
                 Token::Close => return self.end_body(alloc),
                 _ => WktCode::Syntax,
             },
-            Place::BodyEnd => match next.token {
+            Expecting::BodyEnd => match next.token {
                 Token::Comma => {
-                    self.place = Place::Body;
+                    self.expecting = Expecting::Body;
                     return Ok(self);
                 }
                 Token::Close => {
-                    self.place = Place::End;
+                    self.expecting = Expecting::End;
                     return Ok(self);
                 }
                 _ => WktCode::Syntax,
             },
-            Place::End => WktCode::Syntax,
+            Expecting::End => WktCode::Syntax,
             _ => unreachable!(),
         };
         Err(WktFault::At { code, offset })
@@ -264,20 +267,24 @@ impl Parser {
         ensures taken { IfOk result (λ more. more ≡ true → length tokens.new < length tokens.old) }
         ensures memory { IfErr result (λ fault. fault ≡ Memory) }
     {
-        if !matches!(self.place, Place::X) || self.count >= MOST_POINTS {
+        if !matches!(self.expecting, Expecting::X) || self.count >= MOST_POINTS {
             return Ok(false);
         }
         let Some(x) = tokens.next_coordinate() else {
             return Ok(false);
         };
         let Some(y) = tokens.next_coordinate() else {
-            self.place = Place::Y(x);
+            self.expecting = Expecting::Y(x);
             return Ok(false);
         };
         self.points.push(point_of(x, y))?;
         self.count += 1;
         let more = tokens.next_comma();
-        self.place = if more { Place::X } else { Place::PointEnd };
+        self.expecting = if more {
+            Expecting::X
+        } else {
+            Expecting::PointEnd
+        };
         Ok(more)
     }
 
@@ -297,7 +304,7 @@ impl Parser {
             → Took result (close_ring b ps) offset }
     {
         let Parser {
-            place: _,
+            expecting: _,
             multi,
             members,
             mut rings,
@@ -308,7 +315,7 @@ impl Parser {
             Ok(ring) => {
                 rings.push(ring)?;
                 Ok(Parser {
-                    place: Place::RingEnd,
+                    expecting: Expecting::RingEnd,
                     multi,
                     members,
                     rings,
@@ -332,7 +339,7 @@ impl Parser {
         ensures { (b : Context) (at : ℕ) → self ≡ AfterRing b → Took result (Ok (close_body b)) at }
     {
         let Parser {
-            place: _,
+            expecting: _,
             multi,
             mut members,
             mut rings,
@@ -342,9 +349,13 @@ impl Parser {
         let shell = rings.remove(0);
         let holes = Sequence::new(without_spare(rings)?);
         members.push(Member { shell, holes })?;
-        let place = if multi { Place::BodyEnd } else { Place::End };
+        let expecting = if multi {
+            Expecting::BodyEnd
+        } else {
+            Expecting::End
+        };
         Ok(Parser {
-            place,
+            expecting,
             multi,
             members,
             rings: Vec::new(alloc),
@@ -357,12 +368,12 @@ impl Parser {
     pub fn finish(self, end: usize) -> Result<Polygon, WktFault>
         ensures { Ends result (limited_step self End) end }
     {
-        let code = match self.place {
-            Place::End => match Polygon::new(without_spare(self.members)?) {
+        let code = match self.expecting {
+            Expecting::End => match Polygon::new(without_spare(self.members)?) {
                 Ok(polygon) => return Ok(polygon),
                 Err(_) => unreachable!(),
             },
-            Place::Keyword => WktCode::Keyword,
+            Expecting::Keyword => WktCode::Keyword,
             _ => WktCode::Syntax,
         };
         Err(WktFault::At { code, offset: end })

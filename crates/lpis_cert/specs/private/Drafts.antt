@@ -9,7 +9,7 @@ use Rattle.lpis_cert.specs.declared.head.Head.TheVariants as head
 use Rattle.lpis_cert.specs.CertText.{Line, PieceLine, ParcelLine, PairsLine, PieceBlock}
 use Rattle.lpis_cert.specs.CertText.{ParcelBlock, piece_lines, parcel_lines, lines_of}
 use Rattle.lpis_cert.specs.CertText.{text_of_lines}
-use Rattle.lpis_cert.specs.Faults.{Place, InBody, outcome, lines as cut}
+use Rattle.lpis_cert.specs.Faults.{State, InBody, outcome, lines as cut}
 use Rattle.lpis_cert.specs.private.Taken.{ReadsLines}
 use Rattle.lpis_cert.specs.Contents.{piece_of, parcel_of, content_of}
 
@@ -32,21 +32,21 @@ blocks ps qs = pieces_lines ps ++ parcels_lines qs
 abbrev pub draft_lines : Draft → List Line
 draft_lines d = blocks (map piece_of d.pieces.items) (map parcel_of d.parcels.items)
 
-abbrev pub draft_place : Draft → Place
-draft_place d = InBody d.stage 0 0 (record { triangles = d.triangles; flats = d.flats })
+abbrev pub draft_state : Draft → State
+draft_state d = InBody d.stage 0 0 (record { triangles = d.triangles; flats = d.flats })
 
 -- further lines of a text were taken, from line n on
-pub record Grown (before after : List Line) (p q : Place) (text : List ℕ) (n : ℕ) (rest : List ℕ)
+pub record Grown (before after : List Line) (p q : State) (text : List ℕ) (n : ℕ) (rest : List ℕ)
     (m : ℕ) : Type 0 where
   pub added : List Line
   pub follows : ReadsLines text n added rest m
   pub lines : after ≡ before ++ added
-  pub place : outcome n p (cut text) ≡ outcome m q (cut rest)
+  pub state : outcome n p (cut text) ≡ outcome m q (cut rest)
   pub shorter : length rest < length text
 
 abbrev pub DraftGrown : Draft → Draft → List ℕ → ℕ → List ℕ → ℕ → Type 0
-DraftGrown old new text n rest m = Grown (draft_lines old) (draft_lines new) (draft_place old)
-    (draft_place new) text n rest m
+DraftGrown old new text n rest m = Grown (draft_lines old) (draft_lines new) (draft_state old)
+    (draft_state new) text n rest m
 
 -- the whole rest of a text
 pub record Whole (before more : List Line) (text : List ℕ) : Type 0 where

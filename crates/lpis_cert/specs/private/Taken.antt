@@ -11,7 +11,7 @@ use Rattle.lpis_cert.specs.declared.kind.Expected.{Expected}
 use Rattle.lpis_cert.specs.CertText.{Corners, Line, TriangleLine, FlatLine, text_of_lines}
 use Rattle.lpis_cert.specs.Versions.{written}
 use Rattle.lpis_cert.specs.Reading.{placed, read_line}
-use Rattle.lpis_cert.specs.Faults.{lines, outcome, report, Place, InBody, Declared}
+use Rattle.lpis_cert.specs.Faults.{lines, outcome, report, State, InBody, Declared}
 
 -- line n of the text is this line, and the rest begins with line m
 pub record TakesLine (text : List ℕ) (n : ℕ) (line rest : List ℕ) (m : ℕ) : Type 0 where
@@ -43,7 +43,7 @@ pub record ReadsLines (text : List ℕ) (n : ℕ) (ls : List Line) (rest : List 
     pub next : m ≡ n + length ls
 
 -- the first fault from here on
-abbrev pub FaultFrom : CertFault → ℕ → Place → List ℕ → Type 0
+abbrev pub FaultFrom : CertFault → ℕ → State → List ℕ → Type 0
 FaultFrom fault n p text =
     UnlessMemory (λ (r : CertCode × ℕ). outcome n p (lines text) ≡ Err r) (report fault)
 
@@ -56,7 +56,7 @@ abbrev pub corner_line : Bool → Corners → Line
 corner_line flat c = cond flat (FlatLine c) (TriangleLine c)
 
 -- n more triangle lines, or n more flat lines
-abbrev pub wanting : Bool → ℕ → Stage → ℕ → Declared → Place
+abbrev pub wanting : Bool → ℕ → Stage → ℕ → Declared → State
 wanting flat n b f d = cond flat (InBody b 0 n d) (InBody b n f d)
 
 -- the text begins with this word and then this byte

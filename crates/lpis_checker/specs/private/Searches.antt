@@ -9,7 +9,7 @@ use Rattle.lpis_checker.specs.declared.condition.Site.{Site}
 use Rattle.lpis_checker.specs.declared.condition.Site.TheVariants.{PieceAt, ParcelAt, LineAt}
 use Rattle.lpis_checker.specs.Codes.{code_of}
 use Rattle.lpis_checker.specs.GoodCertificate.{Holds, HoldsEverywhere}
-use Rattle.lpis_checker.specs.FirstFault.{HoldBelow, IsFirst, IsFault, place_of}
+use Rattle.lpis_checker.specs.FirstFault.{HoldBelow, IsFirst, IsFault, location_of}
 use Rattle.lpis_checker.specs.declared.fault.CheckFault.{CheckFault}
 use Rattle.lpis_checker.specs.declared.fault.CheckFault.TheVariants.{Memory, At}
 use Rattle.lpis_checker.specs.declared.condition.Failing.{Failing}
@@ -65,9 +65,9 @@ FindsBelow r c n o = MatchOption o (HoldBelow r c n) (λ f. (code_of f.condition
 -- what is told of it
 abbrev pub IsToldOf : Contents → Cert → Failing → CheckFault → Type 0
 IsToldOf r c f Memory = ⊥
-IsToldOf r c f (At code at) = (code ≡ f.condition) × (at ≡ place_of r c f.site)
+IsToldOf r c f (At code at) = (code ≡ f.condition) × (at ≡ location_of r c f.site)
 
--- neither the certificate nor the release has a piece at this place
+-- neither the certificate nor the release has a piece at this index
 abbrev pub HasNoPiece : Contents → Cert → ℕ → Type 0
 HasNoPiece r c k = (slice_get c.pieces k ≡ None) × (slice_get r.pieces k ≡ None)
 

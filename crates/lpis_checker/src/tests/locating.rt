@@ -16,7 +16,7 @@ fn rational(x: i64, y: i64, d: i64) -> Result<RatPoint, Fail> {
 }
 
 /// The identifiers of the parcel and the piece at a point, or `nowhere`.
-fn place_of(rt: &HostRuntime, found: Option<(&Id, &Id)>) -> Result<String, Fail> {
+fn location_of(rt: &HostRuntime, found: Option<(&Id, &Id)>) -> Result<String, Fail> {
     match found {
         Some((parcel, piece)) => Ok(format!(in rt.alloc();
             "{} {}",
@@ -27,24 +27,24 @@ fn place_of(rt: &HostRuntime, found: Option<(&Id, &Id)>) -> Result<String, Fail>
     }
 }
 
-/// Fails unless this is the place of the point (x/d, y/d).
-fn expect_place(
+/// Fails unless this is the location of the point (x/d, y/d).
+fn expect_location(
     rt: &HostRuntime,
     yes: &Yes,
     (x, y, d): (i64, i64, i64),
     wanted: &str,
 ) -> Result<(), Fail> {
     let found = yes.locate(&rational(x, y, d)?);
-    expect(place_of(rt, found)?.as_str(), wanted)
+    expect(location_of(rt, found)?.as_str(), wanted)
 }
 
 /// Fails unless the points of two halves are where they should be.
-fn expect_places(rt: &HostRuntime, yes: &Yes) -> Result<(), Fail> {
-    expect_place(rt, yes, (0, 0, 1), "A L")?;
-    expect_place(rt, yes, (500, 300, 1), "A R")?;
-    expect_place(rt, yes, (1001, 1, 2), "A R")?;
-    expect_place(rt, yes, (500, 1000, 1), "nowhere")?;
-    expect_place(rt, yes, (1000, 0, 1), "nowhere")
+fn expect_locations(rt: &HostRuntime, yes: &Yes) -> Result<(), Fail> {
+    expect_location(rt, yes, (0, 0, 1), "A L")?;
+    expect_location(rt, yes, (500, 300, 1), "A R")?;
+    expect_location(rt, yes, (1001, 1, 2), "A R")?;
+    expect_location(rt, yes, (500, 1000, 1), "nowhere")?;
+    expect_location(rt, yes, (1000, 0, 1), "nowhere")
 }
 
 /// Fails unless the release of a yes has one parcel and two pieces.
@@ -60,7 +60,7 @@ fn expect_rows(rt: &HostRuntime, yes: &Yes) -> Result<(), Fail> {
 fn expect_yes(rt: &HostRuntime, release: &Release, cert: &Cert) -> Result<(), Fail> {
     let yes = check(rt.alloc(), release, cert, &Sweep)?;
     expect_rows(rt, &yes)?;
-    expect_places(rt, &yes)
+    expect_locations(rt, &yes)
 }
 
 #[test]

@@ -30,10 +30,10 @@ fn a_release_is_read_a_byte_at_a_time(rt: HostRuntime) -> Result<(), Fail> {
 #[test]
 fn a_check_fails_at_each_read_of_each_input(rt: HostRuntime) -> Result<(), Fail> {
     let square = one_piece(&rt, SQUARE)?;
-    for (place, (name, length)) in inputs(&square).into_iter().enumerate() {
+    for (index, (name, length)) in inputs(&square).into_iter().enumerate() {
         for bytes in 0..=length {
             let mut out = Vec::new(rt.alloc());
-            let answer = square.check(&rt, SQUARE_CERT, Some((place, bytes)), &mut out);
+            let answer = square.check(&rt, SQUARE_CERT, Some((index, bytes)), &mut out);
             assert!(rt; answer == Err(Failure::Read(name)), "after {bytes} bytes");
             assert!(rt; out.is_empty(), "after {bytes} bytes");
         }
@@ -44,10 +44,10 @@ fn a_check_fails_at_each_read_of_each_input(rt: HostRuntime) -> Result<(), Fail>
 #[test]
 fn a_cut_fails_at_each_read_of_each_input(rt: HostRuntime) -> Result<(), Fail> {
     let square = one_piece(&rt, SQUARE)?;
-    for (place, (name, length)) in inputs(&square).into_iter().take(3).enumerate() {
+    for (index, (name, length)) in inputs(&square).into_iter().take(3).enumerate() {
         for bytes in 0..=length {
             let (mut cert, mut out) = (Vec::new(rt.alloc()), Vec::new(rt.alloc()));
-            let answer = square.cut(&rt, Some((place, bytes)), &mut cert, &mut out);
+            let answer = square.cut(&rt, Some((index, bytes)), &mut cert, &mut out);
             assert!(rt; answer == Err(Failure::Read(name)), "after {bytes} bytes");
             assert!(rt; cert.is_empty() && out.is_empty(), "after {bytes} bytes");
         }

@@ -80,17 +80,17 @@ pub fn two_pieces(rt: &HostRuntime, right: &str) -> Result<Tables, Fail> {
 }
 
 impl Tables {
-    /// A reader of the table at this place, which may fail.
-    fn reader(&self, place: usize, failing: Option<(usize, usize)>) -> Halting<'_> {
-        let text = match place {
+    /// A reader of the table at this index, which may fail.
+    fn reader(&self, index: usize, failing: Option<(usize, usize)>) -> Halting<'_> {
+        let text = match index {
             0 => self.parcels.as_str(),
             1 => self.covers.as_str(),
             _ => self.classes,
         };
-        Halting::at(place, text, failing)
+        Halting::at(index, text, failing)
     }
 
-    /// Checks them with a certificate. The input at this place fails after so many bytes, and those
+    /// Checks them with a certificate. The input at this index fails after so many bytes, and those
     /// behind it at once.
     pub fn check<W: Write>(
         &self,
@@ -109,7 +109,7 @@ impl Tables {
         )
     }
 
-    /// Cuts them. The input at this place fails after so many bytes, and those behind it at once.
+    /// Cuts them. The input at this index fails after so many bytes, and those behind it at once.
     pub fn cut<E: Write, W: Write>(
         &self,
         rt: &HostRuntime,

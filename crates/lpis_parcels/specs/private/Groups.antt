@@ -1,4 +1,4 @@
--- The places of items, and what the joins' steps tell.
+-- The indices of items, and what the joins' steps tell.
 use Rattle.std.specs.Prelude.{◌+◌, ◌∷◌, ◌++◌, Bool, true, false, ℕ, List, [], slice_get}
 use Rattle.std.specs.Prelude.{option_to_list, Err, if◌then◌else◌, ◌≤◌, length, map, slice_range}
 use Rattle.lpis_covers.specs.declared.fault.Table.TheVariants as table
@@ -8,24 +8,24 @@ use Rattle.lpis_covers.specs.Faults.{fault_if, unless_faulty}
 use Rattle.lpis_covers.specs.Table.{Answers, fault_at}
 use Rattle.lpis_parcels.specs.declared.groups.Bounds.{Bounds}
 
--- the places of the items that pass a test, the first item at place i
-abbrev pub places_where : {A : Type 0} → (A → Bool) → ℕ → List A → List ℕ
-places_where test i [] = []
-places_where test i (x ∷ xs) = if test x then i ∷ places_where test (i + 1) xs else places_where
+-- the indices of the items that pass a test, the first item at index i
+abbrev pub indices_where : {A : Type 0} → (A → Bool) → ℕ → List A → List ℕ
+indices_where test i [] = []
+indices_where test i (x ∷ xs) = if test x then i ∷ indices_where test (i + 1) xs else indices_where
     test (i + 1) xs
 
--- the items at places
-abbrev pub at_places : {A : Type 0} → List A → List ℕ → List A
-at_places xs [] = []
-at_places xs (i ∷ is) = option_to_list (slice_get xs i) ++ at_places xs is
+-- the items at indices
+abbrev pub at_indices : {A : Type 0} → List A → List ℕ → List A
+at_indices xs [] = []
+at_indices xs (i ∷ is) = option_to_list (slice_get xs i) ++ at_indices xs is
 
--- groups of places that stand in one list
+-- groups of indices that stand in one list
 abbrev pub groups_in : List ℕ → List Bounds → List (List ℕ)
-groups_in places bounds = map (λ (b : Bounds). slice_range places b.start b.end) bounds
+groups_in indices bounds = map (λ (b : Bounds). slice_range indices b.start b.end) bounds
 
 -- bounds of a group that is in the list
 abbrev pub IsWithin : List ℕ → Bounds → Type 0
-IsWithin places b = (b.start ≤ b.end) × (b.end ≤ length places)
+IsWithin indices b = (b.start ≤ b.end) × (b.end ≤ length indices)
 
 -- the fault is the first of these, or memory ran out
 abbrev pub Refuses : List TableFault → TableFault → Type 0

@@ -29,7 +29,7 @@ span_shown row = record {
 abbrev pub line_shown : Row → Line
 line_shown row = record {
   year = id_in (column row 0);
-  place = id_in (column row 1);
+  position = id_in (column row 1);
   old = text_in (column row 2);
   new = text_in (column row 3);
 }

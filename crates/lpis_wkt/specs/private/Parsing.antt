@@ -6,25 +6,25 @@ use Rattle.lpis_rings.specs.declared.polygon.Member.{Member}
 use Rattle.lpis_rings.specs.Polygon.{most_points}
 use Rattle.lpis_wkt.specs.declared.fault.WktCode.{WktCode}
 use Rattle.lpis_wkt.specs.declared.fault.WktFault.{WktFault}
-use Rattle.lpis_wkt.specs.declared.parser.Place.{Place}
-use Rattle.lpis_wkt.specs.declared.parser.Place.TheVariants as place
+use Rattle.lpis_wkt.specs.declared.parser.Expecting.{Expecting}
+use Rattle.lpis_wkt.specs.declared.parser.Expecting.TheVariants as expecting
 use Rattle.lpis_wkt.specs.private.Machine.{Context, State, AtKeyword, AfterKeyword, AtBody, AtRing}
 use Rattle.lpis_wkt.specs.private.Machine.{AtX, AtY, AfterPoint, AfterRing, AfterBody, AtEnd}
 use Rattle.lpis_wkt.specs.private.Machine.{Finished, points_before, outcome}
 use Rattle.lpis_wkt.specs.Text.{report}
 use Rattle.lpis_wkt.specs.Tokens.{Token}
 
-abbrev pub state_of : Place → Context → List Point → State
-state_of place.Keyword b ps = AtKeyword
-state_of place.FirstBody b ps = AfterKeyword b.multi
-state_of place.Body b ps = AtBody b.members
-state_of place.Ring b ps = AtRing b
-state_of place.X b ps = AtX b ps
-state_of (place.Y x) b ps = AtY b ps x
-state_of place.PointEnd b ps = AfterPoint b ps
-state_of place.RingEnd b ps = AfterRing b
-state_of place.BodyEnd b ps = AfterBody b.members
-state_of place.End b ps = AtEnd b.members
+abbrev pub state_of : Expecting → Context → List Point → State
+state_of expecting.Keyword b ps = AtKeyword
+state_of expecting.FirstBody b ps = AfterKeyword b.multi
+state_of expecting.Body b ps = AtBody b.members
+state_of expecting.Ring b ps = AtRing b
+state_of expecting.X b ps = AtX b ps
+state_of (expecting.Y x) b ps = AtY b ps x
+state_of expecting.PointEnd b ps = AfterPoint b ps
+state_of expecting.RingEnd b ps = AfterRing b
+state_of expecting.BodyEnd b ps = AfterBody b.members
+state_of expecting.End b ps = AtEnd b.members
 
 -- no member, ring or point yet
 pub record Fresh (b : Context) (ps : List Point) : Type 0 where
@@ -49,23 +49,23 @@ pub record Ringed (b : Context) (ps : List Point) : Type 0 where
   pub some : 0 < length b.rings
   pub points : ps ≡ []
 
--- what the parser keeps at a place
-abbrev pub Holds : Place → Context → List Point → Type 0
-Holds place.Keyword b ps = Fresh b ps
-Holds place.FirstBody b ps = Fresh b ps
-Holds place.Body b ps = Between b ps
-Holds place.Ring b ps = ps ≡ []
-Holds place.X b ps = points_before b + length ps ≤ most_points
-Holds (place.Y x) b ps = points_before b + length ps < most_points
-Holds place.PointEnd b ps = Unit {0}
-Holds place.RingEnd b ps = Ringed b ps
-Holds place.BodyEnd b ps = Between b ps × Closed b ps
-Holds place.End b ps = Closed b ps
+-- what the parser keeps where it expects this
+abbrev pub Holds : Expecting → Context → List Point → Type 0
+Holds expecting.Keyword b ps = Fresh b ps
+Holds expecting.FirstBody b ps = Fresh b ps
+Holds expecting.Body b ps = Between b ps
+Holds expecting.Ring b ps = ps ≡ []
+Holds expecting.X b ps = points_before b + length ps ≤ most_points
+Holds (expecting.Y x) b ps = points_before b + length ps < most_points
+Holds expecting.PointEnd b ps = Unit {0}
+Holds expecting.RingEnd b ps = Ringed b ps
+Holds expecting.BodyEnd b ps = Between b ps × Closed b ps
+Holds expecting.End b ps = Closed b ps
 
-pub record Kept (p : Place) (b : Context) (ps : List Point) (count : ℕ) : Type 0 where
+pub record Kept (p : Expecting) (b : Context) (ps : List Point) (count : ℕ) : Type 0 where
   pub counted : count ≡ points_before b + length ps
   pub few : count ≤ most_points
-  pub place : Holds p b ps
+  pub expecting : Holds p b ps
 
 -- a call returned what a step gives, as the state that its value stands for, unless memory ran out
 abbrev pub TookAs : {A : Type 0} → (A → State) → Result A WktFault → Result State WktCode → ℕ

@@ -1,9 +1,9 @@
 use Rattle.std.proofs.Common.{refl}
-use Rattle.lpis_cert.proofs.Common.{err_from_is_err_and, Block, draft_place}
+use Rattle.lpis_cert.proofs.Common.{err_from_is_err_and, Block, draft_state}
 use Rattle.lpis_cert.proofs.StepLemmas.{fault_here}
 use Rattle.lpis_cert.proofs.blocks.next_block.Goals as goal
 
 pub returns-in_err-head-clause-err : goal.returns-in_err-head-clause-err
 returns-in_err-head-clause-err c =
     let p = err_from_is_err_and c.from_residual.result c.from_residual.ensures.1 in
-    rw (p.1, p.2) (fault_here c.in_err-head.field-0.0 c.args.rest.line (draft_place c.args.draft) (Block c.args.draft.stage) c.args.rest.text.now refl c.in_err-head.ensures.err)
+    rw (p.1, p.2) (fault_here c.in_err-head.field-0.0 c.args.rest.line (draft_state c.args.draft) (Block c.args.draft.stage) c.args.rest.text.now refl c.in_err-head.ensures.err)

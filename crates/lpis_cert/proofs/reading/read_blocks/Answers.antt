@@ -1,5 +1,5 @@
 use Rattle.std.proofs.Common.{refl, ◌∙◌, sym}
-use Rattle.lpis_cert.proofs.Common.{lines_of, content_of, draft_place}
+use Rattle.lpis_cert.proofs.Common.{lines_of, content_of, draft_state}
 use Rattle.lpis_cert.proofs.StepLemmas.{follows_none}
 use Rattle.lpis_cert.proofs.ReadLemmas.{follows_grown, whole_text}
 use Rattle.lpis_cert.specs.private.Drafts.{draft_lines}
@@ -8,8 +8,8 @@ use Rattle.lpis_cert.proofs.reading.read_blocks.Goals as goal
 pub reading-init : goal.reading-init
 reading-init c =
     let none = c.no_blocks-draft.ensures.lines in
-    let place = c.no_blocks-draft.ensures.place in
-    record { follows = rw none (follows_none c.args.start.text.now c.args.start.line); place = rw place refl }
+    let state = c.no_blocks-draft.ensures.state in
+    record { follows = rw none (follows_none c.args.start.text.now c.args.start.line); state = rw state refl }
 
 pub reading-preserved : goal.reading-preserved
 reading-preserved c =
@@ -17,9 +17,9 @@ reading-preserved c =
     let grown = rw is at c.in_ok-grown.ensures.ok in
     record {
       follows = follows_grown c.args.start.text.now c.args.start.line (draft_lines c.reading.draft)
-          (draft_lines c.in-More.grown) (draft_place c.reading.draft) (draft_place c.in-More.grown) c.reading.rest.text.now
+          (draft_lines c.in-More.grown) (draft_state c.reading.draft) (draft_state c.in-More.grown) c.reading.rest.text.now
           c.reading.rest.line c.in-More.left.text.now c.in-More.left.line c.reading.invariant.follows grown;
-      place = sym grown.place ∙ c.reading.invariant.place;
+      state = sym grown.state ∙ c.reading.invariant.state;
     }
 
 pub returns-in-Done-clause-ok : goal.returns-in-Done-clause-ok

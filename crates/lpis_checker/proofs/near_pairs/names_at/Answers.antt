@@ -20,10 +20,10 @@ absent lines at i j h = (λ t. absurd (never t), λ x. absurd (beyond (slice_get
 
 pub returns-in-Some : goal.returns-in-Some
 returns-in-Some c =
-    let within : c.args.place < length c.args.lines.now = (rw c.in-Some.is at c.get.ensures.lookup).3.0 in
-    let found : slice_get c.args.lines.now c.args.place ≡ Some c.in-Some.line.now = slice_get_read c.args.lines.now
-    (length c.args.lines.now) c.args.place c.in-Some.line.now refl within c.in-Some.ensures.lookup.1 in
-    there c.args.lines.now c.args.place c.args.i c.args.j c.in-Some.line.now c.names_pair.result found c.names_pair.ensures
+    let within : c.args.index < length c.args.lines.now = (rw c.in-Some.is at c.get.ensures.lookup).3.0 in
+    let found : slice_get c.args.lines.now c.args.index ≡ Some c.in-Some.line.now = slice_get_read c.args.lines.now
+    (length c.args.lines.now) c.args.index c.in-Some.line.now refl within c.in-Some.ensures.lookup.1 in
+    there c.args.lines.now c.args.index c.args.i c.args.j c.in-Some.line.now c.names_pair.result found c.names_pair.ensures
 
 pub returns-in-None : goal.returns-in-None
-returns-in-None c = absent c.args.lines.now c.args.place c.args.i c.args.j c.in-None.ensures.lookup.3
+returns-in-None c = absent c.args.lines.now c.args.index c.args.i c.args.j c.in-None.ensures.lookup.3

@@ -8,19 +8,19 @@ returns-then-not-holds_at_line c =
     let r = c.args.release.now in
     let cert = c.args.cert.now in
     let elsewhere = of_lines r cert c.args.condition c.requires.lines in
-    first_at_line r cert c.args.condition c.loop-place.place (untrue c.holds_at_line.result c.holds_at_line.ensures c.if-not-holds_at_line.true) elsewhere.0 elsewhere.1 c.loop-place.invariant
+    first_at_line r cert c.args.condition c.loop-index.index (untrue c.holds_at_line.result c.holds_at_line.ensures c.if-not-holds_at_line.true) elsewhere.0 elsewhere.1 c.loop-index.invariant
 
-pub loop-place-preserved : goal.loop-place-preserved
-loop-place-preserved c = one_more (λ m. Holds c.args.release.now c.args.cert.now c.args.condition (LineAt m))
-    c.loop-place.place (c.holds_at_line.ensures.0 c.if-not-holds_at_line.false) c.loop-place.invariant
+pub loop-index-preserved : goal.loop-index-preserved
+loop-index-preserved c = one_more (λ m. Holds c.args.release.now c.args.cert.now c.args.condition (LineAt m))
+    c.loop-index.index (c.holds_at_line.ensures.0 c.if-not-holds_at_line.false) c.loop-index.invariant
 
 pub returns : goal.returns
 returns c =
     let r = c.args.release.now in
     let cert = c.args.cert.now in
     let q = c.args.condition in
-    let k = c.loop-place.place in
-    let long : length cert.pairs ≤ k = subst (λ (lines : List PairLine). length lines ≤ k) c.as_slice-place-end.ensures (omega arith) in
-    let lines = at_each (λ m. Holds r cert q (LineAt m)) k (length cert.pairs) (length cert.pairs) (λ m past also. past_lines r cert q m past) long long c.loop-place.invariant in
+    let k = c.loop-index.index in
+    let long : length cert.pairs ≤ k = subst (λ (lines : List PairLine). length lines ≤ k) c.as_slice-index-end.ensures (omega arith) in
+    let lines = at_each (λ m. Holds r cert q (LineAt m)) k (length cert.pairs) (length cert.pairs) (λ m past also. past_lines r cert q m past) long long c.loop-index.invariant in
     let elsewhere = of_lines r cert q c.requires.lines in
     at_all_sites r cert q elsewhere.0 elsewhere.1 lines elsewhere.2

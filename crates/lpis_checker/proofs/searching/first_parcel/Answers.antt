@@ -7,7 +7,7 @@ pub returns : goal.returns
 returns c =
     let r = c.args.release.now in
     let cert = c.args.cert.now in
-    let k = c.loop-place.place in
+    let k = c.loop-index.index in
     let parts : length cert.parcels ≤ k = subst (λ (ts : List ParcelPart). length ts ≤ k) c.as_slice.ensures (search rules) in
     let own : length r.parcels ≤ k = subst (λ (xs : List Parcel). length xs ≤ k) c.parcels.ensures.parcels (search rules) in
-    at_each (λ m. Holds r cert c.args.condition (ParcelAt m)) k (length cert.parcels) (length r.parcels) (past_parcels r cert c.args.condition) parts own c.loop-place.invariant
+    at_each (λ m. Holds r cert c.args.condition (ParcelAt m)) k (length cert.parcels) (length r.parcels) (past_parcels r cert c.args.condition) parts own c.loop-index.invariant

@@ -2,5 +2,5 @@ use Rattle.std.proofs.Common.{ℕ, ◌<◌}
 use Rattle.lpis_checker.proofs.Common.{Holds, PieceAt}
 use Rattle.lpis_checker.proofs.searching.first_piece.Given as goal
 
-abbrev pub invariant-loop-place : goal.invariant-loop-place
-invariant-loop-place l = (m : ℕ) → m < l.place → Holds l.release l.cert l.condition (PieceAt m)
+abbrev pub invariant-loop-index : goal.invariant-loop-index
+invariant-loop-index l = (m : ℕ) → m < l.index → Holds l.release l.cert l.condition (PieceAt m)

@@ -6,7 +6,7 @@ use Rattle.lpis_cutter.proofs.telling.is_covered.Goals as goal
 
 any_later : {A : Type 0} (P : A → Type 0) (x : A) (xs : List A) → Any P xs → Any P (x ∷ xs)
 any_later P x xs a = let f = any_found P xs a in
-    found_any P (x ∷ xs) (record { place = suc f.place; item = f.item; at = f.at; has = f.has })
+    found_any P (x ∷ xs) (record { index = suc f.index; item = f.item; at = f.at; has = f.has })
 
 pub loop-piece-preserved : goal.loop-piece-preserved
 loop-piece-preserved c =

@@ -4,6 +4,6 @@ use Rattle.lpis_parcels.specs.Eligible.{eligible2}
 use Rattle.lpis_parcels.proofs.EligibleLemmas.{eligible_at}
 use Rattle.lpis_parcels.proofs.eligible.eligible2.Given as goal
 
-abbrev pub invariant-loop-place : goal.invariant-loop-place
-invariant-loop-place l =
-    (l.sum +ℤ eligible_at l.release (drop l.place-index l.place-items) ≡ eligible2 l.release l.parcel) × (unsigned_abs l.sum ≤ most_area * l.place-index)
+abbrev pub invariant-loop-index : goal.invariant-loop-index
+invariant-loop-index l =
+    (l.sum +ℤ eligible_at l.release (drop l.index-index l.index-items) ≡ eligible2 l.release l.parcel) × (unsigned_abs l.sum ≤ most_area * l.index-index)

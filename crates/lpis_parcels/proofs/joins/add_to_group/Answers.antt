@@ -10,6 +10,6 @@ returns c =
     let k = c.args.group in
     map-set (λ g. g.items) old k c.push.new.self
     ∙ ap (λ (l : List ℕ). set (group_lists old) k l) (c.in_ok-push.ensures.items
-    ∙ ap (λ (l : List ℕ). l ++ c.args.place ∷ [])
+    ∙ ap (λ (l : List ℕ). l ++ c.args.index ∷ [])
     (sym (list-at (λ g. g.items) old k c.index_mut.result.now (omega (arith, c.args.groups.now.ok.0))
     c.index_mut.ensures.value)))

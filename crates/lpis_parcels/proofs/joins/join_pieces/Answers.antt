@@ -7,7 +7,7 @@ use Rattle.lpis_parcels.proofs.joins.join_pieces.Goals as goal
 pub loop-i-init : goal.loop-i-init
 loop-i-init c =
     let groups = c.in_ok-groups.ensures ∙ ap (λ (ps : List Parcel). replicate (length ps) []) c.as_slice.ensures.rows in
-    (refl, rw c.new-class_places.ensures.items (joins-none c.args.parcels.now c.args.classes.now _ groups))
+    (refl, rw c.new-class_indices.ensures.items (joins-none c.args.parcels.now c.args.classes.now _ groups))
 
 pub add_to_group-requires : goal.add_to_group-requires
 add_to_group-requires c =
@@ -23,6 +23,6 @@ loop-i-preserved c =
     (slice_get_read c.as_slice-piece-items.result.now _ c.loop-i.i c.piece-item.result refl c.loop-i-test.true c.piece-item.is) in (
       c.loop-i.invariant.0 ∙ pieces-more c.args.parcels.now c.args.classes.now (c.loop-i.i + 1) c.loop-i.i c.args.pieces.now c.piece-item.result at c.in_ok-parcel.ensures.none,
       joins-more c.args.parcels.now c.args.pieces.now c.args.classes.now (group_lists c.loop-i.groups.items) _
-          c.loop-i.class_places.items _ c.loop-i.i c.in_ok-parcel.parcel c.in_ok-parcel.class c.piece-item.result
+          c.loop-i.class_indices.items _ c.loop-i.i c.in_ok-parcel.parcel c.in_ok-parcel.class c.piece-item.result
           c.as_slice.ensures.distinct c.requires at c.in_ok-parcel.ensures.parcel c.in_ok-parcel.ensures.class c.loop-i.invariant.1 c.in_ok-add_to_group.ensures c.in_ok-push.ensures.items,
     )

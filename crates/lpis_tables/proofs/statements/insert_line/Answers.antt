@@ -7,7 +7,7 @@ use Rattle.lpis_tables.proofs.statements.insert_line.Goals as goal
 
 pub returns-clause-adds : goal.returns-clause-adds
 returns-clause-adds g c clean shape any base content before =
-    let place : to_z w64 c.args.place ≡ pos c.args.place = to_z_pos w64 c.args.place c.requires.small in
-    let ran = rw (c.params-to_sql.ensures, c.params-to_sql-2.ensures, c.params-to_sql-3.ensures, c.params-to_sql-4.ensures, place) at (c.in_ok-execute.ensures.runs clean before.in_transaction) in
+    let position : to_z w64 c.args.position ≡ pos c.args.position = to_z_pos w64 c.args.position c.requires.small in
+    let ran = rw (c.params-to_sql.ensures, c.params-to_sql-2.ensures, c.params-to_sql-3.ensures, c.params-to_sql-4.ensures, position) at (c.in_ok-execute.ensures.runs clean before.in_transaction) in
     line_inside shape base (state g.S.Store c.args.tx.now.conn.now) (state g.S.Store c.execute.new.self.conn.now)
-    content (line_at (pos c.args.year) (pos c.args.place) c.args.old.now c.args.new.now) _ before ran
+    content (line_at (pos c.args.year) (pos c.args.position) c.args.old.now c.args.new.now) _ before ran

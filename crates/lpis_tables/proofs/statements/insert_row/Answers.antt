@@ -10,5 +10,5 @@ returns-clause-adds g c clean shape any base content before =
     let old : c.as_str-old.result.now ≡ c.args.row.now.old = c.as_str-old.ensures.text in
     let new : c.heir_text-new.result.now ≡ text_of c.args.row.now.new = c.heir_text-new.ensures in
     subst (λ l. OnOk c.insert_line.result (Inside shape base now (with_line content l)))
-    (ap₂ (line_at (pos c.args.year) (pos c.args.place)) old new)
+    (ap₂ (line_at (pos c.args.year) (pos c.args.position)) old new)
     (c.insert_line.ensures.adds clean shape any base content before)

@@ -9,14 +9,14 @@ returns-then-starts_with_mark c =
     c.without_mark-text.result.now c.without_mark-text.ensures (sym c.starts_with_mark.ensures
     ∙ c.if-starts_with_mark.true))
 
-pub returns-in_err-places-in-Some : goal.returns-in_err-places-in-Some
-returns-in_err-places-in-Some c =
+pub returns-in_err-indices-in-Some : goal.returns-in_err-indices-in-Some
+returns-in_err-indices-in-Some c =
     let said = table-unmarked c.args.table (texts c.args.columns.now) c.args.bytes.now c.without_mark-text.result.now
     c.without_mark-text.ensures (sym c.starts_with_mark.ensures ∙ c.if-starts_with_mark.false) in
     let all = rw c.in-Some.is at c.in_ok-records.ensures.none in
-    let p = err_from_is_err_and c.from_residual-in_err-places-in-Some.result c.from_residual-in_err-places-in-Some.ensures.1 in
+    let p = err_from_is_err_and c.from_residual-in_err-indices-in-Some.result c.from_residual-in_err-indices-in-Some.ensures.1 in
     rw (p.1, p.2, said) (column-fault c.args.table (texts c.args.columns.now) (fields_of c.open.new.header)
-    c.in-Some.records.records _ c.in_err-places-in-Some.field-0.0 all c.in_err-places-in-Some.ensures.err)
+    c.in-Some.records.records _ c.in_err-indices-in-Some.field-0.0 all c.in_err-indices-in-Some.ensures.err)
 
 pub returns-in-Some : goal.returns-in-Some
 returns-in-Some c =
@@ -25,7 +25,7 @@ returns-in-Some c =
     let all = rw c.in-Some.is at c.in_ok-records.ensures.none in
     let width = rw c.in-Some.is at c.in_ok-records.ensures.width in
     said ∙ header-found c.args.table (texts c.args.columns.now) (fields_of c.open.new.header) c.in-Some.records.records
-    _ c.in_ok-places-in-Some.places.items c.in-Some.records.width all c.in_ok-places-in-Some.ensures.ok width
+    _ c.in_ok-indices-in-Some.indices.items c.in-Some.records.width all c.in_ok-indices-in-Some.ensures.ok width
 
 pub returns : goal.returns
 returns c =

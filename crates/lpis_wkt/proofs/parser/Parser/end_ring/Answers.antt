@@ -8,7 +8,7 @@ pub returns-after-bad : goal.returns-after-bad
 returns-after-bad c = λ b ps e.
     let i = c.self.inside in
     let ctx : Context = record { multi = i.multi; members = i.members.items; rings = i.rings.items } in
-    let same : i.points.items ≡ ps = points_at i.place ctx b i.points.items ps (c.self.view_is ∙ e) in
+    let same : i.points.items ≡ ps = points_at i.expecting ctx b i.points.items ps (c.self.view_is ∙ e) in
     let ended = c.in_ok-without_spare.field-0.items in
     let kept : ended ≡ i.points.items = c.in_ok-without_spare.ensures in
     let why = c.in-Err.ensures.why in

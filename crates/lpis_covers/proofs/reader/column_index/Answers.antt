@@ -1,15 +1,15 @@
 use Rattle.std.proofs.Common.{◌∙◌, ◌++◌, List, ℕ, sym, ap, arith, option_to_list}
 use Rattle.lpis_covers.proofs.Common.{fields_of, one_index}
-use Rattle.lpis_covers.proofs.ColumnLemmas.{no-field, place-end, place-first, place-twice, step-named, step-other}
-use Rattle.lpis_covers.proofs.reader.column_place.Goals.{in-Some+then-eq_ignore_ascii_case+else-is_some, in-Some+else-eq_ignore_ascii_case, in_default}
-use Rattle.lpis_covers.proofs.reader.column_place.Goals as goal
+use Rattle.lpis_covers.proofs.ColumnLemmas.{no-field, index-end, index-first, index-twice, step-named, step-other}
+use Rattle.lpis_covers.proofs.reader.column_index.Goals.{in-Some+then-eq_ignore_ascii_case+else-is_some, in-Some+else-eq_ignore_ascii_case, in_default}
+use Rattle.lpis_covers.proofs.reader.column_index.Goals as goal
 
 pub returns-then-is_some : goal.returns-then-is_some
 returns-then-is_some c =
     let at = rw c.in-Some.is at c.get.ensures.value in
     let step = step-named c.args.name.now c.loop-i.i (fields_of c.args.header.now) c.in-Some.field.now
     c.eq_ignore_ascii_case.result at c.eq_ignore_ascii_case.ensures.test c.if-eq_ignore_ascii_case.true in
-    sym (place-twice c.loop-i.found c.loop-i.i _ (sym c.is_some.ensures ∙ c.if-is_some.true)) ∙ sym (ap (λ (ps : List ℕ). one_index (option_to_list c.loop-i.found ++ ps)) step) ∙ c.loop-i.invariant
+    sym (index-twice c.loop-i.found c.loop-i.i _ (sym c.is_some.ensures ∙ c.if-is_some.true)) ∙ sym (ap (λ (ps : List ℕ). one_index (option_to_list c.loop-i.found ++ ps)) step) ∙ c.loop-i.invariant
 
 pub loop-i-preserved : goal.loop-i-preserved
 loop-i-preserved c = elim c.match-get.branch [
@@ -17,7 +17,7 @@ loop-i-preserved c = elim c.match-get.branch [
       let at = rw w.in-Some.is at c.get.ensures.value in
       let step = step-named c.args.name.now c.loop-i.i (fields_of c.args.header.now) w.in-Some.field.now
       w.eq_ignore_ascii_case.result at w.eq_ignore_ascii_case.ensures.test w.if-eq_ignore_ascii_case.true in
-      rw w.found-is (ap one_index (place-first c.loop-i.found c.loop-i.i _ (sym w.is_some.ensures ∙ w.if-is_some.false))
+      rw w.found-is (ap one_index (index-first c.loop-i.found c.loop-i.i _ (sym w.is_some.ensures ∙ w.if-is_some.false))
       ∙ sym (ap (λ (ps : List ℕ). one_index (option_to_list c.loop-i.found ++ ps)) step) ∙ c.loop-i.invariant)
   | in-Some+else-eq_ignore_ascii_case w ↦
       let at = rw w.in-Some.is at c.get.ensures.value in
@@ -28,4 +28,4 @@ loop-i-preserved c = elim c.match-get.branch [
 ]
 
 pub returns : goal.returns
-returns c = place-end c.args.name.now c.loop-i.i c.loop-i.found (fields_of c.args.header.now) _ (omega arith) c.ok_or.ensures.value ∙ c.loop-i.invariant
+returns c = index-end c.args.name.now c.loop-i.i c.loop-i.found (fields_of c.args.header.now) _ (omega arith) c.ok_or.ensures.value ∙ c.loop-i.invariant

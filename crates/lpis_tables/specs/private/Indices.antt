@@ -3,7 +3,7 @@ use Rattle.std.specs.Prelude.{ℕ}
 use Rattle.lpis_tables.specs.Shapes.{Shape, New, First, Moved}
 
 -- where `lpis_span` stands among the tables
-abbrev pub span_place : Shape → ℕ
-span_place New = 2
-span_place First = 4
-span_place Moved = 4
+abbrev pub span_table_index : Shape → ℕ
+span_table_index New = 2
+span_table_index First = 4
+span_table_index Moved = 4

@@ -1,5 +1,5 @@
 use Rattle.lpis_parcels.proofs.JoinLemmas.{class-unknown, none-unknown, parcel-unknown}
-use Rattle.lpis_parcels.proofs.joins.joined_places.Goals as goal
+use Rattle.lpis_parcels.proofs.joins.joined_indices.Goals as goal
 
 pub returns-in_default-clause-err : goal.returns-in_default-clause-err
 returns-in_default-clause-err c =
