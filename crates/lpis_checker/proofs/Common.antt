@@ -8,7 +8,7 @@ pub use Rattle.lpis_checker.specs.FirstFault.{HoldBelow}
 pub use Rattle.lpis_checker.specs.GoodCertificate.{HaveCorners, Holds, HoldsEverywhere, LineSeparates, OnParcel, OnPiece, edges_of_pieces, triangles_of}
 pub use Rattle.lpis_checker.specs.SoundMap.{IsInPiece, IsSoundMap}
 pub use Rattle.lpis_checker.specs.declared.condition.Condition.{Condition}
-pub use Rattle.lpis_checker.specs.declared.condition.Condition.TheVariants.{Corners, Flats, Names, NearPairs, ParcelEdges, PieceEdges, Separating, Triangles, Turned}
+pub use Rattle.lpis_checker.specs.declared.condition.Condition.TheVariants.{Corners, Flats, Names, NearPairs, ParcelEdges, PieceEdges, Separating, Triangles, CounterClockwise}
 pub use Rattle.lpis_checker.specs.declared.condition.Site.TheVariants.{LineAt, PairAt, ParcelAt, PieceAt}
 pub use Rattle.lpis_checker.specs.declared.signed.SignedEdge.{SignedEdge}
 pub use Rattle.lpis_checker.specs.private.SignedEdges.{IsGrouped, point_order, sum_at, weight}

@@ -1,6 +1,7 @@
 -- Off the lines of a release the turns of its polygons are those of triangles.
 use Rattle.std.proofs.Common.{◌≡◌, ◌≢◌, ℕ, zero, suc, ℤ, ◌+ℤ◌, List, [], ◌∷◌, ◌++◌, All, Some, ap, sym, refl, ◌∙◌, subst, slice_get, Contains, flat_map}
-use Rattle.lpis_checker.proofs.Common.{Contains-append_right, none-some, same_Some, Point, Triangle, edges_of, Piece, Parcel, Contents, pieces_named, Cert, Names, Triangles, Turned, Flats, Corners}
+use Rattle.lpis_checker.proofs.Common.{Contains-append_right, none-some, same_Some, Point, Triangle, edges_of, Piece, Parcel, Contents, pieces_named}
+use Rattle.lpis_checker.proofs.Common.{Cert, Names, Triangles, CounterClockwise, Flats, Corners}
 use Rattle.lpis_checker.proofs.Common.{PieceEdges, ParcelEdges, PieceAt, corners_of, corners_of_pieces, HaveCorners, HoldsEverywhere}
 use Rattle.std.proofs.lemmas.List.Elements.{Contains-append_left}
 use Rattle.lpis_points.specs.Plane.{RationalPoint}
@@ -57,7 +58,7 @@ all_in_release : (r : Contents) (k : ℕ) (x : Piece) → slice_get r.pieces k �
 all_in_release r k x e ts h = all_from (HasCorners (all_corners r)) ts (λ m t f. in_release r k x e t (all_at (HasCorners (corners_of x.polygon)) ts m t f h))
 
 pub turns_add : (r : Contents) (c : Cert) → HoldsEverywhere r c Names → HoldsEverywhere r c Triangles
-    → HoldsEverywhere r c Turned → HoldsEverywhere r c Flats → HoldsEverywhere r c Corners
+    → HoldsEverywhere r c CounterClockwise → HoldsEverywhere r c Flats → HoldsEverywhere r c Corners
     → HoldsEverywhere r c PieceEdges → HoldsEverywhere r c ParcelEdges → TurnsAdd r c
 turns_add r c ids triangles turned flats corners piece_net parcel_net = record {
   pieces = λ p d off k x t e f.

@@ -2,7 +2,7 @@
 use Rattle.std.proofs.Common.{◌≡◌, ℕ, suc, ◌-◌, ◌<◌, nat_lt, ℤ, pos, ◌+ℤ◌, ◌≤ℤ◌, ◌<ℤ◌, Bool, true, false, cond, List, [], ◌∷◌, ◌++◌, length, get_or, Option, Some, None, inl, inr, ◌↔◌, All, filter, ap}
 use Rattle.std.proofs.Common.{ap₂, sym, refl, ◌∙◌, subst, arith, MatchOption, slice_get, option_map}
 use Rattle.lpis_checker.proofs.Common.{ints, none-some, slice_get-get_or, same_Some, Point, Triangle, same_point, edges_of_triangles, edges_of, Piece, Parcel, Contents, pieces_named, Cert, PiecePart}
-use Rattle.lpis_checker.proofs.Common.{ParcelPart, IsInPiece, IsSoundMap, Names, Triangles, Turned, Flats, PieceEdges, ParcelEdges, NearPairs, Separating, PieceAt, ParcelAt, LineAt, PairAt}
+use Rattle.lpis_checker.proofs.Common.{ParcelPart, IsInPiece, IsSoundMap, Names, Triangles, CounterClockwise, Flats, PieceEdges, ParcelEdges, NearPairs, Separating, PieceAt, ParcelAt, LineAt, PairAt}
 use Rattle.lpis_checker.proofs.Common.{triangles_of, edges_of_pieces, LineSeparates, HoldsEverywhere}
 use Rattle.std.specs.List.{IsDistinct}
 use Rattle.std.proofs.lemmas.List.Elements.{All-cons, All-filter, All-head, All-nil, All-tail, All-weaker}
@@ -123,7 +123,8 @@ good_keeps r c g i j t u e f l = by (are_apart t u) refl
     by false n = near n
 
 -- ---- pieces
-pub good_parts : (r : Contents) (c : Cert) → HoldsEverywhere r c Triangles → HoldsEverywhere r c Turned → HoldsEverywhere r c Flats → HoldsEverywhere r c PieceEdges → GoodParts r.pieces c.pieces
+pub good_parts : (r : Contents) (c : Cert) → HoldsEverywhere r c Triangles → HoldsEverywhere r c CounterClockwise → HoldsEverywhere r c Flats
+    → HoldsEverywhere r c PieceEdges → GoodParts r.pieces c.pieces
 good_parts r c triangles turned flats net k x t e f = record {
   some = triangles (PieceAt k) x t e f;
   ccw = turned (PieceAt k) x t e f;
@@ -132,7 +133,7 @@ good_parts r c triangles turned flats net k x t e f = record {
 }
 
 all_good_parts : (r : Contents) (c : Cert) → IsGood r c → GoodParts r.pieces c.pieces
-all_good_parts r c g = good_parts r c (g.holds Triangles) (g.holds Turned) (g.holds Flats) (g.holds PieceEdges)
+all_good_parts r c g = good_parts r c (g.holds Triangles) (g.holds CounterClockwise) (g.holds Flats) (g.holds PieceEdges)
 
 -- the pieces' turns are 0 or 1, and so is their sum
 record Once (r : Contents) (s : RationalPoint) : Type 0 where
@@ -277,7 +278,7 @@ some_areas q xs h =
     by a p = omega (arith, ints)
 
 pub areas_add : (r : Contents) (c : Cert) → HoldsEverywhere r c Names → HoldsEverywhere r c Triangles
-    → HoldsEverywhere r c Turned → HoldsEverywhere r c Flats → HoldsEverywhere r c PieceEdges
+    → HoldsEverywhere r c CounterClockwise → HoldsEverywhere r c Flats → HoldsEverywhere r c PieceEdges
     → HoldsEverywhere r c ParcelEdges → AreasAdd r
 areas_add r c ids triangles turned flats piece_net parcel_net = record {
   pieces = each;
@@ -312,7 +313,7 @@ good_means_sound r c n g = record {
         r.pieces (λ k x e. let one = all_at (OneAt s) r.pieces k x e o.each in (one, piece_in s x one));
     parcels = λ s d. all_from (λ (x : Parcel). TurnsTell (IsInParcel s x) (turns x.polygon s)) r.parcels (λ k x e. let a = parcel_at r c g s d k x e in (a.one, parcel_in r s x a));
   };
-  areas = areas_add r c (g.holds Names) (g.holds Triangles) (g.holds Turned) (g.holds Flats) (g.holds PieceEdges) (g.holds ParcelEdges);
+  areas = areas_add r c (g.holds Names) (g.holds Triangles) (g.holds CounterClockwise) (g.holds Flats) (g.holds PieceEdges) (g.holds ParcelEdges);
 }
 
 -- a piece of the parcel at a point that the parcel contains

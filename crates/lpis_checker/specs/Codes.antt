@@ -1,8 +1,9 @@
 -- The codes of conditions.
 use Rattle.std.specs.Prelude.{◌+◌, ◌/◌, ◌%◌, ◌∷◌, [], ℕ, List}
 use Rattle.lpis_checker.specs.declared.condition.Condition.{Condition}
-use Rattle.lpis_checker.specs.declared.condition.Condition.TheVariants.{Names, Triangles, Turned}
-use Rattle.lpis_checker.specs.declared.condition.Condition.TheVariants.{Flats, Corners, PieceEdges}
+use Rattle.lpis_checker.specs.declared.condition.Condition.TheVariants.{Names, Triangles}
+use Rattle.lpis_checker.specs.declared.condition.Condition.TheVariants.{CounterClockwise, Flats}
+use Rattle.lpis_checker.specs.declared.condition.Condition.TheVariants.{Corners, PieceEdges}
 use Rattle.lpis_checker.specs.declared.condition.Condition.TheVariants.{ParcelEdges, NearPairs}
 use Rattle.lpis_checker.specs.declared.condition.Condition.TheVariants.{NotApart, Separating}
 
@@ -10,7 +11,7 @@ use Rattle.lpis_checker.specs.declared.condition.Condition.TheVariants.{NotApart
 abbrev pub code_of : Condition → ℕ
 code_of Names = 60
 code_of Triangles = 61
-code_of Turned = 62
+code_of CounterClockwise = 62
 code_of Flats = 63
 code_of Corners = 64
 code_of PieceEdges = 65

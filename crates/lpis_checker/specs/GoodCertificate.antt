@@ -19,8 +19,9 @@ use Rattle.lpis_cert.specs.declared.part.PairLine.{PairLine}
 use Rattle.lpis_pairs.specs.NearPairs.{IsBelow, IsNear}
 use Rattle.lpis_checker.specs.Corners.{corners_of, corners_of_pieces}
 use Rattle.lpis_checker.specs.declared.condition.Condition.{Condition}
-use Rattle.lpis_checker.specs.declared.condition.Condition.TheVariants.{Names, Triangles, Turned}
-use Rattle.lpis_checker.specs.declared.condition.Condition.TheVariants.{Flats, Corners, PieceEdges}
+use Rattle.lpis_checker.specs.declared.condition.Condition.TheVariants.{Names, Triangles}
+use Rattle.lpis_checker.specs.declared.condition.Condition.TheVariants.{CounterClockwise, Flats}
+use Rattle.lpis_checker.specs.declared.condition.Condition.TheVariants.{Corners, PieceEdges}
 use Rattle.lpis_checker.specs.declared.condition.Condition.TheVariants.{ParcelEdges, NearPairs}
 use Rattle.lpis_checker.specs.declared.condition.Condition.TheVariants.{NotApart, Separating}
 use Rattle.lpis_checker.specs.declared.condition.Site.{Site}
@@ -89,7 +90,7 @@ OfTwo ts i j P = OfBoth ts i ts j P
 -- what a condition other than that of names says of a piece and its part
 abbrev pub OnPiece : Condition → Piece → PiecePart → Type 0
 OnPiece Triangles x t = 0 < length t.triangles
-OnPiece Turned x t = All IsCounterClockwise t.triangles
+OnPiece CounterClockwise x t = All IsCounterClockwise t.triangles
 OnPiece Flats x t = All IsFlat t.flats
 OnPiece Corners x t = HaveCorners (corners_of x.polygon) (t.triangles ++ t.flats)
 OnPiece PieceEdges x t =
@@ -115,7 +116,7 @@ Holds r c Names (ParcelAt k) = option_map (λ (t : ParcelPart). t.id) (slice_get
     ≡ option_map (λ (x : Parcel). x.id) (slice_get r.parcels k)
 Holds r c Names (LineAt k) = OfLine c k (IsInOrder c k)
 Holds r c Triangles (PieceAt k) = OfPiece r c k (OnPiece Triangles)
-Holds r c Turned (PieceAt k) = OfPiece r c k (OnPiece Turned)
+Holds r c CounterClockwise (PieceAt k) = OfPiece r c k (OnPiece CounterClockwise)
 Holds r c Flats (PieceAt k) = OfPiece r c k (OnPiece Flats)
 Holds r c Flats (ParcelAt k) = OfParcel r c k (OnParcel r Flats)
 Holds r c Corners (PieceAt k) = OfPiece r c k (OnPiece Corners)

@@ -12,7 +12,7 @@ pub enum Condition {
     /// Each piece has a triangle.
     Triangles,
     /// Each triangle is counter-clockwise.
-    Turned,
+    CounterClockwise,
     /// Each flat is three different points of one line.
     Flats,
     /// Each corner is a point of the piece's rings; of a parcel's flats, of the parcel's rings or
@@ -39,7 +39,7 @@ impl Condition {
         match self {
             Condition::Names => "60",
             Condition::Triangles => "61",
-            Condition::Turned => "62",
+            Condition::CounterClockwise => "62",
             Condition::Flats => "63",
             Condition::Corners => "64",
             Condition::PieceEdges => "65",

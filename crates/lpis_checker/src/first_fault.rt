@@ -109,7 +109,7 @@ pub(crate) fn part_fault(
     if let Some(found) = failing_part(alloc, release, cert, Condition::Triangles)? {
         return Ok(Some(found));
     }
-    if let Some(found) = failing_part(alloc, release, cert, Condition::Turned)? {
+    if let Some(found) = failing_part(alloc, release, cert, Condition::CounterClockwise)? {
         return Ok(Some(found));
     }
     if let Some(found) = failing_part(alloc, release, cert, Condition::Flats)? {

@@ -14,7 +14,7 @@ pub(crate) fn has_triangle(part: &PiecePart) -> bool
 }
 
 /// Whether each triangle of a part is counter-clockwise.
-pub(crate) fn is_turned(part: &PiecePart) -> bool
+pub(crate) fn is_counter_clockwise(part: &PiecePart) -> bool
     ensures { IsTrue result ↔ All IsCounterClockwise part.now.triangles }
 {
     part.triangles.as_slice().iter().all(|t| is_ccw(t))

@@ -12,7 +12,7 @@ use crate::condition::{Condition, Site};
 use crate::corners::{has_corners_of_parcel, has_corners_of_piece};
 use crate::names::{disordered_line, is_parcel_named, is_piece_named};
 use crate::nets::{is_cut, is_filled};
-use crate::parts::{are_flat, has_triangle, is_turned};
+use crate::parts::{are_flat, has_triangle, is_counter_clockwise};
 use crate::separators::{line_separates, names_near};
 use crate::signed::SignedEdge;
 use lpis_cert::{Cert, ParcelPart, PiecePart};
@@ -34,7 +34,7 @@ fn holds_of_piece(
 {
     match condition {
         Condition::Triangles => Ok(has_triangle(part)),
-        Condition::Turned => Ok(is_turned(part)),
+        Condition::CounterClockwise => Ok(is_counter_clockwise(part)),
         Condition::Flats => Ok(are_flat(part.flats.as_slice())),
         Condition::Corners => has_corners_of_piece(alloc, piece, part),
         Condition::PieceEdges => is_cut(sum, piece, part),

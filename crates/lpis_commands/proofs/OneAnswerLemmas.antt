@@ -7,7 +7,7 @@ use Rattle.lpis_cert.specs.declared.fault.CertCode.{CertCode}
 use Rattle.lpis_cert.specs.Faults.{verdict}
 use Rattle.lpis_cert.proofs.Shared.{one_cert}
 use Rattle.lpis_checker.specs.declared.condition.Condition.{Condition}
-use Rattle.lpis_checker.specs.declared.condition.Condition.TheVariants.{Names, Triangles, Turned, Flats, Corners, PieceEdges, ParcelEdges, NearPairs, NotApart, Separating}
+use Rattle.lpis_checker.specs.declared.condition.Condition.TheVariants.{Names, Triangles, CounterClockwise, Flats, Corners, PieceEdges, ParcelEdges, NearPairs, NotApart, Separating}
 use Rattle.lpis_checker.specs.declared.condition.Site.{Site}
 use Rattle.lpis_checker.specs.declared.condition.Site.TheVariants.{PieceAt, ParcelAt, LineAt, PairAt}
 use Rattle.lpis_checker.specs.Codes.{code_of}
@@ -19,7 +19,7 @@ use Rattle.lpis_checker.specs.declared.fault.CheckFault.TheVariants as check
 
 -- a code names its condition
 condition_at : ℕ → Condition
-condition_at n = get_or (Names ∷ Triangles ∷ Turned ∷ Flats ∷ Corners ∷ PieceEdges ∷ ParcelEdges ∷ NearPairs ∷ NotApart ∷ Separating ∷ []) (n - 60) Names
+condition_at n = get_or (Names ∷ Triangles ∷ CounterClockwise ∷ Flats ∷ Corners ∷ PieceEdges ∷ ParcelEdges ∷ NearPairs ∷ NotApart ∷ Separating ∷ []) (n - 60) Names
 
 named_by : (q : Condition) → condition_at (code_of q) ≡ q
 unfolding condition_at

@@ -5,10 +5,10 @@ use lpis_testing::{HALVES_CERT, RIGHT_MOVED, SQUARE_CERT, edited};
 use std::test::Fail;
 
 /// Turns the first triangle of the left half round.
-static LEFT_TURNED: (&str, &str) = ("t 0 0 500 0 500 1000", "t 500 0 0 0 500 1000");
+static LEFT_CLOCKWISE: (&str, &str) = ("t 0 0 500 0 500 1000", "t 500 0 0 0 500 1000");
 
 /// Turns the first triangle of the right half round.
-static RIGHT_TURNED: (&str, &str) = ("t 500 0 1000 0 1000 1000", "t 1000 0 500 0 1000 1000");
+static RIGHT_CLOCKWISE: (&str, &str) = ("t 500 0 1000 0 1000 1000", "t 1000 0 500 0 1000 1000");
 
 /// Leaves out the first of two pair lines.
 static UNPAIRED: (&str, &str) = ("pairs 2\ns 0 1 2\n", "pairs 1\n");
@@ -33,21 +33,21 @@ fn tells_a_piece_without_triangles(rt: HostRuntime) -> Result<(), Fail> {
 }
 
 #[test]
-fn tells_a_triangle_turned_round(rt: HostRuntime) -> Result<(), Fail> {
-    let turned = ("t 0 0 1000 1000 0 1000", "t 1000 1000 0 0 0 1000");
-    expect_square(&rt, &[turned], "62 piece C1")
+fn tells_a_clockwise_triangle(rt: HostRuntime) -> Result<(), Fail> {
+    let clockwise = ("t 0 0 1000 1000 0 1000", "t 1000 1000 0 0 0 1000");
+    expect_square(&rt, &[clockwise], "62 piece C1")
 }
 
 #[test]
-fn tells_the_first_piece_turned_round(rt: HostRuntime) -> Result<(), Fail> {
-    expect_halves(&rt, &[RIGHT_TURNED], "62 piece R")?;
-    expect_halves(&rt, &[RIGHT_TURNED, LEFT_TURNED], "62 piece L")
+fn tells_the_first_piece_with_a_clockwise_triangle(rt: HostRuntime) -> Result<(), Fail> {
+    expect_halves(&rt, &[RIGHT_CLOCKWISE], "62 piece R")?;
+    expect_halves(&rt, &[RIGHT_CLOCKWISE, LEFT_CLOCKWISE], "62 piece L")
 }
 
 #[test]
 fn tells_the_lowest_code(rt: HostRuntime) -> Result<(), Fail> {
     expect_halves(&rt, &[UNPAIRED], "67 pair 0 1")?;
-    expect_halves(&rt, &[UNPAIRED, RIGHT_TURNED], "62 piece R")
+    expect_halves(&rt, &[UNPAIRED, RIGHT_CLOCKWISE], "62 piece R")
 }
 
 #[test]
