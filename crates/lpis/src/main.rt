@@ -15,11 +15,11 @@ use std::fs::File;
 use std::process::ExitCode;
 use std::{env, fs, io};
 
-/// Ends with the status of the command, or tells on standard error why there is none.
+/// Ends with the status of the command, or reports on standard error why there is none.
 fn main(rt: HostRuntime) -> ExitCode {
     let ran = run(&rt);
     if let Err(failure) = ran {
-        // Where standard error is closed, the status alone tells.
+        // Where standard error is closed, the status alone says so.
         let _ = print_failure(failure, &mut rt.stderr());
     }
     ExitCode::from(status_of(ran))
@@ -56,7 +56,7 @@ fn run(rt: &HostRuntime) -> Result<u8, Failure> {
 /// output.
 fn tell(rt: &HostRuntime, error: &clap::Error) -> Result<u8, Failure> {
     let kind = error.kind();
-    // Want of memory is a failure, which has a line of its own.
+    // Out of memory is a failure, which has a line of its own.
     let is_printed = kind != ErrorKind::OutOfMemory && error.print(rt).is_ok();
     usage_ends(kind, is_printed)
 }
@@ -139,7 +139,7 @@ fn close(register: FileRegister) {
     let _ = register.into_connection().close();
 }
 
-/// Opens an input, or tells that it cannot be read.
+/// Opens an input, or reports that it cannot be read.
 fn open(rt: &HostRuntime, input: &NamedFile) -> Result<File, Failure> {
     match fs::open(rt, input.path.as_str()) {
         Ok(file) => Ok(file),
@@ -147,7 +147,7 @@ fn open(rt: &HostRuntime, input: &NamedFile) -> Result<File, Failure> {
     }
 }
 
-/// Opens the tables of a release, or tells the first that cannot be read.
+/// Opens the tables of a release, or reports the first that cannot be read.
 fn open_tables(rt: &HostRuntime, tables: &TableFiles) -> Result<(File, File, File), Failure> {
     let parcels = open(rt, &tables.parcels)?;
     let covers = open(rt, &tables.covers)?;

@@ -13,12 +13,12 @@ use Rattle.lpis_cert.specs.Limits.{last_edge}
 same_three : {A B C : Type 0} {a a' : A} {b b' : B} {c c' : C} → a ≡ a' → b ≡ b' → c ≡ c' → ◌≡◌ {A = A × B × C} (a, b, c) (a', b', c')
 same_three {A} {B} {C} e f g = cc
 
--- contents of the same lists are one
+-- contents of the same lists are equal
 pub same_content : {ps ps' : List PieceBlock} {qs qs' : List ParcelBlock} {rs rs' : List Separator} → ps ≡ ps' → qs ≡ qs' → rs ≡ rs'
     → ◌≡◌ {A = Content} (record { pieces = ps; parcels = qs; pairs = rs }) (record { pieces = ps'; parcels = qs'; pairs = rs' })
 same_content e f g = cc
 
--- what is made of a value and of a proof, where all proofs are one
+-- what is made of a value and of a proof, where all proofs are equal
 made_same : {A R : Type 0} (P : A → Type 0) (make : (x : A) → P x → R) → ((x : A) (p q : P x) → p ≡ q) → {x y : A} → x ≡ y → (p : P x) (q : P y)
     → make x p ≡ make y q
 made_same P make one {x} {y} e = subst (λ (z : _). (p : P x) (q : P z) → make x p ≡ make z q) e (λ p q. ap (λ (v : P x). make x v) (one x p q))

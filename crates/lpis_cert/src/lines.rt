@@ -99,7 +99,8 @@ pub(crate) fn corner_lines(
         triangles.push(triangle)?;
         left = after;
     }
-    Ok((without_spare(triangles)?, left))
+    // A list that is cut to its length where it lies leaves a gap that few lists fit.
+    Ok((Vec::from_slice(alloc, triangles.as_slice())?, left))
 }
 
 /// A pair line.

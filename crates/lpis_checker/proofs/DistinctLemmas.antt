@@ -1,4 +1,4 @@
--- Parcels of one identifier are one.
+-- Parcels with equal identifiers are equal.
 use Rattle.std.proofs.Common.{◌≡◌, ◌≢◌, ℕ, ◌<◌, List, [], Some, ◌⊎◌, inl, inr, ap, sym, ◌∙◌, arith, slice_get, AllPairs, option_map}
 use Rattle.lpis_checker.proofs.Common.{cases_eq, cases_lt, slice_get_within, get_or_from_slice_get, Parcel}
 use Rattle.std.specs.List.{IsDistinct}

@@ -7,7 +7,7 @@ use Rattle.lpis_checker.specs.declared.condition.Condition.TheVariants.{Corners,
 use Rattle.lpis_checker.specs.declared.condition.Condition.TheVariants.{ParcelEdges, NearPairs}
 use Rattle.lpis_checker.specs.declared.condition.Condition.TheVariants.{NotApart, Separating}
 
--- the number that is told where a condition fails; the lowest is told
+-- the number that is reported where a condition fails; the lowest is reported
 abbrev pub code_of : Condition → ℕ
 code_of Names = 60
 code_of Triangles = 61

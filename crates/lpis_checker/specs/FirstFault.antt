@@ -1,4 +1,4 @@
--- What is told of a certificate that is not good: the lowest code that fails, with its first place.
+-- What is reported of a bad certificate: the lowest code that fails, with its first place.
 use Rattle.std.specs.Prelude.{◌≡◌, ℕ, ◌<◌, List, [], Option, Some, None, unwrap_or, slice_get, ⊤}
 use Rattle.std.specs.Option.{option_map}
 use Rattle.lpis_points.specs.Memory.{UnlessMemory}
@@ -50,7 +50,7 @@ pub record IsFault (r : Contents) (c : Cert) (q : Condition) (at : Site) : Type 
   pub lower : (s : Condition) → code_of s < code_of q → HoldsEverywhere r c s
   pub first : IsFirst r c q at
 
--- ---- the location that is told of a site
+-- ---- the location that is reported of a site
 abbrev pub id_or : Option (List ℕ) → Option (List ℕ) → List ℕ
 id_or id other = unwrap_or id (unwrap_or other [])
 
@@ -63,7 +63,7 @@ abbrev pub parcel_id : Contents → Cert → ℕ → List ℕ
 parcel_id r c k = id_or (option_map (λ (t : ParcelPart). t.id) (slice_get c.parcels k))
     (option_map (λ (x : Parcel). x.id) (slice_get r.parcels k))
 
--- a condition fails at a pair line only where there is one, so the first case is never told
+-- a condition fails at a pair line only where there is one, so the first case is never reported
 abbrev pub line_location : Option PairLine → Location
 line_location None = location.Pair 0 0
 line_location (Some l) = location.Pair l.i l.j
@@ -79,7 +79,7 @@ abbrev pub report : CheckFault → Option (Condition × Location)
 report Memory = None
 report (At code at) = Some (code, at)
 
--- a fault that is told is that one; want of memory may stand in its place
+-- a fault that is reported is that one; out of memory may stand in its place
 abbrev pub ReportsFirst : Contents → Cert → CheckFault → Type 0
 ReportsFirst r c fault =
     UnlessMemory (λ (t : Condition × Location). (site : Site) × IsFault r c t.0 site

@@ -21,8 +21,8 @@ use lpis_points::RatPoint;
 use std::alloc::{AllocError, Global};
 use std::marker::Model;
 
-/// What is told of a condition that fails.
-fn told(release: &Release, cert: &Cert, found: &Failing) -> Result<CheckFault, AllocError>
+/// What is reported of a condition that fails.
+fn reported(release: &Release, cert: &Cert, found: &Failing) -> Result<CheckFault, AllocError>
     requires { FoundFault release.now cert.now found.now }
     ensures { IfOk result (λ fault. IsToldOf release.now cert.now found.now fault) }
 {
@@ -33,8 +33,8 @@ fn told(release: &Release, cert: &Cert, found: &Failing) -> Result<CheckFault, A
     })
 }
 
-/// Checks the parts of a certificate, which are the conditions 60 to 66. A fault is told as `check`
-/// tells it.
+/// Checks the parts of a certificate, which are the conditions 60 to 66. A fault is that which
+/// `check` reports.
 ///
 /// With Ok each parcel has the area of its pieces, each above 0, and turns round each point as
 /// often as its pieces together. Off the lines of the release each piece turns round a point as
@@ -47,7 +47,7 @@ pub fn check_parts(alloc: Global, release: &Release, cert: &Cert) -> Result<(), 
     ensures parts { IfErr result IsOfParts }
 {
     match part_fault(alloc, release, cert)? {
-        Some(found) => Err(told(release, cert, &found)?),
+        Some(found) => Err(reported(release, cert, &found)?),
         None => Ok(()),
     }
 }
@@ -71,9 +71,9 @@ impl<'a> Model for Yes<'a> {
     ghost invariant = { λ yes. (c : Cert) × IsGood yes.release.now c };
 }
 
-/// Checks a release against a certificate: Ok exactly where the certificate is good. Else the
-/// condition of the lowest code that fails is told, and the first place at which it does, pieces
-/// before parcels. Want of memory is told as such, and is no yes.
+/// Checks a release against a certificate: Ok exactly where the certificate is good. Else reports
+/// the condition of the lowest code that fails, and the first place at which it does, pieces before
+/// parcels. Out of memory is reported as such, and is no yes.
 ///
 /// With Ok the release is a sound map: at every rational point at most one piece contains the point
 /// and at most one parcel does, and a parcel exactly when exactly one of its pieces does; each
@@ -92,7 +92,7 @@ pub fn check<'a, S: PairSource>(
     // Its parcels' identifiers differ.
     let _ = release.parcels();
     match first_fault(alloc, release, cert, source)? {
-        Some(found) => Err(told(release, cert, &found)?),
+        Some(found) => Err(reported(release, cert, &found)?),
         None => Ok(Yes { release }),
     }
 }

@@ -3,7 +3,7 @@
 ghost use Rattle.std.specs.Prelude.{◌≡◌};
 ghost use Rattle.lpis_checker.specs.Codes.{code_text};
 
-/// What a good certificate meets, in the order in which it is told where it does not.
+/// What a good certificate meets, in the order in which it is reported where it does not.
 #[derive(Clone, Copy, Debug, PartialEq, Eq)]
 pub enum Condition {
     /// Its pieces and parcels have the release's identifiers in order, and its pair lines ascend

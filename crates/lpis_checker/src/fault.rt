@@ -1,4 +1,4 @@
-//! What is told of a certificate that is not good.
+//! What is reported of a certificate that is not good.
 
 ghost use Rattle.std.specs.Prelude.{◌≡◌};
 ghost use Rattle.lpis_checker.specs.declared.fault.CheckFault.TheVariants.{Memory};

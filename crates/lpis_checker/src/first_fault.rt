@@ -1,4 +1,4 @@
-//! The fault that is told: the condition of the lowest code that fails, with its first place.
+//! The fault that is reported: the condition of the lowest code that fails, with its first place.
 
 ghost use Rattle.std.specs.Prelude.{◌≡◌, ◌+◌, IfOk, MatchOption, length, sum_by};
 ghost use Rattle.lpis_pairs.specs.NearPairs.{IsNearList};
@@ -51,7 +51,7 @@ fn parcel_id<'a>(release: &'a Release, cert: &'a Cert, index: usize) -> Option<&
     }
 }
 
-/// The location that is told of a site at which a condition fails.
+/// The location that is reported of a site at which a condition fails.
 pub(crate) fn location_of(
     release: &Release,
     cert: &Cert,

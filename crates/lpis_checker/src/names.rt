@@ -11,7 +11,7 @@ use lpis_cert::{Cert, PairLine};
 use lpis_covers::Id;
 use lpis_parcels::Release;
 
-/// Whether two identifiers are one.
+/// Whether two identifiers are equal.
 fn is_same(part: &Id, own: &Id) -> bool
     ensures { IsTrue result ↔ (part.now ≡ own.now) }
 {

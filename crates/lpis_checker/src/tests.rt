@@ -41,7 +41,7 @@ fn two_pieces(rt: &HostRuntime, right: &str) -> Result<Release, Fail> {
     release_of(rt, SQUARE, pieces.as_str())
 }
 
-/// A location as it is told.
+/// A location as it is reported.
 fn location_text(rt: &HostRuntime, location: &Location) -> Result<String, Fail> {
     match location {
         Location::Piece(id) => Ok(format!(in rt.alloc(); "piece {}", id.as_str())?),
@@ -50,7 +50,7 @@ fn location_text(rt: &HostRuntime, location: &Location) -> Result<String, Fail> 
     }
 }
 
-/// A fault as it is told.
+/// A fault as it is reported.
 fn fault_text(rt: &HostRuntime, fault: &CheckFault) -> Result<String, Fail> {
     match fault {
         CheckFault::Memory => Err("out of memory".into()),
@@ -61,7 +61,7 @@ fn fault_text(rt: &HostRuntime, fault: &CheckFault) -> Result<String, Fail> {
     }
 }
 
-/// What `check` tells with this source: `yes`, or its fault.
+/// What `check` answers with this source: `yes`, or its fault.
 fn answer<S: PairSource>(
     rt: &HostRuntime,
     release: &Release,
@@ -74,7 +74,7 @@ fn answer<S: PairSource>(
     }
 }
 
-/// What `check_parts` tells: `yes`, or its fault.
+/// What `check_parts` answers: `yes`, or its fault.
 fn answer_of_parts(rt: &HostRuntime, release: &Release, cert: &Cert) -> Result<String, Fail> {
     match check_parts(rt.alloc(), release, cert) {
         Ok(()) => Ok(format!(in rt.alloc(); "yes")?),
@@ -82,7 +82,7 @@ fn answer_of_parts(rt: &HostRuntime, release: &Release, cert: &Cert) -> Result<S
     }
 }
 
-/// Fails unless `check` tells this, whichever the source, and `check_parts` the same where it is
+/// Fails unless `check` answers this, whichever the source, and `check_parts` the same where it is
 /// one of its conditions, 60 to 66.
 fn expect_answers(
     rt: &HostRuntime,
@@ -96,7 +96,7 @@ fn expect_answers(
     expect(answer_of_parts(rt, release, cert)?.as_str(), wanted)
 }
 
-/// Fails unless this is told of a certificate's text.
+/// Fails unless this is reported of a certificate's text.
 fn expect_told(rt: &HostRuntime, release: &Release, cert: &str, wanted: &str) -> Result<(), Fail> {
     expect_answers(
         rt,
@@ -106,13 +106,13 @@ fn expect_told(rt: &HostRuntime, release: &Release, cert: &str, wanted: &str) ->
     )
 }
 
-/// Fails unless this is told of the square with its certificate so edited.
+/// Fails unless this is reported of the square with its certificate so edited.
 fn expect_square(rt: &HostRuntime, edits: &[(&str, &str)], wanted: &str) -> Result<(), Fail> {
     let cert = edited(rt.alloc(), SQUARE_CERT, edits)?;
     expect_told(rt, &one_piece(rt, SQUARE)?, cert.as_str(), wanted)
 }
 
-/// Fails unless this is told of the two halves with their certificate so edited.
+/// Fails unless this is reported of the two halves with their certificate so edited.
 fn expect_halves(rt: &HostRuntime, edits: &[(&str, &str)], wanted: &str) -> Result<(), Fail> {
     let cert = edited(rt.alloc(), HALVES_CERT, edits)?;
     expect_told(rt, &two_pieces(rt, RIGHT)?, cert.as_str(), wanted)

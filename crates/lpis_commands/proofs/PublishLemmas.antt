@@ -76,7 +76,7 @@ answer-done h year r rows e = elim (leb_tells year (last_year h)) [
   | inr f ↦ (f.1, first-none _ (lineage-done (publication_text h year r rows) _ (sym (ap (λ (a : Answer). a.1) (not-late h year r rows f.0)) ∙ e)))
 ]
 
--- what is told of a change is the answer where the release may follow
+-- what is reported of a change is the answer where the release may follow
 pub answer-told : (h : List Entry) (year : ℕ) (r : Contents) (rows : List Row) (c : Changes) (text : List ℕ) (status : ℕ) → last_year h < year → faults h (parcel_ids r.parcels) rows ≡ []
     → IsChange (last_live h) (parcel_ids r.parcels) rows c → text ≡ report_text r ++ flat_map (lineage_line (kind_at c)) c.dropped_ids ++ published_line year → status ≡ done
     → ◌≡◌ {A = Answer} (text, status) (history_answer h year r rows)
@@ -101,7 +101,7 @@ pub both-ok : {A E : Type 0} (r : Result A E) (P Q : A → Type 0) → IfOk r P 
 both-ok (Ok a) P Q p q = (p, q)
 both-ok (Err e) P Q p q = tt
 
--- what was written is the answer, and the status is told
+-- what was written is the answer, and the status is reported
 pub ends-of : (x : Publication) (a : Answer) (h k : List Entry) (old new : Option (List ℕ)) (r : Result ℕ Failure) → IsPublishAnswer x h a → Moves x a.1 h k
     → IfOk r (λ status. status ≡ a.1) → OnOk r (Appends old new a.0) → IfOk r (λ status. Ends x status h k old new)
 ends-of x a h k old new (Ok status) answer moves is written =

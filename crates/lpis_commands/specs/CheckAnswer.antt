@@ -79,7 +79,7 @@ pub record IsProved (x : Inputs) : Type 0 where
   pub text : x.cert ≡ cert_text certificate
   pub good : IsGood release certificate
 
--- the inputs are what four readers told, as far as it is known
+-- the inputs are what four readers reported, as far as it is known
 pub record AreRead (x : Inputs) (parcels covers classes cert : Option (List ℕ)) : Type 0 where
   pub of_parcels : IsRead x.parcels parcels
   pub of_covers : IsRead x.covers covers
@@ -95,7 +95,7 @@ Ends x status old new = Checks x status old new × (status ≡ done → IsProved
 abbrev pub IsBegun : Inputs → Option (List ℕ) → Option (List ℕ) → Type 0
 IsBegun x old new = (a : Answer) × IsAnswer x a × (a.1 ≡ done → IsProved x) × Begins old new a.0
 
--- the run of what four readers told gave no answer: a reader failed, or the writer did after a
+-- the run of what four readers reported gave no answer: a reader failed, or the writer did after a
 -- beginning of the answer
 abbrev pub Halts : Failure → (parcels covers classes cert : Option (List ℕ)) → Option (List ℕ)
     → Option (List ℕ) → Type 0

@@ -64,7 +64,7 @@ abbrev pub IsCutAnswer : Result Contents TableFault → CutAnswer → Type 0
 IsCutAnswer (Ok r) a = IsCut a ⊎ IsRefused r a
 IsCutAnswer (Err fault) a = IsUnreadable fault a
 
--- the tables are what three readers told, as far as it is known, and this is an answer to them
+-- the tables are what three readers reported, as far as it is known, and this is an answer to them
 pub record Cuts (parcels covers classes : Option (List ℕ)) (a : CutAnswer) : Type 0 where
   pub tables : Tables
   pub of_parcels : IsRead tables.parcels parcels

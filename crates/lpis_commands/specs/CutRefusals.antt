@@ -13,7 +13,7 @@ abbrev pub point_text : RatPoint → List ℕ
 point_text p = codes " at " ++ signed_decimal p.x ++ codes " " ++ signed_decimal p.y ++ codes " "
     ++ signed_decimal p.d
 
--- what is named by its identifiers, and the point where one is told
+-- what is named by its identifiers, and the point where one is reported
 abbrev pub named_text : Refusal → List ℕ
 named_text (NoCut piece) = codes "piece " ++ piece
 named_text (ParcelsOverlap first second at) = codes "parcels " ++ first ++ codes " " ++ second

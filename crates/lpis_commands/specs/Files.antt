@@ -21,7 +21,7 @@ tables_in dir = (in_folder dir (codes "parcels.csv"), Parcels)
     ∷ []
 
 -- the files of a command beside its register, in the order in which they are opened, each a path
--- and the name by which a failure tells of it
+-- and the name by which a failure reports it
 abbrev pub files_of : Cmd → List (List ℕ × Name)
 files_of (cmd.Area file) = (file.now, Area) ∷ []
 files_of (cmd.Cut dir cert) = tables_in dir.now ++ (cert.now, Cert) ∷ []

@@ -58,7 +58,7 @@ lineage_location_text (lineage.EndingBesideSuccessor row) = codes "row " ++ deci
 lineage_location_text (lineage.NoRow id) = id
 lineage_location_text (lineage.UsedBefore id year) = id ++ codes " " ++ decimal year
 
--- the code of a lineage and its location; want of memory is no fault of a lineage
+-- the code of a lineage and its location; out of memory is no fault of a lineage
 abbrev pub lineage_code_text : Option LineageCode → List ℕ → List ℕ
 lineage_code_text None location = []
 lineage_code_text (Some c) location = codes "lineage " ++ lineage_codes.code_text c ++ codes " "
@@ -68,7 +68,7 @@ unfoldable pub lineage_fault_text : LineageFault → List ℕ
 lineage_fault_text fault = lineage_code_text (lineage_codes.code_of fault)
     (lineage_location_text fault)
 
--- of the register: the code, and the last year or the lineage's fault; want of memory and a failed
+-- of the register: the code, and the last year or the lineage's fault; out of memory and a failed
 -- store are no refusals, and have no line
 abbrev pub publish_refusal_text : PublishFault → List ℕ
 publish_refusal_text publish.Memory = []

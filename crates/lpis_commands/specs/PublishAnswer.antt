@@ -102,7 +102,7 @@ pub record IsPublished (x : Publication) (h k : List Entry) : Type 0 where
   pub unused : (id : List ℕ) (i : ℕ) → has_id (parcel_ids proved.release.parcels) id ≡ true
       → holds h i id ≡ true
       → has_id (last_live h) id ≡ true
-  -- dropped identifiers are told ascending by bytes
+  -- dropped identifiers are reported ascending by bytes
   pub ascend : IsAscending (dropped (last_live h) (parcel_ids proved.release.parcels))
 
 -- with the status `done` the release was published, with every other one the history is the one

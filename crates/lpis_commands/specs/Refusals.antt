@@ -16,7 +16,7 @@ use Rattle.lpis_checker.specs.declared.fault.Location.{Location}
 use Rattle.lpis_checker.specs.declared.fault.Location.TheVariants.{Piece, Parcel, Pair}
 use Rattle.lpis_checker.specs.Codes as check_codes
 
--- where a text is no polygon; want of memory is no fault of a text, and has no line
+-- where a text is no polygon; out of memory is no fault of a text, and has no line
 abbrev pub wkt_text : Option WktFault → List ℕ
 wkt_text None = []
 wkt_text (Some wkt.Memory) = []

@@ -6,11 +6,11 @@ use Rattle.std.specs.Io.KnownBytes.{Appends}
 abbrev pub most_bytes : ℕ
 most_bytes = 1073741824
 
--- an input is within the limit, and is what its reader told, as far as that is known
+-- an input is within the limit, and is what its reader reported, as far as that is known
 abbrev pub IsRead : List ℕ → Option (List ℕ) → Type 0
 IsRead input told = (length input ≤ most_bytes) × IfSome told (λ bytes. input ≡ bytes)
 
--- what a reader told is within the limit, as far as it is known
+-- what a reader reported is within the limit, as far as it is known
 abbrev pub IsWithin : Option (List ℕ) → Type 0
 IsWithin told = IfSome told (λ bytes. length bytes ≤ most_bytes)
 

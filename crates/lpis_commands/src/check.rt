@@ -91,7 +91,7 @@ fn answer_to_cert(alloc: Global, release: &Release, cert: &Cert) -> Result<Answe
             report(alloc, &yes)
         }
         Err(CheckFault::Memory) => Err(AllocError),
-        Err(fault) => refuse_cert(alloc, &fault),
+        Err(fault) => Ok(refuse_cert(alloc, &fault)?),
     }
 }
 

@@ -290,7 +290,7 @@ fn command_named<'a>(name: &str, matches: &ArgMatches<'a>) -> Option<Cmd<'a>>
 
 /// The command that the words ask for, the program's name being the first of them.
 ///
-/// The error has `clap`'s text and exit code; want of memory is its kind `OutOfMemory`.
+/// The error has `clap`'s text and exit code; out of memory is its kind `OutOfMemory`.
 pub fn command_of<'a>(alloc: Global, words: &'a [&'a str]) -> Result<Cmd<'a>, Error>
     ensures command { IfOk result
         (λ c. IsCommand c (subcommand_of command_line_app (map (λ s. s.now) words.entry.now))) }

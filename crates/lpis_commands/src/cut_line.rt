@@ -20,7 +20,7 @@ fn print_point<W: Write>(at: &RatPoint, out: &mut W) -> Result<(), PrintFault>
     Ok(())
 }
 
-/// Writes what a refusal names, and the point where it tells one.
+/// Writes what a refusal names, and the point where it has one.
 fn print_named<W: Write>(refusal: &Refusal, out: &mut W) -> Result<(), PrintFault>
     ensures { OnOk result (Appends (W.contents out.old) (W.contents out.new)
         (named_text refusal.now)) }

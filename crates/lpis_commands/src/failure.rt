@@ -29,7 +29,7 @@ pub enum Name {
 }
 
 impl Name {
-    /// The name as a failure tells it.
+    /// The name as a failure reports it.
     pub fn as_str(self) -> &'static str
         ensures { result.now ≡ name_text self }
     {

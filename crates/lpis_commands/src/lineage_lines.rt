@@ -112,7 +112,7 @@ fn print_lineage_refusal<W: Write>(fault: &LineageFault, out: &mut W) -> Result<
     Ok(())
 }
 
-/// Writes the line of a refusal of the register. Want of memory and a failed store are no
+/// Writes the line of a refusal of the register. Out of memory and a failed store are no
 /// refusals, and have no line.
 pub fn print_publish_fault<W: Write>(fault: &PublishFault, out: &mut W) -> Result<(), PrintFault>
     ensures { OnOk result (Appends (W.contents out.old) (W.contents out.new)

@@ -13,7 +13,7 @@ use std::alloc::{AllocError, Global};
 pub struct NamedFile {
     /// Its path.
     pub path: String,
-    /// The name by which a failure tells of it.
+    /// The name by which a failure reports it.
     pub name: Name,
 }
 

@@ -52,7 +52,7 @@ pub fn read_all<R: Read + Drop>(
     read_from(alloc, &mut reader, limit)
 }
 
-/// The same of a reader that is lent: where it stands afterwards tells how much was read. The
+/// The same of a reader that is lent: where it stands afterwards shows how much was read. The
 /// answer is `TooLong` exactly where that is more than `limit` bytes.
 pub fn read_from<R: Read>(alloc: Global, reader: &mut R, limit: usize) -> Result<Vec<u8>, ReadFault>
     requires { limit ≤ GREATEST_LIMIT }
@@ -117,7 +117,7 @@ pub(crate) fn read_input<R: Read + Drop>(alloc: Global, reader: R) -> Result<Vec
     }
 }
 
-/// All bytes of the input of this name, or the failure that tells it.
+/// All bytes of the input of this name, or the failure that reports it.
 pub(crate) fn read_named<R: Read + Drop>(
     alloc: Global,
     reader: R,

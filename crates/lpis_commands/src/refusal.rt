@@ -24,7 +24,7 @@ fn print_wkt_fault<W: Write>(wkt: &Option<WktFault>, out: &mut W) -> Result<(), 
     Ok(())
 }
 
-/// Writes the line of a refused table. Want of memory is no refusal, and has no line.
+/// Writes the line of a refused table. Out of memory is no refusal, and has no line.
 pub fn print_table_fault<W: Write>(fault: &TableFault, out: &mut W) -> Result<(), PrintFault>
     ensures { OnOk result (Appends (W.contents out.old) (W.contents out.new)
         (refusal_text fault.now)) }
@@ -49,7 +49,7 @@ pub fn print_table_fault<W: Write>(fault: &TableFault, out: &mut W) -> Result<()
     Ok(())
 }
 
-/// Writes the line of a text that is no certificate. Want of memory is no refusal, and has no line.
+/// Writes the line of a text that is no certificate. Out of memory is no refusal, and has no line.
 pub fn print_cert_fault<W: Write>(fault: &CertFault, out: &mut W) -> Result<(), PrintFault>
     ensures { OnOk result (Appends (W.contents out.old) (W.contents out.new)
         (cert_refusal_text fault.now)) }
@@ -74,7 +74,7 @@ fn print_location<W: Write>(location: &Location, out: &mut W) -> Result<(), Prin
     Ok(())
 }
 
-/// Writes the line of a certificate that is not good. Want of memory is no refusal, and has no
+/// Writes the line of a certificate that is not good. Out of memory is no refusal, and has no
 /// line.
 pub fn print_check_fault<W: Write>(fault: &CheckFault, out: &mut W) -> Result<(), PrintFault>
     ensures { OnOk result (Appends (W.contents out.old) (W.contents out.new)

@@ -32,7 +32,7 @@ pub fn status_of(run: Result<u8, Failure>) -> u8
 /// be.
 ///
 /// Help that was asked for is printed on standard output. Everything else is a fault of the command
-/// line, told on standard error: where that is closed, the status alone tells.
+/// line, reported on standard error: where that is closed, the status alone says so.
 pub fn usage_ends(kind: ErrorKind, is_printed: bool) -> Result<u8, Failure>
     ensures { result ≡ usage_told kind is_printed }
 {

@@ -51,7 +51,7 @@ fn answer_to_id<S: Alter>(
     match register.trace(id) {
         Ok(ids) => list_ids(alloc, ids.as_slice()),
         Err(PublishFault::Unknown) => refuse(alloc, &PublishFault::Unknown),
-        // Nothing else is told of an identifier.
+        // Nothing else is reported of an identifier.
         Err(_) => Err(AllocError),
     }
 }

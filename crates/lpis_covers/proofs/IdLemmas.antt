@@ -1,10 +1,16 @@
 -- Identifiers are text.
-use Rattle.std.proofs.Common.{is_some, Option, Some, None, ◌≡◌, ◌<◌, ℕ, List, [], ◌∷◌, length, true, false, refl, arith, slice_index, zero, suc, ◌&&◌, IsUtf8, nat_le}
+use Rattle.std.proofs.Common.{is_some, Option, Some, None, ◌≡◌, ◌<◌, ◌≤◌, ◌+◌, ◌++◌, ℕ, List, [], ◌∷◌, length, drop, take}
+use Rattle.std.proofs.Common.{true, false, refl, ap, ◌∙◌, arith, slice_index, zero, suc, ◌&&◌, cond, eqb, not, position, IsUtf8, nat_le}
 use Rattle.lpis_covers.proofs.Common.{nat_tests}
-use Rattle.std.specs.List.{list_all}
+use Rattle.std.specs.List.{before_first, list_all, position_or_len}
+use Rattle.std.proofs.lemmas.List.Folds.{prefix_len-append}
+use Rattle.std.proofs.lemmas.List.Sums.{prefix_len-le-length}
+use Rattle.std.proofs.lemmas.Grind.{common_steps}
+use Rattle.std.proofs.Math.Seq.{take-append_seam}
+use Rattle.lpis_covers.specs.private.Padding.{is_zero}
 use Rattle.std.proofs.lemmas.Bool.{and_parts}
 use Rattle.std.proofs.lemmas.Str.{IsUtf8-from_ascii}
-use Rattle.lpis_covers.specs.Ids.{is_id, is_id_byte}
+use Rattle.lpis_covers.specs.Ids.{is_id, is_id_byte, longest_id}
 
 small : (b : ℕ) → is_id_byte b ≡ true → b < 128
 small b h = grind (arith, nat_tests)
@@ -17,6 +23,45 @@ all-ascii (b ∷ bs) h (suc i) = all-ascii bs (and_parts (is_id_byte b) _ h).1 i
 -- an identifier is text
 pub id-utf8 : (bs : List ℕ) → is_id bs ≡ true → IsUtf8 bs
 id-utf8 bs h = IsUtf8-from_ascii bs (all-ascii bs (and_parts (nat_le 1 (length bs) && nat_le (length bs) 40) _ h).1)
+
+-- an identifier is not too long
+pub id-short : (bs : List ℕ) → is_id bs ≡ true → length bs ≤ longest_id
+id-short bs h =
+    let within : nat_le (length bs) longest_id ≡ true = (and_parts (nat_le 1 (length bs)) _ (and_parts _ _ h).0).1 in
+    grind (arith, nat_tests)
+
+-- an identifier ends where the zeros behind it begin
+not-zero : (b : ℕ) → is_id_byte b ≡ true → is_zero b ≡ false
+not-zero b h = grind (arith, nat_tests)
+
+no-zero : (bs : List ℕ) → list_all is_id_byte bs ≡ true → position_or_len is_zero bs ≡ length bs
+no-zero [] h = refl
+no-zero (b ∷ bs) h = let parts = and_parts (is_id_byte b) _ h in rw (not-zero b parts.0) (omega (arith, no-zero bs parts.1))
+
+zeros-first : (n : ℕ) (zs : List ℕ) → list_all is_zero zs ≡ true → position_or_len is_zero (drop n zs) ≡ 0
+zeros-first zero [] h = refl
+zeros-first (suc n) [] h = refl
+zeros-first zero (z ∷ zs) h = rw (and_parts (is_zero z) _ h).0 refl
+zeros-first (suc n) (z ∷ zs) h = zeros-first n zs (and_parts (is_zero z) _ h).1
+
+pub ends-within : (xs : List ℕ) → position_or_len is_zero xs ≤ length xs
+ends-within xs = prefix_len-le-length (λ c. not (is_zero c)) xs
+
+pub ends-at : (xs : List ℕ) (n : ℕ) → position is_zero xs ≡ Some n → n ≡ position_or_len is_zero xs
+ends-at xs n h = grind (arith, common_steps)
+
+pub ends-nowhere : (xs : List ℕ) → position is_zero xs ≡ None → length xs ≡ position_or_len is_zero xs
+ends-nowhere xs h = let within = ends-within xs in grind (arith, common_steps)
+
+pub before-padding : (bs zs : List ℕ) (n : ℕ) → is_id bs ≡ true → list_all is_zero zs ≡ true → before_first is_zero (bs ++ drop n zs) ≡ bs
+before-padding bs zs n h z =
+    let whole = no-zero bs (and_parts (nat_le 1 (length bs) && nat_le (length bs) longest_id) _ h).1 in
+    let ends : position_or_len is_zero (bs ++ drop n zs) ≡ length bs =
+    prefix_len-append (λ c. not (is_zero c)) bs (drop n zs) ∙ rw (whole, zeros-first n zs z) (by (length bs)) in
+    ap (λ (k : ℕ). take k (bs ++ drop n zs)) ends ∙ take-append_seam bs _
+  where
+    by : (k : ℕ) → cond (eqb k k) (k + 0) k ≡ k
+    by k = grind (arith, nat_tests)
 
 pub is-none : {A : Type 0} (o : Option A) → is_some o ≡ false → o ≡ None
 is-none None h = refl

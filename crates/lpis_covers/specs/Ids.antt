@@ -22,7 +22,7 @@ abbrev pub is_id : List ℕ → Bool
 is_id bytes = (nat_le 1 (length bytes) && nat_le (length bytes) longest_id)
     && list_all is_id_byte bytes
 
--- two identifiers are one: they are compared by their bytes
+-- two identifiers are equal: they are compared by their bytes
 abbrev pub same_id : List ℕ → List ℕ → Bool
 same_id a b = pointwise nat_eq a b
 

@@ -21,7 +21,7 @@ most_rows = 200000
 abbrev pub Record : Type 0
 Record = List (List ℕ)
 
--- a fault in a row of a table that tells of no polygon; row 0 is the header
+-- a fault in a row of a table, which is not one of a polygon's text; row 0 is the header
 abbrev pub fault_at : TableCode → Table → ℕ → TableFault
 fault_at code table row = At code table row None
 

@@ -2,3 +2,4 @@
 pub mod Columns
 pub mod Keyed
 pub mod Left
+pub mod Padding

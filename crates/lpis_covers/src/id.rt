@@ -1,6 +1,6 @@
 //! Identifiers.
 
-ghost use Rattle.std.specs.Prelude.{◌≡◌, ℕ, List, true, false, nat_eq, string_bytes, IfOk, IfSome};
+ghost use Rattle.std.specs.Prelude.{◌≡◌, ◌≤◌, ℕ, List, true, false, length, nat_eq, position, IfOk, IfSome};
 ghost use Rattle.std.specs.Prelude.{IfNone, Some};
 ghost use Rattle.std.specs.Hash as fed;
 ghost use Rattle.std.specs.Cmp;
@@ -9,8 +9,9 @@ ghost use Rattle.std.specs.Cmp.Lexicographic.{nat_list_cmp_total, texts_po, text
 ghost use Rattle.std.specs.Ordering.{nat_cmp};
 ghost use Rattle.std.specs.Cmp.Rules.{hashing};
 ghost use Rattle.std.proofs.Common.{rules, refl};
-ghost use Rattle.std.specs.List.{list_all};
+ghost use Rattle.std.specs.List.{before_first, list_all, position_or_len};
 ghost use Rattle.lpis_covers.specs.Ids.{is_id, is_id_byte as id_byte};
+ghost use Rattle.lpis_covers.specs.private.Padding.{is_zero};
 
 use std::alloc::{AllocError, Global};
 use std::cmp::Ordering;
@@ -20,19 +21,20 @@ use std::marker::Model;
 /// The most characters of an identifier.
 const LONGEST_ID: usize = 40;
 
-/// An identifier: 1 to 40 characters of `A-Z a-z 0-9 . _ : / -`, compared by its bytes. Contracts
-/// see its bytes.
+/// An identifier: 1 to 40 characters of `A-Z a-z 0-9 . _ : / -`, compared by its bytes. They lie in
+/// the value itself, with zeros behind them, since a release has many identifiers and most are
+/// short. Contracts see them.
 #[derive(Debug, Drop)]
 pub struct Id {
-    text: String,
+    characters: [u8; LONGEST_ID],
 }
 
 impl Model for Id {
     ghost Value = { List ℕ };
 
-    ghost view = { λ a. string_bytes a.text };
+    ghost view = { λ a. before_first is_zero a.characters };
 
-    ghost invariant = { λ a. is_id (string_bytes a.text) ≡ true };
+    ghost invariant = { λ a. is_id (before_first is_zero a.characters) ≡ true };
 }
 
 impl PartialEq for Id {
@@ -41,7 +43,7 @@ impl PartialEq for Id {
     ghost laws = { Cmp.partial_equiv_from_equiv nat_list_eq_equiv };
 
     fn eq(&self, other: &Id) -> bool {
-        self.text == other.text
+        self.as_bytes() == other.as_bytes()
     }
 }
 
@@ -55,7 +57,7 @@ impl Hash for Id {
     ghost respects_eq = { Prim.search (hashing, rules) };
 
     fn hash<H: Hasher>(&self, state: &mut H) {
-        self.text.hash(state);
+        self.as_str().hash(state);
     }
 }
 
@@ -79,13 +81,13 @@ impl Ord for Id {
     ghost matches_eq = { texts_ties };
 
     fn cmp(&self, other: &Id) -> Ordering {
-        self.text.cmp(&other.text)
+        self.as_bytes().cmp(other.as_bytes())
     }
 }
 
 impl Id {
     /// The identifier of these bytes, or `None` where they are none.
-    pub fn read(alloc: Global, bytes: &[u8]) -> Result<Option<Id>, AllocError>
+    pub fn read(_alloc: Global, bytes: &[u8]) -> Result<Option<Id>, AllocError>
         ensures some { IfOk result
             (λ o. IfSome o (λ id. (id ≡ bytes.now) × (is_id bytes.now ≡ true))) }
         ensures none { IfOk result (λ o. IfNone o (is_id bytes.now ≡ false)) }
@@ -93,13 +95,17 @@ impl Id {
         if !is_id_text(bytes) {
             return Ok(None);
         }
-        match str::from_utf8(bytes) {
-            Ok(text) => Ok(Some(Id {
-                text: String::from_str(alloc, text)?,
-            })),
-            // Its characters are ASCII.
-            Err(_) => unreachable!(),
-        }
+        Ok(Some(Id {
+            characters: padded(bytes),
+        }))
+    }
+
+    /// Its bytes.
+    fn as_bytes(&self) -> &[u8]
+        ensures bytes { result.now ≡ self.now }
+        ensures id { is_id self.now ≡ true }
+    {
+        &self.characters[..length_of(&self.characters)]
     }
 
     /// Its text.
@@ -107,7 +113,11 @@ impl Id {
         ensures text { result.now ≡ self.now }
         ensures id { is_id self.now ≡ true }
     {
-        self.text.as_str()
+        match str::from_utf8(self.as_bytes()) {
+            Ok(text) => text,
+            // Its characters are ASCII.
+            Err(_) => unreachable!(),
+        }
     }
 
     /// An equal one.
@@ -115,9 +125,37 @@ impl Id {
         ensures { IfOk result (λ id. id ≡ self.now) }
     {
         Ok(Id {
-            text: self.text.clone()?,
+            characters: self.characters,
         })
     }
+}
+
+/// Where the first zero stands.
+fn first_zero(characters: &[u8]) -> Option<usize>
+    ensures { result ≡ position is_zero characters.now }
+{
+    characters.iter().position(|c| *c == 0)
+}
+
+/// How many characters stand before the first zero.
+fn length_of(characters: &[u8]) -> usize
+    ensures first { result ≡ position_or_len is_zero characters.now }
+    ensures within { result ≤ length characters.now }
+{
+    match first_zero(characters) {
+        Some(length) => length,
+        None => characters.len(),
+    }
+}
+
+/// The bytes of an identifier, and zeros behind them.
+fn padded(bytes: &[u8]) -> [u8; LONGEST_ID]
+    requires { is_id bytes.now ≡ true }
+    ensures { before_first is_zero result ≡ bytes.now }
+{
+    let mut characters = [0; LONGEST_ID];
+    characters[..bytes.len()].copy_from_slice(bytes);
+    characters
 }
 
 /// Whether bytes are an identifier. It takes no memory.

@@ -26,16 +26,16 @@ impl Model for Keys {
 }
 
 impl Keys {
-    /// No identifiers.
-    pub(crate) fn new(alloc: Global) -> Keys
-        ensures { result ≡ [] }
+    /// No identifiers, with room for so many.
+    pub(crate) fn with_capacity(alloc: Global, count: usize) -> Result<Keys, AllocError>
+        ensures { IfOk result (λ keys. keys ≡ []) }
     {
-        Keys {
-            ids: IndexSet::new(alloc),
-        }
+        Ok(Keys {
+            ids: IndexSet::with_capacity(alloc, count)?,
+        })
     }
 
-    /// Adds an identifier after the others and tells whether it was not among them. One that was is
+    /// Adds an identifier after the others and says whether it was not among them. One that was is
     /// not added again; a refusal adds nothing.
     pub(crate) fn add(&mut self, id: &Id) -> Result<bool, AllocError>
         ensures new { IfOk result (λ new. new ≡ not (has_id self.old id.now)) }

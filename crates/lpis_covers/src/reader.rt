@@ -17,7 +17,7 @@ use std::alloc::{AllocError, Global};
 use std::marker::Model;
 
 /// The most rows of a table, its header aside.
-const MOST_ROWS: u32 = 200_000;
+pub(crate) const MOST_ROWS: u32 = 200_000;
 
 /// A reader of a table, row by row: it holds one row at a time. Contracts see the number and the
 /// wanted fields of the row that was read last, the rows that are left and the fault that stops
@@ -133,7 +133,7 @@ impl<'a> TableReader<'a> {
     /// column's name stands once, in any mix of ASCII cases. One byte order mark at the start is
     /// skipped.
     ///
-    /// A refusal is a fault of row 0, or want of memory.
+    /// A refusal is a fault of row 0, or out of memory.
     pub fn open(
         alloc: Global,
         bytes: &'a [u8],
@@ -163,7 +163,7 @@ impl<'a> TableReader<'a> {
     }
 
     /// Reads the next row. `Ok(false)` is the end of the table; a refusal is the fault that stops
-    /// the rows, or want of memory. After either the reader has no meaning.
+    /// the rows, or out of memory. After either the reader has no meaning.
     pub fn next_row(&mut self) -> Result<bool, TableFault>
         ensures { Advances self.old self.new result }
     {

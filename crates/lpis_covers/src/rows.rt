@@ -34,7 +34,7 @@ fn add_copy(
 }
 
 /// The wanted columns of a table, by their names in the order given. A refusal is a fault of row 0,
-/// or want of memory.
+/// or out of memory.
 pub fn read_table(
     alloc: Global,
     bytes: &[u8],

@@ -8,7 +8,7 @@ use crate::fault::{Table, TableFault};
 use crate::id::Id;
 use crate::keyed::{Identified, Keyed};
 use crate::keys::Keys;
-use crate::reader::TableReader;
+use crate::reader::{MOST_ROWS, TableReader};
 use std::alloc::Global;
 
 /// A row that is read from a table whose first column is its identifier.
@@ -65,6 +65,13 @@ fn add_row<T: TableRow>(
     Ok(())
 }
 
+/// How many rows a text has at most: one a line, and no more than a table may have. Room that is
+/// made for all at once leaves no gaps where a growing list lay before.
+fn most_rows_of(bytes: &[u8]) -> usize {
+    let lines = bytes.iter().filter(|b| **b == b'\n').count();
+    lines.min(MOST_ROWS as usize)
+}
+
 /// The rows of a table, by their identifiers in its order. A refusal is the first fault: of row 0;
 /// else of a row, in the order of the rows and in it of the columns; else that which stops the
 /// rows.
@@ -72,8 +79,9 @@ pub fn read_rows<T: TableRow>(alloc: Global, bytes: &[u8]) -> Result<Keyed<T>, T
     ensures { Answers result (rows_of T.kind bytes.now) }
 {
     let mut reader = TableReader::open(alloc, bytes, T::table(), T::columns())?;
-    let mut keys = Keys::new(alloc);
-    let mut rows = Vec::new(alloc);
+    let room = most_rows_of(bytes);
+    let mut keys = Keys::with_capacity(alloc, room)?;
+    let mut rows = Vec::with_capacity(alloc, room)?;
     'rows: while reader.next_row()? {
         add_row(alloc, &reader, &mut keys, &mut rows)?;
     }

@@ -1,4 +1,4 @@
--- A release of which a point is told is not sound everywhere.
+-- A release of which a point is reported is not sound everywhere.
 use Rattle.std.proofs.Common.{◌≡◌, ℕ, zero, suc, pos, ◌<ℤ◌, Bool, true, false, cond, List, [], ◌∷◌, Some, Result, Ok, Err, IfErr, inl, inr, ◌⊎◌, ◌↔◌, filter, ap, sym, refl, ◌∙◌, subst, arith, All}
 use Rattle.std.proofs.Common.{slice_get, Any}
 use Rattle.lpis_cutter.proofs.Common.{rational_of, Piece, pieces_named, IsInPiece}
@@ -26,7 +26,7 @@ use Rattle.lpis_cutter.specs.Refusals.{ParcelsShare, PiecesShare, Disagrees, Ref
 among_found : {A : Type 0} (xs : List A) (x : A) → IsAmong xs x → Found (λ y. y ≡ x) xs
 among_found xs x a = any_found (λ y. y ≡ x) xs (a.0, x, a.1, a.2, refl)
 
--- two items of a list of which at most one has the property are one
+-- two items of a list of which at most one has the property are equal
 one_item : {A : Type 0} (P : A → Type 0) (xs : List A) (x y : A) → AtMostOne P xs → IsAmong xs x → IsAmong xs y → P x → P y → x ≡ y
 one_item P xs x y one a b p q =
     let f = among_found xs x a in
@@ -85,7 +85,7 @@ disagrees r a s d t sound = by t.parted
         all_at (λ (y : Piece). IsInPiece s y → ⊥) (pieces_named r a) f.index f.item f.at h.1 f.has
     by (inr h) = h.0 (filled.1 (h.1, one-filter (IsInPiece s) (names a) r.pieces (sound.one_piece s d)))
 
--- what is told with a point denies that the release is sound everywhere
+-- what is reported with a point denies that the release is sound everywhere
 pub unsound : (r : Contents) (e : CutFault) → RefusesRightly r e → HasPoint e → IsSoundEverywhere r → ⊥
 unsound r (Refused (ParcelsOverlap first second at)) t h sound = parcels_share r first second (rational_of at) (positive at) t sound
 unsound r (Refused (PiecesOverlap first second at)) t h sound = pieces_share r first second (rational_of at) (positive at) t sound

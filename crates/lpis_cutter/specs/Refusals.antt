@@ -88,7 +88,7 @@ report (Refused refusal) = Some refusal
 abbrev pub RefusesRightly : Contents → CutFault → Type 0
 RefusesRightly r fault = UnlessMemory (Says r) (report fault)
 
--- a point is told
+-- a point is reported
 abbrev pub HasPoint : CutFault → Type 0
 HasPoint (Refused (ParcelsOverlap first second at)) = ⊤
 HasPoint (Refused (PiecesOverlap first second at)) = ⊤

@@ -43,7 +43,7 @@ fn add_piece(cutter: &mut Cutter, parts: Parts, piece: &Piece) -> Result<Option<
     }
 }
 
-/// What is told of a piece that is not cut.
+/// What is reported of a piece that is not cut.
 fn no_cut(piece: &Piece) -> Result<Refusal, AllocError>
     ensures { IfOk result (λ refusal. refusal ≡ NoCut piece.now.id) }
 {
@@ -267,7 +267,7 @@ fn cut_release(alloc: Global, release: &Release) -> Result<Cert, CutFault>
 /// first, in order; then the first fault of which a point is found; then what shows no point.
 /// Pieces that are fans, with at most 2,000,000 points together, are all cut, and a parcel is
 /// refused without a point only where its edges have other net counts than those of its pieces. A
-/// release of which a point is told is not sound, so that no certificate is good for it.
+/// release of which a point is reported is not sound, so that no certificate is good for it.
 pub fn cut(alloc: Global, release: &Release) -> Result<Cert, CutFault>
     ensures tells { IfErr result (RefusesRightly release.now) }
     ensures unsound { IfErr result (λ e. HasPoint e → IsSoundEverywhere release.now → ⊥) }

@@ -1,4 +1,4 @@
-//! Points that show a fault, and edges that do, each tested on what it is told of right before.
+//! Points that show a fault, and edges that do, each tested right before it is reported.
 
 ghost use Rattle.std.specs.Prelude.{◌≡◌, ◌≢◌, ◌↔◌, ◌+◌, IfOk, IfSome, IsTrue, IsFalse};
 ghost use Rattle.lpis_points.specs.Plane.{same_point};

@@ -19,7 +19,7 @@ code_text code.EndingBesideSuccessor = codes "74"
 code_text code.NoRow = codes "75"
 code_text code.UsedBefore = codes "76"
 
--- the code of a fault; want of memory has none
+-- the code of a fault; out of memory has none
 abbrev pub code_of : LineageFault → Option LineageCode
 code_of Memory = None
 code_of (OldNotLive row) = Some code.OldNotLive

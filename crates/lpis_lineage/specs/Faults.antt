@@ -71,7 +71,7 @@ abbrev pub first : List LineageFault → Option LineageFault
 first [] = None
 first (f ∷ fs) = Some f
 
--- an answer tells the first of these faults, is Ok exactly where there is none, or wants memory
+-- an answer is the first of these faults, Ok exactly where there is none, or out of memory
 abbrev pub ReportsFirstOf : {A : Type 0} → List LineageFault → Result A LineageFault → Type 0
 ReportsFirstOf fs (Ok a) = fs ≡ []
 ReportsFirstOf fs (Err e) = (e ≡ Memory) ⊎ (first fs ≡ Some e)

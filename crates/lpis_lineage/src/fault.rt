@@ -75,7 +75,7 @@ pub enum LineageFault {
 }
 
 impl LineageFault {
-    /// Its code; `None` for want of memory.
+    /// Its code; `None` for out of memory.
     pub fn code(&self) -> Option<LineageCode>
         ensures { result ≡ code_of self.now }
     {
@@ -114,7 +114,7 @@ pub enum AddFault {
     /// Memory ran out.
     #[error("out of memory")]
     Memory,
-    /// The release's year is not above the year of the last one, which is told.
+    /// The release's year is not above the year of the last one, which is reported.
     #[error("last {last}")]
     Year { last: u16 },
     /// Its lineage is refused.

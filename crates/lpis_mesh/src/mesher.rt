@@ -100,7 +100,7 @@ impl Mesher {
     }
 }
 
-/// What was found, if it was; want of memory is no answer.
+/// What was found, if it was; out of memory is no answer.
 fn none_or_memory<T>(found: Result<T, Halt>) -> Result<Option<T>, AllocError> {
     match found {
         Ok(found) => Ok(Some(found)),

@@ -7,12 +7,12 @@ use Rattle.lpis_pairs.specs.private.Sweeping.{IsEvent, HasEvents}
 -- those of the triangles below n
 pub record EventsBelow (ts : List Triangle) (height : ℕ) (es : List Event) (n : ℕ) : Type 0 where
   pub only : AreEvents ts es
-  pub all : (i strip : ℕ) (t : Triangle) → i < n → slice_get ts i ≡ Some t → (extent_of t).bottom / height ≤ strip → strip ≤ (extent_of t).top / height → Contains es (event height t i strip)
+  pub all : (i strip : ℕ) (t : Triangle) → i < n → slice_get ts i ≡ Some t → (extent_of t).bottom / height ≤ strip → strip ≤ (extent_of t).top / height → Contains es (event t i strip)
 
 -- and those of the triangle n below a strip
 pub record EventsUpTo (ts : List Triangle) (height : ℕ) (es : List Event) (n upto : ℕ) : Type 0 where
   pub earlier : EventsBelow ts height es n
-  pub here : (strip : ℕ) (t : Triangle) → slice_get ts n ≡ Some t → (extent_of t).bottom / height ≤ strip → strip < upto → Contains es (event height t n strip)
+  pub here : (strip : ℕ) (t : Triangle) → slice_get ts n ≡ Some t → (extent_of t).bottom / height ≤ strip → strip < upto → Contains es (event t n strip)
 
 pub nothing_yet : (ts : List Triangle) (height : ℕ) (es : List Event) → es ≡ [] → EventsBelow ts height es 0
 nothing_yet ts height es e = record {
@@ -29,21 +29,21 @@ start_triangle ts height es n t at h = record {
 
 pub one_more : (ts : List Triangle) (height : ℕ) (es : List Event) (n strip : ℕ) (t : Triangle)
     → slice_get ts n ≡ Some t → EventsUpTo ts height es n strip
-    → EventsUpTo ts height (es ++ event height t n strip ∷ []) n (strip + 1)
+    → EventsUpTo ts height (es ++ event t n strip ∷ []) n (strip + 1)
 one_more ts height es n strip t at h = record {
   earlier = record {
-    only = All-push (IsEvent ts) es (event height t n strip) h.earlier.only (record { t = t; at = at; left = refl });
+    only = All-push (IsEvent ts) es (event t n strip) h.earlier.only (record { t = t; at = at; left = refl });
     all = λ i s u l f g k. Contains-append_left es _ _ (h.earlier.all i s u l f g k);
   };
   here = λ s u f l m. at_strip s u f l (grind arith);
 }
   where
-    at_strip : (s : ℕ) (u : Triangle) → slice_get ts n ≡ Some u → (extent_of u).bottom / height ≤ s → (s < strip) ⊎ (s ≡ strip) → Contains (es ++ event height t n strip ∷ []) (event height u n s)
+    at_strip : (s : ℕ) (u : Triangle) → slice_get ts n ≡ Some u → (extent_of u).bottom / height ≤ s → (s < strip) ⊎ (s ≡ strip) → Contains (es ++ event t n strip ∷ []) (event u n s)
     at_strip s u f l (inl m) = Contains-append_left es _ _ (h.here s u f l m)
     at_strip s u f l (inr e) =
         let same = same_Some t u (sym at ∙ f) in
-        let x : event height t n strip ≡ event height u n s = cc in
-        subst (λ (v : Event). Contains (es ++ event height t n strip ∷ []) v) x (Contains-push es (event height t n strip))
+        let x : event t n strip ≡ event u n s = cc in
+        subst (λ (v : Event). Contains (es ++ event t n strip ∷ []) v) x (Contains-push es (event t n strip))
 
 pub end_triangle : (ts : List Triangle) (height : ℕ) (es : List Event) (n upto : ℕ) (t : Triangle)
     → slice_get ts n ≡ Some t → (extent_of t).top / height + 1 ≤ upto → EventsUpTo ts height es n upto
@@ -53,11 +53,11 @@ end_triangle ts height es n upto t at k h = record {
   all = λ i s u l f g m. by_case i s u f g m (grind arith);
 }
   where
-    by_case : (i s : ℕ) (u : Triangle) → slice_get ts i ≡ Some u → (extent_of u).bottom / height ≤ s → s ≤ (extent_of u).top / height → (i < n) ⊎ (i ≡ n) → Contains es (event height u i s)
+    by_case : (i s : ℕ) (u : Triangle) → slice_get ts i ≡ Some u → (extent_of u).bottom / height ≤ s → s ≤ (extent_of u).top / height → (i < n) ⊎ (i ≡ n) → Contains es (event u i s)
     by_case i s u f g m (inl l) = h.earlier.all i s u l f g m
     by_case i s u f g m (inr e) =
         let f' : slice_get ts n ≡ Some u = subst (λ (v : ℕ). slice_get ts v ≡ Some u) e f in
-        subst (λ (v : ℕ). Contains es (event height u v s)) (sym e) (h.here s u f' g (omega (arith, ap (λ (v : Triangle). (extent_of v).top / height) (same_Some u t (sym f' ∙ at)))))
+        subst (λ (v : ℕ). Contains es (event u v s)) (sym e) (h.here s u f' g (omega (arith, ap (λ (v : Triangle). (extent_of v).top / height) (same_Some u t (sym f' ∙ at)))))
 
 pub whole : (ts : List Triangle) (height : ℕ) (es : List Event) (n : ℕ) → length ts ≤ n → EventsBelow ts height es n → HasEvents ts height es
 whole ts height es n l h = record {

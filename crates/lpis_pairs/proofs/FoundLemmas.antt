@@ -23,7 +23,7 @@ swapped : (a b : Bool) → (a || b) ≡ true → (b || a) ≡ true
 swapped a b e = grind arith
 
 at_strip : (ts : List Triangle) (height : ℕ) (before es : List Event) (ps : List (ℕ × ℕ)) → HasEvents ts height before
-    → IsPermutation before es → ((k m : ℕ) → k < m → Joins ts es ps k m) → (i j : ℕ) (n : IsNear ts i j) (s : ℕ)
+    → IsPermutation before es → ((k m : ℕ) → k < m → Joins ts height es ps k m) → (i j : ℕ) (n : IsNear ts i j) (s : ℕ)
     → (extent_of n.t).bottom / height ≤ s → s ≤ (extent_of n.t).top / height → (extent_of n.u).bottom / height ≤ s
     → s ≤ (extent_of n.u).top / height
     → (nat_eq s ((extent_of n.t).bottom / height) || nat_eq s ((extent_of n.u).bottom / height)) ≡ true → Contains ps (i, j)
@@ -32,20 +32,20 @@ at_strip ts height before es ps has moved join i j n s p q v w o = by_case (case
     m : Meet n.t n.u
     m = meet n.t n.u n.near
 
-    x : (k : ℕ) × (slice_get es k ≡ Some (event height n.t i s))
-    x = stands es (event height n.t i s) (Contains-permutation before es (event height n.t i s) moved (has.all i s n.t n.at_i p q))
+    x : (k : ℕ) × (slice_get es k ≡ Some (event n.t i s))
+    x = stands es (event n.t i s) (Contains-permutation before es (event n.t i s) moved (has.all i s n.t n.at_i p q))
 
-    y : (k : ℕ) × (slice_get es k ≡ Some (event height n.u j s))
-    y = stands es (event height n.u j s) (Contains-permutation before es (event height n.u j s) moved (has.all j s n.u n.at_j v w))
+    y : (k : ℕ) × (slice_get es k ≡ Some (event n.u j s))
+    y = stands es (event n.u j s) (Contains-permutation before es (event n.u j s) moved (has.all j s n.u n.at_j v w))
 
     by_case : (x.0 ≡ y.0) ⊎ ((x.0 < y.0) ⊎ (y.0 < x.0)) → Contains ps (i, j)
-    by_case (inr (inl l)) = (join x.0 y.0 l (event height n.t i s) (event height n.u j s) x.1 y.1 refl (rw n.at_i m.right) o).0 n
-    by_case (inr (inr l)) = (join y.0 x.0 l (event height n.u j s) (event height n.t i s) y.1 x.1 refl (rw n.at_j m.left)
-        (swapped (nat_eq s ((extent_of n.t).bottom / height)) (nat_eq s ((extent_of n.u).bottom / height)) o)).1 n
+    by_case (inr (inl l)) = (join x.0 y.0 l (event n.t i s) (event n.u j s) x.1 y.1 refl (rw n.at_i m.right) (rw (n.at_i, n.at_j) o)).0 n
+    by_case (inr (inr l)) = (join y.0 x.0 l (event n.u j s) (event n.t i s) y.1 x.1 refl (rw n.at_j m.left)
+        (rw (n.at_i, n.at_j) (swapped (nat_eq s ((extent_of n.t).bottom / height)) (nat_eq s ((extent_of n.u).bottom / height)) o))).1 n
     by_case (inl e) =
-        let g : slice_get es y.0 ≡ Some (event height n.t i s) = subst (λ (k : ℕ). slice_get es k ≡ Some (event height n.t i s)) e x.1 in
-        let f : Some (event height n.t i s) ≡ Some (event height n.u j s) = sym g ∙ y.1 in
-        let same : i ≡ j = ap (λ (v : Event). v.index) (same_Some (event height n.t i s) (event height n.u j s) f) in
+        let g : slice_get es y.0 ≡ Some (event n.t i s) = subst (λ (k : ℕ). slice_get es k ≡ Some (event n.t i s)) e x.1 in
+        let f : Some (event n.t i s) ≡ Some (event n.u j s) = sym g ∙ y.1 in
+        let same : i ≡ j = ap (λ (v : Event). v.index) (same_Some (event n.t i s) (event n.u j s) f) in
         absurd (omega (arith, n.rising))
 
 itself : (a b : ℕ) → (nat_eq b a || nat_eq b b) ≡ true
@@ -55,7 +55,7 @@ itself_first : (a b : ℕ) → (nat_eq a a || nat_eq a b) ≡ true
 itself_first a b = grind (arith, nat_tests)
 
 pub finds : (ts : List Triangle) (height : ℕ) (before es : List Event) (ps : List (ℕ × ℕ)) → 0 < height
-    → HasEvents ts height before → IsPermutation before es → ((k m : ℕ) → k < m → Joins ts es ps k m) → (i j : ℕ)
+    → HasEvents ts height before → IsPermutation before es → ((k m : ℕ) → k < m → Joins ts height es ps k m) → (i j : ℕ)
     → IsNear ts i j → Contains ps (i, j)
 finds ts height before es ps h has moved join i j n = by_case (split ((extent_of n.t).bottom / height) ((extent_of n.u).bottom / height))
   where

@@ -1,20 +1,19 @@
 -- Sorted events run strip by strip, and in a strip by where boxes begin.
 use Rattle.std.proofs.Common.{◌≡◌, ℕ, ◌<◌, ◌≤◌, false, List, Ordering, ◌⊎◌, ap₂, sym, ◌∙◌, arith, IsSorted, nat_cmp, is_lt}
 use Rattle.lpis_pairs.proofs.Common.{nat_tests, slice_get_within, get_or_from_slice_get, Event, AreInOrder}
-use Rattle.std.specs.Cmp.{IsTotalOrder, bool_cmp_total}
-use Rattle.std.specs.Ordering.{bool_cmp, ordering_then}
+use Rattle.std.specs.Cmp.{IsTotalOrder}
+use Rattle.std.specs.Ordering.{ordering_then}
 use Rattle.std.proofs.lemmas.Cmp.{nat_cmp_total, on_total, then_total}
 use Rattle.std.proofs.lemmas.List.Sorted.{ranks_by, sorted_far}
 
 -- the derived order of events
 abbrev pub event_cmp : Event → Event → Ordering
 event_cmp e f =
-    ordering_then (nat_cmp e.strip f.strip) (ordering_then (nat_cmp e.left f.left) (ordering_then (nat_cmp e.index f.index) (bool_cmp e.starts f.starts)))
+    ordering_then (nat_cmp e.strip f.strip) (ordering_then (nat_cmp e.left f.left) (nat_cmp e.index f.index))
 
 total : IsTotalOrder event_cmp
 total = then_total (on_total (λ (e : Event). e.strip) nat_cmp_total)
-    (then_total (on_total (λ (e : Event). e.left) nat_cmp_total)
-    (then_total (on_total (λ (e : Event). e.index) nat_cmp_total) (on_total (λ (e : Event). e.starts) bool_cmp_total)))
+    (then_total (on_total (λ (e : Event). e.left) nat_cmp_total) (on_total (λ (e : Event). e.index) nat_cmp_total))
 
 not_less : (s t a b : ℕ) (r : Ordering) → is_lt (ordering_then (nat_cmp t s) (ordering_then (nat_cmp b a) r)) ≡ false → (s < t) ⊎ ((s ≡ t) × (a ≤ b))
 not_less s t a b r e = grind (arith, nat_tests)

@@ -16,8 +16,19 @@ pub struct Event {
     pub left: u32,
     /// The number of the triangle.
     pub index: u32,
-    /// Whether this is the lowest strip that the box meets.
-    pub starts: bool,
+}
+
+/// How many events there are, so that there is room for them at once.
+fn event_count(triangles: &[Triangle], height: u32) -> usize
+    requires { 0 < height }
+{
+    let mut count: usize = 0;
+    for triangle in triangles {
+        let extent = extent_of(triangle);
+        let strips = (extent.top / height).saturating_sub(extent.bottom / height);
+        count = count.saturating_add(strips as usize).saturating_add(1);
+    }
+    count
 }
 
 /// An event for each triangle in each strip that its box meets.
@@ -30,16 +41,14 @@ pub fn events_of(
     requires strips { 0 < height }
     ensures { IfOk result (λ events. HasEvents triangles.now height events.items) }
 {
-    let mut events = Vec::new(alloc);
+    let mut events = Vec::with_capacity(alloc, event_count(triangles, height))?;
     for (i, triangle) in triangles.iter().enumerate() {
         let extent = extent_of(triangle);
-        let first = extent.bottom / height;
-        for strip in first..extent.top / height + 1 {
+        for strip in extent.bottom / height..extent.top / height + 1 {
             events.push(Event {
                 strip,
                 left: extent.left,
                 index: i as u32,
-                starts: strip == first,
             })?;
         }
     }

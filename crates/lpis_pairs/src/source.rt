@@ -13,7 +13,7 @@ pub const MOST_TRIANGLES: usize = 2_000_000;
 pub trait PairSource {
     /// All (i, j) with `i < j` whose triangles are not apart, and nothing else, ascending by i and
     /// then by j. Triangles are numbered from
-    /// 0. There may be none. The only error is a want of memory.
+    /// 0. There may be none. The only error is out of memory.
     fn pairs(&self, alloc: Global, triangles: &[Triangle]) -> Result<Vec<(u32, u32)>, AllocError>
         requires { length triangles.now ≤ most_triangles }
         ensures { IfOk result (λ pairs. IsNearList triangles.now pairs.items) };

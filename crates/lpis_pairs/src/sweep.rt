@@ -1,8 +1,10 @@
 //! A sweep over strips.
 
-ghost use Rattle.std.specs.Prelude.{◌≡◌, ◌↔◌, ℕ, ◌<◌, ◌||◌, IsTrue, Contains, IfOk, OnOk, length};
+ghost use Rattle.std.specs.Prelude.{◌≡◌, ◌↔◌, ℕ, ◌<◌, ◌||◌, IsTrue, Contains, IfOk, OnOk, Some, length};
 ghost use Rattle.lpis_pairs.specs.NearPairs.{IsNear};
 ghost use Rattle.lpis_pairs.specs.private.Sweeping.{AreEvents, AreInOrder, AreNear, Joins};
+ghost use Rattle.lpis_pairs.specs.private.Sweeping.{is_lowest as is_lowest_spec};
+ghost use Rattle.lpis_pairs.specs.private.Sweeping.{starts as starts_spec};
 
 use crate::events::{Event, events_of};
 use crate::extents::{extent_of, strip_height};
@@ -50,37 +52,59 @@ fn is_met(first: &Event, right: u32, second: &Event) -> bool
     first.strip == second.strip && second.left < right
 }
 
-/// Whether one of the two boxes starts in this strip: of the strips that both meet only the lowest.
-fn one_starts(first: &Event, second: &Event) -> bool
-    ensures { result ≡ (first.now.starts || second.now.starts) }
+/// Whether this strip is the lowest that the box of a triangle meets.
+fn is_lowest(triangle: &Triangle, height: u32, strip: u32) -> bool
+    requires { 0 < height }
+    ensures { result ≡ is_lowest_spec height (Some triangle.now) strip }
 {
-    first.starts || second.starts
+    strip == extent_of(triangle).bottom / height
+}
+
+/// Whether the box of an event starts in its strip.
+fn starts(triangles: &[Triangle], height: u32, event: &Event) -> bool
+    requires within { event.now.index < length triangles.now }
+    requires strips { 0 < height }
+    ensures { result ≡ starts_spec triangles.now height event.now }
+{
+    is_lowest(&triangles[event.index as usize], height, event.strip)
+}
+
+/// Whether one of two boxes starts in this strip: of the strips that both meet only the lowest.
+fn one_starts(triangles: &[Triangle], height: u32, first_starts: bool, second: &Event) -> bool
+    requires within { second.now.index < length triangles.now }
+    requires strips { 0 < height }
+    ensures { result ≡ (first_starts || starts_spec triangles.now height second.now) }
+{
+    first_starts || starts(triangles, height, second)
 }
 
 /// Adds the near pairs of an event and those behind it in its strip, up to the first that begins
 /// where its box has ended.
 fn join_ahead(
     triangles: &[Triangle],
+    height: u32,
     events: &[Event],
     at: usize,
     pairs: &mut Vec<(u32, u32)>,
 ) -> Result<(), AllocError>
     requires within { at < length events.now }
+    requires strips { 0 < height }
     requires events { AreEvents triangles.now events.now }
     requires order { AreInOrder events.now }
     ensures kept { (pair : ℕ × ℕ) → Contains pairs.old.items pair → Contains pairs.new.items pair }
     ensures near { AreNear triangles.now pairs.old.items → AreNear triangles.now pairs.new.items }
-    ensures found { OnOk result ((m : ℕ) → at < m → Joins triangles.now events.now pairs.new.items
-        at m) }
+    ensures found { OnOk result ((m : ℕ) → at < m → Joins triangles.now height events.now
+        pairs.new.items at m) }
 {
     let first = &events[at];
     let right = extent_of(&triangles[first.index as usize]).right;
+    let first_starts = starts(triangles, height, first);
     for m in at + 1..events.len() {
         let second = &events[m];
         if !is_met(first, right, second) {
             return Ok(());
         }
-        if one_starts(first, second) {
+        if one_starts(triangles, height, first_starts, second) {
             push_near(triangles, first.index, second.index, pairs)?;
         }
     }
@@ -91,26 +115,29 @@ fn join_ahead(
 fn join(
     alloc: Global,
     triangles: &[Triangle],
+    height: u32,
     events: &[Event],
 ) -> Result<Vec<(u32, u32)>, AllocError>
+    requires strips { 0 < height }
     requires events { AreEvents triangles.now events.now }
     requires order { AreInOrder events.now }
     ensures near { IfOk result (λ pairs. AreNear triangles.now pairs.items) }
-    ensures found { IfOk result (λ pairs. (k m : ℕ) → k < m → Joins triangles.now events.now
+    ensures found { IfOk result (λ pairs. (k m : ℕ) → k < m → Joins triangles.now height events.now
         pairs.items k m) }
 {
     let mut pairs = Vec::new(alloc);
     for at in 0..events.len() {
-        join_ahead(triangles, events, at, &mut pairs)?;
+        join_ahead(triangles, height, events, at, &mut pairs)?;
     }
     Ok(pairs)
 }
 
 impl PairSource for Sweep {
     fn pairs(&self, alloc: Global, triangles: &[Triangle]) -> Result<Vec<(u32, u32)>, AllocError> {
-        let mut events = events_of(alloc, triangles, strip_height(triangles))?;
+        let height = strip_height(triangles);
+        let mut events = events_of(alloc, triangles, height)?;
         events.sort_unstable();
-        let pairs = join(alloc, triangles, &events)?;
+        let pairs = join(alloc, triangles, height, &events)?;
         Ok(in_order(pairs))
     }
 }

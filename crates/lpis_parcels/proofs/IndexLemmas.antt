@@ -1,7 +1,8 @@
 -- The indices of a parcel's pieces, and what stands there.
 use Rattle.std.proofs.Common.{◌≡◌, ◌≤◌, ◌<◌, ◌+◌, ◌++◌, ◌∷◌, [], ℕ, zero, suc, List, length, map, get_or, filter, Bool, true, false, cond, Option, Some, refl, sym, ap, subst, ◌∙◌, arith, append_assoc}
 use Rattle.std.proofs.Common.{All, slice_get}
-use Rattle.lpis_parcels.proofs.Common.{Class, Piece, Parcel, indices_where, Contents, names, reference_faults}
+use Rattle.lpis_parcels.proofs.Common.{Class, Piece, indices_where, Contents, names, reference_faults}
+use Rattle.lpis_parcels.specs.declared.parcel.Parcel.{Parcel}
 use Rattle.std.proofs.lemmas.List.{length-append}
 use Rattle.std.proofs.lemmas.Slice.Eq.{bytes_eq-Decides}
 use Rattle.lpis_covers.specs.declared.fault.TableFault.{TableFault}
@@ -54,13 +55,7 @@ few-indices test xs indices e = rw e (indices-few test 0 xs)
 pub within-indices : {A : Type 0} (test : A → Bool) (xs : List A) (indices : List ℕ) → indices ≡ indices_where test 0 xs → All (λ i. i < length xs) indices
 within-indices test xs indices e = rw e (indices-within test 0 (length xs) xs (omega arith))
 
--- the group of the parcel with an identifier
-pub group-is : (parcels : List Parcel) (F : List ℕ → List ℕ) (id : List ℕ) (k : ℕ) → slice_get (parcel_ids parcels) k ≡ Some id → get_or (map (λ (p : Parcel). F p.id) parcels) k [] ≡ F id
-group-is [] F id k at = cc at
-group-is (p ∷ ps) F id zero at = let is : p.id ≡ id = cc at in ap F is
-group-is (p ∷ ps) F id (suc k) at = group-is ps F id k at
-
--- a stranger has no pieces
+-- an identifier that is no parcel's has no pieces
 none-left : (a b : List TableFault) → a ++ b ≡ [] → a ≡ []
 none-left [] b h = refl
 none-left (x ∷ xs) b h = cc h
@@ -75,12 +70,12 @@ known parcels classes n p h = by (has_id (parcel_ids parcels) p.parcel) refl whe
   by true e = e
   by false e = cc (rw e at h)
 
-pub stranger-none : (parcels : List Parcel) (classes : List Class) (n i : ℕ) (pieces : List Piece) (id : List ℕ)
+pub absent-none : (parcels : List Parcel) (classes : List Class) (n i : ℕ) (pieces : List Piece) (id : List ℕ)
     → reference_faults parcels classes n pieces ≡ [] → has_id (parcel_ids parcels) id ≡ false
     → indices_where (names id) i pieces ≡ []
-stranger-none parcels classes n i [] id h s = refl
-stranger-none parcels classes n i (p ∷ ps) id h s =
-    let more = stranger-none parcels classes (n + 1) (i + 1) ps id (none-right (unknown_faults parcels classes n p) _ h) s in
+absent-none parcels classes n i [] id h s = refl
+absent-none parcels classes n i (p ∷ ps) id h s =
+    let more = absent-none parcels classes (n + 1) (i + 1) ps id (none-right (unknown_faults parcels classes n p) _ h) s in
     let other : names id p ≡ false = by (names id p) refl (known parcels classes n p (none-left _ _ h)) in
     rw other more
   where
@@ -120,9 +115,3 @@ pub mark-of-index : (held c : Contents) (indices : List ℕ) (i j : ℕ) (piece 
 mark-of-index held c indices i j piece found same e at is there =
     let class = class-of-index held.classes indices held.pieces i j piece e (rw same at) is in
     ap eligible_mark (sym there ∙ class) ∙ ap (λ (r : Contents). is_eligible r.classes piece) same
-
-pub group-indices : (held c : Contents) (groups : List (List ℕ)) (id : List ℕ) (k : ℕ) → held ≡ c
-    → groups ≡ map (λ (p : Parcel). indices_where (names p.id) 0 held.pieces) held.parcels → slice_get (parcel_ids held.parcels) k ≡ Some id
-    → get_or groups k [] ≡ indices_where (names id) 0 c.pieces
-group-indices held c groups id k same e at =
-    ap (λ (gs : List (List ℕ)). get_or gs k []) e ∙ group-is held.parcels (λ id. indices_where (names id) 0 held.pieces) id k at ∙ ap (λ (r : Contents). indices_where (names id) 0 r.pieces) same

@@ -1,20 +1,23 @@
 -- The joins, a row at a time.
-use Rattle.std.proofs.Common.{◌≡◌, ◌<◌, ◌+◌, ◌++◌, ◌∷◌, [], ℕ, zero, suc, List, length, map, take, drop, get_or, set, replicate, Bool, true, false, not, cond, Option, Some, None, Ok, Err, refl, sym}
+use Rattle.std.proofs.Common.{◌≡◌, ◌<◌, ◌+◌, ◌-◌, ◌++◌, ◌∷◌, [], ℕ, zero, suc, List, length, filter, map, take, drop, ◌==◌, Bool, true, false, not, cond, Option, Some, None, Ok, Err, refl, sym}
 use Rattle.std.proofs.Common.{ap, ◌∙◌, arith, add-one, drop-cons, ◌||◌, is_some, slice_get}
-use Rattle.lpis_parcels.proofs.Common.{Class, Piece, Parcel, indices_where, names, reference_faults}
+use Rattle.lpis_parcels.proofs.Common.{Class, Join, Piece, indices_where, joined_pieces, names, reference_faults}
+use Rattle.lpis_parcels.proofs.GroupLemmas.{group-more}
 use Rattle.std.specs.List.{IsDistinct, list_any, AllByRecursion}
-use Rattle.std.proofs.lemmas.List.{length-map, map-append, take_more, length-take-le, get_or-map}
+use Rattle.std.proofs.lemmas.List.{map-append, take_more, length-take-le}
 use Rattle.std.proofs.lemmas.Option.{slice_get_within, get_or_from_slice_get}
 use Rattle.lpis_covers.proofs.Shared.{column-fault}
 use Rattle.lpis_parcels.specs.private.Joined.{AreJoins}
 use Rattle.std.proofs.lemmas.Slice.Eq.{bytes_eq-Decides}
 use Rattle.lpis_covers.specs.declared.fault.TableFault.{TableFault}
-use Rattle.lpis_covers.specs.declared.fault.TableCode.TheVariants.{UnknownParcel, UnknownClass, ParcelWithoutPieces}
-use Rattle.lpis_covers.specs.Faults.{fault_if, unless_faulty}
+use Rattle.lpis_covers.specs.declared.fault.TableCode.TheVariants.{UnknownParcel, UnknownClass}
+use Rattle.lpis_covers.specs.Faults.{unless_faulty}
 use Rattle.lpis_covers.specs.Ids.{has_id, same_id}
 use Rattle.lpis_covers.specs.Table.{fault_at}
 use Rattle.lpis_parcels.specs.Eligible.{class_named}
-use Rattle.lpis_parcels.specs.private.Groups.{Refuses, empty_faults, is_nil}
+use Rattle.lpis_parcels.specs.private.Groups.{Refuses, empty_faults, group_at, is_nil, is_of}
+use Rattle.lpis_parcels.specs.declared.parcel.Parcel.{Parcel}
+use Rattle.std.proofs.lemmas.Bool.Decides.{nat_tests}
 use Rattle.lpis_parcels.specs.Release.{class_codes, parcel_faults, parcel_ids, unknown_faults}
 use Rattle.lpis_covers.specs.declared.fault.Table.TheVariants as table
 
@@ -48,40 +51,21 @@ none-unknown parcels classes n piece o p k j found some there also =
     let known : has_id (class_codes classes) piece.class ≡ true = sym there ∙ ap is_some also in
     rw (present, known) refl
 
--- groups of no pieces
-pub no-indices : {A B : Type 0} (test : A → B → Bool) (xs : List A) → map (λ x. indices_where (test x) 0 []) xs ≡ map (λ _. []) xs
-no-indices test [] = refl
-no-indices test (x ∷ xs) = ap (λ (l : List (List ℕ)). [] ∷ l) (no-indices test xs)
-
 -- the index of the identifier of one item only
 other-ids : (id x : List ℕ) (ids : List (List ℕ)) (k : ℕ) → AllByRecursion (λ (y : List ℕ). same_id id y ≡ false) ids → slice_get ids k ≡ Some x → same_id id x ≡ false
 other-ids id x [] k h e = cc e
 other-ids id x (y ∷ ys) zero h e = let s : y ≡ x = cc e in rw (← s) h.0
 other-ids id x (y ∷ ys) (suc k) h e = other-ids id x ys k h.1 e
 
--- one piece more, whose parcel is at index k
-abbrev grown : List ℕ → List ℕ → ℕ → List ℕ → List ℕ
-grown id x i group = cond (same_id id x) (group ++ i ∷ []) group
-
-unchanged : (parcels : List Parcel) (F : List ℕ → List ℕ) (x : List ℕ) (i : ℕ) → AllByRecursion (λ (y : List ℕ). same_id x y ≡ false) (parcel_ids parcels)
-    → map (λ (p : Parcel). F p.id) parcels ≡ map (λ (p : Parcel). grown p.id x i (F p.id)) parcels
-unchanged [] F x i h = refl
-unchanged (p ∷ ps) F x i h =
-    let other : same_id p.id x ≡ false = same-sym-false x p.id h.0 in
-    let here : F p.id ≡ grown p.id x i (F p.id) = rw other refl in
-    ap (λ (g : List ℕ). g ∷ map (λ (p : Parcel). F p.id) ps) here ∙ ap (λ (l : List (List ℕ)). grown p.id x i (F p.id) ∷ l) (unchanged ps F x i h.1)
-
-pub group-grown : (parcels : List Parcel) (F : List ℕ → List ℕ) (x : List ℕ) (k i : ℕ) → IsDistinct same_id (parcel_ids parcels) → slice_get (parcel_ids parcels) k ≡ Some x
-    → set (map (λ (p : Parcel). F p.id) parcels) k (get_or (map (λ (p : Parcel). F p.id) parcels) k [] ++ i ∷ []) ≡ map (λ (p : Parcel). grown p.id x i (F p.id)) parcels
+same-index : (ids : List (List ℕ)) (k m : ℕ) (x y : List ℕ) → IsDistinct same_id ids → slice_get ids k ≡ Some x → slice_get ids m ≡ Some y → same_id y x ≡ (k == m)
 unfolding IsDistinct
-group-grown [] F x k i d e = cc e
-group-grown (p ∷ ps) F x zero i d e =
-    let is : p.id ≡ x = cc e in
-    let same : same_id p.id x ≡ true = rw (← is) ((bytes_eq-Decides p.id p.id).1 refl) in
-    rw same (ap (λ (l : List (List ℕ)). (F p.id ++ i ∷ []) ∷ l) (unchanged ps F x i (rw is at d.0)))
-group-grown (p ∷ ps) F x (suc k) i d e =
-    let other : same_id p.id x ≡ false = other-ids p.id x (parcel_ids ps) k d.0 e in
-    rw other (ap (λ (l : List (List ℕ)). F p.id ∷ l) (group-grown ps F x k i d.1 e))
+same-index [] k m x y d e f = cc e
+same-index (z ∷ zs) zero zero x y d e f = let one : y ≡ x = cc (e, f) in (bytes_eq-Decides y x).1 one ∙ grind (arith, nat_tests)
+same-index (z ∷ zs) zero (suc m) x y d e f =
+    let is : z ≡ x = cc e in
+    same-sym-false x y (rw is at (other-ids z y zs m d.0 f)) ∙ grind (arith, nat_tests)
+same-index (z ∷ zs) (suc k) zero x y d e f = let is : z ≡ y = cc f in rw is at (other-ids z x zs k d.0 e) ∙ grind (arith, nat_tests)
+same-index (z ∷ zs) (suc k) (suc m) x y d e f = same-index zs k m x y d.1 e f ∙ grind (arith, nat_tests)
 
 -- the indices with one item more
 indices-more : {A : Type 0} (test : A → Bool) (i : ℕ) (xs : List A) (x : A)
@@ -110,10 +94,6 @@ class-at (k ∷ ks) code (suc j) d e =
     let other : same_id code k.code ≡ false = same-sym-false k.code code (other-ids k.code code (class_codes ks) j d.0 e) in
     rw other (class-at ks code j d.1 e)
 
-map-same : {A B : Type 0} (f g : A → B) (xs : List A) → ((x : A) → f x ≡ g x) → map f xs ≡ map g xs
-map-same f g [] h = refl
-map-same {B = B} f g (x ∷ xs) h = ap (λ (y : B). y ∷ map f xs) (h x) ∙ ap (λ (l : List B). g x ∷ l) (map-same f g xs h)
-
 take-more : {A : Type 0} (xs : List A) (i : ℕ) (x : A) → slice_get xs i ≡ Some x → take (i + 1) xs ≡ take i xs ++ x ∷ []
 take-more {A} xs i x e = take_more xs i x (slice_get_within xs i x e) ∙ ap (λ (y : A). take i xs ++ y ∷ []) (get_or_from_slice_get xs i x x e)
 
@@ -124,32 +104,36 @@ pub drop-at : {A : Type 0} (xs : List A) (i : ℕ) (x : A) → slice_get xs i �
 drop-at {A} xs i x e = rw add-one (drop-cons xs i x (slice_get_within xs i x e) ∙ ap (λ (y : A). y ∷ drop (suc i) xs) (get_or_from_slice_get xs i x x e))
 
 -- no piece joined yet
-pub joins-none : (parcels : List Parcel) (classes : List Class) (groups : List (List ℕ)) → groups ≡ replicate (length parcels) [] → AreJoins parcels [] classes groups []
-joins-none parcels classes groups e = record { groups_are = e ∙ by parcels; classes_are = refl } where
-  by : (ps : List Parcel) → replicate (length ps) [] ≡ map (λ (p : Parcel). indices_where (names p.id) 0 []) ps
-  by [] = refl
-  by (p ∷ ps) = ap (λ (l : List (List ℕ)). [] ∷ l) (by ps)
+pub joins-none : (parcels : List Parcel) (classes : List Class) → AreJoins parcels [] classes [] []
+joins-none parcels classes = record { groups_are = λ k id e. refl; classes_are = refl }
 
 -- one piece more
-pub joins-more : (parcels : List Parcel) (pieces : List Piece) (classes : List Class) (groups after : List (List ℕ)) (indices indices_after : List ℕ) (i k j : ℕ) (piece : Piece)
+pub joins-more : (parcels : List Parcel) (pieces : List Piece) (classes : List Class) (joins after : List Join) (indices indices_after : List ℕ) (i k j : ℕ) (piece : Piece)
     → IsDistinct same_id (parcel_ids parcels) → IsDistinct same_id (class_codes classes)
     → slice_get pieces i ≡ Some piece → slice_get (parcel_ids parcels) k ≡ Some piece.parcel → slice_get (class_codes classes) j ≡ Some piece.class
-    → AreJoins parcels (take i pieces) classes groups indices
-    → after ≡ set groups k (get_or groups k [] ++ i ∷ []) → indices_after ≡ indices ++ j ∷ []
+    → AreJoins parcels (take i pieces) classes joins indices
+    → after ≡ joins ++ record { parcel = k; piece = i } ∷ [] → indices_after ≡ indices ++ j ∷ []
     → AreJoins parcels (take (i + 1) pieces) classes after indices_after
-joins-more parcels pieces classes groups after indices indices_after i k j piece d e at parcel class h is also =
+joins-more parcels pieces classes joins after indices indices_after i k j piece d e at parcel class h is also =
     let n : 0 + length (take i pieces) ≡ i = omega (arith, length-taken pieces i piece at) in
-    let F : List ℕ → List ℕ = λ id. indices_where (names id) 0 (take i pieces) in
-    let each : (p : Parcel) → grown p.id piece.parcel i (F p.id) ≡ indices_where (names p.id) 0 (take (i + 1) pieces) =
-    λ p. sym (ap (λ (ps : List Piece). indices_where (names p.id) 0 ps) (take-more pieces i piece at) ∙ indices-more (names p.id) 0 (take i pieces) piece
-    ∙ ap (λ (m : ℕ). cond (names p.id piece) (F p.id ++ m ∷ []) (F p.id)) n) in
     record {
-      groups_are = is ∙ ap (λ (gs : List (List ℕ)). set gs k (get_or gs k [] ++ i ∷ [])) h.groups_are ∙ group-grown parcels F piece.parcel k i d parcel ∙ map-same _ _ parcels each;
+      groups_are = λ m id there.
+          let F = indices_where (names id) 0 (take i pieces) in
+          ap (λ (js : List Join). group_at js m) is ∙ group-more joins (record { parcel = k; piece = i }) m
+          ∙ sym (ap (indices_where (names id) 0) (take-more pieces i piece at) ∙ indices-more (names id) 0 (take i pieces) piece
+          ∙ ap (λ (l : ℕ). cond (names id piece) (F ++ l ∷ []) F) n
+          ∙ ap (λ (b : Bool). cond b (F ++ i ∷ []) F) (same-index (parcel_ids parcels) k m piece.parcel id d parcel there)
+          ∙ ap (λ (G : List ℕ). cond (k == m) (G ++ i ∷ []) G) (sym (h.groups_are m id there)));
       classes_are = ap (map (slice_get classes)) also ∙ map-append (slice_get classes) indices (j ∷ [])
           ∙ ap (λ (l : List (Option Class)). l ++ slice_get classes j ∷ []) h.classes_are
           ∙ ap (λ (o : Option Class). map (λ (p : Piece). class_named classes p.class) (take i pieces) ++ o ∷ []) (class-at classes piece.class j e class)
           ∙ sym (ap (map (λ (p : Piece). class_named classes p.class)) (take-more pieces i piece at) ∙ map-append (λ (p : Piece). class_named classes p.class) (take i pieces) (piece ∷ []));
     }
+
+-- the same in the order of the parcels
+pub joins-sorted : (parcels : List Parcel) (pieces : List Piece) (classes : List Class) (joins groups : List Join) (indices : List ℕ) → AreJoins parcels pieces classes joins indices
+    → ((k : ℕ) → group_at groups k ≡ group_at joins k) → AreJoins parcels pieces classes groups indices
+joins-sorted parcels pieces classes joins groups indices h same = record { groups_are = λ k id e. same k ∙ h.groups_are k id e; classes_are = h.classes_are }
 
 -- the faults of the pieces, one further
 pub pieces-more : (parcels : List Parcel) (classes : List Class) (n i : ℕ) (pieces : List Piece) (piece : Piece) → slice_get pieces i ≡ Some piece → unknown_faults parcels classes n piece ≡ []
@@ -170,27 +154,34 @@ nil-indices test i (x ∷ xs) = by (test x) (indices_where test (i + 1) xs) (lis
   by true indices any h = refl
   by false indices any h = h
 
-pub empty-groups : (pieces : List Piece) (n : ℕ) (parcels : List Parcel) → empty_faults n (map (λ (p : Parcel). indices_where (names p.id) 0 pieces) parcels) ≡ parcel_faults pieces n parcels
-empty-groups pieces n [] = refl
-empty-groups pieces n (p ∷ ps) =
-    ap (λ (b : Bool). fault_if b (fault_at ParcelWithoutPieces table.Parcels n)
-    ++ empty_faults (n + 1) (map (λ (p : Parcel). indices_where (names p.id) 0 pieces) ps))
-    (nil-indices (names p.id) 0 pieces)
-    ∙ ap (λ (fs : List TableFault). fault_if (not (list_any (names p.id) pieces)) (fault_at ParcelWithoutPieces table.Parcels n) ++ fs) (empty-groups pieces (n + 1) ps)
+empty-groups : (joins : List Join) (pieces : List Piece) (k : ℕ) (parcels : List Parcel)
+    → ((m : ℕ) (id : List ℕ) → slice_get (parcel_ids parcels) m ≡ Some id → group_at joins (k + m) ≡ indices_where (names id) 0 pieces)
+    → empty_faults joins k (length parcels) ≡ parcel_faults pieces (k + 1) parcels
+empty-groups joins pieces k [] h = refl
+empty-groups joins pieces k (p ∷ ps) h =
+    let here : k + 0 ≡ k = omega arith in
+    let group : group_at joins k ≡ indices_where (names p.id) 0 pieces = rw here at (h 0 p.id refl) in
+    let empty : is_nil (group_at joins k) ≡ not (list_any (names p.id) pieces) = ap is_nil group ∙ nil-indices (names p.id) 0 pieces in
+    let others = empty-groups joins pieces (k + 1) ps (λ m id e. let next : k + 1 + m ≡ k + suc m = omega arith in ap (group_at joins) next ∙ h (suc m) id e) in
+    rw (empty, others) refl
 
--- an item of lists, and a list changed in one item
-pub list-at : {A : Type 0} (f : A → List ℕ) (xs : List A) (k : ℕ) (x : A) → k < length xs → x ≡ get_or xs k x → get_or (map f xs) k [] ≡ f x
-list-at f xs k x lt e = get_or-map f xs k x [] lt ∙ ap f (sym e)
+pub some-found : (joins found : List Join) (k : ℕ) → found ≡ filter (is_of k) joins → (length found == 0) ≡ false → is_nil (group_at joins k) ≡ false
+some-found joins found k e h = rw (← e) (by found h) where
+  by : (found : List Join) → (length found == 0) ≡ false → is_nil (joined_pieces found) ≡ false
+  by [] h = absurd (let e : (0 == 0) ≡ true = grind (arith, nat_tests) in cc)
+  by (j ∷ js) h = refl
 
-pub group-within : (parcels : List Parcel) (F : Parcel → List ℕ) (groups : List (List ℕ)) (x : List ℕ) (k : ℕ) → groups ≡ map F parcels → slice_get (parcel_ids parcels) k ≡ Some x → k < length groups
-group-within parcels F groups x k e at = omega (arith, ap length e, slice_get_within (parcel_ids parcels) k x at, length-map parcels F, length-map parcels (λ (p : Parcel). p.id))
+pub groups-next : (joins : List Join) (k count : ℕ) → k < count → is_nil (group_at joins k) ≡ false → empty_faults joins k (count - k) ≡ empty_faults joins (k + 1) (count - (k + 1))
+groups-next joins k count lt h =
+    let n : count - k ≡ suc (count - (k + 1)) = omega arith in
+    ap (empty_faults joins k) n ∙ rw h refl
 
 pub told-none : (fs : List TableFault) → unless_faulty {A = Unit {0}} fs (tt {0}) ≡ Ok (tt {0}) → fs ≡ []
 told-none [] h = refl
 told-none (f ∷ fs) h = cc h
 
 -- the faults of the groups are those of the parcels
-pub groups-faults : (parcels : List Parcel) (pieces : List Piece) (classes : List Class) (held groups : List (List ℕ)) (indices : List ℕ)
-    → held ≡ groups → AreJoins parcels pieces classes groups indices
-    → empty_faults 1 held ≡ parcel_faults pieces 1 parcels
-groups-faults parcels pieces classes held groups indices same joins = ap (empty_faults 1) (same ∙ joins.groups_are) ∙ empty-groups pieces 1 parcels
+pub groups-faults : (parcels : List Parcel) (pieces : List Piece) (classes : List Class) (groups : List Join) (indices : List ℕ) (count : ℕ) → AreJoins parcels pieces classes groups indices
+    → count ≡ length parcels → empty_faults groups 0 count ≡ parcel_faults pieces 1 parcels
+groups-faults parcels pieces classes groups indices count h e =
+    ap (empty_faults groups 0) e ∙ empty-groups groups pieces 0 parcels (λ m id at. let first : 0 + m ≡ m = omega arith in ap (group_at groups) first ∙ h.groups_are m id at)

@@ -33,8 +33,8 @@ pub fn eligible2(release: &Release, parcel: &Id) -> i128
     // They are not too many for the sum.
     let _ = release.pieces();
     let mut sum = 0;
-    for index in release.indices_of(parcel) {
-        sum += eligible_part(release, *index as usize);
+    for join in release.joins_of(parcel) {
+        sum += eligible_part(release, join.piece as usize);
     }
     sum
 }

@@ -1,69 +1,55 @@
-//! Lists of indices, one behind the other in one list.
+//! The pieces of each parcel, by index.
 
-ghost use Rattle.std.specs.Prelude.{◌≡◌, ◌<◌, ◌++◌, ◌∷◌, [], IfOk, OnOk, length, slice_index_or};
-ghost use Rattle.lpis_parcels.specs.private.Joined.{group_lists};
+ghost use Rattle.std.specs.Prelude.{◌≡◌, ℕ, IfOk, filter};
+ghost use Rattle.lpis_parcels.specs.private.Groups.{group_at, is_of};
 
-use std::alloc::{AllocError, Global};
+use std::alloc::AllocError;
 use std::marker::Model;
 
-/// Where a group begins in the list of all indices, and where it ends.
+/// A piece and its parcel, by their indices.
 #[derive(Clone, Copy, Debug)]
-struct Bounds {
-    start: usize,
-    end: usize,
+pub(crate) struct Join {
+    pub parcel: u32,
+    pub piece: u32,
 }
 
-/// Groups of indices. They stand one behind the other in one list, since a list for each takes some
-/// three times the room. Contracts see them as lists.
+/// The joins of a release by their parcels, those of one parcel in the order of the pieces.
+/// Contracts see their list.
 #[derive(Drop)]
 pub(crate) struct Groups {
-    indices: Vec<u32>,
-    bounds: Vec<Bounds>,
+    joins: Vec<Join>,
 }
 
 impl Model for Groups {
-    ghost use Rattle.std.specs.Prelude.{All, List, ℕ};
-    ghost use Rattle.lpis_parcels.specs.private.Groups.{IsWithin, groups_in};
+    ghost use Rattle.std.specs.Prelude.{List};
+    ghost use Rattle.std.specs.List.Sorted.{IsNonDecreasingBy};
+    ghost use Rattle.lpis_parcels.specs.declared.groups.Join.{Join};
 
-    ghost Value = { List (List ℕ) };
+    ghost Value = { List Join };
 
-    ghost view = { λ g. groups_in g.indices.items g.bounds.items };
+    ghost view = { λ g. g.joins.items };
 
-    ghost invariant = { λ g. All (IsWithin g.indices.items) g.bounds.items };
+    ghost invariant = { λ g. IsNonDecreasingBy (λ j. j.parcel) g.joins.items };
 }
 
 impl Groups {
-    /// The same groups in one list.
-    pub(crate) fn of(alloc: Global, lists: &[Vec<u32>]) -> Result<Groups, AllocError>
-        ensures { IfOk result (λ groups. groups ≡ group_lists lists.now) }
+    /// The groups of these joins.
+    pub(crate) fn of(mut joins: Vec<Join>) -> Result<Groups, AllocError>
+        ensures { IfOk result (λ groups. (k : ℕ) → group_at groups k ≡ group_at joins.items k) }
     {
-        let mut groups = Groups {
-            indices: Vec::new(alloc),
-            bounds: Vec::with_capacity(alloc, lists.len())?,
-        };
-        for list in lists {
-            groups.add(list.as_slice())?;
-        }
-        Ok(groups)
+        joins.sort_by_key(|join| join.parcel)?;
+        Ok(Groups { joins })
     }
 
-    /// Adds a group behind the others.
-    fn add(&mut self, group: &[u32]) -> Result<(), AllocError>
-        ensures { OnOk result (self.new ≡ self.old ++ group.now ∷ []) }
+    /// The joins of the parcel at an index. They are found by halving.
+    pub(crate) fn get(&self, parcel: usize) -> &[Join]
+        ensures { result.now ≡ filter (is_of parcel) self.now }
     {
-        let start = self.indices.len();
-        self.indices.extend_from_slice(group)?;
-        let end = self.indices.len();
-        self.bounds.push(Bounds { start, end })?;
-        Ok(())
-    }
-
-    /// The group at an index.
-    pub(crate) fn get(&self, group: usize) -> &[u32]
-        requires { group < length self.now }
-        ensures { result.now ≡ slice_index_or self.now group [] }
-    {
-        let Bounds { start, end } = self.bounds[group];
-        &self.indices[start..end]
+        let start = self
+            .joins
+            .partition_point(|join| (join.parcel as usize) < parcel);
+        let rest = &self.joins[start..];
+        let count = rest.partition_point(|join| join.parcel as usize == parcel);
+        &rest[..count]
     }
 }

@@ -1,8 +1,6 @@
 //! The joins of a release's tables.
 
-ghost use Rattle.std.specs.Prelude.{◌≡◌, ◌<◌, ◌≤◌, ◌++◌, ◌∷◌, [], Some, IfOk, IfErr, OnOk};
-ghost use Rattle.std.specs.Prelude.{length, replicate, slice_get, slice_index_or, slice_set};
-ghost use Rattle.std.specs.Prelude.{vec_len};
+ghost use Rattle.std.specs.Prelude.{◌≡◌, ◌≤◌, [], Some, IfOk, IfErr, length, slice_get};
 ghost use Rattle.std.specs.List.{IsDistinct};
 ghost use Rattle.lpis_covers.specs.Faults.{unless_faulty};
 ghost use Rattle.lpis_covers.specs.Ids.{same_id};
@@ -11,14 +9,14 @@ ghost use Rattle.lpis_parcels.specs.Release.{class_codes, join_faults, parcel_id
 ghost use Rattle.lpis_parcels.specs.Release.{reference_faults};
 ghost use Rattle.lpis_parcels.specs.Release.{unknown_faults};
 ghost use Rattle.lpis_parcels.specs.private.Groups.{Refuses, empty_faults};
-ghost use Rattle.lpis_parcels.specs.private.Joined.{AreJoins, group_lists};
+ghost use Rattle.lpis_parcels.specs.private.Joined.{AreJoins};
 
-use crate::groups::Groups;
+use crate::groups::{Groups, Join};
 use crate::parcel::Parcels;
-use lpis_covers::{Classes, Piece, Pieces, Table, TableCode, TableFault};
-use std::alloc::{AllocError, Global};
+use lpis_covers::{Classes, Piece, Table, TableCode, TableFault};
+use std::alloc::Global;
 
-/// The indices of each parcel's pieces, and of each piece's class.
+/// The pieces of each parcel, and the index of each piece's class.
 #[derive(Drop)]
 pub(crate) struct Joins {
     pub groups: Groups,
@@ -28,7 +26,7 @@ pub(crate) struct Joins {
 /// The same while the pieces are gone over.
 #[derive(Drop)]
 struct Gathered {
-    groups: Vec<Vec<u32>>,
+    joins: Vec<Join>,
     classes: Vec<usize>,
 }
 
@@ -50,7 +48,7 @@ fn joined_indices(
     classes: &Classes,
     piece: &Piece,
     row: u32,
-) -> Result<(usize, usize), TableFault>
+) -> Result<(u32, usize), TableFault>
     ensures none { IfOk result (λ _. unknown_faults parcels.now classes.now row piece.now ≡ []) }
     ensures parcel { IfOk result (λ r. slice_get (parcel_ids parcels.now) r.0 ≡ Some
         piece.now.parcel) }
@@ -64,77 +62,64 @@ fn joined_indices(
     let Some(class) = classes.position(&piece.class) else {
         return Err(fault(TableCode::UnknownClass, Table::Covers, row));
     };
-    Ok((parcel, class))
-}
-
-/// So many empty groups.
-fn empty_groups(alloc: Global, count: usize) -> Result<Vec<Vec<u32>>, AllocError>
-    ensures { IfOk result (λ groups. group_lists groups.items ≡ replicate count []) }
-{
-    let mut groups = Vec::with_capacity(alloc, count)?;
-    for _ in 0..count {
-        groups.push(Vec::new(alloc))?;
-    }
-    Ok(groups)
-}
-
-/// Adds an index to a group.
-fn add_to_group(groups: &mut Vec<Vec<u32>>, group: usize, index: u32) -> Result<(), AllocError>
-    requires { group < vec_len groups.old }
-    ensures { OnOk result (group_lists groups.new.items ≡ slice_set (group_lists groups.old.items)
-        group (slice_index_or (group_lists groups.old.items) group [] ++ index ∷ [])) }
-{
-    groups[group].push(index)?;
-    Ok(())
+    // The parcels are not too many.
+    let _ = parcels.as_slice();
+    Ok((parcel as u32, class))
 }
 
 /// Joins the pieces to the parcels and classes.
 fn join_pieces(
     alloc: Global,
     parcels: &Parcels,
-    pieces: &Pieces,
+    pieces: &[Piece],
     classes: &Classes,
 ) -> Result<Gathered, TableFault>
-    requires { IsDistinct same_id (class_codes classes.now) }
+    requires distinct { IsDistinct same_id (class_codes classes.now) }
+    requires few { length pieces.now ≤ most_rows }
     ensures none { IfOk result (λ _. reference_faults parcels.now classes.now 1 pieces.now ≡ []) }
     ensures joins { IfOk result
-        (λ j. AreJoins parcels.now pieces.now classes.now (group_lists j.groups.items)
-        j.classes.items) }
+        (λ j. AreJoins parcels.now pieces.now classes.now j.joins.items j.classes.items) }
     ensures err { IfErr result (Refuses (reference_faults parcels.now classes.now 1 pieces.now)) }
 {
-    let mut groups = empty_groups(alloc, parcels.as_slice().len())?;
-    let mut class_indices = Vec::new(alloc);
-    for (i, piece) in pieces.as_slice().iter().enumerate() {
+    // No two parcels have one identifier.
+    let _ = parcels.as_slice();
+    let mut joins = Vec::with_capacity(alloc, pieces.len())?;
+    let mut class_indices = Vec::with_capacity(alloc, pieces.len())?;
+    for (i, piece) in pieces.iter().enumerate() {
         let (parcel, class) = joined_indices(parcels, classes, piece, i as u32 + 1)?;
-        add_to_group(&mut groups, parcel, i as u32)?;
+        joins.push(Join {
+            parcel,
+            piece: i as u32,
+        })?;
         class_indices.push(class)?;
     }
     Ok(Gathered {
-        groups,
+        joins,
         classes: class_indices,
     })
 }
 
-/// Looks for a parcel without pieces.
-fn check_groups(groups: &[Vec<u32>]) -> Result<(), TableFault>
-    requires { length groups.now ≤ most_rows }
-    ensures { Answers result (unless_faulty (empty_faults 1 (group_lists groups.now)) tt) }
+/// Looks for a parcel without pieces among so many.
+fn check_groups(groups: &Groups, count: usize) -> Result<(), TableFault>
+    requires { count ≤ most_rows }
+    ensures { Answers result (unless_faulty (empty_faults groups.now 0 count) tt) }
 {
-    for (k, group) in groups.iter().enumerate() {
-        if group.is_empty() {
+    for k in 0..count {
+        if groups.get(k).is_empty() {
             return Err(fault(TableCode::ParcelWithoutPieces, Table::Parcels, k as u32 + 1));
         }
     }
     Ok(())
 }
 
-/// Joins the rows of a release's tables, or tells the first fault of the joins.
+/// Joins the rows of a release's tables, or reports the first fault of the joins.
 pub(crate) fn join(
     alloc: Global,
     parcels: &Parcels,
-    pieces: &Pieces,
+    pieces: &[Piece],
     classes: &Classes,
 ) -> Result<Joins, TableFault>
+    requires { length pieces.now ≤ most_rows }
     ensures joins { IfOk result
         (λ j. AreJoins parcels.now pieces.now classes.now j.groups j.classes.items) }
     ensures none { IfOk result
@@ -145,13 +130,10 @@ pub(crate) fn join(
         (join_faults
         (record { parcels = parcels.now; pieces = pieces.now; classes = classes.now }))) }
 {
-    // No two classes have one code, and the parcels are not too many.
+    // No two classes have one code.
     let _ = classes.as_slice();
-    let _ = parcels.as_slice();
-    let gathered = join_pieces(alloc, parcels, pieces, classes)?;
-    check_groups(&gathered.groups)?;
-    Ok(Joins {
-        groups: Groups::of(alloc, &gathered.groups)?,
-        classes: gathered.classes,
-    })
+    let Gathered { joins, classes } = join_pieces(alloc, parcels, pieces, classes)?;
+    let groups = Groups::of(joins)?;
+    check_groups(&groups, parcels.as_slice().len())?;
+    Ok(Joins { groups, classes })
 }

@@ -4,6 +4,7 @@ ghost use Rattle.std.specs.Prelude.{◌≡◌, ◌<◌, Some, length, slice_get}
 ghost use Rattle.std.specs.Iterator.{YieldsFirstRef, item_count};
 ghost use Rattle.lpis_parcels.specs.Release.{pieces_named};
 
+use crate::groups::Join;
 use crate::release::Release;
 use lpis_covers::{Id, Piece};
 use std::marker::Model;
@@ -13,19 +14,19 @@ use std::marker::Model;
 #[derive(Drop)]
 pub struct PiecesOf<'a> {
     pieces: &'a [Piece],
-    indices: &'a [u32],
+    joins: &'a [Join],
 }
 
 impl<'a> Model for PiecesOf<'a> {
     ghost use Rattle.std.specs.Prelude.{◌<◌, All, List, length};
     ghost use Rattle.lpis_covers.specs.declared.piece.Piece.{Piece};
-    ghost use Rattle.lpis_parcels.specs.private.Groups.{at_indices};
+    ghost use Rattle.lpis_parcels.specs.private.Groups.{at_indices, joined_pieces};
 
     ghost Value = { List Piece };
 
-    ghost view = { λ it. at_indices it.pieces.now it.indices.now };
+    ghost view = { λ it. at_indices it.pieces.now (joined_pieces it.joins.now) };
 
-    ghost invariant = { λ it. All (λ i. i < length it.pieces.now) it.indices.now };
+    ghost invariant = { λ it. All (λ i. i < length it.pieces.now) (joined_pieces it.joins.now) };
 }
 
 /// The piece at an index.
@@ -44,9 +45,9 @@ impl<'a> Iterator for PiecesOf<'a> {
     ghost remaining = { item_count (λ it. it) };
 
     fn next(&mut self) -> Option<&'a Piece> {
-        let (first, others) = self.indices.split_first()?;
-        let piece = piece_at(self.pieces, *first);
-        self.indices = others;
+        let (first, others) = self.joins.split_first()?;
+        let piece = piece_at(self.pieces, first.piece);
+        self.joins = others;
         Some(piece)
     }
 }
@@ -58,6 +59,6 @@ pub fn pieces_of<'a>(release: &'a Release, parcel: &Id) -> PiecesOf<'a>
 {
     PiecesOf {
         pieces: release.pieces(),
-        indices: release.indices_of(parcel),
+        joins: release.joins_of(parcel),
     }
 }

@@ -7,6 +7,7 @@ ghost use Rattle.lpis_covers.specs.Table.{Answers, most_rows};
 ghost use Rattle.lpis_parcels.specs.Release.{class_codes, join_faults, joined, names, parcel_ids};
 ghost use Rattle.lpis_parcels.specs.Release.{piece_ids};
 
+use crate::groups::Join;
 use crate::joins::{Joins, join};
 use crate::parcel::{Parcel, Parcels};
 use lpis_covers::{Class, Classes, Id, Piece, Pieces, TableFault};
@@ -41,7 +42,7 @@ impl Model for Release {
 impl Release {
     ghost use Rattle.lpis_covers.specs.declared.piece.Piece.{Piece};
     ghost use Rattle.lpis_parcels.specs.Eligible.{is_eligible};
-    ghost use Rattle.lpis_parcels.specs.private.Groups.{indices_where};
+    ghost use Rattle.lpis_parcels.specs.private.Groups.{indices_where, joined_pieces};
 
     /// The release of these rows, or the first fault of their joins.
     pub(crate) fn of(
@@ -53,10 +54,11 @@ impl Release {
         ensures { Answers result
             (joined (record { parcels = parcels; pieces = pieces; classes = classes })) }
     {
+        let pieces = pieces.into_rows();
         let joins = join(alloc, &parcels, &pieces, &classes)?;
         Ok(Release {
             parcels,
-            pieces: pieces.into_rows(),
+            pieces,
             classes,
             joins,
         })
@@ -92,10 +94,11 @@ impl Release {
         self.classes.as_slice()
     }
 
-    /// The indices of a parcel's pieces.
-    pub(crate) fn indices_of(&self, parcel: &Id) -> &[u32]
-        ensures indices { result.now ≡ indices_where (names parcel.now) 0 self.now.pieces }
-        ensures within { All (λ i. i < length self.now.pieces) result.now }
+    /// The joins of a parcel.
+    pub(crate) fn joins_of(&self, parcel: &Id) -> &[Join]
+        ensures pieces { joined_pieces result.now
+            ≡ indices_where (names parcel.now) 0 self.now.pieces }
+        ensures within { All (λ i. i < length self.now.pieces) (joined_pieces result.now) }
         ensures few { length result.now ≤ length self.now.pieces }
     {
         match self.parcels.position(parcel) {

@@ -61,14 +61,14 @@ fn eligible_of(rt: &HostRuntime, release: &Release, id: &str) -> Result<i128, Fa
     Ok(eligible2(release, &id))
 }
 
-/// How many rows a release has, and the eligible areas of A and of a stranger.
+/// How many rows a release has, and the eligible areas of A and of Q, which is not a parcel of it.
 fn numbers(rt: &HostRuntime, release: &Release) -> Result<String, Fail> {
     let parcels = release.parcels().len();
     let pieces = release.pieces().len();
     let classes = release.classes().len();
     let eligible = eligible_of(rt, release, "A")?;
-    let stranger = eligible_of(rt, release, "Q")?;
-    Ok(format!(in rt.alloc(); "{parcels} {pieces} {classes} {eligible} {stranger}")?)
+    let absent = eligible_of(rt, release, "Q")?;
+    Ok(format!(in rt.alloc(); "{parcels} {pieces} {classes} {eligible} {absent}")?)
 }
 
 /// The identifiers of the pieces of the parcel A.

@@ -140,7 +140,7 @@ same-rows _ _ e a b f g l i = absurd cc
 
 -- ---- the law
 
--- the same years and rows of lineage; the sets are told in each version's own way
+-- the same years and rows of lineage; the sets are said in each version's own way
 same-history : (c : Content) (h k : List Entry) → IsKept h → IsKept k → IsPermutation c.years (years_of h) → IsPermutation c.years (years_of k)
     → IsPermutation c.lines (lines_of h) → IsPermutation c.lines (lines_of k)
     → (length h ≡ length k → ((i : ℕ) → (entry_at h i).year ≡ (entry_at k i).year) → (i : ℕ) (id : List ℕ) → holds h i id ≡ holds k i id) → IsSameHistory h k

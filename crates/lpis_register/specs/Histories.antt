@@ -41,7 +41,7 @@ LeavesRelease h year live rows trees =
     (k : List Entry) × Adds h k year live rows × LeavesHistory k trees
 
 -- what publishing answers: Ok exactly where the year is above the last one and the lineage has no
--- fault, want of memory and the database's failures set aside
+-- fault, out of memory and the database's failures set aside
 abbrev pub PublishTells : {A : Type 0} → List Entry → ℕ → List (List ℕ) → List Row
     → Result A PublishFault → Type 0
 PublishTells h year live rows (Ok a) = (last_year h < year) × (faults h live rows ≡ [])

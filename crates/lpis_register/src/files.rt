@@ -46,7 +46,7 @@ impl<S: Start> Register<FileStore<FileFrom<S>>> {
                 what_is_left_is_found(&conn);
                 match Register::adopt(alloc, conn) {
                     Ok(register) => Ok(register),
-                    Err((_, fault)) => Err(fault),
+                    Err((_conn, fault)) => Err(fault),
                 }
             }
             Err((error, _)) => Err(fault_of(error)),
@@ -64,7 +64,7 @@ impl Register<MemStore> {
         let conn = Connection::open_in_memory(alloc)?;
         match Register::adopt(alloc, conn) {
             Ok(register) => Ok(register),
-            Err((_, fault)) => Err(fault),
+            Err((_conn, fault)) => Err(fault),
         }
     }
 }

@@ -17,7 +17,7 @@ use lpis_tables::load;
 use sqlite::{Alter, Connection, Error, ErrorCode};
 use std::alloc::Global;
 
-/// The database's want of memory is told as such.
+/// Where the database is out of memory, that is reported.
 pub(crate) fn fault_of(error: Error) -> PublishFault
     ensures either { (result ≡ Memory) ⊎ (result ≡ Store) }
     ensures opening { IsOpeningFault result }

@@ -4,7 +4,7 @@ use Rattle.lpis_tables.proofs.Common.{HasCleanDisk, State, Survives, Content, Sh
 use Rattle.sqlite.proofs.StateLemmas.{survives_then}
 use Rattle.lpis_tables.specs.Quiet.{LeavesNone, Reads}
 
--- what the calls so far have told, each of which has answered
+-- what the calls so far have answered
 pub record Told (P : Shape → Type 0) (Says : Content → Type 0) (a b : State) : Type 0 where
   pub says : HasCleanDisk b → (s : Shape) → P s → (c : Content) → IsStored s a c → Says c × IsStored s b c
   pub survives : Survives a b (LeavesNone P a)
@@ -39,7 +39,7 @@ then_fails failed f told reads = rw failed.1 (record {
   survives = still_none f told reads.survives;
 })
 
--- what is made of all that was told
+-- what is made of all that was answered
 pub answered : {P : Shape → Type 0} {Says : Content → Type 0} {Y E : Type 0} {All : Content → Y → Type 0} {a b : State} {y : Y} → Told P Says a b → ((c : Content) → Says c → All c y)
     → Reads {X = Y} {E = E} P All a b (Ok y)
 answered told made = record {

@@ -1,4 +1,4 @@
-//! Comparisons that tell what was found.
+//! Comparisons that report what was found.
 
 use std::test::Fail;
 

@@ -4,7 +4,7 @@ use std::io;
 use std::io::{Error, ErrorKind, Read};
 
 /// A reader of single bytes with an interruption before each, which fails where `left` bytes were
-/// read, if it is told.
+/// read, if that is given.
 #[derive(Drop)]
 pub struct Halting<'a> {
     bytes: &'a [u8],
@@ -13,7 +13,7 @@ pub struct Halting<'a> {
 }
 
 impl<'a> Halting<'a> {
-    /// A reader of a text, which fails after so many bytes, if it is told.
+    /// A reader of a text, which fails after so many bytes, if that is given.
     pub fn new(text: &'a str, left: Option<usize>) -> Halting<'a> {
         Halting {
             bytes: text.as_bytes(),
@@ -22,7 +22,7 @@ impl<'a> Halting<'a> {
         }
     }
 
-    /// A reader of the input at an index. Where one is told to fail it does so after so many bytes,
+    /// A reader of the input at an index. Where one is to fail it does so after so many bytes,
     /// and those behind it at once.
     pub fn at(index: usize, text: &'a str, failing: Option<(usize, usize)>) -> Halting<'a> {
         let left = match failing {

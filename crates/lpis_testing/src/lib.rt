@@ -1,5 +1,5 @@
 //! What the tests of several crates share: a square of ten metres and its halves, readers that
-//! fail, and comparisons that tell what was found. The program calls none of it.
+//! fail, and comparisons that report what was found. The program calls none of it.
 #![tactic(auto)]
 
 mod expecting;

@@ -7,7 +7,7 @@ use std::io::{Error, ErrorKind, Write};
 /// How many bytes a `Paper` takes at a write, at most.
 pub static LINE: usize = 8;
 
-/// A writer that keeps what it takes, and fails after `left` writes, if it is told.
+/// A writer that keeps what it takes, and fails after `left` writes, if that is given.
 #[derive(Drop)]
 pub struct Paper {
     /// What it took.
@@ -17,7 +17,7 @@ pub struct Paper {
 }
 
 impl Paper {
-    /// A writer that fails after so many writes, if it is told.
+    /// A writer that fails after so many writes, if that is given.
     pub fn new(alloc: Global, left: Option<usize>) -> Paper {
         Paper {
             text: Vec::new(alloc),

@@ -1,4 +1,4 @@
-//! Inputs and outputs that fail, and the order in which faults are told.
+//! Inputs and outputs that fail, and the order in which faults are reported.
 
 use crate::devices::{LINE, Paper};
 use crate::maps::{Inputs, halves, square};
@@ -32,8 +32,8 @@ fn a_publication_fails_at_each_read_of_each_input(rt: HostRuntime) -> Result<(),
     office.expect_publish(&rt, 2025, &inputs, SPLIT_REPORT, 0)
 }
 
-/// Fails unless a publication whose output fails after so many writes is told so, wrote just these
-/// of its text, and is there: once more, it is refused for its year.
+/// Fails unless a publication whose output fails after so many writes reports that, wrote just
+/// these of its text, and is there: once more, it is refused for its year.
 fn expect_published(
     rt: &HostRuntime,
     office: &mut Office,

@@ -73,7 +73,7 @@ fn expect_kind(
     Err(Fail::new(format_args!("{told:?} in place of {wanted:?}")))
 }
 
-/// Fails unless a release of these identifiers drops these, A with this kind. Q is a stranger.
+/// Fails unless a release of these identifiers drops these, A with this kind. Q is in no release.
 fn expect_fates(
     alloc: Global,
     history: &History,

@@ -55,7 +55,7 @@ fn the_square_ends(rt: HostRuntime) -> Result<(), Fail> {
 }
 
 #[test]
-fn strangers_are_not_traced(rt: HostRuntime) -> Result<(), Fail> {
+fn identifiers_of_no_release_are_not_traced(rt: HostRuntime) -> Result<(), Fail> {
     // before the first release, and after two
     for office in [Office::open(&rt)?, Office::with_halves(&rt)?] {
         for word in ["Q", "a", "", "no identifier", "ä"] {

@@ -1,5 +1,5 @@
 //! Well-known text of polygons: [`read`] gives the polygon that a text such as
-//! `POLYGON((0 0,10 0,10 10,0 10,0 0))` spells, or tells the first fault of the text.
+//! `POLYGON((0 0,10 0,10 10,0 10,0 0))` spells, or reports the first fault of the text.
 #![tactic(auto)]
 
 mod coordinate;

@@ -259,7 +259,7 @@ impl Parser {
         Err(WktFault::At { code, offset })
     }
 
-    /// Takes a point and a `,` after it, if they come and are written as most are, and tells
+    /// Takes a point and a `,` after it, if they come and are written as most are, and says
     /// whether another may come.
     fn take_point(&mut self, tokens: &mut Tokens<'_>) -> Result<bool, WktFault>
         ensures same { IfOk result (λ _. SameOutcome self.new tokens.new self.old tokens.old) }
@@ -308,18 +308,20 @@ impl Parser {
             multi,
             members,
             mut rings,
-            points,
+            mut points,
             count,
         } = self;
-        match Ring::new(without_spare(points)?) {
+        // A list that is cut to its length where it lies leaves a gap that few lists fit.
+        match Ring::new(Vec::from_slice(alloc, points.as_slice())?) {
             Ok(ring) => {
                 rings.push(ring)?;
+                points.clear();
                 Ok(Parser {
                     expecting: Expecting::RingEnd,
                     multi,
                     members,
                     rings,
-                    points: Vec::new(alloc),
+                    points,
                     count,
                 })
             }
@@ -348,6 +350,10 @@ impl Parser {
         } = self;
         let shell = rings.remove(0);
         let holes = Sequence::new(without_spare(rings)?);
+        if !multi {
+            // The one member that there will be.
+            members.reserve_exact(1)?;
+        }
         members.push(Member { shell, holes })?;
         let expecting = if multi {
             Expecting::BodyEnd

@@ -62,7 +62,7 @@ abbrev pub FindsBelow : Contents → Cert → ℕ → Option Failing → Type 0
 FindsBelow r c n o = MatchOption o (HoldBelow r c n) (λ f. (code_of f.condition < n)
     × FoundFault r c f)
 
--- what is told of it
+-- what is reported of it
 abbrev pub IsToldOf : Contents → Cert → Failing → CheckFault → Type 0
 IsToldOf r c f Memory = ⊥
 IsToldOf r c f (At code at) = (code ≡ f.condition) × (at ≡ location_of r c f.site)

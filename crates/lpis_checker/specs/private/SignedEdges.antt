@@ -57,7 +57,7 @@ IsSigned a b forward (Some e) =
 abbrev pub signed_by : Bool → ℤ → ℤ
 signed_by added z = cond added z (neg_ℤ z)
 
--- the net count between two points, told where the lesser is first
+-- the net count between two points, given where the lesser is first
 abbrev pub low_count : Point → Point → List (Point × Point) → ℤ
 low_count a b es = cond (is_low a b) (net_count same_point a b es) (pos 0)
 

@@ -3,12 +3,12 @@
 use super::{expect_halves, expect_square};
 use std::test::Fail;
 
-/// Fails unless this is told of the square with another pair line.
+/// Fails unless this is reported of the square with another pair line.
 fn expect_line(rt: &HostRuntime, line: &str, wanted: &str) -> Result<(), Fail> {
     expect_square(rt, &[("s 0 1 2", line)], wanted)
 }
 
-/// Fails unless this is told of the halves with other pair lines.
+/// Fails unless this is reported of the halves with other pair lines.
 fn expect_lines(rt: &HostRuntime, lines: &str, wanted: &str) -> Result<(), Fail> {
     expect_halves(rt, &[("pairs 2\ns 0 1 2\ns 2 3 2\n", lines)], wanted)
 }

@@ -19,7 +19,7 @@ static MOVED: [(&str, &str); 2] = [
     ("t 500 0 1000 1000 500 1000", "t 501 0 1000 1000 501 1000"),
 ];
 
-/// Fails unless this is told of the square with a flat in its piece.
+/// Fails unless this is reported of the square with a flat in its piece.
 fn expect_flat(rt: &HostRuntime, line: &str, wanted: &str) -> Result<(), Fail> {
     let counted = ("piece C1 2 0", "piece C1 2 1");
     expect_square(rt, &[counted, ("parcel A 0", line)], wanted)

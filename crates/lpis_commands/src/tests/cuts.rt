@@ -18,7 +18,7 @@ fn id_of(rt: &HostRuntime, text: &str) -> Result<Id, Fail> {
     Ok(Id::read(rt.alloc(), text.as_bytes())?.ok_or("an identifier")?)
 }
 
-/// Fails, told by these words, unless it holds.
+/// Fails with these words unless it holds.
 fn hold(holds: bool, what: &str) -> Result<(), Fail> {
     if holds {
         return Ok(());
@@ -82,7 +82,7 @@ fn cut_of(rt: &HostRuntime, tables: &Tables) -> Result<Written, Fail> {
     Ok(Written { cert, out, status })
 }
 
-/// Fails unless a release is cut, with these counts where they are told, and its certificate gives
+/// Fails unless a release is cut, with these counts where they are given, and its certificate gives
 /// this report.
 fn expect_cut(
     rt: &HostRuntime,

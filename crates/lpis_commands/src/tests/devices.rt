@@ -85,7 +85,7 @@ fn a_writer_that_wants_memory_is_told_apart(rt: HostRuntime) -> Result<(), Fail>
     ] {
         assert!(rt; print_area(100, &mut Refusing { kind }) == Err(fault));
         assert!(rt; write_report(&yes, &mut Refusing { kind }) == Err(fault));
-        // A run tells of its output alone.
+        // A run reports its output alone.
         let answer = run_area(alloc, b"wkt\n\"\"\n".as_slice(), &mut Refusing { kind });
         assert!(rt; answer == Err(Failure::Write(Name::Out)));
     }

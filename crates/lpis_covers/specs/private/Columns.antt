@@ -6,7 +6,7 @@ use Rattle.lpis_covers.specs.declared.fault.TableFault.{TableFault}
 use Rattle.lpis_covers.specs.declared.fault.TableFault.TheVariants.{Memory, At}
 use Rattle.lpis_covers.specs.Table.{fault_at}
 
--- the fault tells, in row 0, what was said of the columns, or that memory ran out
+-- the fault reports, in row 0, what was said of the columns, or that memory ran out
 abbrev pub TellsColumn : Table → Result (List ℕ) TableCode → TableFault → Type 0
 TellsColumn table said Memory = Unit {0}
 TellsColumn table said (At code in_table row wkt) = (said ≡ Err code)

@@ -1,12 +1,12 @@
--- The indices of items, and what the joins' steps tell.
-use Rattle.std.specs.Prelude.{◌+◌, ◌∷◌, ◌++◌, Bool, true, false, ℕ, List, [], slice_get}
-use Rattle.std.specs.Prelude.{option_to_list, Err, if◌then◌else◌, ◌≤◌, length, map, slice_range}
+-- The indices of items, and what the joins' steps answer.
+use Rattle.std.specs.Prelude.{◌+◌, ◌∷◌, ◌++◌, ◌==◌, Bool, true, false, ℕ, zero, suc, List, []}
+use Rattle.std.specs.Prelude.{option_to_list, Err, if◌then◌else◌, filter, map, slice_get}
 use Rattle.lpis_covers.specs.declared.fault.Table.TheVariants as table
 use Rattle.lpis_covers.specs.declared.fault.TableCode.TheVariants.{ParcelWithoutPieces}
 use Rattle.lpis_covers.specs.declared.fault.TableFault.{TableFault}
 use Rattle.lpis_covers.specs.Faults.{fault_if, unless_faulty}
 use Rattle.lpis_covers.specs.Table.{Answers, fault_at}
-use Rattle.lpis_parcels.specs.declared.groups.Bounds.{Bounds}
+use Rattle.lpis_parcels.specs.declared.groups.Join.{Join}
 
 -- the indices of the items that pass a test, the first item at index i
 abbrev pub indices_where : {A : Type 0} → (A → Bool) → ℕ → List A → List ℕ
@@ -19,13 +19,17 @@ abbrev pub at_indices : {A : Type 0} → List A → List ℕ → List A
 at_indices xs [] = []
 at_indices xs (i ∷ is) = option_to_list (slice_get xs i) ++ at_indices xs is
 
--- groups of indices that stand in one list
-abbrev pub groups_in : List ℕ → List Bounds → List (List ℕ)
-groups_in indices bounds = map (λ (b : Bounds). slice_range indices b.start b.end) bounds
+-- a join is of the parcel k
+abbrev pub is_of : ℕ → Join → Bool
+is_of k j = j.parcel == k
 
--- bounds of a group that is in the list
-abbrev pub IsWithin : List ℕ → Bounds → Type 0
-IsWithin indices b = (b.start ≤ b.end) × (b.end ≤ length indices)
+-- the pieces of joins
+abbrev pub joined_pieces : List Join → List ℕ
+joined_pieces joins = map (λ (j : Join). j.piece) joins
+
+-- the pieces of the parcel k
+abbrev pub group_at : List Join → ℕ → List ℕ
+group_at joins k = joined_pieces (filter (is_of k) joins)
 
 -- the fault is the first of these, or memory ran out
 abbrev pub Refuses : List TableFault → TableFault → Type 0
@@ -35,8 +39,9 @@ abbrev pub is_nil : List ℕ → Bool
 is_nil [] = true
 is_nil (x ∷ xs) = false
 
--- parcels whose groups are empty, row by row
-abbrev pub empty_faults : ℕ → List (List ℕ) → List TableFault
-empty_faults n [] = []
-empty_faults n (g ∷ gs) = fault_if (is_nil g) (fault_at ParcelWithoutPieces table.Parcels n)
-    ++ empty_faults (n + 1) gs
+-- which of so many parcels from k on have no piece, row by row
+abbrev pub empty_faults : List Join → ℕ → ℕ → List TableFault
+empty_faults joins k zero = []
+empty_faults joins k (suc n) =
+    fault_if (is_nil (group_at joins k)) (fault_at ParcelWithoutPieces table.Parcels (k + 1))
+    ++ empty_faults joins (k + 1) n

@@ -107,7 +107,7 @@ fn told(alloc: Global, files: Pair, run: &Run<'_>) -> Result<(i64, String), Fail
     let number = number(&mut database, run.query)?;
     let mut register = match adopted(alloc, database) {
         Ok(register) => register,
-        Err((fault, _)) => return Err(fault.into()),
+        Err((fault, _files)) => return Err(fault.into()),
     };
     let text = read_text(alloc, &mut register)?;
     expect(
@@ -142,7 +142,7 @@ pub(super) fn reopened(alloc: Global, files: Pair, frames: usize) -> Result<Data
     }
 }
 
-/// Fails unless the texts are one.
+/// Fails unless the texts are equal.
 fn expect(told: &str, wanted: &str) -> Result<(), Fail> {
     if told == wanted {
         return Ok(());

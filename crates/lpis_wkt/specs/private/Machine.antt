@@ -126,7 +126,7 @@ abbrev pub limited_run : State → List Token → Result State WktCode
 limited_run s [] = Ok s
 limited_run s (t ∷ ts) = and_then (limited_step s t) (λ s. limited_run s ts)
 
--- the same over tokens with offsets: the offset is told beside the code
+-- the same over tokens with offsets: the offset is reported beside the code
 abbrev pub located : Result State WktCode → ℕ → Result State (WktCode × ℕ)
 located (Ok s) at = Ok s
 located (Err code) at = Err (code, at)

@@ -6,7 +6,7 @@ use Rattle.lpis_covers.proofs.typed.read_rows.Goals as goal
 pub rows-init : goal.rows-init
 rows-init g c =
     let opened = rw (c.table.ensures, c.columns.ensures) at c.in_ok-reader.ensures in
-    rw (c.new-keys.ensures, c.new-rows.ensures.items) (rows-start g.T.TableRow.kind c.args.bytes.now c.in_ok-reader.reader opened, refl)
+    rw (c.in_ok-keys.ensures, c.in_ok-rows.ensures.items) (rows-start g.T.TableRow.kind c.args.bytes.now c.in_ok-reader.reader opened, refl)
 
 pub returns-in_err-next_row : goal.returns-in_err-next_row
 returns-in_err-next_row g c =

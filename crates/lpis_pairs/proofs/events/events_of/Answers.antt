@@ -1,4 +1,4 @@
-use Rattle.std.proofs.Common.{◌≡◌, ◌+◌, ◌/◌, ◌≤◌, nat_eq, List, [], ◌∷◌, ◌++◌, length, refl, ap, sym, ◌∙◌, subst}
+use Rattle.std.proofs.Common.{◌≡◌, ◌+◌, ◌/◌, ◌≤◌, List, [], ◌∷◌, ◌++◌, length, refl, ap, sym, ◌∙◌, subst}
 use Rattle.lpis_pairs.proofs.Common.{Event, event}
 use Rattle.std.proofs.lemmas.Option.{slice_get_read}
 use Rattle.lpis_pairs.specs.declared.extents.Extent.{Extent}
@@ -6,7 +6,7 @@ use Rattle.lpis_pairs.proofs.EventLemmas.{EventsUpTo, nothing_yet, start_triangl
 use Rattle.lpis_pairs.proofs.events.events_of.Goals as goal
 
 pub loop-i-init : goal.loop-i-init
-loop-i-init c = nothing_yet c.args.triangles.now c.args.height c.new-events.result.items c.new-events.ensures.items
+loop-i-init c = nothing_yet c.args.triangles.now c.args.height c.in_ok-events.events.items c.in_ok-events.ensures.items
 
 pub loop-strip-init : goal.loop-strip-init
 loop-strip-init c =
@@ -27,8 +27,8 @@ loop-strip-preserved c =
     let strip = c.loop-strip.strip in
     let t = c.index-triangles-i.result in
     let at = slice_get_read ts (length ts) i t refl c.loop-i-test.true c.index-triangles-i.is in
-    let made = ap (λ (s : Extent). es ++ record { strip = strip; left = s.left; index = i; starts = nat_eq strip (s.bottom / height) } ∷ []) c.extent_of-extent.ensures in
-    let e : c.push.new.self.items ≡ es ++ event height t i strip ∷ [] = c.in_ok-push.ensures.items ∙ made in
+    let made = ap (λ (s : Extent). es ++ record { strip = strip; left = s.left; index = i } ∷ []) c.extent_of-extent.ensures in
+    let e : c.push.new.self.items ≡ es ++ event t i strip ∷ [] = c.in_ok-push.ensures.items ∙ made in
     subst (λ (xs : List Event). EventsUpTo ts height xs i (strip + 1)) (sym e) (one_more ts height es i strip t at c.loop-strip.invariant)
 
 pub loop-i-preserved : goal.loop-i-preserved

@@ -1,6 +1,6 @@
-use Rattle.std.proofs.Common.{◌∙◌, sym}
-use Rattle.lpis_covers.proofs.IdLemmas.{id-utf8}
+use Rattle.std.proofs.Common.{◌∙◌, sym, ap}
+use Rattle.lpis_covers.specs.Ids.{is_id}
 use Rattle.lpis_covers.proofs.id.Id.read.Goals as goal
 
-pub unreachable-requires : goal.unreachable-requires
-unreachable-requires c = (rw c.in-Err.is at c.from_utf8.ensures.cases).0 (id-utf8 c.args.bytes.now (sym c.is_id_text.ensures ∙ c.if-not-is_id_text.false))
+pub invariant_of-result : goal.invariant_of-result
+invariant_of-result c = ap is_id c.padded.ensures ∙ (sym c.is_id_text.ensures ∙ c.if-not-is_id_text.false)

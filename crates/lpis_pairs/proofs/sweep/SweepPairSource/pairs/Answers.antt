@@ -21,7 +21,7 @@ returns c =
     let before = c.in_ok-events.events.items in
     let es = c.sort_unstable.new.self.items in
     let ps = c.in_ok-pairs.pairs.items in
-    let joined = subst (λ (xs : List Event). (k m : ℕ) → k < m → Joins ts xs ps k m) c.deref.ensures.value c.in_ok-pairs.ensures.found in
+    let joined = subst (λ (xs : List Event). (k m : ℕ) → k < m → Joins ts c.strip_height-height.result xs ps k m) c.deref.ensures.value c.in_ok-pairs.ensures.found in
     near_list ts ps c.in_order.result.items c.in_ok-pairs.ensures.near
-    (finds ts c.strip_height.result before es ps c.strip_height.ensures c.in_ok-events.ensures
+    (finds ts c.strip_height-height.result before es ps c.strip_height-height.ensures c.in_ok-events.ensures
     c.sort_unstable.ensures.permutation joined) c.in_order.ensures.rising c.in_order.ensures.same

@@ -10,11 +10,12 @@ returns-in-Some c = λ piece at.
     let found = slice_get_read c.as_slice.result.now _ c.index-class.result.now c.in-Some.class.now refl lookup.0 c.in-Some.ensures.lookup.1 in
     let there = subst (λ (ks : List Class). slice_get ks c.index-class.result.now ≡ Some c.in-Some.class.now) c.as_slice.ensures.rows found in
     mark-of-index _ c.args.self.now c.self.inside.joins.classes.items c.args.index c.index-class.result.now piece
-    (Some c.in-Some.class.now) c.self.view_is c.self.invariant.joins.classes_are at c.index-class.ensures there
+    (Some c.in-Some.class.now) c.self.view_is c.self.invariant.indexed.classes_are at c.index-class.ensures there
 
 pub returns-in-None : goal.returns-in-None
 returns-in-None c = λ piece at.
     let past = c.in-None.ensures.lookup.3 in
     let none = slice_get_past c.as_slice.result.now c.index-class.result.now past in
     let there = subst (λ (ks : List Class). slice_get ks c.index-class.result.now ≡ None) c.as_slice.ensures.rows none in
-    mark-of-index _ c.args.self.now c.self.inside.joins.classes.items c.args.index c.index-class.result.now piece None c.self.view_is c.self.invariant.joins.classes_are at c.index-class.ensures there
+    mark-of-index _ c.args.self.now c.self.inside.joins.classes.items c.args.index c.index-class.result.now piece None
+    c.self.view_is c.self.invariant.indexed.classes_are at c.index-class.ensures there
