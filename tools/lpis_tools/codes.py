@@ -61,11 +61,11 @@ CUTS = {
            "each shape was rounded by itself, or the source overlaps",
            "round all borders together; where the overlap is wider than a centimetre, correct the source"),
     "42": ("two pieces overlap or could not be separated, and no place was found",
-           "as 41, thinner than can be told by a place", "as 41"),
+           "as 41, too thin to be shown by a place", "as 41"),
     "43": ("a parcel and its pieces disagree: the place is in one and not in the other",
            "a gap between pieces, a piece that leaves its parcel, shapes rounded by themselves",
            "make the parcel the union of its pieces' faces, after rounding all borders together"),
-    "44": ("a parcel's border is not that of its pieces, and no place was found", "as 43, thinner than can be told by a place",
+    "44": ("a parcel's border is not that of its pieces, and no place was found", "as 43, too thin to be shown by a place",
            "as 43"),
 }
 
@@ -94,13 +94,13 @@ CERTIFICATES = {
            "cut again from these tables"),
     "66": ("the border of this parcel is not that of its pieces: there is a gap, an overlap or another border",
            "the tables changed after the cut, or `lpis cut` would refuse with 43 or 44",
-           "run `lpis cut` on these tables: it tells a place where it can"),
+           "run `lpis cut` on these tables: it reports a place where it can"),
     "67": ("two triangles are near each other, and no line of the certificate separates them",
-           "the tables changed after the cut, or shapes overlap", "run `lpis cut`: it tells a place of the overlap where it can"),
+           "the tables changed after the cut, or shapes overlap", "run `lpis cut`: it reports a place of the overlap where it can"),
     "68": ("a line of the certificate separates two triangles that are not near each other",
            "a certificate that was not made by `lpis cut`", "cut again"),
     "69": ("a line of the certificate does not separate its two triangles",
-           "the tables changed after the cut, or shapes overlap", "run `lpis cut`: it tells a place of the overlap where it can"),
+           "the tables changed after the cut, or shapes overlap", "run `lpis cut`: it reports a place of the overlap where it can"),
 }
 
 LINEAGES = {
@@ -136,8 +136,8 @@ FAILURES = {
 }
 
 GROUPS = [
-    ("Polygon texts (told behind 38)", POLYGON_TEXTS), ("Tables", TABLES), ("Cutting", CUTS), ("Certificate texts", CERTIFICATE_TEXTS),
-    ("Certificates", CERTIFICATES), ("Lineage (told behind 81)", LINEAGES), ("The register", REGISTERS),
+    ("Polygon texts (reported behind 38)", POLYGON_TEXTS), ("Tables", TABLES), ("Cutting", CUTS), ("Certificate texts", CERTIFICATE_TEXTS),
+    ("Certificates", CERTIFICATES), ("Lineage (reported behind 81)", LINEAGES), ("The register", REGISTERS),
 ]
 CODES = {code: words for _, group in GROUPS for code, words in group.items()}
 
