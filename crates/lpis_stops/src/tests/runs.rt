@@ -90,14 +90,12 @@ fn adopted(alloc: Global, database: Database) -> Result<Kept, (PublishFault, Pai
 }
 
 fn publish(register: &mut Kept, publication: &Publication<'_>) -> Result<(), PublishFault> {
-    match register.publish(
+    let _change = register.publish(
         publication.year,
         &publication.yes,
         publication.rows.as_slice(),
-    ) {
-        Ok(_) => Ok(()),
-        Err(fault) => Err(fault),
-    }
+    )?;
+    Ok(())
 }
 
 /// What a query answers over files, and the history that they say, which the register in them also
