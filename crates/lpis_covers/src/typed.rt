@@ -65,9 +65,10 @@ fn add_row<T: TableRow>(
     Ok(())
 }
 
-/// How many rows a text has at most: one a line, and no more than a table may have. Room that is
-/// made for all at once leaves no gaps where a growing list lay before.
-fn most_rows_of(bytes: &[u8]) -> usize {
+/// For how many rows room is made: one for each line feed, and no more than a table may have. Room
+/// that is made at once leaves no gaps where a growing list lay before. Where lines end with a
+/// carriage return alone the lists grow.
+fn room_for_rows(bytes: &[u8]) -> usize {
     let lines = bytes.iter().filter(|b| **b == b'\n').count();
     lines.min(MOST_ROWS as usize)
 }
@@ -79,7 +80,7 @@ pub fn read_rows<T: TableRow>(alloc: Global, bytes: &[u8]) -> Result<Keyed<T>, T
     ensures { Answers result (rows_of T.kind bytes.now) }
 {
     let mut reader = TableReader::open(alloc, bytes, T::table(), T::columns())?;
-    let room = most_rows_of(bytes);
+    let room = room_for_rows(bytes);
     let mut keys = Keys::with_capacity(alloc, room)?;
     let mut rows = Vec::with_capacity(alloc, room)?;
     'rows: while reader.next_row()? {
