@@ -5,7 +5,7 @@ ghost use Rattle.lpis_cert.specs.Limits.{most_triangles, most_flats, greatest_co
 
 use lpis_cert::{Cert, MOST_FLATS, MOST_TRIANGLES, PairLine, ParcelPart, PiecePart};
 use lpis_covers::Id;
-use lpis_mesh::Cut;
+use lpis_cutter_mesh::Cut;
 use lpis_points::Triangle;
 use lpis_rings::Sequence;
 use std::alloc::{AllocError, Global};

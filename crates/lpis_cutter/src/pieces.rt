@@ -7,7 +7,7 @@ ghost use Rattle.lpis_cutter.specs.Fans.{IsFan};
 
 use crate::fans::fan_of;
 use lpis_cert::MOST_FLATS;
-use lpis_mesh::{Cut, Mesher};
+use lpis_cutter_mesh::{Cut, Mesher};
 use lpis_rings::{Polygon, edges};
 use std::alloc::{AllocError, Global};
 

@@ -6,11 +6,11 @@ ghost use Rattle.lpis_cutter.specs.private.Cutting.{SaysIfAny};
 use crate::fault::Refusal;
 use crate::telling::{disagreement, parcels_overlap, pieces_overlap};
 use lpis_covers::Id;
-use lpis_mesh::Mesher;
+use lpis_cutter_mesh::Mesher;
+use lpis_cutter_residue::{Net, points_in_both};
 use lpis_parcels::Release;
 use lpis_points::{RatPoint, Triangle};
 use lpis_rings::Polygon;
-use lpis_witness::{Net, points_in_both};
 use std::alloc::{AllocError, Global};
 
 /// How many edges the searches of one cut may look at, so that no release makes them slower than a

@@ -3,14 +3,14 @@ use Rattle.std.proofs.Common.{List, IsTrue, ◌≡◌, ◌∙◌, Bool, true, fa
 use Rattle.lpis_register.proofs.Common.{Trees, State, Survives, survives_weaker, Entry, Content, no_content, Tells, TellsLive, Shape, New, has_spans, IsStored, Leaves, LeavesHistory, SaysAt}
 use Rattle.sqlite.specs.State.{HasCleanDisk}
 use Rattle.sqlite.proofs.StateLemmas.{survives_then}
-use Rattle.lpis_records.specs.Content.{StoredSpan, moved}
-use Rattle.lpis_tables.specs.Bare.{IsBare}
-use Rattle.lpis_tables.specs.Shapes.{First, Moved, with_span_table}
+use Rattle.lpis_register_rows.specs.Content.{StoredSpan, moved}
+use Rattle.lpis_register_sql.specs.Bare.{IsBare}
+use Rattle.lpis_register_sql.specs.Shapes.{First, Moved, with_span_table}
 use Rattle.lpis_register.specs.Opening.{LeavesOpened}
-use Rattle.lpis_tables.specs.Quiet.{IsWith, LeavesNone}
-use Rattle.lpis_tables.specs.Commits.{LeavesBeside, LeavesMade, LeavesMoved}
+use Rattle.lpis_register_sql.specs.Quiet.{IsWith, LeavesNone}
+use Rattle.lpis_register_sql.specs.Commits.{LeavesBeside, LeavesMade, LeavesMoved}
 use Rattle.lpis_register.specs.private.Commits.{LeavesFound, LeavesSettled}
-use Rattle.lpis_tables.proofs.Shared.{spans_stand}
+use Rattle.lpis_register_sql.proofs.Shared.{spans_stand}
 use Rattle.lpis_register.proofs.OpeningLemmas.{none_said}
 
 pub must_be_first : (s : Shape) → has_spans s ≡ false → s ≡ First

@@ -1,8 +1,8 @@
 -- A database says one history.
 use Rattle.std.proofs.Common.{◌≡◌, ◌∙◌, sym, ap, [], ◌∷◌, ℤ, pos, List, Bool, true, false}
 use Rattle.lpis_register.proofs.Common.{State, Entry, Content, IsSameContent, Tells, TellsLive, Shape, has_spans, IsStored, HoldsHistory, SaysAt}
-use Rattle.lpis_records.specs.Content.{Format, without_live}
-use Rattle.lpis_records.specs.Tells.{IsSameHistory, only_format}
+use Rattle.lpis_register_rows.specs.Content.{Format, without_live}
+use Rattle.lpis_register_rows.specs.Tells.{IsSameHistory, only_format}
 
 less_live : (c : Content) (h : List Entry) → Tells c h → Tells (without_live c) h
 less_live c h t = record { kept = t.kept; formats_are = t.formats_are; years_are = t.years_are; spans_are = t.spans_are; lines_are = t.lines_are }

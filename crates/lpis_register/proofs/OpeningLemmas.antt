@@ -5,7 +5,7 @@ use Rattle.std.proofs.lemmas.List.Sorted.{length_permutation}
 use Rattle.sqlite.specs.Files.{AreFoundIn}
 use Rattle.sqlite_trees.specs.Objects.{catalog_tree}
 use Rattle.sqlite_wal.specs.Recovery.{Image}
-use Rattle.lpis_records.specs.Tells.{years_of}
+use Rattle.lpis_register_rows.specs.Tells.{years_of}
 use Rattle.lpis_register.specs.declared.fault.PublishFault.{PublishFault}
 use Rattle.lpis_register.specs.declared.fault.PublishFault.TheVariants.{Unlawful}
 use Rattle.lpis_register.specs.Opening.{FindsHistory}

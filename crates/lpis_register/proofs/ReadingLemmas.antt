@@ -2,7 +2,7 @@
 use Rattle.std.proofs.Common.{◌≡◌, List, true}
 use Rattle.lpis_register.proofs.Common.{State, Entry, Content, IsSameContent, Tells, Shape, has_spans, IsStored, HoldsHistory}
 use Rattle.std.proofs.lemmas.List.Sorted.{IsPermutation-sym}
-use Rattle.lpis_records.specs.Content.{without_live}
+use Rattle.lpis_register_rows.specs.Content.{without_live}
 
 pub same_back : (c d : Content) → IsSameContent c d → IsSameContent d c
 same_back c d s = record {

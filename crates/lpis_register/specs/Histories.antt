@@ -10,13 +10,13 @@ use Rattle.lpis_lineage.specs.Descendants.{IsDescendant}
 use Rattle.lpis_lineage.specs.Faults.{faults, first}
 use Rattle.lpis_lineage.specs.Lineage.{holds, last_year}
 use Rattle.lpis_lineage.specs.Order.{IsAscending}
-use Rattle.lpis_records.specs.Content.{Content}
-use Rattle.lpis_records.specs.Tells.{Tells}
+use Rattle.lpis_register_rows.specs.Content.{Content}
+use Rattle.lpis_register_rows.specs.Tells.{Tells}
 use Rattle.lpis_register.specs.declared.fault.PublishFault.{PublishFault}
 use Rattle.lpis_register.specs.declared.fault.PublishFault.TheVariants.{Memory, Year, Lineage}
 use Rattle.lpis_register.specs.declared.fault.PublishFault.TheVariants.{Store, Unknown, Unlawful}
-use Rattle.lpis_tables.specs.Shapes.{Shape, has_spans}
-use Rattle.lpis_tables.specs.Holding.{IsStored, Leaves}
+use Rattle.lpis_register_sql.specs.Shapes.{Shape, has_spans}
+use Rattle.lpis_register_sql.specs.Holding.{IsStored, Leaves}
 
 -- no transaction is open, and the tables of version 2, in one of the orders that this program
 -- makes, say this history

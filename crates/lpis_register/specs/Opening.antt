@@ -3,14 +3,14 @@ use Rattle.std.specs.Prelude.{◌≡◌, ◌⊎◌, Bool, true, false, [], List}
 use Rattle.sqlite.specs.Tree.{Trees}
 use Rattle.sqlite.specs.State.{State}
 use Rattle.lpis_lineage.specs.declared.row.Entry.{Entry}
-use Rattle.lpis_records.specs.Content.{Content}
-use Rattle.lpis_records.specs.Tells.{Tells, TellsLive}
+use Rattle.lpis_register_rows.specs.Content.{Content}
+use Rattle.lpis_register_rows.specs.Tells.{Tells, TellsLive}
 use Rattle.lpis_register.specs.declared.fault.PublishFault.{PublishFault}
 use Rattle.lpis_register.specs.declared.fault.PublishFault.TheVariants.{Memory, Year, Lineage}
 use Rattle.lpis_register.specs.declared.fault.PublishFault.TheVariants.{Store, Unknown, Unlawful}
-use Rattle.lpis_tables.specs.Bare.{IsBare}
-use Rattle.lpis_tables.specs.Shapes.{Shape}
-use Rattle.lpis_tables.specs.Holding.{IsStored}
+use Rattle.lpis_register_sql.specs.Bare.{IsBare}
+use Rattle.lpis_register_sql.specs.Shapes.{Shape}
+use Rattle.lpis_register_sql.specs.Holding.{IsStored}
 use Rattle.lpis_register.specs.Histories.{LeavesHistory}
 
 -- the rows say this history, as version 1 has it or as version 2 has it

@@ -3,9 +3,9 @@
 ghost use Rattle.std.specs.Prelude.{◌≡◌, true, false, [], IsTrue, IfOk, IfErr, OnErr};
 ghost use Rattle.sqlite.specs.Held.{state};
 ghost use Rattle.sqlite.specs.State.{HasCleanDisk, Survives};
-ghost use Rattle.lpis_tables.specs.Bare.{IsBare};
-ghost use Rattle.lpis_tables.specs.Shapes.{has_live, has_spans};
-ghost use Rattle.lpis_tables.specs.Holding.{IsStored};
+ghost use Rattle.lpis_register_sql.specs.Bare.{IsBare};
+ghost use Rattle.lpis_register_sql.specs.Shapes.{has_live, has_spans};
+ghost use Rattle.lpis_register_sql.specs.Holding.{IsStored};
 ghost use Rattle.lpis_register.specs.Histories.{HoldsHistory};
 ghost use Rattle.lpis_register.specs.Opening.{SaysAt, FindsHistory, IsOpeningFault, LeavesOpened};
 ghost use Rattle.lpis_register.specs.private.Commits.{LeavesFound};
@@ -17,8 +17,8 @@ use crate::opening::fault_of;
 use crate::register::Register;
 use crate::settling::settle;
 use lpis_lineage::History;
-use lpis_records::order_of_rows_is_free;
-use lpis_tables::{create, tables_in};
+use lpis_register_rows::order_of_rows_is_free;
+use lpis_register_sql::{create, tables_in};
 use sqlite::{Alter, Connection};
 use std::alloc::Global;
 

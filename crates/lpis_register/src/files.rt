@@ -8,13 +8,13 @@ ghost use Rattle.sqlite.specs.State.{HasCleanDisk};
 ghost use Rattle.sqlite.specs.Held.{state};
 ghost use Rattle.sqlite.specs.Steps.{over_memory};
 ghost use Rattle.lpis_register.specs.Histories.{HoldsHistory};
-ghost use Rattle.lpis_tables.specs.Holding.{Leaves};
+ghost use Rattle.lpis_register_sql.specs.Holding.{Leaves};
 ghost use Rattle.lpis_register.specs.Opening.{IsOpeningFault, SaysAt};
 
 use crate::fault::PublishFault;
 use crate::opening::fault_of;
 use crate::register::Register;
-use lpis_tables::what_is_left_is_found;
+use lpis_register_sql::what_is_left_is_found;
 use sqlite::{Connection, FileFrom, FileStore, MemStore, Start};
 use std::alloc::Global;
 use std::rt::HostRuntime;

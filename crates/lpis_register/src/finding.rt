@@ -3,17 +3,17 @@
 ghost use Rattle.std.specs.Prelude.{◌≡◌, false, IfOk, IfErr};
 ghost use Rattle.sqlite.specs.Held.{state};
 ghost use Rattle.sqlite.specs.State.{HasCleanDisk};
-ghost use Rattle.lpis_tables.specs.Shapes.{has_spans, has_live};
-ghost use Rattle.lpis_tables.specs.Holding.{IsStored};
-ghost use Rattle.lpis_tables.specs.Quiet.{IsWith, Reads};
+ghost use Rattle.lpis_register_sql.specs.Shapes.{has_spans, has_live};
+ghost use Rattle.lpis_register_sql.specs.Holding.{IsStored};
+ghost use Rattle.lpis_register_sql.specs.Quiet.{IsWith, Reads};
 ghost use Rattle.lpis_register.specs.Opening.{IsOpeningFault, SaysAt};
 ghost use Rattle.lpis_register.specs.declared.fault.PublishFault.TheVariants.{Unlawful};
 
 use crate::fault::PublishFault;
 use crate::opening::fault_of;
 use lpis_lineage::History;
-use lpis_records::{RecordsFault, Rows, history_of, live_history_of, order_of_rows_is_free};
-use lpis_tables::load_found;
+use lpis_register_rows::{RecordsFault, Rows, history_of, live_history_of, order_of_rows_is_free};
+use lpis_register_sql::load_found;
 use sqlite::{Alter, Connection};
 use std::alloc::Global;
 

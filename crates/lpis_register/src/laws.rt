@@ -3,16 +3,16 @@
 ghost use Rattle.std.specs.Prelude.{◌≡◌, ◌++◌, Bool, List};
 ghost use Rattle.sqlite.specs.Held.{state};
 ghost use Rattle.lpis_lineage.specs.declared.row.Entry.{Entry};
-ghost use Rattle.lpis_records.specs.Content.{Content};
-ghost use Rattle.lpis_records.specs.Tells.{IsSameHistory};
+ghost use Rattle.lpis_register_rows.specs.Content.{Content};
+ghost use Rattle.lpis_register_rows.specs.Tells.{IsSameHistory};
 ghost use Rattle.lpis_register.specs.Calls.{AllLead, AreReleasesOf, Call, accepted};
 ghost use Rattle.lpis_register.specs.Histories.{HoldsHistory};
 ghost use Rattle.lpis_register.specs.Opening.{SaysAt};
 
-use lpis_records::{
+use lpis_register_rows::{
     order_of_rows_is_free, tables_of_version_1_say_one_history, tables_say_one_history,
 };
-use lpis_tables::a_database_holds_one_content;
+use lpis_register_sql::a_database_holds_one_content;
 use sqlite::{Alter, Connection};
 
 /// After any list of calls of `publish` the history is the one before them with the accepted

@@ -4,7 +4,7 @@ ghost use Rattle.std.specs.Prelude.{◌≡◌, ◌⊎◌, false, List, IsTrue, I
 ghost use Rattle.sqlite.specs.Held.{state};
 ghost use Rattle.sqlite.specs.State.{HasCleanDisk};
 ghost use Rattle.lpis_lineage.specs.declared.row.Entry.{Entry};
-ghost use Rattle.lpis_records.specs.Tells.{IsSameHistory, Tells};
+ghost use Rattle.lpis_register_rows.specs.Tells.{IsSameHistory, Tells};
 ghost use Rattle.lpis_register.specs.Histories.{HoldsHistory};
 ghost use Rattle.lpis_register.specs.Opening.{IsOpeningFault};
 ghost use Rattle.lpis_register.specs.declared.fault.PublishFault.TheVariants.{Memory, Store};
@@ -12,8 +12,10 @@ ghost use Rattle.lpis_register.specs.declared.fault.PublishFault.TheVariants.{Un
 
 use crate::fault::PublishFault;
 use lpis_lineage::History;
-use lpis_records::{RecordsFault, Rows, history_of, order_of_rows_is_free, tables_say_one_history};
-use lpis_tables::load;
+use lpis_register_rows::{
+    RecordsFault, Rows, history_of, order_of_rows_is_free, tables_say_one_history,
+};
+use lpis_register_sql::load;
 use sqlite::{Alter, Connection, Error, ErrorCode};
 use std::alloc::Global;
 

@@ -7,7 +7,7 @@ ghost use Rattle.lpis_lineage.specs.Accepts.{Adds};
 ghost use Rattle.lpis_lineage.specs.Changes.{IsChange};
 ghost use Rattle.lpis_lineage.specs.Lineage.{last_live};
 ghost use Rattle.lpis_parcels.specs.Release.{parcel_ids};
-ghost use Rattle.lpis_records.specs.Tells.{IsSameHistory};
+ghost use Rattle.lpis_register_rows.specs.Tells.{IsSameHistory};
 ghost use Rattle.lpis_register.specs.Histories.{HoldsHistory, IsTrace, IsUnknown, LeavesHistory};
 ghost use Rattle.lpis_register.specs.Histories.{LeavesRelease, PublishTells};
 ghost use Rattle.lpis_register.specs.declared.fault.PublishFault.TheVariants.{Memory, Store};

@@ -3,9 +3,9 @@
 ghost use Rattle.std.specs.Prelude.{◌≡◌, true, false, IsTrue, IfErr, OnOk, OnErr};
 ghost use Rattle.sqlite.specs.Held.{state};
 ghost use Rattle.sqlite.specs.State.{HasCleanDisk, Survives};
-ghost use Rattle.lpis_records.specs.Tells.{TellsLive};
-ghost use Rattle.lpis_tables.specs.Shapes.{has_live, has_spans};
-ghost use Rattle.lpis_tables.specs.Holding.{IsStored};
+ghost use Rattle.lpis_register_rows.specs.Tells.{TellsLive};
+ghost use Rattle.lpis_register_sql.specs.Shapes.{has_live, has_spans};
+ghost use Rattle.lpis_register_sql.specs.Holding.{IsStored};
 ghost use Rattle.lpis_register.specs.Histories.{HoldsHistory};
 ghost use Rattle.lpis_register.specs.Opening.{IsOpeningFault, SaysAt};
 ghost use Rattle.lpis_register.specs.private.Commits.{LeavesSettled};
@@ -14,8 +14,8 @@ ghost use Rattle.lpis_register.specs.declared.fault.PublishFault.TheVariants.{Un
 use crate::fault::PublishFault;
 use crate::opening::fault_of;
 use lpis_lineage::History;
-use lpis_records::{moving_keeps_the_history, spans_of};
-use lpis_tables::{add_spans, write_moved};
+use lpis_register_rows::{moving_keeps_the_history, spans_of};
+use lpis_register_sql::{add_spans, write_moved};
 use sqlite::{Alter, Connection};
 use std::alloc::Global;
 

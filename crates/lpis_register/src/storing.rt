@@ -6,8 +6,8 @@ ghost use Rattle.lpis_register.specs.private.Writes.{Writes};
 
 use lpis_covers::Id;
 use lpis_lineage::{History, Row};
-use lpis_records::publishing_adds_the_release;
-use lpis_tables::write_release;
+use lpis_register_rows::publishing_adds_the_release;
+use lpis_register_sql::write_release;
 use sqlite::{Alter, Connection, Error};
 
 /// Writes the release that stands at a history's end, in one transaction: tables that say the

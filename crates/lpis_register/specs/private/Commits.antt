@@ -3,10 +3,10 @@ use Rattle.std.specs.Prelude.{Bool, List}
 use Rattle.sqlite.specs.Tree.{Trees}
 use Rattle.sqlite.specs.State.{State}
 use Rattle.lpis_lineage.specs.declared.row.Entry.{Entry}
-use Rattle.lpis_records.specs.Content.{Content}
-use Rattle.lpis_tables.specs.Shapes.{Shape}
-use Rattle.lpis_tables.specs.Holding.{IsStored}
-use Rattle.lpis_tables.specs.Quiet.{IsWith}
+use Rattle.lpis_register_rows.specs.Content.{Content}
+use Rattle.lpis_register_sql.specs.Shapes.{Shape}
+use Rattle.lpis_register_sql.specs.Holding.{IsStored}
+use Rattle.lpis_register_sql.specs.Quiet.{IsWith}
 use Rattle.lpis_register.specs.Histories.{LeavesHistory}
 use Rattle.lpis_register.specs.Opening.{LeavesSaid, SaysAt}
 

@@ -6,7 +6,7 @@ use Rattle.lpis_lineage.specs.declared.row.Row.{Row}
 use Rattle.lpis_lineage.specs.declared.row.Entry.{Entry}
 use Rattle.lpis_lineage.specs.Accepts.{Adds}
 use Rattle.lpis_lineage.specs.Lineage.{last_year}
-use Rattle.lpis_records.specs.Tells.{IsWriting}
+use Rattle.lpis_register_rows.specs.Tells.{IsWriting}
 use Rattle.lpis_register.specs.Histories.{HoldsHistory, LeavesHistory}
 
 module _ (now : List Entry) (year last : ℕ) (gone fresh : List (List ℕ)) (rows : List Row) where

@@ -1,10 +1,10 @@
 use Rattle.std.proofs.Common.{List, subst, sym}
 use Rattle.lpis_register.proofs.Common.{state}
-use Rattle.lpis_records.specs.Content.{StoredSpan}
-use Rattle.lpis_records.specs.Tells.{SpansTell}
-use Rattle.lpis_tables.proofs.Shared.{spans_stand}
+use Rattle.lpis_register_rows.specs.Content.{StoredSpan}
+use Rattle.lpis_register_rows.specs.Tells.{SpansTell}
+use Rattle.lpis_register_sql.proofs.Shared.{spans_stand}
 use Rattle.lpis_register.proofs.CommitLemmas.{moved_settled, nothing_done}
-use Rattle.lpis_tables.specs.Shapes.{with_span_table}
+use Rattle.lpis_register_sql.specs.Shapes.{with_span_table}
 use Rattle.lpis_register.proofs.settling.move_first.Goals as goal
 
 pub returns-in-Ok-clause-ok : goal.returns-in-Ok-clause-ok

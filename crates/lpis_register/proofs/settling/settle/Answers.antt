@@ -1,6 +1,6 @@
 use Rattle.std.proofs.Common.{◌≡◌, false, refl, rules, subst, sym, ◌∙◌}
 use Rattle.lpis_register.proofs.Common.{state, Survives, IsStored, SaysAt}
-use Rattle.lpis_tables.specs.Shapes.{Moved}
+use Rattle.lpis_register_sql.specs.Shapes.{Moved}
 use Rattle.lpis_register.specs.private.Commits.{LeavesSettled}
 use Rattle.lpis_register.proofs.CommitLemmas.{beside_settled, must_be_first}
 use Rattle.lpis_register.proofs.settling.settle.Goals as goal

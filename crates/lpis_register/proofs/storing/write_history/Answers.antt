@@ -1,6 +1,6 @@
 use Rattle.std.proofs.Common.{◌≤◌, pos, arith, sym, subst₂, List, ◌∙◌}
 use Rattle.lpis_register.proofs.Common.{state, Entry, Tells, HoldsHistory}
-use Rattle.lpis_records.specs.Content.{published}
+use Rattle.lpis_register_rows.specs.Content.{published}
 use Rattle.lpis_register.specs.private.Writes.{IsDue}
 use Rattle.lpis_register.proofs.PublishedLemmas.{holds_ok, holds_err, survives_with, left_ok}
 use Rattle.lpis_register.proofs.storing.write_history.Goals as goal

@@ -1,0 +1,259 @@
+//! What is left of edges less others, and the flats that make it up.
+
+use crate::rooms::{Corners, middles};
+use lpis_cutter_mesh::Mesher;
+use lpis_points::{Point, RatPoint, Triangle, orient};
+use std::alloc::{AllocError, Global};
+use std::cmp::Ordering;
+
+/// All edges between two points together: so many from the lesser to the greater, less those back.
+#[derive(Clone, Copy, Debug, PartialEq, Eq, PartialOrd, Ord)]
+pub(crate) struct NetEdge {
+    pub(crate) low: Point,
+    pub(crate) high: Point,
+    pub(crate) count: i64,
+}
+
+/// An end of an edge, and how many edges end there, less those that begin.
+#[derive(Clone, Copy, Debug, PartialEq, Eq, PartialOrd, Ord)]
+struct End {
+    point: Point,
+    count: i64,
+}
+
+/// Edges less others, as those of a parcel less those of its pieces. One value serves many parcels,
+/// which share its memory.
+#[derive(Drop)]
+pub struct Net {
+    alloc: Global,
+    /// All edges, sorted.
+    edges: Vec<NetEdge>,
+    /// Those that are left, in the order of their lines.
+    net: Vec<NetEdge>,
+    ends: Vec<End>,
+    /// Of these the edges of the lines at one of whose points another number of edges ends than
+    /// begins.
+    rest: Vec<NetEdge>,
+    /// The flats that make up the others.
+    flats: Vec<Triangle>,
+}
+
+/// The direction of two edges, and then on which side of the first line the second lies.
+fn compare_lines(e: &NetEdge, f: &NetEdge) -> Ordering {
+    let ex = e.high.x.wrapping_sub(e.low.x) as i128;
+    let ey = e.high.y.wrapping_sub(e.low.y) as i128;
+    let fx = f.high.x.wrapping_sub(f.low.x) as i128;
+    let fy = f.high.y.wrapping_sub(f.low.y) as i128;
+    let cross = ex.wrapping_mul(fy).wrapping_sub(ey.wrapping_mul(fx));
+    let turned = 0.cmp(&cross);
+    match turned {
+        Ordering::Equal => 0.cmp(&orient(e.low, e.high, f.low)),
+        _ => turned,
+    }
+}
+
+impl Net {
+    /// No edges.
+    pub fn new(alloc: Global) -> Net {
+        Net {
+            alloc,
+            edges: Vec::new(alloc),
+            net: Vec::new(alloc),
+            ends: Vec::new(alloc),
+            rest: Vec::new(alloc),
+            flats: Vec::new(alloc),
+        }
+    }
+
+    /// Takes all edges away.
+    pub fn clear(&mut self) {
+        self.edges.clear();
+    }
+
+    /// Adds an edge so many times; where the count is below 0, it is taken off.
+    pub fn add(&mut self, a: Point, b: Point, count: i64) -> Result<(), AllocError> {
+        match a.cmp(&b) {
+            Ordering::Less => self.edges.push(NetEdge {
+                low: a,
+                high: b,
+                count,
+            })?,
+            Ordering::Greater => {
+                let count = count.wrapping_neg();
+                self.edges.push(NetEdge {
+                    low: b,
+                    high: a,
+                    count,
+                })?
+            }
+            Ordering::Equal => {}
+        }
+        Ok(())
+    }
+
+    /// Sums the edges that were added, and finds flats that make up what is left.
+    pub fn settle(&mut self) -> Result<(), AllocError> {
+        self.net.clear();
+        self.rest.clear();
+        self.flats.clear();
+        self.edges.sort_unstable();
+        self.sum_edges()?;
+        if !self.net.is_empty() {
+            self.net
+                .sort_unstable_by(|e, f| compare_lines(e, f).then(e.cmp(f)));
+            self.take_lines()?;
+        }
+        Ok(())
+    }
+
+    /// How many edges were added.
+    pub fn size(&self) -> usize {
+        self.edges.len()
+    }
+
+    /// Whether flats make up all that is left.
+    pub fn is_flat(&self) -> bool {
+        self.rest.is_empty()
+    }
+
+    /// The ends of an edge that is left, and that no flats make up where there is one.
+    pub fn edge_left(&self) -> Option<(Point, Point)> {
+        let edge = match self.rest.first() {
+            Some(edge) => edge,
+            None => self.net.first()?,
+        };
+        Some((edge.low, edge.high))
+    }
+
+    /// The flats that make up what is left, as far as flats do.
+    pub fn flats(&self) -> Result<Vec<Triangle>, AllocError> {
+        let mut flats = Vec::with_capacity(self.alloc, self.flats.len())?;
+        for flat in &self.flats {
+            flats.push(*flat)?;
+        }
+        Ok(flats)
+    }
+
+    /// The middles of the largest triangles of the rooms between edges that no flats make up, as
+    /// far as these do not cross: exact points of the rooms.
+    pub fn middles(&self, mesher: &mut Mesher) -> Result<Vec<RatPoint>, AllocError> {
+        middles(self.alloc, mesher, &self.rest)
+    }
+
+    /// The corners of these rooms.
+    pub fn corners(&self) -> Result<Corners<'_>, AllocError> {
+        Corners::new(self.alloc, &self.rest)
+    }
+
+    fn sum_edges(&mut self) -> Result<(), AllocError> {
+        let mut sum: i64 = 0;
+        for index in 0..self.edges.len() {
+            let Some(edge) = self.edges.get(index).copied() else {
+                break;
+            };
+            sum = sum.wrapping_add(edge.count);
+            let is_last = match self.edges.get(index.saturating_add(1)) {
+                Some(next) => next.low != edge.low || next.high != edge.high,
+                None => true,
+            };
+            if is_last {
+                if sum != 0 {
+                    self.net.push(NetEdge { count: sum, ..edge })?;
+                }
+                sum = 0;
+            }
+        }
+        Ok(())
+    }
+
+    /// Goes over the edges line by line.
+    fn take_lines(&mut self) -> Result<(), AllocError> {
+        let mut start = 0;
+        for index in 0..self.net.len() {
+            let next = index.saturating_add(1);
+            let is_last = match (self.net.get(index), self.net.get(next)) {
+                (Some(e), Some(f)) => compare_lines(e, f) != Ordering::Equal,
+                _ => true,
+            };
+            if is_last {
+                self.take_line(start, next)?;
+                start = next;
+            }
+        }
+        Ok(())
+    }
+
+    /// Flats make up a line exactly where at each point as many edges end as begin.
+    fn take_line(&mut self, from: usize, to: usize) -> Result<(), AllocError> {
+        if self.is_even(from, to)? {
+            return self.add_flats(from, to);
+        }
+        for index in from..to {
+            if let Some(edge) = self.net.get(index) {
+                self.rest.push(*edge)?;
+            }
+        }
+        Ok(())
+    }
+
+    fn is_even(&mut self, from: usize, to: usize) -> Result<bool, AllocError> {
+        self.ends.clear();
+        for index in from..to {
+            if let Some(edge) = self.net.get(index).copied() {
+                let count = edge.count;
+                self.ends.push(End {
+                    point: edge.low,
+                    count: count.wrapping_neg(),
+                })?;
+                self.ends.push(End {
+                    point: edge.high,
+                    count,
+                })?;
+            }
+        }
+        self.ends.sort_unstable();
+        let mut sum: i64 = 0;
+        let mut last = None;
+        for end in &self.ends {
+            if last != Some(end.point) {
+                if sum != 0 {
+                    return Ok(false);
+                }
+                last = Some(end.point);
+            }
+            sum = sum.wrapping_add(end.count);
+        }
+        Ok(sum == 0)
+    }
+
+    /// The flats of one line: those of each stretch of edges that overlap go to its first point.
+    fn add_flats(&mut self, from: usize, to: usize) -> Result<(), AllocError> {
+        let mut stretch: Option<(Point, Point)> = None;
+        for index in from..to {
+            let Some(edge) = self.net.get(index).copied() else {
+                break;
+            };
+            let (anchor, reach) = match stretch {
+                Some((anchor, reach)) if edge.low < reach => (anchor, reach.max(edge.high)),
+                _ => (edge.low, edge.high),
+            };
+            stretch = Some((anchor, reach));
+            if edge.low != anchor {
+                self.add_flat(anchor, &edge)?;
+            }
+        }
+        Ok(())
+    }
+
+    fn add_flat(&mut self, anchor: Point, edge: &NetEdge) -> Result<(), AllocError> {
+        let (a, b) = if edge.count > 0 {
+            (edge.low, edge.high)
+        } else {
+            (edge.high, edge.low)
+        };
+        for _ in 0..edge.count.unsigned_abs() {
+            self.flats.push(Triangle { a, b, c: anchor })?;
+        }
+        Ok(())
+    }
+}

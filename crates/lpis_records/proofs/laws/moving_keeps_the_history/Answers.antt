@@ -1,5 +1,0 @@
-use Rattle.lpis_records.proofs.MovingLemmas.{moved-tells}
-use Rattle.lpis_records.proofs.laws.moving_keeps_the_history.Goals as goal
-
-pub returns : goal.returns
-returns c = moved-tells

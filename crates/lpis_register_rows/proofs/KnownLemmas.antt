@@ -1,0 +1,141 @@
+-- Rows with their identifiers read, one more.
+use Rattle.std.proofs.Common.{◌≡◌, ◌∙◌, ◌<◌, ◌≤◌, ◌+◌, refl, sym, ap, ap₂, subst, arith, ℕ, ℤ, pos, zero, suc, List, [], ◌∷◌, ◌++◌, Bool, true, false, cond, length, map, take, drop, get_or, ◌||◌}
+use Rattle.std.proofs.Common.{◌&&◌, not, nat_lt, All, filter, is_eq, nat_cmp}
+use Rattle.lpis_register_rows.proofs.Common.{list_any, slice_cmp, nat_tests, map-append, All-push, and-false, has_id, is_id, same_id, Row, same-exact, same-refl, filter-none, take-at, KnownLine}
+use Rattle.lpis_register_rows.proofs.Common.{KnownSpan}
+use Rattle.lpis_register_rows.proofs.Common.{Line, StoredSpan, lines_from, text_of, covers, line_in, span_in}
+use Rattle.std.proofs.lemmas.Grind.{common_steps}
+use Rattle.std.proofs.lemmas.List.{take-append-drop, append_assoc}
+use Rattle.std.proofs.lemmas.Bool.{not-false}
+use Rattle.std.proofs.Math.Bool.{and-true, or-false}
+use Rattle.lpis_lineage.proofs.Shared.{add-by_order, has-by_order, same-sym, filter-append, filter-some, any-push, or-cond}
+use Rattle.lpis_register_rows.specs.private.Known.{line_at}
+
+-- no test is both true and false
+pub no-both : {P : Type 0} → (b : Bool) → b ≡ true → b ≡ false → P
+no-both true t f = cc f
+no-both false t f = cc t
+
+pub not-below : {P : Type 0} → (a b : ℕ) → b ≤ a → nat_lt a b ≡ true → P
+not-below a b le t = absurd (let lt : a < b = grind (arith, nat_tests, t) in omega (arith, le, lt))
+
+-- what holds of each element holds of the one at a position
+pub all-at : {A : Type 0} (P : A → Type 0) (xs : List A) (i : ℕ) (x : A) → i < length xs → x ≡ get_or xs i x → All P xs → P x
+all-at P xs i x lt at all = subst P (sym at) (all i x lt)
+
+pub all-pushed : {A : Type 0} (P : A → Type 0) (xs new : List A) (x : A) → new ≡ xs ++ x ∷ [] → All P xs → P x → All P new
+all-pushed P xs new x n all p = subst (All P) (sym n) (All-push P xs x all p)
+
+-- the line at a position of those that were read
+pub known-at : (ks : List KnownLine) (i : ℕ) (l : KnownLine) → i < length ks → l ≡ get_or ks i l → line_at (map line_in ks) i ≡ line_in l
+known-at [] i l lt at = absurd (omega (arith, lt))
+known-at (k ∷ ks) zero l lt at = ap line_in (sym at)
+known-at (k ∷ ks) (suc i) l lt at = known-at ks i l (omega (arith, lt)) at
+
+pub known-past : {P : Type 0} → (ks : List KnownLine) (i : ℕ) (y : ℕ) → length ks ≤ i → (line_at (map line_in ks) i).year ≡ pos y → P
+known-past [] i y le e = absurd cc
+known-past (k ∷ ks) zero y le e = absurd (omega (arith, le))
+known-past (k ∷ ks) (suc i) y le e = known-past ks i y (omega (arith, le)) e
+
+-- a list read one further
+pub read-more : {A B : Type 0} (f : A → B) (known : List A) (k : A) (rows : List B) (i : ℕ) (row : B) → map f known ≡ take i rows → i < length rows
+    → row ≡ get_or rows i row → f k ≡ row → map f (known ++ k ∷ []) ≡ take (i + 1) rows
+read-more {B = B} f known k rows i row e lt at is = map-append f known (k ∷ []) ∙ ap₂ (λ (a : List B) (b : B). a ++ b ∷ []) e is ∙ take-at rows i row lt at
+
+-- the identifiers seen are those of the spans so far, none twice
+abbrev pub AreSeen : List (List ℕ) → List KnownSpan → Type 0
+AreSeen keys spans = (id : List ℕ) → (has_id keys id ≡ list_any (λ s. same_id id s.id) spans) × (length (filter (λ s. same_id id s.id) spans) ≤ 1)
+
+not-true : (b t : Bool) → b ≡ not t → b ≡ true → t ≡ false
+not-true b true e h = let c = sym e ∙ h in cc
+not-true b false e h = refl
+
+pub seen-more : (spans : List KnownSpan) (i : ℕ) (s : KnownSpan) (old new : List (List ℕ)) (id : List ℕ) (added : Bool) → i < length spans → s ≡ get_or spans i s → id ≡ s.id
+    → added ≡ not (list_any (λ k. is_eq (slice_cmp nat_cmp id k)) old) → added ≡ true
+    → ((q : List ℕ) → list_any (λ k. is_eq (slice_cmp nat_cmp q k)) new ≡ cond (is_eq (slice_cmp nat_cmp id q)) true (list_any (λ k. is_eq (slice_cmp nat_cmp q k)) old))
+    → AreSeen old (take i spans) → AreSeen new (take (i + 1) spans)
+seen-more spans i s old new id added lt at is add does updates seen = subst (AreSeen new) (take-at spans i s lt at) more where
+  absent : has_id old s.id ≡ false
+  absent = ap (has_id old) (sym is) ∙ sym (has-by_order old id) ∙ not-true added (list_any (λ k. is_eq (slice_cmp nat_cmp id k)) old) add does
+
+  once : (q : List ℕ) (b : Bool) → b ≡ same_id q s.id → length (filter (λ s. same_id q s.id) (take i spans ++ s ∷ [])) ≤ 1
+  once q true e =
+      let sum = filter-append (λ (t : KnownSpan). same_id q t.id) (take i spans) (s ∷ []) in
+      let none = filter-none (λ (t : KnownSpan). same_id q t.id) (take i spans) (sym (seen q).0 ∙ ap (has_id old) (same-exact q s.id (sym e)) ∙ absent) in
+      let one = ap (λ (b : Bool). length (cond b (s ∷ []) [])) (sym e) in
+      omega (arith, sum, none, one)
+  once q false e =
+      let sum = filter-append (λ (t : KnownSpan). same_id q t.id) (take i spans) (s ∷ []) in
+      let few = (seen q).1 in
+      let zero = ap (λ (b : Bool). length (cond b (s ∷ []) [])) (sym e) in
+      omega (arith, sum, few, zero)
+
+  more : AreSeen new (take i spans ++ s ∷ [])
+  more q = (
+    add-by_order old new id q (updates q) ∙ or-cond (same_id id q) (has_id old q) ∙ ap₂ (λ (a b : Bool). a || b)
+        (seen q).0 (ap (λ (k : List ℕ). same_id k q) is ∙ same-sym s.id q)
+        ∙ sym (any-push (λ (t : KnownSpan). same_id q t.id) (take i spans) s),
+    once q (same_id q s.id) refl,
+  )
+
+-- an identifier that was seen has two spans
+pub seen-twice : (spans : List KnownSpan) (i : ℕ) (s : KnownSpan) (old : List (List ℕ)) (id : List ℕ) (added : Bool) → i < length spans → s ≡ get_or spans i s → id ≡ s.id
+    → added ≡ not (list_any (λ k. is_eq (slice_cmp nat_cmp id k)) old) → added ≡ false → AreSeen old (take i spans) → ((q : List ℕ) → length (filter (λ s. same_id q s.id) spans) ≤ 1) → ⊥
+seen-twice spans i s old id added lt at is add isnt seen few =
+    let here : list_any (λ (t : KnownSpan). same_id s.id t.id) (take i spans) ≡ true = sym (seen s.id).0
+    ∙ ap (has_id old) (sym is) ∙ sym (has-by_order old id)
+    ∙ not-false (list_any (λ k. is_eq (slice_cmp nat_cmp id k)) old) (sym add ∙ isnt) in
+    let some = filter-some (λ (t : KnownSpan). same_id s.id t.id) (take i spans) here in
+    let one = ap (λ (b : Bool). length (cond b (s ∷ []) [])) (same-refl s.id) in
+    let first = filter-append (λ (t : KnownSpan). same_id s.id t.id) (take i spans) (s ∷ []) in
+    let read = ap (λ (l : List KnownSpan). length (filter (λ t. same_id s.id t.id) l)) (take-at spans i s lt at) in
+    let whole = filter-append (λ (t : KnownSpan). same_id s.id t.id) (take (i + 1) spans) (drop (i + 1) spans) in
+    let joined = ap (λ (l : List KnownSpan). length (filter (λ t. same_id s.id t.id) l)) (take-append-drop (i + 1) spans) in
+    let f = few s.id in
+    absurd (omega (arith, some, one, first, read, whole, joined, f))
+
+-- the identifiers whose span covers a year, one further
+abbrev pub AreLive : List (List ℕ) → ℕ → List KnownSpan → Type 0
+AreLive ids year spans = (id : List ℕ) → has_id ids id ≡ list_any (λ s. same_id id s.id && covers (span_in s) year) spans
+
+pub live-then : (spans : List KnownSpan) (i : ℕ) (s : KnownSpan) (ids new : List (List ℕ)) (id : List ℕ) (year : ℕ) → i < length spans
+    → s ≡ get_or spans i s → covers (span_in s) year ≡ true → id ≡ s.id → new ≡ ids ++ id ∷ [] → AreLive ids year (take i spans)
+    → AreLive new year (take (i + 1) spans)
+live-then spans i s ids new id year lt at does is n live = subst (AreLive new year) (take-at spans i s lt at) (λ q.
+    ap (λ (l : List (List ℕ)). has_id l q) n ∙ any-push (same_id q) ids id
+    ∙ ap₂ (λ (a b : Bool). a || b) (live q) (ap (same_id q) is ∙ sym (and-true (same_id q s.id)) ∙ ap (λ (b : Bool). same_id q s.id && b) (sym does))
+    ∙ sym (any-push (λ (t : KnownSpan). same_id q t.id && covers (span_in t) year) (take i spans) s))
+
+pub live-else : (spans : List KnownSpan) (i : ℕ) (s : KnownSpan) (ids : List (List ℕ)) (year : ℕ) → i < length spans → s ≡ get_or spans i s
+    → covers (span_in s) year ≡ false → AreLive ids year (take i spans) → AreLive ids year (take (i + 1) spans)
+live-else spans i s ids year lt at doesnt live = subst (AreLive ids year) (take-at spans i s lt at) (λ q.
+    live q ∙ sym (or-false (list_any (λ t. same_id q t.id && covers (span_in t) year) (take i spans)))
+    ∙ ap (λ (b : Bool). list_any (λ t. same_id q t.id && covers (span_in t) year) (take i spans) || b) (sym (and-false (same_id q s.id)) ∙ ap (λ (b : Bool). same_id q s.id && b) (sym doesnt))
+    ∙ sym (any-push (λ (t : KnownSpan). same_id q t.id && covers (span_in t) year) (take i spans) s))
+
+pub spans-more : (rows : List StoredSpan) (i : ℕ) (row : StoredSpan) (known new : List KnownSpan) (s : KnownSpan) → i < length rows → row ≡ get_or rows i row
+    → span_in s ≡ row → is_id s.id ≡ true → new ≡ known ++ s ∷ []
+    → (map span_in known ≡ take i rows) × All (λ s. is_id s.id ≡ true) known → (map span_in new ≡ take (i + 1) rows) × All (λ s. is_id s.id ≡ true) new
+spans-more rows i row known new s lt at is id n inv = rw n (read-more span_in known s rows i row inv.0 lt at is, All-push (λ (s : KnownSpan). is_id s.id ≡ true) known s inv.1 id)
+
+pub all-more : {A : Type 0} (P : A → Type 0) (xs : List A) (i : ℕ) (x : A) → i < length xs → x ≡ get_or xs i x → All P (take i xs) → P x → All P (take (i + 1) xs)
+all-more P xs i x lt at all p = subst (All P) (take-at xs i x lt at) (All-push P (take i xs) x all p)
+
+pub take-whole : {A : Type 0} (xs : List A) (i : ℕ) → length xs ≤ i → take i xs ≡ xs
+take-whole [] i le = grind (arith, common_steps)
+take-whole {A = A} (x ∷ xs) zero le = absurd (omega arith)
+take-whole {A = A} (x ∷ xs) (suc i) le = ap (λ (l : List A). x ∷ l) (take-whole xs i (omega arith))
+
+pub all-whole : {A : Type 0} (P : A → Type 0) (xs : List A) (i : ℕ) → length xs ≤ i → All P (take i xs) → All P xs
+all-whole P xs i le all = subst (All P) (take-whole xs i le) all
+
+lines-push : (y : ℤ) (n m : ℕ) (rs : List Row) (r : Row) → m ≡ n + length rs → lines_from y n (rs ++ r ∷ []) ≡ lines_from y n rs ++ lines_from y m (r ∷ [])
+lines-push y n m [] r e = let s : n ≡ m = omega (arith, e) in ap (λ (k : ℕ). lines_from y k (r ∷ [])) s
+lines-push y n m (q ∷ rs) r e = ap (λ (l : List Line). (record { year = y; position = pos n; old = q.old; new = text_of q.new }) ∷ l) (lines-push y (n + 1) m rs r (omega (arith, e)))
+
+-- the rows of a year, one further
+pub rows-more : (y : ℤ) (front here next : List Line) (rs new : List Row) (r : Row) (m : ℕ) → here ≡ front ++ lines_from y 0 rs
+    → next ≡ here ++ lines_from y m (r ∷ []) → m ≡ length rs → new ≡ rs ++ r ∷ [] → next ≡ front ++ lines_from y 0 new
+rows-more y front here next rs new r m h n e w =
+    n ∙ ap (λ (l : List Line). l ++ lines_from y m (r ∷ [])) h ∙ append_assoc front (lines_from y 0 rs) (lines_from y m (r ∷ []))
+    ∙ ap (λ (l : List Line). front ++ l) (sym (lines-push y 0 m rs r (omega (arith, e))) ∙ ap (lines_from y 0) (sym w))

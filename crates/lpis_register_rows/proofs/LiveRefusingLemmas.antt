@@ -1,0 +1,83 @@
+-- What live rows that say a history have: what they are refused for otherwise.
+use Rattle.std.proofs.Common.{◌≡◌, ◌∙◌, ◌<◌, ◌+◌, inl, inr, refl, sym, ap, ap₂, subst, arith, ℕ, zero, suc, ℤ, pos, List, [], ◌∷◌, ◌++◌, Bool, true, length, map, take, get_or, IsPermutation, ◌&&◌}
+use Rattle.std.proofs.Common.{All, Contains, IsSortedByKey}
+use Rattle.lpis_register_rows.proofs.Common.{AllByRecursion, list_any, map-append, All-from_recursion, recursion_from_All, both_ways, is_id, same_id, Entry, IsLawful, entry_at, holds, same-exact}
+use Rattle.lpis_register_rows.proofs.Common.{same-refl}
+use Rattle.lpis_register_rows.proofs.Common.{take-at, above-zero, KnownLine, KnownSpan, Content, Live, StoredSpan, IsKept, LiveTells, TellsLive, years_of, covers, IsSaid, HasText, SetsAre, line_cmp}
+use Rattle.lpis_register_rows.proofs.Common.{line_in, one_year, span_in}
+use Rattle.std.proofs.lemmas.List.{get_or_default}
+use Rattle.std.proofs.lemmas.List.Elements.{Contains-get_or, Contains-push_cases}
+use Rattle.std.proofs.lemmas.Bool.{and_parts}
+use Rattle.lpis_register_rows.proofs.LiveRowLemmas.{any-contains, covered, covers-one, one-covers, some-contained, since_of, rest_of}
+use Rattle.lpis_register_rows.proofs.RefusingLemmas.{told-sorted-lines}
+use Rattle.lpis_register_rows.proofs.NextReleaseLemmas.{any-map}
+use Rattle.lpis_register_rows.proofs.OneHistoryLemmas.{same-index}
+
+pub live-ids : (h : List Entry) (live : List Live) → IsKept h → LiveTells live h → All (λ l. is_id l.id ≡ true) live
+live-ids h live kept t k d lt = let r = t.right (get_or live k d) (Contains-get_or live k d lt) in kept.ids (get_or live k d).id r.0 r.3
+
+-- ---- sets
+
+live-sets : (h : List Entry) (live : List Live) → IsLawful h → LiveTells live h → SetsAre (map one_year live) h
+live-sets h live law t i lt id = both_ways (holds h i id) (list_any (λ s. same_id id s.id && covers s (entry_at h i).year) (map one_year live)) to from where
+  test : Live → Bool
+  test l = same_id id l.id && covers (one_year l) (entry_at h i).year
+
+  as_live : list_any (λ s. same_id id s.id && covers s (entry_at h i).year) (map one_year live) ≡ list_any test live
+  as_live = any-map (λ (s : StoredSpan). same_id id s.id && covers s (entry_at h i).year) one_year live
+
+  to : holds h i id ≡ true → list_any (λ s. same_id id s.id && covers s (entry_at h i).year) (map one_year live) ≡ true
+  to held =
+      let y : ℕ = (entry_at h i).year in
+      let l : Live = record { year = pos y; id = id } in
+      as_live ∙ any-contains test live l (t.whole id i held) (ap₂ (λ (a b : Bool). a && b) (same-refl id) (covered l y y refl ∙ covers-one y))
+
+  from : list_any (λ s. same_id id s.id && covers s (entry_at h i).year) (map one_year live) ≡ true → holds h i id ≡ true
+  from any =
+      let y : ℕ = (entry_at h i).year in
+      let found = some-contained test live (sym as_live ∙ any) in
+      let l : Live = found.0 in
+      let r = t.right l found.1 in
+      let m : ℕ = (entry_at h r.0).year in
+      let covering : covers (one_year l) y ≡ true = (and_parts (same_id id l.id) (covers (one_year l) y) found.2).1 in
+      let same : m ≡ y = one-covers m y (sym (covered l m y r.2) ∙ covering) (above-zero h law r.0 r.1) in
+      ap₂ (λ (k : ℕ) (q : List ℕ). holds h k q) (sym (same-index h law r.0 i r.1 lt same)) (same-exact id l.id (and_parts (same_id id l.id) (covers (one_year l) y) found.2).0) ∙ r.3
+
+pub live-said : (c : Content) (h : List Entry) (spans : List KnownSpan) (lines : List KnownLine) → TellsLive c h
+    → map span_in spans ≡ map one_year c.live → IsPermutation c.lines (map line_in lines) → IsSortedByKey line_in line_cmp lines
+    → All (λ l. HasText l.row) lines → IsSaid spans lines h
+live-said c h spans lines t ss ls up texts = record {
+  kept = t.kept;
+  sets = subst (λ (l : List StoredSpan). SetsAre l h) (sym ss) (live-sets h c.live t.kept.lawful t.live_are);
+  lines_are = told-sorted-lines h c.lines lines t.kept up ls t.lines_are;
+  texts = texts;
+}
+
+-- ---- years
+
+year-contained : (h : List Entry) (i : ℕ) → i < length h → Contains (years_of h) (pos (entry_at h i).year)
+year-contained [] i lt = absurd (omega (arith, lt))
+year-contained (x ∷ h) zero lt = (0, omega arith, refl)
+year-contained (x ∷ h) (suc i) lt = let r = year-contained h i (omega (arith, lt)) in (suc r.0, (let l = r.1 in omega (arith, l)), r.2)
+
+all-years : (h : List Entry) (live : List Live) → LiveTells live h → All (λ l. Contains (years_of h) l.year) live
+all-years h live t k d lt = let r = t.right (get_or live k d) (Contains-get_or live k d lt) in subst (Contains (years_of h)) (sym r.2) (year-contained h r.0 r.1)
+
+since-years : (spans : List KnownSpan) (live : List Live) (ys : List ℤ) → map span_in spans ≡ map one_year live
+    → AllByRecursion (λ l. Contains ys l.year) live → AllByRecursion (λ s. Contains ys s.since) spans
+since-years [] [] ys e all = tt
+since-years (s ∷ ss) (l ∷ ls) ys e all = (subst (Contains ys) (sym (ap since_of e)) all.0, since-years ss ls ys (ap rest_of e) all.1)
+since-years _ _ ys e all = absurd cc
+
+pub live-years : (h : List Entry) (live : List Live) (spans : List KnownSpan) (ys : List ℤ) → LiveTells live h → map span_in spans ≡ map one_year live
+    → years_of h ≡ ys → All (λ s. Contains ys s.since) spans
+live-years h live spans ys t ss e = All-from_recursion (λ s. Contains ys s.since) spans
+    (since-years spans live ys ss (subst (λ (l : List ℤ). AllByRecursion (λ m. Contains l m.year) live) e
+    (recursion_from_All (λ l. Contains (years_of h) l.year) live (all-years h live t))))
+
+-- a year that is none of the first ones, nor the next
+pub not-among : (ys : List ℕ) (i : ℕ) (z : ℤ) → i < length ys → (Contains (map (λ y. pos y) (take i ys)) z → ⊥) → (pos (get_or ys i 0) ≡ z → ⊥) → Contains (map (λ y. pos y) (take (i + 1) ys)) z → ⊥
+not-among ys i z lt before here there = elim (Contains-push_cases (map (λ y. pos y) (take i ys)) (pos (get_or ys i 0)) z
+    (subst (λ (l : List ℤ). Contains l z) (sym more) there)) as (λ _. ⊥) [ inl a ↦ before a | inr b ↦ here b ] where
+      more : map (λ y. pos y) (take i ys) ++ pos (get_or ys i 0) ∷ [] ≡ map (λ y. pos y) (take (i + 1) ys)
+      more = sym (map-append (λ (y : ℕ). pos y) (take i ys) (get_or ys i 0 ∷ [])) ∙ ap (λ (l : List ℕ). map (λ y. pos y) l) (take-at ys i (get_or ys i 0) lt (get_or_default ys i 0 (get_or ys i 0) lt))

@@ -1,0 +1,199 @@
+-- Tables say one history.
+use Rattle.std.proofs.Common.{◌≡◌, ◌∙◌, ◌<◌, ◌≤◌, ◌+◌, inl, inr, refl, sym, ap, ap₂, subst, arith, ℕ, zero, suc, ℤ, pos, List, [], ◌∷◌, ◌++◌, Bool, true, false, length, Option, None, Some, ◌&&◌, ◌||◌}
+use Rattle.std.proofs.Common.{nat_le, nat_eq, IsPermutation, int_eq}
+use Rattle.lpis_register_rows.proofs.Common.{AllByRecursion, list_any, nat_tests, both_ways, or_left, or_right, and-false, has_id, is_id, same_id, Entry, Row, IsLawful, entry_at, holds, names}
+use Rattle.lpis_register_rows.proofs.Common.{span_of}
+use Rattle.lpis_register_rows.proofs.Common.{entry-after, in-history, same-exact, before-at-after, Content, Line, Live, StoredSpan, lines_from, text_of}
+use Rattle.lpis_register_rows.proofs.Common.{IsKept, IsSameHistory, IsSpanRow, LiveTells, SpansTell, Tells}
+use Rattle.lpis_register_rows.proofs.Common.{TellsLive, lines_of, shown, years_of, covers, HasText}
+use Rattle.std.specs.Int.Signed.{le_z}
+use Rattle.std.proofs.lemmas.Int.{ints}
+use Rattle.lpis_lineage.specs.declared.span.Span.{Span as Years}
+use Rattle.lpis_lineage.specs.Lineage.{is_this}
+use Rattle.lpis_lineage.specs.Spans.{in_span}
+use Rattle.lpis_lineage.proofs.Shared.{span-tells}
+use Rattle.lpis_register_rows.proofs.AscendingLemmas.{Ascends, below, below-alone, same-ascending, both-orders}
+use Rattle.lpis_register_rows.proofs.YearLemmas.{all-entries, line-alone, line_below, lines-above, lines-ascend, years-ascend}
+use Rattle.lpis_register_rows.proofs.SayingLemmas.{rest}
+
+-- ---- sets
+
+pub covers-years : (y : Years) (year : ℕ) → (le_z (pos y.first) (pos year) && (int_eq (pos y.last) (pos 0) || le_z (pos year) (pos y.last))) ≡ in_span y year
+covers-years y year = ap₂ (λ (a b : Bool). a && b) (le-nat y.first year) (ap₂ (λ (a b : Bool). a || b) (eq-nat y.last) (le-nat year y.last)) where
+  le-nat : (a b : ℕ) → le_z (pos a) (pos b) ≡ nat_le a b
+  le-nat a b = grind (arith, ints, nat_tests)
+
+  eq-nat : (a : ℕ) → int_eq (pos a) (pos 0) ≡ nat_eq a 0
+  eq-nat zero = refl
+  eq-nat (suc a) = let e : nat_eq (suc a) 0 ≡ false = grind (arith, nat_tests) in let f : int_eq (pos (suc a)) (pos 0) ≡ false = grind (arith, ints, nat_tests) in f ∙ sym e
+
+-- a row of spans covers a release's year exactly where the release holds the identifier
+row-covers : (h : List Entry) → IsLawful h → (s : StoredSpan) → IsSpanRow h s → (i : ℕ) → i < length h → covers s (entry_at h i).year ≡ holds h i s.id
+row-covers h law s is i lt = by (span_of h s.id) refl is where
+  since_in : Option (ℤ × ℤ) → ℤ
+  since_in None = pos 0
+  since_in (Some p) = p.0
+
+  until_in : Option (ℤ × ℤ) → ℤ
+  until_in None = pos 0
+  until_in (Some p) = p.1
+
+  by : (o : Option Years) → o ≡ span_of h s.id → shown o ≡ Some (s.since, s.until) → covers s (entry_at h i).year ≡ holds h i s.id
+  by None eo e = absurd cc
+  by (Some y) eo e =
+      let year : ℕ = (entry_at h i).year in
+      ap₂ (λ (a b : ℤ). le_z a (pos year) && (int_eq b (pos 0) || le_z (pos year) b)) (sym (ap since_in e)) (sym (ap until_in e))
+      ∙ covers-years y year ∙ span-tells h law s.id y (sym eo) i lt
+
+-- the identifiers of a release are those whose row covers its year
+pub sets-told : (h : List Entry) (spans : List StoredSpan) → IsLawful h → SpansTell spans h → (i : ℕ) → i < length h → (id : List ℕ)
+    → holds h i id ≡ list_any (λ s. same_id id s.id && covers s (entry_at h i).year) spans
+sets-told h spans law t i lt id = sym (with-test spans t.right ∙ by (list_any (λ s. same_id id s.id) spans) refl (holds h i id) refl) where
+  one : (s : StoredSpan) → IsSpanRow h s → (b : Bool) → b ≡ same_id id s.id → (same_id id s.id && covers s (entry_at h i).year) ≡ (same_id id s.id && holds h i id)
+  one s is true e = ap (λ (b : Bool). same_id id s.id && b) (row-covers h law s is i lt ∙ ap (λ (q : List ℕ). holds h i q) (sym (same-exact id s.id (sym e))))
+  one s is false e = ap (λ (b : Bool). b && covers s (entry_at h i).year) (sym e) ∙ ap (λ (b : Bool). b && holds h i id) e
+
+  out : (a b c : Bool) → ((a && c) || (b && c)) ≡ ((a || b) && c)
+  out true true false = refl
+  out true false false = refl
+  out _ _ _ = refl
+
+  with-test : (ss : List StoredSpan) → AllByRecursion (IsSpanRow h) ss → list_any (λ s. same_id id s.id && covers s (entry_at h i).year) ss ≡ (list_any (λ s. same_id id s.id) ss && holds h i id)
+  with-test [] all = refl
+  with-test (s ∷ ss) all = ap₂ (λ (a b : Bool). a || b) (one s all.0 (same_id id s.id) refl) (with-test ss all.1) ∙ out (same_id id s.id) (list_any (λ s. same_id id s.id) ss) (holds h i id)
+
+  by : (a : Bool) → a ≡ list_any (λ s. same_id id s.id) spans → (b : Bool) → b ≡ holds h i id → (list_any (λ s. same_id id s.id) spans && holds h i id) ≡ holds h i id
+  by a ea true eb = ap (λ (x : Bool). x && holds h i id) (t.whole id i (sym eb))
+  by a ea false eb = ap (λ (x : Bool). list_any (λ s. same_id id s.id) spans && x) (sym eb) ∙ and-false (list_any (λ s. same_id id s.id) spans) ∙ eb
+
+-- ---- rows
+
+rows-have-texts : (rows : List Row) → ((id : List ℕ) → list_any (names id) rows ≡ true → is_id id ≡ true) → AllByRecursion HasText rows
+rows-have-texts [] f = tt
+rows-have-texts (r ∷ rs) f = (
+  λ e. let n : names [] r ≡ true = ap (is_this []) e in let i =
+      f [] (or_left (names [] r) (list_any (names []) rs) n) in cc,
+  rows-have-texts rs (λ id n. f id (or_right (names id r) (list_any (names id) rs) n)),
+)
+
+pub have-texts : (h : List Entry) → IsKept h → AllByRecursion (λ e. AllByRecursion HasText e.rows) h
+have-texts h kept = all-entries (λ e. AllByRecursion HasText e.rows) h (λ i lt. rows-have-texts (entry_at h i).rows (λ id n. kept.ids id i (kept.lawful.successors id i n)))
+
+same-text : (a b : Option (List ℕ)) → (a ≡ Some [] → ⊥) → (b ≡ Some [] → ⊥) → text_of a ≡ text_of b → a ≡ b
+same-text None None f g e = refl
+same-text None (Some s) f g e = absurd (g (ap Some (sym e)))
+same-text (Some s) None f g e = absurd (f (ap Some e))
+same-text (Some s) (Some t) f g e = ap Some e
+
+abbrev line_in : Line → List Line → Line
+line_in d [] = d
+line_in d (l ∷ ls) = l
+
+abbrev rest_of : List Line → List Line
+rest_of [] = []
+rest_of (l ∷ ls) = ls
+
+-- the rows of a year before those of later ones
+pub rows-apart : (y n : ℕ) (rs qs : List Row) (ls ms : List Line) → AllByRecursion (λ l. below (pos y) l.year) ls
+    → AllByRecursion (λ l. below (pos y) l.year) ms → AllByRecursion HasText rs → AllByRecursion HasText qs
+    → lines_from (pos y) n rs ++ ls ≡ lines_from (pos y) n qs ++ ms → (rs ≡ qs) × (ls ≡ ms)
+rows-apart y n [] [] ls ms a b f g e = (refl, e)
+rows-apart y n [] (q ∷ qs) ls ms a b f g e = absurd (let all = subst (AllByRecursion (λ l. below (pos y) l.year)) e a in below-alone (pos y) (pos y) all.0 all.0)
+rows-apart y n (r ∷ rs) [] ls ms a b f g e = absurd (let all = subst (AllByRecursion (λ l. below (pos y) l.year)) (sym e) b in below-alone (pos y) (pos y) all.0 all.0)
+rows-apart y n (r ∷ rs) (q ∷ qs) ls ms a b f g e =
+    let d : Line = record { year = pos y; position = pos n; old = r.old; new = text_of r.new } in
+    let one = ap (line_in d) e in
+    let old : r.old ≡ q.old = ap (λ (l : Line). l.old) one in
+    let new : r.new ≡ q.new = same-text r.new q.new f.0 g.0 (ap (λ (l : Line). l.new) one) in
+    let more = rows-apart y (n + 1) rs qs ls ms a b f.1 g.1 (ap rest_of e) in
+    (ap₂ (λ (x : Row) (xs : List Row). x ∷ xs) (ap₂ (λ (o : List ℕ) (s : Option (List ℕ)). record { old = o; new = s }) old new) more.0, more.1)
+
+abbrev year_in : List ℤ → ℤ
+year_in [] = pos 0
+year_in (y ∷ ys) = y
+
+abbrev nat_in : ℤ → ℕ
+nat_in (pos n) = n
+nat_in z = 0
+
+pub same-years : (h k : List Entry) → years_of h ≡ years_of k → (length h ≡ length k) × ((i : ℕ) → (entry_at h i).year ≡ (entry_at k i).year)
+same-years [] [] e = (refl, λ i. refl)
+same-years (x ∷ h) (y ∷ k) e = let more = same-years h k (ap rest e) in (ap suc more.0, by more.1) where
+  by : ((i : ℕ) → (entry_at h i).year ≡ (entry_at k i).year) → (i : ℕ) → (entry_at (x ∷ h) i).year ≡ (entry_at (y ∷ k) i).year
+  by more zero = ap (λ (l : List ℤ). nat_in (year_in l)) e
+  by more (suc i) = more i
+same-years _ _ e = absurd cc
+
+pub same-rows : (h k : List Entry) → years_of h ≡ years_of k → Ascends below (years_of h) → Ascends below (years_of k)
+    → AllByRecursion (λ e. AllByRecursion HasText e.rows) h → AllByRecursion (λ e. AllByRecursion HasText e.rows) k
+    → lines_of h ≡ lines_of k → (i : ℕ) → (entry_at h i).rows ≡ (entry_at k i).rows
+same-rows [] [] e a b f g l i = refl
+same-rows (x ∷ h) (y ∷ k) e a b f g l i =
+    let at : pos x.year ≡ pos y.year = ap year_in e in
+    let both = rows-apart x.year 0 x.rows y.rows (lines_of h) (lines_of k) (lines-above (pos x.year) h a.0)
+    (lines-above (pos x.year) k (subst (λ (z : ℤ). AllByRecursion (below z) (years_of k)) (sym at) b.0)) f.0 g.0
+    (l ∙ ap (λ (z : ℤ). lines_from z 0 y.rows ++ lines_of k) (sym at)) in
+    by i both.0 (same-rows h k (ap rest e) a.1 b.1 f.1 g.1 both.1) where
+      by : (i : ℕ) → x.rows ≡ y.rows → ((j : ℕ) → (entry_at h j).rows ≡ (entry_at k j).rows) → (entry_at (x ∷ h) i).rows ≡ (entry_at (y ∷ k) i).rows
+      by zero now more = now
+      by (suc j) now more = more j
+same-rows _ _ e a b f g l i = absurd cc
+
+-- ---- the law
+
+-- the same years and rows of lineage; the sets are said in each version's own way
+same-history : (c : Content) (h k : List Entry) → IsKept h → IsKept k → IsPermutation c.years (years_of h) → IsPermutation c.years (years_of k)
+    → IsPermutation c.lines (lines_of h) → IsPermutation c.lines (lines_of k)
+    → (length h ≡ length k → ((i : ℕ) → (entry_at h i).year ≡ (entry_at k i).year) → (i : ℕ) (id : List ℕ) → holds h i id ≡ holds k i id) → IsSameHistory h k
+same-history c h k kept also_kept h_years k_years h_lines k_lines sets =
+    let up = years-ascend h kept.lawful in
+    let also = years-ascend k also_kept.lawful in
+    let years = same-ascending below below-alone (years_of h) (years_of k) up also (both-orders c.years (years_of h) (years_of k) h_years k_years) in
+    let lines = same-ascending line_below line-alone (lines_of h) (lines_of k) (lines-ascend h up) (lines-ascend k also) (both-orders c.lines (lines_of h) (lines_of k) h_lines k_lines) in
+    let alike = same-years h k years in
+    record { lengths = alike.0; years = alike.1; sets = sets alike.0 alike.1; rows = same-rows h k years up also (have-texts h kept) (have-texts k also_kept) lines }
+
+pub one-history : (c : Content) (h k : List Entry) → Tells c h → Tells c k → IsSameHistory h k
+one-history c h k s t = same-history c h k s.kept t.kept s.years_are t.years_are s.lines_are t.lines_are sets where
+  beyond : (l : List Entry) (i : ℕ) (id : List ℕ) → length l ≤ i → holds l i id ≡ false
+  beyond l i id le = ap (λ (e : Entry). has_id e.live id) (entry-after l i le)
+
+  sets : length h ≡ length k → ((i : ℕ) → (entry_at h i).year ≡ (entry_at k i).year) → (i : ℕ) (id : List ℕ) → holds h i id ≡ holds k i id
+  sets n years i id = elim (before-at-after i (length h)) as (λ _. holds h i id ≡ holds k i id) [
+    | inl lt ↦ sets-told h c.spans s.kept.lawful s.spans_are i lt id ∙ ap (λ (y : ℕ). list_any (λ s. same_id id s.id && covers s y) c.spans) (years i)
+        ∙ sym (sets-told k c.spans t.kept.lawful t.spans_are i (omega (arith, n, lt)) id)
+    | inr r ↦ elim r as (λ _. holds h i id ≡ holds k i id) [
+      | inl e ↦ beyond h i id (omega (arith, e)) ∙ sym (beyond k i id (omega (arith, e, n)))
+      | inr g ↦ beyond h i id (omega (arith, g)) ∙ sym (beyond k i id (omega (arith, g, n)))
+    ]
+  ]
+
+-- ---- the same of version 1
+
+-- years rise, so each has one position
+pub same-index : (h : List Entry) → IsLawful h → (i j : ℕ) → i < length h → j < length h → (entry_at h i).year ≡ (entry_at h j).year → i ≡ j
+same-index h law i j a b e = elim (before-at-after i j) as (λ _. i ≡ j) [
+  | inl lt ↦ absurd (let r = law.years_rise i j lt b in omega (arith, r, e))
+  | inr r ↦ elim r as (λ _. i ≡ j) [
+    | inl same ↦ same
+    | inr gt ↦ absurd (let r = law.years_rise j i gt a in omega (arith, r, e))
+  ]
+]
+
+nat-of : (m n : ℕ) → pos m ≡ pos n → m ≡ n
+nat-of m n e = cc
+
+-- what one of them holds the other holds
+live-held : (h k : List Entry) (live : List Live) → LiveTells live h → LiveTells live k → IsLawful k → length h ≡ length k
+    → ((i : ℕ) → (entry_at h i).year ≡ (entry_at k i).year) → (i : ℕ) (id : List ℕ) → holds h i id ≡ true → holds k i id ≡ true
+live-held h k live a b law lengths years i id held =
+    let at = b.right _ (a.whole id i held) in
+    let lt = in-history h i id held in
+    let year : (entry_at k i).year ≡ (entry_at k at.0).year = sym (years i) ∙ nat-of _ _ at.2 in
+    let same = same-index k law i at.0 (omega (arith, lt, lengths)) at.1 year in
+    ap (λ (n : ℕ). holds k n id) same ∙ at.3
+
+pub one-live-history : (c : Content) (h k : List Entry) → TellsLive c h → TellsLive c k → IsSameHistory h k
+one-live-history c h k s t = same-history c h k s.kept t.kept s.years_are t.years_are s.lines_are t.lines_are (λ n years i id. both_ways (holds h i id) (holds k i id)
+    (live-held h k c.live s.live_are t.live_are t.kept.lawful n years i id)
+    (live-held k h c.live t.live_are s.live_are s.kept.lawful (sym n) (λ j. sym (years j)) i id))

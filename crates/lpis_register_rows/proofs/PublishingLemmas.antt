@@ -1,0 +1,270 @@
+-- Publishing: what the tables say after it.
+use Rattle.std.proofs.Common.{◌≡◌, ◌∙◌, ◌≤◌, ◌+◌, ◌⊎◌, inl, inr, refl, sym, ap, ap₂, subst, arith, ℕ, suc, ℤ, pos, List, [], ◌∷◌, ◌++◌, Bool, true, false, cond, map, length, Option, None, Some}
+use Rattle.std.proofs.Common.{IsPermutation, ◌&&◌, ◌||◌, not, is_some, filter, is_eq, nat_cmp, Less}
+use Rattle.lpis_register_rows.proofs.Common.{AllByRecursion, list_any, slice_cmp, IsPermutation-sym, IsPermutation-trans, or_left, or_right, and-false, has_id, is_id, same_id, Entry, Row, Adds}
+use Rattle.lpis_register_rows.proofs.Common.{IsLawful}
+use Rattle.lpis_register_rows.proofs.Common.{RowsFit, entry_at, holds, last_live, first_held, last_held, span_of, entry-after, entry-before, entry-here}
+use Rattle.lpis_register_rows.proofs.Common.{same-exact, same-refl, filter-none, longer, before-at-after}
+use Rattle.lpis_register_rows.proofs.Common.{Content, Line, StoredSpan, lines_from, IsKept, IsSpanRow, SpansTell, Tells, last_of_years, lines_of, shown, years_of}
+use Rattle.std.specs.List.Sorted.{IsStrictlySortedBy}
+use Rattle.std.proofs.lemmas.List.{append-nil, append_assoc}
+use Rattle.std.proofs.lemmas.List.Sorted.{IsPermutation-cons, IsPermutation-to_front, IsPermutation-append_right, IsPermutation-append_comm}
+use Rattle.std.proofs.lemmas.List.Folds.{list_any-append}
+use Rattle.lpis_lineage.specs.declared.span.Span.{Span as Years}
+use Rattle.lpis_lineage.specs.private.Follows.{Follows}
+use Rattle.lpis_lineage.specs.private.Keeping.{begun, ended_in}
+use Rattle.lpis_lineage.specs.Lineage.{last_year}
+use Rattle.lpis_lineage.specs.Order.{IsAscending}
+use Rattle.lpis_lineage.specs.Spans.{span_between}
+use Rattle.lpis_lineage.proofs.Shared.{same-by_order, filter-append, follows-back, first-index, span-more}
+use Rattle.lpis_register_rows.specs.Content.{published}
+use Rattle.lpis_register_rows.specs.Tells.{IsWriting}
+use Rattle.lpis_register_rows.proofs.AscendingLemmas.{all-append}
+use Rattle.lpis_register_rows.proofs.FoldLemmas.{end_among, fresh_span, published-is, rev-moved, rev_onto}
+use Rattle.lpis_register_rows.proofs.SpanRowLemmas.{spans-moved, told-some}
+
+-- ---- years and rows of one release more
+
+pub years-more : (h : List Entry) (e : Entry) → years_of (h ++ e ∷ []) ≡ years_of h ++ pos e.year ∷ []
+years-more [] e = refl
+years-more (x ∷ h) e = ap (λ (l : List ℤ). pos x.year ∷ l) (years-more h e)
+
+pub lines-more : (h : List Entry) (e : Entry) → lines_of (h ++ e ∷ []) ≡ lines_of h ++ lines_from (pos e.year) 0 e.rows
+lines-more [] e = append-nil (lines_from (pos e.year) 0 e.rows)
+lines-more (x ∷ h) e = ap (λ (l : List Line). lines_from (pos x.year) 0 x.rows ++ l) (lines-more h e)
+    ∙ sym (append_assoc (lines_from (pos x.year) 0 x.rows) (lines_of h) (lines_from (pos e.year) 0 e.rows))
+
+years-told : (ys : List ℤ) (h : List Entry) (e : Entry) → IsPermutation ys (years_of h) → IsPermutation (pos e.year ∷ ys) (years_of (h ++ e ∷ []))
+years-told ys h e m = subst (λ (l : List ℤ). IsPermutation (pos e.year ∷ ys) l) (sym (years-more h e)) (
+    IsPermutation-trans (pos e.year ∷ ys) (pos e.year ∷ years_of h) (years_of h ++ pos e.year ∷ [])
+    (IsPermutation-cons (pos e.year) ys (years_of h) m) (IsPermutation-sym (years_of h ++ pos e.year ∷ []) (pos e.year ∷ years_of h) (IsPermutation-to_front (years_of h) (pos e.year))))
+
+lines-told : (ls : List Line) (h : List Entry) (e : Entry) → IsPermutation ls (lines_of h) → IsPermutation (rev_onto (lines_from (pos e.year) 0 e.rows) ls) (lines_of (h ++ e ∷ []))
+lines-told ls h e m =
+    let new : List Line = lines_from (pos e.year) 0 e.rows in
+    subst (λ (l : List Line). IsPermutation (rev_onto new ls) l) (sym (lines-more h e)) (
+    IsPermutation-trans (rev_onto new ls) (new ++ ls) (lines_of h ++ new) (IsPermutation-sym (new ++ ls) (rev_onto new ls) (rev-moved new ls)) (
+    IsPermutation-trans (new ++ ls) (new ++ lines_of h) (lines_of h ++ new) (IsPermutation-append_right new ls (lines_of h) m) (IsPermutation-append_comm new (lines_of h))))
+
+-- ---- identifiers of one release more
+
+holds-more : (h : List Entry) (e : Entry) (i : ℕ) (id : List ℕ) → holds (h ++ e ∷ []) i id ≡ true → (holds h i id ≡ true) ⊎ (has_id e.live id ≡ true)
+holds-more h e i id held =
+    let n = longer h e in
+    elim (before-at-after i (length h)) as (λ _. (holds h i id ≡ true) ⊎ (has_id e.live id ≡ true)) [
+      | inl a ↦ inl (ap (λ (x : Entry). has_id x.live id) (sym (entry-before h e i a)) ∙ held)
+      | inr b ↦ elim b as (λ _. (holds h i id ≡ true) ⊎ (has_id e.live id ≡ true)) [
+        | inl at ↦ inr (ap (λ (x : Entry). has_id x.live id) (sym (entry-here h e) ∙ ap (λ (k : ℕ). entry_at (h ++ e ∷ []) k) (sym at)) ∙ held)
+        | inr c ↦ absurd (let no = ap (λ (x : Entry). has_id x.live id) (entry-after (h ++ e ∷ []) i (omega (arith, n))) in cc)
+      ]
+    ]
+
+-- what has a span is in some release
+pub spanned : (h : List Entry) (id : List ℕ) → is_some (span_of h id) ≡ true → (i : ℕ) × (holds h i id ≡ true)
+spanned h id s = by (first_held h id) refl s where
+  by : (f : Option ℕ) → f ≡ first_held h id → is_some (span_between f (last_held h id) (has_id (last_live h) id)) ≡ true → (i : ℕ) × (holds h i id ≡ true)
+  by None e s = absurd cc
+  by (Some y) e s = let p = first-index h id y (sym e) in (p.0, p.1)
+
+-- a new identifier is fresh or was in some release
+fresh-or-old : (h : List Entry) (live gone fresh : List (List ℕ)) (id : List ℕ) → IsWriting h live gone fresh → has_id live id ≡ true → (has_id fresh id ≡ true) ⊎ ((i : ℕ) × (holds h i id ≡ true))
+fresh-or-old h live gone fresh id w is = by (is_some (span_of h id)) refl where
+  by : (b : Bool) → b ≡ is_some (span_of h id) → (has_id fresh id ≡ true) ⊎ ((i : ℕ) × (holds h i id ≡ true))
+  by true e = inr (spanned h id (sym e))
+  by false e = inl (w.fresh_are.are id ∙ ap (λ (t : Bool). t && not (is_some (span_of h id))) is ∙ ap not (sym e))
+
+kept-more : (h : List Entry) (e : Entry) (live gone fresh : List (List ℕ)) → IsKept h → IsLawful (h ++ e ∷ []) → RowsFit (h ++ e ∷ []) → e.year ≤ last_of_years
+    → ((q : List ℕ) → has_id e.live q ≡ has_id live q) → IsWriting h live gone fresh → IsKept (h ++ e ∷ [])
+kept-more h e live gone fresh kept law fit small alike w = record {
+  lawful = law;
+  fits = fit;
+  ids = λ id i held. elim (holds-more h e i id held) as (λ _. is_id id ≡ true) [
+    | inl old ↦ kept.ids id i old
+    | inr new ↦ elim (fresh-or-old h live gone fresh id w (sym (alike id) ∙ new)) as (λ _. is_id id ≡ true) [ inl f ↦ w.fresh_are.ids id f | inr o ↦ kept.ids id o.0 o.1 ]
+  ];
+  years = λ i. let n = longer h e in elim (before-at-after i (length h)) as (λ _. (entry_at (h ++ e ∷ []) i).year ≤ last_of_years) [
+    | inl a ↦ let y = kept.years i in let s = ap (λ (x : Entry). x.year) (entry-before h e i a) in omega (arith, y, s)
+    | inr b ↦ elim b as (λ _. (entry_at (h ++ e ∷ []) i).year ≤ last_of_years) [
+      | inl at ↦ let s = ap (λ (k : ℕ). (entry_at (h ++ e ∷ []) k).year) at in let t = ap (λ (x : Entry). x.year) (entry-here h e) in omega (arith, s, t, small)
+      | inr c ↦ let s = ap (λ (x : Entry). x.year) (entry-after (h ++ e ∷ []) i (omega (arith, n))) in omega (arith, s)
+    ]
+  ];
+}
+
+-- ---- spans of one release more
+
+-- the span of an identifier, by what is written
+span-next : (h : List Entry) (e : Entry) (live gone fresh : List (List ℕ)) (id : List ℕ) → Follows h e.live e.rows → ((q : List ℕ) → has_id e.live q ≡ has_id live q) → IsWriting h live gone fresh
+    → span_of (h ++ e ∷ []) id ≡ ended_in (has_id gone id) (last_year h) (begun (has_id fresh id) e.year (span_of h id))
+span-next h e live gone fresh id follows alike w =
+    sym (span-more h e id follows)
+    ∙ ap (λ (b : Bool). ended_in (has_id (last_live h) id && not b) (last_year h) (begun (b && not (is_some (span_of h id))) e.year (span_of h id))) (alike id)
+    ∙ ap (λ (b : Bool). ended_in b (last_year h) (begun (has_id live id && not (is_some (span_of h id))) e.year (span_of h id))) (sym (w.gone_are id))
+    ∙ ap (λ (b : Bool). ended_in (has_id gone id) (last_year h) (begun b e.year (span_of h id))) (sym (w.fresh_are.are id))
+
+-- a fresh identifier is in the release, is not dropped, and had no span
+fresh-facts : (h : List Entry) (live gone fresh : List (List ℕ)) (id : List ℕ) → IsWriting h live gone fresh → has_id fresh id ≡ true → (has_id gone id ≡ false) × (is_some (span_of h id) ≡ false)
+fresh-facts h live gone fresh id w is = by (has_id live id) refl (is_some (span_of h id)) refl (sym (w.fresh_are.are id) ∙ is) where
+  by : (l : Bool) → l ≡ has_id live id → (s : Bool) → s ≡ is_some (span_of h id) → (l && not s) ≡ true → (has_id gone id ≡ false) × (is_some (span_of h id) ≡ false)
+  by true el true es e = absurd cc
+  by true el false es e = (w.gone_are id ∙ ap (λ (t : Bool). has_id (last_live h) id && not t) (sym el) ∙ and-false (has_id (last_live h) id), sym es)
+  by false el s es e = absurd cc
+
+abbrev both : ℤ → ℤ → Option (ℤ × ℤ)
+both a b = Some (a, b)
+
+fresh-right : (h : List Entry) (e : Entry) (live gone fresh : List (List ℕ)) (id : List ℕ) → Follows h e.live e.rows
+    → ((q : List ℕ) → has_id e.live q ≡ has_id live q) → IsWriting h live gone fresh → has_id fresh id ≡ true
+    → IsSpanRow (h ++ e ∷ []) (fresh_span (pos e.year) id)
+fresh-right h e live gone fresh id follows alike w is =
+    let f = fresh-facts h live gone fresh id w is in
+    ap shown (span-next h e live gone fresh id follows alike w
+    ∙ ap (λ (b : Bool). ended_in b (last_year h) (begun (has_id fresh id) e.year (span_of h id))) f.0
+    ∙ ap (λ (b : Bool). ended_in false (last_year h) (begun b e.year (span_of h id))) is)
+
+old-right : (h : List Entry) (e : Entry) (live gone fresh : List (List ℕ)) (s : StoredSpan) → Follows h e.live e.rows → ((q : List ℕ) → has_id e.live q ≡ has_id live q) → IsWriting h live gone fresh
+    → IsSpanRow h s → IsSpanRow (h ++ e ∷ []) (end_among (pos (last_year h)) gone s)
+old-right h e live gone fresh s follows alike w told = by (has_id gone s.id) refl (has_id fresh s.id) refl (span_of h s.id) refl told (span-next h e live gone fresh s.id follows alike w) where
+  since_in : Option (ℤ × ℤ) → ℤ
+  since_in None = pos 0
+  since_in (Some p) = p.0
+
+  by : (g : Bool) → g ≡ has_id gone s.id → (f : Bool) → f ≡ has_id fresh s.id → (o : Option Years) → o ≡ span_of h s.id → shown o ≡ Some (s.since, s.until)
+      → span_of (h ++ e ∷ []) s.id ≡ ended_in (has_id gone s.id) (last_year h) (begun (has_id fresh s.id) e.year (span_of h s.id))
+      → IsSpanRow (h ++ e ∷ []) (end_among (pos (last_year h)) gone s)
+  by g eg f ef None eo t n = absurd cc
+  by g eg true ef (Some y) eo t n = absurd (let u = (fresh-facts h live gone fresh s.id w (sym ef)).1 in let v = ap is_some eo in cc)
+  by true eg false ef (Some y) eo t n =
+      rw (← eg) (ap shown n ∙ rw (← eg, ← ef, ← eo) (ap (λ (z : ℤ). both z (pos (last_year h))) (ap since_in t)))
+  by false eg false ef (Some y) eo t n = rw (← eg) (ap shown n ∙ rw (← eg, ← ef, ← eo) t)
+
+-- ending keeps the identifier
+end-id : (y : ℤ) (gone : List (List ℕ)) (s : StoredSpan) → (end_among y gone s).id ≡ s.id
+end-id y gone s = by (has_id gone s.id) refl where
+  by : (b : Bool) → b ≡ has_id gone s.id → (end_among y gone s).id ≡ s.id
+  by true e = rw (← e) refl
+  by false e = rw (← e) refl
+
+pub same-length : {A B : Type 0} (b : Bool) (x : A) (y : B) (xs : List A) (ys : List B) → length xs ≡ length ys → length (cond b (x ∷ xs) xs) ≡ length (cond b (y ∷ ys) ys)
+same-length true x y xs ys e = ap suc e
+same-length false x y xs ys e = e
+
+count-ended : (y : ℤ) (gone : List (List ℕ)) (id : List ℕ) (spans : List StoredSpan)
+    → length (filter (λ s. same_id id s.id) (map (end_among y gone) spans)) ≡ length
+    (filter (λ s. same_id id s.id) spans)
+count-ended y gone id [] = refl
+count-ended y gone id (s ∷ ss) =
+    ap
+    (λ (q : List ℕ). length
+    (cond (same_id id q) (end_among y gone s ∷ filter (λ s. same_id id s.id) (map (end_among y gone) ss))
+    (filter (λ s. same_id id s.id) (map (end_among y gone) ss)))) (end-id y gone s) ∙ same-length (same_id id s.id) _ _
+    _ _ (count-ended y gone id ss)
+
+any-ended : (y : ℤ) (gone : List (List ℕ)) (id : List ℕ) (spans : List StoredSpan) → list_any (λ s. same_id id s.id) (map (end_among y gone) spans) ≡ list_any (λ s. same_id id s.id) spans
+any-ended y gone id [] = refl
+any-ended y gone id (s ∷ ss) = ap₂ (λ (q : List ℕ) (b : Bool). same_id id q || b) (end-id y gone s) (any-ended y gone id ss)
+
+count-fresh : (y : ℤ) (id : List ℕ) (ids : List (List ℕ)) → length (filter (λ s. same_id id s.id) (map (fresh_span y) ids)) ≡ length (filter (same_id id) ids)
+count-fresh y id [] = refl
+count-fresh y id (q ∷ qs) = same-length (same_id id q) (fresh_span y q) q _ _ (count-fresh y id qs)
+
+any-fresh : (y : ℤ) (id : List ℕ) (ids : List (List ℕ)) → list_any (λ s. same_id id s.id) (map (fresh_span y) ids) ≡ has_id ids id
+any-fresh y id [] = refl
+any-fresh y id (q ∷ qs) = ap (λ (b : Bool). same_id id q || b) (any-fresh y id qs)
+
+-- ascending identifiers stand once
+none-above : (id : List ℕ) (ids : List (List ℕ)) → AllByRecursion (λ y. slice_cmp nat_cmp id y ≡ Less) ids → has_id ids id ≡ false
+none-above id [] all = refl
+none-above id (x ∷ xs) all = by (none-above id xs all.1) (same_id id x) refl where
+  by : has_id xs id ≡ false → (b : Bool) → b ≡ same_id id x → (b || has_id xs id) ≡ false
+  by ih true e = absurd (let s = same-by_order id x in let n = all.0 in let m = ap is_eq n in cc)
+  by ih false e = ih
+
+pub once-ascending : (id : List ℕ) (ids : List (List ℕ)) → IsAscending ids → length (filter (same_id id) ids) ≤ 1
+unfolding IsStrictlySortedBy
+once-ascending id [] a = omega arith
+once-ascending id (x ∷ xs) a = by (same_id id x) refl (once-ascending id xs a.1) where
+  by : (b : Bool) → b ≡ same_id id x → length (filter (same_id id) xs) ≤ 1 → length (cond b (x ∷ filter (same_id id) xs) (filter (same_id id) xs)) ≤ 1
+  by true e ih = let z = filter-none (same_id id) xs (ap (has_id xs) (same-exact id x (sym e)) ∙ none-above x xs a.0) in omega (arith, z)
+  by false e ih = ih
+
+spans-told : (spans : List StoredSpan) (h : List Entry) (e : Entry) (live gone fresh : List (List ℕ))
+    → Follows h e.live e.rows → ((q : List ℕ) → has_id e.live q ≡ has_id live q) → IsWriting h live gone fresh
+    → SpansTell spans h → SpansTell (rev_onto (map (fresh_span (pos e.year)) fresh) (map (end_among (pos (last_year h)) gone) spans)) (h ++ e ∷ [])
+spans-told spans h e live gone fresh follows alike w t = spans-moved (new ++ old) (rev_onto new old) (h ++ e ∷ []) (rev-moved new old) (record { once = once; right = right; whole = whole }) where
+  new : List StoredSpan
+  new = map (fresh_span (pos e.year)) fresh
+
+  old : List StoredSpan
+  old = map (end_among (pos (last_year h)) gone) spans
+
+  once : (id : List ℕ) → length (filter (λ s. same_id id s.id) (new ++ old)) ≤ 1
+  once id =
+      let sum = filter-append (λ (s : StoredSpan). same_id id s.id) new old in
+      let a = count-fresh (pos e.year) id fresh in
+      let b = count-ended (pos (last_year h)) gone id spans in
+      by (has_id fresh id) refl sum a b where
+        by : (f : Bool) → f ≡ has_id fresh id → length (filter (λ s. same_id id s.id) (new ++ old)) ≡ length (filter (λ s. same_id id s.id) new) + length (filter (λ s. same_id id s.id) old)
+            → length (filter (λ s. same_id id s.id) new) ≡ length (filter (same_id id) fresh) → length (filter (λ s. same_id id s.id) old) ≡ length (filter (λ s. same_id id s.id) spans)
+            → length (filter (λ s. same_id id s.id) (new ++ old)) ≤ 1
+        by true ef sum a b =
+            let none : list_any (λ s. same_id id s.id) spans ≡ false = unheld (list_any (λ s. same_id id s.id) spans) refl in
+            let z = filter-none (λ (s : StoredSpan). same_id id s.id) spans none in
+            let o = once-ascending id fresh w.fresh_are.ascend in
+            omega (arith, sum, a, b, z, o) where
+              unheld : (x : Bool) → x ≡ list_any (λ s. same_id id s.id) spans → list_any (λ s. same_id id s.id) spans ≡ false
+              unheld true ex = absurd (let s = told-some h id spans t.right (sym ex) in let n = (fresh-facts h live gone fresh id w (sym ef)).1 in cc)
+              unheld false ex = sym ex
+        by false ef sum a b = let z = filter-none (same_id id) fresh (sym ef) in let o = t.once id in omega (arith, sum, a, b, z, o)
+
+  right : AllByRecursion (IsSpanRow (h ++ e ∷ [])) (new ++ old)
+  right = all-append (IsSpanRow (h ++ e ∷ [])) new old (all-new fresh (λ id is. is)) (all-old spans t.right) where
+    all-new : (ids : List (List ℕ)) → ((id : List ℕ) → has_id ids id ≡ true → has_id fresh id ≡ true) → AllByRecursion (IsSpanRow (h ++ e ∷ [])) (map (fresh_span (pos e.year)) ids)
+    all-new [] among = tt
+    all-new (q ∷ qs) among = (
+      fresh-right h e live gone fresh q follows alike w
+          (among q (ap (λ (b : Bool). b || has_id qs q) (same-refl q))),
+      all-new qs (λ id is. among id (or_right (same_id id q) (has_id qs id) is)),
+    )
+
+    all-old : (ss : List StoredSpan) → AllByRecursion (IsSpanRow h) ss → AllByRecursion (IsSpanRow (h ++ e ∷ [])) (map (end_among (pos (last_year h)) gone) ss)
+    all-old [] a = tt
+    all-old (s ∷ ss) a = (old-right h e live gone fresh s follows alike w a.0, all-old ss a.1)
+
+  whole : (id : List ℕ) (i : ℕ) → holds (h ++ e ∷ []) i id ≡ true → list_any (λ s. same_id id s.id) (new ++ old) ≡ true
+  whole id i held = list_any-append (λ (s : StoredSpan). same_id id s.id) new old ∙ elim (holds-more h e i id held) as
+      (λ _. (list_any (λ s. same_id id s.id) new || list_any (λ s. same_id id s.id) old) ≡ true) [
+        | inl was ↦ here i was
+        | inr is ↦ elim (fresh-or-old h live gone fresh id w (sym (alike id) ∙ is)) as (λ _. (list_any (λ s. same_id id s.id) new || list_any (λ s. same_id id s.id) old) ≡ true) [
+          | inl f ↦ or_left (list_any (λ s. same_id id s.id) new) (list_any (λ s. same_id id s.id) old) (any-fresh (pos e.year) id fresh ∙ f)
+          | inr o ↦ here o.0 o.1
+        ]
+      ] where
+        here : (j : ℕ) → holds h j id ≡ true → (list_any (λ s. same_id id s.id) new || list_any (λ s. same_id id s.id) old) ≡ true
+        here j was = or_right (list_any (λ s. same_id id s.id) new) (list_any (λ s. same_id id s.id) old) (any-ended (pos (last_year h)) gone id spans ∙ t.whole id j was)
+
+-- the law
+pub published-tells : (c : Content) (h k : List Entry) (year : ℕ) (live gone fresh : List (List ℕ)) (rows : List Row)
+    → Tells c h → Adds h k year live rows → IsLawful k → RowsFit k → year ≤ last_of_years → IsWriting h live gone fresh
+    → Tells (published (pos year) (pos (last_year h)) gone fresh rows c) k
+published-tells c h k year live gone fresh rows t (e, k-is, year-is, is) law fit small w =
+    by (subst IsLawful k-is law) (subst RowsFit k-is fit) where
+      at : (y : ℕ) (rs : List Row) → e.year ≡ y → e.rows ≡ rs → IsLawful (h ++ e ∷ []) → RowsFit (h ++ e ∷ [])
+          → e.year ≤ last_of_years → Tells (published (pos e.year) (pos (last_year h)) gone fresh e.rows c)
+          (h ++ e ∷ [])
+      at y rs ey er law fit small =
+          let follows = follows-back h e law fit in
+          subst (λ (d : Content). Tells d (h ++ e ∷ [])) (sym (published-is (pos e.year) (pos (last_year h)) gone fresh e.rows c)) (record {
+            kept = kept-more h e live gone fresh t.kept law fit small is.ids w;
+            formats_are = t.formats_are;
+            years_are = years-told c.years h e t.years_are;
+            spans_are = spans-told c.spans h e live gone fresh follows is.ids w t.spans_are;
+            lines_are = lines-told c.lines h e t.lines_are;
+          })
+
+      by : IsLawful (h ++ e ∷ []) → RowsFit (h ++ e ∷ []) → Tells (published (pos year) (pos (last_year h)) gone fresh rows c) k
+      by law fit =
+          subst (λ (l : List Entry). Tells (published (pos year) (pos (last_year h)) gone fresh rows c) l) (sym k-is) (
+          subst (λ (y : ℕ). Tells (published (pos y) (pos (last_year h)) gone fresh rows c) (h ++ e ∷ [])) year-is (
+          subst (λ (rs : List Row). Tells (published (pos e.year) (pos (last_year h)) gone fresh rs c) (h ++ e ∷ []))
+          is.rows_are (at year rows year-is is.rows_are law fit (omega (arith, small, year-is)))))

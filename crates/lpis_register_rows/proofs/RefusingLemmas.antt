@@ -1,0 +1,104 @@
+-- What rows that say a history have: what they are refused for otherwise.
+use Rattle.std.proofs.Common.{◌≡◌, ◌∙◌, ◌≤◌, ◌+◌, ◌⊎◌, inl, inr, refl, sym, ap, subst, arith, ℕ, zero, suc, ℤ, pos, List, [], ◌∷◌, true, Option, None, Some, length, map, IsPermutation, is_some}
+use Rattle.std.proofs.Common.{IsSorted, All, filter, IsSortedByKey, nat_cmp}
+use Rattle.lpis_register_rows.proofs.Common.{AllByRecursion, list_any, All-from_recursion, All-permutation, IsPermutation-sym, or_left, or_right, is_id, same_id, Entry, Row, entry_at, names, span_of}
+use Rattle.lpis_register_rows.proofs.Common.{same-refl, above-zero, KnownLine, KnownSpan, Content, Line, StoredSpan, lines_from, text_of, IsKept, IsSameHistory, IsSpanRow, SpansTell, Tells, lines_of}
+use Rattle.lpis_register_rows.proofs.Common.{shown}
+use Rattle.lpis_register_rows.proofs.Common.{years_of, IsSaid, HasText, SetsAre, line_cmp, line_in, span_in}
+use Rattle.lpis_lineage.specs.declared.span.Span.{Span as Years}
+use Rattle.lpis_lineage.specs.Lineage.{is_of, is_this}
+use Rattle.lpis_register_rows.specs.private.Known.{IsReadable, IsYear}
+use Rattle.lpis_register_rows.proofs.AscendingLemmas.{all-append, all-map}
+use Rattle.lpis_register_rows.proofs.FrontLemmas.{span-same}
+use Rattle.lpis_register_rows.proofs.OneHistoryLemmas.{sets-told}
+use Rattle.lpis_register_rows.proofs.PublishingLemmas.{spanned}
+use Rattle.lpis_register_rows.proofs.SayingLemmas.{count-map}
+use Rattle.lpis_register_rows.proofs.SortingLemmas.{sorted-lines, sorted-years}
+use Rattle.lpis_register_rows.proofs.YearLemmas.{all-entries, lines-ascend, years-ascend}
+
+all-moved-from : {A : Type 0} (P : A → Type 0) (xs ys : List A) → IsPermutation xs ys → AllByRecursion P ys → All P xs
+all-moved-from P xs ys p all = All-permutation P ys xs (IsPermutation-sym xs ys p) (All-from_recursion P ys all)
+
+-- ---- years
+
+all-years : (h : List Entry) → AllByRecursion (λ e. IsYear (pos e.year)) h → AllByRecursion IsYear (years_of h)
+all-years [] all = tt
+all-years (x ∷ h) all = (all.0, all-years h all.1)
+
+pub told-years : (h : List Entry) (ys : List ℤ) → IsKept h → IsPermutation ys (years_of h) → All IsYear ys
+told-years h ys kept p = all-moved-from IsYear ys (years_of h) p
+    (all-years h
+    (all-entries (λ e. IsYear (pos e.year)) h
+    (λ i lt. ((entry_at h i).year, refl, above-zero h kept.lawful i lt, kept.years i))))
+
+pub told-sorted-years : (h : List Entry) (ys : List ℤ) (sorted : List ℕ) → IsKept h → IsSorted nat_cmp sorted
+    → IsPermutation ys (map (λ y. pos y) sorted) → IsPermutation ys (years_of h) → years_of h ≡ map (λ y. pos y) sorted
+told-sorted-years h ys sorted kept up p q = sorted-years ys sorted (years_of h) up (years-ascend h kept.lawful) p q
+
+-- ---- spans
+
+pub told-ids : (h : List Entry) (spans : List StoredSpan) → IsKept h → SpansTell spans h → All (λ s. is_id s.id ≡ true) spans
+told-ids h spans kept t = All-from_recursion (λ s. is_id s.id ≡ true) spans
+    (all-map (IsSpanRow h) (λ s. is_id s.id ≡ true) spans (λ s is. let there =
+    spanned h s.id (some (span_of h s.id) (s.since, s.until) is) in kept.ids s.id there.0 there.1) t.right) where
+      some : (o : Option Years) (p : ℤ × ℤ) → shown o ≡ Some p → is_some o ≡ true
+      some None p e = absurd cc
+      some (Some y) p e = refl
+
+-- ---- lines
+
+readable-new : (o : Option (List ℕ)) → ((id : List ℕ) → o ≡ Some id → is_id id ≡ true) → (text_of o ≡ []) ⊎ (is_id (text_of o) ≡ true)
+readable-new None f = inl refl
+readable-new (Some id) f = inr (f id refl)
+
+readable-rows : (y : ℤ) (n : ℕ) (rows : List Row) → ((id : List ℕ) → list_any (is_of id) rows ≡ true → is_id id ≡ true)
+    → ((id : List ℕ) → list_any (names id) rows ≡ true → is_id id ≡ true) → AllByRecursion IsReadable (lines_from y n rows)
+readable-rows y n [] old new = tt
+readable-rows y n (r ∷ rs) old new = (
+  (
+    old r.old (or_left (is_of r.old r) (list_any (is_of r.old) rs) (same-refl r.old)),
+    readable-new r.new
+        (λ id e. new id (or_left (names id r) (list_any (names id) rs) (ap (λ (o : Option (List ℕ)). is_this id o) e
+        ∙ same-refl id))),
+  ),
+  readable-rows y (n + 1) rs (λ id e. old id (or_right (is_of id r) (list_any (is_of id) rs) e)) (λ id e. new id (or_right (names id r) (list_any (names id) rs) e)),
+)
+
+readable-entry : (h : List Entry) → IsKept h → (i : ℕ) → AllByRecursion IsReadable (lines_from (pos (entry_at h i).year) 0 (entry_at h i).rows)
+readable-entry h kept i = readable-rows (pos (entry_at h i).year) 0 (entry_at h i).rows (old i) (λ id e. kept.ids id i (kept.lawful.successors id i e)) where
+  old : (i : ℕ) (id : List ℕ) → list_any (is_of id) (entry_at h i).rows ≡ true → is_id id ≡ true
+  old zero id e = let none = ap (λ (rs : List Row). list_any (is_of id) rs) kept.fits.first in absurd (let no = sym none ∙ e in cc)
+  old (suc i) id e = let n : suc i ≡ i + 1 = omega arith in let d = kept.fits.of_dropped id i (ap (λ (k : ℕ). list_any (is_of id) (entry_at h k).rows) (sym n) ∙ e) in kept.ids id i d.1
+
+all-lines : (h : List Entry) → AllByRecursion (λ e. AllByRecursion IsReadable (lines_from (pos e.year) 0 e.rows)) h → AllByRecursion IsReadable (lines_of h)
+all-lines [] all = tt
+all-lines (x ∷ h) all = all-append IsReadable (lines_from (pos x.year) 0 x.rows) (lines_of h) all.0 (all-lines h all.1)
+
+pub told-lines : (h : List Entry) (ls : List Line) → IsKept h → IsPermutation ls (lines_of h) → All IsReadable ls
+told-lines h ls kept p = all-moved-from IsReadable ls (lines_of h) p (all-lines h (all-entries (λ e. AllByRecursion IsReadable (lines_from (pos e.year) 0 e.rows)) h (λ i lt. readable-entry h kept i)))
+
+pub told-sorted-lines : (h : List Entry) (ls : List Line) (sorted : List KnownLine) → IsKept h → IsSortedByKey line_in line_cmp sorted
+    → IsPermutation ls (map line_in sorted) → IsPermutation ls (lines_of h) → lines_of h ≡ map line_in sorted
+told-sorted-lines h ls sorted kept up p q = sorted-lines ls sorted (lines_of h) up (lines-ascend h (years-ascend h kept.lawful)) p q
+
+-- ---- all that was read
+
+pub told-said : (c : Content) (h : List Entry) (spans : List KnownSpan) (lines : List KnownLine) → Tells c h → map span_in spans ≡ c.spans
+    → IsPermutation c.lines (map line_in lines) → IsSortedByKey line_in line_cmp lines → All (λ l. HasText l.row) lines → IsSaid spans lines h
+told-said c h spans lines t ss ls up texts = record {
+  kept = t.kept;
+  sets = subst (λ (l : List StoredSpan). SetsAre l h) (sym ss) (sets-told h c.spans t.kept.lawful t.spans_are);
+  lines_are = told-sorted-lines h c.lines lines t.kept up ls t.lines_are;
+  texts = texts;
+}
+
+pub told-few : (h : List Entry) (spans : List KnownSpan) (rows : List StoredSpan) → map span_in spans ≡ rows → SpansTell rows h → (id : List ℕ) → length (filter (λ s. same_id id s.id) spans) ≤ 1
+told-few h spans rows ss t id = let m = count-map spans id in let e = ap (λ (l : List StoredSpan). length (filter (λ s. same_id id s.id) l)) ss in let o = t.once id in omega (arith, m, e, o)
+
+right-back : (g h : List Entry) (spans : List KnownSpan) → IsSameHistory g h → AllByRecursion (IsSpanRow h) (map span_in spans) → AllByRecursion (λ s. IsSpanRow g (span_in s)) spans
+right-back g h [] same all = tt
+right-back g h (s ∷ ss) same all = (ap shown (span-same g h s.id same) ∙ all.0, right-back g h ss same all.1)
+
+pub told-right : (g h : List Entry) (spans : List KnownSpan) (rows : List StoredSpan) → map span_in spans ≡ rows → SpansTell rows h → IsSameHistory g h → All (λ s. IsSpanRow g (span_in s)) spans
+told-right g h spans rows ss t same = All-from_recursion (λ s. IsSpanRow g (span_in s)) spans
+    (right-back g h spans same (subst (λ (l : List StoredSpan). AllByRecursion (IsSpanRow h) l) (sym ss) t.right))

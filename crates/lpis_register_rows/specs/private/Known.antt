@@ -1,0 +1,59 @@
+-- What was read of rows: machinery, which only private contracts cite.
+use Rattle.std.specs.Prelude.{◌≡◌, ◌<◌, ◌≤◌, ◌⊎◌, ◌&&◌, ◌++◌, ◌∷◌, [], true, ℕ, zero, suc, ℤ, pos}
+use Rattle.std.specs.Prelude.{negsuc, List, length, Some}
+use Rattle.std.specs.List.{list_any}
+use Rattle.std.specs.Ordering.{int_cmp, ordering_then}
+use Rattle.std.specs.declared.cmp.Ordering.{Ordering}
+use Rattle.lpis_covers.specs.Ids.{is_id, same_id}
+use Rattle.lpis_lineage.specs.declared.row.Entry.{Entry}
+use Rattle.lpis_lineage.specs.declared.row.Row.{Row}
+use Rattle.lpis_lineage.specs.Lineage.{entry_at, holds}
+use Rattle.lpis_register_rows.specs.declared.known.KnownSpan.{KnownSpan}
+use Rattle.lpis_register_rows.specs.declared.known.KnownLine.{KnownLine}
+use Rattle.lpis_register_rows.specs.Content.{Line, Live, StoredSpan, text_of}
+use Rattle.lpis_register_rows.specs.Tells.{last_of_years}
+use Rattle.lpis_register_rows.specs.private.Covering.{covers}
+
+abbrev pub span_in : KnownSpan → StoredSpan
+span_in s = record { id = s.id; since = s.since; until = s.until }
+
+abbrev pub line_in : KnownLine → Line
+line_in l =
+    record { year = l.year; position = l.position; old = l.row.old; new = text_of l.row.new }
+
+-- the identifiers of releases, one after the other
+abbrev pub all_live : List Entry → List (List ℕ)
+all_live [] = []
+all_live (e ∷ h) = e.live ++ all_live h
+
+-- a live row as a span of one year
+abbrev pub one_year : Live → StoredSpan
+one_year l = record { id = l.id; since = l.year; until = l.year }
+
+-- each release holds the identifiers whose span covers its year
+abbrev pub SetsAre : List StoredSpan → List Entry → Type 0
+SetsAre spans h = (i : ℕ) → i < length h → (id : List ℕ)
+    → holds h i id ≡ list_any (λ s. same_id id s.id && covers s (entry_at h i).year) spans
+
+-- a successor's text is not empty
+abbrev pub HasText : Row → Type 0
+HasText r = r.new ≡ Some [] → ⊥
+
+-- a year that a release can have
+abbrev pub IsYear : ℤ → Type 0
+IsYear z = (y : ℕ) × (z ≡ pos y) × (0 < y) × (y ≤ last_of_years)
+
+-- the texts of a line can be read: the old identifier is one, and so is the successor, or it is
+-- empty
+abbrev pub IsReadable : Line → Type 0
+IsReadable l = (is_id l.old ≡ true) × ((l.new ≡ []) ⊎ (is_id l.new ≡ true))
+
+-- lines ascend by year, and in it by position
+abbrev pub line_cmp : Line → Line → Ordering
+line_cmp a b = ordering_then (int_cmp a.year b.year) (int_cmp a.position b.position)
+
+-- the line at a position of a list; past the end one of no year
+abbrev pub line_at : List Line → ℕ → Line
+line_at [] i = record { year = negsuc 0; position = negsuc 0; old = []; new = [] }
+line_at (l ∷ ls) zero = l
+line_at (l ∷ ls) (suc i) = line_at ls i

@@ -1,0 +1,85 @@
+//! Releases put together from years, spans and lines.
+
+ghost use Rattle.std.specs.Prelude.{◌≡◌, ◌≤◌, ◌++◌, ◌∷◌, List, [], pos, length, map, take, IfErr};
+ghost use Rattle.std.specs.Prelude.{IfOk, OnOk};
+ghost use Rattle.lpis_lineage.specs.declared.fault.AddFault.TheVariants.{Memory as WantsMemory};
+ghost use Rattle.lpis_lineage.specs.declared.row.Entry.{Entry};
+ghost use Rattle.lpis_register_rows.specs.declared.fault.RecordsFault.TheVariants.{Unlawful};
+ghost use Rattle.lpis_register_rows.specs.Tells.{IsSameHistory, lines_of, years_of};
+ghost use Rattle.lpis_register_rows.specs.private.Fronts.{IsDue, IsFront, IsSaid};
+ghost use Rattle.lpis_register_rows.specs.private.Known.{SetsAre, line_in, span_in};
+
+use crate::fault::RecordsFault;
+use crate::known::{KnownLine, KnownSpan};
+use crate::opening::{live_ids, rows_of_year};
+use lpis_lineage::{AddFault, History};
+use std::alloc::Global;
+
+/// Adds the release of a year, with the rows of the lines from a position on; the position after
+/// them.
+fn add_year(
+    alloc: Global,
+    history: &mut History,
+    spans: &[KnownSpan],
+    lines: &[KnownLine],
+    from: usize,
+    year: u16,
+) -> Result<usize, RecordsFault>
+    requires within { from ≤ length lines.now }
+    ensures within { IfOk result (λ next. next ≤ length lines.now) }
+    ensures years { OnOk result (years_of history.new ≡ years_of history.old ++ pos year ∷ []) }
+    ensures sets { OnOk result (SetsAre (map span_in spans.now) history.old
+        → SetsAre (map span_in spans.now) history.new) }
+    ensures lines { lines_of history.old ≡ map line_in (take from lines.now)
+        → IfOk result (λ next. lines_of history.new ≡ map line_in (take next lines.now)) }
+    ensures front { OnOk result ((h : List Entry) → IsSaid spans.now lines.now h
+        → IsDue history.old lines.now from year h → IsFront history.new h) }
+    ensures refused { IfErr result (λ e. e ≡ Unlawful → (h : List Entry)
+        → IsSaid spans.now lines.now h
+        → IsDue history.old lines.now from year h → ⊥) }
+{
+    let live = live_ids(alloc, spans, year)?;
+    let (rows, next) = rows_of_year(alloc, lines, from, year)?;
+    match history.add(year, live.as_slice(), rows.as_slice()) {
+        Ok(()) => Ok(next),
+        Err(fault) => Err(fault_of(fault)),
+    }
+}
+
+/// Why the release of rows is not added.
+fn fault_of(fault: AddFault) -> RecordsFault
+    ensures { result ≡ Unlawful → fault ≡ WantsMemory → ⊥ }
+{
+    match fault {
+        AddFault::Memory => RecordsFault::Memory,
+        AddFault::Year { .. } | AddFault::Lineage(_) => RecordsFault::Unlawful,
+    }
+}
+
+/// The history of these years, in which each release holds the identifiers whose span covers its
+/// year; all lines are used.
+pub(crate) fn build(
+    alloc: Global,
+    years: &[u16],
+    spans: &[KnownSpan],
+    lines: &[KnownLine],
+) -> Result<History, RecordsFault>
+    ensures years { IfOk result (λ h. years_of h ≡ map (λ y. pos y) years.now) }
+    ensures sets { IfOk result (SetsAre (map span_in spans.now)) }
+    ensures lines { IfOk result (λ h. lines_of h ≡ map line_in lines.now) }
+    ensures same { IfOk result (λ g. (h : List Entry) → IsSaid spans.now lines.now h
+        → years_of h ≡ map (λ y. pos y) years.now → IsSameHistory g h) }
+    ensures refused { IfErr result (λ e. e ≡ Unlawful → (h : List Entry)
+        → IsSaid spans.now lines.now h
+        → years_of h ≡ map (λ y. pos y) years.now → ⊥) }
+{
+    let mut history = History::new(alloc);
+    let mut next = 0;
+    for year in years {
+        next = add_year(alloc, &mut history, spans, lines, next, *year)?;
+    }
+    if next < lines.len() {
+        return Err(RecordsFault::Unlawful);
+    }
+    Ok(history)
+}

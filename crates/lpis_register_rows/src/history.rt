@@ -1,0 +1,38 @@
+//! The history that rows say.
+
+ghost use Rattle.std.specs.Prelude.{◌≡◌, List, IfErr, IfOk};
+ghost use Rattle.lpis_lineage.specs.declared.row.Entry.{Entry};
+ghost use Rattle.lpis_register_rows.specs.declared.fault.RecordsFault.TheVariants.{Unlawful};
+ghost use Rattle.lpis_register_rows.specs.Tells.{Tells};
+
+use crate::building::build;
+use crate::fault::RecordsFault;
+use crate::known::{none_twice, read_lines, read_spans, sorted_years};
+use crate::opening::{are_told, has_version};
+use crate::rows::Rows;
+use lpis_lineage::History;
+use std::alloc::Global;
+
+/// The history that rows of version 2 say, in whatever order they are; `Unlawful` exactly where
+/// they say none.
+pub fn history_of(alloc: Global, rows: &Rows) -> Result<History, RecordsFault>
+    ensures ok { IfOk result (Tells rows.now) }
+    ensures unlawful { IfErr result (λ e. e ≡ Unlawful → (h : List Entry) → Tells rows.now h → ⊥) }
+{
+    if !has_version(rows.formats(), 2) {
+        return Err(RecordsFault::Unlawful);
+    }
+    let years = sorted_years(alloc, rows.years())?;
+    let spans = read_spans(alloc, rows.spans())?;
+    let lines = read_lines(alloc, rows.lines())?;
+    let once = none_twice(alloc, spans.as_slice())?;
+    if !once {
+        return Err(RecordsFault::Unlawful);
+    }
+    let history = build(alloc, years.as_slice(), spans.as_slice(), lines.as_slice())?;
+    let _ = history.releases();
+    if !are_told(&history, spans.as_slice()) {
+        return Err(RecordsFault::Unlawful);
+    }
+    Ok(history)
+}

@@ -1,0 +1,219 @@
+//! Rows with their identifiers read.
+
+ghost use Rattle.std.specs.Prelude.{◌≡◌, ◌↔◌, ◌⊎◌, ◌≤◌, ◌<◌, true, false, pos, ℕ, List, [], length};
+ghost use Rattle.std.specs.Prelude.{map, Some, IfErr, IfNone, IfOk, IfSome, IsPermutation};
+ghost use Rattle.std.specs.Prelude.{IsSorted, IsTrue};
+ghost use Rattle.std.specs.List.{All, filter};
+ghost use Rattle.std.specs.List.Sorted.{IsSortedByKey};
+ghost use Rattle.std.specs.Ordering.{nat_cmp};
+ghost use Rattle.lpis_covers.specs.Ids.{is_id, same_id};
+ghost use Rattle.lpis_register_rows.specs.declared.fault.RecordsFault.TheVariants.{Unlawful};
+ghost use Rattle.lpis_register_rows.specs.Content.{text_of};
+ghost use Rattle.lpis_register_rows.specs.Tells.{last_of_years};
+ghost use Rattle.lpis_register_rows.specs.private.Covering.{covers};
+ghost use Rattle.lpis_register_rows.specs.private.Known.{HasText, IsReadable, IsYear, line_cmp, line_in};
+ghost use Rattle.lpis_register_rows.specs.private.Known.{span_in};
+
+use crate::fault::RecordsFault;
+use crate::rows::{LineRow, SpanRow};
+use lpis_covers::Id;
+use lpis_lineage::Row;
+use std::alloc::{AllocError, Global};
+use std::collections::BTreeSet;
+
+/// A row of `lpis_span` with its identifier.
+#[derive(Drop)]
+pub(crate) struct KnownSpan {
+    pub(crate) id: Id,
+    pub(crate) since: i64,
+    pub(crate) until: i64,
+}
+
+impl KnownSpan {
+    /// Whether the release of a year holds the identifier.
+    pub(crate) fn covers(&self, year: u16) -> bool
+        ensures { result ≡ covers (span_in self.now) year }
+    {
+        let year = i64::from(year);
+        self.since <= year && (self.until == 0 || year <= self.until)
+    }
+}
+
+/// The identifier of a text.
+pub(crate) fn read_id(alloc: Global, text: &str) -> Result<Id, RecordsFault>
+    ensures same { IfOk result (λ id. id ≡ text.now) }
+    ensures id { IfOk result (λ id. is_id text.now ≡ true) }
+    ensures refused { IfErr result (λ e. e ≡ Unlawful → is_id text.now ≡ false) }
+{
+    match Id::read(alloc, text.as_bytes())? {
+        Some(id) => Ok(id),
+        None => Err(RecordsFault::Unlawful),
+    }
+}
+
+/// A span with its identifier.
+fn read_span(alloc: Global, row: &SpanRow) -> Result<KnownSpan, RecordsFault>
+    ensures same { IfOk result (λ s. span_in s ≡ row.now) }
+    ensures id { IfOk result (λ s. is_id s.id ≡ true) }
+    ensures refused { IfErr result (λ e. e ≡ Unlawful → is_id row.now.id ≡ false) }
+{
+    let id = read_id(alloc, row.id())?;
+    let since = row.since();
+    let until = row.until();
+    Ok(KnownSpan { id, since, until })
+}
+
+/// The spans with their identifiers, in their order.
+pub(crate) fn read_spans(alloc: Global, rows: &[SpanRow]) -> Result<Vec<KnownSpan>, RecordsFault>
+    ensures same { IfOk result (λ v. map span_in v.items ≡ rows.now) }
+    ensures ids { IfOk result (λ v. All (λ s. is_id s.id ≡ true) v.items) }
+    ensures refused { IfErr result (λ e. e ≡ Unlawful → All (λ s. is_id s.id ≡ true) rows.now → ⊥) }
+{
+    let mut spans = Vec::new(alloc);
+    for row in rows {
+        let span = read_span(alloc, row)?;
+        spans.push(span)?;
+    }
+    Ok(spans)
+}
+
+/// Whether no identifier has two spans.
+pub(crate) fn none_twice(alloc: Global, spans: &[KnownSpan]) -> Result<bool, AllocError>
+    ensures once { IfOk result (λ b. IsTrue b → (id : List ℕ)
+        → length (filter (λ s. same_id id s.id) spans.now) ≤ 1) }
+    ensures twice { IfOk result (λ b. b ≡ false → ((id : List ℕ)
+        → length (filter (λ s. same_id id s.id) spans.now) ≤ 1) → ⊥) }
+{
+    let mut seen = BTreeSet::new(alloc);
+    for span in spans {
+        let id = span.id.copy()?;
+        let new = seen.insert(id)?;
+        if !new {
+            return Ok(false);
+        }
+    }
+    Ok(true)
+}
+
+/// A row of `lpis_row` with its row of lineage.
+#[derive(Drop)]
+pub(crate) struct KnownLine {
+    pub(crate) year: i64,
+    pub(crate) position: i64,
+    pub(crate) row: Row,
+}
+
+impl KnownLine {
+    /// Whether it is a row of this year.
+    pub(crate) fn is_of(&self, year: u16) -> bool
+        ensures { IsTrue result ↔ (self.now.year ≡ pos year) }
+    {
+        self.year == i64::from(year)
+    }
+
+    /// Whether it is the row of this year at this position.
+    pub(crate) fn is_at(&self, year: u16, position: usize) -> bool
+        ensures { IsTrue result
+            ↔ ((self.now.year ≡ pos year) × (self.now.position ≡ pos position)) }
+    {
+        self.year == i64::from(year) && 0 <= self.position && self.position as usize == position
+    }
+}
+
+/// The successor of a text, none where it is empty.
+fn read_successor(alloc: Global, text: &str) -> Result<Option<Id>, RecordsFault>
+    ensures same { IfOk result (λ new. text_of new ≡ text.now) }
+    ensures text { IfOk result (λ new. new ≡ Some [] → ⊥) }
+    ensures refused { IfErr result (λ e. e ≡ Unlawful → (text.now ≡ []) ⊎ (is_id text.now ≡ true)
+        → ⊥) }
+{
+    if text.is_empty() {
+        return Ok(None);
+    }
+    let id = read_id(alloc, text)?;
+    Ok(Some(id))
+}
+
+/// A line with its row.
+fn read_line(alloc: Global, line: &LineRow) -> Result<KnownLine, RecordsFault>
+    ensures same { IfOk result (λ l. line_in l ≡ line.now) }
+    ensures text { IfOk result (λ l. HasText l.row) }
+    ensures refused { IfErr result (λ e. e ≡ Unlawful → IsReadable line.now → ⊥) }
+{
+    let old = read_id(alloc, line.old())?;
+    let new = read_successor(alloc, line.new_text())?;
+    let year = line.year();
+    let position = line.position();
+    let row = Row { old, new };
+    Ok(KnownLine {
+        year,
+        position,
+        row,
+    })
+}
+
+/// The lines with their rows, by year and in it by position.
+pub(crate) fn read_lines(alloc: Global, lines: &[LineRow]) -> Result<Vec<KnownLine>, RecordsFault>
+    ensures same { IfOk result (λ v. IsPermutation lines.now (map line_in v.items)) }
+    ensures sorted { IfOk result (λ v. IsSortedByKey line_in line_cmp v.items) }
+    ensures texts { IfOk result (λ v. All (λ l. HasText l.row) v.items) }
+    ensures refused { IfErr result (λ e. e ≡ Unlawful → All IsReadable lines.now → ⊥) }
+{
+    let mut known = known_lines(alloc, lines)?;
+    known.sort_unstable_by_key(|line| (line.year, line.position));
+    Ok(known)
+}
+
+/// The lines with their rows, in their order.
+fn known_lines(alloc: Global, lines: &[LineRow]) -> Result<Vec<KnownLine>, RecordsFault>
+    ensures same { IfOk result (λ v. map line_in v.items ≡ lines.now) }
+    ensures texts { IfOk result (λ v. All (λ l. HasText l.row) v.items) }
+    ensures refused { IfErr result (λ e. e ≡ Unlawful → All IsReadable lines.now → ⊥) }
+{
+    let mut known = Vec::new(alloc);
+    for line in lines {
+        let line = read_line(alloc, line)?;
+        known.push(line)?;
+    }
+    Ok(known)
+}
+
+/// A year from 1 to 65,535.
+fn year_of(year: &i64) -> Option<u16>
+    ensures some { IfSome result (λ y. (year.now ≡ pos y) × (y ≤ last_of_years)) }
+    ensures none { IfNone result (IsYear year.now → ⊥) }
+{
+    if 1 <= *year && *year <= 65535 {
+        Some(*year as u16)
+    } else {
+        None
+    }
+}
+
+/// The years, ascending.
+pub(crate) fn sorted_years(alloc: Global, years: &[i64]) -> Result<Vec<u16>, RecordsFault>
+    ensures same { IfOk result (λ v. IsPermutation years.now (map (λ y. pos y) v.items)) }
+    ensures small { IfOk result (λ v. All (λ y. y ≤ last_of_years) v.items) }
+    ensures sorted { IfOk result (λ v. IsSorted nat_cmp v.items) }
+    ensures refused { IfErr result (λ e. e ≡ Unlawful → All IsYear years.now → ⊥) }
+{
+    let mut sorted = known_years(alloc, years)?;
+    sorted.sort_unstable();
+    Ok(sorted)
+}
+
+/// The years, in their order.
+fn known_years(alloc: Global, years: &[i64]) -> Result<Vec<u16>, RecordsFault>
+    ensures same { IfOk result (λ v. map (λ y. pos y) v.items ≡ years.now) }
+    ensures small { IfOk result (λ v. All (λ y. y ≤ last_of_years) v.items) }
+    ensures refused { IfErr result (λ e. e ≡ Unlawful → All IsYear years.now → ⊥) }
+{
+    let mut known = Vec::new(alloc);
+    for year in years {
+        match year_of(year) {
+            Some(year) => known.push(year)?,
+            None => return Err(RecordsFault::Unlawful),
+        }
+    }
+    Ok(known)
+}

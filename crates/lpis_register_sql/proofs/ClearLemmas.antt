@@ -1,0 +1,138 @@
+-- What DELETE with no WHERE makes of a table.
+use Rattle.std.proofs.Common.{◌≡◌, ℕ, ℤ, List, [], ◌∷◌, map, drop, slice_get, true, false, not, Some, None, Ok, refl, sym, ap, subst, ◌∙◌, IsPermutation, true≢false, Option}
+use Rattle.lpis_register_sql.proofs.Common.{flat_map_single, IsPermutation-refl, IsPermutation-map, Null, Row, Table, Schema, overlay, IsAnswer, Output, output, edit_of, Given, Trees, Tally, Does}
+use Rattle.lpis_register_sql.proofs.Common.{Database}
+use Rattle.lpis_register_sql.proofs.Common.{Mode, State, mode_of, ExecutesInside, understood, Program, ids_of, statement_of, runs_as, Content, without_spans, without_live, span_table, Shape}
+use Rattle.lpis_register_sql.proofs.Common.{schema_of}
+use Rattle.lpis_register_sql.proofs.Common.{has_spans, has_live, span_tree, span_table_index, AreKeyed, span_row, live_row, Inside}
+use Rattle.sqlite.specs.Command.TheVariants.{Delete}
+use Rattle.sqlite.specs.Edit.{without_all}
+use Rattle.sqlite.specs.Does.{AtPlace, OnRows}
+use Rattle.sqlite.specs.Effect.{IsDatabase}
+use Rattle.sqlite.specs.Rows.{Written, Edited, Task}
+use Rattle.sqlite.specs.State.{Executes}
+use Rattle.lpis_register_sql.specs.Tables.{live_table}
+use Rattle.lpis_register_sql.specs.private.Texts.{clear_span, clear_live}
+use Rattle.lpis_register_sql.proofs.MeaningLemmas.{in_each, Says, whole, ids_query, clear_span_means, clear_live_means}
+use Rattle.lpis_register_sql.proofs.UpdateLemmas.{without_is, filter_same, gone_are, key_of}
+use Rattle.lpis_register_sql.proofs.PartLemmas.{far, span_not_live, keeps_there, there_keeps, formats_kept, years_kept, spans_kept, lines_kept, own_spans, spans_changed}
+use Rattle.lpis_register_sql.proofs.InsertLemmas.{inside_next, span_stands}
+use Rattle.lpis_register_sql.proofs.WriteLemmas.{Finding, went, same_value, step_of, Kept, kept_of}
+
+-- DELETE is one query and one step
+pub deletes : (limit : Option ℕ) (mode : Mode) (params : Row) (schema : Schema) (trees : Trees) (text : List ℕ) (index : ℕ) (table : Table) (q : Program) (tally : Tally) (after : Database)
+    → slice_get schema.tables index ≡ Some table
+    → Does limit mode params (record { schema = schema; trees = trees }) text None (Delete index q) (Ok (tally, after))
+    → Finding schema mode.keys trees q params (λ rows. edit_of trees table (ids_of rows) Given 0 []) after
+deletes limit mode params schema trees text index table q tally after at h =
+    let task : Table → Task = λ t. record { limit = limit; keys = mode.keys; schema = schema; table = t; params = params } in
+    let done = went (subst (λ t. AtPlace (λ t. OnRows (task t) mode None (Delete index q) trees) t (Ok (tally, after))) at h) in
+    let now = ap (λ (p : Tally × Database). p.1) (same_value (went (went done.2).2).2) in
+    let given = went done.1 in
+    let written = went given.2 in
+    let trees_are : done.0.trees ≡ written.0 = ap (λ (it : Written). it.trees) (same_value written.2) in
+    record {
+      found = given.0;
+      answer = given.1;
+      schema_is = ap (λ (d : Database). d.schema) now;
+      edited = subst (λ (t : Trees). Edited schema mode.keys trees (edit_of trees table (ids_of given.0) Given 0 []) (Ok t)) (sym (ap (λ (d : Database). d.trees) now ∙ trees_are)) written.1;
+    }
+
+keys_out : (tree : ℕ) (rows : List Row) → map key_of (map (λ (o : Output). o.1) (map (output (ids_query tree)) (map (λ r. [] ∷ r ∷ []) rows))) ≡ map key_of rows
+keys_out tree [] = refl
+keys_out tree (r ∷ rows) = ap (λ l. key_of r ∷ l) (keys_out tree rows)
+
+pub all_kept : {X : Type 0} (xs : List X) → Rattle.std.specs.Prelude.filter (λ x. true) xs ≡ xs
+all_kept [] = refl
+all_kept (x ∷ xs) = ap (λ l. x ∷ l) (all_kept xs)
+
+pub none_kept : {X : Type 0} (xs : List X) → Rattle.std.specs.Prelude.filter (λ x. false) xs ≡ []
+none_kept [] = refl
+none_kept (x ∷ xs) = none_kept xs
+
+-- all rowids taken out leave nothing
+pub emptied : (rows : List Row) (ids : List ℤ) → AreKeyed rows → IsPermutation (map key_of rows) ids → without_all rows ids ≡ []
+emptied rows ids keyed same =
+    let gone = gone_are (λ r. true) rows ids keyed (subst (λ l. IsPermutation (map key_of l) ids) (sym (all_kept rows)) same) in
+    without_is ids rows ∙ filter_same _ (λ r. false) rows (λ r there. ap not (gone r there)) ∙ none_kept rows
+
+-- a table that this empties
+pub record Empties (s : Shape) (old new : State) (tree : ℕ) : Type 0 where
+  pub schema : new.now.schema ≡ schema_of s
+  pub sound : IsDatabase new.now
+  pub empty : new.now.trees tree ≡ []
+  pub others : Kept s tree old.now.trees new.now.trees
+
+pub clears : (s : Shape) (sql : List ℕ) (index tree : ℕ) (table : Table) (old new : State) (count : ℕ)
+    → table.tree ≡ tree → old.now.schema ≡ schema_of s → slice_get (schema_of s).tables index ≡ Some table
+    → Says s sql (Delete index (whole (ids_query tree))) → overlay old.now.trees [] tree ≡ old.now.trees tree
+    → AreKeyed (old.now.trees tree) → Executes sql [] old new (Ok count) → Empties s old new tree
+clears s sql index tree table old new count named has at says own keyed h =
+    let db = old.now.trees in
+    let q = ids_query tree in
+    let command = Delete index (whole q) in
+    let w = runs_as sql [] old new (schema_of s) has command says.0 says.1 count h in
+    let text = statement_of sql (understood (schema_of s) sql) in
+    let it = deletes old.step_limit (mode_of old) [] (schema_of s) db text index table (whole q) w.tally new.now at
+    (subst (λ s. Does old.step_limit (mode_of old) [] (record old.now { schema = s }) text None command
+    (Ok (w.tally, new.now))) has w.changed) in
+    let step = step_of s db new.now.trees _ it.edited in
+    let a : IsAnswer q (overlay db []) [] it.found = it.answer.answer Null in
+    let shows : Output → Row = λ o. o.1 in
+    let rows = db tree in
+    let staged : a.staged ≡ map (λ r. [] ∷ r ∷ []) rows = a.grouped ∙ flat_map_single (λ r. [] ∷ r ∷ []) (overlay db [] tree) ∙ ap (map (λ r. [] ∷ r ∷ [])) own in
+    let from : map key_of (map shows a.kept) ≡ map key_of rows = ap (λ l. map key_of (map shows l)) (a.distinct ∙ ap (map (output q)) staged) ∙ keys_out tree rows in
+    let to : map key_of (map shows a.ordered) ≡ ids_of it.found = ap (map key_of) (sym a.shown) in
+    let same : IsPermutation (map key_of rows) (ids_of it.found) = subst (λ l. IsPermutation l (ids_of it.found)) from
+    (subst (IsPermutation (map key_of (map shows a.kept))) to
+    (IsPermutation-map key_of _ _ (IsPermutation-map shows _ _ a.same))) in
+    record {
+      schema = it.schema_is;
+      sound = w.sound;
+      empty = subst (λ t. new.now.trees t ≡ []) named (step.rows ∙ ap (λ t. without_all (db t) (ids_of it.found)) named ∙ emptied rows (ids_of it.found) keyed same);
+      others = subst (λ t. Kept s t db new.now.trees) named (kept_of s table.tree db new.now.trees step.tables);
+    }
+
+pub none_keyed : AreKeyed []
+none_keyed = record { whole = λ x none. absurd none; alone = λ x y none more e. absurd none }
+
+pub clear_spans_inside : (s : Shape) (base : Database) (old new : State) (c : Content) (count : ℕ) → has_spans s ≡ true → Inside s base old c
+    → ExecutesInside 0 clear_span [] old new (Ok count) → Inside s base new (without_spans c)
+clear_spans_inside s base old new c count spans before h =
+    let m = before.holds.means in
+    let db = old.now.trees in
+    let tree = span_tree s in
+    let there = keeps_there (has_spans s) span_row c.spans (db tree) spans m.spans_are in
+    let e = clears s clear_span (span_table_index s) tree (span_table tree) old new count refl before.holds.schema (span_stands s spans) (clear_span_means s spans) (own_spans s db) there.1 h.0 in
+    inside_next s s base old new c _ before h.1 (record {
+      schema = e.schema;
+      sound = e.sound;
+      means = spans_changed s db new.now.trees c [] spans e.others m
+          (subst (λ (rs : List Row). IsPermutation [] (map (drop 1) rs)) (sym e.empty) (IsPermutation-refl []))
+          (subst AreKeyed (sym e.empty) none_keyed);
+    })
+
+live_stands : (s : Shape) → has_live s ≡ true → slice_get (schema_of s).tables 2 ≡ Some (live_table 2)
+live_stands = in_each _ (λ is. absurd (true≢false (sym is))) (λ is. refl) (λ is. refl)
+
+pub clear_live_inside : (s : Shape) (base : Database) (old new : State) (c : Content) (count : ℕ) → has_live s ≡ true → Inside s base old c
+    → ExecutesInside 0 clear_live [] old new (Ok count) → Inside s base new (without_live c)
+clear_live_inside s base old new c count live before h =
+    let m = before.holds.means in
+    let db = old.now.trees in
+    let next = new.now.trees in
+    let there = keeps_there (has_live s) live_row c.live (db 2) live m.live_are in
+    let e = clears s clear_live 2 2 (live_table 2) old new count refl before.holds.schema (live_stands s live) (clear_live_means s live) refl there.1 h.0 in
+    inside_next s s base old new c _ before h.1 (record {
+      schema = e.schema;
+      sound = e.sound;
+      means = record {
+        formats_are = formats_kept s 2 db next c e.others m (far 0 2 refl);
+        years_are = years_kept s 2 db next c e.others m (far 1 2 refl);
+        spans_are = spans_kept s 2 db next c e.others m (λ is. span_not_live s live);
+        lines_are = lines_kept s 2 db next c e.others m (far 4 2 refl);
+        live_are = there_keeps (has_live s) live_row [] (next 2) live
+            (subst (λ (rs : List Row). IsPermutation [] (map (drop 1) rs)) (sym e.empty) (IsPermutation-refl []))
+            (subst AreKeyed (sym e.empty) none_keyed);
+      };
+    })

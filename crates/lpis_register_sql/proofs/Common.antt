@@ -1,0 +1,38 @@
+-- The names that most proofs of this crate cite, passed on from one place. Declares nothing.
+pub use Rattle.lpis_register_rows.specs.Content.{Content, Format, StoredSpan, lines_from, with_line, with_lines, with_whole_span, with_whole_spans, without_live, without_spans}
+pub use Rattle.lpis_register_sql.specs.Holding.{AreKeyed, Holds, IsStored, Keeps, Leaves, format_row, line_row, live_row, span_row, year_row}
+pub use Rattle.lpis_register_sql.specs.Shapes.{First, Moved, New, Shape, has_live, has_spans, no_schema, schema_of, span_tree, with_span_table}
+pub use Rattle.lpis_register_sql.specs.Tables.{format_table, release_table, row_table, span_table}
+pub use Rattle.lpis_register_sql.specs.private.Inside.{Inside, IsQuiet, Turns}
+pub use Rattle.lpis_register_sql.specs.private.Indices.{span_table_index}
+pub use Rattle.lpis_register_sql.specs.private.Stages.{one_table, three_tables, two_tables}
+pub use Rattle.lpis_register_sql.specs.private.Texts.{read_format, read_line, read_live, read_release, read_span}
+pub use Rattle.sqlite.proofs.Callers.{runs_as, statement_of, survives_begin}
+pub use Rattle.sqlite.specs.Command.TheVariants.{CreateTable, Update}
+pub use Rattle.sqlite.specs.Compile.{table_defined_by}
+pub use Rattle.sqlite.specs.Does.{Does, Tally}
+pub use Rattle.sqlite.specs.Edit.{edit_of, is_taken}
+pub use Rattle.sqlite.specs.Effect.{Database}
+pub use Rattle.sqlite.specs.Held.{state}
+unfoldable pub use Rattle.sqlite.specs.Listing.{understood}
+pub use Rattle.sqlite.specs.Order.{Row, column}
+unfoldable pub use Rattle.sqlite.specs.Order.{value_cmp}
+pub use Rattle.sqlite.specs.Program.{overlay}
+pub use Rattle.sqlite.specs.Query.{IsAnswer, Output, output}
+pub use Rattle.sqlite.specs.Rowids.TheVariants.{Given}
+pub use Rattle.sqlite.specs.Schema.{Schema}
+pub use Rattle.sqlite.specs.State.{ExecutesInside, HasCleanDisk, State, Survives, mode_of}
+pub use Rattle.sqlite.specs.Table.{Table}
+pub use Rattle.sqlite.specs.Term.{Term}
+pub use Rattle.sqlite.specs.Tree.{Trees, put_row, rowid}
+pub use Rattle.sqlite.specs.declared.error.Error.{Error}
+pub use Rattle.sqlite.specs.declared.run.Mode.{Mode}
+pub use Rattle.sqlite.specs.declared.types.Value.TheVariants.{Int, Null}
+pub use Rattle.sqlite_rules.specs.Calls.{ids_of}
+pub use Rattle.sqlite_rules.specs.Lists.{Has}
+pub use Rattle.sqlite_schema.specs.declared.program.Program.{Program}
+pub use Rattle.std.proofs.lemmas.Bool.{and_parts, cases_Bool, not-true}
+pub use Rattle.std.proofs.lemmas.Bool.Decides.{nat_tests}
+pub use Rattle.std.proofs.lemmas.List.Concat.{flat_map_single}
+pub use Rattle.std.proofs.lemmas.List.Sorted.{IsPermutation-map, IsPermutation-refl, IsPermutation-trans}
+pub use Rattle.std.specs.List.{list_any}

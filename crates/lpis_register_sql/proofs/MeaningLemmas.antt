@@ -1,0 +1,180 @@
+-- What the texts mean, in each order of the tables.
+use Rattle.std.proofs.Common.{◌≡◌, ℕ, Ok, refl, codes, [], ◌∷◌, None, true, false, pos, negsuc, List, sym, true≢false}
+use Rattle.lpis_register_sql.proofs.Common.{Null, Int, table_defined_by, Term, Program, Update, CreateTable, understood, statement_of, Schema, Table, format_table, release_table, span_table}
+use Rattle.lpis_register_sql.proofs.Common.{row_table}
+use Rattle.lpis_register_sql.proofs.Common.{Shape, New, First, Moved, schema_of, has_spans, has_live, span_tree, no_schema, span_table_index, one_table, two_tables, three_tables, read_format}
+use Rattle.lpis_register_sql.proofs.Common.{read_release}
+use Rattle.lpis_register_sql.proofs.Common.{read_span, read_line, read_live}
+use Rattle.sqlite.specs.Term.{lit, col, op2}
+use Rattle.sqlite_sql.specs.declared.ops.BinaryOp.TheVariants.{Compare}
+use Rattle.sqlite_sql.specs.declared.ops.CompareOp.TheVariants.{Eq}
+use Rattle.sqlite_value.specs.declared.keys.Collation.TheVariants.{Binary}
+use Rattle.sqlite_value.specs.declared.keys.Key.{Key}
+use Rattle.sqlite.specs.Query.{Query, inner, end}
+use Rattle.sqlite.specs.Source.TheVariants.{Values}
+use Rattle.sqlite_schema.specs.declared.command.Command.{Command}
+use Rattle.sqlite.specs.Command.TheVariants.{Insert, Select, Delete}
+use Rattle.sqlite.specs.Change.{created}
+use Rattle.sqlite.specs.Listing.{reads_listing}
+use Rattle.sqlite.proofs.Callers.{IsPlain, command_of}
+use Rattle.sqlite_tied.specs.Compute.{everything}
+use Rattle.lpis_register_sql.specs.private.Texts.{make_format, make_release, make_span, make_row, insert_format, insert_release, insert_span, insert_line, end_span, clear_span, insert_whole_span}
+use Rattle.lpis_register_sql.specs.private.Texts.{clear_live, set_version}
+
+abbrev pub ascending : Key
+ascending = record { collation = Binary; descending = false }
+
+abbrev pub from_all : ℕ → List Term → List Term → List (Term × Key) → Query
+from_all tree filter project order = record {
+  from = inner tree end;
+  filter = filter;
+  group = None;
+  project = project;
+  distinct = false;
+  collations = [];
+  order = order;
+  limit = lit (Int (negsuc 0));
+  offset = lit (Int (pos 0));
+}
+
+abbrev pub whole : Query → Program
+whole q = record { lets = []; body = q }
+
+abbrev pub format_terms : List Term
+format_terms = lit (Int (pos 1)) ∷ lit Null ∷ lit (Int (pos 2)) ∷ []
+
+abbrev pub release_terms : List Term
+release_terms = col 0 0 ∷ lit Null ∷ []
+
+abbrev pub span_terms : List Term
+span_terms = lit Null ∷ col 0 0 ∷ col 0 1 ∷ lit (Int (pos 0)) ∷ []
+
+abbrev pub line_terms : List Term
+line_terms = lit Null ∷ col 0 0 ∷ col 0 1 ∷ col 0 2 ∷ col 0 3 ∷ []
+
+abbrev pub whole_span_terms : List Term
+whole_span_terms = lit Null ∷ col 0 0 ∷ col 0 1 ∷ col 0 2 ∷ []
+
+-- the rowids of all rows of a table
+abbrev pub ids_query : ℕ → Query
+ids_query tree = from_all tree [] (col 1 0 ∷ []) []
+
+abbrev pub ends_query : ℕ → Query
+ends_query tree = from_all tree (op2 (Compare Eq Binary) (col 1 1) (col 0 1) ∷ []) (col 1 0 ∷ col 1 0 ∷ col 1 1 ∷ col 1 2 ∷ col 0 0 ∷ []) []
+
+abbrev pub version_query : Query
+version_query = from_all 0 [] (col 1 0 ∷ col 1 0 ∷ lit Null ∷ lit (Int (pos 2)) ∷ []) []
+
+abbrev pub release_query : Query
+release_query = from_all 1 [] (col 1 0 ∷ []) ((col 1 0, ascending) ∷ [])
+
+abbrev pub span_query : ℕ → Query
+span_query tree = from_all tree [] (col 1 1 ∷ col 1 2 ∷ col 1 3 ∷ []) ((col 1 1, ascending) ∷ [])
+
+abbrev pub line_query : Query
+line_query = from_all 4 [] (col 1 1 ∷ col 1 2 ∷ col 1 3 ∷ col 1 4 ∷ []) ((col 1 1, ascending) ∷ (col 1 2, ascending) ∷ [])
+
+abbrev pub live_query : Query
+live_query = from_all 2 [] (col 1 1 ∷ col 1 2 ∷ []) ((col 1 1, ascending) ∷ (col 1 2, ascending) ∷ [])
+
+abbrev pub format_query : Query
+format_query = from_all 0 [] (col 1 0 ∷ col 1 2 ∷ []) []
+
+-- what holds of each order of the tables
+pub in_each : (P : Shape → Type 0) → P New → P First → P Moved → (s : Shape) → P s
+in_each P new first moved New = new
+in_each P new first moved First = first
+in_each P new first moved Moved = moved
+
+-- what a text that writes means
+abbrev pub Says : Shape → List ℕ → Command → Type 0
+Says s sql command = (command_of (understood (schema_of s) sql) ≡ command) × IsPlain (understood (schema_of s) sql)
+
+-- and one that reads
+abbrev pub Asks : Shape → List ℕ → Query → List (List ℕ) → Type 0
+Asks s sql q names = (command_of (understood (schema_of s) sql) ≡ Select (whole q) names) × (reads_listing (schema_of s) sql ≡ false) × IsPlain (understood (schema_of s) sql)
+
+pub insert_format_means : (s : Shape) → Says s insert_format (Insert 0 (Values format_terms 3))
+unfolding understood everything
+insert_format_means = in_each _ (refl, (refl, refl)) (refl, (refl, refl)) (refl, (refl, refl))
+
+pub insert_release_means : (s : Shape) → Says s insert_release (Insert 1 (Values release_terms 2))
+unfolding understood everything
+insert_release_means = in_each _ (refl, (refl, refl)) (refl, (refl, refl)) (refl, (refl, refl))
+
+pub insert_line_means : (s : Shape) → Says s insert_line (Insert 3 (Values line_terms 5))
+unfolding understood everything
+insert_line_means = in_each _ (refl, (refl, refl)) (refl, (refl, refl)) (refl, (refl, refl))
+
+pub insert_span_means : (s : Shape) → has_spans s ≡ true → Says s insert_span (Insert (span_table_index s) (Values span_terms 4))
+unfolding understood everything
+insert_span_means = in_each _ (λ p. (refl, (refl, refl))) (λ p. absurd (true≢false (sym p))) (λ p. (refl, (refl, refl)))
+
+pub insert_whole_span_means : (s : Shape) → has_spans s ≡ true → Says s insert_whole_span (Insert (span_table_index s) (Values whole_span_terms 4))
+unfolding understood everything
+insert_whole_span_means = in_each _ (λ p. (refl, (refl, refl))) (λ p. absurd (true≢false (sym p))) (λ p. (refl, (refl, refl)))
+
+pub end_span_means : (s : Shape) → has_spans s ≡ true → Says s end_span (Update (span_table_index s) (whole (ends_query (span_tree s))))
+unfolding understood everything
+end_span_means = in_each _ (λ p. (refl, (refl, refl))) (λ p. absurd (true≢false (sym p))) (λ p. (refl, (refl, refl)))
+
+pub clear_span_means : (s : Shape) → has_spans s ≡ true → Says s clear_span (Delete (span_table_index s) (whole (ids_query (span_tree s))))
+unfolding understood everything
+clear_span_means = in_each _ (λ p. (refl, (refl, refl))) (λ p. absurd (true≢false (sym p))) (λ p. (refl, (refl, refl)))
+
+pub clear_live_means : (s : Shape) → has_live s ≡ true → Says s clear_live (Delete 2 (whole (ids_query 2)))
+unfolding understood everything
+clear_live_means = in_each _ (λ p. absurd (true≢false (sym p))) (λ p. (refl, (refl, refl))) (λ p. (refl, (refl, refl)))
+
+pub set_version_means : (s : Shape) → Says s set_version (Update 0 (whole version_query))
+unfolding understood everything
+set_version_means = in_each _ (refl, (refl, refl)) (refl, (refl, refl)) (refl, (refl, refl))
+
+pub read_format_means : (s : Shape) → Asks s read_format (format_query) (codes "one" ∷ codes "version" ∷ [])
+unfolding understood everything
+read_format_means = in_each _ (refl, refl, (refl, refl)) (refl, refl, (refl, refl)) (refl, refl, (refl, refl))
+
+pub read_release_means : (s : Shape) → Asks s read_release (release_query) (codes "year" ∷ [])
+unfolding understood everything
+read_release_means = in_each _ (refl, refl, (refl, refl)) (refl, refl, (refl, refl)) (refl, refl, (refl, refl))
+
+pub read_span_means : (s : Shape) → has_spans s ≡ true → Asks s read_span (span_query (span_tree s)) (codes "id" ∷ codes "since" ∷ codes "until" ∷ [])
+unfolding understood everything
+read_span_means = in_each _ (λ p. (refl, refl, (refl, refl))) (λ p. absurd (true≢false (sym p))) (λ p. (refl, refl, (refl, refl)))
+
+pub read_line_means : (s : Shape) → Asks s read_line (line_query) (codes "year" ∷ codes "pos" ∷ codes "old" ∷ codes "new" ∷ [])
+unfolding understood everything
+read_line_means = in_each _ (refl, refl, (refl, refl)) (refl, refl, (refl, refl)) (refl, refl, (refl, refl))
+
+pub read_live_means : (s : Shape) → has_live s ≡ true → Asks s read_live (live_query) (codes "year" ∷ codes "id" ∷ [])
+unfolding understood everything
+read_live_means = in_each _ (λ p. absurd (true≢false (sym p))) (λ p. (refl, refl, (refl, refl))) (λ p. (refl, refl, (refl, refl)))
+
+-- the text makes this table
+pub record Makes (sql : List ℕ) (from into_ : Schema) (made : Table) : Type 0 where
+  pub is : command_of (understood from sql) ≡ CreateTable
+  pub text : statement_of sql (understood from sql) ≡ sql
+  pub plain : IsPlain (understood from sql)
+  pub defines : table_defined_by sql ≡ Ok made
+  pub into : created from made ≡ into_
+
+pub format_is : Makes make_format no_schema one_table (format_table 0)
+unfolding understood everything
+format_is = record { is = refl; text = refl; plain = (refl, refl); defines = refl; into = refl }
+
+pub release_is : Makes make_release one_table two_tables (release_table 0)
+unfolding understood everything
+release_is = record { is = refl; text = refl; plain = (refl, refl); defines = refl; into = refl }
+
+pub span_is : Makes make_span two_tables three_tables (span_table 0)
+unfolding understood everything
+span_is = record { is = refl; text = refl; plain = (refl, refl); defines = refl; into = refl }
+
+pub row_is : Makes make_row three_tables (schema_of New) (row_table 0)
+unfolding understood everything
+row_is = record { is = refl; text = refl; plain = (refl, refl); defines = refl; into = refl }
+
+-- the first step of a move
+pub span_moves : Makes make_span (schema_of First) (schema_of Moved) (span_table 0)
+unfolding understood everything
+span_moves = record { is = refl; text = refl; plain = (refl, refl); defines = refl; into = refl }

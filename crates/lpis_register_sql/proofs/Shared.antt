@@ -1,0 +1,2 @@
+-- The lemmas that the crates above cite, passed on from one place. Declares nothing.
+pub use Rattle.lpis_register_sql.proofs.MoveLemmas.{spans_stand}

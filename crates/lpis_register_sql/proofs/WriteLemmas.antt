@@ -1,0 +1,209 @@
+-- What a statement that writes does to the trees.
+use Rattle.std.proofs.Common.{◌≡◌, ◌≢◌, ◌⊎◌, inl, inr, ℕ, ℤ, List, [], ◌∷◌, length, slice_get, Bool, true, false, cond, Some, None, Ok, Err, Result, refl, sym, ap, subst, ◌∙◌, IsPermutation, is_eq}
+use Rattle.std.proofs.lemmas.Bool.{or_parts}
+use Rattle.std.proofs.Common.{true≢false, if◌then◌else◌, ◌/◌, ◌==◌, Option, MatchBool, flat_map, filter_map, is_lt, int_cmp}
+use Rattle.lpis_register_sql.proofs.Common.{and_parts, not-true, Null, Int, Row, value_cmp, Table, Update, edit_of, is_taken, ids_of, Has, Program, Given, Tally, Does, Database, Mode, Schema, Term}
+use Rattle.lpis_register_sql.proofs.Common.{Trees}
+use Rattle.lpis_register_sql.proofs.Common.{rowid, put_row, Error, understood, State, mode_of, statement_of, runs_as, Shape, New, First, Moved, schema_of, has_spans, has_live, span_tree, AreKeyed}
+use Rattle.std.specs.List.{AllByRecursion}
+use Rattle.std.proofs.lemmas.Cmp.{tied_itself}
+use Rattle.sqlite_value.proofs.OrderLemmas.{value_cmp_total}
+use Rattle.sqlite.specs.declared.types.Value.{Value}
+use Rattle.sqlite.specs.Ops.{unary}
+use Rattle.sqlite.specs.Kind.TheVariants.{Integer}
+use Rattle.sqlite.specs.Source.TheVariants.{Values}
+use Rattle.sqlite.specs.Command.TheVariants.{Insert}
+use Rattle.sqlite.specs.Edit.{Edit, Applies, are_fresh, put_all, taken_by}
+use Rattle.sqlite_rules.specs.Action.{works, work_by, pairs, deed_for}
+use Rattle.sqlite_rules.proofs.TableLemmas.{put_has}
+use Rattle.sqlite_schema.specs.Rules.{parent_key}
+use Rattle.sqlite_schema.specs.declared.schema.Keys.{Keys}
+use Rattle.sqlite_schema.specs.declared.schema.Keys.TheVariants.{Enforced}
+use Rattle.sqlite.specs.Cast.{cast}
+use Rattle.sqlite.specs.Rowids.TheVariants.{Chosen}
+use Rattle.sqlite.specs.Does.{AtPlace, OnRows}
+use Rattle.sqlite.specs.Rows.{Written, Edited, stamped, Task, rowids_for, Counts, CountsIn, count_of, sequence}
+use Rattle.sqlite.specs.Effect.{value_rows, IsDatabase, Answers}
+use Rattle.sqlite.specs.State.{Executes}
+use Rattle.sqlite.proofs.Callers.{one_step}
+use Rattle.lpis_register_sql.proofs.MeaningLemmas.{Says}
+use Rattle.lpis_register_sql.proofs.PutLemmas.{put_more}
+
+either : (b : Bool) (x : Value) → cond b x x ≡ x
+either true x = refl
+either false x = refl
+
+pub cast_null : cast Integer Null ≡ Null
+unfolding unary
+cast_null = either _ Null
+
+pub cast_int : (n : ℤ) → cast Integer (Int n) ≡ Int n
+unfolding unary
+cast_int n = either _ (Int n)
+
+-- a part that gave a value did not stop on the way
+pub went : {B E R : Type 0} {b : B} {Stops : E → Type 0} → ((stop : E) × Stops stop × (Ok b ≡ Err stop)) ⊎ R → R
+went (inl stopped) = absurd (let e = stopped.2 in cc)
+went (inr on) = on
+
+pub same_value : {B E : Type 0} {a b : B} → ◌≡◌ {A = Result B E} (Ok a) (Ok b) → a ≡ b
+same_value e = cc
+
+counts_none : (task : Task) (db next : Trees) (counter : Option Row) (top : ℤ) → task.table.is_counted ≡ false → Counts task db counter top (Ok next) → next ≡ db
+counts_none task db next counter top e h =
+    let plain = subst (λ b. MatchBool (if b then is_lt (int_cmp (count_of counter) top) else false)
+    (CountsIn task db counter top (sequence task.schema) (Ok next))
+    (◌≡◌ {A = Result Trees (Option Error)} (Ok next) (Ok db))) e h in
+    same_value plain
+
+chosen : (table : Table) (top : ℤ) → table.is_counted ≡ false → rowids_for table top ≡ Chosen
+chosen table top e = rw e
+
+-- INSERT .. VALUES into a table with no AUTOINCREMENT is one step
+pub inserts : (limit : Option ℕ) (mode : Mode) (params : Row) (schema : Schema) (trees : Trees) (text : List ℕ)
+    (index : ℕ) (table : Table) (terms : List Term) (width : ℕ) (tally : Tally) (after : Database)
+    → slice_get schema.tables index ≡ Some table → table.is_counted ≡ false
+    → Does limit mode params (record { schema = schema; trees = trees }) text None (Insert index (Values terms width)) (Ok (tally, after))
+    → (after.schema ≡ schema) × Edited schema mode.keys trees (edit_of trees table [] Chosen 0 (value_rows (stamped table params) width (length terms / width) terms)) (Ok after.trees)
+inserts limit mode params schema trees text index table terms width tally after at plain h =
+    let task : Table → Task = λ t. record { limit = limit; keys = mode.keys; schema = schema; table = t; params = params } in
+    let done = went (subst (λ t. AtPlace (λ t. OnRows (task t) mode None (Insert index (Values terms width)) trees) t (Ok (tally, after))) at h) in
+    let now = ap (λ (p : Tally × Database). p.1) (same_value (went (went done.2).2).2) in
+    let given = went done.1 in
+    let counter = went given.2 in
+    let written = went counter.2 in
+    let counted = went written.2 in
+    let moved : counted.0 ≡ written.0 = counts_none (task table) written.0 counted.0 counter.0 _ plain counted.1 in
+    let trees_are : done.0.trees ≡ counted.0 = ap (λ (it : Written). it.trees) (same_value counted.2) in
+    let step = subst (λ r. Edited schema mode.keys trees (edit_of trees table [] r 0 given.0) (Ok written.0)) (chosen table _ plain) written.1 in
+    let step2 = subst (λ r. Edited schema mode.keys trees (edit_of trees table [] Chosen 0 r) (Ok written.0)) given.1.1 step in (
+      ap (λ (d : Database). d.schema) now,
+      subst
+          (λ (t : Trees). Edited schema mode.keys trees
+          (edit_of trees table [] Chosen 0 (value_rows (stamped table params) width (length terms / width) terms)) (Ok t))
+          (sym (ap (λ (d : Database). d.trees) now ∙ trees_are ∙ moved)) step2,
+    )
+
+-- the rows that a query finds, and one edit by them
+pub record Finding (schema : Schema) (keys : Keys) (trees : Trees) (q : Program) (params : Row) (edit_by : List Row → Edit) (after : Database) : Type 0 where
+  pub found : List Row
+  pub answer : Answers (record { schema = schema; trees = trees }) q params found
+  pub schema_is : after.schema ≡ schema
+  pub edited : Edited schema keys trees (edit_by found) (Ok after.trees)
+
+-- UPDATE is one query and one step
+pub updates : (limit : Option ℕ) (mode : Mode) (params : Row) (schema : Schema) (trees : Trees) (text : List ℕ) (index : ℕ) (table : Table) (q : Program) (tally : Tally) (after : Database)
+    → slice_get schema.tables index ≡ Some table
+    → Does limit mode params (record { schema = schema; trees = trees }) text None (Update index q) (Ok (tally, after))
+    → Finding schema mode.keys trees q params (λ rows. edit_of trees table (ids_of rows) Given 1 rows) after
+updates limit mode params schema trees text index table q tally after at h =
+    let task : Table → Task = λ t. record { limit = limit; keys = mode.keys; schema = schema; table = t; params = params } in
+    let done = went (subst (λ t. AtPlace (λ t. OnRows (task t) mode None (Update index q) trees) t (Ok (tally, after))) at h) in
+    let now = ap (λ (p : Tally × Database). p.1) (same_value (went (went done.2).2).2) in
+    let given = went done.1 in
+    let written = went given.2 in
+    let trees_are : done.0.trees ≡ written.0 = ap (λ (it : Written). it.trees) (same_value written.2) in
+    record {
+      found = given.0;
+      answer = given.1;
+      schema_is = ap (λ (d : Database). d.schema) now;
+      edited = subst (λ (t : Trees). Edited schema mode.keys trees (edit_of trees table (ids_of given.0) Given 1 given.0) (Ok t)) (sym (ap (λ (d : Database). d.trees) now ∙ trees_are)) written.1;
+    }
+
+-- the trees that a step on one table leaves
+pub record Kept (s : Shape) (at : ℕ) (db next : Trees) : Type 0 where
+  pub formats : (0 ≡ at → ⊥) → next 0 ≡ db 0
+  pub years : (1 ≡ at → ⊥) → next 1 ≡ db 1
+  pub spans : has_spans s ≡ true → (span_tree s ≡ at → ⊥) → next (span_tree s) ≡ db (span_tree s)
+  pub lines : (4 ≡ at → ⊥) → next 4 ≡ db 4
+  pub live : has_live s ≡ true → (2 ≡ at → ⊥) → next 2 ≡ db 2
+
+pub kept_of : (s : Shape) (at : ℕ) (db next : Trees) → AllByRecursion (λ t. t.tree ≢ at → next t.tree ≡ db t.tree) (schema_of s).tables → Kept s at db next
+kept_of New at db next h = record { formats = h.0; years = h.1.0; spans = λ is. h.1.1.0; lines = h.1.1.1.0; live = λ is. absurd (true≢false (sym is)) }
+kept_of First at db next h = record { formats = h.0; years = h.1.0; spans = λ is. absurd (true≢false (sym is)); lines = h.1.1.1.0; live = λ is. h.1.1.0 }
+kept_of Moved at db next h = record { formats = h.0; years = h.1.0; spans = λ is. h.1.1.1.1.0; lines = h.1.1.1.0; live = λ is. h.1.1.0 }
+
+-- no foreign key of the register acts
+no_work : (s : Shape) (tree : ℕ) (olds news : List Row) → works (schema_of s) Enforced 0 tree olds news ≡ []
+no_work s tree olds news = go s (length news == 0)
+  where
+    go : (s : Shape) (b : Bool)
+        → flat_map
+        (λ child. filter_map (λ ref. work_by 0 tree (pairs olds news) child ref (deed_for Enforced b ref)
+        (parent_key (schema_of s).tables ref)) child.references) (schema_of s).tables ≡ []
+    go New true = refl
+    go New false = refl
+    go First true = refl
+    go First false = refl
+    go Moved true = refl
+    go Moved false = refl
+
+pub step_of : (s : Shape) (trees next : Trees) (edit : Edit) → Edited (schema_of s) Enforced trees edit (Ok next) → Applies (schema_of s) Enforced trees edit next
+step_of s trees next edit h = one_step (schema_of s) Enforced trees next edit (no_work s edit.table.tree (taken_by trees edit) edit.news) h
+
+-- one row more in one table
+pub record Adds (s : Shape) (old new : State) (tree : ℕ) (row : Row) : Type 0 where
+  pub schema : new.now.schema ≡ (schema_of s)
+  pub sound : IsDatabase new.now
+  pub more : IsPermutation (row ∷ old.now.trees tree) (new.now.trees tree)
+  pub rows : new.now.trees tree ≡ put_row row (old.now.trees tree)
+  pub fresh : is_taken (old.now.trees tree) row ≡ false
+  pub others : Kept s tree old.now.trees new.now.trees
+
+pub adds : (s : Shape) (sql : List ℕ) (index width : ℕ) (table : Table) (terms : List Term) (params row : Row) (old new : State) (count : ℕ) → old.now.schema ≡ (schema_of s)
+    → slice_get (schema_of s).tables index ≡ Some table → table.is_counted ≡ false
+    → Says s sql (Insert index (Values terms width))
+    → (edit_of old.now.trees table [] Chosen 0 (value_rows (stamped table params) width (length terms / width) terms)).news ≡ row ∷ []
+    → Executes sql params old new (Ok count) → Adds s old new table.tree row
+adds s sql index width table terms params row old new count has at plain_key means news h =
+    let db = old.now.trees in
+    let w = runs_as sql params old new (schema_of s) has (Insert index (Values terms width)) means.0 means.1 count h in
+    let text = statement_of sql (understood (schema_of s) sql) in
+    let made = inserts old.step_limit (mode_of old) params (schema_of s) db text index table terms width w.tally new.now
+    at plain_key
+    (subst (λ s. Does old.step_limit (mode_of old) params (record old.now { schema = s }) text None
+    (Insert index (Values terms width)) (Ok (w.tally, new.now))) has w.changed) in
+    let step = step_of s db new.now.trees _ made.1 in
+    let free : is_taken (db table.tree) row ≡ false = not-true _ (and_parts _ _ (subst (λ n. are_fresh (db table.tree) n ≡ true) news step.fresh)).0 in
+    let rows : new.now.trees table.tree ≡ put_row row (db table.tree) = step.rows ∙ ap (λ n. put_all (db table.tree) n) news in
+    record {
+      schema = made.0;
+      sound = w.sound;
+      more = subst (IsPermutation (row ∷ db table.tree)) (sym rows) (put_more row (db table.tree) free);
+      rows = rows;
+      fresh = free;
+      others = kept_of s table.tree db new.now.trees step.tables;
+    }
+
+-- a fresh row with a number keeps the rowids apart
+pub keyed_more : (rows : List Row) (n : ℤ) (rest : Row) → AreKeyed rows → is_taken rows (Int n ∷ rest) ≡ false → AreKeyed (put_row (Int n ∷ rest) rows)
+keyed_more rows n rest k fresh = record { whole = whole; alone = alone }
+  where
+    new : Row
+    new = Int n ∷ rest
+
+    apart : (xs : List Row) (x : Row) → Has xs x → is_taken xs (Int n ∷ rest) ≡ false → rowid x ≡ Int n → ⊥
+    apart [] x none free e = none
+    apart (y ∷ xs) x (inl same) free e =
+        let tie : is_eq (value_cmp (rowid y) (Int n)) ≡ true = ap (λ (r : Row). is_eq (value_cmp (rowid r) (Int n)))
+        (sym same) ∙ ap (λ v. is_eq (value_cmp v (Int n))) e ∙ ap is_eq (tied_itself value_cmp_total (Int n)) in
+        true≢false (sym tie ∙ (or_parts _ _ free).0)
+    apart (y ∷ xs) x (inr more) free e = apart xs x more (or_parts _ _ free).1 e
+
+    whole : (x : Row) → Has (put_row (Int n ∷ rest) rows) x → (m : ℤ) × (rowid x ≡ Int m)
+    whole x there = elim (put_has (Int n ∷ rest) rows x there) [
+      | inl same ↦ (n, ap rowid same)
+      | inr was ↦ k.whole x was
+    ]
+
+    alone : (x y : Row) → Has (put_row (Int n ∷ rest) rows) x → Has (put_row (Int n ∷ rest) rows) y → rowid x ≡ rowid y → x ≡ y
+    alone x y hx hy e = elim (put_has (Int n ∷ rest) rows x hx) [
+      | inl sx ↦ elim (put_has (Int n ∷ rest) rows y hy) [
+        | inl sy ↦ sx ∙ sym sy
+        | inr wy ↦ absurd (apart rows y wy fresh (sym e ∙ ap rowid sx))
+      ]
+      | inr wx ↦ elim (put_has (Int n ∷ rest) rows y hy) [
+        | inl sy ↦ absurd (apart rows x wx fresh (e ∙ ap rowid sy))
+        | inr wy ↦ k.alone x y wx wy e
+      ]
+    ]

@@ -1,0 +1,9 @@
+use Rattle.lpis_register_sql.proofs.Common.{read_span}
+use Rattle.lpis_register_sql.proofs.MeaningLemmas.{read_span_means}
+use Rattle.lpis_register_sql.proofs.ShowingLemmas.{by_query, spans_shown}
+use Rattle.lpis_register_sql.proofs.queries.SpanRowStored.query.Goals as goal
+
+pub returns-clause-reads : goal.returns-clause-reads
+returns-clause-reads g c =
+    by_query read_span (λ shape there. (read_span_means shape there).2) (λ shape there content rows. spans_shown shape _ _ rows.items content there)
+    c.query_all.ensures.ok c.query_all.ensures.err c.query_all.ensures.survives

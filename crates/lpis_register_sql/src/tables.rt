@@ -1,0 +1,135 @@
+//! The tables of a new register.
+
+ghost use Rattle.std.specs.Prelude.{◌≡◌, false, IsTrue, OnOk, OnErr};
+ghost use Rattle.sqlite.specs.Held.{state};
+ghost use Rattle.sqlite.specs.State.{HasCleanDisk, Survives};
+ghost use Rattle.lpis_register_rows.specs.Content.{no_content};
+ghost use Rattle.lpis_register_sql.specs.Shapes.{New, First, Moved, schema_of, no_schema};
+ghost use Rattle.lpis_register_sql.specs.private.Stages.{one_table, two_tables, three_tables, Stage};
+ghost use Rattle.lpis_register_sql.specs.Bare.{IsBare};
+ghost use Rattle.lpis_register_sql.specs.private.Inside.{Inside, IsQuiet};
+ghost use Rattle.lpis_register_sql.specs.Holding.{IsStored};
+ghost use Rattle.lpis_register_sql.specs.Commits.{LeavesMade};
+
+use sqlite::{Alter, Connection, Error, Transaction};
+
+/// The table of the version.
+fn make_format<S: Alter>(tx: &mut Transaction<'_, S>) -> Result<(), Error>
+    ensures same_reference { tx.new.conn.ghost_name ≡ tx.old.conn.ghost_name }
+    ensures made { HasCleanDisk (state S.Store tx.new.conn.now) → (base : _)
+        → Stage no_schema base (state S.Store tx.old.conn.now)
+        → OnOk result (Stage one_table base (state S.Store tx.new.conn.now)) }
+    ensures quiet { IsQuiet (state S.Store tx.old.conn.now) (state S.Store tx.new.conn.now) }
+{
+    tx.execute(
+        "CREATE TABLE IF NOT EXISTS lpis_format (one INTEGER NOT NULL PRIMARY KEY, version INTEGER NOT NULL) STRICT",
+        &[],
+    )?;
+    Ok(())
+}
+
+/// The table of releases.
+fn make_release<S: Alter>(tx: &mut Transaction<'_, S>) -> Result<(), Error>
+    ensures same_reference { tx.new.conn.ghost_name ≡ tx.old.conn.ghost_name }
+    ensures made { HasCleanDisk (state S.Store tx.new.conn.now) → (base : _)
+        → Stage one_table base (state S.Store tx.old.conn.now)
+        → OnOk result (Stage two_tables base (state S.Store tx.new.conn.now)) }
+    ensures quiet { IsQuiet (state S.Store tx.old.conn.now) (state S.Store tx.new.conn.now) }
+{
+    tx.execute(
+        "CREATE TABLE IF NOT EXISTS lpis_release (year INTEGER NOT NULL PRIMARY KEY) STRICT",
+        &[],
+    )?;
+    Ok(())
+}
+
+/// The table of spans.
+pub(crate) fn make_span<S: Alter>(tx: &mut Transaction<'_, S>) -> Result<(), Error>
+    ensures same_reference { tx.new.conn.ghost_name ≡ tx.old.conn.ghost_name }
+    ensures made { HasCleanDisk (state S.Store tx.new.conn.now) → (base : _)
+        → Stage two_tables base (state S.Store tx.old.conn.now)
+        → OnOk result (Stage three_tables base (state S.Store tx.new.conn.now)) }
+    ensures beside { HasCleanDisk (state S.Store tx.new.conn.now) → (base : _) (c : _)
+        → Inside First base (state S.Store tx.old.conn.now) c
+        → OnOk result (Inside Moved base (state S.Store tx.new.conn.now) c) }
+    ensures quiet { IsQuiet (state S.Store tx.old.conn.now) (state S.Store tx.new.conn.now) }
+{
+    tx.execute(
+        "CREATE TABLE IF NOT EXISTS lpis_span (id TEXT NOT NULL PRIMARY KEY, since INTEGER NOT NULL REFERENCES lpis_release (year), until INTEGER NOT NULL) STRICT",
+        &[],
+    )?;
+    Ok(())
+}
+
+/// The table of rows of lineage.
+fn make_row<S: Alter>(tx: &mut Transaction<'_, S>) -> Result<(), Error>
+    ensures same_reference { tx.new.conn.ghost_name ≡ tx.old.conn.ghost_name }
+    ensures made { HasCleanDisk (state S.Store tx.new.conn.now) → (base : _)
+        → Stage three_tables base (state S.Store tx.old.conn.now)
+        → OnOk result (Stage (schema_of New) base (state S.Store tx.new.conn.now)) }
+    ensures quiet { IsQuiet (state S.Store tx.old.conn.now) (state S.Store tx.new.conn.now) }
+{
+    tx.execute(
+        "CREATE TABLE IF NOT EXISTS lpis_row (year INTEGER NOT NULL REFERENCES lpis_release (year), pos INTEGER NOT NULL, old TEXT NOT NULL, new TEXT NOT NULL, PRIMARY KEY (year, pos)) STRICT",
+        &[],
+    )?;
+    Ok(())
+}
+
+/// The row that tells the version.
+fn insert_format<S: Alter>(tx: &mut Transaction<'_, S>) -> Result<(), Error>
+    ensures same_reference { tx.new.conn.ghost_name ≡ tx.old.conn.ghost_name }
+    ensures begun { HasCleanDisk (state S.Store tx.new.conn.now) → (base : _)
+        → Stage (schema_of New) base (state S.Store tx.old.conn.now)
+        → OnOk result (Inside New base (state S.Store tx.new.conn.now) no_content) }
+    ensures quiet { IsQuiet (state S.Store tx.old.conn.now) (state S.Store tx.new.conn.now) }
+{
+    tx.execute("INSERT INTO lpis_format (one, version) VALUES (1, 2)", &[])?;
+    Ok(())
+}
+
+/// The row that tells the version, where its table was not there before.
+fn begin_format<S: Alter>(tx: &mut Transaction<'_, S>, is_new: bool) -> Result<(), Error>
+    ensures same_reference { tx.new.conn.ghost_name ≡ tx.old.conn.ghost_name }
+    ensures begun { IsTrue is_new → HasCleanDisk (state S.Store tx.new.conn.now) → (base : _)
+        → Stage (schema_of New) base (state S.Store tx.old.conn.now)
+        → OnOk result (Inside New base (state S.Store tx.new.conn.now) no_content) }
+    ensures quiet { IsQuiet (state S.Store tx.old.conn.now) (state S.Store tx.new.conn.now) }
+{
+    if is_new { insert_format(tx) } else { Ok(()) }
+}
+
+/// The tables that are not there, empty but for the version.
+fn make_all<S: Alter>(tx: &mut Transaction<'_, S>, is_new: bool) -> Result<(), Error>
+    ensures same_reference { tx.new.conn.ghost_name ≡ tx.old.conn.ghost_name }
+    ensures begun { IsTrue is_new → HasCleanDisk (state S.Store tx.new.conn.now) → (base : _)
+        → Stage no_schema base (state S.Store tx.old.conn.now)
+        → OnOk result (Inside New base (state S.Store tx.new.conn.now) no_content) }
+    ensures quiet { IsQuiet (state S.Store tx.old.conn.now) (state S.Store tx.new.conn.now) }
+{
+    make_format(tx)?;
+    make_release(tx)?;
+    make_span(tx)?;
+    make_row(tx)?;
+    begin_format(tx, is_new)
+}
+
+/// Makes the tables that are not there, in one transaction. `is_new` says that the table of the
+/// version is among them.
+pub fn create<S: Alter>(conn: &mut Connection<S>, is_new: bool) -> Result<(), Error>
+    requires autocommit { conn.old.in_transaction ≡ false }
+    ensures autocommit { conn.new.in_transaction ≡ false }
+    ensures made { IsTrue is_new → HasCleanDisk (state S.Store conn.new)
+        → IsBare (state S.Store conn.old)
+        → OnOk result (IsStored New (state S.Store conn.new) no_content) }
+    ensures err { IsTrue is_new → HasCleanDisk (state S.Store conn.new)
+        → IsTrue (state S.Store conn.new).is_open → IsBare (state S.Store conn.old)
+        → OnErr result (IsBare (state S.Store conn.new)) }
+    ensures clean { HasCleanDisk (state S.Store conn.new) → HasCleanDisk (state S.Store conn.old) }
+    ensures crash { Survives (state S.Store conn.old) (state S.Store conn.new)
+        (LeavesMade is_new (state S.Store conn.old)) }
+{
+    let mut tx = conn.transaction();
+    make_all(&mut tx, is_new)?;
+    tx.commit()
+}

@@ -1,9 +1,0 @@
-use Rattle.lpis_tables.proofs.Common.{read_live}
-use Rattle.lpis_tables.proofs.MeaningLemmas.{read_live_means}
-use Rattle.lpis_tables.proofs.ShowingLemmas.{by_query, live_shown_are}
-use Rattle.lpis_tables.proofs.queries.LiveRowStored.query.Goals as goal
-
-pub returns-clause-reads : goal.returns-clause-reads
-returns-clause-reads g c =
-    by_query read_live (λ shape there. (read_live_means shape there).2) (λ shape there content rows. live_shown_are shape _ _ rows.items content there)
-    c.query_all.ensures.ok c.query_all.ensures.err c.query_all.ensures.survives

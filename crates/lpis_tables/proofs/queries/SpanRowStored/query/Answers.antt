@@ -1,9 +1,0 @@
-use Rattle.lpis_tables.proofs.Common.{read_span}
-use Rattle.lpis_tables.proofs.MeaningLemmas.{read_span_means}
-use Rattle.lpis_tables.proofs.ShowingLemmas.{by_query, spans_shown}
-use Rattle.lpis_tables.proofs.queries.SpanRowStored.query.Goals as goal
-
-pub returns-clause-reads : goal.returns-clause-reads
-returns-clause-reads g c =
-    by_query read_span (λ shape there. (read_span_means shape there).2) (λ shape there content rows. spans_shown shape _ _ rows.items content there)
-    c.query_all.ensures.ok c.query_all.ensures.err c.query_all.ensures.survives
