@@ -21,7 +21,7 @@ pub orient_at-shifted : (a b : Point) (p : RationalPoint) → orient_at a b (shi
 unfolding orient_at
 orient_at-shifted a b p = shift_any a b p (pos 1000000000000)
 
--- a number from -40000000000 to 40000000000: a step between coordinates, ten times over
+-- a number from -40000000000 to 40000000000: a step between coordinates
 record IsStep (z : ℤ) : Type 0 where
   low : neg_ℤ (pos 40000000000) ≤ℤ z
   high : z ≤ℤ pos 40000000000

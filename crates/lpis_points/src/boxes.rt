@@ -6,7 +6,7 @@ ghost use Rattle.lpis_points.specs.Triangles.{greatest, least};
 
 use crate::triangle::Triangle;
 
-/// The least and the greatest coordinates of a triangle's corners, in centimetres.
+/// The least and the greatest coordinates of a triangle's corners, in millimetres.
 #[derive(Clone, Copy, Debug, PartialEq, Eq)]
 pub struct Box4 {
     pub x0: i64,

@@ -1,4 +1,4 @@
-//! Points of the plane in whole centimetres, sides of lines, crossings of edges, and triangles. No
+//! Points of the plane in whole millimetres, sides of lines, crossings of edges, and triangles. No
 //! call takes memory.
 //!
 //! | Call | Answer |

@@ -8,7 +8,7 @@ use crate::point::LIMIT;
 /// The greatest denominator of a `RatPoint`.
 const GREATEST_DENOMINATOR: i64 = 1_000_000;
 
-/// The point (x/d, y/d) of the plane, in centimetres. Its denominator is 1 to 1,000,000, and both
+/// The point (x/d, y/d) of the plane, in millimetres. Its denominator is 1 to 1,000,000, and both
 /// quotients are in the range of a coordinate.
 #[derive(Clone, Copy, Debug, PartialEq, Eq)]
 pub struct RatPoint {

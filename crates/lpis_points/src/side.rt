@@ -77,7 +77,7 @@ fn passing(from: i128, to: i128, y: i128, side: i128) -> i8
 }
 
 /// Above 0 where `c` is left of the directed line from `a` to `b`, 0 on it, below 0 right of it. It
-/// is twice the signed area of the triangle, in square centimetres.
+/// is twice the signed area of the triangle, in square millimetres.
 #[tactic(auto, unfolding(crate::specs::Plane::orient))]
 pub fn orient(a: Point, b: Point, c: Point) -> i128
     ensures { result ≡ orient_spec a b c }

@@ -21,7 +21,7 @@ fn triangle(corners: [(i64, i64); 3]) -> Result<Triangle, Fail> {
 
 #[test]
 fn rational_points_end_at_their_bounds(rt: HostRuntime) {
-    let (reach, greatest) = (2_000_000_000_000_000, 1_000_000);
+    let (reach, greatest) = (20_000_000_000_000_000, 1_000_000);
     for (x, y, d, is_taken) in [
         (0, 0, 1, true),
         (0, 0, 0, false),

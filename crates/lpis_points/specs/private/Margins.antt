@@ -1,5 +1,5 @@
--- How large the numbers get on the way to a side. Each bound is computed from the first two, of
--- which the first is ten times the limit of a coordinate, so that the limit may grow.
+-- How large the numbers get on the way to a side. Each bound is computed from the first two, which
+-- are the limit of a coordinate and the greatest denominator.
 use Rattle.std.specs.Prelude.{ℕ, ◌*◌}
 
 abbrev pub coordinate_margin : ℕ
