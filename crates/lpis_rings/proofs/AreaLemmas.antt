@@ -1,18 +1,19 @@
 -- Machinery: areas fit their types.
 use Rattle.std.proofs.Common.{◌≡◌, ◌≤◌, ◌<◌, ◌+◌, ◌-◌, ◌*◌, ℕ, zero, suc, ℤ, pos, ◌-ℤ◌, ◌+ℤ◌, nat_abs, List, [], ◌∷◌, length, take, drop, get_or, arith, refl, sym, ap, subst, ◌∙◌, FitsSigned}
-use Rattle.lpis_rings.proofs.Common.{ints, w128, Point, edge_sum, shoelace_term, shoelace, steps, member_points, points_in, points_of, Member, most_term}
+use Rattle.lpis_rings.proofs.Common.{ints, w128, Point, edge_sum, shoelace_term, shoelace, steps, member_points, points_in, points_of, Member, most_points, most_term}
 use Rattle.std.proofs.lemmas.List.{length-drop}
 use Rattle.std.proofs.lemmas.List.Sums.{sum_by_more, sum_by_more_le}
 use Rattle.std.proofs.lemmas.Int.{to_z-of_z}
 use mir.Syntax.{w64}
 use mir.Val.{SFits, to_z, of_z}
 use Rattle.lpis_points.specs.Range.{IsInRange}
+use Rattle.lpis_rings.specs.private.Margins.{product_margin}
 
 -- a coordinate as a machine number
 pub coordinate-is : (x : ℤ) → IsInRange x → to_z w64 (of_z w64 x) ≡ x
 coordinate-is x h = let f : SFits w64 x = omega (arith, ints) in to_z-of_z w64 x f
 
-pub term-fits : (p q : ℤ) → nat_abs p ≤ 4000000000000000000 → nat_abs q ≤ 4000000000000000000 → FitsSigned w128 (to_z w128 (of_z w128 p) -ℤ to_z w128 (of_z w128 q))
+pub term-fits : (p q : ℤ) → nat_abs p ≤ product_margin → nat_abs q ≤ product_margin → FitsSigned w128 (to_z w128 (of_z w128 p) -ℤ to_z w128 (of_z w128 q))
 term-fits p q h k =
     let f : SFits w128 p = omega (arith, ints) in
     let g : SFits w128 q = omega (arith, ints) in
@@ -20,7 +21,7 @@ term-fits p q h k =
     let d = to_z-of_z w128 q g in
     rw (e, d) (omega (arith, ints))
 
-pub term-is : (p q : ℤ) → nat_abs p ≤ 4000000000000000000 → nat_abs q ≤ 4000000000000000000
+pub term-is : (p q : ℤ) → nat_abs p ≤ product_margin → nat_abs q ≤ product_margin
     → (to_z w128 (of_z w128 (to_z w128 (of_z w128 p) -ℤ to_z w128 (of_z w128 q))) ≡ p -ℤ q) × (nat_abs (p -ℤ q) ≤ most_term)
 term-is p q h k =
     let f : SFits w128 p = omega (arith, ints) in
@@ -31,7 +32,7 @@ term-is p q h k =
     (rw (e, d) (to_z-of_z w128 (p -ℤ q) s), omega (arith, ints))
 
 -- one more number in a sum of numbers, each at most the greatest term
-pub sum-more : (s t : ℤ) (n k : ℕ) → nat_abs s ≤ most_term * n → nat_abs t ≤ most_term * k → n + k < 18446744073709551616
+pub sum-more : (s t : ℤ) (n k : ℕ) → nat_abs s ≤ most_term * n → nat_abs t ≤ most_term * k → n + k ≤ most_points
     → SFits w128 (s +ℤ to_z w128 (of_z w128 t)) × (to_z w128 (of_z w128 (s +ℤ to_z w128 (of_z w128 t))) ≡ s +ℤ t) × (nat_abs (s +ℤ t) ≤ most_term * (n + k))
 sum-more s t n k h l few =
     let f : SFits w128 t = omega (arith, ints) in

@@ -1,10 +1,11 @@
-//! Doubled areas, in square centimetres.
+//! Doubled areas, in square millimetres.
 
 ghost use Rattle.std.specs.Prelude.{◌≡◌, ◌≤◌, ◌+◌, ◌*◌, ◌*ℤ◌, pos, length, nat_abs, unsigned_abs};
 ghost use Rattle.lpis_points.specs.Plane.{shoelace_term};
 ghost use Rattle.lpis_rings.specs.Area.{absolute_sums, area2, member_area2, shoelace};
 ghost use Rattle.lpis_rings.specs.AreaBounds.{most_area, most_term};
 ghost use Rattle.lpis_rings.specs.Polygon.{member_points, most_points, points_in};
+ghost use Rattle.lpis_rings.specs.private.Margins.{coordinate_margin, product_margin};
 
 use crate::polygon::{Member, Polygon};
 use crate::ring::Ring;
@@ -12,10 +13,10 @@ use lpis_points::Point;
 
 /// The first number times the second.
 fn product(x: i64, y: i64) -> i128
-    requires x_in { unsigned_abs x ≤ 2000000000 }
-    requires y_in { unsigned_abs y ≤ 2000000000 }
+    requires x_in { unsigned_abs x ≤ coordinate_margin }
+    requires y_in { unsigned_abs y ≤ coordinate_margin }
     ensures value { result ≡ x *ℤ y }
-    ensures small { unsigned_abs result ≤ 4000000000000000000 }
+    ensures small { unsigned_abs result ≤ product_margin }
 {
     x as i128 * y as i128
 }
@@ -28,9 +29,11 @@ fn shoelace_term(a: Point, b: Point) -> i128
     product(a.x, b.y) - product(b.x, a.y)
 }
 
-/// Twice the signed area of a ring in square centimetres, above 0 where it is counter-clockwise:
-/// the sum of `ax*by - bx*ay` over its edges.
+/// Twice the signed area of a ring in square millimetres, above 0 where it is counter-clockwise:
+/// the sum of `ax*by - bx*ay` over its edges. The ring has at most `MOST_POINTS` points, as each
+/// ring of a polygon.
 pub fn shoelace(ring: &Ring) -> i128
+    requires { length ring.now ≤ most_points }
     ensures value { result ≡ shoelace ring.now }
     ensures small { unsigned_abs result ≤ most_term * length ring.now }
 {
@@ -73,7 +76,7 @@ fn member_area2(member: &Member) -> i128
     absolute_sum(&member.shell) - absolute_sums(member.holes.as_slice())
 }
 
-/// Twice the area of a polygon in square centimetres: over its members, the absolute shoelace sum
+/// Twice the area of a polygon in square millimetres: over its members, the absolute shoelace sum
 /// of the shell less those of its holes. It is below 0 where the holes are larger.
 pub fn area2(polygon: &Polygon) -> i128
     ensures value { result ≡ area2 polygon.now }

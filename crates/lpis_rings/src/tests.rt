@@ -1,4 +1,4 @@
-//! Worked polygons, in centimetres.
+//! Worked polygons, in millimetres.
 
 use crate::{Member, Polygon, Ring, Sequence, contains, edges, turns};
 use lpis_points::{Point, RatPoint};

@@ -1,8 +1,9 @@
 //! Walks along the rings of a polygon, in normal orientation.
 
-ghost use Rattle.std.specs.Prelude.{◌≡◌};
+ghost use Rattle.std.specs.Prelude.{◌≡◌, ◌≤◌, length};
 ghost use Rattle.std.specs.Iterator.{YieldsFirst, item_count};
 ghost use Rattle.lpis_rings.specs.Edges.{edges_of, hole_edges, shell_edges};
+ghost use Rattle.lpis_rings.specs.Polygon.{most_points, points_of};
 
 use crate::area::shoelace;
 use crate::polygon::Member;
@@ -32,6 +33,7 @@ impl<'a> Walk<'a> {
     /// The walk round a shell, backwards where its shoelace sum is below 0.
     #[tactic(auto, unfolding(crate::specs::Edges::shell_edges))]
     fn of_shell(shell: &'a Ring) -> Walk<'a>
+        requires { length shell.now ≤ most_points }
         ensures { result ≡ shell_edges shell.now }
     {
         Walk {
@@ -43,6 +45,7 @@ impl<'a> Walk<'a> {
     /// The walk round a hole, backwards where its shoelace sum is above 0.
     #[tactic(auto, unfolding(crate::specs::Edges::hole_edges))]
     fn of_hole(hole: &'a Ring) -> Walk<'a>
+        requires { length hole.now ≤ most_points }
         ensures { result ≡ hole_edges hole.now }
     {
         Walk {
@@ -85,14 +88,17 @@ struct Walks<'a> {
 }
 
 impl<'a> Model for Walks<'a> {
-    ghost use Rattle.std.specs.Prelude.{List, ◌++◌, map};
+    ghost use Rattle.std.specs.Prelude.{List, ◌++◌, map, ◌+◌, ◌≤◌};
     ghost use Rattle.lpis_points.specs.declared.point.Point.{Point};
     ghost use Rattle.lpis_rings.specs.Edges.{hole_edges};
+    ghost use Rattle.lpis_rings.specs.Polygon.{most_points, points_in, points_of};
     ghost use Rattle.lpis_rings.specs.private.RingWalks.{walks_of};
 
     ghost Value = { List (List (Point × Point)) };
 
     ghost view = { λ w. map hole_edges w.holes.now ++ walks_of w.members.now };
+
+    ghost invariant = { λ w. points_in w.holes.now + points_of w.members.now ≤ most_points };
 }
 
 impl<'a> Iterator for Walks<'a> {
@@ -152,6 +158,7 @@ impl<'a> Iterator for Edges<'a> {
 impl<'a> Edges<'a> {
     /// The edges of these members.
     pub(crate) fn of_members(members: &'a [Member]) -> Edges<'a>
+        requires { points_of members.now ≤ most_points }
         ensures { result ≡ edges_of members.now }
     {
         Edges {
