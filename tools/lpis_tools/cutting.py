@@ -1,6 +1,6 @@
 """Calls `lpis cut` on small releases in a temporary folder, many units a call, and finds every unit that it refuses.
 
-A unit is a list of parcels with their pieces. The units of one call stand in cells of their own, moved by whole centimetres, so that
+A unit is a list of parcels with their pieces. The units of one call stand in cells of their own, moved by whole millimetres, so that
 none is refused for the sake of another; a refusal names its unit by the identifiers, and a place is moved back.
 """
 
@@ -15,8 +15,8 @@ from dataclasses import dataclass
 
 from . import polygons, refusal
 
-FAR = 1_900_000_000  # of the coordinates' range, with room to spare
-GAP = 1_000
+FAR = 19_000_000_000  # of the coordinates' range, with room to spare
+GAP = 10_000
 POINTS_A_CALL = 200_000
 UNITS_A_CALL = 4_000
 MOST_FAULTS = 200_000
@@ -107,7 +107,7 @@ def ask(command, batch):
         for name, head, lines in (
             ("parcels", "parcel,wkt\n", [line for placed in batch for line in placed.parcels]),
             ("covers", "piece,parcel,class,wkt\n", [line for placed in batch for line in placed.covers]),
-            ("classes", "class,eligible\n", ["G,1\n"]),
+            ("classes", "class,percent\n", ["G,100\n"]),
         ):
             with open(os.path.join(folder, name + ".csv"), "w", encoding="ascii") as file:
                 file.write(head)

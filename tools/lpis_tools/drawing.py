@@ -13,12 +13,12 @@ def geojson(shapes, place, line, epsg=None):
     """Shapes (kind, name, members) and a place, in metres."""
     features = []
     for kind, name, members in shapes:
-        rings = [[[[x / 100, y / 100] for x, y in ring] for ring in member] for member in members]
+        rings = [[[[x / 1000, y / 1000] for x, y in ring] for ring in member] for member in members]
         features.append({"type": "Feature", "properties": {"kind": kind, "name": name, "line": line},
                          "geometry": {"type": "MultiPolygon", "coordinates": rings}})
     if place:
         features.append({"type": "Feature", "properties": {"kind": "place", "name": "", "line": line},
-                         "geometry": {"type": "Point", "coordinates": [float(place[0] / 100), float(place[1] / 100)]}})
+                         "geometry": {"type": "Point", "coordinates": [float(place[0] / 1000), float(place[1] / 1000)]}})
     return collection(features, epsg)
 
 
@@ -78,7 +78,7 @@ def window_about(middle, half):
 
 
 def reach(shapes, place):
-    """How far the nearest border is from a place that is not on it: the fineness of a fault, in centimetres."""
+    """How far the nearest border is from a place that is not on it: the fineness of a fault, in millimetres."""
     far = (distance(a, b, place) for _, _, members in shapes for a, b in polygons.edges(members))
     return min((d for d in far if d > 1e-9), default=0.0)
 
@@ -91,8 +91,8 @@ def distance(a, b, place):
     return ((ax + part * dx) ** 2 + (ay + part * dy) ** 2) ** 0.5
 
 
-def length(centimetres):
-    return f"{float(centimetres) / 100:.4g} m" if centimetres >= 100 else f"{float(centimetres):.3g} cm"
+def length(millimetres):
+    return f"{float(millimetres) / 1000:.4g} m" if millimetres >= 1000 else f"{float(millimetres):.3g} mm"
 
 
 def svg(shapes, place, line):
@@ -105,7 +105,7 @@ def svg(shapes, place, line):
     panels = panel(shapes, place, window_about((Fraction(x0 + x1, 2), Fraction(y0 + y1, 2)), half), 10, f"the whole: {length(2 * half)} wide")
     width = SIZE + 20
     if place:
-        near = Fraction(max(4 * reach(shapes, place), 0.01))
+        near = Fraction(max(4 * reach(shapes, place), 0.1))
         if near < half / 10:
             panels += panel(shapes, place, window_about(place, near), SIZE + 30, f"about the place: {length(2 * near)} wide")
             width = 2 * SIZE + 40

@@ -2,7 +2,7 @@
 
 from . import codes, drawing, polygons
 from .refusal import metres_of, read
-from .tables import COLUMNS, KEYS, LETTERS, MARK, Table, is_identifier, kind_of_file, path_of, shown
+from .tables import COLUMNS, INSTEAD, KEYS, LETTERS, MARK, Table, is_identifier, kind_of_file, path_of, shown
 
 
 class Explained:
@@ -29,7 +29,7 @@ class Explained:
         elif self.refusal.kind:
             self.say_shapes()
         if self.place:
-            x, y = (float(value / 100) for value in self.place)
+            x, y = (float(value / 1000) for value in self.place)
             self.say(f"place in metres: {metres_of(self.place)}   POINT({x:.6f} {y:.6f})")
 
     def say(self, text):
@@ -83,7 +83,7 @@ class Explained:
     def say_header(self, table):
         start = table.start
         kind = kind_of_file(start)
-        self.say(f"wanted header: {','.join(COLUMNS[table.name])}")
+        self.say(f"wanted header: {','.join(name for name in COLUMNS[table.name] if name not in INSTEAD.values())}")
         if kind:
             self.say(f"{table.path} is {kind}")
             return
@@ -94,12 +94,9 @@ class Explained:
         for mark, what in ((b";", "semicolons"), (b"\t", "tabs"), (b"|", "bars")):
             if len(table.header) == 1 and mark in table.header[0]:
                 self.say(f"its columns are separated by {what}: write commas")
-        missing = [n for n in COLUMNS[table.name] if n not in table.names]
-        if missing:
-            self.say(f"missing: {', '.join(missing)}")
-        doubled = sorted({n for n in table.names if n in COLUMNS[table.name] and table.names.count(n) > 1})
-        if doubled:
-            self.say(f"doubled: {', '.join(doubled)}")
+        for what, names in (("missing", table.missing()), ("doubled", table.doubled())):
+            if names:
+                self.say(f"{what}: {', '.join(names)}")
 
     def say_field(self, table, row, record):
         code = self.refusal.lineage_code or self.refusal.code
@@ -109,7 +106,7 @@ class Explained:
             for name in COLUMNS[table.name]:
                 field = table.field(record, name)
                 ending = name == "new" and not field
-                if name not in ("wkt", "eligible") and not ending and not is_identifier(field):
+                if name not in ("wkt", "percent", "eligible") and not ending and not is_identifier(field):
                     self.say_letters(name, field)
                     break
         elif code == "34":
@@ -122,8 +119,9 @@ class Explained:
             self.say_absent(name, table.field(record, name), self.table("parcels" if code == "35" else "classes"))
         elif code == "38":
             self.say_text(table.field(record, "wkt"))
-        elif code == "39":
-            self.say(f"  eligible is {shown(table.field(record, 'eligible'))!r}")
+        elif code in ("39", "3b"):
+            name = "eligible" if code == "39" else "percent"
+            self.say(f"  {name} is {shown(table.field(record, name))!r}")
         elif code == "3a":
             self.say(f"  the table has {len(table.records) - 1} rows")
 
@@ -188,16 +186,18 @@ class Explained:
         if not self.cert:
             self.say(f"triangles {numbers[0]} and {numbers[1]} of the certificate (name it by --cert to see whose they are)")
             return
-        owners = {}
+        owners, unit = {}, 1  # millimetres; a certificate of version 1 has centimetres
         try:
             with open(self.cert, "rb") as file:
                 count, piece = 0, ""
                 for line in file:
-                    if line.startswith(b"piece "):
+                    if line.startswith(b"lpis-cert "):
+                        unit = 10 if line == b"lpis-cert 1\n" else 1
+                    elif line.startswith(b"piece "):
                         piece = line.split()[1].decode("ascii", "replace")
                     elif line.startswith(b"t "):
                         if count in numbers:
-                            owners[count] = (piece, [int(w) for w in line.split()[1:]])
+                            owners[count] = (piece, [unit * int(w) for w in line.split()[1:]])
                         count += 1
         except (OSError, ValueError, IndexError):
             pass
@@ -294,5 +294,5 @@ def extent_of_words(text):
     if not found:
         return "it has no points"
     xs, ys = [p[0] for p in found], [p[1] for p in found]
-    return f"{len(found)} points, x {min(xs):.2f} to {max(xs):.2f}, y {min(ys):.2f} to {max(ys):.2f}"
+    return f"{len(found)} points, x {min(xs):.3f} to {max(xs):.3f}, y {min(ys):.3f} to {max(ys):.3f}"
 

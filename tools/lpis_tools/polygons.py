@@ -1,4 +1,4 @@
-"""Polygon texts as whole centimetres, and what can be said of shapes: extents, crossings, borders that do not cancel.
+"""Polygon texts as whole millimetres, and what can be said of shapes: extents, crossings, borders that do not cancel.
 
 Everything is whole numbers or fractions: no coordinate is rounded but for drawing.
 """
@@ -10,15 +10,15 @@ NUMBER = re.compile(rb"([+-]?)(\d*)(?:\.(\d*))?\Z")
 TOKEN = re.compile(rb"[(),]|[^ \t\r\n(),]+")
 
 
-def centimetres(word):
-    """The number in whole centimetres, or None where the word is none."""
+def millimetres(word):
+    """The number in whole millimetres, or None where the word is none."""
     found = NUMBER.match(word)
     if not found or not (found[2] or found[3]):
         return None
     decimals = found[3] or b""
-    if decimals[2:].strip(b"0"):
+    if decimals[3:].strip(b"0"):
         return None
-    value = int((found[2] or b"0") + (decimals + b"00")[:2])
+    value = int((found[2] or b"0") + (decimals + b"000")[:3])
     return -value if found[1] == b"-" else value
 
 
@@ -46,7 +46,7 @@ def nest(tokens, at):
         if tokens[at] == b"(":
             part, at = nest(tokens, at)
         else:
-            part, at = (centimetres(tokens[at]), centimetres(tokens[at + 1])), at + 2
+            part, at = (millimetres(tokens[at]), millimetres(tokens[at + 1])), at + 2
             if None in part:
                 raise ValueError
         parts.append(part)
@@ -58,13 +58,13 @@ def nest(tokens, at):
 
 
 def metres(value):
-    """Whole centimetres as metres with two decimals."""
+    """Whole millimetres as metres with three decimals."""
     sign, value = ("-" if value < 0 else ""), abs(value)
-    return f"{sign}{value // 100}.{value % 100:02}"
+    return f"{sign}{value // 1000}.{value % 1000:03}"
 
 
 def write(members, by=(0, 0)):
-    """The text of a polygon, moved by whole centimetres."""
+    """The text of a polygon, moved by whole millimetres."""
     def ring(points):
         return "(" + ",".join(metres(x + by[0]) + " " + metres(y + by[1]) for x, y in points) + ")"
 
@@ -108,7 +108,7 @@ def side(a, b, p):
 
 
 def crossing(first, second):
-    """The place where two edges cross, each inside the other, as fractions of centimetres; None where they do not."""
+    """The place where two edges cross, each inside the other, as fractions of millimetres; None where they do not."""
     (a, b), (c, d) = first, second
     to_c, to_d = side(a, b, c), side(a, b, d)
     if to_c * to_d >= 0 or side(c, d, a) * side(c, d, b) >= 0:

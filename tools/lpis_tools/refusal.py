@@ -17,7 +17,7 @@ class Refusal:
     offset: int | None = None
     kind: str = ""  # parcel, piece, parcels, pieces or pair
     names: list = field(default_factory=list)
-    place: tuple | None = None  # x and y in centimetres, as fractions
+    place: tuple | None = None  # x and y in millimetres, as fractions
     cert_line: int | None = None
     lineage_code: str = ""
     year: str = ""
@@ -72,6 +72,6 @@ def fill(refusal, rest):
 
 def metres_of(place):
     """A place in metres, for people: exact where four decimals hold it, else marked as about."""
-    exact = all((value * 100).denominator == 1 for value in place)
-    x, y = (float(value / 100) for value in place)
+    exact = all((value * 10).denominator == 1 for value in place)
+    x, y = (float(value / 1000) for value in place)
     return f"x {x:.4f}, y {y:.4f}" if exact else f"about x {x:.6f}, y {y:.6f}"

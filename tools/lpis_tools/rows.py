@@ -66,7 +66,7 @@ def read_release(command, folder, shower):
 
 def add(release, bad, table, row, code, line=None):
     record = table.record(row)
-    names = [shown(table.field(record, name)) for name in COLUMNS[table.name] if name not in ("wkt", "eligible", "class")]
+    names = [shown(table.field(record, name)) for name in COLUMNS[table.name] if name not in ("wkt", "percent", "eligible", "class")]
     release.faults.append(RowFault(code, line or f"refused {code} {table.name} row {row}", table.name, row, table.line(row), names))
     bad.add(row)
 

@@ -11,9 +11,10 @@ COLUMNS = {
     "area": ["wkt"],
     "parcels": ["parcel", "wkt"],
     "covers": ["piece", "parcel", "class", "wkt"],
-    "classes": ["class", "eligible"],
+    "classes": ["class", "percent", "eligible"],
     "lineage": ["old", "new"],
 }
+INSTEAD = {"percent": "eligible"}  # the column that is read where there is none of the first name
 KEYS = {"parcels": "parcel", "covers": "piece", "classes": "class"}
 MARK = b"\xef\xbb\xbf"
 LETTERS = frozenset(b"ABCDEFGHIJKLMNOPQRSTUVWXYZabcdefghijklmnopqrstuvwxyz0123456789._:/-")
@@ -60,6 +61,14 @@ class Table:
     def rows(self):
         """The rows with their numbers, from 1."""
         return enumerate(self.records[1:], 1)
+
+    def missing(self):
+        """The columns that the table lacks, the first name where one of two is wanted."""
+        others = INSTEAD.values()
+        return [name for name in COLUMNS[self.name] if not {name, INSTEAD.get(name)} & set(self.names) and name not in others]
+
+    def doubled(self):
+        return sorted({name for name in self.names if name in COLUMNS[self.name] and self.names.count(name) > 1})
 
     def column(self, name):
         return self.names.index(name) if name in self.names else None

@@ -1,12 +1,12 @@
--- export.sql: the three tables of a release into the folder DIR: psql -v dir=DIR -f export.sql. The 2 writes whole centimetres.
+-- export.sql: the three tables of a release into the folder DIR: psql -v dir=DIR -f export.sql. The 3 writes whole millimetres.
 \set ON_ERROR_STOP on
 \pset format csv
 \pset tuples_only off
 \pset footer off
 \o :dir/parcels.csv
-select parcel, st_astext(geom, 2) as wkt from rel_parcels order by parcel;
+select parcel, st_astext(geom, 3) as wkt from rel_parcels order by parcel;
 \o :dir/covers.csv
-select piece, parcel, class, st_astext(geom, 2) as wkt from rel_covers order by piece;
+select piece, parcel, class, st_astext(geom, 3) as wkt from rel_covers order by piece;
 \o :dir/classes.csv
-select class, eligible::int as eligible from classes order by class;
+select class, percent::int as percent from classes order by class;
 \o
