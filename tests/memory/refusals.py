@@ -30,13 +30,13 @@ FAST = "/dev/shm" if os.access("/dev/shm", os.W_OK) else None
 MEMORY, STORE = (3, b"", b"failed memory\n"), (3, b"", b"failed store\n")
 
 # The parcels of examples/overlap with two triangles each and no pair line: refused with 67.
-OVERLAP = """lpis-cert 1
+OVERLAP = """lpis-cert 2
 piece west-1 2 0
-t 0 0 5000 0 5010 6000
-t 0 0 5010 6000 0 6000
+t 0 0 50000 0 50100 60000
+t 0 0 50100 60000 0 60000
 piece east-1 2 0
-t 5000 0 10000 0 10000 6000
-t 5000 0 10000 6000 5000 6000
+t 50000 0 100000 0 100000 60000
+t 50000 0 100000 60000 50000 60000
 parcel west 0
 parcel east 0
 pairs 0
@@ -97,8 +97,9 @@ def cut(release):
     return Command(f"cut of {release}", ["cut", EXAMPLES / release, "cert.txt"], [older], "cert.txt")
 
 
-def check(release):
-    return Command(f"check of {release}", ["check", EXAMPLES / release, "cert.txt"], [certificate(release)])
+def check(release, own=False):
+    cert = EXAMPLES / release / "cert.txt" if own else "cert.txt"
+    return Command(f"check of {release}", ["check", EXAMPLES / release, cert], [] if own else [certificate(release)])
 
 
 def publish(name, year, *makers):
@@ -117,8 +118,9 @@ COMMANDS = [
     Command("a year that is none", ["publish", "years.db", "0", "release", "cert.txt"]),
     Command("a file that is missing", ["area", "missing.csv"]),
     Command("area of the square", ["area", EXAMPLES / "square.csv"]),
-    *map(cut, ["square", "holes", "junctions", "members", "sweep", "years/2024", "bowtie", "gap", "overlap"]),
-    *map(check, ["square", "holes", "junctions", "members"]),
+    *map(cut, ["square", "pasture", "holes", "junctions", "members", "sweep", "years/2024", "bowtie", "gap", "overlap"]),
+    *map(check, ["square", "pasture", "holes", "junctions", "members"]),
+    check("older", own=True),
     Command("check of overlap, without pair lines", ["check", EXAMPLES / "overlap", "cert.txt"], [overlapping]),
     publish("2024, in a new file", "2024"),
     publish("2025, after 2024", "2025", published("2024")),
