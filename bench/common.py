@@ -3,7 +3,8 @@ what is wanted and with which words it is run; constants and a `main` follow. It
 it is, a table, and under it what was wanted and what was got. `bench/all` runs them and puts their sections into docs/BENCH.md.
 
 `CUT=PROGRAM` in the environment names another program that knows `cut DIR CERT`, `LPIS=PROGRAM` a proved `lpis` that is built already;
-without them the repository's own is proved and built where that is needed."""
+without them the repository's own is proved and built where that is needed. `BEFORE=PROGRAM` names an `lpis` of before millimetres and
+percentages: bench/area, bench/check and bench/cut then run it in turns with the other on the same tables, and tell what the change costs."""
 
 import collections
 import contextlib
@@ -65,6 +66,40 @@ def lpis():
 
 def cutter():
     return os.environ.get("CUT") or lpis()
+
+
+def before():
+    """The words that begin a command of the earlier program, or none where no such program is named."""
+    return [os.path.realpath(os.environ["BEFORE"])] if "BEFORE" in os.environ else []
+
+
+def certificate_of_before(path, older):
+    """Writes a certificate of version 2 whose corners are whole centimetres as one of version 1."""
+    with open(path, encoding="ascii") as lines, open(older, "w", encoding="ascii") as out:
+        if next(lines) != "lpis-cert 2\n":
+            sys.exit(f"{path}: no certificate of version 2")
+        out.write("lpis-cert 1\n")
+        for line in lines:
+            if line[:2] in ("t ", "f "):
+                corners = [divmod(int(word), 10) for word in line[2:].split()]
+                if any(rest for _, rest in corners):
+                    sys.exit(f"{path}: no whole centimetres: {line.strip()}")
+                line = f"{line[0]} {' '.join(str(value) for value, _ in corners)}\n"
+            out.write(line)
+
+
+def text_of_before(text):
+    """A report, or a list of areas, as it is printed with two more digits of an area and four of an eligible area. Shares of a hundred and
+    none alone leave the digits behind at 0."""
+    lines = []
+    for line in text.splitlines():
+        words = line.split(" ")
+        if words[-2:-1] == ["eligible"]:
+            words[-3], words[-1] = words[-3] + "00", words[-1] + "0000"
+        elif len(words) == 1 and "." in line:
+            words[-1] += "00"
+        lines.append(" ".join(words) + "\n")
+    return "".join(lines)
 
 
 def proved(folder, name, source, uses, words=()):

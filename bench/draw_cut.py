@@ -19,22 +19,23 @@ INK, OPEN, CUT, SIDE, CHAIN, LINE, STATUS = "#333333", "#fbf3dc", "#cfe2f3", "#7
 
 
 def rings_of(folder, piece):
-    """The rings of a piece without their closing points, in centimetres. All members' rings come in one list."""
+    """The rings of a piece without their closing points, in millimetres. All members' rings come in one list."""
     with open(os.path.join(folder, "covers.csv"), newline="", encoding="ascii") as table:
         text = next(row["wkt"] for row in csv.DictReader(table) if row["piece"] == piece)
     rings = [[point.split() for point in ring.split(",")] for ring in re.findall(r"\(([^()]+)\)", text)]
-    return [[tuple(round(float(value) * 100) for value in point) for point in ring][:-1] for ring in rings]
+    return [[tuple(round(float(value) * 1000) for value in point) for point in ring][:-1] for ring in rings]
 
 
 def triangles_of(cert, piece):
     found, mine = [], False
     with open(cert, encoding="ascii") as lines:
+        unit = 10 if next(lines) == "lpis-cert 1\n" else 1  # millimetres; version 1 has centimetres
         for line in lines:
             words = line.split()
             if words[0] in ("piece", "parcel", "pairs"):
                 mine = words[:2] == ["piece", piece]
             elif mine and words[0] == "t":
-                values = [int(word) for word in words[1:]]
+                values = [unit * int(word) for word in words[1:]]
                 found.append((tuple(values[0:2]), tuple(values[2:4]), tuple(values[4:6])))
     return found
 

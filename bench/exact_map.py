@@ -2,13 +2,13 @@
 
 The plane is cut into horizontal strips between the heights of all corners and crossings. In the middle of each strip the edges that
 pass it are met from left to right; between two of them lies one face, in which containment and turns are counted by the half-open
-rule. Nothing here triangulates, and no order of a sweep is kept from strip to strip. Polygons are as in tables.py."""
+rule. Nothing here triangulates, and no order of a sweep is kept from strip to strip. Polygons are as in tables.py, of whole millimetres."""
 
 from fractions import Fraction
 
 from tables import orient
 
-LIMIT = 2_000_000_000  # the range of a coordinate, in centimetres
+LIMIT = 20_000_000_000  # the range of a coordinate, in millimetres
 MOST = 1_000_000  # the greatest denominator of a point that is told
 
 
@@ -62,12 +62,22 @@ def meeting(s, t):
     return a[0] + part * (b[0] - a[0]), a[1] + part * (b[1] - a[1])
 
 
+def area2(polygon):
+    """The doubled area: shells added, holes taken off."""
+    return sum(abs(shoelace(ring)) * (1 if place == 0 else -1) for member in polygon for place, ring in enumerate(member))
+
+
+def decimal(value, places):
+    return f"{value // 10**places}.{value % 10**places:0{places}}"
+
+
 class Truth:
     """Of a release as write_release takes it: pieces that no triangles on their corners cover, parcels whose turns are not those of their
     pieces together, and the faces in which a piece or a parcel is wrong."""
 
     def __init__(self, parcels, pieces):
         self.parcels, self.pieces = dict(parcels), {name: (parcel, polygon) for name, parcel, _, polygon in pieces}
+        self.kinds = {name: kind for name, _, kind, _ in pieces}
         self.polygons = [polygon for _, polygon in parcels] + [polygon for _, _, _, polygon in pieces]
         places = {name: place for place, (name, _) in enumerate(parcels)}
         self.first = len(parcels)  # of the pieces, among the polygons
@@ -157,7 +167,7 @@ class Truth:
         return {self.names[parcel] for parcel in self.uneven}
 
     def fault_area(self):
-        """Square centimetres in which a piece or a parcel is wrong."""
+        """Square millimetres in which a piece or a parcel is wrong."""
         return sum((face[0] for face in self.faces), Fraction(0))
 
     def fault_point(self):
@@ -168,6 +178,17 @@ class Truth:
                 if is_point(*point) and self.is_wrong([contains(polygon, point) for polygon in self.polygons]):
                     return point
         return None
+
+    def report(self, percents):
+        """The report of the release, where it is sound: half a square millimetre is 5 / 10^7 square metres."""
+        counted = [f"parcels {len(self.parcels)} pieces {len(self.pieces)}"]
+        whole = [0, 0]
+        for name, polygon in self.parcels.items():
+            sums = [area2(polygon), sum(percents[kind] * area2(self.pieces[piece][1]) for piece, kind in self.kinds.items() if self.pieces[piece][0] == name)]
+            whole = [a + b for a, b in zip(whole, sums)]
+            counted.append(f"parcel {name} area {decimal(5 * sums[0], 7)} eligible {decimal(5 * sums[1], 9)}")
+        counted.append(f"total area {decimal(5 * whole[0], 7)} eligible {decimal(5 * whole[1], 9)}")
+        return "\n".join([*counted, "yes", ""])
 
     def both_contain(self, kind, one, other, point):
         """What `refused 41` says."""

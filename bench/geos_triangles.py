@@ -24,7 +24,7 @@ def corners_of(wkb):
         if points != 4:
             raise ValueError(f"a triangle of {points} points")
         values = struct.unpack_from("<6d", wkb, at + 13)
-        triangles.append(tuple((round(values[k] * 100), round(values[k + 1] * 100)) for k in (0, 2, 4)))
+        triangles.append(tuple((round(values[k] * 1000), round(values[k + 1] * 1000)) for k in (0, 2, 4)))
         at += 13 + 16 * points
     return triangles
 
@@ -65,7 +65,7 @@ def earcut():
         return found
 
     def corners(found):
-        return [tuple(tuple(round(value * 100) for value in point) for point in corner) for member in found for corner in member.tolist()]
+        return [tuple(tuple(round(value * 1000) for value in point) for point in corner) for member in found for corner in member.tolist()]
 
     return "ear clipping of mapbox_earcut", wkt.loads, triangulate, corners
 

@@ -1,6 +1,7 @@
 """Makes a table of polygons from a fixed seed: make_areas.py ROWS FILE.
 
-Each polygon is simple: a star round a centre in the range of a national grid, in whole centimetres.
+Each polygon is simple: a star round a centre in the range of a national grid, in whole centimetres, which versions of `lpis` before
+millimetres read too.
 """
 
 import math

@@ -3,7 +3,8 @@
 
 Words: the number of parcels and a folder, which gets parcels.csv, covers.csv, classes.csv and cert.txt. The parcels are the cells of
 a grid of about 20 metres whose points were moved by up to 5 metres; each has one piece of its shape, cut into two triangles. Near
-pairs of triangles are found through the grid: the boxes of two cells can only overlap where the cells touch.
+pairs of triangles are found through the grid: the boxes of two cells can only overlap where the cells touch. The tables are of whole
+centimetres, the certificate of version 2 has their millimetres.
 """
 
 import math
@@ -68,11 +69,11 @@ def main():
                         pairs.append((i, j, separating_edge(triangles[i], triangles[j])))
 
     def certificate():
-        yield "lpis-cert 1"
+        yield "lpis-cert 2"
         for number in range(count):
             yield f"piece C{number:06} 2 0"
             for t in halves(number):
-                yield "t " + " ".join(f"{x} {y}" for x, y in t)
+                yield "t " + " ".join(f"{10 * x} {10 * y}" for x, y in t)
         for number in range(count):
             yield f"parcel P{number:06} 0"
         yield f"pairs {len(pairs)}"

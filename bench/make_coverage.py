@@ -89,7 +89,7 @@ def main():
                     covers.writerow([f"P{made:06}.{number}", f"P{made:06}", "WATER" if number == 4 else numbers.choice(["ARABLE", "GRASS", "TREES"]), text(shape)])
             low = high
     with open(os.path.join(folder, "classes.csv"), "w", encoding="ascii") as classes:
-        classes.write("class,eligible\nARABLE,1\nGRASS,1\nTREES,0\nWATER,0\n")
+        classes.write("class,percent\nARABLE,100\nGRASS,100\nTREES,30\nWATER,0\n")
 
 
 if __name__ == "__main__":

@@ -25,7 +25,7 @@ def main():
     count, folder = int(sys.argv[1]), sys.argv[2]
     numbers = random.Random(20_261_122)
     with open(os.path.join(folder, "classes.csv"), "w", encoding="ascii") as classes:
-        classes.write("class,eligible\nG,1\nW,0\n")
+        classes.write("class,percent\nG,100\nW,0\n")
     with (
         open(os.path.join(folder, "parcels.csv"), "w", encoding="ascii") as parcels,
         open(os.path.join(folder, "covers.csv"), "w", encoding="ascii") as covers,

@@ -2,7 +2,8 @@
 patches or at random, and the borders of what each has are walked in rings that touch themselves and one another wherever they can.
 Then points are left out and put in along straight edges, points repeated, spikes and bridges drawn, and rings added that cancel.
 
-None of that changes which points a polygon contains. A release with a mutation has a change more, or several, that mostly do."""
+None of that changes which points a polygon contains. A release with a mutation has a change more, or several, that mostly do. One half of the
+releases is of whole centimetres and of classes that are eligible or not, the other of whole millimetres and percentages."""
 
 import math
 import random
@@ -17,8 +18,8 @@ class Mesh:
     """Counter-clockwise triangles of a grid, laid out by a map of whole numbers and perhaps with loose points. The cells of its rim are
     nobody's: their outer points stay where they are, so that no loose point can fold the grid over itself."""
 
-    def __init__(self, numbers):
-        self.numbers = numbers
+    def __init__(self, numbers, limit):
+        self.numbers, self.limit = numbers, limit
         self.columns, self.rows = numbers.randint(3, 7), numbers.randint(3, 7)
         widths, heights = numbers.choice(WIDTHS), numbers.choice(WIDTHS)
         xs, ys = self.places(self.columns, widths), self.places(self.rows, heights)
@@ -56,7 +57,7 @@ class Mesh:
         lows, highs = ([most(p[k] for p in self.points.values()) for k in (0, 1)] for most in (min, max))
         kind = self.numbers.randint(0, 5)
         if kind == 0:
-            by = [LIMIT - high if self.numbers.random() < 0.5 else -LIMIT - low for low, high in zip(lows, highs)]
+            by = [self.limit - high if self.numbers.random() < 0.5 else -self.limit - low for low, high in zip(lows, highs)]
         else:
             by = [self.numbers.randint(-500, 500) if kind < 4 else self.numbers.randint(-(10**8), 10**8) for _ in lows]
         self.points = {key: (x + by[0], y + by[1]) for key, (x, y) in self.points.items()}
@@ -118,8 +119,8 @@ class Mesh:
 class Drawing:
     """A polygon of rings whose insides lie left of them."""
 
-    def __init__(self, numbers, rings):
-        self.numbers = numbers
+    def __init__(self, numbers, rings, limit):
+        self.numbers, self.limit = numbers, limit
         self.rings = rings
         self.plain = numbers.random() < 0.3
 
@@ -130,7 +131,7 @@ class Drawing:
         """A point of the polygon, or one a little beside it."""
         x, y = self.numbers.choice(self.numbers.choice(self.rings))
         if self.numbers.random() < 0.5:
-            x, y = (max(-LIMIT, min(LIMIT, value + self.numbers.randint(-9, 9))) for value in (x, y))
+            x, y = (max(-self.limit, min(self.limit, value + self.numbers.randint(-9, 9))) for value in (x, y))
         return x, y
 
     def polygon(self):
@@ -194,12 +195,19 @@ class Drawing:
 
 
 class Release:
-    """The release of a number: `parcels` and `pieces` as write_release takes them, and the name of its mutation."""
+    """The release of a number: `parcels` and `pieces` as write_release takes them, of so many decimals, its classes with their percentages,
+    and the name of its mutation."""
 
     def __init__(self, number, mutated):
         self.numbers = random.Random(number)
         self.mutation = "none"
-        self.mesh = Mesh(self.numbers)
+        if number % 6 < 3:
+            self.decimals, self.limit, self.percents = 2, LIMIT // 10, {"G": 100, "W": 0}
+            self.classes = ["class,eligible", "G,1", "W,0"]
+        else:
+            self.decimals, self.limit, self.percents = 3, LIMIT, {"G": 37 * number % 101, "W": 61 * number % 101}
+            self.classes = ["class,percent", *(f"{kind},{percent}" for kind, percent in self.percents.items())]
+        self.mesh = Mesh(self.numbers, self.limit)
         heaps = [heap for heap in self.mesh.deal(range(len(self.mesh.triangles)), self.numbers.randint(1, 4)) if heap]
         if len(heaps) > 1 and self.numbers.random() < 0.5:
             heaps.pop()  # nobody's
@@ -218,7 +226,7 @@ class Release:
             self.mutation = "several" if len(changes) > 1 else changes[0].__name__.replace("_", " ")
 
     def drawn(self, triangles):
-        return Drawing(self.numbers, self.mesh.rings(triangles)).polygon()
+        return Drawing(self.numbers, self.mesh.rings(triangles), self.limit).polygon()
 
     def draw(self):
         self.parcels, self.pieces = [], []
@@ -226,6 +234,15 @@ class Release:
             self.parcels.append((f"P{k}", self.drawn(heap)))
             self.pieces += [(f"C{k}.{j}", f"P{k}", "GW"[j % 2], self.drawn(share)) for j, share in enumerate(shares)]
         self.numbers.shuffle(self.pieces)
+
+    def in_millimetres(self):
+        """The parcels and the pieces, in whole millimetres."""
+        factor = 10 ** (3 - self.decimals)
+
+        def scaled(polygon):
+            return [[[(factor * x, factor * y) for x, y in ring] for ring in member] for member in polygon]
+
+        return [(name, scaled(polygon)) for name, polygon in self.parcels], [(*row, scaled(polygon)) for *row, polygon in self.pieces]
 
     def any_polygon(self):
         rows = self.numbers.choice([self.parcels, self.pieces])
@@ -236,7 +253,7 @@ class Release:
 
     def beside(self, point):
         dx, dy = self.numbers.choice([(1, 0), (-1, 0), (0, 1), (0, -1)])
-        return tuple(max(-LIMIT, min(LIMIT, value)) for value in (point[0] + dx, point[1] + dy))
+        return tuple(max(-self.limit, min(self.limit, value)) for value in (point[0] + dx, point[1] + dy))
 
 
 def copied(polygon):
@@ -267,14 +284,14 @@ def triangle_given_twice(release):
 
 
 def corner_moved(release):
-    """One polygon has a corner that lies a centimetre beside that of the others."""
+    """One polygon has a corner that lies a centimetre or a millimetre beside that of the others."""
     polygon = release.any_polygon()
     old = release.numbers.choice(release.any_ring(polygon))
     replace_point(polygon, old, release.beside(old))
 
 
 def corner_moved_in_parcel_and_pieces(release):
-    """A parcel and its pieces agree on a corner that lies a centimetre beside that of the neighbours: a hair is shared, or left free."""
+    """A parcel and its pieces agree on a corner that lies a hair's breadth beside that of the neighbours: a hair is shared, or left free."""
     name, polygon = release.numbers.choice(release.parcels)
     old = release.numbers.choice(release.any_ring(polygon))
     new = release.beside(old)
@@ -350,7 +367,7 @@ def edges_cross_in_threes(release):
 
 
 def parcels_on_a_hair(release):
-    """Two parcels whose long borders cross in hairs a centimetre wide."""
+    """Two parcels whose long borders cross in hairs of one unit's width."""
     length = release.numbers.choice([50, 3_000, 10**6, 5 * 10**8])
     low = [(0, 0), (length, release.numbers.randint(-1, 1)), (length, -20), (0, -20)]
     high = [(0, 0), (length, release.numbers.randint(-1, 1)), (length + 3, 40), (1, 30)]

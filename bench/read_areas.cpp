@@ -98,7 +98,7 @@ static bool is_word(string_view text, string_view word) {
     return true;
 }
 
-// A reader of a polygon's text, of any member and ring, that adds up its doubled area in square centimetres.
+// A reader of a polygon's text, of any member and ring, that adds up its doubled area in square millimetres.
 class Polygon {
   public:
     Polygon(string_view wkt, const Text &text) : at(wkt.data()), end(wkt.data() + wkt.size()), text(text) {}
@@ -139,7 +139,7 @@ class Polygon {
         if (!has(c)) text.fault();
     }
 
-    // A coordinate in whole centimetres.
+    // A coordinate in whole millimetres.
     int64_t number() {
         skip();
         bool is_negative = at < end && *at == '-';
@@ -151,23 +151,23 @@ class Polygon {
         if (*at == '.') {
             ++at;
             for (; is_digit(*at); ++at, ++decimals) {
-                if (decimals < 2) value = 10 * value + (*at - '0');
+                if (decimals < 3) value = 10 * value + (*at - '0');
                 else if (*at != '0') text.fault();
             }
         }
-        if (digits + decimals == 0 || digits > 16) text.fault();
-        value *= decimals == 0 ? 100 : decimals == 1 ? 10 : 1;
+        if (digits + decimals == 0 || digits > 15) text.fault();
+        value *= decimals == 0 ? 1000 : decimals == 1 ? 100 : decimals == 2 ? 10 : 1;
         return is_negative ? -value : value;
     }
 
-    // The absolute shoelace sum of a ring. A term of the sum fits into 64 bits, since coordinates are below 2 * 10^9.
+    // The absolute shoelace sum of a ring. A term of the sum needs more than 64 bits, since coordinates are up to 2 * 10^10.
     Area ring() {
         take('(');
         int64_t x0 = number(), y0 = number(), x = x0, y = y0, points = 1;
         Area sum = 0;
         while (has(',')) {
             int64_t next_x = number(), next_y = number();
-            sum += x * next_y - next_x * y;
+            sum += static_cast<Area>(x) * next_y - static_cast<Area>(next_x) * y;
             x = next_x, y = next_y, ++points;
         }
         take(')');
@@ -267,7 +267,7 @@ class Lines {
 
     Certificate certificate() {
         Certificate cert;
-        take("lpis-cert 1\n");
+        take("lpis-cert 2\n");
         while (has("piece ")) {
             string_view name = word();
             uint64_t triangles = number(' '), flats = number('\n');
@@ -313,7 +313,7 @@ class Lines {
         const char *start = at;
         uint64_t value = 0;
         while (is_digit(*at)) value = 10 * value + (*at++ - '0');
-        if (at == start || at - start > 10 || *at != after) text.fault();
+        if (at == start || at - start > 11 || *at != after) text.fault();
         ++at;
         return value;
     }
@@ -339,36 +339,37 @@ class Lines {
     const char *at;
 };
 
+// Doubled square millimetres, and these times the percentages of the classes.
 struct Areas {
     Area area = 0, eligible = 0;
 };
 
-// Appends an area of doubled square centimetres in square metres with five digits.
-static void print_area(std::string &out, Area doubled) {
-    if (doubled < 0) {
+// Appends five times a number with so many digits behind the point: half a square millimetre is 5 / 10^7 square metres.
+static void print_number(std::string &out, Area number, int places) {
+    if (number < 0) {
         out += '-';
-        doubled = -doubled;
+        number = -number;
     }
-    Area value = 5 * doubled;
+    Area value = 5 * number;
     char digits[48];
     int count = 0;
-    for (; count < 6 || value > 0; value /= 10) {
+    for (; count <= places || value > 0; value /= 10) {
         if (value <= UINT64_MAX / 2) { // the usual case, without division of 128 bits
-            for (uint64_t rest = value; count < 6 || rest > 0; rest /= 10) digits[count++] = '0' + rest % 10;
+            for (uint64_t rest = value; count <= places || rest > 0; rest /= 10) digits[count++] = '0' + rest % 10;
             break;
         }
         digits[count++] = '0' + static_cast<int>(value % 10);
     }
-    while (count > 5) out += digits[--count];
+    while (count > places) out += digits[--count];
     out += '.';
     while (count > 0) out += digits[--count];
 }
 
 static void print_areas(std::string &out, const Areas &areas) {
     out += " area ";
-    print_area(out, areas.area);
+    print_number(out, areas.area, 7);
     out += " eligible ";
-    print_area(out, areas.eligible);
+    print_number(out, areas.eligible, 9);
     out += '\n';
 }
 
@@ -379,7 +380,7 @@ int main(int count, char **words) {
     Text parcel_text(folder + "/parcels.csv"), class_text(folder + "/classes.csv");
     Numbers parcels, classes;
     std::vector<Areas> areas;
-    std::vector<bool> is_eligible;
+    std::vector<int> percents;
     {
         Table rows(parcel_text);
         size_t name = rows.column("parcel"), wkt = rows.column("wkt");
@@ -390,11 +391,13 @@ int main(int count, char **words) {
     }
     {
         Table rows(class_text);
-        size_t name = rows.column("class"), eligible = rows.column("eligible");
+        size_t name = rows.column("class"), percent = rows.column("percent");
         while (rows.next()) {
-            if (rows[eligible] != "0" && rows[eligible] != "1") class_text.fault();
+            int value = 0;
+            for (char c : rows[percent]) value = is_digit(c) && value <= 100 ? 10 * value + (c - '0') : 101;
+            if (rows[percent].empty() || value > 100) class_text.fault();
             classes.add(rows[name]);
-            is_eligible.push_back(rows[eligible] == "1");
+            percents.push_back(value);
         }
     }
     size_t pieces = 0;
@@ -406,8 +409,7 @@ int main(int count, char **words) {
         for (; rows.next(); ++pieces) {
             uint32_t of = parcels.find(rows[parcel]), with = classes.find(rows[kind]);
             if (of == Numbers::none || with == Numbers::none) text.fault();
-            Area area = Polygon(rows[wkt], text).area();
-            if (is_eligible[with]) areas[of].eligible += area;
+            areas[of].eligible += percents[with] * Polygon(rows[wkt], text).area();
         }
     }
     Text cert_text(words[2]);

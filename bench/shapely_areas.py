@@ -28,7 +28,7 @@ def areas(texts):
 
 
 def main():
-    sys.stdout.write("".join(f"{value:.5f}\n" for value in areas(read_column(sys.argv[1]))))
+    sys.stdout.write("".join(f"{value:.7f}\n" for value in areas(read_column(sys.argv[1]))))
 
 
 main()

@@ -1,5 +1,6 @@
-"""What the makers of releases share. A point is a pair of whole centimetres, a ring a list of points without the closing one, a
-polygon a list of members, a member a list of rings of which the first is the shell."""
+"""What the makers of releases share. A point is a pair of whole numbers, of centimetres where a maker says nothing else, since such texts
+are read by versions of `lpis` before millimetres too. A ring is a list of points without the closing one, a polygon a list of members, a
+member a list of rings of which the first is the shell."""
 
 import os
 
@@ -14,16 +15,18 @@ def apart(t, u):
     return any(max(p[k] for p in t) <= min(p[k] for p in u) or max(p[k] for p in u) <= min(p[k] for p in t) for k in (0, 1))
 
 
-def metres(point):
-    return " ".join(f"{'-' if value < 0 else ''}{abs(value) // 100}.{abs(value) % 100:02}" for value in point)
+def metres(point, decimals=2):
+    """A point in metres; its numbers are in centimetres, with three decimals in millimetres."""
+    one = 10**decimals
+    return " ".join(f"{'-' if value < 0 else ''}{abs(value) // one}.{abs(value) % one:0{decimals}}" for value in point)
 
 
-def ring_text(ring):
-    return f"({','.join(metres(point) for point in ring + ring[:1])})"
+def ring_text(ring, decimals=2):
+    return f"({','.join(metres(point, decimals) for point in ring + ring[:1])})"
 
 
-def polygon_text(polygon):
-    members = [f"({','.join(ring_text(ring) for ring in member)})" for member in polygon]
+def polygon_text(polygon, decimals=2):
+    members = [f"({','.join(ring_text(ring, decimals) for ring in member)})" for member in polygon]
     return f"POLYGON{members[0]}" if len(members) == 1 else f"MULTIPOLYGON({','.join(members)})"
 
 
@@ -32,10 +35,14 @@ def write_lines(folder, name, lines):
         file.writelines(line + "\n" for line in lines)
 
 
-def write_release(folder, parcels, pieces):
-    """Parcels are (identifier, polygon), pieces (identifier, parcel, class G or W, polygon). G is eligible."""
+# G is eligible to 100 percent, W not at all; the column `eligible` is for versions of `lpis` before percentages.
+CLASSES = ["class,percent,eligible", "G,100,1", "W,0,0"]
+
+
+def write_release(folder, parcels, pieces, decimals=2, classes=CLASSES):
+    """Parcels are (identifier, polygon), pieces (identifier, parcel, class, polygon)."""
     os.makedirs(folder, exist_ok=True)
-    write_lines(folder, "classes.csv", ["class,eligible", "G,1", "W,0"])
-    write_lines(folder, "parcels.csv", ["parcel,wkt"] + [f'{name},"{polygon_text(polygon)}"' for name, polygon in parcels])
-    rows = [f'{name},{parcel},{kind},"{polygon_text(polygon)}"' for name, parcel, kind, polygon in pieces]
+    write_lines(folder, "classes.csv", classes)
+    write_lines(folder, "parcels.csv", ["parcel,wkt"] + [f'{name},"{polygon_text(polygon, decimals)}"' for name, polygon in parcels])
+    rows = [f'{name},{parcel},{kind},"{polygon_text(polygon, decimals)}"' for name, parcel, kind, polygon in pieces]
     write_lines(folder, "covers.csv", ["piece,parcel,class,wkt"] + rows)

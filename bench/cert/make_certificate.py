@@ -3,19 +3,21 @@
 import random
 import sys
 
+LIMIT = 20_000_000_000  # millimetres
+
 
 def main():
     count, path = int(sys.argv[1]), sys.argv[2]
     chance = random.Random(1)
     with open(path, "w") as out:
-        out.write("lpis-cert 1\n")
+        out.write("lpis-cert 2\n")
         for piece in range(count // 100):
             out.write(f"piece P{piece} 100 0\n")
             for _ in range(100):
-                x, y = chance.randrange(-2_000_000_000, 2_000_000_000), chance.randrange(-2_000_000_000, 2_000_000_000)
-                dx, dy = chance.randrange(0, 10_000), chance.randrange(0, 10_000)
-                xs = [min(x + d, 2_000_000_000) for d in (0, dx, dx // 2)]
-                ys = [min(y + d, 2_000_000_000) for d in (0, dy // 3, dy)]
+                x, y = chance.randrange(-LIMIT, LIMIT), chance.randrange(-LIMIT, LIMIT)
+                dx, dy = chance.randrange(0, 100_000), chance.randrange(0, 100_000)
+                xs = [min(x + d, LIMIT) for d in (0, dx, dx // 2)]
+                ys = [min(y + d, LIMIT) for d in (0, dy // 3, dy)]
                 out.write(f"t {xs[0]} {ys[0]} {xs[1]} {ys[1]} {xs[2]} {ys[2]}\n")
         for parcel in range(count // 1000):
             out.write(f"parcel Q{parcel} 0\n")
