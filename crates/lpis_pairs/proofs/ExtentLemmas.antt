@@ -1,10 +1,10 @@
 -- Boxes measured from the corner of the range: what two of them say when their triangles are not apart.
-use Rattle.std.proofs.Common.{◌≡◌, ℤ, ◌<◌, ◌≤◌, ◌≤ℤ◌, ◌<ℤ◌, false, ◌||◌, int_le, arith}
+use Rattle.std.proofs.Common.{◌≡◌, ℕ, ◌+◌, ◌/◌, ℤ, ◌<◌, ◌≤◌, ◌≤ℤ◌, ◌<ℤ◌, false, ◌||◌, int_le, arith}
 use Rattle.lpis_pairs.proofs.Common.{Triangle, extent_of}
 use Rattle.std.proofs.lemmas.Int.{ints, clamps}
 use Rattle.lpis_points.specs.Range.{IsInRange}
 use Rattle.lpis_points.specs.Triangles.{are_apart, box_of, least, greatest}
-use Rattle.lpis_pairs.specs.private.Strips.{offset}
+use Rattle.lpis_pairs.specs.private.Strips.{offset, rounded_down, rounded_up}
 
 -- the least and the greatest of three numbers
 pub least_in_range : (a b c : ℤ) → IsInRange a → IsInRange b → IsInRange c → IsInRange (least a b c)
@@ -16,14 +16,21 @@ greatest_in_range a b c h k l = (omega (arith, ints, clamps, h.0, k.0, l.0), ome
 least_upto_greatest : (a b c : ℤ) → least a b c ≤ℤ greatest a b c
 least_upto_greatest a b c = omega (arith, ints, clamps)
 
-offset_below : (y z : ℤ) → IsInRange y → y <ℤ z → offset y < offset z
-offset_below y z h l = omega (arith, ints, h.0)
+-- what begins before another thing ends does so when the one is rounded down and the other up
+rounded_below : (m n : ℕ) → m < n → m / 10 < (n + 9) / 10
+rounded_below m n l = omega arith
 
-offset_upto : (y z : ℤ) → IsInRange y → y ≤ℤ z → offset y ≤ offset z
-offset_upto y z h l = omega (arith, ints, h.0)
+rounded_upto : (m n : ℕ) → m ≤ n → m / 10 ≤ (n + 9) / 10
+rounded_upto m n l = omega arith
+
+begins_below : (y z : ℤ) → IsInRange y → y <ℤ z → rounded_down y < rounded_up z
+begins_below y z h l = rounded_below (offset y) (offset z) (omega (arith, ints, h.0))
+
+begins_upto : (y z : ℤ) → IsInRange y → y ≤ℤ z → rounded_down y ≤ rounded_up z
+begins_upto y z h l = rounded_upto (offset y) (offset z) (omega (arith, ints, h.0))
 
 pub upright : (t : Triangle) → (extent_of t).bottom ≤ (extent_of t).top
-upright t = offset_upto _ _ (least_in_range t.a.y t.b.y t.c.y t.a.y_in_range t.b.y_in_range t.c.y_in_range) (least_upto_greatest t.a.y t.b.y t.c.y)
+upright t = begins_upto _ _ (least_in_range t.a.y t.b.y t.c.y t.a.y_in_range t.b.y_in_range t.c.y_in_range) (least_upto_greatest t.a.y t.b.y t.c.y)
 
 -- the boxes meet inside in both directions
 pub record Meet (t u : Triangle) : Type 0 where
@@ -40,8 +47,8 @@ unfolding are_apart
 meet t u e =
     let f = four (box_of t).x1 (box_of u).x0 (box_of t).y1 (box_of u).y0 (box_of u).x1 (box_of t).x0 (box_of u).y1 (box_of t).y0 e in
     record {
-      left = offset_below _ _ (least_in_range t.a.x t.b.x t.c.x t.a.x_in_range t.b.x_in_range t.c.x_in_range) f.2;
-      right = offset_below _ _ (least_in_range u.a.x u.b.x u.c.x u.a.x_in_range u.b.x_in_range u.c.x_in_range) f.0;
-      bottom = offset_below _ _ (least_in_range t.a.y t.b.y t.c.y t.a.y_in_range t.b.y_in_range t.c.y_in_range) f.3;
-      top = offset_below _ _ (least_in_range u.a.y u.b.y u.c.y u.a.y_in_range u.b.y_in_range u.c.y_in_range) f.1;
+      left = begins_below _ _ (least_in_range t.a.x t.b.x t.c.x t.a.x_in_range t.b.x_in_range t.c.x_in_range) f.2;
+      right = begins_below _ _ (least_in_range u.a.x u.b.x u.c.x u.a.x_in_range u.b.x_in_range u.c.x_in_range) f.0;
+      bottom = begins_below _ _ (least_in_range t.a.y t.b.y t.c.y t.a.y_in_range t.b.y_in_range t.c.y_in_range) f.3;
+      top = begins_below _ _ (least_in_range u.a.y u.b.y u.c.y u.a.y_in_range u.b.y_in_range u.c.y_in_range) f.1;
     }

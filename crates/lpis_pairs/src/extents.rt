@@ -1,13 +1,17 @@
 //! Boxes measured from the corner of the range of coordinates.
 
-ghost use Rattle.std.specs.Prelude.{◌≡◌, ◌<◌};
+ghost use Rattle.std.specs.Prelude.{◌≡◌, ◌<◌, ◌≤◌};
 ghost use Rattle.lpis_points.specs.Range.{IsInRange};
 ghost use Rattle.lpis_pairs.specs.private.Strips.{extent_of as extent_of_spec};
-ghost use Rattle.lpis_pairs.specs.private.Strips.{offset as offset_spec};
+ghost use Rattle.lpis_pairs.specs.private.Strips.{most_offset, offset as offset_spec};
+ghost use Rattle.lpis_pairs.specs.private.Strips.{rounded_down as down_spec};
+ghost use Rattle.lpis_pairs.specs.private.Strips.{rounded_up as up_spec};
 
 use lpis_points::{LIMIT, Triangle, box_of};
 
-/// A box, measured from the least x and the least y in range: none of its numbers is below 0.
+/// A box, measured from the least x and the least y in range, in whole centimetres, so that 32 bits
+/// hold it. It is rounded outwards, so boxes that overlap do so here too; whether two that do so
+/// here overlap is asked of their triangles.
 #[derive(Clone, Copy, Debug)]
 pub struct Extent {
     pub left: u32,
@@ -16,12 +20,29 @@ pub struct Extent {
     pub top: u32,
 }
 
-/// How far a coordinate is above the least in range.
-fn offset(coordinate: i64) -> u32
+/// How far a coordinate is above the least in range, in millimetres.
+fn offset(coordinate: i64) -> u64
     requires { IsInRange coordinate }
-    ensures { result ≡ offset_spec coordinate }
+    ensures value { result ≡ offset_spec coordinate }
+    ensures small { result ≤ most_offset }
 {
-    (coordinate + LIMIT) as u32
+    (coordinate + LIMIT) as u64
+}
+
+/// How far a coordinate is above the least in range, in centimetres, rounded down.
+fn rounded_down(coordinate: i64) -> u32
+    requires { IsInRange coordinate }
+    ensures { result ≡ down_spec coordinate }
+{
+    (offset(coordinate) / 10) as u32
+}
+
+/// How far a coordinate is above the least in range, in centimetres, rounded up.
+fn rounded_up(coordinate: i64) -> u32
+    requires { IsInRange coordinate }
+    ensures { result ≡ up_spec coordinate }
+{
+    ((offset(coordinate) + 9) / 10) as u32
 }
 
 /// The box of a triangle.
@@ -30,10 +51,10 @@ pub fn extent_of(triangle: &Triangle) -> Extent
 {
     let corners = box_of(triangle);
     Extent {
-        left: offset(corners.x0),
-        bottom: offset(corners.y0),
-        right: offset(corners.x1),
-        top: offset(corners.y1),
+        left: rounded_down(corners.x0),
+        bottom: rounded_down(corners.y0),
+        right: rounded_up(corners.x1),
+        top: rounded_up(corners.y1),
     }
 }
 

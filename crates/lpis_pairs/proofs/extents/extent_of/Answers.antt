@@ -11,17 +11,17 @@ handed z r h e =
     let f : SFits w64 z = omega (arith, ints, h.0, h.1) in
     subst IsInRange (sym (ap (λ v. to_z w64 (of_z w64 v)) e ∙ to_z-of_z f)) h
 
-pub offset-requires-2 : goal.offset-requires-2
-offset-requires-2 c =
+pub rounded_down-requires-2 : goal.rounded_down-requires-2
+rounded_down-requires-2 c =
     let t = c.args.triangle.now in
     handed _ _ (least_in_range t.a.y t.b.y t.c.y t.a.y_in_range t.b.y_in_range t.c.y_in_range) (ap (λ (b : Box4). b.y0) c.box_of-corners.ensures)
 
-pub offset-requires-3 : goal.offset-requires-3
-offset-requires-3 c =
+pub rounded_up-requires : goal.rounded_up-requires
+rounded_up-requires c =
     let t = c.args.triangle.now in
     handed _ _ (greatest_in_range t.a.x t.b.x t.c.x t.a.x_in_range t.b.x_in_range t.c.x_in_range) (ap (λ (b : Box4). b.x1) c.box_of-corners.ensures)
 
-pub offset-requires-4 : goal.offset-requires-4
-offset-requires-4 c =
+pub rounded_up-requires-2 : goal.rounded_up-requires-2
+rounded_up-requires-2 c =
     let t = c.args.triangle.now in
     handed _ _ (greatest_in_range t.a.y t.b.y t.c.y t.a.y_in_range t.b.y_in_range t.c.y_in_range) (ap (λ (b : Box4). b.y1) c.box_of-corners.ensures)
