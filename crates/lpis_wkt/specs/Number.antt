@@ -9,9 +9,9 @@ use Rattle.lpis_points.specs.Range.{limit}
 use Rattle.lpis_wkt.specs.declared.fault.WktCode.{WktCode}
 use Rattle.lpis_wkt.specs.declared.fault.WktCode.TheVariants.{NotANumber, TooFine, OutOfRange}
 
--- the decimals of a coordinate: the text is in metres, the coordinate in centimetres
+-- the decimals of a coordinate: the text is in metres, the coordinate in millimetres
 abbrev pub coordinate_decimals : ℕ
-coordinate_decimals = 2
+coordinate_decimals = 3
 
 -- the word without its `+` or `-`
 abbrev pub unsigned : List ℕ → List ℕ

@@ -2,7 +2,7 @@
 
 ghost use Rattle.lpis_points.specs.Range.{IsInRange};
 
-/// A coordinate in whole centimetres, in range.
+/// A coordinate in whole millimetres, in range.
 #[derive(Clone, Copy)]
 pub struct Coordinate {
     pub value: i64,

@@ -42,8 +42,8 @@ pub fn one_code()
 {}
 
 /// A number is read exactly: with as many digits more as it has decimals, its amount is what its
-/// digits spell with the decimals of a coordinate more. So 1.25 metres are 125 centimetres: 125 *
-/// 10^2 is 10^2 * 125. Behind a `-` (45) it is not above 0, else not below.
+/// digits spell with the decimals of a coordinate more. So 1.25 metres are 1250 millimetres: 1250 *
+/// 10^2 is 10^3 * 125. Behind a `-` (45) it is not above 0, else not below.
 pub fn exact_numbers()
     ensures amount { (word : List ℕ) (z : ℤ) → number word ≡ Ok z
         → nat_abs z * 10 ^ length (decimals word) ≡ 10 ^ coordinate_decimals * digits_value 10

@@ -14,8 +14,8 @@ ghost use Rattle.lpis_wkt.specs.private.Coordinates.{coordinate};
 use crate::coordinate::Coordinate;
 use crate::fault::WktCode;
 
-/// The decimals of a coordinate: the text is in metres, a coordinate in centimetres.
-pub const DECIMALS: usize = 2;
+/// The decimals of a coordinate: the text is in metres, a coordinate in millimetres.
+pub const DECIMALS: usize = 3;
 
 /// The greatest size of a coordinate.
 pub const GREATEST: u64 = lpis_points::LIMIT as u64;

@@ -28,7 +28,7 @@ fn parse(alloc: Global, text: &[u8]) -> Result<Polygon, WktFault>
     parser.finish(text.len())
 }
 
-/// The polygon that a text spells: `POLYGON` or `MULTIPOLYGON`, in metres with up to two decimals.
+/// The polygon that a text spells: `POLYGON` or `MULTIPOLYGON`, in metres with up to three decimals.
 /// Else the first fault of the text: the code and the offset in bytes of the first token that
 /// cannot stand where it stands.
 pub fn read(alloc: Global, text: &str) -> Result<Polygon, WktFault>
