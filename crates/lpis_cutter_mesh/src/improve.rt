@@ -21,6 +21,9 @@ enum Goal {
 /// The most triangles of a mesh whose boxes are all looked at for each exchange.
 const FEW: usize = 64;
 
+/// Millimetres.
+const CENTIMETRE: i128 = 10;
+
 /// Two triangles on either side of a diagonal from a to b: (a, b, c) and (b, a, d).
 #[derive(Clone, Copy)]
 struct Quad {
@@ -106,7 +109,7 @@ fn exchange(mesh: &mut Mesh, quad: &Quad) {
     mesh.glue(Side { triangle: u, k: 1 }, from_b_to_c);
 }
 
-/// An eighth of the mean of w + h over the boxes of triangles.
+/// An eighth of the mean of w + h over the boxes of triangles, rounded down to whole centimetres.
 fn mean_girth(points: &[Point], mesh: &Mesh) -> i128 {
     let mut sum: i128 = 0;
     for triangle in &mesh.triangles {
@@ -115,7 +118,9 @@ fn mean_girth(points: &[Point], mesh: &Mesh) -> i128 {
         }
     }
     let count = mesh.triangles.len().max(1) as i128;
-    sum.checked_div(count.wrapping_mul(8)).unwrap_or(0)
+    let eighths = count.wrapping_mul(8).wrapping_mul(CENTIMETRE);
+    let centimetres = sum.checked_div(eighths).unwrap_or(0);
+    centimetres.wrapping_mul(CENTIMETRE)
 }
 
 impl Improver {

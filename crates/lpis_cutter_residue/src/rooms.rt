@@ -1,7 +1,7 @@
 //! Points of rooms that residual edges bound.
 
 use crate::net::NetEdge;
-use crate::vectors::{Vector, along, cross, floor_div, product, rational, step};
+use crate::vectors::{CENTIMETRE, Vector, along, cross, floor_div, product, rational, step};
 use lpis_cutter_mesh::Mesher;
 use lpis_points::{Point, RatPoint, Triangle, orient};
 use std::alloc::{AllocError, Global};
@@ -129,6 +129,19 @@ fn reach(rest: &[NetEdge], from: Point, m: Vector) -> i64 {
     i64::try_from(reach).unwrap_or(0)
 }
 
+/// The point half as many parts of the step m from a corner, rounded down to d-ths of a unit of so
+/// many millimetres.
+fn half_way(corner: Point, m: Vector, reach: i64, unit: i64, d: i64) -> Option<RatPoint> {
+    let whole = product(PARTS, unit, 2);
+    let x = floor_div(product(m.x, reach, d), whole);
+    let y = floor_div(product(m.y, reach, d), whole);
+    rational(
+        product(corner.x, d, 1).wrapping_add(x.wrapping_mul(unit as i128)),
+        product(corner.y, d, 1).wrapping_add(y.wrapping_mul(unit as i128)),
+        d,
+    )
+}
+
 /// Points a way from a corner between two residual edges that leave it, half as far as the first
 /// edge that is met.
 fn points_between(
@@ -147,15 +160,16 @@ fn points_between(
     let whole = (PARTS as i128).wrapping_mul(2);
     let mut points = Vec::new(alloc);
     for d in [1_000_000, 999_983, 1000] {
-        let x = product(corner.x, d, 1).wrapping_add(floor_div(product(m.x, reach, d), whole));
-        let y = product(corner.y, d, 1).wrapping_add(floor_div(product(m.y, reach, d), whole));
-        if let Some(p) = rational(x, y, d) {
+        if let Some(p) = half_way(corner, m, reach, CENTIMETRE, d) {
             points.push(p)?;
         }
         let n = floor_div(product(reach, d, 1), whole).max(1);
         if let Some(p) = along(corner, m, i64::try_from(n).unwrap_or(1), d) {
             points.push(p)?;
         }
+    }
+    if let Some(p) = half_way(corner, m, reach, 1, 1_000_000) {
+        points.push(p)?;
     }
     Ok(points)
 }

@@ -1,6 +1,8 @@
 //! Points that two triangles share, as far as whole numbers can name them.
 
-use crate::vectors::{Vector, along, cross, floor_div, product, rational, step, turns_of};
+use crate::vectors::{
+    CENTIMETRE, Vector, along, cross, floor_div, product, rational, step, turns_of,
+};
 use lpis_points::{Point, RatPoint, Triangle, orient, orient_at};
 use std::alloc::{AllocError, Global};
 
@@ -30,7 +32,14 @@ fn clip(a: Point, u: Vector, parts: i64, triangle: &Triangle) -> Option<(i64, i6
     Some((i64::try_from(from).ok()?, i64::try_from(to).ok()?))
 }
 
-/// The sum of points, in d-ths of a unit from an origin.
+/// A grid: d-ths of a unit of so many millimetres.
+#[derive(Clone, Copy)]
+struct Grid {
+    unit: i64,
+    d: i64,
+}
+
+/// The sum of points of a grid, from an origin.
 #[derive(Clone, Copy)]
 struct Sum {
     x: i128,
@@ -38,18 +47,24 @@ struct Sum {
     count: i128,
 }
 
-/// Adds the ends of the part of each edge of a triangle that lies in another.
-fn add_parts(sum: Sum, origin: Point, own: &Triangle, other: &Triangle, d: i64) -> Sum {
+/// How many steps of a grid are in so many units and parts.
+fn steps_in(grid: Grid, whole: i64, step: i64, n: i64) -> i128 {
+    let units = product(whole, PARTS, grid.d);
+    let parts = product(step, n, grid.d);
+    floor_div(units.wrapping_add(parts), product(PARTS, grid.unit, 1))
+}
+
+/// Adds the ends of the part of each edge of a triangle that lies in another, each rounded down to
+/// the grid.
+fn add_parts(sum: Sum, origin: Point, own: &Triangle, other: &Triangle, grid: Grid) -> Sum {
     let mut sum = sum;
     for side in turns_of(own) {
         let u = step(side.a, side.b);
         let f = step(origin, side.a);
         if let Some((from, to)) = clip(side.a, u, PARTS, other) {
             for n in [from, to] {
-                let x = floor_div(product(u.x, n, d), PARTS as i128);
-                let y = floor_div(product(u.y, n, d), PARTS as i128);
-                sum.x = sum.x.wrapping_add(product(f.x, d, 1)).wrapping_add(x);
-                sum.y = sum.y.wrapping_add(product(f.y, d, 1)).wrapping_add(y);
+                sum.x = sum.x.wrapping_add(steps_in(grid, f.x, u.x, n));
+                sum.y = sum.y.wrapping_add(steps_in(grid, f.y, u.y, n));
                 sum.count = sum.count.wrapping_add(1);
             }
         }
@@ -57,26 +72,27 @@ fn add_parts(sum: Sum, origin: Point, own: &Triangle, other: &Triangle, d: i64) 
     sum
 }
 
-/// The mean of the ends of all parts of edges that lie in the other triangle, rounded to d-ths of a
-/// unit.
-fn mean(s: &Triangle, t: &Triangle, d: i64) -> Option<RatPoint> {
+/// The mean of the ends of all parts of edges that lie in the other triangle, rounded to a grid
+/// through the first corner.
+fn mean(s: &Triangle, t: &Triangle, grid: Grid) -> Option<RatPoint> {
     let none = Sum {
         x: 0,
         y: 0,
         count: 0,
     };
-    let half = add_parts(none, s.a, s, t, d);
-    let sum = add_parts(half, s.a, t, s, d);
+    let half = add_parts(none, s.a, s, t, grid);
+    let sum = add_parts(half, s.a, t, s, grid);
     if sum.count == 0 {
         return None;
     }
     let rounding = floor_div(sum.count, 2);
     let x = floor_div(sum.x.wrapping_add(rounding), sum.count);
     let y = floor_div(sum.y.wrapping_add(rounding), sum.count);
+    let unit = grid.unit as i128;
     rational(
-        product(s.a.x, d, 1).wrapping_add(x),
-        product(s.a.y, d, 1).wrapping_add(y),
-        d,
+        product(s.a.x, grid.d, 1).wrapping_add(x.wrapping_mul(unit)),
+        product(s.a.y, grid.d, 1).wrapping_add(y.wrapping_mul(unit)),
+        grid.d,
     )
 }
 
@@ -133,8 +149,8 @@ pub fn points_in_both(
     t: &Triangle,
 ) -> Result<Vec<RatPoint>, AllocError> {
     let mut points = Vec::new(alloc);
-    for d in [1, 10, 1000, 1_000_000] {
-        if let Some(p) = mean(s, t, d) {
+    for (unit, d) in [(CENTIMETRE, 1), (1, 1), (1, 100), (1, 100_000)] {
+        if let Some(p) = mean(s, t, Grid { unit, d }) {
             points.push(p)?;
         }
     }
@@ -145,6 +161,10 @@ pub fn points_in_both(
         for side in turns_of(t) {
             push_inner(&mut points, &side, s, d)?;
         }
+    }
+    let (unit, d) = (1, 1_000_000);
+    if let Some(p) = mean(s, t, Grid { unit, d }) {
+        points.push(p)?;
     }
     Ok(points)
 }

@@ -2,6 +2,9 @@
 
 use lpis_points::{Point, RatPoint, Triangle};
 
+/// Millimetres.
+pub(crate) const CENTIMETRE: i64 = 10;
+
 /// A step in the plane.
 #[derive(Clone, Copy, Debug)]
 pub(crate) struct Vector {
