@@ -40,10 +40,10 @@ fn agreed<R: Abort>(
 #[test]
 fn two_halves_have_a_pair_each(rt: HostRuntime) -> Result<(), Fail> {
     let triangles = [
-        triangle((0, 0), (500, 0), (500, 1000))?,
-        triangle((0, 0), (500, 1000), (0, 1000))?,
-        triangle((500, 0), (1000, 0), (1000, 1000))?,
-        triangle((500, 0), (1000, 1000), (500, 1000))?,
+        triangle((0, 0), (5000, 0), (5000, 10_000))?,
+        triangle((0, 0), (5000, 10_000), (0, 10_000))?,
+        triangle((5000, 0), (10_000, 0), (10_000, 10_000))?,
+        triangle((5000, 0), (10_000, 10_000), (5000, 10_000))?,
     ];
     let pairs = agreed(&rt, rt.alloc(), &triangles)?;
     assert_eq!(rt; pairs.as_slice(), [(0, 1), (2, 3)].as_slice());
@@ -53,9 +53,9 @@ fn two_halves_have_a_pair_each(rt: HostRuntime) -> Result<(), Fail> {
 #[test]
 fn one_triangle_meets_two_that_are_apart(rt: HostRuntime) -> Result<(), Fail> {
     let triangles = [
-        triangle((0, 0), (500, 0), (0, 500))?,
-        triangle((1000, 0), (2000, 0), (1000, 1000))?,
-        triangle((400, 0), (1500, 0), (400, 500))?,
+        triangle((0, 0), (5000, 0), (0, 5000))?,
+        triangle((10_000, 0), (20_000, 0), (10_000, 10_000))?,
+        triangle((4000, 0), (15_000, 0), (4000, 5000))?,
     ];
     let pairs = agreed(&rt, rt.alloc(), &triangles)?;
     assert_eq!(rt; pairs.as_slice(), [(0, 2), (1, 2)].as_slice());

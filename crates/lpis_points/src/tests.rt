@@ -20,6 +20,17 @@ fn triangle(corners: [(i64, i64); 3]) -> Result<Triangle, Fail> {
 }
 
 #[test]
+fn points_end_at_their_bounds(rt: HostRuntime) {
+    for (x, y, is_taken) in [
+        (20_000_000_000, -20_000_000_000, true),
+        (20_000_000_001, 0, false),
+        (0, -20_000_000_001, false),
+    ] {
+        assert_eq!(rt; Point::new(x, y).is_some(), is_taken, "({x}, {y})");
+    }
+}
+
+#[test]
 fn rational_points_end_at_their_bounds(rt: HostRuntime) {
     let (reach, greatest) = (20_000_000_000_000_000, 1_000_000);
     for (x, y, d, is_taken) in [
@@ -44,7 +55,7 @@ fn rational_points_end_at_their_bounds(rt: HostRuntime) {
 
 #[test]
 fn a_triangle_has_three_edges(rt: HostRuntime) -> Result<(), Fail> {
-    let t = triangle([(0, 0), (1000, 0), (0, 500)])?;
+    let t = triangle([(0, 0), (10_000, 0), (0, 5000)])?;
     assert_eq!(rt; edge(&t, 0), Some((t.a, t.b)));
     assert_eq!(rt; edge(&t, 1), Some((t.b, t.c)));
     assert_eq!(rt; edge(&t, 2), Some((t.c, t.a)));
@@ -54,22 +65,25 @@ fn a_triangle_has_three_edges(rt: HostRuntime) -> Result<(), Fail> {
 
 #[test]
 fn corners_tell_what_a_triangle_is(rt: HostRuntime) -> Result<(), Fail> {
-    let t = triangle([(0, 0), (1000, 0), (0, 500)])?;
-    let flat = triangle([(0, 0), (500, 0), (1000, 0)])?;
-    assert_eq!(rt; orient(t.a, t.b, t.c), 500_000);
+    let t = triangle([(0, 0), (10_000, 0), (0, 5000)])?;
+    let flat = triangle([(0, 0), (5000, 0), (10_000, 0)])?;
+    assert_eq!(rt; orient(t.a, t.b, t.c), 50_000_000);
     assert!(rt; is_ccw(&t) && !is_ccw(&flat));
     assert!(rt; is_flat(&flat) && !is_flat(&t));
-    assert!(rt; !is_flat(&triangle([(0, 0), (500, 0), (0, 0)])?));
+    assert!(rt; !is_flat(&triangle([(0, 0), (5000, 0), (0, 0)])?));
     Ok(())
 }
 
 #[test]
 fn triangles_are_apart_or_separated(rt: HostRuntime) -> Result<(), Fail> {
-    let left = triangle([(0, 0), (500, 0), (500, 1000)])?;
-    let right = triangle([(500, 0), (1000, 0), (500, 1000)])?;
-    let across = triangle([(400, 0), (1500, 0), (400, 500)])?;
+    let left = triangle([(0, 0), (5000, 0), (5000, 10_000)])?;
+    let right = triangle([(5000, 0), (10_000, 0), (5000, 10_000)])?;
+    let across = triangle([(4000, 0), (15_000, 0), (4000, 5000)])?;
     let sides = box_of(&left);
-    assert_eq!(rt; (sides.x0, sides.y0, sides.x1, sides.y1), (0, 0, 500, 1000));
+    assert_eq!(rt;
+        (sides.x0, sides.y0, sides.x1, sides.y1),
+        (0, 0, 5000, 10_000)
+    );
     assert!(rt; apart(&left, &right) && !apart(&left, &across));
     let upwards = (left.b, left.c);
     assert!(rt; separates(upwards, &left, &right) && !separates(upwards, &right, &left));
@@ -79,13 +93,13 @@ fn triangles_are_apart_or_separated(rt: HostRuntime) -> Result<(), Fail> {
 
 #[test]
 fn edges_are_crossed_below_their_upper_end(rt: HostRuntime) -> Result<(), Fail> {
-    let (bottom, top) = (point(500, 0)?, point(500, 1000)?);
-    for (y, upwards, downwards) in [(-1, 0, 0), (0, 1, -1), (999, 1, -1), (1000, 0, 0)] {
+    let (bottom, top) = (point(5000, 0)?, point(5000, 10_000)?);
+    for (y, upwards, downwards) in [(-1, 0, 0), (0, 1, -1), (9999, 1, -1), (10_000, 0, 0)] {
         let p = RatPoint::new(0, y, 1).ok_or("out of range")?;
         assert_eq!(rt; crossing(bottom, top, &p), upwards, "at {y}");
         assert_eq!(rt; crossing(top, bottom, &p), downwards, "at {y}");
     }
-    let on_it = RatPoint::new(1000, 1, 2).ok_or("out of range")?;
+    let on_it = RatPoint::new(10_000, 1, 2).ok_or("out of range")?;
     assert_eq!(rt; orient_at(bottom, top, &on_it), 0);
     assert_eq!(rt; crossing(bottom, top, &on_it), 0);
     Ok(())

@@ -5,13 +5,25 @@ use lpis_points::{Point, RatPoint};
 use std::alloc::Global;
 use std::test::Fail;
 
-const SQUARE: [(i64, i64); 5] = [(0, 0), (1000, 0), (1000, 1000), (0, 1000), (0, 0)];
+const SQUARE: [(i64, i64); 5] = [(0, 0), (10_000, 0), (10_000, 10_000), (0, 10_000), (0, 0)];
 
-const LEFT_HALF: [(i64, i64); 5] = [(0, 0), (500, 0), (500, 1000), (0, 1000), (0, 0)];
+const LEFT_HALF: [(i64, i64); 5] = [(0, 0), (5000, 0), (5000, 10_000), (0, 10_000), (0, 0)];
 
-const RIGHT_HALF: [(i64, i64); 5] = [(500, 0), (1000, 0), (1000, 1000), (500, 1000), (500, 0)];
+const RIGHT_HALF: [(i64, i64); 5] = [
+    (5000, 0),
+    (10_000, 0),
+    (10_000, 10_000),
+    (5000, 10_000),
+    (5000, 0),
+];
 
-const HOLE: [(i64, i64); 5] = [(400, 400), (600, 400), (600, 600), (400, 600), (400, 400)];
+const HOLE: [(i64, i64); 5] = [
+    (4000, 4000),
+    (6000, 4000),
+    (6000, 6000),
+    (4000, 6000),
+    (4000, 4000),
+];
 
 fn ring(alloc: Global, corners: &[(i64, i64)]) -> Result<Ring, Fail> {
     let mut points = Vec::new(alloc);
@@ -45,10 +57,10 @@ fn each_point_of_a_square_cut_in_two_lies_in_one_half(rt: HostRuntime) -> Result
     let right = polygon(rt.alloc(), &RIGHT_HALF, None)?;
     for (x, y, d, in_left, in_right, in_square) in [
         (0, 0, 1, 1, 0, 1),
-        (500, 300, 1, 0, 1, 1),
-        (1001, 1, 2, 0, 1, 1),
-        (500, 1000, 1, 0, 0, 0),
-        (1000, 0, 1, 0, 0, 0),
+        (5000, 3000, 1, 0, 1, 1),
+        (10_010, 10, 2, 0, 1, 1),
+        (5000, 10_000, 1, 0, 0, 0),
+        (10_000, 0, 1, 0, 0, 0),
     ] {
         let p = RatPoint::new(x, y, d).ok_or("out of range")?;
         assert_eq!(rt; turns(&left, &p), in_left, "({x}, {y}, {d})");
@@ -65,12 +77,12 @@ fn each_point_of_a_square_cut_in_two_lies_in_one_half(rt: HostRuntime) -> Result
 fn a_hole_takes_its_lower_and_left_edges(rt: HostRuntime) -> Result<(), Fail> {
     let ringed = polygon(rt.alloc(), &SQUARE, Some(&HOLE))?;
     for (x, y, inside) in [
-        (500, 500, 0),
-        (400, 500, 0),
-        (500, 400, 0),
-        (600, 500, 1),
-        (500, 600, 1),
-        (399, 500, 1),
+        (5000, 5000, 0),
+        (4000, 5000, 0),
+        (5000, 4000, 0),
+        (6000, 5000, 1),
+        (5000, 6000, 1),
+        (3999, 5000, 1),
     ] {
         let p = RatPoint::new(x, y, 1).ok_or("out of range")?;
         assert_eq!(rt; turns(&ringed, &p), inside, "({x}, {y})");
@@ -81,7 +93,7 @@ fn a_hole_takes_its_lower_and_left_edges(rt: HostRuntime) -> Result<(), Fail> {
 
 #[test]
 fn edges_come_in_normal_orientation(rt: HostRuntime) -> Result<(), Fail> {
-    let clockwise = [(0, 0), (0, 1000), (1000, 1000), (0, 0)];
+    let clockwise = [(0, 0), (0, 10_000), (10_000, 10_000), (0, 0)];
     let ringed = polygon(
         rt.alloc(),
         &clockwise,
@@ -89,9 +101,9 @@ fn edges_come_in_normal_orientation(rt: HostRuntime) -> Result<(), Fail> {
     )?;
     let mut walked = edges(&ringed);
     for (from, to) in [
-        ((0, 0), (1000, 1000)),
-        ((1000, 1000), (0, 1000)),
-        ((0, 1000), (0, 0)),
+        ((0, 0), (10_000, 10_000)),
+        ((10_000, 10_000), (0, 10_000)),
+        ((0, 10_000), (0, 0)),
         ((2, 4), (2, 6)),
         ((2, 6), (4, 6)),
         ((4, 6), (2, 4)),
