@@ -2,15 +2,15 @@
 pub use Rattle.lpis_cert.specs.CertText.{Content, Corners, EndLine, FlatLine, Line, PairLine, PairsLine, ParcelBlock, ParcelLine, PieceBlock, PieceLine, Separator, TriangleLine, end_lines}
 pub use Rattle.lpis_cert.specs.CertText.{parcel_lines, piece_lines}
 unfoldable pub use Rattle.lpis_cert.specs.CertText.{lines_of, spelling, text_of, text_of_lines, words_of}
-pub use Rattle.lpis_cert.specs.Contents.{all_corners, content_of, corner_numbers, parcel_of, piece_of, separator_of}
-pub use Rattle.lpis_cert.specs.Faults.{AtEnd, AtVersion, Declared, InBody, InPairs, State, grow, grow_flats, is_lf, lines, none_declared, verdict}
-unfoldable pub use Rattle.lpis_cert.specs.Faults.{at_last, outcome, step}
-pub use Rattle.lpis_cert.specs.Fitting.{CornersFit, LineFits, SeparatorFits}
+pub use Rattle.lpis_cert.specs.Contents.{IsCertText, all_corners, content_of, corner_numbers, parcel_of, piece_of, separator_of}
+pub use Rattle.lpis_cert.specs.Faults.{AtEnd, Declared, InBody, InPairs, State, first_state, grow, grow_flats, is_lf, lines, verdict}
+unfoldable pub use Rattle.lpis_cert.specs.Faults.{at_last, outcome, outcome_of, step}
+pub use Rattle.lpis_cert.specs.Fitting.{CoordinateFits, CornersFit, LineFits, SeparatorFits}
 pub use Rattle.lpis_cert.specs.Limits.{greatest_count, most_flats, most_triangles, number_margin}
 pub use Rattle.lpis_cert.specs.LineKinds.{line_kind}
 pub use Rattle.lpis_cert.specs.Reading.{can_stand, digits_on, is_empty, is_gap, words}
 unfoldable pub use Rattle.lpis_cert.specs.Reading.{number, read_line, values}
-pub use Rattle.lpis_cert.specs.Versions.{first_line, written}
+pub use Rattle.lpis_cert.specs.Versions.{first_line, named, written}
 pub use Rattle.lpis_cert.specs.declared.cert.Cert.{Cert}
 pub use Rattle.lpis_cert.specs.declared.fault.CertCode.{CertCode}
 pub use Rattle.lpis_cert.specs.declared.fault.CertFault.{CertFault}
@@ -20,11 +20,11 @@ pub use Rattle.lpis_cert.specs.declared.kind.Kind.TheVariants.{End, Flat, Pair, 
 pub use Rattle.lpis_cert.specs.declared.kind.Stage.{Stage}
 pub use Rattle.lpis_cert.specs.declared.part.ParcelPart.{ParcelPart}
 pub use Rattle.lpis_cert.specs.declared.part.PiecePart.{PiecePart}
+pub use Rattle.lpis_cert.specs.declared.version.Version.{Version}
 pub use Rattle.lpis_cert.specs.private.Drafts.{draft_state, parcels_lines, pieces_lines}
 pub use Rattle.lpis_cert.specs.private.Fits.{ParcelFits, PieceFits}
 pub use Rattle.lpis_cert.specs.private.Taken.{FaultFrom, LineFault, Placed, ReadsLines, corner_line}
 pub use Rattle.lpis_covers.specs.Ids.{is_id}
-pub use Rattle.lpis_points.specs.Range.{IsInRange}
 pub use Rattle.lpis_points.specs.declared.triangle.Triangle.{Triangle}
 pub use Rattle.std.proofs.lemmas.Bool.{and_parts}
 pub use Rattle.std.proofs.lemmas.Bool.Decides.{nat_tests}

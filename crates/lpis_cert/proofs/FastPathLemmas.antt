@@ -1,14 +1,15 @@
 -- Lines of corners, read in one pass.
-use Rattle.std.proofs.Common.{◌≡◌, ℕ, suc, ◌+◌, ◌-◌, ◌*◌, ◌<◌, ◌≤◌, Bool, true, false, cond, List, [], ◌∷◌, ◌++◌, length, take, drop, get_or, Some, sym, ap}
+use Rattle.std.proofs.Common.{◌≡◌, ℕ, suc, ◌+◌, ◌-◌, ◌*◌, ◌<◌, ◌≤◌, Bool, true, false, cond, List, [], ◌∷◌, ◌++◌, length, take, drop, get_or, Some, refl, sym, ap}
 use Rattle.std.proofs.Common.{◌∙◌, arith}
 use Rattle.std.proofs.Common.{append_assoc, length-append, drop-cons, add-one, decimal}
-use Rattle.lpis_cert.proofs.Common.{nat_tests, signed_decimal, number_margin, Corners, Line, spelling, words_of, text_of_lines, digits_on, number, ReadsLines}
+use Rattle.lpis_cert.proofs.Common.{nat_tests, signed_decimal, number_margin, Version, CornersFit, LineFits, Corners, spelling, words_of, text_of_lines, digits_on, number, ReadsLines}
 use Rattle.lpis_cert.proofs.Common.{corner_line}
 use Rattle.std.proofs.lemmas.Fmt.{decimal_digit}
 use Rattle.std.proofs.lemmas.Str.{digit_value_digit}
 use Rattle.std.proofs.lemmas.List.{take_all, take-append-drop, take_more}
 use Rattle.std.specs.Char.{digit_value, is_ascii_digit}
 use Rattle.lpis_cert.specs.private.Taken.{Begins}
+use Rattle.lpis_cert.specs.CertText.{coordinate_word}
 use Rattle.lpis_cert.proofs.NumberLemmas.{not-zero, number_takes}
 use Rattle.lpis_cert.proofs.SplittingLemmas.{rest_is}
 
@@ -59,33 +60,39 @@ six : (a b c d e f r : List ℕ)
     ≡ a ++ (32 ∷ (b ++ (32 ∷ (c ++ (32 ∷ (d ++ (32 ∷ (e ++ (32 ∷ (f ++ r))))))))))
 six a b c d e f r = grind (arith, link)
 
-pub corners_spelled : (flat : Bool) (c : Corners) (rest : List ℕ)
-    → cond flat 102 116 ∷ 32 ∷ (signed_decimal c.x1
-    ++ (32 ∷ (signed_decimal c.y1
-    ++ (32 ∷ (signed_decimal c.x2
-    ++ (32 ∷ (signed_decimal c.y2
-    ++ (32 ∷ (signed_decimal c.x3 ++ (32 ∷ (signed_decimal c.y3 ++ (10 ∷ rest))))))))))))
-    ≡ spelling (corner_line flat c) ++ (10 ∷ rest)
+corners_spelled : (v : Version) (flat : Bool) (c : Corners) (rest : List ℕ)
+    → cond flat 102 116 ∷ 32 ∷ (coordinate_word v c.x1
+    ++ (32 ∷ (coordinate_word v c.y1
+    ++ (32 ∷ (coordinate_word v c.x2
+    ++ (32 ∷ (coordinate_word v c.y2
+    ++ (32 ∷ (coordinate_word v c.x3 ++ (32 ∷ (coordinate_word v c.y3 ++ (10 ∷ rest))))))))))))
+    ≡ spelling v (corner_line flat c) ++ (10 ∷ rest)
 unfolding spelling words_of
-corners_spelled true c rest =
-    cc (six (signed_decimal c.x1) (signed_decimal c.y1) (signed_decimal c.x2) (signed_decimal c.y2) (signed_decimal c.x3) (signed_decimal c.y3) (10 ∷ rest))
-corners_spelled false c rest =
-    cc (six (signed_decimal c.x1) (signed_decimal c.y1) (signed_decimal c.x2) (signed_decimal c.y2) (signed_decimal c.x3) (signed_decimal c.y3) (10 ∷ rest))
+corners_spelled v true c rest =
+    cc (six (coordinate_word v c.x1) (coordinate_word v c.y1) (coordinate_word v c.x2) (coordinate_word v c.y2) (coordinate_word v c.x3) (coordinate_word v c.y3) (10 ∷ rest))
+corners_spelled v false c rest =
+    cc (six (coordinate_word v c.x1) (coordinate_word v c.y1) (coordinate_word v c.x2) (coordinate_word v c.y2) (coordinate_word v c.x3) (coordinate_word v c.y3) (10 ∷ rest))
 
-pub corners_begin : (flat : Bool) (letter : ℕ) (text after fields : List ℕ) (c : Corners) (rest : List ℕ) → letter ≡ cond flat 102 116 → text ≡ letter ∷ after
-    → after ≡ 32 ∷ fields
-    → fields ≡ signed_decimal c.x1
-    ++ (32 ∷ (signed_decimal c.y1
-    ++ (32 ∷ (signed_decimal c.x2
-    ++ (32 ∷ (signed_decimal c.y2
-    ++ (32 ∷ (signed_decimal c.x3 ++ (32 ∷ (signed_decimal c.y3 ++ (10 ∷ rest)))))))))))
-    → Begins text (spelling (corner_line flat c)) 10 rest
-corners_begin flat letter text after fields c rest is h k all = rw (h, k, all, is) (corners_spelled flat c rest)
+pub corners_begin : (v : Version) (flat : Bool) (letter : ℕ) (text after fields : List ℕ) (c : Corners) (rest : List ℕ) → letter ≡ cond flat 102 116
+    → text ≡ letter ∷ after → after ≡ 32 ∷ fields
+    → fields ≡ coordinate_word v c.x1
+    ++ (32 ∷ (coordinate_word v c.y1
+    ++ (32 ∷ (coordinate_word v c.x2
+    ++ (32 ∷ (coordinate_word v c.y2
+    ++ (32 ∷ (coordinate_word v c.x3 ++ (32 ∷ (coordinate_word v c.y3 ++ (10 ∷ rest)))))))))))
+    → Begins text (spelling v (corner_line flat c)) 10 rest
+corners_begin v flat letter text after fields c rest is h k all = rw (h, k, all, is) (corners_spelled v flat c rest)
+
+corner_fits : (v : Version) (flat : Bool) (c : Corners) → CornersFit v c → LineFits v (corner_line flat c)
+corner_fits v true c fits = fits
+corner_fits v false c fits = fits
 
 -- a line that begins the text was taken
-pub begun : (text : List ℕ) (n : ℕ) (l : Line) (rest : List ℕ) → Begins text (spelling l) 10 rest → ReadsLines text n (l ∷ []) rest (n + 1)
+pub begun : (v : Version) (text : List ℕ) (n : ℕ) (flat : Bool) (c : Corners) (rest : List ℕ) → Begins text (spelling v (corner_line flat c)) 10 rest
+    → CornersFit v c → ReadsLines v text n (corner_line flat c ∷ []) rest (n + 1)
 unfolding text_of_lines
-begun text n l rest h = grind (arith, append_assoc)
+begun v text n flat c rest h fits =
+    record { parts = h ∙ sym (append_assoc (spelling v (corner_line flat c)) (10 ∷ []) rest); fits = (corner_fits v flat c fits, tt); next = refl }
 
 pub shorter : (text : List ℕ) (w : List ℕ) (rest : List ℕ) → Begins text w 10 rest → length rest + 1 ≤ length text
 shorter text w rest h = grind (arith, length-append)

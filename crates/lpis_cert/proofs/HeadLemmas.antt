@@ -1,21 +1,21 @@
 -- The lines that begin blocks.
 use Rattle.std.proofs.Common.{◌≡◌, ℕ, true, List, Option, ◌⊎◌, inl, inr}
-use Rattle.lpis_cert.proofs.Common.{Stage, Kind, Piece, Flat, Parcel, Pairs, Pair, End, Block, written, Line, values, can_stand, Placed}
+use Rattle.lpis_cert.proofs.Common.{Stage, Kind, Piece, Flat, Parcel, Pairs, Pair, End, Block, Version, Line, values, can_stand, Placed}
 use Rattle.lpis_cert.specs.declared.kind.Kind.TheVariants.{Triangle}
 use Rattle.lpis_cert.specs.Reading.{piece_line, parcel_line, pairs_line}
 use Rattle.lpis_cert.proofs.StepLemmas.{formed_stands}
 
-pub values_piece : (k : Kind) (ws : List (List ℕ)) (o : Option Line) → k ≡ Piece → piece_line ws ≡ o → values written k ws ≡ o
+pub values_piece : (v : Version) (k : Kind) (ws : List (List ℕ)) (o : Option Line) → k ≡ Piece → piece_line ws ≡ o → values v k ws ≡ o
 unfolding values
-values_piece k ws o is h = rw is h
+values_piece v k ws o is h = rw is h
 
-pub values_parcel : (k : Kind) (ws : List (List ℕ)) (o : Option Line) → k ≡ Parcel → parcel_line ws ≡ o → values written k ws ≡ o
+pub values_parcel : (v : Version) (k : Kind) (ws : List (List ℕ)) (o : Option Line) → k ≡ Parcel → parcel_line ws ≡ o → values v k ws ≡ o
 unfolding values
-values_parcel k ws o is h = rw is h
+values_parcel v k ws o is h = rw is h
 
-pub values_pairs : (k : Kind) (ws : List (List ℕ)) (o : Option Line) → k ≡ Pairs → pairs_line ws ≡ o → values written k ws ≡ o
+pub values_pairs : (v : Version) (k : Kind) (ws : List (List ℕ)) (o : Option Line) → k ≡ Pairs → pairs_line ws ≡ o → values v k ws ≡ o
 unfolding values
-values_pairs k ws o is h = rw is h
+values_pairs v k ws o is h = rw is h
 
 pub stands_of : (b : Stage) (text : List ℕ) (n : ℕ) (k : Kind) (ws : List (List ℕ)) (rest : List ℕ) (m : ℕ) → Placed (Block b) text n k ws rest m
     → can_stand (Block b) k ≡ true

@@ -1,26 +1,27 @@
 -- Laws of the text.
-use Rattle.std.proofs.Common.{◌≡◌, ℕ, ◌+◌, ◌<◌, Bool, true, false, cond, List, [], ◌∷◌, ◌++◌, length, map, Result, Ok, Err, refl, sym, ap, ap₂, ◌∙◌, arith}
+use Rattle.std.proofs.Common.{◌≡◌, ℕ, ◌+◌, ◌<◌, Bool, true, false, cond, List, [], ◌∷◌, ◌++◌, length, map, Option, Some, None, Result, Ok, Err, refl, sym, ap, ap₂, subst, ◌∙◌, arith}
 use Rattle.std.proofs.Common.{append_assoc, length-append, sum_by}
 use Rattle.std.proofs.Common.{IfOk, IfErr, MatchResult}
 use Rattle.lpis_cert.proofs.Common.{nat_tests, join_with_byte-slice_split, onto_first, AllByRecursion, length-map, sum_by-cons, PiecePart, ParcelPart, Cert}
 use Rattle.lpis_cert.proofs.Common.{CertFault}
-use Rattle.lpis_cert.proofs.Common.{piece_of, parcel_of, content_of, PieceFits, ParcelFits, FaultFrom, CertCode, first_line, written, Corners, Separator}
+use Rattle.lpis_cert.proofs.Common.{piece_of, parcel_of, separator_of, content_of, IsCertText, PieceFits, ParcelFits, CertCode, Version, first_line, named, written, Corners, Triangle, Separator}
 use Rattle.lpis_cert.proofs.Common.{PieceBlock, ParcelBlock}
-use Rattle.lpis_cert.proofs.Common.{Content, Line, text_of, text_of_lines, spelling, lines_of, piece_lines, parcel_lines}
-use Rattle.lpis_cert.proofs.Common.{end_lines, LineFits, is_lf, lines, outcome, at_last, step, State, AtVersion, InBody, AtEnd, none_declared, verdict}
+use Rattle.lpis_cert.proofs.Common.{Content, Line, TriangleLine, FlatLine, text_of, text_of_lines, spelling, lines_of, piece_lines, parcel_lines}
+use Rattle.lpis_cert.proofs.Common.{end_lines, CornersFit, LineFits, is_lf, lines, outcome, outcome_of, at_last, step, State, InBody, AtEnd, first_state, verdict}
 use Rattle.lpis_cert.proofs.Common.{pieces_lines, parcels_lines}
 use Rattle.lpis_cert.specs.declared.fault.CertFault.TheVariants.{Memory, At}
-use Rattle.lpis_cert.specs.Contents.{cert_text}
+use Rattle.lpis_cert.specs.Contents.{cert_text, IsTextOf, all_corners, corner_numbers}
 use Rattle.lpis_cert.proofs.CertEqualityLemmas.{cert_eq, same_content}
-use Rattle.lpis_cert.proofs.BlockLemmas.{all_corners_fit, separators_fit}
+use Rattle.lpis_cert.proofs.BlockLemmas.{separators_fit, lines_fit}
 use Rattle.lpis_cert.specs.private.Fits.{Fits}
 use Rattle.lpis_cert.specs.Reading.{◌>>=◌}
-use Rattle.lpis_cert.specs.Faults.{at_line}
+use Rattle.lpis_cert.specs.Faults.{at_line, outcome_named, IsFirstFault}
 use Rattle.lpis_cert.proofs.SplittingLemmas.{split_some}
-use Rattle.lpis_cert.proofs.WordLemmas.{lines_from}
+use Rattle.lpis_cert.proofs.WordLemmas.{lines_from, lines_named}
+use Rattle.lpis_cert.proofs.NumberLemmas.{has_text}
 use Rattle.lpis_cert.proofs.LineLemmas.{spelling_injective}
 use Rattle.lpis_cert.proofs.StepLemmas.{Goes}
-use Rattle.lpis_cert.proofs.ReadLemmas.{certificate_goes, accepted}
+use Rattle.lpis_cert.proofs.ReadLemmas.{names_itself, certificate_goes, accepted}
 use Rattle.lpis_cert.specs.declared.kind.Stage.TheVariants as stage
 use Rattle.lpis_cert.specs.declared.fault.CertCode.TheVariants as code
 
@@ -64,26 +65,42 @@ went n (Ok q) f k h = (q, refl, h)
 went n (Err c) f k h = absurd cc
 
 -- the text ends where the grammar has not
-stops : (n : ℕ) (p : State) (v h : List ℕ) (t : List (List ℕ)) (k : ℕ) → 0 < length h + length t → outcome n p ((v ++ h) ∷ t) ≡ Ok k
-    → outcome n p (v ∷ []) ≡ Err (code.Truncated, n)
+stops : (v : Version) (n : ℕ) (p : State) (l h : List ℕ) (t : List (List ℕ)) (k : ℕ) → 0 < length h + length t → outcome v n p ((l ++ h) ∷ t) ≡ Ok k
+    → outcome v n p (l ∷ []) ≡ Err (code.Truncated, n)
 unfolding outcome at_last step
-stops n AtEnd v h [] k some e = grind (arith, nat_tests, length-append)
-stops n AtEnd v h (x ∷ t) k some e = absurd (cc e)
-stops _ _ _ _ _ _ _ _ = refl
+stops v n AtEnd l h [] k some e = grind (arith, nat_tests, length-append)
+stops v n AtEnd l h (x ∷ t) k some e = absurd (cc e)
+stops _ _ _ _ _ _ _ _ _ = refl
 
-cut_short : (n : ℕ) (p : State) (v : List ℕ) (vs : List (List ℕ)) (h : List ℕ) (t : List (List ℕ)) (k : ℕ)
-    → 0 < length h + length t → outcome n p (glue (v ∷ vs) (h ∷ t)) ≡ Ok k
-    → outcome n p (v ∷ vs) ≡ Err (code.Truncated, n + length vs)
+cut_short : (v : Version) (n : ℕ) (p : State) (l : List ℕ) (ls : List (List ℕ)) (h : List ℕ) (t : List (List ℕ)) (k : ℕ)
+    → 0 < length h + length t → outcome v n p (glue (l ∷ ls) (h ∷ t)) ≡ Ok k
+    → outcome v n p (l ∷ ls) ≡ Err (code.Truncated, n + length ls)
 unfolding outcome glue
-cut_short n p v [] h t k some e = grind (arith, stops)
-cut_short n p v (w ∷ ws) h t k some e =
+cut_short v n p l [] h t k some e = grind (arith, stops)
+cut_short v n p l (w ∷ ws) h t k some e =
     let g = glue_some w ws h t in
     let more = g.2 in
-    let s = went n (step p v) (λ q. outcome (n + 1) q (g.0 ∷ g.1)) k (rw more at e) in
-    let rest : outcome (n + 1) s.0 (glue (w ∷ ws) (h ∷ t)) ≡ Ok k = rw more s.2 in
+    let s = went n (step v p l) (λ q. outcome v (n + 1) q (g.0 ∷ g.1)) k (rw more at e) in
+    let rest : outcome v (n + 1) s.0 (glue (w ∷ ws) (h ∷ t)) ≡ Ok k = rw more s.2 in
     let at = s.1 in
-    let end = cut_short (n + 1) s.0 w ws h t k some rest in
+    let end = cut_short v (n + 1) s.0 w ws h t k some rest in
     rw (at, end) (ap (λ (i : ℕ). Err (code.Truncated, i)) (omega arith))
+
+cut_named : (o : Option Version) (w : List ℕ) (ws : List (List ℕ)) (h : List ℕ) (t : List (List ℕ)) (k : ℕ)
+    → 0 < length h + length t → outcome_named o (glue (w ∷ ws) (h ∷ t)) ≡ Ok k
+    → outcome_named o (w ∷ ws) ≡ Err (code.Truncated, 2 + length ws)
+cut_named None w ws h t k some e = absurd (cc e)
+cut_named (Some v) w ws h t k some e = cut_short v 2 first_state w ws h t k some e
+
+cut_first : (l : List ℕ) (ls : List (List ℕ)) (h : List ℕ) (t : List (List ℕ)) (k : ℕ) → 0 < length h + length t
+    → outcome_of (glue (l ∷ ls) (h ∷ t)) ≡ Ok k → outcome_of (l ∷ ls) ≡ Err (code.Truncated, 1 + length ls)
+unfolding outcome_of glue
+cut_first l [] h t k some e = refl
+cut_first l (w ∷ ws) h t k some e =
+    let g = glue_some w ws h t in
+    let more = g.2 in
+    let rest : outcome_named (named l) (glue (w ∷ ws) (h ∷ t)) ≡ Ok k = rw more (rw more at e) in
+    cut_named (named l) w ws h t k some rest ∙ ap (λ (i : ℕ). Err (code.Truncated, i)) (omega arith)
 
 more_lines : (q : List ℕ) → 0 < length q → (h : List ℕ) × (t : List (List ℕ)) × (lines q ≡ h ∷ t) × (0 < length h + length t)
 more_lines [] lt = absurd (omega arith)
@@ -101,17 +118,18 @@ prefix_cut p q k e lt =
     let m = more_lines q lt in
     let a = s.2 in
     let b = m.2 in
-    let glued : outcome 1 AtVersion (glue (s.0 ∷ s.1) (m.0 ∷ m.1)) ≡ Ok k = rw (← a, ← b, ← lines-append p q) e in
-    rw a (cut_short 1 AtVersion s.0 s.1 m.0 m.1 k m.3 glued ∙ ap (λ (i : ℕ). Err (code.Truncated, i)) (omega arith))
-
-pub prefix_of_text : (c : Content) (p q : List ℕ) → Fits c → p ++ q ≡ text_of c → 0 < length q → verdict p ≡ Err (code.Truncated, length (lines p))
-prefix_of_text c p q fits e lt = prefix_cut p q _ (ap verdict e ∙ accepted c fits) lt
+    let glued : outcome_of (glue (s.0 ∷ s.1) (m.0 ∷ m.1)) ≡ Ok k = rw (← a, ← b, ← lines-append p q) e in
+    rw a (cut_first s.0 s.1 m.0 m.1 k m.3 glued ∙ ap (λ (i : ℕ). Err (code.Truncated, i)) (omega arith))
 
 -- ---- one value a text
 
-fits_of : (p q : State) (ls : List Line) → Goes p ls q → AllByRecursion LineFits ls
-fits_of p q [] g = tt
-fits_of p q (l ∷ ls) g = (g.0, fits_of g.1.0 q ls g.1.2)
+went_fit : (v : Version) (p q : State) (ls : List Line) → Goes v p ls q → AllByRecursion (LineFits v) ls
+went_fit v p q [] g = tt
+went_fit v p q (l ∷ ls) g = (g.0, went_fit v g.1.0 q ls g.1.2)
+
+-- each line of a content that fits has a text
+pub fits_of : (v : Version) (c : Content) → Fits v c → AllByRecursion (LineFits v) (lines_of c)
+fits_of v c fits = went_fit v first_state AtEnd (lines_of c) (certificate_goes v c fits)
 
 same_head : (a b : List ℕ) (x y : List (List ℕ)) → ◌≡◌ {A = List (List ℕ)} (a ∷ x) (b ∷ y) → (a ≡ b) × (x ≡ y)
 same_head a b x y e = (cc e, cc e)
@@ -119,20 +137,21 @@ same_head a b x y e = (cc e, cc e)
 same_lines : (a b : List ℕ) → lines a ≡ lines b → a ≡ b
 same_lines a b e = cc (join_with_byte-slice_split 10 a, join_with_byte-slice_split 10 b)
 
-no_text : (l : Line) (ls : List Line) → text_of_lines [] ≡ text_of_lines (l ∷ ls) → ⊥
+no_text : (v : Version) (l : Line) (ls : List Line) → text_of_lines v [] ≡ text_of_lines v (l ∷ ls) → ⊥
 unfolding text_of_lines
-no_text l ls e = grind (arith, length-append (spelling l) (10 ∷ text_of_lines ls))
+no_text v l ls e = grind (arith, length-append (spelling v l) (10 ∷ text_of_lines v ls))
 
-lines_injective : (xs ys : List Line) → AllByRecursion LineFits xs → AllByRecursion LineFits ys → text_of_lines xs ≡ text_of_lines ys → xs ≡ ys
+lines_injective : (v : Version) (xs ys : List Line) → AllByRecursion (LineFits v) xs → AllByRecursion (LineFits v) ys
+    → text_of_lines v xs ≡ text_of_lines v ys → xs ≡ ys
 unfolding text_of_lines
-lines_injective [] [] fx fy e = refl
-lines_injective [] (y ∷ ys) fx fy e = absurd (no_text y ys e)
-lines_injective (x ∷ xs) [] fx fy e = absurd (no_text x xs (sym e))
-lines_injective (x ∷ xs) (y ∷ ys) fx fy e =
-    let cut = sym (lines_from x (text_of_lines xs) fx.0) ∙ ap lines e ∙ lines_from y (text_of_lines ys) fy.0 in
-    let parts = same_head (spelling x) (spelling y) (lines (text_of_lines xs)) (lines (text_of_lines ys)) cut in
-    let first = spelling_injective x y fx.0 fy.0 parts.0 in
-    let rest = lines_injective xs ys fx.1 fy.1 (same_lines (text_of_lines xs) (text_of_lines ys) parts.1) in
+lines_injective v [] [] fx fy e = refl
+lines_injective v [] (y ∷ ys) fx fy e = absurd (no_text v y ys e)
+lines_injective v (x ∷ xs) [] fx fy e = absurd (no_text v x xs (sym e))
+lines_injective v (x ∷ xs) (y ∷ ys) fx fy e =
+    let cut = sym (lines_from v x (text_of_lines v xs) fx.0) ∙ ap lines e ∙ lines_from v y (text_of_lines v ys) fy.0 in
+    let parts = same_head (spelling v x) (spelling v y) (lines (text_of_lines v xs)) (lines (text_of_lines v ys)) cut in
+    let first = spelling_injective v x y fx.0 fy.0 parts.0 in
+    let rest = lines_injective v xs ys fx.1 fy.1 (same_lines (text_of_lines v xs) (text_of_lines v ys) parts.1) in
     rw (first, rest) refl
 
 same_first : (x y : Line) (xs ys : List Line) → ◌≡◌ {A = List Line} (x ∷ xs) (y ∷ ys) → (x ≡ y) × (xs ≡ ys)
@@ -197,34 +216,46 @@ pieces_injective (p ∷ ps) (p2 ∷ ps2) qs rs xs ys e =
     (ap₂ (λ (a : PieceBlock) (b : List PieceBlock). a ∷ b) first rest, t.1, t.2)
 pieces_injective _ _ _ _ xs ys e = absurd (cc e)
 
-same_body : (a b : List ℕ) → first_line written ++ (10 ∷ a) ≡ first_line written ++ (10 ∷ b) → a ≡ b
-same_body a b e = cc e
+-- the first lines of two versions differ
+first_apart : (v w : Version) → first_line v ≡ first_line w → v ≡ w
+first_apart v w e = let same : Some v ≡ Some w = sym (names_itself v) ∙ ap named e ∙ names_itself w in cc same
 
--- each certificate has a text of its own
-pub one_value : (c d : Content) → Fits c → Fits d → text_of c ≡ text_of d → c ≡ d
-unfolding text_of lines_of
-one_value c d fc fd e =
-    grind (
-      arith,
-      same_body,
-      lines_injective,
-      fits_of (InBody stage.Pieces 0 0 none_declared) AtEnd (lines_of c) (certificate_goes c fc),
-      fits_of
-          (InBody stage.Pieces 0 0 none_declared) AtEnd (lines_of d)
-          (certificate_goes d fd),
-      certificate_goes c fc,
-      certificate_goes d fd,
-      pieces_injective,
-      same_content,
-    )
+same_contents : (c d : Content) → lines_of c ≡ lines_of d → c ≡ d
+unfolding lines_of
+same_contents c d e = let r = pieces_injective c.pieces d.pieces c.parcels d.parcels c.pairs d.pairs e in same_content r.0 r.1 r.2
+
+-- two contents with one text, of whatever versions
+pub one_value : (v w : Version) (c d : Content) → AllByRecursion (LineFits v) (lines_of c) → AllByRecursion (LineFits w) (lines_of d)
+    → text_of v c ≡ text_of w d → c ≡ d
+unfolding text_of
+one_value v w c d fc fd e =
+    let cut = sym (lines_named v (text_of_lines v (lines_of c))) ∙ ap lines e ∙ lines_named w (text_of_lines w (lines_of d)) in
+    let parts = same_head (first_line v) (first_line w) (lines (text_of_lines v (lines_of c))) (lines (text_of_lines w (lines_of d))) cut in
+    let same = first_apart v w parts.0 in
+    let texts = same_lines (text_of_lines v (lines_of c)) (text_of_lines w (lines_of d)) parts.1 in
+    same_contents c d (lines_injective v (lines_of c) (lines_of d) fc (rw same fd) (rw (← same) at texts))
 
 -- ---- the values of the code
 
-pieces_fit : (ps : List PiecePart) → AllByRecursion PieceFits (map piece_of ps)
+corners_fit : (t : Triangle) → CornersFit written (corner_numbers t)
+corners_fit t = record {
+  x1 = has_text t.a.x t.a.x_in_range;
+  y1 = has_text t.a.y t.a.y_in_range;
+  x2 = has_text t.b.x t.b.x_in_range;
+  y2 = has_text t.b.y t.b.y_in_range;
+  x3 = has_text t.c.x t.c.x_in_range;
+  y3 = has_text t.c.y t.c.y_in_range;
+}
+
+all_corners_fit : (ts : List Triangle) → AllByRecursion (CornersFit written) (all_corners ts)
+all_corners_fit [] = tt
+all_corners_fit (t ∷ ts) = (corners_fit t, all_corners_fit ts)
+
+pieces_fit : (ps : List PiecePart) → AllByRecursion (PieceFits written) (map piece_of ps)
 pieces_fit [] = tt
 pieces_fit (p ∷ ps) = grind (arith, pieces_fit ps, all_corners_fit)
 
-parcels_fit : (ps : List ParcelPart) → AllByRecursion ParcelFits (map parcel_of ps)
+parcels_fit : (ps : List ParcelPart) → AllByRecursion (ParcelFits written) (map parcel_of ps)
 parcels_fit [] = tt
 parcels_fit (p ∷ ps) = grind (arith, parcels_fit ps, all_corners_fit)
 
@@ -241,20 +272,63 @@ flat_sum ps = grind (arith, sum-map, length-map)
 pub parcel_flat_sum : (ps : List ParcelPart) → sum_by (λ (p : ParcelBlock). length p.flats) (map parcel_of ps) ≡ sum_by (λ p. length p.flats) ps
 parcel_flat_sum ps = grind (arith, sum-map, length-map)
 
-pub cert_fits : (c : Cert) → Fits (content_of c)
-cert_fits c = grind (arith, pieces_fit, parcels_fit, separators_fit, triangle_sum, flat_sum, parcel_flat_sum, length-map)
+-- a certificate whose blocks fit
+cert_fits : (v : Version) (c : Cert) → AllByRecursion (PieceFits v) (map piece_of c.pieces) → AllByRecursion (ParcelFits v) (map parcel_of c.parcels)
+    → Fits v (content_of c)
+cert_fits v c ps qs = record {
+  pieces = ps;
+  parcels = qs;
+  pairs = separators_fit c.pairs;
+  triangles_few = omega (arith, triangle_sum c.pieces, c.triangles_few);
+  flats_few = omega (arith, flat_sum c.pieces, parcel_flat_sum c.parcels, c.flats_few);
+  pairs_few = omega (arith, length-map c.pairs separator_of, c.pairs_few);
+}
 
--- two certificates have two texts
-pub one_cert : (c d : Cert) → cert_text c ≡ cert_text d → c ≡ d
-one_cert c d e = grind (arith, cert_eq, one_value, cert_fits)
+-- a certificate has a text of the version that is written, and one text
+pub one_text : (c : Cert) (text : List ℕ) → (IsTextOf written c text → text ≡ cert_text c) × (text ≡ cert_text c → IsTextOf written c text)
+one_text c text = (λ t. t.is, λ e. record { fits = fits_of written (content_of c) (cert_fits written c (pieces_fit c.pieces) (parcels_fit c.parcels)); is = e })
 
--- the text of a certificate has no fault
-pub no_fault : (c : Cert) → verdict (cert_text c) ≡ Ok (2 + length (lines_of (content_of c)))
-no_fault c = accepted (content_of c) (cert_fits c)
+-- two certificates have no text in common
+pub one_cert : (text : List ℕ) (c d : Cert) → IsCertText text c → IsCertText text d → c ≡ d
+one_cert text c d t u = cert_eq c d (one_value t.0 u.0 (content_of c) (content_of d) t.1.fits u.1.fits (sym t.1.is ∙ u.1.is))
 
-pub is_only : (r : Result Cert CertFault) (bytes : List ℕ) → IfOk r (λ x. bytes ≡ cert_text x)
-    → IfErr r (λ e. FaultFrom e 1 AtVersion bytes) → (c : Cert) → bytes ≡ cert_text c
+-- ---- a certificate whose lines have a text
+
+first_part : {A : Type 0} (P : A → Type 0) (xs ys : List A) → AllByRecursion P (xs ++ ys) → AllByRecursion P xs × AllByRecursion P ys
+first_part P [] ys h = (tt, h)
+first_part P (x ∷ xs) ys h = let r = first_part P xs ys h.1 in ((h.0, r.0), r.1)
+
+pieces_back : (v : Version) (ps : List PieceBlock) (ls : List Line) → AllByRecursion (LineFits v) (pieces_lines ps ++ ls)
+    → AllByRecursion (PieceFits v) ps × AllByRecursion (LineFits v) ls
+pieces_back v [] ls h = (tt, h)
+pieces_back v (p ∷ ps) ls h =
+    let all = first_part (LineFits v) (piece_lines p) (pieces_lines ps ++ ls)
+    (subst (λ (xs : List Line). AllByRecursion (LineFits v) xs) (append_assoc (piece_lines p) (pieces_lines ps) ls) h) in
+    let own = first_part (LineFits v) (map TriangleLine p.triangles) (map FlatLine p.flats) all.0.1 in
+    let more = pieces_back v ps ls all.1 in
+    ((record { id = all.0.0.0; triangles = lines_fit v false p.triangles own.0; flats = lines_fit v true p.flats own.1 }, more.0), more.1)
+
+parcels_back : (v : Version) (qs : List ParcelBlock) (ls : List Line) → AllByRecursion (LineFits v) (parcels_lines qs ++ ls)
+    → AllByRecursion (ParcelFits v) qs
+parcels_back v [] ls h = tt
+parcels_back v (q ∷ qs) ls h =
+    let all = first_part (LineFits v) (parcel_lines q) (parcels_lines qs ++ ls)
+    (subst (λ (xs : List Line). AllByRecursion (LineFits v) xs) (append_assoc (parcel_lines q) (parcels_lines qs) ls) h) in
+    (record { id = all.0.0.0; flats = lines_fit v true q.flats all.0.1 }, parcels_back v qs ls all.1)
+
+fits_back : (v : Version) (c : Cert) → AllByRecursion (LineFits v) (lines_of (content_of c)) → Fits v (content_of c)
+unfolding lines_of
+fits_back v c h =
+    let ps = pieces_back v (map piece_of c.pieces) (parcels_lines (map parcel_of c.parcels) ++ end_lines (map separator_of c.pairs)) h in
+    cert_fits v c ps.0 (parcels_back v (map parcel_of c.parcels) (end_lines (map separator_of c.pairs)) ps.1)
+
+-- a text of a certificate has no fault
+pub no_fault : (c : Cert) (text : List ℕ) → IsCertText text c → verdict text ≡ Ok (2 + length (lines_of (content_of c)))
+no_fault c text t = ap verdict t.1.is ∙ accepted t.0 (content_of c) (fits_back t.0 c t.1.fits)
+
+pub is_only : (r : Result Cert CertFault) (bytes : List ℕ) → IfOk r (λ x. IsCertText bytes x)
+    → IfErr r (λ e. IsFirstFault e bytes) → (c : Cert) → IsCertText bytes c
     → MatchResult r (λ x. x ≡ c) (λ e. e ≡ Memory)
-is_only (Ok x) bytes found fault c e = one_cert x c (sym found ∙ e)
-is_only (Err Memory) bytes found fault c e = refl
-is_only (Err (At k n)) bytes found fault c e = cc (no_fault c)
+is_only (Ok x) bytes found fault c t = one_cert bytes x c found t
+is_only (Err Memory) bytes found fault c t = refl
+is_only (Err (At k n)) bytes found fault c t = let no = no_fault c bytes t in cc (no, fault)

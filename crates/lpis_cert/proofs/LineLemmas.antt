@@ -3,17 +3,16 @@ use Rattle.std.proofs.Common.{bytes_eq, ◌≡◌, ℕ, ◌+◌, ◌≤◌, Bool
 use Rattle.std.proofs.NetLemmas.Options.{cond_none}
 use Rattle.std.proofs.Common.{ap, subst, ◌∙◌, arith, eqb, ℤ, codes}
 use Rattle.std.proofs.Common.{decimal}
-use Rattle.lpis_cert.proofs.Common.{and_parts, join_with_byte-slice_split, list_any, join_with_byte, AllByRecursion, signed_decimal, is_id, IsInRange}
-use Rattle.lpis_cert.proofs.Common.{greatest_count, number_margin, written, Kind}
+use Rattle.lpis_cert.proofs.Common.{and_parts, join_with_byte-slice_split, list_any, join_with_byte, AllByRecursion, is_id, Version}
+use Rattle.lpis_cert.proofs.Common.{greatest_count, number_margin, Kind}
 use Rattle.lpis_cert.proofs.Common.{Piece, Flat, Parcel, Pairs, Pair, End, Corners, Separator, Line, PieceLine, TriangleLine, FlatLine, ParcelLine, PairsLine}
 use Rattle.lpis_cert.proofs.Common.{PairLine, EndLine, words_of, spelling}
-use Rattle.lpis_cert.proofs.Common.{CornersFit, SeparatorFits, LineFits, is_empty, words, can_stand, number, values, read_line, line_kind}
+use Rattle.lpis_cert.proofs.Common.{CoordinateFits, CornersFit, SeparatorFits, LineFits, is_empty, words, can_stand, number, values, read_line, line_kind}
 use Rattle.std.proofs.lemmas.Slice.Eq.{bytes_eq-Decides}
-use Rattle.lpis_points.specs.Range.{limit}
 use Rattle.lpis_cert.specs.Limits.{last_edge}
 use Rattle.lpis_cert.specs.declared.kind.Kind.TheVariants.{Triangle}
 use Rattle.lpis_cert.specs.declared.kind.Expected.{Expected}
-use Rattle.lpis_cert.specs.CertText.{corner_words}
+use Rattle.lpis_cert.specs.CertText.{coordinate_word, corner_words}
 use Rattle.lpis_cert.specs.Reading.{◌>>=◌, ◌>>?◌, kind_of, word_count, first_is_id, names, form, front, last, natural, coordinate, point, corners, separator}
 use Rattle.lpis_cert.specs.Reading.{piece_line, parcel_line, pairs_line}
 use Rattle.lpis_cert.specs.Reading.{with_form, or_number, placed}
@@ -36,36 +35,36 @@ form_again : (k : Kind) (ws : List (List ℕ)) → AllByRecursion IsWordText ws 
 unfolding form
 form_again k ws h len named = rw (full k ws, none_empty ws h, kind_again k, len, named) refl
 
-length_right : (l : Line) → eqb (length (fields l) + 1) (word_count (line_kind l)) ≡ true
-length_right EndLine = refl
-length_right _ = refl
+length_right : (v : Version) (l : Line) → eqb (length (fields v l) + 1) (word_count (line_kind l)) ≡ true
+length_right v EndLine = refl
+length_right v _ = refl
 
-names_right : (l : Line) → LineFits l → names (line_kind l) (fields l) ≡ true
-names_right (PieceLine id t f) fits = fits.0
-names_right (ParcelLine id f) fits = fits.0
-names_right _ _ = refl
+names_right : (v : Version) (l : Line) → LineFits v l → names (line_kind l) (fields v l) ≡ true
+names_right v (PieceLine id t f) fits = fits.0
+names_right v (ParcelLine id f) fits = fits.0
+names_right v _ _ = refl
 
-corners_again : (c : Corners) → CornersFit c → corners written (corner_words c) ≡ Some c
+corners_again : (v : Version) (c : Corners) → CornersFit v c → corners v (corner_words v c) ≡ Some c
 unfolding corners point
-corners_again c fits = grind (arith, coordinate_again)
+corners_again v c fits = grind (arith, coordinate_again)
 
 separator_again : (p : Separator) → SeparatorFits p → separator (decimal p.i ∷ decimal p.j ∷ decimal p.k ∷ []) ≡ Some p
 unfolding separator
 separator_again p fits = grind (arith, number_again)
 
-values_again : (l : Line) → LineFits l → values written (line_kind l) (fields l) ≡ Some l
+values_again : (v : Version) (l : Line) → LineFits v l → values v (line_kind l) (fields v l) ≡ Some l
 unfolding values piece_line parcel_line pairs_line
-values_again (PieceLine id t f) fits = grind (arith, number_again)
-values_again (TriangleLine c) fits = rw (corners_again c fits) refl
-values_again (FlatLine c) fits = rw (corners_again c fits) refl
-values_again (ParcelLine id f) fits = rw (number_again greatest_count f (omega arith) fits.1) refl
-values_again (PairsLine n) fits = rw (number_again greatest_count n (omega arith) fits) refl
-values_again (PairLine p) fits = rw (separator_again p fits) refl
-values_again EndLine fits = refl
+values_again v (PieceLine id t f) fits = grind (arith, number_again)
+values_again v (TriangleLine c) fits = rw (corners_again v c fits) refl
+values_again v (FlatLine c) fits = rw (corners_again v c fits) refl
+values_again v (ParcelLine id f) fits = rw (number_again greatest_count f (omega arith) fits.1) refl
+values_again v (PairsLine n) fits = rw (number_again greatest_count n (omega arith) fits) refl
+values_again v (PairLine p) fits = rw (separator_again p fits) refl
+values_again v EndLine fits = refl
 
-pub read_again : (e : Expected) (l : Line) → LineFits l → can_stand e (line_kind l) ≡ true → read_line written e (spelling l) ≡ Ok l
+pub read_again : (v : Version) (e : Expected) (l : Line) → LineFits v l → can_stand e (line_kind l) ≡ true → read_line v e (spelling v l) ≡ Ok l
 unfolding read_line placed
-read_again e l fits can = grind (arith, spelling_words, form_again, field_words, length_right, names_right, values_again)
+read_again v e l fits can = grind (arith, spelling_words, form_again, field_words, length_right, names_right, values_again)
 
 -- ---- what is read was written so
 
@@ -109,38 +108,38 @@ last_takes : {A : Type 0} (x y : A) (ws : List (List ℕ)) → last x ws ≡ Som
 last_takes x y [] h = (cc, refl)
 last_takes x y (w ∷ ws) h = absurd cc
 
-point_takes : (ws : List (List ℕ)) (p : (ℤ × ℤ) × List (List ℕ)) → point written ws ≡ Some p
-    → (ws ≡ signed_decimal p.0.0 ∷ signed_decimal p.0.1 ∷ p.1) × (IsInRange p.0.0 × IsInRange p.0.1)
+point_takes : (v : Version) (ws : List (List ℕ)) (p : (ℤ × ℤ) × List (List ℕ)) → point v ws ≡ Some p
+    → (ws ≡ coordinate_word v p.0.0 ∷ coordinate_word v p.0.1 ∷ p.1) × (CoordinateFits v p.0.0 × CoordinateFits v p.0.1)
 unfolding point
-point_takes ws p h =
-    let a = then_some (front (coordinate written) ws) (λ x. front (coordinate written) x.1 >>? λ y. Some ((x.0, y.0), y.1)) p h in
-    let b = then_some (front (coordinate written) a.0.1) (λ y. Some ((a.0.0, y.0), y.1)) p a.2 in
-    let fa = front_takes (coordinate written) ws a.0 a.1 in
-    let fb = front_takes (coordinate written) a.0.1 b.0 b.1 in
-    let ca = coordinate_takes fa.0 a.0.0 fa.2 in
-    let cb = coordinate_takes fb.0 b.0.0 fb.2 in
+point_takes v ws p h =
+    let a = then_some (front (coordinate v) ws) (λ x. front (coordinate v) x.1 >>? λ y. Some ((x.0, y.0), y.1)) p h in
+    let b = then_some (front (coordinate v) a.0.1) (λ y. Some ((a.0.0, y.0), y.1)) p a.2 in
+    let fa = front_takes (coordinate v) ws a.0 a.1 in
+    let fb = front_takes (coordinate v) a.0.1 b.0 b.1 in
+    let ca = coordinate_takes v fa.0 a.0.0 fa.2 in
+    let cb = coordinate_takes v fb.0 b.0.0 fb.2 in
     let same : ((a.0.0, b.0.0), b.0.1) ≡ p = cc b.2 in
-    let words : ws ≡ signed_decimal a.0.0 ∷ signed_decimal b.0.0 ∷ b.0.1 = fa.1 ∙ ap (λ (v : List ℕ). v ∷ a.0.1) ca.0
-    ∙ ap (λ (vs : List (List ℕ)). signed_decimal a.0.0 ∷ vs) (fb.1 ∙ ap (λ (v : List ℕ). v ∷ b.0.1) cb.0) in
-    subst (λ (q : (ℤ × ℤ) × List (List ℕ)). (ws ≡ signed_decimal q.0.0 ∷ signed_decimal q.0.1 ∷ q.1) × (IsInRange q.0.0 × IsInRange q.0.1)) same
+    let words : ws ≡ coordinate_word v a.0.0 ∷ coordinate_word v b.0.0 ∷ b.0.1 = fa.1 ∙ ap (λ (w : List ℕ). w ∷ a.0.1) ca.0
+    ∙ ap (λ (vs : List (List ℕ)). coordinate_word v a.0.0 ∷ vs) (fb.1 ∙ ap (λ (w : List ℕ). w ∷ b.0.1) cb.0) in
+    subst (λ (q : (ℤ × ℤ) × List (List ℕ)). (ws ≡ coordinate_word v q.0.0 ∷ coordinate_word v q.0.1 ∷ q.1) × (CoordinateFits v q.0.0 × CoordinateFits v q.0.1)) same
     (words, (ca.1, cb.1))
 
-corners_take : (ws : List (List ℕ)) (c : Corners) → corners written ws ≡ Some c → (ws ≡ corner_words c) × CornersFit c
+corners_take : (v : Version) (ws : List (List ℕ)) (c : Corners) → corners v ws ≡ Some c → (ws ≡ corner_words v c) × CornersFit v c
 unfolding corners
-corners_take ws c h =
-    let a = then_some (point written ws) _ c h in
-    let b = then_some (point written a.0.1) _ c a.2 in
-    let d = then_some (point written b.0.1) _ c b.2 in
+corners_take v ws c h =
+    let a = then_some (point v ws) _ c h in
+    let b = then_some (point v a.0.1) _ c a.2 in
+    let d = then_some (point v b.0.1) _ c b.2 in
     let made : Corners = record { x1 = a.0.0.0; y1 = a.0.0.1; x2 = b.0.0.0; y2 = b.0.0.1; x3 = d.0.0.0; y3 = d.0.0.1 } in
     let l = last_takes made c d.0.1 d.2 in
-    let pa = point_takes ws a.0 a.1 in
-    let pb = point_takes a.0.1 b.0 b.1 in
-    let pd = point_takes b.0.1 d.0 d.1 in
-    let words : ws ≡ corner_words made =
-    pa.0 ∙ ap (λ (vs : List (List ℕ)). signed_decimal made.x1 ∷ signed_decimal made.y1 ∷ vs)
-    (pb.0 ∙ ap (λ (vs : List (List ℕ)). signed_decimal made.x2 ∷ signed_decimal made.y2 ∷ vs)
-    (pd.0 ∙ ap (λ (vs : List (List ℕ)). signed_decimal made.x3 ∷ signed_decimal made.y3 ∷ vs) l.1)) in
-    subst (λ (c : Corners). (ws ≡ corner_words c) × CornersFit c) l.0
+    let pa = point_takes v ws a.0 a.1 in
+    let pb = point_takes v a.0.1 b.0 b.1 in
+    let pd = point_takes v b.0.1 d.0 d.1 in
+    let words : ws ≡ corner_words v made =
+    pa.0 ∙ ap (λ (vs : List (List ℕ)). coordinate_word v made.x1 ∷ coordinate_word v made.y1 ∷ vs)
+    (pb.0 ∙ ap (λ (vs : List (List ℕ)). coordinate_word v made.x2 ∷ coordinate_word v made.y2 ∷ vs)
+    (pd.0 ∙ ap (λ (vs : List (List ℕ)). coordinate_word v made.x3 ∷ coordinate_word v made.y3 ∷ vs) l.1)) in
+    subst (λ (c : Corners). (ws ≡ corner_words v c) × CornersFit v c) l.0
     (words, record { x1 = pa.1.0; y1 = pa.1.1; x2 = pb.1.0; y2 = pb.1.1; x3 = pd.1.0; y3 = pd.1.1 })
 
 natural_front : (limit : ℕ) (ws : List (List ℕ)) (x : ℕ × List (List ℕ)) → limit ≤ number_margin → front (number limit) ws ≡ Some x
@@ -165,17 +164,17 @@ separator_takes ws p h =
     subst (λ (p : Separator). (ws ≡ decimal p.i ∷ decimal p.j ∷ decimal p.k ∷ []) × SeparatorFits p) l.0 (words, record { i = pa.1; j = pb.1; k = pd.1 })
 
 -- a line of this kind, with these further words
-pub record IsLine (k : Kind) (ws : List (List ℕ)) (l : Line) : Type 0 where
+record IsLine (v : Version) (k : Kind) (ws : List (List ℕ)) (l : Line) : Type 0 where
   pub kind : k ≡ line_kind l
-  pub fields : ws ≡ fields l
-  pub fits : LineFits l
+  pub fields : ws ≡ fields v l
+  pub fits : LineFits v l
 
 first_id : (w : List ℕ) (ws vs : List (List ℕ)) → ws ≡ w ∷ vs → first_is_id ws ≡ true → is_id w ≡ true
 first_id w ws vs e h = rw e at h
 
-piece_takes : (ws : List (List ℕ)) (l : Line) → first_is_id ws ≡ true → piece_line ws ≡ Some l → IsLine Piece ws l
+piece_takes : (v : Version) (ws : List (List ℕ)) (l : Line) → first_is_id ws ≡ true → piece_line ws ≡ Some l → IsLine v Piece ws l
 unfolding piece_line
-piece_takes ws l named h =
+piece_takes v ws l named h =
     let a = then_some (front (λ w. Some w) ws) _ l h in
     let b = then_some (front natural a.0.1) _ l a.2 in
     let d = then_some (front natural b.0.1) _ l b.2 in
@@ -186,14 +185,14 @@ piece_takes ws l named h =
     let pd = natural_front greatest_count b.0.1 d.0 (omega arith) d.1 in
     let same : pa.0 ≡ a.0.0 = cc pa.2 in
     let first : ws ≡ a.0.0 ∷ a.0.1 = rw same at pa.1 in
-    let words : ws ≡ fields made = first ∙ ap (λ (vs : List (List ℕ)). a.0.0 ∷ vs)
+    let words : ws ≡ fields v made = first ∙ ap (λ (vs : List (List ℕ)). a.0.0 ∷ vs)
     (pb.0 ∙ ap (λ (vs : List (List ℕ)). decimal b.0.0 ∷ vs) (pd.0 ∙ ap (λ (vs : List (List ℕ)). decimal d.0.0 ∷ vs)
     e.1)) in
-    subst (λ (l : Line). IsLine Piece ws l) e.0 (record { kind = refl; fields = words; fits = (first_id a.0.0 ws a.0.1 first named, pb.1, pd.1) })
+    subst (λ (l : Line). IsLine v Piece ws l) e.0 (record { kind = refl; fields = words; fits = (first_id a.0.0 ws a.0.1 first named, pb.1, pd.1) })
 
-parcel_takes : (ws : List (List ℕ)) (l : Line) → first_is_id ws ≡ true → parcel_line ws ≡ Some l → IsLine Parcel ws l
+parcel_takes : (v : Version) (ws : List (List ℕ)) (l : Line) → first_is_id ws ≡ true → parcel_line ws ≡ Some l → IsLine v Parcel ws l
 unfolding parcel_line
-parcel_takes ws l named h =
+parcel_takes v ws l named h =
     let a = then_some (front (λ w. Some w) ws) _ l h in
     let d = then_some (front natural a.0.1) _ l a.2 in
     let made : Line = ParcelLine a.0.0 d.0.0 in
@@ -202,44 +201,44 @@ parcel_takes ws l named h =
     let pd = natural_front greatest_count a.0.1 d.0 (omega arith) d.1 in
     let same : pa.0 ≡ a.0.0 = cc pa.2 in
     let first : ws ≡ a.0.0 ∷ a.0.1 = rw same at pa.1 in
-    let words : ws ≡ fields made = first ∙ ap (λ (vs : List (List ℕ)). a.0.0 ∷ vs) (pd.0 ∙ ap (λ (vs : List (List ℕ)). decimal d.0.0 ∷ vs) e.1) in
-    subst (λ (l : Line). IsLine Parcel ws l) e.0 (record { kind = refl; fields = words; fits = (first_id a.0.0 ws a.0.1 first named, pd.1) })
+    let words : ws ≡ fields v made = first ∙ ap (λ (vs : List (List ℕ)). a.0.0 ∷ vs) (pd.0 ∙ ap (λ (vs : List (List ℕ)). decimal d.0.0 ∷ vs) e.1) in
+    subst (λ (l : Line). IsLine v Parcel ws l) e.0 (record { kind = refl; fields = words; fits = (first_id a.0.0 ws a.0.1 first named, pd.1) })
 
-pairs_take : (ws : List (List ℕ)) (l : Line) → pairs_line ws ≡ Some l → IsLine Pairs ws l
+pairs_take : (v : Version) (ws : List (List ℕ)) (l : Line) → pairs_line ws ≡ Some l → IsLine v Pairs ws l
 unfolding pairs_line
-pairs_take ws l h =
+pairs_take v ws l h =
     let d = then_some (front natural ws) _ l h in
     let made : Line = PairsLine d.0.0 in
     let e = last_takes made l d.0.1 d.2 in
     let pd = natural_front greatest_count ws d.0 (omega arith) d.1 in
-    subst (λ (l : Line). IsLine Pairs ws l) e.0 (record { kind = refl; fields = pd.0 ∙ ap (λ (vs : List (List ℕ)). decimal d.0.0 ∷ vs) e.1; fits = pd.1 })
+    subst (λ (l : Line). IsLine v Pairs ws l) e.0 (record { kind = refl; fields = pd.0 ∙ ap (λ (vs : List (List ℕ)). decimal d.0.0 ∷ vs) e.1; fits = pd.1 })
 
-pub values_take : (k : Kind) (ws : List (List ℕ)) (l : Line) → names k ws ≡ true → values written k ws ≡ Some l → IsLine k ws l
+values_take : (v : Version) (k : Kind) (ws : List (List ℕ)) (l : Line) → names k ws ≡ true → values v k ws ≡ Some l → IsLine v k ws l
 unfolding values
-values_take Piece ws l named h = piece_takes ws l named h
-values_take Triangle ws l named h =
-    let a = then_some (corners written ws) (λ c. Some (TriangleLine c)) l h in
-    let t = corners_take ws a.0 a.1 in
+values_take v Piece ws l named h = piece_takes v ws l named h
+values_take v Triangle ws l named h =
+    let a = then_some (corners v ws) (λ c. Some (TriangleLine c)) l h in
+    let t = corners_take v ws a.0 a.1 in
     let same : TriangleLine a.0 ≡ l = cc a.2 in
-    subst (λ (l : Line). IsLine Triangle ws l) same (record { kind = refl; fields = t.0; fits = t.1 })
-values_take Flat ws l named h =
-    let a = then_some (corners written ws) (λ c. Some (FlatLine c)) l h in
-    let t = corners_take ws a.0 a.1 in
+    subst (λ (l : Line). IsLine v Triangle ws l) same (record { kind = refl; fields = t.0; fits = t.1 })
+values_take v Flat ws l named h =
+    let a = then_some (corners v ws) (λ c. Some (FlatLine c)) l h in
+    let t = corners_take v ws a.0 a.1 in
     let same : FlatLine a.0 ≡ l = cc a.2 in
-    subst (λ (l : Line). IsLine Flat ws l) same (record { kind = refl; fields = t.0; fits = t.1 })
-values_take Parcel ws l named h = parcel_takes ws l named h
-values_take Pairs ws l named h = pairs_take ws l h
-values_take Pair ws l named h =
+    subst (λ (l : Line). IsLine v Flat ws l) same (record { kind = refl; fields = t.0; fits = t.1 })
+values_take v Parcel ws l named h = parcel_takes v ws l named h
+values_take v Pairs ws l named h = pairs_take v ws l h
+values_take v Pair ws l named h =
     let a = then_some (separator ws) (λ c. Some (PairLine c)) l h in
     let t = separator_takes ws a.0 a.1 in
     let same : PairLine a.0 ≡ l = cc a.2 in
-    subst (λ (l : Line). IsLine Pair ws l) same (record { kind = refl; fields = t.0; fits = t.1 })
-values_take End ws l named h = grind (arith, last_takes)
+    subst (λ (l : Line). IsLine v Pair ws l) same (record { kind = refl; fields = t.0; fits = t.1 })
+values_take v End ws l named h = grind (arith, last_takes)
 
 -- a line that can stand here, and its text
-pub record ReadsAs (e : Expected) (line : List ℕ) (l : Line) : Type 0 where
-  pub text : line ≡ spelling l
-  pub fits : LineFits l
+pub record ReadsAs (v : Version) (e : Expected) (line : List ℕ) (l : Line) : Type 0 where
+  pub text : line ≡ spelling v l
+  pub fits : LineFits v l
   pub stands : can_stand e (line_kind l) ≡ true
 
 formed_ok : (e : Expected) (o : Option (Kind × List (List ℕ))) (p : Kind × List (List ℕ)) → with_form e o ≡ Ok p → (o ≡ Some p) × (can_stand e p.0 ≡ true)
@@ -250,34 +249,34 @@ number_ok : (o : Option Line) (l : Line) → or_number o ≡ Ok l → o ≡ Some
 number_ok None l h = absurd cc
 number_ok (Some m) l h = cc
 
-pub placed_takes : (e : Expected) (line : List ℕ) (k : Kind) (ws : List (List ℕ)) (l : Line) → placed e line ≡ Ok (k, ws) → values written k ws ≡ Some l
-    → ReadsAs e line l
+pub placed_takes : (v : Version) (e : Expected) (line : List ℕ) (k : Kind) (ws : List (List ℕ)) (l : Line) → placed e line ≡ Ok (k, ws)
+    → values v k ws ≡ Some l → ReadsAs v e line l
 unfolding placed spelling
-placed_takes e line k ws l h v =
+placed_takes v e line k ws l h g =
     let f = formed_ok e (form (words line)) (k, ws) h in
     let t = form_takes (words line) k ws f.0 in
-    let is = values_take k ws l t.1 v in
+    let is = values_take v k ws l t.1 g in
     let kind = is.kind in
-    let all : words line ≡ words_of l =
-    t.0 ∙ ap (λ (k : Kind). kind_word k ∷ ws) kind ∙ ap (λ (vs : List (List ℕ)). kind_word (line_kind l) ∷ vs) is.fields ∙ sym (words_are l) in
+    let all : words line ≡ words_of v l =
+    t.0 ∙ ap (λ (k : Kind). kind_word k ∷ ws) kind ∙ ap (λ (vs : List (List ℕ)). kind_word (line_kind l) ∷ vs) is.fields ∙ sym (words_are v l) in
     record { text = sym (join_with_byte-slice_split 32 line) ∙ ap (join_with_byte 32) all; fits = is.fits; stands = rw (← kind) f.1 }
 
-pub read_takes : (e : Expected) (line : List ℕ) (l : Line) → read_line written e line ≡ Ok l → ReadsAs e line l
+pub read_takes : (v : Version) (e : Expected) (line : List ℕ) (l : Line) → read_line v e line ≡ Ok l → ReadsAs v e line l
 unfolding read_line
-read_takes e line l h =
-    let b = bind_ok (placed e line) (λ p. or_number (values written p.0 p.1)) l h in
-    placed_takes e line b.0.0 b.0.1 l b.1 (number_ok (values written b.0.0 b.0.1) l b.2)
+read_takes v e line l h =
+    let b = bind_ok (placed e line) (λ p. or_number (values v p.0 p.1)) l h in
+    placed_takes v e line b.0.0 b.0.1 l b.1 (number_ok (values v b.0.0 b.0.1) l b.2)
 
 -- ---- one value a text
 
-decode : List (List ℕ) → Option Line
-decode ws = form ws >>? λ p. values written p.0 p.1
+decode : Version → List (List ℕ) → Option Line
+decode v ws = form ws >>? λ p. values v p.0 p.1
 
-decoded : (l : Line) → LineFits l → decode (words (spelling l)) ≡ Some l
+decoded : (v : Version) (l : Line) → LineFits v l → decode v (words (spelling v l)) ≡ Some l
 unfolding decode
-decoded l fits = grind (arith, spelling_words, form_again, field_words, length_right, names_right, values_again)
+decoded v l fits = grind (arith, spelling_words, form_again, field_words, length_right, names_right, values_again)
 
-pub spelling_injective : (l m : Line) → LineFits l → LineFits m → spelling l ≡ spelling m → l ≡ m
-spelling_injective l m fl fm e =
-    let same : Some l ≡ Some m = sym (decoded l fl) ∙ ap (λ (x : List ℕ). decode (words x)) e ∙ decoded m fm in
+pub spelling_injective : (v : Version) (l m : Line) → LineFits v l → LineFits v m → spelling v l ≡ spelling v m → l ≡ m
+spelling_injective v l m fl fm e =
+    let same : Some l ≡ Some m = sym (decoded v l fl) ∙ ap (λ (x : List ℕ). decode v (words x)) e ∙ decoded v m fm in
     cc same

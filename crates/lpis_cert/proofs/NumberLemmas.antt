@@ -1,8 +1,8 @@
 -- A number has one spelling.
-use Rattle.std.proofs.Common.{◌≡◌, ℕ, zero, suc, ◌+◌, ◌*◌, ◌<◌, ◌≤◌, Bool, true, false, cond, ◌&&◌, List, [], ◌∷◌, length, get_or, Option, Some, None, refl}
-use Rattle.std.proofs.Common.{sym, ap, ◌∙◌, arith, nat_le, eqb}
-use Rattle.std.proofs.Common.{ℤ, pos, negsuc, neg_ℤ, decimal}
-use Rattle.lpis_cert.proofs.Common.{nat_tests, and_parts, signed_decimal, IsInRange, number_margin, written, digits_on, number}
+use Rattle.std.proofs.Common.{◌≡◌, ℕ, zero, suc, ◌+◌, ◌*◌, ◌/◌, ◌<◌, ◌≤◌, Bool, true, false, cond, ◌&&◌, List, [], ◌∷◌, length, get_or, Option, Some, None}
+use Rattle.std.proofs.Common.{refl, sym, ap, ◌∙◌, arith, nat_le, eqb}
+use Rattle.std.proofs.Common.{ℤ, pos, negsuc, neg_ℤ, nat_abs, decimal}
+use Rattle.lpis_cert.proofs.Common.{nat_tests, and_parts, signed_decimal, number_margin, Version, written, digits_on, number, CoordinateFits}
 use Rattle.std.proofs.lemmas.Bool.{eqb-true}
 use Rattle.std.proofs.lemmas.Int.{ints}
 use Rattle.std.proofs.lemmas.Fmt.{decimal_digit, decimal_is_IsNumeral, first_decimal, decimal-digits_value}
@@ -10,8 +10,10 @@ use Rattle.std.proofs.lemmas.Str.Parse.{IsNumeralModel, numerals_by_value, tells
 use Rattle.std.specs.Char.{digit_value, is_ascii_digit}
 use Rattle.std.specs.Str.Parse.{digits_value, digits_value_after, AllDigits}
 use Rattle.lpis_covers.proofs.Shared.{value-ge}
-use Rattle.lpis_cert.specs.declared.version.Version.{Version}
-use Rattle.lpis_cert.specs.Versions.{greatest, factor}
+use Rattle.lpis_points.specs.Range.{limit, IsInRange}
+use Rattle.lpis_cert.specs.declared.version.Version.TheVariants.{One, Two}
+use Rattle.lpis_cert.specs.CertText.{coordinate_word}
+use Rattle.lpis_cert.specs.Versions.{greatest, factor, units}
 use Rattle.lpis_cert.specs.Reading.{coordinate, minus, plus}
 
 pub opened : {A : Type 0} (b : Bool) (x : Option A) (y : A) → cond b x None ≡ Some y → (b ≡ true) × (x ≡ Some y)
@@ -93,30 +95,87 @@ number_takes limit (d ∷ ds) n small h = by_zero (eqb d 48) refl h
         let most = t.2 in
         (sym (ap decimal (sym value) ∙ decimal-digits_value own (d ∷ ds) t.0 (omega arith) (λ is. absurd (differs d e is)) (omega (arith, value))), most)
 
+-- ---- coordinates
+
 above : (d : ℕ) → 48 < d → eqb d 45 ≡ false
 above d h = grind (arith, nat_tests)
 
--- the version that is written has centimetres
-once : (n : ℕ) → n * factor written ≡ n
+pub greatest_small : (v : Version) → greatest v ≤ number_margin
+greatest_small One = omega arith
+greatest_small Two = omega arith
+
+tenth : (n k : ℕ) → n ≡ k * 10 → n / 10 ≡ k
+tenth n k e = omega arith
+
+once : (n : ℕ) → n * 1 ≡ n
 once n = omega arith
 
--- what is written is read
-pub coordinate_again : (z : ℤ) → IsInRange z → coordinate written (signed_decimal z) ≡ Some z
-unfolding coordinate number
-coordinate_again (pos n) fits =
-    unsigned (decimal n) n (number_again (greatest written) n (omega arith) (omega (arith, ints, fits.1))) (nonminus n (omega (arith, ints, fits.1)))
-  where
-    unsigned : (w : List ℕ) (n : ℕ) → number (greatest written) w ≡ Some n → eqb (get_or w 0 0) 45 ≡ false → coordinate written w ≡ Some (pos n)
-    unsigned [] n h first = absurd cc
-    unsigned (d ∷ ds) n h first = rw (first, h) (ap (λ (k : ℕ). Some (pos k)) (once n))
+-- so many units, and so many below zero
+of_units : (v : Version) (k : ℕ) → units v (pos (k * factor v)) ≡ pos k
+of_units One k = ap pos (tenth (k * 10) k refl)
+of_units Two k = ap pos (once k)
 
-    nonminus : (n : ℕ) → n ≤ greatest written → eqb (get_or (decimal n) 0 0) 45 ≡ false
-    nonminus zero le = rw (decimal_digit 0 (omega arith)) refl
-    nonminus (suc n) le = let first = first_decimal (suc n) (omega arith) (omega arith) in above (get_or (decimal (suc n)) 0 0) first
-coordinate_again (negsuc n) fits = signed n (number_again (greatest written) (suc n) (omega arith) (omega (arith, ints, fits.0)))
+of_units_below : (v : Version) (k : ℕ) → units v (neg_ℤ (pos (suc k * factor v))) ≡ negsuc k
+of_units_below One k = made (suc k * 10) k refl (omega arith)
   where
-    signed : (n : ℕ) → number (greatest written) (decimal (suc n)) ≡ Some (suc n) → coordinate written (45 ∷ decimal (suc n)) ≡ Some (negsuc n)
-    signed n h = rw h (ap (λ (k : ℕ). Some (neg_ℤ (pos k))) (once (suc n)))
+    made : (n k : ℕ) → n ≡ suc k * 10 → 0 < n → units One (neg_ℤ (pos n)) ≡ negsuc k
+    made zero k e some = absurd (omega arith)
+    made (suc n) k e some = ap (λ (m : ℕ). neg_ℤ (pos m)) (tenth (suc n) (suc k) e)
+of_units_below Two k = ap (λ (m : ℕ). neg_ℤ (pos m)) (once (suc k))
+
+abs_below : (n : ℕ) → nat_abs (neg_ℤ (pos n)) ≡ n
+abs_below zero = refl
+abs_below (suc n) = refl
+
+above_fits : (v : Version) (k : ℕ) → k ≤ greatest v → CoordinateFits v (pos (k * factor v))
+above_fits v k le = let is = of_units v k in record { whole = rw is refl; few = rw is le }
+
+below_fits : (v : Version) (k : ℕ) → suc k ≤ greatest v → CoordinateFits v (neg_ℤ (pos (suc k * factor v)))
+below_fits v k le = let is = of_units_below v k in record { whole = rw is (abs_below (suc k * factor v)); few = rw is le }
+
+-- a coordinate that fits, by its units
+data Written (v : Version) (z : ℤ) : Type 0 where
+  Above : (k : ℕ) → k ≤ greatest v → units v z ≡ pos k → z ≡ pos (k * factor v) → Written v z
+  Below : (k : ℕ) → suc k ≤ greatest v → units v z ≡ negsuc k → z ≡ neg_ℤ (pos (suc k * factor v)) → Written v z
+
+below_tenth : (n k : ℕ) → suc n / 10 ≡ k → suc n ≡ nat_abs (neg_ℤ (pos k)) * 10 → nat_abs (neg_ℤ (pos k)) ≤ greatest One → Written One (negsuc n)
+below_tenth n zero e whole few = absurd (omega arith)
+below_tenth n (suc k) e whole few = Below k few (ap (λ (m : ℕ). neg_ℤ (pos m)) e) (ap (λ (m : ℕ). neg_ℤ (pos m)) whole)
+
+written_as : (v : Version) (z : ℤ) → CoordinateFits v z → Written v z
+written_as One (pos n) fits = Above (n / 10) fits.few refl (ap pos fits.whole)
+written_as One (negsuc n) fits = below_tenth n (suc n / 10) refl fits.whole fits.few
+written_as Two (pos n) fits = Above n fits.few refl (ap pos (sym (once n)))
+written_as Two (negsuc n) fits = Below n fits.few refl (ap (λ (m : ℕ). neg_ℤ (pos m)) (sym (once (suc n))))
+
+-- what is written is read
+
+read_above : (v : Version) (w : List ℕ) (k : ℕ) → number (greatest v) w ≡ Some k → eqb (get_or w 0 0) 45 ≡ false → coordinate v w ≡ Some (pos (k * factor v))
+unfolding coordinate number
+read_above v [] k h first = absurd cc
+read_above v (d ∷ ds) k h first = rw (first, h) refl
+
+no_minus : (k : ℕ) → k ≤ number_margin → eqb (get_or (decimal k) 0 0) 45 ≡ false
+no_minus zero le = rw (decimal_digit 0 (omega arith)) refl
+no_minus (suc k) le = let first = first_decimal (suc k) (omega arith) (omega arith) in above (get_or (decimal (suc k)) 0 0) first
+
+read_below : (v : Version) (w : List ℕ) (k : ℕ) → number (greatest v) w ≡ Some (suc k) → coordinate v (45 ∷ w) ≡ Some (neg_ℤ (pos (suc k * factor v)))
+unfolding coordinate
+read_below v w k h = rw h refl
+
+pub coordinate_again : (v : Version) (z : ℤ) → CoordinateFits v z → coordinate v (coordinate_word v z) ≡ Some z
+coordinate_again v z fits = by_units (written_as v z fits)
+  where
+    by_units : Written v z → coordinate v (coordinate_word v z) ≡ Some z
+    by_units (Above k le is e) =
+        let small = greatest_small v in
+        ap (λ (u : ℤ). coordinate v (signed_decimal u)) is
+        ∙ read_above v (decimal k) k (number_again (greatest v) k small le) (no_minus k (omega arith)) ∙ ap (λ (x : ℤ). Some x) (sym e)
+    by_units (Below k le is e) =
+        ap (λ (u : ℤ). coordinate v (signed_decimal u)) is
+        ∙ read_below v (decimal (suc k)) k (number_again (greatest v) (suc k) (greatest_small v) le) ∙ ap (λ (x : ℤ). Some x) (sym e)
+
+-- what is read was written so
 
 minus_takes : (v : Version) (o : Option ℕ) (z : ℤ) → minus v o ≡ Some z → (n : ℕ) × (o ≡ Some (suc n)) × (z ≡ neg_ℤ (pos (suc n * factor v)))
 minus_takes v (Some (suc n)) z h = (n, refl, cc)
@@ -126,27 +185,52 @@ plus_takes : (v : Version) (o : Option ℕ) (z : ℤ) → plus v o ≡ Some z �
 plus_takes v None z h = absurd cc
 plus_takes v (Some n) z h = (n, refl, cc)
 
-made_minus : (d n : ℕ) (ds : List ℕ) (z : ℤ) → d ≡ 45 → ds ≡ decimal (suc n) → z ≡ negsuc n → suc n ≤ greatest written
-    → (◌≡◌ {A = List ℕ} (d ∷ ds) (signed_decimal z)) × IsInRange z
-made_minus d n ds z e f g most = rw (e, f, g) (refl, (omega (arith, ints), omega (arith, ints)))
+made_minus : (v : Version) (d n : ℕ) (ds : List ℕ) (z : ℤ) → d ≡ 45 → ds ≡ decimal (suc n) → z ≡ neg_ℤ (pos (suc n * factor v)) → suc n ≤ greatest v
+    → (◌≡◌ {A = List ℕ} (d ∷ ds) (coordinate_word v z)) × CoordinateFits v z
+made_minus v d n ds z e f g most = rw (e, f, g) (ap signed_decimal (sym (of_units_below v n)), below_fits v n most)
 
-made_plus : (n : ℕ) (w : List ℕ) (z : ℤ) → w ≡ decimal n → z ≡ pos n → n ≤ greatest written → (w ≡ signed_decimal z) × IsInRange z
-made_plus n w z f g most = rw (f, g) (refl, (omega (arith, ints), omega (arith, ints)))
+made_plus : (v : Version) (n : ℕ) (w : List ℕ) (z : ℤ) → w ≡ decimal n → z ≡ pos (n * factor v) → n ≤ greatest v → (w ≡ coordinate_word v z) × CoordinateFits v z
+made_plus v n w z f g most = rw (f, g) (ap signed_decimal (sym (of_units v n)), above_fits v n most)
 
--- what is read was written so
-pub coordinate_takes : (w : List ℕ) (z : ℤ) → coordinate written w ≡ Some z → (w ≡ signed_decimal z) × IsInRange z
+pub coordinate_takes : (v : Version) (w : List ℕ) (z : ℤ) → coordinate v w ≡ Some z → (w ≡ coordinate_word v z) × CoordinateFits v z
 unfolding coordinate
-coordinate_takes [] z h = absurd cc
-coordinate_takes (d ∷ ds) z h = by_sign (eqb d 45) refl h
+coordinate_takes v [] z h = absurd cc
+coordinate_takes v (d ∷ ds) z h = by_sign (eqb d 45) refl h
   where
-    by_sign : (b : Bool) → eqb d 45 ≡ b → cond b (minus written (number (greatest written) ds))
-        (plus written (number (greatest written) (d ∷ ds))) ≡ Some z → (◌≡◌ {A = List ℕ} (d ∷ ds) (signed_decimal z))
-        × IsInRange z
+    by_sign : (b : Bool) → eqb d 45 ≡ b → cond b (minus v (number (greatest v) ds))
+        (plus v (number (greatest v) (d ∷ ds))) ≡ Some z → (◌≡◌ {A = List ℕ} (d ∷ ds) (coordinate_word v z))
+        × CoordinateFits v z
     by_sign true e h =
-        let m = minus_takes written (number (greatest written) ds) z h in
-        let t = number_takes (greatest written) ds (suc m.0) (omega arith) m.1 in
-        made_minus d m.0 ds z (eqb-true d 45 e) t.0 (m.2 ∙ ap (λ (k : ℕ). neg_ℤ (pos k)) (once (suc m.0))) t.1
+        let m = minus_takes v (number (greatest v) ds) z h in
+        let t = number_takes (greatest v) ds (suc m.0) (greatest_small v) m.1 in
+        made_minus v d m.0 ds z (eqb-true d 45 e) t.0 m.2 t.1
     by_sign false e h =
-        let m = plus_takes written (number (greatest written) (d ∷ ds)) z h in
-        let t = number_takes (greatest written) (d ∷ ds) m.0 (omega arith) m.1 in
-        made_plus m.0 (d ∷ ds) z t.0 (m.2 ∙ ap pos (once m.0)) t.1
+        let m = plus_takes v (number (greatest v) (d ∷ ds)) z h in
+        let t = number_takes (greatest v) (d ∷ ds) m.0 (greatest_small v) m.1 in
+        made_plus v m.0 (d ∷ ds) z t.0 m.2 t.1
+
+-- ---- ranges
+
+most_written : (v : Version) (k : ℕ) → k ≤ greatest v → k * factor v ≤ nat_abs limit
+most_written One k le = omega arith
+most_written Two k le = omega arith
+
+above_in : (n : ℕ) → n ≤ nat_abs limit → IsInRange (pos n)
+above_in n le = (omega (arith, ints), omega (arith, ints))
+
+below_in : (n : ℕ) → n ≤ nat_abs limit → IsInRange (neg_ℤ (pos n))
+below_in zero le = (omega (arith, ints), omega (arith, ints))
+below_in (suc n) le = (omega (arith, ints), omega (arith, ints))
+
+-- what has a text is in range
+pub in_range : (v : Version) (z : ℤ) → CoordinateFits v z → IsInRange z
+in_range v z fits = by_units (written_as v z fits)
+  where
+    by_units : Written v z → IsInRange z
+    by_units (Above k le is e) = rw e (above_in (k * factor v) (most_written v k le))
+    by_units (Below k le is e) = rw e (below_in (suc k * factor v) (most_written v (suc k) le))
+
+-- what is in range has a text of the version that is written
+pub has_text : (z : ℤ) → IsInRange z → CoordinateFits written z
+has_text (pos n) h = record { whole = sym (once n); few = omega (arith, ints, h.1) }
+has_text (negsuc n) h = record { whole = sym (once (suc n)); few = omega (arith, ints, h.0) }

@@ -1,9 +1,9 @@
 -- One line taken, and the lines after it.
-use Rattle.std.proofs.Common.{◌≡◌, ℕ, zero, suc, ◌+◌, true, List, [], ◌∷◌, ◌++◌, length, Some, None, Ok, Err, refl, ap, ◌∙◌, arith, append_assoc, length-append}
+use Rattle.std.proofs.Common.{◌≡◌, ℕ, zero, suc, ◌+◌, true, List, [], ◌∷◌, ◌++◌, length, Some, None, Ok, Err, refl, sym, ap, ◌∙◌, arith, append_assoc, length-append}
 use Rattle.std.proofs.Common.{inl, inr}
-use Rattle.lpis_cert.proofs.Common.{CertCode, CertFault, Kind, Piece, Flat, Parcel, Pairs, Pair, End, One, Block, written, Line, spelling, text_of_lines}
+use Rattle.lpis_cert.proofs.Common.{AllByRecursion, CertCode, CertFault, Kind, Piece, Flat, Parcel, Pairs, Pair, End, One, Block, Version, Line, spelling, text_of_lines}
 use Rattle.lpis_cert.proofs.Common.{can_stand, values, read_line, is_lf, lines}
-use Rattle.lpis_cert.proofs.Common.{outcome, at_last, step, State, AtVersion, InBody, InPairs, AtEnd, LineFits, line_kind, Placed, LineFault, ReadsLines}
+use Rattle.lpis_cert.proofs.Common.{outcome, at_last, step, State, InBody, InPairs, AtEnd, LineFits, line_kind, Placed, LineFault, ReadsLines}
 use Rattle.lpis_cert.proofs.Common.{FaultFrom}
 use Rattle.lpis_cert.specs.declared.fault.CertFault.TheVariants.{Memory, At}
 use Rattle.lpis_cert.specs.declared.kind.Kind.TheVariants.{Triangle}
@@ -36,29 +36,29 @@ pub alone : {k : Kind} {text : List ℕ} {n : ℕ} {given : Kind} {ws : List (Li
 alone {k} {given = given} {ws} p = grind (arith, same_kind_is, formed_stands)
 
 -- a line was taken
-pub taken : {e : Expected} {text : List ℕ} {n : ℕ} {k : Kind} {ws : List (List ℕ)} {rest : List ℕ} {m : ℕ} (l : Line) → Placed e text n k ws rest m
-    → values written k ws ≡ Some l
-    → ReadsLines text n (l ∷ []) rest m × LineFits l × (can_stand e (line_kind l) ≡ true)
+pub taken : {e : Expected} {text : List ℕ} {n : ℕ} {k : Kind} {ws : List (List ℕ)} {rest : List ℕ} {m : ℕ} (v : Version) (l : Line)
+    → Placed e text n k ws rest m → values v k ws ≡ Some l
+    → ReadsLines v text n (l ∷ []) rest m × LineFits v l × (can_stand e (line_kind l) ≡ true)
 unfolding text_of_lines
-taken {e} {k = k} {ws} {rest} l p v = grind (arith, placed_takes, append_assoc (spelling l) (10 ∷ []) rest)
+taken {e} {k = k} {ws} {rest} v l p h = grind (arith, placed_takes, append_assoc (spelling v l) (10 ∷ []) rest)
 
 -- or its values are no numbers
-pub untaken : {e : Expected} {text : List ℕ} {n : ℕ} {k : Kind} {ws : List (List ℕ)} {rest : List ℕ} {m : ℕ} → Placed e text n k ws rest m
-    → values written k ws ≡ None → FailsWith e text code.Number
+pub untaken : {e : Expected} {text : List ℕ} {n : ℕ} {k : Kind} {ws : List (List ℕ)} {rest : List ℕ} {m : ℕ} (v : Version) → Placed e text n k ws rest m
+    → values v k ws ≡ None → FailsWith v e text code.Number
 unfolding read_line
-untaken {rest = rest} p v = grind arith
+untaken {rest = rest} v p h = grind arith
 
 -- ---- one step of the definition
 
-pub step_ok : (n : ℕ) (p q : State) (text line rest : List ℕ) → lines text ≡ line ∷ lines rest → step p line ≡ Ok q
-    → outcome n p (lines text) ≡ outcome (n + 1) q (lines rest)
+step_ok : (v : Version) (n : ℕ) (p q : State) (text line rest : List ℕ) → lines text ≡ line ∷ lines rest → step v p line ≡ Ok q
+    → outcome v n p (lines text) ≡ outcome v (n + 1) q (lines rest)
 unfolding outcome
-step_ok n p q text line rest e h = grind (arith, split_some is_lf rest)
+step_ok v n p q text line rest e h = grind (arith, split_some is_lf rest)
 
-pub step_err : (n : ℕ) (p : State) (c : CertCode) (text line rest : List ℕ) → lines text ≡ line ∷ lines rest → step p line ≡ Err c
-    → outcome n p (lines text) ≡ Err (c, n)
+pub step_err : (v : Version) (n : ℕ) (p : State) (c : CertCode) (text line rest : List ℕ) → lines text ≡ line ∷ lines rest → step v p line ≡ Err c
+    → outcome v n p (lines text) ≡ Err (c, n)
 unfolding outcome
-step_err n p c text line rest e h = grind (arith, split_some is_lf rest)
+step_err v n p c text line rest e h = grind (arith, split_some is_lf rest)
 
 -- what one state wants
 abbrev pub Wants : State → Expected → Type 0
@@ -69,73 +69,83 @@ Wants (InPairs (suc n)) e = One Pair ≡ e
 Wants (InPairs zero) e = One End ≡ e
 Wants _ _ = ⊥
 
-step_fails : (p : State) (e : Expected) (line : List ℕ) (c : CertCode) → Wants p e → read_line written e line ≡ Err c → step p line ≡ Err c
+step_fails : (v : Version) (p : State) (e : Expected) (line : List ℕ) (c : CertCode) → Wants p e → read_line v e line ≡ Err c → step v p line ≡ Err c
 unfolding step
-step_fails AtVersion e line c w h = absurd w
-step_fails (InBody b zero zero d) e line c w h = rw (w, h) refl
-step_fails (InPairs zero) e line c w h = rw (w, h) refl
-step_fails AtEnd e line c w h = absurd w
-step_fails _ e line c w h = rw (w, h) refl
+step_fails v (InBody b zero zero d) e line c w h = rw (w, h) refl
+step_fails v (InPairs zero) e line c w h = rw (w, h) refl
+step_fails v AtEnd e line c w h = absurd w
+step_fails v _ e line c w h = rw (w, h) refl
 
-last_fails : (n : ℕ) (p : State) (e : Expected) (text : List ℕ) → Wants p e → lines text ≡ text ∷ [] → outcome n p (lines text) ≡ Err (code.Truncated, n)
+last_fails : (v : Version) (n : ℕ) (p : State) (e : Expected) (text : List ℕ) → Wants p e → lines text ≡ text ∷ []
+    → outcome v n p (lines text) ≡ Err (code.Truncated, n)
 unfolding outcome at_last
-last_fails n (InBody b t f d) e text w h = rw h refl
-last_fails n (InPairs k) e text w h = rw h refl
-last_fails n _ e text w h = absurd w
+last_fails v n (InBody b t f d) e text w h = rw h refl
+last_fails v n (InPairs k) e text w h = rw h refl
+last_fails v n AtEnd e text w h = absurd w
 
-pub fails : (n : ℕ) (p : State) (e : Expected) (text : List ℕ) (c : CertCode) → Wants p e → FailsWith e text c → outcome n p (lines text) ≡ Err (c, n)
-fails n p e text c w (inl h) = let is = h.1 in rw is (last_fails n p e text w h.0)
-fails n p e text c w (inr h) = step_err n p c text h.0 h.1 h.2 (step_fails p e h.0 c w h.3)
+fails : (v : Version) (n : ℕ) (p : State) (e : Expected) (text : List ℕ) (c : CertCode) → Wants p e → FailsWith v e text c
+    → outcome v n p (lines text) ≡ Err (c, n)
+fails v n p e text c w (inl h) = let is = h.1 in rw is (last_fails v n p e text w h.0)
+fails v n p e text c w (inr h) = step_err v n p c text h.0 h.1 h.2 (step_fails v p e h.0 c w h.3)
 
-pub fault_here : (x : CertFault) (n : ℕ) (p : State) (e : Expected) (text : List ℕ) → Wants p e → LineFault x n e text → FaultFrom x n p text
-fault_here Memory n p e text w h = tt
-fault_here (At c m) n p e text w h = let is = h.0 in rw is (fails n p e text c w h.1)
+pub fault_here : (v : Version) (x : CertFault) (n : ℕ) (p : State) (e : Expected) (text : List ℕ) → Wants p e → LineFault v x n e text → FaultFrom v x n p text
+fault_here v Memory n p e text w h = tt
+fault_here v (At c m) n p e text w h = let is = h.0 in rw is (fails v n p e text c w h.1)
 
 -- ---- lines that were taken
 
 -- each of these lines takes the state on
-abbrev pub Goes : State → List Line → State → Type 0
-Goes p [] q = p ≡ q
-Goes p (l ∷ ls) q = LineFits l × ((r : State) × (step p (spelling l) ≡ Ok r) × Goes r ls q)
+abbrev pub Goes : Version → State → List Line → State → Type 0
+Goes v p [] q = p ≡ q
+Goes v p (l ∷ ls) q = LineFits v l × ((r : State) × (step v p (spelling v l) ≡ Ok r) × Goes v r ls q)
 
-pub over : (n : ℕ) (p q : State) (ls : List Line) (rest : List ℕ) → Goes p ls q
-    → outcome n p (lines (text_of_lines ls ++ rest)) ≡ outcome (n + length ls) q (lines rest)
+pub over : (v : Version) (n : ℕ) (p q : State) (ls : List Line) (rest : List ℕ) → Goes v p ls q
+    → outcome v n p (lines (text_of_lines v ls ++ rest)) ≡ outcome v (n + length ls) q (lines rest)
 unfolding text_of_lines
-over n p q [] rest h = grind arith
-over n p q (l ∷ ls) rest h =
-    let text : (spelling l ++ (10 ∷ text_of_lines ls)) ++ rest ≡ spelling l ++ (10 ∷ (text_of_lines ls ++ rest)) =
-    append_assoc (spelling l) (10 ∷ text_of_lines ls) rest in
-    let first = step_ok n p h.1.0 (spelling l ++ (10 ∷ (text_of_lines ls ++ rest))) (spelling l) (text_of_lines ls ++ rest)
-    (lines_from l (text_of_lines ls ++ rest) h.0) h.1.1 in
-    let more = over (n + 1) h.1.0 q ls rest h.1.2 in
+over v n p q [] rest h = grind arith
+over v n p q (l ∷ ls) rest h =
+    let text : (spelling v l ++ (10 ∷ text_of_lines v ls)) ++ rest ≡ spelling v l ++ (10 ∷ (text_of_lines v ls ++ rest)) =
+    append_assoc (spelling v l) (10 ∷ text_of_lines v ls) rest in
+    let first = step_ok v n p h.1.0 (spelling v l ++ (10 ∷ (text_of_lines v ls ++ rest))) (spelling v l) (text_of_lines v ls ++ rest)
+    (lines_from v l (text_of_lines v ls ++ rest) h.0) h.1.1 in
+    let more = over v (n + 1) h.1.0 q ls rest h.1.2 in
     let count : n + 1 + length ls ≡ n + length (l ∷ ls) = omega arith in
-    ap (λ (t : List ℕ). outcome n p (lines t)) text ∙ first ∙ more ∙ ap (λ (k : ℕ). outcome k q (lines rest)) count
+    ap (λ (t : List ℕ). outcome v n p (lines t)) text ∙ first ∙ more ∙ ap (λ (k : ℕ). outcome v k q (lines rest)) count
 
-pub after : {text : List ℕ} {n : ℕ} {ls : List Line} {rest : List ℕ} {m : ℕ} (p q : State) → ReadsLines text n ls rest m → Goes p ls q
-    → outcome n p (lines text) ≡ outcome m q (lines rest)
-after {n = n} {ls} {rest} p q f g =
+pub after : {v : Version} {text : List ℕ} {n : ℕ} {ls : List Line} {rest : List ℕ} {m : ℕ} (p q : State) → ReadsLines v text n ls rest m → Goes v p ls q
+    → outcome v n p (lines text) ≡ outcome v m q (lines rest)
+after {v} {n = n} {ls} {rest} p q f g =
     let parts = f.parts in
     let next = f.next in
-    rw (parts, next) (over n p q ls rest g)
+    rw (parts, next) (over v n p q ls rest g)
 
-pub fault_after : {text : List ℕ} {n : ℕ} {ls : List Line} {rest : List ℕ} {m : ℕ} (x : CertFault) (p q : State)
-    → ReadsLines text n ls rest m → Goes p ls q → FaultFrom x m q rest → FaultFrom x n p text
+pub fault_after : {v : Version} {text : List ℕ} {n : ℕ} {ls : List Line} {rest : List ℕ} {m : ℕ} (x : CertFault) (p q : State)
+    → ReadsLines v text n ls rest m → Goes v p ls q → FaultFrom v x m q rest → FaultFrom v x n p text
 fault_after Memory p q f g h = tt
 fault_after (At c k) p q f g h = after p q f g ∙ h
 
-pub text-append : (xs ys : List Line) → text_of_lines (xs ++ ys) ≡ text_of_lines xs ++ text_of_lines ys
+pub text-append : (v : Version) (xs ys : List Line) → text_of_lines v (xs ++ ys) ≡ text_of_lines v xs ++ text_of_lines v ys
 unfolding text_of_lines
-text-append [] ys = refl
-text-append (l ∷ xs) ys = cc (text-append xs ys, append_assoc (spelling l) (10 ∷ text_of_lines xs) (text_of_lines ys))
+text-append v [] ys = refl
+text-append v (l ∷ xs) ys = cc (text-append v xs ys, append_assoc (spelling v l) (10 ∷ text_of_lines v xs) (text_of_lines v ys))
 
-pub follows_both : {a : List ℕ} {n : ℕ} {xs : List Line} {b : List ℕ} {m : ℕ} {ys : List Line} {c : List ℕ} {k : ℕ} → ReadsLines a n xs b m
-    → ReadsLines b m ys c k → ReadsLines a n (xs ++ ys) c k
-follows_both {n = n} {xs} {m = m} {ys} {c} {k} f g = grind (arith, append_assoc, text-append, length-append)
+pub all-append : {A : Type 0} (P : A → Type 0) (xs ys : List A) → AllByRecursion P xs → AllByRecursion P ys → AllByRecursion P (xs ++ ys)
+all-append P [] ys h k = k
+all-append P (x ∷ xs) ys h k = (h.0, all-append P xs ys h.1 k)
 
-pub follows_none : (a : List ℕ) (n : ℕ) → ReadsLines a n [] a n
+pub follows_both : {v : Version} {a : List ℕ} {n : ℕ} {xs : List Line} {b : List ℕ} {m : ℕ} {ys : List Line} {c : List ℕ} {k : ℕ} → ReadsLines v a n xs b m
+    → ReadsLines v b m ys c k → ReadsLines v a n (xs ++ ys) c k
+follows_both {v} {n = n} {xs} {m = m} {ys} {c} {k} f g = record {
+  parts = f.parts ∙ ap (λ (t : List ℕ). text_of_lines v xs ++ t) g.parts ∙ sym (append_assoc (text_of_lines v xs) (text_of_lines v ys) c)
+      ∙ ap (λ (t : List ℕ). t ++ c) (sym (text-append v xs ys));
+  fits = all-append (LineFits v) xs ys f.fits g.fits;
+  next = let e = f.next in let h = g.next in omega (arith, length-append xs ys);
+}
+
+pub follows_none : (v : Version) (a : List ℕ) (n : ℕ) → ReadsLines v a n [] a n
 unfolding text_of_lines
-follows_none a n = record { parts = refl; next = omega arith }
+follows_none v a n = record { parts = refl; fits = tt; next = omega arith }
 
-pub misplaced : (e : Expected) (line : List ℕ) (c : CertCode) → placed e line ≡ Err c → read_line written e line ≡ Err c
+pub misplaced : (v : Version) (e : Expected) (line : List ℕ) (c : CertCode) → placed e line ≡ Err c → read_line v e line ≡ Err c
 unfolding read_line
-misplaced e line c h = rw h refl
+misplaced v e line c h = rw h refl

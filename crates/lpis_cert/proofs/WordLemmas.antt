@@ -1,20 +1,21 @@
 -- The words of a line.
-use Rattle.std.proofs.Common.{◌≡◌, ℕ, suc, ◌<◌, ◌≤◌, Bool, true, false, not, ◌&&◌, List, [], ◌∷◌, ◌++◌, length, refl, ap, ◌∙◌, arith, ℤ, pos, negsuc, neg_ℤ}
-use Rattle.std.proofs.Common.{◌≤ℤ◌, codes, decimal}
-use Rattle.lpis_cert.proofs.Common.{and_parts, nat_tests, onto_first, list_any, join_with_byte, AllByRecursion, signed_decimal, is_id, IsInRange}
+use Rattle.std.proofs.Common.{◌≡◌, ℕ, suc, ◌<◌, ◌≤◌, Bool, true, false, not, ◌&&◌, List, [], ◌∷◌, ◌++◌, length, refl, ap, ◌∙◌, arith, ℤ, pos, negsuc, nat_abs}
+use Rattle.std.proofs.Common.{codes, decimal}
+use Rattle.lpis_cert.proofs.Common.{and_parts, nat_tests, onto_first, list_any, join_with_byte, AllByRecursion, signed_decimal, is_id, Version}
 use Rattle.lpis_cert.proofs.Common.{greatest_count, number_margin, Kind, Piece, Flat}
 use Rattle.lpis_cert.proofs.Common.{Parcel, Pairs, Pair, End, Corners, Line, PieceLine, TriangleLine, FlatLine, ParcelLine, PairsLine, PairLine, EndLine}
-use Rattle.lpis_cert.proofs.Common.{words_of, spelling, CornersFit, LineFits}
-use Rattle.lpis_cert.proofs.Common.{is_gap, is_empty, words, is_lf, lines, line_kind}
-use Rattle.std.proofs.lemmas.Int.{ints}
+use Rattle.lpis_cert.proofs.Common.{words_of, spelling, CoordinateFits, CornersFit, LineFits}
+use Rattle.lpis_cert.proofs.Common.{is_gap, is_empty, words, is_lf, lines, line_kind, first_line}
 use Rattle.std.proofs.lemmas.Fmt.{decimal_is_IsNumeral}
 use Rattle.std.proofs.lemmas.Str.Parse.{digit_from_value}
 use Rattle.std.specs.List.{slice_split, list_all}
 use Rattle.std.specs.Str.Parse.{AllDigits}
 use Rattle.lpis_covers.specs.Ids.{is_id_byte}
-use Rattle.lpis_points.specs.Range.{limit}
 use Rattle.lpis_cert.specs.declared.kind.Kind.TheVariants.{Triangle}
-use Rattle.lpis_cert.specs.CertText.{corner_words}
+use Rattle.lpis_cert.specs.declared.version.Version.TheVariants.{One, Two}
+use Rattle.lpis_cert.specs.CertText.{coordinate_word, corner_words}
+use Rattle.lpis_cert.specs.Versions.{greatest, units}
+use Rattle.lpis_cert.proofs.NumberLemmas.{greatest_small}
 
 -- ---- bytes of words
 
@@ -35,18 +36,15 @@ not-empty : (w : List ℕ) → 0 < length w → is_empty w ≡ false
 not-empty [] h = absurd (omega arith)
 not-empty (b ∷ bs) h = refl
 
-pub decimal_word : (n : ℕ) → n ≤ number_margin → IsWordText (decimal n)
+decimal_word : (n : ℕ) → n ≤ number_margin → IsWordText (decimal n)
 decimal_word n le = let d = decimal_is_IsNumeral n (omega arith) in record { some = not-empty (decimal n) d.0.0; plain = digits_plain (decimal n) d.0.1 }
 
-pub signed_word : (z : ℤ) → IsInRange z → IsWordText (signed_decimal z)
-signed_word (pos n) fits = decimal_word n (below n fits.1)
-  where
-    below : (n : ℕ) → pos n ≤ℤ limit → n ≤ number_margin
-    below n h = omega (arith, ints)
-signed_word (negsuc n) fits = let d = decimal_word (suc n) (below n fits.0) in record { some = refl; plain = ((refl, refl), d.plain) }
-  where
-    below : (n : ℕ) → neg_ℤ limit ≤ℤ negsuc n → suc n ≤ number_margin
-    below n h = omega (arith, ints)
+signed_word : (z : ℤ) → nat_abs z ≤ number_margin → IsWordText (signed_decimal z)
+signed_word (pos n) le = decimal_word n le
+signed_word (negsuc n) le = let d = decimal_word (suc n) le in record { some = refl; plain = ((refl, refl), d.plain) }
+
+written_word : (v : Version) (z : ℤ) → CoordinateFits v z → IsWordText (coordinate_word v z)
+written_word v z fits = let small = greatest_small v in let few = fits.few in signed_word (units v z) (omega arith)
 
 id_plain : (bs : List ℕ) → list_all is_id_byte bs ≡ true → IsPlain bs
 id_plain [] h = tt
@@ -106,37 +104,40 @@ kind_word Pairs = codes "pairs"
 kind_word Pair = codes "s"
 kind_word End = codes "end"
 
-abbrev pub fields : Line → List (List ℕ)
-fields (PieceLine id t f) = id ∷ decimal t ∷ decimal f ∷ []
-fields (TriangleLine c) = corner_words c
-fields (FlatLine c) = corner_words c
-fields (ParcelLine id f) = id ∷ decimal f ∷ []
-fields (PairsLine n) = decimal n ∷ []
-fields (PairLine p) = decimal p.i ∷ decimal p.j ∷ decimal p.k ∷ []
-fields EndLine = []
+abbrev pub fields : Version → Line → List (List ℕ)
+fields v (PieceLine id t f) = id ∷ decimal t ∷ decimal f ∷ []
+fields v (TriangleLine c) = corner_words v c
+fields v (FlatLine c) = corner_words v c
+fields v (ParcelLine id f) = id ∷ decimal f ∷ []
+fields v (PairsLine n) = decimal n ∷ []
+fields v (PairLine p) = decimal p.i ∷ decimal p.j ∷ decimal p.k ∷ []
+fields v EndLine = []
 
-pub words_are : (l : Line) → words_of l ≡ kind_word (line_kind l) ∷ fields l
+pub words_are : (v : Version) (l : Line) → words_of v l ≡ kind_word (line_kind l) ∷ fields v l
 unfolding words_of
-words_are EndLine = refl
-words_are _ = refl
+words_are v EndLine = refl
+words_are v _ = refl
 
-pub corner_fields : (c : Corners) → CornersFit c → AllByRecursion IsWordText (corner_words c)
-corner_fields c fits = (
-  signed_word c.x1 fits.x1,
-  (signed_word c.y1 fits.y1, (signed_word c.x2 fits.x2, (signed_word c.y2 fits.y2, (signed_word c.x3 fits.x3, (signed_word c.y3 fits.y3, tt))))),
+corner_fields : (v : Version) (c : Corners) → CornersFit v c → AllByRecursion IsWordText (corner_words v c)
+corner_fields v c fits = (
+  written_word v c.x1 fits.x1,
+  (
+    written_word v c.y1 fits.y1,
+    (written_word v c.x2 fits.x2, (written_word v c.y2 fits.y2, (written_word v c.x3 fits.x3, (written_word v c.y3 fits.y3, tt)))),
+  ),
 )
 
 count_word : (n : ℕ) → n ≤ greatest_count → IsWordText (decimal n)
 count_word n le = decimal_word n (omega arith)
 
-pub field_words : (l : Line) → LineFits l → AllByRecursion IsWordText (fields l)
-field_words (PieceLine id t f) fits = (id_word id fits.0, (count_word t fits.1, (count_word f fits.2, tt)))
-field_words (TriangleLine c) fits = corner_fields c fits
-field_words (FlatLine c) fits = corner_fields c fits
-field_words (ParcelLine id f) fits = (id_word id fits.0, (count_word f fits.1, tt))
-field_words (PairsLine n) fits = (count_word n fits, tt)
-field_words (PairLine p) fits = (count_word p.i fits.i, (count_word p.j fits.j, (decimal_word p.k (omega (arith, fits.k)), tt)))
-field_words EndLine fits = tt
+pub field_words : (v : Version) (l : Line) → LineFits v l → AllByRecursion IsWordText (fields v l)
+field_words v (PieceLine id t f) fits = (id_word id fits.0, (count_word t fits.1, (count_word f fits.2, tt)))
+field_words v (TriangleLine c) fits = corner_fields v c fits
+field_words v (FlatLine c) fits = corner_fields v c fits
+field_words v (ParcelLine id f) fits = (id_word id fits.0, (count_word f fits.1, tt))
+field_words v (PairsLine n) fits = (count_word n fits, tt)
+field_words v (PairLine p) fits = (count_word p.i fits.i, (count_word p.j fits.j, (decimal_word p.k (omega (arith, fits.k)), tt)))
+field_words v EndLine fits = tt
 
 plain_codes : (w : List ℕ) → list_all (λ b. not (is_gap b) && not (is_lf b)) w ≡ true → IsPlain w
 plain_codes [] h = tt
@@ -158,14 +159,19 @@ kind_plain Pairs = plain_codes (codes "pairs") refl
 kind_plain Pair = plain_codes (codes "s") refl
 kind_plain End = plain_codes (codes "end") refl
 
-pub spelling_words : (l : Line) → LineFits l → words (spelling l) ≡ kind_word (line_kind l) ∷ fields l
+pub spelling_words : (v : Version) (l : Line) → LineFits v l → words (spelling v l) ≡ kind_word (line_kind l) ∷ fields v l
 unfolding spelling
-spelling_words l fits = grind (arith, words_are, words_again, kind_word, kind_plain, field_words)
+spelling_words v l fits = grind (arith, words_are, words_again, kind_word, kind_plain, field_words)
 
-pub spelling_ends : (l : Line) → LineFits l → AllByRecursion (λ b. is_lf b ≡ false) (spelling l)
+spelling_ends : (v : Version) (l : Line) → LineFits v l → AllByRecursion (λ b. is_lf b ≡ false) (spelling v l)
 unfolding spelling
-spelling_ends l fits = grind (arith, words_are, ends_joined, kind_word, kind_plain, field_words)
+spelling_ends v l fits = grind (arith, words_are, ends_joined, kind_word, kind_plain, field_words)
 
 -- the lines of a text that begins with a line
-pub lines_from : (l : Line) (rest : List ℕ) → LineFits l → lines (spelling l ++ (10 ∷ rest)) ≡ spelling l ∷ lines rest
-lines_from l rest fits = part is_lf (spelling l) rest (spelling_ends l fits) 10 refl
+pub lines_from : (v : Version) (l : Line) (rest : List ℕ) → LineFits v l → lines (spelling v l ++ (10 ∷ rest)) ≡ spelling v l ∷ lines rest
+lines_from v l rest fits = part is_lf (spelling v l) rest (spelling_ends v l fits) 10 refl
+
+-- the lines of a text that begins with a version's first line
+pub lines_named : (v : Version) (rest : List ℕ) → lines (first_line v ++ (10 ∷ rest)) ≡ first_line v ∷ lines rest
+lines_named One rest = refl
+lines_named Two rest = refl

@@ -2,18 +2,18 @@
 use Rattle.std.proofs.Common.{arith}
 use Rattle.std.proofs.Common.{◌≡◌, ℕ, List, [], ◌∷◌, ◌++◌, length, map, refl, sym, ap, ap₂, ◌∙◌, flat_map}
 use Rattle.lpis_cert.proofs.Common.{length-map, PiecePart, ParcelPart, Cert, Line, PieceLine, ParcelLine, PairsLine, TriangleLine, FlatLine, EndLine, text_of}
-use Rattle.lpis_cert.proofs.Common.{text_of_lines}
+use Rattle.lpis_cert.proofs.Common.{text_of_lines, written}
 use Rattle.lpis_cert.proofs.Common.{lines_of, piece_lines, parcel_lines, end_lines, corner_numbers, all_corners, piece_of, parcel_of, separator_of, content_of}
 use Rattle.std.proofs.lemmas.List.Concat.{flat_map-cons}
 use Rattle.lpis_cert.specs.CertText.{PairLine as separator_line}
 use Rattle.lpis_cert.specs.private.Written.{line_text, piece_text, parcel_text, pairs_text, version_text, parts_text}
 use Rattle.lpis_cert.proofs.StepLemmas.{text-append}
 
-one_line : (l : Line) (ls : List Line) → line_text l ++ text_of_lines ls ≡ text_of_lines (l ∷ ls)
+one_line : (l : Line) (ls : List Line) → line_text l ++ text_of_lines written ls ≡ text_of_lines written (l ∷ ls)
 unfolding line_text
-one_line l ls = sym (text-append (l ∷ []) ls)
+one_line l ls = sym (text-append written (l ∷ []) ls)
 
-many : {A : Type 0} (f : A → Line) (xs : List A) → flat_map (λ x. line_text (f x)) xs ≡ text_of_lines (map f xs)
+many : {A : Type 0} (f : A → Line) (xs : List A) → flat_map (λ x. line_text (f x)) xs ≡ text_of_lines written (map f xs)
 unfolding text_of_lines
 many f [] = refl
 many f (x ∷ xs) = flat_map-cons (λ x. line_text (f x)) x xs ∙ ap (λ (t : List ℕ). line_text (f x) ++ t) (many f xs) ∙ one_line (f x) (map f xs)
@@ -22,49 +22,49 @@ map-map : {A B C : Type 0} (f : A → B) (g : B → C) (xs : List A) → map (λ
 map-map f g [] = refl
 map-map f g (x ∷ xs) = ap (λ (t : List _). g (f x) ∷ t) (map-map f g xs)
 
-piece_is : (p : PiecePart) → piece_text p ≡ text_of_lines (piece_lines (piece_of p))
+piece_is : (p : PiecePart) → piece_text p ≡ text_of_lines written (piece_lines (piece_of p))
 piece_is p =
-    let ts = many (λ t. TriangleLine (corner_numbers t)) p.triangles ∙ ap text_of_lines (map-map corner_numbers TriangleLine p.triangles) in
-    let fs = many (λ t. FlatLine (corner_numbers t)) p.flats ∙ ap text_of_lines (map-map corner_numbers FlatLine p.flats) in
+    let ts = many (λ t. TriangleLine (corner_numbers t)) p.triangles ∙ ap (text_of_lines written) (map-map corner_numbers TriangleLine p.triangles) in
+    let fs = many (λ t. FlatLine (corner_numbers t)) p.flats ∙ ap (text_of_lines written) (map-map corner_numbers FlatLine p.flats) in
     let n = length-map p.triangles corner_numbers in
     let m = length-map p.flats corner_numbers in
     ap₂ (λ (a b : List ℕ). line_text (PieceLine p.id (length p.triangles) (length p.flats)) ++ (a ++ b)) ts fs
     ∙ ap (λ (t : List ℕ). line_text (PieceLine p.id (length p.triangles) (length p.flats)) ++ t)
-    (sym (text-append (map TriangleLine (all_corners p.triangles)) (map FlatLine (all_corners p.flats))))
+    (sym (text-append written (map TriangleLine (all_corners p.triangles)) (map FlatLine (all_corners p.flats))))
     ∙ one_line (PieceLine p.id (length p.triangles) (length p.flats)) (map TriangleLine (all_corners p.triangles) ++ map FlatLine (all_corners p.flats))
-    ∙ ap₂ (λ (i j : ℕ). text_of_lines (PieceLine p.id i j ∷ (map TriangleLine (all_corners p.triangles) ++ map FlatLine (all_corners p.flats)))) (sym n) (sym m)
+    ∙ ap₂ (λ (i j : ℕ). text_of_lines written (PieceLine p.id i j ∷ (map TriangleLine (all_corners p.triangles) ++ map FlatLine (all_corners p.flats)))) (sym n) (sym m)
 
-parcel_is : (p : ParcelPart) → parcel_text p ≡ text_of_lines (parcel_lines (parcel_of p))
+parcel_is : (p : ParcelPart) → parcel_text p ≡ text_of_lines written (parcel_lines (parcel_of p))
 parcel_is p =
-    let fs = many (λ t. FlatLine (corner_numbers t)) p.flats ∙ ap text_of_lines (map-map corner_numbers FlatLine p.flats) in
+    let fs = many (λ t. FlatLine (corner_numbers t)) p.flats ∙ ap (text_of_lines written) (map-map corner_numbers FlatLine p.flats) in
     let m = length-map p.flats corner_numbers in
     ap (λ (t : List ℕ). line_text (ParcelLine p.id (length p.flats)) ++ t) fs
     ∙ one_line (ParcelLine p.id (length p.flats)) (map FlatLine (all_corners p.flats))
-    ∙ ap (λ (j : ℕ). text_of_lines (ParcelLine p.id j ∷ map FlatLine (all_corners p.flats))) (sym m)
+    ∙ ap (λ (j : ℕ). text_of_lines written (ParcelLine p.id j ∷ map FlatLine (all_corners p.flats))) (sym m)
 
 blocks_are : {A B : Type 0} (text : A → List ℕ) (view : A → B) (ls : B → List Line)
-    → ((x : A) → text x ≡ text_of_lines (ls (view x))) → (xs : List A) → flat_map text xs ≡ text_of_lines
+    → ((x : A) → text x ≡ text_of_lines written (ls (view x))) → (xs : List A) → flat_map text xs ≡ text_of_lines written
     (flat_map ls (map view xs))
 unfolding text_of_lines
 blocks_are text view ls h [] = refl
 blocks_are text view ls h (x ∷ xs) = grind (arith, blocks_are text view ls h xs, flat_map-cons, text-append)
 
-end_line : line_text EndLine ≡ text_of_lines (EndLine ∷ [])
+end_line : line_text EndLine ≡ text_of_lines written (EndLine ∷ [])
 unfolding line_text
 end_line = refl
 
-last_line : (ls : List Line) → text_of_lines ls ++ line_text EndLine ≡ text_of_lines (ls ++ (EndLine ∷ []))
-last_line ls = cc (end_line, text-append ls (EndLine ∷ []))
+last_line : (ls : List Line) → text_of_lines written ls ++ line_text EndLine ≡ text_of_lines written (ls ++ (EndLine ∷ []))
+last_line ls = cc (end_line, text-append written ls (EndLine ∷ []))
 
-end_is : (c : Cert) → line_text (PairsLine (length c.pairs)) ++ (pairs_text c.pairs ++ line_text EndLine) ≡ text_of_lines (end_lines (map separator_of c.pairs))
+end_is : (c : Cert) → line_text (PairsLine (length c.pairs)) ++ (pairs_text c.pairs ++ line_text EndLine) ≡ text_of_lines written (end_lines (map separator_of c.pairs))
 end_is c =
-    let ps = many (λ p. separator_line (separator_of p)) c.pairs ∙ ap text_of_lines (map-map separator_of separator_line c.pairs) in
+    let ps = many (λ p. separator_line (separator_of p)) c.pairs ∙ ap (text_of_lines written) (map-map separator_of separator_line c.pairs) in
     let n = length-map c.pairs separator_of in
     ap (λ (t : List ℕ). line_text (PairsLine (length c.pairs)) ++ (t ++ line_text EndLine)) ps
     ∙ ap (λ (t : List ℕ). line_text (PairsLine (length c.pairs)) ++ t) (last_line (map separator_line (map separator_of c.pairs)))
     ∙ one_line (PairsLine (length c.pairs)) (map separator_line (map separator_of c.pairs) ++ (EndLine ∷ []))
-    ∙ ap (λ (i : ℕ). text_of_lines (PairsLine i ∷ (map separator_line (map separator_of c.pairs) ++ (EndLine ∷ [])))) (sym n)
+    ∙ ap (λ (i : ℕ). text_of_lines written (PairsLine i ∷ (map separator_line (map separator_of c.pairs) ++ (EndLine ∷ [])))) (sym n)
 
-pub parts_text_is : (c : Cert) → parts_text c ≡ text_of (content_of c)
+pub parts_text_is : (c : Cert) → parts_text c ≡ text_of written (content_of c)
 unfolding version_text text_of lines_of
 parts_text_is c = grind (arith, blocks_are, piece_is, parcel_is, end_is, text-append)

@@ -1,10 +1,11 @@
--- The certificate text, by a certificate's content.
+-- The text of a version, by a certificate's content.
 use Rattle.std.specs.Prelude.{ℕ, ℤ, List, [], ◌∷◌, ◌++◌, length, map, codes}
 use Rattle.std.specs.List.{flat_map, join_with_byte}
 use Rattle.std.specs.Fmt.{decimal, signed_decimal}
-use Rattle.lpis_cert.specs.Versions.{first_line, written}
+use Rattle.lpis_cert.specs.declared.version.Version.{Version}
+use Rattle.lpis_cert.specs.Versions.{first_line, units}
 
--- a triangle or a flat, by its coordinates
+-- a triangle or a flat, by its coordinates in millimetres
 pub record Corners : Type 0 where
   pub x1 : ℤ
   pub y1 : ℤ
@@ -43,27 +44,31 @@ pub data Line : Type 0 where
   PairLine : Separator → Line
   EndLine : Line
 
-abbrev pub corner_words : Corners → List (List ℕ)
-corner_words c = signed_decimal c.x1 ∷ signed_decimal c.y1 ∷ signed_decimal c.x2 ∷ signed_decimal
-    c.y2 ∷ signed_decimal c.x3 ∷ signed_decimal c.y3 ∷ []
+-- a coordinate, in the version's unit
+abbrev pub coordinate_word : Version → ℤ → List ℕ
+coordinate_word v z = signed_decimal (units v z)
 
-unfoldable pub words_of : Line → List (List ℕ)
-words_of (PieceLine id t f) = codes "piece" ∷ id ∷ decimal t ∷ decimal f ∷ []
-words_of (TriangleLine c) = codes "t" ∷ corner_words c
-words_of (FlatLine c) = codes "f" ∷ corner_words c
-words_of (ParcelLine id f) = codes "parcel" ∷ id ∷ decimal f ∷ []
-words_of (PairsLine n) = codes "pairs" ∷ decimal n ∷ []
-words_of (PairLine p) = codes "s" ∷ decimal p.i ∷ decimal p.j ∷ decimal p.k ∷ []
-words_of EndLine = codes "end" ∷ []
+abbrev pub corner_words : Version → Corners → List (List ℕ)
+corner_words v c = coordinate_word v c.x1 ∷ coordinate_word v c.y1 ∷ coordinate_word v c.x2
+    ∷ coordinate_word v c.y2 ∷ coordinate_word v c.x3 ∷ coordinate_word v c.y3 ∷ []
+
+unfoldable pub words_of : Version → Line → List (List ℕ)
+words_of v (PieceLine id t f) = codes "piece" ∷ id ∷ decimal t ∷ decimal f ∷ []
+words_of v (TriangleLine c) = codes "t" ∷ corner_words v c
+words_of v (FlatLine c) = codes "f" ∷ corner_words v c
+words_of v (ParcelLine id f) = codes "parcel" ∷ id ∷ decimal f ∷ []
+words_of v (PairsLine n) = codes "pairs" ∷ decimal n ∷ []
+words_of v (PairLine p) = codes "s" ∷ decimal p.i ∷ decimal p.j ∷ decimal p.k ∷ []
+words_of v EndLine = codes "end" ∷ []
 
 -- its words, one space between each two
-unfoldable pub spelling : Line → List ℕ
-spelling l = join_with_byte 32 (words_of l)
+unfoldable pub spelling : Version → Line → List ℕ
+spelling v l = join_with_byte 32 (words_of v l)
 
 -- each line ends with one line end
-unfoldable pub text_of_lines : List Line → List ℕ
-text_of_lines [] = []
-text_of_lines (l ∷ ls) = spelling l ++ (10 ∷ text_of_lines ls)
+unfoldable pub text_of_lines : Version → List Line → List ℕ
+text_of_lines v [] = []
+text_of_lines v (l ∷ ls) = spelling v l ++ (10 ∷ text_of_lines v ls)
 
 abbrev pub piece_lines : PieceBlock → List Line
 piece_lines p = PieceLine p.id (length p.triangles) (length p.flats) ∷ (map TriangleLine p.triangles
@@ -79,5 +84,5 @@ end_lines ps = PairsLine (length ps) ∷ (map PairLine ps ++ (EndLine ∷ []))
 unfoldable pub lines_of : Content → List Line
 lines_of c = flat_map piece_lines c.pieces ++ (flat_map parcel_lines c.parcels ++ end_lines c.pairs)
 
-unfoldable pub text_of : Content → List ℕ
-text_of c = first_line written ++ (10 ∷ text_of_lines (lines_of c))
+unfoldable pub text_of : Version → Content → List ℕ
+text_of v c = first_line v ++ (10 ∷ text_of_lines v (lines_of c))

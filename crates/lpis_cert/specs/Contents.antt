@@ -1,11 +1,16 @@
 -- A certificate by its plain content: identifiers, numbers of corners and counts.
-use Rattle.std.specs.Prelude.{ℕ, List, map}
+use Rattle.std.specs.Prelude.{ℕ, ◌≡◌, List, map}
+use Rattle.std.specs.List.{AllByRecursion}
 use Rattle.lpis_points.specs.declared.triangle.Triangle.{Triangle}
 use Rattle.lpis_cert.specs.declared.part.PiecePart.{PiecePart}
 use Rattle.lpis_cert.specs.declared.part.ParcelPart.{ParcelPart}
 use Rattle.lpis_cert.specs.declared.part.PairLine.{PairLine}
 use Rattle.lpis_cert.specs.declared.cert.Cert.{Cert}
+use Rattle.lpis_cert.specs.declared.version.Version.{Version}
+use Rattle.lpis_cert.specs.Versions.{written}
 use Rattle.lpis_cert.specs.CertText.{Corners, PieceBlock, ParcelBlock, Separator, Content, text_of}
+use Rattle.lpis_cert.specs.CertText.{lines_of}
+use Rattle.lpis_cert.specs.Fitting.{LineFits}
 
 abbrev pub corner_numbers : Triangle → Corners
 corner_numbers t = record { x1 = t.a.x; y1 = t.a.y; x2 = t.b.x; y2 = t.b.y; x3 = t.c.x; y3 = t.c.y }
@@ -29,6 +34,15 @@ content_of c = record {
   pairs = map separator_of c.pairs;
 }
 
--- the text of a certificate
+-- a text of a version: each line of the certificate has a text in it, and these are they
+pub record IsTextOf (v : Version) (c : Cert) (text : List ℕ) : Type 0 where
+  pub fits : AllByRecursion (LineFits v) (lines_of (content_of c))
+  pub is : text ≡ text_of v (content_of c)
+
+-- a text of one version or another
+abbrev pub IsCertText : List ℕ → Cert → Type 0
+IsCertText text c = (v : Version) × IsTextOf v c text
+
+-- the text of a certificate as it is written
 abbrev pub cert_text : Cert → List ℕ
-cert_text c = text_of (content_of c)
+cert_text c = text_of written (content_of c)

@@ -1,18 +1,24 @@
--- Which lines have a text.
-use Rattle.std.specs.Prelude.{◌≤◌, ◌≡◌, true}
-use Rattle.lpis_points.specs.Range.{IsInRange}
+-- Which lines have a text in a version.
+use Rattle.std.specs.Prelude.{ℤ, nat_abs, ◌*◌, ◌≤◌, ◌≡◌, true}
 use Rattle.lpis_covers.specs.Ids.{is_id}
+use Rattle.lpis_cert.specs.declared.version.Version.{Version}
+use Rattle.lpis_cert.specs.Versions.{greatest, factor, units}
 use Rattle.lpis_cert.specs.Limits.{greatest_count, last_edge}
 use Rattle.lpis_cert.specs.CertText.{Corners, Separator, Line, PieceLine, TriangleLine, FlatLine}
 use Rattle.lpis_cert.specs.CertText.{ParcelLine, PairsLine, PairLine, EndLine}
 
-pub record CornersFit (c : Corners) : Type 0 where
-  pub x1 : IsInRange c.x1
-  pub y1 : IsInRange c.y1
-  pub x2 : IsInRange c.x2
-  pub y2 : IsInRange c.y2
-  pub x3 : IsInRange c.x3
-  pub y3 : IsInRange c.y3
+-- a whole number of the version's units, in its range
+pub record CoordinateFits (v : Version) (z : ℤ) : Type 0 where
+  pub whole : nat_abs z ≡ nat_abs (units v z) * factor v
+  pub few : nat_abs (units v z) ≤ greatest v
+
+pub record CornersFit (v : Version) (c : Corners) : Type 0 where
+  pub x1 : CoordinateFits v c.x1
+  pub y1 : CoordinateFits v c.y1
+  pub x2 : CoordinateFits v c.x2
+  pub y2 : CoordinateFits v c.y2
+  pub x3 : CoordinateFits v c.x3
+  pub y3 : CoordinateFits v c.y3
 
 pub record SeparatorFits (p : Separator) : Type 0 where
   pub i : p.i ≤ greatest_count
@@ -20,11 +26,11 @@ pub record SeparatorFits (p : Separator) : Type 0 where
   pub k : p.k ≤ last_edge
 
 -- a line that has a text
-abbrev pub LineFits : Line → Type 0
-LineFits (PieceLine id t f) = (is_id id ≡ true) × (t ≤ greatest_count) × (f ≤ greatest_count)
-LineFits (TriangleLine c) = CornersFit c
-LineFits (FlatLine c) = CornersFit c
-LineFits (ParcelLine id f) = (is_id id ≡ true) × (f ≤ greatest_count)
-LineFits (PairsLine n) = n ≤ greatest_count
-LineFits (PairLine p) = SeparatorFits p
-LineFits EndLine = Unit {0}
+abbrev pub LineFits : Version → Line → Type 0
+LineFits v (PieceLine id t f) = (is_id id ≡ true) × (t ≤ greatest_count) × (f ≤ greatest_count)
+LineFits v (TriangleLine c) = CornersFit v c
+LineFits v (FlatLine c) = CornersFit v c
+LineFits v (ParcelLine id f) = (is_id id ≡ true) × (f ≤ greatest_count)
+LineFits v (PairsLine n) = n ≤ greatest_count
+LineFits v (PairLine p) = SeparatorFits p
+LineFits v EndLine = Unit {0}

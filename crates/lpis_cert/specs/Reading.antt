@@ -56,7 +56,7 @@ abbrev pub plus : Version → Option ℕ → Option ℤ
 plus v None = None
 plus v (Some n) = Some (pos (n * factor v))
 
--- the same, or `-` and digits that don't begin with 0, in centimetres
+-- the same in a version's unit, or `-` and digits that don't begin with 0: in millimetres
 unfoldable pub coordinate : Version → List ℕ → Option ℤ
 coordinate v [] = None
 coordinate v (d ∷ ds) = cond (d == 45) (minus v (number (greatest v) ds))

@@ -76,15 +76,15 @@ fn piece_block<'a>(
     start: Rest<'a>,
     after: Rest<'a>,
 ) -> Result<(Draft, Rest<'a>), CertFault>
-    requires begins { ReadsLines start.text.now start.line
+    requires begins { ReadsLines draft.version start.text.now start.line
         (PieceLine id triangle_count flat_count ∷ [])
         after.text.now after.line }
     requires named { is_id id ≡ true }
     requires fresh { draft.stage ≡ stage.Pieces }
     ensures ok { IfOk result (λ x. DraftGrown draft x.0 start.entry.text.now start.entry.line
         x.1.text.now x.1.line) }
-    ensures err { IfErr result (λ e. FaultFrom e start.entry.line (draft_state draft)
-        start.entry.text.now) }
+    ensures err { IfErr result (λ e. FaultFrom draft.version e start.entry.line
+        (draft_state draft) start.entry.text.now) }
 {
     let Draft {
         mut pieces,
@@ -92,6 +92,7 @@ fn piece_block<'a>(
         stage,
         triangles,
         flats,
+        version,
     } = draft;
     let all_triangles = triangles + triangle_count as u64;
     let all_flats = flats + flat_count as u64;
@@ -101,8 +102,8 @@ fn piece_block<'a>(
             line: start.line,
         });
     }
-    let (own_triangles, middle) = corner_lines(alloc, false, triangle_count, after)?;
-    let (own_flats, rest) = corner_lines(alloc, true, flat_count, middle)?;
+    let (own_triangles, middle) = corner_lines(alloc, version, false, triangle_count, after)?;
+    let (own_flats, rest) = corner_lines(alloc, version, true, flat_count, middle)?;
     pieces.push(piece_part(id, own_triangles, own_flats))?;
     let grown = Draft {
         pieces,
@@ -110,6 +111,7 @@ fn piece_block<'a>(
         stage,
         triangles: all_triangles,
         flats: all_flats,
+        version,
     };
     Ok((grown, rest))
 }
@@ -123,13 +125,13 @@ fn parcel_block<'a>(
     start: Rest<'a>,
     after: Rest<'a>,
 ) -> Result<(Draft, Rest<'a>), CertFault>
-    requires begins { ReadsLines start.text.now start.line (ParcelLine id flat_count ∷ [])
-        after.text.now after.line }
+    requires begins { ReadsLines draft.version start.text.now start.line
+        (ParcelLine id flat_count ∷ []) after.text.now after.line }
     requires named { is_id id ≡ true }
     ensures ok { IfOk result (λ x. DraftGrown draft x.0 start.entry.text.now start.entry.line
         x.1.text.now x.1.line) }
-    ensures err { IfErr result (λ e. FaultFrom e start.entry.line (draft_state draft)
-        start.entry.text.now) }
+    ensures err { IfErr result (λ e. FaultFrom draft.version e start.entry.line
+        (draft_state draft) start.entry.text.now) }
 {
     let Draft {
         pieces,
@@ -137,6 +139,7 @@ fn parcel_block<'a>(
         stage: _,
         triangles,
         flats,
+        version,
     } = draft;
     let all_flats = flats + flat_count as u64;
     if all_flats > MOST_FLATS {
@@ -145,7 +148,7 @@ fn parcel_block<'a>(
             line: start.line,
         });
     }
-    let (own_flats, rest) = corner_lines(alloc, true, flat_count, after)?;
+    let (own_flats, rest) = corner_lines(alloc, version, true, flat_count, after)?;
     parcels.push(parcel_part(id, own_flats))?;
     let grown = Draft {
         pieces,
@@ -153,6 +156,7 @@ fn parcel_block<'a>(
         stage: Stage::Parcels,
         triangles,
         flats: all_flats,
+        version,
     };
     Ok((grown, rest))
 }
@@ -165,12 +169,12 @@ fn finish(
     start: Rest<'_>,
     after: Rest<'_>,
 ) -> Result<Cert, CertFault>
-    requires { ReadsLines start.text.now start.line (PairsLine count ∷ []) after.text.now
-        after.line }
-    ensures ok { IfOk result (λ cert. Whole (draft_lines draft) (lines_of (content_of cert))
-        start.entry.text.now) }
-    ensures err { IfErr result (λ e. FaultFrom e start.entry.line (draft_state draft)
-        start.entry.text.now) }
+    requires { ReadsLines draft.version start.text.now start.line (PairsLine count ∷ [])
+        after.text.now after.line }
+    ensures ok { IfOk result (λ cert. Whole draft.version (draft_lines draft)
+        (lines_of (content_of cert)) start.entry.text.now) }
+    ensures err { IfErr result (λ e. FaultFrom draft.version e start.entry.line
+        (draft_state draft) start.entry.text.now) }
 {
     let (pairs, last) = pair_lines(alloc, count, after)?;
     let rest = end_line(last)?;
@@ -186,6 +190,7 @@ fn finish(
         stage: _,
         triangles: _,
         flats: _,
+        version: _,
     } = draft;
     let pieces = without_spare(pieces)?;
     let parcels = without_spare(parcels)?;
@@ -199,8 +204,8 @@ pub(crate) fn next_block<'a>(
     rest: Rest<'a>,
 ) -> Result<Progress<'a>, CertFault>
     ensures ok { IfOk result (λ t. Progressed draft t rest.entry.text.now rest.entry.line) }
-    ensures err { IfErr result (λ e. FaultFrom e rest.entry.line (draft_state draft)
-        rest.entry.text.now) }
+    ensures err { IfErr result (λ e. FaultFrom draft.version e rest.entry.line
+        (draft_state draft) rest.entry.text.now) }
 {
     let (head, after) = head_at(alloc, draft.stage, rest)?;
     match head {

@@ -8,8 +8,9 @@ use crate::cert::Cert;
 use crate::kind::Stage;
 use crate::part::{ParcelPart, PiecePart};
 use crate::rest::Rest;
+use crate::version::Version;
 
-/// The blocks so far, and how many triangles and flats they have.
+/// The blocks so far, how many triangles and flats they have, and the version of their text.
 #[derive(Drop)]
 pub(crate) struct Draft {
     pub pieces: Vec<PiecePart>,
@@ -17,6 +18,7 @@ pub(crate) struct Draft {
     pub stage: Stage,
     pub triangles: u64,
     pub flats: u64,
+    pub version: Version,
     pub ghost triangles_counted: { triangles ≡ sum_by (λ p. length p.triangles) pieces.items },
     pub ghost flats_counted: { flats ≡ sum_by (λ p. length p.flats) pieces.items + sum_by
         (λ p. length p.flats) parcels.items },

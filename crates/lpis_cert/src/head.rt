@@ -9,6 +9,7 @@ ghost use Rattle.lpis_cert.specs.Reading.{piece_line, parcel_line, pairs_line, c
 ghost use Rattle.lpis_cert.specs.private.Taken.{ReadsLines, LineFault};
 ghost use Rattle.lpis_cert.specs.private.Drafts.{head_line};
 ghost use Rattle.lpis_cert.specs.declared.kind.Expected.TheVariants.{Block};
+ghost use Rattle.lpis_cert.specs.declared.version.Version.{Version};
 
 use crate::fault::{CertCode, CertFault};
 use crate::fields::{GREATEST_COUNT, next_number};
@@ -79,12 +80,12 @@ pub(crate) fn head_at(
     stage: Stage,
     rest: Rest<'_>,
 ) -> Result<(Head, Rest<'_>), CertFault>
-    ensures ok { IfOk result (λ x. ReadsLines rest.entry.text.now rest.entry.line
+    ensures ok { IfOk result (λ x. (v : Version) → ReadsLines v rest.entry.text.now rest.entry.line
         (head_line x.0 ∷ []) x.1.text.now x.1.line) }
-    ensures fits { IfOk result (λ x. LineFits (head_line x.0)) }
+    ensures fits { IfOk result (λ x. (v : Version) → LineFits v (head_line x.0)) }
     ensures stands { IfOk result (λ x. can_stand (Block stage) (line_kind (head_line x.0)) ≡ true) }
-    ensures err { IfErr result
-        (λ e. LineFault e rest.entry.line (Block stage) rest.entry.text.now) }
+    ensures err { IfErr result (λ e. (v : Version)
+        → LineFault v e rest.entry.line (Block stage) rest.entry.text.now) }
 {
     let (kind, words, after) = placed_line(Expected::Block(stage), rest)?;
     let line = rest.line;

@@ -1,4 +1,4 @@
-//! Certificates and their text.
+//! Certificates and their texts.
 #![tactic(auto)]
 
 mod blocks;
@@ -24,8 +24,8 @@ pub use cert::{Cert, MOST_FLATS, MOST_TRIANGLES};
 pub use fault::{CertCode, CertFault};
 pub use fields::GREATEST_COUNT;
 pub use laws::{
-    canonical_numbers, cut_texts, one_value_a_text, spelled_lines, texts_have_no_fault,
-    texts_without_fault,
+    canonical_numbers, cut_texts, one_text_a_value, one_value_a_text, spelled_lines,
+    texts_have_no_fault, texts_without_fault,
 };
 pub use part::{PairLine, ParcelPart, PiecePart};
 pub use reading::read_cert;

@@ -6,6 +6,7 @@ ghost use Rattle.lpis_cert.specs.CertText.{PairLine as separator_line, EndLine};
 ghost use Rattle.lpis_cert.specs.declared.kind.Expected.TheVariants.{One};
 ghost use Rattle.lpis_cert.specs.declared.kind.Kind.TheVariants as kind;
 ghost use Rattle.lpis_cert.specs.declared.kind.Stage.{Stage};
+ghost use Rattle.lpis_cert.specs.declared.version.Version.{Version as TextVersion};
 ghost use Rattle.lpis_cert.specs.Faults.{Declared, InPairs};
 ghost use Rattle.lpis_cert.specs.private.Taken.{Placed, LineFault, ReadsLines, FaultFrom};
 ghost use Rattle.lpis_cert.specs.private.Taken.{corner_kind as kind_of_corners};
@@ -31,7 +32,8 @@ pub(crate) fn placed_line(
     rest: Rest<'_>,
 ) -> Result<(Kind, Words<'_>, Rest<'_>), CertFault>
     ensures { MatchResult result (λ x. Placed expected rest.entry.text.now rest.entry.line x.0 x.1
-        x.2.text.now x.2.line) (λ e. LineFault e rest.entry.line expected rest.entry.text.now) }
+        x.2.text.now x.2.line)
+        (λ e. (v : TextVersion) → LineFault v e rest.entry.line expected rest.entry.text.now) }
 {
     let Some((line, after)) = front_line(rest) else {
         return Err(CertFault::At {
@@ -55,13 +57,18 @@ fn corner_kind(flat: bool) -> Kind
 }
 
 /// A triangle line or a flat line.
-pub(crate) fn corner_line(flat: bool, rest: Rest<'_>) -> Result<(Triangle, Rest<'_>), CertFault>
+pub(crate) fn corner_line(
+    version: Version,
+    flat: bool,
+    rest: Rest<'_>,
+) -> Result<(Triangle, Rest<'_>), CertFault>
     ensures { MatchResult result
-        (λ x. ReadsLines rest.entry.text.now rest.entry.line
+        (λ x. ReadsLines version rest.entry.text.now rest.entry.line
         (line_of_corners flat (corner_numbers x.0) ∷ []) x.1.text.now x.1.line)
-        (λ e. LineFault e rest.entry.line (One (kind_of_corners flat)) rest.entry.text.now) }
+        (λ e. LineFault version e rest.entry.line (One (kind_of_corners flat))
+        rest.entry.text.now) }
 {
-    if let Some((triangle, text)) = leading_corners(flat, rest.text) {
+    if let Some((triangle, text)) = leading_corners(version, flat, rest.text) {
         let after = Rest {
             text,
             line: rest.line + 1,
@@ -69,7 +76,7 @@ pub(crate) fn corner_line(flat: bool, rest: Rest<'_>) -> Result<(Triangle, Rest<
         return Ok((triangle, after));
     }
     let (_, words, after) = placed_line(Expected::One(corner_kind(flat)), rest)?;
-    match corners(Version::One, words) {
+    match corners(version, words) {
         Some(triangle) => Ok((triangle, after)),
         None => Err(CertFault::At {
             code: CertCode::Number,
@@ -81,21 +88,22 @@ pub(crate) fn corner_line(flat: bool, rest: Rest<'_>) -> Result<(Triangle, Rest<
 /// So many triangle lines or flat lines.
 pub(crate) fn corner_lines(
     alloc: Global,
+    version: Version,
     flat: bool,
     count: u32,
     rest: Rest<'_>,
 ) -> Result<(Vec<Triangle>, Rest<'_>), CertFault>
     ensures ok { IfOk result
-        (λ x. ReadsLines rest.entry.text.now rest.entry.line
+        (λ x. ReadsLines version rest.entry.text.now rest.entry.line
         (map (line_of_corners flat) (all_corners x.0.items)) x.1.text.now x.1.line) }
     ensures count { IfOk result (λ x. length x.0.items ≡ count) }
     ensures err { IfErr result (λ e. (s : Stage) (f : ℕ) (d : Declared)
-        → FaultFrom e rest.entry.line (wanting flat count s f d) rest.entry.text.now) }
+        → FaultFrom version e rest.entry.line (wanting flat count s f d) rest.entry.text.now) }
 {
     let mut triangles = Vec::new(alloc);
     let mut left = rest;
     for _ in 0..count {
-        let (triangle, after) = corner_line(flat, left)?;
+        let (triangle, after) = corner_line(version, flat, left)?;
         triangles.push(triangle)?;
         left = after;
     }
@@ -103,13 +111,13 @@ pub(crate) fn corner_lines(
     Ok((Vec::from_slice(alloc, triangles.as_slice())?, left))
 }
 
-/// A pair line.
+/// A pair line, of whatever version.
 pub(crate) fn pair_line(rest: Rest<'_>) -> Result<(PairLine, Rest<'_>), CertFault>
-    ensures { MatchResult result
-        (λ x. ReadsLines rest.entry.text.now rest.entry.line
+    ensures { (v : TextVersion) → MatchResult result
+        (λ x. ReadsLines v rest.entry.text.now rest.entry.line
         (separator_line (separator_of x.0) ∷ [])
         x.1.text.now x.1.line)
-        (λ e. LineFault e rest.entry.line (One kind.Pair) rest.entry.text.now) }
+        (λ e. LineFault v e rest.entry.line (One kind.Pair) rest.entry.text.now) }
 {
     let (_, words, after) = placed_line(Expected::One(Kind::Pair), rest)?;
     match separator(words) {
@@ -128,11 +136,11 @@ pub(crate) fn pair_lines(
     rest: Rest<'_>,
 ) -> Result<(Vec<PairLine>, Rest<'_>), CertFault>
     ensures ok { IfOk result
-        (λ x. ReadsLines rest.entry.text.now rest.entry.line
+        (λ x. (v : TextVersion) → ReadsLines v rest.entry.text.now rest.entry.line
         (map separator_line (map separator_of x.0.items)) x.1.text.now x.1.line) }
     ensures count { IfOk result (λ x. length x.0.items ≡ count) }
-    ensures err { IfErr result
-        (λ e. FaultFrom e rest.entry.line (InPairs count) rest.entry.text.now) }
+    ensures err { IfErr result (λ e. (v : TextVersion)
+        → FaultFrom v e rest.entry.line (InPairs count) rest.entry.text.now) }
 {
     let mut pairs = Vec::new(alloc);
     let mut left = rest;
@@ -146,8 +154,9 @@ pub(crate) fn pair_lines(
 
 /// The last line.
 pub(crate) fn end_line(rest: Rest<'_>) -> Result<Rest<'_>, CertFault>
-    ensures { MatchResult result (λ x. ReadsLines rest.entry.text.now rest.entry.line (EndLine ∷ [])
-        x.text.now x.line) (λ e. LineFault e rest.entry.line (One kind.End) rest.entry.text.now) }
+    ensures { (v : TextVersion) → MatchResult result
+        (λ x. ReadsLines v rest.entry.text.now rest.entry.line (EndLine ∷ []) x.text.now x.line)
+        (λ e. LineFault v e rest.entry.line (One kind.End) rest.entry.text.now) }
 {
     let (_, mut words, after) = placed_line(Expected::One(Kind::End), rest)?;
     match words.next() {

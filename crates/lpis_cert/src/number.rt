@@ -40,7 +40,7 @@ pub(crate) fn number(word: &[u8], limit: u64) -> Option<u64>
     }
 }
 
-/// The coordinate in centimetres that a word spells.
+/// The coordinate in millimetres that a word spells.
 #[tactic(auto, unfolding(crate::specs::Reading::coordinate))]
 pub(crate) fn coordinate(version: Version, word: &[u8]) -> Option<i64>
     ensures is { result ≡ coordinate version word.now }

@@ -1,14 +1,13 @@
 //! A certificate from its text.
 
 ghost use Rattle.std.specs.Prelude.{◌≡◌, ◌∷◌, ◌++◌, [], IfOk, IfErr, MatchResult};
-ghost use Rattle.lpis_cert.specs.declared.kind.Stage.TheVariants.{Pieces};
+ghost use Rattle.std.specs.List.{AllByRecursion};
 ghost use Rattle.lpis_cert.specs.CertText.{text_of_lines, lines_of};
-ghost use Rattle.lpis_cert.specs.Versions.{first_line, written};
-ghost use Rattle.std.specs.Str.{bytes_eq};
-ghost use Rattle.lpis_cert.specs.Faults.{AtVersion, InBody, lines, outcome, IsFirstFault};
-ghost use Rattle.lpis_cert.specs.Faults.{none_declared};
+ghost use Rattle.lpis_cert.specs.Versions.{first_line};
+ghost use Rattle.lpis_cert.specs.Fitting.{LineFits};
+ghost use Rattle.lpis_cert.specs.Faults.{lines, outcome, verdict, first_state, IsFirstFault};
 ghost use Rattle.lpis_cert.specs.private.Taken.{FaultFrom};
-ghost use Rattle.lpis_cert.specs.Contents.{cert_text, content_of};
+ghost use Rattle.lpis_cert.specs.Contents.{IsCertText, content_of};
 ghost use Rattle.lpis_cert.specs.private.Drafts.{draft_lines, draft_state};
 
 use crate::blocks::next_block;
@@ -20,40 +19,37 @@ use crate::rest::{Rest, front_line};
 use crate::version::Version;
 use std::alloc::Global;
 
-/// Whether a line names the version that is read.
-fn is_first_line(line: &[u8]) -> bool
-    ensures { result ≡ bytes_eq line.now (first_line written) }
-{
-    line == Version::One.first_line().as_bytes()
-}
-
-/// What comes after the first line.
-fn after_version(rest: Rest<'_>) -> Result<Rest<'_>, CertFault>
+/// The version that the first line names, and what comes after this line.
+fn after_version(bytes: &[u8]) -> Result<(Version, Rest<'_>), CertFault>
     ensures { MatchResult result
-        (λ x. (rest.entry.text.now ≡ first_line written ++ (10 ∷ x.text.now))
-        × (outcome rest.entry.line AtVersion (lines rest.entry.text.now) ≡ outcome x.line
-        (InBody Pieces 0 0 none_declared) (lines x.text.now)))
-        (λ e. FaultFrom e rest.entry.line AtVersion rest.entry.text.now) }
+        (λ x. (bytes.now ≡ first_line x.0 ++ (10 ∷ x.1.text.now))
+        × (verdict bytes.now ≡ outcome x.0 x.1.line first_state (lines x.1.text.now)))
+        (λ e. IsFirstFault e bytes.now) }
 {
-    let Some((line, after)) = front_line(rest) else {
+    let start = Rest {
+        text: bytes,
+        line: 1,
+    };
+    let Some((line, after)) = front_line(start) else {
         return Err(CertFault::At {
             code: CertCode::Truncated,
-            line: rest.line,
+            line: 1,
         });
     };
-    if !is_first_line(line) {
-        return Err(CertFault::At {
+    match Version::named(line) {
+        Some(version) => Ok((version, after)),
+        None => Err(CertFault::At {
             code: CertCode::Version,
-            line: rest.line,
-        });
+            line: 1,
+        }),
     }
-    Ok(after)
 }
 
 /// What has been read before the first block.
-fn no_blocks(alloc: Global) -> Draft
+fn no_blocks(alloc: Global, version: Version) -> Draft
     ensures lines { draft_lines result ≡ [] }
-    ensures state { draft_state result ≡ InBody Pieces 0 0 none_declared }
+    ensures state { draft_state result ≡ first_state }
+    ensures version { result.version ≡ version }
 {
     Draft {
         pieces: Vec::new(alloc),
@@ -61,17 +57,19 @@ fn no_blocks(alloc: Global) -> Draft
         stage: Stage::Pieces,
         triangles: 0,
         flats: 0,
+        version,
     }
 }
 
 /// The certificate of the lines after the first.
-fn read_blocks(alloc: Global, start: Rest<'_>) -> Result<Cert, CertFault>
-    ensures ok { IfOk result
-        (λ cert. start.entry.text.now ≡ text_of_lines (lines_of (content_of cert))) }
-    ensures err { IfErr result (λ e. FaultFrom e start.entry.line (InBody Pieces 0 0 none_declared)
-        start.entry.text.now) }
+fn read_blocks(alloc: Global, version: Version, start: Rest<'_>) -> Result<Cert, CertFault>
+    ensures ok { IfOk result (λ cert. (start.entry.text.now
+        ≡ text_of_lines version (lines_of (content_of cert)))
+        × AllByRecursion (LineFits version) (lines_of (content_of cert))) }
+    ensures err { IfErr result
+        (λ e. FaultFrom version e start.entry.line first_state start.entry.text.now) }
 {
-    let mut draft = no_blocks(alloc);
+    let mut draft = no_blocks(alloc, version);
     let mut rest = start;
     'reading: loop {
         match next_block(alloc, draft, rest)? {
@@ -85,26 +83,22 @@ fn read_blocks(alloc: Global, start: Rest<'_>) -> Result<Cert, CertFault>
 }
 
 /// The certificate of a text, or the text's first fault.
-#[tactic(auto, unfolding(crate::specs::CertText::text_of))]
 fn read_text(alloc: Global, bytes: &[u8]) -> Result<Cert, CertFault>
-    // A certificate is read from its text alone.
-    ensures found { IfOk result (λ cert. bytes.now ≡ cert_text cert) }
+    // A certificate is read from a text of it alone.
+    ensures found { IfOk result (λ cert. IsCertText bytes.now cert) }
     // A fault is the first fault of the text.
-    ensures fault { IfErr result (λ e. FaultFrom e 1 AtVersion bytes.now) }
+    ensures fault { IfErr result (λ e. IsFirstFault e bytes.now) }
 {
-    let blocks = after_version(Rest {
-        text: bytes,
-        line: 1,
-    })?;
-    read_blocks(alloc, blocks)
+    let (version, blocks) = after_version(bytes)?;
+    read_blocks(alloc, version, blocks)
 }
 
-/// The certificate of a text, or the text's first fault.
+/// The certificate of a text of version 1 or 2, or the text's first fault.
 pub fn read_cert(alloc: Global, bytes: &[u8]) -> Result<Cert, CertFault>
-    // What is read is the certificate whose text this is.
-    ensures found { IfOk result (λ cert. bytes.now ≡ cert_text cert) }
-    // A certificate is read from its text, unless memory runs out.
-    ensures only { (cert : Cert) → bytes.now ≡ cert_text cert
+    // What is read is the certificate of which this is a text.
+    ensures found { IfOk result (λ cert. IsCertText bytes.now cert) }
+    // A certificate is read from each of its texts, unless memory runs out.
+    ensures only { (cert : Cert) → IsCertText bytes.now cert
         → MatchResult result (λ read. read ≡ cert) (λ e. e ≡ CertFault.Memory) }
     // A fault is the first fault of the text.
     ensures fault { IfErr result (λ e. IsFirstFault e bytes.now) }

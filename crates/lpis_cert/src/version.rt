@@ -1,7 +1,7 @@
 //! Versions of the text.
 
 ghost use Rattle.std.specs.Prelude.{◌≡◌, ◌≤◌, ◌*◌};
-ghost use Rattle.lpis_cert.specs.Versions.{factor, first_line, greatest};
+ghost use Rattle.lpis_cert.specs.Versions.{factor, first_line, greatest, named as version_named};
 ghost use Rattle.lpis_cert.specs.Limits.{number_margin};
 ghost use Rattle.lpis_cert.specs.private.Margins.{written_margin};
 
@@ -12,6 +12,8 @@ use lpis_points::LIMIT;
 pub(crate) enum Version {
     /// `lpis-cert 1`: coordinates in centimetres.
     One,
+    /// `lpis-cert 2`: coordinates in millimetres.
+    Two,
 }
 
 impl Version {
@@ -21,6 +23,20 @@ impl Version {
     {
         match self {
             Version::One => "lpis-cert 1",
+            Version::Two => "lpis-cert 2",
+        }
+    }
+
+    /// The version that a first line names.
+    pub(crate) fn named(line: &[u8]) -> Option<Version>
+        ensures { result ≡ version_named line.now }
+    {
+        if line == Version::One.first_line().as_bytes() {
+            Some(Version::One)
+        } else if line == Version::Two.first_line().as_bytes() {
+            Some(Version::Two)
+        } else {
+            None
         }
     }
 
@@ -30,18 +46,20 @@ impl Version {
         ensures small { result ≤ number_margin }
     {
         match self {
-            Version::One => LIMIT as u64,
+            Version::One => 2_000_000_000,
+            Version::Two => LIMIT as u64,
         }
     }
 
-    /// A coordinate without its sign, in centimetres.
+    /// A coordinate without its sign, in millimetres.
     pub(crate) fn scaled(self, written: u64) -> u64
         requires { written ≤ greatest self }
         ensures is { result ≡ written * factor self }
         ensures small { result ≤ written_margin }
     {
         match self {
-            Version::One => written,
+            Version::One => written * 10,
+            Version::Two => written,
         }
     }
 }

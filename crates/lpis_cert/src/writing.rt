@@ -168,7 +168,7 @@ fn write_end<W: Write>(out: &mut W) -> Result<(), WriteFault>
 fn write_version<W: Write>(out: &mut W) -> Result<(), WriteFault>
     ensures { OnOk result (Appends (W.contents out.old) (W.contents out.new) version_text) }
 {
-    let first = Version::One.first_line();
+    let first = Version::Two.first_line();
     write!(out, "{first}\n")?;
     Ok(())
 }
@@ -198,7 +198,7 @@ fn write_parts<W: Write>(cert: &Cert, out: &mut W) -> Result<(), WriteFault>
     write_from_parcels(cert, out)
 }
 
-/// Writes the text of a certificate.
+/// Writes the text of a certificate, in version 2.
 pub fn write_cert<W: Write>(cert: &Cert, out: &mut W) -> Result<(), WriteFault>
     ensures { OnOk result (Appends (W.contents out.old) (W.contents out.new) (cert_text cert.now)) }
 {

@@ -1,23 +1,24 @@
--- What has a text: every certificate does.
+-- Which contents have a text in a version: in the one that is written every certificate's does.
 use Rattle.std.specs.Prelude.{◌+◌, ◌≤◌, ◌≡◌, true, length, sum_by}
 use Rattle.std.specs.List.{AllByRecursion}
 use Rattle.lpis_covers.specs.Ids.{is_id}
+use Rattle.lpis_cert.specs.declared.version.Version.{Version}
 use Rattle.lpis_cert.specs.Limits.{most_triangles, most_flats, greatest_count}
 use Rattle.lpis_cert.specs.CertText.{PieceBlock, ParcelBlock, Content}
 use Rattle.lpis_cert.specs.Fitting.{CornersFit, SeparatorFits}
 
-pub record PieceFits (p : PieceBlock) : Type 0 where
+pub record PieceFits (v : Version) (p : PieceBlock) : Type 0 where
   pub id : is_id p.id ≡ true
-  pub triangles : AllByRecursion CornersFit p.triangles
-  pub flats : AllByRecursion CornersFit p.flats
+  pub triangles : AllByRecursion (CornersFit v) p.triangles
+  pub flats : AllByRecursion (CornersFit v) p.flats
 
-pub record ParcelFits (p : ParcelBlock) : Type 0 where
+pub record ParcelFits (v : Version) (p : ParcelBlock) : Type 0 where
   pub id : is_id p.id ≡ true
-  pub flats : AllByRecursion CornersFit p.flats
+  pub flats : AllByRecursion (CornersFit v) p.flats
 
-pub record Fits (c : Content) : Type 0 where
-  pub pieces : AllByRecursion PieceFits c.pieces
-  pub parcels : AllByRecursion ParcelFits c.parcels
+pub record Fits (v : Version) (c : Content) : Type 0 where
+  pub pieces : AllByRecursion (PieceFits v) c.pieces
+  pub parcels : AllByRecursion (ParcelFits v) c.parcels
   pub pairs : AllByRecursion SeparatorFits c.pairs
   pub triangles_few : sum_by (λ p. length p.triangles) c.pieces ≤ most_triangles
   pub flats_few : sum_by (λ p. length p.flats) c.pieces + sum_by (λ p. length p.flats) c.parcels

@@ -8,8 +8,10 @@ use Rattle.lpis_cert.specs.declared.fault.CertFault.{CertFault}
 use Rattle.lpis_cert.specs.declared.kind.Kind.{Kind}
 use Rattle.lpis_cert.specs.declared.kind.Kind.TheVariants as kind
 use Rattle.lpis_cert.specs.declared.kind.Expected.{Expected}
+use Rattle.std.specs.List.{AllByRecursion}
 use Rattle.lpis_cert.specs.CertText.{Corners, Line, TriangleLine, FlatLine, text_of_lines}
-use Rattle.lpis_cert.specs.Versions.{written}
+use Rattle.lpis_cert.specs.Fitting.{LineFits}
+use Rattle.lpis_cert.specs.declared.version.Version.{Version}
 use Rattle.lpis_cert.specs.Reading.{placed, read_line}
 use Rattle.lpis_cert.specs.Faults.{lines, outcome, report, State, InBody, Declared}
 
@@ -27,25 +29,27 @@ pub record Placed (e : Expected) (text : List ℕ) (n : ℕ) (k : Kind) (ws : Li
   pub placed : placed e line ≡ Ok (k, ws)
 
 -- the first line of a text has this fault
-abbrev pub FailsWith : Expected → List ℕ → CertCode → Type 0
-FailsWith e text c = ((lines text ≡ text ∷ []) × (c ≡ code.Truncated))
+abbrev pub FailsWith : Version → Expected → List ℕ → CertCode → Type 0
+FailsWith v e text c = ((lines text ≡ text ∷ []) × (c ≡ code.Truncated))
     ⊎ ((line : List ℕ) × (rest : List ℕ) × (lines text ≡ line ∷ lines rest)
-    × (read_line written e line ≡ Err c))
+    × (read_line v e line ≡ Err c))
 
-abbrev pub LineFault : CertFault → ℕ → Expected → List ℕ → Type 0
-LineFault fault n e text =
-    UnlessMemory (λ (r : CertCode × ℕ). (r.1 ≡ n) × FailsWith e text r.0) (report fault)
+abbrev pub LineFault : Version → CertFault → ℕ → Expected → List ℕ → Type 0
+LineFault v fault n e text =
+    UnlessMemory (λ (r : CertCode × ℕ). (r.1 ≡ n) × FailsWith v e text r.0) (report fault)
 
 -- these lines, from line n on, and then the rest, from line m on
-pub record ReadsLines (text : List ℕ) (n : ℕ) (ls : List Line) (rest : List ℕ) (m : ℕ) : Type 0
+pub record ReadsLines (v : Version) (text : List ℕ) (n : ℕ) (ls : List Line) (rest : List ℕ)
+    (m : ℕ) : Type 0
   where
-    pub parts : text ≡ text_of_lines ls ++ rest
+    pub parts : text ≡ text_of_lines v ls ++ rest
+    pub fits : AllByRecursion (LineFits v) ls
     pub next : m ≡ n + length ls
 
 -- the first fault from here on
-abbrev pub FaultFrom : CertFault → ℕ → State → List ℕ → Type 0
-FaultFrom fault n p text =
-    UnlessMemory (λ (r : CertCode × ℕ). outcome n p (lines text) ≡ Err r) (report fault)
+abbrev pub FaultFrom : Version → CertFault → ℕ → State → List ℕ → Type 0
+FaultFrom v fault n p text =
+    UnlessMemory (λ (r : CertCode × ℕ). outcome v n p (lines text) ≡ Err r) (report fault)
 
 -- ---- triangle lines and flat lines
 

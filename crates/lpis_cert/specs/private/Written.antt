@@ -13,7 +13,7 @@ use Rattle.lpis_cert.specs.private.Taken.{corner_line}
 use Rattle.lpis_cert.specs.Contents.{corner_numbers, separator_of}
 
 unfoldable pub line_text : Line → List ℕ
-line_text l = text_of_lines (l ∷ [])
+line_text l = text_of_lines written (l ∷ [])
 
 abbrev pub corners_text : Bool → List Triangle → List ℕ
 corners_text flat ts = flat_map (λ t. line_text (corner_line flat (corner_numbers t))) ts

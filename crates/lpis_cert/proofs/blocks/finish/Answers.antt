@@ -10,7 +10,7 @@ returns-in_err-pairs-clause-err c =
     let d = c.args.draft in
     rw (p.1, p.2) (pairs_fault c.in_err-pairs.field-0.0 d.stage (record { triangles = d.triangles; flats = d.flats })
     c.args.count (omega arith)
-    c.requires c.in_err-pairs.ensures.err)
+    c.requires (c.in_err-pairs.ensures.err d.version))
 
 pub returns-in_err-rest-clause-err : goal.returns-in_err-rest-clause-err
 returns-in_err-rest-clause-err c =
@@ -19,7 +19,8 @@ returns-in_err-rest-clause-err c =
     let ps = c.in_ok-pairs.pairs.items in
     rw (p.1, p.2) (end_fault c.in_err-rest.field-0.0 d.stage (record { triangles = d.triangles; flats = d.flats })
     c.args.count (map separator_of ps) (omega arith) c.requires (separators_fit ps)
-    (length-map ps separator_of ∙ c.in_ok-pairs.ensures.count) c.in_ok-pairs.ensures.ok c.in_err-rest.ensures)
+    (length-map ps separator_of ∙ c.in_ok-pairs.ensures.count) (c.in_ok-pairs.ensures.ok d.version)
+    (c.in_err-rest.ensures d.version))
 
 pub returns-then-not-is_empty-clause-err : goal.returns-then-not-is_empty-clause-err
 returns-then-not-is_empty-clause-err c =
@@ -31,7 +32,7 @@ returns-then-not-is_empty-clause-err c =
     let small : length (map separator_of ps) ≤ greatest_count = omega arith in
     trailing_fault d.stage (record { triangles = d.triangles; flats = d.flats }) (map separator_of ps) (separators_fit ps) small
     (pairs_follow (map separator_of ps) len c.requires
-    c.in_ok-pairs.ensures.ok c.in_ok-rest.ensures)
+    (c.in_ok-pairs.ensures.ok d.version) (c.in_ok-rest.ensures d.version))
     some
 
 pub returns-clause-ok : goal.returns-clause-ok
@@ -41,9 +42,9 @@ returns-clause-ok c =
     let rest = c.in_ok-rest.rest in
     let len = length-map ps separator_of ∙ c.in_ok-pairs.ensures.count in
     let none : length rest.text.now ≡ 0 = grind (arith, nat_tests) in
-    whole_cert c.cert_of.result d.pieces.items d.parcels.items ps _ _ (c.cert_of.ensures.pieces
+    whole_cert d.version c.cert_of.result d.pieces.items d.parcels.items ps _ _ (c.cert_of.ensures.pieces
     ∙ c.in_ok-pieces.ensures) (c.cert_of.ensures.parcels ∙ c.in_ok-parcels.ensures) c.cert_of.ensures.pairs
     (whole_of (map piece_of d.pieces.items) (map parcel_of d.parcels.items) (map separator_of ps)
     (pairs_follow (map separator_of ps) len c.requires
-    c.in_ok-pairs.ensures.ok c.in_ok-rest.ensures)
+    (c.in_ok-pairs.ensures.ok d.version) (c.in_ok-rest.ensures d.version))
     none)

@@ -1,7 +1,6 @@
 use Rattle.lpis_cert.specs.declared.kind.Stage.TheVariants as stage
-use Rattle.std.proofs.Common.{◌≡◌, ◌++◌, ◌∷◌, [], map, arith, ◌∙◌, ◌<◌, ◌+◌, ◌⊎◌, inl, inr}
+use Rattle.std.proofs.Common.{◌≡◌, ◌++◌, ◌∷◌, [], map, arith, ◌∙◌, ◌<◌, ◌+◌, ◌⊎◌, inl, inr, refl}
 use Rattle.lpis_cert.proofs.Common.{err_from_is_err_and, length-map, most_triangles, most_flats, PieceBlock, grow, piece_of, parcel_of, all_corners, corner_numbers}
-use Rattle.lpis_cert.proofs.BlockLemmas.{all_corners_fit}
 use Rattle.lpis_cert.proofs.DraftLemmas.{too_many_piece, piece_grown, piece_fault, flat_fault, piece_pushed}
 use Rattle.lpis_cert.proofs.blocks.piece_block.Goals.{then-all_triangles-gt-MOST_TRIANGLES-via-then-all_triangles-gt-MOST_TRIANGLES}
 use Rattle.lpis_cert.proofs.blocks.piece_block.Goals.{then-all_triangles-gt-MOST_TRIANGLES-via-else-all_triangles-gt-MOST_TRIANGLES+then-all_flats-gt-MOST_FLATS}
@@ -35,7 +34,7 @@ returns-in_err-own_flats-clause-err c =
     rw (p.1, p.2) (flat_fault c.in_err-own_flats.field-0.0 (record { triangles = d.triangles; flats = d.flats }) d.stage
     c.args.id c.args.triangle_count c.args.flat_count (all_corners ts)
     c.requires.fresh (c.requires.named, omega arith, omega arith) c.if-all_triangles-gt-MOST_TRIANGLES.false
-    c.if-all_flats-gt-MOST_FLATS.false c.requires.begins (all_corners_fit ts) (length-map ts corner_numbers
+    c.if-all_flats-gt-MOST_FLATS.false c.requires.begins (length-map ts corner_numbers
     ∙ c.in_ok-own_triangles.ensures.count) c.in_ok-own_triangles.ensures.ok
     (c.in_err-own_flats.ensures.err stage.Pieces 0 (grow (record { triangles = d.triangles; flats = d.flats }) c.args.triangle_count c.args.flat_count)))
 
@@ -48,10 +47,12 @@ returns-clause-ok c =
     let grown : map piece_of c.push.new.self.items ≡ map piece_of d.pieces.items ++ q ∷ [] =
     rw c.in_ok-push.ensures.items (piece_pushed d.pieces.items c.piece_part.result c.args.id ts fs
     c.piece_part.ensures.id c.piece_part.ensures.triangles c.piece_part.ensures.flats) in
-    let none = length-map d.parcels.items parcel_of ∙ d.no_parcels c.requires.fresh in
-    piece_grown (map piece_of d.pieces.items) (map piece_of c.push.new.self.items) (map parcel_of d.parcels.items) q
-    d.stage (record { triangles = d.triangles; flats = d.flats }) c.args.triangle_count c.args.flat_count
-    grown c.requires.fresh none (c.requires.named, omega arith, omega arith) c.if-all_triangles-gt-MOST_TRIANGLES.false c.if-all_flats-gt-MOST_FLATS.false (all_corners_fit ts) (all_corners_fit fs)
-    (length-map ts corner_numbers ∙ c.in_ok-own_triangles.ensures.count) (length-map fs corner_numbers
-    ∙ c.in_ok-own_flats.ensures.count) c.requires.begins c.in_ok-own_triangles.ensures.ok
-    c.in_ok-own_flats.ensures.ok
+    let none = length-map d.parcels.items parcel_of ∙ d.no_parcels c.requires.fresh in (
+      refl,
+      piece_grown (map piece_of d.pieces.items) (map piece_of c.push.new.self.items) (map parcel_of d.parcels.items) q
+          d.stage (record { triangles = d.triangles; flats = d.flats }) c.args.triangle_count c.args.flat_count
+          grown c.requires.fresh none (c.requires.named, omega arith, omega arith) c.if-all_triangles-gt-MOST_TRIANGLES.false c.if-all_flats-gt-MOST_FLATS.false
+          (length-map ts corner_numbers ∙ c.in_ok-own_triangles.ensures.count) (length-map fs corner_numbers
+          ∙ c.in_ok-own_flats.ensures.count) c.requires.begins c.in_ok-own_triangles.ensures.ok
+          c.in_ok-own_flats.ensures.ok,
+    )

@@ -2,4 +2,4 @@ use Rattle.lpis_cert.proofs.LawLemmas.{prefix_cut}
 use Rattle.lpis_cert.proofs.laws.cut_texts.Goals as goal
 
 pub returns : goal.returns
-returns c = λ front back after. prefix_cut front back after
+returns c = prefix_cut

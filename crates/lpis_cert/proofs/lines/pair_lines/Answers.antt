@@ -7,14 +7,14 @@ use Rattle.lpis_cert.proofs.lines.pair_lines.Goals as goal
 pub loop-init : goal.loop-init
 loop-init c =
     let none = c.new-pairs.ensures.items in
-    rw none (record { follows = follows_none c.args.rest.text.now c.args.rest.line; count = refl })
+    rw none (record { follows = λ v. follows_none v c.args.rest.text.now c.args.rest.line; count = refl })
 
 pub returns-in_err-pair-clause-err : goal.returns-in_err-pair-clause-err
 returns-in_err-pair-clause-err c =
     let p = err_from_is_err_and c.from_residual.result c.from_residual.ensures.1 in
     let ts = c.loop.pairs.items in
-    rw (p.1, p.2) (pair_fault c.in_err-pair.field-0.0 (map separator_of ts) c.args.count c.loop.counter
-    (separators_fit ts) c.loop-test.true (length-map ts separator_of ∙ c.loop.invariant.count) c.loop.invariant.follows c.in_err-pair.ensures)
+    rw (p.1, p.2) (λ v. pair_fault c.in_err-pair.field-0.0 (map separator_of ts) c.args.count c.loop.counter
+    (separators_fit ts) c.loop-test.true (length-map ts separator_of ∙ c.loop.invariant.count) (c.loop.invariant.follows v) (c.in_err-pair.ensures v))
 
 pub loop-preserved : goal.loop-preserved
 loop-preserved c =
@@ -22,6 +22,9 @@ loop-preserved c =
     let t = c.in_ok-pair.pair in
     let e : c.push.new.self.items ≡ ts ++ t ∷ [] = c.in_ok-push.ensures.items in
     rw e (record {
-      follows = pair_more ts t c.loop.invariant.follows c.in_ok-pair.ensures;
+      follows = λ v. pair_more ts t (c.loop.invariant.follows v) (c.in_ok-pair.ensures v);
       count = length-append ts (t ∷ []) ∙ ap (λ (k : ℕ). k + 1) c.loop.invariant.count;
     })
+
+pub returns-clause-ok : goal.returns-clause-ok
+returns-clause-ok c = let same = c.in_ok-without_spare.ensures in λ v. rw same (c.loop.invariant.follows v)
