@@ -1,7 +1,7 @@
 -- Byte order marks and columns, a step at a time.
 use Rattle.std.proofs.Common.{◌≡◌, ◌+◌, ◌-◌, ◌<◌, ◌≤◌, ℕ, zero, suc, List, [], ◌∷◌, ◌++◌, length, map, take, drop, get_or, Option, Some, None, Result, Ok, Err, true, false, refl, ap, arith, ◌∙◌, Bool}
-use Rattle.std.proofs.Common.{add-one, Bor, IsTrue, ◌↔◌, append_assoc, unwrap_or, option_map, option_to_list, is_some, ok_or}
-use Rattle.lpis_covers.proofs.Common.{strip_bom, has_mark, one_index, picked, indices_of, texts}
+use Rattle.std.proofs.Common.{add-one, Bor, IsTrue, ◌↔◌, append_assoc, unwrap_or, option_map, option_to_list, is_some}
+use Rattle.lpis_covers.proofs.Common.{strip_bom, after_places, field_at_place, flat, has_mark, one_place, picked, places_of, texts}
 use Rattle.std.specs.Str.{str_eq_ignore_ascii_case}
 use Rattle.std.specs.Char.{to_ascii_lowercase}
 use Rattle.csv.specs.Records.{field_at}
@@ -10,8 +10,8 @@ use Rattle.std.proofs.lemmas.Slice.Eq.{bytes_eq-Decides}
 use Rattle.std.proofs.Math.Seq.{drop-cons}
 use Rattle.std.proofs.lemmas.List.{append-nil, take_all, drop_all}
 use Rattle.lpis_covers.specs.declared.fault.TableCode.{TableCode}
-use Rattle.lpis_covers.specs.declared.fault.TableCode.TheVariants.{MissingColumn, DoubledColumn}
-use Rattle.lpis_covers.specs.Table.{and_index, column_index, indices_of_name}
+use Rattle.lpis_covers.specs.declared.fault.TableCode.TheVariants.{DoubledColumn}
+use Rattle.lpis_covers.specs.Table.{and_place, indices_of_name, place_of}
 
 pub with-mark : (xs : List ℕ) → has_mark xs ≡ true → take (length xs - 3) (drop 3 xs) ≡ strip_bom xs
 unfolding strip_bom
@@ -65,50 +65,55 @@ unfolding indices_of_name
 step-other name i fs f test at says t = rw (drop-field fs i f at, same-name f name test says ∙ t) refl
 
 -- a second field of the name
-pub index-twice : (found : Option ℕ) (i : ℕ) (more : List ℕ) → is_some found ≡ true → one_index (option_to_list found ++ i ∷ more) ≡ Err DoubledColumn
-index-twice None i more e = cc e
-index-twice (Some p) i more e = refl
+pub index-twice : (needed : Bool) (found : Option ℕ) (i : ℕ) (more : List ℕ) → is_some found ≡ true → one_place needed (option_to_list found ++ i ∷ more) ≡ Err DoubledColumn
+index-twice needed None i more e = cc e
+index-twice needed (Some p) i more e = refl
 
 pub index-first : (found : Option ℕ) (i : ℕ) (more : List ℕ) → is_some found ≡ false → option_to_list (Some i) ++ more ≡ option_to_list found ++ i ∷ more
 index-first None i more e = refl
 index-first (Some p) i more e = cc e
 
-pub index-end : (name : List ℕ) (i : ℕ) (found : Option ℕ) (fs : List (List ℕ)) (r : Result ℕ TableCode) → length fs ≤ i → r ≡ ok_or found MissingColumn
-    → r ≡ one_index (option_to_list found ++ indices_of_name name i (drop i fs))
+pub index-end : (needed : Bool) (name : List ℕ) (i : ℕ) (found : Option ℕ) (fs : List (List ℕ)) (r : Result (Option ℕ) TableCode) → length fs ≤ i
+    → r ≡ one_place needed (option_to_list found) → r ≡ one_place needed (option_to_list found ++ indices_of_name name i (drop i fs))
 unfolding indices_of_name
-index-end name i None fs r h e = rw (drop_all i fs h) e
-index-end name i (Some p) fs r h e = rw (drop_all i fs h) e
+index-end needed name i found fs r h e = rw (drop_all i fs h, append-nil (option_to_list found)) e
 
--- indices found so far, and the rest of them
-abbrev pub after_indices : List ℕ → Result (List ℕ) TableCode → Result (List ℕ) TableCode
-after_indices front (Ok ps) = Ok (front ++ ps)
-after_indices front (Err e) = Err e
-
+-- the places found so far, and the rest of them
 texts-drop : (names : List (Bor (List ℕ))) (i : ℕ) (d : Bor (List ℕ)) → i < length names → texts (drop i names) ≡ (get_or names i d).now ∷ texts (drop (i + 1) names)
 texts-drop names i d h = rw (add-one, drop-cons names i d) refl
 
-after-step : (front : List ℕ) (p : ℕ) (more : Result (List ℕ) TableCode) → after_indices (front ++ (p ∷ [])) more ≡ after_indices front (and_index p more)
+after-step : (front : List (Option ℕ)) (p : Option ℕ) (more : Result (List (Option ℕ)) TableCode) → after_places (front ++ (p ∷ [])) more ≡ after_places front (and_place p more)
 after-step front p (Ok ps) = ap Ok (append_assoc front (p ∷ []) ps)
 after-step front p (Err e) = refl
 
-pub indices-more : (names : List (Bor (List ℕ))) (i : ℕ) (d : Bor (List ℕ)) (header : List (List ℕ)) (front : List ℕ) (p : ℕ) → i < length names
-    → column_index header (get_or names i d).now ≡ Ok p
-    → after_indices (front ++ (p ∷ [])) (indices_of header (texts (drop (i + 1) names))) ≡ after_indices front (indices_of header (texts (drop i names)))
-unfolding indices_of
-indices-more names i d header front p h e = rw (texts-drop names i d h, e) (after-step front p _)
+pub places-more : (needed : Bool) (names : List (Bor (List ℕ))) (i : ℕ) (d : Bor (List ℕ)) (header : List (List ℕ)) (front : List (Option ℕ)) (p : Option ℕ) → i < length names
+    → place_of needed header (get_or names i d).now ≡ Ok p
+    → after_places (front ++ (p ∷ [])) (places_of needed header (texts (drop (i + 1) names))) ≡ after_places front (places_of needed header (texts (drop i names)))
+unfolding places_of
+places-more needed names i d header front p h e = rw (texts-drop names i d h, e) (after-step front p _)
 
-pub indices-bad : (names : List (Bor (List ℕ))) (i : ℕ) (d : Bor (List ℕ)) (header : List (List ℕ)) (front : List ℕ) (e : TableCode) → i < length names
-    → column_index header (get_or names i d).now ≡ Err e
-    → after_indices front (indices_of header (texts (drop i names))) ≡ Err e
-unfolding indices_of
-indices-bad names i d header front e h is = rw (texts-drop names i d h, is) refl
+pub places-bad : (needed : Bool) (names : List (Bor (List ℕ))) (i : ℕ) (d : Bor (List ℕ)) (header : List (List ℕ)) (front : List (Option ℕ)) (e : TableCode) → i < length names
+    → place_of needed header (get_or names i d).now ≡ Err e
+    → after_places front (places_of needed header (texts (drop i names))) ≡ Err e
+unfolding places_of
+places-bad needed names i d header front e h is = rw (texts-drop names i d h, is) refl
 
-pub indices-end : (names : List (Bor (List ℕ))) (i : ℕ) (header : List (List ℕ)) (front : List ℕ) → length names ≤ i
-    → after_indices front (indices_of header (texts (drop i names))) ≡ Ok front
-unfolding indices_of
-indices-end names i header front h = rw (drop_all i names h, append-nil front) refl
+pub places-end : (needed : Bool) (names : List (Bor (List ℕ))) (i : ℕ) (header : List (List ℕ)) (front : List (Option ℕ)) → length names ≤ i
+    → after_places front (places_of needed header (texts (drop i names))) ≡ Ok front
+unfolding places_of
+places-end needed names i header front h = rw (drop_all i names h, append-nil front) refl
+
+-- what is said of all places, whatever stands before them
+pub after-bad : (front : List (Option ℕ)) (said : Result (List (Option ℕ)) TableCode) (e : TableCode) → after_places front said ≡ Err e → said ≡ Err e
+after-bad front (Ok ps) e h = cc h
+after-bad front (Err f) e h = cc h
+
+pub after-none : (front : List (Option ℕ)) (said : Result (List (Option ℕ)) TableCode) (places : List (Option ℕ)) → front ≡ [] → after_places front said ≡ Ok places → said ≡ Ok places
+after-none [] (Ok ps) places e h = h
+after-none [] (Err f) places e h = cc h
+after-none (p ∷ front) said places e h = cc e
 
 -- one more field picked
-pub picked-more : (front : List (List ℕ)) (indices : List ℕ) (i : ℕ) (fields : List (List ℕ)) → i < length indices
-    → (front ++ (get_or fields (get_or indices i 0) [] ∷ [])) ++ picked (drop (i + 1) indices) fields ≡ front ++ picked (drop i indices) fields
-picked-more front indices i fields h = rw (add-one, drop-cons indices i 0, append_assoc) refl
+pub picked-more : (front : List (List ℕ)) (places : List (Option ℕ)) (i : ℕ) (d : Option ℕ) (fields : List (List ℕ)) → i < length places
+    → (front ++ (unwrap_or (field_at_place fields (get_or places i d)) [] ∷ [])) ++ flat (picked (drop (i + 1) places) fields) ≡ front ++ flat (picked (drop i places) fields)
+picked-more front places i d fields h = rw (add-one, drop-cons places i d, append_assoc) refl

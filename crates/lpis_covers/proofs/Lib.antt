@@ -8,4 +8,5 @@ pub mod KeyedLemmas
 pub mod RowLemmas
 pub mod PolygonLemmas
 pub mod PieceLemmas
+pub mod ClassLemmas
 pub mod Shared

@@ -1,6 +1,6 @@
 -- The faults of a piece, column by column.
 use Rattle.std.proofs.Common.{◌≡◌, ℕ, List, Ok, Err}
-use Rattle.lpis_covers.proofs.Common.{TableFault, polygon_in, unless_faulty, Answers, Record, field_of}
+use Rattle.lpis_covers.proofs.Common.{TableFault, polygon_in, unless_faulty, Answers, Fields, field_of}
 use Rattle.lpis_rings.specs.declared.polygon.Member.{Member}
 use Rattle.lpis_covers.specs.declared.fault.Table.TheVariants.{Covers}
 use Rattle.lpis_covers.specs.declared.piece.Piece.{Piece}
@@ -8,7 +8,7 @@ use Rattle.lpis_covers.specs.Covers.{more_piece_faults, piece_of}
 use Rattle.lpis_covers.specs.Faults.{id_faults, polygon_faults}
 use Rattle.lpis_covers.proofs.RowLemmas.{column-passed, fault-retold}
 
-pub piece-polygon-fault : (n : ℕ) (row : Record) (parcel class : List ℕ) (f : TableFault)
+pub piece-polygon-fault : (n : ℕ) (row : Fields) (parcel class : List ℕ) (f : TableFault)
     → unless_faulty (id_faults Covers n (field_of row 1)) (field_of row 1) ≡ Ok parcel
     → unless_faulty (id_faults Covers n (field_of row 2)) (field_of row 2) ≡ Ok class
     → Answers {A = List Member} (Err f) (unless_faulty (polygon_faults Covers n (field_of row 3)) (polygon_in (field_of row 3)))

@@ -1,18 +1,20 @@
 -- Reading rows as values, a row at a time.
-use Rattle.std.proofs.Common.{◌≡◌, ◌≤◌, ◌+◌, ◌++◌, ◌∷◌, [], ℕ, List, length, map, Bool, true, false, Result, Ok, Err, refl, sym, ap, ◌∙◌, arith, append_assoc, option_to_list}
-use Rattle.lpis_covers.proofs.Common.{default_config, strip_bom, Table, TableFault, At, unless_faulty, Answers, Reading, Record, field_of, has_mark, indices_of, under_header}
+use Rattle.std.proofs.Common.{◌≡◌, ◌≤◌, ◌+◌, ◌++◌, ◌∷◌, [], ℕ, List, length, map, Bool, true, false, Option, Result, Ok, Err, refl, sym, ap, ◌∙◌, arith, append_assoc, option_to_list}
+use Rattle.lpis_covers.proofs.Common.{default_config, strip_bom, Table, TableFault, At, unless_faulty, Answers, Fields, Reading, field_of, has_mark, under_header}
 use Rattle.std.proofs.lemmas.List.{append-nil, map-append, length-append}
 use Rattle.csv.specs.Reading.{records}
 use Rattle.lpis_covers.specs.declared.fault.TableCode.{TableCode}
+use Rattle.lpis_covers.specs.declared.fault.TableCode.TheVariants.{MissingColumn}
 use Rattle.lpis_covers.specs.declared.fault.TableFault.TheVariants.{Memory}
 use Rattle.lpis_covers.specs.Faults.{RowsOf, row_faults, rows_of}
-use Rattle.lpis_covers.specs.Table.{Advances, most_rows, table_of}
+use Rattle.lpis_covers.specs.Table.{Advances, Record, fault_at, most_rows, rows_under, table_of, wanted_places}
 
 -- a reader of the table t has read these rows, with these keys, and no fault yet
 pub record IsRead {A : Type 0} (kind : RowsOf A) (t : Reading) (keys : List (List ℕ)) (rows : List A) (r : Reading) : Type 0 where
   pub table : r.table ≡ kind.table
   pub count : r.number ≡ length rows
   pub few : r.number ≤ most_rows
+  pub enough : kind.enough t.has ≡ true
   pub faults : row_faults kind keys (r.number + 1) r.rows ++ option_to_list r.stop ≡ row_faults kind [] 1 t.rows ++ option_to_list t.stop
   pub values : rows ++ map kind.value r.rows ≡ map kind.value t.rows
 
@@ -26,29 +28,34 @@ told-fault [] more v w f h = cc h
 told-fault (g ∷ fs) more v w f h = ap Err (cc h)
 
 -- the header's table and number
-start-header : (table : Table) (names : List (List ℕ)) (header : Record) (rs : List Record) (indices : Result (List ℕ) TableCode) (t : Reading)
-    → Rattle.lpis_covers.specs.Table.rows_under table header rs indices ≡ Ok t → (t.table ≡ table) × (t.number ≡ 0)
-start-header table names header rs (Ok ps) t h = let e = Ok-parts _ t h in (sym (ap (λ (r : Reading). r.table) e), sym (ap (λ (r : Reading). r.number) e)) where
+start-header : (table : Table) (header : Record) (rs : List Record) (places : Result (List (Option ℕ)) TableCode) (t : Reading)
+    → rows_under table header rs places ≡ Ok t → (t.table ≡ table) × (t.number ≡ 0)
+start-header table header rs (Ok ps) t h = let e = Ok-parts _ t h in (sym (ap (λ (r : Reading). r.table) e), sym (ap (λ (r : Reading). r.number) e)) where
   Ok-parts : (s t : Reading) → ◌≡◌ {A = Result Reading TableFault} (Ok s) (Ok t) → s ≡ t
   Ok-parts s t h = cc h
-start-header table names header rs (Err code) t h = cc h
+start-header table header rs (Err code) t h = cc h
 
-start-records : (table : Table) (names : List (List ℕ)) (all : List Record) (t : Reading) → under_header table names all ≡ Ok t → (t.table ≡ table) × (t.number ≡ 0)
-start-records table names [] t h = cc h
-start-records table names (header ∷ rs) t h = start-header table names header rs (indices_of header names) t h
+start-records : (table : Table) (names further : List (List ℕ)) (all : List Record) (t : Reading) → under_header table names further all ≡ Ok t → (t.table ≡ table) × (t.number ≡ 0)
+start-records table names further [] t h = cc h
+start-records table names further (header ∷ rs) t h = start-header table header rs (wanted_places header names further) t h
 
-pub table-start : (table : Table) (names : List (List ℕ)) (bytes : List ℕ) (t : Reading) → table_of table names bytes ≡ Ok t → (t.table ≡ table) × (t.number ≡ 0)
+pub table-start : (table : Table) (names further : List (List ℕ)) (bytes : List ℕ) (t : Reading) → table_of table names further bytes ≡ Ok t → (t.table ≡ table) × (t.number ≡ 0)
 unfolding table_of
-table-start table names bytes t h = by (has_mark (strip_bom bytes)) refl where
+table-start table names further bytes t h = by (has_mark (strip_bom bytes)) refl where
   by : (b : Bool) → has_mark (strip_bom bytes) ≡ b → (t.table ≡ table) × (t.number ≡ 0)
   by true e = cc (rw e at h)
-  by false e = start-records table names (records default_config (strip_bom bytes)) t (rw e at h)
+  by false e = start-records table names further (records default_config (strip_bom bytes)) t (rw e at h)
 
-pub rows-start : {A : Type 0} (kind : RowsOf A) (bytes : List ℕ) (t : Reading) → table_of kind.table kind.columns bytes ≡ Ok t → IsRead kind t [] [] t
-rows-start kind bytes t h =
-    let s = table-start kind.table kind.columns bytes t h in
+pub rows-start : {A : Type 0} (kind : RowsOf A) (bytes : List ℕ) (t : Reading) → table_of kind.table kind.columns kind.further bytes ≡ Ok t → kind.enough t.has ≡ true → IsRead kind t [] [] t
+rows-start kind bytes t h enough =
+    let s = table-start kind.table kind.columns kind.further bytes t h in
     let first : t.number + 1 ≡ 1 = omega arith in
-    record { table = s.0; count = s.1; few = omega (arith, s.1); faults = rw first refl; values = refl }
+    record { table = s.0; count = s.1; few = omega (arith, s.1); enough = enough; faults = rw first refl; values = refl }
+
+-- columns that are not enough
+pub rows-lacking : {A : Type 0} (kind : RowsOf A) (bytes : List ℕ) (t : Reading) → table_of kind.table kind.columns kind.further bytes ≡ Ok t → kind.enough t.has ≡ false
+    → rows_of kind bytes ≡ Err (fault_at MissingColumn kind.table 0)
+rows-lacking kind bytes t opened lacking = rw (opened, lacking) refl
 
 -- one row more
 pub rows-step : {A : Type 0} (kind : RowsOf A) (t old new : Reading) (keys : List (List ℕ)) (rows : List A) (x : A)
@@ -62,6 +69,7 @@ rows-step {A = A} kind t old new keys rows x h a e =
       table = a.3 ∙ h.table;
       count = rw (length-append rows (x ∷ [])) (omega (arith, h.count, a.2));
       few = a.4;
+      enough = h.enough;
       faults = ap (λ (l : List TableFault). (l ++ row_faults kind (keys ++ field_of new.row 0 ∷ []) (new.number + 1) new.rows) ++ option_to_list new.stop) (sym v.0)
           ∙ (rw (a.0, n, sym a.1) at h.faults);
       values = append_assoc rows (x ∷ []) (map kind.value new.rows) ∙ ap (λ (y : A). rows ++ (y ∷ map kind.value new.rows)) (sym v.1) ∙ (rw a.0 at h.values);
@@ -69,7 +77,7 @@ rows-step {A = A} kind t old new keys rows x h a e =
 
 -- the row that was read last, without a fault
 pub rows-added : {A : Type 0} (kind : RowsOf A) (identifier : A → List ℕ) (t old new : Reading) (rows after : List A) (keys grown : List (List ℕ))
-    → ((row : Record) → identifier (kind.value row) ≡ field_of row 0)
+    → ((row : Fields) → identifier (kind.value row) ≡ field_of row 0)
     → IsRead kind t keys rows old → keys ≡ map identifier rows → Advances old new (Ok true) → kind.faults keys new.number new.row ≡ []
     → grown ≡ keys ++ field_of new.row 0 ∷ [] → after ≡ rows ++ kind.value new.row ∷ [] → IsRead kind t grown after new × (grown ≡ map identifier after)
 rows-added kind identifier t old new rows after keys grown first h same a good more is = (
@@ -79,32 +87,32 @@ rows-added kind identifier t old new rows after keys grown first h same a good m
 
 -- the end of the rows
 pub rows-end : {A : Type 0} (kind : RowsOf A) (bytes : List ℕ) (t old new : Reading) (keys : List (List ℕ)) (rows : List A)
-    → table_of kind.table kind.columns bytes ≡ Ok t → IsRead kind t keys rows old → Advances old new (Ok false) → rows_of kind bytes ≡ Ok rows
+    → table_of kind.table kind.columns kind.further bytes ≡ Ok t → IsRead kind t keys rows old → Advances old new (Ok false) → rows_of kind bytes ≡ Ok rows
 unfolding row_faults
 rows-end kind bytes t old new keys rows opened h a =
     let none = rw (a.0, a.1) at h.faults in
     let all = rw a.0 at h.values in
-    rw (opened, ← none, ← all, append-nil rows) refl
+    rw (opened, h.enough, ← none, ← all, append-nil rows) refl
 
 -- the fault that stops the rows
 pub rows-stop : {A : Type 0} (kind : RowsOf A) (bytes : List ℕ) (t old new : Reading) (keys : List (List ℕ)) (rows : List A) (f : TableFault)
-    → table_of kind.table kind.columns bytes ≡ Ok t → IsRead kind t keys rows old → Advances old new (Err f) → Answers (Err f) (rows_of kind bytes)
+    → table_of kind.table kind.columns kind.further bytes ≡ Ok t → IsRead kind t keys rows old → Advances old new (Err f) → Answers (Err f) (rows_of kind bytes)
 unfolding row_faults
 rows-stop kind bytes t old new keys rows Memory opened h a = tt
 rows-stop kind bytes t old new keys rows (At code table row wkt) opened h a =
     let stop = rw (a.0, a.1) at h.faults in
-    rw (opened, ← stop) refl
+    rw (opened, h.enough, ← stop) refl
 
 -- a fault of a row
 pub rows-fault : {A : Type 0} (kind : RowsOf A) (bytes : List ℕ) (t old new : Reading) (keys : List (List ℕ)) (rows : List A) (f : TableFault)
-    → table_of kind.table kind.columns bytes ≡ Ok t → IsRead kind t keys rows old → Advances old new (Ok true)
+    → table_of kind.table kind.columns kind.further bytes ≡ Ok t → IsRead kind t keys rows old → Advances old new (Ok true)
     → Answers (Err f) (unless_faulty (kind.faults keys new.number new.row) (kind.value new.row)) → Answers (Err f) (rows_of kind bytes)
 unfolding row_faults
 rows-fault kind bytes t old new keys rows Memory opened h a e = tt
 rows-fault kind bytes t old new keys rows (At code table row wkt) opened h a e =
     let n : old.number + 1 ≡ new.number = sym a.2 in
     let faults = rw (a.0, n) at h.faults in
-    rw (opened, ← faults, append_assoc) (told-fault (kind.faults keys new.number new.row) _ (kind.value new.row) _ (At code table row wkt) e)
+    rw (opened, h.enough, ← faults, append_assoc) (told-fault (kind.faults keys new.number new.row) _ (kind.value new.row) _ (At code table row wkt) e)
 
 -- the fault of a column, before those of the columns after it, and after columns that have none
 pub column-fault : {A B : Type 0} (fs more : List TableFault) (v : A) (w : B) (f : TableFault) → Answers (Err f) (unless_faulty fs v) → Answers (Err f) (unless_faulty (fs ++ more) w)

@@ -1,32 +1,41 @@
--- The table of classes: a code, and whether it is eligible.
-use Rattle.std.specs.Prelude.{◌&&◌, ◌∷◌, ◌++◌, not, ℕ, List, [], codes}
-use Rattle.std.specs.Str.{bytes_eq}
+-- The table of classes: a code, and how much of its land is eligible.
+use Rattle.std.specs.Prelude.{◌||◌, ◌∷◌, ◌++◌, ℕ, List, [], codes, Result, Ok, Err}
 use Rattle.lpis_covers.specs.declared.class.Class.{Class}
 use Rattle.lpis_covers.specs.declared.fault.Table.TheVariants.{Classes}
-use Rattle.lpis_covers.specs.declared.fault.TableCode.TheVariants.{BadEligible}
+use Rattle.lpis_covers.specs.declared.fault.TableCode.{TableCode}
 use Rattle.lpis_covers.specs.declared.fault.TableFault.{TableFault}
-use Rattle.lpis_covers.specs.Faults.{RowsOf, fault_if, key_faults}
-use Rattle.lpis_covers.specs.Table.{Record, fault_at, field_of}
+use Rattle.lpis_covers.specs.Faults.{RowsOf, key_faults}
+use Rattle.lpis_covers.specs.Percentages.{percent_of, percentage_in}
+use Rattle.lpis_covers.specs.private.Percent.{percentage-within}
+use Rattle.lpis_covers.specs.Table.{Fields, fault_at, field_of, has_column, optional_field}
 
--- a mark of eligibility is `1` or `0`
-abbrev pub eligible_faults : ℕ → List ℕ → List TableFault
-eligible_faults n field =
-    fault_if (not (bytes_eq field (codes "1")) && not (bytes_eq field (codes "0")))
-    (fault_at BadEligible Classes n)
+-- the percentage of a row: that of its field `percent`, and where there is no such column that of
+-- its mark `eligible`
+abbrev pub percentage_of : Fields → Result ℕ TableCode
+percentage_of row = percentage_in (optional_field row 1) (field_of row 2)
 
-abbrev pub class_faults : List (List ℕ) → ℕ → Record → List TableFault
+abbrev pub code_faults : ℕ → Result ℕ TableCode → List TableFault
+code_faults n (Ok percent) = []
+code_faults n (Err code) = fault_at code Classes n ∷ []
+
+abbrev pub class_faults : List (List ℕ) → ℕ → Fields → List TableFault
 class_faults keys n row = key_faults Classes n keys (field_of row 0)
-    ++ eligible_faults n (field_of row 1)
+    ++ code_faults n (percentage_of row)
 
-abbrev pub class_of : Record → Class
-class_of row = record { code = field_of row 0; eligible = bytes_eq (field_of row 1) (codes "1") }
+abbrev pub class_of : Fields → Class
+class_of row = record {
+  code = field_of row 0;
+  percent = percent_of (percentage_of row);
+  within = percentage-within (optional_field row 1) (field_of row 2);
+}
 
--- a row is a class: its code, and whether it is eligible
+-- a row is a class: its code, and its percentage. One of the two columns for this has to be there
 abbrev pub classes_table : RowsOf Class
 classes_table = record {
   table = Classes;
-  columns = codes "class" ∷ codes "eligible" ∷ [];
-  faults =
-      class_faults;
+  columns = codes "class" ∷ [];
+  further = codes "percent" ∷ codes "eligible" ∷ [];
+  enough = λ has. has_column has 1 || has_column has 2;
+  faults = class_faults;
   value = class_of;
 }

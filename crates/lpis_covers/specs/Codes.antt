@@ -10,6 +10,7 @@ use Rattle.lpis_covers.specs.declared.fault.TableCode.TheVariants.{DoubledIdenti
 use Rattle.lpis_covers.specs.declared.fault.TableCode.TheVariants.{UnknownClass}
 use Rattle.lpis_covers.specs.declared.fault.TableCode.TheVariants.{ParcelWithoutPieces, BadGeometry}
 use Rattle.lpis_covers.specs.declared.fault.TableCode.TheVariants.{BadEligible, TooManyRows}
+use Rattle.lpis_covers.specs.declared.fault.TableCode.TheVariants.{BadPercent}
 
 -- a table's name
 abbrev pub table_text : Table → List ℕ
@@ -32,3 +33,4 @@ code_text ParcelWithoutPieces = codes "37"
 code_text BadGeometry = codes "38"
 code_text BadEligible = codes "39"
 code_text TooManyRows = codes "3a"
+code_text BadPercent = codes "3b"

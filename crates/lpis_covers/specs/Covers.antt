@@ -1,21 +1,21 @@
 -- The table of pieces of land cover: an identifier, the parcel's, the class's code, and a polygon.
-use Rattle.std.specs.Prelude.{◌∷◌, ◌++◌, ℕ, List, [], codes}
+use Rattle.std.specs.Prelude.{◌∷◌, ◌++◌, true, ℕ, List, [], codes}
 use Rattle.lpis_covers.specs.declared.piece.Piece.{Piece}
 use Rattle.lpis_covers.specs.declared.fault.Table.TheVariants.{Covers}
 use Rattle.lpis_covers.specs.declared.fault.TableFault.{TableFault}
 use Rattle.lpis_covers.specs.Faults.{RowsOf, id_faults, key_faults, polygon_faults, polygon_in}
-use Rattle.lpis_covers.specs.Table.{Record, field_of}
+use Rattle.lpis_covers.specs.Table.{Fields, field_of}
 
 -- the faults of a piece's parcel, class and land
-abbrev pub more_piece_faults : ℕ → Record → List TableFault
+abbrev pub more_piece_faults : ℕ → Fields → List TableFault
 more_piece_faults n row =
     id_faults Covers n (field_of row 1)
     ++ (id_faults Covers n (field_of row 2) ++ polygon_faults Covers n (field_of row 3))
 
-abbrev pub piece_faults : List (List ℕ) → ℕ → Record → List TableFault
+abbrev pub piece_faults : List (List ℕ) → ℕ → Fields → List TableFault
 piece_faults keys n row = key_faults Covers n keys (field_of row 0) ++ more_piece_faults n row
 
-abbrev pub piece_of : Record → Piece
+abbrev pub piece_of : Fields → Piece
 piece_of row = record {
   id = field_of row 0;
   parcel = field_of row 1;
@@ -28,6 +28,8 @@ abbrev pub covers_table : RowsOf Piece
 covers_table = record {
   table = Covers;
   columns = codes "piece" ∷ codes "parcel" ∷ codes "class" ∷ codes "wkt" ∷ [];
+  further = [];
+  enough = λ has. true;
   faults = piece_faults;
   value = piece_of;
 }

@@ -7,12 +7,13 @@ use Rattle.lpis_wkt.specs.declared.fault.WktCode.{WktCode}
 use Rattle.lpis_wkt.specs.declared.fault.WktFault.TheVariants.{At as In}
 use Rattle.lpis_wkt.specs.Answer.{polygon_of}
 use Rattle.lpis_covers.specs.declared.fault.Table.{Table}
-use Rattle.lpis_covers.specs.declared.fault.TableCode.TheVariants.{NotCsv, BadIdentifier}
+use Rattle.lpis_covers.specs.declared.fault.TableCode.TheVariants.{NotCsv, MissingColumn}
+use Rattle.lpis_covers.specs.declared.fault.TableCode.TheVariants.{BadIdentifier}
 use Rattle.lpis_covers.specs.declared.fault.TableCode.TheVariants.{DoubledIdentifier, BadGeometry}
 use Rattle.lpis_covers.specs.declared.fault.TableFault.{TableFault}
 use Rattle.lpis_covers.specs.declared.fault.TableFault.TheVariants.{At}
 use Rattle.lpis_covers.specs.Ids.{has_id, is_id}
-use Rattle.lpis_covers.specs.Table.{Reading, Record, fault_at, field_of, table_of}
+use Rattle.lpis_covers.specs.Table.{Fields, Reading, fault_at, field_of, table_of}
 
 -- a value where there is no fault, and else the first fault
 abbrev pub unless_faulty : {A : Type 0} → List TableFault → A → Result A TableFault
@@ -51,29 +52,34 @@ members_or_none (Err fault) = []
 abbrev pub polygon_in : List ℕ → List Member
 polygon_in field = members_or_none (polygon_of field)
 
--- a table whose rows are values of a type: its columns in the order in which they are tested; the
--- faults of a row below rows with these keys, by its number and fields, in the order of its
--- columns; and its value. A row's key is its first field
+-- a table whose rows are values of a type: its columns in the order in which they are tested, first
+-- those that must be there and then those that may be absent; whether the columns that the header
+-- has are enough; the faults of a row below rows with these keys, by its number and fields, in the
+-- order of its columns; and its value. A row's key is its first field
 pub record RowsOf (A : Type 0) : Type 0 where
   pub table : Table
   pub columns : List (List ℕ)
-  pub faults : List (List ℕ) → ℕ → Record → List TableFault
-  pub value : Record → A
+  pub further : List (List ℕ)
+  pub enough : List Bool → Bool
+  pub faults : List (List ℕ) → ℕ → Fields → List TableFault
+  pub value : Fields → A
 
 -- the faults of rows, row by row, of which the first is row n; the rows above have these keys
-unfoldable pub row_faults : {A : Type 0} → RowsOf A → List (List ℕ) → ℕ → List Record
+unfoldable pub row_faults : {A : Type 0} → RowsOf A → List (List ℕ) → ℕ → List Fields
     → List TableFault
 row_faults kind keys n [] = []
 row_faults kind keys n (r ∷ rs) = kind.faults keys n r
     ++ row_faults kind (keys ++ field_of r 0 ∷ []) (n + 1) rs
 
--- a table's rows as values, or its first fault: one of row 0, else one of a row, else that which
--- stops the rows
+-- a table's rows as values, or its first fault: one of row 0, last that a column is missing where
+-- those that may be absent are not enough, else one of a row, else that which stops the rows
 abbrev pub values_of : {A : Type 0} → RowsOf A → Result Reading TableFault
     → Result (List A) TableFault
-values_of kind (Ok t) = unless_faulty (row_faults kind [] 1 t.rows ++ option_to_list t.stop)
-    (map kind.value t.rows)
+values_of kind (Ok t) =
+    if kind.enough t.has then
+    unless_faulty (row_faults kind [] 1 t.rows ++ option_to_list t.stop) (map kind.value t.rows)
+    else Err (fault_at MissingColumn kind.table 0)
 values_of kind (Err fault) = Err fault
 
 abbrev pub rows_of : {A : Type 0} → RowsOf A → List ℕ → Result (List A) TableFault
-rows_of kind bytes = values_of kind (table_of kind.table kind.columns bytes)
+rows_of kind bytes = values_of kind (table_of kind.table kind.columns kind.further bytes)

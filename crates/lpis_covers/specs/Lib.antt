@@ -3,6 +3,7 @@ pub mod Codes
 pub mod Covers
 pub mod Faults
 pub mod Ids
+pub mod Percentages
 pub mod Rows
 pub mod Table
 pub mod private

@@ -1,7 +1,7 @@
 -- The rows of a table by the names of its columns.
 use Rattle.std.specs.Prelude.{◌≡◌, ◌==◌, ◌+◌, ◌≤◌, ◌∷◌, Bool, true, false, ℕ, List, [], length, map}
-use Rattle.std.specs.Prelude.{nat_lt, Option, Some, None, Result, Ok, Err, slice_index_or}
-use Rattle.std.specs.Prelude.{if◌then◌else◌}
+use Rattle.std.specs.Prelude.{nat_lt, Option, Some, None, Result, Ok, Err, slice_index_or, is_some}
+use Rattle.std.specs.Prelude.{if◌then◌else◌, unwrap_or, ◌++◌}
 use Rattle.std.specs.Str.{str_eq_ignore_ascii_case}
 use Rattle.std.specs.Borrow.{Bor}
 use Rattle.csv.specs.Reading.{default_config, is_bom, records, strip_bom}
@@ -40,42 +40,81 @@ indices_of_name name i (field ∷ fields) =
     if str_eq_ignore_ascii_case field name then i ∷ indices_of_name name (i + 1) fields else
     indices_of_name name (i + 1) fields
 
--- a column stands where the header has its name, once
-abbrev pub one_index : List ℕ → Result ℕ TableCode
-one_index [] = Err MissingColumn
-one_index (index ∷ []) = Ok index
-one_index (index ∷ other ∷ more) = Err DoubledColumn
+-- where a column stands: at the one field that has its name, or nowhere if it may be absent
+abbrev pub one_place : Bool → List ℕ → Result (Option ℕ) TableCode
+one_place needed (index ∷ []) = Ok (Some index)
+one_place needed (index ∷ other ∷ more) = Err DoubledColumn
+one_place true [] = Err MissingColumn
+one_place false [] = Ok None
 
-abbrev pub column_index : Record → List ℕ → Result ℕ TableCode
-column_index header name = one_index (indices_of_name name 0 header)
+abbrev pub place_of : Bool → Record → List ℕ → Result (Option ℕ) TableCode
+place_of needed header name = one_place needed (indices_of_name name 0 header)
 
-abbrev pub and_index : ℕ → Result (List ℕ) TableCode → Result (List ℕ) TableCode
-and_index index (Ok indices) = Ok (index ∷ indices)
-and_index index (Err code) = Err code
+abbrev pub and_place : Option ℕ → Result (List (Option ℕ)) TableCode
+    → Result (List (Option ℕ)) TableCode
+and_place place (Ok places) = Ok (place ∷ places)
+and_place place (Err code) = Err code
 
-abbrev pub then_indices : Result ℕ TableCode → Result (List ℕ) TableCode → Result (List ℕ) TableCode
-then_indices (Ok index) more = and_index index more
-then_indices (Err code) more = Err code
+abbrev pub then_places : Result (Option ℕ) TableCode → Result (List (Option ℕ)) TableCode
+    → Result (List (Option ℕ)) TableCode
+then_places (Ok place) more = and_place place more
+then_places (Err code) more = Err code
 
--- the indices of the columns of these names, or the fault of the first that has one
-unfoldable pub indices_of : Record → List (List ℕ) → Result (List ℕ) TableCode
-indices_of header [] = Ok []
-indices_of header (name ∷ names) = then_indices (column_index header name) (indices_of header names)
+-- the places of the columns of these names, or the fault of the first that has one
+unfoldable pub places_of : Bool → Record → List (List ℕ) → Result (List (Option ℕ)) TableCode
+places_of needed header [] = Ok []
+places_of needed header (name ∷ names) = then_places (place_of needed header name)
+    (places_of needed header names)
 
--- the field at an index, empty past the last one
-abbrev pub field_of : Record → ℕ → List ℕ
-field_of fields index = slice_index_or fields index []
+-- places, and those after them
+abbrev pub after_places : List (Option ℕ) → Result (List (Option ℕ)) TableCode
+    → Result (List (Option ℕ)) TableCode
+after_places front (Ok places) = Ok (front ++ places)
+after_places front (Err code) = Err code
 
--- the fields at these indices
-abbrev pub picked : List ℕ → Record → Record
-picked indices fields = map (field_of fields) indices
+abbrev pub all_places : Result (List (Option ℕ)) TableCode → Result (List (Option ℕ)) TableCode
+    → Result (List (Option ℕ)) TableCode
+all_places (Ok places) more = after_places places more
+all_places (Err code) more = Err code
+
+-- the places of the wanted columns: first of those that must be there, then of those that may be
+-- absent
+abbrev pub wanted_places : Record → List (List ℕ) → List (List ℕ)
+    → Result (List (Option ℕ)) TableCode
+wanted_places header names further = all_places (places_of true header names)
+    (places_of false header further)
+
+-- the wanted fields of a row; none for a column that the header has not
+abbrev pub Fields : Type 0
+Fields = List (Option (List ℕ))
+
+-- the field at a place, empty past the last one
+abbrev pub field_at_place : Record → Option ℕ → Option (List ℕ)
+field_at_place fields None = None
+field_at_place fields (Some index) = Some (slice_index_or fields index [])
+
+-- the fields at these places
+abbrev pub picked : List (Option ℕ) → Record → Fields
+picked places fields = map (field_at_place fields) places
+
+-- the k-th wanted field, where the header has its column
+abbrev pub optional_field : Fields → ℕ → Option (List ℕ)
+optional_field row k = slice_index_or row k None
+
+-- the same, empty where the header has not its column
+abbrev pub field_of : Fields → ℕ → List ℕ
+field_of row k = unwrap_or (optional_field row k) []
+
+-- the wanted fields of a row as a record: empty for a column that the header has not
+abbrev pub flat : Fields → Record
+flat row = map (λ (field : Option (List ℕ)). unwrap_or field []) row
 
 -- the wanted fields of rows, and the fault that stops them, if one does
 pub record Found : Type 0 where
-  pub rows : List Record
+  pub rows : List Fields
   pub stop : Option TableFault
 
-abbrev pub with_row : Record → Found → Found
+abbrev pub with_row : Fields → Found → Found
 with_row row found = record { rows = row ∷ found.rows; stop = found.stop }
 
 abbrev pub stopped : TableFault → Found
@@ -83,26 +122,32 @@ stopped fault = record { rows = []; stop = Some fault }
 
 -- the rows before the first whose length is not the header's or whose number is past the most, in
 -- this order; the first record is row n
-unfoldable pub rows_from : Table → ℕ → List ℕ → ℕ → List Record → Found
-rows_from table width indices n [] = record { rows = []; stop = None }
-rows_from table width indices n (r ∷ rs) =
+unfoldable pub rows_from : Table → ℕ → List (Option ℕ) → ℕ → List Record → Found
+rows_from table width places n [] = record { rows = []; stop = None }
+rows_from table width places n (r ∷ rs) =
     if length r == width then
     (if nat_lt most_rows n then stopped (fault_at TooManyRows table n)
-    else with_row (picked indices r) (rows_from table width indices (n + 1) rs))
+    else with_row (picked places r) (rows_from table width places (n + 1) rs))
     else stopped (fault_at NotCsv table n)
 
--- where a reader of a table stands: the number and the wanted fields of the row that it read last
--- (fault_at the start row 0, the header), and what is left
+-- where a reader of a table stands: which of the wanted columns the header has, the number and the
+-- wanted fields of the row that it read last (at the start row 0, the header), and what is left
 pub record Reading : Type 0 where
   pub table : Table
+  pub has : List Bool
   pub number : ℕ
-  pub row : Record
-  pub rows : List Record
+  pub row : Fields
+  pub rows : List Fields
   pub stop : Option TableFault
 
-abbrev pub reading : Table → ℕ → Record → Found → Reading
-reading table n row found = record {
+-- whether the header has the k-th wanted column
+abbrev pub has_column : List Bool → ℕ → Bool
+has_column has k = slice_index_or has k false
+
+abbrev pub reading : Table → List (Option ℕ) → ℕ → Fields → Found → Reading
+reading table places n row found = record {
   table = table;
+  has = map is_some places;
   number = n;
   row = row;
   rows = found.rows;
@@ -110,23 +155,26 @@ reading table n row found = record {
       found.stop;
 }
 
-abbrev pub rows_under : Table → Record → List Record → Result (List ℕ) TableCode
+abbrev pub rows_under : Table → Record → List Record → Result (List (Option ℕ)) TableCode
     → Result Reading TableFault
-rows_under table header rs (Ok indices) =
-    Ok (reading table 0 (picked indices header) (rows_from table (length header) indices 1 rs))
+rows_under table header rs (Ok places) = Ok (reading table places 0 (picked places header)
+    (rows_from table (length header) places 1 rs))
 rows_under table header rs (Err code) = Err (fault_at code table 0)
 
 -- the first record is the header; a text without one lacks its first column
-abbrev pub under_header : Table → List (List ℕ) → List Record → Result Reading TableFault
-under_header table names [] = Err (fault_at MissingColumn table 0)
-under_header table names (header ∷ rs) = rows_under table header rs (indices_of header names)
+abbrev pub under_header : Table → List (List ℕ) → List (List ℕ) → List Record
+    → Result Reading TableFault
+under_header table names further [] = Err (fault_at MissingColumn table 0)
+under_header table names further (header ∷ rs) = rows_under table header rs
+    (wanted_places header names further)
 
--- the table of a text, by the names of the wanted columns: one byte order mark is skipped, and a
--- second one is a fault
-unfoldable pub table_of : Table → List (List ℕ) → List ℕ → Result Reading TableFault
-table_of table names bytes =
+-- the table of a text, by the names of the wanted columns that must be there and of those that may
+-- be absent: one byte order mark is skipped, and a second one is a fault
+unfoldable pub table_of : Table → List (List ℕ) → List (List ℕ) → List ℕ
+    → Result Reading TableFault
+table_of table names further bytes =
     if has_mark (strip_bom bytes) then Err (fault_at NotCsv table 0)
-    else under_header table names (records default_config (strip_bom bytes))
+    else under_header table names further (records default_config (strip_bom bytes))
 
 -- what a fault reports: itself, but that memory ran out
 abbrev pub report : TableFault → Option TableFault
@@ -137,7 +185,7 @@ report (At code table row wkt) = Some (At code table row wkt)
 abbrev pub Advances : Reading → Reading → Result Bool TableFault → Type 0
 Advances old new (Ok true) =
     (old.rows ≡ new.row ∷ new.rows) × (new.stop ≡ old.stop) × (new.number ≡ old.number + 1)
-    × (new.table ≡ old.table) × (new.number ≤ most_rows)
+    × (new.table ≡ old.table) × (new.number ≤ most_rows) × (new.has ≡ old.has)
 Advances old new (Ok false) = (old.rows ≡ []) × (old.stop ≡ None)
 Advances old new (Err fault) =
     UnlessMemory (λ (f : TableFault). (old.rows ≡ []) × (old.stop ≡ Some f)) (report fault)

@@ -3,3 +3,4 @@ pub mod Columns
 pub mod Keyed
 pub mod Left
 pub mod Padding
+pub mod Percent

@@ -64,10 +64,12 @@ pub enum TableCode {
     BadEligible,
     /// A row past the most rows of a table.
     TooManyRows,
+    /// A percentage other than `0` to `100`.
+    BadPercent,
 }
 
 impl TableCode {
-    /// The two characters that stand for the code in a refusal: `30` to `39` and `3a`.
+    /// The two characters that stand for the code in a refusal: `30` to `39`, `3a` and `3b`.
     pub fn as_str(self) -> &'static str
         ensures { result.now ≡ code_text self }
     {
@@ -83,6 +85,7 @@ impl TableCode {
             TableCode::BadGeometry => "38",
             TableCode::BadEligible => "39",
             TableCode::TooManyRows => "3a",
+            TableCode::BadPercent => "3b",
         }
     }
 }

@@ -2,18 +2,21 @@
 #![tactic(auto)]
 
 mod class;
+mod class_table;
 mod fault;
 mod fields;
 mod id;
 mod keyed;
 mod keys;
+mod percent;
 mod piece;
 mod reader;
 mod records;
 mod rows;
 mod typed;
 
-pub use class::{Class, Classes, read_classes};
+pub use class::{Class, Classes};
+pub use class_table::read_classes;
 pub use fault::{Table, TableCode, TableFault};
 pub use id::{Id, is_id_text};
 pub use keyed::{Identified, Keyed};

@@ -53,6 +53,14 @@ impl TableRow for Piece {
         &[b"piece", b"parcel", b"class", b"wkt"]
     }
 
+    fn further() -> &'static [&'static [u8]] {
+        &[]
+    }
+
+    fn is_enough(_reader: &TableReader<'_>) -> bool {
+        true
+    }
+
     fn read(alloc: Global, reader: &TableReader<'_>, id: Id) -> Result<Piece, TableFault> {
         let parcel = reader.id(alloc, 1)?;
         let class = reader.id(alloc, 2)?;

@@ -1,10 +1,12 @@
 //! A reader of a table, row by row.
 
-ghost use Rattle.std.specs.Prelude.{◌≡◌, ◌≤◌, [], None, Some, IfOk, IfErr, Ok};
+ghost use Rattle.std.specs.Prelude.{◌≡◌, ◌≤◌, [], None, Some, IfErr, IfOk, OnOk, Ok, option_map};
+ghost use Rattle.std.specs.Prelude.{option_to_list, slice_index_or, unwrap_or};
 ghost use Rattle.csv.specs.Records.{fields_of};
 ghost use Rattle.csv.specs.Reading.{strip_bom};
-ghost use Rattle.lpis_covers.specs.Table.{Advances, Answers, fault_at, field_of, has_mark, picked};
-ghost use Rattle.lpis_covers.specs.Table.{column_index, indices_of, table_of, texts};
+ghost use Rattle.lpis_covers.specs.Table.{Advances, Answers, after_places, fault_at, field_of, flat};
+ghost use Rattle.lpis_covers.specs.Table.{has_column, has_mark, one_place, optional_field, picked, place_of};
+ghost use Rattle.lpis_covers.specs.Table.{field_at_place, places_of, table_of, texts, wanted_places};
 ghost use Rattle.lpis_covers.specs.declared.fault.TableCode.TheVariants.{BadGeometry};
 ghost use Rattle.lpis_covers.specs.declared.fault.TableFault.TheVariants.{At};
 ghost use Rattle.lpis_covers.specs.private.Columns.{TellsColumn};
@@ -26,7 +28,7 @@ pub(crate) const MOST_ROWS: u32 = 200_000;
 pub struct TableReader<'a> {
     records: Records<'a>,
     current: ByteRecord,
-    indices: Vec<usize>,
+    places: Vec<Option<usize>>,
     table: Table,
     number: u32,
 }
@@ -38,8 +40,9 @@ impl<'a> Model for TableReader<'a> {
 
     ghost Value = { Reading };
 
-    ghost view = { λ r. reading r.table r.number (picked r.indices.items (fields_of r.current))
-        (rows_from r.table r.records.width r.indices.items (r.number + 1) r.records.records) };
+    ghost view = { λ r. reading r.table r.places.items r.number
+        (picked r.places.items (fields_of r.current))
+        (rows_from r.table r.records.width r.places.items (r.number + 1) r.records.records) };
 
     ghost invariant = { λ r. r.number ≤ most_rows };
 }
@@ -65,9 +68,26 @@ fn without_mark(text: &[u8]) -> &[u8]
     }
 }
 
-/// The index of the one field of a name.
-fn column_index(header: &ByteRecord, name: &[u8]) -> Result<usize, TableCode>
-    ensures { result ≡ column_index (fields_of header.now) name.now }
+/// The place of a column that stands at most once in the header.
+fn place_found(found: Option<usize>, needed: bool) -> Result<Option<usize>, TableCode>
+    ensures { result ≡ one_place needed (option_to_list found) }
+{
+    match found {
+        Some(index) => Ok(Some(index)),
+        None => {
+            if needed {
+                Err(TableCode::MissingColumn)
+            } else {
+                Ok(None)
+            }
+        }
+    }
+}
+
+/// Where a column stands in the header: at the one field that has its name, or nowhere if it may be
+/// absent.
+fn column_place(header: &ByteRecord, name: &[u8], needed: bool) -> Result<Option<usize>, TableCode>
+    ensures { result ≡ place_of needed (fields_of header.now) name.now }
 {
     let mut found: Option<usize> = None;
     for i in 0..header.len() {
@@ -80,44 +100,87 @@ fn column_index(header: &ByteRecord, name: &[u8]) -> Result<usize, TableCode>
             }
         }
     }
-    found.ok_or(TableCode::MissingColumn)
+    place_found(found, needed)
 }
 
-/// The indices of the columns of these names.
-fn column_indices(
+/// Adds the places of the columns of these names.
+fn add_places(
+    header: &ByteRecord,
+    table: Table,
+    names: &[&[u8]],
+    needed: bool,
+    places: &mut Vec<Option<usize>>,
+) -> Result<(), TableFault>
+    ensures ok { OnOk result (after_places places.old.items
+        (places_of needed (fields_of header.now) (texts names.now)) ≡ Ok places.new.items) }
+    ensures err { IfErr result
+        (TellsColumn table (places_of needed (fields_of header.now) (texts names.now))) }
+{
+    for name in names {
+        match column_place(header, name, needed) {
+            Ok(place) => places.push(place)?,
+            Err(code) => return Err(fault(code, table, 0)),
+        }
+    }
+    Ok(())
+}
+
+/// The places of the wanted columns: of those that must be there, then of those that may be absent.
+fn column_places(
     alloc: Global,
     header: &ByteRecord,
     table: Table,
     names: &[&[u8]],
-) -> Result<Vec<usize>, TableFault>
-    ensures ok { IfOk result (λ v. indices_of (fields_of header.now) (texts names.now) ≡ Ok
-        v.items) }
-    ensures err { IfErr result
-        (TellsColumn table (indices_of (fields_of header.now) (texts names.now))) }
+    further: &[&[u8]],
+) -> Result<Vec<Option<usize>>, TableFault>
+    ensures ok { IfOk result (λ v. wanted_places (fields_of header.now) (texts names.now)
+        (texts further.now) ≡ Ok v.items) }
+    ensures err { IfErr result (TellsColumn table
+        (wanted_places (fields_of header.now) (texts names.now) (texts further.now))) }
 {
-    let mut indices = Vec::new(alloc);
-    for name in names {
-        match column_index(header, name) {
-            Ok(index) => indices.push(index)?,
-            Err(code) => return Err(fault(code, table, 0)),
-        }
-    }
-    Ok(indices)
+    let mut places = Vec::new(alloc);
+    add_places(header, table, names, true, &mut places)?;
+    add_places(header, table, further, false, &mut places)?;
+    Ok(places)
 }
 
-/// A copy of the fields at these indices.
-fn picked_row(alloc: Global, row: &ByteRecord, indices: &[usize]) -> Result<ByteRecord, AllocError>
-    ensures { IfOk result (λ r. fields_of r ≡ picked indices.now (fields_of row.now)) }
+/// The field at a place, empty where there is none.
+fn field_at<'a>(row: &'a ByteRecord, place: Option<usize>) -> &'a [u8]
+    ensures { result.now ≡ unwrap_or (field_at_place (fields_of row.now) place) [] }
+{
+    match place {
+        Some(index) => row.get(index).unwrap_or(&[]),
+        None => &[],
+    }
+}
+
+/// The k-th of the places, from 0.
+fn place_at(places: &[Option<usize>], k: usize) -> Option<usize>
+    ensures { result ≡ slice_index_or places.now k None }
+{
+    match places.get(k) {
+        Some(place) => *place,
+        None => None,
+    }
+}
+
+/// A copy of the fields at these places.
+fn picked_row(
+    alloc: Global,
+    row: &ByteRecord,
+    places: &[Option<usize>],
+) -> Result<ByteRecord, AllocError>
+    ensures { IfOk result (λ r. fields_of r ≡ flat (picked places.now (fields_of row.now))) }
 {
     let mut wanted = ByteRecord::new(alloc);
-    for index in indices {
-        wanted.push_field(row.get(*index).unwrap_or(&[]))?;
+    for place in places {
+        wanted.push_field(field_at(row, *place))?;
     }
     Ok(wanted)
 }
 
 /// A fault in a row of a table.
-fn fault(code: TableCode, table: Table, row: u32) -> TableFault
+pub(crate) fn fault(code: TableCode, table: Table, row: u32) -> TableFault
     ensures { result ≡ fault_at code table row }
 {
     TableFault::At {
@@ -129,9 +192,9 @@ fn fault(code: TableCode, table: Table, row: u32) -> TableFault
 }
 
 impl<'a> TableReader<'a> {
-    /// A reader of the wanted columns of a table. The first record is the header, in which each
-    /// column's name stands once, in any mix of ASCII cases. One byte order mark at the start is
-    /// skipped.
+    /// A reader of the wanted columns of a table. The first record is the header, in which the name
+    /// of each of `columns` stands once, and that of each of `further` at most once, in any mix of
+    /// ASCII cases. One byte order mark at the start is skipped.
     ///
     /// A refusal is a fault of row 0, or out of memory.
     pub fn open(
@@ -139,8 +202,10 @@ impl<'a> TableReader<'a> {
         bytes: &'a [u8],
         table: Table,
         columns: &[&[u8]],
+        further: &[&[u8]],
     ) -> Result<TableReader<'a>, TableFault>
-        ensures { Answers result (table_of table (texts columns.now) bytes.now) }
+        ensures { Answers result
+            (table_of table (texts columns.now) (texts further.now) bytes.now) }
     {
         let text = without_mark(bytes);
         if starts_with_mark(text) {
@@ -149,11 +214,11 @@ impl<'a> TableReader<'a> {
         let mut header = ByteRecord::new(alloc);
         match Records::open(alloc, text, &mut header)? {
             Some(records) => {
-                let indices = column_indices(alloc, &header, table, columns)?;
+                let places = column_places(alloc, &header, table, columns, further)?;
                 Ok(TableReader {
                     records,
                     current: header,
-                    indices,
+                    places,
                     table,
                     number: 0,
                 })
@@ -180,21 +245,48 @@ impl<'a> TableReader<'a> {
         }
     }
 
-    /// The k-th wanted field, from 0, of the row that was read last; empty past the wanted columns.
+    /// For each wanted column whether the header has it.
+    pub(crate) fn columns_there(&self, alloc: Global) -> Result<Vec<bool>, AllocError>
+        ensures { IfOk result (λ has. has.items ≡ self.now.has) }
+    {
+        let mut has = Vec::new(alloc);
+        for place in self.places.as_slice() {
+            has.push(place.is_some())?;
+        }
+        Ok(has)
+    }
+
+    /// Whether the header has the k-th wanted column, from 0: first come those that must be there,
+    /// and then those that may be absent.
+    pub fn has_column(&self, k: usize) -> bool
+        ensures { result ≡ has_column self.now.has k }
+    {
+        place_at(&self.places, k).is_some()
+    }
+
+    /// The k-th wanted field of the row that was read last, where the header has its column.
+    pub fn optional_field(&self, k: usize) -> Option<&[u8]>
+        ensures { option_map (λ field. field.now) result ≡ optional_field self.now.row k }
+    {
+        match place_at(&self.places, k) {
+            Some(index) => Some(self.current.get(index).unwrap_or(&[])),
+            None => None,
+        }
+    }
+
+    /// The k-th wanted field, from 0, of the row that was read last; empty where the header has not
+    /// its column, and past the wanted columns.
     pub fn field(&self, k: usize) -> &[u8]
         ensures { result.now ≡ field_of self.now.row k }
     {
-        match self.indices.get(k) {
-            Some(index) => self.current.get(*index).unwrap_or(&[]),
-            None => &[],
-        }
+        self.optional_field(k).unwrap_or(&[])
     }
 
     /// A copy of the wanted fields of the row that was read last.
     pub(crate) fn copy_row(&self, alloc: Global) -> Result<ByteRecord, AllocError>
-        ensures { IfOk result (λ r. fields_of r ≡ self.now.row) }
+        ensures { IfOk result (λ r. fields_of r ≡ flat self.now.row) }
     {
-        picked_row(alloc, &self.current, &self.indices)
+        picked_row(alloc, &self.current, &self.places)
     }
 
     /// A fault in the row that was read last.

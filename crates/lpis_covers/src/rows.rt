@@ -1,8 +1,9 @@
 //! The rows of a table, as a list.
 
-ghost use Rattle.std.specs.Prelude.{◌≡◌, ◌++◌, ◌∷◌, [], map, OnOk};
+ghost use Rattle.std.specs.Prelude.{◌≡◌, ◌++◌, ◌∷◌, [], map, option_map, slice_index_or, None};
+ghost use Rattle.std.specs.Prelude.{OnOk, Some, if◌then◌else◌};
 ghost use Rattle.csv.specs.Records.{fields_of};
-ghost use Rattle.lpis_covers.specs.Table.{table_of, texts};
+ghost use Rattle.lpis_covers.specs.Table.{flat, has_column, table_of, texts};
 ghost use Rattle.lpis_covers.specs.Rows.{RowsAnswer};
 
 use crate::fault::{Table, TableFault};
@@ -15,8 +16,35 @@ use std::alloc::{AllocError, Global};
 /// fault.
 #[derive(Drop)]
 pub struct Rows {
+    /// For each wanted column whether the header has it.
+    pub has: Sequence<bool>,
+    /// The wanted fields of each row, empty for a column that the header has not.
     pub rows: Sequence<ByteRecord>,
     pub stop: Option<TableFault>,
+}
+
+/// The k-th of the marks, from 0, and false past the last one.
+fn is_there(has: &[bool], k: usize) -> bool
+    ensures { result ≡ has_column has.now k }
+{
+    match has.get(k) {
+        Some(there) => *there,
+        None => false,
+    }
+}
+
+impl Rows {
+    /// The k-th wanted field of a row, from 0, where the header has its column.
+    pub fn optional_field<'a>(&self, row: &'a ByteRecord, k: usize) -> Option<&'a [u8]>
+        ensures { option_map (λ field. field.now) result ≡ (if has_column self.now.has k then
+            Some (slice_index_or (fields_of row.now) k []) else None) }
+    {
+        if is_there(self.has.as_slice(), k) {
+            Some(row.get(k).unwrap_or(&[]))
+        } else {
+            None
+        }
+    }
 }
 
 /// Adds a copy of the row that was read last.
@@ -26,24 +54,27 @@ fn add_copy(
     rows: &mut Vec<ByteRecord>,
 ) -> Result<(), AllocError>
     ensures { OnOk result (map fields_of rows.new.items ≡
-        map fields_of rows.old.items ++ reader.now.row ∷ []) }
+        map fields_of rows.old.items ++ flat reader.now.row ∷ []) }
 {
     let row = reader.copy_row(alloc)?;
     rows.push(row)?;
     Ok(())
 }
 
-/// The wanted columns of a table, by their names in the order given. A refusal is a fault of row 0,
-/// or out of memory.
+/// The wanted columns of a table, by their names in the order given: `columns`, and then `further`
+/// ones that may be absent. A refusal is a fault of row 0, or out of memory.
 pub fn read_table(
     alloc: Global,
     bytes: &[u8],
     table: Table,
     columns: &[&[u8]],
+    further: &[&[u8]],
 ) -> Result<Rows, TableFault>
-    ensures { RowsAnswer result (table_of table (texts columns.now) bytes.now) }
+    ensures { RowsAnswer result
+        (table_of table (texts columns.now) (texts further.now) bytes.now) }
 {
-    let mut reader = TableReader::open(alloc, bytes, table, columns)?;
+    let mut reader = TableReader::open(alloc, bytes, table, columns, further)?;
+    let has = reader.columns_there(alloc)?;
     let mut rows = Vec::new(alloc);
     let stop = 'rows: loop {
         match reader.next_row() {
@@ -54,6 +85,7 @@ pub fn read_table(
         }
     };
     Ok(Rows {
+        has: Sequence::new(has),
         rows: Sequence::new(without_spare(rows)?),
         stop,
     })

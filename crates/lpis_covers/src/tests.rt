@@ -17,15 +17,11 @@ fn line(rt: &HostRuntime, fault: &TableFault) -> Result<String, Fail> {
     }
 }
 
-/// Fails unless an answer is refused with this code, table and row.
-fn expect_refusal<T: Drop>(
-    rt: &HostRuntime,
-    answer: Result<T, TableFault>,
-    refusal: &str,
-) -> Result<(), Fail> {
+/// What is told of an answer: nothing of rows, and the line of a fault.
+fn fault_line<T: Drop>(rt: &HostRuntime, answer: Result<T, TableFault>) -> Result<String, Fail> {
     match answer {
-        Ok(_) => Err(Fail::new(format_args!("not refused with {refusal}"))),
-        Err(fault) => expect(line(rt, &fault)?.as_str(), refusal),
+        Ok(_) => Ok(String::from_str(rt.alloc(), "read")?),
+        Err(fault) => line(rt, &fault),
     }
 }
 
@@ -35,7 +31,12 @@ fn text_of(rt: &HostRuntime, rows: &Rows) -> Result<String, Fail> {
     for row in rows.rows.as_slice() {
         text.push_str("[")?;
         text.push_str(str::from_utf8(row.as_slice()).unwrap_or("no text"))?;
-        text.push_str("]")?;
+        // The third column may be absent.
+        text.push_str(if rows.optional_field(row, 2).is_some() {
+            "]"
+        } else {
+            ")"
+        })?;
     }
     if let Some(stop) = &rows.stop {
         text.push_str(line(rt, stop)?.as_str())?;
@@ -43,58 +44,114 @@ fn text_of(rt: &HostRuntime, rows: &Rows) -> Result<String, Fail> {
     Ok(text)
 }
 
-/// The table of polygons in a text, with the columns `name` and `wkt`.
-fn table(rt: &HostRuntime, text: &[u8]) -> Result<Rows, TableFault> {
-    read_table(rt.alloc(), text, Table::Area, &[b"name", b"wkt"])
+/// The rows of a table in a text, with the columns `name` and `wkt` and perhaps `area`, or the line
+/// of its fault.
+fn table(rt: &HostRuntime, text: &[u8]) -> Result<String, Fail> {
+    match read_table(
+        rt.alloc(),
+        text,
+        Table::Area,
+        &[b"name", b"wkt"],
+        &[b"area"],
+    ) {
+        Ok(rows) => text_of(rt, &rows),
+        Err(fault) => line(rt, &fault),
+    }
+}
+
+/// The classes of a text with their percentages, or the line of its fault.
+fn classes(rt: &HostRuntime, text: &[u8]) -> Result<String, Fail> {
+    match read_classes(rt.alloc(), text) {
+        Ok(classes) => {
+            let mut told = String::new(rt.alloc());
+            for class in classes.as_slice() {
+                let row = format!(in rt.alloc(); "{} {} ", class.code.as_str(), class.percent)?;
+                told.push_str(row.as_str())?;
+            }
+            Ok(told)
+        }
+        Err(fault) => line(rt, &fault),
+    }
 }
 
 #[test]
-fn reads_identifiers(rt: HostRuntime) -> Result<(), Fail> {
+fn identifiers(rt: HostRuntime) -> Result<(), Fail> {
     let longest = "abcdefghijABCDEFGHIJ0123456789._:/-xyzXY";
     let id = Id::read(rt.alloc(), longest.as_bytes())?.ok_or("no identifier")?;
-    expect(id.copy()?.as_str(), longest)
-}
-
-#[test]
-fn refuses_other_texts_as_identifiers(rt: HostRuntime) -> Result<(), Fail> {
-    let longer = b"abcdefghijABCDEFGHIJ0123456789._:/-xyzXYZ";
-    assert!(rt; Id::read(rt.alloc(), longer)?.is_none());
-    assert!(rt; Id::read(rt.alloc(), b"")?.is_none());
-    assert!(rt; Id::read(rt.alloc(), b"a b")?.is_none());
+    expect(id.copy()?.as_str(), longest)?;
+    for text in ["abcdefghijABCDEFGHIJ0123456789._:/-xyzXYZ", "", "a b"] {
+        assert!(rt; Id::read(rt.alloc(), text.as_bytes())?.is_none());
+    }
     Ok(())
 }
 
 #[test]
-fn finds_columns_by_name(rt: HostRuntime) -> Result<(), Fail> {
-    let text = b"\xEF\xBB\xBFx,WKT,Name\r\n1,\"a,\"\"b\"\"\",n\r\n2,c,m\r\n3\r\n4,d,o\r\n";
-    let rows = table(&rt, text)?;
-    expect(text_of(&rt, &rows)?.as_str(), "[na,\"b\"][mc]30 area 3")
+fn columns(rt: HostRuntime) -> Result<(), Fail> {
+    for (text, told) in [
+        (
+            b"\xEF\xBB\xBFx,WKT,Name\r\n1,\"a,\"\"b\"\"\",n\r\n2,c,m\r\n3\r\n4,d,o\r\n".as_slice(),
+            "[na,\"b\")[mc)30 area 3",
+        ),
+        (b"Area,wkt,name\n7,w,n\n,v,m\n", "[nw7][mv]"),
+        (b"area,wkt,name,AREA\n", "32 area 0"),
+        (b"area,wkt,wkt,AREA\n", "31 area 0"),
+        (b"", "31 area 0"),
+        (b"name,wkt2\n", "31 area 0"),
+        (b"wkt,Wkt,name\n", "32 area 0"),
+        (b"\xEF\xBB\xBF\xEF\xBB\xBFname,wkt\n", "30 area 0"),
+    ] {
+        expect(table(&rt, text)?.as_str(), told)?;
+    }
+    Ok(())
 }
 
 #[test]
-fn tells_faults_of_the_header(rt: HostRuntime) -> Result<(), Fail> {
-    expect_refusal(&rt, table(&rt, b""), "31 area 0")?;
-    expect_refusal(&rt, table(&rt, b"name,wkt2\n"), "31 area 0")?;
-    expect_refusal(&rt, table(&rt, b"wkt,Wkt,name\n"), "32 area 0")?;
-    expect_refusal(
-        &rt,
-        table(&rt, b"\xEF\xBB\xBF\xEF\xBB\xBFname,wkt\n"),
-        "30 area 0",
-    )
+fn rows_of_classes(rt: HostRuntime) -> Result<(), Fail> {
+    for (text, told) in [
+        (b"eligible,class\n1,G\n0,G\n".as_slice(), "34 classes 2"),
+        (b"eligible,class\n1,G\nyes,W\n", "39 classes 2"),
+        (b"eligible,class\n1,G\n0,W\n", "G 100 W 0 "),
+        (
+            b"class,percent\nG,0\nW,100\nX,37\nY,7\n",
+            "G 0 W 100 X 37 Y 7 ",
+        ),
+        (b"class,percent\nG,101\n", "3b classes 1"),
+        (b"class,percent\nG,007\n", "3b classes 1"),
+        (b"class,percent\nG,-0\n", "3b classes 1"),
+        (b"class,percent\nG,1.0\n", "3b classes 1"),
+        (b"class,percent\nG,\n", "3b classes 1"),
+        (b"class,percent\nG G,\n", "33 classes 1"),
+        (b"class,percent,eligible\nG,37,yes\n", "G 37 "),
+        (b"Eligible,Percent,class\n1,37,G\n", "G 37 "),
+        (
+            b"class,percent,eligible,eligible\nG,37,1,1\n",
+            "32 classes 0",
+        ),
+        (b"class,eligible,eligible\nG,1,1\n", "32 classes 0"),
+        (b"class,percent,percent\nG,37,37\n", "32 classes 0"),
+        (b"class,name\nG G,x\n", "31 classes 0"),
+        (b"name\nx\n", "31 classes 0"),
+        (b"class,class,percent,percent\n", "32 classes 0"),
+    ] {
+        expect(classes(&rt, text)?.as_str(), told)?;
+    }
+    Ok(())
 }
 
 #[test]
-fn tells_faults_of_classes(rt: HostRuntime) -> Result<(), Fail> {
-    let doubled = read_classes(rt.alloc(), b"eligible,class\n1,G\n0,G\n");
-    expect_refusal(&rt, doubled, "34 classes 2")?;
-    let marked = read_classes(rt.alloc(), b"eligible,class\n1,G\nyes,W\n");
-    expect_refusal(&rt, marked, "39 classes 2")
-}
-
-#[test]
-fn tells_faults_of_pieces(rt: HostRuntime) -> Result<(), Fail> {
-    let no_text = read_pieces(rt.alloc(), b"piece,parcel,class,wkt\nP,A,G,\xFF\n");
-    expect_refusal(&rt, no_text, "30 covers 1")?;
-    let empty = read_pieces(rt.alloc(), b"piece,parcel,class,wkt\nP,A,G,POLYGON EMPTY\n");
-    expect_refusal(&rt, empty, "38 covers 1")
+fn rows_of_pieces(rt: HostRuntime) -> Result<(), Fail> {
+    for (text, told) in [
+        (
+            b"piece,parcel,class,wkt\nP,A,G,\xFF\n".as_slice(),
+            "30 covers 1",
+        ),
+        (
+            b"piece,parcel,class,wkt\nP,A,G,POLYGON EMPTY\n",
+            "38 covers 1",
+        ),
+    ] {
+        let pieces = read_pieces(rt.alloc(), text);
+        expect(fault_line(&rt, pieces)?.as_str(), told)?;
+    }
+    Ok(())
 }

@@ -4,11 +4,11 @@ ghost use Rattle.std.specs.Prelude.{◌≡◌, ◌++◌, ◌∷◌, [], Err, IfE
 ghost use Rattle.lpis_covers.specs.Faults.{rows_of, unless_faulty};
 ghost use Rattle.lpis_covers.specs.Table.{Answers, field_of};
 
-use crate::fault::{Table, TableFault};
+use crate::fault::{Table, TableCode, TableFault};
 use crate::id::Id;
 use crate::keyed::{Identified, Keyed};
 use crate::keys::Keys;
-use crate::reader::{MOST_ROWS, TableReader};
+use crate::reader::{MOST_ROWS, TableReader, fault};
 use std::alloc::Global;
 
 /// A row that is read from a table whose first column is its identifier.
@@ -16,19 +16,27 @@ pub trait TableRow: Identified + Drop {
     ghost use Rattle.std.specs.Prelude.{◌≡◌, ◌++◌, List, ℕ};
     ghost use Rattle.lpis_covers.specs.declared.fault.TableFault.{TableFault};
     ghost use Rattle.lpis_covers.specs.Faults.{RowsOf, key_faults, unless_faulty};
-    ghost use Rattle.lpis_covers.specs.Table.{Answers, Record, field_of, texts};
+    ghost use Rattle.lpis_covers.specs.Table.{Answers, Fields, field_of, texts};
 
     ghost kind: { RowsOf Self };
 
-    ghost others: { ℕ → Record → List TableFault };
+    ghost others: { ℕ → Fields → List TableFault };
 
     /// The table.
     fn table() -> Table
         ensures { result ≡ kind.table };
 
-    /// Its columns, in the order in which they are tested.
+    /// Its columns that must be there, in the order in which they are tested.
     fn columns() -> &'static [&'static [u8]]
         ensures { texts result.now ≡ kind.columns };
+
+    /// Its further columns, which may be absent.
+    fn further() -> &'static [&'static [u8]]
+        ensures { texts result.now ≡ kind.further };
+
+    /// Whether the columns that the header has are enough.
+    fn is_enough(reader: &TableReader<'_>) -> bool
+        ensures { result ≡ kind.enough reader.now.has };
 
     /// The row that was read last, by its identifier and its other fields.
     fn read(alloc: Global, reader: &TableReader<'_>, id: Id) -> Result<Self, TableFault>
@@ -37,9 +45,9 @@ pub trait TableRow: Identified + Drop {
         ensures { Answers result
             (unless_faulty (others reader.now.number reader.now.row) (kind.value reader.now.row)) };
 
-    ghost key_is_first: { (row : Record) → Self.identifier (kind.value row) ≡ field_of row 0 };
+    ghost key_is_first: { (row : Fields) → Self.identifier (kind.value row) ≡ field_of row 0 };
 
-    ghost key_is_tested_first: { (keys : List (List ℕ)) (n : ℕ) (row : Record)
+    ghost key_is_tested_first: { (keys : List (List ℕ)) (n : ℕ) (row : Fields)
         → kind.faults keys n row ≡ key_faults kind.table n keys (field_of row 0) ++ others n row };
 }
 
@@ -79,7 +87,10 @@ fn room_for_rows(bytes: &[u8]) -> usize {
 pub fn read_rows<T: TableRow>(alloc: Global, bytes: &[u8]) -> Result<Keyed<T>, TableFault>
     ensures { Answers result (rows_of T.kind bytes.now) }
 {
-    let mut reader = TableReader::open(alloc, bytes, T::table(), T::columns())?;
+    let mut reader = TableReader::open(alloc, bytes, T::table(), T::columns(), T::further())?;
+    if !T::is_enough(&reader) {
+        return Err(fault(TableCode::MissingColumn, T::table(), 0));
+    }
     let room = room_for_rows(bytes);
     let mut keys = Keys::with_capacity(alloc, room)?;
     let mut rows = Vec::with_capacity(alloc, room)?;
