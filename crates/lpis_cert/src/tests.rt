@@ -1,5 +1,8 @@
 use super::*;
-use lpis_testing::{HALVES_CERT, PARCELS_CERT, SQUARE_CERT, edited};
+use lpis_testing::{
+    HALVES_CERT, HALVES_CERT_WRITTEN, PARCELS_CERT, PARCELS_CERT_WRITTEN, SQUARE_CERT,
+    SQUARE_CERT_WRITTEN, edited,
+};
 use std::test::*;
 
 const CUT_AFTER_MANY_PAIRS: &str = "lpis-cert 1
@@ -8,6 +11,21 @@ t 0 0 1000 0 1000 1000
 t 0 0 1000 1000 0 1000
 parcel A 0
 pairs 4294967295
+";
+
+/// The greatest and the least corner, in centimetres and in millimetres.
+const FAR: &str = "lpis-cert 1
+piece A 1 0
+t 0 0 2000000000 0 0 -2000000000
+pairs 0
+end
+";
+
+const FAR_WRITTEN: &str = "lpis-cert 2
+piece A 1 0
+t 0 0 20000000000 0 0 -20000000000
+pairs 0
+end
 ";
 
 /// The code and the line of a text's first fault, or `ok`.
@@ -20,17 +38,22 @@ fn answer(rt: &HostRuntime, text: &[u8]) -> (&'static str, u64) {
 }
 
 #[test]
-fn certificates_are_read_and_written_byte_for_byte(rt: HostRuntime) -> Result<(), Fail> {
-    for text in [
-        SQUARE_CERT,
-        HALVES_CERT,
-        PARCELS_CERT,
-        "lpis-cert 1\npairs 0\nend\n",
+fn certificates_are_read_in_both_versions_and_written_in_the_second(
+    rt: HostRuntime,
+) -> Result<(), Fail> {
+    for (text, written) in [
+        (SQUARE_CERT, SQUARE_CERT_WRITTEN),
+        (HALVES_CERT, HALVES_CERT_WRITTEN),
+        (PARCELS_CERT, PARCELS_CERT_WRITTEN),
+        (HALVES_CERT_WRITTEN, HALVES_CERT_WRITTEN),
+        (FAR, FAR_WRITTEN),
+        (FAR_WRITTEN, FAR_WRITTEN),
+        ("lpis-cert 1\npairs 0\nend\n", "lpis-cert 2\npairs 0\nend\n"),
     ] {
         let cert = read_cert(rt.alloc(), text.as_bytes()).ok().ok_or("read")?;
         let mut out = Vec::new(rt.alloc());
         write_cert(&cert, &mut out).ok().ok_or("written")?;
-        assert_eq!(rt; out.as_slice(), text.as_bytes());
+        assert_eq!(rt; out.as_slice(), written.as_bytes());
     }
     Ok(())
 }
@@ -56,15 +79,15 @@ fn a_certificate_has_its_parts_in_order(rt: HostRuntime) -> Result<(), Fail> {
         return Err("two pairs".into());
     };
     assert_eq!(rt; right.id.as_str(), "R");
-    assert_eq!(rt; (upper.c.x, upper.c.y), (500, 1000));
-    assert_eq!(rt; (flat.a.x, flat.b.x, flat.c.x), (1000, 0, 500));
+    assert_eq!(rt; (upper.c.x, upper.c.y), (5_000, 10_000));
+    assert_eq!(rt; (flat.a.x, flat.b.x, flat.c.x), (10_000, 0, 5_000));
     assert_eq!(rt; (pair.i, pair.j, pair.k), (2, 3, 2));
     Ok(())
 }
 
 #[test]
 fn a_certificate_cut_at_each_byte_lacks_its_next_line(rt: HostRuntime) {
-    for text in [SQUARE_CERT, HALVES_CERT, PARCELS_CERT] {
+    for text in [SQUARE_CERT, HALVES_CERT, PARCELS_CERT_WRITTEN] {
         let bytes = text.as_bytes();
         for at in 0..bytes.len() {
             let front = &bytes[..at];
@@ -77,36 +100,37 @@ fn a_certificate_cut_at_each_byte_lacks_its_next_line(rt: HostRuntime) {
 #[test]
 fn first_faults(rt: HostRuntime) -> Result<(), Fail> {
     assert_eq!(rt; answer(&rt, b""), ("54", 1));
-    assert_eq!(rt;
-        answer(&rt, b"lpis-cert 1\r\npairs 0\r\nend\r\n"),
-        ("50", 1)
-    );
-    assert_eq!(rt; answer(&rt, b"lpis-cert 2\npairs 0\nend\n"), ("50", 1));
-    for (old, new, code, line) in [
-        ("piece C1 2 0", "piece C1 1 0", "53", 4),
-        ("piece C1 2 0", "piece C1 3 0", "53", 5),
-        ("piece C1 2 0", "piece C1 2000001 0", "56", 2),
-        ("piece C1 2 0", "piece C1 2 4294967296", "52", 2),
-        ("piece C1 2 0", "piece C! 2 0", "51", 2),
-        ("piece C1 2 0", "piece C1  2 0", "51", 2),
-        ("t 0 0 1000 0 1000 1000", "t 00 0 1000 0 1000 1000", "52", 3),
-        ("t 0 0 1000 0 1000 1000", "t -0 0 1000 0 1000 1000", "52", 3),
+    for (text, old, new, code, line) in [
+        (SQUARE_CERT, "lpis-cert 1", "lpis-cert 1\r", "50", 1),
+        (SQUARE_CERT, "lpis-cert 1", "lpis-cert 2", "ok", 0),
+        (SQUARE_CERT, "lpis-cert 1", "lpis-cert 2 ", "50", 1),
+        (SQUARE_CERT, "lpis-cert 1", "lpis-cert 3", "50", 1),
+        (SQUARE_CERT, "piece C1 2 0", "piece C1 1 0", "53", 4),
+        (SQUARE_CERT, "piece C1 2 0", "piece C1 3 0", "53", 5),
+        (SQUARE_CERT, "piece C1 2 0", "piece C1 2000001 0", "56", 2),
         (
-            "t 0 0 1000 0 1000 1000",
-            "t 0 0 2000000001 0 1000 1000",
+            SQUARE_CERT,
+            "piece C1 2 0",
+            "piece C1 2 4294967296",
             "52",
-            3,
+            2,
         ),
-        ("t 0 0 1000 0 1000 1000", "t 0 0 1000 0 1000", "51", 3),
-        ("t 0 0 1000 0 1000 1000", "f 00 0 1000 0 1000 1000", "53", 3),
-        ("parcel A 0", "piece C2 0 0", "ok", 0),
-        ("pairs 1", "piece C2 0 0", "53", 6),
-        ("s 0 1 2", "s 0 1 6", "52", 7),
-        ("s 0 1 2", "s 1 0 2", "ok", 0),
-        ("end", "end\n", "55", 9),
+        (SQUARE_CERT, "piece C1 2 0", "piece C! 2 0", "51", 2),
+        (SQUARE_CERT, "piece C1 2 0", "piece C1  2 0", "51", 2),
+        (SQUARE_CERT, "t 0 0 1000 0", "t 00 0 1000 0", "52", 3),
+        (SQUARE_CERT, "t 0 0 1000 0", "t -0 0 1000 0", "52", 3),
+        (SQUARE_CERT, "t 0 0 1000 0", "t 0 0 1000", "51", 3),
+        (SQUARE_CERT, "t 0 0 1000 0", "f 00 0 1000 0", "53", 3),
+        (SQUARE_CERT, "parcel A 0", "piece C2 0 0", "ok", 0),
+        (SQUARE_CERT, "pairs 1", "piece C2 0 0", "53", 6),
+        (SQUARE_CERT, "s 0 1 2", "s 0 1 6", "52", 7),
+        (SQUARE_CERT, "s 0 1 2", "s 1 0 2", "ok", 0),
+        (SQUARE_CERT, "end", "end\n", "55", 9),
+        (FAR, "2000000000", "2000000001", "52", 3),
+        (FAR_WRITTEN, "20000000000", "20000000001", "52", 3),
     ] {
-        let text = edited(rt.alloc(), SQUARE_CERT, &[(old, new)])?;
-        assert_eq!(rt; answer(&rt, text.as_bytes()), (code, line), "{new}");
+        let edit = edited(rt.alloc(), text, &[(old, new)])?;
+        assert_eq!(rt; answer(&rt, edit.as_bytes()), (code, line), "{new}");
     }
     Ok(())
 }

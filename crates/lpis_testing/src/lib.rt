@@ -10,6 +10,7 @@ mod texts;
 pub use expecting::{expect, expect_answer};
 pub use halting::Halting;
 pub use square::{
-    CLASSES, HALVES_CERT, LEFT, PARCELS_CERT, RIGHT, RIGHT_MOVED, SQUARE, SQUARE_CERT,
+    CLASSES, HALVES_CERT, HALVES_CERT_WRITTEN, LEFT, PARCELS_CERT, PARCELS_CERT_WRITTEN, RIGHT,
+    RIGHT_MOVED, SQUARE, SQUARE_CERT, SQUARE_CERT_WRITTEN,
 };
 pub use texts::edited;
