@@ -1,12 +1,12 @@
 //! What stops leave of a register.
 
-use super::files::{Calls, File, bytes_of, closed, files_of, is_blown};
+use super::files::{Image, closed, files_with, left_of};
 use super::releases::{
-    Inputs, Publication, halves_in_2025, halves_in_2026, publication_of, release_of, square_in_2024,
+    NO_YEAR, ONE_YEAR, THREE_YEARS, TWO_YEARS, halves, halves_in_2025, halves_in_2026, square,
+    square_in_2024,
 };
-use super::runs::{Answer, attempt, expect_first, number_in, reopened};
-use sqlite_disk::{Crash, Files};
-use std::alloc::{AllocError, Global};
+use super::runs::{Run, image_after, reopened, stops};
+use std::alloc::Global;
 use std::test::Fail;
 
 /// The log of these runs is never copied into the database file, as is usual: the default is a
@@ -16,10 +16,7 @@ const LONG: usize = 1000;
 /// The log is copied into the database file with each commit.
 const SHORT: usize = 1;
 
-/// No run makes so many calls of a file.
-const LIMIT: u64 = 1000;
-
-/// Tables of version 1 that hold the first two releases.
+/// Tables of version 1 that hold the two releases.
 static VERSION_1: &str = "
 BEGIN;
 CREATE TABLE lpis_format (one INTEGER NOT NULL PRIMARY KEY, version INTEGER NOT NULL) STRICT;
@@ -35,292 +32,95 @@ INSERT INTO lpis_row VALUES (2025, 0, 'A', 'B'), (2025, 1, 'A', 'C');
 COMMIT;
 ";
 
-/// What a run begins with.
-#[derive(Clone, Copy)]
-enum Beginning {
-    /// Empty files.
-    Nothing,
-    /// The first release.
-    Square,
-    /// Two releases in tables of version 1.
-    FirstVersion,
-}
-
-/// What a query answers, which tells what the tables are, and how many releases of the example the
-/// register in them has.
-type Held = (i64, usize);
-
-/// A run, and what it is to leave.
-#[derive(Clone, Copy)]
-struct Case {
-    beginning: Beginning,
-    /// The log is copied into the database file once it is so many frames long.
-    frames: usize,
-    /// It publishes the next release, too; else it opens the register alone.
-    publishes: bool,
-    query: &'static str,
-    /// What the files hold where the run was stopped before its end, and where it was not.
-    before: Held,
-    after: Held,
-    /// What is published when the machine is back, and how many releases there are then. It is
-    /// refused with code 80 where it is there already.
-    next: Inputs,
-    finally: usize,
-}
-
-/// A case with the files that it begins with.
-#[derive(Clone, Copy)]
-struct Run<'a> {
-    case: Case,
-    log: &'a [u8],
-    db: &'a [u8],
-    next: &'a Publication<'a>,
-}
-
 /// Files with the tables of version 1.
-fn first_version(alloc: Global) -> Result<Files<File>, Fail> {
-    let files = files_of(alloc, b"", b"", Calls::all())?;
+fn first_version(alloc: Global) -> Result<Image, Fail> {
+    let files = files_with(alloc, b"", b"", u64::MAX, u64::MAX)?;
     let mut database = reopened(alloc, files, LONG)?;
     database.execute_batch(VERSION_1)?;
-    Ok(closed(database))
+    Ok(left_of(alloc, closed(database))?.written)
 }
 
-/// Files with the first release.
-fn first_release(alloc: Global, frames: usize) -> Result<Files<File>, Fail> {
-    let inputs = square_in_2024();
-    let release = release_of(alloc, &inputs)?;
-    let square = publication_of(alloc, &inputs, &release)?;
-    only(alloc, frames, &square)
-}
-
-/// Files with this release alone.
-fn only(alloc: Global, frames: usize, square: &Publication<'_>) -> Result<Files<File>, Fail> {
-    let files = files_of(alloc, b"", b"", Calls::all())?;
-    match attempt(alloc, files, frames, Some(square)) {
-        (Answer::Done, files) => Ok(files),
-        (_, _files) => Err("the first release is not published".into()),
+/// Fails unless a run can be stopped in each of its files, and each stop leaves what it may. There
+/// are more than 212 stops in all: 87 of the log and 8 of the database file in publishing, 55 and
+/// 25 with a short log, 23 and 14 in opening, and those in moving.
+fn expect_stops(alloc: Global, run: &Run<'_>) -> Result<(), Fail> {
+    for of_log in [true, false] {
+        if stops(alloc, run, of_log)? == 0 {
+            return Err("nothing was stopped".into());
+        }
     }
+    Ok(())
 }
 
-fn files_before(alloc: Global, case: &Case) -> Result<Files<File>, Fail> {
-    match case.beginning {
-        Beginning::Nothing => Ok(files_of(alloc, b"", b"", Calls::all())?),
-        Beginning::Square => first_release(alloc, case.frames),
-        Beginning::FirstVersion => first_version(alloc),
-    }
+/// Files with the first release of the worked example.
+fn first_release(alloc: Global, frames: usize) -> Result<Image, Fail> {
+    let square = square(alloc)?;
+    let first = square_in_2024(alloc, &square)?;
+    image_after(alloc, &Image::new(alloc), frames, Some(&first))
 }
 
-/// Stops the run of a case at each call of each file. Fails unless each stop leaves what it may.
-fn expect_stops(alloc: Global, case: Case) -> Result<(), Fail> {
-    let release = release_of(alloc, &case.next)?;
-    let next = publication_of(alloc, &case.next, &release)?;
-    expect_stops_of(alloc, case, &next)
-}
-
-fn expect_stops_of(alloc: Global, case: Case, next: &Publication<'_>) -> Result<(), Fail> {
-    let Files { log, db } = files_before(alloc, &case)?;
+/// Stops the second release of the worked example.
+fn expect_publishing_stops(alloc: Global, frames: usize) -> Result<(), Fail> {
+    let halves = halves(alloc)?;
+    let second = halves_in_2025(alloc, &halves)?;
+    let image = first_release(alloc, frames)?;
     let run = Run {
-        case,
-        log: bytes_of(&log),
-        db: bytes_of(&db),
-        next,
-    };
-    expect_stops_in(alloc, run, true)?;
-    expect_stops_in(alloc, run, false)
-}
-
-/// What files held after a stop, and whether the run had answered that all was done.
-#[derive(Drop)]
-struct Outcome {
-    log: Vec<u8>,
-    db: Vec<u8>,
-    done: bool,
-}
-
-/// Whether an outcome is none of these, which it then stands among.
-fn is_new(
-    alloc: Global,
-    known: &mut Vec<Outcome>,
-    log: &[u8],
-    db: &[u8],
-    done: bool,
-) -> Result<bool, Fail> {
-    for it in known.iter() {
-        if it.done == done && it.log.as_slice() == log && it.db.as_slice() == db {
-            return Ok(false);
-        }
-    }
-    known.push(outcome_of(alloc, log, db, done)?)?;
-    Ok(true)
-}
-
-fn outcome_of(alloc: Global, log: &[u8], db: &[u8], done: bool) -> Result<Outcome, AllocError> {
-    let log = Vec::from_slice(alloc, log)?;
-    let db = Vec::from_slice(alloc, db)?;
-    Ok(Outcome { log, db, done })
-}
-
-/// Stops a run at each call of the log in turn, or of the database file, until it meets no stop.
-fn expect_stops_in(alloc: Global, run: Run<'_>, of_log: bool) -> Result<(), Fail> {
-    let mut known = Vec::new(alloc);
-    for calls in 0..LIMIT {
-        let mut all = Calls::all();
-        if of_log {
-            all.log = calls;
-        } else {
-            all.db = calls;
-        }
-        if !is_stopped(alloc, run, all, &mut known)? {
-            return Ok(());
-        }
-    }
-    Err("the run meets a stop wherever it is".into())
-}
-
-/// Whether a run whose files take so many calls meets a stop. Fails unless that leaves what it may.
-fn is_stopped(
-    alloc: Global,
-    it: Run<'_>,
-    calls: Calls,
-    known: &mut Vec<Outcome>,
-) -> Result<bool, Fail> {
-    let files = files_of(alloc, it.log, it.db, calls)?;
-    let release = if it.case.publishes {
-        Some(it.next)
-    } else {
-        None
-    };
-    match attempt(alloc, files, it.case.frames, release) {
-        (Answer::Done, files) => is_left(alloc, it, files, true, known),
-        (Answer::Stopped, files) => is_left(alloc, it, files, false, known),
-        (_, _files) => Err("a run was refused, or memory ran out".into()),
-    }
-}
-
-/// Whether a file took all the calls that it would take, or not all was done. Fails unless the files
-/// are left as they may be: each for itself has lost what was not synced, or nothing.
-fn is_left(
-    alloc: Global,
-    run: Run<'_>,
-    files: Files<File>,
-    done: bool,
-    known: &mut Vec<Outcome>,
-) -> Result<bool, Fail> {
-    let Files { mut log, mut db } = files;
-    let is_stopped = is_blown(&mut log) || is_blown(&mut db) || !done;
-    let written = files_of(alloc, bytes_of(&log), bytes_of(&db), Calls::all())?;
-    log.crash();
-    db.crash();
-    for log in [bytes_of(&written.log), bytes_of(&log)] {
-        for db in [bytes_of(&written.db), bytes_of(&db)] {
-            expect_outcome(alloc, run, log, db, done, known)?;
-        }
-    }
-    Ok(is_stopped)
-}
-
-/// Fails unless files hold what is before a run or after it, and after it where all was done; and
-/// unless the next release can be published.
-fn expect_outcome(
-    alloc: Global,
-    run: Run<'_>,
-    log: &[u8],
-    db: &[u8],
-    done: bool,
-    known: &mut Vec<Outcome>,
-) -> Result<(), Fail> {
-    if !is_new(alloc, known, log, db, done)? {
-        return Ok(());
-    }
-    let files = files_of(alloc, log, db, Calls::all())?;
-    let count = count_in(alloc, &run.case, files, done)?;
-    let files = files_of(alloc, log, db, Calls::all())?;
-    expect_next(alloc, run, files, count)
-}
-
-/// How many releases of the example the register in files has. Fails unless they hold what is
-/// before a run or after it, and after it where all was done.
-fn count_in(alloc: Global, case: &Case, files: Files<File>, done: bool) -> Result<usize, Fail> {
-    let mut database = reopened(alloc, files, case.frames)?;
-    let number = number_in(&mut database, case.query)?;
-    let (wanted, count) = if done || number == case.after.0 {
-        case.after
-    } else {
-        case.before
-    };
-    if number != wanted {
-        return Err(Fail::new(format_args!("{number} in place of {wanted}")));
-    }
-    expect_first(alloc, database, count)?;
-    Ok(count)
-}
-
-/// Fails unless the next release is published over files with so many, or is there already.
-fn expect_next(alloc: Global, it: Run<'_>, files: Files<File>, count: usize) -> Result<(), Fail> {
-    let case = it.case;
-    let wanted = if count == case.finally {
-        Answer::Repeated
-    } else {
-        Answer::Done
-    };
-    let (answer, files) = attempt(alloc, files, case.frames, Some(it.next));
-    if answer != wanted {
-        return Err("the next release is refused, or published twice".into());
-    }
-    let database = reopened(alloc, files, case.frames)?;
-    expect_first(alloc, database, case.finally)
-}
-
-/// The second release, over the first.
-fn publishing(frames: usize) -> Case {
-    Case {
-        beginning: Beginning::Square,
+        image,
         frames,
         publishes: true,
         query: "SELECT count(*) FROM lpis_release",
-        before: (1, 1),
-        after: (2, 2),
-        next: halves_in_2025(),
-        finally: 2,
-    }
+        before: (1, ONE_YEAR),
+        after: (2, TWO_YEARS),
+        release: second,
+        finally: TWO_YEARS,
+    };
+    expect_stops(alloc, &run)
 }
 
 #[test]
 fn publishing_leaves_one_release_or_two(rt: HostRuntime) -> Result<(), Fail> {
-    expect_stops(rt.alloc(), publishing(LONG))
+    expect_publishing_stops(rt.alloc(), LONG)
 }
 
 #[test]
 fn publishing_with_a_short_log_leaves_one_release_or_two(rt: HostRuntime) -> Result<(), Fail> {
-    expect_stops(rt.alloc(), publishing(SHORT))
+    expect_publishing_stops(rt.alloc(), SHORT)
 }
 
 #[test]
 fn moving_leaves_version_1_or_2_with_the_same_history(rt: HostRuntime) -> Result<(), Fail> {
-    let case = Case {
-        beginning: Beginning::FirstVersion,
+    let alloc = rt.alloc();
+    let halves = halves(alloc)?;
+    let third = halves_in_2026(alloc, &halves)?;
+    let image = first_version(alloc)?;
+    let run = Run {
+        image,
         frames: LONG,
         publishes: false,
         query: "SELECT version FROM lpis_format",
-        before: (1, 2),
-        after: (2, 2),
-        next: halves_in_2026(),
-        finally: 3,
+        before: (1, TWO_YEARS),
+        after: (2, TWO_YEARS),
+        release: third,
+        finally: THREE_YEARS,
     };
-    expect_stops(rt.alloc(), case)
+    expect_stops(alloc, &run)
 }
 
 #[test]
 fn opening_leaves_no_table_or_all(rt: HostRuntime) -> Result<(), Fail> {
-    let case = Case {
-        beginning: Beginning::Nothing,
+    let alloc = rt.alloc();
+    let square = square(alloc)?;
+    let first = square_in_2024(alloc, &square)?;
+    let image = Image::new(alloc);
+    let run = Run {
+        image,
         frames: LONG,
         publishes: false,
         query: "SELECT count(*) FROM sqlite_schema WHERE type = 'table'",
-        before: (0, 0),
-        after: (4, 0),
-        next: square_in_2024(),
-        finally: 1,
+        before: (0, NO_YEAR),
+        after: (4, NO_YEAR),
+        release: first,
+        finally: ONE_YEAR,
     };
-    expect_stops(rt.alloc(), case)
+    expect_stops(alloc, &run)
 }
