@@ -1,7 +1,8 @@
 -- The versions of the text.
-use Rattle.std.specs.Prelude.{ℕ, suc, ◌/◌, ℤ, pos, negsuc, neg_ℤ, cond, List, codes, Option, Some}
-use Rattle.std.specs.Prelude.{None}
+use Rattle.std.specs.Prelude.{ℕ, suc, ◌/◌, ℤ, pos, negsuc, neg_ℤ, nat_abs, cond, List, codes}
+use Rattle.std.specs.Prelude.{Option, Some, None}
 use Rattle.std.specs.Str.{bytes_eq}
+use Rattle.lpis_points.specs.Range.{limit}
 use Rattle.lpis_cert.specs.declared.version.Version.{Version}
 use Rattle.lpis_cert.specs.declared.version.Version.TheVariants.{One, Two}
 
@@ -18,7 +19,7 @@ named line = cond (bytes_eq line (first_line One)) (Some One)
 -- the greatest absolute value of a coordinate as it is written
 abbrev pub greatest : Version → ℕ
 greatest One = 2000000000
-greatest Two = 20000000000
+greatest Two = nat_abs limit
 
 -- the millimetres of one unit of a coordinate as it is written
 abbrev pub factor : Version → ℕ
