@@ -1,11 +1,11 @@
 -- The table of lineage: its rows, and its first fault.
-use Rattle.std.specs.Prelude.{◌≡◌, ◌∷◌, ◌++◌, ℕ, List, [], codes, Option, None, Some, Result, Ok}
+use Rattle.std.specs.Prelude.{◌≡◌, ◌∷◌, ◌++◌, true, ℕ, List, [], codes, Option, None, Some, Result, Ok}
 use Rattle.std.specs.declared.vec.Vec.{Vec}
 use Rattle.std.specs.declared.alloc.Global.{Global}
 use Rattle.lpis_covers.specs.declared.fault.Table.TheVariants.{Lineage}
 use Rattle.lpis_covers.specs.declared.fault.TableFault.{TableFault}
 use Rattle.lpis_covers.specs.Faults.{RowsOf, id_faults}
-use Rattle.lpis_covers.specs.Table.{AnswersBy, Record, field_of}
+use Rattle.lpis_covers.specs.Table.{AnswersBy, Fields, field_of}
 use Rattle.lpis_lineage.specs.declared.row.Row.{Row}
 
 -- the successor in a field: none where it is empty
@@ -19,10 +19,10 @@ successor_faults n [] = []
 successor_faults n (b ∷ bytes) = id_faults Lineage n (b ∷ bytes)
 
 -- the faults of a row, in the order of the columns; no row is a fault for those above it
-abbrev pub lineage_faults : ℕ → Record → List TableFault
+abbrev pub lineage_faults : ℕ → Fields → List TableFault
 lineage_faults n row = id_faults Lineage n (field_of row 0) ++ successor_faults n (field_of row 1)
 
-abbrev pub row_of : Record → Row
+abbrev pub row_of : Fields → Row
 row_of row = record { old = field_of row 0; new = successor_of (field_of row 1) }
 
 -- a row has an old identifier and a new one, or none
@@ -30,6 +30,8 @@ abbrev pub lineage_table : RowsOf Row
 lineage_table = record {
   table = Lineage;
   columns = codes "old" ∷ codes "new" ∷ [];
+  further = [];
+  enough = λ has. true;
   faults = λ keys. lineage_faults;
   value = row_of;
 }

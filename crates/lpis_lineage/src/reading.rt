@@ -49,7 +49,7 @@ fn read_row(alloc: Global, reader: &TableReader<'_>) -> Result<Row, TableFault>
 pub fn read_rows(alloc: Global, bytes: &[u8]) -> Result<Vec<Row>, TableFault>
     ensures { AnswersRows result (rows_of lineage_table bytes.now) }
 {
-    let mut reader = TableReader::open(alloc, bytes, Table::Lineage, columns())?;
+    let mut reader = TableReader::open(alloc, bytes, Table::Lineage, columns(), &[])?;
     let mut rows = Vec::new(alloc);
     'rows: while reader.next_row()? {
         let row = read_row(alloc, &reader)?;

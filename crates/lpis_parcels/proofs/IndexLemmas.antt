@@ -7,7 +7,7 @@ use Rattle.std.proofs.lemmas.List.{length-append}
 use Rattle.std.proofs.lemmas.Slice.Eq.{bytes_eq-Decides}
 use Rattle.lpis_covers.specs.declared.fault.TableFault.{TableFault}
 use Rattle.lpis_covers.specs.Ids.{has_id}
-use Rattle.lpis_parcels.specs.Eligible.{class_named, eligible_mark, is_eligible}
+use Rattle.lpis_parcels.specs.Weighted.{class_named, class_percent, piece_percent}
 use Rattle.lpis_parcels.specs.private.Groups.{at_indices}
 use Rattle.lpis_parcels.specs.Release.{parcel_ids, unknown_faults}
 
@@ -109,9 +109,9 @@ first-within n p indices ps e h = let all : All (λ i. i < n) (p ∷ ps) = subst
 pub next-at : {A : Type 0} (xs now : List A) (indices ps : List ℕ) (p : ℕ) (x : A) → at_indices xs indices ≡ now → indices ≡ p ∷ ps → slice_get xs p ≡ Some x → now ≡ x ∷ at_indices xs ps
 next-at xs now indices ps p x e is at = rw (← e, is, at) refl
 
-pub mark-of-index : (held c : Contents) (indices : List ℕ) (i j : ℕ) (piece : Piece) (found : Option Class) → held ≡ c
+pub percent-of-index : (held c : Contents) (indices : List ℕ) (i j : ℕ) (piece : Piece) (found : Option Class) → held ≡ c
     → map (slice_get held.classes) indices ≡ map (λ (p : Piece). class_named held.classes p.class) held.pieces
-    → slice_get c.pieces i ≡ Some piece → j ≡ get_or indices i j → slice_get held.classes j ≡ found → eligible_mark found ≡ is_eligible c.classes piece
-mark-of-index held c indices i j piece found same e at is there =
+    → slice_get c.pieces i ≡ Some piece → j ≡ get_or indices i j → slice_get held.classes j ≡ found → class_percent found ≡ piece_percent c.classes piece
+percent-of-index held c indices i j piece found same e at is there =
     let class = class-of-index held.classes indices held.pieces i j piece e (rw same at) is in
-    ap eligible_mark (sym there ∙ class) ∙ ap (λ (r : Contents). is_eligible r.classes piece) same
+    ap class_percent (sym there ∙ class) ∙ ap (λ (r : Contents). piece_percent r.classes piece) same

@@ -14,7 +14,7 @@ use Rattle.lpis_covers.specs.declared.fault.TableCode.TheVariants.{UnknownParcel
 use Rattle.lpis_covers.specs.Faults.{unless_faulty}
 use Rattle.lpis_covers.specs.Ids.{has_id, same_id}
 use Rattle.lpis_covers.specs.Table.{fault_at}
-use Rattle.lpis_parcels.specs.Eligible.{class_named}
+use Rattle.lpis_parcels.specs.Weighted.{class_named}
 use Rattle.lpis_parcels.specs.private.Groups.{Refuses, empty_faults, group_at, is_nil, is_of}
 use Rattle.lpis_parcels.specs.declared.parcel.Parcel.{Parcel}
 use Rattle.std.proofs.lemmas.Bool.Decides.{nat_tests}

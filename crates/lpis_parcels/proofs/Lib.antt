@@ -2,5 +2,5 @@ pub mod GroupLemmas
 pub mod Common
 pub mod JoinLemmas
 pub mod IndexLemmas
-pub mod EligibleLemmas
+pub mod WeightedLemmas
 pub mod Shared

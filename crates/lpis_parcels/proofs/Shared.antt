@@ -1,2 +1,2 @@
 -- The lemmas that the crates above cite, passed on from one place. Declares nothing.
-pub use Rattle.lpis_parcels.proofs.EligibleLemmas.{item-within}
+pub use Rattle.lpis_parcels.proofs.WeightedLemmas.{item-within}

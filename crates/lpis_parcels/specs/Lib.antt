@@ -1,4 +1,4 @@
 pub mod Parcels
 pub mod Release
-pub mod Eligible
+pub mod Weighted
 pub mod private

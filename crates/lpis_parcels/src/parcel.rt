@@ -47,6 +47,14 @@ impl TableRow for Parcel {
         &[b"parcel", b"wkt"]
     }
 
+    fn further() -> &'static [&'static [u8]] {
+        &[]
+    }
+
+    fn is_enough(_reader: &TableReader<'_>) -> bool {
+        true
+    }
+
     fn read(alloc: Global, reader: &TableReader<'_>, id: Id) -> Result<Parcel, TableFault> {
         let polygon = reader.polygon(alloc, 1)?;
         Ok(Parcel { id, polygon })

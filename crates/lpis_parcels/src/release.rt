@@ -41,7 +41,8 @@ impl Model for Release {
 
 impl Release {
     ghost use Rattle.lpis_covers.specs.declared.piece.Piece.{Piece};
-    ghost use Rattle.lpis_parcels.specs.Eligible.{is_eligible};
+    ghost use Rattle.lpis_covers.specs.Percentages.{most_percent};
+    ghost use Rattle.lpis_parcels.specs.Weighted.{piece_percent};
     ghost use Rattle.lpis_parcels.specs.private.Groups.{indices_where, joined_pieces};
 
     /// The release of these rows, or the first fault of their joins.
@@ -107,16 +108,17 @@ impl Release {
         }
     }
 
-    /// Whether the class of the piece at an index is eligible.
-    pub(crate) fn is_eligible(&self, index: usize) -> bool
+    /// The percentage of the class of the piece at an index.
+    pub(crate) fn percent(&self, index: usize) -> u8
         requires { index < length self.now.pieces }
-        ensures { (piece : Piece) → slice_get self.now.pieces index ≡ Some piece
-            → result ≡ is_eligible self.now.classes piece }
+        ensures value { (piece : Piece) → slice_get self.now.pieces index ≡ Some piece
+            → result ≡ piece_percent self.now.classes piece }
+        ensures most { result ≤ most_percent }
     {
         let class = self.joins.classes[index];
         match self.classes.as_slice().get(class) {
-            Some(class) => class.eligible,
-            None => false,
+            Some(class) => class.percent,
+            None => 0,
         }
     }
 }

@@ -1,6 +1,6 @@
 //! Worked releases, with the faults of their joins.
 
-use crate::{Release, eligible2, pieces_of, read_release};
+use crate::{Release, pieces_of, read_release, weighted2};
 use lpis_covers::{Id, TableFault};
 use lpis_testing::{CLASSES, LEFT, RIGHT, SQUARE, expect};
 use std::test::Fail;
@@ -31,44 +31,10 @@ fn release(
     read_release(alloc, parcels, covers, classes)
 }
 
-/// Fails unless the tables are refused with this code, table and row.
-fn expect_refusal(
-    rt: &HostRuntime,
-    parcels: &str,
-    covers: &str,
-    classes: &str,
-    refusal: &str,
-) -> Result<(), Fail> {
-    match release(rt, parcels, covers, classes) {
-        Err(
-            TableFault::At {
-                code,
-                table,
-                row,
-                ..
-            },
-        ) => {
-            let told = format!(in rt.alloc(); "{} {} {row}", code.as_str(), table.as_str())?;
-            expect(told.as_str(), refusal)
-        }
-        _ => Err(Fail::new(format_args!("not refused with {refusal}"))),
-    }
-}
-
-/// Twice the eligible area of a parcel.
-fn eligible_of(rt: &HostRuntime, release: &Release, id: &str) -> Result<i128, Fail> {
+/// Twice the weighted area of a parcel.
+fn weighted_of(rt: &HostRuntime, release: &Release, id: &str) -> Result<i128, Fail> {
     let id = Id::read(rt.alloc(), id.as_bytes())?.ok_or("no identifier")?;
-    Ok(eligible2(release, &id))
-}
-
-/// How many rows a release has, and the eligible areas of A and of Q, which is not a parcel of it.
-fn numbers(rt: &HostRuntime, release: &Release) -> Result<String, Fail> {
-    let parcels = release.parcels().len();
-    let pieces = release.pieces().len();
-    let classes = release.classes().len();
-    let eligible = eligible_of(rt, release, "A")?;
-    let absent = eligible_of(rt, release, "Q")?;
-    Ok(format!(in rt.alloc(); "{parcels} {pieces} {classes} {eligible} {absent}")?)
+    Ok(weighted2(release, &id))
 }
 
 /// The identifiers of the pieces of the parcel A.
@@ -81,64 +47,87 @@ fn pieces_of_a(rt: &HostRuntime, release: &Release) -> Result<String, Fail> {
     Ok(names)
 }
 
-/// Fails unless the release is that of the parcel A with the pieces L, which is eligible, and R.
-fn expect_two_pieces(rt: &HostRuntime, release: &Release) -> Result<(), Fail> {
-    // 50 square metres.
-    expect(numbers(rt, release)?.as_str(), "1 2 2 1000000 0")?;
-    expect(pieces_of_a(rt, release)?.as_str(), "LR")
+/// How many rows a release has, the pieces of A, and the weighted areas of A and of Q, which is not a
+/// parcel of it.
+fn numbers(rt: &HostRuntime, release: &Release) -> Result<String, Fail> {
+    let parcels = release.parcels().len();
+    let pieces = release.pieces().len();
+    let classes = release.classes().len();
+    let names = pieces_of_a(rt, release)?;
+    let weighted = weighted_of(rt, release, "A")?;
+    let absent = weighted_of(rt, release, "Q")?;
+    let alloc = rt.alloc();
+    Ok(format!(in alloc;
+        "{parcels} {pieces} {classes} {} {weighted} {absent}",
+        names.as_str()
+    )?)
 }
 
-/// Fails unless the release is empty.
-fn expect_nothing(rt: &HostRuntime, release: &Release) -> Result<(), Fail> {
-    expect(numbers(rt, release)?.as_str(), "0 0 0 0 0")
-}
-
-#[test]
-fn reads_a_release(rt: HostRuntime) -> Result<(), Fail> {
-    let covers = covers_with(&rt, "R,A,W")?;
-    expect_two_pieces(&rt, &release(&rt, PARCELS, covers.as_str(), CLASSES)?)
-}
-
-#[test]
-fn finds_columns_in_any_order_and_case(rt: HostRuntime) -> Result<(), Fail> {
-    let parcels = "NAME,WKT,Parcel\nx,\"POLYGON((0 0,10 0,10 10,0 10,0 0))\",A\n";
-    let covers = covers_with(&rt, "R,A,W")?;
-    expect_two_pieces(&rt, &release(&rt, parcels, covers.as_str(), CLASSES)?)
-}
-
-#[test]
-fn reads_three_headers(rt: HostRuntime) -> Result<(), Fail> {
-    expect_nothing(
-        &rt,
-        &release(&rt, "parcel,wkt\n", COVERS, "class,eligible\n")?,
-    )
-}
-
-#[test]
-fn tells_unknown_parcels_and_classes(rt: HostRuntime) -> Result<(), Fail> {
-    let parcel = covers_with(&rt, "R,B,W")?;
-    expect_refusal(&rt, PARCELS, parcel.as_str(), CLASSES, "35 covers 2")?;
-    let class = covers_with(&rt, "R,A,X")?;
-    expect_refusal(&rt, PARCELS, class.as_str(), CLASSES, "36 covers 2")?;
-    expect_refusal(&rt, PARCELS, COVERS, CLASSES, "37 parcels 1")
+/// The numbers of the release of these tables, or its fault.
+fn told(rt: &HostRuntime, parcels: &str, covers: &str, classes: &str) -> Result<String, Fail> {
+    match release(rt, parcels, covers, classes) {
+        Ok(release) => numbers(rt, &release),
+        Err(TableFault::Memory) => Err(Fail::new(format_args!("memory"))),
+        Err(
+            TableFault::At {
+                code,
+                table,
+                row,
+                ..
+            },
+        ) => Ok(format!(in rt.alloc(); "{} {} {row}", code.as_str(), table.as_str())?),
+    }
 }
 
 #[test]
-fn tells_faults_of_tables(rt: HostRuntime) -> Result<(), Fail> {
-    let doubled = covers_with(&rt, "L,A,W")?;
-    expect_refusal(&rt, PARCELS, doubled.as_str(), CLASSES, "34 covers 2")?;
-    let columns = "piece,parcel,class,class,wkt\n";
-    expect_refusal(&rt, PARCELS, columns, CLASSES, "32 covers 0")?;
+fn releases(rt: HostRuntime) -> Result<(), Fail> {
+    let other_columns = "NAME,WKT,Parcel\nx,\"POLYGON((0 0,10 0,10 10,0 10,0 0))\",A\n";
     let long = "parcel,wkt\nAAAAAAAAAAAAAAAAAAAAAAAAAAAAAAAAAAAAAAAAA,x\n";
-    expect_refusal(&rt, long, COVERS, CLASSES, "33 parcels 1")?;
-    let covers = covers_with(&rt, "R,A,W")?;
-    expect_refusal(
-        &rt,
-        PARCELS,
-        covers.as_str(),
-        "class,eligible\nG,yes\n",
-        "39 classes 1",
-    )
+    for (parcels, right, classes, answer) in [
+        // The left half has 50 square metres, and counts whole.
+        (PARCELS, "R,A,W", CLASSES, "1 2 2 LR 10000000000 0"),
+        (other_columns, "R,A,W", CLASSES, "1 2 2 LR 10000000000 0"),
+        // So much of the right half.
+        (
+            PARCELS,
+            "R,A,W",
+            "class,percent\nG,100\nW,37\n",
+            "1 2 2 LR 13700000000 0",
+        ),
+        (
+            PARCELS,
+            "R,A,G",
+            "class,percent\nW,100\nG,1\n",
+            "1 2 2 LR 200000000 0",
+        ),
+        // The class of the first piece is in the second row.
+        (
+            PARCELS,
+            "R,A,W",
+            "class,percent\nW,0\nG,3\n",
+            "1 2 2 LR 300000000 0",
+        ),
+        (PARCELS, "R,B,W", CLASSES, "35 covers 2"),
+        (PARCELS, "R,A,X", CLASSES, "36 covers 2"),
+        (PARCELS, "L,A,W", CLASSES, "34 covers 2"),
+        (long, "R,A,W", CLASSES, "33 parcels 1"),
+        (PARCELS, "R,A,W", "class,eligible\nG,yes\n", "39 classes 1"),
+        (PARCELS, "R,A,W", "class,percent\nG,101\n", "3b classes 1"),
+    ] {
+        let covers = covers_with(&rt, right)?;
+        expect(
+            told(&rt, parcels, covers.as_str(), classes)?.as_str(),
+            answer,
+        )?;
+    }
+    for (parcels, covers, answer) in [
+        ("parcel,wkt\n", COVERS, "0 0 2  0 0"),
+        (PARCELS, COVERS, "37 parcels 1"),
+        (PARCELS, "piece,parcel,class,class,wkt\n", "32 covers 0"),
+    ] {
+        expect(told(&rt, parcels, covers, CLASSES)?.as_str(), answer)?;
+    }
+    Ok(())
 }
 
 /// A table of parcels with so many rows, each a square named by its number.
@@ -163,35 +152,21 @@ fn covers_of_squares(rt: &HostRuntime, count: u32) -> Result<String, Fail> {
     Ok(table)
 }
 
-/// Fails unless the release has so many rows, and the last parcel its area.
-fn expect_squares(rt: &HostRuntime, release: &Release) -> Result<(), Fail> {
+/// How many parcels a release has, and the weighted area of the last of so many.
+fn last_square(rt: &HostRuntime, release: &Release) -> Result<String, Fail> {
     let parcels = release.parcels().len();
-    let pieces = release.pieces().len();
-    let last = eligible_of(rt, release, "199999")?;
-    let told = format!(in rt.alloc(); "{parcels} {pieces} {last}")?;
-    // 100 square metres.
-    expect(told.as_str(), "200000 200000 2000000")
+    let last = weighted_of(rt, release, "199999")?;
+    Ok(format!(in rt.alloc(); "{parcels} {last}")?)
 }
 
 #[test]
-fn reads_two_tables_of_the_most_rows(rt: HostRuntime) -> Result<(), Fail> {
+fn the_most_rows(rt: HostRuntime) -> Result<(), Fail> {
     let parcels = squares(&rt, MANY)?;
     let covers = covers_of_squares(&rt, MANY)?;
-    expect_squares(
-        &rt,
-        &release(&rt, parcels.as_str(), covers.as_str(), CLASSES)?,
-    )
-}
-
-#[test]
-fn refuses_a_row_past_the_most(rt: HostRuntime) -> Result<(), Fail> {
-    let parcels = squares(&rt, MANY)?;
+    let release = release(&rt, parcels.as_str(), covers.as_str(), CLASSES)?;
+    // 100 square metres.
+    expect(last_square(&rt, &release)?.as_str(), "200000 20000000000")?;
     let covers = covers_of_squares(&rt, MANY + 1)?;
-    expect_refusal(
-        &rt,
-        parcels.as_str(),
-        covers.as_str(),
-        CLASSES,
-        "3a covers 200001",
-    )
+    let answer = told(&rt, parcels.as_str(), covers.as_str(), CLASSES)?;
+    expect(answer.as_str(), "3a covers 200001")
 }

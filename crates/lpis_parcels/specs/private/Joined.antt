@@ -7,7 +7,7 @@ use Rattle.lpis_covers.specs.Ids.{same_id}
 use Rattle.lpis_covers.specs.Table.{most_rows}
 use Rattle.lpis_parcels.specs.declared.groups.Join.{Join}
 use Rattle.lpis_parcels.specs.declared.parcel.Parcel.{Parcel}
-use Rattle.lpis_parcels.specs.Eligible.{class_named}
+use Rattle.lpis_parcels.specs.Weighted.{class_named}
 use Rattle.lpis_parcels.specs.private.Groups.{group_at, indices_where}
 use Rattle.lpis_parcels.specs.Release.{Contents, join_faults, names, parcel_ids, piece_ids}
 

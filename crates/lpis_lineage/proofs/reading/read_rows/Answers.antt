@@ -1,4 +1,4 @@
-use Rattle.std.proofs.Common.{◌≡◌, ◌∙◌, ◌++◌, ◌∷◌, [], ℕ, List, Ok, ap, map, sym}
+use Rattle.std.proofs.Common.{◌≡◌, ◌∙◌, ◌++◌, ◌∷◌, [], ℕ, List, Ok, ap, map, refl, sym}
 use Rattle.lpis_lineage.proofs.Common.{Row}
 use Rattle.std.proofs.lemmas.List.{map-append}
 use Rattle.std.proofs.lemmas.Result.{err_from_is_err_and}
@@ -16,7 +16,7 @@ read_row-requires c = (rw c.if-branch.true at c.in_ok-next_row.ensures).3 ∙ c.
 pub rows-init : goal.rows-init
 rows-init c =
     let opened = rw c.columns.ensures at c.in_ok-reader.ensures in
-    rw c.new-rows.ensures.items (rows-start lineage_table c.args.bytes.now c.in_ok-reader.reader opened)
+    rw c.new-rows.ensures.items (rows-start lineage_table c.args.bytes.now c.in_ok-reader.reader opened refl)
 
 pub returns-in_err-next_row : goal.returns-in_err-next_row
 returns-in_err-next_row c =

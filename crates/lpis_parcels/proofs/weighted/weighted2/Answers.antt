@@ -3,11 +3,11 @@ use Rattle.std.proofs.lemmas.List.{get_or_default, get_or-map, length-map}
 use mir.Syntax.{w128}
 use mir.Val.{to_z}
 use Rattle.lpis_parcels.proofs.Common.{Join, joined_pieces}
-use Rattle.lpis_parcels.proofs.EligibleLemmas.{eligible-added, eligible-end, eligible-start, item-within, sum-more}
-use Rattle.lpis_parcels.proofs.eligible.eligible2.Goals as goal
+use Rattle.lpis_parcels.proofs.WeightedLemmas.{item-within, sum-more, weighted-added, weighted-end, weighted-start}
+use Rattle.lpis_parcels.proofs.weighted.weighted2.Goals as goal
 
 pub loop-join-init : goal.loop-join-init
-loop-join-init c = (eligible-start c.args.release.now c.args.parcel.now (joined_pieces c.joins_of-join-items.result.now) c.joins_of-join-items.ensures.pieces, omega arith)
+loop-join-init c = (weighted-start c.args.release.now c.args.parcel.now (joined_pieces c.joins_of-join-items.result.now) c.joins_of-join-items.ensures.pieces, omega arith)
 
 -- what the code reads past the end of the joins
 none : Join
@@ -21,9 +21,9 @@ read-within joins n i h lt =
     let is : get_or (joined_pieces joins) i 0 ≡ (get_or joins i none).piece = get_or-map (λ (j : Join). j.piece) joins i none 0 lt in
     (within, is, rw is at (h i 0 within))
 
-pub eligible_part-sum-requires : goal.eligible_part-sum-requires
+pub weight-sum-requires : goal.weight-sum-requires
 unfolding none
-eligible_part-sum-requires c = (read-within c.joins_of-join-items.result.now (length c.args.release.now.pieces) c.loop-join.join-index c.joins_of-join-items.ensures.within c.loop-join-test.true).2
+weight-sum-requires c = (read-within c.joins_of-join-items.result.now (length c.args.release.now.pieces) c.loop-join.join-index c.joins_of-join-items.ensures.within c.loop-join-test.true).2
 
 pub loop-join-preserved : goal.loop-join-preserved
 unfolding none
@@ -35,11 +35,11 @@ loop-join-preserved c =
     let read = read-within joins (length c.args.release.now.pieces) i c.joins_of-join-items.ensures.within c.loop-join-test.true in
     let item = item-within c.args.release.now.pieces index read.2 in
     let few : i < 200000 = omega (arith, c.loop-join-test.true, c.joins_of-join-items.ensures.few, c.pieces.ensures.few) in
-    let more = sum-more sum c.eligible_part-sum.result i c.loop-join.invariant.1 c.eligible_part-sum.ensures.small few in
+    let more = sum-more sum c.weight-sum.result i c.loop-join.invariant.1 c.weight-sum.ensures.small few in
     rw more.0 (
-      eligible-added c.args.release.now (joined_pieces joins) i index item.0 sum c.eligible_part-sum.result _
+      weighted-added c.args.release.now (joined_pieces joins) i index item.0 sum c.weight-sum.result _
           read.0 (sym read.1 ∙ get_or_default (joined_pieces joins) i 0 index read.0) item.1
-          (c.eligible_part-sum.ensures.value item.0 item.1) c.loop-join.invariant.0,
+          (c.weight-sum.ensures.value item.0 item.1) c.loop-join.invariant.0,
       more.1,
     )
 
@@ -47,4 +47,4 @@ pub returns : goal.returns
 returns c =
     let past : length (joined_pieces c.joins_of-join-items.result.now) ≤ c.loop-join.join-index =
     omega (arith, c.loop-join-test.false, length-map c.joins_of-join-items.result.now (λ (j : Join). j.piece)) in
-    eligible-end c.args.release.now (joined_pieces c.joins_of-join-items.result.now) c.loop-join.join-index _ _ past c.loop-join.invariant.0
+    weighted-end c.args.release.now (joined_pieces c.joins_of-join-items.result.now) c.loop-join.join-index _ _ past c.loop-join.invariant.0

@@ -1,0 +1,49 @@
+-- Weighted areas, a piece at a time.
+use Rattle.std.proofs.Common.{◌≡◌, ◌≤◌, ◌<◌, ◌+◌, ◌*◌, ◌∷◌, [], ℕ, zero, suc, ℤ, pos, ◌+ℤ◌, List, length, drop, get_or, filter, Bool, true, false, cond, Some, refl, sym, ap, ◌∙◌, arith, nat_abs}
+use Rattle.std.proofs.Common.{slice_get}
+use Rattle.lpis_parcels.proofs.Common.{slice_get_read, Piece, indices_where, Contents, names}
+use Rattle.std.proofs.lemmas.Int.{ints, to_z-of_z}
+use Rattle.std.proofs.lemmas.List.{drop_all}
+use Rattle.std.proofs.Math.IntN.{+ℤ_assoc, +ℤ_idl, +ℤ_idr}
+use mir.Syntax.{w128}
+use mir.Val.{SFits, to_z, of_z}
+use Rattle.lpis_covers.specs.Table.{most_rows}
+use Rattle.lpis_points.specs.Sums.{int_sum_by}
+use Rattle.lpis_parcels.specs.Weighted.{most_weighted, weight, weighted2}
+use Rattle.lpis_parcels.specs.private.Groups.{at_indices}
+use Rattle.lpis_parcels.proofs.JoinLemmas.{drop-at}
+use Rattle.lpis_parcels.proofs.IndexLemmas.{at-indices-where}
+
+-- the weighted area of the pieces at indices
+abbrev pub weighted_at : Contents → List ℕ → ℤ
+weighted_at c indices = int_sum_by (weight c.classes) (at_indices c.pieces indices)
+
+pub weighted-start : (c : Contents) (id : List ℕ) (indices : List ℕ) → indices ≡ indices_where (names id) 0 c.pieces → pos 0 +ℤ weighted_at c indices ≡ weighted2 c id
+weighted-start c id indices e =
+    +ℤ_idl _ ∙ ap (λ (ps : List Piece). int_sum_by (weight c.classes) ps) (at-indices-where (names id) c.pieces c.pieces indices refl e)
+
+next-indices : (indices : List ℕ) (i index : ℕ) → i < length indices → index ≡ get_or indices i index → drop i indices ≡ index ∷ drop (i + 1) indices
+next-indices indices i index lt e = drop-at indices i index (slice_get_read indices _ i index refl lt e)
+
+pub weighted-added : (c : Contents) (indices : List ℕ) (i index : ℕ) (piece : Piece) (sum part whole : ℤ) → i < length indices → index ≡ get_or indices i index → slice_get c.pieces index ≡ Some piece
+    → part ≡ weight c.classes piece → sum +ℤ weighted_at c (drop i indices) ≡ whole → (sum +ℤ part) +ℤ weighted_at c (drop (i + 1) indices) ≡ whole
+weighted-added c indices i index piece sum part whole lt e at is h =
+    ap (λ (z : ℤ). (sum +ℤ z) +ℤ weighted_at c (drop (i + 1) indices)) is
+    ∙ +ℤ_assoc sum (weight c.classes piece) (weighted_at c (drop (i + 1) indices)) ∙ (rw (next-indices indices i index lt e, at) at h)
+
+pub weighted-end : (c : Contents) (indices : List ℕ) (i : ℕ) (sum whole : ℤ) → length indices ≤ i → sum +ℤ weighted_at c (drop i indices) ≡ whole → sum ≡ whole
+weighted-end c indices i sum whole past h = sym (+ℤ_idr sum) ∙ (rw (drop_all i indices past) at h)
+
+-- one part more, each at most the greatest of a piece
+pub sum-more : (s t : ℤ) (n : ℕ) → nat_abs s ≤ most_weighted * n → nat_abs t ≤ most_weighted → n < most_rows
+    → (to_z w128 (of_z w128 (s +ℤ to_z w128 (of_z w128 t))) ≡ s +ℤ t) × (nat_abs (s +ℤ t) ≤ most_weighted * (n + 1))
+sum-more s t n h l few =
+    let f : SFits w128 t = omega (arith, ints) in
+    let g : SFits w128 (s +ℤ t) = omega (arith, ints) in
+    (rw (to_z-of_z w128 t f) (to_z-of_z w128 (s +ℤ t) g), omega (arith, ints))
+
+-- the item at an index within
+pub item-within : {A : Type 0} (xs : List A) (i : ℕ) → i < length xs → (x : A) × (slice_get xs i ≡ Some x)
+item-within [] i lt = absurd (omega arith)
+item-within (x ∷ xs) zero lt = (x, refl)
+item-within (x ∷ xs) (suc i) lt = item-within xs i (omega arith)

@@ -1,0 +1,48 @@
+//! Weighted areas.
+
+ghost use Rattle.std.specs.Prelude.{◌≡◌, ◌≤◌, ◌<◌, ◌*ℤ◌, Some, length, slice_get, unsigned_abs};
+ghost use Rattle.lpis_covers.specs.declared.piece.Piece.{Piece};
+ghost use Rattle.lpis_covers.specs.Percentages.{most_percent};
+ghost use Rattle.lpis_rings.specs.AreaBounds.{most_area};
+ghost use Rattle.lpis_parcels.specs.Weighted.{most_weighted, weight, weighted2};
+
+use crate::release::Release;
+use lpis_covers::Id;
+use lpis_rings::area2;
+
+/// A percentage times an area.
+fn product(percent: i128, area: i128) -> i128
+    requires percent_in { unsigned_abs percent ≤ most_percent }
+    requires area_in { unsigned_abs area ≤ most_area }
+    ensures value { result ≡ percent *ℤ area }
+    ensures small { unsigned_abs result ≤ most_weighted }
+{
+    percent * area
+}
+
+/// Twice the area of the piece at an index, times the percentage of its class.
+fn weight(release: &Release, index: usize) -> i128
+    requires { index < length release.now.pieces }
+    ensures value { (piece : Piece) → slice_get release.now.pieces index ≡ Some piece
+        → result ≡ weight release.now.classes piece }
+    ensures small { unsigned_abs result ≤ most_weighted }
+{
+    let percent = release.percent(index);
+    let area = area2(&release.pieces()[index].polygon);
+    product(percent as i128, area)
+}
+
+/// Twice the weighted area of a parcel in square millimetres and percent: the areas of its pieces,
+/// each times the percentage of its class, added. It is 0 for an identifier that is no parcel's,
+/// and it takes no memory.
+pub fn weighted2(release: &Release, parcel: &Id) -> i128
+    ensures { result ≡ weighted2 release.now parcel.now }
+{
+    // They are not too many for the sum.
+    let _ = release.pieces();
+    let mut sum = 0;
+    for join in release.joins_of(parcel) {
+        sum += weight(release, join.piece as usize);
+    }
+    sum
+}
