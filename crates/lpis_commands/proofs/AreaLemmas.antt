@@ -1,15 +1,15 @@
 -- A number padded with zeros, and the text of an area.
 use Rattle.std.proofs.Common.{◌≡◌, ◌≤◌, ◌<◌, ◌+◌, ◌-◌, ◌*◌, ◌/◌, ◌%◌, ◌^◌, ◌++◌, ◌∷◌, [], ℕ, zero, suc, List, length, replicate, false, arith, refl, sym, ap, ◌∙◌, inl, inr, append_assoc}
 use Rattle.std.proofs.Common.{length-append, decimal, ℤ, nat_abs, pos, negsuc, true, codes}
-use Rattle.std.specs.Fmt.{char_count, format_spec, padded_integral, styled_decimal}
+use Rattle.std.specs.Fmt.{char_count, format_spec, padded_integral}
 use Rattle.std.proofs.lemmas.Fmt.{decimal_digit, decimal_step_wide}
 use Rattle.std.proofs.lemmas.List.{append-nil, replicate-append-replicate}
 use Rattle.std.proofs.lemmas.Bool.{cases_lt}
 use Rattle.std.proofs.Math.Arith.{mod-mul}
-use Rattle.std.proofs.Math.Nat.{pow-suc}
+use Rattle.std.proofs.Math.Nat.{mod-le, pow-suc}
 use lib.Signed.{lt_z}
 use Rattle.std.proofs.lemmas.Bool.Decides.{nat_tests}
-use Rattle.lpis_commands.specs.Area.{area_text, last_digits, sign_text}
+use Rattle.lpis_commands.specs.Area.{fives_text, last_digits, most_printed, sign_text}
 
 -- a numeral with zeros before it, up to a width
 abbrev pub zero_padded : ℕ → List ℕ → List ℕ
@@ -72,14 +72,18 @@ last_digits-mod (suc w) n =
     ap (λ (x : List ℕ). x ++ (48 + n % 10 ^ suc w % 10) ∷ []) (ap (last_digits w) front ∙ last_digits-mod w (n / 10))
     ∙ ap (λ (d : ℕ). last_digits w (n / 10) ++ (48 + d) ∷ []) end
 
--- the text of an area, as it is written
-pub area-shown : (d : ℤ) (n : ℕ) (sign : List ℕ) → nat_abs d ≤ 10 ^ 36 → n ≡ nat_abs d → sign ≡ sign_text d
-    → sign ++ (decimal (5 * n / 100000) ++ (46 ∷ styled_decimal (format_spec 32 0 4 5 18446744073709551615) (5 * n % 100000))) ≡ area_text d
-unfolding area_text
-area-shown d n sign small a b = rw (a, b) (
-    ap (λ (x : List ℕ). sign_text d ++ (decimal (5 * nat_abs d / 100000) ++ (46 ∷ x)))
-    (padded-zeros 5 (decimal (5 * nat_abs d % 100000)) ∙ zero_padded-decimal 4 (5 * nat_abs d % 100000) (omega arith) (omega arith) ∙ last_digits-mod 5 (5 * nat_abs d))
-    ∙ ap (λ (x : List ℕ). sign_text d ++ x) (sym (append_assoc (decimal (5 * nat_abs d / 100000)) (codes ".") (last_digits 5 (5 * nat_abs d)))))
+-- the text of a number of fives, as it is written
+pub fives-shown : (w : ℕ) (d : ℤ) (m n : ℕ) (sign : List ℕ) → nat_abs d ≤ most_printed → m ≡ 10 ^ suc w → n ≡ nat_abs d → sign ≡ sign_text d
+    → sign ++ (decimal (5 * n / m) ++ (46 ∷ padded_integral (format_spec 32 0 4 (suc w) (2 ^ 64 - 1)) false [] (decimal (5 * n % m)))) ≡ fives_text (suc w) d
+fives-shown w d m n sign small a b c =
+    let units = 5 * nat_abs d in
+    let rest = units % 10 ^ suc w in
+    let low : rest < 10 ^ suc w = omega (arith, ten_pow-pos (suc w)) in
+    let wide : rest < 10 ^ 64 = omega (arith, small, mod-le units (10 ^ suc w)) in
+    rw (a, b, c) (
+    ap (λ (x : List ℕ). sign_text d ++ (decimal (units / 10 ^ suc w) ++ (46 ∷ x)))
+    (padded-zeros (suc w) (decimal rest) ∙ zero_padded-decimal w rest low wide ∙ last_digits-mod (suc w) units)
+    ∙ ap (λ (x : List ℕ). sign_text d ++ x) (sym (append_assoc (decimal (units / 10 ^ suc w)) (codes ".") (last_digits (suc w) units))))
 
 pub sign-below : (d : ℤ) → lt_z d (pos 0) ≡ true → codes "-" ≡ sign_text d
 sign-below (pos n) h = let f : ⊥ = grind (arith, nat_tests) in absurd f

@@ -24,10 +24,6 @@ int_sum_by-push f (x ∷ ks) k = ap (λ (z : ℤ). f x +ℤ z) (int_sum_by-push 
 pub int_sum_by-more : (f : Parcel → ℤ) (ks : List Parcel) (i : ℕ) (k : Parcel) → i < length ks → int_sum_by f (take i ks) +ℤ f (get_or ks i k) ≡ int_sum_by f (take (i + 1) ks)
 int_sum_by-more f ks i k lt = sym (ap (int_sum_by f) (take_more ks i k lt) ∙ int_sum_by-push f (take i ks) (get_or ks i k))
 
--- a sum over the parcels of a table can be printed
-pub sum-small : (d : ℤ) (n : ℕ) → n ≤ most_rows → nat_abs d ≤ most_area * n → nat_abs d ≤ 10 ^ 36
-sum-small d n few small = omega (arith, few, small)
-
 -- the sum so far, and one parcel more
 pub sum-goes-on : (f : Parcel → ℤ) (ks : List Parcel) (i : ℕ) (k d : Parcel) (sum part new : ℤ) → i < length ks → k ≡ get_or ks i d → new ≡ sum +ℤ part
     → sum ≡ int_sum_by f (take i ks) → part ≡ f k → new ≡ int_sum_by f (take (i + 1) ks)

@@ -1,11 +1,19 @@
--- The printed area of a doubled area: square metres with five decimals, every digit.
+-- Printed areas: square metres with every decimal, seven of an area and nine of an eligible area.
 use Rattle.std.specs.Prelude.{◌+◌, ◌*◌, ◌/◌, ◌%◌, ◌^◌, ◌++◌, ◌∷◌, ℕ, zero, suc, ℤ, pos, negsuc}
 use Rattle.std.specs.Prelude.{nat_abs, List, [], codes}
 use Rattle.std.specs.Fmt.{decimal}
 
+-- the greatest absolute value that is printed
+abbrev pub most_printed : ℕ
+most_printed = 10 ^ 36
+
 -- how many decimals a printed area has
 abbrev pub area_decimals : ℕ
-area_decimals = 5
+area_decimals = 7
+
+-- how many decimals a printed eligible area has: two more, since its percentages are whole numbers
+abbrev pub eligible_decimals : ℕ
+eligible_decimals = 9
 
 -- the last `width` digits of n
 abbrev pub last_digits : ℕ → ℕ → List ℕ
@@ -21,9 +29,18 @@ abbrev pub sign_text : ℤ → List ℕ
 sign_text (pos n) = []
 sign_text (negsuc n) = codes "-"
 
--- d doubled square centimetres, in square metres: one of them is 5/100000 of a square metre
+-- five times d, divided by 10 to the power `width`, with `width` decimals
+abbrev pub fives_text : ℕ → ℤ → List ℕ
+fives_text width d = sign_text d ++ fixed_point width (5 * nat_abs d)
+
+-- d doubled square millimetres, in square metres: one of them is 5/10^7 of a square metre
 unfoldable pub area_text : ℤ → List ℕ
-area_text d = sign_text d ++ fixed_point area_decimals (5 * nat_abs d)
+area_text d = fives_text area_decimals d
+
+-- s doubled square millimetres at one percent each, in square metres: one of them is 5/10^9 of a
+-- square metre
+unfoldable pub eligible_text : ℤ → List ℕ
+eligible_text s = fives_text eligible_decimals s
 
 -- an area on a line of its own
 abbrev pub area_line : ℤ → List ℕ

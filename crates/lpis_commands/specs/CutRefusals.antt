@@ -8,7 +8,7 @@ use Rattle.lpis_cutter.specs.declared.fault.Refusal.TheVariants.{NoCut, ParcelsO
 use Rattle.lpis_cutter.specs.declared.fault.Refusal.TheVariants.{PiecesOverlap, NoSeparator}
 use Rattle.lpis_cutter.specs.declared.fault.Refusal.TheVariants.{Disagreement, NoFlats}
 
--- a point by its three numbers: it is (x/d, y/d), in centimetres
+-- a point by its three numbers: it is (x/d, y/d), in millimetres
 abbrev pub point_text : RatPoint → List ℕ
 point_text p = codes " at " ++ signed_decimal p.x ++ codes " " ++ signed_decimal p.y ++ codes " "
     ++ signed_decimal p.d

@@ -18,7 +18,7 @@ use std::alloc::{AllocError, Global};
 const VERSION: &str = "0.2.0";
 
 /// What the words of a command line ask for.
-#[derive(Clone, Copy, Debug, Drop)]
+#[derive(Clone, Copy, Debug, PartialEq, Eq, Drop)]
 pub enum Cmd<'a> {
     /// The areas of the polygons of a table.
     Area {

@@ -11,7 +11,7 @@ use lpis_cutter::Refusal;
 use lpis_points::RatPoint;
 use std::io::Write;
 
-/// Writes a point by its three numbers: it is (x/d, y/d), in centimetres.
+/// Writes a point by its three numbers: it is (x/d, y/d), in millimetres.
 fn print_point<W: Write>(at: &RatPoint, out: &mut W) -> Result<(), PrintFault>
     ensures { OnOk result (Appends (W.contents out.old) (W.contents out.new) (point_text at.now)) }
 {

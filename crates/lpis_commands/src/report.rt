@@ -1,60 +1,61 @@
 //! The report of a release.
 
-ghost use Rattle.std.specs.Prelude.{◌≡◌, ◌≤◌, ◌<◌, ◌+◌, ◌*◌, ◌^◌, ◌++◌, ◌+ℤ◌, Contains, IfOk, OnOk};
+ghost use Rattle.std.specs.Prelude.{◌≡◌, ◌≤◌, ◌<◌, ◌+◌, ◌*◌, ◌++◌, ◌+ℤ◌, Contains, IfOk, OnOk};
 ghost use Rattle.std.specs.Prelude.{codes, nat_abs};
 ghost use Rattle.std.specs.Io.KnownBytes.{Appends};
 ghost use Rattle.std.specs.List.{flat_map};
 ghost use Rattle.lpis_checker.specs.SoundMap.{AreasAdd};
 ghost use Rattle.lpis_covers.specs.Table.{most_rows};
-ghost use Rattle.lpis_parcels.specs.Eligible.{eligible2};
+ghost use Rattle.lpis_parcels.specs.Weighted.{most_weighted, weighted2};
 ghost use Rattle.lpis_rings.specs.Area.{area2};
 ghost use Rattle.lpis_rings.specs.AreaBounds.{most_area};
+ghost use Rattle.lpis_commands.specs.Area.{most_printed};
 ghost use Rattle.lpis_commands.specs.Report.{areas_text, counts_line, parcel_line, report_text};
 ghost use Rattle.lpis_points.specs.Sums.{int_sum_by};
 
-use crate::printing::{PrintFault, print_area};
+use crate::printing::{PrintFault, print_area, print_eligible};
 use lpis_checker::Yes;
-use lpis_parcels::{Parcel, Release, eligible2};
+use lpis_parcels::{Parcel, Release, weighted2};
 use lpis_rings::area2;
 use std::io::Write;
 
-/// An area and how much of it is eligible, both doubled and in square centimetres.
+/// An area and how much of it is eligible: doubled square millimetres, and these at one percent each.
 #[derive(Clone, Copy)]
 struct Areas {
     area: i128,
-    eligible: i128,
+    weighted: i128,
 }
 
 /// Both areas added to those of `count` parcels.
 fn added(sum: Areas, areas: Areas, count: usize) -> Areas
     requires few { count < most_rows }
     requires sum_area { nat_abs sum.area ≤ most_area * count }
-    requires sum_eligible { nat_abs sum.eligible ≤ most_area * count }
+    requires sum_weighted { nat_abs sum.weighted ≤ most_weighted * count }
     requires area { nat_abs areas.area ≤ most_area }
-    requires eligible { nat_abs areas.eligible ≤ most_area }
+    requires weighted { nat_abs areas.weighted ≤ most_weighted }
     ensures area { result.area ≡ sum.area +ℤ areas.area }
-    ensures eligible { result.eligible ≡ sum.eligible +ℤ areas.eligible }
+    ensures weighted { result.weighted ≡ sum.weighted +ℤ areas.weighted }
     ensures area_small { nat_abs result.area ≤ most_area * (count + 1) }
-    ensures eligible_small { nat_abs result.eligible ≤ most_area * (count + 1) }
+    ensures weighted_small { nat_abs result.weighted ≤ most_weighted * (count + 1) }
 {
     Areas {
         area: sum.area + areas.area,
-        eligible: sum.eligible + areas.eligible,
+        weighted: sum.weighted + areas.weighted,
     }
 }
 
 /// Writes an area and how much of it is eligible, up to the end of the line.
 #[tactic(auto, unfolding(crate::specs::Report::areas_text))]
 fn print_areas<W: Write>(areas: Areas, out: &mut W) -> Result<(), PrintFault>
-    requires area { nat_abs areas.area ≤ 10 ^ 36 }
-    requires eligible { nat_abs areas.eligible ≤ 10 ^ 36 }
+    requires area { nat_abs areas.area ≤ most_printed }
+    requires weighted { nat_abs areas.weighted ≤ most_printed }
     ensures { OnOk result (Appends (W.contents out.old) (W.contents out.new)
-        (areas_text areas.area areas.eligible)) }
+        (areas_text areas.area areas.weighted)) }
 {
     out.write_all(b" area ")?;
     print_area(areas.area, out)?;
     out.write_all(b" eligible ")?;
-    print_area(areas.eligible, out)?;
+    print_eligible(areas.weighted, out)?;
     out.write_all(b"\n")?;
     Ok(())
 }
@@ -75,13 +76,13 @@ fn areas_of(release: &Release, parcel: &Parcel) -> Areas
     requires areas { AreasAdd release.now }
     requires among { Contains release.now.parcels parcel.now }
     ensures area { result.area ≡ area2 parcel.now.polygon }
-    ensures eligible { result.eligible ≡ eligible2 release.now parcel.now.id }
+    ensures weighted { result.weighted ≡ weighted2 release.now parcel.now.id }
     ensures area_small { nat_abs result.area ≤ most_area }
-    ensures eligible_small { nat_abs result.eligible ≤ most_area }
+    ensures weighted_small { nat_abs result.weighted ≤ most_weighted }
 {
     Areas {
         area: area2(&parcel.polygon),
-        eligible: eligible2(release, &parcel.id),
+        weighted: weighted2(release, &parcel.id),
     }
 }
 
@@ -95,8 +96,8 @@ fn print_parcel<W: Write>(
     requires among { Contains release.now.parcels parcel.now }
     ensures area { IfOk result (λ a. (a.area ≡ area2 parcel.now.polygon)
         × (nat_abs a.area ≤ most_area)) }
-    ensures eligible { IfOk result (λ a. (a.eligible ≡ eligible2 release.now parcel.now.id)
-        × (nat_abs a.eligible ≤ most_area)) }
+    ensures weighted { IfOk result (λ a. (a.weighted ≡ weighted2 release.now parcel.now.id)
+        × (nat_abs a.weighted ≤ most_weighted)) }
     ensures text { OnOk result (Appends (W.contents out.old) (W.contents out.new)
         (parcel_line release.now parcel.now)) }
 {
@@ -112,16 +113,16 @@ fn print_parcels<W: Write>(release: &Release, out: &mut W) -> Result<Areas, Prin
     requires { AreasAdd release.now }
     ensures area { IfOk result
         (λ a. (a.area ≡ int_sum_by (λ k. area2 k.polygon) release.now.parcels)
-        × (nat_abs a.area ≤ 10 ^ 36)) }
-    ensures eligible { IfOk result
-        (λ a. (a.eligible ≡ int_sum_by (λ k. eligible2 release.now k.id) release.now.parcels)
-        × (nat_abs a.eligible ≤ 10 ^ 36)) }
+        × (nat_abs a.area ≤ most_printed)) }
+    ensures weighted { IfOk result
+        (λ a. (a.weighted ≡ int_sum_by (λ k. weighted2 release.now k.id) release.now.parcels)
+        × (nat_abs a.weighted ≤ most_printed)) }
     ensures text { OnOk result (Appends (W.contents out.old) (W.contents out.new)
         (flat_map (parcel_line release.now) release.now.parcels)) }
 {
     let mut sum = Areas {
         area: 0,
-        eligible: 0,
+        weighted: 0,
     };
     for (count, parcel) in release.parcels().iter().enumerate() {
         let areas = print_parcel(release, parcel, out)?;
@@ -132,10 +133,10 @@ fn print_parcels<W: Write>(release: &Release, out: &mut W) -> Result<Areas, Prin
 
 /// Writes the line of all parcels together, whose areas are these, and the yes.
 fn print_total<W: Write>(sum: Areas, out: &mut W) -> Result<(), PrintFault>
-    requires area { nat_abs sum.area ≤ 10 ^ 36 }
-    requires eligible { nat_abs sum.eligible ≤ 10 ^ 36 }
+    requires area { nat_abs sum.area ≤ most_printed }
+    requires weighted { nat_abs sum.weighted ≤ most_printed }
     ensures { OnOk result (Appends (W.contents out.old) (W.contents out.new)
-        (codes "total" ++ areas_text sum.area sum.eligible ++ codes "yes\n")) }
+        (codes "total" ++ areas_text sum.area sum.weighted ++ codes "yes\n")) }
 {
     out.write_all(b"total")?;
     print_areas(sum, out)?;
