@@ -12,10 +12,8 @@ mod failures;
 #[cfg(test)]
 mod histories;
 #[cfg(test)]
-mod lineages;
-#[cfg(test)]
 mod maps;
 #[cfg(test)]
-mod office;
+mod register;
 #[cfg(test)]
 mod worked;

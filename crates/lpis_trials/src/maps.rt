@@ -1,6 +1,6 @@
 //! Releases whose parcels are strips of a map, and what is handed in to publish one.
 
-use lpis_testing::{CLASSES, HALVES_CERT, LEFT, PARCELS_CERT, RIGHT, SQUARE, SQUARE_CERT};
+use lpis_testing::{CLASSES, PARCELS_CERT, SQUARE_CERT};
 use std::test::Fail;
 
 /// A parcel of one piece of class G: a strip of the map, ten metres high, between two distances in
@@ -13,79 +13,179 @@ pub struct Strip {
     east: u32,
 }
 
-impl Strip {
-    /// A parcel of one piece, from west to east.
-    pub fn new(parcel: &'static str, piece: &'static str, west: u32, east: u32) -> Strip {
-        Strip {
-            parcel,
-            piece,
-            west,
-            east,
+/// A map.
+#[derive(Clone, Copy)]
+pub enum Map {
+    /// A square of ten metres, as one parcel A.
+    Whole,
+    /// Its halves, as two parcels B and C.
+    Halves,
+    /// Both, and a parcel A elsewhere.
+    HalvesAndOther,
+    /// One half, as a parcel B.
+    Half,
+    /// The square, as one parcel B.
+    Merged,
+    /// The square, as one parcel D.
+    Replaced,
+    /// Seven parcels, one of which is kept.
+    Seven,
+    /// What became of them. The parcel `both` has three predecessors.
+    Six,
+}
+
+static WHOLE: [Strip; 1] = [Strip {
+    parcel: "A",
+    piece: "C1",
+    west: 0,
+    east: 10,
+}];
+
+static HALVES: [Strip; 3] = [
+    Strip {
+        parcel: "B",
+        piece: "b1",
+        west: 0,
+        east: 5,
+    },
+    Strip {
+        parcel: "C",
+        piece: "c1",
+        west: 5,
+        east: 10,
+    },
+    Strip {
+        parcel: "A",
+        piece: "C1",
+        west: 20,
+        east: 30,
+    },
+];
+
+static MERGED: [Strip; 1] = [Strip {
+    parcel: "B",
+    piece: "C1",
+    west: 0,
+    east: 10,
+}];
+
+static REPLACED: [Strip; 1] = [Strip {
+    parcel: "D",
+    piece: "d1",
+    west: 0,
+    east: 10,
+}];
+
+static SEVEN: [Strip; 7] = [
+    Strip {
+        parcel: "kept",
+        piece: "p1",
+        west: 0,
+        east: 1,
+    },
+    Strip {
+        parcel: "split",
+        piece: "p2",
+        west: 1,
+        east: 2,
+    },
+    Strip {
+        parcel: "one",
+        piece: "p3",
+        west: 2,
+        east: 3,
+    },
+    Strip {
+        parcel: "other",
+        piece: "p4",
+        west: 3,
+        east: 4,
+    },
+    Strip {
+        parcel: "old",
+        piece: "p5",
+        west: 4,
+        east: 5,
+    },
+    Strip {
+        parcel: "drawn",
+        piece: "p6",
+        west: 5,
+        east: 6,
+    },
+    Strip {
+        parcel: "end",
+        piece: "p7",
+        west: 6,
+        east: 7,
+    },
+];
+
+static SIX: [Strip; 6] = [
+    Strip {
+        parcel: "kept",
+        piece: "p1",
+        west: 0,
+        east: 1,
+    },
+    Strip {
+        parcel: "west",
+        piece: "p2",
+        west: 1,
+        east: 2,
+    },
+    Strip {
+        parcel: "east",
+        piece: "p3",
+        west: 2,
+        east: 3,
+    },
+    Strip {
+        parcel: "both",
+        piece: "p4",
+        west: 3,
+        east: 5,
+    },
+    Strip {
+        parcel: "new",
+        piece: "p5",
+        west: 5,
+        east: 6,
+    },
+    Strip {
+        parcel: "rest",
+        piece: "p6",
+        west: 6,
+        east: 7,
+    },
+];
+
+impl Map {
+    /// Its strips.
+    fn strips(self) -> &'static [Strip] {
+        match self {
+            Map::Whole => WHOLE.as_slice(),
+            Map::Halves => &HALVES[..2],
+            Map::HalvesAndOther => HALVES.as_slice(),
+            Map::Half => &HALVES[..1],
+            Map::Merged => MERGED.as_slice(),
+            Map::Replaced => REPLACED.as_slice(),
+            Map::Seven => SEVEN.as_slice(),
+            Map::Six => SIX.as_slice(),
         }
     }
 }
 
-/// A square of ten metres, as one parcel.
-pub fn square() -> [Strip; 1] {
-    [Strip::new("A", "C1", 0, 10)]
+/// The inputs of a publication, but for the classes.
+#[derive(Clone, Copy)]
+pub struct Inputs<'a> {
+    pub parcels: &'a str,
+    pub covers: &'a str,
+    pub cert: &'a str,
+    pub lineage: &'a str,
 }
 
-/// Its halves, as two parcels.
-pub fn halves() -> [Strip; 2] {
-    [Strip::new("B", "b1", 0, 5), Strip::new("C", "c1", 5, 10)]
-}
-
-/// The inputs of a publication.
-#[derive(Drop)]
-pub struct Inputs {
-    pub parcels: String,
-    pub covers: String,
-    pub cert: String,
-    pub lineage: String,
-}
-
-impl Inputs {
-    /// Those of a release of strips, with these rows of lineage.
-    pub fn new(rt: &HostRuntime, strips: &[Strip], rows: &str) -> Result<Inputs, Fail> {
-        let alloc = rt.alloc();
-        let mut parcels = format!(in alloc; "parcel,wkt\n")?;
-        let mut covers = format!(in alloc; "piece,parcel,class,wkt\n")?;
-        for strip in strips {
-            let (parcel, piece, west, east) = (strip.parcel, strip.piece, strip.west, strip.east);
-            let ring = format!(in alloc;
-                "\"POLYGON(({west} 0,{east} 0,{east} 10,{west} 10,{west} 0))\""
-            )?;
-            parcels.push_str(format!(in alloc; "{parcel},{ring}\n")?.as_str())?;
-            covers.push_str(format!(in alloc; "{piece},{parcel},G,{ring}\n")?.as_str())?;
-        }
-        let cert = cert_of(rt, strips)?;
-        let lineage = format!(in alloc; "old,new\n{rows}")?;
-        Ok(Inputs {
-            parcels,
-            covers,
-            cert,
-            lineage,
-        })
-    }
-
-    /// Those of the square as one parcel of two pieces, the second of which is not eligible. It
-    /// lacks two points of theirs.
-    pub fn of_two_pieces(rt: &HostRuntime) -> Result<Inputs, Fail> {
-        let alloc = rt.alloc();
-        let parcels = format!(in alloc; "parcel,wkt\nA,\"{SQUARE}\"\n")?;
-        let covers = format!(in alloc;
-            "piece,parcel,class,wkt\nL,A,G,\"{LEFT}\"\nR,A,W,\"{RIGHT}\"\n"
-        )?;
-        let cert = format!(in alloc; "{HALVES_CERT}")?;
-        let lineage = format!(in alloc; "old,new\n")?;
-        Ok(Inputs {
-            parcels,
-            covers,
-            cert,
-            lineage,
-        })
-    }
-
+impl Inputs<'_> {
     /// The length of each input, in the order in which they are read.
     pub fn lengths(&self) -> [usize; 5] {
         [
@@ -98,15 +198,72 @@ impl Inputs {
     }
 }
 
-/// The certificate of strips, each cut in two.
+/// The texts of a release of strips.
+#[derive(Drop)]
+pub struct Texts {
+    parcels: String,
+    covers: String,
+    cert: String,
+    lineage: String,
+}
+
+impl Texts {
+    /// Those of a map, with these rows of lineage.
+    pub fn new(rt: &HostRuntime, map: Map, rows: &str) -> Result<Texts, Fail> {
+        let strips = map.strips();
+        Ok(Texts {
+            parcels: parcels_of(rt, strips)?,
+            covers: covers_of(rt, strips)?,
+            cert: cert_of(rt, strips)?,
+            lineage: format!(in rt.alloc(); "old,new\n{rows}")?,
+        })
+    }
+
+    /// As they are handed in.
+    pub fn inputs(&self) -> Inputs<'_> {
+        Inputs {
+            parcels: self.parcels.as_str(),
+            covers: self.covers.as_str(),
+            cert: self.cert.as_str(),
+            lineage: self.lineage.as_str(),
+        }
+    }
+}
+
+/// The field of a strip's polygon.
+fn field_of(rt: &HostRuntime, strip: &Strip) -> Result<String, Fail> {
+    let (west, east) = (strip.west, strip.east);
+    Ok(format!(in rt.alloc(); "\"POLYGON(({west} 0,{east} 0,{east} 10,{west} 10,{west} 0))\"")?)
+}
+
+/// The table of parcels.
+fn parcels_of(rt: &HostRuntime, strips: &[Strip]) -> Result<String, Fail> {
+    let mut table = format!(in rt.alloc(); "parcel,wkt\n")?;
+    for strip in strips {
+        let (parcel, field) = (strip.parcel, field_of(rt, strip)?);
+        let field = field.as_str();
+        table.push_str(format!(in rt.alloc(); "{parcel},{field}\n")?.as_str())?;
+    }
+    Ok(table)
+}
+
+/// The table of pieces.
+fn covers_of(rt: &HostRuntime, strips: &[Strip]) -> Result<String, Fail> {
+    let mut table = format!(in rt.alloc(); "piece,parcel,class,wkt\n")?;
+    for strip in strips {
+        let (piece, parcel, field) = (strip.piece, strip.parcel, field_of(rt, strip)?);
+        let field = field.as_str();
+        table.push_str(format!(in rt.alloc(); "{piece},{parcel},G,{field}\n")?.as_str())?;
+    }
+    Ok(table)
+}
+
+/// The certificate of strips in centimetres, each strip cut in two.
 fn cert_of(rt: &HostRuntime, strips: &[Strip]) -> Result<String, Fail> {
     let alloc = rt.alloc();
     let mut cert = format!(in alloc; "lpis-cert 1\n")?;
-    let mut parcels = String::new(alloc);
-    let mut pairs = format!(in alloc; "pairs {}\n", strips.len())?;
-    let mut first: u32 = 0;
     for strip in strips {
-        let (parcel, piece) = (strip.parcel, strip.piece);
+        let piece = strip.piece;
         let (west, east) = (u64::from(strip.west) * 100, u64::from(strip.east) * 100);
         let block = format!(in alloc;
             "\
@@ -115,20 +272,26 @@ fn cert_of(rt: &HostRuntime, strips: &[Strip]) -> Result<String, Fail> {
                 t {west} 0 {east} 1000 {west} 1000\n"
         )?;
         cert.push_str(block.as_str())?;
-        parcels.push_str(format!(in alloc; "parcel {parcel} 0\n")?.as_str())?;
+    }
+    for strip in strips {
+        cert.push_str(format!(in alloc; "parcel {} 0\n", strip.parcel)?.as_str())?;
+    }
+    cert.push_str(format!(in alloc; "pairs {}\n", strips.len())?.as_str())?;
+    let mut first: u32 = 0;
+    for _ in strips {
         let second = first.saturating_add(1);
-        pairs.push_str(format!(in alloc; "s {first} {second} 2\n")?.as_str())?;
+        cert.push_str(format!(in alloc; "s {first} {second} 2\n")?.as_str())?;
         first = second.saturating_add(1);
     }
-    cert.push_str(parcels.as_str())?;
-    cert.push_str(pairs.as_str())?;
     cert.push_str("end\n")?;
     Ok(cert)
 }
 
 #[test]
 fn certificates_are_those_of_the_square_and_its_halves(rt: HostRuntime) -> Result<(), Fail> {
-    assert!(rt; cert_of(&rt, square().as_slice())?.as_str() == SQUARE_CERT);
-    assert!(rt; cert_of(&rt, halves().as_slice())?.as_str() == PARCELS_CERT);
+    for (map, wanted) in [(Map::Whole, SQUARE_CERT), (Map::Halves, PARCELS_CERT)] {
+        let cert = cert_of(&rt, map.strips())?;
+        assert!(rt; cert.as_str() == wanted);
+    }
     Ok(())
 }

@@ -1,87 +1,201 @@
-//! Two years of a square, and what can follow.
+//! Histories of a square, and what can follow.
 
-use crate::maps::{Inputs, Strip, halves, square};
-use crate::office::Office;
+use crate::maps::Map;
+use crate::register::{Step, take_anew};
 use std::test::Fail;
 
-#[test]
-fn a_square_is_split(rt: HostRuntime) -> Result<(), Fail> {
-    let mut office = Office::with_halves(&rt)?;
-    office.expect_history(&rt, "2024: A\n2025: B C A,B A,C\n")?;
-    office.expect_trace(&rt, "A", "B\nC\n", 0)?;
-    office.expect_trace(&rt, "C", "C\n", 0)?;
-    // an identifier of an earlier release, elsewhere
-    let [first, second] = halves();
-    let strips = [first, second, Strip::new("A", "C1", 20, 30)];
-    let inputs = Inputs::new(&rt, strips.as_slice(), "")?;
-    office.expect_refusal(&rt, 2026, &inputs, "refused 81 lineage 76 A 2024\n", 1)?;
-    office.expect_trace(&rt, "A", "B\nC\n", 0)
-}
+/// What is printed of the square, published in 2024.
+pub static WHOLE_REPORT: &str = "\
+    parcels 1 pieces 1\n\
+    parcel A area 100.0000000 eligible 100.000000000\n\
+    total area 100.0000000 eligible 100.000000000\n\
+    yes\n\
+    published 2024\n";
+
+/// What is printed of its halves, published in 2025 after a split.
+pub static SPLIT_REPORT: &str = "\
+    parcels 2 pieces 2\n\
+    parcel B area 50.0000000 eligible 50.000000000\n\
+    parcel C area 50.0000000 eligible 50.000000000\n\
+    total area 100.0000000 eligible 100.000000000\n\
+    yes\n\
+    lineage A split\n\
+    published 2025\n";
 
 #[test]
-fn its_halves_are_merged(rt: HostRuntime) -> Result<(), Fail> {
-    let mut office = Office::with_halves(&rt)?;
-    let inputs = Inputs::new(&rt, [Strip::new("B", "C1", 0, 10)].as_slice(), "C,B\n")?;
-    let report = "\
+fn a_square_is_split_and_its_halves_are_merged(rt: HostRuntime) -> Result<(), Fail> {
+    let merged = "\
         parcels 1 pieces 1\n\
-        parcel B area 100.00000 eligible 100.00000\n\
-        total area 100.00000 eligible 100.00000\n\
+        parcel B area 100.0000000 eligible 100.000000000\n\
+        total area 100.0000000 eligible 100.000000000\n\
         yes\n\
         lineage C merged\n\
         published 2026\n";
-    office.expect_publish(&rt, 2026, &inputs, report, 0)?;
-    office.expect_history(&rt, "2024: A\n2025: B C A,B A,C\n2026: B C,B\n")?;
-    office.expect_trace(&rt, "A", "B\n", 0)
+    let steps = [
+        Step::Publish(2024, Map::Whole, "", WHOLE_REPORT),
+        Step::Publish(2025, Map::Halves, "A,B\nA,C\n", SPLIT_REPORT),
+        Step::History("2024: A\n2025: B C A,B A,C\n"),
+        Step::Trace("A", "B\nC\n"),
+        Step::Trace("C", "C\n"),
+        // an identifier of an earlier release, elsewhere
+        Step::Refuse(
+            2026,
+            Map::HalvesAndOther,
+            "",
+            "refused 81 lineage 76 A 2024\n",
+        ),
+        Step::Trace("A", "B\nC\n"),
+        Step::NoTrace("Q"),
+        Step::Publish(2026, Map::Merged, "C,B\n", merged),
+        Step::History("2024: A\n2025: B C A,B A,C\n2026: B C,B\n"),
+        Step::Trace("A", "B\n"),
+    ];
+    take_anew(&rt, steps.as_slice())
+}
+
+#[test]
+fn each_lineage_fault_has_its_line(rt: HostRuntime) -> Result<(), Fail> {
+    let steps = [
+        Step::Publish(2024, Map::Whole, "", WHOLE_REPORT),
+        Step::Publish(2025, Map::Halves, "A,B\nA,C\n", SPLIT_REPORT),
+        Step::Refuse(2026, Map::Halves, "Q,B\n", "refused 81 lineage 70 row 1\n"),
+        Step::Refuse(2026, Map::Halves, "A,B\n", "refused 81 lineage 70 row 1\n"),
+        Step::Refuse(2026, Map::Halves, "B,C\n", "refused 81 lineage 71 row 1\n"),
+        Step::Refuse(
+            2026,
+            Map::Half,
+            "C,B\nC,X\n",
+            "refused 81 lineage 72 row 2\n",
+        ),
+        Step::Refuse(
+            2026,
+            Map::Half,
+            "C,B\nC,B\n",
+            "refused 81 lineage 73 row 2\n",
+        ),
+        Step::Refuse(2026, Map::Half, "C,\nC,\n", "refused 81 lineage 73 row 2\n"),
+        Step::Refuse(
+            2026,
+            Map::Half,
+            "C,B\nC,\n",
+            "refused 81 lineage 74 row 2\n",
+        ),
+        Step::Refuse(
+            2026,
+            Map::Half,
+            "C,\nC,B\n",
+            "refused 81 lineage 74 row 2\n",
+        ),
+        Step::Refuse(2026, Map::Half, "", "refused 81 lineage 75 C\n"),
+    ];
+    take_anew(&rt, steps.as_slice())
 }
 
 #[test]
 fn the_square_ends(rt: HostRuntime) -> Result<(), Fail> {
-    let mut office = Office::with_square(&rt)?;
-    let inputs = Inputs::new(&rt, halves().as_slice(), "")?;
-    office.expect_refusal(&rt, 2025, &inputs, "refused 81 lineage 75 A\n", 1)?;
-    let inputs = Inputs::new(&rt, halves().as_slice(), "A,\n")?;
-    let report = "\
+    let ended = "\
         parcels 2 pieces 2\n\
-        parcel B area 50.00000 eligible 50.00000\n\
-        parcel C area 50.00000 eligible 50.00000\n\
-        total area 100.00000 eligible 100.00000\n\
+        parcel B area 50.0000000 eligible 50.000000000\n\
+        parcel C area 50.0000000 eligible 50.000000000\n\
+        total area 100.0000000 eligible 100.000000000\n\
         yes\n\
         lineage A ended\n\
         published 2025\n";
-    office.expect_publish(&rt, 2025, &inputs, report, 0)?;
-    office.expect_history(&rt, "2024: A\n2025: B C A,\n")?;
-    office.expect_trace(&rt, "A", "", 0)?;
-    office.expect_refusal(&rt, 2025, &inputs, "refused 80 last 2025\n", 1)
+    let steps = [
+        // a first release has no rows
+        Step::Refuse(2024, Map::Halves, "B,C\n", "refused 81 lineage 70 row 1\n"),
+        Step::Refuse(2024, Map::Halves, "B,\n", "refused 81 lineage 70 row 1\n"),
+        Step::History(""),
+        Step::NoTrace("Q"),
+        Step::Publish(2024, Map::Whole, "", WHOLE_REPORT),
+        Step::Refuse(2025, Map::Halves, "", "refused 81 lineage 75 A\n"),
+        Step::Publish(2025, Map::Halves, "A,\n", ended),
+        Step::History("2024: A\n2025: B C A,\n"),
+        Step::Trace("A", ""),
+        Step::Refuse(2025, Map::Halves, "A,\n", "refused 80 last 2025\n"),
+        // words that are no identifiers of a release
+        Step::NoTrace("Q"),
+        Step::NoTrace("a"),
+        Step::NoTrace(""),
+        Step::NoTrace("no identifier"),
+        Step::NoTrace("ä"),
+    ];
+    take_anew(&rt, steps.as_slice())
 }
 
 #[test]
-fn identifiers_of_no_release_are_not_traced(rt: HostRuntime) -> Result<(), Fail> {
-    // before the first release, and after two
-    for office in [Office::open(&rt)?, Office::with_halves(&rt)?] {
-        for word in ["Q", "a", "", "no identifier", "ä"] {
-            office.expect_trace(&rt, word, "refused 83\n", 1)?;
-        }
-    }
-    Ok(())
-}
-
-#[test]
-fn a_parcel_that_is_kept_has_no_line(rt: HostRuntime) -> Result<(), Fail> {
-    let mut office = Office::with_square(&rt)?;
-    let inputs = Inputs::of_two_pieces(&rt)?;
-    let report = "\
-        parcels 1 pieces 2\n\
-        parcel A area 100.00000 eligible 50.00000\n\
-        total area 100.00000 eligible 50.00000\n\
+fn an_identifier_that_is_gone_stays_gone(rt: HostRuntime) -> Result<(), Fail> {
+    let kept = "\
+        parcels 1 pieces 1\n\
+        parcel A area 100.0000000 eligible 100.000000000\n\
+        total area 100.0000000 eligible 100.000000000\n\
         yes\n\
+        published 2026\n";
+    let replaced = "\
+        parcels 1 pieces 1\n\
+        parcel D area 100.0000000 eligible 100.000000000\n\
+        total area 100.0000000 eligible 100.000000000\n\
+        yes\n\
+        lineage A replaced\n\
+        published 2028\n";
+    let steps = [
+        Step::Publish(2024, Map::Whole, "", WHOLE_REPORT),
+        // a parcel that is kept has no line
+        Step::Publish(2026, Map::Whole, "", kept),
+        Step::History("2024: A\n2026: A\n"),
+        Step::Trace("A", "A\n"),
+        // the year decides, however often the same comes
+        Step::Refuse(2025, Map::Whole, "", "refused 80 last 2026\n"),
+        Step::Publish(2028, Map::Replaced, "A,D\n", replaced),
+        // the last of two years in which it was live
+        Step::Refuse(2029, Map::Whole, "D,A\n", "refused 81 lineage 76 A 2026\n"),
+    ];
+    take_anew(&rt, steps.as_slice())
+}
+
+#[test]
+fn each_kind_has_its_line(rt: HostRuntime) -> Result<(), Fail> {
+    let before = "\
+        parcels 7 pieces 7\n\
+        parcel kept area 10.0000000 eligible 10.000000000\n\
+        parcel split area 10.0000000 eligible 10.000000000\n\
+        parcel one area 10.0000000 eligible 10.000000000\n\
+        parcel other area 10.0000000 eligible 10.000000000\n\
+        parcel old area 10.0000000 eligible 10.000000000\n\
+        parcel drawn area 10.0000000 eligible 10.000000000\n\
+        parcel end area 10.0000000 eligible 10.000000000\n\
+        total area 70.0000000 eligible 70.000000000\n\
+        yes\n\
+        published 2024\n";
+    let rows =
+        "split,west\nsplit,east\nother,both\none,both\nold,new\nend,\ndrawn,both\ndrawn,rest\n";
+    // lines ascending, whatever the order of the rows
+    let after = "\
+        parcels 6 pieces 6\n\
+        parcel kept area 10.0000000 eligible 10.000000000\n\
+        parcel west area 10.0000000 eligible 10.000000000\n\
+        parcel east area 10.0000000 eligible 10.000000000\n\
+        parcel both area 20.0000000 eligible 20.000000000\n\
+        parcel new area 10.0000000 eligible 10.000000000\n\
+        parcel rest area 10.0000000 eligible 10.000000000\n\
+        total area 70.0000000 eligible 70.000000000\n\
+        yes\n\
+        lineage drawn redrawn\n\
+        lineage end ended\n\
+        lineage old replaced\n\
+        lineage one merged\n\
+        lineage other merged\n\
+        lineage split split\n\
         published 2025\n";
-    office.expect_publish(&rt, 2025, &inputs, report, 0)?;
-    office.expect_history(&rt, "2024: A\n2025: A\n")?;
-    office.expect_trace(&rt, "A", "A\n", 0)?;
-    // the year decides, however often the same comes
-    let again = Inputs::new(&rt, square().as_slice(), "")?;
-    for year in [2024, 2025] {
-        office.expect_refusal(&rt, year, &again, "refused 80 last 2025\n", 1)?;
-    }
-    Ok(())
+    let steps = [
+        Step::Publish(2024, Map::Seven, "", before),
+        Step::Publish(2025, Map::Six, rows, after),
+        Step::Trace("kept", "kept\n"),
+        Step::Trace("split", "east\nwest\n"),
+        Step::Trace("one", "both\n"),
+        Step::Trace("old", "new\n"),
+        Step::Trace("drawn", "both\nrest\n"),
+        Step::Trace("end", ""),
+    ];
+    take_anew(&rt, steps.as_slice())
 }
