@@ -20,7 +20,7 @@ use Rattle.lpis_lineage.specs.Lawful.{IsAnswered}
 use Rattle.lpis_lineage.specs.Lineage.{is_of, last_live, last_year, names}
 use Rattle.lpis_lineage.specs.LineageTable.{lineage_table}
 use Rattle.lpis_lineage.proofs.Shared.{follows-from-clean, mono, counted-ended}
-use Rattle.lpis_cert.specs.Contents.{cert_text}
+use Rattle.lpis_cert.specs.Contents.{IsCertText}
 use Rattle.lpis_checker.specs.SoundMap.{IsSoundMap}
 use Rattle.lpis_commands.specs.LineageLines.{lineage_lines, publish_refusal_text, published_line}
 use Rattle.lpis_commands.specs.declared.failure.Failure.{Failure}
@@ -119,7 +119,7 @@ continued-of live rows id named (inl ending) = inl (counted-ended rows id ending
 continued-of live rows id named (inr heirs) = inr (heirs.1, λ s is. named s (mono (leads id s) (names s) rows (λ row h. (and_parts (is_of id row) (names s row) h).1) is))
 
 pub published-of : (x : Publication) (r : Contents) (c : Cert) (rows : List Row) (h k : List Entry) → release_of x.checked.parcels x.checked.covers x.checked.classes ≡ Ok r → IsSoundMap r
-    → x.checked.cert ≡ cert_text c → IsGood r c → rows_of lineage_table x.lineage ≡ Ok rows → IsAdded x.year r rows h k → IsPublished x h k
+    → IsCertText x.checked.cert c → IsGood r c → rows_of lineage_table x.lineage ≡ Ok rows → IsAdded x.year r rows h k → IsPublished x h k
 published-of x r c rows h k tables sound text good table added =
     let live = parcel_ids r.parcels in
     let follows = follows-from-clean h live rows added.clean in

@@ -1,5 +1,5 @@
 -- The answer to a table of polygons: text and status, as a function of the table's bytes.
-use Rattle.std.specs.Prelude.{◌≡◌, ◌⊎◌, ◌∷◌, [], ℕ, List, Option, Result, Ok, Err, codes}
+use Rattle.std.specs.Prelude.{◌≡◌, ◌⊎◌, ◌∷◌, [], ℕ, List, Option, Result, Ok, Err, codes, true}
 use Rattle.std.specs.List.{flat_map}
 use Rattle.std.specs.Io.KnownBytes.{Appends, Keeps}
 use Rattle.lpis_rings.specs.declared.polygon.Member.{Member}
@@ -23,6 +23,8 @@ abbrev pub area_table : RowsOf (List Member)
 area_table = record {
   table = Area;
   columns = codes "wkt" ∷ [];
+  further = [];
+  enough = λ has. true;
   faults = λ keys n row. polygon_faults Area n (field_of row 0);
   value = λ row. polygon_in (field_of row 0);
 }

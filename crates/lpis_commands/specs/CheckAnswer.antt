@@ -6,7 +6,7 @@ use Rattle.lpis_parcels.specs.Release.{Contents, release_of}
 use Rattle.lpis_cert.specs.declared.cert.Cert.{Cert}
 use Rattle.lpis_cert.specs.declared.fault.CertCode.{CertCode}
 use Rattle.lpis_cert.specs.declared.fault.CertFault.TheVariants as cert
-use Rattle.lpis_cert.specs.Contents.{cert_text}
+use Rattle.lpis_cert.specs.Contents.{IsCertText}
 use Rattle.lpis_cert.specs.Faults.{verdict}
 use Rattle.lpis_checker.specs.declared.condition.Condition.{Condition}
 use Rattle.lpis_checker.specs.declared.condition.Site.{Site}
@@ -47,7 +47,7 @@ abbrev pub IsCertAnswer : (Cert → Answer → Type 0) → List ℕ → Result �
     → Type 0
 IsCertAnswer IsNext text (Err fault) a =
     a ≡ (cert_refusal_text (cert.At fault.0 fault.1), unreadable)
-IsCertAnswer IsNext text (Ok lines) a = (c : Cert) × (text ≡ cert_text c) × IsNext c a
+IsCertAnswer IsNext text (Ok lines) a = (c : Cert) × IsCertText text c × IsNext c a
 
 -- of what tables say: the line of their first fault, or the answer to what they say
 abbrev pub IsTableAnswer : {A : Type 0} → (A → Answer → Type 0) → Result A TableFault → Answer
@@ -76,7 +76,7 @@ pub record IsProved (x : Inputs) : Type 0 where
   pub tables : release_of x.parcels x.covers x.classes ≡ Ok release
   pub sound : IsSoundMap release
   pub certificate : Cert
-  pub text : x.cert ≡ cert_text certificate
+  pub text : IsCertText x.cert certificate
   pub good : IsGood release certificate
 
 -- the inputs are what four readers reported, as far as it is known

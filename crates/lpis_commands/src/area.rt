@@ -24,7 +24,7 @@ fn area_lines(alloc: Global, bytes: &[u8]) -> Result<Vec<u8>, TableFault>
         (rows_of area_table bytes.now) }
 {
     let columns = [b"wkt".as_slice()];
-    let mut reader = TableReader::open(alloc, bytes, Table::Area, columns.as_slice())?;
+    let mut reader = TableReader::open(alloc, bytes, Table::Area, columns.as_slice(), &[])?;
     let mut lines = Vec::new(alloc);
     'rows: while reader.next_row()? {
         let polygon = reader.polygon(alloc, 0)?;

@@ -1,7 +1,7 @@
 //! The run of `check`, over any readers and writer.
 
 ghost use Rattle.std.specs.Prelude.{◌≡◌, IfErr, IfOk, List, ℕ};
-ghost use Rattle.lpis_cert.specs.Contents.{cert_text};
+ghost use Rattle.lpis_cert.specs.Contents.{IsCertText};
 ghost use Rattle.lpis_cert.specs.declared.cert.Cert.{Cert};
 ghost use Rattle.lpis_checker.specs.GoodCertificate.{IsGood};
 ghost use Rattle.lpis_checker.specs.SoundMap.{IsSoundMap};
@@ -111,7 +111,7 @@ fn answer_to_text(
     ensures answer { (text : List ℕ) → IsReadAs text read → IfOk result
         (λ a. IsReleaseAnswer text release.now (a.text.items, a.status)) }
     ensures proved { (text : List ℕ) → IsReadAs text read → IfOk result (λ a. a.status ≡ done
-        → IsSoundMap release.now × ((c : Cert) × (text ≡ cert_text c) × IsGood release.now c)) }
+        → IsSoundMap release.now × ((c : Cert) × IsCertText text c × IsGood release.now c)) }
 {
     match read {
         Ok(cert) => answer_to_cert(alloc, release, &cert),

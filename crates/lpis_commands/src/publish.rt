@@ -4,7 +4,7 @@ ghost use Rattle.std.specs.Prelude.{◌≡◌, ◌++◌, IfErr, IfOk, List, OnOk
 ghost use Rattle.std.specs.Io.KnownBytes.{Appends};
 ghost use Rattle.std.specs.List.{flat_map};
 ghost use Rattle.sqlite.specs.Held.{state};
-ghost use Rattle.lpis_cert.specs.Contents.{cert_text};
+ghost use Rattle.lpis_cert.specs.Contents.{IsCertText};
 ghost use Rattle.lpis_cert.specs.Faults.{verdict};
 ghost use Rattle.lpis_cert.specs.declared.cert.Cert.{Cert};
 ghost use Rattle.lpis_checker.specs.GoodCertificate.{IsGood};
@@ -225,7 +225,7 @@ fn answer_to_text<S: Alter>(
         (λ a. IsCertAnswer (IsLineageAnswer year lineage.items register.old.history release.now)
         text (verdict text) (a.text.items, a.status)) }
     ensures added { (text : List ℕ) → IsReadAs text read → IfOk result (λ a. a.status ≡ done
-        → IsSoundMap release.now × ((c : Cert) × (text ≡ cert_text c) × IsGood release.now c)
+        → IsSoundMap release.now × ((c : Cert) × IsCertText text c × IsGood release.now c)
         × IsAddedWith year release.now lineage.items register.old.history
         register.new.history) }
     ensures leaves { Leaves result (state S.Store register.old.conn) register.old.history

@@ -1,6 +1,6 @@
 -- The bytes that a check has read, and what those of a certificate say.
-use Rattle.std.specs.Prelude.{◌≡◌, ℕ, List, Result, Ok, Err}
-use Rattle.lpis_cert.specs.Contents.{cert_text}
+use Rattle.std.specs.Prelude.{ℕ, List, Result, Ok, Err}
+use Rattle.lpis_cert.specs.Contents.{IsCertText}
 use Rattle.lpis_cert.specs.Faults.{IsFirstFault}
 use Rattle.lpis_cert.specs.declared.cert.Cert.{Cert}
 use Rattle.lpis_cert.specs.declared.fault.CertFault.{CertFault}
@@ -17,5 +17,5 @@ inputs_of i = record {
 
 -- what a text was read as: the certificate whose text it is, or its first fault
 abbrev pub IsReadAs : List ℕ → Result Cert CertFault → Type 0
-IsReadAs text (Ok c) = text ≡ cert_text c
+IsReadAs text (Ok c) = IsCertText text c
 IsReadAs text (Err fault) = IsFirstFault fault text
