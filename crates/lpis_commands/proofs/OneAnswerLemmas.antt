@@ -123,7 +123,7 @@ cert_answer : (IsNext : Cert → Answer → Type 0) (text : List ℕ) (said : Re
 unfolding Decides
 cert_answer IsNext text (Err fault) one a b x y = x ∙ sym y
 cert_answer IsNext text (Ok lines) one a b x y =
-    let same = one_cert x.0 y.0 (sym x.1 ∙ y.1) in
+    let same = one_cert text x.0 y.0 x.1 y.1 in
     one y.0 a b (subst (λ (c : Cert). IsNext c a) same x.2) y.2
 
 table_answer : {A : Type 0} (IsNext : A → Answer → Type 0) (said : Result A TableFault) → ((x : A) → Decides (IsNext x)) → Decides (IsTableAnswer IsNext said)
