@@ -1,4 +1,4 @@
-use Rattle.std.proofs.Common.{◌≡◌, ◌∙◌, ◌++◌, ◌∷◌, [], ap, sym, rules, true, codes, ℕ, ℤ, List, Result, Ok, Err, OnOk, is_ok, Vec, Global, Bor}
+use Rattle.std.proofs.Common.{◌≡◌, ◌∙◌, ◌++◌, ◌∷◌, [], ap, sym, refl, rules, true, codes, ℕ, ℤ, List, Result, Ok, Err, OnOk, is_ok, Vec, Global, Bor}
 use Rattle.lpis_commands.proofs.Common.{done}
 use Rattle.std.proofs.lemmas.Int.{to_z-of_z}
 use Rattle.std.proofs.lemmas.Result.{err_from_is_err_and}
@@ -26,18 +26,18 @@ fault-told Memory said h = tt
 fault-told (At code table row wkt) said h = h
 
 -- the table that was opened
-opened : (columns : List (Bor (List ℕ))) (bytes : List ℕ) (reader : Reading) → texts columns ≡ codes "wkt" ∷ [] → table_of Area (texts columns) bytes ≡ Ok reader
-    → table_of Area (codes "wkt" ∷ []) bytes ≡ Ok reader
-opened columns bytes reader e h = rw e at h
+opened : (columns further : List (Bor (List ℕ))) (bytes : List ℕ) (reader : Reading) → texts columns ≡ codes "wkt" ∷ [] → texts further ≡ []
+    → table_of Area (texts columns) (texts further) bytes ≡ Ok reader → table_of Area (codes "wkt" ∷ []) [] bytes ≡ Ok reader
+opened columns further bytes reader e f h = rw (e, f) at h
 
 pub rows-init : goal.rows-init
 rows-init c =
-    let table = opened c.as_slice-2.result.now c.args.bytes.now c.in_ok-reader.reader (search rules) c.in_ok-reader.ensures in
-    ([], [], rows-start area_table c.args.bytes.now c.in_ok-reader.reader table, c.new-lines.ensures.items)
+    let table = opened c.as_slice-2.result.now [] c.args.bytes.now c.in_ok-reader.reader (search rules) refl c.in_ok-reader.ensures in
+    ([], [], rows-start area_table c.args.bytes.now c.in_ok-reader.reader table refl, c.new-lines.ensures.items)
 
 pub returns-in_err-next_row : goal.returns-in_err-next_row
 returns-in_err-next_row c =
-    let table = opened c.as_slice-2.result.now c.args.bytes.now c.in_ok-reader.reader (search rules) c.in_ok-reader.ensures in
+    let table = opened c.as_slice-2.result.now [] c.args.bytes.now c.in_ok-reader.reader (search rules) refl c.in_ok-reader.ensures in
     let known = c.rows.invariant in
     let p = err_from_is_err_and c.from_residual-in_err-next_row.result c.from_residual-in_err-next_row.ensures.1 in
     rw (p.1, p.2) (fault-told _ _ (rows-stop area_table c.args.bytes.now c.in_ok-reader.reader c.rows.reader c.next_row.new.self known.0 known.1 c.in_err-next_row.field-0.0
@@ -45,7 +45,7 @@ returns-in_err-next_row c =
 
 pub returns-in_err-polygon : goal.returns-in_err-polygon
 returns-in_err-polygon c =
-    let table = opened c.as_slice-2.result.now c.args.bytes.now c.in_ok-reader.reader (search rules) c.in_ok-reader.ensures in
+    let table = opened c.as_slice-2.result.now [] c.args.bytes.now c.in_ok-reader.reader (search rules) refl c.in_ok-reader.ensures in
     let known = c.rows.invariant in
     let p = err_from_is_err_and c.from_residual-in_err-polygon.result c.from_residual-in_err-polygon.ensures.1 in
     let advanced = rw c.if-branch.true at c.in_ok-next_row.ensures in
@@ -69,7 +69,7 @@ rows-preserved c =
 
 pub returns : goal.returns
 returns c =
-    let table = opened c.as_slice-2.result.now c.args.bytes.now c.in_ok-reader.reader (search rules) c.in_ok-reader.ensures in
+    let table = opened c.as_slice-2.result.now [] c.args.bytes.now c.in_ok-reader.reader (search rules) refl c.in_ok-reader.ensures in
     let known = c.rows.invariant in
     let ended = rw c.if-branch.false at c.in_ok-next_row.ensures in
     ap answer_from (rows-end area_table c.args.bytes.now c.in_ok-reader.reader c.rows.reader c.next_row.new.self known.0 known.1 table known.2 ended)
