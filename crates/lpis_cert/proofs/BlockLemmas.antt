@@ -1,6 +1,6 @@
 -- The lines of blocks.
 use Rattle.std.proofs.Common.{◌≡◌, ℕ, suc, ◌+◌, ◌-◌, ◌<◌, Bool, true, false, List, [], ◌∷◌, ◌++◌, length, map, Some, None, Ok, refl, ap, ◌∙◌, arith}
-use Rattle.lpis_cert.proofs.Common.{AllByRecursion, Triangle, Stage, CertFault, Kind, One, Version, Corners, Line, Separator, FlatLine, EndLine, spelling, CornersFit}
+use Rattle.lpis_cert.proofs.Common.{AllByRecursion, Triangle, Stage, CertFault, Kind, One, Version, Corners, Separator, FlatLine, EndLine, spelling, CornersFit}
 use Rattle.lpis_cert.proofs.Common.{SeparatorFits, values}
 use Rattle.lpis_cert.proofs.Common.{step, InPairs, Declared, LineFits, Placed, LineFault, ReadsLines, FaultFrom, corner_line, corner_numbers, all_corners}
 use Rattle.lpis_cert.proofs.Common.{separator_of}

@@ -6,7 +6,7 @@ use Rattle.lpis_cert.proofs.Common.{nat_tests, join_with_byte-slice_split, AllBy
 use Rattle.lpis_cert.proofs.Common.{greatest_count, Corners, Separator}
 use Rattle.lpis_cert.proofs.Common.{PieceBlock, ParcelBlock, Line, PieceLine, TriangleLine, FlatLine, ParcelLine, PairsLine, PairLine, EndLine, spelling}
 use Rattle.lpis_cert.proofs.Common.{text_of_lines, piece_lines, parcel_lines}
-use Rattle.lpis_cert.proofs.Common.{end_lines, lines_of, CornersFit, SeparatorFits, LineFits, is_lf, lines, outcome, at_last, step, State, InBody, InPairs}
+use Rattle.lpis_cert.proofs.Common.{end_lines, lines_of, SeparatorFits, LineFits, is_lf, lines, outcome, at_last, step, State, InBody, InPairs}
 use Rattle.lpis_cert.proofs.Common.{AtEnd, Declared, grow, grow_flats}
 use Rattle.lpis_cert.proofs.Common.{ReadsLines, FaultFrom, LineFault, Triangle, PiecePart, ParcelPart, Cert, all_corners, piece_of, parcel_of, separator_of}
 use Rattle.lpis_cert.proofs.Common.{content_of, pieces_lines, parcels_lines}

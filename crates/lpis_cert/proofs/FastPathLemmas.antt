@@ -2,7 +2,7 @@
 use Rattle.std.proofs.Common.{◌≡◌, ℕ, suc, ◌+◌, ◌-◌, ◌*◌, ◌<◌, ◌≤◌, Bool, true, false, cond, List, [], ◌∷◌, ◌++◌, length, take, drop, get_or, Some, refl, sym, ap}
 use Rattle.std.proofs.Common.{◌∙◌, arith}
 use Rattle.std.proofs.Common.{append_assoc, length-append, drop-cons, add-one, decimal}
-use Rattle.lpis_cert.proofs.Common.{nat_tests, signed_decimal, number_margin, Version, CornersFit, LineFits, Corners, spelling, words_of, text_of_lines, digits_on, number, ReadsLines}
+use Rattle.lpis_cert.proofs.Common.{nat_tests, number_margin, Version, CornersFit, LineFits, Corners, spelling, words_of, text_of_lines, digits_on, number, ReadsLines}
 use Rattle.lpis_cert.proofs.Common.{corner_line}
 use Rattle.std.proofs.lemmas.Fmt.{decimal_digit}
 use Rattle.std.proofs.lemmas.Str.{digit_value_digit}

@@ -7,7 +7,7 @@ use Rattle.lpis_cert.proofs.Common.{CertFault}
 use Rattle.lpis_cert.proofs.Common.{piece_of, parcel_of, separator_of, content_of, IsCertText, PieceFits, ParcelFits, CertCode, Version, first_line, named, written, Corners, Triangle, Separator}
 use Rattle.lpis_cert.proofs.Common.{PieceBlock, ParcelBlock}
 use Rattle.lpis_cert.proofs.Common.{Content, Line, TriangleLine, FlatLine, text_of, text_of_lines, spelling, lines_of, piece_lines, parcel_lines}
-use Rattle.lpis_cert.proofs.Common.{end_lines, CornersFit, LineFits, is_lf, lines, outcome, outcome_of, at_last, step, State, InBody, AtEnd, first_state, verdict}
+use Rattle.lpis_cert.proofs.Common.{end_lines, CornersFit, LineFits, is_lf, lines, outcome, outcome_of, at_last, step, State, AtEnd, first_state, verdict}
 use Rattle.lpis_cert.proofs.Common.{pieces_lines, parcels_lines}
 use Rattle.lpis_cert.specs.declared.fault.CertFault.TheVariants.{Memory, At}
 use Rattle.lpis_cert.specs.Contents.{cert_text, IsTextOf, all_corners, corner_numbers}
@@ -22,7 +22,6 @@ use Rattle.lpis_cert.proofs.NumberLemmas.{has_text}
 use Rattle.lpis_cert.proofs.LineLemmas.{spelling_injective}
 use Rattle.lpis_cert.proofs.StepLemmas.{Goes}
 use Rattle.lpis_cert.proofs.ReadLemmas.{names_itself, certificate_goes, accepted}
-use Rattle.lpis_cert.specs.declared.kind.Stage.TheVariants as stage
 use Rattle.lpis_cert.specs.declared.fault.CertCode.TheVariants as code
 
 -- ---- a prefix

@@ -2,7 +2,7 @@
 use Rattle.std.proofs.Common.{◌≡◌, ℕ, zero, suc, ◌+◌, ◌*◌, ◌/◌, ◌<◌, ◌≤◌, Bool, true, false, cond, ◌&&◌, List, [], ◌∷◌, length, get_or, Option, Some, None}
 use Rattle.std.proofs.Common.{refl, sym, ap, ◌∙◌, arith, nat_le, eqb}
 use Rattle.std.proofs.Common.{ℤ, pos, negsuc, neg_ℤ, nat_abs, decimal}
-use Rattle.lpis_cert.proofs.Common.{nat_tests, and_parts, signed_decimal, number_margin, Version, written, digits_on, number, CoordinateFits}
+use Rattle.lpis_cert.proofs.Common.{nat_tests, and_parts, number_margin, Version, written, digits_on, number, CoordinateFits}
 use Rattle.std.proofs.lemmas.Bool.{eqb-true}
 use Rattle.std.proofs.lemmas.Int.{ints}
 use Rattle.std.proofs.lemmas.Fmt.{decimal_digit, decimal_is_IsNumeral, first_decimal, decimal-digits_value}
@@ -12,6 +12,7 @@ use Rattle.std.specs.Str.Parse.{digits_value, digits_value_after, AllDigits}
 use Rattle.lpis_covers.proofs.Shared.{value-ge}
 use Rattle.lpis_points.specs.Range.{limit, IsInRange}
 use Rattle.lpis_cert.specs.declared.version.Version.TheVariants.{One, Two}
+use Rattle.std.specs.Fmt.{signed_decimal}
 use Rattle.lpis_cert.specs.CertText.{coordinate_word}
 use Rattle.lpis_cert.specs.Versions.{greatest, factor, units}
 use Rattle.lpis_cert.specs.Reading.{coordinate, minus, plus}

@@ -1,5 +1,5 @@
 -- The first line, and the whole text.
-use Rattle.std.proofs.Common.{bytes_eq, ◌≡◌, ℕ, ◌+◌, ◌≤◌, Bool, true, false, cond, List, [], ◌∷◌, ◌++◌, length, map, Option, Some, None, Result, Ok, Err, IfOk, refl, sym, ap, ◌∙◌, arith, sum_by}
+use Rattle.std.proofs.Common.{bytes_eq, ◌≡◌, ℕ, ◌+◌, ◌≤◌, Bool, true, false, cond, List, [], ◌∷◌, ◌++◌, length, map, Some, None, Result, Ok, Err, IfOk, refl, sym, ap, ◌∙◌, arith, sum_by}
 use Rattle.lpis_cert.proofs.Common.{sum_by-cons, AllByRecursion, Stage, Version, first_line, named, most_triangles, most_flats, PieceBlock, ParcelBlock, Content}
 use Rattle.lpis_cert.proofs.Common.{Cert, CertFault, IsCertText, content_of, Line, PieceLine, ParcelLine, TriangleLine}
 use Rattle.lpis_cert.proofs.Common.{FlatLine, text_of, text_of_lines, lines_of, piece_lines, parcel_lines, end_lines, LineFits, PieceFits, ParcelFits, lines}

@@ -1,5 +1,5 @@
 -- A text without a fault is that of a certificate.
-use Rattle.std.proofs.Common.{sum_by, flat_map, ◌≡◌, ℕ, zero, suc, ◌+◌, ◌≤◌, Bool, true, false, cond, List, [], ◌∷◌, ◌++◌, length, map, Option, Some, None, Result, Ok}
+use Rattle.std.proofs.Common.{sum_by, flat_map, ◌≡◌, ℕ, zero, suc, ◌+◌, ◌≤◌, true, List, [], ◌∷◌, ◌++◌, length, map, Option, Some, None, Result, Ok}
 use Rattle.std.proofs.Common.{Err, refl, sym, ap, ap₂, subst}
 use Rattle.std.proofs.Common.{◌∙◌, arith, append_assoc}
 use Rattle.lpis_cert.proofs.Common.{AllByRecursion, join_with_byte, nat_tests, length-map, sum_by-cons, join_with_byte-slice_split, Triangle, is_id, Stage, One}
@@ -21,7 +21,6 @@ use Rattle.lpis_cert.proofs.LawLemmas.{triangle_sum, flat_sum, parcel_flat_sum, 
 use Rattle.lpis_cert.proofs.CertEqualityLemmas.{same_content}
 use Rattle.lpis_cert.specs.declared.kind.Stage.TheVariants as stage
 use Rattle.lpis_cert.specs.declared.kind.Kind.TheVariants as kind
-use Rattle.lpis_cert.specs.declared.fault.CertCode.TheVariants as code
 use Rattle.lpis_cert.specs.declared.part.PairLine as part
 
 -- ---- what a text may be from a state on

@@ -1,7 +1,7 @@
 -- The words of a line.
 use Rattle.std.proofs.Common.{◌≡◌, ℕ, suc, ◌<◌, ◌≤◌, Bool, true, false, not, ◌&&◌, List, [], ◌∷◌, ◌++◌, length, refl, ap, ◌∙◌, arith, ℤ, pos, negsuc, nat_abs}
 use Rattle.std.proofs.Common.{codes, decimal}
-use Rattle.lpis_cert.proofs.Common.{and_parts, nat_tests, onto_first, list_any, join_with_byte, AllByRecursion, signed_decimal, is_id, Version}
+use Rattle.lpis_cert.proofs.Common.{and_parts, nat_tests, onto_first, list_any, join_with_byte, AllByRecursion, is_id, Version}
 use Rattle.lpis_cert.proofs.Common.{greatest_count, number_margin, Kind, Piece, Flat}
 use Rattle.lpis_cert.proofs.Common.{Parcel, Pairs, Pair, End, Corners, Line, PieceLine, TriangleLine, FlatLine, ParcelLine, PairsLine, PairLine, EndLine}
 use Rattle.lpis_cert.proofs.Common.{words_of, spelling, CoordinateFits, CornersFit, LineFits}
@@ -13,8 +13,9 @@ use Rattle.std.specs.Str.Parse.{AllDigits}
 use Rattle.lpis_covers.specs.Ids.{is_id_byte}
 use Rattle.lpis_cert.specs.declared.kind.Kind.TheVariants.{Triangle}
 use Rattle.lpis_cert.specs.declared.version.Version.TheVariants.{One, Two}
+use Rattle.std.specs.Fmt.{signed_decimal}
 use Rattle.lpis_cert.specs.CertText.{coordinate_word, corner_words}
-use Rattle.lpis_cert.specs.Versions.{greatest, units}
+use Rattle.lpis_cert.specs.Versions.{units}
 use Rattle.lpis_cert.proofs.NumberLemmas.{greatest_small}
 
 -- ---- bytes of words
