@@ -1,5 +1,6 @@
 -- The table of lineage: its rows, and its first fault.
-use Rattle.std.specs.Prelude.{◌≡◌, ◌∷◌, ◌++◌, true, ℕ, List, [], codes, Option, None, Some, Result, Ok}
+use Rattle.std.specs.Prelude.{◌≡◌, ◌∷◌, ◌++◌, true, ℕ, List, [], codes, Option, None, Some}
+use Rattle.std.specs.Prelude.{Result, Ok}
 use Rattle.std.specs.declared.vec.Vec.{Vec}
 use Rattle.std.specs.declared.alloc.Global.{Global}
 use Rattle.lpis_covers.specs.declared.fault.Table.TheVariants.{Lineage}
