@@ -6,6 +6,7 @@ pub mod GroupingLemmas
 pub mod NetSumLemmas
 pub mod DistinctLemmas
 pub mod AreaSumLemmas
+pub mod WeightLemmas
 pub mod SoundMapLemmas
 pub mod PairLineLemmas
 pub mod LowestLemmas

@@ -1,11 +1,11 @@
 -- A good certificate shows a sound map.
-use Rattle.std.proofs.Common.{◌≡◌, ℕ, suc, ◌-◌, ◌<◌, nat_lt, ℤ, pos, ◌+ℤ◌, ◌≤ℤ◌, ◌<ℤ◌, Bool, true, false, cond, List, [], ◌∷◌, ◌++◌, length, get_or, Option, Some, None, inl, inr, ◌↔◌, All, filter, ap}
+use Rattle.std.proofs.Common.{◌≡◌, ℕ, suc, ◌-◌, ◌<◌, nat_lt, ℤ, pos, ◌+ℤ◌, ◌*ℤ◌, ◌≤ℤ◌, ◌<ℤ◌, Bool, true, false, cond, List, [], ◌∷◌, ◌++◌, length, get_or, Option, Some, None, inl, inr, ◌↔◌, All, ap}
 use Rattle.std.proofs.Common.{ap₂, sym, refl, ◌∙◌, subst, arith, MatchOption, slice_get, option_map}
-use Rattle.lpis_checker.proofs.Common.{ints, none-some, slice_get-get_or, same_Some, Point, Triangle, same_point, edges_of_triangles, edges_of, Piece, Parcel, Contents, pieces_named, Cert, PiecePart}
+use Rattle.lpis_checker.proofs.Common.{none-some, slice_get-get_or, same_Some, Point, Triangle, same_point, edges_of_triangles, edges_of, Piece, Parcel, Contents, pieces_named, Cert, PiecePart}
 use Rattle.lpis_checker.proofs.Common.{ParcelPart, IsInPiece, IsSoundMap, Names, Triangles, CounterClockwise, Flats, PieceEdges, ParcelEdges, NearPairs, Separating, PieceAt, ParcelAt, LineAt, PairAt}
 use Rattle.lpis_checker.proofs.Common.{triangles_of, edges_of_pieces, LineSeparates, HoldsEverywhere}
 use Rattle.std.specs.List.{IsDistinct}
-use Rattle.std.proofs.lemmas.List.Elements.{All-cons, All-filter, All-head, All-nil, All-tail, All-weaker}
+use Rattle.std.proofs.lemmas.List.Elements.{All-cons, All-filter, All-head, All-nil, All-tail}
 use Rattle.std.proofs.lemmas.Slice.Eq.{bytes_eq-Decides}
 use Rattle.lpis_points.specs.Plane.{RationalPoint}
 use Rattle.lpis_points.specs.Chain.{SameNet}
@@ -16,12 +16,14 @@ use Rattle.lpis_rings.specs.Area.{area2}
 use Rattle.lpis_rings.proofs.Shared.{pieces_share_nothing, parcel_is_its_pieces, contains_by_one_turn, area_is_positive, area_is_of_its_pieces, area2_is}
 use Rattle.lpis_covers.specs.Ids.{same_id}
 use Rattle.lpis_parcels.specs.Release.{names, parcel_ids}
-use Rattle.lpis_parcels.specs.Eligible.{areas2, eligible2, is_eligible}
+use Rattle.lpis_covers.specs.Percentages.{most_percent}
+use Rattle.lpis_parcels.specs.Weighted.{areas2, weighted2}
 use Rattle.lpis_checker.specs.SoundMap.{AtMostOne, ExactlyOne, IsInParcel, TurnsTell, AreasAdd}
 use Rattle.lpis_checker.specs.GoodCertificate.{EdgeSeparates, IsGood}
 use Rattle.lpis_checker.proofs.DistinctLemmas.{same_index}
 use Rattle.lpis_checker.proofs.SiteLemmas.{some_item}
-use Rattle.lpis_checker.proofs.AreaSumLemmas.{total, Found, found_any, any_found, all_at, all_from, one_of_some, at_most_one, one_found, total_one, total-filter, filter_kept}
+use Rattle.lpis_checker.proofs.WeightLemmas.{weights-between}
+use Rattle.lpis_checker.proofs.AreaSumLemmas.{total, Found, found_any, any_found, all_at, all_from, one_of_some, at_most_one, one_found, total_one, filter_kept}
 
 -- ---- pieces beside their parts
 abbrev SameIds : List Piece → List PiecePart → Type 0
@@ -260,32 +262,15 @@ parcel_area : (r : Contents) (x : Parcel) → GoodParcel r x → area2 x.polygon
 parcel_area r x g =
     sym (area2_is x.polygon) ∙ area_is_of_its_pieces (edges_of x.polygon) g.fs (bare (pieces_named r x.id)) g.flat (bare_net r x g) ∙ bare_areas (pieces_named r x.id)
 
--- the areas of some of the pieces
-areas_total : (xs : List Piece) → total (λ (x : Piece). area2 x.polygon) xs ≡ areas2 xs
-areas_total [] = refl
-areas_total (x ∷ xs) = ap (λ (z : ℤ). area2 x.polygon +ℤ z) (areas_total xs)
-
-some_areas : (q : Piece → Bool) (xs : List Piece) → All HasArea xs → (pos 0 ≤ℤ areas2 (filter q xs)) × (areas2 (filter q xs) ≤ℤ areas2 xs)
-some_areas q xs h =
-    let area : Piece → ℤ = λ x. area2 x.polygon in
-    let k = total-filter area q xs (All-weaker HasArea (λ x. pos 0 ≤ℤ area x) (λ x p. by (area x) p) xs h) in (
-      subst (λ (z : ℤ). pos 0 ≤ℤ z) (areas_total (filter q xs)) k.0,
-      subst (λ (z : ℤ). areas2 (filter q xs) ≤ℤ z)
-          (areas_total xs) (subst (λ (z : ℤ). z ≤ℤ total area xs) (areas_total (filter q xs)) k.1),
-    )
-  where
-    by : (a : ℤ) → pos 0 <ℤ a → pos 0 ≤ℤ a
-    by a p = omega (arith, ints)
-
 pub areas_add : (r : Contents) (c : Cert) → HoldsEverywhere r c Names → HoldsEverywhere r c Triangles
     → HoldsEverywhere r c CounterClockwise → HoldsEverywhere r c Flats → HoldsEverywhere r c PieceEdges
     → HoldsEverywhere r c ParcelEdges → AreasAdd r
 areas_add r c ids triangles turned flats piece_net parcel_net = record {
   pieces = each;
   parcels = all_from (λ (x : Parcel). area2 x.polygon ≡ areas2 (pieces_named r x.id)) r.parcels parcel;
-  eligible = all_from (λ (x : Parcel). (pos 0 ≤ℤ eligible2 r x.id) × (eligible2 r x.id ≤ℤ area2 x.polygon)) r.parcels (λ k x e.
-      let few = some_areas (is_eligible r.classes) (pieces_named r x.id) (All-filter (names x.id) HasArea r.pieces each) in
-      (few.0, subst (λ (z : ℤ). eligible2 r x.id ≤ℤ z) (sym (parcel k x e)) few.1));
+  weighted = all_from (λ (x : Parcel). (pos 0 ≤ℤ weighted2 r x.id) × (weighted2 r x.id ≤ℤ (pos most_percent *ℤ area2 x.polygon))) r.parcels (λ k x e.
+      let few = weights-between r.classes (pieces_named r x.id) (All-filter (names x.id) HasArea r.pieces each) in
+      (few.0, subst (λ (z : ℤ). weighted2 r x.id ≤ℤ (pos most_percent *ℤ z)) (sym (parcel k x e)) few.1));
 }
   where
     each : All HasArea r.pieces

@@ -1,16 +1,17 @@
 -- When a release is a sound map: at a point at most one parcel, and a parcel exactly when exactly
 -- one of its pieces.
-use Rattle.std.specs.Prelude.{◌≡◌, ◌≢◌, ℕ, ℤ, pos, ◌≤ℤ◌, ◌<ℤ◌, List, slice_get, Some, All, Any}
-use Rattle.std.specs.Prelude.{Contains as IsAmong, ◌↔◌}
+use Rattle.std.specs.Prelude.{◌≡◌, ◌≢◌, ℕ, ℤ, pos, ◌*ℤ◌, ◌≤ℤ◌, ◌<ℤ◌, List, slice_get, Some, All}
+use Rattle.std.specs.Prelude.{Any, Contains as IsAmong, ◌↔◌}
 use Rattle.lpis_points.specs.declared.point.Point.{Point}
 use Rattle.lpis_points.specs.Plane.{RationalPoint, orient_at}
 use Rattle.lpis_rings.specs.Area.{area2}
 use Rattle.lpis_rings.specs.Edges.{turns, Contains}
 use Rattle.lpis_rings.specs.Map.{IsOneOrNone}
 use Rattle.lpis_covers.specs.declared.piece.Piece.{Piece}
+use Rattle.lpis_covers.specs.Percentages.{most_percent}
 use Rattle.lpis_parcels.specs.declared.parcel.Parcel.{Parcel}
 use Rattle.lpis_parcels.specs.Release.{Contents, pieces_named}
-use Rattle.lpis_parcels.specs.Eligible.{areas2, eligible2}
+use Rattle.lpis_parcels.specs.Weighted.{areas2, weighted2}
 use Rattle.lpis_checker.specs.Corners.{all_corners}
 
 -- ---- counting
@@ -64,13 +65,13 @@ pub record TurnsOnce (r : Contents) : Type 0 where
   pub parcels : (p : RationalPoint) → pos 0 <ℤ p.d
       → All (λ (k : Parcel). TurnsTell (IsInParcel p k) (turns k.polygon p)) r.parcels
 
--- each piece has an area above 0, each parcel the area of its pieces; so what is eligible of a
--- parcel lies between 0 and its area
+-- each piece has an area above 0, each parcel the area of its pieces; so the weighted area of a
+-- parcel lies between 0 and its area times 100
 pub record AreasAdd (r : Contents) : Type 0 where
   pub pieces : All (λ (x : Piece). pos 0 <ℤ area2 x.polygon) r.pieces
   pub parcels : All (λ (k : Parcel). area2 k.polygon ≡ areas2 (pieces_named r k.id)) r.parcels
-  pub eligible : All (λ (k : Parcel). (pos 0 ≤ℤ eligible2 r k.id)
-      × (eligible2 r k.id ≤ℤ area2 k.polygon)) r.parcels
+  pub weighted : All (λ (k : Parcel). (pos 0 ≤ℤ weighted2 r k.id)
+      × (weighted2 r k.id ≤ℤ (pos most_percent *ℤ area2 k.polygon))) r.parcels
 
 pub record IsSoundMap (r : Contents) : Type 0 where
   pub off : IsSoundOffItsLines r

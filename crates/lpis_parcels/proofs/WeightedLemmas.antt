@@ -1,5 +1,5 @@
 -- Weighted areas, a piece at a time.
-use Rattle.std.proofs.Common.{◌≡◌, ◌≤◌, ◌<◌, ◌+◌, ◌*◌, ◌∷◌, [], ℕ, zero, suc, ℤ, pos, ◌+ℤ◌, List, length, drop, get_or, filter, Bool, true, false, cond, Some, refl, sym, ap, ◌∙◌, arith, nat_abs}
+use Rattle.std.proofs.Common.{◌≡◌, ◌≤◌, ◌<◌, ◌+◌, ◌*◌, ◌∷◌, [], ℕ, zero, suc, ℤ, pos, ◌+ℤ◌, List, length, drop, get_or, Some, refl, sym, ap, ◌∙◌, arith, nat_abs}
 use Rattle.std.proofs.Common.{slice_get}
 use Rattle.lpis_parcels.proofs.Common.{slice_get_read, Piece, indices_where, Contents, names}
 use Rattle.std.proofs.lemmas.Int.{ints, to_z-of_z}
