@@ -5,7 +5,7 @@ use Rattle.lpis_covers.specs.declared.fault.Table.TheVariants.{Lineage}
 use Rattle.lpis_covers.specs.declared.fault.TableFault.{TableFault}
 use Rattle.lpis_covers.specs.declared.fault.TableFault.TheVariants.{Memory, At}
 use Rattle.lpis_covers.specs.Faults.{id_faults, unless_faulty}
-use Rattle.lpis_covers.specs.Table.{Answers, Record, field_of}
+use Rattle.lpis_covers.specs.Table.{Answers, Fields, field_of}
 use Rattle.lpis_covers.proofs.Shared.{column-fault, column-passed, fault-retold}
 use Rattle.lpis_lineage.specs.LineageTable.{AnswersRows, lineage_faults, row_of, successor_faults, successor_of}
 
@@ -30,7 +30,7 @@ successor-fault n [] f ne e = absurd (ne refl)
 successor-fault n (b ∷ bs) f ne e = fault-retold (id_faults Lineage n (b ∷ bs)) (b ∷ bs) (Some (b ∷ bs)) f e
 
 -- a row of its two columns
-pub row-told : (n : ℕ) (row : Record) (old : List ℕ) (new : Option (List ℕ))
+pub row-told : (n : ℕ) (row : Fields) (old : List ℕ) (new : Option (List ℕ))
     → unless_faulty (id_faults Lineage n (field_of row 0)) (field_of row 0) ≡ Ok old → unless_faulty (successor_faults n (field_of row 1))
     (successor_of (field_of row 1)) ≡ Ok new
     → unless_faulty (lineage_faults n row) (row_of row) ≡ Ok (record { old = old; new = new })
@@ -45,12 +45,12 @@ row-told n row old new e f = by (id_faults Lineage n (field_of row 0)) e (succes
   by [] e (g ∷ gs) f = cc f
   by (f ∷ fs) e gs h = cc e
 
-pub row-fault-old : (n : ℕ) (row : Record) (f : TableFault) → Answers {A = List ℕ} (Err f)
+pub row-fault-old : (n : ℕ) (row : Fields) (f : TableFault) → Answers {A = List ℕ} (Err f)
     (unless_faulty (id_faults Lineage n (field_of row 0)) (field_of row 0))
     → Answers {A = Row} (Err f) (unless_faulty (lineage_faults n row) (row_of row))
 row-fault-old n row f h = column-fault (id_faults Lineage n (field_of row 0)) (successor_faults n (field_of row 1)) (field_of row 0) (row_of row) f h
 
-pub row-fault-new : (n : ℕ) (row : Record) (old : List ℕ) (f : TableFault) → unless_faulty (id_faults Lineage n (field_of row 0))
+pub row-fault-new : (n : ℕ) (row : Fields) (old : List ℕ) (f : TableFault) → unless_faulty (id_faults Lineage n (field_of row 0))
     (field_of row 0) ≡ Ok old → Answers {A = Option (List ℕ)} (Err f)
     (unless_faulty (successor_faults n (field_of row 1)) (successor_of (field_of row 1)))
     → Answers {A = Row} (Err f) (unless_faulty (lineage_faults n row) (row_of row))
