@@ -1,7 +1,8 @@
 //! The areas of polygons, the faults of their texts, and tables of them.
 
 use super::devices::Paper;
-use super::releases::{HOLED, TWO_SQUARES, area_of, hold};
+use super::releases::{HOLED, TWO_SQUARES, hold};
+use crate::area::run_area;
 use crate::printing::{print_area, print_eligible};
 use lpis_testing::{SQUARE, expect, expect_answer};
 use std::test::Fail;
@@ -9,7 +10,8 @@ use std::test::Fail;
 /// Fails unless `area` writes this text of a table and answers this status.
 fn expect_area(rt: &HostRuntime, table: &str, text: &str, status: u8) -> Result<(), Fail> {
     let mut out = Paper::new(rt.alloc());
-    let answer = area_of(rt, table, None, &mut out)?;
+    // at once: byte by byte a long table takes its time
+    let answer = run_area(rt.alloc(), table.as_bytes(), &mut out)?;
     expect_answer(out.text.as_slice(), answer, text, status)
 }
 
@@ -121,7 +123,7 @@ fn repeated(
 }
 
 #[test]
-fn numbers_polygons_and_tables_have_limits(rt: HostRuntime) -> Result<(), Fail> {
+fn polygons_have_limits(rt: HostRuntime) -> Result<(), Fail> {
     for (parts, times, line, status) in [
         // leading zeros
         (
@@ -142,6 +144,11 @@ fn numbers_polygons_and_tables_have_limits(rt: HostRuntime) -> Result<(), Fail> 
         let polygon = repeated(&rt, parts, times)?;
         expect_line(&rt, polygon.as_str(), line, status)?;
     }
+    Ok(())
+}
+
+#[test]
+fn tables_have_a_limit(rt: HostRuntime) -> Result<(), Fail> {
     let lines = repeated(&rt, ("", "0.5000000\n", ""), 200_000)?;
     for (last, times, text, status) in [
         ("", 200_000, lines.as_str(), 0),
@@ -161,7 +168,7 @@ fn expect_prefix(rt: &HostRuntime, length: usize) -> Result<(), Fail> {
     let prefix = SQUARE.get(..length).ok_or("a prefix")?;
     let table = format!(in rt.alloc(); "wkt\n\"{prefix}\"\n")?;
     let mut out = Paper::new(rt.alloc());
-    let status = area_of(rt, table.as_str(), None, &mut out)?;
+    let status = run_area(rt.alloc(), table.as_bytes(), &mut out)?;
     let line = b"refused 38 area row 1 wkt ".as_slice();
     hold(status == 2 && out.text.as_slice().starts_with(line), prefix)
 }
