@@ -1,20 +1,14 @@
 //! Worked releases and certificates, with their answers from outside the program.
 
+mod answers;
 mod locating;
-mod names;
-mod pairs;
-mod parts;
-mod yes;
 
 use crate::{CheckFault, Location, check, check_parts};
 use lpis_cert::{Cert, read_cert};
 use lpis_pairs::{AllPairs, PairSource, Sweep};
 use lpis_parcels::{Release, read_release};
-use lpis_testing::{CLASSES, HALVES_CERT, LEFT, RIGHT, SQUARE, SQUARE_CERT, edited, expect};
+use lpis_testing::{CLASSES, LEFT, SQUARE, expect};
 use std::test::Fail;
-
-/// The square covered twice.
-static SQUARE_TWICE: &str = "MULTIPOLYGON(((0 0,10 0,10 10,0 10,0 0)),((0 0,10 0,10 10,0 10,0 0)))";
 
 /// The release of a parcel A with this polygon and of these pieces.
 fn release_of(rt: &HostRuntime, parcel: &str, pieces: &str) -> Result<Release, Fail> {
@@ -104,16 +98,4 @@ fn expect_told(rt: &HostRuntime, release: &Release, cert: &str, wanted: &str) ->
         &read_cert(rt.alloc(), cert.as_bytes())?,
         wanted,
     )
-}
-
-/// Fails unless this is reported of the square with its certificate so edited.
-fn expect_square(rt: &HostRuntime, edits: &[(&str, &str)], wanted: &str) -> Result<(), Fail> {
-    let cert = edited(rt.alloc(), SQUARE_CERT, edits)?;
-    expect_told(rt, &one_piece(rt, SQUARE)?, cert.as_str(), wanted)
-}
-
-/// Fails unless this is reported of the two halves with their certificate so edited.
-fn expect_halves(rt: &HostRuntime, edits: &[(&str, &str)], wanted: &str) -> Result<(), Fail> {
-    let cert = edited(rt.alloc(), HALVES_CERT, edits)?;
-    expect_told(rt, &two_pieces(rt, RIGHT)?, cert.as_str(), wanted)
 }

@@ -160,13 +160,17 @@ fn last_square(rt: &HostRuntime, release: &Release) -> Result<String, Fail> {
 }
 
 #[test]
-fn the_most_rows(rt: HostRuntime) -> Result<(), Fail> {
+fn reads_two_tables_of_the_most_rows(rt: HostRuntime) -> Result<(), Fail> {
     let parcels = squares(&rt, MANY)?;
     let covers = covers_of_squares(&rt, MANY)?;
     let release = release(&rt, parcels.as_str(), covers.as_str(), CLASSES)?;
     // 100 square metres.
-    expect(last_square(&rt, &release)?.as_str(), "200000 20000000000")?;
+    expect(last_square(&rt, &release)?.as_str(), "200000 20000000000")
+}
+
+#[test]
+fn refuses_a_row_past_the_most(rt: HostRuntime) -> Result<(), Fail> {
     let covers = covers_of_squares(&rt, MANY + 1)?;
-    let answer = told(&rt, parcels.as_str(), covers.as_str(), CLASSES)?;
+    let answer = told(&rt, "parcel,wkt\n", covers.as_str(), CLASSES)?;
     expect(answer.as_str(), "3a covers 200001")
 }

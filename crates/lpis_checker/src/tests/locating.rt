@@ -38,15 +38,6 @@ fn expect_location(
     expect(location_of(rt, found)?.as_str(), wanted)
 }
 
-/// Fails unless the points of two halves are where they should be.
-fn expect_locations(rt: &HostRuntime, yes: &Yes) -> Result<(), Fail> {
-    expect_location(rt, yes, (0, 0, 1), "A L")?;
-    expect_location(rt, yes, (500, 300, 1), "A R")?;
-    expect_location(rt, yes, (1001, 1, 2), "A R")?;
-    expect_location(rt, yes, (500, 1000, 1), "nowhere")?;
-    expect_location(rt, yes, (1000, 0, 1), "nowhere")
-}
-
 /// Fails unless the release of a yes has one parcel and two pieces.
 fn expect_rows(rt: &HostRuntime, yes: &Yes) -> Result<(), Fail> {
     let release = yes.release();
@@ -54,19 +45,6 @@ fn expect_rows(rt: &HostRuntime, yes: &Yes) -> Result<(), Fail> {
     let pieces = release.pieces().len();
     let rows = format!(in rt.alloc(); "{parcels} {pieces}")?;
     expect(rows.as_str(), "1 2")
-}
-
-/// Fails unless the yes of two halves is for their release, and locates points.
-fn expect_yes(rt: &HostRuntime, release: &Release, cert: &Cert) -> Result<(), Fail> {
-    let yes = check(rt.alloc(), release, cert, &Sweep)?;
-    expect_rows(rt, &yes)?;
-    expect_locations(rt, &yes)
-}
-
-#[test]
-fn a_yes_locates_points(rt: HostRuntime) -> Result<(), Fail> {
-    let cert = read_cert(rt.alloc(), HALVES_CERT.as_bytes())?;
-    expect_yes(&rt, &two_pieces(&rt, RIGHT)?, &cert)
 }
 
 /// How often a polygon turns round a point, which it contains where that is odd.
@@ -97,16 +75,31 @@ fn expect_turns(
     expect(told.as_str(), wanted)
 }
 
-/// Fails unless two halves and their parcel turn round points as they should.
-fn expect_all_turns(rt: &HostRuntime, release: &Release) -> Result<(), Fail> {
-    expect_turns(rt, release, (0, 0, 1), "1 0 1")?;
-    expect_turns(rt, release, (500, 300, 1), "0 1 1")?;
-    expect_turns(rt, release, (1001, 1, 2), "0 1 1")?;
-    expect_turns(rt, release, (500, 1000, 1), "0 0 0")?;
-    expect_turns(rt, release, (1000, 0, 1), "0 0 0")
+/// Fails unless the yes of two halves is for their release, and points of it, in millimetres, are
+/// where they should be.
+fn expect_points(rt: &HostRuntime, yes: &Yes) -> Result<(), Fail> {
+    expect_rows(rt, yes)?;
+    for (x, y, d, place, times) in [
+        (0, 0, 1, "A L", "1 0 1"),
+        (5_000, 3_000, 1, "A R", "0 1 1"),
+        (10_010, 10, 2, "A R", "0 1 1"),
+        (5_000, 10_000, 1, "nowhere", "0 0 0"),
+        (10_000, 0, 1, "nowhere", "0 0 0"),
+    ] {
+        expect_location(rt, yes, (x, y, d), place)?;
+        expect_turns(rt, yes.release(), (x, y, d), times)?;
+    }
+    Ok(())
+}
+
+/// Fails unless a release of two halves has a yes, and its points are where they should be.
+fn expect_yes(rt: &HostRuntime, release: &Release, cert: &Cert) -> Result<(), Fail> {
+    let yes = check(rt.alloc(), release, cert, &Sweep)?;
+    expect_points(rt, &yes)
 }
 
 #[test]
-fn halves_turn_round_points(rt: HostRuntime) -> Result<(), Fail> {
-    expect_all_turns(&rt, &two_pieces(&rt, RIGHT)?)
+fn points_of_two_halves(rt: HostRuntime) -> Result<(), Fail> {
+    let cert = read_cert(rt.alloc(), HALVES_CERT.as_bytes())?;
+    expect_yes(&rt, &two_pieces(&rt, RIGHT)?, &cert)
 }
