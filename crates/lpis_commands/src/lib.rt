@@ -32,7 +32,7 @@ pub use failure::{Failure, Name, print_failure};
 pub use laws::a_check_has_one_answer;
 pub use lineage_lines::{print_lineage, print_publish_fault};
 pub use named::{CommandFiles, NamedFile, TableFiles, named_files};
-pub use printing::{PrintFault, print_area, print_line};
+pub use printing::{PrintFault, print_area, print_eligible, print_line};
 pub use publish::run_publish;
 pub use reading::{GREATEST_LIMIT, ReadFault, read_all, read_from};
 pub use refusal::{print_cert_fault, print_check_fault, print_table_fault};
