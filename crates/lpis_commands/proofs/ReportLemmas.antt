@@ -1,12 +1,10 @@
 -- Sums over the parcels of a release, a parcel at a time.
-use Rattle.std.proofs.Common.{◌≡◌, ◌≤◌, ◌<◌, ◌+◌, ◌*◌, ◌^◌, ◌++◌, ◌∷◌, [], ℕ, ℤ, pos, ◌+ℤ◌, nat_abs, List, Option, length, subst, take, get_or, sym, ap, ◌∙◌, arith, flat_map}
+use Rattle.std.proofs.Common.{◌≡◌, ◌<◌, ◌+◌, ◌++◌, ◌∷◌, [], ℕ, ℤ, pos, ◌+ℤ◌, List, Option, length, subst, take, get_or, sym, ap, ◌∙◌, arith, flat_map}
 use Rattle.lpis_commands.proofs.Common.{Appends, appends-more}
 use Rattle.std.proofs.lemmas.Int.{ints}
 use Rattle.std.proofs.lemmas.Grind.{flat_map-append}
 use Rattle.std.proofs.lemmas.List.{append-nil, take_more}
-use Rattle.lpis_covers.specs.Table.{most_rows}
 use Rattle.lpis_parcels.specs.declared.parcel.Parcel.{Parcel}
-use Rattle.lpis_rings.specs.AreaBounds.{most_area}
 use Rattle.lpis_points.specs.Sums.{int_sum_by}
 
 add-assoc : (a b c : ℤ) → a +ℤ (b +ℤ c) ≡ (a +ℤ b) +ℤ c
