@@ -29,7 +29,7 @@ pub use command::{Cmd, command_of};
 pub use cut::run_cut;
 pub use cut_line::{print_counts, print_refusal};
 pub use failure::{Failure, Name, print_failure};
-pub use laws::a_check_has_one_answer;
+pub use laws::{a_check_has_one_answer, a_sum_of_areas_is_printed};
 pub use lineage_lines::{print_lineage, print_publish_fault};
 pub use named::{CommandFiles, NamedFile, TableFiles, named_files};
 pub use printing::{PrintFault, print_area, print_eligible, print_line};
