@@ -6,8 +6,7 @@ use super::releases::{
     TWO_SQUARES, Tables, WHOLE,
 };
 use lpis_testing::{
-    CLASSES, HALVES_CERT, LEFT, PARCELS_CERT, RIGHT, RIGHT_MOVED, SQUARE, SQUARE_CERT, edited,
-    expect_answer,
+    CLASSES, HALVES_CERT, LEFT, PARCELS_CERT, RIGHT, SQUARE, SQUARE_CERT, edited, expect_answer,
 };
 use std::test::Fail;
 
@@ -16,6 +15,12 @@ static EMPTY_CERT: &str = "lpis-cert 1\npairs 0\nend\n";
 
 /// For a parcel A and its piece C1 that are a triangle of a centimetre.
 static TRIANGLE_CERT: &str = "lpis-cert 1\npiece C1 1 0\nt 0 0 1 0 0 1\nparcel A 0\npairs 0\nend\n";
+
+/// The halves as pieces, with the left side of the right one a centimetre too far to the right.
+static MOVED_PIECES: [(&str, &str); 2] = [
+    ("L,A,G", "POLYGON((0 0,5 0,5 10,0 10,0 0))"),
+    ("R,A,W", "POLYGON((5.01 0,10 0,10 10,5.01 10,5.01 0))"),
+];
 
 /// Fails unless `check` writes this text of a release and its certificate so edited, and answers
 /// this status.
@@ -204,11 +209,10 @@ fn bad_certificates_are_refused(rt: HostRuntime) -> Result<(), Fail> {
 
 #[test]
 fn other_halves_are_refused(rt: HostRuntime) -> Result<(), Fail> {
-    let moved = [("L,A,G", LEFT), ("R,A,W", RIGHT_MOVED)];
     for (pieces, edits, text) in [
         // a gap of a centimetre
         (
-            moved.as_slice(),
+            MOVED_PIECES.as_slice(),
             [
                 ("t 500 0 1000 0 1000 1000", "t 501 0 1000 0 1000 1000"),
                 ("t 500 0 1000 1000 500 1000", "t 501 0 1000 1000 501 1000"),
