@@ -10,7 +10,7 @@ use Rattle.lpis_covers.specs.declared.fault.TableCode.TheVariants.{DoubledIdenti
 use Rattle.lpis_covers.specs.declared.fault.TableCode.TheVariants.{UnknownClass}
 use Rattle.lpis_covers.specs.declared.fault.TableCode.TheVariants.{ParcelWithoutPieces, BadGeometry}
 use Rattle.lpis_covers.specs.declared.fault.TableCode.TheVariants.{BadEligible, TooManyRows}
-use Rattle.lpis_covers.specs.declared.fault.TableCode.TheVariants.{BadPercent}
+use Rattle.lpis_covers.specs.declared.fault.TableCode.TheVariants.{BadPercent, BadMark}
 
 -- a table's name
 abbrev pub table_text : Table → List ℕ
@@ -34,3 +34,4 @@ code_text BadGeometry = codes "38"
 code_text BadEligible = codes "39"
 code_text TooManyRows = codes "3a"
 code_text BadPercent = codes "3b"
+code_text BadMark = codes "3c"

@@ -66,10 +66,12 @@ pub enum TableCode {
     TooManyRows,
     /// A percentage other than `0` to `100`.
     BadPercent,
+    /// A mark of exact lineage other than none, `0` and `1`.
+    BadMark,
 }
 
 impl TableCode {
-    /// The two characters that stand for the code in a refusal: `30` to `39`, `3a` and `3b`.
+    /// The two characters that stand for the code in a refusal: `30` to `39` and `3a` to `3c`.
     pub fn as_str(self) -> &'static str
         ensures { result.now ≡ code_text self }
     {
@@ -86,6 +88,7 @@ impl TableCode {
             TableCode::BadEligible => "39",
             TableCode::TooManyRows => "3a",
             TableCode::BadPercent => "3b",
+            TableCode::BadMark => "3c",
         }
     }
 }

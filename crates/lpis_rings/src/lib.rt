@@ -1,5 +1,5 @@
 //! Rings and polygons, their areas, their edges, and the points that they contain. No call takes
-//! memory but `without_spare`.
+//! memory but `copy` and `without_spare`.
 //!
 //! | Call | Answer |
 //! |---|---|
@@ -9,6 +9,7 @@
 //! | `edges` | the directed edges of a polygon in normal orientation, members in order, each shell before its holes |
 //! | `turns` | the sum of the crossings of these edges by a point |
 //! | `contains` | whether the number of these edges with a crossing other than 0 is odd |
+//! | `copy` | an equal ring, member or polygon |
 //! | `without_spare` | the same list in a block of its length |
 //!
 //! Each answer is proved to be that of the definitions in `specs/Ring.antt`, `specs/Polygon.antt`,

@@ -1,10 +1,11 @@
 //! Polygons: members, each a shell and its holes.
 
-ghost use Rattle.std.specs.Prelude.{◌≡◌, ◌+◌, ◌<◌, ◌≤◌, ◌↔◌, [], MatchOption, MatchResult, length};
+ghost use Rattle.std.specs.Prelude.{◌≡◌, ◌+◌, ◌<◌, ◌≤◌, ◌↔◌, [], IfOk, MatchOption, MatchResult, length};
 ghost use Rattle.lpis_rings.specs.Polygon.{IsPolygon, most_points, points_in};
 
 use crate::ring::Ring;
 use crate::sequence::Sequence;
+use std::alloc::{AllocError, Global};
 use std::marker::Model;
 use thiserror::Error;
 
@@ -86,8 +87,42 @@ fn with_rings(count: usize, rings: &[Ring]) -> Option<usize>
     Some(total)
 }
 
+/// Equal rings.
+fn copied_rings(alloc: Global, rings: &[Ring]) -> Result<Vec<Ring>, AllocError>
+    ensures { IfOk result (λ v. v.items ≡ rings.now) }
+{
+    let mut copies = Vec::with_capacity(alloc, rings.len())?;
+    for ring in rings {
+        copies.push(ring.copy(alloc)?)?;
+    }
+    Ok(copies)
+}
+
+/// Equal members.
+fn copied_members(alloc: Global, members: &[Member]) -> Result<Vec<Member>, AllocError>
+    ensures { IfOk result (λ v. v.items ≡ members.now) }
+{
+    let mut copies = Vec::with_capacity(alloc, members.len())?;
+    for member in members {
+        copies.push(member.copy(alloc)?)?;
+    }
+    Ok(copies)
+}
+
 impl Member {
     ghost use Rattle.lpis_rings.specs.Polygon.{member_points, points_of};
+
+    /// An equal one.
+    pub fn copy(&self, alloc: Global) -> Result<Member, AllocError>
+        ensures { IfOk result (λ member. member ≡ self.now) }
+    {
+        let shell = self.shell.copy(alloc)?;
+        let holes = copied_rings(alloc, self.holes.as_slice())?;
+        Ok(Member {
+            shell,
+            holes: Sequence::new(holes),
+        })
+    }
 
     /// The count with the points of this member, if it is not past the most.
     fn added_to(&self, count: usize) -> Option<usize>
@@ -142,5 +177,13 @@ impl Polygon {
         ensures polygon { IsPolygon self.now }
     {
         &self.members
+    }
+
+    /// An equal one, in blocks of their lengths.
+    pub fn copy(&self, alloc: Global) -> Result<Polygon, AllocError>
+        ensures { IfOk result (λ polygon. polygon ≡ self.now) }
+    {
+        let members = copied_members(alloc, &self.members)?;
+        Ok(Polygon { members })
     }
 }

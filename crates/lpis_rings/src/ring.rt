@@ -1,9 +1,10 @@
 //! Rings: closed lists of points.
 
-ghost use Rattle.std.specs.Prelude.{◌≡◌, ◌<◌, ◌-◌, ◌↔◌, IsTrue, MatchResult, length, slice_get};
+ghost use Rattle.std.specs.Prelude.{◌≡◌, ◌<◌, ◌-◌, ◌↔◌, IfOk, IsTrue, MatchResult, length, slice_get};
 ghost use Rattle.lpis_rings.specs.Ring.{IsRing};
 
 use lpis_points::Point;
+use std::alloc::{AllocError, Global};
 use std::marker::Model;
 use thiserror::Error;
 
@@ -88,4 +89,23 @@ impl Ring {
     {
         &self.points
     }
+
+    /// An equal one, in a block of its length.
+    pub fn copy(&self, alloc: Global) -> Result<Ring, AllocError>
+        ensures { IfOk result (λ ring. ring ≡ self.now) }
+    {
+        let points = copied(alloc, &self.points)?;
+        Ok(Ring { points })
+    }
+}
+
+/// Equal points.
+fn copied(alloc: Global, points: &[Point]) -> Result<Vec<Point>, AllocError>
+    ensures { IfOk result (λ v. v.items ≡ points.now) }
+{
+    let mut copies = Vec::with_capacity(alloc, points.len())?;
+    for point in points {
+        copies.push(*point)?;
+    }
+    Ok(copies)
 }
