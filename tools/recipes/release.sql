@@ -40,6 +40,7 @@ create table rel_parcels as
 -- 5. What rounding did.
 select 'faces claimed by several pieces' as what, count(*) as n, coalesce(sum(m2), 0)::numeric(16,6) as m2 from rel_conflicts where claims > 1 union all
 select 'faces of a parcel in no piece', count(*), coalesce(sum(m2), 0)::numeric(16,6) from rel_conflicts where claims = 0 union all
+select 'parcels lost', count(*), coalesce(sum(st_area(geom)), 0)::numeric(16,6) from parcels q where not exists (select from rel_parcels r where r.parcel = q.parcel::text) union all
 select 'pieces lost', count(*), coalesce(sum(st_area(geom)), 0)::numeric(16,6) from rel_source c where not exists (select from rel_covers r where r.piece = c.piece) union all
 select 'greatest change of a piece', null, max(abs(st_area(c.geom) - st_area(r.geom)))::numeric(16,6) from rel_source c join rel_covers r using (piece) union all
 select 'greatest change of a parcel', null, max(abs(st_area(c.geom) - st_area(r.geom)))::numeric(16,6) from parcels c join rel_parcels r on r.parcel = c.parcel::text;

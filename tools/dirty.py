@@ -1,0 +1,158 @@
+#!/usr/bin/env python3
+"""Makes a GeoPackage with every kind of dirt that a source may have, by Python's sqlite3 alone: for the tests, and to try `tools/prepare`.
+
+    tools/dirty.py OUT.gpkg [KIND..]      no KIND: all of them; `clean` alone: none
+
+KIND is one of null, empty, curve, z, degrees, crossing, blank, umlaut, long, nameless, doubled, bare, stranger, wide, narrow, twin, line.
+"""
+
+import os
+import sqlite3
+import struct
+import sys
+
+EAST, NORTH = 550_000, 5_400_000
+SYSTEMS = {
+    25832: ("ETRS89 / UTM zone 32N", 'PROJCS["ETRS89 / UTM zone 32N",GEOGCS["ETRS89",DATUM["European_Terrestrial_Reference_System_1989",SPHEROID["GRS 1980",6378137,298.257222101]],'
+            'PRIMEM["Greenwich",0],UNIT["degree",0.0174532925199433]],PROJECTION["Transverse_Mercator"],PARAMETER["latitude_of_origin",0],PARAMETER["central_meridian",9],'
+            'PARAMETER["scale_factor",0.9996],PARAMETER["false_easting",500000],PARAMETER["false_northing",0],UNIT["metre",1],AUTHORITY["EPSG","25832"]]'),
+    4647: ("ETRS89 / UTM zone 32N (zE-N)", 'PROJCS["ETRS89 / UTM zone 32N (zE-N)",GEOGCS["ETRS89",DATUM["European_Terrestrial_Reference_System_1989",SPHEROID["GRS 1980",6378137,298.257222101]],'
+           'PRIMEM["Greenwich",0],UNIT["degree",0.0174532925199433]],PROJECTION["Transverse_Mercator"],PARAMETER["latitude_of_origin",0],PARAMETER["central_meridian",9],'
+           'PARAMETER["scale_factor",0.9996],PARAMETER["false_easting",32500000],PARAMETER["false_northing",0],UNIT["metre",1],AUTHORITY["EPSG","4647"]]'),
+    4326: ("WGS 84", 'GEOGCS["WGS 84",DATUM["WGS_1984",SPHEROID["WGS 84",6378137,298.257223563]],PRIMEM["Greenwich",0],UNIT["degree",0.0174532925199433],AUTHORITY["EPSG","4326"]]'),
+}
+ALL = "null empty curve z degrees crossing blank umlaut long nameless doubled bare stranger wide narrow twin line".split()
+
+
+def polygon(*rings, z=None):
+    """A polygon as well-known binary, with a height where one is given."""
+    form, points = ("2d", lambda p: p) if z is None else ("3d", lambda p: (*p, z))
+    body = b"".join(struct.pack("<I", len(ring)) + b"".join(struct.pack("<" + form, *points(p)) for p in ring) for ring in rings)
+    return struct.pack("<BII", 1, 3 if z is None else 1003, len(rings)) + body
+
+
+def arc(*points):
+    """A polygon with one ring of arcs through the points."""
+    ring = struct.pack("<BII", 1, 8, len(points)) + b"".join(struct.pack("<2d", *p) for p in points)
+    return struct.pack("<BII", 1, 10, 1) + ring
+
+
+def line(*points):
+    return struct.pack("<BII", 1, 2, len(points)) + b"".join(struct.pack("<2d", *p) for p in points)
+
+
+EMPTY = struct.pack("<BII", 1, 3, 0)
+
+
+def box(x, y, width=10.0, height=10.0):
+    """A rectangle's ring, about the corner of the land."""
+    x, y = EAST + x, NORTH + y
+    return [(x, y), (x + width, y), (x + width, y + height), (x, y + height), (x, y)]
+
+
+class Package:
+    """A GeoPackage that is being written."""
+
+    def __init__(self, path, system=25832):
+        if os.path.exists(path):
+            os.remove(path)
+        self.base, self.system = sqlite3.connect(path), system
+        self.base.executescript("""
+            PRAGMA application_id = 1196444487; PRAGMA user_version = 10300;
+            CREATE TABLE gpkg_spatial_ref_sys (srs_name TEXT NOT NULL, srs_id INTEGER PRIMARY KEY, organization TEXT NOT NULL, organization_coordsys_id INTEGER NOT NULL,
+              definition TEXT NOT NULL, description TEXT);
+            CREATE TABLE gpkg_contents (table_name TEXT NOT NULL PRIMARY KEY, data_type TEXT NOT NULL, identifier TEXT UNIQUE, description TEXT DEFAULT '',
+              last_change DATETIME NOT NULL DEFAULT (strftime('%Y-%m-%dT%H:%M:%fZ','now')), min_x DOUBLE, min_y DOUBLE, max_x DOUBLE, max_y DOUBLE, srs_id INTEGER);
+            CREATE TABLE gpkg_geometry_columns (table_name TEXT NOT NULL, column_name TEXT NOT NULL, geometry_type_name TEXT NOT NULL, srs_id INTEGER NOT NULL, z TINYINT NOT NULL,
+              m TINYINT NOT NULL, PRIMARY KEY (table_name, column_name));
+            INSERT INTO gpkg_spatial_ref_sys VALUES ('undefined cartesian', -1, 'NONE', -1, 'undefined', NULL), ('undefined geographic', 0, 'NONE', 0, 'undefined', NULL);""")
+        for number, (name, text) in SYSTEMS.items():
+            self.base.execute("INSERT INTO gpkg_spatial_ref_sys VALUES (?, ?, 'EPSG', ?, ?, NULL)", (name, number, number, text))
+
+    def layer(self, name, columns, rows, system=None):
+        """A layer of rows whose last value is a shape's bytes, or None."""
+        system = system or self.system
+        self.base.execute(f'CREATE TABLE "{name}" (fid INTEGER PRIMARY KEY AUTOINCREMENT NOT NULL, geom GEOMETRY, {" TEXT, ".join(columns)} TEXT)')
+        self.base.execute("INSERT INTO gpkg_contents (table_name, data_type, identifier, srs_id) VALUES (?, 'features', ?, ?)", (name, name, system))
+        self.base.execute("INSERT INTO gpkg_geometry_columns VALUES (?, 'geom', 'GEOMETRY', ?, 2, 2)", (name, system))
+        for *fields, shape in rows:
+            blob = None if shape is None else b"GP\0" + bytes([17 if shape == EMPTY else 1]) + struct.pack("<i", system) + shape
+            self.base.execute(f'INSERT INTO "{name}" (geom, {", ".join(columns)}) VALUES (?{", ?" * len(columns)})', (blob, *fields))
+
+    def table(self, name, columns, rows):
+        self.base.execute(f'CREATE TABLE "{name}" (fid INTEGER PRIMARY KEY AUTOINCREMENT NOT NULL, {" TEXT, ".join(columns)} TEXT)')
+        self.base.execute("INSERT INTO gpkg_contents (table_name, data_type, identifier, srs_id) VALUES (?, 'attributes', ?, 0)", (name, name))
+        self.base.executemany(f'INSERT INTO "{name}" ({", ".join(columns)}) VALUES (?{", ?" * (len(columns) - 1)})', rows)
+
+    def close(self):
+        self.base.commit()
+        self.base.close()
+
+
+def rows_of(kinds, move=(0, 0)):
+    """Parcels and pieces: four clean ones side by side, and each kind of dirt in a row of its own above them."""
+    parcels, covers = [], []
+
+    def add(name, x, y, width=10.0, height=10.0, parts=2):
+        parcels.append((name, polygon(box(x, y, width, height))))
+        for part in range(parts):
+            covers.append((f"{name}.{part + 1}", name, ["GRASS", "TREES"][part % 2], polygon(box(x + part * width / parts, y, width / parts, height))))
+
+    for number in range(4):
+        add(f"clean{number + 1}", 10 * number, 0)
+    for number, kind in enumerate(kinds, 1):
+        y = 20 * number
+        add(kind, 0, y)
+        if kind == "null":
+            covers[-1] = (*covers[-1][:3], None)
+        elif kind == "empty":
+            parcels[-1] = (kind, EMPTY)
+        elif kind == "line":
+            covers[-1] = (*covers[-1][:3], line((EAST, NORTH + y), (EAST + 10, NORTH + y)))
+        elif kind == "curve":
+            x, low = EAST, NORTH + y
+            shape = arc((x, low), (x + 5, low - 1), (x + 10, low), (x + 11, low + 5), (x + 10, low + 10), (x + 5, low + 11), (x, low + 10), (x - 1, low + 5), (x, low))
+            parcels[-1], covers[-2:] = (kind, shape), [(f"{kind}.1", kind, "GRASS", shape)]
+        elif kind == "z":
+            parcels[-1] = (kind, polygon(box(0, y), z=312.5))
+        elif kind == "degrees":
+            parcels[-1] = (kind, polygon([(9.1, 48.1), (9.2, 48.1), (9.2, 48.2), (9.1, 48.1)]))
+        elif kind == "crossing":
+            bow = [(EAST + 5, NORTH + y), (EAST + 10, NORTH + y + 10), (EAST + 10, NORTH + y), (EAST + 5, NORTH + y + 10), (EAST + 5, NORTH + y)]
+            covers[-1] = (*covers[-1][:3], polygon(bow))
+        elif kind in ("blank", "umlaut", "long"):
+            name = {"blank": "field 7", "umlaut": "M\u00fchle", "long": "a" * 41}[kind]
+            parcels[-1] = (name, parcels[-1][1])
+            covers[-2:] = [(f"{name}.{part}", name, land_class, shape) for part, (_, _, land_class, shape) in enumerate(covers[-2:], 1)]
+        elif kind == "nameless":
+            parcels[-1] = (None, parcels[-1][1])
+            covers[-2:] = [(*covers[-2][:1], None, *covers[-2][2:]), (*covers[-1][:1], None, *covers[-1][2:])]
+        elif kind == "doubled":
+            parcels.append((kind, polygon(box(10, y))))
+            covers.append((f"{kind}.3", kind, "GRASS", polygon(box(10, y))))
+        elif kind == "bare":
+            covers[-2:] = []
+        elif kind == "stranger":
+            covers.append((f"{kind}.3", "nowhere", "GRASS", polygon(box(10, y))))
+        elif kind in ("wide", "narrow"):
+            add(f"{kind}-2", 10 - (0.02 if kind == "wide" else 0.003), y, 10)
+        elif kind == "twin":
+            add("twin-2", 0, y)
+    return parcels, covers
+
+
+def make(path, kinds, system=25832):
+    package = Package(path, system)
+    parcels, covers = rows_of(kinds)
+    package.layer("parcels", ["parcel"], parcels)
+    package.layer("covers", ["piece", "parcel", "class"], covers)
+    package.table("classes", ["class", "percent"], [("GRASS", 100), ("TREES", 30)])
+    package.close()
+    return path
+
+
+if __name__ == "__main__":
+    if len(sys.argv) < 2 or sys.argv[1].startswith("-"):
+        print(__doc__)
+        sys.exit(64)
+    make(sys.argv[1], [kind for kind in sys.argv[2:] or ALL if kind != "clean"])

@@ -1,0 +1,31 @@
+"""Shapely is no part of Python: where this Python has none and the system's has, the system's goes on with the same words."""
+
+import importlib.util
+import os
+import subprocess
+import sys
+
+SYSTEM = "/usr/bin/python3"
+LACKING = "Shapely is not there (Debian: python3-shapely)"
+
+
+def is_there(python=None):
+    if python is None:
+        return importlib.util.find_spec("shapely") is not None
+    return os.access(python, os.X_OK) and subprocess.run([python, "-c", "import shapely"], capture_output=True, check=False).returncode == 0
+
+
+def python():
+    """A Python that has Shapely, or None."""
+    return sys.executable if is_there() else SYSTEM if is_there(SYSTEM) else None
+
+
+def go_on(name, status=64):
+    """Returns where Shapely is there."""
+    if is_there():
+        return
+    if os.path.realpath(sys.executable) != os.path.realpath(SYSTEM) and is_there(SYSTEM):
+        sys.stdout.flush()
+        os.execv(SYSTEM, [SYSTEM, *sys.argv])
+    print(f"{name}: {LACKING}", file=sys.stderr)
+    sys.exit(status)
