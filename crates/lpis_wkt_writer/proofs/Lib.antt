@@ -1,2 +1,4 @@
 pub mod NumberLemmas
+pub mod ReadingLemmas
+pub mod WordLemmas
 pub mod SpellingLemmas
