@@ -201,9 +201,9 @@ def write(losses, out, epsg=None):
         file.write(drawing.collection(features, epsg))
 
 
-def told(losses, layers, found, out):
+def told(losses, layers, found, out, counts):
     """The report as lines for people."""
-    counts = {name: len(layers[name].rows) if name in layers else "?" for name in ("parcels", "covers")}
+    counts = counts or {name: len(layers[name].rows) if name in layers else "?" for name in ("parcels", "covers")}
     lines = [f"parcels {found[0]} of {counts['parcels']} pieces {found[1]} of {counts['covers']}"]
     shown = Counter()
     stopping = [loss for loss in losses if loss.stops()]
@@ -229,14 +229,22 @@ def line_of(loss):
     return f"{what}{layer}{width}{at}: {loss.words}"
 
 
-def report(layers, out, accept, say, epsg=None):
-    """Finds, writes and prints. The status: 1 where something is lost or a conflict is wide, unless that is accepted."""
+def conflicts_alone(layers, say):
+    """The conflicts of a source that stop a recipe, before it is run."""
+    source = Source(layers)
+    find_conflicts(source, say)
+    return [loss for loss in source.losses if loss.is_wide()]
+
+
+def report(layers, out, accept, say, epsg=None, counts=None):
+    """Finds, writes and prints. The status: 1 where something is lost or a conflict is wide, unless that is accepted. `counts` are the rows of
+    the source, where some were left out before."""
     if epsg is None:
         systems = [layer.system.number for layer in layers.values() if isinstance(layer, land.Layer) and layer.system]
         epsg = systems[0] if systems else None
     losses, found = find_all(layers, out, say)
     write(losses, out, epsg)
-    for line in told(losses, layers, found, out):
+    for line in told(losses, layers, found, out, counts):
         print(line)
     stopping = sum(loss.stops() for loss in losses)
     if not stopping:

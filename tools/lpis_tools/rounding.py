@@ -65,14 +65,25 @@ def with_corners(edges):
         (ax, ay), (bx, by) = [(p[0] * 1000, p[1] * 1000) for p in (a, b)]
         dx, dy, on = bx - ax, by - ay, []
         square = dx * dx + dy * dy
-        for i in range(int(min(ax, bx) - 2) // CELL, int(max(ax, bx) + 2) // CELL + 1):
-            for j in range(int(min(ay, by) - 2) // CELL, int(max(ay, by) + 2) // CELL + 1):
-                for x, y in cells.get((i, j), ()):
-                    along = ((x - ax) * dx + (y - ay) * dy) / square if square else 0
-                    if 0 < along < 1 and abs((x - ax) * dy - (y - ay) * dx) <= 0.7072 * square**0.5:
-                        on.append((along, (x, y)))
+        for cell in cells_along(ax, ay, bx, by):
+            for x, y in cells.get(cell, ()):
+                along = ((x - ax) * dx + (y - ay) * dy) / square if square else 0
+                if 0 < along < 1 and abs((x - ax) * dy - (y - ay) * dx) <= 0.7072 * square**0.5:
+                    on.append((along, (x, y)))
         way = [rounded(a), *(corner for _, corner in sorted(on)), rounded(b)]
         yield from (sorted_pair(p, q) for p, q in zip(way, way[1:]) if p != q)
+
+
+def cells_along(ax, ay, bx, by):
+    """The cells that an edge comes within two millimetres of, column by column."""
+    if ax > bx:
+        ax, ay, bx, by = bx, by, ax, ay
+    slope = (by - ay) / (bx - ax) if bx > ax else 0.0
+    for i in range(int(ax - 2) // CELL, int(bx + 2) // CELL + 1):
+        left, right = max(ax, i * CELL - 2), min(bx, (i + 1) * CELL + 2)
+        ends = (ay + slope * (left - ax), ay + slope * (right - ax)) if slope else (ay, by)
+        for j in range(int(min(ends) - 4) // CELL, int(max(ends) + 4) // CELL + 1):
+            yield i, j
 
 
 def noded(edges, say):
