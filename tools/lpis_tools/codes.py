@@ -156,6 +156,22 @@ def status_of(line):
     return 0
 
 
+def lines_of(code):
+    """What a code means, for people: also the codes that stand behind it, and the status that lpis ends with."""
+    meaning, cause, remedy = CODES[code]
+    group = next(title for title, group in GROUPS if code in group)
+    lines = [f"code {code} ({group}): {meaning}"]
+    if not cause.startswith("see code"):
+        lines += [f"  usual cause: {cause}", f"  remedy: {remedy}"]
+    if code in ("38", "81"):
+        inner = POLYGON_TEXTS if code == "38" else LINEAGES
+        lines += [f"  {other}: {words[0]}" for other, words in inner.items()]
+    if code == "82":
+        return [*lines, "  lpis ends with status 3"]
+    alone = {**POLYGON_TEXTS, **LINEAGES}
+    return [*lines, f"  lpis ends with status {status_of('refused ' + (('38' if code in POLYGON_TEXTS else '81') if code in alone else code))}"]
+
+
 def table_of_codes():
     """The table of all codes as docs/USING.md has it."""
     lines = []

@@ -68,7 +68,9 @@ def read(path, names=None, wanted=("parcels", "covers"), spare=None):
     except IsADirectoryError:
         start = b""
     except OSError as error:
-        raise Trouble(f"{path}: {error.strerror}") from None
+        if not re.match(r"[A-Za-z]{2,}:", path):  # ogr2ogr's words for a database, such as PG:dbname=land
+            raise Trouble(f"{path}: {error.strerror}") from None
+        start = b""
     if start != PACKAGE or not is_package(path):
         path = as_package(path, spare)
     return read_package(path, names, wanted)
