@@ -60,8 +60,8 @@ def bytes_of(folder, names):
 def lpis():
     if "LPIS" in os.environ:
         return os.path.realpath(os.environ["LPIS"])
-    subprocess.run([os.path.join(TOP, "lpis"), "--help"], stdout=subprocess.DEVNULL, check=True)
-    return os.path.join(TOP, "crates", "lpis", "out", "lpis")
+    subprocess.run([os.path.join(TOP, "lpis"), "build"], stdout=subprocess.DEVNULL, check=True)
+    return os.path.join(TOP, "out", "program", "lpis")
 
 
 def cutter():

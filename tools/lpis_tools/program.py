@@ -1,0 +1,42 @@
+"""The command that is `lpis`."""
+
+import os
+import shlex
+import shutil
+import subprocess
+
+HERE = os.path.dirname(os.path.dirname(os.path.realpath(__file__)))
+
+
+class Absent(Exception):
+    """There is no lpis."""
+
+
+def is_program(path):
+    return os.path.isfile(path) and os.access(path, os.X_OK)
+
+
+def command(words=""):
+    """Named, installed beside the tools, of the repository that the tools are in (built by its script first), or on the path."""
+    if words:
+        return shlex.split(words)
+    installed, top = os.path.join(HERE, "program", "lpis"), os.path.dirname(HERE)
+    if is_program(installed):
+        return [installed]
+    if is_program(os.path.join(top, "lpis")):
+        subprocess.run([os.path.join(top, "lpis"), "--help"], stdout=subprocess.DEVNULL, check=True)
+        return [os.path.join(top, "out", "program", "lpis")]
+    found = shutil.which("lpis")
+    if found is None:
+        raise Absent("no lpis beside the tools and none on PATH: name it by --lpis or LPIS")
+    return [found]
+
+
+def facts(words):
+    """What was known when the program was built, as a dictionary: commit and kit, where they stand beside it."""
+    path = os.path.join(os.path.dirname(os.path.realpath(shutil.which(words[0]) or words[0])), "facts")
+    try:
+        with open(path, encoding="utf-8") as file:
+            return dict(line.rstrip("\n").split(" ", 1) for line in file if " " in line)
+    except OSError:
+        return {}
