@@ -8,7 +8,7 @@ ghost use Rattle.lpis_rings.specs.Edges.{edges_of};
 ghost use Rattle.lpis_parcels.specs.Release.{pieces_named};
 ghost use Rattle.lpis_checker.specs.GoodCertificate.{edges_of_pieces};
 ghost use Rattle.lpis_cutter.specs.Refusals.{IsCovered, IsUncovered};
-ghost use Rattle.lpis_cutter.specs.private.Cutting.{SaysIfAny, times};
+ghost use Rattle.lpis_cutter.specs.private.Cutting.{NamesPieces, SaysIfAny, times};
 
 use crate::fault::Refusal;
 use lpis_covers::Id;
@@ -180,7 +180,8 @@ pub(crate) fn no_separator(
     i: usize,
     j: usize,
 ) -> Result<Option<Refusal>, AllocError>
-    ensures { IfOk result (SaysIfAny release.now) }
+    ensures says { IfOk result (SaysIfAny release.now) }
+    ensures named { IfOk result (λ said. IfSome said (NamesPieces release.now i j)) }
 {
     let (Some(x), Some(y)) = (release.pieces().get(i), release.pieces().get(j)) else {
         return Ok(None);

@@ -1,6 +1,6 @@
 -- What the steps of a cut owe.
-use Rattle.std.specs.Prelude.{ℕ, ◌+◌, ◌<◌, ◌&&◌, List, length, filter, Option, IfSome, ◌⊎◌, All}
-use Rattle.std.specs.Prelude.{sum_by}
+use Rattle.std.specs.Prelude.{◌≡◌, ℕ, ◌+◌, ◌<◌, ◌&&◌, List, length, filter, Option, Some, IfSome}
+use Rattle.std.specs.Prelude.{◌⊎◌, All, slice_get, sum_by}
 use Rattle.lpis_points.specs.declared.point.Point.{Point}
 use Rattle.lpis_points.specs.Plane.{same_point}
 use Rattle.lpis_rings.specs.declared.polygon.Member.{Member}
@@ -9,12 +9,18 @@ use Rattle.lpis_covers.specs.declared.piece.Piece.{Piece}
 use Rattle.lpis_parcels.specs.Release.{Contents}
 use Rattle.lpis_cert.specs.Limits.{most_triangles, most_flats}
 use Rattle.lpis_cutter.specs.declared.fault.Refusal.{Refusal}
+use Rattle.lpis_cutter.specs.declared.fault.Refusal.TheVariants.{NoSeparator}
 use Rattle.lpis_cutter.specs.Fans.{IsFan}
 use Rattle.lpis_cutter.specs.Refusals.{Says}
 
 -- what is refused, if anything is, is so
 abbrev pub SaysIfAny : Contents → Option Refusal → Type 0
 SaysIfAny r o = IfSome o (Says r)
+
+-- the refusal is of these two pieces in this order, the ones at two places
+abbrev pub NamesPieces : Contents → ℕ → ℕ → Refusal → Type 0
+NamesPieces r i j refusal = (x : Piece) × (y : Piece) × (slice_get r.pieces i ≡ Some x)
+    × (slice_get r.pieces j ≡ Some y) × (refusal ≡ NoSeparator x.id y.id)
 
 -- the points of pieces
 abbrev pub points_in_pieces : List Piece → ℕ
