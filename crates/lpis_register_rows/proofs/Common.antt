@@ -8,7 +8,7 @@ pub use Rattle.lpis_lineage.specs.Spans.{first_held, last_held, span_of}
 pub use Rattle.lpis_lineage.specs.declared.row.Entry.{Entry}
 pub use Rattle.lpis_lineage.specs.declared.row.Row.{Row}
 pub use Rattle.lpis_register_rows.specs.Content.{Content, Line, Live, StoredSpan, lines_from, text_of}
-pub use Rattle.lpis_register_rows.specs.Tells.{IsKept, IsSameHistory, IsSpanRow, LiveTells, SpansTell, Tells, TellsLive, last_of_years, lines_of, only_format, shown, years_of}
+pub use Rattle.lpis_register_rows.specs.Tells.{IsKept, IsSameHistory, IsSpanRow, LiveTells, SpansTell, Tells, TellsLive, TellsSpans, last_of_years, lines_of, only_format, shown, years_of}
 pub use Rattle.lpis_register_rows.specs.declared.known.KnownLine.{KnownLine}
 pub use Rattle.lpis_register_rows.specs.declared.known.KnownSpan.{KnownSpan}
 pub use Rattle.lpis_register_rows.specs.private.Covering.{covers}

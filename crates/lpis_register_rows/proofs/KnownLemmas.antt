@@ -46,7 +46,7 @@ read-more {B = B} f known k rows i row e lt at is = map-append f known (k ∷ []
 abbrev pub AreSeen : List (List ℕ) → List KnownSpan → Type 0
 AreSeen keys spans = (id : List ℕ) → (has_id keys id ≡ list_any (λ s. same_id id s.id) spans) × (length (filter (λ s. same_id id s.id) spans) ≤ 1)
 
-not-true : (b t : Bool) → b ≡ not t → b ≡ true → t ≡ false
+pub not-true : (b t : Bool) → b ≡ not t → b ≡ true → t ≡ false
 not-true b true e h = let c = sym e ∙ h in cc
 not-true b false e h = refl
 

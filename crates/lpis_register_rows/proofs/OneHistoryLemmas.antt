@@ -4,7 +4,7 @@ use Rattle.std.proofs.Common.{nat_le, nat_eq, IsPermutation, int_eq}
 use Rattle.lpis_register_rows.proofs.Common.{AllByRecursion, list_any, nat_tests, both_ways, or_left, or_right, and-false, has_id, is_id, same_id, Entry, Row, IsLawful, entry_at, holds, names}
 use Rattle.lpis_register_rows.proofs.Common.{span_of}
 use Rattle.lpis_register_rows.proofs.Common.{entry-after, in-history, same-exact, before-at-after, Content, Line, Live, StoredSpan, lines_from, text_of}
-use Rattle.lpis_register_rows.proofs.Common.{IsKept, IsSameHistory, IsSpanRow, LiveTells, SpansTell, Tells}
+use Rattle.lpis_register_rows.proofs.Common.{IsKept, IsSameHistory, IsSpanRow, LiveTells, SpansTell, TellsSpans}
 use Rattle.lpis_register_rows.proofs.Common.{TellsLive, lines_of, shown, years_of, covers, HasText}
 use Rattle.std.specs.Int.Signed.{le_z}
 use Rattle.std.proofs.lemmas.Int.{ints}
@@ -153,8 +153,8 @@ same-history c h k kept also_kept h_years k_years h_lines k_lines sets =
     let alike = same-years h k years in
     record { lengths = alike.0; years = alike.1; sets = sets alike.0 alike.1; rows = same-rows h k years up also (have-texts h kept) (have-texts k also_kept) lines }
 
-pub one-history : (c : Content) (h k : List Entry) → Tells c h → Tells c k → IsSameHistory h k
-one-history c h k s t = same-history c h k s.kept t.kept s.years_are t.years_are s.lines_are t.lines_are sets where
+pub one-history : (version : ℕ) (c : Content) (h k : List Entry) → TellsSpans version c h → TellsSpans version c k → IsSameHistory h k
+one-history version c h k s t = same-history c h k s.kept t.kept s.years_are t.years_are s.lines_are t.lines_are sets where
   beyond : (l : List Entry) (i : ℕ) (id : List ℕ) → length l ≤ i → holds l i id ≡ false
   beyond l i id le = ap (λ (e : Entry). has_id e.live id) (entry-after l i le)
 

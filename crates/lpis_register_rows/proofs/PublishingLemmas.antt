@@ -17,7 +17,8 @@ use Rattle.lpis_lineage.specs.Lineage.{last_year}
 use Rattle.lpis_lineage.specs.Order.{IsAscending}
 use Rattle.lpis_lineage.specs.Spans.{span_between}
 use Rattle.lpis_lineage.proofs.Shared.{same-by_order, filter-append, follows-back, first-index, span-more}
-use Rattle.lpis_register_rows.specs.Content.{published}
+use Rattle.std.proofs.lemmas.List.{append-nil}
+use Rattle.lpis_register_rows.specs.Content.{Mark, StoredText, published, released, with_mark, with_marks, with_text, with_texts, without_texts}
 use Rattle.lpis_register_rows.specs.Tells.{IsWriting}
 use Rattle.lpis_register_rows.proofs.AscendingLemmas.{all-append}
 use Rattle.lpis_register_rows.proofs.FoldLemmas.{end_among, fresh_span, published-is, rev-moved, rev_onto}
@@ -268,3 +269,28 @@ published-tells c h k year live gone fresh rows t (e, k-is, year-is, is) law fit
           subst (λ (y : ℕ). Tells (published (pos y) (pos (last_year h)) gone fresh rows c) (h ++ e ∷ [])) year-is (
           subst (λ (rs : List Row). Tells (published (pos e.year) (pos (last_year h)) gone fresh rs c) (h ++ e ∷ []))
           is.rows_are (at year rows year-is is.rows_are law fit (omega (arith, small, year-is)))))
+
+-- texts and marks say nothing of the history
+texts-made : (ts : List StoredText) (c : Content) → with_texts ts c ≡ record c { texts = rev_onto ts c.texts }
+texts-made [] c = refl
+texts-made (t ∷ ts) c = texts-made ts (with_text c t)
+
+marks-made : (ms : List Mark) (c : Content) → with_marks ms c ≡ record c { marks = rev_onto ms c.marks }
+marks-made [] c = refl
+marks-made (m ∷ ms) c = marks-made ms (with_mark c m)
+
+pub released-tells : (c : Content) (h : List Entry) (texts : List StoredText) (marks : List Mark) → Tells c h → Tells (released texts marks c) h
+released-tells c h texts marks t =
+    subst (λ (d : Content). Tells d h) (sym (texts-made texts (without_texts (with_marks marks c))))
+    (subst (λ (d : Content). Tells (record (without_texts d) { texts = rev_onto texts [] }) h) (sym (marks-made marks c)) (record {
+      kept = t.kept;
+      formats_are = t.formats_are;
+      years_are = t.years_are;
+      spans_are = t.spans_are;
+      lines_are = t.lines_are;
+    }))
+
+pub released-texts : (c : Content) (texts : List StoredText) (marks : List Mark) → IsPermutation texts (released texts marks c).texts
+released-texts c texts marks =
+    subst (λ (d : Content). IsPermutation texts d.texts) (sym (texts-made texts (without_texts (with_marks marks c))))
+    (subst (λ (l : List StoredText). IsPermutation l (rev_onto texts [])) (append-nil texts) (rev-moved texts []))

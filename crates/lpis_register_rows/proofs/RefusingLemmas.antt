@@ -2,8 +2,7 @@
 use Rattle.std.proofs.Common.{◌≡◌, ◌∙◌, ◌≤◌, ◌+◌, ◌⊎◌, inl, inr, refl, sym, ap, subst, arith, ℕ, zero, suc, ℤ, pos, List, [], ◌∷◌, true, Option, None, Some, length, map, IsPermutation, is_some}
 use Rattle.std.proofs.Common.{IsSorted, All, filter, IsSortedByKey, nat_cmp}
 use Rattle.lpis_register_rows.proofs.Common.{AllByRecursion, list_any, All-from_recursion, All-permutation, IsPermutation-sym, or_left, or_right, is_id, same_id, Entry, Row, entry_at, names, span_of}
-use Rattle.lpis_register_rows.proofs.Common.{same-refl, above-zero, KnownLine, KnownSpan, Content, Line, StoredSpan, lines_from, text_of, IsKept, IsSameHistory, IsSpanRow, SpansTell, Tells, lines_of}
-use Rattle.lpis_register_rows.proofs.Common.{shown}
+use Rattle.lpis_register_rows.proofs.Common.{same-refl, above-zero, KnownLine, KnownSpan, Content, Line, StoredSpan, lines_from, text_of, IsKept, IsSameHistory, IsSpanRow, SpansTell, TellsSpans, lines_of, shown}
 use Rattle.lpis_register_rows.proofs.Common.{years_of, IsSaid, HasText, SetsAre, line_cmp, line_in, span_in}
 use Rattle.lpis_lineage.specs.declared.span.Span.{Span as Years}
 use Rattle.lpis_lineage.specs.Lineage.{is_of, is_this}
@@ -83,7 +82,7 @@ told-sorted-lines h ls sorted kept up p q = sorted-lines ls sorted (lines_of h) 
 
 -- ---- all that was read
 
-pub told-said : (c : Content) (h : List Entry) (spans : List KnownSpan) (lines : List KnownLine) → Tells c h → map span_in spans ≡ c.spans
+pub told-said : {version : ℕ} (c : Content) (h : List Entry) (spans : List KnownSpan) (lines : List KnownLine) → TellsSpans version c h → map span_in spans ≡ c.spans
     → IsPermutation c.lines (map line_in lines) → IsSortedByKey line_in line_cmp lines → All (λ l. HasText l.row) lines → IsSaid spans lines h
 told-said c h spans lines t ss ls up texts = record {
   kept = t.kept;

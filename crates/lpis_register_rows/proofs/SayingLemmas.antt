@@ -1,8 +1,7 @@
 -- A history put together from rows is what they say.
 use Rattle.std.proofs.Common.{◌≡◌, ◌∙◌, ◌≤◌, refl, sym, ap, subst, arith, ℕ, zero, suc, ℤ, pos, negsuc, List, [], ◌∷◌, Bool, true, false, cond, length, map, IsPermutation, ◌&&◌, ◌||◌, All, filter}
-use Rattle.lpis_register_rows.proofs.Common.{AllByRecursion, list_any, recursion_from_All, is_id, same_id, Entry, IsLawful, RowsFit, entry_at, holds, in-history, same-exact, KnownSpan, KnownLine}
-use Rattle.lpis_register_rows.proofs.Common.{Content}
-use Rattle.lpis_register_rows.proofs.Common.{StoredSpan, IsKept, IsSpanRow, SpansTell, Tells, last_of_years, lines_of, only_format, years_of, covers, SetsAre, line_in, span_in}
+use Rattle.lpis_register_rows.proofs.Common.{AllByRecursion, list_any, recursion_from_All, is_id, same_id, Entry, IsLawful, RowsFit, entry_at, holds, in-history, same-exact, KnownSpan, KnownLine, Content}
+use Rattle.lpis_register_rows.proofs.Common.{StoredSpan, IsKept, IsSpanRow, SpansTell, TellsSpans, last_of_years, lines_of, only_format, years_of, covers, SetsAre, line_in, span_in}
 
 -- what a test passes with another it passes alone
 any-left : {A : Type 0} (p q : A → Bool) (xs : List A) → list_any (λ x. p x && q x) xs ≡ true → list_any p xs ≡ true
@@ -62,12 +61,12 @@ kept-said h years spans law fit small ids years-are sets = record {
 }
 
 -- the history that rows say
-pub says : (c : Content) (h : List Entry) (years : List ℕ) (spans : List KnownSpan) (lines : List KnownLine) → IsLawful h → RowsFit h
-    → AllByRecursion (λ y. y ≤ last_of_years) years → c.formats ≡ only_format 2
+pub says : (version : ℕ) (c : Content) (h : List Entry) (years : List ℕ) (spans : List KnownSpan) (lines : List KnownLine) → IsLawful h → RowsFit h
+    → AllByRecursion (λ y. y ≤ last_of_years) years → c.formats ≡ only_format version
     → IsPermutation c.years (map (λ y. pos y) years) → map span_in spans ≡ c.spans → All (λ s. is_id s.id ≡ true) spans → ((id : List ℕ) → length (filter (λ s. same_id id s.id) spans) ≤ 1)
     → IsPermutation c.lines (map line_in lines) → years_of h ≡ map (λ y. pos y) years → SetsAre (map span_in spans) h
-    → lines_of h ≡ map line_in lines → All (λ s. IsSpanRow h (span_in s)) spans → Tells c h
-says c h years spans lines law fit small formats ys ss ids once ls years-are sets lines-are right = record {
+    → lines_of h ≡ map line_in lines → All (λ s. IsSpanRow h (span_in s)) spans → TellsSpans version c h
+says version c h years spans lines law fit small formats ys ss ids once ls years-are sets lines-are right = record {
   kept = kept-said h years spans law fit small ids years-are sets;
   formats_are = formats;
   years_are = subst (IsPermutation c.years) (sym years-are) ys;

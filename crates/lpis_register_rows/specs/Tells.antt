@@ -55,13 +55,17 @@ pub record SpansTell (spans : List StoredSpan) (h : List Entry) : Type 0 where
 abbrev pub only_format : ℕ → List Format
 only_format version = (record { one = pos 1; version = pos version }) ∷ []
 
--- what tables of version 2 say
-pub record Tells (c : Content) (h : List Entry) : Type 0 where
+-- what tables of a version with spans say
+pub record TellsSpans (version : ℕ) (c : Content) (h : List Entry) : Type 0 where
   pub kept : IsKept h
-  pub formats_are : c.formats ≡ only_format 2
+  pub formats_are : c.formats ≡ only_format version
   pub years_are : IsPermutation c.years (years_of h)
   pub spans_are : SpansTell c.spans h
   pub lines_are : IsPermutation c.lines (lines_of h)
+
+-- what tables of version 3 say
+abbrev pub Tells : Content → List Entry → Type 0
+Tells = TellsSpans 3
 
 -- the rows of `lpis_live` are the identifiers of the releases
 pub record LiveTells (live : List Live) (h : List Entry) : Type 0 where
@@ -85,6 +89,8 @@ pub record IsSameContent (c d : Content) : Type 0 where
   pub spans : IsPermutation c.spans d.spans
   pub lines : IsPermutation c.lines d.lines
   pub live : IsPermutation c.live d.live
+  pub texts : IsPermutation c.texts d.texts
+  pub marks : IsPermutation c.marks d.marks
 
 -- two histories are the same: the same years, sets and rows
 pub record IsSameHistory (h k : List Entry) : Type 0 where

@@ -3,7 +3,7 @@
 ghost use Rattle.std.specs.Prelude.{◌≡◌, List, IfErr, IfOk};
 ghost use Rattle.lpis_lineage.specs.declared.row.Entry.{Entry};
 ghost use Rattle.lpis_register_rows.specs.declared.fault.RecordsFault.TheVariants.{Unlawful};
-ghost use Rattle.lpis_register_rows.specs.Tells.{Tells};
+ghost use Rattle.lpis_register_rows.specs.Tells.{TellsSpans};
 
 use crate::building::build;
 use crate::fault::RecordsFault;
@@ -13,13 +13,14 @@ use crate::rows::Rows;
 use lpis_lineage::History;
 use std::alloc::Global;
 
-/// The history that rows of version 2 say, in whatever order they are; `Unlawful` exactly where
-/// they say none.
-pub fn history_of(alloc: Global, rows: &Rows) -> Result<History, RecordsFault>
-    ensures ok { IfOk result (Tells rows.now) }
-    ensures unlawful { IfErr result (λ e. e ≡ Unlawful → (h : List Entry) → Tells rows.now h → ⊥) }
+/// The history that rows of a version with spans say, in whatever order they are; `Unlawful`
+/// exactly where they say none.
+pub fn history_of(alloc: Global, rows: &Rows, version: u16) -> Result<History, RecordsFault>
+    ensures ok { IfOk result (TellsSpans version rows.now) }
+    ensures unlawful { IfErr result (λ e. e ≡ Unlawful → (h : List Entry)
+        → TellsSpans version rows.now h → ⊥) }
 {
-    if !has_version(rows.formats(), 2) {
+    if !has_version(rows.formats(), version) {
         return Err(RecordsFault::Unlawful);
     }
     let years = sorted_years(alloc, rows.years())?;

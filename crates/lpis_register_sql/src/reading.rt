@@ -15,7 +15,7 @@ pub(crate) trait Stored: Drop {
     ghost use Rattle.sqlite.specs.Order.{Row};
     ghost use Rattle.sqlite.specs.Tree.{Trees};
     ghost use Rattle.lpis_register_rows.specs.Content.{Content};
-    ghost use Rattle.lpis_register_sql.specs.Shapes.{Shape};
+    ghost use Rattle.lpis_register_sql.specs.Layouts.{Layout};
     ghost use Rattle.lpis_register_sql.specs.Holding.{Means};
     ghost use Rattle.lpis_register_sql.specs.Quiet.{Reads};
 
@@ -23,13 +23,13 @@ pub(crate) trait Stored: Drop {
 
     ghost shown: { Row → Self };
 
-    ghost has_table: { Shape → Bool };
+    ghost has_table: { Layout → Bool };
 
     /// Its table, as a query shows it.
     fn query<S: Alter>(conn: &mut Connection<S>) -> Result<Vec<Row>, Error>
         requires autocommit { conn.old.in_transaction ≡ false }
         ensures autocommit { conn.new.in_transaction ≡ false }
-        ensures reads { Reads (λ shape. has_table shape ≡ true)
+        ensures reads { Reads (λ layout. has_table layout ≡ true)
             (λ c all. IsPermutation (rows c) (map shown all.items))
             (state S.Store conn.old) (state S.Store conn.new) result };
 
@@ -37,8 +37,8 @@ pub(crate) trait Stored: Drop {
     fn read(row: &Row) -> Result<Self, Error>
         ensures { IfOk result (λ it. shown row.now ≡ it) };
 
-    ghost without_table: { (shape : Shape) (trees : Trees) (c : Content) → Means shape trees c
-        → has_table shape ≡ false → rows c ≡ [] };
+    ghost without_table: { (layout : Layout) (trees : Trees) (c : Content) → Means layout trees c
+        → has_table layout ≡ false → rows c ≡ [] };
 }
 
 /// All of them.
@@ -60,7 +60,7 @@ pub(crate) fn load_rows<T: Stored, S: Alter>(
 ) -> Result<Vec<T>, Error>
     requires autocommit { conn.old.in_transaction ≡ false }
     ensures autocommit { conn.new.in_transaction ≡ false }
-    ensures reads { Reads (λ shape. there ≡ T.has_table shape)
+    ensures reads { Reads (λ layout. there ≡ T.has_table layout)
         (λ c all. IsPermutation (T.rows c) all.items)
         (state S.Store conn.old) (state S.Store conn.new) result }
 {

@@ -8,7 +8,7 @@ use Rattle.lpis_register_rows.proofs.history.history_of.Goals as goal
 pub returns-clause-ok : goal.returns-clause-ok
 returns-clause-ok c =
     let h = c.in_ok-history.history in
-    says c.args.rows.now h c.in_ok-years.years.items c.in_ok-spans.spans.items c.in_ok-lines.lines.items c.releases.ensures.lawful c.releases.ensures.fits
+    says c.args.version c.args.rows.now h c.in_ok-years.years.items c.in_ok-spans.spans.items c.in_ok-lines.lines.items c.releases.ensures.lawful c.releases.ensures.fits
     (recursion_from_All (λ (y : ℕ). y ≤ last_of_years) c.in_ok-years.years.items c.in_ok-years.ensures.small)
     (sym c.formats.ensures ∙ c.has_version.ensures.0 c.if-not-has_version.false)
     (rw c.years.ensures at c.in_ok-years.ensures.same)

@@ -1,5 +1,5 @@
 use Rattle.std.proofs.Common.{◌≡◌, arith, refl, rules, subst, sym, IsTrue}
-use Rattle.lpis_register_sql.proofs.Common.{state, HasCleanDisk, survives_begin, New, Leaves}
+use Rattle.lpis_register_sql.proofs.Common.{state, HasCleanDisk, survives_begin, New, Whole, Leaves}
 use Rattle.lpis_register_rows.specs.Content.{no_content}
 use Rattle.lpis_register_sql.specs.Commits.{LeavesMade}
 use Rattle.lpis_register_sql.proofs.StepLemmas.{begun_bare, bare_err, commit_ok, leaves, crashed}
@@ -14,7 +14,7 @@ returns-clause-made g c is_new clean r =
     let late : HasCleanDisk new = search rules in
     let at_last : HasCleanDisk last = omega (arith, c.commit.ensures.survives.clean) in
     let begun = begun_bare g.S.Store c.args.conn.now first c.transaction-tx.ensures.begun r in
-    rw (← same) (commit_ok New _ last new _ (c.in_ok-make_all.ensures.begun is_new at_last _ begun) c.commit.result
+    rw (← same) (commit_ok (Whole New) _ last new _ (c.in_ok-make_all.ensures.begun is_new at_last _ begun) c.commit.result
     (c.commit.ensures.ok late))
 
 pub returns-clause-crash : goal.returns-clause-crash
@@ -29,7 +29,7 @@ returns-clause-crash g c =
     rw (← same) (crashed old last new _ P quiet_since c.commit.ensures.survives (λ clean db is is_new r.
     let at_last : HasCleanDisk last = omega (arith, c.commit.ensures.survives.clean) in
     let inside = c.in_ok-make_all.ensures.begun is_new at_last _ (begun_bare g.S.Store c.args.conn.now first c.transaction-tx.ensures.begun r) in
-    subst (Leaves New no_content) (sym is) (leaves New last.now _ inside.holds)))
+    subst (Leaves (Whole New) no_content) (sym is) (leaves (Whole New) last.now _ inside.holds)))
 
 pub returns-clause-err : goal.returns-clause-err
 returns-clause-err g c is_new clean up r =
@@ -43,4 +43,4 @@ returns-clause-err g c is_new clean up r =
     let begun = begun_bare g.S.Store c.args.conn.now first c.transaction-tx.ensures.begun r in
     let inside = c.in_ok-make_all.ensures.begun is_new at_last _ begun in
     let still : IsTrue new.is_open = search rules in
-    rw (← same) (bare_err New _ old last new _ r inside refl still c.commit.result (c.commit.ensures.err late))
+    rw (← same) (bare_err (Whole New) _ old last new _ r inside refl still c.commit.result (c.commit.ensures.err late))
