@@ -1,5 +1,5 @@
 -- Rows of the table of lineage.
-use Rattle.std.proofs.Common.{◌≡◌, ◌++◌, ◌∷◌, [], ℕ, List, Option, None, Some, Result, Ok, Err, refl, ap, ◌∙◌}
+use Rattle.std.proofs.Common.{◌≡◌, ◌++◌, ◌∷◌, [], false, ℕ, List, Option, None, Some, Result, Ok, Err, refl, ap, ◌∙◌}
 use Rattle.lpis_lineage.proofs.Common.{Row}
 use Rattle.lpis_covers.specs.declared.fault.Table.TheVariants.{Lineage}
 use Rattle.lpis_covers.specs.declared.fault.TableFault.{TableFault}
@@ -33,15 +33,15 @@ successor-fault n (b ∷ bs) f ne e = fault-retold (id_faults Lineage n (b ∷ b
 pub row-told : (n : ℕ) (row : Fields) (old : List ℕ) (new : Option (List ℕ))
     → unless_faulty (id_faults Lineage n (field_of row 0)) (field_of row 0) ≡ Ok old → unless_faulty (successor_faults n (field_of row 1))
     (successor_of (field_of row 1)) ≡ Ok new
-    → unless_faulty (lineage_faults n row) (row_of row) ≡ Ok (record { old = old; new = new })
+    → unless_faulty (lineage_faults n row) (row_of row) ≡ Ok (record { old = old; new = new; exact = false })
 row-told n row old new e f = by (id_faults Lineage n (field_of row 0)) e (successor_faults n (field_of row 1)) f where
   by : (fs : List TableFault) → unless_faulty fs (field_of row 0) ≡ Ok old → (gs : List TableFault)
       → unless_faulty gs (successor_of (field_of row 1)) ≡ Ok new → unless_faulty (fs ++ gs) (row_of row) ≡ Ok
-      (record { old = old; new = new })
+      (record { old = old; new = new; exact = false })
   by [] e [] f =
       let o : field_of row 0 ≡ old = cc e in
       let s : successor_of (field_of row 1) ≡ new = cc f in
-      ap (λ (x : List ℕ). Ok (record { old = x; new = successor_of (field_of row 1) })) o ∙ ap (λ (x : Option (List ℕ)). Ok (record { old = old; new = x })) s
+      ap (λ (x : List ℕ). Ok (record { old = x; new = successor_of (field_of row 1); exact = false })) o ∙ ap (λ (x : Option (List ℕ)). Ok (record { old = old; new = x; exact = false })) s
   by [] e (g ∷ gs) f = cc f
   by (f ∷ fs) e gs h = cc e
 

@@ -1,5 +1,5 @@
 -- The table of lineage: its rows, and its first fault.
-use Rattle.std.specs.Prelude.{◌≡◌, ◌∷◌, ◌++◌, true, ℕ, List, [], codes, Option, None, Some}
+use Rattle.std.specs.Prelude.{◌≡◌, ◌∷◌, ◌++◌, false, true, ℕ, List, [], codes, Option, None, Some}
 use Rattle.std.specs.Prelude.{Result, Ok}
 use Rattle.std.specs.declared.vec.Vec.{Vec}
 use Rattle.std.specs.declared.alloc.Global.{Global}
@@ -24,7 +24,11 @@ abbrev pub lineage_faults : ℕ → Fields → List TableFault
 lineage_faults n row = id_faults Lineage n (field_of row 0) ++ successor_faults n (field_of row 1)
 
 abbrev pub row_of : Fields → Row
-row_of row = record { old = field_of row 0; new = successor_of (field_of row 1) }
+row_of row = record {
+  old = field_of row 0;
+  new = successor_of (field_of row 1);
+  exact = false;
+}
 
 -- a row has an old identifier and a new one, or none
 abbrev pub lineage_table : RowsOf Row

@@ -40,7 +40,8 @@ fn read_row(alloc: Global, reader: &TableReader<'_>) -> Result<Row, TableFault>
 {
     let old = reader.id(alloc, 0)?;
     let new = read_successor(alloc, reader)?;
-    Ok(Row { old, new })
+    let exact = false;
+    Ok(Row { old, new, exact })
 }
 
 /// The rows of the table `lineage`, with the columns `old` and `new`; an empty `new` makes an
