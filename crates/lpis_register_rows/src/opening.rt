@@ -4,14 +4,14 @@ ghost use Rattle.std.specs.Prelude.{◌≡◌, ◌↔◌, ◌≤◌, ◌+◌, �
 ghost use Rattle.std.specs.Prelude.{length, map, take, IfErr, IfOk, IsTrue};
 ghost use Rattle.std.specs.List.{All, list_any};
 ghost use Rattle.lpis_covers.specs.Ids.{has_id, same_id};
-ghost use Rattle.lpis_register_rows.specs.declared.fault.RecordsFault.TheVariants.{Unlawful};
+ghost use Rattle.lpis_register_rows.specs.declared.fault.RowsFault.TheVariants.{Unlawful};
 ghost use Rattle.lpis_register_rows.specs.Content.{lines_from};
 ghost use Rattle.lpis_register_rows.specs.Tells.{IsSpanRow, only_format};
 ghost use Rattle.lpis_register_rows.specs.private.Covering.{covers};
 ghost use Rattle.lpis_register_rows.specs.private.Fronts.{IsRun};
 ghost use Rattle.lpis_register_rows.specs.private.Known.{HasText, line_at, line_in, span_in};
 
-use crate::fault::RecordsFault;
+use crate::fault::RowsFault;
 use crate::known::{KnownLine, KnownSpan};
 use crate::rows::FormatRow;
 use lpis_covers::Id;
@@ -59,7 +59,7 @@ fn row_at(
     next: usize,
     year: u16,
     position: usize,
-) -> Result<Row, RecordsFault>
+) -> Result<Row, RowsFault>
     requires within { next + 1 ≤ length lines.now }
     ensures row { IfOk result (λ row. map line_in (take (next + 1) lines.now) ≡ map line_in
         (take next lines.now) ++ lines_from (pos year) position (row ∷ [])) }
@@ -73,7 +73,7 @@ fn row_at(
         let row = line.row.copy()?;
         Ok(row)
     } else {
-        Err(RecordsFault::Unlawful)
+        Err(RowsFault::Unlawful)
     }
 }
 
@@ -84,7 +84,7 @@ pub(crate) fn rows_of_year(
     lines: &[KnownLine],
     from: usize,
     year: u16,
-) -> Result<(Vec<Row>, usize), RecordsFault>
+) -> Result<(Vec<Row>, usize), RowsFault>
     requires within { from ≤ length lines.now }
     ensures rows { IfOk result (λ p. map line_in (take p.1 lines.now) ≡ map line_in
         (take from lines.now) ++ lines_from (pos year) 0 p.0.items) }

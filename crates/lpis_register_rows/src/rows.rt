@@ -1,6 +1,6 @@
 //! Rows as a database gives them.
 
-ghost use Rattle.std.specs.Prelude.{◌≡◌, ◌↔◌, IsTrue, pos, string_bytes};
+ghost use Rattle.std.specs.Prelude.{◌≡◌, ◌↔◌, IsTrue, [], pos, string_bytes};
 
 use std::marker::Model;
 
@@ -260,7 +260,7 @@ impl MarkRow {
     }
 }
 
-/// The rows of the register's tables, each list in any order.
+/// The rows of the register's tables but for the texts, each list in any order.
 #[derive(Drop)]
 pub struct Rows {
     formats: Vec<FormatRow>,
@@ -268,11 +268,11 @@ pub struct Rows {
     spans: Vec<SpanRow>,
     lines: Vec<LineRow>,
     live: Vec<LiveRow>,
-    texts: Vec<TextRow>,
     marks: Vec<MarkRow>,
 }
 
 impl Model for Rows {
+    ghost use Rattle.std.specs.Prelude.{[]};
     ghost use Rattle.lpis_register_rows.specs.Content.{Content};
 
     ghost Value = { Content };
@@ -283,20 +283,19 @@ impl Model for Rows {
       spans = a.spans.items;
       lines = a.lines.items;
       live = a.live.items;
-      texts = a.texts.items;
+      texts = [];
       marks = a.marks.items;
     } };
 }
 
 impl Rows {
-    /// The rows of the seven tables.
+    /// The rows of the six tables.
     pub fn new(
         formats: Vec<FormatRow>,
         years: Vec<i64>,
         spans: Vec<SpanRow>,
         lines: Vec<LineRow>,
         live: Vec<LiveRow>,
-        texts: Vec<TextRow>,
         marks: Vec<MarkRow>,
     ) -> Rows
         ensures formats { result.formats ≡ formats.items }
@@ -304,7 +303,7 @@ impl Rows {
         ensures spans { result.spans ≡ spans.items }
         ensures lines { result.lines ≡ lines.items }
         ensures live { result.live ≡ live.items }
-        ensures texts { result.texts ≡ texts.items }
+        ensures texts { result.texts ≡ [] }
         ensures marks { result.marks ≡ marks.items }
     {
         Rows {
@@ -313,7 +312,6 @@ impl Rows {
             spans,
             lines,
             live,
-            texts,
             marks,
         }
     }
@@ -351,5 +349,12 @@ impl Rows {
         ensures { result.now ≡ self.now.live }
     {
         self.live.as_slice()
+    }
+
+    /// The rows of `lpis_mark`.
+    pub(crate) fn marks(&self) -> &[MarkRow]
+        ensures { result.now ≡ self.now.marks }
+    {
+        self.marks.as_slice()
     }
 }
