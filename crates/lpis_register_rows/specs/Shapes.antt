@@ -27,10 +27,12 @@ pub record ShapesAre (texts : List StoredText) (shapes : List Shape) : Type 0 wh
   pub spelled : AllZip IsTextOf texts order
   pub same : IsPermutation order shapes
 
--- the shapes are of parcels that are live: their identifiers are among these, and well formed
+-- the shape is of a live parcel: its identifier is among these, and well formed
+abbrev pub IsLive : List (List ℕ) → Shape → Type 0
+IsLive live shape = (is_id shape.0 ≡ true) × (has_id live shape.0 ≡ true)
+
 abbrev pub AreLive : List (List ℕ) → List Shape → Type 0
-AreLive live shapes =
-    AllByRecursion (λ (shape : Shape). (is_id shape.0 ≡ true) × (has_id live shape.0 ≡ true)) shapes
+AreLive live shapes = AllByRecursion (IsLive live) shapes
 
 -- the texts may be kept beside a history whose last release holds these identifiers
 abbrev pub TextsStand : List StoredText → List (List ℕ) → Type 0

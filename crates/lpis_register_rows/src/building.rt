@@ -5,9 +5,9 @@ ghost use Rattle.std.specs.Prelude.{IfOk, OnOk};
 ghost use Rattle.lpis_lineage.specs.declared.fault.AddFault.TheVariants.{Memory as WantsMemory};
 ghost use Rattle.lpis_lineage.specs.declared.row.Entry.{Entry};
 ghost use Rattle.lpis_register_rows.specs.declared.fault.RowsFault.TheVariants.{Unlawful};
-ghost use Rattle.lpis_register_rows.specs.Tells.{IsSameHistory, lines_of, years_of};
+ghost use Rattle.lpis_register_rows.specs.Tells.{IsSameHistory, years_of};
 ghost use Rattle.lpis_register_rows.specs.private.Fronts.{IsDue, IsFront, IsSaid};
-ghost use Rattle.lpis_register_rows.specs.private.Known.{SetsAre, line_in, span_in};
+ghost use Rattle.lpis_register_rows.specs.private.Known.{SetsAre, known_of, span_in};
 
 use crate::fault::RowsFault;
 use crate::known::{KnownLine, KnownSpan};
@@ -30,8 +30,8 @@ fn add_year(
     ensures years { OnOk result (years_of history.new ≡ years_of history.old ++ pos year ∷ []) }
     ensures sets { OnOk result (SetsAre (map span_in spans.now) history.old
         → SetsAre (map span_in spans.now) history.new) }
-    ensures lines { lines_of history.old ≡ map line_in (take from lines.now)
-        → IfOk result (λ next. lines_of history.new ≡ map line_in (take next lines.now)) }
+    ensures lines { known_of history.old ≡ take from lines.now
+        → IfOk result (λ next. known_of history.new ≡ take next lines.now) }
     ensures front { OnOk result ((h : List Entry) → IsSaid spans.now lines.now h
         → IsDue history.old lines.now from year h → IsFront history.new h) }
     ensures refused { IfErr result (λ e. e ≡ Unlawful → (h : List Entry)
@@ -66,7 +66,7 @@ pub(crate) fn build(
 ) -> Result<History, RowsFault>
     ensures years { IfOk result (λ h. years_of h ≡ map (λ y. pos y) years.now) }
     ensures sets { IfOk result (SetsAre (map span_in spans.now)) }
-    ensures lines { IfOk result (λ h. lines_of h ≡ map line_in lines.now) }
+    ensures lines { IfOk result (λ h. known_of h ≡ lines.now) }
     ensures same { IfOk result (λ g. (h : List Entry) → IsSaid spans.now lines.now h
         → years_of h ≡ map (λ y. pos y) years.now → IsSameHistory g h) }
     ensures refused { IfErr result (λ e. e ≡ Unlawful → (h : List Entry)

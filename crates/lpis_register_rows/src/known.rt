@@ -134,7 +134,7 @@ fn read_successor(alloc: Global, text: &str) -> Result<Option<Id>, RowsFault>
     Ok(Some(id))
 }
 
-/// A line with its row.
+/// A line with its row, which is not marked.
 fn read_line(alloc: Global, line: &LineRow) -> Result<KnownLine, RowsFault>
     ensures same { IfOk result (λ l. line_in l ≡ line.now) }
     ensures text { IfOk result (λ l. HasText l.row) }
@@ -144,7 +144,8 @@ fn read_line(alloc: Global, line: &LineRow) -> Result<KnownLine, RowsFault>
     let new = read_successor(alloc, line.new_text())?;
     let year = line.year();
     let position = line.position();
-    let row = Row { old, new };
+    let exact = false;
+    let row = Row { old, new, exact };
     Ok(KnownLine {
         year,
         position,
@@ -152,7 +153,7 @@ fn read_line(alloc: Global, line: &LineRow) -> Result<KnownLine, RowsFault>
     })
 }
 
-/// The lines with their rows, by year and in it by position.
+/// The lines with their rows, none marked, by year and in it by position.
 pub(crate) fn read_lines(alloc: Global, lines: &[LineRow]) -> Result<Vec<KnownLine>, RowsFault>
     ensures same { IfOk result (λ v. IsPermutation lines.now (map line_in v.items)) }
     ensures sorted { IfOk result (λ v. IsSortedByKey line_in line_cmp v.items) }
@@ -164,7 +165,7 @@ pub(crate) fn read_lines(alloc: Global, lines: &[LineRow]) -> Result<Vec<KnownLi
     Ok(known)
 }
 
-/// The lines with their rows, in their order.
+/// The lines with their rows, none marked, in their order.
 fn known_lines(alloc: Global, lines: &[LineRow]) -> Result<Vec<KnownLine>, RowsFault>
     ensures same { IfOk result (λ v. map line_in v.items ≡ lines.now) }
     ensures texts { IfOk result (λ v. All (λ l. HasText l.row) v.items) }

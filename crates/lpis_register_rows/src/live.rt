@@ -11,7 +11,8 @@ ghost use Rattle.lpis_register_rows.specs.private.Known.{one_year, span_in};
 
 use crate::building::build;
 use crate::fault::RowsFault;
-use crate::known::{KnownSpan, read_id, read_lines, sorted_years};
+use crate::known::{KnownSpan, read_id, sorted_years};
+use crate::marks::marked_lines;
 use crate::opening::has_version;
 use crate::rows::{LiveRow, Rows};
 use lpis_lineage::History;
@@ -69,7 +70,7 @@ fn have_years(years: &[u16], spans: &[KnownSpan]) -> bool
 
 /// The history that rows of version 1 say, in whatever order they are; `Unlawful` exactly where
 /// they say none.
-pub fn live_history_of(alloc: Global, rows: &Rows) -> Result<History, RowsFault>
+pub(crate) fn live_history_of(alloc: Global, rows: &Rows) -> Result<History, RowsFault>
     ensures ok { IfOk result (TellsLive rows.now) }
     ensures unlawful { IfErr result (λ e. e ≡ Unlawful → (h : List Entry) → TellsLive rows.now h
         → ⊥) }
@@ -79,7 +80,7 @@ pub fn live_history_of(alloc: Global, rows: &Rows) -> Result<History, RowsFault>
     }
     let years = sorted_years(alloc, rows.years())?;
     let spans = read_live(alloc, rows.live())?;
-    let lines = read_lines(alloc, rows.lines())?;
+    let lines = marked_lines(alloc, rows.lines(), &[])?;
     if !have_years(years.as_slice(), spans.as_slice()) {
         return Err(RowsFault::Unlawful);
     }

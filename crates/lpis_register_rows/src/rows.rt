@@ -258,6 +258,20 @@ impl MarkRow {
     {
         MarkRow { year, position }
     }
+
+    /// The year of the release.
+    pub(crate) fn year(&self) -> i64
+        ensures { result ≡ self.now.year }
+    {
+        self.year
+    }
+
+    /// The position of the row among the rows of the release, from 0.
+    pub(crate) fn position(&self) -> i64
+        ensures { result ≡ self.now.position }
+    {
+        self.position
+    }
 }
 
 /// The rows of the register's tables but for the texts, each list in any order.
