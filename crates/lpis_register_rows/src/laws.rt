@@ -70,7 +70,6 @@ pub fn moving_keeps_the_history()
         → SpansTell spans h → Tells (moved spans c) h }
     ensures second { (c : Content) (h : List Entry) → TellsSpans 2 [] c h → Tells (raised c) h }
     ensures bare { (c : Content) (spans : List StoredSpan) → (moved spans c).texts ≡ [] }
-    ensures bare_second { (c : Content) → (raised c).texts ≡ [] }
 {}
 
 /// What a change drops and what is fresh is what publishing writes.

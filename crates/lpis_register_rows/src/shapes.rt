@@ -1,4 +1,4 @@
-//! Shapes of parcels, and the texts that keep them.
+//! Shapes of parcels.
 
 ghost use Rattle.std.specs.Prelude.{◌≡◌, ◌↔◌, true, List, map, IfErr, IfOk, IsPermutation, IsTrue};
 ghost use Rattle.std.specs.Cmp.Lexicographic.{slice_cmp};
@@ -26,7 +26,6 @@ use lpis_parcels::{Parcel, Release};
 use lpis_rings::Polygon;
 use lpis_wkt::laws::one_answer;
 use lpis_wkt::{WktFault, read};
-use lpis_wkt_writer::write;
 use std::alloc::{AllocError, Global};
 
 /// The polygon that a text spells.
@@ -119,29 +118,6 @@ pub fn shapes_of(
         return Err(RowsFault::Unlawful);
     }
     Ok(shapes)
-}
-
-/// The text that keeps a shape.
-fn text_of(alloc: Global, shape: &(Id, Polygon)) -> Result<TextRow, AllocError>
-    ensures { IfOk result (λ text. IsTextOf text shape.now) }
-{
-    let id = String::from_str(alloc, shape.0.as_str())?;
-    let wkt = write(alloc, &shape.1)?;
-    Ok(TextRow::new(id, wkt))
-}
-
-/// The texts that keep these shapes, in their order.
-pub fn texts_of(alloc: Global, shapes: &[(Id, Polygon)]) -> Result<Vec<TextRow>, AllocError>
-    ensures spelled { IfOk result (λ v. AllZip IsTextOf v.items shapes.now) }
-    ensures are { IsAscending (shape_ids shapes.now)
-        → IfOk result (λ v. ShapesAre v.items shapes.now) }
-{
-    let mut texts = Vec::with_capacity(alloc, shapes.len())?;
-    for shape in shapes {
-        let text = text_of(alloc, shape)?;
-        texts.push(text)?;
-    }
-    Ok(texts)
 }
 
 /// A copy of the shape of a parcel.

@@ -1,14 +1,14 @@
 use Rattle.std.proofs.Common.{◌∙◌, ◌≤◌, ℕ, sym}
 use Rattle.lpis_register_rows.proofs.Common.{recursion_from_All, err_from_is_err_and, last_of_years}
 use Rattle.lpis_register_rows.proofs.KnownLemmas.{no-both}
-use Rattle.lpis_register_rows.proofs.RefusingLemmas.{told-few, told-ids, told-lines, told-right, told-said, told-sorted-years, told-years}
+use Rattle.lpis_register_rows.proofs.RefusingLemmas.{told-few, told-ids, told-right, told-said, told-sorted-years, told-years}
 use Rattle.lpis_register_rows.proofs.SayingLemmas.{says}
-use Rattle.lpis_register_rows.proofs.history.history_of.Goals as goal
+use Rattle.lpis_register_rows.proofs.history.spans_history_of.Goals as goal
 
 pub returns-clause-ok : goal.returns-clause-ok
 returns-clause-ok c =
     let h = c.in_ok-history.history in
-    says c.args.version c.args.rows.now h c.in_ok-years.years.items c.in_ok-spans.spans.items c.in_ok-lines.lines.items c.releases.ensures.lawful c.releases.ensures.fits
+    says c.args.version c.args.marks.now c.args.rows.now h c.in_ok-years.years.items c.in_ok-spans.spans.items c.in_ok-lines.lines.items c.releases.ensures.lawful c.releases.ensures.fits
     (recursion_from_All (λ (y : ℕ). y ≤ last_of_years) c.in_ok-years.years.items c.in_ok-years.ensures.small)
     (sym c.formats.ensures ∙ c.has_version.ensures.0 c.if-not-has_version.false)
     (rw c.years.ensures at c.in_ok-years.ensures.same)
@@ -17,6 +17,7 @@ returns-clause-ok c =
     (rw c.lines.ensures at c.in_ok-lines.ensures.same)
     (rw c.as_slice-2.ensures.value at c.in_ok-history.ensures.years)
     (rw c.as_slice-3.ensures.value at c.in_ok-history.ensures.sets)
+    c.in_ok-lines.ensures.marks
     (rw c.as_slice-4.ensures.value at c.in_ok-history.ensures.lines)
     (rw c.as_slice-5.ensures.value at (c.are_told.ensures.0 c.if-not-are_told.false))
 
@@ -37,7 +38,7 @@ returns-in_err-spans-clause-unlawful c =
 pub returns-in_err-lines-clause-unlawful : goal.returns-in_err-lines-clause-unlawful
 returns-in_err-lines-clause-unlawful c =
     let p = err_from_is_err_and c.from_residual-in_err-lines.result c.from_residual-in_err-lines.ensures.1 in
-    rw (p.1, p.2) (λ e h t. c.in_err-lines.ensures.refused e (rw c.lines.ensures (told-lines h c.args.rows.now.lines t.kept t.lines_are)))
+    rw (p.1, p.2) (λ e h t. c.in_err-lines.ensures.refused e h t.kept (rw c.lines.ensures t.lines_are) t.marks_are)
 
 pub returns-then-not-once-clause-unlawful : goal.returns-then-not-once-clause-unlawful
 returns-then-not-once-clause-unlawful c = λ _ h t. c.in_ok-once.ensures.twice c.if-not-once.true
@@ -49,7 +50,7 @@ returns-in_err-history-clause-unlawful c =
     let p = err_from_is_err_and c.from_residual-in_err-history.result c.from_residual-in_err-history.ensures.1 in
     rw (p.1, p.2) (λ e h t.
     let said = told-said c.args.rows.now h c.in_ok-spans.spans.items c.in_ok-lines.lines.items t (c.in_ok-spans.ensures.same ∙ c.spans.ensures)
-    (rw c.lines.ensures at c.in_ok-lines.ensures.same) c.in_ok-lines.ensures.sorted c.in_ok-lines.ensures.texts in
+    (c.in_ok-lines.ensures.told h t.kept (rw c.lines.ensures t.lines_are) t.marks_are) in
     let years = told-sorted-years h c.args.rows.now.years c.in_ok-years.years.items t.kept c.in_ok-years.ensures.sorted
     (rw c.years.ensures at c.in_ok-years.ensures.same) t.years_are in
     c.in_err-history.ensures.refused e h (rw (c.as_slice-3.ensures.value, c.as_slice-4.ensures.value) said)
@@ -58,7 +59,7 @@ returns-in_err-history-clause-unlawful c =
 pub returns-then-not-are_told-clause-unlawful : goal.returns-then-not-are_told-clause-unlawful
 returns-then-not-are_told-clause-unlawful c = λ _ h t.
     let said = told-said c.args.rows.now h c.in_ok-spans.spans.items c.in_ok-lines.lines.items t (c.in_ok-spans.ensures.same ∙ c.spans.ensures)
-    (rw c.lines.ensures at c.in_ok-lines.ensures.same) c.in_ok-lines.ensures.sorted c.in_ok-lines.ensures.texts in
+    (c.in_ok-lines.ensures.told h t.kept (rw c.lines.ensures t.lines_are) t.marks_are) in
     let years = told-sorted-years h c.args.rows.now.years c.in_ok-years.years.items t.kept c.in_ok-years.ensures.sorted
     (rw c.years.ensures at c.in_ok-years.ensures.same) t.years_are in
     let same = c.in_ok-history.ensures.same h (rw (c.as_slice-3.ensures.value, c.as_slice-4.ensures.value) said)

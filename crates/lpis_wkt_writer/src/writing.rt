@@ -1,0 +1,161 @@
+//! The text of a polygon.
+
+ghost use Rattle.std.specs.Prelude.{◌≡◌, ◌<◌, ◌++◌, IfOk, OnOk, length, string_bytes, codes};
+ghost use Rattle.std.specs.List.{All, flat_map};
+ghost use Rattle.lpis_rings.specs.Ring.{IsRing};
+ghost use Rattle.lpis_wkt.specs.Text.{PolygonText};
+ghost use Rattle.lpis_wkt_writer.specs.Text.{sign_text, number_text, point_text, ring_text};
+ghost use Rattle.lpis_wkt_writer.specs.Text.{member_text, text_of, with_commas, after_commas};
+ghost use Rattle.lpis_wkt_writer.specs.Text.{HasRings, HaveRings};
+
+use lpis_points::Point;
+use lpis_rings::{Member, Polygon, Ring};
+use std::alloc::{AllocError, Global};
+
+/// How many units of a coordinate one unit of its text has: a coordinate is in millimetres, the
+/// text in metres.
+const METRE: u64 = 1000;
+
+/// A minus below zero.
+fn sign_of(value: i64) -> &'static str
+    ensures { result.now ≡ sign_text value }
+{
+    if value < 0 { "-" } else { "" }
+}
+
+/// A coordinate, with its three decimals.
+fn write_number(value: i64, out: &mut String) -> Result<(), AllocError>
+    ensures { OnOk result (string_bytes out.new ≡ string_bytes out.old ++ number_text value) }
+{
+    let sign = sign_of(value);
+    let size = value.unsigned_abs();
+    let metres = size / METRE;
+    let rest = size % METRE;
+    write!(out, "{sign}{metres}.{rest:03}")
+}
+
+fn write_point(point: Point, out: &mut String) -> Result<(), AllocError>
+    ensures { OnOk result (string_bytes out.new ≡ string_bytes out.old ++ point_text point) }
+{
+    write_number(point.x, out)?;
+    out.push_str(" ")?;
+    write_number(point.y, out)
+}
+
+/// Points that follow another.
+fn write_more_points(points: &[Point], out: &mut String) -> Result<(), AllocError>
+    ensures { OnOk result (string_bytes out.new ≡ string_bytes out.old
+        ++ after_commas point_text points.now) }
+{
+    for point in points {
+        out.push_str(",")?;
+        write_point(*point, out)?;
+    }
+    Ok(())
+}
+
+fn write_points(points: &[Point], out: &mut String) -> Result<(), AllocError>
+    ensures { OnOk result (string_bytes out.new ≡ string_bytes out.old
+        ++ with_commas point_text points.now) }
+{
+    match points {
+        [] => Ok(()),
+        [first, more @ ..] => {
+            write_point(*first, out)?;
+            write_more_points(more, out)
+        }
+    }
+}
+
+fn write_ring(ring: &Ring, out: &mut String) -> Result<(), AllocError>
+    ensures text { OnOk result (string_bytes out.new ≡ string_bytes out.old
+        ++ ring_text ring.now) }
+    ensures ring { OnOk result (IsRing ring.now) }
+{
+    out.push_str("(")?;
+    write_points(ring.points(), out)?;
+    out.push_str(")")
+}
+
+/// Rings that follow a shell.
+fn write_holes(holes: &[Ring], out: &mut String) -> Result<(), AllocError>
+    ensures text { OnOk result (string_bytes out.new ≡ string_bytes out.old
+        ++ after_commas ring_text holes.now) }
+    ensures rings { OnOk result (All IsRing holes.now) }
+{
+    for hole in holes {
+        out.push_str(",")?;
+        write_ring(hole, out)?;
+    }
+    Ok(())
+}
+
+fn write_member(member: &Member, out: &mut String) -> Result<(), AllocError>
+    ensures text { OnOk result (string_bytes out.new ≡ string_bytes out.old
+        ++ member_text member.now) }
+    ensures rings { OnOk result (HasRings member.now) }
+{
+    out.push_str("(")?;
+    write_ring(&member.shell, out)?;
+    write_holes(member.holes.as_slice(), out)?;
+    out.push_str(")")
+}
+
+/// Members that follow another.
+fn write_more_members(members: &[Member], out: &mut String) -> Result<(), AllocError>
+    ensures text { OnOk result (string_bytes out.new ≡ string_bytes out.old
+        ++ after_commas member_text members.now) }
+    ensures rings { OnOk result (HaveRings members.now) }
+{
+    for member in members {
+        out.push_str(",")?;
+        write_member(member, out)?;
+    }
+    Ok(())
+}
+
+/// Members, the first of which is given apart.
+fn write_members(first: &Member, more: &[Member], out: &mut String) -> Result<(), AllocError>
+    ensures text { OnOk result (string_bytes out.new ≡ string_bytes out.old
+        ++ codes "(" ++ member_text first.now ++ after_commas member_text more.now ++ codes ")") }
+    ensures rings { OnOk result (HasRings first.now × HaveRings more.now) }
+{
+    out.push_str("(")?;
+    write_member(first, out)?;
+    write_more_members(more, out)?;
+    out.push_str(")")
+}
+
+/// The text of members, of which there is one or more.
+#[tactic(auto, unfolding(crate::specs::Text::text_of))]
+fn write_text(members: &[Member], out: &mut String) -> Result<(), AllocError>
+    requires { 0 < length members.now }
+    ensures text { OnOk result (string_bytes out.new ≡ string_bytes out.old
+        ++ text_of members.now) }
+    ensures rings { OnOk result (HaveRings members.now) }
+{
+    match members {
+        [] => unreachable!(),
+        [only] => {
+            out.push_str("POLYGON")?;
+            write_member(only, out)
+        }
+        [first, more @ ..] => {
+            out.push_str("MULTIPOLYGON")?;
+            write_members(first, more, out)
+        }
+    }
+}
+
+/// The well-known text of a polygon: `POLYGON` for one member, else `MULTIPOLYGON`, in metres with
+/// three decimals, and with no space but that of a point. `lpis_wkt::read` reads it back.
+pub fn write(alloc: Global, polygon: &Polygon) -> Result<String, AllocError>
+    // The text is that of the definition.
+    ensures text { IfOk result (λ s. string_bytes s ≡ text_of polygon.now) }
+    // The grammar reads it as this polygon.
+    ensures spells { IfOk result (λ s. PolygonText (string_bytes s) polygon.now) }
+{
+    let mut out = String::new(alloc);
+    write_text(polygon.members(), &mut out)?;
+    Ok(out)
+}
