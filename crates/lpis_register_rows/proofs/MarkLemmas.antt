@@ -60,7 +60,7 @@ mark-alone a b r s = line-alone (as_line a) (as_line b) r s
 abbrev pub known_below : KnownLine → KnownLine → Type 0
 known_below k l = mark_below (mark_in k) (mark_in l)
 
-all-unmap : {A B : Type 0} (P : B → Type 0) (f : A → B) (xs : List A) → AllByRecursion P (map f xs) → AllByRecursion (λ x. P (f x)) xs
+pub all-unmap : {A B : Type 0} (P : B → Type 0) (f : A → B) (xs : List A) → AllByRecursion P (map f xs) → AllByRecursion (λ x. P (f x)) xs
 all-unmap P f [] a = tt
 all-unmap P f (x ∷ xs) a = (a.0, all-unmap P f xs a.1)
 

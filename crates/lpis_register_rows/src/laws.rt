@@ -16,7 +16,7 @@ ghost use Rattle.lpis_register_rows.specs.Tells.{Says, SpansTell, Tells, TellsLi
 ghost use Rattle.lpis_register_rows.specs.Tells.{last_of_years};
 ghost use Rattle.lpis_register_rows.specs.declared.version.Version.{Version};
 
-use lpis_wkt::laws::one_answer;
+use lpis_wkt::laws::function_of_text;
 
 /// Where tables say a history, they say that history with a release more after what publishing it
 /// writes, and keep its texts.
@@ -60,7 +60,7 @@ pub fn texts_keep_one_list_of_shapes()
         → IsPermutation texts others → ShapesAre texts shapes → ShapesAre others shapes }
     ensures nothing { ShapesAre [] [] }
 {
-    one_answer();
+    function_of_text();
 }
 
 /// Where tables of version 1 or 2 say a history, they say it as version 3 after they are moved, and

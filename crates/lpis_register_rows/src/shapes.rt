@@ -24,7 +24,7 @@ use lpis_covers::Id;
 use lpis_lineage::History;
 use lpis_parcels::{Parcel, Release};
 use lpis_rings::Polygon;
-use lpis_wkt::laws::one_answer;
+use lpis_wkt::laws::function_of_text;
 use lpis_wkt::{WktFault, read};
 use std::alloc::{AllocError, Global};
 
@@ -111,7 +111,7 @@ pub fn shapes_of(
     ensures unlawful { IfErr result (λ e. e ≡ Unlawful
         → TextsStand texts.now (last_live history.now) → ⊥) }
 {
-    one_answer();
+    function_of_text();
     let mut shapes = told_shapes(alloc, history, texts)?;
     sort_shapes(&mut shapes);
     if !ascend(shapes.as_slice()) {
