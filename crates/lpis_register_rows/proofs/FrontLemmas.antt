@@ -1,7 +1,7 @@
 -- A history put together release by release is the front of the one that the rows say.
 use Rattle.std.proofs.Common.{◌≡◌, ◌∙◌, ◌<◌, ◌≤◌, ◌+◌, inl, inr, refl, sym, ap, ap₂, subst, arith, ℕ, zero, suc, ℤ, pos, List, [], ◌∷◌, ◌++◌, Bool, true, cond, nat_lt, Option, None, Some, Err, ◌||◌, length, map, take, get_or}
-use Rattle.std.proofs.Common.{length-append, ◌&&◌, All, filter}
-use Rattle.lpis_register_rows.proofs.Common.{AllByRecursion, list_any, map-append, recursion_from_All, has_id, same_id, Entry, Row, Adds, IsLawful, RowsFit, entry_at, holds, last_live, names}
+use Rattle.std.proofs.Common.{length-append, ◌&&◌, filter}
+use Rattle.lpis_register_rows.proofs.Common.{AllByRecursion, list_any, map-append, has_id, same_id, Entry, Row, Adds, IsLawful, RowsFit, entry_at, holds, last_live, names}
 use Rattle.lpis_register_rows.proofs.Common.{first_held}
 use Rattle.lpis_register_rows.proofs.Common.{last_held, span_of, entry-after, entry-before, entry-here, in-history, longer, before-at-after, take-at, KnownSpan}
 use Rattle.lpis_register_rows.proofs.Common.{KnownLine, StoredSpan, known_from, IsSameHistory}

@@ -1,5 +1,5 @@
 -- Rows of lineage with their years and positions.
-use Rattle.std.proofs.Common.{◌≡◌, ◌∙◌, ◌+◌, refl, ap, ap₂, sym, subst, ℕ, ℤ, pos, List, [], ◌∷◌, ◌++◌, true, Option, None, Some}
+use Rattle.std.proofs.Common.{◌≡◌, ◌+◌, refl, ap, ap₂, sym, subst, ℕ, ℤ, pos, List, [], ◌∷◌, ◌++◌, true, Option, None, Some}
 use Rattle.lpis_register_rows.proofs.Common.{AllByRecursion, list_any, or_left, or_right, is_id, Entry, Row, entry_at, names, text_of, IsKept, years_of, HasText, KnownLine, known_from, known_of}
 use Rattle.lpis_lineage.specs.Lineage.{is_this}
 use Rattle.lpis_register_rows.proofs.AscendingLemmas.{all-append, all-map, below, below-alone}

@@ -1,17 +1,16 @@
 -- Lines and marks of a history, and lines that get their marks.
-use Rattle.std.proofs.Common.{◌≡◌, ◌∙◌, ◌<◌, ◌≤◌, ◌+◌, ◌⊎◌, inl, inr, refl, sym, ap, ap₂, subst, arith, ℕ, zero, suc, ℤ, pos, List, [], ◌∷◌, ◌++◌, Bool, true, false, cond, length, map, take, drop, get_or, set, Option, Some, IsPermutation, Ordering, ◌&&◌, if◌then◌else◌}
-use Rattle.std.proofs.Common.{All, IsSorted, IsSortedByKey, int_cmp, int_eq, is_lt}
+use Rattle.std.proofs.Common.{◌≡◌, ◌∙◌, ◌<◌, ◌≤◌, ◌+◌, ◌⊎◌, refl, sym, ap, ap₂, subst, arith, ℕ, zero, suc, ℤ, pos, List, [], ◌∷◌, ◌++◌, Bool, true, false, cond, length, map, take, drop, get_or, set, Option, IsPermutation, ◌&&◌}
+use Rattle.std.proofs.Common.{All, IsSorted, IsSortedByKey, int_eq, is_lt}
 use Rattle.lpis_register_rows.proofs.Common.{AllByRecursion, recursion_from_All, map-append, Entry, Row, IsLawful, KnownLine, Line, lines_from, text_of, IsKept, lines_of, HasText, line_cmp, line_in, known_from, known_of}
 use Rattle.lpis_register_rows.proofs.Common.{IsPermutation-sym, IsPermutation-trans, Mark, marks_from, marks_of, mark_cmp, mark_in, marked, marks_in, marks_line, is_next, later, unused, walked}
 use Rattle.std.specs.Cmp.{IsTotalOrder, signed_Decides}
-use Rattle.std.specs.Ordering.{ordering_then}
 use Rattle.std.proofs.lemmas.Bool.{and_parts}
 use Rattle.std.proofs.lemmas.Cmp.{int_cmp_total, on_total, then_total}
 use Rattle.std.proofs.lemmas.Grind.{common_steps}
 use Rattle.std.proofs.lemmas.List.{append-nil, append_assoc, drop-set-lt, drop_all, length-drop, map-id, take-append-le, take_more_set}
 use Rattle.lpis_register_rows.proofs.KnownLemmas.{drop-at, take-whole}
 use Rattle.std.proofs.lemmas.List.Sorted.{IsPermutation-refl, ranks_by, sorted_far}
-use Rattle.lpis_register_rows.proofs.AscendingLemmas.{Ascends, all-append, all-map, below, below-alone}
+use Rattle.lpis_register_rows.proofs.AscendingLemmas.{Ascends, all-append, below}
 use Rattle.lpis_register_rows.proofs.KnownRowLemmas.{have-texts, same-text}
 use Rattle.lpis_register_rows.proofs.SortingLemmas.{Less_by, Rises, ascends-map, lines-less, rises-far, sorted-lines, sorted-same}
 use Rattle.lpis_register_rows.proofs.YearLemmas.{line_below, line-alone, lines-ascend, years-ascend}

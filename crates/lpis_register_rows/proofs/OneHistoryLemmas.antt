@@ -1,15 +1,14 @@
 -- Tables say one history.
-use Rattle.std.proofs.Common.{◌≡◌, ◌∙◌, ◌<◌, ◌≤◌, ◌+◌, inl, inr, refl, sym, ap, ap₂, subst, arith, ℕ, zero, suc, ℤ, pos, List, [], ◌∷◌, ◌++◌, Bool, true, false, length, Option, None, Some, ◌&&◌, ◌||◌}
+use Rattle.std.proofs.Common.{◌≡◌, ◌∙◌, ◌<◌, ◌≤◌, inl, inr, refl, sym, ap, ap₂, subst, arith, ℕ, zero, suc, ℤ, pos, List, [], ◌∷◌, ◌++◌, Bool, true, false, length, Option, None, Some, ◌&&◌, ◌||◌}
 use Rattle.std.proofs.Common.{nat_le, nat_eq, IsPermutation, int_eq}
-use Rattle.lpis_register_rows.proofs.Common.{AllByRecursion, list_any, nat_tests, both_ways, or_left, or_right, and-false, has_id, is_id, same_id, Entry, Row, IsLawful, entry_at, holds, names}
+use Rattle.lpis_register_rows.proofs.Common.{AllByRecursion, list_any, nat_tests, both_ways, and-false, has_id, same_id, Entry, IsLawful, entry_at, holds}
 use Rattle.lpis_register_rows.proofs.Common.{span_of}
-use Rattle.lpis_register_rows.proofs.Common.{entry-after, in-history, same-exact, before-at-after, Content, Line, Live, StoredSpan, lines_from}
+use Rattle.lpis_register_rows.proofs.Common.{entry-after, in-history, same-exact, before-at-after, Content, Live, StoredSpan}
 use Rattle.lpis_register_rows.proofs.Common.{IsKept, IsSameHistory, IsSpanRow, LiveTells, SpansTell, TellsSpans}
 use Rattle.lpis_register_rows.proofs.Common.{TellsLive, lines_of, shown, years_of, covers, Mark, known_from, known_of, marks_of}
 use Rattle.std.specs.Int.Signed.{le_z}
 use Rattle.std.proofs.lemmas.Int.{ints}
 use Rattle.lpis_lineage.specs.declared.span.Span.{Span as Years}
-use Rattle.lpis_lineage.specs.Lineage.{is_this}
 use Rattle.lpis_lineage.specs.Spans.{in_span}
 use Rattle.lpis_lineage.proofs.Shared.{span-tells}
 use Rattle.lpis_register_rows.proofs.AscendingLemmas.{Ascends, below, below-alone, same-ascending, both-orders}

@@ -1,6 +1,6 @@
 -- What rows that say a history have: what they are refused for otherwise.
 use Rattle.std.proofs.Common.{◌≡◌, ◌∙◌, ◌≤◌, ◌+◌, ◌⊎◌, inl, inr, refl, sym, ap, subst, arith, ℕ, zero, suc, ℤ, pos, List, [], ◌∷◌, true, Option, None, Some, length, map, IsPermutation, is_some}
-use Rattle.std.proofs.Common.{IsSorted, All, filter, IsSortedByKey, nat_cmp}
+use Rattle.std.proofs.Common.{IsSorted, All, filter, nat_cmp}
 use Rattle.lpis_register_rows.proofs.Common.{AllByRecursion, list_any, All-from_recursion, All-permutation, IsPermutation-sym, or_left, or_right, is_id, same_id, Entry, Row, entry_at, names, span_of}
 use Rattle.lpis_register_rows.proofs.Common.{same-refl, above-zero, KnownLine, KnownSpan, Content, Line, StoredSpan, lines_from, text_of, IsKept, IsSameHistory, IsSpanRow, SpansTell, TellsSpans, lines_of, shown}
 use Rattle.lpis_register_rows.proofs.Common.{years_of, IsSaid, Mark, SetsAre, known_of, span_in}

@@ -1,5 +1,5 @@
 -- A history put together from rows is what they say.
-use Rattle.std.proofs.Common.{◌≡◌, ◌∙◌, ◌≤◌, refl, sym, ap, subst, arith, ℕ, zero, suc, ℤ, pos, negsuc, List, [], ◌∷◌, Bool, true, false, cond, length, map, IsPermutation, ◌&&◌, ◌||◌, All, filter}
+use Rattle.std.proofs.Common.{◌≡◌, ◌∙◌, ◌≤◌, refl, sym, ap, subst, arith, ℕ, zero, suc, ℤ, pos, List, [], ◌∷◌, Bool, true, false, cond, length, map, IsPermutation, ◌&&◌, ◌||◌, All, filter}
 use Rattle.lpis_register_rows.proofs.Common.{AllByRecursion, list_any, recursion_from_All, is_id, same_id, Entry, IsLawful, RowsFit, entry_at, holds, in-history, same-exact, KnownSpan, KnownLine, Content}
 use Rattle.lpis_register_rows.proofs.Common.{StoredSpan, IsKept, IsSpanRow, SpansTell, TellsSpans, last_of_years, lines_of, only_format, years_of, covers, Line, Mark, SetsAre, known_of, line_in, marks_in, marks_of, span_in}
 use Rattle.lpis_register_rows.proofs.MarkLemmas.{lines-in, marks-in}

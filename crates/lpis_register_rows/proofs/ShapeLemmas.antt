@@ -1,5 +1,5 @@
 -- Shapes in the order of their identifiers, and the texts that keep them.
-use Rattle.std.proofs.Common.{◌≡◌, ◌∙◌, ◌<◌, ◌≤◌, ◌+◌, ◌-◌, inl, inr, refl, sym, ap, ap₂, subst, arith, ℕ, zero, suc, List, [], ◌∷◌, ◌++◌, Bool, true, false, length, map, take, get_or, Result, Ok, Err, IsPermutation, Ordering, Less, Equal, Greater, is_lt, is_ge, is_eq, nat_cmp, IsSortedByKey}
+use Rattle.std.proofs.Common.{◌≡◌, ◌∙◌, ◌<◌, ◌≤◌, ◌+◌, inl, inr, refl, sym, ap, ap₂, subst, arith, ℕ, zero, suc, List, [], ◌∷◌, ◌++◌, true, false, length, map, take, get_or, Result, Ok, Err, IsPermutation, Ordering, Less, Equal, Greater, is_lt, is_ge, is_eq, nat_cmp, IsSortedByKey}
 use Rattle.lpis_register_rows.proofs.Common.{AllByRecursion, IsPermutation-sym, IsPermutation-trans, before-at-after, has_id, is_id, or_left, or_right, same-refl, same_id, slice_cmp}
 use Rattle.lpis_lineage.proofs.Shared.{same-sym}
 use Rattle.std.specs.Cmp.Lexicographic.{nat_list_cmp_total, texts_ties}
@@ -16,7 +16,7 @@ use Rattle.lpis_wkt.specs.Answer.{polygon_of}
 use Rattle.lpis_wkt.specs.Text.{PolygonText}
 use Rattle.lpis_wkt.specs.declared.fault.WktCode.{WktCode}
 use Rattle.lpis_register_rows.specs.Content.{StoredText}
-use Rattle.lpis_register_rows.specs.Shapes.{AreLive, IsLive, IsTextOf, Shape, ShapesAre, TextsStand, shape_ids, shape_of}
+use Rattle.lpis_register_rows.specs.Shapes.{AreLive, IsLive, IsTextOf, Shape, ShapesAre, shape_ids, shape_of}
 use Rattle.lpis_register_rows.proofs.AscendingLemmas.{Ascends, all-both, all-moved, same-ascending}
 use Rattle.lpis_register_rows.proofs.KnownLemmas.{take-whole}
 use Rattle.lpis_register_rows.proofs.MarkLemmas.{all-unmap}
@@ -203,7 +203,7 @@ sorted-ascends parcels sorted apart p up = sorted_from_all_adjacent nat_list_cmp
       let a = get_or ids k [] in
       let b = get_or ids (k + 1) [] in
       let not-below : is_lt (slice_cmp nat_cmp b a) ≡ false =
-          ap₂ (λ (x y : List ℕ). is_lt (slice_cmp nat_cmp x y)) (at (k + 1) d (omega (arith, n, lt))) (at k d (omega (arith, n, lt))) ∙ up k d (omega arith) (omega (arith, n, lt)) in
+      ap₂ (λ (x y : List ℕ). is_lt (slice_cmp nat_cmp x y)) (at (k + 1) d (omega (arith, n, lt))) (at k d (omega (arith, n, lt))) ∙ up k d (omega arith) (omega (arith, n, lt)) in
       less-apart (slice_cmp nat_cmp a b) (ap is_lt (sym (nat_list_cmp_total.antisymm b a)) ∙ not-below)
       (sym (texts_ties a b) ∙ apart_from_distinct same_id ids k (k + 1) [] distinct (omega arith) lt)
 

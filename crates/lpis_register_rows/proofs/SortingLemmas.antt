@@ -1,5 +1,5 @@
 -- What is sorted and has the elements of a list that ascends strictly is that list.
-use Rattle.std.proofs.Common.{◌≡◌, ◌∙◌, ◌<◌, ◌≤◌, inl, inr, refl, sym, ap, arith, ℕ, suc, ℤ, pos, negsuc, List, [], ◌∷◌, Bool, true, false, cond, length, map, get_or, IsPermutation, Ordering, ◌&&◌}
+use Rattle.std.proofs.Common.{◌≡◌, ◌∙◌, ◌<◌, ◌≤◌, inl, inr, refl, sym, ap, arith, ℕ, suc, ℤ, pos, List, [], ◌∷◌, Bool, true, false, cond, length, map, get_or, IsPermutation, Ordering, ◌&&◌}
 use Rattle.std.proofs.Common.{◌||◌, not, IsSorted, Less, Equal, filter, IsSortedByKey, int_cmp, is_lt, nat_cmp}
 use Rattle.lpis_register_rows.proofs.Common.{AllByRecursion, list_any, nat_tests, IsPermutation-sym, IsPermutation-trans, filter-none, KnownLine, Line, line_cmp, line_in}
 use Rattle.std.specs.Cmp.{IsStrictWeakOrder, IsTotalOrder, int_cmp_is}

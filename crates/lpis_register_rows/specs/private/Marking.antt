@@ -1,5 +1,5 @@
 -- Lines that get their marks: machinery, which only private contracts cite.
-use Rattle.std.specs.Prelude.{◌&&◌, ◌∷◌, [], Bool, true, false, cond, if◌then◌else◌, List}
+use Rattle.std.specs.Prelude.{◌&&◌, ◌∷◌, [], Bool, false, cond, if◌then◌else◌, List}
 use Rattle.std.specs.Ordering.{int_cmp, int_eq, ordering_then}
 use Rattle.std.specs.declared.cmp.Ordering.{Ordering}
 use Rattle.lpis_register_rows.specs.declared.known.KnownLine.{KnownLine}

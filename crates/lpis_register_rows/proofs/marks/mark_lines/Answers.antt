@@ -9,7 +9,7 @@ loop-line-preserved c =
     let lines = c.loop-line.lines in
     let i = c.loop-line.line-index in
     let named : c.is_named-named.result ≡ is_next (drop c.loop-line.next c.args.marks.now) c.line-item.result =
-        c.is_named-named.ensures ∙ ap (λ (x : KnownLine). is_next (drop c.loop-line.next c.args.marks.now) x) (sym c.line-item.is) in
+    c.is_named-named.ensures ∙ ap (λ (x : KnownLine). is_next (drop c.loop-line.next c.args.marks.now) x) (sym c.line-item.is) in
     let lt : i < length lines = let t = c.loop-line-test.true in let n = c.loop-line.auto.lines in omega (arith, t, n) in
     let left = drop c.loop-line.next c.args.marks.now in
     let set-is = ap (λ (x : KnownLine). set lines i (marked c.is_named-named.result x)) (sym c.line-item.is) in

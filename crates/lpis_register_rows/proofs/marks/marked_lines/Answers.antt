@@ -1,5 +1,5 @@
-use Rattle.std.proofs.Common.{◌≡◌, ◌∙◌, ◌++◌, ap, arith, drop, length, map, subst, sym, take, List, IsPermutation}
-use Rattle.lpis_register_rows.proofs.Common.{err_from_is_err_and, KnownLine, Line, Mark, line_in, marks_in, unused, walked}
+use Rattle.std.proofs.Common.{◌≡◌, ◌∙◌, ap, arith, length, map, subst, sym, List, IsPermutation}
+use Rattle.lpis_register_rows.proofs.Common.{err_from_is_err_and, KnownLine, line_in, marks_in, walked}
 use Rattle.lpis_register_rows.proofs.MarkLemmas.{all-used, not-used, told-known, walked-length, walked-lines, written-whole}
 use Rattle.lpis_register_rows.proofs.RefusingLemmas.{readable-lines}
 use Rattle.lpis_register_rows.proofs.marks.marked_lines.Goals as goal

@@ -6,10 +6,13 @@ use Rattle.lpis_register_rows.proofs.ShapeLemmas.{ascend-more, ascend-pair, asce
 use Rattle.lpis_register_rows.proofs.shapes.ascend.Goals as goal
 
 pub returns-then-ge : goal.returns-then-ge
-returns-then-ge c = (λ t. cc t, λ up. let less = ascend-pair c.args.shapes.now (c.loop-next.next - 1) c.loop-next.next c.index-shapes-next.result c.index-shapes-next-in-loop-next.result
-    (let one = c.loop-next.invariant.0 in omega (arith, one)) c.loop-next-test.true c.index-shapes-next.is c.index-shapes-next-in-loop-next.is up in
-    no-both c.ge.result c.if-ge.true (c.ge.ensures
-    ∙ ap₂ (λ (a b : Shape). is_ge (slice_cmp nat_cmp a.0 b.0)) (sym c.index-shapes-next.is) (sym c.index-shapes-next-in-loop-next.is) ∙ ap is_ge less))
+returns-then-ge c = (
+  λ t. cc t,
+  λ up. let less = ascend-pair c.args.shapes.now (c.loop-next.next - 1) c.loop-next.next c.index-shapes-next.result c.index-shapes-next-in-loop-next.result
+      (let one = c.loop-next.invariant.0 in omega (arith, one)) c.loop-next-test.true c.index-shapes-next.is c.index-shapes-next-in-loop-next.is up in
+      no-both c.ge.result c.if-ge.true (c.ge.ensures
+      ∙ ap₂ (λ (a b : Shape). is_ge (slice_cmp nat_cmp a.0 b.0)) (sym c.index-shapes-next.is) (sym c.index-shapes-next-in-loop-next.is) ∙ ap is_ge less),
+)
 
 pub loop-next-preserved : goal.loop-next-preserved
 loop-next-preserved c = (

@@ -1,9 +1,7 @@
-use Rattle.std.proofs.Common.{List, IsPermutation, subst}
-use Rattle.std.proofs.Common.{sym}
 use Rattle.lpis_parcels.specs.Release.{parcel_ids}
 use Rattle.lpis_register_rows.proofs.AscendingLemmas.{all-moved}
 use Rattle.lpis_register_rows.proofs.ShapeLemmas.{sorted-ascends}
-use Rattle.lpis_register_rows.specs.Shapes.{IsLive, Shape}
+use Rattle.lpis_register_rows.specs.Shapes.{IsLive}
 use Rattle.lpis_register_rows.proofs.shapes.shapes_in.Goals as goal
 
 pub returns-clause-are : goal.returns-clause-are

@@ -3,7 +3,7 @@ use Rattle.std.specs.List.{AllZip}
 use Rattle.lpis_register_rows.proofs.Common.{err_from_is_err_and, last_live, take-at}
 use Rattle.lpis_register_rows.proofs.ShapeLemmas.{all-push, zip-at, zip-push}
 use Rattle.lpis_register_rows.specs.Content.{StoredText}
-use Rattle.lpis_register_rows.specs.Shapes.{AreLive, IsLive, IsTextOf, Shape}
+use Rattle.lpis_register_rows.specs.Shapes.{AreLive, IsLive, IsTextOf}
 use Rattle.lpis_register_rows.proofs.shapes.told_shapes.Goals as goal
 
 pub returns-in_err-shape-clause-refused : goal.returns-in_err-shape-clause-refused

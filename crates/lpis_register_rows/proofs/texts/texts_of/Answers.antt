@@ -3,7 +3,7 @@ use Rattle.std.specs.List.{AllZip}
 use Rattle.lpis_register_rows.proofs.Common.{take-at}
 use Rattle.lpis_register_rows.proofs.ShapeLemmas.{zip-push}
 use Rattle.lpis_register_rows.specs.Content.{StoredText}
-use Rattle.lpis_register_rows.specs.Shapes.{IsTextOf, Shape}
+use Rattle.lpis_register_rows.specs.Shapes.{IsTextOf}
 use Rattle.lpis_register_rows.proofs.texts.texts_of.Goals as goal
 
 pub loop-shape-preserved : goal.loop-shape-preserved
