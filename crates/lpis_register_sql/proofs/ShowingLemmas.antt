@@ -1,7 +1,7 @@
 -- What the queries show.
 use Rattle.std.proofs.Common.{◌≡◌, ◌⊎◌, inl, inr, ℕ, List, [], ◌∷◌, map, drop, Ok, Err, Result, IfOk, refl, sym, ap, ap₂, subst, ◌∙◌, IsPermutation, IsTrue, true, IfErr, Vec, IsSorted, Global}
 use Rattle.lpis_register_sql.proofs.Common.{flat_map_single, IsPermutation-map, IsPermutation-trans, Null, Row, column, Term, overlay, IsAnswer, Output, output, Database, understood, Error, State}
-use Rattle.lpis_register_sql.proofs.Common.{HasCleanDisk, Survives, Content, Format, Layout, Origin, schema_of, origin_of, has_spans, has_live, has_texts, has_marks, span_tree, text_tree, mark_tree, read_format, read_release, read_span, read_line, read_live, read_text, read_mark, Holds}
+use Rattle.lpis_register_sql.proofs.Common.{HasCleanDisk, Survives, Content, Format, Layout, schema_of, origin_of, has_spans, has_live, has_texts, has_marks, span_tree, text_tree, mark_tree, read_format, read_release, read_span, read_line, read_live, read_text, read_mark, Holds}
 use Rattle.lpis_register_sql.proofs.Common.{IsStored, format_row, year_row, span_row, line_row, live_row, text_row, mark_row}
 use Rattle.std.proofs.lemmas.List.{map-id}
 use Rattle.sqlite_value.specs.declared.keys.Key.{Key}

@@ -1,5 +1,5 @@
 -- What making the tables and moving them commits, if anything.
-use Rattle.std.specs.Prelude.{◌≡◌, Bool, List, IsTrue}
+use Rattle.std.specs.Prelude.{◌≡◌, false, List}
 use Rattle.sqlite.specs.Tree.{Trees}
 use Rattle.sqlite.specs.State.{State}
 use Rattle.lpis_register_rows.specs.Content.{Content, StoredSpan, moved, no_content, raised}
@@ -11,8 +11,9 @@ use Rattle.lpis_register_sql.specs.Quiet.{IsFound}
 use Rattle.lpis_register_sql.specs.declared.found.Found.{Found}
 
 -- the tables of a new register, where there was none
-abbrev pub LeavesMade : Bool → State → Trees → Type 0
-LeavesMade is_new old trees = IsTrue is_new → IsBare old → Leaves (Whole New) no_content trees
+abbrev pub LeavesMade : Found → State → Trees → Type 0
+LeavesMade found old trees =
+    found.format ≡ false → IsBare old → Leaves (Whole New) no_content trees
 
 -- these spans in place of the rows of version 1
 abbrev pub LeavesMoved : Found → List StoredSpan → State → Trees → Type 0

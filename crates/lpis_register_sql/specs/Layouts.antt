@@ -3,9 +3,11 @@ use Rattle.std.specs.Prelude.{ℕ, Bool, true, false, [], ◌∷◌, ◌++◌, L
 use Rattle.sqlite.specs.Schema.{Schema}
 use Rattle.sqlite.specs.Table.{Table}
 use Rattle.sqlite_schema.specs.declared.schema.Index.{Index}
-use Rattle.lpis_register_sql.specs.Tables.{format_table, release_table, live_table, span_table, row_table}
+use Rattle.lpis_register_sql.specs.Tables.{format_table, release_table, live_table, span_table}
+use Rattle.lpis_register_sql.specs.Tables.{row_table}
 use Rattle.lpis_register_sql.specs.Tables.{text_table, mark_table}
-use Rattle.lpis_register_sql.specs.Tables.{live_index, span_index, row_index, text_index, mark_index}
+use Rattle.lpis_register_sql.specs.Tables.{live_index, span_index, row_index, text_index}
+use Rattle.lpis_register_sql.specs.Tables.{mark_index}
 
 -- where a register comes from
 pub data Origin : Type 0 where

@@ -4,7 +4,7 @@ ghost use Rattle.std.specs.Prelude.{◌≡◌, true, false};
 ghost use Rattle.std.specs.List.{list_any};
 ghost use Rattle.sqlite_schema.specs.Names.{same_name};
 ghost use Rattle.lpis_register_sql.specs.Quiet.{IsFound};
-ghost use Rattle.lpis_register_sql.specs.Layouts.{no_schema, schema_of};
+ghost use Rattle.lpis_register_sql.specs.Layouts.{has_marks, no_schema, schema_of};
 
 use sqlite_schema::schema::Schema;
 
@@ -26,6 +26,13 @@ pub struct Found {
 }
 
 impl Found {
+    /// Whether each table of version 3 is there.
+    pub fn is_whole(&self) -> bool
+        ensures { (layout : _) → IsFound self.now layout → result ≡ has_marks layout }
+    {
+        self.spans & self.texts & self.marks
+    }
+
     /// The tables once those that are not there are made.
     pub fn completed(self) -> Found
         ensures made { (result.spans ≡ true) × (result.texts ≡ true) × (result.marks ≡ true) }

@@ -4,7 +4,7 @@ ghost use Rattle.std.specs.Prelude.{◌≡◌, true, false, IsPermutation};
 ghost use Rattle.sqlite.specs.Held.{state};
 ghost use Rattle.lpis_register_rows.specs.Content.{without_live, without_texts};
 ghost use Rattle.lpis_register_rows.specs.Tells.{IsSameContent};
-ghost use Rattle.lpis_register_sql.specs.Layouts.{has_marks, has_texts};
+ghost use Rattle.lpis_register_sql.specs.Layouts.{has_marks};
 ghost use Rattle.lpis_register_sql.specs.Quiet.{IsFound, Reads};
 
 use crate::found::Found;
@@ -26,15 +26,7 @@ pub fn load<S: Alter>(alloc: Global, conn: &mut Connection<S>) -> Result<Rows, E
     let spans: Vec<SpanRow> = load_rows(alloc, conn, true)?;
     let lines: Vec<LineRow> = load_rows(alloc, conn, true)?;
     let marks: Vec<MarkRow> = load_rows(alloc, conn, true)?;
-    Ok(Rows::new(
-        formats,
-        years,
-        spans,
-        lines,
-        Vec::new(alloc),
-        Vec::new(alloc),
-        marks,
-    ))
+    Ok(Rows::new(formats, years, spans, lines, Vec::new(alloc), marks))
 }
 
 /// The rows of the tables that were found, but for the texts.
@@ -54,20 +46,20 @@ pub fn load_found<S: Alter>(
     let lines: Vec<LineRow> = load_rows(alloc, conn, true)?;
     let lives: Vec<LiveRow> = load_rows(alloc, conn, found.lives)?;
     let marks: Vec<MarkRow> = load_rows(alloc, conn, found.marks)?;
-    Ok(Rows::new(formats, years, spans, lines, lives, Vec::new(alloc), marks))
+    Ok(Rows::new(formats, years, spans, lines, lives, marks))
 }
 
-/// The texts of shapes, where their table is there.
+/// The texts of shapes, where their table was found.
 pub fn load_texts<S: Alter>(
     alloc: Global,
     conn: &mut Connection<S>,
-    there: bool,
+    found: &Found,
 ) -> Result<Vec<TextRow>, Error>
     requires autocommit { conn.old.in_transaction ≡ false }
     ensures autocommit { conn.new.in_transaction ≡ false }
-    ensures reads { Reads (λ layout. there ≡ has_texts layout)
+    ensures reads { Reads (IsFound found.now)
         (λ c texts. IsPermutation c.texts texts.items) (state S.Store conn.old)
         (state S.Store conn.new) result }
 {
-    load_rows(alloc, conn, there)
+    load_rows(alloc, conn, found.texts)
 }

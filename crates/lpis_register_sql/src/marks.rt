@@ -2,10 +2,12 @@
 
 ghost use Rattle.std.specs.Prelude.{◌≡◌, ◌<◌, ◌^◌, ◌∷◌, [], pos};
 ghost use Rattle.sqlite.specs.Held.{state};
-ghost use Rattle.lpis_register_rows.specs.Content.{marks_from, with_mark, with_marks, without_marks};
+ghost use Rattle.lpis_register_rows.specs.Content.{marks_from, with_mark, with_marks};
+ghost use Rattle.lpis_register_rows.specs.Content.{without_marks};
 ghost use Rattle.lpis_register_sql.specs.private.Inside.{IsQuiet, Turns};
 ghost use Rattle.lpis_register_sql.specs.private.Lines.{mark_at};
 
+use lpis_lineage::Row;
 use sqlite::{Alter, Error, Transaction, params};
 
 /// No mark is left.
@@ -39,41 +41,41 @@ pub(crate) fn insert_mark<S: Alter>(
     Ok(())
 }
 
-/// The mark of a row at a position, where it is marked.
+/// The mark of a row of lineage at its position, where it is marked exact.
 fn insert_if<S: Alter>(
     tx: &mut Transaction<'_, S>,
     year: u32,
     position: usize,
-    exact: &bool,
+    row: &Row,
 ) -> Result<(), Error>
     requires small { position < 2 ^ 63 }
     ensures same_reference { tx.new.conn.ghost_name ≡ tx.old.conn.ghost_name }
-    ensures adds { Turns (with_marks (marks_from (pos year) position (exact.now ∷ [])))
+    ensures adds { Turns (with_marks (marks_from (pos year) position (row.now ∷ [])))
         (state S.Store tx.old.conn.now) (state S.Store tx.new.conn.now) result }
     ensures quiet { IsQuiet (state S.Store tx.old.conn.now) (state S.Store tx.new.conn.now) }
 {
-    if *exact {
+    if row.exact {
         insert_mark(tx, year, position)
     } else {
         Ok(())
     }
 }
 
-/// The marks of a release's rows, of which these say which are marked.
+/// The marks of a release's rows, at their positions from 0.
 pub(crate) fn insert_marks<S: Alter>(
     tx: &mut Transaction<'_, S>,
     year: u32,
-    exacts: &[bool],
+    rows: &[Row],
 ) -> Result<(), Error>
     ensures same_reference { tx.new.conn.ghost_name ≡ tx.old.conn.ghost_name }
-    ensures adds { Turns (with_marks (marks_from (pos year) 0 exacts.now))
+    ensures adds { Turns (with_marks (marks_from (pos year) 0 rows.now))
         (state S.Store tx.old.conn.now) (state S.Store tx.new.conn.now) result }
     ensures quiet { IsQuiet (state S.Store tx.old.conn.now) (state S.Store tx.new.conn.now) }
 {
     // Which is below 2^63.
-    let _ = exacts.len();
-    for (position, exact) in exacts.iter().enumerate() {
-        insert_if(tx, year, position, exact)?;
+    let _ = rows.len();
+    for (position, row) in rows.iter().enumerate() {
+        insert_if(tx, year, position, row)?;
     }
     Ok(())
 }

@@ -44,23 +44,23 @@ fn fill_rows<S: Alter>(
     tx: &mut Transaction<'_, S>,
     year: u32,
     rows: &[Row],
-    exacts: &[bool],
     texts: &[TextRow],
 ) -> Result<(), Error>
     ensures same_reference { tx.new.conn.ghost_name ≡ tx.old.conn.ghost_name }
-    ensures adds { Turns (λ c. released texts.now (marks_from (pos year) 0 exacts.now)
+    ensures adds { Turns (λ c. released texts.now (marks_from (pos year) 0 rows.now)
         (with_lines (lines_from (pos year) 0 rows.now) c))
         (state S.Store tx.old.conn.now) (state S.Store tx.new.conn.now) result }
     ensures quiet { IsQuiet (state S.Store tx.old.conn.now) (state S.Store tx.new.conn.now) }
 {
     insert_lines(tx, year, rows)?;
-    insert_marks(tx, year, exacts)?;
+    insert_marks(tx, year, rows)?;
     replace_texts(tx, texts)
 }
 
 /// Writes a release in one transaction: its year, the spans of the identifiers that it drops, which
 /// end with the last release's year, the spans of those that are new with it, its rows with their
-/// marks, and its texts in place of the last release's. It is written whole or not at all.
+/// marks, and its texts in place of the last release's. It is written whole or not at all. Texts
+/// that ascend by identifier stand in that order in their table.
 pub fn write_release<S: Alter>(
     conn: &mut Connection<S>,
     year: u32,
@@ -68,7 +68,6 @@ pub fn write_release<S: Alter>(
     dropped: &[Id],
     fresh: &[Id],
     rows: &[Row],
-    exacts: &[bool],
     texts: &[TextRow],
 ) -> Result<(), Error>
     requires autocommit { conn.old.in_transaction ≡ false }
@@ -77,23 +76,23 @@ pub fn write_release<S: Alter>(
         → IsStored (Whole origin) (state S.Store conn.old) c
         → OnOk result
         (IsStored (Whole origin) (state S.Store conn.new)
-        (released texts.now (marks_from (pos year) 0 exacts.now)
+        (released texts.now (marks_from (pos year) 0 rows.now)
         (published (pos year) (pos last) dropped.now fresh.now rows.now c))) }
     ensures err { HasCleanDisk (state S.Store conn.new) → IsTrue (state S.Store conn.new).is_open
         → (origin : _) (c : _) → IsStored (Whole origin) (state S.Store conn.old) c
         → OnErr result (IsStored (Whole origin) (state S.Store conn.new) c) }
     ensures crash { (origin : _) (c : _) → IsStored (Whole origin) (state S.Store conn.old) c
         → Survives (state S.Store conn.old) (state S.Store conn.new)
-        (Leaves (Whole origin) (released texts.now (marks_from (pos year) 0 exacts.now)
+        (Leaves (Whole origin) (released texts.now (marks_from (pos year) 0 rows.now)
         (published (pos year) (pos last) dropped.now fresh.now rows.now c))) }
     ensures durable { HasCleanDisk (state S.Store conn.new) → (origin : _) (c : _)
         → IsStored (Whole origin) (state S.Store conn.old) c
         → OnOk result ((db : _) → (state S.Store conn.new).may_leave db
-        → Leaves (Whole origin) (released texts.now (marks_from (pos year) 0 exacts.now)
+        → Leaves (Whole origin) (released texts.now (marks_from (pos year) 0 rows.now)
         (published (pos year) (pos last) dropped.now fresh.now rows.now c)) db) }
 {
     let mut tx = conn.transaction();
     fill(&mut tx, year, last, dropped, fresh)?;
-    fill_rows(&mut tx, year, rows, exacts, texts)?;
+    fill_rows(&mut tx, year, rows, texts)?;
     tx.commit()
 }

@@ -41,13 +41,13 @@ pub(crate) trait Stored: Drop {
         → has_table layout ≡ false → rows c ≡ [] };
 }
 
-/// All of them.
-fn read_all<T: Stored>(alloc: Global, rows: &[Row]) -> Result<Vec<T>, Error>
-    ensures { IfOk result (λ all. all.items ≡ map T.shown rows.now) }
+/// All of them. Each row of the answer is let go once it is read, so that no text is held twice.
+fn read_all<T: Stored>(alloc: Global, rows: Vec<Row>) -> Result<Vec<T>, Error>
+    ensures { IfOk result (λ all. all.items ≡ map T.shown rows.items) }
 {
     let mut all = Vec::new(alloc);
     for row in rows {
-        all.push(T::read(row)?)?;
+        all.push(T::read(&row)?)?;
     }
     Ok(all)
 }
@@ -66,7 +66,7 @@ pub(crate) fn load_rows<T: Stored, S: Alter>(
 {
     if there {
         let rows = T::query(conn)?;
-        read_all(alloc, rows.as_slice())
+        read_all(alloc, rows)
     } else {
         Ok(Vec::new(alloc))
     }

@@ -6,12 +6,14 @@ ghost use Rattle.sqlite.specs.State.{HasCleanDisk, Survives};
 ghost use Rattle.lpis_register_rows.specs.Content.{no_content};
 ghost use Rattle.lpis_register_sql.specs.Layouts.{New, First, Moved, LessTexts, LessMarks};
 ghost use Rattle.lpis_register_sql.specs.Layouts.{Whole, schema_of, no_schema};
-ghost use Rattle.lpis_register_sql.specs.private.Stages.{one_table, two_tables, three_tables, Stage};
+ghost use Rattle.lpis_register_sql.specs.private.Stages.{one_table, two_tables, three_tables};
+ghost use Rattle.lpis_register_sql.specs.private.Stages.{Stage};
 ghost use Rattle.lpis_register_sql.specs.Bare.{IsBare};
 ghost use Rattle.lpis_register_sql.specs.private.Inside.{Inside, IsQuiet};
 ghost use Rattle.lpis_register_sql.specs.Holding.{IsStored};
 ghost use Rattle.lpis_register_sql.specs.Commits.{LeavesMade};
 
+use crate::found::Found;
 use sqlite::{Alter, Connection, Error, Transaction};
 
 /// The table of the version.
@@ -125,21 +127,27 @@ fn insert_format<S: Alter>(tx: &mut Transaction<'_, S>) -> Result<(), Error>
     Ok(())
 }
 
-/// The row that tells the version, where its table was not there before.
-fn begin_format<S: Alter>(tx: &mut Transaction<'_, S>, is_new: bool) -> Result<(), Error>
+/// The row that tells the version, where its table was not found.
+fn begin_format<S: Alter>(tx: &mut Transaction<'_, S>, found: &Found) -> Result<(), Error>
     ensures same_reference { tx.new.conn.ghost_name ≡ tx.old.conn.ghost_name }
-    ensures begun { IsTrue is_new → HasCleanDisk (state S.Store tx.new.conn.now) → (base : _)
+    ensures begun { found.now.format ≡ false → HasCleanDisk (state S.Store tx.new.conn.now)
+        → (base : _)
         → Stage (schema_of (Whole New)) base (state S.Store tx.old.conn.now)
         → OnOk result (Inside (Whole New) base (state S.Store tx.new.conn.now) no_content) }
     ensures quiet { IsQuiet (state S.Store tx.old.conn.now) (state S.Store tx.new.conn.now) }
 {
-    if is_new { insert_format(tx) } else { Ok(()) }
+    if found.format {
+        Ok(())
+    } else {
+        insert_format(tx)
+    }
 }
 
-/// The tables that are not there, empty but for the version.
-fn make_all<S: Alter>(tx: &mut Transaction<'_, S>, is_new: bool) -> Result<(), Error>
+/// The tables that were not found, empty but for the version.
+fn make_all<S: Alter>(tx: &mut Transaction<'_, S>, found: &Found) -> Result<(), Error>
     ensures same_reference { tx.new.conn.ghost_name ≡ tx.old.conn.ghost_name }
-    ensures begun { IsTrue is_new → HasCleanDisk (state S.Store tx.new.conn.now) → (base : _)
+    ensures begun { found.now.format ≡ false → HasCleanDisk (state S.Store tx.new.conn.now)
+        → (base : _)
         → Stage no_schema base (state S.Store tx.old.conn.now)
         → OnOk result (Inside (Whole New) base (state S.Store tx.new.conn.now) no_content) }
     ensures quiet { IsQuiet (state S.Store tx.old.conn.now) (state S.Store tx.new.conn.now) }
@@ -150,25 +158,24 @@ fn make_all<S: Alter>(tx: &mut Transaction<'_, S>, is_new: bool) -> Result<(), E
     make_row(tx)?;
     make_text(tx)?;
     make_mark(tx)?;
-    begin_format(tx, is_new)
+    begin_format(tx, found)
 }
 
-/// Makes the tables that are not there, in one transaction. `is_new` says that the table of the
-/// version is among them.
-pub fn create<S: Alter>(conn: &mut Connection<S>, is_new: bool) -> Result<(), Error>
+/// Makes the tables that were not found, in one transaction.
+pub fn create<S: Alter>(conn: &mut Connection<S>, found: &Found) -> Result<(), Error>
     requires autocommit { conn.old.in_transaction ≡ false }
     ensures autocommit { conn.new.in_transaction ≡ false }
-    ensures made { IsTrue is_new → HasCleanDisk (state S.Store conn.new)
+    ensures made { found.now.format ≡ false → HasCleanDisk (state S.Store conn.new)
         → IsBare (state S.Store conn.old)
         → OnOk result (IsStored (Whole New) (state S.Store conn.new) no_content) }
-    ensures err { IsTrue is_new → HasCleanDisk (state S.Store conn.new)
+    ensures err { found.now.format ≡ false → HasCleanDisk (state S.Store conn.new)
         → IsTrue (state S.Store conn.new).is_open → IsBare (state S.Store conn.old)
         → OnErr result (IsBare (state S.Store conn.new)) }
     ensures clean { HasCleanDisk (state S.Store conn.new) → HasCleanDisk (state S.Store conn.old) }
     ensures crash { Survives (state S.Store conn.old) (state S.Store conn.new)
-        (LeavesMade is_new (state S.Store conn.old)) }
+        (LeavesMade found.now (state S.Store conn.old)) }
 {
     let mut tx = conn.transaction();
-    make_all(&mut tx, is_new)?;
+    make_all(&mut tx, found)?;
     tx.commit()
 }

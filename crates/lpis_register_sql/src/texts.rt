@@ -2,7 +2,8 @@
 
 ghost use Rattle.std.specs.Prelude.{◌≡◌};
 ghost use Rattle.sqlite.specs.Held.{state};
-ghost use Rattle.lpis_register_rows.specs.Content.{with_shapes, with_text, with_texts, without_texts};
+ghost use Rattle.lpis_register_rows.specs.Content.{with_shapes, with_text, with_texts};
+ghost use Rattle.lpis_register_rows.specs.Content.{without_texts};
 ghost use Rattle.lpis_register_sql.specs.private.Inside.{IsQuiet, Turns};
 ghost use Rattle.lpis_register_sql.specs.private.Lines.{text_at};
 

@@ -1,5 +1,5 @@
 use Rattle.std.proofs.Common.{◌∙◌, [], refl, sym, subst, IsPermutation}
-use Rattle.lpis_register_sql.proofs.Common.{IsPermutation-refl, has_marks, has_spans, Layout}
+use Rattle.lpis_register_sql.proofs.Common.{IsPermutation-refl}
 use Rattle.std.proofs.lemmas.Result.{err_from_is_err_and}
 use Rattle.lpis_register_sql.proofs.CompletingLemmas.{marks_with_spans}
 use Rattle.lpis_register_sql.proofs.QuietLemmas.{answered, nothing_yet, then, then_fails}
@@ -34,11 +34,11 @@ returns-clause-reads g c =
     let lines = then (λ s p. refl) spans c.in_ok-lines.ensures.reads in
     let marks = then (λ s p. sym p) lines c.in_ok-marks.ensures.reads in
     answered marks (λ content all. record {
-      formats = subst (IsPermutation content.formats) (sym c.new-3.ensures.formats) all.0.0.0.0.1;
-      years = subst (IsPermutation content.years) (sym c.new-3.ensures.years) all.0.0.0.1;
-      spans = subst (IsPermutation content.spans) (sym c.new-3.ensures.spans) all.0.0.1;
-      lines = subst (IsPermutation content.lines) (sym c.new-3.ensures.lines) all.0.1;
-      live = subst (IsPermutation []) (sym (c.new-3.ensures.live ∙ c.new.ensures.items)) (IsPermutation-refl []);
-      texts = subst (IsPermutation []) (sym (c.new-3.ensures.texts ∙ c.new-2.ensures.items)) (IsPermutation-refl []);
-      marks = subst (IsPermutation content.marks) (sym c.new-3.ensures.marks) all.1;
+      formats = subst (IsPermutation content.formats) (sym c.new-2.ensures.formats) all.0.0.0.0.1;
+      years = subst (IsPermutation content.years) (sym c.new-2.ensures.years) all.0.0.0.1;
+      spans = subst (IsPermutation content.spans) (sym c.new-2.ensures.spans) all.0.0.1;
+      lines = subst (IsPermutation content.lines) (sym c.new-2.ensures.lines) all.0.1;
+      live = subst (IsPermutation []) (sym (c.new-2.ensures.live ∙ c.new.ensures.items)) (IsPermutation-refl []);
+      texts = subst (IsPermutation []) (sym c.new-2.ensures.texts) (IsPermutation-refl []);
+      marks = subst (IsPermutation content.marks) (sym c.new-2.ensures.marks) all.1;
     })

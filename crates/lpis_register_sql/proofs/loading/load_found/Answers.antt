@@ -1,4 +1,4 @@
-use Rattle.std.proofs.Common.{◌∙◌, [], refl, sym, subst, IsPermutation}
+use Rattle.std.proofs.Common.{[], refl, sym, subst, IsPermutation}
 use Rattle.lpis_register_sql.proofs.Common.{IsPermutation-refl}
 use Rattle.std.proofs.lemmas.Result.{err_from_is_err_and}
 use Rattle.lpis_register_sql.proofs.QuietLemmas.{answered, nothing_yet, then, then_fails}
@@ -43,11 +43,11 @@ returns-clause-reads g c =
     let lives = then (λ s p. p.lives) lines c.in_ok-lives.ensures.reads in
     let marks = then (λ s p. p.marks) lives c.in_ok-marks.ensures.reads in
     answered marks (λ content all. record {
-      formats = subst (IsPermutation content.formats) (sym c.new-2.ensures.formats) all.0.0.0.0.0.1;
-      years = subst (IsPermutation content.years) (sym c.new-2.ensures.years) all.0.0.0.0.1;
-      spans = subst (IsPermutation content.spans) (sym c.new-2.ensures.spans) all.0.0.0.1;
-      lines = subst (IsPermutation content.lines) (sym c.new-2.ensures.lines) all.0.0.1;
-      live = subst (IsPermutation content.live) (sym c.new-2.ensures.live) all.0.1;
-      texts = subst (IsPermutation []) (sym (c.new-2.ensures.texts ∙ c.new.ensures.items)) (IsPermutation-refl []);
-      marks = subst (IsPermutation content.marks) (sym c.new-2.ensures.marks) all.1;
+      formats = subst (IsPermutation content.formats) (sym c.new.ensures.formats) all.0.0.0.0.0.1;
+      years = subst (IsPermutation content.years) (sym c.new.ensures.years) all.0.0.0.0.1;
+      spans = subst (IsPermutation content.spans) (sym c.new.ensures.spans) all.0.0.0.1;
+      lines = subst (IsPermutation content.lines) (sym c.new.ensures.lines) all.0.0.1;
+      live = subst (IsPermutation content.live) (sym c.new.ensures.live) all.0.1;
+      texts = subst (IsPermutation []) (sym c.new.ensures.texts) (IsPermutation-refl []);
+      marks = subst (IsPermutation content.marks) (sym c.new.ensures.marks) all.1;
     })

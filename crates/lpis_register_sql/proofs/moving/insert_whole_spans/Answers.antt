@@ -1,4 +1,4 @@
-use Rattle.std.proofs.Common.{◌≡◌, arith, take, length, ◌<◌}
+use Rattle.std.proofs.Common.{arith, take, length, ◌<◌}
 use Rattle.lpis_register_sql.proofs.Common.{state, with_whole_spans, with_whole_span}
 use Rattle.lpis_register_sql.proofs.StepLemmas.{at_end, one_more, quiet_on}
 use Rattle.lpis_register_sql.proofs.LoopLemmas.{more}

@@ -49,7 +49,7 @@ returns-clause-crash g c origin content r =
     c.in_ok-fill_rows.ensures.adds at_last origin _ _ (c.in_ok-fill.ensures.adds at_mid origin _ _ begun) in
     let quiet = (quiet_on (state g.S.Store first) mid last c.fill.ensures.quiet c.fill_rows.ensures.quiet).survives in
     let quiet_since = survives_begin g.S.Store c.args.conn.now last _ (rw c.transaction-tx.ensures.begun at quiet) in
-    let P = Leaves (Whole origin) (released c.args.texts.now (marks_from (pos c.args.year) 0 c.args.exacts.now) (published (pos c.args.year) (pos c.args.last) c.args.dropped.now c.args.fresh.now c.args.rows.now content)) in
+    let P = Leaves (Whole origin) (released c.args.texts.now (marks_from (pos c.args.year) 0 c.args.rows.now) (published (pos c.args.year) (pos c.args.last) c.args.dropped.now c.args.fresh.now c.args.rows.now content)) in
     rw (← same) (crashed old last new _ P quiet_since c.commit.ensures.survives
     (λ clean db is. subst P (sym is) (leaves (Whole origin) last.now _ (inside clean).holds)))
 

@@ -1,4 +1,4 @@
-use Rattle.std.proofs.Common.{◌≡◌, pos, arith, take, length, ◌<◌}
+use Rattle.std.proofs.Common.{pos, arith, take, length, ◌<◌}
 use Rattle.lpis_register_sql.proofs.Common.{state}
 use Rattle.lpis_register_rows.specs.Content.{with_spans, with_span}
 use Rattle.lpis_register_sql.proofs.StepLemmas.{at_end, one_more, quiet_on}
