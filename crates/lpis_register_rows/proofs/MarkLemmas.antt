@@ -1,8 +1,8 @@
 -- Lines and marks of a history, and lines that get their marks.
 use Rattle.std.proofs.Common.{◌≡◌, ◌∙◌, ◌<◌, ◌≤◌, ◌+◌, ◌⊎◌, refl, sym, ap, ap₂, subst, arith, ℕ, zero, suc, ℤ, pos, List, [], ◌∷◌, ◌++◌, Bool, true, false, cond, length, map, take, drop, get_or, set, Option, IsPermutation, ◌&&◌}
 use Rattle.std.proofs.Common.{All, IsSorted, IsSortedByKey, int_eq, is_lt}
-use Rattle.lpis_register_rows.proofs.Common.{AllByRecursion, recursion_from_All, map-append, Entry, Row, IsLawful, KnownLine, Line, lines_from, text_of, IsKept, lines_of, HasText, line_cmp, line_in, known_from, known_of}
-use Rattle.lpis_register_rows.proofs.Common.{IsPermutation-sym, IsPermutation-trans, Mark, marks_from, marks_of, mark_cmp, mark_in, marked, marks_in, marks_line, is_next, later, unused, walked}
+use Rattle.lpis_register_rows.proofs.Common.{AllByRecursion, recursion_from_All, map-append, Entry, Row, IsLawful, KnownLine, Line, lines_from, text_of, IsKept, lines_of, HasText, line_in, known_from, known_of}
+use Rattle.lpis_register_rows.proofs.Common.{IsPermutation-sym, IsPermutation-trans, Mark, marks_of, marks_in, walked}
 use Rattle.std.specs.Cmp.{IsTotalOrder, signed_Decides}
 use Rattle.std.proofs.lemmas.Bool.{and_parts}
 use Rattle.std.proofs.lemmas.Cmp.{int_cmp_total, on_total, then_total}
@@ -13,6 +13,9 @@ use Rattle.std.proofs.lemmas.List.Sorted.{IsPermutation-refl, ranks_by, sorted_f
 use Rattle.lpis_register_rows.proofs.AscendingLemmas.{Ascends, all-append, below}
 use Rattle.lpis_register_rows.proofs.KnownRowLemmas.{have-texts, same-text}
 use Rattle.lpis_register_rows.proofs.SortingLemmas.{Less_by, Rises, ascends-map, lines-less, rises-far, sorted-lines, sorted-same}
+use Rattle.lpis_register_rows.specs.private.Marking.{mark_cmp, mark_in, marked, marks_line, is_next, later, unused}
+use Rattle.lpis_register_rows.specs.Content.{marks_from}
+use Rattle.lpis_register_rows.specs.private.Known.{line_cmp}
 use Rattle.lpis_register_rows.proofs.YearLemmas.{line_below, line-alone, lines-ascend, years-ascend}
 
 -- ---- the lines and the marks of a history, of its rows

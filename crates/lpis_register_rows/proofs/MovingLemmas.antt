@@ -1,10 +1,10 @@
 -- Rows in another order; moving from version 1 to 3; tables with no release.
 use Rattle.std.proofs.Common.{◌≡◌, ◌∙◌, ◌↔◌, refl, sym, ap, subst, arith, ℕ, pos, zero, suc, List, [], ◌∷◌, length, map, IsPermutation, Contains}
-use Rattle.lpis_register_rows.proofs.Common.{IsPermutation-sym, Entry, Content, Live, Mark, StoredSpan, LiveTells, SpansTell, Tells, TellsLive, TellsSpans, only_format}
+use Rattle.lpis_register_rows.proofs.Common.{IsPermutation-sym, Entry, Content, Live, Mark, StoredSpan, LiveTells, SpansTell, TellsLive, TellsSpans, only_format}
 use Rattle.std.proofs.lemmas.List.{append-nil}
 use Rattle.std.proofs.lemmas.List.Sorted.{IsPermutation-refl, Contains-permutation, length_permutation}
 use Rattle.lpis_register_rows.specs.Content.{Format, at_version, moved, no_content, raised, without_live, without_spans, without_texts}
-use Rattle.lpis_register_rows.specs.Tells.{IsSameContent, Says}
+use Rattle.lpis_register_rows.specs.Tells.{IsSameContent, Says, Tells}
 use Rattle.lpis_register_rows.proofs.FoldLemmas.{rev-moved, rev_onto, whole-spans-made}
 use Rattle.lpis_register_rows.specs.declared.version.Version.{Version}
 use Rattle.lpis_register_rows.specs.declared.version.Version.TheVariants.{First, Second, Third}

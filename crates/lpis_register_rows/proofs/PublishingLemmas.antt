@@ -5,7 +5,7 @@ use Rattle.lpis_register_rows.proofs.Common.{AllByRecursion, list_any, slice_cmp
 use Rattle.lpis_register_rows.proofs.Common.{IsLawful}
 use Rattle.lpis_register_rows.proofs.Common.{RowsFit, entry_at, holds, last_live, first_held, last_held, span_of, entry-after, entry-before, entry-here}
 use Rattle.lpis_register_rows.proofs.Common.{same-exact, same-refl, filter-none, longer, before-at-after}
-use Rattle.lpis_register_rows.proofs.Common.{Content, Line, StoredSpan, lines_from, IsKept, IsSpanRow, Mark, SpansTell, Tells, TellsSpans, last_of_years, lines_of, marks_from, marks_of, shown, years_of}
+use Rattle.lpis_register_rows.proofs.Common.{Content, Line, StoredSpan, lines_from, IsKept, IsSpanRow, Mark, SpansTell, TellsSpans, last_of_years, lines_of, marks_of, shown, years_of}
 use Rattle.std.specs.List.Sorted.{IsStrictlySortedBy}
 use Rattle.std.proofs.lemmas.List.{append-nil, append_assoc}
 use Rattle.std.proofs.lemmas.List.Sorted.{IsPermutation-cons, IsPermutation-to_front, IsPermutation-append_right, IsPermutation-append_comm}
@@ -18,8 +18,8 @@ use Rattle.lpis_lineage.specs.Order.{IsAscending}
 use Rattle.lpis_lineage.specs.Spans.{span_between}
 use Rattle.lpis_lineage.proofs.Shared.{same-by_order, filter-append, follows-back, first-index, span-more}
 use Rattle.lpis_register_rows.specs.Shapes.{AreLive, IsLive, Shape}
-use Rattle.lpis_register_rows.specs.Content.{StoredText, published, released, with_mark, with_marks, with_text, with_texts, without_texts}
-use Rattle.lpis_register_rows.specs.Tells.{IsWriting}
+use Rattle.lpis_register_rows.specs.Content.{StoredText, published, released, with_mark, with_marks, with_text, with_texts, without_texts, marks_from}
+use Rattle.lpis_register_rows.specs.Tells.{IsWriting, Tells}
 use Rattle.lpis_register_rows.proofs.AscendingLemmas.{all-append, all-map}
 use Rattle.lpis_register_rows.proofs.FoldLemmas.{end_among, fresh_span, published-is, rev-moved, rev_onto}
 use Rattle.lpis_register_rows.proofs.SpanRowLemmas.{spans-moved, told-some}

@@ -1,7 +1,7 @@
 -- What is sorted and has the elements of a list that ascends strictly is that list.
 use Rattle.std.proofs.Common.{◌≡◌, ◌∙◌, ◌<◌, ◌≤◌, inl, inr, refl, sym, ap, arith, ℕ, suc, ℤ, pos, List, [], ◌∷◌, Bool, true, false, cond, length, map, get_or, IsPermutation, Ordering, ◌&&◌}
 use Rattle.std.proofs.Common.{◌||◌, not, IsSorted, Less, Equal, filter, IsSortedByKey, int_cmp, is_lt, nat_cmp}
-use Rattle.lpis_register_rows.proofs.Common.{AllByRecursion, list_any, nat_tests, IsPermutation-sym, IsPermutation-trans, filter-none, KnownLine, Line, line_cmp, line_in}
+use Rattle.lpis_register_rows.proofs.Common.{AllByRecursion, list_any, nat_tests, IsPermutation-sym, IsPermutation-trans, filter-none, KnownLine, Line, line_in}
 use Rattle.std.specs.Cmp.{IsStrictWeakOrder, IsTotalOrder, int_cmp_is}
 use Rattle.std.specs.List.Sorted.{ties}
 use Rattle.std.specs.Ordering.{ordering_then}
@@ -11,6 +11,7 @@ use Rattle.std.proofs.lemmas.List.Sorted.{ranks_by, sorted_far}
 use Rattle.lpis_lineage.proofs.Shared.{filter-some}
 use Rattle.lpis_register_rows.proofs.AscendingLemmas.{Ascends, all-map, below, same-ascending}
 use Rattle.lpis_register_rows.proofs.SpanRowLemmas.{count-moved}
+use Rattle.lpis_register_rows.specs.private.Known.{line_cmp}
 use Rattle.lpis_register_rows.proofs.YearLemmas.{line_below}
 
 pub ascends-map : {A : Type 0} (R S : A → A → Type 0) (xs : List A) → ((x y : A) → R x y → S x y) → Ascends R xs → Ascends S xs

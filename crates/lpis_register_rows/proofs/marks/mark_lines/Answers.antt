@@ -1,7 +1,8 @@
 use Rattle.std.proofs.Common.{◌≡◌, ◌∙◌, ◌<◌, ap, arith, cond, drop, length, sym, set, Bool}
-use Rattle.lpis_register_rows.proofs.Common.{KnownLine, is_next, later, marked}
+use Rattle.lpis_register_rows.proofs.Common.{KnownLine}
 use Rattle.lpis_register_rows.proofs.MarkLemmas.{next-within, unused-step, used-next, walk-step}
 use Rattle.lpis_register_rows.proofs.marks.mark_lines.Goals.{then-named, else-named}
+use Rattle.lpis_register_rows.specs.private.Marking.{is_next, later, marked}
 use Rattle.lpis_register_rows.proofs.marks.mark_lines.Goals as goal
 
 pub loop-line-preserved : goal.loop-line-preserved

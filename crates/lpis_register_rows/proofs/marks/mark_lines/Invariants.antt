@@ -1,5 +1,6 @@
 use Rattle.std.proofs.Common.{◌≡◌, ◌≤◌, ◌++◌, drop, length, take}
-use Rattle.lpis_register_rows.proofs.Common.{unused, walked}
+use Rattle.lpis_register_rows.proofs.Common.{walked}
+use Rattle.lpis_register_rows.specs.private.Marking.{unused}
 use Rattle.lpis_register_rows.proofs.marks.mark_lines.Given as goal
 
 abbrev pub invariant-loop-line : goal.invariant-loop-line
