@@ -7,24 +7,17 @@ import sys
 import time
 
 from common import done
+from registers import TABLES
 
 YEARS = range(2021, 2031)
-COMMON = """
-PRAGMA journal_mode = WAL;
-CREATE TABLE lpis_format (one INTEGER NOT NULL PRIMARY KEY, version INTEGER NOT NULL) STRICT;
-CREATE TABLE lpis_release (year INTEGER NOT NULL PRIMARY KEY) STRICT;
-"""
-SPAN = """CREATE TABLE lpis_span (id TEXT NOT NULL PRIMARY KEY, since INTEGER NOT NULL REFERENCES lpis_release (year),
-until INTEGER NOT NULL) STRICT;"""
-LIVE = """CREATE TABLE lpis_live (year INTEGER NOT NULL REFERENCES lpis_release (year), id TEXT NOT NULL,
-PRIMARY KEY (year, id)) STRICT;"""
-ROW = """CREATE TABLE lpis_row (year INTEGER NOT NULL REFERENCES lpis_release (year), pos INTEGER NOT NULL,
-old TEXT NOT NULL, new TEXT NOT NULL, PRIMARY KEY (year, pos)) STRICT;"""
+POINTS = 56  # of a text: 1,354 bytes, so that 100,000 weigh 135 MB
 INSERT_SPAN = "INSERT INTO lpis_span (id, since, until) VALUES (?1, ?2, ?3)"
 INSERT_ROW = "INSERT INTO lpis_row (year, pos, old, new) VALUES (?1, ?2, ?3, ?4)"
+INSERT_TEXT = "INSERT INTO lpis_text (id, wkt) VALUES (?1, ?2)"
 QUERIES = (
     "SELECT one, version FROM lpis_format", "SELECT year FROM lpis_release ORDER BY year",
     "SELECT id, since, until FROM lpis_span ORDER BY id", "SELECT year, pos, old, new FROM lpis_row ORDER BY year, pos",
+    "SELECT year, pos FROM lpis_mark ORDER BY year, pos", "SELECT id, wkt FROM lpis_text ORDER BY id",
 )
 
 
@@ -34,10 +27,10 @@ def opened(path):
     return connection
 
 
-def made(path, tables, version, years, **rows):
+def made(path, version, years, **rows):
     """A register of these rows."""
     connection = opened(path)
-    connection.executescript(COMMON + tables)
+    connection.executescript("PRAGMA journal_mode = WAL;" + TABLES[version])
     connection.execute("BEGIN")
     connection.execute("INSERT INTO lpis_format VALUES (1, ?)", (version,))
     connection.executemany("INSERT INTO lpis_release VALUES (?)", [(year,) for year in years])
@@ -52,6 +45,25 @@ def names(count):
     return [f"parcel-{number:07}" for number in range(count)]
 
 
+def square_of(number):
+    """The corners of the square of a parcel, in whole metres, far from where coordinates are short."""
+    x, y = 1_000_000 + 10 * (number % 1_000), 5_000_000 + 10 * (number // 1_000)
+    return [(x, y), (x + 10, y), (x + 10, y + 10), (x, y + 10), (x, y)]
+
+
+def text_of(number):
+    """The text of a parcel as the register keeps it: a square of as many points as a digitised parcel has, most of them its first corner."""
+    corners = square_of(number)
+    corners = corners[:1] * (POINTS - len(corners)) + corners
+    return f"POLYGON(({','.join(f'{x}.000 {y}.000' for x, y in corners)}))"
+
+
+def with_texts(path, count, year=2021):
+    """A register of one year of so many parcels with their texts."""
+    ids = names(count)
+    return made(path, 3, [year], lpis_span=[(name, year, 0) for name in ids], lpis_text=[(name, text_of(number)) for number, name in enumerate(ids)])
+
+
 def ten_years(path, count):
     """A register of ten years of so many identifiers, of which a tenth is renamed each year. Answers one of its last year."""
     live, spans, lines = dict.fromkeys(names(count), YEARS[0]), [], []
@@ -63,7 +75,7 @@ def ten_years(path, count):
             live[new] = year
             lines.append((year, place, name, new))
     spans += [(name, since, 0) for name, since in live.items()]
-    made(path, SPAN + ROW, 2, YEARS, lpis_span=spans, lpis_row=lines)
+    made(path, 3, YEARS, lpis_span=spans, lpis_row=lines)
     return spans[-1][0]
 
 
@@ -72,6 +84,28 @@ def ten_years(path, count):
 
 def write_spans(connection, ids):
     connection.executemany(INSERT_SPAN, [(name, 2021, 0) for name in ids])
+
+
+def write_texts(connection, count):
+    connection.executemany(INSERT_TEXT, ((name, text_of(number)) for number, name in enumerate(names(count))))
+
+
+def write_release(connection, count):
+    """The first release of so many parcels."""
+    connection.execute("BEGIN")
+    connection.execute("INSERT INTO lpis_release (year) VALUES (2021)")
+    write_spans(connection, names(count))
+    write_texts(connection, count)
+    connection.execute("COMMIT")
+
+
+def replace_texts(connection, count):
+    """A further release that keeps all identifiers."""
+    connection.execute("BEGIN")
+    connection.execute("INSERT INTO lpis_release (year) VALUES (2022)")
+    connection.execute("DELETE FROM lpis_text")
+    write_texts(connection, count)
+    connection.execute("COMMIT")
 
 
 def end_spans(connection, ids):
@@ -87,7 +121,11 @@ def read_all(connection):
         connection.execute(query).fetchall()
 
 
-# Seconds: of wall, and of the processor.
+def read_texts(connection):
+    connection.execute(QUERIES[-1]).fetchall()
+
+
+# Seconds of wall and of the processor, and peak bytes.
 
 
 def copied(path):
@@ -101,13 +139,19 @@ def copied(path):
     return copy
 
 
-def by_program(path, words, line):
-    """Seconds of a program over a copy of a register, whose path comes in place of None; its last line has to be this one."""
+def run_over(path, words, line):
+    """A run of a program over a copy of a register, whose path comes in place of None; its last line has to be this one."""
     copy = copied(path)
     found = done([copy if word is None else word for word in words])
     if found.text.splitlines()[-1:] != [line]:
         sys.exit(f"{' '.join(map(str, words))}: {found.text[-300:]}")
-    return found.wall, found.seconds
+    return found
+
+
+def by_program(path, words, line):
+    """Seconds and peak bytes of such a run."""
+    found = run_over(path, words, line)
+    return found.wall, found.seconds, found.peak
 
 
 def by_sqlite(path, work):
@@ -117,18 +161,18 @@ def by_sqlite(path, work):
     connection = opened(copy)
     work(connection)
     connection.close()
-    return time.perf_counter() - start, time.process_time() - started
+    return time.perf_counter() - start, time.process_time() - started, 0
 
 
 def in_turns(runs, *works):
-    """The least seconds of each of some works, which take turns, since a machine is not as quick in each minute."""
+    """The least seconds and the greatest peak of each of some works, which take turns, since a machine is not as quick in each minute."""
     turns = [[work() for work in works] for _ in range(runs)]
-    return [tuple(min(column) for column in zip(*took)) for took in zip(*turns)]
+    return [tuple(worst(column) for worst, column in zip((min, min, max), zip(*took))) for took in zip(*turns)]
 
 
-def both(wall, busy):
+def both(wall, busy, *_):
     return f"{wall:.2f} s ({busy:.2f})"
 
 
 def ratios(one, other):
-    return tuple(a / max(b, 1e-9) for a, b in zip(one, other))
+    return tuple(a / max(b, 1e-9) for a, b in zip(one[:2], other[:2]))

@@ -1,9 +1,10 @@
 """Runs commands with the Nth request for memory refused, N from 1 to the last that they make: refusals.py REFUSE.SO [--all] [NAME..]
 
-Each run that met a refusal has to end with status 3, `failed memory` (or `failed store`, where the database met it) and nothing on standard output. A
-certificate that was there, and the history in the register, have to be as before, by SQLite; the same command afterwards has to answer as usual. A command over a
-register may also answer as usual and leave what it leaves as usual: the database does without room that only makes it faster. Each N is tried twice: alone, and
-with every later request refused too. A command over a register makes thousands of requests: SAMPLE of them are refused, from a fixed seed (--all: each).
+Each run that met a refusal has to end with status 3, `failed memory` (or `failed store`, where the database met it) and nothing on
+standard output. A certificate that was there, and the history and the shapes in the register, have to be as before, by SQLite; the same
+command afterwards has to answer as usual. A command over a register may also answer as usual and leave what it leaves as usual: the
+database does without room that only makes it faster. Each N is tried twice: alone, and with every later request refused too. A command
+over a register makes thousands of requests: SAMPLE of them are refused, from a fixed seed (--all: each).
 NAME: the commands whose names contain it. The last line counts the runs that met a refusal: 'N passed, M failed'.
 """
 
@@ -20,7 +21,7 @@ import tempfile
 
 TOP = pathlib.Path(__file__).resolve().parent.parent.parent
 sys.path.append(str(TOP / "bench"))
-from registers import VERSION_1, history, made  # noqa: E402
+from registers import VERSION_1, VERSION_2, VERSION_3, WITHOUT_MARKS, made, said  # noqa: E402
 
 EXAMPLES = TOP / "examples"
 LPIS = os.environ.get("LPIS") or str(TOP / "crates" / "lpis" / "out" / "lpis")
@@ -28,6 +29,9 @@ SECONDS, MANY, SAMPLE, SEED = 60, 1_000, 100, 20_261_123
 # A file system in memory, where there is one: the register is put on its disk by each publish.
 FAST = "/dev/shm" if os.access("/dev/shm", os.W_OK) else None
 MEMORY, STORE = (3, b"", b"failed memory\n"), (3, b"", b"failed store\n")
+
+# B with each corner of its shape many times: a text of 37 KB, on pages of its own.
+LONG = f"UPDATE lpis_text SET wkt = 'POLYGON(({','.join(f'{corner},' * 749 + corner for corner in ['0.000 0.000', '5.000 0.000', '5.000 10.000', '0.000 0.000'])}))' WHERE id = 'B'"
 
 # The parcels of examples/overlap with two triangles each and no pair line: refused with 67.
 OVERLAP = """lpis-cert 2
@@ -60,9 +64,9 @@ class Command:
             make(folder)
 
     def state(self, folder):
-        """What the kept file says: the history of a register, the bytes of a certificate."""
+        """What the kept file says: the history and the shapes of a register, the bytes of a certificate."""
         path = folder / self.kept if self.kept else None
-        return history(path) if self.kept == "years.db" else path and path.read_bytes()
+        return said(path) if self.kept == "years.db" else path and path.read_bytes()
 
 
 def older(folder):
@@ -84,8 +88,17 @@ def published(year):
     return make
 
 
-def first_version(folder):
-    made(folder / "years.db", VERSION_1)
+def register(*scripts):
+    return lambda folder: made(folder / "years.db", *scripts)
+
+
+def marked(folder):
+    """The second year, with a split and a merge that are marked."""
+    release = folder / "marked"
+    shutil.copytree(EXAMPLES / "years" / "2025", release)
+    lines = (release / "lineage.csv").read_text().splitlines()
+    (release / "lineage.csv").write_text("".join(f"{line},{mark}\n" for line, mark in zip(lines, ["exact", 1, 1, 1, 1, ""])))
+    expect(0, lpis(["cut", release, "cert.txt"], folder))
 
 
 def expect(status, answer):
@@ -124,11 +137,16 @@ COMMANDS = [
     Command("check of overlap, without pair lines", ["check", EXAMPLES / "overlap", "cert.txt"], [overlapping]),
     publish("2024, in a new file", "2024"),
     publish("2025, after 2024", "2025", published("2024")),
+    Command("publish of 2025 with marks, after 2024", ["publish", "years.db", "2025", "marked", "cert.txt"], [published("2024"), marked], "years.db"),
     publish("2025, a second time", "2025", published("2024"), published("2025")),
     trace("north", "north", published("2024"), published("2025")),
     trace("an identifier in no release", "brook", published("2024"), published("2025")),
     trace("a new file", "north"),
-    trace("a register of version 1", "A", first_version),
+    trace("a register of version 1", "A", register(VERSION_1)),
+    trace("a register of version 2", "A", register(VERSION_2)),
+    trace("a register of version 3", "A", register(VERSION_3)),
+    trace("a register of version 3 without lpis_mark", "A", register(WITHOUT_MARKS)),
+    trace("a register with a text of 3,000 points", "A", register(VERSION_3, LONG)),
 ]
 
 
