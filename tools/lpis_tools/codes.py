@@ -53,6 +53,8 @@ TABLES = {
            "split the country into releases (docs/USING.md says what that gives up)"),
     "3b": ("`percent` is no whole number from 0 to 100", "a share from 0 to 1, decimals, a sign, leading zeros, a mark `%`, an empty field",
            "write 0 to 100 in digits alone (in SQL: `round(100 * share)::int`)"),
+    "3c": ("`exact` in lineage.csv is neither empty nor 0 nor 1", "`yes`, `true`, `x`, a quoted blank",
+           "write 1 in each row of a split or merge that is exact, and nothing else; or leave the column out"),
 }
 
 CUTS = {
@@ -117,16 +119,20 @@ LINEAGES = {
            "add its row: successors, or an empty `new` for an ending"),
     "76": ("an identifier was used in an earlier release and not in the last one", "numbers that are given again",
            "give the parcel a new identifier"),
+    "78": ("a row is marked exact, and belongs to no split or merge of which every row is marked",
+           "one row of a split or merge was left unmarked, or an ending, a replacement or a redrawing was marked",
+           "mark every row of the split or merge, or none; leave the mark out of all other rows"),
 }
 
 REGISTERS = {
     "80": ("the year is not above the last published one", "the release is published already, or the year is mistyped",
            "`lpis trace` shows what is published; the register was not changed"),
-    "81": ("the lineage table does not fit this release and the last; a second code follows", "see codes 70 to 76", "see codes 70 to 76"),
+    "81": ("the lineage table does not fit this release and the last; a second code follows", "see codes 70 to 78", "see codes 70 to 78"),
     "82": ("the database failed; printed as `failed store`", "a full or failing disk, another program that holds the file locked",
            "look at the disk, end the other program, try again: a release is there whole or not at all"),
     "83": ("the identifier is in no release", "a typing error", "look it up in the register"),
-    "84": ("this database is no register that can be read", "another program's database, a later version, a file that was edited",
+    "84": ("this database is no register that can be read: its tables say no lawful history, or a shape in it is no polygon of a live parcel",
+           "a later version, a file that was edited",
            "name the right file, or take it from its last copy"),
 }
 

@@ -2,7 +2,7 @@
 
 from . import codes, drawing, polygons
 from .refusal import metres_of, read
-from .tables import COLUMNS, INSTEAD, KEYS, LETTERS, MARK, Table, is_identifier, kind_of_file, path_of, shown
+from .tables import COLUMNS, FREE, INSTEAD, KEYS, LETTERS, MARK, Table, is_identifier, kind_of_file, path_of, shown
 
 
 class Explained:
@@ -83,7 +83,7 @@ class Explained:
     def say_header(self, table):
         start = table.start
         kind = kind_of_file(start)
-        self.say(f"wanted header: {','.join(name for name in COLUMNS[table.name] if name not in INSTEAD.values())}")
+        self.say(f"wanted header: {','.join(name for name in COLUMNS[table.name] if name not in {*INSTEAD.values(), *FREE})}")
         if kind:
             self.say(f"{table.path} is {kind}")
             return
@@ -106,7 +106,7 @@ class Explained:
             for name in COLUMNS[table.name]:
                 field = table.field(record, name)
                 ending = name == "new" and not field
-                if name not in ("wkt", "percent", "eligible") and not ending and not is_identifier(field):
+                if name not in ("wkt", "percent", "eligible", "exact") and not ending and not is_identifier(field):
                     self.say_letters(name, field)
                     break
         elif code == "34":
@@ -119,11 +119,23 @@ class Explained:
             self.say_absent(name, table.field(record, name), self.table("parcels" if code == "35" else "classes"))
         elif code == "38":
             self.say_text(table.field(record, "wkt"))
-        elif code in ("39", "3b"):
-            name = "eligible" if code == "39" else "percent"
+        elif code in ("39", "3b", "3c"):
+            name = {"39": "eligible", "3b": "percent", "3c": "exact"}[code]
             self.say(f"  {name} is {shown(table.field(record, name))!r}")
+        elif code == "78":
+            self.say_marks(table, record)
         elif code == "3a":
             self.say(f"  the table has {len(table.records) - 1} rows")
+
+    def say_marks(self, table, record):
+        """The rows that share an identifier with a marked one, and which of them are marked."""
+        old, new = table.field(record, "old"), table.field(record, "new")
+        if not new:
+            self.say("  its row is an ending, which can't be marked")
+        for row, other in table.rows():
+            if table.field(other, "old") == old or (new and table.field(other, "new") == new):
+                mark = "marked" if table.field(other, "exact") == b"1" else "not marked"
+                self.say(f"  row {row}: {shown(table.field(other, 'old'))} became {shown(table.field(other, 'new')) or 'nothing'}, {mark}")
 
     def say_length(self, table, record):
         if len(record) != len(table.header):

@@ -12,9 +12,10 @@ COLUMNS = {
     "parcels": ["parcel", "wkt"],
     "covers": ["piece", "parcel", "class", "wkt"],
     "classes": ["class", "percent", "eligible"],
-    "lineage": ["old", "new"],
+    "lineage": ["old", "new", "exact"],
 }
 INSTEAD = {"percent": "eligible"}  # the column that is read where there is none of the first name
+FREE = {"exact"}  # columns that a table may lack
 KEYS = {"parcels": "parcel", "covers": "piece", "classes": "class"}
 MARK = b"\xef\xbb\xbf"
 LETTERS = frozenset(b"ABCDEFGHIJKLMNOPQRSTUVWXYZabcdefghijklmnopqrstuvwxyz0123456789._:/-")
@@ -65,7 +66,7 @@ class Table:
     def missing(self):
         """The columns that the table lacks, the first name where one of two is wanted."""
         others = INSTEAD.values()
-        return [name for name in COLUMNS[self.name] if not {name, INSTEAD.get(name)} & set(self.names) and name not in others]
+        return [name for name in COLUMNS[self.name] if not {name, INSTEAD.get(name)} & set(self.names) and name not in {*others, *FREE}]
 
     def doubled(self):
         return sorted({name for name in self.names if name in COLUMNS[self.name] and self.names.count(name) > 1})
