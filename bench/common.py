@@ -21,7 +21,7 @@ import textwrap
 HERE = os.path.dirname(os.path.realpath(__file__))
 TOP = os.path.dirname(HERE)
 MEGABYTE = 1_000_000
-RUNS, WIDTH = 3, 158
+RUNS, WIDTH = 3, 120
 TABLES = ["parcels.csv", "covers.csv", "classes.csv"]
 CERT = "cert.txt"
 
