@@ -7,8 +7,9 @@ use clap::error::ErrorKind;
 use created::Created;
 use lpis_commands::{
     Cmd, CommandFiles, Failure, NamedFile, TableFiles, command_of, named_files, print_failure,
-    refuse_register, run_area, run_check, run_cut, run_publish, run_trace, status_of, usage_ends,
+    run_area, run_check, run_cut, status_of, usage_ends,
 };
+use lpis_gate::{refuse_register, run_publish, run_trace};
 use lpis_register::Register;
 use sqlite::{FileFrom, FileStore, Unknown};
 use std::fs::File;
@@ -93,7 +94,7 @@ fn perform(rt: &HostRuntime, command: Cmd<'_>) -> Result<u8, Failure> {
                 close(register);
                 ran
             }
-            Err(fault) => refuse_register(&fault, &mut out),
+            Err(fault) => refuse_register(alloc, &fault, &mut out),
         },
         CommandFiles::Trace { db, id } => match Register::open_file(rt, alloc, db, Unknown) {
             Ok(register) => {
@@ -101,7 +102,7 @@ fn perform(rt: &HostRuntime, command: Cmd<'_>) -> Result<u8, Failure> {
                 close(register);
                 ran
             }
-            Err(fault) => refuse_register(&fault, &mut out),
+            Err(fault) => refuse_register(alloc, &fault, &mut out),
         },
     }
 }

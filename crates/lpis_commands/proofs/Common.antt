@@ -3,10 +3,8 @@ pub use Rattle.csv.proofs.WriteFacts.{appends-more}
 pub use Rattle.lpis_cert.specs.declared.cert.Cert.{Cert}
 pub use Rattle.lpis_checker.specs.GoodCertificate.{IsGood}
 pub use Rattle.lpis_commands.specs.CheckAnswer.{Answer}
-pub use Rattle.lpis_commands.specs.LineageLines.{lineage_line}
 pub use Rattle.lpis_commands.specs.Report.{report_text}
 pub use Rattle.lpis_commands.specs.Status.{done}
-pub use Rattle.lpis_lineage.specs.Changes.{kind_at}
 pub use Rattle.lpis_parcels.specs.Release.{Contents, release_of}
 pub use Rattle.std.proofs.lemmas.Result.{IfOk-weaker}
 pub use Rattle.std.specs.Io.KnownBytes.{Appends}

@@ -3,8 +3,8 @@ pub mod OneAnswerLemmas
 pub mod AreaLemmas
 pub mod CheckLemmas
 pub mod CommandLemmas
-pub mod PublishLemmas
 pub mod ReadLemmas
 pub mod RefusalLemmas
 pub mod ReportLemmas
+pub mod Shared
 pub mod WriteLemmas

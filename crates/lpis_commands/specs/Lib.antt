@@ -6,12 +6,9 @@ pub mod CutAnswer
 pub mod CutRefusals
 pub mod Failures
 pub mod Files
-pub mod LineageLines
-pub mod PublishAnswer
+pub mod Inputs
 pub mod Refusals
 pub mod Report
 pub mod Status
-pub mod Stored
 pub mod Streams
-pub mod TraceAnswer
 pub mod private

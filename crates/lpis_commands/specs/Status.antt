@@ -3,10 +3,8 @@ use Rattle.std.specs.Prelude.{ℕ, Bool, true, false, Result, Ok, Err}
 use Rattle.clap.specs.declared.error.ErrorKind.{ErrorKind}
 use Rattle.clap.specs.declared.error.ErrorKind.TheVariants as kind
 use Rattle.lpis_commands.specs.declared.failure.Failure.{Failure}
-use Rattle.lpis_commands.specs.declared.failure.Failure.TheVariants.{Memory, Store, Write}
+use Rattle.lpis_commands.specs.declared.failure.Failure.TheVariants.{Memory, Write}
 use Rattle.lpis_commands.specs.declared.failure.Name.TheVariants.{Out}
-use Rattle.lpis_register.specs.declared.fault.PublishFault.{PublishFault}
-use Rattle.lpis_register.specs.declared.fault.PublishFault.TheVariants as fault
 
 -- a yes, or done
 abbrev pub done : ℕ
@@ -40,10 +38,3 @@ usage_told kind.OutOfMemory printed = Err Memory
 usage_told kind.DisplayHelp printed = help_told printed
 usage_told kind.DisplayVersion printed = help_told printed
 usage_told _ printed = Ok unreadable
-
--- of a register that is not opened, whose line was printed or could not be
-abbrev pub unopened_told : PublishFault → Bool → Result ℕ Failure
-unopened_told fault.Memory printed = Err Memory
-unopened_told fault.Store printed = Err Store
-unopened_told _ true = Ok unreadable
-unopened_told _ false = Err (Write Out)

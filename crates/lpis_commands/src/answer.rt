@@ -18,14 +18,16 @@ use std::io::Write;
 
 /// What a run prints, and the status that it ends with. It is known before anything is written.
 #[derive(Drop)]
-pub(crate) struct Answer {
+pub struct Answer {
+    /// The text.
     pub text: Vec<u8>,
+    /// The status.
     pub status: u8,
 }
 
 impl Answer {
     /// The line of a refused table.
-    pub(crate) fn refuse_table(alloc: Global, fault: &TableFault) -> Result<Answer, AllocError>
+    pub fn refuse_table(alloc: Global, fault: &TableFault) -> Result<Answer, AllocError>
         ensures { IfOk result (λ a. (a.text.items ≡ refusal_text fault.now)
             × (a.status ≡ unreadable)) }
     {
@@ -40,7 +42,7 @@ impl Answer {
     }
 
     /// Writes its text. Ok is its status.
-    pub(crate) fn write_to<W: Write>(&self, out: &mut W) -> Result<u8, Failure>
+    pub fn write_to<W: Write>(&self, out: &mut W) -> Result<u8, Failure>
         ensures status { IfOk result (λ status. status ≡ self.now.status) }
         ensures text { OnOk result (Appends (W.contents out.old) (W.contents out.new)
             self.now.text.items) }

@@ -7,8 +7,8 @@ ghost use Rattle.lpis_checker.specs.GoodCertificate.{IsGood};
 ghost use Rattle.lpis_checker.specs.SoundMap.{IsSoundMap};
 ghost use Rattle.lpis_commands.specs.CheckAnswer.{AreRead, Ends, Halts, Inputs, IsAnswer};
 ghost use Rattle.lpis_commands.specs.CheckAnswer.{IsCheckAnswer, IsProved, IsReleaseAnswer};
-ghost use Rattle.lpis_commands.specs.private.CheckRuns.{IsReadAs, inputs_of};
 ghost use Rattle.lpis_commands.specs.Failures.{IsUnchecked};
+ghost use Rattle.lpis_commands.specs.Inputs.{IsReadAs, inputs_of};
 ghost use Rattle.lpis_commands.specs.Refusals.{cert_refusal_text, check_refusal_text};
 ghost use Rattle.lpis_commands.specs.Report.{report_text};
 ghost use Rattle.lpis_commands.specs.Status.{done, refused, unreadable};
@@ -30,13 +30,15 @@ use std::io::{Read, Write};
 
 /// The bytes of three tables and a certificate.
 #[derive(Drop)]
-pub(crate) struct InputBytes {
+pub struct InputBytes {
+    /// The tables.
     pub tables: TableBytes,
+    /// The certificate.
     pub cert: Vec<u8>,
 }
 
 /// The line of a text that is no certificate.
-pub(crate) fn refuse_text(alloc: Global, fault: &CertFault) -> Result<Answer, AllocError>
+pub fn refuse_text(alloc: Global, fault: &CertFault) -> Result<Answer, AllocError>
     ensures { IfOk result (λ a. (a.text.items ≡ cert_refusal_text fault.now)
         × (a.status ≡ unreadable)) }
 {
@@ -51,7 +53,7 @@ pub(crate) fn refuse_text(alloc: Global, fault: &CertFault) -> Result<Answer, Al
 }
 
 /// The line of a certificate that is not good.
-pub(crate) fn refuse_cert(alloc: Global, fault: &CheckFault) -> Result<Answer, AllocError>
+pub fn refuse_cert(alloc: Global, fault: &CheckFault) -> Result<Answer, AllocError>
     ensures { IfOk result (λ a. (a.text.items ≡ check_refusal_text fault.now)
         × (a.status ≡ refused)) }
 {
@@ -96,7 +98,7 @@ fn answer_to_cert(alloc: Global, release: &Release, cert: &Cert) -> Result<Answe
 }
 
 /// The certificate of a text, whose bytes are let go, or the text's first fault.
-pub(crate) fn cert_in(alloc: Global, text: Vec<u8>) -> Result<Cert, CertFault>
+pub fn cert_in(alloc: Global, text: Vec<u8>) -> Result<Cert, CertFault>
     ensures { IsReadAs text.items result }
 {
     read_cert(alloc, text.as_slice())
@@ -136,7 +138,7 @@ fn answer_to(alloc: Global, inputs: InputBytes) -> Result<Answer, AllocError>
 }
 
 /// All bytes of the inputs, which are read in this order.
-pub(crate) fn read_inputs<P: Read + Drop, C: Read + Drop, K: Read + Drop, E: Read + Drop>(
+pub fn read_inputs<P: Read + Drop, C: Read + Drop, K: Read + Drop, E: Read + Drop>(
     alloc: Global,
     parcels: P,
     covers: C,

@@ -118,11 +118,7 @@ pub(crate) fn read_input<R: Read + Drop>(alloc: Global, reader: R) -> Result<Vec
 }
 
 /// All bytes of the input of this name, or the failure that reports it.
-pub(crate) fn read_named<R: Read + Drop>(
-    alloc: Global,
-    reader: R,
-    name: Name,
-) -> Result<Vec<u8>, Failure>
+pub fn read_named<R: Read + Drop>(alloc: Global, reader: R, name: Name) -> Result<Vec<u8>, Failure>
     ensures all { IfOk result (λ v. IsRead v.items (R.remaining reader)) }
     ensures failure { IfErr result (IsUnread name) }
 {

@@ -15,14 +15,17 @@ use std::io::Read;
 
 /// The bytes of the three tables of a release.
 #[derive(Drop)]
-pub(crate) struct TableBytes {
+pub struct TableBytes {
+    /// The parcels table.
     pub parcels: Vec<u8>,
+    /// The covers table.
     pub covers: Vec<u8>,
+    /// The classes table.
     pub classes: Vec<u8>,
 }
 
 /// All bytes of the tables, which are read in this order.
-pub(crate) fn read_tables<P: Read + Drop, C: Read + Drop, K: Read + Drop>(
+pub fn read_tables<P: Read + Drop, C: Read + Drop, K: Read + Drop>(
     alloc: Global,
     parcels: P,
     covers: C,
@@ -44,7 +47,7 @@ pub(crate) fn read_tables<P: Read + Drop, C: Read + Drop, K: Read + Drop>(
 }
 
 /// The release of three tables, whose bytes are let go.
-pub(crate) fn release_in(alloc: Global, tables: TableBytes) -> Result<Release, TableFault>
+pub fn release_in(alloc: Global, tables: TableBytes) -> Result<Release, TableFault>
     ensures { Answers result (release_of tables.parcels.items tables.covers.items
         tables.classes.items) }
 {

@@ -2,7 +2,10 @@
 use Rattle.std.proofs.Common.{◌≡◌, ◌∙◌, ◌≤◌, ◌+◌, ◌⊎◌, inl, inr, refl, sym, ap, subst, arith, ℕ, zero, suc, List, [], ◌∷◌, ◌++◌, length, Bool, true, false, Option, None, Some, cond, append_assoc}
 use Rattle.std.proofs.Common.{◌&&◌, ◌||◌, not, is_some, filter}
 use Rattle.lpis_lineage.proofs.Common.{list_any, option_or, list_any-append, or_left, cases_Bool, Row, Entry, LineageFault, has_id, same_id, holds, ended, succeeded, names, is_of}
-use Rattle.lpis_lineage.proofs.Common.{is_this, same_row, last_live, IsAnswered, Follows, fault_before, clashes, row_faults, dropped_faults, used_faults, faults, first, last_held}
+use Rattle.lpis_lineage.proofs.Common.{is_this, same_row, last_live, IsAnswered, Follows, fault_before, clashes, row_faults, dropped_faults, used_faults, faults, faults_but_marks, first, kind, last_held, mark_faults}
+use Rattle.lpis_lineage.specs.declared.kind.Kind.{Kind}
+use Rattle.lpis_lineage.specs.declared.fault.LineageFault.TheVariants.{MarkedOutside}
+use Rattle.lpis_lineage.specs.ExactGroups.{is_outside}
 use Rattle.lpis_lineage.specs.Lineage.{same_new}
 use Rattle.std.proofs.lemmas.List.{append-nil}
 use Rattle.std.proofs.lemmas.Bool.{and_parts, and_from, not_from_true, not-false, or_cases, or_right}
@@ -51,10 +54,11 @@ same-new-refl : (o : Option (List ℕ)) → same_new o o ≡ true
 same-new-refl None = refl
 same-new-refl (Some s) = same-refl s
 
-pub same-row-exact : (r q : Row) → same_row r q ≡ true → r ≡ q
-same-row-exact r q e =
-    let mk : List ℕ → Option (List ℕ) → Row = λ o n. record { old = o; new = n } in
-    ap (λ (o : List ℕ). mk o r.new) (same-exact r.old q.old (and_parts _ _ e).0) ∙ ap (λ (n : Option (List ℕ)). mk q.old n) (same-new-exact r.new q.new (and_parts (same_id r.old q.old) _ e).1)
+-- two rows that are the same, whatever their marks, are the same as equally many others
+same-row-count : (r q : Row) → same_row r q ≡ true → (rows : List Row) → length (filter (same_row r) rows) ≡ length (filter (same_row q) rows)
+same-row-count r q e rows =
+    let count : List ℕ → Option (List ℕ) → ℕ = λ o n. length (filter (λ (x : Row). same_id o x.old && same_new n x.new) rows) in
+    ap (λ (o : List ℕ). count o r.new) (same-exact r.old q.old (and_parts _ _ e).0) ∙ ap (λ (n : Option (List ℕ)). count q.old n) (same-new-exact r.new q.new (and_parts (same_id r.old q.old) _ e).1)
 
 pub same-row-refl : (r : Row) → same_row r r ≡ true
 same-row-refl r = and_from _ _ (same-refl r.old) (same-new-refl r.new)
@@ -107,8 +111,7 @@ once-step before r row once le =
     elim (cases_Bool (same_row row r)) as (λ _. length (filter (same_row row) (before ++ r ∷ [])) ≤ 1) [
       | inl t ↦
           let none = filter-none (same_row r) before once in
-          let alike : row ≡ r = same-row-exact row r t in
-          let zero = ap (λ (x : Row). length (filter (same_row x) before)) alike ∙ none in
+          let zero = same-row-count row r t before ∙ none in
           let one = ap (λ (b : Bool). length (cond b (r ∷ []) [])) t in omega (arith, n, zero, one)
       | inr f ↦ let nil = ap (λ (b : Bool). length (cond b (r ∷ []) [])) f in omega (arith, n, nil, le)
     ]
@@ -293,6 +296,35 @@ clean-used h last (x ∷ xs) all = used-none (last_held h x) (has_id last x) x _
     all x r.0 r.1 (or_left _ _ (same-refl x)))
     (clean-used h last xs (λ id i hi is. all id i hi (or_right (same_id id x) _ is)))
 
+-- ---- marks
+marks-clean : (kind_of : List ℕ → Option Kind) (all : List Row) (k : ℕ) (rows : List Row) → mark_faults kind_of all k rows ≡ [] → list_any (is_outside kind_of all) rows ≡ false
+marks-clean kind_of all k [] e = refl
+marks-clean kind_of all k (r ∷ rs) e =
+    let t = told-nil _ _ _ e in
+    ap (λ (b : Bool). b || list_any (is_outside kind_of all) rs) t.0 ∙ marks-clean kind_of all (k + 1) rs t.1
+
+pub clean-marks : (kind_of : List ℕ → Option Kind) (all : List Row) (k : ℕ) (rows : List Row) → list_any (is_outside kind_of all) rows ≡ false → mark_faults kind_of all k rows ≡ []
+clean-marks kind_of all k [] e = refl
+clean-marks kind_of all k (r ∷ rs) e = by (is_outside kind_of all r) e (clean-marks kind_of all (k + 1) rs)
+  where
+    by : (b : Bool) → (b || list_any (is_outside kind_of all) rs) ≡ false → (list_any (is_outside kind_of all) rs ≡ false → mark_faults kind_of all (k + 1) rs ≡ [])
+        → fault_before b (MarkedOutside k) (mark_faults kind_of all (k + 1) rs) ≡ []
+    by true e rec = cc e
+    by false e rec = rec e
+
+-- where no row is marked there is no fault of marks
+unmarked : (kind_of : List ℕ → Option Kind) (all rows : List Row) → list_any (λ (r : Row). r.exact) rows ≡ false → list_any (is_outside kind_of all) rows ≡ false
+unmarked kind_of all [] e = refl
+unmarked kind_of all (r ∷ rs) e = by r.exact _ e (unmarked kind_of all rs)
+  where
+    by : (b c : Bool) → (b || list_any (λ (x : Row). x.exact) rs) ≡ false → (list_any (λ (x : Row). x.exact) rs ≡ false → list_any (is_outside kind_of all) rs ≡ false)
+        → ((b && c) || list_any (is_outside kind_of all) rs) ≡ false
+    by true c e rec = cc e
+    by false c e rec = rec e
+
+pub unmarked-clean : (kind_of : List ℕ → Option Kind) (rows : List Row) → list_any (λ (r : Row). r.exact) rows ≡ false → mark_faults kind_of rows 1 rows ≡ []
+unmarked-clean kind_of rows e = clean-marks kind_of rows 1 rows (unmarked kind_of rows rows e)
+
 -- ---- all together
 heir-or-end : (rows : List Row) (id : List ℕ) → list_any (is_of id) rows ≡ true → succeeded rows id ≡ false → ended rows id ≡ true
 heir-or-end [] id e f = cc e
@@ -311,7 +343,8 @@ answered rows id once a is =
 
 pub follows-from-clean : (h : List Entry) (live : List (List ℕ)) (rows : List Row) → faults h live rows ≡ [] → Follows h live rows
 follows-from-clean h live rows e =
-    let t = both-nil (row_faults (last_live h) live [] 1 rows) _ e in
+    let w = both-nil (faults_but_marks h live rows) _ e in
+    let t = both-nil (row_faults (last_live h) live [] 1 rows) _ w.0 in
     let u = both-nil (dropped_faults live rows (last_live h)) _ t.1 in
     record {
       not_used = used-clean h (last_live h) live u.1;
@@ -321,6 +354,7 @@ follows-from-clean h live rows e =
       named = rows-named (last_live h) live [] 1 rows t.0;
       once = λ row. rows-once (last_live h) live [] 1 rows t.0 row (omega arith);
       dropped = rows-dropped (last_live h) live [] 1 rows t.0;
+      marked = marks-clean (kind (last_live h) live rows) rows 1 rows w.1;
     }
 
 pub clean-from-follows : (h : List Entry) (live : List (List ℕ)) (rows : List Row) → Follows h live rows → faults h live rows ≡ []
@@ -329,8 +363,10 @@ clean-from-follows h live rows f =
     let r = rows-clean (last_live h) live [] 1 rows f.named f.dropped f.once a in
     let d = clean-dropped live rows (last_live h) (λ id was gone. any-of rows id (f.answered id was gone)) in
     let u = clean-used h (last_live h) live f.not_used in
-    ap (λ (x : List LineageFault). x ++ (dropped_faults live rows (last_live h) ++ used_faults h (last_live h) live)) r
-    ∙ ap (λ (x : List LineageFault). x ++ used_faults h (last_live h) live) d ∙ u where
+    ap (λ (x : List LineageFault). x ++ mark_faults (kind (last_live h) live rows) rows 1 rows)
+    (ap (λ (x : List LineageFault). x ++ (dropped_faults live rows (last_live h) ++ used_faults h (last_live h) live)) r
+    ∙ ap (λ (x : List LineageFault). x ++ used_faults h (last_live h) live) d ∙ u)
+    ∙ clean-marks (kind (last_live h) live rows) rows 1 rows f.marked where
       any-of : (rows : List Row) (id : List ℕ) → IsAnswered rows id → list_any (is_of id) rows ≡ true
       any-of rows id e = elim e as (λ _. list_any (is_of id) rows ≡ true) [
         | inl l ↦ mono _ (is_of id) rows (λ r h. (and_parts (is_of id r) _ h).0) (counted-ended rows id l.0)

@@ -1,5 +1,7 @@
 -- One release more: the whole list is lawful and its rows fit exactly where the release follows.
 use Rattle.std.proofs.Common.{◌≡◌, ◌∙◌, ◌<◌, ◌≤◌, ◌+◌, ◌⊎◌, inl, inr, refl, sym, ap, subst, arith, ℕ, zero, suc, List, [], ◌∷◌, ◌++◌, length, Bool, true, false, length-append, get_or, ◌||◌, filter}
+use Rattle.lpis_lineage.specs.ExactGroups.{MarksHold, is_outside}
+use Rattle.lpis_lineage.specs.Kinds.{kind}
 use Rattle.lpis_lineage.proofs.Common.{list_any, Row, Entry, has_id, holds, entry_at, names, is_of, same_row, last_live, last_year, IsAnswered, IsLawful, RowsFit, Follows}
 use Rattle.lpis_lineage.specs.Lawful.{Drops}
 use Rattle.lpis_lineage.proofs.IdentifierLemmas.{same-refl, entry-before, entry-here, entry-after, in-history}
@@ -172,11 +174,34 @@ drops-more h e fit f id i is =
       ]
     ]
 
+-- what is said of marks of a release after another
+abbrev pub Marked : Entry → Entry → Type 0
+Marked a b = MarksHold a.live b.live b.rows
+
+marks-more : (h : List Entry) (e : Entry) → RowsFit h → Follows h e.live e.rows → (i : ℕ) → Marked (entry_at (h ++ e ∷ []) i) (entry_at (h ++ e ∷ []) (i + 1))
+marks-more h e fit f i =
+    let n = longer h e in
+    elim (before-at-after (i + 1) (length h)) as (λ _. Marked (entry_at (h ++ e ∷ []) i) (entry_at (h ++ e ∷ []) (i + 1))) [
+      | inl a ↦
+          let il : i < length h = omega arith in
+          subst (λ (x : Entry). Marked x (entry_at (h ++ e ∷ []) (i + 1))) (sym (entry-before h e i il))
+          (subst (λ (x : Entry). Marked (entry_at h i) x) (sym (entry-before h e (i + 1) a)) (fit.marked i))
+      | inr b ↦ elim b as (λ _. Marked (entry_at (h ++ e ∷ []) i) (entry_at (h ++ e ∷ []) (i + 1))) [
+        | inl at ↦
+            let il : i < length h = omega arith in
+            subst (λ (x : Entry). Marked x (entry_at (h ++ e ∷ []) (i + 1))) (sym (entry-before h e i il))
+            (subst (λ (x : Entry). Marked (entry_at h i) x) (sym (entry-at h e (i + 1) at))
+            (subst (λ (l : List (List ℕ)). MarksHold l e.live e.rows) (sym (last-at h i at)) f.marked))
+        | inr c ↦ beyond (h ++ e ∷ []) (i + 1) (omega (arith, n)) (is_outside (kind (entry_at (h ++ e ∷ []) i).live (entry_at (h ++ e ∷ []) (i + 1)).live (entry_at (h ++ e ∷ []) (i + 1)).rows) (entry_at (h ++ e ∷ []) (i + 1)).rows)
+      ]
+    ]
+
 pub fits-more : (h : List Entry) (e : Entry) → RowsFit h → Follows h e.live e.rows → RowsFit (h ++ e ∷ [])
 fits-more h e fit f = record {
   first = first-rows h e fit f;
   once = once-more h e fit f;
   of_dropped = drops-more h e fit f;
+  marked = marks-more h e fit f;
 }
 
 -- ---- and back
@@ -211,6 +236,14 @@ back-dropped (x ∷ t) e fit id is =
     let d = fit.of_dropped id (length t) (ap (λ (y : Entry). list_any (is_of id) y.rows) (entry-at (x ∷ t) e (length t + 1) at) ∙ is) in
     (sym (hold-before (x ∷ t) e (length t) id il) ∙ d.1, sym (hold-here (x ∷ t) e (length t + 1) id at) ∙ d.2)
 
+back-marked : (h : List Entry) (e : Entry) → RowsFit (h ++ e ∷ []) → MarksHold (last_live h) e.live e.rows
+back-marked [] e fit = ap (λ (rs : List Row). list_any (is_outside (kind (last_live []) e.live rs) rs) rs) fit.first
+back-marked (x ∷ t) e fit =
+    let at : length t + 1 ≡ length (x ∷ t) = omega arith in
+    let il : length t < length (x ∷ t) = omega arith in
+    subst (λ (y : Entry). Marked y e) (entry-before (x ∷ t) e (length t) il)
+    (subst (λ (y : Entry). Marked (entry_at ((x ∷ t) ++ e ∷ []) (length t)) y) (entry-at (x ∷ t) e (length t + 1) at) (fit.marked (length t)))
+
 pub follows-back : (h : List Entry) (e : Entry) → IsLawful (h ++ e ∷ []) → RowsFit (h ++ e ∷ []) → Follows h e.live e.rows
 follows-back h e law fit = record {
   not_used = back-used h e law;
@@ -218,6 +251,7 @@ follows-back h e law fit = record {
   named = back-named h e law;
   once = back-once h e fit;
   dropped = back-dropped h e fit;
+  marked = back-marked h e fit;
 }
 
 -- indices as code reads them

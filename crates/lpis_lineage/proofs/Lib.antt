@@ -13,6 +13,9 @@ pub mod SpanLemmas
 pub mod SpanStepLemmas
 pub mod TakingBackLemmas
 pub mod FateLemmas
+pub mod ExactLemmas
+pub mod MarkLemmas
+pub mod GroupLemmas
 pub mod KindStepLemmas
 pub mod PopStepLemmas
 pub mod SpanPickLemmas

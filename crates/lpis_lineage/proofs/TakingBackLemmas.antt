@@ -1,6 +1,9 @@
 -- A history less its last release.
 use Rattle.std.proofs.Common.{◌≡◌, ◌∙◌, ◌<◌, ◌≤◌, ◌+◌, inl, inr, refl, sym, ap, subst, arith, ℕ, List, [], ◌∷◌, ◌++◌, length, Bool, true, false, Option, None, Some, cond, ◌&&◌, ◌||◌, not, nat_eq}
 use Rattle.std.proofs.Common.{is_some, filter}
+use Rattle.lpis_lineage.specs.ExactGroups.{is_outside}
+use Rattle.lpis_lineage.specs.Kinds.{kind}
+use Rattle.lpis_lineage.proofs.ExtensionLemmas.{Marked}
 use Rattle.lpis_lineage.proofs.Common.{list_any, has_id, same_id, Row, Entry, Span, holds, entry_at, names, is_of, same_row, last_live, last_year, IsAnswered, IsLawful, RowsFit, first_held, last_held}
 use Rattle.lpis_lineage.proofs.Common.{span_between, span_of, begun, ended_in, forgotten}
 use Rattle.std.proofs.lemmas.Bool.{eq-eqb}
@@ -71,8 +74,18 @@ less-dropped h e fit id i is = elim (before-at-after (i + 1) (length h)) as (λ 
   | inr b ↦ absurd (let no = beyond h (i + 1) (elim b as (λ _. length h ≤ i + 1) [ inl at ↦ omega arith | inr c ↦ omega arith ]) (is_of id) in cc)
 ]
 
+less-marked : (h : List Entry) (e : Entry) → RowsFit (h ++ e ∷ []) → (i : ℕ) → Marked (entry_at h i) (entry_at h (i + 1))
+less-marked h e fit i = elim (before-at-after (i + 1) (length h)) as (λ _. Marked (entry_at h i) (entry_at h (i + 1))) [
+  | inl a ↦
+      let il : i < length h = omega arith in
+      subst (λ (x : Entry). Marked x (entry_at h (i + 1))) (entry-before h e i il)
+      (subst (λ (x : Entry). Marked (entry_at (h ++ e ∷ []) i) x) (entry-before h e (i + 1) a) (fit.marked i))
+  | inr b ↦ beyond h (i + 1) (elim b as (λ _. length h ≤ i + 1) [ inl at ↦ omega arith | inr c ↦ omega arith ])
+      (is_outside (kind (entry_at h i).live (entry_at h (i + 1)).live (entry_at h (i + 1)).rows) (entry_at h (i + 1)).rows)
+]
+
 less-fits : (h : List Entry) (e : Entry) → RowsFit (h ++ e ∷ []) → RowsFit h
-less-fits h e fit = record { first = less-first h e fit; once = less-once h e fit; of_dropped = less-dropped h e fit }
+less-fits h e fit = record { first = less-first h e fit; once = less-once h e fit; of_dropped = less-dropped h e fit; marked = less-marked h e fit }
 
 -- ---- spans
 eq-below : (n m : ℕ) → n < m → nat_eq n m ≡ false

@@ -2,7 +2,7 @@
 use Rattle.std.proofs.Common.{◌≡◌, ◌∙◌, ◌<◌, ◌+◌, ◌⊎◌, inl, inr, refl, sym, ap, subst, ℕ, suc, List, [], ◌∷◌, ◌++◌, length, Bool, true, false, Option, None, Some, take, drop, get_or}
 use Rattle.std.proofs.Common.{◌&&◌, ◌||◌, not, is_some, add-one, drop-cons}
 use Rattle.std.proofs.lemmas.List.{take_more}
-use Rattle.lpis_lineage.proofs.Common.{list_any, Row, Entry, LineageFault, has_id, ended, succeeded, is_of, last_live, same_row, fault_before, clashes, faults, row_faults, dropped_faults, used_faults}
+use Rattle.lpis_lineage.proofs.Common.{list_any, Row, Entry, LineageFault, has_id, ended, succeeded, is_of, last_live, same_row, fault_before, clashes, faults_but_marks, row_faults, dropped_faults, used_faults}
 use Rattle.lpis_lineage.proofs.Common.{first}
 use Rattle.lpis_lineage.specs.declared.fault.LineageFault.TheVariants.{Memory, OldNotLive, OldStillLive, SuccessorMissing, DoubledRow, EndingBesideSuccessor, NoRow}
 use Rattle.lpis_lineage.specs.Faults.{is_missing, faults_of_row}
@@ -109,7 +109,7 @@ row-else rows id x y e f g = g ∙ sym (ap (λ (b : Bool). b || succeeded rows i
 pub passed : (h : List Entry) (set live : List (List ℕ)) (rows : List Row)
     → ((q : List ℕ) → has_id set q ≡ has_id live q) → row_faults (last_live h) set [] 1 rows ≡ []
     → dropped_faults set rows (last_live h) ≡ []
-    → faults h live rows ≡ used_faults h (last_live h) live
+    → faults_but_marks h live rows ≡ used_faults h (last_live h) live
 passed h set live rows alike no-rows none =
     ap (λ (l : List LineageFault). l ++ (dropped_faults live rows (last_live h) ++ used_faults h (last_live h) live)) (sym (rows-live (last_live h) set live [] 1 rows alike) ∙ no-rows)
     ∙ ap (λ (l : List LineageFault). l ++ used_faults h (last_live h) live) (sym (dropped-live set live rows (last_live h) alike) ∙ none)

@@ -7,7 +7,7 @@ use Rattle.lpis_lineage.specs.declared.fault.LineageFault.TheVariants.{Memory, O
 use Rattle.lpis_lineage.specs.declared.fault.LineageFault.TheVariants.{OldStillLive}
 use Rattle.lpis_lineage.specs.declared.fault.LineageFault.TheVariants.{SuccessorMissing, DoubledRow}
 use Rattle.lpis_lineage.specs.declared.fault.LineageFault.TheVariants.{EndingBesideSuccessor, NoRow}
-use Rattle.lpis_lineage.specs.declared.fault.LineageFault.TheVariants.{UsedBefore}
+use Rattle.lpis_lineage.specs.declared.fault.LineageFault.TheVariants.{UsedBefore, MarkedOutside}
 
 -- the two characters of a code
 abbrev pub code_text : LineageCode → List ℕ
@@ -18,6 +18,7 @@ code_text code.DoubledRow = codes "73"
 code_text code.EndingBesideSuccessor = codes "74"
 code_text code.NoRow = codes "75"
 code_text code.UsedBefore = codes "76"
+code_text code.MarkedOutside = codes "78"
 
 -- the code of a fault; out of memory has none
 abbrev pub code_of : LineageFault → Option LineageCode
@@ -29,3 +30,4 @@ code_of (DoubledRow row) = Some code.DoubledRow
 code_of (EndingBesideSuccessor row) = Some code.EndingBesideSuccessor
 code_of (NoRow id) = Some code.NoRow
 code_of (UsedBefore id year) = Some code.UsedBefore
+code_of (MarkedOutside row) = Some code.MarkedOutside

@@ -12,6 +12,10 @@ use Rattle.lpis_lineage.specs.declared.fault.LineageFault.TheVariants.{EndingBes
 use Rattle.lpis_lineage.specs.declared.fault.LineageFault.TheVariants.{UsedBefore}
 use Rattle.lpis_covers.specs.Ids.{has_id, same_id}
 use Rattle.lpis_lineage.specs.Lineage.{is_of, same_row, last_live}
+use Rattle.lpis_lineage.specs.declared.fault.LineageFault.TheVariants.{MarkedOutside}
+use Rattle.lpis_lineage.specs.declared.kind.Kind.{Kind}
+use Rattle.lpis_lineage.specs.ExactGroups.{is_outside}
+use Rattle.lpis_lineage.specs.Kinds.{kind}
 use Rattle.lpis_lineage.specs.Spans.{last_held}
 
 -- a fault where the test is true, before the others
@@ -61,10 +65,22 @@ used_faults h last [] = []
 used_faults h last (id ∷ ids) = used_fault_before (last_held h id) (has_id last id) id
     (used_faults h last ids)
 
--- all faults, in the order: those of the rows, then dropped identifiers, then used ones
-abbrev pub faults : List Entry → List (List ℕ) → List Row → List LineageFault
-faults h live rows = row_faults (last_live h) live [] 1 rows
+-- the marked rows that belong to no exact split and no exact merge, of which the first has this
+-- number
+abbrev pub mark_faults : (List ℕ → Option Kind) → List Row → ℕ → List Row → List LineageFault
+mark_faults kind_of all k [] = []
+mark_faults kind_of all k (r ∷ rs) = fault_before (is_outside kind_of all r) (MarkedOutside k)
+    (mark_faults kind_of all (k + 1) rs)
+
+-- the faults of the rows, then of dropped identifiers, then of used ones
+abbrev pub faults_but_marks : List Entry → List (List ℕ) → List Row → List LineageFault
+faults_but_marks h live rows = row_faults (last_live h) live [] 1 rows
     ++ (dropped_faults live rows (last_live h) ++ used_faults h (last_live h) live)
+
+-- all faults, in the order: those, then those of marks
+abbrev pub faults : List Entry → List (List ℕ) → List Row → List LineageFault
+faults h live rows = faults_but_marks h live rows
+    ++ mark_faults (kind (last_live h) live rows) rows 1 rows
 
 -- the first of some faults
 abbrev pub first : List LineageFault → Option LineageFault

@@ -4,6 +4,7 @@ use Rattle.std.specs.Prelude.{is_some}
 use Rattle.std.specs.List.{list_any, filter}
 use Rattle.lpis_lineage.specs.declared.row.Row.{Row}
 use Rattle.lpis_lineage.specs.declared.row.Entry.{Entry}
+use Rattle.lpis_lineage.specs.ExactGroups.{MarksHold}
 use Rattle.lpis_lineage.specs.Lineage.{holds, entry_at, succeeded, names, is_of, same_row}
 
 -- the release after index i drops the identifier: the one at i holds it, and the next doesn't
@@ -43,3 +44,6 @@ pub record RowsFit (h : List Entry) : Type 0 where
   -- each row's old identifier is one that its release drops
   pub of_dropped : (id : List ℕ) (i : ℕ) → list_any (is_of id) (entry_at h (i + 1)).rows ≡ true
       → Drops h i id
+  -- each marked row belongs to a split or a merge all of whose rows are marked
+  pub marked : (i : ℕ) → MarksHold (entry_at h i).live (entry_at h (i + 1)).live
+      (entry_at h (i + 1)).rows

@@ -8,5 +8,7 @@ pub mod Accepts
 pub mod Kinds
 pub mod Changes
 pub mod LineageTable
+pub mod ExactGroups
+pub mod ExactLaws
 pub mod Descendants
 pub mod private

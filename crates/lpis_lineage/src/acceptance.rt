@@ -5,7 +5,7 @@ ghost use Rattle.lpis_covers.specs.Ids.{has_id};
 ghost use Rattle.lpis_lineage.specs.declared.row.Row.{Row};
 ghost use Rattle.lpis_lineage.specs.Lineage.{last_live};
 ghost use Rattle.lpis_lineage.specs.Faults.{faults_of_row, row_faults, dropped_faults, used_faults};
-ghost use Rattle.lpis_lineage.specs.Faults.{faults, ReportsFirstOf};
+ghost use Rattle.lpis_lineage.specs.Faults.{faults, faults_but_marks, ReportsFirstOf};
 ghost use Rattle.lpis_lineage.specs.private.Seen.{IsSeen};
 ghost use Rattle.lpis_lineage.specs.Accepts.{Decides};
 ghost use Rattle.lpis_lineage.specs.Changes.{IsChange};
@@ -14,6 +14,7 @@ use crate::change::Change;
 use crate::fault::LineageFault;
 use crate::history::History;
 use crate::id_set::IdSet;
+use crate::marks::check_marks_of;
 use crate::row::Row;
 use crate::seen::Seen;
 use lpis_covers::Id;
@@ -151,17 +152,24 @@ pub(crate) fn check(
     ensures set { IfOk result (λ s. (q : List ℕ) → has_id s q ≡ has_id live.now q) }
 {
     let _ = history.releases();
-    first_fault(alloc, history, live, rows)
+    let set = match first_fault(alloc, history, live, rows) {
+        Ok(set) => set,
+        Err(fault) => return Err(fault),
+    };
+    match check_marks_of(alloc, history.last_live(), &set, rows) {
+        Ok(()) => Ok(set),
+        Err(fault) => Err(fault),
+    }
 }
 
-/// The first fault of a release, or the set of its identifiers.
+/// The first fault of a release but for its marks, or the set of its identifiers.
 fn first_fault(
     alloc: Global,
     history: &History,
     live: &[Id],
     rows: &[Row],
 ) -> Result<IdSet, LineageFault>
-    ensures tells { ReportsFirstOf (faults history.now live.now rows.now) result }
+    ensures tells { ReportsFirstOf (faults_but_marks history.now live.now rows.now) result }
     ensures set { IfOk result (λ s. (q : List ℕ) → has_id s q ≡ has_id live.now q) }
 {
     let set = IdSet::of(alloc, live)?;

@@ -71,6 +71,13 @@ impl Change {
         self.kinds.get(id).copied()
     }
 
+    /// The rows, in the order in which they were handed in.
+    pub fn rows(&self) -> &[Row]
+        ensures { result.now ≡ self.now.rows }
+    {
+        self.rows.as_slice()
+    }
+
     /// The identifiers of the last release that are not live in the new one, ascending by bytes.
     pub fn dropped(&self) -> &[Id]
         ensures list { result.now ≡ self.now.dropped_ids }

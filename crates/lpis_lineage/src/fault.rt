@@ -25,10 +25,12 @@ pub enum LineageCode {
     NoRow,
     /// An identifier that is not live in the last release, and was in an earlier one.
     UsedBefore,
+    /// A marked row that belongs to no split and no merge all of whose rows are marked.
+    MarkedOutside,
 }
 
 impl LineageCode {
-    /// The two characters that stand for the code in a refusal: `70` to `76`.
+    /// The two characters that stand for the code in a refusal: `70` to `76`, and `78`.
     pub fn as_str(self) -> &'static str
         ensures { result.now ≡ code_text self }
     {
@@ -40,6 +42,7 @@ impl LineageCode {
             LineageCode::EndingBesideSuccessor => "74",
             LineageCode::NoRow => "75",
             LineageCode::UsedBefore => "76",
+            LineageCode::MarkedOutside => "78",
         }
     }
 }
@@ -72,6 +75,9 @@ pub enum LineageFault {
     /// this year.
     #[error("lineage {} {} {year}", LineageCode::UsedBefore.as_str(), .id.as_str())]
     UsedBefore { id: Id, year: u16 },
+    /// The row is marked exact, and belongs to no split and no merge all of whose rows are marked.
+    #[error("lineage {} row {row}", LineageCode::MarkedOutside.as_str())]
+    MarkedOutside { row: usize },
 }
 
 impl LineageFault {
@@ -88,6 +94,7 @@ impl LineageFault {
             LineageFault::EndingBesideSuccessor { .. } => Some(LineageCode::EndingBesideSuccessor),
             LineageFault::NoRow { .. } => Some(LineageCode::NoRow),
             LineageFault::UsedBefore { .. } => Some(LineageCode::UsedBefore),
+            LineageFault::MarkedOutside { .. } => Some(LineageCode::MarkedOutside),
         }
     }
 }

@@ -80,6 +80,19 @@ impl IdSet {
         self.ids.iter()
     }
 
+    /// Copies of the identifiers, ascending by bytes.
+    pub(crate) fn ids(&self, alloc: Global) -> Result<Vec<Id>, AllocError>
+        ensures list { IfOk result (λ v. v.items ≡ self.now) }
+        ensures ascending { IfOk result (λ v. IsAscending v.items) }
+    {
+        let mut copies = Vec::new(alloc);
+        for id in self.iter() {
+            let copy = id.copy()?;
+            copies.push(copy)?;
+        }
+        Ok(copies)
+    }
+
     /// The identifiers that another set lacks, ascending by bytes. Both are walked side by side.
     pub(crate) fn lacking<'a>(&'a self, other: &'a IdSet) -> Difference<'a, Id, Global>
         ensures rest { result ≡ filter (λ id. not (has_id other.now id)) self.now }

@@ -3,12 +3,14 @@
 
 mod acceptance;
 mod change;
+mod exact;
 mod fates;
 mod fault;
 mod history;
 mod id_set;
 mod kind;
 mod laws;
+mod marks;
 mod reading;
 mod row;
 mod seen;
@@ -18,11 +20,15 @@ mod tracing;
 
 pub use acceptance::accept;
 pub use change::Change;
+pub use exact::{Group, exact_groups};
 pub use fault::{AddFault, LineageCode, LineageFault};
 pub use history::History;
 pub use id_set::IdSet;
 pub use kind::Kind;
-pub use laws::{decided_by_faults, held_identifiers_have_spans, spans_tell_releases};
+pub use laws::{
+    decided_by_faults, held_identifiers_have_spans, kinds_tell_splits_and_merges,
+    spans_tell_releases,
+};
 pub use reading::read_rows;
 pub use row::{Entry, Row};
 pub use span::{Span, live_in};

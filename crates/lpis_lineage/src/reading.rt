@@ -1,21 +1,29 @@
 //! The table of lineage.
 
-ghost use Rattle.std.specs.Prelude.{◌≡◌, ◌∷◌, [], codes};
+ghost use Rattle.std.specs.Prelude.{◌≡◌, ◌∷◌, [], codes, false, unwrap_or};
 ghost use Rattle.lpis_covers.specs.Faults.{rows_of, unless_faulty};
 ghost use Rattle.lpis_covers.specs.Table.{Answers, field_of, texts};
 ghost use Rattle.lpis_covers.specs.declared.fault.Table.TheVariants as tables;
 ghost use Rattle.lpis_lineage.specs.LineageTable.{AnswersRows, lineage_faults, lineage_table};
-ghost use Rattle.lpis_lineage.specs.LineageTable.{row_of, successor_faults, successor_of};
+ghost use Rattle.lpis_lineage.specs.LineageTable.{mark_in as mark_of, mark_faults, row_of};
+ghost use Rattle.lpis_lineage.specs.LineageTable.{successor_faults, successor_of};
 
 use crate::row::Row;
-use lpis_covers::{Id, Table, TableFault, TableReader};
+use lpis_covers::{Id, Table, TableCode, TableFault, TableReader};
 use std::alloc::Global;
 
-/// The columns of the table, in the order in which they are tested.
+/// The columns that must be there, in the order in which they are tested.
 fn columns() -> &'static [&'static [u8]]
     ensures { texts result.now ≡ codes "old" ∷ codes "new" ∷ [] }
 {
     &[b"old", b"new"]
+}
+
+/// The further column, which may be absent.
+fn further() -> &'static [&'static [u8]]
+    ensures { texts result.now ≡ codes "exact" ∷ [] }
+{
+    &[b"exact"]
 }
 
 /// The successor of the row that was read last.
@@ -32,27 +40,61 @@ fn read_successor(alloc: Global, reader: &TableReader<'_>) -> Result<Option<Id>,
     Ok(Some(id))
 }
 
-/// The row that was read last.
-fn read_row(alloc: Global, reader: &TableReader<'_>) -> Result<Row, TableFault>
-    requires { reader.now.table ≡ tables.Lineage }
+/// Whether a text marks a row: `1` does; `0` and no text do not.
+fn mark_in(text: &[u8]) -> Option<bool>
+    ensures { result ≡ mark_of text.now }
+{
+    match text {
+        b"" | b"0" => Some(false),
+        b"1" => Some(true),
+        _ => None,
+    }
+}
+
+/// Whether the row that was read last is marked.
+fn read_mark(reader: &TableReader<'_>, number: u32) -> Result<bool, TableFault>
+    requires { number ≡ reader.now.number }
+    ensures { let mark = mark_of (field_of reader.now.row 2) in
+        Answers result (unless_faulty (mark_faults reader.now.number mark)
+        (unwrap_or mark false)) }
+{
+    match mark_in(reader.field(2)) {
+        Some(mark) => Ok(mark),
+        None => Err(TableFault::At {
+            code: TableCode::BadMark,
+            table: Table::Lineage,
+            row: number,
+            wkt: None,
+        }),
+    }
+}
+
+/// The row that was read last, which has this number.
+fn read_row(alloc: Global, reader: &TableReader<'_>, number: u32) -> Result<Row, TableFault>
+    requires table { reader.now.table ≡ tables.Lineage }
+    requires number { number ≡ reader.now.number }
     ensures { Answers result (unless_faulty (lineage_faults reader.now.number reader.now.row)
         (row_of reader.now.row)) }
 {
     let old = reader.id(alloc, 0)?;
     let new = read_successor(alloc, reader)?;
-    Ok(Row { old, new })
+    let exact = read_mark(reader, number)?;
+    Ok(Row { old, new, exact })
 }
 
 /// The rows of the table `lineage`, with the columns `old` and `new`; an empty `new` makes an
-/// ending. A refusal is the first fault: of row 0; else of a row, in the order of the rows and in
-/// it of the columns; else that which stops the rows.
+/// ending. There may be a column `exact`, in which `1` marks a row; `0` and an empty field do not.
+/// A refusal is the first fault: of row 0; else of a row, in the order of the rows and in it of the
+/// columns, `exact` last; else that which stops the rows.
 pub fn read_rows(alloc: Global, bytes: &[u8]) -> Result<Vec<Row>, TableFault>
     ensures { AnswersRows result (rows_of lineage_table bytes.now) }
 {
-    let mut reader = TableReader::open(alloc, bytes, Table::Lineage, columns(), &[])?;
+    let mut reader = TableReader::open(alloc, bytes, Table::Lineage, columns(), further())?;
     let mut rows = Vec::new(alloc);
+    let mut number = 0;
     'rows: while reader.next_row()? {
-        let row = read_row(alloc, &reader)?;
+        number += 1;
+        let row = read_row(alloc, &reader, number)?;
         rows.push(row)?;
     }
     Ok(rows)

@@ -15,6 +15,8 @@ pub struct Row {
     pub old: Id,
     /// A successor in the release; without one the row is an ending.
     pub new: Option<Id>,
+    /// Whether it is marked exact.
+    pub exact: bool,
 }
 
 impl Row {
@@ -27,7 +29,8 @@ impl Row {
             Some(id) => Some(id.copy()?),
             None => None,
         };
-        Ok(Row { old, new })
+        let exact = self.exact;
+        Ok(Row { old, new, exact })
     }
 }
 

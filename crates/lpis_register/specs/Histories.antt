@@ -8,37 +8,63 @@ use Rattle.lpis_lineage.specs.declared.row.Entry.{Entry}
 use Rattle.lpis_lineage.specs.Accepts.{Adds}
 use Rattle.lpis_lineage.specs.Descendants.{IsDescendant}
 use Rattle.lpis_lineage.specs.Faults.{faults, first}
-use Rattle.lpis_lineage.specs.Lineage.{holds, last_year}
+use Rattle.lpis_lineage.specs.Lineage.{holds, last_live, last_year}
 use Rattle.lpis_lineage.specs.Order.{IsAscending}
-use Rattle.lpis_register_rows.specs.Content.{Content}
+use Rattle.lpis_register_rows.specs.Content.{Content, StoredText}
 use Rattle.lpis_register_rows.specs.Tells.{Tells}
+use Rattle.lpis_register_rows.specs.Texts.{KeptShape, ShapesAre, TextsStand}
 use Rattle.lpis_register.specs.declared.fault.PublishFault.{PublishFault}
 use Rattle.lpis_register.specs.declared.fault.PublishFault.TheVariants.{Memory, Year, Lineage}
 use Rattle.lpis_register.specs.declared.fault.PublishFault.TheVariants.{Store, Unknown, Unlawful}
-use Rattle.lpis_register_sql.specs.Shapes.{Shape, has_spans}
+use Rattle.lpis_register_sql.specs.Layouts.{Origin, Whole}
 use Rattle.lpis_register_sql.specs.Holding.{IsStored, Leaves}
 
--- no transaction is open, and the tables of version 2, in one of the orders that this program
--- makes, say this history
+-- no transaction is open, and the tables of version 3, in one of the orders that this program
+-- makes, say this history, beside texts that may be kept
 pub record HoldsHistory (st : State) (h : List Entry) : Type 0 where
-  pub shape : Shape
-  pub spans : has_spans shape ≡ true
+  pub origin : Origin
   pub content : Content
-  pub stored : IsStored shape st content
+  pub stored : IsStored (Whole origin) st content
   pub tells : Tells content h
+  pub texts : TextsStand content.texts (last_live h)
+
+-- and the texts are those of these shapes
+pub record HoldsShapes (st : State) (shapes : List KeptShape) : Type 0 where
+  pub origin : Origin
+  pub content : Content
+  pub stored : IsStored (Whole origin) st content
+  pub are : ShapesAre content.texts shapes
 
 -- a crash leaves tables that say this history
 pub record LeavesHistory (h : List Entry) (trees : Trees) : Type 0 where
-  pub shape : Shape
-  pub spans : has_spans shape ≡ true
+  pub origin : Origin
   pub content : Content
-  pub leaves : Leaves shape content trees
+  pub leaves : Leaves (Whole origin) content trees
   pub tells : Tells content h
+  pub texts : TextsStand content.texts (last_live h)
 
--- a crash leaves tables that say the history with this release at its end
-abbrev pub LeavesRelease : List Entry → ℕ → List (List ℕ) → List Row → Trees → Type 0
-LeavesRelease h year live rows trees =
-    (k : List Entry) × Adds h k year live rows × LeavesHistory k trees
+-- and keep these shapes
+pub record LeavesShapes (shapes : List KeptShape) (trees : Trees) : Type 0 where
+  pub origin : Origin
+  pub content : Content
+  pub leaves : Leaves (Whole origin) content trees
+  pub are : ShapesAre content.texts shapes
+
+-- a database holds a history, and the shapes that these texts spell
+abbrev pub HoldsBoth : State → List Entry → List StoredText → Type 0
+HoldsBoth st h texts = HoldsHistory st h
+    × ((shapes : List KeptShape) → ShapesAre texts shapes → HoldsShapes st shapes)
+
+-- a crash leaves both
+abbrev pub LeavesBoth : List Entry → List StoredText → Trees → Type 0
+LeavesBoth h texts trees = LeavesHistory h trees
+    × ((shapes : List KeptShape) → ShapesAre texts shapes → LeavesShapes shapes trees)
+
+-- a crash leaves tables that say the history with this release at its end, and keep its shapes
+abbrev pub LeavesRelease : List Entry → ℕ → List (List ℕ) → List Row → List StoredText → Trees
+    → Type 0
+LeavesRelease h year live rows texts trees =
+    (k : List Entry) × Adds h k year live rows × LeavesBoth k texts trees
 
 -- what publishing answers: Ok exactly where the year is above the last one and the lineage has no
 -- fault, out of memory and the database's failures set aside

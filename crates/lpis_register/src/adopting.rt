@@ -4,10 +4,11 @@ ghost use Rattle.std.specs.Prelude.{◌≡◌, true, false, [], IsTrue, IfOk, If
 ghost use Rattle.sqlite.specs.Held.{state};
 ghost use Rattle.sqlite.specs.State.{HasCleanDisk, Survives};
 ghost use Rattle.lpis_register_sql.specs.Bare.{IsBare};
-ghost use Rattle.lpis_register_sql.specs.Shapes.{has_live, has_spans};
+ghost use Rattle.lpis_register_sql.specs.Quiet.{IsFound};
 ghost use Rattle.lpis_register_sql.specs.Holding.{IsStored};
-ghost use Rattle.lpis_register.specs.Histories.{HoldsHistory};
-ghost use Rattle.lpis_register.specs.Opening.{SaysAt, FindsHistory, IsOpeningFault, LeavesOpened};
+ghost use Rattle.lpis_register.specs.Histories.{HoldsBoth};
+ghost use Rattle.lpis_register.specs.Opening.{FindsHistory, IsOpenedAs, IsOpeningFault};
+ghost use Rattle.lpis_register.specs.Opening.{LeavesOpened, Says};
 ghost use Rattle.lpis_register.specs.private.Commits.{LeavesFound};
 ghost use Rattle.lpis_register.specs.declared.fault.PublishFault.TheVariants.{Unlawful};
 
@@ -18,42 +19,39 @@ use crate::register::Register;
 use crate::settling::settle;
 use lpis_lineage::History;
 use lpis_register_rows::order_of_rows_is_free;
-use lpis_register_sql::{create, tables_in};
+use lpis_register_sql::{Found, create, tables_in};
 use sqlite::{Alter, Connection};
 use std::alloc::Global;
 
-/// The history that the tables say; those of version 1 are moved to version 2.
+/// The history that the tables say; those of version 1 or 2 are moved to version 3.
 fn open_found<S: Alter>(
     alloc: Global,
     conn: &mut Connection<S>,
-    spans: bool,
-    lives: bool,
+    found: &Found,
 ) -> Result<History, PublishFault>
     requires autocommit { conn.old.in_transaction ≡ false }
     ensures autocommit { conn.new.in_transaction ≡ false }
-    ensures ok { HasCleanDisk (state S.Store conn.new) → (shape : _) → spans ≡ has_spans shape
-        → lives ≡ has_live shape → (c : _)
-        → IsStored shape (state S.Store conn.old) c
-        → IfOk result (λ h. HoldsHistory (state S.Store conn.new) h × ((first : _)
-        × SaysAt first c h)) }
+    ensures ok { HasCleanDisk (state S.Store conn.new) → (layout : _) → IsFound found.now layout
+        → (c : _) → IsStored layout (state S.Store conn.old) c
+        → IfOk result (IsOpenedAs (state S.Store conn.new) c) }
     ensures err { HasCleanDisk (state S.Store conn.new) → IsTrue (state S.Store conn.new).is_open
-        → (shape : _) → spans ≡ has_spans shape
-        → lives ≡ has_live shape → (c : _) → IsStored shape (state S.Store conn.old) c
-        → OnErr result (IsStored shape (state S.Store conn.new) c) }
-    ensures unlawful { HasCleanDisk (state S.Store conn.new) → (shape : _) → spans ≡ has_spans shape
-        → lives ≡ has_live shape → (c : _) → IsStored shape (state S.Store conn.old) c
-        → IfErr result (λ e. e ≡ Unlawful → (first : _) (h : _) → SaysAt first c h → ⊥) }
+        → (layout : _) → IsFound found.now layout
+        → (c : _) → IsStored layout (state S.Store conn.old) c
+        → OnErr result (IsStored layout (state S.Store conn.new) c) }
+    ensures unlawful { HasCleanDisk (state S.Store conn.new) → (layout : _)
+        → IsFound found.now layout → (c : _) → IsStored layout (state S.Store conn.old) c
+        → IfErr result (λ e. e ≡ Unlawful → (version : _) (h : _) → Says version c h → ⊥) }
     ensures clean { HasCleanDisk (state S.Store conn.new) → HasCleanDisk (state S.Store conn.old) }
     ensures crash { Survives (state S.Store conn.old) (state S.Store conn.new)
-        (LeavesFound spans lives (state S.Store conn.old)) }
+        (LeavesFound found.now (state S.Store conn.old)) }
     ensures kinds { IfErr result IsOpeningFault }
 {
-    let (history, is_first) = find_history(alloc, conn, spans, lives)?;
-    settle(alloc, conn, spans, lives, is_first, &history)?;
+    let (history, version) = find_history(alloc, conn, found)?;
+    settle(alloc, conn, found, version, &history)?;
     Ok(history)
 }
 
-/// The history that a database says, whose tables are those of version 2 afterwards; a database
+/// The history that a database says, whose tables are those of version 3 afterwards; a database
 /// with none gets them.
 pub(crate) fn open_tables<S: Alter>(
     alloc: Global,
@@ -62,20 +60,19 @@ pub(crate) fn open_tables<S: Alter>(
     requires autocommit { conn.old.in_transaction ≡ false }
     ensures autocommit { conn.new.in_transaction ≡ false }
     ensures bare { HasCleanDisk (state S.Store conn.new) → IsBare (state S.Store conn.old)
-        → IfOk result (λ h. HoldsHistory (state S.Store conn.new) h × (h ≡ [])) }
-    ensures found { HasCleanDisk (state S.Store conn.new) → (shape : _) (c : _)
-        → IsStored shape (state S.Store conn.old) c
-        → IfOk result (λ h. HoldsHistory (state S.Store conn.new) h × ((first : _)
-        × SaysAt first c h)) }
+        → IfOk result (λ h. HoldsBoth (state S.Store conn.new) h [] × (h ≡ [])) }
+    ensures found { HasCleanDisk (state S.Store conn.new) → (layout : _) (c : _)
+        → IsStored layout (state S.Store conn.old) c
+        → IfOk result (IsOpenedAs (state S.Store conn.new) c) }
     ensures none { HasCleanDisk (state S.Store conn.new) → IsTrue (state S.Store conn.new).is_open
         → IsBare (state S.Store conn.old)
         → OnErr result (FindsHistory (state S.Store conn.new) []) }
     ensures same { HasCleanDisk (state S.Store conn.new) → IsTrue (state S.Store conn.new).is_open
-        → (shape : _) (c : _) → IsStored shape (state S.Store conn.old) c
-        → OnErr result (IsStored shape (state S.Store conn.new) c) }
-    ensures unlawful { HasCleanDisk (state S.Store conn.new) → (shape : _) (c : _)
-        → IsStored shape (state S.Store conn.old) c
-        → IfErr result (λ e. e ≡ Unlawful → (first : _) (h : _) → SaysAt first c h → ⊥) }
+        → (layout : _) (c : _) → IsStored layout (state S.Store conn.old) c
+        → OnErr result (IsStored layout (state S.Store conn.new) c) }
+    ensures unlawful { HasCleanDisk (state S.Store conn.new) → (layout : _) (c : _)
+        → IsStored layout (state S.Store conn.old) c
+        → IfErr result (λ e. e ≡ Unlawful → (version : _) (h : _) → Says version c h → ⊥) }
     ensures lawful { HasCleanDisk (state S.Store conn.new) → IsBare (state S.Store conn.old)
         → IfErr result (λ e. e ≡ Unlawful → ⊥) }
     ensures clean { HasCleanDisk (state S.Store conn.new) → HasCleanDisk (state S.Store conn.old) }
@@ -86,17 +83,17 @@ pub(crate) fn open_tables<S: Alter>(
     order_of_rows_is_free();
     let found = tables_in(conn.schema());
     if found.common {
-        return open_found(alloc, conn, found.spans, found.lives);
+        return open_found(alloc, conn, &found);
     }
     match create(conn, !found.format) {
-        Ok(()) => open_found(alloc, conn, true, found.lives),
+        Ok(()) => open_found(alloc, conn, &found.completed()),
         Err(error) => Err(fault_of(error)),
     }
 }
 
 impl<S: Alter + Drop> Register<S> {
     /// Opens the register in a database: tables that are not there are made, and those of version 1
-    /// are moved to version 2. Rows that are no lawful history are refused, and nothing is changed.
+    /// or 2 are moved to version 3. Rows that are no lawful history are refused, and nothing is changed.
     /// The connection comes back beside a fault, and its tables hold what they held.
     pub fn adopt(
         alloc: Global,
@@ -105,20 +102,19 @@ impl<S: Alter + Drop> Register<S> {
         requires autocommit { connection.in_transaction ≡ false }
         ensures bare { IfOk result (λ it. HasCleanDisk (state S.Store it.conn)
             → IsBare (state S.Store connection)
-            → HoldsHistory (state S.Store it.conn) it.history × (it.history ≡ [])) }
+            → HoldsBoth (state S.Store it.conn) it.history [] × (it.history ≡ [])) }
         ensures found { IfOk result (λ it. HasCleanDisk (state S.Store it.conn)
-            → (shape : _) (c : _) → IsStored shape (state S.Store connection) c
-            → HoldsHistory (state S.Store it.conn) it.history × ((first : _)
-            × SaysAt first c it.history)) }
+            → (layout : _) (c : _) → IsStored layout (state S.Store connection) c
+            → IsOpenedAs (state S.Store it.conn) c it.history) }
         ensures none { IfErr result (λ e. HasCleanDisk (state S.Store e.0)
             → IsTrue (state S.Store e.0).is_open → IsBare (state S.Store connection)
             → FindsHistory (state S.Store e.0) []) }
         ensures same { IfErr result (λ e. HasCleanDisk (state S.Store e.0)
-            → IsTrue (state S.Store e.0).is_open → (shape : _) (c : _)
-            → IsStored shape (state S.Store connection) c → IsStored shape (state S.Store e.0) c) }
+            → IsTrue (state S.Store e.0).is_open → (layout : _) (c : _)
+            → IsStored layout (state S.Store connection) c → IsStored layout (state S.Store e.0) c) }
         ensures unlawful { IfErr result (λ e. e.1 ≡ Unlawful → HasCleanDisk (state S.Store e.0)
-            → (shape : _) (c : _)
-            → IsStored shape (state S.Store connection) c → (first : _) (h : _) → SaysAt first c h
+            → (layout : _) (c : _)
+            → IsStored layout (state S.Store connection) c → (version : _) (h : _) → Says version c h
             → ⊥) }
         ensures lawful { IfErr result (λ e. e.1 ≡ Unlawful → HasCleanDisk (state S.Store e.0)
             → IsBare (state S.Store connection) → ⊥) }

@@ -7,9 +7,9 @@ ghost use Rattle.sqlite.specs.Files.{HoldsDatabase, file_state};
 ghost use Rattle.sqlite.specs.State.{HasCleanDisk};
 ghost use Rattle.sqlite.specs.Held.{state};
 ghost use Rattle.sqlite.specs.Steps.{over_memory};
-ghost use Rattle.lpis_register.specs.Histories.{HoldsHistory};
+ghost use Rattle.lpis_register.specs.Histories.{HoldsBoth};
 ghost use Rattle.lpis_register_sql.specs.Holding.{Leaves};
-ghost use Rattle.lpis_register.specs.Opening.{IsOpeningFault, SaysAt};
+ghost use Rattle.lpis_register.specs.Opening.{IsOpenedAs, IsOpeningFault};
 
 use crate::fault::PublishFault;
 use crate::opening::fault_of;
@@ -30,15 +30,14 @@ impl<S: Start> Register<FileStore<FileFrom<S>>> {
         start: S,
     ) -> Result<Register<FileStore<FileFrom<S>>>, PublishFault>
         ensures found { IfOk result (λ it. HasCleanDisk (file_state it.conn) → (db : _)
-            → HoldsDatabase (image_at S.Start) db → (shape : _) (c : _) → Leaves shape c db
-            → HoldsHistory (file_state it.conn) it.history × ((first : _)
-            × SaysAt first c it.history)) }
+            → HoldsDatabase (image_at S.Start) db → (layout : _) (c : _) → Leaves layout c db
+            → IsOpenedAs (file_state it.conn) c it.history) }
         ensures made { IfOk result (λ it. HasCleanDisk (file_state it.conn) → (db : _)
             → HoldsDatabase (image_at S.Start) db → db catalog_tree ≡ []
-            → HoldsHistory (file_state it.conn) it.history × (it.history ≡ [])) }
+            → HoldsBoth (file_state it.conn) it.history [] × (it.history ≡ [])) }
         ensures blank { IfOk result (λ it. HasCleanDisk (file_state it.conn)
             → (image_at S.Start).db ≡ []
-            → HoldsHistory (file_state it.conn) it.history × (it.history ≡ [])) }
+            → HoldsBoth (file_state it.conn) it.history [] × (it.history ≡ [])) }
         ensures kinds { IfErr result IsOpeningFault }
     {
         match Connection::open_from(rt, path, false, start) {
@@ -58,7 +57,7 @@ impl Register<MemStore> {
     /// A register in memory, with no release.
     pub fn open_in_memory(alloc: Global) -> Result<Register<MemStore>, PublishFault>
         ensures empty { IfOk result (λ it. it.history ≡ []) }
-        ensures holds { IfOk result (λ it. HoldsHistory (state over_memory it.conn) it.history) }
+        ensures holds { IfOk result (λ it. HoldsBoth (state over_memory it.conn) it.history []) }
         ensures kinds { IfErr result IsOpeningFault }
     {
         let conn = Connection::open_in_memory(alloc)?;

@@ -1,13 +1,14 @@
 //! Laws of the definitions: functions that do nothing, and whose contracts say them.
 
-ghost use Rattle.std.specs.Prelude.{◌≡◌, ◌++◌, Bool, List};
+ghost use Rattle.std.specs.Prelude.{◌≡◌, ◌++◌, List};
 ghost use Rattle.sqlite.specs.Held.{state};
 ghost use Rattle.lpis_lineage.specs.declared.row.Entry.{Entry};
 ghost use Rattle.lpis_register_rows.specs.Content.{Content};
 ghost use Rattle.lpis_register_rows.specs.Tells.{IsSameHistory};
 ghost use Rattle.lpis_register.specs.Calls.{AllLead, AreReleasesOf, Call, accepted};
 ghost use Rattle.lpis_register.specs.Histories.{HoldsHistory};
-ghost use Rattle.lpis_register.specs.Opening.{SaysAt};
+ghost use Rattle.lpis_register.specs.Opening.{SaysHistory};
+ghost use Rattle.lpis_register.specs.declared.version.Version.{Version};
 
 use lpis_register_rows::{
     order_of_rows_is_free, tables_of_version_1_say_one_history, tables_say_one_history,
@@ -25,8 +26,8 @@ pub fn accepted_releases_stand_in_order()
 
 /// Rows say one history, whichever version they are of.
 pub fn rows_say_one_history()
-    ensures { (c : Content) (h k : List Entry) (first other : Bool) → SaysAt first c h
-        → SaysAt other c k → IsSameHistory h k }
+    ensures { (c : Content) (h k : List Entry) (version other : Version)
+        → SaysHistory version c h → SaysHistory other c k → IsSameHistory h k }
 {
     tables_say_one_history();
     tables_of_version_1_say_one_history();

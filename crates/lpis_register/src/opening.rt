@@ -35,14 +35,14 @@ fn history_in(alloc: Global, rows: &Rows) -> Result<History, PublishFault>
     ensures ok { IfOk result (Tells rows.now) }
     ensures lawful { IfErr result (λ e. e ≡ Unlawful → (h : List Entry) → Tells rows.now h → ⊥) }
 {
-    match history_of(alloc, rows) {
+    match history_of(alloc, rows, 3) {
         Ok(history) => Ok(history),
         Err(RecordsFault::Memory) => Err(PublishFault::Memory),
         Err(RecordsFault::Unlawful) => Err(PublishFault::Unlawful),
     }
 }
 
-/// The history that the tables of version 2 say, of which there is one. Nothing is changed.
+/// The history that the tables of version 3 say, of which there is one. Nothing is changed.
 pub(crate) fn read_history<S: Alter>(
     alloc: Global,
     conn: &mut Connection<S>,

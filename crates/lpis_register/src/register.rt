@@ -8,8 +8,10 @@ ghost use Rattle.lpis_lineage.specs.Changes.{IsChange};
 ghost use Rattle.lpis_lineage.specs.Lineage.{last_live};
 ghost use Rattle.lpis_parcels.specs.Release.{parcel_ids};
 ghost use Rattle.lpis_register_rows.specs.Tells.{IsSameHistory};
-ghost use Rattle.lpis_register.specs.Histories.{HoldsHistory, IsTrace, IsUnknown, LeavesHistory};
-ghost use Rattle.lpis_register.specs.Histories.{LeavesRelease, PublishTells};
+ghost use Rattle.lpis_register_rows.specs.Texts.{TextsStand};
+ghost use Rattle.lpis_register.specs.Histories.{HoldsBoth, HoldsHistory, HoldsShapes, IsTrace};
+ghost use Rattle.lpis_register.specs.Histories.{IsUnknown, LeavesBoth, LeavesRelease};
+ghost use Rattle.lpis_register.specs.Histories.{PublishTells};
 ghost use Rattle.lpis_register.specs.declared.fault.PublishFault.TheVariants.{Memory, Store};
 ghost use Rattle.lpis_register.specs.declared.fault.PublishFault.TheVariants.{Unknown, Unlawful};
 
@@ -21,6 +23,7 @@ use crate::tracing::trace;
 use lpis_checker::Yes;
 use lpis_covers::Id;
 use lpis_lineage::{Change, History, Row};
+use lpis_register_rows::TextRow;
 use sqlite::{Alter, Connection};
 use std::alloc::Global;
 
@@ -68,9 +71,10 @@ impl<S: Alter> Register<S> {
         preview(self.alloc, &self.history, year, live.as_slice(), rows)
     }
 
-    /// Publishes a release that the check said yes to: its parcels' identifiers become live, and
-    /// the history has it at its end. It is refused where its year is not above the last one's, and
-    /// else where its lineage is; a refusal leaves the history as it was.
+    /// Publishes a release that the check said yes to: its parcels' identifiers become live, the
+    /// history has it at its end, and these texts are kept in place of the last release's. It is
+    /// refused where its year is not above the last one's, and else where its lineage is; a refusal
+    /// leaves the history and the texts as they were.
     ///
     /// The whole release is one transaction, and all that needs memory comes before it: after a
     /// crash the tables have the release whole or not at all, and always where the answer was Ok.
@@ -79,7 +83,9 @@ impl<S: Alter> Register<S> {
         year: u16,
         yes: &Yes<'_>,
         rows: &[Row],
+        texts: &[TextRow],
     ) -> Result<Change, PublishFault>
+        requires stand { TextsStand texts.now (parcel_ids yes.now.parcels) }
         ensures tells { PublishTells self.old.history year (parcel_ids yes.now.parcels) rows.now
             result }
         ensures adds { OnOk result
@@ -91,18 +97,23 @@ impl<S: Alter> Register<S> {
             ⊎ (self.new.conn ≡ self.old.conn)) }
         ensures ok { HasCleanDisk (state S.Store self.new.conn)
             → HoldsHistory (state S.Store self.old.conn) self.old.history
-            → OnOk result (HoldsHistory (state S.Store self.new.conn) self.new.history) }
+            → OnOk result (HoldsBoth (state S.Store self.new.conn) self.new.history texts.now) }
         ensures err { HasCleanDisk (state S.Store self.new.conn)
             → IsTrue (state S.Store self.new.conn).is_open
             → HoldsHistory (state S.Store self.old.conn) self.old.history
             → OnErr result (HoldsHistory (state S.Store self.new.conn) self.new.history) }
+        ensures same { (shapes : _) → HasCleanDisk (state S.Store self.new.conn)
+            → IsTrue (state S.Store self.new.conn).is_open
+            → HoldsShapes (state S.Store self.old.conn) shapes
+            → OnErr result (HoldsShapes (state S.Store self.new.conn) shapes) }
         ensures crash { HoldsHistory (state S.Store self.old.conn) self.old.history
             → Survives (state S.Store self.old.conn) (state S.Store self.new.conn)
-            (LeavesRelease self.old.history year (parcel_ids yes.now.parcels) rows.now) }
+            (LeavesRelease self.old.history year (parcel_ids yes.now.parcels) rows.now
+            texts.now) }
         ensures durable { HasCleanDisk (state S.Store self.new.conn)
             → HoldsHistory (state S.Store self.old.conn) self.old.history
             → OnOk result ((db : _) → (state S.Store self.new.conn).may_leave db
-            → LeavesHistory self.new.history db) }
+            → LeavesBoth self.new.history texts.now db) }
     {
         let live = live_ids(self.alloc, yes)?;
         publish_release(
@@ -112,6 +123,7 @@ impl<S: Alter> Register<S> {
             year,
             live.as_slice(),
             rows,
+            texts,
         )
     }
 

@@ -6,8 +6,9 @@ ghost use Rattle.sqlite.specs.State.{HasCleanDisk, Survives};
 ghost use Rattle.lpis_lineage.specs.Accepts.{Adds};
 ghost use Rattle.lpis_lineage.specs.Changes.{IsChange};
 ghost use Rattle.lpis_lineage.specs.Lineage.{last_live};
-ghost use Rattle.lpis_register.specs.Histories.{HoldsHistory, LeavesHistory, LeavesRelease};
-ghost use Rattle.lpis_register.specs.Histories.{PublishTells};
+ghost use Rattle.lpis_register.specs.Histories.{HoldsBoth, HoldsHistory, HoldsShapes, LeavesBoth};
+ghost use Rattle.lpis_register.specs.Histories.{LeavesRelease, PublishTells};
+ghost use Rattle.lpis_register_rows.specs.Texts.{TextsStand};
 ghost use Rattle.lpis_register.specs.private.Writes.{Writes};
 ghost use Rattle.lpis_register.specs.declared.fault.PublishFault.TheVariants.{Store};
 
@@ -16,6 +17,7 @@ use crate::preparing::{Prepared, grow, prepare};
 use crate::storing::write_history;
 use lpis_covers::Id;
 use lpis_lineage::{Change, History, Row};
+use lpis_register_rows::TextRow;
 use sqlite::{Alter, Connection};
 use std::alloc::Global;
 
@@ -27,16 +29,17 @@ fn write_prepared<S: Alter>(
     last: u16,
     prepared: &Prepared,
     rows: &[Row],
+    texts: &[TextRow],
 ) -> Result<(), PublishFault>
     requires autocommit { conn.old.in_transaction ≡ false }
     ensures autocommit { conn.new.in_transaction ≡ false }
     ensures writes { Writes history.now year last prepared.now.change.dropped_ids
-        prepared.now.fresh.items rows.now (state S.Store conn.old) (state S.Store conn.new) result }
+        prepared.now.fresh.items rows.now texts.now (state S.Store conn.old) (state S.Store conn.new) result }
     ensures fault { IfErr result (λ e. e ≡ Store) }
 {
     let dropped = prepared.change.dropped();
     let fresh = prepared.fresh.as_slice();
-    match write_history(conn, history, year, last, dropped, fresh, rows) {
+    match write_history(conn, history, year, last, dropped, fresh, rows, texts) {
         Ok(()) => Ok(()),
         Err(_) => Err(PublishFault::Store),
     }
@@ -52,8 +55,10 @@ pub(crate) fn publish_release<S: Alter>(
     year: u16,
     live: &[Id],
     rows: &[Row],
+    texts: &[TextRow],
 ) -> Result<Change, PublishFault>
     requires autocommit { conn.old.in_transaction ≡ false }
+    requires stand { TextsStand texts.now live.now }
     ensures autocommit { conn.new.in_transaction ≡ false }
     ensures tells { PublishTells history.old year live.now rows.now result }
     ensures adds { OnOk result (Adds history.old history.new year live.now rows.now) }
@@ -61,22 +66,25 @@ pub(crate) fn publish_release<S: Alter>(
     ensures change { IfOk result (IsChange (last_live history.old) live.now rows.now) }
     ensures untouched { IfErr result (λ fault. (fault ≡ Store) ⊎ (conn.new ≡ conn.old)) }
     ensures ok { HasCleanDisk (state S.Store conn.new) → HoldsHistory (state S.Store conn.old)
-        history.old → OnOk result (HoldsHistory (state S.Store conn.new) history.new) }
+        history.old → OnOk result (HoldsBoth (state S.Store conn.new) history.new texts.now) }
     ensures err { HasCleanDisk (state S.Store conn.new) → IsTrue (state S.Store conn.new).is_open
         → HoldsHistory (state S.Store conn.old) history.old
         → OnErr result (HoldsHistory (state S.Store conn.new) history.old) }
+    ensures same { (shapes : _) → HasCleanDisk (state S.Store conn.new)
+        → IsTrue (state S.Store conn.new).is_open → HoldsShapes (state S.Store conn.old) shapes
+        → OnErr result (HoldsShapes (state S.Store conn.new) shapes) }
     ensures crash { HoldsHistory (state S.Store conn.old) history.old
         → Survives (state S.Store conn.old) (state S.Store conn.new)
-        (LeavesRelease history.old year live.now rows.now) }
+        (LeavesRelease history.old year live.now rows.now texts.now) }
     ensures durable { HasCleanDisk (state S.Store conn.new) → HoldsHistory (state S.Store conn.old)
         history.old → OnOk result ((db : _) → (state S.Store conn.new).may_leave db
-        → LeavesHistory history.new db) }
+        → LeavesBoth history.new texts.now db) }
 {
     let last = history.last_year();
     let prepared = prepare(alloc, history, year, live, rows)?;
     grow(history, year, live, rows)?;
     // The tables don't have the release yet.
-    match write_prepared(conn, history, year, last, &prepared, rows) {
+    match write_prepared(conn, history, year, last, &prepared, rows, texts) {
         Ok(()) => {
             let Prepared { change, .. } = prepared;
             Ok(change)

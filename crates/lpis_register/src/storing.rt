@@ -6,7 +6,7 @@ ghost use Rattle.lpis_register.specs.private.Writes.{Writes};
 
 use lpis_covers::Id;
 use lpis_lineage::{History, Row};
-use lpis_register_rows::publishing_adds_the_release;
+use lpis_register_rows::{TextRow, order_of_rows_is_free, publishing_adds_the_release};
 use lpis_register_sql::write_release;
 use sqlite::{Alter, Connection, Error};
 
@@ -20,13 +20,24 @@ pub(crate) fn write_history<S: Alter>(
     dropped: &[Id],
     fresh: &[Id],
     rows: &[Row],
+    texts: &[TextRow],
 ) -> Result<(), Error>
     requires autocommit { conn.old.in_transaction ≡ false }
     ensures autocommit { conn.new.in_transaction ≡ false }
-    ensures writes { Writes history.now year last dropped.now fresh.now rows.now
+    ensures writes { Writes history.now year last dropped.now fresh.now rows.now texts.now
         (state S.Store conn.old) (state S.Store conn.new) result }
 {
     let _ = history.releases();
     publishing_adds_the_release();
-    write_release(conn, u32::from(year), u32::from(last), dropped, fresh, rows)
+    order_of_rows_is_free();
+    write_release(
+        conn,
+        u32::from(year),
+        u32::from(last),
+        dropped,
+        fresh,
+        rows,
+        &[],
+        texts,
+    )
 }

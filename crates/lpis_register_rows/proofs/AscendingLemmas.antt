@@ -1,5 +1,5 @@
 -- Lists that ascend by a relation: two with the same elements are equal.
-use Rattle.std.proofs.Common.{◌≡◌, ◌∙◌, ◌<◌, ◌⊎◌, inl, inr, refl, sym, ap₂, subst, arith, ℤ, pos, negsuc, List, [], ◌∷◌, ◌++◌, IsPermutation}
+use Rattle.std.proofs.Common.{◌≡◌, ◌∙◌, ◌<◌, ◌⊎◌, inl, inr, refl, sym, ap₂, subst, arith, ℤ, pos, List, [], ◌∷◌, ◌++◌, IsPermutation}
 use Rattle.lpis_register_rows.proofs.Common.{AllByRecursion, All-from_recursion, recursion_from_All, All-permutation, IsPermutation-sym, IsPermutation-trans}
 
 abbrev pub Ascends : {A : Type 0} → (A → A → Type 0) → List A → Type 0

@@ -7,13 +7,14 @@ pub use Rattle.lpis_lineage.specs.Lineage.{entry_at, holds, last_live, names}
 pub use Rattle.lpis_lineage.specs.Spans.{first_held, last_held, span_of}
 pub use Rattle.lpis_lineage.specs.declared.row.Entry.{Entry}
 pub use Rattle.lpis_lineage.specs.declared.row.Row.{Row}
-pub use Rattle.lpis_register_rows.specs.Content.{Content, Line, Live, StoredSpan, lines_from, text_of}
-pub use Rattle.lpis_register_rows.specs.Tells.{IsKept, IsSameHistory, IsSpanRow, LiveTells, SpansTell, Tells, TellsLive, last_of_years, lines_of, only_format, shown, years_of}
+pub use Rattle.lpis_register_rows.specs.Content.{Content, Line, Live, Mark, StoredSpan, lines_from, text_of}
+pub use Rattle.lpis_register_rows.specs.Tells.{IsKept, IsSameHistory, IsSpanRow, LiveTells, SpansTell, TellsLive, TellsSpans, last_of_years, lines_of, marks_of, only_format, shown, years_of}
 pub use Rattle.lpis_register_rows.specs.declared.known.KnownLine.{KnownLine}
 pub use Rattle.lpis_register_rows.specs.declared.known.KnownSpan.{KnownSpan}
 pub use Rattle.lpis_register_rows.specs.private.Covering.{covers}
 pub use Rattle.lpis_register_rows.specs.private.Fronts.{IsSaid}
-pub use Rattle.lpis_register_rows.specs.private.Known.{HasText, SetsAre, all_live, line_cmp, line_in, one_year, span_in}
+pub use Rattle.lpis_register_rows.specs.private.Known.{HasText, SetsAre, all_live, known_from, known_of, line_in, one_year, span_in}
+pub use Rattle.lpis_register_rows.specs.private.Marking.{marks_in, walked}
 pub use Rattle.std.proofs.Math.Bool.{and-false}
 pub use Rattle.std.proofs.lemmas.Bool.{or_left, or_right}
 pub use Rattle.std.proofs.lemmas.Bool.Decides.{nat_tests}

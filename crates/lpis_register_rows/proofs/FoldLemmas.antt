@@ -61,6 +61,8 @@ pub published-is : (year last : ℤ) (gone fresh : List (List ℕ)) (rows : List
       spans = rev_onto (map (fresh_span year) fresh) (map (end_among last gone) c.spans);
       lines = rev_onto (lines_from year 0 rows) c.lines;
       live = c.live;
+      texts = c.texts;
+      marks = c.marks;
     }
 published-is year last gone fresh rows c =
     ap (λ (d : Content). with_lines (lines_from year 0 rows) (with_spans year fresh d)) (ended-made last gone (with_year year c))

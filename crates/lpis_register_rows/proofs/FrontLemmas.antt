@@ -1,28 +1,32 @@
 -- A history put together release by release is the front of the one that the rows say.
-use Rattle.std.proofs.Common.{◌≡◌, ◌∙◌, ◌<◌, ◌≤◌, ◌+◌, inl, inr, refl, sym, ap, ap₂, subst, arith, ℕ, zero, suc, ℤ, pos, List, [], ◌∷◌, ◌++◌, Bool, true, Some, Err, length, map, take, get_or}
-use Rattle.std.proofs.Common.{length-append, ◌&&◌, All, filter}
-use Rattle.lpis_register_rows.proofs.Common.{AllByRecursion, list_any, map-append, recursion_from_All, has_id, same_id, Entry, Row, Adds, IsLawful, RowsFit, entry_at, holds, last_live, names}
+use Rattle.std.proofs.Common.{◌≡◌, ◌∙◌, ◌<◌, ◌≤◌, ◌+◌, inl, inr, refl, sym, ap, ap₂, subst, arith, ℕ, zero, suc, ℤ, pos, List, [], ◌∷◌, ◌++◌, Bool, true, cond, nat_lt, Option, None, Some, Err, ◌||◌, length, map, take, get_or}
+use Rattle.std.proofs.Common.{length-append, ◌&&◌, filter}
+use Rattle.lpis_register_rows.proofs.Common.{AllByRecursion, list_any, map-append, has_id, same_id, Entry, Row, Adds, IsLawful, RowsFit, entry_at, holds, last_live, names}
 use Rattle.lpis_register_rows.proofs.Common.{first_held}
 use Rattle.lpis_register_rows.proofs.Common.{last_held, span_of, entry-after, entry-before, entry-here, in-history, longer, before-at-after, take-at, KnownSpan}
-use Rattle.lpis_register_rows.proofs.Common.{KnownLine, Line, StoredSpan, lines_from, IsSameHistory}
-use Rattle.lpis_register_rows.proofs.Common.{lines_of, years_of, covers, IsSaid, HasText, line_in, span_in}
-use Rattle.std.proofs.lemmas.List.{append-nil, append_assoc, append_cancel_left, length-map, length-take-le, get_or_default, take-append-le, take-map}
+use Rattle.lpis_register_rows.proofs.Common.{KnownLine, StoredSpan, known_from, IsSameHistory}
+use Rattle.lpis_register_rows.proofs.Common.{known_of, years_of, covers, IsSaid, span_in}
+use Rattle.std.proofs.lemmas.List.{append-nil, append_assoc, append_cancel_left, length-take-le, get_or_default, take-append-le}
 use Rattle.lpis_lineage.specs.declared.fault.LineageFault.{LineageFault}
 use Rattle.lpis_lineage.specs.declared.fault.AddFault.{AddFault}
 use Rattle.lpis_lineage.specs.declared.fault.AddFault.TheVariants.{Memory as WantsMemory, Year, Lineage}
 use Rattle.lpis_lineage.specs.Accepts.{AddTells}
 use Rattle.lpis_lineage.specs.Faults.{faults, first}
 use Rattle.lpis_lineage.specs.Lawful.{IsAnswered}
-use Rattle.lpis_lineage.specs.Lineage.{is_of, last_year, same_row}
+use Rattle.lpis_lineage.specs.declared.kind.Kind.{Kind}
+use Rattle.lpis_lineage.specs.declared.kind.Kind.TheVariants.{Kept, Ended}
+use Rattle.lpis_lineage.specs.ExactGroups.{MarksHold, is_outside}
+use Rattle.lpis_lineage.specs.Kinds.{by_counts, heirs, kind, predecessors, successors, times}
+use Rattle.lpis_lineage.specs.Lineage.{ended, is_of, last_year, same_row}
 use Rattle.lpis_lineage.proofs.Shared.{never-follows}
 use Rattle.lpis_register_rows.specs.private.Fronts.{IsDue, IsFront, IsRun}
 use Rattle.lpis_register_rows.specs.private.Known.{line_at}
 use Rattle.lpis_register_rows.proofs.AscendingLemmas.{Ascends, below, below-alone}
 use Rattle.lpis_register_rows.proofs.KnownLemmas.{AreLive, take-whole}
-use Rattle.lpis_register_rows.proofs.OneHistoryLemmas.{have-texts, rows-apart}
+use Rattle.lpis_register_rows.proofs.KnownRowLemmas.{known-above, rows-apart}
 use Rattle.lpis_register_rows.proofs.NextReleaseLemmas.{any-map}
 use Rattle.lpis_register_rows.proofs.SayingLemmas.{first_of, rest}
-use Rattle.lpis_register_rows.proofs.YearLemmas.{lines-above, years-ascend}
+use Rattle.lpis_register_rows.proofs.YearLemmas.{years-ascend}
 
 -- ---- the front of a lawful history with fitting rows is one too
 
@@ -46,6 +50,22 @@ front-lawful g h f law = record {
   successors = λ id i n. let il = rows-within g i (names id) n in f.sets i il id ∙ law.successors id i (ap (λ (rs : List Row). list_any (names id) rs) (sym (f.rows i il)) ∙ n);
 }
 
+any-alike : {A : Type 0} (p q : A → Bool) (xs : List A) → ((x : A) → p x ≡ q x) → list_any p xs ≡ list_any q xs
+any-alike p q [] f = refl
+any-alike p q (x ∷ xs) f = ap₂ (λ (a b : Bool). a || b) (f x) (any-alike p q xs f)
+
+-- sets with the same members give the same kinds
+kinds-alike : (l m a b : List (List ℕ)) (rows : List Row) → ((q : List ℕ) → has_id l q ≡ has_id m q) → ((q : List ℕ) → has_id a q ≡ has_id b q) → kind l a rows ≡ kind m b rows
+kinds-alike l m a b rows last live = λ i id. one id i where
+  by : List ℕ → Bool → Bool → Bool → Option Kind
+  by id x y z = cond x (Some (cond y Kept (cond (ended rows id) Ended (by_counts (nat_lt 1 (length (successors rows id))) z)))) None
+
+  one : (id : List ℕ) → kind l a rows id ≡ kind m b rows id
+  one id =
+      ap₂ (λ (x y : Bool). by id x y (list_any (λ s. nat_lt 1 (predecessors l a rows s)) (successors rows id))) (last id) (live id)
+      ∙ ap (λ (z : Bool). by id (has_id m id) (has_id b id) z) (any-alike (λ s. nat_lt 1 (predecessors l a rows s)) (λ s. nat_lt 1 (predecessors m b rows s)) (successors rows id)
+      (λ s. ap₂ (λ (x y : Bool). nat_lt 1 (times (heirs rows) s + cond (x && y) 1 0)) (last s) (live s)))
+
 front-fits : (g h : List Entry) → IsFront g h → RowsFit h → RowsFit g
 front-fits g h f fit = record {
   first = first-rows g f;
@@ -57,7 +77,24 @@ front-fits g h f fit = record {
       let il = rows-within g (i + 1) (is_of id) n in
       let d = fit.of_dropped id i (ap (λ (rs : List Row). list_any (is_of id) rs) (sym (f.rows (i + 1) il)) ∙ n) in
       (il, f.sets i (omega (arith, il)) id ∙ d.1, f.sets (i + 1) il id ∙ d.2);
+  marked = λ i. elim (before-at-after (i + 1) (length g)) as (λ _. MarksHold (entry_at g i).live (entry_at g (i + 1)).live (entry_at g (i + 1)).rows) [
+    | inl lt ↦ held i lt
+    | inr r ↦ unmarked i (elim r as (λ _. length g ≤ i + 1) [ inl e ↦ omega (arith, e) | inr lt ↦ omega (arith, lt) ])
+  ];
 } where
+  outside : (List ℕ → Option Kind) → List Row → Bool
+  outside kind_of rows = list_any (is_outside kind_of rows) rows
+
+  held : (i : ℕ) → i + 1 < length g → MarksHold (entry_at g i).live (entry_at g (i + 1)).live (entry_at g (i + 1)).rows
+  held i lt =
+      ap (λ (rs : List Row). outside (kind (entry_at g i).live (entry_at g (i + 1)).live rs) rs) (f.rows (i + 1) lt)
+      ∙ ap (λ (kind_of : List ℕ → Option Kind). outside kind_of (entry_at h (i + 1)).rows)
+      (kinds-alike (entry_at g i).live (entry_at h i).live (entry_at g (i + 1)).live (entry_at h (i + 1)).live (entry_at h (i + 1)).rows (f.sets i (omega (arith, lt))) (f.sets (i + 1) lt))
+      ∙ fit.marked i
+
+  unmarked : (i : ℕ) → length g ≤ i + 1 → MarksHold (entry_at g i).live (entry_at g (i + 1)).live (entry_at g (i + 1)).rows
+  unmarked i le = ap (λ (x : Entry). outside (kind (entry_at g i).live (entry_at g (i + 1)).live x.rows) x.rows) (entry-after g (i + 1) le)
+
   first-rows : (k : List Entry) → IsFront k h → (entry_at k 0).rows ≡ []
   first-rows [] f = refl
   first-rows (x ∷ k) f = f.rows 0 (omega arith) ∙ fit.first
@@ -139,43 +176,43 @@ span-same g h id same = rw (
 
 -- ---- where a release's lines stand
 
-at-append : (xs ys : List Line) (n k : ℕ) → n ≡ length xs + k → line_at (xs ++ ys) n ≡ line_at ys k
+at-append : (xs ys : List KnownLine) (n k : ℕ) → n ≡ length xs + k → line_at (xs ++ ys) n ≡ line_at ys k
 at-append [] ys n k e = ap (line_at ys) (omega (arith, e))
 at-append (x ∷ xs) ys zero k e = absurd (omega (arith, e))
 at-append (x ∷ xs) ys (suc n) k e = at-append xs ys n k (omega (arith, e))
 
-at-lines : (y : ℤ) (n : ℕ) (rs : List Row) (back : List Line) (k : ℕ) → k < length rs
-    → ((line_at (lines_from y n rs ++ back) k).year ≡ y) × ((line_at (lines_from y n rs ++ back) k).position ≡ pos (n + k))
+at-lines : (y : ℤ) (n : ℕ) (rs : List Row) (back : List KnownLine) (k : ℕ) → k < length rs
+    → ((line_at (known_from y n rs ++ back) k).year ≡ y) × ((line_at (known_from y n rs ++ back) k).position ≡ pos (n + k))
 at-lines y n [] back k lt = absurd (omega (arith, lt))
 at-lines y n (r ∷ rs) back zero lt = (refl, (let e : n ≡ n + 0 = omega arith in ap (λ (m : ℕ). pos m) e))
 at-lines y n (r ∷ rs) back (suc k) lt = let ih = at-lines y (n + 1) rs back k (omega (arith, lt)) in (ih.0, ih.1 ∙ (let e : n + 1 + k ≡ n + suc k = omega arith in ap (λ (m : ℕ). pos m) e))
 
-at-end : (y : ℕ) (back : List Line) → AllByRecursion (λ l. below (pos y) l.year) back → (line_at back 0).year ≡ pos y → ⊥
+at-end : (y : ℕ) (back : List KnownLine) → AllByRecursion (λ l. below (pos y) l.year) back → (line_at back 0).year ≡ pos y → ⊥
 at-end y [] all e = absurd cc
 at-end y (l ∷ ls) all e = let r : below (pos y) (pos y) = subst (below (pos y)) e all.0 in below-alone (pos y) (pos y) r r
 
-lines-length : (y : ℤ) (n : ℕ) (rs : List Row) → length (lines_from y n rs) ≡ length rs
+lines-length : (y : ℤ) (n : ℕ) (rs : List Row) → length (known_from y n rs) ≡ length rs
 lines-length y n [] = refl
 lines-length y n (r ∷ rs) = ap suc (lines-length y (n + 1) rs)
 
-lines-run : (y : ℕ) (front : List Line) (rs : List Row) (back whole : List Line) (from : ℕ) → whole ≡ front ++ (lines_from (pos y) 0 rs ++ back)
+lines-run : (y : ℕ) (front : List KnownLine) (rs : List Row) (back whole : List KnownLine) (from : ℕ) → whole ≡ front ++ (known_from (pos y) 0 rs ++ back)
     → from ≡ length front → AllByRecursion (λ l. below (pos y) l.year) back → IsRun whole from y (from + length rs)
 lines-run y front rs back whole from w n above = record {
   within = omega arith;
   here = λ k lt. let l = at-lines (pos y) 0 rs back k (omega (arith, lt)) in let at =
       there (from + k) k (omega (arith, n)) in (
-        ap (λ (x : Line). x.year) at ∙ l.0,
-        ap (λ (x : Line). x.position) at ∙ l.1
+        ap (λ (x : KnownLine). x.year) at ∙ l.0,
+        ap (λ (x : KnownLine). x.position) at ∙ l.1
             ∙ (let e : 0 + k ≡ k = omega arith in ap (λ (m : ℕ). pos m) e),
       );
   after =
       λ e. at-end y back above
-      (sym (ap (λ (x : Line). x.year) (there (from + length rs) (length rs) (omega (arith, n))
-      ∙ at-append (lines_from (pos y) 0 rs) back (length rs) 0 (let m = lines-length (pos y) 0 rs in omega (arith, m))))
+      (sym (ap (λ (x : KnownLine). x.year) (there (from + length rs) (length rs) (omega (arith, n))
+      ∙ at-append (known_from (pos y) 0 rs) back (length rs) 0 (let m = lines-length (pos y) 0 rs in omega (arith, m))))
       ∙ e);
 } where
-  there : (m k : ℕ) → m ≡ length front + k → line_at whole m ≡ line_at (lines_from (pos y) 0 rs ++ back) k
-  there m k e = ap (λ (l : List Line). line_at l m) w ∙ at-append front (lines_from (pos y) 0 rs ++ back) m k e
+  there : (m k : ℕ) → m ≡ length front + k → line_at whole m ≡ line_at (known_from (pos y) 0 rs ++ back) k
+  there m k e = ap (λ (l : List KnownLine). line_at l m) w ∙ at-append front (known_from (pos y) 0 rs ++ back) m k e
 
 tail-front : (x y : Entry) (g h : List Entry) → IsFront (x ∷ g) (y ∷ h) → IsFront g h
 tail-front x y g h f = record {
@@ -186,93 +223,83 @@ tail-front x y g h f = record {
 }
 
 -- the lines of a history after those of its front: the next release's, and then later ones
-record IsNextLines (g h : List Entry) (back : List Line) : Type 0 where
-  pub are : lines_of h ≡ lines_of g ++ (lines_from (pos (entry_at h (length g)).year) 0 (entry_at h (length g)).rows ++ back)
+record IsNextLines (g h : List Entry) (back : List KnownLine) : Type 0 where
+  pub are : known_of h ≡ known_of g ++ (known_from (pos (entry_at h (length g)).year) 0 (entry_at h (length g)).rows ++ back)
   pub above : AllByRecursion (λ l. below (pos (entry_at h (length g)).year) l.year) back
 
-next-lines : (g h : List Entry) → IsFront g h → length g < length h → Ascends below (years_of h) → (back : List Line) × IsNextLines g h back
-next-lines [] (y ∷ h) f lt a = (lines_of h, record { are = refl; above = lines-above (pos y.year) h a.0 })
+next-lines : (g h : List Entry) → IsFront g h → length g < length h → Ascends below (years_of h) → (back : List KnownLine) × IsNextLines g h back
+next-lines [] (y ∷ h) f lt a = (known_of h, record { are = refl; above = known-above (pos y.year) h a.0 })
 next-lines (x ∷ g) (y ∷ h) f lt a =
     let r = next-lines g h (tail-front x y g h f) (omega (arith, lt)) a.1 in
-    let next : List Line = lines_from (pos (entry_at h (length g)).year) 0 (entry_at h (length g)).rows ++ r.0 in (
+    let next : List KnownLine = known_from (pos (entry_at h (length g)).year) 0 (entry_at h (length g)).rows ++ r.0 in (
       r.0,
       record {
-        are = ap₂ (λ (n : ℕ) (rs : List Row). lines_from (pos n) 0 rs ++ lines_of h) (sym (f.years 0 (omega arith))) (sym (f.rows 0 (omega arith)))
-            ∙ ap (λ (l : List Line). lines_from (pos x.year) 0 x.rows ++ l) r.1.are ∙ sym (append_assoc (lines_from (pos x.year) 0 x.rows) (lines_of g) next);
+        are = ap₂ (λ (n : ℕ) (rs : List Row). known_from (pos n) 0 rs ++ known_of h) (sym (f.years 0 (omega arith))) (sym (f.rows 0 (omega arith)))
+            ∙ ap (λ (l : List KnownLine). known_from (pos x.year) 0 x.rows ++ l) r.1.are ∙ sym (append_assoc (known_from (pos x.year) 0 x.rows) (known_of g) next);
         above = r.1.above;
       },
     )
 next-lines _ _ f lt a = absurd (omega (arith, lt))
 
 -- reading goes on up to the end of the run
-pub run-more : (ls : List Line) (from y stop next : ℕ) → IsRun ls from y stop → next ≤ stop → (line_at ls next).year ≡ pos y → next + 1 ≤ stop
+pub run-more : (ls : List KnownLine) (from y stop next : ℕ) → IsRun ls from y stop → next ≤ stop → (line_at ls next).year ≡ pos y → next + 1 ≤ stop
 run-more ls from y stop next run le e = elim (before-at-after next stop) as (λ _. next + 1 ≤ stop) [
   | inl lt ↦ omega (arith, lt)
   | inr r ↦ elim r as (λ _. next + 1 ≤ stop) [ inl at ↦ absurd (run.after (ap (λ (n : ℕ). (line_at ls n).year) (sym at) ∙ e)) | inr gt ↦ absurd (omega (arith, le, gt)) ]
 ]
 
-pub run-end : (ls : List Line) (from y stop next k : ℕ) → IsRun ls from y stop → next ≤ stop → next ≡ from + k → ((line_at ls next).year ≡ pos y → ⊥) → next ≡ stop
+pub run-end : (ls : List KnownLine) (from y stop next k : ℕ) → IsRun ls from y stop → next ≤ stop → next ≡ from + k → ((line_at ls next).year ≡ pos y → ⊥) → next ≡ stop
 run-end ls from y stop next k run le at not = elim (before-at-after next stop) as (λ _. next ≡ stop) [
   | inl lt ↦ absurd (not (ap (λ (n : ℕ). (line_at ls n).year) at ∙ (run.here k (omega (arith, at, lt))).0))
   | inr r ↦ elim r as (λ _. next ≡ stop) [ inl e ↦ e | inr gt ↦ absurd (omega (arith, le, gt)) ]
 ]
 
-pub run-position : (ls : List Line) (from y stop next k : ℕ) → IsRun ls from y stop → next ≡ from + k → next + 1 ≤ stop → (line_at ls next).position ≡ pos k
+pub run-position : (ls : List KnownLine) (from y stop next k : ℕ) → IsRun ls from y stop → next ≡ from + k → next + 1 ≤ stop → (line_at ls next).position ≡ pos k
 run-position ls from y stop next k run at le = ap (λ (n : ℕ). (line_at ls n).position) at ∙ (run.here k (omega (arith, at, le))).1
 
 -- ---- the next release that rows say
-
-at-entry : (P : Entry → Type 0) (h : List Entry) (i : ℕ) → AllByRecursion P h → i < length h → P (entry_at h i)
-at-entry P [] i all lt = absurd (omega (arith, lt))
-at-entry P (x ∷ h) zero all lt = all.0
-at-entry P (x ∷ h) (suc i) all lt = at-entry P h i all.1 (omega (arith, lt))
 
 last-below : (g h : List Entry) → IsFront g h → IsLawful h → length g < length h → last_year g < (entry_at h (length g)).year
 last-below [] h f law lt = law.first_year lt
 last-below (x ∷ g) h f law lt = let y = f.years (length g) (omega arith) in let r = law.years_rise (length g) (length (x ∷ g)) (omega arith) lt in omega (arith, y, r)
 
 -- two lists of rows that stand at one position, before others or at the end, are equal
-rows-cut : (y : ℕ) (front : List Line) (rows others : List Row) (back whole read : List Line) (next : ℕ) → next ≡ length front + length rows
-    → whole ≡ front ++ (lines_from (pos y) 0 rows ++ back) → read ≡ take next whole → read ≡ front ++ lines_from (pos y) 0 others
-    → AllByRecursion HasText rows → AllByRecursion HasText others → others ≡ rows
-rows-cut y front rows others back whole read next n w r o texts also =
-    (rows-apart y 0 others rows [] [] tt tt also texts (append-nil (lines_from (pos y) 0 others) ∙ alike
-    ∙ sym (append-nil (lines_from (pos y) 0 rows)))).0 where
-      mid : List Line
-      mid = lines_from (pos y) 0 rows
+rows-cut : (y : ℕ) (front : List KnownLine) (rows others : List Row) (back whole read : List KnownLine) (next : ℕ) → next ≡ length front + length rows
+    → whole ≡ front ++ (known_from (pos y) 0 rows ++ back) → read ≡ take next whole → read ≡ front ++ known_from (pos y) 0 others → others ≡ rows
+rows-cut y front rows others back whole read next n w r o =
+    (rows-apart y 0 others rows [] [] tt tt (append-nil (known_from (pos y) 0 others) ∙ alike
+    ∙ sym (append-nil (known_from (pos y) 0 rows)))).0 where
+      mid : List KnownLine
+      mid = known_from (pos y) 0 rows
 
       long : next ≡ length (front ++ mid)
       long = let m = lines-length (pos y) 0 rows in let l = length-append front mid in omega (arith, n, m, l)
 
-      alike : lines_from (pos y) 0 others ≡ mid
-      alike = append_cancel_left front (lines_from (pos y) 0 others) mid (
+      alike : known_from (pos y) 0 others ≡ mid
+      alike = append_cancel_left front (known_from (pos y) 0 others) mid (
           sym o ∙ r ∙ ap (take next) (w ∙ sym (append_assoc front mid back)) ∙ take-append-le next (front ++ mid) back (omega (arith, long)) ∙ take-whole (front ++ mid) next (omega (arith, long)))
 
 module _ (spans : List KnownSpan) (lines : List KnownLine) (g h : List Entry) (from year : ℕ) (said : IsSaid spans lines h) (due : IsDue g lines from year h) (within : from ≤ length lines) where
-  begins : from ≡ length (lines_of g)
-  begins = let e = ap length due.lines_are in let m = length-map (take from lines) line_in in let t = length-take-le from lines within in omega (arith, e, m, t)
+  begins : from ≡ length (known_of g)
+  begins = let e = ap length due.lines_are in let t = length-take-le from lines within in omega (arith, e, t)
 
-  later : (back : List Line) × IsNextLines g h back
+  later : (back : List KnownLine) × IsNextLines g h back
   later = next-lines g h due.front due.more (years-ascend h said.kept.lawful)
 
-  whole : map line_in lines ≡ lines_of g ++ (lines_from (pos year) 0 (entry_at h (length g)).rows ++ later.0)
-  whole = sym said.lines_are ∙ later.1.are ∙ ap (λ (n : ℕ). lines_of g ++ (lines_from (pos n) 0 (entry_at h (length g)).rows ++ later.0)) due.year_is
+  whole : lines ≡ known_of g ++ (known_from (pos year) 0 (entry_at h (length g)).rows ++ later.0)
+  whole = sym said.lines_are ∙ later.1.are ∙ ap (λ (n : ℕ). known_of g ++ (known_from (pos n) 0 (entry_at h (length g)).rows ++ later.0)) due.year_is
 
   -- its lines stand from here on
-  pub due-run : IsRun (map line_in lines) from year (from + length (entry_at h (length g)).rows)
-  due-run = lines-run year (lines_of g) (entry_at h (length g)).rows later.0 (map line_in lines) from whole begins
+  pub due-run : IsRun lines from year (from + length (entry_at h (length g)).rows)
+  due-run = lines-run year (known_of g) (entry_at h (length g)).rows later.0 lines from whole begins
       (subst (λ (n : ℕ). AllByRecursion (λ l. below (pos n) l.year) later.0) due.year_is later.1.above)
 
   -- what is read of them are its rows
   pub due-rows : (rows : List Row) (next : ℕ) → next ≡ from + length (entry_at h (length g)).rows
-      → map line_in (take next lines) ≡ map line_in (take from lines) ++ lines_from (pos year) 0 rows → All HasText rows
-      → rows ≡ (entry_at h (length g)).rows
-  due-rows rows next n read texts =
-      rows-cut year (lines_of g) (entry_at h (length g)).rows rows later.0 (map line_in lines)
-      (map line_in (take next lines)) next (let b = begins in omega (arith, b, n)) whole
-      (sym (take-map line_in next lines))
-      (read ∙ ap (λ (l : List Line). l ++ lines_from (pos year) 0 rows) (sym due.lines_are))
-      (at-entry (λ e. AllByRecursion HasText e.rows) h (length g) (have-texts h said.kept) due.more) (recursion_from_All HasText rows texts)
+      → take next lines ≡ take from lines ++ known_from (pos year) 0 rows → rows ≡ (entry_at h (length g)).rows
+  due-rows rows next n read =
+      rows-cut year (known_of g) (entry_at h (length g)).rows rows later.0 lines (take next lines) next (let b = begins in omega (arith, b, n)) whole refl
+      (read ∙ ap (λ (l : List KnownLine). l ++ known_from (pos year) 0 rows) (sym due.lines_are))
 
   due-set : (live : List (List ℕ)) → AreLive live year spans → (id : List ℕ) → has_id live id ≡ holds h (length g) id
   due-set live alive id =
@@ -322,7 +349,7 @@ as-long g h ys i a b le = let n = years-length g (take i ys) a in let m = years-
 
 -- the release of the next year is due
 pub due-now : (g h : List Entry) (lines : List KnownLine) (from : ℕ) (ys : List ℕ) (i : ℕ) → i < length ys → IsFront g h
-    → years_of g ≡ map (λ y. pos y) (take i ys) → years_of h ≡ map (λ y. pos y) ys → lines_of g ≡ map line_in (take from lines)
+    → years_of g ≡ map (λ y. pos y) (take i ys) → years_of h ≡ map (λ y. pos y) ys → known_of g ≡ take from lines
     → IsDue g lines from (get_or ys i 0) h
 due-now g h lines from ys i lt front a b l =
     let n = years-length g (take i ys) a in
@@ -336,19 +363,17 @@ years-more ys i old new lt o n =
     n ∙ ap (λ (l : List ℤ). l ++ pos (get_or ys i 0) ∷ []) o ∙ sym (map-append (λ (y : ℕ). pos y) (take i ys) (get_or ys i 0 ∷ []))
     ∙ ap (λ (l : List ℕ). map (λ y. pos y) l) (take-at ys i (get_or ys i 0) lt (get_or_default ys i 0 (get_or ys i 0) lt))
 
-same-lines : (g h : List Entry) → IsFront g h → length g ≡ length h → lines_of g ≡ lines_of h
+same-lines : (g h : List Entry) → IsFront g h → length g ≡ length h → known_of g ≡ known_of h
 same-lines [] [] f n = refl
 same-lines (x ∷ g) (y ∷ h) f n =
-    ap₂ (λ (n : ℕ) (rs : List Row). lines_from (pos n) 0 rs ++ lines_of g) (f.years 0 (omega arith)) (f.rows 0 (omega arith))
-    ∙ ap (λ (l : List Line). lines_from (pos y.year) 0 y.rows ++ l) (same-lines g h (tail-front x y g h f) (omega (arith, n)))
+    ap₂ (λ (n : ℕ) (rs : List Row). known_from (pos n) 0 rs ++ known_of g) (f.years 0 (omega arith)) (f.rows 0 (omega arith))
+    ∙ ap (λ (l : List KnownLine). known_from (pos y.year) 0 y.rows ++ l) (same-lines g h (tail-front x y g h f) (omega (arith, n)))
 same-lines _ _ f n = absurd (omega (arith, n))
 
 -- with no release left no line is left
 pub lines-whole : (spans : List KnownSpan) (lines : List KnownLine) (g h : List Entry) (from : ℕ) → IsSaid spans lines h → IsFront g h
-    → length g ≡ length h → lines_of g ≡ map line_in (take from lines) → from < length lines → ⊥
+    → length g ≡ length h → known_of g ≡ take from lines → from < length lines → ⊥
 lines-whole spans lines g h from said front n are lt = absurd (let e = ap length (are-same ∙ said.lines_are) in let a =
-    ap length are in let m = length-map (take from lines) line_in in let t =
-    length-take-le from lines (omega (arith, lt)) in let w = length-map lines line_in in
-    omega (arith, e, a, m, t, w, lt)) where
-      are-same : lines_of g ≡ lines_of h
+    ap length are in let t = length-take-le from lines (omega (arith, lt)) in omega (arith, e, a, t, lt)) where
+      are-same : known_of g ≡ known_of h
       are-same = same-lines g h front n

@@ -1,9 +1,9 @@
 -- Rows with their identifiers read, one more.
 use Rattle.std.proofs.Common.{◌≡◌, ◌∙◌, ◌<◌, ◌≤◌, ◌+◌, refl, sym, ap, ap₂, subst, arith, ℕ, ℤ, pos, zero, suc, List, [], ◌∷◌, ◌++◌, Bool, true, false, cond, length, map, take, drop, get_or, ◌||◌}
-use Rattle.std.proofs.Common.{◌&&◌, not, nat_lt, All, filter, is_eq, nat_cmp}
+use Rattle.std.proofs.Common.{◌&&◌, add-one, drop-cons, not, nat_lt, All, filter, is_eq, nat_cmp}
 use Rattle.lpis_register_rows.proofs.Common.{list_any, slice_cmp, nat_tests, map-append, All-push, and-false, has_id, is_id, same_id, Row, same-exact, same-refl, filter-none, take-at, KnownLine}
 use Rattle.lpis_register_rows.proofs.Common.{KnownSpan}
-use Rattle.lpis_register_rows.proofs.Common.{Line, StoredSpan, lines_from, text_of, covers, line_in, span_in}
+use Rattle.lpis_register_rows.proofs.Common.{StoredSpan, covers, known_from, span_in}
 use Rattle.std.proofs.lemmas.Grind.{common_steps}
 use Rattle.std.proofs.lemmas.List.{take-append-drop, append_assoc}
 use Rattle.std.proofs.lemmas.Bool.{not-false}
@@ -27,15 +27,19 @@ pub all-pushed : {A : Type 0} (P : A → Type 0) (xs new : List A) (x : A) → n
 all-pushed P xs new x n all p = subst (All P) (sym n) (All-push P xs x all p)
 
 -- the line at a position of those that were read
-pub known-at : (ks : List KnownLine) (i : ℕ) (l : KnownLine) → i < length ks → l ≡ get_or ks i l → line_at (map line_in ks) i ≡ line_in l
+pub known-at : (ks : List KnownLine) (i : ℕ) (l : KnownLine) → i < length ks → l ≡ get_or ks i l → line_at ks i ≡ l
 known-at [] i l lt at = absurd (omega (arith, lt))
-known-at (k ∷ ks) zero l lt at = ap line_in (sym at)
+known-at (k ∷ ks) zero l lt at = sym at
 known-at (k ∷ ks) (suc i) l lt at = known-at ks i l (omega (arith, lt)) at
 
-pub known-past : {P : Type 0} → (ks : List KnownLine) (i : ℕ) (y : ℕ) → length ks ≤ i → (line_at (map line_in ks) i).year ≡ pos y → P
+pub known-past : {P : Type 0} → (ks : List KnownLine) (i : ℕ) (y : ℕ) → length ks ≤ i → (line_at ks i).year ≡ pos y → P
 known-past [] i y le e = absurd cc
 known-past (k ∷ ks) zero y le e = absurd (omega (arith, le))
 known-past (k ∷ ks) (suc i) y le e = known-past ks i y (omega (arith, le)) e
+
+-- what is left of a list begins with the element at the position
+pub drop-at : {A : Type 0} (xs : List A) (i : ℕ) (x : A) → i < length xs → x ≡ get_or xs i x → drop i xs ≡ x ∷ drop (i + 1) xs
+drop-at {A} xs i x lt is = rw add-one (drop-cons xs i x lt ∙ ap (λ (y : A). y ∷ drop (suc i) xs) (sym is))
 
 -- a list read one further
 pub read-more : {A B : Type 0} (f : A → B) (known : List A) (k : A) (rows : List B) (i : ℕ) (row : B) → map f known ≡ take i rows → i < length rows
@@ -46,7 +50,7 @@ read-more {B = B} f known k rows i row e lt at is = map-append f known (k ∷ []
 abbrev pub AreSeen : List (List ℕ) → List KnownSpan → Type 0
 AreSeen keys spans = (id : List ℕ) → (has_id keys id ≡ list_any (λ s. same_id id s.id) spans) × (length (filter (λ s. same_id id s.id) spans) ≤ 1)
 
-not-true : (b t : Bool) → b ≡ not t → b ≡ true → t ≡ false
+pub not-true : (b t : Bool) → b ≡ not t → b ≡ true → t ≡ false
 not-true b true e h = let c = sym e ∙ h in cc
 not-true b false e h = refl
 
@@ -129,13 +133,13 @@ take-whole {A = A} (x ∷ xs) (suc i) le = ap (λ (l : List A). x ∷ l) (take-w
 pub all-whole : {A : Type 0} (P : A → Type 0) (xs : List A) (i : ℕ) → length xs ≤ i → All P (take i xs) → All P xs
 all-whole P xs i le all = subst (All P) (take-whole xs i le) all
 
-lines-push : (y : ℤ) (n m : ℕ) (rs : List Row) (r : Row) → m ≡ n + length rs → lines_from y n (rs ++ r ∷ []) ≡ lines_from y n rs ++ lines_from y m (r ∷ [])
-lines-push y n m [] r e = let s : n ≡ m = omega (arith, e) in ap (λ (k : ℕ). lines_from y k (r ∷ [])) s
-lines-push y n m (q ∷ rs) r e = ap (λ (l : List Line). (record { year = y; position = pos n; old = q.old; new = text_of q.new }) ∷ l) (lines-push y (n + 1) m rs r (omega (arith, e)))
+lines-push : (y : ℤ) (n m : ℕ) (rs : List Row) (r : Row) → m ≡ n + length rs → known_from y n (rs ++ r ∷ []) ≡ known_from y n rs ++ known_from y m (r ∷ [])
+lines-push y n m [] r e = let s : n ≡ m = omega (arith, e) in ap (λ (k : ℕ). known_from y k (r ∷ [])) s
+lines-push y n m (q ∷ rs) r e = ap (λ (l : List KnownLine). (record { year = y; position = pos n; row = q }) ∷ l) (lines-push y (n + 1) m rs r (omega (arith, e)))
 
 -- the rows of a year, one further
-pub rows-more : (y : ℤ) (front here next : List Line) (rs new : List Row) (r : Row) (m : ℕ) → here ≡ front ++ lines_from y 0 rs
-    → next ≡ here ++ lines_from y m (r ∷ []) → m ≡ length rs → new ≡ rs ++ r ∷ [] → next ≡ front ++ lines_from y 0 new
+pub rows-more : (y : ℤ) (front here next : List KnownLine) (rs new : List Row) (r : Row) (m : ℕ) → here ≡ front ++ known_from y 0 rs
+    → next ≡ here ++ known_from y m (r ∷ []) → m ≡ length rs → new ≡ rs ++ r ∷ [] → next ≡ front ++ known_from y 0 new
 rows-more y front here next rs new r m h n e w =
-    n ∙ ap (λ (l : List Line). l ++ lines_from y m (r ∷ [])) h ∙ append_assoc front (lines_from y 0 rs) (lines_from y m (r ∷ []))
-    ∙ ap (λ (l : List Line). front ++ l) (sym (lines-push y 0 m rs r (omega (arith, e))) ∙ ap (lines_from y 0) (sym w))
+    n ∙ ap (λ (l : List KnownLine). l ++ known_from y m (r ∷ [])) h ∙ append_assoc front (known_from y 0 rs) (known_from y m (r ∷ []))
+    ∙ ap (λ (l : List KnownLine). front ++ l) (sym (lines-push y 0 m rs r (omega (arith, e))) ∙ ap (known_from y 0) (sym w))

@@ -1,15 +1,14 @@
 -- What live rows that say a history have: what they are refused for otherwise.
-use Rattle.std.proofs.Common.{◌≡◌, ◌∙◌, ◌<◌, ◌+◌, inl, inr, refl, sym, ap, ap₂, subst, arith, ℕ, zero, suc, ℤ, pos, List, [], ◌∷◌, ◌++◌, Bool, true, length, map, take, get_or, IsPermutation, ◌&&◌}
-use Rattle.std.proofs.Common.{All, Contains, IsSortedByKey}
+use Rattle.std.proofs.Common.{◌≡◌, ◌∙◌, ◌<◌, ◌+◌, inl, inr, refl, sym, ap, ap₂, subst, arith, ℕ, zero, suc, ℤ, pos, List, [], ◌∷◌, ◌++◌, Bool, true, length, map, take, get_or, ◌&&◌}
+use Rattle.std.proofs.Common.{All, Contains}
 use Rattle.lpis_register_rows.proofs.Common.{AllByRecursion, list_any, map-append, All-from_recursion, recursion_from_All, both_ways, is_id, same_id, Entry, IsLawful, entry_at, holds, same-exact}
 use Rattle.lpis_register_rows.proofs.Common.{same-refl}
-use Rattle.lpis_register_rows.proofs.Common.{take-at, above-zero, KnownLine, KnownSpan, Content, Live, StoredSpan, IsKept, LiveTells, TellsLive, years_of, covers, IsSaid, HasText, SetsAre, line_cmp}
-use Rattle.lpis_register_rows.proofs.Common.{line_in, one_year, span_in}
+use Rattle.lpis_register_rows.proofs.Common.{take-at, above-zero, KnownLine, KnownSpan, Content, Live, StoredSpan, IsKept, LiveTells, TellsLive, years_of, covers, IsSaid, SetsAre, known_of}
+use Rattle.lpis_register_rows.proofs.Common.{one_year, span_in}
 use Rattle.std.proofs.lemmas.List.{get_or_default}
 use Rattle.std.proofs.lemmas.List.Elements.{Contains-get_or, Contains-push_cases}
 use Rattle.std.proofs.lemmas.Bool.{and_parts}
 use Rattle.lpis_register_rows.proofs.LiveRowLemmas.{any-contains, covered, covers-one, one-covers, some-contained, since_of, rest_of}
-use Rattle.lpis_register_rows.proofs.RefusingLemmas.{told-sorted-lines}
 use Rattle.lpis_register_rows.proofs.NextReleaseLemmas.{any-map}
 use Rattle.lpis_register_rows.proofs.OneHistoryLemmas.{same-index}
 
@@ -44,13 +43,11 @@ live-sets h live law t i lt id = both_ways (holds h i id) (list_any (λ s. same_
       ap₂ (λ (k : ℕ) (q : List ℕ). holds h k q) (sym (same-index h law r.0 i r.1 lt same)) (same-exact id l.id (and_parts (same_id id l.id) (covers (one_year l) y) found.2).0) ∙ r.3
 
 pub live-said : (c : Content) (h : List Entry) (spans : List KnownSpan) (lines : List KnownLine) → TellsLive c h
-    → map span_in spans ≡ map one_year c.live → IsPermutation c.lines (map line_in lines) → IsSortedByKey line_in line_cmp lines
-    → All (λ l. HasText l.row) lines → IsSaid spans lines h
-live-said c h spans lines t ss ls up texts = record {
+    → map span_in spans ≡ map one_year c.live → known_of h ≡ lines → IsSaid spans lines h
+live-said c h spans lines t ss ls = record {
   kept = t.kept;
   sets = subst (λ (l : List StoredSpan). SetsAre l h) (sym ss) (live-sets h c.live t.kept.lawful t.live_are);
-  lines_are = told-sorted-lines h c.lines lines t.kept up ls t.lines_are;
-  texts = texts;
+  lines_are = ls;
 }
 
 -- ---- years

@@ -3,13 +3,15 @@ use Rattle.std.proofs.Common.{◌≡◌, ◌∙◌, ◌<◌, ◌≤◌, ◌+◌,
 use Rattle.std.proofs.Common.{◌||◌, nat_eq, nat_le, All, Contains, int_eq}
 use Rattle.lpis_register_rows.proofs.Common.{AllByRecursion, list_any, nat_tests, map-append, All-from_recursion, All-push, recursion_from_All, is_id, same_id, Entry, IsLawful, RowsFit, entry_at}
 use Rattle.lpis_register_rows.proofs.Common.{holds}
-use Rattle.lpis_register_rows.proofs.Common.{in-history, same-exact, same-refl, take-at, above-zero, KnownSpan, KnownLine, Content, Live, StoredSpan, LiveTells, TellsLive, last_of_years, lines_of}
-use Rattle.lpis_register_rows.proofs.Common.{only_format, years_of, covers, SetsAre, line_in, one_year, span_in}
+use Rattle.lpis_register_rows.proofs.Common.{in-history, same-exact, same-refl, take-at, above-zero, KnownSpan, KnownLine, Content, Live, StoredSpan, LiveTells, TellsLive, last_of_years}
+use Rattle.lpis_register_rows.proofs.Common.{only_format, years_of, covers, Mark, SetsAre, known_of, line_in, marks_in, marks_of, one_year, span_in}
 use Rattle.std.specs.Int.Signed.{le_z}
 use Rattle.std.proofs.lemmas.List.Elements.{All-contains}
 use Rattle.std.proofs.lemmas.Bool.{and_parts}
 use Rattle.lpis_register_rows.proofs.OneHistoryLemmas.{covers-years}
-use Rattle.lpis_register_rows.proofs.SayingLemmas.{kept-said}
+use Rattle.lpis_register_rows.proofs.SayingLemmas.{kept-said, told-lines-are, told-marks-are}
+use Rattle.std.proofs.lemmas.List.{nil_from_length}
+use Rattle.std.proofs.lemmas.List.Sorted.{length_permutation}
 use Rattle.lpis_register_rows.proofs.NextReleaseLemmas.{any-map}
 
 pub lives-more : (rows : List Live) (i : ℕ) (row : Live) (known new : List KnownSpan) (s : KnownSpan) → i < length rows → row ≡ get_or rows i row
@@ -101,8 +103,8 @@ years-of-live _ _ ys e all = absurd cc
 pub live-says : (c : Content) (h : List Entry) (years : List ℕ) (spans : List KnownSpan) (lines : List KnownLine) → IsLawful h → RowsFit h
     → AllByRecursion (λ y. y ≤ last_of_years) years → c.formats ≡ only_format 1
     → IsPermutation c.years (map (λ y. pos y) years) → map span_in spans ≡ map one_year c.live → All (λ s. is_id s.id ≡ true) spans → IsPermutation c.lines (map line_in lines)
-    → years_of h ≡ map (λ y. pos y) years → SetsAre (map span_in spans) h → lines_of h ≡ map line_in lines → All (λ s. Contains (map (λ y. pos y) years) s.since) spans → TellsLive c h
-live-says c h years spans lines law fit small formats ys ss ids ls years-are sets lines-are known = record {
+    → years_of h ≡ map (λ y. pos y) years → SetsAre (map span_in spans) h → IsPermutation [] (marks_in lines) → known_of h ≡ lines → All (λ s. Contains (map (λ y. pos y) years) s.since) spans → TellsLive c h
+live-says c h years spans lines law fit small formats ys ss ids ls years-are sets marks lines-are known = record {
   kept = kept-said h years spans law fit small ids years-are sets;
   formats_are = formats;
   years_are = subst (IsPermutation c.years) (sym years-are) ys;
@@ -111,5 +113,8 @@ live-says c h years spans lines law fit small formats ys ss ids ls years-are set
       (All-from_recursion (λ (l : Live). Contains (map (λ y. pos y) years) l.year) c.live
       (years-of-live spans c.live (map (λ y. pos y) years) ss
       (recursion_from_All (λ s. Contains (map (λ y. pos y) years) s.since) spans known))) there));
-  lines_are = subst (IsPermutation c.lines) (sym lines-are) ls;
-}
+  lines_are = told-lines-are c.lines h lines ls lines-are;
+  unmarked = none (marks_of h) (told-marks-are [] h lines marks lines-are);
+} where
+  none : (ms : List Mark) → IsPermutation [] ms → ms ≡ []
+  none ms p = nil_from_length ms (length_permutation [] ms p)

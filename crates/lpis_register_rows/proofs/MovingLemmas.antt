@@ -1,13 +1,23 @@
--- Rows in another order; moving from version 1 to 2; tables with no release.
-use Rattle.std.proofs.Common.{◌≡◌, ◌∙◌, refl, sym, ap, subst, arith, ℕ, pos, zero, suc, List, [], ◌∷◌, length, map, IsPermutation, Contains}
-use Rattle.lpis_register_rows.proofs.Common.{IsPermutation-sym, Entry, Content, Live, StoredSpan, LiveTells, SpansTell, Tells, TellsLive, only_format}
+-- Rows in another order; moving from version 1 to 3; tables with no release.
+use Rattle.std.proofs.Common.{◌≡◌, ◌∙◌, ◌↔◌, refl, sym, ap, subst, arith, ℕ, pos, zero, suc, List, [], ◌∷◌, length, map, IsPermutation, Contains}
+use Rattle.lpis_register_rows.proofs.Common.{IsPermutation-sym, Entry, Content, Live, Mark, StoredSpan, LiveTells, SpansTell, TellsLive, TellsSpans, only_format}
 use Rattle.std.proofs.lemmas.List.{append-nil}
 use Rattle.std.proofs.lemmas.List.Sorted.{IsPermutation-refl, Contains-permutation, length_permutation}
-use Rattle.lpis_register_rows.specs.Content.{Format, at_version, moved, no_content, with_version, without_live, without_spans}
-use Rattle.lpis_register_rows.specs.Tells.{IsSameContent}
+use Rattle.lpis_register_rows.specs.Content.{Format, at_version, moved, no_content, raised, without_live, without_spans, without_texts}
+use Rattle.lpis_register_rows.specs.Tells.{IsSameContent, Says, Tells}
 use Rattle.lpis_register_rows.proofs.FoldLemmas.{rev-moved, rev_onto, whole-spans-made}
+use Rattle.lpis_register_rows.specs.declared.version.Version.{Version}
+use Rattle.lpis_register_rows.specs.declared.version.Version.TheVariants.{First, Second, Third}
+use Rattle.lpis_register_rows.proofs.MarkLemmas.{no-marks}
 use Rattle.lpis_register_rows.proofs.SpanRowLemmas.{spans-moved}
 use Rattle.lpis_register_rows.proofs.AscendingLemmas.{both-orders}
+
+-- the same rows in another order, of those that say a history in version 2
+record IsSameHistoryRows (c d : Content) : Type 0 where
+  pub formats : IsPermutation c.formats d.formats
+  pub years : IsPermutation c.years d.years
+  pub spans : IsPermutation c.spans d.spans
+  pub lines : IsPermutation c.lines d.lines
 
 -- one row stays one row
 one-format : (fs gs : List Format) (version : ℕ) → IsPermutation fs gs → fs ≡ only_format version → gs ≡ only_format version
@@ -20,13 +30,14 @@ one-format fs gs version m e = by gs (length_permutation fs gs m ∙ ap length e
   by (f ∷ []) n c = ap (λ (x : Format). x ∷ []) (same f (subst (λ (l : List Format). Contains l f) e (c f (0, omega arith, refl))))
   by _ n c = absurd (omega (arith, n))
 
-pub reordered-tells : (c d : Content) (h : List Entry) → IsSameContent c d → Tells c h → Tells d h
-reordered-tells c d h m t = record {
+reordered-tells : (version : ℕ) (xs ys : List Mark) (c d : Content) (h : List Entry) → IsSameHistoryRows c d → IsPermutation xs ys → TellsSpans version xs c h → TellsSpans version ys d h
+reordered-tells version xs ys c d h m ms t = record {
   kept = t.kept;
-  formats_are = one-format c.formats d.formats 2 m.formats t.formats_are;
+  formats_are = one-format c.formats d.formats version m.formats t.formats_are;
   years_are = both-orders c.years d.years _ m.years t.years_are;
   spans_are = spans-moved c.spans d.spans h m.spans t.spans_are;
   lines_are = both-orders c.lines d.lines _ m.lines t.lines_are;
+  marks_are = both-orders xs ys _ ms t.marks_are;
 }
 
 live-moved : (xs ys : List Live) (h : List Entry) → IsPermutation xs ys → LiveTells xs h → LiveTells ys h
@@ -35,25 +46,74 @@ live-moved xs ys h m t = record {
   whole = λ id i held. Contains-permutation xs ys _ m (t.whole id i held);
 }
 
-pub reordered-tells-live : (c d : Content) (h : List Entry) → IsSameContent c d → TellsLive c h → TellsLive d h
-reordered-tells-live c d h m t = record {
+reordered-tells-live : (c d : Content) (h : List Entry) → IsSameHistoryRows c d → IsPermutation c.live d.live → TellsLive c h → TellsLive d h
+reordered-tells-live c d h m live t = record {
   kept = t.kept;
   formats_are = one-format c.formats d.formats 1 m.formats t.formats_are;
   years_are = both-orders c.years d.years _ m.years t.years_are;
-  live_are = live-moved c.live d.live h m.live t.live_are;
+  live_are = live-moved c.live d.live h live t.live_are;
   lines_are = both-orders c.lines d.lines _ m.lines t.lines_are;
+  unmarked = t.unmarked;
 }
+
+reordered : (version : Version) (c d : Content) (h : List Entry) → IsSameHistoryRows c d → IsPermutation c.live d.live → IsPermutation c.marks d.marks → Says version c h → Says version d h
+reordered First c d h m live marks t = reordered-tells-live c d h m live t
+reordered Second c d h m live marks t = reordered-tells 2 [] [] c d h m (IsPermutation-refl []) t
+reordered Third c d h m live marks t = reordered-tells 3 c.marks d.marks c d h m marks t
+
+pub reordered-says : (version : Version) (c d : Content) (h : List Entry) → IsSameContent c d → Says version c h → Says version d h
+reordered-says version c d h m t = reordered version c d h (record { formats = m.formats; years = m.years; spans = m.spans; lines = m.lines }) m.live m.marks t
+
+back : (c d : Content) → IsSameHistoryRows c d → IsSameHistoryRows d c
+back c d m = record {
+  formats = IsPermutation-sym c.formats d.formats m.formats;
+  years = IsPermutation-sym c.years d.years m.years;
+  spans = IsPermutation-sym c.spans d.spans m.spans;
+  lines = IsPermutation-sym c.lines d.lines m.lines;
+}
+
+pub textless-says : (version : Version) (c d : Content) (h : List Entry) → IsSameContent (without_texts c) d → Says version c h ↔ Says version d h
+textless-says version c d h m = (
+  λ t. reordered version c d h rows m.live m.marks t,
+  λ t. reordered version d c h (back c d rows) (IsPermutation-sym c.live d.live m.live) (IsPermutation-sym c.marks d.marks m.marks) t,
+) where
+  rows : IsSameHistoryRows c d
+  rows = record { formats = m.formats; years = m.years; spans = m.spans; lines = m.lines }
+
+pub lifeless-tells : (c d : Content) (h : List Entry) → IsSameContent (without_texts (without_live c)) d → Tells c h ↔ Tells d h
+lifeless-tells c d h m = (
+  λ t. reordered-tells 3 c.marks d.marks c d h rows m.marks t,
+  λ t. reordered-tells 3 d.marks c.marks d c h (back c d rows) (IsPermutation-sym c.marks d.marks m.marks) t,
+) where
+  rows : IsSameHistoryRows c d
+  rows = record { formats = m.formats; years = m.years; spans = m.spans; lines = m.lines }
+
+-- ---- moving
 
 pub moved-tells : (c : Content) (spans : List StoredSpan) (h : List Entry) → TellsLive c h → SpansTell spans h → Tells (moved spans c) h
 moved-tells c spans h t s =
     let made = whole-spans-made spans (without_spans c) in
-    subst (λ (d : Content). Tells (with_version (pos 2) (without_live d)) h) (sym made) (record {
+    subst (λ (d : Content). Tells (raised (without_live d)) h) (sym made) (record {
       kept = t.kept;
-      formats_are = ap (λ (fs : List Format). map (at_version (pos 2)) fs) t.formats_are;
+      formats_are = ap (λ (fs : List Format). map (at_version (pos 3)) fs) t.formats_are;
       years_are = t.years_are;
       spans_are = spans-moved spans (rev_onto spans []) h (subst (λ (l : List StoredSpan). IsPermutation l (rev_onto spans [])) (append-nil spans) (rev-moved spans [])) s;
       lines_are = t.lines_are;
+      marks_are = no-marks h t.unmarked;
     })
+
+pub moved-texts : (c : Content) (spans : List StoredSpan) → (moved spans c).texts ≡ []
+moved-texts c spans = refl
+
+pub raised-tells : (c : Content) (h : List Entry) → TellsSpans 2 [] c h → Tells (raised c) h
+raised-tells c h t = record {
+  kept = t.kept;
+  formats_are = ap (λ (fs : List Format). map (at_version (pos 3)) fs) t.formats_are;
+  years_are = t.years_are;
+  spans_are = t.spans_are;
+  lines_are = t.lines_are;
+  marks_are = t.marks_are;
+}
 
 pub nothing-tells : Tells no_content []
 nothing-tells = record {
@@ -65,7 +125,7 @@ nothing-tells = record {
       continued = λ id i d. absurd (let lt = d.0 in omega arith);
       successors = λ id i n. cc n;
     };
-    fits = record { first = refl; once = λ row i. omega arith; of_dropped = λ id i n. cc n };
+    fits = record { first = refl; once = λ row i. omega arith; of_dropped = λ id i n. cc n; marked = λ i. refl };
     ids = λ id i held. cc held;
     years = λ i. omega arith;
   };
@@ -73,4 +133,5 @@ nothing-tells = record {
   years_are = IsPermutation-refl [];
   spans_are = record { once = λ id. omega arith; right = tt; whole = λ id i held. cc held };
   lines_are = IsPermutation-refl [];
+  marks_are = IsPermutation-refl [];
 }

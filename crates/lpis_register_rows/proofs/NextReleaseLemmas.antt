@@ -1,18 +1,24 @@
 -- A history with one release more, put together from rows.
 use Rattle.std.proofs.Common.{◌≡◌, ◌∙◌, ◌<◌, inl, inr, refl, sym, ap, ap₂, subst, arith, ℕ, pos, List, [], ◌∷◌, ◌++◌, Bool, length, map, ◌&&◌, ◌||◌}
 use Rattle.lpis_register_rows.proofs.Common.{list_any, has_id, same_id, Entry, Row, Adds, entry_at, holds, entry-before, entry-here, longer}
-use Rattle.lpis_register_rows.proofs.Common.{before-at-after, KnownSpan, Line, StoredSpan, lines_from, lines_of}
+use Rattle.lpis_register_rows.proofs.Common.{before-at-after, KnownLine, KnownSpan, StoredSpan, known_from, known_of}
 use Rattle.lpis_register_rows.proofs.Common.{years_of, covers, SetsAre, span_in}
 use Rattle.lpis_register_rows.proofs.KnownLemmas.{AreLive}
-use Rattle.lpis_register_rows.proofs.PublishingLemmas.{lines-more, years-more}
+use Rattle.lpis_register_rows.proofs.PublishingLemmas.{years-more}
+use Rattle.std.proofs.lemmas.List.{append-nil, append_assoc}
 
 pub year-added : (h k : List Entry) (y : ℕ) (live : List (List ℕ)) (rows : List Row) → Adds h k y live rows → years_of k ≡ years_of h ++ pos y ∷ []
 year-added h k y live rows (e, k-is, year-is, is) = ap years_of k-is ∙ years-more h e ∙ ap (λ (n : ℕ). years_of h ++ pos n ∷ []) year-is
 
-pub lines-added : (h k : List Entry) (y : ℕ) (live : List (List ℕ)) (rows : List Row) (before after : List Line)
-    → Adds h k y live rows → lines_of h ≡ before → after ≡ before ++ lines_from (pos y) 0 rows → lines_of k ≡ after
+known-more : (h : List Entry) (e : Entry) → known_of (h ++ e ∷ []) ≡ known_of h ++ known_from (pos e.year) 0 e.rows
+known-more [] e = append-nil (known_from (pos e.year) 0 e.rows)
+known-more (x ∷ h) e = ap (λ (l : List KnownLine). known_from (pos x.year) 0 x.rows ++ l) (known-more h e)
+    ∙ sym (append_assoc (known_from (pos x.year) 0 x.rows) (known_of h) (known_from (pos e.year) 0 e.rows))
+
+pub lines-added : (h k : List Entry) (y : ℕ) (live : List (List ℕ)) (rows : List Row) (before after : List KnownLine)
+    → Adds h k y live rows → known_of h ≡ before → after ≡ before ++ known_from (pos y) 0 rows → known_of k ≡ after
 lines-added h k y live rows before after (e, k-is, year-is, is) b a =
-    ap lines_of k-is ∙ lines-more h e ∙ ap₂ (λ (n : ℕ) (rs : List Row). lines_of h ++ lines_from (pos n) 0 rs) year-is is.rows_are ∙ ap (λ (l : List Line). l ++ lines_from (pos y) 0 rows) b ∙ sym a
+    ap known_of k-is ∙ known-more h e ∙ ap₂ (λ (n : ℕ) (rs : List Row). known_of h ++ known_from (pos n) 0 rs) year-is is.rows_are ∙ ap (λ (l : List KnownLine). l ++ known_from (pos y) 0 rows) b ∙ sym a
 
 pub any-map : {A B : Type 0} (p : B → Bool) (f : A → B) (xs : List A) → list_any p (map f xs) ≡ list_any (λ x. p (f x)) xs
 any-map p f [] = refl

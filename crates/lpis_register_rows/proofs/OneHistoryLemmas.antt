@@ -1,19 +1,23 @@
 -- Tables say one history.
-use Rattle.std.proofs.Common.{◌≡◌, ◌∙◌, ◌<◌, ◌≤◌, ◌+◌, inl, inr, refl, sym, ap, ap₂, subst, arith, ℕ, zero, suc, ℤ, pos, List, [], ◌∷◌, ◌++◌, Bool, true, false, length, Option, None, Some, ◌&&◌, ◌||◌}
+use Rattle.std.proofs.Common.{◌≡◌, ◌∙◌, ◌<◌, ◌≤◌, inl, inr, refl, sym, ap, ap₂, subst, arith, ℕ, zero, suc, ℤ, pos, List, [], ◌∷◌, ◌++◌, Bool, true, false, length, Option, None, Some, ◌&&◌, ◌||◌}
 use Rattle.std.proofs.Common.{nat_le, nat_eq, IsPermutation, int_eq}
-use Rattle.lpis_register_rows.proofs.Common.{AllByRecursion, list_any, nat_tests, both_ways, or_left, or_right, and-false, has_id, is_id, same_id, Entry, Row, IsLawful, entry_at, holds, names}
+use Rattle.lpis_register_rows.proofs.Common.{AllByRecursion, list_any, nat_tests, both_ways, and-false, has_id, same_id, Entry, IsLawful, entry_at, holds}
 use Rattle.lpis_register_rows.proofs.Common.{span_of}
-use Rattle.lpis_register_rows.proofs.Common.{entry-after, in-history, same-exact, before-at-after, Content, Line, Live, StoredSpan, lines_from, text_of}
-use Rattle.lpis_register_rows.proofs.Common.{IsKept, IsSameHistory, IsSpanRow, LiveTells, SpansTell, Tells}
-use Rattle.lpis_register_rows.proofs.Common.{TellsLive, lines_of, shown, years_of, covers, HasText}
+use Rattle.lpis_register_rows.proofs.Common.{entry-after, in-history, same-exact, before-at-after, Content, Live, StoredSpan}
+use Rattle.lpis_register_rows.proofs.Common.{IsKept, IsSameHistory, IsSpanRow, LiveTells, SpansTell, TellsSpans}
+use Rattle.lpis_register_rows.proofs.Common.{TellsLive, lines_of, shown, years_of, covers, Mark, known_from, known_of, marks_of}
 use Rattle.std.specs.Int.Signed.{le_z}
 use Rattle.std.proofs.lemmas.Int.{ints}
 use Rattle.lpis_lineage.specs.declared.span.Span.{Span as Years}
-use Rattle.lpis_lineage.specs.Lineage.{is_this}
 use Rattle.lpis_lineage.specs.Spans.{in_span}
 use Rattle.lpis_lineage.proofs.Shared.{span-tells}
 use Rattle.lpis_register_rows.proofs.AscendingLemmas.{Ascends, below, below-alone, same-ascending, both-orders}
-use Rattle.lpis_register_rows.proofs.YearLemmas.{all-entries, line-alone, line_below, lines-above, lines-ascend, years-ascend}
+use Rattle.lpis_register_rows.specs.Tells.{Says}
+use Rattle.lpis_register_rows.specs.declared.version.Version.{Version}
+use Rattle.lpis_register_rows.specs.declared.version.Version.TheVariants.{First, Second, Third}
+use Rattle.lpis_register_rows.proofs.KnownRowLemmas.{known-above, rows-apart}
+use Rattle.lpis_register_rows.proofs.MarkLemmas.{known-same, no-marks, mark-alone, mark_below, marks-ascend}
+use Rattle.lpis_register_rows.proofs.YearLemmas.{line-alone, line_below, lines-ascend, years-ascend}
 use Rattle.lpis_register_rows.proofs.SayingLemmas.{rest}
 
 -- ---- sets
@@ -68,46 +72,6 @@ sets-told h spans law t i lt id = sym (with-test spans t.right ∙ by (list_any 
 
 -- ---- rows
 
-rows-have-texts : (rows : List Row) → ((id : List ℕ) → list_any (names id) rows ≡ true → is_id id ≡ true) → AllByRecursion HasText rows
-rows-have-texts [] f = tt
-rows-have-texts (r ∷ rs) f = (
-  λ e. let n : names [] r ≡ true = ap (is_this []) e in let i =
-      f [] (or_left (names [] r) (list_any (names []) rs) n) in cc,
-  rows-have-texts rs (λ id n. f id (or_right (names id r) (list_any (names id) rs) n)),
-)
-
-pub have-texts : (h : List Entry) → IsKept h → AllByRecursion (λ e. AllByRecursion HasText e.rows) h
-have-texts h kept = all-entries (λ e. AllByRecursion HasText e.rows) h (λ i lt. rows-have-texts (entry_at h i).rows (λ id n. kept.ids id i (kept.lawful.successors id i n)))
-
-same-text : (a b : Option (List ℕ)) → (a ≡ Some [] → ⊥) → (b ≡ Some [] → ⊥) → text_of a ≡ text_of b → a ≡ b
-same-text None None f g e = refl
-same-text None (Some s) f g e = absurd (g (ap Some (sym e)))
-same-text (Some s) None f g e = absurd (f (ap Some e))
-same-text (Some s) (Some t) f g e = ap Some e
-
-abbrev line_in : Line → List Line → Line
-line_in d [] = d
-line_in d (l ∷ ls) = l
-
-abbrev rest_of : List Line → List Line
-rest_of [] = []
-rest_of (l ∷ ls) = ls
-
--- the rows of a year before those of later ones
-pub rows-apart : (y n : ℕ) (rs qs : List Row) (ls ms : List Line) → AllByRecursion (λ l. below (pos y) l.year) ls
-    → AllByRecursion (λ l. below (pos y) l.year) ms → AllByRecursion HasText rs → AllByRecursion HasText qs
-    → lines_from (pos y) n rs ++ ls ≡ lines_from (pos y) n qs ++ ms → (rs ≡ qs) × (ls ≡ ms)
-rows-apart y n [] [] ls ms a b f g e = (refl, e)
-rows-apart y n [] (q ∷ qs) ls ms a b f g e = absurd (let all = subst (AllByRecursion (λ l. below (pos y) l.year)) e a in below-alone (pos y) (pos y) all.0 all.0)
-rows-apart y n (r ∷ rs) [] ls ms a b f g e = absurd (let all = subst (AllByRecursion (λ l. below (pos y) l.year)) (sym e) b in below-alone (pos y) (pos y) all.0 all.0)
-rows-apart y n (r ∷ rs) (q ∷ qs) ls ms a b f g e =
-    let d : Line = record { year = pos y; position = pos n; old = r.old; new = text_of r.new } in
-    let one = ap (line_in d) e in
-    let old : r.old ≡ q.old = ap (λ (l : Line). l.old) one in
-    let new : r.new ≡ q.new = same-text r.new q.new f.0 g.0 (ap (λ (l : Line). l.new) one) in
-    let more = rows-apart y (n + 1) rs qs ls ms a b f.1 g.1 (ap rest_of e) in
-    (ap₂ (λ (x : Row) (xs : List Row). x ∷ xs) (ap₂ (λ (o : List ℕ) (s : Option (List ℕ)). record { old = o; new = s }) old new) more.0, more.1)
-
 abbrev year_in : List ℤ → ℤ
 year_in [] = pos 0
 year_in (y ∷ ys) = y
@@ -125,36 +89,36 @@ same-years (x ∷ h) (y ∷ k) e = let more = same-years h k (ap rest e) in (ap 
 same-years _ _ e = absurd cc
 
 pub same-rows : (h k : List Entry) → years_of h ≡ years_of k → Ascends below (years_of h) → Ascends below (years_of k)
-    → AllByRecursion (λ e. AllByRecursion HasText e.rows) h → AllByRecursion (λ e. AllByRecursion HasText e.rows) k
-    → lines_of h ≡ lines_of k → (i : ℕ) → (entry_at h i).rows ≡ (entry_at k i).rows
-same-rows [] [] e a b f g l i = refl
-same-rows (x ∷ h) (y ∷ k) e a b f g l i =
+    → known_of h ≡ known_of k → (i : ℕ) → (entry_at h i).rows ≡ (entry_at k i).rows
+same-rows [] [] e a b l i = refl
+same-rows (x ∷ h) (y ∷ k) e a b l i =
     let at : pos x.year ≡ pos y.year = ap year_in e in
-    let both = rows-apart x.year 0 x.rows y.rows (lines_of h) (lines_of k) (lines-above (pos x.year) h a.0)
-    (lines-above (pos x.year) k (subst (λ (z : ℤ). AllByRecursion (below z) (years_of k)) (sym at) b.0)) f.0 g.0
-    (l ∙ ap (λ (z : ℤ). lines_from z 0 y.rows ++ lines_of k) (sym at)) in
-    by i both.0 (same-rows h k (ap rest e) a.1 b.1 f.1 g.1 both.1) where
+    let both = rows-apart x.year 0 x.rows y.rows (known_of h) (known_of k) (known-above (pos x.year) h a.0)
+    (known-above (pos x.year) k (subst (λ (z : ℤ). AllByRecursion (below z) (years_of k)) (sym at) b.0))
+    (l ∙ ap (λ (z : ℤ). known_from z 0 y.rows ++ known_of k) (sym at)) in
+    by i both.0 (same-rows h k (ap rest e) a.1 b.1 both.1) where
       by : (i : ℕ) → x.rows ≡ y.rows → ((j : ℕ) → (entry_at h j).rows ≡ (entry_at k j).rows) → (entry_at (x ∷ h) i).rows ≡ (entry_at (y ∷ k) i).rows
       by zero now more = now
       by (suc j) now more = more j
-same-rows _ _ e a b f g l i = absurd cc
+same-rows _ _ e a b l i = absurd cc
 
 -- ---- the law
 
 -- the same years and rows of lineage; the sets are said in each version's own way
 same-history : (c : Content) (h k : List Entry) → IsKept h → IsKept k → IsPermutation c.years (years_of h) → IsPermutation c.years (years_of k)
-    → IsPermutation c.lines (lines_of h) → IsPermutation c.lines (lines_of k)
+    → IsPermutation c.lines (lines_of h) → IsPermutation c.lines (lines_of k) → (ms : List Mark) → IsPermutation ms (marks_of h) → IsPermutation ms (marks_of k)
     → (length h ≡ length k → ((i : ℕ) → (entry_at h i).year ≡ (entry_at k i).year) → (i : ℕ) (id : List ℕ) → holds h i id ≡ holds k i id) → IsSameHistory h k
-same-history c h k kept also_kept h_years k_years h_lines k_lines sets =
+same-history c h k kept also_kept h_years k_years h_lines k_lines ms h_marks k_marks sets =
     let up = years-ascend h kept.lawful in
     let also = years-ascend k also_kept.lawful in
     let years = same-ascending below below-alone (years_of h) (years_of k) up also (both-orders c.years (years_of h) (years_of k) h_years k_years) in
     let lines = same-ascending line_below line-alone (lines_of h) (lines_of k) (lines-ascend h up) (lines-ascend k also) (both-orders c.lines (lines_of h) (lines_of k) h_lines k_lines) in
+    let marks = same-ascending mark_below mark-alone (marks_of h) (marks_of k) (marks-ascend h kept.lawful) (marks-ascend k also_kept.lawful) (both-orders ms (marks_of h) (marks_of k) h_marks k_marks) in
     let alike = same-years h k years in
-    record { lengths = alike.0; years = alike.1; sets = sets alike.0 alike.1; rows = same-rows h k years up also (have-texts h kept) (have-texts k also_kept) lines }
+    record { lengths = alike.0; years = alike.1; sets = sets alike.0 alike.1; rows = same-rows h k years up also (known-same h k kept also_kept lines marks) }
 
-pub one-history : (c : Content) (h k : List Entry) → Tells c h → Tells c k → IsSameHistory h k
-one-history c h k s t = same-history c h k s.kept t.kept s.years_are t.years_are s.lines_are t.lines_are sets where
+pub one-spans-history : (version : ℕ) (ms : List Mark) (c : Content) (h k : List Entry) → TellsSpans version ms c h → TellsSpans version ms c k → IsSameHistory h k
+one-spans-history version ms c h k s t = same-history c h k s.kept t.kept s.years_are t.years_are s.lines_are t.lines_are ms s.marks_are t.marks_are sets where
   beyond : (l : List Entry) (i : ℕ) (id : List ℕ) → length l ≤ i → holds l i id ≡ false
   beyond l i id le = ap (λ (e : Entry). has_id e.live id) (entry-after l i le)
 
@@ -194,6 +158,11 @@ live-held h k live a b law lengths years i id held =
     ap (λ (n : ℕ). holds k n id) same ∙ at.3
 
 pub one-live-history : (c : Content) (h k : List Entry) → TellsLive c h → TellsLive c k → IsSameHistory h k
-one-live-history c h k s t = same-history c h k s.kept t.kept s.years_are t.years_are s.lines_are t.lines_are (λ n years i id. both_ways (holds h i id) (holds k i id)
+one-live-history c h k s t = same-history c h k s.kept t.kept s.years_are t.years_are s.lines_are t.lines_are [] (no-marks h s.unmarked) (no-marks k t.unmarked) (λ n years i id. both_ways (holds h i id) (holds k i id)
     (live-held h k c.live s.live_are t.live_are t.kept.lawful n years i id)
     (live-held k h c.live t.live_are s.live_are s.kept.lawful (sym n) (λ j. sym (years j)) i id))
+
+pub one-history : (version : Version) (c : Content) (h k : List Entry) → Says version c h → Says version c k → IsSameHistory h k
+one-history First c h k s t = one-live-history c h k s t
+one-history Second c h k s t = one-spans-history 2 [] c h k s t
+one-history Third c h k s t = one-spans-history 3 c.marks c h k s t

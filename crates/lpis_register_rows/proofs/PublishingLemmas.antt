@@ -5,7 +5,7 @@ use Rattle.lpis_register_rows.proofs.Common.{AllByRecursion, list_any, slice_cmp
 use Rattle.lpis_register_rows.proofs.Common.{IsLawful}
 use Rattle.lpis_register_rows.proofs.Common.{RowsFit, entry_at, holds, last_live, first_held, last_held, span_of, entry-after, entry-before, entry-here}
 use Rattle.lpis_register_rows.proofs.Common.{same-exact, same-refl, filter-none, longer, before-at-after}
-use Rattle.lpis_register_rows.proofs.Common.{Content, Line, StoredSpan, lines_from, IsKept, IsSpanRow, SpansTell, Tells, last_of_years, lines_of, shown, years_of}
+use Rattle.lpis_register_rows.proofs.Common.{Content, Line, StoredSpan, lines_from, IsKept, IsSpanRow, Mark, SpansTell, TellsSpans, last_of_years, lines_of, marks_of, shown, years_of}
 use Rattle.std.specs.List.Sorted.{IsStrictlySortedBy}
 use Rattle.std.proofs.lemmas.List.{append-nil, append_assoc}
 use Rattle.std.proofs.lemmas.List.Sorted.{IsPermutation-cons, IsPermutation-to_front, IsPermutation-append_right, IsPermutation-append_comm}
@@ -17,9 +17,10 @@ use Rattle.lpis_lineage.specs.Lineage.{last_year}
 use Rattle.lpis_lineage.specs.Order.{IsAscending}
 use Rattle.lpis_lineage.specs.Spans.{span_between}
 use Rattle.lpis_lineage.proofs.Shared.{same-by_order, filter-append, follows-back, first-index, span-more}
-use Rattle.lpis_register_rows.specs.Content.{published}
-use Rattle.lpis_register_rows.specs.Tells.{IsWriting}
-use Rattle.lpis_register_rows.proofs.AscendingLemmas.{all-append}
+use Rattle.lpis_register_rows.specs.Shapes.{AreLive, IsLive, Shape}
+use Rattle.lpis_register_rows.specs.Content.{StoredText, published, released, with_mark, with_marks, with_text, with_texts, without_texts, marks_from}
+use Rattle.lpis_register_rows.specs.Tells.{IsWriting, Tells}
+use Rattle.lpis_register_rows.proofs.AscendingLemmas.{all-append, all-map}
 use Rattle.lpis_register_rows.proofs.FoldLemmas.{end_among, fresh_span, published-is, rev-moved, rev_onto}
 use Rattle.lpis_register_rows.proofs.SpanRowLemmas.{spans-moved, told-some}
 
@@ -39,12 +40,23 @@ years-told ys h e m = subst (λ (l : List ℤ). IsPermutation (pos e.year ∷ ys
     IsPermutation-trans (pos e.year ∷ ys) (pos e.year ∷ years_of h) (years_of h ++ pos e.year ∷ [])
     (IsPermutation-cons (pos e.year) ys (years_of h) m) (IsPermutation-sym (years_of h ++ pos e.year ∷ []) (pos e.year ∷ years_of h) (IsPermutation-to_front (years_of h) (pos e.year))))
 
+-- new rows before those that are there, which are others in another order
+before-others : {A : Type 0} (new xs ys : List A) → IsPermutation xs ys → IsPermutation (rev_onto new xs) (ys ++ new)
+before-others new xs ys m = IsPermutation-trans (rev_onto new xs) (new ++ xs) (ys ++ new) (IsPermutation-sym (new ++ xs) (rev_onto new xs) (rev-moved new xs)) (
+    IsPermutation-trans (new ++ xs) (new ++ ys) (ys ++ new) (IsPermutation-append_right new xs ys m) (IsPermutation-append_comm new ys))
+
 lines-told : (ls : List Line) (h : List Entry) (e : Entry) → IsPermutation ls (lines_of h) → IsPermutation (rev_onto (lines_from (pos e.year) 0 e.rows) ls) (lines_of (h ++ e ∷ []))
-lines-told ls h e m =
-    let new : List Line = lines_from (pos e.year) 0 e.rows in
-    subst (λ (l : List Line). IsPermutation (rev_onto new ls) l) (sym (lines-more h e)) (
-    IsPermutation-trans (rev_onto new ls) (new ++ ls) (lines_of h ++ new) (IsPermutation-sym (new ++ ls) (rev_onto new ls) (rev-moved new ls)) (
-    IsPermutation-trans (new ++ ls) (new ++ lines_of h) (lines_of h ++ new) (IsPermutation-append_right new ls (lines_of h) m) (IsPermutation-append_comm new (lines_of h))))
+lines-told ls h e m = subst (λ (l : List Line). IsPermutation (rev_onto (lines_from (pos e.year) 0 e.rows) ls) l) (sym (lines-more h e))
+    (before-others (lines_from (pos e.year) 0 e.rows) ls (lines_of h) m)
+
+marks-more : (h : List Entry) (e : Entry) → marks_of (h ++ e ∷ []) ≡ marks_of h ++ marks_from (pos e.year) 0 e.rows
+marks-more [] e = append-nil (marks_from (pos e.year) 0 e.rows)
+marks-more (x ∷ h) e = ap (λ (l : List Mark). marks_from (pos x.year) 0 x.rows ++ l) (marks-more h e)
+    ∙ sym (append_assoc (marks_from (pos x.year) 0 x.rows) (marks_of h) (marks_from (pos e.year) 0 e.rows))
+
+marks-told : (ms : List Mark) (h : List Entry) (e : Entry) → IsPermutation ms (marks_of h) → IsPermutation (rev_onto (marks_from (pos e.year) 0 e.rows) ms) (marks_of (h ++ e ∷ []))
+marks-told ms h e m = subst (λ (l : List Mark). IsPermutation (rev_onto (marks_from (pos e.year) 0 e.rows) ms) l) (sym (marks-more h e))
+    (before-others (marks_from (pos e.year) 0 e.rows) ms (marks_of h) m)
 
 -- ---- identifiers of one release more
 
@@ -243,28 +255,76 @@ spans-told spans h e live gone fresh follows alike w t = spans-moved (new ++ old
         here : (j : ℕ) → holds h j id ≡ true → (list_any (λ s. same_id id s.id) new || list_any (λ s. same_id id s.id) old) ≡ true
         here j was = or_right (list_any (λ s. same_id id s.id) new) (list_any (λ s. same_id id s.id) old) (any-ended (pos (last_year h)) gone id spans ∙ t.whole id j was)
 
--- the law
-pub published-tells : (c : Content) (h k : List Entry) (year : ℕ) (live gone fresh : List (List ℕ)) (rows : List Row)
+-- the law, but for the marks
+published-tells : (c : Content) (h k : List Entry) (year : ℕ) (live gone fresh : List (List ℕ)) (rows : List Row)
     → Tells c h → Adds h k year live rows → IsLawful k → RowsFit k → year ≤ last_of_years → IsWriting h live gone fresh
-    → Tells (published (pos year) (pos (last_year h)) gone fresh rows c) k
+    → TellsSpans 3 (rev_onto (marks_from (pos year) 0 rows) c.marks) (published (pos year) (pos (last_year h)) gone fresh rows c) k
 published-tells c h k year live gone fresh rows t (e, k-is, year-is, is) law fit small w =
     by (subst IsLawful k-is law) (subst RowsFit k-is fit) where
-      at : (y : ℕ) (rs : List Row) → e.year ≡ y → e.rows ≡ rs → IsLawful (h ++ e ∷ []) → RowsFit (h ++ e ∷ [])
-          → e.year ≤ last_of_years → Tells (published (pos e.year) (pos (last_year h)) gone fresh e.rows c)
-          (h ++ e ∷ [])
-      at y rs ey er law fit small =
+      last : ℤ
+      last = pos (last_year h)
+
+      at : IsLawful (h ++ e ∷ []) → RowsFit (h ++ e ∷ []) → e.year ≤ last_of_years
+          → TellsSpans 3 (rev_onto (marks_from (pos e.year) 0 e.rows) c.marks) (published (pos e.year) last gone fresh e.rows c) (h ++ e ∷ [])
+      at law fit small =
           let follows = follows-back h e law fit in
-          subst (λ (d : Content). Tells d (h ++ e ∷ [])) (sym (published-is (pos e.year) (pos (last_year h)) gone fresh e.rows c)) (record {
+          let ms : List Mark = rev_onto (marks_from (pos e.year) 0 e.rows) c.marks in
+          subst (λ (d : Content). TellsSpans 3 ms d (h ++ e ∷ [])) (sym (published-is (pos e.year) last gone fresh e.rows c)) (record {
             kept = kept-more h e live gone fresh t.kept law fit small is.ids w;
             formats_are = t.formats_are;
             years_are = years-told c.years h e t.years_are;
             spans_are = spans-told c.spans h e live gone fresh follows is.ids w t.spans_are;
             lines_are = lines-told c.lines h e t.lines_are;
+            marks_are = marks-told c.marks h e t.marks_are;
           })
 
-      by : IsLawful (h ++ e ∷ []) → RowsFit (h ++ e ∷ []) → Tells (published (pos year) (pos (last_year h)) gone fresh rows c) k
+      by : IsLawful (h ++ e ∷ []) → RowsFit (h ++ e ∷ [])
+          → TellsSpans 3 (rev_onto (marks_from (pos year) 0 rows) c.marks) (published (pos year) last gone fresh rows c) k
       by law fit =
-          subst (λ (l : List Entry). Tells (published (pos year) (pos (last_year h)) gone fresh rows c) l) (sym k-is) (
-          subst (λ (y : ℕ). Tells (published (pos y) (pos (last_year h)) gone fresh rows c) (h ++ e ∷ [])) year-is (
-          subst (λ (rs : List Row). Tells (published (pos e.year) (pos (last_year h)) gone fresh rs c) (h ++ e ∷ []))
-          is.rows_are (at year rows year-is is.rows_are law fit (omega (arith, small, year-is)))))
+          subst (λ (l : List Entry). TellsSpans 3 (rev_onto (marks_from (pos year) 0 rows) c.marks) (published (pos year) last gone fresh rows c) l) (sym k-is) (
+          subst (λ (y : ℕ). TellsSpans 3 (rev_onto (marks_from (pos y) 0 rows) c.marks) (published (pos y) last gone fresh rows c) (h ++ e ∷ [])) year-is (
+          subst (λ (rs : List Row). TellsSpans 3 (rev_onto (marks_from (pos e.year) 0 rs) c.marks) (published (pos e.year) last gone fresh rs c) (h ++ e ∷ []))
+          is.rows_are (at law fit (omega (arith, small, year-is)))))
+
+texts-made : (ts : List StoredText) (c : Content) → with_texts ts c ≡ record c { texts = rev_onto ts c.texts }
+texts-made [] c = refl
+texts-made (t ∷ ts) c = texts-made ts (with_text c t)
+
+marks-made : (ms : List Mark) (c : Content) → with_marks ms c ≡ record c { marks = rev_onto ms c.marks }
+marks-made [] c = refl
+marks-made (m ∷ ms) c = marks-made ms (with_mark c m)
+
+-- marks, and texts in place of any
+released-tells : (c : Content) (h : List Entry) (texts : List StoredText) (marks : List Mark) → TellsSpans 3 (rev_onto marks c.marks) c h → Tells (released texts marks c) h
+released-tells c h texts marks t =
+    subst (λ (d : Content). Tells d h) (sym (texts-made texts (without_texts (with_marks marks c))))
+    (subst (λ (d : Content). Tells (record (without_texts d) { texts = rev_onto texts [] }) h) (sym (marks-made marks c)) (record {
+      kept = t.kept;
+      formats_are = t.formats_are;
+      years_are = t.years_are;
+      spans_are = t.spans_are;
+      lines_are = t.lines_are;
+      marks_are = t.marks_are;
+    }))
+
+-- the law
+pub publishing-tells : (c : Content) (h k : List Entry) (year : ℕ) (live gone fresh : List (List ℕ)) (rows : List Row)
+    → Tells c h → Adds h k year live rows → IsLawful k → RowsFit k → year ≤ last_of_years → IsWriting h live gone fresh → (texts : List StoredText)
+    → Tells (released texts (marks_from (pos year) 0 rows) (published (pos year) (pos (last_year h)) gone fresh rows c)) k
+publishing-tells c h k year live gone fresh rows t adds law fit small w texts =
+    let d : Content = published (pos year) (pos (last_year h)) gone fresh rows c in
+    let ms : List Mark = marks_from (pos year) 0 rows in
+    let same : c.marks ≡ d.marks = ap (λ (x : Content). x.marks) (sym (published-is (pos year) (pos (last_year h)) gone fresh rows c)) in
+    released-tells d k texts ms (subst (λ (l : List Mark). TellsSpans 3 (rev_onto ms l) d k) same (published-tells c h k year live gone fresh rows t adds law fit small w))
+
+pub released-texts : (c : Content) (texts : List StoredText) (marks : List Mark) → IsPermutation texts (released texts marks c).texts
+released-texts c texts marks =
+    subst (λ (d : Content). IsPermutation texts d.texts) (sym (texts-made texts (without_texts (with_marks marks c))))
+    (subst (λ (l : List StoredText). IsPermutation l (rev_onto texts [])) (append-nil texts) (rev-moved texts []))
+
+-- what is live in the release is live in the last one
+pub released-live : (h k : List Entry) (year : ℕ) (live : List (List ℕ)) (rows : List Row) → Adds h k year live rows → (shapes : List Shape) → AreLive live shapes → AreLive (last_live k) shapes
+released-live h k year live rows (e, k-is, year-is, is) shapes all = all-map (IsLive live) (IsLive (last_live k)) shapes (λ shape l. (l.0, ap (λ (g : List Entry). has_id (last_live g) shape.0) k-is ∙ last-has h e shape.0 ∙ is.ids shape.0 ∙ l.1)) all where
+  last-has : (g : List Entry) (e : Entry) (id : List ℕ) → has_id (last_live (g ++ e ∷ [])) id ≡ has_id e.live id
+  last-has [] e id = refl
+  last-has (x ∷ g) e id = ap (λ (y : Entry). has_id y.live id) (let n = longer g e in let at : length (g ++ e ∷ []) ≡ length (x ∷ g) = omega (arith, n) in ap (λ (m : ℕ). entry_at ((x ∷ g) ++ e ∷ []) m) at ∙ entry-here (x ∷ g) e)

@@ -1,10 +1,9 @@
 -- What rows that say a history have: what they are refused for otherwise.
 use Rattle.std.proofs.Common.{◌≡◌, ◌∙◌, ◌≤◌, ◌+◌, ◌⊎◌, inl, inr, refl, sym, ap, subst, arith, ℕ, zero, suc, ℤ, pos, List, [], ◌∷◌, true, Option, None, Some, length, map, IsPermutation, is_some}
-use Rattle.std.proofs.Common.{IsSorted, All, filter, IsSortedByKey, nat_cmp}
+use Rattle.std.proofs.Common.{IsSorted, All, filter, nat_cmp}
 use Rattle.lpis_register_rows.proofs.Common.{AllByRecursion, list_any, All-from_recursion, All-permutation, IsPermutation-sym, or_left, or_right, is_id, same_id, Entry, Row, entry_at, names, span_of}
-use Rattle.lpis_register_rows.proofs.Common.{same-refl, above-zero, KnownLine, KnownSpan, Content, Line, StoredSpan, lines_from, text_of, IsKept, IsSameHistory, IsSpanRow, SpansTell, Tells, lines_of}
-use Rattle.lpis_register_rows.proofs.Common.{shown}
-use Rattle.lpis_register_rows.proofs.Common.{years_of, IsSaid, HasText, SetsAre, line_cmp, line_in, span_in}
+use Rattle.lpis_register_rows.proofs.Common.{same-refl, above-zero, KnownLine, KnownSpan, Content, Line, StoredSpan, lines_from, text_of, IsKept, IsSameHistory, IsSpanRow, SpansTell, TellsSpans, lines_of, shown}
+use Rattle.lpis_register_rows.proofs.Common.{years_of, IsSaid, Mark, SetsAre, known_of, span_in}
 use Rattle.lpis_lineage.specs.declared.span.Span.{Span as Years}
 use Rattle.lpis_lineage.specs.Lineage.{is_of, is_this}
 use Rattle.lpis_register_rows.specs.private.Known.{IsReadable, IsYear}
@@ -13,8 +12,8 @@ use Rattle.lpis_register_rows.proofs.FrontLemmas.{span-same}
 use Rattle.lpis_register_rows.proofs.OneHistoryLemmas.{sets-told}
 use Rattle.lpis_register_rows.proofs.PublishingLemmas.{spanned}
 use Rattle.lpis_register_rows.proofs.SayingLemmas.{count-map}
-use Rattle.lpis_register_rows.proofs.SortingLemmas.{sorted-lines, sorted-years}
-use Rattle.lpis_register_rows.proofs.YearLemmas.{all-entries, lines-ascend, years-ascend}
+use Rattle.lpis_register_rows.proofs.SortingLemmas.{sorted-years}
+use Rattle.lpis_register_rows.proofs.YearLemmas.{all-entries, years-ascend}
 
 all-moved-from : {A : Type 0} (P : A → Type 0) (xs ys : List A) → IsPermutation xs ys → AllByRecursion P ys → All P xs
 all-moved-from P xs ys p all = All-permutation P ys xs (IsPermutation-sym xs ys p) (All-from_recursion P ys all)
@@ -74,22 +73,17 @@ all-lines : (h : List Entry) → AllByRecursion (λ e. AllByRecursion IsReadable
 all-lines [] all = tt
 all-lines (x ∷ h) all = all-append IsReadable (lines_from (pos x.year) 0 x.rows) (lines_of h) all.0 (all-lines h all.1)
 
-pub told-lines : (h : List Entry) (ls : List Line) → IsKept h → IsPermutation ls (lines_of h) → All IsReadable ls
-told-lines h ls kept p = all-moved-from IsReadable ls (lines_of h) p (all-lines h (all-entries (λ e. AllByRecursion IsReadable (lines_from (pos e.year) 0 e.rows)) h (λ i lt. readable-entry h kept i)))
-
-pub told-sorted-lines : (h : List Entry) (ls : List Line) (sorted : List KnownLine) → IsKept h → IsSortedByKey line_in line_cmp sorted
-    → IsPermutation ls (map line_in sorted) → IsPermutation ls (lines_of h) → lines_of h ≡ map line_in sorted
-told-sorted-lines h ls sorted kept up p q = sorted-lines ls sorted (lines_of h) up (lines-ascend h (years-ascend h kept.lawful)) p q
+pub readable-lines : (h : List Entry) (ls : List Line) → IsKept h → IsPermutation ls (lines_of h) → All IsReadable ls
+readable-lines h ls kept p = all-moved-from IsReadable ls (lines_of h) p (all-lines h (all-entries (λ e. AllByRecursion IsReadable (lines_from (pos e.year) 0 e.rows)) h (λ i lt. readable-entry h kept i)))
 
 -- ---- all that was read
 
-pub told-said : (c : Content) (h : List Entry) (spans : List KnownSpan) (lines : List KnownLine) → Tells c h → map span_in spans ≡ c.spans
-    → IsPermutation c.lines (map line_in lines) → IsSortedByKey line_in line_cmp lines → All (λ l. HasText l.row) lines → IsSaid spans lines h
-told-said c h spans lines t ss ls up texts = record {
+pub told-said : {version : ℕ} {ms : List Mark} (c : Content) (h : List Entry) (spans : List KnownSpan) (lines : List KnownLine) → TellsSpans version ms c h → map span_in spans ≡ c.spans
+    → known_of h ≡ lines → IsSaid spans lines h
+told-said c h spans lines t ss ls = record {
   kept = t.kept;
   sets = subst (λ (l : List StoredSpan). SetsAre l h) (sym ss) (sets-told h c.spans t.kept.lawful t.spans_are);
-  lines_are = told-sorted-lines h c.lines lines t.kept up ls t.lines_are;
-  texts = texts;
+  lines_are = ls;
 }
 
 pub told-few : (h : List Entry) (spans : List KnownSpan) (rows : List StoredSpan) → map span_in spans ≡ rows → SpansTell rows h → (id : List ℕ) → length (filter (λ s. same_id id s.id) spans) ≤ 1

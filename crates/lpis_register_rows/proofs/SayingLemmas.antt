@@ -1,8 +1,8 @@
 -- A history put together from rows is what they say.
-use Rattle.std.proofs.Common.{◌≡◌, ◌∙◌, ◌≤◌, refl, sym, ap, subst, arith, ℕ, zero, suc, ℤ, pos, negsuc, List, [], ◌∷◌, Bool, true, false, cond, length, map, IsPermutation, ◌&&◌, ◌||◌, All, filter}
-use Rattle.lpis_register_rows.proofs.Common.{AllByRecursion, list_any, recursion_from_All, is_id, same_id, Entry, IsLawful, RowsFit, entry_at, holds, in-history, same-exact, KnownSpan, KnownLine}
-use Rattle.lpis_register_rows.proofs.Common.{Content}
-use Rattle.lpis_register_rows.proofs.Common.{StoredSpan, IsKept, IsSpanRow, SpansTell, Tells, last_of_years, lines_of, only_format, years_of, covers, SetsAre, line_in, span_in}
+use Rattle.std.proofs.Common.{◌≡◌, ◌∙◌, ◌≤◌, refl, sym, ap, subst, arith, ℕ, zero, suc, ℤ, pos, List, [], ◌∷◌, Bool, true, false, cond, length, map, IsPermutation, ◌&&◌, ◌||◌, All, filter}
+use Rattle.lpis_register_rows.proofs.Common.{AllByRecursion, list_any, recursion_from_All, is_id, same_id, Entry, IsLawful, RowsFit, entry_at, holds, in-history, same-exact, KnownSpan, KnownLine, Content}
+use Rattle.lpis_register_rows.proofs.Common.{StoredSpan, IsKept, IsSpanRow, SpansTell, TellsSpans, last_of_years, lines_of, only_format, years_of, covers, Line, Mark, SetsAre, known_of, line_in, marks_in, marks_of, span_in}
+use Rattle.lpis_register_rows.proofs.MarkLemmas.{lines-in, marks-in}
 
 -- what a test passes with another it passes alone
 any-left : {A : Type 0} (p q : A → Bool) (xs : List A) → list_any (λ x. p x && q x) xs ≡ true → list_any p xs ≡ true
@@ -61,13 +61,20 @@ kept-said h years spans law fit small ids years-are sets = record {
   years = small-years h years years-are small;
 }
 
+-- the lines and the marks of a history whose rows are these
+pub told-lines-are : (ls : List Line) (h : List Entry) (lines : List KnownLine) → IsPermutation ls (map line_in lines) → known_of h ≡ lines → IsPermutation ls (lines_of h)
+told-lines-are ls h lines p e = subst (IsPermutation ls) (ap (λ (ks : List KnownLine). map line_in ks) (sym e) ∙ lines-in h) p
+
+pub told-marks-are : (ms : List Mark) (h : List Entry) (lines : List KnownLine) → IsPermutation ms (marks_in lines) → known_of h ≡ lines → IsPermutation ms (marks_of h)
+told-marks-are ms h lines p e = subst (IsPermutation ms) (ap marks_in (sym e) ∙ marks-in h) p
+
 -- the history that rows say
-pub says : (c : Content) (h : List Entry) (years : List ℕ) (spans : List KnownSpan) (lines : List KnownLine) → IsLawful h → RowsFit h
-    → AllByRecursion (λ y. y ≤ last_of_years) years → c.formats ≡ only_format 2
+pub says : (version : ℕ) (ms : List Mark) (c : Content) (h : List Entry) (years : List ℕ) (spans : List KnownSpan) (lines : List KnownLine) → IsLawful h → RowsFit h
+    → AllByRecursion (λ y. y ≤ last_of_years) years → c.formats ≡ only_format version
     → IsPermutation c.years (map (λ y. pos y) years) → map span_in spans ≡ c.spans → All (λ s. is_id s.id ≡ true) spans → ((id : List ℕ) → length (filter (λ s. same_id id s.id) spans) ≤ 1)
     → IsPermutation c.lines (map line_in lines) → years_of h ≡ map (λ y. pos y) years → SetsAre (map span_in spans) h
-    → lines_of h ≡ map line_in lines → All (λ s. IsSpanRow h (span_in s)) spans → Tells c h
-says c h years spans lines law fit small formats ys ss ids once ls years-are sets lines-are right = record {
+    → IsPermutation ms (marks_in lines) → known_of h ≡ lines → All (λ s. IsSpanRow h (span_in s)) spans → TellsSpans version ms c h
+says version ms c h years spans lines law fit small formats ys ss ids once ls years-are sets marks lines-are right = record {
   kept = kept-said h years spans law fit small ids years-are sets;
   formats_are = formats;
   years_are = subst (IsPermutation c.years) (sym years-are) ys;
@@ -76,7 +83,8 @@ says c h years spans lines law fit small formats ys ss ids once ls years-are set
     right = right-map h spans (recursion_from_All (λ s. IsSpanRow h (span_in s)) spans right);
     whole = spanned;
   });
-  lines_are = subst (IsPermutation c.lines) (sym lines-are) ls;
+  lines_are = told-lines-are c.lines h lines ls lines-are;
+  marks_are = told-marks-are ms h lines marks lines-are;
 } where
   spanned : (id : List ℕ) (i : ℕ) → holds h i id ≡ true → list_any (λ s. same_id id s.id) (map span_in spans) ≡ true
   spanned id i held = any-left (λ (s : StoredSpan). same_id id s.id) (λ (s : StoredSpan). covers s (entry_at h i).year) (map span_in spans) (sym (sets i (in-history h i id held) id) ∙ held)

@@ -1,7 +1,7 @@
 -- What is sorted and has the elements of a list that ascends strictly is that list.
-use Rattle.std.proofs.Common.{◌≡◌, ◌∙◌, ◌<◌, ◌≤◌, inl, inr, refl, sym, ap, arith, ℕ, suc, ℤ, pos, negsuc, List, [], ◌∷◌, Bool, true, false, cond, length, map, get_or, IsPermutation, Ordering, ◌&&◌}
+use Rattle.std.proofs.Common.{◌≡◌, ◌∙◌, ◌<◌, ◌≤◌, inl, inr, refl, sym, ap, arith, ℕ, suc, ℤ, pos, List, [], ◌∷◌, Bool, true, false, cond, length, map, get_or, IsPermutation, Ordering, ◌&&◌}
 use Rattle.std.proofs.Common.{◌||◌, not, IsSorted, Less, Equal, filter, IsSortedByKey, int_cmp, is_lt, nat_cmp}
-use Rattle.lpis_register_rows.proofs.Common.{AllByRecursion, list_any, nat_tests, IsPermutation-sym, IsPermutation-trans, filter-none, KnownLine, Line, line_cmp, line_in}
+use Rattle.lpis_register_rows.proofs.Common.{AllByRecursion, list_any, nat_tests, IsPermutation-sym, IsPermutation-trans, filter-none, KnownLine, Line, line_in}
 use Rattle.std.specs.Cmp.{IsStrictWeakOrder, IsTotalOrder, int_cmp_is}
 use Rattle.std.specs.List.Sorted.{ties}
 use Rattle.std.specs.Ordering.{ordering_then}
@@ -11,6 +11,7 @@ use Rattle.std.proofs.lemmas.List.Sorted.{ranks_by, sorted_far}
 use Rattle.lpis_lineage.proofs.Shared.{filter-some}
 use Rattle.lpis_register_rows.proofs.AscendingLemmas.{Ascends, all-map, below, same-ascending}
 use Rattle.lpis_register_rows.proofs.SpanRowLemmas.{count-moved}
+use Rattle.lpis_register_rows.specs.private.Known.{line_cmp}
 use Rattle.lpis_register_rows.proofs.YearLemmas.{line_below}
 
 pub ascends-map : {A : Type 0} (R S : A → A → Type 0) (xs : List A) → ((x y : A) → R x y → S x y) → Ascends R xs → Ascends S xs
@@ -31,7 +32,7 @@ above-far : {A B : Type 0} (lt : A → A → Bool) (f : B → A) (x : A) (xs : L
 above-far lt f x [] far = tt
 above-far lt f x (y ∷ ys) far = (far 0 y (omega arith), above-far lt f x ys (λ k d p. far (suc k) d (omega arith)))
 
-rises-far : {A B : Type 0} (lt : A → A → Bool) (f : B → A) (xs : List B) → ((i j : ℕ) (d : B) → i ≤ j → j < length xs → lt (f (get_or xs j d)) (f (get_or xs i d)) ≡ false) → Rises lt (map f xs)
+pub rises-far : {A B : Type 0} (lt : A → A → Bool) (f : B → A) (xs : List B) → ((i j : ℕ) (d : B) → i ≤ j → j < length xs → lt (f (get_or xs j d)) (f (get_or xs i d)) ≡ false) → Rises lt (map f xs)
 rises-far lt f [] far = tt
 rises-far lt f (x ∷ xs) far = (above-far lt f (f x) xs (λ k d p. far 0 (suc k) d (omega arith) (omega arith)), rises-far lt f xs (λ i j d p q. far (suc i) (suc j) d (omega arith) (omega arith)))
 
@@ -121,7 +122,7 @@ sorted-years ys sorted told up a p q = sym (sorted-same (λ (x y : ℤ). is_lt (
 total : IsTotalOrder line_cmp
 total = then_total (on_total (λ (l : Line). l.year) int_cmp_total) (on_total (λ (l : Line). l.position) int_cmp_total)
 
-lines-less : (a b : Line) → line_below a b → is_lt (line_cmp a b) ≡ true
+pub lines-less : (a b : Line) → line_below a b → is_lt (line_cmp a b) ≡ true
 lines-less a b (inl r) = ap (λ (o : Ordering). is_lt (ordering_then o (int_cmp a.position b.position))) (below-less a.year b.year r)
 lines-less a b (inr (e, r)) =
     ap (λ (o : Ordering). is_lt (ordering_then o (int_cmp a.position b.position))) (sym (int_cmp_is a.year b.year Equal e))

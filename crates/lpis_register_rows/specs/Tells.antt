@@ -9,7 +9,10 @@ use Rattle.lpis_lineage.specs.Lawful.{IsLawful, RowsFit}
 use Rattle.lpis_lineage.specs.Lineage.{entry_at, holds, last_live}
 use Rattle.lpis_lineage.specs.Order.{IsAscending}
 use Rattle.lpis_lineage.specs.Spans.{span_of}
-use Rattle.lpis_register_rows.specs.Content.{Content, Format, Line, Live, StoredSpan, lines_from}
+use Rattle.lpis_register_rows.specs.Content.{Content, Format, Line, Live, Mark, StoredSpan}
+use Rattle.lpis_register_rows.specs.Content.{lines_from, marks_from}
+use Rattle.lpis_register_rows.specs.declared.version.Version.{Version}
+use Rattle.lpis_register_rows.specs.declared.version.Version.TheVariants.{First, Second, Third}
 
 -- the greatest year
 abbrev pub last_of_years : ℕ
@@ -31,6 +34,11 @@ years_of (e ∷ h) = pos e.year ∷ years_of h
 abbrev pub lines_of : List Entry → List Line
 lines_of [] = []
 lines_of (e ∷ h) = lines_from (pos e.year) 0 e.rows ++ lines_of h
+
+-- the marks of all releases, one for each row of lineage that is marked exact
+abbrev pub marks_of : List Entry → List Mark
+marks_of [] = []
+marks_of (e ∷ h) = marks_from (pos e.year) 0 e.rows ++ marks_of h
 
 -- a span as the table shows it
 abbrev pub shown : Option Years → Option (ℤ × ℤ)
@@ -55,13 +63,19 @@ pub record SpansTell (spans : List StoredSpan) (h : List Entry) : Type 0 where
 abbrev pub only_format : ℕ → List Format
 only_format version = (record { one = pos 1; version = pos version }) ∷ []
 
--- what tables of version 2 say
-pub record Tells (c : Content) (h : List Entry) : Type 0 where
-  pub kept : IsKept h
-  pub formats_are : c.formats ≡ only_format 2
-  pub years_are : IsPermutation c.years (years_of h)
-  pub spans_are : SpansTell c.spans h
-  pub lines_are : IsPermutation c.lines (lines_of h)
+-- what tables of a version with spans say, where these are the marks
+pub record TellsSpans (version : ℕ) (marks : List Mark) (c : Content) (h : List Entry) : Type 0
+  where
+    pub kept : IsKept h
+    pub formats_are : c.formats ≡ only_format version
+    pub years_are : IsPermutation c.years (years_of h)
+    pub spans_are : SpansTell c.spans h
+    pub lines_are : IsPermutation c.lines (lines_of h)
+    pub marks_are : IsPermutation marks (marks_of h)
+
+-- what tables of version 3 say
+abbrev pub Tells : Content → List Entry → Type 0
+Tells c h = TellsSpans 3 c.marks c h
 
 -- the rows of `lpis_live` are the identifiers of the releases
 pub record LiveTells (live : List Live) (h : List Entry) : Type 0 where
@@ -77,6 +91,14 @@ pub record TellsLive (c : Content) (h : List Entry) : Type 0 where
   pub years_are : IsPermutation c.years (years_of h)
   pub live_are : LiveTells c.live h
   pub lines_are : IsPermutation c.lines (lines_of h)
+  -- it has no marks
+  pub unmarked : marks_of h ≡ []
+
+-- what tables of a version say: before version 3 there are no marks
+abbrev pub Says : Version → Content → List Entry → Type 0
+Says First c h = TellsLive c h
+Says Second c h = TellsSpans 2 [] c h
+Says Third c h = Tells c h
 
 -- the same rows in another order
 pub record IsSameContent (c d : Content) : Type 0 where
@@ -85,6 +107,8 @@ pub record IsSameContent (c d : Content) : Type 0 where
   pub spans : IsPermutation c.spans d.spans
   pub lines : IsPermutation c.lines d.lines
   pub live : IsPermutation c.live d.live
+  pub texts : IsPermutation c.texts d.texts
+  pub marks : IsPermutation c.marks d.marks
 
 -- two histories are the same: the same years, sets and rows
 pub record IsSameHistory (h k : List Entry) : Type 0 where

@@ -4,12 +4,12 @@ ghost use Rattle.std.specs.Prelude.{◌≡◌, ◌≤◌, ◌++◌, ◌∷◌, L
 ghost use Rattle.std.specs.Prelude.{IfOk, OnOk};
 ghost use Rattle.lpis_lineage.specs.declared.fault.AddFault.TheVariants.{Memory as WantsMemory};
 ghost use Rattle.lpis_lineage.specs.declared.row.Entry.{Entry};
-ghost use Rattle.lpis_register_rows.specs.declared.fault.RecordsFault.TheVariants.{Unlawful};
-ghost use Rattle.lpis_register_rows.specs.Tells.{IsSameHistory, lines_of, years_of};
+ghost use Rattle.lpis_register_rows.specs.declared.fault.RowsFault.TheVariants.{Unlawful};
+ghost use Rattle.lpis_register_rows.specs.Tells.{IsSameHistory, years_of};
 ghost use Rattle.lpis_register_rows.specs.private.Fronts.{IsDue, IsFront, IsSaid};
-ghost use Rattle.lpis_register_rows.specs.private.Known.{SetsAre, line_in, span_in};
+ghost use Rattle.lpis_register_rows.specs.private.Known.{SetsAre, known_of, span_in};
 
-use crate::fault::RecordsFault;
+use crate::fault::RowsFault;
 use crate::known::{KnownLine, KnownSpan};
 use crate::opening::{live_ids, rows_of_year};
 use lpis_lineage::{AddFault, History};
@@ -24,14 +24,14 @@ fn add_year(
     lines: &[KnownLine],
     from: usize,
     year: u16,
-) -> Result<usize, RecordsFault>
+) -> Result<usize, RowsFault>
     requires within { from ≤ length lines.now }
     ensures within { IfOk result (λ next. next ≤ length lines.now) }
     ensures years { OnOk result (years_of history.new ≡ years_of history.old ++ pos year ∷ []) }
     ensures sets { OnOk result (SetsAre (map span_in spans.now) history.old
         → SetsAre (map span_in spans.now) history.new) }
-    ensures lines { lines_of history.old ≡ map line_in (take from lines.now)
-        → IfOk result (λ next. lines_of history.new ≡ map line_in (take next lines.now)) }
+    ensures lines { known_of history.old ≡ take from lines.now
+        → IfOk result (λ next. known_of history.new ≡ take next lines.now) }
     ensures front { OnOk result ((h : List Entry) → IsSaid spans.now lines.now h
         → IsDue history.old lines.now from year h → IsFront history.new h) }
     ensures refused { IfErr result (λ e. e ≡ Unlawful → (h : List Entry)
@@ -47,12 +47,12 @@ fn add_year(
 }
 
 /// Why the release of rows is not added.
-fn fault_of(fault: AddFault) -> RecordsFault
+fn fault_of(fault: AddFault) -> RowsFault
     ensures { result ≡ Unlawful → fault ≡ WantsMemory → ⊥ }
 {
     match fault {
-        AddFault::Memory => RecordsFault::Memory,
-        AddFault::Year { .. } | AddFault::Lineage(_) => RecordsFault::Unlawful,
+        AddFault::Memory => RowsFault::Memory,
+        AddFault::Year { .. } | AddFault::Lineage(_) => RowsFault::Unlawful,
     }
 }
 
@@ -63,10 +63,10 @@ pub(crate) fn build(
     years: &[u16],
     spans: &[KnownSpan],
     lines: &[KnownLine],
-) -> Result<History, RecordsFault>
+) -> Result<History, RowsFault>
     ensures years { IfOk result (λ h. years_of h ≡ map (λ y. pos y) years.now) }
     ensures sets { IfOk result (SetsAre (map span_in spans.now)) }
-    ensures lines { IfOk result (λ h. lines_of h ≡ map line_in lines.now) }
+    ensures lines { IfOk result (λ h. known_of h ≡ lines.now) }
     ensures same { IfOk result (λ g. (h : List Entry) → IsSaid spans.now lines.now h
         → years_of h ≡ map (λ y. pos y) years.now → IsSameHistory g h) }
     ensures refused { IfErr result (λ e. e ≡ Unlawful → (h : List Entry)
@@ -79,7 +79,7 @@ pub(crate) fn build(
         next = add_year(alloc, &mut history, spans, lines, next, *year)?;
     }
     if next < lines.len() {
-        return Err(RecordsFault::Unlawful);
+        return Err(RowsFault::Unlawful);
     }
     Ok(history)
 }

@@ -1,14 +1,14 @@
 //! Why rows say no history.
 
 ghost use Rattle.std.specs.Prelude.{◌≡◌};
-ghost use Rattle.lpis_register_rows.specs.declared.fault.RecordsFault.TheVariants.{Memory};
+ghost use Rattle.lpis_register_rows.specs.declared.fault.RowsFault.TheVariants.{Memory};
 
 use std::alloc::{AllocError, AllocFailed};
 use thiserror::Error;
 
 /// Why rows of the register's tables are not read as a history.
 #[derive(Debug, Drop, Error)]
-pub enum RecordsFault {
+pub enum RowsFault {
     /// Memory ran out.
     #[error("out of memory")]
     Memory,
@@ -17,18 +17,18 @@ pub enum RecordsFault {
     Unlawful,
 }
 
-impl From<AllocError> for RecordsFault {
+impl From<AllocError> for RowsFault {
     ghost from_gives = { λ _ e. e ≡ Memory };
 
-    fn from(_e: AllocError) -> RecordsFault {
-        RecordsFault::Memory
+    fn from(_e: AllocError) -> RowsFault {
+        RowsFault::Memory
     }
 }
 
-impl<T: Drop> From<AllocFailed<T>> for RecordsFault {
+impl<T: Drop> From<AllocFailed<T>> for RowsFault {
     ghost from_gives = { λ _ e. e ≡ Memory };
 
-    fn from(_e: AllocFailed<T>) -> RecordsFault {
-        RecordsFault::Memory
+    fn from(_e: AllocFailed<T>) -> RowsFault {
+        RowsFault::Memory
     }
 }

@@ -1,38 +1,61 @@
 //! The history that rows say.
 
-ghost use Rattle.std.specs.Prelude.{◌≡◌, List, IfErr, IfOk};
+ghost use Rattle.std.specs.Prelude.{◌≡◌, List, [], IfErr, IfOk};
 ghost use Rattle.lpis_lineage.specs.declared.row.Entry.{Entry};
-ghost use Rattle.lpis_register_rows.specs.declared.fault.RecordsFault.TheVariants.{Unlawful};
-ghost use Rattle.lpis_register_rows.specs.Tells.{Tells};
+ghost use Rattle.lpis_register_rows.specs.declared.fault.RowsFault.TheVariants.{Unlawful};
+ghost use Rattle.lpis_register_rows.specs.Tells.{Says, TellsSpans};
 
 use crate::building::build;
-use crate::fault::RecordsFault;
-use crate::known::{none_twice, read_lines, read_spans, sorted_years};
+use crate::fault::RowsFault;
+use crate::known::{none_twice, read_spans, sorted_years};
+use crate::live::live_history_of;
+use crate::marks::marked_lines;
 use crate::opening::{are_told, has_version};
-use crate::rows::Rows;
+use crate::rows::{MarkRow, Rows};
+use crate::version::Version;
 use lpis_lineage::History;
 use std::alloc::Global;
 
-/// The history that rows of version 2 say, in whatever order they are; `Unlawful` exactly where
-/// they say none.
-pub fn history_of(alloc: Global, rows: &Rows) -> Result<History, RecordsFault>
-    ensures ok { IfOk result (Tells rows.now) }
-    ensures unlawful { IfErr result (λ e. e ≡ Unlawful → (h : List Entry) → Tells rows.now h → ⊥) }
+/// The history that rows of a version with spans say beside these marks, in whatever order they
+/// are; `Unlawful` exactly where they say none.
+fn spans_history_of(
+    alloc: Global,
+    rows: &Rows,
+    version: u16,
+    marks: &[MarkRow],
+) -> Result<History, RowsFault>
+    ensures ok { IfOk result (TellsSpans version marks.now rows.now) }
+    ensures unlawful { IfErr result (λ e. e ≡ Unlawful → (h : List Entry)
+        → TellsSpans version marks.now rows.now h → ⊥) }
 {
-    if !has_version(rows.formats(), 2) {
-        return Err(RecordsFault::Unlawful);
+    if !has_version(rows.formats(), version) {
+        return Err(RowsFault::Unlawful);
     }
     let years = sorted_years(alloc, rows.years())?;
     let spans = read_spans(alloc, rows.spans())?;
-    let lines = read_lines(alloc, rows.lines())?;
+    let lines = marked_lines(alloc, rows.lines(), marks)?;
     let once = none_twice(alloc, spans.as_slice())?;
     if !once {
-        return Err(RecordsFault::Unlawful);
+        return Err(RowsFault::Unlawful);
     }
     let history = build(alloc, years.as_slice(), spans.as_slice(), lines.as_slice())?;
     let _ = history.releases();
     if !are_told(&history, spans.as_slice()) {
-        return Err(RecordsFault::Unlawful);
+        return Err(RowsFault::Unlawful);
     }
     Ok(history)
+}
+
+/// The history that rows of a version say, in whatever order they are; `Unlawful` exactly where
+/// they say none.
+pub fn history_of(alloc: Global, rows: &Rows, version: Version) -> Result<History, RowsFault>
+    ensures ok { IfOk result (Says version rows.now) }
+    ensures unlawful { IfErr result (λ e. e ≡ Unlawful → (h : List Entry)
+        → Says version rows.now h → ⊥) }
+{
+    match version {
+        Version::First => live_history_of(alloc, rows),
+        Version::Second => spans_history_of(alloc, rows, 2, &[]),
+        Version::Third => spans_history_of(alloc, rows, 3, rows.marks()),
+    }
 }

@@ -7,14 +7,14 @@ ghost use Rattle.std.specs.List.{All, filter};
 ghost use Rattle.std.specs.List.Sorted.{IsSortedByKey};
 ghost use Rattle.std.specs.Ordering.{nat_cmp};
 ghost use Rattle.lpis_covers.specs.Ids.{is_id, same_id};
-ghost use Rattle.lpis_register_rows.specs.declared.fault.RecordsFault.TheVariants.{Unlawful};
+ghost use Rattle.lpis_register_rows.specs.declared.fault.RowsFault.TheVariants.{Unlawful};
 ghost use Rattle.lpis_register_rows.specs.Content.{text_of};
 ghost use Rattle.lpis_register_rows.specs.Tells.{last_of_years};
 ghost use Rattle.lpis_register_rows.specs.private.Covering.{covers};
 ghost use Rattle.lpis_register_rows.specs.private.Known.{HasText, IsReadable, IsYear, line_cmp, line_in};
 ghost use Rattle.lpis_register_rows.specs.private.Known.{span_in};
 
-use crate::fault::RecordsFault;
+use crate::fault::RowsFault;
 use crate::rows::{LineRow, SpanRow};
 use lpis_covers::Id;
 use lpis_lineage::Row;
@@ -40,19 +40,19 @@ impl KnownSpan {
 }
 
 /// The identifier of a text.
-pub(crate) fn read_id(alloc: Global, text: &str) -> Result<Id, RecordsFault>
+pub(crate) fn read_id(alloc: Global, text: &str) -> Result<Id, RowsFault>
     ensures same { IfOk result (λ id. id ≡ text.now) }
     ensures id { IfOk result (λ id. is_id text.now ≡ true) }
     ensures refused { IfErr result (λ e. e ≡ Unlawful → is_id text.now ≡ false) }
 {
     match Id::read(alloc, text.as_bytes())? {
         Some(id) => Ok(id),
-        None => Err(RecordsFault::Unlawful),
+        None => Err(RowsFault::Unlawful),
     }
 }
 
 /// A span with its identifier.
-fn read_span(alloc: Global, row: &SpanRow) -> Result<KnownSpan, RecordsFault>
+fn read_span(alloc: Global, row: &SpanRow) -> Result<KnownSpan, RowsFault>
     ensures same { IfOk result (λ s. span_in s ≡ row.now) }
     ensures id { IfOk result (λ s. is_id s.id ≡ true) }
     ensures refused { IfErr result (λ e. e ≡ Unlawful → is_id row.now.id ≡ false) }
@@ -64,7 +64,7 @@ fn read_span(alloc: Global, row: &SpanRow) -> Result<KnownSpan, RecordsFault>
 }
 
 /// The spans with their identifiers, in their order.
-pub(crate) fn read_spans(alloc: Global, rows: &[SpanRow]) -> Result<Vec<KnownSpan>, RecordsFault>
+pub(crate) fn read_spans(alloc: Global, rows: &[SpanRow]) -> Result<Vec<KnownSpan>, RowsFault>
     ensures same { IfOk result (λ v. map span_in v.items ≡ rows.now) }
     ensures ids { IfOk result (λ v. All (λ s. is_id s.id ≡ true) v.items) }
     ensures refused { IfErr result (λ e. e ≡ Unlawful → All (λ s. is_id s.id ≡ true) rows.now → ⊥) }
@@ -121,7 +121,7 @@ impl KnownLine {
 }
 
 /// The successor of a text, none where it is empty.
-fn read_successor(alloc: Global, text: &str) -> Result<Option<Id>, RecordsFault>
+fn read_successor(alloc: Global, text: &str) -> Result<Option<Id>, RowsFault>
     ensures same { IfOk result (λ new. text_of new ≡ text.now) }
     ensures text { IfOk result (λ new. new ≡ Some [] → ⊥) }
     ensures refused { IfErr result (λ e. e ≡ Unlawful → (text.now ≡ []) ⊎ (is_id text.now ≡ true)
@@ -134,8 +134,8 @@ fn read_successor(alloc: Global, text: &str) -> Result<Option<Id>, RecordsFault>
     Ok(Some(id))
 }
 
-/// A line with its row.
-fn read_line(alloc: Global, line: &LineRow) -> Result<KnownLine, RecordsFault>
+/// A line with its row, which is not marked.
+fn read_line(alloc: Global, line: &LineRow) -> Result<KnownLine, RowsFault>
     ensures same { IfOk result (λ l. line_in l ≡ line.now) }
     ensures text { IfOk result (λ l. HasText l.row) }
     ensures refused { IfErr result (λ e. e ≡ Unlawful → IsReadable line.now → ⊥) }
@@ -144,7 +144,8 @@ fn read_line(alloc: Global, line: &LineRow) -> Result<KnownLine, RecordsFault>
     let new = read_successor(alloc, line.new_text())?;
     let year = line.year();
     let position = line.position();
-    let row = Row { old, new };
+    let exact = false;
+    let row = Row { old, new, exact };
     Ok(KnownLine {
         year,
         position,
@@ -152,8 +153,8 @@ fn read_line(alloc: Global, line: &LineRow) -> Result<KnownLine, RecordsFault>
     })
 }
 
-/// The lines with their rows, by year and in it by position.
-pub(crate) fn read_lines(alloc: Global, lines: &[LineRow]) -> Result<Vec<KnownLine>, RecordsFault>
+/// The lines with their rows, none marked, by year and in it by position.
+pub(crate) fn read_lines(alloc: Global, lines: &[LineRow]) -> Result<Vec<KnownLine>, RowsFault>
     ensures same { IfOk result (λ v. IsPermutation lines.now (map line_in v.items)) }
     ensures sorted { IfOk result (λ v. IsSortedByKey line_in line_cmp v.items) }
     ensures texts { IfOk result (λ v. All (λ l. HasText l.row) v.items) }
@@ -164,8 +165,8 @@ pub(crate) fn read_lines(alloc: Global, lines: &[LineRow]) -> Result<Vec<KnownLi
     Ok(known)
 }
 
-/// The lines with their rows, in their order.
-fn known_lines(alloc: Global, lines: &[LineRow]) -> Result<Vec<KnownLine>, RecordsFault>
+/// The lines with their rows, none marked, in their order.
+fn known_lines(alloc: Global, lines: &[LineRow]) -> Result<Vec<KnownLine>, RowsFault>
     ensures same { IfOk result (λ v. map line_in v.items ≡ lines.now) }
     ensures texts { IfOk result (λ v. All (λ l. HasText l.row) v.items) }
     ensures refused { IfErr result (λ e. e ≡ Unlawful → All IsReadable lines.now → ⊥) }
@@ -191,7 +192,7 @@ fn year_of(year: &i64) -> Option<u16>
 }
 
 /// The years, ascending.
-pub(crate) fn sorted_years(alloc: Global, years: &[i64]) -> Result<Vec<u16>, RecordsFault>
+pub(crate) fn sorted_years(alloc: Global, years: &[i64]) -> Result<Vec<u16>, RowsFault>
     ensures same { IfOk result (λ v. IsPermutation years.now (map (λ y. pos y) v.items)) }
     ensures small { IfOk result (λ v. All (λ y. y ≤ last_of_years) v.items) }
     ensures sorted { IfOk result (λ v. IsSorted nat_cmp v.items) }
@@ -203,7 +204,7 @@ pub(crate) fn sorted_years(alloc: Global, years: &[i64]) -> Result<Vec<u16>, Rec
 }
 
 /// The years, in their order.
-fn known_years(alloc: Global, years: &[i64]) -> Result<Vec<u16>, RecordsFault>
+fn known_years(alloc: Global, years: &[i64]) -> Result<Vec<u16>, RowsFault>
     ensures same { IfOk result (λ v. map (λ y. pos y) v.items ≡ years.now) }
     ensures small { IfOk result (λ v. All (λ y. y ≤ last_of_years) v.items) }
     ensures refused { IfErr result (λ e. e ≡ Unlawful → All IsYear years.now → ⊥) }
@@ -212,7 +213,7 @@ fn known_years(alloc: Global, years: &[i64]) -> Result<Vec<u16>, RecordsFault>
     for year in years {
         match year_of(year) {
             Some(year) => known.push(year)?,
-            None => return Err(RecordsFault::Unlawful),
+            None => return Err(RowsFault::Unlawful),
         }
     }
     Ok(known)

@@ -1,50 +1,75 @@
 //! Laws of the definitions: functions that do nothing, and whose contracts say them.
 
-ghost use Rattle.std.specs.Prelude.{◌≤◌, ℕ, List, [], pos};
+ghost use Rattle.std.specs.Prelude.{◌≡◌, ◌↔◌, ◌≤◌, ℕ, List, [], pos, IsPermutation};
 ghost use Rattle.lpis_lineage.specs.Accepts.{Adds};
 ghost use Rattle.lpis_lineage.specs.Changes.{Changes, IsChange};
 ghost use Rattle.lpis_lineage.specs.Lawful.{IsLawful, RowsFit};
 ghost use Rattle.lpis_lineage.specs.Lineage.{last_live, last_year};
 ghost use Rattle.lpis_lineage.specs.declared.row.Entry.{Entry};
 ghost use Rattle.lpis_lineage.specs.declared.row.Row.{Row};
-ghost use Rattle.lpis_register_rows.specs.Content.{Content, StoredSpan, moved, no_content, published};
+ghost use Rattle.lpis_register_rows.specs.Content.{Content, Mark, StoredSpan, StoredText, moved};
+ghost use Rattle.lpis_register_rows.specs.Content.{marks_from, no_content, published, raised};
+ghost use Rattle.lpis_register_rows.specs.Content.{released, without_live, without_texts};
+ghost use Rattle.lpis_register_rows.specs.Shapes.{AreLive, Shape, ShapesAre};
 ghost use Rattle.lpis_register_rows.specs.Tells.{IsFresh, IsSameContent, IsSameHistory, IsWriting};
-ghost use Rattle.lpis_register_rows.specs.Tells.{SpansTell, Tells, TellsLive, last_of_years};
+ghost use Rattle.lpis_register_rows.specs.Tells.{Says, SpansTell, Tells, TellsLive, TellsSpans};
+ghost use Rattle.lpis_register_rows.specs.Tells.{last_of_years};
+ghost use Rattle.lpis_register_rows.specs.declared.version.Version.{Version};
+
+use lpis_wkt::laws::function_of_text;
 
 /// Where tables say a history, they say that history with a release more after what publishing it
-/// writes.
+/// writes, and keep its texts.
 pub fn publishing_adds_the_release()
-    ensures { (c : Content) (h k : List Entry) (year : ℕ) (live gone fresh : List (List ℕ))
+    ensures tells { (c : Content) (h k : List Entry) (year : ℕ) (live gone fresh : List (List ℕ))
         (rows : List Row) → Tells c h → Adds h k year live rows → IsLawful k → RowsFit k
-        → year ≤ last_of_years → IsWriting h live gone fresh
-        → Tells (published (pos year) (pos (last_year h)) gone fresh rows c) k }
+        → year ≤ last_of_years → IsWriting h live gone fresh → (texts : List StoredText)
+        → Tells (released texts (marks_from (pos year) 0 rows)
+        (published (pos year) (pos (last_year h)) gone fresh rows c)) k }
+    ensures texts { (c : Content) (texts : List StoredText) (marks : List Mark)
+        → IsPermutation texts (released texts marks c).texts }
+    ensures live { (h k : List Entry) (year : ℕ) (live : List (List ℕ)) (rows : List Row)
+        → Adds h k year live rows → (shapes : List Shape) → AreLive live shapes
+        → AreLive (last_live k) shapes }
 {}
 
 /// Tables say one history.
 pub fn tables_say_one_history()
-    ensures { (c : Content) (h k : List Entry) → Tells c h → Tells c k → IsSameHistory h k }
+    ensures { (version : Version) (c : Content) (h k : List Entry) → Says version c h
+        → Says version c k → IsSameHistory h k }
 {}
 
-/// Tables of version 1 say one history.
-pub fn tables_of_version_1_say_one_history()
-    ensures { (c : Content) (h k : List Entry) → TellsLive c h → TellsLive c k → IsSameHistory h k }
-{}
-
-/// Rows in another order say the same, and tables with no release say the empty history.
+/// Rows in another order say the same history, and so they do without the texts, and in version 3
+/// without live rows; tables with no release say the empty one.
 pub fn order_of_rows_is_free()
-    ensures reordered { (c d : Content) (h : List Entry) → IsSameContent c d → Tells c h
-        → Tells d h }
-    ensures reordered_live { (c d : Content) (h : List Entry) → IsSameContent c d → TellsLive c h
-        → TellsLive d h }
+    ensures reordered { (version : Version) (c d : Content) (h : List Entry) → IsSameContent c d
+        → Says version c h → Says version d h }
+    ensures textless { (version : Version) (c d : Content) (h : List Entry)
+        → IsSameContent (without_texts c) d → Says version c h ↔ Says version d h }
+    ensures lifeless { (c d : Content) (h : List Entry)
+        → IsSameContent (without_texts (without_live c)) d → Tells c h ↔ Tells d h }
     ensures nothing { Tells no_content [] }
 {}
 
-/// Where tables of version 1 say a history, they say it as version 2 after its spans are put in
-/// place of the live rows.
+/// Texts keep one list of shapes, in whatever order they are.
+pub fn texts_keep_one_list_of_shapes()
+    ensures one { (texts others : List StoredText) (shapes kept : List Shape)
+        → IsPermutation texts others → ShapesAre texts shapes → ShapesAre others kept
+        → shapes ≡ kept }
+    ensures reordered { (texts others : List StoredText) (shapes : List Shape)
+        → IsPermutation texts others → ShapesAre texts shapes → ShapesAre others shapes }
+    ensures nothing { ShapesAre [] [] }
+{
+    function_of_text();
+}
+
+/// Where tables of version 1 or 2 say a history, they say it as version 3 after they are moved, and
+/// keep no text.
 pub fn moving_keeps_the_history()
-    ensures { (c : Content) (spans : List StoredSpan) (h : List Entry) → TellsLive c h
-        → SpansTell spans h
-        → Tells (moved spans c) h }
+    ensures first { (c : Content) (spans : List StoredSpan) (h : List Entry) → TellsLive c h
+        → SpansTell spans h → Tells (moved spans c) h }
+    ensures second { (c : Content) (h : List Entry) → TellsSpans 2 [] c h → Tells (raised c) h }
+    ensures bare { (c : Content) (spans : List StoredSpan) → (moved spans c).texts ≡ [] }
 {}
 
 /// What a change drops and what is fresh is what publishing writes.

@@ -1,17 +1,16 @@
 //! The history that rows say.
 
 ghost use Rattle.std.specs.Prelude.{◌≡◌, ◌↔◌, ◌≤◌, ◌+◌, ◌++◌, ◌∷◌, ◌&&◌, [], pos, true, ℕ, List};
-ghost use Rattle.std.specs.Prelude.{length, map, take, IfErr, IfOk, IsTrue};
+ghost use Rattle.std.specs.Prelude.{length, take, IfErr, IfOk, IsTrue};
 ghost use Rattle.std.specs.List.{All, list_any};
 ghost use Rattle.lpis_covers.specs.Ids.{has_id, same_id};
-ghost use Rattle.lpis_register_rows.specs.declared.fault.RecordsFault.TheVariants.{Unlawful};
-ghost use Rattle.lpis_register_rows.specs.Content.{lines_from};
+ghost use Rattle.lpis_register_rows.specs.declared.fault.RowsFault.TheVariants.{Unlawful};
 ghost use Rattle.lpis_register_rows.specs.Tells.{IsSpanRow, only_format};
 ghost use Rattle.lpis_register_rows.specs.private.Covering.{covers};
 ghost use Rattle.lpis_register_rows.specs.private.Fronts.{IsRun};
-ghost use Rattle.lpis_register_rows.specs.private.Known.{HasText, line_at, line_in, span_in};
+ghost use Rattle.lpis_register_rows.specs.private.Known.{known_from, line_at, span_in};
 
-use crate::fault::RecordsFault;
+use crate::fault::RowsFault;
 use crate::known::{KnownLine, KnownSpan};
 use crate::rows::FormatRow;
 use lpis_covers::Id;
@@ -46,7 +45,7 @@ pub(crate) fn live_ids(alloc: Global, spans: &[KnownSpan], year: u16) -> Result<
 /// Whether there is a line at a position, and its year is this one.
 fn is_of_year(lines: &[KnownLine], next: usize, year: u16) -> bool
     ensures within { IsTrue result → next + 1 ≤ length lines.now }
-    ensures year { IsTrue result ↔ ((line_at (map line_in lines.now) next).year ≡ pos year) }
+    ensures year { IsTrue result ↔ ((line_at lines.now next).year ≡ pos year) }
 {
     next < lines.len() && lines[next].is_of(year)
 }
@@ -59,21 +58,19 @@ fn row_at(
     next: usize,
     year: u16,
     position: usize,
-) -> Result<Row, RecordsFault>
+) -> Result<Row, RowsFault>
     requires within { next + 1 ≤ length lines.now }
-    ensures row { IfOk result (λ row. map line_in (take (next + 1) lines.now) ≡ map line_in
-        (take next lines.now) ++ lines_from (pos year) position (row ∷ [])) }
-    ensures text { All (λ l. HasText l.row) lines.now → IfOk result HasText }
-    ensures refused { IfErr result (λ e. e ≡ Unlawful
-        → (line_at (map line_in lines.now) next).year ≡ pos year
-        → (line_at (map line_in lines.now) next).position ≡ pos position → ⊥) }
+    ensures row { IfOk result (λ row. take (next + 1) lines.now ≡ take next lines.now
+        ++ known_from (pos year) position (row ∷ [])) }
+    ensures refused { IfErr result (λ e. e ≡ Unlawful → (line_at lines.now next).year ≡ pos year
+        → (line_at lines.now next).position ≡ pos position → ⊥) }
 {
     let line = &lines[next];
     if line.is_at(year, position) {
         let row = line.row.copy()?;
         Ok(row)
     } else {
-        Err(RecordsFault::Unlawful)
+        Err(RowsFault::Unlawful)
     }
 }
 
@@ -84,16 +81,14 @@ pub(crate) fn rows_of_year(
     lines: &[KnownLine],
     from: usize,
     year: u16,
-) -> Result<(Vec<Row>, usize), RecordsFault>
+) -> Result<(Vec<Row>, usize), RowsFault>
     requires within { from ≤ length lines.now }
-    ensures rows { IfOk result (λ p. map line_in (take p.1 lines.now) ≡ map line_in
-        (take from lines.now) ++ lines_from (pos year) 0 p.0.items) }
+    ensures rows { IfOk result (λ p. take p.1 lines.now ≡ take from lines.now
+        ++ known_from (pos year) 0 p.0.items) }
     ensures within { IfOk result (λ p. p.1 ≤ length lines.now) }
-    ensures texts { All (λ l. HasText l.row) lines.now → IfOk result (λ p. All HasText p.0.items) }
-    ensures run { IfOk result (λ p. (stop : ℕ) → IsRun (map line_in lines.now) from year stop
-        → p.1 ≡ stop) }
+    ensures run { IfOk result (λ p. (stop : ℕ) → IsRun lines.now from year stop → p.1 ≡ stop) }
     ensures refused { IfErr result (λ e. e ≡ Unlawful → (stop : ℕ)
-        → IsRun (map line_in lines.now) from year stop → ⊥) }
+        → IsRun lines.now from year stop → ⊥) }
 {
     let mut rows = Vec::new(alloc);
     let mut next = from;

@@ -1,6 +1,6 @@
 //! Rows as a database gives them.
 
-ghost use Rattle.std.specs.Prelude.{◌≡◌, ◌↔◌, IsTrue, pos, string_bytes};
+ghost use Rattle.std.specs.Prelude.{◌≡◌, ◌↔◌, IsTrue, [], pos, string_bytes};
 
 use std::marker::Model;
 
@@ -195,7 +195,86 @@ impl LiveRow {
     }
 }
 
-/// The rows of the register's tables, each list in any order.
+/// A row of `lpis_text`.
+#[derive(Drop)]
+pub struct TextRow {
+    id: String,
+    wkt: String,
+}
+
+impl Model for TextRow {
+    ghost use Rattle.std.specs.Prelude.{string_bytes};
+    ghost use Rattle.lpis_register_rows.specs.Content.{StoredText};
+
+    ghost Value = { StoredText };
+
+    ghost view = { λ a. record { id = string_bytes a.id; wkt = string_bytes a.wkt } };
+}
+
+impl TextRow {
+    /// The text of the shape of the parcel with this identifier.
+    pub fn new(id: String, wkt: String) -> TextRow
+        ensures id { result.id ≡ string_bytes id }
+        ensures wkt { result.wkt ≡ string_bytes wkt }
+    {
+        TextRow { id, wkt }
+    }
+
+    /// The identifier's text.
+    pub fn id(&self) -> &str
+        ensures { result.now ≡ self.now.id }
+    {
+        self.id.as_str()
+    }
+
+    /// The text of its shape.
+    pub fn wkt(&self) -> &str
+        ensures { result.now ≡ self.now.wkt }
+    {
+        self.wkt.as_str()
+    }
+}
+
+/// A row of `lpis_mark`.
+#[derive(Drop)]
+pub struct MarkRow {
+    year: i64,
+    position: i64,
+}
+
+impl Model for MarkRow {
+    ghost use Rattle.lpis_register_rows.specs.Content.{Mark};
+
+    ghost Value = { Mark };
+
+    ghost view = { λ a. record { year = a.year; position = a.position } };
+}
+
+impl MarkRow {
+    /// The row of lineage at a position of a year's release is marked exact.
+    pub fn new(year: i64, position: i64) -> MarkRow
+        ensures year { result.year ≡ year }
+        ensures position { result.position ≡ position }
+    {
+        MarkRow { year, position }
+    }
+
+    /// The year of the release.
+    pub(crate) fn year(&self) -> i64
+        ensures { result ≡ self.now.year }
+    {
+        self.year
+    }
+
+    /// The position of the row among the rows of the release, from 0.
+    pub(crate) fn position(&self) -> i64
+        ensures { result ≡ self.now.position }
+    {
+        self.position
+    }
+}
+
+/// The rows of the register's tables but for the texts, each list in any order.
 #[derive(Drop)]
 pub struct Rows {
     formats: Vec<FormatRow>,
@@ -203,9 +282,11 @@ pub struct Rows {
     spans: Vec<SpanRow>,
     lines: Vec<LineRow>,
     live: Vec<LiveRow>,
+    marks: Vec<MarkRow>,
 }
 
 impl Model for Rows {
+    ghost use Rattle.std.specs.Prelude.{[]};
     ghost use Rattle.lpis_register_rows.specs.Content.{Content};
 
     ghost Value = { Content };
@@ -216,23 +297,28 @@ impl Model for Rows {
       spans = a.spans.items;
       lines = a.lines.items;
       live = a.live.items;
+      texts = [];
+      marks = a.marks.items;
     } };
 }
 
 impl Rows {
-    /// The rows of the five tables.
+    /// The rows of the six tables.
     pub fn new(
         formats: Vec<FormatRow>,
         years: Vec<i64>,
         spans: Vec<SpanRow>,
         lines: Vec<LineRow>,
         live: Vec<LiveRow>,
+        marks: Vec<MarkRow>,
     ) -> Rows
         ensures formats { result.formats ≡ formats.items }
         ensures years { result.years ≡ years.items }
         ensures spans { result.spans ≡ spans.items }
         ensures lines { result.lines ≡ lines.items }
         ensures live { result.live ≡ live.items }
+        ensures texts { result.texts ≡ [] }
+        ensures marks { result.marks ≡ marks.items }
     {
         Rows {
             formats,
@@ -240,6 +326,7 @@ impl Rows {
             spans,
             lines,
             live,
+            marks,
         }
     }
 
@@ -276,5 +363,12 @@ impl Rows {
         ensures { result.now ≡ self.now.live }
     {
         self.live.as_slice()
+    }
+
+    /// The rows of `lpis_mark`.
+    pub(crate) fn marks(&self) -> &[MarkRow]
+        ensures { result.now ≡ self.now.marks }
+    {
+        self.marks.as_slice()
     }
 }

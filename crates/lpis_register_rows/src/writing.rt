@@ -11,7 +11,7 @@ use lpis_lineage::History;
 use std::alloc::{AllocError, Global};
 
 /// An equal identifier, which is well formed.
-fn copy_of(id: &Id) -> Result<Id, AllocError>
+pub(crate) fn copy_of(id: &Id) -> Result<Id, AllocError>
     ensures same { IfOk result (λ copy. copy ≡ id.now) }
     ensures id { is_id id.now ≡ true }
 {

@@ -1,22 +1,19 @@
 -- What DELETE with no WHERE makes of a table.
-use Rattle.std.proofs.Common.{◌≡◌, ℕ, ℤ, List, [], ◌∷◌, map, drop, slice_get, true, false, not, Some, None, Ok, refl, sym, ap, subst, ◌∙◌, IsPermutation, true≢false, Option}
-use Rattle.lpis_register_sql.proofs.Common.{flat_map_single, IsPermutation-refl, IsPermutation-map, Null, Row, Table, Schema, overlay, IsAnswer, Output, output, edit_of, Given, Trees, Tally, Does}
-use Rattle.lpis_register_sql.proofs.Common.{Database}
-use Rattle.lpis_register_sql.proofs.Common.{Mode, State, mode_of, ExecutesInside, understood, Program, ids_of, statement_of, runs_as, Content, without_spans, without_live, span_table, Shape}
-use Rattle.lpis_register_sql.proofs.Common.{schema_of}
-use Rattle.lpis_register_sql.proofs.Common.{has_spans, has_live, span_tree, span_table_index, AreKeyed, span_row, live_row, Inside}
+use Rattle.std.proofs.Common.{◌≡◌, ℕ, ℤ, List, [], ◌∷◌, map, slice_get, true, false, not, Some, None, Ok, refl, sym, ap, subst, ◌∙◌, IsPermutation, Option}
+use Rattle.lpis_register_sql.proofs.Common.{flat_map_single, IsPermutation-refl, IsPermutation-map, Null, Row, Table, Schema, overlay, IsAnswer, Output, output, edit_of, Given, Trees, Tally, Does, Database}
+use Rattle.lpis_register_sql.proofs.Common.{Mode, State, mode_of, ExecutesInside, understood, Program, ids_of, statement_of, runs_as, Content, without_spans, without_live, without_texts, without_marks, span_table, text_table, mark_table}
+use Rattle.lpis_register_sql.proofs.Common.{Origin, Moved, Whole, schema_of, span_tree, text_tree, mark_tree, span_place, text_place, mark_place, live_table, AreKeyed, span_row, live_row, text_row, mark_row, Inside}
 use Rattle.sqlite.specs.Command.TheVariants.{Delete}
 use Rattle.sqlite.specs.Edit.{without_all}
 use Rattle.sqlite.specs.Does.{AtPlace, OnRows}
 use Rattle.sqlite.specs.Effect.{IsDatabase}
 use Rattle.sqlite.specs.Rows.{Written, Edited, Task}
 use Rattle.sqlite.specs.State.{Executes}
-use Rattle.lpis_register_sql.specs.Tables.{live_table}
-use Rattle.lpis_register_sql.specs.private.Texts.{clear_span, clear_live}
-use Rattle.lpis_register_sql.proofs.MeaningLemmas.{in_each, Says, whole, ids_query, clear_span_means, clear_live_means}
+use Rattle.lpis_register_sql.specs.private.Texts.{clear_span, clear_live, clear_text, clear_mark}
+use Rattle.lpis_register_sql.proofs.MeaningLemmas.{Says, whole, ids_query, clear_span_means, clear_live_means, clear_text_means, clear_mark_means}
 use Rattle.lpis_register_sql.proofs.UpdateLemmas.{without_is, filter_same, gone_are, key_of}
-use Rattle.lpis_register_sql.proofs.PartLemmas.{far, span_not_live, keeps_there, there_keeps, formats_kept, years_kept, spans_kept, lines_kept, own_spans, spans_changed}
-use Rattle.lpis_register_sql.proofs.InsertLemmas.{inside_next, span_stands}
+use Rattle.lpis_register_sql.proofs.PartLemmas.{KeepsAll, own_tree, spans_changed, texts_changed, marks_changed, live_changed}
+use Rattle.lpis_register_sql.proofs.InsertLemmas.{inside_next, span_stands, text_stands, mark_stands}
 use Rattle.lpis_register_sql.proofs.WriteLemmas.{Finding, went, same_value, step_of, Kept, kept_of}
 
 -- DELETE is one query and one step
@@ -57,26 +54,27 @@ emptied rows ids keyed same =
     without_is ids rows ∙ filter_same _ (λ r. false) rows (λ r there. ap not (gone r there)) ∙ none_kept rows
 
 -- a table that this empties
-pub record Empties (s : Shape) (old new : State) (tree : ℕ) : Type 0 where
-  pub schema : new.now.schema ≡ schema_of s
+pub record Empties (o : Origin) (old new : State) (tree : ℕ) : Type 0 where
+  pub schema : new.now.schema ≡ schema_of (Whole o)
   pub sound : IsDatabase new.now
   pub empty : new.now.trees tree ≡ []
-  pub others : Kept s tree old.now.trees new.now.trees
+  pub others : Kept o tree old.now.trees new.now.trees
 
-pub clears : (s : Shape) (sql : List ℕ) (index tree : ℕ) (table : Table) (old new : State) (count : ℕ)
-    → table.tree ≡ tree → old.now.schema ≡ schema_of s → slice_get (schema_of s).tables index ≡ Some table
-    → Says s sql (Delete index (whole (ids_query tree))) → overlay old.now.trees [] tree ≡ old.now.trees tree
-    → AreKeyed (old.now.trees tree) → Executes sql [] old new (Ok count) → Empties s old new tree
-clears s sql index tree table old new count named has at says own keyed h =
+pub clears : (o : Origin) (sql : List ℕ) (index tree : ℕ) (table : Table) (old new : State) (count : ℕ)
+    → table.tree ≡ tree → old.now.schema ≡ schema_of (Whole o) → slice_get (schema_of (Whole o)).tables index ≡ Some table
+    → Says o sql (Delete index (whole (ids_query tree))) → overlay old.now.trees [] tree ≡ old.now.trees tree
+    → AreKeyed (old.now.trees tree) → Executes sql [] old new (Ok count) → Empties o old new tree
+clears o sql index tree table old new count named has at says own keyed h =
+    let s = schema_of (Whole o) in
     let db = old.now.trees in
     let q = ids_query tree in
     let command = Delete index (whole q) in
-    let w = runs_as sql [] old new (schema_of s) has command says.0 says.1 count h in
-    let text = statement_of sql (understood (schema_of s) sql) in
-    let it = deletes old.step_limit (mode_of old) [] (schema_of s) db text index table (whole q) w.tally new.now at
+    let w = runs_as sql [] old new s has command says.0 says.1 count h in
+    let text = statement_of sql (understood s sql) in
+    let it = deletes old.step_limit (mode_of old) [] s db text index table (whole q) w.tally new.now at
     (subst (λ s. Does old.step_limit (mode_of old) [] (record old.now { schema = s }) text None command
     (Ok (w.tally, new.now))) has w.changed) in
-    let step = step_of s db new.now.trees _ it.edited in
+    let step = step_of o db new.now.trees _ it.edited in
     let a : IsAnswer q (overlay db []) [] it.found = it.answer.answer Null in
     let shows : Output → Row = λ o. o.1 in
     let rows = db tree in
@@ -90,49 +88,63 @@ clears s sql index tree table old new count named has at says own keyed h =
       schema = it.schema_is;
       sound = w.sound;
       empty = subst (λ t. new.now.trees t ≡ []) named (step.rows ∙ ap (λ t. without_all (db t) (ids_of it.found)) named ∙ emptied rows (ids_of it.found) keyed same);
-      others = subst (λ t. Kept s t db new.now.trees) named (kept_of s table.tree db new.now.trees step.tables);
+      others = subst (λ t. Kept o t db new.now.trees) named (kept_of o table.tree db new.now.trees step.tables);
     }
 
 pub none_keyed : AreKeyed []
 none_keyed = record { whole = λ x none. absurd none; alone = λ x y none more e. absurd none }
 
-pub clear_spans_inside : (s : Shape) (base : Database) (old new : State) (c : Content) (count : ℕ) → has_spans s ≡ true → Inside s base old c
-    → ExecutesInside 0 clear_span [] old new (Ok count) → Inside s base new (without_spans c)
-clear_spans_inside s base old new c count spans before h =
+-- an empty table keeps nothing
+pub none_there : {X : Type 0} (row : X → Row) (rows : List Row) → rows ≡ [] → KeepsAll row [] rows
+none_there row rows none = subst (KeepsAll row []) (sym none) (IsPermutation-refl [], none_keyed)
+
+pub clear_spans_inside : (o : Origin) (base : Database) (old new : State) (c : Content) (count : ℕ) → Inside (Whole o) base old c
+    → ExecutesInside 0 clear_span [] old new (Ok count) → Inside (Whole o) base new (without_spans c)
+clear_spans_inside o base old new c count before h =
     let m = before.holds.means in
     let db = old.now.trees in
-    let tree = span_tree s in
-    let there = keeps_there (has_spans s) span_row c.spans (db tree) spans m.spans_are in
-    let e = clears s clear_span (span_table_index s) tree (span_table tree) old new count refl before.holds.schema (span_stands s spans) (clear_span_means s spans) (own_spans s db) there.1 h.0 in
-    inside_next s s base old new c _ before h.1 (record {
+    let tree = span_tree o in
+    let e = clears o clear_span (span_place o) tree (span_table tree) old new count refl before.holds.schema (span_stands o) (clear_span_means o) (own_tree o span_tree db refl refl) m.spans_are.1 h.0 in
+    inside_next (Whole o) (Whole o) base old new c _ before h.1 (record {
       schema = e.schema;
       sound = e.sound;
-      means = spans_changed s db new.now.trees c [] spans e.others m
-          (subst (λ (rs : List Row). IsPermutation [] (map (drop 1) rs)) (sym e.empty) (IsPermutation-refl []))
-          (subst AreKeyed (sym e.empty) none_keyed);
+      means = spans_changed o db new.now.trees c [] e.others m (none_there span_row (new.now.trees tree) e.empty);
     })
 
-live_stands : (s : Shape) → has_live s ≡ true → slice_get (schema_of s).tables 2 ≡ Some (live_table 2)
-live_stands = in_each _ (λ is. absurd (true≢false (sym is))) (λ is. refl) (λ is. refl)
-
-pub clear_live_inside : (s : Shape) (base : Database) (old new : State) (c : Content) (count : ℕ) → has_live s ≡ true → Inside s base old c
-    → ExecutesInside 0 clear_live [] old new (Ok count) → Inside s base new (without_live c)
-clear_live_inside s base old new c count live before h =
+pub clear_texts_inside : (o : Origin) (base : Database) (old new : State) (c : Content) (count : ℕ) → Inside (Whole o) base old c
+    → ExecutesInside 0 clear_text [] old new (Ok count) → Inside (Whole o) base new (without_texts c)
+clear_texts_inside o base old new c count before h =
     let m = before.holds.means in
     let db = old.now.trees in
-    let next = new.now.trees in
-    let there = keeps_there (has_live s) live_row c.live (db 2) live m.live_are in
-    let e = clears s clear_live 2 2 (live_table 2) old new count refl before.holds.schema (live_stands s live) (clear_live_means s live) refl there.1 h.0 in
-    inside_next s s base old new c _ before h.1 (record {
+    let tree = text_tree o in
+    let e = clears o clear_text (text_place o) tree (text_table tree) old new count refl before.holds.schema (text_stands o) (clear_text_means o) (own_tree o text_tree db refl refl) m.texts_are.1 h.0 in
+    inside_next (Whole o) (Whole o) base old new c _ before h.1 (record {
       schema = e.schema;
       sound = e.sound;
-      means = record {
-        formats_are = formats_kept s 2 db next c e.others m (far 0 2 refl);
-        years_are = years_kept s 2 db next c e.others m (far 1 2 refl);
-        spans_are = spans_kept s 2 db next c e.others m (λ is. span_not_live s live);
-        lines_are = lines_kept s 2 db next c e.others m (far 4 2 refl);
-        live_are = there_keeps (has_live s) live_row [] (next 2) live
-            (subst (λ (rs : List Row). IsPermutation [] (map (drop 1) rs)) (sym e.empty) (IsPermutation-refl []))
-            (subst AreKeyed (sym e.empty) none_keyed);
-      };
+      means = texts_changed o db new.now.trees c [] e.others m (none_there text_row (new.now.trees tree) e.empty);
+    })
+
+pub clear_marks_inside : (o : Origin) (base : Database) (old new : State) (c : Content) (count : ℕ) → Inside (Whole o) base old c
+    → ExecutesInside 0 clear_mark [] old new (Ok count) → Inside (Whole o) base new (without_marks c)
+clear_marks_inside o base old new c count before h =
+    let m = before.holds.means in
+    let db = old.now.trees in
+    let tree = mark_tree o in
+    let e = clears o clear_mark (mark_place o) tree (mark_table tree) old new count refl before.holds.schema (mark_stands o) (clear_mark_means o) (own_tree o mark_tree db refl refl) m.marks_are.1 h.0 in
+    inside_next (Whole o) (Whole o) base old new c _ before h.1 (record {
+      schema = e.schema;
+      sound = e.sound;
+      means = marks_changed o db new.now.trees c [] e.others m (none_there mark_row (new.now.trees tree) e.empty);
+    })
+
+pub clear_live_inside : (base : Database) (old new : State) (c : Content) (count : ℕ) → Inside (Whole Moved) base old c
+    → ExecutesInside 0 clear_live [] old new (Ok count) → Inside (Whole Moved) base new (without_live c)
+clear_live_inside base old new c count before h =
+    let m = before.holds.means in
+    let db = old.now.trees in
+    let e = clears Moved clear_live 2 2 (live_table 2) old new count refl before.holds.schema refl clear_live_means refl m.live_are.1 h.0 in
+    inside_next (Whole Moved) (Whole Moved) base old new c _ before h.1 (record {
+      schema = e.schema;
+      sound = e.sound;
+      means = live_changed db new.now.trees c [] e.others m (none_there live_row (new.now.trees 2) e.empty);
     })

@@ -1,11 +1,9 @@
 -- What UPDATE makes of the spans.
 use Rattle.std.proofs.Common.{◌≡◌, ◌⊎◌, inl, inr, ℕ, ℤ, List, [], ◌∷◌, ◌++◌, map, drop, Bool, true, false, not, None, Ok, refl, sym, ap, ap₂, subst, ◌∙◌, IsPermutation, is_eq, true≢false}
 use Rattle.std.proofs.Common.{if◌then◌else◌, filter, bytes_eq, flat_map, nat_cmp}
-use Rattle.lpis_register_sql.proofs.Common.{cases_Bool, not-true, IsPermutation-refl, IsPermutation-trans, IsPermutation-map, Null, Int, Row, column, value_cmp, Update, edit_of, ids_of, Has, Given}
-use Rattle.lpis_register_sql.proofs.Common.{Does}
-use Rattle.lpis_register_sql.proofs.Common.{Database, IsAnswer, Output, output, overlay, rowid, understood, State, mode_of, ExecutesInside, statement_of, runs_as, StoredSpan, Content, span_table}
-use Rattle.lpis_register_sql.proofs.Common.{Shape}
-use Rattle.lpis_register_sql.proofs.Common.{schema_of, has_spans, span_tree, span_table_index, AreKeyed, span_row, Inside}
+use Rattle.lpis_register_sql.proofs.Common.{cases_Bool, not-true, IsPermutation-refl, IsPermutation-trans, IsPermutation-map, Null, Int, Row, column, value_cmp, Update, edit_of, ids_of, Has, Given, Does}
+use Rattle.lpis_register_sql.proofs.Common.{Database, IsAnswer, Output, output, overlay, rowid, understood, State, mode_of, ExecutesInside, statement_of, runs_as, StoredSpan, Content, span_table, Origin}
+use Rattle.lpis_register_sql.proofs.Common.{Whole, schema_of, span_tree, span_place, AreKeyed, span_row, Inside}
 use Rattle.std.specs.List.{list_all}
 use Rattle.std.specs.Cmp.Lexicographic.{slice_cmp}
 use Rattle.std.proofs.lemmas.Map.Text.{is_eq-slice_cmp}
@@ -24,7 +22,7 @@ use Rattle.lpis_register_rows.specs.Content.{end_at, ended}
 use Rattle.lpis_register_sql.specs.private.Texts.{end_span}
 use Rattle.lpis_register_sql.specs.private.Shown.{text_in}
 use Rattle.lpis_register_sql.proofs.MeaningLemmas.{ends_query, end_span_means, whole}
-use Rattle.lpis_register_sql.proofs.PartLemmas.{keeps_there, spans_changed, own_spans}
+use Rattle.lpis_register_sql.proofs.PartLemmas.{spans_changed, own_tree}
 use Rattle.lpis_register_sql.proofs.InsertLemmas.{inside_next, span_stands}
 use Rattle.lpis_register_sql.proofs.WriteLemmas.{cast_int, updates, step_of, kept_of}
 use Rattle.lpis_register_sql.proofs.UpdateLemmas.{has_permuted, replaced, walked, map_same_at, numbered_given, key_of}
@@ -151,30 +149,31 @@ made_out : (tree : ℕ) (y : ℤ) (id : List ℕ) (rows : List Row) → map (λ 
 made_out tree y id [] = refl
 made_out tree y id (r ∷ rows) = ap (λ l. made tree y id r ∷ l) (made_out tree y id rows)
 
-pub end_inside : (s : Shape) (base : Database) (old new : State) (c : Content) (id : List ℕ) (y : ℤ) (count : ℕ) → has_spans s ≡ true → Inside s base old c
-    → ExecutesInside 0 end_span (Int y ∷ Text id ∷ []) old new (Ok count) → Inside s base new (ended y c id)
-end_inside s base old new c id y count spans before h =
+pub end_inside : (o : Origin) (base : Database) (old new : State) (c : Content) (id : List ℕ) (y : ℤ) (count : ℕ) → Inside (Whole o) base old c
+    → ExecutesInside 0 end_span (Int y ∷ Text id ∷ []) old new (Ok count) → Inside (Whole o) base new (ended y c id)
+end_inside o base old new c id y count before h =
+    let s = schema_of (Whole o) in
     let m = before.holds.means in
     let db = old.now.trees in
-    let tree = span_tree s in
-    let index = span_table_index s in
+    let tree = span_tree o in
+    let index = span_place o in
     let q = ends_query tree in
     let params = Int y ∷ Text id ∷ [] in
     let command = Update index (whole q) in
-    let says = end_span_means s spans in
-    let w = runs_as end_span params old new (schema_of s) before.holds.schema command says.0 says.1 count h.0 in
-    let text = statement_of end_span (understood (schema_of s) end_span) in
-    let it = updates old.step_limit (mode_of old) params (schema_of s) db text index (span_table tree) (whole q) w.tally
-    new.now (span_stands s spans)
+    let says = end_span_means o in
+    let w = runs_as end_span params old new s before.holds.schema command says.0 says.1 count h.0 in
+    let text = statement_of end_span (understood s end_span) in
+    let it = updates old.step_limit (mode_of old) params s db text index (span_table tree) (whole q) w.tally
+    new.now (span_stands o)
     (subst (λ s. Does old.step_limit (mode_of old) params (record old.now { schema = s }) text None command
     (Ok (w.tally, new.now))) before.holds.schema w.changed) in
-    let step = step_of s db new.now.trees _ it.edited in
+    let step = step_of o db new.now.trees _ it.edited in
     let a : IsAnswer q (overlay db []) params it.found = it.answer.answer Null in
     let shows : Output → Row = λ o. o.1 in
     let rows = db tree in
     let p = hits tree y id in
     let seen : map shows a.kept ≡ map (out tree y id) (filter p (overlay db [] tree)) = ap (map shows) (a.distinct ∙ ap (map (output q)) a.grouped) ∙ shown_matches tree y id (overlay db [] tree) in
-    let listed : map shows a.kept ≡ map (out tree y id) (filter p rows) = seen ∙ ap (λ rs. map (out tree y id) (filter p rs)) (own_spans s db) in
+    let listed : map shows a.kept ≡ map (out tree y id) (filter p rows) = seen ∙ ap (λ rs. map (out tree y id) (filter p rs)) (own_tree o span_tree db refl refl) in
     let found : IsPermutation (map (out tree y id) (filter p rows)) it.found = subst (λ l. IsPermutation l it.found)
     listed (subst (IsPermutation (map shows a.kept)) (sym a.shown) (IsPermutation-map shows _ _ a.same)) in
     let keys : IsPermutation (map key_of (filter p rows)) (ids_of it.found) =
@@ -187,14 +186,15 @@ end_inside s base old new c id y count spans before h =
     let news : IsPermutation (map (made tree y id) (filter p rows))
     (edit_of db (span_table tree) (ids_of it.found) Given 1 it.found).news =
     subst (IsPermutation (map (made tree y id) (filter p rows))) (sym (numbered_given _ _)) made_of in
-    let there = keeps_there (has_spans s) span_row c.spans rows spans m.spans_are in
+    let there = m.spans_are in
     let whole_list = subst (IsPermutation (map (made tree y id) (filter p rows) ++ filter (λ r. not (p r)) rows))
     (sym step.rows) (replaced p (made tree y id) rows (ids_of it.found) _ there.1 keys news step.fresh) in
     let next = new.now.trees in
-    inside_next s s base old new c _ before h.1 (record {
+    inside_next (Whole o) (Whole o) base old new c _ before h.1 (record {
       schema = it.schema_is;
       sound = w.sound;
-      means = spans_changed s db next c (map (end_at id y) c.spans) spans (kept_of s tree db next step.tables) m
-          (spans_after tree y id rows c.spans there.0 there.1 (next tree) whole_list)
-          (keyed_after tree y id rows c.spans there.0 there.1 (next tree) whole_list);
+      means = spans_changed o db next c (map (end_at id y) c.spans) (kept_of o tree db next step.tables) m (
+        spans_after tree y id rows c.spans there.0 there.1 (next tree) whole_list,
+        keyed_after tree y id rows c.spans there.0 there.1 (next tree) whole_list,
+      );
     })

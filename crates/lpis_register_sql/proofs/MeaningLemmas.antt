@@ -1,10 +1,8 @@
 -- What the texts mean, in each order of the tables.
 use Rattle.std.proofs.Common.{◌≡◌, ℕ, Ok, refl, codes, [], ◌∷◌, None, true, false, pos, negsuc, List, sym, true≢false}
-use Rattle.lpis_register_sql.proofs.Common.{Null, Int, table_defined_by, Term, Program, Update, CreateTable, understood, statement_of, Schema, Table, format_table, release_table, span_table}
-use Rattle.lpis_register_sql.proofs.Common.{row_table}
-use Rattle.lpis_register_sql.proofs.Common.{Shape, New, First, Moved, schema_of, has_spans, has_live, span_tree, no_schema, span_table_index, one_table, two_tables, three_tables, read_format}
-use Rattle.lpis_register_sql.proofs.Common.{read_release}
-use Rattle.lpis_register_sql.proofs.Common.{read_span, read_line, read_live}
+use Rattle.lpis_register_sql.proofs.Common.{Null, Int, table_defined_by, Term, Program, Update, CreateTable, understood, statement_of, Schema, Table, format_table, release_table, span_table, row_table}
+use Rattle.lpis_register_sql.proofs.Common.{Layout, Origin, New, First, Moved, Whole, LessMarks, LessTexts, schema_of, has_spans, has_live, has_texts, has_marks, span_tree, text_tree, mark_tree, origin_of, no_schema, span_place}
+use Rattle.lpis_register_sql.proofs.Common.{text_place, mark_place, one_table, two_tables, three_tables, read_format, read_release, read_span, read_line, read_live, read_text, read_mark, text_table, mark_table}
 use Rattle.sqlite.specs.Term.{lit, col, op2}
 use Rattle.sqlite_sql.specs.declared.ops.BinaryOp.TheVariants.{Compare}
 use Rattle.sqlite_sql.specs.declared.ops.CompareOp.TheVariants.{Eq}
@@ -19,7 +17,7 @@ use Rattle.sqlite.specs.Listing.{reads_listing}
 use Rattle.sqlite.proofs.Callers.{IsPlain, command_of}
 use Rattle.sqlite_tied.specs.Compute.{everything}
 use Rattle.lpis_register_sql.specs.private.Texts.{make_format, make_release, make_span, make_row, insert_format, insert_release, insert_span, insert_line, end_span, clear_span, insert_whole_span}
-use Rattle.lpis_register_sql.specs.private.Texts.{clear_live, set_version}
+use Rattle.lpis_register_sql.specs.private.Texts.{clear_live, set_version, make_text, make_mark, insert_text, clear_text, insert_mark, clear_mark}
 
 abbrev pub ascending : Key
 ascending = record { collation = Binary; descending = false }
@@ -41,7 +39,7 @@ abbrev pub whole : Query → Program
 whole q = record { lets = []; body = q }
 
 abbrev pub format_terms : List Term
-format_terms = lit (Int (pos 1)) ∷ lit Null ∷ lit (Int (pos 2)) ∷ []
+format_terms = lit (Int (pos 1)) ∷ lit Null ∷ lit (Int (pos 3)) ∷ []
 
 abbrev pub release_terms : List Term
 release_terms = col 0 0 ∷ lit Null ∷ []
@@ -55,6 +53,9 @@ line_terms = lit Null ∷ col 0 0 ∷ col 0 1 ∷ col 0 2 ∷ col 0 3 ∷ []
 abbrev pub whole_span_terms : List Term
 whole_span_terms = lit Null ∷ col 0 0 ∷ col 0 1 ∷ col 0 2 ∷ []
 
+abbrev pub pair_terms : List Term
+pair_terms = lit Null ∷ col 0 0 ∷ col 0 1 ∷ []
+
 -- the rowids of all rows of a table
 abbrev pub ids_query : ℕ → Query
 ids_query tree = from_all tree [] (col 1 0 ∷ []) []
@@ -63,7 +64,7 @@ abbrev pub ends_query : ℕ → Query
 ends_query tree = from_all tree (op2 (Compare Eq Binary) (col 1 1) (col 0 1) ∷ []) (col 1 0 ∷ col 1 0 ∷ col 1 1 ∷ col 1 2 ∷ col 0 0 ∷ []) []
 
 abbrev pub version_query : Query
-version_query = from_all 0 [] (col 1 0 ∷ col 1 0 ∷ lit Null ∷ lit (Int (pos 2)) ∷ []) []
+version_query = from_all 0 [] (col 1 0 ∷ col 1 0 ∷ lit Null ∷ lit (Int (pos 3)) ∷ []) []
 
 abbrev pub release_query : Query
 release_query = from_all 1 [] (col 1 0 ∷ []) ((col 1 0, ascending) ∷ [])
@@ -77,78 +78,117 @@ line_query = from_all 4 [] (col 1 1 ∷ col 1 2 ∷ col 1 3 ∷ col 1 4 ∷ []) 
 abbrev pub live_query : Query
 live_query = from_all 2 [] (col 1 1 ∷ col 1 2 ∷ []) ((col 1 1, ascending) ∷ (col 1 2, ascending) ∷ [])
 
+abbrev pub text_query : ℕ → Query
+text_query tree = from_all tree [] (col 1 1 ∷ col 1 2 ∷ []) ((col 1 1, ascending) ∷ [])
+
+abbrev pub mark_query : ℕ → Query
+mark_query tree = from_all tree [] (col 1 1 ∷ col 1 2 ∷ []) ((col 1 1, ascending) ∷ (col 1 2, ascending) ∷ [])
+
 abbrev pub format_query : Query
 format_query = from_all 0 [] (col 1 0 ∷ col 1 2 ∷ []) []
 
--- what holds of each order of the tables
-pub in_each : (P : Shape → Type 0) → P New → P First → P Moved → (s : Shape) → P s
-in_each P new first moved New = new
-in_each P new first moved First = first
-in_each P new first moved Moved = moved
+-- what holds of each origin, and of each order of the tables
+pub in_each : (P : Origin → Type 0) → P New → P Moved → (o : Origin) → P o
+in_each P new moved New = new
+in_each P new moved Moved = moved
+
+pub in_all : (P : Layout → Type 0) → P (Whole New) → P (Whole Moved) → P (LessMarks New) → P (LessMarks Moved) → P (LessTexts New) → P (LessTexts Moved) → P First → (s : Layout) → P s
+in_all P a b c d e f g (Whole New) = a
+in_all P a b c d e f g (Whole Moved) = b
+in_all P a b c d e f g (LessMarks New) = c
+in_all P a b c d e f g (LessMarks Moved) = d
+in_all P a b c d e f g (LessTexts New) = e
+in_all P a b c d e f g (LessTexts Moved) = f
+in_all P a b c d e f g First = g
 
 -- what a text that writes means
-abbrev pub Says : Shape → List ℕ → Command → Type 0
-Says s sql command = (command_of (understood (schema_of s) sql) ≡ command) × IsPlain (understood (schema_of s) sql)
+abbrev pub Says : Origin → List ℕ → Command → Type 0
+Says o sql command = (command_of (understood (schema_of (Whole o)) sql) ≡ command) × IsPlain (understood (schema_of (Whole o)) sql)
 
 -- and one that reads
-abbrev pub Asks : Shape → List ℕ → Query → List (List ℕ) → Type 0
+abbrev pub Asks : Layout → List ℕ → Query → List (List ℕ) → Type 0
 Asks s sql q names = (command_of (understood (schema_of s) sql) ≡ Select (whole q) names) × (reads_listing (schema_of s) sql ≡ false) × IsPlain (understood (schema_of s) sql)
 
-pub insert_format_means : (s : Shape) → Says s insert_format (Insert 0 (Values format_terms 3))
+pub insert_format_means : (o : Origin) → Says o insert_format (Insert 0 (Values format_terms 3))
 unfolding understood everything
-insert_format_means = in_each _ (refl, (refl, refl)) (refl, (refl, refl)) (refl, (refl, refl))
+insert_format_means = in_each _ (refl, (refl, refl)) (refl, (refl, refl))
 
-pub insert_release_means : (s : Shape) → Says s insert_release (Insert 1 (Values release_terms 2))
+pub insert_release_means : (o : Origin) → Says o insert_release (Insert 1 (Values release_terms 2))
 unfolding understood everything
-insert_release_means = in_each _ (refl, (refl, refl)) (refl, (refl, refl)) (refl, (refl, refl))
+insert_release_means = in_each _ (refl, (refl, refl)) (refl, (refl, refl))
 
-pub insert_line_means : (s : Shape) → Says s insert_line (Insert 3 (Values line_terms 5))
+pub insert_line_means : (o : Origin) → Says o insert_line (Insert 3 (Values line_terms 5))
 unfolding understood everything
-insert_line_means = in_each _ (refl, (refl, refl)) (refl, (refl, refl)) (refl, (refl, refl))
+insert_line_means = in_each _ (refl, (refl, refl)) (refl, (refl, refl))
 
-pub insert_span_means : (s : Shape) → has_spans s ≡ true → Says s insert_span (Insert (span_table_index s) (Values span_terms 4))
+pub insert_span_means : (o : Origin) → Says o insert_span (Insert (span_place o) (Values span_terms 4))
 unfolding understood everything
-insert_span_means = in_each _ (λ p. (refl, (refl, refl))) (λ p. absurd (true≢false (sym p))) (λ p. (refl, (refl, refl)))
+insert_span_means = in_each _ (refl, (refl, refl)) (refl, (refl, refl))
 
-pub insert_whole_span_means : (s : Shape) → has_spans s ≡ true → Says s insert_whole_span (Insert (span_table_index s) (Values whole_span_terms 4))
+pub insert_whole_span_means : (o : Origin) → Says o insert_whole_span (Insert (span_place o) (Values whole_span_terms 4))
 unfolding understood everything
-insert_whole_span_means = in_each _ (λ p. (refl, (refl, refl))) (λ p. absurd (true≢false (sym p))) (λ p. (refl, (refl, refl)))
+insert_whole_span_means = in_each _ (refl, (refl, refl)) (refl, (refl, refl))
 
-pub end_span_means : (s : Shape) → has_spans s ≡ true → Says s end_span (Update (span_table_index s) (whole (ends_query (span_tree s))))
+pub end_span_means : (o : Origin) → Says o end_span (Update (span_place o) (whole (ends_query (span_tree o))))
 unfolding understood everything
-end_span_means = in_each _ (λ p. (refl, (refl, refl))) (λ p. absurd (true≢false (sym p))) (λ p. (refl, (refl, refl)))
+end_span_means = in_each _ (refl, (refl, refl)) (refl, (refl, refl))
 
-pub clear_span_means : (s : Shape) → has_spans s ≡ true → Says s clear_span (Delete (span_table_index s) (whole (ids_query (span_tree s))))
+pub clear_span_means : (o : Origin) → Says o clear_span (Delete (span_place o) (whole (ids_query (span_tree o))))
 unfolding understood everything
-clear_span_means = in_each _ (λ p. (refl, (refl, refl))) (λ p. absurd (true≢false (sym p))) (λ p. (refl, (refl, refl)))
+clear_span_means = in_each _ (refl, (refl, refl)) (refl, (refl, refl))
 
-pub clear_live_means : (s : Shape) → has_live s ≡ true → Says s clear_live (Delete 2 (whole (ids_query 2)))
+pub insert_text_means : (o : Origin) → Says o insert_text (Insert (text_place o) (Values pair_terms 3))
 unfolding understood everything
-clear_live_means = in_each _ (λ p. absurd (true≢false (sym p))) (λ p. (refl, (refl, refl))) (λ p. (refl, (refl, refl)))
+insert_text_means = in_each _ (refl, (refl, refl)) (refl, (refl, refl))
 
-pub set_version_means : (s : Shape) → Says s set_version (Update 0 (whole version_query))
+pub clear_text_means : (o : Origin) → Says o clear_text (Delete (text_place o) (whole (ids_query (text_tree o))))
 unfolding understood everything
-set_version_means = in_each _ (refl, (refl, refl)) (refl, (refl, refl)) (refl, (refl, refl))
+clear_text_means = in_each _ (refl, (refl, refl)) (refl, (refl, refl))
 
-pub read_format_means : (s : Shape) → Asks s read_format (format_query) (codes "one" ∷ codes "version" ∷ [])
+pub insert_mark_means : (o : Origin) → Says o insert_mark (Insert (mark_place o) (Values pair_terms 3))
 unfolding understood everything
-read_format_means = in_each _ (refl, refl, (refl, refl)) (refl, refl, (refl, refl)) (refl, refl, (refl, refl))
+insert_mark_means = in_each _ (refl, (refl, refl)) (refl, (refl, refl))
 
-pub read_release_means : (s : Shape) → Asks s read_release (release_query) (codes "year" ∷ [])
+pub clear_mark_means : (o : Origin) → Says o clear_mark (Delete (mark_place o) (whole (ids_query (mark_tree o))))
 unfolding understood everything
-read_release_means = in_each _ (refl, refl, (refl, refl)) (refl, refl, (refl, refl)) (refl, refl, (refl, refl))
+clear_mark_means = in_each _ (refl, (refl, refl)) (refl, (refl, refl))
 
-pub read_span_means : (s : Shape) → has_spans s ≡ true → Asks s read_span (span_query (span_tree s)) (codes "id" ∷ codes "since" ∷ codes "until" ∷ [])
+pub set_version_means : (o : Origin) → Says o set_version (Update 0 (whole version_query))
 unfolding understood everything
-read_span_means = in_each _ (λ p. (refl, refl, (refl, refl))) (λ p. absurd (true≢false (sym p))) (λ p. (refl, refl, (refl, refl)))
+set_version_means = in_each _ (refl, (refl, refl)) (refl, (refl, refl))
 
-pub read_line_means : (s : Shape) → Asks s read_line (line_query) (codes "year" ∷ codes "pos" ∷ codes "old" ∷ codes "new" ∷ [])
+-- where `lpis_live` is there
+pub clear_live_means : Says Moved clear_live (Delete 2 (whole (ids_query 2)))
 unfolding understood everything
-read_line_means = in_each _ (refl, refl, (refl, refl)) (refl, refl, (refl, refl)) (refl, refl, (refl, refl))
+clear_live_means = (refl, (refl, refl))
 
-pub read_live_means : (s : Shape) → has_live s ≡ true → Asks s read_live (live_query) (codes "year" ∷ codes "id" ∷ [])
+pub read_format_means : (s : Layout) → Asks s read_format format_query (codes "one" ∷ codes "version" ∷ [])
 unfolding understood everything
-read_live_means = in_each _ (λ p. absurd (true≢false (sym p))) (λ p. (refl, refl, (refl, refl))) (λ p. (refl, refl, (refl, refl)))
+read_format_means = in_all _ (refl, refl, (refl, refl)) (refl, refl, (refl, refl)) (refl, refl, (refl, refl)) (refl, refl, (refl, refl)) (refl, refl, (refl, refl)) (refl, refl, (refl, refl)) (refl, refl, (refl, refl))
+
+pub read_release_means : (s : Layout) → Asks s read_release release_query (codes "year" ∷ [])
+unfolding understood everything
+read_release_means = in_all _ (refl, refl, (refl, refl)) (refl, refl, (refl, refl)) (refl, refl, (refl, refl)) (refl, refl, (refl, refl)) (refl, refl, (refl, refl)) (refl, refl, (refl, refl)) (refl, refl, (refl, refl))
+
+pub read_span_means : (s : Layout) → has_spans s ≡ true → Asks s read_span (span_query (span_tree (origin_of s))) (codes "id" ∷ codes "since" ∷ codes "until" ∷ [])
+unfolding understood everything
+read_span_means = in_all _ (λ p. (refl, refl, (refl, refl))) (λ p. (refl, refl, (refl, refl))) (λ p. (refl, refl, (refl, refl))) (λ p. (refl, refl, (refl, refl))) (λ p. (refl, refl, (refl, refl))) (λ p. (refl, refl, (refl, refl))) (λ p. absurd (true≢false (sym p)))
+
+pub read_line_means : (s : Layout) → Asks s read_line line_query (codes "year" ∷ codes "pos" ∷ codes "old" ∷ codes "new" ∷ [])
+unfolding understood everything
+read_line_means = in_all _ (refl, refl, (refl, refl)) (refl, refl, (refl, refl)) (refl, refl, (refl, refl)) (refl, refl, (refl, refl)) (refl, refl, (refl, refl)) (refl, refl, (refl, refl)) (refl, refl, (refl, refl))
+
+pub read_live_means : (s : Layout) → has_live s ≡ true → Asks s read_live live_query (codes "year" ∷ codes "id" ∷ [])
+unfolding understood everything
+read_live_means = in_all _ (λ p. absurd (true≢false (sym p))) (λ p. (refl, refl, (refl, refl))) (λ p. absurd (true≢false (sym p))) (λ p. (refl, refl, (refl, refl))) (λ p. absurd (true≢false (sym p))) (λ p. (refl, refl, (refl, refl))) (λ p. (refl, refl, (refl, refl)))
+
+pub read_text_means : (s : Layout) → has_texts s ≡ true → Asks s read_text (text_query (text_tree (origin_of s))) (codes "id" ∷ codes "wkt" ∷ [])
+unfolding understood everything
+read_text_means = in_all _ (λ p. (refl, refl, (refl, refl))) (λ p. (refl, refl, (refl, refl))) (λ p. (refl, refl, (refl, refl))) (λ p. (refl, refl, (refl, refl))) (λ p. absurd (true≢false (sym p))) (λ p. absurd (true≢false (sym p))) (λ p. absurd (true≢false (sym p)))
+
+pub read_mark_means : (s : Layout) → has_marks s ≡ true → Asks s read_mark (mark_query (mark_tree (origin_of s))) (codes "year" ∷ codes "pos" ∷ [])
+unfolding understood everything
+read_mark_means = in_all _ (λ p. (refl, refl, (refl, refl))) (λ p. (refl, refl, (refl, refl))) (λ p. absurd (true≢false (sym p))) (λ p. absurd (true≢false (sym p))) (λ p. absurd (true≢false (sym p))) (λ p. absurd (true≢false (sym p))) (λ p. absurd (true≢false (sym p)))
 
 -- the text makes this table
 pub record Makes (sql : List ℕ) (from into_ : Schema) (made : Table) : Type 0 where
@@ -170,11 +210,20 @@ pub span_is : Makes make_span two_tables three_tables (span_table 0)
 unfolding understood everything
 span_is = record { is = refl; text = refl; plain = (refl, refl); defines = refl; into = refl }
 
-pub row_is : Makes make_row three_tables (schema_of New) (row_table 0)
+pub row_is : Makes make_row three_tables (schema_of (LessTexts New)) (row_table 0)
 unfolding understood everything
 row_is = record { is = refl; text = refl; plain = (refl, refl); defines = refl; into = refl }
 
--- the first step of a move
-pub span_moves : Makes make_span (schema_of First) (schema_of Moved) (span_table 0)
+-- the first step of a move from version 1
+pub span_moves : Makes make_span (schema_of First) (schema_of (LessTexts Moved)) (span_table 0)
 unfolding understood everything
 span_moves = record { is = refl; text = refl; plain = (refl, refl); defines = refl; into = refl }
+
+-- what version 3 has more
+pub text_is : (o : Origin) → Makes make_text (schema_of (LessTexts o)) (schema_of (LessMarks o)) (text_table 0)
+unfolding understood everything
+text_is = in_each _ (record { is = refl; text = refl; plain = (refl, refl); defines = refl; into = refl }) (record { is = refl; text = refl; plain = (refl, refl); defines = refl; into = refl })
+
+pub mark_is : (o : Origin) → Makes make_mark (schema_of (LessMarks o)) (schema_of (Whole o)) (mark_table 0)
+unfolding understood everything
+mark_is = in_each _ (record { is = refl; text = refl; plain = (refl, refl); defines = refl; into = refl }) (record { is = refl; text = refl; plain = (refl, refl); defines = refl; into = refl })

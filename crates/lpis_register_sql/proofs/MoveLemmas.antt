@@ -1,55 +1,20 @@
 -- What the statements that move a database of version 1 do.
 use Rattle.std.proofs.Common.{◌≡◌, inl, inr, ℕ, pos, List, [], ◌∷◌, ◌++◌, map, drop, slice_get, true, false, not, Some, None, Ok, refl, sym, ap, ap₂, subst, subst₂, ◌∙◌, append-nil, IsPermutation}
 use Rattle.std.proofs.Common.{true≢false, filter}
-use Rattle.lpis_register_sql.proofs.Common.{flat_map_single, IsPermutation-refl, IsPermutation-trans, IsPermutation-map, Null, Row, rowid, overlay, IsAnswer, Output, output, CreateTable, Update}
-use Rattle.lpis_register_sql.proofs.Common.{edit_of}
+use Rattle.lpis_register_sql.proofs.Common.{flat_map_single, IsPermutation-trans, IsPermutation-map, Null, Row, rowid, overlay, IsAnswer, Output, output, Update, edit_of}
 use Rattle.lpis_register_sql.proofs.Common.{Given, Does, Database, State, mode_of, ExecutesInside, understood, ids_of, Has, statement_of, runs_as, Content, Format, StoredSpan, with_whole_span}
-use Rattle.lpis_register_sql.proofs.Common.{with_whole_spans, without_live, without_spans, format_table, span_table, Shape, New, First, Moved, schema_of, has_live, has_spans, with_span_table}
-use Rattle.lpis_register_sql.proofs.Common.{AreKeyed}
-use Rattle.lpis_register_sql.proofs.Common.{Keeps, format_row, year_row, span_row, line_row, live_row, Inside}
+use Rattle.lpis_register_sql.proofs.Common.{with_whole_spans, without_live, format_table, Origin, New, Moved, Whole, schema_of, is_moved, AreKeyed}
+use Rattle.lpis_register_sql.proofs.Common.{format_row, Inside}
 use Rattle.sqlite.specs.Cast.{cast_row}
-use Rattle.sqlite.specs.Does.{lacks_sequence}
 use Rattle.lpis_register_rows.specs.Content.{at_version, with_version}
 use Rattle.lpis_register_rows.specs.Tells.{only_format}
-use Rattle.lpis_register_sql.specs.private.Texts.{make_span, set_version}
-use Rattle.lpis_register_sql.proofs.MeaningLemmas.{in_each, whole, version_query, set_version_means, span_moves}
-use Rattle.lpis_register_sql.proofs.ClearLemmas.{all_kept, none_kept, none_keyed}
+use Rattle.lpis_register_sql.specs.private.Texts.{set_version}
+use Rattle.lpis_register_sql.proofs.MeaningLemmas.{in_each, whole, version_query, set_version_means}
+use Rattle.lpis_register_sql.proofs.ClearLemmas.{all_kept, none_kept}
 use Rattle.lpis_register_sql.proofs.InsertLemmas.{inside_next}
-use Rattle.lpis_register_sql.proofs.PartLemmas.{far, span_far, years_kept, spans_kept, lines_kept, live_kept}
-use Rattle.lpis_register_sql.proofs.StageLemmas.{creates}
+use Rattle.lpis_register_sql.proofs.PartLemmas.{formats_changed}
 use Rattle.lpis_register_sql.proofs.UpdateLemmas.{has_permuted, replaced, numbered_given, key_of}
 use Rattle.lpis_register_sql.proofs.WriteLemmas.{cast_null, cast_int, updates, step_of, kept_of}
-
--- ---- the table of spans beside those of version 1
-
-pub span_beside : (base : Database) (old new : State) (c : Content) (count : ℕ) → Inside First base old c → ExecutesInside 0 make_span [] old new (Ok count) → Inside Moved base new c
-span_beside base old new c count before h =
-    let m = before.holds.means in
-    let it = span_moves in
-    let from = schema_of First in
-    let next = new.now.trees in
-    let w = runs_as make_span [] old new from before.holds.schema CreateTable it.is it.plain count h.0 in
-    let done = creates old.step_limit (mode_of old) [] (record old.now { schema = from }) make_span (span_table 0) w.tally new.now it.defines (ap lacks_sequence it.into)
-    (subst (λ s. Does old.step_limit (mode_of old) [] (record old.now { schema = s }) make_span None CreateTable
-    (Ok (w.tally, new.now))) before.holds.schema
-    (subst (λ t. Does old.step_limit (mode_of old) [] old.now t None CreateTable (Ok (w.tally, new.now))) it.text
-    w.changed)) in
-    let kept = done.2 in
-    let none : next 6 ≡ [] = done.1 in
-    let spans : IsPermutation (map span_row c.spans) (map (drop 1) (next 6)) =
-    subst₂ (λ (ss : List StoredSpan) (rs : List Row). IsPermutation (map span_row ss) (map (drop 1) rs)) (sym m.spans_are)
-    (sym none) (IsPermutation-refl []) in
-    inside_next First Moved base old new c c before h.1 (record {
-      schema = done.0 ∙ it.into;
-      sound = w.sound;
-      means = record {
-        formats_are = subst (IsPermutation (map format_row c.formats)) (sym kept.0) m.formats_are;
-        years_are = subst (IsPermutation (map year_row c.years)) (sym kept.1.0) m.years_are;
-        spans_are = (spans, subst AreKeyed (sym none) none_keyed);
-        lines_are = subst (λ (rs : List Row). IsPermutation (map line_row c.lines) (map (drop 1) rs)) (sym kept.1.1.1.0) m.lines_are;
-        live_are = subst (Keeps true live_row c.live) (sym kept.1.1.0) m.live_are;
-      };
-    })
 
 -- ---- the version
 
@@ -71,10 +36,10 @@ rows_out : (rows : List Row) → map (λ (o : Output). o.1) (map (output version
 rows_out [] = refl
 rows_out (r ∷ rows) = ap (λ l. out r ∷ l) (rows_out rows)
 
-one_made : (f : Format) → made (format_row f) ≡ format_row (at_version (pos 2) f)
-one_made f = rw (cast_int f.one, cast_null, cast_int (pos 2)) refl
+one_made : (f : Format) → made (format_row f) ≡ format_row (at_version (pos 3) f)
+one_made f = rw (cast_int f.one, cast_null, cast_int (pos 3)) refl
 
-formats_made : (fs : List Format) → map made (map format_row fs) ≡ map format_row (map (at_version (pos 2)) fs)
+formats_made : (fs : List Format) → map made (map format_row fs) ≡ map format_row (map (at_version (pos 3)) fs)
 formats_made [] = refl
 formats_made (f ∷ fs) = ap₂ ◌∷◌ (one_made f) (formats_made fs)
 
@@ -89,26 +54,27 @@ one_keyed n rows same = record { whole = λ x there. (pos 1, ap rowid (is x ther
         only (inl e) = e
         only (inr none) = absurd none
 
-format_stands : (s : Shape) → slice_get (schema_of s).tables 0 ≡ Some (format_table 0)
-format_stands = in_each _ refl refl refl
+format_stands : (o : Origin) → slice_get (schema_of (Whole o)).tables 0 ≡ Some (format_table 0)
+format_stands = in_each _ refl refl
 
-pub version_inside : (s : Shape) (base : Database) (old new : State) (c : Content) (count : ℕ) → c.formats ≡ only_format 1 → Inside s base old c
-    → ExecutesInside 0 set_version [] old new (Ok count) → Inside s base new (with_version (pos 2) c)
-version_inside s base old new c count one before h =
+pub version_inside : (o : Origin) (base : Database) (old new : State) (c : Content) (version count : ℕ) → c.formats ≡ only_format version → Inside (Whole o) base old c
+    → ExecutesInside 0 set_version [] old new (Ok count) → Inside (Whole o) base new (with_version (pos 3) c)
+version_inside o base old new c version count one before h =
     let m = before.holds.means in
+    let s = schema_of (Whole o) in
     let db = old.now.trees in
     let next = new.now.trees in
     let q = version_query in
     let rows = db 0 in
     let command = Update 0 (whole q) in
-    let says = set_version_means s in
-    let w = runs_as set_version [] old new (schema_of s) before.holds.schema command says.0 says.1 count h.0 in
-    let text = statement_of set_version (understood (schema_of s) set_version) in
-    let it = updates old.step_limit (mode_of old) [] (schema_of s) db text 0 (format_table 0) (whole q) w.tally new.now
-    (format_stands s)
+    let says = set_version_means o in
+    let w = runs_as set_version [] old new s before.holds.schema command says.0 says.1 count h.0 in
+    let text = statement_of set_version (understood s set_version) in
+    let it = updates old.step_limit (mode_of old) [] s db text 0 (format_table 0) (whole q) w.tally new.now
+    (format_stands o)
     (subst (λ s. Does old.step_limit (mode_of old) [] (record old.now { schema = s }) text None command
     (Ok (w.tally, new.now))) before.holds.schema w.changed) in
-    let step = step_of s db next _ it.edited in
+    let step = step_of o db next _ it.edited in
     let a : IsAnswer q (overlay db []) [] it.found = it.answer.answer Null in
     let shows : Output → Row = λ o. o.1 in
     let staged : a.staged ≡ map (λ r. [] ∷ r ∷ []) rows = a.grouped ∙ flat_map_single (λ r. [] ∷ r ∷ []) (overlay db [] 0) in
@@ -121,44 +87,24 @@ version_inside s base old new c count one before h =
     let made_of : IsPermutation (map made (filter all rows)) (map cast it.found) = subst₂ IsPermutation (made_out rows ∙ ap (map made) (sym whole_list)) refl (IsPermutation-map cast _ _ found) in
     let news : IsPermutation (map made (filter all rows)) (edit_of db (format_table 0) (ids_of it.found) Given 1
     it.found).news = subst (IsPermutation (map made (filter all rows))) (sym (numbered_given _ _)) made_of in
-    let keyed = one_keyed 1 rows (subst (λ fs. IsPermutation (map format_row fs) rows) one m.formats_are) in
+    let keyed = one_keyed version rows (subst (λ fs. IsPermutation (map format_row fs) rows) one m.formats_are) in
     let put = subst (IsPermutation (map made (filter all rows) ++ filter (λ r. not (all r)) rows)) (sym step.rows) (replaced all made rows (ids_of it.found) _ keyed keys news step.fresh) in
     let bare : map made (filter all rows) ++ filter (λ r. not (all r)) rows ≡ map made rows = ap₂ (λ (xs ys : List Row). map made xs ++ ys) whole_list (none_kept rows) ∙ append-nil (map made rows) in
     let after : IsPermutation (map made rows) (next 0) = subst (λ l. IsPermutation l (next 0)) bare put in
     let formats = subst (λ l. IsPermutation l (next 0)) (formats_made c.formats) (IsPermutation-trans _ _ _ (IsPermutation-map made _ _ m.formats_are) after) in
-    let others = kept_of s 0 db next step.tables in
-    inside_next s s base old new c _ before h.1 (record {
+    inside_next (Whole o) (Whole o) base old new c _ before h.1 (record {
       schema = it.schema_is;
       sound = w.sound;
-      means = record {
-        formats_are = formats;
-        years_are = years_kept s 0 db next c others m (far 1 0 refl);
-        spans_are = spans_kept s 0 db next c others m (λ is. span_far s 0 refl refl);
-        lines_are = lines_kept s 0 db next c others m (far 4 0 refl);
-        live_are = live_kept s 0 db next c others m (λ is. far 2 0 refl);
-      };
+      means = formats_changed o db next c (map (at_version (pos 3)) c.formats) (kept_of o 0 db next step.tables) m formats;
     })
 
 -- ---- the steps joined
 
-pub spans_stand : (s : Shape) → has_spans (with_span_table s) ≡ true
-spans_stand = in_each _ refl refl refl
-
-pub stands_already : (s : Shape) → has_spans s ≡ true → with_span_table s ≡ s
-stands_already = in_each _ (λ is. refl) (λ is. absurd (true≢false (sym is))) (λ is. refl)
-
-pub live_as_before : (s : Shape) → has_live (with_span_table s) ≡ has_live s
-live_as_before = in_each _ refl refl refl
-
-pub formats_stay : (spans : List StoredSpan) (c : Content) → (with_whole_spans spans c).formats ≡ c.formats
-formats_stay [] c = refl
-formats_stay (s ∷ spans) c = formats_stay spans (with_whole_span c s)
+pub spans_stay : (spans : List StoredSpan) (c : Content) → (with_whole_spans spans c).formats ≡ c.formats
+spans_stay [] c = refl
+spans_stay (s ∷ spans) c = spans_stay spans (with_whole_span c s)
 
 -- a table that is not there has no rows
-pub no_spans : (s : Shape) (base : Database) (st : State) (c : Content) → has_spans s ≡ false → Inside s base st c → without_spans c ≡ c
-no_spans First base st c is h = ap (λ ss. record c { spans = ss }) (sym h.holds.means.spans_are)
-no_spans _ base st c is h = absurd (true≢false is)
-
-pub no_live : (s : Shape) (base : Database) (st : State) (c : Content) → has_live s ≡ false → Inside s base st c → without_live c ≡ c
+pub no_live : (o : Origin) (base : Database) (st : State) (c : Content) → is_moved o ≡ false → Inside (Whole o) base st c → without_live c ≡ c
 no_live New base st c is h = ap (λ ls. record c { live = ls }) (sym h.holds.means.live_are)
-no_live _ base st c is h = absurd (true≢false is)
+no_live Moved base st c is h = absurd (true≢false is)

@@ -1,7 +1,8 @@
 -- The parts of what the tables hold, carried over a step that leaves them.
-use Rattle.std.proofs.Common.{◌≡◌, ℕ, List, [], map, drop, Bool, true, false, refl, sym, ap, subst, ◌∙◌, arith, IsPermutation, true≢false, nat_eq}
-use Rattle.lpis_register_sql.proofs.Common.{nat_tests, Row, Trees, overlay, Content, StoredSpan, Shape, New, Moved, has_spans, has_live, span_tree, AreKeyed, Keeps, format_row, year_row, span_row}
-use Rattle.lpis_register_sql.proofs.Common.{line_row, live_row}
+use Rattle.std.proofs.Common.{◌≡◌, ℕ, ℤ, List, [], map, drop, Bool, true, false, refl, sym, ap, subst, ◌∙◌, arith, IsPermutation, true≢false, nat_eq, ◌||◌}
+use Rattle.std.proofs.lemmas.Bool.{or_parts}
+use Rattle.lpis_register_sql.proofs.Common.{nat_tests, Row, Trees, overlay, Content, Format, Line, Live, Mark, StoredSpan, StoredText, Origin, New, Moved, Whole, is_moved, span_tree, text_tree, mark_tree}
+use Rattle.lpis_register_sql.proofs.Common.{AreKeyed, Keeps, format_row, year_row, span_row, line_row, live_row, text_row, mark_row}
 use Rattle.lpis_register_sql.specs.Holding.{Means}
 use Rattle.lpis_register_sql.proofs.WriteLemmas.{Kept}
 
@@ -11,65 +12,148 @@ far m n apart e = absurd (true≢false (sym (same m) ∙ ap (nat_eq m) e ∙ apa
     same : (m : ℕ) → nat_eq m m ≡ true
     same m = grind (arith, nat_tests)
 
-pub span_far : (s : Shape) (n : ℕ) → nat_eq 2 n ≡ false → nat_eq 6 n ≡ false → span_tree s ≡ n → ⊥
-span_far New n two six e = far 2 n two e
-span_far _ n two six e = far 6 n six e
+-- two trees are apart where they are for each origin
+pub apart : (o : Origin) (x y : Origin → ℕ) → (nat_eq (x New) (y New) || nat_eq (x Moved) (y Moved)) ≡ false → x o ≡ y o → ⊥
+apart New x y none e = far (x New) (y New) (or_parts _ _ none).0 e
+apart Moved x y none e = far (x Moved) (y Moved) (or_parts _ _ none).1 e
 
-pub far_span : (s : Shape) (n : ℕ) → nat_eq 2 n ≡ false → nat_eq 6 n ≡ false → n ≡ span_tree s → ⊥
-far_span s n two six e = span_far s n two six (sym e)
-
--- the spans are not kept where `lpis_live` is
-pub span_not_live : (s : Shape) → has_live s ≡ true → span_tree s ≡ 2 → ⊥
-span_not_live New is e = true≢false (sym is)
-span_not_live _ is e = far 6 2 refl e
-
-pub live_not_span : (s : Shape) → has_live s ≡ true → 2 ≡ span_tree s → ⊥
-live_not_span s is e = span_not_live s is (sym e)
+-- and from `lpis_live` where they are for the origin that has it
+pub apart_live : (o : Origin) (y : Origin → ℕ) → nat_eq 2 (y Moved) ≡ false → is_moved o ≡ true → 2 ≡ y o → ⊥
+apart_live New y none is e = true≢false (sym is)
+apart_live Moved y none is e = far 2 (y Moved) none e
 
 pub keeps_there : {X : Type 0} (b : Bool) (row : X → Row) (xs : List X) (rows : List Row) → b ≡ true → Keeps b row xs rows → IsPermutation (map row xs) (map (drop 1) rows) × AreKeyed rows
 keeps_there true row xs rows is k = k
 keeps_there false row xs rows is k = absurd (true≢false (sym is))
 
-pub there_keeps : {X : Type 0} (b : Bool) (row : X → Row) (xs : List X) (rows : List Row) → b ≡ true → IsPermutation (map row xs) (map (drop 1) rows) → AreKeyed rows → Keeps b row xs rows
-there_keeps true row xs rows is same keyed = (same, keyed)
-there_keeps false row xs rows is same keyed = absurd (true≢false (sym is))
+pub there_keeps : {X : Type 0} (b : Bool) (row : X → Row) (xs : List X) (rows : List Row) → b ≡ true → IsPermutation (map row xs) (map (drop 1) rows) × AreKeyed rows → Keeps b row xs rows
+there_keeps true row xs rows is k = k
+there_keeps false row xs rows is k = absurd (true≢false (sym is))
 
-keeps_same : {X : Type 0} (b : Bool) (row : X → Row) (xs : List X) (rows next : List Row) → (b ≡ true → next ≡ rows) → Keeps b row xs rows → Keeps b row xs next
+pub keeps_same : {X : Type 0} (b : Bool) (row : X → Row) (xs : List X) (rows next : List Row) → (b ≡ true → next ≡ rows) → Keeps b row xs rows → Keeps b row xs next
 keeps_same true row xs rows next same k = subst (Keeps true row xs) (sym (same refl)) k
 keeps_same false row xs rows next same k = k
 
-module _ (s : Shape) (at : ℕ) (db next : Trees) (c : Content) (k : Kept s at db next) (m : Means s db c) where
-  pub formats_kept : (0 ≡ at → ⊥) → IsPermutation (map format_row c.formats) (next 0)
+-- what a table keeps that is there
+abbrev pub KeepsAll : {X : Type 0} → (X → Row) → List X → List Row → Type 0
+KeepsAll row xs rows = IsPermutation (map row xs) (map (drop 1) rows) × AreKeyed rows
+
+module _ (o : Origin) (at : ℕ) (db next : Trees) (c : Content) (k : Kept o at db next) (m : Means (Whole o) db c) where
+  formats_kept : (0 ≡ at → ⊥) → IsPermutation (map format_row c.formats) (next 0)
   formats_kept ne = subst (IsPermutation (map format_row c.formats)) (sym (k.formats ne)) m.formats_are
 
-  pub years_kept : (1 ≡ at → ⊥) → IsPermutation (map year_row c.years) (next 1)
+  years_kept : (1 ≡ at → ⊥) → IsPermutation (map year_row c.years) (next 1)
   years_kept ne = subst (IsPermutation (map year_row c.years)) (sym (k.years ne)) m.years_are
 
-  pub spans_kept : (has_spans s ≡ true → span_tree s ≡ at → ⊥) → Keeps (has_spans s) span_row c.spans (next (span_tree s))
-  spans_kept ne = keeps_same (has_spans s) span_row c.spans (db (span_tree s)) (next (span_tree s)) (λ is. k.spans is (ne is)) m.spans_are
+  spans_kept : (span_tree o ≡ at → ⊥) → KeepsAll span_row c.spans (next (span_tree o))
+  spans_kept ne = subst (KeepsAll span_row c.spans) (sym (k.spans ne)) m.spans_are
 
-  pub lines_kept : (4 ≡ at → ⊥) → IsPermutation (map line_row c.lines) (map (drop 1) (next 4))
+  lines_kept : (4 ≡ at → ⊥) → IsPermutation (map line_row c.lines) (map (drop 1) (next 4))
   lines_kept ne = subst (λ rows. IsPermutation (map line_row c.lines) (map (drop 1) rows)) (sym (k.lines ne)) m.lines_are
 
-  pub live_kept : (has_live s ≡ true → 2 ≡ at → ⊥) → Keeps (has_live s) live_row c.live (next 2)
-  live_kept ne = keeps_same (has_live s) live_row c.live (db 2) (next 2) (λ is. k.live is (ne is)) m.live_are
+  live_kept : (is_moved o ≡ true → 2 ≡ at → ⊥) → Keeps (is_moved o) live_row c.live (next 2)
+  live_kept ne = keeps_same (is_moved o) live_row c.live (db 2) (next 2) (λ is. k.live is (ne is)) m.live_are
 
--- where only the spans change
-pub spans_changed : (s : Shape) (db next : Trees) (c : Content) (ss : List StoredSpan) → has_spans s ≡ true → Kept s (span_tree s) db next → Means s db c
-    → IsPermutation (map span_row ss) (map (drop 1) (next (span_tree s))) → AreKeyed (next (span_tree s)) → Means s next (record c { spans = ss })
-spans_changed s db next c ss spans k m same keyed = record {
-  formats_are = formats_kept s (span_tree s) db next c k m (far_span s 0 refl refl);
-  years_are = years_kept s (span_tree s) db next c k m (far_span s 1 refl refl);
-  spans_are = there_keeps (has_spans s) span_row ss (next (span_tree s)) spans same keyed;
-  lines_are = lines_kept s (span_tree s) db next c k m (far_span s 4 refl refl);
-  live_are = live_kept s (span_tree s) db next c k m (live_not_span s);
+  texts_kept : (text_tree o ≡ at → ⊥) → KeepsAll text_row c.texts (next (text_tree o))
+  texts_kept ne = subst (KeepsAll text_row c.texts) (sym (k.texts ne)) m.texts_are
+
+  marks_kept : (mark_tree o ≡ at → ⊥) → KeepsAll mark_row c.marks (next (mark_tree o))
+  marks_kept ne = subst (KeepsAll mark_row c.marks) (sym (k.marks ne)) m.marks_are
+
+-- ---- where one table alone changes
+
+abbrev one : Origin → ℕ
+one o = 1
+
+abbrev zero_tree : Origin → ℕ
+zero_tree o = 0
+
+abbrev four : Origin → ℕ
+four o = 4
+
+abbrev two : Origin → ℕ
+two o = 2
+
+module _ (o : Origin) (db next : Trees) (c : Content) where
+  pub formats_changed : (fs : List Format) → Kept o 0 db next → Means (Whole o) db c → IsPermutation (map format_row fs) (next 0) → Means (Whole o) next (record c { formats = fs })
+  formats_changed fs k m are = record {
+    formats_are = are;
+    years_are = years_kept o 0 db next c k m (far 1 0 refl);
+    spans_are = spans_kept o 0 db next c k m (apart o span_tree zero_tree refl);
+    lines_are = lines_kept o 0 db next c k m (far 4 0 refl);
+    live_are = live_kept o 0 db next c k m (λ is. far 2 0 refl);
+    texts_are = texts_kept o 0 db next c k m (apart o text_tree zero_tree refl);
+    marks_are = marks_kept o 0 db next c k m (apart o mark_tree zero_tree refl);
+  }
+
+  pub years_changed : (ys : List ℤ) → Kept o 1 db next → Means (Whole o) db c → IsPermutation (map year_row ys) (next 1) → Means (Whole o) next (record c { years = ys })
+  years_changed ys k m are = record {
+    formats_are = formats_kept o 1 db next c k m (far 0 1 refl);
+    years_are = are;
+    spans_are = spans_kept o 1 db next c k m (apart o span_tree one refl);
+    lines_are = lines_kept o 1 db next c k m (far 4 1 refl);
+    live_are = live_kept o 1 db next c k m (λ is. far 2 1 refl);
+    texts_are = texts_kept o 1 db next c k m (apart o text_tree one refl);
+    marks_are = marks_kept o 1 db next c k m (apart o mark_tree one refl);
+  }
+
+  pub spans_changed : (ss : List StoredSpan) → Kept o (span_tree o) db next → Means (Whole o) db c → KeepsAll span_row ss (next (span_tree o)) → Means (Whole o) next (record c { spans = ss })
+  spans_changed ss k m are = record {
+    formats_are = formats_kept o (span_tree o) db next c k m (apart o zero_tree span_tree refl);
+    years_are = years_kept o (span_tree o) db next c k m (apart o one span_tree refl);
+    spans_are = are;
+    lines_are = lines_kept o (span_tree o) db next c k m (apart o four span_tree refl);
+    live_are = live_kept o (span_tree o) db next c k m (apart_live o span_tree refl);
+    texts_are = texts_kept o (span_tree o) db next c k m (apart o text_tree span_tree refl);
+    marks_are = marks_kept o (span_tree o) db next c k m (apart o mark_tree span_tree refl);
+  }
+
+  pub lines_changed : (ls : List Line) → Kept o 4 db next → Means (Whole o) db c → IsPermutation (map line_row ls) (map (drop 1) (next 4)) → Means (Whole o) next (record c { lines = ls })
+  lines_changed ls k m are = record {
+    formats_are = formats_kept o 4 db next c k m (far 0 4 refl);
+    years_are = years_kept o 4 db next c k m (far 1 4 refl);
+    spans_are = spans_kept o 4 db next c k m (apart o span_tree four refl);
+    lines_are = are;
+    live_are = live_kept o 4 db next c k m (λ is. far 2 4 refl);
+    texts_are = texts_kept o 4 db next c k m (apart o text_tree four refl);
+    marks_are = marks_kept o 4 db next c k m (apart o mark_tree four refl);
+  }
+
+  pub texts_changed : (ts : List StoredText) → Kept o (text_tree o) db next → Means (Whole o) db c → KeepsAll text_row ts (next (text_tree o)) → Means (Whole o) next (record c { texts = ts })
+  texts_changed ts k m are = record {
+    formats_are = formats_kept o (text_tree o) db next c k m (apart o zero_tree text_tree refl);
+    years_are = years_kept o (text_tree o) db next c k m (apart o one text_tree refl);
+    spans_are = spans_kept o (text_tree o) db next c k m (apart o span_tree text_tree refl);
+    lines_are = lines_kept o (text_tree o) db next c k m (apart o four text_tree refl);
+    live_are = live_kept o (text_tree o) db next c k m (apart_live o text_tree refl);
+    texts_are = are;
+    marks_are = marks_kept o (text_tree o) db next c k m (apart o mark_tree text_tree refl);
+  }
+
+  pub marks_changed : (ms : List Mark) → Kept o (mark_tree o) db next → Means (Whole o) db c → KeepsAll mark_row ms (next (mark_tree o)) → Means (Whole o) next (record c { marks = ms })
+  marks_changed ms k m are = record {
+    formats_are = formats_kept o (mark_tree o) db next c k m (apart o zero_tree mark_tree refl);
+    years_are = years_kept o (mark_tree o) db next c k m (apart o one mark_tree refl);
+    spans_are = spans_kept o (mark_tree o) db next c k m (apart o span_tree mark_tree refl);
+    lines_are = lines_kept o (mark_tree o) db next c k m (apart o four mark_tree refl);
+    live_are = live_kept o (mark_tree o) db next c k m (apart_live o mark_tree refl);
+    texts_are = texts_kept o (mark_tree o) db next c k m (apart o text_tree mark_tree refl);
+    marks_are = are;
+  }
+
+-- `lpis_live` is there
+pub live_changed : (db next : Trees) (c : Content) (ls : List Live) → Kept Moved 2 db next → Means (Whole Moved) db c → KeepsAll live_row ls (next 2) → Means (Whole Moved) next (record c { live = ls })
+live_changed db next c ls k m are = record {
+  formats_are = formats_kept Moved 2 db next c k m (far 0 2 refl);
+  years_are = years_kept Moved 2 db next c k m (far 1 2 refl);
+  spans_are = spans_kept Moved 2 db next c k m (far 6 2 refl);
+  lines_are = lines_kept Moved 2 db next c k m (far 4 2 refl);
+  live_are = are;
+  texts_are = texts_kept Moved 2 db next c k m (far 8 2 refl);
+  marks_are = marks_kept Moved 2 db next c k m (far 10 2 refl);
 }
 
 -- no query of the register has trees of its own
-pub own_spans : (s : Shape) (db : Trees) → overlay db [] (span_tree s) ≡ db (span_tree s)
-own_spans Moved db = refl
-own_spans _ _ = refl
-
-pub none_there : {X : Type 0} (b : Bool) (row : X → Row) (xs : List X) (rows : List Row) → b ≡ false → Keeps b row xs rows → xs ≡ []
-none_there true row xs rows is k = absurd (true≢false is)
-none_there false row xs rows is k = k
+pub own_tree : (o : Origin) (x : Origin → ℕ) (db : Trees) → overlay db [] (x New) ≡ db (x New) → overlay db [] (x Moved) ≡ db (x Moved) → overlay db [] (x o) ≡ db (x o)
+own_tree New x db new moved = new
+own_tree Moved x db new moved = moved

@@ -1,27 +1,27 @@
 -- How calls that only read join.
 use Rattle.std.proofs.Common.{arith, refl, inl, ◌≡◌, Ok, Err, Result}
-use Rattle.lpis_register_sql.proofs.Common.{HasCleanDisk, State, Survives, Content, Shape, IsStored}
-use Rattle.sqlite.proofs.StateLemmas.{survives_then}
+use Rattle.lpis_register_sql.proofs.Common.{HasCleanDisk, State, Survives, Content, Layout, IsStored}
+use Rattle.sqlite.proofs.StateLemmas.{survives_then, survives_weaker}
 use Rattle.lpis_register_sql.specs.Quiet.{LeavesNone, Reads}
 
 -- what the calls so far have answered
-pub record Told (P : Shape → Type 0) (Says : Content → Type 0) (a b : State) : Type 0 where
-  pub says : HasCleanDisk b → (s : Shape) → P s → (c : Content) → IsStored s a c → Says c × IsStored s b c
+pub record Told (P : Layout → Type 0) (Says : Content → Type 0) (a b : State) : Type 0 where
+  pub says : HasCleanDisk b → (s : Layout) → P s → (c : Content) → IsStored s a c → Says c × IsStored s b c
   pub survives : Survives a b (LeavesNone P a)
 
-pub nothing_yet : {P : Shape → Type 0} {a : State} → Told P (λ c. Unit {0}) a a
+pub nothing_yet : {P : Layout → Type 0} {a : State} → Told P (λ c. Unit {0}) a a
 nothing_yet = record {
   says = λ clean s p c h. (tt, h);
   survives = record { clean = omega arith; shield = λ h. h; counts = omega arith; limit = refl; closes = λ clean h. inl h; crash = λ clean db h. inl h };
 }
 
 -- one more call: a crash leaves nothing new
-still_none : {P Q : Shape → Type 0} {Says : Content → Type 0} {a b c : State} → ((s : Shape) → P s → Q s) → Told P Says a b → Survives b c (LeavesNone Q b) → Survives a c (LeavesNone P a)
+still_none : {P Q : Layout → Type 0} {Says : Content → Type 0} {a b c : State} → ((s : Layout) → P s → Q s) → Told P Says a b → Survives b c (LeavesNone Q b) → Survives a c (LeavesNone P a)
 still_none {a = a} {b = b} {c = c} f told quiet =
     survives_then a b c _ _ _ (λ _ db none. none) (λ clean db none s p x h. none s (f s p) x (told.says (omega (arith, quiet.clean)) s p x h).1) told.survives quiet
 
 -- which answers
-pub then : {P Q : Shape → Type 0} {Says : Content → Type 0} {X E : Type 0} {More : Content → X → Type 0} {a b c : State} {x : X} → ((s : Shape) → P s → Q s) → Told P Says a b
+pub then : {P Q : Layout → Type 0} {Says : Content → Type 0} {X E : Type 0} {More : Content → X → Type 0} {a b c : State} {x : X} → ((s : Layout) → P s → Q s) → Told P Says a b
     → Reads {X = X} {E = E} Q More b c (Ok x) → Told P (λ content. Says content × More content x) a c
 then f told reads = record {
   says = λ clean s p content h.
@@ -31,8 +31,8 @@ then f told reads = record {
 }
 
 -- or fails
-pub then_fails : {P Q : Shape → Type 0} {Says : Content → Type 0} {X Y D E : Type 0} {More : Content → X → Type 0} {All : Content → Y → Type 0} {a b c : State} {d : D} {r : Result Y E}
-    {Why : E → Type 0} → (e : E) × (r ≡ Err e) × Why e → ((s : Shape) → P s → Q s) → Told P Says a b → Reads Q More b c (Err d) → Reads P All a c r
+pub then_fails : {P Q : Layout → Type 0} {Says : Content → Type 0} {X Y D E : Type 0} {More : Content → X → Type 0} {All : Content → Y → Type 0} {a b c : State} {d : D} {r : Result Y E}
+    {Why : E → Type 0} → (e : E) × (r ≡ Err e) × Why e → ((s : Layout) → P s → Q s) → Told P Says a b → Reads Q More b c (Err d) → Reads P All a c r
 then_fails failed f told reads = rw failed.1 (record {
   ok = λ clean s p content h. tt;
   same = λ clean up s p content h. reads.same clean up s (f s p) content (told.says (omega (arith, reads.survives.clean)) s p content h).1;
@@ -40,10 +40,18 @@ then_fails failed f told reads = rw failed.1 (record {
 })
 
 -- what is made of all that was answered
-pub answered : {P : Shape → Type 0} {Says : Content → Type 0} {Y E : Type 0} {All : Content → Y → Type 0} {a b : State} {y : Y} → Told P Says a b → ((c : Content) → Says c → All c y)
+pub answered : {P : Layout → Type 0} {Says : Content → Type 0} {Y E : Type 0} {All : Content → Y → Type 0} {a b : State} {y : Y} → Told P Says a b → ((c : Content) → Says c → All c y)
     → Reads {X = Y} {E = E} P All a b (Ok y)
 answered told made = record {
   ok = λ clean s p c h. let it = told.says clean s p c h in (made c it.0, it.1);
   same = λ clean up s p c h. (told.says clean s p c h).1;
   survives = told.survives;
+}
+
+-- a call that reads tables of more orders than are asked for
+pub reads_of : {P Q : Layout → Type 0} {X E : Type 0} {Says : Content → X → Type 0} {a b : State} {r : Result X E} → ((s : Layout) → P s → Q s) → Reads Q Says a b r → Reads P Says a b r
+reads_of {a = a} {b = b} f reads = record {
+  ok = λ clean s p c h. reads.ok clean s (f s p) c h;
+  same = λ clean up s p c h. reads.same clean up s (f s p) c h;
+  survives = survives_weaker a b _ _ (λ _ db none s p c h. none s (f s p) c h) reads.survives;
 }

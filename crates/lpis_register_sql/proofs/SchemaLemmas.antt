@@ -1,9 +1,8 @@
 -- Trees that list a schema of the register list no other.
 use Rattle.std.proofs.Common.{◌≡◌, inl, inr, ℕ, zero, suc, ◌+◌, pos, List, [], ◌∷◌, Bool, true, false, not, slice_get, Some, Ok, Result, refl, sym, ap, ap₂, subst, ◌∙◌, arith, true≢false, Option}
 use Rattle.std.proofs.Common.{filter, ◌&&◌, ◌||◌, bytes_eq}
-use Rattle.lpis_register_sql.proofs.Common.{cases_Bool, and_parts, not-true, nat_tests, list_any, Row, column, Database, State, Table, Schema, Trees, Has, table_defined_by, Content, Holds, IsStored}
-use Rattle.lpis_register_sql.proofs.Common.{Leaves}
-use Rattle.lpis_register_sql.proofs.Common.{Shape, New, First, Moved, schema_of, no_schema}
+use Rattle.lpis_register_sql.proofs.Common.{cases_Bool, and_parts, not-true, nat_tests, list_any, Row, column, Database, State, Table, Schema, Trees, Has, table_defined_by, Content, Holds, IsStored, Leaves}
+use Rattle.lpis_register_sql.proofs.Common.{Layout, New, First, Moved, Whole, LessMarks, LessTexts, schema_of, no_schema}
 use Rattle.std.specs.List.{AllZip, list_all}
 use Rattle.sqlite_value.specs.declared.value.Value.{Value}
 use Rattle.sqlite_value.specs.declared.value.Value.TheVariants.{Null, Int, Text}
@@ -129,10 +128,14 @@ one_of own schema trees apart few bare a b =
     let first : schema ≡ record own { views = schema.views } = ap₂ (λ ts is. record schema { tables = ts; indexes = is }) (sym tables) (sym indexes) in
     first ∙ ap (λ vs. record own { views = vs }) (views ∙ sym bare)
 
-pub one_schema : (s : Shape) (schema : Schema) (trees : Trees) → IsSound (schema_of s) trees → IsSound schema trees → schema ≡ schema_of s
-one_schema New schema trees a b = one_of (schema_of New) schema trees refl refl refl a b
+pub one_schema : (s : Layout) (schema : Schema) (trees : Trees) → IsSound (schema_of s) trees → IsSound schema trees → schema ≡ schema_of s
+one_schema (Whole New) schema trees a b = one_of (schema_of (Whole New)) schema trees refl refl refl a b
+one_schema (Whole Moved) schema trees a b = one_of (schema_of (Whole Moved)) schema trees refl refl refl a b
+one_schema (LessMarks New) schema trees a b = one_of (schema_of (LessMarks New)) schema trees refl refl refl a b
+one_schema (LessMarks Moved) schema trees a b = one_of (schema_of (LessMarks Moved)) schema trees refl refl refl a b
+one_schema (LessTexts New) schema trees a b = one_of (schema_of (LessTexts New)) schema trees refl refl refl a b
+one_schema (LessTexts Moved) schema trees a b = one_of (schema_of (LessTexts Moved)) schema trees refl refl refl a b
 one_schema First schema trees a b = one_of (schema_of First) schema trees refl refl refl a b
-one_schema Moved schema trees a b = one_of (schema_of Moved) schema trees refl refl refl a b
 
 -- and an empty list lists nothing
 pub empty_schema : (schema : Schema) (trees : Trees) → trees catalog_tree ≡ [] → IsSound schema trees → schema ≡ no_schema
@@ -150,12 +153,12 @@ empty_schema schema trees none b =
     no_rows R (x ∷ xs) h = absurd h
 
 -- what an open finds in trees that hold rows of the register
-pub opened_stored : (shape : Shape) (s : State) (c : Content) → Opens s → IsLive s → Leaves shape c s.committed.trees → IsStored shape s c
-opened_stored shape s c o live h =
+pub opened_stored : (layout : Layout) (s : State) (c : Content) → Opens s → IsLive s → Leaves layout c s.committed.trees → IsStored layout s c
+opened_stored layout s c o live h =
     let sound = (live o.is_open).1 in
-    let schema = one_schema shape s.committed.schema s.committed.trees h.sound sound in
-    let held : Holds shape s.committed c = record { schema = schema; sound = sound; means = h.means } in
-    record { is_open = o.is_open; autocommit = o.autocommit; settled = o.clean; holds = subst (λ (d : Database). Holds shape d c) (sym o.clean) held }
+    let schema = one_schema layout s.committed.schema s.committed.trees h.sound sound in
+    let held : Holds layout s.committed c = record { schema = schema; sound = sound; means = h.means } in
+    record { is_open = o.is_open; autocommit = o.autocommit; settled = o.clean; holds = subst (λ (d : Database). Holds layout d c) (sym o.clean) held }
 
 pub opened_bare : (s : State) → Opens s → IsLive s → s.committed.trees catalog_tree ≡ [] → IsBare s
 opened_bare s o live none = record {

@@ -1,2 +1,2 @@
 -- The lemmas that the crates above cite, passed on from one place. Declares nothing.
-pub use Rattle.lpis_register_sql.proofs.MoveLemmas.{spans_stand}
+pub use Rattle.lpis_register_sql.proofs.CompletingLemmas.{mark_there}

@@ -1,9 +1,8 @@
 -- What the queries show.
 use Rattle.std.proofs.Common.{◌≡◌, ◌⊎◌, inl, inr, ℕ, List, [], ◌∷◌, map, drop, Ok, Err, Result, IfOk, refl, sym, ap, ap₂, subst, ◌∙◌, IsPermutation, IsTrue, true, IfErr, Vec, IsSorted, Global}
 use Rattle.lpis_register_sql.proofs.Common.{flat_map_single, IsPermutation-map, IsPermutation-trans, Null, Row, column, Term, overlay, IsAnswer, Output, output, Database, understood, Error, State}
-use Rattle.lpis_register_sql.proofs.Common.{HasCleanDisk, Survives, Content, Format, Shape, schema_of, has_spans, has_live, span_tree, read_format, read_release, read_span, read_line, read_live}
-use Rattle.lpis_register_sql.proofs.Common.{Holds}
-use Rattle.lpis_register_sql.proofs.Common.{IsStored, format_row, year_row, span_row, line_row, live_row}
+use Rattle.lpis_register_sql.proofs.Common.{HasCleanDisk, Survives, Content, Format, Layout, schema_of, origin_of, has_spans, has_live, has_texts, has_marks, span_tree, text_tree, mark_tree, read_format, read_release, read_span, read_line, read_live, read_text, read_mark, Holds}
+use Rattle.lpis_register_sql.proofs.Common.{IsStored, format_row, year_row, span_row, line_row, live_row, text_row, mark_row}
 use Rattle.std.proofs.lemmas.List.{map-id}
 use Rattle.sqlite_value.specs.declared.keys.Key.{Key}
 use Rattle.sqlite.specs.Query.{Query, output_cmp}
@@ -12,10 +11,10 @@ use Rattle.sqlite.specs.State.{Shown, IsUnchanged, IsRolledBack, IsNotRun, Fails
 use Rattle.sqlite.proofs.Callers.{reads_as, IsPlain, never_commits}
 use Rattle.sqlite.proofs.StateLemmas.{survives_weaker}
 use Rattle.lpis_register_sql.specs.Quiet.{LeavesNone, Reads}
-use Rattle.lpis_register_sql.specs.private.Shown.{year_shown, format_shown, span_shown, line_shown, live_shown}
+use Rattle.lpis_register_sql.specs.private.Shown.{year_shown, format_shown, span_shown, line_shown, live_shown, text_shown, mark_shown}
 use Rattle.lpis_register_sql.proofs.MeaningLemmas.{Asks, from_all, read_format_means, read_release_means, read_span_means, read_line_means, read_live_means, release_query, span_query, line_query}
-use Rattle.lpis_register_sql.proofs.MeaningLemmas.{live_query, format_query}
-use Rattle.lpis_register_sql.proofs.PartLemmas.{keeps_there, own_spans}
+use Rattle.lpis_register_sql.proofs.MeaningLemmas.{live_query, format_query, text_query, mark_query, read_text_means, read_mark_means}
+use Rattle.lpis_register_sql.proofs.PartLemmas.{keeps_there, own_tree}
 
 abbrev pub env : Row → List Row
 env r = [] ∷ r ∷ []
@@ -27,7 +26,7 @@ pub record Sorts (q : Query) (table rows : List Row) : Type 0 where
   pub shown : rows ≡ map (λ (o : Output). o.1) ordered
 
 -- a query on all rows of a table shows each, in the order that it asks for
-pub sorts : (s : Shape) (sql : List ℕ) (tree : ℕ) (project : List Term) (order : List (Term × Key)) (names : List (List ℕ)) → Asks s sql (from_all tree [] project order) names
+pub sorts : (s : Layout) (sql : List ℕ) (tree : ℕ) (project : List Term) (order : List (Term × Key)) (names : List (List ℕ)) → Asks s sql (from_all tree [] project order) names
     → (old new : State) (rows : List Row) → old.now.schema ≡ schema_of s → Shown sql [] old new rows
     → overlay old.now.trees [] tree ≡ old.now.trees tree → Sorts (from_all tree [] project order)
     (old.now.trees tree) rows
@@ -73,44 +72,69 @@ live_seen : (r : Row) → live_shown (output live_query (env r)).1 ≡ live_show
 live_seen [] = refl
 live_seen (v ∷ r) = refl
 
+text_seen : (tree : ℕ) (r : Row) → text_shown (output (text_query tree) (env r)).1 ≡ text_shown (drop 1 r)
+text_seen tree [] = refl
+text_seen tree (v ∷ r) = refl
+
+mark_seen : (tree : ℕ) (r : Row) → mark_shown (output (mark_query tree) (env r)).1 ≡ mark_shown (drop 1 r)
+mark_seen tree [] = refl
+mark_seen tree (v ∷ r) = refl
+
 abbrev pub format_kept : Row → Format
 format_kept r = format_shown (column r 0 ∷ column r 2 ∷ [])
 
 -- ---- what is read is what the tables hold
 
-pub formats_shown : (s : Shape) (old new : State) (rows : List Row) (c : Content) → IsStored s old c → Shown read_format [] old new rows → IsPermutation c.formats (map format_shown rows)
+pub formats_shown : (s : Layout) (old new : State) (rows : List Row) (c : Content) → IsStored s old c → Shown read_format [] old new rows → IsPermutation c.formats (map format_shown rows)
 formats_shown s old new rows c r h =
     shows_kept format_query format_shown format_kept (λ r. r) format_row (λ r. refl) (λ f. refl) c.formats _ rows
     (sorts s read_format 0 _ _ _ (read_format_means s) old new rows r.holds.schema h refl)
     (subst (IsPermutation (map format_row c.formats)) (sym (map-id (old.now.trees 0))) r.holds.means.formats_are)
 
-pub years_shown : (s : Shape) (old new : State) (rows : List Row) (c : Content) → IsStored s old c → Shown read_release [] old new rows → IsPermutation c.years (map year_shown rows)
+pub years_shown : (s : Layout) (old new : State) (rows : List Row) (c : Content) → IsStored s old c → Shown read_release [] old new rows → IsPermutation c.years (map year_shown rows)
 years_shown s old new rows c r h =
     shows_kept release_query year_shown year_shown (λ r. r) year_row (λ r. refl) (λ y. refl) c.years _ rows
     (sorts s read_release 1 _ _ _ (read_release_means s) old new rows r.holds.schema h refl)
     (subst (IsPermutation (map year_row c.years)) (sym (map-id (old.now.trees 1))) r.holds.means.years_are)
 
-pub spans_shown : (s : Shape) (old new : State) (rows : List Row) (c : Content) → has_spans s ≡ true → IsStored s old c → Shown read_span [] old new rows → IsPermutation c.spans (map span_shown rows)
+pub spans_shown : (s : Layout) (old new : State) (rows : List Row) (c : Content) → has_spans s ≡ true → IsStored s old c → Shown read_span [] old new rows → IsPermutation c.spans (map span_shown rows)
 spans_shown s old new rows c spans r h =
-    let tree = span_tree s in
+    let o = origin_of s in
+    let tree = span_tree o in
     shows_kept (span_query tree) span_shown span_shown (drop 1) span_row (span_seen tree) (λ x. refl) c.spans _ rows
-    (sorts s read_span tree _ _ _ (read_span_means s spans) old new rows r.holds.schema h (own_spans s old.now.trees))
+    (sorts s read_span tree _ _ _ (read_span_means s spans) old new rows r.holds.schema h (own_tree o span_tree old.now.trees refl refl))
     (keeps_there (has_spans s) span_row c.spans (old.now.trees tree) spans r.holds.means.spans_are).0
 
-pub lines_shown : (s : Shape) (old new : State) (rows : List Row) (c : Content) → IsStored s old c → Shown read_line [] old new rows → IsPermutation c.lines (map line_shown rows)
+pub lines_shown : (s : Layout) (old new : State) (rows : List Row) (c : Content) → IsStored s old c → Shown read_line [] old new rows → IsPermutation c.lines (map line_shown rows)
 lines_shown s old new rows c r h =
     shows_kept line_query line_shown line_shown (drop 1) line_row line_seen (λ l. refl) c.lines _ rows
     (sorts s read_line 4 _ _ _ (read_line_means s) old new rows r.holds.schema h refl) r.holds.means.lines_are
 
-pub live_shown_are : (s : Shape) (old new : State) (rows : List Row) (c : Content) → has_live s ≡ true → IsStored s old c → Shown read_live [] old new rows → IsPermutation c.live (map live_shown rows)
+pub live_shown_are : (s : Layout) (old new : State) (rows : List Row) (c : Content) → has_live s ≡ true → IsStored s old c → Shown read_live [] old new rows → IsPermutation c.live (map live_shown rows)
 live_shown_are s old new rows c live r h =
     shows_kept live_query live_shown live_shown (drop 1) live_row live_seen (λ l. refl) c.live _ rows
     (sorts s read_live 2 _ _ _ (read_live_means s live) old new rows r.holds.schema h refl)
     (keeps_there (has_live s) live_row c.live (old.now.trees 2) live r.holds.means.live_are).0
 
+pub texts_shown : (s : Layout) (old new : State) (rows : List Row) (c : Content) → has_texts s ≡ true → IsStored s old c → Shown read_text [] old new rows → IsPermutation c.texts (map text_shown rows)
+texts_shown s old new rows c texts r h =
+    let o = origin_of s in
+    let tree = text_tree o in
+    shows_kept (text_query tree) text_shown text_shown (drop 1) text_row (text_seen tree) (λ x. refl) c.texts _ rows
+    (sorts s read_text tree _ _ _ (read_text_means s texts) old new rows r.holds.schema h (own_tree o text_tree old.now.trees refl refl))
+    (keeps_there (has_texts s) text_row c.texts (old.now.trees tree) texts r.holds.means.texts_are).0
+
+pub marks_shown : (s : Layout) (old new : State) (rows : List Row) (c : Content) → has_marks s ≡ true → IsStored s old c → Shown read_mark [] old new rows → IsPermutation c.marks (map mark_shown rows)
+marks_shown s old new rows c marks r h =
+    let o = origin_of s in
+    let tree = mark_tree o in
+    shows_kept (mark_query tree) mark_shown mark_shown (drop 1) mark_row (mark_seen tree) (λ x. refl) c.marks _ rows
+    (sorts s read_mark tree _ _ _ (read_mark_means s marks) old new rows r.holds.schema h (own_tree o mark_tree old.now.trees refl refl))
+    (keeps_there (has_marks s) mark_row c.marks (old.now.trees tree) marks r.holds.means.marks_are).0
+
 -- ---- a query changes nothing
 
-pub still : (s : Shape) (old new : State) (c : Content) → IsStored s old c → IsUnchanged old new → IsStored s new c
+pub still : (s : Layout) (old new : State) (c : Content) → IsStored s old c → IsUnchanged old new → IsStored s new c
 still s old new c r h = record {
   is_open = h.0.is_open;
   autocommit = h.0.mode ∙ r.autocommit;
@@ -118,7 +142,7 @@ still s old new c r h = record {
   holds = subst (λ (d : Database). Holds s d c) (sym h.0.now_is) r.holds;
 }
 
-pub undone : (s : Shape) (old new : State) (c : Content) → IsStored s old c → IsRolledBack old new → IsTrue new.is_open → IsStored s new c
+pub undone : (s : Layout) (old new : State) (c : Content) → IsStored s old c → IsRolledBack old new → IsTrue new.is_open → IsStored s new c
 undone s old new c r h up =
     let now = h.undone up in
     record {
@@ -143,14 +167,14 @@ fails_same sql params old new e plain (inr h) =
     let it = subst (FailsToShow old new sql h.0 (timed params h.0.formats h.1.now) e) none h.2 in inl it.3
 
 -- a query reads
-pub by_query : {P : Shape → Type 0} {Says : Content → Vec Row Global → Type 0} {old new : State} {r : Result (Vec Row Global) Error} (sql : List ℕ)
-    → ((s : Shape) → P s → IsPlain (understood (schema_of s) sql))
-    → ((s : Shape) → P s → (c : Content) (rows : Vec Row Global) → IsStored s old c → Shown sql [] old new rows.items → Says c rows)
+pub by_query : {P : Layout → Type 0} {Says : Content → Vec Row Global → Type 0} {old new : State} {r : Result (Vec Row Global) Error} (sql : List ℕ)
+    → ((s : Layout) → P s → IsPlain (understood (schema_of s) sql))
+    → ((s : Layout) → P s → (c : Content) (rows : Vec Row Global) → IsStored s old c → Shown sql [] old new rows.items → Says c rows)
     → (HasCleanDisk new → IfOk r (λ rows. Shown sql [] old new rows.items)) → (HasCleanDisk new → IfErr r (FailsToQuery sql [] old new))
     → Survives old new (CommitsShowing sql [] old) → Reads P Says old new r
 by_query {P = P} {Says = Says} {old = old} {new = new} {r = r} sql plain says ok err survives = read r ok err
   where
-    plain_here : (s : Shape) → P s → (c : Content) → IsStored s old c → IsPlain (understood old.now.schema sql)
+    plain_here : (s : Layout) → P s → (c : Content) → IsStored s old c → IsPlain (understood old.now.schema sql)
     plain_here s p c h = subst (λ it. IsPlain (understood it sql)) (sym h.holds.schema) (plain s p)
 
     quiet : Survives old new (LeavesNone P old)
@@ -159,7 +183,7 @@ by_query {P = P} {Says = Says} {old = old} {new = new} {r = r} sql plain says ok
     read : (r : Result (Vec Row Global) Error) → (HasCleanDisk new → IfOk r (λ rows. Shown sql [] old new rows.items)) → (HasCleanDisk new → IfErr r (FailsToQuery sql [] old new))
         → Reads P Says old new r
     read (Ok rows) ok err =
-        let stays : HasCleanDisk new → (s : Shape) → P s → (c : Content) → IsStored s old c → IsStored s new c = λ clean s p c h. still s old new c h
+        let stays : HasCleanDisk new → (s : Layout) → P s → (c : Content) → IsStored s old c → IsStored s new c = λ clean s p c h. still s old new c h
         (shown_same sql [] old new rows.items (plain_here s p c h) (ok clean)) in
         record { ok = λ clean s p c h. (says s p c rows h (ok clean), stays clean s p c h); same = λ clean up. stays clean; survives = quiet }
     read (Err e) ok err = record {

@@ -1,17 +1,20 @@
 -- What the statements that make the tables do.
-use Rattle.std.proofs.Common.{◌≡◌, ℕ, pos, List, [], ◌∷◌, ◌++◌, map, drop, false, None, Ok, Result, refl, sym, ap, subst, ◌∙◌, IsPermutation, Option, MatchBool}
+use Rattle.std.proofs.Common.{◌≡◌, ℕ, pos, List, [], ◌∷◌, ◌++◌, map, drop, Bool, true, false, None, Ok, Result, refl, sym, ap, subst, ◌∙◌, IsPermutation, Option, MatchBool, true≢false}
 use Rattle.lpis_register_sql.proofs.Common.{IsPermutation-refl, Row, Table, Schema, CreateTable, table_defined_by, Tally, Does, Trees, Mode, Error, Database, State, mode_of, ExecutesInside, runs_as}
-use Rattle.lpis_register_sql.proofs.Common.{format_table, New, schema_of, Format, AreKeyed, format_row, Inside}
+use Rattle.lpis_register_sql.proofs.Common.{format_table, span_table, text_table, mark_table, Layout, Origin, New, Moved, First, LessTexts, LessMarks, Whole, schema_of, origin_of, is_moved, has_spans, has_live, has_texts, has_marks}
+use Rattle.lpis_register_sql.proofs.Common.{span_tree, text_tree, mark_tree, Content, Format, Keeps, format_row, year_row, span_row, line_row, live_row, text_row, mark_row, Inside}
 use Rattle.std.specs.List.{AllByRecursion}
 use Rattle.sqlite.specs.Change.{created, next_tree, KeepsRows}
 use Rattle.sqlite.specs.Does.{lacks_sequence, MakesTable, sequence_text}
-use Rattle.lpis_register_sql.specs.private.Texts.{insert_format}
+use Rattle.lpis_register_sql.specs.Holding.{Means}
+use Rattle.lpis_register_sql.specs.private.Texts.{insert_format, make_span, make_text, make_mark}
 use Rattle.lpis_register_sql.specs.private.Stages.{Stage}
 use Rattle.lpis_register_rows.specs.Content.{no_content}
-use Rattle.lpis_register_sql.proofs.MeaningLemmas.{insert_format_means, format_terms, Makes}
+use Rattle.lpis_register_sql.proofs.MeaningLemmas.{insert_format_means, format_terms, Makes, span_moves, text_is, mark_is}
 use Rattle.lpis_register_sql.proofs.WriteLemmas.{went, same_value, adds}
-use Rattle.lpis_register_sql.proofs.PartLemmas.{far}
-use Rattle.lpis_register_sql.proofs.InsertLemmas.{format_news}
+use Rattle.lpis_register_sql.proofs.PartLemmas.{KeepsAll, far, keeps_same}
+use Rattle.lpis_register_sql.proofs.InsertLemmas.{format_news, inside_next}
+use Rattle.lpis_register_sql.proofs.ClearLemmas.{none_there}
 
 no_more : (db after : Database) → lacks_sequence db.schema ≡ false → MatchBool (lacks_sequence db.schema)
     (MakesTable sequence_text db (Ok after)) (◌≡◌ {A = Result Database (Option Error)} (Ok after) (Ok db)) → after ≡ db
@@ -61,14 +64,16 @@ stage_next sql from into made m plain base old new count before h =
     }
 
 -- the row of lpis_format
-pub begins : (base : Database) (old new : State) (count : ℕ) → Stage (schema_of New) base old → ExecutesInside 0 insert_format [] old new (Ok count) → Inside New base new no_content
+pub begins : (base : Database) (old new : State) (count : ℕ) → Stage (schema_of (Whole New)) base old → ExecutesInside 0 insert_format [] old new (Ok count) → Inside (Whole New) base new no_content
 begins base old new count before h =
     let e = before.empty in
-    let first : Format = record { one = pos 1; version = pos 2 } in
+    let first : Format = record { one = pos 1; version = pos 3 } in
     let a = adds New insert_format 0 3 (format_table 0) format_terms [] (format_row first) old new count before.schema refl refl (insert_format_means New) (format_news old.now.trees) h.0 in
     let e1 : new.now.trees 1 ≡ [] = a.others.years (far 1 0 refl) ∙ e.1.0 in
-    let e2 : new.now.trees 2 ≡ [] = a.others.spans refl (far 2 0 refl) ∙ e.1.1.0 in
+    let e2 : new.now.trees 2 ≡ [] = a.others.spans (far 2 0 refl) ∙ e.1.1.0 in
     let e4 : new.now.trees 4 ≡ [] = a.others.lines (far 4 0 refl) ∙ e.1.1.1.0 in
+    let e6 : new.now.trees 6 ≡ [] = a.others.texts (far 6 0 refl) ∙ e.1.1.1.1.0 in
+    let e8 : new.now.trees 8 ≡ [] = a.others.marks (far 8 0 refl) ∙ e.1.1.1.1.1.0 in
     record {
       is_open = h.1.is_open;
       in_transaction = h.1.mode;
@@ -79,12 +84,128 @@ begins base old new count before h =
         means = record {
           formats_are = subst (λ rows. IsPermutation (format_row first ∷ rows) (new.now.trees 0)) e.0 a.more;
           years_are = subst (IsPermutation []) (sym e1) (IsPermutation-refl []);
-          spans_are = (subst (λ (rows : List Row). IsPermutation [] (map (drop 1) rows)) (sym e2) (IsPermutation-refl []), subst AreKeyed (sym e2) no_rows);
+          spans_are = none_there span_row (new.now.trees 2) e2;
           lines_are = subst (λ (rows : List Row). IsPermutation [] (map (drop 1) rows)) (sym e4) (IsPermutation-refl []);
           live_are = refl;
+          texts_are = none_there text_row (new.now.trees 6) e6;
+          marks_are = none_there mark_row (new.now.trees 8) e8;
         };
       };
     }
-  where
-    no_rows : AreKeyed []
-    no_rows = record { whole = λ x none. absurd none; alone = λ x y none more same. absurd none }
+
+-- ---- a table more beside those that hold rows
+
+-- the trees once a table is made
+abbrev Grown : Bool → Bool → List Row → List Row → Type 0
+Grown true true rows next = next ≡ rows
+Grown true false rows next = ⊥
+Grown false true rows next = next ≡ []
+Grown false false rows next = Unit {0}
+
+record Grows (s t : Layout) (db next : Trees) : Type 0 where
+  pub origin : origin_of s ≡ origin_of t
+  pub formats : next 0 ≡ db 0
+  pub years : next 1 ≡ db 1
+  pub spans : Grown (has_spans s) (has_spans t) (db (span_tree (origin_of s))) (next (span_tree (origin_of s)))
+  pub lines : next 4 ≡ db 4
+  pub live : has_live s ≡ true → next 2 ≡ db 2
+  pub texts : Grown (has_texts s) (has_texts t) (db (text_tree (origin_of s))) (next (text_tree (origin_of s)))
+  pub marks : Grown (has_marks s) (has_marks t) (db (mark_tree (origin_of s))) (next (mark_tree (origin_of s)))
+
+keeps_grown : {X : Type 0} (b d : Bool) (row : X → Row) (xs : List X) (rows next : List Row) → Grown b d rows next → Keeps b row xs rows → Keeps d row xs next
+keeps_grown true true row xs rows next same k = subst (Keeps true row xs) (sym same) k
+keeps_grown true false row xs rows next none k = absurd none
+keeps_grown false true row xs rows next none k = subst (λ ys. KeepsAll row ys next) (sym k) (none_there row next none)
+keeps_grown false false row xs rows next same k = k
+
+means_grown : (s t : Layout) (db next : Trees) (c : Content) → Grows s t db next → Means s db c → Means t next c
+means_grown s t db next c g m =
+    let o = origin_of s in
+    record {
+      formats_are = subst (IsPermutation (map format_row c.formats)) (sym g.formats) m.formats_are;
+      years_are = subst (IsPermutation (map year_row c.years)) (sym g.years) m.years_are;
+      spans_are = subst (λ p. Keeps (has_spans t) span_row c.spans (next (span_tree p))) g.origin
+          (keeps_grown (has_spans s) (has_spans t) span_row c.spans (db (span_tree o)) (next (span_tree o)) g.spans m.spans_are);
+      lines_are = subst (λ (rs : List Row). IsPermutation (map line_row c.lines) (map (drop 1) rs)) (sym g.lines) m.lines_are;
+      live_are = subst (λ p. Keeps (is_moved p) live_row c.live (next 2)) g.origin (keeps_same (has_live s) live_row c.live (db 2) (next 2) g.live m.live_are);
+      texts_are = subst (λ p. Keeps (has_texts t) text_row c.texts (next (text_tree p))) g.origin
+          (keeps_grown (has_texts s) (has_texts t) text_row c.texts (db (text_tree o)) (next (text_tree o)) g.texts m.texts_are);
+      marks_are = subst (λ p. Keeps (has_marks t) mark_row c.marks (next (mark_tree p))) g.origin
+          (keeps_grown (has_marks s) (has_marks t) mark_row c.marks (db (mark_tree o)) (next (mark_tree o)) g.marks m.marks_are);
+    }
+
+-- what CREATE TABLE leaves of the others, and the table that it makes
+abbrev Made : Layout → Trees → Trees → Type 0
+Made s db next = (next (next_tree (schema_of s)) ≡ []) × KeepsRows (schema_of s).tables db next
+
+beside : (s t : Layout) (sql : List ℕ) (table : Table) → Makes sql (schema_of s) (schema_of t) table → lacks_sequence (schema_of t) ≡ false
+    → ((db next : Trees) → Made s db next → Grows s t db next) → (base : Database) (old new : State) (c : Content) (count : ℕ) → Inside s base old c → ExecutesInside 0 sql [] old new (Ok count) → Inside t base new c
+beside s t sql table it plain grows base old new c count before h =
+    let from = schema_of s in
+    let w = runs_as sql [] old new from before.holds.schema CreateTable it.is it.plain count h.0 in
+    let done = creates old.step_limit (mode_of old) [] (record old.now { schema = from }) sql table w.tally new.now it.defines (ap lacks_sequence it.into ∙ plain)
+    (subst (λ s. Does old.step_limit (mode_of old) [] (record old.now { schema = s }) sql None CreateTable
+    (Ok (w.tally, new.now))) before.holds.schema
+    (subst (λ t. Does old.step_limit (mode_of old) [] old.now t None CreateTable (Ok (w.tally, new.now))) it.text
+    w.changed)) in
+    inside_next s t base old new c c before h.1 (record {
+      schema = done.0 ∙ it.into;
+      sound = w.sound;
+      means = means_grown s t old.now.trees new.now.trees c (grows old.now.trees new.now.trees (done.1, done.2)) before.holds.means;
+    })
+
+pub span_beside : (base : Database) (old new : State) (c : Content) (count : ℕ) → Inside First base old c → ExecutesInside 0 make_span [] old new (Ok count) → Inside (LessTexts Moved) base new c
+span_beside = beside First (LessTexts Moved) make_span (span_table 0) span_moves refl (λ db next k. record {
+  origin = refl;
+  formats = k.1.0;
+  years = k.1.1.0;
+  spans = k.0;
+  lines = k.1.1.1.1.0;
+  live = λ is. k.1.1.1.0;
+  texts = tt;
+  marks = tt;
+})
+
+pub text_beside : (o : Origin) (base : Database) (old new : State) (c : Content) (count : ℕ) → Inside (LessTexts o) base old c → ExecutesInside 0 make_text [] old new (Ok count) → Inside (LessMarks o) base new c
+text_beside New = beside (LessTexts New) (LessMarks New) make_text (text_table 0) (text_is New) refl (λ db next k. record {
+  origin = refl;
+  formats = k.1.0;
+  years = k.1.1.0;
+  spans = k.1.1.1.0;
+  lines = k.1.1.1.1.0;
+  live = λ is. absurd (true≢false (sym is));
+  texts = k.0;
+  marks = tt;
+})
+text_beside Moved = beside (LessTexts Moved) (LessMarks Moved) make_text (text_table 0) (text_is Moved) refl (λ db next k. record {
+  origin = refl;
+  formats = k.1.0;
+  years = k.1.1.0;
+  spans = k.1.1.1.1.1.0;
+  lines = k.1.1.1.1.0;
+  live = λ is. k.1.1.1.0;
+  texts = k.0;
+  marks = tt;
+})
+
+pub mark_beside : (o : Origin) (base : Database) (old new : State) (c : Content) (count : ℕ) → Inside (LessMarks o) base old c → ExecutesInside 0 make_mark [] old new (Ok count) → Inside (Whole o) base new c
+mark_beside New = beside (LessMarks New) (Whole New) make_mark (mark_table 0) (mark_is New) refl (λ db next k. record {
+  origin = refl;
+  formats = k.1.0;
+  years = k.1.1.0;
+  spans = k.1.1.1.0;
+  lines = k.1.1.1.1.0;
+  live = λ is. absurd (true≢false (sym is));
+  texts = k.1.1.1.1.1.0;
+  marks = k.0;
+})
+mark_beside Moved = beside (LessMarks Moved) (Whole Moved) make_mark (mark_table 0) (mark_is Moved) refl (λ db next k. record {
+  origin = refl;
+  formats = k.1.0;
+  years = k.1.1.0;
+  spans = k.1.1.1.1.1.0;
+  lines = k.1.1.1.1.0;
+  live = λ is. k.1.1.1.0;
+  texts = k.1.1.1.1.1.1.0;
+  marks = k.0;
+})

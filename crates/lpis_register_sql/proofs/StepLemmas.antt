@@ -1,6 +1,6 @@
 -- How the steps of a publication join.
 use Rattle.std.proofs.Common.{◌≡◌, ◌+◌, ℕ, List, [], arith, length, take, refl, sym, ap, subst, ◌∙◌, false, true, Ok, Err, Result, OnOk, inl, inr, IsTrue, ◌⊎◌, IfErr, OnErr}
-use Rattle.lpis_register_sql.proofs.Common.{Trees, Database, State, HasCleanDisk, Survives, state, Error, Content, Shape, no_schema, Inside, IsQuiet, Turns, IsStored, Leaves, Holds}
+use Rattle.lpis_register_sql.proofs.Common.{Trees, Database, State, HasCleanDisk, Survives, state, Error, Content, Layout, Whole, no_schema, Inside, IsQuiet, Turns, IsStored, Leaves, Holds}
 use Rattle.std.proofs.Math.Seq.{take-length}
 use Rattle.sqlite.specs.State.{Shows, KeepsCounts, IsRolledBack}
 use Rattle.sqlite.specs.Steps.{FailsToCommit}
@@ -19,21 +19,21 @@ quiet_on a b c one two = record {
 }
 
 -- one step more of a loop
-pub one_more : (P : Shape → Type 0) (turn : ℕ → Content → Content) (step : Content → Content) (i : ℕ) (old mid now : State) → IsQuiet mid now → Turns P (turn i) old mid (Ok tt)
-    → Turns P step mid now (Ok tt) → ((c : Content) → step (turn i c) ≡ turn (i + 1) c) → Turns P (turn (i + 1)) old now (Ok tt)
-one_more P turn step i old mid now quiet before after next clean shape p base c h =
-    subst (Inside shape base now) (next c) (after clean shape p base (turn i c) (before (omega (arith, quiet.survives.clean)) shape p base c h))
+pub one_more : (turn : ℕ → Content → Content) (step : Content → Content) (i : ℕ) (old mid now : State) → IsQuiet mid now → Turns (turn i) old mid (Ok tt)
+    → Turns step mid now (Ok tt) → ((c : Content) → step (turn i c) ≡ turn (i + 1) c) → Turns (turn (i + 1)) old now (Ok tt)
+one_more turn step i old mid now quiet before after next clean origin base c h =
+    subst (Inside (Whole origin) base now) (next c) (after clean origin base (turn i c) (before (omega (arith, quiet.survives.clean)) origin base c h))
 
 -- and its end
-pub at_end : {Y : Type 0} (P : Shape → Type 0) (turn : List Y → Content → Content) (xs : List Y) (i : ℕ) (old now : State) → i ≡ length xs → Turns P (turn (take i xs)) old now (Ok tt)
-    → Turns P (turn xs) old now (Ok tt)
-at_end P turn xs i old now ends h = subst (λ ys. Turns P (turn ys) old now (Ok tt)) (ap (λ n. take n xs) ends ∙ take-length xs) h
+pub at_end : {Y : Type 0} (turn : List Y → Content → Content) (xs : List Y) (i : ℕ) (old now : State) → i ≡ length xs → Turns (turn (take i xs)) old now (Ok tt)
+    → Turns (turn xs) old now (Ok tt)
+at_end turn xs i old now ends h = subst (λ ys. Turns (turn ys) old now (Ok tt)) (ap (λ n. take n xs) ends ∙ take-length xs) h
 
-pub begun_inside : (s : Shape) {S : Type 0} (g : store.Ghosts S) (old now : Held S) (c : Content) → now ≡ record old { in_transaction = true } → IsStored s (state g old) c
+pub begun_inside : (s : Layout) {S : Type 0} (g : store.Ghosts S) (old now : Held S) (c : Content) → now ≡ record old { in_transaction = true } → IsStored s (state g old) c
     → Inside s (state g old).now (state g now) c
 begun_inside s g old now c begun r = rw begun (record { is_open = r.is_open; in_transaction = refl; base_is = sym r.settled; holds = r.holds })
 
-pub committed : (s : Shape) (base : Database) (last new : State) (c : Content) → Inside s base last c → Shows last new last.now last.now false → IsStored s new c
+pub committed : (s : Layout) (base : Database) (last new : State) (c : Content) → Inside s base last c → Shows last new last.now last.now false → IsStored s new c
 committed s base last new c h shown = record {
   is_open = shown.is_open;
   autocommit = shown.mode;
@@ -41,7 +41,7 @@ committed s base last new c h shown = record {
   holds = subst (λ (d : Database). Holds s d c) (sym shown.now_is) h.holds;
 }
 
-pub rolled_back : (s : Shape) (old last new : State) (c : Content) → IsStored s old c → (IsTrue last.is_open → last.committed ≡ old.committed) → IsRolledBack last new → IsTrue new.is_open
+pub rolled_back : (s : Layout) (old last new : State) (c : Content) → IsStored s old c → (IsTrue last.is_open → last.committed ≡ old.committed) → IsRolledBack last new → IsTrue new.is_open
     → IsStored s new c
 rolled_back s old last new c r kept back up =
     let undone = back.undone up in
@@ -54,7 +54,7 @@ rolled_back s old last new c r kept back up =
     }
 
 -- also where the transaction has changed the order of the tables
-pub refused : (s t : Shape) (base : Database) (old last new : State) (e : Error) (c d : Content) → IsStored s old c → Inside t base last d → base ≡ old.now → FailsToCommit last new e
+pub refused : (s t : Layout) (base : Database) (old last new : State) (e : Error) (c d : Content) → IsStored s old c → Inside t base last d → base ≡ old.now → FailsToCommit last new e
     → IsTrue new.is_open → IsStored s new c
 refused s t base old last new e c d r inside is (inl failed) up = rolled_back s old last new c r (λ _. inside.base_is ∙ is ∙ r.settled) failed.3 up
 refused s t base old last new e c d r inside is (inr late) up = absurd (let t = inside.in_transaction in let f = late.1 in cc)
@@ -62,25 +62,25 @@ refused s t base old last new e c d r inside is (inr late) up = absurd (let t = 
 pub crashed : (old last new : State) (P Q : Trees → Type 0) → Survives old last (λ _. ⊥) → Survives last new P → (HasCleanDisk new → (db : Trees) → P db → Q db) → Survives old new Q
 crashed old last new P Q a b turn = survives_then old last new (λ _. ⊥) P Q (λ _ db none. absurd none) turn a b
 
-pub commit_ok : (s : Shape) (base : Database) (last new : State) (c : Content) → Inside s base last c → (r : Result (Unit {0}) Error)
+pub commit_ok : (s : Layout) (base : Database) (last new : State) (c : Content) → Inside s base last c → (r : Result (Unit {0}) Error)
     → OnOk r (IsTrue last.in_transaction × Shows last new last.now last.now false × KeepsCounts last new × (new.marks ≡ [])) → OnOk r (IsStored s new c)
 commit_ok s base last new c h (Ok _) done = committed s base last new c h done.1
 commit_ok s base last new c h (Err e) done = tt
 
-pub moved_err : (s t : Shape) (base : Database) (old last new : State) (c d : Content) → IsStored s old c → Inside t base last d → base ≡ old.now → IsTrue new.is_open → (r : Result (Unit {0}) Error)
+pub moved_err : (s t : Layout) (base : Database) (old last new : State) (c d : Content) → IsStored s old c → Inside t base last d → base ≡ old.now → IsTrue new.is_open → (r : Result (Unit {0}) Error)
     → IfErr r (FailsToCommit last new) → OnErr r (IsStored s new c)
 moved_err s t base old last new c d r inside is up (Ok _) h = tt
 moved_err s t base old last new c d r inside is up (Err e) h = refused s t base old last new e c d r inside is h up
 
-pub commit_err : (s : Shape) (base : Database) (old last new : State) (c d : Content) → IsStored s old c → Inside s base last d → base ≡ old.now → IsTrue new.is_open → (r : Result (Unit {0}) Error)
+pub commit_err : (s : Layout) (base : Database) (old last new : State) (c d : Content) → IsStored s old c → Inside s base last d → base ≡ old.now → IsTrue new.is_open → (r : Result (Unit {0}) Error)
     → IfErr r (FailsToCommit last new) → OnErr r (IsStored s new c)
 commit_err s = moved_err s s
 
-pub leaves : (s : Shape) (db : Database) (c : Content) → Holds s db c → Leaves s c db.trees
+pub leaves : (s : Layout) (db : Database) (c : Content) → Holds s db c → Leaves s c db.trees
 leaves s db c h = subst (λ it. Holds s (record { schema = it; trees = db.trees }) c) h.schema h
 
 -- right after a commit a crash leaves it and nothing else
-pub durable : (s : Shape) (new : State) (c : Content) → (IsTrue new.is_open → (db : Trees) → new.may_leave db → db ≡ new.committed.trees) → (r : Result (Unit {0}) Error) → OnOk r (IsStored s new c)
+pub durable : (s : Layout) (new : State) (c : Content) → (IsTrue new.is_open → (db : Trees) → new.may_leave db → db ≡ new.committed.trees) → (r : Result (Unit {0}) Error) → OnOk r (IsStored s new c)
     → OnOk r ((db : Trees) → new.may_leave db → Leaves s c db)
 durable s new c law (Err e) h = tt
 durable s new c law (Ok _) h = λ db may. subst (Leaves s c) (ap (λ (d : Database). d.trees) h.settled ∙ sym (law h.is_open db may)) (leaves s new.now c h.holds)
@@ -89,7 +89,7 @@ pub begun_bare : {S : Type 0} (g : store.Ghosts S) (old now : Held S) → now �
 begun_bare g old now begun r = rw begun (record { is_open = r.is_open; in_transaction = refl; base_is = sym r.settled; schema = r.schema; empty = tt })
 
 -- while a connection is open, a crash leaves the last commit
-pub left : (s : Shape) (old new : State) (c : Content) (Q : Trees → Type 0) → IsStored s old c → ((db : Trees) → old.may_leave db → db ≡ old.committed.trees) → Survives old new Q → HasCleanDisk new
+pub left : (s : Layout) (old new : State) (c : Content) (Q : Trees → Type 0) → IsStored s old c → ((db : Trees) → old.may_leave db → db ≡ old.committed.trees) → Survives old new Q → HasCleanDisk new
     → (db : Trees) → new.may_leave db → Leaves s c db ⊎ Q db
 left s old new c Q r law kept clean db may = elim (kept.crash clean db may) [
   | inl was ↦ inl (subst (Leaves s c) (ap (λ (d : Database). d.trees) r.settled ∙ sym (law db was)) (leaves s old.now c r.holds))
@@ -103,7 +103,7 @@ rolled_bare old last new r kept back up =
     let same = undone.0 ∙ kept (back.was_open up) ∙ sym r.settled in
     record { is_open = up; autocommit = back.autocommit; settled = undone.0 ∙ sym undone.1; schema = ap (λ (d : Database). d.schema) same ∙ r.schema }
 
-pub bare_err : (t : Shape) (base : Database) (old last new : State) (d : Content) → IsBare old → Inside t base last d → base ≡ old.now → IsTrue new.is_open → (r : Result (Unit {0}) Error)
+pub bare_err : (t : Layout) (base : Database) (old last new : State) (d : Content) → IsBare old → Inside t base last d → base ≡ old.now → IsTrue new.is_open → (r : Result (Unit {0}) Error)
     → IfErr r (FailsToCommit last new) → OnErr r (IsBare new)
 bare_err t base old last new d r inside is up (Ok _) h = tt
 bare_err t base old last new d r inside is up (Err e) (inl failed) = rolled_bare old last new r (λ _. inside.base_is ∙ is ∙ r.settled) failed.3 up

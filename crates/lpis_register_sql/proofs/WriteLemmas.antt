@@ -2,9 +2,8 @@
 use Rattle.std.proofs.Common.{◌≡◌, ◌≢◌, ◌⊎◌, inl, inr, ℕ, ℤ, List, [], ◌∷◌, length, slice_get, Bool, true, false, cond, Some, None, Ok, Err, Result, refl, sym, ap, subst, ◌∙◌, IsPermutation, is_eq}
 use Rattle.std.proofs.lemmas.Bool.{or_parts}
 use Rattle.std.proofs.Common.{true≢false, if◌then◌else◌, ◌/◌, ◌==◌, Option, MatchBool, flat_map, filter_map, is_lt, int_cmp}
-use Rattle.lpis_register_sql.proofs.Common.{and_parts, not-true, Null, Int, Row, value_cmp, Table, Update, edit_of, is_taken, ids_of, Has, Program, Given, Tally, Does, Database, Mode, Schema, Term}
-use Rattle.lpis_register_sql.proofs.Common.{Trees}
-use Rattle.lpis_register_sql.proofs.Common.{rowid, put_row, Error, understood, State, mode_of, statement_of, runs_as, Shape, New, First, Moved, schema_of, has_spans, has_live, span_tree, AreKeyed}
+use Rattle.lpis_register_sql.proofs.Common.{and_parts, not-true, Null, Int, Row, value_cmp, Table, Update, edit_of, is_taken, ids_of, Has, Program, Given, Tally, Does, Database, Mode, Schema, Term, Trees}
+use Rattle.lpis_register_sql.proofs.Common.{rowid, put_row, Error, understood, State, mode_of, statement_of, runs_as, Origin, New, Moved, Whole, schema_of, is_moved, span_tree, text_tree, mark_tree, AreKeyed}
 use Rattle.std.specs.List.{AllByRecursion}
 use Rattle.std.proofs.lemmas.Cmp.{tied_itself}
 use Rattle.sqlite_value.proofs.OrderLemmas.{value_cmp_total}
@@ -111,59 +110,75 @@ updates limit mode params schema trees text index table q tally after at h =
     }
 
 -- the trees that a step on one table leaves
-pub record Kept (s : Shape) (at : ℕ) (db next : Trees) : Type 0 where
+pub record Kept (o : Origin) (at : ℕ) (db next : Trees) : Type 0 where
   pub formats : (0 ≡ at → ⊥) → next 0 ≡ db 0
   pub years : (1 ≡ at → ⊥) → next 1 ≡ db 1
-  pub spans : has_spans s ≡ true → (span_tree s ≡ at → ⊥) → next (span_tree s) ≡ db (span_tree s)
+  pub spans : (span_tree o ≡ at → ⊥) → next (span_tree o) ≡ db (span_tree o)
   pub lines : (4 ≡ at → ⊥) → next 4 ≡ db 4
-  pub live : has_live s ≡ true → (2 ≡ at → ⊥) → next 2 ≡ db 2
+  pub live : is_moved o ≡ true → (2 ≡ at → ⊥) → next 2 ≡ db 2
+  pub texts : (text_tree o ≡ at → ⊥) → next (text_tree o) ≡ db (text_tree o)
+  pub marks : (mark_tree o ≡ at → ⊥) → next (mark_tree o) ≡ db (mark_tree o)
 
-pub kept_of : (s : Shape) (at : ℕ) (db next : Trees) → AllByRecursion (λ t. t.tree ≢ at → next t.tree ≡ db t.tree) (schema_of s).tables → Kept s at db next
-kept_of New at db next h = record { formats = h.0; years = h.1.0; spans = λ is. h.1.1.0; lines = h.1.1.1.0; live = λ is. absurd (true≢false (sym is)) }
-kept_of First at db next h = record { formats = h.0; years = h.1.0; spans = λ is. absurd (true≢false (sym is)); lines = h.1.1.1.0; live = λ is. h.1.1.0 }
-kept_of Moved at db next h = record { formats = h.0; years = h.1.0; spans = λ is. h.1.1.1.1.0; lines = h.1.1.1.0; live = λ is. h.1.1.0 }
+pub kept_of : (o : Origin) (at : ℕ) (db next : Trees) → AllByRecursion (λ t. t.tree ≢ at → next t.tree ≡ db t.tree) (schema_of (Whole o)).tables → Kept o at db next
+kept_of New at db next h = record {
+  formats = h.0;
+  years = h.1.0;
+  spans = h.1.1.0;
+  lines = h.1.1.1.0;
+  live = λ is. absurd (true≢false (sym is));
+  texts = h.1.1.1.1.0;
+  marks = h.1.1.1.1.1.0;
+}
+kept_of Moved at db next h = record {
+  formats = h.0;
+  years = h.1.0;
+  spans = h.1.1.1.1.0;
+  lines = h.1.1.1.0;
+  live = λ is. h.1.1.0;
+  texts = h.1.1.1.1.1.0;
+  marks = h.1.1.1.1.1.1.0;
+}
 
 -- no foreign key of the register acts
-no_work : (s : Shape) (tree : ℕ) (olds news : List Row) → works (schema_of s) Enforced 0 tree olds news ≡ []
-no_work s tree olds news = go s (length news == 0)
+no_work : (o : Origin) (tree : ℕ) (olds news : List Row) → works (schema_of (Whole o)) Enforced 0 tree olds news ≡ []
+no_work o tree olds news = go o (length news == 0)
   where
-    go : (s : Shape) (b : Bool)
+    go : (o : Origin) (b : Bool)
         → flat_map
         (λ child. filter_map (λ ref. work_by 0 tree (pairs olds news) child ref (deed_for Enforced b ref)
-        (parent_key (schema_of s).tables ref)) child.references) (schema_of s).tables ≡ []
+        (parent_key (schema_of (Whole o)).tables ref)) child.references) (schema_of (Whole o)).tables ≡ []
     go New true = refl
     go New false = refl
-    go First true = refl
-    go First false = refl
     go Moved true = refl
     go Moved false = refl
 
-pub step_of : (s : Shape) (trees next : Trees) (edit : Edit) → Edited (schema_of s) Enforced trees edit (Ok next) → Applies (schema_of s) Enforced trees edit next
-step_of s trees next edit h = one_step (schema_of s) Enforced trees next edit (no_work s edit.table.tree (taken_by trees edit) edit.news) h
+pub step_of : (o : Origin) (trees next : Trees) (edit : Edit) → Edited (schema_of (Whole o)) Enforced trees edit (Ok next) → Applies (schema_of (Whole o)) Enforced trees edit next
+step_of o trees next edit h = one_step (schema_of (Whole o)) Enforced trees next edit (no_work o edit.table.tree (taken_by trees edit) edit.news) h
 
 -- one row more in one table
-pub record Adds (s : Shape) (old new : State) (tree : ℕ) (row : Row) : Type 0 where
-  pub schema : new.now.schema ≡ (schema_of s)
+pub record Adds (o : Origin) (old new : State) (tree : ℕ) (row : Row) : Type 0 where
+  pub schema : new.now.schema ≡ schema_of (Whole o)
   pub sound : IsDatabase new.now
   pub more : IsPermutation (row ∷ old.now.trees tree) (new.now.trees tree)
   pub rows : new.now.trees tree ≡ put_row row (old.now.trees tree)
   pub fresh : is_taken (old.now.trees tree) row ≡ false
-  pub others : Kept s tree old.now.trees new.now.trees
+  pub others : Kept o tree old.now.trees new.now.trees
 
-pub adds : (s : Shape) (sql : List ℕ) (index width : ℕ) (table : Table) (terms : List Term) (params row : Row) (old new : State) (count : ℕ) → old.now.schema ≡ (schema_of s)
-    → slice_get (schema_of s).tables index ≡ Some table → table.is_counted ≡ false
-    → Says s sql (Insert index (Values terms width))
+pub adds : (o : Origin) (sql : List ℕ) (index width : ℕ) (table : Table) (terms : List Term) (params row : Row) (old new : State) (count : ℕ) → old.now.schema ≡ schema_of (Whole o)
+    → slice_get (schema_of (Whole o)).tables index ≡ Some table → table.is_counted ≡ false
+    → Says o sql (Insert index (Values terms width))
     → (edit_of old.now.trees table [] Chosen 0 (value_rows (stamped table params) width (length terms / width) terms)).news ≡ row ∷ []
-    → Executes sql params old new (Ok count) → Adds s old new table.tree row
-adds s sql index width table terms params row old new count has at plain_key means news h =
+    → Executes sql params old new (Ok count) → Adds o old new table.tree row
+adds o sql index width table terms params row old new count has at plain_key means news h =
+    let s = schema_of (Whole o) in
     let db = old.now.trees in
-    let w = runs_as sql params old new (schema_of s) has (Insert index (Values terms width)) means.0 means.1 count h in
-    let text = statement_of sql (understood (schema_of s) sql) in
-    let made = inserts old.step_limit (mode_of old) params (schema_of s) db text index table terms width w.tally new.now
+    let w = runs_as sql params old new s has (Insert index (Values terms width)) means.0 means.1 count h in
+    let text = statement_of sql (understood s sql) in
+    let made = inserts old.step_limit (mode_of old) params s db text index table terms width w.tally new.now
     at plain_key
     (subst (λ s. Does old.step_limit (mode_of old) params (record old.now { schema = s }) text None
     (Insert index (Values terms width)) (Ok (w.tally, new.now))) has w.changed) in
-    let step = step_of s db new.now.trees _ made.1 in
+    let step = step_of o db new.now.trees _ made.1 in
     let free : is_taken (db table.tree) row ≡ false = not-true _ (and_parts _ _ (subst (λ n. are_fresh (db table.tree) n ≡ true) news step.fresh)).0 in
     let rows : new.now.trees table.tree ≡ put_row row (db table.tree) = step.rows ∙ ap (λ n. put_all (db table.tree) n) news in
     record {
@@ -172,7 +187,7 @@ adds s sql index width table terms params row old new count has at plain_key mea
       more = subst (IsPermutation (row ∷ db table.tree)) (sym rows) (put_more row (db table.tree) free);
       rows = rows;
       fresh = free;
-      others = kept_of s table.tree db new.now.trees step.tables;
+      others = kept_of o table.tree db new.now.trees step.tables;
     }
 
 -- a fresh row with a number keeps the rowids apart

@@ -7,8 +7,10 @@ use Rattle.sqlite.specs.Tree.{Trees, rowid}
 use Rattle.sqlite_rules.specs.Lists.{Has}
 use Rattle.sqlite.specs.Effect.{Database, IsDatabase}
 use Rattle.sqlite.specs.State.{State}
-use Rattle.lpis_register_rows.specs.Content.{Format, StoredSpan, Line, Live, Content}
-use Rattle.lpis_register_sql.specs.Shapes.{Shape, schema_of, has_spans, has_live, span_tree}
+use Rattle.lpis_register_rows.specs.Content.{Format, StoredSpan, Line, Live, StoredText, Mark}
+use Rattle.lpis_register_rows.specs.Content.{Content}
+use Rattle.lpis_register_sql.specs.Layouts.{Layout, schema_of, origin_of, has_spans, has_live}
+use Rattle.lpis_register_sql.specs.Layouts.{has_texts, has_marks, span_tree, text_tree, mark_tree}
 
 -- ---- rows as the tables keep them: whole where the key is the rowid, else less the rowid
 
@@ -27,6 +29,12 @@ line_row l = Int l.year ∷ Int l.position ∷ Text l.old ∷ Text l.new ∷ []
 abbrev pub live_row : Live → Row
 live_row l = Int l.year ∷ Text l.id ∷ []
 
+abbrev pub text_row : StoredText → Row
+text_row t = Text t.id ∷ Text t.wkt ∷ []
+
+abbrev pub mark_row : Mark → Row
+mark_row m = Int m.year ∷ Int m.position ∷ []
+
 -- each rowid is a number, and no two rows have one
 pub record AreKeyed (rows : List Row) : Type 0 where
   pub whole : (x : Row) → Has rows x → (n : ℤ) × (rowid x ≡ Int n)
@@ -37,25 +45,27 @@ abbrev pub Keeps : {X : Type 0} → Bool → (X → Row) → List X → List Row
 Keeps true row xs rows = IsPermutation (map row xs) (map (drop 1) rows) × AreKeyed rows
 Keeps false row xs rows = xs ≡ []
 
-pub record Means (s : Shape) (trees : Trees) (c : Content) : Type 0 where
+pub record Means (s : Layout) (trees : Trees) (c : Content) : Type 0 where
   pub formats_are : IsPermutation (map format_row c.formats) (trees 0)
   pub years_are : IsPermutation (map year_row c.years) (trees 1)
-  pub spans_are : Keeps (has_spans s) span_row c.spans (trees (span_tree s))
+  pub spans_are : Keeps (has_spans s) span_row c.spans (trees (span_tree (origin_of s)))
   pub lines_are : IsPermutation (map line_row c.lines) (map (drop 1) (trees 4))
   pub live_are : Keeps (has_live s) live_row c.live (trees 2)
+  pub texts_are : Keeps (has_texts s) text_row c.texts (trees (text_tree (origin_of s)))
+  pub marks_are : Keeps (has_marks s) mark_row c.marks (trees (mark_tree (origin_of s)))
 
-pub record Holds (s : Shape) (db : Database) (c : Content) : Type 0 where
+pub record Holds (s : Layout) (db : Database) (c : Content) : Type 0 where
   pub schema : db.schema ≡ schema_of s
   pub sound : IsDatabase db
   pub means : Means s db.trees c
 
 -- no transaction is open, and the last commit holds this, the tables in this order
-pub record IsStored (s : Shape) (st : State) (c : Content) : Type 0 where
+pub record IsStored (s : Layout) (st : State) (c : Content) : Type 0 where
   pub is_open : IsTrue st.is_open
   pub autocommit : st.in_transaction ≡ false
   pub settled : st.now ≡ st.committed
   pub holds : Holds s st.now c
 
 -- a crash leaves this
-abbrev pub Leaves : Shape → Content → Trees → Type 0
+abbrev pub Leaves : Layout → Content → Trees → Type 0
 Leaves s c trees = Holds s (record { schema = schema_of s; trees = trees }) c

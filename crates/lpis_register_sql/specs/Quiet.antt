@@ -1,27 +1,31 @@
 -- What reading answers, and what it leaves.
-use Rattle.std.specs.Prelude.{◌≡◌, Bool, Result, IfOk, IsTrue}
+use Rattle.std.specs.Prelude.{◌≡◌, Result, IfOk, IsTrue}
 use Rattle.sqlite.specs.Tree.{Trees}
 use Rattle.sqlite.specs.State.{State, HasCleanDisk, Survives}
 use Rattle.lpis_register_rows.specs.Content.{Content}
-use Rattle.lpis_register_sql.specs.Shapes.{Shape, has_spans, has_live}
+use Rattle.lpis_register_sql.specs.declared.found.Found.{Found}
+use Rattle.lpis_register_sql.specs.Layouts.{Layout, has_spans, has_live, has_texts, has_marks}
 use Rattle.lpis_register_sql.specs.Holding.{IsStored}
 
 -- a crash leaves nothing new of a database that holds rows of the register, its tables in such an
 -- order
-abbrev pub LeavesNone : (Shape → Type 0) → State → Trees → Type 0
-LeavesNone P old trees = (shape : Shape) → P shape → (c : Content) → IsStored shape old c → ⊥
+abbrev pub LeavesNone : (Layout → Type 0) → State → Trees → Type 0
+LeavesNone P old trees = (layout : Layout) → P layout → (c : Content) → IsStored layout old c → ⊥
 
--- the order has `lpis_span`, and it has `lpis_live`, as these say
-abbrev pub IsWith : Bool → Bool → Shape → Type 0
-IsWith spans lives shape = (spans ≡ has_spans shape) × (lives ≡ has_live shape)
+-- the tables that were found are those of this order, and no others
+pub record IsFound (found : Found) (layout : Layout) : Type 0 where
+  pub spans : found.spans ≡ has_spans layout
+  pub lives : found.lives ≡ has_live layout
+  pub texts : found.texts ≡ has_texts layout
+  pub marks : found.marks ≡ has_marks layout
 
 -- a call that reads a database that holds rows of the register, its tables in such an order, and
 -- answers what those rows say
-pub record Reads {X E : Type 0} (P : Shape → Type 0) (Says : Content → X → Type 0)
+pub record Reads {X E : Type 0} (P : Layout → Type 0) (Says : Content → X → Type 0)
     (old new : State) (r : Result X E) : Type 0 where
-  pub ok : HasCleanDisk new → (shape : Shape) → P shape → (c : Content) → IsStored shape old c
-      → IfOk r (λ x. Says c x × IsStored shape new c)
+  pub ok : HasCleanDisk new → (layout : Layout) → P layout → (c : Content) → IsStored layout old c
+      → IfOk r (λ x. Says c x × IsStored layout new c)
   -- the rows stay, also where it fails, unless the database is shut
-  pub same : HasCleanDisk new → IsTrue new.is_open → (shape : Shape) → P shape → (c : Content)
-      → IsStored shape old c → IsStored shape new c
+  pub same : HasCleanDisk new → IsTrue new.is_open → (layout : Layout) → P layout → (c : Content)
+      → IsStored layout old c → IsStored layout new c
   pub survives : Survives old new (LeavesNone P old)

@@ -1,48 +1,65 @@
 //! The tables, read.
 
-ghost use Rattle.std.specs.Prelude.{◌≡◌, true, false};
+ghost use Rattle.std.specs.Prelude.{◌≡◌, true, false, IsPermutation};
 ghost use Rattle.sqlite.specs.Held.{state};
-ghost use Rattle.lpis_register_rows.specs.Content.{without_live};
+ghost use Rattle.lpis_register_rows.specs.Content.{without_live, without_texts};
 ghost use Rattle.lpis_register_rows.specs.Tells.{IsSameContent};
-ghost use Rattle.lpis_register_sql.specs.Shapes.{has_spans};
-ghost use Rattle.lpis_register_sql.specs.Quiet.{IsWith, Reads};
+ghost use Rattle.lpis_register_sql.specs.Layouts.{has_marks};
+ghost use Rattle.lpis_register_sql.specs.Quiet.{IsFound, Reads};
 
+use crate::found::Found;
 use crate::reading::load_rows;
-use lpis_register_rows::{FormatRow, LineRow, LiveRow, Rows, SpanRow};
+use lpis_register_rows::{FormatRow, LineRow, LiveRow, MarkRow, Rows, SpanRow, TextRow};
 use sqlite::{Alter, Connection, Error};
 use std::alloc::Global;
 
-/// The rows of the tables of version 2.
+/// The rows of the tables of version 3 that say the history.
 pub fn load<S: Alter>(alloc: Global, conn: &mut Connection<S>) -> Result<Rows, Error>
     requires autocommit { conn.old.in_transaction ≡ false }
     ensures autocommit { conn.new.in_transaction ≡ false }
-    ensures reads { Reads (λ shape. has_spans shape ≡ true)
-        (λ c. IsSameContent (without_live c)) (state S.Store conn.old) (state S.Store conn.new)
-        result }
+    ensures reads { Reads (λ layout. has_marks layout ≡ true)
+        (λ c. IsSameContent (without_texts (without_live c))) (state S.Store conn.old)
+        (state S.Store conn.new) result }
 {
     let formats: Vec<FormatRow> = load_rows(alloc, conn, true)?;
     let years: Vec<i64> = load_rows(alloc, conn, true)?;
     let spans: Vec<SpanRow> = load_rows(alloc, conn, true)?;
     let lines: Vec<LineRow> = load_rows(alloc, conn, true)?;
-    Ok(Rows::new(formats, years, spans, lines, Vec::new(alloc)))
+    let marks: Vec<MarkRow> = load_rows(alloc, conn, true)?;
+    Ok(Rows::new(formats, years, spans, lines, Vec::new(alloc), marks))
 }
 
-/// The rows of the tables that are there.
+/// The rows of the tables that were found, but for the texts.
 pub fn load_found<S: Alter>(
     alloc: Global,
     conn: &mut Connection<S>,
-    spans_there: bool,
-    lives_there: bool,
+    found: &Found,
 ) -> Result<Rows, Error>
     requires autocommit { conn.old.in_transaction ≡ false }
     ensures autocommit { conn.new.in_transaction ≡ false }
-    ensures reads { Reads (IsWith spans_there lives_there) IsSameContent (state S.Store conn.old)
-        (state S.Store conn.new) result }
+    ensures reads { Reads (IsFound found.now) (λ c. IsSameContent (without_texts c))
+        (state S.Store conn.old) (state S.Store conn.new) result }
 {
     let formats: Vec<FormatRow> = load_rows(alloc, conn, true)?;
     let years: Vec<i64> = load_rows(alloc, conn, true)?;
-    let spans: Vec<SpanRow> = load_rows(alloc, conn, spans_there)?;
+    let spans: Vec<SpanRow> = load_rows(alloc, conn, found.spans)?;
     let lines: Vec<LineRow> = load_rows(alloc, conn, true)?;
-    let lives: Vec<LiveRow> = load_rows(alloc, conn, lives_there)?;
-    Ok(Rows::new(formats, years, spans, lines, lives))
+    let lives: Vec<LiveRow> = load_rows(alloc, conn, found.lives)?;
+    let marks: Vec<MarkRow> = load_rows(alloc, conn, found.marks)?;
+    Ok(Rows::new(formats, years, spans, lines, lives, marks))
+}
+
+/// The texts of shapes, where their table was found.
+pub fn load_texts<S: Alter>(
+    alloc: Global,
+    conn: &mut Connection<S>,
+    found: &Found,
+) -> Result<Vec<TextRow>, Error>
+    requires autocommit { conn.old.in_transaction ≡ false }
+    ensures autocommit { conn.new.in_transaction ≡ false }
+    ensures reads { Reads (IsFound found.now)
+        (λ c texts. IsPermutation c.texts texts.items) (state S.Store conn.old)
+        (state S.Store conn.new) result }
+{
+    load_rows(alloc, conn, found.texts)
 }

@@ -1,25 +1,30 @@
-//! Moving a database of version 1 to version 2, in one transaction.
+//! Moving a database of version 1 or 2 to version 3, in one transaction.
 
-ghost use Rattle.std.specs.Prelude.{◌≡◌, pos, true, false, IsTrue, OnOk, OnErr};
+ghost use Rattle.std.specs.Prelude.{◌≡◌, pos, false, IsTrue, OnOk, OnErr};
 ghost use Rattle.sqlite.specs.Held.{state};
 ghost use Rattle.sqlite.specs.State.{HasCleanDisk, Survives};
-ghost use Rattle.lpis_register_rows.specs.Content.{moved, with_version, with_whole_span};
-ghost use Rattle.lpis_register_rows.specs.Content.{with_whole_spans, without_live, without_spans};
+ghost use Rattle.lpis_register_rows.specs.Content.{in_spans, moved, raised, with_version};
+ghost use Rattle.lpis_register_rows.specs.Content.{with_whole_span, with_whole_spans};
+ghost use Rattle.lpis_register_rows.specs.Content.{without_live, without_spans};
 ghost use Rattle.lpis_register_rows.specs.Tells.{only_format};
-ghost use Rattle.lpis_register_sql.specs.Shapes.{First, Moved, has_live, has_spans, with_span_table};
+ghost use Rattle.lpis_register_sql.specs.Layouts.{Moved, Whole, is_moved, made_whole};
+ghost use Rattle.lpis_register_sql.specs.Quiet.{IsFound};
 ghost use Rattle.lpis_register_sql.specs.private.Inside.{Inside, IsQuiet, Turns};
 ghost use Rattle.lpis_register_sql.specs.Holding.{IsStored};
 ghost use Rattle.lpis_register_sql.specs.private.Lines.{span_at};
-ghost use Rattle.lpis_register_sql.specs.Commits.{LeavesBeside, LeavesMoved};
+ghost use Rattle.lpis_register_sql.specs.Commits.{LeavesBeside, LeavesMoved, LeavesRaised};
 
-use crate::tables::make_span;
+use crate::completing::complete;
+use crate::found::Found;
+use crate::marks::clear_marks;
+use crate::texts::clear_texts;
 use lpis_register_rows::SpanRow;
 use sqlite::{Alter, Connection, Error, Transaction, params};
 
 /// No span is left.
 fn clear_spans<S: Alter>(tx: &mut Transaction<'_, S>) -> Result<(), Error>
     ensures same_reference { tx.new.conn.ghost_name ≡ tx.old.conn.ghost_name }
-    ensures cleared { Turns (λ shape. has_spans shape ≡ true) without_spans
+    ensures cleared { Turns without_spans
         (state S.Store tx.old.conn.now) (state S.Store tx.new.conn.now) result }
     ensures quiet { IsQuiet (state S.Store tx.old.conn.now) (state S.Store tx.new.conn.now) }
 {
@@ -30,24 +35,26 @@ fn clear_spans<S: Alter>(tx: &mut Transaction<'_, S>) -> Result<(), Error>
 /// Nothing is left of what version 1 has in place of spans.
 fn clear_lives<S: Alter>(tx: &mut Transaction<'_, S>) -> Result<(), Error>
     ensures same_reference { tx.new.conn.ghost_name ≡ tx.old.conn.ghost_name }
-    ensures cleared { Turns (λ shape. has_live shape ≡ true) without_live
-        (state S.Store tx.old.conn.now) (state S.Store tx.new.conn.now) result }
+    ensures cleared { HasCleanDisk (state S.Store tx.new.conn.now) → (base : _) (c : _)
+        → Inside (Whole Moved) base (state S.Store tx.old.conn.now) c
+        → OnOk result (Inside (Whole Moved) base (state S.Store tx.new.conn.now) (without_live c)) }
     ensures quiet { IsQuiet (state S.Store tx.old.conn.now) (state S.Store tx.new.conn.now) }
 {
     tx.execute("DELETE FROM lpis_live", &[])?;
     Ok(())
 }
 
-/// The version is 2.
+/// The version is 3.
 fn set_version<S: Alter>(tx: &mut Transaction<'_, S>) -> Result<(), Error>
     ensures same_reference { tx.new.conn.ghost_name ≡ tx.old.conn.ghost_name }
-    ensures set { HasCleanDisk (state S.Store tx.new.conn.now) → (shape : _) → (base : _) (c : _)
-        → c.formats ≡ only_format 1
-        → Inside shape base (state S.Store tx.old.conn.now) c
-        → OnOk result (Inside shape base (state S.Store tx.new.conn.now) (with_version (pos 2) c)) }
+    ensures set { HasCleanDisk (state S.Store tx.new.conn.now) → (origin : _) (base : _) (c : _)
+        → (version : _) → c.formats ≡ only_format version
+        → Inside (Whole origin) base (state S.Store tx.old.conn.now) c
+        → OnOk result (Inside (Whole origin) base (state S.Store tx.new.conn.now)
+        (with_version (pos 3) c)) }
     ensures quiet { IsQuiet (state S.Store tx.old.conn.now) (state S.Store tx.new.conn.now) }
 {
-    tx.execute("UPDATE lpis_format SET version = 2", &[])?;
+    tx.execute("UPDATE lpis_format SET version = 3", &[])?;
     Ok(())
 }
 
@@ -59,7 +66,7 @@ fn insert_span_at<S: Alter>(
     until: i64,
 ) -> Result<(), Error>
     ensures same_reference { tx.new.conn.ghost_name ≡ tx.old.conn.ghost_name }
-    ensures adds { Turns (λ shape. has_spans shape ≡ true) (λ c. with_whole_span c
+    ensures adds { Turns (λ c. with_whole_span c
         (span_at id.now since until)) (state S.Store tx.old.conn.now)
         (state S.Store tx.new.conn.now) result }
     ensures quiet { IsQuiet (state S.Store tx.old.conn.now) (state S.Store tx.new.conn.now) }
@@ -74,7 +81,7 @@ fn insert_span_at<S: Alter>(
 /// One more span.
 fn insert_whole_span<S: Alter>(tx: &mut Transaction<'_, S>, span: &SpanRow) -> Result<(), Error>
     ensures same_reference { tx.new.conn.ghost_name ≡ tx.old.conn.ghost_name }
-    ensures adds { Turns (λ shape. has_spans shape ≡ true) (λ c. with_whole_span c span.now)
+    ensures adds { Turns (λ c. with_whole_span c span.now)
         (state S.Store tx.old.conn.now) (state S.Store tx.new.conn.now) result }
     ensures quiet { IsQuiet (state S.Store tx.old.conn.now) (state S.Store tx.new.conn.now) }
 {
@@ -87,7 +94,7 @@ fn insert_whole_span<S: Alter>(tx: &mut Transaction<'_, S>, span: &SpanRow) -> R
 /// Spans, in this order.
 fn insert_whole_spans<S: Alter>(tx: &mut Transaction<'_, S>, spans: &[SpanRow]) -> Result<(), Error>
     ensures same_reference { tx.new.conn.ghost_name ≡ tx.old.conn.ghost_name }
-    ensures adds { Turns (λ shape. has_spans shape ≡ true) (with_whole_spans spans.now)
+    ensures adds { Turns (with_whole_spans spans.now)
         (state S.Store tx.old.conn.now) (state S.Store tx.new.conn.now) result }
     ensures quiet { IsQuiet (state S.Store tx.old.conn.now) (state S.Store tx.new.conn.now) }
 {
@@ -97,98 +104,145 @@ fn insert_whole_spans<S: Alter>(tx: &mut Transaction<'_, S>, spans: &[SpanRow]) 
     Ok(())
 }
 
-/// The table of spans, empty: it is made, or its rows go.
-fn empty_spans<S: Alter>(tx: &mut Transaction<'_, S>, there: bool) -> Result<(), Error>
-    ensures same_reference { tx.new.conn.ghost_name ≡ tx.old.conn.ghost_name }
-    ensures emptied { HasCleanDisk (state S.Store tx.new.conn.now) → (shape : _)
-        → there ≡ has_spans shape → (base : _) (c : _)
-        → Inside shape base (state S.Store tx.old.conn.now) c
-        → OnOk result (Inside (with_span_table shape) base (state S.Store tx.new.conn.now)
-        (without_spans c)) }
-    ensures quiet { IsQuiet (state S.Store tx.old.conn.now) (state S.Store tx.new.conn.now) }
-{
-    if there {
-        clear_spans(tx)
-    } else {
-        make_span(tx)
-    }
-}
-
 /// Nothing is left in `lpis_live`, where it is there.
 fn empty_lives<S: Alter>(tx: &mut Transaction<'_, S>, there: bool) -> Result<(), Error>
     ensures same_reference { tx.new.conn.ghost_name ≡ tx.old.conn.ghost_name }
-    ensures emptied { Turns (λ shape. there ≡ has_live shape) without_live
-        (state S.Store tx.old.conn.now) (state S.Store tx.new.conn.now) result }
+    ensures emptied { HasCleanDisk (state S.Store tx.new.conn.now) → (origin : _)
+        → there ≡ is_moved origin → (base : _) (c : _)
+        → Inside (Whole origin) base (state S.Store tx.old.conn.now) c
+        → OnOk result (Inside (Whole origin) base (state S.Store tx.new.conn.now)
+        (without_live c)) }
     ensures quiet { IsQuiet (state S.Store tx.old.conn.now) (state S.Store tx.new.conn.now) }
 {
     if there { clear_lives(tx) } else { Ok(()) }
 }
 
-/// These spans in place of any, no live rows, version 2.
-fn fill_moved<S: Alter>(
+/// These spans in place of any, and no live rows.
+fn put_in_spans<S: Alter>(
     tx: &mut Transaction<'_, S>,
-    spans_there: bool,
     lives_there: bool,
     spans: &[SpanRow],
 ) -> Result<(), Error>
     ensures same_reference { tx.new.conn.ghost_name ≡ tx.old.conn.ghost_name }
-    ensures moved { HasCleanDisk (state S.Store tx.new.conn.now) → (shape : _)
-        → spans_there ≡ has_spans shape → lives_there ≡ has_live shape
-        → (base : _) (c : _) → c.formats ≡ only_format 1
-        → Inside shape base (state S.Store tx.old.conn.now) c
-        → OnOk result (Inside (with_span_table shape) base (state S.Store tx.new.conn.now)
-        (moved spans.now c)) }
+    ensures put { HasCleanDisk (state S.Store tx.new.conn.now) → (origin : _)
+        → lives_there ≡ is_moved origin → (base : _) (c : _)
+        → Inside (Whole origin) base (state S.Store tx.old.conn.now) c
+        → OnOk result (Inside (Whole origin) base (state S.Store tx.new.conn.now)
+        (in_spans spans.now c)) }
     ensures quiet { IsQuiet (state S.Store tx.old.conn.now) (state S.Store tx.new.conn.now) }
 {
-    empty_spans(tx, spans_there)?;
+    clear_spans(tx)?;
     insert_whole_spans(tx, spans)?;
-    empty_lives(tx, lives_there)?;
+    empty_lives(tx, lives_there)
+}
+
+/// Version 3, with no text and no mark.
+fn raise<S: Alter>(tx: &mut Transaction<'_, S>) -> Result<(), Error>
+    ensures same_reference { tx.new.conn.ghost_name ≡ tx.old.conn.ghost_name }
+    ensures raised { HasCleanDisk (state S.Store tx.new.conn.now) → (origin : _) (base : _) (c : _)
+        → (version : _) → c.formats ≡ only_format version
+        → Inside (Whole origin) base (state S.Store tx.old.conn.now) c
+        → OnOk result (Inside (Whole origin) base (state S.Store tx.new.conn.now) (raised c)) }
+    ensures quiet { IsQuiet (state S.Store tx.old.conn.now) (state S.Store tx.new.conn.now) }
+{
+    clear_texts(tx)?;
+    clear_marks(tx)?;
     set_version(tx)
 }
 
-/// Moves tables of version 1 to version 2 in one transaction, or leaves them as they are.
+/// The steps from version 1 to version 3.
+fn fill_moved<S: Alter>(
+    tx: &mut Transaction<'_, S>,
+    found: &Found,
+    spans: &[SpanRow],
+) -> Result<(), Error>
+    ensures same_reference { tx.new.conn.ghost_name ≡ tx.old.conn.ghost_name }
+    ensures moved { HasCleanDisk (state S.Store tx.new.conn.now) → (layout : _)
+        → IsFound found.now layout → (base : _) (c : _) → c.formats ≡ only_format 1
+        → Inside layout base (state S.Store tx.old.conn.now) c
+        → OnOk result (Inside (made_whole layout) base (state S.Store tx.new.conn.now)
+        (moved spans.now c)) }
+    ensures quiet { IsQuiet (state S.Store tx.old.conn.now) (state S.Store tx.new.conn.now) }
+{
+    complete(tx, found)?;
+    put_in_spans(tx, found.lives, spans)?;
+    raise(tx)
+}
+
+/// The steps from version 2 to version 3.
+fn fill_raised<S: Alter>(tx: &mut Transaction<'_, S>, found: &Found) -> Result<(), Error>
+    ensures same_reference { tx.new.conn.ghost_name ≡ tx.old.conn.ghost_name }
+    ensures raised { HasCleanDisk (state S.Store tx.new.conn.now) → (layout : _)
+        → IsFound found.now layout → (base : _) (c : _) → c.formats ≡ only_format 2
+        → Inside layout base (state S.Store tx.old.conn.now) c
+        → OnOk result (Inside (made_whole layout) base (state S.Store tx.new.conn.now)
+        (raised c)) }
+    ensures quiet { IsQuiet (state S.Store tx.old.conn.now) (state S.Store tx.new.conn.now) }
+{
+    complete(tx, found)?;
+    raise(tx)
+}
+
+/// Moves tables of version 1 to version 3 in one transaction, or leaves them as they are.
 pub fn write_moved<S: Alter>(
     conn: &mut Connection<S>,
-    spans_there: bool,
-    lives_there: bool,
+    found: &Found,
     spans: &[SpanRow],
 ) -> Result<(), Error>
     requires autocommit { conn.old.in_transaction ≡ false }
     ensures autocommit { conn.new.in_transaction ≡ false }
-    ensures ok { HasCleanDisk (state S.Store conn.new) → (shape : _)
-        → spans_there ≡ has_spans shape → lives_there ≡ has_live shape → (c : _)
-        → c.formats ≡ only_format 1 → IsStored shape (state S.Store conn.old) c
-        → OnOk result (IsStored (with_span_table shape) (state S.Store conn.new)
-        (moved spans.now c)) }
+    ensures ok { HasCleanDisk (state S.Store conn.new) → (layout : _) → IsFound found.now layout
+        → (c : _) → c.formats ≡ only_format 1 → IsStored layout (state S.Store conn.old) c
+        → OnOk result (IsStored (made_whole layout) (state S.Store conn.new) (moved spans.now c)) }
     ensures err { HasCleanDisk (state S.Store conn.new) → IsTrue (state S.Store conn.new).is_open
-        → (shape : _) → spans_there ≡ has_spans shape
-        → lives_there ≡ has_live shape → (c : _) → c.formats ≡ only_format 1
-        → IsStored shape (state S.Store conn.old) c
-        → OnErr result (IsStored shape (state S.Store conn.new) c) }
+        → (layout : _) → IsFound found.now layout → (c : _) → c.formats ≡ only_format 1
+        → IsStored layout (state S.Store conn.old) c
+        → OnErr result (IsStored layout (state S.Store conn.new) c) }
     ensures clean { HasCleanDisk (state S.Store conn.new) → HasCleanDisk (state S.Store conn.old) }
     ensures crash { Survives (state S.Store conn.old) (state S.Store conn.new)
-        (LeavesMoved spans_there lives_there spans.now (state S.Store conn.old)) }
+        (LeavesMoved found.now spans.now (state S.Store conn.old)) }
 {
     let mut tx = conn.transaction();
-    fill_moved(&mut tx, spans_there, lives_there, spans)?;
+    fill_moved(&mut tx, found, spans)?;
     tx.commit()
 }
 
-/// Makes the table of spans beside those of version 1, in one transaction.
-pub fn add_spans<S: Alter>(conn: &mut Connection<S>) -> Result<(), Error>
+/// Moves tables of version 2 to version 3 in one transaction, or leaves them as they are.
+pub fn write_raised<S: Alter>(conn: &mut Connection<S>, found: &Found) -> Result<(), Error>
     requires autocommit { conn.old.in_transaction ≡ false }
     ensures autocommit { conn.new.in_transaction ≡ false }
-    ensures ok { HasCleanDisk (state S.Store conn.new) → (c : _)
-        → IsStored First (state S.Store conn.old) c
-        → OnOk result (IsStored Moved (state S.Store conn.new) c) }
+    ensures ok { HasCleanDisk (state S.Store conn.new) → (layout : _) → IsFound found.now layout
+        → (c : _) → c.formats ≡ only_format 2 → IsStored layout (state S.Store conn.old) c
+        → OnOk result (IsStored (made_whole layout) (state S.Store conn.new) (raised c)) }
     ensures err { HasCleanDisk (state S.Store conn.new) → IsTrue (state S.Store conn.new).is_open
-        → (c : _) → IsStored First (state S.Store conn.old) c
-        → OnErr result (IsStored First (state S.Store conn.new) c) }
+        → (layout : _) → IsFound found.now layout → (c : _) → c.formats ≡ only_format 2
+        → IsStored layout (state S.Store conn.old) c
+        → OnErr result (IsStored layout (state S.Store conn.new) c) }
     ensures clean { HasCleanDisk (state S.Store conn.new) → HasCleanDisk (state S.Store conn.old) }
     ensures crash { Survives (state S.Store conn.old) (state S.Store conn.new)
-        (LeavesBeside (state S.Store conn.old)) }
+        (LeavesRaised found.now (state S.Store conn.old)) }
 {
     let mut tx = conn.transaction();
-    make_span(&mut tx)?;
+    fill_raised(&mut tx, found)?;
+    tx.commit()
+}
+
+/// Makes the tables of version 3 that are not there, in one transaction.
+pub fn write_missing<S: Alter>(conn: &mut Connection<S>, found: &Found) -> Result<(), Error>
+    requires autocommit { conn.old.in_transaction ≡ false }
+    ensures autocommit { conn.new.in_transaction ≡ false }
+    ensures ok { HasCleanDisk (state S.Store conn.new) → (layout : _) → IsFound found.now layout
+        → (c : _) → IsStored layout (state S.Store conn.old) c
+        → OnOk result (IsStored (made_whole layout) (state S.Store conn.new) c) }
+    ensures err { HasCleanDisk (state S.Store conn.new) → IsTrue (state S.Store conn.new).is_open
+        → (layout : _) → IsFound found.now layout → (c : _)
+        → IsStored layout (state S.Store conn.old) c
+        → OnErr result (IsStored layout (state S.Store conn.new) c) }
+    ensures clean { HasCleanDisk (state S.Store conn.new) → HasCleanDisk (state S.Store conn.old) }
+    ensures crash { Survives (state S.Store conn.old) (state S.Store conn.new)
+        (LeavesBeside found.now (state S.Store conn.old)) }
+{
+    let mut tx = conn.transaction();
+    complete(&mut tx, found)?;
     tx.commit()
 }

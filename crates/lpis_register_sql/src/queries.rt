@@ -1,7 +1,7 @@
 //! The queries, one a table.
 
 use crate::reading::Stored;
-use lpis_register_rows::{FormatRow, LineRow, LiveRow, SpanRow};
+use lpis_register_rows::{FormatRow, LineRow, LiveRow, MarkRow, SpanRow, TextRow};
 use sqlite::{Alter, Connection, Error, Row};
 
 impl Stored for FormatRow {
@@ -13,7 +13,7 @@ impl Stored for FormatRow {
 
     ghost shown = { format_shown };
 
-    ghost has_table = { λ shape. true };
+    ghost has_table = { λ layout. true };
 
     fn query<S: Alter>(conn: &mut Connection<S>) -> Result<Vec<Row>, Error> {
         conn.query_all("SELECT one, version FROM lpis_format", &[])
@@ -38,7 +38,7 @@ impl Stored for i64 {
 
     ghost shown = { year_shown };
 
-    ghost has_table = { λ shape. true };
+    ghost has_table = { λ layout. true };
 
     fn query<S: Alter>(conn: &mut Connection<S>) -> Result<Vec<Row>, Error> {
         conn.query_all("SELECT year FROM lpis_release ORDER BY year", &[])
@@ -54,7 +54,7 @@ impl Stored for i64 {
 impl Stored for SpanRow {
     ghost use Rattle.std.proofs.Common.{rules};
     ghost use Rattle.lpis_register_sql.specs.private.Shown.{span_shown};
-    ghost use Rattle.lpis_register_sql.specs.Shapes.{has_spans};
+    ghost use Rattle.lpis_register_sql.specs.Layouts.{has_spans};
 
     ghost rows = { λ c. c.spans };
 
@@ -85,7 +85,7 @@ impl Stored for LineRow {
 
     ghost shown = { line_shown };
 
-    ghost has_table = { λ shape. true };
+    ghost has_table = { λ layout. true };
 
     fn query<S: Alter>(conn: &mut Connection<S>) -> Result<Vec<Row>, Error> {
         conn.query_all(
@@ -108,7 +108,7 @@ impl Stored for LineRow {
 impl Stored for LiveRow {
     ghost use Rattle.std.proofs.Common.{rules};
     ghost use Rattle.lpis_register_sql.specs.private.Shown.{live_shown};
-    ghost use Rattle.lpis_register_sql.specs.Shapes.{has_live};
+    ghost use Rattle.lpis_register_sql.specs.Layouts.{has_live};
 
     ghost rows = { λ c. c.live };
 
@@ -124,6 +124,54 @@ impl Stored for LiveRow {
         let year = row.get(0)?;
         let id = row.get(1)?;
         Ok(LiveRow::new(year, id))
+    }
+
+    ghost without_table = { Prim.search rules };
+}
+
+impl Stored for TextRow {
+    ghost use Rattle.std.proofs.Common.{rules};
+    ghost use Rattle.lpis_register_sql.specs.private.Shown.{text_shown};
+    ghost use Rattle.lpis_register_sql.specs.Layouts.{has_texts};
+
+    ghost rows = { λ c. c.texts };
+
+    ghost shown = { text_shown };
+
+    ghost has_table = { has_texts };
+
+    fn query<S: Alter>(conn: &mut Connection<S>) -> Result<Vec<Row>, Error> {
+        conn.query_all("SELECT id, wkt FROM lpis_text ORDER BY id", &[])
+    }
+
+    fn read(row: &Row) -> Result<TextRow, Error> {
+        let id = row.get(0)?;
+        let wkt = row.get(1)?;
+        Ok(TextRow::new(id, wkt))
+    }
+
+    ghost without_table = { Prim.search rules };
+}
+
+impl Stored for MarkRow {
+    ghost use Rattle.std.proofs.Common.{rules};
+    ghost use Rattle.lpis_register_sql.specs.private.Shown.{mark_shown};
+    ghost use Rattle.lpis_register_sql.specs.Layouts.{has_marks};
+
+    ghost rows = { λ c. c.marks };
+
+    ghost shown = { mark_shown };
+
+    ghost has_table = { has_marks };
+
+    fn query<S: Alter>(conn: &mut Connection<S>) -> Result<Vec<Row>, Error> {
+        conn.query_all("SELECT year, pos FROM lpis_mark ORDER BY year, pos", &[])
+    }
+
+    fn read(row: &Row) -> Result<MarkRow, Error> {
+        let year = row.get(0)?;
+        let position = row.get(1)?;
+        Ok(MarkRow::new(year, position))
     }
 
     ghost without_table = { Prim.search rules };

@@ -15,7 +15,7 @@ pub(crate) trait Stored: Drop {
     ghost use Rattle.sqlite.specs.Order.{Row};
     ghost use Rattle.sqlite.specs.Tree.{Trees};
     ghost use Rattle.lpis_register_rows.specs.Content.{Content};
-    ghost use Rattle.lpis_register_sql.specs.Shapes.{Shape};
+    ghost use Rattle.lpis_register_sql.specs.Layouts.{Layout};
     ghost use Rattle.lpis_register_sql.specs.Holding.{Means};
     ghost use Rattle.lpis_register_sql.specs.Quiet.{Reads};
 
@@ -23,13 +23,13 @@ pub(crate) trait Stored: Drop {
 
     ghost shown: { Row → Self };
 
-    ghost has_table: { Shape → Bool };
+    ghost has_table: { Layout → Bool };
 
     /// Its table, as a query shows it.
     fn query<S: Alter>(conn: &mut Connection<S>) -> Result<Vec<Row>, Error>
         requires autocommit { conn.old.in_transaction ≡ false }
         ensures autocommit { conn.new.in_transaction ≡ false }
-        ensures reads { Reads (λ shape. has_table shape ≡ true)
+        ensures reads { Reads (λ layout. has_table layout ≡ true)
             (λ c all. IsPermutation (rows c) (map shown all.items))
             (state S.Store conn.old) (state S.Store conn.new) result };
 
@@ -37,17 +37,17 @@ pub(crate) trait Stored: Drop {
     fn read(row: &Row) -> Result<Self, Error>
         ensures { IfOk result (λ it. shown row.now ≡ it) };
 
-    ghost without_table: { (shape : Shape) (trees : Trees) (c : Content) → Means shape trees c
-        → has_table shape ≡ false → rows c ≡ [] };
+    ghost without_table: { (layout : Layout) (trees : Trees) (c : Content) → Means layout trees c
+        → has_table layout ≡ false → rows c ≡ [] };
 }
 
-/// All of them.
-fn read_all<T: Stored>(alloc: Global, rows: &[Row]) -> Result<Vec<T>, Error>
-    ensures { IfOk result (λ all. all.items ≡ map T.shown rows.now) }
+/// All of them. Each row of the answer is let go once it is read, so that no text is held twice.
+fn read_all<T: Stored>(alloc: Global, rows: Vec<Row>) -> Result<Vec<T>, Error>
+    ensures { IfOk result (λ all. all.items ≡ map T.shown rows.items) }
 {
     let mut all = Vec::new(alloc);
     for row in rows {
-        all.push(T::read(row)?)?;
+        all.push(T::read(&row)?)?;
     }
     Ok(all)
 }
@@ -60,13 +60,13 @@ pub(crate) fn load_rows<T: Stored, S: Alter>(
 ) -> Result<Vec<T>, Error>
     requires autocommit { conn.old.in_transaction ≡ false }
     ensures autocommit { conn.new.in_transaction ≡ false }
-    ensures reads { Reads (λ shape. there ≡ T.has_table shape)
+    ensures reads { Reads (λ layout. there ≡ T.has_table layout)
         (λ c all. IsPermutation (T.rows c) all.items)
         (state S.Store conn.old) (state S.Store conn.new) result }
 {
     if there {
         let rows = T::query(conn)?;
-        read_all(alloc, rows.as_slice())
+        read_all(alloc, rows)
     } else {
         Ok(Vec::new(alloc))
     }

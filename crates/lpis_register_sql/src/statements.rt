@@ -1,9 +1,8 @@
 //! The statements that write, one a function.
 
-ghost use Rattle.std.specs.Prelude.{◌≡◌, ◌<◌, ◌^◌, pos, true};
+ghost use Rattle.std.specs.Prelude.{◌≡◌, ◌<◌, ◌^◌, pos};
 ghost use Rattle.sqlite.specs.Held.{state};
 ghost use Rattle.lpis_register_rows.specs.Content.{with_year, with_span, with_line, ended, text_of};
-ghost use Rattle.lpis_register_sql.specs.Shapes.{has_spans};
 ghost use Rattle.lpis_register_sql.specs.private.Inside.{IsQuiet, Turns};
 ghost use Rattle.lpis_register_sql.specs.private.Lines.{line_at, line_of};
 
@@ -14,7 +13,7 @@ use sqlite::{Alter, Error, Transaction, params};
 /// One more release, inside a transaction.
 pub(crate) fn insert_release<S: Alter>(tx: &mut Transaction<'_, S>, year: u32) -> Result<(), Error>
     ensures same_reference { tx.new.conn.ghost_name ≡ tx.old.conn.ghost_name }
-    ensures adds { Turns (λ _. Unit {0}) (with_year (pos year))
+    ensures adds { Turns (with_year (pos year))
         (state S.Store tx.old.conn.now) (state S.Store tx.new.conn.now) result }
     ensures quiet { IsQuiet (state S.Store tx.old.conn.now) (state S.Store tx.new.conn.now) }
 {
@@ -29,7 +28,7 @@ pub(crate) fn insert_span<S: Alter>(
     id: &Id,
 ) -> Result<(), Error>
     ensures same_reference { tx.new.conn.ghost_name ≡ tx.old.conn.ghost_name }
-    ensures adds { Turns (λ shape. has_spans shape ≡ true) (λ c. with_span (pos year) c id.now)
+    ensures adds { Turns (λ c. with_span (pos year) c id.now)
         (state S.Store tx.old.conn.now) (state S.Store tx.new.conn.now) result }
     ensures quiet { IsQuiet (state S.Store tx.old.conn.now) (state S.Store tx.new.conn.now) }
 {
@@ -48,7 +47,7 @@ pub(crate) fn end_span<S: Alter>(
     id: &Id,
 ) -> Result<(), Error>
     ensures same_reference { tx.new.conn.ghost_name ≡ tx.old.conn.ghost_name }
-    ensures adds { Turns (λ shape. has_spans shape ≡ true) (λ c. ended (pos year) c id.now)
+    ensures adds { Turns (λ c. ended (pos year) c id.now)
         (state S.Store tx.old.conn.now) (state S.Store tx.new.conn.now) result }
     ensures quiet { IsQuiet (state S.Store tx.old.conn.now) (state S.Store tx.new.conn.now) }
 {
@@ -80,7 +79,7 @@ fn insert_line<S: Alter>(
 ) -> Result<(), Error>
     requires small { position < 2 ^ 63 }
     ensures same_reference { tx.new.conn.ghost_name ≡ tx.old.conn.ghost_name }
-    ensures adds { Turns (λ _. Unit {0}) (λ c. with_line c
+    ensures adds { Turns (λ c. with_line c
         (line_at (pos year) (pos position) old.now new.now)) (state S.Store tx.old.conn.now)
         (state S.Store tx.new.conn.now) result }
     ensures quiet { IsQuiet (state S.Store tx.old.conn.now) (state S.Store tx.new.conn.now) }
@@ -102,8 +101,7 @@ pub(crate) fn insert_row<S: Alter>(
 ) -> Result<(), Error>
     requires small { position < 2 ^ 63 }
     ensures same_reference { tx.new.conn.ghost_name ≡ tx.old.conn.ghost_name }
-    ensures adds { Turns (λ _. Unit {0})
-        (λ c. with_line c (line_of (pos year) (pos position) row.now))
+    ensures adds { Turns (λ c. with_line c (line_of (pos year) (pos position) row.now))
         (state S.Store tx.old.conn.now) (state S.Store tx.new.conn.now) result }
     ensures quiet { IsQuiet (state S.Store tx.old.conn.now) (state S.Store tx.new.conn.now) }
 {

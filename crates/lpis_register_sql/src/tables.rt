@@ -4,13 +4,16 @@ ghost use Rattle.std.specs.Prelude.{◌≡◌, false, IsTrue, OnOk, OnErr};
 ghost use Rattle.sqlite.specs.Held.{state};
 ghost use Rattle.sqlite.specs.State.{HasCleanDisk, Survives};
 ghost use Rattle.lpis_register_rows.specs.Content.{no_content};
-ghost use Rattle.lpis_register_sql.specs.Shapes.{New, First, Moved, schema_of, no_schema};
-ghost use Rattle.lpis_register_sql.specs.private.Stages.{one_table, two_tables, three_tables, Stage};
+ghost use Rattle.lpis_register_sql.specs.Layouts.{New, First, Moved, LessTexts, LessMarks};
+ghost use Rattle.lpis_register_sql.specs.Layouts.{Whole, schema_of, no_schema};
+ghost use Rattle.lpis_register_sql.specs.private.Stages.{one_table, two_tables, three_tables};
+ghost use Rattle.lpis_register_sql.specs.private.Stages.{Stage};
 ghost use Rattle.lpis_register_sql.specs.Bare.{IsBare};
 ghost use Rattle.lpis_register_sql.specs.private.Inside.{Inside, IsQuiet};
 ghost use Rattle.lpis_register_sql.specs.Holding.{IsStored};
 ghost use Rattle.lpis_register_sql.specs.Commits.{LeavesMade};
 
+use crate::found::Found;
 use sqlite::{Alter, Connection, Error, Transaction};
 
 /// The table of the version.
@@ -51,7 +54,7 @@ pub(crate) fn make_span<S: Alter>(tx: &mut Transaction<'_, S>) -> Result<(), Err
         → OnOk result (Stage three_tables base (state S.Store tx.new.conn.now)) }
     ensures beside { HasCleanDisk (state S.Store tx.new.conn.now) → (base : _) (c : _)
         → Inside First base (state S.Store tx.old.conn.now) c
-        → OnOk result (Inside Moved base (state S.Store tx.new.conn.now) c) }
+        → OnOk result (Inside (LessTexts Moved) base (state S.Store tx.new.conn.now) c) }
     ensures quiet { IsQuiet (state S.Store tx.old.conn.now) (state S.Store tx.new.conn.now) }
 {
     tx.execute(
@@ -66,7 +69,7 @@ fn make_row<S: Alter>(tx: &mut Transaction<'_, S>) -> Result<(), Error>
     ensures same_reference { tx.new.conn.ghost_name ≡ tx.old.conn.ghost_name }
     ensures made { HasCleanDisk (state S.Store tx.new.conn.now) → (base : _)
         → Stage three_tables base (state S.Store tx.old.conn.now)
-        → OnOk result (Stage (schema_of New) base (state S.Store tx.new.conn.now)) }
+        → OnOk result (Stage (schema_of (LessTexts New)) base (state S.Store tx.new.conn.now)) }
     ensures quiet { IsQuiet (state S.Store tx.old.conn.now) (state S.Store tx.new.conn.now) }
 {
     tx.execute(
@@ -76,60 +79,103 @@ fn make_row<S: Alter>(tx: &mut Transaction<'_, S>) -> Result<(), Error>
     Ok(())
 }
 
+/// The table of the texts of shapes.
+pub(crate) fn make_text<S: Alter>(tx: &mut Transaction<'_, S>) -> Result<(), Error>
+    ensures same_reference { tx.new.conn.ghost_name ≡ tx.old.conn.ghost_name }
+    ensures made { HasCleanDisk (state S.Store tx.new.conn.now) → (base : _)
+        → Stage (schema_of (LessTexts New)) base (state S.Store tx.old.conn.now)
+        → OnOk result (Stage (schema_of (LessMarks New)) base (state S.Store tx.new.conn.now)) }
+    ensures beside { HasCleanDisk (state S.Store tx.new.conn.now) → (origin : _) (base : _) (c : _)
+        → Inside (LessTexts origin) base (state S.Store tx.old.conn.now) c
+        → OnOk result (Inside (LessMarks origin) base (state S.Store tx.new.conn.now) c) }
+    ensures quiet { IsQuiet (state S.Store tx.old.conn.now) (state S.Store tx.new.conn.now) }
+{
+    tx.execute(
+        "CREATE TABLE IF NOT EXISTS lpis_text (id TEXT NOT NULL PRIMARY KEY, wkt TEXT NOT NULL) STRICT",
+        &[],
+    )?;
+    Ok(())
+}
+
+/// The table of the rows of lineage that are marked exact.
+pub(crate) fn make_mark<S: Alter>(tx: &mut Transaction<'_, S>) -> Result<(), Error>
+    ensures same_reference { tx.new.conn.ghost_name ≡ tx.old.conn.ghost_name }
+    ensures made { HasCleanDisk (state S.Store tx.new.conn.now) → (base : _)
+        → Stage (schema_of (LessMarks New)) base (state S.Store tx.old.conn.now)
+        → OnOk result (Stage (schema_of (Whole New)) base (state S.Store tx.new.conn.now)) }
+    ensures beside { HasCleanDisk (state S.Store tx.new.conn.now) → (origin : _) (base : _) (c : _)
+        → Inside (LessMarks origin) base (state S.Store tx.old.conn.now) c
+        → OnOk result (Inside (Whole origin) base (state S.Store tx.new.conn.now) c) }
+    ensures quiet { IsQuiet (state S.Store tx.old.conn.now) (state S.Store tx.new.conn.now) }
+{
+    tx.execute(
+        "CREATE TABLE IF NOT EXISTS lpis_mark (year INTEGER NOT NULL, pos INTEGER NOT NULL, PRIMARY KEY (year, pos), FOREIGN KEY (year, pos) REFERENCES lpis_row (year, pos)) STRICT",
+        &[],
+    )?;
+    Ok(())
+}
+
 /// The row that tells the version.
 fn insert_format<S: Alter>(tx: &mut Transaction<'_, S>) -> Result<(), Error>
     ensures same_reference { tx.new.conn.ghost_name ≡ tx.old.conn.ghost_name }
     ensures begun { HasCleanDisk (state S.Store tx.new.conn.now) → (base : _)
-        → Stage (schema_of New) base (state S.Store tx.old.conn.now)
-        → OnOk result (Inside New base (state S.Store tx.new.conn.now) no_content) }
+        → Stage (schema_of (Whole New)) base (state S.Store tx.old.conn.now)
+        → OnOk result (Inside (Whole New) base (state S.Store tx.new.conn.now) no_content) }
     ensures quiet { IsQuiet (state S.Store tx.old.conn.now) (state S.Store tx.new.conn.now) }
 {
-    tx.execute("INSERT INTO lpis_format (one, version) VALUES (1, 2)", &[])?;
+    tx.execute("INSERT INTO lpis_format (one, version) VALUES (1, 3)", &[])?;
     Ok(())
 }
 
-/// The row that tells the version, where its table was not there before.
-fn begin_format<S: Alter>(tx: &mut Transaction<'_, S>, is_new: bool) -> Result<(), Error>
+/// The row that tells the version, where its table was not found.
+fn begin_format<S: Alter>(tx: &mut Transaction<'_, S>, found: &Found) -> Result<(), Error>
     ensures same_reference { tx.new.conn.ghost_name ≡ tx.old.conn.ghost_name }
-    ensures begun { IsTrue is_new → HasCleanDisk (state S.Store tx.new.conn.now) → (base : _)
-        → Stage (schema_of New) base (state S.Store tx.old.conn.now)
-        → OnOk result (Inside New base (state S.Store tx.new.conn.now) no_content) }
+    ensures begun { found.now.format ≡ false → HasCleanDisk (state S.Store tx.new.conn.now)
+        → (base : _)
+        → Stage (schema_of (Whole New)) base (state S.Store tx.old.conn.now)
+        → OnOk result (Inside (Whole New) base (state S.Store tx.new.conn.now) no_content) }
     ensures quiet { IsQuiet (state S.Store tx.old.conn.now) (state S.Store tx.new.conn.now) }
 {
-    if is_new { insert_format(tx) } else { Ok(()) }
+    if found.format {
+        Ok(())
+    } else {
+        insert_format(tx)
+    }
 }
 
-/// The tables that are not there, empty but for the version.
-fn make_all<S: Alter>(tx: &mut Transaction<'_, S>, is_new: bool) -> Result<(), Error>
+/// The tables that were not found, empty but for the version.
+fn make_all<S: Alter>(tx: &mut Transaction<'_, S>, found: &Found) -> Result<(), Error>
     ensures same_reference { tx.new.conn.ghost_name ≡ tx.old.conn.ghost_name }
-    ensures begun { IsTrue is_new → HasCleanDisk (state S.Store tx.new.conn.now) → (base : _)
+    ensures begun { found.now.format ≡ false → HasCleanDisk (state S.Store tx.new.conn.now)
+        → (base : _)
         → Stage no_schema base (state S.Store tx.old.conn.now)
-        → OnOk result (Inside New base (state S.Store tx.new.conn.now) no_content) }
+        → OnOk result (Inside (Whole New) base (state S.Store tx.new.conn.now) no_content) }
     ensures quiet { IsQuiet (state S.Store tx.old.conn.now) (state S.Store tx.new.conn.now) }
 {
     make_format(tx)?;
     make_release(tx)?;
     make_span(tx)?;
     make_row(tx)?;
-    begin_format(tx, is_new)
+    make_text(tx)?;
+    make_mark(tx)?;
+    begin_format(tx, found)
 }
 
-/// Makes the tables that are not there, in one transaction. `is_new` says that the table of the
-/// version is among them.
-pub fn create<S: Alter>(conn: &mut Connection<S>, is_new: bool) -> Result<(), Error>
+/// Makes the tables that were not found, in one transaction.
+pub fn create<S: Alter>(conn: &mut Connection<S>, found: &Found) -> Result<(), Error>
     requires autocommit { conn.old.in_transaction ≡ false }
     ensures autocommit { conn.new.in_transaction ≡ false }
-    ensures made { IsTrue is_new → HasCleanDisk (state S.Store conn.new)
+    ensures made { found.now.format ≡ false → HasCleanDisk (state S.Store conn.new)
         → IsBare (state S.Store conn.old)
-        → OnOk result (IsStored New (state S.Store conn.new) no_content) }
-    ensures err { IsTrue is_new → HasCleanDisk (state S.Store conn.new)
+        → OnOk result (IsStored (Whole New) (state S.Store conn.new) no_content) }
+    ensures err { found.now.format ≡ false → HasCleanDisk (state S.Store conn.new)
         → IsTrue (state S.Store conn.new).is_open → IsBare (state S.Store conn.old)
         → OnErr result (IsBare (state S.Store conn.new)) }
     ensures clean { HasCleanDisk (state S.Store conn.new) → HasCleanDisk (state S.Store conn.old) }
     ensures crash { Survives (state S.Store conn.old) (state S.Store conn.new)
-        (LeavesMade is_new (state S.Store conn.old)) }
+        (LeavesMade found.now (state S.Store conn.old)) }
 {
     let mut tx = conn.transaction();
-    make_all(&mut tx, is_new)?;
+    make_all(&mut tx, found)?;
     tx.commit()
 }

@@ -1,9 +1,8 @@
 //! The loops that write, which rest on the statements' clauses alone.
 
-ghost use Rattle.std.specs.Prelude.{◌≡◌, pos, true};
+ghost use Rattle.std.specs.Prelude.{◌≡◌, pos};
 ghost use Rattle.sqlite.specs.Held.{state};
 ghost use Rattle.lpis_register_rows.specs.Content.{with_spans, all_ended, with_lines, lines_from};
-ghost use Rattle.lpis_register_sql.specs.Shapes.{has_spans};
 ghost use Rattle.lpis_register_sql.specs.private.Inside.{IsQuiet, Turns};
 
 use crate::statements::{end_span, insert_row, insert_span};
@@ -18,7 +17,7 @@ pub(crate) fn insert_spans<S: Alter>(
     ids: &[Id],
 ) -> Result<(), Error>
     ensures same_reference { tx.new.conn.ghost_name ≡ tx.old.conn.ghost_name }
-    ensures adds { Turns (λ shape. has_spans shape ≡ true) (with_spans (pos year) ids.now)
+    ensures adds { Turns (with_spans (pos year) ids.now)
         (state S.Store tx.old.conn.now) (state S.Store tx.new.conn.now) result }
     ensures quiet { IsQuiet (state S.Store tx.old.conn.now) (state S.Store tx.new.conn.now) }
 {
@@ -35,7 +34,7 @@ pub(crate) fn end_spans<S: Alter>(
     ids: &[Id],
 ) -> Result<(), Error>
     ensures same_reference { tx.new.conn.ghost_name ≡ tx.old.conn.ghost_name }
-    ensures adds { Turns (λ shape. has_spans shape ≡ true) (all_ended (pos year) ids.now)
+    ensures adds { Turns (all_ended (pos year) ids.now)
         (state S.Store tx.old.conn.now) (state S.Store tx.new.conn.now) result }
     ensures quiet { IsQuiet (state S.Store tx.old.conn.now) (state S.Store tx.new.conn.now) }
 {
@@ -52,7 +51,7 @@ pub(crate) fn insert_lines<S: Alter>(
     rows: &[Row],
 ) -> Result<(), Error>
     ensures same_reference { tx.new.conn.ghost_name ≡ tx.old.conn.ghost_name }
-    ensures adds { Turns (λ _. Unit {0}) (with_lines (lines_from (pos year) 0 rows.now))
+    ensures adds { Turns (with_lines (lines_from (pos year) 0 rows.now))
         (state S.Store tx.old.conn.now) (state S.Store tx.new.conn.now) result }
     ensures quiet { IsQuiet (state S.Store tx.old.conn.now) (state S.Store tx.new.conn.now) }
 {

@@ -5,6 +5,7 @@ use Rattle.lpis_lineage.specs.declared.row.Row.{Row}
 use Rattle.lpis_lineage.specs.declared.row.Entry.{Entry}
 use Rattle.lpis_covers.specs.Ids.{has_id}
 use Rattle.lpis_lineage.specs.Lineage.{holds, names, is_of, same_row, last_live}
+use Rattle.lpis_lineage.specs.ExactGroups.{MarksHold}
 use Rattle.lpis_lineage.specs.Lawful.{IsAnswered}
 
 pub record Follows (h : List Entry) (live : List (List ℕ)) (rows : List Row) : Type 0 where
@@ -16,3 +17,4 @@ pub record Follows (h : List Entry) (live : List (List ℕ)) (rows : List Row) :
   pub once : (row : Row) → length (filter (same_row row) rows) ≤ 1
   pub dropped : (id : List ℕ) → list_any (is_of id) rows ≡ true → (has_id (last_live h) id ≡ true)
       × (has_id live id ≡ false)
+  pub marked : MarksHold (last_live h) live rows

@@ -1,17 +1,15 @@
 -- A history put together release by release, beside one that the rows say.
 use Rattle.std.specs.Prelude.{◌≡◌, ◌<◌, ◌≤◌, ◌+◌, ℕ, pos, List, length, map, take}
-use Rattle.std.specs.List.{All}
 use Rattle.lpis_lineage.specs.declared.row.Entry.{Entry}
 use Rattle.lpis_lineage.specs.Lineage.{entry_at, holds}
 use Rattle.lpis_register_rows.specs.declared.known.KnownLine.{KnownLine}
 use Rattle.lpis_register_rows.specs.declared.known.KnownSpan.{KnownSpan}
-use Rattle.lpis_register_rows.specs.Content.{Line}
-use Rattle.lpis_register_rows.specs.Tells.{IsKept, lines_of}
-use Rattle.lpis_register_rows.specs.private.Known.{HasText, SetsAre, line_at, line_in, span_in}
+use Rattle.lpis_register_rows.specs.Tells.{IsKept}
+use Rattle.lpis_register_rows.specs.private.Known.{SetsAre, known_of, line_at, span_in}
 
 -- the lines from one position up to another are those of a year, by their positions from 0, and the
 -- next is not
-pub record IsRun (lines : List Line) (from year stop : ℕ) : Type 0 where
+pub record IsRun (lines : List KnownLine) (from year stop : ℕ) : Type 0 where
   pub within : from ≤ stop
   pub here : (k : ℕ) → from + k < stop → ((line_at lines (from + k)).year ≡ pos year)
       × ((line_at lines (from + k)).position ≡ pos k)
@@ -28,8 +26,7 @@ pub record IsFront (g h : List Entry) : Type 0 where
 pub record IsSaid (spans : List KnownSpan) (lines : List KnownLine) (h : List Entry) : Type 0 where
   pub kept : IsKept h
   pub sets : SetsAre (map span_in spans) h
-  pub lines_are : lines_of h ≡ map line_in lines
-  pub texts : All (λ l. HasText l.row) lines
+  pub lines_are : known_of h ≡ lines
 
 -- a history is the front of another, of which the next release is of this year and has its lines
 -- from this position on
@@ -38,4 +35,4 @@ pub record IsDue (g : List Entry) (lines : List KnownLine) (from year : ℕ) (h 
     pub front : IsFront g h
     pub more : length g < length h
     pub year_is : (entry_at h (length g)).year ≡ year
-    pub lines_are : lines_of g ≡ map line_in (take from lines)
+    pub lines_are : known_of g ≡ take from lines

@@ -1,6 +1,6 @@
 -- What was read of rows: machinery, which only private contracts cite.
-use Rattle.std.specs.Prelude.{◌≡◌, ◌<◌, ◌≤◌, ◌⊎◌, ◌&&◌, ◌++◌, ◌∷◌, [], true, ℕ, zero, suc, ℤ, pos}
-use Rattle.std.specs.Prelude.{negsuc, List, length, Some}
+use Rattle.std.specs.Prelude.{◌≡◌, ◌<◌, ◌≤◌, ◌+◌, ◌⊎◌, ◌&&◌, ◌++◌, ◌∷◌, [], true, false, ℕ, zero, suc}
+use Rattle.std.specs.Prelude.{ℤ, pos, negsuc, List, length, None, Some}
 use Rattle.std.specs.List.{list_any}
 use Rattle.std.specs.Ordering.{int_cmp, ordering_then}
 use Rattle.std.specs.declared.cmp.Ordering.{Ordering}
@@ -52,8 +52,23 @@ IsReadable l = (is_id l.old ≡ true) × ((l.new ≡ []) ⊎ (is_id l.new ≡ tr
 abbrev pub line_cmp : Line → Line → Ordering
 line_cmp a b = ordering_then (int_cmp a.year b.year) (int_cmp a.position b.position)
 
+-- the rows of a year's release, of which the first has this position
+abbrev pub known_from : ℤ → ℕ → List Row → List KnownLine
+known_from year n [] = []
+known_from year n (r ∷ rs) =
+    (record { year = year; position = pos n; row = r }) ∷ known_from year (n + 1) rs
+
+-- the rows of all releases, each with its year and its position
+abbrev pub known_of : List Entry → List KnownLine
+known_of [] = []
+known_of (e ∷ h) = known_from (pos e.year) 0 e.rows ++ known_of h
+
 -- the line at a position of a list; past the end one of no year
-abbrev pub line_at : List Line → ℕ → Line
-line_at [] i = record { year = negsuc 0; position = negsuc 0; old = []; new = [] }
+abbrev pub line_at : List KnownLine → ℕ → KnownLine
+line_at [] i = record {
+  year = negsuc 0;
+  position = negsuc 0;
+  row = record { old = []; new = None; exact = false };
+}
 line_at (l ∷ ls) zero = l
 line_at (l ∷ ls) (suc i) = line_at ls i

@@ -1,9 +1,15 @@
--- Where the table of spans stands.
+-- Where the tables stand that do not stand at one place.
 use Rattle.std.specs.Prelude.{ℕ}
-use Rattle.lpis_register_sql.specs.Shapes.{Shape, New, First, Moved}
+use Rattle.lpis_register_sql.specs.Layouts.{Origin, New, Moved}
 
--- where `lpis_span` stands among the tables
-abbrev pub span_table_index : Shape → ℕ
-span_table_index New = 2
-span_table_index First = 4
-span_table_index Moved = 4
+abbrev pub span_place : Origin → ℕ
+span_place New = 2
+span_place Moved = 4
+
+abbrev pub text_place : Origin → ℕ
+text_place New = 4
+text_place Moved = 5
+
+abbrev pub mark_place : Origin → ℕ
+mark_place New = 5
+mark_place Moved = 6

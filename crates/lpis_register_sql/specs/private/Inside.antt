@@ -4,22 +4,21 @@ use Rattle.sqlite.specs.Effect.{Database}
 use Rattle.sqlite.specs.State.{State, HasCleanDisk, KeepsCommit, Survives}
 use Rattle.sqlite.specs.declared.error.Error.{Error}
 use Rattle.lpis_register_rows.specs.Content.{Content}
-use Rattle.lpis_register_sql.specs.Shapes.{Shape}
+use Rattle.lpis_register_sql.specs.Layouts.{Layout, Origin, Whole}
 use Rattle.lpis_register_sql.specs.Holding.{Holds}
 
 -- a transaction over this commit, in which the tables hold this
-pub record Inside (s : Shape) (base : Database) (st : State) (c : Content) : Type 0 where
+pub record Inside (s : Layout) (base : Database) (st : State) (c : Content) : Type 0 where
   pub is_open : IsTrue st.is_open
   pub in_transaction : IsTrue st.in_transaction
   pub base_is : st.committed ≡ base
   pub holds : Holds s st.now c
 
--- a call that answers has turned the rows into these, where the tables stand in such an order
-abbrev pub Turns : (Shape → Type 0) → (Content → Content) → State → State
-    → Result (Unit {0}) Error → Type 0
-Turns P turn old new r =
-    HasCleanDisk new → (shape : Shape) → P shape → (base : Database) (c : Content)
-    → Inside shape base old c → OnOk r (Inside shape base new (turn c))
+-- a call that answers has turned the rows into these, where all tables stand
+abbrev pub Turns : (Content → Content) → State → State → Result (Unit {0}) Error → Type 0
+Turns turn old new r =
+    HasCleanDisk new → (origin : Origin) (base : Database) (c : Content)
+    → Inside (Whole origin) base old c → OnOk r (Inside (Whole origin) base new (turn c))
 
 -- nothing is committed, and a crash leaves what it left before
 pub record IsQuiet (old new : State) : Type 0 where

@@ -4,7 +4,7 @@ use Rattle.sqlite.specs.declared.types.Value.{Value}
 use Rattle.sqlite.specs.declared.types.Value.TheVariants.{Null, Int, Real, Text, Blob}
 use Rattle.sqlite.specs.Order.{Row, column}
 use Rattle.sqlite.specs.Edit.{id_in}
-use Rattle.lpis_register_rows.specs.Content.{Format, StoredSpan, Line, Live}
+use Rattle.lpis_register_rows.specs.Content.{Format, StoredSpan, Line, Live, StoredText, Mark}
 
 abbrev pub text_in : Value → List ℕ
 text_in Null = []
@@ -36,3 +36,9 @@ line_shown row = record {
 
 abbrev pub live_shown : Row → Live
 live_shown row = record { year = id_in (column row 0); id = text_in (column row 1) }
+
+abbrev pub text_shown : Row → StoredText
+text_shown row = record { id = text_in (column row 0); wkt = text_in (column row 1) }
+
+abbrev pub mark_shown : Row → Mark
+mark_shown row = record { year = id_in (column row 0); position = id_in (column row 1) }

@@ -1,5 +1,5 @@
 use Rattle.lpis_commands.proofs.Common.{IfOk-weaker}
-use Rattle.lpis_commands.specs.private.CheckRuns.{inputs_of}
+use Rattle.lpis_commands.specs.Inputs.{inputs_of}
 use Rattle.lpis_commands.proofs.CheckLemmas.{proved-of}
 use Rattle.lpis_commands.proofs.check.answer_to.Goals as goal
 

@@ -1,4 +1,4 @@
-use Rattle.std.proofs.Common.{◌≡◌, ◌∙◌, ◌++◌, ◌∷◌, [], ℕ, List, Ok, ap, map, refl, sym}
+use Rattle.std.proofs.Common.{◌≡◌, ◌+◌, ◌∙◌, ◌++◌, ◌∷◌, [], ℕ, List, Ok, ap, map, refl, sym}
 use Rattle.lpis_lineage.proofs.Common.{Row}
 use Rattle.std.proofs.lemmas.List.{map-append}
 use Rattle.std.proofs.lemmas.Result.{err_from_is_err_and}
@@ -10,32 +10,36 @@ use Rattle.lpis_lineage.specs.LineageTable.{lineage_faults, lineage_table, row_o
 use Rattle.lpis_lineage.proofs.RowsLemmas.{rows-answered}
 use Rattle.lpis_lineage.proofs.reading.read_rows.Goals as goal
 
-pub read_row-requires : goal.read_row-requires
-read_row-requires c = (rw c.if-branch.true at c.in_ok-next_row.ensures).3 ∙ c.rows.invariant.table
+pub read_row-requires-clause-table : goal.read_row-requires-clause-table
+read_row-requires-clause-table c = (rw c.if-branch.true at c.in_ok-next_row.ensures).3 ∙ c.rows.invariant.0.table
+
+pub read_row-requires-clause-number : goal.read_row-requires-clause-number
+read_row-requires-clause-number c = ap (λ (n : ℕ). n + 1) c.rows.invariant.1 ∙ sym (rw c.if-branch.true at c.in_ok-next_row.ensures).2
 
 pub rows-init : goal.rows-init
 rows-init c =
-    let opened = rw c.columns.ensures at c.in_ok-reader.ensures in
-    rw c.new-rows.ensures.items (rows-start lineage_table c.args.bytes.now c.in_ok-reader.reader opened refl)
+    let opened = rw (c.columns.ensures, c.further.ensures) at c.in_ok-reader.ensures in
+    let read = rows-start lineage_table c.args.bytes.now c.in_ok-reader.reader opened refl in
+    rw c.new-rows.ensures.items (read, sym read.count)
 
 pub returns-in_err-next_row : goal.returns-in_err-next_row
 returns-in_err-next_row c =
-    let opened = rw c.columns.ensures at c.in_ok-reader.ensures in
+    let opened = rw (c.columns.ensures, c.further.ensures) at c.in_ok-reader.ensures in
     let p = err_from_is_err_and c.from_residual-in_err-next_row.result c.from_residual-in_err-next_row.ensures.1 in
     rw (p.1, p.2)
     (rows-answered _ _ (rows-stop lineage_table c.args.bytes.now c.in_ok-reader.reader c.rows.reader
     c.next_row.new.self (map (λ (r : Row). r.old) c.rows.rows.items) c.rows.rows.items c.in_err-next_row.field-0.0
-    opened c.rows.invariant c.in_err-next_row.ensures))
+    opened c.rows.invariant.0 c.in_err-next_row.ensures))
 
 pub returns-in_err-row : goal.returns-in_err-row
 returns-in_err-row c =
-    let opened = rw c.columns.ensures at c.in_ok-reader.ensures in
+    let opened = rw (c.columns.ensures, c.further.ensures) at c.in_ok-reader.ensures in
     let p = err_from_is_err_and c.from_residual-in_err-row.result c.from_residual-in_err-row.ensures.1 in
     let advanced = rw c.if-branch.true at c.in_ok-next_row.ensures in
     rw (p.1, p.2)
     (rows-answered _ _ (rows-fault lineage_table c.args.bytes.now c.in_ok-reader.reader c.rows.reader
     c.next_row.new.self (map (λ (r : Row). r.old) c.rows.rows.items) c.rows.rows.items c.in_err-row.field-0.0 opened
-    c.rows.invariant advanced c.in_err-row.ensures))
+    c.rows.invariant.0 advanced c.in_err-row.ensures))
 
 -- a row that is read without a fault
 told-old : (faults : List TableFault) (said row : Row) → unless_faulty faults said ≡ Ok row → said.old ≡ row.old
@@ -50,11 +54,14 @@ rows-preserved c =
     let old = told-old (lineage_faults now.number now.row) (row_of now.row) c.in_ok-row.row c.in_ok-row.ensures in
     let keys : map (λ (r : Row). r.old) rows ++ field_of now.row 0 ∷ [] ≡ map (λ (r : Row). r.old) (rows ++ c.in_ok-row.row ∷ []) =
     ap (λ (k : List ℕ). map (λ (r : Row). r.old) rows ++ k ∷ []) old ∙ sym (map-append (λ (r : Row). r.old) rows (c.in_ok-row.row ∷ [])) in
-    rw (c.in_ok-push.ensures.items, ← keys) (rows-step lineage_table c.in_ok-reader.reader c.rows.reader now
-    (map (λ (r : Row). r.old) rows) rows c.in_ok-row.row c.rows.invariant advanced c.in_ok-row.ensures)
+    rw (c.in_ok-push.ensures.items, ← keys) (
+      rows-step lineage_table c.in_ok-reader.reader c.rows.reader now (map (λ (r : Row). r.old) rows) rows c.in_ok-row.row
+          c.rows.invariant.0 advanced c.in_ok-row.ensures,
+      ap (λ (n : ℕ). n + 1) c.rows.invariant.1 ∙ sym advanced.2,
+    )
 
 pub returns : goal.returns
 returns c =
-    let opened = rw c.columns.ensures at c.in_ok-reader.ensures in
+    let opened = rw (c.columns.ensures, c.further.ensures) at c.in_ok-reader.ensures in
     let ended = rw c.if-branch.false at c.in_ok-next_row.ensures in
-    rows-end lineage_table c.args.bytes.now c.in_ok-reader.reader c.rows.reader c.next_row.new.self (map (λ (r : Row). r.old) c.rows.rows.items) c.rows.rows.items opened c.rows.invariant ended
+    rows-end lineage_table c.args.bytes.now c.in_ok-reader.reader c.rows.reader c.next_row.new.self (map (λ (r : Row). r.old) c.rows.rows.items) c.rows.rows.items opened c.rows.invariant.0 ended

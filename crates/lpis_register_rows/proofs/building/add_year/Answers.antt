@@ -1,5 +1,5 @@
-use Rattle.std.proofs.Common.{ℕ, List, Err, map, subst₂, take}
-use Rattle.lpis_register_rows.proofs.Common.{err_from_is_err_and, Row, line_in}
+use Rattle.std.proofs.Common.{ℕ, List, Err, subst₂, take}
+use Rattle.lpis_register_rows.proofs.Common.{err_from_is_err_and, Row}
 use Rattle.lpis_lineage.specs.Accepts.{AddTells}
 use Rattle.lpis_register_rows.proofs.NextReleaseLemmas.{lines-added, sets-added, year-added}
 use Rattle.lpis_register_rows.proofs.FrontLemmas.{due-added, due-refused, due-rows, due-run}
@@ -16,7 +16,7 @@ returns-in-Ok-clause-sets c = sets-added c.args.history.now c.add.new.self c.arg
 pub returns-in-Ok-clause-lines : goal.returns-in-Ok-clause-lines
 returns-in-Ok-clause-lines c = λ b.
     lines-added c.args.history.now c.add.new.self c.args.year c.as_slice.result.now c.in_ok-rows.rows.items
-    (map line_in (take c.args.from c.args.lines.now)) (map line_in (take c.in_ok-rows.next c.args.lines.now))
+    (take c.args.from c.args.lines.now) (take c.in_ok-rows.next c.args.lines.now)
     (rw c.as_slice-2.ensures.value at c.in-Ok.ensures.ok) b c.in_ok-rows.ensures.rows
 
 pub returns-in_err-rows-clause-refused : goal.returns-in_err-rows-clause-refused
@@ -31,8 +31,7 @@ returns-in-Ok-clause-front c = λ h said due.
     (rw (c.as_slice.ensures.value, c.as_slice-2.ensures.value) at c.in-Ok.ensures.ok)
     c.in_ok-live.ensures
     (due-rows c.args.spans.now c.args.lines.now c.args.history.now h c.args.from c.args.year said due c.requires.within
-    c.in_ok-rows.rows.items c.in_ok-rows.next (c.in_ok-rows.ensures.run _ run) c.in_ok-rows.ensures.rows
-    (c.in_ok-rows.ensures.texts said.texts))
+    c.in_ok-rows.rows.items c.in_ok-rows.next (c.in_ok-rows.ensures.run _ run) c.in_ok-rows.ensures.rows)
 
 pub returns-clause-refused : goal.returns-clause-refused
 returns-clause-refused c = λ e h said due.
@@ -40,8 +39,7 @@ returns-clause-refused c = λ e h said due.
     due-refused c.args.spans.now c.args.lines.now c.args.history.now h c.args.from c.args.year said due c.requires.within c.in_ok-live.live.items c.in_ok-rows.rows.items c.in-Err.fault
     c.in_ok-live.ensures
     (due-rows c.args.spans.now c.args.lines.now c.args.history.now h c.args.from c.args.year said due c.requires.within
-    c.in_ok-rows.rows.items c.in_ok-rows.next (c.in_ok-rows.ensures.run _ run) c.in_ok-rows.ensures.rows
-    (c.in_ok-rows.ensures.texts said.texts))
+    c.in_ok-rows.rows.items c.in_ok-rows.next (c.in_ok-rows.ensures.run _ run) c.in_ok-rows.ensures.rows)
     (subst₂ (λ (l : List (List ℕ)) (r : List Row). AddTells {A = Unit {0}} c.args.history.now c.args.year l r (Err c.in-Err.fault))
     c.as_slice.ensures.value c.as_slice-2.ensures.value c.in-Err.ensures.tells)
     (c.fault_of.ensures e)

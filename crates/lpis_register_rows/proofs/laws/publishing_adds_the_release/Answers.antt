@@ -1,5 +1,11 @@
 use Rattle.lpis_register_rows.proofs.laws.publishing_adds_the_release.Goals as goal
-use Rattle.lpis_register_rows.proofs.PublishingLemmas.{published-tells}
+use Rattle.lpis_register_rows.proofs.PublishingLemmas.{publishing-tells, released-live, released-texts}
 
-pub returns : goal.returns
-returns c = published-tells
+pub returns-clause-tells : goal.returns-clause-tells
+returns-clause-tells c = publishing-tells
+
+pub returns-clause-texts : goal.returns-clause-texts
+returns-clause-texts c = released-texts
+
+pub returns-clause-live : goal.returns-clause-live
+returns-clause-live c = released-live

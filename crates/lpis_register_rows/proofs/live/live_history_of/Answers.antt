@@ -3,7 +3,8 @@ use Rattle.lpis_register_rows.proofs.Common.{recursion_from_All, err_from_is_err
 use Rattle.lpis_register_rows.proofs.KnownLemmas.{no-both}
 use Rattle.lpis_register_rows.proofs.LiveRefusingLemmas.{live-ids, live-said, live-years}
 use Rattle.lpis_register_rows.proofs.LiveRowLemmas.{live-says}
-use Rattle.lpis_register_rows.proofs.RefusingLemmas.{told-lines, told-sorted-years, told-years}
+use Rattle.lpis_register_rows.proofs.MarkLemmas.{no-marks}
+use Rattle.lpis_register_rows.proofs.RefusingLemmas.{told-sorted-years, told-years}
 use Rattle.lpis_register_rows.proofs.live.live_history_of.Goals as goal
 
 pub returns-clause-ok : goal.returns-clause-ok
@@ -17,6 +18,7 @@ returns-clause-ok c =
     (rw c.lines.ensures at c.in_ok-lines.ensures.same)
     (rw c.as_slice-3.ensures.value at c.in_ok-history.ensures.years)
     (rw c.as_slice-4.ensures.value at c.in_ok-history.ensures.sets)
+    c.in_ok-lines.ensures.marks
     (rw c.as_slice-5.ensures.value at c.in_ok-history.ensures.lines)
     (rw (c.as_slice-2.ensures.value, c.as_slice.ensures.value) at (c.have_years.ensures.0 c.if-not-have_years.false))
 
@@ -36,7 +38,7 @@ returns-in_err-spans-clause-unlawful c =
 pub returns-in_err-lines-clause-unlawful : goal.returns-in_err-lines-clause-unlawful
 returns-in_err-lines-clause-unlawful c =
     let p = err_from_is_err_and c.from_residual-in_err-lines.result c.from_residual-in_err-lines.ensures.1 in
-    rw (p.1, p.2) (λ e h t. c.in_err-lines.ensures.refused e (rw c.lines.ensures (told-lines h c.args.rows.now.lines t.kept t.lines_are)))
+    rw (p.1, p.2) (λ e h t. c.in_err-lines.ensures.refused e h t.kept (rw c.lines.ensures t.lines_are) (no-marks h t.unmarked))
 
 pub returns-then-not-have_years-clause-unlawful : goal.returns-then-not-have_years-clause-unlawful
 returns-then-not-have_years-clause-unlawful c = λ _ h t.
@@ -52,7 +54,7 @@ returns-in_err-history-clause-unlawful c =
     rw (p.1, p.2) (λ e h t.
     let said = live-said c.args.rows.now h c.in_ok-spans.spans.items c.in_ok-lines.lines.items t
     (rw c.live.ensures at c.in_ok-spans.ensures.same)
-    (rw c.lines.ensures at c.in_ok-lines.ensures.same) c.in_ok-lines.ensures.sorted c.in_ok-lines.ensures.texts in
+    (c.in_ok-lines.ensures.told h t.kept (rw c.lines.ensures t.lines_are) (no-marks h t.unmarked)) in
     let years = told-sorted-years h c.args.rows.now.years c.in_ok-years.years.items t.kept c.in_ok-years.ensures.sorted
     (rw c.years.ensures at c.in_ok-years.ensures.same) t.years_are in
     c.in_err-history.ensures.refused e h (rw (c.as_slice-4.ensures.value, c.as_slice-5.ensures.value) said)

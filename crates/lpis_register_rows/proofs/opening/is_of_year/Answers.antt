@@ -1,11 +1,11 @@
 use Rattle.std.proofs.Common.{◌∙◌, ap, sym}
-use Rattle.lpis_register_rows.proofs.Common.{Line}
+use Rattle.lpis_register_rows.proofs.Common.{KnownLine}
 use Rattle.lpis_register_rows.proofs.KnownLemmas.{known-at, known-past, not-below}
 use Rattle.lpis_register_rows.proofs.opening.is_of_year.Goals as goal
 
 pub returns-then-next-lines-clause-year : goal.returns-then-next-lines-clause-year
 returns-then-next-lines-clause-year c =
-    let at = ap (λ (l : Line). l.year) (known-at c.args.lines.now c.args.next c.index-lines-next.result c.if-next-lines.true c.index-lines-next.is) in
+    let at = ap (λ (l : KnownLine). l.year) (known-at c.args.lines.now c.args.next c.index-lines-next.result c.if-next-lines.true c.index-lines-next.is) in
     (λ t. at ∙ c.is_of.ensures.0 t, λ e. c.is_of.ensures.1 (sym at ∙ e))
 
 pub returns-else-next-lines-clause-year : goal.returns-else-next-lines-clause-year

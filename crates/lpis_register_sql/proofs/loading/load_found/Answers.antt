@@ -1,4 +1,5 @@
-use Rattle.std.proofs.Common.{refl, sym, subst, IsPermutation}
+use Rattle.std.proofs.Common.{[], refl, sym, subst, IsPermutation}
+use Rattle.lpis_register_sql.proofs.Common.{IsPermutation-refl}
 use Rattle.std.proofs.lemmas.Result.{err_from_is_err_and}
 use Rattle.lpis_register_sql.proofs.QuietLemmas.{answered, nothing_yet, then, then_fails}
 use Rattle.lpis_register_sql.proofs.loading.load_found.Goals as goal
@@ -7,34 +8,46 @@ pub returns-in_err-spans-clause-reads : goal.returns-in_err-spans-clause-reads
 returns-in_err-spans-clause-reads g c =
     let formats = then (λ s p. refl) nothing_yet c.in_ok-formats.ensures.reads in
     let years = then (λ s p. refl) formats c.in_ok-years.ensures.reads in
-    then_fails (err_from_is_err_and c.from_residual-in_err-spans.result c.from_residual-in_err-spans.ensures.1) (λ s p. p.0) years c.in_err-spans.ensures.reads
+    then_fails (err_from_is_err_and c.from_residual-in_err-spans.result c.from_residual-in_err-spans.ensures.1) (λ s p. p.spans) years c.in_err-spans.ensures.reads
 
 pub returns-in_err-lines-clause-reads : goal.returns-in_err-lines-clause-reads
 returns-in_err-lines-clause-reads g c =
     let formats = then (λ s p. refl) nothing_yet c.in_ok-formats.ensures.reads in
     let years = then (λ s p. refl) formats c.in_ok-years.ensures.reads in
-    let spans = then (λ s p. p.0) years c.in_ok-spans.ensures.reads in
+    let spans = then (λ s p. p.spans) years c.in_ok-spans.ensures.reads in
     then_fails (err_from_is_err_and c.from_residual-in_err-lines.result c.from_residual-in_err-lines.ensures.1) (λ s p. refl) spans c.in_err-lines.ensures.reads
 
 pub returns-in_err-lives-clause-reads : goal.returns-in_err-lives-clause-reads
 returns-in_err-lives-clause-reads g c =
     let formats = then (λ s p. refl) nothing_yet c.in_ok-formats.ensures.reads in
     let years = then (λ s p. refl) formats c.in_ok-years.ensures.reads in
-    let spans = then (λ s p. p.0) years c.in_ok-spans.ensures.reads in
+    let spans = then (λ s p. p.spans) years c.in_ok-spans.ensures.reads in
     let lines = then (λ s p. refl) spans c.in_ok-lines.ensures.reads in
-    then_fails (err_from_is_err_and c.from_residual-in_err-lives.result c.from_residual-in_err-lives.ensures.1) (λ s p. p.1) lines c.in_err-lives.ensures.reads
+    then_fails (err_from_is_err_and c.from_residual-in_err-lives.result c.from_residual-in_err-lives.ensures.1) (λ s p. p.lives) lines c.in_err-lives.ensures.reads
+
+pub returns-in_err-marks-clause-reads : goal.returns-in_err-marks-clause-reads
+returns-in_err-marks-clause-reads g c =
+    let formats = then (λ s p. refl) nothing_yet c.in_ok-formats.ensures.reads in
+    let years = then (λ s p. refl) formats c.in_ok-years.ensures.reads in
+    let spans = then (λ s p. p.spans) years c.in_ok-spans.ensures.reads in
+    let lines = then (λ s p. refl) spans c.in_ok-lines.ensures.reads in
+    let lives = then (λ s p. p.lives) lines c.in_ok-lives.ensures.reads in
+    then_fails (err_from_is_err_and c.from_residual-in_err-marks.result c.from_residual-in_err-marks.ensures.1) (λ s p. p.marks) lives c.in_err-marks.ensures.reads
 
 pub returns-clause-reads : goal.returns-clause-reads
 returns-clause-reads g c =
     let formats = then (λ s p. refl) nothing_yet c.in_ok-formats.ensures.reads in
     let years = then (λ s p. refl) formats c.in_ok-years.ensures.reads in
-    let spans = then (λ s p. p.0) years c.in_ok-spans.ensures.reads in
+    let spans = then (λ s p. p.spans) years c.in_ok-spans.ensures.reads in
     let lines = then (λ s p. refl) spans c.in_ok-lines.ensures.reads in
-    let lives = then (λ s p. p.1) lines c.in_ok-lives.ensures.reads in
-    answered lives (λ content all. record {
-      formats = subst (IsPermutation content.formats) (sym c.new.ensures.formats) all.0.0.0.0.1;
-      years = subst (IsPermutation content.years) (sym c.new.ensures.years) all.0.0.0.1;
-      spans = subst (IsPermutation content.spans) (sym c.new.ensures.spans) all.0.0.1;
-      lines = subst (IsPermutation content.lines) (sym c.new.ensures.lines) all.0.1;
-      live = subst (IsPermutation content.live) (sym c.new.ensures.live) all.1;
+    let lives = then (λ s p. p.lives) lines c.in_ok-lives.ensures.reads in
+    let marks = then (λ s p. p.marks) lives c.in_ok-marks.ensures.reads in
+    answered marks (λ content all. record {
+      formats = subst (IsPermutation content.formats) (sym c.new.ensures.formats) all.0.0.0.0.0.1;
+      years = subst (IsPermutation content.years) (sym c.new.ensures.years) all.0.0.0.0.1;
+      spans = subst (IsPermutation content.spans) (sym c.new.ensures.spans) all.0.0.0.1;
+      lines = subst (IsPermutation content.lines) (sym c.new.ensures.lines) all.0.0.1;
+      live = subst (IsPermutation content.live) (sym c.new.ensures.live) all.0.1;
+      texts = subst (IsPermutation []) (sym c.new.ensures.texts) (IsPermutation-refl []);
+      marks = subst (IsPermutation content.marks) (sym c.new.ensures.marks) all.1;
     })

@@ -3,6 +3,6 @@ use Rattle.lpis_register_sql.proofs.ClearLemmas.{clear_spans_inside}
 use Rattle.lpis_register_sql.proofs.moving.clear_spans.Goals as goal
 
 pub returns-clause-cleared : goal.returns-clause-cleared
-returns-clause-cleared g c clean shape there base content before =
-    clear_spans_inside shape base (state g.S.Store c.args.tx.now.conn.now) (state g.S.Store c.execute.new.self.conn.now)
-    content _ there before (c.in_ok-execute.ensures.runs clean before.in_transaction)
+returns-clause-cleared g c clean origin base content before =
+    clear_spans_inside origin base (state g.S.Store c.args.tx.now.conn.now) (state g.S.Store c.execute.new.self.conn.now)
+    content _ before (c.in_ok-execute.ensures.runs clean before.in_transaction)

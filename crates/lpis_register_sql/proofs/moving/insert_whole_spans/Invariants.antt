@@ -1,5 +1,5 @@
-use Rattle.std.proofs.Common.{◌≡◌, Ok, take, true}
-use Rattle.lpis_register_sql.proofs.Common.{state, with_whole_spans, has_spans, IsQuiet, Turns}
+use Rattle.std.proofs.Common.{◌≡◌, Ok, take}
+use Rattle.lpis_register_sql.proofs.Common.{state, with_whole_spans, IsQuiet, Turns}
 use Rattle.lpis_register_sql.proofs.moving.insert_whole_spans.Given as goal
 
 abbrev pub invariant-loop-span : goal.invariant-loop-span
@@ -7,6 +7,6 @@ invariant-loop-span g l =
     let old = state g.S.Store l.fn.tx.conn.now in
     let now = state g.S.Store l.tx.conn.now in record {
       same_reference : l.tx.conn.ghost_name ≡ l.fn.tx.conn.ghost_name;
-      adds : Turns (λ shape. has_spans shape ≡ true) (with_whole_spans (take l.span-index l.spans)) old now (Ok tt);
+      adds : Turns (with_whole_spans (take l.span-index l.spans)) old now (Ok tt);
       quiet : IsQuiet old now;
     }

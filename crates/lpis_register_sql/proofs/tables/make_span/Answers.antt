@@ -2,8 +2,7 @@ use Rattle.std.proofs.Common.{refl}
 use Rattle.lpis_register_sql.proofs.Common.{state, two_tables, three_tables, span_table}
 use Rattle.lpis_register_sql.specs.private.Texts.{make_span as text}
 use Rattle.lpis_register_sql.proofs.MeaningLemmas.{span_is}
-use Rattle.lpis_register_sql.proofs.MoveLemmas.{span_beside}
-use Rattle.lpis_register_sql.proofs.StageLemmas.{stage_next}
+use Rattle.lpis_register_sql.proofs.StageLemmas.{stage_next, span_beside}
 use Rattle.lpis_register_sql.proofs.tables.make_span.Goals as goal
 
 pub returns-clause-made : goal.returns-clause-made

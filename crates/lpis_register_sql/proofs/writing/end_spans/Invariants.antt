@@ -1,5 +1,5 @@
-use Rattle.std.proofs.Common.{◌≡◌, Ok, pos, take, true}
-use Rattle.lpis_register_sql.proofs.Common.{state, has_spans, IsQuiet, Turns}
+use Rattle.std.proofs.Common.{◌≡◌, Ok, pos, take}
+use Rattle.lpis_register_sql.proofs.Common.{state, IsQuiet, Turns}
 use Rattle.lpis_register_rows.specs.Content.{all_ended}
 use Rattle.lpis_register_sql.proofs.writing.end_spans.Given as goal
 
@@ -8,6 +8,6 @@ invariant-loop-id g l =
     let old = state g.S.Store l.fn.tx.conn.now in
     let now = state g.S.Store l.tx.conn.now in record {
       same_reference : l.tx.conn.ghost_name ≡ l.fn.tx.conn.ghost_name;
-      adds : Turns (λ shape. has_spans shape ≡ true) (all_ended (pos l.year) (take l.id-index l.ids)) old now (Ok tt);
+      adds : Turns (all_ended (pos l.year) (take l.id-index l.ids)) old now (Ok tt);
       quiet : IsQuiet old now;
     }

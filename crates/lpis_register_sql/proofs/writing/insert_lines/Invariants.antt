@@ -7,6 +7,6 @@ invariant-loop-position g l =
     let old = state g.S.Store l.fn.tx.conn.now in
     let now = state g.S.Store l.tx.conn.now in record {
       same_reference : l.tx.conn.ghost_name ≡ l.fn.tx.conn.ghost_name;
-      adds : Turns (λ _. Unit {0}) (with_lines (lines_from (pos l.year) 0 (take l.position l.rows))) old now (Ok tt);
+      adds : Turns (with_lines (lines_from (pos l.year) 0 (take l.position l.rows))) old now (Ok tt);
       quiet : IsQuiet old now;
     }

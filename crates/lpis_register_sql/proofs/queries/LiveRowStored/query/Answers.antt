@@ -5,5 +5,5 @@ use Rattle.lpis_register_sql.proofs.queries.LiveRowStored.query.Goals as goal
 
 pub returns-clause-reads : goal.returns-clause-reads
 returns-clause-reads g c =
-    by_query read_live (λ shape there. (read_live_means shape there).2) (λ shape there content rows. live_shown_are shape _ _ rows.items content there)
+    by_query read_live (λ layout there. (read_live_means layout there).2) (λ layout there content rows. live_shown_are layout _ _ rows.items content there)
     c.query_all.ensures.ok c.query_all.ensures.err c.query_all.ensures.survives

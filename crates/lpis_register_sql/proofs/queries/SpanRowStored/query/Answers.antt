@@ -5,5 +5,5 @@ use Rattle.lpis_register_sql.proofs.queries.SpanRowStored.query.Goals as goal
 
 pub returns-clause-reads : goal.returns-clause-reads
 returns-clause-reads g c =
-    by_query read_span (λ shape there. (read_span_means shape there).2) (λ shape there content rows. spans_shown shape _ _ rows.items content there)
+    by_query read_span (λ layout there. (read_span_means layout there).2) (λ layout there content rows. spans_shown layout _ _ rows.items content there)
     c.query_all.ensures.ok c.query_all.ensures.err c.query_all.ensures.survives

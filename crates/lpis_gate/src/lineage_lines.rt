@@ -1,0 +1,143 @@
+//! The lines of a publication.
+
+ghost use Rattle.std.specs.Prelude.{◌≡◌, IfOk, OnOk};
+ghost use Rattle.std.specs.Io.KnownBytes.{Appends};
+ghost use Rattle.std.specs.List.{flat_map};
+ghost use Rattle.lpis_lineage.specs.Changes.{kind_at};
+ghost use Rattle.lpis_register.specs.declared.fault.PublishFault.TheVariants.{Lineage};
+ghost use Rattle.lpis_gate.specs.LineageLines.{fate_text, kind_text, lineage_fault_text};
+ghost use Rattle.lpis_gate.specs.LineageLines.{lineage_line, lineage_location_text};
+ghost use Rattle.lpis_gate.specs.LineageLines.{publish_refusal_text, published_line};
+
+use lpis_commands::{Answer, PrintFault};
+use lpis_covers::Id;
+use lpis_lineage::{Change, Kind, LineageFault};
+use lpis_register::PublishFault;
+use std::alloc::{AllocError, Global};
+use std::io::Write;
+
+/// The word for what became of an identifier.
+fn kind_word(kind: Kind) -> &'static str
+    ensures { result.now ≡ kind_text kind }
+{
+    match kind {
+        Kind::Kept => "kept",
+        Kind::Split => "split",
+        Kind::Merged => "merged",
+        Kind::Replaced => "replaced",
+        Kind::Redrawn => "redrawn",
+        Kind::Ended => "ended",
+    }
+}
+
+/// The word for what became of an identifier of the last release, which others have not.
+fn fate_word(kind: Option<Kind>) -> &'static str
+    ensures { result.now ≡ fate_text kind }
+{
+    match kind {
+        Some(kind) => kind_word(kind),
+        None => "",
+    }
+}
+
+/// Writes the line of a dropped identifier.
+fn print_dropped<W: Write>(change: &Change, id: &Id, out: &mut W) -> Result<(), PrintFault>
+    ensures { OnOk result (Appends (W.contents out.old) (W.contents out.new)
+        (lineage_line (kind_at change.now) id.now)) }
+{
+    let word = fate_word(change.kind_of(id));
+    write!(out, "lineage {} {word}\n", id.as_str())?;
+    Ok(())
+}
+
+/// Writes the line of each identifier that a change drops.
+pub fn print_lineage<W: Write>(change: &Change, out: &mut W) -> Result<(), PrintFault>
+    ensures { OnOk result (Appends (W.contents out.old) (W.contents out.new)
+        (flat_map (lineage_line (kind_at change.now)) change.now.dropped_ids)) }
+{
+    let dropped = change.dropped();
+    for id in dropped {
+        print_dropped(change, id, out)?;
+    }
+    Ok(())
+}
+
+/// Writes the line of a published year.
+pub(crate) fn print_published<W: Write>(year: u16, out: &mut W) -> Result<(), PrintFault>
+    ensures { OnOk result
+        (Appends (W.contents out.old) (W.contents out.new) (published_line year)) }
+{
+    write!(out, "published {year}\n")?;
+    Ok(())
+}
+
+/// Writes the row or the identifier for which a lineage is refused.
+fn print_lineage_location<W: Write>(fault: &LineageFault, out: &mut W) -> Result<(), PrintFault>
+    ensures { OnOk result (Appends (W.contents out.old) (W.contents out.new)
+        (lineage_location_text fault.now)) }
+{
+    match fault {
+        LineageFault::Memory => {}
+        LineageFault::OldNotLive { row }
+        | LineageFault::OldStillLive { row }
+        | LineageFault::SuccessorMissing { row }
+        | LineageFault::DoubledRow { row }
+        | LineageFault::EndingBesideSuccessor { row }
+        | LineageFault::MarkedOutside { row } => write!(out, "row {row}")?,
+        LineageFault::NoRow { id } => write!(out, "{}", id.as_str())?,
+        LineageFault::UsedBefore { id, year } => write!(out, "{} {year}", id.as_str())?,
+    }
+    Ok(())
+}
+
+/// Writes a fault of a lineage.
+#[tactic(auto, unfolding(crate::specs::LineageLines::lineage_fault_text))]
+fn print_lineage_fault<W: Write>(fault: &LineageFault, out: &mut W) -> Result<(), PrintFault>
+    ensures { OnOk result (Appends (W.contents out.old) (W.contents out.new)
+        (lineage_fault_text fault.now)) }
+{
+    let Some(code) = fault.code() else {
+        return Ok(());
+    };
+    write!(out, "lineage {} ", code.as_str())?;
+    print_lineage_location(fault, out)
+}
+
+/// Writes the line of a refused lineage.
+fn print_lineage_refusal<W: Write>(fault: &LineageFault, out: &mut W) -> Result<(), PrintFault>
+    ensures { OnOk result (Appends (W.contents out.old) (W.contents out.new)
+        (publish_refusal_text (Lineage fault.now))) }
+{
+    out.write_all(b"refused 81 ")?;
+    print_lineage_fault(fault, out)?;
+    out.write_all(b"\n")?;
+    Ok(())
+}
+
+/// Writes the line of a refusal of the register. Out of memory and a failed store are no
+/// refusals, and have no line.
+pub fn print_publish_fault<W: Write>(fault: &PublishFault, out: &mut W) -> Result<(), PrintFault>
+    ensures { OnOk result (Appends (W.contents out.old) (W.contents out.new)
+        (publish_refusal_text fault.now)) }
+{
+    match fault {
+        PublishFault::Memory | PublishFault::Store => {}
+        PublishFault::Year { last } => write!(out, "refused 80 last {last}\n")?,
+        PublishFault::Lineage(lineage) => print_lineage_refusal(lineage, out)?,
+        PublishFault::Unknown => out.write_all(b"refused 83\n")?,
+        PublishFault::Unlawful => out.write_all(b"refused 84\n")?,
+    }
+    Ok(())
+}
+
+/// The line of a refusal of the register, with this status.
+pub(crate) fn refuse(alloc: Global, fault: &PublishFault, status: u8) -> Result<Answer, AllocError>
+    ensures { IfOk result (λ a. (a.text.items ≡ publish_refusal_text fault.now) ×
+        (a.status ≡ status)) }
+{
+    let mut text = Vec::new(alloc);
+    match print_publish_fault(fault, &mut text) {
+        Ok(()) => Ok(Answer { text, status }),
+        Err(_) => Err(AllocError),
+    }
+}

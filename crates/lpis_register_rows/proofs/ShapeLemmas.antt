@@ -1,0 +1,217 @@
+-- Shapes in the order of their identifiers, and the texts that keep them.
+use Rattle.std.proofs.Common.{◌≡◌, ◌∙◌, ◌<◌, ◌≤◌, ◌+◌, inl, inr, refl, sym, ap, ap₂, subst, arith, ℕ, zero, suc, List, [], ◌∷◌, ◌++◌, true, false, length, map, take, get_or, Result, Ok, Err, IsPermutation, Ordering, Less, Equal, Greater, is_lt, is_ge, is_eq, nat_cmp, IsSortedByKey}
+use Rattle.lpis_register_rows.proofs.Common.{AllByRecursion, IsPermutation-sym, IsPermutation-trans, before-at-after, has_id, is_id, or_left, or_right, same-refl, same_id, slice_cmp}
+use Rattle.lpis_lineage.proofs.Shared.{same-sym}
+use Rattle.std.specs.Cmp.Lexicographic.{nat_list_cmp_total, texts_ties}
+use Rattle.std.specs.List.{AllZip, IsDistinct}
+use Rattle.std.specs.Ordering.{ordering_reverse}
+use Rattle.std.proofs.lemmas.List.{get_or_default, map-id}
+use Rattle.std.proofs.lemmas.List.Sorted.{IsPermutation-map, IsPermutation-refl, ranks_by, sorted_far}
+use Rattle.std.proofs.lemmas.Map.Keys.{IsDistinct-IsPermutation, Less-from_sorted, apart_from_distinct, sorted_from_all_adjacent, sorted_head, sorted_tail}
+use Rattle.lpis_lineage.specs.Order.{IsAscending}
+use Rattle.lpis_parcels.specs.Release.{parcel_ids}
+use Rattle.lpis_parcels.specs.declared.parcel.Parcel.{Parcel}
+use Rattle.lpis_rings.specs.declared.polygon.Member.{Member}
+use Rattle.lpis_wkt.specs.Answer.{polygon_of}
+use Rattle.lpis_wkt.specs.Text.{PolygonText}
+use Rattle.lpis_wkt.specs.declared.fault.WktCode.{WktCode}
+use Rattle.lpis_register_rows.specs.Content.{StoredText}
+use Rattle.lpis_register_rows.specs.Shapes.{AreLive, IsLive, IsTextOf, Shape, ShapesAre, shape_ids, shape_of}
+use Rattle.lpis_register_rows.proofs.AscendingLemmas.{Ascends, all-both, all-moved, same-ascending}
+use Rattle.lpis_register_rows.proofs.KnownLemmas.{take-whole}
+use Rattle.lpis_register_rows.proofs.MarkLemmas.{all-unmap}
+use Rattle.lpis_register_rows.proofs.SortingLemmas.{Less_by, Rises, ascends-map, rises-far, sorted-same}
+
+-- ---- lists read side by side, one further
+
+pub zip-push : {A B : Type 0} (R : A → B → Type 0) (xs : List A) (ys : List B) (x : A) (y : B) → AllZip R xs ys → R x y → AllZip R (xs ++ x ∷ []) (ys ++ y ∷ [])
+zip-push R [] [] x y z r = (r, tt)
+zip-push R [] (b ∷ ys) x y z r = absurd z
+zip-push R (a ∷ xs) [] x y z r = absurd z
+zip-push R (a ∷ xs) (b ∷ ys) x y z r = (z.0, zip-push R xs ys x y z.1 r)
+
+-- what stands beside the element at a position
+pub zip-at : {A B : Type 0} (R : A → B → Type 0) (P : B → Type 0) (xs : List A) (ys : List B) (i : ℕ) (x : A) → AllZip R xs ys → AllByRecursion P ys → i < length xs → x ≡ get_or xs i x → (y : B) × R x y × P y
+zip-at R P [] ys i x z all lt at = absurd (omega (arith, lt))
+zip-at R P (a ∷ xs) [] i x z all lt at = absurd z
+zip-at R P (a ∷ xs) (b ∷ ys) zero x z all lt at = (b, subst (λ e. R e b) (sym at) z.0, all.0)
+zip-at R P (a ∷ xs) (b ∷ ys) (suc i) x z all lt at = zip-at R P xs ys i x z.1 all.1 (omega (arith, lt)) at
+
+pub all-push : {A : Type 0} (P : A → Type 0) (xs : List A) (x : A) → AllByRecursion P xs → P x → AllByRecursion P (xs ++ x ∷ [])
+all-push P [] x a p = (p, tt)
+all-push P (y ∷ ys) x a p = (a.0, all-push P ys x a.1 p)
+
+-- ---- order
+
+pub not-ge : (r : Ordering) → is_ge r ≡ false → r ≡ Less
+not-ge Less e = refl
+not-ge Equal e = cc e
+not-ge Greater e = cc e
+
+-- the identifiers before a position ascend
+abbrev pub AscendBefore : List (List ℕ) → ℕ → Type 0
+AscendBefore ids n = (k : ℕ) → k + 1 < n → slice_cmp nat_cmp (get_or ids k []) (get_or ids (k + 1) []) ≡ Less
+
+id-at : (shapes : List Shape) (i : ℕ) (shape : Shape) → i < length shapes → shape ≡ get_or shapes i shape → get_or (shape_ids shapes) i [] ≡ shape.0
+id-at [] i shape lt at = absurd (omega (arith, lt))
+id-at (s ∷ ss) zero shape lt at = ap (λ (x : Shape). x.0) (sym at)
+id-at (s ∷ ss) (suc i) shape lt at = id-at ss i shape (omega (arith, lt)) at
+
+ids-length : (shapes : List Shape) → length (shape_ids shapes) ≡ length shapes
+ids-length [] = refl
+ids-length (s ∷ ss) = ap suc (ids-length ss)
+
+-- two neighbours, the first at the position before
+pub pair-at : (shapes : List Shape) (before n : ℕ) (a b : Shape) → before + 1 ≡ n → n < length shapes → a ≡ get_or shapes before a → b ≡ get_or shapes n b
+    → slice_cmp nat_cmp (get_or (shape_ids shapes) before []) (get_or (shape_ids shapes) n []) ≡ slice_cmp nat_cmp a.0 b.0
+pair-at shapes before n a b e lt at here = ap₂ (λ (x y : List ℕ). slice_cmp nat_cmp x y) (id-at shapes before a (omega (arith, e, lt)) at) (id-at shapes n b lt here)
+
+pub ascend-more : (shapes : List Shape) (before n : ℕ) (a b : Shape) → before + 1 ≡ n → n < length shapes → a ≡ get_or shapes before a → b ≡ get_or shapes n b
+    → slice_cmp nat_cmp a.0 b.0 ≡ Less → AscendBefore (shape_ids shapes) n → AscendBefore (shape_ids shapes) (n + 1)
+ascend-more shapes before n a b e lt at here less up k kn = elim (before-at-after (k + 1) n) as (λ _. slice_cmp nat_cmp (get_or (shape_ids shapes) k []) (get_or (shape_ids shapes) (k + 1) []) ≡ Less) [
+  | inl l ↦ up k l
+  | inr r ↦ elim r as (λ _. slice_cmp nat_cmp (get_or (shape_ids shapes) k []) (get_or (shape_ids shapes) (k + 1) []) ≡ Less) [
+    | inl same ↦
+        let k-is : k ≡ before = omega (arith, same, e) in
+        ap₂ (λ (i j : ℕ). slice_cmp nat_cmp (get_or (shape_ids shapes) i []) (get_or (shape_ids shapes) j [])) k-is same
+        ∙ pair-at shapes before n a b e lt at here ∙ less
+    | inr g ↦ absurd (omega (arith, kn, g))
+  ]
+]
+
+pub ascend-whole : (shapes : List Shape) (n : ℕ) → length shapes ≤ n → AscendBefore (shape_ids shapes) n → IsAscending (shape_ids shapes)
+ascend-whole shapes n le up = sorted_from_all_adjacent nat_list_cmp_total (shape_ids shapes) [] (λ k lt. up k (let e = ids-length shapes in omega (arith, lt, e, le)))
+
+pub ascend-pair : (shapes : List Shape) (before n : ℕ) (a b : Shape) → before + 1 ≡ n → n < length shapes → a ≡ get_or shapes before a → b ≡ get_or shapes n b
+    → IsAscending (shape_ids shapes) → slice_cmp nat_cmp a.0 b.0 ≡ Less
+ascend-pair shapes before n a b e lt at here up = sym (pair-at shapes before n a b e lt at here)
+    ∙ Less-from_sorted (slice_cmp nat_cmp) (shape_ids shapes) before n [] up (omega (arith, e)) (let l = ids-length shapes in omega (arith, l, lt))
+
+abbrev Below : Shape → Shape → Type 0
+Below a b = slice_cmp nat_cmp a.0 b.0 ≡ Less
+
+below-alone : (a b : Shape) → Below a b → Below b a → ⊥
+below-alone a b r s = let e = sym r ∙ nat_list_cmp_total.antisymm a.0 b.0 ∙ ap ordering_reverse s in cc
+
+ascending : (shapes : List Shape) → IsAscending (shape_ids shapes) → Ascends Below shapes
+ascending [] a = tt
+ascending (s ∷ ss) a = (
+  all-unmap (λ (id : List ℕ). slice_cmp nat_cmp s.0 id ≡ Less) (λ (x : Shape). x.0) ss (sorted_head (slice_cmp nat_cmp) s.0 (shape_ids ss) a),
+  ascending ss (sorted_tail (slice_cmp nat_cmp) s.0 (shape_ids ss) a),
+)
+
+-- shapes that are sorted are the ascending ones of which they are
+pub sorted-shapes : (sorted kept : List Shape) → IsSortedByKey (λ (s : Shape). s.0) (slice_cmp nat_cmp) sorted → IsAscending (shape_ids kept) → IsPermutation sorted kept → sorted ≡ kept
+sorted-shapes sorted kept up a p = sorted-same (λ (x y : Shape). is_lt (slice_cmp nat_cmp x.0 y.0)) (ranks_by nat_list_cmp_total (λ (s : Shape). s.0)) sorted kept
+    (subst (Rises (λ (x y : Shape). is_lt (slice_cmp nat_cmp x.0 y.0))) (map-id sorted) (rises-far (λ (x y : Shape). is_lt (slice_cmp nat_cmp x.0 y.0)) (λ (s : Shape). s) sorted
+    (sorted_far (λ (x y : Shape). is_lt (slice_cmp nat_cmp x.0 y.0)) (ranks_by nat_list_cmp_total (λ (s : Shape). s.0)) sorted up)))
+    (ascends-map Below (Less_by (λ (x y : Shape). is_lt (slice_cmp nat_cmp x.0 y.0))) kept (λ x y r. ap is_lt r) (ascending kept a)) p
+
+same-shapes : (a b : List Shape) → IsAscending (shape_ids a) → IsAscending (shape_ids b) → IsPermutation a b → a ≡ b
+same-shapes a b up also p = same-ascending Below below-alone a b (ascending a up) (ascending b also) p
+
+-- ---- what texts spell
+
+-- a text spells one polygon
+abbrev pub SpellsOne : Type 0
+SpellsOne = (text : List ℕ) (members : List Member) → PolygonText text members → polygon_of text ≡ Ok members
+
+abbrev members_in : Result (List Member) (WktCode × ℕ) → List Member
+members_in (Ok members) = members
+members_in (Err e) = []
+
+abbrev told : StoredText → Shape
+told t = (t.id, members_in (polygon_of t.wkt))
+
+told-is : SpellsOne → (t : StoredText) (shape : Shape) → IsTextOf t shape → shape ≡ told t
+told-is one t shape is = ap₂ (λ (id : List ℕ) (ms : List Member). (id, ms)) (sym is.0) (ap members_in (sym (one t.wkt shape.1 is.1)))
+
+pub order-is : SpellsOne → (texts : List StoredText) (order : List Shape) → AllZip IsTextOf texts order → order ≡ map told texts
+order-is one [] [] z = refl
+order-is one [] (s ∷ ss) z = absurd z
+order-is one (t ∷ ts) [] z = absurd z
+order-is one (t ∷ ts) (s ∷ ss) z = ap₂ (λ (x : Shape) (xs : List Shape). x ∷ xs) (told-is one t s z.0) (order-is one ts ss z.1)
+
+all-told : SpellsOne → (texts : List StoredText) (order : List Shape) → AllZip IsTextOf texts order → AllByRecursion (λ t. IsTextOf t (told t)) texts
+all-told one [] order z = tt
+all-told one (t ∷ ts) [] z = absurd z
+all-told one (t ∷ ts) (s ∷ ss) z = (subst (IsTextOf t) (told-is one t s z.0) z.0, all-told one ts ss z.1)
+
+zip-told : (texts : List StoredText) → AllByRecursion (λ t. IsTextOf t (told t)) texts → AllZip IsTextOf texts (map told texts)
+zip-told [] a = tt
+zip-told (t ∷ ts) a = (a.0, zip-told ts a.1)
+
+pub shapes-reordered : SpellsOne → (texts others : List StoredText) (shapes : List Shape) → IsPermutation texts others → ShapesAre texts shapes → ShapesAre others shapes
+shapes-reordered one texts others shapes p are = record {
+  ascend = are.ascend;
+  order = map told others;
+  spelled = zip-told others (all-moved (λ t. IsTextOf t (told t)) texts others p (all-told one texts are.order are.spelled));
+  same = IsPermutation-trans (map told others) (map told texts) shapes (IsPermutation-map told others texts (IsPermutation-sym texts others p))
+      (subst (λ (l : List Shape). IsPermutation l shapes) (order-is one texts are.order are.spelled) are.same);
+}
+
+pub one-list : SpellsOne → (texts others : List StoredText) (shapes kept : List Shape) → IsPermutation texts others → ShapesAre texts shapes → ShapesAre others kept → shapes ≡ kept
+one-list one texts others shapes kept p a b =
+    let moved = shapes-reordered one texts others shapes p a in
+    let order = order-is one others moved.order moved.spelled ∙ sym (order-is one others b.order b.spelled) in
+    same-shapes shapes kept a.ascend b.ascend (IsPermutation-trans shapes moved.order kept (IsPermutation-sym moved.order shapes moved.same)
+    (subst (λ (l : List Shape). IsPermutation l kept) (sym order) b.same))
+
+pub no-shapes : ShapesAre [] []
+no-shapes = record { ascend = sorted_from_all_adjacent nat_list_cmp_total [] [] (λ k lt. absurd (omega (arith, lt))); order = []; spelled = tt; same = IsPermutation-refl [] }
+
+-- shapes that were read from texts, and sorted, are those that the texts keep
+pub read-shapes : SpellsOne → (texts : List StoredText) (read sorted kept : List Shape) → AllZip IsTextOf texts read → IsPermutation read sorted
+    → IsSortedByKey (λ (s : Shape). s.0) (slice_cmp nat_cmp) sorted → ShapesAre texts kept → sorted ≡ kept
+read-shapes one texts read sorted kept z p up are =
+    let same : read ≡ are.order = order-is one texts read z ∙ sym (order-is one texts are.order are.spelled) in
+    sorted-shapes sorted kept up are.ascend (IsPermutation-trans sorted read kept (IsPermutation-sym read sorted p) (subst (λ (l : List Shape). IsPermutation l kept) (sym same) are.same))
+
+-- the shapes in the order of the texts are live as those that they keep
+pub order-live : (live : List (List ℕ)) (texts : List StoredText) (shapes : List Shape) (are : ShapesAre texts shapes) → AreLive live shapes → AreLive live are.order
+order-live live texts shapes are all = all-moved (IsLive live) shapes are.order (IsPermutation-sym are.order shapes are.same) all
+
+-- ---- the shapes of parcels
+
+pub parcel-shape-ids : (parcels : List Parcel) → shape_ids (map shape_of parcels) ≡ parcel_ids parcels
+parcel-shape-ids [] = refl
+parcel-shape-ids (p ∷ ps) = ap (λ (l : List (List ℕ)). p.id ∷ l) (parcel-shape-ids ps)
+
+less-apart : (r : Ordering) → is_lt (ordering_reverse r) ≡ false → is_eq r ≡ false → r ≡ Less
+less-apart Less a b = refl
+less-apart Equal a b = cc b
+less-apart Greater a b = cc a
+
+-- what is sorted, with no identifier twice, ascends
+pub sorted-ascends : (parcels : List Parcel) (sorted : List Shape) → IsDistinct same_id (parcel_ids parcels) → IsPermutation (map shape_of parcels) sorted
+    → IsSortedByKey (λ (s : Shape). s.0) (slice_cmp nat_cmp) sorted → IsAscending (shape_ids sorted)
+sorted-ascends parcels sorted apart p up = sorted_from_all_adjacent nat_list_cmp_total ids [] less where
+  ids : List (List ℕ)
+  ids = shape_ids sorted
+
+  distinct : IsDistinct same_id ids
+  distinct = IsDistinct-IsPermutation same_id same-sym (parcel_ids parcels) ids
+      (subst (λ (l : List (List ℕ)). IsPermutation l ids) (parcel-shape-ids parcels) (IsPermutation-map (λ (s : Shape). s.0) (map shape_of parcels) sorted p)) apart
+
+  at : (i : ℕ) (d : Shape) → i < length sorted → get_or ids i [] ≡ (get_or sorted i d).0
+  at i d lt = id-at sorted i (get_or sorted i d) lt (get_or_default sorted i d (get_or sorted i d) lt)
+
+  less : (k : ℕ) → k + 1 < length ids → slice_cmp nat_cmp (get_or ids k []) (get_or ids (k + 1) []) ≡ Less
+  less k lt =
+      let d : Shape = ([], []) in
+      let n = ids-length sorted in
+      let a = get_or ids k [] in
+      let b = get_or ids (k + 1) [] in
+      let not-below : is_lt (slice_cmp nat_cmp b a) ≡ false =
+      ap₂ (λ (x y : List ℕ). is_lt (slice_cmp nat_cmp x y)) (at (k + 1) d (omega (arith, n, lt))) (at k d (omega (arith, n, lt))) ∙ up k d (omega arith) (omega (arith, n, lt)) in
+      less-apart (slice_cmp nat_cmp a b) (ap is_lt (sym (nat_list_cmp_total.antisymm b a)) ∙ not-below)
+      (sym (texts_ties a b) ∙ apart_from_distinct same_id ids k (k + 1) [] distinct (omega arith) lt)
+
+-- copies are of live parcels
+pub copied-live : (parcels : List Parcel) (i : ℕ) (copies : List Shape) → length parcels ≤ i → copies ≡ map shape_of (take i parcels) → AllByRecursion (λ (s : Shape). is_id s.0 ≡ true) copies
+    → AreLive (parcel_ids parcels) copies
+copied-live parcels i copies le same ids = all-both (λ (s : Shape). is_id s.0 ≡ true) (λ (s : Shape). has_id (parcel_ids parcels) s.0 ≡ true) (IsLive (parcel_ids parcels)) copies (λ s a b. (a, b)) ids
+    (subst (AllByRecursion (λ (s : Shape). has_id (parcel_ids parcels) s.0 ≡ true)) (sym (same ∙ ap (λ (l : List Parcel). map shape_of l) (take-whole parcels i le))) (among parcels (λ id h. h))) where
+      among : (ps : List Parcel) → ((id : List ℕ) → has_id (parcel_ids ps) id ≡ true → has_id (parcel_ids parcels) id ≡ true) → AllByRecursion (λ (s : Shape). has_id (parcel_ids parcels) s.0 ≡ true) (map shape_of ps)
+      among [] f = tt
+      among (p ∷ ps) f = (f p.id (or_left (same_id p.id p.id) (has_id (parcel_ids ps) p.id) (same-refl p.id)), among ps (λ id h. f id (or_right (same_id id p.id) (has_id (parcel_ids ps) id) h)))

@@ -1,0 +1,14 @@
+use Rattle.lpis_parcels.specs.Release.{parcel_ids}
+use Rattle.lpis_register_rows.proofs.AscendingLemmas.{all-moved}
+use Rattle.lpis_register_rows.proofs.ShapeLemmas.{sorted-ascends}
+use Rattle.lpis_register_rows.specs.Shapes.{IsLive}
+use Rattle.lpis_register_rows.proofs.shapes.shapes_in.Goals as goal
+
+pub returns-clause-are : goal.returns-clause-are
+returns-clause-are c =
+    let same = rw (c.in_ok-shapes.ensures.same, c.parcels.ensures.parcels) at c.sort_shapes.ensures.same in
+    record { ascend = sorted-ascends c.args.release.now.parcels c.sort_shapes.new.shapes.items c.parcels.ensures.distinct same c.sort_shapes.ensures.sorted; same = same }
+
+pub returns-clause-live : goal.returns-clause-live
+returns-clause-live c = all-moved (IsLive (parcel_ids c.args.release.now.parcels)) c.in_ok-shapes.shapes.items c.sort_shapes.new.shapes.items c.sort_shapes.ensures.same
+    (rw c.parcels.ensures.parcels at c.in_ok-shapes.ensures.live)

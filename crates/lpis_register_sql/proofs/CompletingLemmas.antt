@@ -1,0 +1,36 @@
+-- The orders of the tables while those that are not there are made.
+use Rattle.std.proofs.Common.{◌≡◌, true, refl, sym, true≢false}
+use Rattle.lpis_register_sql.proofs.Common.{Layout, has_marks, has_spans, has_texts, made_whole}
+use Rattle.lpis_register_sql.specs.private.Completing.{with_span_table, with_text_table}
+use Rattle.lpis_register_sql.proofs.MeaningLemmas.{in_all}
+
+pub spans_stand : (s : Layout) → has_spans (with_span_table s) ≡ true
+spans_stand = in_all _ refl refl refl refl refl refl refl
+
+pub texts_next : (s : Layout) → has_texts s ≡ has_texts (with_span_table s)
+texts_next = in_all _ refl refl refl refl refl refl refl
+
+pub texts_stand : (s : Layout) → has_texts (with_text_table (with_span_table s)) ≡ true
+texts_stand = in_all _ refl refl refl refl refl refl refl
+
+pub marks_next : (s : Layout) → has_marks s ≡ has_marks (with_text_table (with_span_table s))
+marks_next = in_all _ refl refl refl refl refl refl refl
+
+pub whole_next : (s : Layout) → made_whole (with_text_table (with_span_table s)) ≡ made_whole s
+whole_next = in_all _ refl refl refl refl refl refl refl
+
+-- ---- one step
+
+pub span_there : (s : Layout) → has_spans s ≡ true → with_span_table s ≡ s
+span_there = in_all _ (λ is. refl) (λ is. refl) (λ is. refl) (λ is. refl) (λ is. refl) (λ is. refl) (λ is. absurd (true≢false (sym is)))
+
+pub text_there : (s : Layout) → has_texts s ≡ true → with_text_table s ≡ s
+text_there = in_all _ (λ is. refl) (λ is. refl) (λ is. refl) (λ is. refl) (λ is. absurd (true≢false (sym is))) (λ is. absurd (true≢false (sym is))) (λ is. absurd (true≢false (sym is)))
+
+pub mark_there : (s : Layout) → has_marks s ≡ true → made_whole s ≡ s
+mark_there = in_all _ (λ is. refl) (λ is. refl) (λ is. absurd (true≢false (sym is))) (λ is. absurd (true≢false (sym is))) (λ is. absurd (true≢false (sym is))) (λ is. absurd (true≢false (sym is)))
+    (λ is. absurd (true≢false (sym is)))
+
+-- `lpis_mark` is made last
+pub marks_with_spans : (s : Layout) → has_marks s ≡ true → has_spans s ≡ true
+marks_with_spans = in_all _ (λ is. refl) (λ is. refl) (λ is. refl) (λ is. refl) (λ is. refl) (λ is. refl) (λ is. absurd (true≢false (sym is)))

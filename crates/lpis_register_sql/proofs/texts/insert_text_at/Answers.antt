@@ -1,0 +1,9 @@
+use Rattle.lpis_register_sql.proofs.Common.{state}
+use Rattle.lpis_register_sql.specs.private.Lines.{text_at}
+use Rattle.lpis_register_sql.proofs.InsertLemmas.{text_inside}
+use Rattle.lpis_register_sql.proofs.texts.insert_text_at.Goals as goal
+
+pub returns-clause-adds : goal.returns-clause-adds
+returns-clause-adds g c clean origin base content before =
+    let ran = rw (c.params-to_sql.ensures, c.params-to_sql-2.ensures) at (c.in_ok-execute.ensures.runs clean before.in_transaction) in
+    text_inside origin base (state g.S.Store c.args.tx.now.conn.now) (state g.S.Store c.execute.new.self.conn.now) content (text_at c.args.id.now c.args.wkt.now) _ before ran

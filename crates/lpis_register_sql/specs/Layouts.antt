@@ -1,0 +1,116 @@
+-- The orders in which the register's tables may stand.
+use Rattle.std.specs.Prelude.{ℕ, Bool, true, false, [], ◌∷◌, ◌++◌, List}
+use Rattle.sqlite.specs.Schema.{Schema}
+use Rattle.sqlite.specs.Table.{Table}
+use Rattle.sqlite_schema.specs.declared.schema.Index.{Index}
+use Rattle.lpis_register_sql.specs.Tables.{format_table, release_table, live_table, span_table}
+use Rattle.lpis_register_sql.specs.Tables.{row_table}
+use Rattle.lpis_register_sql.specs.Tables.{text_table, mark_table}
+use Rattle.lpis_register_sql.specs.Tables.{live_index, span_index, row_index, text_index}
+use Rattle.lpis_register_sql.specs.Tables.{mark_index}
+
+-- where a register comes from
+pub data Origin : Type 0 where
+  -- this program made it, in version 2 or 3
+  New : Origin
+  -- it was made in version 1: `lpis_live` stays, and `lpis_span` stands behind its tables
+  Moved : Origin
+
+pub data Layout : Type 0 where
+  -- version 3: `lpis_text` and then `lpis_mark` are made last
+  Whole : Origin → Layout
+  -- version 3 as long as it has no `lpis_mark`
+  LessMarks : Origin → Layout
+  -- version 2
+  LessTexts : Origin → Layout
+  -- version 1
+  First : Layout
+
+abbrev pub origin_of : Layout → Origin
+origin_of (Whole origin) = origin
+origin_of (LessMarks origin) = origin
+origin_of (LessTexts origin) = origin
+origin_of First = Moved
+
+-- ---- the trees that differ; an index takes the next
+
+abbrev pub span_tree : Origin → ℕ
+span_tree New = 2
+span_tree Moved = 6
+
+abbrev pub text_tree : Origin → ℕ
+text_tree New = 6
+text_tree Moved = 8
+
+abbrev pub mark_tree : Origin → ℕ
+mark_tree New = 8
+mark_tree Moved = 10
+
+-- ---- the tables in their order
+
+abbrev pub older_tables : Origin → List Table
+older_tables New = format_table 0 ∷ release_table 1 ∷ span_table 2 ∷ row_table 4 ∷ []
+older_tables Moved = format_table 0 ∷ release_table 1 ∷ live_table 2 ∷ row_table 4 ∷ span_table 6
+    ∷ []
+
+abbrev pub older_indexes : Origin → List Index
+older_indexes New = span_index 2 ∷ row_index 4 ∷ []
+older_indexes Moved = live_index 2 ∷ row_index 4 ∷ span_index 6 ∷ []
+
+abbrev pub schema_of : Layout → Schema
+schema_of (Whole origin) = record {
+  tables = older_tables origin ++ text_table (text_tree origin) ∷ mark_table (mark_tree origin)
+      ∷ [];
+  indexes = older_indexes origin ++ text_index (text_tree origin) ∷ mark_index (mark_tree origin)
+      ∷ [];
+  views = [];
+}
+schema_of (LessMarks origin) = record {
+  tables = older_tables origin ++ text_table (text_tree origin) ∷ [];
+  indexes = older_indexes origin ++ text_index (text_tree origin) ∷ [];
+  views = [];
+}
+schema_of (LessTexts origin) = record {
+  tables = older_tables origin;
+  indexes = older_indexes origin;
+  views = [];
+}
+schema_of First = record {
+  tables = format_table 0 ∷ release_table 1 ∷ live_table 2 ∷ row_table 4 ∷ [];
+  indexes = live_index 2 ∷ row_index 4 ∷ [];
+  views = [];
+}
+
+-- ---- which tables there are
+
+abbrev pub is_moved : Origin → Bool
+is_moved New = false
+is_moved Moved = true
+
+abbrev pub has_live : Layout → Bool
+has_live layout = is_moved (origin_of layout)
+
+abbrev pub has_spans : Layout → Bool
+has_spans First = false
+has_spans _ = true
+
+abbrev pub has_texts : Layout → Bool
+has_texts (Whole origin) = true
+has_texts (LessMarks origin) = true
+has_texts (LessTexts origin) = false
+has_texts First = false
+
+abbrev pub has_marks : Layout → Bool
+has_marks (Whole origin) = true
+has_marks (LessMarks origin) = false
+has_marks (LessTexts origin) = false
+has_marks First = false
+
+-- the tables once those that are not there are made
+abbrev pub made_whole : Layout → Layout
+made_whole layout = Whole (origin_of layout)
+
+-- ---- before there is a table
+
+abbrev pub no_schema : Schema
+no_schema = record { tables = []; indexes = []; views = [] }

@@ -1,0 +1,81 @@
+//! The marks of the rows of lineage, written.
+
+ghost use Rattle.std.specs.Prelude.{◌≡◌, ◌<◌, ◌^◌, ◌∷◌, [], pos};
+ghost use Rattle.sqlite.specs.Held.{state};
+ghost use Rattle.lpis_register_rows.specs.Content.{marks_from, with_mark, with_marks};
+ghost use Rattle.lpis_register_rows.specs.Content.{without_marks};
+ghost use Rattle.lpis_register_sql.specs.private.Inside.{IsQuiet, Turns};
+ghost use Rattle.lpis_register_sql.specs.private.Lines.{mark_at};
+
+use lpis_lineage::Row;
+use sqlite::{Alter, Error, Transaction, params};
+
+/// No mark is left.
+pub(crate) fn clear_marks<S: Alter>(tx: &mut Transaction<'_, S>) -> Result<(), Error>
+    ensures same_reference { tx.new.conn.ghost_name ≡ tx.old.conn.ghost_name }
+    ensures cleared { Turns without_marks (state S.Store tx.old.conn.now)
+        (state S.Store tx.new.conn.now) result }
+    ensures quiet { IsQuiet (state S.Store tx.old.conn.now) (state S.Store tx.new.conn.now) }
+{
+    tx.execute("DELETE FROM lpis_mark", &[])?;
+    Ok(())
+}
+
+/// One more mark: of the row of lineage at a position of a year's release.
+pub(crate) fn insert_mark<S: Alter>(
+    tx: &mut Transaction<'_, S>,
+    year: u32,
+    position: usize,
+) -> Result<(), Error>
+    requires small { position < 2 ^ 63 }
+    ensures same_reference { tx.new.conn.ghost_name ≡ tx.old.conn.ghost_name }
+    ensures adds { Turns (λ c. with_mark c (mark_at (pos year) (pos position)))
+        (state S.Store tx.old.conn.now) (state S.Store tx.new.conn.now) result }
+    ensures quiet { IsQuiet (state S.Store tx.old.conn.now) (state S.Store tx.new.conn.now) }
+{
+    let position = position as i64;
+    tx.execute(
+        "INSERT INTO lpis_mark (year, pos) VALUES (?1, ?2)",
+        params![year, position],
+    )?;
+    Ok(())
+}
+
+/// The mark of a row of lineage at its position, where it is marked exact.
+fn insert_if<S: Alter>(
+    tx: &mut Transaction<'_, S>,
+    year: u32,
+    position: usize,
+    row: &Row,
+) -> Result<(), Error>
+    requires small { position < 2 ^ 63 }
+    ensures same_reference { tx.new.conn.ghost_name ≡ tx.old.conn.ghost_name }
+    ensures adds { Turns (with_marks (marks_from (pos year) position (row.now ∷ [])))
+        (state S.Store tx.old.conn.now) (state S.Store tx.new.conn.now) result }
+    ensures quiet { IsQuiet (state S.Store tx.old.conn.now) (state S.Store tx.new.conn.now) }
+{
+    if row.exact {
+        insert_mark(tx, year, position)
+    } else {
+        Ok(())
+    }
+}
+
+/// The marks of a release's rows, at their positions from 0.
+pub(crate) fn insert_marks<S: Alter>(
+    tx: &mut Transaction<'_, S>,
+    year: u32,
+    rows: &[Row],
+) -> Result<(), Error>
+    ensures same_reference { tx.new.conn.ghost_name ≡ tx.old.conn.ghost_name }
+    ensures adds { Turns (with_marks (marks_from (pos year) 0 rows.now))
+        (state S.Store tx.old.conn.now) (state S.Store tx.new.conn.now) result }
+    ensures quiet { IsQuiet (state S.Store tx.old.conn.now) (state S.Store tx.new.conn.now) }
+{
+    // Which is below 2^63.
+    let _ = rows.len();
+    for (position, row) in rows.iter().enumerate() {
+        insert_if(tx, year, position, row)?;
+    }
+    Ok(())
+}
