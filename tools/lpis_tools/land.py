@@ -76,6 +76,12 @@ def read(path, names=None, wanted=("parcels", "covers"), spare=None):
     return read_package(path, names, wanted)
 
 
+def apart(path, out):
+    """Refuses a folder that is the source and the place of the tables at once: they would be written over it."""
+    if os.path.isdir(path) and os.path.realpath(path) == os.path.realpath(out):
+        raise Trouble(f"{out} is the source: name another folder for the tables")
+
+
 def connected(path):
     return sqlite3.connect(f"file:{path.replace('%', '%25').replace('?', '%3f').replace('#', '%23')}?mode=ro", uri=True)
 

@@ -36,6 +36,7 @@ def run(name, words, steps):
     said = parser(name, words).parse_args()
     say = teller(name)
     try:
+        land.apart(said.land, said.out)
         with tempfile.TemporaryDirectory() as spare:
             layers = land.read(said.land, spare=spare, wanted=("parcels", "covers"))
             steps(layers, said, say)
