@@ -5,3 +5,5 @@ mod files;
 mod releases;
 mod runs;
 mod stops;
+mod tables;
+mod telling;

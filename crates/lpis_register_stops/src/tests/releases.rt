@@ -1,24 +1,49 @@
 //! The worked example: the parcel A, a square, is split in 2025 into its halves B and C, which stay
-//! in 2026.
+//! in 2026. The rows of 2025 are marked, but in registers of older versions, which have no marks.
 
 use lpis_cert::read_cert;
 use lpis_checker::{Yes, check};
-use lpis_lineage::{Entry, History, Row, read_rows};
+use lpis_lineage::{Row, read_rows};
 use lpis_pairs::AllPairs;
 use lpis_parcels::{Release, read_release};
 use lpis_testing::{CLASSES, LEFT, PARCELS_CERT, RIGHT, SQUARE, SQUARE_CERT};
-use std::alloc::{AllocError, Global};
+use std::alloc::Global;
 use std::test::Fail;
 
-/// The history before the first release.
+/// What a register says before the first release, as `register_text` tells it.
 pub(super) static NO_YEAR: &str = "";
 
-/// The history of one release, of two and of three, as `history_text` tells them.
-pub(super) static ONE_YEAR: &str = "2024 A\n";
+/// What it says of one release.
+pub(super) static ONE_YEAR: &str = "2024 A
+A POLYGON((0.000 0.000,10.000 0.000,10.000 10.000,0.000 10.000,0.000 0.000))
+";
 
-pub(super) static TWO_YEARS: &str = "2024 A\n2025 B C A>B A>C\n";
+/// What it says of two.
+pub(super) static TWO_YEARS: &str = "2024 A
+2025 B C A>B! A>C!
+B POLYGON((0.000 0.000,5.000 0.000,5.000 10.000,0.000 10.000,0.000 0.000))
+C POLYGON((5.000 0.000,10.000 0.000,10.000 10.000,5.000 10.000,5.000 0.000))
+";
 
-pub(super) static THREE_YEARS: &str = "2024 A\n2025 B C A>B A>C\n2026 B C\n";
+/// The two without their shapes and marks.
+pub(super) static TWO_YEARS_ALONE: &str = "2024 A
+2025 B C A>B A>C
+";
+
+/// The two without their marks.
+pub(super) static TWO_YEARS_UNMARKED: &str = "2024 A
+2025 B C A>B A>C
+B POLYGON((0.000 0.000,5.000 0.000,5.000 10.000,0.000 10.000,0.000 0.000))
+C POLYGON((5.000 0.000,10.000 0.000,10.000 10.000,5.000 10.000,5.000 0.000))
+";
+
+/// Those and a third, which keeps both parcels.
+pub(super) static THREE_YEARS_UNMARKED: &str = "2024 A
+2025 B C A>B A>C
+2026 B C
+B POLYGON((0.000 0.000,5.000 0.000,5.000 10.000,0.000 10.000,0.000 0.000))
+C POLYGON((5.000 0.000,10.000 0.000,10.000 10.000,5.000 10.000,5.000 0.000))
+";
 
 /// A release that is to be published.
 #[derive(Drop)]
@@ -57,12 +82,18 @@ pub(super) fn square_in_2024<'a>(
     prepared(alloc, 2024, square, SQUARE_CERT, "old,new\n")
 }
 
-/// The halves in 2025, with the rows that tell what A became.
+/// The halves in 2025, with the rows that tell what A became, which are marked.
 pub(super) fn halves_in_2025<'a>(
     alloc: Global,
     halves: &'a Release,
 ) -> Result<Publication<'a>, Fail> {
-    prepared(alloc, 2025, halves, PARCELS_CERT, "old,new\nA,B\nA,C\n")
+    prepared(
+        alloc,
+        2025,
+        halves,
+        PARCELS_CERT,
+        "old,new,exact\nA,B,1\nA,C,1\n",
+    )
 }
 
 /// The halves in 2026, which keeps both.
@@ -85,32 +116,4 @@ fn prepared<'a>(
     let rows = read_rows(alloc, lineage.as_bytes())?;
     let yes = check(alloc, release, &cert, &AllPairs)?;
     Ok(Publication { year, yes, rows })
-}
-
-/// The releases of a history in full, a line each: its year, its identifiers, its rows.
-pub(super) fn history_text(alloc: Global, history: &History) -> Result<String, AllocError> {
-    let mut text = String::new(alloc);
-    for entry in history.releases() {
-        let line = entry_line(alloc, entry)?;
-        text.push_str(line.as_str())?;
-    }
-    Ok(text)
-}
-
-fn entry_line(alloc: Global, entry: &Entry) -> Result<String, AllocError> {
-    let mut line = format!(in alloc; "{}", entry.year)?;
-    for id in entry.live.iter() {
-        line.push_str(" ")?;
-        line.push_str(id.as_str())?;
-    }
-    for row in entry.rows.as_slice() {
-        line.push_str(" ")?;
-        line.push_str(row.old.as_str())?;
-        line.push_str(">")?;
-        if let Some(new) = &row.new {
-            line.push_str(new.as_str())?;
-        }
-    }
-    line.push_str("\n")?;
-    Ok(line)
 }

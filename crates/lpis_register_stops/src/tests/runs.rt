@@ -4,7 +4,8 @@
 ghost use Rattle.std.specs.Prelude.{◌≡◌, false, IfOk};
 
 use super::files::{Database, Image, Left, Pair, closed, files_with, left_of, open};
-use super::releases::{Publication, history_text};
+use super::releases::Publication;
+use super::telling::register_text;
 use lpis_register::{PublishFault, Register};
 use sqlite::FileStore;
 use sqlite_disk::{Fuse, Memory};
@@ -28,12 +29,12 @@ pub(super) struct Run<'a> {
     pub(super) publishes: bool,
     /// A query whose answer is one number, which tells what the tables are.
     pub(super) query: &'static str,
-    /// Its answer and the history, where the run was stopped before its end.
+    /// Its answer and what the register says, where the run was stopped before its end.
     pub(super) before: (i64, &'static str),
     /// The same, where it was not.
     pub(super) after: (i64, &'static str),
-    /// What is published when the machine is back, and the history then. It is refused with code 80
-    /// where it is there already.
+    /// What is published when the machine is back, and what the register says then. It is refused
+    /// with code 80 where it is there already.
     pub(super) release: Publication<'a>,
     pub(super) finally: &'static str,
 }
@@ -98,8 +99,7 @@ fn publish(register: &mut Kept, publication: &Publication<'_>) -> Result<(), Pub
     Ok(())
 }
 
-/// What a query answers over files, and the history that they say, which the register in them also
-/// has.
+/// What a query answers over files, and what they say, which the register in them also has.
 fn told(alloc: Global, files: Pair, run: &Run<'_>) -> Result<(i64, String), Fail> {
     let mut database = reopened(alloc, files, run.frames)?;
     let number = number(&mut database, run.query)?;
@@ -107,18 +107,21 @@ fn told(alloc: Global, files: Pair, run: &Run<'_>) -> Result<(i64, String), Fail
         Ok(register) => register,
         Err((fault, _files)) => return Err(fault.into()),
     };
-    let text = read_text(alloc, &mut register)?;
-    expect(
-        history_text(alloc, register.current())?.as_str(),
-        text.as_str(),
-    )?;
+    let text = stored_text(alloc, &mut register)?;
+    expect(kept_text(alloc, &register)?.as_str(), text.as_str())?;
     Ok((number, text))
 }
 
-/// The history that the tables say.
-fn read_text(alloc: Global, register: &mut Kept) -> Result<String, Fail> {
+/// The history and the shapes that the tables say.
+fn stored_text(alloc: Global, register: &mut Kept) -> Result<String, Fail> {
     let history = register.history()?;
-    Ok(history_text(alloc, &history)?)
+    let shapes = register.shapes()?;
+    Ok(register_text(alloc, &history, shapes.as_slice())?)
+}
+
+/// The history and the shapes that the register keeps in memory.
+fn kept_text(alloc: Global, register: &Kept) -> Result<String, AllocError> {
+    register_text(alloc, register.current(), register.current_shapes())
 }
 
 /// The number that a query answers.
@@ -157,8 +160,8 @@ struct Outcome {
 }
 
 /// Stops a run at each call of the log in turn, or of the database file, until the run meets no
-/// stop. Fails unless each stop leaves what it
-/// may, in each outcome; answers how many stops there were.
+/// stop. Fails unless each stop leaves what it may, in each outcome; answers how many stops there
+/// were.
 pub(super) fn stops(alloc: Global, run: &Run<'_>, of_log: bool) -> Result<u64, Fail> {
     let mut stops = 0u64;
     let mut known = Vec::new(alloc);
@@ -236,7 +239,7 @@ fn expect_outcome(
 ) -> Result<(), Fail> {
     let files = files_with(alloc, log, db, u64::MAX, u64::MAX)?;
     let (found, text) = told(alloc, files, run)?;
-    let (number, history) = if done || found == run.after.0 {
+    let (number, wanted) = if done || found == run.after.0 {
         run.after
     } else {
         run.before
@@ -244,15 +247,14 @@ fn expect_outcome(
     if found != number {
         return Err(Fail::new(format_args!("{found} in place of {number}")));
     }
-    expect(text.as_str(), history)?;
+    expect(text.as_str(), wanted)?;
     let files = files_with(alloc, log, db, u64::MAX, u64::MAX)?;
-    expect_next(alloc, run, files, history)
+    expect_next(alloc, run, files, wanted)
 }
 
-/// Fails unless the next release is published over files that say this history, or is there
-/// already.
-fn expect_next(alloc: Global, run: &Run<'_>, files: Pair, history: &str) -> Result<(), Fail> {
-    let is_there = history == run.finally;
+/// Fails unless the next release is published over files that say this, or is there already.
+fn expect_next(alloc: Global, run: &Run<'_>, files: Pair, said: &str) -> Result<(), Fail> {
+    let is_there = said == run.finally;
     let (answer, files) = attempt(alloc, files, run.frames, Some(&run.release));
     match answer {
         Ok(()) => {

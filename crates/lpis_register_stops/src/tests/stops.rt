@@ -2,10 +2,11 @@
 
 use super::files::{Image, closed, files_with, left_of};
 use super::releases::{
-    NO_YEAR, ONE_YEAR, THREE_YEARS, TWO_YEARS, halves, halves_in_2025, halves_in_2026, square,
-    square_in_2024,
+    NO_YEAR, ONE_YEAR, THREE_YEARS_UNMARKED, TWO_YEARS, TWO_YEARS_ALONE, TWO_YEARS_UNMARKED,
+    halves, halves_in_2025, halves_in_2026, square, square_in_2024,
 };
 use super::runs::{Run, image_after, reopened, stops};
+use super::tables::{VERSION_1, VERSION_2, WITHOUT_MARKS};
 use std::alloc::Global;
 use std::test::Fail;
 
@@ -16,27 +17,11 @@ const LONG: usize = 1000;
 /// The log is copied into the database file with each commit.
 const SHORT: usize = 1;
 
-/// Tables of version 1 that hold the two releases.
-static VERSION_1: &str = "
-BEGIN;
-CREATE TABLE lpis_format (one INTEGER NOT NULL PRIMARY KEY, version INTEGER NOT NULL) STRICT;
-CREATE TABLE lpis_release (year INTEGER NOT NULL PRIMARY KEY) STRICT;
-CREATE TABLE lpis_live (year INTEGER NOT NULL REFERENCES lpis_release (year), id TEXT NOT NULL,
-PRIMARY KEY (year, id)) STRICT;
-CREATE TABLE lpis_row (year INTEGER NOT NULL REFERENCES lpis_release (year), pos INTEGER NOT NULL,
-old TEXT NOT NULL, new TEXT NOT NULL, PRIMARY KEY (year, pos)) STRICT;
-INSERT INTO lpis_format VALUES (1, 1);
-INSERT INTO lpis_release VALUES (2024), (2025);
-INSERT INTO lpis_live VALUES (2024, 'A'), (2025, 'B'), (2025, 'C');
-INSERT INTO lpis_row VALUES (2025, 0, 'A', 'B'), (2025, 1, 'A', 'C');
-COMMIT;
-";
-
-/// Files with the tables of version 1.
-fn first_version(alloc: Global) -> Result<Image, Fail> {
+/// Files with these tables.
+fn files_of(alloc: Global, tables: &str) -> Result<Image, Fail> {
     let files = files_with(alloc, b"", b"", u64::MAX, u64::MAX)?;
     let mut database = reopened(alloc, files, LONG)?;
-    database.execute_batch(VERSION_1)?;
+    database.execute_batch(tables)?;
     Ok(left_of(alloc, closed(database))?.written)
 }
 
@@ -87,23 +72,61 @@ fn publishing_with_a_short_log_leaves_one_release_or_two(rt: HostRuntime) -> Res
     expect_publishing_stops(rt.alloc(), SHORT)
 }
 
-#[test]
-fn moving_leaves_version_1_or_2_with_the_same_history(rt: HostRuntime) -> Result<(), Fail> {
-    let alloc = rt.alloc();
+/// Stops the opening of these tables, which say two releases.
+fn expect_opening_stops(
+    alloc: Global,
+    tables: &str,
+    query: &'static str,
+    before: (i64, &'static str),
+    after: (i64, &'static str),
+) -> Result<(), Fail> {
     let halves = halves(alloc)?;
     let third = halves_in_2026(alloc, &halves)?;
-    let image = first_version(alloc)?;
+    let image = files_of(alloc, tables)?;
     let run = Run {
         image,
         frames: LONG,
         publishes: false,
-        query: "SELECT version FROM lpis_format",
-        before: (1, TWO_YEARS),
-        after: (2, TWO_YEARS),
+        query,
+        before,
+        after,
         release: third,
-        finally: THREE_YEARS,
+        finally: THREE_YEARS_UNMARKED,
     };
     expect_stops(alloc, &run)
+}
+
+#[test]
+fn moving_leaves_version_1_or_3_with_the_same_history(rt: HostRuntime) -> Result<(), Fail> {
+    expect_opening_stops(
+        rt.alloc(),
+        VERSION_1,
+        "SELECT version FROM lpis_format",
+        (1, TWO_YEARS_ALONE),
+        (3, TWO_YEARS_ALONE),
+    )
+}
+
+#[test]
+fn moving_leaves_version_2_or_3_with_the_same_history(rt: HostRuntime) -> Result<(), Fail> {
+    expect_opening_stops(
+        rt.alloc(),
+        VERSION_2,
+        "SELECT version FROM lpis_format",
+        (2, TWO_YEARS_ALONE),
+        (3, TWO_YEARS_ALONE),
+    )
+}
+
+#[test]
+fn opening_leaves_the_table_of_marks_or_none(rt: HostRuntime) -> Result<(), Fail> {
+    expect_opening_stops(
+        rt.alloc(),
+        WITHOUT_MARKS,
+        "SELECT count(*) FROM sqlite_schema WHERE type = 'table'",
+        (5, TWO_YEARS_UNMARKED),
+        (6, TWO_YEARS_UNMARKED),
+    )
 }
 
 #[test]
@@ -118,7 +141,7 @@ fn opening_leaves_no_table_or_all(rt: HostRuntime) -> Result<(), Fail> {
         publishes: false,
         query: "SELECT count(*) FROM sqlite_schema WHERE type = 'table'",
         before: (0, NO_YEAR),
-        after: (4, NO_YEAR),
+        after: (6, NO_YEAR),
         release: first,
         finally: ONE_YEAR,
     };
