@@ -1,27 +1,34 @@
--- A database says one history.
-use Rattle.std.proofs.Common.{◌≡◌, ◌∙◌, refl, sym, ap, subst, [], ◌∷◌, ℕ, ℤ, pos, List}
-use Rattle.lpis_register.proofs.Common.{State, Entry, last_live, Content, IsSameContent, TellsLive, TellsSpans, TextsStand, Origin, Whole, IsStored, HoldsHistory, Says, SaysHistory, texts_at, Version, First, Second, Third}
+-- A database says one history, and keeps one list of shapes.
+use Rattle.std.proofs.Common.{◌≡◌, ◌∙◌, ◌↔◌, refl, sym, ap, subst, [], ◌∷◌, ℕ, ℤ, pos, List, length, IsPermutation}
+use Rattle.std.proofs.lemmas.List.Sorted.{IsPermutation-refl}
+use Rattle.lpis_covers.specs.Ids.{has_id}
+use Rattle.lpis_lineage.specs.Lineage.{holds}
+use Rattle.lpis_register.proofs.Common.{State, Entry, last_live, AreLive, Content, IsSameContent, IsSameHistory, Says, SaysNone, SaysRegister, Shape, ShapesAre, StoredText, Tells, TextsStand, Origin, Whole, IsStored, HoldsRegister, texts_at, Version, First, Second, Third}
 use Rattle.lpis_register_rows.specs.Content.{Format, without_live, without_texts}
-use Rattle.lpis_register_rows.specs.Tells.{IsSameHistory, only_format}
-use Rattle.lpis_register.proofs.LiveLemmas.{same_stand}
+use Rattle.lpis_register_rows.specs.Tells.{only_format}
 
-less_live : (c : Content) (h : List Entry) → TellsSpans 3 c h → TellsSpans 3 (without_live c) h
-less_live c h t = record { kept = t.kept; formats_are = t.formats_are; years_are = t.years_are; spans_are = t.spans_are; lines_are = t.lines_are }
+-- ---- the same histories have the same last identifiers
+
+same_last : (h k : List Entry) → IsSameHistory h k → (q : List ℕ) → has_id (last_live k) q ≡ has_id (last_live h) q
+same_last [] [] same q = refl
+same_last [] (e ∷ k) same q = absurd (let n = same.lengths in cc)
+same_last (e ∷ h) [] same q = absurd (let n = same.lengths in cc)
+same_last (e ∷ h) (d ∷ k) same q =
+    let n : length k ≡ length h = (let l = same.lengths in cc) in
+    ap (λ i. holds (d ∷ k) i q) n ∙ sym (same.sets (length h) q)
+
+all_live : (live more : List (List ℕ)) (shapes : List Shape) → ((q : List ℕ) → has_id more q ≡ has_id live q) → AreLive live shapes → AreLive more shapes
+all_live live more [] same all = tt
+all_live live more (s ∷ shapes) same all = ((all.0.0, same s.0 ∙ all.0.1), all_live live more shapes same all.1)
+
+pub same_live : (h k : List Entry) → IsSameHistory h k → (shapes : List Shape) → AreLive (last_live h) shapes → AreLive (last_live k) shapes
+same_live h k same shapes all = all_live (last_live h) (last_live k) shapes (same_last h k same) all
+
+-- ---- the row of the version tells which it is
 
 abbrev pub One : Type 0
-One = (version : ℕ) (c : Content) (h k : List Entry) → TellsSpans version c h → TellsSpans version c k → IsSameHistory h k
+One = (version : Version) (c : Content) (h k : List Entry) → Says version c h → Says version c k → IsSameHistory h k
 
-abbrev pub OneLive : Type 0
-OneLive = (c : Content) (h k : List Entry) → TellsLive c h → TellsLive c k → IsSameHistory h k
-
-pub one_history : (st : State) (h k : List Entry) → ((o p : Origin) (c d : Content) → IsStored (Whole o) st c → IsStored (Whole p) st d → IsSameContent (without_live c) (without_live d))
-    → ((version : ℕ) (c d : Content) (h : List Entry) → IsSameContent c d → TellsSpans version c h → TellsSpans version d h)
-    → One → HoldsHistory st h → HoldsHistory st k → IsSameHistory h k
-one_history st h k content reordered one a b =
-    let same = content a.origin b.origin a.content b.content a.stored b.stored in
-    one 3 (without_live b.content) h k (reordered 3 (without_live a.content) (without_live b.content) h same (less_live a.content h a.tells)) (less_live b.content k b.tells)
-
--- the row of the version tells which it is
 abbrev version_in : List Format → ℤ
 version_in [] = pos 0
 version_in (f ∷ fs) = f.version
@@ -36,20 +43,45 @@ not_2_3 : (fs : List Format) → fs ≡ only_format 2 → fs ≡ only_format 3 �
 not_2_3 fs a b = let same : pos 2 ≡ pos 3 = ap version_in (sym a ∙ b) in cc
 
 -- and so the version, and the history
-pub one_said : (c : Content) (h k : List Entry) → One → OneLive → (version other : Version) → SaysHistory version c h → SaysHistory other c k → (version ≡ other) × IsSameHistory h k
-one_said c h k one live First First a b = (refl, live c h k a b)
-one_said c h k one live Second Second a b = (refl, one 2 c h k a b)
-one_said c h k one live Third Third a b = (refl, one 3 c h k a b)
-one_said c h k one live First Second a b = absurd (not_1_2 c.formats a.formats_are b.formats_are)
-one_said c h k one live First Third a b = absurd (not_1_3 c.formats a.formats_are b.formats_are)
-one_said c h k one live Second First a b = absurd (not_1_2 c.formats b.formats_are a.formats_are)
-one_said c h k one live Second Third a b = absurd (not_2_3 c.formats a.formats_are b.formats_are)
-one_said c h k one live Third First a b = absurd (not_1_3 c.formats b.formats_are a.formats_are)
-one_said c h k one live Third Second a b = absurd (not_2_3 c.formats b.formats_are a.formats_are)
+pub one_said : One → (c : Content) (h k : List Entry) (version other : Version) → Says version c h → Says other c k → (version ≡ other) × IsSameHistory h k
+one_said one c h k First First a b = (refl, one First c h k a b)
+one_said one c h k Second Second a b = (refl, one Second c h k a b)
+one_said one c h k Third Third a b = (refl, one Third c h k a b)
+one_said one c h k First Second a b = absurd (not_1_2 c.formats a.formats_are b.formats_are)
+one_said one c h k First Third a b = absurd (not_1_3 c.formats a.formats_are b.formats_are)
+one_said one c h k Second First a b = absurd (not_1_2 c.formats b.formats_are a.formats_are)
+one_said one c h k Second Third a b = absurd (not_2_3 c.formats a.formats_are b.formats_are)
+one_said one c h k Third First a b = absurd (not_1_3 c.formats b.formats_are a.formats_are)
+one_said one c h k Third Second a b = absurd (not_2_3 c.formats b.formats_are a.formats_are)
 
 -- texts that may not be kept beside the history that was read may not be kept beside any
-pub none_kept : (c : Content) (h : List Entry) (version : Version) → One → OneLive → SaysHistory version c h → (TextsStand (texts_at version c) (last_live h) → ⊥)
-    → (other : Version) (k : List Entry) → Says other c k → ⊥
-none_kept c h version one live told never other k says =
-    let same = one_said c k h one live other version says.0 told in
-    never (same_stand (texts_at version c) k h same.1 (subst (λ v. TextsStand (texts_at v c) (last_live k)) same.0 says.1))
+pub none_kept : One → (c : Content) (h : List Entry) (version : Version) → Says version c h → (TextsStand (texts_at version c) (last_live h) → ⊥) → SaysNone c
+none_kept one c h version told never other k shapes says =
+    let same = one_said one c k h other version says.says told in
+    never (shapes, subst (λ v. ShapesAre (texts_at v c) shapes) same.0 says.are, same_live k h same.1 shapes says.live)
+
+-- ---- two ways to read one database
+
+abbrev pub OneContent : State → Type 0
+OneContent st = (o p : Origin) (c d : Content) → IsStored (Whole o) st c → IsStored (Whole p) st d → IsSameContent (without_live c) (without_live d)
+
+abbrev pub Lifeless : Type 0
+Lifeless = (c d : Content) (h : List Entry) → IsSameContent (without_texts (without_live c)) d → Tells c h ↔ Tells d h
+
+less_texts : (c d : Content) → IsSameContent (without_live c) (without_live d) → IsSameContent (without_texts (without_live c)) (without_texts (without_live d))
+less_texts c d s = record { formats = s.formats; years = s.years; spans = s.spans; lines = s.lines; live = s.live; texts = IsPermutation-refl []; marks = s.marks }
+
+same_itself : (c : Content) → IsSameContent c c
+same_itself c = record { formats = IsPermutation-refl c.formats; years = IsPermutation-refl c.years; spans = IsPermutation-refl c.spans; lines = IsPermutation-refl c.lines; live = IsPermutation-refl c.live; texts = IsPermutation-refl c.texts; marks = IsPermutation-refl c.marks }
+
+pub one_history : (st : State) (h k : List Entry) (shapes others : List Shape) → OneContent st → Lifeless → One → HoldsRegister st h shapes → HoldsRegister st k others → IsSameHistory h k
+one_history st h k shapes others content lifeless one a b =
+    let same = less_texts a.content b.content (content a.origin b.origin a.content b.content a.stored b.stored) in
+    let less = without_texts (without_live b.content) in
+    one Third b.content h k ((lifeless b.content less h (same_itself less)).1 ((lifeless a.content less h same).0 a.tells)) b.tells
+
+pub one_list : (st : State) (h k : List Entry) (shapes others : List Shape) → OneContent st
+    → ((texts more : List StoredText) (shapes kept : List Shape) → IsPermutation texts more → ShapesAre texts shapes → ShapesAre more kept → shapes ≡ kept)
+    → HoldsRegister st h shapes → HoldsRegister st k others → shapes ≡ others
+one_list st h k shapes others content one a b =
+    one a.content.texts b.content.texts shapes others (content a.origin b.origin a.content b.content a.stored b.stored).texts a.are b.are

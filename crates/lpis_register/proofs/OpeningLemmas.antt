@@ -1,83 +1,185 @@
--- From rows of any version to the history that they say.
-use Rattle.std.proofs.Common.{IfErr, OnErr, ◌≡◌, ◌<◌, inl, inr, ℕ, Result, Ok, Err, List, [], ◌∷◌, refl, ap, length, arith, IsPermutation}
-use Rattle.lpis_register.proofs.Common.{Trees, State, Entry, last_live, Content, no_content, IsSameContent, Tells, TellsLive, TellsSpans, TextsStand, New, Whole, IsStored, Says, SaysHistory, Version, First, Second, Third}
+-- What the steps of an opening do, joined.
+use Rattle.std.proofs.Common.{◌≡◌, ◌∙◌, ◌⊎◌, inl, inr, List, Result, Ok, Err, IfErr, IfOk, IsTrue, OnErr, OnOk, [], ◌∷◌, refl, sym, subst, arith, false, length, ◌<◌, ap, IsPermutation}
 use Rattle.std.proofs.lemmas.List.Sorted.{length_permutation}
-use Rattle.sqlite.specs.Files.{AreFoundIn}
-use Rattle.sqlite_trees.specs.Objects.{catalog_tree}
-use Rattle.sqlite_wal.specs.Recovery.{Image}
-use Rattle.lpis_register_rows.specs.Content.{without_texts}
-use Rattle.lpis_register_rows.specs.Tells.{IsSameHistory, years_of}
-use Rattle.lpis_register.specs.declared.fault.PublishFault.{PublishFault}
-use Rattle.lpis_register.specs.declared.fault.PublishFault.TheVariants.{Unlawful}
-use Rattle.lpis_register.specs.Opening.{FindsHistory}
-use Rattle.lpis_register.proofs.ReadingLemmas.{same_back}
-use Rattle.lpis_register.proofs.LiveLemmas.{same_stand}
+use Rattle.std.specs.List.{AllZip}
+use Rattle.lpis_register.proofs.Common.{Trees, State, HasCleanDisk, Survives, survives_weaker, Entry, Content, no_content, Found, HoldsRegister, IsBare, IsFailure, IsFound, IsOpened, IsOpenedAs, IsOpeningFault, IsStored, IsUnopened, Layout, Leaves, LeavesNone, LeavesRegister, LeavesSaid, New, PublishFault, Says, SaysNone, SaysRegister, Shape, ShapesAre, Tells, Unlawful, Version, First, Second, Third, Whole, texts_at, last_live}
+use Rattle.sqlite.proofs.StateLemmas.{survives_then}
+use Rattle.lpis_register_rows.specs.Tells.{years_of}
+use Rattle.lpis_register_rows.specs.Shapes.{IsTextOf}
+use Rattle.lpis_register_sql.specs.Commits.{LeavesMade}
+use Rattle.lpis_register.specs.Opening.{FindsNothing, FindsTables, LeavesOpened}
+use Rattle.lpis_register.specs.declared.opening.Told.{Told}
+use Rattle.lpis_register.specs.private.Commits.{LeavesFound, LeavesSettled, OpensFound, Settles}
+use Rattle.lpis_register.proofs.HoldingLemmas.{left_with}
+use Rattle.lpis_register.proofs.ResultLemmas.{failure_lawful, opening_failure}
 
--- the order of rows is free in any version
-abbrev pub Free : Type 0
-Free = (version : ℕ) (a b : Content) (h : List Entry) → IsSameContent a b → TellsSpans version a h → TellsSpans version b h
-
-abbrev pub FreeLive : Type 0
-FreeLive = (a b : Content) (h : List Entry) → IsSameContent a b → TellsLive a h → TellsLive b h
-
--- no version looks at the texts for its history
-less_texts : (version : Version) (c : Content) (h : List Entry) → SaysHistory version c h → SaysHistory version (without_texts c) h
-less_texts First c h t = record { kept = t.kept; formats_are = t.formats_are; years_are = t.years_are; live_are = t.live_are; lines_are = t.lines_are }
-less_texts Second c h t = record { kept = t.kept; formats_are = t.formats_are; years_are = t.years_are; spans_are = t.spans_are; lines_are = t.lines_are }
-less_texts Third c h t = record { kept = t.kept; formats_are = t.formats_are; years_are = t.years_are; spans_are = t.spans_are; lines_are = t.lines_are }
-
-with_texts : (version : Version) (c : Content) (h : List Entry) → SaysHistory version (without_texts c) h → SaysHistory version c h
-with_texts First c h t = record { kept = t.kept; formats_are = t.formats_are; years_are = t.years_are; live_are = t.live_are; lines_are = t.lines_are }
-with_texts Second c h t = record { kept = t.kept; formats_are = t.formats_are; years_are = t.years_are; spans_are = t.spans_are; lines_are = t.lines_are }
-with_texts Third c h t = record { kept = t.kept; formats_are = t.formats_are; years_are = t.years_are; spans_are = t.spans_are; lines_are = t.lines_are }
-
-moved_rows : Free → FreeLive → (version : Version) (a b : Content) (h : List Entry) → IsSameContent a b → SaysHistory version a h → SaysHistory version b h
-moved_rows free live First a b h same told = live a b h same told
-moved_rows free live Second a b h same told = free 2 a b h same told
-moved_rows free live Third a b h same told = free 3 a b h same told
-
-pub says_whole : (version : Version) (c rows : Content) (k : List Entry) → Free → FreeLive → IsSameContent (without_texts c) rows → SaysHistory version rows k → SaysHistory version c k
-says_whole version c rows k free live same told = with_texts version c k (moved_rows free live version rows (without_texts c) k (same_back (without_texts c) rows same) told)
+-- ---- tables with no row say nothing
 
 no_years : (h : List Entry) → IsPermutation [] (years_of h) → h ≡ []
 no_years [] same = refl
 no_years (e ∷ h) same = absurd (let l = length_permutation _ _ same in cc)
 
--- tables with no row say the empty history
-pub none_said : (version : Version) (h : List Entry) → SaysHistory version no_content h → h ≡ []
+none_said : (version : Version) (h : List Entry) → Says version no_content h → h ≡ []
 none_said First h told = no_years h told.years_are
 none_said Second h told = no_years h told.years_are
 none_said Third h told = no_years h told.years_are
 
--- no text may be kept beside any identifiers
-pub none_stand : (live : List (List ℕ)) → TextsStand [] live
-none_stand live = record { once = λ id. omega arith; ids = tt; are_live = tt; readable = tt }
+no_order : (order : List Shape) → AllZip IsTextOf [] order → order ≡ []
+no_order [] zip = refl
+no_order (s ∷ order) zip = absurd zip
 
--- no table is there yet, or they are there and empty
-pub none_found : {X E : Type 0} (st : State) (r : Result X E) → Tells no_content [] → OnErr r (IsStored (Whole New) st no_content) → OnErr r (FindsHistory st [])
-none_found st (Ok x) told h = tt
-none_found st (Err e) told h = inr (record { layout = Whole New; content = no_content; stored = h; version = Third; says = (told, none_stand []) })
+none_in : (shapes : List Shape) → IsPermutation [] shapes → shapes ≡ []
+none_in [] same = refl
+none_in (s ∷ shapes) same = absurd (let l = length_permutation _ _ same in cc)
 
-pub any_err : {X E : Type 0} (r : Result X E) (P : Type 0) → P → OnErr r P
-any_err (Ok x) P p = tt
-any_err (Err e) P p = p
+none_spelled : (shapes : List Shape) → ShapesAre [] shapes → shapes ≡ []
+none_spelled shapes are = none_in shapes (subst (λ o. IsPermutation o shapes) (no_order are.order are.spelled) are.same)
 
--- ---- what is refused says no history
+none_kept : (version : Version) (shapes : List Shape) → ShapesAre (texts_at version no_content) shapes → shapes ≡ []
+none_kept First shapes are = none_spelled shapes are
+none_kept Second shapes are = none_spelled shapes are
+none_kept Third shapes are = none_spelled shapes are
 
-pub made_never : {X : Type 0} (r : Result X PublishFault) → Tells no_content []
-    → IfErr r (λ e. e ≡ Unlawful → (version : Version) (h : List Entry) → Says version no_content h → ⊥)
-    → IfErr r (λ e. e ≡ Unlawful → ⊥)
-made_never (Ok x) told h = tt
-made_never (Err e) told h = λ is. h is Third [] (told, none_stand [])
+says_nothing : (version : Version) (h : List Entry) (shapes : List Shape) → SaysRegister version no_content h shapes → (h ≡ []) × (shapes ≡ [])
+says_nothing version h shapes says = (none_said version h says.says, none_kept version shapes says.are)
 
--- what the rows in another order don't say, these don't either
-pub refused_whole : {X : Type 0} (c rows : Content) (r : Result X PublishFault) → Free → FreeLive
-    → IsSameContent (without_texts c) rows → IfErr r (λ e. e ≡ Unlawful → (version : Version) (h : List Entry) → SaysHistory version rows h → ⊥)
-    → IfErr r (λ e. e ≡ Unlawful → (version : Version) (h : List Entry) → SaysHistory version c h → ⊥)
-refused_whole c rows (Ok x) free live same none = tt
-refused_whole c rows (Err e) free live same none = λ is version h told. none is version h (moved_rows free live version (without_texts c) rows h same (less_texts version c h told))
+-- and that is something that they may say
+said_empty : Tells no_content [] → ShapesAre [] [] → SaysRegister Third no_content [] []
+said_empty told none = record { says = told; are = none; live = tt }
 
--- a file with no byte holds no page
-pub none_in_nothing : (image : Image) (db : Trees) → image.db ≡ [] → AreFoundIn image db → db catalog_tree ≡ []
-none_in_nothing image db none (inl got) = absurd (let some : 0 < length image.db = got.3.found.present in let len : length image.db ≡ 0 = ap length none in omega (arith, some, len))
-none_in_nothing image db none (inr empty) = empty.1.1
+-- ---- what is read first, and then settled as what was read
+
+module _ (found : Found) (old mid new : State) where
+  pub read_not : (e : PublishFault) → (HasCleanDisk mid → IsTrue mid.is_open → (layout : Layout) → IsFound found layout → (c : Content) → IsStored layout old c → IsStored layout mid c)
+      → (HasCleanDisk mid → (layout : Layout) → IsFound found layout → (c : Content) → IsStored layout old c → e ≡ Unlawful → SaysNone c)
+      → Survives old mid (LeavesNone (IsFound found) old) → IsOpeningFault e → OpensFound found old mid (Err e)
+  read_not e same none crash kind = record {
+    ok = λ up layout w c r. tt;
+    err = λ up on layout w c r. same up on layout w c r;
+    unlawful = none;
+    clean = λ up. omega (arith, up, crash.clean);
+    crash = survives_weaker old mid _ _ (λ _ db never layout w c r. absurd (never layout w c r)) crash;
+    kinds = kind;
+  }
+
+  module _ (told : Told) (version : Version)
+      (says : HasCleanDisk mid → (layout : Layout) → IsFound found layout → (c : Content) → IsStored layout old c → SaysRegister version c told.history told.shapes.items × IsStored layout mid c)
+      (one : Survives old mid (LeavesNone (IsFound found) old)) where
+    crashed : (r : Result (Unit {0}) PublishFault) → Settles found version told.history mid new r → Survives old new (LeavesFound found old)
+    crashed r two = survives_then old mid new _ _ _ (λ _ db none layout w c r. absurd (none layout w c r))
+        (λ clean db left layout w c r.
+        let now = says (omega (arith, two.crash.clean)) layout w c r in
+        (told.history, told.shapes.items, version, now.0, left layout w c told.shapes.items now.0 now.1)) one two.crash
+
+    pub settled : Settles found version told.history mid new (Ok tt) → OpensFound found old new (Ok told)
+    settled two = record {
+      ok = λ up layout w c r. let now = says (two.clean up) layout w c r in (version, now.0, two.ok up layout w c told.shapes.items now.0 now.1);
+      err = λ up on layout w c r. tt;
+      unlawful = λ up layout w c r. tt;
+      clean = λ up. let mid-up = two.clean up in omega (arith, mid-up, one.clean);
+      crash = crashed (Ok tt) two;
+      kinds = tt;
+    }
+
+    pub unsettled : (e : PublishFault) → Settles found version told.history mid new (Err e) → OpensFound found old new (Err e)
+    unsettled e two = record {
+      ok = λ up layout w c r. tt;
+      err = λ up on layout w c r. let now = says (two.clean up) layout w c r in two.err up on layout w c told.shapes.items now.0 now.1;
+      unlawful = λ up layout w c r is. absurd (failure_lawful e two.failure is);
+      clean = λ up. let mid-up = two.clean up in omega (arith, mid-up, one.clean);
+      crash = crashed (Err e) two;
+      kinds = opening_failure e two.failure;
+    }
+
+-- ---- what the calls promise
+
+abbrev pub Answer : State → State → Result Told PublishFault → Type 0
+Answer old new r = IfOk r (λ (told : Told). IsOpened old new told.history told.shapes.items) × IfErr r (IsUnopened old new)
+
+-- where the tables stand
+pub opened_there : (found : Found) (old new : State) (r : Result Told PublishFault) → ((layout : Layout) (c : Content) → IsStored layout old c → IsFound found layout) → (IsBare old → ⊥)
+    → OpensFound found old new r → Answer old new r
+opened_there found old new r with never o = by r o where
+  crash : Survives old new (LeavesFound found old) → Survives old new (LeavesOpened old)
+  crash = survives_weaker old new _ _ (λ _ db left. record { found = λ layout c r. left layout (with layout c r) c r; bare = λ bare. absurd (never bare) })
+
+  by : (r : Result Told PublishFault) → OpensFound found old new r → Answer old new r
+  by (Ok told) o = (record { bare = λ up bare. absurd (never bare); found = λ up layout c r. o.ok up layout (with layout c r) c r; clean = o.clean; crash = crash o.crash }, tt)
+  by (Err e) o = (
+    tt,
+    record {
+      none = λ up on bare. absurd (never bare);
+      same = λ up on layout c r. o.err up on layout (with layout c r) c r;
+      unlawful = λ is up layout c r. o.unlawful up layout (with layout c r) c r is;
+      lawful = λ is up bare. absurd (never bare);
+      clean = o.clean;
+      crash = crash o.crash;
+      kind = o.kinds;
+    },
+  )
+
+module _ (found : Found) (told_empty : Tells no_content []) (no_shape : ShapesAre [] []) where
+  made_left : (db : Trees) → Leaves (Whole New) no_content db → LeavesRegister [] [] db
+  made_left db left = left_with New no_content [] [] told_empty no_shape tt db left
+
+  made_only : (old new : State) → ((layout : Layout) (c : Content) → IsStored layout old c → ⊥) → (IsBare old → found.format ≡ false) → (db : Trees) → LeavesMade found old db → LeavesOpened old db
+  made_only old new never fresh db left = record { found = λ layout c r. absurd (never layout c r); bare = λ bare. made_left db (left (fresh bare) bare) }
+
+  -- where they are to be made, and that fails
+  pub opened_unmade : (old new : State) (e : PublishFault) → ((layout : Layout) (c : Content) → IsStored layout old c → ⊥) → (IsBare old → found.format ≡ false)
+      → (found.format ≡ false → HasCleanDisk new → IsTrue new.is_open → IsBare old → IsBare new) → (HasCleanDisk new → HasCleanDisk old) → Survives old new (LeavesMade found old) → IsFailure e
+      → IsUnopened old new e
+  opened_unmade old new e never fresh err clean crash failure = record {
+    none = λ up on bare. inl (err (fresh bare) up on bare);
+    same = λ up on layout c r. absurd (never layout c r);
+    unlawful = λ is up layout c r. absurd (never layout c r);
+    lawful = λ is up bare. failure_lawful e failure is;
+    clean = clean;
+    crash = survives_weaker old new _ _ (λ _ db left. made_only old new never fresh db left) crash;
+    kind = opening_failure e failure;
+  }
+
+  -- where they are made, and then opened
+  module _ (old mid new : State) (never : (layout : Layout) (c : Content) → IsStored layout old c → ⊥) (fresh : IsBare old → found.format ≡ false) (all : Found)
+      (made : HasCleanDisk mid → IsBare old → IsFound all (Whole New) × IsStored (Whole New) mid no_content) (clean : HasCleanDisk mid → HasCleanDisk old) (one : Survives old mid (LeavesMade found old)) where
+    said_left : (db : Trees) → LeavesSaid no_content db → LeavesRegister [] [] db
+    said_left db (h, shapes, version, says, left) =
+        let none = says_nothing version h shapes says in
+        subst (λ k. LeavesRegister k [] db) none.0 (subst (λ s. LeavesRegister h s db) none.1 left)
+
+    made_crashed : Survives mid new (LeavesFound all mid) → Survives old new (LeavesOpened old)
+    made_crashed two = survives_then old mid new _ _ _ (λ _ db left. made_only old new never fresh db left)
+        (λ up db left. record {
+          found = λ layout c r. absurd (never layout c r);
+          bare = λ bare. let now = made (omega (arith, two.clean)) bare in said_left db (left (Whole New) now.0 no_content now.1);
+        }) one two
+
+    held : (h : List Entry) (shapes : List Shape) → IsOpenedAs new no_content h shapes → HoldsRegister new [] [] × (h ≡ []) × (shapes ≡ [])
+    held h shapes (version, says, holds) =
+        let none = says_nothing version h shapes says in
+        (subst (λ k. HoldsRegister new k []) none.0 (subst (λ s. HoldsRegister new h s) none.1 holds), none.0, none.1)
+
+    pub opened_made : (r : Result Told PublishFault) → OpensFound all mid new r → Answer old new r
+    opened_made (Ok told) o = (
+      record {
+        bare = λ up bare. let now = made (o.clean up) bare in held told.history told.shapes.items (o.ok up (Whole New) now.0 no_content now.1);
+        found = λ up layout c r. absurd (never layout c r);
+        clean = λ up. clean (o.clean up);
+        crash = made_crashed o.crash;
+      },
+      tt,
+    )
+    opened_made (Err e) o = (
+      tt,
+      record {
+        none = λ up on bare.
+            let now = made (o.clean up) bare in
+            inr (record { layout = Whole New; content = no_content; stored = o.err up on (Whole New) now.0 no_content now.1; version = Third; says = said_empty told_empty no_shape });
+        same = λ up on layout c r. absurd (never layout c r);
+        unlawful = λ is up layout c r. absurd (never layout c r);
+        lawful = λ is up bare. let now = made (o.clean up) bare in o.unlawful up (Whole New) now.0 no_content now.1 is Third [] [] (said_empty told_empty no_shape);
+        clean = λ up. clean (o.clean up);
+        crash = made_crashed o.crash;
+        kind = o.kinds;
+      },
+    )

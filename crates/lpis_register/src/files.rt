@@ -1,15 +1,16 @@
 //! A register in the files at a path, or in memory.
 
-ghost use Rattle.std.specs.Prelude.{◌≡◌, [], IfErr, IfOk};
-ghost use Rattle.sqlite_trees.specs.Objects.{catalog_tree};
+ghost use Rattle.std.specs.Prelude.{◌≡◌, [], false, IfErr, IfOk};
 ghost use Rattle.sqlite_wal.specs.Files.{image_at};
-ghost use Rattle.sqlite.specs.Files.{HoldsDatabase, file_state};
-ghost use Rattle.sqlite.specs.State.{HasCleanDisk};
+ghost use Rattle.sqlite_wal.specs.Recovery.{Image};
+ghost use Rattle.sqlite.specs.Files.{file_state};
+ghost use Rattle.sqlite.specs.Start.{FindsIn};
+ghost use Rattle.sqlite.specs.State.{HasCleanDisk, IsLive, Opens};
 ghost use Rattle.sqlite.specs.Held.{state};
 ghost use Rattle.sqlite.specs.Steps.{over_memory};
-ghost use Rattle.lpis_register.specs.Histories.{HoldsBoth};
-ghost use Rattle.lpis_register_sql.specs.Holding.{Leaves};
-ghost use Rattle.lpis_register.specs.Opening.{IsOpenedAs, IsOpeningFault};
+ghost use Rattle.lpis_register.specs.Faults.{IsFailure, IsOpeningFault};
+ghost use Rattle.lpis_register.specs.FileOpening.{IsFileOpened, IsFileUnopened};
+ghost use Rattle.lpis_register.specs.Histories.{HoldsRegister};
 
 use crate::fault::PublishFault;
 use crate::opening::fault_of;
@@ -18,6 +19,28 @@ use lpis_register_sql::what_is_left_is_found;
 use sqlite::{Connection, FileFrom, FileStore, MemStore, Start};
 use std::alloc::Global;
 use std::rt::HostRuntime;
+
+/// Opens the register in files that are open. Where its tables are refused the connection comes
+/// back beside the fault.
+fn adopt_files<S: Start>(
+    alloc: Global,
+    conn: Connection<FileStore<FileFrom<S>>>,
+) -> Result<Register<FileStore<FileFrom<S>>>, (Connection<FileStore<FileFrom<S>>>, PublishFault)>
+    requires opened { HasCleanDisk (file_state conn) → Opens (file_state conn)
+        × IsLive (file_state conn) }
+    requires autocommit { conn.in_transaction ≡ false }
+    ensures opened { (image : Image) → (HasCleanDisk (file_state conn) → FindsIn image
+        (file_state conn)) → IfOk result (λ it. IsFileOpened image (file_state it.conn) it.history
+        it.shapes.items) }
+    ensures unopened { (image : Image) → (HasCleanDisk (file_state conn) → FindsIn image
+        (file_state conn)) → IfErr result (λ e. IsFileUnopened image (file_state e.0) e.1) }
+{
+    what_is_left_is_found(&conn);
+    match Register::adopt(alloc, conn) {
+        Ok(register) => Ok(register),
+        Err((conn, fault)) => Err((conn, fault)),
+    }
+}
 
 impl<S: Start> Register<FileStore<FileFrom<S>>> {
     /// Opens the register in the file at a path, or makes one; `start` stands for what the file
@@ -29,25 +52,15 @@ impl<S: Start> Register<FileStore<FileFrom<S>>> {
         path: &str,
         start: S,
     ) -> Result<Register<FileStore<FileFrom<S>>>, PublishFault>
-        ensures found { IfOk result (λ it. HasCleanDisk (file_state it.conn) → (db : _)
-            → HoldsDatabase (image_at S.Start) db → (layout : _) (c : _) → Leaves layout c db
-            → IsOpenedAs (file_state it.conn) c it.history) }
-        ensures made { IfOk result (λ it. HasCleanDisk (file_state it.conn) → (db : _)
-            → HoldsDatabase (image_at S.Start) db → db catalog_tree ≡ []
-            → HoldsBoth (file_state it.conn) it.history [] × (it.history ≡ [])) }
-        ensures blank { IfOk result (λ it. HasCleanDisk (file_state it.conn)
-            → (image_at S.Start).db ≡ []
-            → HoldsBoth (file_state it.conn) it.history [] × (it.history ≡ [])) }
+        ensures opened { IfOk result (λ it. IsFileOpened (image_at S.Start) (file_state it.conn)
+            it.history it.shapes.items) }
         ensures kinds { IfErr result IsOpeningFault }
     {
         match Connection::open_from(rt, path, false, start) {
-            Ok(conn) => {
-                what_is_left_is_found(&conn);
-                match Register::adopt(alloc, conn) {
-                    Ok(register) => Ok(register),
-                    Err((_conn, fault)) => Err(fault),
-                }
-            }
+            Ok(conn) => match adopt_files(alloc, conn) {
+                Ok(register) => Ok(register),
+                Err((_conn, fault)) => Err(fault),
+            },
             Err((error, _)) => Err(fault_of(error)),
         }
     }
@@ -56,9 +69,9 @@ impl<S: Start> Register<FileStore<FileFrom<S>>> {
 impl Register<MemStore> {
     /// A register in memory, with no release.
     pub fn open_in_memory(alloc: Global) -> Result<Register<MemStore>, PublishFault>
-        ensures empty { IfOk result (λ it. it.history ≡ []) }
-        ensures holds { IfOk result (λ it. HoldsBoth (state over_memory it.conn) it.history []) }
-        ensures kinds { IfErr result IsOpeningFault }
+        ensures empty { IfOk result (λ it. (it.history ≡ []) × (it.shapes.items ≡ [])) }
+        ensures holds { IfOk result (λ it. HoldsRegister (state over_memory it.conn) [] []) }
+        ensures failure { IfErr result IsFailure }
     {
         let conn = Connection::open_in_memory(alloc)?;
         match Register::adopt(alloc, conn) {

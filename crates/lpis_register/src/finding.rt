@@ -1,53 +1,56 @@
-//! The history that a database of any version says, read.
+//! What the tables of a database of any version say, read. Nothing is changed.
 
-ghost use Rattle.std.specs.Prelude.{◌≡◌, false, IfOk, IfErr};
+ghost use Rattle.std.specs.Prelude.{◌≡◌, false, IfOk, IfErr, List};
 ghost use Rattle.sqlite.specs.Held.{state};
 ghost use Rattle.sqlite.specs.State.{HasCleanDisk};
+ghost use Rattle.lpis_lineage.specs.declared.row.Entry.{Entry};
 ghost use Rattle.lpis_lineage.specs.Lineage.{last_live};
-ghost use Rattle.lpis_register_rows.specs.Texts.{TextsStand};
-ghost use Rattle.lpis_register_sql.specs.Layouts.{has_texts};
+ghost use Rattle.lpis_register_rows.specs.Shapes.{AreLive, ShapesAre, TextsStand};
+ghost use Rattle.lpis_register_rows.specs.Tells.{Says};
 ghost use Rattle.lpis_register_sql.specs.Holding.{IsStored};
 ghost use Rattle.lpis_register_sql.specs.Quiet.{IsFound, Reads};
-ghost use Rattle.lpis_register.specs.Opening.{IsOpeningFault, Says, SaysHistory, texts_at};
+ghost use Rattle.lpis_register.specs.Faults.{IsOpeningFault};
+ghost use Rattle.lpis_register.specs.Opening.{SaysNone, SaysRegister, texts_at};
 ghost use Rattle.lpis_register.specs.declared.fault.PublishFault.TheVariants.{Unlawful};
 
 use crate::fault::PublishFault;
-use crate::opening::fault_of;
-use crate::version::Version;
+use crate::opening::{Told, fault_of};
+use lpis_covers::Id;
 use lpis_lineage::History;
 use lpis_register_rows::{
-    RecordsFault, Rows, TextRow, check_texts, history_of, live_history_of, order_of_rows_is_free,
-    tables_of_version_1_say_one_history, tables_say_one_history,
+    Rows, RowsFault, TextRow, Version, history_of, order_of_rows_is_free, shapes_of,
+    tables_say_one_history, texts_keep_one_list_of_shapes,
 };
 use lpis_register_sql::{Found, load_found, load_texts};
+use lpis_rings::Polygon;
 use sqlite::{Alter, Connection};
 use std::alloc::Global;
 
 /// The history of rows, and their version.
 fn history_at(alloc: Global, rows: &Rows) -> Result<(History, Version), PublishFault>
-    ensures says { IfOk result (λ found. SaysHistory found.1 rows.now found.0) }
-    ensures unlawful { IfErr result (λ e. e ≡ Unlawful → (version : _) (h : _)
-        → SaysHistory version rows.now h → ⊥) }
+    ensures says { IfOk result (λ found. Says found.1 rows.now found.0) }
+    ensures unlawful { IfErr result (λ e. e ≡ Unlawful → (version : _) (h : List Entry)
+        → Says version rows.now h → ⊥) }
     ensures kinds { IfErr result IsOpeningFault }
 {
-    match history_of(alloc, rows, 3) {
+    match history_of(alloc, rows, Version::Third) {
         Ok(history) => return Ok((history, Version::Third)),
-        Err(RecordsFault::Memory) => return Err(PublishFault::Memory),
-        Err(RecordsFault::Unlawful) => {}
+        Err(RowsFault::Memory) => return Err(PublishFault::Memory),
+        Err(RowsFault::Unlawful) => {}
     }
-    match history_of(alloc, rows, 2) {
+    match history_of(alloc, rows, Version::Second) {
         Ok(history) => return Ok((history, Version::Second)),
-        Err(RecordsFault::Memory) => return Err(PublishFault::Memory),
-        Err(RecordsFault::Unlawful) => {}
+        Err(RowsFault::Memory) => return Err(PublishFault::Memory),
+        Err(RowsFault::Unlawful) => {}
     }
-    match live_history_of(alloc, rows) {
+    match history_of(alloc, rows, Version::First) {
         Ok(history) => Ok((history, Version::First)),
-        Err(RecordsFault::Memory) => Err(PublishFault::Memory),
-        Err(RecordsFault::Unlawful) => Err(PublishFault::Unlawful),
+        Err(RowsFault::Memory) => Err(PublishFault::Memory),
+        Err(RowsFault::Unlawful) => Err(PublishFault::Unlawful),
     }
 }
 
-/// The history that the tables say, and their version. Nothing is changed.
+/// The history that the tables say, and their version.
 fn find_rows<S: Alter>(
     alloc: Global,
     conn: &mut Connection<S>,
@@ -55,11 +58,11 @@ fn find_rows<S: Alter>(
 ) -> Result<(History, Version), PublishFault>
     requires autocommit { conn.old.in_transaction ≡ false }
     ensures autocommit { conn.new.in_transaction ≡ false }
-    ensures reads { Reads (IsFound found.now) (λ c it. SaysHistory it.1 c it.0)
+    ensures reads { Reads (IsFound found.now) (λ c it. Says it.1 c it.0)
         (state S.Store conn.old) (state S.Store conn.new) result }
     ensures unlawful { HasCleanDisk (state S.Store conn.new) → (layout : _)
         → IsFound found.now layout → (c : _) → IsStored layout (state S.Store conn.old) c
-        → IfErr result (λ e. e ≡ Unlawful → (version : _) (h : _) → SaysHistory version c h → ⊥) }
+        → IfErr result (λ e. e ≡ Unlawful → (version : _) (h : _) → Says version c h → ⊥) }
     ensures kinds { IfErr result IsOpeningFault }
 {
     order_of_rows_is_free();
@@ -69,87 +72,94 @@ fn find_rows<S: Alter>(
     }
 }
 
-/// Refuses texts that may not be kept beside a history.
-fn test_texts(alloc: Global, history: &History, texts: &[TextRow]) -> Result<(), PublishFault>
-    ensures ok { IfOk result (λ _. TextsStand texts.now (last_live history.now)) }
+/// The shapes of texts, which are to be of live parcels.
+fn shapes_at(
+    alloc: Global,
+    history: &History,
+    texts: &[TextRow],
+) -> Result<Vec<(Id, Polygon)>, PublishFault>
+    ensures are { IfOk result (λ shapes. ShapesAre texts.now shapes.items
+        × AreLive (last_live history.now) shapes.items) }
     ensures unlawful { IfErr result (λ e. e ≡ Unlawful
         → TextsStand texts.now (last_live history.now) → ⊥) }
     ensures kinds { IfErr result IsOpeningFault }
 {
-    match check_texts(alloc, history, texts) {
-        Ok(()) => Ok(()),
-        Err(RecordsFault::Memory) => Err(PublishFault::Memory),
-        Err(RecordsFault::Unlawful) => Err(PublishFault::Unlawful),
+    match shapes_of(alloc, texts, history) {
+        Ok(shapes) => Ok(shapes),
+        Err(RowsFault::Memory) => Err(PublishFault::Memory),
+        Err(RowsFault::Unlawful) => Err(PublishFault::Unlawful),
     }
 }
 
-/// Refuses a database whose texts may not be kept beside a history. Nothing is changed.
+/// The shapes of the texts in the tables, where their table is there.
 fn find_texts<S: Alter>(
     alloc: Global,
     conn: &mut Connection<S>,
-    there: bool,
+    found: &Found,
     history: &History,
-) -> Result<(), PublishFault>
+) -> Result<Vec<(Id, Polygon)>, PublishFault>
     requires autocommit { conn.old.in_transaction ≡ false }
     ensures autocommit { conn.new.in_transaction ≡ false }
-    ensures reads { Reads (λ layout. there ≡ has_texts layout)
-        (λ c _. TextsStand c.texts (last_live history.now)) (state S.Store conn.old)
-        (state S.Store conn.new) result }
+    ensures reads { Reads (IsFound found.now)
+        (λ c shapes. ShapesAre c.texts shapes.items × AreLive (last_live history.now) shapes.items)
+        (state S.Store conn.old) (state S.Store conn.new) result }
     ensures unlawful { HasCleanDisk (state S.Store conn.new) → (layout : _)
-        → there ≡ has_texts layout → (c : _) → IsStored layout (state S.Store conn.old) c
+        → IsFound found.now layout → (c : _) → IsStored layout (state S.Store conn.old) c
         → IfErr result (λ e. e ≡ Unlawful → TextsStand c.texts (last_live history.now) → ⊥) }
     ensures kinds { IfErr result IsOpeningFault }
 {
-    order_of_rows_is_free();
-    match load_texts(alloc, conn, there) {
-        Ok(texts) => test_texts(alloc, history, texts.as_slice()),
+    texts_keep_one_list_of_shapes();
+    match load_texts(alloc, conn, found) {
+        Ok(texts) => shapes_at(alloc, history, texts.as_slice()),
         Err(error) => Err(fault_of(error)),
     }
 }
 
-/// Refuses texts that may not be kept, where the version keeps any. Nothing is changed.
-fn find_kept<S: Alter>(
+/// The shapes that the tables keep; only version 3 keeps any.
+fn find_shapes<S: Alter>(
     alloc: Global,
     conn: &mut Connection<S>,
-    there: bool,
+    found: &Found,
     version: Version,
     history: &History,
-) -> Result<(), PublishFault>
+) -> Result<Vec<(Id, Polygon)>, PublishFault>
     requires autocommit { conn.old.in_transaction ≡ false }
     ensures autocommit { conn.new.in_transaction ≡ false }
-    ensures reads { Reads (λ layout. there ≡ has_texts layout)
-        (λ c _. TextsStand (texts_at version c) (last_live history.now)) (state S.Store conn.old)
-        (state S.Store conn.new) result }
+    ensures reads { Reads (IsFound found.now)
+        (λ c shapes. ShapesAre (texts_at version c) shapes.items
+        × AreLive (last_live history.now) shapes.items)
+        (state S.Store conn.old) (state S.Store conn.new) result }
     ensures unlawful { HasCleanDisk (state S.Store conn.new) → (layout : _)
-        → there ≡ has_texts layout → (c : _) → IsStored layout (state S.Store conn.old) c
+        → IsFound found.now layout → (c : _) → IsStored layout (state S.Store conn.old) c
         → IfErr result (λ e. e ≡ Unlawful
         → TextsStand (texts_at version c) (last_live history.now) → ⊥) }
     ensures kinds { IfErr result IsOpeningFault }
 {
+    texts_keep_one_list_of_shapes();
     match version {
-        Version::First | Version::Second => Ok(()),
-        Version::Third => find_texts(alloc, conn, there, history),
+        Version::First | Version::Second => Ok(Vec::new(alloc)),
+        Version::Third => find_texts(alloc, conn, found, history),
     }
 }
 
-/// The history that the tables say, and their version. Nothing is changed.
-pub(crate) fn find_history<S: Alter>(
+/// What the tables say, and their version.
+pub(crate) fn find_told<S: Alter>(
     alloc: Global,
     conn: &mut Connection<S>,
     found: &Found,
-) -> Result<(History, Version), PublishFault>
+) -> Result<(Told, Version), PublishFault>
     requires autocommit { conn.old.in_transaction ≡ false }
     ensures autocommit { conn.new.in_transaction ≡ false }
-    ensures reads { Reads (IsFound found.now) (λ c it. Says it.1 c it.0) (state S.Store conn.old)
-        (state S.Store conn.new) result }
+    ensures reads { Reads (IsFound found.now)
+        (λ c it. SaysRegister it.1 c it.0.history it.0.shapes.items)
+        (state S.Store conn.old) (state S.Store conn.new) result }
     ensures unlawful { HasCleanDisk (state S.Store conn.new) → (layout : _)
         → IsFound found.now layout → (c : _) → IsStored layout (state S.Store conn.old) c
-        → IfErr result (λ e. e ≡ Unlawful → (version : _) (h : _) → Says version c h → ⊥) }
+        → IfErr result (λ e. e ≡ Unlawful → SaysNone c) }
     ensures kinds { IfErr result IsOpeningFault }
 {
     tables_say_one_history();
-    tables_of_version_1_say_one_history();
     let (history, version) = find_rows(alloc, conn, found)?;
-    find_kept(alloc, conn, found.texts, version, &history)?;
-    Ok((history, version))
+    let shapes = find_shapes(alloc, conn, found, version, &history)?;
+    Ok((Told { history, shapes }, version))
 }

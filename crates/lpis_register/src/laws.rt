@@ -4,14 +4,14 @@ ghost use Rattle.std.specs.Prelude.{◌≡◌, ◌++◌, List};
 ghost use Rattle.sqlite.specs.Held.{state};
 ghost use Rattle.lpis_lineage.specs.declared.row.Entry.{Entry};
 ghost use Rattle.lpis_register_rows.specs.Content.{Content};
-ghost use Rattle.lpis_register_rows.specs.Tells.{IsSameHistory};
+ghost use Rattle.lpis_register_rows.specs.Tells.{IsSameHistory, Says};
 ghost use Rattle.lpis_register.specs.Calls.{AllLead, AreReleasesOf, Call, accepted};
-ghost use Rattle.lpis_register.specs.Histories.{HoldsHistory};
-ghost use Rattle.lpis_register.specs.Opening.{SaysHistory};
-ghost use Rattle.lpis_register.specs.declared.version.Version.{Version};
+ghost use Rattle.lpis_register.specs.Histories.{HoldsRegister};
+ghost use Rattle.lpis_register_rows.specs.Shapes.{Shape};
+ghost use Rattle.lpis_register_rows.specs.declared.version.Version.{Version};
 
 use lpis_register_rows::{
-    order_of_rows_is_free, tables_of_version_1_say_one_history, tables_say_one_history,
+    order_of_rows_is_free, tables_say_one_history, texts_keep_one_list_of_shapes,
 };
 use lpis_register_sql::a_database_holds_one_content;
 use sqlite::{Alter, Connection};
@@ -27,18 +27,22 @@ pub fn accepted_releases_stand_in_order()
 /// Rows say one history, whichever version they are of.
 pub fn rows_say_one_history()
     ensures { (c : Content) (h k : List Entry) (version other : Version)
-        → SaysHistory version c h → SaysHistory other c k → IsSameHistory h k }
+        → Says version c h → Says other c k → IsSameHistory h k }
 {
     tables_say_one_history();
-    tables_of_version_1_say_one_history();
 }
 
-/// A database says one history.
-pub fn a_database_says_one_history<S: Alter>(conn: &Connection<S>)
-    ensures { (h k : List Entry) → HoldsHistory (state S.Store conn.now) h
-        → HoldsHistory (state S.Store conn.now) k → IsSameHistory h k }
+/// A database says one history, and keeps one list of shapes.
+pub fn a_database_holds_one_register<S: Alter>(conn: &Connection<S>)
+    ensures history { (h k : List Entry) (shapes others : List Shape)
+        → HoldsRegister (state S.Store conn.now) h shapes
+        → HoldsRegister (state S.Store conn.now) k others → IsSameHistory h k }
+    ensures shapes { (h k : List Entry) (shapes others : List Shape)
+        → HoldsRegister (state S.Store conn.now) h shapes
+        → HoldsRegister (state S.Store conn.now) k others → shapes ≡ others }
 {
     a_database_holds_one_content(conn);
     order_of_rows_is_free();
+    texts_keep_one_list_of_shapes();
     tables_say_one_history();
 }

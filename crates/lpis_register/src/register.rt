@@ -1,53 +1,57 @@
 //! The register.
 
-ghost use Rattle.std.specs.Prelude.{◌≡◌, ◌⊎◌, false, IsTrue, IfOk, IfErr, OnOk, OnErr};
+ghost use Rattle.std.specs.Prelude.{◌≡◌, ◌⊎◌, false, IfOk, IfErr, List, ℕ};
 ghost use Rattle.sqlite.specs.Held.{state};
-ghost use Rattle.sqlite.specs.State.{HasCleanDisk, Survives};
-ghost use Rattle.lpis_lineage.specs.Accepts.{Adds};
-ghost use Rattle.lpis_lineage.specs.Changes.{IsChange};
-ghost use Rattle.lpis_lineage.specs.Lineage.{last_live};
+ghost use Rattle.lpis_lineage.specs.declared.row.Row.{Row};
+ghost use Rattle.lpis_parcels.specs.declared.parcel.Parcel.{Parcel};
 ghost use Rattle.lpis_parcels.specs.Release.{parcel_ids};
-ghost use Rattle.lpis_register_rows.specs.Tells.{IsSameHistory};
-ghost use Rattle.lpis_register_rows.specs.Texts.{TextsStand};
-ghost use Rattle.lpis_register.specs.Histories.{HoldsBoth, HoldsHistory, HoldsShapes, IsTrace};
-ghost use Rattle.lpis_register.specs.Histories.{IsUnknown, LeavesBoth, LeavesRelease};
-ghost use Rattle.lpis_register.specs.Histories.{PublishTells};
+ghost use Rattle.lpis_register.specs.Accepting.{IsAccepted, WasMadeFor};
+ghost use Rattle.lpis_register.specs.Faults.{PublishTells};
+ghost use Rattle.lpis_register.specs.Histories.{IsTrace, IsUnknown, ReadsHistory};
+ghost use Rattle.lpis_register.specs.Publishing.{Publishes, Stores};
 ghost use Rattle.lpis_register.specs.declared.fault.PublishFault.TheVariants.{Memory, Store};
-ghost use Rattle.lpis_register.specs.declared.fault.PublishFault.TheVariants.{Unknown, Unlawful};
+ghost use Rattle.lpis_register.specs.declared.fault.PublishFault.TheVariants.{Unknown};
 
+use crate::accepting::{Accepted, accept_release};
+use crate::committing::commit_release;
 use crate::fault::PublishFault;
-use crate::opening::read_history;
-use crate::preparing::{live_ids, preview};
-use crate::releasing::publish_release;
+use crate::opening::Told;
+use crate::reading::{copied_shapes, read_history};
 use crate::tracing::trace;
 use lpis_checker::Yes;
 use lpis_covers::Id;
 use lpis_lineage::{Change, History, Row};
-use lpis_register_rows::TextRow;
+use lpis_rings::Polygon;
 use sqlite::{Alter, Connection};
 use std::alloc::Global;
 
-/// Releases with their spans and rows, over any store of `sqlite`.
+/// Releases with their spans and rows, and the shapes of the last one's parcels, over any store of
+/// `sqlite`.
 #[derive(Drop)]
 pub struct Register<S: Alter> {
     /// The database, in which no transaction is open.
     pub conn: Connection<S>,
     /// The history that its tables say.
     pub history: History,
+    /// The shapes that they keep: those of the last release's parcels, ascending by identifier.
+    pub shapes: Vec<(Id, Polygon)>,
     alloc: Global,
     ghost autocommit: { conn.in_transaction ≡ false },
 }
 
 impl<S: Alter> Register<S> {
-    /// The register of a database whose tables say this history.
-    pub(crate) fn of(alloc: Global, conn: Connection<S>, history: History) -> Register<S>
+    /// The register of a database whose tables say this.
+    pub(crate) fn of(alloc: Global, conn: Connection<S>, told: Told) -> Register<S>
         requires autocommit { conn.in_transaction ≡ false }
         ensures conn { result.conn ≡ conn }
-        ensures history { result.history ≡ history }
+        ensures history { result.history ≡ told.history }
+        ensures shapes { result.shapes ≡ told.shapes }
     {
+        let Told { history, shapes } = told;
         Register {
             conn,
             history,
+            shapes,
             alloc,
         }
     }
@@ -59,22 +63,71 @@ impl<S: Alter> Register<S> {
         &self.history
     }
 
-    /// What publishing a release would change, or why it would be refused. Nothing is written.
-    pub fn preview(&self, year: u16, yes: &Yes<'_>, rows: &[Row]) -> Result<Change, PublishFault>
+    /// The shapes of the last release's parcels, ascending by identifier, lent. Nothing is read,
+    /// and it takes no memory.
+    pub fn current_shapes(&self) -> &[(Id, Polygon)]
+        ensures { result.now ≡ self.now.shapes.items }
+    {
+        self.shapes.as_slice()
+    }
+
+    /// Copies of the shapes of the last release's parcels, ascending by identifier. Those of
+    /// releases that were published in version 1 or 2 are not there.
+    pub fn shapes(&mut self) -> Result<Vec<(Id, Polygon)>, PublishFault>
+        ensures kept { IfOk result (λ copies. copies.items ≡ self.old.shapes.items) }
+        ensures same { self.new ≡ self.old }
+        ensures memory { IfErr result (λ fault. fault ≡ Memory) }
+    {
+        match copied_shapes(self.alloc, self.shapes.as_slice()) {
+            Ok(copies) => Ok(copies),
+            Err(_) => Err(PublishFault::Memory),
+        }
+    }
+
+    /// Refuses a release that may not follow the history: where its year is not above the last
+    /// one's, and else where its lineage is refused. With Ok all that publishing it needs is made,
+    /// and nothing is changed yet.
+    pub fn accept(&self, year: u16, yes: &Yes<'_>, rows: &[Row]) -> Result<Accepted, PublishFault>
         ensures tells { PublishTells self.now.history year (parcel_ids yes.now.parcels) rows.now
             result }
-        ensures change { IfOk result
-            (IsChange (last_live self.now.history) (parcel_ids yes.now.parcels) rows.now) }
+        ensures made { IfOk result
+            (IsAccepted self.now.history year yes.now.parcels rows.now) }
         ensures no_store { IfErr result (λ fault. (fault ≡ Store) → ⊥) }
     {
-        let live = live_ids(self.alloc, yes)?;
-        preview(self.alloc, &self.history, year, live.as_slice(), rows)
+        accept_release(self.alloc, &self.history, year, yes, rows)
+    }
+
+    /// Publishes a release that was accepted for this history, in one transaction: after a crash the
+    /// tables have it whole or not at all, and always where the answer was Ok. With an error the
+    /// history and the shapes are as they were.
+    pub fn commit(&mut self, accepted: Accepted) -> Result<Change, PublishFault>
+        requires made { WasMadeFor self.old.history accepted }
+        ensures publishes { (year : ℕ) (parcels : List Parcel) (rows : List Row)
+            → IsAccepted self.old.history year parcels rows accepted
+            → Publishes self.old.history year parcels rows self.old.shapes.items self.new.history
+            self.new.shapes.items result }
+        ensures stores { (year : ℕ) (parcels : List Parcel) (rows : List Row)
+            → IsAccepted self.old.history year parcels rows accepted
+            → Stores self.old.history year parcels rows self.old.shapes.items self.new.history
+            self.new.shapes.items (state S.Store self.old.conn) (state S.Store self.new.conn)
+            result }
+        ensures untouched { IfErr result (λ fault. (fault ≡ Store)
+            ⊎ ((fault ≡ Memory) × (self.new.conn ≡ self.old.conn))) }
+    {
+        match commit_release(&mut self.conn, &mut self.history, &accepted) {
+            Ok(()) => {
+                let Accepted { step, kept, .. } = accepted;
+                self.shapes = kept.shapes;
+                Ok(step.change)
+            }
+            Err(fault) => Err(fault),
+        }
     }
 
     /// Publishes a release that the check said yes to: its parcels' identifiers become live, the
-    /// history has it at its end, and these texts are kept in place of the last release's. It is
-    /// refused where its year is not above the last one's, and else where its lineage is; a refusal
-    /// leaves the history and the texts as they were.
+    /// history has it at its end, and its parcels' shapes are kept in place of the last release's.
+    /// It is refused where its year is not above the last one's, and else where its lineage is; a
+    /// refusal leaves the history and the shapes as they were.
     ///
     /// The whole release is one transaction, and all that needs memory comes before it: after a
     /// crash the tables have the release whole or not at all, and always where the answer was Ok.
@@ -83,48 +136,19 @@ impl<S: Alter> Register<S> {
         year: u16,
         yes: &Yes<'_>,
         rows: &[Row],
-        texts: &[TextRow],
     ) -> Result<Change, PublishFault>
-        requires stand { TextsStand texts.now (parcel_ids yes.now.parcels) }
-        ensures tells { PublishTells self.old.history year (parcel_ids yes.now.parcels) rows.now
-            result }
-        ensures adds { OnOk result
-            (Adds self.old.history self.new.history year (parcel_ids yes.now.parcels) rows.now) }
-        ensures refused { OnErr result (self.new.history ≡ self.old.history) }
-        ensures change { IfOk result
-            (IsChange (last_live self.old.history) (parcel_ids yes.now.parcels) rows.now) }
+        ensures publishes { Publishes self.old.history year yes.now.parcels rows.now
+            self.old.shapes.items self.new.history self.new.shapes.items result }
+        ensures stores { Stores self.old.history year yes.now.parcels rows.now
+            self.old.shapes.items self.new.history self.new.shapes.items
+            (state S.Store self.old.conn) (state S.Store self.new.conn) result }
         ensures untouched { IfErr result (λ fault. (fault ≡ Store)
             ⊎ (self.new.conn ≡ self.old.conn)) }
-        ensures ok { HasCleanDisk (state S.Store self.new.conn)
-            → HoldsHistory (state S.Store self.old.conn) self.old.history
-            → OnOk result (HoldsBoth (state S.Store self.new.conn) self.new.history texts.now) }
-        ensures err { HasCleanDisk (state S.Store self.new.conn)
-            → IsTrue (state S.Store self.new.conn).is_open
-            → HoldsHistory (state S.Store self.old.conn) self.old.history
-            → OnErr result (HoldsHistory (state S.Store self.new.conn) self.new.history) }
-        ensures same { (shapes : _) → HasCleanDisk (state S.Store self.new.conn)
-            → IsTrue (state S.Store self.new.conn).is_open
-            → HoldsShapes (state S.Store self.old.conn) shapes
-            → OnErr result (HoldsShapes (state S.Store self.new.conn) shapes) }
-        ensures crash { HoldsHistory (state S.Store self.old.conn) self.old.history
-            → Survives (state S.Store self.old.conn) (state S.Store self.new.conn)
-            (LeavesRelease self.old.history year (parcel_ids yes.now.parcels) rows.now
-            texts.now) }
-        ensures durable { HasCleanDisk (state S.Store self.new.conn)
-            → HoldsHistory (state S.Store self.old.conn) self.old.history
-            → OnOk result ((db : _) → (state S.Store self.new.conn).may_leave db
-            → LeavesBoth self.new.history texts.now db) }
     {
-        let live = live_ids(self.alloc, yes)?;
-        publish_release(
-            self.alloc,
-            &mut self.conn,
-            &mut self.history,
-            year,
-            live.as_slice(),
-            rows,
-            texts,
-        )
+        match self.accept(year, yes, rows) {
+            Ok(accepted) => self.commit(accepted),
+            Err(fault) => Err(fault),
+        }
     }
 
     /// The identifiers of the last release that chains of rows, from old to new, reach from an
@@ -140,17 +164,10 @@ impl<S: Alter> Register<S> {
 
     /// The history that the tables say, read from them. Nothing is changed.
     pub fn history(&mut self) -> Result<History, PublishFault>
-        ensures ok { HasCleanDisk (state S.Store self.new.conn)
-            → HoldsHistory (state S.Store self.old.conn) self.old.history
-            → IfOk result (λ k. IsSameHistory self.old.history k) }
-        ensures lawful { HasCleanDisk (state S.Store self.new.conn)
-            → HoldsHistory (state S.Store self.old.conn) self.old.history
-            → IfErr result (λ fault. (fault ≡ Unlawful) → ⊥) }
-        ensures kept { self.new.history ≡ self.old.history }
-        ensures same { HasCleanDisk (state S.Store self.new.conn)
-            → IsTrue (state S.Store self.new.conn).is_open
-            → HoldsHistory (state S.Store self.old.conn) self.old.history
-            → HoldsHistory (state S.Store self.new.conn) self.new.history }
+        ensures reads { ReadsHistory (state S.Store self.old.conn) (state S.Store self.new.conn)
+            self.old.history self.old.shapes.items result }
+        ensures history { self.new.history ≡ self.old.history }
+        ensures shapes { self.new.shapes ≡ self.old.shapes }
     {
         read_history(self.alloc, &mut self.conn)
     }

@@ -4,35 +4,52 @@ use Rattle.sqlite.specs.Tree.{Trees}
 use Rattle.sqlite.specs.State.{State, HasCleanDisk, Survives}
 use Rattle.lpis_lineage.specs.declared.row.Row.{Row}
 use Rattle.lpis_lineage.specs.declared.row.Entry.{Entry}
-use Rattle.lpis_lineage.specs.Accepts.{Adds}
-use Rattle.lpis_lineage.specs.Lineage.{last_live, last_year}
-use Rattle.lpis_register_rows.specs.Content.{StoredText}
-use Rattle.lpis_register_rows.specs.Tells.{IsWriting}
-use Rattle.lpis_register_rows.specs.Texts.{KeptShape, TextsStand}
-use Rattle.lpis_register.specs.Histories.{HoldsBoth, HoldsHistory, HoldsShapes}
-use Rattle.lpis_register.specs.Histories.{LeavesBoth}
+use Rattle.lpis_lineage.specs.Lineage.{last_year}
+use Rattle.lpis_parcels.specs.declared.parcel.Parcel.{Parcel}
+use Rattle.lpis_register_rows.specs.Shapes.{Shape}
+use Rattle.lpis_register.specs.Accepting.{IsAccepted}
+use Rattle.lpis_register.specs.Histories.{HoldsRegister, LeavesRegister}
+use Rattle.lpis_register.specs.Publishing.{Follows, LeavesRelease}
+use Rattle.lpis_register.specs.declared.accepting.Accepted.{Accepted}
+use Rattle.lpis_register.specs.declared.fault.PublishFault.{PublishFault}
 
-module _ (now : List Entry) (year last : ℕ) (gone fresh : List (List ℕ)) (rows : List Row)
-    (texts : List StoredText) where
-  -- the release is to be written after this history, which ends with that year
+module _ (now : List Entry) (last : ℕ) (a : Accepted) where
+  -- the accepted release is to be written after this history, which ends with that year
   pub record IsDue (h : List Entry) : Type 0 where
-    pub live : List (List ℕ)
-    pub adds : Adds h now year live rows
+    pub year : ℕ
+    pub parcels : List Parcel
+    pub rows : List Row
+    pub made : IsAccepted h year parcels rows a
+    pub follows : Follows h year parcels rows now a.kept.shapes.items
     pub last_is : last ≡ last_year h
-    pub writing : IsWriting h live gone fresh
-    pub stand : TextsStand texts (last_live now)
 
-  -- tables that say the history before the release say the whole one afterwards and keep its
-  -- shapes, and with an error those before; a crash leaves either, and right after the call the
-  -- whole one
+  -- tables that hold the history before the release hold the whole one afterwards and its shapes,
+  -- and with an error what they held; a crash leaves either, and right after the call the whole one
   pub record Writes {E : Type 0} (old new : State) (r : Result (Unit {0}) E) : Type 0 where
-    pub ok : (h : List Entry) → IsDue h → HasCleanDisk new → HoldsHistory old h
-        → OnOk r (HoldsBoth new now texts)
-    pub err : (h : List Entry) → HasCleanDisk new → IsTrue new.is_open → HoldsHistory old h
-        → OnErr r (HoldsHistory new h)
-    pub same : (shapes : List KeptShape) → HasCleanDisk new → IsTrue new.is_open
-        → HoldsShapes old shapes → OnErr r (HoldsShapes new shapes)
-    pub crash : (h : List Entry) → IsDue h → HoldsHistory old h
-        → Survives old new (LeavesBoth now texts)
-    pub durable : (h : List Entry) → IsDue h → HasCleanDisk new → HoldsHistory old h
-        → OnOk r ((db : Trees) → new.may_leave db → LeavesBoth now texts db)
+    pub ok : (h : List Entry) (shapes : List Shape) → IsDue h → HasCleanDisk new
+        → HoldsRegister old h shapes → OnOk r (HoldsRegister new now a.kept.shapes.items)
+    pub err : (h : List Entry) (shapes : List Shape) → HasCleanDisk new → IsTrue new.is_open
+        → HoldsRegister old h shapes → OnErr r (HoldsRegister new h shapes)
+    pub crash : (h : List Entry) (shapes : List Shape) → IsDue h → HoldsRegister old h shapes
+        → Survives old new (LeavesRegister now a.kept.shapes.items)
+    pub durable : (h : List Entry) (shapes : List Shape) → IsDue h → HasCleanDisk new
+        → HoldsRegister old h shapes
+        → OnOk r ((db : Trees) → new.may_leave db → LeavesRegister now a.kept.shapes.items db)
+
+module _ (h k : List Entry) (year : ℕ) (parcels : List Parcel) (rows : List Row) (a : Accepted)
+  where
+    -- the accepted release stands at the end of the history
+    abbrev pub Grows : {E : Type 0} → Result (Unit {0}) E → Type 0
+    Grows r = OnOk r (Follows h year parcels rows k a.kept.shapes.items)
+
+    -- and of the tables' history, as publishing it does
+    pub record Commits {E : Type 0} (old new : State) (r : Result (Unit {0}) E) : Type 0 where
+      pub follows : Grows r
+      pub ok : (shapes : List Shape) → HasCleanDisk new → HoldsRegister old h shapes
+          → OnOk r (HoldsRegister new k a.kept.shapes.items)
+      pub err : (shapes : List Shape) → HasCleanDisk new → IsTrue new.is_open
+          → HoldsRegister old h shapes → OnErr r (HoldsRegister new h shapes)
+      pub crash : (shapes : List Shape) → HoldsRegister old h shapes
+          → Survives old new (LeavesRelease h year parcels rows)
+      pub durable : (shapes : List Shape) → HasCleanDisk new → HoldsRegister old h shapes
+          → OnOk r ((db : Trees) → new.may_leave db → LeavesRegister k a.kept.shapes.items db)

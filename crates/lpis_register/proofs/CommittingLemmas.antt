@@ -1,0 +1,146 @@
+-- Writing a release that was accepted.
+use Rattle.std.proofs.Common.{◌≡◌, ◌≤◌, ◌∙◌, ℕ, pos, List, Result, Ok, Err, OnOk, OnErr, IsTrue, IsPermutation, refl, sym, subst, subst₂}
+use Rattle.lpis_register.proofs.Common.{Trees, State, HasCleanDisk, Survives, survives_weaker, AreLive, Content, Entry, HoldsRegister, IsStored, Leaves, LeavesRegister, Origin, Parcel, PublishFault, Row, Shape, ShapesAre, StoredText, Tells, Whole, last_live, last_year, parcel_ids}
+use Rattle.lpis_lineage.specs.Accepts.{Adds}
+use Rattle.lpis_lineage.specs.Changes.{Changes}
+use Rattle.lpis_lineage.specs.Lawful.{IsLawful, RowsFit}
+use Rattle.lpis_register_rows.specs.Content.{Mark, marks_from, published, released}
+use Rattle.lpis_register_rows.specs.Tells.{IsWriting, last_of_years}
+use Rattle.lpis_register.specs.Accepting.{IsAccepted}
+use Rattle.lpis_register.specs.Publishing.{Follows, LeavesRelease, Publishes, Stores}
+use Rattle.lpis_register.specs.declared.accepting.Accepted.{Accepted}
+use Rattle.lpis_register.specs.private.Writes.{Commits, IsDue, Writes}
+use Rattle.lpis_register.proofs.FindingLemmas.{Reordered, still_holds}
+use Rattle.lpis_register.proofs.HoldingLemmas.{holds_with, left_with, nothing_done, survives_with}
+use Rattle.lpis_register.proofs.ResultLemmas.{on_err, on_ok}
+
+-- ---- the laws of publishing
+
+abbrev pub TellsMore : Type 0
+TellsMore = (c : Content) (h k : List Entry) (year : ℕ) (live gone fresh : List (List ℕ)) (rows : List Row) → Tells c h → Adds h k year live rows → IsLawful k → RowsFit k → year ≤ last_of_years
+    → IsWriting h live gone fresh → (texts : List StoredText) → Tells (released texts (marks_from (pos year) 0 rows) (published (pos year) (pos (last_year h)) gone fresh rows c)) k
+
+abbrev pub PutsTexts : Type 0
+PutsTexts = (c : Content) (texts : List StoredText) (marks : List Mark) → IsPermutation texts (released texts marks c).texts
+
+abbrev pub LivesOn : Type 0
+LivesOn = (h k : List Entry) (year : ℕ) (live : List (List ℕ)) (rows : List Row) → Adds h k year live rows → (shapes : List Shape) → AreLive live shapes → AreLive (last_live k) shapes
+
+-- ---- the statements write what was accepted
+
+module _ (more : TellsMore) (put : PutsTexts) (lives : LivesOn) (moved : Reordered) (now : List Entry) (lawful : IsLawful now) (fits : RowsFit now) (last : ℕ) (a : Accepted)
+    (y l : ℕ) (gone fresh : List (List ℕ)) (rows : List Row) (texts : List StoredText)
+    (ey : y ≡ a.year) (el : l ≡ last) (eg : gone ≡ a.step.change.dropped_ids) (ef : fresh ≡ a.step.fresh.items) (er : rows ≡ a.step.change.rows) (et : texts ≡ a.kept.texts.items)
+    (low : y ≤ last_of_years) where
+  abbrev pub whole : Content → Content
+  whole c = released texts (marks_from (pos y) 0 rows) (published (pos y) (pos l) gone fresh rows c)
+
+  told : (h : List Entry) (c : Content) → IsDue now last a h → Tells c h → Tells (whole c) now
+  told h c due t =
+      let ids = parcel_ids due.parcels in
+      let step = due.made.step_is in
+      let adds : Adds h now y ids rows = subst₂ (λ v r. Adds h now v ids r) (sym due.made.year_is ∙ sym ey) (sym step.change_is.rows_are ∙ sym er) due.follows.adds in
+      let writing = subst₂ (λ g f. IsWriting h ids g f) (sym eg) (sym ef) step.writing in
+      subst (λ v. Tells (released texts (marks_from (pos y) 0 rows) (published (pos y) (pos v) gone fresh rows c)) now) (sym due.last_is ∙ sym el)
+      (more c h now y ids gone fresh rows t adds lawful fits low writing texts)
+
+  spelled : (h : List Entry) (c : Content) → IsDue now last a h → ShapesAre (whole c).texts a.kept.shapes.items
+  spelled h c due =
+      moved texts (whole c).texts a.kept.shapes.items (put (published (pos y) (pos l) gone fresh rows c) texts (marks_from (pos y) 0 rows))
+      (subst (λ t. ShapesAre t a.kept.shapes.items) (sym et) due.made.kept_is.texts_are)
+
+  alive : (h : List Entry) → IsDue now last a h → AreLive (last_live now) a.kept.shapes.items
+  alive h due = lives h now due.year (parcel_ids due.parcels) due.rows due.follows.adds a.kept.shapes.items due.made.kept_is.live
+
+  pub written : {E : Type 0} (old new : State) (r : Result (Unit {0}) E)
+      → (HasCleanDisk new → (origin : Origin) (c : Content) → IsStored (Whole origin) old c → OnOk r (IsStored (Whole origin) new (whole c)))
+      → (HasCleanDisk new → IsTrue new.is_open → (origin : Origin) (c : Content) → IsStored (Whole origin) old c → OnErr r (IsStored (Whole origin) new c))
+      → ((origin : Origin) (c : Content) → IsStored (Whole origin) old c → Survives old new (Leaves (Whole origin) (whole c)))
+      → (HasCleanDisk new → (origin : Origin) (c : Content) → IsStored (Whole origin) old c → OnOk r ((db : Trees) → new.may_leave db → Leaves (Whole origin) (whole c) db))
+      → Writes now last a old new r
+  written old new r ok err crash durable = record {
+    ok = λ h shapes due clean holds.
+        let c = holds.content in
+        on_ok r (holds_with holds.origin (whole c) now a.kept.shapes.items (told h c due holds.tells) (spelled h c due) (alive h due) new) (ok clean holds.origin c holds.stored);
+    err = λ h shapes clean up holds. on_err r (still_holds old new h shapes holds) (err clean up holds.origin holds.content holds.stored);
+    crash = λ h shapes due holds.
+        let c = holds.content in
+        survives_with holds.origin (whole c) now a.kept.shapes.items (told h c due holds.tells) (spelled h c due) (alive h due) old new (crash holds.origin c holds.stored);
+    durable = λ h shapes due clean holds.
+        let c = holds.content in
+        on_ok r (λ left db may. left_with holds.origin (whole c) now a.kept.shapes.items (told h c due holds.tells) (spelled h c due) (alive h due) db (left db may)) (durable clean holds.origin c holds.stored);
+  }
+
+-- ---- the history with the release at its end
+
+pub follows_as : (h k : List Entry) (year : ℕ) (parcels : List Parcel) (rows : List Row) (a : Accepted) (live : List (List ℕ)) (more : List Row) → live ≡ a.step.live.items → more ≡ a.step.change.rows
+    → Adds h k a.year live more → IsLawful k → RowsFit k → IsAccepted h year parcels rows a → Follows h year parcels rows k a.kept.shapes.items
+follows_as h k year parcels rows a live more el er adds lawful fits made = record {
+  adds = subst₂ (λ y r. Adds h k y (parcel_ids parcels) r) made.year_is (er ∙ made.step_is.change_is.rows_are) (subst (λ l. Adds h k a.year l more) (el ∙ made.step_is.live_are) adds);
+  lawful = lawful;
+  fits = fits;
+  keeps = made.kept_is.shapes_are;
+}
+
+-- ---- both
+
+module _ (h k : List Entry) (year : ℕ) (parcels : List Parcel) (rows : List Row) (a : Accepted) (old : State) where
+  pub not_begun : {E : Type 0} (e : E) → Commits h k year parcels rows a old old (Err e)
+  not_begun e = record {
+    follows = tt;
+    ok = λ shapes clean holds. tt;
+    err = λ shapes clean up holds. holds;
+    crash = λ shapes holds. nothing_done (LeavesRelease h year parcels rows) old;
+    durable = λ shapes clean holds. tt;
+  }
+
+module _ (now : List Entry) (last : ℕ) (a : Accepted) (h : List Entry) (due : IsDue now last a h) (old new : State) where
+  crashed : {E : Type 0} (r : Result (Unit {0}) E) → Writes now last a old new r → (shapes : List Shape) → HoldsRegister old h shapes
+      → Survives old new (LeavesRelease h due.year due.parcels due.rows)
+  crashed r w shapes holds = survives_weaker old new _ _ (λ clean db left. (now, a.kept.shapes.items, due.follows, left)) (w.crash h shapes due holds)
+
+  pub committed : {E F : Type 0} (x y : Unit {0}) → Writes now last a {E = E} old new (Ok x) → Commits h now due.year due.parcels due.rows a {E = F} old new (Ok y)
+  committed {E} x y w = record {
+    follows = due.follows;
+    ok = λ shapes clean holds. w.ok h shapes due clean holds;
+    err = λ shapes clean up holds. tt;
+    crash = λ shapes holds. crashed {E = E} (Ok x) w shapes holds;
+    durable = λ shapes clean holds db may. w.durable h shapes due clean holds db may;
+  }
+
+  pub taken_back : {E F : Type 0} (k : List Entry) (e : E) (f : F) → Writes now last a old new (Err e) → Commits h k due.year due.parcels due.rows a old new (Err f)
+  taken_back k e f w = record {
+    follows = tt;
+    ok = λ shapes clean holds. tt;
+    err = λ shapes clean up holds. w.err h shapes clean up holds;
+    crash = λ shapes holds. crashed (Err e) w shapes holds;
+    durable = λ shapes clean holds. tt;
+  }
+
+-- ---- as the register says it
+
+module _ (h k : List Entry) (year : ℕ) (parcels : List Parcel) (rows : List Row) (a : Accepted) (shapes kept : List Shape) (old new : State) (same : kept ≡ a.kept.shapes.items) where
+  pub stored_ok : (x : Unit {0}) (change : Changes) → Commits h k year parcels rows a {E = PublishFault} old new (Ok x) → Stores h year parcels rows shapes k kept old new (Ok change)
+  stored_ok x change c = record {
+    ok = λ clean holds. subst (HoldsRegister new k) (sym same) (c.ok shapes clean holds);
+    err = λ clean up holds. tt;
+    crash = λ holds. c.crash shapes holds;
+    durable = λ clean holds db may. subst (λ s. LeavesRegister k s db) (sym same) (c.durable shapes clean holds db may);
+  }
+
+pub stored_err : (h k : List Entry) (year : ℕ) (parcels : List Parcel) (rows : List Row) (a : Accepted) (shapes : List Shape) (old new : State) (e : PublishFault) → k ≡ h
+    → Commits h k year parcels rows a old new (Err e) → Stores h year parcels rows shapes k shapes old new (Err e)
+stored_err h k year parcels rows a shapes old new e same c = record {
+  ok = λ clean holds. tt;
+  err = λ clean up holds. subst (λ l. HoldsRegister new l shapes) (sym same) (c.err shapes clean up holds);
+  crash = λ holds. c.crash shapes holds;
+  durable = λ clean holds. tt;
+}
+
+pub stored_not : (h : List Entry) (year : ℕ) (parcels : List Parcel) (rows : List Row) (shapes : List Shape) (st : State) (e : PublishFault) → Stores h year parcels rows shapes h shapes st st (Err e)
+stored_not h year parcels rows shapes st e = record {
+  ok = λ clean holds. tt;
+  err = λ clean up holds. holds;
+  crash = λ holds. nothing_done (LeavesRelease h year parcels rows) st;
+  durable = λ clean holds. tt;
+}

@@ -1,0 +1,38 @@
+-- From what files hold to what an opening finds.
+use Rattle.std.proofs.Common.{◌≡◌, ◌∙◌, ◌<◌, ap, inl, inr, length, refl, sym, subst, [], List, arith}
+use Rattle.lpis_register.proofs.Common.{Content, Entry, HasCleanDisk, IsBare, IsOpened, IsStored, IsUnopened, Layout, Leaves, PublishFault, Shape, State, Trees}
+use Rattle.lpis_register.specs.FileOpening.{HoldsNoTable, HoldsRows, IsFileOpened, IsFileUnopened}
+use Rattle.sqlite.specs.Files.{AreFoundIn}
+use Rattle.sqlite.specs.Start.{FindsIn}
+use Rattle.sqlite.specs.State.{IsLive, Opens}
+use Rattle.sqlite_trees.specs.Objects.{catalog_tree}
+use Rattle.sqlite_wal.specs.Recovery.{Image}
+
+-- a file with no byte holds no page
+none_in_nothing : (image : Image) (db : Trees) → image.db ≡ [] → AreFoundIn image db → db catalog_tree ≡ []
+none_in_nothing image db none (inl got) = absurd (let some : 0 < length image.db = got.3.found.present in let len : length image.db ≡ 0 = ap length none in omega (arith, some, len))
+none_in_nothing image db none (inr empty) = empty.1.1
+
+-- a connection over files, as it was opened
+module _ (image : Image) (old : State) (opened : HasCleanDisk old → Opens old × IsLive old) (finds : HasCleanDisk old → FindsIn image old)
+    (stored : Opens old → IsLive old → (layout : Layout) (c : Content) → Leaves layout c old.committed.trees → IsStored layout old c)
+    (bare : Opens old → IsLive old → old.committed.trees catalog_tree ≡ [] → IsBare old) where
+  is_stored : HasCleanDisk old → (layout : Layout) (c : Content) → HoldsRows image layout c → IsStored layout old c
+  is_stored clean layout c (db, holds, left) = stored (opened clean).0 (opened clean).1 layout c (subst (Leaves layout c) (sym ((finds clean).holds db holds)) left)
+
+  is_bare : HasCleanDisk old → HoldsNoTable image → IsBare old
+  is_bare clean (inl (db, holds, none)) = bare (opened clean).0 (opened clean).1 (ap (λ (t : Trees). t catalog_tree) ((finds clean).holds db holds) ∙ none)
+  is_bare clean (inr none) = bare (opened clean).0 (opened clean).1 (none_in_nothing image old.committed.trees none (finds clean).reads)
+
+  pub opened_file : (new : State) (h : List Entry) (shapes : List Shape) → IsOpened old new h shapes → IsFileOpened image new h shapes
+  opened_file new h shapes o = record {
+    bare = λ up none. o.bare up (is_bare (o.clean up) none);
+    found = λ up layout c rows. o.found up layout c (is_stored (o.clean up) layout c rows);
+  }
+
+  pub unopened_file : (new : State) (e : PublishFault) → IsUnopened old new e → IsFileUnopened image new e
+  unopened_file new e o = record {
+    unlawful = λ is up layout c rows. o.unlawful is up layout c (is_stored (o.clean up) layout c rows);
+    lawful = λ is up none. o.lawful is up (is_bare (o.clean up) none);
+    kind = o.kind;
+  }

@@ -1,0 +1,36 @@
+-- Results, and the faults in them.
+use Rattle.std.proofs.Common.{◌≡◌, ◌⊎◌, inl, inr, ℕ, List, Result, Ok, Err, OnOk, OnErr, refl, sym, subst}
+use Rattle.lpis_register.proofs.Common.{Entry, Row, IsFailure, IsOpeningFault, PublishTells, PublishFault, Memory, Year, Lineage, Store, Unknown, Unlawful}
+
+pub on_ok : {A E : Type 0} (r : Result A E) {P Q : Type 0} → (P → Q) → OnOk r P → OnOk r Q
+on_ok (Ok x) f p = f p
+on_ok (Err e) f p = tt
+
+pub on_err : {A E : Type 0} (r : Result A E) {P Q : Type 0} → (P → Q) → OnErr r P → OnErr r Q
+on_err (Ok x) f p = tt
+on_err (Err e) f p = f p
+
+-- a failure is no refusal
+pub opening_failure : (e : PublishFault) → IsFailure e → IsOpeningFault e
+opening_failure Memory f = tt
+opening_failure (Year last) f = f
+opening_failure (Lineage fault) f = f
+opening_failure Store f = tt
+opening_failure Unknown f = f
+opening_failure Unlawful f = tt
+
+pub failure_lawful : (e : PublishFault) → IsFailure e → e ≡ Unlawful → ⊥
+failure_lawful e f is = subst IsFailure is f
+
+pub lawful_failure : (e : PublishFault) → IsOpeningFault e → (e ≡ Unlawful → ⊥) → IsFailure e
+lawful_failure Memory k never = tt
+lawful_failure (Year last) k never = k
+lawful_failure (Lineage fault) k never = k
+lawful_failure Store k never = tt
+lawful_failure Unknown k never = k
+lawful_failure Unlawful k never = never refl
+
+-- what failed beside the call tells nothing of the release
+pub failure_tells : (A : Type 0) (h : List Entry) (year : ℕ) (live : List (List ℕ)) (rows : List Row) (X : Type 0) (e : PublishFault) → (e ≡ Store) ⊎ ((e ≡ Memory) × X) → PublishTells {A = A} h year live rows (Err e)
+failure_tells A h year live rows X e (inl is) = subst (λ f. PublishTells {A = A} h year live rows (Err f)) (sym is) tt
+failure_tells A h year live rows X e (inr is) = subst (λ f. PublishTells {A = A} h year live rows (Err f)) (sym is.0) tt

@@ -1,0 +1,14 @@
+use Rattle.lpis_register.proofs.Common.{state}
+use Rattle.lpis_register.proofs.CommittingLemmas.{committed, taken_back}
+use Rattle.lpis_register.proofs.committing.write_or_take_back.Goals as goal
+
+pub returns-in-Ok-clause-commits : goal.returns-in-Ok-clause-commits
+returns-in-Ok-clause-commits g c h due =
+    committed c.args.history.now c.args.last c.args.accepted.now h due (state g.S.Store c.args.conn.now) (state g.S.Store c.write_at_end.new.conn) _ _ c.in-Ok.ensures.writes
+
+pub returns-in-Err-clause-commits : goal.returns-in-Err-clause-commits
+returns-in-Err-clause-commits g c h due =
+    taken_back c.args.history.now c.args.last c.args.accepted.now h due (state g.S.Store c.args.conn.now) (state g.S.Store c.write_at_end.new.conn) _ _ _ c.in-Err.ensures.writes
+
+pub returns-in-Err-clause-refused : goal.returns-in-Err-clause-refused
+returns-in-Err-clause-refused g c h due = let adds = due.follows.adds in c.take_back.ensures h adds.0 adds.1

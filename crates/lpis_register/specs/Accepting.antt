@@ -1,0 +1,41 @@
+-- A release that may follow a history, with all that writing it takes.
+use Rattle.std.specs.Prelude.{◌≡◌, ◌<◌, [], ℕ, List}
+use Rattle.lpis_lineage.specs.declared.row.Row.{Row}
+use Rattle.lpis_lineage.specs.declared.row.Entry.{Entry}
+use Rattle.lpis_lineage.specs.Changes.{IsChange}
+use Rattle.lpis_lineage.specs.Faults.{faults}
+use Rattle.lpis_lineage.specs.Lineage.{last_live, last_year}
+use Rattle.lpis_parcels.specs.declared.parcel.Parcel.{Parcel}
+use Rattle.lpis_parcels.specs.Release.{parcel_ids}
+use Rattle.lpis_register_rows.specs.Shapes.{AreLive, AreShapesOf, ShapesAre}
+use Rattle.lpis_register_rows.specs.Tells.{IsWriting}
+use Rattle.lpis_register.specs.declared.accepting.Accepted.{Accepted}
+use Rattle.lpis_register.specs.declared.accepting.Kept.{Kept}
+use Rattle.lpis_register.specs.declared.accepting.Step.{Step}
+
+-- what a release with these identifiers and rows changes in the history that it may follow
+pub record IsStep (h : List Entry) (live : List (List ℕ)) (rows : List Row) (step : Step) : Type 0
+  where
+    pub live_are : step.live.items ≡ live
+    pub faultless : faults h live rows ≡ []
+    pub change_is : IsChange (last_live h) live rows step.change
+    pub writing : IsWriting h live step.change.dropped_ids step.fresh.items
+
+-- the shapes of these parcels, and their texts
+pub record IsKept (parcels : List Parcel) (kept : Kept) : Type 0 where
+  pub shapes_are : AreShapesOf parcels kept.shapes.items
+  pub live : AreLive (parcel_ids parcels) kept.shapes.items
+  pub texts_are : ShapesAre kept.texts.items kept.shapes.items
+
+-- the release of this year, of these parcels and with these rows may follow this history
+pub record IsAccepted (h : List Entry) (year : ℕ) (parcels : List Parcel) (rows : List Row)
+    (a : Accepted) : Type 0 where
+  pub later : last_year h < year
+  pub year_is : a.year ≡ year
+  pub step_is : IsStep h (parcel_ids parcels) rows a.step
+  pub kept_is : IsKept parcels a.kept
+
+-- some release was accepted after this history
+abbrev pub WasMadeFor : List Entry → Accepted → Type 0
+WasMadeFor h a = (year : ℕ) × (parcels : List Parcel) × (rows : List Row)
+    × IsAccepted h year parcels rows a

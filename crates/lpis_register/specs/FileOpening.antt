@@ -1,0 +1,41 @@
+-- What an opening finds in files.
+use Rattle.std.specs.Prelude.{◌≡◌, ◌⊎◌, [], List}
+use Rattle.sqlite_trees.specs.Objects.{catalog_tree}
+use Rattle.sqlite_wal.specs.Recovery.{Image}
+use Rattle.sqlite.specs.Files.{HoldsDatabase}
+use Rattle.sqlite.specs.State.{HasCleanDisk, State}
+use Rattle.sqlite.specs.Tree.{Trees}
+use Rattle.lpis_lineage.specs.declared.row.Entry.{Entry}
+use Rattle.lpis_register_rows.specs.Content.{Content}
+use Rattle.lpis_register_rows.specs.Shapes.{Shape}
+use Rattle.lpis_register_sql.specs.Holding.{Leaves}
+use Rattle.lpis_register_sql.specs.Layouts.{Layout}
+use Rattle.lpis_register.specs.Faults.{IsOpeningFault}
+use Rattle.lpis_register.specs.Histories.{HoldsRegister}
+use Rattle.lpis_register.specs.Opening.{IsOpenedAs, SaysNone}
+use Rattle.lpis_register.specs.declared.fault.PublishFault.{PublishFault}
+use Rattle.lpis_register.specs.declared.fault.PublishFault.TheVariants.{Unlawful}
+
+-- the files hold a database, and its tables these rows
+abbrev pub HoldsRows : Image → Layout → Content → Type 0
+HoldsRows image layout c = (db : Trees) × HoldsDatabase image db × Leaves layout c db
+
+-- the files hold a database without a table, or the database file has no byte
+abbrev pub HoldsNoTable : Image → Type 0
+HoldsNoTable image = ((db : Trees) × HoldsDatabase image db × (db catalog_tree ≡ []))
+    ⊎ (image.db ≡ [])
+
+-- an opening of these files that made this history and these shapes of them
+pub record IsFileOpened (image : Image) (new : State) (h : List Entry) (shapes : List Shape)
+    : Type 0 where
+  pub bare : HasCleanDisk new → HoldsNoTable image
+      → HoldsRegister new [] [] × (h ≡ []) × (shapes ≡ [])
+  pub found : HasCleanDisk new → (layout : Layout) (c : Content) → HoldsRows image layout c
+      → IsOpenedAs new c h shapes
+
+-- an opening of these files whose tables were refused: only where they say nothing
+pub record IsFileUnopened (image : Image) (new : State) (fault : PublishFault) : Type 0 where
+  pub unlawful : fault ≡ Unlawful → HasCleanDisk new → (layout : Layout) (c : Content)
+      → HoldsRows image layout c → SaysNone c
+  pub lawful : fault ≡ Unlawful → HasCleanDisk new → HoldsNoTable image → ⊥
+  pub kind : IsOpeningFault fault
