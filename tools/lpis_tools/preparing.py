@@ -18,7 +18,7 @@ FAR = 20_000_000.0
 MOST_POINTS, MOST_ROWS, MOST_TOLD = 100_000, 200_000, 20
 WITHOUT_PREFIX = {4647: 25832, 5649: 25831, 5650: 25833}
 KEYS = {"parcels": "parcel", "covers": "piece"}
-NOTES = {"curve": "arcs made straight, within a centimetre", "z": "heights dropped", "m": "measures dropped", "unclosed": "an open ring closed"}
+NOTES = {"curve": "arcs made straight, within a centimetre", "z": "heights dropped", "m": "measures dropped", "unclosed": "an open ring closed", "short": "a ring without three points left out"}
 
 
 @dataclass
@@ -144,13 +144,6 @@ class Preparation:
             for row in self.layers[name].rows:
                 if row.found is None:
                     continue
-                rings = [ring for member in row.found.members for ring in member]
-                if any(len(ring) < 4 for ring in rings):
-                    row.found.members = [[ring for ring in member if len(ring) > 3] for member in row.found.members if len(member[0]) > 3]
-                    self.find("invalid", name, row, "a ring has fewer than four points", "the ring is left out")
-                    if not row.found.members:
-                        row.found = None
-                        continue
                 shape = shape_of(row.found)
                 if not shape.is_valid:
                     self.mend(name, row, shape)
