@@ -62,7 +62,7 @@ class Preparation:
     def systems(self, transformed):
         """Brings both layers to one system in metres. `transformed` reads a layer anew in another system."""
         known = [self.layers[name].system for name in KEYS if self.layers[name].system]
-        numbers = [system.number for system in known if system.number and not system.is_degrees]
+        numbers = [system.number for system in known if system.number and not system.is_degrees and system.unit == 1.0]
         if self.epsg is None and numbers:
             self.epsg = WITHOUT_PREFIX.get(numbers[0], numbers[0])
         for name in KEYS:
