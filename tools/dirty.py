@@ -3,7 +3,8 @@
 
     tools/dirty.py OUT.gpkg [KIND..]      no KIND: all of them; `clean` alone: none
 
-KIND is one of null, empty, curve, z, degrees, crossing, blank, umlaut, long, nameless, doubled, bare, stranger, wide, narrow, twin, line.
+KIND is one of null, empty, curve, z, degrees, crossing, blank, umlaut, long, nameless, doubled, bare, stranger, wide, narrow, twin, line,
+flat, short.
 """
 
 import os
@@ -19,9 +20,11 @@ SYSTEMS = {
     4647: ("ETRS89 / UTM zone 32N (zE-N)", 'PROJCS["ETRS89 / UTM zone 32N (zE-N)",GEOGCS["ETRS89",DATUM["European_Terrestrial_Reference_System_1989",SPHEROID["GRS 1980",6378137,298.257222101]],'
            'PRIMEM["Greenwich",0],UNIT["degree",0.0174532925199433]],PROJECTION["Transverse_Mercator"],PARAMETER["latitude_of_origin",0],PARAMETER["central_meridian",9],'
            'PARAMETER["scale_factor",0.9996],PARAMETER["false_easting",32500000],PARAMETER["false_northing",0],UNIT["metre",1],AUTHORITY["EPSG","4647"]]'),
+    2263: ("NAD83 / New York Long Island (ftUS)", 'PROJCS["NAD83 / New York Long Island (ftUS)",GEOGCS["NAD83",DATUM["North_American_Datum_1983",SPHEROID["GRS 1980",6378137,298.257222101]],'
+           'PRIMEM["Greenwich",0],UNIT["degree",0.0174532925199433]],PROJECTION["Lambert_Conformal_Conic_2SP"],UNIT["US survey foot",0.304800609601219],AUTHORITY["EPSG","2263"]]'),
     4326: ("WGS 84", 'GEOGCS["WGS 84",DATUM["WGS_1984",SPHEROID["WGS 84",6378137,298.257223563]],PRIMEM["Greenwich",0],UNIT["degree",0.0174532925199433],AUTHORITY["EPSG","4326"]]'),
 }
-ALL = "null empty curve z degrees crossing blank umlaut long nameless doubled bare stranger wide narrow twin line".split()
+ALL = "null empty curve z degrees crossing blank umlaut long nameless doubled bare stranger wide narrow twin line flat short".split()
 
 
 def polygon(*rings, z=None):
@@ -109,6 +112,9 @@ def rows_of(kinds, move=(0, 0)):
             parcels[-1] = (kind, EMPTY)
         elif kind == "line":
             covers[-1] = (*covers[-1][:3], line((EAST, NORTH + y), (EAST + 10, NORTH + y)))
+        elif kind in ("flat", "short"):
+            way = [(EAST + x, NORTH + y) for x in ((5, 10, 7, 5) if kind == "flat" else (5, 10, 5))]
+            covers[-1] = (*covers[-1][:3], polygon(way))
         elif kind == "curve":
             x, low = EAST, NORTH + y
             shape = arc((x, low), (x + 5, low - 1), (x + 10, low), (x + 11, low + 5), (x + 10, low + 10), (x + 5, low + 11), (x, low + 10), (x - 1, low + 5), (x, low))

@@ -65,6 +65,11 @@ def parts_of(shape):
     return [part for inner in getattr(shape, "geoms", []) for part in parts_of(inner)]
 
 
+def mended_of(shape):
+    """The polygons of a shape that crosses itself."""
+    return unary_union(parts_of(make_valid(shape)))
+
+
 def conflicts(kind, names, shape, words):
     for part in parts_of(shape):
         width = width_of(part)
@@ -90,11 +95,11 @@ class Source:
                 continue
             shape = shape_of(row.found)
             if not shape.is_valid:
-                why = explain_validity(shape)
-                mended = unary_union(parts_of(make_valid(shape)))
+                why, mended = explain_validity(shape), mended_of(shape)
                 self.losses.append(Loss("invalid", [row[column]], f"{why}; mended it has {mended.area:.3f} m2, by its points {shape.area:.3f}", mended, None, None, layer.name))
                 shape = mended
-            told.append((row, shape))
+            if not shape.is_empty:
+                told.append((row, shape))
         return told
 
 
@@ -151,6 +156,7 @@ def find_lost(source, out):
     for row, shape in source.parcels:
         if row["parcel"] in parcels:
             after = shape_of(sheets.polygons_of(parcels[row["parcel"]]))
+            after = after if after.is_valid else mended_of(after)
             change = shape.symmetric_difference(after).area
             if greatest is None or change > greatest[0]:
                 greatest = change, row["parcel"], shape, after

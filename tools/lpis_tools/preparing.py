@@ -18,7 +18,7 @@ FAR = 20_000_000.0
 MOST_POINTS, MOST_ROWS, MOST_TOLD = 100_000, 200_000, 20
 WITHOUT_PREFIX = {4647: 25832, 5649: 25831, 5650: 25833}
 KEYS = {"parcels": "parcel", "covers": "piece"}
-NOTES = {"curve": "arcs made straight, within a centimetre", "z": "heights dropped", "m": "measures dropped", "unclosed": "an open ring closed"}
+NOTES = {"curve": "arcs made straight, within a centimetre", "z": "heights dropped", "m": "measures dropped", "unclosed": "an open ring closed", "short": "a ring without three points left out"}
 
 
 @dataclass
@@ -62,7 +62,7 @@ class Preparation:
     def systems(self, transformed):
         """Brings both layers to one system in metres. `transformed` reads a layer anew in another system."""
         known = [self.layers[name].system for name in KEYS if self.layers[name].system]
-        numbers = [system.number for system in known if system.number and not system.is_degrees]
+        numbers = [system.number for system in known if system.number and not system.is_degrees and system.unit == 1.0]
         if self.epsg is None and numbers:
             self.epsg = WITHOUT_PREFIX.get(numbers[0], numbers[0])
         for name in KEYS:
@@ -144,13 +144,6 @@ class Preparation:
             for row in self.layers[name].rows:
                 if row.found is None:
                     continue
-                rings = [ring for member in row.found.members for ring in member]
-                if any(len(ring) < 4 for ring in rings):
-                    row.found.members = [[ring for ring in member if len(ring) > 3] for member in row.found.members if len(member[0]) > 3]
-                    self.find("invalid", name, row, "a ring has fewer than four points", "the ring is left out")
-                    if not row.found.members:
-                        row.found = None
-                        continue
                 shape = shape_of(row.found)
                 if not shape.is_valid:
                     self.mend(name, row, shape)

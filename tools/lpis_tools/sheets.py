@@ -77,8 +77,8 @@ def polygons_of(text):
             raise wkb.Unreadable(f"the polygon's text is wrong at {word.strip()[:30]!r}")
     if depth:
         raise wkb.Unreadable("the polygon's text is cut off")
-    found.members = [[wkb.closed(ring, found.notes) for ring in member if ring] for member in members if any(member)]
-    return found
+    found.members = members
+    return wkb.finished(found)
 
 
 def points_of(text, size, notes):

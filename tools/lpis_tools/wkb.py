@@ -24,7 +24,7 @@ class Found:
     """The polygons of a shape, and what was met on the way."""
 
     members: list = field(default_factory=list)  # polygons, each of rings, each of (x, y)
-    notes: set = field(default_factory=set)  # of z, m, curve, unclosed
+    notes: set = field(default_factory=set)  # of z, m, curve, unclosed, short
     others: set = field(default_factory=set)  # names of parts that are no polygons
 
     def box(self):
@@ -121,11 +121,25 @@ class Reader:
 
 
 def read(blob):
-    """The polygons of well-known binary. Members without points are left out; a ring that is not closed is closed, and that is said."""
+    """The polygons of well-known binary."""
     reader = Reader(blob)
     reader.shape()
-    found = reader.found
-    found.members = [[closed(ring, found.notes) for ring in member if ring] for member in found.members if any(member)]
+    return finished(reader.found)
+
+
+def finished(found):
+    """Closes rings that are open, and leaves out those that have no area since they have no three points: both are said."""
+    members = []
+    for member in found.members:
+        rings = [closed(ring, found.notes) for ring in member if ring]
+        if not rings:
+            continue
+        long = [ring for ring in rings if len(ring) > 3]
+        if len(long) < len(rings):
+            found.notes.add("short")
+        if rings[0] in long:
+            members.append(long)
+    found.members = members
     return found
 
 
