@@ -1,5 +1,5 @@
 -- Writing a release that was accepted.
-use Rattle.std.proofs.Common.{◌≡◌, ◌≤◌, ◌∙◌, ℕ, pos, List, Result, Ok, Err, OnOk, OnErr, IsTrue, IsPermutation, refl, sym, subst, subst₂}
+use Rattle.std.proofs.Common.{◌≡◌, ◌≤◌, ◌∙◌, ℕ, pos, List, Result, Ok, Err, OnOk, OnErr, IsTrue, IsPermutation, sym, subst, subst₂}
 use Rattle.lpis_register.proofs.Common.{Trees, State, HasCleanDisk, Survives, survives_weaker, AreLive, Content, Entry, HoldsRegister, IsStored, Leaves, LeavesRegister, Origin, Parcel, PublishFault, Row, Shape, ShapesAre, StoredText, Tells, Whole, last_live, last_year, parcel_ids}
 use Rattle.lpis_lineage.specs.Accepts.{Adds}
 use Rattle.lpis_lineage.specs.Changes.{Changes}
@@ -7,7 +7,7 @@ use Rattle.lpis_lineage.specs.Lawful.{IsLawful, RowsFit}
 use Rattle.lpis_register_rows.specs.Content.{Mark, marks_from, published, released}
 use Rattle.lpis_register_rows.specs.Tells.{IsWriting, last_of_years}
 use Rattle.lpis_register.specs.Accepting.{IsAccepted}
-use Rattle.lpis_register.specs.Publishing.{Follows, LeavesRelease, Publishes, Stores}
+use Rattle.lpis_register.specs.Publishing.{Follows, LeavesRelease, Stores}
 use Rattle.lpis_register.specs.declared.accepting.Accepted.{Accepted}
 use Rattle.lpis_register.specs.private.Writes.{Commits, IsDue, Writes}
 use Rattle.lpis_register.proofs.FindingLemmas.{Reordered, still_holds}

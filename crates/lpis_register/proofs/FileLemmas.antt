@@ -1,7 +1,8 @@
 -- From what files hold to what an opening finds.
-use Rattle.std.proofs.Common.{◌≡◌, ◌∙◌, ◌<◌, ap, inl, inr, length, refl, sym, subst, [], List, arith}
+use Rattle.std.proofs.Common.{◌≡◌, ◌∙◌, ◌<◌, ap, inl, inr, length, sym, subst, [], List, arith}
 use Rattle.lpis_register.proofs.Common.{Content, Entry, HasCleanDisk, IsBare, IsOpened, IsStored, IsUnopened, Layout, Leaves, PublishFault, Shape, State, Trees}
-use Rattle.lpis_register.specs.FileOpening.{HoldsNoTable, HoldsRows, IsFileOpened, IsFileUnopened}
+use Rattle.lpis_register.specs.FileOpening.{HoldsNoTable, HoldsRows, IsFileOpened}
+use Rattle.lpis_register.specs.private.FileRefusals.{IsFileUnopened}
 use Rattle.sqlite.specs.Files.{AreFoundIn}
 use Rattle.sqlite.specs.Start.{FindsIn}
 use Rattle.sqlite.specs.State.{IsLive, Opens}

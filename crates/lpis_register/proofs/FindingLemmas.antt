@@ -1,9 +1,9 @@
 -- From rows and texts that were read to what the tables say.
-use Rattle.std.proofs.Common.{◌≡◌, ◌↔◌, ℕ, List, Result, Ok, Err, IfErr, IfOk, IsPermutation, [], refl}
+use Rattle.std.proofs.Common.{◌≡◌, ◌↔◌, ℕ, List, Result, IfErr, IsPermutation}
 use Rattle.std.proofs.lemmas.List.Sorted.{IsPermutation-sym}
-use Rattle.lpis_register.proofs.Common.{State, Entry, last_live, AreLive, Content, HoldsRegister, IfErr-weaker, IfOk-weaker, IsSameContent, IsSameHistory, IsStored, Origin, PublishFault, Says, Shape, ShapesAre, StoredText, Tells, TextsStand, Unlawful, Version, First, Second, Third, Whole, texts_at}
+use Rattle.lpis_register.proofs.Common.{State, Entry, AreLive, Content, HoldsRegister, IfErr-weaker, IsSameContent, IsSameHistory, IsStored, PublishFault, Says, Shape, ShapesAre, StoredText, Tells, TextsStand, Unlawful, Version, Third, Whole}
 use Rattle.lpis_register_rows.specs.Content.{without_live, without_texts}
-use Rattle.lpis_register.proofs.OneHistoryLemmas.{Lifeless, One, same_live}
+use Rattle.lpis_register.proofs.OneHistoryLemmas.{Lifeless, One}
 
 abbrev pub Textless : Type 0
 Textless = (version : Version) (c d : Content) (h : List Entry) → IsSameContent (without_texts c) d → Says version c h ↔ Says version d h

@@ -1,15 +1,15 @@
 -- What the steps of an opening do, joined.
-use Rattle.std.proofs.Common.{◌≡◌, ◌∙◌, ◌⊎◌, inl, inr, List, Result, Ok, Err, IfErr, IfOk, IsTrue, OnErr, OnOk, [], ◌∷◌, refl, sym, subst, arith, false, length, ◌<◌, ap, IsPermutation}
+use Rattle.std.proofs.Common.{◌≡◌, inl, inr, List, Result, Ok, Err, IfErr, IfOk, IsTrue, [], ◌∷◌, refl, subst, arith, false, IsPermutation}
 use Rattle.std.proofs.lemmas.List.Sorted.{length_permutation}
 use Rattle.std.specs.List.{AllZip}
-use Rattle.lpis_register.proofs.Common.{Trees, State, HasCleanDisk, Survives, survives_weaker, Entry, Content, no_content, Found, HoldsRegister, IsBare, IsFailure, IsFound, IsOpened, IsOpenedAs, IsOpeningFault, IsStored, IsUnopened, Layout, Leaves, LeavesNone, LeavesRegister, LeavesSaid, New, PublishFault, Says, SaysNone, SaysRegister, Shape, ShapesAre, Tells, Unlawful, Version, First, Second, Third, Whole, texts_at, last_live}
+use Rattle.lpis_register.proofs.Common.{Trees, State, HasCleanDisk, Survives, survives_weaker, Entry, Content, no_content, Found, HoldsRegister, IsBare, IsFailure, IsFound, IsOpened, IsOpenedAs, IsOpeningFault, IsStored, IsUnopened, Layout, Leaves, LeavesNone, LeavesRegister, LeavesSaid, New, PublishFault, Says, SaysNone, SaysRegister, Shape, ShapesAre, Tells, Unlawful, Version, First, Second, Third, Whole, texts_at}
 use Rattle.sqlite.proofs.StateLemmas.{survives_then}
 use Rattle.lpis_register_rows.specs.Tells.{years_of}
 use Rattle.lpis_register_rows.specs.Shapes.{IsTextOf}
 use Rattle.lpis_register_sql.specs.Commits.{LeavesMade}
-use Rattle.lpis_register.specs.Opening.{FindsNothing, FindsTables, LeavesOpened}
+use Rattle.lpis_register.specs.Opening.{LeavesOpened}
 use Rattle.lpis_register.specs.declared.opening.Told.{Told}
-use Rattle.lpis_register.specs.private.Commits.{LeavesFound, LeavesSettled, OpensFound, Settles}
+use Rattle.lpis_register.specs.private.Commits.{LeavesFound, OpensFound, Settles}
 use Rattle.lpis_register.proofs.HoldingLemmas.{left_with}
 use Rattle.lpis_register.proofs.ResultLemmas.{failure_lawful, opening_failure}
 

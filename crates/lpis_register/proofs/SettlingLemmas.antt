@@ -1,6 +1,6 @@
 -- Tables of version 3, made of those of any version that say a history.
-use Rattle.std.proofs.Common.{◌≡◌, List, Ok, Err, IsTrue, [], OnOk, refl, true, sym, subst}
-use Rattle.lpis_register.proofs.Common.{Trees, State, HasCleanDisk, Survives, survives_weaker, Entry, Content, Found, HoldsRegister, IsFailure, IsFound, IsStored, Layout, Leaves, LeavesRegister, Origin, PublishFault, Says, SaysRegister, Shape, ShapesAre, Tells, Version, First, Second, Third, Whole, made_whole, origin_of, texts_at}
+use Rattle.std.proofs.Common.{◌≡◌, List, Ok, Err, IsTrue, refl, true, sym, subst}
+use Rattle.lpis_register.proofs.Common.{Trees, State, HasCleanDisk, Survives, survives_weaker, Entry, Content, Found, IsFailure, IsFound, IsStored, Layout, Leaves, PublishFault, Says, Shape, ShapesAre, Tells, Version, Third, Whole, made_whole, origin_of, texts_at}
 use Rattle.lpis_register_sql.specs.Layouts.{First as Oldest, LessMarks, LessTexts, has_marks}
 use Rattle.lpis_register.specs.private.Commits.{LeavesSettled, Settles}
 use Rattle.lpis_register.proofs.HoldingLemmas.{holds_with, left_with, nothing_done}

@@ -10,11 +10,8 @@ use Rattle.lpis_register_rows.specs.Content.{Content}
 use Rattle.lpis_register_rows.specs.Shapes.{Shape}
 use Rattle.lpis_register_sql.specs.Holding.{Leaves}
 use Rattle.lpis_register_sql.specs.Layouts.{Layout}
-use Rattle.lpis_register.specs.Faults.{IsOpeningFault}
 use Rattle.lpis_register.specs.Histories.{HoldsRegister}
-use Rattle.lpis_register.specs.Opening.{IsOpenedAs, SaysNone}
-use Rattle.lpis_register.specs.declared.fault.PublishFault.{PublishFault}
-use Rattle.lpis_register.specs.declared.fault.PublishFault.TheVariants.{Unlawful}
+use Rattle.lpis_register.specs.Opening.{IsOpenedAs}
 
 -- the files hold a database, and its tables these rows
 abbrev pub HoldsRows : Image → Layout → Content → Type 0
@@ -32,10 +29,3 @@ pub record IsFileOpened (image : Image) (new : State) (h : List Entry) (shapes :
       → HoldsRegister new [] [] × (h ≡ []) × (shapes ≡ [])
   pub found : HasCleanDisk new → (layout : Layout) (c : Content) → HoldsRows image layout c
       → IsOpenedAs new c h shapes
-
--- an opening of these files whose tables were refused: only where they say nothing
-pub record IsFileUnopened (image : Image) (new : State) (fault : PublishFault) : Type 0 where
-  pub unlawful : fault ≡ Unlawful → HasCleanDisk new → (layout : Layout) (c : Content)
-      → HoldsRows image layout c → SaysNone c
-  pub lawful : fault ≡ Unlawful → HasCleanDisk new → HoldsNoTable image → ⊥
-  pub kind : IsOpeningFault fault

@@ -9,7 +9,8 @@ ghost use Rattle.sqlite.specs.State.{HasCleanDisk, IsLive, Opens};
 ghost use Rattle.sqlite.specs.Held.{state};
 ghost use Rattle.sqlite.specs.Steps.{over_memory};
 ghost use Rattle.lpis_register.specs.Faults.{IsFailure, IsOpeningFault};
-ghost use Rattle.lpis_register.specs.FileOpening.{IsFileOpened, IsFileUnopened};
+ghost use Rattle.lpis_register.specs.FileOpening.{IsFileOpened};
+ghost use Rattle.lpis_register.specs.private.FileRefusals.{IsFileUnopened};
 ghost use Rattle.lpis_register.specs.Histories.{HoldsRegister};
 
 use crate::fault::PublishFault;

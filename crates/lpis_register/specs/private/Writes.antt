@@ -11,7 +11,6 @@ use Rattle.lpis_register.specs.Accepting.{IsAccepted}
 use Rattle.lpis_register.specs.Histories.{HoldsRegister, LeavesRegister}
 use Rattle.lpis_register.specs.Publishing.{Follows, LeavesRelease}
 use Rattle.lpis_register.specs.declared.accepting.Accepted.{Accepted}
-use Rattle.lpis_register.specs.declared.fault.PublishFault.{PublishFault}
 
 module _ (now : List Entry) (last : ℕ) (a : Accepted) where
   -- the accepted release is to be written after this history, which ends with that year

@@ -1,4 +1,3 @@
-use Rattle.std.proofs.Common.{sym, subst, ◌<◌}
 use Rattle.lpis_register.proofs.CommittingLemmas.{follows_as}
 use Rattle.lpis_register.proofs.committing.grow.Goals as goal
 

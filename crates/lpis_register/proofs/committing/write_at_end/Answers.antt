@@ -1,4 +1,4 @@
-use Rattle.std.proofs.Common.{arith, ◌≤◌}
+use Rattle.std.proofs.Common.{arith}
 use Rattle.lpis_register.proofs.Common.{state}
 use Rattle.lpis_register.proofs.CommittingLemmas.{written}
 use Rattle.lpis_register.proofs.committing.write_at_end.Goals as goal

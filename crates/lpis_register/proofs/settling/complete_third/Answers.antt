@@ -1,5 +1,5 @@
-use Rattle.std.proofs.Common.{◌≡◌, ◌∙◌, sym}
-use Rattle.lpis_register.proofs.Common.{Content, HasCleanDisk, IsFound, IsStored, Layout, Third, made_whole, state, survives_weaker}
+use Rattle.std.proofs.Common.{◌∙◌, sym}
+use Rattle.lpis_register.proofs.Common.{Content, Third, state, survives_weaker}
 use Rattle.lpis_register.proofs.SettlingLemmas.{settled_there, written_err, written_ok}
 use Rattle.lpis_register.proofs.settling.complete_third.Goals as goal
 
