@@ -1,7 +1,9 @@
 -- What a history answers to a release, and what is known of a release that was added to it.
-use Rattle.std.proofs.Common.{◌≡◌, ◌∙◌, ◌≤◌, ◌<◌, ◌++◌, ◌∷◌, [], inl, inr, refl, sym, ap, ap₂, subst, arith, ℕ, List, true, false, Option, Some, None, Result, Ok, Err, nat_le, IfOk, OnOk, flat_map}
+use Rattle.std.proofs.Common.{◌≡◌, ◌∙◌, ◌≤◌, ◌<◌, ◌++◌, ◌∷◌, [], inl, inr, refl, sym, ap, ap₂, subst, arith, ℕ, List, true, false, Option, Some, Result, Ok, Err, nat_le, IfOk, OnOk, flat_map}
 use Rattle.lpis_gate.proofs.Common.{Appends, Contents, release_of, kind_at, Cert, IsGood, Answer, lineage_line, report_text, done}
+use Rattle.sqlite.specs.State.{HasCleanDisk, State}
 use Rattle.std.specs.List.{list_any}
+use Rattle.std.specs.Prelude.{IsTrue}
 use Rattle.std.proofs.lemmas.Bool.{and_parts}
 use Rattle.std.proofs.lemmas.Bool.Decides.{leb_tells}
 use Rattle.std.proofs.lemmas.List.Concat.{flat_map-cons}
@@ -18,16 +20,23 @@ use Rattle.lpis_lineage.specs.Faults.{faults, first}
 use Rattle.lpis_lineage.specs.Kinds.{kind}
 use Rattle.lpis_lineage.specs.Lawful.{IsAnswered}
 use Rattle.lpis_lineage.specs.Lineage.{is_of, last_live, last_year, names}
+use Rattle.lpis_lineage.specs.Order.{IsAscending}
 use Rattle.lpis_lineage.specs.LineageTable.{lineage_table}
 use Rattle.lpis_lineage.proofs.Shared.{follows-from-clean, mono, counted-ended}
 use Rattle.lpis_cert.specs.Contents.{IsCertText}
 use Rattle.lpis_checker.specs.SoundMap.{IsSoundMap}
 use Rattle.lpis_gate.specs.LineageLines.{lineage_lines, publish_refusal_text, published_line}
+use Rattle.lpis_commands.specs.declared.answer.Answer.{Answer as Answered}
 use Rattle.lpis_commands.specs.declared.failure.Failure.{Failure}
+use Rattle.lpis_commands.specs.declared.failure.Failure.TheVariants.{Store}
 use Rattle.lpis_gate.specs.PublishAnswer.{Ends, IsContinued, IsPublishAnswer, IsPublished, Moves, Publication, history_answer, lineage_answer, publication_text}
 use Rattle.lpis_commands.specs.Status.{refused}
-use Rattle.lpis_gate.specs.private.PublishRuns.{IsAdded}
+use Rattle.lpis_gate.specs.private.PublishRuns.{IsAdded, IsStopped, Leaves}
+use Rattle.lpis_register.specs.Accepting.{IsAccepted}
 use Rattle.lpis_register.specs.Faults.{PublishTells}
+use Rattle.lpis_register.specs.Histories.{HoldsRegister}
+use Rattle.lpis_register.specs.Publishing.{Follows}
+use Rattle.lpis_register.specs.declared.accepting.Accepted.{Accepted}
 use Rattle.lpis_register.specs.declared.fault.PublishFault.{PublishFault}
 use Rattle.lpis_register.specs.declared.fault.PublishFault.TheVariants as publish
 use Rattle.lpis_register_rows.specs.Shapes.{Shape}
@@ -84,8 +93,8 @@ answer-of-lineage h year fault r rows text status later is line is_refused =
     ∙ sym (answer-later h year r rows later ∙ ap (lineage_answer (publication_text h year r rows)) is)
 
 -- what the register refuses is the answer
-pub answer-of-fault : {A : Type 0} (h : List Entry) (year : ℕ) (r : Contents) (rows : List Row) (fault : PublishFault) (text : List ℕ) (status : ℕ)
-    → PublishTells {A = A} h year (parcel_ids r.parcels) rows (Err fault) → (fault ≡ publish.Memory → ⊥) → (fault ≡ publish.Store → ⊥)
+pub answer-of-fault : (h : List Entry) (year : ℕ) (r : Contents) (rows : List Row) (fault : PublishFault) (text : List ℕ) (status : ℕ)
+    → PublishTells {A = Accepted} h year (parcel_ids r.parcels) rows (Err fault) → (fault ≡ publish.Memory → ⊥) → (fault ≡ publish.Store → ⊥)
     → text ≡ publish_refusal_text fault → status ≡ refused → ◌≡◌ {A = Answer} (text, status) (history_answer h year r rows)
 answer-of-fault h year r rows publish.Memory text status tells memory store line is_refused = absurd (memory refl)
 answer-of-fault h year r rows (publish.Year last) text status tells memory store line is_refused =
@@ -134,3 +143,36 @@ published-of x r c rows h k t tables sound text good table added =
       unused = λ id i now held. follows.not_used id i held now;
       ascend = added.ascend;
     }
+
+-- ---- a release that was accepted
+-- what is reported of its change is the answer
+pub answer-accepted : (h : List Entry) (year : ℕ) (r : Contents) (rows : List Row) (a : Accepted) (c : Changes) (text : List ℕ) (status : ℕ) → IsAccepted h year r.parcels rows a
+    → c ≡ a.step.change → text ≡ report_text r ++ flat_map (lineage_line (kind_at c)) c.dropped_ids ++ published_line year → status ≡ done
+    → ◌≡◌ {A = Answer} (text, status) (history_answer h year r rows)
+answer-accepted h year r rows a c text status made is line is_done =
+    answer-told h year r rows c text status made.later made.step_is.faultless
+    (subst (IsChange (last_live h) (parcel_ids r.parcels) rows) (sym is) made.step_is.change_is) line is_done
+
+-- it was added where it follows
+pub added-accepted : (h k : List Entry) (year : ℕ) (r : Contents) (rows : List Row) (t : List Shape) (a : Accepted) (c : Changes) → IsAccepted h year r.parcels rows a
+    → c ≡ a.step.change → IsAscending c.dropped_ids → Follows h year r.parcels rows k t → IsAdded year r rows h k t
+added-accepted h k year r rows t a c made is ascend follows =
+    let change = subst (IsChange (last_live h) (parcel_ids r.parcels) rows) (sym is) made.step_is.change_is in
+    record { later = made.later; clean = made.step_is.faultless; follows = follows; ascend = subst IsAscending change.dropped_are ascend }
+
+-- ---- what a call leaves
+-- the database holds what was made of the register
+pub leaves-committed : (a : Answered) (old new : State) (h k : List Entry) (s t : List Shape) → a.status ≡ done → (HasCleanDisk new → HoldsRegister old h s → HoldsRegister new k t)
+    → Leaves (Ok a) old h s new k t
+leaves-committed a old new h k s t is held =
+    record { same = λ other. absurd (other is); failure = tt; stored = record { holds = λ clean opened. held clean; served = λ other. held } }
+
+-- or what it held
+pub leaves-kept : (failure : Failure) (old new : State) (h k : List Entry) (s t : List Shape) → IsStopped failure → (k ≡ h) × (t ≡ s)
+    → (HasCleanDisk new → IsTrue new.is_open → HoldsRegister old h s → HoldsRegister new k t)
+    → ((failure ≡ Store → ⊥) → HoldsRegister old h s → HoldsRegister new k t) → Leaves (Err failure) old h s new k t
+leaves-kept failure old new h k s t stopped kept opened served =
+    record { same = tt; failure = (stopped, kept.0, kept.1); stored = record { holds = opened; served = λ other clean. served other } }
+
+pub still-held : (old new : State) (h k : List Entry) (s t : List Shape) → new ≡ old → (k ≡ h) × (t ≡ s) → HoldsRegister old h s → HoldsRegister new k t
+still-held old new h k s t same kept held = rw (same, kept.0, kept.1) held
