@@ -1,0 +1,119 @@
+-- Sums of terms that are 0 or 1.
+use Rattle.std.proofs.Common.{◌≡◌, ℕ, zero, suc, ℤ, pos, ◌+ℤ◌, ◌≤ℤ◌, List, [], ◌∷◌, Some, inl, inr, All, ap, sym, refl, ◌∙◌, subst, arith}
+use Rattle.std.proofs.Common.{slice_get, Any}
+use Rattle.std.proofs.lemmas.Int.{ints}
+use Rattle.std.proofs.lemmas.Option.{get_or_from_slice_get, none-some, same_Some, slice_get-get_or, slice_get_within}
+use Rattle.std.proofs.lemmas.List.Elements.{All-head, All-tail, All-weaker}
+use Rattle.lpis_points.specs.Sums.{int_sum_by}
+use Rattle.lpis_rings.specs.Map.{IsOneOrNone}
+use Rattle.lpis_edge_sums.specs.Counting.{AtMostOne}
+
+-- an element with the property, by its index
+pub record Found {A : Type 0} (P : A → Type 0) (xs : List A) : Type 0 where
+  pub index : ℕ
+  pub item : A
+  pub at : slice_get xs index ≡ Some item
+  pub has : P item
+
+pub found_any : {A : Type 0} (P : A → Type 0) (xs : List A) → Found P xs → Any P xs
+found_any P xs f = (f.index, f.item, slice_get_within xs f.index f.item f.at, get_or_from_slice_get xs f.index f.item f.item f.at, f.has)
+
+pub any_found : {A : Type 0} (P : A → Type 0) (xs : List A) → Any P xs → Found P xs
+any_found P xs a = record { index = a.0; item = a.1; at = slice_get-get_or xs a.0 a.1 a.2 ∙ ap Some a.3; has = a.4 }
+
+pub all_at : {A : Type 0} (P : A → Type 0) (xs : List A) (k : ℕ) (x : A) → slice_get xs k ≡ Some x → All P xs → P x
+all_at P xs k x e h = subst P (get_or_from_slice_get xs k x x e) (h k x (slice_get_within xs k x e))
+
+pub total-not_neg : {A : Type 0} (g : A → ℤ) (xs : List A) → All (λ x. pos 0 ≤ℤ g x) xs → pos 0 ≤ℤ int_sum_by g xs
+total-not_neg g [] h = omega (arith, ints)
+total-not_neg g (x ∷ xs) h = by (g x) (int_sum_by g xs) (All-head (λ y. pos 0 ≤ℤ g y) x xs h) (total-not_neg g xs (All-tail (λ y. pos 0 ≤ℤ g y) x xs h))
+  where
+    by : (a b : ℤ) → pos 0 ≤ℤ a → pos 0 ≤ℤ b → pos 0 ≤ℤ (a +ℤ b)
+    by a b h k = omega (arith, ints)
+
+not_negs : {A : Type 0} (g : A → ℤ) (xs : List A) → All (λ x. IsOneOrNone (g x)) xs → All (λ x. pos 0 ≤ℤ g x) xs
+not_negs g xs h = All-weaker (λ x. IsOneOrNone (g x)) (λ x. pos 0 ≤ℤ g x) (λ x o. by (g x) o) xs h
+  where
+    by : (a : ℤ) → IsOneOrNone a → pos 0 ≤ℤ a
+    by a (inl e) = omega (arith, ints)
+    by a (inr e) = omega (arith, ints)
+
+-- an element whose term is 1
+at_least : {A : Type 0} (g : A → ℤ) (xs : List A) (k : ℕ) (x : A) → All (λ y. IsOneOrNone (g y)) xs → slice_get xs k ≡ Some x → g x ≡ pos 1 → pos 1 ≤ℤ int_sum_by g xs
+at_least g [] k x h e f = absurd (none-some x e)
+at_least g (y ∷ ys) zero x h e f = here (g y) (int_sum_by g ys) (ap g (same_Some y x e) ∙ f) (total-not_neg g ys (not_negs g ys (All-tail (λ z. IsOneOrNone (g z)) y ys h)))
+  where
+    here : (a b : ℤ) → a ≡ pos 1 → pos 0 ≤ℤ b → pos 1 ≤ℤ (a +ℤ b)
+    here a b e k = omega (arith, ints)
+at_least g (y ∷ ys) (suc k) x h e f = later (g y) (int_sum_by g ys) (All-head (λ z. IsOneOrNone (g z)) y ys h) (at_least g ys k x (All-tail (λ z. IsOneOrNone (g z)) y ys h) e f)
+  where
+    later : (a b : ℤ) → IsOneOrNone a → pos 1 ≤ℤ b → pos 1 ≤ℤ (a +ℤ b)
+    later a b (inl e) k = omega (arith, ints)
+    later a b (inr e) k = omega (arith, ints)
+
+two_ones : (a b : ℤ) → a ≡ pos 1 → pos 1 ≤ℤ b → IsOneOrNone (a +ℤ b) → ⊥
+two_ones a b e k (inl f) = omega (arith, ints)
+two_ones a b e k (inr f) = omega (arith, ints)
+
+rest_one : (a b : ℤ) → IsOneOrNone a → pos 0 ≤ℤ b → IsOneOrNone (a +ℤ b) → IsOneOrNone b
+rest_one a b (inl e) k (inl f) = inl (omega (arith, ints))
+rest_one a b (inl e) k (inr f) = inr (omega (arith, ints))
+rest_one a b (inr e) k (inl f) = absurd (omega (arith, ints))
+rest_one a b (inr e) k (inr f) = inl (omega (arith, ints))
+
+pub at_most_one : {A : Type 0} (g : A → ℤ) (xs : List A) → All (λ y. IsOneOrNone (g y)) xs → IsOneOrNone (int_sum_by g xs) → AtMostOne (λ x. g x ≡ pos 1) xs
+at_most_one g [] h o i j a b e f p q = absurd (none-some a e)
+at_most_one g (x ∷ xs) h o zero zero a b e f p q = refl
+at_most_one g (x ∷ xs) h o zero (suc j) a b e f p q = absurd (two_ones (g x) (int_sum_by g xs) (ap g (same_Some x a e) ∙ p) (at_least g xs j b (All-tail (λ z. IsOneOrNone (g z)) x xs h) f q) o)
+at_most_one g (x ∷ xs) h o (suc i) zero a b e f p q = absurd (two_ones (g x) (int_sum_by g xs) (ap g (same_Some x b f) ∙ q) (at_least g xs i a (All-tail (λ z. IsOneOrNone (g z)) x xs h) e p) o)
+at_most_one g (x ∷ xs) h o (suc i) (suc j) a b e f p q =
+    let t = All-tail (λ z. IsOneOrNone (g z)) x xs h in
+    ap suc (at_most_one g xs t (rest_one (g x) (int_sum_by g xs) (All-head (λ z. IsOneOrNone (g z)) x xs h) (total-not_neg g xs (not_negs g xs t)) o) i j a b e f p q)
+
+-- a sum of 1 has an element whose term is 1
+pub one_found : {A : Type 0} (g : A → ℤ) (xs : List A) → All (λ y. IsOneOrNone (g y)) xs → int_sum_by g xs ≡ pos 1 → Found (λ x. g x ≡ pos 1) xs
+one_found g [] h e = absurd (nought e)
+  where
+    nought : pos 0 ≡ pos 1 → ⊥
+    nought e = omega (arith, ints)
+one_found {A} g (x ∷ xs) h e = by (All-head (λ z. IsOneOrNone (g z)) x xs h) (λ k. one_found g xs (All-tail (λ z. IsOneOrNone (g z)) x xs h) k)
+  where
+    rest : (a b : ℤ) → a ≡ pos 0 → a +ℤ b ≡ pos 1 → b ≡ pos 1
+    rest a b p q = omega (arith, ints)
+
+    later : Found (λ z. g z ≡ pos 1) xs → Found (λ z. g z ≡ pos 1) (x ∷ xs)
+    later f = record { index = suc f.index; item = f.item; at = f.at; has = f.has }
+
+    by : IsOneOrNone (g x) → (int_sum_by g xs ≡ pos 1 → Found (λ z. g z ≡ pos 1) xs) → Found (λ z. g z ≡ pos 1) (x ∷ xs)
+    by (inl z) k = later (k (rest (g x) (int_sum_by g xs) z e))
+    by (inr o) k = record { index = 0; item = x; at = refl; has = o }
+
+pub total_one : {A : Type 0} (g : A → ℤ) (xs : List A) → All (λ y. IsOneOrNone (g y)) xs → IsOneOrNone (int_sum_by g xs) → Found (λ x. g x ≡ pos 1) xs → int_sum_by g xs ≡ pos 1
+total_one g xs h o f = by (int_sum_by g xs) (at_least g xs f.index f.item h f.at f.has) o
+  where
+    by : (t : ℤ) → pos 1 ≤ℤ t → IsOneOrNone t → t ≡ pos 1
+    by t k (inl e) = absurd (omega (arith, ints))
+    by t k (inr e) = e
+
+-- where at most one term is 1, the sum is 0 or 1
+pub few_total : {A : Type 0} (g : A → ℤ) (xs : List A) → All (λ y. IsOneOrNone (g y)) xs → AtMostOne (λ x. g x ≡ pos 1) xs → IsOneOrNone (int_sum_by g xs)
+few_total g [] h m = inl refl
+few_total {A} g (x ∷ xs) h m = by (g x) (int_sum_by g xs) refl (All-head (λ z. IsOneOrNone (g z)) x xs h) (few_total g xs rest (λ i j a b e f p q. down i j (m (suc i) (suc j) a b e f p q)))
+  where
+    rest : All (λ y. IsOneOrNone (g y)) xs
+    rest = All-tail (λ z. IsOneOrNone (g z)) x xs h
+
+    down : (i j : ℕ) → suc i ≡ suc j → i ≡ j
+    down i j e = omega arith
+
+    one_zero : (n : ℕ) → 0 ≡ suc n → ⊥
+    one_zero n e = omega arith
+
+    second : g x ≡ pos 1 → Found (λ y. g y ≡ pos 1) xs → ⊥
+    second o f = one_zero f.index (m 0 (suc f.index) x f.item refl f.at o f.has)
+
+    by : (a t : ℤ) → a ≡ g x → IsOneOrNone a → IsOneOrNone (int_sum_by g xs) → IsOneOrNone (a +ℤ int_sum_by g xs)
+    by a t e (inl z) (inl n) = inl (omega (arith, ints))
+    by a t e (inl z) (inr n) = inr (omega (arith, ints))
+    by a t e (inr z) (inl n) = inr (omega (arith, ints))
+    by a t e (inr z) (inr n) = absurd (second (sym e ∙ z) (one_found g xs rest n))
