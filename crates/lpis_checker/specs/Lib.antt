@@ -2,6 +2,7 @@ pub mod Codes
 pub mod Corners
 pub mod GoodCertificate
 pub mod FirstFault
+pub mod ExactBlocks
 pub mod SoundMap
 pub mod TurnsAdd
 pub mod Laws

@@ -4,6 +4,7 @@
 mod checking;
 mod condition;
 mod corners;
+mod exact;
 mod fault;
 mod first_fault;
 pub mod laws;
@@ -19,6 +20,7 @@ mod signed;
 
 pub use checking::{Yes, check, check_parts};
 pub use condition::{Condition, Site};
+pub use exact::{ExactCondition, ExactFault, ExactPart, check_exact};
 pub use fault::{CheckFault, Location};
 
 #[cfg(test)]
