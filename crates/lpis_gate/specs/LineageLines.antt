@@ -1,8 +1,12 @@
 -- The lines of a publication: what became of identifiers, the year, and the refusals of the
 -- register.
-use Rattle.std.specs.Prelude.{ℕ, List, [], ◌++◌, codes, Option, Some, None}
+use Rattle.std.specs.Prelude.{ℕ, Bool, true, false, List, [], ◌++◌, ◌&&◌, codes}
+use Rattle.std.specs.Prelude.{Option, Some, None}
 use Rattle.std.specs.Fmt.{decimal}
-use Rattle.std.specs.List.{flat_map}
+use Rattle.std.specs.List.{flat_map, list_any}
+use Rattle.lpis_checker.specs.declared.exact.ExactFault.{ExactFault}
+use Rattle.lpis_checker.specs.declared.exact.ExactFault.TheVariants as exact
+use Rattle.lpis_checker.specs.ExactBlocks.{exact_code_text}
 use Rattle.lpis_lineage.specs.declared.fault.LineageCode.{LineageCode}
 use Rattle.lpis_lineage.specs.declared.fault.LineageFault.{LineageFault}
 use Rattle.lpis_lineage.specs.declared.fault.LineageFault.TheVariants as lineage
@@ -12,7 +16,9 @@ use Rattle.lpis_lineage.specs.declared.kind.Kind.TheVariants.{Redrawn, Ended}
 use Rattle.lpis_lineage.specs.declared.row.Row.{Row}
 use Rattle.lpis_lineage.specs.Changes.{dropped}
 use Rattle.lpis_lineage.specs.Codes as lineage_codes
+use Rattle.lpis_lineage.specs.ExactGroups.{is_in_exact}
 use Rattle.lpis_lineage.specs.Kinds.{kind}
+use Rattle.lpis_lineage.specs.Lineage.{is_of}
 use Rattle.lpis_register.specs.declared.fault.PublishFault.{PublishFault}
 use Rattle.lpis_register.specs.declared.fault.PublishFault.TheVariants as publish
 use Rattle.lpis_register.specs.declared.fault.PublishCode.TheVariants as code
@@ -32,16 +38,31 @@ abbrev pub fate_text : Option Kind → List ℕ
 fate_text None = []
 fate_text (Some k) = kind_text k
 
--- the line of an identifier that has this kind
-abbrev pub lineage_line : (List ℕ → Option Kind) → List ℕ → List ℕ
-lineage_line kind_of id = codes "lineage " ++ id ++ codes " " ++ fate_text (kind_of id)
-    ++ codes "\n"
+-- some row of the identifier is marked
+abbrev pub is_marked : List Row → List ℕ → Bool
+is_marked rows id = list_any (λ row. is_of id row && row.exact) rows
+
+-- some row of the identifier belongs to an exact split or to an exact merge
+abbrev pub is_left_exactly : (List ℕ → Option Kind) → List Row → List ℕ → Bool
+is_left_exactly kind_of rows id = list_any (λ row. is_of id row && is_in_exact kind_of rows row) rows
+
+-- the end of the line of an identifier that is left exactly
+abbrev pub exact_text : Bool → List ℕ
+exact_text false = []
+exact_text true = codes " exact"
+
+-- the line of an identifier that has this kind, and is left exactly where the test is true
+abbrev pub lineage_line : (List ℕ → Option Kind) → (List ℕ → Bool) → List ℕ → List ℕ
+lineage_line kind_of is_exact id = codes "lineage " ++ id ++ codes " " ++ fate_text (kind_of id)
+    ++ exact_text (is_exact id) ++ codes "\n"
 
 -- from the identifiers of the last release to those that are live now, by these rows: the line of
 -- each identifier that is dropped, in the order of the last release's, which in a history ascend by
 -- bytes
 abbrev pub lineage_lines : (last live : List (List ℕ)) → List Row → List ℕ
-lineage_lines last live rows = flat_map (lineage_line (kind last live rows)) (dropped last live)
+lineage_lines last live rows =
+    flat_map (lineage_line (kind last live rows) (is_left_exactly (kind last live rows) rows))
+    (dropped last live)
 
 abbrev pub published_line : ℕ → List ℕ
 published_line year = codes "published " ++ decimal year ++ codes "\n"
@@ -69,8 +90,14 @@ unfoldable pub lineage_fault_text : LineageFault → List ℕ
 lineage_fault_text fault = lineage_code_text (lineage_codes.code_of fault)
     (lineage_location_text fault)
 
--- of the register: the code, and the last year or the lineage's fault; out of memory and a failed
--- store are no refusals, and have no line
+-- of the blocks of a certificate: the code and the identifier; out of memory is no fault of theirs
+abbrev pub exact_fault_text : ExactFault → List ℕ
+exact_fault_text exact.Memory = []
+exact_fault_text (exact.At code id) = codes "exact " ++ exact_code_text code ++ codes " " ++ id
+
+-- of the register: the code, and the last year, the lineage's fault, the identifier whose shape is
+-- not kept, or the fault of the blocks; out of memory and a failed store are no refusals, and have
+-- no line
 abbrev pub publish_refusal_text : PublishFault → List ℕ
 publish_refusal_text publish.Memory = []
 publish_refusal_text (publish.Year last) =
@@ -79,6 +106,12 @@ publish_refusal_text (publish.Year last) =
 publish_refusal_text (publish.Lineage fault) =
     codes "refused " ++ publish_codes.code_text code.BadLineage ++ codes " "
     ++ lineage_fault_text fault ++ codes "\n"
+publish_refusal_text (publish.NotKept id) =
+    codes "refused " ++ publish_codes.code_text code.BadLineage ++ codes " lineage 77 " ++ id
+    ++ codes "\n"
+publish_refusal_text (publish.Exact fault) =
+    codes "refused " ++ publish_codes.code_text code.NotExact ++ codes " " ++ exact_fault_text fault
+    ++ codes "\n"
 publish_refusal_text publish.Store = []
 publish_refusal_text publish.Unknown = codes "refused "
     ++ publish_codes.code_text code.UnknownIdentifier ++ codes "\n"

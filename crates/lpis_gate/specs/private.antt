@@ -1,2 +1,5 @@
 -- Machinery, cited by private contracts alone: no promise rests on it.
+pub mod Blocks
+pub mod ExactRuns
 pub mod PublishRuns
+pub mod Saying

@@ -1,12 +1,17 @@
-//! The runs over a register: the publication of a release, and the trace of an identifier.
+//! The runs over a register: the publication of a release, the blocks that its marked rows ask for,
+//! and the trace of an identifier.
 #![tactic(auto)]
 
+mod blocks;
+mod exact;
 mod lineage_lines;
 mod publish;
+mod submission;
 mod trace;
 mod unopened;
 
-pub use lineage_lines::{print_lineage, print_publish_fault};
+pub use exact::run_exact;
+pub use lineage_lines::print_publish_fault;
 pub use publish::run_publish;
 pub use trace::run_trace;
 pub use unopened::refuse_register;

@@ -1,19 +1,23 @@
 //! The lines of a publication.
 
-ghost use Rattle.std.specs.Prelude.{◌≡◌, IfOk, OnOk};
+ghost use Rattle.std.specs.Prelude.{◌≡◌, IfOk, List, OnOk, ℕ};
 ghost use Rattle.std.specs.Io.KnownBytes.{Appends};
 ghost use Rattle.std.specs.List.{flat_map};
+ghost use Rattle.lpis_covers.specs.Ids.{has_id};
 ghost use Rattle.lpis_lineage.specs.Changes.{kind_at};
-ghost use Rattle.lpis_register.specs.declared.fault.PublishFault.TheVariants.{Lineage};
-ghost use Rattle.lpis_gate.specs.LineageLines.{fate_text, kind_text, lineage_fault_text};
-ghost use Rattle.lpis_gate.specs.LineageLines.{lineage_line, lineage_location_text};
-ghost use Rattle.lpis_gate.specs.LineageLines.{publish_refusal_text, published_line};
+ghost use Rattle.lpis_register.specs.declared.fault.PublishFault.TheVariants.{Exact, Lineage};
+ghost use Rattle.lpis_gate.specs.LineageLines.{exact_fault_text, exact_text, fate_text, is_marked};
+ghost use Rattle.lpis_gate.specs.LineageLines.{kind_text, lineage_fault_text, lineage_line};
+ghost use Rattle.lpis_gate.specs.LineageLines.{lineage_location_text, publish_refusal_text};
+ghost use Rattle.lpis_gate.specs.LineageLines.{published_line};
 
+use lpis_checker::ExactFault;
 use lpis_commands::{Answer, PrintFault};
 use lpis_covers::Id;
-use lpis_lineage::{Change, Kind, LineageFault};
+use lpis_lineage::{Change, Kind, LineageFault, Row};
 use lpis_register::PublishFault;
 use std::alloc::{AllocError, Global};
+use std::collections::BTreeSet;
 use std::io::Write;
 
 /// The word for what became of an identifier.
@@ -40,24 +44,57 @@ fn fate_word(kind: Option<Kind>) -> &'static str
     }
 }
 
-/// Writes the line of a dropped identifier.
-fn print_dropped<W: Write>(change: &Change, id: &Id, out: &mut W) -> Result<(), PrintFault>
+/// The identifiers of which a row is marked.
+pub(crate) fn marked_ids(alloc: Global, rows: &[Row]) -> Result<BTreeSet<Id>, AllocError>
+    ensures { IfOk result (λ s. (id : List ℕ) → has_id s.keys id ≡ is_marked rows.now id) }
+{
+    let mut marked = BTreeSet::new(alloc);
+    for row in rows {
+        if row.exact {
+            let id = row.old.copy()?;
+            marked.insert(id)?;
+        }
+    }
+    Ok(marked)
+}
+
+/// The end of the line of an identifier.
+fn exact_word(is_exact: bool) -> &'static str
+    ensures { result.now ≡ exact_text is_exact }
+{
+    if is_exact { " exact" } else { "" }
+}
+
+/// Writes the line of a dropped identifier, of which a row may be marked.
+fn print_dropped<W: Write>(
+    change: &Change,
+    marked: &BTreeSet<Id>,
+    id: &Id,
+    out: &mut W,
+) -> Result<(), PrintFault>
     ensures { OnOk result (Appends (W.contents out.old) (W.contents out.new)
-        (lineage_line (kind_at change.now) id.now)) }
+        (lineage_line (kind_at change.now) (has_id marked.now.keys) id.now)) }
 {
     let word = fate_word(change.kind_of(id));
-    write!(out, "lineage {} {word}\n", id.as_str())?;
+    let mark = exact_word(marked.contains(id));
+    write!(out, "lineage {} {word}{mark}\n", id.as_str())?;
     Ok(())
 }
 
-/// Writes the line of each identifier that a change drops.
-pub fn print_lineage<W: Write>(change: &Change, out: &mut W) -> Result<(), PrintFault>
+/// Writes the line of each identifier that a change drops; these are the ones of which a row is
+/// marked.
+pub(crate) fn print_lineage<W: Write>(
+    change: &Change,
+    marked: &BTreeSet<Id>,
+    out: &mut W,
+) -> Result<(), PrintFault>
     ensures { OnOk result (Appends (W.contents out.old) (W.contents out.new)
-        (flat_map (lineage_line (kind_at change.now)) change.now.dropped_ids)) }
+        (flat_map (lineage_line (kind_at change.now) (has_id marked.now.keys))
+        change.now.dropped_ids)) }
 {
     let dropped = change.dropped();
     for id in dropped {
-        print_dropped(change, id, out)?;
+        print_dropped(change, marked, id, out)?;
     }
     Ok(())
 }
@@ -114,6 +151,29 @@ fn print_lineage_refusal<W: Write>(fault: &LineageFault, out: &mut W) -> Result<
     Ok(())
 }
 
+/// Writes the fault of a certificate's blocks.
+fn print_exact_fault<W: Write>(fault: &ExactFault, out: &mut W) -> Result<(), PrintFault>
+    ensures { OnOk result (Appends (W.contents out.old) (W.contents out.new)
+        (exact_fault_text fault.now)) }
+{
+    let ExactFault::At { code, id } = fault else {
+        return Ok(());
+    };
+    write!(out, "exact {} {}", code.as_str(), id.as_str())?;
+    Ok(())
+}
+
+/// Writes the line of a certificate whose blocks do not show what marked rows ask for.
+fn print_exact_refusal<W: Write>(fault: &ExactFault, out: &mut W) -> Result<(), PrintFault>
+    ensures { OnOk result (Appends (W.contents out.old) (W.contents out.new)
+        (publish_refusal_text (Exact fault.now))) }
+{
+    out.write_all(b"refused 85 ")?;
+    print_exact_fault(fault, out)?;
+    out.write_all(b"\n")?;
+    Ok(())
+}
+
 /// Writes the line of a refusal of the register. Out of memory and a failed store are no
 /// refusals, and have no line.
 pub fn print_publish_fault<W: Write>(fault: &PublishFault, out: &mut W) -> Result<(), PrintFault>
@@ -124,6 +184,8 @@ pub fn print_publish_fault<W: Write>(fault: &PublishFault, out: &mut W) -> Resul
         PublishFault::Memory | PublishFault::Store => {}
         PublishFault::Year { last } => write!(out, "refused 80 last {last}\n")?,
         PublishFault::Lineage(lineage) => print_lineage_refusal(lineage, out)?,
+        PublishFault::NotKept { id } => write!(out, "refused 81 lineage 77 {}\n", id.as_str())?,
+        PublishFault::Exact(exact) => print_exact_refusal(exact, out)?,
         PublishFault::Unknown => out.write_all(b"refused 83\n")?,
         PublishFault::Unlawful => out.write_all(b"refused 84\n")?,
     }

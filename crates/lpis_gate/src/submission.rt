@@ -1,0 +1,143 @@
+//! What is handed in to be published, or to be given the blocks of its marked rows.
+
+ghost use Rattle.std.specs.Prelude.{◌≡◌, ⊥, IfErr, IfOk, List, Ok, ℕ};
+ghost use Rattle.lpis_covers.specs.Faults.{rows_of};
+ghost use Rattle.lpis_parcels.specs.Release.{release_of};
+ghost use Rattle.lpis_cert.specs.Contents.{IsCertText};
+ghost use Rattle.lpis_cert.specs.Faults.{verdict};
+ghost use Rattle.lpis_lineage.specs.LineageTable.{lineage_table};
+ghost use Rattle.lpis_commands.specs.CheckAnswer.{IsCertAnswer, IsTableAnswer};
+ghost use Rattle.lpis_commands.specs.Failures.{IsUnpublished};
+ghost use Rattle.lpis_commands.specs.Inputs.{IsReadAs};
+ghost use Rattle.lpis_gate.specs.Submission.{AreAllRead};
+ghost use Rattle.lpis_gate.specs.private.Saying.{IsFaultAnswer, IsSaid, IsUnsaid, submission_of};
+ghost use Rattle.lpis_gate.specs.declared.submission.Unsaid.{Unsaid};
+
+use lpis_cert::{Cert, CertFault};
+use lpis_commands::{
+    Answer, Failure, InputBytes, Name, TableBytes, cert_in, read_inputs, read_named, refuse_text,
+    release_in,
+};
+use lpis_covers::TableFault;
+use lpis_lineage::{Row, read_rows};
+use lpis_parcels::Release;
+use std::alloc::{AllocError, Global};
+use std::io::Read;
+
+/// The bytes of a release, a certificate and a lineage table.
+#[derive(Drop)]
+pub(crate) struct SubmissionBytes {
+    pub(crate) checked: InputBytes,
+    pub(crate) lineage: Vec<u8>,
+}
+
+/// The release, the certificate and the rows of lineage that they say.
+#[derive(Drop)]
+pub(crate) struct Said {
+    pub(crate) release: Release,
+    pub(crate) cert: Cert,
+    pub(crate) rows: Vec<Row>,
+}
+
+/// Why they say none.
+#[derive(Drop)]
+pub(crate) enum Unsaid {
+    /// Memory ran out.
+    Memory,
+    /// The line of their first fault, and its status.
+    Refused(Answer),
+}
+
+impl From<AllocError> for Unsaid {
+    ghost from_gives = { λ _ e. e ≡ Unsaid.Memory };
+
+    fn from(_e: AllocError) -> Unsaid {
+        Unsaid::Memory
+    }
+}
+
+/// All bytes of the inputs, which are read in this order.
+pub(crate) fn read_submission<
+    P: Read + Drop,
+    C: Read + Drop,
+    K: Read + Drop,
+    E: Read + Drop,
+    L: Read + Drop,
+>(
+    alloc: Global,
+    parcels: P,
+    covers: C,
+    classes: K,
+    cert: E,
+    lineage: L,
+) -> Result<SubmissionBytes, Failure>
+    ensures bytes { IfOk result (λ b. AreAllRead (submission_of b) (P.remaining parcels)
+        (C.remaining covers) (K.remaining classes) (E.remaining cert) (L.remaining lineage)) }
+    ensures failure { IfErr result (IsUnpublished (P.remaining parcels) (C.remaining covers)
+        (K.remaining classes) (E.remaining cert)) }
+{
+    let checked = read_inputs(alloc, parcels, covers, classes, cert)?;
+    let lineage = read_named(alloc, lineage, Name::Lineage)?;
+    Ok(SubmissionBytes { checked, lineage })
+}
+
+/// The release of three tables, or the line of their fault.
+fn release_said(alloc: Global, tables: TableBytes) -> Result<Release, Unsaid>
+    ensures said { IfOk result (λ r. release_of tables.parcels.items tables.covers.items
+        tables.classes.items ≡ Ok r) }
+    ensures unsaid { IfErr result (IsUnsaid (IsTableAnswer (λ r a. ⊥)
+        (release_of tables.parcels.items tables.covers.items tables.classes.items))) }
+{
+    match release_in(alloc, tables) {
+        Ok(release) => Ok(release),
+        Err(TableFault::Memory) => Err(Unsaid::Memory),
+        Err(fault) => Err(Unsaid::Refused(Answer::refuse_table(alloc, &fault)?)),
+    }
+}
+
+/// The certificate that a text was read as, or the line of its fault.
+fn cert_said(alloc: Global, read: Result<Cert, CertFault>) -> Result<Cert, Unsaid>
+    ensures said { (text : List ℕ) → IsReadAs text read → IfOk result (IsCertText text) }
+    ensures unsaid { (text : List ℕ) → IsReadAs text read
+        → IfErr result (IsUnsaid (IsCertAnswer (λ c a. ⊥) text (verdict text))) }
+{
+    match read {
+        Ok(cert) => Ok(cert),
+        Err(CertFault::Memory) => Err(Unsaid::Memory),
+        Err(fault) => Err(Unsaid::Refused(refuse_text(alloc, &fault)?)),
+    }
+}
+
+/// The rows of a lineage table, whose bytes are let go, or the line of its fault.
+fn rows_said(alloc: Global, lineage: Vec<u8>) -> Result<Vec<Row>, Unsaid>
+    ensures said { IfOk result (λ v. rows_of lineage_table lineage.items ≡ Ok v.items) }
+    ensures unsaid { IfErr result (IsUnsaid (IsTableAnswer (λ rows a. ⊥)
+        (rows_of lineage_table lineage.items))) }
+{
+    match read_rows(alloc, &lineage) {
+        Ok(rows) => Ok(rows),
+        Err(TableFault::Memory) => Err(Unsaid::Memory),
+        Err(fault) => Err(Unsaid::Refused(Answer::refuse_table(alloc, &fault)?)),
+    }
+}
+
+/// What a submission says. The certificate is read first, since its text is the longest as a rule,
+/// and the bytes of each input are let go when it is read; the fault of the release's tables is
+/// told first all the same, and that of the lineage table last.
+pub(crate) fn understand(alloc: Global, submission: SubmissionBytes) -> Result<Said, Unsaid>
+    ensures said { IfOk result (λ s. IsSaid (submission_of submission) s.release s.cert
+        s.rows.items) }
+    ensures unsaid { IfErr result (IsUnsaid (IsFaultAnswer (submission_of submission))) }
+{
+    let SubmissionBytes { checked, lineage } = submission;
+    let InputBytes { tables, cert } = checked;
+    let read = cert_in(alloc, cert);
+    let release = release_said(alloc, tables)?;
+    let cert = cert_said(alloc, read)?;
+    let rows = rows_said(alloc, lineage)?;
+    Ok(Said {
+        release,
+        cert,
+        rows,
+    })
+}
