@@ -1,11 +1,24 @@
--- What a release that may follow needs.
-use Rattle.std.proofs.Common.{◌≡◌, ℕ, List, [], subst}
-use Rattle.lpis_register.proofs.Common.{Entry, Row, last_live}
+-- What a release that may follow needs, and why one is refused.
+use Rattle.std.proofs.Common.{◌≡◌, ◌<◌, ◌⊎◌, inl, inr, ℕ, List, [], Some, refl, sym, subst, elim}
+use Rattle.lpis_register.proofs.Common.{Entry, PublishFault, Row, Shape, last_live}
+use Rattle.lpis_cert.specs.declared.part.ExactBlock.{ExactBlock}
+use Rattle.lpis_checker.specs.declared.exact.ExactFault.{ExactFault}
+use Rattle.lpis_checker.specs.declared.exact.ExactFault.TheVariants as exact
+use Rattle.lpis_exact_lineage.specs.declared.asking.AskFault.{AskFault}
+use Rattle.lpis_exact_lineage.specs.declared.asking.AskFault.TheVariants as ask
+use Rattle.lpis_exact_lineage.specs.Asking.{IsUnkept, IsUnshown}
+use Rattle.lpis_lineage.specs.declared.fault.LineageFault.{LineageFault}
+use Rattle.lpis_lineage.specs.declared.fault.LineageFault.TheVariants as lineage
 use Rattle.lpis_lineage.specs.Changes.{IsChange}
-use Rattle.lpis_lineage.specs.Faults.{faults}
+use Rattle.lpis_lineage.specs.Faults.{faults, first}
+use Rattle.lpis_lineage.specs.Lineage.{last_year}
+use Rattle.lpis_parcels.specs.Release.{Contents, parcel_ids}
 use Rattle.lpis_register_rows.specs.Tells.{IsFresh, IsWriting}
 use Rattle.lpis_register.specs.Accepting.{IsStep}
+use Rattle.lpis_register.specs.Faults.{IsRefused}
 use Rattle.lpis_register.specs.declared.accepting.Step.{Step}
+use Rattle.lpis_register.specs.declared.fault.PublishFault.TheVariants.{Memory, Lineage, Store}
+use Rattle.lpis_register.specs.private.Passing.{of_asking, of_blocks, of_lineage}
 
 pub stepped : (h : List Entry) (live one two : List (List ℕ)) (rows : List Row) (step : Step) → one ≡ live → two ≡ live → step.live.items ≡ live → faults h one rows ≡ []
     → IsChange (last_live h) one rows step.change → (IsChange (last_live h) live rows step.change → IsFresh h live step.fresh.items → IsWriting h live step.change.dropped_ids step.fresh.items)
@@ -18,3 +31,43 @@ stepped h live one two rows step first second same none change law fresh =
       change_is = changed;
       writing = law changed (subst (λ l. IsFresh h l step.fresh.items) second fresh);
     }
+
+-- ---- a fault of a call, as the register tells it
+
+lineage_told : (fault : LineageFault) → (of_lineage fault ≡ Memory) ⊎ (of_lineage fault ≡ Lineage fault)
+lineage_told lineage.Memory = inl refl
+lineage_told (lineage.OldNotLive row) = inr refl
+lineage_told (lineage.OldStillLive row) = inr refl
+lineage_told (lineage.SuccessorMissing row) = inr refl
+lineage_told (lineage.DoubledRow row) = inr refl
+lineage_told (lineage.EndingBesideSuccessor row) = inr refl
+lineage_told (lineage.NoRow id) = inr refl
+lineage_told (lineage.UsedBefore id year) = inr refl
+lineage_told (lineage.MarkedOutside row) = inr refl
+
+pub no_store_lineage : (fault : LineageFault) → of_lineage fault ≡ Store → ⊥
+no_store_lineage fault is = elim (lineage_told fault) [ inl memory ↦ cc (memory, is) | inr told ↦ cc (told, is) ]
+
+pub no_store_asking : (fault : AskFault) → of_asking fault ≡ Store → ⊥
+no_store_asking ask.Memory is = cc is
+no_store_asking (ask.NotKept id) is = cc is
+
+pub no_store_blocks : (fault : ExactFault) → of_blocks fault ≡ Store → ⊥
+no_store_blocks exact.Memory is = cc is
+no_store_blocks (exact.At code id) is = cc is
+
+module _ (h : List Entry) (kept : List Shape) (year : ℕ) (r : Contents) (blocks : List ExactBlock) (rows : List Row) (later : last_year h < year) where
+  pub refused_lineage : (fault : LineageFault) → (fault ≡ lineage.Memory) ⊎ (first (faults h (parcel_ids r.parcels) rows) ≡ Some fault) → IsRefused h kept year r blocks rows (of_lineage fault)
+  refused_lineage fault (inl is) = subst (λ f. IsRefused h kept year r blocks rows (of_lineage f)) (sym is) tt
+  refused_lineage fault (inr is) = elim (lineage_told fault) [
+    inl memory ↦ subst (IsRefused h kept year r blocks rows) (sym memory) tt
+    | inr told ↦ subst (IsRefused h kept year r blocks rows) (sym told) (later, is)
+  ]
+
+  pub refused_asking : (fault : AskFault) → ((id : List ℕ) → fault ≡ ask.NotKept id → IsUnkept h kept r rows id) → IsRefused h kept year r blocks rows (of_asking fault)
+  refused_asking ask.Memory unkept = tt
+  refused_asking (ask.NotKept id) unkept = (later, unkept id refl)
+
+  pub refused_blocks : (fault : ExactFault) → IsUnshown h kept r blocks rows fault → IsRefused h kept year r blocks rows (of_blocks fault)
+  refused_blocks exact.Memory unshown = tt
+  refused_blocks (exact.At code id) unshown = (later, (λ is. cc is), unshown)

@@ -1,12 +1,15 @@
 -- Writing a release that was accepted.
 use Rattle.std.proofs.Common.{◌≡◌, ◌≤◌, ◌∙◌, ℕ, pos, List, Result, Ok, Err, OnOk, OnErr, IsTrue, IsPermutation, sym, subst, subst₂}
-use Rattle.lpis_register.proofs.Common.{Trees, State, HasCleanDisk, Survives, survives_weaker, AreLive, Content, Entry, HoldsRegister, IsStored, Leaves, LeavesRegister, Origin, Parcel, PublishFault, Row, Shape, ShapesAre, StoredText, Tells, Whole, last_live, last_year, parcel_ids}
+use Rattle.lpis_register.proofs.Common.{Trees, State, HasCleanDisk, Survives, survives_weaker, AreLive, Content, Entry, HoldsRegister, IsStored, Leaves, LeavesRegister, Origin, PublishFault, Row, Shape, ShapesAre, StoredText, Tells, Whole, last_live}
+use Rattle.lpis_parcels.specs.declared.parcel.Parcel.{Parcel}
+use Rattle.lpis_lineage.specs.Lineage.{last_year}
+use Rattle.lpis_parcels.specs.Release.{parcel_ids}
 use Rattle.lpis_lineage.specs.Accepts.{Adds}
 use Rattle.lpis_lineage.specs.Changes.{Changes}
 use Rattle.lpis_lineage.specs.Lawful.{IsLawful, RowsFit}
 use Rattle.lpis_register_rows.specs.Content.{Mark, marks_from, published, released}
 use Rattle.lpis_register_rows.specs.Tells.{IsWriting, last_of_years}
-use Rattle.lpis_register.specs.Accepting.{IsAccepted}
+use Rattle.lpis_register.specs.Accepting.{IsPrepared}
 use Rattle.lpis_register.specs.Publishing.{Follows, LeavesRelease, Stores}
 use Rattle.lpis_register.specs.declared.accepting.Accepted.{Accepted}
 use Rattle.lpis_register.specs.private.Writes.{Commits, IsDue, Writes}
@@ -74,7 +77,7 @@ module _ (more : TellsMore) (put : PutsTexts) (lives : LivesOn) (moved : Reorder
 -- ---- the history with the release at its end
 
 pub follows_as : (h k : List Entry) (year : ℕ) (parcels : List Parcel) (rows : List Row) (a : Accepted) (live : List (List ℕ)) (more : List Row) → live ≡ a.step.live.items → more ≡ a.step.change.rows
-    → Adds h k a.year live more → IsLawful k → RowsFit k → IsAccepted h year parcels rows a → Follows h year parcels rows k a.kept.shapes.items
+    → Adds h k a.year live more → IsLawful k → RowsFit k → IsPrepared h year parcels rows a → Follows h year parcels rows k a.kept.shapes.items
 follows_as h k year parcels rows a live more el er adds lawful fits made = record {
   adds = subst₂ (λ y r. Adds h k y (parcel_ids parcels) r) made.year_is (er ∙ made.step_is.change_is.rows_are) (subst (λ l. Adds h k a.year l more) (el ∙ made.step_is.live_are) adds);
   lawful = lawful;
@@ -119,13 +122,13 @@ module _ (now : List Entry) (last : ℕ) (a : Accepted) (h : List Entry) (due : 
 
 -- ---- as the register says it
 
-module _ (h k : List Entry) (year : ℕ) (parcels : List Parcel) (rows : List Row) (a : Accepted) (shapes kept : List Shape) (old new : State) (same : kept ≡ a.kept.shapes.items) where
-  pub stored_ok : (x : Unit {0}) (change : Changes) → Commits h k year parcels rows a {E = PublishFault} old new (Ok x) → Stores h year parcels rows shapes k kept old new (Ok change)
+module _ (h k : List Entry) (year : ℕ) (parcels : List Parcel) (rows : List Row) (a : Accepted) (kept shapes : List Shape) (old new : State) (same : shapes ≡ a.kept.shapes.items) where
+  pub stored_ok : (x : Unit {0}) (change : Changes) → Commits h k year parcels rows a {E = PublishFault} old new (Ok x) → Stores h year parcels rows kept k shapes old new (Ok change)
   stored_ok x change c = record {
-    ok = λ clean holds. subst (HoldsRegister new k) (sym same) (c.ok shapes clean holds);
+    ok = λ clean holds. subst (HoldsRegister new k) (sym same) (c.ok kept clean holds);
     err = λ clean up holds. tt;
-    crash = λ holds. c.crash shapes holds;
-    durable = λ clean holds db may. subst (λ s. LeavesRegister k s db) (sym same) (c.durable shapes clean holds db may);
+    crash = λ holds. c.crash kept holds;
+    durable = λ clean holds db may. subst (λ s. LeavesRegister k s db) (sym same) (c.durable kept clean holds db may);
   }
 
 pub stored_err : (h k : List Entry) (year : ℕ) (parcels : List Parcel) (rows : List Row) (a : Accepted) (shapes : List Shape) (old new : State) (e : PublishFault) → k ≡ h

@@ -1,6 +1,7 @@
 -- From what files hold to what an opening finds.
 use Rattle.std.proofs.Common.{◌≡◌, ◌∙◌, ◌<◌, ap, inl, inr, length, sym, subst, [], List, arith}
-use Rattle.lpis_register.proofs.Common.{Content, Entry, HasCleanDisk, IsBare, IsOpened, IsStored, IsUnopened, Layout, Leaves, PublishFault, Shape, State, Trees}
+use Rattle.lpis_register.proofs.Common.{Content, Entry, HasCleanDisk, IsBare, IsStored, Layout, Leaves, PublishFault, Shape, State, Trees}
+use Rattle.lpis_register.specs.Opening.{IsOpened, IsUnopened}
 use Rattle.lpis_register.specs.FileOpening.{HoldsNoTable, HoldsRows, IsFileOpened}
 use Rattle.lpis_register.specs.private.FileRefusals.{IsFileUnopened}
 use Rattle.sqlite.specs.Files.{AreFoundIn}

@@ -1,7 +1,10 @@
 -- From rows and texts that were read to what the tables say.
 use Rattle.std.proofs.Common.{◌≡◌, ◌↔◌, ℕ, List, Result, IfErr, IsPermutation}
 use Rattle.std.proofs.lemmas.List.Sorted.{IsPermutation-sym}
-use Rattle.lpis_register.proofs.Common.{State, Entry, AreLive, Content, HoldsRegister, IfErr-weaker, IsSameContent, IsSameHistory, IsStored, PublishFault, Says, Shape, ShapesAre, StoredText, Tells, TextsStand, Unlawful, Version, Third, Whole}
+use Rattle.lpis_register.proofs.Common.{State, Entry, AreLive, Content, HoldsRegister, IsStored, PublishFault, Says, Shape, ShapesAre, StoredText, Tells, Unlawful, Version, Third, Whole}
+use Rattle.std.proofs.lemmas.Result.{IfErr-weaker}
+use Rattle.lpis_register_rows.specs.Tells.{IsSameContent, IsSameHistory}
+use Rattle.lpis_register_rows.specs.Shapes.{TextsStand}
 use Rattle.lpis_register_rows.specs.Content.{without_live, without_texts}
 use Rattle.lpis_register.proofs.OneHistoryLemmas.{Lifeless, One}
 

@@ -3,9 +3,11 @@ use Rattle.std.proofs.Common.{◌≡◌, ◌∙◌, ◌↔◌, refl, sym, ap, su
 use Rattle.std.proofs.lemmas.List.Sorted.{IsPermutation-refl}
 use Rattle.lpis_covers.specs.Ids.{has_id}
 use Rattle.lpis_lineage.specs.Lineage.{holds}
-use Rattle.lpis_register.proofs.Common.{State, Entry, last_live, AreLive, Content, IsSameContent, IsSameHistory, Says, SaysNone, Shape, ShapesAre, StoredText, Tells, TextsStand, Origin, Whole, IsStored, HoldsRegister, texts_at, Version, First, Second, Third}
+use Rattle.lpis_register.proofs.Common.{State, Entry, last_live, AreLive, Content, Says, Shape, ShapesAre, StoredText, Tells, Origin, Whole, IsStored, HoldsRegister, texts_at, Version, First, Second, Third}
+use Rattle.lpis_register_rows.specs.Tells.{IsSameContent, IsSameHistory, only_format}
+use Rattle.lpis_register.specs.Opening.{SaysNone}
+use Rattle.lpis_register_rows.specs.Shapes.{TextsStand}
 use Rattle.lpis_register_rows.specs.Content.{Format, without_live, without_texts}
-use Rattle.lpis_register_rows.specs.Tells.{only_format}
 
 -- ---- the same histories have the same last identifiers
 

@@ -2,12 +2,17 @@
 use Rattle.std.proofs.Common.{◌≡◌, inl, inr, List, Result, Ok, Err, IfErr, IfOk, IsTrue, [], ◌∷◌, refl, subst, arith, false, IsPermutation}
 use Rattle.std.proofs.lemmas.List.Sorted.{length_permutation}
 use Rattle.std.specs.List.{AllZip}
-use Rattle.lpis_register.proofs.Common.{Trees, State, HasCleanDisk, Survives, survives_weaker, Entry, Content, no_content, Found, HoldsRegister, IsBare, IsFailure, IsFound, IsOpened, IsOpenedAs, IsOpeningFault, IsStored, IsUnopened, Layout, Leaves, LeavesNone, LeavesRegister, LeavesSaid, New, PublishFault, Says, SaysNone, SaysRegister, Shape, ShapesAre, Tells, Unlawful, Version, First, Second, Third, Whole, texts_at}
+use Rattle.lpis_register.proofs.Common.{Trees, State, HasCleanDisk, Survives, survives_weaker, Entry, Content, HoldsRegister, IsBare, IsFailure, IsStored, Layout, Leaves, LeavesRegister, PublishFault, Says, Shape, ShapesAre, Tells, Unlawful, Version, First, Second, Third, Whole, texts_at}
+use Rattle.lpis_register_rows.specs.Content.{no_content}
+use Rattle.lpis_register_sql.specs.declared.found.Found.{Found}
+use Rattle.lpis_register_sql.specs.Quiet.{IsFound, LeavesNone}
+use Rattle.lpis_register.specs.Opening.{IsOpened, IsOpenedAs, IsUnopened, LeavesSaid, SaysNone, SaysRegister, LeavesOpened}
+use Rattle.lpis_register.specs.Faults.{IsOpeningFault}
+use Rattle.lpis_register_sql.specs.Layouts.{New}
 use Rattle.sqlite.proofs.StateLemmas.{survives_then}
 use Rattle.lpis_register_rows.specs.Tells.{years_of}
 use Rattle.lpis_register_rows.specs.Shapes.{IsTextOf}
 use Rattle.lpis_register_sql.specs.Commits.{LeavesMade}
-use Rattle.lpis_register.specs.Opening.{LeavesOpened}
 use Rattle.lpis_register.specs.declared.opening.Told.{Told}
 use Rattle.lpis_register.specs.private.Commits.{LeavesFound, OpensFound, Settles}
 use Rattle.lpis_register.proofs.HoldingLemmas.{left_with}

@@ -1,6 +1,10 @@
 -- Results, and the faults in them.
 use Rattle.std.proofs.Common.{◌≡◌, ◌⊎◌, inl, inr, ℕ, List, Result, Ok, Err, OnOk, OnErr, refl, sym, subst}
-use Rattle.lpis_register.proofs.Common.{Entry, Row, IsFailure, IsOpeningFault, PublishTells, PublishFault, Memory, Year, Lineage, Store, Unknown, Unlawful}
+use Rattle.lpis_cert.specs.declared.part.ExactBlock.{ExactBlock}
+use Rattle.lpis_parcels.specs.Release.{Contents}
+use Rattle.lpis_register.specs.Faults.{IsRefused, IsOpeningFault}
+use Rattle.lpis_register.specs.declared.fault.PublishFault.TheVariants.{Memory, Year, Lineage, NotKept, Exact, Store, Unknown}
+use Rattle.lpis_register.proofs.Common.{Entry, Row, IsFailure, PublishFault, Shape, Unlawful}
 
 pub on_ok : {A E : Type 0} (r : Result A E) {P Q : Type 0} → (P → Q) → OnOk r P → OnOk r Q
 on_ok (Ok x) f p = f p
@@ -15,6 +19,8 @@ pub opening_failure : (e : PublishFault) → IsFailure e → IsOpeningFault e
 opening_failure Memory f = tt
 opening_failure (Year last) f = f
 opening_failure (Lineage fault) f = f
+opening_failure (NotKept id) f = f
+opening_failure (Exact fault) f = f
 opening_failure Store f = tt
 opening_failure Unknown f = f
 opening_failure Unlawful f = tt
@@ -26,11 +32,14 @@ pub lawful_failure : (e : PublishFault) → IsOpeningFault e → (e ≡ Unlawful
 lawful_failure Memory k never = tt
 lawful_failure (Year last) k never = k
 lawful_failure (Lineage fault) k never = k
+lawful_failure (NotKept id) k never = k
+lawful_failure (Exact fault) k never = k
 lawful_failure Store k never = tt
 lawful_failure Unknown k never = k
 lawful_failure Unlawful k never = never refl
 
 -- what failed beside the call tells nothing of the release
-pub failure_tells : (A : Type 0) (h : List Entry) (year : ℕ) (live : List (List ℕ)) (rows : List Row) (X : Type 0) (e : PublishFault) → (e ≡ Store) ⊎ ((e ≡ Memory) × X) → PublishTells {A = A} h year live rows (Err e)
-failure_tells A h year live rows X e (inl is) = subst (λ f. PublishTells {A = A} h year live rows (Err f)) (sym is) tt
-failure_tells A h year live rows X e (inr is) = subst (λ f. PublishTells {A = A} h year live rows (Err f)) (sym is.0) tt
+pub failure_refused : (h : List Entry) (kept : List Shape) (year : ℕ) (r : Contents) (blocks : List ExactBlock) (rows : List Row) (X : Type 0) (e : PublishFault) → (e ≡ Store) ⊎ ((e ≡ Memory) × X)
+    → IsRefused h kept year r blocks rows e
+failure_refused h kept year r blocks rows X e (inl is) = subst (IsRefused h kept year r blocks rows) (sym is) tt
+failure_refused h kept year r blocks rows X e (inr is) = subst (IsRefused h kept year r blocks rows) (sym is.0) tt

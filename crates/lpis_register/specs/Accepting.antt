@@ -1,13 +1,17 @@
 -- A release that may follow a history, with all that writing it takes.
 use Rattle.std.specs.Prelude.{◌≡◌, ◌<◌, [], ℕ, List}
+use Rattle.lpis_cert.specs.declared.part.ExactBlock.{ExactBlock}
+use Rattle.lpis_exact_lineage.specs.Asking.{IsShown, kinds_from}
+use Rattle.lpis_exact_lineage.specs.ExactLineage.{IsExactLineage, ShapesTurnOnce}
+use Rattle.lpis_exact_lineage.specs.Shapes.{shape_of, shapes_in}
 use Rattle.lpis_lineage.specs.declared.row.Row.{Row}
 use Rattle.lpis_lineage.specs.declared.row.Entry.{Entry}
 use Rattle.lpis_lineage.specs.Changes.{IsChange}
 use Rattle.lpis_lineage.specs.Faults.{faults}
 use Rattle.lpis_lineage.specs.Lineage.{last_live, last_year}
 use Rattle.lpis_parcels.specs.declared.parcel.Parcel.{Parcel}
-use Rattle.lpis_parcels.specs.Release.{parcel_ids}
-use Rattle.lpis_register_rows.specs.Shapes.{AreLive, AreShapesOf, ShapesAre}
+use Rattle.lpis_parcels.specs.Release.{Contents, parcel_ids}
+use Rattle.lpis_register_rows.specs.Shapes.{AreLive, AreShapesOf, Shape, ShapesAre}
 use Rattle.lpis_register_rows.specs.Tells.{IsWriting}
 use Rattle.lpis_register.specs.declared.accepting.Accepted.{Accepted}
 use Rattle.lpis_register.specs.declared.accepting.Kept.{Kept}
@@ -27,15 +31,25 @@ pub record IsKept (parcels : List Parcel) (kept : Kept) : Type 0 where
   pub live : AreLive (parcel_ids parcels) kept.shapes.items
   pub texts_are : ShapesAre kept.texts.items kept.shapes.items
 
--- the release of this year, of these parcels and with these rows may follow this history
-pub record IsAccepted (h : List Entry) (year : ℕ) (parcels : List Parcel) (rows : List Row)
+-- the release of this year, of these parcels and with these rows may follow this history by its
+-- lineage, and this is what writing it takes
+pub record IsPrepared (h : List Entry) (year : ℕ) (parcels : List Parcel) (rows : List Row)
     (a : Accepted) : Type 0 where
   pub later : last_year h < year
   pub year_is : a.year ≡ year
   pub step_is : IsStep h (parcel_ids parcels) rows a.step
   pub kept_is : IsKept parcels a.kept
 
--- some release was accepted after this history
-abbrev pub WasMadeFor : List Entry → Accepted → Type 0
-WasMadeFor h a = (year : ℕ) × (parcels : List Parcel) × (rows : List Row)
-    × IsAccepted h year parcels rows a
+-- and the blocks of its certificate show what its exact groups ask for, when these shapes are kept
+-- of the last release: it has exact lineage, and its own shapes turn once at most
+pub record IsAccepted (h : List Entry) (kept : List Shape) (year : ℕ) (r : Contents)
+    (blocks : List ExactBlock) (rows : List Row) (a : Accepted) : Type 0 where
+  pub prepared : IsPrepared h year r.parcels rows a
+  pub shown : IsShown h kept r blocks rows
+  pub exact : IsExactLineage (kinds_from h r rows) rows (shape_of kept) (shape_of (shapes_in r))
+  pub once : ShapesTurnOnce (shape_of a.kept.shapes.items)
+
+-- some release was accepted after this history, when these shapes are kept
+abbrev pub WasMadeFor : List Entry → List Shape → Accepted → Type 0
+WasMadeFor h kept a = (year : ℕ) × (r : Contents) × (blocks : List ExactBlock) × (rows : List Row)
+    × IsAccepted h kept year r blocks rows a

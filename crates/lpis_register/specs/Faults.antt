@@ -1,40 +1,54 @@
 -- Which faults a call may answer.
-use Rattle.std.specs.Prelude.{◌≡◌, ◌<◌, ◌≤◌, [], ℕ, List, Some, Result, Ok, Err}
+use Rattle.std.specs.Prelude.{◌≡◌, ◌≢◌, ◌<◌, ◌≤◌, ℕ, List, Some, Result, Ok, Err}
+use Rattle.lpis_checker.specs.declared.exact.ExactFault.TheVariants as exact
+use Rattle.lpis_cert.specs.declared.part.ExactBlock.{ExactBlock}
+use Rattle.lpis_exact_lineage.specs.Asking.{IsShown, IsUnkept, IsUnshown}
 use Rattle.lpis_lineage.specs.declared.row.Row.{Row}
 use Rattle.lpis_lineage.specs.declared.row.Entry.{Entry}
 use Rattle.lpis_lineage.specs.Faults.{faults, first}
 use Rattle.lpis_lineage.specs.Lineage.{last_year}
+use Rattle.lpis_parcels.specs.Release.{Contents, parcel_ids}
+use Rattle.lpis_register_rows.specs.Shapes.{Shape}
 use Rattle.lpis_register.specs.declared.fault.PublishFault.{PublishFault}
 use Rattle.lpis_register.specs.declared.fault.PublishFault.TheVariants.{Memory, Year, Lineage}
-use Rattle.lpis_register.specs.declared.fault.PublishFault.TheVariants.{Store, Unknown, Unlawful}
+use Rattle.lpis_register.specs.declared.fault.PublishFault.TheVariants.{NotKept, Exact, Store}
+use Rattle.lpis_register.specs.declared.fault.PublishFault.TheVariants.{Unknown, Unlawful}
 
--- what publishing answers: Ok exactly where the year is above the last one and the lineage has no
--- fault, out of memory and the database's failures set aside
-abbrev pub PublishTells : {A : Type 0} → List Entry → ℕ → List (List ℕ) → List Row
-    → Result A PublishFault → Type 0
-PublishTells h year live rows (Ok a) = (last_year h < year) × (faults h live rows ≡ [])
-PublishTells h year live rows (Err Memory) = Unit {0}
-PublishTells h year live rows (Err (Year last)) = (year ≤ last_year h) × (last ≡ last_year h)
-PublishTells h year live rows (Err (Lineage fault)) =
-    (last_year h < year) × (first (faults h live rows) ≡ Some fault)
-PublishTells h year live rows (Err Store) = Unit {0}
-PublishTells h year live rows (Err Unknown) = ⊥
-PublishTells h year live rows (Err Unlawful) = ⊥
+-- after this history, when these shapes are kept, a release of this year with these blocks of its
+-- certificate and these rows of lineage
+module _ (h : List Entry) (kept : List Shape) (year : ℕ) (r : Contents) (blocks : List ExactBlock)
+    (rows : List Row) where
+  -- why publishing it is refused: its year is not above the last one; else for the first fault of
+  -- its lineage; else for the first old shape that an exact group needs and that is not kept; else
+  -- for the first block that does not show what it is to. Out of memory and the database's failures
+  -- are set aside
+  abbrev pub IsRefused : PublishFault → Type 0
+  IsRefused Memory = Unit {0}
+  IsRefused (Year last) = (year ≤ last_year h) × (last ≡ last_year h)
+  IsRefused (Lineage fault) =
+      (last_year h < year) × (first (faults h (parcel_ids r.parcels) rows) ≡ Some fault)
+  IsRefused (NotKept id) = (last_year h < year) × IsUnkept h kept r rows id
+  IsRefused (Exact fault) =
+      (last_year h < year) × (fault ≢ exact.Memory) × IsUnshown h kept r blocks rows fault
+  IsRefused Store = Unit {0}
+  IsRefused Unknown = ⊥
+  IsRefused Unlawful = ⊥
+
+  -- what publishing it answers: Ok exactly where its year is above the last one, its lineage has no
+  -- fault, all old shapes are kept and the blocks show what the exact groups ask for
+  abbrev pub PublishTells : {A : Type 0} → Result A PublishFault → Type 0
+  PublishTells (Ok a) = (last_year h < year) × IsShown h kept r blocks rows
+  PublishTells (Err fault) = IsRefused fault
 
 -- what an opening answers in place of a register
 abbrev pub IsOpeningFault : PublishFault → Type 0
 IsOpeningFault Memory = Unit {0}
-IsOpeningFault (Year last) = ⊥
-IsOpeningFault (Lineage fault) = ⊥
 IsOpeningFault Store = Unit {0}
-IsOpeningFault Unknown = ⊥
 IsOpeningFault Unlawful = Unit {0}
+IsOpeningFault _ = ⊥
 
 -- what failed beside the call
 abbrev pub IsFailure : PublishFault → Type 0
 IsFailure Memory = Unit {0}
-IsFailure (Year last) = ⊥
-IsFailure (Lineage fault) = ⊥
 IsFailure Store = Unit {0}
-IsFailure Unknown = ⊥
-IsFailure Unlawful = ⊥
+IsFailure _ = ⊥

@@ -2,6 +2,10 @@
 use Rattle.std.specs.Prelude.{◌≡◌, ℕ, List, Result, IsTrue, IfOk, OnErr, OnOk}
 use Rattle.sqlite.specs.Tree.{Trees}
 use Rattle.sqlite.specs.State.{HasCleanDisk, State, Survives}
+use Rattle.lpis_cert.specs.declared.part.ExactBlock.{ExactBlock}
+use Rattle.lpis_exact_lineage.specs.Asking.{kinds_from}
+use Rattle.lpis_exact_lineage.specs.ExactLineage.{IsExactLineage, ShapesTurnOnce}
+use Rattle.lpis_exact_lineage.specs.Shapes.{shape_of, shapes_in}
 use Rattle.lpis_lineage.specs.declared.row.Row.{Row}
 use Rattle.lpis_lineage.specs.declared.row.Entry.{Entry}
 use Rattle.lpis_lineage.specs.Accepts.{Adds}
@@ -9,7 +13,7 @@ use Rattle.lpis_lineage.specs.Changes.{Changes, IsChange}
 use Rattle.lpis_lineage.specs.Lawful.{IsLawful, RowsFit}
 use Rattle.lpis_lineage.specs.Lineage.{last_live}
 use Rattle.lpis_parcels.specs.declared.parcel.Parcel.{Parcel}
-use Rattle.lpis_parcels.specs.Release.{parcel_ids}
+use Rattle.lpis_parcels.specs.Release.{Contents, parcel_ids}
 use Rattle.lpis_register_rows.specs.Shapes.{AreShapesOf, Shape}
 use Rattle.lpis_register.specs.Faults.{PublishTells}
 use Rattle.lpis_register.specs.Histories.{HoldsRegister, LeavesRegister}
@@ -29,21 +33,28 @@ module _ (h : List Entry) (year : ℕ) (parcels : List Parcel) (rows : List Row)
   LeavesRelease trees = (k : List Entry) × (shapes : List Shape) × Follows k shapes
       × LeavesRegister k shapes trees
 
-  -- publishing it, when these shapes are kept, makes that history and those shapes of them
-  pub record Publishes (shapes : List Shape) (k : List Entry) (kept : List Shape)
-      (r : Result Changes PublishFault) : Type 0 where
-    pub tells : PublishTells h year (parcel_ids parcels) rows r
-    pub change : IfOk r (IsChange (last_live h) (parcel_ids parcels) rows)
-    pub follows : OnOk r (Follows k kept)
-    pub refused : OnErr r ((k ≡ h) × (kept ≡ shapes))
+  -- a database that holds the history and the shapes of before holds those of after. A crash leaves
+  -- what it left before, or the release whole; right after Ok the release
+  pub record Stores (kept : List Shape) (k : List Entry) (shapes : List Shape) (old new : State)
+      (answer : Result Changes PublishFault) : Type 0 where
+    pub ok : HasCleanDisk new → HoldsRegister old h kept → OnOk answer (HoldsRegister new k shapes)
+    pub err : HasCleanDisk new → IsTrue new.is_open → HoldsRegister old h kept
+        → OnErr answer (HoldsRegister new k shapes)
+    pub crash : HoldsRegister old h kept → Survives old new LeavesRelease
+    pub durable : HasCleanDisk new → HoldsRegister old h kept
+        → OnOk answer ((db : Trees) → new.may_leave db → LeavesRegister k shapes db)
 
-  -- and a database that holds the history and the shapes of before holds those of after. A crash
-  -- leaves what it left before, or the release whole; right after Ok the release
-  pub record Stores (shapes : List Shape) (k : List Entry) (kept : List Shape) (old new : State)
-      (r : Result Changes PublishFault) : Type 0 where
-    pub ok : HasCleanDisk new → HoldsRegister old h shapes → OnOk r (HoldsRegister new k kept)
-    pub err : HasCleanDisk new → IsTrue new.is_open → HoldsRegister old h shapes
-        → OnErr r (HoldsRegister new k kept)
-    pub crash : HoldsRegister old h shapes → Survives old new LeavesRelease
-    pub durable : HasCleanDisk new → HoldsRegister old h shapes
-        → OnOk r ((db : Trees) → new.may_leave db → LeavesRegister k kept db)
+-- publishing a release of this year with these blocks of its certificate and these rows, after this
+-- history and when these shapes are kept, makes that history and those shapes of them
+pub record Publishes (h : List Entry) (kept : List Shape) (year : ℕ) (r : Contents)
+    (blocks : List ExactBlock) (rows : List Row) (k : List Entry) (shapes : List Shape)
+    (answer : Result Changes PublishFault) : Type 0 where
+  pub tells : PublishTells h kept year r blocks rows answer
+  pub change : IfOk answer (IsChange (last_live h) (parcel_ids r.parcels) rows)
+  pub follows : OnOk answer (Follows h year r.parcels rows k shapes)
+  -- its exact splits and merges are those of points, by the shapes of before and its own
+  pub exact : OnOk answer
+      (IsExactLineage (kinds_from h r rows) rows (shape_of kept) (shape_of (shapes_in r)))
+  -- which the merges of the next release rest on
+  pub once : OnOk answer (ShapesTurnOnce (shape_of shapes))
+  pub refused : OnErr answer ((k ≡ h) × (shapes ≡ kept))

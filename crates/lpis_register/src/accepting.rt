@@ -1,17 +1,27 @@
 //! A release that may follow, with all that publishing it needs. Nothing is changed here.
 
-ghost use Rattle.std.specs.Prelude.{◌≡◌, ◌<◌, ℕ, IfOk, IfErr};
+ghost use Rattle.std.specs.Prelude.{◌≡◌, ◌<◌, [], ℕ, List, IfOk, IfErr, OnOk};
+ghost use Rattle.lpis_cert.specs.declared.part.ExactBlock.{ExactBlock};
+ghost use Rattle.lpis_exact_lineage.specs.Asking.{IsShown};
 ghost use Rattle.lpis_lineage.specs.Changes.{IsChange};
+ghost use Rattle.lpis_lineage.specs.Faults.{faults};
 ghost use Rattle.lpis_lineage.specs.Lineage.{last_live, last_year};
+ghost use Rattle.lpis_lineage.specs.declared.row.Entry.{Entry};
+ghost use Rattle.lpis_lineage.specs.declared.row.Row.{Row};
 ghost use Rattle.lpis_parcels.specs.Release.{parcel_ids};
+ghost use Rattle.lpis_register_rows.specs.Shapes.{Shape};
 ghost use Rattle.lpis_register.specs.Accepting.{IsAccepted, IsKept, IsStep};
-ghost use Rattle.lpis_register.specs.Faults.{PublishTells};
+ghost use Rattle.lpis_register.specs.Faults.{IsRefused, PublishTells};
 ghost use Rattle.lpis_register.specs.declared.fault.PublishFault.TheVariants.{Store};
 
 use crate::fault::PublishFault;
-use lpis_checker::Yes;
+use lpis_cert::Cert;
+use lpis_checker::{Yes, check_exact};
 use lpis_covers::Id;
-use lpis_lineage::{Change, History, LineageFault, Row, accept};
+use lpis_exact_lineage::{
+    sound_maps_have_such_shapes, wanted_parts, what_is_shown_has_exact_lineage,
+};
+use lpis_lineage::{Change, History, Row, accept};
 use lpis_parcels::{Parcel, Release};
 use lpis_register_rows::{TextRow, changes_tell_what_is_written, fresh_ids, shapes_in, texts_of};
 use lpis_rings::Polygon;
@@ -54,57 +64,35 @@ impl Accepted {
     }
 }
 
-/// What a release changes, or why its lineage is refused.
-fn change_of(
-    alloc: Global,
-    history: &History,
-    live: &[Id],
-    rows: &[Row],
-) -> Result<Change, PublishFault>
-    ensures tells { (year : ℕ) → last_year history.now < year → PublishTells history.now year
-        live.now rows.now result }
-    ensures change { IfOk result (IsChange (last_live history.now) live.now rows.now) }
-    ensures no_store { IfErr result (λ fault. (fault ≡ Store) → ⊥) }
+/// The identifiers of parcels, in their order.
+pub fn ids_of(alloc: Global, parcels: &[Parcel]) -> Result<Vec<Id>, AllocError>
+    ensures { IfOk result (λ ids. ids.items ≡ parcel_ids parcels.now) }
 {
-    match accept(alloc, history, live, rows) {
-        Ok(change) => Ok(change),
-        Err(LineageFault::Memory) => Err(PublishFault::Memory),
-        Err(fault) => Err(PublishFault::Lineage(fault)),
+    let mut ids = Vec::with_capacity(alloc, parcels.len())?;
+    for parcel in parcels {
+        let id = parcel.id.copy()?;
+        ids.push(id)?;
     }
+    Ok(ids)
 }
 
-/// Refuses a release that may not follow, or says what it changes.
-fn decide(
-    alloc: Global,
-    history: &History,
-    year: u16,
-    live: &[Id],
-    rows: &[Row],
-) -> Result<Change, PublishFault>
-    ensures tells { PublishTells history.now year live.now rows.now result }
-    ensures change { IfOk result (IsChange (last_live history.now) live.now rows.now) }
-    ensures no_store { IfErr result (λ fault. (fault ≡ Store) → ⊥) }
-{
-    let last = history.last_year();
-    if year <= last {
-        return Err(PublishFault::Year { last });
-    }
-    change_of(alloc, history, live, rows)
-}
-
-/// Refuses a release that may not follow, or says what writing it needs of its lineage.
+/// What a release changes in a history, and the identifiers that are new with it; or why its
+/// lineage is refused.
 fn step_of(
     alloc: Global,
     history: &History,
-    year: u16,
-    live: Vec<Id>,
+    release: &Release,
     rows: &[Row],
 ) -> Result<Step, PublishFault>
-    ensures tells { PublishTells history.now year live.items rows.now result }
-    ensures step { IfOk result (IsStep history.now live.items rows.now) }
+    ensures refused { (kept : List Shape) (year : ℕ) (blocks : List ExactBlock)
+        → last_year history.now < year
+        → IfErr result (IsRefused history.now kept year release.now blocks rows.now) }
+    ensures step { IfOk result
+        (IsStep history.now (parcel_ids release.now.parcels) rows.now) }
     ensures no_store { IfErr result (λ fault. (fault ≡ Store) → ⊥) }
 {
-    let change = decide(alloc, history, year, live.as_slice(), rows)?;
+    let live = ids_of(alloc, release.parcels())?;
+    let change = accept(alloc, history, live.as_slice(), rows)?;
     let fresh = fresh_ids(alloc, history, live.as_slice())?;
     changes_tell_what_is_written();
     Ok(Step {
@@ -114,16 +102,28 @@ fn step_of(
     })
 }
 
-/// The identifiers of parcels, in their order.
-fn ids_of(alloc: Global, parcels: &[Parcel]) -> Result<Vec<Id>, AllocError>
-    ensures { IfOk result (λ ids. ids.items ≡ parcel_ids parcels.now) }
+/// Refuses a release whose exact splits and merges the blocks of its certificate don't show, when
+/// these shapes are kept of the last one. Of rows without marks nothing is made.
+fn check_groups(
+    alloc: Global,
+    change: &Change,
+    kept: &[(Id, Polygon)],
+    release: &Release,
+    cert: &Cert,
+) -> Result<(), PublishFault>
+    ensures shown { (h : List Entry) (rows : List Row)
+        → faults h (parcel_ids release.now.parcels) rows ≡ []
+        → IsChange (last_live h) (parcel_ids release.now.parcels) rows change.now
+        → OnOk result (IsShown h kept.now release.now cert.now.exact rows) }
+    ensures refused { (h : List Entry) (year : ℕ) (rows : List Row) → last_year h < year
+        → faults h (parcel_ids release.now.parcels) rows ≡ []
+        → IsChange (last_live h) (parcel_ids release.now.parcels) rows change.now
+        → IfErr result (IsRefused h kept.now year release.now cert.now.exact rows) }
+    ensures no_store { IfErr result (λ fault. (fault ≡ Store) → ⊥) }
 {
-    let mut ids = Vec::with_capacity(alloc, parcels.len())?;
-    for parcel in parcels {
-        let id = parcel.id.copy()?;
-        ids.push(id)?;
-    }
-    Ok(ids)
+    let parts = wanted_parts(alloc, change, kept, release)?;
+    check_exact(alloc, cert, parts.as_slice())?;
+    Ok(())
 }
 
 /// The shapes of a release's parcels, and their texts.
@@ -139,17 +139,27 @@ fn kept_of(alloc: Global, release: &Release) -> Result<Kept, AllocError>
 pub(crate) fn accept_release(
     alloc: Global,
     history: &History,
+    shapes: &[(Id, Polygon)],
     year: u16,
     yes: &Yes<'_>,
     rows: &[Row],
+    cert: &Cert,
 ) -> Result<Accepted, PublishFault>
-    ensures tells { PublishTells history.now year (parcel_ids yes.now.parcels) rows.now result }
-    ensures made { IfOk result (IsAccepted history.now year yes.now.parcels rows.now) }
+    ensures tells { PublishTells history.now shapes.now year yes.now cert.now.exact rows.now
+        result }
+    ensures made { IfOk result
+        (IsAccepted history.now shapes.now year yes.now cert.now.exact rows.now) }
     ensures no_store { IfErr result (λ fault. (fault ≡ Store) → ⊥) }
 {
+    let last = history.last_year();
+    if year <= last {
+        return Err(PublishFault::Year { last });
+    }
     let release = yes.release();
-    let live = ids_of(alloc, release.parcels())?;
-    let step = step_of(alloc, history, year, live, rows)?;
+    let step = step_of(alloc, history, release, rows)?;
+    check_groups(alloc, &step.change, shapes, release, cert)?;
     let kept = kept_of(alloc, release)?;
+    sound_maps_have_such_shapes();
+    what_is_shown_has_exact_lineage();
     Ok(Accepted { year, step, kept })
 }

@@ -5,7 +5,7 @@ ghost use Rattle.sqlite.specs.Held.{state};
 ghost use Rattle.lpis_lineage.specs.declared.row.Entry.{Entry};
 ghost use Rattle.lpis_lineage.specs.declared.row.Row.{Row};
 ghost use Rattle.lpis_parcels.specs.declared.parcel.Parcel.{Parcel};
-ghost use Rattle.lpis_register.specs.Accepting.{IsAccepted, WasMadeFor};
+ghost use Rattle.lpis_register.specs.Accepting.{IsPrepared};
 ghost use Rattle.lpis_register.specs.private.Writes.{Commits, Grows, IsDue, Writes};
 ghost use Rattle.lpis_register.specs.declared.fault.PublishFault.TheVariants.{Memory, Store};
 
@@ -46,9 +46,10 @@ fn write_at_end<S: Alter>(
 
 /// Puts an accepted release at the history's end.
 fn grow(history: &mut History, accepted: &Accepted) -> Result<(), PublishFault>
-    requires made { WasMadeFor history.old accepted.now }
+    requires made { (year : ℕ) × (parcels : List Parcel) × (rows : List Row)
+        × IsPrepared history.old year parcels rows accepted.now }
     ensures grows { (year : ℕ) (parcels : List Parcel) (rows : List Row)
-        → IsAccepted history.old year parcels rows accepted.now
+        → IsPrepared history.old year parcels rows accepted.now
         → Grows history.old history.new year parcels rows accepted.now result }
     ensures refused { OnErr result (history.new ≡ history.old) }
     ensures memory { IfErr result (λ e. e ≡ Memory) }
@@ -96,10 +97,11 @@ pub(crate) fn commit_release<S: Alter>(
     accepted: &Accepted,
 ) -> Result<(), PublishFault>
     requires autocommit { conn.old.in_transaction ≡ false }
-    requires made { WasMadeFor history.old accepted.now }
+    requires made { (year : ℕ) × (parcels : List Parcel) × (rows : List Row)
+        × IsPrepared history.old year parcels rows accepted.now }
     ensures autocommit { conn.new.in_transaction ≡ false }
     ensures commits { (year : ℕ) (parcels : List Parcel) (rows : List Row)
-        → IsAccepted history.old year parcels rows accepted.now
+        → IsPrepared history.old year parcels rows accepted.now
         → Commits history.old history.new year parcels rows accepted.now (state S.Store conn.old)
         (state S.Store conn.new) result }
     ensures untouched { IfErr result (λ fault. (fault ≡ Store)

@@ -1,7 +1,9 @@
 //! Laws of the definitions: functions that do nothing, and whose contracts say them.
 
-ghost use Rattle.std.specs.Prelude.{◌≡◌, ◌++◌, List};
+ghost use Rattle.std.specs.Prelude.{◌≡◌, ◌++◌, [], List};
 ghost use Rattle.sqlite.specs.Held.{state};
+ghost use Rattle.lpis_exact_lineage.specs.ExactLineage.{ShapesTurnOnce};
+ghost use Rattle.lpis_exact_lineage.specs.Shapes.{shape_of};
 ghost use Rattle.lpis_lineage.specs.declared.row.Entry.{Entry};
 ghost use Rattle.lpis_register_rows.specs.Content.{Content};
 ghost use Rattle.lpis_register_rows.specs.Tells.{IsSameHistory, Says};
@@ -20,8 +22,20 @@ use sqlite::{Alter, Connection};
 /// releases at its end, in their order. It is lawful, as every history, so years rise and none
 /// stands there twice.
 pub fn accepted_releases_stand_in_order()
-    ensures { (h k : List Entry) (calls : List Call) → AllLead h calls k → (es : List Entry)
-        × (k ≡ h ++ es) × AreReleasesOf (accepted calls) es }
+    ensures { (h k : List Entry) (kept shapes : List Shape) (calls : List Call)
+        → AllLead h kept calls k shapes → (es : List Entry) × (k ≡ h ++ es)
+        × AreReleasesOf (accepted calls) es }
+{}
+
+/// After any list of calls of `publish` the kept shapes turn once at most where those before did,
+/// as on a register that was opened in memory, which keeps none. The merges of the next release
+/// rest on that.
+pub fn kept_shapes_turn_once()
+    ensures after { (h k : List Entry) (kept shapes : List Shape) (calls : List Call)
+        → AllLead h kept calls k shapes → ShapesTurnOnce (shape_of kept)
+        → ShapesTurnOnce (shape_of shapes) }
+    ensures in_memory { (k : List Entry) (shapes : List Shape) (calls : List Call)
+        → AllLead [] [] calls k shapes → ShapesTurnOnce (shape_of shapes) }
 {}
 
 /// Rows say one history, whichever version they are of.

@@ -2,9 +2,9 @@
 
 ghost use Rattle.std.specs.Prelude.{◌≡◌, ◌⊎◌, false, IfOk, IfErr, List, ℕ};
 ghost use Rattle.sqlite.specs.Held.{state};
+ghost use Rattle.lpis_cert.specs.declared.part.ExactBlock.{ExactBlock};
 ghost use Rattle.lpis_lineage.specs.declared.row.Row.{Row};
-ghost use Rattle.lpis_parcels.specs.declared.parcel.Parcel.{Parcel};
-ghost use Rattle.lpis_parcels.specs.Release.{parcel_ids};
+ghost use Rattle.lpis_parcels.specs.Release.{Contents};
 ghost use Rattle.lpis_register.specs.Accepting.{IsAccepted, WasMadeFor};
 ghost use Rattle.lpis_register.specs.Faults.{PublishTells};
 ghost use Rattle.lpis_register.specs.Histories.{IsTrace, IsUnknown, ReadsHistory};
@@ -18,6 +18,7 @@ use crate::fault::PublishFault;
 use crate::opening::Told;
 use crate::reading::{copied_shapes, read_history};
 use crate::tracing::trace;
+use lpis_cert::Cert;
 use lpis_checker::Yes;
 use lpis_covers::Id;
 use lpis_lineage::{Change, History, Row};
@@ -85,30 +86,39 @@ impl<S: Alter> Register<S> {
     }
 
     /// Refuses a release that may not follow the history: where its year is not above the last
-    /// one's, and else where its lineage is refused. With Ok all that publishing it needs is made,
-    /// and nothing is changed yet.
-    pub fn accept(&self, year: u16, yes: &Yes<'_>, rows: &[Row]) -> Result<Accepted, PublishFault>
-        ensures tells { PublishTells self.now.history year (parcel_ids yes.now.parcels) rows.now
-            result }
-        ensures made { IfOk result
-            (IsAccepted self.now.history year yes.now.parcels rows.now) }
+    /// one's; else where its lineage is refused; else where an exact split or merge needs a shape
+    /// of the last release that is not kept; else where the certificate's blocks don't show its
+    /// exact splits and merges. With Ok all that publishing it needs is made, and nothing is
+    /// changed yet.
+    pub fn accept(
+        &self,
+        year: u16,
+        yes: &Yes<'_>,
+        rows: &[Row],
+        cert: &Cert,
+    ) -> Result<Accepted, PublishFault>
+        ensures tells { PublishTells self.now.history self.now.shapes.items year yes.now
+            cert.now.exact rows.now result }
+        ensures made { IfOk result (IsAccepted self.now.history self.now.shapes.items year yes.now
+            cert.now.exact rows.now) }
         ensures no_store { IfErr result (λ fault. (fault ≡ Store) → ⊥) }
     {
-        accept_release(self.alloc, &self.history, year, yes, rows)
+        let shapes = self.shapes.as_slice();
+        accept_release(self.alloc, &self.history, shapes, year, yes, rows, cert)
     }
 
-    /// Publishes a release that was accepted for this history, in one transaction: after a crash the
-    /// tables have it whole or not at all, and always where the answer was Ok. With an error the
-    /// history and the shapes are as they were.
+    /// Publishes a release that was accepted for this history and these shapes, in one transaction:
+    /// after a crash the tables have it whole or not at all, and always where the answer was Ok.
+    /// With an error the history and the shapes are as they were.
     pub fn commit(&mut self, accepted: Accepted) -> Result<Change, PublishFault>
-        requires made { WasMadeFor self.old.history accepted }
-        ensures publishes { (year : ℕ) (parcels : List Parcel) (rows : List Row)
-            → IsAccepted self.old.history year parcels rows accepted
-            → Publishes self.old.history year parcels rows self.old.shapes.items self.new.history
-            self.new.shapes.items result }
-        ensures stores { (year : ℕ) (parcels : List Parcel) (rows : List Row)
-            → IsAccepted self.old.history year parcels rows accepted
-            → Stores self.old.history year parcels rows self.old.shapes.items self.new.history
+        requires made { WasMadeFor self.old.history self.old.shapes.items accepted }
+        ensures publishes { (year : ℕ) (r : Contents) (blocks : List ExactBlock) (rows : List Row)
+            → IsAccepted self.old.history self.old.shapes.items year r blocks rows accepted
+            → Publishes self.old.history self.old.shapes.items year r blocks rows
+            self.new.history self.new.shapes.items result }
+        ensures stores { (year : ℕ) (r : Contents) (blocks : List ExactBlock) (rows : List Row)
+            → IsAccepted self.old.history self.old.shapes.items year r blocks rows accepted
+            → Stores self.old.history year r.parcels rows self.old.shapes.items self.new.history
             self.new.shapes.items (state S.Store self.old.conn) (state S.Store self.new.conn)
             result }
         ensures untouched { IfErr result (λ fault. (fault ≡ Store)
@@ -126,8 +136,8 @@ impl<S: Alter> Register<S> {
 
     /// Publishes a release that the check said yes to: its parcels' identifiers become live, the
     /// history has it at its end, and its parcels' shapes are kept in place of the last release's.
-    /// It is refused where its year is not above the last one's, and else where its lineage is; a
-    /// refusal leaves the history and the shapes as they were.
+    /// Its exact splits and merges are such at every rational point. It is refused as `accept`
+    /// refuses it; a refusal leaves the history and the shapes as they were.
     ///
     /// The whole release is one transaction, and all that needs memory comes before it: after a
     /// crash the tables have the release whole or not at all, and always where the answer was Ok.
@@ -136,16 +146,17 @@ impl<S: Alter> Register<S> {
         year: u16,
         yes: &Yes<'_>,
         rows: &[Row],
+        cert: &Cert,
     ) -> Result<Change, PublishFault>
-        ensures publishes { Publishes self.old.history year yes.now.parcels rows.now
-            self.old.shapes.items self.new.history self.new.shapes.items result }
+        ensures publishes { Publishes self.old.history self.old.shapes.items year yes.now
+            cert.now.exact rows.now self.new.history self.new.shapes.items result }
         ensures stores { Stores self.old.history year yes.now.parcels rows.now
             self.old.shapes.items self.new.history self.new.shapes.items
             (state S.Store self.old.conn) (state S.Store self.new.conn) result }
         ensures untouched { IfErr result (λ fault. (fault ≡ Store)
             ⊎ (self.new.conn ≡ self.old.conn)) }
     {
-        match self.accept(year, yes, rows) {
+        match self.accept(year, yes, rows, cert) {
             Ok(accepted) => self.commit(accepted),
             Err(fault) => Err(fault),
         }

@@ -7,7 +7,7 @@ use Rattle.lpis_lineage.specs.declared.row.Entry.{Entry}
 use Rattle.lpis_lineage.specs.Lineage.{last_year}
 use Rattle.lpis_parcels.specs.declared.parcel.Parcel.{Parcel}
 use Rattle.lpis_register_rows.specs.Shapes.{Shape}
-use Rattle.lpis_register.specs.Accepting.{IsAccepted}
+use Rattle.lpis_register.specs.Accepting.{IsPrepared}
 use Rattle.lpis_register.specs.Histories.{HoldsRegister, LeavesRegister}
 use Rattle.lpis_register.specs.Publishing.{Follows, LeavesRelease}
 use Rattle.lpis_register.specs.declared.accepting.Accepted.{Accepted}
@@ -18,7 +18,7 @@ module _ (now : List Entry) (last : ℕ) (a : Accepted) where
     pub year : ℕ
     pub parcels : List Parcel
     pub rows : List Row
-    pub made : IsAccepted h year parcels rows a
+    pub made : IsPrepared h year parcels rows a
     pub follows : Follows h year parcels rows now a.kept.shapes.items
     pub last_is : last ≡ last_year h
 

@@ -1,5 +1,6 @@
 use Rattle.std.proofs.Common.{refl}
-use Rattle.lpis_register.proofs.Common.{IfErr-weaker, IfOk-weaker, state, survives_weaker, Whole}
+use Rattle.lpis_register.proofs.Common.{IfOk-weaker, state, survives_weaker, Whole}
+use Rattle.std.proofs.lemmas.Result.{IfErr-weaker}
 use Rattle.lpis_register.proofs.FindingLemmas.{read_same, read_told, still_holds}
 use Rattle.lpis_register.proofs.ResultLemmas.{failure_lawful, opening_failure}
 use Rattle.lpis_register.proofs.reading.read_history.Goals as goal
