@@ -1,5 +1,5 @@
 -- The text of a version, by a certificate's content.
-use Rattle.std.specs.Prelude.{ℕ, ℤ, List, [], ◌∷◌, ◌++◌, length, map, codes}
+use Rattle.std.specs.Prelude.{ℕ, ℤ, Bool, true, false, List, [], ◌∷◌, ◌++◌, length, map, codes}
 use Rattle.std.specs.List.{flat_map, join_with_byte}
 use Rattle.std.specs.Fmt.{decimal, signed_decimal}
 use Rattle.lpis_cert.specs.declared.version.Version.{Version}
@@ -23,6 +23,12 @@ pub record ParcelBlock : Type 0 where
   pub id : List ℕ
   pub flats : List Corners
 
+-- the flats of a split, or of a merge, that is to be exact
+pub record ExactBlock : Type 0 where
+  pub merge : Bool
+  pub id : List ℕ
+  pub flats : List Corners
+
 pub record Separator : Type 0 where
   pub i : ℕ
   pub j : ℕ
@@ -32,6 +38,7 @@ pub record Separator : Type 0 where
 pub record Content : Type 0 where
   pub pieces : List PieceBlock
   pub parcels : List ParcelBlock
+  pub exact : List ExactBlock
   pub pairs : List Separator
 
 -- what a line says
@@ -40,6 +47,7 @@ pub data Line : Type 0 where
   TriangleLine : Corners → Line
   FlatLine : Corners → Line
   ParcelLine : List ℕ → ℕ → Line
+  ExactLine : Bool → List ℕ → ℕ → Line
   PairsLine : ℕ → Line
   PairLine : Separator → Line
   EndLine : Line
@@ -52,11 +60,16 @@ abbrev pub corner_words : Version → Corners → List (List ℕ)
 corner_words v c = coordinate_word v c.x1 ∷ coordinate_word v c.y1 ∷ coordinate_word v c.x2
     ∷ coordinate_word v c.y2 ∷ coordinate_word v c.x3 ∷ coordinate_word v c.y3 ∷ []
 
+abbrev pub side : Bool → List ℕ
+side false = codes "split"
+side true = codes "merge"
+
 unfoldable pub words_of : Version → Line → List (List ℕ)
 words_of v (PieceLine id t f) = codes "piece" ∷ id ∷ decimal t ∷ decimal f ∷ []
 words_of v (TriangleLine c) = codes "t" ∷ corner_words v c
 words_of v (FlatLine c) = codes "f" ∷ corner_words v c
 words_of v (ParcelLine id f) = codes "parcel" ∷ id ∷ decimal f ∷ []
+words_of v (ExactLine m id f) = codes "exact" ∷ side m ∷ id ∷ decimal f ∷ []
 words_of v (PairsLine n) = codes "pairs" ∷ decimal n ∷ []
 words_of v (PairLine p) = codes "s" ∷ decimal p.i ∷ decimal p.j ∷ decimal p.k ∷ []
 words_of v EndLine = codes "end" ∷ []
@@ -77,12 +90,16 @@ piece_lines p = PieceLine p.id (length p.triangles) (length p.flats) ∷ (map Tr
 abbrev pub parcel_lines : ParcelBlock → List Line
 parcel_lines p = ParcelLine p.id (length p.flats) ∷ map FlatLine p.flats
 
+abbrev pub exact_lines : ExactBlock → List Line
+exact_lines b = ExactLine b.merge b.id (length b.flats) ∷ map FlatLine b.flats
+
 abbrev pub end_lines : List Separator → List Line
 end_lines ps = PairsLine (length ps) ∷ (map PairLine ps ++ (EndLine ∷ []))
 
 -- the lines after the first
 unfoldable pub lines_of : Content → List Line
-lines_of c = flat_map piece_lines c.pieces ++ (flat_map parcel_lines c.parcels ++ end_lines c.pairs)
+lines_of c = flat_map piece_lines c.pieces ++ (flat_map parcel_lines c.parcels
+    ++ (flat_map exact_lines c.exact ++ end_lines c.pairs))
 
 unfoldable pub text_of : Version → Content → List ℕ
 text_of v c = first_line v ++ (10 ∷ text_of_lines v (lines_of c))

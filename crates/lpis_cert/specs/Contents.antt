@@ -4,12 +4,13 @@ use Rattle.std.specs.List.{AllByRecursion}
 use Rattle.lpis_points.specs.declared.triangle.Triangle.{Triangle}
 use Rattle.lpis_cert.specs.declared.part.PiecePart.{PiecePart}
 use Rattle.lpis_cert.specs.declared.part.ParcelPart.{ParcelPart}
+use Rattle.lpis_cert.specs.declared.part.ExactBlock.{ExactBlock}
 use Rattle.lpis_cert.specs.declared.part.PairLine.{PairLine}
 use Rattle.lpis_cert.specs.declared.cert.Cert.{Cert}
 use Rattle.lpis_cert.specs.declared.version.Version.{Version}
 use Rattle.lpis_cert.specs.Versions.{written}
 use Rattle.lpis_cert.specs.CertText.{Corners, PieceBlock, ParcelBlock, Separator, Content, text_of}
-use Rattle.lpis_cert.specs.CertText.{lines_of}
+use Rattle.lpis_cert.specs.CertText.{ExactBlock as FlatsBlock, lines_of}
 use Rattle.lpis_cert.specs.Fitting.{LineFits}
 
 abbrev pub corner_numbers : Triangle → Corners
@@ -24,6 +25,9 @@ piece_of p = record { id = p.id; triangles = all_corners p.triangles; flats = al
 abbrev pub parcel_of : ParcelPart → ParcelBlock
 parcel_of p = record { id = p.id; flats = all_corners p.flats }
 
+abbrev pub exact_of : ExactBlock → FlatsBlock
+exact_of b = record { merge = b.merge; id = b.id; flats = all_corners b.flats }
+
 abbrev pub separator_of : PairLine → Separator
 separator_of p = record { i = p.i; j = p.j; k = p.k }
 
@@ -31,6 +35,7 @@ abbrev pub content_of : Cert → Content
 content_of c = record {
   pieces = map piece_of c.pieces;
   parcels = map parcel_of c.parcels;
+  exact = map exact_of c.exact;
   pairs = map separator_of c.pairs;
 }
 

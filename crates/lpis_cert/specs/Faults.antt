@@ -11,7 +11,7 @@ use Rattle.lpis_cert.specs.declared.fault.CertFault.{CertFault}
 use Rattle.lpis_cert.specs.declared.fault.CertFault.TheVariants.{Memory, At}
 use Rattle.lpis_cert.specs.declared.kind.Kind.TheVariants as kind
 use Rattle.lpis_cert.specs.declared.kind.Expected.TheVariants.{One, Block}
-use Rattle.lpis_cert.specs.CertText.{Line, PieceLine, ParcelLine, PairsLine}
+use Rattle.lpis_cert.specs.CertText.{Line, PieceLine, ParcelLine, ExactLine, PairsLine}
 use Rattle.lpis_cert.specs.Limits.{most_triangles, most_flats}
 use Rattle.lpis_cert.specs.declared.version.Version.{Version}
 use Rattle.lpis_cert.specs.Versions.{named}
@@ -50,6 +50,7 @@ first_state = InBody stage.Pieces 0 0 none_declared
 abbrev pub open_block : Declared → Line → Result State CertCode
 open_block d (PieceLine id t f) = within (grow d t f) (InBody stage.Pieces t f (grow d t f))
 open_block d (ParcelLine id f) = within (grow_flats d f) (InBody stage.Parcels 0 f (grow_flats d f))
+open_block d (ExactLine m id f) = within (grow_flats d f) (InBody stage.Exacts 0 f (grow_flats d f))
 open_block d (PairsLine n) = Ok (InPairs n)
 open_block d _ = Err code.BadPlace
 

@@ -2,10 +2,10 @@
 use Rattle.std.specs.Prelude.{ℤ, nat_abs, ◌*◌, ◌≤◌, ◌≡◌, true}
 use Rattle.lpis_covers.specs.Ids.{is_id}
 use Rattle.lpis_cert.specs.declared.version.Version.{Version}
-use Rattle.lpis_cert.specs.Versions.{greatest, factor, units}
+use Rattle.lpis_cert.specs.Versions.{greatest, factor, has_exact, units}
 use Rattle.lpis_cert.specs.Limits.{greatest_count, last_edge}
 use Rattle.lpis_cert.specs.CertText.{Corners, Separator, Line, PieceLine, TriangleLine, FlatLine}
-use Rattle.lpis_cert.specs.CertText.{ParcelLine, PairsLine, PairLine, EndLine}
+use Rattle.lpis_cert.specs.CertText.{ParcelLine, ExactLine, PairsLine, PairLine, EndLine}
 
 -- a whole number of the version's units, in its range
 pub record CoordinateFits (v : Version) (z : ℤ) : Type 0 where
@@ -31,6 +31,7 @@ LineFits v (PieceLine id t f) = (is_id id ≡ true) × (t ≤ greatest_count) ×
 LineFits v (TriangleLine c) = CornersFit v c
 LineFits v (FlatLine c) = CornersFit v c
 LineFits v (ParcelLine id f) = (is_id id ≡ true) × (f ≤ greatest_count)
+LineFits v (ExactLine m id f) = (has_exact v ≡ true) × (is_id id ≡ true) × (f ≤ greatest_count)
 LineFits v (PairsLine n) = n ≤ greatest_count
 LineFits v (PairLine p) = SeparatorFits p
 LineFits v EndLine = Unit {0}

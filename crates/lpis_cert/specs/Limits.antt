@@ -5,7 +5,7 @@ use Rattle.std.specs.Prelude.{ℕ}
 abbrev pub most_triangles : ℕ
 most_triangles = 2000000
 
--- the most flats of all pieces and parcels
+-- the most flats of all pieces, parcels and exact blocks
 abbrev pub most_flats : ℕ
 most_flats = 2000000
 

@@ -1,7 +1,7 @@
 -- What one line says, or its fault.
 use Rattle.std.specs.Prelude.{ℕ, zero, suc, ◌+◌, ◌*◌, Bool, true, false, cond, ◌&&◌, ◌==◌, List, []}
 use Rattle.std.specs.Prelude.{◌∷◌, length, ℤ, pos, neg_ℤ, Option, Some, None, Result, Ok, Err}
-use Rattle.std.specs.Prelude.{codes, nat_le}
+use Rattle.std.specs.Prelude.{codes, nat_le, is_some}
 use Rattle.std.specs.List.{slice_split, list_any}
 use Rattle.std.specs.Char.{is_ascii_digit, digit_value}
 use Rattle.std.specs.Str.{bytes_eq}
@@ -10,15 +10,15 @@ use Rattle.lpis_cert.specs.declared.kind.Stage.TheVariants as stage
 use Rattle.lpis_cert.specs.declared.fault.CertCode.{CertCode}
 use Rattle.lpis_cert.specs.declared.fault.CertCode.TheVariants as code
 use Rattle.lpis_cert.specs.declared.kind.Kind.{Kind}
-use Rattle.lpis_cert.specs.declared.kind.Kind.TheVariants.{Piece, Triangle, Flat, Parcel, Pairs}
-use Rattle.lpis_cert.specs.declared.kind.Kind.TheVariants.{Pair, End}
+use Rattle.lpis_cert.specs.declared.kind.Kind.TheVariants.{Piece, Triangle, Flat, Parcel, Exact}
+use Rattle.lpis_cert.specs.declared.kind.Kind.TheVariants.{Pairs, Pair, End}
 use Rattle.lpis_cert.specs.declared.kind.Expected.{Expected}
 use Rattle.lpis_cert.specs.declared.kind.Expected.TheVariants.{One, Block}
 use Rattle.lpis_cert.specs.declared.version.Version.{Version}
 use Rattle.lpis_cert.specs.Limits.{greatest_count, last_edge}
-use Rattle.lpis_cert.specs.Versions.{greatest, factor}
+use Rattle.lpis_cert.specs.Versions.{greatest, factor, has_exact}
 use Rattle.lpis_cert.specs.CertText.{Corners, Separator, Line, PieceLine, TriangleLine, FlatLine}
-use Rattle.lpis_cert.specs.CertText.{ParcelLine, PairsLine, PairLine, EndLine}
+use Rattle.lpis_cert.specs.CertText.{ParcelLine, ExactLine, PairsLine, PairLine, EndLine}
 
 infixl 10 ◌>>=◌
 abbrev pub ◌>>=◌ : {A B E : Type 0} → Result A E → (A → Result B E) → Result B E
@@ -77,8 +77,14 @@ kind_of w =
     (cond (bytes_eq w (codes "s")) (Some Pair)
     (cond (bytes_eq w (codes "piece")) (Some Piece)
     (cond (bytes_eq w (codes "parcel")) (Some Parcel)
+    (cond (bytes_eq w (codes "exact")) (Some Exact)
     (cond (bytes_eq w (codes "pairs")) (Some Pairs)
-    (cond (bytes_eq w (codes "end")) (Some End) None))))))
+    (cond (bytes_eq w (codes "end")) (Some End) None)))))))
+
+-- the first words of a version: `exact` is none of version 1
+abbrev pub is_known : Version → Kind → Bool
+is_known v Exact = has_exact v
+is_known v _ = true
 
 -- how many words a line of this kind has
 abbrev pub word_count : Kind → ℕ
@@ -86,6 +92,7 @@ word_count Piece = 4
 word_count Triangle = 7
 word_count Flat = 7
 word_count Parcel = 3
+word_count Exact = 4
 word_count Pairs = 2
 word_count Pair = 4
 word_count End = 1
@@ -95,10 +102,21 @@ abbrev pub first_is_id : List (List ℕ) → Bool
 first_is_id [] = false
 first_is_id (w ∷ ws) = is_id w
 
+-- whether a word is `merge`, where it is that or `split`
+abbrev pub merge_of : List ℕ → Option Bool
+merge_of w = cond (bytes_eq w (codes "split")) (Some false)
+    (cond (bytes_eq w (codes "merge")) (Some true) None)
+
+-- `split` or `merge`, and then an identifier
+abbrev pub first_is_split_or_merge : List (List ℕ) → Bool
+first_is_split_or_merge [] = false
+first_is_split_or_merge (w ∷ ws) = is_some (merge_of w) && first_is_id ws
+
 -- an identifier where the kind wants one
 abbrev pub names : Kind → List (List ℕ) → Bool
 names Piece ws = first_is_id ws
 names Parcel ws = first_is_id ws
+names Exact ws = first_is_split_or_merge ws
 names Triangle ws = true
 names Flat ws = true
 names Pairs ws = true
@@ -110,10 +128,11 @@ is_empty [] = true
 is_empty (b ∷ bs) = false
 
 -- a line's kind and its further words, where its form is right
-unfoldable pub form : List (List ℕ) → Option (Kind × List (List ℕ))
-form [] = None
-form (w ∷ ws) = cond (list_any is_empty (w ∷ ws)) None
-    (kind_of w >>? λ k. cond ((length ws + 1 == word_count k) && names k ws) (Some (k, ws)) None)
+unfoldable pub form : Version → List (List ℕ) → Option (Kind × List (List ℕ))
+form v [] = None
+form v (w ∷ ws) = cond (list_any is_empty (w ∷ ws)) None
+    (kind_of w >>? λ k. cond (is_known v k && ((length ws + 1 == word_count k) && names k ws))
+    (Some (k, ws)) None)
 
 -- ---- the kinds that can stand
 
@@ -122,17 +141,23 @@ same_kind Piece Piece = true
 same_kind Triangle Triangle = true
 same_kind Flat Flat = true
 same_kind Parcel Parcel = true
+same_kind Exact Exact = true
 same_kind Pairs Pairs = true
 same_kind Pair Pair = true
 same_kind End End = true
 same_kind _ _ = false
 
--- one kind alone; or what begins a block: pieces stand before parcels, and the pairs after both
+-- one kind alone; or what begins a block: pieces stand before parcels, parcels before exact blocks,
+-- and the pairs after all three
 abbrev pub can_stand : Expected → Kind → Bool
 can_stand (One k) given = same_kind k given
 can_stand (Block stage.Pieces) Piece = true
 can_stand (Block stage.Parcels) Piece = false
-can_stand (Block s) Parcel = true
+can_stand (Block stage.Exacts) Piece = false
+can_stand (Block stage.Pieces) Parcel = true
+can_stand (Block stage.Parcels) Parcel = true
+can_stand (Block stage.Exacts) Parcel = false
+can_stand (Block s) Exact = true
 can_stand (Block s) Pairs = true
 can_stand (Block s) Triangle = false
 can_stand (Block s) Flat = false
@@ -175,6 +200,10 @@ unfoldable pub parcel_line : List (List ℕ) → Option Line
 parcel_line ws = front (λ w. Some w) ws >>? λ id. front natural id.1 >>? λ f. last
     (ParcelLine id.0 f.0) f.1
 
+unfoldable pub exact_line : List (List ℕ) → Option Line
+exact_line ws = front merge_of ws >>? λ m. front (λ w. Some w) m.1 >>? λ id. front natural id.1 >>?
+    λ f. last (ExactLine m.0 id.0 f.0) f.1
+
 unfoldable pub pairs_line : List (List ℕ) → Option Line
 pairs_line ws = front natural ws >>? λ n. last (PairsLine n.0) n.1
 
@@ -183,6 +212,7 @@ values v Piece ws = piece_line ws
 values v Triangle ws = corners v ws >>? λ c. Some (TriangleLine c)
 values v Flat ws = corners v ws >>? λ c. Some (FlatLine c)
 values v Parcel ws = parcel_line ws
+values v Exact ws = exact_line ws
 values v Pairs ws = pairs_line ws
 values v Pair ws = separator ws >>? λ p. Some (PairLine p)
 values v End ws = last EndLine ws
@@ -199,9 +229,9 @@ or_number None = Err code.Number
 or_number (Some l) = Ok l
 
 -- form, then whether its kind can stand
-unfoldable pub placed : Expected → List ℕ → Result (Kind × List (List ℕ)) CertCode
-placed e line = with_form e (form (words line))
+unfoldable pub placed : Version → Expected → List ℕ → Result (Kind × List (List ℕ)) CertCode
+placed v e line = with_form e (form v (words line))
 
 -- then the numbers
 unfoldable pub read_line : Version → Expected → List ℕ → Result Line CertCode
-read_line v e line = placed e line >>= λ p. or_number (values v p.0 p.1)
+read_line v e line = placed v e line >>= λ p. or_number (values v p.0 p.1)

@@ -1,6 +1,6 @@
 -- The versions of the text.
 use Rattle.std.specs.Prelude.{ℕ, suc, ◌/◌, ℤ, pos, negsuc, neg_ℤ, nat_abs, cond, List, codes}
-use Rattle.std.specs.Prelude.{Option, Some, None}
+use Rattle.std.specs.Prelude.{Option, Some, None, Bool, true, false}
 use Rattle.std.specs.Str.{bytes_eq}
 use Rattle.lpis_points.specs.Range.{limit}
 use Rattle.lpis_cert.specs.declared.version.Version.{Version}
@@ -31,6 +31,11 @@ abbrev pub units : Version → ℤ → ℤ
 units One (pos n) = pos (n / 10)
 units One (negsuc n) = neg_ℤ (pos (suc n / 10))
 units Two z = z
+
+-- whether its texts can have blocks of exact splits and merges
+abbrev pub has_exact : Version → Bool
+has_exact One = false
+has_exact Two = true
 
 -- the version that is written
 abbrev pub written : Version

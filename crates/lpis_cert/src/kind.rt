@@ -11,6 +11,8 @@ pub(crate) enum Kind {
     Flat,
     /// `parcel`
     Parcel,
+    /// `exact`
+    Exact,
     /// `pairs`
     Pairs,
     /// `s`
@@ -22,10 +24,12 @@ pub(crate) enum Kind {
 /// Which blocks can begin.
 #[derive(Clone, Copy, Debug, PartialEq, Eq)]
 pub(crate) enum Stage {
-    /// A piece, a parcel or the pairs.
+    /// A piece, a parcel, an exact block or the pairs.
     Pieces,
-    /// A parcel or the pairs.
+    /// A parcel, an exact block or the pairs.
     Parcels,
+    /// An exact block or the pairs.
+    Exacts,
 }
 
 /// Which kinds of lines can stand.

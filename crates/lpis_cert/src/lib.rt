@@ -1,23 +1,14 @@
 //! Certificates and their texts.
 #![tactic(auto)]
 
-mod blocks;
 mod cert;
-mod draft;
-mod fast_path;
 mod fault;
 mod fields;
-mod form;
-mod head;
 mod kind;
 mod laws;
-mod lines;
-mod number;
 mod part;
 mod reading;
-mod rest;
 mod version;
-mod words;
 mod writing;
 
 pub use cert::{Cert, MOST_FLATS, MOST_TRIANGLES};
@@ -27,9 +18,6 @@ pub use laws::{
     canonical_numbers, cut_texts, one_text_a_value, one_value_a_text, spelled_lines,
     texts_have_no_fault, texts_without_fault,
 };
-pub use part::{PairLine, ParcelPart, PiecePart};
+pub use part::{ExactBlock, PairLine, ParcelPart, PiecePart};
 pub use reading::read_cert;
 pub use writing::{WriteFault, write_cert};
-
-#[cfg(test)]
-mod tests;

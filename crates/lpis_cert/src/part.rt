@@ -25,6 +25,16 @@ pub struct ParcelPart {
     pub ghost named: { is_id id ≡ true },
 }
 
+/// The flats that an exact split or an exact merge needs beside the old and the new shapes: of the
+/// parcel that was split, or of the one that others were merged into.
+#[derive(Debug, Drop)]
+pub struct ExactBlock {
+    pub merge: bool,
+    pub id: Id,
+    pub flats: Sequence<Triangle>,
+    pub ghost named: { is_id id ≡ true },
+}
+
 /// A pair of triangles by their numbers, and an edge that separates them: 0 to 2 of triangle `i`, 3
 /// to 5 of triangle `j`.
 #[derive(Clone, Copy, Debug, PartialEq, Eq)]
