@@ -1,5 +1,5 @@
 -- What a release that may follow needs, and why one is refused.
-use Rattle.std.proofs.Common.{◌≡◌, ◌<◌, ◌⊎◌, inl, inr, ℕ, List, [], Some, refl, sym, subst, elim}
+use Rattle.std.proofs.Common.{◌≡◌, ◌<◌, ◌⊎◌, inl, inr, ℕ, List, [], Some, refl, sym, subst}
 use Rattle.lpis_register.proofs.Common.{Entry, PublishFault, Row, Shape, last_live}
 use Rattle.lpis_cert.specs.declared.part.ExactBlock.{ExactBlock}
 use Rattle.lpis_checker.specs.declared.exact.ExactFault.{ExactFault}
@@ -60,7 +60,7 @@ module _ (h : List Entry) (kept : List Shape) (year : ℕ) (r : Contents) (block
   pub refused_lineage : (fault : LineageFault) → (fault ≡ lineage.Memory) ⊎ (first (faults h (parcel_ids r.parcels) rows) ≡ Some fault) → IsRefused h kept year r blocks rows (of_lineage fault)
   refused_lineage fault (inl is) = subst (λ f. IsRefused h kept year r blocks rows (of_lineage f)) (sym is) tt
   refused_lineage fault (inr is) = elim (lineage_told fault) [
-    inl memory ↦ subst (IsRefused h kept year r blocks rows) (sym memory) tt
+    | inl memory ↦ subst (IsRefused h kept year r blocks rows) (sym memory) tt
     | inr told ↦ subst (IsRefused h kept year r blocks rows) (sym told) (later, is)
   ]
 

@@ -1,6 +1,7 @@
 -- Writing a release that was accepted.
 use Rattle.std.proofs.Common.{◌≡◌, ◌≤◌, ◌∙◌, ℕ, pos, List, Result, Ok, Err, OnOk, OnErr, IsTrue, IsPermutation, sym, subst, subst₂}
-use Rattle.lpis_register.proofs.Common.{Trees, State, HasCleanDisk, Survives, survives_weaker, AreLive, Content, Entry, HoldsRegister, IsStored, Leaves, LeavesRegister, Origin, PublishFault, Row, Shape, ShapesAre, StoredText, Tells, Whole, last_live}
+use Rattle.lpis_register.proofs.Common.{Trees, State, HasCleanDisk, Survives, survives_weaker, AreLive, Content, Entry, HoldsRegister, IsStored, Leaves, LeavesRegister, Origin, PublishFault}
+use Rattle.lpis_register.proofs.Common.{Row, Shape, ShapesAre, StoredText, Tells, Whole, last_live}
 use Rattle.lpis_parcels.specs.declared.parcel.Parcel.{Parcel}
 use Rattle.lpis_lineage.specs.Lineage.{last_year}
 use Rattle.lpis_parcels.specs.Release.{parcel_ids}
@@ -71,7 +72,8 @@ module _ (more : TellsMore) (put : PutsTexts) (lives : LivesOn) (moved : Reorder
         survives_with holds.origin (whole c) now a.kept.shapes.items (told h c due holds.tells) (spelled h c due) (alive h due) old new (crash holds.origin c holds.stored);
     durable = λ h shapes due clean holds.
         let c = holds.content in
-        on_ok r (λ left db may. left_with holds.origin (whole c) now a.kept.shapes.items (told h c due holds.tells) (spelled h c due) (alive h due) db (left db may)) (durable clean holds.origin c holds.stored);
+        on_ok r (λ left db may. left_with holds.origin (whole c) now a.kept.shapes.items (told h c due holds.tells) (spelled h c due) (alive h due) db (left db may))
+        (durable clean holds.origin c holds.stored);
   }
 
 -- ---- the history with the release at its end

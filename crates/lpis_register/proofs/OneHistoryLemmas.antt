@@ -3,7 +3,8 @@ use Rattle.std.proofs.Common.{◌≡◌, ◌∙◌, ◌↔◌, refl, sym, ap, su
 use Rattle.std.proofs.lemmas.List.Sorted.{IsPermutation-refl}
 use Rattle.lpis_covers.specs.Ids.{has_id}
 use Rattle.lpis_lineage.specs.Lineage.{holds}
-use Rattle.lpis_register.proofs.Common.{State, Entry, last_live, AreLive, Content, Says, Shape, ShapesAre, StoredText, Tells, Origin, Whole, IsStored, HoldsRegister, texts_at, Version, First, Second, Third}
+use Rattle.lpis_register.proofs.Common.{State, Entry, last_live, AreLive, Content, Says, Shape, ShapesAre, StoredText, Tells, Origin, Whole, IsStored, HoldsRegister, texts_at, Version}
+use Rattle.lpis_register.proofs.Common.{First, Second, Third}
 use Rattle.lpis_register_rows.specs.Tells.{IsSameContent, IsSameHistory, only_format}
 use Rattle.lpis_register.specs.Opening.{SaysNone}
 use Rattle.lpis_register_rows.specs.Shapes.{TextsStand}
@@ -74,7 +75,15 @@ less_texts : (c d : Content) → IsSameContent (without_live c) (without_live d)
 less_texts c d s = record { formats = s.formats; years = s.years; spans = s.spans; lines = s.lines; live = s.live; texts = IsPermutation-refl []; marks = s.marks }
 
 same_itself : (c : Content) → IsSameContent c c
-same_itself c = record { formats = IsPermutation-refl c.formats; years = IsPermutation-refl c.years; spans = IsPermutation-refl c.spans; lines = IsPermutation-refl c.lines; live = IsPermutation-refl c.live; texts = IsPermutation-refl c.texts; marks = IsPermutation-refl c.marks }
+same_itself c = record {
+  formats = IsPermutation-refl c.formats;
+  years = IsPermutation-refl c.years;
+  spans = IsPermutation-refl c.spans;
+  lines = IsPermutation-refl c.lines;
+  live = IsPermutation-refl c.live;
+  texts = IsPermutation-refl c.texts;
+  marks = IsPermutation-refl c.marks;
+}
 
 pub one_history : (st : State) (h k : List Entry) (shapes others : List Shape) → OneContent st → Lifeless → One → HoldsRegister st h shapes → HoldsRegister st k others → IsSameHistory h k
 one_history st h k shapes others content lifeless one a b =

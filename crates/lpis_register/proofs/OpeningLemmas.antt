@@ -2,7 +2,8 @@
 use Rattle.std.proofs.Common.{◌≡◌, inl, inr, List, Result, Ok, Err, IfErr, IfOk, IsTrue, [], ◌∷◌, refl, subst, arith, false, IsPermutation}
 use Rattle.std.proofs.lemmas.List.Sorted.{length_permutation}
 use Rattle.std.specs.List.{AllZip}
-use Rattle.lpis_register.proofs.Common.{Trees, State, HasCleanDisk, Survives, survives_weaker, Entry, Content, HoldsRegister, IsBare, IsFailure, IsStored, Layout, Leaves, LeavesRegister, PublishFault, Says, Shape, ShapesAre, Tells, Unlawful, Version, First, Second, Third, Whole, texts_at}
+use Rattle.lpis_register.proofs.Common.{Trees, State, HasCleanDisk, Survives, survives_weaker, Entry, Content, HoldsRegister, IsBare, IsFailure, IsStored, Layout, Leaves, LeavesRegister}
+use Rattle.lpis_register.proofs.Common.{PublishFault, Says, Shape, ShapesAre, Tells, Unlawful, Version, First, Second, Third, Whole, texts_at}
 use Rattle.lpis_register_rows.specs.Content.{no_content}
 use Rattle.lpis_register_sql.specs.declared.found.Found.{Found}
 use Rattle.lpis_register_sql.specs.Quiet.{IsFound, LeavesNone}
@@ -146,7 +147,8 @@ module _ (found : Found) (told_empty : Tells no_content []) (no_shape : ShapesAr
 
   -- where they are made, and then opened
   module _ (old mid new : State) (never : (layout : Layout) (c : Content) → IsStored layout old c → ⊥) (fresh : IsBare old → found.format ≡ false) (all : Found)
-      (made : HasCleanDisk mid → IsBare old → IsFound all (Whole New) × IsStored (Whole New) mid no_content) (clean : HasCleanDisk mid → HasCleanDisk old) (one : Survives old mid (LeavesMade found old)) where
+      (made : HasCleanDisk mid → IsBare old → IsFound all (Whole New) × IsStored (Whole New) mid no_content)
+      (clean : HasCleanDisk mid → HasCleanDisk old) (one : Survives old mid (LeavesMade found old)) where
     said_left : (db : Trees) → LeavesSaid no_content db → LeavesRegister [] [] db
     said_left db (h, shapes, version, says, left) =
         let none = says_nothing version h shapes says in

@@ -1,6 +1,7 @@
 -- Tables of version 3, made of those of any version that say a history.
 use Rattle.std.proofs.Common.{◌≡◌, List, Ok, Err, IsTrue, refl, true, sym, subst}
-use Rattle.lpis_register.proofs.Common.{Trees, State, HasCleanDisk, Survives, survives_weaker, Entry, Content, IsFailure, IsStored, Layout, Leaves, PublishFault, Says, Shape, ShapesAre, Tells, Version, Third, Whole, texts_at}
+use Rattle.lpis_register.proofs.Common.{Trees, State, HasCleanDisk, Survives, survives_weaker, Entry, Content, IsFailure, IsStored, Layout, Leaves, PublishFault, Says, Shape, ShapesAre}
+use Rattle.lpis_register.proofs.Common.{Tells, Version, Third, Whole, texts_at}
 use Rattle.lpis_register_sql.specs.declared.found.Found.{Found}
 use Rattle.lpis_register_sql.specs.Quiet.{IsFound}
 use Rattle.lpis_register_sql.specs.Layouts.{made_whole, origin_of, First as Oldest, LessMarks, LessTexts, has_marks}

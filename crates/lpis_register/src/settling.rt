@@ -4,7 +4,8 @@ ghost use Rattle.std.specs.Prelude.{◌≡◌, false};
 ghost use Rattle.sqlite.specs.Held.{state};
 ghost use Rattle.lpis_register_rows.specs.Tells.{SpansTell};
 ghost use Rattle.lpis_register.specs.private.Commits.{Settles};
-ghost use Rattle.lpis_register_rows.specs.declared.version.Version.TheVariants.{First, Second, Third};
+ghost use Rattle.lpis_register_rows.specs.declared.version.Version.TheVariants.{First, Second};
+ghost use Rattle.lpis_register_rows.specs.declared.version.Version.TheVariants.{Third};
 
 use crate::fault::PublishFault;
 use crate::opening::fault_of;
