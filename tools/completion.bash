@@ -25,7 +25,7 @@ _lpis_options() {
   fi
 }
 
-_lpis_explain() { _lpis_options '--cert --area --svg --geojson --epsg --status --codes --help'; }
+_lpis_explain() { _lpis_options '--cert --register --area --svg --geojson --epsg --status --codes --help'; }
 _lpis_faults() { _lpis_options '--html --epsg --lpis --help'; }
 _lpis_prepare() { _lpis_options '--accept --classes --epsg --name --identifiers --help'; }
 _lpis_report() { _lpis_options '--json --html --diff --lpis --help'; }

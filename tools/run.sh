@@ -15,15 +15,24 @@ plain_words() {
   for word; do [[ $word == -- ]] || words+=("$word"); done
 }
 
-# The path that the program calls by a name, for the command's words.
+# The path that the program reads or writes (KIND) by a name, for the command's words.
 path_of() {
-  local name=$1 words
-  shift
+  local kind=$1 name=$2 words
+  shift 2
   plain_words "$@"
   case ${words[0]-} in
     area) [[ $name == area ]] && printf '%s' "${words[1]-}" ;;
     cut | check) [[ $name == cert ]] && printf '%s' "${words[2]-}" || printf '%s/%s.csv' "${words[1]-}" "$name" ;;
     publish) [[ $name == cert ]] && printf '%s' "${words[4]-}" || printf '%s/%s.csv' "${words[3]-}" "$name" ;;
+    exact)
+      if [[ $kind == write ]]; then
+        printf '%s' "${words[4]-}"
+      elif [[ $name == cert ]]; then
+        printf '%s' "${words[3]-}"
+      else
+        printf '%s/%s.csv' "${words[2]-}" "$name"
+      fi
+      ;;
   esac
 }
 
@@ -31,8 +40,9 @@ path_of() {
 register_of() {
   local words
   plain_words "$@"
-  [[ ${words[0]-} == publish && ${#words[@]} -eq 5 || ${words[0]-} == trace && ${#words[@]} -eq 3 ]] || return 0
-  printf '%s' "${words[1]}"
+  case ${words[0]-}-${#words[@]} in
+    publish-5 | exact-5 | trace-3) printf '%s' "${words[1]}" ;;
+  esac
 }
 
 has_head() { [[ $(head -c 15 -- "$1" 2>/dev/null | tr -d '\0') == 'SQLite format 3' ]]; }
@@ -174,7 +184,7 @@ say_cause() {
     say 'standard output could not be written: a full disk, or a reader that went away'
   elif [[ $told =~ ^failed\ (read|write)\ ([a-z]+)$ ]]; then
     name=${BASH_REMATCH[2]}
-    path=$(path_of "$name" "$@") || return 0
+    path=$(path_of "${BASH_REMATCH[1]}" "$name" "$@") || return 0
     [[ -n $path ]] || return 0
     if [[ ${BASH_REMATCH[1]} == read ]]; then
       found=$(trouble_of_reading "$path")

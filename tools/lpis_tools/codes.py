@@ -71,6 +71,9 @@ CUTS = {
            "make the parcel the union of its pieces' faces, after rounding all borders together"),
     "44": ("a parcel's border is not that of its pieces, and no place was found", "as 43, too thin to be shown by a place",
            "as 43"),
+    "45": ("a marked split or merge is not exact: no flats were found that make its parts up to the whole, or a certificate would have too many",
+           "each year was rounded by itself, a new corner lies a millimetre beside the old border, or land was gained or lost",
+           "draw the new shapes from the old corners, or leave the marks of this split or merge out; `tools/explain --register DB` shows what differs"),
 }
 
 CERTIFICATE_TEXTS = {
@@ -119,9 +122,24 @@ LINEAGES = {
            "add its row: successors, or an empty `new` for an ending"),
     "76": ("an identifier was used in an earlier release and not in the last one", "numbers that are given again",
            "give the parcel a new identifier"),
+    "77": ("the register keeps no shape of this old parcel, which belongs to a marked split or merge",
+           "the register is of an earlier version of `lpis`, and no release was published since it was moved",
+           "publish this release without marks; from then on the register keeps shapes"),
     "78": ("a row is marked exact, and belongs to no split or merge of which every row is marked",
            "one row of a split or merge was left unmarked, or an ending, a replacement or a redrawing was marked",
            "mark every row of the split or merge, or none; leave the mark out of all other rows"),
+}
+
+EXACTS = {
+    "6a": ("the certificate's `exact` blocks are not those of the marked splits and merges, in order; the identifier is the first that differs",
+           "`lpis exact` was not run, or the marks in lineage.csv changed after it", "run `lpis exact`, and publish with the certificate that it writes"),
+    "6b": ("a flat of this split or merge is not three different points of one line", "a certificate that was not made by `lpis exact`",
+           "run `lpis exact` again"),
+    "6c": ("a corner of a flat is no point of the old and the new shapes of this split or merge",
+           "the tables changed after `lpis exact`, or it was run over another register", "run `lpis exact` again, over this register and these tables"),
+    "6d": ("the border of this split's or merge's whole is not that of its parts and the flats",
+           "the shapes do not make up one another, or the tables changed after `lpis exact`",
+           "run `lpis exact` again: where they do not, it answers 45"),
 }
 
 REGISTERS = {
@@ -134,6 +152,7 @@ REGISTERS = {
     "84": ("this database is no register that can be read: its tables say no lawful history, or a shape in it is no polygon of a live parcel",
            "a later version, a file that was edited",
            "name the right file, or take it from its last copy"),
+    "85": ("the certificate does not show that a marked split or merge is exact; a second code follows", "see codes 6a to 6d", "see codes 6a to 6d"),
 }
 
 FAILURES = {
@@ -145,11 +164,13 @@ FAILURES = {
 
 GROUPS = [
     ("Polygon texts (reported behind 38)", POLYGON_TEXTS), ("Tables", TABLES), ("Cutting", CUTS), ("Certificate texts", CERTIFICATE_TEXTS),
-    ("Certificates", CERTIFICATES), ("Lineage (reported behind 81)", LINEAGES), ("The register", REGISTERS),
+    ("Certificates", CERTIFICATES), ("Lineage (reported behind 81)", LINEAGES), ("Exact lineage (reported behind 85)", EXACTS),
+    ("The register", REGISTERS),
 ]
 CODES = {code: words for _, group in GROUPS for code, words in group.items()}
 
-REFUSED_BY_THE_GATE = {*CUTS, *CERTIFICATES, "80", "81", "83"}
+REFUSED_BY_THE_GATE = {*CUTS, *CERTIFICATES, "80", "81", "83", "85"}
+BEHIND = {"38": POLYGON_TEXTS, "81": LINEAGES, "85": EXACTS}  # the codes that stand behind one
 
 
 def status_of(line):
@@ -169,13 +190,11 @@ def lines_of(code):
     lines = [f"code {code} ({group}): {meaning}"]
     if not cause.startswith("see code"):
         lines += [f"  usual cause: {cause}", f"  remedy: {remedy}"]
-    if code in ("38", "81"):
-        inner = POLYGON_TEXTS if code == "38" else LINEAGES
-        lines += [f"  {other}: {words[0]}" for other, words in inner.items()]
+    lines += [f"  {other}: {words[0]}" for other, words in BEHIND.get(code, {}).items()]
     if code == "82":
         return [*lines, "  lpis ends with status 3"]
-    alone = {**POLYGON_TEXTS, **LINEAGES}
-    return [*lines, f"  lpis ends with status {status_of('refused ' + (('38' if code in POLYGON_TEXTS else '81') if code in alone else code))}"]
+    first = next((outer for outer, inner in BEHIND.items() if code in inner), code)
+    return [*lines, f"  lpis ends with status {status_of(f'refused {first}')}"]
 
 
 def table_of_codes():

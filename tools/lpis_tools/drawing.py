@@ -7,15 +7,19 @@ from . import polygons
 
 FILLS = ["#4477aa", "#cc6677", "#228833", "#ccbb44", "#66ccee", "#aa3377"]
 SIZE = 420  # of the picture's square, in its own units
+MOST_STRETCHES = 2000
 
 
-def geojson(shapes, place, line, epsg=None):
-    """Shapes (kind, name, members) and a place, in metres."""
+def geojson(shapes, place, line, epsg=None, stretches=()):
+    """Shapes (kind, name, members), stretches of border that differ, and a place, in metres."""
     features = []
     for kind, name, members in shapes:
         rings = [[[[x / 1000, y / 1000] for x, y in ring] for ring in member] for member in members]
         features.append({"type": "Feature", "properties": {"kind": kind, "name": name, "line": line},
                          "geometry": {"type": "MultiPolygon", "coordinates": rings}})
+    if stretches:
+        lines = [[[x / 1000, y / 1000] for x, y in stretch] for stretch in stretches]
+        features.append({"type": "Feature", "properties": {"kind": "differs", "name": "", "line": line}, "geometry": {"type": "MultiLineString", "coordinates": lines}})
     if place:
         features.append({"type": "Feature", "properties": {"kind": "place", "name": "", "line": line},
                          "geometry": {"type": "Point", "coordinates": [float(place[0] / 1000), float(place[1] / 1000)]}})
@@ -49,8 +53,22 @@ def cut_ring(ring, window):
     return way
 
 
-def panel(shapes, place, window, left, title):
-    """One square of the picture: the window's part of each shape, and the place."""
+def clipped(a, b, window):
+    """The part of a stretch in a window, as fractions; nothing where none of it is."""
+    x0, y0, x1, y1 = window
+    least, most = Fraction(0), Fraction(1)
+    for start, step, low, high in ((a[0], b[0] - a[0], x0, x1), (a[1], b[1] - a[1], y0, y1)):
+        if step == 0:
+            if not low <= start <= high:
+                return []
+            continue
+        ends = sorted((Fraction(low - start) / step, Fraction(high - start) / step))
+        least, most = max(least, ends[0]), min(most, ends[1])
+    return [tuple(a[k] + part * (b[k] - a[k]) for k in (0, 1)) for part in (least, most)] if least <= most else []
+
+
+def panel(shapes, place, window, left, title, stretches=()):
+    """One square of the picture: the window's part of each shape, the stretches that differ, and the place."""
     x0, y0, x1, y1 = window
     margin = (x1 - x0) / 2
     wide = (x0 - margin, y0 - margin, x1 + margin, y1 + margin)
@@ -64,6 +82,10 @@ def panel(shapes, place, window, left, title):
                 path += "M" + "L".join(f"{(x - float(margin)) * scale:.2f} {SIZE - (y - float(margin)) * scale:.2f}" for x, y in way) + "Z"
         colour = FILLS[number % len(FILLS)]
         out.append(f'<path d="{path}" fill="{colour}" fill-opacity="0.3" fill-rule="evenodd" stroke="{colour}" stroke-width="1.5"/>')
+    for a, b in stretches[:MOST_STRETCHES]:
+        ends = [f"{float(x - x0) * scale:.2f} {SIZE - float(y - y0) * scale:.2f}" for x, y in clipped(a, b, wide)]
+        if ends:
+            out.append(f'<path d="M{ends[0]}L{ends[1]}" stroke="#d00000" stroke-width="2.5"/>')
     if place:
         x, y = float(place[0] - x0) * scale, SIZE - float(place[1] - y0) * scale
         out.append(f'<path d="M{x - 9:.2f} {y:.2f}h18M{x:.2f} {y - 9:.2f}v18" stroke="black" stroke-width="1.5"/><circle cx="{x:.2f}" cy="{y:.2f}" r="6" fill="none" stroke="black"/>')
@@ -95,19 +117,20 @@ def length(millimetres):
     return f"{float(millimetres) / 1000:.4g} m" if millimetres >= 1000 else f"{float(millimetres):.3g} mm"
 
 
-def svg(shapes, place, line):
-    """A picture of the shapes with the place marked, and beside it an enlargement where the fault is finer than the picture."""
+def svg(shapes, place, line, stretches=()):
+    """A picture of the shapes with the place marked and the stretches that differ, and beside it an enlargement where the fault is finer than
+    the picture."""
     found = polygons.box([members for _, _, members in shapes])
     if found is None:
         return None
     x0, y0, x1, y1 = found
     half = Fraction(11, 20) * max(x1 - x0, y1 - y0, 1)
-    panels = panel(shapes, place, window_about((Fraction(x0 + x1, 2), Fraction(y0 + y1, 2)), half), 10, f"the whole: {length(2 * half)} wide")
+    panels = panel(shapes, place, window_about((Fraction(x0 + x1, 2), Fraction(y0 + y1, 2)), half), 10, f"the whole: {length(2 * half)} wide", stretches)
     width = SIZE + 20
     if place:
         near = Fraction(max(4 * reach(shapes, place), 0.1))
         if near < half / 10:
-            panels += panel(shapes, place, window_about(place, near), SIZE + 30, f"about the place: {length(2 * near)} wide")
+            panels += panel(shapes, place, window_about(place, near), SIZE + 30, f"about the place: {length(2 * near)} wide", stretches)
             width = 2 * SIZE + 40
     legend = []
     for number, (kind, name, _) in enumerate(shapes[:12]):

@@ -1,23 +1,24 @@
 """Says a refusal in words, from the folder of the release that was refused."""
 
 from . import codes, drawing, polygons
+from .lineages import OfGroups
 from .refusal import metres_of, read
 from .tables import COLUMNS, FREE, INSTEAD, KEYS, LETTERS, MARK, Table, is_identifier, kind_of_file, path_of, shown
 
 
-class Explained:
-    """The words about one line, the shapes concerned and the place."""
+class Explained(OfGroups):
+    """The words about one line, the shapes concerned, the place, and the stretches of border that differ."""
 
-    def __init__(self, line, folder, cert=None, area=None):
-        self.line, self.folder, self.cert, self.area = line, folder, cert, area
-        self.words, self.shapes, self.place, self.tables = [], [], None, {}
+    def __init__(self, line, folder, cert=None, area=None, register=None):
+        self.line, self.folder, self.cert, self.area, self.register = line, folder, cert, area, register
+        self.words, self.shapes, self.place, self.stretches, self.tables = [], [], None, [], {}
         self.refusal = read(line)
         if self.refusal is None:
             self.say("this line is none that docs/FORMATS.md has")
             return
         self.place = self.refusal.place
         self.say_code(self.refusal.code)
-        for code in (self.refusal.text_code, self.refusal.lineage_code):
+        for code in (self.refusal.text_code, self.refusal.lineage_code, self.refusal.exact_code):
             if code:
                 self.say_code(code)
         if self.refusal.table and self.refusal.row is not None:
@@ -26,6 +27,10 @@ class Explained:
             self.say_cert_line()
         elif self.refusal.kind == "pair":
             self.say_pair()
+        elif self.refusal.kind == "exact":
+            self.say_exact()
+        elif self.refusal.lineage_code == "77":
+            self.say_kept()
         elif self.refusal.kind:
             self.say_shapes()
         if self.place:
@@ -134,8 +139,7 @@ class Explained:
             self.say("  its row is an ending, which can't be marked")
         for row, other in table.rows():
             if table.field(other, "old") == old or (new and table.field(other, "new") == new):
-                mark = "marked" if table.field(other, "exact") == b"1" else "not marked"
-                self.say(f"  row {row}: {shown(table.field(other, 'old'))} became {shown(table.field(other, 'new')) or 'nothing'}, {mark}")
+                self.say_row_of_lineage(table, row, other)
 
     def say_length(self, table, record):
         if len(record) != len(table.header):
@@ -276,22 +280,18 @@ class Explained:
                     self.say(f"its piece {piece}: row {row} of covers.csv, line {covers.line(row)}; {polygons.extent(members)}")
                     self.add_shape("piece", piece, members)
                     parts.append(members)
-        stretches = polygons.residue(whole, parts)
-        if stretches:
-            (a, b) = stretches[0]
-            self.say(f"{len(stretches)} stretches of border are the parcel's or its pieces' alone; the first from {polygons.metres(a[0])} {polygons.metres(a[1])} to {polygons.metres(b[0])} {polygons.metres(b[1])}")
-            if not self.place and self.refusal.code != "43":
-                self.place = a
-                self.say("its beginning (found by this tool, not told by lpis):")
+        self.stretches = polygons.residue(whole, parts)
+        if self.stretches:
+            self.say_stretches("the parcel's or its pieces'")
 
     def add_shape(self, kind, name, members):
         self.shapes.append((kind, name, members))
 
     def geojson(self, epsg=None):
-        return drawing.geojson(self.shapes, self.place, self.line, epsg)
+        return drawing.geojson(self.shapes, self.place, self.line, epsg, self.stretches)
 
     def svg(self):
-        return drawing.svg(self.shapes, self.place, self.line)
+        return drawing.svg(self.shapes, self.place, self.line, self.stretches)
 
 
 def extent_of_words(text):

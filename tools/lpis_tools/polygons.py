@@ -93,6 +93,17 @@ def doubled_area(ring):
     return sum(a[0] * b[1] - b[0] * a[1] for a, b in zip(ring, ring[1:]))
 
 
+def doubled(members):
+    """The doubled area of a polygon in normal orientation, in square millimetres."""
+    return sum((1 if number == 0 else -1) * abs(doubled_area(ring)) for member in members for number, ring in enumerate(member))
+
+
+def square_metres(doubled_millimetres):
+    """A doubled area, not below 0, in square metres with every digit."""
+    value = 5 * doubled_millimetres
+    return f"{value // 10**7}.{value % 10**7:07}"
+
+
 def edges(members):
     """The edges in normal orientation: shells counter-clockwise, holes clockwise, loops left out."""
     for member in members:

@@ -15,11 +15,12 @@ class Refusal:
     row: int | None = None
     text_code: str = ""
     offset: int | None = None
-    kind: str = ""  # parcel, piece, parcels, pieces or pair
+    kind: str = ""  # parcel, piece, parcels, pieces, pair or exact
     names: list = field(default_factory=list)
     place: tuple | None = None  # x and y in millimetres, as fractions
     cert_line: int | None = None
     lineage_code: str = ""
+    exact_code: str = ""
     year: str = ""
 
     def as_parcels(self):
@@ -50,10 +51,15 @@ def fill(refusal, rest):
         refusal.year = rest[1]
     elif code == "81":
         refusal.table, refusal.lineage_code = "lineage", rest[1]
-        if rest[1] in ("75", "76"):
+        if rest[1] in ("75", "76", "77"):
             refusal.names, refusal.year = [rest[2]], rest[3] if len(rest) > 3 else ""
         else:
             refusal.row = int(rest[3])
+    elif rest[0] == "exact" and code in ("45", "85"):
+        refusal.kind, refusal.names = "exact", [rest[-1]]
+        refusal.exact_code = rest[1] if code == "85" else ""
+        if len(rest) != (3 if code == "85" else 2):
+            raise ValueError
     elif rest[:2] == ["cert", "line"]:
         refusal.cert_line = int(rest[2])
     elif rest[0] in COLUMNS and len(rest) > 2 and rest[1] == "row":

@@ -27,11 +27,6 @@ def decimal(total, form):
     return f"{'-' if total < 0 else ''}{value // 10**decimals}.{value % 10**decimals:0{decimals}}"
 
 
-def doubled(members):
-    """The doubled area of a polygon in normal orientation, in square millimetres."""
-    return sum((1 if number == 0 else -1) * abs(polygons.doubled_area(ring)) for member in members for number, ring in enumerate(member))
-
-
 def digest(path):
     with open(path, "rb") as file:
         return hashlib.file_digest(file, "sha256").hexdigest() if hasattr(hashlib, "file_digest") else hashlib.sha256(file.read()).hexdigest()
@@ -85,7 +80,7 @@ def by_class(land):
     for _, _, name, members in land.pieces:
         count = sums.setdefault(name, [0, 0])
         count[0] += 1
-        count[1] += doubled(members)
+        count[1] += polygons.doubled(members)
     rows = [{"class": name, "percent": land.percents.get(name), "pieces": count, "area": decimal(area, AREA),
              "eligible": decimal(area * (land.percents.get(name) or 0), ELIGIBLE)} for name, (count, area) in sorted(sums.items())]
     area = sum(area for _, area in sums.values())
@@ -133,7 +128,7 @@ def report_lines(text):
 def difference(old, land, folder):
     """Parcels that are new, gone or of another area than in an older release, with the rows of lineage that explain them."""
     to, came = lineage(folder)
-    before, after = ({name: doubled(members) for name, members in parcels.items()} for parcels in (old.parcels, land.parcels))
+    before, after = ({name: polygons.doubled(members) for name, members in parcels.items()} for parcels in (old.parcels, land.parcels))
     new = [{"parcel": name, "area": decimal(after[name], AREA), "from": came.get(name, [])} for name in sorted(set(after) - set(before))]
     gone = [{"parcel": name, "area": decimal(before[name], AREA), "to": [other for other in to.get(name, []) if other], "ended": "" in to.get(name, []),
              "explained": name in to} for name in sorted(set(before) - set(after))]
@@ -267,7 +262,7 @@ def write_page(path, told, land, parcels, features):
     counts = {}
     for piece in land.pieces:
         counts[piece[1]] = counts.get(piece[1], 0) + 1
-    rows = [[name, counts.get(name, 0), *(parcels[name].values() if name in parcels else (decimal(doubled(members), AREA), ""))] for name, members in land.parcels.items()]
+    rows = [[name, counts.get(name, 0), *(parcels[name].values() if name in parcels else (decimal(polygons.doubled(members), AREA), ""))] for name, members in land.parcels.items()]
     keys = [(chart.box(members), f"p{number}") for number, members in enumerate(land.parcels.values())]
     tables.append(page.Table("Parcels", ["parcel", "#pieces", "#area m\u00b2", "#eligible m\u00b2"], rows, keys))
     title = f"Release {os.path.basename(told['folder'])}"
