@@ -1,2 +1,4 @@
 pub mod Common
+pub mod MarkedLemmas
 pub mod PublishLemmas
+pub mod SubmissionLemmas

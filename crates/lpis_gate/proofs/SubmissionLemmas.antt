@@ -1,0 +1,68 @@
+-- The answer to a submission, by what it says or by its first fault.
+use Rattle.std.proofs.Common.{◌≡◌, ◌×◌, ⊥, refl, sym, ap, subst, ℕ, List, Result, Ok, Err}
+use Rattle.lpis_gate.proofs.Common.{Answer, Cert, Contents, release_of}
+use Rattle.lpis_covers.specs.Faults.{rows_of}
+use Rattle.lpis_covers.specs.declared.fault.TableFault.{TableFault}
+use Rattle.lpis_cert.specs.Contents.{IsCertText}
+use Rattle.lpis_cert.specs.Faults.{verdict}
+use Rattle.lpis_cert.specs.declared.fault.CertCode.{CertCode}
+use Rattle.lpis_lineage.specs.declared.row.Row.{Row}
+use Rattle.lpis_lineage.specs.LineageTable.{lineage_table}
+use Rattle.lpis_commands.specs.CheckAnswer.{IsCertAnswer, IsTableAnswer}
+use Rattle.lpis_commands.specs.Status.{unreadable}
+use Rattle.lpis_commands.proofs.Shared.{answer-of-text}
+use Rattle.lpis_gate.specs.Submission.{IsSubmissionAnswer, Submission}
+use Rattle.lpis_gate.specs.private.Saying.{IsFaultAnswer, IsSaid, IsUnsaid}
+use Rattle.lpis_gate.specs.declared.submission.Unsaid.{Unsaid}
+use Rattle.lpis_gate.specs.declared.submission.Unsaid.TheVariants.{Memory, Refused}
+
+-- ---- where it says something
+pub answer-said : (IsNext : Contents → Cert → List Row → Answer → Type 0) (x : Submission) (r : Contents) (c : Cert) (rows : List Row) (a : Answer)
+    → IsSaid x r c rows → IsNext r c rows a → IsSubmissionAnswer IsNext x a
+answer-said IsNext x r c rows a said next =
+    let table : IsTableAnswer (IsNext r c) (rows_of lineage_table x.lineage) a = rw said.lineage next in
+    rw said.tables (answer-of-text (λ (k : Cert). IsTableAnswer (IsNext r k) (rows_of lineage_table x.lineage)) x.checked.cert c a said.text table)
+
+-- ---- where it has a fault
+table-more : {A : Type 0} (P Q : A → Answer → Type 0) (said : Result A TableFault) (a : Answer) → ((x : A) → P x a → Q x a) → IsTableAnswer P said a → IsTableAnswer Q said a
+table-more P Q (Ok x) a more is = more x is
+table-more P Q (Err fault) a more is = is
+
+cert-more : (P Q : Cert → Answer → Type 0) (text : List ℕ) (said : Result ℕ (CertCode × ℕ)) (a : Answer) → ((c : Cert) → P c a → Q c a) → IsCertAnswer P text said a → IsCertAnswer Q text said a
+cert-more P Q text (Ok lines) a more is = (is.0, is.1, more is.0 is.2)
+cert-more P Q text (Err fault) a more is = is
+
+pub answer-unsaid : (IsNext : Contents → Cert → List Row → Answer → Type 0) (x : Submission) (a : Answer) → IsFaultAnswer x a → IsSubmissionAnswer IsNext x a
+answer-unsaid IsNext x a is =
+    table-more _ _ (release_of x.checked.parcels x.checked.covers x.checked.classes) a
+    (λ r. cert-more _ _ x.checked.cert (verdict x.checked.cert) a (λ c. table-more _ _ (rows_of lineage_table x.lineage) a (λ rows no. absurd no))) is
+
+table-status : {A : Type 0} (P : A → Answer → Type 0) (said : Result A TableFault) (a : Answer) → ((x : A) → P x a → a.1 ≡ unreadable) → IsTableAnswer P said a → a.1 ≡ unreadable
+table-status P (Ok x) a more is = more x is
+table-status P (Err fault) a more is = ap (λ (b : Answer). b.1) is
+
+cert-status : (P : Cert → Answer → Type 0) (text : List ℕ) (said : Result ℕ (CertCode × ℕ)) (a : Answer) → ((c : Cert) → P c a → a.1 ≡ unreadable) → IsCertAnswer P text said a
+    → a.1 ≡ unreadable
+cert-status P text (Ok lines) a more is = more is.0 is.2
+cert-status P text (Err fault) a more is = ap (λ (b : Answer). b.1) is
+
+pub unsaid-status : (x : Submission) (a : Answer) → IsFaultAnswer x a → a.1 ≡ unreadable
+unsaid-status x a is =
+    table-status _ (release_of x.checked.parcels x.checked.covers x.checked.classes) a
+    (λ r. cert-status _ x.checked.cert (verdict x.checked.cert) a (λ c. table-status _ (rows_of lineage_table x.lineage) a (λ rows no. absurd no))) is
+
+-- the fault is that of the tables, or of the text after them, or of the table after both
+pub unsaid-tables : (x : Submission) (u : Unsaid) → IsUnsaid (IsTableAnswer (λ _ _. ⊥) (release_of x.checked.parcels x.checked.covers x.checked.classes)) u → IsUnsaid (IsFaultAnswer x) u
+unsaid-tables x Memory is = tt
+unsaid-tables x (Refused a) is = table-more _ _ (release_of x.checked.parcels x.checked.covers x.checked.classes) (a.text.items, a.status) (λ r no. absurd no) is
+
+pub unsaid-cert : (x : Submission) (r : Contents) (u : Unsaid) → release_of x.checked.parcels x.checked.covers x.checked.classes ≡ Ok r
+    → IsUnsaid (IsCertAnswer (λ _ _. ⊥) x.checked.cert (verdict x.checked.cert)) u → IsUnsaid (IsFaultAnswer x) u
+unsaid-cert x r Memory tables is = tt
+unsaid-cert x r (Refused a) tables is = rw tables (cert-more _ _ x.checked.cert (verdict x.checked.cert) (a.text.items, a.status) (λ c no. absurd no) is)
+
+pub unsaid-rows : (x : Submission) (r : Contents) (c : Cert) (u : Unsaid) → release_of x.checked.parcels x.checked.covers x.checked.classes ≡ Ok r → IsCertText x.checked.cert c
+    → IsUnsaid (IsTableAnswer (λ _ _. ⊥) (rows_of lineage_table x.lineage)) u → IsUnsaid (IsFaultAnswer x) u
+unsaid-rows x r c Memory tables text is = tt
+unsaid-rows x r c (Refused a) tables text is =
+    rw tables (answer-of-text (λ (k : Cert). IsTableAnswer (λ _ _. ⊥) (rows_of lineage_table x.lineage)) x.checked.cert c (a.text.items, a.status) text is)
