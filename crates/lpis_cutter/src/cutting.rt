@@ -11,6 +11,7 @@ ghost use Rattle.lpis_cutter.specs.Fans.{IsFan};
 ghost use Rattle.lpis_cutter.specs.Refusals.{HasPoint, RefusesRightly};
 ghost use Rattle.lpis_cutter.specs.private.Cutting.{IsTooMany, SaysIfAny};
 
+use crate::exact::add_edges;
 use crate::fault::{CutFault, Refusal};
 use crate::numbered::Numbered;
 use crate::parts::{Parts, cert_of, no_parts, with_parcel, with_piece};
@@ -25,7 +26,6 @@ use lpis_cutter_residue::Net;
 use lpis_pairs::{MOST_TRIANGLES, PairSource, Sweep};
 use lpis_parcels::{Parcel, Release, pieces_of};
 use lpis_points::Triangle;
-use lpis_rings::edges;
 use std::alloc::{AllocError, Global};
 
 /// The parts with a piece more; `None` where it has no cut, or a limit would be passed.
@@ -86,13 +86,9 @@ struct Tools {
 /// Takes the edges of a parcel less those of its pieces.
 fn load_parcel(net: &mut Net, release: &Release, parcel: &Parcel) -> Result<(), AllocError> {
     net.clear();
-    for (a, b) in edges(&parcel.polygon) {
-        net.add(a, b, 1)?;
-    }
+    add_edges(net, &parcel.polygon, 1)?;
     for piece in pieces_of(release, &parcel.id) {
-        for (a, b) in edges(&piece.polygon) {
-            net.add(a, b, -1)?;
-        }
+        add_edges(net, &piece.polygon, -1)?;
     }
     net.settle()
 }

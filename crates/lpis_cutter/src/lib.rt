@@ -2,6 +2,7 @@
 #![tactic(auto)]
 
 mod cutting;
+mod exact;
 mod fans;
 mod fault;
 mod numbered;
@@ -12,4 +13,5 @@ mod separating;
 mod telling;
 
 pub use cutting::cut;
+pub use exact::exact_flats;
 pub use fault::{CutFault, Refusal};
