@@ -1,6 +1,6 @@
 -- The inputs of a check have one answer.
 use Rattle.std.proofs.Common.{◌≡◌, ◌∙◌, ◌<◌, ◌-◌, ◌⊎◌, ◌∷◌, [], get_or, inl, inr, ap, ap₂, sym, refl, subst, ℕ, List, Result, Ok, Err}
-use Rattle.lpis_commands.proofs.Common.{Contents, release_of, Cert, IsGood, Answer, report_text, done}
+use Rattle.lpis_commands.proofs.Common.{Contents, release_of, Cert, IsGood, Answer}
 use Rattle.std.proofs.lemmas.Bool.{cases_order}
 use Rattle.lpis_covers.specs.declared.fault.TableFault.{TableFault}
 use Rattle.lpis_cert.specs.declared.fault.CertCode.{CertCode}
@@ -12,7 +12,7 @@ use Rattle.lpis_checker.specs.declared.condition.Site.{Site}
 use Rattle.lpis_checker.specs.declared.condition.Site.TheVariants.{PieceAt, ParcelAt, LineAt, PairAt}
 use Rattle.lpis_checker.specs.Codes.{code_of}
 use Rattle.lpis_checker.specs.FirstFault.{IsEarlier, IsFault, IsFirst, location_of}
-use Rattle.lpis_commands.specs.CheckAnswer.{Inputs, IsAnswer, IsCertAnswer, IsCheckAnswer, IsReleaseAnswer, IsTableAnswer}
+use Rattle.lpis_commands.specs.CheckAnswer.{Inputs, IsAnswer, IsCertAnswer, IsCheckAnswer, IsReleaseAnswer, IsReport, IsTableAnswer}
 use Rattle.lpis_commands.specs.Refusals.{check_refusal_text}
 use Rattle.lpis_commands.specs.Status.{refused}
 use Rattle.lpis_checker.specs.declared.fault.CheckFault.TheVariants as check
@@ -107,16 +107,16 @@ one_fault r c q s a b f g =
 good_or_not : (r : Contents) (c : Cert) (q : Condition) (a : Site) → IsGood r c → IsFault r c q a → ⊥
 good_or_not r c q a good f = f.first.fails (good.holds q a)
 
-check_answer : (r : Contents) (c : Cert) (good a b : Answer) → IsCheckAnswer r c good a → IsCheckAnswer r c good b → a ≡ b
-unfolding fault_line
-check_answer r c good a b (inl x) (inl y) = x.1 ∙ sym y.1
-check_answer r c good a b (inl x) (inr y) = absurd (good_or_not r c y.0 y.1 x.0 y.2)
-check_answer r c good a b (inr x) (inl y) = absurd (good_or_not r c x.0 x.1 y.0 x.2)
-check_answer r c good a b (inr x) (inr y) = x.3 ∙ one_fault r c x.0 y.0 x.1 y.1 x.2 y.2 ∙ sym y.3
-
 -- what leaves no choice
 Decides : (Answer → Type 0) → Type 0
 Decides IsNext = (a b : Answer) → IsNext a → IsNext b → a ≡ b
+
+check_answer : (r : Contents) (c : Cert) (IsNext : Answer → Type 0) → Decides IsNext → Decides (IsCheckAnswer r c IsNext)
+unfolding Decides fault_line
+check_answer r c IsNext one a b (inl x) (inl y) = one a b x.1 y.1
+check_answer r c IsNext one a b (inl x) (inr y) = absurd (good_or_not r c y.0 y.1 x.0 y.2)
+check_answer r c IsNext one a b (inr x) (inl y) = absurd (good_or_not r c x.0 x.1 y.0 x.2)
+check_answer r c IsNext one a b (inr x) (inr y) = x.3 ∙ one_fault r c x.0 y.0 x.1 y.1 x.2 y.2 ∙ sym y.3
 
 cert_answer : (IsNext : Cert → Answer → Type 0) (text : List ℕ) (said : Result ℕ (CertCode × ℕ)) → ((c : Cert) → Decides (IsNext c))
     → Decides (IsCertAnswer IsNext text said)
@@ -133,7 +133,7 @@ table_answer IsNext (Ok v) one a b x y = one v a b x y
 
 release_answer : (text : List ℕ) (r : Contents) → Decides (IsReleaseAnswer text r)
 unfolding Decides
-release_answer text r = cert_answer (λ c. IsCheckAnswer r c (report_text r, done)) text (verdict text) (λ c. check_answer r c (report_text r, done))
+release_answer text r = cert_answer (λ c. IsCheckAnswer r c (IsReport r)) text (verdict text) (λ c. check_answer r c (IsReport r) (λ a b x y. x ∙ sym y))
 
 -- the inputs of a check have one answer
 pub one_answer : (x : Inputs) (a b : Answer) → IsAnswer x a → IsAnswer x b → a ≡ b

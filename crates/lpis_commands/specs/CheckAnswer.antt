@@ -34,11 +34,11 @@ pub record Inputs : Type 0 where
 abbrev pub Answer : Type 0
 Answer = List ℕ × ℕ
 
--- of a release and a certificate: this answer where the certificate is good, else the line of the
--- lowest code that fails, with its first place
-abbrev pub IsCheckAnswer : Contents → Cert → Answer → Answer → Type 0
-IsCheckAnswer r c good a =
-    (IsGood r c × (a ≡ good))
+-- of a release and a certificate: what is said of a good certificate, else the line of the lowest
+-- code that fails, with its first place
+abbrev pub IsCheckAnswer : Contents → Cert → (Answer → Type 0) → Answer → Type 0
+IsCheckAnswer r c IsNext a =
+    (IsGood r c × IsNext a)
     ⊎ ((code : Condition) × (site : Site) × IsFault r c code site
     × (a ≡ (check_refusal_text (check.At code (location_of r c site)), refused)))
 
@@ -55,10 +55,13 @@ abbrev pub IsTableAnswer : {A : Type 0} → (A → Answer → Type 0) → Result
 IsTableAnswer IsNext (Err fault) a = a ≡ (refusal_text fault, unreadable)
 IsTableAnswer IsNext (Ok said) a = IsNext said a
 
+-- the report of a release, and the yes
+abbrev pub IsReport : Contents → Answer → Type 0
+IsReport r a = a ≡ (report_text r, done)
+
 -- of a release and the text of a certificate: the report where the certificate is good
 abbrev pub IsReleaseAnswer : List ℕ → Contents → Answer → Type 0
-IsReleaseAnswer text r = IsCertAnswer (λ c. IsCheckAnswer r c (report_text r, done)) text
-    (verdict text)
+IsReleaseAnswer text r = IsCertAnswer (λ c. IsCheckAnswer r c (IsReport r)) text (verdict text)
 
 -- the answer to three tables and a certificate: faults of the tables come first, then those of the
 -- certificate's text

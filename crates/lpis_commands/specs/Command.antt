@@ -6,7 +6,8 @@ use Rattle.clap.specs.Words.{with_subcommand}
 use Rattle.clap.specs.declared.builder.ArgAction.TheVariants.{Set}
 use Rattle.clap.specs.declared.builder.value_parser.ValueParser.TheVariants.{Unsigned}
 use Rattle.lpis_commands.specs.declared.command.Cmd.{Cmd}
-use Rattle.lpis_commands.specs.declared.command.Cmd.TheVariants.{Area, Cut, Check, Publish, Trace}
+use Rattle.lpis_commands.specs.declared.command.Cmd.TheVariants.{Area, Cut, Check, Exact}
+use Rattle.lpis_commands.specs.declared.command.Cmd.TheVariants.{Publish, Trace}
 
 -- a required argument of one word
 abbrev pub word_rule : Text → Rule
@@ -25,6 +26,16 @@ cut_app = with_rule (with_rule (new_app (codes "cut")) (word_rule (codes "dir"))
 abbrev pub check_app : App
 check_app = with_rule (with_rule (new_app (codes "check")) (word_rule (codes "dir")))
     (word_rule (codes "cert"))
+
+-- exact DB DIR
+abbrev pub exact_release_app : App
+exact_release_app = with_rule (with_rule (new_app (codes "exact")) (word_rule (codes "db")))
+    (word_rule (codes "dir"))
+
+-- exact DB DIR CERT OUT
+abbrev pub exact_app : App
+exact_app = with_rule (with_rule exact_release_app (word_rule (codes "cert")))
+    (word_rule (codes "out"))
 
 -- YEAR, a number from 1 to 9999
 abbrev pub year_rule : Rule
@@ -63,9 +74,13 @@ unchecked_app = with_subcommand (with_subcommand program_app area_app.top) cut_a
 abbrev pub unregistered_app : App
 unregistered_app = with_subcommand unchecked_app check_app.top
 
+-- the program with these, and the one that reads a register and writes a certificate
+abbrev pub unpublishing_app : App
+unpublishing_app = with_subcommand unregistered_app exact_app.top
+
 -- the program with its commands
 abbrev pub command_line_app : App
-command_line_app = with_subcommand (with_subcommand unregistered_app publish_app.top) trace_app.top
+command_line_app = with_subcommand (with_subcommand unpublishing_app publish_app.top) trace_app.top
 
 -- the word is a year's: decimal digits, after a plus or none, of a number from 1 to 9999
 abbrev pub IsYear : Text → ℕ → Type 0
@@ -81,6 +96,10 @@ IsNamed (Cut dir cert) name rows = (name ≡ codes "cut")
     × (first_of (codes "dir") rows ≡ Some dir.now) × (first_of (codes "cert") rows ≡ Some cert.now)
 IsNamed (Check dir cert) name rows = (name ≡ codes "check")
     × (first_of (codes "dir") rows ≡ Some dir.now) × (first_of (codes "cert") rows ≡ Some cert.now)
+IsNamed (Exact db dir cert out) name rows =
+    (name ≡ codes "exact") × (first_of (codes "db") rows ≡ Some db.now)
+    × (first_of (codes "dir") rows ≡ Some dir.now) × (first_of (codes "cert") rows ≡ Some cert.now)
+    × (first_of (codes "out") rows ≡ Some out.now)
 IsNamed (Publish db year dir cert) name rows =
     (name ≡ codes "publish") × (first_of (codes "db") rows ≡ Some db.now)
     × ((word : Text) × (first_of (codes "year") rows ≡ Some word) × IsYear word year)

@@ -1,9 +1,9 @@
 -- The answer to three tables that are to be cut: what the certificate's file gets, what is printed,
 -- and the status.
 use Rattle.std.specs.Prelude.{◌≡◌, ◌⊎◌, ◌++◌, ℕ, List, length, codes, Option, Some, None}
-use Rattle.std.specs.Prelude.{MatchOption, Result, Ok, Err, sum_by}
+use Rattle.std.specs.Prelude.{Result, Ok, Err, sum_by}
 use Rattle.std.specs.Fmt.{decimal}
-use Rattle.std.specs.Io.KnownBytes.{Appends, Keeps}
+use Rattle.std.specs.Io.KnownBytes.{Keeps}
 use Rattle.lpis_covers.specs.declared.fault.TableFault.{TableFault}
 use Rattle.lpis_parcels.specs.Release.{Contents, release_of}
 use Rattle.lpis_cert.specs.declared.cert.Cert.{Cert}
@@ -12,25 +12,18 @@ use Rattle.lpis_cert.specs.Contents.{cert_text}
 use Rattle.lpis_cutter.specs.declared.fault.Refusal.{Refusal}
 use Rattle.lpis_cutter.specs.Refusals.{Says}
 use Rattle.lpis_commands.specs.declared.failure.Failure.{Failure}
-use Rattle.lpis_commands.specs.declared.failure.Failure.TheVariants.{Write}
-use Rattle.lpis_commands.specs.declared.failure.Name.TheVariants as name
 use Rattle.lpis_commands.specs.CutRefusals.{cut_refusal_text}
 use Rattle.lpis_commands.specs.Failures.{IsUnreadRelease}
+use Rattle.lpis_commands.specs.Outputs.{BreaksOff, Held, Outputs}
 use Rattle.lpis_commands.specs.Refusals.{refusal_text}
 use Rattle.lpis_commands.specs.Status.{done, refused, unreadable}
-use Rattle.lpis_commands.specs.Streams.{Begins, IsRead}
+use Rattle.lpis_commands.specs.Streams.{IsRead}
 
 -- the bytes of three tables
 pub record Tables : Type 0 where
   pub parcels : List ℕ
   pub covers : List ℕ
   pub classes : List ℕ
-
--- the certificate's text, if there is one; the line that is printed; the status
-pub record CutAnswer : Type 0 where
-  pub cert : Option (List ℕ)
-  pub line : List ℕ
-  pub status : ℕ
 
 -- the line of a certificate's counts
 abbrev pub counts_text : Cert → List ℕ
@@ -39,14 +32,14 @@ counts_text c =
     ++ codes " pairs " ++ decimal (length c.pairs) ++ codes "\n"
 
 -- a certificate was cut
-pub record IsCut (a : CutAnswer) : Type 0 where
+pub record IsCut (a : Outputs) : Type 0 where
   pub certificate : Cert
   pub text : a.cert ≡ Some (cert_text certificate)
   pub line : a.line ≡ counts_text certificate
   pub status : a.status ≡ done
 
 -- the release is refused, and what the refusal says of it holds
-pub record IsRefused (r : Contents) (a : CutAnswer) : Type 0 where
+pub record IsRefused (r : Contents) (a : Outputs) : Type 0 where
   pub refusal : Refusal
   pub says : Says r refusal
   pub no_text : a.cert ≡ None
@@ -54,52 +47,26 @@ pub record IsRefused (r : Contents) (a : CutAnswer) : Type 0 where
   pub status : a.status ≡ refused
 
 -- the tables are those of no release
-pub record IsUnreadable (fault : TableFault) (a : CutAnswer) : Type 0 where
+pub record IsUnreadable (fault : TableFault) (a : Outputs) : Type 0 where
   pub no_text : a.cert ≡ None
   pub line : a.line ≡ refusal_text fault
   pub status : a.status ≡ unreadable
 
 -- of a release, or of the tables' first fault
-abbrev pub IsCutAnswer : Result Contents TableFault → CutAnswer → Type 0
+abbrev pub IsCutAnswer : Result Contents TableFault → Outputs → Type 0
 IsCutAnswer (Ok r) a = IsCut a ⊎ IsRefused r a
 IsCutAnswer (Err fault) a = IsUnreadable fault a
 
 -- the tables are what three readers reported, as far as it is known, and this is an answer to them
-pub record Cuts (parcels covers classes : Option (List ℕ)) (a : CutAnswer) : Type 0 where
+pub record Cuts (parcels covers classes : Option (List ℕ)) (a : Outputs) : Type 0 where
   pub tables : Tables
   pub of_parcels : IsRead tables.parcels parcels
   pub of_covers : IsRead tables.covers covers
   pub of_classes : IsRead tables.classes classes
   pub answer : IsCutAnswer (release_of tables.parcels tables.covers tables.classes) a
 
--- a writer got a text where there is one, else nothing
-abbrev pub Gets : Option (List ℕ) → Option (List ℕ) → Option (List ℕ) → Type 0
-Gets old new text = MatchOption text (Keeps old new) (Appends old new)
-
--- it got a beginning of a text that there is
-abbrev pub GetsPart : Option (List ℕ) → Option (List ℕ) → Option (List ℕ) → Type 0
-GetsPart old new text = MatchOption text ⊥ (Begins old new)
-
--- what a run's two writers hold, the certificate's and the other: before, and after
-pub record Held : Type 0 where
-  pub cert : Option (List ℕ)
-  pub out : Option (List ℕ)
-
-abbrev pub held : Option (List ℕ) → Option (List ℕ) → Held
-held cert out = record { cert = cert; out = out }
-
--- the run answered with this status, and wrote the certificate, if there is one, and the line
-pub record Writes (a : CutAnswer) (status : ℕ) (old new : Held) : Type 0 where
-  pub status_told : status ≡ a.status
-  pub certificate : Gets old.cert new.cert a.cert
-  pub line : Appends old.out new.out a.line
-
--- the run gave no answer: a table was not read, and nothing was written; or the certificate's file
--- failed, and the line was not written; or the output failed, after all of the certificate
+-- the run gave no answer: a table was not read, and nothing was written; or an output failed
 abbrev pub Halts : Failure → (parcels covers classes : Option (List ℕ)) → Held → Held → Type 0
 Halts failure parcels covers classes old new =
     (IsUnreadRelease parcels covers failure × Keeps old.cert new.cert × Keeps old.out new.out)
-    ⊎ ((a : CutAnswer) × Cuts parcels covers classes a × (failure ≡ Write name.Cert)
-    × GetsPart old.cert new.cert a.cert × Keeps old.out new.out)
-    ⊎ ((a : CutAnswer) × Cuts parcels covers classes a × (failure ≡ Write name.Out)
-    × Gets old.cert new.cert a.cert × Begins old.out new.out a.line)
+    ⊎ ((a : Outputs) × Cuts parcels covers classes a × BreaksOff a failure old new)

@@ -20,14 +20,20 @@ tables_in dir = (in_folder dir (codes "parcels.csv"), Parcels)
     ∷ (in_folder dir (codes "covers.csv"), Covers) ∷ (in_folder dir (codes "classes.csv"), Classes)
     ∷ []
 
+-- the lineage table in a folder
+abbrev pub lineage_file : List ℕ → List ℕ × Name
+lineage_file dir = (in_folder dir (codes "lineage.csv"), Lineage)
+
 -- the files of a command beside its register, in the order in which they are opened, each a path
 -- and the name by which a failure reports it
 abbrev pub files_of : Cmd → List (List ℕ × Name)
 files_of (cmd.Area file) = (file.now, Area) ∷ []
 files_of (cmd.Cut dir cert) = tables_in dir.now ++ (cert.now, Cert) ∷ []
 files_of (cmd.Check dir cert) = tables_in dir.now ++ (cert.now, Cert) ∷ []
+files_of (cmd.Exact db dir cert out) =
+    tables_in dir.now ++ (cert.now, Cert) ∷ lineage_file dir.now ∷ (out.now, Cert) ∷ []
 files_of (cmd.Publish db year dir cert) =
-    tables_in dir.now ++ (cert.now, Cert) ∷ (in_folder dir.now (codes "lineage.csv"), Lineage) ∷ []
+    tables_in dir.now ++ (cert.now, Cert) ∷ lineage_file dir.now ∷ []
 files_of (cmd.Trace db id) = []
 
 -- ---- what is seen of files
@@ -41,12 +47,15 @@ abbrev pub listed : CommandFiles → List (List ℕ × Name)
 listed (files.Area table) = shown table ∷ []
 listed (files.Cut tables cert) = tables_listed tables ++ shown cert ∷ []
 listed (files.Check tables cert) = tables_listed tables ++ shown cert ∷ []
+listed (files.Exact db tables cert lineage out) =
+    tables_listed tables ++ shown cert ∷ shown lineage ∷ shown out ∷ []
 listed (files.Publish db year tables cert lineage) =
     tables_listed tables ++ shown cert ∷ shown lineage ∷ []
 listed (files.Trace db id) = []
 
 -- the register, and the year or the identifier, are those of the command
 abbrev pub HasWords : Cmd → CommandFiles → Type 0
+HasWords (cmd.Exact db dir cert out) (files.Exact d tables c lineage o) = d.now ≡ db.now
 HasWords (cmd.Publish db year dir cert) (files.Publish d y tables c lineage) =
     (d.now ≡ db.now) × (y ≡ year)
 HasWords (cmd.Trace db id) (files.Trace d i) = (d.now ≡ db.now) × (i.now ≡ id.now)

@@ -7,6 +7,7 @@ pub mod CutRefusals
 pub mod Failures
 pub mod Files
 pub mod Inputs
+pub mod Outputs
 pub mod Refusals
 pub mod Report
 pub mod Status

@@ -6,7 +6,7 @@ ghost use Rattle.lpis_cert.specs.declared.cert.Cert.{Cert};
 ghost use Rattle.lpis_checker.specs.GoodCertificate.{IsGood};
 ghost use Rattle.lpis_checker.specs.SoundMap.{IsSoundMap};
 ghost use Rattle.lpis_commands.specs.CheckAnswer.{AreRead, Ends, Halts, Inputs, IsAnswer};
-ghost use Rattle.lpis_commands.specs.CheckAnswer.{IsCheckAnswer, IsProved, IsReleaseAnswer};
+ghost use Rattle.lpis_commands.specs.CheckAnswer.{IsCheckAnswer, IsProved, IsReleaseAnswer, IsReport};
 ghost use Rattle.lpis_commands.specs.Failures.{IsUnchecked};
 ghost use Rattle.lpis_commands.specs.Inputs.{IsReadAs, inputs_of};
 ghost use Rattle.lpis_commands.specs.Refusals.{cert_refusal_text, check_refusal_text};
@@ -81,8 +81,7 @@ fn report(alloc: Global, yes: &Yes<'_>) -> Result<Answer, AllocError>
 /// The answer to a release and a certificate.
 fn answer_to_cert(alloc: Global, release: &Release, cert: &Cert) -> Result<Answer, AllocError>
     ensures answer { IfOk result
-        (λ a. IsCheckAnswer release.now cert.now (report_text release.now, done)
-        (a.text.items, a.status)) }
+        (λ a. IsCheckAnswer release.now cert.now (IsReport release.now) (a.text.items, a.status)) }
     ensures proved { IfOk result (λ a. a.status ≡ done → IsSoundMap release.now
         × IsGood release.now cert.now) }
 {

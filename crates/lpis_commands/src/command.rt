@@ -4,9 +4,10 @@ ghost use Rattle.std.specs.Prelude.{◌≡◌, IfOk, IfSome, Some, codes, false,
 ghost use Rattle.clap.specs.Words.{FailsBy, Text, fault_of, first_of, found_of, rows_of, rule_of};
 ghost use Rattle.clap.specs.Words.{subcommand_of};
 ghost use Rattle.lpis_commands.specs.Command.{IsCommand, IsNamed, IsYear, area_app, check_app};
-ghost use Rattle.lpis_commands.specs.Command.{command_line_app, cut_app, program_app};
-ghost use Rattle.lpis_commands.specs.Command.{publish_app, publish_year_app, trace_app};
-ghost use Rattle.lpis_commands.specs.Command.{unchecked_app, unregistered_app, word_rule};
+ghost use Rattle.lpis_commands.specs.Command.{command_line_app, cut_app, exact_app};
+ghost use Rattle.lpis_commands.specs.Command.{exact_release_app, program_app, publish_app};
+ghost use Rattle.lpis_commands.specs.Command.{publish_year_app, trace_app, unchecked_app};
+ghost use Rattle.lpis_commands.specs.Command.{unpublishing_app, unregistered_app, word_rule};
 ghost use Rattle.lpis_commands.specs.Command.{year_rule};
 ghost use Rattle.lpis_commands.specs.private.Commands.{IsCommandOf};
 
@@ -50,6 +51,17 @@ pub enum Cmd<'a> {
         /// The certificate's path.
         cert: &'a str,
     },
+    /// The blocks of a certificate that the marked rows of a lineage table ask for.
+    Exact {
+        /// The register's path.
+        db: &'a str,
+        /// The path of the folder of the release's tables.
+        dir: &'a str,
+        /// The path of the certificate that is read.
+        cert: &'a str,
+        /// The path at which the certificate with its blocks is written.
+        out: &'a str,
+    },
     /// What became of an identifier.
     Trace {
         /// The register's path.
@@ -92,6 +104,15 @@ fn dir_argument<'a>(alloc: Global) -> Arg<'a>
     ensures local { result.global ≡ false }
 {
     let text = "A folder with parcels.csv, covers.csv and classes.csv";
+    word_argument(alloc, "dir", text)
+}
+
+/// The folder of a release and its lineage.
+fn submission_argument<'a>(alloc: Global) -> Arg<'a>
+    ensures rule { rule_of result ≡ word_rule (codes "dir") }
+    ensures local { result.global ≡ false }
+{
+    let text = "A folder with parcels.csv, covers.csv, classes.csv and lineage.csv";
     word_argument(alloc, "dir", text)
 }
 
@@ -162,10 +183,31 @@ fn publish_command_for_year<'a>(alloc: Global) -> Result<Command<'a>, AllocError
 fn publish_command<'a>(alloc: Global) -> Result<Command<'a>, AllocError>
     ensures { IfOk result (λ c. IsCommandOf publish_app c) }
 {
-    let text = "A folder with parcels.csv, covers.csv, classes.csv and lineage.csv";
-    let dir = word_argument(alloc, "dir", text);
+    let dir = submission_argument(alloc);
     let cert = cert_argument(alloc);
     publish_command_for_year(alloc)?.arg(dir)?.arg(cert)
+}
+
+/// `exact` with the register and the folder.
+fn exact_command_for_release<'a>(alloc: Global) -> Result<Command<'a>, AllocError>
+    ensures { IfOk result (λ c. IsCommandOf exact_release_app c) }
+{
+    let db = db_argument(alloc);
+    let dir = submission_argument(alloc);
+    Command::new(alloc, "exact")
+        .about("Gives a certificate the flats for the splits and merges that are marked exact")
+        .arg(db)?
+        .arg(dir)
+}
+
+/// `exact DB DIR CERT OUT`.
+fn exact_command<'a>(alloc: Global) -> Result<Command<'a>, AllocError>
+    ensures { IfOk result (λ c. IsCommandOf exact_app c) }
+{
+    let cert = cert_argument(alloc);
+    let text = "The file that the certificate with these flats is written to";
+    let out = word_argument(alloc, "out", text);
+    exact_command_for_release(alloc)?.arg(cert)?.arg(out)
 }
 
 /// `trace DB ID`.
@@ -208,13 +250,22 @@ fn line_without_register<'a>(alloc: Global) -> Result<Command<'a>, AllocError>
     line.subcommand(check)
 }
 
+/// The program with the commands that change no register.
+fn line_without_publish<'a>(alloc: Global) -> Result<Command<'a>, AllocError>
+    ensures { IfOk result (λ c. IsCommandOf unpublishing_app c) }
+{
+    let exact = exact_command(alloc)?;
+    let line = line_without_register(alloc)?;
+    line.subcommand(exact)
+}
+
 /// The program's command line.
 fn command_line<'a>(alloc: Global) -> Result<Command<'a>, AllocError>
     ensures { IfOk result (λ c. IsCommandOf command_line_app c) }
 {
     let publish = publish_command(alloc)?;
     let trace = trace_command(alloc)?;
-    let line = line_without_register(alloc)?;
+    let line = line_without_publish(alloc)?;
     line.subcommand(publish)?.subcommand(trace)
 }
 
@@ -254,6 +305,17 @@ fn publish_named<'a>(matches: &ArgMatches<'a>) -> Option<Cmd<'a>>
     })
 }
 
+/// `exact` with its words.
+fn exact_named<'a>(matches: &ArgMatches<'a>) -> Option<Cmd<'a>>
+    ensures { IfSome result (λ c. IsNamed c (codes "exact") (rows_of (found_of matches.now))) }
+{
+    let db = word_of(matches, "db")?;
+    let dir = word_of(matches, "dir")?;
+    let cert = word_of(matches, "cert")?;
+    let out = word_of(matches, "out")?;
+    Some(Cmd::Exact { db, dir, cert, out })
+}
+
 /// `trace` with its words.
 fn trace_named<'a>(matches: &ArgMatches<'a>) -> Option<Cmd<'a>>
     ensures { IfSome result (λ c. IsNamed c (codes "trace") (rows_of (found_of matches.now))) }
@@ -282,6 +344,7 @@ fn command_named<'a>(name: &str, matches: &ArgMatches<'a>) -> Option<Cmd<'a>>
             let cert = word_of(matches, "cert")?;
             Some(Cmd::Check { dir, cert })
         }
+        "exact" => exact_named(matches),
         "publish" => publish_named(matches),
         "trace" => trace_named(matches),
         _ => None,

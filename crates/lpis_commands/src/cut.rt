@@ -1,53 +1,26 @@
 //! The run of `cut`, over any readers and writers.
 
-ghost use Rattle.std.specs.Prelude.{◌≡◌, IfErr, IfOk, OnOk, Ok};
-ghost use Rattle.lpis_cert.specs.Contents.{cert_text};
+ghost use Rattle.std.specs.Prelude.{◌≡◌, IfErr, IfOk, Ok};
 ghost use Rattle.lpis_parcels.specs.Release.{release_of};
-ghost use Rattle.lpis_commands.specs.CutAnswer.{CutAnswer, Cuts, Gets, GetsPart, Halts};
-ghost use Rattle.lpis_commands.specs.CutAnswer.{IsCut, IsCutAnswer, IsUnreadable, Writes};
-ghost use Rattle.lpis_commands.specs.CutAnswer.{counts_text, held};
+ghost use Rattle.lpis_commands.specs.CutAnswer.{Cuts, Halts, IsCut, IsCutAnswer, IsUnreadable};
+ghost use Rattle.lpis_commands.specs.CutAnswer.{counts_text};
 ghost use Rattle.lpis_commands.specs.CutRefusals.{cut_refusal_text};
-ghost use Rattle.lpis_commands.specs.private.CutRuns.{answered};
 ghost use Rattle.lpis_commands.specs.Failures.{IsUnreadRelease};
+ghost use Rattle.lpis_commands.specs.Outputs.{Outputs, Writes, held, outputs_of};
 ghost use Rattle.lpis_commands.specs.Status.{done, refused};
-ghost use Rattle.lpis_commands.specs.declared.failure.Failure.{Failure};
-ghost use Rattle.lpis_commands.specs.declared.failure.Name.{Name};
 
 use crate::answer::Answer;
 use crate::cut_line::{print_counts, print_refusal};
-use crate::failure::{Failure, Name};
-use crate::outputs::write_text;
+use crate::failure::Failure;
+use crate::outcome::Outcome;
 use crate::releases::{TableBytes, read_tables, release_in};
 use crate::status::{DONE, REFUSED};
-use lpis_cert::{Cert, write_cert};
+use lpis_cert::Cert;
 use lpis_covers::TableFault;
 use lpis_cutter::{CutFault, Refusal, cut};
 use lpis_parcels::Release;
 use std::alloc::{AllocError, Global};
 use std::io::{Read, Write};
-
-/// The text of the certificate that was cut, if there is one, and what is printed.
-#[derive(Drop)]
-struct Outcome {
-    cert: Option<Vec<u8>>,
-    printed: Answer,
-}
-
-impl Outcome {
-    /// Writes the certificate's text, if there is one.
-    fn write_cert_to<E: Write>(&self, cert_out: &mut E) -> Result<(), Failure>
-        ensures whole { OnOk result (Gets (E.contents cert_out.old) (E.contents cert_out.new)
-            (answered self.now).cert) }
-        ensures part { IfErr result (λ failure. (failure ≡ Failure.Write Name.Cert)
-            × GetsPart (E.contents cert_out.old) (E.contents cert_out.new)
-            (answered self.now).cert) }
-    {
-        match &self.cert {
-            Some(text) => write_text(text.as_slice(), Name::Cert, cert_out),
-            None => Ok(()),
-        }
-    }
-}
 
 /// The line of a release that gets no certificate.
 fn refuse_release(alloc: Global, refusal: &Refusal) -> Result<Answer, AllocError>
@@ -75,62 +48,41 @@ fn count_cert(alloc: Global, cert: &Cert) -> Result<Answer, AllocError>
     }
 }
 
-/// The text of a certificate.
-fn text_of(alloc: Global, cert: &Cert) -> Result<Vec<u8>, AllocError>
-    ensures { IfOk result (λ v. v.items ≡ cert_text cert.now) }
-{
-    let mut text = Vec::new(alloc);
-    match write_cert(cert, &mut text) {
-        Ok(()) => Ok(text),
-        Err(_) => Err(AllocError),
-    }
-}
-
 /// The outcome of a certificate that was cut.
 fn outcome_of(alloc: Global, cert: &Cert) -> Result<Outcome, AllocError>
-    ensures { IfOk result (λ o. IsCut (answered o)) }
+    ensures { IfOk result (λ o. IsCut (outputs_of o)) }
 {
-    let text = text_of(alloc, cert)?;
     let printed = count_cert(alloc, cert)?;
-    Ok(Outcome {
-        cert: Some(text),
-        printed,
-    })
+    Outcome::with_cert(alloc, cert, printed)
 }
 
 /// The answer to a release.
 fn answer_to_release(alloc: Global, release: &Release) -> Result<Outcome, AllocError>
-    ensures { IfOk result (λ o. IsCutAnswer (Ok release.now) (answered o)) }
+    ensures { IfOk result (λ o. IsCutAnswer (Ok release.now) (outputs_of o)) }
 {
     match cut(alloc, release) {
         Ok(cert) => outcome_of(alloc, &cert),
         Err(CutFault::Memory) => Err(AllocError),
         Err(CutFault::Refused(refusal)) => {
             let printed = refuse_release(alloc, &refusal)?;
-            Ok(Outcome {
-                cert: None,
-                printed,
-            })
+            Ok(Outcome::without_cert(printed))
         }
     }
 }
 
 /// The line of a refused table.
 fn refuse_tables(alloc: Global, fault: &TableFault) -> Result<Outcome, AllocError>
-    ensures { IfOk result (λ o. IsUnreadable fault.now (answered o)) }
+    ensures { IfOk result (λ o. IsUnreadable fault.now (outputs_of o)) }
 {
     let printed = Answer::refuse_table(alloc, fault)?;
-    Ok(Outcome {
-        cert: None,
-        printed,
-    })
+    Ok(Outcome::without_cert(printed))
 }
 
 /// The answer to three tables.
 fn answer_to(alloc: Global, tables: TableBytes) -> Result<Outcome, AllocError>
     ensures { IfOk result
         (λ o. IsCutAnswer (release_of tables.parcels.items tables.covers.items tables.classes.items)
-        (answered o)) }
+        (outputs_of o)) }
 {
     match release_in(alloc, tables) {
         Ok(release) => answer_to_release(alloc, &release),
@@ -147,7 +99,7 @@ fn decide<P: Read + Drop, C: Read + Drop, K: Read + Drop>(
     classes: K,
 ) -> Result<Outcome, Failure>
     ensures cuts { IfOk result (λ o. Cuts (P.remaining parcels) (C.remaining covers)
-        (K.remaining classes) (answered o)) }
+        (K.remaining classes) (outputs_of o)) }
     ensures unread { IfErr result (IsUnreadRelease (P.remaining parcels) (C.remaining covers)) }
 {
     let tables = read_tables(alloc, parcels, covers, classes)?;
@@ -170,7 +122,7 @@ pub fn run_cut<P: Read + Drop, C: Read + Drop, K: Read + Drop, E: Write, W: Writ
     cert_out: &mut E,
     out: &mut W,
 ) -> Result<u8, Failure>
-    ensures answer { IfOk result (λ status. (a : CutAnswer)
+    ensures answer { IfOk result (λ status. (a : Outputs)
         × Cuts (P.remaining parcels) (C.remaining covers)
         (K.remaining classes) a
         × Writes a status (held (E.contents cert_out.old) (W.contents out.old))
@@ -183,6 +135,5 @@ pub fn run_cut<P: Read + Drop, C: Read + Drop, K: Read + Drop, E: Write, W: Writ
         (held (E.contents cert_out.new) (W.contents out.new))) }
 {
     let outcome = decide(alloc, parcels, covers, classes)?;
-    outcome.write_cert_to(cert_out)?;
-    outcome.printed.write_to(out)
+    outcome.write_to(cert_out, out)
 }

@@ -1,8 +1,8 @@
 //! The files of a command.
 
 ghost use Rattle.std.specs.Prelude.{◌≡◌, IfOk};
-ghost use Rattle.lpis_commands.specs.Files.{HasWords, files_of, in_folder, listed, shown};
-ghost use Rattle.lpis_commands.specs.Files.{tables_in, tables_listed};
+ghost use Rattle.lpis_commands.specs.Files.{HasWords, files_of, in_folder, lineage_file, listed};
+ghost use Rattle.lpis_commands.specs.Files.{shown, tables_in, tables_listed};
 
 use crate::command::Cmd;
 use crate::failure::Name;
@@ -50,6 +50,19 @@ pub enum CommandFiles<'a> {
         tables: TableFiles,
         /// The certificate.
         cert: NamedFile,
+    },
+    /// Of `exact`.
+    Exact {
+        /// The path of the register, which is opened before the files.
+        db: &'a str,
+        /// The tables of a release.
+        tables: TableFiles,
+        /// The certificate.
+        cert: NamedFile,
+        /// The lineage table.
+        lineage: NamedFile,
+        /// The certificate with its blocks, which is written.
+        out: NamedFile,
     },
     /// Of `publish`.
     Publish {
@@ -100,6 +113,13 @@ fn tables_of(alloc: Global, dir: &str) -> Result<TableFiles, AllocError>
     })
 }
 
+/// The lineage table of the release in a folder.
+fn lineage_in(alloc: Global, dir: &str) -> Result<NamedFile, AllocError>
+    ensures { IfOk result (λ i. shown i ≡ lineage_file dir.now) }
+{
+    file_in(alloc, dir, "lineage.csv", Name::Lineage)
+}
+
 /// The files of a command, by its words.
 pub fn named_files<'a>(alloc: Global, command: Cmd<'a>) -> Result<CommandFiles<'a>, AllocError>
     ensures files { IfOk result (λ i. listed i ≡ files_of command.entry) }
@@ -117,6 +137,13 @@ pub fn named_files<'a>(alloc: Global, command: Cmd<'a>) -> Result<CommandFiles<'
             tables: tables_of(alloc, dir)?,
             cert: file_at(alloc, cert, Name::Cert)?,
         }),
+        Cmd::Exact { db, dir, cert, out } => Ok(CommandFiles::Exact {
+            db,
+            tables: tables_of(alloc, dir)?,
+            cert: file_at(alloc, cert, Name::Cert)?,
+            lineage: lineage_in(alloc, dir)?,
+            out: file_at(alloc, out, Name::Cert)?,
+        }),
         Cmd::Publish {
             db,
             year,
@@ -127,7 +154,7 @@ pub fn named_files<'a>(alloc: Global, command: Cmd<'a>) -> Result<CommandFiles<'
             year,
             tables: tables_of(alloc, dir)?,
             cert: file_at(alloc, cert, Name::Cert)?,
-            lineage: file_in(alloc, dir, "lineage.csv", Name::Lineage)?,
+            lineage: lineage_in(alloc, dir)?,
         }),
         Cmd::Trace { db, id } => Ok(CommandFiles::Trace { db, id }),
     }

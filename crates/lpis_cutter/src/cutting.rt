@@ -217,11 +217,12 @@ fn join(alloc: Global, budget: Budget, release: &Release, filled: Filled) -> Res
     if let Some(refusal) = later {
         return Err(CutFault::Refused(refusal));
     }
-    finish(release, &numbered, parts, lines)
+    finish(alloc, release, &numbered, parts, lines)
 }
 
 /// The certificate of all parts and lines, where the lines are not too many.
 fn finish(
+    alloc: Global,
     release: &Release,
     numbered: &Numbered,
     parts: Parts,
@@ -236,7 +237,7 @@ fn finish(
     }
     let mut lines = lines;
     lines.truncate(GREATEST_COUNT as usize);
-    Ok(cert_of(parts, lines))
+    Ok(cert_of(alloc, parts, lines))
 }
 
 /// The certificate of a release, or what it is refused for.

@@ -111,8 +111,8 @@ pub(crate) fn with_parcel(parts: Parts, id: Id, own: Vec<Triangle>) -> Result<Pa
     })
 }
 
-/// The certificate of all parts and pair lines.
-pub(crate) fn cert_of(parts: Parts, pairs: Vec<PairLine>) -> Cert
+/// The certificate of all parts and pair lines, without exact blocks.
+pub(crate) fn cert_of(alloc: Global, parts: Parts, pairs: Vec<PairLine>) -> Cert
     requires { length pairs.items ≤ greatest_count }
 {
     let Parts {
@@ -124,6 +124,7 @@ pub(crate) fn cert_of(parts: Parts, pairs: Vec<PairLine>) -> Cert
     Cert {
         pieces: Sequence::new(pieces),
         parcels: Sequence::new(parcels),
+        exact: Sequence::new(Vec::new(alloc)),
         pairs: Sequence::new(pairs),
     }
 }

@@ -42,6 +42,16 @@ fn publish(db: &str, year: u16) -> Cmd<'_> {
     }
 }
 
+/// The blocks for a folder `a` and a certificate `b`, written to `c`.
+fn exact<'a>(db: &'a str) -> Cmd<'a> {
+    Cmd::Exact {
+        db,
+        dir: "a",
+        cert: "b",
+        out: "c",
+    }
+}
+
 #[test]
 fn words_ask_for_a_command(rt: HostRuntime) -> Result<(), Fail> {
     for (line, command) in [
@@ -60,6 +70,7 @@ fn words_ask_for_a_command(rt: HostRuntime) -> Result<(), Fail> {
                 cert: "b",
             },
         ),
+        ("lpis exact a.db a b c", exact("a.db")),
         ("lpis publish a.db 2024 a b", publish("a.db", 2024)),
         (
             "lpis trace a.db A-1",
@@ -84,6 +95,7 @@ fn words_ask_for_a_command(rt: HostRuntime) -> Result<(), Fail> {
                 cert: "check",
             },
         ),
+        ("lpis exact exact a b c", exact("exact")),
         ("lpis publish 7 7 a b", publish("7", 7)),
         (
             "trace trace trace trace",
@@ -118,6 +130,8 @@ fn other_words_are_faults(rt: HostRuntime) -> Result<(), Fail> {
         ("lpis area", ErrorKind::MissingRequiredArgument),
         ("lpis area a.csv b.csv", ErrorKind::UnknownArgument),
         ("lpis check a", ErrorKind::MissingRequiredArgument),
+        ("lpis exact a.db a b", ErrorKind::MissingRequiredArgument),
+        ("lpis exact a.db a b c d", ErrorKind::UnknownArgument),
         ("lpis retrace a b", ErrorKind::InvalidSubcommand),
         ("lpis --help", ErrorKind::DisplayHelp),
         ("lpis --version", ErrorKind::DisplayVersion),
