@@ -1,0 +1,3 @@
+pub mod ExactLineage
+pub mod Shapes
+pub mod Asking

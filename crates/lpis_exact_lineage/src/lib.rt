@@ -1,0 +1,9 @@
+//! Exact lineage: what rows that are marked exact ask for, and what it says of the points of the
+//! plane once it is shown.
+#![tactic(auto)]
+
+mod asking;
+mod laws;
+
+pub use asking::{AskFault, wanted_parts};
+pub use laws::{sound_maps_have_such_shapes, what_is_shown_has_exact_lineage};
