@@ -74,7 +74,7 @@ fn publish_at_last(rt: &HostRuntime, office: &mut Office, inputs: Inputs<'_>) ->
 
 #[test]
 fn a_publication_fails_at_each_read_of_each_input(rt: HostRuntime) -> Result<(), Fail> {
-    let texts = Texts::new(&rt, Map::Halves, "A,B\nA,C\n")?;
+    let texts = Texts::new(&rt, Map::Halves, "A,B\nA,C\n", "")?;
     let mut office = Register::open_in_memory(rt.alloc())?;
     publish_at_last(&rt, &mut office, texts.inputs())
 }
@@ -88,7 +88,7 @@ fn expect_published(
     text: &str,
     writes: usize,
 ) -> Result<(), Fail> {
-    let texts = Texts::new(rt, map, rows)?;
+    let texts = Texts::new(rt, map, rows, "")?;
     let mut out = Paper::new(rt.alloc(), Some(writes));
     let answer = publish(rt, office, year, texts.inputs(), None, &mut out);
     hold(answer == Err(Failure::Write(Name::Out)), "a failed write")?;
@@ -130,7 +130,7 @@ fn a_publication_stays_where_its_output_fails(rt: HostRuntime) -> Result<(), Fai
 /// has the square.
 fn refuse_in_part(rt: &HostRuntime, office: &mut Office) -> Result<(), Fail> {
     take_all(rt, office, WITH_SQUARE.as_slice())?;
-    let texts = Texts::new(rt, Map::Halves, "")?;
+    let texts = Texts::new(rt, Map::Halves, "", "")?;
     for (word, writes) in [("A", 0), ("Q", 0), ("Q", 1)] {
         let mut out = Paper::new(rt.alloc(), Some(writes));
         let answer = trace(rt, office, word, &mut out);

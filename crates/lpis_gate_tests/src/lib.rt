@@ -8,6 +8,8 @@
 #[cfg(test)]
 mod devices;
 #[cfg(test)]
+mod exact;
+#[cfg(test)]
 mod failures;
 #[cfg(test)]
 mod histories;

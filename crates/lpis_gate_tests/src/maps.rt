@@ -1,17 +1,12 @@
 //! Releases whose parcels are strips of a map, and what is handed in to publish one.
 
-use lpis_testing::{CLASSES, PARCELS_CERT, SQUARE_CERT};
+use lpis_testing::{CLASSES, PARCELS_CERT_WRITTEN, SQUARE_CERT_WRITTEN};
 use std::test::Fail;
 
-/// A parcel of one piece of class G: a strip of the map, ten metres high, between two distances in
-/// metres.
+/// A parcel of one piece of class G: the two identifiers, and where it begins and ends, in metres. It
+/// is a strip of the map, ten metres high.
 #[derive(Clone, Copy)]
-pub struct Strip {
-    parcel: &'static str,
-    piece: &'static str,
-    west: u32,
-    east: u32,
-}
+pub struct Strip(&'static str, &'static str, u32, u32);
 
 /// A map.
 #[derive(Clone, Copy)]
@@ -32,132 +27,75 @@ pub enum Map {
     Seven,
     /// What became of them. The parcel `both` has three predecessors.
     Six,
+    /// The halves, the second of which lacks a metre at its side.
+    Apart,
+    /// The square, as a parcel A beside a parcel K.
+    BesideKept,
+    /// The square, as a parcel K.
+    Kept,
+    /// The square, as a parcel K beside a parcel N.
+    KeptBesideNew,
+    /// Six parcels: two to be split, four to be merged.
+    Grouped,
+    /// What became of them.
+    Regrouped,
 }
 
-static WHOLE: [Strip; 1] = [Strip {
-    parcel: "A",
-    piece: "C1",
-    west: 0,
-    east: 10,
-}];
+static WHOLE: [Strip; 1] = [Strip("A", "C1", 0, 10)];
 
 static HALVES: [Strip; 3] = [
-    Strip {
-        parcel: "B",
-        piece: "b1",
-        west: 0,
-        east: 5,
-    },
-    Strip {
-        parcel: "C",
-        piece: "c1",
-        west: 5,
-        east: 10,
-    },
-    Strip {
-        parcel: "A",
-        piece: "C1",
-        west: 20,
-        east: 30,
-    },
+    Strip("B", "b1", 0, 5),
+    Strip("C", "c1", 5, 10),
+    Strip("A", "C1", 20, 30),
 ];
 
-static MERGED: [Strip; 1] = [Strip {
-    parcel: "B",
-    piece: "C1",
-    west: 0,
-    east: 10,
-}];
+static MERGED: [Strip; 1] = [Strip("B", "C1", 0, 10)];
 
-static REPLACED: [Strip; 1] = [Strip {
-    parcel: "D",
-    piece: "d1",
-    west: 0,
-    east: 10,
-}];
+static REPLACED: [Strip; 1] = [Strip("D", "d1", 0, 10)];
 
 static SEVEN: [Strip; 7] = [
-    Strip {
-        parcel: "kept",
-        piece: "p1",
-        west: 0,
-        east: 1,
-    },
-    Strip {
-        parcel: "split",
-        piece: "p2",
-        west: 1,
-        east: 2,
-    },
-    Strip {
-        parcel: "one",
-        piece: "p3",
-        west: 2,
-        east: 3,
-    },
-    Strip {
-        parcel: "other",
-        piece: "p4",
-        west: 3,
-        east: 4,
-    },
-    Strip {
-        parcel: "old",
-        piece: "p5",
-        west: 4,
-        east: 5,
-    },
-    Strip {
-        parcel: "drawn",
-        piece: "p6",
-        west: 5,
-        east: 6,
-    },
-    Strip {
-        parcel: "end",
-        piece: "p7",
-        west: 6,
-        east: 7,
-    },
+    Strip("kept", "p1", 0, 1),
+    Strip("split", "p2", 1, 2),
+    Strip("one", "p3", 2, 3),
+    Strip("other", "p4", 3, 4),
+    Strip("old", "p5", 4, 5),
+    Strip("drawn", "p6", 5, 6),
+    Strip("end", "p7", 6, 7),
 ];
 
 static SIX: [Strip; 6] = [
-    Strip {
-        parcel: "kept",
-        piece: "p1",
-        west: 0,
-        east: 1,
-    },
-    Strip {
-        parcel: "west",
-        piece: "p2",
-        west: 1,
-        east: 2,
-    },
-    Strip {
-        parcel: "east",
-        piece: "p3",
-        west: 2,
-        east: 3,
-    },
-    Strip {
-        parcel: "both",
-        piece: "p4",
-        west: 3,
-        east: 5,
-    },
-    Strip {
-        parcel: "new",
-        piece: "p5",
-        west: 5,
-        east: 6,
-    },
-    Strip {
-        parcel: "rest",
-        piece: "p6",
-        west: 6,
-        east: 7,
-    },
+    Strip("kept", "p1", 0, 1),
+    Strip("west", "p2", 1, 2),
+    Strip("east", "p3", 2, 3),
+    Strip("both", "p4", 3, 5),
+    Strip("new", "p5", 5, 6),
+    Strip("rest", "p6", 6, 7),
+];
+
+static APART: [Strip; 2] = [Strip("B", "b1", 0, 5), Strip("C", "c1", 6, 10)];
+
+static BESIDE_KEPT: [Strip; 2] = [Strip("A", "a1", 0, 5), Strip("K", "k1", 5, 10)];
+
+static KEPT: [Strip; 1] = [Strip("K", "k1", 0, 10)];
+
+static KEPT_BESIDE_NEW: [Strip; 2] = [Strip("K", "k1", 0, 7), Strip("N", "n1", 7, 10)];
+
+static GROUPED: [Strip; 6] = [
+    Strip("F", "p1", 0, 2),
+    Strip("A", "p2", 2, 4),
+    Strip("C", "p3", 4, 5),
+    Strip("D", "p4", 5, 6),
+    Strip("E", "p5", 6, 7),
+    Strip("B", "p6", 7, 8),
+];
+
+static REGROUPED: [Strip; 6] = [
+    Strip("f1", "p1", 0, 1),
+    Strip("f2", "p2", 1, 2),
+    Strip("a1", "p3", 2, 3),
+    Strip("a2", "p4", 3, 4),
+    Strip("N", "p5", 4, 6),
+    Strip("M", "p6", 6, 8),
 ];
 
 impl Map {
@@ -172,6 +110,12 @@ impl Map {
             Map::Replaced => REPLACED.as_slice(),
             Map::Seven => SEVEN.as_slice(),
             Map::Six => SIX.as_slice(),
+            Map::Apart => APART.as_slice(),
+            Map::BesideKept => BESIDE_KEPT.as_slice(),
+            Map::Kept => KEPT.as_slice(),
+            Map::KeptBesideNew => KEPT_BESIDE_NEW.as_slice(),
+            Map::Grouped => GROUPED.as_slice(),
+            Map::Regrouped => REGROUPED.as_slice(),
         }
     }
 }
@@ -208,9 +152,9 @@ pub struct Texts {
 }
 
 impl Texts {
-    /// Those of a map, with these rows of lineage. They stand under `old,new` where they have no
-    /// header of their own.
-    pub fn new(rt: &HostRuntime, map: Map, rows: &str) -> Result<Texts, Fail> {
+    /// Those of a map, with these rows of lineage and these blocks of marked rows. Rows stand under
+    /// `old,new` where they have no header of their own.
+    pub fn new(rt: &HostRuntime, map: Map, rows: &str, blocks: &str) -> Result<Texts, Fail> {
         let strips = map.strips();
         let header = if rows.starts_with("old,") {
             ""
@@ -220,7 +164,7 @@ impl Texts {
         Ok(Texts {
             parcels: parcels_of(rt, strips)?,
             covers: covers_of(rt, strips)?,
-            cert: cert_of(rt, strips)?,
+            cert: cert_of(rt, strips, blocks)?,
             lineage: format!(in rt.alloc(); "{header}{rows}")?,
         })
     }
@@ -238,7 +182,7 @@ impl Texts {
 
 /// The field of a strip's polygon.
 fn field_of(rt: &HostRuntime, strip: &Strip) -> Result<String, Fail> {
-    let (west, east) = (strip.west, strip.east);
+    let Strip(_, _, west, east) = *strip;
     Ok(format!(in rt.alloc(); "\"POLYGON(({west} 0,{east} 0,{east} 10,{west} 10,{west} 0))\"")?)
 }
 
@@ -246,7 +190,7 @@ fn field_of(rt: &HostRuntime, strip: &Strip) -> Result<String, Fail> {
 fn parcels_of(rt: &HostRuntime, strips: &[Strip]) -> Result<String, Fail> {
     let mut table = format!(in rt.alloc(); "parcel,wkt\n")?;
     for strip in strips {
-        let (parcel, field) = (strip.parcel, field_of(rt, strip)?);
+        let (parcel, field) = (strip.0, field_of(rt, strip)?);
         let field = field.as_str();
         table.push_str(format!(in rt.alloc(); "{parcel},{field}\n")?.as_str())?;
     }
@@ -257,31 +201,32 @@ fn parcels_of(rt: &HostRuntime, strips: &[Strip]) -> Result<String, Fail> {
 fn covers_of(rt: &HostRuntime, strips: &[Strip]) -> Result<String, Fail> {
     let mut table = format!(in rt.alloc(); "piece,parcel,class,wkt\n")?;
     for strip in strips {
-        let (piece, parcel, field) = (strip.piece, strip.parcel, field_of(rt, strip)?);
+        let (parcel, piece, field) = (strip.0, strip.1, field_of(rt, strip)?);
         let field = field.as_str();
         table.push_str(format!(in rt.alloc(); "{piece},{parcel},G,{field}\n")?.as_str())?;
     }
     Ok(table)
 }
 
-/// The certificate of strips in centimetres, each strip cut in two.
-fn cert_of(rt: &HostRuntime, strips: &[Strip]) -> Result<String, Fail> {
+/// The certificate of strips, each cut in two, with these blocks of marked rows.
+fn cert_of(rt: &HostRuntime, strips: &[Strip], blocks: &str) -> Result<String, Fail> {
     let alloc = rt.alloc();
-    let mut cert = format!(in alloc; "lpis-cert 1\n")?;
+    let mut cert = format!(in alloc; "lpis-cert 2\n")?;
     for strip in strips {
-        let piece = strip.piece;
-        let (west, east) = (u64::from(strip.west) * 100, u64::from(strip.east) * 100);
+        let piece = strip.1;
+        let (west, east) = (u64::from(strip.2) * 1000, u64::from(strip.3) * 1000);
         let block = format!(in alloc;
             "\
                 piece {piece} 2 0\n\
-                t {west} 0 {east} 0 {east} 1000\n\
-                t {west} 0 {east} 1000 {west} 1000\n"
+                t {west} 0 {east} 0 {east} 10000\n\
+                t {west} 0 {east} 10000 {west} 10000\n"
         )?;
         cert.push_str(block.as_str())?;
     }
     for strip in strips {
-        cert.push_str(format!(in alloc; "parcel {} 0\n", strip.parcel)?.as_str())?;
+        cert.push_str(format!(in alloc; "parcel {} 0\n", strip.0)?.as_str())?;
     }
+    cert.push_str(blocks)?;
     cert.push_str(format!(in alloc; "pairs {}\n", strips.len())?.as_str())?;
     let mut first: u32 = 0;
     for _ in strips {
@@ -295,8 +240,11 @@ fn cert_of(rt: &HostRuntime, strips: &[Strip]) -> Result<String, Fail> {
 
 #[test]
 fn certificates_are_those_of_the_square_and_its_halves(rt: HostRuntime) -> Result<(), Fail> {
-    for (map, wanted) in [(Map::Whole, SQUARE_CERT), (Map::Halves, PARCELS_CERT)] {
-        let cert = cert_of(&rt, map.strips())?;
+    for (map, wanted) in [
+        (Map::Whole, SQUARE_CERT_WRITTEN),
+        (Map::Halves, PARCELS_CERT_WRITTEN),
+    ] {
+        let cert = cert_of(&rt, map.strips(), "")?;
         assert!(rt; cert.as_str() == wanted);
     }
     Ok(())

@@ -4,7 +4,7 @@ use crate::devices::Paper;
 use crate::maps::{Inputs, Map, Texts};
 use lpis_commands::Failure;
 use lpis_covers::Id;
-use lpis_gate::{run_publish, run_trace};
+use lpis_gate::{run_exact, run_publish, run_trace};
 use lpis_lineage::{History, Row};
 use lpis_register::Register;
 use lpis_rings::Polygon;
@@ -34,6 +34,29 @@ pub fn publish(
         Halting::at(2, CLASSES, failing),
         Halting::at(3, inputs.cert, failing),
         Halting::at(4, inputs.lineage, failing),
+        out,
+    )
+}
+
+/// Asks for the blocks of marked rows. The input at this index fails after so many bytes, and those
+/// behind it at once.
+pub fn fill(
+    rt: &HostRuntime,
+    office: &Office,
+    inputs: Inputs<'_>,
+    failing: Option<(usize, usize)>,
+    cert_out: &mut Paper,
+    out: &mut Paper,
+) -> Result<u8, Failure> {
+    run_exact(
+        rt.alloc(),
+        office,
+        Halting::at(0, inputs.parcels, failing),
+        Halting::at(1, inputs.covers, failing),
+        Halting::at(2, CLASSES, failing),
+        Halting::at(3, inputs.cert, failing),
+        Halting::at(4, inputs.lineage, failing),
+        cert_out,
         out,
     )
 }
@@ -137,6 +160,74 @@ pub fn expect_refusal(
     )
 }
 
+/// What `exact` writes of these inputs. Fails unless it prints this text and answers this status.
+fn filled(
+    rt: &HostRuntime,
+    office: &Office,
+    inputs: Inputs<'_>,
+    text: &str,
+    status: u8,
+) -> Result<String, Fail> {
+    let alloc = rt.alloc();
+    let (mut cert, mut out) = (Paper::new(alloc, None), Paper::new(alloc, None));
+    let ended = fill(rt, office, inputs, None, &mut cert, &mut out)?;
+    expect_answer(out.text.as_slice(), ended, text, status)?;
+    let cert = str::from_utf8(cert.text.as_slice()).unwrap_or("no text");
+    Ok(format!(in alloc; "{cert}")?)
+}
+
+/// The first lines of a certificate's blocks of marked rows, and its text without these blocks.
+fn parted(rt: &HostRuntime, cert: &str) -> Result<(String, String), Fail> {
+    let (mut heads, mut rest) = (String::new(rt.alloc()), String::new(rt.alloc()));
+    let mut is_inside = false;
+    for line in cert.lines() {
+        let is_head = line.starts_with("exact ");
+        is_inside = is_head || (is_inside && line.starts_with("f "));
+        if is_head {
+            heads.push_str(line)?;
+            heads.push_str("\n")?;
+        } else if !is_inside {
+            rest.push_str(line)?;
+            rest.push_str("\n")?;
+        }
+    }
+    Ok((heads, rest))
+}
+
+/// Fails unless `exact` gives a certificate blocks with these first lines in place of its own, and
+/// nothing else.
+fn expect_blocks(
+    rt: &HostRuntime,
+    office: &Office,
+    (map, rows, own): (Map, &str, &str),
+    wanted: &str,
+) -> Result<(), Fail> {
+    let line = format!(in rt.alloc(); "exact {}\n", wanted.lines().count())?;
+    let given = Texts::new(rt, map, rows, own)?;
+    let cert = filled(rt, office, given.inputs(), line.as_str(), 0)?;
+    let (heads, rest) = parted(rt, cert.as_str())?;
+    expect(heads.as_str(), wanted)?;
+    let plain = Texts::new(rt, map, rows, "")?;
+    expect(rest.as_str(), plain.inputs().cert)
+}
+
+/// Publishes a map with the certificate that `exact` gives it, with so many blocks.
+fn publish_filled(
+    rt: &HostRuntime,
+    office: &mut Office,
+    (year, map, rows): (u16, Map, &str),
+    line: &str,
+    text: &str,
+) -> Result<(), Fail> {
+    let given = Texts::new(rt, map, rows, "")?;
+    let cert = filled(rt, office, given.inputs(), line, 0)?;
+    let inputs = Inputs {
+        cert: cert.as_str(),
+        ..given.inputs()
+    };
+    expect_publish(rt, office, year, inputs, text, 0)
+}
+
 /// Fails unless `trace` prints this text and answers this status.
 pub fn expect_trace(
     rt: &HostRuntime,
@@ -150,16 +241,26 @@ pub fn expect_trace(
     expect_answer(out.text.as_slice(), ended, text, status)
 }
 
-/// What is done with a register, and what it answers.
+/// What is done with a register, and what it answers. Rows of lineage stand under `old,new` where
+/// they have no header of their own.
 #[derive(Clone, Copy)]
 pub enum Step {
-    /// A publication of a map in a year, with these rows of lineage, and what it prints. Rows stand
-    /// under `old,new` where they have no header of their own.
+    /// A publication of a map in a year, with these rows of lineage, and what it prints.
     Publish(u16, Map, &'static str, &'static str),
-    /// One that is refused with this line.
+    /// One whose certificate has these blocks, which stand before what it prints.
+    PublishWith(u16, Map, &'static str, &'static str, &'static str),
+    /// One with the certificate that `exact` gives, which prints this line before.
+    PublishFilled(u16, Map, &'static str, &'static str, &'static str),
+    /// A publication that is refused with this line.
     Refuse(u16, Map, &'static str, &'static str),
+    /// One whose certificate has these blocks, which stand before the line.
+    RefuseWith(u16, Map, &'static str, &'static str, &'static str),
     /// One whose table of lineage is refused with this line.
     RefuseTable(u16, Map, &'static str, &'static str),
+    /// A certificate with these blocks, to which `exact` gives blocks with these first lines.
+    Fill(Map, &'static str, &'static str, &'static str),
+    /// One to which `exact` gives none: it prints this line.
+    NoFill(Map, &'static str, &'static str),
     /// A word that is followed to these lines.
     Trace(&'static str, &'static str),
     /// A word that is no identifier of a release.
@@ -168,27 +269,56 @@ pub enum Step {
     History(&'static str),
     /// The shapes that are kept.
     Shapes(&'static str),
+    /// The shapes are let go: a register that comes from version 2 has none.
+    Forget,
+}
+
+/// Takes a step that publishes, or asks for blocks.
+fn hand_in(rt: &HostRuntime, office: &mut Office, step: Step) -> Result<(), Fail> {
+    match step {
+        Step::PublishWith(year, map, rows, blocks, text) => {
+            let texts = Texts::new(rt, map, rows, blocks)?;
+            expect_publish(rt, office, year, texts.inputs(), text, 0)
+        }
+        Step::PublishFilled(year, map, rows, line, text) => {
+            publish_filled(rt, office, (year, map, rows), line, text)
+        }
+        Step::RefuseWith(year, map, rows, blocks, line) => {
+            let texts = Texts::new(rt, map, rows, blocks)?;
+            expect_refusal(rt, office, year, texts.inputs(), line, 1)
+        }
+        Step::RefuseTable(year, map, rows, line) => {
+            let texts = Texts::new(rt, map, rows, "")?;
+            expect_refusal(rt, office, year, texts.inputs(), line, 2)
+        }
+        Step::Fill(map, rows, own, wanted) => expect_blocks(rt, office, (map, rows, own), wanted),
+        Step::NoFill(map, rows, line) => {
+            let texts = Texts::new(rt, map, rows, "")?;
+            let cert = filled(rt, office, texts.inputs(), line, 1)?;
+            expect(cert.as_str(), "")
+        }
+        _ => Err(Fail::new(format_args!("nothing is handed in"))),
+    }
 }
 
 /// Takes a step.
 fn take(rt: &HostRuntime, office: &mut Office, step: Step) -> Result<(), Fail> {
     match step {
         Step::Publish(year, map, rows, text) => {
-            let texts = Texts::new(rt, map, rows)?;
-            expect_publish(rt, office, year, texts.inputs(), text, 0)
+            hand_in(rt, office, Step::PublishWith(year, map, rows, "", text))
         }
         Step::Refuse(year, map, rows, line) => {
-            let texts = Texts::new(rt, map, rows)?;
-            expect_refusal(rt, office, year, texts.inputs(), line, 1)
-        }
-        Step::RefuseTable(year, map, rows, line) => {
-            let texts = Texts::new(rt, map, rows)?;
-            expect_refusal(rt, office, year, texts.inputs(), line, 2)
+            hand_in(rt, office, Step::RefuseWith(year, map, rows, "", line))
         }
         Step::Trace(word, text) => expect_trace(rt, office, word, text, 0),
         Step::NoTrace(word) => expect_trace(rt, office, word, "refused 83\n", 1),
         Step::History(text) => expect_history(rt, office, text),
         Step::Shapes(text) => expect_shapes(rt, office, text),
+        Step::Forget => {
+            office.shapes.clear();
+            Ok(())
+        }
+        step => hand_in(rt, office, step),
     }
 }
 

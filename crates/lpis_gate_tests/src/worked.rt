@@ -94,7 +94,9 @@ static SIX_REPORT: &str = "\
 #[test]
 fn a_square_is_split_and_its_halves_are_merged(rt: HostRuntime) -> Result<(), Fail> {
     let steps = [
+        Step::Shapes(""),
         Step::Publish(2024, Map::Whole, "", WHOLE_REPORT),
+        Step::Shapes(WHOLE_SHAPE),
         Step::Publish(2025, Map::Halves, "A,B\nA,C\n", SPLIT_REPORT),
         Step::History("2024: A\n2025: B C A,B A,C\n"),
         Step::Shapes(HALVES_SHAPES),
@@ -117,7 +119,7 @@ fn a_square_is_split_and_its_halves_are_merged(rt: HostRuntime) -> Result<(), Fa
 }
 
 /// The shapes of the halves.
-static HALVES_SHAPES: &str = "\
+pub static HALVES_SHAPES: &str = "\
     B POLYGON((0.000 0.000,5.000 0.000,5.000 10.000,0.000 10.000,0.000 0.000))\n\
     C POLYGON((5.000 0.000,10.000 0.000,10.000 10.000,5.000 10.000,5.000 0.000))\n";
 
@@ -128,9 +130,7 @@ static WHOLE_SHAPE: &str =
 #[test]
 fn rows_may_be_marked(rt: HostRuntime) -> Result<(), Fail> {
     let steps = [
-        Step::Shapes(""),
         Step::Publish(2024, Map::Whole, "", WHOLE_REPORT),
-        Step::Shapes(WHOLE_SHAPE),
         // a replacement is no split and no merge
         Step::Refuse(
             2025,
@@ -151,14 +151,6 @@ fn rows_may_be_marked(rt: HostRuntime) -> Result<(), Fail> {
             "old,new,exact\nA,D,2\n",
             "refused 3c lineage row 1\n",
         ),
-        Step::Publish(
-            2025,
-            Map::Halves,
-            "old,new,exact\nA,B,1\nA,C,1\n",
-            SPLIT_REPORT,
-        ),
-        Step::History("2024: A\n2025: B C A,B,1 A,C,1\n"),
-        Step::Shapes(HALVES_SHAPES),
     ];
     take_anew(&rt, steps.as_slice())
 }
