@@ -1,4 +1,5 @@
 pub mod Common
+pub mod ExactLemmas
 pub mod MarkedLemmas
 pub mod PublishLemmas
 pub mod SubmissionLemmas

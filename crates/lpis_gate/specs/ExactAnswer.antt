@@ -20,7 +20,7 @@ use Rattle.lpis_register_rows.specs.Shapes.{Shape}
 use Rattle.lpis_exact_lineage.specs.Asking.{AsksFor, IsUnkept}
 use Rattle.lpis_register.specs.declared.fault.PublishFault.TheVariants.{Lineage, NotKept}
 use Rattle.lpis_commands.specs.CheckAnswer.{Answer}
-use Rattle.lpis_commands.specs.CutAnswer.{BreaksOff, CutAnswer, Held, Writes}
+use Rattle.lpis_commands.specs.Outputs.{BreaksOff, Held, Outputs}
 use Rattle.lpis_commands.specs.Failures.{IsUnpublished}
 use Rattle.lpis_commands.specs.Status.{done, refused}
 use Rattle.lpis_commands.specs.declared.failure.Failure.{Failure}
@@ -77,7 +77,7 @@ module _ (h : List Entry) (s : List Shape) (r : Contents) (c : Cert) (rows : Lis
 
 -- the answer to what is handed in, after a history with kept shapes: faults of the tables and texts
 -- come first. There is no year, and the certificate is not checked
-pub record IsExactAnswer (x : Submission) (h : List Entry) (s : List Shape) (a : CutAnswer) : Type 0
+pub record IsExactAnswer (x : Submission) (h : List Entry) (s : List Shape) (a : Outputs) : Type 0
   where
     pub answer : IsSubmissionAnswer (λ r c rows. IsBlocksAnswer h s r c rows a.cert) x
         (a.line, a.status)
@@ -87,7 +87,7 @@ pub record IsExactAnswer (x : Submission) (h : List Entry) (s : List Shape) (a :
 -- ---- the run
 -- what is handed in is what five readers gave, as far as it is known, and this is an answer to it
 pub record Fills (parcels covers classes cert lineage : Option (List ℕ)) (h : List Entry)
-    (s : List Shape) (a : CutAnswer) : Type 0 where
+    (s : List Shape) (a : Outputs) : Type 0 where
   pub submission : Submission
   pub read : AreAllRead submission parcels covers classes cert lineage
   pub answer : IsExactAnswer submission h s a
@@ -99,5 +99,5 @@ abbrev pub Halts : Failure → (parcels covers classes cert lineage : Option (Li
 Halts failure parcels covers classes cert lineage h s old new =
     (IsUnpublished parcels covers classes cert failure × Keeps old.cert new.cert
     × Keeps old.out new.out)
-    ⊎ ((a : CutAnswer) × Fills parcels covers classes cert lineage h s a
+    ⊎ ((a : Outputs) × Fills parcels covers classes cert lineage h s a
     × BreaksOff a failure old new)

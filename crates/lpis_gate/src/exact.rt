@@ -9,9 +9,10 @@ ghost use Rattle.lpis_lineage.specs.declared.row.Row.{Row};
 ghost use Rattle.lpis_lineage.specs.Changes.{IsChange};
 ghost use Rattle.lpis_lineage.specs.Faults.{faults};
 ghost use Rattle.lpis_lineage.specs.Lineage.{last_live};
-ghost use Rattle.lpis_register_rows.specs.Shapes.{Shape};
+ghost use Rattle.lpis_lineage.specs.Order.{IsAscending};
+ghost use Rattle.lpis_register_rows.specs.Shapes.{Shape, shape_ids};
 ghost use Rattle.lpis_exact_lineage.specs.Asking.{AsksFor};
-ghost use Rattle.lpis_commands.specs.CutAnswer.{CutAnswer, Writes, answered, held};
+ghost use Rattle.lpis_commands.specs.Outputs.{Outputs, Writes, held, outputs_of};
 ghost use Rattle.lpis_commands.specs.Status.{done, refused};
 ghost use Rattle.lpis_gate.specs.ExactAnswer.{Fills, Halts, IsExactAnswer, blocks_line};
 ghost use Rattle.lpis_gate.specs.ExactAnswer.{unfilled_line};
@@ -24,7 +25,7 @@ use crate::lineage_lines::refuse;
 use crate::submission::{Said, SubmissionBytes, Unsaid, read_submission, understand};
 use lpis_cert::Cert;
 use lpis_checker::ExactPart;
-use lpis_commands::{Answer, DONE, Failure, Outcome, PrintFault, REFUSED, cert_text_of};
+use lpis_commands::{Answer, DONE, Failure, Outcome, PrintFault, REFUSED};
 use lpis_covers::Id;
 use lpis_exact_lineage::{AskFault, wanted_parts};
 use lpis_lineage::{Change, History, LineageFault, accept};
@@ -81,36 +82,24 @@ fn count_blocks(alloc: Global, cert: &Cert) -> Result<Answer, AllocError>
 
 /// The outcome of a certificate with blocks.
 fn write_blocks(alloc: Global, cert: &Cert) -> Result<Outcome, AllocError>
-    ensures { IfOk result (λ o. answered o ≡ filled_with cert.now) }
+    ensures { IfOk result (λ o. outputs_of o ≡ filled_with cert.now) }
 {
-    let text = cert_text_of(alloc, cert)?;
     let printed = count_blocks(alloc, cert)?;
-    Ok(Outcome {
-        cert: Some(text),
-        printed,
-    })
+    Outcome::with_cert(alloc, cert, printed)
 }
 
 /// The outcome of a refusal of the register.
 fn refuse_blocks(alloc: Global, fault: &PublishFault) -> Result<Outcome, AllocError>
-    ensures { IfOk result (λ o. answered o ≡ refused_with (publish_refusal_text fault.now)) }
+    ensures { IfOk result (λ o. outputs_of o ≡ refused_with (publish_refusal_text fault.now)) }
 {
-    let printed = refuse(alloc, fault, REFUSED)?;
-    Ok(Outcome {
-        cert: None,
-        printed,
-    })
+    Ok(Outcome::without_cert(refuse(alloc, fault, REFUSED)?))
 }
 
 /// The outcome of a group that gets no block.
 fn refuse_part(alloc: Global, id: &Id) -> Result<Outcome, AllocError>
-    ensures { IfOk result (λ o. answered o ≡ refused_with (unfilled_line id.now)) }
+    ensures { IfOk result (λ o. outputs_of o ≡ refused_with (unfilled_line id.now)) }
 {
-    let printed = refuse_group(alloc, id)?;
-    Ok(Outcome {
-        cert: None,
-        printed,
-    })
+    Ok(Outcome::without_cert(refuse_group(alloc, id)?))
 }
 
 /// The answer to a certificate and the parts that are asked for.
@@ -121,7 +110,7 @@ fn answer_to_parts(
 ) -> Result<Outcome, AllocError>
     ensures { (h : List Entry) (s : List Shape) (r : Contents) (rows : List Row)
         (gs : List Group) → AsksFor h s r rows gs parts.now → IfOk result
-        (λ o. IsBlocksOutcome h s r cert rows (answered o)) }
+        (λ o. IsBlocksOutcome h s r cert rows (outputs_of o)) }
 {
     match with_blocks(alloc, cert, parts) {
         Ok(made) => write_blocks(alloc, &made),
@@ -138,10 +127,11 @@ fn answer_to_change(
     release: &Release,
     cert: Cert,
 ) -> Result<Outcome, AllocError>
+    requires ascending { IsAscending (shape_ids kept.now) }
     ensures { (h : List Entry) (rows : List Row)
         → faults h (parcel_ids release.now.parcels) rows ≡ []
         → IsChange (last_live h) (parcel_ids release.now.parcels) rows change.now
-        → IfOk result (λ o. IsBlocksOutcome h kept.now release.now cert rows (answered o)) }
+        → IfOk result (λ o. IsBlocksOutcome h kept.now release.now cert rows (outputs_of o)) }
 {
     match wanted_parts(alloc, change, kept, release) {
         Ok(parts) => answer_to_parts(alloc, cert, parts.as_slice()),
@@ -157,8 +147,9 @@ fn answer_to_said(
     kept: &[(Id, Polygon)],
     said: Said,
 ) -> Result<Outcome, AllocError>
+    requires ascending { IsAscending (shape_ids kept.now) }
     ensures { IfOk result (λ o. IsBlocksOutcome history.now kept.now said.release said.cert
-        said.rows.items (answered o)) }
+        said.rows.items (outputs_of o)) }
 {
     let Said {
         release,
@@ -180,15 +171,12 @@ fn answer_to<S: Alter>(
     submission: SubmissionBytes,
 ) -> Result<Outcome, AllocError>
     ensures { IfOk result (λ o. IsExactAnswer (submission_of submission) register.now.history
-        register.now.shapes.items (answered o)) }
+        register.now.shapes.items (outputs_of o)) }
 {
     match understand(alloc, submission) {
         Ok(said) => answer_to_said(alloc, register.current(), register.current_shapes(), said),
         Err(Unsaid::Memory) => Err(AllocError),
-        Err(Unsaid::Refused(printed)) => Ok(Outcome {
-            cert: None,
-            printed,
-        }),
+        Err(Unsaid::Refused(printed)) => Ok(Outcome::without_cert(printed)),
     }
 }
 
@@ -223,7 +211,7 @@ pub fn run_exact<
     cert_out: &mut V,
     out: &mut W,
 ) -> Result<u8, Failure>
-    ensures answer { IfOk result (λ status. (a : CutAnswer)
+    ensures answer { IfOk result (λ status. (a : Outputs)
         × Fills (P.remaining parcels) (C.remaining covers) (K.remaining classes)
         (E.remaining cert) (L.remaining lineage) register.now.history register.now.shapes.items a
         × Writes a status (held (V.contents cert_out.old) (W.contents out.old))
