@@ -1,7 +1,7 @@
 //! Laws of the text alone.
 
 ghost use Rattle.std.specs.Prelude.{◌≡◌, ◌≤◌, ◌<◌, ◌++◌, ◌↔◌, ℕ, ◌+◌, List, length, Some, Ok, Err};
-ghost use Rattle.std.specs.Prelude.{true, ⊥};
+ghost use Rattle.std.specs.Prelude.{true};
 ghost use Rattle.std.specs.Fmt.{decimal};
 ghost use Rattle.lpis_cert.specs.Limits.{number_margin};
 ghost use Rattle.lpis_cert.specs.Versions.{written};

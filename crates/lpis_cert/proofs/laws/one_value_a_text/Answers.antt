@@ -1,0 +1,4 @@
+use Rattle.lpis_cert.proofs.laws.one_value_a_text.Goals as goal
+
+pub returns : goal.returns
+returns c = absurd c.requires

@@ -1,0 +1,4 @@
+use Rattle.lpis_cert.proofs.laws.texts_without_fault.Goals as goal
+
+pub returns : goal.returns
+returns c = absurd c.requires
