@@ -1,12 +1,15 @@
 //! The worked example: the parcel A, a square, is split in 2025 into its halves B and C, which stay
-//! in 2026. The rows of 2025 are marked, but in registers of older versions, which have no marks.
+//! in 2026. The rows of 2025 are marked and its certificate has their block, but in registers of
+//! older versions, which have no marks.
 
-use lpis_cert::read_cert;
+use lpis_cert::{Cert, read_cert};
 use lpis_checker::{Yes, check};
 use lpis_lineage::{Row, read_rows};
 use lpis_pairs::AllPairs;
 use lpis_parcels::{Release, read_release};
-use lpis_testing::{CLASSES, LEFT, PARCELS_CERT, RIGHT, SQUARE, SQUARE_CERT};
+use lpis_testing::{
+    CLASSES, LEFT, PARCELS_CERT, PARCELS_CERT_WRITTEN, RIGHT, SQUARE, SQUARE_CERT, edited,
+};
 use std::alloc::Global;
 use std::test::Fail;
 
@@ -51,6 +54,7 @@ pub(super) struct Publication<'a> {
     pub(super) year: u16,
     pub(super) yes: Yes<'a>,
     pub(super) rows: Vec<Row>,
+    pub(super) cert: Cert,
 }
 
 /// The release of these tables.
@@ -82,18 +86,21 @@ pub(super) fn square_in_2024<'a>(
     prepared(alloc, 2024, square, SQUARE_CERT, "old,new\n")
 }
 
+/// The block that shows that the square is made up of its halves.
+static SPLIT_BLOCK: &str = "exact split A 2
+f 0 0 10000 0 5000 0
+f 10000 10000 0 10000 5000 10000
+";
+
 /// The halves in 2025, with the rows that tell what A became, which are marked.
 pub(super) fn halves_in_2025<'a>(
     alloc: Global,
     halves: &'a Release,
 ) -> Result<Publication<'a>, Fail> {
-    prepared(
-        alloc,
-        2025,
-        halves,
-        PARCELS_CERT,
-        "old,new,exact\nA,B,1\nA,C,1\n",
-    )
+    let block = format!(in alloc; "{SPLIT_BLOCK}pairs")?;
+    let cert = edited(alloc, PARCELS_CERT_WRITTEN, &[("pairs", block.as_str())])?;
+    let lineage = "old,new,exact\nA,B,1\nA,C,1\n";
+    prepared(alloc, 2025, halves, cert.as_str(), lineage)
 }
 
 /// The halves in 2026, which keeps both.
@@ -115,5 +122,10 @@ fn prepared<'a>(
     let cert = read_cert(alloc, cert.as_bytes())?;
     let rows = read_rows(alloc, lineage.as_bytes())?;
     let yes = check(alloc, release, &cert, &AllPairs)?;
-    Ok(Publication { year, yes, rows })
+    Ok(Publication {
+        year,
+        yes,
+        rows,
+        cert,
+    })
 }

@@ -95,6 +95,7 @@ fn publish(register: &mut Kept, publication: &Publication<'_>) -> Result<(), Pub
         publication.year,
         &publication.yes,
         publication.rows.as_slice(),
+        &publication.cert,
     )?;
     Ok(())
 }
