@@ -3,17 +3,17 @@
 
 _lpis_files() { mapfile -t COMPREPLY < <(compgen "$@" -- "${COMP_WORDS[COMP_CWORD]}"); }
 
+# By the command and the place of the word: a folder, a number or an identifier, or a file.
 _lpis() {
-  local command=${COMP_WORDS[1]-}
   if [[ $COMP_CWORD -eq 1 ]]; then
-    _lpis_files -W 'area cut check publish trace --help --version'
-  elif [[ $command == cut || $command == check ]] && [[ $COMP_CWORD -eq 2 ]] || [[ $command == publish && $COMP_CWORD -eq 4 ]]; then
-    _lpis_files -d
-  elif [[ $command == trace && $COMP_CWORD -eq 3 || $command == publish && $COMP_CWORD -eq 3 ]]; then
-    COMPREPLY=()
-  else
-    _lpis_files -f
+    _lpis_files -W 'area cut check exact publish trace --help --version'
+    return
   fi
+  case ${COMP_WORDS[1]-}-$COMP_CWORD in
+    cut-2 | check-2 | exact-3 | publish-4) _lpis_files -d ;;
+    publish-3 | trace-3) COMPREPLY=() ;;
+    *) _lpis_files -f ;;
+  esac
 }
 
 # The options of a tool, or files.

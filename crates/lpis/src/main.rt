@@ -9,7 +9,7 @@ use lpis_commands::{
     Cmd, CommandFiles, Failure, NamedFile, TableFiles, command_of, named_files, print_failure,
     run_area, run_check, run_cut, status_of, usage_ends,
 };
-use lpis_gate::{refuse_register, run_publish, run_trace};
+use lpis_gate::{refuse_register, run_exact, run_publish, run_trace};
 use lpis_register::Register;
 use sqlite::{FileFrom, FileStore, Unknown};
 use std::fs::File;
@@ -82,6 +82,20 @@ fn perform(rt: &HostRuntime, command: Cmd<'_>) -> Result<u8, Failure> {
             let cert = open(rt, &cert)?;
             run_check(alloc, parcels, covers, classes, cert, &mut out)
         }
+        CommandFiles::Exact {
+            db,
+            tables,
+            cert,
+            lineage,
+            out: filled,
+        } => match Register::open_file(rt, alloc, db, Unknown) {
+            Ok(register) => {
+                let ran = fill(rt, &register, &tables, &cert, &lineage, &filled);
+                close(register);
+                ran
+            }
+            Err(fault) => refuse_register(alloc, &fault, &mut out),
+        },
         CommandFiles::Publish {
             db,
             year,
@@ -105,6 +119,35 @@ fn perform(rt: &HostRuntime, command: Cmd<'_>) -> Result<u8, Failure> {
             Err(fault) => refuse_register(alloc, &fault, &mut out),
         },
     }
+}
+
+/// Gives the certificate of these files the blocks that the marks of their lineage ask for after a
+/// register.
+fn fill(
+    rt: &HostRuntime,
+    register: &FileRegister,
+    tables: &TableFiles,
+    cert: &NamedFile,
+    lineage: &NamedFile,
+    filled: &NamedFile,
+) -> Result<u8, Failure> {
+    let (parcels, covers, classes) = open_tables(rt, tables)?;
+    let cert = open(rt, cert)?;
+    let lineage = open(rt, lineage)?;
+    // Where there are no such blocks, a file that stands at this path stays as it is.
+    let mut filled = Created::new(rt, filled.path.as_str());
+    let mut out = rt.stdout();
+    run_exact(
+        rt.alloc(),
+        register,
+        parcels,
+        covers,
+        classes,
+        cert,
+        lineage,
+        &mut filled,
+        &mut out,
+    )
 }
 
 /// Publishes the release of these files in a register.
