@@ -6,10 +6,11 @@ ghost use Rattle.lpis_exact_lineage.specs.Asking.{IsShown};
 ghost use Rattle.lpis_lineage.specs.Changes.{IsChange};
 ghost use Rattle.lpis_lineage.specs.Faults.{faults};
 ghost use Rattle.lpis_lineage.specs.Lineage.{last_live, last_year};
+ghost use Rattle.lpis_lineage.specs.Order.{IsAscending};
 ghost use Rattle.lpis_lineage.specs.declared.row.Entry.{Entry};
 ghost use Rattle.lpis_lineage.specs.declared.row.Row.{Row};
 ghost use Rattle.lpis_parcels.specs.Release.{parcel_ids};
-ghost use Rattle.lpis_register_rows.specs.Shapes.{Shape};
+ghost use Rattle.lpis_register_rows.specs.Shapes.{Shape, shape_ids};
 ghost use Rattle.lpis_register.specs.Accepting.{IsAccepted, IsKept, IsStep};
 ghost use Rattle.lpis_register.specs.Faults.{IsRefused, PublishTells};
 ghost use Rattle.lpis_register.specs.declared.fault.PublishFault.TheVariants.{Store};
@@ -111,6 +112,7 @@ fn check_groups(
     release: &Release,
     cert: &Cert,
 ) -> Result<(), PublishFault>
+    requires ascending { IsAscending (shape_ids kept.now) }
     ensures shown { (h : List Entry) (rows : List Row)
         → faults h (parcel_ids release.now.parcels) rows ≡ []
         → IsChange (last_live h) (parcel_ids release.now.parcels) rows change.now
@@ -145,6 +147,7 @@ pub(crate) fn accept_release(
     rows: &[Row],
     cert: &Cert,
 ) -> Result<Accepted, PublishFault>
+    requires ascending { IsAscending (shape_ids shapes.now) }
     ensures tells { PublishTells history.now shapes.now year yes.now cert.now.exact rows.now
         result }
     ensures made { IfOk result

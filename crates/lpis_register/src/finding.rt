@@ -5,7 +5,8 @@ ghost use Rattle.sqlite.specs.Held.{state};
 ghost use Rattle.sqlite.specs.State.{HasCleanDisk};
 ghost use Rattle.lpis_lineage.specs.declared.row.Entry.{Entry};
 ghost use Rattle.lpis_lineage.specs.Lineage.{last_live};
-ghost use Rattle.lpis_register_rows.specs.Shapes.{AreLive, ShapesAre, TextsStand};
+ghost use Rattle.lpis_lineage.specs.Order.{IsAscending};
+ghost use Rattle.lpis_register_rows.specs.Shapes.{AreLive, ShapesAre, TextsStand, shape_ids};
 ghost use Rattle.lpis_register_rows.specs.Tells.{Says};
 ghost use Rattle.lpis_register_sql.specs.Holding.{IsStored};
 ghost use Rattle.lpis_register_sql.specs.Quiet.{IsFound, Reads};
@@ -106,6 +107,7 @@ fn find_texts<S: Alter>(
     ensures unlawful { HasCleanDisk (state S.Store conn.new) → (layout : _)
         → IsFound found.now layout → (c : _) → IsStored layout (state S.Store conn.old) c
         → IfErr result (λ e. e ≡ Unlawful → TextsStand c.texts (last_live history.now) → ⊥) }
+    ensures ascend { IfOk result (λ shapes. IsAscending (shape_ids shapes.items)) }
     ensures kinds { IfErr result IsOpeningFault }
 {
     texts_keep_one_list_of_shapes();
@@ -133,6 +135,7 @@ fn find_shapes<S: Alter>(
         → IsFound found.now layout → (c : _) → IsStored layout (state S.Store conn.old) c
         → IfErr result (λ e. e ≡ Unlawful
         → TextsStand (texts_at version c) (last_live history.now) → ⊥) }
+    ensures ascend { IfOk result (λ shapes. IsAscending (shape_ids shapes.items)) }
     ensures kinds { IfErr result IsOpeningFault }
 {
     texts_keep_one_list_of_shapes();

@@ -1,6 +1,8 @@
 //! What an opening finds.
 
 ghost use Rattle.std.specs.Prelude.{◌≡◌, ◌⊎◌};
+ghost use Rattle.lpis_lineage.specs.Order.{IsAscending};
+ghost use Rattle.lpis_register_rows.specs.Shapes.{shape_ids};
 ghost use Rattle.lpis_register.specs.Faults.{IsFailure};
 ghost use Rattle.lpis_register.specs.declared.fault.PublishFault.TheVariants.{Memory, Store};
 
@@ -14,8 +16,8 @@ use sqlite::{Error, ErrorCode};
 #[derive(Drop)]
 pub(crate) struct Told {
     pub(crate) history: History,
-    /// Ascending by identifier.
     pub(crate) shapes: Vec<(Id, Polygon)>,
+    ghost ascending: { IsAscending (shape_ids shapes.items) },
 }
 
 /// Where the database is out of memory, that is reported.

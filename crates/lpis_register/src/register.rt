@@ -3,8 +3,10 @@
 ghost use Rattle.std.specs.Prelude.{◌≡◌, ◌⊎◌, false, IfOk, IfErr, List, ℕ};
 ghost use Rattle.sqlite.specs.Held.{state};
 ghost use Rattle.lpis_cert.specs.declared.part.ExactBlock.{ExactBlock};
+ghost use Rattle.lpis_lineage.specs.Order.{IsAscending};
 ghost use Rattle.lpis_lineage.specs.declared.row.Row.{Row};
 ghost use Rattle.lpis_parcels.specs.Release.{Contents};
+ghost use Rattle.lpis_register_rows.specs.Shapes.{shape_ids};
 ghost use Rattle.lpis_register.specs.Accepting.{IsAccepted, WasMadeFor};
 ghost use Rattle.lpis_register.specs.Faults.{PublishTells};
 ghost use Rattle.lpis_register.specs.Histories.{IsTrace, IsUnknown, ReadsHistory};
@@ -38,6 +40,7 @@ pub struct Register<S: Alter> {
     pub shapes: Vec<(Id, Polygon)>,
     alloc: Global,
     ghost autocommit: { conn.in_transaction ≡ false },
+    ghost ascending: { IsAscending (shape_ids shapes.items) },
 }
 
 impl<S: Alter> Register<S> {

@@ -1,0 +1,14 @@
+use Rattle.std.proofs.Common.{subst}
+use Rattle.std.proofs.lemmas.Result.{err_from_is_err_and}
+use Rattle.lpis_register.proofs.AcceptingLemmas.{no_store_asking, no_store_blocks, refused_asking, refused_blocks}
+use Rattle.lpis_register.proofs.accepting.check_groups.Goals as goal
+
+pub returns-in_err-parts-clause-refused : goal.returns-in_err-parts-clause-refused
+returns-in_err-parts-clause-refused c h year rows later none change =
+    let p = err_from_is_err_and c.from_residual-in_err-parts.result c.from_residual-in_err-parts.ensures.1 in
+    rw (p.1, p.2) (refused_asking h c.args.kept.now year c.args.release.now c.args.cert.now.exact rows later _ (c.in_err-parts.ensures.unkept h rows none change))
+
+pub returns-in_err-parts-clause-no_store : goal.returns-in_err-parts-clause-no_store
+returns-in_err-parts-clause-no_store c =
+    let p = err_from_is_err_and c.from_residual-in_err-parts.result c.from_residual-in_err-parts.ensures.1 in
+    rw (p.1, p.2) (no_store_asking _)
