@@ -54,9 +54,9 @@ def lpis(words, folder, **more):
 
 
 class Command:
-    """The words of a command, the files that it finds in its folder, and which of them has to be as before where it fails."""
+    """The words of a command, the files that it finds in its folder, and which of them have to be as before where it fails."""
 
-    def __init__(self, name, words, makers=(), kept=None):
+    def __init__(self, name, words, makers=(), *kept):
         self.name, self.words, self.makers, self.kept = name, words, makers, kept
 
     def fill(self, folder):
@@ -64,9 +64,8 @@ class Command:
             make(folder)
 
     def state(self, folder):
-        """What the kept file says: the history and the shapes of a register, the bytes of a certificate."""
-        path = folder / self.kept if self.kept else None
-        return said(path) if self.kept == "years.db" else path and path.read_bytes()
+        """What the kept files say: the history and the shapes of a register, the bytes of a certificate."""
+        return [said(folder / name) if name == "years.db" else (folder / name).read_bytes() for name in self.kept]
 
 
 def older(folder):
@@ -99,6 +98,13 @@ def marked(folder):
     lines = (release / "lineage.csv").read_text().splitlines()
     (release / "lineage.csv").write_text("".join(f"{line},{mark}\n" for line, mark in zip(lines, ["exact", 1, 1, 1, 1, ""])))
     expect(0, lpis(["cut", release, "cert.txt"], folder))
+    expect(0, lpis(["exact", "years.db", "marked", "cert.txt", "exact.txt"], folder))
+
+
+def narrowed(folder):
+    """A successor of the split is a metre narrower than its half."""
+    path = folder / "marked" / "parcels.csv"
+    path.write_text(path.read_text().replace("60 30,60 60,30 60", "59 30,59 60,30 60"))
 
 
 def expect(status, answer):
@@ -120,6 +126,15 @@ def publish(name, year, *makers):
     return Command(f"publish of {name}", words, [*makers, certificate(f"years/{year}")], "years.db")
 
 
+def exact(name, *makers):
+    """Of the marked year, over a certificate that stands at OUT."""
+    return Command(f"exact of {name}", ["exact", "years.db", "marked", "cert.txt", "out.txt"], [published("2024"), marked, *makers, older_out], "years.db", "out.txt")
+
+
+def older_out(folder):
+    (folder / "out.txt").write_text("older\n")
+
+
 def trace(name, identifier, *makers):
     return Command(f"trace of {name}", ["trace", "years.db", identifier], makers, "years.db")
 
@@ -137,7 +152,10 @@ COMMANDS = [
     Command("check of overlap, without pair lines", ["check", EXAMPLES / "overlap", "cert.txt"], [overlapping]),
     publish("2024, in a new file", "2024"),
     publish("2025, after 2024", "2025", published("2024")),
-    Command("publish of 2025 with marks, after 2024", ["publish", "years.db", "2025", "marked", "cert.txt"], [published("2024"), marked], "years.db"),
+    Command("publish of 2025 with marks, after 2024", ["publish", "years.db", "2025", "marked", "exact.txt"], [published("2024"), marked], "years.db"),
+    Command("publish of 2025 with marks and without blocks", ["publish", "years.db", "2025", "marked", "cert.txt"], [published("2024"), marked], "years.db"),
+    exact("2025, after 2024"),
+    exact("2025 with a split that is not exact", narrowed),
     publish("2025, a second time", "2025", published("2024"), published("2025")),
     trace("north", "north", published("2024"), published("2025")),
     trace("an identifier in no release", "brook", published("2024"), published("2025")),
@@ -198,11 +216,11 @@ class Refusals:
                 return f"met no refusal: {answer}"
             if answer not in (MEMORY, STORE):
                 # The database has caches that need not grow, and need not copy its log at the end.
-                as_usual = answer == self.usual and self.command.kept == "years.db" and self.command.state(copy) == self.after
+                as_usual = answer == self.usual and "years.db" in self.command.kept and self.command.state(copy) == self.after
                 return "usual" if as_usual else f"{refused.group(0)}: {answer}"
             with copy_of(copy) as seen:
                 if self.command.state(seen) != self.before:
-                    return f"{refused.group(0)}: {self.command.kept} is not as before"
+                    return f"{refused.group(0)}: {' or '.join(self.command.kept)} is not as before"
             again = lpis(self.command.words, copy)
             if again != self.usual or self.command.state(copy) != self.after:
                 return f"{refused.group(0)}: the same command afterwards answered {again}"

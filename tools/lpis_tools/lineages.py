@@ -136,8 +136,9 @@ class OfGroups:
         self.say_stretches("the whole's or its parts'")
 
     def say_stretches(self, whose):
-        (a, b) = self.stretches[0]
-        self.say(f"{len(self.stretches)} stretches of border are {whose} alone; the first from {polygons.metres(a[0])} {polygons.metres(a[1])} to {polygons.metres(b[0])} {polygons.metres(b[1])}")
+        """How many stretches differ, and the shortest, at which the difference is seen best."""
+        (a, b) = min(self.stretches, key=lambda it: sum((p - q) ** 2 for p, q in zip(*it)))
+        self.say(f"{len(self.stretches)} stretches of border are {whose} alone; the shortest from {polygons.metres(a[0])} {polygons.metres(a[1])} to {polygons.metres(b[0])} {polygons.metres(b[1])}")
         if not self.place and self.refusal.code != "43":
             self.place = a
             self.say("its beginning (found by this tool, not told by lpis):")
