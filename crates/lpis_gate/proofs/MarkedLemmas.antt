@@ -55,7 +55,7 @@ picked-at : (n : Row → Bool) (rows : List Row) → list_all (λ (r : Row). r.e
 picked-at n rows all k d lt =
     let r = get_or rows k d in
     λ is. is-marked-row (n r) r.exact is
-        (none-at (λ (x : Row). n x && not x.exact) rows (not-true _ (sym (all-none n rows) ∙ all)) k d lt)
+    (none-at (λ (x : Row). n x && not x.exact) rows (not-true _ (sym (all-none n rows) ∙ all)) k d lt)
 
 of-itself : (r : Row) (s : List ℕ) → r.new ≡ Some s → names s r ≡ true
 of-itself r s e = ap (is_this s) e ∙ same-refl s

@@ -1,5 +1,5 @@
 -- What a history answers to a release, and what is known of a release that was added to it.
-use Rattle.std.proofs.Common.{◌≡◌, ◌≢◌, ◌∙◌, ◌++◌, ◌∷◌, ⊥, [], inl, inr, refl, sym, ap, ap₂, subst, ℕ, List, Bool, Option, Result, Ok, Err, IfOk, OnOk, OnErr, flat_map, true}
+use Rattle.std.proofs.Common.{◌≡◌, ◌≢◌, ◌∙◌, ◌++◌, ◌∷◌, [], inl, inr, refl, sym, ap, ap₂, subst, ℕ, List, Bool, Option, Result, Ok, Err, IfOk, OnOk, OnErr, flat_map, true}
 use Rattle.lpis_gate.proofs.Common.{Appends, Contents, release_of, kind_at, Cert, IsGood, Answer, lineage_line, report_text, done}
 use Rattle.sqlite.specs.State.{HasCleanDisk, State}
 use Rattle.std.specs.List.{list_any}

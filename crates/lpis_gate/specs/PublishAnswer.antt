@@ -1,6 +1,6 @@
 -- The answer to a release that is to be published: text and status, of the year, the bytes of the
 -- five inputs, and the history and the kept shapes before; and both after.
-use Rattle.std.specs.Prelude.{◌≡◌, ◌≢◌, ◌<◌, ◌⊎◌, ◌++◌, ⊥, true, false, ℕ, List, Option, Ok}
+use Rattle.std.specs.Prelude.{◌≡◌, ◌≢◌, ◌<◌, ◌⊎◌, ◌++◌, true, false, ℕ, List, Option, Ok}
 use Rattle.std.specs.List.{list_any}
 use Rattle.std.specs.Io.KnownBytes.{Appends, Keeps}
 use Rattle.lpis_covers.specs.Faults.{rows_of}

@@ -74,11 +74,7 @@ fn block_of(alloc: Global, part: &ExactPart, most: usize) -> Result<ExactBlock, 
 }
 
 /// The blocks of parts, of so many flats together at most.
-fn blocks_of(
-    alloc: Global,
-    parts: &[ExactPart],
-    most: usize,
-) -> Result<Vec<ExactBlock>, BlockFault>
+fn blocks_of(alloc: Global, parts: &[ExactPart], most: usize) -> Result<Vec<ExactBlock>, BlockFault>
     ensures names { IfOk result (λ v. map block_name v.items ≡ map part_name parts.now) }
     ensures few { IfOk result (λ v. sum_by (λ b. length b.flats) v.items ≤ most) }
     ensures fault { IfErr result (IsOf parts.now) }

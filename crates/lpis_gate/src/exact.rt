@@ -103,11 +103,7 @@ fn refuse_part(alloc: Global, id: &Id) -> Result<Outcome, AllocError>
 }
 
 /// The answer to a certificate and the parts that are asked for.
-fn answer_to_parts(
-    alloc: Global,
-    cert: Cert,
-    parts: &[ExactPart],
-) -> Result<Outcome, AllocError>
+fn answer_to_parts(alloc: Global, cert: Cert, parts: &[ExactPart]) -> Result<Outcome, AllocError>
     ensures { (h : List Entry) (s : List Shape) (r : Contents) (rows : List Row)
         (gs : List Group) → AsksFor h s r rows gs parts.now → IfOk result
         (λ o. IsBlocksOutcome h s r cert rows (outputs_of o)) }

@@ -154,7 +154,14 @@ fn answer_to_said<S: Alter>(
         Ok(yes) => {
             // What is checked is a sound map.
             let _ = yes.release();
-            publish_checked(alloc, register, year, &yes, &said.cert, said.rows.as_slice())
+            publish_checked(
+                alloc,
+                register,
+                year,
+                &yes,
+                &said.cert,
+                said.rows.as_slice(),
+            )
         }
         Err(CheckFault::Memory) => Err(Failure::Memory),
         Err(fault) => Ok(refuse_cert(alloc, &fault)?),

@@ -1,6 +1,6 @@
 //! What is handed in to be published, or to be given the blocks of its marked rows.
 
-ghost use Rattle.std.specs.Prelude.{◌≡◌, ⊥, IfErr, IfOk, List, Ok, ℕ};
+ghost use Rattle.std.specs.Prelude.{◌≡◌, IfErr, IfOk, List, Ok, ℕ};
 ghost use Rattle.lpis_covers.specs.Faults.{rows_of};
 ghost use Rattle.lpis_parcels.specs.Release.{release_of};
 ghost use Rattle.lpis_cert.specs.Contents.{IsCertText};

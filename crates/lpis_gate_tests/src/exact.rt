@@ -103,3 +103,122 @@ fn shapes_of_the_last_release_are_needed(rt: HostRuntime) -> Result<(), Fail> {
     ];
     take_anew(&rt, steps.as_slice())
 }
+
+/// What is printed of three parcels.
+static THREE_REPORT: &str = "\
+    parcels 3 pieces 3\n\
+    parcel A area 30.0000000 eligible 30.000000000\n\
+    parcel B area 20.0000000 eligible 20.000000000\n\
+    parcel K area 50.0000000 eligible 50.000000000\n\
+    total area 100.0000000 eligible 100.000000000\n\
+    yes\n\
+    published 2024\n";
+
+/// What is printed of the third, to which the other two came.
+static KEPT_REPORT: &str = "\
+    parcels 1 pieces 1\n\
+    parcel K area 100.0000000 eligible 100.000000000\n\
+    total area 100.0000000 eligible 100.000000000\n\
+    yes\n\
+    lineage A merged exact\n\
+    lineage B merged exact\n\
+    published 2025\n";
+
+#[test]
+fn a_kept_successor_is_one_of_its_predecessors(rt: HostRuntime) -> Result<(), Fail> {
+    let merge = "old,new,exact\nA,K,1\nB,K,1\n";
+    let steps = [
+        Step::Publish(2024, Map::BesideKept, "", THREE_REPORT),
+        // a row that is not marked goes to the same successor
+        Step::Refuse(
+            2025,
+            Map::Kept,
+            "old,new,exact\nA,K,1\nB,K,\n",
+            "refused 81 lineage 78 row 1\n",
+        ),
+        // K has other predecessors, so A is redrawn
+        Step::Refuse(
+            2025,
+            Map::KeptBesideNew,
+            "old,new,exact\nA,K,1\nA,N,1\nB,K,1\n",
+            "refused 81 lineage 78 row 1\n",
+        ),
+        // A is merged, but B is redrawn
+        Step::Refuse(
+            2025,
+            Map::Redrawn,
+            "old,new,exact\nA,C,1\nB,C,1\nB,D,1\n",
+            "refused 81 lineage 78 row 1\n",
+        ),
+        // a row stands twice, whatever its marks
+        Step::Refuse(
+            2025,
+            Map::Kept,
+            "old,new,exact\nA,K,1\nA,K,0\nB,K,1\n",
+            "refused 81 lineage 73 row 2\n",
+        ),
+        // a block of the other kind, and one where no row is marked
+        Step::RefuseWith(
+            2025,
+            Map::Kept,
+            merge,
+            "exact split K 0\n",
+            "refused 85 exact 6a K\n",
+        ),
+        Step::RefuseWith(
+            2025,
+            Map::Kept,
+            "A,K\nB,K\n",
+            "exact merge Q 0\n",
+            "refused 85 exact 6a Q\n",
+        ),
+        Step::Fill(Map::Kept, merge, "", "exact merge K 4\n"),
+        Step::PublishFilled(2025, Map::Kept, merge, "exact 1\n", KEPT_REPORT),
+    ];
+    take_anew(&rt, steps.as_slice())
+}
+
+/// What is printed of six parcels.
+static GROUPED_REPORT: &str = "\
+    parcels 6 pieces 6\n\
+    parcel F area 20.0000000 eligible 20.000000000\n\
+    parcel A area 20.0000000 eligible 20.000000000\n\
+    parcel C area 10.0000000 eligible 10.000000000\n\
+    parcel D area 10.0000000 eligible 10.000000000\n\
+    parcel E area 10.0000000 eligible 10.000000000\n\
+    parcel B area 10.0000000 eligible 10.000000000\n\
+    total area 80.0000000 eligible 80.000000000\n\
+    yes\n\
+    published 2024\n";
+
+/// What is printed of what became of them, where C and D are not merged exactly.
+static REGROUPED_REPORT: &str = "\
+    parcels 6 pieces 6\n\
+    parcel f1 area 10.0000000 eligible 10.000000000\n\
+    parcel f2 area 10.0000000 eligible 10.000000000\n\
+    parcel a1 area 10.0000000 eligible 10.000000000\n\
+    parcel a2 area 10.0000000 eligible 10.000000000\n\
+    parcel N area 20.0000000 eligible 20.000000000\n\
+    parcel M area 20.0000000 eligible 20.000000000\n\
+    total area 80.0000000 eligible 80.000000000\n\
+    yes\n\
+    lineage A split exact\n\
+    lineage B merged exact\n\
+    lineage C merged\n\
+    lineage D merged\n\
+    lineage E merged exact\n\
+    lineage F split exact\n\
+    published 2025\n";
+
+#[test]
+fn splits_stand_before_merges(rt: HostRuntime) -> Result<(), Fail> {
+    let all = "old,new,exact\nF,f1,1\nF,f2,1\nA,a1,1\nA,a2,1\nC,N,1\nD,N,1\nE,M,1\nB,M,1\n";
+    let most = "old,new,exact\nF,f1,1\nF,f2,1\nA,a1,1\nA,a2,1\nC,N,\nD,N,0\nE,M,1\nB,M,1\n";
+    let blocks = "exact split A 2\nexact split F 2\nexact merge M 2\nexact merge N 2\n";
+    let steps = [
+        Step::Publish(2024, Map::Grouped, "", GROUPED_REPORT),
+        Step::Fill(Map::Regrouped, all, "", blocks),
+        Step::PublishFilled(2025, Map::Regrouped, most, "exact 3\n", REGROUPED_REPORT),
+    ];
+    take_anew(&rt, steps.as_slice())
+}

@@ -3,7 +3,8 @@
 use crate::devices::{LINE, Paper};
 use crate::maps::{Inputs, Map, Texts};
 use crate::register::{
-    Office, Step, expect_history, expect_publish, expect_refusal, publish, take_all, trace,
+    Office, Step, expect_history, expect_publish, expect_refusal, fill, filled, publish, take_all,
+    trace,
 };
 use crate::worked::{SPLIT_REPORT, WHOLE_REPORT};
 use lpis_commands::{Failure, Name, UNREADABLE};
@@ -253,6 +254,14 @@ fn expect_order(rt: &HostRuntime, office: &mut Office) -> Result<(), Fail> {
             lineage,
         };
         expect_refusal(rt, office, year, inputs, line, status)?;
+        // `exact` looks neither at the year nor at what the certificate shows
+        let unchecked = if status == UNREADABLE {
+            line
+        } else {
+            "refused 81 lineage 70 row 1\n"
+        };
+        let cert = filled(rt, office, inputs, unchecked, status)?;
+        hold(cert.is_empty(), "no certificate")?;
     }
     expect_history(rt, office, "2024: A\n")
 }
@@ -261,4 +270,45 @@ fn expect_order(rt: &HostRuntime, office: &mut Office) -> Result<(), Fail> {
 fn faults_are_told_in_their_order(rt: HostRuntime) -> Result<(), Fail> {
     let mut office = Register::open_in_memory(rt.alloc())?;
     expect_order(&rt, &mut office)
+}
+
+/// Asks for the blocks of the halves after the square, where inputs and outputs fail.
+fn fill_in_part(rt: &HostRuntime, office: &mut Office) -> Result<(), Fail> {
+    take_all(rt, office, WITH_SQUARE.as_slice())?;
+    let texts = Texts::new(rt, Map::Halves, "old,new,exact\nA,B,1\nA,C,1\n", "")?;
+    for (index, name) in NAMES.iter().enumerate() {
+        let (mut cert, mut out) = (Paper::new(rt.alloc(), None), Paper::new(rt.alloc(), None));
+        let failing = Some((index, 1));
+        let answer = fill(rt, office, texts.inputs(), failing, &mut cert, &mut out);
+        hold(answer == Err(Failure::Read(*name)), "a failed read")?;
+        hold(
+            cert.text.is_empty() && out.text.is_empty(),
+            "nothing is written",
+        )?;
+    }
+    for (writes, prints, name) in [
+        (0, None, Name::Cert),
+        (3, None, Name::Cert),
+        (99, Some(0), Name::Out),
+    ] {
+        let (mut cert, mut out) = (
+            Paper::new(rt.alloc(), Some(writes)),
+            Paper::new(rt.alloc(), prints),
+        );
+        let answer = fill(rt, office, texts.inputs(), None, &mut cert, &mut out);
+        hold(answer == Err(Failure::Write(name)), "a failed write")?;
+        hold(out.text.is_empty(), "no line")?;
+        let is_whole = cert.text.ends_with(b"end\n");
+        hold(
+            is_whole == (name == Name::Out),
+            "the certificate comes first",
+        )?;
+    }
+    expect_history(rt, office, "2024: A\n")
+}
+
+#[test]
+fn blocks_are_given_where_all_is_read_and_written(rt: HostRuntime) -> Result<(), Fail> {
+    let mut office = Register::open_in_memory(rt.alloc())?;
+    fill_in_part(&rt, &mut office)
 }

@@ -29,12 +29,14 @@ pub enum Map {
     Six,
     /// The halves, the second of which lacks a metre at its side.
     Apart,
-    /// The square, as a parcel A beside a parcel K.
+    /// The square, as parcels A and B beside a parcel K.
     BesideKept,
     /// The square, as a parcel K.
     Kept,
     /// The square, as a parcel K beside a parcel N.
     KeptBesideNew,
+    /// The square, as parcels C and D beside a parcel K.
+    Redrawn,
     /// Six parcels: two to be split, four to be merged.
     Grouped,
     /// What became of them.
@@ -74,11 +76,21 @@ static SIX: [Strip; 6] = [
 
 static APART: [Strip; 2] = [Strip("B", "b1", 0, 5), Strip("C", "c1", 6, 10)];
 
-static BESIDE_KEPT: [Strip; 2] = [Strip("A", "a1", 0, 5), Strip("K", "k1", 5, 10)];
+static BESIDE_KEPT: [Strip; 3] = [
+    Strip("A", "a1", 0, 3),
+    Strip("B", "b1", 3, 5),
+    Strip("K", "k1", 5, 10),
+];
 
 static KEPT: [Strip; 1] = [Strip("K", "k1", 0, 10)];
 
 static KEPT_BESIDE_NEW: [Strip; 2] = [Strip("K", "k1", 0, 7), Strip("N", "n1", 7, 10)];
+
+static REDRAWN: [Strip; 3] = [
+    Strip("C", "a1", 0, 3),
+    Strip("D", "b1", 3, 5),
+    Strip("K", "k1", 5, 10),
+];
 
 static GROUPED: [Strip; 6] = [
     Strip("F", "p1", 0, 2),
@@ -114,6 +126,7 @@ impl Map {
             Map::BesideKept => BESIDE_KEPT.as_slice(),
             Map::Kept => KEPT.as_slice(),
             Map::KeptBesideNew => KEPT_BESIDE_NEW.as_slice(),
+            Map::Redrawn => REDRAWN.as_slice(),
             Map::Grouped => GROUPED.as_slice(),
             Map::Regrouped => REGROUPED.as_slice(),
         }

@@ -161,7 +161,7 @@ pub fn expect_refusal(
 }
 
 /// What `exact` writes of these inputs. Fails unless it prints this text and answers this status.
-fn filled(
+pub fn filled(
     rt: &HostRuntime,
     office: &Office,
     inputs: Inputs<'_>,

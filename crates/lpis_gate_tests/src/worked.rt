@@ -138,6 +138,13 @@ fn rows_may_be_marked(rt: HostRuntime) -> Result<(), Fail> {
             "old,new,exact\nA,D,1\n",
             "refused 81 lineage 78 row 1\n",
         ),
+        // nor is an ending
+        Step::Refuse(
+            2025,
+            Map::Halves,
+            "old,new,exact\nA,,1\n",
+            "refused 81 lineage 78 row 1\n",
+        ),
         // nor is a split of which a row is not marked one whose rows all are
         Step::Refuse(
             2025,
@@ -150,6 +157,12 @@ fn rows_may_be_marked(rt: HostRuntime) -> Result<(), Fail> {
             Map::Replaced,
             "old,new,exact\nA,D,2\n",
             "refused 3c lineage row 1\n",
+        ),
+        Step::RefuseTable(
+            2025,
+            Map::Replaced,
+            "old,new,exact,exact\nA,D,1,1\n",
+            "refused 32 lineage row 0\n",
         ),
     ];
     take_anew(&rt, steps.as_slice())

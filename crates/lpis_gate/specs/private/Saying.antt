@@ -1,5 +1,5 @@
 -- What a submission says, or the answer where it says nothing.
-use Rattle.std.specs.Prelude.{◌≡◌, ⊥, Ok, List}
+use Rattle.std.specs.Prelude.{◌≡◌, Ok, List}
 use Rattle.lpis_covers.specs.Faults.{rows_of}
 use Rattle.lpis_parcels.specs.Release.{Contents, release_of}
 use Rattle.lpis_cert.specs.declared.cert.Cert.{Cert}
