@@ -4,3 +4,4 @@ pub mod JoinLemmas
 pub mod IndexLemmas
 pub mod WeightedLemmas
 pub mod Shared
+mod NamingLemmas

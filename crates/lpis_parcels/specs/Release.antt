@@ -1,6 +1,7 @@
 -- The release of three texts, or its first fault.
 use Rattle.std.specs.Prelude.{◌+◌, ◌∷◌, ◌++◌, Bool, not, ℕ, List, [], map, filter, Result, Ok, Err}
-use Rattle.std.specs.List.{list_any}
+use Rattle.std.specs.Prelude.{Option}
+use Rattle.std.specs.List.{find, list_any}
 use Rattle.lpis_covers.specs.declared.class.Class.{Class}
 use Rattle.lpis_covers.specs.declared.piece.Piece.{Piece}
 use Rattle.lpis_covers.specs.declared.fault.Table.TheVariants as table
@@ -80,3 +81,7 @@ release_of parcels covers classes =
 -- the pieces of a parcel, in the order of their table
 abbrev pub pieces_named : Contents → List ℕ → List Piece
 pieces_named c id = filter (names id) c.pieces
+
+-- the parcel of an identifier, where there is one
+abbrev pub parcel_named : Contents → List ℕ → Option Parcel
+parcel_named c id = find (λ p. same_id id p.id) c.parcels

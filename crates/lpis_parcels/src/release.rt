@@ -2,10 +2,11 @@
 
 ghost use Rattle.std.specs.Prelude.{◌≡◌, ◌≤◌, ◌<◌, [], All, Some, length, slice_get};
 ghost use Rattle.std.specs.List.{IsDistinct};
+ghost use Rattle.std.specs.Option.{option_copied};
 ghost use Rattle.lpis_covers.specs.Ids.{same_id};
 ghost use Rattle.lpis_covers.specs.Table.{Answers, most_rows};
 ghost use Rattle.lpis_parcels.specs.Release.{class_codes, join_faults, joined, names, parcel_ids};
-ghost use Rattle.lpis_parcels.specs.Release.{piece_ids};
+ghost use Rattle.lpis_parcels.specs.Release.{parcel_named, piece_ids};
 
 use crate::groups::Join;
 use crate::joins::{Joins, join};
@@ -73,6 +74,16 @@ impl Release {
         ensures joined { join_faults self.now ≡ [] }
     {
         self.parcels.as_slice()
+    }
+
+    /// The parcel of this identifier, where there is one. It is found in constant time.
+    pub fn parcel(&self, id: &Id) -> Option<&Parcel>
+        ensures { option_copied result ≡ parcel_named self.now id.now }
+    {
+        match self.parcels.position(id) {
+            Some(index) => self.parcels.as_slice().get(index),
+            None => None,
+        }
     }
 
     /// The pieces in the order of their table.

@@ -1,0 +1,43 @@
+-- The parcel of an identifier, by its index.
+use Rattle.std.proofs.Common.{◌≡◌, ◌∙◌, ◌≤◌, ◌+◌, ℕ, suc, List, [], ◌∷◌, Option, Some, None, Bool, cond, not, length, slice_get, refl, sym, ap, arith}
+use Rattle.std.proofs.lemmas.Grind.{common_steps}
+use Rattle.std.specs.List.{ItemBy, find, position, position_or_len}
+use Rattle.std.specs.Option.{option_map}
+use Rattle.std.proofs.lemmas.List.Folds.{find_at}
+use Rattle.std.proofs.lemmas.Option.{slice_get-get_or, slice_get_past}
+use Rattle.lpis_covers.specs.Ids.{same_id}
+use Rattle.lpis_parcels.specs.declared.parcel.Parcel.{Parcel}
+use Rattle.lpis_parcels.specs.Release.{Contents, parcel_ids, parcel_named}
+
+abbrev has : List ℕ → Parcel → Bool
+has id p = same_id id p.id
+
+place : (p : List ℕ → Bool) (xs : List (List ℕ)) (i : ℕ) → position p xs ≡ Some i → position_or_len p xs ≡ i
+place p xs i e = grind (arith, common_steps)
+
+no-place : (p : List ℕ → Bool) (xs : List (List ℕ)) → position p xs ≡ None → length xs ≤ position_or_len p xs
+no-place p xs e = grind (arith, common_steps)
+
+by-ids : (id : List ℕ) (xs : List Parcel) → position_or_len (same_id id) (parcel_ids xs) ≡ position_or_len (has id) xs
+by-ids id [] = refl
+by-ids id (x ∷ xs) = ap (λ (n : ℕ). cond (not (same_id id x.id)) (1 + n) 0) (by-ids id xs)
+
+as-many : (xs : List Parcel) → length (parcel_ids xs) ≡ length xs
+as-many [] = refl
+as-many (x ∷ xs) = ap suc (as-many xs)
+
+item : {R X : Type 0} (now : R → X) (xs : List X) (i : ℕ) (r : Option R) → ItemBy now xs i i r → option_map now r ≡ slice_get xs i
+item now xs i None l = sym (slice_get_past xs i l.3)
+item now xs i (Some x) l = ap Some l.1 ∙ sym (slice_get-get_or xs i (now x) l.3.0)
+
+-- what a list of parcels lends at the index of an identifier
+pub parcel-found : {R : Type 0} (now : R → Parcel) (id : List ℕ) (xs : List Parcel) (c : Contents) (at : Option ℕ) (i : ℕ) (r : Option R) → xs ≡ c.parcels
+    → at ≡ position (same_id id) (parcel_ids xs) → at ≡ Some i → ItemBy now xs i i r → option_map now r ≡ parcel_named c id
+parcel-found now id xs c at i r same is found lent =
+    item now xs i r lent ∙ ap (λ (k : ℕ). slice_get xs k) (sym (place (same_id id) (parcel_ids xs) i (sym is ∙ found)) ∙ by-ids id xs) ∙ sym (find_at (has id) xs)
+    ∙ ap (λ (l : List Parcel). find (has id) l) same
+
+pub parcel-missing : (id : List ℕ) (xs : List Parcel) (c : Contents) (at : Option ℕ) → xs ≡ c.parcels → at ≡ position (same_id id) (parcel_ids xs) → at ≡ None → None ≡ parcel_named c id
+parcel-missing id xs c at same is missing =
+    let past : length xs ≤ position_or_len (has id) xs = let h = no-place (same_id id) (parcel_ids xs) (sym is ∙ missing) in let s = as-many xs in let b = by-ids id xs in omega (arith, h, s, b) in
+    sym (find_at (has id) xs ∙ slice_get_past xs (position_or_len (has id) xs) past) ∙ ap (λ (l : List Parcel). find (has id) l) same
