@@ -18,7 +18,7 @@ use Rattle.lpis_register.specs.Accepting.{IsStep}
 use Rattle.lpis_register.specs.Faults.{IsRefused}
 use Rattle.lpis_register.specs.declared.accepting.Step.{Step}
 use Rattle.lpis_register.specs.declared.fault.PublishFault.TheVariants.{Memory, Lineage, Store}
-use Rattle.lpis_register.specs.private.Passing.{of_asking, of_blocks, of_lineage}
+use Rattle.lpis_register.specs.Passing.{of_asking, of_blocks, of_lineage}
 
 pub stepped : (h : List Entry) (live one two : List (List ℕ)) (rows : List Row) (step : Step) → one ≡ live → two ≡ live → step.live.items ≡ live → faults h one rows ≡ []
     → IsChange (last_live h) one rows step.change → (IsChange (last_live h) live rows step.change → IsFresh h live step.fresh.items → IsWriting h live step.change.dropped_ids step.fresh.items)
