@@ -1,0 +1,16 @@
+pub mod Common
+pub mod SplittingLemmas
+pub mod NumberLemmas
+pub mod WordLemmas
+pub mod LineLemmas
+pub mod StepLemmas
+pub mod BlockLemmas
+pub mod FastPathLemmas
+pub mod HeadLemmas
+pub mod DraftLemmas
+pub mod ReadLemmas
+pub mod CertEqualityLemmas
+pub mod LawLemmas
+pub mod ReadbackLemmas
+pub mod WriteLemmas
+pub mod Shared

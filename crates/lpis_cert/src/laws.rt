@@ -18,19 +18,16 @@ ghost use Rattle.lpis_cert.specs.declared.fault.CertCode.TheVariants as code;
 
 /// A certificate has one text of version 2.
 pub fn one_text_a_value()
-    requires { ⊥ }
     ensures { (c : Cert) (text : List ℕ) → IsTextOf written c text ↔ (text ≡ cert_text c) }
 {}
 
 /// Two certificates have no text in common, of whatever versions.
 pub fn one_value_a_text()
-    requires { ⊥ }
     ensures { (text : List ℕ) (c d : Cert) → IsCertText text c → IsCertText text d → c ≡ d }
 {}
 
 /// A text of a certificate has no fault.
 pub fn texts_have_no_fault()
-    requires { ⊥ }
     ensures { (c : Cert) (text : List ℕ) → IsCertText text c
         → verdict text ≡ Ok (2 + length (lines_of (content_of c))) }
 {}
@@ -38,21 +35,18 @@ pub fn texts_have_no_fault()
 /// A text without a fault is a certificate's: a text is refused for its fault, or it has a
 /// certificate.
 pub fn texts_without_fault()
-    requires { ⊥ }
     ensures { (text : List ℕ) (after : ℕ) → verdict text ≡ Ok after
         → (c : Cert) × IsCertText text c }
 {}
 
 /// A text without a fault that was cut off lacks its next line, or that line's end.
 pub fn cut_texts()
-    requires { ⊥ }
     ensures { (front back : List ℕ) (after : ℕ) → verdict (front ++ back) ≡ Ok after
         → 0 < length back → verdict front ≡ Err (code.Truncated, length (lines front)) }
 {}
 
 /// A line that can stand is read exactly where it is spelled, in each version.
 pub fn spelled_lines()
-    requires { ⊥ }
     ensures again { (v : Version) (e : Expected) (l : Line) → LineFits v l
         → can_stand e (line_kind l) ≡ true → read_line v e (spelling v l) ≡ Ok l }
     ensures takes { (v : Version) (e : Expected) (line : List ℕ) (l : Line)
@@ -61,7 +55,6 @@ pub fn spelled_lines()
 
 /// A number has one spelling.
 pub fn canonical_numbers()
-    requires { ⊥ }
     ensures { (limit : ℕ) (w : List ℕ) (n : ℕ) → limit ≤ number_margin → (number limit w ≡ Some n)
         ↔ ((w ≡ decimal n) × (n ≤ limit)) }
 {}

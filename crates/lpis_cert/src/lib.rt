@@ -1,14 +1,23 @@
 //! Certificates and their texts.
 #![tactic(auto)]
 
+mod blocks;
 mod cert;
+mod draft;
+mod fast_path;
 mod fault;
 mod fields;
+mod form;
+mod head;
 mod kind;
 mod laws;
+mod lines;
+mod number;
 mod part;
 mod reading;
+mod rest;
 mod version;
+mod words;
 mod writing;
 
 pub use cert::{Cert, MOST_FLATS, MOST_TRIANGLES};
@@ -21,3 +30,6 @@ pub use laws::{
 pub use part::{ExactBlock, PairLine, ParcelPart, PiecePart};
 pub use reading::read_cert;
 pub use writing::{WriteFault, write_cert};
+
+#[cfg(test)]
+mod tests;

@@ -1,7 +1,8 @@
 //! Versions of the text.
 
 ghost use Rattle.std.specs.Prelude.{◌≡◌, ◌≤◌, ◌*◌};
-ghost use Rattle.lpis_cert.specs.Versions.{factor, first_line, greatest, named as version_named};
+ghost use Rattle.lpis_cert.specs.Versions.{factor, first_line, greatest, has_exact};
+ghost use Rattle.lpis_cert.specs.Versions.{named as version_named};
 ghost use Rattle.lpis_cert.specs.Limits.{number_margin};
 ghost use Rattle.lpis_cert.specs.private.Margins.{written_margin};
 
@@ -48,6 +49,16 @@ impl Version {
         match self {
             Version::One => 2_000_000_000,
             Version::Two => LIMIT as u64,
+        }
+    }
+
+    /// Whether its texts can have blocks of exact splits and merges.
+    pub(crate) fn has_exact(self) -> bool
+        ensures { result ≡ has_exact self }
+    {
+        match self {
+            Version::One => false,
+            Version::Two => true,
         }
     }
 

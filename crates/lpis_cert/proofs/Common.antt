@@ -1,0 +1,37 @@
+-- The names that most proofs of this crate cite, passed on from one place. Declares nothing.
+pub use Rattle.lpis_cert.specs.CertText.{Content, Corners, EndLine, ExactBlock as FlatsBlock, ExactLine, FlatLine, Line, PairLine, PairsLine, ParcelBlock, ParcelLine, PieceBlock, PieceLine, Separator, TriangleLine, end_lines}
+pub use Rattle.lpis_cert.specs.CertText.{exact_lines, parcel_lines, piece_lines, side}
+unfoldable pub use Rattle.lpis_cert.specs.CertText.{lines_of, spelling, text_of, text_of_lines, words_of}
+pub use Rattle.lpis_cert.specs.Contents.{IsCertText, all_corners, content_of, corner_numbers, exact_of, parcel_of, piece_of, separator_of}
+pub use Rattle.lpis_cert.specs.Faults.{AtEnd, Declared, InBody, InPairs, State, first_state, grow, grow_flats, is_lf, lines, verdict}
+unfoldable pub use Rattle.lpis_cert.specs.Faults.{at_last, outcome, outcome_of, step}
+pub use Rattle.lpis_cert.specs.Fitting.{CoordinateFits, CornersFit, LineFits, SeparatorFits}
+pub use Rattle.lpis_cert.specs.Limits.{greatest_count, most_flats, most_triangles, number_margin}
+pub use Rattle.lpis_cert.specs.LineKinds.{line_kind}
+pub use Rattle.lpis_cert.specs.Reading.{can_stand, digits_on, is_empty, is_gap, words}
+unfoldable pub use Rattle.lpis_cert.specs.Reading.{number, read_line, values}
+pub use Rattle.lpis_cert.specs.Versions.{first_line, has_exact, named, written}
+pub use Rattle.lpis_cert.specs.declared.cert.Cert.{Cert}
+pub use Rattle.lpis_cert.specs.declared.fault.CertCode.{CertCode}
+pub use Rattle.lpis_cert.specs.declared.fault.CertFault.{CertFault}
+pub use Rattle.lpis_cert.specs.declared.kind.Expected.TheVariants.{Block, One}
+pub use Rattle.lpis_cert.specs.declared.kind.Kind.{Kind}
+pub use Rattle.lpis_cert.specs.declared.kind.Kind.TheVariants.{End, Exact, Flat, Pair, Pairs, Parcel, Piece}
+pub use Rattle.lpis_cert.specs.declared.kind.Stage.{Stage}
+pub use Rattle.lpis_cert.specs.declared.part.ExactBlock.{ExactBlock}
+pub use Rattle.lpis_cert.specs.declared.part.ParcelPart.{ParcelPart}
+pub use Rattle.lpis_cert.specs.declared.part.PiecePart.{PiecePart}
+pub use Rattle.lpis_cert.specs.declared.version.Version.{Version}
+pub use Rattle.lpis_cert.specs.private.Drafts.{draft_state, exacts_lines, parcels_lines, pieces_lines}
+pub use Rattle.lpis_cert.specs.private.Fits.{ExactFits, ParcelFits, PieceFits}
+pub use Rattle.lpis_cert.specs.private.Taken.{FaultFrom, LineFault, Placed, ReadsLines, corner_line}
+pub use Rattle.lpis_covers.specs.Ids.{is_id}
+pub use Rattle.lpis_points.specs.declared.triangle.Triangle.{Triangle}
+pub use Rattle.std.proofs.lemmas.Bool.{and_parts}
+pub use Rattle.std.proofs.lemmas.Bool.Decides.{nat_tests}
+pub use Rattle.std.proofs.lemmas.List.{length-map}
+pub use Rattle.std.proofs.lemmas.List.Splits.{join_with_byte-slice_split}
+pub use Rattle.std.proofs.lemmas.List.Sums.{sum_by-cons}
+pub use Rattle.std.proofs.lemmas.Result.{err_from_is_err_and}
+pub use Rattle.std.specs.Io.KnownBytes.{Appends}
+pub use Rattle.std.specs.List.{AllByRecursion, join_with_byte, list_any, onto_first}

@@ -1,0 +1,32 @@
+-- The lines that begin blocks.
+use Rattle.std.proofs.Common.{◌≡◌, ℕ, true, List, Option, ◌⊎◌, inl, inr}
+use Rattle.lpis_cert.proofs.Common.{Stage, Kind, Piece, Flat, Parcel, Exact, Pairs, Pair, End, Block, Version, Line, values, can_stand, Placed}
+use Rattle.lpis_cert.specs.declared.kind.Kind.TheVariants.{Triangle}
+use Rattle.lpis_cert.specs.Reading.{piece_line, parcel_line, exact_line, pairs_line}
+use Rattle.lpis_cert.proofs.StepLemmas.{formed_stands}
+
+pub values_piece : (v : Version) (k : Kind) (ws : List (List ℕ)) (o : Option Line) → k ≡ Piece → piece_line ws ≡ o → values v k ws ≡ o
+unfolding values
+values_piece v k ws o is h = rw is h
+
+pub values_parcel : (v : Version) (k : Kind) (ws : List (List ℕ)) (o : Option Line) → k ≡ Parcel → parcel_line ws ≡ o → values v k ws ≡ o
+unfolding values
+values_parcel v k ws o is h = rw is h
+
+pub values_exact : (v : Version) (k : Kind) (ws : List (List ℕ)) (o : Option Line) → k ≡ Exact → exact_line ws ≡ o → values v k ws ≡ o
+unfolding values
+values_exact v k ws o is h = rw is h
+
+pub values_pairs : (v : Version) (k : Kind) (ws : List (List ℕ)) (o : Option Line) → k ≡ Pairs → pairs_line ws ≡ o → values v k ws ≡ o
+unfolding values
+values_pairs v k ws o is h = rw is h
+
+pub stands_of : (v : Version) (b : Stage) (text : List ℕ) (n : ℕ) (k : Kind) (ws : List (List ℕ)) (rest : List ℕ) (m : ℕ) → Placed v (Block b) text n k ws rest m
+    → can_stand (Block b) k ≡ true
+stands_of v b text n k ws rest m p = formed_stands v (Block b) p.line k ws p.placed
+
+pub no_block : (b : Stage) (k : Kind) → can_stand (Block b) k ≡ true → (k ≡ Triangle) ⊎ ((k ≡ Flat) ⊎ ((k ≡ Pair) ⊎ (k ≡ End))) → ⊥
+no_block b k h (inl e) = cc (rw e at h)
+no_block b k h (inr (inl e)) = cc (rw e at h)
+no_block b k h (inr (inr (inl e))) = cc (rw e at h)
+no_block b k h (inr (inr (inr e))) = cc (rw e at h)

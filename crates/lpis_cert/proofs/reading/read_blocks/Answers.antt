@@ -1,0 +1,39 @@
+use Rattle.std.proofs.Common.{refl, ◌∙◌, sym}
+use Rattle.lpis_cert.proofs.Common.{lines_of, content_of, draft_state}
+use Rattle.lpis_cert.proofs.StepLemmas.{follows_none}
+use Rattle.lpis_cert.proofs.ReadLemmas.{follows_grown, whole_text}
+use Rattle.lpis_cert.specs.private.Drafts.{draft_lines}
+use Rattle.lpis_cert.proofs.reading.read_blocks.Goals as goal
+
+pub reading-init : goal.reading-init
+reading-init c =
+    let none = c.no_blocks-draft.ensures.lines in
+    let state = c.no_blocks-draft.ensures.state in
+    record {
+      version = c.no_blocks-draft.ensures.version;
+      follows = rw none (follows_none c.args.version c.args.start.text.now c.args.start.line);
+      state = rw state refl;
+    }
+
+pub reading-preserved : goal.reading-preserved
+reading-preserved c =
+    let is = c.in-More.is in
+    let same = c.reading.invariant.version in
+    let grown = rw is at c.in_ok-grown.ensures.ok in
+    let more = rw same at grown.1 in
+    record {
+      version = grown.0 ∙ same;
+      follows = follows_grown c.args.version c.args.start.text.now c.args.start.line (draft_lines c.reading.draft)
+          (draft_lines c.in-More.grown) (draft_state c.reading.draft) (draft_state c.in-More.grown) c.reading.rest.text.now
+          c.reading.rest.line c.in-More.left.text.now c.in-More.left.line c.reading.invariant.follows more;
+      state = sym more.state ∙ c.reading.invariant.state;
+    }
+
+pub returns-in-Done-clause-ok : goal.returns-in-Done-clause-ok
+returns-in-Done-clause-ok c =
+    let is = c.in-Done.is in
+    let same = c.reading.invariant.version in
+    let whole = rw same at (rw is at c.in_ok-grown.ensures.ok) in
+    whole_text c.args.version c.args.start.text.now c.args.start.line (draft_lines c.reading.draft)
+    (lines_of (content_of c.in-Done.cert)) c.reading.rest.text.now c.reading.rest.line c.reading.invariant.follows
+    whole

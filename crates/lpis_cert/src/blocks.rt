@@ -1,0 +1,279 @@
+//! A draft with one more block.
+
+ghost use Rattle.std.specs.Prelude.{◌≡◌, ◌≤◌, ◌+◌, ◌∷◌, [], true, length, sum_by, IfOk, IfErr};
+ghost use Rattle.lpis_cert.specs.Limits.{most_triangles, most_flats, greatest_count};
+ghost use Rattle.lpis_covers.specs.Ids.{is_id};
+ghost use Rattle.lpis_cert.specs.declared.kind.Stage.TheVariants as stage;
+ghost use Rattle.lpis_cert.specs.declared.fault.CertFault.TheVariants.{Memory};
+ghost use Rattle.lpis_cert.specs.CertText.{PieceLine, PairsLine, lines_of};
+ghost use Rattle.lpis_cert.specs.Fitting.{LineFits};
+ghost use Rattle.lpis_cert.specs.LineKinds.{line_kind};
+ghost use Rattle.lpis_cert.specs.Reading.{can_stand};
+ghost use Rattle.lpis_cert.specs.declared.kind.Expected.TheVariants.{Block};
+ghost use Rattle.lpis_cert.specs.private.Taken.{ReadsLines, FaultFrom};
+ghost use Rattle.lpis_cert.specs.Contents.{content_of};
+ghost use Rattle.lpis_cert.specs.private.Drafts.{DraftGrown, Progressed, Whole, draft_state};
+ghost use Rattle.lpis_cert.specs.private.Drafts.{draft_lines, flats_line, OneMore};
+
+use crate::cert::{Cert, MOST_FLATS, MOST_TRIANGLES};
+use crate::draft::{Draft, Progress};
+use crate::fault::{CertCode, CertFault};
+use crate::head::{Owner, Head, head_at};
+use crate::lines::{corner_lines, end_line, pair_lines};
+use crate::part::{ExactBlock, PairLine, ParcelPart, PiecePart};
+use crate::rest::Rest;
+use lpis_covers::Id;
+use lpis_points::Triangle;
+use lpis_rings::{Sequence, without_spare};
+use std::alloc::Global;
+
+/// A piece of its lines' values.
+fn piece_part(id: Id, triangles: Vec<Triangle>, flats: Vec<Triangle>) -> PiecePart
+    requires { is_id id ≡ true }
+    ensures id { result.id ≡ id }
+    ensures triangles { result.triangles ≡ triangles.items }
+    ensures flats { result.flats ≡ flats.items }
+{
+    PiecePart {
+        id,
+        triangles: Sequence::new(triangles),
+        flats: Sequence::new(flats),
+    }
+}
+
+/// A parcel of its lines' values.
+fn parcel_part(id: Id, flats: Vec<Triangle>) -> ParcelPart
+    requires { is_id id ≡ true }
+    ensures id { result.id ≡ id }
+    ensures flats { result.flats ≡ flats.items }
+{
+    ParcelPart {
+        id,
+        flats: Sequence::new(flats),
+    }
+}
+
+/// An exact block of its lines' values.
+fn exact_part(merge: bool, id: Id, flats: Vec<Triangle>) -> ExactBlock
+    requires { is_id id ≡ true }
+    ensures merge { result.merge ≡ merge }
+    ensures id { result.id ≡ id }
+    ensures flats { result.flats ≡ flats.items }
+{
+    ExactBlock {
+        merge,
+        id,
+        flats: Sequence::new(flats),
+    }
+}
+
+/// The certificate of all its parts.
+fn cert_of(
+    pieces: Vec<PiecePart>,
+    parcels: Vec<ParcelPart>,
+    exact: Vec<ExactBlock>,
+    pairs: Vec<PairLine>,
+) -> Cert
+    requires triangles_few { sum_by (λ p. length p.triangles) pieces.items ≤ most_triangles }
+    requires flats_few { sum_by (λ p. length p.flats) pieces.items + sum_by (λ p. length p.flats)
+        parcels.items + sum_by (λ b. length b.flats) exact.items ≤ most_flats }
+    requires pairs_few { length pairs.items ≤ greatest_count }
+    ensures pieces { result.pieces ≡ pieces.items }
+    ensures parcels { result.parcels ≡ parcels.items }
+    ensures exact { result.exact ≡ exact.items }
+    ensures pairs { result.pairs ≡ pairs.items }
+{
+    Cert {
+        pieces: Sequence::new(pieces),
+        parcels: Sequence::new(parcels),
+        exact: Sequence::new(exact),
+        pairs: Sequence::new(pairs),
+    }
+}
+
+/// The lines of a piece.
+fn piece_block<'a>(
+    alloc: Global,
+    draft: Draft,
+    id: Id,
+    triangle_count: u32,
+    flat_count: u32,
+    start: Rest<'a>,
+    after: Rest<'a>,
+) -> Result<(Draft, Rest<'a>), CertFault>
+    requires begins { ReadsLines draft.version start.text.now start.line
+        (PieceLine id triangle_count flat_count ∷ [])
+        after.text.now after.line }
+    requires named { is_id id ≡ true }
+    requires fresh { draft.stage ≡ stage.Pieces }
+    ensures ok { IfOk result (λ x. DraftGrown draft x.0 start.entry.text.now start.entry.line
+        x.1.text.now x.1.line) }
+    ensures err { IfErr result (λ e. FaultFrom draft.version e start.entry.line
+        (draft_state draft) start.entry.text.now) }
+{
+    let Draft {
+        mut pieces,
+        parcels,
+        exact,
+        stage,
+        triangles,
+        flats,
+        version,
+    } = draft;
+    let all_triangles = triangles + triangle_count as u64;
+    let all_flats = flats + flat_count as u64;
+    if all_triangles > MOST_TRIANGLES || all_flats > MOST_FLATS {
+        return Err(CertFault::At {
+            code: CertCode::TooMany,
+            line: start.line,
+        });
+    }
+    let (own_triangles, middle) = corner_lines(alloc, version, false, triangle_count, after)?;
+    let (own_flats, rest) = corner_lines(alloc, version, true, flat_count, middle)?;
+    pieces.push(piece_part(id, own_triangles, own_flats))?;
+    let grown = Draft {
+        pieces,
+        parcels,
+        exact,
+        stage,
+        triangles: all_triangles,
+        flats: all_flats,
+        version,
+    };
+    Ok((grown, rest))
+}
+
+/// The parcels and the exact blocks with one more block of flats.
+fn with_flats(
+    mut parcels: Vec<ParcelPart>,
+    mut exact: Vec<ExactBlock>,
+    owner: Owner,
+    id: Id,
+    flats: Vec<Triangle>,
+) -> Result<(Vec<ParcelPart>, Vec<ExactBlock>), CertFault>
+    requires { is_id id ≡ true }
+    ensures ok { IfOk result (λ x. OneMore owner id flats.items parcels.items
+        exact.items x.0.items x.1.items) }
+    ensures err { IfErr result (λ e. e ≡ Memory) }
+{
+    match owner {
+        Owner::Parcel => parcels.push(parcel_part(id, flats))?,
+        Owner::Exact { merge } => exact.push(exact_part(merge, id, flats))?,
+    }
+    Ok((parcels, exact))
+}
+
+/// The lines of a block of flats alone.
+fn flat_block<'a>(
+    alloc: Global,
+    draft: Draft,
+    owner: Owner,
+    id: Id,
+    flat_count: u32,
+    start: Rest<'a>,
+    after: Rest<'a>,
+) -> Result<(Draft, Rest<'a>), CertFault>
+    requires begins { ReadsLines draft.version start.text.now start.line
+        (flats_line owner id flat_count ∷ []) after.text.now after.line }
+    requires fits { LineFits draft.version (flats_line owner id flat_count) }
+    requires stands { can_stand (Block draft.stage) (line_kind (flats_line owner id flat_count))
+        ≡ true }
+    ensures ok { IfOk result (λ x. DraftGrown draft x.0 start.entry.text.now start.entry.line
+        x.1.text.now x.1.line) }
+    ensures err { IfErr result (λ e. FaultFrom draft.version e start.entry.line
+        (draft_state draft) start.entry.text.now) }
+{
+    let Draft {
+        pieces,
+        parcels,
+        exact,
+        stage: _,
+        triangles,
+        flats,
+        version,
+    } = draft;
+    let all_flats = flats + flat_count as u64;
+    if all_flats > MOST_FLATS {
+        return Err(CertFault::At {
+            code: CertCode::TooMany,
+            line: start.line,
+        });
+    }
+    let (own_flats, rest) = corner_lines(alloc, version, true, flat_count, after)?;
+    let (parcels, exact) = with_flats(parcels, exact, owner, id, own_flats)?;
+    let grown = Draft {
+        pieces,
+        parcels,
+        exact,
+        stage: owner.stage(),
+        triangles,
+        flats: all_flats,
+        version,
+    };
+    Ok((grown, rest))
+}
+
+/// The pairs and the end.
+fn finish(
+    alloc: Global,
+    draft: Draft,
+    count: u32,
+    start: Rest<'_>,
+    after: Rest<'_>,
+) -> Result<Cert, CertFault>
+    requires { ReadsLines draft.version start.text.now start.line (PairsLine count ∷ [])
+        after.text.now after.line }
+    ensures ok { IfOk result (λ cert. Whole draft.version (draft_lines draft)
+        (lines_of (content_of cert)) start.entry.text.now) }
+    ensures err { IfErr result (λ e. FaultFrom draft.version e start.entry.line
+        (draft_state draft) start.entry.text.now) }
+{
+    let (pairs, last) = pair_lines(alloc, draft.version, count, after)?;
+    let rest = end_line(draft.version, last)?;
+    if !rest.text.is_empty() {
+        return Err(CertFault::At {
+            code: CertCode::TextAfterEnd,
+            line: rest.line,
+        });
+    }
+    let Draft {
+        pieces,
+        parcels,
+        exact,
+        stage: _,
+        triangles: _,
+        flats: _,
+        version: _,
+    } = draft;
+    let pieces = without_spare(pieces)?;
+    let parcels = without_spare(parcels)?;
+    let exact = without_spare(exact)?;
+    Ok(cert_of(pieces, parcels, exact, pairs))
+}
+
+/// The next block, or the end.
+pub(crate) fn next_block<'a>(
+    alloc: Global,
+    draft: Draft,
+    rest: Rest<'a>,
+) -> Result<Progress<'a>, CertFault>
+    ensures ok { IfOk result (λ t. Progressed draft t rest.entry.text.now rest.entry.line) }
+    ensures err { IfErr result (λ e. FaultFrom draft.version e rest.entry.line
+        (draft_state draft) rest.entry.text.now) }
+{
+    let (head, after) = head_at(alloc, draft.version, draft.stage, rest)?;
+    match head {
+        Head::Piece(id, triangles, flats) => {
+            let (grown, left) = piece_block(alloc, draft, id, triangles, flats, rest, after)?;
+            Ok(Progress::More(grown, left))
+        }
+        Head::Flats(owner, id, flats) => {
+            let (grown, left) = flat_block(alloc, draft, owner, id, flats, rest, after)?;
+            Ok(Progress::More(grown, left))
+        }
+        Head::Pairs(count) => {
+            let cert = finish(alloc, draft, count, rest, after)?;
+            Ok(Progress::Done(cert))
+        }
+    }
+}

@@ -1,0 +1,142 @@
+//! Lines of corners as they are usually written, read in one pass. What is refused here is looked
+//! at again word by word.
+
+ghost use Rattle.std.specs.Prelude.{◌≡◌, ◌<◌, ◌≤◌, ◌++◌, ◌∷◌, cond, get_or, IfSome};
+ghost use Rattle.std.specs.Fmt.{decimal};
+ghost use Rattle.lpis_points.specs.Range.{IsInRange};
+ghost use Rattle.lpis_cert.specs.Limits.{number_margin};
+ghost use Rattle.lpis_cert.specs.CertText.{coordinate_word, spelling};
+ghost use Rattle.lpis_cert.specs.Fitting.{CoordinateFits, CornersFit};
+ghost use Rattle.lpis_cert.specs.Contents.{corner_numbers};
+ghost use Rattle.lpis_cert.specs.private.Taken.{Begins, corner_line};
+
+use crate::version::Version;
+use lpis_points::{Point, Triangle};
+
+/// The number that digits up to a byte spell, where they don't begin with 0.
+fn leading_digits(text: &[u8], end: u8, limit: u64) -> Option<(u64, &[u8])>
+    requires small { limit ≤ number_margin }
+    requires apart { end < 48 }
+    requires first { 48 < get_or text.now 0 0 }
+    ensures { IfSome result (λ x. Begins text.now (decimal x.0) end x.1.now × (x.0 ≤ limit)) }
+{
+    let mut value = 0;
+    let mut at = 0;
+    for b in text {
+        if *b == end {
+            return Some((value, &text[at + 1..]));
+        }
+        if !b.is_ascii_digit() {
+            return None;
+        }
+        value = value * 10 + u64::from(*b - b'0');
+        if value > limit {
+            return None;
+        }
+        at += 1;
+    }
+    None
+}
+
+/// What comes after a byte, where the text begins with it.
+fn skip(text: &[u8], byte: u8) -> Option<&[u8]>
+    ensures { IfSome result (λ rest. text.now ≡ byte ∷ rest.now) }
+{
+    match text {
+        [first, rest @ ..] => { if *first == byte { Some(rest) } else { None } }
+        [] => None,
+    }
+}
+
+/// The number that a word up to a byte spells.
+fn leading_number(text: &[u8], end: u8, limit: u64) -> Option<(u64, &[u8])>
+    requires small { limit ≤ number_margin }
+    requires apart { end < 48 }
+    ensures { IfSome result (λ x. Begins text.now (decimal x.0) end x.1.now × (x.0 ≤ limit)) }
+{
+    if let Some(after) = skip(text, b'0') {
+        let rest = skip(after, end)?;
+        return Some((0, rest));
+    }
+    match text {
+        [first, ..] => {
+            if *first > b'0' {
+                leading_digits(text, end, limit)
+            } else {
+                None
+            }
+        }
+        [] => None,
+    }
+}
+
+/// The coordinate in millimetres that a word up to a byte spells.
+fn leading_coordinate(version: Version, text: &[u8], end: u8) -> Option<(i64, &[u8])>
+    requires { end < 48 }
+    ensures word { IfSome result (λ x. Begins text.now (coordinate_word version x.0) end x.1.now) }
+    ensures fits { IfSome result (λ x. CoordinateFits version x.0) }
+    ensures range { IfSome result (λ x. IsInRange x.0) }
+{
+    let limit = version.greatest();
+    match text {
+        [b'-', digits @ ..] => match leading_number(digits, end, limit) {
+            None | Some((0, _)) => None,
+            Some((n, rest)) => Some((-(version.scaled(n) as i64), rest)),
+        },
+        _ => match leading_number(text, end, limit) {
+            None => None,
+            Some((n, rest)) => Some((version.scaled(n) as i64, rest)),
+        },
+    }
+}
+
+/// The point that two words spell, the second up to a byte.
+fn leading_point(version: Version, text: &[u8], end: u8) -> Option<(Point, &[u8])>
+    requires { end < 48 }
+    ensures words { IfSome result (λ p. text.now ≡ coordinate_word version p.0.x
+        ++ (32 ∷ (coordinate_word version p.0.y ++ (end ∷ p.1.now)))) }
+    ensures fits { IfSome result
+        (λ p. CoordinateFits version p.0.x × CoordinateFits version p.0.y) }
+{
+    let (x, after) = leading_coordinate(version, text, b' ')?;
+    let (y, rest) = leading_coordinate(version, after, end)?;
+    Some((Point { x, y }, rest))
+}
+
+/// The corners that a line spells from its second word on, and the text after its end.
+fn leading_triangle(version: Version, text: &[u8]) -> Option<(Triangle, &[u8])>
+    ensures words { IfSome result (λ t. text.now ≡ coordinate_word version t.0.a.x
+        ++ (32 ∷ (coordinate_word version t.0.a.y
+        ++ (32 ∷ (coordinate_word version t.0.b.x
+        ++ (32 ∷ (coordinate_word version t.0.b.y
+        ++ (32 ∷ (coordinate_word version t.0.c.x
+        ++ (32 ∷ (coordinate_word version t.0.c.y ++ (10 ∷ t.1.now)))))))))))) }
+    ensures fits { IfSome result (λ t. CornersFit version (corner_numbers t.0)) }
+{
+    let (a, second) = leading_point(version, text, b' ')?;
+    let (b, third) = leading_point(version, second, b' ')?;
+    let (c, rest) = leading_point(version, third, b'\n')?;
+    Some((Triangle { a, b, c }, rest))
+}
+
+fn letter(flat: bool) -> u8
+    ensures { result ≡ cond flat 102 116 }
+{
+    if flat { b'f' } else { b't' }
+}
+
+/// A triangle line or a flat line, and the text after its end.
+pub(crate) fn leading_corners(
+    version: Version,
+    flat: bool,
+    text: &[u8],
+) -> Option<(Triangle, &[u8])>
+    ensures line { IfSome result (λ t. Begins text.now
+        (spelling version (corner_line flat (corner_numbers t.0))) 10 t.1.now) }
+    ensures fits { IfSome result (λ t. CornersFit version (corner_numbers t.0)) }
+{
+    let after = skip(text, letter(flat))?;
+    let fields = skip(after, b' ')?;
+    let (triangle, rest) = leading_triangle(version, fields)?;
+    Some((triangle, rest))
+}
