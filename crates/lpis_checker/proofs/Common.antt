@@ -3,16 +3,14 @@ pub use Rattle.lpis_cert.specs.declared.cert.Cert.{Cert}
 pub use Rattle.lpis_cert.specs.declared.part.PairLine.{PairLine}
 pub use Rattle.lpis_cert.specs.declared.part.ParcelPart.{ParcelPart}
 pub use Rattle.lpis_cert.specs.declared.part.PiecePart.{PiecePart}
-pub use Rattle.lpis_checker.specs.Corners.{corners_of, corners_of_pieces}
 pub use Rattle.lpis_checker.specs.FirstFault.{HoldBelow}
-pub use Rattle.lpis_checker.specs.GoodCertificate.{HaveCorners, Holds, HoldsEverywhere, LineSeparates, OnParcel, OnPiece, edges_of_pieces, triangles_of}
+pub use Rattle.lpis_checker.specs.GoodCertificate.{Holds, HoldsEverywhere, LineSeparates, OnParcel, OnPiece, polygons_of, triangles_of}
 pub use Rattle.lpis_checker.specs.SoundMap.{IsInPiece, IsSoundMap}
 pub use Rattle.lpis_checker.specs.declared.condition.Condition.{Condition}
 pub use Rattle.lpis_checker.specs.declared.condition.Condition.TheVariants.{Corners, Flats, Names, NearPairs, ParcelEdges, PieceEdges, Separating, Triangles, CounterClockwise}
 pub use Rattle.lpis_checker.specs.declared.condition.Site.TheVariants.{LineAt, PairAt, ParcelAt, PieceAt}
-pub use Rattle.lpis_checker.specs.declared.signed.SignedEdge.{SignedEdge}
-pub use Rattle.lpis_checker.specs.private.SignedEdges.{IsGrouped, point_order, sum_at, weight}
 pub use Rattle.lpis_covers.specs.declared.piece.Piece.{Piece}
+pub use Rattle.lpis_edge_sums.specs.Making.{HasCorners, HaveCorners, corners_of}
 pub use Rattle.lpis_parcels.specs.Release.{Contents, pieces_named}
 pub use Rattle.lpis_parcels.specs.declared.parcel.Parcel.{Parcel}
 pub use Rattle.lpis_points.specs.Plane.{same_point}

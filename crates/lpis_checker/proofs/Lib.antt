@@ -1,15 +1,10 @@
 pub mod Common
 pub mod SiteLemmas
-pub mod RunLemmas
-pub mod PointOrderLemmas
-pub mod GroupingLemmas
-pub mod NetSumLemmas
 pub mod DistinctLemmas
-pub mod AreaSumLemmas
 pub mod WeightLemmas
 pub mod SoundMapLemmas
 pub mod PairLineLemmas
 pub mod LowestLemmas
+pub mod ExactLemmas
 pub mod OffLinesLemmas
-pub mod PointSetLemmas
 pub mod Shared

@@ -2,21 +2,23 @@
 use Rattle.std.proofs.Common.{◌≡◌, ◌≢◌, ℕ, zero, suc, ℤ, ◌+ℤ◌, List, [], ◌∷◌, ◌++◌, All, Some, ap, sym, refl, ◌∙◌, subst, slice_get, Contains, flat_map}
 use Rattle.lpis_checker.proofs.Common.{Contains-append_right, none-some, same_Some, Point, Triangle, edges_of, Piece, Parcel, Contents, pieces_named}
 use Rattle.lpis_checker.proofs.Common.{Cert, Names, Triangles, CounterClockwise, Flats, Corners}
-use Rattle.lpis_checker.proofs.Common.{PieceEdges, ParcelEdges, PieceAt, corners_of, corners_of_pieces, HaveCorners, HoldsEverywhere}
+use Rattle.lpis_checker.proofs.Common.{PieceEdges, ParcelEdges, PieceAt, corners_of, HaveCorners, polygons_of, HoldsEverywhere}
 use Rattle.std.proofs.lemmas.List.Elements.{Contains-append_left}
 use Rattle.lpis_points.specs.Plane.{RationalPoint}
 use Rattle.lpis_points.specs.Triangles.{IsCounterClockwise, IsFlat, IsOffItsLines}
 use Rattle.lpis_points.proofs.Shared.{corners_differ}
 use Rattle.lpis_rings.specs.Edges.{turns}
 use Rattle.lpis_rings.proofs.Shared.{piece_turns}
-use Rattle.lpis_checker.specs.Corners.{all_corners}
-use Rattle.lpis_checker.specs.GoodCertificate.{HasCorners}
-use Rattle.lpis_checker.specs.SoundMap.{IsOffLines}
-use Rattle.lpis_checker.specs.TurnsAdd.{TurnsAdd, turns_of_pieces}
-use Rattle.lpis_checker.proofs.AreaSumLemmas.{total, all_at, all_from, all_left, all_right}
+use Rattle.lpis_edge_sums.specs.Making.{HasCorners, TurnsAsParts}
+use Rattle.lpis_checker.specs.SoundMap.{IsOffLines, all_corners}
+use Rattle.lpis_checker.specs.TurnsAdd.{TurnsAdd}
+use Rattle.lpis_edge_sums.proofs.Shared.{all_at, all_from, all_left, all_right}
 use Rattle.lpis_checker.proofs.SoundMapLemmas.{good_parcel, good_parts, parcel_turns}
 
 -- ---- the corners of a part are corners of the release
+abbrev corners_of_pieces : List Piece → List Point
+corners_of_pieces xs = flat_map (λ (x : Piece). corners_of x.polygon) xs
+
 corner_of_pieces : (xs : List Piece) (k : ℕ) (x : Piece) (a : Point) → slice_get xs k ≡ Some x → Contains (corners_of x.polygon) a → Contains (corners_of_pieces xs) a
 corner_of_pieces [] k x a e h = absurd (none-some x e)
 corner_of_pieces (y ∷ ys) zero x a e h =
@@ -46,10 +48,6 @@ off_flat r p off ts h flat = all_from (λ t. IsOffItsLines t p) ts (λ k t e.
     off_triangle r p off t (all_at (HasCorners (all_corners r)) ts k t e h) d.ab d.bc d.ca)
 
 -- ---- what all conditions on parts show
-turns_total : (xs : List Piece) (p : RationalPoint) → total (λ (x : Piece). turns x.polygon p) xs ≡ turns_of_pieces xs p
-turns_total [] p = refl
-turns_total (x ∷ xs) p = ap (λ (z : ℤ). turns x.polygon p +ℤ z) (turns_total xs p)
-
 in_release : (r : Contents) (k : ℕ) (x : Piece) → slice_get r.pieces k ≡ Some x → (t : Triangle) → HasCorners (corners_of x.polygon) t → HasCorners (all_corners r) t
 unfolding HasCorners
 in_release r k x e t h = (corner_of_release r k x t.a e h.0, corner_of_release r k x t.b e h.1, corner_of_release r k x t.c e h.2)
@@ -67,6 +65,6 @@ turns_add r c ids triangles turned flats corners piece_net parcel_net = record {
       piece_turns (edges_of x.polygon) t.triangles t.flats (record { ccw = g.ccw; flat = g.flat; net = g.net }) p d
       (off_turned r p off t.triangles (all_left (HasCorners (all_corners r)) t.triangles t.flats h) g.ccw)
       (off_flat r p off t.flats (all_right (HasCorners (all_corners r)) t.triangles t.flats h) g.flat);
-  parcels = λ p d. all_from (λ (x : Parcel). turns x.polygon p ≡ turns_of_pieces (pieces_named r x.id) p) r.parcels (λ k x e.
-      parcel_turns r x (good_parcel r c ids flats parcel_net k x e) p d ∙ turns_total (pieces_named r x.id) p);
+  parcels = all_from (λ (x : Parcel). TurnsAsParts x.polygon (polygons_of (pieces_named r x.id))) r.parcels (λ k x e.
+      parcel_turns r x (good_parcel r c ids flats parcel_net k x e));
 }

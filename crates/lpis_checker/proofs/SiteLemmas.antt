@@ -54,13 +54,6 @@ of_both {A} {B} xs i ys j P b x y e f h = (
 pub of_line : (c : Cert) (P : PairLine → Type 0) (b : Bool) (k : ℕ) (l : PairLine) → slice_get c.pairs k ≡ Some l → (IsTrue b ↔ P l) → IsTrue b ↔ OfLine c k P
 of_line c P b k l e h = (λ y z g. subst P (same_Some l z (sym e ∙ g)) (h.0 y), λ w. h.1 (w l e))
 
--- a test that is false
-pub untrue : {P : Type 0} (b : Bool) → (IsTrue b ↔ P) → b ≡ false → P → ⊥
-untrue b h e p = clash (h.1 p)
-  where
-    clash : b ≡ true → ⊥
-    clash f = cc
-
 -- an item that is read from a slice of the list
 pub read_at : {A : Type 0} (slice items : List A) (i : ℕ) (x : A) → slice ≡ items → i < length items → x ≡ get_or slice i x → slice_get items i ≡ Some x
 read_at slice items i x e l r =
@@ -93,6 +86,11 @@ pub told_of_both : {A B E H : Type 0} (xs : List A) (ts : List B) (k : ℕ) (P :
     → (H ↔ OfBoth xs k ts k P) → slice_get xs k ≡ Some x → slice_get ts k ≡ Some t → IfOk result (λ b. IsTrue b ↔ P x t) → IfOk result (λ b. IsTrue b ↔ H)
 told_of_both xs ts k P {x} {t} result says e f told =
     IfOk-weaker result _ _ (λ b h. let o = of_both xs k ts k P b x t e f h in (λ y. says.1 (o.0 y), λ y. o.1 (says.0 y))) told
+
+-- a test of two things is one of what equals them
+pub told_alike : {A B E : Type 0} (P : A → B → Type 0) {x y : A} {u v : B} (result : Result Bool E) → x ≡ y → u ≡ v → IfOk result (λ b. IsTrue b ↔ P x u) → IfOk result (λ b. IsTrue b ↔ P y v)
+told_alike P {x} {y} {u} {v} result e f told =
+    subst (λ z. IfOk result (λ b. IsTrue b ↔ P z v)) e (subst (λ z. IfOk result (λ b. IsTrue b ↔ P x z)) f told)
 
 -- nothing is said past the end of one of them
 pub past_first : {A B H : Type 0} (xs : List A) {slice : List A} (ts : List B) (k : ℕ) {P : A → B → Type 0} → (H ↔ OfBoth xs k ts k P) → slice ≡ xs → length slice ≤ k → IsTrue true ↔ H

@@ -3,27 +3,30 @@ use Rattle.std.proofs.Common.{◌≡◌, ℕ, suc, ◌-◌, ◌<◌, nat_lt, ℤ
 use Rattle.std.proofs.Common.{ap₂, sym, refl, ◌∙◌, subst, arith, MatchOption, slice_get, option_map}
 use Rattle.lpis_checker.proofs.Common.{none-some, slice_get-get_or, same_Some, Point, Triangle, same_point, edges_of_triangles, edges_of, Piece, Parcel, Contents, pieces_named, Cert, PiecePart}
 use Rattle.lpis_checker.proofs.Common.{ParcelPart, IsInPiece, IsSoundMap, Names, Triangles, CounterClockwise, Flats, PieceEdges, ParcelEdges, NearPairs, Separating, PieceAt, ParcelAt, LineAt, PairAt}
-use Rattle.lpis_checker.proofs.Common.{triangles_of, edges_of_pieces, LineSeparates, HoldsEverywhere}
+use Rattle.lpis_checker.proofs.Common.{triangles_of, polygons_of, LineSeparates, HoldsEverywhere}
 use Rattle.std.specs.List.{IsDistinct}
 use Rattle.std.proofs.lemmas.List.Elements.{All-cons, All-filter, All-head, All-nil, All-tail}
 use Rattle.std.proofs.lemmas.Slice.Eq.{bytes_eq-Decides}
 use Rattle.lpis_points.specs.Plane.{RationalPoint}
 use Rattle.lpis_points.specs.Chain.{SameNet}
+use Rattle.lpis_points.specs.Sums.{int_sum_by}
 use Rattle.lpis_points.specs.Triangles.{triangle_edges, IsCounterClockwise, IsFlat, Separates, are_apart}
-use Rattle.lpis_rings.specs.Map.{KeepApart, AllKeepApart, IsCut, CutPiece, all_triangles, all_edges, all_turns, all_areas, IsOneOrNone}
+use Rattle.lpis_rings.specs.Map.{KeepApart, AllKeepApart, IsCut, CutPiece, all_triangles, all_turns, IsOneOrNone}
 use Rattle.lpis_rings.specs.Edges.{edge_turns, turns}
 use Rattle.lpis_rings.specs.Area.{area2}
-use Rattle.lpis_rings.proofs.Shared.{pieces_share_nothing, parcel_is_its_pieces, contains_by_one_turn, area_is_positive, area_is_of_its_pieces, area2_is}
+use Rattle.lpis_rings.proofs.Shared.{pieces_share_nothing, contains_by_one_turn, area_is_positive, area2_is}
 use Rattle.lpis_covers.specs.Ids.{same_id}
 use Rattle.lpis_parcels.specs.Release.{names, parcel_ids}
 use Rattle.lpis_covers.specs.Percentages.{most_percent}
 use Rattle.lpis_parcels.specs.Weighted.{areas2, weighted2}
-use Rattle.lpis_checker.specs.SoundMap.{AtMostOne, ExactlyOne, IsInParcel, TurnsTell, AreasAdd}
+use Rattle.lpis_edge_sums.specs.Counting.{AtMostOne, ExactlyOne}
+use Rattle.lpis_edge_sums.specs.Making.{EdgesCancel, TurnsAsParts, turns_of_all}
+use Rattle.lpis_checker.specs.SoundMap.{IsInParcel, TurnsTell, AreasAdd}
 use Rattle.lpis_checker.specs.GoodCertificate.{EdgeSeparates, IsGood}
 use Rattle.lpis_checker.proofs.DistinctLemmas.{same_index}
 use Rattle.lpis_checker.proofs.SiteLemmas.{some_item}
 use Rattle.lpis_checker.proofs.WeightLemmas.{weights-between}
-use Rattle.lpis_checker.proofs.AreaSumLemmas.{total, Found, found_any, any_found, all_at, all_from, one_of_some, at_most_one, one_found, total_one, filter_kept}
+use Rattle.lpis_edge_sums.proofs.Shared.{Found, found_any, any_found, all_at, all_from, one_of_some, at_most_one, one_found, total_one, filter_kept, turns_as_parts, area_as_parts}
 
 -- ---- pieces beside their parts
 abbrev SameIds : List Piece → List PiecePart → Type 0
@@ -52,7 +55,7 @@ some_none x e = cc
 abbrev turns_at : RationalPoint → Piece → ℤ
 turns_at s x = turns x.polygon s
 
-joined_turns : (xs : List Piece) (ts : List PiecePart) (s : RationalPoint) → SameIds xs ts → all_turns (joined xs ts) s ≡ total (turns_at s) xs
+joined_turns : (xs : List Piece) (ts : List PiecePart) (s : RationalPoint) → SameIds xs ts → all_turns (joined xs ts) s ≡ int_sum_by (turns_at s) xs
 joined_turns [] ts s h = refl
 joined_turns (x ∷ xs) [] s h = absurd (none-some x.id (h 0))
 joined_turns (x ∷ xs) (t ∷ ts) s h = ap (λ (z : ℤ). turns x.polygon s +ℤ z) (joined_turns xs ts s (λ k. h (suc k)))
@@ -140,7 +143,7 @@ all_good_parts r c g = good_parts r c (g.holds Triangles) (g.holds CounterClockw
 -- the pieces' turns are 0 or 1, and so is their sum
 record Once (r : Contents) (s : RationalPoint) : Type 0 where
   each : All (OneAt s) r.pieces
-  sum : IsOneOrNone (total (turns_at s) r.pieces)
+  sum : IsOneOrNone (int_sum_by (turns_at s) r.pieces)
 
 once : (r : Contents) (c : Cert) → IsGood r c → (s : RationalPoint) → pos 0 <ℤ s.d → Once r s
 once r c g s d =
@@ -156,26 +159,19 @@ piece_in : (s : RationalPoint) (x : Piece) → OneAt s x → IsInPiece s x ↔ (
 piece_in s x o = contains_by_one_turn x.polygon s o
 
 -- ---- parcels
-abbrev bare : List Piece → List CutPiece
-bare [] = []
-bare (x ∷ xs) = record { edges = edges_of x.polygon; triangles = []; flats = [] } ∷ bare xs
+-- the sums over pieces are those over their polygons
+piece_turns : (xs : List Piece) (s : RationalPoint) → turns_of_all (polygons_of xs) s ≡ int_sum_by (turns_at s) xs
+piece_turns [] s = refl
+piece_turns (x ∷ xs) s = ap (λ (z : ℤ). turns x.polygon s +ℤ z) (piece_turns xs s)
 
-bare_edges : (xs : List Piece) → all_edges (bare xs) ≡ edges_of_pieces xs
-bare_edges [] = refl
-bare_edges (x ∷ xs) = ap (λ (es : List (Point × Point)). edges_of x.polygon ++ es) (bare_edges xs)
-
-bare_turns : (xs : List Piece) (s : RationalPoint) → all_turns (bare xs) s ≡ total (turns_at s) xs
-bare_turns [] s = refl
-bare_turns (x ∷ xs) s = ap (λ (z : ℤ). turns x.polygon s +ℤ z) (bare_turns xs s)
-
-bare_areas : (xs : List Piece) → all_areas (bare xs) ≡ areas2 xs
-bare_areas [] = refl
-bare_areas (x ∷ xs) = ap₂ (λ (a b : ℤ). a +ℤ b) (area2_is x.polygon) (bare_areas xs)
+piece_areas : (xs : List Piece) → int_sum_by area2 (polygons_of xs) ≡ areas2 xs
+piece_areas [] = refl
+piece_areas (x ∷ xs) = ap (λ (z : ℤ). area2 x.polygon +ℤ z) (piece_areas xs)
 
 pub record GoodParcel (r : Contents) (x : Parcel) : Type 0 where
   pub fs : List Triangle
   pub flat : All IsFlat fs
-  pub net : SameNet same_point (edges_of x.polygon) (edges_of_pieces (pieces_named r x.id) ++ edges_of_triangles fs)
+  pub net : EdgesCancel x.polygon (polygons_of (pieces_named r x.id)) fs
 
 pub good_parcel : (r : Contents) (c : Cert) → HoldsEverywhere r c Names → HoldsEverywhere r c Flats
     → HoldsEverywhere r c ParcelEdges → (k : ℕ) (x : Parcel) → slice_get r.parcels k ≡ Some x → GoodParcel r x
@@ -183,23 +179,20 @@ good_parcel r c ids flats net k x e =
     let p = some_item (λ (t : ParcelPart). t.id) (slice_get c.parcels k) x.id (ids (ParcelAt k) ∙ ap (λ (o : Option Parcel). option_map (λ (y : Parcel). y.id) o) e) in
     record { fs = p.0.flats; flat = flats (ParcelAt k) x p.0 e p.1; net = net (ParcelAt k) x p.0 e p.1 }
 
-bare_net : (r : Contents) (x : Parcel) (g : GoodParcel r x) → SameNet same_point (edges_of x.polygon) (all_edges (bare (pieces_named r x.id)) ++ edges_of_triangles g.fs)
-bare_net r x g = subst (λ (es : List (Point × Point)). SameNet same_point (edges_of x.polygon) (es ++ edges_of_triangles g.fs)) (sym (bare_edges (pieces_named r x.id))) g.net
-
-pub parcel_turns : (r : Contents) (x : Parcel) → GoodParcel r x → (s : RationalPoint) → pos 0 <ℤ s.d → turns x.polygon s ≡ total (turns_at s) (pieces_named r x.id)
-parcel_turns r x g s d =
-    parcel_is_its_pieces (edges_of x.polygon) g.fs (bare (pieces_named r x.id)) g.flat (bare_net r x g) s d ∙ bare_turns (pieces_named r x.id) s
+pub parcel_turns : (r : Contents) (x : Parcel) → GoodParcel r x → TurnsAsParts x.polygon (polygons_of (pieces_named r x.id))
+parcel_turns r x g = turns_as_parts x.polygon (polygons_of (pieces_named r x.id)) g.fs g.flat g.net
 
 -- all that is needed of a parcel at a point
 record ParcelFacts (r : Contents) (s : RationalPoint) (x : Parcel) : Type 0 where
   one : IsOneOrNone (turns x.polygon s)
   each : All (OneAt s) (pieces_named r x.id)
-  sum : turns x.polygon s ≡ total (turns_at s) (pieces_named r x.id)
+  sum : turns x.polygon s ≡ int_sum_by (turns_at s) (pieces_named r x.id)
 
 parcel_at : (r : Contents) (c : Cert) → IsGood r c → (s : RationalPoint) → pos 0 <ℤ s.d → (k : ℕ) (x : Parcel) → slice_get r.parcels k ≡ Some x → ParcelFacts r s x
 parcel_at r c g s d k x e =
     let o = once r c g s d in
-    let t = parcel_turns r x (good_parcel r c (g.holds Names) (g.holds Flats) (g.holds ParcelEdges) k x e) s d in
+    let p = parcel_turns r x (good_parcel r c (g.holds Names) (g.holds Flats) (g.holds ParcelEdges) k x e) in
+    let t = p.turns_add s d ∙ piece_turns (pieces_named r x.id) s in
     record {
       one = subst IsOneOrNone (sym t) (one_of_some (turns_at s) (names x.id) r.pieces o.each o.sum);
       each = All-filter (names x.id) (OneAt s) r.pieces o.each;
@@ -225,7 +218,7 @@ found_inside r s x a f =
       has = (piece_in s f.item (all_at (OneAt s) (pieces_named r x.id) f.index f.item f.at a.each)).0 f.has;
     }))
 
-few_pieces : (s : RationalPoint) (xs : List Piece) → All (OneAt s) xs → IsOneOrNone (total (turns_at s) xs) → AtMostOne (IsInPiece s) xs
+few_pieces : (s : RationalPoint) (xs : List Piece) → All (OneAt s) xs → IsOneOrNone (int_sum_by (turns_at s) xs) → AtMostOne (IsInPiece s) xs
 few_pieces s xs h o i j a b e f p q =
     at_most_one (turns_at s) xs h o i j a b e f ((piece_in s a (all_at (OneAt s) xs i a e h)).0 p) ((piece_in s b (all_at (OneAt s) xs j b f h)).0 q)
 
@@ -259,8 +252,7 @@ piece_area : (x : Piece) (t : PiecePart) → GoodPart x t → HasArea x
 piece_area x t g = subst (λ (z : ℤ). pos 0 <ℤ z) (area2_is x.polygon) (area_is_positive (edges_of x.polygon) t.triangles t.flats (record { ccw = g.ccw; flat = g.flat; net = g.net }) g.some)
 
 parcel_area : (r : Contents) (x : Parcel) → GoodParcel r x → area2 x.polygon ≡ areas2 (pieces_named r x.id)
-parcel_area r x g =
-    sym (area2_is x.polygon) ∙ area_is_of_its_pieces (edges_of x.polygon) g.fs (bare (pieces_named r x.id)) g.flat (bare_net r x g) ∙ bare_areas (pieces_named r x.id)
+parcel_area r x g = area_as_parts x.polygon (polygons_of (pieces_named r x.id)) g.fs g.flat g.net ∙ piece_areas (pieces_named r x.id)
 
 pub areas_add : (r : Contents) (c : Cert) → HoldsEverywhere r c Names → HoldsEverywhere r c Triangles
     → HoldsEverywhere r c CounterClockwise → HoldsEverywhere r c Flats → HoldsEverywhere r c PieceEdges

@@ -1,14 +1,15 @@
 -- When a certificate is good for a release: ten conditions, each met or not at a site.
 use Rattle.std.specs.Prelude.{◌≡◌, ℕ, ◌+◌, ◌-◌, ◌<◌, nat_lt, cond, List, ◌++◌, length, slice_get}
-use Rattle.std.specs.Prelude.{Some, flat_map, All, Contains, MatchOption, ⊤}
+use Rattle.std.specs.Prelude.{Some, flat_map, map, All, MatchOption, ⊤}
 use Rattle.std.specs.Option.{option_map}
-use Rattle.lpis_points.specs.declared.point.Point.{Point}
 use Rattle.lpis_points.specs.declared.triangle.Triangle.{Triangle}
 use Rattle.lpis_points.specs.Plane.{same_point}
 use Rattle.lpis_points.specs.Triangles.{triangle_edges, IsCounterClockwise, IsFlat, Separates}
 use Rattle.lpis_points.specs.Chain.{SameNet}
+use Rattle.lpis_rings.specs.declared.polygon.Member.{Member}
 use Rattle.lpis_rings.specs.Edges.{edges_of}
 use Rattle.lpis_rings.specs.Map.{edges_of_triangles}
+use Rattle.lpis_edge_sums.specs.Making.{EdgesCancel, FlatsHaveCorners, HaveCorners, corners_of}
 use Rattle.lpis_covers.specs.declared.piece.Piece.{Piece}
 use Rattle.lpis_parcels.specs.declared.parcel.Parcel.{Parcel}
 use Rattle.lpis_parcels.specs.Release.{Contents, pieces_named}
@@ -17,7 +18,6 @@ use Rattle.lpis_cert.specs.declared.part.PiecePart.{PiecePart}
 use Rattle.lpis_cert.specs.declared.part.ParcelPart.{ParcelPart}
 use Rattle.lpis_cert.specs.declared.part.PairLine.{PairLine}
 use Rattle.lpis_pairs.specs.NearPairs.{IsBelow, IsNear}
-use Rattle.lpis_checker.specs.Corners.{corners_of, corners_of_pieces}
 use Rattle.lpis_checker.specs.declared.condition.Condition.{Condition}
 use Rattle.lpis_checker.specs.declared.condition.Condition.TheVariants.{Names, Triangles}
 use Rattle.lpis_checker.specs.declared.condition.Condition.TheVariants.{CounterClockwise, Flats}
@@ -33,17 +33,9 @@ use Rattle.lpis_checker.specs.declared.condition.Site.TheVariants.{PairAt}
 abbrev pub triangles_of : List PiecePart → List Triangle
 triangles_of parts = flat_map (λ (t : PiecePart). t.triangles) parts
 
--- the edges of pieces, in normal orientation
-abbrev pub edges_of_pieces : List Piece → List (Point × Point)
-edges_of_pieces pieces = flat_map (λ (x : Piece). edges_of x.polygon) pieces
-
--- the corners of a triangle are among these points
-unfoldable pub HasCorners : List Point → Triangle → Type 0
-HasCorners points t = Contains points t.a × Contains points t.b × Contains points t.c
-
--- so are those of each of these triangles
-abbrev pub HaveCorners : List Point → List Triangle → Type 0
-HaveCorners points ts = All (HasCorners points) ts
+-- the polygons of pieces
+abbrev pub polygons_of : List Piece → List (List Member)
+polygons_of pieces = map (λ (x : Piece). x.polygon) pieces
 
 -- edge k of a triangle has it on the left and another triangle on the right
 abbrev pub EdgeSeparates : ℕ → Triangle → Triangle → Type 0
@@ -102,10 +94,8 @@ OnPiece _ x t = ⊤
 abbrev pub OnParcel : Contents → Condition → Parcel → ParcelPart → Type 0
 OnParcel r Flats x t = All IsFlat t.flats
 OnParcel r Corners x t =
-    HaveCorners (corners_of x.polygon ++ corners_of_pieces (pieces_named r x.id)) t.flats
-OnParcel r ParcelEdges x t =
-    SameNet same_point (edges_of x.polygon)
-    (edges_of_pieces (pieces_named r x.id) ++ edges_of_triangles t.flats)
+    FlatsHaveCorners x.polygon (polygons_of (pieces_named r x.id)) t.flats
+OnParcel r ParcelEdges x t = EdgesCancel x.polygon (polygons_of (pieces_named r x.id)) t.flats
 OnParcel r _ x t = ⊤
 
 -- what each condition says, site by site

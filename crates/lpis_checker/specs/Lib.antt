@@ -1,5 +1,4 @@
 pub mod Codes
-pub mod Corners
 pub mod GoodCertificate
 pub mod FirstFault
 pub mod ExactBlocks

@@ -1,7 +1,7 @@
 -- When a release is a sound map: at a point at most one parcel, and a parcel exactly when exactly
 -- one of its pieces.
-use Rattle.std.specs.Prelude.{◌≡◌, ◌≢◌, ℕ, ℤ, pos, ◌*ℤ◌, ◌≤ℤ◌, ◌<ℤ◌, List, slice_get, Some, All}
-use Rattle.std.specs.Prelude.{Any, Contains as IsAmong, ◌↔◌}
+use Rattle.std.specs.Prelude.{◌≡◌, ◌≢◌, ℕ, ℤ, pos, ◌*ℤ◌, ◌≤ℤ◌, ◌<ℤ◌, List, ◌++◌, flat_map, All}
+use Rattle.std.specs.Prelude.{Contains as IsAmong, ◌↔◌}
 use Rattle.lpis_points.specs.declared.point.Point.{Point}
 use Rattle.lpis_points.specs.Plane.{RationalPoint, orient_at}
 use Rattle.lpis_rings.specs.Area.{area2}
@@ -12,16 +12,8 @@ use Rattle.lpis_covers.specs.Percentages.{most_percent}
 use Rattle.lpis_parcels.specs.declared.parcel.Parcel.{Parcel}
 use Rattle.lpis_parcels.specs.Release.{Contents, pieces_named}
 use Rattle.lpis_parcels.specs.Weighted.{areas2, weighted2}
-use Rattle.lpis_checker.specs.Corners.{all_corners}
-
--- ---- counting
--- at most one item of a list has the property
-abbrev pub AtMostOne : {A : Type 0} → (A → Type 0) → List A → Type 0
-AtMostOne {A} P xs = (i j : ℕ) (a b : A) → slice_get xs i ≡ Some a → slice_get xs j ≡ Some b → P a
-    → P b → i ≡ j
-
-abbrev pub ExactlyOne : {A : Type 0} → (A → Type 0) → List A → Type 0
-ExactlyOne P xs = Any P xs × AtMostOne P xs
+use Rattle.lpis_edge_sums.specs.Counting.{AtMostOne, ExactlyOne}
+use Rattle.lpis_edge_sums.specs.Making.{corners_of}
 
 -- ---- points of a release
 abbrev pub IsInParcel : RationalPoint → Parcel → Type 0
@@ -29,6 +21,11 @@ IsInParcel p k = Contains k.polygon p
 
 abbrev pub IsInPiece : RationalPoint → Piece → Type 0
 IsInPiece p x = Contains x.polygon p
+
+-- the points of all rings of a release
+abbrev pub all_corners : Contents → List Point
+all_corners r = flat_map (λ (k : Parcel). corners_of k.polygon) r.parcels
+    ++ flat_map (λ (x : Piece). corners_of x.polygon) r.pieces
 
 -- the point lies on no line through two different corners
 abbrev pub IsOffLines : Contents → RationalPoint → Type 0

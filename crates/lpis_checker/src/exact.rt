@@ -1,11 +1,14 @@
 //! The check of exact blocks: whether parts make up their wholes.
 
-ghost use Rattle.std.specs.Prelude.{◌≡◌, IfErr, OnOk, All};
+ghost use Rattle.std.specs.Prelude.{◌≡◌, All, IfErr, IfOk, MatchOption, OnOk};
 ghost use Rattle.lpis_edge_sums.specs.Making.{TurnsAsParts};
-ghost use Rattle.lpis_checker.specs.ExactBlocks.{ReportsExact, ShowExact, exact_code_text};
+ghost use Rattle.lpis_checker.specs.ExactBlocks.{HoldsAt, ReportsExact, ShowExact, exact_code_text};
+ghost use Rattle.lpis_checker.specs.ExactBlocks.{exact_id};
+ghost use Rattle.lpis_checker.specs.private.ExactSearches.{HasNoBlock, IsToldOfBlock};
 ghost use Rattle.lpis_checker.specs.declared.exact.ExactFault.TheVariants.{Memory};
 
-use lpis_cert::Cert;
+use crate::blocks::first_failing_block;
+use lpis_cert::{Cert, ExactBlock};
 use lpis_covers::Id;
 use lpis_rings::{Polygon, Sequence};
 use std::alloc::{AllocError, Global};
@@ -47,6 +50,13 @@ impl ExactCondition {
     }
 }
 
+/// A condition that fails, and the index of the block.
+#[derive(Clone, Copy, Debug)]
+pub(crate) struct FailingBlock {
+    pub condition: ExactCondition,
+    pub index: usize,
+}
+
 /// Why exact blocks do not show that the wholes are made up.
 #[derive(Debug, Drop, Error)]
 pub enum ExactFault {
@@ -66,6 +76,39 @@ impl From<AllocError> for ExactFault {
     }
 }
 
+/// The identifier of a block, or the wanted one where the blocks have ended.
+fn id_at<'a>(blocks: &'a [ExactBlock], parts: &'a [ExactPart], index: usize) -> Option<&'a Id>
+    ensures { MatchOption result (HasNoBlock blocks.now parts.now index)
+        (λ id. id.now ≡ exact_id blocks.now parts.now index) }
+{
+    match blocks.get(index) {
+        Some(block) => Some(&block.id),
+        None => match parts.get(index) {
+            Some(part) => Some(&part.id),
+            None => None,
+        },
+    }
+}
+
+/// What is reported of a condition that fails.
+fn reported_block(
+    blocks: &[ExactBlock],
+    parts: &[ExactPart],
+    found: FailingBlock,
+) -> Result<ExactFault, AllocError>
+    requires { HoldsAt blocks.now parts.now found.condition found.index → ⊥ }
+    ensures { IfOk result (λ fault. IsToldOfBlock blocks.now parts.now found fault) }
+{
+    let code = found.condition;
+    match id_at(blocks, parts, found.index) {
+        Some(id) => Ok(ExactFault::At {
+            code,
+            id: id.copy()?,
+        }),
+        None => unreachable!(),
+    }
+}
+
 /// Checks a certificate's exact blocks against what they are to show: Ok exactly where their kinds
 /// and identifiers are those of the parts, in order, each flat is three different points of one
 /// line, each corner is a point of the rings of the whole or of its parts, and the edges of each
@@ -79,6 +122,9 @@ pub fn check_exact(alloc: Global, cert: &Cert, parts: &[ExactPart]) -> Result<()
     ensures turns { OnOk result (All (λ x. TurnsAsParts x.whole x.parts) parts.now) }
     ensures fault { IfErr result (ReportsExact cert.now.exact parts.now) }
 {
-    let _ = (alloc, cert, parts);
-    Err(ExactFault::Memory)
+    let blocks = cert.exact.as_slice();
+    match first_failing_block(alloc, blocks, parts)? {
+        Some(found) => Err(reported_block(blocks, parts, found)?),
+        None => Ok(()),
+    }
 }

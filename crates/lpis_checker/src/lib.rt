@@ -1,9 +1,9 @@
 //! The check of a release against a certificate.
 #![tactic(auto)]
 
+mod blocks;
 mod checking;
 mod condition;
-mod corners;
 mod exact;
 mod fault;
 mod first_fault;
@@ -11,12 +11,11 @@ pub mod laws;
 mod locating;
 mod names;
 mod near_pairs;
-mod nets;
 mod parts;
-mod runs;
+mod places;
+mod pieces;
 mod searching;
 mod separators;
-mod signed;
 
 pub use checking::{Yes, check, check_parts};
 pub use condition::{Condition, Site};

@@ -1,10 +1,10 @@
-//! Tests of the triangles and flats of one part.
+//! Tests of the triangles of one part.
 
 ghost use Rattle.std.specs.Prelude.{◌↔◌, ◌<◌, IsTrue, All, length};
-ghost use Rattle.lpis_points.specs.Triangles.{IsCounterClockwise, IsFlat};
+ghost use Rattle.lpis_points.specs.Triangles.{IsCounterClockwise};
 
 use lpis_cert::PiecePart;
-use lpis_points::{Triangle, is_ccw, is_flat};
+use lpis_points::is_ccw;
 
 /// Whether a part has a triangle.
 pub(crate) fn has_triangle(part: &PiecePart) -> bool
@@ -18,11 +18,4 @@ pub(crate) fn is_counter_clockwise(part: &PiecePart) -> bool
     ensures { IsTrue result ↔ All IsCounterClockwise part.now.triangles }
 {
     part.triangles.as_slice().iter().all(|t| is_ccw(t))
-}
-
-/// Whether each of these is three different points of one line.
-pub(crate) fn are_flat(flats: &[Triangle]) -> bool
-    ensures { IsTrue result ↔ All IsFlat flats.now }
-{
-    flats.iter().all(|t| is_flat(t))
 }

@@ -3,50 +3,50 @@
 ghost use Rattle.std.specs.Prelude.{◌≡◌, ◌↔◌, ◌<◌, ℕ, IsTrue, IfOk, length};
 ghost use Rattle.lpis_checker.specs.GoodCertificate.{Holds, HoldsEverywhere, OnParcel, OnPiece};
 ghost use Rattle.lpis_checker.specs.GoodCertificate.{triangles_of};
-ghost use Rattle.lpis_checker.specs.private.Searches.{FindsFirst, FindsParcel, FindsPart};
-ghost use Rattle.lpis_checker.specs.private.Searches.{FindsPiece, IsOfLine, IsOfPart};
+ghost use Rattle.lpis_checker.specs.private.Searches.{FindsFirst, FindsPart};
+ghost use Rattle.lpis_checker.specs.private.Searches.{IsOfLine, IsOfPart};
 ghost use Rattle.lpis_checker.specs.declared.condition.Condition.TheVariants.{Names};
 ghost use Rattle.lpis_checker.specs.declared.condition.Site.TheVariants.{LineAt, ParcelAt, PieceAt};
 
 use crate::condition::{Condition, Site};
-use crate::corners::{has_corners_of_parcel, has_corners_of_piece};
 use crate::names::{disordered_line, is_parcel_named, is_piece_named};
-use crate::nets::{is_cut, is_filled};
-use crate::parts::{are_flat, has_triangle, is_counter_clockwise};
+use crate::parts::{has_triangle, is_counter_clockwise};
+use crate::pieces::{has_corners_of_parcel, is_filled};
+use crate::places::{Places, first_place};
 use crate::separators::{line_separates, names_near};
-use crate::signed::SignedEdge;
 use lpis_cert::{Cert, ParcelPart, PiecePart};
 use lpis_covers::Piece;
+use lpis_edge_sums::{EdgeSum, are_flat, has_corners};
 use lpis_parcels::{Parcel, Release};
 use lpis_points::Triangle;
 use std::alloc::{AllocError, Global};
 
-/// Whether a condition holds of a piece and its part. The list is for edges: its room is used
-/// again.
+/// Whether a condition holds of a piece and its part.
 fn holds_of_piece(
     alloc: Global,
-    sum: &mut Vec<SignedEdge>,
+    sum: &mut EdgeSum,
     condition: Condition,
     piece: &Piece,
     part: &PiecePart,
 ) -> Result<bool, AllocError>
     ensures { IfOk result (λ b. IsTrue b ↔ OnPiece condition piece.now part.now) }
 {
+    let triangles = part.triangles.as_slice();
+    let flats = part.flats.as_slice();
     match condition {
         Condition::Triangles => Ok(has_triangle(part)),
         Condition::CounterClockwise => Ok(is_counter_clockwise(part)),
-        Condition::Flats => Ok(are_flat(part.flats.as_slice())),
-        Condition::Corners => has_corners_of_piece(alloc, piece, part),
-        Condition::PieceEdges => is_cut(sum, piece, part),
+        Condition::Flats => Ok(are_flat(flats)),
+        Condition::Corners => has_corners(alloc, &piece.polygon, triangles, flats),
+        Condition::PieceEdges => sum.is_cut(&piece.polygon, triangles, flats),
         _ => Ok(true),
     }
 }
 
-/// Whether a condition holds of a parcel and its part. The list is for edges: its room is used
-/// again.
+/// Whether a condition holds of a parcel and its part.
 fn holds_of_parcel(
     alloc: Global,
-    sum: &mut Vec<SignedEdge>,
+    sum: &mut EdgeSum,
     release: &Release,
     condition: Condition,
     parcel: &Parcel,
@@ -57,94 +57,77 @@ fn holds_of_parcel(
     match condition {
         Condition::Flats => Ok(are_flat(part.flats.as_slice())),
         Condition::Corners => has_corners_of_parcel(alloc, release, parcel, part),
-        Condition::ParcelEdges => is_filled(sum, release, parcel, part),
+        Condition::ParcelEdges => is_filled(alloc, sum, release, parcel, part),
         _ => Ok(true),
     }
 }
 
-/// Whether a condition holds at the piece of an index.
-fn holds_at_piece(
-    alloc: Global,
-    sum: &mut Vec<SignedEdge>,
-    release: &Release,
-    cert: &Cert,
+/// A condition on the pieces of a release and their parts.
+#[derive(Drop)]
+struct PiecePlaces<'a> {
+    release: &'a Release,
+    cert: &'a Cert,
     condition: Condition,
-    index: usize,
-) -> Result<bool, AllocError>
-    ensures { IfOk result (λ b. IsTrue b ↔ Holds release.now cert.now condition (PieceAt index)) }
-{
-    if condition == Condition::Names {
-        return Ok(is_piece_named(release, cert, index));
-    }
-    match (
-        cert.pieces.as_slice().get(index),
-        release.pieces().get(index),
-    ) {
-        (Some(part), Some(piece)) => holds_of_piece(alloc, sum, condition, piece, part),
-        _ => Ok(true),
-    }
 }
 
-/// Whether a condition holds at the parcel of an index.
-fn holds_at_parcel(
-    alloc: Global,
-    sum: &mut Vec<SignedEdge>,
-    release: &Release,
-    cert: &Cert,
-    condition: Condition,
-    index: usize,
-) -> Result<bool, AllocError>
-    ensures { IfOk result (λ b. IsTrue b ↔ Holds release.now cert.now condition (ParcelAt index)) }
-{
-    if condition == Condition::Names {
-        return Ok(is_parcel_named(release, cert, index));
-    }
-    match (
-        cert.parcels.as_slice().get(index),
-        release.parcels().get(index),
-    ) {
-        (Some(part), Some(parcel)) => holds_of_parcel(alloc, sum, release, condition, parcel, part),
-        _ => Ok(true),
-    }
-}
+impl<'a> Places for PiecePlaces<'a> {
+    ghost holds = { λ s k. Holds s.release.now s.cert.now s.condition (PieceAt k) };
 
-/// The first piece at which a condition fails.
-fn first_piece(
-    alloc: Global,
-    release: &Release,
-    cert: &Cert,
-    condition: Condition,
-) -> Result<Option<usize>, AllocError>
-    ensures { IfOk result (λ o. FindsPiece release.now cert.now condition o) }
-{
-    let mut sum = Vec::new(alloc);
-    let end = cert.pieces.as_slice().len().max(release.pieces().len());
-    for index in 0..end {
-        if !holds_at_piece(alloc, &mut sum, release, cert, condition, index)? {
-            return Ok(Some(index));
+    fn end(&self) -> usize {
+        let parts = self.cert.pieces.as_slice();
+        parts.len().max(self.release.pieces().len())
+    }
+
+    fn holds_at(
+        &self,
+        alloc: Global,
+        sum: &mut EdgeSum,
+        index: usize,
+    ) -> Result<bool, AllocError> {
+        let (release, cert, condition) = (self.release, self.cert, self.condition);
+        if condition == Condition::Names {
+            return Ok(is_piece_named(release, cert, index));
+        }
+        match (cert.pieces.as_slice().get(index), release.pieces().get(index)) {
+            (Some(part), Some(piece)) => holds_of_piece(alloc, sum, condition, piece, part),
+            _ => Ok(true),
         }
     }
-    Ok(None)
 }
 
-/// The first parcel at which a condition fails that holds at each piece.
-fn first_parcel(
-    alloc: Global,
-    release: &Release,
-    cert: &Cert,
+/// A condition on the parcels of a release and their parts.
+#[derive(Drop)]
+struct ParcelPlaces<'a> {
+    release: &'a Release,
+    cert: &'a Cert,
     condition: Condition,
-) -> Result<Option<usize>, AllocError>
-    requires pieces { (m : ℕ) → Holds release.now cert.now condition (PieceAt m) }
-    ensures { IfOk result (λ o. FindsParcel release.now cert.now condition o) }
-{
-    let mut sum = Vec::new(alloc);
-    let end = cert.parcels.as_slice().len().max(release.parcels().len());
-    for index in 0..end {
-        if !holds_at_parcel(alloc, &mut sum, release, cert, condition, index)? {
-            return Ok(Some(index));
+}
+
+impl<'a> Places for ParcelPlaces<'a> {
+    ghost holds = { λ s k. Holds s.release.now s.cert.now s.condition (ParcelAt k) };
+
+    fn end(&self) -> usize {
+        let parts = self.cert.parcels.as_slice();
+        parts.len().max(self.release.parcels().len())
+    }
+
+    fn holds_at(
+        &self,
+        alloc: Global,
+        sum: &mut EdgeSum,
+        index: usize,
+    ) -> Result<bool, AllocError> {
+        let (release, cert, condition) = (self.release, self.cert, self.condition);
+        if condition == Condition::Names {
+            return Ok(is_parcel_named(release, cert, index));
+        }
+        match (cert.parcels.as_slice().get(index), release.parcels().get(index)) {
+            (Some(part), Some(parcel)) => {
+                holds_of_parcel(alloc, sum, release, condition, parcel, part)
+            }
+            _ => Ok(true),
         }
     }
-    Ok(None)
 }
 
 /// The first piece, and else the first parcel, at which a condition fails.
@@ -156,10 +139,20 @@ fn first_part(
 ) -> Result<Option<Site>, AllocError>
     ensures { IfOk result (λ o. FindsPart release.now cert.now condition o) }
 {
-    if let Some(index) = first_piece(alloc, release, cert, condition)? {
+    let pieces = PiecePlaces {
+        release,
+        cert,
+        condition,
+    };
+    if let Some(index) = first_place(alloc, &pieces)? {
         return Ok(Some(Site::PieceAt(index)));
     }
-    match first_parcel(alloc, release, cert, condition)? {
+    let parcels = ParcelPlaces {
+        release,
+        cert,
+        condition,
+    };
+    match first_place(alloc, &parcels)? {
         Some(index) => Ok(Some(Site::ParcelAt(index))),
         None => Ok(None),
     }

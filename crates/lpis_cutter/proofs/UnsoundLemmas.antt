@@ -15,8 +15,9 @@ use Rattle.lpis_parcels.specs.Release.{Contents, names, parcel_ids}
 use Rattle.lpis_cert.specs.declared.cert.Cert.{Cert}
 use Rattle.lpis_checker.specs.GoodCertificate.{IsGood}
 use Rattle.lpis_checker.specs.Laws.{GoodMeansSound}
-use Rattle.lpis_checker.specs.SoundMap.{AtMostOne, ExactlyOne, IsInParcel, IsSoundEverywhere}
-use Rattle.lpis_checker.proofs.Shared.{Found, any_found, all_at, filter_kept}
+use Rattle.lpis_checker.specs.SoundMap.{IsInParcel, IsSoundEverywhere}
+use Rattle.lpis_edge_sums.specs.Counting.{AtMostOne, ExactlyOne}
+use Rattle.lpis_edge_sums.proofs.Shared.{Found, any_found, all_at, filter_kept}
 use Rattle.lpis_cutter.specs.declared.fault.Refusal.TheVariants.{ParcelsOverlap, PiecesOverlap, Disagreement}
 use Rattle.lpis_cutter.specs.declared.fault.CutFault.{CutFault}
 use Rattle.lpis_cutter.specs.declared.fault.CutFault.TheVariants.{Refused}

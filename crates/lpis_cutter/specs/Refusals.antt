@@ -9,7 +9,8 @@ use Rattle.lpis_rings.specs.Edges.{edges_of}
 use Rattle.lpis_covers.specs.declared.piece.Piece.{Piece}
 use Rattle.lpis_parcels.specs.declared.parcel.Parcel.{Parcel}
 use Rattle.lpis_parcels.specs.Release.{Contents, pieces_named}
-use Rattle.lpis_checker.specs.GoodCertificate.{edges_of_pieces}
+use Rattle.lpis_edge_sums.specs.Making.{edges_of_all}
+use Rattle.lpis_checker.specs.GoodCertificate.{polygons_of}
 use Rattle.lpis_checker.specs.SoundMap.{IsInParcel, IsInPiece}
 use Rattle.lpis_cutter.specs.declared.fault.Refusal.{Refusal}
 use Rattle.lpis_cutter.specs.declared.fault.Refusal.TheVariants.{NoCut, ParcelsOverlap}
@@ -67,7 +68,8 @@ pub record Disagrees (r : Contents) (id : List ℕ) (p : RationalPoint) : Type 0
 pub record IsUneven (r : Contents) (id : List ℕ) : Type 0 where
   pub x : Parcel
   pub is_x : IsParcel r id x
-  pub uneven : SameNet same_point (edges_of x.polygon) (edges_of_pieces (pieces_named r id)) → ⊥
+  pub uneven : SameNet same_point (edges_of x.polygon)
+      (edges_of_all (polygons_of (pieces_named r id))) → ⊥
 
 -- what a refusal says
 abbrev pub Says : Contents → Refusal → Type 0

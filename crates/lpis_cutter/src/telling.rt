@@ -6,7 +6,8 @@ ghost use Rattle.lpis_points.specs.Chain.{SameNet};
 ghost use Rattle.lpis_points.specs.RatPoints.{rational_of};
 ghost use Rattle.lpis_rings.specs.Edges.{edges_of};
 ghost use Rattle.lpis_parcels.specs.Release.{pieces_named};
-ghost use Rattle.lpis_checker.specs.GoodCertificate.{edges_of_pieces};
+ghost use Rattle.lpis_edge_sums.specs.Making.{edges_of_all};
+ghost use Rattle.lpis_checker.specs.GoodCertificate.{polygons_of};
 ghost use Rattle.lpis_cutter.specs.Refusals.{IsCovered, IsUncovered};
 ghost use Rattle.lpis_cutter.specs.private.Cutting.{NamesPieces, SaysIfAny, times};
 
@@ -109,7 +110,7 @@ fn count_in(polygon: &Polygon, a: Point, b: Point) -> usize
 /// How many edges of a parcel's pieces go from a to b, where the number fits.
 fn count_in_pieces(release: &Release, parcel: &Id, a: Point, b: Point) -> Option<usize>
     ensures { IfSome result
-        (λ n. n ≡ times a b (edges_of_pieces (pieces_named release.now parcel.now))) }
+        (λ n. n ≡ times a b (edges_of_all (polygons_of (pieces_named release.now parcel.now)))) }
 {
     let mut count: usize = 0;
     for piece in pieces_of(release, parcel) {
@@ -138,7 +139,7 @@ fn differ(own_along: usize, own_back: usize, along: usize, back: usize) -> bool
 /// Whether an edge's net count in a parcel is another than in its pieces.
 fn is_uneven(release: &Release, parcel: &Parcel, a: Point, b: Point) -> bool
     ensures { IsTrue result → SameNet same_point (edges_of parcel.now.polygon)
-        (edges_of_pieces (pieces_named release.now parcel.now.id)) → ⊥ }
+        (edges_of_all (polygons_of (pieces_named release.now parcel.now.id))) → ⊥ }
 {
     if !are_two(a, b) {
         return false;

@@ -1,12 +1,18 @@
--- Sums of terms that are 0 or 1.
-use Rattle.std.proofs.Common.{◌≡◌, ℕ, zero, suc, ℤ, pos, ◌+ℤ◌, ◌≤ℤ◌, List, [], ◌∷◌, Some, inl, inr, All, ap, sym, refl, ◌∙◌, subst, arith}
+-- Lists: what holds of each item, sums of terms that are 0 or 1, and what a filter keeps.
+use Rattle.std.proofs.Common.{◌≡◌, ℕ, zero, suc, ℤ, pos, negsuc, ◌+ℤ◌, ◌≤ℤ◌, Bool, true, false, cond, List, [], ◌∷◌, ◌++◌, get_or, Some, inl, inr, ◌↔◌, IsTrue, All, filter, ap, sym, refl, ◌∙◌, subst, arith}
 use Rattle.std.proofs.Common.{slice_get, Any}
-use Rattle.std.proofs.lemmas.Int.{ints}
-use Rattle.std.proofs.lemmas.Option.{get_or_from_slice_get, none-some, same_Some, slice_get-get_or, slice_get_within}
-use Rattle.std.proofs.lemmas.List.Elements.{All-head, All-tail, All-weaker}
+use Rattle.lpis_edge_sums.proofs.Common.{ints, Contains-append_right, none-some, slice_get-get_or, slice_get_within, get_or_from_slice_get, same_Some}
+use Rattle.std.proofs.lemmas.List.Elements.{All-contains, All-head, All-tail, All-weaker, Contains-append_left, Contains-get_or}
 use Rattle.lpis_points.specs.Sums.{int_sum_by}
 use Rattle.lpis_rings.specs.Map.{IsOneOrNone}
 use Rattle.lpis_edge_sums.specs.Counting.{AtMostOne}
+
+-- a test that is false
+pub untrue : {P : Type 0} (b : Bool) → (IsTrue b ↔ P) → b ≡ false → P → ⊥
+untrue b h e p = clash (h.1 p)
+  where
+    clash : b ≡ true → ⊥
+    clash f = cc
 
 -- an element with the property, by its index
 pub record Found {A : Type 0} (P : A → Type 0) (xs : List A) : Type 0 where
@@ -24,6 +30,16 @@ any_found P xs a = record { index = a.0; item = a.1; at = slice_get-get_or xs a.
 pub all_at : {A : Type 0} (P : A → Type 0) (xs : List A) (k : ℕ) (x : A) → slice_get xs k ≡ Some x → All P xs → P x
 all_at P xs k x e h = subst P (get_or_from_slice_get xs k x x e) (h k x (slice_get_within xs k x e))
 
+pub all_from : {A : Type 0} (P : A → Type 0) (xs : List A) → ((k : ℕ) (x : A) → slice_get xs k ≡ Some x → P x) → All P xs
+all_from P xs h k d l = h k (get_or xs k d) (slice_get-get_or xs k d l)
+
+pub all_left : {A : Type 0} (P : A → Type 0) (xs ys : List A) → All P (xs ++ ys) → All P xs
+all_left P xs ys h = λ k d l. All-contains P (xs ++ ys) (get_or xs k d) h (Contains-append_left xs ys (get_or xs k d) (Contains-get_or xs k d l))
+
+pub all_right : {A : Type 0} (P : A → Type 0) (xs ys : List A) → All P (xs ++ ys) → All P ys
+all_right P xs ys h = λ k d l. All-contains P (xs ++ ys) (get_or ys k d) h (Contains-append_right xs ys (get_or ys k d) (Contains-get_or ys k d l))
+
+-- ---- sums of terms that are not below 0
 pub total-not_neg : {A : Type 0} (g : A → ℤ) (xs : List A) → All (λ x. pos 0 ≤ℤ g x) xs → pos 0 ≤ℤ int_sum_by g xs
 total-not_neg g [] h = omega (arith, ints)
 total-not_neg g (x ∷ xs) h = by (g x) (int_sum_by g xs) (All-head (λ y. pos 0 ≤ℤ g y) x xs h) (total-not_neg g xs (All-tail (λ y. pos 0 ≤ℤ g y) x xs h))
@@ -31,6 +47,23 @@ total-not_neg g (x ∷ xs) h = by (g x) (int_sum_by g xs) (All-head (λ y. pos 0
     by : (a b : ℤ) → pos 0 ≤ℤ a → pos 0 ≤ℤ b → pos 0 ≤ℤ (a +ℤ b)
     by a b h k = omega (arith, ints)
 
+pub total-filter : {A : Type 0} (g : A → ℤ) (q : A → Bool) (xs : List A) → All (λ x. pos 0 ≤ℤ g x) xs → (pos 0 ≤ℤ int_sum_by g (filter q xs)) × (int_sum_by g (filter q xs) ≤ℤ int_sum_by g xs)
+total-filter g q [] h = (omega (arith, ints), omega (arith, ints))
+total-filter {A} g q (x ∷ xs) h = by (q x) (All-head (λ y. pos 0 ≤ℤ g y) x xs h) (total-filter g q xs (All-tail (λ y. pos 0 ≤ℤ g y) x xs h))
+  where
+    kept : (a u t : ℤ) → pos 0 ≤ℤ a → (pos 0 ≤ℤ u) × (u ≤ℤ t) → (pos 0 ≤ℤ (a +ℤ u)) × ((a +ℤ u) ≤ℤ (a +ℤ t))
+    kept a u t p k = (omega (arith, ints, k.0), omega (arith, ints, k.1))
+
+    left : (a u t : ℤ) → pos 0 ≤ℤ a → (pos 0 ≤ℤ u) × (u ≤ℤ t) → (pos 0 ≤ℤ u) × (u ≤ℤ (a +ℤ t))
+    left a u t p k = (k.0, omega (arith, ints, k.1))
+
+    by : (b : Bool) → pos 0 ≤ℤ g x → (pos 0 ≤ℤ int_sum_by g (filter q xs)) × (int_sum_by g (filter q xs) ≤ℤ int_sum_by g xs)
+        → (pos 0 ≤ℤ int_sum_by g (cond b (x ∷ filter q xs) (filter q xs)))
+        × (int_sum_by g (cond b (x ∷ filter q xs) (filter q xs)) ≤ℤ (g x +ℤ int_sum_by g xs))
+    by true p k = kept (g x) (int_sum_by g (filter q xs)) (int_sum_by g xs) p k
+    by false p k = left (g x) (int_sum_by g (filter q xs)) (int_sum_by g xs) p k
+
+-- ---- sums of terms that are 0 or 1
 not_negs : {A : Type 0} (g : A → ℤ) (xs : List A) → All (λ x. IsOneOrNone (g x)) xs → All (λ x. pos 0 ≤ℤ g x) xs
 not_negs g xs h = All-weaker (λ x. IsOneOrNone (g x)) (λ x. pos 0 ≤ℤ g x) (λ x o. by (g x) o) xs h
   where
@@ -38,8 +71,17 @@ not_negs g xs h = All-weaker (λ x. IsOneOrNone (g x)) (λ x. pos 0 ≤ℤ g x) 
     by a (inl e) = omega (arith, ints)
     by a (inr e) = omega (arith, ints)
 
+pub one_of_some : {A : Type 0} (g : A → ℤ) (q : A → Bool) (xs : List A) → All (λ x. IsOneOrNone (g x)) xs → IsOneOrNone (int_sum_by g xs) → IsOneOrNone (int_sum_by g (filter q xs))
+one_of_some g q xs h o = by (int_sum_by g (filter q xs)) (int_sum_by g xs) (total-filter g q xs (not_negs g xs h)) o
+  where
+    by : (u t : ℤ) → (pos 0 ≤ℤ u) × (u ≤ℤ t) → IsOneOrNone t → IsOneOrNone u
+    by u t k (inl e) = inl (omega (arith, ints, k.0, k.1))
+    by (pos zero) t k (inr e) = inl refl
+    by (pos (suc n)) t k (inr e) = inr (omega (arith, ints, k.0, k.1))
+    by (negsuc n) t k (inr e) = absurd (omega (arith, ints, k.0))
+
 -- an element whose term is 1
-at_least : {A : Type 0} (g : A → ℤ) (xs : List A) (k : ℕ) (x : A) → All (λ y. IsOneOrNone (g y)) xs → slice_get xs k ≡ Some x → g x ≡ pos 1 → pos 1 ≤ℤ int_sum_by g xs
+pub at_least : {A : Type 0} (g : A → ℤ) (xs : List A) (k : ℕ) (x : A) → All (λ y. IsOneOrNone (g y)) xs → slice_get xs k ≡ Some x → g x ≡ pos 1 → pos 1 ≤ℤ int_sum_by g xs
 at_least g [] k x h e f = absurd (none-some x e)
 at_least g (y ∷ ys) zero x h e f = here (g y) (int_sum_by g ys) (ap g (same_Some y x e) ∙ f) (total-not_neg g ys (not_negs g ys (All-tail (λ z. IsOneOrNone (g z)) y ys h)))
   where
@@ -117,3 +159,21 @@ few_total {A} g (x ∷ xs) h m = by (g x) (int_sum_by g xs) refl (All-head (λ z
     by a t e (inl z) (inr n) = inr (omega (arith, ints))
     by a t e (inr z) (inl n) = inr (omega (arith, ints))
     by a t e (inr z) (inr n) = absurd (second (sym e ∙ z) (one_found g xs rest n))
+
+-- ---- what a filter keeps
+pub record Kept {A : Type 0} (q : A → Bool) (xs : List A) (x : A) : Type 0 where
+  pub index : ℕ
+  pub at : slice_get xs index ≡ Some x
+  pub passes : q x ≡ true
+
+pub filter_kept : {A : Type 0} (q : A → Bool) (xs : List A) (k : ℕ) (x : A) → slice_get (filter q xs) k ≡ Some x → Kept q xs x
+filter_kept q [] k x e = absurd (none-some x e)
+filter_kept {A} q (y ∷ ys) k x e = by (q y) refl k e (λ m f. filter_kept q ys m x f)
+  where
+    later : Kept q ys x → Kept q (y ∷ ys) x
+    later f = record { index = suc f.index; at = f.at; passes = f.passes }
+
+    by : (b : Bool) → q y ≡ b → (m : ℕ) → slice_get (cond b (y ∷ filter q ys) (filter q ys)) m ≡ Some x → ((n : ℕ) → slice_get (filter q ys) n ≡ Some x → Kept q ys x) → Kept q (y ∷ ys) x
+    by true t zero e rec = record { index = 0; at = e; passes = ap q (sym (same_Some y x e)) ∙ t }
+    by true t (suc m) e rec = later (rec m e)
+    by false t m e rec = later (rec m e)

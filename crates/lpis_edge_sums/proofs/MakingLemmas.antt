@@ -36,13 +36,13 @@ bare_net : (whole : List Member) (parts : List (List Member)) (flats : List Tria
     → SameNet same_point (edges_of whole) (all_edges (bare parts) ++ edges_of_triangles flats)
 bare_net whole parts flats n = subst (λ (es : List (Point × Point)). SameNet same_point (edges_of whole) (es ++ edges_of_triangles flats)) (sym (bare_edges parts)) n
 
-pub turns_add : (whole : List Member) (parts : List (List Member)) (flats : List Triangle) → All IsFlat flats → EdgesCancel whole parts flats → TurnsAsParts whole parts
-turns_add whole parts flats h n = record {
+pub turns_as_parts : (whole : List Member) (parts : List (List Member)) (flats : List Triangle) → All IsFlat flats → EdgesCancel whole parts flats → TurnsAsParts whole parts
+turns_as_parts whole parts flats h n = record {
   turns_add = λ p d. parcel_is_its_pieces (edges_of whole) flats (bare parts) h (bare_net whole parts flats n) p d ∙ bare_turns parts p;
 }
 
-pub areas_add : (whole : List Member) (parts : List (List Member)) (flats : List Triangle) → All IsFlat flats → EdgesCancel whole parts flats → area2 whole ≡ int_sum_by area2 parts
-areas_add whole parts flats h n =
+pub area_as_parts : (whole : List Member) (parts : List (List Member)) (flats : List Triangle) → All IsFlat flats → EdgesCancel whole parts flats → area2 whole ≡ int_sum_by area2 parts
+area_as_parts whole parts flats h n =
     sym (area2_is whole) ∙ area_is_of_its_pieces (edges_of whole) flats (bare parts) h (bare_net whole parts flats n) ∙ bare_areas parts
 
 -- ---- which points lie in the whole

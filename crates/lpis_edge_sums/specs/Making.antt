@@ -1,6 +1,7 @@
 -- When polygons make up another: a whole, its parts, and flat triangles that add points on edges.
 use Rattle.std.specs.Prelude.{ℤ, pos, ◌<ℤ◌, List, ◌++◌, flat_map, All, Contains as IsAmong, ◌↔◌}
-use Rattle.std.specs.Prelude.{◌≡◌}
+use Rattle.std.specs.Prelude.{◌≡◌, map}
+use Rattle.std.specs.Borrow.{Bor}
 use Rattle.lpis_points.specs.declared.point.Point.{Point}
 use Rattle.lpis_points.specs.declared.triangle.Triangle.{Triangle}
 use Rattle.lpis_points.specs.Plane.{RationalPoint, same_point}
@@ -10,6 +11,10 @@ use Rattle.lpis_rings.specs.declared.polygon.Member.{Member}
 use Rattle.lpis_rings.specs.Edges.{edges_of, turns, Contains}
 use Rattle.lpis_rings.specs.Map.{edges_of_triangles, IsOneOrNone}
 use Rattle.lpis_edge_sums.specs.Counting.{ExactlyOne}
+
+-- polygons that are read where they stand
+abbrev pub polygons : List (Bor (List Member)) → List (List Member)
+polygons parts = map (λ (part : Bor (List Member)). part.now) parts
 
 -- ---- corners
 -- the points of rings

@@ -18,15 +18,9 @@ use Rattle.lpis_checker.specs.declared.condition.Failing.{Failing}
 abbrev pub FindsFirst : Contents → Cert → Condition → Option Site → Type 0
 FindsFirst r c q o = MatchOption o (HoldsEverywhere r c q) (IsFirst r c q)
 
--- the first piece, where the condition holds at those before it; or none where it holds at each
-abbrev pub FindsPiece : Contents → Cert → Condition → Option ℕ → Type 0
-FindsPiece r c q o =
-    MatchOption o ((m : ℕ) → Holds r c q (PieceAt m)) (λ k. IsFirst r c q (PieceAt k))
-
--- the first parcel, where the condition holds at each piece
-abbrev pub FindsParcel : Contents → Cert → Condition → Option ℕ → Type 0
-FindsParcel r c q o =
-    MatchOption o ((m : ℕ) → Holds r c q (ParcelAt m)) (λ k. IsFirst r c q (ParcelAt k))
+-- the first place at which something does not hold, or none where it holds at each
+abbrev pub FindsPlace : (ℕ → Type 0) → Option ℕ → Type 0
+FindsPlace P o = MatchOption o ((m : ℕ) → P m) (λ k. (P k → ⊥) × ((m : ℕ) → m < k → P m))
 
 -- the first pair line, where it holds at each piece and parcel
 abbrev pub FindsLine : Contents → Cert → Condition → Option ℕ → Type 0

@@ -1,6 +1,7 @@
 use Rattle.std.proofs.Common.{◌≤◌, length, List, subst, arith}
 use Rattle.lpis_checker.proofs.Common.{PairLine, Holds, LineAt}
-use Rattle.lpis_checker.proofs.SiteLemmas.{at_all_sites, at_each, first_at_line, of_lines, one_more, past_lines, untrue}
+use Rattle.lpis_checker.proofs.SiteLemmas.{at_all_sites, at_each, first_at_line, of_lines, one_more, past_lines}
+use Rattle.lpis_edge_sums.proofs.Shared.{untrue}
 use Rattle.lpis_checker.proofs.searching.first_line.Goals as goal
 
 pub returns-then-not-holds_at_line : goal.returns-then-not-holds_at_line

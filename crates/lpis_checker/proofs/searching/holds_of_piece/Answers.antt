@@ -1,11 +1,17 @@
-use Rattle.std.proofs.Common.{◌↔◌, Bool, IfOk, IsTrue, subst, sym}
-use Rattle.lpis_checker.proofs.Common.{OnPiece, Condition}
+use Rattle.std.proofs.Common.{◌↔◌, ◌++◌, Bool, IfOk, IsTrue, List, subst, sym}
+use Rattle.lpis_checker.proofs.Common.{Triangle, Condition, OnPiece, HaveCorners, corners_of, same_point, edges_of, edges_of_triangles}
+use Rattle.lpis_points.specs.Chain.{SameNet}
+use Rattle.lpis_checker.proofs.SiteLemmas.{told_alike}
 use Rattle.lpis_checker.proofs.searching.holds_of_piece.Goals as goal
 
 pub returns-in-Corners : goal.returns-in-Corners
 returns-in-Corners c =
-    subst (λ (q : Condition). IfOk c.has_corners_of_piece.result (λ (b : Bool). IsTrue b
-    ↔ OnPiece q c.args.piece.now c.args.part.now)) (sym c.in-Corners.is) c.has_corners_of_piece.ensures
+    subst (λ (q : Condition). IfOk c.has_corners.result (λ (b : Bool). IsTrue b ↔ OnPiece q c.args.piece.now c.args.part.now)) (sym c.in-Corners.is)
+    (told_alike (λ (ts fs : List Triangle). HaveCorners (corners_of c.args.piece.now.polygon) (ts ++ fs))
+    c.has_corners.result c.as_slice-triangles.ensures c.as_slice-flats.ensures c.has_corners.ensures)
 
 pub returns-in-PieceEdges : goal.returns-in-PieceEdges
-returns-in-PieceEdges c = subst (λ (q : Condition). IfOk c.is_cut.result (λ (b : Bool). IsTrue b ↔ OnPiece q c.args.piece.now c.args.part.now)) (sym c.in-PieceEdges.is) c.is_cut.ensures
+returns-in-PieceEdges c =
+    subst (λ (q : Condition). IfOk c.is_cut.result (λ (b : Bool). IsTrue b ↔ OnPiece q c.args.piece.now c.args.part.now)) (sym c.in-PieceEdges.is)
+    (told_alike (λ (ts fs : List Triangle). SameNet same_point (edges_of c.args.piece.now.polygon) (edges_of_triangles ts ++ edges_of_triangles fs))
+    c.is_cut.result c.as_slice-triangles.ensures c.as_slice-flats.ensures c.is_cut.ensures)

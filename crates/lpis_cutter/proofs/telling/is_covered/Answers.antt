@@ -1,7 +1,7 @@
 use Rattle.std.proofs.Common.{◌≡◌, ◌∷◌, suc, List, All, sym, subst, Any}
 use Rattle.lpis_cutter.proofs.Common.{rational_of, Piece, IsInPiece}
 use Rattle.std.proofs.lemmas.List.Elements.{All-cons}
-use Rattle.lpis_checker.proofs.Shared.{untrue, any_found, found_any}
+use Rattle.lpis_edge_sums.proofs.Shared.{untrue, any_found, found_any}
 use Rattle.lpis_cutter.proofs.telling.is_covered.Goals as goal
 
 any_later : {A : Type 0} (P : A → Type 0) (x : A) (xs : List A) → Any P xs → Any P (x ∷ xs)

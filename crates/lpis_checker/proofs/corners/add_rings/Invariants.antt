@@ -1,6 +1,0 @@
-use Rattle.std.proofs.Common.{◌≡◌, ◌++◌, take}
-use Rattle.lpis_checker.specs.Corners.{points_of_rings}
-use Rattle.lpis_checker.proofs.corners.add_rings.Given as goal
-
-abbrev pub invariant-loop-ring : goal.invariant-loop-ring
-invariant-loop-ring l = l.points.items ≡ l.fn.points.items ++ points_of_rings (take l.ring-index l.rings)

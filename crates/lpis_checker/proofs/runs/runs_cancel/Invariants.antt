@@ -1,5 +1,0 @@
-use Rattle.lpis_checker.proofs.RunLemmas.{WalkAt}
-use Rattle.lpis_checker.proofs.runs.runs_cancel.Given as goal
-
-abbrev pub invariant-loop-k : goal.invariant-loop-k
-invariant-loop-k l = WalkAt l.edges l.k l.sum

@@ -1,6 +1,0 @@
-use Rattle.std.proofs.Common.{ℕ, ◌<◌}
-use Rattle.lpis_checker.proofs.Common.{Holds, ParcelAt}
-use Rattle.lpis_checker.proofs.searching.first_parcel.Given as goal
-
-abbrev pub invariant-loop-index : goal.invariant-loop-index
-invariant-loop-index l = (m : ℕ) → m < l.index → Holds l.release l.cert l.condition (ParcelAt m)

@@ -1,9 +1,0 @@
-use Rattle.std.proofs.Common.{refl}
-use Rattle.lpis_checker.proofs.NetSumLemmas.{pushed, passed}
-use Rattle.lpis_checker.proofs.signed.push_edge.Goals as goal
-
-pub returns-in_ok-push : goal.returns-in_ok-push
-returns-in_ok-push c = pushed c.args.added c.args.a c.args.b c.in-Some.edge _ _ c.in-Some.ensures c.in_ok-push.ensures.items
-
-pub returns-in_default : goal.returns-in_default
-returns-in_default c = passed c.args.added c.args.a c.args.b c.in_default.ensures refl
