@@ -1,6 +1,6 @@
 """What the benches share. A bench is a script of this folder that measures one thing. Its docstring says what is measured beside what,
 what is wanted and with which words it is run; constants and a `main` follow. It prints a section of Markdown: a heading, a line on what
-it is, a table, and under it what was wanted and what was got. `bench/all` runs them and puts their sections into docs/BENCH.md.
+it is, a table, and under it what was wanted and what was got. `bench/all` runs them and puts their sections into bench/RESULTS.md.
 
 `CUT=PROGRAM` in the environment names another program that knows `cut DIR CERT`, `LPIS=PROGRAM` a proved `lpis` that is built already;
 without them the repository's own is proved and built where that is needed. `BEFORE=PROGRAM` names an `lpis` of before millimetres and

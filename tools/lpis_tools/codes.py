@@ -1,4 +1,11 @@
-"""What each code of docs/FORMATS.md means, what usually causes it, and what to do: (meaning, cause, remedy)."""
+"""What each code of docs/FORMATS.md means, what usually causes it, and what to do: (meaning, cause, remedy).
+
+`python3 tools/lpis_tools/codes.py` writes the tables of codes into docs/FORMATS.md.
+"""
+
+import pathlib
+
+MARKS = "<!-- codes -->\n", "<!-- end -->\n"
 
 POLYGON_TEXTS = {
     "10": ("the text does not begin with POLYGON or MULTIPOLYGON",
@@ -12,7 +19,7 @@ POLYGON_TEXTS = {
            "`OGR_WKT_PRECISION=3` (that is digits, not decimals), a decimal comma, `nan`",
            "write three decimals by `ST_AsText(geom, 3)` or `AsWKT(geom, 3)`, after rounding all borders together"),
     "14": ("a coordinate is finer than a millimetre", "`-lco GEOMETRY=AS_WKT`, or `ST_AsText(geom)` without its 3",
-           "round all borders together (docs/USING.md), then write three decimals"),
+           "round all borders together (docs/GUIDE.md), then write three decimals"),
     "15": ("a coordinate is beyond 20,000,000 m", "an easting with a zone prefix (EPSG:4647, 5649), millimetres",
            "transform to the system without the prefix (EPSG:25832), in metres"),
     "16": ("a ring has fewer than four points", "rounding shrank a ring, or the ring is not closed",
@@ -26,18 +33,18 @@ POLYGON_TEXTS = {
 }
 
 TABLES = {
-    "30": ("this row has another number of fields than the header, or its `wkt` is not UTF-8",
+    "30": ("this row has another number of fields than the header, its `wkt` is not UTF-8, or a second byte order mark follows the first",
            "a `wkt` with commas that is not quoted; semicolons; text after the last row; another encoding",
            "quote the `wkt`, separate by commas, write UTF-8"),
     "31": ("a column is missing; columns are found by the names in the first line",
            "an empty file, UTF-16, gzip, semicolons or tabs, a header in another language, no header at all",
-           "write the header of docs/USING.md, in UTF-8 (or ASCII), separated by commas, not compressed"),
+           "write the header of docs/GUIDE.md, in UTF-8 (or ASCII), separated by commas, not compressed"),
     "32": ("two columns have the same name", "a join that kept both columns, or names that differ in case alone",
            "name the columns in the export's SELECT"),
     "33": ("this is no identifier: 1 to 40 of `A-Z a-z 0-9 . _ : / -`",
            "a blank, an umlaut, a NULL written as an empty field, a name with more than 40 letters",
            "replace such letters by a rule that keeps identifiers different, the same rule each year"),
-    "34": ("this identifier stood in an earlier row", "a parcel of several parts written as several rows; a join that doubled rows",
+    "34": ("this identifier is in an earlier row too", "a parcel of several parts written as several rows; a join that doubled rows",
            "one row an identifier: collect the parts into one MULTIPOLYGON"),
     "35": ("the piece's parcel is not in parcels.csv", "the two tables come from different days or filters; letters that differ in case",
            "export both tables in one go, with the same WHERE"),
@@ -45,12 +52,12 @@ TABLES = {
            "add the class with its `percent` from 0 to 100"),
     "37": ("no row of covers.csv names this parcel", "a parcel without land cover, or whose pieces rounding removed",
            "add its pieces, or leave the parcel out"),
-    "38": ("the `wkt` is not a polygon's text as docs/FORMATS.md has it; a second code and a place in the text follow",
+    "38": ("the `wkt` is not the text of a polygon; a second code and a place in the text follow",
            "see codes 10 to 19", "see codes 10 to 19"),
     "39": ("`eligible` is neither 0 nor 1", "`true`, `yes`, `t`, a percentage, a quoted blank",
            "write 0 or 1 (in SQL: `eligible::int`), or name the column `percent` and write percentages"),
     "3a": ("the table has more than 200,000 rows", "a whole country in one release",
-           "split the country into releases (docs/USING.md says what that gives up)"),
+           "split the country into releases (docs/GUIDE.md says what that gives up)"),
     "3b": ("`percent` is no whole number from 0 to 100", "a share from 0 to 1, decimals, a sign, leading zeros, a mark `%`, an empty field",
            "write 0 to 100 in digits alone (in SQL: `round(100 * share)::int`)"),
     "3c": ("`exact` in lineage.csv is neither empty nor 0 nor 1", "`yes`, `true`, `x`, a quoted blank",
@@ -81,7 +88,7 @@ CERTIFICATE_TEXTS = {
            "take the certificate as `lpis cut` wrote it; transfer it as binary"),
     "51": ("this line is none of a certificate", "the file was edited, or its line ends changed", "cut again"),
     "52": ("a number is none, or out of its range", "the file was edited", "cut again"),
-    "53": ("this line cannot stand here", "the file was edited, or two certificates were joined", "cut again"),
+    "53": ("this line cannot come here", "the file was edited, or two certificates were joined", "cut again"),
     "54": ("the certificate ends too early", "the disk was full, or a copy broke off", "cut or copy again, compare digests"),
     "55": ("there is text behind the certificate's end", "two certificates were joined, or a line was added", "cut or copy again"),
     "56": ("more than 2,000,000 triangles or flats are declared", "a release too large for one certificate",
@@ -116,7 +123,7 @@ LINEAGES = {
     "71": ("the old identifier is still in this release, so nothing has become of it", "a row for a parcel that only changed its shape",
            "leave out the row; kept identifiers need none"),
     "72": ("the successor is not in this release", "a typing error, or a parcel left out of the export", "correct the row or the export"),
-    "73": ("this row stands twice", "a join that doubled rows", "leave out one"),
+    "73": ("this row is there twice", "a join that doubled rows", "leave out one"),
     "74": ("an identifier ends and has a successor too", "an empty `new` beside rows with one", "leave out the row with the empty `new`"),
     "75": ("an identifier was dropped and no row says what became of it", "a parcel left out of the export, or a split that was not recorded",
            "add its row: successors, or an empty `new` for an ending"),
@@ -143,7 +150,7 @@ EXACTS = {
 }
 
 REGISTERS = {
-    "80": ("the year is not above the last published one", "the release is published already, or the year is mistyped",
+    "80": ("the year is not later than the last published one", "the release is published already, or the year is mistyped",
            "`lpis trace` shows what is published; the register was not changed"),
     "81": ("the lineage table does not fit this release and the last; a second code follows", "see codes 70 to 78", "see codes 70 to 78"),
     "82": ("the database failed; printed as `failed store`", "a full or failing disk, another program that holds the file locked",
@@ -198,10 +205,21 @@ def lines_of(code):
 
 
 def table_of_codes():
-    """The table of all codes as docs/USING.md has it."""
+    """The tables of all codes as docs/FORMATS.md has them."""
     lines = []
     for title, group in GROUPS:
-        lines += [f"**{title}**", "", "| Code | Meaning | Usual cause | Remedy |", "|---|---|---|---|"]
+        lines += [f"### {title}", "", "| Code | Meaning | Usual cause | Remedy |", "|---|---|---|---|"]
         lines += [f"| {code} | {meaning} | {cause} | {remedy} |" for code, (meaning, cause, remedy) in group.items()]
         lines.append("")
     return "\n".join(lines)
+
+
+def with_codes(page):
+    """The text of docs/FORMATS.md with the tables of all codes between its marks."""
+    before, rest = page.split(MARKS[0])
+    return before + MARKS[0] + "\n" + table_of_codes() + "\n" + MARKS[1] + rest.split(MARKS[1], 1)[1]
+
+
+if __name__ == "__main__":
+    FORMATS = pathlib.Path(__file__).resolve().parents[2] / "docs" / "FORMATS.md"
+    FORMATS.write_text(with_codes(FORMATS.read_text(encoding="utf-8")), encoding="utf-8")
