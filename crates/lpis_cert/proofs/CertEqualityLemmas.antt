@@ -1,8 +1,9 @@
 -- Certificates of one content are equal.
 use Rattle.std.proofs.Common.{◌≡◌, ℕ, ◌+◌, ◌≤◌, Bool, true, List, [], ◌∷◌, length, map, refl, ap, ap₂, subst, sum_by}
-use Rattle.lpis_cert.proofs.Common.{Triangle, is_id, PiecePart, ParcelPart, ExactBlock, Cert, most_triangles, most_flats, greatest_count, Corners, PieceBlock, ParcelBlock, FlatsBlock}
+use Rattle.lpis_cert.proofs.Common.{Triangle, is_id, PiecePart, ParcelPart, ExactBlock, Cert, most_triangles, most_flats, greatest_count, Corners, PieceBlock, ParcelBlock}
 use Rattle.lpis_cert.proofs.Common.{Separator, Content, corner_numbers}
 use Rattle.lpis_cert.proofs.Common.{all_corners, piece_of, parcel_of, exact_of, separator_of, content_of}
+use Rattle.lpis_cert.specs.CertText.{ExactBlock as FlatsBlock}
 use Rattle.std.proofs.Math.Bridge.{le_prop}
 use mathlib.Core.Bool.{Bool-set}
 use Rattle.lpis_points.specs.declared.point.Point.{Point}

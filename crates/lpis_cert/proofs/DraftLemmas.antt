@@ -4,12 +4,13 @@ use Rattle.std.proofs.Common.{length-append, ◌⊎◌, inl, inr}
 use Rattle.std.proofs.Common.{nat_le}
 use Rattle.lpis_cert.proofs.Common.{nat_tests, join_with_byte-slice_split, AllByRecursion, Stage, CertFault, One, Block, Version, most_triangles, most_flats}
 use Rattle.lpis_cert.proofs.Common.{greatest_count, Corners, Separator}
-use Rattle.lpis_cert.proofs.Common.{PieceBlock, ParcelBlock, FlatsBlock, Line, PieceLine, TriangleLine, FlatLine, PairsLine, PairLine, EndLine, spelling, line_kind, can_stand}
+use Rattle.lpis_cert.proofs.Common.{PieceBlock, ParcelBlock, Line, PieceLine, TriangleLine, FlatLine, PairsLine, PairLine, EndLine, spelling, line_kind, can_stand}
 use Rattle.lpis_cert.proofs.Common.{text_of_lines, piece_lines, parcel_lines, exact_lines}
 use Rattle.lpis_cert.proofs.Common.{end_lines, lines_of, SeparatorFits, LineFits, is_lf, lines, outcome, at_last, step, State, InBody, InPairs}
 use Rattle.lpis_cert.proofs.Common.{AtEnd, Declared, grow, grow_flats}
 use Rattle.lpis_cert.proofs.Common.{ReadsLines, FaultFrom, LineFault, Triangle, PiecePart, ParcelPart, ExactBlock, Cert, all_corners, piece_of, parcel_of, exact_of, separator_of, is_id}
 use Rattle.lpis_cert.proofs.Common.{content_of, pieces_lines, parcels_lines, exacts_lines}
+use Rattle.lpis_cert.specs.CertText.{ExactBlock as FlatsBlock}
 use Rattle.std.proofs.lemmas.List.Sums.{sum_by_push}
 use Rattle.std.proofs.lemmas.Grind.{flat_map-append}
 use Rattle.std.proofs.lemmas.List.{append-nil, nil_from_length, map_push}
@@ -118,13 +119,22 @@ one_more_piece ps p =
 
 one_more_parcel : (ps : List PieceBlock) (qs : List ParcelBlock) (q : ParcelBlock) → blocks ps (qs ++ q ∷ []) [] ≡ blocks ps qs [] ++ parcel_lines q
 one_more_parcel ps qs q =
-    cc (append-nil (parcels_lines (qs ++ q ∷ [])), append-nil (parcels_lines qs), flat_map-append parcel_lines qs (q ∷ []), append-nil (parcel_lines q),
-    append_assoc (pieces_lines ps) (parcels_lines qs) (parcel_lines q))
+    cc (
+      append-nil (parcels_lines (qs ++ q ∷ [])),
+      append-nil (parcels_lines qs),
+      flat_map-append parcel_lines qs (q ∷ []),
+      append-nil (parcel_lines q),
+      append_assoc (pieces_lines ps) (parcels_lines qs) (parcel_lines q),
+    )
 
 one_more_exact : (ps : List PieceBlock) (qs : List ParcelBlock) (es : List FlatsBlock) (e : FlatsBlock) → blocks ps qs (es ++ e ∷ []) ≡ blocks ps qs es ++ exact_lines e
 one_more_exact ps qs es e =
-    cc (flat_map-append exact_lines es (e ∷ []), append-nil (exact_lines e), append_assoc (parcels_lines qs) (exacts_lines es) (exact_lines e),
-    append_assoc (pieces_lines ps) (parcels_lines qs ++ exacts_lines es) (exact_lines e))
+    cc (
+      flat_map-append exact_lines es (e ∷ []),
+      append-nil (exact_lines e),
+      append_assoc (parcels_lines qs) (exacts_lines es) (exact_lines e),
+      append_assoc (pieces_lines ps) (parcels_lines qs ++ exacts_lines es) (exact_lines e),
+    )
 
 -- before a parcel's block there is no exact one
 abbrev pub NoneBefore : Owner → ℕ → Type 0

@@ -4,11 +4,12 @@ use Rattle.std.proofs.Common.{append_assoc, length-append, sum_by, flat_map}
 use Rattle.std.proofs.Common.{IfOk, IfErr, MatchResult}
 use Rattle.lpis_cert.proofs.Common.{nat_tests, join_with_byte-slice_split, onto_first, AllByRecursion, length-map, sum_by-cons, PiecePart, ParcelPart, ExactBlock, Cert}
 use Rattle.lpis_cert.proofs.Common.{CertFault}
-use Rattle.lpis_cert.proofs.Common.{piece_of, parcel_of, exact_of, separator_of, content_of, IsCertText, PieceFits, ParcelFits, ExactFits, CertCode, Version, first_line, named, written, Corners, Triangle, Separator}
-use Rattle.lpis_cert.proofs.Common.{PieceBlock, ParcelBlock, FlatsBlock}
+use Rattle.lpis_cert.proofs.Common.{piece_of, parcel_of, exact_of, separator_of, content_of, IsCertText, PieceFits, ParcelFits, ExactFits, CertCode, Version, first_line, named, written}
+use Rattle.lpis_cert.proofs.Common.{Corners, Triangle, Separator, PieceBlock, ParcelBlock}
 use Rattle.lpis_cert.proofs.Common.{Content, Line, TriangleLine, FlatLine, text_of, text_of_lines, spelling, lines_of, piece_lines, parcel_lines, exact_lines}
 use Rattle.lpis_cert.proofs.Common.{end_lines, CornersFit, LineFits, is_lf, lines, outcome, outcome_of, at_last, step, State, AtEnd, first_state, verdict}
 use Rattle.lpis_cert.proofs.Common.{pieces_lines, parcels_lines, exacts_lines}
+use Rattle.lpis_cert.specs.CertText.{ExactBlock as FlatsBlock}
 use Rattle.lpis_cert.specs.declared.fault.CertFault.TheVariants.{Memory, At}
 use Rattle.lpis_cert.specs.Contents.{cert_text, IsTextOf, all_corners, corner_numbers}
 use Rattle.lpis_cert.proofs.CertEqualityLemmas.{cert_eq, same_content}

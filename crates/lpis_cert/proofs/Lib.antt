@@ -11,6 +11,7 @@ pub mod DraftLemmas
 pub mod ReadLemmas
 pub mod CertEqualityLemmas
 pub mod LawLemmas
+pub mod ContentLemmas
 pub mod ReadbackLemmas
 pub mod WriteLemmas
 pub mod Shared

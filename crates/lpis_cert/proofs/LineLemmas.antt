@@ -6,8 +6,10 @@ use Rattle.std.proofs.Common.{decimal, is_some}
 use Rattle.lpis_cert.proofs.Common.{and_parts, join_with_byte-slice_split, list_any, join_with_byte, AllByRecursion, is_id, Version}
 use Rattle.lpis_cert.proofs.Common.{greatest_count, number_margin, Kind}
 use Rattle.lpis_cert.proofs.Common.{Piece, Flat, Parcel, Exact, Pairs, Pair, End, Corners, Separator, Line, PieceLine, TriangleLine, FlatLine, ParcelLine, ExactLine, PairsLine}
-use Rattle.lpis_cert.proofs.Common.{PairLine, EndLine, words_of, spelling, side, has_exact}
+use Rattle.lpis_cert.proofs.Common.{PairLine, EndLine, words_of, spelling}
 use Rattle.lpis_cert.proofs.Common.{CoordinateFits, CornersFit, SeparatorFits, LineFits, is_empty, words, can_stand, number, values, read_line, line_kind}
+use Rattle.lpis_cert.specs.CertText.{side}
+use Rattle.lpis_cert.specs.Versions.{has_exact}
 use Rattle.std.proofs.lemmas.Slice.Eq.{bytes_eq-Decides}
 use Rattle.lpis_cert.specs.Limits.{last_edge}
 use Rattle.lpis_cert.specs.declared.kind.Kind.TheVariants.{Triangle}

@@ -1,10 +1,11 @@
 -- The first line, and the whole text.
 use Rattle.std.proofs.Common.{bytes_eq, ◌≡◌, ℕ, ◌+◌, ◌≤◌, Bool, true, false, cond, List, [], ◌∷◌, ◌++◌, length, map, Some, None, Result, Ok, Err, IfOk, refl, sym, ap, ◌∙◌, arith, sum_by, flat_map}
-use Rattle.lpis_cert.proofs.Common.{sum_by-cons, AllByRecursion, Stage, Version, first_line, named, most_triangles, most_flats, greatest_count, PieceBlock, ParcelBlock, FlatsBlock, Content}
+use Rattle.lpis_cert.proofs.Common.{sum_by-cons, AllByRecursion, Stage, Version, first_line, named, most_triangles, most_flats, greatest_count, PieceBlock, ParcelBlock, Content}
 use Rattle.lpis_cert.proofs.Common.{Cert, CertFault, IsCertText, content_of, Line, PieceLine, TriangleLine, Corners, CornersFit, ExactFits}
 use Rattle.lpis_cert.proofs.Common.{FlatLine, text_of, text_of_lines, lines_of, piece_lines, end_lines, LineFits, PieceFits, ParcelFits, lines}
 use Rattle.lpis_cert.proofs.Common.{is_lf, outcome, outcome_of, at_last, State, InBody, first_state}
 use Rattle.lpis_cert.proofs.Common.{AtEnd, Declared, grow, grow_flats, verdict, ReadsLines, pieces_lines, parcels_lines, exacts_lines}
+use Rattle.lpis_cert.specs.CertText.{ExactBlock as FlatsBlock}
 use Rattle.std.proofs.lemmas.List.{append-nil}
 use Rattle.lpis_cert.specs.declared.version.Version.TheVariants.{One, Two}
 use Rattle.lpis_cert.specs.Faults.{none_declared}

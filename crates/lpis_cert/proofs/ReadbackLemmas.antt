@@ -2,29 +2,29 @@
 use Rattle.std.proofs.Common.{sum_by, flat_map, ◌≡◌, ℕ, zero, suc, ◌+◌, ◌≤◌, Bool, true, false, List, [], ◌∷◌, ◌++◌, length, map, Option, Some, None, Result, Ok}
 use Rattle.std.proofs.Common.{Err, refl, sym, ap, ap₂, subst}
 use Rattle.std.proofs.Common.{◌∙◌, arith, append_assoc}
-use Rattle.lpis_cert.proofs.Common.{AllByRecursion, join_with_byte, nat_tests, length-map, sum_by-cons, join_with_byte-slice_split, Triangle, is_id, Stage, One}
-use Rattle.lpis_cert.proofs.Common.{Block, CertCode, PiecePart, ParcelPart, ExactBlock}
-use Rattle.lpis_cert.proofs.Common.{Cert, Version, most_triangles, most_flats, greatest_count, first_line, named, IsCertText, Corners, Separator, PieceBlock, ParcelBlock, FlatsBlock, Content}
+use Rattle.lpis_cert.proofs.Common.{AllByRecursion, join_with_byte, nat_tests, sum_by-cons, join_with_byte-slice_split, Triangle, is_id, Stage, One}
+use Rattle.lpis_cert.proofs.Common.{Block, CertCode}
+use Rattle.lpis_cert.proofs.Common.{Cert, Version, most_triangles, most_flats, greatest_count, first_line, named, IsCertText, Corners, Separator, PieceBlock, ParcelBlock, Content}
 use Rattle.lpis_cert.proofs.Common.{Line, PieceLine, TriangleLine}
 use Rattle.lpis_cert.proofs.Common.{line_kind, FlatLine, ParcelLine, ExactLine, PairsLine, PairLine, EndLine, spelling, text_of_lines, piece_lines, parcel_lines, exact_lines, end_lines, lines_of}
-use Rattle.lpis_cert.proofs.Common.{text_of, corner_numbers, all_corners}
-use Rattle.lpis_cert.proofs.Common.{piece_of, parcel_of, exact_of, separator_of, content_of, LineFits, CornersFit, SeparatorFits, PieceFits, ParcelFits, ExactFits, can_stand, has_exact, read_line, lines, outcome}
+use Rattle.lpis_cert.proofs.Common.{text_of}
+use Rattle.lpis_cert.proofs.Common.{content_of, LineFits, CornersFit, SeparatorFits, PieceFits, ParcelFits, ExactFits, can_stand, read_line, lines, outcome}
 use Rattle.lpis_cert.proofs.Common.{outcome_of, at_last, step, State, InBody, first_state}
 use Rattle.lpis_cert.proofs.Common.{InPairs, AtEnd, Declared, grow, grow_flats, verdict}
+use Rattle.lpis_cert.specs.CertText.{ExactBlock as FlatsBlock}
+use Rattle.lpis_cert.specs.Versions.{has_exact}
 use Rattle.std.proofs.lemmas.List.{nil_from_length}
 use Rattle.lpis_cert.specs.private.Fits.{Fits}
 use Rattle.lpis_cert.specs.private.Drafts.{flats_line, stage_after}
 use Rattle.lpis_cert.specs.declared.head.Owner.{Owner}
 use Rattle.lpis_cert.specs.declared.head.Owner.TheVariants as owner
 use Rattle.lpis_cert.specs.Faults.{at_line, open_block, within, outcome_named}
-use Rattle.lpis_cert.proofs.NumberLemmas.{in_range}
 use Rattle.lpis_cert.proofs.LineLemmas.{ReadsAs, read_takes, bind_ok}
 use Rattle.lpis_cert.proofs.ReadLemmas.{named_is}
-use Rattle.lpis_cert.proofs.LawLemmas.{triangle_sum, flat_sum, parcel_flat_sum, exact_flat_sum, fits_of}
-use Rattle.lpis_cert.proofs.CertEqualityLemmas.{same_content}
+use Rattle.lpis_cert.proofs.LawLemmas.{fits_of}
+use Rattle.lpis_cert.proofs.ContentLemmas.{cert_of}
 use Rattle.lpis_cert.specs.declared.kind.Stage.TheVariants as stage
 use Rattle.lpis_cert.specs.declared.kind.Kind.TheVariants as kind
-use Rattle.lpis_cert.specs.declared.part.PairLine as part
 
 -- ---- what a text may be from a state on
 
@@ -331,65 +331,7 @@ read_back v (l ∷ k ∷ ls) n m p s h =
     let b = back v p o.0 l s (line_ok n (step v p l) o.0 o.1) in
     b.1 (join_with_byte 10 (k ∷ ls)) (read_back v (k ∷ ls) (n + 1) m o.0 b.0 o.2)
 
--- ---- the certificate of a content
-
-abbrev triangle_of : (v : Version) (c : Corners) → CornersFit v c → Triangle
-triangle_of v c f = record {
-  a = record { x = c.x1; y = c.y1; x_in_range = in_range v c.x1 f.x1; y_in_range = in_range v c.y1 f.y1 };
-  b = record { x = c.x2; y = c.y2; x_in_range = in_range v c.x2 f.x2; y_in_range = in_range v c.y2 f.y2 };
-  c = record { x = c.x3; y = c.y3; x_in_range = in_range v c.x3 f.x3; y_in_range = in_range v c.y3 f.y3 };
-}
-
--- each item of a list is what is read of one that fits
-each_of : {A B : Type 0} (Fit : B → Type 0) (read : A → B) → ((y : B) → Fit y → (x : A) × (read x ≡ y))
-    → (ys : List B) → AllByRecursion Fit ys → (xs : List A) × (map read xs ≡ ys)
-each_of Fit read one [] fits = ([], refl)
-each_of Fit read one (y ∷ ys) fits =
-    let x = one y fits.0 in
-    let r = each_of Fit read one ys fits.1 in
-    (x.0 ∷ r.0, ap₂ (λ (z : _) (zs : List _). z ∷ zs) x.1 r.1)
-
-triangles_of : (v : Version) (cs : List Corners) → AllByRecursion (CornersFit v) cs → (ts : List Triangle) × (all_corners ts ≡ cs)
-triangles_of v cs fits = each_of (CornersFit v) corner_numbers (λ c f. (triangle_of v c f, refl)) cs fits
-
-a_piece_of : (v : Version) (p : PieceBlock) → PieceFits v p → (q : PiecePart) × (piece_of q ≡ p)
-a_piece_of v p fits =
-    let t = triangles_of v p.triangles fits.triangles in
-    let f = triangles_of v p.flats fits.flats in
-    (record { id = p.id; triangles = t.0; flats = f.0; named = fits.id }, ap₂ (λ (x y : List Corners). record { id = p.id; triangles = x; flats = y }) t.1 f.1)
-
-a_parcel_of : (v : Version) (p : ParcelBlock) → ParcelFits v p → (q : ParcelPart) × (parcel_of q ≡ p)
-a_parcel_of v p fits =
-    let f = triangles_of v p.flats fits.flats in
-    (record { id = p.id; flats = f.0; named = fits.id }, ap (λ (x : List Corners). record { id = p.id; flats = x }) f.1)
-
-an_exact_of : (v : Version) (p : FlatsBlock) → ExactFits v p → (q : ExactBlock) × (exact_of q ≡ p)
-an_exact_of v p fits =
-    let f = triangles_of v p.flats fits.flats in
-    (record { merge = p.merge; id = p.id; flats = f.0; named = fits.id }, ap (λ (x : List Corners). record { merge = p.merge; id = p.id; flats = x }) f.1)
-
-a_pair_of : (p : Separator) → SeparatorFits p → (q : part.PairLine) × (separator_of q ≡ p)
-a_pair_of p fits = (record { i = p.i; j = p.j; k = p.k; i_fits = fits.i; j_fits = fits.j; k_fits = fits.k }, refl)
-
-cert_of : (v : Version) (c : Content) → Fits v c → (x : Cert) × (content_of x ≡ c)
-cert_of v c fits =
-    let ps = each_of (PieceFits v) piece_of (a_piece_of v) c.pieces fits.pieces in
-    let qs = each_of (ParcelFits v) parcel_of (a_parcel_of v) c.parcels fits.parcels in
-    let es = each_of (ExactFits v) exact_of (an_exact_of v) c.exact fits.exact in
-    let rs = each_of SeparatorFits separator_of a_pair_of c.pairs fits.pairs in
-    let same = same_content ps.1 qs.1 es.1 rs.1 in
-    let own = subst (Fits v) (sym same) fits in (
-      record {
-        pieces = ps.0;
-        parcels = qs.0;
-        exact = es.0;
-        pairs = rs.0;
-        triangles_few = omega (arith, triangle_sum ps.0, own.triangles_few);
-        flats_few = omega (arith, flat_sum ps.0, parcel_flat_sum qs.0, exact_flat_sum es.0, own.flats_few);
-        pairs_few = omega (arith, length-map rs.0 separator_of, own.pairs_few);
-      },
-      same,
-    )
+-- ---- a text back
 
 -- what comes after a first line without a fault
 body_back : (v : Version) (text rest : List ℕ) (after : ℕ) → text ≡ first_line v ++ (10 ∷ rest) → May v first_state rest

@@ -4,9 +4,9 @@ use Rattle.std.proofs.Common.{codes, decimal}
 use Rattle.lpis_cert.proofs.Common.{and_parts, nat_tests, onto_first, list_any, join_with_byte, AllByRecursion, is_id, Version}
 use Rattle.lpis_cert.proofs.Common.{greatest_count, number_margin, Kind, Piece, Flat}
 use Rattle.lpis_cert.proofs.Common.{Parcel, Exact, Pairs, Pair, End, Corners, Line, PieceLine, TriangleLine, FlatLine, ParcelLine, ExactLine, PairsLine, PairLine, EndLine}
-use Rattle.lpis_cert.proofs.Common.{side}
 use Rattle.lpis_cert.proofs.Common.{words_of, spelling, CoordinateFits, CornersFit, LineFits}
 use Rattle.lpis_cert.proofs.Common.{is_gap, is_empty, words, is_lf, lines, line_kind, first_line}
+use Rattle.lpis_cert.specs.CertText.{side}
 use Rattle.std.proofs.lemmas.Fmt.{decimal_is_IsNumeral}
 use Rattle.std.proofs.lemmas.Str.Parse.{digit_from_value}
 use Rattle.std.specs.List.{slice_split, list_all}

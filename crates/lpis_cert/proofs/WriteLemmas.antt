@@ -1,12 +1,12 @@
 -- What is written is the text.
-use Rattle.std.proofs.Common.{true, arith}
+use Rattle.std.proofs.Common.{arith}
 use Rattle.std.proofs.Common.{◌≡◌, ℕ, List, [], ◌∷◌, ◌++◌, length, map, refl, sym, ap, ap₂, ◌∙◌, flat_map}
 use Rattle.lpis_cert.proofs.Common.{length-map, PiecePart, ParcelPart, ExactBlock, Cert, Triangle, Line, PieceLine, PairsLine, TriangleLine, FlatLine, EndLine, text_of}
 use Rattle.lpis_cert.proofs.Common.{text_of_lines, written}
 use Rattle.lpis_cert.proofs.Common.{lines_of, piece_lines, parcel_lines, exact_lines, end_lines, corner_numbers, all_corners, piece_of, parcel_of, exact_of, separator_of, content_of}
 use Rattle.std.proofs.lemmas.List.Concat.{flat_map-cons}
 use Rattle.lpis_cert.specs.CertText.{PairLine as separator_line}
-use Rattle.lpis_cert.specs.private.Written.{line_text, corners_text, piece_text, parcel_text, exact_text, pairs_text, version_text, parts_text}
+use Rattle.lpis_cert.specs.private.Written.{line_text, flats_text, piece_text, parcel_text, exact_text, pairs_text, version_text, parts_text}
 use Rattle.lpis_cert.specs.private.Drafts.{flats_line}
 use Rattle.lpis_cert.specs.declared.head.Owner.{Owner}
 use Rattle.lpis_cert.specs.declared.head.Owner.TheVariants as owner
@@ -38,7 +38,7 @@ piece_is p =
     ∙ ap₂ (λ (i j : ℕ). text_of_lines written (PieceLine p.id i j ∷ (map TriangleLine (all_corners p.triangles) ++ map FlatLine (all_corners p.flats)))) (sym n) (sym m)
 
 -- a block of flats
-flats_are : (w : Owner) (id : List ℕ) (fs : List Triangle) → line_text (flats_line w id (length fs)) ++ corners_text true fs
+flats_are : (w : Owner) (id : List ℕ) (fs : List Triangle) → flats_text w id fs
     ≡ text_of_lines written (flats_line w id (length (all_corners fs)) ∷ map FlatLine (all_corners fs))
 flats_are w id fs =
     let cs = many (λ t. FlatLine (corner_numbers t)) fs ∙ ap (text_of_lines written) (map-map corner_numbers FlatLine fs) in

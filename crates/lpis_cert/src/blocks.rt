@@ -18,7 +18,7 @@ ghost use Rattle.lpis_cert.specs.private.Drafts.{draft_lines, flats_line, OneMor
 use crate::cert::{Cert, MOST_FLATS, MOST_TRIANGLES};
 use crate::draft::{Draft, Progress};
 use crate::fault::{CertCode, CertFault};
-use crate::head::{Owner, Head, head_at};
+use crate::head::{Head, Owner, head_at};
 use crate::lines::{corner_lines, end_line, pair_lines};
 use crate::part::{ExactBlock, PairLine, ParcelPart, PiecePart};
 use crate::rest::Rest;

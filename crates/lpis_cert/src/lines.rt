@@ -113,10 +113,7 @@ pub(crate) fn corner_lines(
 }
 
 /// A pair line.
-pub(crate) fn pair_line(
-    version: Version,
-    rest: Rest<'_>,
-) -> Result<(PairLine, Rest<'_>), CertFault>
+pub(crate) fn pair_line(version: Version, rest: Rest<'_>) -> Result<(PairLine, Rest<'_>), CertFault>
     ensures { MatchResult result
         (λ x. ReadsLines version rest.entry.text.now rest.entry.line
         (separator_line (separator_of x.0) ∷ []) x.1.text.now x.1.line)

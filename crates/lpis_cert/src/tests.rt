@@ -194,9 +194,7 @@ fn first_faults_of_exact_blocks(rt: HostRuntime) -> Result<(), Fail> {
 
 #[test]
 fn exact_blocks_have_their_parts(rt: HostRuntime) -> Result<(), Fail> {
-    let cert = read_cert(rt.alloc(), EXACT.as_bytes())
-        .ok()
-        .ok_or("read")?;
+    let cert = read_cert(rt.alloc(), EXACT.as_bytes()).ok().ok_or("read")?;
     let [split, merge, last] = cert.exact.as_slice() else {
         return Err("three blocks".into());
     };

@@ -3,18 +3,21 @@
 ghost use Rattle.std.specs.Prelude.{◌++◌, OnOk, length};
 ghost use Rattle.std.specs.List.{flat_map};
 ghost use Rattle.std.specs.Io.KnownBytes.{Appends};
-ghost use Rattle.lpis_cert.specs.CertText.{PairLine as separator_line, PieceLine, ParcelLine};
-ghost use Rattle.lpis_cert.specs.CertText.{ExactLine, PairsLine, EndLine};
+ghost use Rattle.lpis_cert.specs.CertText.{PairLine as separator_line, PieceLine, PairsLine};
+ghost use Rattle.lpis_cert.specs.CertText.{EndLine};
 ghost use Rattle.lpis_cert.specs.private.Taken.{corner_line};
 ghost use Rattle.lpis_cert.specs.Contents.{corner_numbers, separator_of, cert_text};
+ghost use Rattle.lpis_cert.specs.private.Drafts.{flats_line};
 ghost use Rattle.lpis_cert.specs.private.Written.{line_text, corners_text, piece_text, parcel_text};
-ghost use Rattle.lpis_cert.specs.private.Written.{exact_text, pairs_text, tail_text, version_text};
-ghost use Rattle.lpis_cert.specs.private.Written.{parts_text};
+ghost use Rattle.lpis_cert.specs.private.Written.{flats_text, exact_text, pairs_text, tail_text};
+ghost use Rattle.lpis_cert.specs.private.Written.{version_text, parts_text};
 
 use crate::cert::Cert;
 use crate::form::side;
+use crate::head::Owner;
 use crate::part::{ExactBlock, PairLine, ParcelPart, PiecePart};
 use crate::version::Version;
+use lpis_covers::Id;
 use lpis_points::Triangle;
 use std::io::{self, ErrorKind, Write};
 use thiserror::Error;
@@ -101,42 +104,38 @@ fn write_piece<W: Write>(piece: &PiecePart, out: &mut W) -> Result<(), WriteFaul
 }
 
 #[tactic(auto, unfolding(crate::specs::private::Written::line_text, crate::specs::CertText::spelling, crate::specs::CertText::words_of, crate::specs::CertText::text_of_lines))]
-fn write_parcel_line<W: Write>(parcel: &ParcelPart, out: &mut W) -> Result<(), WriteFault>
+fn write_flats_line<W: Write>(
+    owner: Owner,
+    id: &Id,
+    count: usize,
+    out: &mut W,
+) -> Result<(), WriteFault>
     ensures { OnOk result (Appends (W.contents out.old) (W.contents out.new)
-        (line_text (ParcelLine parcel.now.id (length parcel.now.flats)))) }
+        (line_text (flats_line owner id.now count))) }
 {
-    let id = parcel.id.as_str();
-    let flats = parcel.flats.as_slice().len();
-    write!(out, "parcel {id} {flats}\n")?;
+    let id = id.as_str();
+    match owner {
+        Owner::Parcel => write!(out, "parcel {id} {count}\n")?,
+        Owner::Exact { merge } => {
+            let side = side(merge);
+            write!(out, "exact {side} {id} {count}\n")?;
+        }
+    }
     Ok(())
 }
 
-fn write_parcel<W: Write>(parcel: &ParcelPart, out: &mut W) -> Result<(), WriteFault>
+/// A block of flats alone.
+fn write_flats<W: Write>(
+    owner: Owner,
+    id: &Id,
+    flats: &[Triangle],
+    out: &mut W,
+) -> Result<(), WriteFault>
     ensures { OnOk result (Appends (W.contents out.old) (W.contents out.new)
-        (parcel_text parcel.now)) }
+        (flats_text owner id.now flats.now)) }
 {
-    write_parcel_line(parcel, out)?;
-    write_all_corners(true, parcel.flats.as_slice(), out)
-}
-
-#[tactic(auto, unfolding(crate::specs::private::Written::line_text, crate::specs::CertText::spelling, crate::specs::CertText::words_of, crate::specs::CertText::text_of_lines))]
-fn write_exact_line<W: Write>(block: &ExactBlock, out: &mut W) -> Result<(), WriteFault>
-    ensures { OnOk result (Appends (W.contents out.old) (W.contents out.new)
-        (line_text (ExactLine block.now.merge block.now.id (length block.now.flats)))) }
-{
-    let id = block.id.as_str();
-    let flats = block.flats.as_slice().len();
-    let side = side(block.merge);
-    write!(out, "exact {side} {id} {flats}\n")?;
-    Ok(())
-}
-
-fn write_exact<W: Write>(block: &ExactBlock, out: &mut W) -> Result<(), WriteFault>
-    ensures { OnOk result (Appends (W.contents out.old) (W.contents out.new)
-        (exact_text block.now)) }
-{
-    write_exact_line(block, out)?;
-    write_all_corners(true, block.flats.as_slice(), out)
+    write_flats_line(owner, id, flats.len(), out)?;
+    write_all_corners(true, flats, out)
 }
 
 fn write_pieces<W: Write>(pieces: &[PiecePart], out: &mut W) -> Result<(), WriteFault>
@@ -154,7 +153,7 @@ fn write_parcels<W: Write>(parcels: &[ParcelPart], out: &mut W) -> Result<(), Wr
         (flat_map parcel_text parcels.now)) }
 {
     for parcel in parcels {
-        write_parcel(parcel, out)?;
+        write_flats(Owner::Parcel, &parcel.id, parcel.flats.as_slice(), out)?;
     }
     Ok(())
 }
@@ -164,7 +163,8 @@ fn write_exacts<W: Write>(blocks: &[ExactBlock], out: &mut W) -> Result<(), Writ
         (flat_map exact_text blocks.now)) }
 {
     for block in blocks {
-        write_exact(block, out)?;
+        let owner = Owner::Exact { merge: block.merge };
+        write_flats(owner, &block.id, block.flats.as_slice(), out)?;
     }
     Ok(())
 }

@@ -22,8 +22,8 @@ pub record TakesLine (text : List ℕ) (n : ℕ) (line rest : List ℕ) (m : ℕ
   pub next : m ≡ n + 1
 
 -- a line of this kind and further words
-pub record Placed (v : Version) (e : Expected) (text : List ℕ) (n : ℕ) (k : Kind) (ws : List (List ℕ))
-    (rest : List ℕ) (m : ℕ) : Type 0 where
+pub record Placed (v : Version) (e : Expected) (text : List ℕ) (n : ℕ) (k : Kind)
+    (ws : List (List ℕ)) (rest : List ℕ) (m : ℕ) : Type 0 where
   pub line : List ℕ
   pub takes : TakesLine text n line rest m
   pub placed : placed v e line ≡ Ok (k, ws)

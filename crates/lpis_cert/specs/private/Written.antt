@@ -8,9 +8,11 @@ use Rattle.lpis_cert.specs.declared.part.ExactBlock.{ExactBlock}
 use Rattle.lpis_cert.specs.declared.part.PairLine.{PairLine}
 use Rattle.lpis_cert.specs.declared.cert.Cert.{Cert}
 use Rattle.lpis_cert.specs.Versions.{first_line, written}
-use Rattle.lpis_cert.specs.CertText.{Line, PieceLine, ParcelLine, ExactLine, PairsLine}
-use Rattle.lpis_cert.specs.CertText.{EndLine, text_of_lines}
+use Rattle.lpis_cert.specs.declared.head.Owner.{Owner}
+use Rattle.lpis_cert.specs.declared.head.Owner.TheVariants as owner
+use Rattle.lpis_cert.specs.CertText.{Line, PieceLine, PairsLine, EndLine, text_of_lines}
 use Rattle.lpis_cert.specs.CertText.{PairLine as separator_line}
+use Rattle.lpis_cert.specs.private.Drafts.{flats_line}
 use Rattle.lpis_cert.specs.private.Taken.{corner_line}
 use Rattle.lpis_cert.specs.Contents.{corner_numbers, separator_of}
 
@@ -24,11 +26,14 @@ abbrev pub piece_text : PiecePart → List ℕ
 piece_text p = line_text (PieceLine p.id (length p.triangles) (length p.flats))
     ++ (corners_text false p.triangles ++ corners_text true p.flats)
 
+abbrev pub flats_text : Owner → List ℕ → List Triangle → List ℕ
+flats_text w id ts = line_text (flats_line w id (length ts)) ++ corners_text true ts
+
 abbrev pub parcel_text : ParcelPart → List ℕ
-parcel_text p = line_text (ParcelLine p.id (length p.flats)) ++ corners_text true p.flats
+parcel_text p = flats_text owner.Parcel p.id p.flats
 
 abbrev pub exact_text : ExactBlock → List ℕ
-exact_text b = line_text (ExactLine b.merge b.id (length b.flats)) ++ corners_text true b.flats
+exact_text b = flats_text (owner.Exact b.merge) b.id b.flats
 
 abbrev pub pairs_text : List PairLine → List ℕ
 pairs_text ps = flat_map (λ p. line_text (separator_line (separator_of p))) ps

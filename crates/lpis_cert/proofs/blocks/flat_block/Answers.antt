@@ -24,9 +24,13 @@ with_flats-requires c = flats_named c.args.draft.version c.args.owner c.args.id 
 pub invariant_of-grown-clause-flats_counted : goal.invariant_of-grown-clause-flats_counted
 invariant_of-grown-clause-flats_counted c =
     let d = c.args.draft in
-    omega (arith, d.flats_counted, c.in_ok-own_flats.ensures.count,
-    one_more_flats c.args.owner c.args.id c.in_ok-own_flats.own_flats.items d.parcels.items d.exact.items c.in_ok-parcels.parcels.items c.in_ok-parcels.exact.items
-    c.in_ok-parcels.ensures.ok)
+    omega (
+      arith,
+      d.flats_counted,
+      c.in_ok-own_flats.ensures.count,
+      one_more_flats c.args.owner c.args.id c.in_ok-own_flats.own_flats.items d.parcels.items d.exact.items c.in_ok-parcels.parcels.items c.in_ok-parcels.exact.items
+          c.in_ok-parcels.ensures.ok,
+    )
 
 pub invariant_of-grown-clause-no_parcels : goal.invariant_of-grown-clause-no_parcels
 invariant_of-grown-clause-no_parcels c = let is = c.stage.ensures in rw is (λ first. absurd (stage_parcels c.args.owner first))
