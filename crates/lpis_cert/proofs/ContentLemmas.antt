@@ -1,5 +1,5 @@
 -- The certificate of a content.
-use Rattle.std.proofs.Common.{◌≡◌, ◌+◌, ◌≤◌, true, List, [], ◌∷◌, length, map, refl, sym, ap, ap₂, subst, arith, sum_by}
+use Rattle.std.proofs.Common.{◌≡◌, List, [], ◌∷◌, map, refl, sym, ap, ap₂, subst, arith}
 use Rattle.lpis_cert.proofs.Common.{AllByRecursion, Triangle, PiecePart, ParcelPart, ExactBlock, Cert, Version, Corners, Separator, PieceBlock, ParcelBlock, Content}
 use Rattle.lpis_cert.proofs.Common.{corner_numbers, all_corners, piece_of, parcel_of, exact_of, separator_of, content_of, length-map}
 use Rattle.lpis_cert.proofs.Common.{CornersFit, SeparatorFits, PieceFits, ParcelFits, ExactFits}

@@ -8,7 +8,7 @@ use Rattle.lpis_cert.proofs.Common.{piece_of, parcel_of, exact_of, separator_of,
 use Rattle.lpis_cert.proofs.Common.{Corners, Triangle, Separator, PieceBlock, ParcelBlock}
 use Rattle.lpis_cert.proofs.Common.{Content, Line, TriangleLine, FlatLine, text_of, text_of_lines, spelling, lines_of, piece_lines, parcel_lines, exact_lines}
 use Rattle.lpis_cert.proofs.Common.{end_lines, CornersFit, LineFits, is_lf, lines, outcome, outcome_of, at_last, step, State, AtEnd, first_state, verdict}
-use Rattle.lpis_cert.proofs.Common.{pieces_lines, parcels_lines, exacts_lines}
+use Rattle.lpis_cert.proofs.Common.{parcels_lines, exacts_lines}
 use Rattle.lpis_cert.specs.CertText.{ExactBlock as FlatsBlock}
 use Rattle.lpis_cert.specs.declared.fault.CertFault.TheVariants.{Memory, At}
 use Rattle.lpis_cert.specs.Contents.{cert_text, IsTextOf, all_corners, corner_numbers}

@@ -2,13 +2,13 @@
 use Rattle.std.proofs.Common.{sum_by, flat_map, ◌≡◌, ℕ, zero, suc, ◌+◌, ◌≤◌, Bool, true, false, List, [], ◌∷◌, ◌++◌, length, map, Option, Some, None, Result, Ok}
 use Rattle.std.proofs.Common.{Err, refl, sym, ap, ap₂, subst}
 use Rattle.std.proofs.Common.{◌∙◌, arith, append_assoc}
-use Rattle.lpis_cert.proofs.Common.{AllByRecursion, join_with_byte, nat_tests, sum_by-cons, join_with_byte-slice_split, Triangle, is_id, Stage, One}
+use Rattle.lpis_cert.proofs.Common.{AllByRecursion, join_with_byte, nat_tests, sum_by-cons, join_with_byte-slice_split, is_id, Stage, One}
 use Rattle.lpis_cert.proofs.Common.{Block, CertCode}
 use Rattle.lpis_cert.proofs.Common.{Cert, Version, most_triangles, most_flats, greatest_count, first_line, named, IsCertText, Corners, Separator, PieceBlock, ParcelBlock, Content}
 use Rattle.lpis_cert.proofs.Common.{Line, PieceLine, TriangleLine}
 use Rattle.lpis_cert.proofs.Common.{line_kind, FlatLine, ParcelLine, ExactLine, PairsLine, PairLine, EndLine, spelling, text_of_lines, piece_lines, parcel_lines, exact_lines, end_lines, lines_of}
 use Rattle.lpis_cert.proofs.Common.{text_of}
-use Rattle.lpis_cert.proofs.Common.{content_of, LineFits, CornersFit, SeparatorFits, PieceFits, ParcelFits, ExactFits, can_stand, read_line, lines, outcome}
+use Rattle.lpis_cert.proofs.Common.{LineFits, CornersFit, SeparatorFits, PieceFits, ParcelFits, ExactFits, can_stand, read_line, lines, outcome}
 use Rattle.lpis_cert.proofs.Common.{outcome_of, at_last, step, State, InBody, first_state}
 use Rattle.lpis_cert.proofs.Common.{InPairs, AtEnd, Declared, grow, grow_flats, verdict}
 use Rattle.lpis_cert.specs.CertText.{ExactBlock as FlatsBlock}

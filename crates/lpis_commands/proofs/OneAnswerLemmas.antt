@@ -1,6 +1,8 @@
 -- The inputs of a check have one answer.
 use Rattle.std.proofs.Common.{◌≡◌, ◌∙◌, ◌<◌, ◌-◌, ◌⊎◌, ◌∷◌, [], get_or, inl, inr, ap, ap₂, sym, refl, subst, ℕ, List, Result, Ok, Err}
-use Rattle.lpis_commands.proofs.Common.{Contents, release_of, Cert, IsGood, Answer}
+use Rattle.lpis_parcels.specs.Release.{Contents, release_of}
+use Rattle.lpis_cert.specs.declared.cert.Cert.{Cert}
+use Rattle.lpis_checker.specs.GoodCertificate.{IsGood}
 use Rattle.std.proofs.lemmas.Bool.{cases_order}
 use Rattle.lpis_covers.specs.declared.fault.TableFault.{TableFault}
 use Rattle.lpis_cert.specs.declared.fault.CertCode.{CertCode}
@@ -12,7 +14,7 @@ use Rattle.lpis_checker.specs.declared.condition.Site.{Site}
 use Rattle.lpis_checker.specs.declared.condition.Site.TheVariants.{PieceAt, ParcelAt, LineAt, PairAt}
 use Rattle.lpis_checker.specs.Codes.{code_of}
 use Rattle.lpis_checker.specs.FirstFault.{IsEarlier, IsFault, IsFirst, location_of}
-use Rattle.lpis_commands.specs.CheckAnswer.{Inputs, IsAnswer, IsCertAnswer, IsCheckAnswer, IsReleaseAnswer, IsReport, IsTableAnswer}
+use Rattle.lpis_commands.specs.CheckAnswer.{Answer, Inputs, IsAnswer, IsCertAnswer, IsCheckAnswer, IsReleaseAnswer, IsReport, IsTableAnswer}
 use Rattle.lpis_commands.specs.Refusals.{check_refusal_text}
 use Rattle.lpis_commands.specs.Status.{refused}
 use Rattle.lpis_checker.specs.declared.fault.CheckFault.TheVariants as check

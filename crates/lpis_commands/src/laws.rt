@@ -11,7 +11,8 @@ pub fn a_check_has_one_answer()
     ensures { (x : Inputs) (a b : Answer) → IsAnswer x a → IsAnswer x b → a ≡ b }
 {}
 
-/// The weighted areas of as many parcels as a table has, added, are no greater than what is printed.
+/// The weighted areas of as many parcels as a table has, added, are no greater than what is
+/// printed.
 pub fn a_sum_of_areas_is_printed()
     ensures { most_weighted * most_rows ≤ most_printed }
 {}

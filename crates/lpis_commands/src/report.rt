@@ -19,7 +19,8 @@ use lpis_parcels::{Parcel, Release, weighted2};
 use lpis_rings::area2;
 use std::io::Write;
 
-/// An area and how much of it is eligible: doubled square millimetres, and these at one percent each.
+/// An area and how much of it is eligible: doubled square millimetres, and these at one percent
+/// each.
 #[derive(Clone, Copy)]
 struct Areas {
     area: i128,

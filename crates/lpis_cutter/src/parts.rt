@@ -121,10 +121,11 @@ pub(crate) fn cert_of(alloc: Global, parts: Parts, pairs: Vec<PairLine>) -> Cert
         triangles: _,
         flats: _,
     } = parts;
+    let exact = Vec::new(alloc);
     Cert {
         pieces: Sequence::new(pieces),
         parcels: Sequence::new(parcels),
-        exact: Sequence::new(Vec::new(alloc)),
+        exact: Sequence::new(exact),
         pairs: Sequence::new(pairs),
     }
 }

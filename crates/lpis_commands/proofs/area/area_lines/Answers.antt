@@ -1,5 +1,5 @@
 use Rattle.std.proofs.Common.{◌≡◌, ◌∙◌, ◌++◌, ◌∷◌, [], ap, sym, refl, rules, true, codes, ℕ, ℤ, List, Result, Ok, Err, OnOk, is_ok, Vec, Global, Bor}
-use Rattle.lpis_commands.proofs.Common.{done}
+use Rattle.lpis_commands.specs.Status.{done}
 use Rattle.std.proofs.lemmas.Int.{to_z-of_z}
 use Rattle.std.proofs.lemmas.Result.{err_from_is_err_and}
 use Rattle.lpis_rings.specs.declared.polygon.Member.{Member}

@@ -1,4 +1,4 @@
-use Rattle.lpis_commands.proofs.Common.{IfOk-weaker}
+use Rattle.std.proofs.lemmas.Result.{IfOk-weaker}
 use Rattle.lpis_commands.specs.Inputs.{inputs_of}
 use Rattle.lpis_commands.proofs.CheckLemmas.{proved-of}
 use Rattle.lpis_commands.proofs.check.answer_to.Goals as goal

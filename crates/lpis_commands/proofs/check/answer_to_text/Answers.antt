@@ -1,4 +1,4 @@
-use Rattle.lpis_commands.proofs.Common.{IfOk-weaker}
+use Rattle.std.proofs.lemmas.Result.{IfOk-weaker}
 use Rattle.lpis_commands.specs.CheckAnswer.{IsCheckAnswer, IsReport}
 use Rattle.lpis_commands.proofs.CheckLemmas.{answer-of-text}
 use Rattle.lpis_commands.proofs.check.answer_to_text.Goals as goal
