@@ -22,7 +22,7 @@ pub use Rattle.lpis_cert.specs.declared.part.ExactBlock.{ExactBlock}
 pub use Rattle.lpis_cert.specs.declared.part.ParcelPart.{ParcelPart}
 pub use Rattle.lpis_cert.specs.declared.part.PiecePart.{PiecePart}
 pub use Rattle.lpis_cert.specs.declared.version.Version.{Version}
-pub use Rattle.lpis_cert.specs.private.Drafts.{draft_state, exacts_lines, parcels_lines, pieces_lines}
+pub use Rattle.lpis_cert.specs.private.Drafts.{draft_state, exacts_lines, parcels_lines}
 pub use Rattle.lpis_cert.specs.private.Fits.{ExactFits, ParcelFits, PieceFits}
 pub use Rattle.lpis_cert.specs.private.Taken.{FaultFrom, LineFault, Placed, ReadsLines, corner_line}
 pub use Rattle.lpis_covers.specs.Ids.{is_id}

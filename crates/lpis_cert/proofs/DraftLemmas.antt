@@ -9,12 +9,12 @@ use Rattle.lpis_cert.proofs.Common.{text_of_lines, piece_lines, parcel_lines, ex
 use Rattle.lpis_cert.proofs.Common.{end_lines, lines_of, SeparatorFits, LineFits, is_lf, lines, outcome, at_last, step, State, InBody, InPairs}
 use Rattle.lpis_cert.proofs.Common.{AtEnd, Declared, grow, grow_flats}
 use Rattle.lpis_cert.proofs.Common.{ReadsLines, FaultFrom, LineFault, Triangle, PiecePart, ParcelPart, ExactBlock, Cert, all_corners, piece_of, parcel_of, exact_of, separator_of, is_id}
-use Rattle.lpis_cert.proofs.Common.{content_of, pieces_lines, parcels_lines, exacts_lines}
+use Rattle.lpis_cert.proofs.Common.{content_of, parcels_lines, exacts_lines}
 use Rattle.lpis_cert.specs.CertText.{ExactBlock as FlatsBlock}
 use Rattle.std.proofs.lemmas.List.Sums.{sum_by_push}
 use Rattle.std.proofs.lemmas.Grind.{flat_map-append}
 use Rattle.std.proofs.lemmas.List.{append-nil, nil_from_length, map_push}
-use Rattle.lpis_cert.specs.private.Drafts.{blocks, flats_line, stage_after, OneMore, Grown, Whole}
+use Rattle.lpis_cert.specs.private.Drafts.{blocks, pieces_lines, flats_line, stage_after, OneMore, Grown, Whole}
 use Rattle.lpis_cert.specs.declared.head.Owner.{Owner}
 use Rattle.lpis_cert.specs.declared.head.Owner.TheVariants as owner
 use Rattle.lpis_cert.proofs.SplittingLemmas.{split_some}

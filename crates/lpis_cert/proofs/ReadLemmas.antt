@@ -4,14 +4,14 @@ use Rattle.lpis_cert.proofs.Common.{sum_by-cons, AllByRecursion, Stage, Version,
 use Rattle.lpis_cert.proofs.Common.{Cert, CertFault, IsCertText, content_of, Line, PieceLine, TriangleLine, Corners, CornersFit, ExactFits}
 use Rattle.lpis_cert.proofs.Common.{FlatLine, text_of, text_of_lines, lines_of, piece_lines, end_lines, LineFits, PieceFits, ParcelFits, lines}
 use Rattle.lpis_cert.proofs.Common.{is_lf, outcome, outcome_of, at_last, State, InBody, first_state}
-use Rattle.lpis_cert.proofs.Common.{AtEnd, Declared, grow, grow_flats, verdict, ReadsLines, pieces_lines, parcels_lines, exacts_lines}
+use Rattle.lpis_cert.proofs.Common.{AtEnd, Declared, grow, grow_flats, verdict, ReadsLines, parcels_lines, exacts_lines}
 use Rattle.lpis_cert.specs.CertText.{ExactBlock as FlatsBlock}
 use Rattle.std.proofs.lemmas.List.{append-nil}
 use Rattle.lpis_cert.specs.declared.version.Version.TheVariants.{One, Two}
 use Rattle.lpis_cert.specs.Faults.{none_declared}
 use Rattle.lpis_cert.specs.private.Fits.{Fits}
 use Rattle.lpis_cert.specs.private.Taken.{TakesLine}
-use Rattle.lpis_cert.specs.private.Drafts.{flats_line, stage_after, Grown, Whole}
+use Rattle.lpis_cert.specs.private.Drafts.{flats_line, pieces_lines, stage_after, Grown, Whole}
 use Rattle.lpis_cert.specs.declared.head.Owner.{Owner}
 use Rattle.lpis_cert.specs.declared.head.Owner.TheVariants as owner
 use Rattle.lpis_cert.proofs.SplittingLemmas.{split_some}

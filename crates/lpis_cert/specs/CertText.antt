@@ -60,6 +60,7 @@ abbrev pub corner_words : Version → Corners → List (List ℕ)
 corner_words v c = coordinate_word v c.x1 ∷ coordinate_word v c.y1 ∷ coordinate_word v c.x2
     ∷ coordinate_word v c.y2 ∷ coordinate_word v c.x3 ∷ coordinate_word v c.y3 ∷ []
 
+-- the word of a merge, or of a split
 abbrev pub side : Bool → List ℕ
 side false = codes "split"
 side true = codes "merge"

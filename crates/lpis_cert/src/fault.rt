@@ -12,8 +12,8 @@ use thiserror::Error;
 pub enum CertCode {
     /// The first line names no version of the text.
     Version,
-    /// An empty word, an unknown first word, another count of words than the kind's, or an ID that
-    /// is no identifier.
+    /// An empty word, a first word that the version does not know, another count of words than the
+    /// kind's, a word after `exact` other than `split` or `merge`, or an ID that is no identifier.
     LineForm,
     /// A number that is none or out of its range.
     Number,
