@@ -1,0 +1,5 @@
+pub mod NameLemmas
+pub mod LineageLemmas
+pub mod ShapeLemmas
+pub mod MarkedLemmas
+pub mod AskingLemmas
