@@ -1,5 +1,5 @@
 -- The parts that groups ask for, and the first old identifier whose shape is not kept.
-use Rattle.std.proofs.Common.{◌≡◌, ◌∙◌, ◌<◌, ◌+◌, ◌++◌, ℕ, zero, suc, List, [], ◌∷◌, Bool, true, false, not, cond, is_some, Option, Some, take, drop, flat_map, filter, length, get_or, refl, sym, ap, ap₂, subst, append_assoc}
+use Rattle.std.proofs.Common.{◌≡◌, ◌∙◌, ◌<◌, ◌+◌, ◌++◌, ℕ, zero, suc, List, [], ◌∷◌, Bool, true, false, not, cond, is_some, Option, take, drop, flat_map, length, get_or, refl, sym, ap, ap₂, subst, append_assoc}
 use Rattle.std.specs.List.{AllZip}
 use Rattle.std.proofs.lemmas.Grind.{flat_map-append}
 use Rattle.std.proofs.lemmas.List.Elements.{filter-append}
@@ -14,6 +14,7 @@ use Rattle.lpis_lineage.specs.declared.kind.Kind.{Kind}
 use Rattle.lpis_lineage.specs.declared.row.Entry.{Entry}
 use Rattle.lpis_lineage.specs.declared.row.Row.{Row}
 use Rattle.lpis_parcels.specs.Release.{Contents, parcel_ids}
+use Rattle.lpis_register_rows.proofs.ShapeLemmas.{zip-push}
 use Rattle.lpis_register_rows.specs.Shapes.{Shape}
 use Rattle.lpis_checker.specs.declared.exact.ExactPart.{ExactPart}
 use Rattle.lpis_exact_lineage.specs.Asking.{AsksFor, HasShape, IsMarked, IsUnkept, IsWanted, kinds_from, lacking, old_ids, part_shape, unkept, whole_shape}
@@ -40,10 +41,6 @@ first-lacking kept front ids back (NotKept id) none first = (
   lacking-append kept front (ids ++ back) ∙ ap (λ (l : List (List ℕ)). l ++ lacking kept (ids ++ back)) none ∙ lacking-append kept ids back ∙ ap (λ (l : List (List ℕ)). l ++ lacking kept back) first.1,
 )
 
-pub lacks-here : (kept : List Shape) (id : List ℕ) (fault : AskFault) (o : Option (List Member)) → o ≡ shape_of kept id → is_some o ≡ false → fault ≡ NotKept id → IsFirstLacking kept (id ∷ []) fault
-lacks-here kept id fault o is none e = subst (IsFirstLacking kept (id ∷ [])) (sym e)
-    ([], ap (λ (b : Bool). cond (not b) (id ∷ []) []) (ap is_some (sym is) ∙ none))
-
 -- ---- lists read side by side
 take-drop : {A : Type 0} (n : ℕ) (xs : List A) → take n xs ++ drop n xs ≡ xs
 take-drop zero xs = refl
@@ -53,18 +50,24 @@ take-drop {A} (suc n) (x ∷ xs) = ap (λ (l : List A). x ∷ l) (take-drop n xs
 split-at : {A : Type 0} (xs : List A) (k : ℕ) (x : A) → k < length xs → x ≡ get_or xs k x → take k xs ++ (x ∷ drop (k + 1) xs) ≡ xs
 split-at {A} xs k x lt at = sym (append_assoc (take k xs) (x ∷ []) (drop (k + 1) xs)) ∙ ap (λ (l : List A). l ++ drop (k + 1) xs) (take-at xs k x lt at) ∙ take-drop (k + 1) xs
 
+pub zip-more : {A B : Type 0} (R : A → B → Type 0) (xs : List A) (ys : List B) {zs : List B} (k : ℕ) (x : A) (y : B) → k < length xs → x ≡ get_or xs k x → AllZip R (take k xs) ys → R x y
+    → zs ≡ ys ++ y ∷ [] → AllZip R (take (k + 1) xs) zs
+zip-more {A} {B} R xs ys k x y lt at z r pushed =
+    subst (AllZip R (take (k + 1) xs)) (sym pushed) (subst (λ (l : List A). AllZip R l (ys ++ y ∷ [])) (take-at xs k x lt at) (zip-push R (take k xs) ys x y z r))
+
 pub first-in : (kept : List Shape) (ids : List (List ℕ)) (k : ℕ) (id : List ℕ) (shapes : List (List Member)) (fault : AskFault) → k < length ids → id ≡ get_or ids k id
     → AllZip (HasShape (shape_of kept)) (take k ids) shapes → IsFirstLacking kept (id ∷ []) fault → IsFirstLacking kept ids fault
 first-in kept ids k id shapes fault lt at z first = subst (λ (l : List (List ℕ)). IsFirstLacking kept l fault) (split-at ids k id lt at)
     (first-lacking kept (take k ids) (id ∷ []) (drop (k + 1) ids) fault (kept-none kept (take k ids) shapes z) first)
 
 -- ---- the part of a group
-pub wanted-by : (kept new : List ℕ → Option (List Member)) (g : Group) (x : ExactPart) (merge : Bool) → g.merge ≡ merge → x.merge ≡ merge → x.id ≡ g.id
-    → HasShape (whole_shape merge kept new) g.id x.whole → AllZip (HasShape (part_shape merge kept new)) g.others x.parts → IsWanted kept new g x
-wanted-by kept new g x merge gm xm xi whole parts = record {
+pub wanted-by : (kept new : List ℕ → Option (List Member)) (g : Group) (x : ExactPart) (merge : Bool) (others : List (List ℕ)) (parts : List (List Member)) → g.merge ≡ merge → x.merge ≡ merge
+    → x.id ≡ g.id → others ≡ g.others → x.parts ≡ parts → HasShape (whole_shape merge kept new) g.id x.whole → AllZip (HasShape (part_shape merge kept new)) others parts → IsWanted kept new g x
+wanted-by kept new g x merge others parts gm xm xi go xp whole z = record {
   name = ap₂ (λ (m : Bool) (i : List ℕ). (m, i)) (xm ∙ sym gm) xi;
   whole = subst (λ (m : Bool). HasShape (whole_shape m kept new) g.id x.whole) (sym gm) whole;
-  parts = subst (λ (m : Bool). AllZip (HasShape (part_shape m kept new)) g.others x.parts) (sym gm) parts;
+  parts = subst (λ (m : Bool). AllZip (HasShape (part_shape m kept new)) g.others x.parts) (sym gm)
+      (subst (λ (l : List (List ℕ)). AllZip (HasShape (part_shape merge kept new)) l x.parts) go (subst (λ (l : List (List Member)). AllZip (HasShape (part_shape merge kept new)) others l) (sym xp) z));
 }
 
 -- all old identifiers of a group with its part are kept
@@ -103,11 +106,14 @@ marked h r rows c gs none change are = record {
 pub asked : (h : List Entry) (kept : List Shape) (r : Contents) (rows : List Row) (c : Changes) (gs : List Group) (xs : List ExactPart) → faults h (parcel_ids r.parcels) rows ≡ []
     → IsChange (last_live h) (parcel_ids r.parcels) rows c → AreExactGroups (kind_at c) c.rows gs → AllZip (IsWanted (shape_of kept) (shape_of (shapes_in r))) gs xs
     → (hs : List Group) × AsksFor h kept r rows hs xs
-asked h kept r rows c gs xs none change are parts = (gs, record {
-  marked = marked h r rows c gs none change are;
-  all_kept = all-kept kept (shape_of (shapes_in r)) gs xs parts;
-  parts = parts;
-})
+asked h kept r rows c gs xs none change are parts = (
+  gs,
+  record {
+    marked = marked h r rows c gs none change are;
+    all_kept = all-kept kept (shape_of (shapes_in r)) gs xs parts;
+    parts = parts;
+  },
+)
 
 pub unkept-told : (h : List Entry) (kept : List Shape) (r : Contents) (rows : List Row) (c : Changes) (gs : List Group) (fault : AskFault) → faults h (parcel_ids r.parcels) rows ≡ []
     → IsChange (last_live h) (parcel_ids r.parcels) rows c → AreExactGroups (kind_at c) c.rows gs → IsFirstLacking kept (flat_map old_ids gs) fault

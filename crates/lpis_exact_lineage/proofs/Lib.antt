@@ -3,3 +3,4 @@ pub mod LineageLemmas
 pub mod ShapeLemmas
 pub mod MarkedLemmas
 pub mod AskingLemmas
+pub mod ShownLemmas

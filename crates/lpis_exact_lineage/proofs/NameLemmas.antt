@@ -1,5 +1,5 @@
 -- Identifiers beside their shapes.
-use Rattle.std.proofs.Common.{◌≡◌, ◌∙◌, ◌||◌, ℕ, zero, suc, List, [], ◌∷◌, Bool, true, false, Option, Some, ◌↔◌, map, refl, sym, ap, subst, slice_get}
+use Rattle.std.proofs.Common.{◌≡◌, ◌∙◌, ◌||◌, ℕ, zero, suc, List, [], ◌∷◌, Bool, true, false, Option, Some, ◌↔◌, refl, sym, ap, subst, slice_get}
 use Rattle.std.specs.List.{AllByRecursion, AllZip, IsDistinct}
 use Rattle.std.specs.Ordering.{eq_by_cmp, nat_cmp}
 use Rattle.std.specs.Cmp.Lexicographic.{slice_cmp}
@@ -12,7 +12,7 @@ use Rattle.lpis_covers.specs.Ids.{has_id, same_id}
 use Rattle.lpis_lineage.specs.Order.{IsAscending}
 use Rattle.lpis_lineage.proofs.Shared.{same-by_order, same-exact, same-refl}
 use Rattle.lpis_edge_sums.specs.Counting.{ExactlyOne}
-use Rattle.lpis_edge_sums.proofs.CountingLemmas.{any_found, found_any}
+use Rattle.lpis_edge_sums.proofs.Shared.{any_found, found_any}
 use Rattle.lpis_exact_lineage.specs.Asking.{HasShape}
 use Rattle.lpis_exact_lineage.specs.ExactLineage.{ExactlyOneOf, LiesIn}
 

@@ -1,9 +1,11 @@
 -- The shapes of a sound map, and the look-up of a kept one.
-use Rattle.std.proofs.Common.{◌≡◌, ◌∙◌, ◌<◌, ◌≤◌, ◌⊎◌, inl, inr, ◌<ℤ◌, ◌+◌, ℕ, zero, suc, pos, List, [], ◌∷◌, Bool, true, false, Option, Some, None, Less, Equal, Greater, Ordering, is_eq, is_lt, nat_cmp, length, map, get_or, refl, sym, ap, ap₂, subst, slice_get, arith, IsPermutation}
+use Rattle.std.proofs.Common.{◌≡◌, ◌∙◌, ◌<◌, ◌≤◌, ◌⊎◌, inl, inr, ◌<ℤ◌, ◌+◌, ℕ, zero, suc, pos, List, [], ◌∷◌, Bool, true, false, cond, Option, Some, None, Less, Equal, Greater, Ordering, is_eq, is_lt, nat_cmp, length, map, get_or, refl, sym, ap, ap₂, subst, slice_get, arith, IsPermutation}
 use Rattle.std.proofs.Common.{Contains as IsAmong}
 use Rattle.std.specs.Cmp.Lexicographic.{nat_list_cmp_total, nat_list_eq_equiv, slice_cmp}
-use Rattle.std.specs.List.{HoldsAt, IsDistinct}
+use Rattle.std.specs.List.{HoldsAt, IsDistinct, find}
 use Rattle.std.specs.List.Sorted.{IsNonDecreasingBy, IsPartitionPoint, IsSortedByKey}
+use Rattle.std.specs.Map.{lookup}
+use Rattle.std.specs.Option.{option_map}
 use Rattle.std.specs.Ordering.{ordering_index, ordering_reverse}
 use Rattle.std.proofs.lemmas.Cmp.{tied_itself}
 use Rattle.std.proofs.lemmas.List.{get_or_default}
@@ -16,11 +18,11 @@ use Rattle.lpis_rings.specs.declared.polygon.Member.{Member}
 use Rattle.lpis_rings.specs.Edges.{Contains, turns}
 use Rattle.lpis_rings.specs.Map.{IsOneOrNone}
 use Rattle.lpis_covers.specs.Ids.{same_id}
-use Rattle.lpis_edge_sums.proofs.CountingLemmas.{all_at}
+use Rattle.lpis_edge_sums.proofs.Shared.{all_at}
 use Rattle.lpis_lineage.proofs.Shared.{same-by_order, same-exact}
 use Rattle.lpis_lineage.specs.Order.{IsAscending}
 use Rattle.lpis_parcels.specs.declared.parcel.Parcel.{Parcel}
-use Rattle.lpis_parcels.specs.Release.{Contents}
+use Rattle.lpis_parcels.specs.Release.{Contents, parcel_named}
 use Rattle.lpis_register_rows.specs.Shapes.{Shape, shape_ids, shape_of as shape_of_parcel}
 use Rattle.lpis_checker.specs.SoundMap.{IsInParcel, IsSoundMap, TurnsTell}
 use Rattle.lpis_exact_lineage.specs.ExactLineage.{ShapesShareNothing, ShapesTurnOnce}
@@ -63,6 +65,19 @@ share_nothing r shapes s perm p d a b l k =
     (subst (λ (x : List Member). Contains x p) (sym v.is_shape) l.inside) (subst (λ (x : List Member). Contains x p) (sym w.is_shape) k.inside) in
     v.is_id ∙ ap (λ (x : Parcel). x.id) (same_Some v.parcel w.parcel (sym v.at ∙ ap (λ (j : ℕ). slice_get r.parcels j) i ∙ w.at)) ∙ sym w.is_id
 
+-- ---- the shape of a parcel that is found
+named-shape : (xs : List Parcel) (id : List ℕ) → lookup (same_id id) (map shape_of_parcel xs) ≡ option_map (λ (p : Parcel). p.polygon) (find (λ (p : Parcel). same_id id p.id) xs)
+named-shape [] id = refl
+named-shape (x ∷ xs) id = by (same_id id x.id) (named-shape xs id)
+  where
+    by : (b : Bool) → lookup (same_id id) (map shape_of_parcel xs) ≡ option_map (λ (p : Parcel). p.polygon) (find (λ (p : Parcel). same_id id p.id) xs)
+        → cond b (Some x.polygon) (lookup (same_id id) (map shape_of_parcel xs)) ≡ option_map (λ (p : Parcel). p.polygon) (cond b (Some x) (find (λ (p : Parcel). same_id id p.id) xs))
+    by true rec = refl
+    by false rec = rec
+
+pub shape-of-found : (r : Contents) (id : List ℕ) (x : Parcel) (m : List Member) → Some x ≡ parcel_named r id → m ≡ x.polygon → shape_of (shapes_in r) id ≡ Some m
+shape-of-found r id x m found same = named-shape r.parcels id ∙ ap (λ (o : Option Parcel). option_map (λ (p : Parcel). p.polygon) o) (sym found) ∙ ap Some (sym same)
+
 -- ---- a binary search of shapes that ascend by identifier
 abbrev pub order : List ℕ → Shape → Ordering
 order id s = slice_cmp nat_cmp s.0 id
@@ -91,11 +106,12 @@ sorted kept up k d low lt =
 same-from-tie : (a b : List ℕ) → slice_cmp nat_cmp a b ≡ Equal → a ≡ b
 same-from-tie a b e = same-exact a b (same-by_order a b ∙ ap is_eq e)
 
-pub shape-found : (kept : List Shape) (id : List ℕ) (i : ℕ) (s : Shape) → IsAscending (shape_ids kept) → i < length kept → s ≡ get_or kept i s → HoldsAt (λ y. order id y ≡ Equal) kept i
-    → Some s.1 ≡ shape_of kept id
-shape-found kept id i s up lt at tie =
-    let same : s.0 ≡ id = same-from-tie s.0 id (ap (order id) at ∙ tie s) in
-    sym (lookup-from_Contains nat_list_eq_equiv id s.1 kept (distinct kept up) (i, lt, get_or_default kept i (id, s.1) s lt ∙ sym at ∙ ap (λ (k : List ℕ). (k, s.1)) same))
+pub shape-found : (kept : List Shape) (id : List ℕ) (i : ℕ) (d : Shape) → IsAscending (shape_ids kept) → i < length kept → HoldsAt (λ y. order id y ≡ Equal) kept i
+    → Some (get_or kept i d).1 ≡ shape_of kept id
+shape-found kept id i d up lt tie =
+    let s : Shape = get_or kept i d in
+    let same : s.0 ≡ id = same-from-tie s.0 id (tie d) in
+    sym (lookup-from_Contains nat_list_eq_equiv id s.1 kept (distinct kept up) (i, lt, get_or_default kept i (id, s.1) d lt ∙ ap (λ (k : List ℕ). (k, s.1)) same))
 
 pub shape-missing : (kept : List Shape) (id : List ℕ) (i : ℕ) → IsAscending (shape_ids kept)
     → (IsNonDecreasingBy (λ y. ordering_index (order id y)) kept → IsPartitionPoint (λ y. order id y ≡ Less) (λ y. order id y ≡ Greater) kept i) → None ≡ shape_of kept id

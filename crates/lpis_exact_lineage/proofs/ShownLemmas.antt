@@ -1,5 +1,5 @@
 -- What is shown of a sound map has exact lineage.
-use Rattle.std.proofs.Common.{ℕ, List}
+use Rattle.std.proofs.Common.{List}
 use Rattle.std.proofs.lemmas.List.Sorted.{IsPermutation-refl}
 use Rattle.lpis_cert.specs.declared.part.ExactBlock.{ExactBlock}
 use Rattle.lpis_lineage.specs.declared.row.Entry.{Entry}

@@ -19,7 +19,7 @@ ghost use Rattle.lpis_exact_lineage.specs.private.Lacking.{IsFirstLacking};
 ghost use Rattle.lpis_exact_lineage.specs.declared.asking.AskFault.TheVariants.{Memory, NotKept};
 
 use crate::marked::marked_groups;
-use crate::shapes::{kept_shape, new_shape};
+use crate::shapes::kept_shape;
 use lpis_checker::ExactPart;
 use lpis_covers::Id;
 use lpis_lineage::{Change, Group};
@@ -68,11 +68,7 @@ fn kept_copy(alloc: Global, kept: &[(Id, Polygon)], id: &Id) -> Result<Polygon, 
 }
 
 /// Copies of the shapes that are kept of identifiers, in their order.
-fn kept_copies(
-    alloc: Global,
-    kept: &[(Id, Polygon)],
-    ids: &[Id],
-) -> Result<Vec<Polygon>, AskFault>
+fn kept_copies(alloc: Global, kept: &[(Id, Polygon)], ids: &[Id]) -> Result<Vec<Polygon>, AskFault>
     requires ascending { IsAscending (shape_ids kept.now) }
     ensures shapes { IfOk result (λ v. AllZip (HasShape (shape_of kept.now)) ids.now v.items) }
     ensures unkept { IfErr result (IsFirstLacking kept.now ids.now) }
@@ -89,8 +85,8 @@ fn kept_copies(
 fn new_copy(alloc: Global, release: &Release, id: &Id) -> Result<Polygon, AllocError>
     ensures { IfOk result (λ x. shape_of (shapes_in release.now) id.now ≡ Some x) }
 {
-    match new_shape(release, id) {
-        Some(shape) => shape.copy(alloc),
+    match release.parcel(id) {
+        Some(parcel) => parcel.polygon.copy(alloc),
         None => Err(AllocError),
     }
 }

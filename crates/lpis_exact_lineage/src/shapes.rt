@@ -1,13 +1,12 @@
-//! Shapes by their identifiers.
+//! Kept shapes by their identifiers.
 
 ghost use Rattle.std.specs.Prelude.{◌≡◌};
 ghost use Rattle.std.specs.Option.{option_copied};
 ghost use Rattle.lpis_lineage.specs.Order.{IsAscending};
 ghost use Rattle.lpis_register_rows.specs.Shapes.{shape_ids};
-ghost use Rattle.lpis_exact_lineage.specs.Shapes.{shape_of, shapes_in};
+ghost use Rattle.lpis_exact_lineage.specs.Shapes.{shape_of};
 
 use lpis_covers::Id;
-use lpis_parcels::Release;
 use lpis_rings::Polygon;
 
 /// The shape that is kept of an identifier, where one is.
@@ -18,15 +17,5 @@ pub(crate) fn kept_shape<'a>(kept: &'a [(Id, Polygon)], id: &Id) -> Option<&'a P
     match kept.binary_search_by(|shape| shape.0.cmp(id)) {
         Ok(index) => Some(&kept[index].1),
         Err(_) => None,
-    }
-}
-
-/// The shape of a release's parcel, where it has one of this identifier.
-pub(crate) fn new_shape<'a>(release: &'a Release, id: &Id) -> Option<&'a Polygon>
-    ensures { option_copied result ≡ shape_of (shapes_in release.now) id.now }
-{
-    match release.parcel(id) {
-        Some(parcel) => Some(&parcel.polygon),
-        None => None,
     }
 }
