@@ -18,7 +18,7 @@ use Rattle.lpis_lineage.specs.Order.{IsAscending}
 use Rattle.lpis_lineage.proofs.Shared.{same-exact}
 use Rattle.lpis_edge_sums.specs.Counting.{AtMostOne}
 use Rattle.lpis_edge_sums.specs.Making.{IsMadeUpOf, TurnsAsParts, TurnsAtMostOnce}
-use Rattle.lpis_edge_sums.proofs.MakingLemmas.{merge_is_exact, split_is_exact}
+use Rattle.lpis_edge_sums.specs.MakingLaws.{MergedMakesUp, SplitMakesUp}
 use Rattle.lpis_checker.specs.declared.exact.ExactPart.{ExactPart}
 use Rattle.lpis_exact_lineage.specs.Asking.{HasShape, IsWanted, part_shape, whole_shape}
 use Rattle.lpis_exact_lineage.specs.ExactLineage.{ExactlyOneOf, IsExactLineage, LiesIn, ShapesShareNothing, ShapesTurnOnce}
@@ -144,16 +144,16 @@ others_at kind_of rows g merge id o m i q =
     o q ∙ ap (λ (b : Bool). cond b (leads_into kind_of rows g.id q) (list_any (leads g.id q) rows)) m
     ∙ ap (λ (j : List ℕ). cond merge (leads_into kind_of rows j q) (list_any (leads j q) rows)) (sym i)
 
-pub groups_show : (kind_of : List ℕ → Option Kind) (rows : List Row) (gs : List Group) (xs : List ExactPart) (kept new : List ℕ → Option (List Member))
+pub groups_show : SplitMakesUp → MergedMakesUp → (kind_of : List ℕ → Option Kind) (rows : List Row) (gs : List Group) (xs : List ExactPart) (kept new : List ℕ → Option (List Member))
     → AreExactGroups kind_of rows gs → AllZip (IsWanted kept new) gs xs → All Turns xs → ShapesTurnOnce new → ShapesShareNothing new → IsExactLineage kind_of rows kept new
-groups_show kind_of rows gs xs kept new are wanted turns once nothing = record { splits = split; merges = merged }
+groups_show split_makes_up merged_makes_up kind_of rows gs xs kept new are wanted turns once nothing = record { splits = split; merges = merged }
   where
     split : (id : List ℕ) → is_exact_split kind_of rows id ≡ true → (p : RationalPoint) → pos 0 <ℤ p.d → LiesIn kept p id ↔ ExactlyOneOf (λ s. list_any (leads id s) rows) (LiesIn new p)
     split id e p d =
         let s = find kind_of rows kept new not false only_split id gs xs wanted turns are.others_ascend are.others (has_split gs are.splits are.merges id are.listed ∙ are.splits_are id ∙ e) in
         let w : kept id ≡ Some s.x.whole = whole_at kept new s.g s.x false id s.wanted s.is_merge s.is_id in
         let m : AllZip (HasShape new) s.g.others s.x.parts = parts_at kept new s.g s.x false s.wanted s.is_merge in
-        let made = split_is_exact s.x.whole s.x.parts s.turns (parts_once new s.g.others s.x.parts m once) (λ r c. parts_few new s.g.others s.x.parts m s.ascend nothing r c) in
+        let made = split_makes_up s.x.whole s.x.parts s.turns (parts_once new s.g.others s.x.parts m once) (λ r c. parts_few new s.g.others s.x.parts m s.ascend nothing r c) in
         lies_in kept new id s.g.others s.x.whole s.x.parts (λ q. list_any (leads id q) rows) w m s.ascend (others_at kind_of rows s.g false id s.others s.is_merge s.is_id) made p d
 
     merged : ShapesTurnOnce kept → (id : List ℕ) → is_exact_merge kind_of rows id ≡ true → (p : RationalPoint) → pos 0 <ℤ p.d → LiesIn new p id ↔ ExactlyOneOf (leads_into kind_of rows id) (LiesIn kept p)
@@ -161,5 +161,5 @@ groups_show kind_of rows gs xs kept new are wanted turns once nothing = record {
         let s = find kind_of rows kept new (λ b. b) true only_merge id gs xs wanted turns are.others_ascend are.others (has_merge gs are.splits are.merges id are.listed ∙ are.merges_are id ∙ e) in
         let w : new id ≡ Some s.x.whole = whole_at kept new s.g s.x true id s.wanted s.is_merge s.is_id in
         let m : AllZip (HasShape kept) s.g.others s.x.parts = parts_at kept new s.g s.x true s.wanted s.is_merge in
-        let made = merge_is_exact s.x.whole s.x.parts s.turns (once id s.x.whole w) (parts_once kept s.g.others s.x.parts m once_kept) in
+        let made = merged_makes_up s.x.whole s.x.parts s.turns (once id s.x.whole w) (parts_once kept s.g.others s.x.parts m once_kept) in
         lies_in new kept id s.g.others s.x.whole s.x.parts (leads_into kind_of rows id) w m s.ascend (others_at kind_of rows s.g true id s.others s.is_merge s.is_id) made p d

@@ -3,6 +3,8 @@
 ghost use Rattle.lpis_exact_lineage.specs.Asking.{ShownIsExact};
 ghost use Rattle.lpis_exact_lineage.specs.Shapes.{SoundMapsShareNothing, SoundMapsTurnOnce};
 
+use lpis_edge_sums::laws::{a_merge_is_exact, a_split_is_exact};
+
 /// The parcels of a sound map turn once at most, and no point lies in two of them. So it is with
 /// the shapes that a register keeps of a published release.
 pub fn sound_maps_have_such_shapes()
@@ -14,4 +16,7 @@ pub fn sound_maps_have_such_shapes()
 /// exact lineage: by the shapes that are kept of the last release.
 pub fn what_is_shown_has_exact_lineage()
     ensures { ShownIsExact }
-{}
+{
+    a_split_is_exact();
+    a_merge_is_exact();
+}
