@@ -56,12 +56,16 @@ abbrev pub part_shape : Bool → (kept new : List ℕ → Option (List Member)) 
     → Option (List Member)
 part_shape merge kept new id = cond merge (kept id) (new id)
 
+-- the identifier has this shape
+abbrev pub HasShape : (List ℕ → Option (List Member)) → List ℕ → List Member → Type 0
+HasShape shape_of id shape = shape_of id ≡ Some shape
+
 -- the part that a group asks for: its whole, and what is to make it up
 pub record IsWanted (kept new : List ℕ → Option (List Member)) (g : Group) (x : ExactPart) : Type 0
   where
     pub name : part_name x ≡ named g
-    pub whole : whole_shape g.merge kept new g.id ≡ Some x.whole
-    pub parts : AllZip (λ id shape. part_shape g.merge kept new id ≡ Some shape) g.others x.parts
+    pub whole : HasShape (whole_shape g.merge kept new) g.id x.whole
+    pub parts : AllZip (HasShape (part_shape g.merge kept new)) g.others x.parts
 
 -- ---- what is asked, and what is answered
 -- these are the exact groups, all their old shapes are kept, and these are the parts that they ask

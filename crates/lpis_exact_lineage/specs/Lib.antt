@@ -1,3 +1,4 @@
 pub mod ExactLineage
 pub mod Shapes
 pub mod Asking
+pub mod private

@@ -1,6 +1,8 @@
 //! What the exact groups of a release ask for.
 
-ghost use Rattle.std.specs.Prelude.{◌≡◌, [], ℕ, List, IfErr, IfOk};
+ghost use Rattle.std.specs.Prelude.{◌≡◌, ◌∷◌, [], true, false, ℕ, List, Some, flat_map, IfErr};
+ghost use Rattle.std.specs.Prelude.{IfOk};
+ghost use Rattle.std.specs.List.{AllZip};
 ghost use Rattle.lpis_lineage.specs.Changes.{IsChange};
 ghost use Rattle.lpis_lineage.specs.Faults.{faults};
 ghost use Rattle.lpis_lineage.specs.Lineage.{last_live};
@@ -10,15 +12,20 @@ ghost use Rattle.lpis_lineage.specs.declared.row.Entry.{Entry};
 ghost use Rattle.lpis_lineage.specs.declared.row.Row.{Row};
 ghost use Rattle.lpis_parcels.specs.Release.{parcel_ids};
 ghost use Rattle.lpis_register_rows.specs.Shapes.{shape_ids};
-ghost use Rattle.lpis_exact_lineage.specs.Asking.{AsksFor, IsUnkept};
+ghost use Rattle.lpis_exact_lineage.specs.Asking.{AsksFor, HasShape, IsUnkept, IsWanted};
+ghost use Rattle.lpis_exact_lineage.specs.Asking.{old_ids};
+ghost use Rattle.lpis_exact_lineage.specs.Shapes.{shape_of, shapes_in};
+ghost use Rattle.lpis_exact_lineage.specs.private.Lacking.{IsFirstLacking};
 ghost use Rattle.lpis_exact_lineage.specs.declared.asking.AskFault.TheVariants.{Memory, NotKept};
 
+use crate::marked::marked_groups;
+use crate::shapes::kept_shape;
 use lpis_checker::ExactPart;
 use lpis_covers::Id;
-use lpis_lineage::Change;
+use lpis_lineage::{Change, Group};
 use lpis_parcels::Release;
-use lpis_rings::Polygon;
-use std::alloc::{AllocError, Global};
+use lpis_rings::{Polygon, Sequence};
+use std::alloc::{AllocError, AllocFailed, Global};
 use thiserror::Error;
 
 /// Why there are no parts.
@@ -38,6 +45,150 @@ impl From<AllocError> for AskFault {
     fn from(_e: AllocError) -> AskFault {
         AskFault::Memory
     }
+}
+
+impl<T: Drop> From<AllocFailed<T>> for AskFault {
+    ghost from_gives = { λ _ e. e ≡ Memory };
+
+    fn from(_e: AllocFailed<T>) -> AskFault {
+        AskFault::Memory
+    }
+}
+
+/// A copy of the shape that is kept of an identifier.
+fn kept_copy(alloc: Global, kept: &[(Id, Polygon)], id: &Id) -> Result<Polygon, AskFault>
+    requires ascending { IsAscending (shape_ids kept.now) }
+    ensures shape { IfOk result (λ x. shape_of kept.now id.now ≡ Some x) }
+    ensures unkept { IfErr result (IsFirstLacking kept.now (id.now ∷ [])) }
+{
+    match kept_shape(kept, id) {
+        Some(shape) => Ok(shape.copy(alloc)?),
+        None => Err(AskFault::NotKept { id: id.copy()? }),
+    }
+}
+
+/// Copies of the shapes that are kept of identifiers, in their order.
+fn kept_copies(alloc: Global, kept: &[(Id, Polygon)], ids: &[Id]) -> Result<Vec<Polygon>, AskFault>
+    requires ascending { IsAscending (shape_ids kept.now) }
+    ensures shapes { IfOk result (λ v. AllZip (HasShape (shape_of kept.now)) ids.now v.items) }
+    ensures unkept { IfErr result (IsFirstLacking kept.now ids.now) }
+{
+    let mut shapes = Vec::with_capacity(alloc, ids.len())?;
+    for id in ids {
+        let shape = kept_copy(alloc, kept, id)?;
+        shapes.push(shape)?;
+    }
+    Ok(shapes)
+}
+
+/// A copy of the shape of a release's parcel.
+fn new_copy(alloc: Global, release: &Release, id: &Id) -> Result<Polygon, AllocError>
+    ensures { IfOk result (λ x. shape_of (shapes_in release.now) id.now ≡ Some x) }
+{
+    match release.parcel(id) {
+        Some(parcel) => parcel.polygon.copy(alloc),
+        None => Err(AllocError),
+    }
+}
+
+/// Copies of the shapes of a release's parcels, in the order of these identifiers.
+fn new_copies(alloc: Global, release: &Release, ids: &[Id]) -> Result<Vec<Polygon>, AllocError>
+    ensures { IfOk result (λ v. AllZip (HasShape (shape_of (shapes_in release.now))) ids.now
+        v.items) }
+{
+    let mut shapes = Vec::with_capacity(alloc, ids.len())?;
+    for id in ids {
+        let shape = new_copy(alloc, release, id)?;
+        shapes.push(shape)?;
+    }
+    Ok(shapes)
+}
+
+/// The part that a split asks for: the old shape, made up of its successors'.
+fn split_part(
+    alloc: Global,
+    kept: &[(Id, Polygon)],
+    release: &Release,
+    group: &Group,
+) -> Result<ExactPart, AskFault>
+    requires ascending { IsAscending (shape_ids kept.now) }
+    requires split { group.now.merge ≡ false }
+    ensures part { IfOk result
+        (IsWanted (shape_of kept.now) (shape_of (shapes_in release.now)) group.now) }
+    ensures unkept { IfErr result (IsFirstLacking kept.now (old_ids group.now)) }
+{
+    let whole = kept_copy(alloc, kept, &group.id)?;
+    let parts = new_copies(alloc, release, group.others.as_slice())?;
+    let id = group.id.copy()?;
+    Ok(ExactPart {
+        merge: false,
+        id,
+        whole,
+        parts: Sequence::new(parts),
+    })
+}
+
+/// The part that a merge asks for: the successor's shape, made up of its predecessors'.
+fn merge_part(
+    alloc: Global,
+    kept: &[(Id, Polygon)],
+    release: &Release,
+    group: &Group,
+) -> Result<ExactPart, AskFault>
+    requires ascending { IsAscending (shape_ids kept.now) }
+    requires merge { group.now.merge ≡ true }
+    ensures part { IfOk result
+        (IsWanted (shape_of kept.now) (shape_of (shapes_in release.now)) group.now) }
+    ensures unkept { IfErr result (IsFirstLacking kept.now (old_ids group.now)) }
+{
+    let parts = kept_copies(alloc, kept, group.others.as_slice())?;
+    let whole = new_copy(alloc, release, &group.id)?;
+    let id = group.id.copy()?;
+    Ok(ExactPart {
+        merge: true,
+        id,
+        whole,
+        parts: Sequence::new(parts),
+    })
+}
+
+/// The part that a group asks for.
+fn part_of(
+    alloc: Global,
+    kept: &[(Id, Polygon)],
+    release: &Release,
+    group: &Group,
+) -> Result<ExactPart, AskFault>
+    requires ascending { IsAscending (shape_ids kept.now) }
+    ensures part { IfOk result
+        (IsWanted (shape_of kept.now) (shape_of (shapes_in release.now)) group.now) }
+    ensures unkept { IfErr result (IsFirstLacking kept.now (old_ids group.now)) }
+{
+    if group.merge {
+        merge_part(alloc, kept, release, group)
+    } else {
+        split_part(alloc, kept, release, group)
+    }
+}
+
+/// The parts that groups ask for, in their order.
+fn parts_of(
+    alloc: Global,
+    kept: &[(Id, Polygon)],
+    release: &Release,
+    groups: &[Group],
+) -> Result<Vec<ExactPart>, AskFault>
+    requires ascending { IsAscending (shape_ids kept.now) }
+    ensures parts { IfOk result (λ v. AllZip
+        (IsWanted (shape_of kept.now) (shape_of (shapes_in release.now))) groups.now v.items) }
+    ensures unkept { IfErr result (IsFirstLacking kept.now (flat_map old_ids groups.now)) }
+{
+    let mut parts = Vec::with_capacity(alloc, groups.len())?;
+    for group in groups {
+        let part = part_of(alloc, kept, release, group)?;
+        parts.push(part)?;
+    }
+    Ok(parts)
 }
 
 /// The parts that the exact groups of a change ask for, in the order of the groups: of a split the
@@ -67,6 +218,6 @@ pub fn wanted_parts(
         → IfErr result (λ fault. (id : List ℕ) → fault ≡ NotKept id
         → IsUnkept h kept.now release.now rows id) }
 {
-    let _ = (alloc, change, kept, release);
-    Err(AskFault::Memory)
+    let groups = marked_groups(alloc, change)?;
+    parts_of(alloc, kept, release, groups.as_slice())
 }

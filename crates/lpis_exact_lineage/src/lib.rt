@@ -4,6 +4,8 @@
 
 mod asking;
 mod laws;
+mod marked;
+mod shapes;
 
 pub use asking::{AskFault, wanted_parts};
 pub use laws::{sound_maps_have_such_shapes, what_is_shown_has_exact_lineage};

@@ -1,0 +1,8 @@
+use Rattle.std.proofs.Common.{take}
+use Rattle.std.specs.List.{AllZip}
+use Rattle.lpis_exact_lineage.specs.Asking.{IsWanted}
+use Rattle.lpis_exact_lineage.specs.Shapes.{shape_of, shapes_in}
+use Rattle.lpis_exact_lineage.proofs.asking.parts_of.Given as goal
+
+abbrev pub invariant-loop-group : goal.invariant-loop-group
+invariant-loop-group l = AllZip (IsWanted (shape_of l.kept) (shape_of (shapes_in l.release))) (take l.group-index l.groups) l.parts.items
