@@ -8,18 +8,12 @@ pub use Rattle.lpis_checker.specs.GoodCertificate.{Holds, HoldsEverywhere, LineS
 pub use Rattle.lpis_checker.specs.SoundMap.{IsInPiece, IsSoundMap}
 pub use Rattle.lpis_checker.specs.declared.condition.Condition.{Condition}
 pub use Rattle.lpis_checker.specs.declared.condition.Condition.TheVariants.{Corners, Flats, Names, NearPairs, ParcelEdges, PieceEdges, Separating, Triangles, CounterClockwise}
-pub use Rattle.lpis_checker.specs.declared.condition.Site.TheVariants.{LineAt, PairAt, ParcelAt, PieceAt}
+pub use Rattle.lpis_checker.specs.declared.condition.Site.TheVariants.{LineAt, PairAt, PieceAt}
 pub use Rattle.lpis_covers.specs.declared.piece.Piece.{Piece}
-pub use Rattle.lpis_edge_sums.specs.Making.{HasCorners, HaveCorners, corners_of}
 pub use Rattle.lpis_parcels.specs.Release.{Contents, pieces_named}
 pub use Rattle.lpis_parcels.specs.declared.parcel.Parcel.{Parcel}
-pub use Rattle.lpis_points.specs.Plane.{same_point}
 pub use Rattle.lpis_points.specs.RatPoints.{rational_of}
-pub use Rattle.lpis_points.specs.declared.point.Point.{Point}
 pub use Rattle.lpis_points.specs.declared.triangle.Triangle.{Triangle}
 pub use Rattle.lpis_rings.specs.Edges.{edges_of}
-pub use Rattle.lpis_rings.specs.Map.{edges_of_triangles}
 pub use Rattle.std.proofs.lemmas.Bool.{cases_eq, cases_lt}
-pub use Rattle.std.proofs.lemmas.Int.{ints}
-pub use Rattle.std.proofs.lemmas.List.Elements.{Contains-append_right}
-pub use Rattle.std.proofs.lemmas.Option.{get_or_from_slice_get, none-some, same_Some, slice_get-get_or, slice_get_read, slice_get_within}
+pub use Rattle.std.proofs.lemmas.Option.{none-some, same_Some, slice_get-get_or, slice_get_within}

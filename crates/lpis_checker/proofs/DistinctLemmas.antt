@@ -1,8 +1,8 @@
 -- Parcels with equal identifiers are equal.
 use Rattle.std.proofs.Common.{◌≡◌, ◌≢◌, ℕ, ◌<◌, List, [], Some, ◌⊎◌, inl, inr, ap, sym, ◌∙◌, arith, slice_get, AllPairs, option_map}
-use Rattle.lpis_checker.proofs.Common.{cases_eq, cases_lt, slice_get_within, get_or_from_slice_get, Parcel}
+use Rattle.lpis_checker.proofs.Common.{cases_eq, cases_lt, slice_get_within, Parcel}
+use Rattle.std.proofs.lemmas.Option.{get_or_from_slice_get, slice_get-map}
 use Rattle.std.specs.List.{IsDistinct}
-use Rattle.std.proofs.lemmas.Option.{slice_get-map}
 use Rattle.std.proofs.lemmas.Map.Made.{AllPairs-from_IsDistinct}
 use Rattle.std.proofs.lemmas.Slice.Eq.{bytes_eq-Decides}
 use Rattle.lpis_covers.specs.Ids.{same_id}

@@ -1,15 +1,16 @@
 -- Off the lines of a release the turns of its polygons are those of triangles.
 use Rattle.std.proofs.Common.{◌≡◌, ◌≢◌, ℕ, zero, suc, ℤ, ◌+ℤ◌, List, [], ◌∷◌, ◌++◌, All, Some, ap, sym, refl, ◌∙◌, subst, slice_get, Contains, flat_map}
-use Rattle.lpis_checker.proofs.Common.{Contains-append_right, none-some, same_Some, Point, Triangle, edges_of, Piece, Parcel, Contents, pieces_named}
+use Rattle.lpis_checker.proofs.Common.{none-some, same_Some, Triangle, edges_of, Piece, Parcel, Contents, pieces_named}
+use Rattle.std.proofs.lemmas.List.Elements.{Contains-append_right, Contains-append_left}
+use Rattle.lpis_points.specs.declared.point.Point.{Point}
+use Rattle.lpis_edge_sums.specs.Making.{corners_of, HaveCorners, HasCorners, TurnsAsParts}
 use Rattle.lpis_checker.proofs.Common.{Cert, Names, Triangles, CounterClockwise, Flats, Corners}
-use Rattle.lpis_checker.proofs.Common.{PieceEdges, ParcelEdges, PieceAt, corners_of, HaveCorners, polygons_of, HoldsEverywhere}
-use Rattle.std.proofs.lemmas.List.Elements.{Contains-append_left}
+use Rattle.lpis_checker.proofs.Common.{PieceEdges, ParcelEdges, PieceAt, polygons_of, HoldsEverywhere}
 use Rattle.lpis_points.specs.Plane.{RationalPoint}
 use Rattle.lpis_points.specs.Triangles.{IsCounterClockwise, IsFlat, IsOffItsLines}
 use Rattle.lpis_points.proofs.Shared.{corners_differ}
 use Rattle.lpis_rings.specs.Edges.{turns}
 use Rattle.lpis_rings.proofs.Shared.{piece_turns}
-use Rattle.lpis_edge_sums.specs.Making.{HasCorners, TurnsAsParts}
 use Rattle.lpis_checker.specs.SoundMap.{IsOffLines, all_corners}
 use Rattle.lpis_checker.specs.TurnsAdd.{TurnsAdd}
 use Rattle.lpis_edge_sums.proofs.Shared.{all_at, all_from, all_left, all_right}

@@ -1,11 +1,12 @@
 -- From site to site: when a condition holds everywhere, and when it fails at a site first.
 use Rattle.std.proofs.Common.{◌≡◌, ℕ, ◌+◌, ◌<◌, ◌≤◌, Bool, true, false, List, get_or, length, Option, Some, None, inl, inr, ◌↔◌, ◌⊎◌, IsTrue, ap, sym, refl, ◌∙◌, subst, arith, slice_get, option_map}
 use Rattle.std.proofs.Common.{IfOk, Result}
-use Rattle.lpis_checker.proofs.Common.{cases_eq, cases_lt, none-some, same_Some, slice_get_read, slice_get_within, Piece, Parcel, Contents, Cert, PiecePart, ParcelPart, PairLine, Condition, Names}
-use Rattle.lpis_checker.proofs.Common.{Flats, Corners, ParcelEdges, NearPairs, Separating, PieceAt, ParcelAt, LineAt, PairAt, Holds, HoldsEverywhere, OnParcel, OnPiece}
+use Rattle.lpis_checker.proofs.Common.{cases_eq, cases_lt, none-some, same_Some, slice_get_within, Piece, Parcel, Contents, Cert, PiecePart, ParcelPart, PairLine, Condition, Names}
+use Rattle.std.proofs.lemmas.Option.{slice_get_read, slice_get_past}
+use Rattle.lpis_checker.specs.declared.condition.Site.TheVariants.{ParcelAt}
+use Rattle.lpis_checker.proofs.Common.{Flats, Corners, ParcelEdges, NearPairs, Separating, PieceAt, LineAt, PairAt, Holds, HoldsEverywhere, OnParcel, OnPiece}
 use Rattle.std.specs.Prelude.{⊤}
 use Rattle.std.proofs.lemmas.Result.{IfOk-weaker}
-use Rattle.std.proofs.lemmas.Option.{slice_get_past}
 use Rattle.lpis_checker.specs.declared.condition.Condition.TheVariants.{NotApart}
 use Rattle.lpis_checker.specs.declared.condition.Site.{Site}
 use Rattle.lpis_checker.specs.GoodCertificate.{OfBoth, OfPiece, OfParcel, OfLine}

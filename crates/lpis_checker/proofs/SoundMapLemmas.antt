@@ -1,17 +1,19 @@
 -- A good certificate shows a sound map.
 use Rattle.std.proofs.Common.{◌≡◌, ℕ, suc, ◌-◌, ◌<◌, nat_lt, ℤ, pos, ◌+ℤ◌, ◌*ℤ◌, ◌≤ℤ◌, ◌<ℤ◌, Bool, true, false, cond, List, [], ◌∷◌, ◌++◌, length, get_or, Option, Some, None, inl, inr, ◌↔◌, All, ap}
 use Rattle.std.proofs.Common.{ap₂, sym, refl, ◌∙◌, subst, arith, MatchOption, slice_get, option_map}
-use Rattle.lpis_checker.proofs.Common.{none-some, slice_get-get_or, same_Some, Point, Triangle, same_point, edges_of_triangles, edges_of, Piece, Parcel, Contents, pieces_named, Cert, PiecePart}
-use Rattle.lpis_checker.proofs.Common.{ParcelPart, IsInPiece, IsSoundMap, Names, Triangles, CounterClockwise, Flats, PieceEdges, ParcelEdges, NearPairs, Separating, PieceAt, ParcelAt, LineAt, PairAt}
+use Rattle.lpis_checker.proofs.Common.{none-some, slice_get-get_or, same_Some, Triangle, edges_of, Piece, Parcel, Contents, pieces_named, Cert, PiecePart}
+use Rattle.lpis_points.specs.declared.point.Point.{Point}
+use Rattle.lpis_points.specs.Plane.{same_point, RationalPoint}
+use Rattle.lpis_rings.specs.Map.{edges_of_triangles, KeepApart, AllKeepApart, IsCut, CutPiece, all_triangles, all_turns, IsOneOrNone}
+use Rattle.lpis_checker.specs.declared.condition.Site.TheVariants.{ParcelAt}
+use Rattle.lpis_checker.proofs.Common.{ParcelPart, IsInPiece, IsSoundMap, Names, Triangles, CounterClockwise, Flats, PieceEdges, ParcelEdges, NearPairs, Separating, PieceAt, LineAt, PairAt}
 use Rattle.lpis_checker.proofs.Common.{triangles_of, polygons_of, LineSeparates, HoldsEverywhere}
 use Rattle.std.specs.List.{IsDistinct}
 use Rattle.std.proofs.lemmas.List.Elements.{All-cons, All-filter, All-head, All-nil, All-tail}
 use Rattle.std.proofs.lemmas.Slice.Eq.{bytes_eq-Decides}
-use Rattle.lpis_points.specs.Plane.{RationalPoint}
 use Rattle.lpis_points.specs.Chain.{SameNet}
 use Rattle.lpis_points.specs.Sums.{int_sum_by}
 use Rattle.lpis_points.specs.Triangles.{triangle_edges, IsCounterClockwise, IsFlat, Separates, are_apart}
-use Rattle.lpis_rings.specs.Map.{KeepApart, AllKeepApart, IsCut, CutPiece, all_triangles, all_turns, IsOneOrNone}
 use Rattle.lpis_rings.specs.Edges.{edge_turns, turns}
 use Rattle.lpis_rings.specs.Area.{area2}
 use Rattle.lpis_rings.proofs.Shared.{pieces_share_nothing, contains_by_one_turn, area_is_positive, area2_is}

@@ -1,6 +1,7 @@
 -- The weighted area of pieces lies between 0 and their area times 100.
 use Rattle.std.proofs.Common.{◌≤◌, ◌*◌, ℕ, ℤ, pos, negsuc, ◌+ℤ◌, ◌*ℤ◌, ◌≤ℤ◌, ◌<ℤ◌, List, [], ◌∷◌, Option, Some, None, All, arith, mul-le-mul}
-use Rattle.lpis_checker.proofs.Common.{ints, Piece}
+use Rattle.lpis_checker.proofs.Common.{Piece}
+use Rattle.std.proofs.lemmas.Int.{ints}
 use Rattle.std.proofs.lemmas.List.Elements.{All-head, All-tail}
 use Rattle.lpis_points.specs.Sums.{int_sum_by}
 use Rattle.lpis_covers.specs.declared.class.Class.{Class}

@@ -79,12 +79,7 @@ impl<'a> Places for BlockPlaces<'a> {
         self.blocks.len().max(self.parts.len())
     }
 
-    fn holds_at(
-        &self,
-        alloc: Global,
-        sum: &mut EdgeSum,
-        index: usize,
-    ) -> Result<bool, AllocError> {
+    fn holds_at(&self, alloc: Global, sum: &mut EdgeSum, index: usize) -> Result<bool, AllocError> {
         if self.condition == ExactCondition::Names {
             return Ok(is_named_at(self.blocks, self.parts, index));
         }

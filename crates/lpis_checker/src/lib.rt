@@ -12,8 +12,8 @@ mod locating;
 mod names;
 mod near_pairs;
 mod parts;
-mod places;
 mod pieces;
+mod places;
 mod searching;
 mod separators;
 

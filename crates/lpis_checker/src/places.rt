@@ -15,12 +15,7 @@ pub(crate) trait Places {
         ensures { (k : ℕ) → result ≤ k → holds self.now k };
 
     /// Whether it holds at an index. The sum is for edges: its room is used again.
-    fn holds_at(
-        &self,
-        alloc: Global,
-        sum: &mut EdgeSum,
-        index: usize,
-    ) -> Result<bool, AllocError>
+    fn holds_at(&self, alloc: Global, sum: &mut EdgeSum, index: usize) -> Result<bool, AllocError>
         ensures { IfOk result (λ b. IsTrue b ↔ holds self.now index) };
 }
 

@@ -78,17 +78,15 @@ impl<'a> Places for PiecePlaces<'a> {
         parts.len().max(self.release.pieces().len())
     }
 
-    fn holds_at(
-        &self,
-        alloc: Global,
-        sum: &mut EdgeSum,
-        index: usize,
-    ) -> Result<bool, AllocError> {
+    fn holds_at(&self, alloc: Global, sum: &mut EdgeSum, index: usize) -> Result<bool, AllocError> {
         let (release, cert, condition) = (self.release, self.cert, self.condition);
         if condition == Condition::Names {
             return Ok(is_piece_named(release, cert, index));
         }
-        match (cert.pieces.as_slice().get(index), release.pieces().get(index)) {
+        match (
+            cert.pieces.as_slice().get(index),
+            release.pieces().get(index),
+        ) {
             (Some(part), Some(piece)) => holds_of_piece(alloc, sum, condition, piece, part),
             _ => Ok(true),
         }
@@ -111,17 +109,15 @@ impl<'a> Places for ParcelPlaces<'a> {
         parts.len().max(self.release.parcels().len())
     }
 
-    fn holds_at(
-        &self,
-        alloc: Global,
-        sum: &mut EdgeSum,
-        index: usize,
-    ) -> Result<bool, AllocError> {
+    fn holds_at(&self, alloc: Global, sum: &mut EdgeSum, index: usize) -> Result<bool, AllocError> {
         let (release, cert, condition) = (self.release, self.cert, self.condition);
         if condition == Condition::Names {
             return Ok(is_parcel_named(release, cert, index));
         }
-        match (cert.parcels.as_slice().get(index), release.parcels().get(index)) {
+        match (
+            cert.parcels.as_slice().get(index),
+            release.parcels().get(index),
+        ) {
             (Some(part), Some(parcel)) => {
                 holds_of_parcel(alloc, sum, release, condition, parcel, part)
             }

@@ -1,6 +1,7 @@
 //! Worked releases and certificates, with their answers from outside the program.
 
 mod answers;
+mod exact;
 mod locating;
 
 use crate::{CheckFault, Location, check, check_parts};

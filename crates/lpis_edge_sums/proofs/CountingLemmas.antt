@@ -1,8 +1,9 @@
 -- Lists: what holds of each item, sums of terms that are 0 or 1, and what a filter keeps.
-use Rattle.std.proofs.Common.{◌≡◌, ℕ, zero, suc, ℤ, pos, negsuc, ◌+ℤ◌, ◌≤ℤ◌, Bool, true, false, cond, List, [], ◌∷◌, ◌++◌, get_or, Some, inl, inr, ◌↔◌, IsTrue, All, filter, ap, sym, refl, ◌∙◌, subst, arith}
-use Rattle.std.proofs.Common.{slice_get, Any}
-use Rattle.lpis_edge_sums.proofs.Common.{ints, Contains-append_right, none-some, slice_get-get_or, slice_get_within, get_or_from_slice_get, same_Some}
-use Rattle.std.proofs.lemmas.List.Elements.{All-contains, All-head, All-tail, All-weaker, Contains-append_left, Contains-get_or}
+use Rattle.std.proofs.Common.{◌≡◌, ℕ, zero, suc, ℤ, pos, negsuc, ◌+ℤ◌, ◌≤ℤ◌, Bool, true, false, cond, List, [], ◌∷◌, ◌++◌, get_or, Some, inl, inr, ◌↔◌, IsTrue, All, filter, ap, sym, refl, ◌∙◌}
+use Rattle.std.proofs.Common.{subst, arith, slice_get, Any}
+use Rattle.lpis_edge_sums.proofs.Common.{ints, slice_get_within}
+use Rattle.std.proofs.lemmas.List.Elements.{Contains-append_right, All-contains, All-head, All-tail, All-weaker, Contains-append_left, Contains-get_or}
+use Rattle.std.proofs.lemmas.Option.{none-some, slice_get-get_or, get_or_from_slice_get, same_Some}
 use Rattle.lpis_points.specs.Sums.{int_sum_by}
 use Rattle.lpis_rings.specs.Map.{IsOneOrNone}
 use Rattle.lpis_edge_sums.specs.Counting.{AtMostOne}

@@ -1,6 +1,7 @@
 -- Sorted edges are grouped.
 use Rattle.std.proofs.Common.{◌≡◌, ℕ, ◌<◌, ◌≤◌, true, false, List, Some, ap₂, sym, ◌∙◌, arith, Ordering, is_lt, slice_get, IsSorted}
-use Rattle.lpis_edge_sums.proofs.Common.{slice_get_within, get_or_from_slice_get, Point, SignedEdge, IsGrouped, point_order}
+use Rattle.lpis_edge_sums.proofs.Common.{slice_get_within, Point, SignedEdge, IsGrouped, point_order}
+use Rattle.std.proofs.lemmas.Option.{get_or_from_slice_get}
 use Rattle.std.specs.Ordering.{ordering_then, bool_cmp}
 use Rattle.std.specs.Cmp.{IsTotalOrder, bool_cmp_total}
 use Rattle.std.proofs.lemmas.Cmp.{on_total, then_total}

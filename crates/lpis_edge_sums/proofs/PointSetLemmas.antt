@@ -1,12 +1,13 @@
 -- Points that are sorted: a binary search finds exactly those that are among them.
 use Rattle.std.proofs.Common.{◌≡◌, ◌∙◌, ◌<◌, ◌≤◌, ◌⊎◌, inl, inr, ◌↔◌, ℕ, Bool, true, false, List, ◌++◌, length, get_or, Result, Ok, Err, Less, Equal, Greater, IsTrue, refl, sym, ap, subst, arith}
 use Rattle.std.proofs.Common.{is_ok, Contains, IsSorted}
-use Rattle.lpis_edge_sums.proofs.Common.{Point, Triangle, point_order, HaveCorners}
+use Rattle.lpis_edge_sums.proofs.Common.{Point, point_order}
+use Rattle.lpis_points.specs.declared.triangle.Triangle.{Triangle}
+use Rattle.lpis_edge_sums.specs.Making.{HaveCorners, HasCorners}
 use Rattle.std.specs.List.Sorted.{IsBinarySearchResult, IsSearchInRange, IsPartitionPoint}
 use Rattle.std.proofs.lemmas.Cmp.{tied_itself}
 use Rattle.std.proofs.lemmas.List.Elements.{All-append}
 use Rattle.std.proofs.lemmas.List.Sorted.{searchable_from_sorted}
-use Rattle.lpis_edge_sums.specs.Making.{HasCorners}
 use Rattle.lpis_edge_sums.proofs.PointOrderLemmas.{point_total, same_in_order}
 use Rattle.lpis_edge_sums.proofs.CountingLemmas.{all_left, all_right}
 

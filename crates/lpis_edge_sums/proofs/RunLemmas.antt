@@ -1,11 +1,11 @@
 -- One walk over grouped edges.
 use Rattle.std.proofs.Common.{◌≡◌, ℕ, zero, suc, ◌+◌, ◌<◌, ◌≤◌, ℤ, pos, negsuc, ◌+ℤ◌, ◌-ℤ◌, nat_abs, Bool, true, false, ◌&&◌, cond, List, [], ◌∷◌, ◌++◌, length, get_or, take, drop, Option, Some, None}
 use Rattle.std.proofs.Common.{ap, ap₂, sym, refl, ◌∙◌, arith, sum_by, slice_get, IsPermutation}
-use Rattle.lpis_edge_sums.proofs.Common.{ints, same_Some, slice_get_within, slice_get-get_or, Point, same_point, SignedEdge, weight, sum_at, IsGrouped}
+use Rattle.lpis_edge_sums.proofs.Common.{ints, slice_get_within, Point, same_point, SignedEdge, weight, sum_at, IsGrouped}
+use Rattle.std.proofs.lemmas.Option.{same_Some, slice_get-get_or, slice_get_past}
 use Rattle.std.proofs.lemmas.List.{take_more, take_all, take-append-drop}
 use Rattle.std.proofs.lemmas.List.Sums.{sum_by-cons}
 use Rattle.std.proofs.lemmas.List.Sorted.{sum_by-IsPermutation}
-use Rattle.std.proofs.lemmas.Option.{slice_get_past}
 use Rattle.lpis_edge_sums.specs.private.SignedEdges.{is_at, SumsAreZero, same_ends, EndsRun}
 use Rattle.lpis_edge_sums.proofs.PointOrderLemmas.{both_same}
 

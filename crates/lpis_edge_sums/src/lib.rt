@@ -1,6 +1,5 @@
-//! Whether polygons and flat triangles make up another polygon, and what that shows at every
-//! rational point: their edges cancel, by sums of signs, and the corners of the triangles are points
-//! of their rings.
+//! Whether polygons and flat triangles make up another polygon: edges that cancel, by sums of signs,
+//! and corners that are points of rings. And what it shows at every rational point.
 #![tactic(auto)]
 
 mod corners;

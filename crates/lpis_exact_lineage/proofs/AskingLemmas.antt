@@ -14,7 +14,6 @@ use Rattle.lpis_lineage.specs.declared.kind.Kind.{Kind}
 use Rattle.lpis_lineage.specs.declared.row.Entry.{Entry}
 use Rattle.lpis_lineage.specs.declared.row.Row.{Row}
 use Rattle.lpis_parcels.specs.Release.{Contents, parcel_ids}
-use Rattle.lpis_register_rows.proofs.ShapeLemmas.{zip-push}
 use Rattle.lpis_register_rows.specs.Shapes.{Shape}
 use Rattle.lpis_checker.specs.declared.exact.ExactPart.{ExactPart}
 use Rattle.lpis_exact_lineage.specs.Asking.{AsksFor, HasShape, IsMarked, IsUnkept, IsWanted, kinds_from, lacking, old_ids, part_shape, unkept, whole_shape}
@@ -50,10 +49,16 @@ take-drop {A} (suc n) (x ∷ xs) = ap (λ (l : List A). x ∷ l) (take-drop n xs
 split-at : {A : Type 0} (xs : List A) (k : ℕ) (x : A) → k < length xs → x ≡ get_or xs k x → take k xs ++ (x ∷ drop (k + 1) xs) ≡ xs
 split-at {A} xs k x lt at = sym (append_assoc (take k xs) (x ∷ []) (drop (k + 1) xs)) ∙ ap (λ (l : List A). l ++ drop (k + 1) xs) (take-at xs k x lt at) ∙ take-drop (k + 1) xs
 
+one-more : {A B : Type 0} (R : A → B → Type 0) (xs : List A) (ys : List B) (x : A) (y : B) → R x y → AllZip R xs ys → AllZip R (xs ++ x ∷ []) (ys ++ y ∷ [])
+one-more R [] [] x y r z = (r, tt)
+one-more R (a ∷ xs) (b ∷ ys) x y r z = (z.0, one-more R xs ys x y r z.1)
+one-more R [] (b ∷ ys) x y r z = absurd z
+one-more R (a ∷ xs) [] x y r z = absurd z
+
 pub zip-more : {A B : Type 0} (R : A → B → Type 0) (xs : List A) (ys : List B) {zs : List B} (k : ℕ) (x : A) (y : B) → k < length xs → x ≡ get_or xs k x → AllZip R (take k xs) ys → R x y
     → zs ≡ ys ++ y ∷ [] → AllZip R (take (k + 1) xs) zs
 zip-more {A} {B} R xs ys k x y lt at z r pushed =
-    subst (AllZip R (take (k + 1) xs)) (sym pushed) (subst (λ (l : List A). AllZip R l (ys ++ y ∷ [])) (take-at xs k x lt at) (zip-push R (take k xs) ys x y z r))
+    subst (AllZip R (take (k + 1) xs)) (sym pushed) (subst (λ (l : List A). AllZip R l (ys ++ y ∷ [])) (take-at xs k x lt at) (one-more R (take k xs) ys x y r z))
 
 pub first-in : (kept : List Shape) (ids : List (List ℕ)) (k : ℕ) (id : List ℕ) (shapes : List (List Member)) (fault : AskFault) → k < length ids → id ≡ get_or ids k id
     → AllZip (HasShape (shape_of kept)) (take k ids) shapes → IsFirstLacking kept (id ∷ []) fault → IsFirstLacking kept ids fault

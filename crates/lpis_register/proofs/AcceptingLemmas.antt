@@ -57,11 +57,12 @@ no_store_blocks exact.Memory is = cc is
 no_store_blocks (exact.At code id) is = cc is
 
 module _ (h : List Entry) (kept : List Shape) (year : ℕ) (r : Contents) (blocks : List ExactBlock) (rows : List Row) (later : last_year h < year) where
-  pub refused_lineage : (fault : LineageFault) → (fault ≡ lineage.Memory) ⊎ (first (faults h (parcel_ids r.parcels) rows) ≡ Some fault) → IsRefused h kept year r blocks rows (of_lineage fault)
-  refused_lineage fault (inl is) = subst (λ f. IsRefused h kept year r blocks rows (of_lineage f)) (sym is) tt
-  refused_lineage fault (inr is) = elim (lineage_told fault) [
+  pub refused_lineage : (live : List (List ℕ)) (fault : LineageFault) → live ≡ parcel_ids r.parcels → (fault ≡ lineage.Memory) ⊎ (first (faults h live rows) ≡ Some fault)
+      → IsRefused h kept year r blocks rows (of_lineage fault)
+  refused_lineage live fault same (inl is) = subst (λ f. IsRefused h kept year r blocks rows (of_lineage f)) (sym is) tt
+  refused_lineage live fault same (inr is) = elim (lineage_told fault) [
     | inl memory ↦ subst (IsRefused h kept year r blocks rows) (sym memory) tt
-    | inr told ↦ subst (IsRefused h kept year r blocks rows) (sym told) (later, is)
+    | inr told ↦ subst (IsRefused h kept year r blocks rows) (sym told) (later, subst (λ l. first (faults h l rows) ≡ Some fault) same is)
   ]
 
   pub refused_asking : (fault : AskFault) → ((id : List ℕ) → fault ≡ ask.NotKept id → IsUnkept h kept r rows id) → IsRefused h kept year r blocks rows (of_asking fault)

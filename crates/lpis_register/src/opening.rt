@@ -1,6 +1,7 @@
 //! What an opening finds.
 
 ghost use Rattle.std.specs.Prelude.{◌≡◌, ◌⊎◌};
+ghost use Rattle.std.proofs.Props.{props};
 ghost use Rattle.lpis_lineage.specs.Order.{IsAscending};
 ghost use Rattle.lpis_register_rows.specs.Shapes.{shape_ids};
 ghost use Rattle.lpis_register.specs.Faults.{IsFailure};
@@ -17,7 +18,7 @@ use sqlite::{Error, ErrorCode};
 pub(crate) struct Told {
     pub(crate) history: History,
     pub(crate) shapes: Vec<(Id, Polygon)>,
-    ghost ascending: { IsAscending (shape_ids shapes.items) },
+    ghost ascending: { IsAscending (shape_ids shapes.items) } by { Prim.hlevel props },
 }
 
 /// Where the database is out of memory, that is reported.

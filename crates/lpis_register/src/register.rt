@@ -1,6 +1,7 @@
 //! The register.
 
 ghost use Rattle.std.specs.Prelude.{◌≡◌, ◌⊎◌, false, IfOk, IfErr, List, ℕ};
+ghost use Rattle.std.proofs.Props.{props};
 ghost use Rattle.sqlite.specs.Held.{state};
 ghost use Rattle.lpis_cert.specs.declared.part.ExactBlock.{ExactBlock};
 ghost use Rattle.lpis_lineage.specs.Order.{IsAscending};
@@ -40,7 +41,7 @@ pub struct Register<S: Alter> {
     pub shapes: Vec<(Id, Polygon)>,
     alloc: Global,
     ghost autocommit: { conn.in_transaction ≡ false },
-    ghost ascending: { IsAscending (shape_ids shapes.items) },
+    ghost ascending: { IsAscending (shape_ids shapes.items) } by { Prim.hlevel props },
 }
 
 impl<S: Alter> Register<S> {

@@ -1,6 +1,6 @@
 use Rattle.std.proofs.Common.{◌≡◌, ◌∷◌, [], List, All, sym, subst, Contains}
-use Rattle.lpis_checker.proofs.Common.{Contains-append_right, rational_of, Piece, IsInPiece}
-use Rattle.std.proofs.lemmas.List.Elements.{All-cons}
+use Rattle.lpis_checker.proofs.Common.{rational_of, Piece, IsInPiece}
+use Rattle.std.proofs.lemmas.List.Elements.{Contains-append_right, All-cons}
 use Rattle.lpis_edge_sums.proofs.Shared.{untrue}
 use Rattle.lpis_checker.proofs.locating.piece_at.Goals as goal
 

@@ -1,5 +1,8 @@
 use Rattle.std.proofs.Common.{◌↔◌, ◌++◌, Bool, IfOk, IsTrue, List, subst, sym}
-use Rattle.lpis_checker.proofs.Common.{Triangle, Condition, OnPiece, HaveCorners, corners_of, same_point, edges_of, edges_of_triangles}
+use Rattle.lpis_checker.proofs.Common.{Triangle, Condition, OnPiece, edges_of}
+use Rattle.lpis_edge_sums.specs.Making.{HaveCorners, corners_of}
+use Rattle.lpis_points.specs.Plane.{same_point}
+use Rattle.lpis_rings.specs.Map.{edges_of_triangles}
 use Rattle.lpis_points.specs.Chain.{SameNet}
 use Rattle.lpis_checker.proofs.SiteLemmas.{told_alike}
 use Rattle.lpis_checker.proofs.searching.holds_of_piece.Goals as goal

@@ -1,5 +1,6 @@
 use Rattle.std.proofs.Common.{◌≡◌, ◌++◌, take}
-use Rattle.lpis_edge_sums.proofs.Common.{corners_of_all, polygons}
+use Rattle.lpis_edge_sums.proofs.Common.{polygons}
+use Rattle.lpis_edge_sums.specs.Making.{corners_of_all}
 use Rattle.lpis_edge_sums.proofs.corners.add_corners_of_all.Given as goal
 
 abbrev pub invariant-loop-polygon : goal.invariant-loop-polygon

@@ -1,5 +1,6 @@
 use Rattle.std.proofs.Common.{◌∙◌, ◌++◌, List, ap, refl}
-use Rattle.lpis_edge_sums.proofs.Common.{Point, corners_of, corners_of_all, polygons}
+use Rattle.lpis_edge_sums.proofs.Common.{Point, corners_of, polygons}
+use Rattle.lpis_edge_sums.specs.Making.{corners_of_all}
 use Rattle.lpis_edge_sums.proofs.PointSetLemmas.{told_of}
 use Rattle.lpis_edge_sums.proofs.corners.flats_have_corners.Goals as goal
 

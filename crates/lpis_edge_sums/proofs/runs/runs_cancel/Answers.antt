@@ -1,5 +1,6 @@
 use Rattle.std.proofs.Common.{◌≡◌, ℕ, ◌+◌, ◌<◌, ◌≤◌, ◌^◌, ℤ, pos, ◌+ℤ◌, nat_abs, true, false, length, sym, refl, subst, arith, to_z, of_z, w64, SFits}
-use Rattle.lpis_edge_sums.proofs.Common.{ints, slice_get_read, weight}
+use Rattle.lpis_edge_sums.proofs.Common.{ints, weight}
+use Rattle.std.proofs.lemmas.Option.{slice_get_read}
 use Rattle.lpis_edge_sums.proofs.CountingLemmas.{untrue}
 use Rattle.lpis_edge_sums.proofs.RunLemmas.{WalkAt, walk_none, walk_zero, walk_on, walk_all, walk_fault}
 use Rattle.lpis_edge_sums.proofs.runs.runs_cancel.Goals.{then-sum-ne0+else-ends_run, else-sum-ne0}

@@ -1,4 +1,4 @@
-use Rattle.lpis_edge_sums.proofs.Common.{edges_of}
+use Rattle.lpis_rings.specs.Edges.{edges_of}
 use Rattle.lpis_edge_sums.proofs.NetSumLemmas.{Growing}
 use Rattle.lpis_edge_sums.proofs.signed.push_polygon.Given as goal
 

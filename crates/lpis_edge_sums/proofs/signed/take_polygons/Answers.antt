@@ -1,5 +1,7 @@
 use Rattle.std.proofs.Common.{false, ap, sym, refl, List, ◌∙◌, ◌∷◌, ◌+◌, drop, Bor}
-use Rattle.lpis_edge_sums.proofs.Common.{Member, edges_of_all, polygons}
+use Rattle.lpis_edge_sums.proofs.Common.{polygons}
+use Rattle.lpis_rings.specs.declared.polygon.Member.{Member}
+use Rattle.lpis_edge_sums.specs.Making.{edges_of_all}
 use Rattle.std.proofs.Math.ListN.{drop_of_length-le}
 use Rattle.std.proofs.lemmas.List.{at_drop_more}
 use Rattle.lpis_edge_sums.proofs.NetSumLemmas.{growing_none, growing_more, growing_all}

@@ -1,5 +1,6 @@
 use Rattle.std.proofs.Common.{false, drop}
-use Rattle.lpis_edge_sums.proofs.Common.{edges_of_all, polygons}
+use Rattle.lpis_edge_sums.proofs.Common.{polygons}
+use Rattle.lpis_edge_sums.specs.Making.{edges_of_all}
 use Rattle.lpis_edge_sums.proofs.NetSumLemmas.{Growing}
 use Rattle.lpis_edge_sums.proofs.signed.take_polygons.Given as goal
 

@@ -1,5 +1,6 @@
 use Rattle.std.proofs.Common.{false, ap, sym, refl, ◌∙◌, ◌∷◌, ◌+◌, drop}
-use Rattle.lpis_edge_sums.proofs.Common.{Triangle, edges_of_triangles}
+use Rattle.lpis_points.specs.declared.triangle.Triangle.{Triangle}
+use Rattle.lpis_rings.specs.Map.{edges_of_triangles}
 use Rattle.std.proofs.Math.ListN.{drop_of_length-le}
 use Rattle.std.proofs.lemmas.List.{at_drop_more}
 use Rattle.lpis_edge_sums.proofs.NetSumLemmas.{growing_none, growing_more, growing_all}

@@ -1,5 +1,5 @@
 use Rattle.std.proofs.Common.{false, drop}
-use Rattle.lpis_edge_sums.proofs.Common.{edges_of_triangles}
+use Rattle.lpis_rings.specs.Map.{edges_of_triangles}
 use Rattle.lpis_edge_sums.proofs.NetSumLemmas.{Growing}
 use Rattle.lpis_edge_sums.proofs.signed.take_triangles.Given as goal
 

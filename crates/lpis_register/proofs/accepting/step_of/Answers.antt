@@ -1,4 +1,4 @@
-use Rattle.std.proofs.Common.{◌∙◌, refl}
+use Rattle.std.proofs.Common.{◌∙◌, ap}
 use Rattle.std.proofs.lemmas.Result.{err_from_is_err_and}
 use Rattle.lpis_parcels.specs.Release.{parcel_ids}
 use Rattle.lpis_register.proofs.AcceptingLemmas.{no_store_lineage, refused_lineage, stepped}
@@ -7,7 +7,8 @@ use Rattle.lpis_register.proofs.accepting.step_of.Goals as goal
 pub returns-in_err-change-clause-refused : goal.returns-in_err-change-clause-refused
 returns-in_err-change-clause-refused c kept year blocks later =
     let p = err_from_is_err_and c.from_residual-in_err-change.result c.from_residual-in_err-change.ensures.1 in
-    rw (p.1, p.2) (refused_lineage c.args.history.now kept year c.args.release.now blocks c.args.rows.now later _ c.in_err-change.ensures.tells)
+    let same = c.as_slice.ensures.value ∙ c.in_ok-live.ensures ∙ ap parcel_ids c.parcels.ensures.parcels in
+    rw (p.1, p.2) (refused_lineage c.args.history.now kept year c.args.release.now blocks c.args.rows.now later c.as_slice.result.now _ same c.in_err-change.ensures.tells)
 
 pub returns-in_err-change-clause-no_store : goal.returns-in_err-change-clause-no_store
 returns-in_err-change-clause-no_store c =
@@ -18,5 +19,6 @@ pub returns-clause-step : goal.returns-clause-step
 returns-clause-step c =
     let h = c.args.history.now in
     let ids = parcel_ids c.args.release.now.parcels in
-    stepped h ids c.as_slice.result.now c.as_slice-2.result.now c.args.rows.now _ (c.as_slice.ensures.value ∙ c.in_ok-live.ensures) (c.as_slice-2.ensures.value ∙ c.in_ok-live.ensures) c.in_ok-live.ensures
+    let live = c.in_ok-live.ensures ∙ ap parcel_ids c.parcels.ensures.parcels in
+    stepped h ids c.as_slice.result.now c.as_slice-2.result.now c.args.rows.now _ (c.as_slice.ensures.value ∙ live) (c.as_slice-2.ensures.value ∙ live) live
     c.in_ok-change.ensures.tells c.in_ok-change.ensures.change (c.changes_tell_what_is_written.ensures h ids c.in_ok-fresh.fresh.items c.args.rows.now c.in_ok-change.change) c.in_ok-fresh.ensures

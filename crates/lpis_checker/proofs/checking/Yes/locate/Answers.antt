@@ -1,5 +1,6 @@
 use Rattle.std.proofs.Common.{◌≡◌, ◌∙◌, Some, ap, subst, arith, slice_get}
-use Rattle.lpis_checker.proofs.Common.{ints, slice_get-get_or, rational_of, Contents, IsSoundMap}
+use Rattle.lpis_checker.proofs.Common.{slice_get-get_or, rational_of, Contents, IsSoundMap}
+use Rattle.std.proofs.lemmas.Int.{ints}
 use Rattle.lpis_checker.proofs.SoundMapLemmas.{good_means_sound, no_gap}
 use Rattle.lpis_checker.proofs.checking.Yes.locate.Goals as goal
 

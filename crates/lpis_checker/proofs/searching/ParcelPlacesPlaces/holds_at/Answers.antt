@@ -5,17 +5,20 @@ use Rattle.lpis_checker.proofs.searching.ParcelPlacesPlaces.holds_at.Goals as go
 
 pub returns-in-Some-Some : goal.returns-in-Some-Some
 returns-in-Some-Some c =
-    let says = (of_parts c.args.self.now.release.now c.args.self.now.cert.now c.args.self.now.condition c.args.index (search rules)).1 in
+    let s = c.args.self.now in
+    let says = (of_parts s.release.now s.cert.now s.condition c.args.index (search rules)).1 in
     let own = read_in c.parcels.ensures.parcels c.in-Some-Some.ensures'.lookup.3.0 c.in-Some-Some.ensures'.lookup.1 in
     let part = read_in c.as_slice.ensures c.in-Some-Some.ensures.lookup.3.0 c.in-Some-Some.ensures.lookup.1 in
-    told_of_both c.args.self.now.release.now.parcels c.args.self.now.cert.now.parcels c.args.index (OnParcel c.args.self.now.release.now c.args.self.now.condition) c.holds_of_parcel.result says own part c.holds_of_parcel.ensures
+    told_of_both s.release.now.parcels s.cert.now.parcels c.args.index (OnParcel s.release.now s.condition) c.holds_of_parcel.result says own part c.holds_of_parcel.ensures
 
 pub returns-in_default : goal.returns-in_default
 returns-in_default c =
-    let says = (of_parts c.args.self.now.release.now c.args.self.now.cert.now c.args.self.now.condition c.args.index (search rules)).1 in
-    past_first c.args.self.now.release.now.parcels c.args.self.now.cert.now.parcels c.args.index says c.parcels.ensures.parcels c.in_default.ensures'.lookup.3
+    let s = c.args.self.now in
+    let says = (of_parts s.release.now s.cert.now s.condition c.args.index (search rules)).1 in
+    past_first s.release.now.parcels s.cert.now.parcels c.args.index says c.parcels.ensures.parcels c.in_default.ensures'.lookup.3
 
 pub returns-in_default-2 : goal.returns-in_default-2
 returns-in_default-2 c =
-    let says = (of_parts c.args.self.now.release.now c.args.self.now.cert.now c.args.self.now.condition c.args.index (search rules)).1 in
-    past_second c.args.self.now.release.now.parcels c.args.self.now.cert.now.parcels c.args.index says c.as_slice.ensures c.in_default.ensures.lookup.3
+    let s = c.args.self.now in
+    let says = (of_parts s.release.now s.cert.now s.condition c.args.index (search rules)).1 in
+    past_second s.release.now.parcels s.cert.now.parcels c.args.index says c.as_slice.ensures c.in_default.ensures.lookup.3

@@ -1,5 +1,5 @@
 use Rattle.std.proofs.Common.{◌↔◌, IsTrue, Bool, ◌++◌, sym, subst}
-use Rattle.lpis_edge_sums.proofs.Common.{HaveCorners}
+use Rattle.lpis_edge_sums.specs.Making.{HaveCorners}
 use Rattle.lpis_edge_sums.proofs.PointSetLemmas.{both_have, first_lacks}
 use Rattle.lpis_edge_sums.proofs.CountingLemmas.{untrue}
 use Rattle.lpis_edge_sums.proofs.point_set.PointSet.has_corners_of_both.Goals as goal
