@@ -14,11 +14,12 @@ ghost use Rattle.lpis_register.specs.Accepting.{IsAccepted, WasMadeFor};
 ghost use Rattle.lpis_commands.specs.CheckAnswer.{IsCheckAnswer};
 ghost use Rattle.lpis_commands.specs.Report.{report_text};
 ghost use Rattle.lpis_commands.specs.Status.{done};
-ghost use Rattle.lpis_gate.specs.LineageLines.{is_marked, lineage_line, published_line};
+ghost use Rattle.lpis_gate.specs.LineageLines.{lineage_line, published_line};
 ghost use Rattle.lpis_gate.specs.PublishAnswer.{Ends, Halts, IsHistoryAnswer, IsPublishAnswer};
 ghost use Rattle.lpis_gate.specs.PublishAnswer.{Moves};
 ghost use Rattle.lpis_gate.specs.Stored.{Stays};
 ghost use Rattle.lpis_gate.specs.Submission.{AreAllRead, Submission};
+ghost use Rattle.lpis_gate.specs.private.Marked.{is_marked};
 ghost use Rattle.lpis_gate.specs.private.PublishRuns.{IsAdded, Leaves};
 ghost use Rattle.lpis_gate.specs.private.Saying.{submission_of};
 
