@@ -97,5 +97,5 @@ split_is_exact whole parts t h m = record { contains = λ p d. at p d }
     at p d =
         let each = once_at p d parts h in
         let ones : AtMostOne (λ x. turns x p ≡ pos 1) parts = λ i j a b e f x y.
-            m p d i j a b e f ((contains_by_one_turn a p (all_at (OneAt p) parts i a e each)).1 x) ((contains_by_one_turn b p (all_at (OneAt p) parts j b f each)).1 y) in
+        m p d i j a b e f ((contains_by_one_turn a p (all_at (OneAt p) parts i a e each)).1 x) ((contains_by_one_turn b p (all_at (OneAt p) parts j b f each)).1 y) in
         made_at whole parts p (t.turns_add p d) each (subst IsOneOrNone (sym (t.turns_add p d)) (few_total (turns_at p) parts each ones))

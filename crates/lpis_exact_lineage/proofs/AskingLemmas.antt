@@ -1,5 +1,6 @@
 -- The parts that groups ask for, and the first old identifier whose shape is not kept.
-use Rattle.std.proofs.Common.{◌≡◌, ◌∙◌, ◌<◌, ◌+◌, ◌++◌, ℕ, zero, suc, List, [], ◌∷◌, Bool, true, false, not, cond, is_some, Option, take, drop, flat_map, length, get_or, refl, sym, ap, ap₂, subst, append_assoc}
+use Rattle.std.proofs.Common.{◌≡◌, ◌∙◌, ◌<◌, ◌+◌, ◌++◌, ℕ, zero, suc, List, [], ◌∷◌}
+use Rattle.std.proofs.Common.{Bool, true, false, not, cond, is_some, Option, take, drop, flat_map, length, get_or, refl, sym, ap, ap₂, subst, append_assoc}
 use Rattle.std.specs.List.{AllZip}
 use Rattle.std.proofs.lemmas.Grind.{flat_map-append}
 use Rattle.std.proofs.lemmas.List.Elements.{filter-append}
@@ -33,11 +34,13 @@ kept-none kept (id ∷ ids) (s ∷ ss) z =
     ap (λ (o : Option (List Member)). cond (not (is_some o)) (id ∷ lacking kept ids) (lacking kept ids)) z.0 ∙ kept-none kept ids ss z.1
 
 -- where all before them are kept, the first of these is the first of all
-pub first-lacking : (kept : List Shape) (front ids back : List (List ℕ)) (fault : AskFault) → lacking kept front ≡ [] → IsFirstLacking kept ids fault → IsFirstLacking kept (front ++ (ids ++ back)) fault
+pub first-lacking : (kept : List Shape) (front ids back : List (List ℕ)) (fault : AskFault) → lacking kept front ≡ [] → IsFirstLacking kept ids fault
+    → IsFirstLacking kept (front ++ (ids ++ back)) fault
 first-lacking kept front ids back Memory none first = tt
 first-lacking kept front ids back (NotKept id) none first = (
   first.0 ++ lacking kept back,
-  lacking-append kept front (ids ++ back) ∙ ap (λ (l : List (List ℕ)). l ++ lacking kept (ids ++ back)) none ∙ lacking-append kept ids back ∙ ap (λ (l : List (List ℕ)). l ++ lacking kept back) first.1,
+  lacking-append kept front (ids ++ back) ∙ ap (λ (l : List (List ℕ)). l ++ lacking kept (ids ++ back)) none
+      ∙ lacking-append kept ids back ∙ ap (λ (l : List (List ℕ)). l ++ lacking kept back) first.1,
 )
 
 -- ---- lists read side by side
@@ -72,14 +75,16 @@ wanted-by kept new g x merge others parts gm xm xi go xp whole z = record {
   name = ap₂ (λ (m : Bool) (i : List ℕ). (m, i)) (xm ∙ sym gm) xi;
   whole = subst (λ (m : Bool). HasShape (whole_shape m kept new) g.id x.whole) (sym gm) whole;
   parts = subst (λ (m : Bool). AllZip (HasShape (part_shape m kept new)) g.others x.parts) (sym gm)
-      (subst (λ (l : List (List ℕ)). AllZip (HasShape (part_shape merge kept new)) l x.parts) go (subst (λ (l : List (List Member)). AllZip (HasShape (part_shape merge kept new)) others l) (sym xp) z));
+      (subst (λ (l : List (List ℕ)). AllZip (HasShape (part_shape merge kept new)) l x.parts) go
+      (subst (λ (l : List (List Member)). AllZip (HasShape (part_shape merge kept new)) others l) (sym xp) z));
 }
 
 -- all old identifiers of a group with its part are kept
 wanted-kept : (kept : List Shape) (new : List ℕ → Option (List Member)) (g : Group) (x : ExactPart) → IsWanted (shape_of kept) new g x → lacking kept (old_ids g) ≡ []
 wanted-kept kept new g x w = by g.merge w.whole w.parts
   where
-    by : (m : Bool) → HasShape (whole_shape m (shape_of kept) new) g.id x.whole → AllZip (HasShape (part_shape m (shape_of kept) new)) g.others x.parts → lacking kept (cond m g.others (g.id ∷ [])) ≡ []
+    by : (m : Bool) → HasShape (whole_shape m (shape_of kept) new) g.id x.whole → AllZip (HasShape (part_shape m (shape_of kept) new)) g.others x.parts
+        → lacking kept (cond m g.others (g.id ∷ [])) ≡ []
     by true whole parts = kept-none kept g.others x.parts parts
     by false whole parts = kept-none kept (g.id ∷ []) (x.whole ∷ []) (whole, tt)
 

@@ -50,7 +50,8 @@ find : (kind_of : List ℕ → Option Kind) (rows : List Row) (kept new : List �
 find kind_of rows kept new test merge only id [] xs w t a o e = cc e
 find kind_of rows kept new test merge only id (g ∷ gs) [] w t a o e = absurd w
 find kind_of rows kept new test merge only id (g ∷ gs) (x ∷ xs) w t a o e =
-    by (test g.merge && same_id id g.id) refl e (λ f. find kind_of rows kept new test merge only id gs xs w.1 (All-tail Turns x xs t) (All-tail Ascends g gs a) (All-tail (Others kind_of rows) g gs o) f)
+    by (test g.merge && same_id id g.id) refl e (λ f. find kind_of rows kept new test merge only id gs xs w.1
+    (All-tail Turns x xs t) (All-tail Ascends g gs a) (All-tail (Others kind_of rows) g gs o) f)
   where
     by : (b : Bool) → b ≡ (test g.merge && same_id id g.id) → (b || list_any (λ (h : Group). test h.merge && same_id id h.id) gs) ≡ true
         → (list_any (λ (h : Group). test h.merge && same_id id h.id) gs ≡ true → Shown kind_of rows kept new merge id) → Shown kind_of rows kept new merge id
@@ -132,10 +133,12 @@ lies_in whole_of part_of id ids whole parts among w e s same made p d = (
 )
 
 -- what is known of a group, at its kind and its identifier
-whole_at : (kept new : List ℕ → Option (List Member)) (g : Group) (x : ExactPart) (merge : Bool) (id : List ℕ) → IsWanted kept new g x → g.merge ≡ merge → id ≡ g.id → whole_shape merge kept new id ≡ Some x.whole
+whole_at : (kept new : List ℕ → Option (List Member)) (g : Group) (x : ExactPart) (merge : Bool) (id : List ℕ) → IsWanted kept new g x → g.merge ≡ merge → id ≡ g.id
+    → whole_shape merge kept new id ≡ Some x.whole
 whole_at kept new g x merge id w m i = ap (λ (j : List ℕ). whole_shape merge kept new j) i ∙ ap (λ (b : Bool). whole_shape b kept new g.id) (sym m) ∙ w.whole
 
-parts_at : (kept new : List ℕ → Option (List Member)) (g : Group) (x : ExactPart) (merge : Bool) → IsWanted kept new g x → g.merge ≡ merge → AllZip (HasShape (part_shape merge kept new)) g.others x.parts
+parts_at : (kept new : List ℕ → Option (List Member)) (g : Group) (x : ExactPart) (merge : Bool) → IsWanted kept new g x → g.merge ≡ merge
+    → AllZip (HasShape (part_shape merge kept new)) g.others x.parts
 parts_at kept new g x merge w m = subst (λ (b : Bool). AllZip (HasShape (part_shape b kept new)) g.others x.parts) m w.parts
 
 others_at : (kind_of : List ℕ → Option Kind) (rows : List Row) (g : Group) (merge : Bool) (id : List ℕ) → Others kind_of rows g → g.merge ≡ merge → id ≡ g.id
@@ -156,7 +159,8 @@ groups_show split_makes_up merged_makes_up kind_of rows gs xs kept new are wante
         let made = split_makes_up s.x.whole s.x.parts s.turns (parts_once new s.g.others s.x.parts m once) (λ r c. parts_few new s.g.others s.x.parts m s.ascend nothing r c) in
         lies_in kept new id s.g.others s.x.whole s.x.parts (λ q. list_any (leads id q) rows) w m s.ascend (others_at kind_of rows s.g false id s.others s.is_merge s.is_id) made p d
 
-    merged : ShapesTurnOnce kept → (id : List ℕ) → is_exact_merge kind_of rows id ≡ true → (p : RationalPoint) → pos 0 <ℤ p.d → LiesIn new p id ↔ ExactlyOneOf (leads_into kind_of rows id) (LiesIn kept p)
+    merged : ShapesTurnOnce kept → (id : List ℕ) → is_exact_merge kind_of rows id ≡ true → (p : RationalPoint) → pos 0 <ℤ p.d
+        → LiesIn new p id ↔ ExactlyOneOf (leads_into kind_of rows id) (LiesIn kept p)
     merged once_kept id e p d =
         let s = find kind_of rows kept new (λ b. b) true only_merge id gs xs wanted turns are.others_ascend are.others (has_merge gs are.splits are.merges id are.listed ∙ are.merges_are id ∙ e) in
         let w : new id ≡ Some s.x.whole = whole_at kept new s.g s.x true id s.wanted s.is_merge s.is_id in

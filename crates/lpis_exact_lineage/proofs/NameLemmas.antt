@@ -108,7 +108,13 @@ exactly_named f ids ms among e s same p = (to, from)
     from o =
         let i = has_index ids o.one (same o.one ∙ o.is_among) in
         let m = part_at f ids ms e i.0 o.one i.1 in (
-          found_any (λ (x : List Member). Contains x p) ms (record { index = i.0; item = m.shape; at = m.at; has = moved o.has.shape m.shape (same_Some o.has.shape m.shape (sym o.has.is ∙ m.is)) o.has.inside }),
+          found_any (λ (x : List Member). Contains x p) ms (record {
+            index = i.0;
+            item = m.shape;
+            at = m.at;
+            has =
+                moved o.has.shape m.shape (same_Some o.has.shape m.shape (sym o.has.is ∙ m.is)) o.has.inside;
+          }),
           λ j k a b g h x y.
               let v = name_at f ids ms e j a g in
               let w = name_at f ids ms e k b h in

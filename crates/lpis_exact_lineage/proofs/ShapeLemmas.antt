@@ -1,5 +1,7 @@
 -- The shapes of a sound map, and the look-up of a kept one.
-use Rattle.std.proofs.Common.{◌≡◌, ◌∙◌, ◌<◌, ◌≤◌, ◌⊎◌, inl, inr, ◌<ℤ◌, ◌+◌, ℕ, zero, suc, pos, List, [], ◌∷◌, Bool, true, false, cond, Option, Some, None, Less, Equal, Greater, Ordering, is_eq, is_lt, nat_cmp, length, map, get_or, refl, sym, ap, ap₂, subst, slice_get, arith, IsPermutation}
+use Rattle.std.proofs.Common.{◌≡◌, ◌∙◌, ◌<◌, ◌≤◌, ◌⊎◌, inl, inr, ◌<ℤ◌, ◌+◌, ℕ, zero, suc, pos, List, [], ◌∷◌}
+use Rattle.std.proofs.Common.{Bool, true, false, cond, Option, Some, None, Less, Equal, Greater, Ordering, is_eq, is_lt, nat_cmp}
+use Rattle.std.proofs.Common.{length, map, get_or, refl, sym, ap, ap₂, subst, slice_get, arith, IsPermutation}
 use Rattle.std.proofs.Common.{Contains as IsAmong}
 use Rattle.std.specs.Cmp.Lexicographic.{nat_list_cmp_total, nat_list_eq_equiv, slice_cmp}
 use Rattle.std.specs.List.{HoldsAt, IsDistinct, find}

@@ -38,8 +38,9 @@ ShapesShareNothing shape_of =
 
 -- ---- exact lineage
 -- by the kept shapes and those of a release: each rational point lies in an old parcel of an exact
--- split exactly when it lies in exactly one successor; and where none of the kept shapes turns
--- twice, it lies in the successor of an exact merge exactly when it lies in exactly one predecessor
+-- split exactly when it lies in exactly one successor; and where each kept shape turns once or not
+-- at all, it lies in the successor of an exact merge exactly when it lies in exactly one
+-- predecessor
 pub record IsExactLineage (kind_of : List ℕ → Option Kind) (rows : List Row)
     (kept new : List ℕ → Option (List Member)) : Type 0 where
   pub splits : (id : List ℕ) → is_exact_split kind_of rows id ≡ true → (p : RationalPoint)

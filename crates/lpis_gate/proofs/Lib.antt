@@ -1,4 +1,5 @@
 pub mod Common
+pub mod BlocksLemmas
 pub mod ExactLemmas
 pub mod MarkedLemmas
 pub mod PublishLemmas

@@ -7,7 +7,8 @@ use Rattle.lpis_lineage.specs.declared.row.Row.{Row}
 use Rattle.lpis_lineage.specs.ExactGroups.{is_exact_merge, is_exact_split, is_in_exact, is_into_merge, is_merge, is_outside, is_split}
 use Rattle.lpis_lineage.specs.Lineage.{is_of, is_this, names}
 use Rattle.lpis_lineage.proofs.Shared.{same-refl}
-use Rattle.lpis_gate.specs.LineageLines.{is_left_exactly, is_marked}
+use Rattle.lpis_gate.specs.LineageLines.{is_left_exactly}
+use Rattle.lpis_gate.specs.private.Marked.{is_marked}
 
 -- ---- truth values
 left-false : (a b : Bool) → (a || b) ≡ false → a ≡ false

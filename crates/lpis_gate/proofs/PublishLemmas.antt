@@ -24,13 +24,14 @@ use Rattle.lpis_lineage.specs.Lineage.{is_of, last_live, last_year, names}
 use Rattle.lpis_lineage.specs.Order.{IsAscending}
 use Rattle.lpis_lineage.proofs.Shared.{follows-from-clean, mono, counted-ended}
 use Rattle.lpis_checker.specs.SoundMap.{IsSoundMap}
-use Rattle.lpis_gate.specs.LineageLines.{is_left_exactly, is_marked, lineage_lines, publish_refusal_text, published_line}
+use Rattle.lpis_gate.specs.LineageLines.{is_left_exactly, lineage_lines, publish_refusal_text, published_line}
 use Rattle.lpis_commands.specs.declared.answer.Answer.{Answer as Answered}
 use Rattle.lpis_commands.specs.declared.failure.Failure.{Failure}
 use Rattle.lpis_commands.specs.declared.failure.Failure.TheVariants.{Store}
 use Rattle.lpis_gate.specs.PublishAnswer.{Ends, IsContinued, IsHistoryAnswer, IsPublishAnswer, IsPublished, Moves}
 use Rattle.lpis_gate.specs.Submission.{Submission}
 use Rattle.lpis_commands.specs.Status.{refused}
+use Rattle.lpis_gate.specs.private.Marked.{is_marked}
 use Rattle.lpis_gate.specs.private.PublishRuns.{IsAdded, IsStopped, Leaves}
 use Rattle.lpis_gate.specs.private.Saying.{IsSaid}
 use Rattle.lpis_gate.proofs.MarkedLemmas.{left-exactly}

@@ -38,10 +38,6 @@ abbrev pub fate_text : Option Kind → List ℕ
 fate_text None = []
 fate_text (Some k) = kind_text k
 
--- some row of the identifier is marked
-abbrev pub is_marked : List Row → List ℕ → Bool
-is_marked rows id = list_any (λ row. is_of id row && row.exact) rows
-
 -- some row of the identifier belongs to an exact split or to an exact merge
 abbrev pub is_left_exactly : (List ℕ → Option Kind) → List Row → List ℕ → Bool
 is_left_exactly kind_of rows id = list_any (λ row. is_of id row && is_in_exact kind_of rows row) rows

@@ -6,10 +6,11 @@ ghost use Rattle.std.specs.List.{flat_map};
 ghost use Rattle.lpis_covers.specs.Ids.{has_id};
 ghost use Rattle.lpis_lineage.specs.Changes.{kind_at};
 ghost use Rattle.lpis_register.specs.declared.fault.PublishFault.TheVariants.{Exact, Lineage};
-ghost use Rattle.lpis_gate.specs.LineageLines.{exact_fault_text, exact_text, fate_text, is_marked};
+ghost use Rattle.lpis_gate.specs.LineageLines.{exact_fault_text, exact_text, fate_text};
 ghost use Rattle.lpis_gate.specs.LineageLines.{kind_text, lineage_fault_text, lineage_line};
 ghost use Rattle.lpis_gate.specs.LineageLines.{lineage_location_text, publish_refusal_text};
 ghost use Rattle.lpis_gate.specs.LineageLines.{published_line};
+ghost use Rattle.lpis_gate.specs.private.Marked.{is_marked};
 
 use lpis_checker::ExactFault;
 use lpis_commands::{Answer, PrintFault};

@@ -14,11 +14,12 @@ ghost use Rattle.lpis_register.specs.Accepting.{IsAccepted, WasMadeFor};
 ghost use Rattle.lpis_commands.specs.CheckAnswer.{IsCheckAnswer};
 ghost use Rattle.lpis_commands.specs.Report.{report_text};
 ghost use Rattle.lpis_commands.specs.Status.{done};
-ghost use Rattle.lpis_gate.specs.LineageLines.{is_marked, lineage_line, published_line};
+ghost use Rattle.lpis_gate.specs.LineageLines.{lineage_line, published_line};
 ghost use Rattle.lpis_gate.specs.PublishAnswer.{Ends, Halts, IsHistoryAnswer, IsPublishAnswer};
 ghost use Rattle.lpis_gate.specs.PublishAnswer.{Moves};
 ghost use Rattle.lpis_gate.specs.Stored.{Stays};
 ghost use Rattle.lpis_gate.specs.Submission.{AreAllRead, Submission};
+ghost use Rattle.lpis_gate.specs.private.Marked.{is_marked};
 ghost use Rattle.lpis_gate.specs.private.PublishRuns.{IsAdded, Leaves};
 ghost use Rattle.lpis_gate.specs.private.Saying.{submission_of};
 
@@ -195,8 +196,8 @@ fn answer_to<S: Alter>(
 /// its year and the rows of a lineage table. It prints the report of a release that is a sound map,
 /// what became of each identifier that it drops, and its year; or the line of the first fault: of
 /// the tables, of the certificate's text, of the lineage table, of the certificate, of the
-/// register. Where rows are marked exact, the shapes that the register keeps and the certificate's
-/// blocks decide.
+/// register. The certificate has to have the blocks that the marked rows ask for, and no others:
+/// they are checked against the shapes that the register keeps of the last release.
 ///
 /// All inputs are read to their ends, in the order in which they stand here, before anything is
 /// decided, and what is printed is whole in memory before the register is written. Ok is the

@@ -1,12 +1,10 @@
 -- What a release that may follow needs, and why one is refused.
 use Rattle.std.proofs.Common.{◌≡◌, ◌<◌, ◌⊎◌, inl, inr, ℕ, List, [], Some, refl, sym, subst}
-use Rattle.lpis_register.proofs.Common.{Entry, PublishFault, Row, Shape, last_live}
+use Rattle.lpis_register.proofs.Common.{Entry, Row, Shape, last_live}
 use Rattle.lpis_cert.specs.declared.part.ExactBlock.{ExactBlock}
-use Rattle.lpis_checker.specs.declared.exact.ExactFault.{ExactFault}
-use Rattle.lpis_checker.specs.declared.exact.ExactFault.TheVariants as exact
 use Rattle.lpis_exact_lineage.specs.declared.asking.AskFault.{AskFault}
 use Rattle.lpis_exact_lineage.specs.declared.asking.AskFault.TheVariants as ask
-use Rattle.lpis_exact_lineage.specs.Asking.{IsUnkept, IsUnshown}
+use Rattle.lpis_exact_lineage.specs.Asking.{IsUnkept}
 use Rattle.lpis_lineage.specs.declared.fault.LineageFault.{LineageFault}
 use Rattle.lpis_lineage.specs.declared.fault.LineageFault.TheVariants as lineage
 use Rattle.lpis_lineage.specs.Changes.{IsChange}
@@ -18,7 +16,7 @@ use Rattle.lpis_register.specs.Accepting.{IsStep}
 use Rattle.lpis_register.specs.Faults.{IsRefused}
 use Rattle.lpis_register.specs.declared.accepting.Step.{Step}
 use Rattle.lpis_register.specs.declared.fault.PublishFault.TheVariants.{Memory, Lineage, Store}
-use Rattle.lpis_register.specs.Passing.{of_asking, of_blocks, of_lineage}
+use Rattle.lpis_register.specs.Passing.{of_asking, of_lineage}
 
 pub stepped : (h : List Entry) (live one two : List (List ℕ)) (rows : List Row) (step : Step) → one ≡ live → two ≡ live → step.live.items ≡ live → faults h one rows ≡ []
     → IsChange (last_live h) one rows step.change → (IsChange (last_live h) live rows step.change → IsFresh h live step.fresh.items → IsWriting h live step.change.dropped_ids step.fresh.items)
@@ -52,10 +50,6 @@ pub no_store_asking : (fault : AskFault) → of_asking fault ≡ Store → ⊥
 no_store_asking ask.Memory is = cc is
 no_store_asking (ask.NotKept id) is = cc is
 
-pub no_store_blocks : (fault : ExactFault) → of_blocks fault ≡ Store → ⊥
-no_store_blocks exact.Memory is = cc is
-no_store_blocks (exact.At code id) is = cc is
-
 module _ (h : List Entry) (kept : List Shape) (year : ℕ) (r : Contents) (blocks : List ExactBlock) (rows : List Row) (later : last_year h < year) where
   pub refused_lineage : (live : List (List ℕ)) (fault : LineageFault) → live ≡ parcel_ids r.parcels → (fault ≡ lineage.Memory) ⊎ (first (faults h live rows) ≡ Some fault)
       → IsRefused h kept year r blocks rows (of_lineage fault)
@@ -68,7 +62,3 @@ module _ (h : List Entry) (kept : List Shape) (year : ℕ) (r : Contents) (block
   pub refused_asking : (fault : AskFault) → ((id : List ℕ) → fault ≡ ask.NotKept id → IsUnkept h kept r rows id) → IsRefused h kept year r blocks rows (of_asking fault)
   refused_asking ask.Memory unkept = tt
   refused_asking (ask.NotKept id) unkept = (later, unkept id refl)
-
-  pub refused_blocks : (fault : ExactFault) → IsUnshown h kept r blocks rows fault → IsRefused h kept year r blocks rows (of_blocks fault)
-  refused_blocks exact.Memory unshown = tt
-  refused_blocks (exact.At code id) unshown = (later, (λ is. cc is), unshown)

@@ -2,6 +2,7 @@
 
 ghost use Rattle.std.specs.Prelude.{◌≡◌, ◌<◌, [], ℕ, List, IfOk, IfErr, OnOk};
 ghost use Rattle.lpis_cert.specs.declared.part.ExactBlock.{ExactBlock};
+ghost use Rattle.lpis_checker.specs.SoundMap.{IsSoundMap};
 ghost use Rattle.lpis_exact_lineage.specs.Asking.{IsShown};
 ghost use Rattle.lpis_lineage.specs.Changes.{IsChange};
 ghost use Rattle.lpis_lineage.specs.Faults.{faults};
@@ -113,10 +114,10 @@ fn check_groups(
     cert: &Cert,
 ) -> Result<(), PublishFault>
     requires ascending { IsAscending (shape_ids kept.now) }
-    ensures shown { (h : List Entry) (rows : List Row)
+    ensures shown { OnOk result ((h : List Entry) (rows : List Row)
         → faults h (parcel_ids release.now.parcels) rows ≡ []
         → IsChange (last_live h) (parcel_ids release.now.parcels) rows change.now
-        → OnOk result (IsShown h kept.now release.now cert.now.exact rows) }
+        → IsShown h kept.now release.now cert.now.exact rows) }
     ensures refused { (h : List Entry) (year : ℕ) (rows : List Row) → last_year h < year
         → faults h (parcel_ids release.now.parcels) rows ≡ []
         → IsChange (last_live h) (parcel_ids release.now.parcels) rows change.now
@@ -135,6 +136,33 @@ fn kept_of(alloc: Global, release: &Release) -> Result<Kept, AllocError>
     let shapes = shapes_in(alloc, release)?;
     let texts = texts_of(alloc, shapes.as_slice())?;
     Ok(Kept { shapes, texts })
+}
+
+/// Refuses a sound map that may not follow in a later year, or makes all that publishing it needs.
+fn accept_map(
+    alloc: Global,
+    history: &History,
+    shapes: &[(Id, Polygon)],
+    year: u16,
+    release: &Release,
+    rows: &[Row],
+    cert: &Cert,
+) -> Result<Accepted, PublishFault>
+    requires ascending { IsAscending (shape_ids shapes.now) }
+    requires sound { IsSoundMap release.now }
+    requires later { last_year history.now < year }
+    ensures tells { PublishTells history.now shapes.now year release.now cert.now.exact rows.now
+        result }
+    ensures made { IfOk result
+        (IsAccepted history.now shapes.now year release.now cert.now.exact rows.now) }
+    ensures no_store { IfErr result (λ fault. (fault ≡ Store) → ⊥) }
+{
+    sound_maps_have_such_shapes();
+    what_is_shown_has_exact_lineage();
+    let step = step_of(alloc, history, release, rows)?;
+    check_groups(alloc, &step.change, shapes, release, cert)?;
+    let kept = kept_of(alloc, release)?;
+    Ok(Accepted { year, step, kept })
 }
 
 /// Refuses a release that may not follow, or makes all that publishing it needs.
@@ -159,10 +187,5 @@ pub(crate) fn accept_release(
         return Err(PublishFault::Year { last });
     }
     let release = yes.release();
-    let step = step_of(alloc, history, release, rows)?;
-    check_groups(alloc, &step.change, shapes, release, cert)?;
-    let kept = kept_of(alloc, release)?;
-    sound_maps_have_such_shapes();
-    what_is_shown_has_exact_lineage();
-    Ok(Accepted { year, step, kept })
+    accept_map(alloc, history, shapes, year, release, rows, cert)
 }

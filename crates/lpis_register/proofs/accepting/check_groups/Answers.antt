@@ -1,6 +1,5 @@
-use Rattle.std.proofs.Common.{subst}
 use Rattle.std.proofs.lemmas.Result.{err_from_is_err_and}
-use Rattle.lpis_register.proofs.AcceptingLemmas.{no_store_asking, no_store_blocks, refused_asking, refused_blocks}
+use Rattle.lpis_register.proofs.AcceptingLemmas.{no_store_asking, refused_asking}
 use Rattle.lpis_register.proofs.accepting.check_groups.Goals as goal
 
 pub returns-in_err-parts-clause-refused : goal.returns-in_err-parts-clause-refused
