@@ -1,8 +1,8 @@
 //! Flats with which parts make up a whole.
 
+use lpis_cutter_residue::Net;
 use lpis_points::Triangle;
 use lpis_rings::{Polygon, edges};
-use lpis_cutter_residue::Net;
 use std::alloc::{AllocError, Global};
 
 /// Adds each edge of a polygon so many times.

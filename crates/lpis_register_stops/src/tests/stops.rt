@@ -26,8 +26,9 @@ fn files_of(alloc: Global, tables: &str) -> Result<Image, Fail> {
 }
 
 /// Fails unless a run can be stopped in each of its files, and each stop leaves what it may. There
-/// are more than 212 stops in all: 87 of the log and 8 of the database file in publishing, 55 and
-/// 25 with a short log, 23 and 14 in opening, and those in moving.
+/// are 527 stops in all: 119 of the log and 8 of the database file in publishing, 69 and 33 with a
+/// short log, 23 and 14 in making all tables, 87 and 8 in making that of marks, and 75 and 8 in
+/// moving from each older version.
 fn expect_stops(alloc: Global, run: &Run<'_>) -> Result<(), Fail> {
     for of_log in [true, false] {
         if stops(alloc, run, of_log)? == 0 {
