@@ -38,9 +38,9 @@ impl Outcome {
     /// What is printed, and no certificate.
     pub fn without_cert(printed: Answer) -> Outcome
         ensures { outputs_of result ≡ record {
-            cert = None;
-            line = printed.text.items;
-            status = printed.status
+          cert = None;
+          line = printed.text.items;
+          status = printed.status;
         } }
     {
         Outcome {
@@ -52,9 +52,9 @@ impl Outcome {
     /// A certificate, and what is printed.
     pub fn with_cert(alloc: Global, cert: &Cert, printed: Answer) -> Result<Outcome, AllocError>
         ensures { IfOk result (λ o. outputs_of o ≡ record {
-            cert = Some (cert_text cert.now);
-            line = printed.text.items;
-            status = printed.status
+          cert = Some (cert_text cert.now);
+          line = printed.text.items;
+          status = printed.status;
         }) }
     {
         let text = cert_text_of(alloc, cert)?;
@@ -80,11 +80,7 @@ impl Outcome {
 
     /// Writes the certificate's text to its file, if there is one, and then what is printed. Where
     /// there is no text, `cert_out` is not written to at all. Ok is the status.
-    pub fn write_to<E: Write, W: Write>(
-        &self,
-        cert_out: &mut E,
-        out: &mut W,
-    ) -> Result<u8, Failure>
+    pub fn write_to<E: Write, W: Write>(&self, cert_out: &mut E, out: &mut W) -> Result<u8, Failure>
         ensures answer { IfOk result (λ status. Writes (outputs_of self.now) status
             (held (E.contents cert_out.old) (W.contents out.old))
             (held (E.contents cert_out.new) (W.contents out.new))) }
