@@ -1,5 +1,5 @@
 -- What a run that asks for blocks has decided.
-use Rattle.std.proofs.Common.{◌≡◌, ◌×◌, ◌∙◌, ◌∷◌, [], inl, inr, refl, sym, ap, ap₂, subst, true, Bool, ℕ, List, None, Some, length, map}
+use Rattle.std.proofs.Common.{◌≡◌, ◌∙◌, ◌∷◌, [], inl, inr, refl, sym, ap, ap₂, subst, suc, true, Bool, ℕ, List, Option, None, Some, length, map}
 use Rattle.std.specs.List.{AllZip}
 use Rattle.lpis_gate.proofs.Common.{Answer, Cert, Contents}
 use Rattle.lpis_cert.specs.Contents.{cert_text}
@@ -19,6 +19,7 @@ use Rattle.lpis_register.specs.declared.fault.PublishFault.TheVariants.{Lineage,
 use Rattle.lpis_register_rows.specs.Shapes.{Shape}
 use Rattle.lpis_rings.specs.declared.polygon.Member.{Member}
 use Rattle.lpis_commands.specs.Outputs.{Outputs}
+use Rattle.lpis_commands.specs.Status.{done}
 use Rattle.lpis_gate.specs.ExactAnswer.{HasBlocks, IsBlocksAnswer, blocks_line, unfilled_line}
 use Rattle.lpis_gate.specs.LineageLines.{publish_refusal_text}
 use Rattle.lpis_gate.specs.private.ExactRuns.{IsBlocksOutcome, filled_with, refused_with}
@@ -51,6 +52,9 @@ outcome-unfilled h s r c rows gs xs id o asks one e =
     let is_one : has_id (map (λ (g : Group). g.id) gs) id ≡ true = rw (sym (ids-of gs xs names)) one in
     rw e (record { answer = inr (inr (inl (record { gs = gs; xs = xs; asks = asks; id = id; is_one = is_one; line = refl }))); no_text = λ _. refl })
 
+filled-line : (n m : ℕ) → n ≡ m → ◌≡◌ {A = Answer} (blocks_line n, done) (blocks_line m, done)
+filled-line n m e = ap (λ (k : ℕ). (blocks_line k, done)) e
+
 length-map : {A B : Type 0} (f : A → B) (xs : List A) → length (map f xs) ≡ length xs
 length-map f [] = refl
 length-map f (x ∷ xs) = ap suc (length-map f xs)
@@ -69,7 +73,7 @@ outcome-filled h s r c made rows gs xs o asks has e =
         made = made;
         has = record { pieces = has.pieces; parcels = has.parcels; pairs = has.pairs; blocks = blocks };
         written = refl;
-        line = ap (λ (n : ℕ). ◌×◌ (blocks_line n) 0) many;
+        line = filled-line (length made.exact) (length gs) many;
       })));
       no_text = λ no. absurd (no refl);
     })

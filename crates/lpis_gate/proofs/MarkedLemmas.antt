@@ -1,12 +1,14 @@
 -- Where the lineage has no fault, an identifier is left exactly where a row of it is marked.
-use Rattle.std.proofs.Common.{◌≡◌, ◌∙◌, ◌&&◌, ◌||◌, ◌<◌, arith, refl, sym, ap, ap₂, ℕ, zero, suc, List, [], ◌∷◌, Bool, true, false, not, Option, None, Some, All, filter, length, get_or}
+use Rattle.std.proofs.Common.{◌≡◌, ◌∙◌, ◌&&◌, ◌||◌, ◌<◌, ◌+◌, arith, refl, sym, ap, ap₂, ℕ, zero, suc, List, [], ◌∷◌, Bool, true, false, not, Option, None, Some, All, filter, length, get_or, take, cond}
 use Rattle.std.specs.List.{list_all, list_any}
 use Rattle.std.proofs.lemmas.List.Elements.{All-head, All-tail}
+use Rattle.std.proofs.lemmas.List.Folds.{list_any_more}
 use Rattle.lpis_lineage.specs.declared.kind.Kind.{Kind}
 use Rattle.lpis_lineage.specs.declared.row.Row.{Row}
 use Rattle.lpis_lineage.specs.ExactGroups.{is_exact_merge, is_exact_split, is_in_exact, is_into_merge, is_merge, is_outside, is_split}
 use Rattle.lpis_lineage.specs.Lineage.{is_of, is_this, names}
-use Rattle.lpis_lineage.proofs.Shared.{same-refl}
+use Rattle.lpis_covers.specs.Ids.{same_id}
+use Rattle.lpis_lineage.proofs.Shared.{or-cond, same-refl, same-sym}
 use Rattle.lpis_gate.specs.LineageLines.{is_left_exactly}
 use Rattle.lpis_gate.specs.private.Marked.{is_marked}
 
@@ -84,3 +86,26 @@ left-same kind_of rows id (x ∷ xs) all =
 
 pub left-exactly : (kind_of : List ℕ → Option Kind) (rows : List Row) (id : List ℕ) → list_any (is_outside kind_of rows) rows ≡ false → is_left_exactly kind_of rows id ≡ is_marked rows id
 left-exactly kind_of rows id none = left-same kind_of rows id rows (exact-at kind_of rows none)
+
+-- ---- the identifiers of marked rows, row by row
+pub marked-next : (id : List ℕ) (rows : List Row) (i : ℕ) (r : Row) → i < length rows → r ≡ get_or rows i r
+    → (is_marked (take i rows) id || (is_of id r && r.exact)) ≡ is_marked (take (i + 1) rows) id
+marked-next id rows i r lt is =
+    ap (λ (x : Row). is_marked (take i rows) id || (is_of id x && x.exact)) is ∙ sym (list_any_more (λ (x : Row). is_of id x && x.exact) rows i r lt)
+
+-- a marked row adds its identifier
+pub marked-more : (id : List ℕ) (r : Row) (was is : Bool) → r.exact ≡ true → is ≡ cond (same_id r.old id) true was → is ≡ (was || (is_of id r && r.exact))
+marked-more id r was is e h = h ∙ or-cond (same_id r.old id) was ∙ ap (λ (b : Bool). was || b) (same-sym r.old id ∙ with-true (is_of id r) r.exact e)
+  where
+    with-true : (a b : Bool) → b ≡ true → a ≡ (a && b)
+    with-true true b e = sym e
+    with-true false b e = refl
+
+-- one that is not marked adds none
+pub unmarked-more : (id : List ℕ) (r : Row) (was : Bool) → r.exact ≡ false → was ≡ (was || (is_of id r && r.exact))
+unmarked-more id r was e = by was (is_of id r) r.exact e
+  where
+    by : (a b m : Bool) → m ≡ false → a ≡ (a || (b && m))
+    by true b m e = refl
+    by false true m e = sym e
+    by false false m e = refl

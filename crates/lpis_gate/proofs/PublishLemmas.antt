@@ -1,6 +1,6 @@
 -- What a history answers to a release, and what is known of a release that was added to it.
 use Rattle.std.proofs.Common.{◌≡◌, ◌≢◌, ◌∙◌, ◌++◌, ◌∷◌, [], inl, inr, refl, sym, ap, ap₂, subst, ℕ, List, Bool, Option, Result, Ok, Err, IfOk, OnOk, OnErr, flat_map, true}
-use Rattle.lpis_gate.proofs.Common.{Appends, Contents, release_of, kind_at, Cert, IsGood, Answer, lineage_line, report_text, done}
+use Rattle.lpis_gate.proofs.Common.{Appends, Answer, Cert, Contents, kind_at, lineage_line}
 use Rattle.sqlite.specs.State.{HasCleanDisk, State}
 use Rattle.std.specs.List.{list_any}
 use Rattle.std.specs.Prelude.{IsTrue}
@@ -23,14 +23,16 @@ use Rattle.lpis_lineage.specs.Lawful.{IsAnswered}
 use Rattle.lpis_lineage.specs.Lineage.{is_of, last_live, last_year, names}
 use Rattle.lpis_lineage.specs.Order.{IsAscending}
 use Rattle.lpis_lineage.proofs.Shared.{follows-from-clean, mono, counted-ended}
+use Rattle.lpis_checker.specs.GoodCertificate.{IsGood}
 use Rattle.lpis_checker.specs.SoundMap.{IsSoundMap}
+use Rattle.lpis_commands.specs.Report.{report_text}
 use Rattle.lpis_gate.specs.LineageLines.{is_left_exactly, lineage_lines, publish_refusal_text, published_line}
 use Rattle.lpis_commands.specs.declared.answer.Answer.{Answer as Answered}
 use Rattle.lpis_commands.specs.declared.failure.Failure.{Failure}
 use Rattle.lpis_commands.specs.declared.failure.Failure.TheVariants.{Store}
 use Rattle.lpis_gate.specs.PublishAnswer.{Ends, IsContinued, IsHistoryAnswer, IsPublishAnswer, IsPublished, Moves}
 use Rattle.lpis_gate.specs.Submission.{Submission}
-use Rattle.lpis_commands.specs.Status.{refused}
+use Rattle.lpis_commands.specs.Status.{done, refused}
 use Rattle.lpis_gate.specs.private.Marked.{is_marked}
 use Rattle.lpis_gate.specs.private.PublishRuns.{IsAdded, IsStopped, Leaves}
 use Rattle.lpis_gate.specs.private.Saying.{IsSaid}

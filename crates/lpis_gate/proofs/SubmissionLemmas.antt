@@ -1,6 +1,7 @@
 -- The answer to a submission, by what it says or by its first fault.
-use Rattle.std.proofs.Common.{◌≡◌, ◌×◌, refl, sym, ap, subst, ℕ, List, Result, Ok, Err}
-use Rattle.lpis_gate.proofs.Common.{Answer, Cert, Contents, release_of}
+use Rattle.std.proofs.Common.{◌≡◌, refl, sym, ap, subst, ℕ, List, Result, Ok, Err}
+use Rattle.lpis_gate.proofs.Common.{Answer, Cert, Contents}
+use Rattle.lpis_parcels.specs.Release.{release_of}
 use Rattle.lpis_covers.specs.Faults.{rows_of}
 use Rattle.lpis_covers.specs.declared.fault.TableFault.{TableFault}
 use Rattle.lpis_cert.specs.Contents.{IsCertText}

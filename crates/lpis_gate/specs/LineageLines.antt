@@ -40,7 +40,8 @@ fate_text (Some k) = kind_text k
 
 -- some row of the identifier belongs to an exact split or to an exact merge
 abbrev pub is_left_exactly : (List ℕ → Option Kind) → List Row → List ℕ → Bool
-is_left_exactly kind_of rows id = list_any (λ row. is_of id row && is_in_exact kind_of rows row) rows
+is_left_exactly kind_of rows id =
+    list_any (λ row. is_of id row && is_in_exact kind_of rows row) rows
 
 -- the end of the line of an identifier that is left exactly
 abbrev pub exact_text : Bool → List ℕ
@@ -87,9 +88,11 @@ lineage_fault_text fault = lineage_code_text (lineage_codes.code_of fault)
     (lineage_location_text fault)
 
 -- of the blocks of a certificate: the code and the identifier; out of memory is no fault of theirs
-abbrev pub exact_fault_text : ExactFault → List ℕ
-exact_fault_text exact.Memory = []
-exact_fault_text (exact.At code id) = codes "exact " ++ exact_code_text code ++ codes " " ++ id
+abbrev pub exact_refusal_text : ExactFault → List ℕ
+exact_refusal_text exact.Memory = []
+exact_refusal_text (exact.At condition id) =
+    codes "refused " ++ publish_codes.code_text code.NotExact ++ codes " exact "
+    ++ exact_code_text condition ++ codes " " ++ id ++ codes "\n"
 
 -- of the register: the code, and the last year, the lineage's fault, the identifier whose shape is
 -- not kept, or the fault of the blocks; out of memory and a failed store are no refusals, and have
@@ -105,9 +108,7 @@ publish_refusal_text (publish.Lineage fault) =
 publish_refusal_text (publish.NotKept id) =
     codes "refused " ++ publish_codes.code_text code.BadLineage ++ codes " lineage 77 " ++ id
     ++ codes "\n"
-publish_refusal_text (publish.Exact fault) =
-    codes "refused " ++ publish_codes.code_text code.NotExact ++ codes " " ++ exact_fault_text fault
-    ++ codes "\n"
+publish_refusal_text (publish.Exact fault) = exact_refusal_text fault
 publish_refusal_text publish.Store = []
 publish_refusal_text publish.Unknown = codes "refused "
     ++ publish_codes.code_text code.UnknownIdentifier ++ codes "\n"

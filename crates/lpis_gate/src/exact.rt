@@ -183,10 +183,10 @@ fn answer_to<S: Alter>(
 /// found, or more than a certificate may have.
 ///
 /// The certificate is not checked, and the flats that are found are what `publish` will check. All
-/// inputs are read to their ends, in the order in which they stand here, before anything is decided,
-/// and everything is decided before anything is written. The certificate is written first, then the
-/// line; where there is no certificate, `cert_out` is not written to at all. Ok is the status:
-/// `DONE`, `REFUSED` or `UNREADABLE`. The register stays as it is.
+/// inputs are read to their ends, in the order in which they stand here, before anything is
+/// decided, and everything is decided before anything is written. The certificate is written first,
+/// then the line; where there is no certificate, `cert_out` is not written to at all. Ok is the
+/// status: `DONE`, `REFUSED` or `UNREADABLE`. The register stays as it is.
 pub fn run_exact<
     S: Alter,
     P: Read + Drop,

@@ -1,12 +1,13 @@
 //! The lines of a publication.
 
-ghost use Rattle.std.specs.Prelude.{◌≡◌, IfOk, List, OnOk, ℕ};
+ghost use Rattle.std.specs.Prelude.{◌≡◌, ◌||◌, ◌&&◌, IfOk, List, OnOk, ℕ};
 ghost use Rattle.std.specs.Io.KnownBytes.{Appends};
 ghost use Rattle.std.specs.List.{flat_map};
 ghost use Rattle.lpis_covers.specs.Ids.{has_id};
 ghost use Rattle.lpis_lineage.specs.Changes.{kind_at};
-ghost use Rattle.lpis_register.specs.declared.fault.PublishFault.TheVariants.{Exact, Lineage};
-ghost use Rattle.lpis_gate.specs.LineageLines.{exact_fault_text, exact_text, fate_text};
+ghost use Rattle.lpis_lineage.specs.Lineage.{is_of};
+ghost use Rattle.lpis_register.specs.declared.fault.PublishFault.TheVariants.{Lineage};
+ghost use Rattle.lpis_gate.specs.LineageLines.{exact_refusal_text, exact_text, fate_text};
 ghost use Rattle.lpis_gate.specs.LineageLines.{kind_text, lineage_fault_text, lineage_line};
 ghost use Rattle.lpis_gate.specs.LineageLines.{lineage_location_text, publish_refusal_text};
 ghost use Rattle.lpis_gate.specs.LineageLines.{published_line};
@@ -18,7 +19,7 @@ use lpis_covers::Id;
 use lpis_lineage::{Change, Kind, LineageFault, Row};
 use lpis_register::PublishFault;
 use std::alloc::{AllocError, Global};
-use std::collections::BTreeSet;
+use std::collections::HashSet;
 use std::io::Write;
 
 /// The word for what became of an identifier.
@@ -45,16 +46,25 @@ fn fate_word(kind: Option<Kind>) -> &'static str
     }
 }
 
+/// Adds the old identifier of a row that is marked.
+fn note_mark(marked: &mut HashSet<Id>, row: &Row) -> Result<(), AllocError>
+    ensures { OnOk result ((id : List ℕ) → has_id marked.new.keys id
+        ≡ (has_id marked.old.keys id || (is_of id row.now && row.now.exact))) }
+{
+    if row.exact {
+        let id = row.old.copy()?;
+        marked.insert(id)?;
+    }
+    Ok(())
+}
+
 /// The identifiers of which a row is marked.
-pub(crate) fn marked_ids(alloc: Global, rows: &[Row]) -> Result<BTreeSet<Id>, AllocError>
+pub(crate) fn marked_ids(alloc: Global, rows: &[Row]) -> Result<HashSet<Id>, AllocError>
     ensures { IfOk result (λ s. (id : List ℕ) → has_id s.keys id ≡ is_marked rows.now id) }
 {
-    let mut marked = BTreeSet::new(alloc);
+    let mut marked = HashSet::new(alloc);
     for row in rows {
-        if row.exact {
-            let id = row.old.copy()?;
-            marked.insert(id)?;
-        }
+        note_mark(&mut marked, row)?;
     }
     Ok(marked)
 }
@@ -69,7 +79,7 @@ fn exact_word(is_exact: bool) -> &'static str
 /// Writes the line of a dropped identifier, of which a row may be marked.
 fn print_dropped<W: Write>(
     change: &Change,
-    marked: &BTreeSet<Id>,
+    marked: &HashSet<Id>,
     id: &Id,
     out: &mut W,
 ) -> Result<(), PrintFault>
@@ -86,7 +96,7 @@ fn print_dropped<W: Write>(
 /// marked.
 pub(crate) fn print_lineage<W: Write>(
     change: &Change,
-    marked: &BTreeSet<Id>,
+    marked: &HashSet<Id>,
     out: &mut W,
 ) -> Result<(), PrintFault>
     ensures { OnOk result (Appends (W.contents out.old) (W.contents out.new)
@@ -152,26 +162,21 @@ fn print_lineage_refusal<W: Write>(fault: &LineageFault, out: &mut W) -> Result<
     Ok(())
 }
 
-/// Writes the fault of a certificate's blocks.
-fn print_exact_fault<W: Write>(fault: &ExactFault, out: &mut W) -> Result<(), PrintFault>
+/// Writes the line of a certificate whose blocks do not show what marked rows ask for. Out of
+/// memory is no refusal, and has no line.
+fn print_exact_refusal<W: Write>(fault: &ExactFault, out: &mut W) -> Result<(), PrintFault>
     ensures { OnOk result (Appends (W.contents out.old) (W.contents out.new)
-        (exact_fault_text fault.now)) }
+        (exact_refusal_text fault.now)) }
 {
     let ExactFault::At { code, id } = fault else {
         return Ok(());
     };
-    write!(out, "exact {} {}", code.as_str(), id.as_str())?;
-    Ok(())
-}
-
-/// Writes the line of a certificate whose blocks do not show what marked rows ask for.
-fn print_exact_refusal<W: Write>(fault: &ExactFault, out: &mut W) -> Result<(), PrintFault>
-    ensures { OnOk result (Appends (W.contents out.old) (W.contents out.new)
-        (publish_refusal_text (Exact fault.now))) }
-{
-    out.write_all(b"refused 85 ")?;
-    print_exact_fault(fault, out)?;
-    out.write_all(b"\n")?;
+    write!(
+        out,
+        "refused 85 exact {} {}\n",
+        code.as_str(),
+        id.as_str()
+    )?;
     Ok(())
 }
 

@@ -34,7 +34,7 @@ use lpis_pairs::Sweep;
 use lpis_register::{Accepted, PublishFault, Register};
 use sqlite::Alter;
 use std::alloc::{AllocError, Global};
-use std::collections::BTreeSet;
+use std::collections::HashSet;
 use std::io::{Read, Write};
 
 /// Writes the report of a release, the line of each identifier that it drops, and its year.
@@ -42,7 +42,7 @@ fn print_publication<W: Write>(
     yes: &Yes<'_>,
     year: u16,
     change: &Change,
-    marked: &BTreeSet<Id>,
+    marked: &HashSet<Id>,
     out: &mut W,
 ) -> Result<(), PrintFault>
     ensures { OnOk result (Appends (W.contents out.old) (W.contents out.new) (report_text yes.now
@@ -201,9 +201,9 @@ fn answer_to<S: Alter>(
 ///
 /// All inputs are read to their ends, in the order in which they stand here, before anything is
 /// decided, and what is printed is whole in memory before the register is written. Ok is the
-/// status: `DONE`, where the release was published and its parcels' shapes are kept, or `REFUSED` or
-/// `UNREADABLE`, where the register is as it was. So it is at each failure but that of the output:
-/// then the release may be published, as `trace` shows.
+/// status: `DONE`, where the release was published and its parcels' shapes are kept, or `REFUSED`
+/// or `UNREADABLE`, where the register is as it was. So it is at each failure but that of the
+/// output: then the release may be published, as `trace` shows.
 pub fn run_publish<
     S: Alter,
     P: Read + Drop,

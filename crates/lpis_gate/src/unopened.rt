@@ -10,8 +10,8 @@ use std::alloc::Global;
 use std::io::Write;
 
 /// Prints the line of a register that is refused, as `publish`, `exact` and `trace` do where theirs
-/// is not opened. Ok is the status `UNREADABLE`. Out of memory and a failed store have no line here:
-/// they are failures, and nothing is written.
+/// is not opened. Ok is the status `UNREADABLE`. Out of memory and a failed store have no line
+/// here: they are failures, and nothing is written.
 pub fn refuse_register<W: Write>(
     alloc: Global,
     fault: &PublishFault,

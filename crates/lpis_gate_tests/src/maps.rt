@@ -3,8 +3,8 @@
 use lpis_testing::{CLASSES, PARCELS_CERT_WRITTEN, SQUARE_CERT_WRITTEN};
 use std::test::Fail;
 
-/// A parcel of one piece of class G: the two identifiers, and where it begins and ends, in metres. It
-/// is a strip of the map, ten metres high.
+/// A parcel of one piece of class G: the two identifiers, and where it begins and ends, in metres.
+/// It is a strip of the map, ten metres high.
 #[derive(Clone, Copy)]
 pub struct Strip(&'static str, &'static str, u32, u32);
 

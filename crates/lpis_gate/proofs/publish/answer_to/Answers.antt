@@ -1,4 +1,4 @@
-use Rattle.std.proofs.Common.{◌∙◌, sym}
+use Rattle.std.proofs.Common.{◌∙◌, refl, sym}
 use Rattle.lpis_gate.proofs.Common.{IfOk-weaker}
 use Rattle.lpis_gate.proofs.PublishLemmas.{both-ok, published-of}
 use Rattle.lpis_gate.proofs.SubmissionLemmas.{answer-said, answer-unsaid, unsaid-status}
@@ -9,7 +9,7 @@ pub returns-in-Ok-clause-answer : goal.returns-in-Ok-clause-answer
 returns-in-Ok-clause-answer g c =
     let x = submission_of c.args.submission in
     let s = c.in-Ok.said in
-    IfOk-weaker c.answer_to_said.result _ _ (λ a told. answer-said _ x s.release s.cert s.rows.items (a.text.items, a.status) c.in-Ok.ensures told) c.answer_to_said.ensures.answer
+    IfOk-weaker c.answer_to_said.result _ _ (λ a told. answer-said _ x s.release s.cert s.rows.items (a.text.items, a.status) c.in-Ok.ensures.said told) c.answer_to_said.ensures.answer
 
 pub returns-in-Ok-clause-moves : goal.returns-in-Ok-clause-moves
 returns-in-Ok-clause-moves g c =
@@ -21,7 +21,16 @@ returns-in-Ok-clause-moves g c =
     (λ a known. (
       (λ is_done.
           let was = known.0 is_done in
-          published-of x c.args.year s.release s.cert s.rows.items old.history old.shapes.items new.history new.shapes.items c.in-Ok.ensures was.0 was.1 was.2),
+          published-of x c.args.year s.release s.cert s.rows.items old.history old.shapes.items new.history new.shapes.items c.in-Ok.ensures.said was.0 was.1 was.2),
       known.1,
     ))
     (both-ok c.answer_to_said.result _ _ c.answer_to_said.ensures.added c.answer_to_said.ensures.leaves.same)
+
+pub returns-in-Err-Refused-clause-answer : goal.returns-in-Err-Refused-clause-answer
+returns-in-Err-Refused-clause-answer g c =
+    answer-unsaid _ (submission_of c.args.submission) _ (rw c.in-Err-Refused.field-0-is at c.in-Err-Refused.ensures.unsaid)
+
+pub returns-in-Err-Refused-clause-moves : goal.returns-in-Err-Refused-clause-moves
+returns-in-Err-Refused-clause-moves g c =
+    let status = unsaid-status (submission_of c.args.submission) _ (rw c.in-Err-Refused.field-0-is at c.in-Err-Refused.ensures.unsaid) in
+    ((λ is_done. cc (sym status ∙ is_done)), (λ _. (refl, refl)))
