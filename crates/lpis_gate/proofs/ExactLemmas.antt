@@ -2,27 +2,24 @@
 use Rattle.std.proofs.Common.{◌≡◌, ◌∙◌, ◌∷◌, [], inl, inr, refl, sym, ap, ap₂, subst, suc, true, Bool, ℕ, List, Option, None, Some, length, map}
 use Rattle.std.specs.List.{AllZip}
 use Rattle.lpis_gate.proofs.Common.{Answer, Cert, Contents}
-use Rattle.lpis_cert.specs.Contents.{cert_text}
 use Rattle.lpis_covers.specs.Ids.{has_id}
 use Rattle.lpis_checker.specs.declared.exact.ExactPart.{ExactPart}
 use Rattle.lpis_checker.specs.ExactBlocks.{block_name, part_name}
-use Rattle.lpis_exact_lineage.specs.Asking.{AsksFor, IsUnkept, IsWanted}
+use Rattle.lpis_exact_lineage.specs.Asking.{AsksFor, IsWanted}
 use Rattle.lpis_exact_lineage.specs.Shapes.{shape_of, shapes_in}
 use Rattle.lpis_lineage.specs.declared.exact.Group.{Group}
-use Rattle.lpis_lineage.specs.declared.fault.LineageFault.{LineageFault}
 use Rattle.lpis_lineage.specs.declared.row.Entry.{Entry}
 use Rattle.lpis_lineage.specs.declared.row.Row.{Row}
 use Rattle.lpis_lineage.specs.ExactGroups.{named}
-use Rattle.lpis_lineage.specs.Faults.{faults, first}
-use Rattle.lpis_parcels.specs.Release.{parcel_ids}
-use Rattle.lpis_register.specs.declared.fault.PublishFault.TheVariants.{Lineage, NotKept}
 use Rattle.lpis_register_rows.specs.Shapes.{Shape}
 use Rattle.lpis_rings.specs.declared.polygon.Member.{Member}
 use Rattle.lpis_commands.specs.Outputs.{Outputs}
 use Rattle.lpis_commands.specs.Status.{done}
-use Rattle.lpis_gate.specs.ExactAnswer.{HasBlocks, IsBlocksAnswer, blocks_line, unfilled_line}
-use Rattle.lpis_gate.specs.LineageLines.{publish_refusal_text}
+use Rattle.lpis_gate.specs.ExactAnswer.{HasBlocks, IsExactAnswer, blocks_line, unfilled_line}
+use Rattle.lpis_gate.specs.Submission.{Submission}
 use Rattle.lpis_gate.specs.private.ExactRuns.{IsBlocksOutcome, filled_with, refused_with}
+use Rattle.lpis_gate.specs.private.Saying.{IsFaultAnswer, IsSaid}
+use Rattle.lpis_gate.proofs.SubmissionLemmas.{answer-said, answer-unsaid}
 
 -- ---- the names of parts
 -- parts have the names of their groups
@@ -78,10 +75,10 @@ outcome-filled h s r c made rows gs xs o asks has e =
       no_text = λ no. absurd (no refl);
     })
 
-pub outcome-unkept : (h : List Entry) (s : List Shape) (r : Contents) (c : Cert) (rows : List Row) (id : List ℕ) (o : Outputs) → IsUnkept h s r rows id
-    → o ≡ refused_with (publish_refusal_text (NotKept id)) → IsBlocksOutcome h s r c rows o
-outcome-unkept h s r c rows id o is e = rw e (record { answer = inr (inl (id, is, refl)); no_text = λ _. refl })
+-- ---- answers
+pub answered-said : (x : Submission) (r : Contents) (c : Cert) (rows : List Row) (h : List Entry) (s : List Shape) (o : Outputs) → IsSaid x r c rows → IsBlocksOutcome h s r c rows o
+    → IsExactAnswer x h s o
+answered-said x r c rows h s o said is = record { answer = answer-said _ x r c rows (o.line, o.status) said is.answer; no_text = is.no_text }
 
-pub outcome-refused : (h : List Entry) (s : List Shape) (r : Contents) (c : Cert) (rows : List Row) (fault : LineageFault) (o : Outputs)
-    → first (faults h (parcel_ids r.parcels) rows) ≡ Some fault → o ≡ refused_with (publish_refusal_text (Lineage fault)) → IsBlocksOutcome h s r c rows o
-outcome-refused h s r c rows fault o is e = rw e (record { answer = inl (fault, is, refl); no_text = λ _. refl })
+pub answered-unsaid : (x : Submission) (h : List Entry) (s : List Shape) (o : Outputs) → IsFaultAnswer x (o.line, o.status) → o.cert ≡ None → IsExactAnswer x h s o
+answered-unsaid x h s o is none = record { answer = answer-unsaid _ x (o.line, o.status) is; no_text = λ _. none }

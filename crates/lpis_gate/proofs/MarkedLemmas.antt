@@ -100,12 +100,3 @@ marked-more id r was is e h = h ∙ or-cond (same_id r.old id) was ∙ ap (λ (b
     with-true : (a b : Bool) → b ≡ true → a ≡ (a && b)
     with-true true b e = sym e
     with-true false b e = refl
-
--- one that is not marked adds none
-pub unmarked-more : (id : List ℕ) (r : Row) (was : Bool) → r.exact ≡ false → was ≡ (was || (is_of id r && r.exact))
-unmarked-more id r was e = by was (is_of id r) r.exact e
-  where
-    by : (a b m : Bool) → m ≡ false → a ≡ (a || (b && m))
-    by true b m e = refl
-    by false true m e = sym e
-    by false false m e = refl

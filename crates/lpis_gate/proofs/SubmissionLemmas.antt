@@ -10,7 +10,6 @@ use Rattle.lpis_cert.specs.declared.fault.CertCode.{CertCode}
 use Rattle.lpis_lineage.specs.declared.row.Row.{Row}
 use Rattle.lpis_lineage.specs.LineageTable.{lineage_table}
 use Rattle.lpis_commands.specs.CheckAnswer.{IsCertAnswer, IsTableAnswer}
-use Rattle.lpis_commands.specs.Status.{unreadable}
 use Rattle.lpis_commands.proofs.Shared.{answer-of-text}
 use Rattle.lpis_gate.specs.Submission.{IsSubmissionAnswer, Submission}
 use Rattle.lpis_gate.specs.private.Saying.{IsFaultAnswer, IsSaid, IsUnsaid}
@@ -37,20 +36,6 @@ pub answer-unsaid : (IsNext : Contents → Cert → List Row → Answer → Type
 answer-unsaid IsNext x a is =
     table-more _ _ (release_of x.checked.parcels x.checked.covers x.checked.classes) a
     (λ r. cert-more _ _ x.checked.cert (verdict x.checked.cert) a (λ c. table-more _ _ (rows_of lineage_table x.lineage) a (λ rows no. absurd no))) is
-
-table-status : {A : Type 0} (P : A → Answer → Type 0) (said : Result A TableFault) (a : Answer) → ((x : A) → P x a → a.1 ≡ unreadable) → IsTableAnswer P said a → a.1 ≡ unreadable
-table-status P (Ok x) a more is = more x is
-table-status P (Err fault) a more is = ap (λ (b : Answer). b.1) is
-
-cert-status : (P : Cert → Answer → Type 0) (text : List ℕ) (said : Result ℕ (CertCode × ℕ)) (a : Answer) → ((c : Cert) → P c a → a.1 ≡ unreadable) → IsCertAnswer P text said a
-    → a.1 ≡ unreadable
-cert-status P text (Ok lines) a more is = more is.0 is.2
-cert-status P text (Err fault) a more is = ap (λ (b : Answer). b.1) is
-
-pub unsaid-status : (x : Submission) (a : Answer) → IsFaultAnswer x a → a.1 ≡ unreadable
-unsaid-status x a is =
-    table-status _ (release_of x.checked.parcels x.checked.covers x.checked.classes) a
-    (λ r. cert-status _ x.checked.cert (verdict x.checked.cert) a (λ c. table-status _ (rows_of lineage_table x.lineage) a (λ rows no. absurd no))) is
 
 -- the fault is that of the tables, or of the text after them, or of the table after both
 pub unsaid-tables : (x : Submission) (u : Unsaid) → IsUnsaid (IsTableAnswer (λ _ _. ⊥) (release_of x.checked.parcels x.checked.covers x.checked.classes)) u → IsUnsaid (IsFaultAnswer x) u

@@ -78,7 +78,7 @@ fn blocks_that_are_asked_for_are_taken(rt: HostRuntime) -> Result<(), Fail> {
             "exact split A 2\n",
         ),
         Step::Fill(Map::Halves, "A,B\nA,C\n", SPLIT_BLOCK, ""),
-        Step::NoFill(Map::Halves, "A,B\n", "refused 81 lineage 75 C\n"),
+        Step::NoFill(Map::Halves, "", "refused 81 lineage 75 A\n"),
         Step::PublishFilled(2025, Map::Halves, SPLIT, "exact 1\n", SPLIT_REPORT),
         Step::PublishFilled(2026, Map::Merged, MERGE, "exact 1\n", MERGE_REPORT),
     ];

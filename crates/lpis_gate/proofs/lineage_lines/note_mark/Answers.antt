@@ -1,6 +1,5 @@
-use Rattle.lpis_lineage.specs.Lineage.{is_of}
-use Rattle.lpis_gate.proofs.MarkedLemmas.{marked-more, unmarked-more}
+use Rattle.lpis_gate.proofs.MarkedLemmas.{marked-more}
 use Rattle.lpis_gate.proofs.lineage_lines.note_mark.Goals as goal
 
-pub returns : goal.returns
-returns c = ?
+pub returns-in_ok-insert : goal.returns-in_ok-insert
+returns-in_ok-insert c = λ id. marked-more id c.args.row.now _ _ c.if-row.true (rw c.in_ok-id.ensures at (c.in_ok-insert.ensures.updates.0 id))

@@ -1,7 +1,6 @@
-use Rattle.std.proofs.Common.{◌∙◌, refl, sym}
 use Rattle.lpis_gate.proofs.Common.{IfOk-weaker}
 use Rattle.lpis_gate.proofs.PublishLemmas.{both-ok, published-of}
-use Rattle.lpis_gate.proofs.SubmissionLemmas.{answer-said, answer-unsaid, unsaid-status}
+use Rattle.lpis_gate.proofs.SubmissionLemmas.{answer-said, answer-unsaid}
 use Rattle.lpis_gate.specs.private.Saying.{submission_of}
 use Rattle.lpis_gate.proofs.publish.answer_to.Goals as goal
 
@@ -28,9 +27,4 @@ returns-in-Ok-clause-moves g c =
 
 pub returns-in-Err-Refused-clause-answer : goal.returns-in-Err-Refused-clause-answer
 returns-in-Err-Refused-clause-answer g c =
-    answer-unsaid _ (submission_of c.args.submission) _ (rw c.in-Err-Refused.field-0-is at c.in-Err-Refused.ensures.unsaid)
-
-pub returns-in-Err-Refused-clause-moves : goal.returns-in-Err-Refused-clause-moves
-returns-in-Err-Refused-clause-moves g c =
-    let status = unsaid-status (submission_of c.args.submission) _ (rw c.in-Err-Refused.field-0-is at c.in-Err-Refused.ensures.unsaid) in
-    ((λ is_done. cc (sym status ∙ is_done)), (λ _. (refl, refl)))
+    rw c.in-Err-Refused.answer-is (answer-unsaid _ (submission_of c.args.submission) _ (rw c.in-Err-Refused.field-0-is at c.in-Err-Refused.ensures.unsaid))

@@ -1,0 +1,18 @@
+use Rattle.std.proofs.Common.{refl}
+use Rattle.lpis_gate.proofs.Common.{IfOk-weaker}
+use Rattle.lpis_commands.specs.Outputs.{outputs_of}
+use Rattle.lpis_gate.specs.private.Saying.{submission_of}
+use Rattle.lpis_gate.proofs.ExactLemmas.{answered-said, answered-unsaid}
+use Rattle.lpis_gate.proofs.exact.answer_to.Goals as goal
+
+pub returns-in-Ok : goal.returns-in-Ok
+returns-in-Ok g c =
+    let x = submission_of c.args.submission in
+    let s = c.in-Ok.said in
+    let told = rw (c.current.ensures, c.current_shapes.ensures) at c.answer_to_said.ensures in
+    IfOk-weaker c.answer_to_said.result _ _ (λ o done. answered-said x s.release s.cert s.rows.items c.args.register.now.history c.args.register.now.shapes.items (outputs_of o) c.in-Ok.ensures.said done) told
+
+pub returns-in-Err-Refused : goal.returns-in-Err-Refused
+returns-in-Err-Refused g c =
+    rw (c.without_cert.ensures, c.in-Err-Refused.printed-is)
+    (answered-unsaid (submission_of c.args.submission) c.args.register.now.history c.args.register.now.shapes.items _ (rw c.in-Err-Refused.field-0-is at c.in-Err-Refused.ensures.unsaid) refl)
