@@ -1,5 +1,5 @@
 -- The part for which a certificate does not get blocks.
-use Rattle.std.proofs.Common.{◌≡◌, ◌∙◌, ◌<◌, ◌∷◌, ◌||◌, [], arith, refl, sym, ap, subst, zero, suc, true, false, Bool, ℕ, List, length, map, get_or}
+use Rattle.std.proofs.Common.{◌≡◌, ◌<◌, ◌∷◌, ◌||◌, [], arith, refl, ap, subst, zero, suc, true, false, Bool, ℕ, List, length, map, get_or}
 use Rattle.lpis_checker.specs.declared.exact.ExactPart.{ExactPart}
 use Rattle.lpis_covers.specs.Ids.{has_id, same_id}
 use Rattle.lpis_gate.specs.declared.blocks.BlockFault.{BlockFault}

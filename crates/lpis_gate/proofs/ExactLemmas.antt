@@ -1,5 +1,5 @@
 -- What a run that asks for blocks has decided.
-use Rattle.std.proofs.Common.{◌≡◌, ◌∙◌, ◌∷◌, [], inl, inr, refl, sym, ap, ap₂, subst, suc, true, Bool, ℕ, List, Option, None, Some, length, map}
+use Rattle.std.proofs.Common.{◌≡◌, ◌∙◌, ◌∷◌, [], inl, inr, refl, sym, ap, ap₂, suc, true, Bool, ℕ, List, Option, None, length, map}
 use Rattle.std.specs.List.{AllZip}
 use Rattle.lpis_gate.proofs.Common.{Answer, Cert, Contents}
 use Rattle.lpis_covers.specs.Ids.{has_id}

@@ -5,7 +5,7 @@ use Rattle.std.proofs.lemmas.List.Elements.{All-head, All-tail}
 use Rattle.std.proofs.lemmas.List.Folds.{list_any_more}
 use Rattle.lpis_lineage.specs.declared.kind.Kind.{Kind}
 use Rattle.lpis_lineage.specs.declared.row.Row.{Row}
-use Rattle.lpis_lineage.specs.ExactGroups.{is_exact_merge, is_exact_split, is_in_exact, is_into_merge, is_merge, is_outside, is_split}
+use Rattle.lpis_lineage.specs.ExactGroups.{is_exact_split, is_in_exact, is_into_merge, is_merge, is_outside, is_split}
 use Rattle.lpis_lineage.specs.Lineage.{is_of, is_this, names}
 use Rattle.lpis_covers.specs.Ids.{same_id}
 use Rattle.lpis_lineage.proofs.Shared.{or-cond, same-refl, same-sym}

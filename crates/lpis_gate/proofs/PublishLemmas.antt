@@ -1,17 +1,15 @@
 -- What a history answers to a release, and what is known of a release that was added to it.
-use Rattle.std.proofs.Common.{◌≡◌, ◌≢◌, ◌∙◌, ◌++◌, ◌∷◌, [], inl, inr, refl, sym, ap, ap₂, subst, ℕ, List, Bool, Option, Result, Ok, Err, IfOk, OnOk, OnErr, flat_map, true}
+use Rattle.std.proofs.Common.{◌≡◌, ◌∙◌, ◌++◌, ◌∷◌, [], inl, inr, refl, sym, ap, ap₂, subst, ℕ, List, Bool, Option, Result, Ok, Err, IfOk, OnOk, flat_map, true}
 use Rattle.lpis_gate.proofs.Common.{Appends, Answer, Cert, Contents, kind_at, lineage_line}
 use Rattle.sqlite.specs.State.{HasCleanDisk, State}
 use Rattle.std.specs.List.{list_any}
 use Rattle.std.specs.Prelude.{IsTrue}
 use Rattle.std.proofs.lemmas.Bool.{and_parts}
 use Rattle.std.proofs.lemmas.List.Concat.{flat_map-cons}
-use Rattle.lpis_cert.specs.declared.part.ExactBlock.{ExactBlock}
 use Rattle.lpis_covers.specs.Ids.{has_id}
 use Rattle.lpis_parcels.specs.Release.{parcel_ids}
-use Rattle.lpis_exact_lineage.specs.Asking.{kinds_from}
-use Rattle.lpis_exact_lineage.specs.ExactLineage.{IsExactLineage, ShapesTurnOnce}
-use Rattle.lpis_exact_lineage.specs.Shapes.{shape_of, shapes_in}
+use Rattle.lpis_exact_lineage.specs.ExactLineage.{ShapesTurnOnce}
+use Rattle.lpis_exact_lineage.specs.Shapes.{shape_of}
 use Rattle.lpis_lineage.specs.declared.kind.Kind.{Kind}
 use Rattle.lpis_lineage.specs.declared.row.Entry.{Entry}
 use Rattle.lpis_lineage.specs.declared.row.Row.{Row}
@@ -20,7 +18,7 @@ use Rattle.lpis_lineage.specs.Descendants.{leads}
 use Rattle.lpis_lineage.specs.Faults.{faults}
 use Rattle.lpis_lineage.specs.Kinds.{kind}
 use Rattle.lpis_lineage.specs.Lawful.{IsAnswered}
-use Rattle.lpis_lineage.specs.Lineage.{is_of, last_live, last_year, names}
+use Rattle.lpis_lineage.specs.Lineage.{is_of, last_live, names}
 use Rattle.lpis_lineage.specs.Order.{IsAscending}
 use Rattle.lpis_lineage.proofs.Shared.{follows-from-clean, mono, counted-ended}
 use Rattle.lpis_checker.specs.GoodCertificate.{IsGood}
@@ -40,7 +38,7 @@ use Rattle.lpis_gate.proofs.MarkedLemmas.{left-exactly}
 use Rattle.lpis_register.specs.Accepting.{IsAccepted}
 use Rattle.lpis_register.specs.Faults.{IsRefused}
 use Rattle.lpis_register.specs.Histories.{HoldsRegister}
-use Rattle.lpis_register.specs.Publishing.{Follows, Publishes}
+use Rattle.lpis_register.specs.Publishing.{Follows}
 use Rattle.lpis_register.specs.declared.accepting.Accepted.{Accepted}
 use Rattle.lpis_register.specs.declared.fault.PublishFault.{PublishFault}
 use Rattle.lpis_register.specs.declared.fault.PublishFault.TheVariants as publish

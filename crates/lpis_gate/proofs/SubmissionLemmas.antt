@@ -1,5 +1,5 @@
 -- The answer to a submission, by what it says or by its first fault.
-use Rattle.std.proofs.Common.{◌≡◌, refl, sym, ap, subst, ℕ, List, Result, Ok, Err}
+use Rattle.std.proofs.Common.{◌≡◌, ℕ, List, Result, Ok, Err}
 use Rattle.lpis_gate.proofs.Common.{Answer, Cert, Contents}
 use Rattle.lpis_parcels.specs.Release.{release_of}
 use Rattle.lpis_covers.specs.Faults.{rows_of}

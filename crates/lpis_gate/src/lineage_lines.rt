@@ -171,12 +171,7 @@ fn print_exact_refusal<W: Write>(fault: &ExactFault, out: &mut W) -> Result<(), 
     let ExactFault::At { code, id } = fault else {
         return Ok(());
     };
-    write!(
-        out,
-        "refused 85 exact {} {}\n",
-        code.as_str(),
-        id.as_str()
-    )?;
+    write!(out, "refused 85 exact {} {}\n", code.as_str(), id.as_str())?;
     Ok(())
 }
 

@@ -9,8 +9,10 @@ pub returns-in-Ok : goal.returns-in-Ok
 returns-in-Ok g c =
     let x = submission_of c.args.submission in
     let s = c.in-Ok.said in
+    let now = c.args.register.now in
     let told = rw (c.current.ensures, c.current_shapes.ensures) at c.answer_to_said.ensures in
-    IfOk-weaker c.answer_to_said.result _ _ (λ o done. answered-said x s.release s.cert s.rows.items c.args.register.now.history c.args.register.now.shapes.items (outputs_of o) c.in-Ok.ensures.said done) told
+    IfOk-weaker c.answer_to_said.result _ _
+    (λ o done. answered-said x s.release s.cert s.rows.items now.history now.shapes.items (outputs_of o) c.in-Ok.ensures.said done) told
 
 pub returns-in-Err-Refused : goal.returns-in-Err-Refused
 returns-in-Err-Refused g c =

@@ -1,5 +1,3 @@
-use Rattle.std.proofs.Common.{List}
-use Rattle.lpis_checker.specs.declared.exact.ExactPart.{ExactPart}
 use Rattle.lpis_exact_lineage.specs.Asking.{AsksFor}
 use Rattle.lpis_gate.proofs.exact.answer_to_change.Goals as goal
 
