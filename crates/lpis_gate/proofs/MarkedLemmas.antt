@@ -1,5 +1,6 @@
 -- Where the lineage has no fault, an identifier is left exactly where a row of it is marked.
-use Rattle.std.proofs.Common.{◌≡◌, ◌∙◌, ◌&&◌, ◌||◌, ◌<◌, ◌+◌, arith, refl, sym, ap, ap₂, ℕ, zero, suc, List, [], ◌∷◌, Bool, true, false, not, Option, None, Some, All, filter, length, get_or, take, cond}
+use Rattle.std.proofs.Common.{◌≡◌, ◌∙◌, ◌&&◌, ◌||◌, ◌<◌, ◌+◌}
+use Rattle.std.proofs.Common.{arith, refl, sym, ap, ap₂, ℕ, zero, suc, List, [], ◌∷◌, Bool, true, false, not, Option, None, Some, All, filter, length, get_or, take, cond}
 use Rattle.std.specs.List.{list_all, list_any}
 use Rattle.std.proofs.lemmas.List.Elements.{All-head, All-tail}
 use Rattle.std.proofs.lemmas.List.Folds.{list_any_more}
