@@ -85,25 +85,6 @@ fn blocks_that_are_asked_for_are_taken(rt: HostRuntime) -> Result<(), Fail> {
     take_anew(&rt, steps.as_slice())
 }
 
-#[test]
-fn shapes_of_the_last_release_are_needed(rt: HostRuntime) -> Result<(), Fail> {
-    let steps = [
-        Step::Publish(2024, Map::Whole, "", WHOLE_REPORT),
-        Step::Forget,
-        Step::RefuseWith(
-            2025,
-            Map::Halves,
-            SPLIT,
-            SPLIT_BLOCK,
-            "refused 81 lineage 77 A\n",
-        ),
-        // before its blocks are looked at
-        Step::Refuse(2025, Map::Halves, SPLIT, "refused 81 lineage 77 A\n"),
-        Step::NoFill(Map::Halves, SPLIT, "refused 81 lineage 77 A\n"),
-    ];
-    take_anew(&rt, steps.as_slice())
-}
-
 /// What is printed of three parcels.
 static THREE_REPORT: &str = "\
     parcels 3 pieces 3\n\

@@ -269,8 +269,6 @@ pub enum Step {
     History(&'static str),
     /// The shapes that are kept.
     Shapes(&'static str),
-    /// The shapes are let go: a register that comes from version 2 has none.
-    Forget,
 }
 
 /// Takes a step that publishes, or asks for blocks.
@@ -314,10 +312,6 @@ fn take(rt: &HostRuntime, office: &mut Office, step: Step) -> Result<(), Fail> {
         Step::NoTrace(word) => expect_trace(rt, office, word, "refused 83\n", 1),
         Step::History(text) => expect_history(rt, office, text),
         Step::Shapes(text) => expect_shapes(rt, office, text),
-        Step::Forget => {
-            office.shapes.clear();
-            Ok(())
-        }
         step => hand_in(rt, office, step),
     }
 }
