@@ -179,6 +179,16 @@ fn a_register_is_refused(rt: HostRuntime) -> Result<(), Fail> {
     Ok(())
 }
 
+/// What `exact` answers where `publish` answers with this line: it looks neither at the year nor at
+/// what the certificate shows.
+fn line_without_check<'a>(line: &'a str, status: u8) -> &'a str {
+    if status == UNREADABLE {
+        line
+    } else {
+        "refused 81 lineage 70 row 1\n"
+    }
+}
+
 /// Hands in wrong inputs for the halves, after the square, which are put right one by one.
 fn expect_order(rt: &HostRuntime, office: &mut Office) -> Result<(), Fail> {
     take_all(rt, office, WITH_SQUARE.as_slice())?;
@@ -254,13 +264,7 @@ fn expect_order(rt: &HostRuntime, office: &mut Office) -> Result<(), Fail> {
             lineage,
         };
         expect_refusal(rt, office, year, inputs, line, status)?;
-        // `exact` looks neither at the year nor at what the certificate shows
-        let unchecked = if status == UNREADABLE {
-            line
-        } else {
-            "refused 81 lineage 70 row 1\n"
-        };
-        let cert = filled(rt, office, inputs, unchecked, status)?;
+        let cert = filled(rt, office, inputs, line_without_check(line, status), status)?;
         hold(cert.is_empty(), "no certificate")?;
     }
     expect_history(rt, office, "2024: A\n")
