@@ -2,7 +2,7 @@
 use Rattle.std.proofs.Common.{◌≡◌, ℕ, suc, ◌+◌, ◌-◌, ◌<◌, Bool, true, false, List, [], ◌∷◌, ◌++◌, length, map, Some, None, Ok, refl, ap, ◌∙◌, arith}
 use Rattle.lpis_cert.proofs.Common.{AllByRecursion, Triangle, Stage, CertFault, Kind, One, Version, Corners, Separator, FlatLine, EndLine, spelling, CornersFit}
 use Rattle.lpis_cert.proofs.Common.{SeparatorFits, values}
-use Rattle.lpis_cert.proofs.Common.{step, InPairs, Declared, LineFits, Placed, LineFault, ReadsLines, FaultFrom, corner_line, corner_numbers, all_corners}
+use Rattle.lpis_cert.proofs.Common.{line_step, InPairs, Declared, LineFits, Placed, LineFault, ReadsLines, FaultFrom, corner_line, corner_numbers, triangle_corners}
 use Rattle.lpis_cert.proofs.Common.{separator_of}
 use Rattle.std.proofs.lemmas.List.{map_push}
 use Rattle.lpis_cert.specs.declared.part.PairLine.{PairLine}
@@ -78,8 +78,8 @@ end_untaken v p h =
 
 corner_step : (v : Version) (flat : Bool) (n : ℕ) (b : Stage) (f : ℕ) (d : Declared) (c : Corners) → CornersFit v c
     → LineFits v (corner_line flat c)
-    × (step v (wanting flat (suc n) b f d) (spelling v (corner_line flat c)) ≡ Ok (wanting flat n b f d))
-unfolding step
+    × (line_step v (wanting flat (suc n) b f d) (spelling v (corner_line flat c)) ≡ Ok (wanting flat n b f d))
+unfolding line_step
 corner_step v true n b f d c fits = (fits, rw (read_again v (One kind.Flat) (FlatLine c) fits refl) refl)
 corner_step v false n b f d c fits = grind (arith, read_again)
 
@@ -107,11 +107,11 @@ corner_fault {v} {rest = rest} {m} x flat cs count i lt len follows fault b f d 
     (fault_here v x m (wanting flat left b f d) (One (corner_kind flat)) rest (corner_wants flat (count - (i + 1)) b f d) fault)
 
 pub corner_more : {v : Version} {text : List ℕ} {n : ℕ} {rest : List ℕ} {m : ℕ} {after : List ℕ} {k : ℕ} (flat : Bool) (ts : List Triangle) (t : Triangle)
-    → ReadsLines v text n (map (corner_line flat) (all_corners ts)) rest m → ReadsLines v rest m (corner_line flat (corner_numbers t) ∷ []) after k
-    → ReadsLines v text n (map (corner_line flat) (all_corners (ts ++ t ∷ []))) after k
+    → ReadsLines v text n (map (corner_line flat) (triangle_corners ts)) rest m → ReadsLines v rest m (corner_line flat (corner_numbers t) ∷ []) after k
+    → ReadsLines v text n (map (corner_line flat) (triangle_corners (ts ++ t ∷ []))) after k
 corner_more flat ts t f g =
-    let e : map (corner_line flat) (all_corners (ts ++ t ∷ [])) ≡ map (corner_line flat) (all_corners ts) ++ (corner_line flat (corner_numbers t) ∷ []) =
-    ap (map (corner_line flat)) (map_push corner_numbers ts t) ∙ map_push (corner_line flat) (all_corners ts) (corner_numbers t) in
+    let e : map (corner_line flat) (triangle_corners (ts ++ t ∷ [])) ≡ map (corner_line flat) (triangle_corners ts) ++ (corner_line flat (corner_numbers t) ∷ []) =
+    ap (map (corner_line flat)) (map_push corner_numbers ts t) ∙ map_push (corner_line flat) (triangle_corners ts) (corner_numbers t) in
     rw e (follows_both f g)
 
 pub separators_fit : (ps : List PairLine) → AllByRecursion SeparatorFits (map separator_of ps)
@@ -128,7 +128,7 @@ pair_more ts t f g =
 
 pub pairs_go : (v : Version) (ps : List Separator) (n k : ℕ) → AllByRecursion SeparatorFits ps → n ≡ length ps + k
     → Goes v (InPairs n) (map separator_line ps) (InPairs k)
-unfolding step
+unfolding line_step
 pairs_go v [] n k fits e = let is : n ≡ k = omega arith in ap InPairs is
 pairs_go v (p ∷ ps) n k fits e =
     let is : n ≡ suc (length ps + k) = omega arith in

@@ -1,8 +1,8 @@
 -- Certificates of one content are equal.
 use Rattle.std.proofs.Common.{◌≡◌, ℕ, ◌+◌, ◌≤◌, Bool, true, List, [], ◌∷◌, length, map, refl, ap, ap₂, subst, sum_by}
 use Rattle.lpis_cert.proofs.Common.{Triangle, is_id, PiecePart, ParcelPart, ExactBlock, Cert, most_triangles, most_flats, greatest_count, Corners, PieceBlock, ParcelBlock}
-use Rattle.lpis_cert.proofs.Common.{Separator, Content, corner_numbers}
-use Rattle.lpis_cert.proofs.Common.{all_corners, piece_of, parcel_of, exact_of, separator_of, content_of}
+use Rattle.lpis_cert.proofs.Common.{Separator, CertContent, corner_numbers}
+use Rattle.lpis_cert.proofs.Common.{triangle_corners, block_of_piece, block_of_parcel, exact_of, separator_of, content_of}
 use Rattle.lpis_cert.specs.CertText.{ExactBlock as FlatsBlock}
 use Rattle.std.proofs.Math.Bridge.{le_prop}
 use mathlib.Core.Bool.{Bool-set}
@@ -21,7 +21,7 @@ same_four {A} {B} {C} {D} e f g h = cc
 -- contents of the same lists are equal
 pub same_content : {ps ps' : List PieceBlock} {qs qs' : List ParcelBlock} {es es' : List FlatsBlock} {rs rs' : List Separator} → ps ≡ ps' → qs ≡ qs' → es ≡ es'
     → rs ≡ rs'
-    → ◌≡◌ {A = Content} (record { pieces = ps; parcels = qs; exact = es; pairs = rs }) (record { pieces = ps'; parcels = qs'; exact = es'; pairs = rs' })
+    → ◌≡◌ {A = CertContent} (record { pieces = ps; parcels = qs; exact = es; pairs = rs }) (record { pieces = ps'; parcels = qs'; exact = es'; pairs = rs' })
 same_content e f g h = cc
 
 -- what is made of a value and of a proof, where all proofs are equal
@@ -46,17 +46,17 @@ maps_apart f (x ∷ xs) (y ∷ ys) one e =
     ap₂ (λ (z : _) (zs : List _). z ∷ zs) (one x y s.0) (maps_apart f xs ys one s.1)
 maps_apart f _ _ one e = absurd (cc e)
 
-triangles_eq : (ts us : List Triangle) → all_corners ts ≡ all_corners us → ts ≡ us
+triangles_eq : (ts us : List Triangle) → triangle_corners ts ≡ triangle_corners us → ts ≡ us
 triangles_eq ts us e = maps_apart corner_numbers ts us triangle_eq e
 
-piece_eq : (p q : PiecePart) → piece_of p ≡ piece_of q → p ≡ q
+piece_eq : (p q : PiecePart) → block_of_piece p ≡ block_of_piece q → p ≡ q
 piece_eq p q e =
     let same = same_three (ap (λ (b : PieceBlock). b.id) e) (triangles_eq p.triangles q.triangles (ap (λ (b : PieceBlock). b.triangles) e))
     (triangles_eq p.flats q.flats (ap (λ (b : PieceBlock). b.flats) e)) in
     made_same (λ (x : List ℕ × List Triangle × List Triangle). is_id x.0 ≡ true) (λ x h. record { id = x.0; triangles = x.1; flats = x.2; named = h })
     (λ x. Bool-set _ _) same p.named q.named
 
-parcel_eq : (p q : ParcelPart) → parcel_of p ≡ parcel_of q → p ≡ q
+parcel_eq : (p q : ParcelPart) → block_of_parcel p ≡ block_of_parcel q → p ≡ q
 parcel_eq p q e =
     let same = ap₂ (λ (i : List ℕ) (ts : List Triangle). (i, ts)) (ap (λ (b : ParcelBlock). b.id) e)
     (triangles_eq p.flats q.flats (ap (λ (b : ParcelBlock). b.flats) e)) in
@@ -88,10 +88,10 @@ AreFew x =
 -- a certificate is its content
 pub cert_eq : (c d : Cert) → content_of c ≡ content_of d → c ≡ d
 cert_eq c d e =
-    let pieces = maps_apart piece_of c.pieces d.pieces piece_eq (ap (λ (x : Content). x.pieces) e) in
-    let parcels = maps_apart parcel_of c.parcels d.parcels parcel_eq (ap (λ (x : Content). x.parcels) e) in
-    let exact = maps_apart exact_of c.exact d.exact exact_eq (ap (λ (x : Content). x.exact) e) in
-    let pairs = maps_apart separator_of c.pairs d.pairs pair_eq (ap (λ (x : Content). x.pairs) e) in
+    let pieces = maps_apart block_of_piece c.pieces d.pieces piece_eq (ap (λ (x : CertContent). x.pieces) e) in
+    let parcels = maps_apart block_of_parcel c.parcels d.parcels parcel_eq (ap (λ (x : CertContent). x.parcels) e) in
+    let exact = maps_apart exact_of c.exact d.exact exact_eq (ap (λ (x : CertContent). x.exact) e) in
+    let pairs = maps_apart separator_of c.pairs d.pairs pair_eq (ap (λ (x : CertContent). x.pairs) e) in
     made_same AreFew (λ x h. record { pieces = x.0; parcels = x.1; exact = x.2; pairs = x.3; triangles_few = h.0; flats_few = h.1; pairs_few = h.2 })
     (λ x g h. same_three (le_prop g.0 h.0) (le_prop g.1 h.1) (le_prop g.2 h.2)) (same_four pieces parcels exact pairs)
     (c.triangles_few, c.flats_few, c.pairs_few) (d.triangles_few, d.flats_few, d.pairs_few)

@@ -1,16 +1,17 @@
 -- The names that most proofs of this crate cite, passed on from one place. Declares nothing.
-pub use Rattle.lpis_cert.specs.CertText.{Content, Corners, EndLine, ExactLine, FlatLine, Line, PairLine, PairsLine, ParcelBlock, ParcelLine, PieceBlock, PieceLine, Separator}
+pub use Rattle.lpis_cert.specs.CertText.{CertContent, Corners, EndLine, ExactLine, FlatLine, CertLine, PairLine, PairsLine, ParcelBlock, ParcelLine, PieceBlock, PieceLine, Separator}
 pub use Rattle.lpis_cert.specs.CertText.{TriangleLine, end_lines, exact_lines, parcel_lines, piece_lines}
-unfoldable pub use Rattle.lpis_cert.specs.CertText.{lines_of, spelling, text_of, text_of_lines, words_of}
-pub use Rattle.lpis_cert.specs.Contents.{IsCertText, all_corners, content_of, corner_numbers, exact_of, parcel_of, piece_of, separator_of}
-pub use Rattle.lpis_cert.specs.Faults.{AtEnd, Declared, InBody, InPairs, State, first_state, grow, grow_flats, is_lf, lines, verdict}
-unfoldable pub use Rattle.lpis_cert.specs.Faults.{at_last, outcome, outcome_of, step}
+unfoldable pub use Rattle.lpis_cert.specs.CertText.{content_lines, spelling, content_text, text_of_lines, words_of}
+pub use Rattle.lpis_cert.specs.Contents.{IsCertText, triangle_corners, content_of, corner_numbers, exact_of, block_of_parcel, block_of_piece, separator_of}
+pub use Rattle.lpis_cert.specs.Faults.{AtEnd, Declared, InBody, InPairs, LineState, first_state, grow, grow_flats, is_lf, lines, verdict}
+unfoldable pub use Rattle.lpis_cert.specs.Faults.{at_last, lines_outcome, outcome_of, line_step}
 pub use Rattle.lpis_cert.specs.Fitting.{CoordinateFits, CornersFit, LineFits, SeparatorFits}
-pub use Rattle.lpis_cert.specs.Limits.{greatest_count, most_flats, most_triangles, number_margin}
+pub use Rattle.lpis_cert.specs.Limits.{greatest_count, most_flats, number_margin}
+pub use Rattle.lpis_points.specs.Triangles.{most_triangles}
 pub use Rattle.lpis_cert.specs.LineKinds.{line_kind}
 pub use Rattle.lpis_cert.specs.Reading.{can_stand, digits_on, is_empty, is_gap, words}
-unfoldable pub use Rattle.lpis_cert.specs.Reading.{number, read_line, values}
-pub use Rattle.lpis_cert.specs.Versions.{first_line, named, written}
+unfoldable pub use Rattle.lpis_cert.specs.Reading.{cert_number, read_line, values}
+pub use Rattle.lpis_cert.specs.Versions.{first_line, version_named, written}
 pub use Rattle.lpis_cert.specs.declared.cert.Cert.{Cert}
 pub use Rattle.lpis_cert.specs.declared.fault.CertCode.{CertCode}
 pub use Rattle.lpis_cert.specs.declared.fault.CertFault.{CertFault}

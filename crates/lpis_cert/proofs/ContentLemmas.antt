@@ -1,7 +1,7 @@
 -- The certificate of a content.
 use Rattle.std.proofs.Common.{◌≡◌, List, [], ◌∷◌, map, refl, sym, ap, ap₂, subst, arith}
-use Rattle.lpis_cert.proofs.Common.{AllByRecursion, Triangle, PiecePart, ParcelPart, ExactBlock, Cert, Version, Corners, Separator, PieceBlock, ParcelBlock, Content}
-use Rattle.lpis_cert.proofs.Common.{corner_numbers, all_corners, piece_of, parcel_of, exact_of, separator_of, content_of, length-map}
+use Rattle.lpis_cert.proofs.Common.{AllByRecursion, Triangle, PiecePart, ParcelPart, ExactBlock, Cert, Version, Corners, Separator, PieceBlock, ParcelBlock, CertContent}
+use Rattle.lpis_cert.proofs.Common.{corner_numbers, triangle_corners, block_of_piece, block_of_parcel, exact_of, separator_of, content_of, length-map}
 use Rattle.lpis_cert.proofs.Common.{CornersFit, SeparatorFits, PieceFits, ParcelFits, ExactFits}
 use Rattle.lpis_cert.specs.CertText.{ExactBlock as FlatsBlock}
 use Rattle.lpis_cert.specs.private.Fits.{Fits}
@@ -26,16 +26,16 @@ each_of Fit read one (y ∷ ys) fits =
     let r = each_of Fit read one ys fits.1 in
     (x.0 ∷ r.0, ap₂ (λ (z : _) (zs : List _). z ∷ zs) x.1 r.1)
 
-triangles_of : (v : Version) (cs : List Corners) → AllByRecursion (CornersFit v) cs → (ts : List Triangle) × (all_corners ts ≡ cs)
+triangles_of : (v : Version) (cs : List Corners) → AllByRecursion (CornersFit v) cs → (ts : List Triangle) × (triangle_corners ts ≡ cs)
 triangles_of v cs fits = each_of (CornersFit v) corner_numbers (λ c f. (triangle_of v c f, refl)) cs fits
 
-a_piece_of : (v : Version) (p : PieceBlock) → PieceFits v p → (q : PiecePart) × (piece_of q ≡ p)
+a_piece_of : (v : Version) (p : PieceBlock) → PieceFits v p → (q : PiecePart) × (block_of_piece q ≡ p)
 a_piece_of v p fits =
     let t = triangles_of v p.triangles fits.triangles in
     let f = triangles_of v p.flats fits.flats in
     (record { id = p.id; triangles = t.0; flats = f.0; named = fits.id }, ap₂ (λ (x y : List Corners). record { id = p.id; triangles = x; flats = y }) t.1 f.1)
 
-a_parcel_of : (v : Version) (p : ParcelBlock) → ParcelFits v p → (q : ParcelPart) × (parcel_of q ≡ p)
+a_parcel_of : (v : Version) (p : ParcelBlock) → ParcelFits v p → (q : ParcelPart) × (block_of_parcel q ≡ p)
 a_parcel_of v p fits =
     let f = triangles_of v p.flats fits.flats in
     (record { id = p.id; flats = f.0; named = fits.id }, ap (λ (x : List Corners). record { id = p.id; flats = x }) f.1)
@@ -49,10 +49,10 @@ a_pair_of : (p : Separator) → SeparatorFits p → (q : part.PairLine) × (sepa
 a_pair_of p fits = (record { i = p.i; j = p.j; k = p.k; i_fits = fits.i; j_fits = fits.j; k_fits = fits.k }, refl)
 
 -- the certificate of a content that fits
-pub cert_of : (v : Version) (c : Content) → Fits v c → (x : Cert) × (content_of x ≡ c)
+pub cert_of : (v : Version) (c : CertContent) → Fits v c → (x : Cert) × (content_of x ≡ c)
 cert_of v c fits =
-    let ps = each_of (PieceFits v) piece_of (a_piece_of v) c.pieces fits.pieces in
-    let qs = each_of (ParcelFits v) parcel_of (a_parcel_of v) c.parcels fits.parcels in
+    let ps = each_of (PieceFits v) block_of_piece (a_piece_of v) c.pieces fits.pieces in
+    let qs = each_of (ParcelFits v) block_of_parcel (a_parcel_of v) c.parcels fits.parcels in
     let es = each_of (ExactFits v) exact_of (an_exact_of v) c.exact fits.exact in
     let rs = each_of SeparatorFits separator_of a_pair_of c.pairs fits.pairs in
     let same = same_content ps.1 qs.1 es.1 rs.1 in

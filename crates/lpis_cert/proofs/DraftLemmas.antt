@@ -4,11 +4,12 @@ use Rattle.std.proofs.Common.{length-append, ◌⊎◌, inl, inr}
 use Rattle.std.proofs.Common.{nat_le}
 use Rattle.lpis_cert.proofs.Common.{nat_tests, join_with_byte-slice_split, AllByRecursion, Stage, CertFault, One, Block, Version, most_triangles, most_flats}
 use Rattle.lpis_cert.proofs.Common.{greatest_count, Corners, Separator}
-use Rattle.lpis_cert.proofs.Common.{PieceBlock, ParcelBlock, Line, PieceLine, TriangleLine, FlatLine, PairsLine, PairLine, EndLine, spelling, line_kind, can_stand}
+use Rattle.lpis_cert.proofs.Common.{PieceBlock, ParcelBlock, CertLine, PieceLine, TriangleLine, FlatLine, PairsLine, PairLine, EndLine, spelling, line_kind, can_stand}
 use Rattle.lpis_cert.proofs.Common.{text_of_lines, piece_lines, parcel_lines, exact_lines}
-use Rattle.lpis_cert.proofs.Common.{end_lines, lines_of, SeparatorFits, LineFits, is_lf, lines, outcome, at_last, step, State, InBody, InPairs}
+use Rattle.lpis_cert.proofs.Common.{end_lines, content_lines, SeparatorFits, LineFits, is_lf, lines, lines_outcome, at_last, line_step, LineState, InBody, InPairs}
 use Rattle.lpis_cert.proofs.Common.{AtEnd, Declared, grow, grow_flats}
-use Rattle.lpis_cert.proofs.Common.{ReadsLines, FaultFrom, LineFault, Triangle, PiecePart, ParcelPart, ExactBlock, Cert, all_corners, piece_of, parcel_of, exact_of, separator_of, is_id}
+use Rattle.lpis_cert.proofs.Common.{ReadsLines, FaultFrom, LineFault, Triangle, PiecePart, ParcelPart, ExactBlock, Cert, triangle_corners, block_of_piece, block_of_parcel, exact_of, separator_of}
+use Rattle.lpis_cert.proofs.Common.{is_id}
 use Rattle.lpis_cert.proofs.Common.{content_of, parcels_lines, exacts_lines}
 use Rattle.lpis_cert.specs.CertText.{ExactBlock as FlatsBlock}
 use Rattle.std.proofs.lemmas.List.Sums.{sum_by_push}
@@ -27,8 +28,8 @@ use Rattle.lpis_cert.specs.declared.fault.CertCode.TheVariants as code
 use Rattle.lpis_cert.specs.declared.kind.Kind.TheVariants as kind
 use Rattle.lpis_cert.specs.declared.part.PairLine as part
 
-pub goes_on : (v : Version) (p q r : State) (xs ys : List Line) → Goes v p xs q → Goes v q ys r → Goes v p (xs ++ ys) r
-goes_on v p q r [] ys f g = subst (λ (x : State). Goes v x ys r) (sym f) g
+pub goes_on : (v : Version) (p q r : LineState) (xs ys : List CertLine) → Goes v p xs q → Goes v q ys r → Goes v p (xs ++ ys) r
+goes_on v p q r [] ys f g = subst (λ (x : LineState). Goes v x ys r) (sym f) g
 goes_on v p q r (x ∷ xs) ys f g = (f.0, (f.1.0, f.1.1, goes_on v f.1.0 q r xs ys f.1.2 g))
 
 within_yes : (a b : ℕ) → a ≤ most_triangles → b ≤ most_flats → (nat_le a most_triangles && nat_le b most_flats) ≡ true
@@ -41,7 +42,7 @@ within_no a b (inr h) = grind (arith, nat_tests)
 pub piece_open : (v : Version) (d : Declared) (id : List ℕ) (t f : ℕ) → LineFits v (PieceLine id t f) → d.triangles + t ≤ most_triangles
     → d.flats + f ≤ most_flats → Goes v (InBody stage.Pieces 0 0 d) (PieceLine id t f ∷ [])
     (InBody stage.Pieces t f (grow d t f))
-unfolding step
+unfolding line_step
 piece_open v d id t f fits h k = grind (arith, read_again, within_yes)
 
 -- its identifier is one
@@ -60,7 +61,7 @@ can_begin b (owner.Exact m) id f can = λ _ _. can
 pub flats_open : (v : Version) (b : Stage) (w : Owner) (d : Declared) (id : List ℕ) (f : ℕ) → LineFits v (flats_line w id f) → CanBegin b w
     → d.triangles ≤ most_triangles → d.flats + f ≤ most_flats → Goes v (InBody b 0 0 d) (flats_line w id f ∷ [])
     (InBody (stage_after w) 0 f (grow_flats d f))
-unfolding step
+unfolding line_step
 flats_open v b owner.Parcel d id f fits can h k =
     let again = read_again v (Block b) (flats_line owner.Parcel id f) fits (can id f) in
     let few = within_yes d.triangles (d.flats + f) h k in
@@ -71,28 +72,28 @@ flats_open v b (owner.Exact m) d id f fits can h k =
     (fits, (InBody stage.Exacts 0 f (grow_flats d f), rw (again, few) refl, refl))
 
 pairs_open : (v : Version) (b : Stage) (d : Declared) (n : ℕ) → LineFits v (PairsLine n) → Goes v (InBody b 0 0 d) (PairsLine n ∷ []) (InPairs n)
-unfolding step
+unfolding line_step
 pairs_open v b d n fits = grind (arith, read_again)
 
 end_goes : (v : Version) → Goes v (InPairs 0) (EndLine ∷ []) AtEnd
-unfolding step
+unfolding line_step
 end_goes v = grind (arith, read_again)
 
-first_cut : {v : Version} {text : List ℕ} {n : ℕ} {l : Line} {rest : List ℕ} {m : ℕ} → LineFits v l → ReadsLines v text n (l ∷ []) rest m → lines text ≡ spelling v l ∷ lines rest
+first_cut : {v : Version} {text : List ℕ} {n : ℕ} {l : CertLine} {rest : List ℕ} {m : ℕ} → LineFits v l → ReadsLines v text n (l ∷ []) rest m → lines text ≡ spelling v l ∷ lines rest
 unfolding text_of_lines
 first_cut {v} {l = l} {rest} fits f = ap lines (f.parts ∙ append_assoc (spelling v l) (10 ∷ []) rest) ∙ lines_from v l rest fits
 
 pub too_many_piece : {v : Version} {text : List ℕ} {n : ℕ} {rest : List ℕ} {m : ℕ} (d : Declared) (b : Stage) (id : List ℕ) (t f : ℕ)
     → b ≡ stage.Pieces → LineFits v (PieceLine id t f) → (most_triangles < d.triangles + t) ⊎ (most_flats < d.flats + f)
-    → ReadsLines v text n (PieceLine id t f ∷ []) rest m → outcome v n (InBody b 0 0 d) (lines text) ≡ Err (code.TooMany, n)
-unfolding step
+    → ReadsLines v text n (PieceLine id t f ∷ []) rest m → lines_outcome v n (InBody b 0 0 d) (lines text) ≡ Err (code.TooMany, n)
+unfolding line_step
 too_many_piece {v} {text} {n} {rest} d b id t f is fits h g =
     rw is (step_err v n (InBody stage.Pieces 0 0 d) code.TooMany text (spelling v (PieceLine id t f)) rest (first_cut fits g)
     (rw (read_again v (Block stage.Pieces) (PieceLine id t f) fits refl, within_no (d.triangles + t) (d.flats + f) h) refl))
 
 too_many_step : (v : Version) (d : Declared) (b : Stage) (w : Owner) (id : List ℕ) (f : ℕ) → LineFits v (flats_line w id f) → CanBegin b w
-    → most_flats < d.flats + f → step v (InBody b 0 0 d) (spelling v (flats_line w id f)) ≡ Err code.TooMany
-unfolding step
+    → most_flats < d.flats + f → line_step v (InBody b 0 0 d) (spelling v (flats_line w id f)) ≡ Err code.TooMany
+unfolding line_step
 too_many_step v d b owner.Parcel id f fits can h =
     rw (read_again v (Block b) (flats_line owner.Parcel id f) fits (can id f), within_no d.triangles (d.flats + f) (inr h)) refl
 too_many_step v d b (owner.Exact m) id f fits can h =
@@ -100,15 +101,15 @@ too_many_step v d b (owner.Exact m) id f fits can h =
 
 pub too_many_flats : {v : Version} {text : List ℕ} {n : ℕ} {rest : List ℕ} {m : ℕ} (d : Declared) (b : Stage) (w : Owner) (id : List ℕ) (f : ℕ)
     → LineFits v (flats_line w id f) → CanBegin b w → most_flats < d.flats + f
-    → ReadsLines v text n (flats_line w id f ∷ []) rest m → outcome v n (InBody b 0 0 d) (lines text) ≡ Err (code.TooMany, n)
+    → ReadsLines v text n (flats_line w id f ∷ []) rest m → lines_outcome v n (InBody b 0 0 d) (lines text) ≡ Err (code.TooMany, n)
 too_many_flats {v} {text} {n} {rest} d b w id f fits can h g =
     step_err v n (InBody b 0 0 d) code.TooMany text (spelling v (flats_line w id f)) rest (first_cut fits g) (too_many_step v d b w id f fits can h)
 
-shorter : {v : Version} {text : List ℕ} {n : ℕ} {l : Line} {ls : List Line} {rest : List ℕ} {m : ℕ} → ReadsLines v text n (l ∷ ls) rest m → length rest < length text
+shorter : {v : Version} {text : List ℕ} {n : ℕ} {l : CertLine} {ls : List CertLine} {rest : List ℕ} {m : ℕ} → ReadsLines v text n (l ∷ ls) rest m → length rest < length text
 unfolding text_of_lines
 shorter {v} {l = l} {ls} {rest} f = grind (arith, length-append)
 
-pub grown_by : {v : Version} {text : List ℕ} {n : ℕ} {rest : List ℕ} {m : ℕ} {l : Line} {ls : List Line} (before more : List Line) (p q : State)
+pub grown_by : {v : Version} {text : List ℕ} {n : ℕ} {rest : List ℕ} {m : ℕ} {l : CertLine} {ls : List CertLine} (before more : List CertLine) (p q : LineState)
     → ReadsLines v text n (l ∷ ls) rest m → more ≡ before ++ (l ∷ ls) → Goes v p (l ∷ ls) q
     → Grown v before more p q text n rest m
 grown_by {l = l} {ls} before more p q f e g = record { added = l ∷ ls; follows = f; lines = e; state = after p q f g; shorter = shorter f }
@@ -149,18 +150,18 @@ none_before b (owner.Exact m) n can none = tt
 pub none_yet : (b : Stage) (n : ℕ) → b ≡ stage.Pieces → (can_stand (Block b) kind.Parcel ≡ true → n ≡ 0) → n ≡ 0
 none_yet b n is none = none (rw is refl)
 
-abbrev pub flats_lines : Owner → List ℕ → List Corners → List Line
+abbrev pub flats_lines : Owner → List ℕ → List Corners → List CertLine
 flats_lines w id cs = flats_line w id (length cs) ∷ map FlatLine cs
 
 -- the lines of the blocks with one more
 pub one_more_lines : (w : Owner) (ps : List PieceBlock) (id : List ℕ) (fs : List Triangle) (qs : List ParcelPart) (es : List ExactBlock) (qs2 : List ParcelPart)
     (es2 : List ExactBlock) → OneMore w id fs qs es qs2 es2 → NoneBefore w (length es)
-    → blocks ps (map parcel_of qs2) (map exact_of es2) ≡ blocks ps (map parcel_of qs) (map exact_of es) ++ flats_lines w id (all_corners fs)
+    → blocks ps (map block_of_parcel qs2) (map exact_of es2) ≡ blocks ps (map block_of_parcel qs) (map exact_of es) ++ flats_lines w id (triangle_corners fs)
 one_more_lines owner.Parcel ps id fs qs es qs2 es2 (q, more, named, flats, same) none =
     let no : es ≡ [] = nil_from_length es none in
-    rw (more, same, no, map_push parcel_of qs q, ← named, ← flats) (one_more_parcel ps (map parcel_of qs) (parcel_of q))
+    rw (more, same, no, map_push block_of_parcel qs q, ← named, ← flats) (one_more_parcel ps (map block_of_parcel qs) (block_of_parcel q))
 one_more_lines (owner.Exact m) ps id fs qs es qs2 es2 (b, more, merge, named, flats, same) none =
-    rw (more, same, map_push exact_of es b, ← merge, ← named, ← flats) (one_more_exact ps (map parcel_of qs) (map exact_of es) (exact_of b))
+    rw (more, same, map_push exact_of es b, ← merge, ← named, ← flats) (one_more_exact ps (map block_of_parcel qs) (map exact_of es) (exact_of b))
 
 -- their flats
 pub one_more_flats : (w : Owner) (id : List ℕ) (fs : List Triangle) (qs : List ParcelPart) (es : List ExactBlock) (qs2 : List ParcelPart) (es2 : List ExactBlock)
@@ -204,11 +205,11 @@ piece_grown {v} ps ps2 qs es p b d t f e is none none2 fits h1 h2 lt lf f1 f2 f3
     let same : PieceLine p.id (length p.triangles) (length p.flats) ≡ PieceLine p.id t f = rw (lt, lf) refl in
     let lines : blocks (ps ++ p ∷ []) [] [] ≡ blocks ps [] []
     ++ (PieceLine p.id t f ∷ (map TriangleLine p.triangles ++ map FlatLine p.flats)) = one_more_piece ps p
-    ∙ ap (λ (x : Line). blocks ps [] [] ++ (x ∷ (map TriangleLine p.triangles ++ map FlatLine p.flats))) same in
+    ∙ ap (λ (x : CertLine). blocks ps [] [] ++ (x ∷ (map TriangleLine p.triangles ++ map FlatLine p.flats))) same in
     rw (e, is, no, no2) (grown_by (blocks ps [] []) (blocks (ps ++ p ∷ []) [] []) (InBody stage.Pieces 0 0 d)
     (InBody stage.Pieces 0 0 (grow d t f)) all lines goes)
 
-pub flats_grown : {v : Version} {start : List ℕ} {n : ℕ} {next : List ℕ} {m : ℕ} {rest : List ℕ} {j : ℕ} (w : Owner) (before more : List Line) (id : List ℕ)
+pub flats_grown : {v : Version} {start : List ℕ} {n : ℕ} {next : List ℕ} {m : ℕ} {rest : List ℕ} {j : ℕ} (w : Owner) (before more : List CertLine) (id : List ℕ)
     (cs : List Corners) (b : Stage) (d : Declared) (f : ℕ)
     → more ≡ before ++ flats_lines w id cs → LineFits v (flats_line w id f) → CanBegin b w → d.triangles ≤ most_triangles → d.flats + f ≤ most_flats
     → length cs ≡ f
@@ -235,14 +236,14 @@ pairs_goes v b d ps fits le =
     goes_on v (InBody b 0 0 d) (InPairs (length ps)) AtEnd (PairsLine (length ps) ∷ []) (map PairLine ps ++ (EndLine ∷ [])) (pairs_open v b d (length ps) le)
     (goes_on v (InPairs (length ps)) (InPairs 0) AtEnd (map PairLine ps) (EndLine ∷ []) (pairs_go v ps (length ps) 0 fits (omega arith)) (end_goes v))
 
-trailing : (v : Version) (m : ℕ) (rest : List ℕ) → 0 < length rest → outcome v m AtEnd (lines rest) ≡ Err (code.TextAfterEnd, m)
-unfolding outcome at_last step
+trailing : (v : Version) (m : ℕ) (rest : List ℕ) → 0 < length rest → lines_outcome v m AtEnd (lines rest) ≡ Err (code.TextAfterEnd, m)
+unfolding lines_outcome at_last line_step
 trailing v m rest some = grind (arith, nat_tests, split_some is_lf rest, join_with_byte-slice_split 10 rest)
 
 pub whole_of : {v : Version} {start : List ℕ} {n : ℕ} {rest : List ℕ} {m : ℕ} (ps : List PieceBlock) (qs : List ParcelBlock) (es : List FlatsBlock) (rs : List Separator)
     → ReadsLines v start n (end_lines rs) rest m → length rest ≡ 0
-    → Whole v (blocks ps qs es) (lines_of (record { pieces = ps; parcels = qs; exact = es; pairs = rs })) start
-unfolding lines_of
+    → Whole v (blocks ps qs es) (content_lines (record { pieces = ps; parcels = qs; exact = es; pairs = rs })) start
+unfolding content_lines
 whole_of {rest = rest} ps qs es rs f none = grind (arith, nil_from_length, append-nil, append_assoc)
 
 -- ---- faults inside a block
@@ -289,17 +290,17 @@ end_fault {v} {last = last} {k} x b d count ps le g fits len g2 h =
 pub trailing_fault : {v : Version} {text : List ℕ} {n : ℕ} {rest : List ℕ} {m : ℕ} (b : Stage) (d : Declared) (ps : List Separator)
     → AllByRecursion SeparatorFits ps → length ps ≤ greatest_count → ReadsLines v text n (end_lines ps) rest m
     → 0 < length rest
-    → outcome v n (InBody b 0 0 d) (lines text) ≡ Err (code.TextAfterEnd, m)
+    → lines_outcome v n (InBody b 0 0 d) (lines text) ≡ Err (code.TextAfterEnd, m)
 trailing_fault {v} {rest = rest} {m} b d ps fits le f some = after (InBody b 0 0 d) AtEnd f (pairs_goes v b d ps fits le) ∙ trailing v m rest some
 
 -- ---- values of the code
 
 pub piece_pushed : (ps : List PiecePart) (p : PiecePart) (id : List ℕ) (ts fs : List Triangle) → p.id ≡ id → p.triangles ≡ ts → p.flats ≡ fs
-    → map piece_of (ps ++ p ∷ []) ≡ map piece_of ps ++ record { id = id; triangles = all_corners ts; flats = all_corners fs } ∷ []
-piece_pushed ps p id ts fs e f g = map_push piece_of ps p ∙ rw (e, f, g) refl
+    → map block_of_piece (ps ++ p ∷ []) ≡ map block_of_piece ps ++ record { id = id; triangles = triangle_corners ts; flats = triangle_corners fs } ∷ []
+piece_pushed ps p id ts fs e f g = map_push block_of_piece ps p ∙ rw (e, f, g) refl
 
-pub whole_cert : (v : Version) (c : Cert) (ps : List PiecePart) (qs : List ParcelPart) (es : List ExactBlock) (rs : List part.PairLine) (before : List Line) (text : List ℕ) → c.pieces ≡ ps
+pub whole_cert : (v : Version) (c : Cert) (ps : List PiecePart) (qs : List ParcelPart) (es : List ExactBlock) (rs : List part.PairLine) (before : List CertLine) (text : List ℕ) → c.pieces ≡ ps
     → c.parcels ≡ qs → c.exact ≡ es → c.pairs ≡ rs
-    → Whole v before (lines_of (record { pieces = map piece_of ps; parcels = map parcel_of qs; exact = map exact_of es; pairs = map separator_of rs })) text
-    → Whole v before (lines_of (content_of c)) text
+    → Whole v before (content_lines (record { pieces = map block_of_piece ps; parcels = map block_of_parcel qs; exact = map exact_of es; pairs = map separator_of rs })) text
+    → Whole v before (content_lines (content_of c)) text
 whole_cert v c ps qs es rs before text e f x g w = rw (e, f, x, g) w

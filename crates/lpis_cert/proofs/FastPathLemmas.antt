@@ -2,13 +2,13 @@
 use Rattle.std.proofs.Common.{◌≡◌, ℕ, suc, ◌+◌, ◌-◌, ◌*◌, ◌<◌, ◌≤◌, Bool, true, false, cond, List, [], ◌∷◌, ◌++◌, length, take, drop, get_or, Some, refl, sym, ap}
 use Rattle.std.proofs.Common.{◌∙◌, arith}
 use Rattle.std.proofs.Common.{append_assoc, length-append, drop-cons, add-one, decimal}
-use Rattle.lpis_cert.proofs.Common.{nat_tests, number_margin, Version, CornersFit, LineFits, Corners, spelling, words_of, text_of_lines, digits_on, number, ReadsLines}
+use Rattle.lpis_cert.proofs.Common.{nat_tests, number_margin, Version, CornersFit, LineFits, Corners, spelling, words_of, text_of_lines, digits_on, cert_number, ReadsLines}
 use Rattle.lpis_cert.proofs.Common.{corner_line}
 use Rattle.std.proofs.lemmas.Fmt.{decimal_digit}
 use Rattle.std.proofs.lemmas.Str.{digit_value_digit}
 use Rattle.std.proofs.lemmas.List.{take_all, take-append-drop, take_more}
 use Rattle.std.specs.Char.{digit_value, is_ascii_digit}
-use Rattle.lpis_cert.specs.private.Taken.{Begins}
+use Rattle.lpis_cert.specs.private.Taken.{BeginsWithWord}
 use Rattle.lpis_cert.specs.CertText.{coordinate_word}
 use Rattle.lpis_cert.proofs.NumberLemmas.{not-zero, number_takes}
 use Rattle.lpis_cert.proofs.SplittingLemmas.{rest_is}
@@ -28,15 +28,15 @@ digit_more limit i v r xs lt h digit is le =
     grind (arith, nat_tests, digit_is (get_or xs i 0) digit, take_more, digits_on-append limit 0 (take i xs) (get_or xs i 0 ∷ []) v h)
 
 leading : (limit i end : ℕ) (xs : List ℕ) (v : ℕ) → i < length xs → end < 48 → 48 < get_or xs 0 0 → get_or xs i 0 ≡ end → digits_on limit 0 (take i xs) ≡ Some v
-    → number limit (take i xs) ≡ Some v
-unfolding number
+    → cert_number limit (take i xs) ≡ Some v
+unfolding cert_number
 leading limit (suc i) end (d ∷ xs) v lt apart first last h = let no = not-zero d first in rw no h
 leading limit _ end _ v lt apart first last h = absurd (omega arith)
 
 -- the digits before a byte
 pub digits_begin : (limit i end : ℕ) (xs : List ℕ) (v : ℕ) → limit ≤ number_margin → i < length xs → end < 48 → 48 < get_or xs 0 0 → get_or xs i 0 ≡ end
     → digits_on limit 0 (take i xs) ≡ Some v
-    → Begins xs (decimal v) end (take (length xs - (i + 1)) (drop (i + 1) xs)) × (v ≤ limit)
+    → BeginsWithWord xs (decimal v) end (take (length xs - (i + 1)) (drop (i + 1) xs)) × (v ≤ limit)
 digits_begin limit i end xs v small lt apart first last h =
     let is = number_takes limit (take i xs) v small (leading limit i end xs v lt apart first last h) in
     let cons : drop i xs ≡ end ∷ drop (i + 1) xs = rw add-one (drop-cons xs i 0 lt) ∙ ap (λ (b : ℕ). b ∷ drop (i + 1) xs) last in
@@ -47,7 +47,7 @@ pub first_byte : (xs : List ℕ) (b : ℕ) → 1 ≤ length xs → get_or xs 0 0
 first_byte [] b some first = absurd (omega arith)
 first_byte (x ∷ xs) b some first = grind (arith, take_all)
 
-pub zero_begins : (text after rest : List ℕ) (end limit : ℕ) → text ≡ 48 ∷ after → after ≡ end ∷ rest → Begins text (decimal 0) end rest × (0 ≤ limit)
+pub zero_begins : (text after rest : List ℕ) (end limit : ℕ) → text ≡ 48 ∷ after → after ≡ end ∷ rest → BeginsWithWord text (decimal 0) end rest × (0 ≤ limit)
 zero_begins text after rest end limit h k = grind (arith, decimal_digit)
 
 -- ---- a line of corners
@@ -80,7 +80,7 @@ pub corners_begin : (v : Version) (flat : Bool) (letter : ℕ) (text after field
     ++ (32 ∷ (coordinate_word v c.x2
     ++ (32 ∷ (coordinate_word v c.y2
     ++ (32 ∷ (coordinate_word v c.x3 ++ (32 ∷ (coordinate_word v c.y3 ++ (10 ∷ rest)))))))))))
-    → Begins text (spelling v (corner_line flat c)) 10 rest
+    → BeginsWithWord text (spelling v (corner_line flat c)) 10 rest
 corners_begin v flat letter text after fields c rest is h k all = rw (h, k, all, is) (corners_spelled v flat c rest)
 
 corner_fits : (v : Version) (flat : Bool) (c : Corners) → CornersFit v c → LineFits v (corner_line flat c)
@@ -88,11 +88,11 @@ corner_fits v true c fits = fits
 corner_fits v false c fits = fits
 
 -- a line that begins the text was taken
-pub begun : (v : Version) (text : List ℕ) (n : ℕ) (flat : Bool) (c : Corners) (rest : List ℕ) → Begins text (spelling v (corner_line flat c)) 10 rest
+pub begun : (v : Version) (text : List ℕ) (n : ℕ) (flat : Bool) (c : Corners) (rest : List ℕ) → BeginsWithWord text (spelling v (corner_line flat c)) 10 rest
     → CornersFit v c → ReadsLines v text n (corner_line flat c ∷ []) rest (n + 1)
 unfolding text_of_lines
 begun v text n flat c rest h fits =
     record { parts = h ∙ sym (append_assoc (spelling v (corner_line flat c)) (10 ∷ []) rest); fits = (corner_fits v flat c fits, tt); next = refl }
 
-pub shorter : (text : List ℕ) (w : List ℕ) (rest : List ℕ) → Begins text w 10 rest → length rest + 1 ≤ length text
+pub shorter : (text : List ℕ) (w : List ℕ) (rest : List ℕ) → BeginsWithWord text w 10 rest → length rest + 1 ≤ length text
 shorter text w rest h = grind (arith, length-append)

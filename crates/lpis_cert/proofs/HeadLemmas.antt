@@ -1,23 +1,23 @@
 -- The lines that begin blocks.
 use Rattle.std.proofs.Common.{◌≡◌, ℕ, true, List, Option, ◌⊎◌, inl, inr}
-use Rattle.lpis_cert.proofs.Common.{Stage, Kind, Piece, Flat, Parcel, Exact, Pairs, Pair, End, Block, Version, Line, values, can_stand, Placed}
+use Rattle.lpis_cert.proofs.Common.{Stage, Kind, Piece, Flat, Parcel, Exact, Pairs, Pair, End, Block, Version, CertLine, values, can_stand, Placed}
 use Rattle.lpis_cert.specs.declared.kind.Kind.TheVariants.{Triangle}
-use Rattle.lpis_cert.specs.Reading.{piece_line, parcel_line, exact_line, pairs_line}
+use Rattle.lpis_cert.specs.Reading.{piece_line, parcel_block_line, exact_line, pairs_line}
 use Rattle.lpis_cert.proofs.StepLemmas.{formed_stands}
 
-pub values_piece : (v : Version) (k : Kind) (ws : List (List ℕ)) (o : Option Line) → k ≡ Piece → piece_line ws ≡ o → values v k ws ≡ o
+pub values_piece : (v : Version) (k : Kind) (ws : List (List ℕ)) (o : Option CertLine) → k ≡ Piece → piece_line ws ≡ o → values v k ws ≡ o
 unfolding values
 values_piece v k ws o is h = rw is h
 
-pub values_parcel : (v : Version) (k : Kind) (ws : List (List ℕ)) (o : Option Line) → k ≡ Parcel → parcel_line ws ≡ o → values v k ws ≡ o
+pub values_parcel : (v : Version) (k : Kind) (ws : List (List ℕ)) (o : Option CertLine) → k ≡ Parcel → parcel_block_line ws ≡ o → values v k ws ≡ o
 unfolding values
 values_parcel v k ws o is h = rw is h
 
-pub values_exact : (v : Version) (k : Kind) (ws : List (List ℕ)) (o : Option Line) → k ≡ Exact → exact_line ws ≡ o → values v k ws ≡ o
+pub values_exact : (v : Version) (k : Kind) (ws : List (List ℕ)) (o : Option CertLine) → k ≡ Exact → exact_line ws ≡ o → values v k ws ≡ o
 unfolding values
 values_exact v k ws o is h = rw is h
 
-pub values_pairs : (v : Version) (k : Kind) (ws : List (List ℕ)) (o : Option Line) → k ≡ Pairs → pairs_line ws ≡ o → values v k ws ≡ o
+pub values_pairs : (v : Version) (k : Kind) (ws : List (List ℕ)) (o : Option CertLine) → k ≡ Pairs → pairs_line ws ≡ o → values v k ws ≡ o
 unfolding values
 values_pairs v k ws o is h = rw is h
 

@@ -4,14 +4,15 @@ use Rattle.std.proofs.Common.{append_assoc, length-append, sum_by, flat_map}
 use Rattle.std.proofs.Common.{IfOk, IfErr, MatchResult}
 use Rattle.lpis_cert.proofs.Common.{nat_tests, join_with_byte-slice_split, onto_first, AllByRecursion, length-map, sum_by-cons, PiecePart, ParcelPart, ExactBlock, Cert}
 use Rattle.lpis_cert.proofs.Common.{CertFault}
-use Rattle.lpis_cert.proofs.Common.{piece_of, parcel_of, exact_of, separator_of, content_of, IsCertText, PieceFits, ParcelFits, ExactFits, CertCode, Version, first_line, named, written}
+use Rattle.lpis_cert.proofs.Common.{block_of_piece, block_of_parcel, exact_of, separator_of, content_of, IsCertText, PieceFits, ParcelFits, ExactFits, CertCode, Version, first_line, version_named}
+use Rattle.lpis_cert.proofs.Common.{written}
 use Rattle.lpis_cert.proofs.Common.{Corners, Triangle, Separator, PieceBlock, ParcelBlock}
-use Rattle.lpis_cert.proofs.Common.{Content, Line, TriangleLine, FlatLine, text_of, text_of_lines, spelling, lines_of, piece_lines, parcel_lines, exact_lines}
-use Rattle.lpis_cert.proofs.Common.{end_lines, CornersFit, LineFits, is_lf, lines, outcome, outcome_of, at_last, step, State, AtEnd, first_state, verdict}
+use Rattle.lpis_cert.proofs.Common.{CertContent, CertLine, TriangleLine, FlatLine, content_text, text_of_lines, spelling, content_lines, piece_lines, parcel_lines, exact_lines}
+use Rattle.lpis_cert.proofs.Common.{end_lines, CornersFit, LineFits, is_lf, lines, lines_outcome, outcome_of, at_last, line_step, LineState, AtEnd, first_state, verdict}
 use Rattle.lpis_cert.proofs.Common.{parcels_lines, exacts_lines}
 use Rattle.lpis_cert.specs.CertText.{ExactBlock as FlatsBlock}
 use Rattle.lpis_cert.specs.declared.fault.CertFault.TheVariants.{Memory, At}
-use Rattle.lpis_cert.specs.Contents.{cert_text, IsTextOf, all_corners, corner_numbers}
+use Rattle.lpis_cert.specs.Contents.{cert_text, IsTextOfCert, triangle_corners, corner_numbers}
 use Rattle.lpis_cert.proofs.CertEqualityLemmas.{cert_eq, same_content}
 use Rattle.lpis_cert.proofs.BlockLemmas.{separators_fit, lines_fit}
 use Rattle.lpis_cert.specs.private.Fits.{Fits}
@@ -59,29 +60,29 @@ unfolding glue
 glue_some w [] h t = (w ++ h, t, refl)
 glue_some w (x ∷ ws) h t = (w, glue (x ∷ ws) (h ∷ t), refl)
 
-went : {A : Type 0} (n : ℕ) (r : Result State CertCode) (f : State → Result A (CertCode × ℕ)) (k : A) → (at_line n r >>= f) ≡ Ok k
-    → (q : State) × (r ≡ Ok q) × (f q ≡ Ok k)
+went : {A : Type 0} (n : ℕ) (r : Result LineState CertCode) (f : LineState → Result A (CertCode × ℕ)) (k : A) → (at_line n r >>= f) ≡ Ok k
+    → (q : LineState) × (r ≡ Ok q) × (f q ≡ Ok k)
 went n (Ok q) f k h = (q, refl, h)
 went n (Err c) f k h = absurd cc
 
 -- the text ends where the grammar has not
-stops : (v : Version) (n : ℕ) (p : State) (l h : List ℕ) (t : List (List ℕ)) (k : ℕ) → 0 < length h + length t → outcome v n p ((l ++ h) ∷ t) ≡ Ok k
-    → outcome v n p (l ∷ []) ≡ Err (code.Truncated, n)
-unfolding outcome at_last step
+stops : (v : Version) (n : ℕ) (p : LineState) (l h : List ℕ) (t : List (List ℕ)) (k : ℕ) → 0 < length h + length t → lines_outcome v n p ((l ++ h) ∷ t) ≡ Ok k
+    → lines_outcome v n p (l ∷ []) ≡ Err (code.Truncated, n)
+unfolding lines_outcome at_last line_step
 stops v n AtEnd l h [] k some e = grind (arith, nat_tests, length-append)
 stops v n AtEnd l h (x ∷ t) k some e = absurd (cc e)
 stops _ _ _ _ _ _ _ _ _ = refl
 
-cut_short : (v : Version) (n : ℕ) (p : State) (l : List ℕ) (ls : List (List ℕ)) (h : List ℕ) (t : List (List ℕ)) (k : ℕ)
-    → 0 < length h + length t → outcome v n p (glue (l ∷ ls) (h ∷ t)) ≡ Ok k
-    → outcome v n p (l ∷ ls) ≡ Err (code.Truncated, n + length ls)
-unfolding outcome glue
+cut_short : (v : Version) (n : ℕ) (p : LineState) (l : List ℕ) (ls : List (List ℕ)) (h : List ℕ) (t : List (List ℕ)) (k : ℕ)
+    → 0 < length h + length t → lines_outcome v n p (glue (l ∷ ls) (h ∷ t)) ≡ Ok k
+    → lines_outcome v n p (l ∷ ls) ≡ Err (code.Truncated, n + length ls)
+unfolding lines_outcome glue
 cut_short v n p l [] h t k some e = grind (arith, stops)
 cut_short v n p l (w ∷ ws) h t k some e =
     let g = glue_some w ws h t in
     let more = g.2 in
-    let s = went n (step v p l) (λ q. outcome v (n + 1) q (g.0 ∷ g.1)) k (rw more at e) in
-    let rest : outcome v (n + 1) s.0 (glue (w ∷ ws) (h ∷ t)) ≡ Ok k = rw more s.2 in
+    let s = went n (line_step v p l) (λ q. lines_outcome v (n + 1) q (g.0 ∷ g.1)) k (rw more at e) in
+    let rest : lines_outcome v (n + 1) s.0 (glue (w ∷ ws) (h ∷ t)) ≡ Ok k = rw more s.2 in
     let at = s.1 in
     let end = cut_short v (n + 1) s.0 w ws h t k some rest in
     rw (at, end) (ap (λ (i : ℕ). Err (code.Truncated, i)) (omega arith))
@@ -99,8 +100,8 @@ cut_first l [] h t k some e = refl
 cut_first l (w ∷ ws) h t k some e =
     let g = glue_some w ws h t in
     let more = g.2 in
-    let rest : outcome_named (named l) (glue (w ∷ ws) (h ∷ t)) ≡ Ok k = rw more (rw more at e) in
-    cut_named (named l) w ws h t k some rest ∙ ap (λ (i : ℕ). Err (code.Truncated, i)) (omega arith)
+    let rest : outcome_named (version_named l) (glue (w ∷ ws) (h ∷ t)) ≡ Ok k = rw more (rw more at e) in
+    cut_named (version_named l) w ws h t k some rest ∙ ap (λ (i : ℕ). Err (code.Truncated, i)) (omega arith)
 
 more_lines : (q : List ℕ) → 0 < length q → (h : List ℕ) × (t : List (List ℕ)) × (lines q ≡ h ∷ t) × (0 < length h + length t)
 more_lines [] lt = absurd (omega arith)
@@ -123,13 +124,13 @@ prefix_cut p q k e lt =
 
 -- ---- one value a text
 
-went_fit : (v : Version) (p q : State) (ls : List Line) → Goes v p ls q → AllByRecursion (LineFits v) ls
+went_fit : (v : Version) (p q : LineState) (ls : List CertLine) → Goes v p ls q → AllByRecursion (LineFits v) ls
 went_fit v p q [] g = tt
 went_fit v p q (l ∷ ls) g = (g.0, went_fit v g.1.0 q ls g.1.2)
 
 -- each line of a content that fits has a text
-pub fits_of : (v : Version) (c : Content) → Fits v c → AllByRecursion (LineFits v) (lines_of c)
-fits_of v c fits = went_fit v first_state AtEnd (lines_of c) (certificate_goes v c fits)
+pub fits_of : (v : Version) (c : CertContent) → Fits v c → AllByRecursion (LineFits v) (content_lines c)
+fits_of v c fits = went_fit v first_state AtEnd (content_lines c) (certificate_goes v c fits)
 
 same_head : (a b : List ℕ) (x y : List (List ℕ)) → ◌≡◌ {A = List (List ℕ)} (a ∷ x) (b ∷ y) → (a ≡ b) × (x ≡ y)
 same_head a b x y e = (cc e, cc e)
@@ -137,11 +138,11 @@ same_head a b x y e = (cc e, cc e)
 same_lines : (a b : List ℕ) → lines a ≡ lines b → a ≡ b
 same_lines a b e = cc (join_with_byte-slice_split 10 a, join_with_byte-slice_split 10 b)
 
-no_text : (v : Version) (l : Line) (ls : List Line) → text_of_lines v [] ≡ text_of_lines v (l ∷ ls) → ⊥
+no_text : (v : Version) (l : CertLine) (ls : List CertLine) → text_of_lines v [] ≡ text_of_lines v (l ∷ ls) → ⊥
 unfolding text_of_lines
 no_text v l ls e = grind (arith, length-append (spelling v l) (10 ∷ text_of_lines v ls))
 
-lines_injective : (v : Version) (xs ys : List Line) → AllByRecursion (LineFits v) xs → AllByRecursion (LineFits v) ys
+lines_injective : (v : Version) (xs ys : List CertLine) → AllByRecursion (LineFits v) xs → AllByRecursion (LineFits v) ys
     → text_of_lines v xs ≡ text_of_lines v ys → xs ≡ ys
 unfolding text_of_lines
 lines_injective v [] [] fx fy e = refl
@@ -154,11 +155,11 @@ lines_injective v (x ∷ xs) (y ∷ ys) fx fy e =
     let rest = lines_injective v xs ys fx.1 fy.1 (same_lines (text_of_lines v xs) (text_of_lines v ys) parts.1) in
     rw (first, rest) refl
 
-same_first : (x y : Line) (xs ys : List Line) → ◌≡◌ {A = List Line} (x ∷ xs) (y ∷ ys) → (x ≡ y) × (xs ≡ ys)
+same_first : (x y : CertLine) (xs ys : List CertLine) → ◌≡◌ {A = List CertLine} (x ∷ xs) (y ∷ ys) → (x ≡ y) × (xs ≡ ys)
 same_first x y xs ys e = (cc e, cc e)
 
 -- as many lines of one kind at the front
-fronts : {A : Type 0} (f : A → Line) (xs ys : List A) (us vs : List Line) → ((a b : A) → f a ≡ f b → a ≡ b) → length xs ≡ length ys
+fronts : {A : Type 0} (f : A → CertLine) (xs ys : List A) (us vs : List CertLine) → ((a b : A) → f a ≡ f b → a ≡ b) → length xs ≡ length ys
     → map f xs ++ us ≡ map f ys ++ vs → (xs ≡ ys) × (us ≡ vs)
 fronts f [] [] us vs inj n e = (refl, e)
 fronts f (x ∷ xs) (y ∷ ys) us vs inj n e =
@@ -181,22 +182,22 @@ made_parcel i fs = record { id = i; flats = fs }
 abbrev made_exact : Bool → List ℕ → List Corners → FlatsBlock
 made_exact m i fs = record { merge = m; id = i; flats = fs }
 
-exact_front : (q r : FlatsBlock) (us vs : List Line) → exact_lines q ++ us ≡ exact_lines r ++ vs → (q ≡ r) × (us ≡ vs)
+exact_front : (q r : FlatsBlock) (us vs : List CertLine) → exact_lines q ++ us ≡ exact_lines r ++ vs → (q ≡ r) × (us ≡ vs)
 exact_front q r us vs e = grind (arith, same_first, fronts, made_exact)
 
-parcel_front : (q r : ParcelBlock) (us vs : List Line) → parcel_lines q ++ us ≡ parcel_lines r ++ vs → (q ≡ r) × (us ≡ vs)
+parcel_front : (q r : ParcelBlock) (us vs : List CertLine) → parcel_lines q ++ us ≡ parcel_lines r ++ vs → (q ≡ r) × (us ≡ vs)
 parcel_front q r us vs e = grind (arith, same_first, fronts, made_parcel)
 
-piece_front : (q r : PieceBlock) (us vs : List Line) → piece_lines q ++ us ≡ piece_lines r ++ vs → (q ≡ r) × (us ≡ vs)
+piece_front : (q r : PieceBlock) (us vs : List CertLine) → piece_lines q ++ us ≡ piece_lines r ++ vs → (q ≡ r) × (us ≡ vs)
 piece_front q r us vs e = grind (arith, same_first, append_assoc, fronts, made_piece)
 
 -- these lines begin no block of this kind
-abbrev Apart : {A : Type 0} → (A → List Line) → List Line → Type 0
-Apart {A} ls us = (x : A) (rest : List Line) → ls x ++ rest ≡ us → ⊥
+abbrev Apart : {A : Type 0} → (A → List CertLine) → List CertLine → Type 0
+Apart {A} ls us = (x : A) (rest : List CertLine) → ls x ++ rest ≡ us → ⊥
 
 -- blocks of one kind at the front, and what comes after them
-blocks_front : {A : Type 0} (ls : A → List Line) → ((x y : A) (us vs : List Line) → ls x ++ us ≡ ls y ++ vs → (x ≡ y) × (us ≡ vs))
-    → (xs ys : List A) (us vs : List Line) → Apart ls us → Apart ls vs → flat_map ls xs ++ us ≡ flat_map ls ys ++ vs → (xs ≡ ys) × (us ≡ vs)
+blocks_front : {A : Type 0} (ls : A → List CertLine) → ((x y : A) (us vs : List CertLine) → ls x ++ us ≡ ls y ++ vs → (x ≡ y) × (us ≡ vs))
+    → (xs ys : List A) (us vs : List CertLine) → Apart ls us → Apart ls vs → flat_map ls xs ++ us ≡ flat_map ls ys ++ vs → (xs ≡ ys) × (us ≡ vs)
 blocks_front ls one [] [] us vs apart apart2 e = (refl, e)
 blocks_front ls one [] (y ∷ ys) us vs apart apart2 e = absurd (apart y (flat_map ls ys ++ vs) (sym (e ∙ append_assoc (ls y) (flat_map ls ys) vs)))
 blocks_front ls one (x ∷ xs) [] us vs apart apart2 e = absurd (apart2 x (flat_map ls xs ++ us) (sym (append_assoc (ls x) (flat_map ls xs) us) ∙ e))
@@ -220,10 +221,10 @@ no_exact rs p rest e = cc e
 
 -- the first lines of two versions differ
 first_apart : (v w : Version) → first_line v ≡ first_line w → v ≡ w
-first_apart v w e = let same : Some v ≡ Some w = sym (names_itself v) ∙ ap named e ∙ names_itself w in cc same
+first_apart v w e = let same : Some v ≡ Some w = sym (names_itself v) ∙ ap version_named e ∙ names_itself w in cc same
 
-same_contents : (c d : Content) → lines_of c ≡ lines_of d → c ≡ d
-unfolding lines_of
+same_contents : (c d : CertContent) → content_lines c ≡ content_lines d → c ≡ d
+unfolding content_lines
 same_contents c d e =
     let ps = blocks_front piece_lines piece_front c.pieces d.pieces _ _ (no_piece c.parcels c.exact c.pairs) (no_piece d.parcels d.exact d.pairs) e in
     let qs = blocks_front parcel_lines parcel_front c.parcels d.parcels _ _ (no_parcel c.exact c.pairs) (no_parcel d.exact d.pairs) ps.1 in
@@ -231,15 +232,15 @@ same_contents c d e =
     same_content ps.0 qs.0 es.0 (end_injective c.pairs d.pairs es.1)
 
 -- two contents with one text, of whatever versions
-pub one_value : (v w : Version) (c d : Content) → AllByRecursion (LineFits v) (lines_of c) → AllByRecursion (LineFits w) (lines_of d)
-    → text_of v c ≡ text_of w d → c ≡ d
-unfolding text_of
+pub one_value : (v w : Version) (c d : CertContent) → AllByRecursion (LineFits v) (content_lines c) → AllByRecursion (LineFits w) (content_lines d)
+    → content_text v c ≡ content_text w d → c ≡ d
+unfolding content_text
 one_value v w c d fc fd e =
-    let cut = sym (lines_named v (text_of_lines v (lines_of c))) ∙ ap lines e ∙ lines_named w (text_of_lines w (lines_of d)) in
-    let parts = same_head (first_line v) (first_line w) (lines (text_of_lines v (lines_of c))) (lines (text_of_lines w (lines_of d))) cut in
+    let cut = sym (lines_named v (text_of_lines v (content_lines c))) ∙ ap lines e ∙ lines_named w (text_of_lines w (content_lines d)) in
+    let parts = same_head (first_line v) (first_line w) (lines (text_of_lines v (content_lines c))) (lines (text_of_lines w (content_lines d))) cut in
     let same = first_apart v w parts.0 in
-    let texts = same_lines (text_of_lines v (lines_of c)) (text_of_lines w (lines_of d)) parts.1 in
-    same_contents c d (lines_injective v (lines_of c) (lines_of d) fc (rw same fd) (rw (← same) at texts))
+    let texts = same_lines (text_of_lines v (content_lines c)) (text_of_lines w (content_lines d)) parts.1 in
+    same_contents c d (lines_injective v (content_lines c) (content_lines d) fc (rw same fd) (rw (← same) at texts))
 
 -- ---- the values of the code
 
@@ -253,15 +254,15 @@ corners_fit t = record {
   y3 = has_text t.c.y t.c.y_in_range;
 }
 
-all_corners_fit : (ts : List Triangle) → AllByRecursion (CornersFit written) (all_corners ts)
+all_corners_fit : (ts : List Triangle) → AllByRecursion (CornersFit written) (triangle_corners ts)
 all_corners_fit [] = tt
 all_corners_fit (t ∷ ts) = (corners_fit t, all_corners_fit ts)
 
-pieces_fit : (ps : List PiecePart) → AllByRecursion (PieceFits written) (map piece_of ps)
+pieces_fit : (ps : List PiecePart) → AllByRecursion (PieceFits written) (map block_of_piece ps)
 pieces_fit [] = tt
 pieces_fit (p ∷ ps) = grind (arith, pieces_fit ps, all_corners_fit)
 
-parcels_fit : (ps : List ParcelPart) → AllByRecursion (ParcelFits written) (map parcel_of ps)
+parcels_fit : (ps : List ParcelPart) → AllByRecursion (ParcelFits written) (map block_of_parcel ps)
 parcels_fit [] = tt
 parcels_fit (p ∷ ps) = grind (arith, parcels_fit ps, all_corners_fit)
 
@@ -273,20 +274,20 @@ sum-map : {A B : Type 0} (f : A → B) (g : B → ℕ) (h : A → ℕ) → ((x :
 sum-map f g h e [] = refl
 sum-map f g h e (x ∷ xs) = grind (arith, sum-map f g h e xs, sum_by-cons)
 
-pub triangle_sum : (ps : List PiecePart) → sum_by (λ (p : PieceBlock). length p.triangles) (map piece_of ps) ≡ sum_by (λ p. length p.triangles) ps
+pub triangle_sum : (ps : List PiecePart) → sum_by (λ (p : PieceBlock). length p.triangles) (map block_of_piece ps) ≡ sum_by (λ p. length p.triangles) ps
 triangle_sum ps = grind (arith, sum-map, length-map)
 
-pub flat_sum : (ps : List PiecePart) → sum_by (λ (p : PieceBlock). length p.flats) (map piece_of ps) ≡ sum_by (λ p. length p.flats) ps
+pub flat_sum : (ps : List PiecePart) → sum_by (λ (p : PieceBlock). length p.flats) (map block_of_piece ps) ≡ sum_by (λ p. length p.flats) ps
 flat_sum ps = grind (arith, sum-map, length-map)
 
-pub parcel_flat_sum : (ps : List ParcelPart) → sum_by (λ (p : ParcelBlock). length p.flats) (map parcel_of ps) ≡ sum_by (λ p. length p.flats) ps
+pub parcel_flat_sum : (ps : List ParcelPart) → sum_by (λ (p : ParcelBlock). length p.flats) (map block_of_parcel ps) ≡ sum_by (λ p. length p.flats) ps
 parcel_flat_sum ps = grind (arith, sum-map, length-map)
 
 pub exact_flat_sum : (es : List ExactBlock) → sum_by (λ (e : FlatsBlock). length e.flats) (map exact_of es) ≡ sum_by (λ e. length e.flats) es
 exact_flat_sum es = grind (arith, sum-map, length-map)
 
 -- a certificate whose blocks fit
-cert_fits : (v : Version) (c : Cert) → AllByRecursion (PieceFits v) (map piece_of c.pieces) → AllByRecursion (ParcelFits v) (map parcel_of c.parcels)
+cert_fits : (v : Version) (c : Cert) → AllByRecursion (PieceFits v) (map block_of_piece c.pieces) → AllByRecursion (ParcelFits v) (map block_of_parcel c.parcels)
     → AllByRecursion (ExactFits v) (map exact_of c.exact) → Fits v (content_of c)
 cert_fits v c ps qs es = record {
   pieces = ps;
@@ -299,7 +300,7 @@ cert_fits v c ps qs es = record {
 }
 
 -- a certificate has a text of the version that is written, and one text
-pub one_text : (c : Cert) (text : List ℕ) → (IsTextOf written c text → text ≡ cert_text c) × (text ≡ cert_text c → IsTextOf written c text)
+pub one_text : (c : Cert) (text : List ℕ) → (IsTextOfCert written c text → text ≡ cert_text c) × (text ≡ cert_text c → IsTextOfCert written c text)
 one_text c text = (λ t. t.is, λ e. record { fits = fits_of written (content_of c) (cert_fits written c (pieces_fit c.pieces) (parcels_fit c.parcels) (exact_fit c.exact)); is = e })
 
 -- two certificates have no text in common
@@ -313,12 +314,12 @@ first_part P [] ys h = (tt, h)
 first_part P (x ∷ xs) ys h = let r = first_part P xs ys h.1 in ((h.0, r.0), r.1)
 
 -- blocks of one kind, and what comes after them
-blocks_back : {A : Type 0} (v : Version) (P : A → Type 0) (ls : A → List Line) → ((x : A) → AllByRecursion (LineFits v) (ls x) → P x)
-    → (xs : List A) (us : List Line) → AllByRecursion (LineFits v) (flat_map ls xs ++ us) → AllByRecursion P xs × AllByRecursion (LineFits v) us
+blocks_back : {A : Type 0} (v : Version) (P : A → Type 0) (ls : A → List CertLine) → ((x : A) → AllByRecursion (LineFits v) (ls x) → P x)
+    → (xs : List A) (us : List CertLine) → AllByRecursion (LineFits v) (flat_map ls xs ++ us) → AllByRecursion P xs × AllByRecursion (LineFits v) us
 blocks_back v P ls one [] us h = (tt, h)
 blocks_back v P ls one (x ∷ xs) us h =
     let all = first_part (LineFits v) (ls x) (flat_map ls xs ++ us)
-    (subst (λ (zs : List Line). AllByRecursion (LineFits v) zs) (append_assoc (ls x) (flat_map ls xs) us) h) in
+    (subst (λ (zs : List CertLine). AllByRecursion (LineFits v) zs) (append_assoc (ls x) (flat_map ls xs) us) h) in
     let more = blocks_back v P ls one xs us all.1 in
     ((one x all.0, more.0), more.1)
 
@@ -327,17 +328,17 @@ piece_back v p h =
     let own = first_part (LineFits v) (map TriangleLine p.triangles) (map FlatLine p.flats) h.1 in
     record { id = h.0.0; triangles = lines_fit v false p.triangles own.0; flats = lines_fit v true p.flats own.1 }
 
-fits_back : (v : Version) (c : Cert) → AllByRecursion (LineFits v) (lines_of (content_of c)) → Fits v (content_of c)
-unfolding lines_of
+fits_back : (v : Version) (c : Cert) → AllByRecursion (LineFits v) (content_lines (content_of c)) → Fits v (content_of c)
+unfolding content_lines
 fits_back v c h =
-    let ps = blocks_back v (PieceFits v) piece_lines (piece_back v) (map piece_of c.pieces) _ h in
-    let qs = blocks_back v (ParcelFits v) parcel_lines (λ q f. record { id = f.0.0; flats = lines_fit v true q.flats f.1 }) (map parcel_of c.parcels) _ ps.1 in
+    let ps = blocks_back v (PieceFits v) piece_lines (piece_back v) (map block_of_piece c.pieces) _ h in
+    let qs = blocks_back v (ParcelFits v) parcel_lines (λ q f. record { id = f.0.0; flats = lines_fit v true q.flats f.1 }) (map block_of_parcel c.parcels) _ ps.1 in
     let es = blocks_back v (ExactFits v) exact_lines (λ e f. record { version = f.0.0; id = f.0.1; flats = lines_fit v true e.flats f.1 })
     (map exact_of c.exact) (end_lines (map separator_of c.pairs)) qs.1 in
     cert_fits v c ps.0 qs.0 es.0
 
 -- a text of a certificate has no fault
-pub no_fault : (c : Cert) (text : List ℕ) → IsCertText text c → verdict text ≡ Ok (2 + length (lines_of (content_of c)))
+pub no_fault : (c : Cert) (text : List ℕ) → IsCertText text c → verdict text ≡ Ok (2 + length (content_lines (content_of c)))
 no_fault c text t = ap verdict t.1.is ∙ accepted t.0 (content_of c) (fits_back t.0 c t.1.fits)
 
 pub is_only : (r : Result Cert CertFault) (bytes : List ℕ) → IfOk r (λ x. IsCertText bytes x)

@@ -2,7 +2,7 @@
 use Rattle.std.proofs.Common.{◌≡◌, ℕ, zero, suc, ◌+◌, ◌*◌, ◌/◌, ◌<◌, ◌≤◌, Bool, true, false, cond, ◌&&◌, List, [], ◌∷◌, length, get_or, Option, Some, None}
 use Rattle.std.proofs.Common.{refl, sym, ap, ◌∙◌, arith, nat_le, eqb}
 use Rattle.std.proofs.Common.{ℤ, pos, negsuc, neg_ℤ, nat_abs, decimal}
-use Rattle.lpis_cert.proofs.Common.{nat_tests, and_parts, number_margin, Version, written, digits_on, number, CoordinateFits}
+use Rattle.lpis_cert.proofs.Common.{nat_tests, and_parts, number_margin, Version, written, digits_on, cert_number, CoordinateFits}
 use Rattle.std.proofs.lemmas.Bool.{eqb-true}
 use Rattle.std.proofs.lemmas.Int.{ints}
 use Rattle.std.proofs.lemmas.Fmt.{decimal_digit, decimal_is_IsNumeral, first_decimal, decimal-digits_value}
@@ -14,8 +14,8 @@ use Rattle.lpis_points.specs.Range.{limit, IsInRange}
 use Rattle.lpis_cert.specs.declared.version.Version.TheVariants.{One, Two}
 use Rattle.std.specs.Fmt.{signed_decimal}
 use Rattle.lpis_cert.specs.CertText.{coordinate_word}
-use Rattle.lpis_cert.specs.Versions.{greatest, factor, units}
-use Rattle.lpis_cert.specs.Reading.{coordinate, minus, plus}
+use Rattle.lpis_cert.specs.Versions.{greatest_in_version, factor, units}
+use Rattle.lpis_cert.specs.Reading.{cert_coordinate, minus, plus}
 
 pub opened : {A : Type 0} (b : Bool) (x : Option A) (y : A) → cond b x None ≡ Some y → (b ≡ true) × (x ≡ Some y)
 opened true x y h = (refl, h)
@@ -57,14 +57,14 @@ own = numerals_by_value (AllDigits 10) tells_digits
 pub not-zero : (d : ℕ) → 48 < d → eqb d 48 ≡ false
 not-zero d h = grind (arith, nat_tests)
 
-numeral : (limit : ℕ) (ds : List ℕ) → AllDigits 10 ds → 48 < get_or ds 0 0 → digits_value 10 ds ≤ limit → number limit ds ≡ Some (digits_value 10 ds)
-unfolding number
+numeral : (limit : ℕ) (ds : List ℕ) → AllDigits 10 ds → 48 < get_or ds 0 0 → digits_value 10 ds ≤ limit → cert_number limit ds ≡ Some (digits_value 10 ds)
+unfolding cert_number
 numeral limit [] all first le = absurd (omega arith)
 numeral limit (d ∷ ds) all first le = rw (not-zero d first) (digits_on_is limit 0 (d ∷ ds) all le)
 
 -- what is written is read
-pub number_again : (limit n : ℕ) → limit ≤ number_margin → n ≤ limit → number limit (decimal n) ≡ Some n
-unfolding number
+pub number_again : (limit n : ℕ) → limit ≤ number_margin → n ≤ limit → cert_number limit (decimal n) ≡ Some n
+unfolding cert_number
 number_again limit zero small le = rw (decimal_digit 0 (omega arith)) refl
 number_again limit (suc n) small le =
     let d = decimal_is_IsNumeral (suc n) (omega arith) in
@@ -79,8 +79,8 @@ differs : (d : ℕ) → eqb d 48 ≡ false → d ≡ 48 → ⊥
 differs d e is = grind (arith, nat_tests)
 
 -- what is read was written so
-pub number_takes : (limit : ℕ) (w : List ℕ) (n : ℕ) → limit ≤ number_margin → number limit w ≡ Some n → (w ≡ decimal n) × (n ≤ limit)
-unfolding number
+pub number_takes : (limit : ℕ) (w : List ℕ) (n : ℕ) → limit ≤ number_margin → cert_number limit w ≡ Some n → (w ≡ decimal n) × (n ≤ limit)
+unfolding cert_number
 number_takes limit [] n small h = absurd cc
 number_takes limit (d ∷ ds) n small h = by_zero (eqb d 48) refl h
   where
@@ -101,7 +101,7 @@ number_takes limit (d ∷ ds) n small h = by_zero (eqb d 48) refl h
 above : (d : ℕ) → 48 < d → eqb d 45 ≡ false
 above d h = grind (arith, nat_tests)
 
-pub greatest_small : (v : Version) → greatest v ≤ number_margin
+pub greatest_small : (v : Version) → greatest_in_version v ≤ number_margin
 greatest_small One = omega arith
 greatest_small Two = omega arith
 
@@ -128,18 +128,18 @@ abs_below : (n : ℕ) → nat_abs (neg_ℤ (pos n)) ≡ n
 abs_below zero = refl
 abs_below (suc n) = refl
 
-above_fits : (v : Version) (k : ℕ) → k ≤ greatest v → CoordinateFits v (pos (k * factor v))
+above_fits : (v : Version) (k : ℕ) → k ≤ greatest_in_version v → CoordinateFits v (pos (k * factor v))
 above_fits v k le = let is = of_units v k in record { whole = rw is refl; few = rw is le }
 
-below_fits : (v : Version) (k : ℕ) → suc k ≤ greatest v → CoordinateFits v (neg_ℤ (pos (suc k * factor v)))
+below_fits : (v : Version) (k : ℕ) → suc k ≤ greatest_in_version v → CoordinateFits v (neg_ℤ (pos (suc k * factor v)))
 below_fits v k le = let is = of_units_below v k in record { whole = rw is (abs_below (suc k * factor v)); few = rw is le }
 
 -- a coordinate that fits, by its units
 data Written (v : Version) (z : ℤ) : Type 0 where
-  Above : (k : ℕ) → k ≤ greatest v → units v z ≡ pos k → z ≡ pos (k * factor v) → Written v z
-  Below : (k : ℕ) → suc k ≤ greatest v → units v z ≡ negsuc k → z ≡ neg_ℤ (pos (suc k * factor v)) → Written v z
+  Above : (k : ℕ) → k ≤ greatest_in_version v → units v z ≡ pos k → z ≡ pos (k * factor v) → Written v z
+  Below : (k : ℕ) → suc k ≤ greatest_in_version v → units v z ≡ negsuc k → z ≡ neg_ℤ (pos (suc k * factor v)) → Written v z
 
-below_tenth : (n k : ℕ) → suc n / 10 ≡ k → suc n ≡ nat_abs (neg_ℤ (pos k)) * 10 → nat_abs (neg_ℤ (pos k)) ≤ greatest One → Written One (negsuc n)
+below_tenth : (n k : ℕ) → suc n / 10 ≡ k → suc n ≡ nat_abs (neg_ℤ (pos k)) * 10 → nat_abs (neg_ℤ (pos k)) ≤ greatest_in_version One → Written One (negsuc n)
 below_tenth n zero e whole few = absurd (omega arith)
 below_tenth n (suc k) e whole few = Below k few (ap (λ (m : ℕ). neg_ℤ (pos m)) e) (ap (λ (m : ℕ). neg_ℤ (pos m)) whole)
 
@@ -151,8 +151,8 @@ written_as Two (negsuc n) fits = Below n fits.few refl (ap (λ (m : ℕ). neg_�
 
 -- what is written is read
 
-read_above : (v : Version) (w : List ℕ) (k : ℕ) → number (greatest v) w ≡ Some k → eqb (get_or w 0 0) 45 ≡ false → coordinate v w ≡ Some (pos (k * factor v))
-unfolding coordinate number
+read_above : (v : Version) (w : List ℕ) (k : ℕ) → cert_number (greatest_in_version v) w ≡ Some k → eqb (get_or w 0 0) 45 ≡ false → cert_coordinate v w ≡ Some (pos (k * factor v))
+unfolding cert_coordinate cert_number
 read_above v [] k h first = absurd cc
 read_above v (d ∷ ds) k h first = rw (first, h) refl
 
@@ -160,21 +160,21 @@ no_minus : (k : ℕ) → k ≤ number_margin → eqb (get_or (decimal k) 0 0) 45
 no_minus zero le = rw (decimal_digit 0 (omega arith)) refl
 no_minus (suc k) le = let first = first_decimal (suc k) (omega arith) (omega arith) in above (get_or (decimal (suc k)) 0 0) first
 
-read_below : (v : Version) (w : List ℕ) (k : ℕ) → number (greatest v) w ≡ Some (suc k) → coordinate v (45 ∷ w) ≡ Some (neg_ℤ (pos (suc k * factor v)))
-unfolding coordinate
+read_below : (v : Version) (w : List ℕ) (k : ℕ) → cert_number (greatest_in_version v) w ≡ Some (suc k) → cert_coordinate v (45 ∷ w) ≡ Some (neg_ℤ (pos (suc k * factor v)))
+unfolding cert_coordinate
 read_below v w k h = rw h refl
 
-pub coordinate_again : (v : Version) (z : ℤ) → CoordinateFits v z → coordinate v (coordinate_word v z) ≡ Some z
+pub coordinate_again : (v : Version) (z : ℤ) → CoordinateFits v z → cert_coordinate v (coordinate_word v z) ≡ Some z
 coordinate_again v z fits = by_units (written_as v z fits)
   where
-    by_units : Written v z → coordinate v (coordinate_word v z) ≡ Some z
+    by_units : Written v z → cert_coordinate v (coordinate_word v z) ≡ Some z
     by_units (Above k le is e) =
         let small = greatest_small v in
-        ap (λ (u : ℤ). coordinate v (signed_decimal u)) is
-        ∙ read_above v (decimal k) k (number_again (greatest v) k small le) (no_minus k (omega arith)) ∙ ap (λ (x : ℤ). Some x) (sym e)
+        ap (λ (u : ℤ). cert_coordinate v (signed_decimal u)) is
+        ∙ read_above v (decimal k) k (number_again (greatest_in_version v) k small le) (no_minus k (omega arith)) ∙ ap (λ (x : ℤ). Some x) (sym e)
     by_units (Below k le is e) =
-        ap (λ (u : ℤ). coordinate v (signed_decimal u)) is
-        ∙ read_below v (decimal (suc k)) k (number_again (greatest v) (suc k) (greatest_small v) le) ∙ ap (λ (x : ℤ). Some x) (sym e)
+        ap (λ (u : ℤ). cert_coordinate v (signed_decimal u)) is
+        ∙ read_below v (decimal (suc k)) k (number_again (greatest_in_version v) (suc k) (greatest_small v) le) ∙ ap (λ (x : ℤ). Some x) (sym e)
 
 -- what is read was written so
 
@@ -186,33 +186,33 @@ plus_takes : (v : Version) (o : Option ℕ) (z : ℤ) → plus v o ≡ Some z �
 plus_takes v None z h = absurd cc
 plus_takes v (Some n) z h = (n, refl, cc)
 
-made_minus : (v : Version) (d n : ℕ) (ds : List ℕ) (z : ℤ) → d ≡ 45 → ds ≡ decimal (suc n) → z ≡ neg_ℤ (pos (suc n * factor v)) → suc n ≤ greatest v
+made_minus : (v : Version) (d n : ℕ) (ds : List ℕ) (z : ℤ) → d ≡ 45 → ds ≡ decimal (suc n) → z ≡ neg_ℤ (pos (suc n * factor v)) → suc n ≤ greatest_in_version v
     → (◌≡◌ {A = List ℕ} (d ∷ ds) (coordinate_word v z)) × CoordinateFits v z
 made_minus v d n ds z e f g most = rw (e, f, g) (ap signed_decimal (sym (of_units_below v n)), below_fits v n most)
 
-made_plus : (v : Version) (n : ℕ) (w : List ℕ) (z : ℤ) → w ≡ decimal n → z ≡ pos (n * factor v) → n ≤ greatest v → (w ≡ coordinate_word v z) × CoordinateFits v z
+made_plus : (v : Version) (n : ℕ) (w : List ℕ) (z : ℤ) → w ≡ decimal n → z ≡ pos (n * factor v) → n ≤ greatest_in_version v → (w ≡ coordinate_word v z) × CoordinateFits v z
 made_plus v n w z f g most = rw (f, g) (ap signed_decimal (sym (of_units v n)), above_fits v n most)
 
-pub coordinate_takes : (v : Version) (w : List ℕ) (z : ℤ) → coordinate v w ≡ Some z → (w ≡ coordinate_word v z) × CoordinateFits v z
-unfolding coordinate
+pub coordinate_takes : (v : Version) (w : List ℕ) (z : ℤ) → cert_coordinate v w ≡ Some z → (w ≡ coordinate_word v z) × CoordinateFits v z
+unfolding cert_coordinate
 coordinate_takes v [] z h = absurd cc
 coordinate_takes v (d ∷ ds) z h = by_sign (eqb d 45) refl h
   where
-    by_sign : (b : Bool) → eqb d 45 ≡ b → cond b (minus v (number (greatest v) ds))
-        (plus v (number (greatest v) (d ∷ ds))) ≡ Some z → (◌≡◌ {A = List ℕ} (d ∷ ds) (coordinate_word v z))
+    by_sign : (b : Bool) → eqb d 45 ≡ b → cond b (minus v (cert_number (greatest_in_version v) ds))
+        (plus v (cert_number (greatest_in_version v) (d ∷ ds))) ≡ Some z → (◌≡◌ {A = List ℕ} (d ∷ ds) (coordinate_word v z))
         × CoordinateFits v z
     by_sign true e h =
-        let m = minus_takes v (number (greatest v) ds) z h in
-        let t = number_takes (greatest v) ds (suc m.0) (greatest_small v) m.1 in
+        let m = minus_takes v (cert_number (greatest_in_version v) ds) z h in
+        let t = number_takes (greatest_in_version v) ds (suc m.0) (greatest_small v) m.1 in
         made_minus v d m.0 ds z (eqb-true d 45 e) t.0 m.2 t.1
     by_sign false e h =
-        let m = plus_takes v (number (greatest v) (d ∷ ds)) z h in
-        let t = number_takes (greatest v) (d ∷ ds) m.0 (greatest_small v) m.1 in
+        let m = plus_takes v (cert_number (greatest_in_version v) (d ∷ ds)) z h in
+        let t = number_takes (greatest_in_version v) (d ∷ ds) m.0 (greatest_small v) m.1 in
         made_plus v m.0 (d ∷ ds) z t.0 m.2 t.1
 
 -- ---- ranges
 
-most_written : (v : Version) (k : ℕ) → k ≤ greatest v → k * factor v ≤ nat_abs limit
+most_written : (v : Version) (k : ℕ) → k ≤ greatest_in_version v → k * factor v ≤ nat_abs limit
 most_written One k le = omega arith
 most_written Two k le = omega arith
 

@@ -1,9 +1,9 @@
 -- The first line, and the whole text.
 use Rattle.std.proofs.Common.{bytes_eq, ◌≡◌, ℕ, ◌+◌, ◌≤◌, Bool, true, false, cond, List, [], ◌∷◌, ◌++◌, length, map, Some, None, Result, Ok, Err, IfOk, refl, sym, ap, ◌∙◌, arith, sum_by, flat_map}
-use Rattle.lpis_cert.proofs.Common.{sum_by-cons, AllByRecursion, Stage, Version, first_line, named, most_triangles, most_flats, greatest_count, PieceBlock, ParcelBlock, Content}
-use Rattle.lpis_cert.proofs.Common.{Cert, CertFault, IsCertText, content_of, Line, PieceLine, TriangleLine, Corners, CornersFit, ExactFits}
-use Rattle.lpis_cert.proofs.Common.{FlatLine, text_of, text_of_lines, lines_of, piece_lines, end_lines, LineFits, PieceFits, ParcelFits, lines}
-use Rattle.lpis_cert.proofs.Common.{is_lf, outcome, outcome_of, at_last, State, InBody, first_state}
+use Rattle.lpis_cert.proofs.Common.{sum_by-cons, AllByRecursion, Stage, Version, first_line, version_named, most_triangles, most_flats, greatest_count, PieceBlock, ParcelBlock, CertContent}
+use Rattle.lpis_cert.proofs.Common.{Cert, CertFault, IsCertText, content_of, CertLine, PieceLine, TriangleLine, Corners, CornersFit, ExactFits}
+use Rattle.lpis_cert.proofs.Common.{FlatLine, content_text, text_of_lines, content_lines, piece_lines, end_lines, LineFits, PieceFits, ParcelFits, lines}
+use Rattle.lpis_cert.proofs.Common.{is_lf, lines_outcome, outcome_of, at_last, LineState, InBody, first_state}
 use Rattle.lpis_cert.proofs.Common.{AtEnd, Declared, grow, grow_flats, verdict, ReadsLines, parcels_lines, exacts_lines}
 use Rattle.lpis_cert.specs.CertText.{ExactBlock as FlatsBlock}
 use Rattle.std.proofs.lemmas.List.{append-nil}
@@ -29,13 +29,13 @@ pub no_line : (text : List ℕ) → lines text ≡ text ∷ [] → verdict text 
 unfolding outcome_of
 no_line text h = rw h refl
 
-pub other_version : {text : List ℕ} {n : ℕ} {line rest : List ℕ} {m : ℕ} → TakesLine text n line rest m → named line ≡ None
+pub other_version : {text : List ℕ} {n : ℕ} {line rest : List ℕ} {m : ℕ} → TakesLine text n line rest m → version_named line ≡ None
     → verdict text ≡ Err (code.Version, 1)
 unfolding outcome_of
 other_version {rest = rest} t h = let s = split_some is_lf rest in let e = s.2 in let cut = t.split in rw (cut, e, h) refl
 
 -- the first line is the one of the version that it names
-pub named_is : (line : List ℕ) (v : Version) → named line ≡ Some v → line ≡ first_line v
+pub named_is : (line : List ℕ) (v : Version) → version_named line ≡ Some v → line ≡ first_line v
 named_is line v h = by_one (bytes_eq line (first_line One)) refl (bytes_eq line (first_line Two)) refl h
   where
     by_one : (a : Bool) → bytes_eq line (first_line One) ≡ a → (b : Bool) → bytes_eq line (first_line Two) ≡ b
@@ -44,8 +44,8 @@ named_is line v h = by_one (bytes_eq line (first_line One)) refl (bytes_eq line 
     by_one false e true f h = let same : Two ≡ v = cc h in rw (← same) (word_is line (first_line Two) f)
     by_one false e false f h = absurd cc
 
-pub this_version : {text line rest : List ℕ} {m : ℕ} (v : Version) → TakesLine text 1 line rest m → named line ≡ Some v
-    → (text ≡ first_line v ++ (10 ∷ rest)) × (verdict text ≡ outcome v m first_state (lines rest))
+pub this_version : {text line rest : List ℕ} {m : ℕ} (v : Version) → TakesLine text 1 line rest m → version_named line ≡ Some v
+    → (text ≡ first_line v ++ (10 ∷ rest)) × (verdict text ≡ lines_outcome v m first_state (lines rest))
 unfolding outcome_of
 this_version {text} {line} {rest} {m} v t h =
     let s = split_some is_lf rest in
@@ -54,23 +54,23 @@ this_version {text} {line} {rest} {m} v t h =
     let next = t.next in
     (t.parts ∙ ap (λ (l : List ℕ). l ++ (10 ∷ rest)) (named_is line v h), rw (cut, next, e, h) refl)
 
-pub names_itself : (v : Version) → named (first_line v) ≡ Some v
+pub names_itself : (v : Version) → version_named (first_line v) ≡ Some v
 names_itself One = refl
 names_itself Two = refl
 
 -- the fault of what comes after it
-verdict_after : (v : Version) (rest : List ℕ) → verdict (first_line v ++ (10 ∷ rest)) ≡ outcome v 2 first_state (lines rest)
+verdict_after : (v : Version) (rest : List ℕ) → verdict (first_line v ++ (10 ∷ rest)) ≡ lines_outcome v 2 first_state (lines rest)
 unfolding outcome_of
 verdict_after v rest = let s = split_some is_lf rest in let e = s.2 in rw (lines_named v rest, e, names_itself v) refl
 
 -- ---- one more turn
 
-pub follows_grown : (v : Version) (start : List ℕ) (n : ℕ) (before more : List Line) (p q : State) (text : List ℕ) (k : ℕ)
+pub follows_grown : (v : Version) (start : List ℕ) (n : ℕ) (before more : List CertLine) (p q : LineState) (text : List ℕ) (k : ℕ)
     (rest : List ℕ) (m : ℕ) → ReadsLines v start n before text k → Grown v before more p q text k rest m
     → ReadsLines v start n more rest m
 follows_grown v start n before more p q text k rest m f g = let e = g.lines in rw e (follows_both f g.follows)
 
-pub whole_text : (v : Version) (start : List ℕ) (n : ℕ) (before more : List Line) (text : List ℕ) (k : ℕ) → ReadsLines v start n before text k
+pub whole_text : (v : Version) (start : List ℕ) (n : ℕ) (before more : List CertLine) (text : List ℕ) (k : ℕ) → ReadsLines v start n before text k
     → Whole v before more text → (start ≡ text_of_lines v more) × AllByRecursion (LineFits v) more
 whole_text v start n before more text k f w =
     let e = w.lines in
@@ -80,9 +80,9 @@ whole_text v start n before more text k f w =
 
 -- the first line and the lines after it
 pub whole_cert_text : (r : Result Cert CertFault) (v : Version) (text rest : List ℕ) → text ≡ first_line v ++ (10 ∷ rest)
-    → IfOk r (λ c. (rest ≡ text_of_lines v (lines_of (content_of c))) × AllByRecursion (LineFits v) (lines_of (content_of c)))
+    → IfOk r (λ c. (rest ≡ text_of_lines v (content_lines (content_of c))) × AllByRecursion (LineFits v) (content_lines (content_of c)))
     → IfOk r (λ c. IsCertText text c)
-unfolding text_of
+unfolding content_text
 whole_cert_text (Ok c) v text rest e h = (v, record { fits = h.1; is = e ∙ ap (λ (t : List ℕ). first_line v ++ (10 ∷ t)) h.0 })
 whole_cert_text (Err x) v text rest e h = tt
 
@@ -160,8 +160,8 @@ exacts_go v es b d fits h k =
     flats_go v (ExactFits v) (λ e. owner.Exact e.merge) (λ e. e.id) (λ e. e.flats)
     (λ e fit. record { line = λ f few. (fit.version, fit.id, few); flats = fit.flats }) (λ _ _ _ _. refl) es fits b d (λ _ _ _. refl) h k
 
-pub certificate_goes : (v : Version) (c : Content) → Fits v c → Goes v first_state (lines_of c) AtEnd
-unfolding lines_of
+pub certificate_goes : (v : Version) (c : CertContent) → Fits v c → Goes v first_state (content_lines c) AtEnd
+unfolding content_lines
 certificate_goes v c fits =
     let ps = pieces_go v c.pieces none_declared fits.pieces (omega (arith, fits.triangles_few)) (omega (arith, fits.flats_few)) in
     let qs = parcels_go v c.parcels ps.0 fits.parcels ps.3 (omega (arith, ps.2, fits.flats_few)) in
@@ -173,8 +173,8 @@ certificate_goes v c fits =
     (pairs_goes v es.0 es.1 c.pairs fits.pairs fits.pairs_few)))
 
 -- such a text has no fault
-pub accepted : (v : Version) (c : Content) → Fits v c → verdict (text_of v c) ≡ Ok (2 + length (lines_of c))
-unfolding text_of outcome at_last
+pub accepted : (v : Version) (c : CertContent) → Fits v c → verdict (content_text v c) ≡ Ok (2 + length (content_lines c))
+unfolding content_text lines_outcome at_last
 accepted v c fits =
-    let body = over v 2 first_state AtEnd (lines_of c) [] (certificate_goes v c fits) in
-    verdict_after v (text_of_lines v (lines_of c)) ∙ ap (λ (t : List ℕ). outcome v 2 first_state (lines t)) (sym (append-nil (text_of_lines v (lines_of c)))) ∙ body
+    let body = over v 2 first_state AtEnd (content_lines c) [] (certificate_goes v c fits) in
+    verdict_after v (text_of_lines v (content_lines c)) ∙ ap (λ (t : List ℕ). lines_outcome v 2 first_state (lines t)) (sym (append-nil (text_of_lines v (content_lines c)))) ∙ body

@@ -1,14 +1,14 @@
 -- One line taken, and the lines after it.
 use Rattle.std.proofs.Common.{◌≡◌, ℕ, zero, suc, ◌+◌, true, List, [], ◌∷◌, ◌++◌, length, Some, None, Ok, Err, refl, sym, ap, ◌∙◌, arith, append_assoc, length-append}
 use Rattle.std.proofs.Common.{inl, inr}
-use Rattle.lpis_cert.proofs.Common.{AllByRecursion, CertCode, CertFault, Kind, Piece, Flat, Parcel, Exact, Pairs, Pair, End, One, Block, Version, Line, spelling, text_of_lines}
+use Rattle.lpis_cert.proofs.Common.{AllByRecursion, CertCode, CertFault, Kind, Piece, Flat, Parcel, Exact, Pairs, Pair, End, One, Block, Version, CertLine, spelling, text_of_lines}
 use Rattle.lpis_cert.proofs.Common.{can_stand, values, read_line, is_lf, lines}
-use Rattle.lpis_cert.proofs.Common.{outcome, at_last, step, State, InBody, InPairs, AtEnd, LineFits, line_kind, Placed, LineFault, ReadsLines}
+use Rattle.lpis_cert.proofs.Common.{lines_outcome, at_last, line_step, LineState, InBody, InPairs, AtEnd, LineFits, line_kind, Placed, LineFault, ReadsLines}
 use Rattle.lpis_cert.proofs.Common.{FaultFrom}
 use Rattle.lpis_cert.specs.declared.fault.CertFault.TheVariants.{Memory, At}
 use Rattle.lpis_cert.specs.declared.kind.Kind.TheVariants.{Triangle}
 use Rattle.lpis_cert.specs.declared.kind.Expected.{Expected}
-use Rattle.lpis_cert.specs.Reading.{same_kind, placed}
+use Rattle.lpis_cert.specs.Reading.{same_kind, kind_placed}
 use Rattle.lpis_cert.specs.private.Taken.{FailsWith}
 use Rattle.lpis_cert.proofs.SplittingLemmas.{split_some}
 use Rattle.lpis_cert.proofs.WordLemmas.{lines_from}
@@ -28,8 +28,8 @@ same_kind_is _ _ h = absurd cc
 
 -- ---- from a placed line to a line that is read
 
-pub formed_stands : (v : Version) (e : Expected) (line : List ℕ) (k : Kind) (ws : List (List ℕ)) → placed v e line ≡ Ok (k, ws) → can_stand e k ≡ true
-unfolding placed
+pub formed_stands : (v : Version) (e : Expected) (line : List ℕ) (k : Kind) (ws : List (List ℕ)) → kind_placed v e line ≡ Ok (k, ws) → can_stand e k ≡ true
+unfolding kind_placed
 formed_stands v e line k ws h = grind arith
 
 -- the kind, where one alone can stand
@@ -37,7 +37,7 @@ pub alone : {v : Version} {k : Kind} {text : List ℕ} {n : ℕ} {given : Kind} 
 alone {v} {k} {given = given} {ws} p = grind (arith, same_kind_is, formed_stands)
 
 -- a line was taken
-pub taken : {e : Expected} {text : List ℕ} {n : ℕ} {k : Kind} {ws : List (List ℕ)} {rest : List ℕ} {m : ℕ} (v : Version) (l : Line)
+pub taken : {e : Expected} {text : List ℕ} {n : ℕ} {k : Kind} {ws : List (List ℕ)} {rest : List ℕ} {m : ℕ} (v : Version) (l : CertLine)
     → Placed v e text n k ws rest m → values v k ws ≡ Some l
     → ReadsLines v text n (l ∷ []) rest m × LineFits v l × (can_stand e (line_kind l) ≡ true)
 unfolding text_of_lines
@@ -51,18 +51,18 @@ untaken {rest = rest} v p h = grind arith
 
 -- ---- one step of the definition
 
-step_ok : (v : Version) (n : ℕ) (p q : State) (text line rest : List ℕ) → lines text ≡ line ∷ lines rest → step v p line ≡ Ok q
-    → outcome v n p (lines text) ≡ outcome v (n + 1) q (lines rest)
-unfolding outcome
+step_ok : (v : Version) (n : ℕ) (p q : LineState) (text line rest : List ℕ) → lines text ≡ line ∷ lines rest → line_step v p line ≡ Ok q
+    → lines_outcome v n p (lines text) ≡ lines_outcome v (n + 1) q (lines rest)
+unfolding lines_outcome
 step_ok v n p q text line rest e h = grind (arith, split_some is_lf rest)
 
-pub step_err : (v : Version) (n : ℕ) (p : State) (c : CertCode) (text line rest : List ℕ) → lines text ≡ line ∷ lines rest → step v p line ≡ Err c
-    → outcome v n p (lines text) ≡ Err (c, n)
-unfolding outcome
+pub step_err : (v : Version) (n : ℕ) (p : LineState) (c : CertCode) (text line rest : List ℕ) → lines text ≡ line ∷ lines rest → line_step v p line ≡ Err c
+    → lines_outcome v n p (lines text) ≡ Err (c, n)
+unfolding lines_outcome
 step_err v n p c text line rest e h = grind (arith, split_some is_lf rest)
 
 -- what one state wants
-abbrev pub Wants : State → Expected → Type 0
+abbrev pub Wants : LineState → Expected → Type 0
 Wants (InBody b (suc t) f d) e = One Triangle ≡ e
 Wants (InBody b zero (suc f) d) e = One Flat ≡ e
 Wants (InBody b zero zero d) e = Block b ≡ e
@@ -70,38 +70,38 @@ Wants (InPairs (suc n)) e = One Pair ≡ e
 Wants (InPairs zero) e = One End ≡ e
 Wants _ _ = ⊥
 
-step_fails : (v : Version) (p : State) (e : Expected) (line : List ℕ) (c : CertCode) → Wants p e → read_line v e line ≡ Err c → step v p line ≡ Err c
-unfolding step
+step_fails : (v : Version) (p : LineState) (e : Expected) (line : List ℕ) (c : CertCode) → Wants p e → read_line v e line ≡ Err c → line_step v p line ≡ Err c
+unfolding line_step
 step_fails v (InBody b zero zero d) e line c w h = rw (w, h) refl
 step_fails v (InPairs zero) e line c w h = rw (w, h) refl
 step_fails v AtEnd e line c w h = absurd w
 step_fails v _ e line c w h = rw (w, h) refl
 
-last_fails : (v : Version) (n : ℕ) (p : State) (e : Expected) (text : List ℕ) → Wants p e → lines text ≡ text ∷ []
-    → outcome v n p (lines text) ≡ Err (code.Truncated, n)
-unfolding outcome at_last
+last_fails : (v : Version) (n : ℕ) (p : LineState) (e : Expected) (text : List ℕ) → Wants p e → lines text ≡ text ∷ []
+    → lines_outcome v n p (lines text) ≡ Err (code.Truncated, n)
+unfolding lines_outcome at_last
 last_fails v n (InBody b t f d) e text w h = rw h refl
 last_fails v n (InPairs k) e text w h = rw h refl
 last_fails v n AtEnd e text w h = absurd w
 
-fails : (v : Version) (n : ℕ) (p : State) (e : Expected) (text : List ℕ) (c : CertCode) → Wants p e → FailsWith v e text c
-    → outcome v n p (lines text) ≡ Err (c, n)
+fails : (v : Version) (n : ℕ) (p : LineState) (e : Expected) (text : List ℕ) (c : CertCode) → Wants p e → FailsWith v e text c
+    → lines_outcome v n p (lines text) ≡ Err (c, n)
 fails v n p e text c w (inl h) = let is = h.1 in rw is (last_fails v n p e text w h.0)
 fails v n p e text c w (inr h) = step_err v n p c text h.0 h.1 h.2 (step_fails v p e h.0 c w h.3)
 
-pub fault_here : (v : Version) (x : CertFault) (n : ℕ) (p : State) (e : Expected) (text : List ℕ) → Wants p e → LineFault v x n e text → FaultFrom v x n p text
+pub fault_here : (v : Version) (x : CertFault) (n : ℕ) (p : LineState) (e : Expected) (text : List ℕ) → Wants p e → LineFault v x n e text → FaultFrom v x n p text
 fault_here v Memory n p e text w h = tt
 fault_here v (At c m) n p e text w h = let is = h.0 in rw is (fails v n p e text c w h.1)
 
 -- ---- lines that were taken
 
 -- each of these lines takes the state on
-abbrev pub Goes : Version → State → List Line → State → Type 0
+abbrev pub Goes : Version → LineState → List CertLine → LineState → Type 0
 Goes v p [] q = p ≡ q
-Goes v p (l ∷ ls) q = LineFits v l × ((r : State) × (step v p (spelling v l) ≡ Ok r) × Goes v r ls q)
+Goes v p (l ∷ ls) q = LineFits v l × ((r : LineState) × (line_step v p (spelling v l) ≡ Ok r) × Goes v r ls q)
 
-pub over : (v : Version) (n : ℕ) (p q : State) (ls : List Line) (rest : List ℕ) → Goes v p ls q
-    → outcome v n p (lines (text_of_lines v ls ++ rest)) ≡ outcome v (n + length ls) q (lines rest)
+pub over : (v : Version) (n : ℕ) (p q : LineState) (ls : List CertLine) (rest : List ℕ) → Goes v p ls q
+    → lines_outcome v n p (lines (text_of_lines v ls ++ rest)) ≡ lines_outcome v (n + length ls) q (lines rest)
 unfolding text_of_lines
 over v n p q [] rest h = grind arith
 over v n p q (l ∷ ls) rest h =
@@ -111,21 +111,21 @@ over v n p q (l ∷ ls) rest h =
     (lines_from v l (text_of_lines v ls ++ rest) h.0) h.1.1 in
     let more = over v (n + 1) h.1.0 q ls rest h.1.2 in
     let count : n + 1 + length ls ≡ n + length (l ∷ ls) = omega arith in
-    ap (λ (t : List ℕ). outcome v n p (lines t)) text ∙ first ∙ more ∙ ap (λ (k : ℕ). outcome v k q (lines rest)) count
+    ap (λ (t : List ℕ). lines_outcome v n p (lines t)) text ∙ first ∙ more ∙ ap (λ (k : ℕ). lines_outcome v k q (lines rest)) count
 
-pub after : {v : Version} {text : List ℕ} {n : ℕ} {ls : List Line} {rest : List ℕ} {m : ℕ} (p q : State) → ReadsLines v text n ls rest m → Goes v p ls q
-    → outcome v n p (lines text) ≡ outcome v m q (lines rest)
+pub after : {v : Version} {text : List ℕ} {n : ℕ} {ls : List CertLine} {rest : List ℕ} {m : ℕ} (p q : LineState) → ReadsLines v text n ls rest m → Goes v p ls q
+    → lines_outcome v n p (lines text) ≡ lines_outcome v m q (lines rest)
 after {v} {n = n} {ls} {rest} p q f g =
     let parts = f.parts in
     let next = f.next in
     rw (parts, next) (over v n p q ls rest g)
 
-pub fault_after : {v : Version} {text : List ℕ} {n : ℕ} {ls : List Line} {rest : List ℕ} {m : ℕ} (x : CertFault) (p q : State)
+pub fault_after : {v : Version} {text : List ℕ} {n : ℕ} {ls : List CertLine} {rest : List ℕ} {m : ℕ} (x : CertFault) (p q : LineState)
     → ReadsLines v text n ls rest m → Goes v p ls q → FaultFrom v x m q rest → FaultFrom v x n p text
 fault_after Memory p q f g h = tt
 fault_after (At c k) p q f g h = after p q f g ∙ h
 
-pub text-append : (v : Version) (xs ys : List Line) → text_of_lines v (xs ++ ys) ≡ text_of_lines v xs ++ text_of_lines v ys
+pub text-append : (v : Version) (xs ys : List CertLine) → text_of_lines v (xs ++ ys) ≡ text_of_lines v xs ++ text_of_lines v ys
 unfolding text_of_lines
 text-append v [] ys = refl
 text-append v (l ∷ xs) ys = cc (text-append v xs ys, append_assoc (spelling v l) (10 ∷ text_of_lines v xs) (text_of_lines v ys))
@@ -134,7 +134,7 @@ pub all-append : {A : Type 0} (P : A → Type 0) (xs ys : List A) → AllByRecur
 all-append P [] ys h k = k
 all-append P (x ∷ xs) ys h k = (h.0, all-append P xs ys h.1 k)
 
-pub follows_both : {v : Version} {a : List ℕ} {n : ℕ} {xs : List Line} {b : List ℕ} {m : ℕ} {ys : List Line} {c : List ℕ} {k : ℕ} → ReadsLines v a n xs b m
+pub follows_both : {v : Version} {a : List ℕ} {n : ℕ} {xs : List CertLine} {b : List ℕ} {m : ℕ} {ys : List CertLine} {c : List ℕ} {k : ℕ} → ReadsLines v a n xs b m
     → ReadsLines v b m ys c k → ReadsLines v a n (xs ++ ys) c k
 follows_both {v} {n = n} {xs} {m = m} {ys} {c} {k} f g = record {
   parts = f.parts ∙ ap (λ (t : List ℕ). text_of_lines v xs ++ t) g.parts ∙ sym (append_assoc (text_of_lines v xs) (text_of_lines v ys) c)
@@ -147,6 +147,6 @@ pub follows_none : (v : Version) (a : List ℕ) (n : ℕ) → ReadsLines v a n [
 unfolding text_of_lines
 follows_none v a n = record { parts = refl; fits = tt; next = omega arith }
 
-pub misplaced : (v : Version) (e : Expected) (line : List ℕ) (c : CertCode) → placed v e line ≡ Err c → read_line v e line ≡ Err c
+pub misplaced : (v : Version) (e : Expected) (line : List ℕ) (c : CertCode) → kind_placed v e line ≡ Err c → read_line v e line ≡ Err c
 unfolding read_line
 misplaced v e line c h = rw h refl

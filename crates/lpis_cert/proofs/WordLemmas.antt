@@ -3,7 +3,7 @@ use Rattle.std.proofs.Common.{◌≡◌, ℕ, suc, ◌<◌, ◌≤◌, Bool, tru
 use Rattle.std.proofs.Common.{codes, decimal}
 use Rattle.lpis_cert.proofs.Common.{and_parts, nat_tests, onto_first, list_any, join_with_byte, AllByRecursion, is_id, Version}
 use Rattle.lpis_cert.proofs.Common.{greatest_count, number_margin, Kind, Piece, Flat}
-use Rattle.lpis_cert.proofs.Common.{Parcel, Exact, Pairs, Pair, End, Corners, Line, PieceLine, TriangleLine, FlatLine, ParcelLine, ExactLine, PairsLine, PairLine, EndLine}
+use Rattle.lpis_cert.proofs.Common.{Parcel, Exact, Pairs, Pair, End, Corners, CertLine, PieceLine, TriangleLine, FlatLine, ParcelLine, ExactLine, PairsLine, PairLine, EndLine}
 use Rattle.lpis_cert.proofs.Common.{words_of, spelling, CoordinateFits, CornersFit, LineFits}
 use Rattle.lpis_cert.proofs.Common.{is_gap, is_empty, words, is_lf, lines, line_kind, first_line}
 use Rattle.lpis_cert.specs.CertText.{side}
@@ -107,7 +107,7 @@ kind_word Pairs = codes "pairs"
 kind_word Pair = codes "s"
 kind_word End = codes "end"
 
-abbrev pub fields : Version → Line → List (List ℕ)
+abbrev pub fields : Version → CertLine → List (List ℕ)
 fields v (PieceLine id t f) = id ∷ decimal t ∷ decimal f ∷ []
 fields v (TriangleLine c) = corner_words v c
 fields v (FlatLine c) = corner_words v c
@@ -117,7 +117,7 @@ fields v (PairsLine n) = decimal n ∷ []
 fields v (PairLine p) = decimal p.i ∷ decimal p.j ∷ decimal p.k ∷ []
 fields v EndLine = []
 
-pub words_are : (v : Version) (l : Line) → words_of v l ≡ kind_word (line_kind l) ∷ fields v l
+pub words_are : (v : Version) (l : CertLine) → words_of v l ≡ kind_word (line_kind l) ∷ fields v l
 unfolding words_of
 words_are v EndLine = refl
 words_are v _ = refl
@@ -149,7 +149,7 @@ side_word : (m : Bool) → IsWordText (side m)
 side_word false = record { some = refl; plain = plain_codes (codes "split") refl }
 side_word true = record { some = refl; plain = plain_codes (codes "merge") refl }
 
-pub field_words : (v : Version) (l : Line) → LineFits v l → AllByRecursion IsWordText (fields v l)
+pub field_words : (v : Version) (l : CertLine) → LineFits v l → AllByRecursion IsWordText (fields v l)
 field_words v (PieceLine id t f) fits = (id_word id fits.0, (count_word t fits.1, (count_word f fits.2, tt)))
 field_words v (TriangleLine c) fits = corner_fields v c fits
 field_words v (FlatLine c) fits = corner_fields v c fits
@@ -169,16 +169,16 @@ kind_plain Pairs = plain_codes (codes "pairs") refl
 kind_plain Pair = plain_codes (codes "s") refl
 kind_plain End = plain_codes (codes "end") refl
 
-pub spelling_words : (v : Version) (l : Line) → LineFits v l → words (spelling v l) ≡ kind_word (line_kind l) ∷ fields v l
+pub spelling_words : (v : Version) (l : CertLine) → LineFits v l → words (spelling v l) ≡ kind_word (line_kind l) ∷ fields v l
 unfolding spelling
 spelling_words v l fits = grind (arith, words_are, words_again, kind_word, kind_plain, field_words)
 
-spelling_ends : (v : Version) (l : Line) → LineFits v l → AllByRecursion (λ b. is_lf b ≡ false) (spelling v l)
+spelling_ends : (v : Version) (l : CertLine) → LineFits v l → AllByRecursion (λ b. is_lf b ≡ false) (spelling v l)
 unfolding spelling
 spelling_ends v l fits = grind (arith, words_are, ends_joined, kind_word, kind_plain, field_words)
 
 -- the lines of a text that begins with a line
-pub lines_from : (v : Version) (l : Line) (rest : List ℕ) → LineFits v l → lines (spelling v l ++ (10 ∷ rest)) ≡ spelling v l ∷ lines rest
+pub lines_from : (v : Version) (l : CertLine) (rest : List ℕ) → LineFits v l → lines (spelling v l ++ (10 ∷ rest)) ≡ spelling v l ∷ lines rest
 lines_from v l rest fits = part is_lf (spelling v l) rest (spelling_ends v l fits) 10 refl
 
 -- the lines of a text that begins with a version's first line

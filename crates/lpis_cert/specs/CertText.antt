@@ -35,22 +35,22 @@ pub record Separator : Type 0 where
   pub k : ℕ
 
 -- a certificate, without where it lies in memory
-pub record Content : Type 0 where
+pub record CertContent : Type 0 where
   pub pieces : List PieceBlock
   pub parcels : List ParcelBlock
   pub exact : List ExactBlock
   pub pairs : List Separator
 
 -- what a line says
-pub data Line : Type 0 where
-  PieceLine : List ℕ → ℕ → ℕ → Line
-  TriangleLine : Corners → Line
-  FlatLine : Corners → Line
-  ParcelLine : List ℕ → ℕ → Line
-  ExactLine : Bool → List ℕ → ℕ → Line
-  PairsLine : ℕ → Line
-  PairLine : Separator → Line
-  EndLine : Line
+pub data CertLine : Type 0 where
+  PieceLine : List ℕ → ℕ → ℕ → CertLine
+  TriangleLine : Corners → CertLine
+  FlatLine : Corners → CertLine
+  ParcelLine : List ℕ → ℕ → CertLine
+  ExactLine : Bool → List ℕ → ℕ → CertLine
+  PairsLine : ℕ → CertLine
+  PairLine : Separator → CertLine
+  EndLine : CertLine
 
 -- a coordinate, in the version's unit
 abbrev pub coordinate_word : Version → ℤ → List ℕ
@@ -65,7 +65,7 @@ abbrev pub side : Bool → List ℕ
 side false = codes "split"
 side true = codes "merge"
 
-unfoldable pub words_of : Version → Line → List (List ℕ)
+unfoldable pub words_of : Version → CertLine → List (List ℕ)
 words_of v (PieceLine id t f) = codes "piece" ∷ id ∷ decimal t ∷ decimal f ∷ []
 words_of v (TriangleLine c) = codes "t" ∷ corner_words v c
 words_of v (FlatLine c) = codes "f" ∷ corner_words v c
@@ -76,31 +76,31 @@ words_of v (PairLine p) = codes "s" ∷ decimal p.i ∷ decimal p.j ∷ decimal 
 words_of v EndLine = codes "end" ∷ []
 
 -- its words, one space between each two
-unfoldable pub spelling : Version → Line → List ℕ
+unfoldable pub spelling : Version → CertLine → List ℕ
 spelling v l = join_with_byte 32 (words_of v l)
 
 -- each line ends with one line end
-unfoldable pub text_of_lines : Version → List Line → List ℕ
+unfoldable pub text_of_lines : Version → List CertLine → List ℕ
 text_of_lines v [] = []
 text_of_lines v (l ∷ ls) = spelling v l ++ (10 ∷ text_of_lines v ls)
 
-abbrev pub piece_lines : PieceBlock → List Line
+abbrev pub piece_lines : PieceBlock → List CertLine
 piece_lines p = PieceLine p.id (length p.triangles) (length p.flats) ∷ (map TriangleLine p.triangles
     ++ map FlatLine p.flats)
 
-abbrev pub parcel_lines : ParcelBlock → List Line
+abbrev pub parcel_lines : ParcelBlock → List CertLine
 parcel_lines p = ParcelLine p.id (length p.flats) ∷ map FlatLine p.flats
 
-abbrev pub exact_lines : ExactBlock → List Line
+abbrev pub exact_lines : ExactBlock → List CertLine
 exact_lines b = ExactLine b.merge b.id (length b.flats) ∷ map FlatLine b.flats
 
-abbrev pub end_lines : List Separator → List Line
+abbrev pub end_lines : List Separator → List CertLine
 end_lines ps = PairsLine (length ps) ∷ (map PairLine ps ++ (EndLine ∷ []))
 
 -- the lines after the first
-unfoldable pub lines_of : Content → List Line
-lines_of c = flat_map piece_lines c.pieces ++ (flat_map parcel_lines c.parcels
+unfoldable pub content_lines : CertContent → List CertLine
+content_lines c = flat_map piece_lines c.pieces ++ (flat_map parcel_lines c.parcels
     ++ (flat_map exact_lines c.exact ++ end_lines c.pairs))
 
-unfoldable pub text_of : Version → Content → List ℕ
-text_of v c = first_line v ++ (10 ∷ text_of_lines v (lines_of c))
+unfoldable pub content_text : Version → CertContent → List ℕ
+content_text v c = first_line v ++ (10 ∷ text_of_lines v (content_lines c))

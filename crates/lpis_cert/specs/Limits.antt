@@ -1,10 +1,6 @@
 -- The limits of a certificate's text.
 use Rattle.std.specs.Prelude.{ℕ}
 
--- the most triangles of all pieces
-abbrev pub most_triangles : ℕ
-most_triangles = 2000000
-
 -- the most flats of all pieces, parcels and exact blocks
 abbrev pub most_flats : ℕ
 most_flats = 2000000

@@ -16,8 +16,9 @@ use Rattle.lpis_cert.specs.declared.kind.Expected.{Expected}
 use Rattle.lpis_cert.specs.declared.kind.Expected.TheVariants.{One, Block}
 use Rattle.lpis_cert.specs.declared.version.Version.{Version}
 use Rattle.lpis_cert.specs.Limits.{greatest_count, last_edge}
-use Rattle.lpis_cert.specs.Versions.{greatest, factor, has_exact}
-use Rattle.lpis_cert.specs.CertText.{Corners, Separator, Line, PieceLine, TriangleLine, FlatLine}
+use Rattle.lpis_cert.specs.Versions.{greatest_in_version, factor, has_exact}
+use Rattle.lpis_cert.specs.CertText.{Corners, Separator, CertLine, PieceLine, TriangleLine}
+use Rattle.lpis_cert.specs.CertText.{FlatLine}
 use Rattle.lpis_cert.specs.CertText.{ParcelLine, ExactLine, PairsLine, PairLine, EndLine}
 
 infixl 10 ◌>>=◌
@@ -39,9 +40,9 @@ digits_on limit n (d ∷ ds) = cond (is_ascii_digit d && nat_le (n * 10 + digit_
     (digits_on limit (n * 10 + digit_value d) ds) None
 
 -- `0`, or digits that don't begin with 0
-unfoldable pub number : ℕ → List ℕ → Option ℕ
-number limit [] = None
-number limit (d ∷ ds) = cond (d == 48) (cond (length ds == 0) (Some 0) None)
+unfoldable pub cert_number : ℕ → List ℕ → Option ℕ
+cert_number limit [] = None
+cert_number limit (d ∷ ds) = cond (d == 48) (cond (length ds == 0) (Some 0) None)
     (digits_on limit 0 (d ∷ ds))
 
 abbrev pub below_zero : Version → ℕ → Option ℤ
@@ -57,10 +58,10 @@ plus v None = None
 plus v (Some n) = Some (pos (n * factor v))
 
 -- the same in a version's unit, or `-` and digits that don't begin with 0: in millimetres
-unfoldable pub coordinate : Version → List ℕ → Option ℤ
-coordinate v [] = None
-coordinate v (d ∷ ds) = cond (d == 45) (minus v (number (greatest v) ds))
-    (plus v (number (greatest v) (d ∷ ds)))
+unfoldable pub cert_coordinate : Version → List ℕ → Option ℤ
+cert_coordinate v [] = None
+cert_coordinate v (d ∷ ds) = cond (d == 45) (minus v (cert_number (greatest_in_version v) ds))
+    (plus v (cert_number (greatest_in_version v) (d ∷ ds)))
 
 -- ---- words
 
@@ -113,15 +114,15 @@ first_is_split_or_merge [] = false
 first_is_split_or_merge (w ∷ ws) = is_some (merge_of w) && first_is_id ws
 
 -- an identifier where the kind wants one
-abbrev pub names : Kind → List (List ℕ) → Bool
-names Piece ws = first_is_id ws
-names Parcel ws = first_is_id ws
-names Exact ws = first_is_split_or_merge ws
-names Triangle ws = true
-names Flat ws = true
-names Pairs ws = true
-names Pair ws = true
-names End ws = true
+abbrev pub has_its_id : Kind → List (List ℕ) → Bool
+has_its_id Piece ws = first_is_id ws
+has_its_id Parcel ws = first_is_id ws
+has_its_id Exact ws = first_is_split_or_merge ws
+has_its_id Triangle ws = true
+has_its_id Flat ws = true
+has_its_id Pairs ws = true
+has_its_id Pair ws = true
+has_its_id End ws = true
 
 abbrev pub is_empty : List ℕ → Bool
 is_empty [] = true
@@ -131,7 +132,7 @@ is_empty (b ∷ bs) = false
 unfoldable pub form : Version → List (List ℕ) → Option (Kind × List (List ℕ))
 form v [] = None
 form v (w ∷ ws) = cond (list_any is_empty (w ∷ ws)) None
-    (kind_of w >>? λ k. cond (is_known v k && ((length ws + 1 == word_count k) && names k ws))
+    (kind_of w >>? λ k. cond (is_known v k && ((length ws + 1 == word_count k) && has_its_id k ws))
     (Some (k, ws)) None)
 
 -- ---- the kinds that can stand
@@ -167,7 +168,7 @@ can_stand (Block s) End = false
 -- ---- the values of a line
 
 abbrev pub natural : List ℕ → Option ℕ
-natural w = number greatest_count w
+natural w = cert_number greatest_count w
 
 -- what the first word says, and the further words
 abbrev pub front : {A : Type 0} → (List ℕ → Option A) → List (List ℕ) → Option (A × List (List ℕ))
@@ -180,7 +181,7 @@ last x [] = Some x
 last x (w ∷ ws) = None
 
 unfoldable pub point : Version → List (List ℕ) → Option ((ℤ × ℤ) × List (List ℕ))
-point v ws = front (coordinate v) ws >>? λ x. front (coordinate v) x.1 >>? λ y. Some
+point v ws = front (cert_coordinate v) ws >>? λ x. front (cert_coordinate v) x.1 >>? λ y. Some
     ((x.0, y.0), y.1)
 
 unfoldable pub corners : Version → List (List ℕ) → Option Corners
@@ -188,30 +189,31 @@ corners v ws = point v ws >>? λ a. point v a.1 >>? λ b. point v b.1 >>? λ c.
     last (record { x1 = a.0.0; y1 = a.0.1; x2 = b.0.0; y2 = b.0.1; x3 = c.0.0; y3 = c.0.1 }) c.1
 
 unfoldable pub separator : List (List ℕ) → Option Separator
-separator ws = front natural ws >>? λ i. front natural i.1 >>? λ j. front (number last_edge) j.1 >>?
+separator ws =
+    front natural ws >>? λ i. front natural i.1 >>? λ j. front (cert_number last_edge) j.1 >>?
     λ k.
     last (record { i = i.0; j = j.0; k = k.0 }) k.1
 
-unfoldable pub piece_line : List (List ℕ) → Option Line
+unfoldable pub piece_line : List (List ℕ) → Option CertLine
 piece_line ws = front (λ w. Some w) ws >>? λ id. front natural id.1 >>? λ t. front natural t.1 >>?
     λ f. last (PieceLine id.0 t.0 f.0) f.1
 
-unfoldable pub parcel_line : List (List ℕ) → Option Line
-parcel_line ws = front (λ w. Some w) ws >>? λ id. front natural id.1 >>? λ f. last
+unfoldable pub parcel_block_line : List (List ℕ) → Option CertLine
+parcel_block_line ws = front (λ w. Some w) ws >>? λ id. front natural id.1 >>? λ f. last
     (ParcelLine id.0 f.0) f.1
 
-unfoldable pub exact_line : List (List ℕ) → Option Line
+unfoldable pub exact_line : List (List ℕ) → Option CertLine
 exact_line ws = front merge_of ws >>? λ m. front (λ w. Some w) m.1 >>? λ id. front natural id.1 >>?
     λ f. last (ExactLine m.0 id.0 f.0) f.1
 
-unfoldable pub pairs_line : List (List ℕ) → Option Line
+unfoldable pub pairs_line : List (List ℕ) → Option CertLine
 pairs_line ws = front natural ws >>? λ n. last (PairsLine n.0) n.1
 
-unfoldable pub values : Version → Kind → List (List ℕ) → Option Line
+unfoldable pub values : Version → Kind → List (List ℕ) → Option CertLine
 values v Piece ws = piece_line ws
 values v Triangle ws = corners v ws >>? λ c. Some (TriangleLine c)
 values v Flat ws = corners v ws >>? λ c. Some (FlatLine c)
-values v Parcel ws = parcel_line ws
+values v Parcel ws = parcel_block_line ws
 values v Exact ws = exact_line ws
 values v Pairs ws = pairs_line ws
 values v Pair ws = separator ws >>? λ p. Some (PairLine p)
@@ -224,14 +226,14 @@ abbrev pub with_form : Expected → Option (Kind × List (List ℕ)) → Result 
 with_form e None = Err code.LineForm
 with_form e (Some p) = cond (can_stand e p.0) (Ok p) (Err code.BadPlace)
 
-abbrev pub or_number : Option Line → Result Line CertCode
+abbrev pub or_number : Option CertLine → Result CertLine CertCode
 or_number None = Err code.Number
 or_number (Some l) = Ok l
 
 -- form, then whether its kind can stand
-unfoldable pub placed : Version → Expected → List ℕ → Result (Kind × List (List ℕ)) CertCode
-placed v e line = with_form e (form v (words line))
+unfoldable pub kind_placed : Version → Expected → List ℕ → Result (Kind × List (List ℕ)) CertCode
+kind_placed v e line = with_form e (form v (words line))
 
 -- then the numbers
-unfoldable pub read_line : Version → Expected → List ℕ → Result Line CertCode
-read_line v e line = placed v e line >>= λ p. or_number (values v p.0 p.1)
+unfoldable pub read_line : Version → Expected → List ℕ → Result CertLine CertCode
+read_line v e line = kind_placed v e line >>= λ p. or_number (values v p.0 p.1)

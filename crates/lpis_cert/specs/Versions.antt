@@ -12,14 +12,14 @@ first_line One = codes "lpis-cert 1"
 first_line Two = codes "lpis-cert 2"
 
 -- the version that a first line names
-abbrev pub named : List ℕ → Option Version
-named line = cond (bytes_eq line (first_line One)) (Some One)
+abbrev pub version_named : List ℕ → Option Version
+version_named line = cond (bytes_eq line (first_line One)) (Some One)
     (cond (bytes_eq line (first_line Two)) (Some Two) None)
 
 -- the greatest absolute value of a coordinate as it is written
-abbrev pub greatest : Version → ℕ
-greatest One = 2000000000
-greatest Two = nat_abs limit
+abbrev pub greatest_in_version : Version → ℕ
+greatest_in_version One = 2000000000
+greatest_in_version Two = nat_abs limit
 
 -- the millimetres of one unit of a coordinate as it is written
 abbrev pub factor : Version → ℕ

@@ -1,11 +1,12 @@
 //! A draft with one more block.
 
 ghost use Rattle.std.specs.Prelude.{◌≡◌, ◌≤◌, ◌+◌, ◌∷◌, [], true, length, sum_by, IfOk, IfErr};
-ghost use Rattle.lpis_cert.specs.Limits.{most_triangles, most_flats, greatest_count};
+ghost use Rattle.lpis_cert.specs.Limits.{most_flats, greatest_count};
+ghost use Rattle.lpis_points.specs.Triangles.{most_triangles};
 ghost use Rattle.lpis_covers.specs.Ids.{is_id};
 ghost use Rattle.lpis_cert.specs.declared.kind.Stage.TheVariants as stage;
 ghost use Rattle.lpis_cert.specs.declared.fault.CertFault.TheVariants.{Memory};
-ghost use Rattle.lpis_cert.specs.CertText.{PieceLine, PairsLine, lines_of};
+ghost use Rattle.lpis_cert.specs.CertText.{PieceLine, PairsLine, content_lines};
 ghost use Rattle.lpis_cert.specs.Fitting.{LineFits};
 ghost use Rattle.lpis_cert.specs.LineKinds.{line_kind};
 ghost use Rattle.lpis_cert.specs.Reading.{can_stand};
@@ -224,7 +225,7 @@ fn finish(
     requires { ReadsLines draft.version start.text.now start.line (PairsLine count ∷ [])
         after.text.now after.line }
     ensures ok { IfOk result (λ cert. Whole draft.version (draft_lines draft)
-        (lines_of (content_of cert)) start.entry.text.now) }
+        (content_lines (content_of cert)) start.entry.text.now) }
     ensures err { IfErr result (λ e. FaultFrom draft.version e start.entry.line
         (draft_state draft) start.entry.text.now) }
 {

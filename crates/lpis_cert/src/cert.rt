@@ -1,7 +1,8 @@
 //! Certificates.
 
 ghost use Rattle.std.specs.Prelude.{◌≤◌, ◌+◌, length, sum_by};
-ghost use Rattle.lpis_cert.specs.Limits.{most_triangles, most_flats, greatest_count};
+ghost use Rattle.lpis_cert.specs.Limits.{most_flats, greatest_count};
+ghost use Rattle.lpis_points.specs.Triangles.{most_triangles};
 
 use crate::part::{ExactBlock, PairLine, ParcelPart, PiecePart};
 use lpis_rings::Sequence;

@@ -1,7 +1,8 @@
 //! A certificate that is being read, block by block.
 
 ghost use Rattle.std.specs.Prelude.{◌≡◌, ◌≤◌, ◌+◌, true, length, sum_by};
-ghost use Rattle.lpis_cert.specs.Limits.{most_triangles, most_flats};
+ghost use Rattle.lpis_cert.specs.Limits.{most_flats};
+ghost use Rattle.lpis_points.specs.Triangles.{most_triangles};
 ghost use Rattle.lpis_cert.specs.declared.kind.Stage.TheVariants.{Pieces};
 ghost use Rattle.lpis_cert.specs.declared.kind.Kind.TheVariants.{Parcel};
 ghost use Rattle.lpis_cert.specs.declared.kind.Expected.TheVariants.{Block};

@@ -8,7 +8,7 @@ ghost use Rattle.lpis_cert.specs.Limits.{number_margin};
 ghost use Rattle.lpis_cert.specs.CertText.{coordinate_word, spelling};
 ghost use Rattle.lpis_cert.specs.Fitting.{CoordinateFits, CornersFit};
 ghost use Rattle.lpis_cert.specs.Contents.{corner_numbers};
-ghost use Rattle.lpis_cert.specs.private.Taken.{Begins, corner_line};
+ghost use Rattle.lpis_cert.specs.private.Taken.{BeginsWithWord, corner_line};
 
 use crate::version::Version;
 use lpis_points::{Point, Triangle};
@@ -18,7 +18,8 @@ fn leading_digits(text: &[u8], end: u8, limit: u64) -> Option<(u64, &[u8])>
     requires small { limit ≤ number_margin }
     requires apart { end < 48 }
     requires first { 48 < get_or text.now 0 0 }
-    ensures { IfSome result (λ x. Begins text.now (decimal x.0) end x.1.now × (x.0 ≤ limit)) }
+    ensures { IfSome result (λ x. BeginsWithWord text.now (decimal x.0) end x.1.now
+        × (x.0 ≤ limit)) }
 {
     let mut value = 0;
     let mut at = 0;
@@ -52,7 +53,8 @@ fn skip(text: &[u8], byte: u8) -> Option<&[u8]>
 fn leading_number(text: &[u8], end: u8, limit: u64) -> Option<(u64, &[u8])>
     requires small { limit ≤ number_margin }
     requires apart { end < 48 }
-    ensures { IfSome result (λ x. Begins text.now (decimal x.0) end x.1.now × (x.0 ≤ limit)) }
+    ensures { IfSome result (λ x. BeginsWithWord text.now (decimal x.0) end x.1.now
+        × (x.0 ≤ limit)) }
 {
     if let Some(after) = skip(text, b'0') {
         let rest = skip(after, end)?;
@@ -73,7 +75,8 @@ fn leading_number(text: &[u8], end: u8, limit: u64) -> Option<(u64, &[u8])>
 /// The coordinate in millimetres that a word up to a byte spells.
 fn leading_coordinate(version: Version, text: &[u8], end: u8) -> Option<(i64, &[u8])>
     requires { end < 48 }
-    ensures word { IfSome result (λ x. Begins text.now (coordinate_word version x.0) end x.1.now) }
+    ensures word { IfSome result (λ x. BeginsWithWord text.now
+        (coordinate_word version x.0) end x.1.now) }
     ensures fits { IfSome result (λ x. CoordinateFits version x.0) }
     ensures range { IfSome result (λ x. IsInRange x.0) }
 {
@@ -131,7 +134,7 @@ pub(crate) fn leading_corners(
     flat: bool,
     text: &[u8],
 ) -> Option<(Triangle, &[u8])>
-    ensures line { IfSome result (λ t. Begins text.now
+    ensures line { IfSome result (λ t. BeginsWithWord text.now
         (spelling version (corner_line flat (corner_numbers t.0))) 10 t.1.now) }
     ensures fits { IfSome result (λ t. CornersFit version (corner_numbers t.0)) }
 {

@@ -1,7 +1,7 @@
 //! Why a text is no certificate.
 
 ghost use Rattle.std.specs.Prelude.{◌≡◌};
-ghost use Rattle.lpis_cert.specs.Codes.{code_text};
+ghost use Rattle.lpis_cert.specs.Codes.{cert_code_text};
 ghost use Rattle.lpis_cert.specs.declared.fault.CertFault.TheVariants.{Memory};
 
 use std::alloc::{AllocError, AllocFailed};
@@ -30,7 +30,7 @@ pub enum CertCode {
 impl CertCode {
     /// The two characters that stand for the code in a refusal: `50` to `56`.
     pub fn as_str(self) -> &'static str
-        ensures { result.now ≡ code_text self }
+        ensures { result.now ≡ cert_code_text self }
     {
         match self {
             CertCode::Version => "50",

@@ -3,7 +3,8 @@
 ghost use Rattle.std.specs.Prelude.{◌≡◌, ◌≤◌, Some, None, MatchOption, option_map};
 ghost use Rattle.lpis_points.specs.Range.{IsInRange};
 ghost use Rattle.lpis_cert.specs.Limits.{greatest_count};
-ghost use Rattle.lpis_cert.specs.Reading.{front, number as number_of, coordinate as coordinate_of};
+ghost use Rattle.lpis_cert.specs.Reading.{front, cert_number as number_of};
+ghost use Rattle.lpis_cert.specs.Reading.{cert_coordinate as coordinate_of};
 ghost use Rattle.lpis_cert.specs.Reading.{point as point_of, corners as corners_in};
 ghost use Rattle.lpis_cert.specs.Reading.{separator as separator_in};
 ghost use Rattle.lpis_cert.specs.Contents.{corner_numbers, separator_of};

@@ -2,12 +2,12 @@
 
 ghost use Rattle.std.specs.Prelude.{◌≡◌, option_map, IfOk, IfErr, Ok, Err};
 ghost use Rattle.lpis_cert.specs.Reading.{form, kind_of as kind_named, words};
-ghost use Rattle.lpis_cert.specs.Reading.{word_count as count_of_words, names as named_right};
+ghost use Rattle.lpis_cert.specs.Reading.{word_count as count_of_words, has_its_id as named_right};
 ghost use Rattle.lpis_cert.specs.Reading.{is_known as known, merge_of as merge_named};
 ghost use Rattle.lpis_cert.specs.CertText.{side as side_text};
 ghost use Rattle.lpis_cert.specs.Reading.{first_is_id as id_first};
 ghost use Rattle.lpis_cert.specs.Reading.{first_is_split_or_merge as split_or_merge_first};
-ghost use Rattle.lpis_cert.specs.Reading.{can_stand as may_stand, placed as placed_line};
+ghost use Rattle.lpis_cert.specs.Reading.{can_stand as may_stand, kind_placed as placed_line};
 
 use crate::fault::CertCode;
 use crate::kind::{Expected, Kind, Stage};
@@ -143,7 +143,7 @@ fn formed(version: Version, line: &[u8]) -> Option<(Kind, Words<'_>)>
 }
 
 /// The line's kind and further words, where its form is right and its kind can stand.
-#[tactic(auto, unfolding(crate::specs::Reading::placed))]
+#[tactic(auto, unfolding(crate::specs::Reading::kind_placed))]
 pub(crate) fn placed(
     version: Version,
     expected: Expected,

@@ -5,7 +5,7 @@ ghost use Rattle.lpis_covers.specs.Ids.{is_id};
 ghost use Rattle.lpis_cert.specs.CertText.{PieceLine, ParcelLine, ExactLine, PairsLine};
 ghost use Rattle.lpis_cert.specs.Fitting.{LineFits};
 ghost use Rattle.lpis_cert.specs.LineKinds.{line_kind};
-ghost use Rattle.lpis_cert.specs.Reading.{piece_line, parcel_line, exact_line, pairs_line};
+ghost use Rattle.lpis_cert.specs.Reading.{piece_line, parcel_block_line, exact_line, pairs_line};
 ghost use Rattle.lpis_cert.specs.Reading.{can_stand};
 ghost use Rattle.lpis_cert.specs.private.Taken.{ReadsLines, LineFault};
 ghost use Rattle.lpis_cert.specs.private.Drafts.{head_line, stage_after};
@@ -66,9 +66,9 @@ fn piece_fields(mut words: Words<'_>) -> Option<(&[u8], u32, u32)>
     }
 }
 
-#[tactic(auto, unfolding(crate::specs::Reading::parcel_line))]
+#[tactic(auto, unfolding(crate::specs::Reading::parcel_block_line))]
 fn parcel_fields(mut words: Words<'_>) -> Option<(&[u8], u32)>
-    ensures { parcel_line words.entry ≡ option_map (λ x. ParcelLine x.0.now x.1) result }
+    ensures { parcel_block_line words.entry ≡ option_map (λ x. ParcelLine x.0.now x.1) result }
 {
     let id = words.next()?;
     let flats = next_number(&mut words, GREATEST_COUNT)?;

@@ -5,10 +5,10 @@ ghost use Rattle.std.specs.Prelude.{true};
 ghost use Rattle.std.specs.Fmt.{decimal};
 ghost use Rattle.lpis_cert.specs.Limits.{number_margin};
 ghost use Rattle.lpis_cert.specs.Versions.{written};
-ghost use Rattle.lpis_cert.specs.CertText.{lines_of, Line, spelling};
+ghost use Rattle.lpis_cert.specs.CertText.{content_lines, CertLine, spelling};
 ghost use Rattle.lpis_cert.specs.Fitting.{LineFits};
-ghost use Rattle.lpis_cert.specs.Contents.{cert_text, content_of, IsCertText, IsTextOf};
-ghost use Rattle.lpis_cert.specs.Reading.{number, read_line, can_stand};
+ghost use Rattle.lpis_cert.specs.Contents.{cert_text, content_of, IsCertText, IsTextOfCert};
+ghost use Rattle.lpis_cert.specs.Reading.{cert_number, read_line, can_stand};
 ghost use Rattle.lpis_cert.specs.LineKinds.{line_kind};
 ghost use Rattle.lpis_cert.specs.Faults.{lines, verdict};
 ghost use Rattle.lpis_cert.specs.declared.cert.Cert.{Cert};
@@ -18,7 +18,7 @@ ghost use Rattle.lpis_cert.specs.declared.fault.CertCode.TheVariants as code;
 
 /// A certificate has one text of version 2.
 pub fn one_text_a_value()
-    ensures { (c : Cert) (text : List ℕ) → IsTextOf written c text ↔ (text ≡ cert_text c) }
+    ensures { (c : Cert) (text : List ℕ) → IsTextOfCert written c text ↔ (text ≡ cert_text c) }
 {}
 
 /// Two certificates have no text in common, of whatever versions.
@@ -29,7 +29,7 @@ pub fn one_value_a_text()
 /// A text of a certificate has no fault.
 pub fn texts_have_no_fault()
     ensures { (c : Cert) (text : List ℕ) → IsCertText text c
-        → verdict text ≡ Ok (2 + length (lines_of (content_of c))) }
+        → verdict text ≡ Ok (2 + length (content_lines (content_of c))) }
 {}
 
 /// A text without a fault is a certificate's: a text is refused for its fault, or it has a
@@ -47,14 +47,15 @@ pub fn cut_texts()
 
 /// A line that can stand is read exactly where it is spelled, in each version.
 pub fn spelled_lines()
-    ensures again { (v : Version) (e : Expected) (l : Line) → LineFits v l
+    ensures again { (v : Version) (e : Expected) (l : CertLine) → LineFits v l
         → can_stand e (line_kind l) ≡ true → read_line v e (spelling v l) ≡ Ok l }
-    ensures takes { (v : Version) (e : Expected) (line : List ℕ) (l : Line)
+    ensures takes { (v : Version) (e : Expected) (line : List ℕ) (l : CertLine)
         → read_line v e line ≡ Ok l → line ≡ spelling v l }
 {}
 
 /// A number has one spelling.
 pub fn canonical_numbers()
-    ensures { (limit : ℕ) (w : List ℕ) (n : ℕ) → limit ≤ number_margin → (number limit w ≡ Some n)
+    ensures { (limit : ℕ) (w : List ℕ) (n : ℕ) → limit ≤ number_margin
+        → (cert_number limit w ≡ Some n)
         ↔ ((w ≡ decimal n) × (n ≤ limit)) }
 {}

@@ -10,7 +10,7 @@ ghost use Rattle.lpis_cert.specs.Faults.{Declared, InPairs};
 ghost use Rattle.lpis_cert.specs.private.Taken.{Placed, LineFault, ReadsLines, FaultFrom};
 ghost use Rattle.lpis_cert.specs.private.Taken.{corner_kind as kind_of_corners};
 ghost use Rattle.lpis_cert.specs.private.Taken.{corner_line as line_of_corners, wanting};
-ghost use Rattle.lpis_cert.specs.Contents.{corner_numbers, all_corners, separator_of};
+ghost use Rattle.lpis_cert.specs.Contents.{corner_numbers, triangle_corners, separator_of};
 
 use crate::fast_path::leading_corners;
 use crate::fault::{CertCode, CertFault};
@@ -96,7 +96,7 @@ pub(crate) fn corner_lines(
 ) -> Result<(Vec<Triangle>, Rest<'_>), CertFault>
     ensures ok { IfOk result
         (λ x. ReadsLines version rest.entry.text.now rest.entry.line
-        (map (line_of_corners flat) (all_corners x.0.items)) x.1.text.now x.1.line) }
+        (map (line_of_corners flat) (triangle_corners x.0.items)) x.1.text.now x.1.line) }
     ensures count { IfOk result (λ x. length x.0.items ≡ count) }
     ensures err { IfErr result (λ e. (s : Stage) (f : ℕ) (d : Declared)
         → FaultFrom version e rest.entry.line (wanting flat count s f d) rest.entry.text.now) }

@@ -3,7 +3,7 @@
 ghost use Rattle.std.specs.Prelude.{◌≡◌, ◌≤◌, IfSome};
 ghost use Rattle.lpis_points.specs.Range.{IsInRange};
 ghost use Rattle.lpis_cert.specs.Limits.{number_margin};
-ghost use Rattle.lpis_cert.specs.Reading.{number, digits_on, coordinate};
+ghost use Rattle.lpis_cert.specs.Reading.{cert_number, digits_on, cert_coordinate};
 
 use crate::version::Version;
 
@@ -26,10 +26,10 @@ fn digits(digits: &[u8], limit: u64) -> Option<u64>
 }
 
 /// The number that a word spells, if it is at most the limit.
-#[tactic(auto, unfolding(crate::specs::Reading::number))]
+#[tactic(auto, unfolding(crate::specs::Reading::cert_number))]
 pub(crate) fn number(word: &[u8], limit: u64) -> Option<u64>
     requires { limit ≤ number_margin }
-    ensures is { result ≡ number limit word.now }
+    ensures is { result ≡ cert_number limit word.now }
     ensures most { IfSome result (λ n. n ≤ limit) }
 {
     match word {
@@ -41,9 +41,9 @@ pub(crate) fn number(word: &[u8], limit: u64) -> Option<u64>
 }
 
 /// The coordinate in millimetres that a word spells.
-#[tactic(auto, unfolding(crate::specs::Reading::coordinate))]
+#[tactic(auto, unfolding(crate::specs::Reading::cert_coordinate))]
 pub(crate) fn coordinate(version: Version, word: &[u8]) -> Option<i64>
-    ensures is { result ≡ coordinate version word.now }
+    ensures is { result ≡ cert_coordinate version word.now }
     ensures range { IfSome result IsInRange }
 {
     match word {

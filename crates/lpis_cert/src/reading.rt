@@ -2,10 +2,10 @@
 
 ghost use Rattle.std.specs.Prelude.{◌≡◌, ◌∷◌, ◌++◌, [], IfOk, IfErr, MatchResult};
 ghost use Rattle.std.specs.List.{AllByRecursion};
-ghost use Rattle.lpis_cert.specs.CertText.{text_of_lines, lines_of};
+ghost use Rattle.lpis_cert.specs.CertText.{text_of_lines, content_lines};
 ghost use Rattle.lpis_cert.specs.Versions.{first_line};
 ghost use Rattle.lpis_cert.specs.Fitting.{LineFits};
-ghost use Rattle.lpis_cert.specs.Faults.{lines, outcome, verdict, first_state, IsFirstFault};
+ghost use Rattle.lpis_cert.specs.Faults.{lines, lines_outcome, verdict, first_state, IsFirstFault};
 ghost use Rattle.lpis_cert.specs.private.Taken.{FaultFrom};
 ghost use Rattle.lpis_cert.specs.Contents.{IsCertText, content_of};
 ghost use Rattle.lpis_cert.specs.private.Drafts.{draft_lines, draft_state};
@@ -23,7 +23,7 @@ use std::alloc::Global;
 fn after_version(bytes: &[u8]) -> Result<(Version, Rest<'_>), CertFault>
     ensures { MatchResult result
         (λ x. (bytes.now ≡ first_line x.0 ++ (10 ∷ x.1.text.now))
-        × (verdict bytes.now ≡ outcome x.0 x.1.line first_state (lines x.1.text.now)))
+        × (verdict bytes.now ≡ lines_outcome x.0 x.1.line first_state (lines x.1.text.now)))
         (λ e. IsFirstFault e bytes.now) }
 {
     let start = Rest {
@@ -65,8 +65,8 @@ fn no_blocks(alloc: Global, version: Version) -> Draft
 /// The certificate of the lines after the first.
 fn read_blocks(alloc: Global, version: Version, start: Rest<'_>) -> Result<Cert, CertFault>
     ensures ok { IfOk result (λ cert. (start.entry.text.now
-        ≡ text_of_lines version (lines_of (content_of cert)))
-        × AllByRecursion (LineFits version) (lines_of (content_of cert))) }
+        ≡ text_of_lines version (content_lines (content_of cert)))
+        × AllByRecursion (LineFits version) (content_lines (content_of cert))) }
     ensures err { IfErr result
         (λ e. FaultFrom version e start.entry.line first_state start.entry.text.now) }
 {

@@ -1,8 +1,8 @@
 //! Versions of the text.
 
 ghost use Rattle.std.specs.Prelude.{◌≡◌, ◌≤◌, ◌*◌};
-ghost use Rattle.lpis_cert.specs.Versions.{factor, first_line, greatest, has_exact};
-ghost use Rattle.lpis_cert.specs.Versions.{named as version_named};
+ghost use Rattle.lpis_cert.specs.Versions.{factor, first_line, greatest_in_version, has_exact};
+ghost use Rattle.lpis_cert.specs.Versions.{version_named as version_named};
 ghost use Rattle.lpis_cert.specs.Limits.{number_margin};
 ghost use Rattle.lpis_cert.specs.private.Margins.{written_margin};
 
@@ -43,7 +43,7 @@ impl Version {
 
     /// The greatest absolute value of a coordinate as it is written.
     pub(crate) fn greatest(self) -> u64
-        ensures is { result ≡ greatest self }
+        ensures is { result ≡ greatest_in_version self }
         ensures small { result ≤ number_margin }
     {
         match self {
@@ -64,7 +64,7 @@ impl Version {
 
     /// A coordinate without its sign, in millimetres.
     pub(crate) fn scaled(self, written: u64) -> u64
-        requires { written ≤ greatest self }
+        requires { written ≤ greatest_in_version self }
         ensures is { result ≡ written * factor self }
         ensures small { result ≤ written_margin }
     {

@@ -9,7 +9,8 @@ ghost use Rattle.lpis_cert.specs.private.Taken.{corner_line};
 ghost use Rattle.lpis_cert.specs.Contents.{corner_numbers, separator_of, cert_text};
 ghost use Rattle.lpis_cert.specs.private.Drafts.{flats_line};
 ghost use Rattle.lpis_cert.specs.private.Written.{line_text, corners_text, piece_text, parcel_text};
-ghost use Rattle.lpis_cert.specs.private.Written.{flats_text, exact_text, pairs_text, tail_text};
+ghost use Rattle.lpis_cert.specs.private.Written.{flats_text, exact_block_text, pairs_text};
+ghost use Rattle.lpis_cert.specs.private.Written.{tail_text};
 ghost use Rattle.lpis_cert.specs.private.Written.{version_text, parts_text};
 
 use crate::cert::Cert;
@@ -160,7 +161,7 @@ fn write_parcels<W: Write>(parcels: &[ParcelPart], out: &mut W) -> Result<(), Wr
 
 fn write_exacts<W: Write>(blocks: &[ExactBlock], out: &mut W) -> Result<(), WriteFault>
     ensures { OnOk result (Appends (W.contents out.old) (W.contents out.new)
-        (flat_map exact_text blocks.now)) }
+        (flat_map exact_block_text blocks.now)) }
 {
     for block in blocks {
         let owner = Owner::Exact { merge: block.merge };
@@ -215,7 +216,7 @@ fn write_tail<W: Write>(cert: &Cert, out: &mut W) -> Result<(), WriteFault>
 
 fn write_from_exacts<W: Write>(cert: &Cert, out: &mut W) -> Result<(), WriteFault>
     ensures { OnOk result (Appends (W.contents out.old) (W.contents out.new)
-        (flat_map exact_text cert.now.exact ++ tail_text cert.now)) }
+        (flat_map exact_block_text cert.now.exact ++ tail_text cert.now)) }
 {
     write_exacts(cert.exact.as_slice(), out)?;
     write_tail(cert, out)
@@ -223,7 +224,7 @@ fn write_from_exacts<W: Write>(cert: &Cert, out: &mut W) -> Result<(), WriteFaul
 
 fn write_from_parcels<W: Write>(cert: &Cert, out: &mut W) -> Result<(), WriteFault>
     ensures { OnOk result (Appends (W.contents out.old) (W.contents out.new)
-        (flat_map parcel_text cert.now.parcels ++ (flat_map exact_text cert.now.exact
+        (flat_map parcel_text cert.now.parcels ++ (flat_map exact_block_text cert.now.exact
         ++ tail_text cert.now))) }
 {
     write_parcels(cert.parcels.as_slice(), out)?;

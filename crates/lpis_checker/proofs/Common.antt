@@ -4,7 +4,7 @@ pub use Rattle.lpis_cert.specs.declared.part.PairLine.{PairLine}
 pub use Rattle.lpis_cert.specs.declared.part.ParcelPart.{ParcelPart}
 pub use Rattle.lpis_cert.specs.declared.part.PiecePart.{PiecePart}
 pub use Rattle.lpis_checker.specs.FirstFault.{HoldBelow}
-pub use Rattle.lpis_checker.specs.GoodCertificate.{Holds, HoldsEverywhere, LineSeparates, OnParcel, OnPiece, polygons_of, triangles_of}
+pub use Rattle.lpis_checker.specs.GoodCertificate.{ConditionHolds, HoldsEverywhere, LineSeparates, OnParcel, OnPiece, polygons_of, triangles_of}
 pub use Rattle.lpis_checker.specs.SoundMap.{IsInPiece, IsSoundMap}
 pub use Rattle.lpis_checker.specs.declared.condition.Condition.{Condition}
 pub use Rattle.lpis_checker.specs.declared.condition.Condition.TheVariants.{Corners, Flats, Names, NearPairs, ParcelEdges, PieceEdges, Separating, Triangles, CounterClockwise}

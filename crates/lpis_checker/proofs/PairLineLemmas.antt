@@ -2,12 +2,12 @@
 -- names.
 use Rattle.std.proofs.Common.{◌≡◌, ℕ, zero, suc, ◌+◌, ◌<◌, ◌≤◌, Bool, false, IsTrue, ◌↔◌, List, length, get_or, Some, ◌⊎◌, inl, inr, ap, sym, refl, ◌∙◌, subst, arith, slice_get}
 use Rattle.lpis_checker.proofs.Common.{cases_eq, cases_lt, same_Some, slice_get_within, slice_get-get_or, Triangle, Contents, Cert, PairLine, Names, NearPairs, LineAt, PairAt}
-use Rattle.lpis_checker.proofs.Common.{triangles_of, Holds, HoldsEverywhere}
+use Rattle.lpis_checker.proofs.Common.{triangles_of, ConditionHolds, HoldsEverywhere}
 use Rattle.lpis_points.specs.Triangles.{are_apart}
 use Rattle.lpis_parcels.proofs.Shared.{item-within}
 use Rattle.lpis_pairs.specs.NearPairs.{IsNear, IsNearList, IsBelow}
 use Rattle.lpis_checker.specs.declared.condition.Site.{Site}
-use Rattle.lpis_checker.specs.GoodCertificate.{IsNamed, IsInOrder, OfTwo}
+use Rattle.lpis_checker.specs.GoodCertificate.{IsNamedPair, IsInOrder, OfTwo}
 use Rattle.lpis_checker.specs.FirstFault.{IsEarlier, IsFirst}
 use Rattle.lpis_checker.proofs.SiteLemmas.{read_at}
 
@@ -75,7 +75,7 @@ near_two ts us i j b same rising within h = subst (λ (vs : List Triangle). IsTr
 pub record WalkAt (c : Cert) (near : List (ℕ × ℕ)) (at k : ℕ) : Type 0 where
   pub within : at ≤ length c.pairs
   pub behind : (m : ℕ) (l : PairLine) (n : ℕ) (p : ℕ × ℕ) → m < at → slice_get c.pairs m ≡ Some l → k ≤ n → slice_get near n ≡ Some p → IsBelow l.i l.j p.0 p.1
-  pub passed : (n : ℕ) (p : ℕ × ℕ) → n < k → slice_get near n ≡ Some p → IsNamed c.pairs p.0 p.1
+  pub passed : (n : ℕ) (p : ℕ × ℕ) → n < k → slice_get near n ≡ Some p → IsNamedPair c.pairs p.0 p.1
 
 pub walk_none : (c : Cert) (near : List (ℕ × ℕ)) → WalkAt c near 0 0
 walk_none c near = record { within = omega arith; behind = λ m l n p h e k f. absurd (omega arith); passed = λ n p h e. absurd (omega arith) }
@@ -126,16 +126,16 @@ walk_more c ts near law from at k p w e s named = record {
     split : (n : ℕ) → n < k + 1 → (n < k) ⊎ (n ≡ k)
     split n h = elim (cases_eq n k) [ inl e ↦ inr e | inr x ↦ inl (omega arith) ]
 
-    by : (n : ℕ) (q : ℕ × ℕ) → slice_get near n ≡ Some q → (n < k) ⊎ (n ≡ k) → IsNamed c.pairs q.0 q.1
+    by : (n : ℕ) (q : ℕ × ℕ) → slice_get near n ≡ Some q → (n < k) ⊎ (n ≡ k) → IsNamedPair c.pairs q.0 q.1
     by n q f (inl h) = w.passed n q h f
     by n q f (inr h) =
         let same : p ≡ q = same_Some p q (sym e ∙ ap (λ (m : ℕ). slice_get near m) (sym h) ∙ f) in
-        subst (λ (z : ℕ × ℕ). IsNamed c.pairs z.0 z.1) same (at, named.0, named.1, named.2, named.3)
+        subst (λ (z : ℕ × ℕ). IsNamedPair c.pairs z.0 z.1) same (at, named.0, named.1, named.2, named.3)
 
 -- past the last near pair each is named
 pub walk_all : (r : Contents) (c : Cert) (ts : List Triangle) (near : List (ℕ × ℕ)) → ts ≡ triangles_of c.pieces
     → IsNearList ts near → (at k : ℕ) → length near ≤ k → WalkAt c near at k → (i j : ℕ)
-    → Holds r c NearPairs (PairAt i j)
+    → ConditionHolds r c NearPairs (PairAt i j)
 walk_all r c ts near numbered law at k l w i j n =
     let x = law.all i j (subst (λ (us : List Triangle). IsNear us i j) (sym numbered) n) in
     let within = slice_get_within near x.0 (i, j) x.1 in
@@ -151,7 +151,7 @@ pub walk_fault : (r : Contents) (c : Cert) (ts : List Triangle) (near : List (�
     → IsFirst r c NearPairs (PairAt p.0 p.1)
 walk_fault r c ts near names numbered law from at k p w e s not = record { fails = fails; earlier = earlier }
   where
-    not_named : IsNamed c.pairs p.0 p.1 → ⊥
+    not_named : IsNamedPair c.pairs p.0 p.1 → ⊥
     not_named x = by (cases_lt x.0 at) (cases_eq x.0 at)
       where
         by : (x.0 < at) ⊎ (at ≤ x.0) → (x.0 ≡ at) ⊎ ((x.0 ≡ at) → ⊥) → ⊥
@@ -165,16 +165,16 @@ walk_fault r c ts near names numbered law from at k p w e s not = record { fails
             let g = slice_get-get_or c.pairs at x.1 inside in
             s.stop l g (subst (λ (z : ℕ). IsBelow l.i l.j z p.1) x.3 (subst (λ (z : ℕ). IsBelow l.i l.j x.1.i z) x.4 (lines_ascend r c names at x.0 l x.1 strict g x.2)))
 
-    fails : Holds r c NearPairs (PairAt p.0 p.1) → ⊥
+    fails : ConditionHolds r c NearPairs (PairAt p.0 p.1) → ⊥
     fails h = not_named (h (subst (λ (us : List Triangle). IsNear us p.0 p.1) numbered (law.near k p e)))
 
-    pair_earlier : (i j : ℕ) → IsBelow i j p.0 p.1 → Holds r c NearPairs (PairAt i j)
+    pair_earlier : (i j : ℕ) → IsBelow i j p.0 p.1 → ConditionHolds r c NearPairs (PairAt i j)
     pair_earlier i j b n = by (cases_lt x.0 k) (cases_eq x.0 k)
       where
         x : (m : ℕ) × (slice_get near m ≡ Some (i, j))
         x = law.all i j (subst (λ (us : List Triangle). IsNear us i j) (sym numbered) n)
 
-        by : (x.0 < k) ⊎ (k ≤ x.0) → (x.0 ≡ k) ⊎ ((x.0 ≡ k) → ⊥) → IsNamed c.pairs i j
+        by : (x.0 < k) ⊎ (k ≤ x.0) → (x.0 ≡ k) ⊎ ((x.0 ≡ k) → ⊥) → IsNamedPair c.pairs i j
         by (inl h) q = w.passed x.0 (i, j) h x.1
         by (inr h) (inl q) =
             let y : ℕ × ℕ = (i, j) in
@@ -184,6 +184,6 @@ walk_fault r c ts near names numbered law from at k p w e s not = record { fails
             let strict : k < x.0 = omega arith in
             absurd (below_not i j i j (below_trans i j p.0 p.1 i j b (law.ascending k x.0 p (i, j) strict e x.1)) refl refl)
 
-    earlier : (b : Site) → IsEarlier b (PairAt p.0 p.1) → Holds r c NearPairs b
+    earlier : (b : Site) → IsEarlier b (PairAt p.0 p.1) → ConditionHolds r c NearPairs b
     earlier (PairAt i j) h = pair_earlier i j h
     earlier _ _ = tt

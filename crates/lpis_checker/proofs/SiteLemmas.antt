@@ -4,7 +4,7 @@ use Rattle.std.proofs.Common.{IfOk, Result}
 use Rattle.lpis_checker.proofs.Common.{cases_eq, cases_lt, none-some, same_Some, slice_get_within, Piece, Parcel, Contents, Cert, PiecePart, ParcelPart, PairLine, Condition, Names}
 use Rattle.std.proofs.lemmas.Option.{slice_get_read, slice_get_past}
 use Rattle.lpis_checker.specs.declared.condition.Site.TheVariants.{ParcelAt}
-use Rattle.lpis_checker.proofs.Common.{Flats, Corners, ParcelEdges, NearPairs, Separating, PieceAt, LineAt, PairAt, Holds, HoldsEverywhere, OnParcel, OnPiece}
+use Rattle.lpis_checker.proofs.Common.{Flats, Corners, ParcelEdges, NearPairs, Separating, PieceAt, LineAt, PairAt, ConditionHolds, HoldsEverywhere, OnParcel, OnPiece}
 use Rattle.std.specs.Prelude.{⊤}
 use Rattle.std.proofs.lemmas.Result.{IfOk-weaker}
 use Rattle.lpis_checker.specs.declared.condition.Condition.TheVariants.{NotApart}
@@ -14,8 +14,8 @@ use Rattle.lpis_checker.specs.FirstFault.{IsEarlier, IsFirst}
 use Rattle.lpis_checker.specs.private.Searches.{IsOfLine}
 
 -- ---- holding everywhere
-pub at_all_sites : (r : Contents) (c : Cert) (q : Condition) → ((k : ℕ) → Holds r c q (PieceAt k))
-    → ((k : ℕ) → Holds r c q (ParcelAt k)) → ((k : ℕ) → Holds r c q (LineAt k)) → ((i j : ℕ) → Holds r c q (PairAt i j))
+pub at_all_sites : (r : Contents) (c : Cert) (q : Condition) → ((k : ℕ) → ConditionHolds r c q (PieceAt k))
+    → ((k : ℕ) → ConditionHolds r c q (ParcelAt k)) → ((k : ℕ) → ConditionHolds r c q (LineAt k)) → ((i j : ℕ) → ConditionHolds r c q (PairAt i j))
     → HoldsEverywhere r c q
 at_all_sites r c q pieces parcels lines pairs (PieceAt k) = pieces k
 at_all_sites r c q pieces parcels lines pairs (ParcelAt k) = parcels k
@@ -23,12 +23,12 @@ at_all_sites r c q pieces parcels lines pairs (LineAt k) = lines k
 at_all_sites r c q pieces parcels lines pairs (PairAt i j) = pairs i j
 
 -- ---- failing first
-pub first_at_line : (r : Contents) (c : Cert) (q : Condition) (k : ℕ) → (Holds r c q (LineAt k) → ⊥)
-    → ((m : ℕ) → Holds r c q (PieceAt m)) → ((m : ℕ) → Holds r c q (ParcelAt m))
-    → ((m : ℕ) → m < k → Holds r c q (LineAt m)) → IsFirst r c q (LineAt k)
+pub first_at_line : (r : Contents) (c : Cert) (q : Condition) (k : ℕ) → (ConditionHolds r c q (LineAt k) → ⊥)
+    → ((m : ℕ) → ConditionHolds r c q (PieceAt m)) → ((m : ℕ) → ConditionHolds r c q (ParcelAt m))
+    → ((m : ℕ) → m < k → ConditionHolds r c q (LineAt m)) → IsFirst r c q (LineAt k)
 first_at_line r c q k fails pieces parcels below = record { fails = fails; earlier = by }
   where
-    by : (b : Site) → IsEarlier b (LineAt k) → Holds r c q b
+    by : (b : Site) → IsEarlier b (LineAt k) → ConditionHolds r c q b
     by (PieceAt m) l = pieces m
     by (ParcelAt m) l = parcels m
     by (LineAt m) l = below m l
@@ -72,7 +72,8 @@ same = (λ p. p, λ p. p)
 nothing : {A B : Type 0} {F : A → Type 0} {G : B → Type 0} → ⊤ ↔ ((x : A) (y : B) → F x → G y → ⊤)
 nothing = (λ t x y e f. tt, λ h. tt)
 
-pub of_parts : (r : Contents) (c : Cert) (q : Condition) (k : ℕ) → (q ≡ Names → ⊥) → (Holds r c q (PieceAt k) ↔ OfPiece r c k (OnPiece q)) × (Holds r c q (ParcelAt k) ↔ OfParcel r c k (OnParcel r q))
+pub of_parts : (r : Contents) (c : Cert) (q : Condition) (k : ℕ) → (q ≡ Names → ⊥) → (ConditionHolds r c q (PieceAt k) ↔ OfPiece r c k (OnPiece q))
+    × (ConditionHolds r c q (ParcelAt k) ↔ OfParcel r c k (OnParcel r q))
 of_parts r c Names k other = absurd (other refl)
 of_parts r c Flats k other = (same, same)
 of_parts r c Corners k other = (same, same)
@@ -110,15 +111,15 @@ is_names _ = inr (λ e. cc)
 no_ids : {A B : Type 0} (id : A → List ℕ) (name : B → List ℕ) (xs : List A) (ts : List B) (k : ℕ) → length ts ≤ k → length xs ≤ k → option_map name (slice_get ts k) ≡ option_map id (slice_get xs k)
 no_ids id name xs ts k parts own = ap (λ (o : Option _). option_map name o) (slice_get_past ts k parts) ∙ sym (ap (λ (o : Option _). option_map id o) (slice_get_past xs k own))
 
-pub past_pieces : (r : Contents) (c : Cert) (q : Condition) (k : ℕ) → length c.pieces ≤ k → length r.pieces ≤ k → Holds r c q (PieceAt k)
+pub past_pieces : (r : Contents) (c : Cert) (q : Condition) (k : ℕ) → length c.pieces ≤ k → length r.pieces ≤ k → ConditionHolds r c q (PieceAt k)
 past_pieces r c q k parts own = elim (is_names q) [
-  | inl named ↦ subst (λ (s : Condition). Holds r c s (PieceAt k)) (sym named) (no_ids (λ (x : Piece). x.id) (λ (t : PiecePart). t.id) r.pieces c.pieces k parts own)
+  | inl named ↦ subst (λ (s : Condition). ConditionHolds r c s (PieceAt k)) (sym named) (no_ids (λ (x : Piece). x.id) (λ (t : PiecePart). t.id) r.pieces c.pieces k parts own)
   | inr other ↦ (past_first r.pieces c.pieces k (of_parts r c q k other).0 refl own).0 refl
 ]
 
-pub past_parcels : (r : Contents) (c : Cert) (q : Condition) (k : ℕ) → length c.parcels ≤ k → length r.parcels ≤ k → Holds r c q (ParcelAt k)
+pub past_parcels : (r : Contents) (c : Cert) (q : Condition) (k : ℕ) → length c.parcels ≤ k → length r.parcels ≤ k → ConditionHolds r c q (ParcelAt k)
 past_parcels r c q k parts own = elim (is_names q) [
-  | inl named ↦ subst (λ (s : Condition). Holds r c s (ParcelAt k)) (sym named) (no_ids (λ (x : Parcel). x.id) (λ (t : ParcelPart). t.id) r.parcels c.parcels k parts own)
+  | inl named ↦ subst (λ (s : Condition). ConditionHolds r c s (ParcelAt k)) (sym named) (no_ids (λ (x : Parcel). x.id) (λ (t : ParcelPart). t.id) r.parcels c.parcels k parts own)
   | inr other ↦ (past_first r.parcels c.parcels k (of_parts r c q k other).1 refl own).0 refl
 ]
 
@@ -126,20 +127,21 @@ past_parcels r c q k parts own = elim (is_names q) [
 pub at_each : (P : ℕ → Type 0) (k n m : ℕ) → ((i : ℕ) → n ≤ i → m ≤ i → P i) → n ≤ k → m ≤ k → ((i : ℕ) → i < k → P i) → (i : ℕ) → P i
 at_each P k n m past long wide below i = elim (cases_lt i k) [ inl l ↦ below i l | inr g ↦ past i (omega arith) (omega arith) ]
 
-pub past_lines : (r : Contents) (c : Cert) (q : Condition) (k : ℕ) → length c.pairs ≤ k → Holds r c q (LineAt k)
+pub past_lines : (r : Contents) (c : Cert) (q : Condition) (k : ℕ) → length c.pairs ≤ k → ConditionHolds r c q (LineAt k)
 past_lines r c q k long = by q
   where
     never : (l : PairLine) → slice_get c.pairs k ≡ Some l → ⊥
     never l e = let w = slice_get_within c.pairs k l e in omega arith
 
-    by : (s : Condition) → Holds r c s (LineAt k)
+    by : (s : Condition) → ConditionHolds r c s (LineAt k)
     by Names = λ l e. absurd (never l e)
     by NotApart = λ l e. absurd (never l e)
     by Separating = λ l e. absurd (never l e)
     by _ = tt
 
 -- a condition on the triangles of pair lines says nothing elsewhere
-pub of_lines : (r : Contents) (c : Cert) (q : Condition) → IsOfLine q → ((m : ℕ) → Holds r c q (PieceAt m)) × ((m : ℕ) → Holds r c q (ParcelAt m)) × ((i j : ℕ) → Holds r c q (PairAt i j))
+pub of_lines : (r : Contents) (c : Cert) (q : Condition) → IsOfLine q → ((m : ℕ) → ConditionHolds r c q (PieceAt m)) × ((m : ℕ) → ConditionHolds r c q (ParcelAt m)) × ((i j : ℕ)
+    → ConditionHolds r c q (PairAt i j))
 of_lines r c NotApart p = ((λ m. tt), (λ m. tt), (λ i j. tt))
 of_lines r c Separating p = ((λ m. tt), (λ m. tt), (λ i j. tt))
 of_lines r c _ p = absurd p

@@ -18,7 +18,7 @@ use Rattle.lpis_rings.specs.Edges.{edge_turns, turns}
 use Rattle.lpis_rings.specs.Area.{area2}
 use Rattle.lpis_rings.proofs.Shared.{pieces_share_nothing, contains_by_one_turn, area_is_positive, area2_is}
 use Rattle.lpis_covers.specs.Ids.{same_id}
-use Rattle.lpis_parcels.specs.Release.{names, parcel_ids}
+use Rattle.lpis_parcels.specs.Release.{names_parcel, parcel_ids}
 use Rattle.lpis_covers.specs.Percentages.{most_percent}
 use Rattle.lpis_parcels.specs.Weighted.{areas2, weighted2}
 use Rattle.lpis_edge_sums.specs.Counting.{AtMostOne, ExactlyOne}
@@ -196,8 +196,8 @@ parcel_at r c g s d k x e =
     let p = parcel_turns r x (good_parcel r c (g.holds Names) (g.holds Flats) (g.holds ParcelEdges) k x e) in
     let t = p.turns_add s d ∙ piece_turns (pieces_named r x.id) s in
     record {
-      one = subst IsOneOrNone (sym t) (one_of_some (turns_at s) (names x.id) r.pieces o.each o.sum);
-      each = All-filter (names x.id) (OneAt s) r.pieces o.each;
+      one = subst IsOneOrNone (sym t) (one_of_some (turns_at s) (names_parcel x.id) r.pieces o.each o.sum);
+      each = All-filter (names_parcel x.id) (OneAt s) r.pieces o.each;
       sum = t;
     }
 
@@ -229,8 +229,8 @@ few_parcels r c n g s d i j a b e f p q =
     let o = once r c g s d in
     let x = inside_found r s a (parcel_at r c g s d i a e) p in
     let y = inside_found r s b (parcel_at r c g s d j b f) q in
-    let v = filter_kept (names a.id) r.pieces x.index x.item x.at in
-    let w = filter_kept (names b.id) r.pieces y.index y.item y.at in
+    let v = filter_kept (names_parcel a.id) r.pieces x.index x.item x.at in
+    let w = filter_kept (names_parcel b.id) r.pieces y.index y.item y.at in
     let m : v.index ≡ w.index = few_pieces s r.pieces o.each o.sum v.index w.index x.item y.item v.at w.at x.has y.has in
     let z : x.item ≡ y.item = same_Some x.item y.item (sym v.at ∙ ap (λ (k : ℕ). slice_get r.pieces k) m ∙ w.at) in
     same_index r.parcels n i j a b e f ((bytes_eq-Decides a.id x.item.parcel).0 v.passes ∙ ap (λ (t : Piece). t.parcel) z ∙ sym ((bytes_eq-Decides b.id y.item.parcel).0 w.passes))
@@ -263,7 +263,7 @@ areas_add r c ids triangles turned flats piece_net parcel_net = record {
   pieces = each;
   parcels = all_from (λ (x : Parcel). area2 x.polygon ≡ areas2 (pieces_named r x.id)) r.parcels parcel;
   weighted = all_from (λ (x : Parcel). (pos 0 ≤ℤ weighted2 r x.id) × (weighted2 r x.id ≤ℤ (pos most_percent *ℤ area2 x.polygon))) r.parcels (λ k x e.
-      let few = weights-between r.classes (pieces_named r x.id) (All-filter (names x.id) HasArea r.pieces each) in
+      let few = weights-between r.classes (pieces_named r x.id) (All-filter (names_parcel x.id) HasArea r.pieces each) in
       (few.0, subst (λ (z : ℤ). weighted2 r x.id ≤ℤ (pos most_percent *ℤ z)) (sym (parcel k x e)) few.1));
 }
   where

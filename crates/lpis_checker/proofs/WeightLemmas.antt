@@ -7,7 +7,7 @@ use Rattle.lpis_points.specs.Sums.{int_sum_by}
 use Rattle.lpis_covers.specs.declared.class.Class.{Class}
 use Rattle.lpis_covers.specs.Percentages.{most_percent}
 use Rattle.lpis_rings.specs.Area.{area2}
-use Rattle.lpis_parcels.specs.Weighted.{areas2, class_named, class_percent, weight}
+use Rattle.lpis_parcels.specs.Weighted.{areas2, class_named, class_percent, piece_weight}
 
 abbrev HasArea : Piece → Type 0
 HasArea x = pos 0 <ℤ area2 x.polygon
@@ -28,9 +28,9 @@ added : (w ws a rest : ℤ) → (pos 0 ≤ℤ w) × (w ≤ℤ (pos most_percent 
 added w ws a rest h k = (omega (arith, ints, h.0, k.0), omega (arith, ints, h.1, k.1))
 
 pub weights-between : (classes : List Class) (xs : List Piece) → All HasArea xs
-    → (pos 0 ≤ℤ int_sum_by (weight classes) xs) × (int_sum_by (weight classes) xs ≤ℤ (pos most_percent *ℤ areas2 xs))
+    → (pos 0 ≤ℤ int_sum_by (piece_weight classes) xs) × (int_sum_by (piece_weight classes) xs ≤ℤ (pos most_percent *ℤ areas2 xs))
 weights-between classes [] h = (omega (arith, ints), omega (arith, ints))
 weights-between classes (x ∷ xs) h =
-    added (weight classes x) (int_sum_by (weight classes) xs) (area2 x.polygon) (areas2 xs)
+    added (piece_weight classes x) (int_sum_by (piece_weight classes) xs) (area2 x.polygon) (areas2 xs)
     (share (class_percent (class_named classes x.class)) (area2 x.polygon) (few-percent (class_named classes x.class)) (All-head HasArea x xs h))
     (weights-between classes xs (All-tail HasArea x xs h))

@@ -21,5 +21,5 @@ code_of NotApart = 68
 code_of Separating = 69
 
 -- the two digits of a code
-unfoldable pub code_text : Condition → List ℕ
-code_text q = (48 + code_of q / 10) ∷ ((48 + code_of q % 10) ∷ [])
+unfoldable pub check_code_text : Condition → List ℕ
+check_code_text q = (48 + code_of q / 10) ∷ ((48 + code_of q % 10) ∷ [])

@@ -20,7 +20,7 @@ use Rattle.lpis_checker.specs.declared.fault.Location.TheVariants as location
 use Rattle.lpis_checker.specs.declared.fault.CheckFault.{CheckFault}
 use Rattle.lpis_checker.specs.declared.fault.CheckFault.TheVariants.{Memory, At}
 use Rattle.lpis_checker.specs.Codes.{code_of}
-use Rattle.lpis_checker.specs.GoodCertificate.{Holds, HoldsEverywhere}
+use Rattle.lpis_checker.specs.GoodCertificate.{ConditionHolds, HoldsEverywhere}
 
 -- the order of sites: pieces, parcels, pair lines, pairs of triangles
 abbrev pub IsEarlier : Site → Site → Type 0
@@ -42,8 +42,8 @@ pub record HoldBelow (r : Contents) (c : Cert) (n : ℕ) : Type 0 where
 
 -- the first site at which a condition fails
 pub record IsFirst (r : Contents) (c : Cert) (q : Condition) (at : Site) : Type 0 where
-  pub fails : Holds r c q at → ⊥
-  pub earlier : (before : Site) → IsEarlier before at → Holds r c q before
+  pub fails : ConditionHolds r c q at → ⊥
+  pub earlier : (before : Site) → IsEarlier before at → ConditionHolds r c q before
 
 -- the condition of the lowest code that fails, and its first site
 pub record IsFault (r : Contents) (c : Cert) (q : Condition) (at : Site) : Type 0 where
@@ -75,17 +75,18 @@ location_of r c (LineAt k) = line_location (slice_get c.pairs k)
 location_of r c (PairAt i j) = location.Pair i j
 
 -- what a fault reports: its code and its location
-abbrev pub report : CheckFault → Option (Condition × Location)
-report Memory = None
-report (At code at) = Some (code, at)
+abbrev pub check_fault_reported : CheckFault → Option (Condition × Location)
+check_fault_reported Memory = None
+check_fault_reported (At code at) = Some (code, at)
 
 -- a fault that is reported is that one; out of memory may stand in its place
 abbrev pub ReportsFirst : Contents → Cert → CheckFault → Type 0
 ReportsFirst r c fault =
     UnlessMemory (λ (t : Condition × Location). (site : Site) × IsFault r c t.0 site
-    × (t.1 ≡ location_of r c site)) (report fault)
+    × (t.1 ≡ location_of r c site)) (check_fault_reported fault)
 
 -- the fault is one of the parts, below the conditions on pairs of triangles
 abbrev pub IsOfParts : CheckFault → Type 0
 IsOfParts fault =
-    UnlessMemory (λ (t : Condition × Location). code_of t.0 < code_of NearPairs) (report fault)
+    UnlessMemory (λ (t : Condition × Location). code_of t.0 < code_of NearPairs)
+    (check_fault_reported fault)

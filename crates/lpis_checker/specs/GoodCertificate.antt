@@ -47,8 +47,9 @@ abbrev pub LineSeparates : ℕ → Triangle → Triangle → Type 0
 LineSeparates k t u = cond (nat_lt k 3) (EdgeSeparates k t u) (EdgeSeparates (k - 3) u t)
 
 -- some pair line names the triangles i and j
-abbrev pub IsNamed : List PairLine → ℕ → ℕ → Type 0
-IsNamed lines i j = (m : ℕ) × (l : PairLine) × (slice_get lines m ≡ Some l) × (l.i ≡ i) × (l.j ≡ j)
+abbrev pub IsNamedPair : List PairLine → ℕ → ℕ → Type 0
+IsNamedPair lines i j =
+    (m : ℕ) × (l : PairLine) × (slice_get lines m ≡ Some l) × (l.i ≡ i) × (l.j ≡ j)
 
 -- the pair line at k names two of the triangles in order, and stands after the line before it
 pub record IsInOrder (c : Cert) (k : ℕ) (l : PairLine) : Type 0 where
@@ -99,29 +100,31 @@ OnParcel r ParcelEdges x t = EdgesCancel x.polygon (polygons_of (pieces_named r 
 OnParcel r _ x t = ⊤
 
 -- what each condition says, site by site
-abbrev pub Holds : Contents → Cert → Condition → Site → Type 0
-Holds r c Names (PieceAt k) = option_map (λ (t : PiecePart). t.id) (slice_get c.pieces k)
+abbrev pub ConditionHolds : Contents → Cert → Condition → Site → Type 0
+ConditionHolds r c Names (PieceAt k) = option_map (λ (t : PiecePart). t.id) (slice_get c.pieces k)
     ≡ option_map (λ (x : Piece). x.id) (slice_get r.pieces k)
-Holds r c Names (ParcelAt k) = option_map (λ (t : ParcelPart). t.id) (slice_get c.parcels k)
+ConditionHolds r c Names (ParcelAt k) =
+    option_map (λ (t : ParcelPart). t.id) (slice_get c.parcels k)
     ≡ option_map (λ (x : Parcel). x.id) (slice_get r.parcels k)
-Holds r c Names (LineAt k) = OfLine c k (IsInOrder c k)
-Holds r c Triangles (PieceAt k) = OfPiece r c k (OnPiece Triangles)
-Holds r c CounterClockwise (PieceAt k) = OfPiece r c k (OnPiece CounterClockwise)
-Holds r c Flats (PieceAt k) = OfPiece r c k (OnPiece Flats)
-Holds r c Flats (ParcelAt k) = OfParcel r c k (OnParcel r Flats)
-Holds r c Corners (PieceAt k) = OfPiece r c k (OnPiece Corners)
-Holds r c Corners (ParcelAt k) = OfParcel r c k (OnParcel r Corners)
-Holds r c PieceEdges (PieceAt k) = OfPiece r c k (OnPiece PieceEdges)
-Holds r c ParcelEdges (ParcelAt k) = OfParcel r c k (OnParcel r ParcelEdges)
-Holds r c NearPairs (PairAt i j) = IsNear (triangles_of c.pieces) i j → IsNamed c.pairs i j
-Holds r c NotApart (LineAt k) = OfLine c k (λ l. IsNear (triangles_of c.pieces) l.i l.j)
-Holds r c Separating (LineAt k) =
+ConditionHolds r c Names (LineAt k) = OfLine c k (IsInOrder c k)
+ConditionHolds r c Triangles (PieceAt k) = OfPiece r c k (OnPiece Triangles)
+ConditionHolds r c CounterClockwise (PieceAt k) = OfPiece r c k (OnPiece CounterClockwise)
+ConditionHolds r c Flats (PieceAt k) = OfPiece r c k (OnPiece Flats)
+ConditionHolds r c Flats (ParcelAt k) = OfParcel r c k (OnParcel r Flats)
+ConditionHolds r c Corners (PieceAt k) = OfPiece r c k (OnPiece Corners)
+ConditionHolds r c Corners (ParcelAt k) = OfParcel r c k (OnParcel r Corners)
+ConditionHolds r c PieceEdges (PieceAt k) = OfPiece r c k (OnPiece PieceEdges)
+ConditionHolds r c ParcelEdges (ParcelAt k) = OfParcel r c k (OnParcel r ParcelEdges)
+ConditionHolds r c NearPairs (PairAt i j) =
+    IsNear (triangles_of c.pieces) i j → IsNamedPair c.pairs i j
+ConditionHolds r c NotApart (LineAt k) = OfLine c k (λ l. IsNear (triangles_of c.pieces) l.i l.j)
+ConditionHolds r c Separating (LineAt k) =
     OfLine c k (λ l. OfTwo (triangles_of c.pieces) l.i l.j (LineSeparates l.k))
-Holds r c _ _ = ⊤
+ConditionHolds r c _ _ = ⊤
 
 -- ---- good certificates
 abbrev pub HoldsEverywhere : Contents → Cert → Condition → Type 0
-HoldsEverywhere r c q = (at : Site) → Holds r c q at
+HoldsEverywhere r c q = (at : Site) → ConditionHolds r c q at
 
 -- all ten conditions hold
 pub record IsGood (r : Contents) (c : Cert) : Type 0 where

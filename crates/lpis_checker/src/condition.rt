@@ -1,7 +1,7 @@
 //! What a good certificate meets, and where it may fail to.
 
 ghost use Rattle.std.specs.Prelude.{◌≡◌};
-ghost use Rattle.lpis_checker.specs.Codes.{code_text};
+ghost use Rattle.lpis_checker.specs.Codes.{check_code_text};
 
 /// What a good certificate meets, in the order in which it is reported where it does not.
 #[derive(Clone, Copy, Debug, PartialEq, Eq)]
@@ -32,9 +32,9 @@ pub enum Condition {
 
 impl Condition {
     /// The two characters that stand in a refusal for a condition that fails: `60` to `69`.
-    #[tactic(auto, unfolding(crate::specs::Codes::code_text))]
+    #[tactic(auto, unfolding(crate::specs::Codes::check_code_text))]
     pub fn as_str(self) -> &'static str
-        ensures { result.now ≡ code_text self }
+        ensures { result.now ≡ check_code_text self }
     {
         match self {
             Condition::Names => "60",

@@ -6,7 +6,7 @@ ghost use Rattle.lpis_checker.specs.Codes.{code_of};
 ghost use Rattle.lpis_checker.specs.FirstFault.{HoldBelow, parcel_id as parcel_id_spec};
 ghost use Rattle.lpis_checker.specs.FirstFault.{piece_id as piece_id_spec};
 ghost use Rattle.lpis_checker.specs.FirstFault.{location_of as location_of_spec};
-ghost use Rattle.lpis_checker.specs.GoodCertificate.{Holds, triangles_of};
+ghost use Rattle.lpis_checker.specs.GoodCertificate.{ConditionHolds, triangles_of};
 ghost use Rattle.lpis_checker.specs.private.Searches.{FindsBelow, HasNoParcel, HasNoPiece};
 ghost use Rattle.lpis_checker.specs.private.Searches.{IsOfLine, IsOfPart};
 
@@ -57,7 +57,7 @@ pub(crate) fn location_of(
     cert: &Cert,
     found: &Failing,
 ) -> Result<Location, AllocError>
-    requires { Holds release.now cert.now found.now.condition found.now.site → ⊥ }
+    requires { ConditionHolds release.now cert.now found.now.condition found.now.site → ⊥ }
     ensures { IfOk result (λ index. index ≡ location_of_spec release.now cert.now found.now.site) }
 {
     match found.site {

@@ -1,7 +1,7 @@
 //! The names of the parts, and the order of the pair lines.
 
 ghost use Rattle.std.specs.Prelude.{◌≡◌, ◌↔◌, ◌<◌, ℕ, IsTrue, length};
-ghost use Rattle.lpis_checker.specs.GoodCertificate.{Holds, triangles_of};
+ghost use Rattle.lpis_checker.specs.GoodCertificate.{ConditionHolds, triangles_of};
 ghost use Rattle.lpis_checker.specs.private.Searches.{FindsLine};
 ghost use Rattle.lpis_checker.specs.declared.condition.Condition.TheVariants.{Names};
 ghost use Rattle.lpis_checker.specs.declared.condition.Site.TheVariants.{LineAt, ParcelAt, PieceAt};
@@ -20,7 +20,7 @@ fn is_same(part: &Id, own: &Id) -> bool
 
 /// Whether the piece at an index has its part's identifier, or neither is there.
 pub(crate) fn is_piece_named(release: &Release, cert: &Cert, index: usize) -> bool
-    ensures { IsTrue result ↔ Holds release.now cert.now Names (PieceAt index) }
+    ensures { IsTrue result ↔ ConditionHolds release.now cert.now Names (PieceAt index) }
 {
     match (
         cert.pieces.as_slice().get(index),
@@ -34,7 +34,7 @@ pub(crate) fn is_piece_named(release: &Release, cert: &Cert, index: usize) -> bo
 
 /// Whether the parcel at an index has its part's identifier, or neither is there.
 pub(crate) fn is_parcel_named(release: &Release, cert: &Cert, index: usize) -> bool
-    ensures { IsTrue result ↔ Holds release.now cert.now Names (ParcelAt index) }
+    ensures { IsTrue result ↔ ConditionHolds release.now cert.now Names (ParcelAt index) }
 {
     match (
         cert.parcels.as_slice().get(index),
@@ -68,7 +68,7 @@ fn names_two(line: &PairLine, count: usize) -> bool
 fn is_in_order(release: &Release, cert: &Cert, count: usize, index: usize) -> bool
     requires count { count ≡ length (triangles_of cert.now.pieces) }
     requires within { index < length cert.now.pairs }
-    ensures { IsTrue result ↔ Holds release.now cert.now Names (LineAt index) }
+    ensures { IsTrue result ↔ ConditionHolds release.now cert.now Names (LineAt index) }
 {
     let lines = cert.pairs.as_slice();
     let line = &lines[index];
@@ -83,8 +83,8 @@ fn is_in_order(release: &Release, cert: &Cert, count: usize, index: usize) -> bo
 
 /// The first pair line that is out of order.
 pub(crate) fn disordered_line(release: &Release, cert: &Cert) -> Option<usize>
-    requires pieces { (m : ℕ) → Holds release.now cert.now Names (PieceAt m) }
-    requires parcels { (m : ℕ) → Holds release.now cert.now Names (ParcelAt m) }
+    requires pieces { (m : ℕ) → ConditionHolds release.now cert.now Names (PieceAt m) }
+    requires parcels { (m : ℕ) → ConditionHolds release.now cert.now Names (ParcelAt m) }
     ensures { FindsLine release.now cert.now Names result }
 {
     let count = triangle_count(cert);

@@ -1,7 +1,8 @@
 //! The first site at which a condition fails.
 
 ghost use Rattle.std.specs.Prelude.{◌≡◌, ◌↔◌, ◌<◌, ℕ, IsTrue, IfOk, length};
-ghost use Rattle.lpis_checker.specs.GoodCertificate.{Holds, HoldsEverywhere, OnParcel, OnPiece};
+ghost use Rattle.lpis_checker.specs.GoodCertificate.{ConditionHolds, HoldsEverywhere, OnParcel};
+ghost use Rattle.lpis_checker.specs.GoodCertificate.{OnPiece};
 ghost use Rattle.lpis_checker.specs.GoodCertificate.{triangles_of};
 ghost use Rattle.lpis_checker.specs.private.Searches.{FindsFirst, FindsPart};
 ghost use Rattle.lpis_checker.specs.private.Searches.{IsOfLine, IsOfPart};
@@ -71,7 +72,7 @@ struct PiecePlaces<'a> {
 }
 
 impl<'a> Places for PiecePlaces<'a> {
-    ghost holds = { λ s k. Holds s.release.now s.cert.now s.condition (PieceAt k) };
+    ghost holds = { λ s k. ConditionHolds s.release.now s.cert.now s.condition (PieceAt k) };
 
     fn end(&self) -> usize {
         let parts = self.cert.pieces.as_slice();
@@ -102,7 +103,7 @@ struct ParcelPlaces<'a> {
 }
 
 impl<'a> Places for ParcelPlaces<'a> {
-    ghost holds = { λ s k. Holds s.release.now s.cert.now s.condition (ParcelAt k) };
+    ghost holds = { λ s k. ConditionHolds s.release.now s.cert.now s.condition (ParcelAt k) };
 
     fn end(&self) -> usize {
         let parts = self.cert.parcels.as_slice();
@@ -196,7 +197,7 @@ fn holds_at_line(
     requires names { HoldsEverywhere release.now cert.now Names }
     requires numbered { triangles.now ≡ triangles_of cert.now.pieces }
     requires within { index < length cert.now.pairs }
-    ensures { IsTrue result ↔ Holds release.now cert.now condition (LineAt index) }
+    ensures { IsTrue result ↔ ConditionHolds release.now cert.now condition (LineAt index) }
 {
     let line = &cert.pairs.as_slice()[index];
     match condition {

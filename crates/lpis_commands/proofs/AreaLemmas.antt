@@ -9,7 +9,8 @@ use Rattle.std.proofs.Math.Arith.{mod-mul}
 use Rattle.std.proofs.Math.Nat.{mod-le, pow-suc}
 use lib.Signed.{lt_z}
 use Rattle.std.proofs.lemmas.Bool.Decides.{nat_tests}
-use Rattle.lpis_commands.specs.Area.{fives_text, last_digits, most_printed, sign_text}
+use Rattle.lpis_commands.specs.Area.{fives_text, most_printed}
+use Rattle.lpis_points.specs.Decimals.{last_digits, sign_text}
 
 -- a numeral with zeros before it, up to a width
 abbrev pub zero_padded : ℕ → List ℕ → List ℕ

@@ -5,7 +5,7 @@ use Rattle.clap.specs.declared.parser.matches.ArgMatches.{ArgMatches}
 use Rattle.clap.specs.declared.parser.matches.ArgMatches.TheViews.{out-ArgMatches}
 use Rattle.clap.specs.Matches.{first_value}
 use Rattle.clap.proofs.WalkLemmas.{first_value-rows}
-use Rattle.lpis_commands.specs.Command.{IsCommand, IsNamed, command_line_app}
+use Rattle.lpis_commands.specs.Command.{IsCommand, IsNamedCommand, command_line_app}
 use Rattle.lpis_commands.specs.declared.command.Cmd.{Cmd}
 use Rattle.clap.proofs.OnLiterals.{clap_on_literals}
 
@@ -25,7 +25,7 @@ word-found m id (Some word) e = sym (first_value-rows (found_of m) id) ∙ sym e
 
 -- a command by its name and rows
 pub command-is : (o : Option (Text × List Row)) (name : Text) (rows : List Row) (command : Cmd)
-    → Some name ≡ option_map (λ p. p.0) o → Some rows ≡ option_map (λ p. p.1) o → IsNamed command name rows → IsCommand command o
+    → Some name ≡ option_map (λ p. p.0) o → Some rows ≡ option_map (λ p. p.1) o → IsNamedCommand command name rows → IsCommand command o
 command-is None name rows command n r h = cc n
 command-is (Some p) name rows command n r h =
     let same : name ≡ p.0 = cc n in

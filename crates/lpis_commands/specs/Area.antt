@@ -2,6 +2,7 @@
 use Rattle.std.specs.Prelude.{◌+◌, ◌*◌, ◌/◌, ◌%◌, ◌^◌, ◌++◌, ◌∷◌, ℕ, zero, suc, ℤ, pos, negsuc}
 use Rattle.std.specs.Prelude.{nat_abs, List, [], codes}
 use Rattle.std.specs.Fmt.{decimal}
+use Rattle.lpis_points.specs.Decimals.{last_digits, sign_text}
 
 -- the greatest absolute value that is printed
 abbrev pub most_printed : ℕ
@@ -15,19 +16,9 @@ area_decimals = 7
 abbrev pub eligible_decimals : ℕ
 eligible_decimals = 9
 
--- the last `width` digits of n
-abbrev pub last_digits : ℕ → ℕ → List ℕ
-last_digits zero n = []
-last_digits (suc width) n = last_digits width (n / 10) ++ (48 + n % 10) ∷ []
-
 -- n, divided by 10 to the power `width`, with `width` decimals
 abbrev pub fixed_point : ℕ → ℕ → List ℕ
 fixed_point width n = decimal (n / 10 ^ width) ++ codes "." ++ last_digits width n
-
--- a minus below zero
-abbrev pub sign_text : ℤ → List ℕ
-sign_text (pos n) = []
-sign_text (negsuc n) = codes "-"
 
 -- five times d, divided by 10 to the power `width`, with `width` decimals
 abbrev pub fives_text : ℕ → ℤ → List ℕ

@@ -30,25 +30,25 @@ area_table = record {
 }
 
 -- the area of a polygon on a line
-abbrev pub line_of : List Member → List ℕ
-line_of polygon = area_line (area2 polygon)
+abbrev pub polygon_area_line : List Member → List ℕ
+polygon_area_line polygon = area_line (area2 polygon)
 
 -- an area a row, or the line of the first fault; and the status
 abbrev pub answer_from : Result (List (List Member)) TableFault → List ℕ × ℕ
-answer_from (Ok polygons) = (flat_map line_of polygons, done)
+answer_from (Ok polygons) = (flat_map polygon_area_line polygons, done)
 answer_from (Err fault) = (refusal_text fault, unreadable)
 
-abbrev pub answer_of : List ℕ → List ℕ × ℕ
-answer_of bytes = answer_from (rows_of area_table bytes)
+abbrev pub area_answer : List ℕ → List ℕ × ℕ
+area_answer bytes = answer_from (rows_of area_table bytes)
 
 -- the run answered with this status, and wrote the text
 abbrev pub AnswersArea : List ℕ → ℕ → Option (List ℕ) → Option (List ℕ) → Type 0
-AnswersArea bytes status old new = (status ≡ (answer_of bytes).1)
-    × Appends old new (answer_of bytes).0
+AnswersArea bytes status old new = (status ≡ (area_answer bytes).1)
+    × Appends old new (area_answer bytes).0
 
 -- the run of a table gave no answer: its reader failed, or the writer did after a beginning of the
 -- answer
-abbrev pub Halts : Failure → Option (List ℕ) → Option (List ℕ) → Option (List ℕ) → Type 0
-Halts failure told old new =
+abbrev pub AreaHalts : Failure → Option (List ℕ) → Option (List ℕ) → Option (List ℕ) → Type 0
+AreaHalts failure told old new =
     ((bytes : List ℕ) × IsRead bytes told × (failure ≡ Write Out)
-    × Begins old new (answer_of bytes).0) ⊎ (IsUnread Name.Area failure × Keeps old new)
+    × Begins old new (area_answer bytes).0) ⊎ (IsUnread Name.Area failure × Keeps old new)

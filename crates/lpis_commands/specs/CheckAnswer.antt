@@ -91,18 +91,19 @@ pub record AreRead (x : Inputs) (parcels covers classes cert : Option (List ℕ)
 
 -- the run of these inputs answered with this status, and wrote the text; a yes comes only for a
 -- release that is a sound map, and a certificate that is good for it
-abbrev pub Ends : Inputs → ℕ → Option (List ℕ) → Option (List ℕ) → Type 0
-Ends x status old new = Checks x status old new × (status ≡ done → IsProved x)
+abbrev pub CheckEnds : Inputs → ℕ → Option (List ℕ) → Option (List ℕ) → Type 0
+CheckEnds x status old new = Checks x status old new × (status ≡ done → IsProved x)
 
 -- a beginning of the answer to these inputs was written
-abbrev pub IsBegun : Inputs → Option (List ℕ) → Option (List ℕ) → Type 0
-IsBegun x old new = (a : Answer) × IsAnswer x a × (a.1 ≡ done → IsProved x) × Begins old new a.0
+abbrev pub CheckIsBegun : Inputs → Option (List ℕ) → Option (List ℕ) → Type 0
+CheckIsBegun x old new =
+    (a : Answer) × IsAnswer x a × (a.1 ≡ done → IsProved x) × Begins old new a.0
 
 -- the run of what four readers reported gave no answer: a reader failed, or the writer did after a
 -- beginning of the answer
-abbrev pub Halts : Failure → (parcels covers classes cert : Option (List ℕ)) → Option (List ℕ)
+abbrev pub CheckHalts : Failure → (parcels covers classes cert : Option (List ℕ)) → Option (List ℕ)
     → Option (List ℕ) → Type 0
-Halts failure parcels covers classes cert old new =
+CheckHalts failure parcels covers classes cert old new =
     ((x : Inputs) × AreRead x parcels covers classes cert × (failure ≡ Write Out)
-    × IsBegun x old new)
+    × CheckIsBegun x old new)
     ⊎ (IsUnchecked parcels covers classes failure × Keeps old new)

@@ -83,32 +83,32 @@ abbrev pub command_line_app : App
 command_line_app = with_subcommand (with_subcommand unpublishing_app publish_app.top) trace_app.top
 
 -- the word is a year's: decimal digits, after a plus or none, of a number from 1 to 9999
-abbrev pub IsYear : Text → ℕ → Type 0
-IsYear word year =
+abbrev pub IsYearWord : Text → ℕ → Type 0
+IsYearWord word year =
     IsNumeral 10 (without_leading_plus word)
     × (year ≡ digits_value 10 (without_leading_plus word)) × (1 ≤ year) × (year ≤ 9999)
 
 -- the command has this name, and its words are those of its arguments
-abbrev pub IsNamed : Cmd → Text → List Row → Type 0
-IsNamed (Area file) name rows = (name ≡ codes "area")
+abbrev pub IsNamedCommand : Cmd → Text → List Row → Type 0
+IsNamedCommand (Area file) name rows = (name ≡ codes "area")
     × (first_of (codes "file") rows ≡ Some file.now)
-IsNamed (Cut dir cert) name rows = (name ≡ codes "cut")
+IsNamedCommand (Cut dir cert) name rows = (name ≡ codes "cut")
     × (first_of (codes "dir") rows ≡ Some dir.now) × (first_of (codes "cert") rows ≡ Some cert.now)
-IsNamed (Check dir cert) name rows = (name ≡ codes "check")
+IsNamedCommand (Check dir cert) name rows = (name ≡ codes "check")
     × (first_of (codes "dir") rows ≡ Some dir.now) × (first_of (codes "cert") rows ≡ Some cert.now)
-IsNamed (Exact db dir cert out) name rows =
+IsNamedCommand (Exact db dir cert out) name rows =
     (name ≡ codes "exact") × (first_of (codes "db") rows ≡ Some db.now)
     × (first_of (codes "dir") rows ≡ Some dir.now) × (first_of (codes "cert") rows ≡ Some cert.now)
     × (first_of (codes "out") rows ≡ Some out.now)
-IsNamed (Publish db year dir cert) name rows =
+IsNamedCommand (Publish db year dir cert) name rows =
     (name ≡ codes "publish") × (first_of (codes "db") rows ≡ Some db.now)
-    × ((word : Text) × (first_of (codes "year") rows ≡ Some word) × IsYear word year)
+    × ((word : Text) × (first_of (codes "year") rows ≡ Some word) × IsYearWord word year)
     × (first_of (codes "dir") rows ≡ Some dir.now) × (first_of (codes "cert") rows ≡ Some cert.now)
-IsNamed (Trace db id) name rows =
+IsNamedCommand (Trace db id) name rows =
     (name ≡ codes "trace") × (first_of (codes "db") rows ≡ Some db.now)
     × (first_of (codes "id") rows ≡ Some id.now)
 
 -- the command is the one that the words name, with its words
 abbrev pub IsCommand : Cmd → Option (Text × List Row) → Type 0
 IsCommand c None = ⊥
-IsCommand c (Some p) = IsNamed c p.0 p.1
+IsCommand c (Some p) = IsNamedCommand c p.0 p.1

@@ -10,7 +10,7 @@ use Rattle.lpis_cert.specs.declared.cert.Cert.{Cert}
 use Rattle.lpis_cert.specs.declared.part.PiecePart.{PiecePart}
 use Rattle.lpis_cert.specs.Contents.{cert_text}
 use Rattle.lpis_cutter.specs.declared.fault.Refusal.{Refusal}
-use Rattle.lpis_cutter.specs.Refusals.{Says}
+use Rattle.lpis_cutter.specs.Refusals.{RefusalSays}
 use Rattle.lpis_commands.specs.declared.failure.Failure.{Failure}
 use Rattle.lpis_commands.specs.CutRefusals.{cut_refusal_text}
 use Rattle.lpis_commands.specs.Failures.{IsUnreadRelease}
@@ -32,7 +32,7 @@ counts_text c =
     ++ codes " pairs " ++ decimal (length c.pairs) ++ codes "\n"
 
 -- a certificate was cut
-pub record IsCut (a : Outputs) : Type 0 where
+pub record CertIsCut (a : Outputs) : Type 0 where
   pub certificate : Cert
   pub text : a.cert ≡ Some (cert_text certificate)
   pub line : a.line ≡ counts_text certificate
@@ -41,7 +41,7 @@ pub record IsCut (a : Outputs) : Type 0 where
 -- the release is refused, and what the refusal says of it holds
 pub record IsRefused (r : Contents) (a : Outputs) : Type 0 where
   pub refusal : Refusal
-  pub says : Says r refusal
+  pub says : RefusalSays r refusal
   pub no_text : a.cert ≡ None
   pub line : a.line ≡ cut_refusal_text refusal
   pub status : a.status ≡ refused
@@ -54,7 +54,7 @@ pub record IsUnreadable (fault : TableFault) (a : Outputs) : Type 0 where
 
 -- of a release, or of the tables' first fault
 abbrev pub IsCutAnswer : Result Contents TableFault → Outputs → Type 0
-IsCutAnswer (Ok r) a = IsCut a ⊎ IsRefused r a
+IsCutAnswer (Ok r) a = CertIsCut a ⊎ IsRefused r a
 IsCutAnswer (Err fault) a = IsUnreadable fault a
 
 -- the tables are what three readers reported, as far as it is known, and this is an answer to them
@@ -66,7 +66,7 @@ pub record Cuts (parcels covers classes : Option (List ℕ)) (a : Outputs) : Typ
   pub answer : IsCutAnswer (release_of tables.parcels tables.covers tables.classes) a
 
 -- the run gave no answer: a table was not read, and nothing was written; or an output failed
-abbrev pub Halts : Failure → (parcels covers classes : Option (List ℕ)) → Held → Held → Type 0
-Halts failure parcels covers classes old new =
+abbrev pub CutHalts : Failure → (parcels covers classes : Option (List ℕ)) → Held → Held → Type 0
+CutHalts failure parcels covers classes old new =
     (IsUnreadRelease parcels covers failure × Keeps old.cert new.cert × Keeps old.out new.out)
     ⊎ ((a : Outputs) × Cuts parcels covers classes a × BreaksOff a failure old new)

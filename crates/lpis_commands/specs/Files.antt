@@ -37,20 +37,20 @@ files_of (cmd.Publish db year dir cert) =
 files_of (cmd.Trace db id) = []
 
 -- ---- what is seen of files
-abbrev pub shown : NamedFile → List ℕ × Name
-shown i = (string_bytes i.path, i.name)
+abbrev pub shown_file : NamedFile → List ℕ × Name
+shown_file i = (string_bytes i.path, i.name)
 
 abbrev pub tables_listed : TableFiles → List (List ℕ × Name)
-tables_listed t = shown t.parcels ∷ shown t.covers ∷ shown t.classes ∷ []
+tables_listed t = shown_file t.parcels ∷ shown_file t.covers ∷ shown_file t.classes ∷ []
 
 abbrev pub listed : CommandFiles → List (List ℕ × Name)
-listed (files.Area table) = shown table ∷ []
-listed (files.Cut tables cert) = tables_listed tables ++ shown cert ∷ []
-listed (files.Check tables cert) = tables_listed tables ++ shown cert ∷ []
+listed (files.Area table) = shown_file table ∷ []
+listed (files.Cut tables cert) = tables_listed tables ++ shown_file cert ∷ []
+listed (files.Check tables cert) = tables_listed tables ++ shown_file cert ∷ []
 listed (files.Exact db tables cert lineage out) =
-    tables_listed tables ++ shown cert ∷ shown lineage ∷ shown out ∷ []
+    tables_listed tables ++ shown_file cert ∷ shown_file lineage ∷ shown_file out ∷ []
 listed (files.Publish db year tables cert lineage) =
-    tables_listed tables ++ shown cert ∷ shown lineage ∷ []
+    tables_listed tables ++ shown_file cert ∷ shown_file lineage ∷ []
 listed (files.Trace db id) = []
 
 -- the register, and the year or the identifier, are those of the command

@@ -3,7 +3,7 @@
 ghost use Rattle.std.specs.Prelude.{◌≡◌, ℕ, List, IfErr, IfOk};
 ghost use Rattle.lpis_covers.specs.Faults.{rows_of};
 ghost use Rattle.lpis_covers.specs.Table.{AnswersBy};
-ghost use Rattle.lpis_commands.specs.AreaAnswer.{AnswersArea, Halts, answer_from, answer_of};
+ghost use Rattle.lpis_commands.specs.AreaAnswer.{AnswersArea, AreaHalts, answer_from, area_answer};
 ghost use Rattle.lpis_commands.specs.AreaAnswer.{area_table};
 ghost use Rattle.lpis_commands.specs.Status.{done};
 ghost use Rattle.lpis_commands.specs.Streams.{IsRead};
@@ -37,7 +37,7 @@ fn area_lines(alloc: Global, bytes: &[u8]) -> Result<Vec<u8>, TableFault>
 
 /// The answer to a table: the area of each row, or the line of its first fault.
 fn answer_to(alloc: Global, bytes: &[u8]) -> Result<Answer, AllocError>
-    ensures { IfOk result (λ a. (a.text.items, a.status) ≡ answer_of bytes.now) }
+    ensures { IfOk result (λ a. (a.text.items, a.status) ≡ area_answer bytes.now) }
 {
     match area_lines(alloc, bytes) {
         Ok(text) => Ok(Answer { text, status: DONE }),
@@ -60,7 +60,7 @@ pub fn run_area<R: Read + Drop, W: Write>(
         × AnswersArea bytes status (W.contents out.old) (W.contents out.new)) }
     // A beginning of the answer was written, or nothing.
     ensures failure { IfErr result
-        (λ failure. Halts failure (R.remaining table) (W.contents out.old)
+        (λ failure. AreaHalts failure (R.remaining table) (W.contents out.old)
         (W.contents out.new)) }
 {
     let bytes = read_named(alloc, table, Name::Area)?;

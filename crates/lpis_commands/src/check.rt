@@ -5,7 +5,7 @@ ghost use Rattle.lpis_cert.specs.Contents.{IsCertText};
 ghost use Rattle.lpis_cert.specs.declared.cert.Cert.{Cert};
 ghost use Rattle.lpis_checker.specs.GoodCertificate.{IsGood};
 ghost use Rattle.lpis_checker.specs.SoundMap.{IsSoundMap};
-ghost use Rattle.lpis_commands.specs.CheckAnswer.{AreRead, Ends, Halts, Inputs, IsAnswer};
+ghost use Rattle.lpis_commands.specs.CheckAnswer.{AreRead, CheckEnds, CheckHalts, Inputs, IsAnswer};
 ghost use Rattle.lpis_commands.specs.CheckAnswer.{IsCheckAnswer, IsProved, IsReleaseAnswer};
 ghost use Rattle.lpis_commands.specs.CheckAnswer.{IsReport};
 ghost use Rattle.lpis_commands.specs.Failures.{IsUnchecked};
@@ -173,10 +173,10 @@ pub fn run_check<P: Read + Drop, C: Read + Drop, K: Read + Drop, E: Read + Drop,
 ) -> Result<u8, Failure>
     ensures answer { IfOk result (λ status. (x : Inputs) × AreRead x (P.remaining parcels)
         (C.remaining covers) (K.remaining classes) (E.remaining cert)
-        × Ends x status (W.contents out.old) (W.contents out.new)) }
+        × CheckEnds x status (W.contents out.old) (W.contents out.new)) }
     // A beginning of the answer was written, or nothing.
     ensures failure { IfErr result
-        (λ failure. Halts failure (P.remaining parcels) (C.remaining covers)
+        (λ failure. CheckHalts failure (P.remaining parcels) (C.remaining covers)
         (K.remaining classes) (E.remaining cert) (W.contents out.old) (W.contents out.new)) }
 {
     let inputs = read_inputs(alloc, parcels, covers, classes, cert)?;

@@ -3,7 +3,8 @@
 ghost use Rattle.std.specs.Prelude.{◌≡◌, IfOk, IfSome, Some, codes, false, map};
 ghost use Rattle.clap.specs.Words.{FailsBy, Text, fault_of, first_of, found_of, rows_of, rule_of};
 ghost use Rattle.clap.specs.Words.{subcommand_of};
-ghost use Rattle.lpis_commands.specs.Command.{IsCommand, IsNamed, IsYear, area_app, check_app};
+ghost use Rattle.lpis_commands.specs.Command.{IsCommand, IsNamedCommand, IsYearWord, area_app};
+ghost use Rattle.lpis_commands.specs.Command.{check_app};
 ghost use Rattle.lpis_commands.specs.Command.{command_line_app, cut_app, exact_app};
 ghost use Rattle.lpis_commands.specs.Command.{exact_release_app, program_app, publish_app};
 ghost use Rattle.lpis_commands.specs.Command.{publish_year_app, trace_app, unchecked_app};
@@ -280,7 +281,7 @@ fn word_of<'a>(matches: &ArgMatches<'a>, id: &str) -> Option<&'a str>
 /// The year of an argument. Another number is none: `clap` lets no other through.
 fn year_of(matches: &ArgMatches<'_>, id: &str) -> Option<u16>
     ensures { IfSome result (λ year. (word : Text)
-        × (first_of id.now (rows_of (found_of matches.now)) ≡ Some word) × IsYear word year) }
+        × (first_of id.now (rows_of (found_of matches.now)) ≡ Some word) × IsYearWord word year) }
 {
     let word = word_of(matches, id)?;
     match word.parse::<u16>() {
@@ -291,7 +292,7 @@ fn year_of(matches: &ArgMatches<'_>, id: &str) -> Option<u16>
 
 /// `publish` with its words.
 fn publish_named<'a>(matches: &ArgMatches<'a>) -> Option<Cmd<'a>>
-    ensures { IfSome result (λ c. IsNamed c (codes "publish") (rows_of (found_of matches.now))) }
+    ensures { IfSome result (λ c. IsNamedCommand c (codes "publish") (rows_of (found_of matches.now))) }
 {
     let db = word_of(matches, "db")?;
     let year = year_of(matches, "year")?;
@@ -307,7 +308,7 @@ fn publish_named<'a>(matches: &ArgMatches<'a>) -> Option<Cmd<'a>>
 
 /// `exact` with its words.
 fn exact_named<'a>(matches: &ArgMatches<'a>) -> Option<Cmd<'a>>
-    ensures { IfSome result (λ c. IsNamed c (codes "exact") (rows_of (found_of matches.now))) }
+    ensures { IfSome result (λ c. IsNamedCommand c (codes "exact") (rows_of (found_of matches.now))) }
 {
     let db = word_of(matches, "db")?;
     let dir = word_of(matches, "dir")?;
@@ -318,7 +319,7 @@ fn exact_named<'a>(matches: &ArgMatches<'a>) -> Option<Cmd<'a>>
 
 /// `trace` with its words.
 fn trace_named<'a>(matches: &ArgMatches<'a>) -> Option<Cmd<'a>>
-    ensures { IfSome result (λ c. IsNamed c (codes "trace") (rows_of (found_of matches.now))) }
+    ensures { IfSome result (λ c. IsNamedCommand c (codes "trace") (rows_of (found_of matches.now))) }
 {
     let db = word_of(matches, "db")?;
     let id = word_of(matches, "id")?;
@@ -327,7 +328,7 @@ fn trace_named<'a>(matches: &ArgMatches<'a>) -> Option<Cmd<'a>>
 
 /// The command of this name, with its words.
 fn command_named<'a>(name: &str, matches: &ArgMatches<'a>) -> Option<Cmd<'a>>
-    ensures { IfSome result (λ c. IsNamed c name.now (rows_of (found_of matches.now))) }
+    ensures { IfSome result (λ c. IsNamedCommand c name.now (rows_of (found_of matches.now))) }
 {
     match name {
         "area" => {

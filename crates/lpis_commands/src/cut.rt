@@ -2,7 +2,8 @@
 
 ghost use Rattle.std.specs.Prelude.{◌≡◌, IfErr, IfOk, Ok};
 ghost use Rattle.lpis_parcels.specs.Release.{release_of};
-ghost use Rattle.lpis_commands.specs.CutAnswer.{Cuts, Halts, IsCut, IsCutAnswer, IsUnreadable};
+ghost use Rattle.lpis_commands.specs.CutAnswer.{Cuts, CutHalts, CertIsCut, IsCutAnswer};
+ghost use Rattle.lpis_commands.specs.CutAnswer.{IsUnreadable};
 ghost use Rattle.lpis_commands.specs.CutAnswer.{counts_text};
 ghost use Rattle.lpis_commands.specs.CutRefusals.{cut_refusal_text};
 ghost use Rattle.lpis_commands.specs.Failures.{IsUnreadRelease};
@@ -50,7 +51,7 @@ fn count_cert(alloc: Global, cert: &Cert) -> Result<Answer, AllocError>
 
 /// The outcome of a certificate that was cut.
 fn outcome_of(alloc: Global, cert: &Cert) -> Result<Outcome, AllocError>
-    ensures { IfOk result (λ o. IsCut (outputs_of o)) }
+    ensures { IfOk result (λ o. CertIsCut (outputs_of o)) }
 {
     let printed = count_cert(alloc, cert)?;
     Outcome::with_cert(alloc, cert, printed)
@@ -130,7 +131,7 @@ pub fn run_cut<P: Read + Drop, C: Read + Drop, K: Read + Drop, E: Write, W: Writ
     // A beginning of the certificate was written, or the certificate and a beginning of the line,
     // or nothing.
     ensures failure { IfErr result
-        (λ failure. Halts failure (P.remaining parcels) (C.remaining covers)
+        (λ failure. CutHalts failure (P.remaining parcels) (C.remaining covers)
         (K.remaining classes) (held (E.contents cert_out.old) (W.contents out.old))
         (held (E.contents cert_out.new) (W.contents out.new))) }
 {

@@ -3,7 +3,7 @@
 ghost use Rattle.std.specs.Prelude.{◌≡◌, OnOk, length, sum_by};
 ghost use Rattle.std.specs.Io.KnownBytes.{Appends};
 ghost use Rattle.lpis_commands.specs.CutAnswer.{counts_text};
-ghost use Rattle.lpis_commands.specs.CutRefusals.{cut_refusal_text, named_text, point_text};
+ghost use Rattle.lpis_commands.specs.CutRefusals.{cut_refusal_text, named_text, rational_text};
 
 use crate::printing::PrintFault;
 use lpis_cert::Cert;
@@ -13,7 +13,8 @@ use std::io::Write;
 
 /// Writes a point by its three numbers: it is (x/d, y/d), in millimetres.
 fn print_point<W: Write>(at: &RatPoint, out: &mut W) -> Result<(), PrintFault>
-    ensures { OnOk result (Appends (W.contents out.old) (W.contents out.new) (point_text at.now)) }
+    ensures { OnOk result (Appends (W.contents out.old) (W.contents out.new)
+        (rational_text at.now)) }
 {
     let (x, y, d) = (at.x, at.y, at.d);
     write!(out, " at {x} {y} {d}")?;

@@ -2,7 +2,7 @@
 
 ghost use Rattle.std.specs.Prelude.{◌≡◌, IfOk};
 ghost use Rattle.lpis_commands.specs.Files.{HasWords, files_of, in_folder, lineage_file, listed};
-ghost use Rattle.lpis_commands.specs.Files.{shown, tables_in, tables_listed};
+ghost use Rattle.lpis_commands.specs.Files.{shown_file, tables_in, tables_listed};
 
 use crate::command::Cmd;
 use crate::failure::Name;
@@ -88,7 +88,7 @@ pub enum CommandFiles<'a> {
 
 /// The file at a path.
 fn file_at(alloc: Global, path: &str, name: Name) -> Result<NamedFile, AllocError>
-    ensures { IfOk result (λ i. shown i ≡ (path.now, name)) }
+    ensures { IfOk result (λ i. shown_file i ≡ (path.now, name)) }
 {
     let path = String::from_str(alloc, path)?;
     Ok(NamedFile { path, name })
@@ -96,7 +96,7 @@ fn file_at(alloc: Global, path: &str, name: Name) -> Result<NamedFile, AllocErro
 
 /// A file in a folder.
 fn file_in(alloc: Global, dir: &str, file: &str, name: Name) -> Result<NamedFile, AllocError>
-    ensures { IfOk result (λ i. shown i ≡ (in_folder dir.now file.now, name)) }
+    ensures { IfOk result (λ i. shown_file i ≡ (in_folder dir.now file.now, name)) }
 {
     let path = format!(in alloc; "{dir}/{file}")?;
     Ok(NamedFile { path, name })
@@ -115,7 +115,7 @@ fn tables_of(alloc: Global, dir: &str) -> Result<TableFiles, AllocError>
 
 /// The lineage table of the release in a folder.
 fn lineage_in(alloc: Global, dir: &str) -> Result<NamedFile, AllocError>
-    ensures { IfOk result (λ i. shown i ≡ lineage_file dir.now) }
+    ensures { IfOk result (λ i. shown_file i ≡ lineage_file dir.now) }
 {
     file_in(alloc, dir, "lineage.csv", Name::Lineage)
 }

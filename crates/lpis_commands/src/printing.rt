@@ -3,7 +3,7 @@
 ghost use Rattle.std.specs.Prelude.{◌≡◌, ◌≤◌, OnOk, nat_abs};
 ghost use Rattle.std.specs.Io.KnownBytes.{Appends};
 ghost use Rattle.lpis_commands.specs.Area.{area_line, area_text, eligible_text, most_printed};
-ghost use Rattle.lpis_commands.specs.Area.{sign_text};
+ghost use Rattle.lpis_points.specs.Decimals.{sign_text};
 
 use std::io::Write;
 

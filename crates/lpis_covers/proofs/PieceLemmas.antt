@@ -4,7 +4,7 @@ use Rattle.lpis_covers.proofs.Common.{TableFault, polygon_in, unless_faulty, Ans
 use Rattle.lpis_rings.specs.declared.polygon.Member.{Member}
 use Rattle.lpis_covers.specs.declared.fault.Table.TheVariants.{Covers}
 use Rattle.lpis_covers.specs.declared.piece.Piece.{Piece}
-use Rattle.lpis_covers.specs.Covers.{more_piece_faults, piece_of}
+use Rattle.lpis_covers.specs.Covers.{more_piece_faults, piece_in_row}
 use Rattle.lpis_covers.specs.Faults.{id_faults, polygon_faults}
 use Rattle.lpis_covers.proofs.RowLemmas.{column-passed, fault-retold}
 
@@ -12,8 +12,8 @@ pub piece-polygon-fault : (n : ℕ) (row : Fields) (parcel class : List ℕ) (f 
     → unless_faulty (id_faults Covers n (field_of row 1)) (field_of row 1) ≡ Ok parcel
     → unless_faulty (id_faults Covers n (field_of row 2)) (field_of row 2) ≡ Ok class
     → Answers {A = List Member} (Err f) (unless_faulty (polygon_faults Covers n (field_of row 3)) (polygon_in (field_of row 3)))
-    → Answers {A = Piece} (Err f) (unless_faulty (more_piece_faults n row) (piece_of row))
+    → Answers {A = Piece} (Err f) (unless_faulty (more_piece_faults n row) (piece_in_row row))
 piece-polygon-fault n row parcel class f b c h =
     let last = polygon_faults Covers n (field_of row 3) in
-    column-passed (id_faults Covers n (field_of row 1)) _ (field_of row 1) parcel (Err f) (piece_of row) b
-    (column-passed (id_faults Covers n (field_of row 2)) last (field_of row 2) class (Err f) (piece_of row) c (fault-retold last (polygon_in (field_of row 3)) (piece_of row) f h))
+    column-passed (id_faults Covers n (field_of row 1)) _ (field_of row 1) parcel (Err f) (piece_in_row row) b
+    (column-passed (id_faults Covers n (field_of row 2)) last (field_of row 2) class (Err f) (piece_in_row row) c (fault-retold last (polygon_in (field_of row 3)) (piece_in_row row) f h))

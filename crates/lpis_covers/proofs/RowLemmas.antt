@@ -6,7 +6,7 @@ use Rattle.csv.specs.Reading.{records}
 use Rattle.lpis_covers.specs.declared.fault.TableCode.{TableCode}
 use Rattle.lpis_covers.specs.declared.fault.TableCode.TheVariants.{MissingColumn}
 use Rattle.lpis_covers.specs.declared.fault.TableFault.TheVariants.{Memory}
-use Rattle.lpis_covers.specs.Faults.{RowsOf, row_faults, rows_of}
+use Rattle.lpis_covers.specs.Faults.{RowsOf, table_row_faults, rows_of}
 use Rattle.lpis_covers.specs.Table.{Advances, Record, fault_at, most_rows, rows_under, table_of, wanted_places}
 
 -- a reader of the table t has read these rows, with these keys, and no fault yet
@@ -15,7 +15,7 @@ pub record IsRead {A : Type 0} (kind : RowsOf A) (t : Reading) (keys : List (Lis
   pub count : r.number ≡ length rows
   pub few : r.number ≤ most_rows
   pub enough : kind.enough t.has ≡ true
-  pub faults : row_faults kind keys (r.number + 1) r.rows ++ option_to_list r.stop ≡ row_faults kind [] 1 t.rows ++ option_to_list t.stop
+  pub faults : table_row_faults kind keys (r.number + 1) r.rows ++ option_to_list r.stop ≡ table_row_faults kind [] 1 t.rows ++ option_to_list t.stop
   pub values : rows ++ map kind.value r.rows ≡ map kind.value t.rows
 
 -- what a value or a fault says of the list of faults
@@ -61,7 +61,7 @@ rows-lacking kind bytes t opened lacking = rw (opened, lacking) refl
 pub rows-step : {A : Type 0} (kind : RowsOf A) (t old new : Reading) (keys : List (List ℕ)) (rows : List A) (x : A)
     → IsRead kind t keys rows old → Advances old new (Ok true) → unless_faulty (kind.faults keys new.number new.row) (kind.value new.row) ≡ Ok x
     → IsRead kind t (keys ++ field_of new.row 0 ∷ []) (rows ++ x ∷ []) new
-unfolding row_faults
+unfolding table_row_faults
 rows-step {A = A} kind t old new keys rows x h a e =
     let v = told-value (kind.faults keys new.number new.row) (kind.value new.row) x e in
     let n : old.number + 1 ≡ new.number = sym a.2 in
@@ -70,7 +70,7 @@ rows-step {A = A} kind t old new keys rows x h a e =
       count = rw (length-append rows (x ∷ [])) (omega (arith, h.count, a.2));
       few = a.4;
       enough = h.enough;
-      faults = ap (λ (l : List TableFault). (l ++ row_faults kind (keys ++ field_of new.row 0 ∷ []) (new.number + 1) new.rows) ++ option_to_list new.stop) (sym v.0)
+      faults = ap (λ (l : List TableFault). (l ++ table_row_faults kind (keys ++ field_of new.row 0 ∷ []) (new.number + 1) new.rows) ++ option_to_list new.stop) (sym v.0)
           ∙ (rw (a.0, n, sym a.1) at h.faults);
       values = append_assoc rows (x ∷ []) (map kind.value new.rows) ∙ ap (λ (y : A). rows ++ (y ∷ map kind.value new.rows)) (sym v.1) ∙ (rw a.0 at h.values);
     }
@@ -88,7 +88,7 @@ rows-added kind identifier t old new rows after keys grown first h same a good m
 -- the end of the rows
 pub rows-end : {A : Type 0} (kind : RowsOf A) (bytes : List ℕ) (t old new : Reading) (keys : List (List ℕ)) (rows : List A)
     → table_of kind.table kind.columns kind.further bytes ≡ Ok t → IsRead kind t keys rows old → Advances old new (Ok false) → rows_of kind bytes ≡ Ok rows
-unfolding row_faults
+unfolding table_row_faults
 rows-end kind bytes t old new keys rows opened h a =
     let none = rw (a.0, a.1) at h.faults in
     let all = rw a.0 at h.values in
@@ -97,7 +97,7 @@ rows-end kind bytes t old new keys rows opened h a =
 -- the fault that stops the rows
 pub rows-stop : {A : Type 0} (kind : RowsOf A) (bytes : List ℕ) (t old new : Reading) (keys : List (List ℕ)) (rows : List A) (f : TableFault)
     → table_of kind.table kind.columns kind.further bytes ≡ Ok t → IsRead kind t keys rows old → Advances old new (Err f) → Answers (Err f) (rows_of kind bytes)
-unfolding row_faults
+unfolding table_row_faults
 rows-stop kind bytes t old new keys rows Memory opened h a = tt
 rows-stop kind bytes t old new keys rows (At code table row wkt) opened h a =
     let stop = rw (a.0, a.1) at h.faults in
@@ -107,7 +107,7 @@ rows-stop kind bytes t old new keys rows (At code table row wkt) opened h a =
 pub rows-fault : {A : Type 0} (kind : RowsOf A) (bytes : List ℕ) (t old new : Reading) (keys : List (List ℕ)) (rows : List A) (f : TableFault)
     → table_of kind.table kind.columns kind.further bytes ≡ Ok t → IsRead kind t keys rows old → Advances old new (Ok true)
     → Answers (Err f) (unless_faulty (kind.faults keys new.number new.row) (kind.value new.row)) → Answers (Err f) (rows_of kind bytes)
-unfolding row_faults
+unfolding table_row_faults
 rows-fault kind bytes t old new keys rows Memory opened h a e = tt
 rows-fault kind bytes t old new keys rows (At code table row wkt) opened h a e =
     let n : old.number + 1 ≡ new.number = sym a.2 in

@@ -15,8 +15,8 @@ more_piece_faults n row =
 abbrev pub piece_faults : List (List ℕ) → ℕ → Fields → List TableFault
 piece_faults keys n row = key_faults Covers n keys (field_of row 0) ++ more_piece_faults n row
 
-abbrev pub piece_of : Fields → Piece
-piece_of row = record {
+abbrev pub piece_in_row : Fields → Piece
+piece_in_row row = record {
   id = field_of row 0;
   parcel = field_of row 1;
   class = field_of row 2;
@@ -31,5 +31,5 @@ covers_table = record {
   further = [];
   enough = λ has. true;
   faults = piece_faults;
-  value = piece_of;
+  value = piece_in_row;
 }

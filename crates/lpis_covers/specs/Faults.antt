@@ -65,11 +65,11 @@ pub record RowsOf (A : Type 0) : Type 0 where
   pub value : Fields → A
 
 -- the faults of rows, row by row, of which the first is row n; the rows above have these keys
-unfoldable pub row_faults : {A : Type 0} → RowsOf A → List (List ℕ) → ℕ → List Fields
+unfoldable pub table_row_faults : {A : Type 0} → RowsOf A → List (List ℕ) → ℕ → List Fields
     → List TableFault
-row_faults kind keys n [] = []
-row_faults kind keys n (r ∷ rs) = kind.faults keys n r
-    ++ row_faults kind (keys ++ field_of r 0 ∷ []) (n + 1) rs
+table_row_faults kind keys n [] = []
+table_row_faults kind keys n (r ∷ rs) = kind.faults keys n r
+    ++ table_row_faults kind (keys ++ field_of r 0 ∷ []) (n + 1) rs
 
 -- a table's rows as values, or its first fault: one of row 0, last that a column is missing where
 -- those that may be absent are not enough, else one of a row, else that which stops the rows
@@ -77,7 +77,8 @@ abbrev pub values_of : {A : Type 0} → RowsOf A → Result Reading TableFault
     → Result (List A) TableFault
 values_of kind (Ok t) =
     if kind.enough t.has then
-    unless_faulty (row_faults kind [] 1 t.rows ++ option_to_list t.stop) (map kind.value t.rows)
+    unless_faulty (table_row_faults kind [] 1 t.rows
+    ++ option_to_list t.stop) (map kind.value t.rows)
     else Err (fault_at MissingColumn kind.table 0)
 values_of kind (Err fault) = Err fault
 

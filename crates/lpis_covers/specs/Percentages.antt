@@ -27,8 +27,8 @@ percent_in (a ∷ b ∷ c ∷ more) =
     if bytes_eq (a ∷ b ∷ c ∷ more) (codes "100") then Some most_percent else None
 
 -- the same of a mark: `0` is none, and `1` the whole
-abbrev pub mark_in : List ℕ → Option ℕ
-mark_in text =
+abbrev pub percent_of_mark : List ℕ → Option ℕ
+percent_of_mark text =
     if bytes_eq text (codes "0") then Some 0 else
     (if bytes_eq text (codes "1") then Some most_percent else None)
 
@@ -36,7 +36,7 @@ mark_in text =
 -- column that of the mark `eligible`
 abbrev pub percentage_in : Option (List ℕ) → List ℕ → Result ℕ TableCode
 percentage_in (Some percent) eligible = ok_or (percent_in percent) BadPercent
-percentage_in None eligible = ok_or (mark_in eligible) BadEligible
+percentage_in None eligible = ok_or (percent_of_mark eligible) BadEligible
 
 -- the percentage that is said; without one it counts for nothing
 abbrev pub percent_of : Result ℕ TableCode → ℕ

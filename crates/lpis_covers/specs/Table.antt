@@ -177,9 +177,9 @@ table_of table names further bytes =
     else under_header table names further (records default_config (strip_bom bytes))
 
 -- what a fault reports: itself, but that memory ran out
-abbrev pub report : TableFault → Option TableFault
-report Memory = None
-report (At code table row wkt) = Some (At code table row wkt)
+abbrev pub table_fault_reported : TableFault → Option TableFault
+table_fault_reported Memory = None
+table_fault_reported (At code table row wkt) = Some (At code table row wkt)
 
 -- what reading the next row does
 abbrev pub Advances : Reading → Reading → Result Bool TableFault → Type 0
@@ -188,18 +188,20 @@ Advances old new (Ok true) =
     × (new.table ≡ old.table) × (new.number ≤ most_rows) × (new.has ≡ old.has)
 Advances old new (Ok false) = (old.rows ≡ []) × (old.stop ≡ None)
 Advances old new (Err fault) =
-    UnlessMemory (λ (f : TableFault). (old.rows ≡ []) × (old.stop ≡ Some f)) (report fault)
+    UnlessMemory (λ (f : TableFault). (old.rows ≡ [])
+    × (old.stop ≡ Some f)) (table_fault_reported fault)
 
 -- a call answers a value that fits what the definition says, or the fault that it says, unless
 -- memory ran out
 abbrev pub AnswersBy : {A B : Type 0} → (A → Result B TableFault → Type 0) → Result A TableFault
     → Result B TableFault → Type 0
 AnswersBy {A} Fits result said =
-    AnswersUnless report (λ (x : A). Fits x said) (λ (f : TableFault). said ≡ Err f) result
+    AnswersUnless table_fault_reported (λ (x : A). Fits x said) (λ (f : TableFault). said
+    ≡ Err f) result
 
 -- the same of the very value
 abbrev pub Answers : {A : Type 0} → Result A TableFault → Result A TableFault → Type 0
-Answers result said = AnswersSame report said result
+Answers result said = AnswersSame table_fault_reported said result
 
 -- the texts of borrowed names
 abbrev pub texts : List (Bor (List ℕ)) → List (List ℕ)

@@ -1,7 +1,7 @@
 //! Tables, and why one is refused.
 
 ghost use Rattle.std.specs.Prelude.{◌≡◌};
-ghost use Rattle.lpis_covers.specs.Codes.{code_text, table_text};
+ghost use Rattle.lpis_covers.specs.Codes.{table_code_text, table_text};
 ghost use Rattle.lpis_covers.specs.declared.fault.TableFault.TheVariants.{Memory};
 
 use lpis_wkt::WktFault;
@@ -73,7 +73,7 @@ pub enum TableCode {
 impl TableCode {
     /// The two characters that stand for the code in a refusal: `30` to `39` and `3a` to `3c`.
     pub fn as_str(self) -> &'static str
-        ensures { result.now ≡ code_text self }
+        ensures { result.now ≡ table_code_text self }
     {
         match self {
             TableCode::NotCsv => "30",

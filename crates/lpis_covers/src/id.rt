@@ -1,6 +1,7 @@
 //! Identifiers.
 
-ghost use Rattle.std.specs.Prelude.{◌≡◌, ◌≤◌, ℕ, List, true, false, length, nat_eq, position, IfOk, IfSome};
+ghost use Rattle.std.specs.Prelude.{◌≡◌, ◌≤◌, ℕ, List, true, false, length, nat_eq, position, IfOk};
+ghost use Rattle.std.specs.Prelude.{IfSome};
 ghost use Rattle.std.specs.Prelude.{IfNone, Some};
 ghost use Rattle.std.specs.Hash as fed;
 ghost use Rattle.std.specs.Cmp;
@@ -11,7 +12,7 @@ ghost use Rattle.std.specs.Cmp.Rules.{hashing};
 ghost use Rattle.std.proofs.Common.{rules, refl};
 ghost use Rattle.std.specs.List.{before_first, list_all, position_or_len};
 ghost use Rattle.lpis_covers.specs.Ids.{is_id, is_id_byte as id_byte};
-ghost use Rattle.lpis_covers.specs.private.Padding.{is_zero};
+ghost use Rattle.lpis_covers.specs.private.Padding.{is_padding};
 
 use std::alloc::{AllocError, Global};
 use std::cmp::Ordering;
@@ -32,9 +33,9 @@ pub struct Id {
 impl Model for Id {
     ghost Value = { List ℕ };
 
-    ghost view = { λ a. before_first is_zero a.characters };
+    ghost view = { λ a. before_first is_padding a.characters };
 
-    ghost invariant = { λ a. is_id (before_first is_zero a.characters) ≡ true };
+    ghost invariant = { λ a. is_id (before_first is_padding a.characters) ≡ true };
 }
 
 impl PartialEq for Id {
@@ -132,14 +133,14 @@ impl Id {
 
 /// Where the first zero stands.
 fn first_zero(characters: &[u8]) -> Option<usize>
-    ensures { result ≡ position is_zero characters.now }
+    ensures { result ≡ position is_padding characters.now }
 {
     characters.iter().position(|c| *c == 0)
 }
 
 /// How many characters stand before the first zero.
 fn length_of(characters: &[u8]) -> usize
-    ensures first { result ≡ position_or_len is_zero characters.now }
+    ensures first { result ≡ position_or_len is_padding characters.now }
     ensures within { result ≤ length characters.now }
 {
     match first_zero(characters) {
@@ -151,7 +152,7 @@ fn length_of(characters: &[u8]) -> usize
 /// The bytes of an identifier, and zeros behind them.
 fn padded(bytes: &[u8]) -> [u8; LONGEST_ID]
     requires { is_id bytes.now ≡ true }
-    ensures { before_first is_zero result ≡ bytes.now }
+    ensures { before_first is_padding result ≡ bytes.now }
 {
     let mut characters = [0; LONGEST_ID];
     characters[..bytes.len()].copy_from_slice(bytes);

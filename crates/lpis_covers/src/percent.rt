@@ -1,7 +1,7 @@
 //! Percentages.
 
 ghost use Rattle.std.specs.Prelude.{◌≡◌, ◌≤◌, IfSome};
-ghost use Rattle.lpis_covers.specs.Percentages.{mark_in, most_percent, percent_in};
+ghost use Rattle.lpis_covers.specs.Percentages.{percent_of_mark, most_percent, percent_in};
 
 /// The whole of an area in percent.
 const MOST_PERCENT: u8 = 100;
@@ -31,7 +31,7 @@ pub(crate) fn percent_in(text: &[u8]) -> Option<u8>
 
 /// The percentage that a mark stands for: `0` for none, and `1` for the whole.
 pub(crate) fn mark_in(text: &[u8]) -> Option<u8>
-    ensures is { result ≡ mark_in text.now }
+    ensures is { result ≡ percent_of_mark text.now }
     ensures most { IfSome result (λ n. n ≤ most_percent) }
 {
     match text {

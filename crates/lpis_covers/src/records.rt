@@ -4,7 +4,7 @@ ghost use Rattle.std.specs.Prelude.{◌≡◌, ◌∷◌, [], length, IfOk, Matc
 ghost use Rattle.csv.specs.Reading.{default_config, expected_len, records, strip_bom};
 ghost use Rattle.csv.specs.Records.{fields_of};
 ghost use Rattle.std.specs.Prelude.{None};
-ghost use Rattle.lpis_covers.specs.private.Left.{IsBetween, Left, Moves, Steps, records_left};
+ghost use Rattle.lpis_covers.specs.private.Left.{IsBetween, Left, ReadMoves, Steps, records_left};
 
 use csv::{ByteRecord, ErrorKind, Reader, ReaderBuilder};
 use std::alloc::{AllocError, Global};
@@ -31,13 +31,13 @@ pub(crate) struct Records<'a> {
 }
 
 impl<'a> Model for Records<'a> {
-    ghost use Rattle.lpis_covers.specs.private.Left.{IsLeft, Left, left_of};
+    ghost use Rattle.lpis_covers.specs.private.Left.{LeftByRecords, Left, left_of};
 
     ghost Value = { Left };
 
     ghost view = { λ r. left_of r.width r.ended r.reader };
 
-    ghost invariant = { λ r. IsLeft r.width r.ended r.reader };
+    ghost invariant = { λ r. LeftByRecords r.width r.ended r.reader };
 }
 
 /// A reader of the records of a text.
@@ -95,7 +95,7 @@ impl<'a> Records<'a> {
 
     /// Reads the next record.
     pub(crate) fn next(&mut self, row: &mut ByteRecord) -> Result<Step, AllocError>
-        ensures { IfOk result (λ step. Moves self.old self.new step (fields_of row.new)) }
+        ensures { IfOk result (λ step. ReadMoves self.old self.new step (fields_of row.new)) }
     {
         if self.ended {
             return Ok(Step::End);

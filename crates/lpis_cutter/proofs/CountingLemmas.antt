@@ -4,26 +4,26 @@ use Rattle.std.proofs.lemmas.Int.{ints}
 use Rattle.lpis_points.specs.declared.point.Point.{Point}
 use Rattle.lpis_points.specs.Plane.{same_point}
 use Rattle.lpis_points.specs.Chain.{net_count, SameNet}
-use Rattle.lpis_cutter.specs.private.Cutting.{times}
+use Rattle.lpis_cutter.specs.private.Cutting.{edge_times}
 
-pub times-append : (a b : Point) (es fs : List (Point × Point)) → times a b (es ++ fs) ≡ times a b es + times a b fs
+pub times-append : (a b : Point) (es fs : List (Point × Point)) → edge_times a b (es ++ fs) ≡ edge_times a b es + edge_times a b fs
 times-append a b [] fs = omega arith
 times-append a b (e ∷ es) fs = by (same_point a e.0 && same_point b e.1) (times-append a b es fs)
   where
-    by : (t : Bool) → times a b (es ++ fs) ≡ times a b es + times a b fs
+    by : (t : Bool) → edge_times a b (es ++ fs) ≡ edge_times a b es + edge_times a b fs
         → length (cond t (e ∷ filter (λ g. same_point a g.0 && same_point b g.1) (es ++ fs))
         (filter (λ g. same_point a g.0 && same_point b g.1) (es ++ fs))) ≡ length
         (cond t (e ∷ filter (λ g. same_point a g.0 && same_point b g.1) es)
-        (filter (λ g. same_point a g.0 && same_point b g.1) es)) + times a b fs
+        (filter (λ g. same_point a g.0 && same_point b g.1) es)) + edge_times a b fs
     by true h = omega (arith, h)
     by false h = h
 
 -- a net count is the edges along, less those back
-pub net_is_times : (a b : Point) (es : List (Point × Point)) → net_count same_point a b es ≡ pos (times a b es) -ℤ pos (times b a es)
+pub net_is_times : (a b : Point) (es : List (Point × Point)) → net_count same_point a b es ≡ pos (edge_times a b es) -ℤ pos (edge_times b a es)
 net_is_times a b [] = omega (arith, ints)
 net_is_times a b (e ∷ es) = by (same_point a e.0 && same_point b e.1) (same_point b e.0 && same_point a e.1) (net_is_times a b es)
   where
-    by : (s t : Bool) → net_count same_point a b es ≡ pos (times a b es) -ℤ pos (times b a es)
+    by : (s t : Bool) → net_count same_point a b es ≡ pos (edge_times a b es) -ℤ pos (edge_times b a es)
         → (cond s (pos 1) (pos 0) -ℤ cond t (pos 1) (pos 0)) +ℤ net_count same_point a b es ≡ pos
         (length (cond s (e ∷ filter (λ g. same_point a g.0 && same_point b g.1) es)
         (filter (λ g. same_point a g.0 && same_point b g.1) es))) -ℤ pos
@@ -35,10 +35,10 @@ net_is_times a b (e ∷ es) = by (same_point a e.0 && same_point b e.1) (same_po
     by false false h = omega (arith, ints, h)
 
 -- edges of which one has another difference along and back have other net counts
-pub uneven_edges : (a b : Point) (es fs : List (Point × Point)) (n m k l : ℕ) → a ≢ b → n ≡ times a b es
-    → m ≡ times b a es → k ≡ times a b fs → l ≡ times b a fs → n + l ≢ k + m → SameNet same_point es fs → ⊥
+pub uneven_edges : (a b : Point) (es fs : List (Point × Point)) (n m k l : ℕ) → a ≢ b → n ≡ edge_times a b es
+    → m ≡ edge_times b a es → k ≡ edge_times a b fs → l ≡ edge_times b a fs → n + l ≢ k + m → SameNet same_point es fs → ⊥
 uneven_edges a b es fs n m k l two hn hm hk hl other same =
-    other (by (times a b es) (times b a es) (times a b fs) (times b a fs) _ _ (net_is_times a b es) (net_is_times a b fs) (same a b two) hn hm hk hl)
+    other (by (edge_times a b es) (edge_times b a es) (edge_times a b fs) (edge_times b a fs) _ _ (net_is_times a b es) (net_is_times a b fs) (same a b two) hn hm hk hl)
   where
     by : (n' m' k' l' : ℕ) (x y : ℤ) → x ≡ pos n' -ℤ pos m' → y ≡ pos k' -ℤ pos l' → x ≡ y → n ≡ n' → m ≡ m' → k ≡ k' → l ≡ l' → n + l ≡ k + m
     by n' m' k' l' x y e f g hn' hm' hk' hl' = omega (arith, ints)

@@ -11,7 +11,7 @@ use Rattle.lpis_points.specs.declared.rational.RatPoint.{RatPoint}
 use Rattle.lpis_points.specs.Plane.{RationalPoint}
 use Rattle.lpis_parcels.specs.declared.parcel.Parcel.{Parcel}
 use Rattle.lpis_covers.specs.Ids.{same_id}
-use Rattle.lpis_parcels.specs.Release.{Contents, names, parcel_ids}
+use Rattle.lpis_parcels.specs.Release.{Contents, names_parcel, parcel_ids}
 use Rattle.lpis_cert.specs.declared.cert.Cert.{Cert}
 use Rattle.lpis_checker.specs.GoodCertificate.{IsGood}
 use Rattle.lpis_checker.specs.Laws.{GoodMeansSound}
@@ -84,7 +84,7 @@ disagrees r a s d t sound = by t.parted
     by (inl h) =
         let f = any_found (IsInPiece s) (pieces_named r a) (filled.0 h.0).0 in
         all_at (λ (y : Piece). IsInPiece s y → ⊥) (pieces_named r a) f.index f.item f.at h.1 f.has
-    by (inr h) = h.0 (filled.1 (h.1, one-filter (IsInPiece s) (names a) r.pieces (sound.one_piece s d)))
+    by (inr h) = h.0 (filled.1 (h.1, one-filter (IsInPiece s) (names_parcel a) r.pieces (sound.one_piece s d)))
 
 -- what is reported with a point denies that the release is sound everywhere
 pub unsound : (r : Contents) (e : CutFault) → RefusesRightly r e → HasPoint e → IsSoundEverywhere r → ⊥

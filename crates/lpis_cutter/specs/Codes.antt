@@ -6,10 +6,10 @@ use Rattle.lpis_cutter.specs.declared.fault.Refusal.TheVariants.{PiecesOverlap, 
 use Rattle.lpis_cutter.specs.declared.fault.Refusal.TheVariants.{Disagreement, NoFlats}
 
 -- the two characters of a code
-abbrev pub code_text : Refusal → List ℕ
-code_text (NoCut piece) = codes "40"
-code_text (ParcelsOverlap first second at) = codes "41"
-code_text (PiecesOverlap first second at) = codes "41"
-code_text (NoSeparator first second) = codes "42"
-code_text (Disagreement parcel at) = codes "43"
-code_text (NoFlats parcel) = codes "44"
+abbrev pub cut_code_text : Refusal → List ℕ
+cut_code_text (NoCut piece) = codes "40"
+cut_code_text (ParcelsOverlap first second at) = codes "41"
+cut_code_text (PiecesOverlap first second at) = codes "41"
+cut_code_text (NoSeparator first second) = codes "42"
+cut_code_text (Disagreement parcel at) = codes "43"
+cut_code_text (NoFlats parcel) = codes "44"

@@ -8,7 +8,7 @@ use Rattle.lpis_rings.specs.Edges.{edges_of}
 use Rattle.lpis_rings.specs.Polygon.{points_of}
 use Rattle.lpis_covers.specs.declared.piece.Piece.{Piece}
 use Rattle.lpis_parcels.specs.Release.{Contents}
-use Rattle.lpis_cert.specs.Limits.{most_triangles}
+use Rattle.lpis_points.specs.Triangles.{most_triangles}
 
 -- one member without holes
 pub record IsOneRing (members : List Member) : Type 0 where

@@ -72,23 +72,23 @@ pub record IsUneven (r : Contents) (id : List ℕ) : Type 0 where
       (edges_of_all (polygons_of (pieces_named r id))) → ⊥
 
 -- what a refusal says
-abbrev pub Says : Contents → Refusal → Type 0
-Says r (NoCut piece) = ((x : Piece) × IsPiece r piece x) × (AreFewFans r → ⊥)
-Says r (ParcelsOverlap first second at) = ParcelsShare r first second (rational_of at)
-Says r (PiecesOverlap first second at) = PiecesShare r first second (rational_of at)
-Says r (NoSeparator first second) = ((x : Piece) × IsPiece r first x)
+abbrev pub RefusalSays : Contents → Refusal → Type 0
+RefusalSays r (NoCut piece) = ((x : Piece) × IsPiece r piece x) × (AreFewFans r → ⊥)
+RefusalSays r (ParcelsOverlap first second at) = ParcelsShare r first second (rational_of at)
+RefusalSays r (PiecesOverlap first second at) = PiecesShare r first second (rational_of at)
+RefusalSays r (NoSeparator first second) = ((x : Piece) × IsPiece r first x)
     × ((y : Piece) × IsPiece r second y)
-Says r (Disagreement parcel at) = Disagrees r parcel (rational_of at)
-Says r (NoFlats parcel) = IsUneven r parcel
+RefusalSays r (Disagreement parcel at) = Disagrees r parcel (rational_of at)
+RefusalSays r (NoFlats parcel) = IsUneven r parcel
 
 -- what a fault reports: a refusal
-abbrev pub report : CutFault → Option Refusal
-report Memory = None
-report (Refused refusal) = Some refusal
+abbrev pub refusal_reported : CutFault → Option Refusal
+refusal_reported Memory = None
+refusal_reported (Refused refusal) = Some refusal
 
 -- what is said of a release where there is no certificate
 abbrev pub RefusesRightly : Contents → CutFault → Type 0
-RefusesRightly r fault = UnlessMemory (Says r) (report fault)
+RefusesRightly r fault = UnlessMemory (RefusalSays r) (refusal_reported fault)
 
 -- a point is reported
 abbrev pub HasPoint : CutFault → Type 0

@@ -1,7 +1,7 @@
 //! Why a release gets no certificate.
 
 ghost use Rattle.std.specs.Prelude.{◌≡◌};
-ghost use Rattle.lpis_cutter.specs.Codes.{code_text};
+ghost use Rattle.lpis_cutter.specs.Codes.{cut_code_text};
 ghost use Rattle.lpis_cutter.specs.declared.fault.CutFault.TheVariants.{Memory};
 
 use lpis_covers::Id;
@@ -33,7 +33,7 @@ pub enum Refusal {
 impl Refusal {
     /// The two characters that stand for it in a text: `40` to `44`.
     pub fn as_str(&self) -> &'static str
-        ensures { result.now ≡ code_text self.now }
+        ensures { result.now ≡ cut_code_text self.now }
     {
         match self {
             Refusal::NoCut { .. } => "40",

@@ -1,7 +1,8 @@
 //! The parts of a certificate that is being made.
 
 ghost use Rattle.std.specs.Prelude.{◌≡◌, ◌≤◌, ◌<◌, ◌+◌, ◌⊎◌, IfOk, IfSome, IfNone, length, sum_by};
-ghost use Rattle.lpis_cert.specs.Limits.{most_triangles, most_flats, greatest_count};
+ghost use Rattle.lpis_cert.specs.Limits.{most_flats, greatest_count};
+ghost use Rattle.lpis_points.specs.Triangles.{most_triangles};
 
 use lpis_cert::{Cert, MOST_FLATS, MOST_TRIANGLES, PairLine, ParcelPart, PiecePart};
 use lpis_covers::Id;

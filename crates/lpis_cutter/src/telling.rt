@@ -9,7 +9,7 @@ ghost use Rattle.lpis_parcels.specs.Release.{pieces_named};
 ghost use Rattle.lpis_edge_sums.specs.Making.{edges_of_all};
 ghost use Rattle.lpis_checker.specs.GoodCertificate.{polygons_of};
 ghost use Rattle.lpis_cutter.specs.Refusals.{IsCovered, IsUncovered};
-ghost use Rattle.lpis_cutter.specs.private.Cutting.{NamesPieces, SaysIfAny, times};
+ghost use Rattle.lpis_cutter.specs.private.Cutting.{NamesPieces, SaysIfAny, edge_times};
 
 use crate::fault::Refusal;
 use lpis_covers::Id;
@@ -102,7 +102,7 @@ pub(crate) fn disagreement(
 
 /// How many edges of a polygon go from a to b.
 fn count_in(polygon: &Polygon, a: Point, b: Point) -> usize
-    ensures { result ≡ times a b (edges_of polygon.now) }
+    ensures { result ≡ edge_times a b (edges_of polygon.now) }
 {
     edges(polygon).filter(|(u, v)| a == *u && b == *v).count()
 }
@@ -110,7 +110,8 @@ fn count_in(polygon: &Polygon, a: Point, b: Point) -> usize
 /// How many edges of a parcel's pieces go from a to b, where the number fits.
 fn count_in_pieces(release: &Release, parcel: &Id, a: Point, b: Point) -> Option<usize>
     ensures { IfSome result
-        (λ n. n ≡ times a b (edges_of_all (polygons_of (pieces_named release.now parcel.now)))) }
+        (λ n. n ≡ edge_times a b (edges_of_all (polygons_of
+        (pieces_named release.now parcel.now)))) }
 {
     let mut count: usize = 0;
     for piece in pieces_of(release, parcel) {

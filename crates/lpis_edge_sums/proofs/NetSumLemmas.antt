@@ -1,7 +1,7 @@
 -- Sums over signed edges are net counts.
 use Rattle.std.proofs.Common.{◌≡◌, ◌≢◌, ℤ, pos, negsuc, ◌+ℤ◌, ◌-ℤ◌, neg_ℤ, Bool, true, false, not, ◌&&◌, cond, List, [], ◌∷◌, ◌++◌, Some, None, inl, inr, ap, ap₂, sym, refl, ◌∙◌, ◌↔◌, IsTrue, subst}
 use Rattle.std.proofs.Common.{arith}
-use Rattle.lpis_edge_sums.proofs.Common.{ints, Point, same_point, SignedEdge, weight, sum_at}
+use Rattle.lpis_edge_sums.proofs.Common.{ints, Point, same_point, SignedEdge, edge_sign, sum_at}
 use Rattle.lpis_points.specs.Chain.{is_edge, net_count, SameNet}
 use Rattle.lpis_points.proofs.Shared.{edge_sum-append, reversed_count}
 use Rattle.lpis_edge_sums.specs.private.SignedEdges.{is_at, SumsAreZero, is_low, IsSigned, signed_by, low_count, Grows}
@@ -61,13 +61,13 @@ weighted false false z e = omega (arith, ints)
 weighted _ _ z e = e
 
 -- what a signed edge adds
-edge_adds : (a b : Point) (t : Bool) (e : SignedEdge) → IsSigned a b t (Some e) → (p q : Point) → cond (is_at p q e) (weight e) (pos 0) ≡ signed_by t (adds p q a b)
+edge_adds : (a b : Point) (t : Bool) (e : SignedEdge) → IsSigned a b t (Some e) → (p q : Point) → cond (is_at p q e) (edge_sign e) (pos 0) ≡ signed_by t (adds p q a b)
 edge_adds a b t e (inl h) p q =
-    ap₂ (λ (u v : Point). cond (same_point p u && same_point q v) (weight e) (pos 0)) h.1 h.2
+    ap₂ (λ (u v : Point). cond (same_point p u && same_point q v) (edge_sign e) (pos 0)) h.1 h.2
     ∙ ap (λ (w : Bool). cond (same_point p a && same_point q b) (cond w (pos 1) (negsuc 0)) (pos 0)) h.3
     ∙ weighted (same_point p a && same_point q b) t (adds p q a b) (straight p q a b h.0)
 edge_adds a b t e (inr h) p q =
-    ap₂ (λ (u v : Point). cond (same_point p u && same_point q v) (weight e) (pos 0)) h.1 h.2
+    ap₂ (λ (u v : Point). cond (same_point p u && same_point q v) (edge_sign e) (pos 0)) h.1 h.2
     ∙ ap (λ (w : Bool). cond (same_point p b && same_point q a) (cond w (pos 1) (negsuc 0)) (pos 0)) h.3
     ∙ weighted (same_point p b && same_point q a) (not t) (adds p q b a) (straight p q b a h.0)
     ∙ flipped t (adds p q a b) (adds p q b a) (turned p q a b)
@@ -104,7 +104,7 @@ pub pushed : (t : Bool) (a b : Point) (e : SignedEdge) (xs ys : List SignedEdge)
 pushed t a b e xs ys h k = record {
   sums = λ p q.
       ap (sum_at p q) k ∙ sum_at-append p q xs (e ∷ []) ∙ ap (λ (z : ℤ). sum_at p q xs +ℤ z)
-      (last (cond (is_at p q e) (weight e) (pos 0)) ∙ edge_adds a b t e h p q
+      (last (cond (is_at p q e) (edge_sign e) (pos 0)) ∙ edge_adds a b t e h p q
       ∙ sym (ap (signed_by t) (one_count p q a b)));
 }
   where

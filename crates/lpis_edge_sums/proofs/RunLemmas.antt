@@ -1,7 +1,7 @@
 -- One walk over grouped edges.
 use Rattle.std.proofs.Common.{◌≡◌, ℕ, zero, suc, ◌+◌, ◌<◌, ◌≤◌, ℤ, pos, negsuc, ◌+ℤ◌, ◌-ℤ◌, nat_abs, Bool, true, false, ◌&&◌, cond, List, [], ◌∷◌, ◌++◌, length, get_or, take, drop, Option, Some, None}
 use Rattle.std.proofs.Common.{ap, ap₂, sym, refl, ◌∙◌, arith, sum_by, slice_get, IsPermutation}
-use Rattle.lpis_edge_sums.proofs.Common.{ints, slice_get_within, Point, same_point, SignedEdge, weight, sum_at, IsGrouped}
+use Rattle.lpis_edge_sums.proofs.Common.{ints, slice_get_within, Point, same_point, SignedEdge, edge_sign, sum_at, IsGrouped}
 use Rattle.std.proofs.lemmas.Option.{same_Some, slice_get-get_or, slice_get_past}
 use Rattle.std.proofs.lemmas.List.{take_more, take_all, take-append-drop}
 use Rattle.std.proofs.lemmas.List.Sums.{sum_by-cons}
@@ -23,7 +23,7 @@ sum_at-append a b [] ys = from (sum_at a b ys)
   where
     from : (x : ℤ) → x ≡ pos 0 +ℤ x
     from x = omega (arith, ints)
-sum_at-append a b (x ∷ xs) ys = joined (cond (is_at a b x) (weight x) (pos 0)) (sum_at a b xs) (sum_at a b ys) (sum_at a b (xs ++ ys)) (sum_at-append a b xs ys)
+sum_at-append a b (x ∷ xs) ys = joined (cond (is_at a b x) (edge_sign x) (pos 0)) (sum_at a b xs) (sum_at a b ys) (sum_at a b (xs ++ ys)) (sum_at-append a b xs ys)
   where
     joined : (x y z w : ℤ) → w ≡ y +ℤ z → x +ℤ w ≡ (x +ℤ y) +ℤ z
     joined x y z w e = omega (arith, ints)
@@ -46,18 +46,18 @@ walk_none xs = record { sums = λ a b. nothing (is_next a b (slice_get xs 0)); s
 
 -- the prefix with the element at k
 step_sum : (xs : List SignedEdge) (k : ℕ) (sum : ℤ) (x : SignedEdge) → WalkAt xs k sum → slice_get xs k ≡ Some x
-    → k < length xs → (a b : Point) → sum_at a b (take (k + 1) xs) ≡ cond (is_at a b x) (sum +ℤ weight x) (pos 0)
+    → k < length xs → (a b : Point) → sum_at a b (take (k + 1) xs) ≡ cond (is_at a b x) (sum +ℤ edge_sign x) (pos 0)
 step_sum xs k sum x w e l a b =
     ap (sum_at a b) (take_more xs k x l ∙ ap (λ (y : SignedEdge). take k xs ++ y ∷ []) (same_Some (get_or xs k x) x (sym (slice_get-get_or xs k x l) ∙ e)))
     ∙ sum_at-append a b (take k xs) (x ∷ [])
-    ∙ ap (λ (z : ℤ). z +ℤ (cond (is_at a b x) (weight x) (pos 0) +ℤ pos 0)) (w.sums a b ∙ ap (λ (o : Option SignedEdge). cond (is_next a b o) sum (pos 0)) e)
-    ∙ merged (is_at a b x) sum (weight x)
+    ∙ ap (λ (z : ℤ). z +ℤ (cond (is_at a b x) (edge_sign x) (pos 0) +ℤ pos 0)) (w.sums a b ∙ ap (λ (o : Option SignedEdge). cond (is_next a b o) sum (pos 0)) e)
+    ∙ merged (is_at a b x) sum (edge_sign x)
   where
     merged : (t : Bool) (s v : ℤ) → cond t s (pos 0) +ℤ (cond t v (pos 0) +ℤ pos 0) ≡ cond t (s +ℤ v) (pos 0)
     merged true s v = omega (arith, ints)
     merged false s v = omega (arith, ints)
 
-weight_small : (x : SignedEdge) → nat_abs (weight x) ≤ 1
+weight_small : (x : SignedEdge) → nat_abs (edge_sign x) ≤ 1
 weight_small x = by x.forward
   where
     by : (t : Bool) → nat_abs (cond t (pos 1) (negsuc 0)) ≤ 1
@@ -68,10 +68,10 @@ sum_small : (s v : ℤ) (k : ℕ) → nat_abs s ≤ k → nat_abs v ≤ 1 → na
 sum_small s v k h g = omega (arith, ints)
 
 -- a sum of 0 goes on, whatever stands next
-pub walk_zero : (xs : List SignedEdge) (k : ℕ) (sum : ℤ) (x : SignedEdge) → WalkAt xs k sum → slice_get xs k ≡ Some x → sum +ℤ weight x ≡ pos 0 → WalkAt xs (k + 1) (sum +ℤ weight x)
+pub walk_zero : (xs : List SignedEdge) (k : ℕ) (sum : ℤ) (x : SignedEdge) → WalkAt xs k sum → slice_get xs k ≡ Some x → sum +ℤ edge_sign x ≡ pos 0 → WalkAt xs (k + 1) (sum +ℤ edge_sign x)
 walk_zero xs k sum x w e z = record {
-  sums = λ a b. step_sum xs k sum x w e (slice_get_within xs k x e) a b ∙ zeros (is_at a b x) (is_next a b (slice_get xs (k + 1))) (sum +ℤ weight x) z;
-  small = sum_small sum (weight x) k w.small (weight_small x);
+  sums = λ a b. step_sum xs k sum x w e (slice_get_within xs k x e) a b ∙ zeros (is_at a b x) (is_next a b (slice_get xs (k + 1))) (sum +ℤ edge_sign x) z;
+  small = sum_small sum (edge_sign x) k w.small (weight_small x);
 }
   where
     zeros : (s t : Bool) (v : ℤ) → v ≡ pos 0 → cond s v (pos 0) ≡ cond t v (pos 0)
@@ -81,10 +81,10 @@ walk_zero xs k sum x w e z = record {
     zeros false false v z = refl
 
 -- a run that does not end goes on
-pub walk_on : (xs : List SignedEdge) (k : ℕ) (sum : ℤ) (x : SignedEdge) → WalkAt xs k sum → slice_get xs k ≡ Some x → (EndsRun xs k → ⊥) → WalkAt xs (k + 1) (sum +ℤ weight x)
+pub walk_on : (xs : List SignedEdge) (k : ℕ) (sum : ℤ) (x : SignedEdge) → WalkAt xs k sum → slice_get xs k ≡ Some x → (EndsRun xs k → ⊥) → WalkAt xs (k + 1) (sum +ℤ edge_sign x)
 walk_on xs k sum x w e not = record {
-  sums = λ a b. step_sum xs k sum x w e (slice_get_within xs k x e) a b ∙ ap (λ (t : Bool). cond t (sum +ℤ weight x) (pos 0)) (next (slice_get xs (k + 1)) refl a b);
-  small = sum_small sum (weight x) k w.small (weight_small x);
+  sums = λ a b. step_sum xs k sum x w e (slice_get_within xs k x e) a b ∙ ap (λ (t : Bool). cond t (sum +ℤ edge_sign x) (pos 0)) (next (slice_get xs (k + 1)) refl a b);
+  small = sum_small sum (edge_sign x) k w.small (weight_small x);
 }
   where
     next : (o : Option SignedEdge) → slice_get xs (k + 1) ≡ o → (a b : Point) → is_at a b x ≡ is_next a b o
@@ -105,7 +105,7 @@ none_at : (a b : Point) (xs : List SignedEdge) → ((m : ℕ) (z : SignedEdge) �
 none_at a b [] h = refl
 none_at a b (x ∷ xs) h = by (is_at a b x) (h 0 x refl) (none_at a b xs (λ m z e. h (suc m) z e))
   where
-    by : (t : Bool) → t ≡ false → sum_at a b xs ≡ pos 0 → cond t (weight x) (pos 0) +ℤ sum_at a b xs ≡ pos 0
+    by : (t : Bool) → t ≡ false → sum_at a b xs ≡ pos 0 → cond t (edge_sign x) (pos 0) +ℤ sum_at a b xs ≡ pos 0
     by true e f = cc
     by false e f = zero_more (sum_at a b xs) f
       where
@@ -125,9 +125,9 @@ get-drop (x ∷ xs) (suc n) m = get-drop xs n m ∙ ap (slice_get (x ∷ xs)) (m
 
 -- a run that ends with another sum than 0
 pub walk_fault : (xs : List SignedEdge) (k : ℕ) (sum : ℤ) (x : SignedEdge) → IsGrouped xs → WalkAt xs k sum
-    → slice_get xs k ≡ Some x → (sum +ℤ weight x ≡ pos 0 → ⊥) → EndsRun xs k → SumsAreZero xs → ⊥
+    → slice_get xs k ≡ Some x → (sum +ℤ edge_sign x ≡ pos 0 → ⊥) → EndsRun xs k → SumsAreZero xs → ⊥
 walk_fault xs k sum x g w e not ends zero_all =
-    not (closed (sum_at x.low x.high (take (k + 1) xs)) (sum_at x.low x.high (drop (k + 1) xs)) (sum +ℤ weight x) here
+    not (closed (sum_at x.low x.high (take (k + 1) xs)) (sum_at x.low x.high (drop (k + 1) xs)) (sum +ℤ edge_sign x) here
     (none_at x.low x.high (drop (k + 1) xs) later)
     (sym (sum_at-append x.low x.high (take (k + 1) xs) (drop (k + 1) xs))
     ∙ ap (sum_at x.low x.high) (take-append-drop (k + 1) xs) ∙ zero_all x.low x.high))
@@ -135,8 +135,8 @@ walk_fault xs k sum x g w e not ends zero_all =
     closed : (p q v : ℤ) → p ≡ v → q ≡ pos 0 → p +ℤ q ≡ pos 0 → v ≡ pos 0
     closed p q v f h i = omega (arith, ints)
 
-    here : sum_at x.low x.high (take (k + 1) xs) ≡ sum +ℤ weight x
-    here = step_sum xs k sum x w e (slice_get_within xs k x e) x.low x.high ∙ ap (λ (t : Bool). cond t (sum +ℤ weight x) (pos 0)) (at_itself x)
+    here : sum_at x.low x.high (take (k + 1) xs) ≡ sum +ℤ edge_sign x
+    here = step_sum xs k sum x w e (slice_get_within xs k x e) x.low x.high ∙ ap (λ (t : Bool). cond t (sum +ℤ edge_sign x) (pos 0)) (at_itself x)
 
     later : (m : ℕ) (z : SignedEdge) → slice_get (drop (k + 1) xs) m ≡ Some z → is_at x.low x.high z ≡ false
     later m z f = by (same_ends x z) refl

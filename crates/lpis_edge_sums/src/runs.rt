@@ -2,7 +2,7 @@
 
 ghost use Rattle.std.specs.Prelude.{◌≡◌, ◌↔◌, ◌<◌, ◌≤◌, ◌^◌, IsTrue, length, unsigned_abs};
 ghost use Rattle.lpis_edge_sums.specs.private.SignedEdges.{same_ends as same_ends_spec};
-ghost use Rattle.lpis_edge_sums.specs.private.SignedEdges.{weight as weight_spec, IsGrouped};
+ghost use Rattle.lpis_edge_sums.specs.private.SignedEdges.{edge_sign as weight_spec, IsGrouped};
 ghost use Rattle.lpis_edge_sums.specs.private.SignedEdges.{SumsAreZero, EndsRun};
 
 use crate::signed::SignedEdge;

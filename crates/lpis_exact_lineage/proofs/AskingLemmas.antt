@@ -18,16 +18,16 @@ use Rattle.lpis_parcels.specs.Release.{Contents, parcel_ids}
 use Rattle.lpis_register_rows.specs.Shapes.{Shape}
 use Rattle.lpis_checker.specs.declared.exact.ExactPart.{ExactPart}
 use Rattle.lpis_exact_lineage.specs.Asking.{AsksFor, HasShape, IsMarked, IsUnkept, IsWanted, kinds_from, lacking, old_ids, part_shape, unkept, whole_shape}
-use Rattle.lpis_exact_lineage.specs.Shapes.{shape_of, shapes_in}
+use Rattle.lpis_exact_lineage.specs.Shapes.{shape_named, shapes_in}
 use Rattle.lpis_exact_lineage.specs.declared.asking.AskFault.{AskFault}
 use Rattle.lpis_exact_lineage.specs.declared.asking.AskFault.TheVariants.{Memory, NotKept}
 use Rattle.lpis_exact_lineage.specs.private.Lacking.{IsFirstLacking}
 
 -- ---- identifiers whose shapes are kept
 lacking-append : (kept : List Shape) (xs ys : List (List ℕ)) → lacking kept (xs ++ ys) ≡ lacking kept xs ++ lacking kept ys
-lacking-append kept xs ys = filter-append (λ id. not (is_some (shape_of kept id))) xs ys
+lacking-append kept xs ys = filter-append (λ id. not (is_some (shape_named kept id))) xs ys
 
-pub kept-none : (kept : List Shape) (ids : List (List ℕ)) (shapes : List (List Member)) → AllZip (HasShape (shape_of kept)) ids shapes → lacking kept ids ≡ []
+pub kept-none : (kept : List Shape) (ids : List (List ℕ)) (shapes : List (List Member)) → AllZip (HasShape (shape_named kept)) ids shapes → lacking kept ids ≡ []
 kept-none kept [] shapes z = refl
 kept-none kept (id ∷ ids) [] z = absurd z
 kept-none kept (id ∷ ids) (s ∷ ss) z =
@@ -64,7 +64,7 @@ zip-more {A} {B} R xs ys k x y lt at z r pushed =
     subst (AllZip R (take (k + 1) xs)) (sym pushed) (subst (λ (l : List A). AllZip R l (ys ++ y ∷ [])) (take-at xs k x lt at) (one-more R (take k xs) ys x y r z))
 
 pub first-in : (kept : List Shape) (ids : List (List ℕ)) (k : ℕ) (id : List ℕ) (shapes : List (List Member)) (fault : AskFault) → k < length ids → id ≡ get_or ids k id
-    → AllZip (HasShape (shape_of kept)) (take k ids) shapes → IsFirstLacking kept (id ∷ []) fault → IsFirstLacking kept ids fault
+    → AllZip (HasShape (shape_named kept)) (take k ids) shapes → IsFirstLacking kept (id ∷ []) fault → IsFirstLacking kept ids fault
 first-in kept ids k id shapes fault lt at z first = subst (λ (l : List (List ℕ)). IsFirstLacking kept l fault) (split-at ids k id lt at)
     (first-lacking kept (take k ids) (id ∷ []) (drop (k + 1) ids) fault (kept-none kept (take k ids) shapes z) first)
 
@@ -80,22 +80,22 @@ wanted-by kept new g x merge others parts gm xm xi go xp whole z = record {
 }
 
 -- all old identifiers of a group with its part are kept
-wanted-kept : (kept : List Shape) (new : List ℕ → Option (List Member)) (g : Group) (x : ExactPart) → IsWanted (shape_of kept) new g x → lacking kept (old_ids g) ≡ []
+wanted-kept : (kept : List Shape) (new : List ℕ → Option (List Member)) (g : Group) (x : ExactPart) → IsWanted (shape_named kept) new g x → lacking kept (old_ids g) ≡ []
 wanted-kept kept new g x w = by g.merge w.whole w.parts
   where
-    by : (m : Bool) → HasShape (whole_shape m (shape_of kept) new) g.id x.whole → AllZip (HasShape (part_shape m (shape_of kept) new)) g.others x.parts
+    by : (m : Bool) → HasShape (whole_shape m (shape_named kept) new) g.id x.whole → AllZip (HasShape (part_shape m (shape_named kept) new)) g.others x.parts
         → lacking kept (cond m g.others (g.id ∷ [])) ≡ []
     by true whole parts = kept-none kept g.others x.parts parts
     by false whole parts = kept-none kept (g.id ∷ []) (x.whole ∷ []) (whole, tt)
 
-pub all-kept : (kept : List Shape) (new : List ℕ → Option (List Member)) (gs : List Group) (xs : List ExactPart) → AllZip (IsWanted (shape_of kept) new) gs xs → unkept kept gs ≡ []
+pub all-kept : (kept : List Shape) (new : List ℕ → Option (List Member)) (gs : List Group) (xs : List ExactPart) → AllZip (IsWanted (shape_named kept) new) gs xs → unkept kept gs ≡ []
 all-kept kept new [] xs z = refl
 all-kept kept new (g ∷ gs) [] z = absurd z
 all-kept kept new (g ∷ gs) (x ∷ xs) z =
     lacking-append kept (old_ids g) (flat_map old_ids gs) ∙ ap (λ (l : List (List ℕ)). l ++ unkept kept gs) (wanted-kept kept new g x z.0) ∙ all-kept kept new gs xs z.1
 
 pub first-of-groups : (kept : List Shape) (new : List ℕ → Option (List Member)) (gs : List Group) (k : ℕ) (g : Group) (xs : List ExactPart) (fault : AskFault) → k < length gs → g ≡ get_or gs k g
-    → AllZip (IsWanted (shape_of kept) new) (take k gs) xs → IsFirstLacking kept (old_ids g) fault → IsFirstLacking kept (flat_map old_ids gs) fault
+    → AllZip (IsWanted (shape_named kept) new) (take k gs) xs → IsFirstLacking kept (old_ids g) fault → IsFirstLacking kept (flat_map old_ids gs) fault
 first-of-groups kept new gs k g xs fault lt at z first =
     let parts : flat_map old_ids (take k gs) ++ (old_ids g ++ flat_map old_ids (drop (k + 1) gs)) ≡ flat_map old_ids gs =
     sym (flat_map-append old_ids (take k gs) (g ∷ drop (k + 1) gs)) ∙ ap (λ (l : List Group). flat_map old_ids l) (split-at gs k g lt at) in
@@ -114,13 +114,13 @@ marked h r rows c gs none change are = record {
 }
 
 pub asked : (h : List Entry) (kept : List Shape) (r : Contents) (rows : List Row) (c : Changes) (gs : List Group) (xs : List ExactPart) → faults h (parcel_ids r.parcels) rows ≡ []
-    → IsChange (last_live h) (parcel_ids r.parcels) rows c → AreExactGroups (kind_at c) c.rows gs → AllZip (IsWanted (shape_of kept) (shape_of (shapes_in r))) gs xs
+    → IsChange (last_live h) (parcel_ids r.parcels) rows c → AreExactGroups (kind_at c) c.rows gs → AllZip (IsWanted (shape_named kept) (shape_named (shapes_in r))) gs xs
     → (hs : List Group) × AsksFor h kept r rows hs xs
 asked h kept r rows c gs xs none change are parts = (
   gs,
   record {
     marked = marked h r rows c gs none change are;
-    all_kept = all-kept kept (shape_of (shapes_in r)) gs xs parts;
+    all_kept = all-kept kept (shape_named (shapes_in r)) gs xs parts;
     parts = parts;
   },
 )

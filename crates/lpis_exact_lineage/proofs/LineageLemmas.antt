@@ -13,7 +13,7 @@ use Rattle.lpis_lineage.specs.declared.kind.Kind.{Kind}
 use Rattle.lpis_lineage.specs.declared.row.Row.{Row}
 use Rattle.lpis_lineage.specs.Descendants.{leads}
 use Rattle.std.proofs.lemmas.List.Folds.{list_any-append}
-use Rattle.lpis_lineage.specs.ExactGroups.{AreExactGroups, as_merge, as_split, is_exact_merge, is_exact_split, is_other, leads_into, named}
+use Rattle.lpis_lineage.specs.ExactGroups.{AreExactGroups, as_merge, as_split, is_exact_merge, is_exact_split, is_other, leads_into, group_name}
 use Rattle.lpis_lineage.specs.Order.{IsAscending}
 use Rattle.lpis_lineage.proofs.Shared.{same-exact}
 use Rattle.lpis_edge_sums.specs.Counting.{AtMostOne}
@@ -88,18 +88,18 @@ split_test id n = not n.0 && same_id id n.1
 abbrev merge_test : List ℕ → Bool × List ℕ → Bool
 merge_test id n = n.0 && same_id id n.1
 
-has_split : (gs : List Group) (splits merges : List (List ℕ)) (id : List ℕ) → map named gs ≡ map as_split splits ++ map as_merge merges
+has_split : (gs : List Group) (splits merges : List (List ℕ)) (id : List ℕ) → map group_name gs ≡ map as_split splits ++ map as_merge merges
     → list_any (λ (g : Group). not g.merge && same_id id g.id) gs ≡ has_id splits id
 has_split gs splits merges id e =
-    any-map (split_test id) named gs ∙ ap (λ (ns : List (Bool × List ℕ)). list_any (split_test id) ns) e
+    any-map (split_test id) group_name gs ∙ ap (λ (ns : List (Bool × List ℕ)). list_any (split_test id) ns) e
     ∙ list_any-append (split_test id) (map as_split splits) (map as_merge merges)
     ∙ ap (λ (b : Bool). list_any (split_test id) (map as_split splits) || b) (sym (any-map (split_test id) as_merge merges) ∙ any-never merges)
     ∙ or-false (list_any (split_test id) (map as_split splits)) ∙ sym (any-map (split_test id) as_split splits)
 
-has_merge : (gs : List Group) (splits merges : List (List ℕ)) (id : List ℕ) → map named gs ≡ map as_split splits ++ map as_merge merges
+has_merge : (gs : List Group) (splits merges : List (List ℕ)) (id : List ℕ) → map group_name gs ≡ map as_split splits ++ map as_merge merges
     → list_any (λ (g : Group). g.merge && same_id id g.id) gs ≡ has_id merges id
 has_merge gs splits merges id e =
-    any-map (merge_test id) named gs ∙ ap (λ (ns : List (Bool × List ℕ)). list_any (merge_test id) ns) e
+    any-map (merge_test id) group_name gs ∙ ap (λ (ns : List (Bool × List ℕ)). list_any (merge_test id) ns) e
     ∙ list_any-append (merge_test id) (map as_split splits) (map as_merge merges)
     ∙ ap (λ (b : Bool). b || list_any (merge_test id) (map as_merge merges)) (sym (any-map (merge_test id) as_split splits) ∙ any-never splits)
     ∙ sym (any-map (merge_test id) as_merge merges)

@@ -7,7 +7,7 @@ use Rattle.std.proofs.lemmas.Map.Keys.{sorted_from_all_adjacent}
 use Rattle.lpis_lineage.specs.Changes.{Changes, IsChange, kind_at}
 use Rattle.lpis_lineage.specs.ExactGroups.{AreExactGroups, is_exact_merge, is_exact_split, is_merged, is_other, is_split}
 use Rattle.lpis_lineage.specs.Kinds.{by_counts, heirs, kind, predecessors, successors}
-use Rattle.lpis_lineage.specs.Lineage.{ended, is_of, names}
+use Rattle.lpis_lineage.specs.Lineage.{is_ended, is_row_of, names_successor}
 use Rattle.lpis_lineage.specs.Order.{IsAscending}
 use Rattle.lpis_lineage.specs.declared.exact.Group.{Group}
 use Rattle.lpis_lineage.specs.declared.kind.Kind.{Kind}
@@ -59,27 +59,27 @@ not-split true false true several = refl
 not-split true false false several = refl
 
 no-split : (last live : List (List ℕ)) (rows : List Row) → list_any is_marked rows ≡ false → (id : List ℕ) → is_exact_split (kind last live rows) rows id ≡ false
-no-split last live rows n id = by (list_any (is_of id) rows) refl
+no-split last live rows n id = by (list_any (is_row_of id) rows) refl
   where
-    by : (b : Bool) → list_any (is_of id) rows ≡ b → is_exact_split (kind last live rows) rows id ≡ false
-    by true e = and-not (is_split (kind last live rows id)) (list_all is_marked (filter (is_of id) rows)) (unmarked (is_of id) rows n e)
+    by : (b : Bool) → list_any (is_row_of id) rows ≡ b → is_exact_split (kind last live rows) rows id ≡ false
+    by true e = and-not (is_split (kind last live rows id)) (list_all is_marked (filter (is_row_of id) rows)) (unmarked (is_row_of id) rows n e)
     by false e =
         let several : List ℕ → Bool = λ s. nat_lt 1 (predecessors last live rows s) in
-        let none : successors rows id ≡ [] = ap heirs (none-pass (is_of id) rows e) in
+        let none : successors rows id ≡ [] = ap heirs (none-pass (is_row_of id) rows e) in
         let split : is_split (kind last live rows id) ≡ false =
-        ap (λ (ss : List (List ℕ)). is_split (kind_by (has_id last id) (has_id live id) (ended rows id) several ss)) none
-        ∙ not-split (has_id last id) (has_id live id) (ended rows id) several in
-        ap (λ (b : Bool). b && list_all is_marked (filter (is_of id) rows)) split
+        ap (λ (ss : List (List ℕ)). is_split (kind_by (has_id last id) (has_id live id) (is_ended rows id) several ss)) none
+        ∙ not-split (has_id last id) (has_id live id) (is_ended rows id) several in
+        ap (λ (b : Bool). b && list_all is_marked (filter (is_row_of id) rows)) split
 
 no-merge : (kind_of : List ℕ → Option Kind) (rows : List Row) → list_any is_marked rows ≡ false → (s : List ℕ) → is_exact_merge kind_of rows s ≡ false
-no-merge kind_of rows n s = by (list_any (names s) rows) refl
+no-merge kind_of rows n s = by (list_any (names_successor s) rows) refl
   where
     merged : Bool
-    merged = list_all (λ (row : Row). is_merged (kind_of row.old)) (filter (names s) rows)
+    merged = list_all (λ (row : Row). is_merged (kind_of row.old)) (filter (names_successor s) rows)
 
-    by : (b : Bool) → list_any (names s) rows ≡ b → is_exact_merge kind_of rows s ≡ false
-    by true e = and-not (list_any (names s) rows && merged) (list_all is_marked (filter (names s) rows)) (unmarked (names s) rows n e)
-    by false e = ap (λ (b : Bool). (b && merged) && list_all is_marked (filter (names s) rows)) e
+    by : (b : Bool) → list_any (names_successor s) rows ≡ b → is_exact_merge kind_of rows s ≡ false
+    by true e = and-not (list_any (names_successor s) rows && merged) (list_all is_marked (filter (names_successor s) rows)) (unmarked (names_successor s) rows n e)
+    by false e = ap (λ (b : Bool). (b && merged) && list_all is_marked (filter (names_successor s) rows)) e
 
 none-ascend : IsAscending []
 none-ascend = sorted_from_all_adjacent nat_list_cmp_total [] [] (λ k lt. absurd (omega (arith, lt)))

@@ -25,10 +25,10 @@ use Rattle.lpis_lineage.proofs.Shared.{same-by_order, same-exact}
 use Rattle.lpis_lineage.specs.Order.{IsAscending}
 use Rattle.lpis_parcels.specs.declared.parcel.Parcel.{Parcel}
 use Rattle.lpis_parcels.specs.Release.{Contents, parcel_named}
-use Rattle.lpis_register_rows.specs.Shapes.{Shape, shape_ids, shape_of as shape_of_parcel}
+use Rattle.lpis_register_rows.specs.Shapes.{Shape, shape_ids, parcel_shape as shape_of_parcel}
 use Rattle.lpis_checker.specs.SoundMap.{IsInParcel, IsSoundMap, TurnsTell}
 use Rattle.lpis_exact_lineage.specs.ExactLineage.{ShapesShareNothing, ShapesTurnOnce}
-use Rattle.lpis_exact_lineage.specs.Shapes.{shape_of, shapes_in}
+use Rattle.lpis_exact_lineage.specs.Shapes.{shape_named, shapes_in}
 
 -- ---- the parcel of a shape
 record Held (xs : List Parcel) (id : List ℕ) (m : List Member) : Type 0 where
@@ -43,13 +43,13 @@ at-index [] k s e = cc e
 at-index (x ∷ xs) zero s e = (x, refl, same_Some (shape_of_parcel x) s e)
 at-index (x ∷ xs) (suc k) s e = at-index xs k s e
 
-held : (r : Contents) (shapes : List Shape) (id : List ℕ) (m : List Member) → IsPermutation (shapes_in r) shapes → shape_of shapes id ≡ Some m → Held r.parcels id m
+held : (r : Contents) (shapes : List Shape) (id : List ℕ) (m : List Member) → IsPermutation (shapes_in r) shapes → shape_named shapes id ≡ Some m → Held r.parcels id m
 held r shapes id m p e =
     let among = Contains-permutation shapes (shapes_in r) (id, m) (IsPermutation-sym (shapes_in r) shapes p) (Contains-from_lookup same-exact id m shapes e) in
     let x = at-index r.parcels among.0 (id, m) (slice_get-get_or (shapes_in r) among.0 (id, m) among.1 ∙ ap Some among.2) in
     record { index = among.0; parcel = x.0; at = x.1; is_id = ap (λ (s : Shape). s.0) (sym x.2); is_shape = ap (λ (s : Shape). s.1) x.2 }
 
-pub turn_once : (r : Contents) (shapes : List Shape) → IsSoundMap r → IsPermutation (shapes_in r) shapes → ShapesTurnOnce (shape_of shapes)
+pub turn_once : (r : Contents) (shapes : List Shape) → IsSoundMap r → IsPermutation (shapes_in r) shapes → ShapesTurnOnce (shape_named shapes)
 turn_once r shapes s perm id m e = record { turns = λ p d. at p d }
   where
     h : Held r.parcels id m
@@ -59,7 +59,7 @@ turn_once r shapes s perm id m e = record { turns = λ p d. at p d }
     at p d = subst (λ (x : List Member). IsOneOrNone (turns x p)) h.is_shape
         (all_at (λ (k : Parcel). TurnsTell (IsInParcel p k) (turns k.polygon p)) r.parcels h.index h.parcel h.at (s.turns.parcels p d)).0
 
-pub share_nothing : (r : Contents) (shapes : List Shape) → IsSoundMap r → IsPermutation (shapes_in r) shapes → ShapesShareNothing (shape_of shapes)
+pub share_nothing : (r : Contents) (shapes : List Shape) → IsSoundMap r → IsPermutation (shapes_in r) shapes → ShapesShareNothing (shape_named shapes)
 share_nothing r shapes s perm p d a b l k =
     let v = held r shapes a l.shape perm l.is in
     let w = held r shapes b k.shape perm k.is in
@@ -77,7 +77,7 @@ named-shape (x ∷ xs) id = by (same_id id x.id) (named-shape xs id)
     by true rec = refl
     by false rec = rec
 
-pub shape-of-found : (r : Contents) (id : List ℕ) (x : Parcel) (m : List Member) → Some x ≡ parcel_named r id → m ≡ x.polygon → shape_of (shapes_in r) id ≡ Some m
+pub shape-of-found : (r : Contents) (id : List ℕ) (x : Parcel) (m : List Member) → Some x ≡ parcel_named r id → m ≡ x.polygon → shape_named (shapes_in r) id ≡ Some m
 shape-of-found r id x m found same = named-shape r.parcels id ∙ ap (λ (o : Option Parcel). option_map (λ (p : Parcel). p.polygon) o) (sym found) ∙ ap Some (sym same)
 
 -- ---- a binary search of shapes that ascend by identifier
@@ -109,15 +109,15 @@ same-from-tie : (a b : List ℕ) → slice_cmp nat_cmp a b ≡ Equal → a ≡ b
 same-from-tie a b e = same-exact a b (same-by_order a b ∙ ap is_eq e)
 
 pub shape-found : (kept : List Shape) (id : List ℕ) (i : ℕ) (d : Shape) → IsAscending (shape_ids kept) → i < length kept → HoldsAt (λ y. order id y ≡ Equal) kept i
-    → Some (get_or kept i d).1 ≡ shape_of kept id
+    → Some (get_or kept i d).1 ≡ shape_named kept id
 shape-found kept id i d up lt tie =
     let s : Shape = get_or kept i d in
     let same : s.0 ≡ id = same-from-tie s.0 id (tie d) in
     sym (lookup-from_Contains nat_list_eq_equiv id s.1 kept (distinct kept up) (i, lt, get_or_default kept i (id, s.1) d lt ∙ ap (λ (k : List ℕ). (k, s.1)) same))
 
 pub shape-missing : (kept : List Shape) (id : List ℕ) (i : ℕ) → IsAscending (shape_ids kept)
-    → (IsNonDecreasingBy (λ y. ordering_index (order id y)) kept → IsPartitionPoint (λ y. order id y ≡ Less) (λ y. order id y ≡ Greater) kept i) → None ≡ shape_of kept id
-shape-missing kept id i up searched = sym (by (shape_of kept id) refl)
+    → (IsNonDecreasingBy (λ y. ordering_index (order id y)) kept → IsPartitionPoint (λ y. order id y ≡ Less) (λ y. order id y ≡ Greater) kept i) → None ≡ shape_named kept id
+shape-missing kept id i up searched = sym (by (shape_named kept id) refl)
   where
     point : IsPartitionPoint (λ y. order id y ≡ Less) (λ y. order id y ≡ Greater) kept i
     point = searched (searchable_from_sorted nat_list_cmp_total (λ (s : Shape). s.0) kept id (sorted kept up))
@@ -140,6 +140,6 @@ shape-missing kept id i up searched = sym (by (shape_of kept id) refl)
       | inr l ↦ greater (sym (itself m w) ∙ point.1 w.0 (id, m) l w.1)
     ]
 
-    by : (o : Option (List Member)) → shape_of kept id ≡ o → o ≡ None
+    by : (o : Option (List Member)) → shape_named kept id ≡ o → o ≡ None
     by None e = refl
     by (Some m) e = absurd (never m (Contains-from_lookup same-exact id m kept e))

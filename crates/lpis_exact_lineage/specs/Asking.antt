@@ -9,7 +9,7 @@ use Rattle.lpis_lineage.specs.declared.exact.Group.{Group}
 use Rattle.lpis_lineage.specs.declared.kind.Kind.{Kind}
 use Rattle.lpis_lineage.specs.declared.row.Entry.{Entry}
 use Rattle.lpis_lineage.specs.declared.row.Row.{Row}
-use Rattle.lpis_lineage.specs.ExactGroups.{AreExactGroups, named}
+use Rattle.lpis_lineage.specs.ExactGroups.{AreExactGroups, group_name}
 use Rattle.lpis_lineage.specs.Faults.{faults}
 use Rattle.lpis_lineage.specs.Kinds.{kind}
 use Rattle.lpis_lineage.specs.Lineage.{last_live}
@@ -20,7 +20,7 @@ use Rattle.lpis_checker.specs.declared.exact.ExactPart.{ExactPart}
 use Rattle.lpis_checker.specs.ExactBlocks.{ReportsExact, ShowExact, part_name}
 use Rattle.lpis_checker.specs.SoundMap.{IsSoundMap}
 use Rattle.lpis_exact_lineage.specs.ExactLineage.{IsExactLineage}
-use Rattle.lpis_exact_lineage.specs.Shapes.{shape_of, shapes_in}
+use Rattle.lpis_exact_lineage.specs.Shapes.{shape_named, shapes_in}
 
 -- what became of the identifiers of the last release
 abbrev pub kinds_from : List Entry → Contents → List Row → List ℕ → Option Kind
@@ -39,7 +39,7 @@ old_ids g = cond g.merge g.others (g.id ∷ [])
 
 -- of these identifiers those whose shapes are not kept
 abbrev pub lacking : List Shape → List (List ℕ) → List (List ℕ)
-lacking kept ids = filter (λ id. not (is_some (shape_of kept id))) ids
+lacking kept ids = filter (λ id. not (is_some (shape_named kept id))) ids
 
 -- the old identifiers whose shapes are not kept, in the order of the groups
 abbrev pub unkept : List Shape → List Group → List (List ℕ)
@@ -58,12 +58,12 @@ part_shape merge kept new id = cond merge (kept id) (new id)
 
 -- the identifier has this shape
 abbrev pub HasShape : (List ℕ → Option (List Member)) → List ℕ → List Member → Type 0
-HasShape shape_of id shape = shape_of id ≡ Some shape
+HasShape shape_named id shape = shape_named id ≡ Some shape
 
 -- the part that a group asks for: its whole, and what is to make it up
 pub record IsWanted (kept new : List ℕ → Option (List Member)) (g : Group) (x : ExactPart) : Type 0
   where
-    pub name : part_name x ≡ named g
+    pub name : part_name x ≡ group_name g
     pub whole : HasShape (whole_shape g.merge kept new) g.id x.whole
     pub parts : AllZip (HasShape (part_shape g.merge kept new)) g.others x.parts
 
@@ -74,7 +74,7 @@ pub record AsksFor (h : List Entry) (kept : List Shape) (r : Contents) (rows : L
     (gs : List Group) (xs : List ExactPart) : Type 0 where
   pub marked : IsMarked h r rows gs
   pub all_kept : unkept kept gs ≡ []
-  pub parts : AllZip (IsWanted (shape_of kept) (shape_of (shapes_in r))) gs xs
+  pub parts : AllZip (IsWanted (shape_named kept) (shape_named (shapes_in r))) gs xs
 
 -- the first old identifier, in the order of the groups, whose shape is not kept
 pub record IsUnkept (h : List Entry) (kept : List Shape) (r : Contents) (rows : List Row)
@@ -105,4 +105,4 @@ abbrev pub ShownIsExact : Type 0
 ShownIsExact =
     (h : List Entry) (kept : List Shape) (r : Contents) (blocks : List ExactBlock)
     (rows : List Row) → IsSoundMap r → IsShown h kept r blocks rows
-    → IsExactLineage (kinds_from h r rows) rows (shape_of kept) (shape_of (shapes_in r))
+    → IsExactLineage (kinds_from h r rows) rows (shape_named kept) (shape_named (shapes_in r))

@@ -4,13 +4,13 @@ use Rattle.std.specs.Map.{lookup}
 use Rattle.lpis_rings.specs.declared.polygon.Member.{Member}
 use Rattle.lpis_covers.specs.Ids.{same_id}
 use Rattle.lpis_parcels.specs.Release.{Contents}
-use Rattle.lpis_register_rows.specs.Shapes.{Shape, shape_of as shape_of_parcel}
+use Rattle.lpis_register_rows.specs.Shapes.{Shape, parcel_shape as shape_of_parcel}
 use Rattle.lpis_checker.specs.SoundMap.{IsSoundMap}
 use Rattle.lpis_exact_lineage.specs.ExactLineage.{ShapesShareNothing, ShapesTurnOnce}
 
 -- the shape of an identifier, where the list has one
-abbrev pub shape_of : List Shape → List ℕ → Option (List Member)
-shape_of shapes id = lookup (same_id id) shapes
+abbrev pub shape_named : List Shape → List ℕ → Option (List Member)
+shape_named shapes id = lookup (same_id id) shapes
 
 -- the shapes of a release's parcels
 abbrev pub shapes_in : Contents → List Shape
@@ -19,9 +19,9 @@ shapes_in r = map shape_of_parcel r.parcels
 -- the laws, of the shapes of a sound map in whatever order: each turns once at most
 abbrev pub SoundMapsTurnOnce : Type 0
 SoundMapsTurnOnce = (r : Contents) (shapes : List Shape) → IsSoundMap r
-    → IsPermutation (shapes_in r) shapes → ShapesTurnOnce (shape_of shapes)
+    → IsPermutation (shapes_in r) shapes → ShapesTurnOnce (shape_named shapes)
 
 -- and no point lies in two of them
 abbrev pub SoundMapsShareNothing : Type 0
 SoundMapsShareNothing = (r : Contents) (shapes : List Shape) → IsSoundMap r
-    → IsPermutation (shapes_in r) shapes → ShapesShareNothing (shape_of shapes)
+    → IsPermutation (shapes_in r) shapes → ShapesShareNothing (shape_named shapes)

@@ -14,7 +14,7 @@ ghost use Rattle.lpis_parcels.specs.Release.{parcel_ids};
 ghost use Rattle.lpis_register_rows.specs.Shapes.{shape_ids};
 ghost use Rattle.lpis_exact_lineage.specs.Asking.{AsksFor, HasShape, IsUnkept, IsWanted};
 ghost use Rattle.lpis_exact_lineage.specs.Asking.{old_ids};
-ghost use Rattle.lpis_exact_lineage.specs.Shapes.{shape_of, shapes_in};
+ghost use Rattle.lpis_exact_lineage.specs.Shapes.{shape_named, shapes_in};
 ghost use Rattle.lpis_exact_lineage.specs.private.Lacking.{IsFirstLacking};
 ghost use Rattle.lpis_exact_lineage.specs.declared.asking.AskFault.TheVariants.{Memory, NotKept};
 
@@ -58,7 +58,7 @@ impl<T: Drop> From<AllocFailed<T>> for AskFault {
 /// A copy of the shape that is kept of an identifier.
 fn kept_copy(alloc: Global, kept: &[(Id, Polygon)], id: &Id) -> Result<Polygon, AskFault>
     requires ascending { IsAscending (shape_ids kept.now) }
-    ensures shape { IfOk result (λ x. shape_of kept.now id.now ≡ Some x) }
+    ensures shape { IfOk result (λ x. shape_named kept.now id.now ≡ Some x) }
     ensures unkept { IfErr result (IsFirstLacking kept.now (id.now ∷ [])) }
 {
     match kept_shape(kept, id) {
@@ -70,7 +70,7 @@ fn kept_copy(alloc: Global, kept: &[(Id, Polygon)], id: &Id) -> Result<Polygon, 
 /// Copies of the shapes that are kept of identifiers, in their order.
 fn kept_copies(alloc: Global, kept: &[(Id, Polygon)], ids: &[Id]) -> Result<Vec<Polygon>, AskFault>
     requires ascending { IsAscending (shape_ids kept.now) }
-    ensures shapes { IfOk result (λ v. AllZip (HasShape (shape_of kept.now)) ids.now v.items) }
+    ensures shapes { IfOk result (λ v. AllZip (HasShape (shape_named kept.now)) ids.now v.items) }
     ensures unkept { IfErr result (IsFirstLacking kept.now ids.now) }
 {
     let mut shapes = Vec::with_capacity(alloc, ids.len())?;
@@ -83,7 +83,7 @@ fn kept_copies(alloc: Global, kept: &[(Id, Polygon)], ids: &[Id]) -> Result<Vec<
 
 /// A copy of the shape of a release's parcel.
 fn new_copy(alloc: Global, release: &Release, id: &Id) -> Result<Polygon, AllocError>
-    ensures { IfOk result (λ x. shape_of (shapes_in release.now) id.now ≡ Some x) }
+    ensures { IfOk result (λ x. shape_named (shapes_in release.now) id.now ≡ Some x) }
 {
     match release.parcel(id) {
         Some(parcel) => parcel.polygon.copy(alloc),
@@ -93,7 +93,7 @@ fn new_copy(alloc: Global, release: &Release, id: &Id) -> Result<Polygon, AllocE
 
 /// Copies of the shapes of a release's parcels, in the order of these identifiers.
 fn new_copies(alloc: Global, release: &Release, ids: &[Id]) -> Result<Vec<Polygon>, AllocError>
-    ensures { IfOk result (λ v. AllZip (HasShape (shape_of (shapes_in release.now))) ids.now
+    ensures { IfOk result (λ v. AllZip (HasShape (shape_named (shapes_in release.now))) ids.now
         v.items) }
 {
     let mut shapes = Vec::with_capacity(alloc, ids.len())?;
@@ -114,7 +114,7 @@ fn split_part(
     requires ascending { IsAscending (shape_ids kept.now) }
     requires split { group.now.merge ≡ false }
     ensures part { IfOk result
-        (IsWanted (shape_of kept.now) (shape_of (shapes_in release.now)) group.now) }
+        (IsWanted (shape_named kept.now) (shape_named (shapes_in release.now)) group.now) }
     ensures unkept { IfErr result (IsFirstLacking kept.now (old_ids group.now)) }
 {
     let whole = kept_copy(alloc, kept, &group.id)?;
@@ -138,7 +138,7 @@ fn merge_part(
     requires ascending { IsAscending (shape_ids kept.now) }
     requires merge { group.now.merge ≡ true }
     ensures part { IfOk result
-        (IsWanted (shape_of kept.now) (shape_of (shapes_in release.now)) group.now) }
+        (IsWanted (shape_named kept.now) (shape_named (shapes_in release.now)) group.now) }
     ensures unkept { IfErr result (IsFirstLacking kept.now (old_ids group.now)) }
 {
     let parts = kept_copies(alloc, kept, group.others.as_slice())?;
@@ -161,7 +161,7 @@ fn part_of(
 ) -> Result<ExactPart, AskFault>
     requires ascending { IsAscending (shape_ids kept.now) }
     ensures part { IfOk result
-        (IsWanted (shape_of kept.now) (shape_of (shapes_in release.now)) group.now) }
+        (IsWanted (shape_named kept.now) (shape_named (shapes_in release.now)) group.now) }
     ensures unkept { IfErr result (IsFirstLacking kept.now (old_ids group.now)) }
 {
     if group.merge {
@@ -180,7 +180,8 @@ fn parts_of(
 ) -> Result<Vec<ExactPart>, AskFault>
     requires ascending { IsAscending (shape_ids kept.now) }
     ensures parts { IfOk result (λ v. AllZip
-        (IsWanted (shape_of kept.now) (shape_of (shapes_in release.now))) groups.now v.items) }
+        (IsWanted (shape_named kept.now) (shape_named
+        (shapes_in release.now))) groups.now v.items) }
     ensures unkept { IfErr result (IsFirstLacking kept.now (flat_map old_ids groups.now)) }
 {
     let mut parts = Vec::with_capacity(alloc, groups.len())?;

@@ -4,7 +4,7 @@ ghost use Rattle.std.specs.Prelude.{◌≡◌};
 ghost use Rattle.std.specs.Option.{option_copied};
 ghost use Rattle.lpis_lineage.specs.Order.{IsAscending};
 ghost use Rattle.lpis_register_rows.specs.Shapes.{shape_ids};
-ghost use Rattle.lpis_exact_lineage.specs.Shapes.{shape_of};
+ghost use Rattle.lpis_exact_lineage.specs.Shapes.{shape_named};
 
 use lpis_covers::Id;
 use lpis_rings::Polygon;
@@ -12,7 +12,7 @@ use lpis_rings::Polygon;
 /// The shape that is kept of an identifier, where one is.
 pub(crate) fn kept_shape<'a>(kept: &'a [(Id, Polygon)], id: &Id) -> Option<&'a Polygon>
     requires ascending { IsAscending (shape_ids kept.now) }
-    ensures { option_copied result ≡ shape_of kept.now id.now }
+    ensures { option_copied result ≡ shape_named kept.now id.now }
 {
     match kept.binary_search_by(|shape| shape.0.cmp(id)) {
         Ok(index) => Some(&kept[index].1),

@@ -6,11 +6,11 @@ use Rattle.lpis_covers.specs.Ids.{has_id}
 use Rattle.lpis_checker.specs.declared.exact.ExactPart.{ExactPart}
 use Rattle.lpis_checker.specs.ExactBlocks.{block_name, part_name}
 use Rattle.lpis_exact_lineage.specs.Asking.{AsksFor, IsWanted}
-use Rattle.lpis_exact_lineage.specs.Shapes.{shape_of, shapes_in}
+use Rattle.lpis_exact_lineage.specs.Shapes.{shape_named, shapes_in}
 use Rattle.lpis_lineage.specs.declared.exact.Group.{Group}
 use Rattle.lpis_lineage.specs.declared.row.Entry.{Entry}
 use Rattle.lpis_lineage.specs.declared.row.Row.{Row}
-use Rattle.lpis_lineage.specs.ExactGroups.{named}
+use Rattle.lpis_lineage.specs.ExactGroups.{group_name}
 use Rattle.lpis_register_rows.specs.Shapes.{Shape}
 use Rattle.lpis_rings.specs.declared.polygon.Member.{Member}
 use Rattle.lpis_commands.specs.Outputs.{Outputs}
@@ -18,26 +18,26 @@ use Rattle.lpis_commands.specs.Status.{done}
 use Rattle.lpis_gate.specs.ExactAnswer.{HasBlocks, IsExactAnswer, blocks_line, unfilled_line}
 use Rattle.lpis_gate.specs.Submission.{Submission}
 use Rattle.lpis_gate.specs.private.ExactRuns.{IsBlocksOutcome, filled_with, refused_with}
-use Rattle.lpis_gate.specs.private.Saying.{IsFaultAnswer, IsSaid}
+use Rattle.lpis_gate.specs.private.Saying.{IsFaultAnswer, IsSubmitted}
 use Rattle.lpis_gate.proofs.SubmissionLemmas.{answer-said, answer-unsaid}
 
 -- ---- the names of parts
 -- parts have the names of their groups
-names-of : (kept new : List ℕ → Option (List Member)) (gs : List Group) (xs : List ExactPart) → AllZip (IsWanted kept new) gs xs → map part_name xs ≡ map named gs
+names-of : (kept new : List ℕ → Option (List Member)) (gs : List Group) (xs : List ExactPart) → AllZip (IsWanted kept new) gs xs → map part_name xs ≡ map group_name gs
 names-of kept new [] [] are = refl
 names-of kept new [] (x ∷ xs) are = absurd are
 names-of kept new (g ∷ gs) [] are = absurd are
 names-of kept new (g ∷ gs) (x ∷ xs) are = ap₂ (λ (n : Bool × List ℕ) (ns : List (Bool × List ℕ)). n ∷ ns) are.0.name (names-of kept new gs xs are.1)
 
 -- and so their identifiers
-ids-of : (gs : List Group) (xs : List ExactPart) → map part_name xs ≡ map named gs → map (λ (x : ExactPart). x.id) xs ≡ map (λ (g : Group). g.id) gs
+ids-of : (gs : List Group) (xs : List ExactPart) → map part_name xs ≡ map group_name gs → map (λ (x : ExactPart). x.id) xs ≡ map (λ (g : Group). g.id) gs
 ids-of gs xs e = sym (parts xs) ∙ ap (map (λ (n : Bool × List ℕ). n.1)) e ∙ groups gs
   where
     parts : (ys : List ExactPart) → map (λ (n : Bool × List ℕ). n.1) (map part_name ys) ≡ map (λ (x : ExactPart). x.id) ys
     parts [] = refl
     parts (y ∷ ys) = ap (λ (l : List (List ℕ)). y.id ∷ l) (parts ys)
 
-    groups : (hs : List Group) → map (λ (n : Bool × List ℕ). n.1) (map named hs) ≡ map (λ (g : Group). g.id) hs
+    groups : (hs : List Group) → map (λ (n : Bool × List ℕ). n.1) (map group_name hs) ≡ map (λ (g : Group). g.id) hs
     groups [] = refl
     groups (g ∷ hs) = ap (λ (l : List (List ℕ)). g.id ∷ l) (groups hs)
 
@@ -45,7 +45,7 @@ ids-of gs xs e = sym (parts xs) ∙ ap (map (λ (n : Bool × List ℕ). n.1)) e 
 pub outcome-unfilled : (h : List Entry) (s : List Shape) (r : Contents) (c : Cert) (rows : List Row) (gs : List Group) (xs : List ExactPart) (id : List ℕ) (o : Outputs) → AsksFor h s r rows gs xs
     → has_id (map (λ (x : ExactPart). x.id) xs) id ≡ true → o ≡ refused_with (unfilled_line id) → IsBlocksOutcome h s r c rows o
 outcome-unfilled h s r c rows gs xs id o asks one e =
-    let names = names-of (shape_of s) (shape_of (shapes_in r)) gs xs asks.parts in
+    let names = names-of (shape_named s) (shape_named (shapes_in r)) gs xs asks.parts in
     let is_one : has_id (map (λ (g : Group). g.id) gs) id ≡ true = rw (sym (ids-of gs xs names)) one in
     rw e (record { answer = inr (inr (inl (record { gs = gs; xs = xs; asks = asks; id = id; is_one = is_one; line = refl }))); no_text = λ _. refl })
 
@@ -59,9 +59,9 @@ length-map f (x ∷ xs) = ap suc (length-map f xs)
 pub outcome-filled : (h : List Entry) (s : List Shape) (r : Contents) (c made : Cert) (rows : List Row) (gs : List Group) (xs : List ExactPart) (o : Outputs) → AsksFor h s r rows gs xs
     → HasBlocks (map part_name xs) c made → o ≡ filled_with made → IsBlocksOutcome h s r c rows o
 outcome-filled h s r c made rows gs xs o asks has e =
-    let names = names-of (shape_of s) (shape_of (shapes_in r)) gs xs asks.parts in
-    let blocks : map block_name made.exact ≡ map named gs = has.blocks ∙ names in
-    let many : length made.exact ≡ length gs = sym (length-map block_name made.exact) ∙ ap (λ (ns : List (Bool × List ℕ)). length ns) blocks ∙ length-map named gs in
+    let names = names-of (shape_named s) (shape_named (shapes_in r)) gs xs asks.parts in
+    let blocks : map block_name made.exact ≡ map group_name gs = has.blocks ∙ names in
+    let many : length made.exact ≡ length gs = sym (length-map block_name made.exact) ∙ ap (λ (ns : List (Bool × List ℕ)). length ns) blocks ∙ length-map group_name gs in
     rw e (record {
       answer = inr (inr (inr (record {
         gs = gs;
@@ -76,7 +76,7 @@ outcome-filled h s r c made rows gs xs o asks has e =
     })
 
 -- ---- answers
-pub answered-said : (x : Submission) (r : Contents) (c : Cert) (rows : List Row) (h : List Entry) (s : List Shape) (o : Outputs) → IsSaid x r c rows → IsBlocksOutcome h s r c rows o
+pub answered-said : (x : Submission) (r : Contents) (c : Cert) (rows : List Row) (h : List Entry) (s : List Shape) (o : Outputs) → IsSubmitted x r c rows → IsBlocksOutcome h s r c rows o
     → IsExactAnswer x h s o
 answered-said x r c rows h s o said is = record { answer = answer-said _ x r c rows (o.line, o.status) said is.answer; no_text = is.no_text }
 

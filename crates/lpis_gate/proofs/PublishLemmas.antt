@@ -9,7 +9,7 @@ use Rattle.std.proofs.lemmas.List.Concat.{flat_map-cons}
 use Rattle.lpis_covers.specs.Ids.{has_id}
 use Rattle.lpis_parcels.specs.Release.{parcel_ids}
 use Rattle.lpis_exact_lineage.specs.ExactLineage.{ShapesTurnOnce}
-use Rattle.lpis_exact_lineage.specs.Shapes.{shape_of}
+use Rattle.lpis_exact_lineage.specs.Shapes.{shape_named}
 use Rattle.lpis_lineage.specs.declared.kind.Kind.{Kind}
 use Rattle.lpis_lineage.specs.declared.row.Entry.{Entry}
 use Rattle.lpis_lineage.specs.declared.row.Row.{Row}
@@ -18,7 +18,7 @@ use Rattle.lpis_lineage.specs.Descendants.{leads}
 use Rattle.lpis_lineage.specs.Faults.{faults}
 use Rattle.lpis_lineage.specs.Kinds.{kind}
 use Rattle.lpis_lineage.specs.Lawful.{IsAnswered}
-use Rattle.lpis_lineage.specs.Lineage.{is_of, last_live, names}
+use Rattle.lpis_lineage.specs.Lineage.{is_row_of, last_live, names_successor}
 use Rattle.lpis_lineage.specs.Order.{IsAscending}
 use Rattle.lpis_lineage.proofs.Shared.{follows-from-clean, mono, counted-ended}
 use Rattle.lpis_checker.specs.GoodCertificate.{IsGood}
@@ -28,12 +28,12 @@ use Rattle.lpis_gate.specs.LineageLines.{is_left_exactly, lineage_lines, publish
 use Rattle.lpis_commands.specs.declared.answer.Answer.{Answer as Answered}
 use Rattle.lpis_commands.specs.declared.failure.Failure.{Failure}
 use Rattle.lpis_commands.specs.declared.failure.Failure.TheVariants.{Store}
-use Rattle.lpis_gate.specs.PublishAnswer.{Ends, IsContinued, IsHistoryAnswer, IsPublishAnswer, IsPublished, Moves}
+use Rattle.lpis_gate.specs.PublishAnswer.{PublishEnds, IsContinued, IsHistoryAnswer, IsPublishAnswer, IsPublished, MovesRegister}
 use Rattle.lpis_gate.specs.Submission.{Submission}
 use Rattle.lpis_commands.specs.Status.{done, refused}
 use Rattle.lpis_gate.specs.private.Marked.{is_marked}
-use Rattle.lpis_gate.specs.private.PublishRuns.{IsAdded, IsStopped, Leaves}
-use Rattle.lpis_gate.specs.private.Saying.{IsSaid}
+use Rattle.lpis_gate.specs.private.PublishRuns.{IsAdded, IsStopped, PublishLeaves}
+use Rattle.lpis_gate.specs.private.Saying.{IsSubmitted}
 use Rattle.lpis_gate.proofs.MarkedLemmas.{left-exactly}
 use Rattle.lpis_register.specs.Accepting.{IsAccepted}
 use Rattle.lpis_register.specs.Faults.{IsRefused}
@@ -93,23 +93,23 @@ both-ok (Err e) P Q p q = tt
 
 -- what was written is the answer, and the status is reported
 pub ends-of : (x : Submission) (year : ℕ) (a : Answer) (h : List Entry) (s : List Shape) (k : List Entry) (t : List Shape) (old new : Option (List ℕ)) (r : Result ℕ Failure)
-    → IsPublishAnswer x year h s a → Moves x year a.1 h s k t
-    → IfOk r (λ status. status ≡ a.1) → OnOk r (Appends old new a.0) → IfOk r (λ status. Ends x year status h s k t old new)
+    → IsPublishAnswer x year h s a → MovesRegister x year a.1 h s k t
+    → IfOk r (λ status. status ≡ a.1) → OnOk r (Appends old new a.0) → IfOk r (λ status. PublishEnds x year status h s k t old new)
 ends-of x year a h s k t old new (Ok status) answer moves is written =
     record {
       text = a.0;
       answer = subst (λ (n : ℕ). IsPublishAnswer x year h s (a.0, n)) (sym is) answer;
       written = written;
-      moves = subst (λ (n : ℕ). Moves x year n h s k t) (sym is) moves;
+      moves = subst (λ (n : ℕ). MovesRegister x year n h s k t) (sym is) moves;
     }
 ends-of x year a h s k t old new (Err failure) answer moves is written = tt
 
 -- ---- a release that was added
-continued-of : (live : List (List ℕ)) (rows : List Row) (id : List ℕ) → ((s : List ℕ) → list_any (names s) rows ≡ true → has_id live s ≡ true) → IsAnswered rows id → IsContinued live rows id
+continued-of : (live : List (List ℕ)) (rows : List Row) (id : List ℕ) → ((s : List ℕ) → list_any (names_successor s) rows ≡ true → has_id live s ≡ true) → IsAnswered rows id → IsContinued live rows id
 continued-of live rows id named (inl ending) = inl (counted-ended rows id ending.0)
-continued-of live rows id named (inr heirs) = inr (heirs.1, λ s is. named s (mono (leads id s) (names s) rows (λ row h. (and_parts (is_of id row) (names s row) h).1) is))
+continued-of live rows id named (inr heirs) = inr (heirs.1, λ s is. named s (mono (leads id s) (names_successor s) rows (λ row h. (and_parts (is_row_of id row) (names_successor s row) h).1) is))
 
-pub published-of : (x : Submission) (year : ℕ) (r : Contents) (c : Cert) (rows : List Row) (h : List Entry) (s : List Shape) (k : List Entry) (t : List Shape) → IsSaid x r c rows
+pub published-of : (x : Submission) (year : ℕ) (r : Contents) (c : Cert) (rows : List Row) (h : List Entry) (s : List Shape) (k : List Entry) (t : List Shape) → IsSubmitted x r c rows
     → IsSoundMap r → IsGood r c → IsAdded year r rows h s k t → IsPublished x year h s k t
 published-of x year r c rows h s k t said sound good added =
     let live = parcel_ids r.parcels in
@@ -129,7 +129,7 @@ published-of x year r c rows h s k t said sound good added =
 
 -- a release that was accepted was added where it is published
 pub added-accepted : (h k : List Entry) (year : ℕ) (r : Contents) (c : Cert) (rows : List Row) (s t : List Shape) (a : Accepted) (change : Changes) → IsAccepted h s year r c.exact rows a
-    → change ≡ a.step.change → IsAscending change.dropped_ids → Follows h year r.parcels rows k t → ShapesTurnOnce (shape_of t) → IsAdded year r rows h s k t
+    → change ≡ a.step.change → IsAscending change.dropped_ids → Follows h year r.parcels rows k t → ShapesTurnOnce (shape_named t) → IsAdded year r rows h s k t
 added-accepted h k year r c rows s t a change made is ascend follows once =
     let step = made.prepared.step_is in
     let was = subst (IsChange (last_live h) (parcel_ids r.parcels) rows) (sym is) step.change_is in
@@ -138,14 +138,14 @@ added-accepted h k year r c rows s t a change made is ascend follows once =
 -- ---- what a call leaves
 -- the database holds what was made of the register
 pub leaves-committed : (a : Answered) (old new : State) (h k : List Entry) (s t : List Shape) → a.status ≡ done → (HasCleanDisk new → HoldsRegister old h s → HoldsRegister new k t)
-    → Leaves (Ok a) old h s new k t
+    → PublishLeaves (Ok a) old h s new k t
 leaves-committed a old new h k s t is held =
     record { same = λ other. absurd (other is); failure = tt; stored = record { holds = λ clean opened. held clean; served = λ other. held } }
 
 -- or what it held
 pub leaves-kept : (failure : Failure) (old new : State) (h k : List Entry) (s t : List Shape) → IsStopped failure → (k ≡ h) × (t ≡ s)
     → (HasCleanDisk new → IsTrue new.is_open → HoldsRegister old h s → HoldsRegister new k t)
-    → ((failure ≡ Store → ⊥) → HoldsRegister old h s → HoldsRegister new k t) → Leaves (Err failure) old h s new k t
+    → ((failure ≡ Store → ⊥) → HoldsRegister old h s → HoldsRegister new k t) → PublishLeaves (Err failure) old h s new k t
 leaves-kept failure old new h k s t stopped kept opened served =
     record { same = tt; failure = (stopped, kept.0, kept.1); stored = record { holds = opened; served = λ other clean. served other } }
 

@@ -12,13 +12,13 @@ use Rattle.lpis_lineage.specs.LineageTable.{lineage_table}
 use Rattle.lpis_commands.specs.CheckAnswer.{IsCertAnswer, IsTableAnswer}
 use Rattle.lpis_commands.proofs.Shared.{answer-of-text}
 use Rattle.lpis_gate.specs.Submission.{IsSubmissionAnswer, Submission}
-use Rattle.lpis_gate.specs.private.Saying.{IsFaultAnswer, IsSaid, IsUnsaid}
+use Rattle.lpis_gate.specs.private.Saying.{IsFaultAnswer, IsSubmitted, IsUnsaid}
 use Rattle.lpis_gate.specs.declared.submission.Unsaid.{Unsaid}
 use Rattle.lpis_gate.specs.declared.submission.Unsaid.TheVariants.{Memory, Refused}
 
 -- ---- where it says something
 pub answer-said : (IsNext : Contents → Cert → List Row → Answer → Type 0) (x : Submission) (r : Contents) (c : Cert) (rows : List Row) (a : Answer)
-    → IsSaid x r c rows → IsNext r c rows a → IsSubmissionAnswer IsNext x a
+    → IsSubmitted x r c rows → IsNext r c rows a → IsSubmissionAnswer IsNext x a
 answer-said IsNext x r c rows a said next =
     let table : IsTableAnswer (IsNext r c) (rows_of lineage_table x.lineage) a = rw said.lineage next in
     rw said.tables (answer-of-text (λ (k : Cert). IsTableAnswer (IsNext r k) (rows_of lineage_table x.lineage)) x.checked.cert c a said.text table)

@@ -14,7 +14,7 @@ use Rattle.lpis_lineage.specs.declared.exact.Group.{Group}
 use Rattle.lpis_lineage.specs.declared.fault.LineageFault.{LineageFault}
 use Rattle.lpis_lineage.specs.declared.row.Entry.{Entry}
 use Rattle.lpis_lineage.specs.declared.row.Row.{Row}
-use Rattle.lpis_lineage.specs.ExactGroups.{named}
+use Rattle.lpis_lineage.specs.ExactGroups.{group_name}
 use Rattle.lpis_lineage.specs.Faults.{faults, first}
 use Rattle.lpis_register_rows.specs.Shapes.{Shape}
 use Rattle.lpis_exact_lineage.specs.Asking.{AsksFor, IsUnkept}
@@ -60,7 +60,7 @@ module _ (h : List Entry) (s : List Shape) (r : Contents) (c : Cert) (rows : Lis
     pub xs : List ExactPart
     pub asks : AsksFor h s r rows gs xs
     pub made : Cert
-    pub has : HasBlocks (map named gs) c made
+    pub has : HasBlocks (map group_name gs) c made
     pub written : text ≡ Some (cert_text made)
     pub line : a ≡ (blocks_line (length gs), done)
 
@@ -94,9 +94,10 @@ pub record Fills (parcels covers classes cert lineage : Option (List ℕ)) (h : 
 
 -- the run gave no answer: an input was not read, or memory ran out, and nothing was written; or the
 -- certificate's file failed, or the output after it
-abbrev pub Halts : Failure → (parcels covers classes cert lineage : Option (List ℕ)) → List Entry
+abbrev pub ExactHalts : Failure → (parcels covers classes cert lineage : Option (List ℕ))
+    → List Entry
     → List Shape → Held → Held → Type 0
-Halts failure parcels covers classes cert lineage h s old new =
+ExactHalts failure parcels covers classes cert lineage h s old new =
     (IsUnpublished parcels covers classes cert failure × Keeps old.cert new.cert
     × Keeps old.out new.out)
     ⊎ ((a : Outputs) × Fills parcels covers classes cert lineage h s a

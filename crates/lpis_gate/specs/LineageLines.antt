@@ -15,14 +15,14 @@ use Rattle.lpis_lineage.specs.declared.kind.Kind.TheVariants.{Kept, Split, Merge
 use Rattle.lpis_lineage.specs.declared.kind.Kind.TheVariants.{Redrawn, Ended}
 use Rattle.lpis_lineage.specs.declared.row.Row.{Row}
 use Rattle.lpis_lineage.specs.Changes.{dropped}
-use Rattle.lpis_lineage.specs.Codes as lineage_codes
+use Rattle.lpis_lineage.specs.Codes.{lineage_code_of, lineage_code_text}
 use Rattle.lpis_lineage.specs.ExactGroups.{is_in_exact}
 use Rattle.lpis_lineage.specs.Kinds.{kind}
-use Rattle.lpis_lineage.specs.Lineage.{is_of}
+use Rattle.lpis_lineage.specs.Lineage.{is_row_of}
 use Rattle.lpis_register.specs.declared.fault.PublishFault.{PublishFault}
 use Rattle.lpis_register.specs.declared.fault.PublishFault.TheVariants as publish
 use Rattle.lpis_register.specs.declared.fault.PublishCode.TheVariants as code
-use Rattle.lpis_register.specs.Codes as publish_codes
+use Rattle.lpis_register.specs.Codes.{publish_code_text}
 
 -- ---- what became of dropped identifiers
 abbrev pub kind_text : Kind → List ℕ
@@ -41,17 +41,17 @@ fate_text (Some k) = kind_text k
 -- some row of the identifier belongs to an exact split or to an exact merge
 abbrev pub is_left_exactly : (List ℕ → Option Kind) → List Row → List ℕ → Bool
 is_left_exactly kind_of rows id =
-    list_any (λ row. is_of id row && is_in_exact kind_of rows row) rows
+    list_any (λ row. is_row_of id row && is_in_exact kind_of rows row) rows
 
 -- the end of the line of an identifier that is left exactly
-abbrev pub exact_text : Bool → List ℕ
-exact_text false = []
-exact_text true = codes " exact"
+abbrev pub exact_suffix : Bool → List ℕ
+exact_suffix false = []
+exact_suffix true = codes " exact"
 
 -- the line of an identifier that has this kind, and is left exactly where the test is true
 abbrev pub lineage_line : (List ℕ → Option Kind) → (List ℕ → Bool) → List ℕ → List ℕ
 lineage_line kind_of is_exact id = codes "lineage " ++ id ++ codes " " ++ fate_text (kind_of id)
-    ++ exact_text (is_exact id) ++ codes "\n"
+    ++ exact_suffix (is_exact id) ++ codes "\n"
 
 -- from the identifiers of the last release to those that are live now, by these rows: the line of
 -- each identifier that is dropped, in the order of the last release's, which in a history ascend by
@@ -80,18 +80,18 @@ lineage_location_text (lineage.MarkedOutside row) = codes "row " ++ decimal row
 -- the code of a lineage and its location; out of memory is no fault of a lineage
 abbrev pub lineage_code_text : Option LineageCode → List ℕ → List ℕ
 lineage_code_text None location = []
-lineage_code_text (Some c) location = codes "lineage " ++ lineage_codes.code_text c ++ codes " "
+lineage_code_text (Some c) location = codes "lineage " ++ lineage_code_text c ++ codes " "
     ++ location
 
 unfoldable pub lineage_fault_text : LineageFault → List ℕ
-lineage_fault_text fault = lineage_code_text (lineage_codes.code_of fault)
+lineage_fault_text fault = lineage_code_text (lineage_code_of fault)
     (lineage_location_text fault)
 
 -- of the blocks of a certificate: the code and the identifier; out of memory is no fault of theirs
 abbrev pub exact_refusal_text : ExactFault → List ℕ
 exact_refusal_text exact.Memory = []
 exact_refusal_text (exact.At condition id) =
-    codes "refused " ++ publish_codes.code_text code.NotExact ++ codes " exact "
+    codes "refused " ++ publish_code_text code.NotExact ++ codes " exact "
     ++ exact_code_text condition ++ codes " " ++ id ++ codes "\n"
 
 -- of the register: the code, and the last year, the lineage's fault, the identifier whose shape is
@@ -100,17 +100,17 @@ exact_refusal_text (exact.At condition id) =
 abbrev pub publish_refusal_text : PublishFault → List ℕ
 publish_refusal_text publish.Memory = []
 publish_refusal_text (publish.Year last) =
-    codes "refused " ++ publish_codes.code_text code.YearNotAbove ++ codes " last " ++ decimal last
+    codes "refused " ++ publish_code_text code.YearNotAbove ++ codes " last " ++ decimal last
     ++ codes "\n"
 publish_refusal_text (publish.Lineage fault) =
-    codes "refused " ++ publish_codes.code_text code.BadLineage ++ codes " "
+    codes "refused " ++ publish_code_text code.BadLineage ++ codes " "
     ++ lineage_fault_text fault ++ codes "\n"
 publish_refusal_text (publish.NotKept id) =
-    codes "refused " ++ publish_codes.code_text code.BadLineage ++ codes " lineage 77 " ++ id
+    codes "refused " ++ publish_code_text code.BadLineage ++ codes " lineage 77 " ++ id
     ++ codes "\n"
 publish_refusal_text (publish.Exact fault) = exact_refusal_text fault
 publish_refusal_text publish.Store = []
 publish_refusal_text publish.Unknown = codes "refused "
-    ++ publish_codes.code_text code.UnknownIdentifier ++ codes "\n"
+    ++ publish_code_text code.UnknownIdentifier ++ codes "\n"
 publish_refusal_text publish.Unlawful = codes "refused "
-    ++ publish_codes.code_text code.UnlawfulRows ++ codes "\n"
+    ++ publish_code_text code.UnlawfulRows ++ codes "\n"

@@ -11,13 +11,13 @@ use Rattle.lpis_lineage.specs.declared.row.Entry.{Entry}
 use Rattle.lpis_lineage.specs.declared.row.Row.{Row}
 use Rattle.lpis_lineage.specs.Changes.{dropped}
 use Rattle.lpis_lineage.specs.Descendants.{leads}
-use Rattle.lpis_lineage.specs.Lineage.{ended, holds, last_live, last_year, succeeded}
+use Rattle.lpis_lineage.specs.Lineage.{is_ended, holds, last_live, last_year, succeeded}
 use Rattle.lpis_lineage.specs.LineageTable.{lineage_table}
 use Rattle.lpis_lineage.specs.Order.{IsAscending}
 use Rattle.lpis_register_rows.specs.Shapes.{Shape}
 use Rattle.lpis_exact_lineage.specs.Asking.{IsShown, kinds_from}
 use Rattle.lpis_exact_lineage.specs.ExactLineage.{IsExactLineage, ShapesTurnOnce}
-use Rattle.lpis_exact_lineage.specs.Shapes.{shape_of, shapes_in}
+use Rattle.lpis_exact_lineage.specs.Shapes.{shape_named, shapes_in}
 use Rattle.lpis_register.specs.Faults.{IsFailure, IsRefused}
 use Rattle.lpis_register.specs.Publishing.{Follows}
 use Rattle.lpis_register.specs.declared.fault.PublishFault.{PublishFault}
@@ -60,7 +60,7 @@ IsPublishAnswer x year h s =
 -- the rows give an identifier a written ending, or successors, each of which is in the release
 abbrev pub IsContinued : List (List ℕ) → List Row → List ℕ → Type 0
 IsContinued live rows id =
-    (ended rows id ≡ true)
+    (is_ended rows id ≡ true)
     ⊎ ((succeeded rows id ≡ true) × ((s : List ℕ) → list_any (leads id s) rows ≡ true
     → has_id live s ≡ true))
 
@@ -77,10 +77,10 @@ pub record IsPublished (x : Submission) (year : ℕ) (h : List Entry) (s : List 
   pub later : last_year h < year
   pub follows : Follows h year proved.release.parcels rows k t
   -- each of these turns once at most: what the next merges rest on
-  pub once : ShapesTurnOnce (shape_of t)
+  pub once : ShapesTurnOnce (shape_named t)
   -- exact splits and merges are exact, by the shapes that were kept before
-  pub exact : IsExactLineage (kinds_from h proved.release rows) rows (shape_of s)
-      (shape_of (shapes_in proved.release))
+  pub exact : IsExactLineage (kinds_from h proved.release rows) rows (shape_named s)
+      (shape_named (shapes_in proved.release))
   -- each identifier of the last release that is dropped has successors of this release or a written
   -- ending
   pub continued : (id : List ℕ) → has_id (last_live h) id ≡ true
@@ -95,34 +95,36 @@ pub record IsPublished (x : Submission) (year : ℕ) (h : List Entry) (s : List 
 
 -- with the status `done` the release was published, with every other one the history and the shapes
 -- are those before
-abbrev pub Moves : Submission → ℕ → ℕ → List Entry → List Shape → List Entry → List Shape → Type 0
-Moves x year status h s k t = (status ≡ done → IsPublished x year h s k t)
+abbrev pub MovesRegister : Submission → ℕ → ℕ → List Entry → List Shape → List Entry → List Shape
+    → Type 0
+MovesRegister x year status h s k t = (status ≡ done → IsPublished x year h s k t)
     × (status ≢ done → (k ≡ h) × (t ≡ s))
 
 -- ---- the run
 -- the run answered with this status, and wrote the text
-pub record Ends (x : Submission) (year status : ℕ) (h : List Entry) (s : List Shape)
+pub record PublishEnds (x : Submission) (year status : ℕ) (h : List Entry) (s : List Shape)
     (k : List Entry) (t : List Shape) (old new : Option (List ℕ)) : Type 0 where
   pub text : List ℕ
   pub answer : IsPublishAnswer x year h s (text, status)
   pub written : Appends old new text
-  pub moves : Moves x year status h s k t
+  pub moves : MovesRegister x year status h s k t
 
 -- the output failed after a beginning of the answer; the release may be published
-pub record IsBegun (x : Submission) (year : ℕ) (h : List Entry) (s : List Shape) (k : List Entry)
+pub record PublishIsBegun (x : Submission) (year : ℕ) (h : List Entry) (s : List Shape)
+    (k : List Entry)
     (t : List Shape) (old new : Option (List ℕ)) : Type 0 where
   pub whole : Answer
   pub answer : IsPublishAnswer x year h s whole
   pub written : Begins old new whole.0
-  pub moves : Moves x year whole.1 h s k t
+  pub moves : MovesRegister x year whole.1 h s k t
 
 -- the run gave no answer: the output failed; or an input was not read, or memory ran out, or the
 -- database failed, and then the history and the shapes are those before and nothing was written
-abbrev pub Halts : Failure → ℕ → (parcels covers classes cert lineage : Option (List ℕ))
+abbrev pub PublishHalts : Failure → ℕ → (parcels covers classes cert lineage : Option (List ℕ))
     → List Entry → List Shape → List Entry → List Shape → Option (List ℕ) → Option (List ℕ)
     → Type 0
-Halts failure year parcels covers classes cert lineage h s k t old new =
+PublishHalts failure year parcels covers classes cert lineage h s k t old new =
     ((x : Submission) × AreAllRead x parcels covers classes cert lineage
-    × (failure ≡ Write Out) × IsBegun x year h s k t old new)
+    × (failure ≡ Write Out) × PublishIsBegun x year h s k t old new)
     ⊎ ((IsUnpublished parcels covers classes cert failure ⊎ (failure ≡ Store)) × (k ≡ h)
     × (t ≡ s) × Keeps old new)

@@ -32,7 +32,7 @@ Traces h word status old new = (text : List ℕ) × IsTraceAnswer h word (text, 
     × Appends old new text
 
 -- the run gave no answer: the output failed after a beginning of it, or memory ran out
-abbrev pub Halts : Failure → List Entry → List ℕ → Option (List ℕ) → Option (List ℕ) → Type 0
-Halts failure h word old new =
+abbrev pub TraceHalts : Failure → List Entry → List ℕ → Option (List ℕ) → Option (List ℕ) → Type 0
+TraceHalts failure h word old new =
     ((a : Answer) × IsTraceAnswer h word a × (failure ≡ Write Out) × Begins old new a.0)
     ⊎ ((failure ≡ Memory) × Keeps old new)

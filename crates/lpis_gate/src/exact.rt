@@ -14,7 +14,7 @@ ghost use Rattle.lpis_register_rows.specs.Shapes.{Shape, shape_ids};
 ghost use Rattle.lpis_exact_lineage.specs.Asking.{AsksFor};
 ghost use Rattle.lpis_commands.specs.Outputs.{Outputs, Writes, held, outputs_of};
 ghost use Rattle.lpis_commands.specs.Status.{done, refused};
-ghost use Rattle.lpis_gate.specs.ExactAnswer.{Fills, Halts, IsExactAnswer, blocks_line};
+ghost use Rattle.lpis_gate.specs.ExactAnswer.{Fills, ExactHalts, IsExactAnswer, blocks_line};
 ghost use Rattle.lpis_gate.specs.ExactAnswer.{unfilled_line};
 ghost use Rattle.lpis_gate.specs.LineageLines.{publish_refusal_text};
 ghost use Rattle.lpis_gate.specs.private.ExactRuns.{IsBlocksOutcome, filled_with, refused_with};
@@ -215,7 +215,8 @@ pub fn run_exact<
     // A beginning of the certificate was written, or the certificate and a beginning of the line,
     // or nothing.
     ensures failure { IfErr result
-        (λ failure. Halts failure (P.remaining parcels) (C.remaining covers) (K.remaining classes)
+        (λ failure. ExactHalts failure (P.remaining parcels) (C.remaining covers)
+        (K.remaining classes)
         (E.remaining cert) (L.remaining lineage) register.now.history register.now.shapes.items
         (held (V.contents cert_out.old) (W.contents out.old))
         (held (V.contents cert_out.new) (W.contents out.new))) }

@@ -5,9 +5,9 @@ ghost use Rattle.std.specs.Io.KnownBytes.{Appends};
 ghost use Rattle.std.specs.List.{flat_map};
 ghost use Rattle.lpis_covers.specs.Ids.{has_id};
 ghost use Rattle.lpis_lineage.specs.Changes.{kind_at};
-ghost use Rattle.lpis_lineage.specs.Lineage.{is_of};
+ghost use Rattle.lpis_lineage.specs.Lineage.{is_row_of};
 ghost use Rattle.lpis_register.specs.declared.fault.PublishFault.TheVariants.{Lineage};
-ghost use Rattle.lpis_gate.specs.LineageLines.{exact_refusal_text, exact_text, fate_text};
+ghost use Rattle.lpis_gate.specs.LineageLines.{exact_refusal_text, exact_suffix, fate_text};
 ghost use Rattle.lpis_gate.specs.LineageLines.{kind_text, lineage_fault_text, lineage_line};
 ghost use Rattle.lpis_gate.specs.LineageLines.{lineage_location_text, publish_refusal_text};
 ghost use Rattle.lpis_gate.specs.LineageLines.{published_line};
@@ -49,7 +49,7 @@ fn fate_word(kind: Option<Kind>) -> &'static str
 /// Adds the old identifier of a row that is marked.
 fn note_mark(marked: &mut HashSet<Id>, row: &Row) -> Result<(), AllocError>
     ensures { OnOk result ((id : List ℕ) → has_id marked.new.keys id
-        ≡ (has_id marked.old.keys id || (is_of id row.now && row.now.exact))) }
+        ≡ (has_id marked.old.keys id || (is_row_of id row.now && row.now.exact))) }
 {
     if row.exact {
         let id = row.old.copy()?;
@@ -71,7 +71,7 @@ pub(crate) fn marked_ids(alloc: Global, rows: &[Row]) -> Result<HashSet<Id>, All
 
 /// The end of the line of an identifier.
 fn exact_word(is_exact: bool) -> &'static str
-    ensures { result.now ≡ exact_text is_exact }
+    ensures { result.now ≡ exact_suffix is_exact }
 {
     if is_exact { " exact" } else { "" }
 }

@@ -15,12 +15,13 @@ ghost use Rattle.lpis_commands.specs.CheckAnswer.{IsCheckAnswer};
 ghost use Rattle.lpis_commands.specs.Report.{report_text};
 ghost use Rattle.lpis_commands.specs.Status.{done};
 ghost use Rattle.lpis_gate.specs.LineageLines.{lineage_line, published_line};
-ghost use Rattle.lpis_gate.specs.PublishAnswer.{Ends, Halts, IsHistoryAnswer, IsPublishAnswer};
-ghost use Rattle.lpis_gate.specs.PublishAnswer.{Moves};
+ghost use Rattle.lpis_gate.specs.PublishAnswer.{PublishEnds, PublishHalts, IsHistoryAnswer};
+ghost use Rattle.lpis_gate.specs.PublishAnswer.{IsPublishAnswer};
+ghost use Rattle.lpis_gate.specs.PublishAnswer.{MovesRegister};
 ghost use Rattle.lpis_gate.specs.Stored.{Stays};
 ghost use Rattle.lpis_gate.specs.Submission.{AreAllRead, Submission};
 ghost use Rattle.lpis_gate.specs.private.Marked.{is_marked};
-ghost use Rattle.lpis_gate.specs.private.PublishRuns.{IsAdded, Leaves};
+ghost use Rattle.lpis_gate.specs.private.PublishRuns.{IsAdded, PublishLeaves};
 ghost use Rattle.lpis_gate.specs.private.Saying.{submission_of};
 
 use crate::lineage_lines::{marked_ids, print_lineage, print_published, refuse};
@@ -95,7 +96,7 @@ fn publish_accepted<S: Alter>(
         year yes.now cert.now.exact rows accepted → IfOk result
         (λ a. IsAdded year yes.now rows register.old.history register.old.shapes.items
         register.new.history register.new.shapes.items) }
-    ensures leaves { Leaves result (state S.Store register.old.conn) register.old.history
+    ensures leaves { PublishLeaves result (state S.Store register.old.conn) register.old.history
         register.old.shapes.items (state S.Store register.new.conn) register.new.history
         register.new.shapes.items }
 {
@@ -122,7 +123,7 @@ fn publish_checked<S: Alter>(
     ensures added { IfOk result (λ a. a.status ≡ done → IsAdded year yes.now rows.now
         register.old.history register.old.shapes.items register.new.history
         register.new.shapes.items) }
-    ensures leaves { Leaves result (state S.Store register.old.conn) register.old.history
+    ensures leaves { PublishLeaves result (state S.Store register.old.conn) register.old.history
         register.old.shapes.items (state S.Store register.new.conn) register.new.history
         register.new.shapes.items }
 {
@@ -147,7 +148,7 @@ fn answer_to_said<S: Alter>(
         × IsGood said.now.release said.now.cert × IsAdded year said.now.release
         said.now.rows.items register.old.history register.old.shapes.items
         register.new.history register.new.shapes.items) }
-    ensures leaves { Leaves result (state S.Store register.old.conn) register.old.history
+    ensures leaves { PublishLeaves result (state S.Store register.old.conn) register.old.history
         register.old.shapes.items (state S.Store register.new.conn) register.new.history
         register.new.shapes.items }
 {
@@ -178,10 +179,10 @@ fn answer_to<S: Alter>(
 ) -> Result<Answer, Failure>
     ensures answer { IfOk result (λ a. IsPublishAnswer (submission_of submission) year
         register.old.history register.old.shapes.items (a.text.items, a.status)) }
-    ensures moves { IfOk result (λ a. Moves (submission_of submission) year a.status
+    ensures moves { IfOk result (λ a. MovesRegister (submission_of submission) year a.status
         register.old.history register.old.shapes.items register.new.history
         register.new.shapes.items) }
-    ensures leaves { Leaves result (state S.Store register.old.conn) register.old.history
+    ensures leaves { PublishLeaves result (state S.Store register.old.conn) register.old.history
         register.old.shapes.items (state S.Store register.new.conn) register.new.history
         register.new.shapes.items }
 {
@@ -225,10 +226,10 @@ pub fn run_publish<
 ) -> Result<u8, Failure>
     ensures answer { IfOk result (λ status. (x : Submission) × AreAllRead x (P.remaining parcels)
         (C.remaining covers) (K.remaining classes) (E.remaining cert) (L.remaining lineage)
-        × Ends x year status register.old.history register.old.shapes.items register.new.history
+        × PublishEnds x year status register.old.history register.old.shapes.items register.new.history
         register.new.shapes.items (W.contents out.old) (W.contents out.new)) }
     // A beginning of the answer was written, or nothing.
-    ensures failure { IfErr result (λ failure. Halts failure year (P.remaining parcels)
+    ensures failure { IfErr result (λ failure. PublishHalts failure year (P.remaining parcels)
         (C.remaining covers) (K.remaining classes) (E.remaining cert) (L.remaining lineage)
         register.old.history register.old.shapes.items register.new.history
         register.new.shapes.items (W.contents out.old) (W.contents out.new)) }

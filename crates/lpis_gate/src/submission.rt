@@ -10,7 +10,8 @@ ghost use Rattle.lpis_commands.specs.CheckAnswer.{IsCertAnswer, IsTableAnswer};
 ghost use Rattle.lpis_commands.specs.Failures.{IsUnpublished};
 ghost use Rattle.lpis_commands.specs.Inputs.{IsReadAs};
 ghost use Rattle.lpis_gate.specs.Submission.{AreAllRead};
-ghost use Rattle.lpis_gate.specs.private.Saying.{IsFaultAnswer, IsSaid, IsUnsaid, submission_of};
+ghost use Rattle.lpis_gate.specs.private.Saying.{IsFaultAnswer, IsSubmitted, IsUnsaid};
+ghost use Rattle.lpis_gate.specs.private.Saying.{submission_of};
 ghost use Rattle.lpis_gate.specs.declared.submission.Unsaid.{Unsaid};
 
 use lpis_cert::{Cert, CertFault};
@@ -125,7 +126,7 @@ fn rows_said(alloc: Global, lineage: Vec<u8>) -> Result<Vec<Row>, Unsaid>
 /// and the bytes of each input are let go when it is read; the fault of the release's tables is
 /// told first all the same, and that of the lineage table last.
 pub(crate) fn understand(alloc: Global, submission: SubmissionBytes) -> Result<Said, Unsaid>
-    ensures said { IfOk result (λ s. IsSaid (submission_of submission) s.release s.cert
+    ensures said { IfOk result (λ s. IsSubmitted (submission_of submission) s.release s.cert
         s.rows.items) }
     ensures unsaid { IfErr result (IsUnsaid (IsFaultAnswer (submission_of submission))) }
 {

@@ -4,7 +4,7 @@ ghost use Rattle.std.specs.Prelude.{◌≡◌, IfErr, IfOk, OnOk};
 ghost use Rattle.std.specs.Io.KnownBytes.{Appends};
 ghost use Rattle.std.specs.List.{flat_map};
 ghost use Rattle.lpis_commands.specs.Status.{done};
-ghost use Rattle.lpis_gate.specs.TraceAnswer.{Halts, IsTraceAnswer, Traces, id_line};
+ghost use Rattle.lpis_gate.specs.TraceAnswer.{TraceHalts, IsTraceAnswer, Traces, id_line};
 
 use crate::lineage_lines::refuse;
 use lpis_commands::{Answer, DONE, Failure, PrintFault, REFUSED};
@@ -83,7 +83,7 @@ pub fn run_trace<S: Alter, W: Write>(
     ensures answer { IfOk result (λ status. Traces register.now.history id.now status
         (W.contents out.old) (W.contents out.new)) }
     // A beginning of the answer was written, or nothing.
-    ensures failure { IfErr result (λ failure. Halts failure register.now.history id.now
+    ensures failure { IfErr result (λ failure. TraceHalts failure register.now.history id.now
         (W.contents out.old) (W.contents out.new)) }
 {
     let answer = answer_to(alloc, register, id)?;

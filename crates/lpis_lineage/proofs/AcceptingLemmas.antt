@@ -1,12 +1,12 @@
 -- A release is accepted exactly where it has no fault.
 use Rattle.std.proofs.Common.{◌≡◌, ◌∙◌, ◌++◌, ◌∷◌, ◌⊎◌, inl, inr, sym, ap, subst, ℕ, List, [], false, Option, Some, Result, Ok, Err}
-use Rattle.lpis_lineage.proofs.Common.{list_any, Row, Entry, LineageFault, has_id, IsLawful, RowsFit, Follows, faults, faults_but_marks, first, kind, last_live, mark_faults}
+use Rattle.lpis_lineage.proofs.Common.{list_any, Row, Entry, LineageFault, has_id, IsLawful, RowsFit, Follows, faults, faults_but_marks, first, kind, last_live, marked_row_faults}
 use Rattle.lpis_lineage.specs.declared.fault.LineageFault.TheVariants.{Memory}
 use Rattle.lpis_lineage.specs.declared.kind.Kind.{Kind}
 use Rattle.lpis_lineage.specs.ExactGroups.{is_outside}
 use Rattle.lpis_lineage.proofs.KindStepLemmas.{kind-live}
 use Rattle.lpis_lineage.specs.Faults.{ReportsFirstOf}
-use Rattle.lpis_lineage.specs.Accepts.{IsRelease, MayFollow, NeverFollows, Decides}
+use Rattle.lpis_lineage.specs.Accepts.{IsReleaseEntry, MayFollow, NeverFollows, Decides}
 use Rattle.lpis_lineage.proofs.ExtensionLemmas.{lawful-more, fits-more, follows-back}
 use Rattle.lpis_lineage.proofs.CleanLemmas.{follows-from-clean, clean-from-follows}
 
@@ -25,10 +25,10 @@ follows-rows h live ids rows alike f = record {
       (sym (kinds-alike (last_live h) live ids rows alike)) f.marked;
 }
 
-pub to-release : (h : List Entry) (live : List (List ℕ)) (rows : List Row) (e : Entry) → IsRelease live rows e → Follows h live rows → Follows h e.live e.rows
+pub to-release : (h : List Entry) (live : List (List ℕ)) (rows : List Row) (e : Entry) → IsReleaseEntry live rows e → Follows h live rows → Follows h e.live e.rows
 to-release h live rows e is f = let P : List Row → Type 0 = λ rs. Follows h e.live rs in subst P (sym is.rows_are) (follows-rows h e.live live rows is.ids f)
 
-from-release : (h : List Entry) (live : List (List ℕ)) (rows : List Row) (e : Entry) → IsRelease live rows e → Follows h e.live e.rows → Follows h live rows
+from-release : (h : List Entry) (live : List (List ℕ)) (rows : List Row) (e : Entry) → IsReleaseEntry live rows e → Follows h e.live e.rows → Follows h live rows
 from-release h live rows e is f = follows-rows h live e.live rows (λ q. sym (is.ids q)) (let P : List Row → Type 0 = λ rs. Follows h e.live rs in subst P is.rows_are f)
 
 -- a set with the same members has no fault either
@@ -46,10 +46,10 @@ before-marks h live rows e (inr t) = inr (first-before (faults_but_marks h live 
 
 -- where there is none before, the faults are those of marks
 pub marks-alone : (h : List Entry) (live set : List (List ℕ)) (rows : List Row) → ((q : List ℕ) → has_id set q ≡ has_id live q) → faults_but_marks h live rows ≡ []
-    → mark_faults (kind (last_live h) set rows) rows 1 rows ≡ faults h live rows
+    → marked_row_faults (kind (last_live h) set rows) rows 1 rows ≡ faults h live rows
 marks-alone h live set rows alike none =
-    ap (λ (kind_of : List ℕ → Option Kind). mark_faults kind_of rows 1 rows) (kinds-alike (last_live h) set live rows alike)
-    ∙ sym (ap (λ (fs : List LineageFault). fs ++ mark_faults (kind (last_live h) live rows) rows 1 rows) none)
+    ap (λ (kind_of : List ℕ → Option Kind). marked_row_faults kind_of rows 1 rows) (kinds-alike (last_live h) set live rows alike)
+    ∙ sym (ap (λ (fs : List LineageFault). fs ++ marked_row_faults (kind (last_live h) live rows) rows 1 rows) none)
 
 pub may-follow : (h : List Entry) (live : List (List ℕ)) (rows : List Row) → IsLawful h → RowsFit h → faults h live rows ≡ [] → MayFollow h live rows
 may-follow h live rows law fit none e is later =

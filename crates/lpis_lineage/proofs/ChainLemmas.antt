@@ -1,12 +1,13 @@
 -- Chains over one row more, and over a lawful history.
 use Rattle.std.proofs.Common.{◌≡◌, ◌∙◌, ◌<◌, ◌≤◌, ◌+◌, ◌⊎◌, inl, inr, refl, sym, ap, subst, arith, ℕ, zero, suc, List, [], ◌∷◌, ◌++◌, length, Bool, true, false, Option, None, Some, cond, take, drop}
 use Rattle.std.proofs.Common.{get_or, append_assoc, ◌&&◌, ◌↔◌, filter}
-use Rattle.lpis_lineage.proofs.Common.{list_any, list_any-append, Row, Entry, has_id, same_id, last_live, holds, entry_at, is_of, is_this, names, IsLawful, RowsFit, all_rows, Reaches, AreFresh}
+use Rattle.lpis_lineage.proofs.Common.{list_any, list_any-append, Row, Entry, has_id, same_id, last_live, holds, entry_at, is_row_of, is_this, names_successor, IsLawful, RowsFit, all_rows, Reaches}
+use Rattle.lpis_lineage.proofs.Common.{AreFresh}
 use Rattle.lpis_lineage.proofs.Common.{or_left, cases_Bool}
 use Rattle.std.proofs.lemmas.List.{append-nil, take-append-drop}
 use Rattle.lpis_lineage.specs.Descendants.{IsDescendant, leads, Chain, Here, Step}
 use Rattle.lpis_lineage.proofs.PickingLemmas.{has-filter}
-use Rattle.lpis_lineage.specs.private.Following.{IsFresh}
+use Rattle.lpis_lineage.specs.private.Following.{IsFreshRow}
 use Rattle.lpis_lineage.proofs.IdentifierLemmas.{same-exact, same-refl}
 use Rattle.lpis_lineage.proofs.CleanLemmas.{mono, any-left, any-mid, any-last}
 use Rattle.lpis_lineage.proofs.ExtensionLemmas.{entry-get}
@@ -18,22 +19,22 @@ chain-more rows r a _ Here = Here
 chain-more rows r a _ (Step m b ch l) = Step m b (chain-more rows r a m ch) (any-left (leads m b) rows (r ∷ []) l)
 
 -- a chain over one row more ends before it, or with it
-chain-less : (rows : List Row) (r : Row) (a c : List ℕ) → IsFresh rows r → Chain (rows ++ r ∷ []) a c → (Chain rows a c) ⊎ ((Chain rows a r.old) × (is_this c r.new ≡ true))
+chain-less : (rows : List Row) (r : Row) (a c : List ℕ) → IsFreshRow rows r → Chain (rows ++ r ∷ []) a c → (Chain rows a c) ⊎ ((Chain rows a r.old) × (is_this c r.new ≡ true))
 chain-less rows r a _ fresh Here = inl Here
 chain-less rows r a _ fresh (Step m c ch l) = next rows r a m c fresh (chain-less rows r a m fresh ch) l where
-  next : (rows : List Row) (r : Row) (a m c : List ℕ) → IsFresh rows r → (Chain rows a m)
+  next : (rows : List Row) (r : Row) (a m c : List ℕ) → IsFreshRow rows r → (Chain rows a m)
       ⊎ ((Chain rows a r.old) × (is_this m r.new ≡ true)) → list_any (leads m c) (rows ++ r ∷ []) ≡ true
       → (Chain rows a c) ⊎ ((Chain rows a r.old) × (is_this c r.new ≡ true))
   next rows r a m c fresh (inl ch) l = elim (any-last (leads m c) rows r l) as (λ _. (Chain rows a c) ⊎ ((Chain rows a r.old) × (is_this c r.new ≡ true))) [
     | inl x ↦ inl (Step m c ch x)
-    | inr y ↦ inr (let P : List ℕ → Type 0 = λ z. Chain rows a z in subst P (same-exact m r.old (and_parts _ _ y).0) ch, (and_parts (is_of m r) _ y).1)
+    | inr y ↦ inr (let P : List ℕ → Type 0 = λ z. Chain rows a z in subst P (same-exact m r.old (and_parts _ _ y).0) ch, (and_parts (is_row_of m r) _ y).1)
   ]
   next rows r a m c fresh (inr (ch, t)) l = absurd (
-      let has-row : list_any (is_of m) (rows ++ r ∷ []) ≡ true = mono (leads m c) (is_of m) (rows ++ r ∷ []) (λ q h. (and_parts _ _ h).0) l in
+      let has-row : list_any (is_row_of m) (rows ++ r ∷ []) ≡ true = mono (leads m c) (is_row_of m) (rows ++ r ∷ []) (λ q h. (and_parts _ _ h).0) l in
       let none = fresh m t in cc)
 
 -- the row has no successor
-pub reach-none : (ids : List (List ℕ)) (rows : List Row) (r : Row) (id : List ℕ) → Reaches ids rows id → IsFresh rows r → r.new ≡ None → Reaches ids (rows ++ r ∷ []) id
+pub reach-none : (ids : List (List ℕ)) (rows : List Row) (r : Row) (id : List ℕ) → Reaches ids rows id → IsFreshRow rows r → r.new ≡ None → Reaches ids (rows ++ r ∷ []) id
 reach-none ids rows r id reach fresh none = record {
   sound = λ q h. chain-more rows r id q (reach.sound q h);
   whole = λ q ch. elim (chain-less rows r id q fresh ch) as (λ _. has_id ids q ≡ true) [
@@ -44,7 +45,7 @@ reach-none ids rows r id reach fresh none = record {
 }
 
 -- the row's old identifier is not reached
-pub reach-skip : (ids : List (List ℕ)) (rows : List Row) (r : Row) (id : List ℕ) → Reaches ids rows id → IsFresh rows r → has_id ids r.old ≡ false → Reaches ids (rows ++ r ∷ []) id
+pub reach-skip : (ids : List (List ℕ)) (rows : List Row) (r : Row) (id : List ℕ) → Reaches ids rows id → IsFreshRow rows r → has_id ids r.old ≡ false → Reaches ids (rows ++ r ∷ []) id
 reach-skip ids rows r id reach fresh no-old = record {
   sound = λ q h. chain-more rows r id q (reach.sound q h);
   whole = λ q ch. elim (chain-less rows r id q fresh ch) as (λ _. has_id ids q ≡ true) [ inl x ↦ reach.whole q x | inr y ↦ absurd (let t = reach.whole r.old y.0 in cc) ];
@@ -52,7 +53,7 @@ reach-skip ids rows r id reach fresh no-old = record {
 
 -- it is, and its successor is added
 pub reach-add : (ids more : List (List ℕ)) (rows : List Row) (r : Row) (id heir : List ℕ) → Reaches ids rows id
-    → IsFresh rows r → r.new ≡ Some heir → has_id ids r.old ≡ true
+    → IsFreshRow rows r → r.new ≡ Some heir → has_id ids r.old ≡ true
     → ((q : List ℕ) → has_id more q ≡ cond (same_id heir q) true (has_id ids q)) → Reaches more (rows ++ r ∷ []) id
 reach-add ids more rows r id heir reach fresh some old new = record {
   sound = λ q h. by-test q (same_id heir q) refl (sym (new q) ∙ h);
@@ -76,50 +77,51 @@ reach-add ids more rows r id heir reach fresh some old new = record {
   by-test q false e h = chain-more rows r id q (reach.sound q h)
 
 -- one row further among rows that are fresh
-pub fresh-row : (before rows : List Row) (i : ℕ) (r : Row) → AreFresh before rows → i < length rows → r ≡ get_or rows i r → IsFresh (before ++ take i rows) r
-fresh-row before rows i r fresh lt is s names-it = elim (cases_Bool (list_any (is_of s) ((before ++ take i rows) ++ r ∷ []))) as (λ _. list_any (is_of s) ((before ++ take i rows) ++ r ∷ []) ≡ false) [
-  | inl t ↦ absurd (
-      let split : rows ≡ (take i rows ++ r ∷ []) ++ drop (i + 1) rows = sym (take-append-drop (i + 1) rows) ∙ ap (λ (l : List Row). l ++ drop (i + 1) rows) (sym (take-at rows i r lt is)) in
-      let there : list_any (names s) rows ≡ true = ap (λ (l : List Row). list_any (names s) l) split
-      ∙ any-left (names s) (take i rows ++ r ∷ []) (drop (i + 1) rows)
-      (any-mid (names s) (take i rows) r [] names-it) in
-      let none = fresh s there in
-      let all : list_any (is_of s) (before ++ rows) ≡ true =
-      ap (λ (l : List Row). list_any (is_of s) (before ++ l)) split ∙ ap (λ (l : List Row). list_any (is_of s) l) (sym (append_assoc before (take i rows ++ r ∷ []) (drop (i + 1) rows)))
-      ∙ any-left (is_of s) (before ++ (take i rows ++ r ∷ [])) (drop (i + 1) rows) (ap (λ (l : List Row). list_any (is_of s) l) (sym (append_assoc before (take i rows) (r ∷ []))) ∙ t) in cc)
-  | inr f ↦ f
-]
+pub fresh-row : (before rows : List Row) (i : ℕ) (r : Row) → AreFresh before rows → i < length rows → r ≡ get_or rows i r → IsFreshRow (before ++ take i rows) r
+fresh-row before rows i r fresh lt is s names-it =
+    elim (cases_Bool (list_any (is_row_of s) ((before ++ take i rows) ++ r ∷ []))) as (λ _. list_any (is_row_of s) ((before ++ take i rows) ++ r ∷ []) ≡ false) [
+      | inl t ↦ absurd (
+          let split : rows ≡ (take i rows ++ r ∷ []) ++ drop (i + 1) rows = sym (take-append-drop (i + 1) rows) ∙ ap (λ (l : List Row). l ++ drop (i + 1) rows) (sym (take-at rows i r lt is)) in
+          let there : list_any (names_successor s) rows ≡ true = ap (λ (l : List Row). list_any (names_successor s) l) split
+          ∙ any-left (names_successor s) (take i rows ++ r ∷ []) (drop (i + 1) rows)
+          (any-mid (names_successor s) (take i rows) r [] names-it) in
+          let none = fresh s there in
+          let all : list_any (is_row_of s) (before ++ rows) ≡ true =
+          ap (λ (l : List Row). list_any (is_row_of s) (before ++ l)) split ∙ ap (λ (l : List Row). list_any (is_row_of s) l) (sym (append_assoc before (take i rows ++ r ∷ []) (drop (i + 1) rows)))
+          ∙ any-left (is_row_of s) (before ++ (take i rows ++ r ∷ [])) (drop (i + 1) rows) (ap (λ (l : List Row). list_any (is_row_of s) l) (sym (append_assoc before (take i rows) (r ∷ []))) ∙ t) in cc)
+      | inr f ↦ f
+    ]
 
 -- ---- in a lawful history
 -- the rows of some first releases: some row of an identifier stands in a release that drops it
-pub row-index : (h : List Entry) (n : ℕ) (id : List ℕ) → list_any (is_of id) (all_rows (take n h)) ≡ true → (j : ℕ) × (j < n) × (list_any (is_of id) (entry_at h j).rows ≡ true)
+pub row-index : (h : List Entry) (n : ℕ) (id : List ℕ) → list_any (is_row_of id) (all_rows (take n h)) ≡ true → (j : ℕ) × (j < n) × (list_any (is_row_of id) (entry_at h j).rows ≡ true)
 row-index [] (suc n) id e = cc e
 row-index (x ∷ h) (suc n) id e =
-    elim (or_cases (list_any (is_of id) x.rows) _ (sym (list_any-append (is_of id) x.rows (all_rows (take n h))) ∙ e))
-    as (λ _. (j : ℕ) × (j < suc n) × (list_any (is_of id) (entry_at (x ∷ h) j).rows ≡ true)) [
+    elim (or_cases (list_any (is_row_of id) x.rows) _ (sym (list_any-append (is_row_of id) x.rows (all_rows (take n h))) ∙ e))
+    as (λ _. (j : ℕ) × (j < suc n) × (list_any (is_row_of id) (entry_at (x ∷ h) j).rows ≡ true)) [
       | inl a ↦ (0, omega arith, a)
       | inr b ↦ let r = row-index h n id b in (suc r.0, (let k = r.1 in omega arith), r.2)
     ]
 row-index _ _ id e = cc e
 
-no-row-of : (h : List Entry) → IsLawful h → RowsFit h → (i j : ℕ) (s : List ℕ) → j ≤ i → holds h i s ≡ true → list_any (is_of s) (entry_at h j).rows ≡ true → false ≡ true
-no-row-of h law fit i zero s le live of = let n = ap (λ (l : List Row). list_any (is_of s) l) fit.first in sym n ∙ of
+no-row-of : (h : List Entry) → IsLawful h → RowsFit h → (i j : ℕ) (s : List ℕ) → j ≤ i → holds h i s ≡ true → list_any (is_row_of s) (entry_at h j).rows ≡ true → false ≡ true
+no-row-of h law fit i zero s le live of = let n = ap (λ (l : List Row). list_any (is_row_of s) l) fit.first in sym n ∙ of
 no-row-of h law fit i (suc j) s le live of =
     let k : suc j ≡ j + 1 = omega arith in
-    let d = fit.of_dropped s j (ap (λ (m : ℕ). list_any (is_of s) (entry_at h m).rows) (sym k) ∙ of) in
+    let d = fit.of_dropped s j (ap (λ (m : ℕ). list_any (is_row_of s) (entry_at h m).rows) (sym k) ∙ of) in
     sym d.2 ∙ law.consecutive s j (j + 1) i (omega arith) (omega arith) d.1 live
 
 -- the rows of a release are fresh after those before
 pub release-fresh : (h : List Entry) → IsLawful h → RowsFit h → (i : ℕ) (e : Entry) → i < length h → e ≡ get_or h i e → AreFresh (all_rows (take i h)) e.rows
 release-fresh h law fit i e lt is s names-it =
     let at : e ≡ entry_at h i = is ∙ entry-get h i e lt in
-    let live : holds h i s ≡ true = law.successors s i (ap (λ (x : Entry). list_any (names s) x.rows) (sym at) ∙ names-it) in
-    elim (cases_Bool (list_any (is_of s) (all_rows (take i h) ++ e.rows))) as (λ _. list_any (is_of s) (all_rows (take i h) ++ e.rows) ≡ false) [
-      | inl t ↦ elim (or_cases (list_any (is_of s) (all_rows (take i h))) _
-          (sym (list_any-append (is_of s) (all_rows (take i h)) e.rows) ∙ t)) as
-          (λ _. list_any (is_of s) (all_rows (take i h) ++ e.rows) ≡ false) [
+    let live : holds h i s ≡ true = law.successors s i (ap (λ (x : Entry). list_any (names_successor s) x.rows) (sym at) ∙ names-it) in
+    elim (cases_Bool (list_any (is_row_of s) (all_rows (take i h) ++ e.rows))) as (λ _. list_any (is_row_of s) (all_rows (take i h) ++ e.rows) ≡ false) [
+      | inl t ↦ elim (or_cases (list_any (is_row_of s) (all_rows (take i h))) _
+          (sym (list_any-append (is_row_of s) (all_rows (take i h)) e.rows) ∙ t)) as
+          (λ _. list_any (is_row_of s) (all_rows (take i h) ++ e.rows) ≡ false) [
             | inl a ↦ absurd (let p = row-index h i s a in let w = no-row-of h law fit i p.0 s (let k = p.1 in omega arith) live p.2 in cc)
-            | inr b ↦ absurd (let w = no-row-of h law fit i i s (omega arith) live (ap (λ (x : Entry). list_any (is_of s) x.rows) (sym at) ∙ b) in cc)
+            | inr b ↦ absurd (let w = no-row-of h law fit i i s (omega arith) live (ap (λ (x : Entry). list_any (is_row_of s) x.rows) (sym at) ∙ b) in cc)
           ]
       | inr f ↦ f
     ]

@@ -1,8 +1,9 @@
 -- A release follows a history exactly where its lineage has no fault.
 use Rattle.std.proofs.Common.{◌≡◌, ◌∙◌, ◌≤◌, ◌+◌, ◌⊎◌, inl, inr, refl, sym, ap, subst, arith, ℕ, zero, suc, List, [], ◌∷◌, ◌++◌, length, Bool, true, false, Option, None, Some, cond, append_assoc}
 use Rattle.std.proofs.Common.{◌&&◌, ◌||◌, not, is_some, filter}
-use Rattle.lpis_lineage.proofs.Common.{list_any, option_or, list_any-append, or_left, cases_Bool, Row, Entry, LineageFault, has_id, same_id, holds, ended, succeeded, names, is_of}
-use Rattle.lpis_lineage.proofs.Common.{is_this, same_row, last_live, IsAnswered, Follows, fault_before, clashes, row_faults, dropped_faults, used_faults, faults, faults_but_marks, first, kind, last_held, mark_faults}
+use Rattle.lpis_lineage.proofs.Common.{list_any, option_or, list_any-append, or_left, cases_Bool, Row, Entry, LineageFault, has_id, same_id, holds, is_ended, succeeded, names_successor, is_row_of}
+use Rattle.lpis_lineage.proofs.Common.{is_this, same_row, last_live, IsAnswered, Follows, fault_before, clashes, lineage_row_faults, dropped_faults, used_faults, faults, faults_but_marks, first, kind}
+use Rattle.lpis_lineage.proofs.Common.{last_held, marked_row_faults}
 use Rattle.lpis_lineage.specs.declared.kind.Kind.{Kind}
 use Rattle.lpis_lineage.specs.declared.fault.LineageFault.TheVariants.{MarkedOutside}
 use Rattle.lpis_lineage.specs.ExactGroups.{is_outside}
@@ -80,8 +81,8 @@ pub record CleanRow (last live : List (List ℕ)) (before : List Row) (r : Row) 
   pub apart : list_any (clashes r) before ≡ false
 
 clean-row : (last live : List (List ℕ)) (before : List Row) (k : ℕ) (r : Row) (rs : List Row)
-    → row_faults last live before k (r ∷ rs) ≡ [] → CleanRow last live before r
-    × (row_faults last live (before ++ r ∷ []) (k + 1) rs ≡ [])
+    → lineage_row_faults last live before k (r ∷ rs) ≡ [] → CleanRow last live before r
+    × (lineage_row_faults last live (before ++ r ∷ []) (k + 1) rs ≡ [])
 clean-row last live before k r rs e =
     let a = told-nil _ _ _ e in
     let b = told-nil _ _ _ a.1 in
@@ -90,17 +91,21 @@ clean-row last live before k r rs e =
     let f = told-nil _ _ _ d.1 in
     (record { was = not-false _ a.0; gone = b.0; there = c.0; once = d.0; apart = f.0 }, f.1)
 
-rows-named : (last live : List (List ℕ)) (before : List Row) (k : ℕ) (rows : List Row) → row_faults last live before k
-    rows ≡ [] → (id : List ℕ) → list_any (names id) rows ≡ true → has_id live id ≡ true
+rows-named : (last live : List (List ℕ)) (before : List Row) (k : ℕ) (rows : List Row) → lineage_row_faults last live before k
+    rows ≡ [] → (id : List ℕ) → list_any (names_successor id) rows ≡ true → has_id live id ≡ true
 rows-named last live before k [] e id is = cc is
 rows-named last live before k (r ∷ rs) e id is = let c = clean-row last live before k r rs e in
-    elim (or_cases (names id r) _ is) as (λ _. has_id live id ≡ true) [ inl a ↦ missing-named live r.new c.0.there id a | inr b ↦ rows-named last live (before ++ r ∷ []) (k + 1) rs c.1 id b ]
+    elim (or_cases (names_successor id r) _ is) as (λ _. has_id live id ≡ true) [
+      | inl a ↦ missing-named live r.new c.0.there id a
+      | inr b ↦ rows-named last live (before ++ r
+          ∷ []) (k + 1) rs c.1 id b
+    ]
 
-rows-dropped : (last live : List (List ℕ)) (before : List Row) (k : ℕ) (rows : List Row) → row_faults last live before k
-    rows ≡ [] → (id : List ℕ) → list_any (is_of id) rows ≡ true → (has_id last id ≡ true) × (has_id live id ≡ false)
+rows-dropped : (last live : List (List ℕ)) (before : List Row) (k : ℕ) (rows : List Row) → lineage_row_faults last live before k
+    rows ≡ [] → (id : List ℕ) → list_any (is_row_of id) rows ≡ true → (has_id last id ≡ true) × (has_id live id ≡ false)
 rows-dropped last live before k [] e id is = cc is
 rows-dropped last live before k (r ∷ rs) e id is = let c = clean-row last live before k r rs e in
-    elim (or_cases (is_of id r) _ is) as (λ _. (has_id last id ≡ true) × (has_id live id ≡ false)) [
+    elim (or_cases (is_row_of id r) _ is) as (λ _. (has_id last id ≡ true) × (has_id live id ≡ false)) [
       | inl a ↦ let P : List ℕ → Type 0 = λ x. (has_id last x ≡ true) × (has_id live x ≡ false) in subst P (sym (same-exact id r.old a)) (c.0.was, c.0.gone)
       | inr b ↦ rows-dropped last live (before ++ r ∷ []) (k + 1) rs c.1 id b
     ]
@@ -116,7 +121,7 @@ once-step before r row once le =
       | inr f ↦ let nil = ap (λ (b : Bool). length (cond b (r ∷ []) [])) f in omega (arith, n, nil, le)
     ]
 
-rows-once : (last live : List (List ℕ)) (before : List Row) (k : ℕ) (rows : List Row) → row_faults last live before k
+rows-once : (last live : List (List ℕ)) (before : List Row) (k : ℕ) (rows : List Row) → lineage_row_faults last live before k
     rows ≡ [] → (row : Row) → length (filter (same_row row) before) ≤ 1
     → length (filter (same_row row) (before ++ rows)) ≤ 1
 rows-once last live before k [] e row le = let n = ap (λ (xs : List Row). length (filter (same_row row) xs)) (append-nil before) in omega (arith, n, le)
@@ -127,18 +132,18 @@ rows-once last live before k (r ∷ rs) e row le =
 
 -- no identifier has both an ending and a successor
 abbrev pub Apart : List Row → Type 0
-Apart rows = (id : List ℕ) → ended rows id ≡ true → succeeded rows id ≡ true → false ≡ true
+Apart rows = (id : List ℕ) → is_ended rows id ≡ true → succeeded rows id ≡ true → false ≡ true
 
-clash-end : (r : Row) (before : List Row) (id : List ℕ) → is_of id r ≡ true → is_some r.new ≡ true → ended before id ≡ true → list_any (clashes r) before ≡ true
+clash-end : (r : Row) (before : List Row) (id : List ℕ) → is_row_of id r ≡ true → is_some r.new ≡ true → is_ended before id ≡ true → list_any (clashes r) before ≡ true
 clash-end r before id of some e = mono _ (clashes r) before (λ q h.
     let s : same_id r.old q.old ≡ true = ap (λ (x : List ℕ). same_id x q.old) (sym (same-exact id r.old of)) ∙ (and_parts _ _ h).0 in
-    let n : not (is_some q.new) ≡ true = (and_parts (is_of id q) _ h).1 in
+    let n : not (is_some q.new) ≡ true = (and_parts (is_row_of id q) _ h).1 in
     and_from _ _ s (or_left _ _ (and_from _ _ some n))) e
 
-clash-heir : (r : Row) (before : List Row) (id : List ℕ) → is_of id r ≡ true → not (is_some r.new) ≡ true → succeeded before id ≡ true → list_any (clashes r) before ≡ true
+clash-heir : (r : Row) (before : List Row) (id : List ℕ) → is_row_of id r ≡ true → not (is_some r.new) ≡ true → succeeded before id ≡ true → list_any (clashes r) before ≡ true
 clash-heir r before id of some e = mono _ (clashes r) before (λ q h.
     let s : same_id r.old q.old ≡ true = ap (λ (x : List ℕ). same_id x q.old) (sym (same-exact id r.old of)) ∙ (and_parts _ _ h).0 in
-    let n : is_some q.new ≡ true = (and_parts (is_of id q) _ h).1 in
+    let n : is_some q.new ≡ true = (and_parts (is_row_of id q) _ h).1 in
     and_from _ _ s (or_right (is_some r.new && not (is_some q.new)) _ (and_from _ _ some n))) e
 
 not-both : (b : Bool) → b ≡ true → not b ≡ true → false ≡ true
@@ -147,18 +152,18 @@ not-both false e f = e
 
 apart-step : (before : List Row) (r : Row) → list_any (clashes r) before ≡ false → Apart before → Apart (before ++ r ∷ [])
 apart-step before r clear ap-before id e s =
-    elim (any-last (λ row. is_of id row && not (is_some row.new)) before r e) as (λ _. false ≡ true) [
-      | inl eb ↦ elim (any-last (λ row. is_of id row && is_some row.new) before r s) as (λ _. false ≡ true) [
+    elim (any-last (λ row. is_row_of id row && not (is_some row.new)) before r e) as (λ _. false ≡ true) [
+      | inl eb ↦ elim (any-last (λ row. is_row_of id row && is_some row.new) before r s) as (λ _. false ≡ true) [
         | inl sb ↦ ap-before id eb sb
-        | inr sr ↦ let t = clash-end r before id (and_parts _ _ sr).0 (and_parts (is_of id r) _ sr).1 eb in sym clear ∙ t
+        | inr sr ↦ let t = clash-end r before id (and_parts _ _ sr).0 (and_parts (is_row_of id r) _ sr).1 eb in sym clear ∙ t
       ]
-      | inr er ↦ elim (any-last (λ row. is_of id row && is_some row.new) before r s) as (λ _. false ≡ true) [
-        | inl sb ↦ let t = clash-heir r before id (and_parts _ _ er).0 (and_parts (is_of id r) _ er).1 sb in sym clear ∙ t
-        | inr sr ↦ not-both (is_some r.new) (and_parts (is_of id r) _ sr).1 (and_parts (is_of id r) _ er).1
+      | inr er ↦ elim (any-last (λ row. is_row_of id row && is_some row.new) before r s) as (λ _. false ≡ true) [
+        | inl sb ↦ let t = clash-heir r before id (and_parts _ _ er).0 (and_parts (is_row_of id r) _ er).1 sb in sym clear ∙ t
+        | inr sr ↦ not-both (is_some r.new) (and_parts (is_row_of id r) _ sr).1 (and_parts (is_row_of id r) _ er).1
       ]
     ]
 
-rows-apart : (last live : List (List ℕ)) (before : List Row) (k : ℕ) (rows : List Row) → row_faults last live before k rows ≡ [] → Apart before → Apart (before ++ rows)
+rows-apart : (last live : List (List ℕ)) (before : List Row) (k : ℕ) (rows : List Row) → lineage_row_faults last live before k rows ≡ [] → Apart before → Apart (before ++ rows)
 rows-apart last live before k [] e a = subst Apart (sym (append-nil before)) a
 rows-apart last live before k (r ∷ rs) e a =
     let c = clean-row last live before k r rs e in
@@ -178,10 +183,10 @@ apart-back : (before : List Row) (r : Row) (rs : List Row) → Apart (before ++ 
 apart-back before r rs a = elim (cases_Bool (list_any (clashes r) before)) as (λ _. list_any (clashes r) before ≡ false) [
   | inl t ↦ elim (cases_Bool (is_some r.new)) as (λ _. list_any (clashes r) before ≡ false) [
     | inl some ↦
-        let e = mono (clashes r) (λ q. is_of r.old q && not (is_some q.new)) before (λ q h. and_from _ _ (and_parts _ _ h).0 (other-none r q some (and_parts (same_id r.old q.old) _ h).1)) t in
+        let e = mono (clashes r) (λ q. is_row_of r.old q && not (is_some q.new)) before (λ q h. and_from _ _ (and_parts _ _ h).0 (other-none r q some (and_parts (same_id r.old q.old) _ h).1)) t in
         absurd (let w = a r.old (any-left _ before (r ∷ rs) e) (any-mid _ before r rs (and_from _ _ (same-refl r.old) some)) in cc)
     | inr none ↦
-        let e = mono (clashes r) (λ q. is_of r.old q && is_some q.new) before (λ q h. and_from _ _ (and_parts _ _ h).0 (other-some r q none (and_parts (same_id r.old q.old) _ h).1)) t in
+        let e = mono (clashes r) (λ q. is_row_of r.old q && is_some q.new) before (λ q h. and_from _ _ (and_parts _ _ h).0 (other-some r q none (and_parts (same_id r.old q.old) _ h).1)) t in
         absurd (let w = a r.old (any-mid _ before r rs (and_from _ _ (same-refl r.old) (ap not none))) (any-left _ before (r ∷ rs) e) in cc)
   ]
   | inr f ↦ f
@@ -201,34 +206,34 @@ apart-back before r rs a = elim (cases_Bool (list_any (clashes r) before)) as (�
     by false false e h = h
 
 rows-clean : (last live : List (List ℕ)) (before : List Row) (k : ℕ) (rows : List Row)
-    → ((id : List ℕ) → list_any (names id) (before ++ rows) ≡ true → has_id live id ≡ true)
-    → ((id : List ℕ) → list_any (is_of id) (before ++ rows) ≡ true → (has_id last id ≡ true) × (has_id live id ≡ false))
+    → ((id : List ℕ) → list_any (names_successor id) (before ++ rows) ≡ true → has_id live id ≡ true)
+    → ((id : List ℕ) → list_any (is_row_of id) (before ++ rows) ≡ true → (has_id last id ≡ true) × (has_id live id ≡ false))
     → ((row : Row) → length (filter (same_row row) (before ++ rows)) ≤ 1)
     → Apart (before ++ rows)
-    → row_faults last live before k rows ≡ []
+    → lineage_row_faults last live before k rows ≡ []
 rows-clean last live before k [] named dropped once a = refl
 rows-clean last live before k (r ∷ rs) named dropped once a =
     let all : (before ++ r ∷ []) ++ rs ≡ before ++ r ∷ rs = append_assoc before (r ∷ []) rs in
-    let d = dropped r.old (any-mid (is_of r.old) before r rs (same-refl r.old)) in
-    let N : List Row → Type 0 = λ xs. (id : List ℕ) → list_any (names id) xs ≡ true → has_id live id ≡ true in
-    let D : List Row → Type 0 = λ xs. (id : List ℕ) → list_any (is_of id) xs ≡ true → (has_id last id ≡ true) × (has_id live id ≡ false) in
+    let d = dropped r.old (any-mid (is_row_of r.old) before r rs (same-refl r.old)) in
+    let N : List Row → Type 0 = λ xs. (id : List ℕ) → list_any (names_successor id) xs ≡ true → has_id live id ≡ true in
+    let D : List Row → Type 0 = λ xs. (id : List ℕ) → list_any (is_row_of id) xs ≡ true → (has_id last id ≡ true) × (has_id live id ≡ false) in
     let O : List Row → Type 0 = λ xs. (row : Row) → length (filter (same_row row) xs) ≤ 1 in
     told-none _ _ _ (not_from_true _ d.0) (
     told-none _ _ _ d.1 (
-    told-none _ _ _ (none-missing live r.new (λ s is. named s (any-mid (names s) before r rs is))) (
+    told-none _ _ _ (none-missing live r.new (λ s is. named s (any-mid (names_successor s) before r rs is))) (
     told-none _ _ _ (once-back before r rs (once r)) (
     told-none _ _ _ (apart-back before r rs a) (
     rows-clean last live (before ++ r ∷ []) (k + 1) rs (subst N (sym all) named) (subst D (sym all) dropped) (subst O (sym all) once) (subst Apart (sym all) a))))))
 
 -- ---- dropped identifiers
 dropped-clean : (live : List (List ℕ)) (rows : List Row) (ids : List (List ℕ)) → dropped_faults live rows ids ≡ []
-    → (id : List ℕ) → has_id ids id ≡ true → has_id live id ≡ false → list_any (is_of id) rows ≡ true
+    → (id : List ℕ) → has_id ids id ≡ true → has_id live id ≡ false → list_any (is_row_of id) rows ≡ true
 dropped-clean live rows [] e id is gone = cc is
 dropped-clean live rows (x ∷ xs) e id is gone =
     let t = told-nil _ _ _ e in
-    elim (or_cases (same_id id x) _ is) as (λ _. list_any (is_of id) rows ≡ true) [
+    elim (or_cases (same_id id x) _ is) as (λ _. list_any (is_row_of id) rows ≡ true) [
       | inl a ↦ let alike : id ≡ x = same-exact id x a in
-          let P : List ℕ → Type 0 = λ y. (not (has_id live y) && not (list_any (is_of y) rows)) ≡ false in
+          let P : List ℕ → Type 0 = λ y. (not (has_id live y) && not (list_any (is_row_of y) rows)) ≡ false in
           row-there (has_id live id) _ gone (subst P (sym alike) t.0)
       | inr b ↦ dropped-clean live rows xs t.1 id b gone
     ] where
@@ -238,7 +243,7 @@ dropped-clean live rows (x ∷ xs) e id is gone =
       row-there false false e f = cc f
 
 clean-dropped : (live : List (List ℕ)) (rows : List Row) (ids : List (List ℕ))
-    → ((id : List ℕ) → has_id ids id ≡ true → has_id live id ≡ false → list_any (is_of id) rows ≡ true)
+    → ((id : List ℕ) → has_id ids id ≡ true → has_id live id ≡ false → list_any (is_row_of id) rows ≡ true)
     → dropped_faults live rows ids ≡ []
 clean-dropped live rows [] all = refl
 clean-dropped live rows (x ∷ xs) all = told-none _ _ _ (no-fault (has_id live x) _ (all x (or_left _ _ (same-refl x))))
@@ -297,18 +302,18 @@ clean-used h last (x ∷ xs) all = used-none (last_held h x) (has_id last x) x _
     (clean-used h last xs (λ id i hi is. all id i hi (or_right (same_id id x) _ is)))
 
 -- ---- marks
-marks-clean : (kind_of : List ℕ → Option Kind) (all : List Row) (k : ℕ) (rows : List Row) → mark_faults kind_of all k rows ≡ [] → list_any (is_outside kind_of all) rows ≡ false
+marks-clean : (kind_of : List ℕ → Option Kind) (all : List Row) (k : ℕ) (rows : List Row) → marked_row_faults kind_of all k rows ≡ [] → list_any (is_outside kind_of all) rows ≡ false
 marks-clean kind_of all k [] e = refl
 marks-clean kind_of all k (r ∷ rs) e =
     let t = told-nil _ _ _ e in
     ap (λ (b : Bool). b || list_any (is_outside kind_of all) rs) t.0 ∙ marks-clean kind_of all (k + 1) rs t.1
 
-pub clean-marks : (kind_of : List ℕ → Option Kind) (all : List Row) (k : ℕ) (rows : List Row) → list_any (is_outside kind_of all) rows ≡ false → mark_faults kind_of all k rows ≡ []
+pub clean-marks : (kind_of : List ℕ → Option Kind) (all : List Row) (k : ℕ) (rows : List Row) → list_any (is_outside kind_of all) rows ≡ false → marked_row_faults kind_of all k rows ≡ []
 clean-marks kind_of all k [] e = refl
 clean-marks kind_of all k (r ∷ rs) e = by (is_outside kind_of all r) e (clean-marks kind_of all (k + 1) rs)
   where
-    by : (b : Bool) → (b || list_any (is_outside kind_of all) rs) ≡ false → (list_any (is_outside kind_of all) rs ≡ false → mark_faults kind_of all (k + 1) rs ≡ [])
-        → fault_before b (MarkedOutside k) (mark_faults kind_of all (k + 1) rs) ≡ []
+    by : (b : Bool) → (b || list_any (is_outside kind_of all) rs) ≡ false → (list_any (is_outside kind_of all) rs ≡ false → marked_row_faults kind_of all (k + 1) rs ≡ [])
+        → fault_before b (MarkedOutside k) (marked_row_faults kind_of all (k + 1) rs) ≡ []
     by true e rec = cc e
     by false e rec = rec e
 
@@ -322,29 +327,29 @@ unmarked kind_of all (r ∷ rs) e = by r.exact _ e (unmarked kind_of all rs)
     by true c e rec = cc e
     by false c e rec = rec e
 
-pub unmarked-clean : (kind_of : List ℕ → Option Kind) (rows : List Row) → list_any (λ (r : Row). r.exact) rows ≡ false → mark_faults kind_of rows 1 rows ≡ []
+pub unmarked-clean : (kind_of : List ℕ → Option Kind) (rows : List Row) → list_any (λ (r : Row). r.exact) rows ≡ false → marked_row_faults kind_of rows 1 rows ≡ []
 unmarked-clean kind_of rows e = clean-marks kind_of rows 1 rows (unmarked kind_of rows rows e)
 
 -- ---- all together
-heir-or-end : (rows : List Row) (id : List ℕ) → list_any (is_of id) rows ≡ true → succeeded rows id ≡ false → ended rows id ≡ true
+heir-or-end : (rows : List Row) (id : List ℕ) → list_any (is_row_of id) rows ≡ true → succeeded rows id ≡ false → is_ended rows id ≡ true
 heir-or-end [] id e f = cc e
-heir-or-end (r ∷ rs) id e f = by (is_of id r) (is_some r.new) _ _ _ (heir-or-end rs id) e f where
+heir-or-end (r ∷ rs) id e f = by (is_row_of id r) (is_some r.new) _ _ _ (heir-or-end rs id) e f where
   by : (a b c d g : Bool) → (c ≡ true → d ≡ false → g ≡ true) → (a || c) ≡ true → ((a && b) || d) ≡ false → ((a && not b) || g) ≡ true
   by true true c d g ih e f = cc f
   by true false c d g ih e f = refl
   by false b c d g ih e f = ih e f
 
-answered : (rows : List Row) (id : List ℕ) → ((row : Row) → length (filter (same_row row) rows) ≤ 1) → Apart rows → list_any (is_of id) rows ≡ true → IsAnswered rows id
+answered : (rows : List Row) (id : List ℕ) → ((row : Row) → length (filter (same_row row) rows) ≤ 1) → Apart rows → list_any (is_row_of id) rows ≡ true → IsAnswered rows id
 answered rows id once a is =
     elim (cases_Bool (succeeded rows id)) as (λ _. IsAnswered rows id) [
-      | inl s ↦ elim (cases_Bool (ended rows id)) as (λ _. IsAnswered rows id) [ inl e ↦ absurd (let w = a id e s in cc) | inr n ↦ inr (filter-none _ rows n, s) ]
+      | inl s ↦ elim (cases_Bool (is_ended rows id)) as (λ _. IsAnswered rows id) [ inl e ↦ absurd (let w = a id e s in cc) | inr n ↦ inr (filter-none _ rows n, s) ]
       | inr n ↦ let some = filter-some _ rows (heir-or-end rows id is n) in let few = one-ending rows id once in inl (omega (arith, some, few), n)
     ]
 
 pub follows-from-clean : (h : List Entry) (live : List (List ℕ)) (rows : List Row) → faults h live rows ≡ [] → Follows h live rows
 follows-from-clean h live rows e =
     let w = both-nil (faults_but_marks h live rows) _ e in
-    let t = both-nil (row_faults (last_live h) live [] 1 rows) _ w.0 in
+    let t = both-nil (lineage_row_faults (last_live h) live [] 1 rows) _ w.0 in
     let u = both-nil (dropped_faults live rows (last_live h)) _ t.1 in
     record {
       not_used = used-clean h (last_live h) live u.1;
@@ -359,19 +364,19 @@ follows-from-clean h live rows e =
 
 pub clean-from-follows : (h : List Entry) (live : List (List ℕ)) (rows : List Row) → Follows h live rows → faults h live rows ≡ []
 clean-from-follows h live rows f =
-    let a : Apart rows = λ id e s. let d = f.dropped id (mono _ (is_of id) rows (λ r h. (and_parts (is_of id r) _ h).0) e) in from-answered rows id (f.answered id d.0 d.1) e s in
+    let a : Apart rows = λ id e s. let d = f.dropped id (mono _ (is_row_of id) rows (λ r h. (and_parts (is_row_of id r) _ h).0) e) in from-answered rows id (f.answered id d.0 d.1) e s in
     let r = rows-clean (last_live h) live [] 1 rows f.named f.dropped f.once a in
     let d = clean-dropped live rows (last_live h) (λ id was gone. any-of rows id (f.answered id was gone)) in
     let u = clean-used h (last_live h) live f.not_used in
-    ap (λ (x : List LineageFault). x ++ mark_faults (kind (last_live h) live rows) rows 1 rows)
+    ap (λ (x : List LineageFault). x ++ marked_row_faults (kind (last_live h) live rows) rows 1 rows)
     (ap (λ (x : List LineageFault). x ++ (dropped_faults live rows (last_live h) ++ used_faults h (last_live h) live)) r
     ∙ ap (λ (x : List LineageFault). x ++ used_faults h (last_live h) live) d ∙ u)
     ∙ clean-marks (kind (last_live h) live rows) rows 1 rows f.marked where
-      any-of : (rows : List Row) (id : List ℕ) → IsAnswered rows id → list_any (is_of id) rows ≡ true
-      any-of rows id e = elim e as (λ _. list_any (is_of id) rows ≡ true) [
-        | inl l ↦ mono _ (is_of id) rows (λ r h. (and_parts (is_of id r) _ h).0) (counted-ended rows id l.0)
+      any-of : (rows : List Row) (id : List ℕ) → IsAnswered rows id → list_any (is_row_of id) rows ≡ true
+      any-of rows id e = elim e as (λ _. list_any (is_row_of id) rows ≡ true) [
+        | inl l ↦ mono _ (is_row_of id) rows (λ r h. (and_parts (is_row_of id r) _ h).0) (counted-ended rows id l.0)
         | inr r ↦ mono
-            _ (is_of id) rows (λ r h. (and_parts (is_of id r) _ h).0) r.1
+            _ (is_row_of id) rows (λ r h. (and_parts (is_row_of id r) _ h).0) r.1
       ]
 
 pub first-told : (b : Bool) (f : LineageFault) (rest : List LineageFault) → b ≡ true → first (fault_before b f rest) ≡ Some f

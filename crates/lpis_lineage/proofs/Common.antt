@@ -1,10 +1,10 @@
 -- The names that most proofs of this crate cite, passed on from one place. Declares nothing.
 pub use Rattle.lpis_covers.specs.Ids.{has_id, same_id}
 pub use Rattle.lpis_lineage.specs.Descendants.{all_rows}
-pub use Rattle.lpis_lineage.specs.Faults.{clashes, dropped_faults, fault_before, faults, faults_but_marks, first, mark_faults, row_faults, used_faults}
-pub use Rattle.lpis_lineage.specs.Kinds.{heirs, kind, times}
+pub use Rattle.lpis_lineage.specs.Faults.{clashes, dropped_faults, fault_before, faults, faults_but_marks, first, marked_row_faults, lineage_row_faults, used_faults}
+pub use Rattle.lpis_lineage.specs.Kinds.{heirs, kind, id_times}
 pub use Rattle.lpis_lineage.specs.Lawful.{IsAnswered, IsLawful, RowsFit}
-pub use Rattle.lpis_lineage.specs.Lineage.{ended, entry_at, holds, is_of, is_this, last_live, last_year, names, same_row, succeeded}
+pub use Rattle.lpis_lineage.specs.Lineage.{is_ended, entry_at, holds, is_row_of, is_this, last_live, last_year, names_successor, same_row, succeeded}
 pub use Rattle.lpis_lineage.specs.Spans.{first_held, last_held, live_in, span_between, span_of}
 pub use Rattle.lpis_lineage.specs.declared.fault.LineageFault.{LineageFault}
 pub use Rattle.lpis_lineage.specs.declared.row.Entry.{Entry}

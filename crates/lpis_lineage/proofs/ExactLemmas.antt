@@ -1,10 +1,12 @@
 -- Splits and merges by kinds and by counts.
-use Rattle.std.proofs.Common.{◌≡◌, ◌∙◌, ◌≤◌, ◌<◌, ◌↔◌, inl, inr, refl, sym, ap, arith, ℕ, List, [], ◌∷◌, length, Bool, true, false, Option, None, Some, is_some, cond, ◌&&◌, ◌||◌, nat_lt, get_or, All, filter}
+use Rattle.std.proofs.Common.{◌≡◌, ◌∙◌, ◌≤◌, ◌<◌, ◌↔◌, inl, inr, refl, sym, ap, arith, ℕ, List, [], ◌∷◌, length, Bool, true, false, Option, None, Some, is_some, cond, ◌&&◌, ◌||◌, nat_lt, get_or, All}
+use Rattle.std.proofs.Common.{filter}
 use Rattle.std.proofs.lemmas.Bool.{and_from, and_parts, or_right}
 use Rattle.std.proofs.lemmas.List.Elements.{All-cons, All-nil, All-weaker}
 use Rattle.std.proofs.lemmas.List.Folds.{list_any_at, list_any_none}
 use Rattle.std.proofs.lemmas.List.Sums.{AllPass-from_list_all, list_all-from_AllPass}
-use Rattle.lpis_lineage.proofs.Common.{nat_tests, list_any, cases_Bool, or_left, Row, Entry, Follows, has_id, same_id, ended, faults, heirs, is_of, is_this, kind, last_live, names, succeeded}
+use Rattle.lpis_lineage.proofs.Common.{nat_tests, list_any, cases_Bool, or_left, Row, Entry, Follows, has_id, same_id, is_ended, faults, heirs, is_row_of, is_this, kind, last_live, names_successor}
+use Rattle.lpis_lineage.proofs.Common.{succeeded}
 use Rattle.lpis_lineage.specs.Descendants.{leads}
 use Rattle.lpis_lineage.specs.ExactGroups.{is_merge, is_merged, is_split}
 use Rattle.lpis_lineage.specs.ExactLaws.{IsMerge, IsSplit}
@@ -46,7 +48,7 @@ merged-to w l e a b p q r s t = rw (p, q, r, s, t)
 -- a successor of an identifier is one that the rows name
 heirs-kept : (rows : List Row) (id s : List ℕ) → has_id (successors rows id) s ≡ true → has_id (heirs rows) s ≡ true
 heirs-kept [] id s e = cc e
-heirs-kept (r ∷ rs) id s e = by (is_of id r) e (heirs-kept rs id s)
+heirs-kept (r ∷ rs) id s e = by (is_row_of id r) e (heirs-kept rs id s)
   where
     out : (o : Option (List ℕ)) (xs ys : List (List ℕ)) → (has_id xs s ≡ true → has_id ys s ≡ true) → has_id (with_some o xs) s ≡ true → has_id (with_some o ys) s ≡ true
     out None xs ys h e = h e
@@ -56,7 +58,8 @@ heirs-kept (r ∷ rs) id s e = by (is_of id r) e (heirs-kept rs id s)
     more None xs h = h
     more (Some t) xs h = or_right (same_id s t) _ h
 
-    by : (b : Bool) → has_id (heirs (cond b (r ∷ filter (is_of id) rs) (filter (is_of id) rs))) s ≡ true → (has_id (successors rs id) s ≡ true → has_id (heirs rs) s ≡ true) → has_id (heirs (r ∷ rs)) s ≡ true
+    by : (b : Bool) → has_id (heirs (cond b (r ∷ filter (is_row_of id) rs) (filter (is_row_of id) rs))) s ≡ true → (has_id (successors rs id) s ≡ true → has_id (heirs rs) s ≡ true)
+        → has_id (heirs (r ∷ rs)) s ≡ true
     by true e h = out r.new (successors rs id) (heirs rs) h e
     by false e h = more r.new (heirs rs) (h e)
 
@@ -65,22 +68,23 @@ has-predecessor : (last live : List (List ℕ)) (rows : List Row) (id s : List �
 has-predecessor last live rows id s e = let n = filter-some (same_id s) (heirs rows) (heirs-kept rows id s e) in omega (arith, n)
 
 named-leads : (rows : List Row) (id s : List ℕ) → list_any (leads id s) rows ≡ has_id (successors rows id) s
-named-leads rows id s = any-same (leads id s) (λ r. is_of id r && on_some (same_id s) r.new) rows (λ r. ap (λ (b : Bool). is_of id r && b) (by r.new)) ∙ sym (successors-any (same_id s) rows id)
+named-leads rows id s =
+    any-same (leads id s) (λ r. is_row_of id r && on_some (same_id s) r.new) rows (λ r. ap (λ (b : Bool). is_row_of id r && b) (by r.new)) ∙ sym (successors-any (same_id s) rows id)
   where
     by : (o : Option (List ℕ)) → is_this s o ≡ on_some (same_id s) o
     by None = refl
     by (Some t) = refl
 
 -- each row that names a successor leads to it
-kept-leads : (s : List ℕ) (rows : List Row) → All (λ (r : Row). list_any (leads r.old s) rows ≡ true) (filter (names s) rows)
+kept-leads : (s : List ℕ) (rows : List Row) → All (λ (r : Row). list_any (leads r.old s) rows ≡ true) (filter (names_successor s) rows)
 kept-leads s [] = All-nil (λ (r : Row). false ≡ true)
-kept-leads s (x ∷ rs) = by (names s x) refl (All-weaker (λ (r : Row). list_any (leads r.old s) rs ≡ true)
+kept-leads s (x ∷ rs) = by (names_successor s x) refl (All-weaker (λ (r : Row). list_any (leads r.old s) rs ≡ true)
     (λ (r : Row). list_any (leads r.old s) (x ∷ rs) ≡ true)
-    (λ r h. or_right (leads r.old s x) _ h) (filter (names s) rs) (kept-leads s rs))
+    (λ r h. or_right (leads r.old s x) _ h) (filter (names_successor s) rs) (kept-leads s rs))
   where
-    by : (b : Bool) → b ≡ names s x → All (λ (r : Row). list_any (leads r.old s) (x ∷ rs) ≡ true) (filter (names s) rs)
-        → All (λ (r : Row). list_any (leads r.old s) (x ∷ rs) ≡ true) (cond b (x ∷ filter (names s) rs) (filter (names s) rs))
-    by true e rest = All-cons (λ (r : Row). list_any (leads r.old s) (x ∷ rs) ≡ true) x (filter (names s) rs)
+    by : (b : Bool) → b ≡ names_successor s x → All (λ (r : Row). list_any (leads r.old s) (x ∷ rs) ≡ true) (filter (names_successor s) rs)
+        → All (λ (r : Row). list_any (leads r.old s) (x ∷ rs) ≡ true) (cond b (x ∷ filter (names_successor s) rs) (filter (names_successor s) rs))
+    by true e rest = All-cons (λ (r : Row). list_any (leads r.old s) (x ∷ rs) ≡ true) x (filter (names_successor s) rs)
         (or_left (leads x.old s x) _ (and_from (same_id x.old x.old) _ (same-refl x.old) (sym e))) rest
     by false e rest = rest
 
@@ -113,11 +117,11 @@ few-of n e = grind (arith, nat_tests)
 -- ---- rows without a fault
 -- an identifier with a successor is dropped, and not ended
 dropped : (h : List Entry) (live : List (List ℕ)) (rows : List Row) → Follows h live rows → (id s : List ℕ) → has_id (successors rows id) s ≡ true
-    → (has_id (last_live h) id ≡ true) × (has_id live id ≡ false) × (ended rows id ≡ false)
-dropped h live rows f id s e = (d.0, d.1, by (ended rows id) refl)
+    → (has_id (last_live h) id ≡ true) × (has_id live id ≡ false) × (is_ended rows id ≡ false)
+dropped h live rows f id s e = (d.0, d.1, by (is_ended rows id) refl)
   where
-    of : list_any (is_of id) rows ≡ true
-    of = mono (leads id s) (is_of id) rows (λ r l. (and_parts (is_of id r) _ l).0) (named-leads rows id s ∙ e)
+    of : list_any (is_row_of id) rows ≡ true
+    of = mono (leads id s) (is_row_of id) rows (λ r l. (and_parts (is_row_of id r) _ l).0) (named-leads rows id s ∙ e)
 
     d : (has_id (last_live h) id ≡ true) × (has_id live id ≡ false)
     d = f.dropped id of
@@ -127,10 +131,10 @@ dropped h live rows f id s e = (d.0, d.1, by (ended rows id) refl)
     has-some (Some t) e = refl
 
     succeeds : succeeded rows id ≡ true
-    succeeds = mono (leads id s) (λ (r : Row). is_of id r && is_some r.new) rows
-        (λ r l. and_from (is_of id r) _ (and_parts (is_of id r) _ l).0 (has-some r.new (and_parts (is_of id r) _ l).1)) (named-leads rows id s ∙ e)
+    succeeds = mono (leads id s) (λ (r : Row). is_row_of id r && is_some r.new) rows
+        (λ r l. and_from (is_row_of id r) _ (and_parts (is_row_of id r) _ l).0 (has-some r.new (and_parts (is_row_of id r) _ l).1)) (named-leads rows id s ∙ e)
 
-    by : (b : Bool) → b ≡ ended rows id → b ≡ false
+    by : (b : Bool) → b ≡ is_ended rows id → b ≡ false
     by false e = refl
     by true e = absurd (let x = from-answered rows id (f.answered id d.0 d.1) (sym e) succeeds in cc x)
 
@@ -163,7 +167,8 @@ kinds-tell-splits h live rows none id = (to, from)
 
     to : is_split (kind (last_live h) live rows id) ≡ true → IsSplit (last_live h) live rows id
     to e =
-        let p = split-of (has_id (last_live h) id) (has_id live id) (ended rows id) (nat_lt 1 (length (successors rows id))) (list_any (λ s. nat_lt 1 (predecessors (last_live h) live rows s)) (successors rows id)) e in
+        let p = split-of (has_id (last_live h) id) (has_id live id) (is_ended rows id) (nat_lt 1 (length (successors rows id))) (list_any (λ s. nat_lt 1 (predecessors (last_live h) live rows s))
+        (successors rows id)) e in
         record { was = p.0; gone = p.1; several = many-of _ p.2; alone = unshared p.3 }
 
     from : IsSplit (last_live h) live rows id → is_split (kind (last_live h) live rows id) ≡ true
@@ -179,12 +184,14 @@ kinds-tell-merges h live rows none s = (to, from)
     shared : List ℕ → Bool
     shared z = nat_lt 1 (predecessors (last_live h) live rows z)
 
-    there : All (λ (r : Row). has_id (successors rows r.old) s ≡ true) (filter (names s) rows)
-    there = All-weaker (λ (r : Row). list_any (leads r.old s) rows ≡ true) (λ (r : Row). has_id (successors rows r.old) s ≡ true) (λ r l. sym (named-leads rows r.old s) ∙ l) (filter (names s) rows) (kept-leads s rows)
+    there : All (λ (r : Row). has_id (successors rows r.old) s ≡ true) (filter (names_successor s) rows)
+    there = All-weaker (λ (r : Row). list_any (leads r.old s) rows ≡ true) (λ (r : Row). has_id (successors rows r.old) s
+        ≡ true) (λ r l. sym (named-leads rows r.old s) ∙ l) (filter (names_successor s) rows) (kept-leads s rows)
 
     merged-at : (r : Row) → is_merged (kind (last_live h) live rows r.old) ≡ true → (nat_lt 1 (length (successors rows r.old)) ≡ false)
         × (list_any (λ z. nat_lt 1 (predecessors (last_live h) live rows z)) (successors rows r.old) ≡ true)
-    merged-at r e = merged-of (has_id (last_live h) r.old) (has_id live r.old) (ended rows r.old) (nat_lt 1 (length (successors rows r.old))) (list_any (λ z. nat_lt 1 (predecessors (last_live h) live rows z)) (successors rows r.old)) e
+    merged-at r e = merged-of (has_id (last_live h) r.old) (has_id live r.old) (is_ended rows r.old) (nat_lt 1 (length (successors rows r.old))) (list_any (λ z. nat_lt 1 (predecessors
+        (last_live h) live rows z)) (successors rows r.old)) e
 
     one-row : (r : Row) → is_merged (kind (last_live h) live rows r.old) ≡ true → has_id (successors rows r.old) s ≡ true
         → (length (successors rows r.old) ≡ 1) × (1 < predecessors (last_live h) live rows s)
@@ -200,12 +207,12 @@ kinds-tell-merges h live rows none s = (to, from)
 
     to : is_merge (kind (last_live h) live rows) rows s ≡ true → IsMerge (last_live h) live rows s
     to e =
-        let p = and_parts (list_any (names s) rows) _ e in
-        let each = AllPass-from_list_all (λ (r : Row). is_merged (kind (last_live h) live rows r.old)) (filter (names s) rows) p.1 in
+        let p = and_parts (list_any (names_successor s) rows) _ e in
+        let each = AllPass-from_list_all (λ (r : Row). is_merged (kind (last_live h) live rows r.old)) (filter (names_successor s) rows) p.1 in
         record {
           named = p.0;
-          several = several-of (filter (names s) rows) (filter-some (names s) rows p.0) each there;
-          alone = λ k d l. (one-row (get_or (filter (names s) rows) k d) (each k d l) (there k d l)).0;
+          several = several-of (filter (names_successor s) rows) (filter-some (names_successor s) rows p.0) each there;
+          alone = λ k d l. (one-row (get_or (filter (names_successor s) rows) k d) (each k d l) (there k d l)).0;
         }
 
     merges : IsMerge (last_live h) live rows s → (r : Row) → has_id (successors rows r.old) s ≡ true → length (successors rows r.old) ≡ 1 → is_merged (kind (last_live h) live rows r.old) ≡ true
@@ -216,6 +223,6 @@ kinds-tell-merges h live rows none s = (to, from)
         merged-to _ _ _ _ _ d.0 d.1 d.2 few (x.1 ∙ many _ m.several)
 
     from : IsMerge (last_live h) live rows s → is_merge (kind (last_live h) live rows) rows s ≡ true
-    from m = and_from (list_any (names s) rows) _ m.named
-        (list_all-from_AllPass (λ (r : Row). is_merged (kind (last_live h) live rows r.old)) (filter (names s) rows)
-        (λ k d l. merges m (get_or (filter (names s) rows) k d) (there k d l) (m.alone k d l)))
+    from m = and_from (list_any (names_successor s) rows) _ m.named
+        (list_all-from_AllPass (λ (r : Row). is_merged (kind (last_live h) live rows r.old)) (filter (names_successor s) rows)
+        (λ k d l. merges m (get_or (filter (names_successor s) rows) k d) (there k d l) (m.alone k d l)))

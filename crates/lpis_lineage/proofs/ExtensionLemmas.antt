@@ -2,7 +2,7 @@
 use Rattle.std.proofs.Common.{◌≡◌, ◌∙◌, ◌<◌, ◌≤◌, ◌+◌, ◌⊎◌, inl, inr, refl, sym, ap, subst, arith, ℕ, zero, suc, List, [], ◌∷◌, ◌++◌, length, Bool, true, false, length-append, get_or, ◌||◌, filter}
 use Rattle.lpis_lineage.specs.ExactGroups.{MarksHold, is_outside}
 use Rattle.lpis_lineage.specs.Kinds.{kind}
-use Rattle.lpis_lineage.proofs.Common.{list_any, Row, Entry, has_id, holds, entry_at, names, is_of, same_row, last_live, last_year, IsAnswered, IsLawful, RowsFit, Follows}
+use Rattle.lpis_lineage.proofs.Common.{list_any, Row, Entry, has_id, holds, entry_at, names_successor, is_row_of, same_row, last_live, last_year, IsAnswered, IsLawful, RowsFit, Follows}
 use Rattle.lpis_lineage.specs.Lawful.{Drops}
 use Rattle.lpis_lineage.proofs.IdentifierLemmas.{same-refl, entry-before, entry-here, entry-after, in-history}
 
@@ -117,14 +117,15 @@ answers h e law f id i d =
 pub beyond : (h : List Entry) (i : ℕ) → length h ≤ i → (test : Row → Bool) → list_any test (entry_at h i).rows ≡ false
 beyond h i le test = ap (λ (x : Entry). list_any test x.rows) (entry-after h i le)
 
-heirs : (h : List Entry) (e : Entry) → IsLawful h → Follows h e.live e.rows → (id : List ℕ) (i : ℕ) → list_any (names id) (entry_at (h ++ e ∷ []) i).rows ≡ true → holds (h ++ e ∷ []) i id ≡ true
+heirs : (h : List Entry) (e : Entry) → IsLawful h → Follows h e.live e.rows → (id : List ℕ) (i : ℕ) → list_any (names_successor id) (entry_at (h ++ e ∷ []) i).rows ≡ true
+    → holds (h ++ e ∷ []) i id ≡ true
 heirs h e law f id i named =
     let n = longer h e in
     elim (before-at-after i (length h)) as (λ _. holds (h ++ e ∷ []) i id ≡ true) [
-      | inl a ↦ hold-before h e i id a ∙ law.successors id i (ap (λ (x : Entry). list_any (names id) x.rows) (sym (entry-before h e i a)) ∙ named)
+      | inl a ↦ hold-before h e i id a ∙ law.successors id i (ap (λ (x : Entry). list_any (names_successor id) x.rows) (sym (entry-before h e i a)) ∙ named)
       | inr b ↦ elim b as (λ _. holds (h ++ e ∷ []) i id ≡ true) [
-        | inl at ↦ hold-here h e i id at ∙ f.named id (ap (λ (x : Entry). list_any (names id) x.rows) (sym (entry-at h e i at)) ∙ named)
-        | inr c ↦ absurd (let no = beyond (h ++ e ∷ []) i (omega (arith, n)) (names id) in cc)
+        | inl at ↦ hold-here h e i id at ∙ f.named id (ap (λ (x : Entry). list_any (names_successor id) x.rows) (sym (entry-at h e i at)) ∙ named)
+        | inr c ↦ absurd (let no = beyond (h ++ e ∷ []) i (omega (arith, n)) (names_successor id) in cc)
       ]
     ]
 
@@ -137,9 +138,9 @@ lawful-more h e law y f = record {
   successors = heirs h e law f;
 }
 
-no-rows : (rows : List Row) → ((id : List ℕ) → list_any (is_of id) rows ≡ true → false ≡ true) → rows ≡ []
+no-rows : (rows : List Row) → ((id : List ℕ) → list_any (is_row_of id) rows ≡ true → false ≡ true) → rows ≡ []
 no-rows [] never = refl
-no-rows (r ∷ rs) never = absurd (let s = same-refl r.old in let a = never r.old (ap (λ (b : Bool). b || list_any (is_of r.old) rs) s) in cc)
+no-rows (r ∷ rs) never = absurd (let s = same-refl r.old in let a = never r.old (ap (λ (b : Bool). b || list_any (is_row_of r.old) rs) s) in cc)
 
 first-rows : (h : List Entry) (e : Entry) → RowsFit h → Follows h e.live e.rows → (entry_at (h ++ e ∷ []) 0).rows ≡ []
 first-rows [] e fit f = no-rows e.rows (λ id is. (f.dropped id is).0)
@@ -157,20 +158,21 @@ once-more h e fit f row i =
       ]
     ]
 
-drops-more : (h : List Entry) (e : Entry) → RowsFit h → Follows h e.live e.rows → (id : List ℕ) (i : ℕ) → list_any (is_of id) (entry_at (h ++ e ∷ []) (i + 1)).rows ≡ true → Drops (h ++ e ∷ []) i id
+drops-more : (h : List Entry) (e : Entry) → RowsFit h → Follows h e.live e.rows → (id : List ℕ) (i : ℕ) → list_any (is_row_of id) (entry_at (h ++ e ∷ []) (i + 1)).rows ≡ true
+    → Drops (h ++ e ∷ []) i id
 drops-more h e fit f id i is =
     let n = longer h e in
     elim (before-at-after (i + 1) (length h)) as (λ _. Drops (h ++ e ∷ []) i id) [
       | inl a ↦
           let il : i < length h = omega arith in
-          let d = fit.of_dropped id i (ap (λ (x : Entry). list_any (is_of id) x.rows) (sym (entry-before h e (i + 1) a)) ∙ is) in
+          let d = fit.of_dropped id i (ap (λ (x : Entry). list_any (is_row_of id) x.rows) (sym (entry-before h e (i + 1) a)) ∙ is) in
           (omega (arith, n), hold-before h e i id il ∙ d.1, hold-before h e (i + 1) id a ∙ d.2)
       | inr b ↦ elim b as (λ _. Drops (h ++ e ∷ []) i id) [
         | inl at ↦
             let il : i < length h = omega arith in
-            let d = f.dropped id (ap (λ (x : Entry). list_any (is_of id) x.rows) (sym (entry-at h e (i + 1) at)) ∙ is) in
+            let d = f.dropped id (ap (λ (x : Entry). list_any (is_row_of id) x.rows) (sym (entry-at h e (i + 1) at)) ∙ is) in
             (omega (arith, n), hold-before h e i id il ∙ ap (λ (l : List (List ℕ)). has_id l id) (last-at h i at) ∙ d.0, hold-here h e (i + 1) id at ∙ d.1)
-        | inr c ↦ absurd (let no = beyond (h ++ e ∷ []) (i + 1) (omega (arith, n)) (is_of id) in cc)
+        | inr c ↦ absurd (let no = beyond (h ++ e ∷ []) (i + 1) (omega (arith, n)) (is_row_of id) in cc)
       ]
     ]
 
@@ -222,18 +224,18 @@ back-answered h e law id was gone =
     let P : Entry → Type 0 = λ x. IsAnswered x.rows id in
     subst P (entry-at h e (last.0 + 1) last.1) (law.continued id last.0 (let k = last.1 in omega (arith, k, n), hold-before h e last.0 id il ∙ last.2, hold-here h e (last.0 + 1) id last.1 ∙ gone))
 
-back-named : (h : List Entry) (e : Entry) → IsLawful (h ++ e ∷ []) → (id : List ℕ) → list_any (names id) e.rows ≡ true → has_id e.live id ≡ true
-back-named h e law id named = sym (hold-here h e (length h) id refl) ∙ law.successors id (length h) (ap (λ (x : Entry). list_any (names id) x.rows) (entry-here h e) ∙ named)
+back-named : (h : List Entry) (e : Entry) → IsLawful (h ++ e ∷ []) → (id : List ℕ) → list_any (names_successor id) e.rows ≡ true → has_id e.live id ≡ true
+back-named h e law id named = sym (hold-here h e (length h) id refl) ∙ law.successors id (length h) (ap (λ (x : Entry). list_any (names_successor id) x.rows) (entry-here h e) ∙ named)
 
 back-once : (h : List Entry) (e : Entry) → RowsFit (h ++ e ∷ []) → (row : Row) → length (filter (same_row row) e.rows) ≤ 1
 back-once h e fit row = let P : Entry → Type 0 = λ x. length (filter (same_row row) x.rows) ≤ 1 in subst P (entry-here h e) (fit.once row (length h))
 
-back-dropped : (h : List Entry) (e : Entry) → RowsFit (h ++ e ∷ []) → (id : List ℕ) → list_any (is_of id) e.rows ≡ true → (has_id (last_live h) id ≡ true) × (has_id e.live id ≡ false)
-back-dropped [] e fit id is = let none : e.rows ≡ [] = fit.first in absurd (let no = ap (λ (rs : List Row). list_any (is_of id) rs) none in cc)
+back-dropped : (h : List Entry) (e : Entry) → RowsFit (h ++ e ∷ []) → (id : List ℕ) → list_any (is_row_of id) e.rows ≡ true → (has_id (last_live h) id ≡ true) × (has_id e.live id ≡ false)
+back-dropped [] e fit id is = let none : e.rows ≡ [] = fit.first in absurd (let no = ap (λ (rs : List Row). list_any (is_row_of id) rs) none in cc)
 back-dropped (x ∷ t) e fit id is =
     let at : length t + 1 ≡ length (x ∷ t) = omega arith in
     let il : length t < length (x ∷ t) = omega arith in
-    let d = fit.of_dropped id (length t) (ap (λ (y : Entry). list_any (is_of id) y.rows) (entry-at (x ∷ t) e (length t + 1) at) ∙ is) in
+    let d = fit.of_dropped id (length t) (ap (λ (y : Entry). list_any (is_row_of id) y.rows) (entry-at (x ∷ t) e (length t + 1) at) ∙ is) in
     (sym (hold-before (x ∷ t) e (length t) id il) ∙ d.1, sym (hold-here (x ∷ t) e (length t + 1) id at) ∙ d.2)
 
 back-marked : (h : List Entry) (e : Entry) → RowsFit (h ++ e ∷ []) → MarksHold (last_live h) e.live e.rows

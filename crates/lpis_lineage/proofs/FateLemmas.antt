@@ -1,7 +1,7 @@
 -- The kinds, from the two passes over the rows.
 use Rattle.std.proofs.Common.{◌≡◌, ◌<◌, ◌+◌, refl, arith, ℕ, List, [], ◌∷◌, ◌++◌, length, Bool, true, false, None, Some, cond, get_or, ◌&&◌, ◌||◌, not}
 use Rattle.std.proofs.Common.{is_some, nat_lt}
-use Rattle.lpis_lineage.proofs.Common.{nat_tests, list_any, Row, has_id, same_id, is_of, ended, names, is_this, times, heirs, kind}
+use Rattle.lpis_lineage.proofs.Common.{nat_tests, list_any, Row, has_id, same_id, is_row_of, is_ended, names_successor, is_this, id_times, heirs, kind}
 use Rattle.lpis_lineage.proofs.Common.{IsTally, AreFates}
 use Rattle.std.proofs.lemmas.List.Folds.{list_any_at}
 use Rattle.std.proofs.lemmas.List.{append-nil}
@@ -13,18 +13,18 @@ use Rattle.lpis_lineage.proofs.RowCountLemmas.{filter-some}
 use Rattle.lpis_lineage.proofs.SeenLemmas.{row-more}
 
 -- an identifier has as many successors as rows with one
-pub successors-count : (rows : List Row) (id : List ℕ) → length (successors rows id) ≡ times (olds rows) id
+pub successors-count : (rows : List Row) (id : List ℕ) → length (successors rows id) ≡ id_times (olds rows) id
 successors-count [] id = refl
 successors-count (r ∷ rs) id = grind (arith, successors-count rs id)
 
 -- some successor passes where some row of the identifier has one that passes
-pub successors-any : (p : List ℕ → Bool) (rows : List Row) (id : List ℕ) → list_any p (successors rows id) ≡ list_any (λ r. is_of id r && on_some p r.new) rows
+pub successors-any : (p : List ℕ → Bool) (rows : List Row) (id : List ℕ) → list_any p (successors rows id) ≡ list_any (λ r. is_row_of id r && on_some p r.new) rows
 successors-any p [] id = refl
 successors-any p (r ∷ rs) id = grind (arith, successors-any p rs id)
 
 -- a named successor has several predecessors where rows name it twice, or it is kept
 pub shared-test : (ids : List (List ℕ)) (s : List ℕ) (kept : Bool) → has_id ids s ≡ true
-    → (nat_lt 1 (times ids s) || kept) ≡ nat_lt 1 (times ids s + cond kept 1 0)
+    → (nat_lt 1 (id_times ids s) || kept) ≡ nat_lt 1 (id_times ids s + cond kept 1 0)
 shared-test ids s kept there = grind (arith, nat_tests, filter-some (same_id s) ids there)
 
 olds-push : (rs : List Row) (r : Row) → olds (rs ++ r ∷ []) ≡ olds rs ++ cond (is_some r.new) (r.old ∷ []) []
@@ -56,16 +56,16 @@ pub last-part : (t k l x : Bool) → t ≡ false → k ≡ true → x ≡ l → 
 last-part t k l x e f g = grind arith
 
 pub kind-counted : (last live : List (List ℕ)) (rows : List Row) (id : List ℕ) (several shared : Bool) (k : Kind) → has_id last id ≡ true
-    → has_id live id ≡ false → ended rows id ≡ false
-    → several ≡ nat_lt 1 (times (olds rows) id) → shared ≡ list_any (λ r. is_of id r && on_some (is_shared last live rows) r.new) rows
+    → has_id live id ≡ false → is_ended rows id ≡ false
+    → several ≡ nat_lt 1 (id_times (olds rows) id) → shared ≡ list_any (λ r. is_row_of id r && on_some (is_shared last live rows) r.new) rows
     → k ≡ by_counts several shared → Some k ≡ kind last live rows id
 kind-counted last live rows id several shared k was gone unended s h c =
     rw (was, gone, unended, successors-count rows id, successors-any (is_shared last live rows) rows id, ← s, ← h, c)
 
-heirs-has : (rows : List Row) (s : List ℕ) → list_any (names s) rows ≡ true → has_id (heirs rows) s ≡ true
+heirs-has : (rows : List Row) (s : List ℕ) → list_any (names_successor s) rows ≡ true → has_id (heirs rows) s ≡ true
 heirs-has [] s e = cc e
 heirs-has (r ∷ rs) s e = grind (arith, heirs-has rs s)
 
 pub heir-named : (rows : List Row) (i : ℕ) (r : Row) → i < length rows → r ≡ get_or rows i r → (s : List ℕ) → is_this s r.new ≡ true
     → has_id (heirs rows) s ≡ true
-heir-named rows i r lt is s e = heirs-has rows s (list_any_at (names s) rows i r lt (rw (← is) e))
+heir-named rows i r lt is s e = heirs-has rows s (list_any_at (names_successor s) rows i r lt (rw (← is) e))

@@ -5,12 +5,12 @@ use Rattle.std.proofs.lemmas.Bool.{and_from, and_parts}
 use Rattle.std.proofs.lemmas.List.{map-append}
 use Rattle.std.proofs.lemmas.List.Elements.{All-append, All-cons, All-nil, All-weaker, filter-append}
 use Rattle.std.proofs.lemmas.List.Folds.{list_any_at, list_any_more}
-use Rattle.lpis_lineage.proofs.Common.{list_any, Row, ended, has_id, same_id, is_of, names}
+use Rattle.lpis_lineage.proofs.Common.{list_any, Row, is_ended, has_id, same_id, is_row_of, names_successor}
 use Rattle.lpis_lineage.specs.declared.exact.Group.{Group}
 use Rattle.lpis_lineage.specs.declared.kind.Kind.{Kind}
 use Rattle.lpis_lineage.specs.Changes.{Changes, IsChange, kind_at}
 use Rattle.lpis_lineage.specs.Descendants.{leads}
-use Rattle.lpis_lineage.specs.ExactGroups.{AreExactGroups, as_split, is_exact_merge, is_exact_split, is_kept, is_other, is_split, leads_into, named}
+use Rattle.lpis_lineage.specs.ExactGroups.{AreExactGroups, as_split, is_exact_merge, is_exact_split, is_kept, is_other, is_split, leads_into, group_name}
 use Rattle.lpis_lineage.specs.Kinds.{predecessors, successors}
 use Rattle.lpis_lineage.specs.Order.{IsAscending}
 use Rattle.lpis_lineage.specs.private.Gathered.{HasOthers, as_group, gathers, is_exact_of}
@@ -34,32 +34,33 @@ names-next f p ids i id lt is =
     ∙ ap (λ (xs : List (List ℕ)). map f (filter p xs)) (take-at ids i id lt is)
 
 -- a group that is added
-pub names-added : (gs : List Group) (g : Group) (merge : Bool) (id : List ℕ) (p : List ℕ → Bool) (new : List Group) → new ≡ gs ++ g ∷ [] → named g ≡ as_group merge id → p id ≡ true
-    → map named new ≡ map named gs ++ map (as_group merge) (filter p (id ∷ []))
+pub names-added : (gs : List Group) (g : Group) (merge : Bool) (id : List ℕ) (p : List ℕ → Bool) (new : List Group) → new ≡ gs ++ g ∷ [] → group_name g ≡ as_group merge id → p id ≡ true
+    → map group_name new ≡ map group_name gs ++ map (as_group merge) (filter p (id ∷ []))
 names-added gs g merge id p new e n t =
-    ap (λ (xs : List Group). map named xs) e ∙ map-append named gs (g ∷ []) ∙ ap (λ (x : Bool × List ℕ). map named gs ++ x ∷ []) n
-    ∙ ap (λ (b : Bool). map named gs ++ map (as_group merge) (cond b (id ∷ []) [])) (sym t)
+    ap (λ (xs : List Group). map group_name xs) e ∙ map-append group_name gs (g ∷ []) ∙ ap (λ (x : Bool × List ℕ). map group_name gs ++ x ∷ []) n
+    ∙ ap (λ (b : Bool). map group_name gs ++ map (as_group merge) (cond b (id ∷ []) [])) (sym t)
 
-pub names-passed : (gs : List Group) (merge : Bool) (id : List ℕ) (p : List ℕ → Bool) → p id ≡ false → map named gs ≡ map named gs ++ map (as_group merge) (filter p (id ∷ []))
-names-passed gs merge id p t = sym (plain (map named gs)) ∙ ap (λ (b : Bool). map named gs ++ map (as_group merge) (cond b (id ∷ []) [])) (sym t)
+pub names-passed : (gs : List Group) (merge : Bool) (id : List ℕ) (p : List ℕ → Bool) → p id ≡ false → map group_name gs ≡ map group_name gs ++ map (as_group merge) (filter p (id ∷ []))
+names-passed gs merge id p t = sym (plain (map group_name gs)) ∙ ap (λ (b : Bool). map group_name gs ++ map (as_group merge) (cond b (id ∷ []) [])) (sym t)
   where
     plain : (xs : List (Bool × List ℕ)) → xs ++ [] ≡ xs
     plain [] = refl
     plain (x ∷ xs) = ap (λ (ys : List (Bool × List ℕ)). x ∷ ys) (plain xs)
 
 -- ---- the others of a group
-gathered-merge : (s x : List ℕ) (t : Bool) (rows : List Row) → list_any (λ (r : Row). names s r && (is_of x r || t)) rows ≡ (list_any (leads x s) rows || (list_any (names s) rows && t))
+gathered-merge : (s x : List ℕ) (t : Bool) (rows : List Row) → list_any (λ (r : Row). names_successor s r
+    && (is_row_of x r || t)) rows ≡ (list_any (leads x s) rows || (list_any (names_successor s) rows && t))
 gathered-merge s x t [] = refl
 gathered-merge s x t (r ∷ rs) = grind (arith, gathered-merge s x t rs)
 
-gathered : (kind_of : List ℕ → Option Kind) (rows : List Row) (merge : Bool) (id x : List ℕ) → (merge ≡ true → list_any (names id) rows ≡ true)
+gathered : (kind_of : List ℕ → Option Kind) (rows : List Row) (merge : Bool) (id x : List ℕ) → (merge ≡ true → list_any (names_successor id) rows ≡ true)
     → list_any (gathers kind_of merge id x) rows ≡ cond merge (leads_into kind_of rows id x) (list_any (leads id x) rows)
 gathered kind_of rows false id x there = refl
 gathered kind_of rows true id x there = gathered-merge id x (same_id x id && is_kept (kind_of x)) rows
     ∙ ap (λ (b : Bool). list_any (leads x id) rows || (b && (same_id x id && is_kept (kind_of x)))) (there refl)
 
-pub has-others : (kind_of : List ℕ → Option Kind) (rows : List Row) (merge : Bool) (id : List ℕ) (set : List (List ℕ)) (g : Group) → (merge ≡ true → list_any (names id) rows ≡ true)
-    → ((x : List ℕ) → has_id set x ≡ list_any (gathers kind_of merge id x) rows) → named g ≡ as_group merge id → g.others ≡ set → IsAscending g.others → HasOthers kind_of rows merge g
+pub has-others : (kind_of : List ℕ → Option Kind) (rows : List Row) (merge : Bool) (id : List ℕ) (set : List (List ℕ)) (g : Group) → (merge ≡ true → list_any (names_successor id) rows ≡ true)
+    → ((x : List ℕ) → has_id set x ≡ list_any (gathers kind_of merge id x) rows) → group_name g ≡ as_group merge id → g.others ≡ set → IsAscending g.others → HasOthers kind_of rows merge g
 has-others kind_of rows merge id set g there are n o a = record {
   is_merge = m;
   ascend = a;
@@ -76,13 +77,13 @@ others-added kind_of rows merge gs new g e h a =
     (All-append (HasOthers kind_of rows merge) gs (g ∷ []) a (All-cons (HasOthers kind_of rows merge) g [] h (All-nil (HasOthers kind_of rows merge))))
 
 -- ---- all groups
-pub all-named : (ids : List (List ℕ)) (rows : List Row) → ((s : List ℕ) → has_id ids s ≡ list_any (names s) rows) → All (λ (id : List ℕ). list_any (names id) rows ≡ true) ids
+pub all-named : (ids : List (List ℕ)) (rows : List Row) → ((s : List ℕ) → has_id ids s ≡ list_any (names_successor s) rows) → All (λ (id : List ℕ). list_any (names_successor id) rows ≡ true) ids
 all-named ids rows e = λ k d l. let x = get_or ids k d in sym (e x) ∙ list_any_at (same_id x) ids k d l (same-refl x)
 
 -- an identifier of the kind split is dropped
 split-dropped : (last live : List (List ℕ)) (rows : List Row) (c : Changes) → IsChange last live rows c → (id : List ℕ) → is_split (kind_at c id) ≡ true → has_id c.dropped_ids id ≡ true
 split-dropped last live rows c is id e =
-    let p = split-of (has_id last id) (has_id live id) (ended rows id) (nat_lt 1 (length (successors rows id))) (list_any (λ s. nat_lt 1 (predecessors last live rows s)) (successors rows id))
+    let p = split-of (has_id last id) (has_id live id) (is_ended rows id) (nat_lt 1 (length (successors rows id))) (list_any (λ s. nat_lt 1 (predecessors last live rows s)) (successors rows id))
     (ap is_split (sym (is.kinds_are id)) ∙ e) in
     ap (λ (l : List (List ℕ)). has_id l id) is.dropped_are ∙ has-filter (λ x. not (has_id live x)) last id ∙ and_from (has_id last id) _ p.0 (ap not p.1)
 
@@ -96,21 +97,21 @@ left_parts true b c e = refl
 left_parts false b c e = cc e
 
 pub whole : (last live : List (List ℕ)) (c : Changes) (heirs : List (List ℕ)) (gs ms all : List Group) → IsChange last live c.rows c → IsAscending c.dropped_ids → IsAscending heirs
-    → ((s : List ℕ) → has_id heirs s ≡ list_any (names s) c.rows) → map named gs ≡ map (as_group false) (filter (is_exact_of false (kind_at c) c.rows) c.dropped_ids)
-    → map named ms ≡ map (as_group true) (filter (is_exact_of true (kind_at c) c.rows) heirs) → All (HasOthers (kind_at c) c.rows false) gs → All (HasOthers (kind_at c) c.rows true) ms
+    → ((s : List ℕ) → has_id heirs s ≡ list_any (names_successor s) c.rows) → map group_name gs ≡ map (as_group false) (filter (is_exact_of false (kind_at c) c.rows) c.dropped_ids)
+    → map group_name ms ≡ map (as_group true) (filter (is_exact_of true (kind_at c) c.rows) heirs) → All (HasOthers (kind_at c) c.rows false) gs → All (HasOthers (kind_at c) c.rows true) ms
     → all ≡ gs ++ ms → AreExactGroups (kind_at c) c.rows all
 whole last live c heirs gs ms all is da ha are n m o p e = record {
   splits = filter (is_exact_of false (kind_at c) c.rows) c.dropped_ids;
   merges = filter (is_exact_of true (kind_at c) c.rows) heirs;
-  listed = ap (λ (xs : List Group). map named xs) e ∙ map-append named gs ms
-      ∙ ap (λ (ns : List (Bool × List ℕ)). ns ++ map named ms) n
+  listed = ap (λ (xs : List Group). map group_name xs) e ∙ map-append group_name gs ms
+      ∙ ap (λ (ns : List (Bool × List ℕ)). ns ++ map group_name ms) n
       ∙ ap (λ (ns : List (Bool × List ℕ)). map as_split (filter (is_exact_of false (kind_at c) c.rows) c.dropped_ids) ++ ns) m;
   splits_ascend = ascending-filter (is_exact_of false (kind_at c) c.rows) c.dropped_ids da;
   merges_ascend = ascending-filter (is_exact_of true (kind_at c) c.rows) heirs ha;
   splits_are = λ id. has-filter (is_exact_of false (kind_at c) c.rows) c.dropped_ids id
       ∙ absorbed (has_id c.dropped_ids id) (is_exact_split (kind_at c) c.rows id) (λ t. split-dropped last live c.rows c is id (and_parts (is_split (kind_at c id)) _ t).0);
   merges_are = λ s. has-filter (is_exact_of true (kind_at c) c.rows) heirs s
-      ∙ absorbed (has_id heirs s) (is_exact_merge (kind_at c) c.rows s) (λ t. are s ∙ left_parts (list_any (names s) c.rows) _ _ t);
+      ∙ absorbed (has_id heirs s) (is_exact_merge (kind_at c) c.rows s) (λ t. are s ∙ left_parts (list_any (names_successor s) c.rows) _ _ t);
   others_ascend = subst (λ (xs : List Group). All (λ (g : Group). IsAscending g.others) xs) (sym e)
       (All-append (λ (g : Group). IsAscending g.others) gs ms (ascends false gs o) (ascends true ms p));
   others = subst (λ (xs : List Group). All (λ (g : Group). (q : List ℕ) → has_id g.others q ≡ is_other (kind_at c) c.rows g q) xs) (sym e)

@@ -1,6 +1,6 @@
 -- How many rows a test picks, and how many end an identifier.
 use Rattle.std.proofs.Common.{◌≡◌, ◌∙◌, ◌≤◌, ◌+◌, inl, inr, refl, sym, ap, arith, suc, ℕ, List, [], ◌∷◌, ◌++◌, length, Bool, true, false, Option, None, Some, cond, ◌&&◌, ◌||◌, not, is_some, filter}
-use Rattle.lpis_lineage.proofs.Common.{list_any, cases_Bool, Row, ended, succeeded, is_of, same_row, IsAnswered}
+use Rattle.lpis_lineage.proofs.Common.{list_any, cases_Bool, Row, is_ended, succeeded, is_row_of, same_row, IsAnswered}
 use Rattle.lpis_lineage.specs.Lineage.{same_new}
 use Rattle.lpis_lineage.specs.Lawful.{endings}
 
@@ -34,7 +34,7 @@ filter-some p (x ∷ xs) e = by-test p x xs (p x) (filter-some p xs) e where
 -- endings of one identifier are equal rows
 pub one-ending : (rows : List Row) (id : List ℕ) → ((row : Row) → length (filter (same_row row) rows) ≤ 1) → endings rows id ≤ 1
 one-ending rows id once = let same = filter-alike _ (same_row (record { old = id; new = None; exact = false })) rows
-    (λ r. ap (λ (b : Bool). is_of id r && b) (no-heir r.new)) in let few = once (record { old = id; new = None; exact = false }) in
+    (λ r. ap (λ (b : Bool). is_row_of id r && b) (no-heir r.new)) in let few = once (record { old = id; new = None; exact = false }) in
     omega (arith, same, few)
   where
     no-heir : (o : Option (List ℕ)) → not (is_some o) ≡ same_new None o
@@ -52,12 +52,12 @@ one-ending rows id once = let same = filter-alike _ (same_row (record { old = id
         by-test false true e more = absurd (cc e)
 
 -- what has an ending has a row that is one
-ended-counted : (rows : List Row) (id : List ℕ) → ended rows id ≡ true → endings rows id ≡ 0 → false ≡ true
+ended-counted : (rows : List Row) (id : List ℕ) → is_ended rows id ≡ true → endings rows id ≡ 0 → false ≡ true
 ended-counted rows id e none = absurd (let some = filter-some _ rows e in omega (arith, some, none))
 
-pub counted-ended : (rows : List Row) (id : List ℕ) → endings rows id ≡ 1 → ended rows id ≡ true
-counted-ended rows id one = elim (cases_Bool (ended rows id)) as (λ _. ended rows id ≡ true) [ inl e ↦ e | inr n ↦ absurd (let none = filter-none _ rows n in omega (arith, one, none)) ]
+pub counted-ended : (rows : List Row) (id : List ℕ) → endings rows id ≡ 1 → is_ended rows id ≡ true
+counted-ended rows id one = elim (cases_Bool (is_ended rows id)) as (λ _. is_ended rows id ≡ true) [ inl e ↦ e | inr n ↦ absurd (let none = filter-none _ rows n in omega (arith, one, none)) ]
 
-pub from-answered : (rows : List Row) (id : List ℕ) → IsAnswered rows id → ended rows id ≡ true → succeeded rows id ≡ true → false ≡ true
+pub from-answered : (rows : List Row) (id : List ℕ) → IsAnswered rows id → is_ended rows id ≡ true → succeeded rows id ≡ true → false ≡ true
 from-answered rows id (inl l) e s = sym l.1 ∙ s
 from-answered rows id (inr r) e s = ended-counted rows id e r.0

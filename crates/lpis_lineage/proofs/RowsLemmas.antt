@@ -7,7 +7,7 @@ use Rattle.lpis_covers.specs.declared.fault.TableFault.TheVariants.{Memory, At}
 use Rattle.lpis_covers.specs.Faults.{id_faults, unless_faulty}
 use Rattle.lpis_covers.specs.Table.{Answers, Fields, field_of}
 use Rattle.lpis_covers.proofs.Shared.{column-fault, column-passed, fault-retold}
-use Rattle.lpis_lineage.specs.LineageTable.{AnswersRows, lineage_faults, mark_faults, mark_in, row_of, successor_faults, successor_of}
+use Rattle.lpis_lineage.specs.LineageTable.{AnswersRows, lineage_faults, mark_field_faults, mark_of_text, row_of, successor_faults, successor_of}
 
 -- an empty field
 pub successor-none : (n : ℕ) (field : List ℕ) → field ≡ [] → unless_faulty (successor_faults n field) (successor_of field) ≡ Ok None
@@ -48,35 +48,36 @@ make-row old new exact = record { old = old; new = new; exact = exact }
 -- a row of its three columns
 pub row-told : (n : ℕ) (row : Fields) (old : List ℕ) (new : Option (List ℕ)) (exact : Bool)
     → unless_faulty (id_faults Lineage n (field_of row 0)) (field_of row 0) ≡ Ok old → unless_faulty (successor_faults n (field_of row 1))
-    (successor_of (field_of row 1)) ≡ Ok new → unless_faulty (mark_faults n (mark_in (field_of row 2))) (unwrap_or (mark_in (field_of row 2)) false) ≡ Ok exact
+    (successor_of (field_of row 1)) ≡ Ok new → unless_faulty (mark_field_faults n (mark_of_text (field_of row 2))) (unwrap_or (mark_of_text (field_of row 2)) false) ≡ Ok exact
     → unless_faulty (lineage_faults n row) (row_of row) ≡ Ok (record { old = old; new = new; exact = exact })
 row-told n row old new exact e f g =
-    three-told make-row (id_faults Lineage n (field_of row 0)) (successor_faults n (field_of row 1)) (mark_faults n (mark_in (field_of row 2)))
-    (field_of row 0) old (successor_of (field_of row 1)) new (unwrap_or (mark_in (field_of row 2)) false) exact e f g
+    three-told make-row (id_faults Lineage n (field_of row 0)) (successor_faults n (field_of row 1)) (mark_field_faults n (mark_of_text (field_of row 2)))
+    (field_of row 0) old (successor_of (field_of row 1)) new (unwrap_or (mark_of_text (field_of row 2)) false) exact e f g
 
 pub row-fault-old : (n : ℕ) (row : Fields) (f : TableFault) → Answers {A = List ℕ} (Err f)
     (unless_faulty (id_faults Lineage n (field_of row 0)) (field_of row 0))
     → Answers {A = Row} (Err f) (unless_faulty (lineage_faults n row) (row_of row))
-row-fault-old n row f h = column-fault (id_faults Lineage n (field_of row 0)) (successor_faults n (field_of row 1) ++ mark_faults n (mark_in (field_of row 2))) (field_of row 0) (row_of row) f h
+row-fault-old n row f h =
+    column-fault (id_faults Lineage n (field_of row 0)) (successor_faults n (field_of row 1) ++ mark_field_faults n (mark_of_text (field_of row 2))) (field_of row 0) (row_of row) f h
 
 pub row-fault-new : (n : ℕ) (row : Fields) (old : List ℕ) (f : TableFault) → unless_faulty (id_faults Lineage n (field_of row 0))
     (field_of row 0) ≡ Ok old → Answers {A = Option (List ℕ)} (Err f)
     (unless_faulty (successor_faults n (field_of row 1)) (successor_of (field_of row 1)))
     → Answers {A = Row} (Err f) (unless_faulty (lineage_faults n row) (row_of row))
 row-fault-new n row old f e h = column-passed {A = List ℕ} {B = Row} (id_faults Lineage n (field_of row 0))
-    (successor_faults n (field_of row 1) ++ mark_faults n (mark_in (field_of row 2))) (field_of row 0) old (Err f) (row_of row) e
-    (column-fault (successor_faults n (field_of row 1)) (mark_faults n (mark_in (field_of row 2))) (successor_of (field_of row 1)) (row_of row) f h)
+    (successor_faults n (field_of row 1) ++ mark_field_faults n (mark_of_text (field_of row 2))) (field_of row 0) old (Err f) (row_of row) e
+    (column-fault (successor_faults n (field_of row 1)) (mark_field_faults n (mark_of_text (field_of row 2))) (successor_of (field_of row 1)) (row_of row) f h)
 
 pub row-fault-mark : (n : ℕ) (row : Fields) (old : List ℕ) (new : Option (List ℕ)) (f : TableFault)
     → unless_faulty (id_faults Lineage n (field_of row 0)) (field_of row 0) ≡ Ok old
     → unless_faulty (successor_faults n (field_of row 1)) (successor_of (field_of row 1)) ≡ Ok new
-    → Answers {A = Bool} (Err f) (unless_faulty (mark_faults n (mark_in (field_of row 2))) (unwrap_or (mark_in (field_of row 2)) false))
+    → Answers {A = Bool} (Err f) (unless_faulty (mark_field_faults n (mark_of_text (field_of row 2))) (unwrap_or (mark_of_text (field_of row 2)) false))
     → Answers {A = Row} (Err f) (unless_faulty (lineage_faults n row) (row_of row))
 row-fault-mark n row old new f e g h = column-passed {A = List ℕ} {B = Row} (id_faults Lineage n (field_of row 0))
-    (successor_faults n (field_of row 1) ++ mark_faults n (mark_in (field_of row 2))) (field_of row 0) old (Err f) (row_of row) e
-    (column-passed {A = Option (List ℕ)} {B = Row} (successor_faults n (field_of row 1)) (mark_faults n (mark_in (field_of row 2)))
+    (successor_faults n (field_of row 1) ++ mark_field_faults n (mark_of_text (field_of row 2))) (field_of row 0) old (Err f) (row_of row) e
+    (column-passed {A = Option (List ℕ)} {B = Row} (successor_faults n (field_of row 1)) (mark_field_faults n (mark_of_text (field_of row 2)))
     (successor_of (field_of row 1)) new (Err f) (row_of row) g
-    (fault-retold (mark_faults n (mark_in (field_of row 2))) (unwrap_or (mark_in (field_of row 2)) false) (row_of row) f h))
+    (fault-retold (mark_field_faults n (mark_of_text (field_of row 2))) (unwrap_or (mark_of_text (field_of row 2)) false) (row_of row) f h))
 
 -- the rows as a `Vec`
 pub rows-answered : (f : TableFault) (said : Result (List Row) TableFault) → Answers {A = List Row} (Err f) said → AnswersRows (Err f) said

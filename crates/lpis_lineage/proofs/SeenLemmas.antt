@@ -1,6 +1,6 @@
 -- What the sets of rows seen say of the next row.
 use Rattle.std.proofs.Common.{◌≡◌, ◌∙◌, refl, arith, ℕ, List, [], ◌∷◌, ◌++◌, Bool, true, Option, None, Some, cond, ◌&&◌, ◌||◌, not, is_some, is_eq, nat_cmp}
-use Rattle.lpis_lineage.proofs.Common.{list_any, slice_cmp, list_any-append, Row, has_id, same_id, is_of, is_this, same_row, clashes}
+use Rattle.lpis_lineage.proofs.Common.{list_any, slice_cmp, list_any-append, Row, has_id, same_id, is_row_of, is_this, same_row, clashes}
 use Rattle.std.proofs.Math.Bool.{or-false}
 use Rattle.lpis_lineage.proofs.Common.{IsSeen}
 use Rattle.std.specs.Ordering.{ordering_then}
@@ -20,9 +20,9 @@ or-cond a b = grind arith
 
 -- some row of the identifier passes: one did before, or the next one is of it and passes
 pub row-more : (t : Option (List ℕ) → Bool) (new : Option (List ℕ)) (q : List ℕ) (before : List Row) (r : Row) (was is : Bool) → r.new ≡ new
-    → was ≡ list_any (λ row. is_of q row && t row.new) before → is ≡ cond (t new && same_id r.old q) true was
-    → is ≡ list_any (λ row. is_of q row && t row.new) (before ++ r ∷ [])
-row-more t new q before r was is named e f = grind (arith, any-push (λ row. is_of q row && t row.new) before r, same-sym q r.old)
+    → was ≡ list_any (λ row. is_row_of q row && t row.new) before → is ≡ cond (t new && same_id r.old q) true was
+    → is ≡ list_any (λ row. is_row_of q row && t row.new) (before ++ r ∷ [])
+row-more t new q before r was is named e f = grind (arith, any-push (λ row. is_row_of q row && t row.new) before r, same-sym q r.old)
 
 -- an ending stands before where the set of endings has the old identifier
 pub doubled-end : (s : Seen) (before : List Row) (r : Row) → IsSeen s before → r.new ≡ None → has_id s.ended r.old ≡ list_any (same_row r) before

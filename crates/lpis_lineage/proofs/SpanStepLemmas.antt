@@ -2,7 +2,7 @@
 use Rattle.std.proofs.Common.{◌≡◌, ◌∙◌, ◌<◌, ◌≤◌, refl, sym, ap, subst, arith, ℕ, List, [], ◌∷◌, ◌++◌, length, Bool, true, false, Option, None, Some, cond, ◌&&◌, not, filter, is_some}
 use Rattle.lpis_lineage.proofs.Common.{option_or, has_id, Row, Entry, Span, entry_at, holds, last_live, last_year, IsLawful, RowsFit, faults, Follows, first_held, last_held, span_between, span_of}
 use Rattle.lpis_lineage.proofs.Common.{begun, ended_in}
-use Rattle.lpis_lineage.specs.Accepts.{IsRelease}
+use Rattle.lpis_lineage.specs.Accepts.{IsReleaseEntry}
 use Rattle.lpis_lineage.specs.private.Keeping.{IsHistory}
 use Rattle.lpis_lineage.proofs.IdentifierLemmas.{in-history, entry-here}
 use Rattle.lpis_lineage.proofs.ExtensionLemmas.{last-at, last-some, longer, year-at}
@@ -108,7 +108,7 @@ history-same h new old spans keeps n s = record {
 
 -- a history with a release more that has no fault
 pub history-more : (h new : List Entry) (e : Entry) (live : List (List ℕ)) (rows : List Row) (year : ℕ) (fresh gone : List (List ℕ)) (old mid more spans : List ℕ → Option Span)
-    → IsHistory h old → faults h live rows ≡ [] → IsRelease live rows e → e.year ≡ year → last_year h < year → new ≡ h ++ e ∷ []
+    → IsHistory h old → faults h live rows ≡ [] → IsReleaseEntry live rows e → e.year ≡ year → last_year h < year → new ≡ h ++ e ∷ []
     → fresh ≡ filter (λ id. not (is_some (span_of h id))) e.live → gone ≡ filter (λ id. not (has_id e.live id)) (last_live h)
     → ((q : List ℕ) → mid q ≡ old q) → ((q : List ℕ) → more q ≡ begun (has_id fresh q) year (mid q)) → ((q : List ℕ) → spans q ≡ ended_in (has_id gone q) (last_year h) (more q)) → IsHistory new spans
 history-more h new e live rows year fresh gone old mid more spans keeps clean is at later n ef eg reserved begins ends =

@@ -4,7 +4,8 @@ use Rattle.std.proofs.Common.{is_some, filter}
 use Rattle.lpis_lineage.specs.ExactGroups.{is_outside}
 use Rattle.lpis_lineage.specs.Kinds.{kind}
 use Rattle.lpis_lineage.proofs.ExtensionLemmas.{Marked}
-use Rattle.lpis_lineage.proofs.Common.{list_any, has_id, same_id, Row, Entry, Span, holds, entry_at, names, is_of, same_row, last_live, last_year, IsAnswered, IsLawful, RowsFit, first_held, last_held}
+use Rattle.lpis_lineage.proofs.Common.{list_any, has_id, same_id, Row, Entry, Span, holds, entry_at, names_successor, is_row_of, same_row, last_live, last_year, IsAnswered, IsLawful, RowsFit}
+use Rattle.lpis_lineage.proofs.Common.{first_held, last_held}
 use Rattle.lpis_lineage.proofs.Common.{span_between, span_of, begun, ended_in, forgotten}
 use Rattle.std.proofs.lemmas.Bool.{eq-eqb}
 use Rattle.std.proofs.lemmas.Bool.Decides.{eqb_tells}
@@ -30,10 +31,10 @@ more-drops h e i id d =
     let il : i < length h = omega arith in
     (omega (arith, n), hold-before h e i id il ∙ d.1, hold-before h e (i + 1) id next ∙ d.2)
 
-less-named : (h : List Entry) (e : Entry) → IsLawful (h ++ e ∷ []) → (id : List ℕ) (i : ℕ) → list_any (names id) (entry_at h i).rows ≡ true → holds h i id ≡ true
+less-named : (h : List Entry) (e : Entry) → IsLawful (h ++ e ∷ []) → (id : List ℕ) (i : ℕ) → list_any (names_successor id) (entry_at h i).rows ≡ true → holds h i id ≡ true
 less-named h e law id i named = elim (before-at-after i (length h)) as (λ _. holds h i id ≡ true) [
-  | inl a ↦ sym (hold-before h e i id a) ∙ law.successors id i (ap (λ (x : Entry). list_any (names id) x.rows) (entry-before h e i a) ∙ named)
-  | inr b ↦ absurd (let no = beyond h i (elim b as (λ _. length h ≤ i) [ inl at ↦ omega arith | inr c ↦ omega arith ]) (names id) in cc)
+  | inl a ↦ sym (hold-before h e i id a) ∙ law.successors id i (ap (λ (x : Entry). list_any (names_successor id) x.rows) (entry-before h e i a) ∙ named)
+  | inr b ↦ absurd (let no = beyond h i (elim b as (λ _. length h ≤ i) [ inl at ↦ omega arith | inr c ↦ omega arith ]) (names_successor id) in cc)
 ]
 
 less-lawful : (h : List Entry) (e : Entry) → IsLawful (h ++ e ∷ []) → IsLawful h
@@ -65,13 +66,13 @@ less-once h e fit row i =
       | inr b ↦ subst P (sym (entry-after h i (elim b as (λ _. length h ≤ i) [ inl at ↦ omega arith | inr c ↦ omega arith ]))) (omega arith)
     ]
 
-less-dropped : (h : List Entry) (e : Entry) → RowsFit (h ++ e ∷ []) → (id : List ℕ) (i : ℕ) → list_any (is_of id) (entry_at h (i + 1)).rows ≡ true → Drops h i id
+less-dropped : (h : List Entry) (e : Entry) → RowsFit (h ++ e ∷ []) → (id : List ℕ) (i : ℕ) → list_any (is_row_of id) (entry_at h (i + 1)).rows ≡ true → Drops h i id
 less-dropped h e fit id i is = elim (before-at-after (i + 1) (length h)) as (λ _. Drops h i id) [
   | inl a ↦
       let il : i < length h = omega arith in
-      let d = fit.of_dropped id i (ap (λ (x : Entry). list_any (is_of id) x.rows) (entry-before h e (i + 1) a) ∙ is) in
+      let d = fit.of_dropped id i (ap (λ (x : Entry). list_any (is_row_of id) x.rows) (entry-before h e (i + 1) a) ∙ is) in
       (a, sym (hold-before h e i id il) ∙ d.1, sym (hold-before h e (i + 1) id a) ∙ d.2)
-  | inr b ↦ absurd (let no = beyond h (i + 1) (elim b as (λ _. length h ≤ i + 1) [ inl at ↦ omega arith | inr c ↦ omega arith ]) (is_of id) in cc)
+  | inr b ↦ absurd (let no = beyond h (i + 1) (elim b as (λ _. length h ≤ i + 1) [ inl at ↦ omega arith | inr c ↦ omega arith ]) (is_row_of id) in cc)
 ]
 
 less-marked : (h : List Entry) (e : Entry) → RowsFit (h ++ e ∷ []) → (i : ℕ) → Marked (entry_at h i) (entry_at h (i + 1))

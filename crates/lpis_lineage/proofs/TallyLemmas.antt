@@ -1,6 +1,6 @@
 -- A list, one identifier longer.
 use Rattle.std.proofs.Common.{◌≡◌, ◌∙◌, ◌<◌, ◌+◌, refl, sym, ap, subst, arith, ℕ, List, [], ◌∷◌, ◌++◌, length, Bool, true, false, Option, None, Some, cond, take, get_or, ◌||◌, nat_lt}
-use Rattle.lpis_lineage.proofs.Common.{nat_tests, Row, has_id, same_id, times, heirs, IsTally}
+use Rattle.lpis_lineage.proofs.Common.{nat_tests, Row, has_id, same_id, id_times, heirs, IsTally}
 use Rattle.std.proofs.Math.Bool.{or-false}
 use Rattle.lpis_lineage.specs.declared.tally.Tally.{Tally}
 use Rattle.lpis_lineage.specs.Kinds.{with_some}
@@ -10,17 +10,17 @@ use Rattle.lpis_lineage.proofs.SeenLemmas.{any-push, or-cond}
 use Rattle.lpis_lineage.proofs.TellingLemmas.{take-at}
 
 -- one more is a second one where it is the same and was there
-twice-more : (ids : List (List ℕ)) (id q : List ℕ) → nat_lt 1 (times (ids ++ id ∷ []) q) ≡ cond (same_id q id) (nat_lt 0 (times ids q)) (nat_lt 1 (times ids q))
-twice-more ids id q = ap (λ (n : ℕ). nat_lt 1 n) (filter-append (same_id q) ids (id ∷ [])) ∙ by (same_id q id) (times ids q) where
+twice-more : (ids : List (List ℕ)) (id q : List ℕ) → nat_lt 1 (id_times (ids ++ id ∷ []) q) ≡ cond (same_id q id) (nat_lt 0 (id_times ids q)) (nat_lt 1 (id_times ids q))
+twice-more ids id q = ap (λ (n : ℕ). nat_lt 1 n) (filter-append (same_id q) ids (id ∷ [])) ∙ by (same_id q id) (id_times ids q) where
   by : (b : Bool) (n : ℕ) → nat_lt 1 (n + length (cond b (id ∷ []) [])) ≡ cond b (nat_lt 0 n) (nat_lt 1 n)
   by true n = grind (arith, nat_tests)
   by false n = grind (arith, nat_tests)
 
-some-times : (ids : List (List ℕ)) (q : List ℕ) → nat_lt 0 (times ids q) ≡ has_id ids q
+some-times : (ids : List (List ℕ)) (q : List ℕ) → nat_lt 0 (id_times ids q) ≡ has_id ids q
 some-times ids q = by (has_id ids q) refl where
-  by : (b : Bool) → b ≡ has_id ids q → nat_lt 0 (times ids q) ≡ has_id ids q
-  by true e = let n = filter-some (same_id q) ids (sym e) in (let t : nat_lt 0 (times ids q) ≡ true = grind (arith, nat_tests) in t ∙ e)
-  by false e = let n = filter-none (same_id q) ids (sym e) in (let t : nat_lt 0 (times ids q) ≡ false = grind (arith, nat_tests) in t ∙ e)
+  by : (b : Bool) → b ≡ has_id ids q → nat_lt 0 (id_times ids q) ≡ has_id ids q
+  by true e = let n = filter-some (same_id q) ids (sym e) in (let t : nat_lt 0 (id_times ids q) ≡ true = grind (arith, nat_tests) in t ∙ e)
+  by false e = let n = filter-none (same_id q) ids (sym e) in (let t : nat_lt 0 (id_times ids q) ≡ false = grind (arith, nat_tests) in t ∙ e)
 
 same-both : (id q : List ℕ) (ids : List (List ℕ)) (b : Bool) → has_id ids id ≡ b → same_id q id ≡ true → has_id ids q ≡ b
 same-both id q ids b e s = let P : List ℕ → Type 0 = λ z. has_id ids z ≡ b in subst P (sym (same-exact q id s)) e
@@ -38,7 +38,7 @@ tally-again s t ids id tally there once new = record {
   by-once q true e = let h = same-both id q ids true (sym (tally.once_are id) ∙ there) (sym e) in grind arith
   by-once q false e = sym (or-false (has_id ids q))
 
-  by-twice : (q : List ℕ) (b : Bool) → b ≡ same_id q id → cond b true (nat_lt 1 (times ids q)) ≡ cond b (nat_lt 0 (times ids q)) (nat_lt 1 (times ids q))
+  by-twice : (q : List ℕ) (b : Bool) → b ≡ same_id q id → cond b true (nat_lt 1 (id_times ids q)) ≡ cond b (nat_lt 0 (id_times ids q)) (nat_lt 1 (id_times ids q))
   by-twice q true e = sym (some-times ids q ∙ same-both id q ids true (sym (tally.once_are id) ∙ there) (sym e))
   by-twice q false e = refl
 
@@ -49,7 +49,7 @@ tally-new s t ids id tally absent twice new = record {
   once_are = λ q. new q ∙ or-cond (same_id id q) _ ∙ ap (λ (b : Bool). b || same_id id q) (tally.once_are q) ∙ ap (λ (b : Bool). has_id ids q || b) (same-sym id q) ∙ sym (any-push (same_id q) ids id);
   twice_are = λ q. ap (λ (l : List (List ℕ)). has_id l q) twice ∙ tally.twice_are q ∙ by-twice q (same_id q id) refl ∙ sym (twice-more ids id q);
 } where
-  by-twice : (q : List ℕ) (b : Bool) → b ≡ same_id q id → nat_lt 1 (times ids q) ≡ cond b (nat_lt 0 (times ids q)) (nat_lt 1 (times ids q))
+  by-twice : (q : List ℕ) (b : Bool) → b ≡ same_id q id → nat_lt 1 (id_times ids q) ≡ cond b (nat_lt 0 (id_times ids q)) (nat_lt 1 (id_times ids q))
   by-twice q true e = let z = some-times ids q ∙ same-both id q ids false (sym (tally.once_are id) ∙ absent) (sym e) in grind (arith, nat_tests)
   by-twice q false e = refl
 

@@ -2,7 +2,8 @@
 use Rattle.std.proofs.Common.{◌≡◌, ◌∙◌, ◌<◌, ◌+◌, ◌⊎◌, inl, inr, refl, sym, ap, subst, ℕ, suc, List, [], ◌∷◌, ◌++◌, length, Bool, true, false, Option, None, Some, take, drop, get_or}
 use Rattle.std.proofs.Common.{◌&&◌, ◌||◌, not, is_some, add-one, drop-cons}
 use Rattle.std.proofs.lemmas.List.{take_more}
-use Rattle.lpis_lineage.proofs.Common.{list_any, Row, Entry, LineageFault, has_id, ended, succeeded, is_of, last_live, same_row, fault_before, clashes, faults_but_marks, row_faults, dropped_faults, used_faults}
+use Rattle.lpis_lineage.proofs.Common.{list_any, Row, Entry, LineageFault, has_id, is_ended, succeeded, is_row_of, last_live, same_row, fault_before, clashes, faults_but_marks, lineage_row_faults}
+use Rattle.lpis_lineage.proofs.Common.{dropped_faults, used_faults}
 use Rattle.lpis_lineage.proofs.Common.{first}
 use Rattle.lpis_lineage.specs.declared.fault.LineageFault.TheVariants.{Memory, OldNotLive, OldStillLive, SuccessorMissing, DoubledRow, EndingBesideSuccessor, NoRow}
 use Rattle.lpis_lineage.specs.Faults.{is_missing, faults_of_row}
@@ -42,18 +43,18 @@ take-at {A} xs i x lt is = ap (λ (y : A). take i xs ++ y ∷ []) is ∙ sym (ta
 
 -- the rows, one further
 pub rows-step : (last live : List (List ℕ)) (rows : List Row) (i k : ℕ) (r : Row) → i < length rows → r ≡ get_or rows i r → faults_of_row last live (take i rows) k r [] ≡ []
-    → row_faults last live (take i rows) k (drop i rows) ≡ row_faults last live (take (i + 1) rows) (k + 1) (drop (i + 1) rows)
+    → lineage_row_faults last live (take i rows) k (drop i rows) ≡ lineage_row_faults last live (take (i + 1) rows) (k + 1) (drop (i + 1) rows)
 rows-step last live rows i k r lt is none =
-    ap (λ (xs : List Row). row_faults last live (take i rows) k xs) (drop-at rows i r lt is)
+    ap (λ (xs : List Row). lineage_row_faults last live (take i rows) k xs) (drop-at rows i r lt is)
     ∙ (row-falls last live (take i rows) k r _).when_none none
-    ∙ ap (λ (xs : List Row). row_faults last live xs (k + 1) (drop (i + 1) rows)) (take-at rows i r lt is)
+    ∙ ap (λ (xs : List Row). lineage_row_faults last live xs (k + 1) (drop (i + 1) rows)) (take-at rows i r lt is)
 
 pub rows-stop : (last live : List (List ℕ)) (rows : List Row) (i k : ℕ) (r : Row) (e : LineageFault) → i < length rows → r ≡ get_or rows i r
     → (e ≡ Memory) ⊎ (first (faults_of_row last live (take i rows) k r []) ≡ Some e)
-    → (all : List LineageFault) → all ≡ row_faults last live (take i rows) k (drop i rows) → (e ≡ Memory) ⊎ (first all ≡ Some e)
+    → (all : List LineageFault) → all ≡ lineage_row_faults last live (take i rows) k (drop i rows) → (e ≡ Memory) ⊎ (first all ≡ Some e)
 rows-stop last live rows i k r e lt is (inl m) all eq = inl m
 rows-stop last live rows i k r e lt is (inr t) all eq = inr (
-    ap first eq ∙ ap (λ (xs : List Row). first (row_faults last live (take i rows) k xs)) (drop-at rows i r lt is)
+    ap first eq ∙ ap (λ (xs : List Row). first (lineage_row_faults last live (take i rows) k xs)) (drop-at rows i r lt is)
     ∙ (row-falls last live (take i rows) k r _).when_told e t)
 
 pub seen-next : (rows : List Row) (i : ℕ) (r : Row) (P : List Row → Type 0) → i < length rows → r ≡ get_or rows i r → P (take i rows ++ r ∷ []) → P (take (i + 1) rows)
@@ -70,7 +71,8 @@ pub used-stop : (h : List Entry) (last ids : List (List ℕ)) (i : ℕ) (id : Li
 used-stop h last ids i id f lt is t = ap (λ (l : List (List ℕ)). first (used_faults h last l)) (drop-at ids i id lt is) ∙ t
 
 -- a set with the same members has the same faults
-pub rows-live : (last a b : List (List ℕ)) (before : List Row) (k : ℕ) (rows : List Row) → ((q : List ℕ) → has_id a q ≡ has_id b q) → row_faults last a before k rows ≡ row_faults last b before k rows
+pub rows-live : (last a b : List (List ℕ)) (before : List Row) (k : ℕ) (rows : List Row) → ((q : List ℕ) → has_id a q ≡ has_id b q)
+    → lineage_row_faults last a before k rows ≡ lineage_row_faults last b before k rows
 rows-live last a b before k [] e = refl
 rows-live last a b before k (r ∷ rs) e =
     (told-same (not (has_id last r.old)) (not (has_id last r.old)) (OldNotLive k) _ _ refl
@@ -85,29 +87,29 @@ rows-live last a b before k (r ∷ rs) e =
 
 pub dropped-live : (a b : List (List ℕ)) (rows : List Row) (ids : List (List ℕ)) → ((q : List ℕ) → has_id a q ≡ has_id b q) → dropped_faults a rows ids ≡ dropped_faults b rows ids
 dropped-live a b rows [] e = refl
-dropped-live a b rows (x ∷ xs) e = told-same (not (has_id a x) && not (list_any (is_of x) rows))
-    (not (has_id b x) && not (list_any (is_of x) rows)) (NoRow x) _ _
-    (ap (λ (t : Bool). not t && not (list_any (is_of x) rows)) (e x)) (dropped-live a b rows xs e)
+dropped-live a b rows (x ∷ xs) e = told-same (not (has_id a x) && not (list_any (is_row_of x) rows))
+    (not (has_id b x) && not (list_any (is_row_of x) rows)) (NoRow x) _ _
+    (ap (λ (t : Bool). not t && not (list_any (is_row_of x) rows)) (e x)) (dropped-live a b rows xs e)
 
 -- a row's old identifier has an ending or a successor
-pub of-either : (rows : List Row) (id : List ℕ) → (ended rows id || succeeded rows id) ≡ list_any (is_of id) rows
+pub of-either : (rows : List Row) (id : List ℕ) → (is_ended rows id || succeeded rows id) ≡ list_any (is_row_of id) rows
 of-either [] id = refl
-of-either (r ∷ rs) id = by (is_of id r) (is_some r.new) _ _ ∙ ap (λ (b : Bool). is_of id r || b) (of-either rs id) where
+of-either (r ∷ rs) id = by (is_row_of id r) (is_some r.new) _ _ ∙ ap (λ (b : Bool). is_row_of id r || b) (of-either rs id) where
   by : (a b c d : Bool) → (((a && not b) || c) || ((a && b) || d)) ≡ (a || (c || d))
   by true true true d = refl
   by true true false d = refl
   by true false c d = refl
   by false b c d = refl
 
-pub row-then : (rows : List Row) (id : List ℕ) (x : Bool) → x ≡ ended rows id → x ≡ true → x ≡ list_any (is_of id) rows
+pub row-then : (rows : List Row) (id : List ℕ) (x : Bool) → x ≡ is_ended rows id → x ≡ true → x ≡ list_any (is_row_of id) rows
 row-then rows id x e t = t ∙ sym (ap (λ (b : Bool). b || succeeded rows id) (sym e ∙ t)) ∙ of-either rows id
 
-pub row-else : (rows : List Row) (id : List ℕ) (x y : Bool) → x ≡ ended rows id → x ≡ false → y ≡ succeeded rows id → y ≡ list_any (is_of id) rows
+pub row-else : (rows : List Row) (id : List ℕ) (x y : Bool) → x ≡ is_ended rows id → x ≡ false → y ≡ succeeded rows id → y ≡ list_any (is_row_of id) rows
 row-else rows id x y e f g = g ∙ sym (ap (λ (b : Bool). b || succeeded rows id) (sym e ∙ f)) ∙ of-either rows id
 
 -- where rows and dropped identifiers have no fault, those of used identifiers are left
 pub passed : (h : List Entry) (set live : List (List ℕ)) (rows : List Row)
-    → ((q : List ℕ) → has_id set q ≡ has_id live q) → row_faults (last_live h) set [] 1 rows ≡ []
+    → ((q : List ℕ) → has_id set q ≡ has_id live q) → lineage_row_faults (last_live h) set [] 1 rows ≡ []
     → dropped_faults set rows (last_live h) ≡ []
     → faults_but_marks h live rows ≡ used_faults h (last_live h) live
 passed h set live rows alike no-rows none =

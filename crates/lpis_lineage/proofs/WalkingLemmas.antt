@@ -1,6 +1,6 @@
 -- Faults of identifiers, looked for among those alone that another set lacks.
 use Rattle.std.proofs.Common.{◌≡◌, ◌∙◌, refl, sym, ap, ℕ, List, [], ◌∷◌, Bool, true, false, Option, None, Some, cond, ◌&&◌, not, is_some, filter}
-use Rattle.lpis_lineage.proofs.Common.{list_any, has_id, Row, Entry, Span, LineageFault, is_of, last_live, fault_before, dropped_faults, used_faults, last_held, span_of}
+use Rattle.lpis_lineage.proofs.Common.{list_any, has_id, Row, Entry, Span, LineageFault, is_row_of, last_live, fault_before, dropped_faults, used_faults, last_held, span_of}
 use Rattle.lpis_lineage.specs.declared.fault.LineageFault.TheVariants.{NoRow}
 use Rattle.lpis_lineage.specs.Faults.{used_fault_before}
 use Rattle.lpis_lineage.proofs.CleanLemmas.{used-clean, clean-used}
@@ -10,15 +10,15 @@ use Rattle.lpis_lineage.proofs.SpanStepLemmas.{none-held, unlive-none}
 -- the faults of identifiers that have no row
 abbrev pub rowless : List Row → List (List ℕ) → List LineageFault
 rowless rows [] = []
-rowless rows (id ∷ ids) = fault_before (not (list_any (is_of id) rows)) (NoRow id) (rowless rows ids)
+rowless rows (id ∷ ids) = fault_before (not (list_any (is_row_of id) rows)) (NoRow id) (rowless rows ids)
 
 pub dropped-rowless : (live : List (List ℕ)) (rows : List Row) (ids : List (List ℕ)) → dropped_faults live rows ids ≡ rowless rows (filter (λ id. not (has_id live id)) ids)
 dropped-rowless live rows [] = refl
 dropped-rowless live rows (x ∷ xs) = by (has_id live x) (dropped_faults live rows xs) (dropped-rowless live rows xs) where
   by : (b : Bool) (d : List LineageFault) → d ≡ rowless rows (filter (λ id. not (has_id live id)) xs)
-      → fault_before (not b && not (list_any (is_of x) rows)) (NoRow x) d ≡ rowless rows (cond (not b) (x ∷ filter (λ id. not (has_id live id)) xs) (filter (λ id. not (has_id live id)) xs))
+      → fault_before (not b && not (list_any (is_row_of x) rows)) (NoRow x) d ≡ rowless rows (cond (not b) (x ∷ filter (λ id. not (has_id live id)) xs) (filter (λ id. not (has_id live id)) xs))
   by true d e = e
-  by false d e = ap (λ (l : List LineageFault). fault_before (not (list_any (is_of x) rows)) (NoRow x) l) e
+  by false d e = ap (λ (l : List LineageFault). fault_before (not (list_any (is_row_of x) rows)) (NoRow x) l) e
 
 -- identifiers of the last release are no faults
 pub used-lacking : (h : List Entry) (last ids : List (List ℕ)) → used_faults h last ids ≡ used_faults h last (filter (λ id. not (has_id last id)) ids)

@@ -12,18 +12,18 @@ use Rattle.lpis_lineage.specs.Lawful.{IsLawful, RowsFit}
 use Rattle.lpis_lineage.specs.Faults.{faults, first}
 
 -- a release with this set of identifiers and these rows
-pub record IsRelease (live : List (List ℕ)) (rows : List Row) (e : Entry) : Type 0 where
+pub record IsReleaseEntry (live : List (List ℕ)) (rows : List Row) (e : Entry) : Type 0 where
   pub ids : (q : List ℕ) → has_id e.live q ≡ has_id live q
   pub rows_are : e.rows ≡ rows
 
 -- with this release at its end, in whatever later year, the history is lawful and its rows fit
 abbrev pub MayFollow : List Entry → List (List ℕ) → List Row → Type 0
-MayFollow h live rows = (e : Entry) → IsRelease live rows e → last_year h < e.year
+MayFollow h live rows = (e : Entry) → IsReleaseEntry live rows e → last_year h < e.year
     → IsLawful (h ++ e ∷ []) × RowsFit (h ++ e ∷ [])
 
 -- in no later year it is
 abbrev pub NeverFollows : List Entry → List (List ℕ) → List Row → Type 0
-NeverFollows h live rows = (e : Entry) → IsRelease live rows e → IsLawful (h ++ e ∷ [])
+NeverFollows h live rows = (e : Entry) → IsReleaseEntry live rows e → IsLawful (h ++ e ∷ [])
     → RowsFit (h ++ e ∷ []) → ⊥
 
 -- Ok exactly where the release may follow
@@ -35,7 +35,7 @@ Decides h live rows (Err e) = (e ≡ WantsMemory) ⊎ NeverFollows h live rows
 -- the history with the release at its end
 abbrev pub Adds : List Entry → List Entry → ℕ → List (List ℕ) → List Row → Type 0
 Adds old new year live rows = (e : Entry) × (new ≡ old ++ e ∷ []) × (e.year ≡ year)
-    × IsRelease live rows e
+    × IsReleaseEntry live rows e
 
 -- what `add` answers
 abbrev pub AddTells : {A : Type 0} → List Entry → ℕ → List (List ℕ) → List Row → Result A AddFault

@@ -4,7 +4,7 @@ use Rattle.std.specs.List.{list_any}
 use Rattle.lpis_lineage.specs.declared.row.Row.{Row}
 use Rattle.lpis_lineage.specs.declared.row.Entry.{Entry}
 use Rattle.lpis_covers.specs.Ids.{has_id}
-use Rattle.lpis_lineage.specs.Lineage.{is_of, names, last_live}
+use Rattle.lpis_lineage.specs.Lineage.{is_row_of, names_successor, last_live}
 
 -- all rows of a history
 abbrev pub all_rows : List Entry → List Row
@@ -13,7 +13,7 @@ all_rows (e ∷ h) = e.rows ++ all_rows h
 
 -- the row leads from one identifier to another
 abbrev pub leads : List ℕ → List ℕ → Row → Bool
-leads a b row = is_of a row && names b row
+leads a b row = is_row_of a row && names_successor b row
 
 -- a chain of rows from old to new, of any length from none on
 pub data Chain (rows : List Row) (a : List ℕ) : List ℕ → Type 0 where

@@ -9,7 +9,7 @@ use Rattle.lpis_lineage.specs.declared.exact.Group.{Group}
 use Rattle.lpis_lineage.specs.declared.row.Row.{Row}
 use Rattle.lpis_lineage.specs.Descendants.{leads}
 use Rattle.lpis_lineage.specs.Kinds.{kind}
-use Rattle.lpis_lineage.specs.Lineage.{is_of, names}
+use Rattle.lpis_lineage.specs.Lineage.{is_row_of, names_successor}
 use Rattle.lpis_lineage.specs.Order.{IsAscending}
 
 -- an identifier was split
@@ -29,18 +29,18 @@ is_kept _ = false
 
 -- some row names the successor, and each that does merges its old identifier
 abbrev pub is_merge : (List ℕ → Option Kind) → List Row → List ℕ → Bool
-is_merge kind_of rows s = list_any (names s) rows
-    && list_all (λ row. is_merged (kind_of row.old)) (filter (names s) rows)
+is_merge kind_of rows s = list_any (names_successor s) rows
+    && list_all (λ row. is_merged (kind_of row.old)) (filter (names_successor s) rows)
 
 -- a split all of whose rows are marked
 abbrev pub is_exact_split : (List ℕ → Option Kind) → List Row → List ℕ → Bool
 is_exact_split kind_of rows id = is_split (kind_of id)
-    && list_all (λ row. row.exact) (filter (is_of id) rows)
+    && list_all (λ row. row.exact) (filter (is_row_of id) rows)
 
 -- a merge all of whose rows are marked
 abbrev pub is_exact_merge : (List ℕ → Option Kind) → List Row → List ℕ → Bool
 is_exact_merge kind_of rows s = is_merge kind_of rows s
-    && list_all (λ row. row.exact) (filter (names s) rows)
+    && list_all (λ row. row.exact) (filter (names_successor s) rows)
 
 -- there is a successor, and it is one of an exact merge
 abbrev pub is_into_merge : (List ℕ → Option Kind) → List Row → Option (List ℕ) → Bool
@@ -72,8 +72,8 @@ is_other kind_of rows g q =
     cond g.merge (leads_into kind_of rows g.id q) (list_any (leads g.id q) rows)
 
 -- a group by its kind and its identifier
-abbrev pub named : Group → Bool × List ℕ
-named g = (g.merge, g.id)
+abbrev pub group_name : Group → Bool × List ℕ
+group_name g = (g.merge, g.id)
 
 abbrev pub as_split : List ℕ → Bool × List ℕ
 as_split id = (false, id)
@@ -87,7 +87,7 @@ pub record AreExactGroups (kind_of : List ℕ → Option Kind) (rows : List Row)
     Type 0 where
   pub splits : List (List ℕ)
   pub merges : List (List ℕ)
-  pub listed : map named gs ≡ map as_split splits ++ map as_merge merges
+  pub listed : map group_name gs ≡ map as_split splits ++ map as_merge merges
   pub splits_ascend : IsAscending splits
   pub merges_ascend : IsAscending merges
   pub splits_are : (id : List ℕ) → has_id splits id ≡ is_exact_split kind_of rows id

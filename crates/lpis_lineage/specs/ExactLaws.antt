@@ -7,7 +7,7 @@ use Rattle.lpis_lineage.specs.declared.row.Row.{Row}
 use Rattle.lpis_lineage.specs.ExactGroups.{is_merge, is_split}
 use Rattle.lpis_lineage.specs.Faults.{faults}
 use Rattle.lpis_lineage.specs.Kinds.{kind, predecessors, successors}
-use Rattle.lpis_lineage.specs.Lineage.{last_live, names}
+use Rattle.lpis_lineage.specs.Lineage.{last_live, names_successor}
 
 -- a split: an old identifier with several successors, each of which has one predecessor
 pub record IsSplit (last live : List (List ℕ)) (rows : List Row) (id : List ℕ) : Type 0 where
@@ -19,9 +19,9 @@ pub record IsSplit (last live : List (List ℕ)) (rows : List Row) (id : List �
 -- a merge: a successor with several predecessors, each of which has no other successor; a kept
 -- successor is its own predecessor, and has no row
 pub record IsMerge (last live : List (List ℕ)) (rows : List Row) (s : List ℕ) : Type 0 where
-  pub named : list_any (names s) rows ≡ true
+  pub named : list_any (names_successor s) rows ≡ true
   pub several : 1 < predecessors last live rows s
-  pub alone : All (λ row. length (successors rows row.old) ≡ 1) (filter (names s) rows)
+  pub alone : All (λ row. length (successors rows row.old) ≡ 1) (filter (names_successor s) rows)
 
 -- of rows without a fault, kinds tell which identifiers were split
 abbrev pub KindsTellSplits : Type 0

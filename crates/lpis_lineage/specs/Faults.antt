@@ -11,7 +11,7 @@ use Rattle.lpis_lineage.specs.declared.fault.LineageFault.TheVariants.{Successor
 use Rattle.lpis_lineage.specs.declared.fault.LineageFault.TheVariants.{EndingBesideSuccessor, NoRow}
 use Rattle.lpis_lineage.specs.declared.fault.LineageFault.TheVariants.{UsedBefore}
 use Rattle.lpis_covers.specs.Ids.{has_id, same_id}
-use Rattle.lpis_lineage.specs.Lineage.{is_of, same_row, last_live}
+use Rattle.lpis_lineage.specs.Lineage.{is_row_of, same_row, last_live}
 use Rattle.lpis_lineage.specs.declared.fault.LineageFault.TheVariants.{MarkedOutside}
 use Rattle.lpis_lineage.specs.declared.kind.Kind.{Kind}
 use Rattle.lpis_lineage.specs.ExactGroups.{is_outside}
@@ -43,16 +43,17 @@ faults_of_row last live before k r others =
     fault_before (list_any (clashes r) before) (EndingBesideSuccessor k) others))))
 
 -- the faults of the rows, of which the first has this number; the rows `before` stand above them
-abbrev pub row_faults : List (List ℕ) → List (List ℕ) → List Row → ℕ → List Row → List LineageFault
-row_faults last live before k [] = []
-row_faults last live before k (r ∷ rs) = faults_of_row last live before k r
-    (row_faults last live (before ++ r ∷ []) (k + 1) rs)
+abbrev pub lineage_row_faults : List (List ℕ) → List (List ℕ) → List Row → ℕ → List Row
+    → List LineageFault
+lineage_row_faults last live before k [] = []
+lineage_row_faults last live before k (r ∷ rs) = faults_of_row last live before k r
+    (lineage_row_faults last live (before ++ r ∷ []) (k + 1) rs)
 
 -- the identifiers that are dropped and have no row
 abbrev pub dropped_faults : List (List ℕ) → List Row → List (List ℕ) → List LineageFault
 dropped_faults live rows [] = []
 dropped_faults live rows (id ∷ ids) =
-    fault_before (not (has_id live id) && not (list_any (is_of id) rows))
+    fault_before (not (has_id live id) && not (list_any (is_row_of id) rows))
     (NoRow id) (dropped_faults live rows ids)
 
 -- where it was held, and is not live in the last release, that is a fault
@@ -67,20 +68,20 @@ used_faults h last (id ∷ ids) = used_fault_before (last_held h id) (has_id las
 
 -- the marked rows that belong to no exact split and no exact merge, of which the first has this
 -- number
-abbrev pub mark_faults : (List ℕ → Option Kind) → List Row → ℕ → List Row → List LineageFault
-mark_faults kind_of all k [] = []
-mark_faults kind_of all k (r ∷ rs) = fault_before (is_outside kind_of all r) (MarkedOutside k)
-    (mark_faults kind_of all (k + 1) rs)
+abbrev pub marked_row_faults : (List ℕ → Option Kind) → List Row → ℕ → List Row → List LineageFault
+marked_row_faults kind_of all k [] = []
+marked_row_faults kind_of all k (r ∷ rs) = fault_before (is_outside kind_of all r) (MarkedOutside k)
+    (marked_row_faults kind_of all (k + 1) rs)
 
 -- the faults of the rows, then of dropped identifiers, then of used ones
 abbrev pub faults_but_marks : List Entry → List (List ℕ) → List Row → List LineageFault
-faults_but_marks h live rows = row_faults (last_live h) live [] 1 rows
+faults_but_marks h live rows = lineage_row_faults (last_live h) live [] 1 rows
     ++ (dropped_faults live rows (last_live h) ++ used_faults h (last_live h) live)
 
 -- all faults, in the order: those, then those of marks
 abbrev pub faults : List Entry → List (List ℕ) → List Row → List LineageFault
 faults h live rows = faults_but_marks h live rows
-    ++ mark_faults (kind (last_live h) live rows) rows 1 rows
+    ++ marked_row_faults (kind (last_live h) live rows) rows 1 rows
 
 -- the first of some faults
 abbrev pub first : List LineageFault → Option LineageFault

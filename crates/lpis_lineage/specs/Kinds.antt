@@ -7,7 +7,7 @@ use Rattle.lpis_lineage.specs.declared.kind.Kind.{Kind}
 use Rattle.lpis_lineage.specs.declared.kind.Kind.TheVariants.{Kept, Split, Merged, Replaced}
 use Rattle.lpis_lineage.specs.declared.kind.Kind.TheVariants.{Redrawn, Ended}
 use Rattle.lpis_covers.specs.Ids.{has_id, same_id}
-use Rattle.lpis_lineage.specs.Lineage.{is_of, ended}
+use Rattle.lpis_lineage.specs.Lineage.{is_row_of, is_ended}
 
 -- the identifier where there is one, before others
 abbrev pub with_some : Option (List ℕ) → List (List ℕ) → List (List ℕ)
@@ -20,16 +20,16 @@ heirs [] = []
 heirs (r ∷ rs) = with_some r.new (heirs rs)
 
 -- how often a list has an identifier
-abbrev pub times : List (List ℕ) → List ℕ → ℕ
-times ids id = length (filter (same_id id) ids)
+abbrev pub id_times : List (List ℕ) → List ℕ → ℕ
+id_times ids id = length (filter (same_id id) ids)
 
 -- the successors of an identifier
 abbrev pub successors : List Row → List ℕ → List (List ℕ)
-successors rows id = heirs (filter (is_of id) rows)
+successors rows id = heirs (filter (is_row_of id) rows)
 
 -- how many predecessors a successor has: the rows that name it, and itself where it is kept
 abbrev pub predecessors : List (List ℕ) → List (List ℕ) → List Row → List ℕ → ℕ
-predecessors last live rows s = times (heirs rows) s + cond (has_id last s && has_id live s) 1 0
+predecessors last live rows s = id_times (heirs rows) s + cond (has_id last s && has_id live s) 1 0
 
 -- by whether there are several successors, and whether one of them has several predecessors
 abbrev pub by_counts : Bool → Bool → Kind
@@ -41,6 +41,6 @@ by_counts true true = Redrawn
 -- the kind of an identifier, where it is live in the last release
 abbrev pub kind : List (List ℕ) → List (List ℕ) → List Row → List ℕ → Option Kind
 kind last live rows id =
-    cond (has_id last id) (Some (cond (has_id live id) Kept (cond (ended rows id) Ended
+    cond (has_id last id) (Some (cond (has_id live id) Kept (cond (is_ended rows id) Ended
     (by_counts (nat_lt 1 (length (successors rows id)))
     (list_any (λ s. nat_lt 1 (predecessors last live rows s)) (successors rows id)))))) None

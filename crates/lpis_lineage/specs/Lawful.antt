@@ -5,7 +5,8 @@ use Rattle.std.specs.List.{list_any, filter}
 use Rattle.lpis_lineage.specs.declared.row.Row.{Row}
 use Rattle.lpis_lineage.specs.declared.row.Entry.{Entry}
 use Rattle.lpis_lineage.specs.ExactGroups.{MarksHold}
-use Rattle.lpis_lineage.specs.Lineage.{holds, entry_at, succeeded, names, is_of, same_row}
+use Rattle.lpis_lineage.specs.Lineage.{holds, entry_at, succeeded, names_successor, is_row_of}
+use Rattle.lpis_lineage.specs.Lineage.{same_row}
 
 -- the release after index i drops the identifier: the one at i holds it, and the next doesn't
 abbrev pub Drops : List Entry → ℕ → List ℕ → Type 0
@@ -13,7 +14,7 @@ Drops h i id = (i + 1 < length h) × (holds h i id ≡ true) × (holds h (i + 1)
 
 -- how many rows end an identifier
 abbrev pub endings : List Row → List ℕ → ℕ
-endings rows id = length (filter (λ row. is_of id row && not (is_some row.new)) rows)
+endings rows id = length (filter (λ row. is_row_of id row && not (is_some row.new)) rows)
 
 -- the rows give an identifier either one ending or at least one successor, and not both
 abbrev pub IsAnswered : List Row → List ℕ → Type 0
@@ -32,7 +33,7 @@ pub record IsLawful (h : List Entry) : Type 0 where
   -- successor, and not both
   pub continued : (id : List ℕ) (i : ℕ) → Drops h i id → IsAnswered (entry_at h (i + 1)).rows id
   -- each successor is in its release
-  pub successors : (id : List ℕ) (i : ℕ) → list_any (names id) (entry_at h i).rows ≡ true
+  pub successors : (id : List ℕ) (i : ℕ) → list_any (names_successor id) (entry_at h i).rows ≡ true
       → holds h i id ≡ true
 
 -- its rows fit
@@ -42,7 +43,7 @@ pub record RowsFit (h : List Entry) : Type 0 where
   -- no row stands twice in a release
   pub once : (row : Row) (i : ℕ) → length (filter (same_row row) (entry_at h i).rows) ≤ 1
   -- each row's old identifier is one that its release drops
-  pub of_dropped : (id : List ℕ) (i : ℕ) → list_any (is_of id) (entry_at h (i + 1)).rows ≡ true
+  pub of_dropped : (id : List ℕ) (i : ℕ) → list_any (is_row_of id) (entry_at h (i + 1)).rows ≡ true
       → Drops h i id
   -- each marked row belongs to a split or a merge all of whose rows are marked
   pub marked : (i : ℕ) → MarksHold (entry_at h i).live (entry_at h (i + 1)).live

@@ -7,8 +7,8 @@ use Rattle.lpis_lineage.specs.declared.row.Row.{Row}
 use Rattle.lpis_lineage.specs.declared.row.Entry.{Entry}
 
 -- the row's old identifier is this one
-abbrev pub is_of : List ℕ → Row → Bool
-is_of id row = same_id id row.old
+abbrev pub is_row_of : List ℕ → Row → Bool
+is_row_of id row = same_id id row.old
 
 -- an identifier is this one, where there is any
 abbrev pub is_this : List ℕ → Option (List ℕ) → Bool
@@ -16,16 +16,16 @@ is_this id None = false
 is_this id (Some s) = same_id id s
 
 -- the row names this identifier as a successor
-abbrev pub names : List ℕ → Row → Bool
-names id row = is_this id row.new
+abbrev pub names_successor : List ℕ → Row → Bool
+names_successor id row = is_this id row.new
 
 -- some row ends this identifier
-abbrev pub ended : List Row → List ℕ → Bool
-ended rows id = list_any (λ row. is_of id row && not (is_some row.new)) rows
+abbrev pub is_ended : List Row → List ℕ → Bool
+is_ended rows id = list_any (λ row. is_row_of id row && not (is_some row.new)) rows
 
 -- some row gives this identifier a successor
 abbrev pub succeeded : List Row → List ℕ → Bool
-succeeded rows id = list_any (λ row. is_of id row && is_some row.new) rows
+succeeded rows id = list_any (λ row. is_row_of id row && is_some row.new) rows
 
 -- two successors are the same, or there is none in both rows
 abbrev pub same_new : Option (List ℕ) → Option (List ℕ) → Bool

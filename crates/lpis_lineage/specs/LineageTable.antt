@@ -22,27 +22,27 @@ successor_faults n [] = []
 successor_faults n (b ∷ bytes) = id_faults Lineage n (b ∷ bytes)
 
 -- whether a text marks a row: `1` does; `0` and no text do not; another one is no mark
-abbrev pub mark_in : List ℕ → Option Bool
-mark_in [] = Some false
-mark_in (b ∷ bytes) =
+abbrev pub mark_of_text : List ℕ → Option Bool
+mark_of_text [] = Some false
+mark_of_text (b ∷ bytes) =
     if bytes_eq (b ∷ bytes) (codes "0") then Some false else
     (if bytes_eq (b ∷ bytes) (codes "1") then Some true else None)
 
 -- the faults of a field that is to be a mark
-abbrev pub mark_faults : ℕ → Option Bool → List TableFault
-mark_faults n (Some mark) = []
-mark_faults n None = fault_at BadMark Lineage n ∷ []
+abbrev pub mark_field_faults : ℕ → Option Bool → List TableFault
+mark_field_faults n (Some mark) = []
+mark_field_faults n None = fault_at BadMark Lineage n ∷ []
 
 -- the faults of a row, in the order of the columns; no row is a fault for those above it
 abbrev pub lineage_faults : ℕ → Fields → List TableFault
 lineage_faults n row = id_faults Lineage n (field_of row 0)
-    ++ (successor_faults n (field_of row 1) ++ mark_faults n (mark_in (field_of row 2)))
+    ++ (successor_faults n (field_of row 1) ++ mark_field_faults n (mark_of_text (field_of row 2)))
 
 abbrev pub row_of : Fields → Row
 row_of row = record {
   old = field_of row 0;
   new = successor_of (field_of row 1);
-  exact = unwrap_or (mark_in (field_of row 2)) false;
+  exact = unwrap_or (mark_of_text (field_of row 2)) false;
 }
 
 -- a row has an old identifier, a new one or none, and a mark, which is empty where the column `exact`

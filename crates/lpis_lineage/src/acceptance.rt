@@ -4,7 +4,8 @@ ghost use Rattle.std.specs.Prelude.{◌≡◌, ◌++◌, ◌∷◌, ℕ, List, [
 ghost use Rattle.lpis_covers.specs.Ids.{has_id};
 ghost use Rattle.lpis_lineage.specs.declared.row.Row.{Row};
 ghost use Rattle.lpis_lineage.specs.Lineage.{last_live};
-ghost use Rattle.lpis_lineage.specs.Faults.{faults_of_row, row_faults, dropped_faults, used_faults};
+ghost use Rattle.lpis_lineage.specs.Faults.{faults_of_row, lineage_row_faults, dropped_faults};
+ghost use Rattle.lpis_lineage.specs.Faults.{used_faults};
 ghost use Rattle.lpis_lineage.specs.Faults.{faults, faults_but_marks, ReportsFirstOf};
 ghost use Rattle.lpis_lineage.specs.private.Seen.{IsSeen};
 ghost use Rattle.lpis_lineage.specs.Accepts.{Decides};
@@ -52,7 +53,7 @@ fn check_row(
 
 /// Looks at the rows.
 fn check_rows(alloc: Global, last: &IdSet, live: &IdSet, rows: &[Row]) -> Result<Seen, LineageFault>
-    ensures tells { ReportsFirstOf (row_faults last.now live.now [] 1 rows.now) result }
+    ensures tells { ReportsFirstOf (lineage_row_faults last.now live.now [] 1 rows.now) result }
     ensures seen { IfOk result (λ s. IsSeen s rows.now) }
 {
     let mut seen = Seen::new(alloc);

@@ -6,8 +6,9 @@ ghost use Rattle.std.specs.HashMap.{get};
 ghost use Rattle.std.specs.List.{list_any};
 ghost use Rattle.lpis_covers.specs.Ids.{has_id, same_id};
 ghost use Rattle.lpis_lineage.specs.Changes.{IsChange, kind_at};
-ghost use Rattle.lpis_lineage.specs.ExactGroups.{AreExactGroups, is_kept as is_kept_spec, named};
-ghost use Rattle.lpis_lineage.specs.Lineage.{names};
+ghost use Rattle.lpis_lineage.specs.ExactGroups.{AreExactGroups, is_kept as is_kept_spec};
+ghost use Rattle.lpis_lineage.specs.ExactGroups.{group_name};
+ghost use Rattle.lpis_lineage.specs.Lineage.{names_successor};
 ghost use Rattle.lpis_lineage.specs.Order.{IsAscending};
 ghost use Rattle.lpis_lineage.specs.declared.row.Row.{Row};
 ghost use Rattle.lpis_lineage.specs.private.Marks.{AreMarks};
@@ -135,7 +136,7 @@ fn group_of(
     merge: bool,
     id: &Id,
 ) -> Result<Group, AllocError>
-    ensures name { IfOk result (λ g. named g ≡ as_group merge id.now) }
+    ensures name { IfOk result (λ g. group_name g ≡ as_group merge id.now) }
     ensures others { IfOk result (λ g. g.others ≡ set_in (get same_id sets.now id.now)) }
     ensures ascend { IfOk result (λ g. IsAscending g.others) }
 {
@@ -151,7 +152,7 @@ fn group_of(
 /// Whether an identifier is of an exact split, or a successor that a row names of an exact merge.
 fn is_of_exact(change: &Change, marks: &Marks, merge: bool, id: &Id) -> bool
     ensures { (rows : List Row) → AreMarks (kind_at change.now) marks.now rows
-        → (merge ≡ true → list_any (names id.now) rows ≡ true)
+        → (merge ≡ true → list_any (names_successor id.now) rows ≡ true)
         → result ≡ is_exact_of merge (kind_at change.now) rows id.now }
 {
     if merge {
@@ -174,8 +175,8 @@ fn note_group(
     requires marks { AreMarks (kind_at change.now) marks.now change.now.rows }
     requires sets { AreGathered (kind_at change.now) merge change.now.rows
         (λ q. set_in (get same_id sets.now q)) }
-    requires named { merge ≡ true → list_any (names id.now) change.now.rows ≡ true }
-    ensures names { OnOk result (map named groups.new.items ≡ map named groups.old.items
+    requires named { merge ≡ true → list_any (names_successor id.now) change.now.rows ≡ true }
+    ensures names { OnOk result (map group_name groups.new.items ≡ map group_name groups.old.items
         ++ map (as_group merge) (filter (is_exact_of merge (kind_at change.now) change.now.rows)
         (id.now ∷ []))) }
     ensures others { All (HasOthers (kind_at change.now) change.now.rows merge) groups.old.items
@@ -200,8 +201,8 @@ fn groups_of(
 ) -> Result<Vec<Group>, AllocError>
     requires marks { AreMarks (kind_at change.now) marks.now change.now.rows }
     requires named { merge ≡ true
-        → All (λ (id : List ℕ). list_any (names id) change.now.rows ≡ true) ids.now }
-    ensures names { IfOk result (λ v. map named v.items
+        → All (λ (id : List ℕ). list_any (names_successor id) change.now.rows ≡ true) ids.now }
+    ensures names { IfOk result (λ v. map group_name v.items
         ≡ map (as_group merge) (filter (is_exact_of merge (kind_at change.now) change.now.rows)
         ids.now)) }
     ensures others { IfOk result (λ v. All (HasOthers (kind_at change.now) change.now.rows merge)
@@ -218,7 +219,7 @@ fn groups_of(
 /// Adds the successor of a row, where there is one.
 fn note_heir(heirs: &mut IdSet, row: &Row) -> Result<(), AllocError>
     ensures { OnOk result ((s : List ℕ) → has_id heirs.new s
-        ≡ (has_id heirs.old s || names s row.now)) }
+        ≡ (has_id heirs.old s || names_successor s row.now)) }
 {
     match &row.new {
         None => Ok(()),
@@ -234,7 +235,7 @@ fn note_heir(heirs: &mut IdSet, row: &Row) -> Result<(), AllocError>
 fn heirs_of(alloc: Global, change: &Change) -> Result<Vec<Id>, AllocError>
     ensures ascend { IfOk result (λ v. IsAscending v.items) }
     ensures are { IfOk result (λ v. (s : List ℕ) → has_id v.items s
-        ≡ list_any (names s) change.now.rows) }
+        ≡ list_any (names_successor s) change.now.rows) }
 {
     let mut heirs = IdSet::new(alloc);
     for row in change.rows() {

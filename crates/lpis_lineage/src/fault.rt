@@ -1,7 +1,7 @@
 //! Why a release's lineage is refused.
 
 ghost use Rattle.std.specs.Prelude.{◌≡◌};
-ghost use Rattle.lpis_lineage.specs.Codes.{code_of, code_text};
+ghost use Rattle.lpis_lineage.specs.Codes.{lineage_code_of, lineage_code_text};
 ghost use Rattle.lpis_lineage.specs.declared.fault.LineageFault.TheVariants.{Memory};
 
 use lpis_covers::Id;
@@ -32,7 +32,7 @@ pub enum LineageCode {
 impl LineageCode {
     /// The two characters that stand for the code in a refusal: `70` to `76`, and `78`.
     pub fn as_str(self) -> &'static str
-        ensures { result.now ≡ code_text self }
+        ensures { result.now ≡ lineage_code_text self }
     {
         match self {
             LineageCode::OldNotLive => "70",
@@ -83,7 +83,7 @@ pub enum LineageFault {
 impl LineageFault {
     /// Its code; `None` for out of memory.
     pub fn code(&self) -> Option<LineageCode>
-        ensures { result ≡ code_of self.now }
+        ensures { result ≡ lineage_code_of self.now }
     {
         match self {
             LineageFault::Memory => None,

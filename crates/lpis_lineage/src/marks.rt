@@ -9,9 +9,9 @@ ghost use Rattle.lpis_lineage.specs.Changes.{kind_at};
 ghost use Rattle.lpis_lineage.specs.ExactGroups.{is_exact_merge, is_exact_split, is_in_exact};
 ghost use Rattle.lpis_lineage.specs.ExactGroups.{is_merged as is_merged_spec};
 ghost use Rattle.lpis_lineage.specs.ExactGroups.{is_split as is_split_spec};
-ghost use Rattle.lpis_lineage.specs.Faults.{ReportsFirstOf, mark_faults};
+ghost use Rattle.lpis_lineage.specs.Faults.{ReportsFirstOf, marked_row_faults};
 ghost use Rattle.lpis_lineage.specs.Kinds.{kind};
-ghost use Rattle.lpis_lineage.specs.Lineage.{is_this, names};
+ghost use Rattle.lpis_lineage.specs.Lineage.{is_this, names_successor};
 ghost use Rattle.lpis_lineage.specs.private.Marks.{AreMarks};
 
 use crate::change::Change;
@@ -113,7 +113,7 @@ pub(crate) fn splits_exactly(change: &Change, marks: &Marks, id: &Id) -> bool
 /// Whether a successor that a row names is of an exact merge.
 pub(crate) fn merges_exactly(change: &Change, marks: &Marks, heir: &Id) -> bool
     ensures { (rows : List Row) → AreMarks (kind_at change.now) marks.now rows
-        → list_any (names heir.now) rows ≡ true
+        → list_any (names_successor heir.now) rows ≡ true
         → result ≡ is_exact_merge (kind_at change.now) rows heir.now }
 {
     !marks.unmerged.contains(heir)
@@ -122,7 +122,7 @@ pub(crate) fn merges_exactly(change: &Change, marks: &Marks, heir: &Id) -> bool
 /// Whether one of the rows belongs to an exact split or an exact merge.
 fn is_exact(change: &Change, marks: &Marks, row: &Row) -> bool
     ensures { (rows : List Row) → AreMarks (kind_at change.now) marks.now rows
-        → ((s : List ℕ) → is_this s row.now.new ≡ true → list_any (names s) rows ≡ true)
+        → ((s : List ℕ) → is_this s row.now.new ≡ true → list_any (names_successor s) rows ≡ true)
         → result ≡ is_in_exact (kind_at change.now) rows row.now }
 {
     if splits_exactly(change, marks, &row.old) {
@@ -137,7 +137,7 @@ fn is_exact(change: &Change, marks: &Marks, row: &Row) -> bool
 /// Whether one of the rows is marked and belongs to neither.
 fn is_outside(change: &Change, marks: &Marks, row: &Row) -> bool
     ensures { (rows : List Row) → AreMarks (kind_at change.now) marks.now rows
-        → ((s : List ℕ) → is_this s row.now.new ≡ true → list_any (names s) rows ≡ true)
+        → ((s : List ℕ) → is_this s row.now.new ≡ true → list_any (names_successor s) rows ≡ true)
         → result ≡ (row.now.exact && not (is_in_exact (kind_at change.now) rows row.now)) }
 {
     row.exact && !is_exact(change, marks, row)
@@ -145,7 +145,8 @@ fn is_outside(change: &Change, marks: &Marks, row: &Row) -> bool
 
 /// Looks for a marked row that belongs to no exact split and no exact merge.
 pub(crate) fn check_marks(alloc: Global, change: &Change) -> Result<(), LineageFault>
-    ensures { ReportsFirstOf (mark_faults (kind_at change.now) change.now.rows 1 change.now.rows)
+    ensures { ReportsFirstOf (marked_row_faults
+        (kind_at change.now) change.now.rows 1 change.now.rows)
         result }
 {
     let marks = marks_of(alloc, change)?;
@@ -172,7 +173,8 @@ pub(crate) fn check_marks_of(
     live: &IdSet,
     rows: &[Row],
 ) -> Result<(), LineageFault>
-    ensures { ReportsFirstOf (mark_faults (kind last.now live.now rows.now) rows.now 1 rows.now)
+    ensures { ReportsFirstOf (marked_row_faults
+        (kind last.now live.now rows.now) rows.now 1 rows.now)
         result }
 {
     if !has_marks(rows) {

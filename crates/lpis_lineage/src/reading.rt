@@ -5,7 +5,8 @@ ghost use Rattle.lpis_covers.specs.Faults.{rows_of, unless_faulty};
 ghost use Rattle.lpis_covers.specs.Table.{Answers, field_of, texts};
 ghost use Rattle.lpis_covers.specs.declared.fault.Table.TheVariants as tables;
 ghost use Rattle.lpis_lineage.specs.LineageTable.{AnswersRows, lineage_faults, lineage_table};
-ghost use Rattle.lpis_lineage.specs.LineageTable.{mark_in as mark_of, mark_faults, row_of};
+ghost use Rattle.lpis_lineage.specs.LineageTable.{mark_of_text as mark_of, mark_field_faults};
+ghost use Rattle.lpis_lineage.specs.LineageTable.{row_of};
 ghost use Rattle.lpis_lineage.specs.LineageTable.{successor_faults, successor_of};
 
 use crate::row::Row;
@@ -55,7 +56,7 @@ fn mark_in(text: &[u8]) -> Option<bool>
 fn read_mark(reader: &TableReader<'_>, number: u32) -> Result<bool, TableFault>
     requires { number ≡ reader.now.number }
     ensures { let mark = mark_of (field_of reader.now.row 2) in
-        Answers result (unless_faulty (mark_faults reader.now.number mark)
+        Answers result (unless_faulty (mark_field_faults reader.now.number mark)
         (unwrap_or mark false)) }
 {
     match mark_in(reader.field(2)) {

@@ -1,7 +1,7 @@
 //! Rows of lineage, and releases.
 
 ghost use Rattle.std.specs.Prelude.{◌≡◌, IfOk};
-ghost use Rattle.lpis_lineage.specs.Accepts.{IsRelease};
+ghost use Rattle.lpis_lineage.specs.Accepts.{IsReleaseEntry};
 
 use crate::id_set::IdSet;
 use lpis_covers::Id;
@@ -64,7 +64,7 @@ impl Entry {
         live: IdSet,
         rows: &[Row],
     ) -> Result<Entry, AllocError>
-        ensures release { IfOk result (IsRelease live rows.now) }
+        ensures release { IfOk result (IsReleaseEntry live rows.now) }
         ensures year { IfOk result (λ e. e.year ≡ year) }
     {
         let rows = copy_rows(alloc, rows)?;

@@ -3,7 +3,7 @@
 ghost use Rattle.std.specs.Prelude.{◌≡◌, ◌++◌, ◌∷◌, List, [], OnOk, Some, None};
 ghost use Rattle.std.specs.List.{list_any};
 ghost use Rattle.lpis_lineage.specs.declared.row.Row.{Row};
-ghost use Rattle.lpis_lineage.specs.Lineage.{same_row, is_of};
+ghost use Rattle.lpis_lineage.specs.Lineage.{same_row, is_row_of};
 ghost use Rattle.lpis_lineage.specs.Faults.{fault_before, clashes, ReportsFirstOf};
 ghost use Rattle.lpis_lineage.specs.declared.fault.LineageFault.TheVariants.{DoubledRow};
 ghost use Rattle.lpis_lineage.specs.declared.fault.LineageFault.TheVariants.{EndingBesideSuccessor};
@@ -88,7 +88,8 @@ impl Seen {
 
     /// Whether some row has this old identifier.
     pub(crate) fn has_row(&self, id: &Id) -> bool
-        ensures { (rows : List Row) → IsSeen self.now rows → result ≡ list_any (is_of id.now) rows }
+        ensures { (rows : List Row) → IsSeen self.now rows
+            → result ≡ list_any (is_row_of id.now) rows }
     {
         self.ended.contains(id) || self.continued.contains(id)
     }

@@ -4,7 +4,7 @@ ghost use Rattle.std.specs.Prelude.{◌≡◌, ◌++◌, ◌∷◌, ℕ, List, [
 ghost use Rattle.lpis_covers.specs.Ids.{has_id};
 ghost use Rattle.lpis_lineage.specs.declared.row.Row.{Row};
 ghost use Rattle.lpis_lineage.specs.Descendants.{IsDescendant, all_rows};
-ghost use Rattle.lpis_lineage.specs.private.Following.{Reaches, IsFresh, AreFresh};
+ghost use Rattle.lpis_lineage.specs.private.Following.{Reaches, IsFreshRow, AreFresh};
 ghost use Rattle.lpis_lineage.specs.Order.{IsAscending};
 
 use crate::history::History;
@@ -16,7 +16,8 @@ use std::alloc::{AllocError, Global};
 /// Adds the row's successor, where its old identifier is reached.
 fn follow_row(reached: &mut IdSet, row: &Row) -> Result<(), AllocError>
     ensures { (before : List Row) → (id : List ℕ) → Reaches reached.old before id
-        → IsFresh before row.now → OnOk result (Reaches reached.new (before ++ row.now ∷ []) id) }
+        → IsFreshRow before row.now → OnOk result (Reaches reached.new (before ++ row.now
+        ∷ []) id) }
 {
     match &row.new {
         None => Ok(()),

@@ -3,10 +3,6 @@ use Rattle.std.specs.Prelude.{◌≡◌, ℕ, ◌<◌, ◌⊎◌, false, List, s
 use Rattle.lpis_points.specs.declared.triangle.Triangle.{Triangle}
 use Rattle.lpis_points.specs.Triangles.{are_apart}
 
--- the greatest number of triangles that a source of pairs is asked about
-abbrev pub most_triangles : ℕ
-most_triangles = 2000000
-
 -- i is below j, and the triangles of these numbers are not apart
 pub record IsNear (ts : List Triangle) (i j : ℕ) : Type 0 where
   pub rising : i < j

@@ -1,7 +1,7 @@
 //! The strips that a box meets.
 
 ghost use Rattle.std.specs.Prelude.{◌≤◌, ◌<◌, length, IfOk};
-ghost use Rattle.lpis_pairs.specs.NearPairs.{most_triangles};
+ghost use Rattle.lpis_points.specs.Triangles.{most_triangles};
 ghost use Rattle.lpis_pairs.specs.private.Sweeping.{HasEvents};
 
 use crate::extents::extent_of;

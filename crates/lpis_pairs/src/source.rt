@@ -1,7 +1,8 @@
 //! Where near pairs come from.
 
 ghost use Rattle.std.specs.Prelude.{◌≤◌, length, IfOk};
-ghost use Rattle.lpis_pairs.specs.NearPairs.{IsNearList, most_triangles};
+ghost use Rattle.lpis_pairs.specs.NearPairs.{IsNearList};
+ghost use Rattle.lpis_points.specs.Triangles.{most_triangles};
 
 use lpis_points::Triangle;
 use std::alloc::{AllocError, Global};

@@ -1,6 +1,7 @@
 //! A sweep over strips.
 
-ghost use Rattle.std.specs.Prelude.{◌≡◌, ◌↔◌, ℕ, ◌<◌, ◌||◌, IsTrue, Contains, IfOk, OnOk, Some, length};
+ghost use Rattle.std.specs.Prelude.{◌≡◌, ◌↔◌, ℕ, ◌<◌, ◌||◌, IsTrue, Contains, IfOk, OnOk, Some};
+ghost use Rattle.std.specs.Prelude.{length};
 ghost use Rattle.lpis_pairs.specs.NearPairs.{IsNear};
 ghost use Rattle.lpis_pairs.specs.private.Sweeping.{AreEvents, AreInOrder, AreNear, Joins};
 ghost use Rattle.lpis_pairs.specs.private.Sweeping.{is_lowest as is_lowest_spec};

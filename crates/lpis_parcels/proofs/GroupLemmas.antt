@@ -7,7 +7,7 @@ use Rattle.std.proofs.lemmas.List.{map-append}
 use Rattle.std.proofs.lemmas.List.Elements.{filter-append}
 use Rattle.std.specs.List.Sorted.{IsNonDecreasingBy, IsPartitionPoint, IsPartitionedBy, IsStableByKey, ties}
 use Rattle.std.proofs.lemmas.Bool.{cases_lt}
-use Rattle.lpis_parcels.specs.private.Groups.{group_at, is_of}
+use Rattle.lpis_parcels.specs.private.Groups.{group_at, is_of_parcel}
 
 -- an index is from s on and before e
 between : ℕ → ℕ → ℕ → Bool
@@ -39,7 +39,7 @@ abbrev pub IsStart : List Join → ℕ → ℕ → Type 0
 IsStart xs k = IsPartitionPoint (λ (j : Join). nat_lt j.parcel k ≡ true) (λ (j : Join). nat_lt j.parcel k ≡ false) xs
 
 abbrev pub IsCount : List Join → ℕ → ℕ → Type 0
-IsCount rest k = IsPartitionPoint (λ (j : Join). is_of k j ≡ true) (λ (j : Join). is_of k j ≡ false) rest
+IsCount rest k = IsPartitionPoint (λ (j : Join). is_of_parcel k j ≡ true) (λ (j : Join). is_of_parcel k j ≡ false) rest
 
 pub start-parts : (xs : List Join) (k : ℕ) → IsNonDecreasingBy (λ (j : Join). j.parcel) xs → IsPartitionedBy (λ (j : Join). nat_lt j.parcel k) xs
 start-parts xs k up i j d le lt e = let rise = up i j d le lt in grind (arith, nat_tests)
@@ -47,7 +47,7 @@ start-parts xs k up i j d le lt e = let rise = up i j d le lt in grind (arith, n
 same : (x y k : ℕ) → x ≤ y → nat_lt x k ≡ false → (y == k) ≡ true → (x == k) ≡ true
 same x y k le a b = grind (arith, nat_tests)
 
-pub group-parts : (xs : List Join) (k s : ℕ) → IsNonDecreasingBy (λ (j : Join). j.parcel) xs → IsStart xs k s → IsPartitionedBy (is_of k) (drop s xs)
+pub group-parts : (xs : List Join) (k s : ℕ) → IsNonDecreasingBy (λ (j : Join). j.parcel) xs → IsStart xs k s → IsPartitionedBy (is_of_parcel k) (drop s xs)
 group-parts xs k s up start i j d le lt e =
     let within : s + j < length xs = omega (arith, length-drop s xs) in
     let rise = up (s + i) (s + j) d (omega arith) within in
@@ -62,22 +62,23 @@ among b s n i le lt e = grind (arith, nat_tests)
 late : (b : Bool) (s n i : ℕ) → s + n ≤ i → b ≡ false → b ≡ (nat_le s i && nat_lt i (s + n))
 late b s n i le e = grind (arith, nat_tests)
 
-pub group-found : (xs : List Join) (k s n : ℕ) → IsStart xs k s → IsCount (drop s xs) k n → n ≤ length (drop s xs) → take n (drop s xs) ≡ filter (is_of k) xs
+pub group-found : (xs : List Join) (k s n : ℕ) → IsStart xs k s → IsCount (drop s xs) k n → n ≤ length (drop s xs) → take n (drop s xs) ≡ filter (is_of_parcel k) xs
 unfolding between
-group-found xs k s n start count within = filter-run (is_of k) xs s n value where
+group-found xs k s n start count within = filter-run (is_of_parcel k) xs s n value where
   moved : (i : ℕ) (d : Join) → s ≤ i → get_or (drop s xs) (i - s) d ≡ get_or xs i d
   moved i d le = let n : s + (i - s) ≡ i = omega arith in get_or-drop s xs (i - s) d ∙ ap (λ (m : ℕ). get_or xs m d) n
 
-  value : (i : ℕ) (d : Join) → i < length xs → is_of k (get_or xs i d) ≡ between s (s + n) i
+  value : (i : ℕ) (d : Join) → i < length xs → is_of_parcel k (get_or xs i d) ≡ between s (s + n) i
   value i d lt = by (cases_lt i s) (cases_lt i (s + n)) where
-    by : (i < s) ⊎ (s ≤ i) → (i < s + n) ⊎ (s + n ≤ i) → is_of k (get_or xs i d) ≡ between s (s + n) i
+    by : (i < s) ⊎ (s ≤ i) → (i < s + n) ⊎ (s + n ≤ i) → is_of_parcel k (get_or xs i d) ≡ between s (s + n) i
     by (inl a) _ = early (get_or xs i d).parcel k s n i a (start.0 i d (omega arith) a)
     by (inr a) (inl b) = among _ s n i a b (rw (moved i d a) at (count.0 (i - s) d (omega arith) (omega arith)))
     by (inr a) (inr b) = late _ s n i b (rw (moved i d a) at (count.1 (i - s) d (omega arith) (omega (arith, length-drop s xs))))
 
 -- one join more
 pub group-more : (joins : List Join) (j : Join) (k : ℕ) → group_at (joins ++ j ∷ []) k ≡ cond (j.parcel == k) (group_at joins k ++ j.piece ∷ []) (group_at joins k)
-group-more joins j k = ap joined_pieces (filter-append (is_of k) joins (j ∷ [])) ∙ map-append (λ (j : Join). j.piece) (filter (is_of k) joins) (filter (is_of k) (j ∷ [])) ∙ by (j.parcel == k) refl
+group-more joins j k =
+    ap joined_pieces (filter-append (is_of_parcel k) joins (j ∷ [])) ∙ map-append (λ (j : Join). j.piece) (filter (is_of_parcel k) joins) (filter (is_of_parcel k) (j ∷ [])) ∙ by (j.parcel == k) refl
   where
     by : (b : Bool) → (j.parcel == k) ≡ b → group_at joins k ++ joined_pieces (cond (j.parcel == k) (j ∷ []) []) ≡ cond b (group_at joins k ++ j.piece ∷ []) (group_at joins k)
     by true e = rw e refl
@@ -93,5 +94,5 @@ tie a k = grind (arith, nat_tests)
 
 pub groups-kept : (old new : List Join) → IsStableByKey (λ (j : Join). j.parcel) nat_cmp old new → (k : ℕ) → group_at new k ≡ group_at old k
 groups-kept old new stable k =
-    let ties_of : (j : Join) → ties (λ (x y : Join). is_lt (nat_cmp x.parcel y.parcel)) (record { parcel = k; piece = 0 }) j ≡ is_of k j = λ j. tie j.parcel k in
+    let ties_of : (j : Join) → ties (λ (x y : Join). is_lt (nat_cmp x.parcel y.parcel)) (record { parcel = k; piece = 0 }) j ≡ is_of_parcel k j = λ j. tie j.parcel k in
     ap joined_pieces (sym (same-filter _ _ new ties_of) ∙ stable (record { parcel = k; piece = 0 }) ∙ same-filter _ _ old ties_of)

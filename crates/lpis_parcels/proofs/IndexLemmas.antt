@@ -1,7 +1,7 @@
 -- The indices of a parcel's pieces, and what stands there.
 use Rattle.std.proofs.Common.{◌≡◌, ◌≤◌, ◌<◌, ◌+◌, ◌++◌, ◌∷◌, [], ℕ, zero, suc, List, length, map, get_or, filter, Bool, true, false, cond, Option, Some, refl, sym, ap, subst, ◌∙◌, arith, append_assoc}
 use Rattle.std.proofs.Common.{All, slice_get}
-use Rattle.lpis_parcels.proofs.Common.{Class, Piece, indices_where, Contents, names, reference_faults}
+use Rattle.lpis_parcels.proofs.Common.{Class, Piece, indices_where, Contents, names_parcel, reference_faults}
 use Rattle.lpis_parcels.specs.declared.parcel.Parcel.{Parcel}
 use Rattle.std.proofs.lemmas.List.{length-append}
 use Rattle.std.proofs.lemmas.Slice.Eq.{bytes_eq-Decides}
@@ -72,14 +72,14 @@ known parcels classes n p h = by (has_id (parcel_ids parcels) p.parcel) refl whe
 
 pub absent-none : (parcels : List Parcel) (classes : List Class) (n i : ℕ) (pieces : List Piece) (id : List ℕ)
     → reference_faults parcels classes n pieces ≡ [] → has_id (parcel_ids parcels) id ≡ false
-    → indices_where (names id) i pieces ≡ []
+    → indices_where (names_parcel id) i pieces ≡ []
 absent-none parcels classes n i [] id h s = refl
 absent-none parcels classes n i (p ∷ ps) id h s =
     let more = absent-none parcels classes (n + 1) (i + 1) ps id (none-right (unknown_faults parcels classes n p) _ h) s in
-    let other : names id p ≡ false = by (names id p) refl (known parcels classes n p (none-left _ _ h)) in
+    let other : names_parcel id p ≡ false = by (names_parcel id p) refl (known parcels classes n p (none-left _ _ h)) in
     rw other more
   where
-    by : (b : Bool) → names id p ≡ b → has_id (parcel_ids parcels) p.parcel ≡ true → names id p ≡ false
+    by : (b : Bool) → names_parcel id p ≡ b → has_id (parcel_ids parcels) p.parcel ≡ true → names_parcel id p ≡ false
     by true e k = absurd (let same : id ≡ p.parcel = (bytes_eq-Decides id p.parcel).0 e in let there : has_id (parcel_ids parcels) id ≡ true = rw same k in cc)
     by false e k = e
 

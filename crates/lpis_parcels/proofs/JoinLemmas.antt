@@ -1,7 +1,7 @@
 -- The joins, a row at a time.
 use Rattle.std.proofs.Common.{◌≡◌, ◌<◌, ◌+◌, ◌-◌, ◌++◌, ◌∷◌, [], ℕ, zero, suc, List, length, filter, map, take, drop, ◌==◌, Bool, true, false, not, cond, Option, Some, None, Ok, Err, refl, sym}
 use Rattle.std.proofs.Common.{ap, ◌∙◌, arith, add-one, drop-cons, ◌||◌, is_some, slice_get}
-use Rattle.lpis_parcels.proofs.Common.{Class, Join, Piece, indices_where, joined_pieces, names, reference_faults}
+use Rattle.lpis_parcels.proofs.Common.{Class, Join, Piece, indices_where, joined_pieces, names_parcel, reference_faults}
 use Rattle.lpis_parcels.proofs.GroupLemmas.{group-more}
 use Rattle.std.specs.List.{IsDistinct, list_any, AllByRecursion}
 use Rattle.std.proofs.lemmas.List.{map-append, take_more, length-take-le}
@@ -15,10 +15,10 @@ use Rattle.lpis_covers.specs.Faults.{unless_faulty}
 use Rattle.lpis_covers.specs.Ids.{has_id, same_id}
 use Rattle.lpis_covers.specs.Table.{fault_at}
 use Rattle.lpis_parcels.specs.Weighted.{class_named}
-use Rattle.lpis_parcels.specs.private.Groups.{Refuses, empty_faults, group_at, is_nil, is_of}
+use Rattle.lpis_parcels.specs.private.Groups.{Refuses, empty_faults, group_at, is_nil, is_of_parcel}
 use Rattle.lpis_parcels.specs.declared.parcel.Parcel.{Parcel}
 use Rattle.std.proofs.lemmas.Bool.Decides.{nat_tests}
-use Rattle.lpis_parcels.specs.Release.{class_codes, parcel_faults, parcel_ids, unknown_faults}
+use Rattle.lpis_parcels.specs.Release.{class_codes, unnamed_parcel_faults, parcel_ids, unknown_faults}
 use Rattle.lpis_covers.specs.declared.fault.Table.TheVariants as table
 
 -- identifiers
@@ -118,10 +118,10 @@ joins-more parcels pieces classes joins after indices indices_after i k j piece 
     let n : 0 + length (take i pieces) ≡ i = omega (arith, length-taken pieces i piece at) in
     record {
       groups_are = λ m id there.
-          let F = indices_where (names id) 0 (take i pieces) in
+          let F = indices_where (names_parcel id) 0 (take i pieces) in
           ap (λ (js : List Join). group_at js m) is ∙ group-more joins (record { parcel = k; piece = i }) m
-          ∙ sym (ap (indices_where (names id) 0) (take-more pieces i piece at) ∙ indices-more (names id) 0 (take i pieces) piece
-          ∙ ap (λ (l : ℕ). cond (names id piece) (F ++ l ∷ []) F) n
+          ∙ sym (ap (indices_where (names_parcel id) 0) (take-more pieces i piece at) ∙ indices-more (names_parcel id) 0 (take i pieces) piece
+          ∙ ap (λ (l : ℕ). cond (names_parcel id piece) (F ++ l ∷ []) F) n
           ∙ ap (λ (b : Bool). cond b (F ++ i ∷ []) F) (same-index (parcel_ids parcels) k m piece.parcel id d parcel there)
           ∙ ap (λ (G : List ℕ). cond (k == m) (G ++ i ∷ []) G) (sym (h.groups_are m id there)));
       classes_are = ap (map (slice_get classes)) also ∙ map-append (slice_get classes) indices (j ∷ [])
@@ -155,17 +155,17 @@ nil-indices test i (x ∷ xs) = by (test x) (indices_where test (i + 1) xs) (lis
   by false indices any h = h
 
 empty-groups : (joins : List Join) (pieces : List Piece) (k : ℕ) (parcels : List Parcel)
-    → ((m : ℕ) (id : List ℕ) → slice_get (parcel_ids parcels) m ≡ Some id → group_at joins (k + m) ≡ indices_where (names id) 0 pieces)
-    → empty_faults joins k (length parcels) ≡ parcel_faults pieces (k + 1) parcels
+    → ((m : ℕ) (id : List ℕ) → slice_get (parcel_ids parcels) m ≡ Some id → group_at joins (k + m) ≡ indices_where (names_parcel id) 0 pieces)
+    → empty_faults joins k (length parcels) ≡ unnamed_parcel_faults pieces (k + 1) parcels
 empty-groups joins pieces k [] h = refl
 empty-groups joins pieces k (p ∷ ps) h =
     let here : k + 0 ≡ k = omega arith in
-    let group : group_at joins k ≡ indices_where (names p.id) 0 pieces = rw here at (h 0 p.id refl) in
-    let empty : is_nil (group_at joins k) ≡ not (list_any (names p.id) pieces) = ap is_nil group ∙ nil-indices (names p.id) 0 pieces in
+    let group : group_at joins k ≡ indices_where (names_parcel p.id) 0 pieces = rw here at (h 0 p.id refl) in
+    let empty : is_nil (group_at joins k) ≡ not (list_any (names_parcel p.id) pieces) = ap is_nil group ∙ nil-indices (names_parcel p.id) 0 pieces in
     let others = empty-groups joins pieces (k + 1) ps (λ m id e. let next : k + 1 + m ≡ k + suc m = omega arith in ap (group_at joins) next ∙ h (suc m) id e) in
     rw (empty, others) refl
 
-pub some-found : (joins found : List Join) (k : ℕ) → found ≡ filter (is_of k) joins → (length found == 0) ≡ false → is_nil (group_at joins k) ≡ false
+pub some-found : (joins found : List Join) (k : ℕ) → found ≡ filter (is_of_parcel k) joins → (length found == 0) ≡ false → is_nil (group_at joins k) ≡ false
 some-found joins found k e h = rw (← e) (by found h) where
   by : (found : List Join) → (length found == 0) ≡ false → is_nil (joined_pieces found) ≡ false
   by [] h = absurd (let e : (0 == 0) ≡ true = grind (arith, nat_tests) in cc)
@@ -182,6 +182,6 @@ told-none (f ∷ fs) h = cc h
 
 -- the faults of the groups are those of the parcels
 pub groups-faults : (parcels : List Parcel) (pieces : List Piece) (classes : List Class) (groups : List Join) (indices : List ℕ) (count : ℕ) → AreJoins parcels pieces classes groups indices
-    → count ≡ length parcels → empty_faults groups 0 count ≡ parcel_faults pieces 1 parcels
+    → count ≡ length parcels → empty_faults groups 0 count ≡ unnamed_parcel_faults pieces 1 parcels
 groups-faults parcels pieces classes groups indices count h e =
     ap (empty_faults groups 0) e ∙ empty-groups groups pieces 0 parcels (λ m id at. let first : 0 + m ≡ m = omega arith in ap (group_at groups) first ∙ h.groups_are m id at)

@@ -6,12 +6,12 @@ use Rattle.lpis_covers.specs.Faults.{RowsOf, key_faults, polygon_faults, polygon
 use Rattle.lpis_covers.specs.Table.{Fields, field_of}
 use Rattle.lpis_parcels.specs.declared.parcel.Parcel.{Parcel}
 
-abbrev pub parcel_faults : List (List ℕ) → ℕ → Fields → List TableFault
-parcel_faults keys n row = key_faults table.Parcels n keys (field_of row 0)
+abbrev pub parcel_row_faults : List (List ℕ) → ℕ → Fields → List TableFault
+parcel_row_faults keys n row = key_faults table.Parcels n keys (field_of row 0)
     ++ polygon_faults table.Parcels n (field_of row 1)
 
-abbrev pub parcel_of : Fields → Parcel
-parcel_of row = record { id = field_of row 0; polygon = polygon_in (field_of row 1) }
+abbrev pub parcel_in_row : Fields → Parcel
+parcel_in_row row = record { id = field_of row 0; polygon = polygon_in (field_of row 1) }
 
 -- a row is a parcel: its identifier and its land
 abbrev pub parcels_table : RowsOf Parcel
@@ -20,6 +20,6 @@ parcels_table = record {
   columns = codes "parcel" ∷ codes "wkt" ∷ [];
   further = [];
   enough = λ has. true;
-  faults = parcel_faults;
-  value = parcel_of;
+  faults = parcel_row_faults;
+  value = parcel_in_row;
 }

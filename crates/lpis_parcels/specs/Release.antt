@@ -46,23 +46,24 @@ reference_faults parcels classes n (p ∷ ps) = unknown_faults parcels classes n
     ++ reference_faults parcels classes (n + 1) ps
 
 -- a piece names the parcel of this identifier
-abbrev pub names : List ℕ → Piece → Bool
-names id piece = same_id id piece.parcel
+abbrev pub names_parcel : List ℕ → Piece → Bool
+names_parcel id piece = same_id id piece.parcel
 
 -- parcels that no piece names, row by row from this one on
-abbrev pub parcel_faults : List Piece → ℕ → List Parcel → List TableFault
-parcel_faults pieces n [] = []
-parcel_faults pieces n (p ∷ ps) =
-    fault_if (not (list_any (names p.id) pieces)) (fault_at ParcelWithoutPieces table.Parcels n)
-    ++ parcel_faults pieces (n + 1) ps
+abbrev pub unnamed_parcel_faults : List Piece → ℕ → List Parcel → List TableFault
+unnamed_parcel_faults pieces n [] = []
+unnamed_parcel_faults pieces n (p ∷ ps) =
+    fault_if (not (list_any (names_parcel p.id) pieces))
+    (fault_at ParcelWithoutPieces table.Parcels n)
+    ++ unnamed_parcel_faults pieces (n + 1) ps
 
 -- the faults of the joins: those of each piece in order, then those of each parcel
 abbrev pub join_faults : Contents → List TableFault
 join_faults c = reference_faults c.parcels c.classes 1 c.pieces
-    ++ parcel_faults c.pieces 1 c.parcels
+    ++ unnamed_parcel_faults c.pieces 1 c.parcels
 
-abbrev pub joined : Contents → Result Contents TableFault
-joined c = unless_faulty (join_faults c) c
+abbrev pub joined_release : Contents → Result Contents TableFault
+joined_release c = unless_faulty (join_faults c) c
 
 abbrev pub then_read : {A B : Type 0} → Result A TableFault → (A → Result B TableFault)
     → Result B TableFault
@@ -76,11 +77,11 @@ release_of parcels covers classes =
     then_read (rows_of parcels_table parcels)
     (λ ps. then_read (rows_of covers_table covers)
     (λ cs. then_read (rows_of classes_table classes)
-    (λ ks. joined (record { parcels = ps; pieces = cs; classes = ks }))))
+    (λ ks. joined_release (record { parcels = ps; pieces = cs; classes = ks }))))
 
 -- the pieces of a parcel, in the order of their table
 abbrev pub pieces_named : Contents → List ℕ → List Piece
-pieces_named c id = filter (names id) c.pieces
+pieces_named c id = filter (names_parcel id) c.pieces
 
 -- the parcel of an identifier, where there is one
 abbrev pub parcel_named : Contents → List ℕ → Option Parcel

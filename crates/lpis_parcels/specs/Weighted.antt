@@ -28,12 +28,12 @@ abbrev pub areas2 : List Piece → ℤ
 areas2 ps = int_sum_by (λ (p : Piece). area2 p.polygon) ps
 
 -- the doubled area of a piece times its percentage
-abbrev pub weight : List Class → Piece → ℤ
-weight classes piece = pos (piece_percent classes piece) *ℤ area2 piece.polygon
+abbrev pub piece_weight : List Class → Piece → ℤ
+piece_weight classes piece = pos (piece_percent classes piece) *ℤ area2 piece.polygon
 
 -- the doubled weighted area of a parcel: that of its pieces, each times its percentage
 abbrev pub weighted2 : Contents → List ℕ → ℤ
-weighted2 c id = int_sum_by (weight c.classes) (pieces_named c id)
+weighted2 c id = int_sum_by (piece_weight c.classes) (pieces_named c id)
 
 -- the greatest absolute value of the doubled weighted area of a piece
 abbrev pub most_weighted : ℕ

@@ -1,7 +1,7 @@
 //! The pieces of each parcel, by index.
 
 ghost use Rattle.std.specs.Prelude.{◌≡◌, ℕ, IfOk, filter};
-ghost use Rattle.lpis_parcels.specs.private.Groups.{group_at, is_of};
+ghost use Rattle.lpis_parcels.specs.private.Groups.{group_at, is_of_parcel};
 
 use std::alloc::AllocError;
 use std::marker::Model;
@@ -43,7 +43,7 @@ impl Groups {
 
     /// The joins of the parcel at an index. They are found by halving.
     pub(crate) fn get(&self, parcel: usize) -> &[Join]
-        ensures { result.now ≡ filter (is_of parcel) self.now }
+        ensures { result.now ≡ filter (is_of_parcel parcel) self.now }
     {
         let start = self
             .joins

@@ -5,7 +5,8 @@ ghost use Rattle.std.specs.List.{IsDistinct};
 ghost use Rattle.std.specs.Option.{option_copied};
 ghost use Rattle.lpis_covers.specs.Ids.{same_id};
 ghost use Rattle.lpis_covers.specs.Table.{Answers, most_rows};
-ghost use Rattle.lpis_parcels.specs.Release.{class_codes, join_faults, joined, names, parcel_ids};
+ghost use Rattle.lpis_parcels.specs.Release.{class_codes, join_faults, joined_release};
+ghost use Rattle.lpis_parcels.specs.Release.{names_parcel, parcel_ids};
 ghost use Rattle.lpis_parcels.specs.Release.{parcel_named, piece_ids};
 
 use crate::groups::Join;
@@ -28,14 +29,14 @@ pub struct Release {
 
 impl Model for Release {
     ghost use Rattle.lpis_parcels.specs.Release.{Contents};
-    ghost use Rattle.lpis_parcels.specs.private.Joined.{IsRelease};
+    ghost use Rattle.lpis_parcels.specs.private.Joined.{IsJoinedRelease};
 
     ghost Value = { Contents };
 
     ghost view = { λ r. record
         { parcels = r.parcels; pieces = r.pieces.items; classes = r.classes } };
 
-    ghost invariant = { λ r. IsRelease
+    ghost invariant = { λ r. IsJoinedRelease
         (record { parcels = r.parcels; pieces = r.pieces.items; classes = r.classes })
         r.joins.groups r.joins.classes.items };
 }
@@ -54,7 +55,7 @@ impl Release {
         classes: Classes,
     ) -> Result<Release, TableFault>
         ensures { Answers result
-            (joined (record { parcels = parcels; pieces = pieces; classes = classes })) }
+            (joined_release (record { parcels = parcels; pieces = pieces; classes = classes })) }
     {
         let pieces = pieces.into_rows();
         let joins = join(alloc, &parcels, &pieces, &classes)?;
@@ -109,7 +110,7 @@ impl Release {
     /// The joins of a parcel.
     pub(crate) fn joins_of(&self, parcel: &Id) -> &[Join]
         ensures pieces { joined_pieces result.now
-            ≡ indices_where (names parcel.now) 0 self.now.pieces }
+            ≡ indices_where (names_parcel parcel.now) 0 self.now.pieces }
         ensures within { All (λ i. i < length self.now.pieces) (joined_pieces result.now) }
         ensures few { length result.now ≤ length self.now.pieces }
     {

@@ -4,7 +4,7 @@ ghost use Rattle.std.specs.Prelude.{◌≡◌, ◌≤◌, ◌<◌, ◌*ℤ◌, S
 ghost use Rattle.lpis_covers.specs.declared.piece.Piece.{Piece};
 ghost use Rattle.lpis_covers.specs.Percentages.{most_percent};
 ghost use Rattle.lpis_rings.specs.AreaBounds.{most_area};
-ghost use Rattle.lpis_parcels.specs.Weighted.{most_weighted, weight, weighted2};
+ghost use Rattle.lpis_parcels.specs.Weighted.{most_weighted, piece_weight, weighted2};
 
 use crate::release::Release;
 use lpis_covers::Id;
@@ -24,7 +24,7 @@ fn product(percent: i128, area: i128) -> i128
 fn weight(release: &Release, index: usize) -> i128
     requires { index < length release.now.pieces }
     ensures value { (piece : Piece) → slice_get release.now.pieces index ≡ Some piece
-        → result ≡ weight release.now.classes piece }
+        → result ≡ piece_weight release.now.classes piece }
     ensures small { unsigned_abs result ≤ most_weighted }
 {
     let percent = release.percent(index);

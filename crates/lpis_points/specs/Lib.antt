@@ -5,6 +5,7 @@ pub mod Plane
 pub mod Triangles
 pub mod Memory
 pub mod Sums
+pub mod Decimals
 pub mod Chain
 pub mod Shift
 pub mod PointLaws

@@ -76,3 +76,7 @@ ends_before b c = int_le b.x1 c.x0 || int_le b.y1 c.y0
 -- the boxes are apart. Boxes that only touch are
 unfoldable pub are_apart : Triangle → Triangle → Bool
 are_apart t u = ends_before (box_of t) (box_of u) || ends_before (box_of u) (box_of t)
+
+-- the most triangles of a certificate, and of those that a source of pairs is asked about
+abbrev pub most_triangles : ℕ
+most_triangles = 2000000

@@ -11,7 +11,7 @@ use Rattle.lpis_lineage.specs.Changes.{IsChange}
 use Rattle.lpis_lineage.specs.Faults.{faults, first}
 use Rattle.lpis_lineage.specs.Lineage.{last_year}
 use Rattle.lpis_parcels.specs.Release.{Contents, parcel_ids}
-use Rattle.lpis_register_rows.specs.Tells.{IsFresh, IsWriting}
+use Rattle.lpis_register_rows.specs.Tells.{AreFresh, IsWriting}
 use Rattle.lpis_register.specs.Accepting.{IsStep}
 use Rattle.lpis_register.specs.Faults.{IsRefused}
 use Rattle.lpis_register.specs.declared.accepting.Step.{Step}
@@ -19,15 +19,15 @@ use Rattle.lpis_register.specs.declared.fault.PublishFault.TheVariants.{Memory, 
 use Rattle.lpis_register.specs.Passing.{of_asking, of_lineage}
 
 pub stepped : (h : List Entry) (live one two : List (List ℕ)) (rows : List Row) (step : Step) → one ≡ live → two ≡ live → step.live.items ≡ live → faults h one rows ≡ []
-    → IsChange (last_live h) one rows step.change → (IsChange (last_live h) live rows step.change → IsFresh h live step.fresh.items → IsWriting h live step.change.dropped_ids step.fresh.items)
-    → IsFresh h two step.fresh.items → IsStep h live rows step
+    → IsChange (last_live h) one rows step.change → (IsChange (last_live h) live rows step.change → AreFresh h live step.fresh.items → IsWriting h live step.change.dropped_ids step.fresh.items)
+    → AreFresh h two step.fresh.items → IsStep h live rows step
 stepped h live one two rows step first second same none change law fresh =
     let changed = subst (λ l. IsChange (last_live h) l rows step.change) first change in
     record {
       live_are = same;
       faultless = subst (λ l. faults h l rows ≡ []) first none;
       change_is = changed;
-      writing = law changed (subst (λ l. IsFresh h l step.fresh.items) second fresh);
+      writing = law changed (subst (λ l. AreFresh h l step.fresh.items) second fresh);
     }
 
 -- ---- a fault of a call, as the register tells it

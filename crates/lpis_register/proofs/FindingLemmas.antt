@@ -1,7 +1,7 @@
 -- From rows and texts that were read to what the tables say.
 use Rattle.std.proofs.Common.{◌≡◌, ◌↔◌, ℕ, List, Result, IfErr, IsPermutation}
 use Rattle.std.proofs.lemmas.List.Sorted.{IsPermutation-sym}
-use Rattle.lpis_register.proofs.Common.{State, Entry, AreLive, Content, HoldsRegister, IsStored, PublishFault, Says, Shape, ShapesAre, StoredText, Tells, Unlawful, Version, Third, Whole}
+use Rattle.lpis_register.proofs.Common.{State, Entry, AreLive, Content, HoldsRegister, IsStored, PublishFault, TablesSay, Shape, ShapesAre, StoredText, Tells, Unlawful, Version, Third, Whole}
 use Rattle.std.proofs.lemmas.Result.{IfErr-weaker}
 use Rattle.lpis_register_rows.specs.Tells.{IsSameContent, IsSameHistory}
 use Rattle.lpis_register_rows.specs.Shapes.{TextsStand}
@@ -9,15 +9,15 @@ use Rattle.lpis_register_rows.specs.Content.{without_live, without_texts}
 use Rattle.lpis_register.proofs.OneHistoryLemmas.{Lifeless, One}
 
 abbrev pub Textless : Type 0
-Textless = (version : Version) (c d : Content) (h : List Entry) → IsSameContent (without_texts c) d → Says version c h ↔ Says version d h
+Textless = (version : Version) (c d : Content) (h : List Entry) → IsSameContent (without_texts c) d → TablesSay version c h ↔ TablesSay version d h
 
 abbrev pub Reordered : Type 0
 Reordered = (texts others : List StoredText) (shapes : List Shape) → IsPermutation texts others → ShapesAre texts shapes → ShapesAre others shapes
 
 -- what rows in another order don't say, these don't either
 pub refused_whole : {X : Type 0} → Textless → (c rows : Content) (r : Result X PublishFault) → IsSameContent (without_texts c) rows
-    → IfErr r (λ e. e ≡ Unlawful → (version : Version) (h : List Entry) → Says version rows h → ⊥)
-    → IfErr r (λ e. e ≡ Unlawful → (version : Version) (h : List Entry) → Says version c h → ⊥)
+    → IfErr r (λ e. e ≡ Unlawful → (version : Version) (h : List Entry) → TablesSay version rows h → ⊥)
+    → IfErr r (λ e. e ≡ Unlawful → (version : Version) (h : List Entry) → TablesSay version c h → ⊥)
 refused_whole less c rows r same none = IfErr-weaker r _ _ (λ e never is version h told. never is version h ((less version c rows h same).0 told)) none
 
 pub kept_whole : Reordered → (texts more : List StoredText) (live : List (List ℕ)) (shapes : List Shape) → IsPermutation texts more → ShapesAre more shapes × AreLive live shapes

@@ -3,7 +3,7 @@ use Rattle.std.proofs.Common.{◌≡◌, ◌∙◌, ◌↔◌, refl, sym, ap, su
 use Rattle.std.proofs.lemmas.List.Sorted.{IsPermutation-refl}
 use Rattle.lpis_covers.specs.Ids.{has_id}
 use Rattle.lpis_lineage.specs.Lineage.{holds}
-use Rattle.lpis_register.proofs.Common.{State, Entry, last_live, AreLive, Content, Says, Shape, ShapesAre, StoredText, Tells, Origin, Whole, IsStored, HoldsRegister, texts_at, Version}
+use Rattle.lpis_register.proofs.Common.{State, Entry, last_live, AreLive, Content, TablesSay, Shape, ShapesAre, StoredText, Tells, Origin, Whole, IsStored, HoldsRegister, texts_at, Version}
 use Rattle.lpis_register.proofs.Common.{First, Second, Third}
 use Rattle.lpis_register_rows.specs.Tells.{IsSameContent, IsSameHistory, only_format}
 use Rattle.lpis_register.specs.Opening.{SaysNone}
@@ -30,7 +30,7 @@ same_live h k same shapes all = all_live (last_live h) (last_live k) shapes (sam
 -- ---- the row of the version tells which it is
 
 abbrev pub One : Type 0
-One = (version : Version) (c : Content) (h k : List Entry) → Says version c h → Says version c k → IsSameHistory h k
+One = (version : Version) (c : Content) (h k : List Entry) → TablesSay version c h → TablesSay version c k → IsSameHistory h k
 
 abbrev version_in : List Format → ℤ
 version_in [] = pos 0
@@ -46,7 +46,7 @@ not_2_3 : (fs : List Format) → fs ≡ only_format 2 → fs ≡ only_format 3 �
 not_2_3 fs a b = let same : pos 2 ≡ pos 3 = ap version_in (sym a ∙ b) in cc
 
 -- and so the version, and the history
-pub one_said : One → (c : Content) (h k : List Entry) (version other : Version) → Says version c h → Says other c k → (version ≡ other) × IsSameHistory h k
+pub one_said : One → (c : Content) (h k : List Entry) (version other : Version) → TablesSay version c h → TablesSay other c k → (version ≡ other) × IsSameHistory h k
 one_said one c h k First First a b = (refl, one First c h k a b)
 one_said one c h k Second Second a b = (refl, one Second c h k a b)
 one_said one c h k Third Third a b = (refl, one Third c h k a b)
@@ -58,7 +58,7 @@ one_said one c h k Third First a b = absurd (not_1_3 c.formats b.formats_are a.f
 one_said one c h k Third Second a b = absurd (not_2_3 c.formats b.formats_are a.formats_are)
 
 -- texts that may not be kept beside the history that was read may not be kept beside any
-pub none_kept : One → (c : Content) (h : List Entry) (version : Version) → Says version c h → (TextsStand (texts_at version c) (last_live h) → ⊥) → SaysNone c
+pub none_kept : One → (c : Content) (h : List Entry) (version : Version) → TablesSay version c h → (TextsStand (texts_at version c) (last_live h) → ⊥) → SaysNone c
 none_kept one c h version told never other k shapes says =
     let same = one_said one c k h other version says.says told in
     never (shapes, subst (λ v. ShapesAre (texts_at v c) shapes) same.0 says.are, same_live k h same.1 shapes says.live)

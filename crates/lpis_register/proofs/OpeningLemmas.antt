@@ -3,7 +3,7 @@ use Rattle.std.proofs.Common.{◌≡◌, inl, inr, List, Result, Ok, Err, IfErr,
 use Rattle.std.proofs.lemmas.List.Sorted.{length_permutation}
 use Rattle.std.specs.List.{AllZip}
 use Rattle.lpis_register.proofs.Common.{Trees, State, HasCleanDisk, Survives, survives_weaker, Entry, Content, HoldsRegister, IsBare, IsFailure, IsStored, Layout, Leaves, LeavesRegister}
-use Rattle.lpis_register.proofs.Common.{PublishFault, Says, Shape, ShapesAre, Tells, Unlawful, Version, First, Second, Third, Whole, texts_at}
+use Rattle.lpis_register.proofs.Common.{PublishFault, TablesSay, Shape, ShapesAre, Tells, Unlawful, Version, First, Second, Third, Whole, texts_at}
 use Rattle.lpis_register_rows.specs.Content.{no_content}
 use Rattle.lpis_register_sql.specs.declared.found.Found.{Found}
 use Rattle.lpis_register_sql.specs.Quiet.{IsFound, LeavesNone}
@@ -12,7 +12,7 @@ use Rattle.lpis_register.specs.Faults.{IsOpeningFault}
 use Rattle.lpis_register_sql.specs.Layouts.{New}
 use Rattle.sqlite.proofs.StateLemmas.{survives_then}
 use Rattle.lpis_register_rows.specs.Tells.{years_of}
-use Rattle.lpis_register_rows.specs.Shapes.{IsTextOf}
+use Rattle.lpis_register_rows.specs.Shapes.{IsTextOfShape}
 use Rattle.lpis_register_sql.specs.Commits.{LeavesMade}
 use Rattle.lpis_register.specs.declared.opening.Told.{Told}
 use Rattle.lpis_register.specs.private.Commits.{LeavesFound, OpensFound, Settles}
@@ -25,12 +25,12 @@ no_years : (h : List Entry) → IsPermutation [] (years_of h) → h ≡ []
 no_years [] same = refl
 no_years (e ∷ h) same = absurd (let l = length_permutation _ _ same in cc)
 
-none_said : (version : Version) (h : List Entry) → Says version no_content h → h ≡ []
+none_said : (version : Version) (h : List Entry) → TablesSay version no_content h → h ≡ []
 none_said First h told = no_years h told.years_are
 none_said Second h told = no_years h told.years_are
 none_said Third h told = no_years h told.years_are
 
-no_order : (order : List Shape) → AllZip IsTextOf [] order → order ≡ []
+no_order : (order : List Shape) → AllZip IsTextOfShape [] order → order ≡ []
 no_order [] zip = refl
 no_order (s ∷ order) zip = absurd zip
 

@@ -1,6 +1,6 @@
 -- Tables of version 3, made of those of any version that say a history.
 use Rattle.std.proofs.Common.{◌≡◌, List, Ok, Err, IsTrue, refl, true, sym, subst}
-use Rattle.lpis_register.proofs.Common.{Trees, State, HasCleanDisk, Survives, survives_weaker, Entry, Content, IsFailure, IsStored, Layout, Leaves, PublishFault, Says, Shape, ShapesAre}
+use Rattle.lpis_register.proofs.Common.{Trees, State, HasCleanDisk, Survives, survives_weaker, Entry, Content, IsFailure, IsStored, Layout, Leaves, PublishFault, TablesSay, Shape, ShapesAre}
 use Rattle.lpis_register.proofs.Common.{Tells, Version, Third, Whole, texts_at}
 use Rattle.lpis_register_sql.specs.declared.found.Found.{Found}
 use Rattle.lpis_register_sql.specs.Quiet.{IsFound}
@@ -16,7 +16,7 @@ mark_there Oldest is = absurd cc
 
 -- a write turns rows for which something holds into others, which say the same
 module _ (found : Found) (version : Version) (h : List Entry) (old new : State) (Q : Content → Type 0) (f : Content → Content)
-    (due : (c : Content) → Says version c h → Q c) (tells : (c : Content) → Says version c h → Tells (f c) h)
+    (due : (c : Content) → TablesSay version c h → Q c) (tells : (c : Content) → TablesSay version c h → Tells (f c) h)
     (texts : (c : Content) (shapes : List Shape) → ShapesAre (texts_at version c) shapes → ShapesAre (f c).texts shapes) where
   abbrev pub LeavesWritten : Trees → Type 0
   LeavesWritten trees = (layout : Layout) → IsFound found layout → (c : Content) → Q c → IsStored layout old c → Leaves (made_whole layout) (f c) trees

@@ -3,7 +3,7 @@ use Rattle.std.specs.Prelude.{◌≡◌, ◌<◌, [], ℕ, List}
 use Rattle.lpis_cert.specs.declared.part.ExactBlock.{ExactBlock}
 use Rattle.lpis_exact_lineage.specs.Asking.{IsShown, kinds_from}
 use Rattle.lpis_exact_lineage.specs.ExactLineage.{IsExactLineage, ShapesTurnOnce}
-use Rattle.lpis_exact_lineage.specs.Shapes.{shape_of, shapes_in}
+use Rattle.lpis_exact_lineage.specs.Shapes.{shape_named, shapes_in}
 use Rattle.lpis_lineage.specs.declared.row.Row.{Row}
 use Rattle.lpis_lineage.specs.declared.row.Entry.{Entry}
 use Rattle.lpis_lineage.specs.Changes.{IsChange}
@@ -26,7 +26,7 @@ pub record IsStep (h : List Entry) (live : List (List ℕ)) (rows : List Row) (s
     pub writing : IsWriting h live step.change.dropped_ids step.fresh.items
 
 -- the shapes of these parcels, and their texts
-pub record IsKept (parcels : List Parcel) (kept : Kept) : Type 0 where
+pub record AreKept (parcels : List Parcel) (kept : Kept) : Type 0 where
   pub shapes_are : AreShapesOf parcels kept.shapes.items
   pub live : AreLive (parcel_ids parcels) kept.shapes.items
   pub texts_are : ShapesAre kept.texts.items kept.shapes.items
@@ -38,7 +38,7 @@ pub record IsPrepared (h : List Entry) (year : ℕ) (parcels : List Parcel) (row
   pub later : last_year h < year
   pub year_is : a.year ≡ year
   pub step_is : IsStep h (parcel_ids parcels) rows a.step
-  pub kept_is : IsKept parcels a.kept
+  pub kept_is : AreKept parcels a.kept
 
 -- and the blocks of its certificate show what its exact groups ask for, when these shapes are kept
 -- of the last release: it has exact lineage, and its own shapes turn once at most
@@ -46,8 +46,9 @@ pub record IsAccepted (h : List Entry) (kept : List Shape) (year : ℕ) (r : Con
     (blocks : List ExactBlock) (rows : List Row) (a : Accepted) : Type 0 where
   pub prepared : IsPrepared h year r.parcels rows a
   pub shown : IsShown h kept r blocks rows
-  pub exact : IsExactLineage (kinds_from h r rows) rows (shape_of kept) (shape_of (shapes_in r))
-  pub once : ShapesTurnOnce (shape_of a.kept.shapes.items)
+  pub exact : IsExactLineage (kinds_from h r rows) rows (shape_named kept) (shape_named
+      (shapes_in r))
+  pub once : ShapesTurnOnce (shape_named a.kept.shapes.items)
 
 -- some release was accepted after this history, when these shapes are kept
 abbrev pub WasMadeFor : List Entry → List Shape → Accepted → Type 0

@@ -6,7 +6,7 @@ use Rattle.lpis_lineage.specs.declared.row.Entry.{Entry}
 use Rattle.lpis_lineage.specs.Lineage.{last_live}
 use Rattle.lpis_register_rows.specs.Content.{Content, StoredText}
 use Rattle.lpis_register_rows.specs.Shapes.{AreLive, Shape, ShapesAre}
-use Rattle.lpis_register_rows.specs.Tells.{Says}
+use Rattle.lpis_register_rows.specs.Tells.{TablesSay}
 use Rattle.lpis_register_rows.specs.declared.version.Version.{Version}
 use Rattle.lpis_register_rows.specs.declared.version.Version.TheVariants.{First, Second, Third}
 use Rattle.lpis_register_sql.specs.Bare.{IsBare}
@@ -26,7 +26,7 @@ texts_at Third c = c.texts
 -- the rows say this history and keep these shapes, as their version has it
 pub record SaysRegister (version : Version) (c : Content) (h : List Entry) (shapes : List Shape)
     : Type 0 where
-  pub says : Says version c h
+  pub says : TablesSay version c h
   pub are : ShapesAre (texts_at version c) shapes
   pub live : AreLive (last_live h) shapes
 

@@ -5,7 +5,7 @@ use Rattle.sqlite.specs.State.{HasCleanDisk, State, Survives}
 use Rattle.lpis_cert.specs.declared.part.ExactBlock.{ExactBlock}
 use Rattle.lpis_exact_lineage.specs.Asking.{kinds_from}
 use Rattle.lpis_exact_lineage.specs.ExactLineage.{IsExactLineage, ShapesTurnOnce}
-use Rattle.lpis_exact_lineage.specs.Shapes.{shape_of, shapes_in}
+use Rattle.lpis_exact_lineage.specs.Shapes.{shape_named, shapes_in}
 use Rattle.lpis_lineage.specs.declared.row.Row.{Row}
 use Rattle.lpis_lineage.specs.declared.row.Entry.{Entry}
 use Rattle.lpis_lineage.specs.Accepts.{Adds}
@@ -54,7 +54,7 @@ pub record Publishes (h : List Entry) (kept : List Shape) (year : ℕ) (r : Cont
   pub follows : OnOk answer (Follows h year r.parcels rows k shapes)
   -- its exact splits and merges are those of points, by the shapes of before and its own
   pub exact : OnOk answer
-      (IsExactLineage (kinds_from h r rows) rows (shape_of kept) (shape_of (shapes_in r)))
+      (IsExactLineage (kinds_from h r rows) rows (shape_named kept) (shape_named (shapes_in r)))
   -- which the merges of the next release rest on
-  pub once : OnOk answer (ShapesTurnOnce (shape_of shapes))
+  pub once : OnOk answer (ShapesTurnOnce (shape_named shapes))
   pub refused : OnErr answer ((k ≡ h) × (shapes ≡ kept))

@@ -12,7 +12,7 @@ ghost use Rattle.lpis_lineage.specs.declared.row.Entry.{Entry};
 ghost use Rattle.lpis_lineage.specs.declared.row.Row.{Row};
 ghost use Rattle.lpis_parcels.specs.Release.{parcel_ids};
 ghost use Rattle.lpis_register_rows.specs.Shapes.{Shape, shape_ids};
-ghost use Rattle.lpis_register.specs.Accepting.{IsAccepted, IsKept, IsStep};
+ghost use Rattle.lpis_register.specs.Accepting.{IsAccepted, AreKept, IsStep};
 ghost use Rattle.lpis_register.specs.Faults.{IsRefused, PublishTells};
 ghost use Rattle.lpis_register.specs.declared.fault.PublishFault.TheVariants.{Store};
 
@@ -131,7 +131,7 @@ fn check_groups(
 
 /// The shapes of a release's parcels, and their texts.
 fn kept_of(alloc: Global, release: &Release) -> Result<Kept, AllocError>
-    ensures { IfOk result (IsKept release.now.parcels) }
+    ensures { IfOk result (AreKept release.now.parcels) }
 {
     let shapes = shapes_in(alloc, release)?;
     let texts = texts_of(alloc, shapes.as_slice())?;

@@ -7,9 +7,9 @@ ghost use Rattle.lpis_lineage.specs.declared.row.Entry.{Entry};
 ghost use Rattle.lpis_lineage.specs.Lineage.{last_live};
 ghost use Rattle.lpis_lineage.specs.Order.{IsAscending};
 ghost use Rattle.lpis_register_rows.specs.Shapes.{AreLive, ShapesAre, TextsStand, shape_ids};
-ghost use Rattle.lpis_register_rows.specs.Tells.{Says};
+ghost use Rattle.lpis_register_rows.specs.Tells.{TablesSay};
 ghost use Rattle.lpis_register_sql.specs.Holding.{IsStored};
-ghost use Rattle.lpis_register_sql.specs.Quiet.{IsFound, Reads};
+ghost use Rattle.lpis_register_sql.specs.Quiet.{IsFound, ReadsRows};
 ghost use Rattle.lpis_register.specs.Faults.{IsOpeningFault};
 ghost use Rattle.lpis_register.specs.Opening.{SaysNone, SaysRegister, texts_at};
 ghost use Rattle.lpis_register.specs.declared.fault.PublishFault.TheVariants.{Unlawful};
@@ -29,9 +29,9 @@ use std::alloc::Global;
 
 /// The history of rows, and their version.
 fn history_at(alloc: Global, rows: &Rows) -> Result<(History, Version), PublishFault>
-    ensures says { IfOk result (λ found. Says found.1 rows.now found.0) }
+    ensures says { IfOk result (λ found. TablesSay found.1 rows.now found.0) }
     ensures unlawful { IfErr result (λ e. e ≡ Unlawful → (version : _) (h : List Entry)
-        → Says version rows.now h → ⊥) }
+        → TablesSay version rows.now h → ⊥) }
     ensures kinds { IfErr result IsOpeningFault }
 {
     match history_of(alloc, rows, Version::Third) {
@@ -59,11 +59,11 @@ fn find_rows<S: Alter>(
 ) -> Result<(History, Version), PublishFault>
     requires autocommit { conn.old.in_transaction ≡ false }
     ensures autocommit { conn.new.in_transaction ≡ false }
-    ensures reads { Reads (IsFound found.now) (λ c it. Says it.1 c it.0)
+    ensures reads { ReadsRows (IsFound found.now) (λ c it. TablesSay it.1 c it.0)
         (state S.Store conn.old) (state S.Store conn.new) result }
     ensures unlawful { HasCleanDisk (state S.Store conn.new) → (layout : _)
         → IsFound found.now layout → (c : _) → IsStored layout (state S.Store conn.old) c
-        → IfErr result (λ e. e ≡ Unlawful → (version : _) (h : _) → Says version c h → ⊥) }
+        → IfErr result (λ e. e ≡ Unlawful → (version : _) (h : _) → TablesSay version c h → ⊥) }
     ensures kinds { IfErr result IsOpeningFault }
 {
     order_of_rows_is_free();
@@ -101,7 +101,7 @@ fn find_texts<S: Alter>(
 ) -> Result<Vec<(Id, Polygon)>, PublishFault>
     requires autocommit { conn.old.in_transaction ≡ false }
     ensures autocommit { conn.new.in_transaction ≡ false }
-    ensures reads { Reads (IsFound found.now)
+    ensures reads { ReadsRows (IsFound found.now)
         (λ c shapes. ShapesAre c.texts shapes.items × AreLive (last_live history.now) shapes.items)
         (state S.Store conn.old) (state S.Store conn.new) result }
     ensures unlawful { HasCleanDisk (state S.Store conn.new) → (layout : _)
@@ -127,7 +127,7 @@ fn find_shapes<S: Alter>(
 ) -> Result<Vec<(Id, Polygon)>, PublishFault>
     requires autocommit { conn.old.in_transaction ≡ false }
     ensures autocommit { conn.new.in_transaction ≡ false }
-    ensures reads { Reads (IsFound found.now)
+    ensures reads { ReadsRows (IsFound found.now)
         (λ c shapes. ShapesAre (texts_at version c) shapes.items
         × AreLive (last_live history.now) shapes.items)
         (state S.Store conn.old) (state S.Store conn.new) result }
@@ -153,7 +153,7 @@ pub(crate) fn find_told<S: Alter>(
 ) -> Result<(Told, Version), PublishFault>
     requires autocommit { conn.old.in_transaction ≡ false }
     ensures autocommit { conn.new.in_transaction ≡ false }
-    ensures reads { Reads (IsFound found.now)
+    ensures reads { ReadsRows (IsFound found.now)
         (λ c it. SaysRegister it.1 c it.0.history it.0.shapes.items)
         (state S.Store conn.old) (state S.Store conn.new) result }
     ensures unlawful { HasCleanDisk (state S.Store conn.new) → (layout : _)

@@ -3,10 +3,10 @@
 ghost use Rattle.std.specs.Prelude.{◌≡◌, ◌++◌, [], List};
 ghost use Rattle.sqlite.specs.Held.{state};
 ghost use Rattle.lpis_exact_lineage.specs.ExactLineage.{ShapesTurnOnce};
-ghost use Rattle.lpis_exact_lineage.specs.Shapes.{shape_of};
+ghost use Rattle.lpis_exact_lineage.specs.Shapes.{shape_named};
 ghost use Rattle.lpis_lineage.specs.declared.row.Entry.{Entry};
 ghost use Rattle.lpis_register_rows.specs.Content.{Content};
-ghost use Rattle.lpis_register_rows.specs.Tells.{IsSameHistory, Says};
+ghost use Rattle.lpis_register_rows.specs.Tells.{IsSameHistory, TablesSay};
 ghost use Rattle.lpis_register.specs.Calls.{AllLead, AreReleasesOf, Call, accepted};
 ghost use Rattle.lpis_register.specs.Histories.{HoldsRegister};
 ghost use Rattle.lpis_register_rows.specs.Shapes.{Shape};
@@ -32,16 +32,16 @@ pub fn accepted_releases_stand_in_order()
 /// rest on that.
 pub fn kept_shapes_turn_once()
     ensures after { (h k : List Entry) (kept shapes : List Shape) (calls : List Call)
-        → AllLead h kept calls k shapes → ShapesTurnOnce (shape_of kept)
-        → ShapesTurnOnce (shape_of shapes) }
+        → AllLead h kept calls k shapes → ShapesTurnOnce (shape_named kept)
+        → ShapesTurnOnce (shape_named shapes) }
     ensures in_memory { (k : List Entry) (shapes : List Shape) (calls : List Call)
-        → AllLead [] [] calls k shapes → ShapesTurnOnce (shape_of shapes) }
+        → AllLead [] [] calls k shapes → ShapesTurnOnce (shape_named shapes) }
 {}
 
 /// Rows say one history, whichever version they are of.
 pub fn rows_say_one_history()
     ensures { (c : Content) (h k : List Entry) (version other : Version)
-        → Says version c h → Says other c k → IsSameHistory h k }
+        → TablesSay version c h → TablesSay other c k → IsSameHistory h k }
 {
     tables_say_one_history();
 }

@@ -2,7 +2,7 @@
 use Rattle.std.proofs.Common.{◌≡◌, ◌∙◌, refl, sym, ap, ap₂, ℕ, ℤ, pos, List, [], ◌∷◌, ◌++◌, Bool, true, false, map, IsPermutation, if◌then◌else◌}
 use Rattle.lpis_register_rows.proofs.Common.{IsPermutation-sym, IsPermutation-trans, has_id, same_id, Row, Content, Line, StoredSpan, lines_from}
 use Rattle.std.proofs.lemmas.List.Sorted.{IsPermutation-refl, IsPermutation-middle}
-use Rattle.lpis_register_rows.specs.Content.{with_year, with_span, with_line, end_at, ended, all_ended, with_spans, with_lines, with_whole_spans, published}
+use Rattle.lpis_register_rows.specs.Content.{with_year, with_span, with_line, end_at, with_ended, all_ended, with_spans, with_lines, with_whole_spans, published}
 
 -- the first list, last item first, before the second
 abbrev pub rev_onto : {A : Type 0} → List A → List A → List A
@@ -51,7 +51,7 @@ ends-step y id ids (s ∷ ss) = ap₂ (λ (x : StoredSpan) (l : List StoredSpan)
 
 ended-made : (y : ℤ) (ids : List (List ℕ)) (c : Content) → all_ended y ids c ≡ record c { spans = map (end_among y ids) c.spans }
 ended-made y [] c = ap (λ (l : List StoredSpan). record c { spans = l }) (sym (ends-none y c.spans))
-ended-made y (id ∷ ids) c = ended-made y ids (ended y c id) ∙ ap (λ (l : List StoredSpan). record c { spans = l }) (ends-step y id ids c.spans)
+ended-made y (id ∷ ids) c = ended-made y ids (with_ended y c id) ∙ ap (λ (l : List StoredSpan). record c { spans = l }) (ends-step y id ids c.spans)
 
 -- what publishing makes, table by table
 pub published-is : (year last : ℤ) (gone fresh : List (List ℕ)) (rows : List Row) (c : Content)

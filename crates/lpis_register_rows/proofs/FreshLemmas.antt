@@ -6,7 +6,7 @@ use Rattle.std.specs.Cmp.Lexicographic.{nat_list_cmp_total, nat_list_eq_equiv, t
 use Rattle.std.proofs.lemmas.List.Elements.{All-contains}
 use Rattle.std.proofs.lemmas.List.Kept.{Contains-dedup, Contains-from_dedup, IsStrictlySortedBy-dedup}
 use Rattle.lpis_lineage.proofs.Shared.{has-filter}
-use Rattle.lpis_register_rows.specs.Tells.{IsFresh}
+use Rattle.lpis_register_rows.specs.Tells.{AreFresh}
 
 pub has-contained : (xs : List (List ℕ)) (q : List ℕ) → Contains xs q → has_id xs q ≡ true
 has-contained xs q there = All-contains (λ z. has_id xs z ≡ true) xs q (All-from_recursion (λ z. has_id xs z ≡ true) xs (among xs (λ z h. h))) there where
@@ -27,7 +27,7 @@ has-dedup xs q = both_ways (has_id (dedup same_id xs) q) (has_id xs q)
     (λ h. has-contained (dedup same_id xs) q (Contains-dedup nat_list_eq_equiv same-exact xs q (contained-has xs q h)))
 
 pub fresh-sorted : (h : List Entry) (live found sorted : List (List ℕ)) → found ≡ filter (λ id. not (is_some (span_of h id))) live → All (λ id. is_id id ≡ true) found
-    → IsPermutation found sorted → IsSorted (slice_cmp nat_cmp) sorted → IsFresh h live (dedup same_id sorted)
+    → IsPermutation found sorted → IsSorted (slice_cmp nat_cmp) sorted → AreFresh h live (dedup same_id sorted)
 fresh-sorted h live found sorted is all moved up = record { are = are; ascend = IsStrictlySortedBy-dedup nat_list_cmp_total texts_ties sorted up; ids = ids } where
   has : (q : List ℕ) → has_id (dedup same_id sorted) q ≡ has_id found q
   has q = has-dedup sorted q ∙ sym (list_any-IsPermutation (same_id q) found sorted moved)

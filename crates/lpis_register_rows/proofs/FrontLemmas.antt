@@ -1,11 +1,12 @@
 -- A history put together release by release is the front of the one that the rows say.
-use Rattle.std.proofs.Common.{◌≡◌, ◌∙◌, ◌<◌, ◌≤◌, ◌+◌, inl, inr, refl, sym, ap, ap₂, subst, arith, ℕ, zero, suc, ℤ, pos, List, [], ◌∷◌, ◌++◌, Bool, true, cond, nat_lt, Option, None, Some, Err, ◌||◌, length, map, take, get_or}
+use Rattle.std.proofs.Common.{◌≡◌, ◌∙◌, ◌<◌, ◌≤◌, ◌+◌, inl, inr, refl, sym, ap, ap₂, subst, arith, ℕ, zero, suc, ℤ, pos, List, [], ◌∷◌, ◌++◌, Bool, true, cond, nat_lt, Option, None, Some, Err, ◌||◌}
+use Rattle.std.proofs.Common.{length, map, take, get_or}
 use Rattle.std.proofs.Common.{length-append, ◌&&◌, filter}
-use Rattle.lpis_register_rows.proofs.Common.{AllByRecursion, list_any, map-append, has_id, same_id, Entry, Row, Adds, IsLawful, RowsFit, entry_at, holds, last_live, names}
+use Rattle.lpis_register_rows.proofs.Common.{AllByRecursion, list_any, map-append, has_id, same_id, Entry, Row, Adds, IsLawful, RowsFit, entry_at, holds, last_live, names_successor}
 use Rattle.lpis_register_rows.proofs.Common.{first_held}
 use Rattle.lpis_register_rows.proofs.Common.{last_held, span_of, entry-after, entry-before, entry-here, in-history, longer, before-at-after, take-at, KnownSpan}
 use Rattle.lpis_register_rows.proofs.Common.{KnownLine, StoredSpan, known_from, IsSameHistory}
-use Rattle.lpis_register_rows.proofs.Common.{known_of, years_of, covers, IsSaid, span_in}
+use Rattle.lpis_register_rows.proofs.Common.{known_of, years_of, covers, SaysHistory, span_in}
 use Rattle.std.proofs.lemmas.List.{append-nil, append_assoc, append_cancel_left, length-take-le, get_or_default, take-append-le}
 use Rattle.lpis_lineage.specs.declared.fault.LineageFault.{LineageFault}
 use Rattle.lpis_lineage.specs.declared.fault.AddFault.{AddFault}
@@ -16,11 +17,11 @@ use Rattle.lpis_lineage.specs.Lawful.{IsAnswered}
 use Rattle.lpis_lineage.specs.declared.kind.Kind.{Kind}
 use Rattle.lpis_lineage.specs.declared.kind.Kind.TheVariants.{Kept, Ended}
 use Rattle.lpis_lineage.specs.ExactGroups.{MarksHold, is_outside}
-use Rattle.lpis_lineage.specs.Kinds.{by_counts, heirs, kind, predecessors, successors, times}
-use Rattle.lpis_lineage.specs.Lineage.{ended, is_of, last_year, same_row}
+use Rattle.lpis_lineage.specs.Kinds.{by_counts, heirs, kind, predecessors, successors, id_times}
+use Rattle.lpis_lineage.specs.Lineage.{is_ended, is_row_of, last_year, same_row}
 use Rattle.lpis_lineage.proofs.Shared.{never-follows}
 use Rattle.lpis_register_rows.specs.private.Fronts.{IsDue, IsFront, IsRun}
-use Rattle.lpis_register_rows.specs.private.Known.{line_at}
+use Rattle.lpis_register_rows.specs.private.Known.{known_line_at}
 use Rattle.lpis_register_rows.proofs.AscendingLemmas.{Ascends, below, below-alone}
 use Rattle.lpis_register_rows.proofs.KnownLemmas.{AreLive, take-whole}
 use Rattle.lpis_register_rows.proofs.KnownRowLemmas.{known-above, rows-apart}
@@ -47,7 +48,7 @@ front-lawful g h f law = record {
       let lt = d.0 in
       let s = f.short in
       subst (λ (rs : List Row). IsAnswered rs id) (sym (f.rows (i + 1) lt)) (law.continued id i (omega (arith, lt, s), sym (f.sets i (omega (arith, lt)) id) ∙ d.1, sym (f.sets (i + 1) lt id) ∙ d.2));
-  successors = λ id i n. let il = rows-within g i (names id) n in f.sets i il id ∙ law.successors id i (ap (λ (rs : List Row). list_any (names id) rs) (sym (f.rows i il)) ∙ n);
+  successors = λ id i n. let il = rows-within g i (names_successor id) n in f.sets i il id ∙ law.successors id i (ap (λ (rs : List Row). list_any (names_successor id) rs) (sym (f.rows i il)) ∙ n);
 }
 
 any-alike : {A : Type 0} (p q : A → Bool) (xs : List A) → ((x : A) → p x ≡ q x) → list_any p xs ≡ list_any q xs
@@ -58,13 +59,13 @@ any-alike p q (x ∷ xs) f = ap₂ (λ (a b : Bool). a || b) (f x) (any-alike p 
 kinds-alike : (l m a b : List (List ℕ)) (rows : List Row) → ((q : List ℕ) → has_id l q ≡ has_id m q) → ((q : List ℕ) → has_id a q ≡ has_id b q) → kind l a rows ≡ kind m b rows
 kinds-alike l m a b rows last live = λ i id. one id i where
   by : List ℕ → Bool → Bool → Bool → Option Kind
-  by id x y z = cond x (Some (cond y Kept (cond (ended rows id) Ended (by_counts (nat_lt 1 (length (successors rows id))) z)))) None
+  by id x y z = cond x (Some (cond y Kept (cond (is_ended rows id) Ended (by_counts (nat_lt 1 (length (successors rows id))) z)))) None
 
   one : (id : List ℕ) → kind l a rows id ≡ kind m b rows id
   one id =
       ap₂ (λ (x y : Bool). by id x y (list_any (λ s. nat_lt 1 (predecessors l a rows s)) (successors rows id))) (last id) (live id)
       ∙ ap (λ (z : Bool). by id (has_id m id) (has_id b id) z) (any-alike (λ s. nat_lt 1 (predecessors l a rows s)) (λ s. nat_lt 1 (predecessors m b rows s)) (successors rows id)
-      (λ s. ap₂ (λ (x y : Bool). nat_lt 1 (times (heirs rows) s + cond (x && y) 1 0)) (last s) (live s)))
+      (λ s. ap₂ (λ (x y : Bool). nat_lt 1 (id_times (heirs rows) s + cond (x && y) 1 0)) (last s) (live s)))
 
 front-fits : (g h : List Entry) → IsFront g h → RowsFit h → RowsFit g
 front-fits g h f fit = record {
@@ -74,8 +75,8 @@ front-fits g h f fit = record {
     | inr r ↦ beyond row i (elim r as (λ _. length g ≤ i) [ inl e ↦ omega (arith, e) | inr lt ↦ omega (arith, lt) ])
   ];
   of_dropped = λ id i n.
-      let il = rows-within g (i + 1) (is_of id) n in
-      let d = fit.of_dropped id i (ap (λ (rs : List Row). list_any (is_of id) rs) (sym (f.rows (i + 1) il)) ∙ n) in
+      let il = rows-within g (i + 1) (is_row_of id) n in
+      let d = fit.of_dropped id i (ap (λ (rs : List Row). list_any (is_row_of id) rs) (sym (f.rows (i + 1) il)) ∙ n) in
       (il, f.sets i (omega (arith, il)) id ∙ d.1, f.sets (i + 1) il id ∙ d.2);
   marked = λ i. elim (before-at-after (i + 1) (length g)) as (λ _. MarksHold (entry_at g i).live (entry_at g (i + 1)).live (entry_at g (i + 1)).rows) [
     | inl lt ↦ held i lt
@@ -176,18 +177,18 @@ span-same g h id same = rw (
 
 -- ---- where a release's lines stand
 
-at-append : (xs ys : List KnownLine) (n k : ℕ) → n ≡ length xs + k → line_at (xs ++ ys) n ≡ line_at ys k
-at-append [] ys n k e = ap (line_at ys) (omega (arith, e))
+at-append : (xs ys : List KnownLine) (n k : ℕ) → n ≡ length xs + k → known_line_at (xs ++ ys) n ≡ known_line_at ys k
+at-append [] ys n k e = ap (known_line_at ys) (omega (arith, e))
 at-append (x ∷ xs) ys zero k e = absurd (omega (arith, e))
 at-append (x ∷ xs) ys (suc n) k e = at-append xs ys n k (omega (arith, e))
 
 at-lines : (y : ℤ) (n : ℕ) (rs : List Row) (back : List KnownLine) (k : ℕ) → k < length rs
-    → ((line_at (known_from y n rs ++ back) k).year ≡ y) × ((line_at (known_from y n rs ++ back) k).position ≡ pos (n + k))
+    → ((known_line_at (known_from y n rs ++ back) k).year ≡ y) × ((known_line_at (known_from y n rs ++ back) k).position ≡ pos (n + k))
 at-lines y n [] back k lt = absurd (omega (arith, lt))
 at-lines y n (r ∷ rs) back zero lt = (refl, (let e : n ≡ n + 0 = omega arith in ap (λ (m : ℕ). pos m) e))
 at-lines y n (r ∷ rs) back (suc k) lt = let ih = at-lines y (n + 1) rs back k (omega (arith, lt)) in (ih.0, ih.1 ∙ (let e : n + 1 + k ≡ n + suc k = omega arith in ap (λ (m : ℕ). pos m) e))
 
-at-end : (y : ℕ) (back : List KnownLine) → AllByRecursion (λ l. below (pos y) l.year) back → (line_at back 0).year ≡ pos y → ⊥
+at-end : (y : ℕ) (back : List KnownLine) → AllByRecursion (λ l. below (pos y) l.year) back → (known_line_at back 0).year ≡ pos y → ⊥
 at-end y [] all e = absurd cc
 at-end y (l ∷ ls) all e = let r : below (pos y) (pos y) = subst (below (pos y)) e all.0 in below-alone (pos y) (pos y) r r
 
@@ -211,8 +212,8 @@ lines-run y front rs back whole from w n above = record {
       ∙ at-append (known_from (pos y) 0 rs) back (length rs) 0 (let m = lines-length (pos y) 0 rs in omega (arith, m))))
       ∙ e);
 } where
-  there : (m k : ℕ) → m ≡ length front + k → line_at whole m ≡ line_at (known_from (pos y) 0 rs ++ back) k
-  there m k e = ap (λ (l : List KnownLine). line_at l m) w ∙ at-append front (known_from (pos y) 0 rs ++ back) m k e
+  there : (m k : ℕ) → m ≡ length front + k → known_line_at whole m ≡ known_line_at (known_from (pos y) 0 rs ++ back) k
+  there m k e = ap (λ (l : List KnownLine). known_line_at l m) w ∙ at-append front (known_from (pos y) 0 rs ++ back) m k e
 
 tail-front : (x y : Entry) (g h : List Entry) → IsFront (x ∷ g) (y ∷ h) → IsFront g h
 tail-front x y g h f = record {
@@ -242,20 +243,20 @@ next-lines (x ∷ g) (y ∷ h) f lt a =
 next-lines _ _ f lt a = absurd (omega (arith, lt))
 
 -- reading goes on up to the end of the run
-pub run-more : (ls : List KnownLine) (from y stop next : ℕ) → IsRun ls from y stop → next ≤ stop → (line_at ls next).year ≡ pos y → next + 1 ≤ stop
+pub run-more : (ls : List KnownLine) (from y stop next : ℕ) → IsRun ls from y stop → next ≤ stop → (known_line_at ls next).year ≡ pos y → next + 1 ≤ stop
 run-more ls from y stop next run le e = elim (before-at-after next stop) as (λ _. next + 1 ≤ stop) [
   | inl lt ↦ omega (arith, lt)
-  | inr r ↦ elim r as (λ _. next + 1 ≤ stop) [ inl at ↦ absurd (run.after (ap (λ (n : ℕ). (line_at ls n).year) (sym at) ∙ e)) | inr gt ↦ absurd (omega (arith, le, gt)) ]
+  | inr r ↦ elim r as (λ _. next + 1 ≤ stop) [ inl at ↦ absurd (run.after (ap (λ (n : ℕ). (known_line_at ls n).year) (sym at) ∙ e)) | inr gt ↦ absurd (omega (arith, le, gt)) ]
 ]
 
-pub run-end : (ls : List KnownLine) (from y stop next k : ℕ) → IsRun ls from y stop → next ≤ stop → next ≡ from + k → ((line_at ls next).year ≡ pos y → ⊥) → next ≡ stop
+pub run-end : (ls : List KnownLine) (from y stop next k : ℕ) → IsRun ls from y stop → next ≤ stop → next ≡ from + k → ((known_line_at ls next).year ≡ pos y → ⊥) → next ≡ stop
 run-end ls from y stop next k run le at not = elim (before-at-after next stop) as (λ _. next ≡ stop) [
-  | inl lt ↦ absurd (not (ap (λ (n : ℕ). (line_at ls n).year) at ∙ (run.here k (omega (arith, at, lt))).0))
+  | inl lt ↦ absurd (not (ap (λ (n : ℕ). (known_line_at ls n).year) at ∙ (run.here k (omega (arith, at, lt))).0))
   | inr r ↦ elim r as (λ _. next ≡ stop) [ inl e ↦ e | inr gt ↦ absurd (omega (arith, le, gt)) ]
 ]
 
-pub run-position : (ls : List KnownLine) (from y stop next k : ℕ) → IsRun ls from y stop → next ≡ from + k → next + 1 ≤ stop → (line_at ls next).position ≡ pos k
-run-position ls from y stop next k run at le = ap (λ (n : ℕ). (line_at ls n).position) at ∙ (run.here k (omega (arith, at, le))).1
+pub run-position : (ls : List KnownLine) (from y stop next k : ℕ) → IsRun ls from y stop → next ≡ from + k → next + 1 ≤ stop → (known_line_at ls next).position ≡ pos k
+run-position ls from y stop next k run at le = ap (λ (n : ℕ). (known_line_at ls n).position) at ∙ (run.here k (omega (arith, at, le))).1
 
 -- ---- the next release that rows say
 
@@ -279,7 +280,7 @@ rows-cut y front rows others back whole read next n w r o =
       alike = append_cancel_left front (known_from (pos y) 0 others) mid (
           sym o ∙ r ∙ ap (take next) (w ∙ sym (append_assoc front mid back)) ∙ take-append-le next (front ++ mid) back (omega (arith, long)) ∙ take-whole (front ++ mid) next (omega (arith, long)))
 
-module _ (spans : List KnownSpan) (lines : List KnownLine) (g h : List Entry) (from year : ℕ) (said : IsSaid spans lines h) (due : IsDue g lines from year h) (within : from ≤ length lines) where
+module _ (spans : List KnownSpan) (lines : List KnownLine) (g h : List Entry) (from year : ℕ) (said : SaysHistory spans lines h) (due : IsDue g lines from year h) (within : from ≤ length lines) where
   begins : from ≡ length (known_of g)
   begins = let e = ap length due.lines_are in let t = length-take-le from lines within in omega (arith, e, t)
 
@@ -324,7 +325,7 @@ module _ (spans : List KnownSpan) (lines : List KnownLine) (g h : List Entry) (f
       (front-lawful (g ++ e ∷ []) h f said.kept.lawful) (front-fits (g ++ e ∷ []) h f said.kept.fits)
 
 -- what `add` refuses was not due
-pub due-refused : (spans : List KnownSpan) (lines : List KnownLine) (g h : List Entry) (from year : ℕ) → IsSaid spans lines h
+pub due-refused : (spans : List KnownSpan) (lines : List KnownLine) (g h : List Entry) (from year : ℕ) → SaysHistory spans lines h
     → IsDue g lines from year h → from ≤ length lines → (live : List (List ℕ)) (rows : List Row) (fault : AddFault)
     → AreLive live year spans → rows ≡ (entry_at h (length g)).rows → AddTells {A = Unit {0}} g year live rows (Err fault) → (fault ≡ WantsMemory → ⊥) → ⊥
 due-refused spans lines g h from year said due within live rows WantsMemory alive r t f = f refl
@@ -371,7 +372,7 @@ same-lines (x ∷ g) (y ∷ h) f n =
 same-lines _ _ f n = absurd (omega (arith, n))
 
 -- with no release left no line is left
-pub lines-whole : (spans : List KnownSpan) (lines : List KnownLine) (g h : List Entry) (from : ℕ) → IsSaid spans lines h → IsFront g h
+pub lines-whole : (spans : List KnownSpan) (lines : List KnownLine) (g h : List Entry) (from : ℕ) → SaysHistory spans lines h → IsFront g h
     → length g ≡ length h → known_of g ≡ take from lines → from < length lines → ⊥
 lines-whole spans lines g h from said front n are lt = absurd (let e = ap length (are-same ∙ said.lines_are) in let a =
     ap length are in let t = length-take-le from lines (omega (arith, lt)) in omega (arith, e, a, t, lt)) where

@@ -9,7 +9,7 @@ use Rattle.std.proofs.lemmas.List.{take-append-drop, append_assoc}
 use Rattle.std.proofs.lemmas.Bool.{not-false}
 use Rattle.std.proofs.Math.Bool.{and-true, or-false}
 use Rattle.lpis_lineage.proofs.Shared.{add-by_order, has-by_order, same-sym, filter-append, filter-some, any-push, or-cond}
-use Rattle.lpis_register_rows.specs.private.Known.{line_at}
+use Rattle.lpis_register_rows.specs.private.Known.{known_line_at}
 
 -- no test is both true and false
 pub no-both : {P : Type 0} → (b : Bool) → b ≡ true → b ≡ false → P
@@ -27,12 +27,12 @@ pub all-pushed : {A : Type 0} (P : A → Type 0) (xs new : List A) (x : A) → n
 all-pushed P xs new x n all p = subst (All P) (sym n) (All-push P xs x all p)
 
 -- the line at a position of those that were read
-pub known-at : (ks : List KnownLine) (i : ℕ) (l : KnownLine) → i < length ks → l ≡ get_or ks i l → line_at ks i ≡ l
+pub known-at : (ks : List KnownLine) (i : ℕ) (l : KnownLine) → i < length ks → l ≡ get_or ks i l → known_line_at ks i ≡ l
 known-at [] i l lt at = absurd (omega (arith, lt))
 known-at (k ∷ ks) zero l lt at = sym at
 known-at (k ∷ ks) (suc i) l lt at = known-at ks i l (omega (arith, lt)) at
 
-pub known-past : {P : Type 0} → (ks : List KnownLine) (i : ℕ) (y : ℕ) → length ks ≤ i → (line_at ks i).year ≡ pos y → P
+pub known-past : {P : Type 0} → (ks : List KnownLine) (i : ℕ) (y : ℕ) → length ks ≤ i → (known_line_at ks i).year ≡ pos y → P
 known-past [] i y le e = absurd cc
 known-past (k ∷ ks) zero y le e = absurd (omega (arith, le))
 known-past (k ∷ ks) (suc i) y le e = known-past ks i y (omega (arith, le)) e

@@ -1,22 +1,23 @@
 -- Rows of lineage with their years and positions.
 use Rattle.std.proofs.Common.{◌≡◌, ◌+◌, refl, ap, ap₂, sym, subst, ℕ, ℤ, pos, List, [], ◌∷◌, ◌++◌, true, Option, None, Some}
-use Rattle.lpis_register_rows.proofs.Common.{AllByRecursion, list_any, or_left, or_right, is_id, Entry, Row, entry_at, names, text_of, IsKept, years_of, HasText, KnownLine, known_from, known_of}
+use Rattle.lpis_register_rows.proofs.Common.{AllByRecursion, list_any, or_left, or_right, is_id, Entry, Row, entry_at, names_successor, successor_text, IsKeptHistory, years_of, HasText, KnownLine}
+use Rattle.lpis_register_rows.proofs.Common.{known_from, known_of}
 use Rattle.lpis_lineage.specs.Lineage.{is_this}
 use Rattle.lpis_register_rows.proofs.AscendingLemmas.{all-append, all-map, below, below-alone}
 use Rattle.lpis_register_rows.proofs.YearLemmas.{all-entries}
 
-rows-have-texts : (rows : List Row) → ((id : List ℕ) → list_any (names id) rows ≡ true → is_id id ≡ true) → AllByRecursion HasText rows
+rows-have-texts : (rows : List Row) → ((id : List ℕ) → list_any (names_successor id) rows ≡ true → is_id id ≡ true) → AllByRecursion HasText rows
 rows-have-texts [] f = tt
 rows-have-texts (r ∷ rs) f = (
-  λ e. let n : names [] r ≡ true = ap (is_this []) e in let i =
-      f [] (or_left (names [] r) (list_any (names []) rs) n) in cc,
-  rows-have-texts rs (λ id n. f id (or_right (names id r) (list_any (names id) rs) n)),
+  λ e. let n : names_successor [] r ≡ true = ap (is_this []) e in let i =
+      f [] (or_left (names_successor [] r) (list_any (names_successor []) rs) n) in cc,
+  rows-have-texts rs (λ id n. f id (or_right (names_successor id r) (list_any (names_successor id) rs) n)),
 )
 
-pub have-texts : (h : List Entry) → IsKept h → AllByRecursion (λ e. AllByRecursion HasText e.rows) h
+pub have-texts : (h : List Entry) → IsKeptHistory h → AllByRecursion (λ e. AllByRecursion HasText e.rows) h
 have-texts h kept = all-entries (λ e. AllByRecursion HasText e.rows) h (λ i lt. rows-have-texts (entry_at h i).rows (λ id n. kept.ids id i (kept.lawful.successors id i n)))
 
-pub same-text : (a b : Option (List ℕ)) → (a ≡ Some [] → ⊥) → (b ≡ Some [] → ⊥) → text_of a ≡ text_of b → a ≡ b
+pub same-text : (a b : Option (List ℕ)) → (a ≡ Some [] → ⊥) → (b ≡ Some [] → ⊥) → successor_text a ≡ successor_text b → a ≡ b
 same-text None None f g e = refl
 same-text None (Some s) f g e = absurd (g (ap Some (sym e)))
 same-text (Some s) None f g e = absurd (f (ap Some e))

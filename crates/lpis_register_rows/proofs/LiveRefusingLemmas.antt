@@ -3,7 +3,8 @@ use Rattle.std.proofs.Common.{◌≡◌, ◌∙◌, ◌<◌, ◌+◌, inl, inr, 
 use Rattle.std.proofs.Common.{All, Contains}
 use Rattle.lpis_register_rows.proofs.Common.{AllByRecursion, list_any, map-append, All-from_recursion, recursion_from_All, both_ways, is_id, same_id, Entry, IsLawful, entry_at, holds, same-exact}
 use Rattle.lpis_register_rows.proofs.Common.{same-refl}
-use Rattle.lpis_register_rows.proofs.Common.{take-at, above-zero, KnownLine, KnownSpan, Content, Live, StoredSpan, IsKept, LiveTells, TellsLive, years_of, covers, IsSaid, SetsAre, known_of}
+use Rattle.lpis_register_rows.proofs.Common.{take-at, above-zero, KnownLine, KnownSpan, Content, Live, StoredSpan, IsKeptHistory, LiveTells, TellsLive, years_of, covers, SaysHistory, SetsAre}
+use Rattle.lpis_register_rows.proofs.Common.{known_of}
 use Rattle.lpis_register_rows.proofs.Common.{one_year, span_in}
 use Rattle.std.proofs.lemmas.List.{get_or_default}
 use Rattle.std.proofs.lemmas.List.Elements.{Contains-get_or, Contains-push_cases}
@@ -12,7 +13,7 @@ use Rattle.lpis_register_rows.proofs.LiveRowLemmas.{any-contains, covered, cover
 use Rattle.lpis_register_rows.proofs.NextReleaseLemmas.{any-map}
 use Rattle.lpis_register_rows.proofs.OneHistoryLemmas.{same-index}
 
-pub live-ids : (h : List Entry) (live : List Live) → IsKept h → LiveTells live h → All (λ l. is_id l.id ≡ true) live
+pub live-ids : (h : List Entry) (live : List Live) → IsKeptHistory h → LiveTells live h → All (λ l. is_id l.id ≡ true) live
 live-ids h live kept t k d lt = let r = t.right (get_or live k d) (Contains-get_or live k d lt) in kept.ids (get_or live k d).id r.0 r.3
 
 -- ---- sets
@@ -43,7 +44,7 @@ live-sets h live law t i lt id = both_ways (holds h i id) (list_any (λ s. same_
       ap₂ (λ (k : ℕ) (q : List ℕ). holds h k q) (sym (same-index h law r.0 i r.1 lt same)) (same-exact id l.id (and_parts (same_id id l.id) (covers (one_year l) y) found.2).0) ∙ r.3
 
 pub live-said : (c : Content) (h : List Entry) (spans : List KnownSpan) (lines : List KnownLine) → TellsLive c h
-    → map span_in spans ≡ map one_year c.live → known_of h ≡ lines → IsSaid spans lines h
+    → map span_in spans ≡ map one_year c.live → known_of h ≡ lines → SaysHistory spans lines h
 live-said c h spans lines t ss ls = record {
   kept = t.kept;
   sets = subst (λ (l : List StoredSpan). SetsAre l h) (sym ss) (live-sets h c.live t.kept.lawful t.live_are);

@@ -1,7 +1,9 @@
 -- Lines and marks of a history, and lines that get their marks.
-use Rattle.std.proofs.Common.{◌≡◌, ◌∙◌, ◌<◌, ◌≤◌, ◌+◌, ◌⊎◌, refl, sym, ap, ap₂, subst, arith, ℕ, zero, suc, ℤ, pos, List, [], ◌∷◌, ◌++◌, Bool, true, false, cond, length, map, take, drop, get_or, set, Option, IsPermutation, ◌&&◌}
+use Rattle.std.proofs.Common.{◌≡◌, ◌∙◌, ◌<◌, ◌≤◌, ◌+◌, ◌⊎◌, refl, sym, ap, ap₂, subst, arith, ℕ, zero, suc, ℤ, pos, List, [], ◌∷◌, ◌++◌, Bool, true, false, cond, length, map, take, drop, get_or, set}
+use Rattle.std.proofs.Common.{Option, IsPermutation, ◌&&◌}
 use Rattle.std.proofs.Common.{All, IsSorted, IsSortedByKey, int_eq, is_lt}
-use Rattle.lpis_register_rows.proofs.Common.{AllByRecursion, recursion_from_All, map-append, Entry, Row, IsLawful, KnownLine, Line, lines_from, text_of, IsKept, lines_of, HasText, line_in, known_from, known_of}
+use Rattle.lpis_register_rows.proofs.Common.{AllByRecursion, recursion_from_All, map-append, Entry, Row, IsLawful, KnownLine, Line, lines_from, successor_text, IsKeptHistory, lineage_lines, HasText}
+use Rattle.lpis_register_rows.proofs.Common.{line_in, known_from, known_of}
 use Rattle.lpis_register_rows.proofs.Common.{IsPermutation-sym, IsPermutation-trans, Mark, marks_of, marks_in, walked}
 use Rattle.std.specs.Cmp.{IsTotalOrder, signed_Decides}
 use Rattle.std.proofs.lemmas.Bool.{and_parts}
@@ -13,7 +15,7 @@ use Rattle.std.proofs.lemmas.List.Sorted.{IsPermutation-refl, ranks_by, sorted_f
 use Rattle.lpis_register_rows.proofs.AscendingLemmas.{Ascends, all-append, below}
 use Rattle.lpis_register_rows.proofs.KnownRowLemmas.{have-texts, same-text}
 use Rattle.lpis_register_rows.proofs.SortingLemmas.{Less_by, Rises, ascends-map, lines-less, rises-far, sorted-lines, sorted-same}
-use Rattle.lpis_register_rows.specs.private.Marking.{mark_cmp, mark_in, marked, marks_line, is_next, later, unused}
+use Rattle.lpis_register_rows.specs.private.Marking.{mark_cmp, line_mark, marked, marks_line, is_next, later, unused}
 use Rattle.lpis_register_rows.specs.Content.{marks_from}
 use Rattle.lpis_register_rows.specs.private.Known.{line_cmp}
 use Rattle.lpis_register_rows.proofs.YearLemmas.{line_below, line-alone, lines-ascend, years-ascend}
@@ -22,17 +24,18 @@ use Rattle.lpis_register_rows.proofs.YearLemmas.{line_below, line-alone, lines-a
 
 from-lines : (y : ℤ) (n : ℕ) (rs : List Row) → map line_in (known_from y n rs) ≡ lines_from y n rs
 from-lines y n [] = refl
-from-lines y n (r ∷ rs) = ap (λ (l : List Line). (record { year = y; position = pos n; old = r.old; new = text_of r.new }) ∷ l) (from-lines y (n + 1) rs)
+from-lines y n (r ∷ rs) = ap (λ (l : List Line). (record { year = y; position = pos n; old = r.old; new = successor_text r.new }) ∷ l) (from-lines y (n + 1) rs)
 
-pub lines-in : (h : List Entry) → map line_in (known_of h) ≡ lines_of h
+pub lines-in : (h : List Entry) → map line_in (known_of h) ≡ lineage_lines h
 lines-in [] = refl
 lines-in (e ∷ h) = map-append line_in (known_from (pos e.year) 0 e.rows) (known_of h) ∙ ap₂ (λ (a b : List Line). a ++ b) (from-lines (pos e.year) 0 e.rows) (lines-in h)
 
 marks-append : (ks ls : List KnownLine) → marks_in (ks ++ ls) ≡ marks_in ks ++ marks_in ls
 marks-append [] ls = refl
 marks-append (k ∷ ks) ls = by k.row.exact (marks-append ks ls) where
-  by : (b : Bool) → marks_in (ks ++ ls) ≡ marks_in ks ++ marks_in ls → cond b (mark_in k ∷ marks_in (ks ++ ls)) (marks_in (ks ++ ls)) ≡ cond b (mark_in k ∷ marks_in ks) (marks_in ks) ++ marks_in ls
-  by true e = ap (λ (l : List Mark). mark_in k ∷ l) e
+  by : (b : Bool) → marks_in (ks ++ ls) ≡ marks_in ks ++ marks_in ls → cond b (line_mark k ∷ marks_in (ks ++ ls)) (marks_in (ks ++ ls)) ≡ cond b (line_mark k
+      ∷ marks_in ks) (marks_in ks) ++ marks_in ls
+  by true e = ap (λ (l : List Mark). line_mark k ∷ l) e
   by false e = e
 
 from-marks : (y : ℤ) (n : ℕ) (rs : List Row) → marks_in (known_from y n rs) ≡ marks_from y n rs
@@ -60,7 +63,7 @@ pub mark-alone : (a b : Mark) → mark_below a b → mark_below b a → ⊥
 mark-alone a b r s = line-alone (as_line a) (as_line b) r s
 
 abbrev pub known_below : KnownLine → KnownLine → Type 0
-known_below k l = mark_below (mark_in k) (mark_in l)
+known_below k l = mark_below (line_mark k) (line_mark l)
 
 pub all-unmap : {A B : Type 0} (P : B → Type 0) (f : A → B) (xs : List A) → AllByRecursion P (map f xs) → AllByRecursion (λ x. P (f x)) xs
 all-unmap P f [] a = tt
@@ -73,18 +76,18 @@ ascends-unmap R f (x ∷ xs) a = (all-unmap (R (f x)) f xs a.0, ascends-unmap R 
 pub known-ascend : (h : List Entry) → IsLawful h → Ascends known_below (known_of h)
 known-ascend h law = ascends-unmap line_below line_in (known_of h) (subst (Ascends line_below) (sym (lines-in h)) (lines-ascend h (years-ascend h law)))
 
-marks-above : (P : Mark → Type 0) (ks : List KnownLine) → AllByRecursion (λ k. P (mark_in k)) ks → AllByRecursion P (marks_in ks)
+marks-above : (P : Mark → Type 0) (ks : List KnownLine) → AllByRecursion (λ k. P (line_mark k)) ks → AllByRecursion P (marks_in ks)
 marks-above P [] a = tt
 marks-above P (k ∷ ks) a = by k.row.exact (marks-above P ks a.1) where
-  by : (b : Bool) → AllByRecursion P (marks_in ks) → AllByRecursion P (cond b (mark_in k ∷ marks_in ks) (marks_in ks))
+  by : (b : Bool) → AllByRecursion P (marks_in ks) → AllByRecursion P (cond b (line_mark k ∷ marks_in ks) (marks_in ks))
   by true all = (a.0, all)
   by false all = all
 
 marks-ascending : (ks : List KnownLine) → Ascends known_below ks → Ascends mark_below (marks_in ks)
 marks-ascending [] a = tt
 marks-ascending (k ∷ ks) a = by k.row.exact (marks-ascending ks a.1) where
-  by : (b : Bool) → Ascends mark_below (marks_in ks) → Ascends mark_below (cond b (mark_in k ∷ marks_in ks) (marks_in ks))
-  by true all = (marks-above (mark_below (mark_in k)) ks a.0, all)
+  by : (b : Bool) → Ascends mark_below (marks_in ks) → Ascends mark_below (cond b (line_mark k ∷ marks_in ks) (marks_in ks))
+  by true all = (marks-above (mark_below (line_mark k)) ks a.0, all)
   by false all = all
 
 pub marks-ascend : (h : List Entry) → IsLawful h → Ascends mark_below (marks_of h)
@@ -112,12 +115,12 @@ pub walked-lines : (ms : List Mark) (ls : List KnownLine) → map line_in (walke
 walked-lines ms [] = refl
 walked-lines ms (l ∷ ls) = ap (λ (x : List Line). line_in l ∷ x) (walked-lines (cond (is_next ms l) (later ms) ms) ls)
 
-same-mark : (m : Mark) (l : KnownLine) → marks_line m l ≡ true → mark_in l ≡ m
+same-mark : (m : Mark) (l : KnownLine) → marks_line m l ≡ true → line_mark l ≡ m
 same-mark m l e =
     let p = and_parts (int_eq m.year l.year) (int_eq m.position l.position) e in
     ap₂ (λ (y n : ℤ). record { year = y; position = n }) (sym ((signed_Decides m.year l.year).0 p.0)) (sym ((signed_Decides m.position l.position).0 p.1))
 
-next-is : (ms : List Mark) (l : KnownLine) → is_next ms l ≡ true → mark_in l ∷ later ms ≡ ms
+next-is : (ms : List Mark) (l : KnownLine) → is_next ms l ≡ true → line_mark l ∷ later ms ≡ ms
 next-is [] l e = cc e
 next-is (m ∷ ms) l e = ap (λ (x : Mark). x ∷ ms) (same-mark m l e)
 
@@ -126,30 +129,30 @@ pub walked-marks : (ms : List Mark) (ls : List KnownLine) → marks_in (walked m
 walked-marks ms [] = refl
 walked-marks ms (l ∷ ls) = by (is_next ms l) refl (walked-marks (cond (is_next ms l) (later ms) ms) ls) where
   by : (b : Bool) → b ≡ is_next ms l → marks_in (walked (cond b (later ms) ms) ls) ++ unused (cond b (later ms) ms) ls ≡ cond b (later ms) ms
-      → cond b (mark_in l ∷ marks_in (walked (cond b (later ms) ms) ls)) (marks_in (walked (cond b (later ms) ms) ls)) ++ unused (cond b (later ms) ms) ls ≡ ms
-  by true e ih = ap (λ (x : List Mark). mark_in l ∷ x) ih ∙ next-is ms l (sym e)
+      → cond b (line_mark l ∷ marks_in (walked (cond b (later ms) ms) ls)) (marks_in (walked (cond b (later ms) ms) ls)) ++ unused (cond b (later ms) ms) ls ≡ ms
+  by true e ih = ap (λ (x : List Mark). line_mark l ∷ x) ih ∙ next-is ms l (sym e)
   by false e ih = ih
 
 -- a mark of a later line does not name this one
-not-named : (k l : KnownLine) → known_below l k → marks_line (mark_in k) l ≡ false
-not-named k l r = by (marks_line (mark_in k) l) refl where
-  by : (b : Bool) → b ≡ marks_line (mark_in k) l → b ≡ false
+not-named : (k l : KnownLine) → known_below l k → marks_line (line_mark k) l ≡ false
+not-named k l r = by (marks_line (line_mark k) l) refl where
+  by : (b : Bool) → b ≡ marks_line (line_mark k) l → b ≡ false
   by false e = refl
-  by true e = absurd (let s : known_below l l = subst (mark_below (mark_in l)) (sym (same-mark (mark_in k) l (sym e))) r in mark-alone (mark_in l) (mark_in l) s s)
+  by true e = absurd (let s : known_below l l = subst (mark_below (line_mark l)) (sym (same-mark (line_mark k) l (sym e))) r in mark-alone (line_mark l) (line_mark l) s s)
 
 not-next : (l : KnownLine) (ks : List KnownLine) → AllByRecursion (known_below l) ks → is_next (marks_in ks) l ≡ false
 not-next l [] a = refl
 not-next l (k ∷ ks) a = by k.row.exact (not-next l ks a.1) where
-  by : (b : Bool) → is_next (marks_in ks) l ≡ false → is_next (cond b (mark_in k ∷ marks_in ks) (marks_in ks)) l ≡ false
+  by : (b : Bool) → is_next (marks_in ks) l ≡ false → is_next (cond b (line_mark k ∷ marks_in ks) (marks_in ks)) l ≡ false
   by true e = not-named k l a.0
   by false e = e
 
-named-itself : (k : KnownLine) → marks_line (mark_in k) k ≡ true
+named-itself : (k : KnownLine) → marks_line (line_mark k) k ≡ true
 named-itself k = ap₂ (λ (a b : Bool). a && b) ((signed_Decides k.year k.year).1 refl) ((signed_Decides k.position k.position).1 refl)
 
 next-right : (k : KnownLine) (ks : List KnownLine) → AllByRecursion (known_below k) ks → is_next (marks_in (k ∷ ks)) k ≡ k.row.exact
 next-right k ks a = by k.row.exact where
-  by : (b : Bool) → is_next (cond b (mark_in k ∷ marks_in ks) (marks_in ks)) k ≡ b
+  by : (b : Bool) → is_next (cond b (line_mark k ∷ marks_in ks) (marks_in ks)) k ≡ b
   by true = named-itself k
   by false = not-next k ks a
 
@@ -178,7 +181,7 @@ walked-known (k ∷ ks) (l ∷ ls) a e =
     let one : plain l ≡ plain k = ap (first_known (plain k)) e in
     let ms : List Mark = marks_in (k ∷ ks) in
     let is : is_next ms l ≡ k.row.exact = plain-next ms k l one ∙ next-right k ks a.0 in
-    let left : cond (is_next ms l) (later ms) ms ≡ marks_in ks = ap (λ (b : Bool). cond b (later ms) ms) is ∙ after k.row.exact (mark_in k) (marks_in ks) in
+    let left : cond (is_next ms l) (later ms) ms ≡ marks_in ks = ap (λ (b : Bool). cond b (later ms) ms) is ∙ after k.row.exact (line_mark k) (marks_in ks) in
     let rest = walked-known ks ls a.1 (ap rest_known e) in (
       ap₂ (λ (b : Bool) (x : List Mark). marked b l ∷ walked x ls) is left
           ∙ ap₂ (λ (x : KnownLine) (xs : List KnownLine). x ∷ xs) (ap (λ (x : KnownLine). marked k.row.exact x) one) rest.0,
@@ -267,11 +270,11 @@ of-texts : (h : List Entry) → AllByRecursion (λ e. AllByRecursion HasText e.r
 of-texts [] a = tt
 of-texts (e ∷ h) a = all-append (λ k. HasText k.row) (known_from (pos e.year) 0 e.rows) (known_of h) (from-texts (pos e.year) 0 e.rows a.0) (of-texts h a.1)
 
-pub known-texts : (h : List Entry) → IsKept h → AllByRecursion (λ k. HasText k.row) (known_of h)
+pub known-texts : (h : List Entry) → IsKeptHistory h → AllByRecursion (λ k. HasText k.row) (known_of h)
 known-texts h kept = of-texts h (have-texts h kept)
 
 -- histories with the same lines and marks have the same rows
-pub known-same : (h k : List Entry) → IsKept h → IsKept k → lines_of h ≡ lines_of k → marks_of h ≡ marks_of k → known_of h ≡ known_of k
+pub known-same : (h k : List Entry) → IsKeptHistory h → IsKeptHistory k → lineage_lines h ≡ lineage_lines k → marks_of h ≡ marks_of k → known_of h ≡ known_of k
 known-same h k kept also lines marks =
     let plains = plain-same (known_of k) (known_of h) (known-texts k also) (known-texts h kept) (lines-in k ∙ sym lines ∙ sym (lines-in h)) in
     sym (walked-known (known_of h) (known_of k) (known-ascend h kept.lawful) plains).0
@@ -279,11 +282,11 @@ known-same h k kept also lines marks =
     ∙ (walked-known (known_of k) (known_of k) (known-ascend k also.lawful) refl).0
 
 -- sorted lines get the marks of the history that has them
-pub told-known : (h : List Entry) (ls : List Line) (ms sorted : List Mark) (read : List KnownLine) → IsKept h → IsSortedByKey line_in line_cmp read
-    → IsPermutation ls (map line_in read) → All (λ k. HasText k.row) read → IsPermutation ls (lines_of h) → IsSorted mark_cmp sorted
+pub told-known : (h : List Entry) (ls : List Line) (ms sorted : List Mark) (read : List KnownLine) → IsKeptHistory h → IsSortedByKey line_in line_cmp read
+    → IsPermutation ls (map line_in read) → All (λ k. HasText k.row) read → IsPermutation ls (lineage_lines h) → IsSorted mark_cmp sorted
     → IsPermutation ms sorted → IsPermutation ms (marks_of h) → (walked sorted read ≡ known_of h) × (unused sorted read ≡ [])
 told-known h ls ms sorted read kept up p texts q ups r s =
-    let lines : lines_of h ≡ map line_in read = sorted-lines ls read (lines_of h) up (lines-ascend h (years-ascend h kept.lawful)) p q in
+    let lines : lineage_lines h ≡ map line_in read = sorted-lines ls read (lineage_lines h) up (lines-ascend h (years-ascend h kept.lawful)) p q in
     let plains = plain-same read (known_of h) (recursion_from_All (λ k. HasText k.row) read texts) (known-texts h kept) (sym lines ∙ sym (lines-in h)) in
     let marks : marks_in (known_of h) ≡ sorted = marks-in h ∙ sym (told-sorted-marks h ms sorted kept.lawful ups r s) in
     let w = walked-known (known_of h) read (known-ascend h kept.lawful) plains in

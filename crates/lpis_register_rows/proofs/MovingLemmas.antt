@@ -4,7 +4,7 @@ use Rattle.lpis_register_rows.proofs.Common.{IsPermutation-sym, Entry, Content, 
 use Rattle.std.proofs.lemmas.List.{append-nil}
 use Rattle.std.proofs.lemmas.List.Sorted.{IsPermutation-refl, Contains-permutation, length_permutation}
 use Rattle.lpis_register_rows.specs.Content.{Format, at_version, moved, no_content, raised, without_live, without_spans, without_texts}
-use Rattle.lpis_register_rows.specs.Tells.{IsSameContent, Says, Tells}
+use Rattle.lpis_register_rows.specs.Tells.{IsSameContent, TablesSay, Tells}
 use Rattle.lpis_register_rows.proofs.FoldLemmas.{rev-moved, rev_onto, whole-spans-made}
 use Rattle.lpis_register_rows.specs.declared.version.Version.{Version}
 use Rattle.lpis_register_rows.specs.declared.version.Version.TheVariants.{First, Second, Third}
@@ -56,12 +56,12 @@ reordered-tells-live c d h m live t = record {
   unmarked = t.unmarked;
 }
 
-reordered : (version : Version) (c d : Content) (h : List Entry) → IsSameHistoryRows c d → IsPermutation c.live d.live → IsPermutation c.marks d.marks → Says version c h → Says version d h
+reordered : (version : Version) (c d : Content) (h : List Entry) → IsSameHistoryRows c d → IsPermutation c.live d.live → IsPermutation c.marks d.marks → TablesSay version c h → TablesSay version d h
 reordered First c d h m live marks t = reordered-tells-live c d h m live t
 reordered Second c d h m live marks t = reordered-tells 2 [] [] c d h m (IsPermutation-refl []) t
 reordered Third c d h m live marks t = reordered-tells 3 c.marks d.marks c d h m marks t
 
-pub reordered-says : (version : Version) (c d : Content) (h : List Entry) → IsSameContent c d → Says version c h → Says version d h
+pub reordered-says : (version : Version) (c d : Content) (h : List Entry) → IsSameContent c d → TablesSay version c h → TablesSay version d h
 reordered-says version c d h m t = reordered version c d h (record { formats = m.formats; years = m.years; spans = m.spans; lines = m.lines }) m.live m.marks t
 
 back : (c d : Content) → IsSameHistoryRows c d → IsSameHistoryRows d c
@@ -72,7 +72,7 @@ back c d m = record {
   lines = IsPermutation-sym c.lines d.lines m.lines;
 }
 
-pub textless-says : (version : Version) (c d : Content) (h : List Entry) → IsSameContent (without_texts c) d → Says version c h ↔ Says version d h
+pub textless-says : (version : Version) (c d : Content) (h : List Entry) → IsSameContent (without_texts c) d → TablesSay version c h ↔ TablesSay version d h
 textless-says version c d h m = (
   λ t. reordered version c d h rows m.live m.marks t,
   λ t. reordered version d c h (back c d rows) (IsPermutation-sym c.live d.live m.live) (IsPermutation-sym c.marks d.marks m.marks) t,

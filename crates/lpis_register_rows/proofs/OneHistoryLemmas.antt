@@ -4,15 +4,15 @@ use Rattle.std.proofs.Common.{nat_le, nat_eq, IsPermutation, int_eq}
 use Rattle.lpis_register_rows.proofs.Common.{AllByRecursion, list_any, nat_tests, both_ways, and-false, has_id, same_id, Entry, IsLawful, entry_at, holds}
 use Rattle.lpis_register_rows.proofs.Common.{span_of}
 use Rattle.lpis_register_rows.proofs.Common.{entry-after, in-history, same-exact, before-at-after, Content, Live, StoredSpan}
-use Rattle.lpis_register_rows.proofs.Common.{IsKept, IsSameHistory, IsSpanRow, LiveTells, SpansTell, TellsSpans}
-use Rattle.lpis_register_rows.proofs.Common.{TellsLive, lines_of, shown, years_of, covers, Mark, known_from, known_of, marks_of}
+use Rattle.lpis_register_rows.proofs.Common.{IsKeptHistory, IsSameHistory, IsSpanRow, LiveTells, SpansTell, TellsSpans}
+use Rattle.lpis_register_rows.proofs.Common.{TellsLive, lineage_lines, shown_span, years_of, covers, Mark, known_from, known_of, marks_of}
 use Rattle.std.specs.Int.Signed.{le_z}
 use Rattle.std.proofs.lemmas.Int.{ints}
 use Rattle.lpis_lineage.specs.declared.span.Span.{Span as Years}
 use Rattle.lpis_lineage.specs.Spans.{in_span}
 use Rattle.lpis_lineage.proofs.Shared.{span-tells}
 use Rattle.lpis_register_rows.proofs.AscendingLemmas.{Ascends, below, below-alone, same-ascending, both-orders}
-use Rattle.lpis_register_rows.specs.Tells.{Says}
+use Rattle.lpis_register_rows.specs.Tells.{TablesSay}
 use Rattle.lpis_register_rows.specs.declared.version.Version.{Version}
 use Rattle.lpis_register_rows.specs.declared.version.Version.TheVariants.{First, Second, Third}
 use Rattle.lpis_register_rows.proofs.KnownRowLemmas.{known-above, rows-apart}
@@ -42,7 +42,7 @@ row-covers h law s is i lt = by (span_of h s.id) refl is where
   until_in None = pos 0
   until_in (Some p) = p.1
 
-  by : (o : Option Years) → o ≡ span_of h s.id → shown o ≡ Some (s.since, s.until) → covers s (entry_at h i).year ≡ holds h i s.id
+  by : (o : Option Years) → o ≡ span_of h s.id → shown_span o ≡ Some (s.since, s.until) → covers s (entry_at h i).year ≡ holds h i s.id
   by None eo e = absurd cc
   by (Some y) eo e =
       let year : ℕ = (entry_at h i).year in
@@ -105,14 +105,15 @@ same-rows _ _ e a b l i = absurd cc
 -- ---- the law
 
 -- the same years and rows of lineage; the sets are said in each version's own way
-same-history : (c : Content) (h k : List Entry) → IsKept h → IsKept k → IsPermutation c.years (years_of h) → IsPermutation c.years (years_of k)
-    → IsPermutation c.lines (lines_of h) → IsPermutation c.lines (lines_of k) → (ms : List Mark) → IsPermutation ms (marks_of h) → IsPermutation ms (marks_of k)
+same-history : (c : Content) (h k : List Entry) → IsKeptHistory h → IsKeptHistory k → IsPermutation c.years (years_of h) → IsPermutation c.years (years_of k)
+    → IsPermutation c.lines (lineage_lines h) → IsPermutation c.lines (lineage_lines k) → (ms : List Mark) → IsPermutation ms (marks_of h) → IsPermutation ms (marks_of k)
     → (length h ≡ length k → ((i : ℕ) → (entry_at h i).year ≡ (entry_at k i).year) → (i : ℕ) (id : List ℕ) → holds h i id ≡ holds k i id) → IsSameHistory h k
 same-history c h k kept also_kept h_years k_years h_lines k_lines ms h_marks k_marks sets =
     let up = years-ascend h kept.lawful in
     let also = years-ascend k also_kept.lawful in
     let years = same-ascending below below-alone (years_of h) (years_of k) up also (both-orders c.years (years_of h) (years_of k) h_years k_years) in
-    let lines = same-ascending line_below line-alone (lines_of h) (lines_of k) (lines-ascend h up) (lines-ascend k also) (both-orders c.lines (lines_of h) (lines_of k) h_lines k_lines) in
+    let lines = same-ascending line_below line-alone (lineage_lines h) (lineage_lines k) (lines-ascend h up) (lines-ascend k also) (both-orders c.lines (lineage_lines h)
+    (lineage_lines k) h_lines k_lines) in
     let marks = same-ascending mark_below mark-alone (marks_of h) (marks_of k) (marks-ascend h kept.lawful) (marks-ascend k also_kept.lawful) (both-orders ms (marks_of h) (marks_of k) h_marks k_marks) in
     let alike = same-years h k years in
     record { lengths = alike.0; years = alike.1; sets = sets alike.0 alike.1; rows = same-rows h k years up also (known-same h k kept also_kept lines marks) }
@@ -162,7 +163,7 @@ one-live-history c h k s t = same-history c h k s.kept t.kept s.years_are t.year
     (live-held h k c.live s.live_are t.live_are t.kept.lawful n years i id)
     (live-held k h c.live t.live_are s.live_are s.kept.lawful (sym n) (λ j. sym (years j)) i id))
 
-pub one-history : (version : Version) (c : Content) (h k : List Entry) → Says version c h → Says version c k → IsSameHistory h k
+pub one-history : (version : Version) (c : Content) (h k : List Entry) → TablesSay version c h → TablesSay version c k → IsSameHistory h k
 one-history First c h k s t = one-live-history c h k s t
 one-history Second c h k s t = one-spans-history 2 [] c h k s t
 one-history Third c h k s t = one-spans-history 3 c.marks c h k s t

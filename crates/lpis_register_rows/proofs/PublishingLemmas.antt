@@ -5,7 +5,7 @@ use Rattle.lpis_register_rows.proofs.Common.{AllByRecursion, list_any, slice_cmp
 use Rattle.lpis_register_rows.proofs.Common.{IsLawful}
 use Rattle.lpis_register_rows.proofs.Common.{RowsFit, entry_at, holds, last_live, first_held, last_held, span_of, entry-after, entry-before, entry-here}
 use Rattle.lpis_register_rows.proofs.Common.{same-exact, same-refl, filter-none, longer, before-at-after}
-use Rattle.lpis_register_rows.proofs.Common.{Content, Line, StoredSpan, lines_from, IsKept, IsSpanRow, Mark, SpansTell, TellsSpans, last_of_years, lines_of, marks_of, shown, years_of}
+use Rattle.lpis_register_rows.proofs.Common.{Content, Line, StoredSpan, lines_from, IsKeptHistory, IsSpanRow, Mark, SpansTell, TellsSpans, last_of_years, lineage_lines, marks_of, shown_span, years_of}
 use Rattle.std.specs.List.Sorted.{IsStrictlySortedBy}
 use Rattle.std.proofs.lemmas.List.{append-nil, append_assoc}
 use Rattle.std.proofs.lemmas.List.Sorted.{IsPermutation-cons, IsPermutation-to_front, IsPermutation-append_right, IsPermutation-append_comm}
@@ -30,10 +30,10 @@ pub years-more : (h : List Entry) (e : Entry) → years_of (h ++ e ∷ []) ≡ y
 years-more [] e = refl
 years-more (x ∷ h) e = ap (λ (l : List ℤ). pos x.year ∷ l) (years-more h e)
 
-pub lines-more : (h : List Entry) (e : Entry) → lines_of (h ++ e ∷ []) ≡ lines_of h ++ lines_from (pos e.year) 0 e.rows
+pub lines-more : (h : List Entry) (e : Entry) → lineage_lines (h ++ e ∷ []) ≡ lineage_lines h ++ lines_from (pos e.year) 0 e.rows
 lines-more [] e = append-nil (lines_from (pos e.year) 0 e.rows)
 lines-more (x ∷ h) e = ap (λ (l : List Line). lines_from (pos x.year) 0 x.rows ++ l) (lines-more h e)
-    ∙ sym (append_assoc (lines_from (pos x.year) 0 x.rows) (lines_of h) (lines_from (pos e.year) 0 e.rows))
+    ∙ sym (append_assoc (lines_from (pos x.year) 0 x.rows) (lineage_lines h) (lines_from (pos e.year) 0 e.rows))
 
 years-told : (ys : List ℤ) (h : List Entry) (e : Entry) → IsPermutation ys (years_of h) → IsPermutation (pos e.year ∷ ys) (years_of (h ++ e ∷ []))
 years-told ys h e m = subst (λ (l : List ℤ). IsPermutation (pos e.year ∷ ys) l) (sym (years-more h e)) (
@@ -45,9 +45,9 @@ before-others : {A : Type 0} (new xs ys : List A) → IsPermutation xs ys → Is
 before-others new xs ys m = IsPermutation-trans (rev_onto new xs) (new ++ xs) (ys ++ new) (IsPermutation-sym (new ++ xs) (rev_onto new xs) (rev-moved new xs)) (
     IsPermutation-trans (new ++ xs) (new ++ ys) (ys ++ new) (IsPermutation-append_right new xs ys m) (IsPermutation-append_comm new ys))
 
-lines-told : (ls : List Line) (h : List Entry) (e : Entry) → IsPermutation ls (lines_of h) → IsPermutation (rev_onto (lines_from (pos e.year) 0 e.rows) ls) (lines_of (h ++ e ∷ []))
+lines-told : (ls : List Line) (h : List Entry) (e : Entry) → IsPermutation ls (lineage_lines h) → IsPermutation (rev_onto (lines_from (pos e.year) 0 e.rows) ls) (lineage_lines (h ++ e ∷ []))
 lines-told ls h e m = subst (λ (l : List Line). IsPermutation (rev_onto (lines_from (pos e.year) 0 e.rows) ls) l) (sym (lines-more h e))
-    (before-others (lines_from (pos e.year) 0 e.rows) ls (lines_of h) m)
+    (before-others (lines_from (pos e.year) 0 e.rows) ls (lineage_lines h) m)
 
 marks-more : (h : List Entry) (e : Entry) → marks_of (h ++ e ∷ []) ≡ marks_of h ++ marks_from (pos e.year) 0 e.rows
 marks-more [] e = append-nil (marks_from (pos e.year) 0 e.rows)
@@ -85,8 +85,8 @@ fresh-or-old h live gone fresh id w is = by (is_some (span_of h id)) refl where
   by true e = inr (spanned h id (sym e))
   by false e = inl (w.fresh_are.are id ∙ ap (λ (t : Bool). t && not (is_some (span_of h id))) is ∙ ap not (sym e))
 
-kept-more : (h : List Entry) (e : Entry) (live gone fresh : List (List ℕ)) → IsKept h → IsLawful (h ++ e ∷ []) → RowsFit (h ++ e ∷ []) → e.year ≤ last_of_years
-    → ((q : List ℕ) → has_id e.live q ≡ has_id live q) → IsWriting h live gone fresh → IsKept (h ++ e ∷ [])
+kept-more : (h : List Entry) (e : Entry) (live gone fresh : List (List ℕ)) → IsKeptHistory h → IsLawful (h ++ e ∷ []) → RowsFit (h ++ e ∷ []) → e.year ≤ last_of_years
+    → ((q : List ℕ) → has_id e.live q ≡ has_id live q) → IsWriting h live gone fresh → IsKeptHistory (h ++ e ∷ [])
 kept-more h e live gone fresh kept law fit small alike w = record {
   lawful = law;
   fits = fit;
@@ -130,7 +130,7 @@ fresh-right : (h : List Entry) (e : Entry) (live gone fresh : List (List ℕ)) (
     → IsSpanRow (h ++ e ∷ []) (fresh_span (pos e.year) id)
 fresh-right h e live gone fresh id follows alike w is =
     let f = fresh-facts h live gone fresh id w is in
-    ap shown (span-next h e live gone fresh id follows alike w
+    ap shown_span (span-next h e live gone fresh id follows alike w
     ∙ ap (λ (b : Bool). ended_in b (last_year h) (begun (has_id fresh id) e.year (span_of h id))) f.0
     ∙ ap (λ (b : Bool). ended_in false (last_year h) (begun b e.year (span_of h id))) is)
 
@@ -141,14 +141,14 @@ old-right h e live gone fresh s follows alike w told = by (has_id gone s.id) ref
   since_in None = pos 0
   since_in (Some p) = p.0
 
-  by : (g : Bool) → g ≡ has_id gone s.id → (f : Bool) → f ≡ has_id fresh s.id → (o : Option Years) → o ≡ span_of h s.id → shown o ≡ Some (s.since, s.until)
+  by : (g : Bool) → g ≡ has_id gone s.id → (f : Bool) → f ≡ has_id fresh s.id → (o : Option Years) → o ≡ span_of h s.id → shown_span o ≡ Some (s.since, s.until)
       → span_of (h ++ e ∷ []) s.id ≡ ended_in (has_id gone s.id) (last_year h) (begun (has_id fresh s.id) e.year (span_of h s.id))
       → IsSpanRow (h ++ e ∷ []) (end_among (pos (last_year h)) gone s)
   by g eg f ef None eo t n = absurd cc
   by g eg true ef (Some y) eo t n = absurd (let u = (fresh-facts h live gone fresh s.id w (sym ef)).1 in let v = ap is_some eo in cc)
   by true eg false ef (Some y) eo t n =
-      rw (← eg) (ap shown n ∙ rw (← eg, ← ef, ← eo) (ap (λ (z : ℤ). both z (pos (last_year h))) (ap since_in t)))
-  by false eg false ef (Some y) eo t n = rw (← eg) (ap shown n ∙ rw (← eg, ← ef, ← eo) t)
+      rw (← eg) (ap shown_span n ∙ rw (← eg, ← ef, ← eo) (ap (λ (z : ℤ). both z (pos (last_year h))) (ap since_in t)))
+  by false eg false ef (Some y) eo t n = rw (← eg) (ap shown_span n ∙ rw (← eg, ← ef, ← eo) t)
 
 -- ending keeps the identifier
 end-id : (y : ℤ) (gone : List (List ℕ)) (s : StoredSpan) → (end_among y gone s).id ≡ s.id

@@ -1,12 +1,14 @@
 -- What rows that say a history have: what they are refused for otherwise.
 use Rattle.std.proofs.Common.{◌≡◌, ◌∙◌, ◌≤◌, ◌+◌, ◌⊎◌, inl, inr, refl, sym, ap, subst, arith, ℕ, zero, suc, ℤ, pos, List, [], ◌∷◌, true, Option, None, Some, length, map, IsPermutation, is_some}
 use Rattle.std.proofs.Common.{IsSorted, All, filter, nat_cmp}
-use Rattle.lpis_register_rows.proofs.Common.{AllByRecursion, list_any, All-from_recursion, All-permutation, IsPermutation-sym, or_left, or_right, is_id, same_id, Entry, Row, entry_at, names, span_of}
-use Rattle.lpis_register_rows.proofs.Common.{same-refl, above-zero, KnownLine, KnownSpan, Content, Line, StoredSpan, lines_from, text_of, IsKept, IsSameHistory, IsSpanRow, SpansTell, TellsSpans, lines_of, shown}
-use Rattle.lpis_register_rows.proofs.Common.{years_of, IsSaid, Mark, SetsAre, known_of, span_in}
+use Rattle.lpis_register_rows.proofs.Common.{AllByRecursion, list_any, All-from_recursion, All-permutation, IsPermutation-sym, or_left, or_right, is_id, same_id, Entry, Row, entry_at, names_successor}
+use Rattle.lpis_register_rows.proofs.Common.{span_of}
+use Rattle.lpis_register_rows.proofs.Common.{same-refl, above-zero, KnownLine, KnownSpan, Content, Line, StoredSpan, lines_from, successor_text, IsKeptHistory, IsSameHistory, IsSpanRow, SpansTell}
+use Rattle.lpis_register_rows.proofs.Common.{TellsSpans, lineage_lines, shown_span}
+use Rattle.lpis_register_rows.proofs.Common.{years_of, SaysHistory, Mark, SetsAre, known_of, span_in}
 use Rattle.lpis_lineage.specs.declared.span.Span.{Span as Years}
-use Rattle.lpis_lineage.specs.Lineage.{is_of, is_this}
-use Rattle.lpis_register_rows.specs.private.Known.{IsReadable, IsYear}
+use Rattle.lpis_lineage.specs.Lineage.{is_row_of, is_this}
+use Rattle.lpis_register_rows.specs.private.Known.{IsReadable, IsReleaseYear}
 use Rattle.lpis_register_rows.proofs.AscendingLemmas.{all-append, all-map}
 use Rattle.lpis_register_rows.proofs.FrontLemmas.{span-same}
 use Rattle.lpis_register_rows.proofs.OneHistoryLemmas.{sets-told}
@@ -20,66 +22,67 @@ all-moved-from P xs ys p all = All-permutation P ys xs (IsPermutation-sym xs ys 
 
 -- ---- years
 
-all-years : (h : List Entry) → AllByRecursion (λ e. IsYear (pos e.year)) h → AllByRecursion IsYear (years_of h)
+all-years : (h : List Entry) → AllByRecursion (λ e. IsReleaseYear (pos e.year)) h → AllByRecursion IsReleaseYear (years_of h)
 all-years [] all = tt
 all-years (x ∷ h) all = (all.0, all-years h all.1)
 
-pub told-years : (h : List Entry) (ys : List ℤ) → IsKept h → IsPermutation ys (years_of h) → All IsYear ys
-told-years h ys kept p = all-moved-from IsYear ys (years_of h) p
+pub told-years : (h : List Entry) (ys : List ℤ) → IsKeptHistory h → IsPermutation ys (years_of h) → All IsReleaseYear ys
+told-years h ys kept p = all-moved-from IsReleaseYear ys (years_of h) p
     (all-years h
-    (all-entries (λ e. IsYear (pos e.year)) h
+    (all-entries (λ e. IsReleaseYear (pos e.year)) h
     (λ i lt. ((entry_at h i).year, refl, above-zero h kept.lawful i lt, kept.years i))))
 
-pub told-sorted-years : (h : List Entry) (ys : List ℤ) (sorted : List ℕ) → IsKept h → IsSorted nat_cmp sorted
+pub told-sorted-years : (h : List Entry) (ys : List ℤ) (sorted : List ℕ) → IsKeptHistory h → IsSorted nat_cmp sorted
     → IsPermutation ys (map (λ y. pos y) sorted) → IsPermutation ys (years_of h) → years_of h ≡ map (λ y. pos y) sorted
 told-sorted-years h ys sorted kept up p q = sorted-years ys sorted (years_of h) up (years-ascend h kept.lawful) p q
 
 -- ---- spans
 
-pub told-ids : (h : List Entry) (spans : List StoredSpan) → IsKept h → SpansTell spans h → All (λ s. is_id s.id ≡ true) spans
+pub told-ids : (h : List Entry) (spans : List StoredSpan) → IsKeptHistory h → SpansTell spans h → All (λ s. is_id s.id ≡ true) spans
 told-ids h spans kept t = All-from_recursion (λ s. is_id s.id ≡ true) spans
     (all-map (IsSpanRow h) (λ s. is_id s.id ≡ true) spans (λ s is. let there =
     spanned h s.id (some (span_of h s.id) (s.since, s.until) is) in kept.ids s.id there.0 there.1) t.right) where
-      some : (o : Option Years) (p : ℤ × ℤ) → shown o ≡ Some p → is_some o ≡ true
+      some : (o : Option Years) (p : ℤ × ℤ) → shown_span o ≡ Some p → is_some o ≡ true
       some None p e = absurd cc
       some (Some y) p e = refl
 
 -- ---- lines
 
-readable-new : (o : Option (List ℕ)) → ((id : List ℕ) → o ≡ Some id → is_id id ≡ true) → (text_of o ≡ []) ⊎ (is_id (text_of o) ≡ true)
+readable-new : (o : Option (List ℕ)) → ((id : List ℕ) → o ≡ Some id → is_id id ≡ true) → (successor_text o ≡ []) ⊎ (is_id (successor_text o) ≡ true)
 readable-new None f = inl refl
 readable-new (Some id) f = inr (f id refl)
 
-readable-rows : (y : ℤ) (n : ℕ) (rows : List Row) → ((id : List ℕ) → list_any (is_of id) rows ≡ true → is_id id ≡ true)
-    → ((id : List ℕ) → list_any (names id) rows ≡ true → is_id id ≡ true) → AllByRecursion IsReadable (lines_from y n rows)
+readable-rows : (y : ℤ) (n : ℕ) (rows : List Row) → ((id : List ℕ) → list_any (is_row_of id) rows ≡ true → is_id id ≡ true)
+    → ((id : List ℕ) → list_any (names_successor id) rows ≡ true → is_id id ≡ true) → AllByRecursion IsReadable (lines_from y n rows)
 readable-rows y n [] old new = tt
 readable-rows y n (r ∷ rs) old new = (
   (
-    old r.old (or_left (is_of r.old r) (list_any (is_of r.old) rs) (same-refl r.old)),
+    old r.old (or_left (is_row_of r.old r) (list_any (is_row_of r.old) rs) (same-refl r.old)),
     readable-new r.new
-        (λ id e. new id (or_left (names id r) (list_any (names id) rs) (ap (λ (o : Option (List ℕ)). is_this id o) e
+        (λ id e. new id (or_left (names_successor id r) (list_any (names_successor id) rs) (ap (λ (o : Option (List ℕ)). is_this id o) e
         ∙ same-refl id))),
   ),
-  readable-rows y (n + 1) rs (λ id e. old id (or_right (is_of id r) (list_any (is_of id) rs) e)) (λ id e. new id (or_right (names id r) (list_any (names id) rs) e)),
+  readable-rows y (n + 1) rs (λ id e. old id (or_right (is_row_of id r) (list_any (is_row_of id) rs) e)) (λ id e. new id (or_right (names_successor id r) (list_any (names_successor id) rs) e)),
 )
 
-readable-entry : (h : List Entry) → IsKept h → (i : ℕ) → AllByRecursion IsReadable (lines_from (pos (entry_at h i).year) 0 (entry_at h i).rows)
+readable-entry : (h : List Entry) → IsKeptHistory h → (i : ℕ) → AllByRecursion IsReadable (lines_from (pos (entry_at h i).year) 0 (entry_at h i).rows)
 readable-entry h kept i = readable-rows (pos (entry_at h i).year) 0 (entry_at h i).rows (old i) (λ id e. kept.ids id i (kept.lawful.successors id i e)) where
-  old : (i : ℕ) (id : List ℕ) → list_any (is_of id) (entry_at h i).rows ≡ true → is_id id ≡ true
-  old zero id e = let none = ap (λ (rs : List Row). list_any (is_of id) rs) kept.fits.first in absurd (let no = sym none ∙ e in cc)
-  old (suc i) id e = let n : suc i ≡ i + 1 = omega arith in let d = kept.fits.of_dropped id i (ap (λ (k : ℕ). list_any (is_of id) (entry_at h k).rows) (sym n) ∙ e) in kept.ids id i d.1
+  old : (i : ℕ) (id : List ℕ) → list_any (is_row_of id) (entry_at h i).rows ≡ true → is_id id ≡ true
+  old zero id e = let none = ap (λ (rs : List Row). list_any (is_row_of id) rs) kept.fits.first in absurd (let no = sym none ∙ e in cc)
+  old (suc i) id e = let n : suc i ≡ i + 1 = omega arith in let d = kept.fits.of_dropped id i (ap (λ (k : ℕ). list_any (is_row_of id) (entry_at h k).rows) (sym n) ∙ e) in kept.ids id i d.1
 
-all-lines : (h : List Entry) → AllByRecursion (λ e. AllByRecursion IsReadable (lines_from (pos e.year) 0 e.rows)) h → AllByRecursion IsReadable (lines_of h)
+all-lines : (h : List Entry) → AllByRecursion (λ e. AllByRecursion IsReadable (lines_from (pos e.year) 0 e.rows)) h → AllByRecursion IsReadable (lineage_lines h)
 all-lines [] all = tt
-all-lines (x ∷ h) all = all-append IsReadable (lines_from (pos x.year) 0 x.rows) (lines_of h) all.0 (all-lines h all.1)
+all-lines (x ∷ h) all = all-append IsReadable (lines_from (pos x.year) 0 x.rows) (lineage_lines h) all.0 (all-lines h all.1)
 
-pub readable-lines : (h : List Entry) (ls : List Line) → IsKept h → IsPermutation ls (lines_of h) → All IsReadable ls
-readable-lines h ls kept p = all-moved-from IsReadable ls (lines_of h) p (all-lines h (all-entries (λ e. AllByRecursion IsReadable (lines_from (pos e.year) 0 e.rows)) h (λ i lt. readable-entry h kept i)))
+pub readable-lines : (h : List Entry) (ls : List Line) → IsKeptHistory h → IsPermutation ls (lineage_lines h) → All IsReadable ls
+readable-lines h ls kept p =
+    all-moved-from IsReadable ls (lineage_lines h) p (all-lines h (all-entries (λ e. AllByRecursion IsReadable (lines_from (pos e.year) 0 e.rows)) h (λ i lt. readable-entry h kept i)))
 
 -- ---- all that was read
 
 pub told-said : {version : ℕ} {ms : List Mark} (c : Content) (h : List Entry) (spans : List KnownSpan) (lines : List KnownLine) → TellsSpans version ms c h → map span_in spans ≡ c.spans
-    → known_of h ≡ lines → IsSaid spans lines h
+    → known_of h ≡ lines → SaysHistory spans lines h
 told-said c h spans lines t ss ls = record {
   kept = t.kept;
   sets = subst (λ (l : List StoredSpan). SetsAre l h) (sym ss) (sets-told h c.spans t.kept.lawful t.spans_are);
@@ -91,7 +94,7 @@ told-few h spans rows ss t id = let m = count-map spans id in let e = ap (λ (l 
 
 right-back : (g h : List Entry) (spans : List KnownSpan) → IsSameHistory g h → AllByRecursion (IsSpanRow h) (map span_in spans) → AllByRecursion (λ s. IsSpanRow g (span_in s)) spans
 right-back g h [] same all = tt
-right-back g h (s ∷ ss) same all = (ap shown (span-same g h s.id same) ∙ all.0, right-back g h ss same all.1)
+right-back g h (s ∷ ss) same all = (ap shown_span (span-same g h s.id same) ∙ all.0, right-back g h ss same all.1)
 
 pub told-right : (g h : List Entry) (spans : List KnownSpan) (rows : List StoredSpan) → map span_in spans ≡ rows → SpansTell rows h → IsSameHistory g h → All (λ s. IsSpanRow g (span_in s)) spans
 told-right g h spans rows ss t same = All-from_recursion (λ s. IsSpanRow g (span_in s)) spans

@@ -1,7 +1,9 @@
 -- A history put together from rows is what they say.
 use Rattle.std.proofs.Common.{◌≡◌, ◌∙◌, ◌≤◌, refl, sym, ap, subst, arith, ℕ, zero, suc, ℤ, pos, List, [], ◌∷◌, Bool, true, false, cond, length, map, IsPermutation, ◌&&◌, ◌||◌, All, filter}
-use Rattle.lpis_register_rows.proofs.Common.{AllByRecursion, list_any, recursion_from_All, is_id, same_id, Entry, IsLawful, RowsFit, entry_at, holds, in-history, same-exact, KnownSpan, KnownLine, Content}
-use Rattle.lpis_register_rows.proofs.Common.{StoredSpan, IsKept, IsSpanRow, SpansTell, TellsSpans, last_of_years, lines_of, only_format, years_of, covers, Line, Mark, SetsAre, known_of, line_in, marks_in, marks_of, span_in}
+use Rattle.lpis_register_rows.proofs.Common.{AllByRecursion, list_any, recursion_from_All, is_id, same_id, Entry, IsLawful, RowsFit, entry_at, holds, in-history, same-exact, KnownSpan, KnownLine}
+use Rattle.lpis_register_rows.proofs.Common.{Content}
+use Rattle.lpis_register_rows.proofs.Common.{StoredSpan, IsKeptHistory, IsSpanRow, SpansTell, TellsSpans, last_of_years, lineage_lines, only_format, years_of, covers, Line, Mark, SetsAre, known_of}
+use Rattle.lpis_register_rows.proofs.Common.{line_in, marks_in, marks_of, span_in}
 use Rattle.lpis_register_rows.proofs.MarkLemmas.{lines-in, marks-in}
 
 -- what a test passes with another it passes alone
@@ -51,7 +53,7 @@ small-years (x ∷ h) (y ∷ ys) e all (suc i) = small-years h ys (ap rest e) al
 
 -- a history put together from well-formed identifiers is one that tables may say
 pub kept-said : (h : List Entry) (years : List ℕ) (spans : List KnownSpan) → IsLawful h → RowsFit h → AllByRecursion (λ y. y ≤ last_of_years) years
-    → All (λ s. is_id s.id ≡ true) spans → years_of h ≡ map (λ y. pos y) years → SetsAre (map span_in spans) h → IsKept h
+    → All (λ s. is_id s.id ≡ true) spans → years_of h ≡ map (λ y. pos y) years → SetsAre (map span_in spans) h → IsKeptHistory h
 kept-said h years spans law fit small ids years-are sets = record {
   lawful = law;
   fits = fit;
@@ -62,7 +64,7 @@ kept-said h years spans law fit small ids years-are sets = record {
 }
 
 -- the lines and the marks of a history whose rows are these
-pub told-lines-are : (ls : List Line) (h : List Entry) (lines : List KnownLine) → IsPermutation ls (map line_in lines) → known_of h ≡ lines → IsPermutation ls (lines_of h)
+pub told-lines-are : (ls : List Line) (h : List Entry) (lines : List KnownLine) → IsPermutation ls (map line_in lines) → known_of h ≡ lines → IsPermutation ls (lineage_lines h)
 told-lines-are ls h lines p e = subst (IsPermutation ls) (ap (λ (ks : List KnownLine). map line_in ks) (sym e) ∙ lines-in h) p
 
 pub told-marks-are : (ms : List Mark) (h : List Entry) (lines : List KnownLine) → IsPermutation ms (marks_in lines) → known_of h ≡ lines → IsPermutation ms (marks_of h)

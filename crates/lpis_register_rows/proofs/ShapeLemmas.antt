@@ -1,5 +1,6 @@
 -- Shapes in the order of their identifiers, and the texts that keep them.
-use Rattle.std.proofs.Common.{◌≡◌, ◌∙◌, ◌<◌, ◌≤◌, ◌+◌, inl, inr, refl, sym, ap, ap₂, subst, arith, ℕ, zero, suc, List, [], ◌∷◌, ◌++◌, true, false, length, map, take, get_or, Result, Ok, Err, IsPermutation, Ordering, Less, Equal, Greater, is_lt, is_ge, is_eq, nat_cmp, IsSortedByKey}
+use Rattle.std.proofs.Common.{◌≡◌, ◌∙◌, ◌<◌, ◌≤◌, ◌+◌, inl, inr, refl, sym, ap, ap₂, subst, arith, ℕ, zero, suc, List, [], ◌∷◌, ◌++◌, true, false, length, map, take, get_or, Result, Ok, Err}
+use Rattle.std.proofs.Common.{IsPermutation, Ordering, Less, Equal, Greater, is_lt, is_ge, is_eq, nat_cmp, IsSortedByKey}
 use Rattle.lpis_register_rows.proofs.Common.{AllByRecursion, IsPermutation-sym, IsPermutation-trans, before-at-after, has_id, is_id, or_left, or_right, same-refl, same_id, slice_cmp}
 use Rattle.lpis_lineage.proofs.Shared.{same-sym}
 use Rattle.std.specs.Cmp.Lexicographic.{nat_list_cmp_total, texts_ties}
@@ -16,7 +17,7 @@ use Rattle.lpis_wkt.specs.Answer.{polygon_of}
 use Rattle.lpis_wkt.specs.Text.{PolygonText}
 use Rattle.lpis_wkt.specs.declared.fault.WktCode.{WktCode}
 use Rattle.lpis_register_rows.specs.Content.{StoredText}
-use Rattle.lpis_register_rows.specs.Shapes.{AreLive, IsLive, IsTextOf, Shape, ShapesAre, shape_ids, shape_of}
+use Rattle.lpis_register_rows.specs.Shapes.{AreLive, IsLive, IsTextOfShape, Shape, ShapesAre, shape_ids, parcel_shape}
 use Rattle.lpis_register_rows.proofs.AscendingLemmas.{Ascends, all-both, all-moved, same-ascending}
 use Rattle.lpis_register_rows.proofs.KnownLemmas.{take-whole}
 use Rattle.lpis_register_rows.proofs.MarkLemmas.{all-unmap}
@@ -123,21 +124,21 @@ members_in (Err e) = []
 abbrev told : StoredText → Shape
 told t = (t.id, members_in (polygon_of t.wkt))
 
-told-is : SpellsOne → (t : StoredText) (shape : Shape) → IsTextOf t shape → shape ≡ told t
+told-is : SpellsOne → (t : StoredText) (shape : Shape) → IsTextOfShape t shape → shape ≡ told t
 told-is one t shape is = ap₂ (λ (id : List ℕ) (ms : List Member). (id, ms)) (sym is.0) (ap members_in (sym (one t.wkt shape.1 is.1)))
 
-pub order-is : SpellsOne → (texts : List StoredText) (order : List Shape) → AllZip IsTextOf texts order → order ≡ map told texts
+pub order-is : SpellsOne → (texts : List StoredText) (order : List Shape) → AllZip IsTextOfShape texts order → order ≡ map told texts
 order-is one [] [] z = refl
 order-is one [] (s ∷ ss) z = absurd z
 order-is one (t ∷ ts) [] z = absurd z
 order-is one (t ∷ ts) (s ∷ ss) z = ap₂ (λ (x : Shape) (xs : List Shape). x ∷ xs) (told-is one t s z.0) (order-is one ts ss z.1)
 
-all-told : SpellsOne → (texts : List StoredText) (order : List Shape) → AllZip IsTextOf texts order → AllByRecursion (λ t. IsTextOf t (told t)) texts
+all-told : SpellsOne → (texts : List StoredText) (order : List Shape) → AllZip IsTextOfShape texts order → AllByRecursion (λ t. IsTextOfShape t (told t)) texts
 all-told one [] order z = tt
 all-told one (t ∷ ts) [] z = absurd z
-all-told one (t ∷ ts) (s ∷ ss) z = (subst (IsTextOf t) (told-is one t s z.0) z.0, all-told one ts ss z.1)
+all-told one (t ∷ ts) (s ∷ ss) z = (subst (IsTextOfShape t) (told-is one t s z.0) z.0, all-told one ts ss z.1)
 
-zip-told : (texts : List StoredText) → AllByRecursion (λ t. IsTextOf t (told t)) texts → AllZip IsTextOf texts (map told texts)
+zip-told : (texts : List StoredText) → AllByRecursion (λ t. IsTextOfShape t (told t)) texts → AllZip IsTextOfShape texts (map told texts)
 zip-told [] a = tt
 zip-told (t ∷ ts) a = (a.0, zip-told ts a.1)
 
@@ -145,7 +146,7 @@ pub shapes-reordered : SpellsOne → (texts others : List StoredText) (shapes : 
 shapes-reordered one texts others shapes p are = record {
   ascend = are.ascend;
   order = map told others;
-  spelled = zip-told others (all-moved (λ t. IsTextOf t (told t)) texts others p (all-told one texts are.order are.spelled));
+  spelled = zip-told others (all-moved (λ t. IsTextOfShape t (told t)) texts others p (all-told one texts are.order are.spelled));
   same = IsPermutation-trans (map told others) (map told texts) shapes (IsPermutation-map told others texts (IsPermutation-sym texts others p))
       (subst (λ (l : List Shape). IsPermutation l shapes) (order-is one texts are.order are.spelled) are.same);
 }
@@ -161,7 +162,7 @@ pub no-shapes : ShapesAre [] []
 no-shapes = record { ascend = sorted_from_all_adjacent nat_list_cmp_total [] [] (λ k lt. absurd (omega (arith, lt))); order = []; spelled = tt; same = IsPermutation-refl [] }
 
 -- shapes that were read from texts, and sorted, are those that the texts keep
-pub read-shapes : SpellsOne → (texts : List StoredText) (read sorted kept : List Shape) → AllZip IsTextOf texts read → IsPermutation read sorted
+pub read-shapes : SpellsOne → (texts : List StoredText) (read sorted kept : List Shape) → AllZip IsTextOfShape texts read → IsPermutation read sorted
     → IsSortedByKey (λ (s : Shape). s.0) (slice_cmp nat_cmp) sorted → ShapesAre texts kept → sorted ≡ kept
 read-shapes one texts read sorted kept z p up are =
     let same : read ≡ are.order = order-is one texts read z ∙ sym (order-is one texts are.order are.spelled) in
@@ -173,7 +174,7 @@ order-live live texts shapes are all = all-moved (IsLive live) shapes are.order 
 
 -- ---- the shapes of parcels
 
-pub parcel-shape-ids : (parcels : List Parcel) → shape_ids (map shape_of parcels) ≡ parcel_ids parcels
+pub parcel-shape-ids : (parcels : List Parcel) → shape_ids (map parcel_shape parcels) ≡ parcel_ids parcels
 parcel-shape-ids [] = refl
 parcel-shape-ids (p ∷ ps) = ap (λ (l : List (List ℕ)). p.id ∷ l) (parcel-shape-ids ps)
 
@@ -183,7 +184,7 @@ less-apart Equal a b = cc b
 less-apart Greater a b = cc a
 
 -- what is sorted, with no identifier twice, ascends
-pub sorted-ascends : (parcels : List Parcel) (sorted : List Shape) → IsDistinct same_id (parcel_ids parcels) → IsPermutation (map shape_of parcels) sorted
+pub sorted-ascends : (parcels : List Parcel) (sorted : List Shape) → IsDistinct same_id (parcel_ids parcels) → IsPermutation (map parcel_shape parcels) sorted
     → IsSortedByKey (λ (s : Shape). s.0) (slice_cmp nat_cmp) sorted → IsAscending (shape_ids sorted)
 sorted-ascends parcels sorted apart p up = sorted_from_all_adjacent nat_list_cmp_total ids [] less where
   ids : List (List ℕ)
@@ -191,7 +192,7 @@ sorted-ascends parcels sorted apart p up = sorted_from_all_adjacent nat_list_cmp
 
   distinct : IsDistinct same_id ids
   distinct = IsDistinct-IsPermutation same_id same-sym (parcel_ids parcels) ids
-      (subst (λ (l : List (List ℕ)). IsPermutation l ids) (parcel-shape-ids parcels) (IsPermutation-map (λ (s : Shape). s.0) (map shape_of parcels) sorted p)) apart
+      (subst (λ (l : List (List ℕ)). IsPermutation l ids) (parcel-shape-ids parcels) (IsPermutation-map (λ (s : Shape). s.0) (map parcel_shape parcels) sorted p)) apart
 
   at : (i : ℕ) (d : Shape) → i < length sorted → get_or ids i [] ≡ (get_or sorted i d).0
   at i d lt = id-at sorted i (get_or sorted i d) lt (get_or_default sorted i d (get_or sorted i d) lt)
@@ -208,10 +209,12 @@ sorted-ascends parcels sorted apart p up = sorted_from_all_adjacent nat_list_cmp
       (sym (texts_ties a b) ∙ apart_from_distinct same_id ids k (k + 1) [] distinct (omega arith) lt)
 
 -- copies are of live parcels
-pub copied-live : (parcels : List Parcel) (i : ℕ) (copies : List Shape) → length parcels ≤ i → copies ≡ map shape_of (take i parcels) → AllByRecursion (λ (s : Shape). is_id s.0 ≡ true) copies
+pub copied-live : (parcels : List Parcel) (i : ℕ) (copies : List Shape) → length parcels ≤ i → copies ≡ map parcel_shape (take i parcels) → AllByRecursion (λ (s : Shape). is_id s.0 ≡ true) copies
     → AreLive (parcel_ids parcels) copies
 copied-live parcels i copies le same ids = all-both (λ (s : Shape). is_id s.0 ≡ true) (λ (s : Shape). has_id (parcel_ids parcels) s.0 ≡ true) (IsLive (parcel_ids parcels)) copies (λ s a b. (a, b)) ids
-    (subst (AllByRecursion (λ (s : Shape). has_id (parcel_ids parcels) s.0 ≡ true)) (sym (same ∙ ap (λ (l : List Parcel). map shape_of l) (take-whole parcels i le))) (among parcels (λ id h. h))) where
-      among : (ps : List Parcel) → ((id : List ℕ) → has_id (parcel_ids ps) id ≡ true → has_id (parcel_ids parcels) id ≡ true) → AllByRecursion (λ (s : Shape). has_id (parcel_ids parcels) s.0 ≡ true) (map shape_of ps)
+    (subst (AllByRecursion (λ (s : Shape). has_id (parcel_ids parcels) s.0 ≡ true)) (sym (same ∙ ap (λ (l : List Parcel). map parcel_shape l) (take-whole parcels i le))) (among parcels
+    (λ id h. h))) where
+      among : (ps : List Parcel) → ((id : List ℕ) → has_id (parcel_ids ps) id ≡ true → has_id (parcel_ids parcels) id ≡ true)
+          → AllByRecursion (λ (s : Shape). has_id (parcel_ids parcels) s.0 ≡ true) (map parcel_shape ps)
       among [] f = tt
       among (p ∷ ps) f = (f p.id (or_left (same_id p.id p.id) (has_id (parcel_ids ps) p.id) (same-refl p.id)), among ps (λ id h. f id (or_right (same_id id p.id) (has_id (parcel_ids ps) id) h)))

@@ -1,6 +1,6 @@
 -- Rows of spans against a history.
 use Rattle.std.proofs.Common.{◌≡◌, ◌∙◌, refl, sym, ap, arith, ℕ, ℤ, List, [], ◌∷◌, Bool, true, false, length, Option, None, Some, IsPermutation, ◌||◌, is_some, filter}
-use Rattle.lpis_register_rows.proofs.Common.{AllByRecursion, list_any, list_any-IsPermutation, same_id, Entry, span_of, same-exact, StoredSpan, IsSpanRow, SpansTell, shown}
+use Rattle.lpis_register_rows.proofs.Common.{AllByRecursion, list_any, list_any-IsPermutation, same_id, Entry, span_of, same-exact, StoredSpan, IsSpanRow, SpansTell, shown_span}
 use Rattle.std.proofs.lemmas.List.Sums.{length-filter}
 use Rattle.std.proofs.lemmas.List.Sorted.{sum_by-IsPermutation}
 use Rattle.lpis_lineage.specs.declared.span.Span.{Span as Years}
@@ -21,7 +21,7 @@ spans-moved xs ys h m t = record {
 pub told-some : (h : List Entry) (id : List ℕ) (spans : List StoredSpan) → AllByRecursion (IsSpanRow h) spans → list_any (λ s. same_id id s.id) spans ≡ true → is_some (span_of h id) ≡ true
 told-some h id [] all e = cc e
 told-some h id (s ∷ ss) all e = by (told-some h id ss all.1) (same_id id s.id) refl e where
-  some : (o : Option Years) (p : ℤ × ℤ) → shown o ≡ Some p → is_some o ≡ true
+  some : (o : Option Years) (p : ℤ × ℤ) → shown_span o ≡ Some p → is_some o ≡ true
   some None p e = absurd cc
   some (Some y) p e = refl
 

@@ -1,6 +1,6 @@
 -- The years and the rows of a lawful history ascend.
 use Rattle.std.proofs.Common.{◌≡◌, ◌<◌, ◌≤◌, ◌+◌, ◌⊎◌, inl, inr, refl, sym, subst, arith, ℕ, suc, ℤ, pos, List, [], ◌∷◌, length}
-use Rattle.lpis_register_rows.proofs.Common.{AllByRecursion, Entry, Row, IsLawful, entry_at, Line, lines_from, text_of, lines_of, years_of}
+use Rattle.lpis_register_rows.proofs.Common.{AllByRecursion, Entry, Row, IsLawful, entry_at, Line, lines_from, successor_text, lineage_lines, years_of}
 use Rattle.lpis_register_rows.proofs.AscendingLemmas.{Ascends, all-map, all-append, ascends-append, below, below-alone}
 
 -- what holds at each position holds of each release
@@ -43,23 +43,23 @@ lines-of-year y n rs = all-map (From y 0) (λ l. l.year ≡ y) (lines_from y n r
 from-ascends : (y : ℤ) (n : ℕ) (rs : List Row) → Ascends line_below (lines_from y n rs)
 from-ascends y n [] = tt
 from-ascends y n (r ∷ rs) = (
-  all-map (From y (n + 1)) (line_below (record { year = y; position = pos n; old = r.old; new = text_of r.new }))
+  all-map (From y (n + 1)) (line_below (record { year = y; position = pos n; old = r.old; new = successor_text r.new }))
       (lines_from y (n + 1) rs) (λ l f. inr (sym f.0, after n l f.1)) (lines-from y (n + 1) (n + 1) rs (omega arith)),
   from-ascends y (n + 1) rs,
 ) where
   after : (n : ℕ) (l : Line) → (p : ℕ) × (l.position ≡ pos p) × (n + 1 ≤ p) → below (pos n) l.position
   after n l (p, e, le) = subst (below (pos n)) (sym e) (let r : n < p = omega arith in r)
 
-pub lines-above : (y : ℤ) (h : List Entry) → AllByRecursion (below y) (years_of h) → AllByRecursion (λ l. below y l.year) (lines_of h)
+pub lines-above : (y : ℤ) (h : List Entry) → AllByRecursion (below y) (years_of h) → AllByRecursion (λ l. below y l.year) (lineage_lines h)
 lines-above y [] a = tt
-lines-above y (x ∷ h) a = all-append (λ l. below y l.year) (lines_from (pos x.year) 0 x.rows) (lines_of h)
+lines-above y (x ∷ h) a = all-append (λ l. below y l.year) (lines_from (pos x.year) 0 x.rows) (lineage_lines h)
     (all-map (λ l. l.year ≡ pos x.year) (λ l. below y l.year) (lines_from (pos x.year) 0 x.rows)
     (λ l e. subst (below y) (sym e) a.0) (lines-of-year (pos x.year) 0 x.rows)) (lines-above y h a.1)
 
-pub lines-ascend : (h : List Entry) → Ascends below (years_of h) → Ascends line_below (lines_of h)
+pub lines-ascend : (h : List Entry) → Ascends below (years_of h) → Ascends line_below (lineage_lines h)
 lines-ascend [] a = tt
 lines-ascend (x ∷ h) a =
-    ascends-append line_below (lines_from (pos x.year) 0 x.rows) (lines_of h) (from-ascends (pos x.year) 0 x.rows) (lines-ascend h a.1) (
-    all-map (λ l. l.year ≡ pos x.year) (λ l. AllByRecursion (line_below l) (lines_of h)) (lines_from (pos x.year) 0 x.rows)
-    (λ l e. all-map (λ m. below (pos x.year) m.year) (line_below l) (lines_of h) (λ m b. inl (subst (λ (z : ℤ). below z m.year) (sym e) b)) (lines-above (pos x.year) h a.0))
+    ascends-append line_below (lines_from (pos x.year) 0 x.rows) (lineage_lines h) (from-ascends (pos x.year) 0 x.rows) (lines-ascend h a.1) (
+    all-map (λ l. l.year ≡ pos x.year) (λ l. AllByRecursion (line_below l) (lineage_lines h)) (lines_from (pos x.year) 0 x.rows)
+    (λ l e. all-map (λ m. below (pos x.year) m.year) (line_below l) (lineage_lines h) (λ m b. inl (subst (λ (z : ℤ). below z m.year) (sym e) b)) (lines-above (pos x.year) h a.0))
     (lines-of-year (pos x.year) 0 x.rows))

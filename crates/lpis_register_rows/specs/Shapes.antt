@@ -16,15 +16,15 @@ abbrev pub shape_ids : List Shape → List (List ℕ)
 shape_ids shapes = map (λ (shape : Shape). shape.0) shapes
 
 -- the text is that of the shape: it bears its identifier, and spells its polygon
-abbrev pub IsTextOf : StoredText → Shape → Type 0
-IsTextOf text shape = (text.id ≡ shape.0) × PolygonText text.wkt shape.1
+abbrev pub IsTextOfShape : StoredText → Shape → Type 0
+IsTextOfShape text shape = (text.id ≡ shape.0) × PolygonText text.wkt shape.1
 
 -- the texts are those of these shapes, which ascend by identifier, each once
 pub record ShapesAre (texts : List StoredText) (shapes : List Shape) : Type 0 where
   pub ascend : IsAscending (shape_ids shapes)
   -- the shapes in the order of the texts
   pub order : List Shape
-  pub spelled : AllZip IsTextOf texts order
+  pub spelled : AllZip IsTextOfShape texts order
   pub same : IsPermutation order shapes
 
 -- the shape is of a live parcel: its identifier is among these, and well formed
@@ -38,10 +38,10 @@ AreLive live shapes = AllByRecursion (IsLive live) shapes
 abbrev pub TextsStand : List StoredText → List (List ℕ) → Type 0
 TextsStand texts live = (shapes : List Shape) × ShapesAre texts shapes × AreLive live shapes
 
-abbrev pub shape_of : Parcel → Shape
-shape_of parcel = (parcel.id, parcel.polygon)
+abbrev pub parcel_shape : Parcel → Shape
+parcel_shape parcel = (parcel.id, parcel.polygon)
 
 -- the shapes of a release: its parcels' identifiers and polygons, which ascend by identifier
 pub record AreShapesOf (parcels : List Parcel) (shapes : List Shape) : Type 0 where
   pub ascend : IsAscending (shape_ids shapes)
-  pub same : IsPermutation (map shape_of parcels) shapes
+  pub same : IsPermutation (map parcel_shape parcels) shapes

@@ -20,7 +20,7 @@ last_of_years = 65535
 
 -- a history that tables may say: lawful, with fitting rows, well-formed identifiers, and years up
 -- to the greatest
-pub record IsKept (h : List Entry) : Type 0 where
+pub record IsKeptHistory (h : List Entry) : Type 0 where
   pub lawful : IsLawful h
   pub fits : RowsFit h
   pub ids : (id : List ℕ) (i : ℕ) → holds h i id ≡ true → is_id id ≡ true
@@ -31,9 +31,9 @@ years_of [] = []
 years_of (e ∷ h) = pos e.year ∷ years_of h
 
 -- the rows of lineage of all releases, each with its year and its position
-abbrev pub lines_of : List Entry → List Line
-lines_of [] = []
-lines_of (e ∷ h) = lines_from (pos e.year) 0 e.rows ++ lines_of h
+abbrev pub lineage_lines : List Entry → List Line
+lineage_lines [] = []
+lineage_lines (e ∷ h) = lines_from (pos e.year) 0 e.rows ++ lineage_lines h
 
 -- the marks of all releases, one for each row of lineage that is marked exact
 abbrev pub marks_of : List Entry → List Mark
@@ -41,14 +41,14 @@ marks_of [] = []
 marks_of (e ∷ h) = marks_from (pos e.year) 0 e.rows ++ marks_of h
 
 -- a span as the table shows it
-abbrev pub shown : Option Years → Option (ℤ × ℤ)
-shown None = None
-shown (Some s) = Some (pos s.first, pos s.last)
+abbrev pub shown_span : Option Years → Option (ℤ × ℤ)
+shown_span None = None
+shown_span (Some s) = Some (pos s.first, pos s.last)
 
 -- the row is the span of its identifier: `since` is the year of the first release that holds it;
 -- `until` is 0 while it is live in the last release, else the year of the last release that held it
 abbrev pub IsSpanRow : List Entry → StoredSpan → Type 0
-IsSpanRow h s = shown (span_of h s.id) ≡ Some (s.since, s.until)
+IsSpanRow h s = shown_span (span_of h s.id) ≡ Some (s.since, s.until)
 
 -- the rows of `lpis_span` are the spans of the history's identifiers
 pub record SpansTell (spans : List StoredSpan) (h : List Entry) : Type 0 where
@@ -66,11 +66,11 @@ only_format version = (record { one = pos 1; version = pos version }) ∷ []
 -- what tables of a version with spans say, where these are the marks
 pub record TellsSpans (version : ℕ) (marks : List Mark) (c : Content) (h : List Entry) : Type 0
   where
-    pub kept : IsKept h
+    pub kept : IsKeptHistory h
     pub formats_are : c.formats ≡ only_format version
     pub years_are : IsPermutation c.years (years_of h)
     pub spans_are : SpansTell c.spans h
-    pub lines_are : IsPermutation c.lines (lines_of h)
+    pub lines_are : IsPermutation c.lines (lineage_lines h)
     pub marks_are : IsPermutation marks (marks_of h)
 
 -- what tables of version 3 say
@@ -86,19 +86,19 @@ pub record LiveTells (live : List Live) (h : List Entry) : Type 0 where
 
 -- what tables of version 1 say
 pub record TellsLive (c : Content) (h : List Entry) : Type 0 where
-  pub kept : IsKept h
+  pub kept : IsKeptHistory h
   pub formats_are : c.formats ≡ only_format 1
   pub years_are : IsPermutation c.years (years_of h)
   pub live_are : LiveTells c.live h
-  pub lines_are : IsPermutation c.lines (lines_of h)
+  pub lines_are : IsPermutation c.lines (lineage_lines h)
   -- it has no marks
   pub unmarked : marks_of h ≡ []
 
 -- what tables of a version say: before version 3 there are no marks
-abbrev pub Says : Version → Content → List Entry → Type 0
-Says First c h = TellsLive c h
-Says Second c h = TellsSpans 2 [] c h
-Says Third c h = Tells c h
+abbrev pub TablesSay : Version → Content → List Entry → Type 0
+TablesSay First c h = TellsLive c h
+TablesSay Second c h = TellsSpans 2 [] c h
+TablesSay Third c h = Tells c h
 
 -- the same rows in another order
 pub record IsSameContent (c d : Content) : Type 0 where
@@ -118,7 +118,7 @@ pub record IsSameHistory (h k : List Entry) : Type 0 where
   pub rows : (i : ℕ) → (entry_at h i).rows ≡ (entry_at k i).rows
 
 -- the identifiers of a release that no release of the history holds
-pub record IsFresh (h : List Entry) (live fresh : List (List ℕ)) : Type 0 where
+pub record AreFresh (h : List Entry) (live fresh : List (List ℕ)) : Type 0 where
   pub are : (q : List ℕ) → has_id fresh q ≡ (has_id live q && not (is_some (span_of h q)))
   pub ascend : IsAscending fresh
   pub ids : (q : List ℕ) → has_id fresh q ≡ true → is_id q ≡ true
@@ -126,4 +126,4 @@ pub record IsFresh (h : List Entry) (live fresh : List (List ℕ)) : Type 0 wher
 -- what publishing writes: the identifiers that the release drops, and those that no release held
 pub record IsWriting (h : List Entry) (live gone fresh : List (List ℕ)) : Type 0 where
   pub gone_are : (q : List ℕ) → has_id gone q ≡ (has_id (last_live h) q && not (has_id live q))
-  pub fresh_are : IsFresh h live fresh
+  pub fresh_are : AreFresh h live fresh

@@ -6,7 +6,7 @@ ghost use Rattle.lpis_lineage.specs.declared.fault.AddFault.TheVariants.{Memory 
 ghost use Rattle.lpis_lineage.specs.declared.row.Entry.{Entry};
 ghost use Rattle.lpis_register_rows.specs.declared.fault.RowsFault.TheVariants.{Unlawful};
 ghost use Rattle.lpis_register_rows.specs.Tells.{IsSameHistory, years_of};
-ghost use Rattle.lpis_register_rows.specs.private.Fronts.{IsDue, IsFront, IsSaid};
+ghost use Rattle.lpis_register_rows.specs.private.Fronts.{IsDue, IsFront, SaysHistory};
 ghost use Rattle.lpis_register_rows.specs.private.Known.{SetsAre, known_of, span_in};
 
 use crate::fault::RowsFault;
@@ -32,10 +32,10 @@ fn add_year(
         → SetsAre (map span_in spans.now) history.new) }
     ensures lines { known_of history.old ≡ take from lines.now
         → IfOk result (λ next. known_of history.new ≡ take next lines.now) }
-    ensures front { OnOk result ((h : List Entry) → IsSaid spans.now lines.now h
+    ensures front { OnOk result ((h : List Entry) → SaysHistory spans.now lines.now h
         → IsDue history.old lines.now from year h → IsFront history.new h) }
     ensures refused { IfErr result (λ e. e ≡ Unlawful → (h : List Entry)
-        → IsSaid spans.now lines.now h
+        → SaysHistory spans.now lines.now h
         → IsDue history.old lines.now from year h → ⊥) }
 {
     let live = live_ids(alloc, spans, year)?;
@@ -67,10 +67,10 @@ pub(crate) fn build(
     ensures years { IfOk result (λ h. years_of h ≡ map (λ y. pos y) years.now) }
     ensures sets { IfOk result (SetsAre (map span_in spans.now)) }
     ensures lines { IfOk result (λ h. known_of h ≡ lines.now) }
-    ensures same { IfOk result (λ g. (h : List Entry) → IsSaid spans.now lines.now h
+    ensures same { IfOk result (λ g. (h : List Entry) → SaysHistory spans.now lines.now h
         → years_of h ≡ map (λ y. pos y) years.now → IsSameHistory g h) }
     ensures refused { IfErr result (λ e. e ≡ Unlawful → (h : List Entry)
-        → IsSaid spans.now lines.now h
+        → SaysHistory spans.now lines.now h
         → years_of h ≡ map (λ y. pos y) years.now → ⊥) }
 {
     let mut history = History::new(alloc);

@@ -3,7 +3,7 @@
 ghost use Rattle.std.specs.Prelude.{◌≡◌, List, [], IfErr, IfOk};
 ghost use Rattle.lpis_lineage.specs.declared.row.Entry.{Entry};
 ghost use Rattle.lpis_register_rows.specs.declared.fault.RowsFault.TheVariants.{Unlawful};
-ghost use Rattle.lpis_register_rows.specs.Tells.{Says, TellsSpans};
+ghost use Rattle.lpis_register_rows.specs.Tells.{TablesSay, TellsSpans};
 
 use crate::building::build;
 use crate::fault::RowsFault;
@@ -49,9 +49,9 @@ fn spans_history_of(
 /// The history that rows of a version say, in whatever order they are; `Unlawful` exactly where
 /// they say none.
 pub fn history_of(alloc: Global, rows: &Rows, version: Version) -> Result<History, RowsFault>
-    ensures ok { IfOk result (Says version rows.now) }
+    ensures ok { IfOk result (TablesSay version rows.now) }
     ensures unlawful { IfErr result (λ e. e ≡ Unlawful → (h : List Entry)
-        → Says version rows.now h → ⊥) }
+        → TablesSay version rows.now h → ⊥) }
 {
     match version {
         Version::First => live_history_of(alloc, rows),

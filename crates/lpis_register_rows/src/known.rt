@@ -8,10 +8,11 @@ ghost use Rattle.std.specs.List.Sorted.{IsSortedByKey};
 ghost use Rattle.std.specs.Ordering.{nat_cmp};
 ghost use Rattle.lpis_covers.specs.Ids.{is_id, same_id};
 ghost use Rattle.lpis_register_rows.specs.declared.fault.RowsFault.TheVariants.{Unlawful};
-ghost use Rattle.lpis_register_rows.specs.Content.{text_of};
+ghost use Rattle.lpis_register_rows.specs.Content.{successor_text};
 ghost use Rattle.lpis_register_rows.specs.Tells.{last_of_years};
 ghost use Rattle.lpis_register_rows.specs.private.Covering.{covers};
-ghost use Rattle.lpis_register_rows.specs.private.Known.{HasText, IsReadable, IsYear, line_cmp, line_in};
+ghost use Rattle.lpis_register_rows.specs.private.Known.{HasText, IsReadable, IsReleaseYear};
+ghost use Rattle.lpis_register_rows.specs.private.Known.{line_cmp, line_in};
 ghost use Rattle.lpis_register_rows.specs.private.Known.{span_in};
 
 use crate::fault::RowsFault;
@@ -122,7 +123,7 @@ impl KnownLine {
 
 /// The successor of a text, none where it is empty.
 fn read_successor(alloc: Global, text: &str) -> Result<Option<Id>, RowsFault>
-    ensures same { IfOk result (λ new. text_of new ≡ text.now) }
+    ensures same { IfOk result (λ new. successor_text new ≡ text.now) }
     ensures text { IfOk result (λ new. new ≡ Some [] → ⊥) }
     ensures refused { IfErr result (λ e. e ≡ Unlawful → (text.now ≡ []) ⊎ (is_id text.now ≡ true)
         → ⊥) }
@@ -182,7 +183,7 @@ fn known_lines(alloc: Global, lines: &[LineRow]) -> Result<Vec<KnownLine>, RowsF
 /// A year from 1 to 65,535.
 fn year_of(year: &i64) -> Option<u16>
     ensures some { IfSome result (λ y. (year.now ≡ pos y) × (y ≤ last_of_years)) }
-    ensures none { IfNone result (IsYear year.now → ⊥) }
+    ensures none { IfNone result (IsReleaseYear year.now → ⊥) }
 {
     if 1 <= *year && *year <= 65535 {
         Some(*year as u16)
@@ -196,7 +197,7 @@ pub(crate) fn sorted_years(alloc: Global, years: &[i64]) -> Result<Vec<u16>, Row
     ensures same { IfOk result (λ v. IsPermutation years.now (map (λ y. pos y) v.items)) }
     ensures small { IfOk result (λ v. All (λ y. y ≤ last_of_years) v.items) }
     ensures sorted { IfOk result (λ v. IsSorted nat_cmp v.items) }
-    ensures refused { IfErr result (λ e. e ≡ Unlawful → All IsYear years.now → ⊥) }
+    ensures refused { IfErr result (λ e. e ≡ Unlawful → All IsReleaseYear years.now → ⊥) }
 {
     let mut sorted = known_years(alloc, years)?;
     sorted.sort_unstable();
@@ -207,7 +208,7 @@ pub(crate) fn sorted_years(alloc: Global, years: &[i64]) -> Result<Vec<u16>, Row
 fn known_years(alloc: Global, years: &[i64]) -> Result<Vec<u16>, RowsFault>
     ensures same { IfOk result (λ v. map (λ y. pos y) v.items ≡ years.now) }
     ensures small { IfOk result (λ v. All (λ y. y ≤ last_of_years) v.items) }
-    ensures refused { IfErr result (λ e. e ≡ Unlawful → All IsYear years.now → ⊥) }
+    ensures refused { IfErr result (λ e. e ≡ Unlawful → All IsReleaseYear years.now → ⊥) }
 {
     let mut known = Vec::new(alloc);
     for year in years {

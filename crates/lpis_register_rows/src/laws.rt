@@ -11,8 +11,9 @@ ghost use Rattle.lpis_register_rows.specs.Content.{Content, Mark, StoredSpan, St
 ghost use Rattle.lpis_register_rows.specs.Content.{marks_from, no_content, published, raised};
 ghost use Rattle.lpis_register_rows.specs.Content.{released, without_live, without_texts};
 ghost use Rattle.lpis_register_rows.specs.Shapes.{AreLive, Shape, ShapesAre};
-ghost use Rattle.lpis_register_rows.specs.Tells.{IsFresh, IsSameContent, IsSameHistory, IsWriting};
-ghost use Rattle.lpis_register_rows.specs.Tells.{Says, SpansTell, Tells, TellsLive, TellsSpans};
+ghost use Rattle.lpis_register_rows.specs.Tells.{AreFresh, IsSameContent, IsSameHistory, IsWriting};
+ghost use Rattle.lpis_register_rows.specs.Tells.{TablesSay, SpansTell, Tells, TellsLive};
+ghost use Rattle.lpis_register_rows.specs.Tells.{TellsSpans};
 ghost use Rattle.lpis_register_rows.specs.Tells.{last_of_years};
 ghost use Rattle.lpis_register_rows.specs.declared.version.Version.{Version};
 
@@ -35,17 +36,17 @@ pub fn publishing_adds_the_release()
 
 /// Tables say one history.
 pub fn tables_say_one_history()
-    ensures { (version : Version) (c : Content) (h k : List Entry) → Says version c h
-        → Says version c k → IsSameHistory h k }
+    ensures { (version : Version) (c : Content) (h k : List Entry) → TablesSay version c h
+        → TablesSay version c k → IsSameHistory h k }
 {}
 
 /// Rows in another order say the same history, and so they do without the texts, and in version 3
 /// without live rows; tables with no release say the empty one.
 pub fn order_of_rows_is_free()
     ensures reordered { (version : Version) (c d : Content) (h : List Entry) → IsSameContent c d
-        → Says version c h → Says version d h }
+        → TablesSay version c h → TablesSay version d h }
     ensures textless { (version : Version) (c d : Content) (h : List Entry)
-        → IsSameContent (without_texts c) d → Says version c h ↔ Says version d h }
+        → IsSameContent (without_texts c) d → TablesSay version c h ↔ TablesSay version d h }
     ensures lifeless { (c d : Content) (h : List Entry)
         → IsSameContent (without_texts (without_live c)) d → Tells c h ↔ Tells d h }
     ensures nothing { Tells no_content [] }
@@ -75,6 +76,6 @@ pub fn moving_keeps_the_history()
 /// What a change drops and what is fresh is what publishing writes.
 pub fn changes_tell_what_is_written()
     ensures { (h : List Entry) (live fresh : List (List ℕ)) (rows : List Row) (change : Changes)
-        → IsChange (last_live h) live rows change → IsFresh h live fresh
+        → IsChange (last_live h) live rows change → AreFresh h live fresh
         → IsWriting h live change.dropped_ids fresh }
 {}

@@ -4,7 +4,7 @@ ghost use Rattle.std.specs.Prelude.{◌≡◌, ◌≤◌, List, length, drop, ma
 ghost use Rattle.std.specs.Prelude.{IsPermutation, IsSorted};
 ghost use Rattle.lpis_lineage.specs.declared.row.Entry.{Entry};
 ghost use Rattle.lpis_register_rows.specs.declared.fault.RowsFault.TheVariants.{Unlawful};
-ghost use Rattle.lpis_register_rows.specs.Tells.{IsKept, lines_of, marks_of};
+ghost use Rattle.lpis_register_rows.specs.Tells.{IsKeptHistory, lineage_lines, marks_of};
 ghost use Rattle.lpis_register_rows.specs.private.Known.{known_of, line_in};
 ghost use Rattle.lpis_register_rows.specs.private.Marking.{is_next, mark_cmp, marks_in, unused};
 ghost use Rattle.lpis_register_rows.specs.private.Marking.{walked};
@@ -71,11 +71,11 @@ pub(crate) fn marked_lines(
 ) -> Result<Vec<KnownLine>, RowsFault>
     ensures same { IfOk result (λ v. IsPermutation lines.now (map line_in v.items)) }
     ensures marks { IfOk result (λ v. IsPermutation marks.now (marks_in v.items)) }
-    ensures told { IfOk result (λ v. (h : List Entry) → IsKept h
-        → IsPermutation lines.now (lines_of h) → IsPermutation marks.now (marks_of h)
+    ensures told { IfOk result (λ v. (h : List Entry) → IsKeptHistory h
+        → IsPermutation lines.now (lineage_lines h) → IsPermutation marks.now (marks_of h)
         → known_of h ≡ v.items) }
-    ensures refused { IfErr result (λ e. e ≡ Unlawful → (h : List Entry) → IsKept h
-        → IsPermutation lines.now (lines_of h) → IsPermutation marks.now (marks_of h) → ⊥) }
+    ensures refused { IfErr result (λ e. e ≡ Unlawful → (h : List Entry) → IsKeptHistory h
+        → IsPermutation lines.now (lineage_lines h) → IsPermutation marks.now (marks_of h) → ⊥) }
 {
     let mut known = read_lines(alloc, lines)?;
     let marks = sorted(alloc, marks)?;

@@ -8,7 +8,7 @@ ghost use Rattle.lpis_register_rows.specs.declared.fault.RowsFault.TheVariants.{
 ghost use Rattle.lpis_register_rows.specs.Tells.{IsSpanRow, only_format};
 ghost use Rattle.lpis_register_rows.specs.private.Covering.{covers};
 ghost use Rattle.lpis_register_rows.specs.private.Fronts.{IsRun};
-ghost use Rattle.lpis_register_rows.specs.private.Known.{known_from, line_at, span_in};
+ghost use Rattle.lpis_register_rows.specs.private.Known.{known_from, known_line_at, span_in};
 
 use crate::fault::RowsFault;
 use crate::known::{KnownLine, KnownSpan};
@@ -45,7 +45,7 @@ pub(crate) fn live_ids(alloc: Global, spans: &[KnownSpan], year: u16) -> Result<
 /// Whether there is a line at a position, and its year is this one.
 fn is_of_year(lines: &[KnownLine], next: usize, year: u16) -> bool
     ensures within { IsTrue result → next + 1 ≤ length lines.now }
-    ensures year { IsTrue result ↔ ((line_at lines.now next).year ≡ pos year) }
+    ensures year { IsTrue result ↔ ((known_line_at lines.now next).year ≡ pos year) }
 {
     next < lines.len() && lines[next].is_of(year)
 }
@@ -62,8 +62,9 @@ fn row_at(
     requires within { next + 1 ≤ length lines.now }
     ensures row { IfOk result (λ row. take (next + 1) lines.now ≡ take next lines.now
         ++ known_from (pos year) position (row ∷ [])) }
-    ensures refused { IfErr result (λ e. e ≡ Unlawful → (line_at lines.now next).year ≡ pos year
-        → (line_at lines.now next).position ≡ pos position → ⊥) }
+    ensures refused { IfErr result (λ e. e ≡ Unlawful
+        → (known_line_at lines.now next).year ≡ pos year
+        → (known_line_at lines.now next).position ≡ pos position → ⊥) }
 {
     let line = &lines[next];
     if line.is_at(year, position) {

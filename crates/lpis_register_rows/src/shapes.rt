@@ -12,9 +12,10 @@ ghost use Rattle.lpis_parcels.specs.Release.{parcel_ids};
 ghost use Rattle.lpis_rings.specs.declared.polygon.Member.{Member};
 ghost use Rattle.lpis_wkt.specs.Text.{PolygonText};
 ghost use Rattle.lpis_register_rows.specs.declared.fault.RowsFault.TheVariants.{Unlawful};
-ghost use Rattle.lpis_register_rows.specs.Shapes.{AreLive, AreShapesOf, IsLive, IsTextOf, Shape};
+ghost use Rattle.lpis_register_rows.specs.Shapes.{AreLive, AreShapesOf, IsLive, IsTextOfShape};
+ghost use Rattle.lpis_register_rows.specs.Shapes.{Shape};
 ghost use Rattle.lpis_register_rows.specs.Shapes.{ShapesAre, TextsStand, shape_ids};
-ghost use Rattle.lpis_register_rows.specs.Shapes.{shape_of as the_shape_of};
+ghost use Rattle.lpis_register_rows.specs.Shapes.{parcel_shape as the_shape_of};
 
 use crate::fault::RowsFault;
 use crate::known::read_id;
@@ -43,9 +44,10 @@ fn polygon_of(alloc: Global, text: &str) -> Result<Polygon, RowsFault>
 
 /// The shape of a text that may be kept beside a history.
 fn shape_of(alloc: Global, history: &History, text: &TextRow) -> Result<(Id, Polygon), RowsFault>
-    ensures spelled { IfOk result (IsTextOf text.now) }
+    ensures spelled { IfOk result (IsTextOfShape text.now) }
     ensures live { IfOk result (IsLive (last_live history.now)) }
-    ensures refused { IfErr result (λ e. e ≡ Unlawful → (shape : Shape) → IsTextOf text.now shape
+    ensures refused { IfErr result (λ e. e ≡ Unlawful → (shape : Shape)
+        → IsTextOfShape text.now shape
         → IsLive (last_live history.now) shape → ⊥) }
 {
     let id = read_id(alloc, text.id())?;
@@ -62,10 +64,10 @@ fn told_shapes(
     history: &History,
     texts: &[TextRow],
 ) -> Result<Vec<(Id, Polygon)>, RowsFault>
-    ensures spelled { IfOk result (λ v. AllZip IsTextOf texts.now v.items) }
+    ensures spelled { IfOk result (λ v. AllZip IsTextOfShape texts.now v.items) }
     ensures live { IfOk result (λ v. AreLive (last_live history.now) v.items) }
     ensures refused { IfErr result (λ e. e ≡ Unlawful → (order : List Shape)
-        → AllZip IsTextOf texts.now order → AreLive (last_live history.now) order → ⊥) }
+        → AllZip IsTextOfShape texts.now order → AreLive (last_live history.now) order → ⊥) }
 {
     let mut shapes = Vec::with_capacity(alloc, texts.len())?;
     for text in texts {

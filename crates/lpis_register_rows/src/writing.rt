@@ -4,7 +4,7 @@ ghost use Rattle.std.specs.Prelude.{◌≡◌, not, is_some, true, IfOk};
 ghost use Rattle.std.specs.List.{All, filter};
 ghost use Rattle.lpis_covers.specs.Ids.{is_id};
 ghost use Rattle.lpis_lineage.specs.Spans.{span_of};
-ghost use Rattle.lpis_register_rows.specs.Tells.{IsFresh};
+ghost use Rattle.lpis_register_rows.specs.Tells.{AreFresh};
 
 use lpis_covers::Id;
 use lpis_lineage::History;
@@ -38,7 +38,7 @@ fn unheld(alloc: Global, history: &History, ids: &[Id]) -> Result<Vec<Id>, Alloc
 /// The identifiers of a release that no release of the history holds, ascending by bytes, each
 /// once.
 pub fn fresh_ids(alloc: Global, history: &History, live: &[Id]) -> Result<Vec<Id>, AllocError>
-    ensures { IfOk result (λ v. IsFresh history.now live.now v.items) }
+    ensures { IfOk result (λ v. AreFresh history.now live.now v.items) }
 {
     let mut fresh = unheld(alloc, history, live)?;
     fresh.sort_unstable();

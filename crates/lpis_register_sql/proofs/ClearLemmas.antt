@@ -1,8 +1,11 @@
 -- What DELETE with no WHERE makes of a table.
 use Rattle.std.proofs.Common.{◌≡◌, ℕ, ℤ, List, [], ◌∷◌, map, slice_get, true, false, not, Some, None, Ok, refl, sym, ap, subst, ◌∙◌, IsPermutation, Option}
-use Rattle.lpis_register_sql.proofs.Common.{flat_map_single, IsPermutation-refl, IsPermutation-map, Null, Row, Table, Schema, overlay, IsAnswer, Output, output, edit_of, Given, Trees, Tally, Does, Database}
-use Rattle.lpis_register_sql.proofs.Common.{Mode, State, mode_of, ExecutesInside, understood, Program, ids_of, statement_of, runs_as, Content, without_spans, without_live, without_texts, without_marks, span_table, text_table, mark_table}
-use Rattle.lpis_register_sql.proofs.Common.{Origin, Moved, Whole, schema_of, span_tree, text_tree, mark_tree, span_place, text_place, mark_place, live_table, AreKeyed, span_row, live_row, text_row, mark_row, Inside}
+use Rattle.lpis_register_sql.proofs.Common.{flat_map_single, IsPermutation-refl, IsPermutation-map, Null, Row, Table, Schema, overlay, IsAnswer, Output, output, edit_of, Given, Trees, Tally, Does}
+use Rattle.lpis_register_sql.proofs.Common.{Database}
+use Rattle.lpis_register_sql.proofs.Common.{Mode, State, mode_of, ExecutesInside, understood, Program, ids_of, statement_of, runs_as, Content, without_spans, without_live, without_texts}
+use Rattle.lpis_register_sql.proofs.Common.{without_marks, span_table, text_table, mark_table}
+use Rattle.lpis_register_sql.proofs.Common.{Origin, Moved, Whole, schema_of, span_tree, text_tree, mark_tree, span_place, text_place, mark_place, live_table, AreKeyed, span_row, live_row, text_row}
+use Rattle.lpis_register_sql.proofs.Common.{mark_row, Inside}
 use Rattle.sqlite.specs.Command.TheVariants.{Delete}
 use Rattle.sqlite.specs.Edit.{without_all}
 use Rattle.sqlite.specs.Does.{AtPlace, OnRows}

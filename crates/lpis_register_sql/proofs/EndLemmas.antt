@@ -1,8 +1,10 @@
 -- What UPDATE makes of the spans.
 use Rattle.std.proofs.Common.{◌≡◌, ◌⊎◌, inl, inr, ℕ, ℤ, List, [], ◌∷◌, ◌++◌, map, drop, Bool, true, false, not, None, Ok, refl, sym, ap, ap₂, subst, ◌∙◌, IsPermutation, is_eq, true≢false}
 use Rattle.std.proofs.Common.{if◌then◌else◌, filter, bytes_eq, flat_map, nat_cmp}
-use Rattle.lpis_register_sql.proofs.Common.{cases_Bool, not-true, IsPermutation-refl, IsPermutation-trans, IsPermutation-map, Null, Int, Row, column, value_cmp, Update, edit_of, ids_of, Has, Given, Does}
-use Rattle.lpis_register_sql.proofs.Common.{Database, IsAnswer, Output, output, overlay, rowid, understood, State, mode_of, ExecutesInside, statement_of, runs_as, StoredSpan, Content, span_table, Origin}
+use Rattle.lpis_register_sql.proofs.Common.{cases_Bool, not-true, IsPermutation-refl, IsPermutation-trans, IsPermutation-map, Null, Int, Row, column, value_cmp, Update, edit_of, ids_of, Has, Given}
+use Rattle.lpis_register_sql.proofs.Common.{Does}
+use Rattle.lpis_register_sql.proofs.Common.{Database, IsAnswer, Output, output, overlay, rowid, understood, State, mode_of, ExecutesInside, statement_of, runs_as, StoredSpan, Content, span_table}
+use Rattle.lpis_register_sql.proofs.Common.{Origin}
 use Rattle.lpis_register_sql.proofs.Common.{Whole, schema_of, span_tree, span_place, AreKeyed, span_row, Inside}
 use Rattle.std.specs.List.{list_all}
 use Rattle.std.specs.Cmp.Lexicographic.{slice_cmp}
@@ -18,7 +20,7 @@ use Rattle.sqlite_rules.proofs.ListLemmas.{has_filtered, has_either}
 use Rattle.sqlite_rules.proofs.ProbeLemmas.{mapped_has, has_mapped}
 use Rattle.sqlite.specs.Cast.{cast_row}
 use Rattle.sqlite.specs.Term.{holds}
-use Rattle.lpis_register_rows.specs.Content.{end_at, ended}
+use Rattle.lpis_register_rows.specs.Content.{end_at, with_ended}
 use Rattle.lpis_register_sql.specs.private.Texts.{end_span}
 use Rattle.lpis_register_sql.specs.private.Shown.{text_in}
 use Rattle.lpis_register_sql.proofs.MeaningLemmas.{ends_query, end_span_means, whole}
@@ -150,7 +152,7 @@ made_out tree y id [] = refl
 made_out tree y id (r ∷ rows) = ap (λ l. made tree y id r ∷ l) (made_out tree y id rows)
 
 pub end_inside : (o : Origin) (base : Database) (old new : State) (c : Content) (id : List ℕ) (y : ℤ) (count : ℕ) → Inside (Whole o) base old c
-    → ExecutesInside 0 end_span (Int y ∷ Text id ∷ []) old new (Ok count) → Inside (Whole o) base new (ended y c id)
+    → ExecutesInside 0 end_span (Int y ∷ Text id ∷ []) old new (Ok count) → Inside (Whole o) base new (with_ended y c id)
 end_inside o base old new c id y count before h =
     let s = schema_of (Whole o) in
     let m = before.holds.means in

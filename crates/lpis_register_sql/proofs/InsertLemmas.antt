@@ -1,8 +1,10 @@
 -- What the statements that insert do.
 use Rattle.std.proofs.Common.{◌≡◌, ℕ, ℤ, pos, List, [], ◌∷◌, drop, slice_get, true, Some, Ok, refl, sym, subst, ◌∙◌}
-use Rattle.lpis_register_sql.proofs.Common.{IsPermutation-trans, IsPermutation-map, Int, Row, edit_of, Database, Trees, State, ExecutesInside, StoredSpan, StoredText, Mark, Line, Content, with_whole_span, with_line, with_text, with_mark, format_table}
-use Rattle.lpis_register_sql.proofs.Common.{release_table, span_table, row_table, text_table, mark_table, Layout, Origin, Whole, schema_of, span_tree, text_tree, mark_tree, span_place, text_place, mark_place, AreKeyed, format_row, year_row, span_row, line_row}
-use Rattle.lpis_register_sql.proofs.Common.{text_row, mark_row, Holds, Inside}
+use Rattle.lpis_register_sql.proofs.Common.{IsPermutation-trans, IsPermutation-map, Int, Row, edit_of, Database, Trees, State, ExecutesInside, StoredSpan, StoredText, Mark, Line, Content}
+use Rattle.lpis_register_sql.proofs.Common.{with_whole_span, with_line, with_text, with_mark, format_table}
+use Rattle.lpis_register_sql.proofs.Common.{release_table, span_table, row_table, text_table, mark_table, Layout, Origin, Whole, schema_of, span_tree, text_tree, mark_tree, span_place, text_place}
+use Rattle.lpis_register_sql.proofs.Common.{mark_place, AreKeyed, format_row, year_row, span_row, line_row}
+use Rattle.lpis_register_sql.proofs.Common.{text_row, mark_row, HoldsRows, Inside}
 use Rattle.std.proofs.lemmas.List.Sorted.{IsPermutation-cons}
 use Rattle.sqlite.specs.declared.types.Value.TheVariants.{Text}
 use Rattle.sqlite.specs.Edit.{next_rowid}
@@ -12,7 +14,8 @@ use Rattle.sqlite.specs.Effect.{value_rows}
 use Rattle.sqlite.specs.State.{Shows}
 use Rattle.lpis_register_rows.specs.Content.{with_year, with_span}
 use Rattle.lpis_register_sql.specs.private.Texts.{insert_release, insert_span, insert_whole_span, insert_line, insert_text, insert_mark}
-use Rattle.lpis_register_sql.proofs.MeaningLemmas.{in_each, format_terms, insert_release_means, release_terms, insert_span_means, span_terms, insert_whole_span_means, whole_span_terms, insert_line_means}
+use Rattle.lpis_register_sql.proofs.MeaningLemmas.{in_each, format_terms, insert_release_means, release_terms, insert_span_means, span_terms, insert_whole_span_means, whole_span_terms}
+use Rattle.lpis_register_sql.proofs.MeaningLemmas.{insert_line_means}
 use Rattle.lpis_register_sql.proofs.MeaningLemmas.{line_terms, pair_terms, insert_text_means, insert_mark_means}
 use Rattle.lpis_register_sql.proofs.PartLemmas.{KeepsAll, years_changed, spans_changed, lines_changed, texts_changed, marks_changed}
 use Rattle.lpis_register_sql.proofs.WriteLemmas.{cast_null, cast_int, Adds, adds, keyed_more}
@@ -52,7 +55,7 @@ mark_news trees tree m = rw (cast_null, cast_int m.year, cast_int m.position)
 
 -- ---- inside a transaction
 
-pub inside_next : (s t : Layout) (base : Database) (old new : State) (c d : Content) → Inside s base old c → Shows old new new.now old.committed true → Holds t new.now d → Inside t base new d
+pub inside_next : (s t : Layout) (base : Database) (old new : State) (c d : Content) → Inside s base old c → Shows old new new.now old.committed true → HoldsRows t new.now d → Inside t base new d
 inside_next s t base old new c d before shown holds = record { is_open = shown.is_open; in_transaction = shown.mode; base_is = shown.committed_is ∙ before.base_is; holds = holds }
 
 abbrev next_id : State → ℕ → ℤ

@@ -4,7 +4,7 @@ use Rattle.lpis_register_sql.proofs.Common.{Content, Mark, with_line, with_lines
 use Rattle.std.proofs.lemmas.List.{take_more}
 use Rattle.std.proofs.lemmas.List.Sums.{fold_push}
 use Rattle.lpis_lineage.specs.declared.row.Row.{Row}
-use Rattle.lpis_register_sql.specs.private.Lines.{line_of, mark_at}
+use Rattle.lpis_register_sql.specs.private.Lines.{row_line, mark_at}
 use Rattle.lpis_register_rows.specs.Content.{marks_from, with_marks}
 
 -- a fold over the first items
@@ -13,23 +13,24 @@ pub more : {Y : Type 0} (step : Content → Y → Content) (xs : List Y) (i : �
 more step xs i d x c low is = ap (step (fold step c (take i xs))) is ∙ sym (ap (fold step c) (take_more xs i d low) ∙ fold_push step c (take i xs) (get_or xs i d))
 
 -- the lines of one row more
-lines_take : (y : ℤ) (n : ℕ) (rows : List Row) (i : ℕ) (d : Row) → i < length rows → lines_from y n (take (suc i) rows) ≡ lines_from y n (take i rows) ++ line_of y (pos (n + i)) (get_or rows i d) ∷ []
+lines_take : (y : ℤ) (n : ℕ) (rows : List Row) (i : ℕ) (d : Row) → i < length rows → lines_from y n (take (suc i) rows) ≡ lines_from y n (take i rows) ++ row_line y (pos (n + i)) (get_or rows i d)
+    ∷ []
 lines_take y n [] i d low = absurd (omega arith)
-lines_take y n (r ∷ rows) zero d low = ap (λ k. line_of y (pos k) r ∷ []) (let e : n ≡ n + 0 = omega arith in e)
+lines_take y n (r ∷ rows) zero d low = ap (λ k. row_line y (pos k) r ∷ []) (let e : n ≡ n + 0 = omega arith in e)
 lines_take y n (r ∷ rows) (suc i) d low =
     let more = lines_take y (n + 1) rows i d (omega arith) in
     let position : n + 1 + i ≡ n + suc i = omega arith in
-    ap (λ l. line_of y (pos n) r ∷ l) (more ∙ ap (λ k. lines_from y (n + 1) (take i rows) ++ line_of y (pos k) (get_or rows i d) ∷ []) position)
+    ap (λ l. row_line y (pos n) r ∷ l) (more ∙ ap (λ k. lines_from y (n + 1) (take i rows) ++ row_line y (pos k) (get_or rows i d) ∷ []) position)
 
 pub lines_more : (y : ℤ) (rows : List Row) (i : ℕ) (d r : Row) (c : Content) → i < length rows → r ≡ get_or rows i d
-    → with_line (with_lines (lines_from y 0 (take i rows)) c) (line_of y (pos i) r) ≡ with_lines (lines_from y 0 (take (i + 1) rows)) c
+    → with_line (with_lines (lines_from y 0 (take i rows)) c) (row_line y (pos i) r) ≡ with_lines (lines_from y 0 (take (i + 1) rows)) c
 lines_more y rows i d r c low is =
     let next : i + 1 ≡ suc i = omega arith in
     let lines = ap (λ k. lines_from y 0 (take k rows)) next ∙ lines_take y 0 rows i d low in
     let first : 0 + i ≡ i = omega arith in
-    ap (λ x. with_line (with_lines (lines_from y 0 (take i rows)) c) (line_of y (pos i) x)) is ∙ sym (ap (λ l. with_lines l c) lines ∙ fold_push with_line c (lines_from y 0 (take i rows))
-    (line_of y (pos (0 + i)) (get_or rows i d))
-    ∙ ap (λ k. with_line (with_lines (lines_from y 0 (take i rows)) c) (line_of y (pos k) (get_or rows i d))) first)
+    ap (λ x. with_line (with_lines (lines_from y 0 (take i rows)) c) (row_line y (pos i) x)) is ∙ sym (ap (λ l. with_lines l c) lines ∙ fold_push with_line c (lines_from y 0 (take i rows))
+    (row_line y (pos (0 + i)) (get_or rows i d))
+    ∙ ap (λ k. with_line (with_lines (lines_from y 0 (take i rows)) c) (row_line y (pos k) (get_or rows i d))) first)
 
 -- the marks of one row more
 put : (b : Bool) (m : Mark) (xs ys zs : List Mark) → xs ≡ ys ++ zs → (if b then m ∷ xs else xs) ≡ (if b then m ∷ ys else ys) ++ zs

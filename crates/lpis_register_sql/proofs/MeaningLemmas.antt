@@ -1,8 +1,11 @@
 -- What the texts mean, in each order of the tables.
 use Rattle.std.proofs.Common.{◌≡◌, ℕ, Ok, refl, codes, [], ◌∷◌, None, true, false, pos, negsuc, List, sym, true≢false}
-use Rattle.lpis_register_sql.proofs.Common.{Null, Int, table_defined_by, Term, Program, Update, CreateTable, understood, statement_of, Schema, Table, format_table, release_table, span_table, row_table}
-use Rattle.lpis_register_sql.proofs.Common.{Layout, Origin, New, First, Moved, Whole, LessMarks, LessTexts, schema_of, has_spans, has_live, has_texts, has_marks, span_tree, text_tree, mark_tree, origin_of, no_schema, span_place}
-use Rattle.lpis_register_sql.proofs.Common.{text_place, mark_place, one_table, two_tables, three_tables, read_format, read_release, read_span, read_line, read_live, read_text, read_mark, text_table, mark_table}
+use Rattle.lpis_register_sql.proofs.Common.{Null, Int, table_defined_by, Term, Program, Update, CreateTable, understood, statement_of, Schema, Table, format_table, release_table, span_table}
+use Rattle.lpis_register_sql.proofs.Common.{row_table}
+use Rattle.lpis_register_sql.proofs.Common.{Layout, Origin, New, First, Moved, Whole, LessMarks, LessTexts, schema_of, has_spans, has_live, has_texts, has_marks, span_tree, text_tree, mark_tree}
+use Rattle.lpis_register_sql.proofs.Common.{origin_of, no_schema, span_place}
+use Rattle.lpis_register_sql.proofs.Common.{text_place, mark_place, one_table, two_tables, three_tables, read_format, read_release, read_span, read_line_text, read_live, read_text, read_mark}
+use Rattle.lpis_register_sql.proofs.Common.{text_table, mark_table}
 use Rattle.sqlite.specs.Term.{lit, col, op2}
 use Rattle.sqlite_sql.specs.declared.ops.BinaryOp.TheVariants.{Compare}
 use Rattle.sqlite_sql.specs.declared.ops.CompareOp.TheVariants.{Eq}
@@ -174,7 +177,7 @@ pub read_span_means : (s : Layout) → has_spans s ≡ true → Asks s read_span
 unfolding understood everything
 read_span_means = in_all _ (λ p. (refl, refl, (refl, refl))) (λ p. (refl, refl, (refl, refl))) (λ p. (refl, refl, (refl, refl))) (λ p. (refl, refl, (refl, refl))) (λ p. (refl, refl, (refl, refl))) (λ p. (refl, refl, (refl, refl))) (λ p. absurd (true≢false (sym p)))
 
-pub read_line_means : (s : Layout) → Asks s read_line line_query (codes "year" ∷ codes "pos" ∷ codes "old" ∷ codes "new" ∷ [])
+pub read_line_means : (s : Layout) → Asks s read_line_text line_query (codes "year" ∷ codes "pos" ∷ codes "old" ∷ codes "new" ∷ [])
 unfolding understood everything
 read_line_means = in_all _ (refl, refl, (refl, refl)) (refl, refl, (refl, refl)) (refl, refl, (refl, refl)) (refl, refl, (refl, refl)) (refl, refl, (refl, refl)) (refl, refl, (refl, refl)) (refl, refl, (refl, refl))
 

@@ -2,7 +2,7 @@
 use Rattle.std.proofs.Common.{arith, refl, inl, ◌≡◌, Ok, Err, Result}
 use Rattle.lpis_register_sql.proofs.Common.{HasCleanDisk, State, Survives, Content, Layout, IsStored}
 use Rattle.sqlite.proofs.StateLemmas.{survives_then, survives_weaker}
-use Rattle.lpis_register_sql.specs.Quiet.{LeavesNone, Reads}
+use Rattle.lpis_register_sql.specs.Quiet.{LeavesNone, ReadsRows}
 
 -- what the calls so far have answered
 pub record Told (P : Layout → Type 0) (Says : Content → Type 0) (a b : State) : Type 0 where
@@ -22,7 +22,7 @@ still_none {a = a} {b = b} {c = c} f told quiet =
 
 -- which answers
 pub then : {P Q : Layout → Type 0} {Says : Content → Type 0} {X E : Type 0} {More : Content → X → Type 0} {a b c : State} {x : X} → ((s : Layout) → P s → Q s) → Told P Says a b
-    → Reads {X = X} {E = E} Q More b c (Ok x) → Told P (λ content. Says content × More content x) a c
+    → ReadsRows {X = X} {E = E} Q More b c (Ok x) → Told P (λ content. Says content × More content x) a c
 then f told reads = record {
   says = λ clean s p content h.
       let before = told.says (omega (arith, reads.survives.clean)) s p content h in
@@ -32,7 +32,7 @@ then f told reads = record {
 
 -- or fails
 pub then_fails : {P Q : Layout → Type 0} {Says : Content → Type 0} {X Y D E : Type 0} {More : Content → X → Type 0} {All : Content → Y → Type 0} {a b c : State} {d : D} {r : Result Y E}
-    {Why : E → Type 0} → (e : E) × (r ≡ Err e) × Why e → ((s : Layout) → P s → Q s) → Told P Says a b → Reads Q More b c (Err d) → Reads P All a c r
+    {Why : E → Type 0} → (e : E) × (r ≡ Err e) × Why e → ((s : Layout) → P s → Q s) → Told P Says a b → ReadsRows Q More b c (Err d) → ReadsRows P All a c r
 then_fails failed f told reads = rw failed.1 (record {
   ok = λ clean s p content h. tt;
   same = λ clean up s p content h. reads.same clean up s (f s p) content (told.says (omega (arith, reads.survives.clean)) s p content h).1;
@@ -41,7 +41,7 @@ then_fails failed f told reads = rw failed.1 (record {
 
 -- what is made of all that was answered
 pub answered : {P : Layout → Type 0} {Says : Content → Type 0} {Y E : Type 0} {All : Content → Y → Type 0} {a b : State} {y : Y} → Told P Says a b → ((c : Content) → Says c → All c y)
-    → Reads {X = Y} {E = E} P All a b (Ok y)
+    → ReadsRows {X = Y} {E = E} P All a b (Ok y)
 answered told made = record {
   ok = λ clean s p c h. let it = told.says clean s p c h in (made c it.0, it.1);
   same = λ clean up s p c h. (told.says clean s p c h).1;
@@ -49,7 +49,7 @@ answered told made = record {
 }
 
 -- a call that reads tables of more orders than are asked for
-pub reads_of : {P Q : Layout → Type 0} {X E : Type 0} {Says : Content → X → Type 0} {a b : State} {r : Result X E} → ((s : Layout) → P s → Q s) → Reads Q Says a b r → Reads P Says a b r
+pub reads_of : {P Q : Layout → Type 0} {X E : Type 0} {Says : Content → X → Type 0} {a b : State} {r : Result X E} → ((s : Layout) → P s → Q s) → ReadsRows Q Says a b r → ReadsRows P Says a b r
 reads_of {a = a} {b = b} f reads = record {
   ok = λ clean s p c h. reads.ok clean s (f s p) c h;
   same = λ clean up s p c h. reads.same clean up s (f s p) c h;

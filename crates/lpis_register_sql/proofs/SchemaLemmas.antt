@@ -1,7 +1,8 @@
 -- Trees that list a schema of the register list no other.
 use Rattle.std.proofs.Common.{◌≡◌, inl, inr, ℕ, zero, suc, ◌+◌, pos, List, [], ◌∷◌, Bool, true, false, not, slice_get, Some, Ok, Result, refl, sym, ap, ap₂, subst, ◌∙◌, arith, true≢false, Option}
 use Rattle.std.proofs.Common.{filter, ◌&&◌, ◌||◌, bytes_eq}
-use Rattle.lpis_register_sql.proofs.Common.{cases_Bool, and_parts, not-true, nat_tests, list_any, Row, column, Database, State, Table, Schema, Trees, Has, table_defined_by, Content, Holds, IsStored, Leaves}
+use Rattle.lpis_register_sql.proofs.Common.{cases_Bool, and_parts, not-true, nat_tests, list_any, Row, column, Database, State, Table, Schema, Trees, Has, table_defined_by, Content, HoldsRows}
+use Rattle.lpis_register_sql.proofs.Common.{IsStored, Leaves}
 use Rattle.lpis_register_sql.proofs.Common.{Layout, New, First, Moved, Whole, LessMarks, LessTexts, schema_of, no_schema}
 use Rattle.std.specs.List.{AllZip, list_all}
 use Rattle.sqlite_value.specs.declared.value.Value.{Value}
@@ -157,8 +158,8 @@ pub opened_stored : (layout : Layout) (s : State) (c : Content) → Opens s → 
 opened_stored layout s c o live h =
     let sound = (live o.is_open).1 in
     let schema = one_schema layout s.committed.schema s.committed.trees h.sound sound in
-    let held : Holds layout s.committed c = record { schema = schema; sound = sound; means = h.means } in
-    record { is_open = o.is_open; autocommit = o.autocommit; settled = o.clean; holds = subst (λ (d : Database). Holds layout d c) (sym o.clean) held }
+    let held : HoldsRows layout s.committed c = record { schema = schema; sound = sound; means = h.means } in
+    record { is_open = o.is_open; autocommit = o.autocommit; settled = o.clean; holds = subst (λ (d : Database). HoldsRows layout d c) (sym o.clean) held }
 
 pub opened_bare : (s : State) → Opens s → IsLive s → s.committed.trees catalog_tree ≡ [] → IsBare s
 opened_bare s o live none = record {

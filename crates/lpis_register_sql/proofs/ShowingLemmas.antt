@@ -1,7 +1,8 @@
 -- What the queries show.
 use Rattle.std.proofs.Common.{◌≡◌, ◌⊎◌, inl, inr, ℕ, List, [], ◌∷◌, map, drop, Ok, Err, Result, IfOk, refl, sym, ap, ap₂, subst, ◌∙◌, IsPermutation, IsTrue, true, IfErr, Vec, IsSorted, Global}
 use Rattle.lpis_register_sql.proofs.Common.{flat_map_single, IsPermutation-map, IsPermutation-trans, Null, Row, column, Term, overlay, IsAnswer, Output, output, Database, understood, Error, State}
-use Rattle.lpis_register_sql.proofs.Common.{HasCleanDisk, Survives, Content, Format, Layout, schema_of, origin_of, has_spans, has_live, has_texts, has_marks, span_tree, text_tree, mark_tree, read_format, read_release, read_span, read_line, read_live, read_text, read_mark, Holds}
+use Rattle.lpis_register_sql.proofs.Common.{HasCleanDisk, Survives, Content, Format, Layout, schema_of, origin_of, has_spans, has_live, has_texts, has_marks, span_tree, text_tree, mark_tree}
+use Rattle.lpis_register_sql.proofs.Common.{read_format, read_release, read_span, read_line_text, read_live, read_text, read_mark, HoldsRows}
 use Rattle.lpis_register_sql.proofs.Common.{IsStored, format_row, year_row, span_row, line_row, live_row, text_row, mark_row}
 use Rattle.std.proofs.lemmas.List.{map-id}
 use Rattle.sqlite_value.specs.declared.keys.Key.{Key}
@@ -10,7 +11,7 @@ use Rattle.sqlite.specs.Clock.{timed}
 use Rattle.sqlite.specs.State.{Shown, IsUnchanged, IsRolledBack, IsNotRun, FailsToQuery, FailsToShow, ShowsRows, CommitsShowing}
 use Rattle.sqlite.proofs.Callers.{reads_as, IsPlain, never_commits}
 use Rattle.sqlite.proofs.StateLemmas.{survives_weaker}
-use Rattle.lpis_register_sql.specs.Quiet.{LeavesNone, Reads}
+use Rattle.lpis_register_sql.specs.Quiet.{LeavesNone, ReadsRows}
 use Rattle.lpis_register_sql.specs.private.Shown.{year_shown, format_shown, span_shown, line_shown, live_shown, text_shown, mark_shown}
 use Rattle.lpis_register_sql.proofs.MeaningLemmas.{Asks, from_all, read_format_means, read_release_means, read_span_means, read_line_means, read_live_means, release_query, span_query, line_query}
 use Rattle.lpis_register_sql.proofs.MeaningLemmas.{live_query, format_query, text_query, mark_query, read_text_means, read_mark_means}
@@ -105,10 +106,10 @@ spans_shown s old new rows c spans r h =
     (sorts s read_span tree _ _ _ (read_span_means s spans) old new rows r.holds.schema h (own_tree o span_tree old.now.trees refl refl))
     (keeps_there (has_spans s) span_row c.spans (old.now.trees tree) spans r.holds.means.spans_are).0
 
-pub lines_shown : (s : Layout) (old new : State) (rows : List Row) (c : Content) → IsStored s old c → Shown read_line [] old new rows → IsPermutation c.lines (map line_shown rows)
+pub lines_shown : (s : Layout) (old new : State) (rows : List Row) (c : Content) → IsStored s old c → Shown read_line_text [] old new rows → IsPermutation c.lines (map line_shown rows)
 lines_shown s old new rows c r h =
     shows_kept line_query line_shown line_shown (drop 1) line_row line_seen (λ l. refl) c.lines _ rows
-    (sorts s read_line 4 _ _ _ (read_line_means s) old new rows r.holds.schema h refl) r.holds.means.lines_are
+    (sorts s read_line_text 4 _ _ _ (read_line_means s) old new rows r.holds.schema h refl) r.holds.means.lines_are
 
 pub live_shown_are : (s : Layout) (old new : State) (rows : List Row) (c : Content) → has_live s ≡ true → IsStored s old c → Shown read_live [] old new rows → IsPermutation c.live (map live_shown rows)
 live_shown_are s old new rows c live r h =
@@ -139,7 +140,7 @@ still s old new c r h = record {
   is_open = h.0.is_open;
   autocommit = h.0.mode ∙ r.autocommit;
   settled = h.0.now_is ∙ r.settled ∙ sym h.0.committed_is;
-  holds = subst (λ (d : Database). Holds s d c) (sym h.0.now_is) r.holds;
+  holds = subst (λ (d : Database). HoldsRows s d c) (sym h.0.now_is) r.holds;
 }
 
 pub undone : (s : Layout) (old new : State) (c : Content) → IsStored s old c → IsRolledBack old new → IsTrue new.is_open → IsStored s new c
@@ -149,7 +150,7 @@ undone s old new c r h up =
       is_open = up;
       autocommit = h.autocommit;
       settled = now.0 ∙ sym now.1;
-      holds = subst (λ (d : Database). Holds s d c) (sym (now.0 ∙ sym r.settled)) r.holds;
+      holds = subst (λ (d : Database). HoldsRows s d c) (sym (now.0 ∙ sym r.settled)) r.holds;
     }
 
 shown_same : (sql : List ℕ) (params : Row) (old new : State) (rows : List Row) → IsPlain (understood old.now.schema sql) → Shown sql params old new rows → IsUnchanged old new
@@ -171,7 +172,7 @@ pub by_query : {P : Layout → Type 0} {Says : Content → Vec Row Global → Ty
     → ((s : Layout) → P s → IsPlain (understood (schema_of s) sql))
     → ((s : Layout) → P s → (c : Content) (rows : Vec Row Global) → IsStored s old c → Shown sql [] old new rows.items → Says c rows)
     → (HasCleanDisk new → IfOk r (λ rows. Shown sql [] old new rows.items)) → (HasCleanDisk new → IfErr r (FailsToQuery sql [] old new))
-    → Survives old new (CommitsShowing sql [] old) → Reads P Says old new r
+    → Survives old new (CommitsShowing sql [] old) → ReadsRows P Says old new r
 by_query {P = P} {Says = Says} {old = old} {new = new} {r = r} sql plain says ok err survives = read r ok err
   where
     plain_here : (s : Layout) → P s → (c : Content) → IsStored s old c → IsPlain (understood old.now.schema sql)
@@ -181,7 +182,7 @@ by_query {P = P} {Says = Says} {old = old} {new = new} {r = r} sql plain says ok
     quiet = survives_weaker old new _ _ (λ _ db may s p c h. never_commits sql [] old db (plain_here s p c h) may) survives
 
     read : (r : Result (Vec Row Global) Error) → (HasCleanDisk new → IfOk r (λ rows. Shown sql [] old new rows.items)) → (HasCleanDisk new → IfErr r (FailsToQuery sql [] old new))
-        → Reads P Says old new r
+        → ReadsRows P Says old new r
     read (Ok rows) ok err =
         let stays : HasCleanDisk new → (s : Layout) → P s → (c : Content) → IsStored s old c → IsStored s new c = λ clean s p c h. still s old new c h
         (shown_same sql [] old new rows.items (plain_here s p c h) (ok clean)) in

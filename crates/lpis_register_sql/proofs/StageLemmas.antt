@@ -1,7 +1,8 @@
 -- What the statements that make the tables do.
 use Rattle.std.proofs.Common.{◌≡◌, ℕ, pos, List, [], ◌∷◌, ◌++◌, map, drop, Bool, true, false, None, Ok, Result, refl, sym, ap, subst, ◌∙◌, IsPermutation, Option, MatchBool, true≢false}
 use Rattle.lpis_register_sql.proofs.Common.{IsPermutation-refl, Row, Table, Schema, CreateTable, table_defined_by, Tally, Does, Trees, Mode, Error, Database, State, mode_of, ExecutesInside, runs_as}
-use Rattle.lpis_register_sql.proofs.Common.{format_table, span_table, text_table, mark_table, Layout, Origin, New, Moved, First, LessTexts, LessMarks, Whole, schema_of, origin_of, is_moved, has_spans, has_live, has_texts, has_marks}
+use Rattle.lpis_register_sql.proofs.Common.{format_table, span_table, text_table, mark_table, Layout, Origin, New, Moved, First, LessTexts, LessMarks, Whole, schema_of, origin_of, is_moved, has_spans}
+use Rattle.lpis_register_sql.proofs.Common.{has_live, has_texts, has_marks}
 use Rattle.lpis_register_sql.proofs.Common.{span_tree, text_tree, mark_tree, Content, Format, Keeps, format_row, year_row, span_row, line_row, live_row, text_row, mark_row, Inside}
 use Rattle.std.specs.List.{AllByRecursion}
 use Rattle.sqlite.specs.Change.{created, next_tree, KeepsRows}

@@ -1,6 +1,6 @@
 -- How the steps of a publication join.
 use Rattle.std.proofs.Common.{◌≡◌, ◌+◌, ℕ, List, [], arith, length, take, refl, sym, ap, subst, ◌∙◌, false, true, Ok, Err, Result, OnOk, inl, inr, IsTrue, ◌⊎◌, IfErr, OnErr}
-use Rattle.lpis_register_sql.proofs.Common.{Trees, Database, State, HasCleanDisk, Survives, state, Error, Content, Layout, Whole, no_schema, Inside, IsQuiet, Turns, IsStored, Leaves, Holds}
+use Rattle.lpis_register_sql.proofs.Common.{Trees, Database, State, HasCleanDisk, Survives, state, Error, Content, Layout, Whole, no_schema, Inside, IsQuiet, Turns, IsStored, Leaves, HoldsRows}
 use Rattle.std.proofs.Math.Seq.{take-length}
 use Rattle.sqlite.specs.State.{Shows, KeepsCounts, IsRolledBack}
 use Rattle.sqlite.specs.Steps.{FailsToCommit}
@@ -38,7 +38,7 @@ committed s base last new c h shown = record {
   is_open = shown.is_open;
   autocommit = shown.mode;
   settled = shown.now_is ∙ sym shown.committed_is;
-  holds = subst (λ (d : Database). Holds s d c) (sym shown.now_is) h.holds;
+  holds = subst (λ (d : Database). HoldsRows s d c) (sym shown.now_is) h.holds;
 }
 
 pub rolled_back : (s : Layout) (old last new : State) (c : Content) → IsStored s old c → (IsTrue last.is_open → last.committed ≡ old.committed) → IsRolledBack last new → IsTrue new.is_open
@@ -50,7 +50,7 @@ rolled_back s old last new c r kept back up =
       is_open = up;
       autocommit = back.autocommit;
       settled = undone.0 ∙ sym undone.1;
-      holds = subst (λ (d : Database). Holds s d c) (sym (undone.0 ∙ same ∙ sym r.settled)) r.holds;
+      holds = subst (λ (d : Database). HoldsRows s d c) (sym (undone.0 ∙ same ∙ sym r.settled)) r.holds;
     }
 
 -- also where the transaction has changed the order of the tables
@@ -76,8 +76,8 @@ pub commit_err : (s : Layout) (base : Database) (old last new : State) (c d : Co
     → IfErr r (FailsToCommit last new) → OnErr r (IsStored s new c)
 commit_err s = moved_err s s
 
-pub leaves : (s : Layout) (db : Database) (c : Content) → Holds s db c → Leaves s c db.trees
-leaves s db c h = subst (λ it. Holds s (record { schema = it; trees = db.trees }) c) h.schema h
+pub leaves : (s : Layout) (db : Database) (c : Content) → HoldsRows s db c → Leaves s c db.trees
+leaves s db c h = subst (λ it. HoldsRows s (record { schema = it; trees = db.trees }) c) h.schema h
 
 -- right after a commit a crash leaves it and nothing else
 pub durable : (s : Layout) (new : State) (c : Content) → (IsTrue new.is_open → (db : Trees) → new.may_leave db → db ≡ new.committed.trees) → (r : Result (Unit {0}) Error) → OnOk r (IsStored s new c)

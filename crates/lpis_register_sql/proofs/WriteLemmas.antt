@@ -2,8 +2,10 @@
 use Rattle.std.proofs.Common.{◌≡◌, ◌≢◌, ◌⊎◌, inl, inr, ℕ, ℤ, List, [], ◌∷◌, length, slice_get, Bool, true, false, cond, Some, None, Ok, Err, Result, refl, sym, ap, subst, ◌∙◌, IsPermutation, is_eq}
 use Rattle.std.proofs.lemmas.Bool.{or_parts}
 use Rattle.std.proofs.Common.{true≢false, if◌then◌else◌, ◌/◌, ◌==◌, Option, MatchBool, flat_map, filter_map, is_lt, int_cmp}
-use Rattle.lpis_register_sql.proofs.Common.{and_parts, not-true, Null, Int, Row, value_cmp, Table, Update, edit_of, is_taken, ids_of, Has, Program, Given, Tally, Does, Database, Mode, Schema, Term, Trees}
-use Rattle.lpis_register_sql.proofs.Common.{rowid, put_row, Error, understood, State, mode_of, statement_of, runs_as, Origin, New, Moved, Whole, schema_of, is_moved, span_tree, text_tree, mark_tree, AreKeyed}
+use Rattle.lpis_register_sql.proofs.Common.{and_parts, not-true, Null, Int, Row, value_cmp, Table, Update, edit_of, is_taken, ids_of, Has, Program, Given, Tally, Does, Database, Mode, Schema, Term}
+use Rattle.lpis_register_sql.proofs.Common.{Trees}
+use Rattle.lpis_register_sql.proofs.Common.{rowid, put_row, Error, understood, State, mode_of, statement_of, runs_as, Origin, New, Moved, Whole, schema_of, is_moved, span_tree, text_tree, mark_tree}
+use Rattle.lpis_register_sql.proofs.Common.{AreKeyed}
 use Rattle.std.specs.List.{AllByRecursion}
 use Rattle.std.proofs.lemmas.Cmp.{tied_itself}
 use Rattle.sqlite_value.proofs.OrderLemmas.{value_cmp_total}

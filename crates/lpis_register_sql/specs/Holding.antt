@@ -54,7 +54,7 @@ pub record Means (s : Layout) (trees : Trees) (c : Content) : Type 0 where
   pub texts_are : Keeps (has_texts s) text_row c.texts (trees (text_tree (origin_of s)))
   pub marks_are : Keeps (has_marks s) mark_row c.marks (trees (mark_tree (origin_of s)))
 
-pub record Holds (s : Layout) (db : Database) (c : Content) : Type 0 where
+pub record HoldsRows (s : Layout) (db : Database) (c : Content) : Type 0 where
   pub schema : db.schema ≡ schema_of s
   pub sound : IsDatabase db
   pub means : Means s db.trees c
@@ -64,8 +64,8 @@ pub record IsStored (s : Layout) (st : State) (c : Content) : Type 0 where
   pub is_open : IsTrue st.is_open
   pub autocommit : st.in_transaction ≡ false
   pub settled : st.now ≡ st.committed
-  pub holds : Holds s st.now c
+  pub holds : HoldsRows s st.now c
 
 -- a crash leaves this
 abbrev pub Leaves : Layout → Content → Trees → Type 0
-Leaves s c trees = Holds s (record { schema = schema_of s; trees = trees }) c
+Leaves s c trees = HoldsRows s (record { schema = schema_of s; trees = trees }) c

@@ -21,7 +21,7 @@ pub record IsFound (found : Found) (layout : Layout) : Type 0 where
 
 -- a call that reads a database that holds rows of the register, its tables in such an order, and
 -- answers what those rows say
-pub record Reads {X E : Type 0} (P : Layout → Type 0) (Says : Content → X → Type 0)
+pub record ReadsRows {X E : Type 0} (P : Layout → Type 0) (Says : Content → X → Type 0)
     (old new : State) (r : Result X E) : Type 0 where
   pub ok : HasCleanDisk new → (layout : Layout) → P layout → (c : Content) → IsStored layout old c
       → IfOk r (λ x. Says c x × IsStored layout new c)

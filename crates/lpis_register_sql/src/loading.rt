@@ -5,7 +5,7 @@ ghost use Rattle.sqlite.specs.Held.{state};
 ghost use Rattle.lpis_register_rows.specs.Content.{without_live, without_texts};
 ghost use Rattle.lpis_register_rows.specs.Tells.{IsSameContent};
 ghost use Rattle.lpis_register_sql.specs.Layouts.{has_marks};
-ghost use Rattle.lpis_register_sql.specs.Quiet.{IsFound, Reads};
+ghost use Rattle.lpis_register_sql.specs.Quiet.{IsFound, ReadsRows};
 
 use crate::found::Found;
 use crate::reading::load_rows;
@@ -17,7 +17,7 @@ use std::alloc::Global;
 pub fn load<S: Alter>(alloc: Global, conn: &mut Connection<S>) -> Result<Rows, Error>
     requires autocommit { conn.old.in_transaction ≡ false }
     ensures autocommit { conn.new.in_transaction ≡ false }
-    ensures reads { Reads (λ layout. has_marks layout ≡ true)
+    ensures reads { ReadsRows (λ layout. has_marks layout ≡ true)
         (λ c. IsSameContent (without_texts (without_live c))) (state S.Store conn.old)
         (state S.Store conn.new) result }
 {
@@ -37,7 +37,7 @@ pub fn load_found<S: Alter>(
 ) -> Result<Rows, Error>
     requires autocommit { conn.old.in_transaction ≡ false }
     ensures autocommit { conn.new.in_transaction ≡ false }
-    ensures reads { Reads (IsFound found.now) (λ c. IsSameContent (without_texts c))
+    ensures reads { ReadsRows (IsFound found.now) (λ c. IsSameContent (without_texts c))
         (state S.Store conn.old) (state S.Store conn.new) result }
 {
     let formats: Vec<FormatRow> = load_rows(alloc, conn, true)?;
@@ -57,7 +57,7 @@ pub fn load_texts<S: Alter>(
 ) -> Result<Vec<TextRow>, Error>
     requires autocommit { conn.old.in_transaction ≡ false }
     ensures autocommit { conn.new.in_transaction ≡ false }
-    ensures reads { Reads (IsFound found.now)
+    ensures reads { ReadsRows (IsFound found.now)
         (λ c texts. IsPermutation c.texts texts.items) (state S.Store conn.old)
         (state S.Store conn.new) result }
 {

@@ -2,7 +2,7 @@
 
 ghost use Rattle.std.specs.Prelude.{◌≡◌, map, false, IfOk, IsPermutation};
 ghost use Rattle.sqlite.specs.Held.{state};
-ghost use Rattle.lpis_register_sql.specs.Quiet.{Reads};
+ghost use Rattle.lpis_register_sql.specs.Quiet.{ReadsRows};
 
 use sqlite::{Alter, Connection, Error, Row};
 use std::alloc::Global;
@@ -17,7 +17,7 @@ pub(crate) trait Stored: Drop {
     ghost use Rattle.lpis_register_rows.specs.Content.{Content};
     ghost use Rattle.lpis_register_sql.specs.Layouts.{Layout};
     ghost use Rattle.lpis_register_sql.specs.Holding.{Means};
-    ghost use Rattle.lpis_register_sql.specs.Quiet.{Reads};
+    ghost use Rattle.lpis_register_sql.specs.Quiet.{ReadsRows};
 
     ghost rows: { Content → List Self };
 
@@ -29,7 +29,7 @@ pub(crate) trait Stored: Drop {
     fn query<S: Alter>(conn: &mut Connection<S>) -> Result<Vec<Row>, Error>
         requires autocommit { conn.old.in_transaction ≡ false }
         ensures autocommit { conn.new.in_transaction ≡ false }
-        ensures reads { Reads (λ layout. has_table layout ≡ true)
+        ensures reads { ReadsRows (λ layout. has_table layout ≡ true)
             (λ c all. IsPermutation (rows c) (map shown all.items))
             (state S.Store conn.old) (state S.Store conn.new) result };
 
@@ -60,7 +60,7 @@ pub(crate) fn load_rows<T: Stored, S: Alter>(
 ) -> Result<Vec<T>, Error>
     requires autocommit { conn.old.in_transaction ≡ false }
     ensures autocommit { conn.new.in_transaction ≡ false }
-    ensures reads { Reads (λ layout. there ≡ T.has_table layout)
+    ensures reads { ReadsRows (λ layout. there ≡ T.has_table layout)
         (λ c all. IsPermutation (T.rows c) all.items)
         (state S.Store conn.old) (state S.Store conn.new) result }
 {

@@ -2,9 +2,10 @@
 
 ghost use Rattle.std.specs.Prelude.{◌≡◌, ◌<◌, ◌^◌, pos};
 ghost use Rattle.sqlite.specs.Held.{state};
-ghost use Rattle.lpis_register_rows.specs.Content.{with_year, with_span, with_line, ended, text_of};
+ghost use Rattle.lpis_register_rows.specs.Content.{with_year, with_span, with_line, with_ended};
+ghost use Rattle.lpis_register_rows.specs.Content.{successor_text};
 ghost use Rattle.lpis_register_sql.specs.private.Inside.{IsQuiet, Turns};
-ghost use Rattle.lpis_register_sql.specs.private.Lines.{line_at, line_of};
+ghost use Rattle.lpis_register_sql.specs.private.Lines.{line_with, row_line};
 
 use lpis_covers::Id;
 use lpis_lineage::Row;
@@ -47,7 +48,7 @@ pub(crate) fn end_span<S: Alter>(
     id: &Id,
 ) -> Result<(), Error>
     ensures same_reference { tx.new.conn.ghost_name ≡ tx.old.conn.ghost_name }
-    ensures adds { Turns (λ c. ended (pos year) c id.now)
+    ensures adds { Turns (λ c. with_ended (pos year) c id.now)
         (state S.Store tx.old.conn.now) (state S.Store tx.new.conn.now) result }
     ensures quiet { IsQuiet (state S.Store tx.old.conn.now) (state S.Store tx.new.conn.now) }
 {
@@ -61,7 +62,7 @@ pub(crate) fn end_span<S: Alter>(
 
 /// The text of a successor, empty for an ending.
 fn heir_text(heir: &Option<Id>) -> &str
-    ensures { result.now ≡ text_of heir.now }
+    ensures { result.now ≡ successor_text heir.now }
 {
     match heir {
         Some(id) => id.as_str(),
@@ -80,7 +81,7 @@ fn insert_line<S: Alter>(
     requires small { position < 2 ^ 63 }
     ensures same_reference { tx.new.conn.ghost_name ≡ tx.old.conn.ghost_name }
     ensures adds { Turns (λ c. with_line c
-        (line_at (pos year) (pos position) old.now new.now)) (state S.Store tx.old.conn.now)
+        (line_with (pos year) (pos position) old.now new.now)) (state S.Store tx.old.conn.now)
         (state S.Store tx.new.conn.now) result }
     ensures quiet { IsQuiet (state S.Store tx.old.conn.now) (state S.Store tx.new.conn.now) }
 {
@@ -101,7 +102,7 @@ pub(crate) fn insert_row<S: Alter>(
 ) -> Result<(), Error>
     requires small { position < 2 ^ 63 }
     ensures same_reference { tx.new.conn.ghost_name ≡ tx.old.conn.ghost_name }
-    ensures adds { Turns (λ c. with_line c (line_of (pos year) (pos position) row.now))
+    ensures adds { Turns (λ c. with_line c (row_line (pos year) (pos position) row.now))
         (state S.Store tx.old.conn.now) (state S.Store tx.new.conn.now) result }
     ensures quiet { IsQuiet (state S.Store tx.old.conn.now) (state S.Store tx.new.conn.now) }
 {

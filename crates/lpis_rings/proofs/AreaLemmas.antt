@@ -7,13 +7,13 @@ use Rattle.std.proofs.lemmas.Int.{to_z-of_z}
 use mir.Syntax.{w64}
 use mir.Val.{SFits, to_z, of_z}
 use Rattle.lpis_points.specs.Range.{IsInRange}
-use Rattle.lpis_rings.specs.private.Margins.{product_margin}
+use Rattle.lpis_rings.specs.private.Margins.{ring_product_margin}
 
 -- a coordinate as a machine number
 pub coordinate-is : (x : ℤ) → IsInRange x → to_z w64 (of_z w64 x) ≡ x
 coordinate-is x h = let f : SFits w64 x = omega (arith, ints) in to_z-of_z w64 x f
 
-pub term-fits : (p q : ℤ) → nat_abs p ≤ product_margin → nat_abs q ≤ product_margin → FitsSigned w128 (to_z w128 (of_z w128 p) -ℤ to_z w128 (of_z w128 q))
+pub term-fits : (p q : ℤ) → nat_abs p ≤ ring_product_margin → nat_abs q ≤ ring_product_margin → FitsSigned w128 (to_z w128 (of_z w128 p) -ℤ to_z w128 (of_z w128 q))
 term-fits p q h k =
     let f : SFits w128 p = omega (arith, ints) in
     let g : SFits w128 q = omega (arith, ints) in
@@ -21,7 +21,7 @@ term-fits p q h k =
     let d = to_z-of_z w128 q g in
     rw (e, d) (omega (arith, ints))
 
-pub term-is : (p q : ℤ) → nat_abs p ≤ product_margin → nat_abs q ≤ product_margin
+pub term-is : (p q : ℤ) → nat_abs p ≤ ring_product_margin → nat_abs q ≤ ring_product_margin
     → (to_z w128 (of_z w128 (to_z w128 (of_z w128 p) -ℤ to_z w128 (of_z w128 q))) ≡ p -ℤ q) × (nat_abs (p -ℤ q) ≤ most_term)
 term-is p q h k =
     let f : SFits w128 p = omega (arith, ints) in

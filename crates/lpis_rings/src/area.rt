@@ -5,7 +5,7 @@ ghost use Rattle.lpis_points.specs.Plane.{shoelace_term};
 ghost use Rattle.lpis_rings.specs.Area.{absolute_sums, area2, member_area2, shoelace};
 ghost use Rattle.lpis_rings.specs.AreaBounds.{most_area, most_term};
 ghost use Rattle.lpis_rings.specs.Polygon.{member_points, most_points, points_in};
-ghost use Rattle.lpis_rings.specs.private.Margins.{coordinate_margin, product_margin};
+ghost use Rattle.lpis_rings.specs.private.Margins.{ring_coordinate_margin, ring_product_margin};
 
 use crate::polygon::{Member, Polygon};
 use crate::ring::Ring;
@@ -13,10 +13,10 @@ use lpis_points::Point;
 
 /// The first number times the second.
 fn product(x: i64, y: i64) -> i128
-    requires x_in { unsigned_abs x ≤ coordinate_margin }
-    requires y_in { unsigned_abs y ≤ coordinate_margin }
+    requires x_in { unsigned_abs x ≤ ring_coordinate_margin }
+    requires y_in { unsigned_abs y ≤ ring_coordinate_margin }
     ensures value { result ≡ x *ℤ y }
-    ensures small { unsigned_abs result ≤ product_margin }
+    ensures small { unsigned_abs result ≤ ring_product_margin }
 {
     x as i128 * y as i128
 }

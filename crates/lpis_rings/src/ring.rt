@@ -1,6 +1,7 @@
 //! Rings: closed lists of points.
 
-ghost use Rattle.std.specs.Prelude.{◌≡◌, ◌<◌, ◌-◌, ◌↔◌, IfOk, IsTrue, MatchResult, length, slice_get};
+ghost use Rattle.std.specs.Prelude.{◌≡◌, ◌<◌, ◌-◌, ◌↔◌, IfOk, IsTrue, MatchResult, length};
+ghost use Rattle.std.specs.Prelude.{slice_get};
 ghost use Rattle.lpis_rings.specs.Ring.{IsRing};
 
 use lpis_points::Point;

@@ -130,12 +130,12 @@ pub struct Edges<'a> {
 
 impl<'a> Model for Edges<'a> {
     ghost use Rattle.std.specs.Prelude.{List, ◌++◌};
-    ghost use Rattle.lpis_rings.specs.private.RingWalks.{joined};
+    ghost use Rattle.lpis_rings.specs.private.RingWalks.{joined_walks};
     ghost use Rattle.lpis_points.specs.declared.point.Point.{Point};
 
     ghost Value = { List (Point × Point) };
 
-    ghost view = { λ e. e.walk ++ joined e.later };
+    ghost view = { λ e. e.walk ++ joined_walks e.later };
 }
 
 impl<'a> Iterator for Edges<'a> {

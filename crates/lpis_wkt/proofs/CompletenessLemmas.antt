@@ -1,6 +1,7 @@
 -- The machine takes what the grammar spells.
 use Rattle.std.proofs.Common.{◌≡◌, ℕ, suc, Bool, true, false, cond, List, [], ◌∷◌, ◌++◌, length, Ok, refl, sym, ap, ◌∙◌, inl, inr, append_assoc, arith, nat_lt, codes, nat_eq}
-use Rattle.lpis_wkt.proofs.Common.{and_parts, nat_tests, Point, Member, IsRing, Coordinate, Token, Open, Close, Comma, Word, End, PointText, Commas, is_polygon, is_multi, Context, State, AtKeyword}
+use Rattle.lpis_wkt.proofs.Common.{and_parts, nat_tests, Point, Member, IsRing, Coordinate, Token, Open, Close, Comma, Word, End, PointText, Commas, is_polygon, is_multi, Context, ParserState}
+use Rattle.lpis_wkt.proofs.Common.{AtKeyword}
 use Rattle.lpis_wkt.proofs.Common.{AtBody, AtRing, AtX, AfterPoint, AfterRing, AfterBody, AtEnd, Finished, with_ring, run}
 use Rattle.std.specs.Char.{to_ascii_lowercase}
 use Rattle.std.specs.Str.{str_eq_ignore_ascii_case, str_to_ascii_lowercase}
@@ -15,7 +16,7 @@ abbrev pub adds : {S A : Type 0} → (S → A → S) → S → List A → S
 adds add s [] = s
 adds add s (a ∷ more) = adds add (add s a) more
 
-module _ {S A : Type 0} (P : A → List Token → Type 0) (start stop : S → State) (add : S → A → S) where
+module _ {S A : Type 0} (P : A → List Token → Type 0) (start stop : S → ParserState) (add : S → A → S) where
   commas_run : ((s : S) (a : A) (ts rest : List Token) → P a ts → run (start s) (ts ++ rest) ≡ run (stop (add s a)) rest)
       → ((s : S) (rest : List Token) → run (stop s) (Comma ∷ rest) ≡ run (start s) rest)
       → (s : S) (all : List A) (ts rest : List Token) → Commas P all ts → run (start s) (ts ++ rest) ≡ run (stop (adds add s all)) rest

@@ -1,10 +1,11 @@
 -- Each state that is reached has tokens that complete it, so each prefix that the machine takes begins a text of the
 -- grammar.
 use Rattle.std.proofs.Common.{◌≡◌, ℕ, ◌-◌, ◌<◌, Bool, true, false, cond, List, [], ◌∷◌, ◌++◌, length, pos, Some, Ok, refl, sym, subst, ◌∙◌, append_assoc, arith, length-append, codes, slice_get}
-use Rattle.lpis_wkt.proofs.Common.{Point, Member, IsRing, Coordinate, Token, Open, Close, Comma, Word, End, number, coordinate, point_of, PointText, Commas, Context, State, AtKeyword, AfterKeyword}
+use Rattle.lpis_wkt.proofs.Common.{Point, Member, IsRing, Coordinate, Token, Open, Close, Comma, Word, End, number, coordinate_in_range, point_of, PointText, Commas, Context, ParserState, AtKeyword}
+use Rattle.lpis_wkt.proofs.Common.{AfterKeyword}
 use Rattle.lpis_wkt.proofs.Common.{AtBody, AtRing, AtX, AtY, AfterPoint, AfterRing, AfterBody, AtEnd, Finished, with_ring, close_body, open_text, member_of, and_then, run}
 use Rattle.std.proofs.lemmas.Int.{ints}
-use Rattle.lpis_wkt.specs.Viable.{Begins}
+use Rattle.lpis_wkt.specs.Viable.{BeginsText}
 use Rattle.lpis_wkt.proofs.PointLemmas.{coordinate-ok, ok-coordinate}
 use Rattle.lpis_wkt.proofs.StepLemmas.{then-ok, run-append, Goes, goes, takes_keyword, opens_text, opens_body, opens_ring, takes_x, takes_y, closes_ring, next_point, closes_body, next_ring}
 use Rattle.lpis_wkt.proofs.StepLemmas.{closes_text, next_body, finishes}
@@ -19,7 +20,7 @@ abbrev FirstSpelled : List Point → Type 0
 FirstSpelled [] = Unit {0}
 FirstSpelled (p ∷ ps) = Spells p
 
-abbrev Reached : State → Type 0
+abbrev Reached : ParserState → Type 0
 Reached (AtX b ps) = FirstSpelled ps
 Reached (AtY b ps x) = FirstSpelled ps × ((w : List ℕ) × (number w ≡ Ok x.value))
 Reached (AfterPoint b ps) = FirstSpelled ps × (0 < length ps)
@@ -43,7 +44,7 @@ reached-close-by false ms = tt
 reached-close : (b : Context) → Reached (close_body b)
 reached-close b = reached-close-by b.multi (b.members ++ member_of b.rings ∷ [])
 
-reached-step : (s : State) (t : Token) (s' : State) → Goes s t s' → Reached s → Reached s'
+reached-step : (s : ParserState) (t : Token) (s' : ParserState) → Goes s t s' → Reached s → Reached s'
 reached-step s t s' (takes_keyword w m) r = tt
 reached-step s t s' (opens_text m) r = reached-open m
 reached-step s t s' (opens_body ms) r = tt
@@ -58,11 +59,11 @@ reached-step s t s' (closes_text ms) r = tt
 reached-step s t s' (next_body ms) r = tt
 reached-step s t s' (finishes ms) r = tt
 
-reached-run : (ts : List Token) (s s' : State) → run s ts ≡ Ok s' → Reached s → Reached s'
+reached-run : (ts : List Token) (s s' : ParserState) → run s ts ≡ Ok s' → Reached s → Reached s'
 reached-run [] s s' h r = let e : s ≡ s' = cc in subst Reached e r
 reached-run (t ∷ ts) s s' h r = let a = then-ok _ _ _ h in reached-run ts a.0 s' a.2 (reached-step s t a.0 (goes s t a.0 a.1) r)
 
-abbrev Completes : State → Type 0
+abbrev Completes : ParserState → Type 0
 Completes s = (rest : List Token) × (ps : List Member) × (run s rest ≡ Ok (Finished ps))
 
 past : (p : Point) (ps : List Point) → slice_get (ps ++ p ∷ []) (length ps) ≡ Some p
@@ -109,14 +110,14 @@ zero-number : number (codes "0") ≡ Ok (pos 0)
 unfolding number
 zero-number = refl
 
-pub zero_spelled : coordinate (codes "0") ≡ Ok origin
+pub zero_spelled : coordinate_in_range (codes "0") ≡ Ok origin
 zero_spelled = coordinate-ok (codes "0") origin zero-number
 
 completes-point : (b : Context) (ps : List Point) → FirstSpelled ps → 0 < length ps → Completes (AfterPoint b ps)
 completes-point b [] f some = absurd (omega arith)
 completes-point b (p ∷ ps) f some = let c = completes-x b p ps f in (Comma ∷ c.0, c.1, c.2)
 
-completes-first-by : (b : Context) (w : List ℕ) (z : Coordinate) → coordinate w ≡ Ok z → Completes (AtX b [])
+completes-first-by : (b : Context) (w : List ℕ) (z : Coordinate) → coordinate_in_range w ≡ Ok z → Completes (AtX b [])
 completes-first-by b w z h =
     let p : Point = point_of z z in
     let spelled : Spells p = (w, w, ok-coordinate w z h, ok-coordinate w z h) in
@@ -136,7 +137,7 @@ completes-open : (m : Bool) → Completes (AfterKeyword m)
 completes-open true = let c = completes-body [] in (Open ∷ c.0, c.1, c.2)
 completes-open false = let c = completes-at_ring (record { multi = false; members = []; rings = [] }) in (Open ∷ c.0, c.1, c.2)
 
-completes : (s : State) → Reached s → Completes s
+completes : (s : ParserState) → Reached s → Completes s
 completes AtKeyword r = let c = completes-open false in (Word (codes "POLYGON") ∷ c.0, c.1, c.2)
 completes (AfterKeyword m) r = completes-open m
 completes (AtBody ms) r = completes-body ms
@@ -154,13 +155,13 @@ completes (AtEnd ms) r = (End ∷ [], ms, refl)
 completes (Finished ms) r = ([], ms, refl)
 
 -- a prefix begins a text of the grammar exactly where the machine takes it
-pub begins : (ts : List Token) (s : State) → run AtKeyword ts ≡ Ok s → Begins ts
+pub begins : (ts : List Token) (s : ParserState) → run AtKeyword ts ≡ Ok s → BeginsText ts
 begins ts s h =
     let c = completes s (reached-run ts AtKeyword s h tt) in
     let whole : run AtKeyword (ts ++ c.0) ≡ Ok (Finished c.1) = run-append AtKeyword ts c.0 ∙ rw h c.2 in
     (c.0, c.1, runs_reads (ts ++ c.0) c.1 whole)
 
-pub begun : (ts : List Token) → Begins ts → (s : State) × (run AtKeyword ts ≡ Ok s)
+pub begun : (ts : List Token) → BeginsText ts → (s : ParserState) × (run AtKeyword ts ≡ Ok s)
 begun ts (rest, ps, reads) =
     let whole : and_then (run AtKeyword ts) (λ s. run s rest) ≡ Ok (Finished ps) = sym (run-append AtKeyword ts rest) ∙ reads_runs (ts ++ rest) ps reads in
     let a = then-ok _ _ _ whole in

@@ -1,7 +1,8 @@
 -- The words that stand before each state, and the limit on points.
 use Rattle.std.proofs.Common.{◌≡◌, ℕ, ◌+◌, ◌*◌, ◌<◌, ◌≤◌, Bool, true, false, cond, List, [], ◌∷◌, ◌++◌, length, Ok, refl, ◌∙◌, arith, length-append}
-use Rattle.lpis_wkt.proofs.Common.{nat_tests, Point, Member, most_points, Token, Open, Close, Comma, Word, End, point_of, words, most_words, Viable, Context, State, AtKeyword, AfterKeyword, AtBody}
-use Rattle.lpis_wkt.proofs.Common.{AtRing, AtX, AtY, AfterPoint, AfterRing, AfterBody, AtEnd, Finished, with_ring, close_body, open_text, member_of, points_before, step, run, limited_run}
+use Rattle.lpis_wkt.proofs.Common.{nat_tests, Point, Member, most_points, Token, Open, Close, Comma, Word, End, point_of, token_words, most_words, Viable, Context, ParserState, AtKeyword}
+use Rattle.lpis_wkt.proofs.Common.{AfterKeyword, AtBody}
+use Rattle.lpis_wkt.proofs.Common.{AtRing, AtX, AtY, AfterPoint, AfterRing, AfterBody, AtEnd, Finished, with_ring, close_body, open_text, member_of, points_before, parse_step, run, limited_run}
 use Rattle.std.proofs.lemmas.Bool.{false_from_ne_true}
 use Rattle.std.proofs.lemmas.List.Sums.{sum_by-append, sum_by_push}
 use Rattle.lpis_rings.specs.Polygon.{points_in, points_of}
@@ -14,7 +15,7 @@ use Rattle.lpis_wkt.proofs.SoundnessLemmas.{runs_reads}
 use Rattle.lpis_wkt.proofs.CompletingLemmas.{begins, begun}
 
 -- the limit
-abbrev pub has_words : State → ℕ
+abbrev pub has_words : ParserState → ℕ
 has_words AtKeyword = 0
 has_words (AfterKeyword m) = 1
 has_words (AtBody ms) = 2 * points_of ms + 1
@@ -60,11 +61,11 @@ abbrev word : Token → ℕ
 word (Word w) = 1
 word _ = 0
 
-words-cons : (t : Token) (ts : List Token) → words (t ∷ ts) ≡ word t + words ts
+words-cons : (t : Token) (ts : List Token) → token_words (t ∷ ts) ≡ word t + token_words ts
 words-cons (Word w) ts = omega arith
 words-cons _ ts = omega arith
 
-one_word : (s : State) (t : Token) (s' : State) → Goes s t s' → has_words s' ≡ has_words s + word t
+one_word : (s : ParserState) (t : Token) (s' : ParserState) → Goes s t s' → has_words s' ≡ has_words s + word t
 one_word s t s' (takes_keyword w m) = refl
 one_word s t s' (opens_text m) = open-words m
 one_word s t s' (opens_body ms) = omega arith
@@ -80,11 +81,11 @@ one_word s t s' (next_body ms) = omega arith
 one_word s t s' (finishes ms) = omega arith
 
 -- a token that is too many makes one word more than the most_words has, and no other does
-too-many : (s : State) (t : Token) (s' : State) → step s t ≡ Ok s' → is_too_many s t ≡ true → most_words < has_words s'
+too-many : (s : ParserState) (t : Token) (s' : ParserState) → parse_step s t ≡ Ok s' → is_too_many s t ≡ true → most_words < has_words s'
 too-many (AtX b ps) (Word w) s' h k = let n = with_coordinate-ok _ _ _ h in let many : most_points ≤ points_before b + length ps = grind (arith, nat_tests) in rw (← n.2) (omega arith)
 too-many _ _ s' h k = cc
 
-not-too-many : (s : State) (t : Token) (s' : State) → step s t ≡ Ok s' → is_too_many s t ≡ false → has_words s ≤ most_words → has_words s' ≤ most_words
+not-too-many : (s : ParserState) (t : Token) (s' : ParserState) → parse_step s t ≡ Ok s' → is_too_many s t ≡ false → has_words s ≤ most_words → has_words s' ≤ most_words
 not-too-many s Open s' h k le = rw (one_word _ _ _ (goes s Open s' h)) (omega arith)
 not-too-many s Close s' h k le = rw (one_word _ _ _ (goes s Close s' h)) (omega arith)
 not-too-many s Comma s' h k le = rw (one_word _ _ _ (goes s Comma s' h)) (omega arith)
@@ -94,7 +95,7 @@ not-too-many (AtX b ps) (Word w) s' h k le = let few : points_before b + length 
 not-too-many (AtY b ps x) (Word w) s' h k le = rw (one_word _ _ _ (goes (AtY b ps x) (Word w) s' h)) (omega arith)
 not-too-many _ _ s' h k le = cc
 
-pub limited-run-ok : (ts : List Token) (s s' : State) → has_words s ≤ most_words → limited_run s ts ≡ Ok s' → (run s ts ≡ Ok s') × (has_words s + words ts ≤ most_words)
+pub limited-run-ok : (ts : List Token) (s s' : ParserState) → has_words s ≤ most_words → limited_run s ts ≡ Ok s' → (run s ts ≡ Ok s') × (has_words s + token_words ts ≤ most_words)
 limited-run-ok [] s s' le h = (h, omega arith)
 limited-run-ok (t ∷ ts) s s' le h =
     let a = then-ok _ _ _ h in
@@ -102,43 +103,43 @@ limited-run-ok (t ∷ ts) s s' le h =
     let one : has_words a.0 ≡ has_words s + word t = one_word s t a.0 (goes s t a.0 b.1) in
     let le2 : has_words a.0 ≤ most_words = not-too-many s t a.0 b.1 b.0 le in
     let r = limited-run-ok ts a.0 s' le2 a.2 in
-    let total : has_words a.0 + words ts ≤ most_words = r.1 in
-    let all : words (t ∷ ts) ≡ word t + words ts = words-cons t ts in
+    let total : has_words a.0 + token_words ts ≤ most_words = r.1 in
+    let all : token_words (t ∷ ts) ≡ word t + token_words ts = words-cons t ts in
     (rw b.1 r.0, rw all (omega arith))
 
-pub run-limited : (ts : List Token) (s s' : State) → run s ts ≡ Ok s' → has_words s + words ts ≤ most_words → limited_run s ts ≡ Ok s'
+pub run-limited : (ts : List Token) (s s' : ParserState) → run s ts ≡ Ok s' → has_words s + token_words ts ≤ most_words → limited_run s ts ≡ Ok s'
 run-limited [] s s' h le = h
 run-limited (t ∷ ts) s s' h le =
     let a = then-ok _ _ _ h in
     let one : has_words a.0 ≡ has_words s + word t = one_word s t a.0 (goes s t a.0 a.1) in
-    let all : words (t ∷ ts) ≡ word t + words ts = words-cons t ts in
-    let le2 : has_words a.0 + words ts ≤ most_words = let le3 = rw all at le in omega arith in
+    let all : token_words (t ∷ ts) ≡ word t + token_words ts = words-cons t ts in
+    let le2 : has_words a.0 + token_words ts ≤ most_words = let le3 = rw all at le in omega arith in
     let fine : is_too_many s t ≡ false = false_from_ne_true (is_too_many s t) (λ k. (let big = too-many s t a.0 a.1 k in omega arith)) in
     rw (fine, a.1) (run-limited ts a.0 s' a.2 le2)
 
-pub viable : (ts : List Token) (s : State) → limited_run AtKeyword ts ≡ Ok s → Viable ts
+pub viable : (ts : List Token) (s : ParserState) → limited_run AtKeyword ts ≡ Ok s → Viable ts
 viable ts s h = let r = limited-run-ok ts AtKeyword s (omega arith) h in (begins ts s r.0, omega (arith, r.1))
 
-pub taken : (ts : List Token) → Viable ts → (s : State) × (limited_run AtKeyword ts ≡ Ok s)
+pub taken : (ts : List Token) → Viable ts → (s : ParserState) × (limited_run AtKeyword ts ≡ Ok s)
 taken ts v = let b = begun ts v.0 in (b.0, run-limited ts AtKeyword b.0 b.1 (omega (arith, v.1)))
 
-pub words-run : (ts : List Token) (s s' : State) → run s ts ≡ Ok s' → has_words s' ≡ has_words s + words ts
+pub words-run : (ts : List Token) (s s' : ParserState) → run s ts ≡ Ok s' → has_words s' ≡ has_words s + token_words ts
 words-run [] s s' h = let e : s ≡ s' = cc in rw (← e) (omega arith)
 words-run (t ∷ ts) s s' h =
     let a = then-ok _ _ _ h in
     let one : has_words a.0 ≡ has_words s + word t = one_word s t a.0 (goes s t a.0 a.1) in
-    let all : words (t ∷ ts) ≡ word t + words ts = words-cons t ts in
-    let rest : has_words s' ≡ has_words a.0 + words ts = words-run ts a.0 s' a.2 in
+    let all : token_words (t ∷ ts) ≡ word t + token_words ts = words-cons t ts in
+    let rest : has_words s' ≡ has_words a.0 + token_words ts = words-run ts a.0 s' a.2 in
     rw all (omega arith)
 
 pub finished : (ts : List Token) (ps : List Member) → limited_run AtKeyword ts ≡ Ok (Finished ps) → Accepts ts ps
 finished ts ps h =
     let r = limited-run-ok ts AtKeyword (Finished ps) (omega arith) h in
-    let n : 2 * points_of ps + 1 ≡ 0 + words ts = words-run ts AtKeyword (Finished ps) r.0 in
+    let n : 2 * points_of ps + 1 ≡ 0 + token_words ts = words-run ts AtKeyword (Finished ps) r.0 in
     (runs_reads ts ps r.0, omega (arith, r.1))
 
 pub accepted : (ts : List Token) (ps : List Member) → Accepts ts ps → limited_run AtKeyword ts ≡ Ok (Finished ps)
 accepted ts ps h =
     let r = reads_runs ts ps h.0 in
-    let n : 2 * points_of ps + 1 ≡ 0 + words ts = words-run ts AtKeyword (Finished ps) r in
+    let n : 2 * points_of ps + 1 ≡ 0 + token_words ts = words-run ts AtKeyword (Finished ps) r in
     run-limited ts AtKeyword (Finished ps) r (omega (arith, h.1))

@@ -1,7 +1,7 @@
 -- Digits and the number that they write.
 use Rattle.std.proofs.Common.{suc, add-zero, get_or-drop, ◌≡◌, ℕ, ◌+◌, ◌-◌, ◌*◌, ◌<◌, ◌≤◌, Bool, true, false, cond, List, [], ◌∷◌, ◌++◌, length, take, drop, get_or, Option, Some, None, refl, sym, ap}
 use Rattle.std.proofs.Common.{◌∙◌, arith, nat_lt, drop-cons, add-one, length-drop, MatchOption, position}
-use Rattle.lpis_wkt.proofs.Common.{and_parts, nat_tests, list_all, digits_value_after, is_ascii_digit, greatest, padded}
+use Rattle.lpis_wkt.proofs.Common.{and_parts, nat_tests, list_all, digits_value_after, is_ascii_digit, greatest_coordinate, padded}
 use Rattle.std.proofs.lemmas.Str.{digit_value_digit}
 use Rattle.std.proofs.lemmas.List.{drop_all, take_all, drop-drop}
 use Rattle.std.specs.List.{position_or_len, before_first, after_first}
@@ -78,7 +78,8 @@ decimal_above v n total ds i lt e =
 pub size_after : (ds more : List ℕ) → digits_value_after 10 0 (ds ++ more) ≡ digits_value_after 10 (digits_value_after 10 0 ds) more
 size_after ds more = value-append 0 ds more
 
-pub whole_above : (ds more : List ℕ) (r : Option ℕ) (P : ℕ → Type 0) → greatest < digits_value_after 10 0 ds → r ≡ None → MatchOption r (greatest < digits_value_after 10 0 (ds ++ more)) P
+pub whole_above : (ds more : List ℕ) (r : Option ℕ) (P : ℕ → Type 0) → greatest_coordinate < digits_value_after 10 0 ds → r ≡ None
+    → MatchOption r (greatest_coordinate < digits_value_after 10 0 (ds ++ more)) P
 whole_above ds more r P h e =
     let ge : digits_value_after 10 0 ds ≤ digits_value_after 10 0 (ds ++ more) = rw (size_after ds more) (value-ge (digits_value_after 10 0 ds) more) in
     rw e (omega arith)

@@ -1,9 +1,9 @@
 -- A number is read exactly.
 use Rattle.std.proofs.Common.{◌≡◌, ℕ, zero, suc, ◌+◌, ◌*◌, ◌^◌, Bool, true, false, cond, not, ◌==◌, List, [], ◌∷◌, ◌++◌, length, drop, ℤ, pos, neg_ℤ, nat_abs, Ok, Err, refl, sym, ap, ◌∙◌, arith}
 use Rattle.std.proofs.Common.{nat_lt}
-use Rattle.lpis_wkt.proofs.Common.{and_parts, nat_tests, list_all, digits_value, digits_value_after, WktCode, coordinate_decimals, greatest, number, padded}
+use Rattle.lpis_wkt.proofs.Common.{and_parts, nat_tests, list_all, digits_value, digits_value_after, WktCode, coordinate_decimals, greatest_coordinate, number, padded}
 use Rattle.std.specs.Char.{digit_value}
-use Rattle.lpis_wkt.specs.Number.{whole, decimals, size, is_numeral, is_fine, is_zero, is_negative, signed}
+use Rattle.lpis_wkt.specs.Number.{whole, decimals, size, is_numeral, is_fine, is_zero_digit, is_negative, signed}
 use Rattle.lpis_wkt.proofs.DigitLemmas.{value-append}
 
 digit_zero : (b : ℕ) → (b == 48) ≡ true → digit_value b ≡ 0
@@ -16,10 +16,10 @@ ten : (v p : ℕ) → (v * 10 + 0) * p ≡ v * (10 * p)
 ten v p = omega arith
 
 -- digits that are all 0 multiply by powers of ten
-zeros : (v : ℕ) (ds : List ℕ) → list_all is_zero ds ≡ true → digits_value_after 10 v ds ≡ v * 10 ^ length ds
+zeros : (v : ℕ) (ds : List ℕ) → list_all is_zero_digit ds ≡ true → digits_value_after 10 v ds ≡ v * 10 ^ length ds
 zeros v [] h = omega arith
 zeros v (d ∷ ds) h =
-    let both = and_parts (is_zero d) (list_all is_zero ds) h in
+    let both = and_parts (is_zero_digit d) (list_all is_zero_digit ds) h in
     let z : digit_value d ≡ 0 = digit_zero d both.0 in
     rw z (zeros (v * 10 + 0) ds both.1 ∙ ten v (10 ^ length ds) ∙ ap (λ (p : ℕ). v * p) (sym (power (length ds))))
 
@@ -32,11 +32,11 @@ no_digit x v q e = omega arith
 nothing : (v : ℕ) (x : ℕ) → x ≡ v → v ≡ 1 * x
 nothing v x e = omega arith
 
-scaled : (n v : ℕ) (ds : List ℕ) → list_all is_zero (drop n ds) ≡ true → digits_value_after 10 v (padded n ds) * 10 ^ length ds ≡ 10 ^ n * digits_value_after 10 v ds
+scaled : (n v : ℕ) (ds : List ℕ) → list_all is_zero_digit (drop n ds) ≡ true → digits_value_after 10 v (padded n ds) * 10 ^ length ds ≡ 10 ^ n * digits_value_after 10 v ds
 scaled zero v ds h = sym (zeros v ds h) ∙ nothing (digits_value_after 10 v ds) (digits_value_after 10 v ds) refl
 scaled (suc n) v [] h = rw (power n) (no_digit (digits_value_after 10 (v * 10 + 0) (padded n [])) v (10 ^ n) (scaled n (v * 10 + 0) [] (no_zeros n)))
   where
-    no_zeros : (n : ℕ) → list_all is_zero (drop n []) ≡ true
+    no_zeros : (n : ℕ) → list_all is_zero_digit (drop n []) ≡ true
     no_zeros zero = refl
     no_zeros (suc n) = refl
 scaled (suc n) v (d ∷ ds) h =
@@ -55,7 +55,7 @@ abs-signed _ _ = refl
 pub exact : (w : List ℕ) (z : ℤ) → number w ≡ Ok z → nat_abs z * 10 ^ length (decimals w) ≡ 10 ^ coordinate_decimals * digits_value 10 (whole w ++ decimals w)
 unfolding number
 exact w z h =
-    let c = accepted-by (is_numeral w) (is_fine w) (nat_lt greatest (size w)) _ _ _ (signed (is_negative w) (size w)) z h in
+    let c = accepted-by (is_numeral w) (is_fine w) (nat_lt greatest_coordinate (size w)) _ _ _ (signed (is_negative w) (size w)) z h in
     let amount : nat_abs z ≡ size w = ap nat_abs (sym c.1) ∙ abs-signed (is_negative w) (size w) in
     let front : size w ≡ digits_value_after 10 (digits_value_after 10 0 (whole w)) (padded coordinate_decimals (decimals w)) = value-append 0 (whole w) (padded coordinate_decimals (decimals w)) in
     let back : digits_value 10 (whole w ++ decimals w) ≡ digits_value_after 10 (digits_value_after 10 0 (whole w)) (decimals w) = value-append 0 (whole w) (decimals w) in
@@ -65,7 +65,7 @@ exact w z h =
 with_sign : (w : List ℕ) (z : ℤ) (negative : Bool) → is_negative w ≡ negative → number w ≡ Ok z → z ≡ signed negative (nat_abs z)
 unfolding number
 with_sign w z negative is h =
-    let c = accepted-by (is_numeral w) (is_fine w) (nat_lt greatest (size w)) _ _ _ (signed (is_negative w) (size w)) z h in
+    let c = accepted-by (is_numeral w) (is_fine w) (nat_lt greatest_coordinate (size w)) _ _ _ (signed (is_negative w) (size w)) z h in
     let amount : nat_abs z ≡ size w = ap nat_abs (sym c.1) ∙ abs-signed (is_negative w) (size w) in
     sym c.1 ∙ ap (λ (b : Bool). signed b (size w)) is ∙ ap (λ (n : ℕ). signed negative n) (sym amount)
 

@@ -1,7 +1,7 @@
 -- Parts of a text that grow by a byte, and the numerals that they are.
 use Rattle.std.proofs.Common.{◌≡◌, ℕ, suc, ◌+◌, ◌-◌, ◌*◌, ◌<◌, ◌≤◌, Bool, true, false, cond, not, ◌&&◌, ◌||◌, ◌==◌, List, [], ◌∷◌, ◌++◌, length, take, drop, get_or, refl, sym, ap, ◌∙◌, arith}
 use Rattle.std.proofs.Common.{append_assoc, append-nil, length-append, drop-cons, add-one, one-add, nat_lt, ℤ, Ok, Err, slice_range}
-use Rattle.lpis_wkt.proofs.Common.{and_parts, nat_tests, list_all, is_ascii_digit, digits_value, coordinate_decimals, greatest, padded, number, IsPart, Word, tokens_from, is_word, WktCode}
+use Rattle.lpis_wkt.proofs.Common.{and_parts, nat_tests, list_all, is_ascii_digit, digits_value, coordinate_decimals, greatest_coordinate, padded, number, IsPart, Word, tokens_from, is_word, WktCode}
 use Rattle.std.proofs.Math.Seq.{take-append_seam, take-length}
 use Rattle.std.proofs.lemmas.List.{drop_all, take_at}
 use Rattle.std.specs.List.{position_or_len, before_first, after_first}
@@ -89,7 +89,7 @@ plain_sign (b ∷ ds) more h some = let both = and_parts (is_ascii_digit b) (lis
 
 -- digits, a point and no more decimals than a coordinate has
 pub plain_decimals : (ds more : List ℕ) (n : ℕ) → list_all is_ascii_digit ds ≡ true → 0 < length ds → list_all is_ascii_digit more ≡ true → length more ≤ coordinate_decimals
-    → n ≡ digits_value 10 (ds ++ padded coordinate_decimals more) → n ≤ greatest → IsPlain (ds ++ 46 ∷ more) n
+    → n ≡ digits_value 10 (ds ++ padded coordinate_decimals more) → n ≤ greatest_coordinate → IsPlain (ds ++ 46 ∷ more) n
 plain_decimals ds more n h some k few size le =
     let parts = whole_of ds more h in
     let sign = plain_sign ds (46 ∷ more) h some in
@@ -107,7 +107,7 @@ plain_decimals ds more n h some k few size le =
     }
 
 -- digits alone
-pub plain_whole : (ds : List ℕ) (n : ℕ) → list_all is_ascii_digit ds ≡ true → 0 < length ds → n ≡ digits_value 10 (ds ++ padded coordinate_decimals []) → n ≤ greatest → IsPlain ds n
+pub plain_whole : (ds : List ℕ) (n : ℕ) → list_all is_ascii_digit ds ≡ true → 0 < length ds → n ≡ digits_value 10 (ds ++ padded coordinate_decimals []) → n ≤ greatest_coordinate → IsPlain ds n
 plain_whole ds n h some size le =
     let parts = whole_only ds h in
     let same : ds ++ [] ≡ ds = append-nil ds in
@@ -137,14 +137,14 @@ number-by a b c x y z v ha hb hc = rw (ha, hb, hc) refl
 numeral : (a b : Bool) (m n : ℕ) → a ≡ true → b ≡ true → 0 < m → (a && b && nat_lt 0 (m + n)) ≡ true
 numeral a b m n ha hb lt = let some : nat_lt 0 (m + n) ≡ true = grind (arith, nat_tests) in rw (ha, hb, some) refl
 
-below : (n m : ℕ) → n ≡ m → n ≤ greatest → nat_lt greatest m ≡ false
+below : (n m : ℕ) → n ≡ m → n ≤ greatest_coordinate → nat_lt greatest_coordinate m ≡ false
 below n m e le = grind (arith, nat_tests)
 
 number_of : (negative : Bool) (w body : List ℕ) (n : ℕ) → unsigned w ≡ body → is_negative w ≡ negative → IsPlain body n → number w ≡ Ok (signed negative n)
 unfolding number
 number_of negative w body n e f p =
     let amount : size w ≡ n = rw e (sym p.size) in
-    number-by (is_numeral w) (is_fine w) (nat_lt greatest (size w)) NotANumber TooFine OutOfRange (signed (is_negative w) (size w))
+    number-by (is_numeral w) (is_fine w) (nat_lt greatest_coordinate (size w)) NotANumber TooFine OutOfRange (signed (is_negative w) (size w))
     (rw e (numeral _ _ (length (before_first is_point body)) (length (after_first is_point body)) p.whole p.decimals p.some))
     (rw e p.fine)
     (rw e (below n _ p.size p.few))

@@ -1,6 +1,6 @@
 -- Coordinates and points are equal where their numbers are.
 use Rattle.std.proofs.Common.{◌≡◌, ℕ, ◌-◌, ℤ, true, List, length, Option, Some, None, Result, Ok, Err, refl, ap, subst, slice_get}
-use Rattle.lpis_wkt.proofs.Common.{Point, WktCode, Coordinate, number, coordinate, is_closed}
+use Rattle.lpis_wkt.proofs.Common.{Point, WktCode, Coordinate, number, coordinate_in_range, is_closed}
 use lib.Dec.{T_prop}
 use Rattle.lpis_points.proofs.Shared.{same_point-equality}
 use Rattle.lpis_points.specs.Range.{IsInRange}
@@ -35,20 +35,20 @@ err-with_range : (r : Result ℤ WktCode) (h : (z : ℤ) → r ≡ Ok z → IsIn
 err-with_range (Ok z) h f e = cc
 err-with_range (Err g) h f e = cc
 
-pub coordinate-ok : (w : List ℕ) (c : Coordinate) → number w ≡ Ok c.value → coordinate w ≡ Ok c
-unfolding coordinate
+pub coordinate-ok : (w : List ℕ) (c : Coordinate) → number w ≡ Ok c.value → coordinate_in_range w ≡ Ok c
+unfolding coordinate_in_range
 coordinate-ok w c e = with_range-ok (number w) (number-in_range w) c e
 
-pub ok-coordinate : (w : List ℕ) (c : Coordinate) → coordinate w ≡ Ok c → number w ≡ Ok c.value
-unfolding coordinate
+pub ok-coordinate : (w : List ℕ) (c : Coordinate) → coordinate_in_range w ≡ Ok c → number w ≡ Ok c.value
+unfolding coordinate_in_range
 ok-coordinate w c e = ok-with_range (number w) (number-in_range w) c e
 
-pub coordinate-err : (w : List ℕ) (code : WktCode) → number w ≡ Err code → coordinate w ≡ Err code
-unfolding coordinate
+pub coordinate-err : (w : List ℕ) (code : WktCode) → number w ≡ Err code → coordinate_in_range w ≡ Err code
+unfolding coordinate_in_range
 coordinate-err w code e = with_range-err (number w) (number-in_range w) code e
 
-pub err-coordinate : (w : List ℕ) (code : WktCode) → coordinate w ≡ Err code → number w ≡ Err code
-unfolding coordinate
+pub err-coordinate : (w : List ℕ) (code : WktCode) → coordinate_in_range w ≡ Err code → number w ≡ Err code
+unfolding coordinate_in_range
 err-coordinate w code e = err-with_range (number w) (number-in_range w) code e
 
 -- equal ends

@@ -1,8 +1,10 @@
 -- The code of the first fault is that of the table.
 use Rattle.std.proofs.Common.{◌≡◌, ℕ, ◌+◌, ◌*◌, ◌≤◌, Bool, true, false, cond, ◌==◌, List, [], ◌∷◌, ◌++◌, length, Result, Ok, Err, refl, sym, ap, subst, ◌∙◌, inl, inr, arith, nat_le, nat_lt, codes}
-use Rattle.lpis_wkt.proofs.Common.{nat_tests, most_points, WktCode, Coordinate, Token, Open, Close, Comma, Word, End, number, coordinate, point_of, is_polygon, is_multi, words, most_words}
-use Rattle.lpis_wkt.proofs.Common.{keyword_code, Point, Context, State, AtKeyword, AfterKeyword, AtBody, AtRing, AtX, AtY, AfterPoint, AfterRing, AfterBody, AtEnd, Finished, is_closed, with_ring}
-use Rattle.lpis_wkt.proofs.Common.{points_before, step, run, limited_step, limited_run}
+use Rattle.lpis_wkt.proofs.Common.{nat_tests, most_points, WktCode, Coordinate, Token, Open, Close, Comma, Word, End, number, coordinate_in_range, point_of, is_polygon, is_multi, token_words}
+use Rattle.lpis_wkt.proofs.Common.{most_words}
+use Rattle.lpis_wkt.proofs.Common.{keyword_code, Point, Context, ParserState, AtKeyword, AfterKeyword, AtBody, AtRing, AtX, AtY, AfterPoint, AfterRing, AfterBody, AtEnd, Finished, is_closed}
+use Rattle.lpis_wkt.proofs.Common.{with_ring}
+use Rattle.lpis_wkt.proofs.Common.{points_before, parse_step, run, limited_step, limited_run}
 use Rattle.std.proofs.lemmas.Bool.{cases_lt}
 use Rattle.lpis_wkt.specs.declared.fault.WktCode.TheVariants.{TooFewPoints, NotClosed, TooManyPoints}
 use Rattle.lpis_wkt.specs.Viable.{Stands}
@@ -15,11 +17,11 @@ use Rattle.lpis_wkt.proofs.CountingLemmas.{has_words, words-run, limited-run-ok}
 use Rattle.lpis_wkt.proofs.TailLemmas.{Tail, tail}
 
 -- a token that the step takes can stand
-pub stands : (before : List Token) (s s' : State) (t : Token) → run AtKeyword before ≡ Ok s → step s t ≡ Ok s' → Stands before t
+pub stands : (before : List Token) (s s' : ParserState) (t : Token) → run AtKeyword before ≡ Ok s → parse_step s t ≡ Ok s' → Stands before t
 stands before s s' t h k = begins (before ++ t ∷ []) s' (run-append AtKeyword before (t ∷ []) ∙ rw (h, k) refl)
 
 -- the code of an error is that of the table
-told : {before : List Token} {t : Token} {a code : WktCode} → TableCode before t a → ◌≡◌ {A = Result State WktCode} (Err a) (Err code) → TableCode before t code
+told : {before : List Token} {t : Token} {a code : WktCode} → TableCode before t a → ◌≡◌ {A = Result ParserState WktCode} (Err a) (Err code) → TableCode before t code
 told {before} {t} h k = subst (TableCode before t) (cc k) h
 
 at_start : {before : List Token} {t : Token} → before ≡ [] → TableCode before t (keyword_code t)
@@ -35,32 +37,32 @@ pub keyword-code : (p m : Bool) (f code : WktCode) → cond p (Ok (AfterKeyword 
 keyword-code false false f code h = cc
 keyword-code _ _ f code h = cc
 
-coordinate-code : (r : Result Coordinate WktCode) (f : Coordinate → State) (code : WktCode) → with_coordinate r f ≡ Err code → r ≡ Err code
+coordinate-code : (r : Result Coordinate WktCode) (f : Coordinate → ParserState) (code : WktCode) → with_coordinate r f ≡ Err code → r ≡ Err code
 coordinate-code (Ok z) f code h = cc
 coordinate-code (Err e) f code h = cc
 
-pub number-code : (w : List ℕ) (f : Coordinate → State) (code : WktCode) → with_coordinate (coordinate w) f ≡ Err code → number_code (number w) ≡ code
-number-code w f code h = rw (err-coordinate w code (coordinate-code (coordinate w) f code h)) refl
+pub number-code : (w : List ℕ) (f : Coordinate → ParserState) (code : WktCode) → with_coordinate (coordinate_in_range w) f ≡ Err code → number_code (number w) ≡ code
+number-code w f code h = rw (err-coordinate w code (coordinate-code (coordinate_in_range w) f code h)) refl
 
-pub limited-code : (many : Bool) (w : List ℕ) (f : Coordinate → State) (code : WktCode) → cond many (Err TooManyPoints)
-    (with_coordinate (coordinate w) f) ≡ Err code → cond many TooManyPoints (number_code (number w)) ≡ code
+pub limited-code : (many : Bool) (w : List ℕ) (f : Coordinate → ParserState) (code : WktCode) → cond many (Err TooManyPoints)
+    (with_coordinate (coordinate_in_range w) f) ≡ Err code → cond many TooManyPoints (number_code (number w)) ≡ code
 limited-code true w f code h = cc
 limited-code false w f code h = number-code w f code h
 
-pub close-code : (few closed : Bool) (b : State) (code : WktCode) → cond few (Err TooFewPoints) (cond closed (Ok b) (Err NotClosed)) ≡ Err code → cond few TooFewPoints NotClosed ≡ code
+pub close-code : (few closed : Bool) (b : ParserState) (code : WktCode) → cond few (Err TooFewPoints) (cond closed (Ok b) (Err NotClosed)) ≡ Err code → cond few TooFewPoints NotClosed ≡ code
 close-code false false b code h = cc
 close-code _ _ b code h = cc
 
-pub same-test : (n words : ℕ) → words ≡ 2 * n + 1 → n ≤ most_points → nat_le most_points n ≡ (words == most_words)
-same-test n words h le = elim (cases_lt n most_points) [
-  | inl lt ↦ (let a : nat_le most_points n ≡ false = grind (arith, nat_tests) in let b : (words == most_words) ≡ false = grind (arith, nat_tests) in a ∙ sym b)
-  | inr ge ↦ (let a : nat_le most_points n ≡ true = grind (arith, nat_tests) in let b : (words == most_words) ≡ true = grind (arith, nat_tests) in a ∙ sym b)
+pub same-test : (n token_words : ℕ) → token_words ≡ 2 * n + 1 → n ≤ most_points → nat_le most_points n ≡ (token_words == most_words)
+same-test n token_words h le = elim (cases_lt n most_points) [
+  | inl lt ↦ (let a : nat_le most_points n ≡ false = grind (arith, nat_tests) in let b : (token_words == most_words) ≡ false = grind (arith, nat_tests) in a ∙ sym b)
+  | inr ge ↦ (let a : nat_le most_points n ≡ true = grind (arith, nat_tests) in let b : (token_words == most_words) ≡ true = grind (arith, nat_tests) in a ∙ sym b)
 ]
 
-pub even-test : (n words : ℕ) → words ≡ 2 * n + 2 → (words == most_words) ≡ false
-even-test n words h = grind (arith, nat_tests)
+pub even-test : (n token_words : ℕ) → token_words ≡ 2 * n + 2 → (token_words == most_words) ≡ false
+even-test n token_words h = grind (arith, nat_tests)
 
-coded : (before : List Token) (t : Token) (s : State) (code : WktCode) → Tail s before → run AtKeyword before ≡ Ok s → has_words s ≡ words before → has_words s ≤ most_words
+coded : (before : List Token) (t : Token) (s : ParserState) (code : WktCode) → Tail s before → run AtKeyword before ≡ Ok s → has_words s ≡ token_words before → has_words s ≤ most_words
     → limited_step s t ≡ Err code → TableCode before t code
 coded before Open AtKeyword code r h n le k = told (at_start r) k
 coded before Close AtKeyword code r h n le k = told (at_start r) k
@@ -87,18 +89,18 @@ coded before Close (AtX b ps) code r h n le k = told (at_coordinate (x-stands be
 coded before Comma (AtX b ps) code r h n le k = told (at_coordinate (x-stands before b ps h)) k
 coded before End (AtX b ps) code r h n le k = told (at_coordinate (x-stands before b ps h)) k
 coded before (Word w) (AtX b ps) code r h n le k =
-    let same : nat_le most_points (points_before b + length ps) ≡ (words before == most_words) = same-test (points_before b + length ps) (words before) (sym n) (omega arith) in
+    let same : nat_le most_points (points_before b + length ps) ≡ (token_words before == most_words) = same-test (points_before b + length ps) (token_words before) (sym n) (omega arith) in
     let c : cond (nat_le most_points (points_before b + length ps)) TooManyPoints (number_code (number w)) ≡ code = limited-code _ w (AtY b ps) code k in
-    let c2 : coordinate_code (words before) (Word w) ≡ code = ap (λ (v : Bool). cond v TooManyPoints (number_code (number w))) (sym same) ∙ c in
+    let c2 : coordinate_code (token_words before) (Word w) ≡ code = ap (λ (v : Bool). cond v TooManyPoints (number_code (number w))) (sym same) ∙ c in
     subst (TableCode before (Word w)) c2 (at_coordinate (x-stands before b ps h))
 coded before Open (AtY b ps x) code r h n le k = told (at_coordinate (y-stands before b ps x h)) k
 coded before Close (AtY b ps x) code r h n le k = told (at_coordinate (y-stands before b ps x h)) k
 coded before Comma (AtY b ps x) code r h n le k = told (at_coordinate (y-stands before b ps x h)) k
 coded before End (AtY b ps x) code r h n le k = told (at_coordinate (y-stands before b ps x h)) k
 coded before (Word w) (AtY b ps x) code r h n le k =
-    let same : (words before == most_words) ≡ false = even-test (points_before b + length ps) (words before) (sym n) in
+    let same : (token_words before == most_words) ≡ false = even-test (points_before b + length ps) (token_words before) (sym n) in
     let c : number_code (number w) ≡ code = number-code w (λ y. AfterPoint b (ps ++ point_of x y ∷ [])) code k in
-    let c2 : coordinate_code (words before) (Word w) ≡ code = ap (λ (v : Bool). cond v TooManyPoints (number_code (number w))) same ∙ c in
+    let c2 : coordinate_code (token_words before) (Word w) ≡ code = ap (λ (v : Bool). cond v TooManyPoints (number_code (number w))) same ∙ c in
     subst (TableCode before (Word w)) c2 (at_coordinate (y-stands before b ps x h))
 coded before Open (AfterPoint b ps) code r h n le k = told (at_after_point ps r) k
 coded before Close (AfterPoint b ps) code r h n le k = subst (TableCode before Close) (close-code (nat_lt (length ps) 4) (is_closed ps) (AfterRing (with_ring b ps)) code k) (at_after_point ps r)
@@ -113,8 +115,8 @@ coded before End (AtEnd ms) code r h n le k = cc
 coded before t (Finished ms) code r h n le k = told (at_past_end r) k
 coded before _ _ code r h n le k = told (at_after_close r) k
 
-pub table_code : (before : List Token) (t : Token) (s : State) (code : WktCode) → limited_run AtKeyword before ≡ Ok s → limited_step s t ≡ Err code → TableCode before t code
+pub table_code : (before : List Token) (t : Token) (s : ParserState) (code : WktCode) → limited_run AtKeyword before ≡ Ok s → limited_step s t ≡ Err code → TableCode before t code
 table_code before t s code h k =
     let r = limited-run-ok before AtKeyword s (omega arith) h in
-    let n : has_words s ≡ words before = words-run before AtKeyword s r.0 ∙ omega arith in
+    let n : has_words s ≡ token_words before = words-run before AtKeyword s r.0 ∙ omega arith in
     coded before t s code (tail before s r.0) r.0 n (rw n (omega (arith, r.1))) k

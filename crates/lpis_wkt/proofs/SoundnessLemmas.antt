@@ -1,6 +1,6 @@
 -- What the machine takes to the end, the grammar spells.
 use Rattle.std.proofs.Common.{◌≡◌, ℕ, zero, suc, ◌<◌, ◌≤◌, Bool, true, false, cond, List, [], ◌∷◌, ◌++◌, length, Ok, refl, sym, ap, subst, ◌∙◌, inl, inr, ◌⊎◌, append_assoc, arith}
-use Rattle.lpis_wkt.proofs.Common.{Point, Member, IsRing, Coordinate, Token, Open, Close, Comma, Word, End, number, point_of, PointText, Commas, is_polygon, is_multi, Context, State, AtKeyword}
+use Rattle.lpis_wkt.proofs.Common.{Point, Member, IsRing, Coordinate, Token, Open, Close, Comma, Word, End, number, point_of, PointText, Commas, is_polygon, is_multi, Context, ParserState, AtKeyword}
 use Rattle.lpis_wkt.proofs.Common.{AfterKeyword, AtBody, AtRing, AtX, AtY, AfterPoint, AfterRing, AfterBody, AtEnd, Finished, with_ring, close_body, new_body, open_text, run}
 use Rattle.lpis_wkt.specs.Grammar.{RingText, BodyText, Reads}
 use Rattle.lpis_wkt.proofs.PointLemmas.{ok-coordinate}
@@ -8,14 +8,14 @@ use Rattle.lpis_wkt.proofs.StepLemmas.{then-ok, with_coordinate-ok, close_ring-o
 use Rattle.lpis_wkt.proofs.CompletenessLemmas.{adds, adds-append, adds-rings}
 
 -- the machine goes from this state to the end of a text with these members
-abbrev Reaches : List Member → State → List Token → Type 0
+abbrev Reaches : List Member → ParserState → List Token → Type 0
 Reaches q s ts = run s ts ≡ Ok (Finished q)
 
 commas-cons : {A : Type 0} (P : A → List Token → Type 0) (a : A) (more : List A) (f g : List Token) → P a f → Commas P more g → Commas P (a ∷ more) (f ++ Comma ∷ g)
 commas-cons P a [] f g h k = absurd k
 commas-cons P a (b ∷ more) f g h k = (f, g, h, refl, k)
 
-module _ {S A : Type 0} (P : A → List Token → Type 0) (start stop : S → State) (add : S → A → S) (Out : S → List Token → Type 0) (q : List Member) where
+module _ {S A : Type 0} (P : A → List Token → Type 0) (start stop : S → ParserState) (add : S → A → S) (Out : S → List Token → Type 0) (q : List Member) where
   abbrev Item : Type 0
   Item = (s : S) (ts : List Token) → Reaches q (start s) ts → (a : A) × (front back : List Token) × P a front × (ts ≡ front ++ back) × (length back < length ts) × Reaches q (stop (add s a)) back
 

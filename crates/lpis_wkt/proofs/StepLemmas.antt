@@ -1,8 +1,10 @@
 -- What a step that is taken says.
 use Rattle.std.proofs.Common.{◌≡◌, ℕ, ◌≤◌, Bool, true, false, cond, List, [], ◌∷◌, ◌++◌, length, Result, Ok, Err, refl, subst, inl, inr, ◌⊎◌, arith, nat_lt}
-use Rattle.lpis_wkt.proofs.Common.{nat_tests, Point, IsRing, WktCode, Coordinate, Token, Open, Close, Comma, Word, End, coordinate, point_of, Member, is_polygon, is_multi, keyword_code, Context}
-use Rattle.lpis_wkt.proofs.Common.{State, AtKeyword, AfterKeyword, AtBody, AtRing, AtX, AtY, AfterPoint, AfterRing, AfterBody, AtEnd, Finished, with_ring, close_body, close_ring, new_body, open_text}
-use Rattle.lpis_wkt.proofs.Common.{step, and_then, run, limited_step, limited_run}
+use Rattle.lpis_wkt.proofs.Common.{nat_tests, Point, IsRing, WktCode, Coordinate, Token, Open, Close, Comma, Word, End, coordinate_in_range, point_of, Member, is_polygon, is_multi, keyword_code}
+use Rattle.lpis_wkt.proofs.Common.{Context}
+use Rattle.lpis_wkt.proofs.Common.{ParserState, AtKeyword, AfterKeyword, AtBody, AtRing, AtX, AtY, AfterPoint, AfterRing, AfterBody, AtEnd, Finished, with_ring, close_body, close_ring, new_body}
+use Rattle.lpis_wkt.proofs.Common.{open_text}
+use Rattle.lpis_wkt.proofs.Common.{parse_step, and_then, run, limited_step, limited_run}
 use Rattle.lpis_wkt.specs.private.Machine.{with_coordinate, keyword}
 use Rattle.lpis_wkt.proofs.PointLemmas.{is_closed-true}
 
@@ -10,7 +12,7 @@ pub then-ok : {A B E : Type 0} (r : Result A E) (f : A → Result B E) (z : B) �
 then-ok (Ok v) f z h = (v, refl, h)
 then-ok (Err e) f z h = cc
 
-pub with_coordinate-ok : (r : Result Coordinate WktCode) (f : Coordinate → State) (s : State) → with_coordinate r f ≡ Ok s → (v : Coordinate) × (r ≡ Ok v) × (f v ≡ s)
+pub with_coordinate-ok : (r : Result Coordinate WktCode) (f : Coordinate → ParserState) (s : ParserState) → with_coordinate r f ≡ Ok s → (v : Coordinate) × (r ≡ Ok v) × (f v ≡ s)
 with_coordinate-ok (Ok v) f s h = (v, refl, cc)
 with_coordinate-ok (Err e) f s h = cc
 
@@ -22,7 +24,7 @@ pub cond-err : {A : Type 0} (b : Bool) (e : WktCode) (r : Result A WktCode) (s :
 cond-err true e r s h = cc
 cond-err false e r s h = (refl, h)
 
-pub close_ring-ok : (b : Context) (ps : List Point) (s : State) → close_ring b ps ≡ Ok s → IsRing ps × (AfterRing (with_ring b ps) ≡ s)
+pub close_ring-ok : (b : Context) (ps : List Point) (s : ParserState) → close_ring b ps ≡ Ok s → IsRing ps × (AfterRing (with_ring b ps) ≡ s)
 close_ring-ok b ps s h =
     let a = cond-err _ _ _ _ h in
     let c = cond-ok _ _ _ _ a.1 in
@@ -30,23 +32,23 @@ close_ring-ok b ps s h =
     let four : 4 ≤ length ps = grind (arith, nat_tests) in
     (record { four = four; closed = is_closed-true ps c.0 }, c.1)
 
-keyword-by : (p m : Bool) (f : WktCode) (s : State) → cond p (Ok (AfterKeyword false)) (cond m (Ok (AfterKeyword true)) (Err f)) ≡ Ok s
+keyword-by : (p m : Bool) (f : WktCode) (s : ParserState) → cond p (Ok (AfterKeyword false)) (cond m (Ok (AfterKeyword true)) (Err f)) ≡ Ok s
     → ((p ≡ true) × (AfterKeyword false ≡ s)) ⊎ ((m ≡ true) × (AfterKeyword true ≡ s))
 keyword-by true m f s h = inl (refl, cc)
 keyword-by false true f s h = inr (refl, cc)
 keyword-by false false f s h = cc
 
-pub keyword-ok : (w : List ℕ) (s : State) → keyword w ≡ Ok s → ((is_polygon w ≡ true) × (AfterKeyword false ≡ s)) ⊎ ((is_multi w ≡ true) × (AfterKeyword true ≡ s))
+pub keyword-ok : (w : List ℕ) (s : ParserState) → keyword w ≡ Ok s → ((is_polygon w ≡ true) × (AfterKeyword false ≡ s)) ⊎ ((is_multi w ≡ true) × (AfterKeyword true ≡ s))
 keyword-ok w s h = keyword-by (is_polygon w) (is_multi w) (keyword_code (Word w)) s h
 
 -- the steps that the machine takes
-pub data Goes : State → Token → State → Type 0 where
+pub data Goes : ParserState → Token → ParserState → Type 0 where
   takes_keyword : (w : List ℕ) (m : Bool) → Goes AtKeyword (Word w) (AfterKeyword m)
   opens_text : (m : Bool) → Goes (AfterKeyword m) Open (open_text m)
   opens_body : (ms : List Member) → Goes (AtBody ms) Open (new_body true ms)
   opens_ring : (b : Context) → Goes (AtRing b) Open (AtX b [])
-  takes_x : (b : Context) (ps : List Point) (w : List ℕ) (z : Coordinate) → coordinate w ≡ Ok z → Goes (AtX b ps) (Word w) (AtY b ps z)
-  takes_y : (b : Context) (ps : List Point) (v : Coordinate) (w : List ℕ) (z : Coordinate) → coordinate w ≡ Ok z → Goes (AtY b ps v) (Word w) (AfterPoint b (ps ++ point_of v z ∷ []))
+  takes_x : (b : Context) (ps : List Point) (w : List ℕ) (z : Coordinate) → coordinate_in_range w ≡ Ok z → Goes (AtX b ps) (Word w) (AtY b ps z)
+  takes_y : (b : Context) (ps : List Point) (v : Coordinate) (w : List ℕ) (z : Coordinate) → coordinate_in_range w ≡ Ok z → Goes (AtY b ps v) (Word w) (AfterPoint b (ps ++ point_of v z ∷ []))
   closes_ring : (b : Context) (ps : List Point) → Goes (AfterPoint b ps) Close (AfterRing (with_ring b ps))
   next_point : (b : Context) (ps : List Point) → Goes (AfterPoint b ps) Comma (AtX b ps)
   closes_body : (b : Context) → Goes (AfterRing b) Close (close_body b)
@@ -55,7 +57,7 @@ pub data Goes : State → Token → State → Type 0 where
   next_body : (ms : List Member) → Goes (AfterBody ms) Comma (AtBody ms)
   finishes : (ms : List Member) → Goes (AtEnd ms) End (Finished ms)
 
-pub goes : (s : State) (t : Token) (s' : State) → step s t ≡ Ok s' → Goes s t s'
+pub goes : (s : ParserState) (t : Token) (s' : ParserState) → parse_step s t ≡ Ok s' → Goes s t s'
 goes AtKeyword (Word w) s' h = elim (keyword-ok w s' h) [ inl e ↦ subst (Goes AtKeyword (Word w)) e.1 (takes_keyword w false) | inr e ↦ subst (Goes AtKeyword (Word w)) e.1 (takes_keyword w true) ]
 goes (AfterKeyword m) Open s' h = subst (Goes (AfterKeyword m) Open) (cc h) (opens_text m)
 goes (AtBody ms) Open s' h = subst (Goes (AtBody ms) Open) (cc h) (opens_body ms)
@@ -71,11 +73,11 @@ goes (AfterBody ms) Comma s' h = subst (Goes (AfterBody ms) Comma) (cc h) (next_
 goes (AtEnd ms) End s' h = subst (Goes (AtEnd ms) End) (cc h) (finishes ms)
 goes _ _ s' h = cc
 
-pub run-append : (s : State) (a b : List Token) → run s (a ++ b) ≡ and_then (run s a) (λ s. run s b)
+pub run-append : (s : ParserState) (a b : List Token) → run s (a ++ b) ≡ and_then (run s a) (λ s. run s b)
 run-append s [] b = refl
-run-append s (t ∷ a) b = elim (step s t) as (λ r. and_then r (λ s. run s (a ++ b)) ≡ and_then (and_then r (λ s. run s a)) (λ s. run s b)) [ Ok s' ↦ run-append s' a b | Err e ↦ refl ]
+run-append s (t ∷ a) b = elim (parse_step s t) as (λ r. and_then r (λ s. run s (a ++ b)) ≡ and_then (and_then r (λ s. run s a)) (λ s. run s b)) [ Ok s' ↦ run-append s' a b | Err e ↦ refl ]
 
-pub limited-append : (s : State) (a b : List Token) → limited_run s (a ++ b) ≡ and_then (limited_run s a) (λ s. limited_run s b)
+pub limited-append : (s : ParserState) (a b : List Token) → limited_run s (a ++ b) ≡ and_then (limited_run s a) (λ s. limited_run s b)
 limited-append s [] b = refl
 limited-append s (t ∷ a) b = elim (limited_step s t) as (λ r. and_then r (λ s. limited_run s (a ++ b)) ≡ and_then
     (and_then r (λ s. limited_run s a)) (λ s. limited_run s b)) [ Ok s' ↦ limited-append s' a b | Err e ↦ refl ]

@@ -1,6 +1,6 @@
 -- How the tokens before each state end.
 use Rattle.std.proofs.Common.{◌≡◌, ℕ, suc, ◌<◌, Bool, true, false, cond, List, [], ◌∷◌, ◌++◌, length, Ok, refl, sym, ap, subst, append_assoc, arith, length-append, append-nil}
-use Rattle.lpis_wkt.proofs.Common.{Point, Member, Token, Open, Close, Comma, Word, End, number, point_of, PointText, Commas, State, AtKeyword, AfterKeyword, AtBody, AtRing, AtX, AtY, AfterPoint}
+use Rattle.lpis_wkt.proofs.Common.{Point, Member, Token, Open, Close, Comma, Word, End, number, point_of, PointText, Commas, ParserState, AtKeyword, AfterKeyword, AtBody, AtRing, AtX, AtY, AfterPoint}
 use Rattle.lpis_wkt.proofs.Common.{AfterBody, AtEnd, Finished, open_text, member_of, run}
 use Rattle.lpis_wkt.specs.Table.{RingSoFar, EndsWith}
 use Rattle.lpis_wkt.proofs.PointLemmas.{ok-coordinate}
@@ -13,7 +13,7 @@ Pending [] body = body ≡ []
 Pending (p ∷ ps) body = (text : List Token) × (body ≡ text ++ Comma ∷ []) × Commas PointText (p ∷ ps) text
 
 -- how the tokens before a state end
-abbrev pub Tail : State → List Token → Type 0
+abbrev pub Tail : ParserState → List Token → Type 0
 Tail (AtX b ps) before = (front body : List Token) × (before ≡ front ++ Open ∷ body) × Pending ps body
 Tail (AtY b ps x) before = (front body : List Token) × (w : List ℕ) × (before ≡ front ++ Open ∷ body ++ Word w ∷ []) × (number w ≡ Ok x.value) × Pending ps body
 Tail (AfterPoint b ps) before = RingSoFar before ps
@@ -53,7 +53,7 @@ tail-close : (m : Bool) (ms : List Member) (before : List Token) → Tail (cond 
 tail-close true ms before = (before, refl)
 tail-close false ms before = (before, refl)
 
-tail-step : (s : State) (t : Token) (s' : State) (before : List Token) → Goes s t s' → Tail s before → Tail s' (before ++ t ∷ [])
+tail-step : (s : ParserState) (t : Token) (s' : ParserState) (before : List Token) → Goes s t s' → Tail s before → Tail s' (before ++ t ∷ [])
 tail-step s t s' before (takes_keyword w m) r = rw r refl
 tail-step s t s' before (opens_text m) r = tail-open m before r
 tail-step s t s' before (opens_body ms) r = omega (arith, longer before Open)
@@ -70,12 +70,12 @@ tail-step s t s' before (closes_text ms) r = (before, refl)
 tail-step s t s' before (next_body ms) r = after-close before Comma r
 tail-step s t s' before (finishes ms) r = (before, refl)
 
-tail-run : (ts before : List Token) (s s' : State) → run s ts ≡ Ok s' → Tail s before → Tail s' (before ++ ts)
+tail-run : (ts before : List Token) (s s' : ParserState) → run s ts ≡ Ok s' → Tail s before → Tail s' (before ++ ts)
 tail-run [] before s s' h r = let e : s ≡ s' = cc in rw (← e, append-nil before) r
 tail-run (t ∷ ts) before s s' h r =
     let a = then-ok _ _ _ h in
     let regroup : (before ++ t ∷ []) ++ ts ≡ before ++ t ∷ ts = append_assoc before (t ∷ []) ts in
     subst (Tail s') regroup (tail-run ts (before ++ t ∷ []) a.0 s' a.2 (tail-step s t a.0 before (goes s t a.0 a.1) r))
 
-pub tail : (before : List Token) (s : State) → run AtKeyword before ≡ Ok s → Tail s before
+pub tail : (before : List Token) (s : ParserState) → run AtKeyword before ≡ Ok s → Tail s before
 tail before s h = tail-run before [] AtKeyword s h refl

@@ -6,14 +6,14 @@ use Rattle.lpis_wkt.specs.declared.fault.WktCode.TheVariants.{TooFine, OutOfRang
 use Rattle.lpis_wkt.specs.declared.fault.WktCode.TheVariants.{NotClosed, Syntax, TooManyPoints}
 
 -- the two characters of a code
-abbrev pub code_text : WktCode → List ℕ
-code_text Keyword = codes "10"
-code_text Empty = codes "11"
-code_text Dimension = codes "12"
-code_text NotANumber = codes "13"
-code_text TooFine = codes "14"
-code_text OutOfRange = codes "15"
-code_text TooFewPoints = codes "16"
-code_text NotClosed = codes "17"
-code_text Syntax = codes "18"
-code_text TooManyPoints = codes "19"
+abbrev pub wkt_code_text : WktCode → List ℕ
+wkt_code_text Keyword = codes "10"
+wkt_code_text Empty = codes "11"
+wkt_code_text Dimension = codes "12"
+wkt_code_text NotANumber = codes "13"
+wkt_code_text TooFine = codes "14"
+wkt_code_text OutOfRange = codes "15"
+wkt_code_text TooFewPoints = codes "16"
+wkt_code_text NotClosed = codes "17"
+wkt_code_text Syntax = codes "18"
+wkt_code_text TooManyPoints = codes "19"

@@ -37,12 +37,12 @@ abbrev pub is_numeral : List ℕ → Bool
 is_numeral w = list_all is_ascii_digit (whole w) && list_all is_ascii_digit (decimals w)
     && nat_lt 0 (length (whole w) + length (decimals w))
 
-abbrev pub is_zero : ℕ → Bool
-is_zero b = b == 48
+abbrev pub is_zero_digit : ℕ → Bool
+is_zero_digit b = b == 48
 
 -- each digit past the decimals of a coordinate is 0
 abbrev pub is_fine : List ℕ → Bool
-is_fine w = list_all is_zero (drop coordinate_decimals (decimals w))
+is_fine w = list_all is_zero_digit (drop coordinate_decimals (decimals w))
 
 -- the first n digits, with zeros for those that are not there
 abbrev pub padded : ℕ → List ℕ → List ℕ
@@ -51,8 +51,8 @@ padded (suc n) [] = 48 ∷ padded n []
 padded (suc n) (d ∷ ds) = d ∷ padded n ds
 
 -- the greatest size of a coordinate
-abbrev pub greatest : ℕ
-greatest = nat_abs limit
+abbrev pub greatest_coordinate : ℕ
+greatest_coordinate = nat_abs limit
 
 -- the number in units of the last decimal of a coordinate, without its sign
 abbrev pub size : List ℕ → ℕ
@@ -66,5 +66,5 @@ unfoldable pub number : List ℕ → Result ℤ WktCode
 number w =
     cond (not (is_numeral w)) (Err NotANumber)
     (cond (not (is_fine w)) (Err TooFine)
-    (cond (nat_lt greatest (size w)) (Err OutOfRange)
+    (cond (nat_lt greatest_coordinate (size w)) (Err OutOfRange)
     (Ok (signed (is_negative w) (size w)))))

@@ -10,7 +10,7 @@ use Rattle.lpis_wkt.specs.declared.fault.WktCode.TheVariants.{TooManyPoints}
 use Rattle.lpis_wkt.specs.Tokens.{Token, Open, Close, Word, End, kinds}
 use Rattle.lpis_wkt.specs.Number.{number}
 use Rattle.lpis_wkt.specs.Grammar.{PointText, Commas}
-use Rattle.lpis_wkt.specs.Viable.{Stands, Viable, words, most_words}
+use Rattle.lpis_wkt.specs.Viable.{Stands, Viable, token_words, most_words}
 
 -- words that are compared in any mix of ASCII cases
 abbrev pub is_dimension : List ℕ → Bool
@@ -79,7 +79,7 @@ pub data TableCode : List Token → Token → WktCode → Type 0 where
   at_open : {before : List Token} {t : Token} → Stands before Open → 1 < length before
       → TableCode before t (open_code t)
   at_coordinate : {before : List Token} {t : Token} → Stands before (Word (codes "0"))
-      → TableCode before t (coordinate_code (words before) t)
+      → TableCode before t (coordinate_code (token_words before) t)
   at_after_point : {before : List Token} {t : Token} (ps : List Point) → RingSoFar before ps
       → TableCode before t (point_code ps t)
   at_after_close : {before : List Token} {t : Token} → EndsWith before Close

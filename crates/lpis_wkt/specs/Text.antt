@@ -18,10 +18,11 @@ unfoldable pub TextFault : List ℕ → WktCode → ℕ → Type 0
 TextFault text code offset = FirstFault (tokens text) code offset
 
 -- what a fault reports: its code, and its offset in bytes
-abbrev pub report : WktFault → Option (WktCode × ℕ)
-report Memory = None
-report (At code offset) = Some (code, offset)
+abbrev pub wkt_fault_reported : WktFault → Option (WktCode × ℕ)
+wkt_fault_reported Memory = None
+wkt_fault_reported (At code offset) = Some (code, offset)
 
 -- a fault that is not of memory is the first of the text
 abbrev pub IsTextFault : List ℕ → WktFault → Type 0
-IsTextFault text fault = UnlessMemory (λ (r : WktCode × ℕ). TextFault text r.0 r.1) (report fault)
+IsTextFault text fault =
+    UnlessMemory (λ (r : WktCode × ℕ). TextFault text r.0 r.1) (wkt_fault_reported fault)

@@ -4,7 +4,7 @@ ghost use Rattle.std.specs.Prelude.{◌≡◌, ℕ, ◌≤◌, ◌<◌, ◌∷�
 ghost use Rattle.std.specs.List.{list_all};
 ghost use Rattle.std.specs.Char.{is_ascii_digit};
 ghost use Rattle.std.specs.Str.Parse.{digits_value};
-ghost use Rattle.lpis_wkt.specs.private.Coordinates.{coordinate};
+ghost use Rattle.lpis_wkt.specs.private.Coordinates.{coordinate_in_range};
 ghost use Rattle.lpis_wkt.specs.Number.{coordinate_decimals, signed};
 ghost use Rattle.lpis_wkt.specs.private.Runs.{IsPart, IsPlain, IsSign};
 ghost use Rattle.lpis_wkt.specs.Tokens.{Word, tokens_from};
@@ -93,7 +93,7 @@ fn signed(negative: bool, size: u64) -> Coordinate
 pub fn common_coordinate(text: &[u8], at: usize) -> Option<(Coordinate, usize)>
     requires { at < length text.now }
     ensures within { IfSome result (λ r. r.1 ≤ length text.now) }
-    ensures word { IfSome result (λ r. (word : List ℕ) × (coordinate word ≡ Ok r.0)
+    ensures word { IfSome result (λ r. (word : List ℕ) × (coordinate_in_range word ≡ Ok r.0)
         × (tokens_from at (drop at text.now) ≡ (at, Word word) ∷ tokens_from r.1
         (drop r.1 text.now))) }
 {

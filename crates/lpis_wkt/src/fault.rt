@@ -1,7 +1,7 @@
 //! Why a text is no polygon.
 
 ghost use Rattle.std.specs.Prelude.{◌≡◌};
-ghost use Rattle.lpis_wkt.specs.Codes.{code_text};
+ghost use Rattle.lpis_wkt.specs.Codes.{wkt_code_text};
 ghost use Rattle.lpis_wkt.specs.declared.fault.WktFault.TheVariants.{Memory};
 
 use std::alloc::{AllocError, AllocFailed};
@@ -35,7 +35,7 @@ pub enum WktCode {
 impl WktCode {
     /// The two characters that stand for the code in a refusal: `10` to `19`.
     pub fn as_str(self) -> &'static str
-        ensures { result.now ≡ code_text self }
+        ensures { result.now ≡ wkt_code_text self }
     {
         match self {
             WktCode::Keyword => "10",

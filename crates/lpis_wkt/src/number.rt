@@ -6,10 +6,10 @@ ghost use Rattle.std.specs.List.{list_all};
 ghost use Rattle.std.specs.Char.{digit_value, is_ascii_digit};
 ghost use Rattle.std.specs.Str.Parse.{digits_value, digits_value_after};
 ghost use Rattle.lpis_points.specs.Range.{IsInRange};
-ghost use Rattle.lpis_wkt.specs.Number.{coordinate_decimals, is_point, is_zero, unsigned};
+ghost use Rattle.lpis_wkt.specs.Number.{coordinate_decimals, is_point, is_zero_digit, unsigned};
 ghost use Rattle.lpis_wkt.specs.Number.{is_negative, whole, decimals, padded};
 ghost use Rattle.lpis_wkt.specs.Number.{size, number};
-ghost use Rattle.lpis_wkt.specs.private.Coordinates.{coordinate};
+ghost use Rattle.lpis_wkt.specs.private.Coordinates.{coordinate_in_range};
 
 use crate::coordinate::Coordinate;
 use crate::fault::WktCode;
@@ -59,7 +59,7 @@ fn are_digits(bytes: &[u8]) -> bool
 }
 
 fn are_zeros(bytes: &[u8]) -> bool
-    ensures { result ≡ list_all is_zero bytes.now }
+    ensures { result ≡ list_all is_zero_digit bytes.now }
 {
     bytes.iter().all(|b| *b == b'0')
 }
@@ -147,7 +147,7 @@ fn number(word: &[u8]) -> Result<i64, WktCode>
 
 /// The coordinate that a word spells.
 pub fn coordinate_of(word: &[u8]) -> Result<Coordinate, WktCode>
-    ensures { result ≡ coordinate word.now }
+    ensures { result ≡ coordinate_in_range word.now }
 {
     match number(word) {
         Ok(value) => Ok(Coordinate { value }),

@@ -9,7 +9,8 @@ ghost use Rattle.lpis_wkt.specs.private.Machine.{Context, AtKeyword, AfterPoint,
 ghost use Rattle.lpis_wkt.specs.private.Machine.{limited_step, close_ring, close_body};
 ghost use Rattle.lpis_wkt.specs.private.Coordinates.{point_of};
 ghost use Rattle.lpis_wkt.specs.private.Views.{token_of};
-ghost use Rattle.lpis_wkt.specs.private.Parsing.{Took, Ends, IsOpening, IsAtCoordinate, IsClosing};
+ghost use Rattle.lpis_wkt.specs.private.Parsing.{Took, ParseEnds, IsOpening, IsAtCoordinate};
+ghost use Rattle.lpis_wkt.specs.private.Parsing.{IsClosing};
 ghost use Rattle.lpis_wkt.specs.private.Parsing.{IsAfterRing, SameOutcome};
 
 use crate::coordinate::Coordinate;
@@ -59,10 +60,10 @@ pub struct Parser {
 }
 
 impl Model for Parser {
-    ghost use Rattle.lpis_wkt.specs.private.Machine.{State, Context};
+    ghost use Rattle.lpis_wkt.specs.private.Machine.{ParserState, Context};
     ghost use Rattle.lpis_wkt.specs.private.Parsing.{state_of, Kept};
 
-    ghost Value = { State };
+    ghost Value = { ParserState };
 
     ghost view = { λ p. state_of p.expecting
         (record { multi = p.multi; members = p.members.items; rings = p.rings.items })
@@ -372,7 +373,7 @@ impl Parser {
 
     /// The polygon, where the text ends at this offset.
     pub fn finish(self, end: usize) -> Result<Polygon, WktFault>
-        ensures { Ends result (limited_step self End) end }
+        ensures { ParseEnds result (limited_step self End) end }
     {
         let code = match self.expecting {
             Expecting::End => match Polygon::new(without_spare(self.members)?) {

@@ -5,8 +5,8 @@ ghost use Rattle.std.specs.Prelude.{◌≡◌, ℕ, ◌<◌, ◌≤◌, List, []
 ghost use Rattle.std.specs.Prelude.{slice_index, slice_range, MatchOption};
 ghost use Rattle.lpis_wkt.specs.Tokens.{Comma, Word, is_space, tokens_from};
 ghost use Rattle.lpis_wkt.specs.private.Runs.{is_word};
-ghost use Rattle.lpis_wkt.specs.private.Coordinates.{coordinate};
-ghost use Rattle.lpis_wkt.specs.private.Views.{placed};
+ghost use Rattle.lpis_wkt.specs.private.Coordinates.{coordinate_in_range};
+ghost use Rattle.lpis_wkt.specs.private.Views.{token_placed};
 
 use crate::coordinate::Coordinate;
 use crate::fast_path::common_coordinate;
@@ -101,7 +101,7 @@ impl<'a> Tokens<'a> {
     /// The next token, or `None` at the end.
     pub fn next(&mut self) -> Option<Placed<'a>>
         ensures { MatchOption result ((self.old ≡ []) × (self.new ≡ []))
-            (λ t. self.old ≡ placed t ∷ self.new) }
+            (λ t. self.old ≡ token_placed t ∷ self.new) }
     {
         let offset = past_space(self.text, self.at);
         self.at = offset;
@@ -134,7 +134,7 @@ impl<'a> Tokens<'a> {
     /// is taken.
     pub fn next_coordinate(&mut self) -> Option<Coordinate>
         ensures { MatchOption result (self.new ≡ self.old) (λ z. (offset : ℕ) × (word : List ℕ)
-            × (coordinate word ≡ Ok z) × (self.old ≡ (offset, Word word) ∷ self.new)) }
+            × (coordinate_in_range word ≡ Ok z) × (self.old ≡ (offset, Word word) ∷ self.new)) }
     {
         let offset = past_space(self.text, self.at);
         if offset == self.text.len() {

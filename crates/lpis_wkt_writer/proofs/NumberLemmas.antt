@@ -4,7 +4,8 @@ use Rattle.std.proofs.Common.{decimal, ℤ, nat_abs}
 use Rattle.std.specs.Fmt.{char_count, format_spec, padded_integral}
 use Rattle.std.proofs.lemmas.Fmt.{decimal_digit, decimal_step}
 use Rattle.std.proofs.lemmas.Bool.{cases_lt}
-use Rattle.lpis_wkt_writer.specs.Text.{last_digits, number_text, sign_text}
+use Rattle.lpis_wkt_writer.specs.Text.{number_text}
+use Rattle.lpis_points.specs.Decimals.{last_digits, sign_text}
 
 -- a numeral of one, two or three digits
 short : (n : ℕ) → n < 10 → decimal n ≡ (48 + n) ∷ []

@@ -12,11 +12,12 @@ use Rattle.std.specs.Char.{digit_value, is_ascii_digit}
 use Rattle.std.specs.List.{after_first, before_first, list_all, position_or_len}
 use Rattle.std.specs.Str.Parse.{AllDigits, digits_value, digits_value_after}
 use Rattle.lpis_points.specs.Range.{IsInRange}
-use Rattle.lpis_wkt.specs.Number.{greatest, is_fine, is_negative, is_numeral, is_point, number, signed, size, unsigned}
+use Rattle.lpis_wkt.specs.Number.{greatest_coordinate, is_fine, is_negative, is_numeral, is_point, number, signed, size, unsigned}
 use Rattle.lpis_wkt.specs.declared.fault.WktCode.{WktCode}
 use Rattle.lpis_wkt.specs.declared.fault.WktCode.TheVariants.{NotANumber, OutOfRange, TooFine}
 use Rattle.lpis_wkt.specs.private.Runs.{AllWord, is_word}
-use Rattle.lpis_wkt_writer.specs.Text.{last_digits, number_text}
+use Rattle.lpis_wkt_writer.specs.Text.{number_text}
+use Rattle.lpis_points.specs.Decimals.{last_digits}
 
 abbrev AreDigits : List ℕ → Type 0
 AreDigits ds = list_all is_ascii_digit ds ≡ true
@@ -115,7 +116,7 @@ number-by a b c x y z v ha hb hc = rw (ha, hb, hc) refl
 numeral : (a b : Bool) (m n : ℕ) → a ≡ true → b ≡ true → 0 < m → (a && b && nat_lt 0 (m + n)) ≡ true
 numeral a b m n ha hb lt = let some : nat_lt 0 (m + n) ≡ true = grind (arith, nat_tests) in rw (ha, hb, some) refl
 
-not-above : (n : ℕ) → n ≤ greatest → nat_lt greatest n ≡ false
+not-above : (n : ℕ) → n ≤ greatest_coordinate → nat_lt greatest_coordinate n ≡ false
 not-above n le = grind (arith, nat_tests)
 
 -- what the words of a coordinate have in common
@@ -124,20 +125,20 @@ record IsPlain (body : List ℕ) (n : ℕ) : Type 0 where
   some : 0 < length (before_first is_point body)
   decimals : after_first is_point body ≡ last_digits 3 n
   value : digits_value 10 (before_first is_point body ++ last_digits 3 n) ≡ n
-  few : n ≤ greatest
+  few : n ≤ greatest_coordinate
 
 reads : (negative : Bool) (w body : List ℕ) (n : ℕ) → unsigned w ≡ body → is_negative w ≡ negative → IsPlain body n → number w ≡ Ok (signed negative n)
 unfolding number
 reads negative w body n e f p =
     let three = p.decimals in
     let sized : size w ≡ n = rw (e, three) p.value in
-    number-by (is_numeral w) (is_fine w) (nat_lt greatest (size w)) NotANumber TooFine OutOfRange (signed (is_negative w) (size w))
+    number-by (is_numeral w) (is_fine w) (nat_lt greatest_coordinate (size w)) NotANumber TooFine OutOfRange (signed (is_negative w) (size w))
     (rw (e, three) (numeral _ _ (length (before_first is_point body)) (length (last_digits 3 n)) p.digits (decimals-are-digits n) p.some))
     (rw (e, three) refl)
     (rw sized (not-above n p.few))
     ∙ rw (f, sized) refl
 
-plain : (ds : List ℕ) (n : ℕ) → AreDigits ds → 0 < length ds → digits_value 10 ds ≡ n / 1000 → n ≤ greatest → IsPlain (ds ++ 46 ∷ last_digits 3 n) n
+plain : (ds : List ℕ) (n : ℕ) → AreDigits ds → 0 < length ds → digits_value 10 ds ≡ n / 1000 → n ≤ greatest_coordinate → IsPlain (ds ++ 46 ∷ last_digits 3 n) n
 plain ds n h some value few = record {
   digits = rw (front ds (last_digits 3 n) h) h;
   some = rw (front ds (last_digits 3 n) h) some;
@@ -146,7 +147,7 @@ plain ds n h some value few = record {
   few = few;
 }
 
-size-small : (z : ℤ) → IsInRange z → nat_abs z ≤ greatest
+size-small : (z : ℤ) → IsInRange z → nat_abs z ≤ greatest_coordinate
 size-small (pos n) h = let a = h.1 in omega (arith, ints)
 size-small (negsuc n) h = let a = h.0 in omega (arith, ints)
 

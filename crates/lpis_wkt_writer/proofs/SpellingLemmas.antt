@@ -12,7 +12,7 @@ use Rattle.lpis_wkt.specs.Grammar.{BodyText, Commas, Parens, PointText, Reads, R
 use Rattle.lpis_wkt.specs.Text.{PolygonText}
 use Rattle.lpis_wkt.specs.Tokens.{Close, Comma, End, Open, Token, Word, kinds, tokens, tokens_from}
 use Rattle.lpis_wkt.specs.private.Runs.{AllWord, is_word}
-use Rattle.lpis_wkt_writer.specs.Text.{HaveRings, HasRings, in_parens, member_text, number_text, point_text, ring_text, text_of, with_commas}
+use Rattle.lpis_wkt_writer.specs.Text.{HaveRings, HasRings, in_parens, member_text, number_text, polygon_point_text, ring_text, polygon_text, with_commas}
 use Rattle.lpis_wkt_writer.proofs.ReadingLemmas.{spelled}
 use Rattle.lpis_wkt_writer.proofs.WordLemmas.{Ends, Spells, at_close, at_comma, at_end, at_open, next_word, word}
 
@@ -41,7 +41,7 @@ closing = λ at rest ends. (at + 1, refl)
 abbrev Spelled : {A : Type 0} → (A → List Token → Type 0) → (A → List ℕ) → A → Type 0
 Spelled P text a = (ts : List Token) × P a ts × Spells (text a) ts
 
-point : (p : Point) → Spelled PointText point_text p
+point : (p : Point) → Spelled PointText polygon_point_text p
 point p =
     let x = spelled p.x p.x_in_range in
     let y = spelled p.y p.y_in_range in (
@@ -74,13 +74,13 @@ parens P text a inner = (
       (joined (text a) (41 ∷ []) inner.0 (Close ∷ []) inner.2 closing (λ rest. at_close)),
 )
 
-all_points : (ps : List Point) → All (Spelled PointText point_text) ps
+all_points : (ps : List Point) → All (Spelled PointText polygon_point_text) ps
 all_points ps = λ k d lt. point (get_or ps k d)
 
 ring : (ps : List Point) → IsRing ps → Spelled RingText ring_text ps
 ring ps h =
     let four = h.four in
-    let inner = parens (Commas PointText) (with_commas point_text) ps (commas PointText point_text ps (omega arith) (all_points ps)) in
+    let inner = parens (Commas PointText) (with_commas polygon_point_text) ps (commas PointText polygon_point_text ps (omega arith) (all_points ps)) in
     (inner.0, (inner.1, h), inner.2)
 
 member : (m : Member) → HasRings m → Spelled BodyText member_text m
@@ -102,8 +102,8 @@ letters : (w : List ℕ) → list_all is_word w ≡ true → AllWord w
 letters [] h = tt
 letters (b ∷ w) h = let both = and_parts (is_word b) (list_all is_word w) h in (both.0, letters w both.1)
 
-reads : (members : List Member) → 0 < length members → HaveRings members → Reads (kinds (tokens (text_of members))) members
-unfolding text_of
+reads : (members : List Member) → 0 < length members → HaveRings members → Reads (kinds (tokens (polygon_text members))) members
+unfolding polygon_text
 reads [] some h = absurd (omega arith)
 reads (m ∷ []) some h =
     let body = member m (All-head HasRings m [] h) in
@@ -114,6 +114,6 @@ reads (m ∷ n ∷ more) some h =
     let text = in_parens (with_commas member_text (m ∷ n ∷ more)) in
     (codes "MULTIPOLYGON", body.0, whole (codes "MULTIPOLYGON") text body.0 (letters (codes "MULTIPOLYGON") refl) (omega arith) body.2 (λ rest. at_open), inr (refl, body.1))
 
-pub spells : (members : List Member) → IsPolygon members → HaveRings members → PolygonText (text_of members) members
+pub spells : (members : List Member) → IsPolygon members → HaveRings members → PolygonText (polygon_text members) members
 unfolding PolygonText
 spells members is h = (reads members is.some h, is.few)

@@ -7,24 +7,15 @@ use Rattle.lpis_points.specs.declared.point.Point.{Point}
 use Rattle.lpis_rings.specs.declared.polygon.Member.{Member}
 use Rattle.lpis_rings.specs.Ring.{IsRing}
 use Rattle.lpis_wkt.specs.Number.{coordinate_decimals}
-
--- the last `width` digits of n
-abbrev pub last_digits : ℕ → ℕ → List ℕ
-last_digits zero n = []
-last_digits (suc width) n = last_digits width (n / 10) ++ (48 + n % 10) ∷ []
-
--- a minus below zero
-abbrev pub sign_text : ℤ → List ℕ
-sign_text (pos n) = []
-sign_text (negsuc n) = codes "-"
+use Rattle.lpis_points.specs.Decimals.{last_digits, sign_text}
 
 -- a coordinate, which is a whole number of millimetres, in metres with all three decimals
 unfoldable pub number_text : ℤ → List ℕ
 number_text z = sign_text z ++ (decimal (nat_abs z / 10 ^ coordinate_decimals) ++ (codes "."
     ++ last_digits coordinate_decimals (nat_abs z)))
 
-abbrev pub point_text : Point → List ℕ
-point_text p = number_text p.x ++ (codes " " ++ number_text p.y)
+abbrev pub polygon_point_text : Point → List ℕ
+polygon_point_text p = number_text p.x ++ (codes " " ++ number_text p.y)
 
 -- things with a comma before each
 abbrev pub after_commas : {A : Type 0} → (A → List ℕ) → List A → List ℕ
@@ -39,16 +30,16 @@ abbrev pub in_parens : List ℕ → List ℕ
 in_parens text = codes "(" ++ text ++ codes ")"
 
 abbrev pub ring_text : List Point → List ℕ
-ring_text ring = in_parens (with_commas point_text ring)
+ring_text ring = in_parens (with_commas polygon_point_text ring)
 
 -- a member's rings, its shell first
 abbrev pub member_text : Member → List ℕ
 member_text m = in_parens (with_commas ring_text (m.shell ∷ m.holes))
 
 -- `POLYGON` for one member, else `MULTIPOLYGON`
-unfoldable pub text_of : List Member → List ℕ
-text_of (only ∷ []) = codes "POLYGON" ++ member_text only
-text_of members = codes "MULTIPOLYGON" ++ in_parens (with_commas member_text members)
+unfoldable pub polygon_text : List Member → List ℕ
+polygon_text (only ∷ []) = codes "POLYGON" ++ member_text only
+polygon_text members = codes "MULTIPOLYGON" ++ in_parens (with_commas member_text members)
 
 -- each list of points of a member is a ring
 abbrev pub HasRings : Member → Type 0

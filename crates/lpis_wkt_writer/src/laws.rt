@@ -6,7 +6,7 @@ ghost use Rattle.lpis_rings.specs.Polygon.{IsPolygon};
 ghost use Rattle.lpis_rings.specs.declared.polygon.Member.{Member};
 ghost use Rattle.lpis_wkt.specs.Answer.{polygon_of};
 ghost use Rattle.lpis_wkt.specs.Text.{PolygonText};
-ghost use Rattle.lpis_wkt_writer.specs.Text.{HaveRings, text_of};
+ghost use Rattle.lpis_wkt_writer.specs.Text.{HaveRings, polygon_text};
 
 use lpis_wkt::laws::{function_of_text, one_answer};
 
@@ -14,9 +14,9 @@ use lpis_wkt::laws::{function_of_text, one_answer};
 /// the answer is they.
 pub fn a_text_spells_its_polygon()
     ensures spells { (members : List Member) → IsPolygon members → HaveRings members
-        → PolygonText (text_of members) members }
+        → PolygonText (polygon_text members) members }
     ensures says { (members : List Member) → IsPolygon members → HaveRings members
-        → polygon_of (text_of members) ≡ Ok members }
+        → polygon_of (polygon_text members) ≡ Ok members }
 {
     function_of_text()
 }
@@ -24,7 +24,7 @@ pub fn a_text_spells_its_polygon()
 /// Two polygons with the same text are the same.
 pub fn a_text_is_of_one_polygon()
     ensures { (members members' : List Member) → IsPolygon members → HaveRings members
-        → IsPolygon members' → HaveRings members' → text_of members ≡ text_of members'
+        → IsPolygon members' → HaveRings members' → polygon_text members ≡ polygon_text members'
         → members ≡ members' }
 {
     one_answer()

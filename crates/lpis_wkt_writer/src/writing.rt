@@ -4,8 +4,9 @@ ghost use Rattle.std.specs.Prelude.{◌≡◌, ◌<◌, ◌++◌, IfOk, OnOk, le
 ghost use Rattle.std.specs.List.{All, flat_map};
 ghost use Rattle.lpis_rings.specs.Ring.{IsRing};
 ghost use Rattle.lpis_wkt.specs.Text.{PolygonText};
-ghost use Rattle.lpis_wkt_writer.specs.Text.{sign_text, number_text, point_text, ring_text};
-ghost use Rattle.lpis_wkt_writer.specs.Text.{member_text, text_of, with_commas, after_commas};
+ghost use Rattle.lpis_wkt_writer.specs.Text.{number_text, polygon_point_text, ring_text};
+ghost use Rattle.lpis_points.specs.Decimals.{sign_text};
+ghost use Rattle.lpis_wkt_writer.specs.Text.{member_text, polygon_text, with_commas, after_commas};
 ghost use Rattle.lpis_wkt_writer.specs.Text.{HasRings, HaveRings};
 
 use lpis_points::Point;
@@ -35,7 +36,8 @@ fn write_number(value: i64, out: &mut String) -> Result<(), AllocError>
 }
 
 fn write_point(point: Point, out: &mut String) -> Result<(), AllocError>
-    ensures { OnOk result (string_bytes out.new ≡ string_bytes out.old ++ point_text point) }
+    ensures { OnOk result (string_bytes out.new ≡ string_bytes out.old
+        ++ polygon_point_text point) }
 {
     write_number(point.x, out)?;
     out.push_str(" ")?;
@@ -45,7 +47,7 @@ fn write_point(point: Point, out: &mut String) -> Result<(), AllocError>
 /// Points that follow another.
 fn write_more_points(points: &[Point], out: &mut String) -> Result<(), AllocError>
     ensures { OnOk result (string_bytes out.new ≡ string_bytes out.old
-        ++ after_commas point_text points.now) }
+        ++ after_commas polygon_point_text points.now) }
 {
     for point in points {
         out.push_str(",")?;
@@ -56,7 +58,7 @@ fn write_more_points(points: &[Point], out: &mut String) -> Result<(), AllocErro
 
 fn write_points(points: &[Point], out: &mut String) -> Result<(), AllocError>
     ensures { OnOk result (string_bytes out.new ≡ string_bytes out.old
-        ++ with_commas point_text points.now) }
+        ++ with_commas polygon_point_text points.now) }
 {
     match points {
         [] => Ok(()),
@@ -127,11 +129,11 @@ fn write_members(first: &Member, more: &[Member], out: &mut String) -> Result<()
 }
 
 /// The text of members, of which there is one or more.
-#[tactic(auto, unfolding(crate::specs::Text::text_of))]
+#[tactic(auto, unfolding(crate::specs::Text::polygon_text))]
 fn write_text(members: &[Member], out: &mut String) -> Result<(), AllocError>
     requires { 0 < length members.now }
     ensures text { OnOk result (string_bytes out.new ≡ string_bytes out.old
-        ++ text_of members.now) }
+        ++ polygon_text members.now) }
     ensures rings { OnOk result (HaveRings members.now) }
 {
     match members {
@@ -151,7 +153,7 @@ fn write_text(members: &[Member], out: &mut String) -> Result<(), AllocError>
 /// three decimals, and with no space but that of a point. `lpis_wkt::read` reads it back.
 pub fn write(alloc: Global, polygon: &Polygon) -> Result<String, AllocError>
     // The text is that of the definition.
-    ensures text { IfOk result (λ s. string_bytes s ≡ text_of polygon.now) }
+    ensures text { IfOk result (λ s. string_bytes s ≡ polygon_text polygon.now) }
     // The grammar reads it as this polygon.
     ensures spells { IfOk result (λ s. PolygonText (string_bytes s) polygon.now) }
 {

@@ -15,17 +15,17 @@ use Rattle.lpis_cert.specs.declared.head.Owner.{Owner}
 use Rattle.lpis_cert.specs.declared.head.Owner.TheVariants as owner
 use Rattle.lpis_cert.specs.declared.head.Head.{Head}
 use Rattle.lpis_cert.specs.declared.head.Head.TheVariants as head
-use Rattle.lpis_cert.specs.CertText.{Line, PieceLine, ParcelLine, ExactLine, PairsLine}
+use Rattle.lpis_cert.specs.CertText.{CertLine, PieceLine, ParcelLine, ExactLine, PairsLine}
 use Rattle.lpis_cert.specs.CertText.{PieceBlock, ParcelBlock, ExactBlock as FlatsBlock}
-use Rattle.lpis_cert.specs.CertText.{piece_lines, parcel_lines, exact_lines, lines_of}
+use Rattle.lpis_cert.specs.CertText.{piece_lines, parcel_lines, exact_lines, content_lines}
 use Rattle.lpis_cert.specs.CertText.{text_of_lines}
 use Rattle.lpis_cert.specs.Fitting.{LineFits}
-use Rattle.lpis_cert.specs.Faults.{State, InBody, outcome, lines as cut}
+use Rattle.lpis_cert.specs.Faults.{LineState, InBody, lines_outcome, lines as cut}
 use Rattle.lpis_cert.specs.private.Taken.{ReadsLines}
-use Rattle.lpis_cert.specs.Contents.{piece_of, parcel_of, exact_of, content_of}
+use Rattle.lpis_cert.specs.Contents.{block_of_piece, block_of_parcel, exact_of, content_of}
 
 -- the line that begins a block of flats alone
-abbrev pub flats_line : Owner → List ℕ → ℕ → Line
+abbrev pub flats_line : Owner → List ℕ → ℕ → CertLine
 flats_line owner.Parcel id f = ParcelLine id f
 flats_line (owner.Exact m) id f = ExactLine m id f
 
@@ -43,38 +43,39 @@ OneMore (owner.Exact m) id fs qs es same more = (b : ExactBlock) × (more ≡ es
     × (b.merge ≡ m) × (b.id ≡ id) × (b.flats ≡ fs) × (same ≡ qs)
 
 -- the line that begins a block
-abbrev pub head_line : Head → Line
+abbrev pub head_line : Head → CertLine
 head_line (head.Piece id t f) = PieceLine id t f
 head_line (head.Flats w id f) = flats_line w id f
 head_line (head.Pairs n) = PairsLine n
 
-abbrev pub pieces_lines : List PieceBlock → List Line
+abbrev pub pieces_lines : List PieceBlock → List CertLine
 pieces_lines ps = flat_map piece_lines ps
 
-abbrev pub parcels_lines : List ParcelBlock → List Line
+abbrev pub parcels_lines : List ParcelBlock → List CertLine
 parcels_lines ps = flat_map parcel_lines ps
 
-abbrev pub exacts_lines : List FlatsBlock → List Line
+abbrev pub exacts_lines : List FlatsBlock → List CertLine
 exacts_lines es = flat_map exact_lines es
 
-abbrev pub blocks : List PieceBlock → List ParcelBlock → List FlatsBlock → List Line
+abbrev pub blocks : List PieceBlock → List ParcelBlock → List FlatsBlock → List CertLine
 blocks ps qs es = pieces_lines ps ++ (parcels_lines qs ++ exacts_lines es)
 
 -- the lines of the blocks so far
-abbrev pub draft_lines : Draft → List Line
-draft_lines d = blocks (map piece_of d.pieces.items) (map parcel_of d.parcels.items)
+abbrev pub draft_lines : Draft → List CertLine
+draft_lines d = blocks (map block_of_piece d.pieces.items) (map block_of_parcel d.parcels.items)
     (map exact_of d.exact.items)
 
-abbrev pub draft_state : Draft → State
+abbrev pub draft_state : Draft → LineState
 draft_state d = InBody d.stage 0 0 (record { triangles = d.triangles; flats = d.flats })
 
 -- further lines of a text were taken, from line n on
-pub record Grown (v : Version) (before after : List Line) (p q : State) (text : List ℕ) (n : ℕ)
+pub record Grown (v : Version) (before after : List CertLine) (p q : LineState) (text : List ℕ)
+    (n : ℕ)
     (rest : List ℕ) (m : ℕ) : Type 0 where
-  pub added : List Line
+  pub added : List CertLine
   pub follows : ReadsLines v text n added rest m
   pub lines : after ≡ before ++ added
-  pub state : outcome v n p (cut text) ≡ outcome v m q (cut rest)
+  pub state : lines_outcome v n p (cut text) ≡ lines_outcome v m q (cut rest)
   pub shorter : length rest < length text
 
 abbrev pub DraftGrown : Draft → Draft → List ℕ → ℕ → List ℕ → ℕ → Type 0
@@ -82,8 +83,8 @@ DraftGrown old new text n rest m = (new.version ≡ old.version) × Grown old.ve
     (draft_lines old) (draft_lines new) (draft_state old) (draft_state new) text n rest m
 
 -- the whole rest of a text
-pub record Whole (v : Version) (before more : List Line) (text : List ℕ) : Type 0 where
-  pub added : List Line
+pub record Whole (v : Version) (before more : List CertLine) (text : List ℕ) : Type 0 where
+  pub added : List CertLine
   pub parts : text ≡ text_of_lines v added
   pub fits : AllByRecursion (LineFits v) added
   pub lines : more ≡ before ++ added
@@ -91,4 +92,4 @@ pub record Whole (v : Version) (before more : List Line) (text : List ℕ) : Typ
 abbrev pub Progressed : Draft → Progress → List ℕ → ℕ → Type 0
 Progressed old (More new rest) text n = DraftGrown old new text n rest.text.now rest.line
 Progressed old (Done cert) text n = Whole old.version (draft_lines old)
-    (lines_of (content_of cert)) text
+    (content_lines (content_of cert)) text

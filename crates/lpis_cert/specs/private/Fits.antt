@@ -4,8 +4,9 @@ use Rattle.std.specs.List.{AllByRecursion}
 use Rattle.lpis_covers.specs.Ids.{is_id}
 use Rattle.lpis_cert.specs.declared.version.Version.{Version}
 use Rattle.lpis_cert.specs.Versions.{has_exact}
-use Rattle.lpis_cert.specs.Limits.{most_triangles, most_flats, greatest_count}
-use Rattle.lpis_cert.specs.CertText.{PieceBlock, ParcelBlock, ExactBlock, Content}
+use Rattle.lpis_cert.specs.Limits.{most_flats, greatest_count}
+use Rattle.lpis_points.specs.Triangles.{most_triangles}
+use Rattle.lpis_cert.specs.CertText.{PieceBlock, ParcelBlock, ExactBlock, CertContent}
 use Rattle.lpis_cert.specs.Fitting.{CornersFit, SeparatorFits}
 
 pub record PieceFits (v : Version) (p : PieceBlock) : Type 0 where
@@ -22,7 +23,7 @@ pub record ExactFits (v : Version) (b : ExactBlock) : Type 0 where
   pub id : is_id b.id ≡ true
   pub flats : AllByRecursion (CornersFit v) b.flats
 
-pub record Fits (v : Version) (c : Content) : Type 0 where
+pub record Fits (v : Version) (c : CertContent) : Type 0 where
   pub pieces : AllByRecursion (PieceFits v) c.pieces
   pub parcels : AllByRecursion (ParcelFits v) c.parcels
   pub exact : AllByRecursion (ExactFits v) c.exact

@@ -10,13 +10,13 @@ use Rattle.lpis_cert.specs.declared.cert.Cert.{Cert}
 use Rattle.lpis_cert.specs.Versions.{first_line, written}
 use Rattle.lpis_cert.specs.declared.head.Owner.{Owner}
 use Rattle.lpis_cert.specs.declared.head.Owner.TheVariants as owner
-use Rattle.lpis_cert.specs.CertText.{Line, PieceLine, PairsLine, EndLine, text_of_lines}
+use Rattle.lpis_cert.specs.CertText.{CertLine, PieceLine, PairsLine, EndLine, text_of_lines}
 use Rattle.lpis_cert.specs.CertText.{PairLine as separator_line}
 use Rattle.lpis_cert.specs.private.Drafts.{flats_line}
 use Rattle.lpis_cert.specs.private.Taken.{corner_line}
 use Rattle.lpis_cert.specs.Contents.{corner_numbers, separator_of}
 
-unfoldable pub line_text : Line → List ℕ
+unfoldable pub line_text : CertLine → List ℕ
 line_text l = text_of_lines written (l ∷ [])
 
 abbrev pub corners_text : Bool → List Triangle → List ℕ
@@ -32,8 +32,8 @@ flats_text w id ts = line_text (flats_line w id (length ts)) ++ corners_text tru
 abbrev pub parcel_text : ParcelPart → List ℕ
 parcel_text p = flats_text owner.Parcel p.id p.flats
 
-abbrev pub exact_text : ExactBlock → List ℕ
-exact_text b = flats_text (owner.Exact b.merge) b.id b.flats
+abbrev pub exact_block_text : ExactBlock → List ℕ
+exact_block_text b = flats_text (owner.Exact b.merge) b.id b.flats
 
 abbrev pub pairs_text : List PairLine → List ℕ
 pairs_text ps = flat_map (λ p. line_text (separator_line (separator_of p))) ps
@@ -47,4 +47,4 @@ version_text = first_line written ++ (10 ∷ [])
 abbrev pub parts_text : Cert → List ℕ
 parts_text c = version_text
     ++ (flat_map piece_text c.pieces ++ (flat_map parcel_text c.parcels
-    ++ (flat_map exact_text c.exact ++ tail_text c)))
+    ++ (flat_map exact_block_text c.exact ++ tail_text c)))

@@ -8,7 +8,7 @@ use Rattle.lpis_checker.specs.declared.condition.Condition.TheVariants.{NotApart
 use Rattle.lpis_checker.specs.declared.condition.Site.{Site}
 use Rattle.lpis_checker.specs.declared.condition.Site.TheVariants.{PieceAt, ParcelAt, LineAt}
 use Rattle.lpis_checker.specs.Codes.{code_of}
-use Rattle.lpis_checker.specs.GoodCertificate.{Holds, HoldsEverywhere}
+use Rattle.lpis_checker.specs.GoodCertificate.{ConditionHolds, HoldsEverywhere}
 use Rattle.lpis_checker.specs.FirstFault.{HoldBelow, IsFirst, IsFault, location_of}
 use Rattle.lpis_checker.specs.declared.fault.CheckFault.{CheckFault}
 use Rattle.lpis_checker.specs.declared.fault.CheckFault.TheVariants.{Memory, At}
@@ -25,12 +25,13 @@ FindsPlace P o = MatchOption o ((m : ℕ) → P m) (λ k. (P k → ⊥) × ((m :
 -- the first pair line, where it holds at each piece and parcel
 abbrev pub FindsLine : Contents → Cert → Condition → Option ℕ → Type 0
 FindsLine r c q o =
-    MatchOption o ((m : ℕ) → Holds r c q (LineAt m)) (λ k. IsFirst r c q (LineAt k))
+    MatchOption o ((m : ℕ) → ConditionHolds r c q (LineAt m)) (λ k. IsFirst r c q (LineAt k))
 
 -- the first piece, and else the first parcel
 abbrev pub FindsPart : Contents → Cert → Condition → Option Site → Type 0
 FindsPart r c q o =
-    MatchOption o (((m : ℕ) → Holds r c q (PieceAt m)) × ((m : ℕ) → Holds r c q (ParcelAt m)))
+    MatchOption o (((m : ℕ) → ConditionHolds r c q (PieceAt m)) × ((m : ℕ)
+    → ConditionHolds r c q (ParcelAt m)))
     (IsFirst r c q)
 
 -- a condition that says nothing of pair lines and of pairs of triangles

@@ -58,14 +58,14 @@ abbrev pub left_of : ℕ → Bool → BytesReader → Left
 left_of width ended r = record { width = width; records = if ended then [] else records_left r }
 
 -- what `Records` keeps
-abbrev pub IsLeft : ℕ → Bool → BytesReader → Type 0
-IsLeft width ended r = ended ≡ false → IsBetween r × (expected_len r ≡ Some width)
+abbrev pub LeftByRecords : ℕ → Bool → BytesReader → Type 0
+LeftByRecords width ended r = ended ≡ false → IsBetween r × (expected_len r ≡ Some width)
 
 -- what one read does to what is left
-abbrev pub Moves : Left → Left → Step → List (List ℕ) → Type 0
-Moves old new step.End fields = old.records ≡ []
-Moves old new step.Record fields = (old.records ≡ fields ∷ new.records)
+abbrev pub ReadMoves : Left → Left → Step → List (List ℕ) → Type 0
+ReadMoves old new step.End fields = old.records ≡ []
+ReadMoves old new step.Record fields = (old.records ≡ fields ∷ new.records)
     × (length fields ≡ old.width) × (new.width ≡ old.width)
-Moves old new step.Uneven fields =
+ReadMoves old new step.Uneven fields =
     (odd : List (List ℕ)) × (more : List (List (List ℕ))) × (old.records ≡ odd ∷ more)
     × (length odd ≢ old.width)

@@ -1,5 +1,5 @@
 -- Characters with zeros behind them.
 use Rattle.std.specs.Prelude.{◌==◌, Bool, ℕ}
 
-abbrev pub is_zero : ℕ → Bool
-is_zero c = c == 0
+abbrev pub is_padding : ℕ → Bool
+is_padding c = c == 0

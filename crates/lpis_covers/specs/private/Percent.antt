@@ -9,7 +9,8 @@ use Rattle.std.specs.Option.{ok_or}
 use Rattle.std.specs.Str.{bytes_eq}
 use Rattle.lpis_covers.specs.declared.fault.TableCode.{TableCode}
 use Rattle.lpis_covers.specs.declared.fault.TableCode.TheVariants.{BadEligible, BadPercent}
-use Rattle.lpis_covers.specs.Percentages.{digit, mark_in, most_percent, percent_in, percent_of}
+use Rattle.lpis_covers.specs.Percentages.{digit, percent_of_mark, most_percent, percent_in}
+use Rattle.lpis_covers.specs.Percentages.{percent_of}
 use Rattle.lpis_covers.specs.Percentages.{percentage_in}
 
 small-digit : (a : ℕ) → is_ascii_digit a ≡ true → digit a ≤ 9
@@ -37,7 +38,7 @@ percent-within (a ∷ b ∷ c ∷ more) n h =
     within-by (bytes_eq (a ∷ b ∷ c ∷ more) (codes "100")) most_percent n None (λ t. omega arith)
     (no-other n) h
 
-mark-within : (text : List ℕ) (n : ℕ) → mark_in text ≡ Some n → n ≤ most_percent
+mark-within : (text : List ℕ) (n : ℕ) → percent_of_mark text ≡ Some n → n ≤ most_percent
 mark-within text n h =
     within-by (bytes_eq text (codes "0")) 0 n _ (λ t. omega arith)
     (within-by (bytes_eq text (codes "1")) most_percent n None (λ t. omega arith) (no-other n)) h
@@ -51,4 +52,5 @@ pub percentage-within : (percent : Option (List ℕ)) (eligible : List ℕ)
     → percent_of (percentage_in percent eligible) ≤ most_percent
 percentage-within (Some text) eligible = or-within (percent_in text) BadPercent
     (percent-within text)
-percentage-within None eligible = or-within (mark_in eligible) BadEligible (mark-within eligible)
+percentage-within None eligible =
+    or-within (percent_of_mark eligible) BadEligible (mark-within eligible)

@@ -7,15 +7,16 @@ use Rattle.lpis_rings.specs.declared.polygon.Member.{Member}
 use Rattle.lpis_rings.specs.Polygon.{points_of}
 use Rattle.lpis_covers.specs.declared.piece.Piece.{Piece}
 use Rattle.lpis_parcels.specs.Release.{Contents}
-use Rattle.lpis_cert.specs.Limits.{most_triangles, most_flats}
+use Rattle.lpis_cert.specs.Limits.{most_flats}
+use Rattle.lpis_points.specs.Triangles.{most_triangles}
 use Rattle.lpis_cutter.specs.declared.fault.Refusal.{Refusal}
 use Rattle.lpis_cutter.specs.declared.fault.Refusal.TheVariants.{NoSeparator}
 use Rattle.lpis_cutter.specs.Fans.{IsFan}
-use Rattle.lpis_cutter.specs.Refusals.{Says}
+use Rattle.lpis_cutter.specs.Refusals.{RefusalSays}
 
 -- what is refused, if anything is, is so
 abbrev pub SaysIfAny : Contents → Option Refusal → Type 0
-SaysIfAny r o = IfSome o (Says r)
+SaysIfAny r o = IfSome o (RefusalSays r)
 
 -- the refusal is of these two pieces in this order, the ones at two places
 abbrev pub NamesPieces : Contents → ℕ → ℕ → Refusal → Type 0
@@ -36,5 +37,5 @@ IsTooMany members triangles flats =
     (most_triangles < triangles + points_of members) ⊎ (most_flats < flats + points_of members)
 
 -- how many of these edges go from a to b
-abbrev pub times : Point → Point → List (Point × Point) → ℕ
-times a b es = length (filter (λ e. same_point a e.0 && same_point b e.1) es)
+abbrev pub edge_times : Point → Point → List (Point × Point) → ℕ
+edge_times a b es = length (filter (λ e. same_point a e.0 && same_point b e.1) es)

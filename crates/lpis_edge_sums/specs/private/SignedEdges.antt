@@ -10,8 +10,8 @@ use Rattle.lpis_points.specs.Chain.{net_count}
 use Rattle.lpis_edge_sums.specs.declared.signed.SignedEdge.{SignedEdge}
 
 -- the sign of an edge
-abbrev pub weight : SignedEdge → ℤ
-weight x = cond x.forward (pos 1) (negsuc 0)
+abbrev pub edge_sign : SignedEdge → ℤ
+edge_sign x = cond x.forward (pos 1) (negsuc 0)
 
 -- the edge lies between a and b
 abbrev pub is_at : Point → Point → SignedEdge → Bool
@@ -19,7 +19,7 @@ is_at a b x = same_point a x.low && same_point b x.high
 
 -- the signs of the edges between a and b
 abbrev pub sum_at : Point → Point → List SignedEdge → ℤ
-sum_at a b xs = int_sum_by (λ (x : SignedEdge). cond (is_at a b x) (weight x) (pos 0)) xs
+sum_at a b xs = int_sum_by (λ (x : SignedEdge). cond (is_at a b x) (edge_sign x) (pos 0)) xs
 
 abbrev pub SumsAreZero : List SignedEdge → Type 0
 SumsAreZero xs = (a b : Point) → sum_at a b xs ≡ pos 0

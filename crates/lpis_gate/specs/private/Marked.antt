@@ -2,7 +2,7 @@
 use Rattle.std.specs.Prelude.{◌&&◌, Bool, ℕ, List}
 use Rattle.std.specs.List.{list_any}
 use Rattle.lpis_lineage.specs.declared.row.Row.{Row}
-use Rattle.lpis_lineage.specs.Lineage.{is_of}
+use Rattle.lpis_lineage.specs.Lineage.{is_row_of}
 
 abbrev pub is_marked : List Row → List ℕ → Bool
-is_marked rows id = list_any (λ row. is_of id row && row.exact) rows
+is_marked rows id = list_any (λ row. is_row_of id row && row.exact) rows

@@ -11,7 +11,7 @@ use Rattle.lpis_parcels.specs.Release.{Contents, parcel_ids}
 use Rattle.lpis_register_rows.specs.Shapes.{Shape}
 use Rattle.lpis_exact_lineage.specs.Asking.{kinds_from}
 use Rattle.lpis_exact_lineage.specs.ExactLineage.{IsExactLineage, ShapesTurnOnce}
-use Rattle.lpis_exact_lineage.specs.Shapes.{shape_of, shapes_in}
+use Rattle.lpis_exact_lineage.specs.Shapes.{shape_named, shapes_in}
 use Rattle.lpis_register.specs.Publishing.{Follows}
 use Rattle.lpis_commands.specs.declared.failure.Failure.{Failure}
 use Rattle.lpis_commands.specs.declared.failure.Failure.TheVariants.{Memory, Store}
@@ -26,8 +26,8 @@ pub record IsAdded (year : ℕ) (r : Contents) (rows : List Row) (h : List Entry
   pub later : last_year h < year
   pub clean : faults h (parcel_ids r.parcels) rows ≡ []
   pub follows : Follows h year r.parcels rows k t
-  pub once : ShapesTurnOnce (shape_of t)
-  pub exact : IsExactLineage (kinds_from h r rows) rows (shape_of s) (shape_of (shapes_in r))
+  pub once : ShapesTurnOnce (shape_named t)
+  pub exact : IsExactLineage (kinds_from h r rows) rows (shape_named s) (shape_named (shapes_in r))
   pub ascend : IsAscending (dropped (last_live h) (parcel_ids r.parcels))
 
 -- memory ran out, or the database failed
@@ -36,7 +36,8 @@ IsStopped failure = (failure ≡ Memory) ⊎ (failure ≡ Store)
 
 -- what a run that ended so leaves of a register: the history `h` and the shapes `s` became others
 -- only where the release was published, and the database holds them
-pub record Leaves (result : Result Answer Failure) (old : State) (h : List Entry) (s : List Shape)
+pub record PublishLeaves (result : Result Answer Failure) (old : State) (h : List Entry)
+    (s : List Shape)
     (new : State) (k : List Entry) (t : List Shape) : Type 0 where
   pub same : IfOk result (λ a. a.status ≢ done → (k ≡ h) × (t ≡ s))
   pub failure : IfErr result (λ failure. IsStopped failure × (k ≡ h) × (t ≡ s))

@@ -17,7 +17,7 @@ abbrev pub submission_of : SubmissionBytes → Submission
 submission_of b = record { checked = inputs_of b.checked; lineage = b.lineage.items }
 
 -- these are the release, the certificate and the rows of a submission
-pub record IsSaid (x : Submission) (r : Contents) (c : Cert) (rows : List Row) : Type 0 where
+pub record IsSubmitted (x : Submission) (r : Contents) (c : Cert) (rows : List Row) : Type 0 where
   pub tables : release_of x.checked.parcels x.checked.covers x.checked.classes ≡ Ok r
   pub text : IsCertText x.checked.cert c
   pub lineage : rows_of lineage_table x.lineage ≡ Ok rows

@@ -5,7 +5,7 @@ use Rattle.std.specs.List.{list_any}
 use Rattle.lpis_lineage.specs.declared.row.Row.{Row}
 use Rattle.lpis_lineage.specs.declared.fates.Fates.{Fates}
 use Rattle.lpis_covers.specs.Ids.{has_id}
-use Rattle.lpis_lineage.specs.Lineage.{is_of, ended}
+use Rattle.lpis_lineage.specs.Lineage.{is_row_of, is_ended}
 use Rattle.lpis_lineage.specs.Kinds.{predecessors}
 use Rattle.lpis_lineage.specs.private.Tally.{IsTally}
 
@@ -25,7 +25,7 @@ is_shared last live all s = nat_lt 1 (predecessors last live all s)
 
 pub record AreFates (last live : List (List ℕ)) (all : List Row) (f : Fates) (rows : List Row) :
     Type 0 where
-  pub ended_are : (q : List ℕ) → has_id f.ended q ≡ ended rows q
+  pub ended_are : (q : List ℕ) → has_id f.ended q ≡ is_ended rows q
   pub olds_are : IsTally f.olds (olds rows)
   pub shared_are : (q : List ℕ) → has_id f.shared q ≡ list_any
-      (λ r. is_of q r && on_some (is_shared last live all) r.new) rows
+      (λ r. is_row_of q r && on_some (is_shared last live all) r.new) rows

@@ -6,7 +6,7 @@ use Rattle.lpis_lineage.specs.declared.exact.Group.{Group}
 use Rattle.lpis_lineage.specs.declared.kind.Kind.{Kind}
 use Rattle.lpis_lineage.specs.declared.row.Row.{Row}
 use Rattle.lpis_lineage.specs.ExactGroups.{is_exact_merge, is_exact_split, is_kept, is_other}
-use Rattle.lpis_lineage.specs.Lineage.{is_of, names}
+use Rattle.lpis_lineage.specs.Lineage.{is_row_of, names_successor}
 use Rattle.lpis_lineage.specs.Order.{IsAscending}
 
 -- the set at a key, empty where there is none
@@ -18,8 +18,8 @@ set_in (Some ids) = ids
 -- and the successor itself where it is kept
 abbrev pub gathers : (List ℕ → Option Kind) → Bool → List ℕ → List ℕ → Row → Bool
 gathers kind_of merge q x row =
-    cond merge (names q row && (is_of x row || (same_id x q && is_kept (kind_of x))))
-    (is_of q row && names x row)
+    cond merge (names_successor q row && (is_row_of x row || (same_id x q && is_kept (kind_of x))))
+    (is_row_of q row && names_successor x row)
 
 -- the sets have the others that the rows give each identifier
 abbrev pub AreGathered : (List ℕ → Option Kind) → Bool → List Row → (List ℕ → List (List ℕ))

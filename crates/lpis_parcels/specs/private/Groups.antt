@@ -20,8 +20,8 @@ at_indices xs [] = []
 at_indices xs (i ∷ is) = option_to_list (slice_get xs i) ++ at_indices xs is
 
 -- a join is of the parcel k
-abbrev pub is_of : ℕ → Join → Bool
-is_of k j = j.parcel == k
+abbrev pub is_of_parcel : ℕ → Join → Bool
+is_of_parcel k j = j.parcel == k
 
 -- the pieces of joins
 abbrev pub joined_pieces : List Join → List ℕ
@@ -29,7 +29,7 @@ joined_pieces joins = map (λ (j : Join). j.piece) joins
 
 -- the pieces of the parcel k
 abbrev pub group_at : List Join → ℕ → List ℕ
-group_at joins k = joined_pieces (filter (is_of k) joins)
+group_at joins k = joined_pieces (filter (is_of_parcel k) joins)
 
 -- the fault is the first of these, or memory ran out
 abbrev pub Refuses : List TableFault → TableFault → Type 0

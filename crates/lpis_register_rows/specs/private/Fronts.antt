@@ -4,16 +4,16 @@ use Rattle.lpis_lineage.specs.declared.row.Entry.{Entry}
 use Rattle.lpis_lineage.specs.Lineage.{entry_at, holds}
 use Rattle.lpis_register_rows.specs.declared.known.KnownLine.{KnownLine}
 use Rattle.lpis_register_rows.specs.declared.known.KnownSpan.{KnownSpan}
-use Rattle.lpis_register_rows.specs.Tells.{IsKept}
-use Rattle.lpis_register_rows.specs.private.Known.{SetsAre, known_of, line_at, span_in}
+use Rattle.lpis_register_rows.specs.Tells.{IsKeptHistory}
+use Rattle.lpis_register_rows.specs.private.Known.{SetsAre, known_of, known_line_at, span_in}
 
 -- the lines from one position up to another are those of a year, by their positions from 0, and the
 -- next is not
 pub record IsRun (lines : List KnownLine) (from year stop : ℕ) : Type 0 where
   pub within : from ≤ stop
-  pub here : (k : ℕ) → from + k < stop → ((line_at lines (from + k)).year ≡ pos year)
-      × ((line_at lines (from + k)).position ≡ pos k)
-  pub after : (line_at lines stop).year ≡ pos year → ⊥
+  pub here : (k : ℕ) → from + k < stop → ((known_line_at lines (from + k)).year ≡ pos year)
+      × ((known_line_at lines (from + k)).position ≡ pos k)
+  pub after : (known_line_at lines stop).year ≡ pos year → ⊥
 
 -- the releases of the one history are the first ones of the other
 pub record IsFront (g h : List Entry) : Type 0 where
@@ -23,8 +23,9 @@ pub record IsFront (g h : List Entry) : Type 0 where
   pub rows : (i : ℕ) → i < length g → (entry_at g i).rows ≡ (entry_at h i).rows
 
 -- the spans and the sorted lines say this history
-pub record IsSaid (spans : List KnownSpan) (lines : List KnownLine) (h : List Entry) : Type 0 where
-  pub kept : IsKept h
+pub record SaysHistory (spans : List KnownSpan) (lines : List KnownLine)
+    (h : List Entry) : Type 0 where
+  pub kept : IsKeptHistory h
   pub sets : SetsAre (map span_in spans) h
   pub lines_are : known_of h ≡ lines
 

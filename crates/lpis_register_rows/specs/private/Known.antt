@@ -1,5 +1,6 @@
 -- What was read of rows: machinery, which only private contracts cite.
-use Rattle.std.specs.Prelude.{◌≡◌, ◌<◌, ◌≤◌, ◌+◌, ◌⊎◌, ◌&&◌, ◌++◌, ◌∷◌, [], true, false, ℕ, zero, suc}
+use Rattle.std.specs.Prelude.{◌≡◌, ◌<◌, ◌≤◌, ◌+◌, ◌⊎◌, ◌&&◌, ◌++◌, ◌∷◌, [], true, false, ℕ, zero}
+use Rattle.std.specs.Prelude.{suc}
 use Rattle.std.specs.Prelude.{ℤ, pos, negsuc, List, length, None, Some}
 use Rattle.std.specs.List.{list_any}
 use Rattle.std.specs.Ordering.{int_cmp, ordering_then}
@@ -10,7 +11,7 @@ use Rattle.lpis_lineage.specs.declared.row.Row.{Row}
 use Rattle.lpis_lineage.specs.Lineage.{entry_at, holds}
 use Rattle.lpis_register_rows.specs.declared.known.KnownSpan.{KnownSpan}
 use Rattle.lpis_register_rows.specs.declared.known.KnownLine.{KnownLine}
-use Rattle.lpis_register_rows.specs.Content.{Line, Live, StoredSpan, text_of}
+use Rattle.lpis_register_rows.specs.Content.{Line, Live, StoredSpan, successor_text}
 use Rattle.lpis_register_rows.specs.Tells.{last_of_years}
 use Rattle.lpis_register_rows.specs.private.Covering.{covers}
 
@@ -19,7 +20,7 @@ span_in s = record { id = s.id; since = s.since; until = s.until }
 
 abbrev pub line_in : KnownLine → Line
 line_in l =
-    record { year = l.year; position = l.position; old = l.row.old; new = text_of l.row.new }
+    record { year = l.year; position = l.position; old = l.row.old; new = successor_text l.row.new }
 
 -- the identifiers of releases, one after the other
 abbrev pub all_live : List Entry → List (List ℕ)
@@ -40,8 +41,8 @@ abbrev pub HasText : Row → Type 0
 HasText r = r.new ≡ Some [] → ⊥
 
 -- a year that a release can have
-abbrev pub IsYear : ℤ → Type 0
-IsYear z = (y : ℕ) × (z ≡ pos y) × (0 < y) × (y ≤ last_of_years)
+abbrev pub IsReleaseYear : ℤ → Type 0
+IsReleaseYear z = (y : ℕ) × (z ≡ pos y) × (0 < y) × (y ≤ last_of_years)
 
 -- the texts of a line can be read: the old identifier is one, and so is the successor, or it is
 -- empty
@@ -64,11 +65,11 @@ known_of [] = []
 known_of (e ∷ h) = known_from (pos e.year) 0 e.rows ++ known_of h
 
 -- the line at a position of a list; past the end one of no year
-abbrev pub line_at : List KnownLine → ℕ → KnownLine
-line_at [] i = record {
+abbrev pub known_line_at : List KnownLine → ℕ → KnownLine
+known_line_at [] i = record {
   year = negsuc 0;
   position = negsuc 0;
   row = record { old = []; new = None; exact = false };
 }
-line_at (l ∷ ls) zero = l
-line_at (l ∷ ls) (suc i) = line_at ls i
+known_line_at (l ∷ ls) zero = l
+known_line_at (l ∷ ls) (suc i) = known_line_at ls i

@@ -37,10 +37,10 @@ abbrev pub unused : List Mark → List KnownLine → List Mark
 unused ms [] = ms
 unused ms (l ∷ ls) = unused (cond (is_next ms l) (later ms) ms) ls
 
-abbrev pub mark_in : KnownLine → Mark
-mark_in l = record { year = l.year; position = l.position }
+abbrev pub line_mark : KnownLine → Mark
+line_mark l = record { year = l.year; position = l.position }
 
 -- the marks of the lines that are marked
 abbrev pub marks_in : List KnownLine → List Mark
 marks_in [] = []
-marks_in (l ∷ ls) = if l.row.exact then mark_in l ∷ marks_in ls else marks_in ls
+marks_in (l ∷ ls) = if l.row.exact then line_mark l ∷ marks_in ls else marks_in ls

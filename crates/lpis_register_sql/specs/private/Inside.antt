@@ -5,14 +5,14 @@ use Rattle.sqlite.specs.State.{State, HasCleanDisk, KeepsCommit, Survives}
 use Rattle.sqlite.specs.declared.error.Error.{Error}
 use Rattle.lpis_register_rows.specs.Content.{Content}
 use Rattle.lpis_register_sql.specs.Layouts.{Layout, Origin, Whole}
-use Rattle.lpis_register_sql.specs.Holding.{Holds}
+use Rattle.lpis_register_sql.specs.Holding.{HoldsRows}
 
 -- a transaction over this commit, in which the tables hold this
 pub record Inside (s : Layout) (base : Database) (st : State) (c : Content) : Type 0 where
   pub is_open : IsTrue st.is_open
   pub in_transaction : IsTrue st.in_transaction
   pub base_is : st.committed ≡ base
-  pub holds : Holds s st.now c
+  pub holds : HoldsRows s st.now c
 
 -- a call that answers has turned the rows into these, where all tables stand
 abbrev pub Turns : (Content → Content) → State → State → Result (Unit {0}) Error → Type 0

@@ -2,9 +2,9 @@
 use Rattle.std.specs.Prelude.{ℕ, ◌*◌}
 
 -- the limit of a coordinate
-abbrev pub coordinate_margin : ℕ
-coordinate_margin = 20000000000
+abbrev pub ring_coordinate_margin : ℕ
+ring_coordinate_margin = 20000000000
 
 -- one coordinate times another
-abbrev pub product_margin : ℕ
-product_margin = coordinate_margin * coordinate_margin
+abbrev pub ring_product_margin : ℕ
+ring_product_margin = ring_coordinate_margin * ring_coordinate_margin

@@ -11,5 +11,5 @@ abbrev pub walks_of : List Member → List (List (Point × Point))
 walks_of members = flat_map member_walks members
 
 -- the edges, walk after walk
-abbrev pub joined : List (List (Point × Point)) → List (Point × Point)
-joined walks = flat_map (λ walk. walk) walks
+abbrev pub joined_walks : List (List (Point × Point)) → List (Point × Point)
+joined_walks walks = flat_map (λ walk. walk) walks

@@ -4,7 +4,8 @@ use Rattle.std.specs.Prelude.{drop, not, ◌||◌, ◌==◌}
 use Rattle.std.specs.List.{before_first, after_first, list_all}
 use Rattle.std.specs.Char.{is_ascii_digit}
 use Rattle.std.specs.Str.Parse.{digits_value}
-use Rattle.lpis_wkt.specs.Number.{coordinate_decimals, greatest, is_point, is_zero, padded}
+use Rattle.lpis_wkt.specs.Number.{coordinate_decimals, greatest_coordinate, is_point, is_zero_digit}
+use Rattle.lpis_wkt.specs.Number.{padded}
 use Rattle.lpis_wkt.specs.Number.{unsigned, is_negative}
 use Rattle.lpis_wkt.specs.Tokens.{is_space}
 
@@ -33,10 +34,10 @@ pub record IsPlain (body : List ℕ) (n : ℕ) : Type 0 where
   pub whole : list_all is_ascii_digit (before_first is_point body) ≡ true
   pub decimals : list_all is_ascii_digit (after_first is_point body) ≡ true
   pub some : 0 < length (before_first is_point body)
-  pub fine : list_all is_zero (drop coordinate_decimals (after_first is_point body)) ≡ true
+  pub fine : list_all is_zero_digit (drop coordinate_decimals (after_first is_point body)) ≡ true
   pub size : n ≡ digits_value 10 (before_first is_point body
       ++ padded coordinate_decimals (after_first is_point body))
-  pub few : n ≤ greatest
+  pub few : n ≤ greatest_coordinate
   pub without_sign : unsigned body ≡ body
   pub positive : is_negative body ≡ false
   pub word : AllWord body

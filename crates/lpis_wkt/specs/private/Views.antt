@@ -12,5 +12,5 @@ token_of code.Comma = Comma
 token_of (code.Word w) = Word w.now
 
 -- a token with its offset
-abbrev pub placed : Placed → ℕ × Token
-placed t = (t.offset, token_of t.token)
+abbrev pub token_placed : Placed → ℕ × Token
+token_placed t = (t.offset, token_of t.token)

@@ -1,5 +1,5 @@
 use Rattle.std.proofs.Common.{◌≡◌, map, length, arith, ◌∙◌, ◌<◌, ◌≤◌}
-use Rattle.lpis_cert.proofs.Common.{greatest_count, nat_tests, err_from_is_err_and, length-map, piece_of, parcel_of, exact_of, separator_of}
+use Rattle.lpis_cert.proofs.Common.{greatest_count, nat_tests, err_from_is_err_and, length-map, block_of_piece, block_of_parcel, exact_of, separator_of}
 use Rattle.lpis_cert.proofs.BlockLemmas.{separators_fit}
 use Rattle.lpis_cert.proofs.DraftLemmas.{pairs_fault, end_fault, trailing_fault, pairs_follow, whole_of, whole_cert}
 use Rattle.lpis_cert.proofs.blocks.finish.Goals as goal
@@ -44,7 +44,7 @@ returns-clause-ok c =
     let none : length rest.text.now ≡ 0 = grind (arith, nat_tests) in
     whole_cert d.version c.cert_of.result d.pieces.items d.parcels.items d.exact.items ps _ _ (c.cert_of.ensures.pieces
     ∙ c.in_ok-pieces.ensures) (c.cert_of.ensures.parcels ∙ c.in_ok-parcels.ensures) (c.cert_of.ensures.exact ∙ c.in_ok-exact.ensures) c.cert_of.ensures.pairs
-    (whole_of (map piece_of d.pieces.items) (map parcel_of d.parcels.items) (map exact_of d.exact.items) (map separator_of ps)
+    (whole_of (map block_of_piece d.pieces.items) (map block_of_parcel d.parcels.items) (map exact_of d.exact.items) (map separator_of ps)
     (pairs_follow (map separator_of ps) len c.requires
     c.in_ok-pairs.ensures.ok c.in_ok-rest.ensures)
     none)

@@ -1,5 +1,5 @@
 use Rattle.std.proofs.Common.{map, length, arith, ◌∙◌, refl}
-use Rattle.lpis_cert.proofs.Common.{err_from_is_err_and, length-map, grow_flats, piece_of, all_corners, corner_numbers}
+use Rattle.lpis_cert.proofs.Common.{err_from_is_err_and, length-map, grow_flats, block_of_piece, triangle_corners, corner_numbers}
 use Rattle.lpis_cert.specs.private.Drafts.{draft_lines, stage_after}
 use Rattle.lpis_cert.proofs.DraftLemmas.{can_begin, none_before, flats_named, too_many_flats, flats_fault, one_more_lines, one_more_flats, stage_parcels, stage_exact, flats_grown}
 use Rattle.lpis_cert.proofs.blocks.flat_block.Goals as goal
@@ -49,11 +49,11 @@ returns-clause-ok c =
     let fs = c.in_ok-own_flats.own_flats.items in
     let can = can_begin d.stage c.args.owner c.args.id c.args.flat_count c.requires.stands in
     let none = none_before d.stage c.args.owner (length d.exact.items) can d.no_exact in
-    let lines = one_more_lines c.args.owner (map piece_of d.pieces.items) c.args.id fs d.parcels.items d.exact.items c.in_ok-parcels.parcels.items
+    let lines = one_more_lines c.args.owner (map block_of_piece d.pieces.items) c.args.id fs d.parcels.items d.exact.items c.in_ok-parcels.parcels.items
     c.in_ok-parcels.exact.items c.in_ok-parcels.ensures.ok none in
     let is = c.stage.ensures in (
       refl,
-      rw is (flats_grown c.args.owner (draft_lines d) _ c.args.id (all_corners fs) d.stage (record { triangles = d.triangles; flats = d.flats }) c.args.flat_count lines
+      rw is (flats_grown c.args.owner (draft_lines d) _ c.args.id (triangle_corners fs) d.stage (record { triangles = d.triangles; flats = d.flats }) c.args.flat_count lines
           c.requires.fits can d.triangles_few c.if-all_flats-gt-MOST_FLATS.false (length-map fs corner_numbers ∙ c.in_ok-own_flats.ensures.count) c.requires.begins
           c.in_ok-own_flats.ensures.ok),
     )

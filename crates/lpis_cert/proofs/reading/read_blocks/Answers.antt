@@ -1,5 +1,5 @@
 use Rattle.std.proofs.Common.{refl, ◌∙◌, sym}
-use Rattle.lpis_cert.proofs.Common.{lines_of, content_of, draft_state}
+use Rattle.lpis_cert.proofs.Common.{content_lines, content_of, draft_state}
 use Rattle.lpis_cert.proofs.StepLemmas.{follows_none}
 use Rattle.lpis_cert.proofs.ReadLemmas.{follows_grown, whole_text}
 use Rattle.lpis_cert.specs.private.Drafts.{draft_lines}
@@ -35,5 +35,5 @@ returns-in-Done-clause-ok c =
     let same = c.reading.invariant.version in
     let whole = rw same at (rw is at c.in_ok-grown.ensures.ok) in
     whole_text c.args.version c.args.start.text.now c.args.start.line (draft_lines c.reading.draft)
-    (lines_of (content_of c.in-Done.cert)) c.reading.rest.text.now c.reading.rest.line c.reading.invariant.follows
+    (content_lines (content_of c.in-Done.cert)) c.reading.rest.text.now c.reading.rest.line c.reading.invariant.follows
     whole

@@ -1,7 +1,7 @@
 use Rattle.std.proofs.Common.{◌≡◌, ◌≤◌, ◌∙◌, length, ap, sym, subst}
 use Rattle.lpis_checker.proofs.Common.{PiecePart, triangles_of}
 use Rattle.std.proofs.lemmas.List.Concat.{length-flat_map}
-use Rattle.lpis_pairs.specs.NearPairs.{most_triangles}
+use Rattle.lpis_points.specs.Triangles.{most_triangles}
 use Rattle.lpis_checker.proofs.first_fault.first_fault.Goals as goal
 
 pub pairs-requires : goal.pairs-requires

@@ -1,5 +1,5 @@
 use Rattle.std.proofs.Common.{◌↔◌, IsTrue, List, subst, sym, arith}
-use Rattle.lpis_checker.proofs.Common.{Triangle, Holds, LineSeparates, triangles_of, Condition, LineAt}
+use Rattle.lpis_checker.proofs.Common.{Triangle, ConditionHolds, LineSeparates, triangles_of, Condition, LineAt}
 use Rattle.lpis_pairs.specs.NearPairs.{IsNear}
 use Rattle.lpis_checker.specs.GoodCertificate.{OfTwo}
 use Rattle.lpis_checker.proofs.SiteLemmas.{of_line}
@@ -24,7 +24,7 @@ returns-in-NotApart c =
     let line = c.index-as_slice-index.result in
     let read = line_read c.args.release.now cert c.args.triangles.now c.requires.names c.requires.numbered c.args.index line c.as_slice.ensures c.requires.within c.index-as_slice-index.is in
     let near = near_two c.args.triangles.now (triangles_of cert.pieces) line.i line.j c.names_near.result c.requires.numbered read.rising read.within c.names_near.ensures in
-    subst (λ (q : Condition). IsTrue c.names_near.result ↔ Holds c.args.release.now cert q (LineAt c.args.index)) (sym c.in-NotApart.is)
+    subst (λ (q : Condition). IsTrue c.names_near.result ↔ ConditionHolds c.args.release.now cert q (LineAt c.args.index)) (sym c.in-NotApart.is)
     (of_line cert (λ l. IsNear (triangles_of cert.pieces) l.i l.j) c.names_near.result c.args.index line read.at near)
 
 pub returns-in-Separating : goal.returns-in-Separating
@@ -33,5 +33,5 @@ returns-in-Separating c =
     let line = c.index-as_slice-index.result in
     let read = line_read c.args.release.now cert c.args.triangles.now c.requires.names c.requires.numbered c.args.index line c.as_slice.ensures c.requires.within c.index-as_slice-index.is in
     let parted = subst (λ (ts : List Triangle). IsTrue c.line_separates.result ↔ OfTwo ts line.i line.j (LineSeparates line.k)) c.requires.numbered c.line_separates.ensures in
-    subst (λ (q : Condition). IsTrue c.line_separates.result ↔ Holds c.args.release.now cert q (LineAt c.args.index)) (sym c.in-Separating.is)
+    subst (λ (q : Condition). IsTrue c.line_separates.result ↔ ConditionHolds c.args.release.now cert q (LineAt c.args.index)) (sym c.in-Separating.is)
     (of_line cert (λ l. OfTwo (triangles_of cert.pieces) l.i l.j (LineSeparates l.k)) c.line_separates.result c.args.index line read.at parted)

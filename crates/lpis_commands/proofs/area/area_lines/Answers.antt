@@ -9,7 +9,7 @@ use Rattle.lpis_covers.specs.declared.fault.TableFault.TheVariants.{Memory, At}
 use Rattle.lpis_covers.specs.Table.{Answers, AnswersBy, Reading, field_of, table_of, texts}
 use Rattle.lpis_covers.proofs.Shared.{rows-end, rows-fault, rows-start, rows-step, rows-stop}
 use Rattle.lpis_commands.specs.Area.{area_line}
-use Rattle.lpis_commands.specs.AreaAnswer.{answer_from, area_table, line_of}
+use Rattle.lpis_commands.specs.AreaAnswer.{answer_from, area_table, polygon_area_line}
 use Rattle.lpis_commands.proofs.ReportLemmas.{flat_map-push}
 use mir.Syntax.{w128}
 use mir.Val.{SFits}
@@ -64,7 +64,7 @@ rows-preserved c =
       known.1 ++ polygon ∷ [],
       rows-step area_table c.in_ok-reader.reader c.rows.reader c.next_row.new.self known.0 known.1 polygon known.2 advanced
           (rw (advanced.3 ∙ known.2.table) at c.in_ok-polygon.ensures),
-      written ∙ ap (λ (lines : List ℕ). lines ++ line_of polygon) known.3 ∙ flat_map-push line_of known.1 polygon,
+      written ∙ ap (λ (lines : List ℕ). lines ++ polygon_area_line polygon) known.3 ∙ flat_map-push polygon_area_line known.1 polygon,
     )
 
 pub returns : goal.returns

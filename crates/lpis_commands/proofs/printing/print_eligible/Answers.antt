@@ -2,7 +2,8 @@ use Rattle.std.proofs.Common.{refl, ap, ◌∙◌, nat_abs}
 use Rattle.std.proofs.lemmas.Int.{to_z-of_z}
 use mir.Syntax.{w128}
 use Rattle.lpis_commands.proofs.AreaLemmas.{fives-shown}
-use Rattle.lpis_commands.specs.Area.{eligible_text, sign_text}
+use Rattle.lpis_commands.specs.Area.{eligible_text}
+use Rattle.lpis_points.specs.Decimals.{sign_text}
 use Rattle.lpis_commands.proofs.printing.print_eligible.Goals as goal
 
 pub returns : goal.returns

@@ -1,5 +1,5 @@
 use Rattle.std.proofs.Common.{◌≡◌, ℕ, ◌+◌, ◌<◌, ◌≤◌, ◌^◌, ℤ, pos, ◌+ℤ◌, nat_abs, true, false, length, sym, refl, subst, arith, to_z, of_z, w64, SFits}
-use Rattle.lpis_edge_sums.proofs.Common.{ints, weight}
+use Rattle.lpis_edge_sums.proofs.Common.{ints, edge_sign}
 use Rattle.std.proofs.lemmas.Option.{slice_get_read}
 use Rattle.lpis_edge_sums.proofs.CountingLemmas.{untrue}
 use Rattle.lpis_edge_sums.proofs.RunLemmas.{WalkAt, walk_none, walk_zero, walk_on, walk_all, walk_fault}
@@ -31,12 +31,12 @@ loop-k-preserved c =
     let xs = c.args.edges.now in
     let x = c.index-edges-k.result in
     let at = slice_get_read xs (length xs) c.loop-k.k x refl c.loop-k-test.true c.index-edges-k.is in
-    let e = next_is s c.weight-sum.result (weight x) c.loop-k.k (length xs) c.loop-k.invariant.small c.loop-k-test.true c.requires.few c.weight-sum.ensures.small c.weight-sum.ensures.is in
+    let e = next_is s c.weight-sum.result (edge_sign x) c.loop-k.k (length xs) c.loop-k.invariant.small c.loop-k-test.true c.requires.few c.weight-sum.ensures.small c.weight-sum.ensures.is in
     subst (λ (z : ℤ). WalkAt xs (c.loop-k.k + 1) z) (sym e)
     (elim c.if-sum-ne0.branch [
       | then-sum-ne0+else-ends_run w ↦ walk_on xs c.loop-k.k s x c.loop-k.invariant at (untrue w.ends_run.result w.ends_run.ensures w.if-ends_run.false)
       | else-sum-ne0 w ↦ walk_zero xs c.loop-k.k s x c.loop-k.invariant at
-          (zero_is s c.weight-sum.result (weight x) c.loop-k.k (length xs) c.loop-k.invariant.small c.loop-k-test.true
+          (zero_is s c.weight-sum.result (edge_sign x) c.loop-k.k (length xs) c.loop-k.invariant.small c.loop-k-test.true
           c.requires.few c.weight-sum.ensures.small c.weight-sum.ensures.is w.if-sum-ne0.false)
     ])
 
@@ -48,7 +48,7 @@ returns-then-ends_run c =
     let at = slice_get_read xs (length xs) c.loop-k.k x refl c.loop-k-test.true c.index-edges-k.is in (
       λ t. absurd (never t),
       λ z. absurd (walk_fault xs c.loop-k.k s x c.requires.grouped c.loop-k.invariant at
-          (λ f. c.if-sum-ne0.true (is_zero s c.weight-sum.result (weight x) c.loop-k.k (length xs)
+          (λ f. c.if-sum-ne0.true (is_zero s c.weight-sum.result (edge_sign x) c.loop-k.k (length xs)
           c.loop-k.invariant.small c.loop-k-test.true c.requires.few c.weight-sum.ensures.small c.weight-sum.ensures.is
           f)) (c.ends_run.ensures.0 c.if-ends_run.true) z),
     )

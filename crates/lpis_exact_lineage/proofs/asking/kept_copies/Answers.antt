@@ -1,6 +1,6 @@
 use Rattle.std.proofs.lemmas.Result.{err_from_is_err_and}
 use Rattle.lpis_exact_lineage.specs.Asking.{HasShape}
-use Rattle.lpis_exact_lineage.specs.Shapes.{shape_of}
+use Rattle.lpis_exact_lineage.specs.Shapes.{shape_named}
 use Rattle.lpis_exact_lineage.proofs.AskingLemmas.{first-in, zip-more}
 use Rattle.lpis_exact_lineage.proofs.asking.kept_copies.Goals as goal
 
@@ -11,6 +11,6 @@ returns-in_err-shape-clause-unkept c =
     c.id-item.is c.loop-id.invariant c.in_err-shape.ensures.unkept)
 
 pub loop-id-preserved : goal.loop-id-preserved
-loop-id-preserved c = zip-more (HasShape (shape_of c.args.kept.now)) c.args.ids.now c.loop-id.shapes.items c.loop-id.id-index c.id-item.result c.in_ok-shape.shape
+loop-id-preserved c = zip-more (HasShape (shape_named c.args.kept.now)) c.args.ids.now c.loop-id.shapes.items c.loop-id.id-index c.id-item.result c.in_ok-shape.shape
     c.loop-id-test.true c.id-item.is c.loop-id.invariant
     c.in_ok-shape.ensures.shape c.in_ok-push.ensures.items

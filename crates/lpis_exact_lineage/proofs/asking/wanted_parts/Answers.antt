@@ -5,7 +5,7 @@ use Rattle.lpis_lineage.specs.Lineage.{last_live}
 use Rattle.lpis_lineage.specs.declared.exact.Group.{Group}
 use Rattle.lpis_parcels.specs.Release.{parcel_ids}
 use Rattle.lpis_exact_lineage.specs.Asking.{AsksFor, IsWanted}
-use Rattle.lpis_exact_lineage.specs.Shapes.{shape_of, shapes_in}
+use Rattle.lpis_exact_lineage.specs.Shapes.{shape_named, shapes_in}
 use Rattle.lpis_exact_lineage.proofs.AskingLemmas.{asked, own-rows}
 use Rattle.lpis_exact_lineage.proofs.asking.wanted_parts.Goals as goal
 
@@ -14,6 +14,6 @@ returns-clause-asks c = λ h rows none change.
     let r = c.args.release.now in
     let kept = c.args.kept.now in
     let are = c.in_ok-groups.ensures (last_live h) (parcel_ids r.parcels) (own-rows (last_live h) (parcel_ids r.parcels) rows c.args.change.now change) in
-    IfOk-weaker c.parts_of.result (λ v. AllZip (IsWanted (shape_of kept) (shape_of (shapes_in r))) c.as_slice.result.now v.items) (λ v. (gs : List Group) × AsksFor h kept r rows gs v.items)
+    IfOk-weaker c.parts_of.result (λ v. AllZip (IsWanted (shape_named kept) (shape_named (shapes_in r))) c.as_slice.result.now v.items) (λ v. (gs : List Group) × AsksFor h kept r rows gs v.items)
     (λ v z. asked h kept r rows c.args.change.now c.in_ok-groups.groups.items v.items none change are
-    (subst (λ (gs : List Group). AllZip (IsWanted (shape_of kept) (shape_of (shapes_in r))) gs v.items) c.as_slice.ensures.value z)) c.parts_of.ensures.parts
+    (subst (λ (gs : List Group). AllZip (IsWanted (shape_named kept) (shape_named (shapes_in r))) gs v.items) c.as_slice.ensures.value z)) c.parts_of.ensures.parts

@@ -1,5 +1,5 @@
 use Rattle.std.proofs.Common.{◌≡◌, ◌∙◌, sym, ap, subst, List, ℕ, [], ◌⊎◌, Some}
-use Rattle.lpis_lineage.proofs.Common.{last_live, LineageFault, row_faults, dropped_faults, used_faults, first}
+use Rattle.lpis_lineage.proofs.Common.{last_live, LineageFault, lineage_row_faults, dropped_faults, used_faults, first}
 use Rattle.lpis_lineage.specs.declared.fault.LineageFault.TheVariants.{Memory}
 use Rattle.std.proofs.lemmas.Result.{err_from_is_err_and}
 use Rattle.lpis_lineage.proofs.TellingLemmas.{passed, stops-after, rows-live, dropped-live}
@@ -11,7 +11,7 @@ returns-in_err-check_dropped-clause-tells c =
     let live = c.args.live.now in
     let rows = c.args.rows.now in
     let last = c.last_live-last.ensures in
-    let no-rows : row_faults (last_live h) live [] 1 rows ≡ [] = sym (rows-live (last_live h) c.in_ok-set.set live [] 1 rows c.in_ok-set.ensures) ∙ (rw last at c.in_ok-seen.ensures.tells) in
+    let no-rows : lineage_row_faults (last_live h) live [] 1 rows ≡ [] = sym (rows-live (last_live h) c.in_ok-set.set live [] 1 rows c.in_ok-set.ensures) ∙ (rw last at c.in_ok-seen.ensures.tells) in
     let alike : dropped_faults c.in_ok-set.set rows c.last_live-last.result.now ≡ dropped_faults live rows
     (last_live h) = ap (λ (l : List (List ℕ)). dropped_faults c.in_ok-set.set rows l) last
     ∙ dropped-live c.in_ok-set.set live rows (last_live h) c.in_ok-set.ensures in

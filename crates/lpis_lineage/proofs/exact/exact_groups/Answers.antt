@@ -1,12 +1,12 @@
 use Rattle.std.proofs.Common.{◌≡◌, ◌∙◌, All, List, ℕ, true, false, ap, subst, sym, filter, map}
-use Rattle.lpis_lineage.proofs.Common.{list_any, names}
+use Rattle.lpis_lineage.proofs.Common.{list_any, names_successor}
 use Rattle.lpis_lineage.specs.Changes.{kind_at}
 use Rattle.lpis_lineage.specs.private.Gathered.{as_group, is_exact_of}
 use Rattle.lpis_lineage.proofs.GroupLemmas.{all-named, whole}
 use Rattle.lpis_lineage.proofs.exact.exact_groups.Goals as goal
 
 pub groups_of-requires-2-clause-named : goal.groups_of-requires-2-clause-named
-groups_of-requires-2-clause-named c = λ t. subst (λ (ids : List (List ℕ)). All (λ (id : List ℕ). list_any (names id) c.args.change.now.rows ≡ true) ids)
+groups_of-requires-2-clause-named c = λ t. subst (λ (ids : List (List ℕ)). All (λ (id : List ℕ). list_any (names_successor id) c.args.change.now.rows ≡ true) ids)
     (sym c.as_slice.ensures.value) (all-named c.in_ok-heirs.heirs.items c.args.change.now.rows c.in_ok-heirs.ensures.are)
 
 pub returns : goal.returns

@@ -1,5 +1,5 @@
 use Rattle.std.proofs.Common.{◌≡◌, ◌∙◌, sym, subst, List, ℕ, Option}
-use Rattle.lpis_lineage.proofs.Common.{Row, kind, mark_faults}
+use Rattle.lpis_lineage.proofs.Common.{Row, kind, marked_row_faults}
 use Rattle.lpis_lineage.specs.declared.kind.Kind.{Kind}
 use Rattle.lpis_lineage.specs.Changes.{kind_at}
 use Rattle.lpis_lineage.specs.Faults.{ReportsFirstOf}
@@ -16,5 +16,5 @@ returns c =
     let is = c.in_ok-change.ensures in
     let r = c.check_marks.result in
     let same : kind_at h ≡ K = λ i id. is.kinds_are id i in
-    subst (λ (rs : List Row). ReportsFirstOf (mark_faults K rs 1 rs) r) is.rows_are
-    (subst (λ (kind_of : List ℕ → Option Kind). ReportsFirstOf (mark_faults kind_of h.rows 1 h.rows) r) same c.check_marks.ensures)
+    subst (λ (rs : List Row). ReportsFirstOf (marked_row_faults K rs 1 rs) r) is.rows_are
+    (subst (λ (kind_of : List ℕ → Option Kind). ReportsFirstOf (marked_row_faults kind_of h.rows 1 h.rows) r) same c.check_marks.ensures)

@@ -1,6 +1,6 @@
 use Rattle.std.proofs.Common.{pos, arith, take, length, ◌<◌}
 use Rattle.lpis_register_sql.proofs.Common.{state}
-use Rattle.lpis_register_rows.specs.Content.{all_ended, ended}
+use Rattle.lpis_register_rows.specs.Content.{all_ended, with_ended}
 use Rattle.lpis_register_sql.proofs.StepLemmas.{at_end, one_more, quiet_on}
 use Rattle.lpis_register_sql.proofs.LoopLemmas.{more}
 use Rattle.lpis_register_sql.proofs.writing.end_spans.Goals as goal
@@ -15,7 +15,7 @@ loop-id-preserved g c =
     record {
       same_reference = cc;
       adds = one_more (λ n. all_ended (pos c.args.year) (take n c.args.ids.now)) _ i old mid now c.end_span.ensures.quiet c.loop-id.invariant.adds
-          c.in_ok-end_span.ensures.adds (λ content. more (ended (pos c.args.year)) c.args.ids.now i c.id-item.result _ content low c.id-item.is);
+          c.in_ok-end_span.ensures.adds (λ content. more (with_ended (pos c.args.year)) c.args.ids.now i c.id-item.result _ content low c.id-item.is);
       quiet = quiet_on old mid now c.loop-id.invariant.quiet c.end_span.ensures.quiet;
     }
 

@@ -1,4 +1,4 @@
-use Rattle.lpis_wkt_writer.specs.Text.{text_of}
+use Rattle.lpis_wkt_writer.specs.Text.{polygon_text}
 use Rattle.lpis_wkt_writer.proofs.SpellingLemmas.{spells}
 use Rattle.lpis_wkt_writer.proofs.laws.a_text_spells_its_polygon.Goals as goal
 
@@ -6,4 +6,4 @@ pub returns-clause-spells : goal.returns-clause-spells
 returns-clause-spells c = spells
 
 pub returns-clause-says : goal.returns-clause-says
-returns-clause-says c = λ members is h. (c.function_of_text.ensures.polygon (text_of members) members).0 (spells members is h)
+returns-clause-says c = λ members is h. (c.function_of_text.ensures.polygon (polygon_text members) members).0 (spells members is h)

@@ -1,7 +1,7 @@
 use Rattle.std.proofs.Common.{ap, ◌∙◌, nat_abs}
 use Rattle.std.proofs.lemmas.Int.{to_z-of_z}
 use mir.Syntax.{w64}
-use Rattle.lpis_wkt_writer.specs.Text.{sign_text}
+use Rattle.lpis_points.specs.Decimals.{sign_text}
 use Rattle.lpis_wkt_writer.proofs.NumberLemmas.{number-shown}
 use Rattle.lpis_wkt_writer.proofs.writing.write_number.Goals as goal
 
