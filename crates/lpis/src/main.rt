@@ -82,6 +82,7 @@ fn perform(rt: &HostRuntime, command: Cmd<'_>) -> Result<u8, Failure> {
             let cert = open(rt, &cert)?;
             run_check(alloc, parcels, covers, classes, cert, &mut out)
         }
+        CommandFiles::Country { .. } => Err(Failure::Memory),
         CommandFiles::Exact {
             db,
             tables,

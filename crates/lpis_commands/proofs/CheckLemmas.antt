@@ -16,4 +16,4 @@ answer-of-text IsNext text c a e h =
     subst (λ (said : Result ℕ (CertCode × ℕ)). IsCertAnswer IsNext text said a) (sym (no_fault c text e)) (c, e, h)
 
 pub proved-of : (x : Inputs) (r : Contents) → release_of x.parcels x.covers x.classes ≡ Ok r → IsSoundMap r → (c : Cert) → IsCertText x.cert c → IsGood r c → IsProved x
-proved-of x r tables sound c text good = record { release = r; tables = tables; sound = sound; certificate = c; text = text; good = good }
+proved-of x r tables sound c text good = (r, record { tables = tables; sound = sound; certificate = c; text = text; good = good })

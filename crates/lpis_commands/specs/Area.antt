@@ -6,7 +6,7 @@ use Rattle.lpis_points.specs.Decimals.{last_digits, sign_text}
 
 -- the greatest absolute value that is printed
 abbrev pub most_printed : ℕ
-most_printed = 10 ^ 36
+most_printed = 6 * 10 ^ 37
 
 -- how many decimals a printed area has
 abbrev pub area_decimals : ℕ

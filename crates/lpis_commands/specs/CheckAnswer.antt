@@ -1,5 +1,5 @@
 -- The answer to three tables and a certificate: text and status, of the bytes of the four.
-use Rattle.std.specs.Prelude.{◌≡◌, ◌⊎◌, ℕ, List, Option, Result, Ok, Err}
+use Rattle.std.specs.Prelude.{◌≡◌, ◌≢◌, ◌⊎◌, ℕ, List, Option, Result, Ok, Err}
 use Rattle.std.specs.Io.KnownBytes.{Appends, Keeps}
 use Rattle.lpis_covers.specs.declared.fault.TableFault.{TableFault}
 use Rattle.lpis_parcels.specs.Release.{Contents, release_of}
@@ -72,15 +72,22 @@ IsAnswer x = IsTableAnswer (IsReleaseAnswer x.cert) (release_of x.parcels x.cove
 abbrev pub Checks : Inputs → ℕ → Option (List ℕ) → Option (List ℕ) → Type 0
 Checks x status old new = (text : List ℕ) × IsAnswer x (text, status) × Appends old new text
 
--- the tables are those of a release that is a sound map, and the text is that of a certificate good
--- for it
-pub record IsProved (x : Inputs) : Type 0 where
-  pub release : Contents
+-- the answer to these inputs, which is no yes
+abbrev pub IsRefusal : Inputs → Answer → Type 0
+IsRefusal x a = IsAnswer x a × (a.1 ≢ done)
+
+-- the tables are those of this release, it is a sound map, and the text is that of a certificate
+-- good for it
+pub record IsProvedOf (x : Inputs) (release : Contents) : Type 0 where
   pub tables : release_of x.parcels x.covers x.classes ≡ Ok release
   pub sound : IsSoundMap release
   pub certificate : Cert
   pub text : IsCertText x.cert certificate
   pub good : IsGood release certificate
+
+-- the tables are those of a release for which this holds
+abbrev pub IsProved : Inputs → Type 0
+IsProved x = (release : Contents) × IsProvedOf x release
 
 -- the inputs are what four readers reported, as far as it is known
 pub record AreRead (x : Inputs) (parcels covers classes cert : Option (List ℕ)) : Type 0 where

@@ -1,13 +1,15 @@
 -- The program's command line.
-use Rattle.std.specs.Prelude.{◌≡◌, ◌≤◌, ℕ, List, Option, Some, None, codes, true}
+use Rattle.std.specs.Prelude.{◌≡◌, ◌≤◌, ◌↔◌, ℕ, List, Option, Some, None, codes, true}
 use Rattle.std.specs.Str.Parse.{IsNumeral, digits_value, without_leading_plus}
 use Rattle.clap.specs.Words.{App, Row, Rule, Text, first_of, new_app, new_rule, with_rule}
 use Rattle.clap.specs.Words.{with_subcommand}
-use Rattle.clap.specs.declared.builder.ArgAction.TheVariants.{Set}
+use Rattle.clap.specs.declared.builder.ArgAction.TheVariants.{Set, SetTrue}
 use Rattle.clap.specs.declared.builder.value_parser.ValueParser.TheVariants.{Unsigned}
 use Rattle.lpis_commands.specs.declared.command.Cmd.{Cmd}
-use Rattle.lpis_commands.specs.declared.command.Cmd.TheVariants.{Area, Cut, Check, Exact}
+use Rattle.lpis_commands.specs.declared.command.Cmd.TheVariants.{Area, Cut, Check, Country, Exact}
 use Rattle.lpis_commands.specs.declared.command.Cmd.TheVariants.{Publish, Trace}
+use Rattle.lpis_commands.specs.declared.command.Detail.{Detail}
+use Rattle.lpis_commands.specs.declared.command.Detail.TheVariants.{Parcels}
 
 -- a required argument of one word
 abbrev pub word_rule : Text → Rule
@@ -26,6 +28,15 @@ cut_app = with_rule (with_rule (new_app (codes "cut")) (word_rule (codes "dir"))
 abbrev pub check_app : App
 check_app = with_rule (with_rule (new_app (codes "check")) (word_rule (codes "dir")))
     (word_rule (codes "cert"))
+
+-- an option without a word, `--` before its name
+abbrev pub flag_rule : Text → Rule
+flag_rule id = record (new_rule id) { long = Some id; action = Some SetTrue }
+
+-- country DIR, with or without --parcels
+abbrev pub country_app : App
+country_app = with_rule (with_rule (new_app (codes "country")) (word_rule (codes "dir")))
+    (flag_rule (codes "parcels"))
 
 -- exact DB DIR
 abbrev pub exact_release_app : App
@@ -72,7 +83,7 @@ unchecked_app = with_subcommand (with_subcommand program_app area_app.top) cut_a
 
 -- the program with the commands that need no register
 abbrev pub unregistered_app : App
-unregistered_app = with_subcommand unchecked_app check_app.top
+unregistered_app = with_subcommand (with_subcommand unchecked_app check_app.top) country_app.top
 
 -- the program with these, and the one that reads a register and writes a certificate
 abbrev pub unpublishing_app : App
@@ -88,6 +99,14 @@ IsYearWord word year =
     IsNumeral 10 (without_leading_plus word)
     × (year ≡ digits_value 10 (without_leading_plus word)) × (1 ≤ year) × (year ≤ 9999)
 
+-- an option without a word is there: `clap` then gives it this word
+abbrev pub IsFlagThere : Text → List Row → Type 0
+IsFlagThere id rows = first_of id rows ≡ Some (codes "true")
+
+-- the parcels are asked for exactly where their option is there
+abbrev pub IsDetail : Detail → List Row → Type 0
+IsDetail detail rows = (detail ≡ Parcels) ↔ IsFlagThere (codes "parcels") rows
+
 -- the command has this name, and its words are those of its arguments
 abbrev pub IsNamedCommand : Cmd → Text → List Row → Type 0
 IsNamedCommand (Area file) name rows = (name ≡ codes "area")
@@ -96,6 +115,8 @@ IsNamedCommand (Cut dir cert) name rows = (name ≡ codes "cut")
     × (first_of (codes "dir") rows ≡ Some dir.now) × (first_of (codes "cert") rows ≡ Some cert.now)
 IsNamedCommand (Check dir cert) name rows = (name ≡ codes "check")
     × (first_of (codes "dir") rows ≡ Some dir.now) × (first_of (codes "cert") rows ≡ Some cert.now)
+IsNamedCommand (Country dir detail) name rows = (name ≡ codes "country")
+    × (first_of (codes "dir") rows ≡ Some dir.now) × IsDetail detail rows
 IsNamedCommand (Exact db dir cert out) name rows =
     (name ≡ codes "exact") × (first_of (codes "db") rows ≡ Some db.now)
     × (first_of (codes "dir") rows ≡ Some dir.now) × (first_of (codes "cert") rows ≡ Some cert.now)

@@ -2,7 +2,7 @@
 use Rattle.std.specs.Prelude.{◌≡◌, ◌⊎◌, ℕ, List, Option, ◌++◌, codes}
 use Rattle.lpis_commands.specs.declared.failure.Name.{Name}
 use Rattle.lpis_commands.specs.declared.failure.Name.TheVariants.{Area, Parcels, Covers, Classes}
-use Rattle.lpis_commands.specs.declared.failure.Name.TheVariants.{Lineage, Cert, Out}
+use Rattle.lpis_commands.specs.declared.failure.Name.TheVariants.{Lineage, Cert, Country, Out}
 use Rattle.lpis_commands.specs.declared.failure.Failure.{Failure}
 use Rattle.lpis_commands.specs.declared.failure.Failure.TheVariants.{Memory, Read, Write, Store}
 use Rattle.lpis_commands.specs.Streams.{IsWithin}
@@ -15,6 +15,7 @@ name_text Covers = codes "covers"
 name_text Classes = codes "classes"
 name_text Lineage = codes "lineage"
 name_text Cert = codes "cert"
+name_text Country = codes "country"
 name_text Out = codes "out"
 
 -- the line of a failure

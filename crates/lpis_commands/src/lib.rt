@@ -6,6 +6,7 @@ mod answer;
 mod area;
 mod check;
 mod command;
+mod command_line;
 mod cut;
 mod cut_line;
 mod failure;
@@ -22,19 +23,22 @@ mod status;
 
 pub use answer::Answer;
 pub use area::run_area;
-pub use check::{InputBytes, cert_in, read_inputs, refuse_cert, refuse_text, run_check};
-pub use command::{Cmd, command_of};
+pub use check::{
+    InputBytes, cert_in, checked_release, read_inputs, refuse_cert, refuse_text, run_check,
+};
+pub use command::{Cmd, Detail, command_of};
 pub use cut::run_cut;
 pub use cut_line::{print_counts, print_refusal};
 pub use failure::{Failure, Name, print_failure};
 pub use laws::{a_check_has_one_answer, a_sum_of_areas_is_printed};
 pub use named::{CommandFiles, NamedFile, TableFiles, named_files};
 pub use outcome::Outcome;
+pub use outputs::write_text;
 pub use printing::{PrintFault, print_area, print_eligible, print_line};
 pub use reading::{GREATEST_LIMIT, ReadFault, read_all, read_from, read_named};
 pub use refusal::{print_cert_fault, print_check_fault, print_table_fault};
 pub use releases::{TableBytes, read_tables, release_in};
-pub use report::write_report;
+pub use report::{Areas, areas_of, print_areas, print_parcel, write_report};
 pub use status::{DONE, FAILED, REFUSED, UNREADABLE, status_of, usage_ends};
 
 #[cfg(test)]

@@ -1,10 +1,11 @@
 //! The files of a command.
 
 ghost use Rattle.std.specs.Prelude.{◌≡◌, IfOk};
-ghost use Rattle.lpis_commands.specs.Files.{HasWords, files_of, in_folder, lineage_file, listed};
-ghost use Rattle.lpis_commands.specs.Files.{shown_file, tables_in, tables_listed};
+ghost use Rattle.lpis_commands.specs.Files.{HasWords, classes_file, country_file, files_of};
+ghost use Rattle.lpis_commands.specs.Files.{in_folder, lineage_file, listed, shown_file, tables_in};
+ghost use Rattle.lpis_commands.specs.Files.{tables_listed};
 
-use crate::command::Cmd;
+use crate::command::{Cmd, Detail};
 use crate::failure::Name;
 use std::alloc::{AllocError, Global};
 
@@ -50,6 +51,17 @@ pub enum CommandFiles<'a> {
         tables: TableFiles,
         /// The certificate.
         cert: NamedFile,
+    },
+    /// Of `country`, beside those of its regions.
+    Country {
+        /// The path of its folder, in which each region has a folder.
+        dir: &'a str,
+        /// The text that says how it is cut into regions.
+        country: NamedFile,
+        /// The table of classes that all regions have.
+        classes: NamedFile,
+        /// What is printed.
+        detail: Detail,
     },
     /// Of `exact`.
     Exact {
@@ -102,6 +114,20 @@ fn file_in(alloc: Global, dir: &str, file: &str, name: Name) -> Result<NamedFile
     Ok(NamedFile { path, name })
 }
 
+/// The table of classes in a folder.
+fn classes_in(alloc: Global, dir: &str) -> Result<NamedFile, AllocError>
+    ensures { IfOk result (λ i. shown_file i ≡ classes_file dir.now) }
+{
+    file_in(alloc, dir, "classes.csv", Name::Classes)
+}
+
+/// The text of the country in a folder.
+fn country_in(alloc: Global, dir: &str) -> Result<NamedFile, AllocError>
+    ensures { IfOk result (λ i. shown_file i ≡ country_file dir.now) }
+{
+    file_in(alloc, dir, "country.txt", Name::Country)
+}
+
 /// The tables of the release in a folder.
 fn tables_of(alloc: Global, dir: &str) -> Result<TableFiles, AllocError>
     ensures { IfOk result (λ t. tables_listed t ≡ tables_in dir.now) }
@@ -109,7 +135,7 @@ fn tables_of(alloc: Global, dir: &str) -> Result<TableFiles, AllocError>
     Ok(TableFiles {
         parcels: file_in(alloc, dir, "parcels.csv", Name::Parcels)?,
         covers: file_in(alloc, dir, "covers.csv", Name::Covers)?,
-        classes: file_in(alloc, dir, "classes.csv", Name::Classes)?,
+        classes: classes_in(alloc, dir)?,
     })
 }
 
@@ -136,6 +162,12 @@ pub fn named_files<'a>(alloc: Global, command: Cmd<'a>) -> Result<CommandFiles<'
         Cmd::Check { dir, cert } => Ok(CommandFiles::Check {
             tables: tables_of(alloc, dir)?,
             cert: file_at(alloc, cert, Name::Cert)?,
+        }),
+        Cmd::Country { dir, detail } => Ok(CommandFiles::Country {
+            dir,
+            country: country_in(alloc, dir)?,
+            classes: classes_in(alloc, dir)?,
+            detail,
         }),
         Cmd::Exact { db, dir, cert, out } => Ok(CommandFiles::Exact {
             db,

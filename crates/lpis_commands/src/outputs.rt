@@ -26,7 +26,7 @@ fn write_some<W: Write>(text: &[u8], out: &mut W) -> Option<usize>
 
 /// Writes a text to an output. Where that fails, the output got a beginning of it.
 #[tactic(auto, using(crate::proofs::WriteLemmas::begun_more, crate::proofs::WriteLemmas::begun_kept))]
-pub(crate) fn write_text<W: Write>(text: &[u8], name: Name, out: &mut W) -> Result<(), Failure>
+pub fn write_text<W: Write>(text: &[u8], name: Name, out: &mut W) -> Result<(), Failure>
     ensures whole { OnOk result (Appends (W.contents out.old) (W.contents out.new) text.now) }
     ensures begun { IfErr result (λ failure. (failure ≡ Failure.Write name)
         × Begins (W.contents out.old) (W.contents out.new) text.now) }

@@ -22,9 +22,11 @@ use std::io::Write;
 /// An area and how much of it is eligible: doubled square millimetres, and these at one percent
 /// each.
 #[derive(Clone, Copy)]
-struct Areas {
-    area: i128,
-    weighted: i128,
+pub struct Areas {
+    /// The area.
+    pub area: i128,
+    /// How much of it is eligible.
+    pub weighted: i128,
 }
 
 /// Both areas added to those of `count` parcels.
@@ -47,7 +49,7 @@ fn added(sum: Areas, areas: Areas, count: usize) -> Areas
 
 /// Writes an area and how much of it is eligible, up to the end of the line.
 #[tactic(auto, unfolding(crate::specs::Report::areas_text))]
-fn print_areas<W: Write>(areas: Areas, out: &mut W) -> Result<(), PrintFault>
+pub fn print_areas<W: Write>(areas: Areas, out: &mut W) -> Result<(), PrintFault>
     requires area { nat_abs areas.area ≤ most_printed }
     requires weighted { nat_abs areas.weighted ≤ most_printed }
     ensures { OnOk result (Appends (W.contents out.old) (W.contents out.new)
@@ -73,7 +75,7 @@ fn print_counts<W: Write>(release: &Release, out: &mut W) -> Result<(), PrintFau
 }
 
 /// The areas of a parcel.
-fn areas_of(release: &Release, parcel: &Parcel) -> Areas
+pub fn areas_of(release: &Release, parcel: &Parcel) -> Areas
     requires areas { AreasAdd release.now }
     requires among { Contains release.now.parcels parcel.now }
     ensures area { result.area ≡ area2 parcel.now.polygon }
@@ -88,7 +90,7 @@ fn areas_of(release: &Release, parcel: &Parcel) -> Areas
 }
 
 /// Writes the line of a parcel, and answers its areas.
-fn print_parcel<W: Write>(
+pub fn print_parcel<W: Write>(
     release: &Release,
     parcel: &Parcel,
     out: &mut W,

@@ -1,0 +1,240 @@
+//! The program's command line, as `clap` is handed it.
+
+ghost use Rattle.std.specs.Prelude.{◌≡◌, IfOk, codes, false};
+ghost use Rattle.clap.specs.Words.{rule_of};
+ghost use Rattle.lpis_commands.specs.Command.{area_app, check_app, command_line_app, country_app};
+ghost use Rattle.lpis_commands.specs.Command.{cut_app, exact_app, exact_release_app, flag_rule};
+ghost use Rattle.lpis_commands.specs.Command.{program_app, publish_app, publish_year_app};
+ghost use Rattle.lpis_commands.specs.Command.{trace_app, unchecked_app, unpublishing_app};
+ghost use Rattle.lpis_commands.specs.Command.{unregistered_app, word_rule, year_rule};
+ghost use Rattle.lpis_commands.specs.private.Commands.{IsCommandOf};
+
+use clap::builder::ValueParser;
+use clap::{Arg, ArgAction, Command};
+use std::alloc::{AllocError, Global};
+
+/// The version that `--version` prints.
+const VERSION: &str = "0.2.0";
+
+/// An argument with the text that help has for it.
+fn described<'a>(argument: Arg<'a>, text: &'a str) -> Arg<'a>
+    ensures rule { rule_of result ≡ rule_of argument.entry }
+    ensures local { result.global ≡ argument.entry.global }
+{
+    argument.help(text)
+}
+
+/// A required argument of one word, with the text that help has for it.
+fn word_argument<'a>(alloc: Global, id: &'a str, text: &'a str) -> Arg<'a>
+    ensures rule { rule_of result ≡ word_rule id.entry.now }
+    ensures local { result.global ≡ false }
+{
+    let argument = Arg::new(alloc, id).required(true).action(ArgAction::Set);
+    described(argument, text)
+}
+
+/// `area FILE`.
+fn area_command<'a>(alloc: Global) -> Result<Command<'a>, AllocError>
+    ensures { IfOk result (λ c. IsCommandOf area_app c) }
+{
+    let file = word_argument(alloc, "file", "A table in CSV with a column `wkt`");
+    Command::new(alloc, "area")
+        .about("Prints the area of each polygon of a table, in square metres")
+        .arg(file)
+}
+
+/// The folder of a release.
+fn dir_argument<'a>(alloc: Global) -> Arg<'a>
+    ensures rule { rule_of result ≡ word_rule (codes "dir") }
+    ensures local { result.global ≡ false }
+{
+    let text = "A folder with parcels.csv, covers.csv and classes.csv";
+    word_argument(alloc, "dir", text)
+}
+
+/// The folder of a release and its lineage.
+fn submission_argument<'a>(alloc: Global) -> Arg<'a>
+    ensures rule { rule_of result ≡ word_rule (codes "dir") }
+    ensures local { result.global ≡ false }
+{
+    let text = "A folder with parcels.csv, covers.csv, classes.csv and lineage.csv";
+    word_argument(alloc, "dir", text)
+}
+
+/// The certificate of a release.
+fn cert_argument<'a>(alloc: Global) -> Arg<'a>
+    ensures rule { rule_of result ≡ word_rule (codes "cert") }
+    ensures local { result.global ≡ false }
+{
+    word_argument(alloc, "cert", "A certificate of triangles for the release")
+}
+
+/// The register of releases.
+fn db_argument<'a>(alloc: Global) -> Arg<'a>
+    ensures rule { rule_of result ≡ word_rule (codes "db") }
+    ensures local { result.global ≡ false }
+{
+    let text = "The register of the published releases, an SQLite file";
+    word_argument(alloc, "db", text)
+}
+
+/// The year of a release.
+fn year_argument<'a>(alloc: Global) -> Arg<'a>
+    ensures rule { rule_of result ≡ year_rule }
+    ensures local { result.global ≡ false }
+{
+    let text = "The release's year, a whole number from 1 to 9999";
+    let year = word_argument(alloc, "year", text);
+    year.value_parser(ValueParser::unsigned(1, 9999))
+}
+
+/// `cut DIR CERT`.
+fn cut_command<'a>(alloc: Global) -> Result<Command<'a>, AllocError>
+    ensures { IfOk result (λ c. IsCommandOf cut_app c) }
+{
+    let dir = dir_argument(alloc);
+    let cert = word_argument(alloc, "cert", "The file that the certificate is written to");
+    Command::new(alloc, "cut")
+        .about("Cuts a release into triangles, and writes a certificate for it")
+        .arg(dir)?
+        .arg(cert)
+}
+
+/// `check DIR CERT`.
+fn check_command<'a>(alloc: Global) -> Result<Command<'a>, AllocError>
+    ensures { IfOk result (λ c. IsCommandOf check_app c) }
+{
+    let dir = dir_argument(alloc);
+    let cert = cert_argument(alloc);
+    Command::new(alloc, "check")
+        .about("Checks a release against a certificate, and prints its report")
+        .arg(dir)?
+        .arg(cert)
+}
+
+/// The option that asks for a line a parcel.
+fn parcels_argument<'a>(alloc: Global) -> Arg<'a>
+    ensures rule { rule_of result ≡ flag_rule (codes "parcels") }
+    ensures local { result.global ≡ false }
+{
+    let flag = Arg::new(alloc, "parcels")
+        .long("parcels")
+        .action(ArgAction::SetTrue);
+    described(flag, "Prints a line for each parcel too")
+}
+
+/// `country DIR`, with or without `--parcels`.
+fn country_command<'a>(alloc: Global) -> Result<Command<'a>, AllocError>
+    ensures { IfOk result (λ c. IsCommandOf country_app c) }
+{
+    let text = "A folder with country.txt, classes.csv and a folder for each region";
+    let dir = word_argument(alloc, "dir", text);
+    let parcels = parcels_argument(alloc);
+    Command::new(alloc, "country")
+        .about("Checks a country that is cut into regions, and prints its sums")
+        .arg(dir)?
+        .arg(parcels)
+}
+
+/// `publish` with the register and the year.
+fn publish_command_for_year<'a>(alloc: Global) -> Result<Command<'a>, AllocError>
+    ensures { IfOk result (λ c. IsCommandOf publish_year_app c) }
+{
+    let db = db_argument(alloc);
+    let year = year_argument(alloc);
+    Command::new(alloc, "publish")
+        .about("Checks a release against a certificate, and adds it to a register")
+        .arg(db)?
+        .arg(year)
+}
+
+/// `publish DB YEAR DIR CERT`.
+fn publish_command<'a>(alloc: Global) -> Result<Command<'a>, AllocError>
+    ensures { IfOk result (λ c. IsCommandOf publish_app c) }
+{
+    let dir = submission_argument(alloc);
+    let cert = cert_argument(alloc);
+    publish_command_for_year(alloc)?.arg(dir)?.arg(cert)
+}
+
+/// `exact` with the register and the folder.
+fn exact_command_for_release<'a>(alloc: Global) -> Result<Command<'a>, AllocError>
+    ensures { IfOk result (λ c. IsCommandOf exact_release_app c) }
+{
+    let db = db_argument(alloc);
+    let dir = submission_argument(alloc);
+    Command::new(alloc, "exact")
+        .about("Gives a certificate the flats for the splits and merges that are marked exact")
+        .arg(db)?
+        .arg(dir)
+}
+
+/// `exact DB DIR CERT OUT`.
+fn exact_command<'a>(alloc: Global) -> Result<Command<'a>, AllocError>
+    ensures { IfOk result (λ c. IsCommandOf exact_app c) }
+{
+    let cert = cert_argument(alloc);
+    let text = "The file that the certificate with these flats is written to";
+    let out = word_argument(alloc, "out", text);
+    exact_command_for_release(alloc)?.arg(cert)?.arg(out)
+}
+
+/// `trace DB ID`.
+fn trace_command<'a>(alloc: Global) -> Result<Command<'a>, AllocError>
+    ensures { IfOk result (λ c. IsCommandOf trace_app c) }
+{
+    let db = db_argument(alloc);
+    let id = word_argument(alloc, "id", "The identifier of a parcel of any release");
+    Command::new(alloc, "trace")
+        .about("Prints the parcels of the last release that came of an earlier one")
+        .arg(db)?
+        .arg(id)
+}
+
+/// The program, before its commands: it has a version, and one of the commands has to be there.
+fn program<'a>(alloc: Global) -> Command<'a>
+    ensures { IsCommandOf program_app result }
+{
+    Command::new(alloc, "lpis")
+        .about("Checks the releases of a Land Parcel Identification System")
+        .version(VERSION)
+        .subcommand_required(true)
+}
+
+/// The program with the commands that read no certificate.
+fn line_without_check<'a>(alloc: Global) -> Result<Command<'a>, AllocError>
+    ensures { IfOk result (λ c. IsCommandOf unchecked_app c) }
+{
+    let area = area_command(alloc)?;
+    let cut = cut_command(alloc)?;
+    program(alloc).subcommand(area)?.subcommand(cut)
+}
+
+/// The program with the commands that need no register.
+fn line_without_register<'a>(alloc: Global) -> Result<Command<'a>, AllocError>
+    ensures { IfOk result (λ c. IsCommandOf unregistered_app c) }
+{
+    let check = check_command(alloc)?;
+    let country = country_command(alloc)?;
+    let line = line_without_check(alloc)?;
+    line.subcommand(check)?.subcommand(country)
+}
+
+/// The program with the commands that change no register.
+fn line_without_publish<'a>(alloc: Global) -> Result<Command<'a>, AllocError>
+    ensures { IfOk result (λ c. IsCommandOf unpublishing_app c) }
+{
+    let exact = exact_command(alloc)?;
+    let line = line_without_register(alloc)?;
+    line.subcommand(exact)
+}
+
+/// The program's command line.
+pub(crate) fn command_line<'a>(alloc: Global) -> Result<Command<'a>, AllocError>
+    ensures { IfOk result (λ c. IsCommandOf command_line_app c) }
+{
+    let publish = publish_command(alloc)?;
+    let trace = trace_command(alloc)?;
+    let line = line_without_publish(alloc)?;
+    line.subcommand(publish)?.subcommand(trace)
+}
