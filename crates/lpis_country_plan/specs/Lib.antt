@@ -1,0 +1,5 @@
+pub mod Limits
+pub mod Tree
+pub mod CountryText
+pub mod Faults
+pub mod Plans
