@@ -6,22 +6,23 @@ _lpis_files() { mapfile -t COMPREPLY < <(compgen "$@" -- "${COMP_WORDS[COMP_CWOR
 # By the command and the place of the word: a folder, a number or an identifier, or a file.
 _lpis() {
   if [[ $COMP_CWORD -eq 1 ]]; then
-    _lpis_files -W 'area cut check exact publish trace --help --version'
+    _lpis_files -W 'area cut check country exact publish trace --help --version'
     return
   fi
   case ${COMP_WORDS[1]-}-$COMP_CWORD in
     cut-2 | check-2 | exact-3 | publish-4) _lpis_files -d ;;
+    country-*) _lpis_options '--parcels' -d ;;
     publish-3 | trace-3) COMPREPLY=() ;;
     *) _lpis_files -f ;;
   esac
 }
 
-# The options of a tool, or files.
+# The options of a tool or a command, or files; with -d folders alone.
 _lpis_options() {
   if [[ ${COMP_WORDS[COMP_CWORD]} == -* ]]; then
     _lpis_files -W "$1"
   else
-    _lpis_files -f
+    _lpis_files "${2--f}"
   fi
 }
 

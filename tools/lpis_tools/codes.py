@@ -162,6 +162,22 @@ REGISTERS = {
     "85": ("the certificate does not show that a marked split or merge is exact; a second code follows", "see codes 6a to 6d", "see codes 6a to 6d"),
 }
 
+COUNTRIES = {
+    "90": ("this line cannot stand here in country.txt: it is none of `region`, `x` and `y`, its number or name is none, or a line is missing or too many",
+           "a name with a blank or a dot, a name twice, Windows line ends, a last line without its line feed, more than 10,000 regions",
+           "write country.txt as docs/FORMATS.md has it, and name each folder by 1 to 100 of `a-z A-Z 0-9 _ -`"),
+    "92": ("this parcel of the region's table does not meet the region's rectangle", "a parcel in the wrong folder, or country.txt with its cuts exchanged",
+           "give each region the parcels whose boxes meet its rectangle, and no others"),
+    "93": ("this identifier stood in an earlier region, for a parcel that does not reach this one", "two regions that number their parcels alike",
+           "give identifiers that differ over the whole country"),
+    "94": ("this parcel stood in an earlier region with another polygon or other pieces", "the regions were exported on different days, rounded apart, or in another order of rows",
+           "export all regions from one table, rounded once, with rows in one order"),
+    "95": ("this parcel meets the region's rectangle, and its table does not have it", "a parcel on a seam that was given to one region alone",
+           "give a parcel to each region whose rectangle its box meets"),
+    "96": ("the region's table of classes is not that of the country, from this row on", "a class that was added to one region, or rows in another order",
+           "copy the country's classes.csv into each region"),
+}
+
 FAILURES = {
     "memory": "there was not enough memory; nothing was decided",
     "read": "an input could not be opened or read, or is longer than 1 GiB; nothing was decided",
@@ -172,11 +188,11 @@ FAILURES = {
 GROUPS = [
     ("Polygon texts (reported behind 38)", POLYGON_TEXTS), ("Tables", TABLES), ("Cutting", CUTS), ("Certificate texts", CERTIFICATE_TEXTS),
     ("Certificates", CERTIFICATES), ("Lineage (reported behind 81)", LINEAGES), ("Exact lineage (reported behind 85)", EXACTS),
-    ("The register", REGISTERS),
+    ("The register", REGISTERS), ("A country", COUNTRIES),
 ]
 CODES = {code: words for _, group in GROUPS for code, words in group.items()}
 
-REFUSED_BY_THE_GATE = {*CUTS, *CERTIFICATES, "80", "81", "83", "85"}
+REFUSED_BY_THE_GATE = {*CUTS, *CERTIFICATES, "80", "81", "83", "85", "92", "93", "94", "95", "96"}
 BEHIND = {"38": POLYGON_TEXTS, "81": LINEAGES, "85": EXACTS}  # the codes that stand behind one
 
 
