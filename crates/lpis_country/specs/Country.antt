@@ -5,14 +5,14 @@ use Rattle.lpis_covers.specs.declared.class.Class.{Class}
 use Rattle.lpis_covers.specs.declared.piece.Piece.{Piece}
 use Rattle.lpis_covers.specs.Ids.{has_id, same_id}
 use Rattle.lpis_parcels.specs.declared.parcel.Parcel.{Parcel}
-use Rattle.lpis_parcels.specs.Release.{Contents, names, parcel_ids}
+use Rattle.lpis_parcels.specs.Release.{Contents, names_parcel, parcel_ids}
 use Rattle.lpis_country.specs.Polygons.{HasClosedRings}
 
 -- no identifier of a parcel stands twice, each piece names a parcel that is there, and the rings
 -- are closed
 pub record IsRegion (r : Contents) : Type 0 where
   pub distinct : IsDistinct same_id (parcel_ids r.parcels)
-  pub named : All (λ (x : Piece). Any (λ (k : Parcel). IsTrue (names k.id x)) r.parcels) r.pieces
+  pub named : All (λ (x : Piece). Any (λ (k : Parcel). IsTrue (names_parcel k.id x)) r.parcels) r.pieces
   pub closed : All (λ (k : Parcel). HasClosedRings k.polygon) r.parcels
 
 -- the country has no parcel of this identifier
