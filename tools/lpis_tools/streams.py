@@ -108,6 +108,7 @@ def box_of(text):
     try:
         values = list(map(float, words[1:]))
         xs, ys = values[0::2], values[1::2]
+        round(sum(values))  # which no infinity and no `nan` stands
         box = tuple(round(value * 1000) for value in (min(xs), min(ys), max(xs), max(ys)))
     except (ValueError, OverflowError):
         return None
