@@ -1,0 +1,5 @@
+pub mod ListLemmas
+pub mod BoxLemmas
+pub mod SideLemmas
+pub mod OutsideLemmas
+pub mod TileLemmas

@@ -12,7 +12,8 @@ use Rattle.lpis_country.specs.Polygons.{HasClosedRings}
 -- are closed
 pub record IsRegion (r : Contents) : Type 0 where
   pub distinct : IsDistinct same_id (parcel_ids r.parcels)
-  pub named : All (λ (x : Piece). Any (λ (k : Parcel). IsTrue (names_parcel k.id x)) r.parcels) r.pieces
+  pub named : All (λ (x : Piece). Any (λ (k : Parcel). IsTrue (names_parcel k.id x)) r.parcels)
+      r.pieces
   pub closed : All (λ (k : Parcel). HasClosedRings k.polygon) r.parcels
 
 -- the country has no parcel of this identifier

@@ -1,6 +1,6 @@
 -- When a region fits to those before it.
-use Rattle.std.specs.Prelude.{◌≡◌, ℕ, false, List, ◌∷◌, ◌++◌, length, take, All, Some, slice_get, IsTrue}
-use Rattle.std.specs.Prelude.{Contains as IsAmong}
+use Rattle.std.specs.Prelude.{◌≡◌, ℕ, false, List, ◌∷◌, ◌++◌, length, take, All, Some, slice_get}
+use Rattle.std.specs.Prelude.{IsTrue, Contains as IsAmong}
 use Rattle.lpis_points.specs.declared.boxes.Box4.{Box4}
 use Rattle.lpis_covers.specs.declared.class.Class.{Class}
 use Rattle.lpis_covers.specs.Ids.{has_id}

@@ -10,13 +10,13 @@ use Rattle.lpis_country.specs.Polygons.{box_of_members}
 -- one tile, or two parts that a line of one x, or of one y, keeps apart: the part left of the line,
 -- or below it, and the part from it on
 pub data Tiling : Type 0 where
-  tile : Tiling
+  one_tile : Tiling
   cut_x : ℤ → Tiling → Tiling → Tiling
   cut_y : ℤ → Tiling → Tiling → Tiling
 
 -- the tiles of a rectangle that is cut in this way, in the order of their regions
 abbrev pub rectangles : Tiling → Box4 → List Box4
-rectangles tile b = b ∷ []
+rectangles one_tile b = b ∷ []
 rectangles (cut_x c s t) b =
     rectangles s (record { x0 = b.x0; y0 = b.y0; x1 = int_min b.x1 c; y1 = b.y1 })
     ++ rectangles t (record { x0 = int_max b.x0 c; y0 = b.y0; x1 = b.x1; y1 = b.y1 })
