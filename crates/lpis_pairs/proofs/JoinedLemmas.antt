@@ -1,7 +1,7 @@
 -- The pairs that a sweep has joined so far.
 use Rattle.std.proofs.Common.{◌≡◌, ℕ, ◌+◌, ◌<◌, ◌≤◌, true, ◌||◌, List, [], length, Some, ◌⊎◌, inl, inr, ap, sym, ◌∙◌, subst, arith, Contains, slice_get}
 use Rattle.lpis_pairs.proofs.Common.{same_Some, slice_get_within, Triangle, Event, IsNear, AreInOrder, AreNear, Joins}
-use Rattle.lpis_pairs.specs.private.Sweeping.{right_end, starts}
+use Rattle.lpis_pairs.specs.private.Sweeping.{GrowNear, right_end, starts}
 use Rattle.std.proofs.lemmas.List.Elements.{All-nil}
 
 -- each pair of the first list is in the second
@@ -10,32 +10,33 @@ Keeps ps qs = (p : ℕ × ℕ) → Contains ps p → Contains qs p
 
 -- what stands behind the event `at` and before m is joined with it
 pub record JoinsUpTo (ts : List Triangle) (height : ℕ) (es : List Event) (old new : List (ℕ × ℕ)) (at m : ℕ) : Type 0 where
-  pub kept : Keeps old new
-  pub near : AreNear ts old → AreNear ts new
+  pub grows : GrowNear ts old new
   pub found : (k : ℕ) → at < k → k < m → Joins ts height es new at k
+
+-- the same pairs are none more
+pub grows_by_nothing : (ts : List Triangle) (ps : List (ℕ × ℕ)) → GrowNear ts ps ps
+grows_by_nothing ts ps = record { kept = λ p h. h; near = λ h. h }
 
 joins_kept : (ts : List Triangle) (height : ℕ) (es : List Event) (ps qs : List (ℕ × ℕ)) (k m : ℕ) → Keeps ps qs → Joins ts height es ps k m → Joins ts height es qs k m
 joins_kept ts height es ps qs k m h j = λ e f g i s l o. let r = j e f g i s l o in (λ n. h _ (r.0 n), λ n. h _ (r.1 n))
 
 pub nothing_joined : (ts : List Triangle) (height : ℕ) (es : List Event) (ps : List (ℕ × ℕ)) (at : ℕ) → JoinsUpTo ts height es ps ps at (at + 1)
 nothing_joined ts height es ps at = record {
-  kept = λ p h. h;
-  near = λ h. h;
+  grows = grows_by_nothing ts ps;
   found = λ k l m. absurd (omega arith);
 }
 
 -- the event m is joined, where it has to be
 pub joined_next : (ts : List Triangle) (height : ℕ) (es : List Event) (old ps qs : List (ℕ × ℕ)) (at m : ℕ)
-    → JoinsUpTo ts height es old ps at m → Keeps ps qs → (AreNear ts ps → AreNear ts qs) → Joins ts height es qs at m
+    → JoinsUpTo ts height es old ps at m → GrowNear ts ps qs → Joins ts height es qs at m
     → JoinsUpTo ts height es old qs at (m + 1)
-joined_next ts height es old ps qs at m h k n j = record {
-  kept = λ p c. k p (h.kept p c);
-  near = λ a. n (h.near a);
+joined_next ts height es old ps qs at m h g j = record {
+  grows = record { kept = λ p c. g.kept p (h.grows.kept p c); near = λ a. g.near (h.grows.near a) };
   found = λ i l r. by_case i l (grind arith);
 }
   where
     by_case : (i : ℕ) → at < i → (i < m) ⊎ (i ≡ m) → Joins ts height es qs at i
-    by_case i l (inl r) = joins_kept ts height es ps qs at i k (h.found i l r)
+    by_case i l (inl r) = joins_kept ts height es ps qs at i g.kept (h.found i l r)
     by_case i l (inr e) = subst (λ (v : ℕ). Joins ts height es qs at v) (sym e) j
 
 -- the two events, as the code reads them
@@ -102,15 +103,15 @@ joins_none ts height es ps e = record {
 }
 
 pub joins_one_more : (ts : List Triangle) (height : ℕ) (es : List Event) (ps qs : List (ℕ × ℕ)) (n : ℕ) → JoinsBelow ts height es ps n
-    → Keeps ps qs → (AreNear ts ps → AreNear ts qs) → ((m : ℕ) → n < m → Joins ts height es qs n m)
+    → GrowNear ts ps qs → ((m : ℕ) → n < m → Joins ts height es qs n m)
     → JoinsBelow ts height es qs (n + 1)
-joins_one_more ts height es ps qs n h k a j = record {
-  near = a h.near;
+joins_one_more ts height es ps qs n h g j = record {
+  near = g.near h.near;
   found = λ i m l r. by_case i m r (grind arith);
 }
   where
     by_case : (i m : ℕ) → i < m → (i < n) ⊎ (i ≡ n) → Joins ts height es qs i m
-    by_case i m r (inl l) = joins_kept ts height es ps qs i m k (h.found i m l r)
+    by_case i m r (inl l) = joins_kept ts height es ps qs i m g.kept (h.found i m l r)
     by_case i m r (inr e) = subst (λ (v : ℕ). Joins ts height es qs v m) (sym e) (j m (subst (λ (v : ℕ). v < m) e r))
 
 pub joins_all : (ts : List Triangle) (height : ℕ) (es : List Event) (ps : List (ℕ × ℕ)) (n : ℕ) → length es ≤ n → JoinsBelow ts height es ps n → (k m : ℕ) → k < m → Joins ts height es ps k m

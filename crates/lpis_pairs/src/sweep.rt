@@ -3,7 +3,7 @@
 ghost use Rattle.std.specs.Prelude.{◌≡◌, ◌↔◌, ℕ, ◌<◌, ◌||◌, IsTrue, Contains, IfOk, OnOk, Some};
 ghost use Rattle.std.specs.Prelude.{length};
 ghost use Rattle.lpis_pairs.specs.NearPairs.{IsNear};
-ghost use Rattle.lpis_pairs.specs.private.Sweeping.{AreEvents, AreInOrder, AreNear, Joins};
+ghost use Rattle.lpis_pairs.specs.private.Sweeping.{AreNear, AreSwept, GrowNear, Joins};
 ghost use Rattle.lpis_pairs.specs.private.Sweeping.{is_lowest as is_lowest_spec};
 ghost use Rattle.lpis_pairs.specs.private.Sweeping.{starts as starts_spec};
 
@@ -31,8 +31,7 @@ fn push_near(
 ) -> Result<(), AllocError>
     requires first { i < length triangles.now }
     requires second { j < length triangles.now }
-    ensures kept { (pair : ℕ × ℕ) → Contains pairs.old.items pair → Contains pairs.new.items pair }
-    ensures near { AreNear triangles.now pairs.old.items → AreNear triangles.now pairs.new.items }
+    ensures grows { GrowNear triangles.now pairs.old.items pairs.new.items }
     ensures up { OnOk result (IsNear triangles.now i j → Contains pairs.new.items (i, j)) }
     ensures down { OnOk result (IsNear triangles.now j i → Contains pairs.new.items (j, i)) }
 {
@@ -89,11 +88,8 @@ fn join_ahead(
     pairs: &mut Vec<(u32, u32)>,
 ) -> Result<(), AllocError>
     requires within { at < length events.now }
-    requires strips { 0 < height }
-    requires events { AreEvents triangles.now events.now }
-    requires order { AreInOrder events.now }
-    ensures kept { (pair : ℕ × ℕ) → Contains pairs.old.items pair → Contains pairs.new.items pair }
-    ensures near { AreNear triangles.now pairs.old.items → AreNear triangles.now pairs.new.items }
+    requires swept { AreSwept triangles.now height events.now }
+    ensures grows { GrowNear triangles.now pairs.old.items pairs.new.items }
     ensures found { OnOk result ((m : ℕ) → at < m → Joins triangles.now height events.now
         pairs.new.items at m) }
 {
@@ -119,9 +115,7 @@ fn join(
     height: u32,
     events: &[Event],
 ) -> Result<Vec<(u32, u32)>, AllocError>
-    requires strips { 0 < height }
-    requires events { AreEvents triangles.now events.now }
-    requires order { AreInOrder events.now }
+    requires swept { AreSwept triangles.now height events.now }
     ensures near { IfOk result (λ pairs. AreNear triangles.now pairs.items) }
     ensures found { IfOk result (λ pairs. (k m : ℕ) → k < m → Joins triangles.now height events.now
         pairs.items k m) }

@@ -62,3 +62,14 @@ Joins ts height es ps k m =
 -- each listed pair is near
 abbrev pub AreNear : List Triangle → List (ℕ × ℕ) → Type 0
 AreNear ts ps = All (λ (p : ℕ × ℕ). IsNear ts p.0 p.1) ps
+
+-- the listed pairs became more, and near ones alone came to them
+pub record GrowNear (ts : List Triangle) (old new : List (ℕ × ℕ)) : Type 0 where
+  pub kept : (pair : ℕ × ℕ) → Contains old pair → Contains new pair
+  pub near : AreNear ts old → AreNear ts new
+
+-- the events of triangles in strips of a height stand in order
+pub record AreSwept (ts : List Triangle) (height : ℕ) (es : List Event) : Type 0 where
+  pub strips : 0 < height
+  pub events : AreEvents ts es
+  pub order : AreInOrder es

@@ -1,19 +1,21 @@
 use Rattle.std.proofs.Common.{ℕ, ◌<◌, List, sym, subst}
-use Rattle.lpis_pairs.proofs.Common.{Event, AreEvents, AreInOrder, Joins}
+use Rattle.lpis_pairs.proofs.Common.{Event, Joins}
 use Rattle.std.proofs.lemmas.List.Sorted.{All-permutation}
-use Rattle.lpis_pairs.specs.private.Sweeping.{IsEvent}
+use Rattle.lpis_pairs.specs.private.Sweeping.{AreSwept, IsEvent}
 use Rattle.lpis_pairs.proofs.OrderedLemmas.{in_order}
 use Rattle.lpis_pairs.proofs.FoundLemmas.{finds, near_list}
 use Rattle.lpis_pairs.proofs.sweep.SweepPairSource.pairs.Goals as goal
 
-pub join-requires-clause-events : goal.join-requires-clause-events
-join-requires-clause-events c =
+pub join-requires : goal.join-requires
+join-requires c =
     let ts = c.args.triangles.now in
-    subst (λ (es : List Event). AreEvents ts es) (sym c.deref.ensures.value) (All-permutation (IsEvent ts) _ _ c.sort_unstable.ensures.permutation c.in_ok-events.ensures.only)
-
-pub join-requires-clause-order : goal.join-requires-clause-order
-join-requires-clause-order c =
-    subst AreInOrder (sym c.deref.ensures.value) (in_order _ c.sort_unstable.ensures.sorted)
+    record {
+      swept = subst (λ (es : List Event). AreSwept ts c.strip_height-height.result es) (sym c.deref.ensures.value) (record {
+        strips = c.strip_height-height.ensures;
+        events = All-permutation (IsEvent ts) _ _ c.sort_unstable.ensures.permutation c.in_ok-events.ensures.only;
+        order = in_order _ c.sort_unstable.ensures.sorted;
+      });
+    }
 
 pub returns : goal.returns
 returns c =
