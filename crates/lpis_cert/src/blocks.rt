@@ -14,7 +14,7 @@ ghost use Rattle.lpis_cert.specs.declared.kind.Expected.TheVariants.{Block};
 ghost use Rattle.lpis_cert.specs.private.Taken.{ReadsLines, FaultFrom};
 ghost use Rattle.lpis_cert.specs.Contents.{content_of};
 ghost use Rattle.lpis_cert.specs.private.Drafts.{DraftGrown, Progressed, Whole, draft_state};
-ghost use Rattle.lpis_cert.specs.private.Drafts.{draft_lines, flats_line, OneMore};
+ghost use Rattle.lpis_cert.specs.private.Drafts.{HasParts, draft_lines, flats_line, OneMore};
 
 use crate::cert::{Cert, MOST_FLATS, MOST_TRIANGLES};
 use crate::draft::{Draft, Progress};
@@ -79,10 +79,7 @@ fn cert_of(
     requires flats_few { sum_by (λ p. length p.flats) pieces.items + sum_by (λ p. length p.flats)
         parcels.items + sum_by (λ b. length b.flats) exact.items ≤ most_flats }
     requires pairs_few { length pairs.items ≤ greatest_count }
-    ensures pieces { result.pieces ≡ pieces.items }
-    ensures parcels { result.parcels ≡ parcels.items }
-    ensures exact { result.exact ≡ exact.items }
-    ensures pairs { result.pairs ≡ pairs.items }
+    ensures parts { HasParts result pieces.items parcels.items exact.items pairs.items }
 {
     Cert {
         pieces: Sequence::new(pieces),

@@ -7,8 +7,11 @@ use Rattle.lpis_cert.specs.declared.draft.Draft.{Draft}
 use Rattle.lpis_cert.specs.declared.draft.Progress.{Progress}
 use Rattle.lpis_cert.specs.declared.draft.Progress.TheVariants.{More, Done}
 use Rattle.lpis_points.specs.declared.triangle.Triangle.{Triangle}
+use Rattle.lpis_cert.specs.declared.cert.Cert.{Cert}
+use Rattle.lpis_cert.specs.declared.part.PiecePart.{PiecePart}
 use Rattle.lpis_cert.specs.declared.part.ParcelPart.{ParcelPart}
 use Rattle.lpis_cert.specs.declared.part.ExactBlock.{ExactBlock}
+use Rattle.lpis_cert.specs.declared.part.PairLine.{PairLine}
 use Rattle.lpis_cert.specs.declared.kind.Stage.{Stage}
 use Rattle.lpis_cert.specs.declared.kind.Stage.TheVariants as stage
 use Rattle.lpis_cert.specs.declared.head.Owner.{Owner}
@@ -93,3 +96,11 @@ abbrev pub Progressed : Draft → Progress → List ℕ → ℕ → Type 0
 Progressed old (More new rest) text n = DraftGrown old new text n rest.text.now rest.line
 Progressed old (Done cert) text n = Whole old.version (draft_lines old)
     (content_lines (content_of cert)) text
+
+-- a certificate consists of these
+pub record HasParts (c : Cert) (pieces : List PiecePart) (parcels : List ParcelPart)
+    (exact : List ExactBlock) (pairs : List PairLine) : Type 0 where
+  pub pieces_are : c.pieces ≡ pieces
+  pub parcels_are : c.parcels ≡ parcels
+  pub exact_is : c.exact ≡ exact
+  pub pairs_are : c.pairs ≡ pairs

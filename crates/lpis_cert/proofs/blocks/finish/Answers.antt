@@ -42,8 +42,8 @@ returns-clause-ok c =
     let rest = c.in_ok-rest.rest in
     let len = length-map ps separator_of ∙ c.in_ok-pairs.ensures.count in
     let none : length rest.text.now ≡ 0 = grind (arith, nat_tests) in
-    whole_cert d.version c.cert_of.result d.pieces.items d.parcels.items d.exact.items ps _ _ (c.cert_of.ensures.pieces
-    ∙ c.in_ok-pieces.ensures) (c.cert_of.ensures.parcels ∙ c.in_ok-parcels.ensures) (c.cert_of.ensures.exact ∙ c.in_ok-exact.ensures) c.cert_of.ensures.pairs
+    whole_cert d.version c.cert_of.result d.pieces.items d.parcels.items d.exact.items ps _ _ (c.cert_of.ensures.parts.pieces_are
+    ∙ c.in_ok-pieces.ensures) (c.cert_of.ensures.parts.parcels_are ∙ c.in_ok-parcels.ensures) (c.cert_of.ensures.parts.exact_is ∙ c.in_ok-exact.ensures) c.cert_of.ensures.parts.pairs_are
     (whole_of (map block_of_piece d.pieces.items) (map block_of_parcel d.parcels.items) (map exact_of d.exact.items) (map separator_of ps)
     (pairs_follow (map separator_of ps) len c.requires
     c.in_ok-pairs.ensures.ok c.in_ok-rest.ensures)
