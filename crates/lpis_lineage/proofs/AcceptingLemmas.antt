@@ -40,7 +40,8 @@ first-before : (xs ys : List LineageFault) (e : LineageFault) → first xs ≡ S
 first-before [] ys e t = cc t
 first-before (x ∷ xs) ys e t = t
 
-pub before-marks : (h : List Entry) (live : List (List ℕ)) (rows : List Row) (e : LineageFault) → (e ≡ Memory) ⊎ (first (faults_but_marks h live rows) ≡ Some e) → (e ≡ Memory) ⊎ (first (faults h live rows) ≡ Some e)
+pub before-marks : (h : List Entry) (live : List (List ℕ)) (rows : List Row) (e : LineageFault) → (e ≡ Memory) ⊎ (first (faults_but_marks h live rows) ≡ Some e)
+    → (e ≡ Memory) ⊎ (first (faults h live rows) ≡ Some e)
 before-marks h live rows e (inl m) = inl m
 before-marks h live rows e (inr t) = inr (first-before (faults_but_marks h live rows) _ e t)
 

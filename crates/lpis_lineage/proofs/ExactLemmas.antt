@@ -100,7 +100,9 @@ single p (t ∷ []) s e few = (refl, by (same_id s t) refl e)
         plain true = refl
         plain false = refl
     by false q e = cc e
-single p (t ∷ (u ∷ us)) s e few = absurd (let n : 1 < length (t ∷ (u ∷ us)) = omega arith in (let y : nat_lt 1 (length (t ∷ (u ∷ us))) ≡ true = grind (arith, nat_tests) in let z : true ≡ false = sym y ∙ few in cc z))
+single p (t ∷ (u ∷ us)) s e few = absurd (
+    let n : 1 < length (t ∷ (u ∷ us)) = omega arith in
+    let y : nat_lt 1 (length (t ∷ (u ∷ us))) ≡ true = grind (arith, nat_tests) in let z : true ≡ false = sym y ∙ few in cc z)
 
 one_few : (n : ℕ) → n ≡ 1 → nat_lt 1 n ≡ false
 one_few n e = grind (arith, nat_tests)
@@ -160,7 +162,8 @@ kinds-tell-splits h live rows none id = (to, from)
     unshared e = λ k d l.
         let s = get_or (successors rows id) k d in
         let there : has_id (successors rows id) s ≡ true = list_any_at (same_id s) (successors rows id) k d l (same-refl s) in
-        one (predecessors (last_live h) live rows s) (has-predecessor (last_live h) live rows id s there) (elim (cases_Bool (nat_lt 1 (predecessors (last_live h) live rows s))) as (λ _. nat_lt 1 (predecessors (last_live h) live rows s) ≡ false) [
+        let n = predecessors (last_live h) live rows s in
+        one n (has-predecessor (last_live h) live rows id s there) (elim (cases_Bool (nat_lt 1 n)) as (λ _. nat_lt 1 n ≡ false) [
           | inl t ↦ absurd (let x = sym (list_any_at (λ z. nat_lt 1 (predecessors (last_live h) live rows z)) (successors rows id) k d l t) ∙ e in cc x)
           | inr f ↦ f
         ])

@@ -194,7 +194,9 @@ marks-more h e fit f i =
             subst (λ (x : Entry). Marked x (entry_at (h ++ e ∷ []) (i + 1))) (sym (entry-before h e i il))
             (subst (λ (x : Entry). Marked (entry_at h i) x) (sym (entry-at h e (i + 1) at))
             (subst (λ (l : List (List ℕ)). MarksHold l e.live e.rows) (sym (last-at h i at)) f.marked))
-        | inr c ↦ beyond (h ++ e ∷ []) (i + 1) (omega (arith, n)) (is_outside (kind (entry_at (h ++ e ∷ []) i).live (entry_at (h ++ e ∷ []) (i + 1)).live (entry_at (h ++ e ∷ []) (i + 1)).rows) (entry_at (h ++ e ∷ []) (i + 1)).rows)
+        | inr c ↦
+            let next = entry_at (h ++ e ∷ []) (i + 1) in
+            beyond (h ++ e ∷ []) (i + 1) (omega (arith, n)) (is_outside (kind (entry_at (h ++ e ∷ []) i).live next.live next.rows) next.rows)
       ]
     ]
 

@@ -1,11 +1,8 @@
 -- The spans of a lawful history tell each release's set.
 use Rattle.std.proofs.Common.{◌≡◌, ◌∙◌, ◌<◌, ◌≤◌, inl, inr, refl, sym, ap, arith, ℕ, zero, suc, List, [], ◌∷◌, length, Bool, true, false, Option, None, Some, cond, is_some, ◌&&◌, ◌||◌, nat_le, nat_eq}
-use Rattle.std.proofs.Common.{filter}
-use Rattle.lpis_lineage.proofs.Common.{nat_tests, option_or, Entry, has_id, holds, entry_at, last_live, IsLawful, cases_Bool, Span, first_held, last_held, span_between, span_of, live_in}
-use Rattle.std.proofs.Math.Bool.{and-false}
+use Rattle.lpis_lineage.proofs.Common.{nat_tests, option_or, Entry, has_id, holds, entry_at, last_live, IsLawful, cases_Bool, Span, first_held, last_held, span_between, span_of}
 use Rattle.lpis_lineage.proofs.CleanLemmas.{held-some}
-use Rattle.lpis_lineage.specs.Spans.{in_span, ids_of, AreSpansOf}
-use Rattle.lpis_lineage.proofs.PickingLemmas.{has-filter}
+use Rattle.lpis_lineage.specs.Spans.{in_span}
 use Rattle.lpis_lineage.proofs.IdentifierLemmas.{in-history}
 use Rattle.lpis_lineage.proofs.ExtensionLemmas.{before-at-after, last-some}
 
@@ -125,20 +122,3 @@ span-tells h law id s e i lt = by (first_held h id) refl (last_held h id) refl e
   by : (f : Option ℕ) → f ≡ first_held h id → (l : Option ℕ) → l ≡ last_held h id → span_between f l (has_id (last_live h) id) ≡ Some s → in_span s (entry_at h i).year ≡ holds h i id
   by (Some f) ef (Some l) el e = ap (λ (t : Span). in_span t (entry_at h i).year) (sym (some-eq _ _ e)) ∙ span-law h law id f l (sym ef) (sym el) i lt
   by _ ef _ el e = absurd cc
-
--- the identifiers whose span holds a release's year are those of the spans' that the release holds
-live-in-held : (h : List Entry) → IsLawful h → (spans : List (List ℕ × Span)) → AreSpansOf h spans → (i : ℕ)
-    → i < length h → live_in spans (entry_at h i).year ≡ filter (λ id. holds h i id) (ids_of spans)
-live-in-held h law [] are i lt = refl
-live-in-held h law (p ∷ ps) are i lt =
-    ap (λ (b : Bool). cond b (p.0 ∷ live_in ps (entry_at h i).year) (live_in ps (entry_at h i).year)) (span-tells h law p.0 p.1 are.0 i lt)
-    ∙ ap (λ (l : List (List ℕ)). cond (holds h i p.0) (p.0 ∷ l) l) (live-in-held h law ps are.1 i lt)
-
-pub live-in-law : (h : List Entry) (spans : List (List ℕ × Span)) → IsLawful h → AreSpansOf h spans
-    → ((id : List ℕ) (i : ℕ) → holds h i id ≡ true → has_id (ids_of spans) id ≡ true) → (i : ℕ) → i < length h
-    → (id : List ℕ) → has_id (live_in spans (entry_at h i).year) id ≡ holds h i id
-live-in-law h spans law are whole i lt id =
-    ap (λ (l : List (List ℕ)). has_id l id) (live-in-held h law spans are i lt) ∙ has-filter (λ q. holds h i q) (ids_of spans) id ∙ by (holds h i id) refl where
-      by : (b : Bool) → b ≡ holds h i id → (has_id (ids_of spans) id && holds h i id) ≡ holds h i id
-      by true e = ap (λ (t : Bool). t && holds h i id) (whole id i (sym e))
-      by false e = ap (λ (t : Bool). has_id (ids_of spans) id && t) (sym e) ∙ and-false (has_id (ids_of spans) id) ∙ e

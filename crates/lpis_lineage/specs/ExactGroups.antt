@@ -62,7 +62,7 @@ abbrev pub MarksHold : (last live : List (List ℕ)) → List Row → Type 0
 MarksHold last live rows = list_any (is_outside (kind last live rows) rows) rows ≡ false
 
 -- ---- the groups
--- a predecessor of a successor: some row leads from it, or it is the successor itself, which is kept
+-- a predecessor of a successor: some row leads from it, or it is the successor, which is kept
 abbrev pub leads_into : (List ℕ → Option Kind) → List Row → List ℕ → List ℕ → Bool
 leads_into kind_of rows s q = list_any (leads q s) rows || (same_id q s && is_kept (kind_of q))
 

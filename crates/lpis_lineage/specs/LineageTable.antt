@@ -45,8 +45,8 @@ row_of row = record {
   exact = unwrap_or (mark_of_text (field_of row 2)) false;
 }
 
--- a row has an old identifier, a new one or none, and a mark, which is empty where the column `exact`
--- is absent
+-- a row has an old identifier, a new one or none, and a mark, which is empty where the column
+-- `exact` is absent
 abbrev pub lineage_table : RowsOf Row
 lineage_table = record {
   table = Lineage;

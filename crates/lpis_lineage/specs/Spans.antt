@@ -36,13 +36,3 @@ in_span s year = nat_le s.first year && (nat_eq s.last 0 || nat_le year s.last)
 abbrev pub live_in : List (List ℕ × Span) → ℕ → List (List ℕ)
 live_in [] year = []
 live_in (p ∷ ps) year = cond (in_span p.1 year) (p.0 ∷ live_in ps year) (live_in ps year)
-
--- each of these pairs is an identifier with its span
-abbrev pub AreSpansOf : List Entry → List (List ℕ × Span) → Type 0
-AreSpansOf h [] = Unit {0}
-AreSpansOf h (p ∷ ps) = (span_of h p.0 ≡ Some p.1) × AreSpansOf h ps
-
--- the identifiers of such pairs
-abbrev pub ids_of : List (List ℕ × Span) → List (List ℕ)
-ids_of [] = []
-ids_of (p ∷ ps) = p.0 ∷ ids_of ps

@@ -123,7 +123,8 @@ fn find_used(history: &History, ids: &[Id]) -> Result<(), LineageFault>
 ///
 /// Else the first fault: row by row, in a row in the order of `LineageFault`'s variants; then the
 /// dropped identifiers without a row, ascending; then the identifiers of `live` that were used
-/// before, in its order.
+/// before, in its order; then the marked rows that belong to no split or merge of which each row is
+/// marked.
 pub fn accept(
     alloc: Global,
     history: &History,

@@ -6,8 +6,7 @@ ghost use Rattle.std.specs.HashMap.{get};
 ghost use Rattle.std.specs.List.{list_any};
 ghost use Rattle.lpis_covers.specs.Ids.{has_id, same_id};
 ghost use Rattle.lpis_lineage.specs.Changes.{IsChange, kind_at};
-ghost use Rattle.lpis_lineage.specs.ExactGroups.{AreExactGroups, is_kept as is_kept_spec};
-ghost use Rattle.lpis_lineage.specs.ExactGroups.{group_name};
+ghost use Rattle.lpis_lineage.specs.ExactGroups.{AreExactGroups, group_name, is_kept};
 ghost use Rattle.lpis_lineage.specs.Lineage.{names_successor};
 ghost use Rattle.lpis_lineage.specs.Order.{IsAscending};
 ghost use Rattle.lpis_lineage.specs.declared.row.Row.{Row};
@@ -38,8 +37,8 @@ pub struct Group {
 }
 
 /// Whether an identifier is kept.
-fn is_kept(change: &Change, id: &Id) -> bool
-    ensures { result ≡ is_kept_spec (kind_at change.now id.now) }
+fn was_kept(change: &Change, id: &Id) -> bool
+    ensures { result ≡ is_kept (kind_at change.now id.now) }
 {
     match change.kind_of(id) {
         Some(Kind::Kept) => true,
@@ -67,7 +66,8 @@ fn note_pair(
     other: &Id,
 ) -> Result<(), AllocError>
     ensures { OnOk result ((q x : List ℕ) → has_id (set_in (get same_id sets.new q)) x
-        ≡ (has_id (set_in (get same_id sets.old q)) x || (same_id q id.now && same_id x other.now))) }
+        ≡ (has_id (set_in (get same_id sets.old q)) x
+        || (same_id q id.now && same_id x other.now))) }
 {
     let mut set = take_set(alloc, sets, id);
     let added = other.copy()?;
@@ -98,7 +98,7 @@ fn note_row(
                 return Ok(());
             }
             note_pair(alloc, sets, heir, &row.old)?;
-            if is_kept(change, heir) {
+            if was_kept(change, heir) {
                 note_pair(alloc, sets, heir, heir)?;
             }
             Ok(())

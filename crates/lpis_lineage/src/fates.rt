@@ -4,9 +4,9 @@ ghost use Rattle.std.specs.Prelude.{◌≡◌, ◌++◌, ◌∷◌, ℕ, List, [
 ghost use Rattle.lpis_lineage.specs.declared.row.Row.{Row};
 ghost use Rattle.lpis_covers.specs.Ids.{has_id};
 ghost use Rattle.lpis_lineage.specs.Lineage.{is_this};
-ghost use Rattle.lpis_lineage.specs.Kinds.{heirs, kind, by_counts as counted};
+ghost use Rattle.lpis_lineage.specs.Kinds.{by_counts, heirs, kind};
 ghost use Rattle.lpis_lineage.specs.private.Tally.{IsTally};
-ghost use Rattle.lpis_lineage.specs.private.Fates.{AreFates, is_shared as shared_by};
+ghost use Rattle.lpis_lineage.specs.private.Fates.{AreFates, is_shared};
 
 use crate::id_set::IdSet;
 use crate::kind::Kind;
@@ -24,9 +24,9 @@ pub(crate) struct Fates {
 }
 
 /// Whether a successor has several predecessors.
-fn is_shared(last: &IdSet, live: &IdSet, named: &Tally, heir: &Id) -> bool
+fn shares(last: &IdSet, live: &IdSet, named: &Tally, heir: &Id) -> bool
     ensures { (all : List Row) → IsTally named.now (heirs all) → has_id (heirs all) heir.now ≡ true
-        → result ≡ shared_by last.now live.now all heir.now }
+        → result ≡ is_shared last.now live.now all heir.now }
 {
     let twice = named.twice.contains(heir);
     let was = last.contains(heir);
@@ -47,12 +47,12 @@ pub(crate) fn kind_of(live: &IdSet, fates: &Fates, id: &Id) -> Kind
     }
     let several = fates.olds.twice.contains(id);
     let shared = fates.shared.contains(id);
-    by_counts(several, shared)
+    counted(several, shared)
 }
 
 /// The kind of a dropped identifier with successors.
-fn by_counts(several: bool, shared: bool) -> Kind
-    ensures { result ≡ counted several shared }
+fn counted(several: bool, shared: bool) -> Kind
+    ensures { result ≡ by_counts several shared }
 {
     if several {
         if shared { Kind::Redrawn } else { Kind::Split }
@@ -84,7 +84,7 @@ fn note_row(
         }
         Some(heir) => {
             fates.olds.note(&row.old)?;
-            if is_shared(last, live, named, heir) {
+            if shares(last, live, named, heir) {
                 let old = row.old.copy()?;
                 fates.shared.add(old)?;
                 Ok(())

@@ -1,7 +1,6 @@
 //! Laws of the definitions: functions that do nothing, and whose contracts say them.
 
-ghost use Rattle.std.specs.Prelude.{◌≡◌, ◌<◌, ℕ, List, [], length, None, Some, true, false};
-ghost use Rattle.lpis_covers.specs.Ids.{has_id};
+ghost use Rattle.std.specs.Prelude.{◌≡◌, ℕ, List, [], None, Some, true, false};
 ghost use Rattle.lpis_lineage.specs.declared.fault.LineageFault.{LineageFault};
 ghost use Rattle.lpis_lineage.specs.declared.row.Entry.{Entry};
 ghost use Rattle.lpis_lineage.specs.declared.row.Row.{Row};
@@ -10,8 +9,8 @@ ghost use Rattle.lpis_lineage.specs.Accepts.{MayFollow, NeverFollows};
 ghost use Rattle.lpis_lineage.specs.ExactLaws.{KindsTellMerges, KindsTellSplits};
 ghost use Rattle.lpis_lineage.specs.Faults.{faults, first};
 ghost use Rattle.lpis_lineage.specs.Lawful.{IsLawful, RowsFit};
-ghost use Rattle.lpis_lineage.specs.Lineage.{entry_at, holds};
-ghost use Rattle.lpis_lineage.specs.Spans.{AreSpansOf, ids_of, live_in, span_of};
+ghost use Rattle.lpis_lineage.specs.Lineage.{holds};
+ghost use Rattle.lpis_lineage.specs.Spans.{span_of};
 
 /// A release may follow a lawful history whose rows fit, in whatever later year, where it has no
 /// fault, and in no year where it has one.
@@ -21,15 +20,6 @@ pub fn decided_by_faults()
     ensures refused { (h : List Entry) (live : List (List ℕ)) (rows : List Row)
         (fault : LineageFault) → IsLawful h → RowsFit h → first (faults h live rows) ≡ Some fault
         → NeverFollows h live rows }
-{}
-
-/// For a lawful history, the identifiers whose span holds the year of a release are those that the
-/// release holds, where the spans are those of all its identifiers.
-pub fn spans_tell_releases()
-    ensures { (h : List Entry) (spans : List (List ℕ × Span)) → IsLawful h → AreSpansOf h spans
-        → ((id : List ℕ) (i : ℕ) → holds h i id ≡ true → has_id (ids_of spans) id ≡ true) → (i : ℕ)
-        → i < length h → (id : List ℕ) → has_id (live_in spans (entry_at h i).year) id ≡ holds h i
-        id }
 {}
 
 /// Of rows without a fault, an identifier is of the kind split exactly where it has several

@@ -7,8 +7,7 @@ ghost use Rattle.lpis_covers.specs.Ids.{has_id, same_id};
 ghost use Rattle.lpis_lineage.specs.declared.row.Row.{Row};
 ghost use Rattle.lpis_lineage.specs.Changes.{kind_at};
 ghost use Rattle.lpis_lineage.specs.ExactGroups.{is_exact_merge, is_exact_split, is_in_exact};
-ghost use Rattle.lpis_lineage.specs.ExactGroups.{is_merged as is_merged_spec};
-ghost use Rattle.lpis_lineage.specs.ExactGroups.{is_split as is_split_spec};
+ghost use Rattle.lpis_lineage.specs.ExactGroups.{is_merged, is_split};
 ghost use Rattle.lpis_lineage.specs.Faults.{ReportsFirstOf, marked_row_faults};
 ghost use Rattle.lpis_lineage.specs.Kinds.{kind};
 ghost use Rattle.lpis_lineage.specs.Lineage.{is_this, names_successor};
@@ -32,8 +31,8 @@ pub(crate) struct Marks {
 }
 
 /// Whether an identifier was split.
-fn is_split(change: &Change, id: &Id) -> bool
-    ensures { result ≡ is_split_spec (kind_at change.now id.now) }
+fn was_split(change: &Change, id: &Id) -> bool
+    ensures { result ≡ is_split (kind_at change.now id.now) }
 {
     match change.kind_of(id) {
         Some(Kind::Split) => true,
@@ -42,8 +41,8 @@ fn is_split(change: &Change, id: &Id) -> bool
 }
 
 /// Whether an identifier was merged.
-fn is_merged(change: &Change, id: &Id) -> bool
-    ensures { result ≡ is_merged_spec (kind_at change.now id.now) }
+fn was_merged(change: &Change, id: &Id) -> bool
+    ensures { result ≡ is_merged (kind_at change.now id.now) }
 {
     match change.kind_of(id) {
         Some(Kind::Merged) => true,
@@ -67,9 +66,9 @@ fn add_if(set: &mut IdSet, test: bool, id: &Id) -> Result<(), AllocError>
 
 /// Whether a row is marked and merges its old identifier.
 fn merges(change: &Change, row: &Row) -> bool
-    ensures { result ≡ (is_merged_spec (kind_at change.now row.now.old) && row.now.exact) }
+    ensures { result ≡ (is_merged (kind_at change.now row.now.old) && row.now.exact) }
 {
-    is_merged(change, &row.old) && row.exact
+    was_merged(change, &row.old) && row.exact
 }
 
 /// Looks at a row, and keeps it.
@@ -107,7 +106,7 @@ pub(crate) fn splits_exactly(change: &Change, marks: &Marks, id: &Id) -> bool
     ensures { (rows : List Row) → AreMarks (kind_at change.now) marks.now rows
         → result ≡ is_exact_split (kind_at change.now) rows id.now }
 {
-    is_split(change, id) && !marks.unsplit.contains(id)
+    was_split(change, id) && !marks.unsplit.contains(id)
 }
 
 /// Whether a successor that a row names is of an exact merge.

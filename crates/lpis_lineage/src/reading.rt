@@ -5,7 +5,7 @@ ghost use Rattle.lpis_covers.specs.Faults.{rows_of, unless_faulty};
 ghost use Rattle.lpis_covers.specs.Table.{Answers, field_of, texts};
 ghost use Rattle.lpis_covers.specs.declared.fault.Table.TheVariants as tables;
 ghost use Rattle.lpis_lineage.specs.LineageTable.{AnswersRows, lineage_faults, lineage_table};
-ghost use Rattle.lpis_lineage.specs.LineageTable.{mark_of_text as mark_of, mark_field_faults};
+ghost use Rattle.lpis_lineage.specs.LineageTable.{mark_field_faults, mark_of_text};
 ghost use Rattle.lpis_lineage.specs.LineageTable.{row_of};
 ghost use Rattle.lpis_lineage.specs.LineageTable.{successor_faults, successor_of};
 
@@ -43,7 +43,7 @@ fn read_successor(alloc: Global, reader: &TableReader<'_>) -> Result<Option<Id>,
 
 /// Whether a text marks a row: `1` does; `0` and no text do not.
 fn mark_in(text: &[u8]) -> Option<bool>
-    ensures { result ≡ mark_of text.now }
+    ensures { result ≡ mark_of_text text.now }
 {
     match text {
         b"" | b"0" => Some(false),
@@ -55,7 +55,7 @@ fn mark_in(text: &[u8]) -> Option<bool>
 /// Whether the row that was read last is marked.
 fn read_mark(reader: &TableReader<'_>, number: u32) -> Result<bool, TableFault>
     requires { number ≡ reader.now.number }
-    ensures { let mark = mark_of (field_of reader.now.row 2) in
+    ensures { let mark = mark_of_text (field_of reader.now.row 2) in
         Answers result (unless_faulty (mark_field_faults reader.now.number mark)
         (unwrap_or mark false)) }
 {

@@ -3,7 +3,7 @@
 ghost use Rattle.std.specs.Prelude.{◌≡◌, ◌≤◌, ℕ, List, length, IfOk};
 ghost use Rattle.std.specs.HashMap.{get, spare};
 ghost use Rattle.lpis_covers.specs.Ids.{has_id, same_id};
-ghost use Rattle.lpis_lineage.specs.private.Keeping.{begun, ended_in as ended, forgotten};
+ghost use Rattle.lpis_lineage.specs.private.Keeping.{begun, ended_in, forgotten};
 ghost use Rattle.lpis_lineage.specs.Lineage.{last_live};
 ghost use Rattle.lpis_lineage.specs.Spans.{live_in as ids_live_in, in_span};
 
@@ -64,7 +64,7 @@ pub(crate) fn begin_spans(spans: &mut HashMap<Id, Span>, mut ids: Vec<Id>, year:
 
 /// Lets the spans of these identifiers end with a year.
 pub(crate) fn end_spans(spans: &mut HashMap<Id, Span>, mut ids: Vec<Id>, year: u16)
-    ensures { (q : List ℕ) → get same_id spans.new q ≡ ended (has_id ids.items q) year
+    ensures { (q : List ℕ) → get same_id spans.new q ≡ ended_in (has_id ids.items q) year
         (get same_id spans.old q) }
 {
     'ids: while let Some(id) = ids.pop() {
@@ -84,7 +84,7 @@ pub(crate) fn end_spans(spans: &mut HashMap<Id, Span>, mut ids: Vec<Id>, year: u
 
 /// The spans of a history less this release at its end. It takes no memory.
 pub(crate) fn take_spans_back(spans: &mut HashMap<Id, Span>, entry: &Entry, before: &[Entry])
-    ensures { (q : List ℕ) → get same_id spans.new q ≡ ended (has_id (last_live before.now) q) 0
+    ensures { (q : List ℕ) → get same_id spans.new q ≡ ended_in (has_id (last_live before.now) q) 0
         (forgotten (has_id entry.now.live q) entry.now.year (get same_id spans.old q)) }
 {
     forget_spans(spans, &entry.live, entry.year);
@@ -109,7 +109,7 @@ fn forget_spans(spans: &mut HashMap<Id, Span>, ids: &IdSet, year: u16)
 
 /// Lets the spans of these identifiers go on. It takes no memory.
 fn reopen_spans(spans: &mut HashMap<Id, Span>, ids: &IdSet)
-    ensures { (q : List ℕ) → get same_id spans.new q ≡ ended (has_id ids.now q) 0
+    ensures { (q : List ℕ) → get same_id spans.new q ≡ ended_in (has_id ids.now q) 0
         (get same_id spans.old q) }
 {
     for id in ids.iter() {

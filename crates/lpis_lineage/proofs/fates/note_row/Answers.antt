@@ -13,13 +13,13 @@ pub returns-in_ok-add-in-Some : goal.returns-in_ok-add-in-Some
 returns-in_ok-add-in-Some c = λ all before tally named are.
     let there = named c.in-Some.heir (ap (λ (o : Option (List ℕ)). is_this c.in-Some.heir o) c.in-Some.is ∙ same-refl c.in-Some.heir) in
     fates-heir _ _ all before c.args.fates.now _ c.args.row.now c.in-Some.heir true are c.in-Some.is
-    (sym c.if-is_shared.true ∙ c.is_shared.ensures all tally there) refl
+    (sym c.if-shares.true ∙ c.shares.ensures all tally there) refl
     (c.in_ok-note-in-Some.ensures _ are.olds_are)
     (λ q. c.in_ok-add-in-Some.ensures.ok q ∙ ap (λ (k : List ℕ). cond (same_id k q) true (has_id c.args.fates.now.shared q)) c.in_ok-old-in-Some.ensures)
 
-pub returns-else-is_shared : goal.returns-else-is_shared
-returns-else-is_shared c = λ all before tally named are.
+pub returns-else-shares : goal.returns-else-shares
+returns-else-shares c = λ all before tally named are.
     let there = named c.in-Some.heir (ap (λ (o : Option (List ℕ)). is_this c.in-Some.heir o) c.in-Some.is ∙ same-refl c.in-Some.heir) in
     fates-heir _ _ all before c.args.fates.now _ c.args.row.now c.in-Some.heir false are c.in-Some.is
-    (sym c.if-is_shared.false ∙ c.is_shared.ensures all tally there) refl
+    (sym c.if-shares.false ∙ c.shares.ensures all tally there) refl
     (c.in_ok-note-in-Some.ensures _ are.olds_are) (λ q. refl)

@@ -1,7 +1,7 @@
 use Rattle.std.proofs.Common.{◌∙◌, sym}
 use Rattle.lpis_lineage.proofs.Common.{heirs}
 use Rattle.lpis_lineage.proofs.FateLemmas.{last-part, shared-test}
-use Rattle.lpis_lineage.proofs.fates.is_shared.Goals as goal
+use Rattle.lpis_lineage.proofs.fates.shares.Goals as goal
 
 pub returns-then-was : goal.returns-then-was
 returns-then-was c = λ all tally there.
