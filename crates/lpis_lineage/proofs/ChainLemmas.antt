@@ -89,7 +89,8 @@ fresh-row before rows i r fresh lt is s names-it =
           let all : list_any (is_row_of s) (before ++ rows) ≡ true =
           ap (λ (l : List Row). list_any (is_row_of s) (before ++ l)) split
           ∙ ap (λ (l : List Row). list_any (is_row_of s) l) (sym (append_assoc before (take i rows ++ r ∷ []) (drop (i + 1) rows)))
-          ∙ any-left (is_row_of s) (before ++ (take i rows ++ r ∷ [])) (drop (i + 1) rows) (ap (λ (l : List Row). list_any (is_row_of s) l) (sym (append_assoc before (take i rows) (r ∷ []))) ∙ t) in cc)
+          ∙ any-left (is_row_of s) (before ++ (take i rows ++ r ∷ [])) (drop (i + 1) rows)
+          (ap (λ (l : List Row). list_any (is_row_of s) l) (sym (append_assoc before (take i rows) (r ∷ []))) ∙ t) in cc)
       | inr f ↦ f
     ]
 

@@ -5,7 +5,7 @@ pub use Rattle.lpis_lineage.specs.Faults.{clashes, dropped_faults, fault_before,
 pub use Rattle.lpis_lineage.specs.Kinds.{heirs, kind, id_times}
 pub use Rattle.lpis_lineage.specs.Lawful.{IsAnswered, IsLawful, RowsFit}
 pub use Rattle.lpis_lineage.specs.Lineage.{is_ended, entry_at, holds, is_row_of, is_this, last_live, last_year, names_successor, same_row, succeeded}
-pub use Rattle.lpis_lineage.specs.Spans.{first_held, last_held, live_in, span_between, span_of}
+pub use Rattle.lpis_lineage.specs.Spans.{first_held, last_held, span_between, span_of}
 pub use Rattle.lpis_lineage.specs.declared.fault.LineageFault.{LineageFault}
 pub use Rattle.lpis_lineage.specs.declared.row.Entry.{Entry}
 pub use Rattle.lpis_lineage.specs.declared.row.Row.{Row}

@@ -1,6 +1,7 @@
 -- The identifiers whose span holds a year, one further.
 use Rattle.std.proofs.Common.{◌≡◌, ◌∙◌, ◌<◌, ◌+◌, refl, sym, ap, ℕ, List, [], ◌∷◌, ◌++◌, length, Bool, true, false, cond, take, get_or}
-use Rattle.lpis_lineage.proofs.Common.{Span, live_in}
+use Rattle.lpis_lineage.proofs.Common.{Span}
+use Rattle.lpis_lineage.specs.Spans.{live_in}
 use Rattle.std.proofs.lemmas.List.{append-nil}
 use Rattle.lpis_lineage.specs.Spans.{in_span}
 use Rattle.lpis_lineage.proofs.TellingLemmas.{take-at}

@@ -1,5 +1,5 @@
 use Rattle.std.proofs.Common.{◌≡◌, take}
-use Rattle.lpis_lineage.proofs.Common.{live_in}
+use Rattle.lpis_lineage.specs.Spans.{live_in}
 use Rattle.lpis_lineage.proofs.span.live_in.Given as goal
 
 abbrev pub invariant-loop-pair : goal.invariant-loop-pair
