@@ -26,5 +26,6 @@ named_text (NoFlats parcel) = codes "parcel " ++ parcel
 
 -- of a release that gets no certificate: the code and what is named
 abbrev pub cut_refusal_text : Refusal → List ℕ
-cut_refusal_text refusal = codes "refused " ++ cut_code_text refusal ++ codes " " ++ named_text refusal
+cut_refusal_text refusal =
+    codes "refused " ++ cut_code_text refusal ++ codes " " ++ named_text refusal
     ++ codes "\n"

@@ -1,8 +1,8 @@
 -- The events that the loops over triangles and strips have made so far.
 use Rattle.std.proofs.Common.{◌≡◌, ℕ, ◌+◌, ◌/◌, ◌<◌, ◌≤◌, List, [], ◌∷◌, ◌++◌, length, Some, ◌⊎◌, inl, inr, refl, ap, sym, ◌∙◌, subst, arith, Contains, slice_get}
-use Rattle.lpis_pairs.proofs.Common.{same_Some, slice_get_within, Triangle, Event, extent_of, AreEvents, event}
+use Rattle.lpis_pairs.proofs.Common.{same_Some, slice_get_within, Triangle, Event, extent_of, event}
 use Rattle.std.proofs.lemmas.List.Elements.{All-nil, All-push, Contains-append_left, Contains-push}
-use Rattle.lpis_pairs.specs.private.Sweeping.{IsEvent, HasEvents}
+use Rattle.lpis_pairs.specs.private.Sweeping.{AreEvents, IsEvent, HasEvents}
 
 -- those of the triangles below n
 pub record EventsBelow (ts : List Triangle) (height : ℕ) (es : List Event) (n : ℕ) : Type 0 where

@@ -1,7 +1,7 @@
 -- The pairs that a sweep has joined so far.
 use Rattle.std.proofs.Common.{◌≡◌, ℕ, ◌+◌, ◌<◌, ◌≤◌, true, ◌||◌, List, [], length, Some, ◌⊎◌, inl, inr, ap, sym, ◌∙◌, subst, arith, Contains, slice_get}
-use Rattle.lpis_pairs.proofs.Common.{same_Some, slice_get_within, Triangle, Event, IsNear, AreInOrder, AreNear, Joins}
-use Rattle.lpis_pairs.specs.private.Sweeping.{GrowNear, right_end, starts}
+use Rattle.lpis_pairs.proofs.Common.{same_Some, slice_get_within, Triangle, Event, IsNear, AreNear, Joins}
+use Rattle.lpis_pairs.specs.private.Sweeping.{AreInOrder, GrowNear, right_end, starts}
 use Rattle.std.proofs.lemmas.List.Elements.{All-nil}
 
 -- each pair of the first list is in the second

@@ -1,6 +1,7 @@
 -- Sorted events run strip by strip, and in a strip by where boxes begin.
 use Rattle.std.proofs.Common.{◌≡◌, ℕ, ◌<◌, ◌≤◌, false, List, Ordering, ◌⊎◌, ap₂, sym, ◌∙◌, arith, IsSorted, nat_cmp, is_lt}
-use Rattle.lpis_pairs.proofs.Common.{nat_tests, slice_get_within, get_or_from_slice_get, Event, AreInOrder}
+use Rattle.lpis_pairs.proofs.Common.{nat_tests, slice_get_within, get_or_from_slice_get, Event}
+use Rattle.lpis_pairs.specs.private.Sweeping.{AreInOrder}
 use Rattle.std.specs.Cmp.{IsTotalOrder}
 use Rattle.std.specs.Ordering.{ordering_then}
 use Rattle.std.proofs.lemmas.Cmp.{nat_cmp_total, on_total, then_total}

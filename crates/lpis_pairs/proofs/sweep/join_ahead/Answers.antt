@@ -1,8 +1,8 @@
 use Rattle.std.proofs.Common.{◌≡◌, ℕ, ◌+◌, ◌<◌, Bool, IsTrue, true, false, ◌||◌, List, length, get_or, Vec, Global, Some, refl, ap, sym, ◌∙◌, subst, arith, slice_get}
-use Rattle.lpis_pairs.proofs.Common.{slice_get_within, Triangle, Event, AreEvents, Joins}
+use Rattle.lpis_pairs.proofs.Common.{slice_get_within, Triangle, Event, Joins}
 use Rattle.std.proofs.lemmas.Option.{slice_get-get_or, slice_get_read}
 use Rattle.lpis_pairs.specs.declared.extents.Extent.{Extent}
-use Rattle.lpis_pairs.specs.private.Sweeping.{right_end, starts}
+use Rattle.lpis_pairs.specs.private.Sweeping.{AreEvents, right_end, starts}
 use Rattle.lpis_pairs.proofs.JoinedLemmas.{JoinsUpTo, grows_by_nothing, joined_next, joins_read, found_all, found_to_end}
 use Rattle.lpis_pairs.proofs.sweep.join_ahead.Goals.{then-one_starts+in_ok-push_near, else-one_starts}
 use Rattle.lpis_pairs.proofs.sweep.join_ahead.Goals as goal
