@@ -1,8 +1,9 @@
 -- Lists: where an item stands, and what filters leave.
-use Rattle.std.proofs.Common.{◌≡◌, ℕ, zero, suc, Bool, true, false, cond, List, [], ◌∷◌, ◌++◌, length, filter, Some, All, ◌⊎◌, inl, inr, ap, sym, refl, ◌∙◌, subst}
+use Rattle.std.proofs.lemmas.List.{take_all}
+use Rattle.std.proofs.Common.{◌≡◌, ℕ, zero, suc, ◌+◌, ◌<◌, ◌≤◌, get_or, take, Bool, true, false, cond, List, [], ◌∷◌, ◌++◌, length, filter, Some, All, ◌⊎◌, inl, inr, ap, sym, refl, ◌∙◌, subst}
 use Rattle.std.specs.Prelude.{Contains as IsAmong}
 use Rattle.std.specs.List.{slice_get, Any}
-use Rattle.std.proofs.lemmas.List.Elements.{All-append, All-cons, All-head, All-nil, All-tail, Contains-append_left, Contains-append_right}
+use Rattle.std.proofs.lemmas.List.Elements.{All-append, All-cons, All-head, All-more, All-nil, All-tail, Contains-append_left, Contains-append_right}
 use Rattle.std.proofs.lemmas.Option.{none-some, slice_get-get_or, slice_get_within, get_or_from_slice_get, same_Some}
 use Rattle.lpis_edge_sums.proofs.Shared.{all_from, any_found, filter_kept, found_any}
 
@@ -81,3 +82,10 @@ filter_neither {A} q s h xs = filter_none q (filter s xs) (all_from (λ x. q x �
     by : (x : A) (b : Bool) → q x ≡ b → s x ≡ true → q x ≡ false
     by x true e t = absurd (clash (s x) t (h x e))
     by x false e t = e
+
+-- ---- loops
+pub one_more : {A : Type 0} (P : A → Type 0) (xs : List A) (i : ℕ) (x : A) → i < length xs → x ≡ get_or xs i x → P x → All P (take i xs) → All P (take (i + 1) xs)
+one_more P xs i x l e h a = All-more P xs i x l a (subst P e h)
+
+pub at_end : {A : Type 0} (P : A → Type 0) (xs : List A) (i : ℕ) → length xs ≤ i → All P (take i xs) → All P xs
+at_end P xs i l a = subst (All P) (take_all i xs l) a

@@ -1,0 +1,70 @@
+-- Parcels and their identifiers.
+use Rattle.std.proofs.Common.{◌≡◌, ◌≢◌, ℕ, ◌<◌, Bool, true, false, not, cond, ◌++◌, List, [], ◌∷◌, Some, ◌⊎◌, inl, inr, All, filter, ap, sym, refl, ◌∙◌, arith, slice_get, AllPairs, option_map}
+use Rattle.std.specs.Prelude.{Contains as IsAmong}
+use Rattle.std.specs.List.{IsDistinct}
+use Rattle.std.proofs.lemmas.Bool.{cases_eq, cases_lt}
+use Rattle.std.proofs.lemmas.Option.{get_or_from_slice_get, slice_get-map, slice_get_within, same_Some}
+use Rattle.std.proofs.lemmas.List.Elements.{All-append, All-from_recursion, All-filter, All-head, All-map, All-tail, recursion_from_All}
+use Rattle.std.proofs.lemmas.Map.Keys.{IsDistinct-head, IsDistinct-tail, IsDistinct-cons, any_passes_from_place}
+use Rattle.std.proofs.lemmas.Map.Made.{AllPairs-from_IsDistinct}
+use Rattle.std.proofs.lemmas.Slice.Eq.{bytes_eq-Decides}
+use Rattle.lpis_covers.specs.Ids.{has_id, same_id}
+use Rattle.lpis_parcels.specs.declared.parcel.Parcel.{Parcel}
+use Rattle.lpis_parcels.specs.Release.{parcel_ids}
+use Rattle.lpis_edge_sums.proofs.Shared.{all_at, all_from}
+use Rattle.lpis_country.proofs.ListLemmas.{placed}
+
+pub id_at : (xs : List Parcel) (i : ℕ) (a : Parcel) → slice_get xs i ≡ Some a → slice_get (parcel_ids xs) i ≡ Some a.id
+id_at xs i a e = slice_get-map (λ (p : Parcel). p.id) xs i ∙ ap (option_map (λ (p : Parcel). p.id)) e
+
+-- parcels of one identifier are one row
+pub same_index : (xs : List Parcel) → IsDistinct same_id (parcel_ids xs) → (i j : ℕ) (a b : Parcel) → slice_get xs i ≡ Some a → slice_get xs j ≡ Some b → a.id ≡ b.id → i ≡ j
+same_index xs n i j a b e f s = elim (cases_eq i j) [ inl q ↦ q | inr q ↦ absurd (by (order q)) ]
+  where
+    pairs : AllPairs (λ x y. x ≢ y) (parcel_ids xs)
+    pairs = AllPairs-from_IsDistinct bytes_eq-Decides (parcel_ids xs) n
+
+    clash : (k m : ℕ) (x y : Parcel) → k < m → slice_get (parcel_ids xs) k ≡ Some x.id → slice_get (parcel_ids xs) m ≡ Some y.id → x.id ≡ y.id → ⊥
+    clash k m x y l g h t = pairs k m [] l (slice_get_within (parcel_ids xs) m y.id h) (get_or_from_slice_get (parcel_ids xs) k x.id [] g ∙ t ∙ sym (get_or_from_slice_get (parcel_ids xs) m y.id [] h))
+
+    order : i ≢ j → (i < j) ⊎ (j < i)
+    order q = elim (cases_lt i j) [ inl l ↦ inl l | inr l ↦ inr (omega arith) ]
+
+    by : (i < j) ⊎ (j < i) → ⊥
+    by (inl l) = clash i j a b l (id_at xs i a e) (id_at xs j b f) s
+    by (inr l) = clash j i b a l (id_at xs j b f) (id_at xs i a e) (sym s)
+
+pub same_parcel : (xs : List Parcel) → IsDistinct same_id (parcel_ids xs) → (a b : Parcel) → IsAmong xs a → IsAmong xs b → a.id ≡ b.id → a ≡ b
+same_parcel xs n a b h k s =
+    let v = placed xs a h in
+    let w = placed xs b k in
+    same_Some a b (sym v.at ∙ ap (slice_get xs) (same_index xs n v.index w.index a b v.at w.at s) ∙ w.at)
+
+-- parcels have the identifier of each of them
+pub has_at : (xs : List Parcel) (i : ℕ) (k : Parcel) (id : List ℕ) → slice_get xs i ≡ Some k → id ≡ k.id → has_id (parcel_ids xs) id ≡ true
+has_at xs i k id e s = any_passes_from_place (same_id id) (parcel_ids xs) i k.id (id_at xs i k e) ((bytes_eq-Decides id k.id).1 s)
+
+pub has_among : (xs : List Parcel) (k : Parcel) → IsAmong xs k → has_id (parcel_ids xs) k.id ≡ true
+has_among xs k h = let p = placed xs k h in has_at xs p.index k k.id p.at refl
+
+-- ---- lists of which no identifier stands twice
+pub distinct_append : (xs ys : List (List ℕ)) → IsDistinct same_id xs → IsDistinct same_id ys → All (λ (x : List ℕ). All (λ (y : List ℕ). same_id x y ≡ false) ys) xs → IsDistinct same_id (xs ++ ys)
+distinct_append [] ys h k n = k
+distinct_append (x ∷ xs) ys h k n =
+    let P : List ℕ → Type 0 = λ y. same_id x y ≡ false in
+    let Q : List ℕ → Type 0 = λ v. All (λ (y : List ℕ). same_id v y ≡ false) ys in
+    IsDistinct-cons same_id x (xs ++ ys)
+    (recursion_from_All P (xs ++ ys) (All-append P xs ys (All-from_recursion P xs (IsDistinct-head same_id x xs h)) (All-head Q x xs n)))
+    (distinct_append xs ys (IsDistinct-tail same_id x xs h) k (All-tail Q x xs n))
+
+pub distinct_filter : (q : Parcel → Bool) (xs : List Parcel) → IsDistinct same_id (parcel_ids xs) → IsDistinct same_id (parcel_ids (filter q xs))
+distinct_filter q [] h = h
+distinct_filter q (x ∷ xs) h = by (q x) (distinct_filter q xs (IsDistinct-tail same_id x.id (parcel_ids xs) h))
+  where
+    all : All (λ (k : Parcel). same_id x.id k.id ≡ false) xs
+    all = all_from (λ (k : Parcel). same_id x.id k.id ≡ false) xs (λ i k e.
+        all_at (λ (y : List ℕ). same_id x.id y ≡ false) (parcel_ids xs) i k.id (id_at xs i k e) (All-from_recursion (λ (y : List ℕ). same_id x.id y ≡ false) (parcel_ids xs) (IsDistinct-head same_id x.id (parcel_ids xs) h)))
+
+    by : (b : Bool) → IsDistinct same_id (parcel_ids (filter q xs)) → IsDistinct same_id (parcel_ids (cond b (x ∷ filter q xs) (filter q xs)))
+    by true r = IsDistinct-cons same_id x.id (parcel_ids (filter q xs)) (recursion_from_All (λ (y : List ℕ). same_id x.id y ≡ false) (parcel_ids (filter q xs)) (All-map (λ (y : List ℕ). same_id x.id y ≡ false) (λ (k : Parcel). k.id) (filter q xs) (All-filter q (λ (k : Parcel). same_id x.id k.id ≡ false) xs all))) r
+    by false r = r
