@@ -1,5 +1,5 @@
 -- Parcels and their identifiers.
-use Rattle.std.proofs.Common.{◌≡◌, ◌≢◌, ℕ, ◌<◌, Bool, true, false, not, cond, ◌++◌, List, [], ◌∷◌, Some, ◌⊎◌, inl, inr, All, filter, ap, sym, refl, ◌∙◌, arith, slice_get, AllPairs, option_map}
+use Rattle.std.proofs.Common.{◌≡◌, ◌≢◌, ℕ, suc, ◌<◌, ◌||◌, Bool, true, false, not, cond, ◌++◌, List, [], ◌∷◌, Some, ◌⊎◌, inl, inr, All, filter, ap, sym, refl, ◌∙◌, arith, slice_get, AllPairs, option_map}
 use Rattle.std.specs.Prelude.{Contains as IsAmong}
 use Rattle.std.specs.List.{IsDistinct}
 use Rattle.std.proofs.lemmas.Bool.{cases_eq, cases_lt}
@@ -11,7 +11,7 @@ use Rattle.std.proofs.lemmas.Slice.Eq.{bytes_eq-Decides}
 use Rattle.lpis_covers.specs.Ids.{has_id, same_id}
 use Rattle.lpis_parcels.specs.declared.parcel.Parcel.{Parcel}
 use Rattle.lpis_parcels.specs.Release.{parcel_ids}
-use Rattle.lpis_edge_sums.proofs.Shared.{all_at, all_from}
+use Rattle.lpis_edge_sums.proofs.Shared.{Found, all_at, all_from}
 use Rattle.lpis_country.proofs.ListLemmas.{placed}
 
 pub id_at : (xs : List Parcel) (i : ℕ) (a : Parcel) → slice_get xs i ≡ Some a → slice_get (parcel_ids xs) i ≡ Some a.id
@@ -46,6 +46,15 @@ has_at xs i k id e s = any_passes_from_place (same_id id) (parcel_ids xs) i k.id
 
 pub has_among : (xs : List Parcel) (k : Parcel) → IsAmong xs k → has_id (parcel_ids xs) k.id ≡ true
 has_among xs k h = let p = placed xs k h in has_at xs p.index k k.id p.at refl
+
+-- an identifier among those of parcels is that of one of them
+pub id_found : (xs : List Parcel) (id : List ℕ) → has_id (parcel_ids xs) id ≡ true → Found (λ (k : Parcel). id ≡ k.id) xs
+id_found [] id e = absurd cc
+id_found (x ∷ xs) id e = by (same_id id x.id) refl e (λ f. id_found xs id f)
+  where
+    by : (b : Bool) → same_id id x.id ≡ b → (b || has_id (parcel_ids xs) id) ≡ true → (has_id (parcel_ids xs) id ≡ true → Found (λ (k : Parcel). id ≡ k.id) xs) → Found (λ (k : Parcel). id ≡ k.id) (x ∷ xs)
+    by true t e rec = record { index = 0; item = x; at = refl; has = (bytes_eq-Decides id x.id).0 t }
+    by false t e rec = let f = rec e in record { index = suc f.index; item = f.item; at = f.at; has = f.has }
 
 -- ---- lists of which no identifier stands twice
 pub distinct_append : (xs ys : List (List ℕ)) → IsDistinct same_id xs → IsDistinct same_id ys → All (λ (x : List ℕ). All (λ (y : List ℕ). same_id x y ≡ false) ys) xs → IsDistinct same_id (xs ++ ys)

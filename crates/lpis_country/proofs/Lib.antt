@@ -6,3 +6,5 @@ pub mod TileLemmas
 pub mod RegionLemmas
 pub mod IdLemmas
 pub mod UnionLemmas
+pub mod CountryLemmas
+pub mod FittingLemmas

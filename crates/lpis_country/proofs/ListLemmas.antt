@@ -1,6 +1,6 @@
 -- Lists: where an item stands, and what filters leave.
 use Rattle.std.proofs.lemmas.List.{take_all}
-use Rattle.std.proofs.Common.{◌≡◌, ℕ, zero, suc, ◌+◌, ◌<◌, ◌≤◌, get_or, take, Bool, true, false, cond, List, [], ◌∷◌, ◌++◌, length, filter, Some, All, ◌⊎◌, inl, inr, ap, sym, refl, ◌∙◌, subst}
+use Rattle.std.proofs.Common.{◌≡◌, ℕ, zero, suc, ◌+◌, ◌<◌, ◌≤◌, get_or, take, Bool, true, false, cond, List, [], ◌∷◌, ◌++◌, length, filter, Some, All, ◌⊎◌, inl, inr, ap, sym, refl, ◌∙◌, subst, arith}
 use Rattle.std.specs.Prelude.{Contains as IsAmong}
 use Rattle.std.specs.List.{slice_get, Any}
 use Rattle.std.proofs.lemmas.List.Elements.{All-append, All-cons, All-head, All-more, All-nil, All-tail, Contains-append_left, Contains-append_right}
@@ -32,6 +32,11 @@ any_right P xs ys a =
     let f = any_found P ys a in
     let p = placed (xs ++ ys) f.item (Contains-append_right xs ys f.item (among_at ys f.index f.item f.at)) in
     found_any P (xs ++ ys) (record { index = p.index; item = f.item; at = p.at; has = f.has })
+
+pub item_at : {A : Type 0} (xs : List A) (i : ℕ) → i < length xs → (x : A) × (slice_get xs i ≡ Some x)
+item_at [] i l = absurd (omega arith)
+item_at (x ∷ xs) zero l = (x, refl)
+item_at (x ∷ xs) (suc i) l = item_at xs i (omega arith)
 
 -- an item of a list with one more is one of the list, or the last
 pub front_or_last : {A : Type 0} (xs : List A) (x : A) (i : ℕ) (y : A) → slice_get (xs ++ x ∷ []) i ≡ Some y → (slice_get xs i ≡ Some y) ⊎ ((i ≡ length xs) × (y ≡ x))

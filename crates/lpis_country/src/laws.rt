@@ -5,6 +5,5 @@ ghost use Rattle.lpis_country.specs.Laws.{CountryIsSound};
 /// Regions that are sound maps, one for each tile, each of which fits to those before it, make a
 /// country that is a sound map.
 pub fn a_country_of_sound_regions_is_sound()
-    requires { ⊥ }
     ensures { CountryIsSound }
 {}
