@@ -1,0 +1,17 @@
+-- The law of regions without a fault of the seam, as a statement.
+use Rattle.std.specs.Prelude.{◌≡◌, List, length, All}
+use Rattle.lpis_covers.specs.declared.class.Class.{Class}
+use Rattle.lpis_parcels.specs.Release.{Contents}
+use Rattle.lpis_checker.specs.SoundMap.{IsSoundMap}
+use Rattle.lpis_country.specs.Country.{country_of}
+use Rattle.lpis_country.specs.Tiling.{Tiling, rectangles, frame}
+use Rattle.lpis_country_seam.specs.Open.{AreJoined}
+
+-- regions that are sound maps, one for each tile, none with a fault of the seam after those before
+-- it, make a country that is a sound map
+abbrev pub JoinedCountryIsSound : Type 0
+JoinedCountryIsSound =
+    (tiling : Tiling) (classes : List Class) (regions : List Contents)
+    → AreJoined (rectangles tiling frame) classes regions → All IsSoundMap regions
+    → length regions ≡ length (rectangles tiling frame)
+    → IsSoundMap (country_of classes regions)

@@ -1,0 +1,5 @@
+pub mod Codes
+pub mod Faults
+pub mod Open
+pub mod Laws
+pub mod private

@@ -1,0 +1,41 @@
+-- What is kept of the regions that were let go.
+use Rattle.std.specs.Prelude.{◌≡◌, ◌<◌, ℕ, List, [], ◌∷◌, ◌++◌, length, map, filter, All}
+use Rattle.lpis_points.specs.declared.boxes.Box4.{Box4}
+use Rattle.lpis_covers.specs.declared.class.Class.{Class}
+use Rattle.lpis_covers.specs.Ids.{has_id}
+use Rattle.lpis_parcels.specs.declared.parcel.Parcel.{Parcel}
+use Rattle.lpis_parcels.specs.Release.{Contents, parcel_ids, pieces_named}
+use Rattle.lpis_country.specs.Country.{IsRegion, country_of}
+use Rattle.lpis_country_seam.specs.declared.kept.KeptRow.{KeptRow}
+use Rattle.lpis_country_seam.specs.declared.seam.OpenSeam.{OpenSeam}
+use Rattle.lpis_country_seam.specs.Faults.{reaches_later, seam_faults}
+
+-- the rows of those parcels of the country whose boxes meet a tile from number n on
+abbrev pub awaited_rows : List Box4 → ℕ → Contents → List KeptRow
+awaited_rows tiles n country =
+    map (λ (k : Parcel). record { parcel = k; pieces = pieces_named country k.id })
+    (filter (reaches_later tiles n) country.parcels)
+
+-- these regions, one after the other, have the classes and no fault of the seam
+pub record AreJoined (tiles : List Box4) (classes : List Class) (regions : List Contents)
+    : Type 0 where
+  pub regions_are : All IsRegion regions
+  pub classes_are : All (λ (r : Contents). r.classes ≡ classes) regions
+  pub faultless : (before : List Contents) (r : Contents) (after : List Contents)
+      → regions ≡ before ++ r ∷ after → seam_faults tiles classes before r ≡ []
+
+-- the seam is that of these regions, which were read and let go: it has their number, the
+-- identifiers of their parcels, and the rows that later ones need
+pub record IsSeamOf (tiles : List Box4) (classes : List Class) (done : List Contents)
+    (seam : OpenSeam) : Type 0 where
+  pub tiles_are : seam.tiles.items ≡ tiles
+  pub classes_are : seam.classes.items ≡ classes
+  pub number : seam.next ≡ length done
+  pub ids_are : (id : List ℕ) → has_id seam.ids id
+      ≡ has_id (parcel_ids (country_of classes done).parcels) id
+  pub rows_are : seam.kept ≡ awaited_rows tiles (length done) (country_of classes done)
+  pub joined : AreJoined tiles classes done
+
+-- there is a tile for the next region
+abbrev pub HasNext : OpenSeam → Type 0
+HasNext seam = seam.next < length seam.tiles.items
