@@ -26,9 +26,9 @@ seam_fault_if b fault = cond b (fault ∷ []) []
 abbrev pub class_faults : ℕ → List Class → List Class → List SeamFault
 class_faults n [] [] = []
 class_faults n [] (b ∷ bs) = Classes n ∷ []
-class_faults n (a ∷ as) [] = Classes n ∷ []
-class_faults n (a ∷ as) (b ∷ bs) = seam_fault_if (not (same_class a b)) (Classes n)
-    ++ class_faults (n + 1) as bs
+class_faults n (a ∷ more) [] = Classes n ∷ []
+class_faults n (a ∷ more) (b ∷ bs) = seam_fault_if (not (same_class a b)) (Classes n)
+    ++ class_faults (n + 1) more bs
 
 -- ---- tiles
 -- the parcel's box meets this tile, if there is one

@@ -50,7 +50,9 @@ pub enum SeamFault {
     Memory,
     /// The first row, from 1, at which its classes differ from those of the country.
     #[error("96 classes row {row}")]
-    Classes { row: usize },
+    Classes {
+        row: usize,
+    },
     /// A parcel, and the region that is at fault by its number, from 0.
     #[error("{} parcel {}", .code.as_str(), .id.as_str())]
     At {
