@@ -8,3 +8,5 @@ pub mod IdLemmas
 pub mod UnionLemmas
 pub mod CountryLemmas
 pub mod FittingLemmas
+pub mod PieceLemmas
+pub mod Shared
