@@ -1,0 +1,79 @@
+-- What stands for a run over a country that gave no answer.
+use Rattle.std.specs.Prelude.{◌≡◌, ◌⊎◌, ◌∷◌, [], ℕ, List, Option, Some, None, Ok}
+use Rattle.std.specs.Io.KnownBytes.{Appends, Keeps}
+use Rattle.std.specs.Option.{option_map}
+use Rattle.std.specs.String.{string_bytes}
+use Rattle.lpis_covers.specs.declared.class.Class.{Class}
+use Rattle.lpis_covers.specs.Classes.{classes_table}
+use Rattle.lpis_covers.specs.Faults.{rows_of}
+use Rattle.lpis_parcels.specs.Release.{Contents}
+use Rattle.lpis_commands.specs.CheckAnswer.{Answer}
+use Rattle.lpis_commands.specs.declared.command.Detail.{Detail}
+use Rattle.lpis_commands.specs.declared.failure.Failure.{Failure}
+use Rattle.lpis_commands.specs.declared.failure.Failure.TheVariants.{Memory, Read, Write}
+use Rattle.lpis_commands.specs.declared.failure.Name.TheVariants.{Cert, Classes, Country, Covers}
+use Rattle.lpis_commands.specs.declared.failure.Name.TheVariants.{Out, Parcels}
+use Rattle.lpis_commands.specs.Streams.{Begins}
+use Rattle.lpis_country_plan.specs.CountryText.{IsCountryText}
+use Rattle.lpis_country_plan.specs.Tree.{Tree}
+use Rattle.lpis_country_run.specs.declared.failure.CountryFailure.{CountryFailure}
+use Rattle.lpis_country_run.specs.CountryAnswer.{IsCountryAnswer, IsReachedBy, setting_of}
+use Rattle.lpis_country_run.specs.Regions.{AreCountryRead, CountryInputs, Texts}
+
+-- a file of a folder was not opened or read
+abbrev pub IsUnreadFile : Failure → Type 0
+IsUnreadFile failure = (failure ≡ Read Parcels) ⊎ (failure ≡ Read Covers) ⊎ (failure ≡ Read Classes)
+    ⊎ (failure ≡ Read Cert)
+
+-- so it is, or memory ran out
+abbrev pub IsUnreadFolder : Failure → Type 0
+IsUnreadFolder failure = (failure ≡ Memory) ⊎ IsUnreadFile failure
+
+-- a failure that is of no region
+abbrev pub IsOfNone : CountryFailure → Failure → Type 0
+IsOfNone f failure = (f.failure ≡ failure) × (f.region ≡ None)
+
+-- a file at the top was not read, or memory ran out
+abbrev pub IsUnreadTop : CountryFailure → Type 0
+IsUnreadTop f = IsOfNone f Memory ⊎ IsOfNone f (Read Country) ⊎ IsOfNone f (Read Classes)
+
+-- before the next of these folders, if there is one: it was not read, or memory ran out
+abbrev pub IsStoppedBefore : List (List ℕ) → CountryFailure → Type 0
+IsStoppedBefore [] f = IsOfNone f Memory
+IsStoppedBefore (name ∷ left) f = IsOfNone f Memory
+    ⊎ (IsUnreadFile f.failure × (option_map string_bytes f.region ≡ Some name))
+
+-- the regions before these folders passed, and this was printed of them
+pub record IsCountryPart (texts : List ℕ → Texts) (detail : Detail) (x : CountryInputs)
+    (text : List ℕ) (left : List (List ℕ)) : Type 0 where
+  pub plan : Tree
+  pub planned : IsCountryText x.plan plan
+  pub classes : List Class
+  pub table : rows_of classes_table x.classes ≡ Ok classes
+  pub regions : List Contents
+  pub reached : IsReachedBy (setting_of texts detail plan classes) regions text left
+
+-- a text that the run had to write: the lines of the regions that passed, or an answer
+abbrev pub IsWholeOrPart : (List ℕ → Texts) → Detail → CountryInputs → List ℕ → Type 0
+IsWholeOrPart texts detail x text =
+    ((left : List (List ℕ)) × IsCountryPart texts detail x text left)
+    ⊎ ((status : ℕ) × IsCountryAnswer texts detail x (text, status))
+
+-- after the lines of the regions that passed the next folder was not read, or memory ran out; or the
+-- output failed after a beginning of what was to be written
+abbrev pub CountryBreaksOff : CountryFailure → (List ℕ → Texts) → Detail → CountryInputs
+    → Option (List ℕ) → Option (List ℕ) → Type 0
+CountryBreaksOff f texts detail x old new =
+    ((text : List ℕ) × (left : List (List ℕ)) × IsCountryPart texts detail x text left
+    × IsStoppedBefore left f × Appends old new text)
+    ⊎ (IsOfNone f (Write Out) × ((text : List ℕ) × IsWholeOrPart texts detail x text
+    × Begins old new text))
+
+-- the run gave no answer: a file at the top was not read, or memory ran out, before anything was
+-- written; or it broke off
+abbrev pub CountryHalts : CountryFailure → (List ℕ → Texts) → Detail
+    → (plan classes : Option (List ℕ)) → Option (List ℕ) → Option (List ℕ) → Type 0
+CountryHalts f texts detail plan classes old new =
+    (IsUnreadTop f × Keeps old new)
+    ⊎ ((x : CountryInputs) × AreCountryRead x plan classes
+    × CountryBreaksOff f texts detail x old new)

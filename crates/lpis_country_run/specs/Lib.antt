@@ -1,0 +1,5 @@
+pub mod CountryAnswer
+pub mod CountryFailures
+pub mod CountryLines
+pub mod Regions
+pub mod private

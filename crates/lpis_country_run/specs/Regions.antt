@@ -1,0 +1,76 @@
+-- The regions of a country, and what is known of the files of their folders.
+use Rattle.std.specs.Prelude.{◌≡◌, ℕ, List, [], ◌∷◌, All, Ok, Option, Some}
+use Rattle.lpis_covers.specs.declared.class.Class.{Class}
+use Rattle.lpis_covers.specs.Classes.{classes_table}
+use Rattle.lpis_covers.specs.Faults.{rows_of}
+use Rattle.lpis_parcels.specs.Release.{Contents}
+use Rattle.lpis_checker.specs.SoundMap.{IsSoundMap}
+use Rattle.lpis_commands.specs.CheckAnswer.{AreRead, Inputs, IsProvedOf}
+use Rattle.lpis_commands.specs.Streams.{IsRead}
+use Rattle.lpis_country.specs.Country.{country_of}
+use Rattle.lpis_country_plan.specs.CountryText.{IsCountryText}
+use Rattle.lpis_country_plan.specs.Tree.{Tree, folders}
+use Rattle.lpis_country_run.specs.declared.folder.Folder.{Folder}
+
+-- ---- a folder
+-- the four files of a folder, each as far as its bytes are known
+pub record Texts : Type 0 where
+  pub parcels : Option (List ℕ)
+  pub covers : Option (List ℕ)
+  pub classes : Option (List ℕ)
+  pub cert : Option (List ℕ)
+
+-- the readers of a folder have these texts left
+pub record AreGiven {R : Type 0} (remaining : R → Option (List ℕ)) (f : Folder R) (t : Texts) :
+    Type 0 where
+  pub parcels : remaining f.parcels ≡ t.parcels
+  pub covers : remaining f.covers ≡ t.covers
+  pub classes : remaining f.classes ≡ t.classes
+  pub cert : remaining f.cert ≡ t.cert
+
+-- four files whose bytes are all known
+abbrev pub texts_of : (parcels covers classes cert : List ℕ) → Texts
+texts_of parcels covers classes cert = record {
+  parcels = Some parcels;
+  covers = Some covers;
+  classes = Some classes;
+  cert = Some cert;
+}
+
+-- the inputs are what the files of a folder told, as far as it is known
+abbrev pub AreOfFolder : Inputs → Texts → Type 0
+AreOfFolder x t = AreRead x t.parcels t.covers t.classes t.cert
+
+-- they are the tables of this release, which is a sound map, and a certificate that is good for it
+abbrev pub IsRegionOf : Texts → Contents → Type 0
+IsRegionOf t r = (x : Inputs) × AreOfFolder x t × IsProvedOf x r
+
+-- ---- a country
+-- the bytes of the two files at the top of a country's folder
+pub record CountryInputs : Type 0 where
+  pub plan : List ℕ
+  pub classes : List ℕ
+
+-- these are what two readers reported, as far as it is known
+pub record AreCountryRead (x : CountryInputs) (plan classes : Option (List ℕ)) : Type 0 where
+  pub of_plan : IsRead x.plan plan
+  pub of_classes : IsRead x.classes classes
+
+-- a region of each folder, in this order
+abbrev pub AreRegionsOf : (List ℕ → Texts) → List (List ℕ) → List Contents → Type 0
+AreRegionsOf texts [] [] = Unit {0}
+AreRegionsOf texts (name ∷ names) (r ∷ rs) = IsRegionOf (texts name) r
+    × AreRegionsOf texts names rs
+AreRegionsOf texts _ _ = ⊥
+
+-- `country.txt` is the text of a plan, and `classes.csv` a table of classes. Each folder of the
+-- plan has a region with these classes, and the union of the regions is a sound map
+pub record IsCountry (texts : List ℕ → Texts) (x : CountryInputs) : Type 0 where
+  pub plan : Tree
+  pub text : IsCountryText x.plan plan
+  pub classes : List Class
+  pub table : rows_of classes_table x.classes ≡ Ok classes
+  pub regions : List Contents
+  pub of_folders : AreRegionsOf texts (folders plan) regions
+  pub same : All (λ (r : Contents). r.classes ≡ classes) regions
+  pub sound : IsSoundMap (country_of classes regions)

@@ -1,0 +1,158 @@
+-- How far a run over regions has come, and what the next region came to.
+use Rattle.std.specs.Prelude.{◌≡◌, ◌≤◌, ◌+◌, ◌*◌, ◌⊎◌, ◌++◌, ◌∷◌, [], ℕ, List, Option, Some, None}
+use Rattle.std.specs.Prelude.{Result, Ok, Err, length, map, take}
+use Rattle.std.specs.Io.KnownBytes.{Appends, Keeps}
+use Rattle.std.specs.Option.{option_map}
+use Rattle.std.specs.String.{string_bytes}
+use Rattle.lpis_covers.specs.Table.{most_rows}
+use Rattle.lpis_parcels.specs.Release.{Contents}
+use Rattle.lpis_commands.specs.declared.answer.Answer.{Answer}
+use Rattle.lpis_commands.specs.declared.command.Detail.{Detail}
+use Rattle.lpis_commands.specs.declared.failure.Failure.{Failure}
+use Rattle.lpis_commands.specs.declared.failure.Failure.TheVariants.{Memory, Read, Write}
+use Rattle.lpis_commands.specs.declared.failure.Name.TheVariants.{Out}
+use Rattle.lpis_commands.specs.Status.{done, refused}
+use Rattle.lpis_commands.specs.Streams.{Begins}
+use Rattle.lpis_country.specs.Country.{country_of}
+use Rattle.lpis_country_plan.specs.Limits.{most_regions}
+use Rattle.lpis_country_seam.specs.declared.fault.SeamFault.{SeamFault}
+use Rattle.lpis_country_seam.specs.Faults.{IsFirstSeamFault, seam_faults}
+use Rattle.lpis_country_seam.specs.Open.{AreJoined, HasNext, IsSeamOf}
+use Rattle.lpis_country_run.specs.declared.progress.Progress.{Progress}
+use Rattle.lpis_country_run.specs.declared.failure.CountryFailure.{CountryFailure}
+use Rattle.lpis_country_run.specs.CountryAnswer.{HavePassed, IsReachedBy, IsRefusedRegion}
+use Rattle.lpis_country_run.specs.CountryAnswer.{IsRegionsAnswer, Passes, Setting}
+use Rattle.lpis_country_run.specs.CountryFailures.{IsOfNone, IsStoppedBefore, IsUnreadFolder}
+use Rattle.lpis_country_run.specs.CountryLines.{country_lines, region_report, seam_refusal_text}
+use Rattle.lpis_country_run.specs.Regions.{Texts}
+use Rattle.lpis_country_run.specs.private.Totals.{AreTotalsOf, IsBounded, most_parcels}
+
+-- the names and the detail are those of the setting
+pub record AreOfSetting (s : Setting) (names : List (List ℕ)) (detail : Detail) : Type 0 where
+  pub names_are : s.names ≡ names
+  pub detail_is : s.detail ≡ detail
+
+-- and so are the texts
+pub record AreOfRun (s : Setting) (texts : List ℕ → Texts) (names : List (List ℕ))
+    (detail : Detail) : Type 0 where
+  pub texts_are : s.texts ≡ texts
+  pub others : AreOfSetting s names detail
+
+-- these regions passed
+pub record IsAt (s : Setting) (before : List Contents) (p : Progress) : Type 0 where
+  pub seam : IsSeamOf s.tiles s.classes before p.seam
+  pub totals : AreTotalsOf (country_of s.classes before) (country_of s.classes before).parcels
+      p.totals
+  pub few : p.totals.parcels ≤ most_rows * length before
+
+-- there is a tile for the next region, and its parcels can be counted
+pub record IsReady (p : Progress) : Type 0 where
+  pub next : HasNext p.seam
+  pub bounded : IsBounded p.totals
+  pub room : p.totals.parcels + most_rows ≤ most_parcels
+
+-- a region that is a sound map came to this: the text of one that passes, or the answer to its first
+-- fault
+abbrev pub FollowsAs : Setting → List Contents → List ℕ → Contents → Progress
+    → Result (Vec ℕ) Answer → Type 0
+FollowsAs s before name r p (Ok text) =
+    (seam_faults s.tiles s.classes before r ≡ [])
+    × (text.items ≡ region_report s.detail (country_of s.classes before) name r)
+    × IsAt s (before ++ r ∷ []) p
+FollowsAs s before name r p (Err a) =
+    (fault : SeamFault) × IsFirstSeamFault (seam_faults s.tiles s.classes before r) fault
+    × (a.text.items ≡ seam_refusal_text s.names name fault) × (a.status ≡ refused)
+
+-- the region of a folder came to this
+abbrev pub IsVerdict : Setting → List Contents → List ℕ → Progress → Result (Vec ℕ) Answer → Type 0
+IsVerdict s before name p (Ok text) =
+    (r : Contents) × Passes s before name r
+    × (text.items ≡ region_report s.detail (country_of s.classes before) name r)
+    × IsAt s (before ++ r ∷ []) p
+IsVerdict s before name p (Err a) = IsRefusedRegion s before name (a.text.items, a.status)
+
+-- the text of the verdict on the region of a folder
+abbrev pub IsVerdictText : Setting → List Contents → List ℕ → List ℕ → Type 0
+IsVerdictText s before name text =
+    ((r : Contents) × Passes s before name r
+    × (text ≡ region_report s.detail (country_of s.classes before) name r))
+    ⊎ ((status : ℕ) × IsRefusedRegion s before name (text, status))
+
+-- the verdict was written: none, where the region passed, or the status of its refusal
+abbrev pub IsWritten : Setting → List Contents → List ℕ → Progress → Option (List ℕ)
+    → Option (List ℕ) → Option ℕ → Type 0
+IsWritten s before name p old new None =
+    (r : Contents) × Passes s before name r
+    × Appends old new (region_report s.detail (country_of s.classes before) name r)
+    × IsAt s (before ++ r ∷ []) p
+IsWritten s before name p old new (Some status) =
+    (text : List ℕ) × IsRefusedRegion s before name (text, status) × Appends old new text
+
+-- there is no verdict; or the output failed after a beginning of it
+abbrev pub IsUnwritten : Setting → List Contents → List ℕ → Option (List ℕ) → Option (List ℕ)
+    → Failure → Type 0
+IsUnwritten s before name old new failure =
+    (IsUnreadFolder failure × Keeps old new)
+    ⊎ ((failure ≡ Write Out) × ((text : List ℕ) × IsVerdictText s before name text
+    × Begins old new text))
+
+-- the lines of the country and the yes were written
+pub record IsFinished (s : Setting) (regions : List Contents) (old new : Option (List ℕ))
+    (status : ℕ) : Type 0 where
+  pub done_is : status ≡ done
+  pub written : Appends old new
+      (country_lines (length regions) (country_of s.classes regions))
+
+-- they were not, or not all of them
+abbrev pub IsUnfinished : Setting → List Contents → Option (List ℕ) → Option (List ℕ) → Failure
+    → Type 0
+IsUnfinished s regions old new failure =
+    ((failure ≡ Memory) × Keeps old new)
+    ⊎ ((failure ≡ Write Out)
+    × Begins old new (country_lines (length regions) (country_of s.classes regions)))
+
+-- a failure, and the folder of this name where its file was not read
+abbrev pub IsFailureOf : Failure → List ℕ → CountryFailure → Type 0
+IsFailureOf (Read file) name f =
+    (f.failure ≡ Read file) × (option_map string_bytes f.region ≡ Some name)
+IsFailureOf failure name f = IsOfNone f failure
+
+-- what a run over all regions begins with
+pub record IsStart (s : Setting) (texts : List ℕ → Texts) (names : List (List ℕ)) (detail : Detail)
+    (p : Progress) : Type 0 where
+  pub at : IsAt s [] p
+  pub run : AreOfRun s texts names detail
+  pub as_many : length names ≡ length s.tiles
+  pub few : length names ≤ most_regions
+
+-- the regions before these folders passed, and this is what they left
+pub record IsHere (s : Setting) (p : Progress) (n : ℕ) (old new : Option (List ℕ)) : Type 0 where
+  pub before : List Contents
+  pub text : List ℕ
+  pub have_passed : HavePassed s (take n s.names) before text
+  pub written : Appends old new text
+  pub at : IsAt s before p
+  pub number : length before ≡ n
+
+-- the text that a run over regions had to write
+abbrev pub IsPartOrWhole : Setting → List ℕ → Type 0
+IsPartOrWhole s text =
+    ((regions : List Contents) × (left : List (List ℕ)) × IsReachedBy s regions text left)
+    ⊎ ((status : ℕ) × IsRegionsAnswer s (text, status))
+
+-- a run over regions broke off
+abbrev pub RegionsBreakOff : Setting → Option (List ℕ) → Option (List ℕ) → CountryFailure → Type 0
+RegionsBreakOff s old new f =
+    ((regions : List Contents) × (text : List ℕ) × (left : List (List ℕ))
+    × IsReachedBy s regions text left × IsStoppedBefore left f × Appends old new text)
+    ⊎ (IsOfNone f (Write Out) × ((text : List ℕ) × IsPartOrWhole s text × Begins old new text))
+
+-- a run over regions answered with this status
+abbrev pub RegionsEnd : Setting → Option (List ℕ) → Option (List ℕ) → ℕ → Type 0
+RegionsEnd s old new status =
+    (text : List ℕ) × IsRegionsAnswer s (text, status) × Appends old new text
+
+-- the regions of all folders passed
+abbrev pub HaveAllPassed : Setting → List Contents → Type 0
+HaveAllPassed s regions = ((text : List ℕ) × HavePassed s s.names regions text)
+    × AreJoined s.tiles s.classes regions

@@ -1,0 +1,159 @@
+//! The run over the regions of a country.
+
+ghost use Rattle.std.specs.Prelude.{◌≡◌, ◌<◌, [], IfErr, IfOk, List, get_or, length, map};
+ghost use Rattle.std.specs.String.{string_bytes};
+ghost use Rattle.lpis_parcels.specs.Release.{Contents};
+ghost use Rattle.lpis_commands.specs.Status.{done};
+ghost use Rattle.lpis_country_run.specs.CountryAnswer.{CountryEnds, Setting};
+ghost use Rattle.lpis_country_run.specs.CountryFailures.{CountryBreaksOff, CountryHalts};
+ghost use Rattle.lpis_country_run.specs.Regions.{AreCountryRead, CountryInputs};
+ghost use Rattle.lpis_country_run.specs.private.Beginning.{IsBegun};
+ghost use Rattle.lpis_country_run.specs.private.Progressing.{HaveAllPassed, IsAt, IsFailureOf};
+ghost use Rattle.lpis_country_run.specs.private.Progressing.{IsFinished, IsStart, IsUnfinished};
+ghost use Rattle.lpis_country_run.specs.private.Progressing.{RegionsBreakOff, RegionsEnd};
+ghost use Rattle.lpis_country_run.specs.private.Totals.{IsPrintable};
+
+use crate::beginning::{Begun, begin, read_top};
+use crate::failure::CountryFailure;
+use crate::folder::Regions;
+use crate::judging::pass;
+use crate::lines::report_country;
+use crate::progress::Progress;
+use crate::totals::Totals;
+use lpis_commands::{Detail, Failure};
+use lpis_country_seam::OpenSeam;
+use std::alloc::Global;
+use std::io::{Read, Write};
+
+/// The failure of the region of this number.
+fn of_region(failure: Failure, names: Vec<String>, index: usize) -> CountryFailure
+    requires { index < length names.items }
+    ensures { IsFailureOf failure (get_or (map string_bytes names.items) index []) result }
+{
+    let mut names = names;
+    match failure {
+        Failure::Read(_) => CountryFailure {
+            failure,
+            region: Some(names.swap_remove(index)),
+        },
+        _ => CountryFailure::from(failure),
+    }
+}
+
+/// Writes the line of the country of so many regions, and the yes.
+fn finish<W: Write>(
+    alloc: Global,
+    count: usize,
+    progress: &Progress,
+    out: &mut W,
+) -> Result<u8, Failure>
+    requires { IsPrintable progress.now.totals }
+    ensures finished { (s : Setting) (regions : List Contents) → IsAt s regions progress.now
+        → count ≡ length regions → IfOk result (IsFinished s regions (W.contents out.old)
+        (W.contents out.new)) }
+    ensures failure { (s : Setting) (regions : List Contents) → IsAt s regions progress.now
+        → count ≡ length regions → IfErr result (IsUnfinished s regions (W.contents out.old)
+        (W.contents out.new)) }
+{
+    let answer = report_country(alloc, count, progress.totals)?;
+    answer.write_to(out)
+}
+
+/// Reads and judges the regions of these names, one after the other.
+fn run_regions<G: Regions, W: Write>(
+    alloc: Global,
+    regions: &G,
+    names: Vec<String>,
+    progress: Progress,
+    detail: Detail,
+    out: &mut W,
+) -> Result<u8, CountryFailure>
+    requires { (s : Setting) × IsStart s (G.texts regions.now) (map string_bytes names.items) detail
+        progress }
+    ensures answer { (s : Setting) → IsStart s (G.texts regions.now)
+        (map string_bytes names.items) detail progress
+        → IfOk result (RegionsEnd s (W.contents out.old) (W.contents out.new)) }
+    ensures proved { (s : Setting) → IsStart s (G.texts regions.now)
+        (map string_bytes names.items) detail progress
+        → IfOk result (λ status. status ≡ done → (all : List Contents) × HaveAllPassed s all) }
+    ensures failure { (s : Setting) → IsStart s (G.texts regions.now)
+        (map string_bytes names.items) detail progress
+        → IfErr result (RegionsBreakOff s (W.contents out.old) (W.contents out.new)) }
+{
+    let mut progress = progress;
+    for index in 0..names.len() {
+        let passed = pass(
+            alloc,
+            regions,
+            names.as_slice(),
+            names[index].as_str(),
+            detail,
+            &mut progress,
+            out,
+        );
+        match passed {
+            Ok(None) => {}
+            Ok(Some(status)) => return Ok(status),
+            Err(failure) => return Err(of_region(failure, names, index)),
+        }
+    }
+    Ok(finish(alloc, names.len(), &progress, out)?)
+}
+
+/// The run over the regions of a plan.
+fn run_begun<G: Regions, W: Write>(
+    alloc: Global,
+    regions: &G,
+    begun: Begun,
+    detail: Detail,
+    out: &mut W,
+) -> Result<u8, CountryFailure>
+    ensures ends { (x : CountryInputs) → IsBegun x begun → IfOk result (λ status.
+        CountryEnds (G.texts regions.now) detail x status (W.contents out.old)
+        (W.contents out.new)) }
+    ensures failure { (x : CountryInputs) → IsBegun x begun → IfErr result (λ f.
+        CountryBreaksOff f (G.texts regions.now) detail x (W.contents out.old)
+        (W.contents out.new)) }
+{
+    let Begun {
+        names,
+        tiles,
+        classes,
+    } = begun;
+    let progress = Progress {
+        seam: OpenSeam::new(alloc, tiles, classes),
+        totals: Totals::none(),
+    };
+    run_regions(alloc, regions, names, progress, detail, out)
+}
+
+/// Checks a country, region by region, and prints what each region that passes has, and what all of
+/// them have together, with a yes where their union is a sound map; or the line of the first fault.
+///
+/// `country` is the text of its plan, `classes` the table of classes that all regions have. Faults
+/// come in this order: of the plan, of the classes, of the regions in the order of the plan. A
+/// region is read, checked against its certificate, tested against those before it, and let go
+/// before the next one is read; what is printed of it is written once it has passed. Ok is the
+/// status: `DONE`, `REFUSED` or `UNREADABLE`.
+pub fn run_country<P: Read + Drop, K: Read + Drop, G: Regions, W: Write>(
+    alloc: Global,
+    country: P,
+    classes: K,
+    regions: &G,
+    detail: Detail,
+    out: &mut W,
+) -> Result<u8, CountryFailure>
+    ensures answer { IfOk result (λ status. (x : CountryInputs)
+        × AreCountryRead x (P.remaining country) (K.remaining classes)
+        × CountryEnds (G.texts regions.now) detail x status (W.contents out.old)
+        (W.contents out.new)) }
+    // The lines of the regions that passed were written, or a beginning of the answer.
+    ensures failure { IfErr result (λ f. CountryHalts f (G.texts regions.now) detail
+        (P.remaining country) (K.remaining classes) (W.contents out.old) (W.contents out.new)) }
+{
+    let top = read_top(alloc, country, classes)?;
+    match begin(alloc, top)? {
+        Ok(begun) => run_begun(alloc, regions, begun, detail, out),
+        Err(answer) => Ok(answer.write_to(out)?),
+    }
+}

@@ -1,0 +1,66 @@
+//! The folders of a country's regions.
+
+ghost use Rattle.std.specs.Prelude.{IfErr, IfOk, List, ℕ};
+ghost use Rattle.lpis_commands.specs.Inputs.{inputs_of};
+ghost use Rattle.lpis_country_run.specs.CountryFailures.{IsUnreadFolder};
+ghost use Rattle.lpis_country_run.specs.Regions.{AreGiven, AreOfFolder, Texts};
+
+use lpis_commands::{Failure, InputBytes, read_inputs};
+use std::alloc::Global;
+use std::io::Read;
+
+/// The readers of the four files of a folder.
+#[derive(Drop)]
+pub struct Folder<R: Drop> {
+    /// The parcels table.
+    pub parcels: R,
+    /// The covers table.
+    pub covers: R,
+    /// The classes table.
+    pub classes: R,
+    /// The certificate.
+    pub cert: R,
+}
+
+/// The folders of a country, each of which is opened by its name.
+pub trait Regions {
+    /// The reader of a file.
+    type File: Read + Drop;
+
+    /// What is known of the bytes of the files of each folder.
+    ghost texts: { Self → List ℕ → Texts };
+
+    /// Opens the four files of the folder of this name.
+    fn open(&self, name: &str) -> Result<Folder<Self::File>, Failure>
+        ensures given { IfOk result (λ f. AreGiven Self.File.remaining f
+            (texts self.now name.now)) }
+        ensures failure { IfErr result IsUnreadFolder };
+}
+
+/// All bytes of the files of a folder.
+fn read_opened<R: Read + Drop>(alloc: Global, folder: Folder<R>) -> Result<InputBytes, Failure>
+    ensures bytes { (t : Texts) → AreGiven R.remaining folder t
+        → IfOk result (λ i. AreOfFolder (inputs_of i) t) }
+    ensures failure { IfErr result IsUnreadFolder }
+{
+    let Folder {
+        parcels,
+        covers,
+        classes,
+        cert,
+    } = folder;
+    read_inputs(alloc, parcels, covers, classes, cert)
+}
+
+/// All bytes of the files of the folder of this name.
+pub(crate) fn read_folder<G: Regions>(
+    alloc: Global,
+    regions: &G,
+    name: &str,
+) -> Result<InputBytes, Failure>
+    ensures bytes { IfOk result (λ i. AreOfFolder (inputs_of i) (G.texts regions.now name.now)) }
+    ensures failure { IfErr result IsUnreadFolder }
+{
+    let folder = regions.open(name)?;
+    read_opened(alloc, folder)
+}

@@ -1,0 +1,138 @@
+//! The lines of regions that passed, and of the country.
+
+ghost use Rattle.std.specs.Prelude.{◌≡◌, ◌≤◌, ◌++◌, IfOk, List, OnOk, codes, nat_abs};
+ghost use Rattle.std.specs.Io.KnownBytes.{Appends};
+ghost use Rattle.std.specs.List.{flat_map};
+ghost use Rattle.lpis_checker.specs.SoundMap.{AreasAdd};
+ghost use Rattle.lpis_parcels.specs.declared.parcel.Parcel.{Parcel};
+ghost use Rattle.lpis_parcels.specs.Release.{Contents};
+ghost use Rattle.lpis_commands.specs.Report.{parcel_line};
+ghost use Rattle.lpis_commands.specs.Status.{done};
+ghost use Rattle.lpis_country.specs.Country.{IsRegion, new_parcels};
+ghost use Rattle.lpis_country_run.specs.CountryLines.{country_lines, detail_lines};
+ghost use Rattle.lpis_country_run.specs.CountryLines.{region_report, region_sums_line};
+ghost use Rattle.lpis_country_run.specs.private.Totals.{AreAt, ArePlaces, AreTotalsOf, IsPrintable};
+ghost use Rattle.lpis_country_run.specs.private.Totals.{totals_text};
+
+use crate::totals::{Totals, parcel_at, release_totals};
+use lpis_commands::{Answer, DONE, Detail, PrintFault, print_areas, print_parcel};
+use lpis_country::is_region;
+use lpis_parcels::Release;
+use std::alloc::{AllocError, Global};
+use std::io::Write;
+
+/// Writes counts and areas, up to the end of the line.
+fn print_totals<W: Write>(totals: Totals, out: &mut W) -> Result<(), PrintFault>
+    requires { IsPrintable totals }
+    ensures { OnOk result (Appends (W.contents out.old) (W.contents out.new)
+        (totals_text totals)) }
+{
+    let Totals {
+        parcels,
+        pieces,
+        areas,
+    } = totals;
+    write!(out, " parcels {parcels} pieces {pieces}")?;
+    print_areas(areas, out)
+}
+
+/// Writes the line of a region.
+fn print_region<W: Write>(name: &str, release: &Release, out: &mut W) -> Result<(), PrintFault>
+    requires { AreasAdd release.now }
+    ensures { OnOk result (Appends (W.contents out.old) (W.contents out.new)
+        (region_sums_line name.now release.now)) }
+{
+    is_region(release);
+    write!(out, "region {name}")?;
+    print_totals(release_totals(release), out)
+}
+
+/// Writes the lines of the parcels at these places.
+fn print_parcels<W: Write>(
+    release: &Release,
+    places: &[usize],
+    out: &mut W,
+) -> Result<(), PrintFault>
+    requires areas { AreasAdd release.now }
+    requires places { ArePlaces release.now places.now }
+    ensures { (ks : List Parcel) → AreAt release.now places.now ks
+        → OnOk result (Appends (W.contents out.old) (W.contents out.new)
+        (flat_map (parcel_line release.now) ks)) }
+{
+    for (count, place) in places.iter().enumerate() {
+        print_parcel(release, parcel_at(release, *place), out)?;
+    }
+    Ok(())
+}
+
+/// Writes the lines of the parcels at these places, if they are asked for.
+fn print_detail<W: Write>(
+    release: &Release,
+    places: &[usize],
+    detail: Detail,
+    out: &mut W,
+) -> Result<(), PrintFault>
+    requires areas { AreasAdd release.now }
+    requires places { ArePlaces release.now places.now }
+    ensures { (u : Contents) → AreAt release.now places.now (new_parcels u release.now)
+        → OnOk result (Appends (W.contents out.old) (W.contents out.new)
+        (detail_lines detail u release.now)) }
+{
+    match detail {
+        Detail::Regions => Ok(()),
+        Detail::Parcels => print_parcels(release, places, out),
+    }
+}
+
+/// What is printed of a region that passed, whose new parcels are at these places.
+pub(crate) fn report_region(
+    alloc: Global,
+    name: &str,
+    release: &Release,
+    places: &[usize],
+    detail: Detail,
+) -> Result<Vec<u8>, AllocError>
+    requires areas { AreasAdd release.now }
+    requires places { ArePlaces release.now places.now }
+    ensures { (u : Contents) → AreAt release.now places.now (new_parcels u release.now)
+        → IfOk result (λ text. text.items ≡ region_report detail u name.now release.now) }
+{
+    let mut text = Vec::new(alloc);
+    match print_region(name, release, &mut text) {
+        Ok(()) => {}
+        Err(_) => return Err(AllocError),
+    }
+    match print_detail(release, places, detail, &mut text) {
+        Ok(()) => Ok(text),
+        Err(_) => Err(AllocError),
+    }
+}
+
+/// Writes the line of the country of so many regions, and the yes.
+fn print_country<W: Write>(count: usize, totals: Totals, out: &mut W) -> Result<(), PrintFault>
+    requires { IsPrintable totals }
+    ensures { OnOk result (Appends (W.contents out.old) (W.contents out.new)
+        (codes "country regions " ++ decimal count ++ totals_text totals ++ codes "yes\n")) }
+{
+    write!(out, "country regions {count}")?;
+    print_totals(totals, out)?;
+    out.write_all(b"yes\n")?;
+    Ok(())
+}
+
+/// What is printed of the country of so many regions, all of which passed.
+pub(crate) fn report_country(
+    alloc: Global,
+    count: usize,
+    totals: Totals,
+) -> Result<Answer, AllocError>
+    requires { IsPrintable totals }
+    ensures { (u : Contents) → IsRegion u → AreTotalsOf u u.parcels totals → IfOk result
+        (λ a. (a.text.items ≡ country_lines count u) × (a.status ≡ done)) }
+{
+    let mut text = Vec::new(alloc);
+    match print_country(count, totals, &mut text) {
+        Ok(()) => Ok(Answer { text, status: DONE }),
+        Err(_) => Err(AllocError),
+    }
+}

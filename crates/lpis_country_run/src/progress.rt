@@ -1,0 +1,54 @@
+//! How far a run over regions has come.
+
+ghost use Rattle.std.specs.Prelude.{◌≡◌, [], ◌∷◌, ◌++◌, IfOk, List, map};
+ghost use Rattle.std.specs.String.{string_bytes};
+ghost use Rattle.lpis_checker.specs.SoundMap.{AreasAdd};
+ghost use Rattle.lpis_parcels.specs.Release.{Contents};
+ghost use Rattle.lpis_country_run.specs.CountryAnswer.{Setting};
+ghost use Rattle.lpis_country_run.specs.private.Progressing.{AreOfSetting, FollowsAs, IsAt};
+ghost use Rattle.lpis_country_run.specs.private.Progressing.{IsReady};
+
+use crate::lines::report_region;
+use crate::refusals::refuse_seam;
+use crate::totals::{Totals, totals_at};
+use lpis_commands::{Answer, Detail};
+use lpis_country::is_region;
+use lpis_country_seam::{OpenSeam, SeamFault};
+use lpis_parcels::Release;
+use std::alloc::{AllocError, Global};
+
+/// What is kept of the regions that passed, and what their country has.
+#[derive(Drop)]
+pub(crate) struct Progress {
+    pub(crate) seam: OpenSeam,
+    pub(crate) totals: Totals,
+}
+
+/// Tests a region that is a sound map against those before it: what is printed of it, or the answer
+/// to its first fault.
+pub(crate) fn follow(
+    alloc: Global,
+    names: &[String],
+    name: &str,
+    detail: Detail,
+    progress: &mut Progress,
+    release: &Release,
+) -> Result<Result<Vec<u8>, Answer>, AllocError>
+    requires ready { IsReady progress.old }
+    requires areas { AreasAdd release.now }
+    ensures { (s : Setting) (before : List Contents) → IsAt s before progress.old
+        → AreOfSetting s (map string_bytes names.now) detail
+        → IfOk result (FollowsAs s before name.now release.now progress.new) }
+{
+    is_region(release);
+    match progress.seam.step(alloc, release) {
+        Ok(places) => {
+            let text = report_region(alloc, name, release, places.as_slice(), detail)?;
+            let totals = totals_at(release, places.as_slice());
+            progress.totals = progress.totals.plus(totals);
+            Ok(Ok(text))
+        }
+        Err(SeamFault::Memory) => Err(AllocError),
+        Err(fault) => Ok(Err(refuse_seam(alloc, names, name, &fault)?)),
+    }
+}

@@ -1,0 +1,92 @@
+//! The lines of a country that is refused.
+
+ghost use Rattle.std.specs.Prelude.{◌≡◌, IfOk, OnOk, get_or, [], map};
+ghost use Rattle.std.specs.Io.KnownBytes.{Appends};
+ghost use Rattle.std.specs.String.{string_bytes};
+ghost use Rattle.lpis_commands.specs.Status.{refused, unreadable};
+ghost use Rattle.lpis_country_run.specs.CountryLines.{plan_refusal_text, region_end};
+ghost use Rattle.lpis_country_run.specs.CountryLines.{seam_refusal_text};
+
+use lpis_commands::{Answer, PrintFault, REFUSED, UNREADABLE};
+use lpis_country_seam::{SeamFault, classes_code};
+use std::alloc::{AllocError, Global};
+use std::io::Write;
+
+/// The line of a text that is no plan.
+pub(crate) fn refuse_plan(alloc: Global, line: u64) -> Result<Answer, AllocError>
+    ensures { IfOk result (λ a. (a.text.items ≡ plan_refusal_text line)
+        × (a.status ≡ unreadable)) }
+{
+    let mut text = Vec::new(alloc);
+    match write!(text, "refused 90 country line {line}\n") {
+        Ok(()) => Ok(Answer {
+            text,
+            status: UNREADABLE,
+        }),
+        Err(_) => Err(AllocError),
+    }
+}
+
+/// The name of this number, or no name.
+fn name_at(names: &[String], number: usize) -> &str
+    ensures { result.now ≡ get_or (map string_bytes names.now) number [] }
+{
+    match names.get(number) {
+        Some(name) => name.as_str(),
+        None => "",
+    }
+}
+
+/// Writes the region at the end of a line.
+fn print_end<W: Write>(name: &str, out: &mut W) -> Result<(), PrintFault>
+    ensures { OnOk result (Appends (W.contents out.old) (W.contents out.new)
+        (region_end name.now)) }
+{
+    write!(out, " region {name}\n")?;
+    Ok(())
+}
+
+/// Writes the line of a region of this name that does not fit those before it. Out of memory is no
+/// refusal, and has no line.
+fn print_seam_fault<W: Write>(
+    names: &[String],
+    name: &str,
+    fault: &SeamFault,
+    out: &mut W,
+) -> Result<(), PrintFault>
+    ensures { OnOk result (Appends (W.contents out.old) (W.contents out.new)
+        (seam_refusal_text (map string_bytes names.now) name.now fault.now)) }
+{
+    match fault {
+        SeamFault::Memory => Ok(()),
+        SeamFault::Classes { row } => {
+            write!(out, "refused {} classes row {row}", classes_code())?;
+            print_end(name, out)
+        }
+        SeamFault::At { code, id, region } => {
+            write!(out, "refused {} parcel {}", code.as_str(), id.as_str())?;
+            print_end(name_at(names, *region), out)
+        }
+    }
+}
+
+/// The line of a region of this name that does not fit those before it.
+pub(crate) fn refuse_seam(
+    alloc: Global,
+    names: &[String],
+    name: &str,
+    fault: &SeamFault,
+) -> Result<Answer, AllocError>
+    ensures { IfOk result (λ a. (a.text.items
+        ≡ seam_refusal_text (map string_bytes names.now) name.now fault.now)
+        × (a.status ≡ refused)) }
+{
+    let mut text = Vec::new(alloc);
+    match print_seam_fault(names, name, fault, &mut text) {
+        Ok(()) => Ok(Answer {
+            text,
+            status: REFUSED,
+        }),
+        Err(_) => Err(AllocError),
+    }
+}

@@ -1,0 +1,114 @@
+//! Counts and areas of parcels, added up.
+
+ghost use Rattle.std.specs.Prelude.{◌≡◌, ◌≤◌, ◌<◌, ◌∷◌, ◌++◌, [], Contains, List, Some, length};
+ghost use Rattle.std.specs.Prelude.{slice_get};
+ghost use Rattle.lpis_checker.specs.SoundMap.{AreasAdd};
+ghost use Rattle.lpis_covers.specs.Table.{most_rows};
+ghost use Rattle.lpis_parcels.specs.declared.parcel.Parcel.{Parcel};
+ghost use Rattle.lpis_parcels.specs.Release.{Contents, pieces_named};
+ghost use Rattle.lpis_country_run.specs.private.Totals.{AreAddable, AreAt, ArePlaces};
+ghost use Rattle.lpis_country_run.specs.private.Totals.{AreTotalsOf};
+
+use lpis_commands::{Areas, areas_of};
+use lpis_covers::Id;
+use lpis_parcels::{Parcel, Release, pieces_of};
+
+/// How many parcels and pieces there are, the area of all parcels, and how much of it is eligible.
+#[derive(Clone, Copy, Debug, PartialEq, Eq)]
+pub(crate) struct Totals {
+    pub(crate) parcels: usize,
+    pub(crate) pieces: usize,
+    pub(crate) areas: Areas,
+}
+
+impl Totals {
+    /// Of no parcels.
+    pub(crate) fn none() -> Totals
+        ensures { (r : Contents) → AreTotalsOf r [] result }
+    {
+        Totals {
+            parcels: 0,
+            pieces: 0,
+            areas: Areas {
+                area: 0,
+                weighted: 0,
+            },
+        }
+    }
+
+    /// Of these parcels and others.
+    pub(crate) fn plus(self, others: Totals) -> Totals
+        requires { AreAddable self others }
+        ensures { (r : Contents) (ks ls : List Parcel) → AreTotalsOf r ks self
+            → AreTotalsOf r ls others → AreTotalsOf r (ks ++ ls) result }
+    {
+        Totals {
+            parcels: self.parcels + others.parcels,
+            pieces: self.pieces + others.pieces,
+            areas: Areas {
+                area: self.areas.area + others.areas.area,
+                weighted: self.areas.weighted + others.areas.weighted,
+            },
+        }
+    }
+}
+
+/// How many pieces the parcel of this identifier has.
+fn count_pieces(release: &Release, parcel: &Id) -> usize
+    ensures count { result ≡ length (pieces_named release.now parcel.now) }
+    ensures few { result ≤ most_rows }
+{
+    // They are few.
+    let _ = release.pieces();
+    pieces_of(release, parcel).count()
+}
+
+/// Of one parcel.
+fn parcel_totals(release: &Release, parcel: &Parcel) -> Totals
+    requires areas { AreasAdd release.now }
+    requires among { Contains release.now.parcels parcel.now }
+    ensures { AreTotalsOf release.now (parcel.now ∷ []) result }
+{
+    Totals {
+        parcels: 1,
+        pieces: count_pieces(release, &parcel.id),
+        areas: areas_of(release, parcel),
+    }
+}
+
+/// Of all parcels of a release.
+pub(crate) fn release_totals(release: &Release) -> Totals
+    requires { AreasAdd release.now }
+    ensures { AreTotalsOf release.now release.now.parcels result }
+{
+    let mut totals = Totals::none();
+    for (count, parcel) in release.parcels().iter().enumerate() {
+        totals = totals.plus(parcel_totals(release, parcel));
+    }
+    totals
+}
+
+/// The parcel at a place.
+pub(crate) fn parcel_at(release: &Release, place: usize) -> &Parcel
+    requires { place < length release.now.parcels }
+    ensures parcel { slice_get release.now.parcels place ≡ Some result.now }
+    ensures among { Contains release.now.parcels result.now }
+{
+    &release.parcels()[place]
+}
+
+/// Of the parcels at these places.
+pub(crate) fn totals_at(release: &Release, places: &[usize]) -> Totals
+    requires areas { AreasAdd release.now }
+    requires places { ArePlaces release.now places.now }
+    requires few { length places.now ≤ most_rows }
+    ensures { (ks : List Parcel) → AreAt release.now places.now ks
+        → AreTotalsOf release.now ks result }
+{
+    let mut totals = Totals::none();
+    for (count, place) in places.iter().enumerate() {
+        let parcel = parcel_at(release, *place);
+        totals = totals.plus(parcel_totals(release, parcel));
+    }
+    totals
+}
