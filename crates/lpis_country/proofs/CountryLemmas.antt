@@ -1,9 +1,9 @@
 -- The country of a list of regions: what one region more adds, and that it is the regions' union.
-use Rattle.std.proofs.Common.{◌≡◌, ℕ, Bool, true, false, not, List, [], ◌∷◌, ◌++◌, length, filter, Some, All, ap, ap₂, sym, refl, ◌∙◌, subst, append-nil, IsTrue}
+use Rattle.std.proofs.Common.{◌≡◌, ℕ, Bool, true, false, not, List, [], ◌∷◌, ◌++◌, Some, All, ap, ap₂, sym, refl, ◌∙◌, subst, append-nil, IsTrue}
 use Rattle.std.specs.Prelude.{Contains as IsAmong}
 use Rattle.std.specs.List.{slice_get, Any, IsDistinct}
 use Rattle.std.proofs.lemmas.List.{map-append}
-use Rattle.std.proofs.lemmas.List.Elements.{All-append, All-contains, All-filter, All-head, All-map, All-nil, All-tail, Contains-append_left, Contains-append_right, filter-append}
+use Rattle.std.proofs.lemmas.List.Elements.{All-append, All-filter, All-head, All-map, All-nil, All-tail, Contains-append_left, Contains-append_right, filter-append}
 use Rattle.std.proofs.lemmas.Slice.Eq.{bytes_eq-Decides}
 use Rattle.lpis_covers.specs.declared.class.Class.{Class}
 use Rattle.lpis_covers.specs.declared.piece.Piece.{Piece}
@@ -34,7 +34,7 @@ pub pieces_come : (u r : Contents) (id : List ℕ) → All (NamedIn u.parcels) u
 pieces_come u r id n h =
     filter-append (names_parcel id) u.pieces (new_pieces u r)
     ∙ ap₂ (λ (xs ys : List Piece). xs ++ ys) (filter_none (names_parcel id) u.pieces (all_from (λ (x : Piece). names_parcel id x ≡ false) u.pieces none))
-      (filter_both (names_parcel id) (λ (x : Piece). is_new u x.parcel) (λ x e. ap not (ap (has_id (parcel_ids u.parcels)) (sym ((bytes_eq-Decides id x.parcel).0 e)) ∙ h)) r.pieces)
+    (filter_both (names_parcel id) (λ (x : Piece). is_new u x.parcel) (λ x e. ap not (ap (has_id (parcel_ids u.parcels)) (sym ((bytes_eq-Decides id x.parcel).0 e)) ∙ h)) r.pieces)
   where
     none : (k : ℕ) (x : Piece) → slice_get u.pieces k ≡ Some x → names_parcel id x ≡ false
     none k x e = by (names_parcel id x) refl
@@ -55,7 +55,6 @@ old_id false e = absurd (clash true refl e)
 
 pub old_pieces : (u r : Contents) (k : Parcel) → IsAmong u.parcels k → pieces_named (with_region u r) k.id ≡ pieces_named u k.id
 old_pieces u r k h = pieces_stay u r k.id (has_among u.parcels k h)
-
 
 new_at : (u r : Contents) (i : ℕ) (k : Parcel) → slice_get (new_parcels u r) i ≡ Some k → has_id (parcel_ids u.parcels) k.id ≡ false
 new_at u r i k e = not_new (has_id (parcel_ids u.parcels) k.id) (filter_kept (λ (x : Parcel). is_new u x.id) r.parcels i k e).passes

@@ -1,22 +1,19 @@
 -- Regions each of which fits to those before it, one for each tile.
-use Rattle.std.proofs.Common.{◌≡◌, ℕ, zero, suc, ◌<◌, ◌≤◌, Bool, true, false, not, List, [], ◌∷◌, ◌++◌, ◌⊎◌, inl, inr, length, take, get_or, Some, All, ap, sym, refl, ◌∙◌, subst, append-nil, append_assoc, arith}
-use Rattle.std.specs.Prelude.{Contains as IsAmong, ℤ, pos, ◌<ℤ◌}
-use Rattle.std.specs.List.{slice_get, Any, list_any}
-use Rattle.std.proofs.lemmas.List.{length-append}
+use Rattle.std.proofs.Common.{◌≡◌, ℕ, zero, suc, ◌<◌, true, false, not, List, [], ◌∷◌, ◌++◌, ◌⊎◌, inl, inr, length, take, Some, All, ap, sym, refl, ◌∙◌, subst, append-nil, append_assoc, arith}
+use Rattle.std.specs.Prelude.{Contains as IsAmong}
+use Rattle.std.specs.List.{slice_get}
 use Rattle.std.proofs.lemmas.List.Elements.{All-append, All-contains, All-head, All-nil, All-tail}
-use Rattle.std.proofs.lemmas.Option.{none-some, same_Some, slice_get-get_or, slice_get_within}
-use Rattle.std.proofs.lemmas.Slice.Eq.{bytes_eq-Decides}
+use Rattle.std.proofs.lemmas.Option.{none-some, slice_get_within}
 use Rattle.lpis_points.specs.declared.boxes.Box4.{Box4}
-use Rattle.lpis_points.specs.Plane.{RationalPoint}
 use Rattle.lpis_rings.specs.Edges.{turns}
 use Rattle.lpis_covers.specs.declared.class.Class.{Class}
-use Rattle.lpis_covers.specs.Ids.{has_id, same_id}
+use Rattle.lpis_covers.specs.Ids.{has_id}
 use Rattle.lpis_parcels.specs.declared.parcel.Parcel.{Parcel}
 use Rattle.lpis_parcels.specs.Release.{Contents, parcel_ids}
 use Rattle.lpis_edge_sums.proofs.Shared.{Found, all_at, found_any}
 use Rattle.lpis_checker.specs.SoundMap.{IsInParcel, IsSoundMap, TurnsTell}
 use Rattle.lpis_country.specs.Polygons.{HasClosedRings, box_of_members}
-use Rattle.lpis_country.specs.Tiling.{Tiling, frame, meets, reaches, rectangles}
+use Rattle.lpis_country.specs.Tiling.{Tiling, frame, reaches, rectangles}
 use Rattle.lpis_country.specs.Country.{IsRegion, country_of, is_new, new_parcels, with_region}
 use Rattle.lpis_country.specs.Fitting.{EachFits, FitsCountry, IsDouble}
 use Rattle.lpis_country.proofs.ListLemmas.{all_among, among_at, clash, front_or_last, item_at, placed}
@@ -121,8 +118,8 @@ made tiles classes rs g c h = by [] rs (record { union = no_regions classes; sta
     by done (s ∷ ss) m g c h =
         let same = append_assoc done (s ∷ []) ss in
         subst (IsMade tiles classes) same (by (done ++ s ∷ []) ss
-          (made_more tiles classes done s m (All-head IsRegion s ss g) (All-head (λ (r : Contents). r.classes ≡ classes) s ss c) (h done s ss refl))
-          (All-tail IsRegion s ss g) (All-tail (λ (r : Contents). r.classes ≡ classes) s ss c) (subst (EachFits tiles classes) (sym same) h))
+        (made_more tiles classes done s m (All-head IsRegion s ss g) (All-head (λ (r : Contents). r.classes ≡ classes) s ss c) (h done s ss refl))
+        (All-tail IsRegion s ss g) (All-tail (λ (r : Contents). r.classes ≡ classes) s ss c) (subst (EachFits tiles classes) (sym same) h))
 
 -- ---- the theorem
 seam_is_met : (tiling : Tiling) (classes : List Class) (rs : List Contents) → All IsRegion rs → All IsSoundMap rs → IsMade (rectangles tiling frame) classes rs → length rs ≡ length (rectangles tiling frame) → SeamIsMet rs (country_of classes rs)

@@ -1,5 +1,5 @@
 -- Parcels and their identifiers.
-use Rattle.std.proofs.Common.{◌≡◌, ◌≢◌, ℕ, suc, ◌<◌, ◌||◌, Bool, true, false, not, cond, ◌++◌, List, [], ◌∷◌, Some, ◌⊎◌, inl, inr, All, filter, ap, sym, refl, ◌∙◌, arith, slice_get, AllPairs, option_map}
+use Rattle.std.proofs.Common.{◌≡◌, ◌≢◌, ℕ, suc, ◌<◌, ◌||◌, Bool, true, false, cond, ◌++◌, List, [], ◌∷◌, Some, ◌⊎◌, inl, inr, All, filter, ap, sym, refl, ◌∙◌, arith, slice_get, AllPairs, option_map}
 use Rattle.std.specs.Prelude.{Contains as IsAmong}
 use Rattle.std.specs.List.{IsDistinct}
 use Rattle.std.proofs.lemmas.Bool.{cases_eq, cases_lt}

@@ -1,9 +1,9 @@
 -- A polygon contains points of its box alone.
-use Rattle.std.proofs.Common.{◌≡◌, ℕ, zero, suc, ◌≤◌, ◌-◌, ℤ, pos, ◌+ℤ◌, ◌-ℤ◌, ◌*ℤ◌, ◌≤ℤ◌, ◌<ℤ◌, int_lt, Bool, true, false, List, [], ◌∷◌, ◌++◌, length, reverse, flat_map, Some, All, ap, sym, refl, ◌∙◌, subst, arith}
+use Rattle.std.proofs.Common.{◌≡◌, ℕ, suc, ◌≤◌, ◌-◌, ℤ, pos, ◌+ℤ◌, ◌-ℤ◌, ◌*ℤ◌, ◌≤ℤ◌, ◌<ℤ◌, int_lt, Bool, true, false, List, [], ◌∷◌, ◌++◌, length, reverse, flat_map, Some, All, ap, sym, refl, ◌∙◌, subst, arith}
 use Rattle.std.specs.List.{slice_get}
 use Rattle.std.proofs.lemmas.Int.{ints, by_lt_z}
 use Rattle.std.proofs.lemmas.List.{reverse-append}
-use Rattle.std.proofs.lemmas.List.Elements.{All-append, All-cons, All-head, All-nil, All-tail}
+use Rattle.std.proofs.lemmas.List.Elements.{All-head, All-tail}
 use Rattle.std.proofs.lemmas.Option.{same_Some}
 use Rattle.lpis_points.specs.declared.point.Point.{Point}
 use Rattle.lpis_points.specs.declared.boxes.Box4.{Box4}
@@ -100,7 +100,7 @@ unfolding shell_edges
 member_sum g box p h m r w =
     edge_sum-append (λ a b. crossing a b p) (shell_edges m.shell) (flat_map hole_edges m.holes)
     ∙ nought (walk_sum g box p h (int_lt (shoelace m.shell) (pos 0)) m.shell (All-head IsRing m.shell m.holes r) (all_left (IsCovered box) m.shell (points_of_rings m.holes) w))
-      (holes_sum g box p h m.holes (All-tail IsRing m.shell m.holes r) (all_right (IsCovered box) m.shell (points_of_rings m.holes) w))
+    (holes_sum g box p h m.holes (All-tail IsRing m.shell m.holes r) (all_right (IsCovered box) m.shell (points_of_rings m.holes) w))
 
 polygon_sum : (g : Point → ℤ) (box : Box4) (p : RationalPoint) → IsPotential g box p → (ms : List Member) → HasClosedRings ms → All (IsCovered box) (corners_of ms) → turns ms p ≡ pos 0
 polygon_sum g box p h [] r w = refl

@@ -1,6 +1,5 @@
 -- The pieces of all parcels of a region are its pieces.
 use Rattle.std.proofs.Common.{◌≡◌, ℕ, zero, suc, ◌+◌, Bool, true, false, not, cond, List, [], ◌∷◌, length, filter, sum_by, Some, All, ap, ap₂, sym, refl, ◌∙◌, IsTrue, arith}
-use Rattle.std.specs.Prelude.{Contains as IsAmong}
 use Rattle.std.specs.List.{slice_get, IsDistinct}
 use Rattle.std.proofs.lemmas.List.Elements.{All-from_recursion, All-head, All-tail}
 use Rattle.std.proofs.lemmas.List.Sums.{sum_by-cons}
@@ -11,7 +10,7 @@ use Rattle.lpis_covers.specs.declared.piece.Piece.{Piece}
 use Rattle.lpis_covers.specs.Ids.{same_id}
 use Rattle.lpis_parcels.specs.declared.parcel.Parcel.{Parcel}
 use Rattle.lpis_parcels.specs.Release.{Contents, names_parcel, parcel_ids, pieces_named}
-use Rattle.lpis_edge_sums.proofs.Shared.{Found, all_at, all_from, any_found, filter_kept, found_any}
+use Rattle.lpis_edge_sums.proofs.Shared.{all_at, all_from, any_found, filter_kept, found_any}
 use Rattle.lpis_country.specs.Country.{IsRegion}
 use Rattle.lpis_country.proofs.ListLemmas.{clash, filter_both}
 use Rattle.lpis_country.proofs.IdLemmas.{id_at}
@@ -37,8 +36,8 @@ pieces_of_all [] (x ∷ xs) d n = let f = any_found (λ (k : Parcel). IsTrue (na
 pieces_of_all (k ∷ ks) xs d n =
     sum_by-cons (λ (m : Parcel). length (filter (names_parcel m.id) xs)) k ks
     ∙ ap (λ (c : ℕ). length (filter (names_parcel k.id) xs) + c)
-      (sum-same (λ (m : Parcel). length (filter (names_parcel m.id) xs)) (λ (m : Parcel). length (filter (names_parcel m.id) others)) ks (all_from _ ks (λ i m e. ap length (sym (kept i m e))))
-      ∙ pieces_of_all ks others (IsDistinct-tail same_id k.id (parcel_ids ks) d) (all_from (NamedIn ks) others named))
+    (sum-same (λ (m : Parcel). length (filter (names_parcel m.id) xs)) (λ (m : Parcel). length (filter (names_parcel m.id) others)) ks (all_from _ ks (λ i m e. ap length (sym (kept i m e))))
+    ∙ pieces_of_all ks others (IsDistinct-tail same_id k.id (parcel_ids ks) d) (all_from (NamedIn ks) others named))
     ∙ parted (names_parcel k.id) xs
   where
     others : List Piece

@@ -1,9 +1,7 @@
 -- A point of the frame is in a tile, and a box with the point meets that tile.
-use Rattle.std.proofs.Common.{◌≡◌, ℕ, zero, suc, ◌+◌, ℤ, pos, ◌*ℤ◌, ◌≤ℤ◌, ◌<ℤ◌, int_le, int_lt, Bool, true, false, not, cond, ◌||◌, List, [], ◌∷◌, ◌++◌, length, Some, ap, sym, refl, ◌∙◌, arith}
+use Rattle.std.proofs.Common.{◌≡◌, ℤ, pos, ◌*ℤ◌, ◌≤ℤ◌, ◌<ℤ◌, int_le, int_lt, Bool, true, false, not, cond, ◌||◌, List, ◌++◌, refl, arith}
 use Rattle.std.specs.Int.{int_max, int_min}
-use Rattle.std.specs.List.{slice_get}
 use Rattle.std.proofs.lemmas.Int.{ints, by_lt_z}
-use Rattle.std.proofs.lemmas.Option.{none-some}
 use Rattle.lpis_points.specs.declared.boxes.Box4.{Box4}
 use Rattle.lpis_points.specs.Plane.{RationalPoint}
 use Rattle.lpis_edge_sums.proofs.Shared.{Found, any_found, found_any}

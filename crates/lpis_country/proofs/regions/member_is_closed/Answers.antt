@@ -1,6 +1,5 @@
-use Rattle.std.proofs.Common.{List, All, subst}
+use Rattle.std.proofs.Common.{All, subst}
 use Rattle.std.proofs.lemmas.List.Elements.{All-cons}
-use Rattle.lpis_points.specs.declared.point.Point.{Point}
 use Rattle.lpis_rings.specs.Ring.{IsRing}
 use Rattle.lpis_country.proofs.regions.member_is_closed.Goals as goal
 
