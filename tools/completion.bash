@@ -26,12 +26,24 @@ _lpis_options() {
   fi
 }
 
+_lpis_country() {
+  if [[ $COMP_CWORD -eq 1 ]]; then
+    _lpis_files -W 'split cut check --help'
+    return
+  fi
+  case ${COMP_WORDS[1]-} in
+    split) _lpis_options '--postgis --parcels --covers --points --anew --help' -d ;;
+    cut) _lpis_options '--jobs --snakemake --profile --lpis --help' -d ;;
+    *) _lpis_options '--parcels --lpis --help' -d ;;
+  esac
+}
 _lpis_explain() { _lpis_options '--cert --register --area --svg --geojson --epsg --status --codes --help'; }
 _lpis_faults() { _lpis_options '--html --epsg --lpis --help'; }
 _lpis_prepare() { _lpis_options '--accept --classes --epsg --name --identifiers --help'; }
 _lpis_report() { _lpis_options '--json --html --diff --lpis --help'; }
 
 complete -o filenames -F _lpis lpis
+complete -o filenames -F _lpis_country lpis-country
 complete -o filenames -F _lpis_explain lpis-explain
 complete -o filenames -F _lpis_faults lpis-faults
 complete -o filenames -F _lpis_prepare lpis-prepare

@@ -23,6 +23,10 @@ path_of() {
   case ${words[0]-} in
     area) [[ $name == area ]] && printf '%s' "${words[1]-}" ;;
     cut | check) [[ $name == cert ]] && printf '%s' "${words[2]-}" || printf '%s/%s.csv' "${words[1]-}" "$name" ;;
+    country)
+      [[ ${words[1]-} != --* ]] || words=("${words[0]}" "${words[@]:2}")
+      [[ $name == *country || $name == *cert ]] && printf '%s/%s.txt' "${words[1]-}" "$name" || printf '%s/%s.csv' "${words[1]-}" "$name"
+      ;;
     publish) [[ $name == cert ]] && printf '%s' "${words[4]-}" || printf '%s/%s.csv' "${words[3]-}" "$name" ;;
     exact)
       if [[ $kind == write ]]; then
@@ -175,23 +179,23 @@ trouble_of_register() {
 
 # Says the cause behind the program's own line `failed read NAME`, `failed write NAME` or `failed store`.
 say_cause() {
-  local told=$1 name path found
+  local told=$1 kind name region path found
   shift
   if [[ $told == 'failed store' ]]; then
     path=$(register_of "$@")
     [[ -z $path ]] || say "the register is $path: $(trouble_of_register "$path")"
   elif [[ $told == 'failed write out' ]]; then
     say 'standard output could not be written: a full disk, or a reader that went away'
-  elif [[ $told =~ ^failed\ (read|write)\ ([a-z]+)$ ]]; then
-    name=${BASH_REMATCH[2]}
-    path=$(path_of "${BASH_REMATCH[1]}" "$name" "$@") || return 0
+  elif [[ $told =~ ^failed\ (read|write)\ ([a-z]+)(\ region\ ([A-Za-z0-9_-]+))?$ ]]; then
+    kind=${BASH_REMATCH[1]} name=${BASH_REMATCH[2]} region=${BASH_REMATCH[4]}
+    path=$(path_of "$kind" "${region:+$region/}$name" "$@") || return 0
     [[ -n $path ]] || return 0
-    if [[ ${BASH_REMATCH[1]} == read ]]; then
+    if [[ $kind == read ]]; then
       found=$(trouble_of_reading "$path")
     else
       found=$(trouble_of_writing "$path")
     fi
-    say "$name is $path: ${found:-it is there, and writing it failed}"
+    say "$name${region:+ of region $region} is $path: ${found:-it is there, and writing it failed}"
   fi
 }
 

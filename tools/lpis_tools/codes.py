@@ -57,7 +57,7 @@ TABLES = {
     "39": ("`eligible` is neither 0 nor 1", "`true`, `yes`, `t`, a percentage, a quoted blank",
            "write 0 or 1 (in SQL: `eligible::int`), or name the column `percent` and write percentages"),
     "3a": ("the table has more than 200,000 rows", "a whole country in one release",
-           "split the country into releases (docs/GUIDE.md explains what that gives up)"),
+           "make a country of regions of it (`tools/country split`, docs/GUIDE.md)"),
     "3b": ("`percent` is no whole number from 0 to 100", "a share from 0 to 1, decimals, a sign, leading zeros, a mark `%`, an empty field",
            "write 0 to 100 in digits alone (in SQL: `round(100 * share)::int`)"),
     "3c": ("`exact` in lineage.csv is neither empty nor 0 nor 1", "`yes`, `true`, `x`, a quoted blank",

@@ -1,12 +1,13 @@
 """Says a refusal in words, from the folder of the release that was refused."""
 
 from . import codes, drawing, polygons
+from .countries import OfCountry
 from .lineages import OfGroups
 from .refusal import metres_of, read
 from .tables import COLUMNS, FREE, INSTEAD, KEYS, LETTERS, MARK, Table, is_identifier, kind_of_file, path_of, shown
 
 
-class Explained(OfGroups):
+class Explained(OfGroups, OfCountry):
     """The words about one line, the shapes concerned, the place, and the stretches of border that differ."""
 
     def __init__(self, line, folder, cert=None, area=None, register=None):
@@ -17,10 +18,14 @@ class Explained(OfGroups):
             self.say("this line is none that docs/FORMATS.md has")
             return
         self.place = self.refusal.place
+        self.enter(folder, self.refusal.region)
         self.say_code(self.refusal.code)
         for code in (self.refusal.text_code, self.refusal.lineage_code, self.refusal.exact_code):
             if code:
                 self.say_code(code)
+        self.say_country()
+        if self.refusal.code in ("90", "96"):
+            return
         if self.refusal.table and self.refusal.row is not None:
             self.say_row()
         elif self.refusal.cert_line is not None:

@@ -91,7 +91,7 @@ class Preparation:
             layer, prefixes = self.layers[name], Counter()
             self.say(f"testing {len(layer.rows)} rows of {name}")
             if len(layer.rows) > MOST_ROWS:
-                self.find("rows", name, None, f"{len(layer.rows)} rows, at most {MOST_ROWS} are a release: part the land", "")
+                self.find("rows", name, None, f"{len(layer.rows)} rows, and a release has at most {MOST_ROWS}", "tools/country makes regions of them", True)
             usual = self.usual_size(layer)
             for row in layer.rows:
                 if row.found is None:

@@ -1,4 +1,4 @@
-"""A line `refused ..` taken apart by the places of its words (an identifier may be any word, `row` and `at` too)."""
+"""A line `refused ..` taken apart by the places of its words (an identifier may be any word, `row`, `at` and `region` too)."""
 
 from __future__ import annotations
 
@@ -22,6 +22,7 @@ class Refusal:
     lineage_code: str = ""
     exact_code: str = ""
     year: str = ""
+    region: str = ""  # of a country
 
     def as_parcels(self):
         return self.names if self.kind in ("parcel", "parcels") else []
@@ -37,10 +38,19 @@ def read(line):
         return None
     refusal = Refusal(words[1])
     try:
-        fill(refusal, words[2:])
+        fill(refusal, without_region(refusal, words[2:]))
     except (IndexError, ValueError):
         return None
     return refusal
+
+
+def without_region(refusal, rest):
+    """The words before `region NAME`, which `lpis country` puts behind what a region's own check tells, and behind its own faults."""
+    plain = 2 if rest[:1] in (["parcel"], ["piece"]) else 7 if refusal.code == "38" else 3
+    if refusal.code[:1] in "3569" and len(rest) == plain + 2 and rest[-2] == "region":
+        refusal.region = rest[-1]
+        return rest[:-2]
+    return rest
 
 
 def fill(refusal, rest):
@@ -60,7 +70,7 @@ def fill(refusal, rest):
         refusal.exact_code = rest[1] if code == "85" else ""
         if len(rest) != (3 if code == "85" else 2):
             raise ValueError
-    elif rest[:2] == ["cert", "line"]:
+    elif rest[:2] in (["cert", "line"], ["country", "line"]):
         refusal.cert_line = int(rest[2])
     elif rest[0] in COLUMNS and len(rest) > 2 and rest[1] == "row":
         refusal.table, refusal.row = rest[0], int(rest[2])

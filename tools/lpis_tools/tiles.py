@@ -34,6 +34,19 @@ class Tiling:
     def text(self):
         return "".join(f"{line}\n" for line in [HEAD, *(f"{kind} {word}" for kind, word in self.nodes)])
 
+    def boxes(self):
+        """The tiles as boxes, in order; what no cut bounds goes one beyond the range of coordinates."""
+        found, waiting = [], [(-FAR - 1, -FAR - 1, FAR + 1, FAR + 1)]
+        for kind, cut in self.nodes:
+            box = waiting.pop()
+            if kind == "region":
+                found.append(box)
+                continue
+            side = 0 if kind == "x" else 1
+            waiting.append((*box[:side], cut, *box[side + 1 :]))
+            waiting.append((*box[: side + 2], cut, *box[side + 3 :]))
+        return found
+
     def met(self, box):
         """The numbers of the tiles that a box (least x and y, greatest x and y) meets, ascending: touching is no meeting."""
         found, waiting = [], [0]

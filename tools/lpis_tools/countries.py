@@ -1,0 +1,120 @@
+"""What is said of a refusal of `lpis country`: the region's folder, its tile, and the other copies of a parcel."""
+
+import os
+
+from . import polygons, tiles
+from .tables import COLUMNS, Table, path_of, shown
+
+
+def rows_of(folder, name):
+    """A parcel's row and those of its pieces, as fields, in a folder; None where it is in no row there."""
+    tables = {table: Table(path_of(folder, table), table) for table in ("parcels", "covers")}
+    found = {}
+    for table, file in tables.items():
+        found[table] = [[file.field(record, column) for column in COLUMNS[table]] for _, record in file.rows() if file.field(record, "parcel") == name]
+    return found if found["parcels"] else None
+
+
+def extent(box):
+    """A tile in metres; its outer sides are open."""
+    def side(value):
+        return "any" if abs(value) > tiles.FAR else polygons.metres(value)
+
+    return f"x {side(box[0])} to {side(box[2])}, y {side(box[1])} to {side(box[3])}"
+
+
+class OfCountry:
+    """The words about a refusal that names a region, or a line of country.txt. `top` is the country's folder."""
+
+    def enter(self, folder, region):
+        """Goes to the region's folder, where there is one: its tables are those that the line is about."""
+        self.top = folder
+        inner = os.path.join(folder, region)
+        if not region or not os.path.isdir(inner):
+            return
+        self.folder = inner
+        if self.cert is None and os.path.isfile(os.path.join(inner, "cert.txt")):
+            self.cert = os.path.join(inner, "cert.txt")
+
+    def say_country(self):
+        refusal = self.refusal
+        if refusal.code == "90":
+            self.say_country_line()
+        elif refusal.code == "96":
+            self.say_classes()
+        elif refusal.code in ("92", "93", "94", "95"):
+            self.say_tile()
+            if refusal.code != "92":
+                self.say_copies(refusal.names[0].encode())
+
+    def say_country_line(self):
+        path = os.path.join(self.top, "country.txt")
+        try:
+            with open(path, "rb") as file:
+                lines = file.read().split(b"\n")
+        except OSError as error:
+            self.say(f"{path}: {error.strerror}")
+            return
+        number = self.refusal.cert_line
+        count = len(lines) - (lines[-1] == b"")
+        self.say(f"{path} has {count} lines{'' if lines[-1] == b'' else ', the last without its line end'}")
+        if number <= count:
+            self.say(f"  line {number}: {shown(lines[number - 1])!r}")
+        try:
+            tiles.read(b"\n".join(lines).decode("latin-1"))
+        except tiles.Unreadable as error:
+            self.say(f"  {error}")
+
+    def tiling(self):
+        try:
+            with open(os.path.join(self.top, "country.txt"), encoding="latin-1", newline="") as file:
+                return tiles.read(file.read())
+        except (OSError, tiles.Unreadable):
+            return None
+
+    def say_tile(self):
+        tiling = self.tiling()
+        if tiling and self.refusal.region in tiling.folders:
+            self.say(f"region {self.refusal.region} has the tile {extent(tiling.boxes()[tiling.folders.index(self.refusal.region)])}")
+
+    def say_copies(self, name):
+        """The other regions that have the parcel, and how the first of them differs from what the region has."""
+        tiling = self.tiling()
+        if tiling is None:
+            return
+        here, others = None, []
+        for folder in tiling.folders:
+            try:
+                found = rows_of(os.path.join(self.top, folder), name)
+            except OSError:
+                continue
+            if folder == self.refusal.region:
+                here = found
+            elif found:
+                others.append((folder, found))
+        self.say(f"parcel {shown(name)} is in {', '.join(folder for folder, _ in others) or 'no other region'}")
+        for folder, found in others[:1]:
+            if here is None:
+                members = polygons.read(found["parcels"][0][1])
+                self.say(f"  in {folder}: {polygons.extent(members) if members else 'its wkt is no polygon'}")
+                if members:
+                    self.add_shape("parcel", shown(name), members)
+            elif self.refusal.code == "94":
+                self.say_unlike(folder, found, here)
+
+    def say_unlike(self, folder, found, here):
+        if polygons.read(found["parcels"][0][1]) != polygons.read(here["parcels"][0][1]):
+            self.say(f"  its polygon differs from that in {folder}: other points, or the same from another one on")
+        before, now = ([shown(row[0]) for row in rows["covers"]] for rows in (found, here))
+        if before != now:
+            self.say(f"  its pieces in {folder}: {' '.join(before)}; here: {' '.join(now)}")
+        for one, two in zip(found["covers"], here["covers"]):
+            if one[0] == two[0] and (one[2] != two[2] or polygons.read(one[3]) != polygons.read(two[3])):
+                self.say(f"  its piece {shown(one[0])} has another {'class' if one[2] != two[2] else 'polygon'} in {folder}")
+
+    def say_classes(self):
+        for folder in (self.top, self.folder):
+            table = Table(path_of(folder, "classes"), "classes")
+            record = table.record(self.refusal.row)
+            fields = ", ".join(f"{name} {shown(table.field(record, name))!r}" for name in COLUMNS["classes"] if name in table.names) if record else "there is no such row"
+            self.say(f"{table.path}: row {self.refusal.row}: {fields}")
