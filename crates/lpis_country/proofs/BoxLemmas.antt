@@ -105,7 +105,8 @@ box_append b [] qs = refl
 box_append b (p ∷ ps) qs = box_append (box_with b p) ps qs
 
 -- the box of a list of lists of points, one more taken in by a loop
-pub more_taken : {A : Type 0} (f : A → List Point) (g n whole : Box4) (xs : List A) (i : ℕ) (x : A) → i < length xs → x ≡ get_or xs i x → n ≡ box_with_all g (f x) → box_with_all g (flat_map f (drop i xs)) ≡ whole → box_with_all n (flat_map f (drop (i + 1) xs)) ≡ whole
+pub more_taken : {A : Type 0} (f : A → List Point) (g n whole : Box4) (xs : List A) (i : ℕ) (x : A) → i < length xs → x ≡ get_or xs i x → n ≡ box_with_all g (f x)
+    → box_with_all g (flat_map f (drop i xs)) ≡ whole → box_with_all n (flat_map f (drop (i + 1) xs)) ≡ whole
 more_taken {A} f g n whole xs i x l e s w =
     ap (λ (b : Box4). box_with_all b (flat_map f (drop (i + 1) xs))) s ∙ sym (box_append g (f x) (flat_map f (drop (i + 1) xs)))
     ∙ ap (λ (y : A). box_with_all g (f y ++ flat_map f (drop (i + 1) xs))) e ∙ sym (ap (λ (ys : List A). box_with_all g (flat_map f ys)) (drop_more xs i x l)) ∙ w
@@ -113,8 +114,10 @@ more_taken {A} f g n whole xs i x l e s w =
 pub all_taken : {A : Type 0} (f : A → List Point) (g whole : Box4) (xs : List A) (i : ℕ) → length xs ≤ i → box_with_all g (flat_map f (drop i xs)) ≡ whole → g ≡ whole
 all_taken {A} f g whole xs i l w = sym (ap (λ (ys : List A). box_with_all g (flat_map f ys)) (drop_all i xs l)) ∙ w
 
-pub point_taken : (g n whole : Box4) (ps : List Point) (i : ℕ) (p : Point) → i < length ps → p ≡ get_or ps i p → n ≡ box_with g p → box_with_all g (drop i ps) ≡ whole → box_with_all n (drop (i + 1) ps) ≡ whole
-point_taken g n whole ps i p l e s w = ap (λ (b : Box4). box_with_all b (drop (i + 1) ps)) s ∙ ap (λ (q : Point). box_with_all g (q ∷ drop (i + 1) ps)) e ∙ sym (ap (box_with_all g) (drop_more ps i p l)) ∙ w
+pub point_taken : (g n whole : Box4) (ps : List Point) (i : ℕ) (p : Point) → i < length ps → p ≡ get_or ps i p → n ≡ box_with g p → box_with_all g (drop i ps) ≡ whole
+    → box_with_all n (drop (i + 1) ps) ≡ whole
+point_taken g n whole ps i p l e s w =
+    ap (λ (b : Box4). box_with_all b (drop (i + 1) ps)) s ∙ ap (λ (q : Point). box_with_all g (q ∷ drop (i + 1) ps)) e ∙ sym (ap (box_with_all g) (drop_more ps i p l)) ∙ w
 
 pub points_taken : (g whole : Box4) (ps : List Point) (i : ℕ) → length ps ≤ i → box_with_all g (drop i ps) ≡ whole → g ≡ whole
 points_taken g whole ps i l w = sym (ap (box_with_all g) (drop_all i ps l)) ∙ w

@@ -26,7 +26,8 @@ NamedIn ks x = Any (λ (k : Parcel). IsTrue (names_parcel k.id x)) ks
 pub pieces_stay : (u r : Contents) (id : List ℕ) → has_id (parcel_ids u.parcels) id ≡ true → pieces_named (with_region u r) id ≡ pieces_named u id
 pieces_stay u r id h =
     filter-append (names_parcel id) u.pieces (new_pieces u r)
-    ∙ ap (λ (xs : List Piece). pieces_named u id ++ xs) (filter_neither (names_parcel id) (λ (x : Piece). is_new u x.parcel) (λ x e. ap not (ap (has_id (parcel_ids u.parcels)) (sym ((bytes_eq-Decides id x.parcel).0 e)) ∙ h)) r.pieces)
+    ∙ ap (λ (xs : List Piece). pieces_named u id ++ xs) (filter_neither (names_parcel id) (λ (x : Piece). is_new u x.parcel)
+    (λ x e. ap not (ap (has_id (parcel_ids u.parcels)) (sym ((bytes_eq-Decides id x.parcel).0 e)) ∙ h)) r.pieces)
     ∙ append-nil (pieces_named u id)
 
 -- and those of a new one
@@ -79,7 +80,8 @@ named_new u r n i x e =
 
 named_all : (u r : Contents) → All (NamedIn u.parcels) u.pieces → All (NamedIn r.parcels) r.pieces → All (NamedIn (with_region u r).parcels) (with_region u r).pieces
 named_all u r n m = All-append (NamedIn (u.parcels ++ new_parcels u r)) u.pieces (new_pieces u r)
-    (all_from (NamedIn (u.parcels ++ new_parcels u r)) u.pieces (λ i x e. any_left (λ (k : Parcel). IsTrue (names_parcel k.id x)) u.parcels (new_parcels u r) (all_at (NamedIn u.parcels) u.pieces i x e n)))
+    (all_from (NamedIn (u.parcels ++ new_parcels u r)) u.pieces
+    (λ i x e. any_left (λ (k : Parcel). IsTrue (names_parcel k.id x)) u.parcels (new_parcels u r) (all_at (NamedIn u.parcels) u.pieces i x e n)))
     (all_from (NamedIn (u.parcels ++ new_parcels u r)) (new_pieces u r) (λ i x e. any_right (λ (k : Parcel). IsTrue (names_parcel k.id x)) u.parcels (new_parcels u r) (named_new u r m i x e)))
 
 -- an old parcel and a new one have two identifiers
@@ -103,7 +105,9 @@ pub region_grows : (u r : Contents) → IsRegion u → IsRegion r → IsRegion (
 region_grows u r g h = record {
   distinct = distinct_all u r g.distinct h.distinct;
   named = named_all u r g.named h.named;
-  closed = All-append (λ (k : Parcel). HasClosedRings k.polygon) u.parcels (new_parcels u r) g.closed (All-filter (λ (k : Parcel). is_new u k.id) (λ (k : Parcel). HasClosedRings k.polygon) r.parcels h.closed);
+  closed =
+      All-append (λ (k : Parcel). HasClosedRings k.polygon) u.parcels (new_parcels u r) g.closed
+      (All-filter (λ (k : Parcel). is_new u k.id) (λ (k : Parcel). HasClosedRings k.polygon) r.parcels h.closed);
 }
 
 pub country_snoc : (classes : List Class) (rs : List Contents) (r : Contents) → country_of classes (rs ++ r ∷ []) ≡ with_region (country_of classes rs) r
@@ -145,7 +149,8 @@ still_double s u r k d = record {
 }
 
 -- a parcel of the region, new or not
-one_double : (u r : Contents) → All (NamedIn u.parcels) u.pieces → All (λ (k : Parcel). is_new u k.id ≡ false → IsDouble u r k) r.parcels → (j : ℕ) (k : Parcel) → slice_get r.parcels j ≡ Some k → IsDouble (with_region u r) r k
+one_double : (u r : Contents) → All (NamedIn u.parcels) u.pieces → All (λ (k : Parcel). is_new u k.id ≡ false → IsDouble u r k) r.parcels → (j : ℕ) (k : Parcel) → slice_get r.parcels j ≡ Some k
+    → IsDouble (with_region u r) r k
 one_double u r n a j k f = by (is_new u k.id) refl
   where
     by : (b : Bool) → is_new u k.id ≡ b → IsDouble (with_region u r) r k
@@ -162,14 +167,17 @@ no_regions classes =
     let g = empty_region classes in
     record { distinct = g.distinct; from = All-nil (From []); doubles = All-nil (Doubled (country_of classes [])); named = g.named; classes = All-nil (λ (r : Contents). r.classes ≡ classes) }
 
-pub union_grows : (rs : List Contents) (u r : Contents) → IsUnion rs u → IsRegion r → r.classes ≡ u.classes → All (λ (k : Parcel). is_new u k.id ≡ false → IsDouble u r k) r.parcels → IsUnion (rs ++ r ∷ []) (with_region u r)
+pub union_grows : (rs : List Contents) (u r : Contents) → IsUnion rs u → IsRegion r → r.classes ≡ u.classes → All (λ (k : Parcel). is_new u k.id ≡ false → IsDouble u r k) r.parcels
+    → IsUnion (rs ++ r ∷ []) (with_region u r)
 union_grows rs u r n g c a = record {
   distinct = distinct_all u r n.distinct g.distinct;
   from = All-append (From (rs ++ r ∷ [])) u.parcels (new_parcels u r)
       (all_from (From (rs ++ r ∷ [])) u.parcels (λ i k e. any_left (λ (s : Contents). IsAmong s.parcels k) rs (r ∷ []) (all_at (From rs) u.parcels i k e n.from)))
-      (all_among (From (rs ++ r ∷ [])) (new_parcels u r) (λ k h. any_right (λ (s : Contents). IsAmong s.parcels k) rs (r ∷ []) (found_any (λ (s : Contents). IsAmong s.parcels k) (r ∷ []) (record { index = 0; item = r; at = refl; has = in_region u r k h }))));
+      (all_among (From (rs ++ r ∷ [])) (new_parcels u r) (λ k h. any_right (λ (s : Contents). IsAmong s.parcels k) rs (r ∷ [])
+      (found_any (λ (s : Contents). IsAmong s.parcels k) (r ∷ []) (record { index = 0; item = r; at = refl; has = in_region u r k h }))));
   doubles = all_snoc (Doubled (with_region u r)) rs r
-      (all_from (Doubled (with_region u r)) rs (λ i s e. all_from (IsDouble (with_region u r) s) s.parcels (λ j k f. still_double s u r k (all_at (IsDouble u s) s.parcels j k f (all_at (Doubled u) rs i s e n.doubles)))))
+      (all_from (Doubled (with_region u r)) rs (λ i s e. all_from (IsDouble (with_region u r) s) s.parcels
+      (λ j k f. still_double s u r k (all_at (IsDouble u s) s.parcels j k f (all_at (Doubled u) rs i s e n.doubles)))))
       (all_from (IsDouble (with_region u r) r) r.parcels (one_double u r n.named a));
   named = named_all u r n.named g.named;
   classes = all_snoc (λ (s : Contents). s.classes ≡ u.classes) rs r n.classes c;

@@ -34,7 +34,8 @@ record Splits (rs : List Contents) (x : Contents) (before : List Contents) (r : 
   is : rs ≡ before ++ r ∷ rest
 
 -- where a list with one more is parted in two at an item, the item is the last one or the list is parted there
-parted : (rs : List Contents) (x : Contents) (before : List Contents) (r : Contents) (after : List Contents) → rs ++ x ∷ [] ≡ before ++ r ∷ after → ((rs ≡ before) × (x ≡ r)) ⊎ Splits rs x before r after
+parted : (rs : List Contents) (x : Contents) (before : List Contents) (r : Contents) (after : List Contents) → rs ++ x ∷ [] ≡ before ++ r ∷ after
+    → ((rs ≡ before) × (x ≡ r)) ⊎ Splits rs x before r after
 parted [] x [] r after e = inl (refl, cc)
 parted [] x (b ∷ []) r after e = absurd cc
 parted [] x (b ∷ c ∷ bs) r after e = absurd cc
@@ -45,11 +46,13 @@ parted (s ∷ rs) x (b ∷ bs) r after e = by (parted rs x bs r after cc)
     by (inl h) = inl (cc, h.1)
     by (inr h) = inr (record { rest = h.rest; is = cc })
 
-pub each_fits_more : (tiles : List Box4) (classes : List Class) (rs : List Contents) (r : Contents) → EachFits tiles classes rs → FitsCountry tiles (length rs) (country_of classes rs) r → EachFits tiles classes (rs ++ r ∷ [])
+pub each_fits_more : (tiles : List Box4) (classes : List Class) (rs : List Contents) (r : Contents) → EachFits tiles classes rs → FitsCountry tiles (length rs) (country_of classes rs) r
+    → EachFits tiles classes (rs ++ r ∷ [])
 each_fits_more tiles classes rs r h f before s after e = by (parted rs r before s after e)
   where
     by : ((rs ≡ before) × (r ≡ s)) ⊎ Splits rs r before s after → FitsCountry tiles (length before) (country_of classes before) s
-    by (inl q) = subst (λ (x : Contents). FitsCountry tiles (length before) (country_of classes before) x) q.1 (subst (λ (bs : List Contents). FitsCountry tiles (length bs) (country_of classes bs) r) q.0 f)
+    by (inl q) =
+        subst (λ (x : Contents). FitsCountry tiles (length before) (country_of classes before) x) q.1 (subst (λ (bs : List Contents). FitsCountry tiles (length bs) (country_of classes bs) r) q.0 f)
     by (inr q) = h before s q.rest q.is
 
 -- ---- each parcel stands in the region of each tile that it reaches
@@ -61,7 +64,8 @@ record IsMade (tiles : List Box4) (classes : List Class) (done : List Contents) 
   stands : All (Stands tiles done) (country_of classes done).parcels
 
 -- a parcel of the country whose identifier the region has is a row of the region
-row_of : (tiles : List Box4) (n : ℕ) (rs : List Contents) (u r : Contents) → IsUnion rs u → FitsCountry tiles n u r → (k : Parcel) → IsAmong u.parcels k → has_id (parcel_ids r.parcels) k.id ≡ true → IsAmong r.parcels k
+row_of : (tiles : List Box4) (n : ℕ) (rs : List Contents) (u r : Contents) → IsUnion rs u → FitsCountry tiles n u r → (k : Parcel) → IsAmong u.parcels k
+    → has_id (parcel_ids r.parcels) k.id ≡ true → IsAmong r.parcels k
 row_of tiles n rs u r m f k h e =
     let w = id_found r.parcels k.id e in
     let old : is_new u w.item.id ≡ false = ap not (ap (has_id (parcel_ids u.parcels)) (sym w.has) ∙ has_among u.parcels k h) in
@@ -77,8 +81,18 @@ in_front (x ∷ xs) (suc n) (suc i) t l e = more (in_front xs n i t (omega (arit
     more h = let p = placed (take n xs) t h in among_at (x ∷ take n xs) (suc p.index) t p.at
 in_front (x ∷ xs) zero i t l e = absurd (omega (arith, l))
 
-stands_on : (tiles : List Box4) (classes : List Class) (done : List Contents) (r : Contents) → IsMade tiles classes done → FitsCountry tiles (length done) (country_of classes done) r → All (Stands tiles (done ++ r ∷ [])) (with_region (country_of classes done) r).parcels
-stands_on tiles classes done r m f = All-append (Stands tiles (done ++ r ∷ [])) u.parcels (new_parcels u r) (all_among (Stands tiles (done ++ r ∷ [])) u.parcels old) (all_among (Stands tiles (done ++ r ∷ [])) (new_parcels u r) new)
+-- a new parcel reaches no tile before number n
+abbrev IsLate : List Box4 → ℕ → Contents → Parcel → Type 0
+IsLate tiles n u k = is_new u k.id ≡ true → All (λ (t : Box4). reaches k t ≡ false) (take n tiles)
+
+-- the region has the parcel's identifier, where the parcel reaches tile n
+abbrev IsThere : List Box4 → ℕ → Contents → Parcel → Type 0
+IsThere tiles n r k = (t : Box4) → slice_get tiles n ≡ Some t → reaches k t ≡ true → has_id (parcel_ids r.parcels) k.id ≡ true
+
+stands_on : (tiles : List Box4) (classes : List Class) (done : List Contents) (r : Contents) → IsMade tiles classes done → FitsCountry tiles (length done) (country_of classes done) r
+    → All (Stands tiles (done ++ r ∷ [])) (with_region (country_of classes done) r).parcels
+stands_on tiles classes done r m f =
+    All-append (Stands tiles (done ++ r ∷ [])) u.parcels (new_parcels u r) (all_among (Stands tiles (done ++ r ∷ [])) u.parcels old) (all_among (Stands tiles (done ++ r ∷ [])) (new_parcels u r) new)
   where
     u : Contents
     u = country_of classes done
@@ -89,7 +103,7 @@ stands_on tiles classes done r m f = All-append (Stands tiles (done ++ r ∷ [])
         by : (slice_get done i ≡ Some s) ⊎ ((i ≡ length done) × (s ≡ r)) → IsAmong s.parcels k
         by (inl d) = All-contains (Stands tiles done) u.parcels k m.stands h i t s d a q
         by (inr l) =
-            let has = All-contains (λ (x : Parcel). (v : Box4) → slice_get tiles (length done) ≡ Some v → reaches x v ≡ true → has_id (parcel_ids r.parcels) x.id ≡ true) u.parcels k f.none_lacks h t (ap (slice_get tiles) (sym l.0) ∙ a) q in
+            let has = All-contains (IsThere tiles (length done) r) u.parcels k f.none_lacks h t (ap (slice_get tiles) (sym l.0) ∙ a) q in
             subst (λ (x : Contents). IsAmong x.parcels k) (sym l.1) (row_of tiles (length done) done u r m.union f k h has)
 
     new : (k : Parcel) → IsAmong (new_parcels u r) k → Stands tiles (done ++ r ∷ []) k
@@ -97,11 +111,12 @@ stands_on tiles classes done r m f = All-append (Stands tiles (done ++ r ∷ [])
       where
         by : (slice_get done i ≡ Some s) ⊎ ((i ≡ length done) × (s ≡ r)) → IsAmong s.parcels k
         by (inl d) =
-            let none = All-contains (λ (x : Parcel). is_new u x.id ≡ true → All (λ (v : Box4). reaches x v ≡ false) (take (length done) tiles)) r.parcels k f.new (in_region u r k h) (ap not (is_fresh u r k h)) in
+            let none = All-contains (IsLate tiles (length done) u) r.parcels k f.new (in_region u r k h) (ap not (is_fresh u r k h)) in
             absurd (clash (reaches k t) q (All-contains (λ (v : Box4). reaches k v ≡ false) (take (length done) tiles) t none (in_front tiles (length done) i t (slice_get_within done i s d) a)))
         by (inr l) = subst (λ (x : Contents). IsAmong x.parcels k) (sym l.1) (in_region u r k h)
 
-made_more : (tiles : List Box4) (classes : List Class) (done : List Contents) (r : Contents) → IsMade tiles classes done → IsRegion r → r.classes ≡ classes → FitsCountry tiles (length done) (country_of classes done) r → IsMade tiles classes (done ++ r ∷ [])
+made_more : (tiles : List Box4) (classes : List Class) (done : List Contents) (r : Contents) → IsMade tiles classes done → IsRegion r → r.classes ≡ classes
+    → FitsCountry tiles (length done) (country_of classes done) r → IsMade tiles classes (done ++ r ∷ [])
 made_more tiles classes done r m g c f =
     let u = country_of classes done in
     let e = sym (country_snoc classes done r) in
@@ -113,7 +128,8 @@ made_more tiles classes done r m g c f =
 made : (tiles : List Box4) (classes : List Class) (rs : List Contents) → All IsRegion rs → All (λ (r : Contents). r.classes ≡ classes) rs → EachFits tiles classes rs → IsMade tiles classes rs
 made tiles classes rs g c h = by [] rs (record { union = no_regions classes; stands = All-nil (Stands tiles []) }) g c h
   where
-    by : (done ss : List Contents) → IsMade tiles classes done → All IsRegion ss → All (λ (r : Contents). r.classes ≡ classes) ss → EachFits tiles classes (done ++ ss) → IsMade tiles classes (done ++ ss)
+    by : (done ss : List Contents) → IsMade tiles classes done → All IsRegion ss → All (λ (r : Contents). r.classes ≡ classes) ss → EachFits tiles classes (done ++ ss)
+        → IsMade tiles classes (done ++ ss)
     by done [] m g c h = subst (IsMade tiles classes) (sym (append-nil done)) m
     by done (s ∷ ss) m g c h =
         let same = append_assoc done (s ∷ []) ss in
@@ -122,7 +138,8 @@ made tiles classes rs g c h = by [] rs (record { union = no_regions classes; sta
         (All-tail IsRegion s ss g) (All-tail (λ (r : Contents). r.classes ≡ classes) s ss c) (subst (EachFits tiles classes) (sym same) h))
 
 -- ---- the theorem
-seam_is_met : (tiling : Tiling) (classes : List Class) (rs : List Contents) → All IsRegion rs → All IsSoundMap rs → IsMade (rectangles tiling frame) classes rs → length rs ≡ length (rectangles tiling frame) → SeamIsMet rs (country_of classes rs)
+seam_is_met : (tiling : Tiling) (classes : List Class) (rs : List Contents) → All IsRegion rs → All IsSoundMap rs → IsMade (rectangles tiling frame) classes rs
+    → length rs ≡ length (rectangles tiling frame) → SeamIsMet rs (country_of classes rs)
 seam_is_met tiling classes rs g s m e p d a b ha hb x y =
     let t = tile_of tiling frame p (point_wider (box_of_members a.polygon) frame p d (box_framed a.polygon) (box_of a ha x)) in
     let r = item_at rs t.index (subst (λ (n : ℕ). t.index < n) (sym e) (slice_get_within tiles t.index t.item t.at)) in
@@ -144,7 +161,8 @@ seam_is_met tiling classes rs g s m e p d a b ha hb x y =
     stands : (k : Parcel) → IsAmong u.parcels k → IsInParcel p k → (t : Found (λ (v : Box4). IsPointIn v p) tiles) → (r : Contents) → slice_get rs t.index ≡ Some r → IsAmong r.parcels k
     stands k h c t r at = All-contains (Stands tiles rs) u.parcels k m.stands h t.index t.item r at t.at (meet_at t.item (box_of_members k.polygon) p d t.has (box_of k h c))
 
-pub country_is_sound : (tiling : Tiling) (classes : List Class) (rs : List Contents) → All IsRegion rs → All IsSoundMap rs → All (λ (r : Contents). r.classes ≡ classes) rs → EachFits (rectangles tiling frame) classes rs
+pub country_is_sound : (tiling : Tiling) (classes : List Class) (rs : List Contents) → All IsRegion rs → All IsSoundMap rs → All (λ (r : Contents). r.classes ≡ classes) rs
+    → EachFits (rectangles tiling frame) classes rs
     → length rs ≡ length (rectangles tiling frame) → IsSoundMap (country_of classes rs)
 country_is_sound tiling classes rs g s c h e =
     let m = made (rectangles tiling frame) classes rs g c h in

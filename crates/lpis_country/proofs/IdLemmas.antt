@@ -52,7 +52,8 @@ pub id_found : (xs : List Parcel) (id : List ℕ) → has_id (parcel_ids xs) id 
 id_found [] id e = absurd cc
 id_found (x ∷ xs) id e = by (same_id id x.id) refl e (λ f. id_found xs id f)
   where
-    by : (b : Bool) → same_id id x.id ≡ b → (b || has_id (parcel_ids xs) id) ≡ true → (has_id (parcel_ids xs) id ≡ true → Found (λ (k : Parcel). id ≡ k.id) xs) → Found (λ (k : Parcel). id ≡ k.id) (x ∷ xs)
+    by : (b : Bool) → same_id id x.id ≡ b → (b || has_id (parcel_ids xs) id) ≡ true → (has_id (parcel_ids xs) id ≡ true → Found (λ (k : Parcel). id ≡ k.id) xs)
+        → Found (λ (k : Parcel). id ≡ k.id) (x ∷ xs)
     by true t e rec = record { index = 0; item = x; at = refl; has = (bytes_eq-Decides id x.id).0 t }
     by false t e rec = let f = rec e in record { index = suc f.index; item = f.item; at = f.at; has = f.has }
 
@@ -72,8 +73,12 @@ distinct_filter q (x ∷ xs) h = by (q x) (distinct_filter q xs (IsDistinct-tail
   where
     all : All (λ (k : Parcel). same_id x.id k.id ≡ false) xs
     all = all_from (λ (k : Parcel). same_id x.id k.id ≡ false) xs (λ i k e.
-        all_at (λ (y : List ℕ). same_id x.id y ≡ false) (parcel_ids xs) i k.id (id_at xs i k e) (All-from_recursion (λ (y : List ℕ). same_id x.id y ≡ false) (parcel_ids xs) (IsDistinct-head same_id x.id (parcel_ids xs) h)))
+        all_at (λ (y : List ℕ). same_id x.id y ≡ false) (parcel_ids xs) i k.id (id_at xs i k e)
+        (All-from_recursion (λ (y : List ℕ). same_id x.id y ≡ false) (parcel_ids xs) (IsDistinct-head same_id x.id (parcel_ids xs) h)))
 
     by : (b : Bool) → IsDistinct same_id (parcel_ids (filter q xs)) → IsDistinct same_id (parcel_ids (cond b (x ∷ filter q xs) (filter q xs)))
-    by true r = IsDistinct-cons same_id x.id (parcel_ids (filter q xs)) (recursion_from_All (λ (y : List ℕ). same_id x.id y ≡ false) (parcel_ids (filter q xs)) (All-map (λ (y : List ℕ). same_id x.id y ≡ false) (λ (k : Parcel). k.id) (filter q xs) (All-filter q (λ (k : Parcel). same_id x.id k.id ≡ false) xs all))) r
+    by true r =
+        IsDistinct-cons same_id x.id (parcel_ids (filter q xs))
+        (recursion_from_All (λ (y : List ℕ). same_id x.id y ≡ false) (parcel_ids (filter q xs))
+        (All-map (λ (y : List ℕ). same_id x.id y ≡ false) (λ (k : Parcel). k.id) (filter q xs) (All-filter q (λ (k : Parcel). same_id x.id k.id ≡ false) xs all))) r
     by false r = r

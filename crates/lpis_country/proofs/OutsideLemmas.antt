@@ -1,5 +1,6 @@
 -- A polygon contains points of its box alone.
-use Rattle.std.proofs.Common.{◌≡◌, ℕ, suc, ◌≤◌, ◌-◌, ℤ, pos, ◌+ℤ◌, ◌-ℤ◌, ◌*ℤ◌, ◌≤ℤ◌, ◌<ℤ◌, int_lt, Bool, true, false, List, [], ◌∷◌, ◌++◌, length, reverse, flat_map, Some, All, ap, sym, refl, ◌∙◌, subst, arith}
+use Rattle.std.proofs.Common.{◌≡◌, ℕ, suc, ◌≤◌, ◌-◌, ℤ, pos, ◌+ℤ◌, ◌-ℤ◌, ◌*ℤ◌, ◌≤ℤ◌, ◌<ℤ◌, int_lt, Bool, true, false, List, [], ◌∷◌, ◌++◌}
+use Rattle.std.proofs.Common.{length, reverse, flat_map, Some, All, ap, sym, refl, ◌∙◌, subst, arith}
 use Rattle.std.specs.List.{slice_get}
 use Rattle.std.proofs.lemmas.Int.{ints, by_lt_z}
 use Rattle.std.proofs.lemmas.List.{reverse-append}
@@ -73,12 +74,14 @@ all_reversed P (x ∷ xs) h = subst (All P) (sym (reverse-append (x ∷ []) xs))
 turned : (x : Point) (xs : List Point) → reverse (x ∷ xs ++ x ∷ []) ≡ x ∷ reverse xs ++ x ∷ []
 turned x xs = reverse-append (x ∷ xs) (x ∷ []) ∙ ap (λ (ys : List Point). x ∷ ys) (reverse-append (x ∷ []) xs)
 
-walk_sum : (g : Point → ℤ) (box : Box4) (p : RationalPoint) → IsPotential g box p → (t : Bool) (ps : List Point) → IsRing ps → All (IsCovered box) ps → edge_sum (λ a b. crossing a b p) (steps (walk t ps)) ≡ pos 0
+walk_sum : (g : Point → ℤ) (box : Box4) (p : RationalPoint) → IsPotential g box p → (t : Bool) (ps : List Point) → IsRing ps → All (IsCovered box) ps
+    → edge_sum (λ a b. crossing a b p) (steps (walk t ps)) ≡ pos 0
 walk_sum g box p h t ps r w =
     let c = closed ps r in
     by t c.point c.between (subst (All (IsCovered box)) c.is w) (ap (λ (qs : List Point). edge_sum (λ a b. crossing a b p) (steps (walk t qs))) c.is)
   where
-    by : (t : Bool) (x : Point) (xs : List Point) → All (IsCovered box) (x ∷ xs ++ x ∷ []) → edge_sum (λ a b. crossing a b p) (steps (walk t ps)) ≡ edge_sum (λ a b. crossing a b p) (steps (walk t (x ∷ xs ++ x ∷ [])))
+    by : (t : Bool) (x : Point) (xs : List Point) → All (IsCovered box) (x ∷ xs ++ x ∷ [])
+        → edge_sum (λ a b. crossing a b p) (steps (walk t ps)) ≡ edge_sum (λ a b. crossing a b p) (steps (walk t (x ∷ xs ++ x ∷ [])))
         → edge_sum (λ a b. crossing a b p) (steps (walk t ps)) ≡ pos 0
     by false x xs k e = e ∙ between_sum g box p h x xs x k ∙ nothing (g x)
     by true x xs k e =
@@ -88,14 +91,17 @@ walk_sum g box p h t ps r w =
 nought : {x y : ℤ} → x ≡ pos 0 → y ≡ pos 0 → x +ℤ y ≡ pos 0
 nought e f = omega (arith, ints)
 
-holes_sum : (g : Point → ℤ) (box : Box4) (p : RationalPoint) → IsPotential g box p → (hs : List (List Point)) → All IsRing hs → All (IsCovered box) (points_of_rings hs) → edge_turns (flat_map hole_edges hs) p ≡ pos 0
+holes_sum : (g : Point → ℤ) (box : Box4) (p : RationalPoint) → IsPotential g box p → (hs : List (List Point)) → All IsRing hs → All (IsCovered box) (points_of_rings hs)
+    → edge_turns (flat_map hole_edges hs) p ≡ pos 0
 unfolding hole_edges
 holes_sum g box p h [] r w = refl
 holes_sum g box p h (x ∷ xs) r w =
     edge_sum-append (λ a b. crossing a b p) (hole_edges x) (flat_map hole_edges xs)
-    ∙ nought (walk_sum g box p h (int_lt (pos 0) (shoelace x)) x (All-head IsRing x xs r) (all_left (IsCovered box) x (points_of_rings xs) w)) (holes_sum g box p h xs (All-tail IsRing x xs r) (all_right (IsCovered box) x (points_of_rings xs) w))
+    ∙ nought (walk_sum g box p h (int_lt (pos 0) (shoelace x)) x (All-head IsRing x xs r) (all_left (IsCovered box) x (points_of_rings xs) w))
+    (holes_sum g box p h xs (All-tail IsRing x xs r) (all_right (IsCovered box) x (points_of_rings xs) w))
 
-member_sum : (g : Point → ℤ) (box : Box4) (p : RationalPoint) → IsPotential g box p → (m : Member) → All IsRing (m.shell ∷ m.holes) → All (IsCovered box) (m.shell ++ points_of_rings m.holes) → edge_turns (member_edges m) p ≡ pos 0
+member_sum : (g : Point → ℤ) (box : Box4) (p : RationalPoint) → IsPotential g box p → (m : Member) → All IsRing (m.shell ∷ m.holes) → All (IsCovered box) (m.shell ++ points_of_rings m.holes)
+    → edge_turns (member_edges m) p ≡ pos 0
 unfolding shell_edges
 member_sum g box p h m r w =
     edge_sum-append (λ a b. crossing a b p) (shell_edges m.shell) (flat_map hole_edges m.holes)
@@ -107,7 +113,8 @@ polygon_sum g box p h [] r w = refl
 polygon_sum g box p h (m ∷ ms) r w =
     let P : Member → Type 0 = λ n. All IsRing (n.shell ∷ n.holes) in
     edge_sum-append (λ a b. crossing a b p) (member_edges m) (edges_of ms)
-    ∙ nought (member_sum g box p h m (All-head P m ms r) (all_left (IsCovered box) (m.shell ++ points_of_rings m.holes) (corners_of ms) w)) (polygon_sum g box p h ms (All-tail P m ms r) (all_right (IsCovered box) (m.shell ++ points_of_rings m.holes) (corners_of ms) w))
+    ∙ nought (member_sum g box p h m (All-head P m ms r) (all_left (IsCovered box) (m.shell ++ points_of_rings m.holes) (corners_of ms) w))
+    (polygon_sum g box p h ms (All-tail P m ms r) (all_right (IsCovered box) (m.shell ++ points_of_rings m.holes) (corners_of ms) w))
 
 -- ---- points beyond a side of the box
 none : Point → ℤ

@@ -44,7 +44,9 @@ pieces_of_all (k ∷ ks) xs d n =
     others = filter (λ (x : Piece). not (names_parcel k.id x)) xs
 
     apart : (i : ℕ) (m : Parcel) → slice_get ks i ≡ Some m → same_id k.id m.id ≡ false
-    apart i m e = all_at (λ (y : List ℕ). same_id k.id y ≡ false) (parcel_ids ks) i m.id (id_at ks i m e) (All-from_recursion (λ (y : List ℕ). same_id k.id y ≡ false) (parcel_ids ks) (IsDistinct-head same_id k.id (parcel_ids ks) d))
+    apart i m e =
+        all_at (λ (y : List ℕ). same_id k.id y ≡ false) (parcel_ids ks) i m.id (id_at ks i m e)
+        (All-from_recursion (λ (y : List ℕ). same_id k.id y ≡ false) (parcel_ids ks) (IsDistinct-head same_id k.id (parcel_ids ks) d))
 
     kept : (i : ℕ) (m : Parcel) → slice_get ks i ≡ Some m → filter (names_parcel m.id) others ≡ filter (names_parcel m.id) xs
     kept i m e = filter_both (names_parcel m.id) (λ (x : Piece). not (names_parcel k.id x)) (λ x t. by x t (names_parcel k.id x) refl) xs

@@ -38,7 +38,9 @@ named (k ∷ ks) x e = by (same_id x.parcel k.id) refl e (λ f. named ks x f)
         found_any (λ (m : Parcel). IsTrue (names_parcel m.id x)) (k ∷ ks) (record { index = suc f.index; item = f.item; at = f.at; has = f.has })
 
     by : (b : Bool) → same_id x.parcel k.id ≡ b → (b || has_id (parcel_ids ks) x.parcel) ≡ true → (has_id (parcel_ids ks) x.parcel ≡ true → NamedIn ks x) → NamedIn (k ∷ ks) x
-    by true t e rec = found_any (λ (m : Parcel). IsTrue (names_parcel m.id x)) (k ∷ ks) (record { index = 0; item = k; at = refl; has = (bytes_eq-Decides k.id x.parcel).1 (sym ((bytes_eq-Decides x.parcel k.id).0 t)) })
+    by true t e rec =
+        found_any (λ (m : Parcel). IsTrue (names_parcel m.id x)) (k ∷ ks)
+        (record { index = 0; item = k; at = refl; has = (bytes_eq-Decides k.id x.parcel).1 (sym ((bytes_eq-Decides x.parcel k.id).0 t)) })
     by false t e rec = later (rec e)
 
 all_named : (ks : List Parcel) (cs : List Class) (n : ℕ) (xs : List Piece) → reference_faults ks cs n xs ≡ [] → All (NamedIn ks) xs

@@ -48,7 +48,8 @@ left_up o d u v s t h e k l m n = by_lt_z (pos 0) o (λ q. q) (λ q. absurd (sum
     sum x y z e k l m = omega (arith, ints)
 
 left_down : (o d u v s t : ℤ) → pos 0 <ℤ d → d *ℤ o ≡ u *ℤ s +ℤ v *ℤ t → pos 0 <ℤ u → pos 0 <ℤ v → s <ℤ pos 0 → t ≤ℤ pos 0 → o <ℤ pos 0
-left_down o d u v s t h e k l m n = by_lt_z o (pos 0) (λ q. q) (λ q. absurd (sum (d *ℤ o) (s *ℤ u) (u *ℤ s) (v *ℤ t) e (turned u s) (neg-mul-pos s u m k) (pos-mul-not_pos v t (weak l) n) (pos-mul-not_neg d o (weak h) q)))
+left_down o d u v s t h e k l m n =
+    by_lt_z o (pos 0) (λ q. q) (λ q. absurd (sum (d *ℤ o) (s *ℤ u) (u *ℤ s) (v *ℤ t) e (turned u s) (neg-mul-pos s u m k) (pos-mul-not_pos v t (weak l) n) (pos-mul-not_neg d o (weak h) q)))
   where
     turned : (u s : ℤ) → s *ℤ u ≡ u *ℤ s
     turned u s = omega (arith, ints)
@@ -106,7 +107,9 @@ unfolding passed crossing
 crossed_right a b p d h k = by_lt_z p.y (a.y *ℤ p.d)
     (λ s. by_lt_z p.y (b.y *ℤ p.d)
     (λ t. differ (passed_no _ _ s) (passed_no _ _ t) (crossed_above a b p s t))
-    (λ t. differ (passed_no _ _ s) (passed_yes _ _ t) (down_right (a.y *ℤ p.d) (b.y *ℤ p.d) p.y (orient_at a b p) s t (left_down (orient_at a b p) p.d _ _ _ _ d (side_sum a b p) (more_still _ _ k) (more_still _ _ h) (less_still _ _ s) (less _ _ t)))))
+    (λ t. differ (passed_no _ _ s) (passed_yes _ _ t) (down_right (a.y *ℤ p.d) (b.y *ℤ p.d) p.y (orient_at a b p) s t
+    (left_down (orient_at a b p) p.d _ _ _ _ d (side_sum a b p) (more_still _ _ k) (more_still _ _ h) (less_still _ _ s) (less _ _ t)))))
     (λ s. by_lt_z p.y (b.y *ℤ p.d)
-    (λ t. differ (passed_yes _ _ s) (passed_no _ _ t) (up_left (a.y *ℤ p.d) (b.y *ℤ p.d) p.y (orient_at a b p) s t (left_up (orient_at a b p) p.d _ _ _ _ d (side_sum a b p) (more_still _ _ k) (more_still _ _ h) (more _ _ s) (more_still _ _ t))))
+    (λ t. differ (passed_yes _ _ s) (passed_no _ _ t) (up_left (a.y *ℤ p.d) (b.y *ℤ p.d) p.y (orient_at a b p) s t
+    (left_up (orient_at a b p) p.d _ _ _ _ d (side_sum a b p) (more_still _ _ k) (more_still _ _ h) (more _ _ s) (more_still _ _ t))))
     (λ t. differ (passed_yes _ _ s) (passed_yes _ _ t) (crossed_below a b p s t)))

@@ -65,7 +65,8 @@ few_filter {A} q P (x ∷ xs) h = by (q x) (few_filter q P xs (rest_few P x xs h
     by false r i j a b e f p s = r i j a b e f p s
 
 -- two items with the property that the test lets through are one, where of those that it lets through at most one has it
-kept_place : {A : Type 0} (q : A → Bool) (P : A → Type 0) (xs : List A) → AtMostOne P (filter q xs) → (i j : ℕ) (a b : A) → slice_get xs i ≡ Some a → slice_get xs j ≡ Some b → q a ≡ true → q b ≡ true → P a → P b → i ≡ j
+kept_place : {A : Type 0} (q : A → Bool) (P : A → Type 0) (xs : List A) → AtMostOne P (filter q xs) → (i j : ℕ) (a b : A) → slice_get xs i ≡ Some a → slice_get xs j ≡ Some b → q a ≡ true
+    → q b ≡ true → P a → P b → i ≡ j
 kept_place q P [] h i j a b e f t u p s = absurd (none-some a e)
 kept_place q P (x ∷ xs) h zero zero a b e f t u p s = refl
 kept_place {A} q P (x ∷ xs) h zero (suc j) a b e f t u p s =
@@ -117,14 +118,17 @@ piece_home rs u n i x e =
     record { parcel = f; r = g.r; among = g.among; index = v.index; at = v.at }
 
 -- ---- points
-country_filled : (rs : List Contents) (u : Contents) → IsUnion rs u → All IsSoundMap rs → (p : RationalPoint) → pos 0 <ℤ p.d → (k : Parcel) → IsAmong u.parcels k → IsInParcel p k ↔ ExactlyOne (IsInPiece p) (pieces_named u k.id)
+country_filled : (rs : List Contents) (u : Contents) → IsUnion rs u → All IsSoundMap rs → (p : RationalPoint) → pos 0 <ℤ p.d → (k : Parcel) → IsAmong u.parcels k
+    → IsInParcel p k ↔ ExactlyOne (IsInPiece p) (pieces_named u k.id)
 country_filled rs u n s p d k h =
     let g = home rs u n k h in
     let sound = All-contains IsSoundMap rs g.r s g.among in
-    subst (λ (xs : List Piece). IsInParcel p k ↔ ExactlyOne (IsInPiece p) xs) (sym g.double.pieces) (All-contains (λ (x : Parcel). IsInParcel p x ↔ ExactlyOne (IsInPiece p) (pieces_named g.r x.id)) g.r.parcels k (sound.everywhere.filled p d) g.has)
+    subst (λ (xs : List Piece). IsInParcel p k ↔ ExactlyOne (IsInPiece p) xs) (sym g.double.pieces)
+    (All-contains (λ (x : Parcel). IsInParcel p x ↔ ExactlyOne (IsInPiece p) (pieces_named g.r x.id)) g.r.parcels k (sound.everywhere.filled p d) g.has)
 
 -- the pieces of a parcel of the country hold a point once at most
-few_named : (rs : List Contents) (u : Contents) → IsUnion rs u → All IsSoundMap rs → (p : RationalPoint) → pos 0 <ℤ p.d → (k : Parcel) → IsAmong u.parcels k → AtMostOne (IsInPiece p) (pieces_named u k.id)
+few_named : (rs : List Contents) (u : Contents) → IsUnion rs u → All IsSoundMap rs → (p : RationalPoint) → pos 0 <ℤ p.d → (k : Parcel) → IsAmong u.parcels k
+    → AtMostOne (IsInPiece p) (pieces_named u k.id)
 few_named rs u n s p d k h =
     let g = home rs u n k h in
     let sound = All-contains IsSoundMap rs g.r s g.among in
@@ -141,10 +145,21 @@ country_parcel rs u n s m p d i j a b e f x y =
     same_index u.parcels n.distinct i j a b e f (ap (λ (k : Parcel). k.id) one)
 
 -- a piece's parcel holds what the piece holds
-in_its_parcel : (rs : List Contents) (u : Contents) → IsUnion rs u → All IsSoundMap rs → (p : RationalPoint) → pos 0 <ℤ p.d → (k : Parcel) → IsAmong u.parcels k → (i : ℕ) (x : Piece) → slice_get u.pieces i ≡ Some x → names_parcel k.id x ≡ true → IsInPiece p x → IsInParcel p k
+in_its_parcel : (rs : List Contents) (u : Contents) → IsUnion rs u → All IsSoundMap rs → (p : RationalPoint) → pos 0 <ℤ p.d → (k : Parcel) → IsAmong u.parcels k → (i : ℕ) (x : Piece)
+    → slice_get u.pieces i ≡ Some x → names_parcel k.id x ≡ true → IsInPiece p x → IsInParcel p k
 in_its_parcel rs u n s p d k h i x e t y =
     let w = into_filter (names_parcel k.id) u.pieces i x e t in
-    (country_filled rs u n s p d k h).1 ((w.index, x, slice_get_within (pieces_named u k.id) w.index x w.at, get_or_from_slice_get (pieces_named u k.id) w.index x x w.at, y), few_named rs u n s p d k h)
+    (country_filled rs u n s p d k h).1 (
+      (
+        w.index,
+        x,
+        slice_get_within (pieces_named u k.id) w.index x w.at,
+        get_or_from_slice_get
+            (pieces_named u k.id) w.index x x w.at,
+        y,
+      ),
+      few_named rs u n s p d k h,
+    )
 
 country_piece : (rs : List Contents) (u : Contents) → IsUnion rs u → All IsSoundMap rs → SeamIsMet rs u → (p : RationalPoint) → pos 0 <ℤ p.d → AtMostOne (IsInPiece p) u.pieces
 country_piece rs u n s m p d i j a b e f x y =
@@ -154,7 +169,8 @@ country_piece rs u n s m p d i j a b e f x y =
     let in_b = in_its_parcel rs u n s p d h.item (among_at u.parcels h.index h.item h.at) j b f h.has y in
     let same : g.index ≡ h.index = country_parcel rs u n s m p d g.index h.index g.item h.item g.at h.at in_a in_b in
     let one : h.item ≡ g.item = same_Some h.item g.item (sym h.at ∙ ap (slice_get u.parcels) (sym same) ∙ g.at) in
-    kept_place (names_parcel g.item.id) (IsInPiece p) u.pieces (few_named rs u n s p d g.item (among_at u.parcels g.index g.item g.at)) i j a b e f g.has (sym (ap (λ (k : Parcel). names_parcel k.id b) one) ∙ h.has) x y
+    kept_place (names_parcel g.item.id) (IsInPiece p) u.pieces (few_named rs u n s p d g.item (among_at u.parcels g.index g.item g.at)) i j a b e f g.has
+    (sym (ap (λ (k : Parcel). names_parcel k.id b) one) ∙ h.has) x y
 
 country_everywhere : (rs : List Contents) (u : Contents) → IsUnion rs u → All IsSoundMap rs → SeamIsMet rs u → IsSoundEverywhere u
 country_everywhere rs u n s m = record {

@@ -9,4 +9,5 @@ use Rattle.lpis_country.proofs.boxes.with_member.Goals as goal
 pub returns : goal.returns
 returns c =
     c.with_rings.ensures ∙ ap (λ (rings : List (List Point)). box_with_all c.with_ring-shell.result (points_of_rings rings)) c.as_slice.ensures
-    ∙ ap (λ (b : Box4). box_with_all b (points_of_rings c.args.member.now.holes)) c.with_ring-shell.ensures ∙ sym (box_append c.args.b c.args.member.now.shell (points_of_rings c.args.member.now.holes))
+    ∙ ap (λ (b : Box4). box_with_all b (points_of_rings c.args.member.now.holes)) c.with_ring-shell.ensures ∙ sym
+    (box_append c.args.b c.args.member.now.shell (points_of_rings c.args.member.now.holes))
