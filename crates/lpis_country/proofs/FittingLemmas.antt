@@ -15,16 +15,34 @@ use Rattle.lpis_checker.specs.SoundMap.{IsInParcel, IsSoundMap, TurnsTell}
 use Rattle.lpis_country.specs.Polygons.{HasClosedRings, box_of_members}
 use Rattle.lpis_country.specs.Tiling.{Tiling, frame, reaches, rectangles}
 use Rattle.lpis_country.specs.Country.{IsRegion, country_of, is_new, new_parcels, with_region}
-use Rattle.lpis_country.specs.Fitting.{EachFits, FitsCountry, IsDouble}
 use Rattle.lpis_country.proofs.ListLemmas.{all_among, among_at, clash, front_or_last, item_at, placed}
 use Rattle.lpis_country.proofs.IdLemmas.{has_among, id_found, same_parcel}
 use Rattle.lpis_country.proofs.BoxLemmas.{IsPointIn, box_covers, box_framed}
 use Rattle.lpis_country.proofs.OutsideLemmas.{in_its_box}
 use Rattle.lpis_country.proofs.TileLemmas.{meet_at, point_wider, tile_of}
-use Rattle.lpis_country.proofs.UnionLemmas.{HasBoth, IsUnion, SeamIsMet, country_turns, home, union_is_sound}
+use Rattle.lpis_country.proofs.UnionLemmas.{HasBoth, IsDouble, IsUnion, SeamIsMet, country_turns, home, union_is_sound}
 use Rattle.lpis_country.proofs.CountryLemmas.{country_classes, country_snoc, in_region, is_fresh, no_regions, union_grows}
 
 -- ---- regions one after the other
+-- a new parcel reaches no tile before number n
+abbrev pub IsLate : List Box4 → ℕ → Contents → Parcel → Type 0
+IsLate tiles n country k = is_new country k.id ≡ true → All (λ (t : Box4). reaches k t ≡ false) (take n tiles)
+
+-- the region has the parcel's identifier, where the parcel reaches tile n
+abbrev pub IsThere : List Box4 → ℕ → Contents → Parcel → Type 0
+IsThere tiles n r k = (t : Box4) → slice_get tiles n ≡ Some t → reaches k t ≡ true → has_id (parcel_ids r.parcels) k.id ≡ true
+
+-- the region of the tile with number n fits to the country of those before it: a parcel that was there is the same, a new one reaches no
+-- tile before, and none that reaches the tile is left out
+pub record FitsCountry (tiles : List Box4) (n : ℕ) (country r : Contents) : Type 0 where
+  pub same : All (λ (k : Parcel). is_new country k.id ≡ false → IsDouble country r k) r.parcels
+  pub new : All (IsLate tiles n country) r.parcels
+  pub none_lacks : All (IsThere tiles n r) country.parcels
+
+-- each region fits to the country of those before it
+abbrev pub EachFits : List Box4 → List Class → List Contents → Type 0
+EachFits tiles classes regions = (before : List Contents) (r : Contents) (after : List Contents) → regions ≡ before ++ r ∷ after → FitsCountry tiles (length before) (country_of classes before) r
+
 pub each_fits_none : (tiles : List Box4) (classes : List Class) → EachFits tiles classes []
 each_fits_none tiles classes [] r after e = absurd cc
 each_fits_none tiles classes (s ∷ ss) r after e = absurd cc
@@ -80,14 +98,6 @@ in_front (x ∷ xs) (suc n) (suc i) t l e = more (in_front xs n i t (omega (arit
     more : IsAmong (take n xs) t → IsAmong (x ∷ take n xs) t
     more h = let p = placed (take n xs) t h in among_at (x ∷ take n xs) (suc p.index) t p.at
 in_front (x ∷ xs) zero i t l e = absurd (omega (arith, l))
-
--- a new parcel reaches no tile before number n
-abbrev IsLate : List Box4 → ℕ → Contents → Parcel → Type 0
-IsLate tiles n u k = is_new u k.id ≡ true → All (λ (t : Box4). reaches k t ≡ false) (take n tiles)
-
--- the region has the parcel's identifier, where the parcel reaches tile n
-abbrev IsThere : List Box4 → ℕ → Contents → Parcel → Type 0
-IsThere tiles n r k = (t : Box4) → slice_get tiles n ≡ Some t → reaches k t ≡ true → has_id (parcel_ids r.parcels) k.id ≡ true
 
 stands_on : (tiles : List Box4) (classes : List Class) (done : List Contents) (r : Contents) → IsMade tiles classes done → FitsCountry tiles (length done) (country_of classes done) r
     → All (Stands tiles (done ++ r ∷ [])) (with_region (country_of classes done) r).parcels

@@ -18,9 +18,13 @@ use Rattle.lpis_parcels.specs.Weighted.{areas2, piece_weight, weighted2}
 use Rattle.lpis_edge_sums.specs.Counting.{AtMostOne, ExactlyOne}
 use Rattle.lpis_edge_sums.proofs.Shared.{Found, any_found, all_at, all_from, filter_kept}
 use Rattle.lpis_checker.specs.SoundMap.{IsInParcel, IsInPiece, IsSoundMap, IsSoundEverywhere, TurnsTell, TurnsOnce, AreasAdd}
-use Rattle.lpis_country.specs.Fitting.{IsDouble}
 use Rattle.lpis_country.proofs.ListLemmas.{among_at, all_among, into_filter, placed}
 use Rattle.lpis_country.proofs.IdLemmas.{same_index}
+
+-- the parcel of the region is in the country as it stands, with the same pieces in the same order
+pub record IsDouble (country r : Contents) (k : Parcel) : Type 0 where
+  pub row : IsAmong country.parcels k
+  pub pieces : pieces_named country k.id ≡ pieces_named r k.id
 
 -- the country has each row of each region, and no other; each identifier once, and the classes of all
 pub record IsUnion (regions : List Contents) (country : Contents) : Type 0 where

@@ -1,5 +1,3 @@
 pub mod Polygons
 pub mod Tiling
 pub mod Country
-pub mod Fitting
-pub mod Laws

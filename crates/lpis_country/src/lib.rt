@@ -2,7 +2,6 @@
 #![tactic(auto)]
 
 mod boxes;
-pub mod laws;
 mod regions;
 mod tiles;
 
