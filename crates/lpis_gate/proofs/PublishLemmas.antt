@@ -24,7 +24,7 @@ use Rattle.lpis_lineage.proofs.Shared.{follows-from-clean, mono, counted-ended}
 use Rattle.lpis_checker.specs.GoodCertificate.{IsGood}
 use Rattle.lpis_checker.specs.SoundMap.{IsSoundMap}
 use Rattle.lpis_commands.specs.Report.{report_text}
-use Rattle.lpis_gate.specs.LineageLines.{is_left_exactly, lineage_lines, publish_refusal_text, published_line}
+use Rattle.lpis_gate.specs.LineageLines.{is_left_exactly, dropped_lines, publish_refusal_text, published_line}
 use Rattle.lpis_commands.specs.declared.answer.Answer.{Answer as Answered}
 use Rattle.lpis_commands.specs.declared.failure.Failure.{Failure}
 use Rattle.lpis_commands.specs.declared.failure.Failure.TheVariants.{Store}
@@ -51,7 +51,7 @@ same-lines f g (x ∷ xs) e = flat_map-cons f x xs ∙ ap₂ (λ (a b : List ℕ
 
 -- of rows without a fault, a change has the lines of the identifiers that are dropped
 change-lines : (h : List Entry) (live : List (List ℕ)) (rows : List Row) (c : Changes) → faults h live rows ≡ [] → IsChange (last_live h) live rows c
-    → flat_map (lineage_line (kind_at c) (is_marked c.rows)) c.dropped_ids ≡ lineage_lines (last_live h) live rows
+    → flat_map (lineage_line (kind_at c) (is_marked c.rows)) c.dropped_ids ≡ dropped_lines (last_live h) live rows
 change-lines h live rows c clean is =
     ap (flat_map (lineage_line (kind_at c) (is_marked c.rows))) is.dropped_are ∙ same-lines _ _ (dropped (last_live h) live) line
   where

@@ -56,8 +56,8 @@ lineage_line kind_of is_exact id = codes "lineage " ++ id ++ codes " " ++ fate_t
 -- from the identifiers of the last release to those that are live now, by these rows: the line of
 -- each identifier that is dropped, in the order of the last release's, which in a history ascend by
 -- bytes
-abbrev pub lineage_lines : (last live : List (List ℕ)) → List Row → List ℕ
-lineage_lines last live rows =
+abbrev pub dropped_lines : (last live : List (List ℕ)) → List Row → List ℕ
+dropped_lines last live rows =
     flat_map (lineage_line (kind last live rows) (is_left_exactly (kind last live rows) rows))
     (dropped last live)
 
@@ -78,14 +78,14 @@ lineage_location_text (lineage.UsedBefore id year) = id ++ codes " " ++ decimal 
 lineage_location_text (lineage.MarkedOutside row) = codes "row " ++ decimal row
 
 -- the code of a lineage and its location; out of memory is no fault of a lineage
-abbrev pub lineage_code_text : Option LineageCode → List ℕ → List ℕ
-lineage_code_text None location = []
-lineage_code_text (Some c) location = codes "lineage " ++ lineage_code_text c ++ codes " "
+abbrev pub located_code_text : Option LineageCode → List ℕ → List ℕ
+located_code_text None location = []
+located_code_text (Some c) location = codes "lineage " ++ lineage_code_text c ++ codes " "
     ++ location
 
 unfoldable pub lineage_fault_text : LineageFault → List ℕ
-lineage_fault_text fault = lineage_code_text (lineage_code_of fault)
-    (lineage_location_text fault)
+lineage_fault_text fault =
+    located_code_text (lineage_code_of fault) (lineage_location_text fault)
 
 -- of the blocks of a certificate: the code and the identifier; out of memory is no fault of theirs
 abbrev pub exact_refusal_text : ExactFault → List ℕ

@@ -29,7 +29,7 @@ use Rattle.lpis_commands.specs.declared.failure.Name.TheVariants.{Out}
 use Rattle.lpis_commands.specs.Report.{report_text}
 use Rattle.lpis_commands.specs.Status.{done, refused}
 use Rattle.lpis_commands.specs.Streams.{Begins}
-use Rattle.lpis_gate.specs.LineageLines.{lineage_lines, publish_refusal_text, published_line}
+use Rattle.lpis_gate.specs.LineageLines.{dropped_lines, publish_refusal_text, published_line}
 use Rattle.lpis_gate.specs.Submission.{AreAllRead, IsSubmissionAnswer, Submission}
 
 -- ---- text and status
@@ -37,7 +37,7 @@ use Rattle.lpis_gate.specs.Submission.{AreAllRead, IsSubmissionAnswer, Submissio
 -- line of each identifier that it drops, and its year
 abbrev pub publication_text : List Entry → ℕ → Contents → List Row → List ℕ
 publication_text h year r rows =
-    report_text r ++ lineage_lines (last_live h) (parcel_ids r.parcels) rows ++ published_line year
+    report_text r ++ dropped_lines (last_live h) (parcel_ids r.parcels) rows ++ published_line year
 
 -- of a history with kept shapes, a year, a release with a good certificate and rows of lineage: the
 -- line of what the register refuses, in its order, or what is printed of a release that was
