@@ -1,6 +1,6 @@
 -- The first fault of a text, line by line.
-use Rattle.std.specs.Prelude.{◌≡◌, ℕ, suc, ◌+◌, ◌-◌, ◌==◌, Bool, cond, ◌&&◌, ◌||◌, ℤ, nat_abs}
-use Rattle.std.specs.Prelude.{nat_le, List, [], ◌∷◌, ◌++◌, length, take, drop, codes}
+use Rattle.std.specs.Prelude.{◌≡◌, ℕ, zero, suc, pred, ◌+◌, ◌==◌, Bool, cond, ◌&&◌, ◌||◌, ℤ}
+use Rattle.std.specs.Prelude.{nat_abs, nat_le, List, [], ◌∷◌, ◌++◌, length, take, drop, codes}
 use Rattle.std.specs.Prelude.{Option, Some, None, option_map}
 use Rattle.std.specs.Fmt.{signed_decimal}
 use Rattle.std.specs.List.{list_any, slice_split}
@@ -53,15 +53,19 @@ owing_after o (x_line c) = Some (record { owed = suc o.owed; names = o.names })
 owing_after o (y_line c) = Some (record { owed = suc o.owed; names = o.names })
 owing_after o (region_line name) =
     cond (list_any (bytes_eq name) o.names || nat_le most_regions (length o.names)) None
-    (Some (record { owed = o.owed - 1; names = o.names ++ (name ∷ []) }))
+    (Some (record { owed = pred o.owed; names = o.names ++ (name ∷ []) }))
 
 abbrev pub owing_said : Owing → Option TreeLine → Option Owing
 owing_said o None = None
 owing_said o (Some l) = owing_after o l
 
+abbrev pub where_owed : ℕ → Option Owing → Option Owing
+where_owed zero next = None
+where_owed (suc k) next = next
+
 -- what is owed after a line more, or none where the line can't stand
 unfoldable pub owing_with : Owing → List ℕ → Option Owing
-owing_with o line = cond (o.owed == 0) None (owing_said o (tree_line line))
+owing_with o line = where_owed o.owed (owing_said o (tree_line line))
 
 -- ---- the first fault
 
@@ -88,8 +92,9 @@ plan_fault_from n o (l ∷ m ∷ ls) =
 -- the same of all lines
 unfoldable pub plan_fault_of : List (List ℕ) → Option ℕ
 plan_fault_of [] = Some 1
-plan_fault_of (l ∷ ls) = cond (length ls == 0) (Some 1)
-    (cond (bytes_eq l country_head) (plan_fault_from 2 owing_first ls) (Some 1))
+plan_fault_of (rest ∷ []) = Some 1
+plan_fault_of (l ∷ m ∷ ls) =
+    cond (bytes_eq l country_head) (plan_fault_from 2 owing_first (m ∷ ls)) (Some 1)
 
 -- the line of the first fault of a text, if it has one
 abbrev pub plan_fault : List ℕ → Option ℕ

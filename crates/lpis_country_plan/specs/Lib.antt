@@ -3,3 +3,4 @@ pub mod Tree
 pub mod CountryText
 pub mod Faults
 pub mod Plans
+pub mod private

@@ -9,24 +9,20 @@ ghost use Rattle.lpis_country_plan.specs.Faults.{plan_fault};
 
 /// A text is that of one tree at most.
 pub fn one_country_text_a_tree()
-    requires { ⊥ }
     ensures { (text : List ℕ) (t u : Tree) → IsCountryText text t → IsCountryText text u → t ≡ u }
 {}
 
 /// The text of a tree has no fault.
 pub fn trees_have_no_fault()
-    requires { ⊥ }
     ensures { (text : List ℕ) (t : Tree) → IsCountryText text t → plan_fault text ≡ None }
 {}
 
 /// A text without a fault is that of a tree.
 pub fn plans_without_fault()
-    requires { ⊥ }
     ensures { (text : List ℕ) → plan_fault text ≡ None → (t : Tree) × IsCountryText text t }
 {}
 
 /// A tree has as many folders as tiles.
 pub fn as_many_folders_as_tiles()
-    requires { ⊥ }
     ensures { (t : Tree) (b : Box4) → length (folders t) ≡ length (rectangles (tiling_of t) b) }
 {}

@@ -1,4 +1,4 @@
-//! The plan of a country, `country.txt`: how it is cut into regions, and the names of their folders.
+//! The plan of a country, `country.txt`: how it is cut into regions, and their folders' names.
 //!
 //! | Call | Answer |
 //! |---|---|
@@ -11,10 +11,14 @@
 //! `specs/Faults.antt`.
 #![tactic(auto)]
 
+mod draft;
 mod fault;
 mod laws;
+mod line;
+mod names;
 mod plan;
 mod reading;
+mod rooms;
 
 pub use fault::PlanFault;
 pub use laws::{

@@ -12,8 +12,8 @@ use std::marker::Model;
 /// The most regions of a country.
 pub const MOST_REGIONS: usize = 10_000;
 
-/// The names of a country's regions, and their tiles in the same order. Contracts see the two lists.
-/// They are those of one tree of cuts, whose names are all different.
+/// The names of a country's regions, and their tiles in the same order: those of one tree of cuts,
+/// whose names are all different. Contracts see the two lists.
 #[derive(Debug, Drop)]
 pub struct Plan {
     names: Vec<String>,
@@ -36,6 +36,15 @@ impl Model for Plan {
 }
 
 impl Plan {
+    /// The plan of these lists.
+    pub(crate) fn new(names: Vec<String>, tiles: Vec<Box4>) -> Plan
+        requires { IsPlan (record { names = map string_bytes names.items; tiles = tiles.items }) }
+        ensures names { result.names ≡ map string_bytes names.items }
+        ensures tiles { result.tiles ≡ tiles.items }
+    {
+        Plan { names, tiles }
+    }
+
     /// The names of the regions, in the order of the text.
     pub fn names(&self) -> &[String]
         ensures names { map string_bytes result.now ≡ self.now.names }

@@ -1,0 +1,9 @@
+pub mod TreeLemmas
+pub mod NumberLemmas
+pub mod LineLemmas
+pub mod BegunLemmas
+pub mod FaultLemmas
+pub mod LawLemmas
+pub mod PlanLemmas
+pub mod DraftLemmas
+pub mod ReadingLemmas
