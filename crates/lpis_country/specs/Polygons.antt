@@ -27,6 +27,6 @@ abbrev pub box_of_members : List Member → Box4
 box_of_members members = box_with_all
     (record { x0 = limit; y0 = limit; x1 = neg_ℤ limit; y1 = neg_ℤ limit }) (corners_of members)
 
--- each ring ends where it begins
+-- all rings of the polygon are closed
 abbrev pub HasClosedRings : List Member → Type 0
 HasClosedRings members = All (λ (m : Member). All IsRing (m.shell ∷ m.holes)) members

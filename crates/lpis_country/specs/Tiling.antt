@@ -33,7 +33,7 @@ frame = record {
   y1 = limit +ℤ pos 1;
 }
 
--- two boxes share more than a border
+-- neither box ends where the other begins, or before
 abbrev pub meets : Box4 → Box4 → Bool
 meets b c = not (ends_before b c || ends_before c b)
 

@@ -25,7 +25,7 @@ fn is_before(first: &Box4, second: &Box4) -> bool
     first.x1 <= second.x0 || first.y1 <= second.y0
 }
 
-/// Whether two boxes share more than a border.
+/// Whether neither box ends where the other begins, or before. Boxes that only touch do not meet.
 pub fn meets(first: &Box4, second: &Box4) -> bool
     ensures { result ≡ meets_spec first.now second.now }
 {
