@@ -1,6 +1,7 @@
 pub mod Common
 pub mod OneAnswerLemmas
 pub mod AreaLemmas
+pub mod AreasLemmas
 pub mod CheckLemmas
 pub mod CommandLemmas
 pub mod ReadLemmas

@@ -1,5 +1,5 @@
 -- The program's command line.
-use Rattle.std.specs.Prelude.{◌≡◌, ◌≤◌, ◌↔◌, ℕ, List, Option, Some, None, codes, true}
+use Rattle.std.specs.Prelude.{◌≡◌, ◌≤◌, ℕ, List, Option, Some, None, codes, true}
 use Rattle.std.specs.Str.Parse.{IsNumeral, digits_value, without_leading_plus}
 use Rattle.clap.specs.Words.{App, Row, Rule, Text, first_of, new_app, new_rule, with_rule}
 use Rattle.clap.specs.Words.{with_subcommand}
@@ -9,7 +9,7 @@ use Rattle.lpis_commands.specs.declared.command.Cmd.{Cmd}
 use Rattle.lpis_commands.specs.declared.command.Cmd.TheVariants.{Area, Cut, Check, Country, Exact}
 use Rattle.lpis_commands.specs.declared.command.Cmd.TheVariants.{Publish, Trace}
 use Rattle.lpis_commands.specs.declared.command.Detail.{Detail}
-use Rattle.lpis_commands.specs.declared.command.Detail.TheVariants.{Parcels}
+use Rattle.lpis_commands.specs.declared.command.Detail.TheVariants.{Parcels, Regions}
 
 -- a required argument of one word
 abbrev pub word_rule : Text → Rule
@@ -99,13 +99,10 @@ IsYearWord word year =
     IsNumeral 10 (without_leading_plus word)
     × (year ≡ digits_value 10 (without_leading_plus word)) × (1 ≤ year) × (year ≤ 9999)
 
--- an option without a word is there: `clap` then gives it this word
-abbrev pub IsFlagThere : Text → List Row → Type 0
-IsFlagThere id rows = first_of id rows ≡ Some (codes "true")
-
--- the parcels are asked for exactly where their option is there
+-- the parcels are asked for where their option is there: `clap` gives it this word, else the other
 abbrev pub IsDetail : Detail → List Row → Type 0
-IsDetail detail rows = (detail ≡ Parcels) ↔ IsFlagThere (codes "parcels") rows
+IsDetail Parcels rows = first_of (codes "parcels") rows ≡ Some (codes "true")
+IsDetail Regions rows = first_of (codes "parcels") rows ≡ Some (codes "false")
 
 -- the command has this name, and its words are those of its arguments
 abbrev pub IsNamedCommand : Cmd → Text → List Row → Type 0

@@ -6,6 +6,7 @@ use Rattle.lpis_commands.specs.declared.failure.Name.{Name}
 use Rattle.lpis_commands.specs.declared.failure.Name.TheVariants.{Area, Parcels, Covers, Classes}
 use Rattle.lpis_commands.specs.declared.failure.Name.TheVariants.{Cert, Country, Lineage}
 use Rattle.lpis_commands.specs.declared.named.NamedFile.{NamedFile}
+use Rattle.lpis_commands.specs.declared.named.RegionFiles.{RegionFiles}
 use Rattle.lpis_commands.specs.declared.named.TableFiles.{TableFiles}
 use Rattle.lpis_commands.specs.declared.named.CommandFiles.{CommandFiles}
 use Rattle.lpis_commands.specs.declared.named.CommandFiles.TheVariants as files
@@ -31,6 +32,11 @@ lineage_file dir = (in_folder dir (codes "lineage.csv"), Lineage)
 abbrev pub country_file : List ℕ → List ℕ × Name
 country_file dir = (in_folder dir (codes "country.txt"), Country)
 
+-- the files of a region, in the folder of its name in that of its country
+abbrev pub files_of_region : List ℕ → List ℕ → List (List ℕ × Name)
+files_of_region dir name = tables_in (in_folder dir name)
+    ++ (in_folder (in_folder dir name) (codes "cert.txt"), Cert) ∷ []
+
 -- the files of a command beside its register, in the order in which they are opened, each a path
 -- and the name by which a failure reports it
 abbrev pub files_of : Cmd → List (List ℕ × Name)
@@ -50,6 +56,9 @@ shown_file i = (string_bytes i.path, i.name)
 
 abbrev pub tables_listed : TableFiles → List (List ℕ × Name)
 tables_listed t = shown_file t.parcels ∷ shown_file t.covers ∷ shown_file t.classes ∷ []
+
+abbrev pub region_listed : RegionFiles → List (List ℕ × Name)
+region_listed i = tables_listed i.tables ++ shown_file i.cert ∷ []
 
 abbrev pub listed : CommandFiles → List (List ℕ × Name)
 listed (files.Area table) = shown_file table ∷ []

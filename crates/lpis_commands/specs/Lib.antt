@@ -1,5 +1,6 @@
 pub mod Area
 pub mod AreaAnswer
+pub mod Areas
 pub mod CheckAnswer
 pub mod Command
 pub mod CutAnswer

@@ -49,7 +49,10 @@ check_refusal_text check.Memory = []
 check_refusal_text (check.At code location) = codes "refused " ++ check_code_text code
     ++ codes " " ++ location_text location ++ codes "\n"
 
+-- the end of a line that is of a region
+abbrev pub region_end : List ℕ → List ℕ
+region_end region = codes " region " ++ region ++ codes "\n"
+
 -- a line with the region that it is of, at its end
 abbrev pub line_in_region : List ℕ → List ℕ → List ℕ
-line_in_region line region =
-    take (length line - 1) line ++ codes " region " ++ region ++ codes "\n"
+line_in_region line region = take (length line - 1) line ++ region_end region

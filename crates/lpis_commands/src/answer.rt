@@ -1,6 +1,6 @@
 //! What a run prints.
 
-ghost use Rattle.std.specs.Prelude.{◌≡◌, IfErr, IfOk, OnOk};
+ghost use Rattle.std.specs.Prelude.{◌≡◌, IfErr, IfOk, IsOk, OnOk};
 ghost use Rattle.std.specs.Io.KnownBytes.{Appends};
 ghost use Rattle.lpis_commands.specs.Refusals.{line_in_region, refusal_text};
 ghost use Rattle.lpis_commands.specs.Status.{unreadable};
@@ -10,7 +10,8 @@ ghost use Rattle.lpis_commands.specs.declared.failure.Name.{Name};
 
 use crate::failure::{Failure, Name};
 use crate::outputs::write_text;
-use crate::refusal::print_table_fault;
+use crate::printing::PrintFault;
+use crate::refusal::{print_region, print_table_fault};
 use crate::status::UNREADABLE;
 use lpis_covers::TableFault;
 use std::alloc::{AllocError, Global};
@@ -26,30 +27,40 @@ pub struct Answer {
 }
 
 impl Answer {
+    /// A text that was printed, with this status. Where it was not, memory ran out.
+    pub fn of(
+        text: Vec<u8>,
+        status: u8,
+        printed: Result<(), PrintFault>,
+    ) -> Result<Answer, AllocError>
+        ensures { IfOk result (λ a. IsOk printed × (a ≡ record { text = text; status = status })) }
+    {
+        match printed {
+            Ok(()) => Ok(Answer { text, status }),
+            Err(_) => Err(AllocError),
+        }
+    }
+
     /// The line of a refused table.
     pub fn refuse_table(alloc: Global, fault: &TableFault) -> Result<Answer, AllocError>
         ensures { IfOk result (λ a. (a.text.items ≡ refusal_text fault.now)
             × (a.status ≡ unreadable)) }
     {
         let mut text = Vec::new(alloc);
-        match print_table_fault(fault, &mut text) {
-            Ok(()) => Ok(Answer {
-                text,
-                status: UNREADABLE,
-            }),
-            Err(_) => Err(AllocError),
-        }
+        let printed = print_table_fault(fault, &mut text);
+        Answer::of(text, UNREADABLE, printed)
     }
 
     /// The same line with the region that it is of, at its end.
-    pub fn in_region(self, alloc: Global, region: &str) -> Result<Answer, AllocError>
+    pub fn in_region(self, region: &str) -> Result<Answer, AllocError>
         ensures { IfOk result (λ a. (a.text.items ≡ line_in_region self.text.items region.now)
             × (a.status ≡ self.status)) }
     {
-        let _ = self;
-        let _ = region;
-        let _ = alloc;
-        Err(AllocError)
+        let Answer { mut text, status } = self;
+        // A line ends with its line feed.
+        let _feed = text.pop();
+        let printed = print_region(region, &mut text);
+        Answer::of(text, status, printed)
     }
 
     /// Writes its text. Ok is its status.

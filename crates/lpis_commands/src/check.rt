@@ -1,6 +1,6 @@
 //! The run of `check`, over any readers and writer.
 
-ghost use Rattle.std.specs.Prelude.{◌≡◌, IfErr, IfOk, List, ℕ};
+ghost use Rattle.std.specs.Prelude.{◌≡◌, ◌≢◌, IfErr, IfNone, IfOk, IfSome, List, ℕ};
 ghost use Rattle.lpis_cert.specs.Contents.{IsCertText};
 ghost use Rattle.lpis_cert.specs.declared.cert.Cert.{Cert};
 ghost use Rattle.lpis_checker.specs.GoodCertificate.{IsGood};
@@ -19,10 +19,10 @@ use crate::failure::{Failure, Name};
 use crate::reading::read_named;
 use crate::refusal::{print_cert_fault, print_check_fault};
 use crate::releases::{TableBytes, read_tables, release_in};
-use crate::report::write_report;
+use crate::report::print_report;
 use crate::status::{DONE, REFUSED, UNREADABLE};
 use lpis_cert::{Cert, CertFault, read_cert};
-use lpis_checker::{CheckFault, Yes, check};
+use lpis_checker::{CheckFault, check};
 use lpis_covers::TableFault;
 use lpis_pairs::Sweep;
 use lpis_parcels::Release;
@@ -44,13 +44,8 @@ pub fn refuse_text(alloc: Global, fault: &CertFault) -> Result<Answer, AllocErro
         × (a.status ≡ unreadable)) }
 {
     let mut text = Vec::new(alloc);
-    match print_cert_fault(fault, &mut text) {
-        Ok(()) => Ok(Answer {
-            text,
-            status: UNREADABLE,
-        }),
-        Err(_) => Err(AllocError),
-    }
+    let printed = print_cert_fault(fault, &mut text);
+    Answer::of(text, UNREADABLE, printed)
 }
 
 /// The line of a certificate that is not good.
@@ -59,41 +54,39 @@ pub fn refuse_cert(alloc: Global, fault: &CheckFault) -> Result<Answer, AllocErr
         × (a.status ≡ refused)) }
 {
     let mut text = Vec::new(alloc);
-    match print_check_fault(fault, &mut text) {
-        Ok(()) => Ok(Answer {
-            text,
-            status: REFUSED,
-        }),
-        Err(_) => Err(AllocError),
-    }
+    let printed = print_check_fault(fault, &mut text);
+    Answer::of(text, REFUSED, printed)
 }
 
-/// The report of a checked release.
-fn report(alloc: Global, yes: &Yes<'_>) -> Result<Answer, AllocError>
-    ensures { IfOk result (λ a. (a.text.items ≡ report_text yes.now) × (a.status ≡ done)) }
+/// The report of a release that is a sound map.
+fn report(alloc: Global, release: &Release) -> Result<Answer, AllocError>
+    requires { IsSoundMap release.now }
+    ensures { IfOk result (λ a. (a.text.items ≡ report_text release.now) × (a.status ≡ done)) }
 {
     let mut text = Vec::new(alloc);
-    match write_report(yes, &mut text) {
-        Ok(()) => Ok(Answer { text, status: DONE }),
-        Err(_) => Err(AllocError),
-    }
+    let printed = print_report(release, &mut text);
+    Answer::of(text, DONE, printed)
 }
 
-/// The answer to a release and a certificate.
-fn answer_to_cert(alloc: Global, release: &Release, cert: &Cert) -> Result<Answer, AllocError>
-    ensures answer { IfOk result
-        (λ a. IsCheckAnswer release.now cert.now (IsReport release.now) (a.text.items, a.status)) }
-    ensures proved { IfOk result (λ a. a.status ≡ done → IsSoundMap release.now
-        × IsGood release.now cert.now) }
+/// The answer that refuses a release by a certificate. None is there for a good one.
+fn refusal_by_cert(
+    alloc: Global,
+    release: &Release,
+    cert: &Cert,
+) -> Result<Option<Answer>, AllocError>
+    ensures refusal { IfOk result (λ r. IfSome r (λ a. IsCheckAnswer release.now cert.now
+        (IsReport release.now) (a.text.items, a.status) × (a.status ≢ done))) }
+    ensures good { IfOk result (λ r. IfNone r (IsSoundMap release.now
+        × IsGood release.now cert.now)) }
 {
     match check(alloc, release, cert, &Sweep) {
         Ok(yes) => {
             // What is checked is a sound map.
             let _ = yes.release();
-            report(alloc, &yes)
+            Ok(None)
         }
         Err(CheckFault::Memory) => Err(AllocError),
-        Err(fault) => Ok(refuse_cert(alloc, &fault)?),
+        Err(fault) => Ok(Some(refuse_cert(alloc, &fault)?)),
     }
 }
 
@@ -104,53 +97,60 @@ pub fn cert_in(alloc: Global, text: Vec<u8>) -> Result<Cert, CertFault>
     read_cert(alloc, text.as_slice())
 }
 
-/// The answer to a release and what a text was read as.
-fn answer_to_text(
+/// The answer that refuses a release by what a text was read as. None is there for that of a good
+/// certificate.
+fn refusal_by_text(
     alloc: Global,
     release: &Release,
     read: Result<Cert, CertFault>,
-) -> Result<Answer, AllocError>
-    ensures answer { (text : List ℕ) → IsReadAs text read → IfOk result
-        (λ a. IsReleaseAnswer text release.now (a.text.items, a.status)) }
-    ensures proved { (text : List ℕ) → IsReadAs text read → IfOk result (λ a. a.status ≡ done
-        → IsSoundMap release.now × ((c : Cert) × IsCertText text c × IsGood release.now c)) }
+) -> Result<Option<Answer>, AllocError>
+    ensures refusal { (text : List ℕ) → IsReadAs text read → IfOk result (λ r. IfSome r
+        (λ a. IsReleaseAnswer text release.now (a.text.items, a.status) × (a.status ≢ done))) }
+    ensures good { (text : List ℕ) → IsReadAs text read → IfOk result (λ r. IfNone r
+        (IsSoundMap release.now × ((c : Cert) × IsCertText text c × IsGood release.now c))) }
 {
     match read {
-        Ok(cert) => answer_to_cert(alloc, release, &cert),
+        Ok(cert) => refusal_by_cert(alloc, release, &cert),
         Err(CertFault::Memory) => Err(AllocError),
-        Err(fault) => refuse_text(alloc, &fault),
-    }
-}
-
-/// The answer to three tables and a certificate. The certificate is read first, since its text is
-/// the longest as a rule, and the bytes of each input are let go when it is read.
-fn answer_to(alloc: Global, inputs: InputBytes) -> Result<Answer, AllocError>
-    ensures answer { IfOk result (λ a. IsAnswer (inputs_of inputs) (a.text.items, a.status)) }
-    ensures proved { IfOk result (λ a. a.status ≡ done → IsProved (inputs_of inputs)) }
-{
-    let InputBytes { tables, cert } = inputs;
-    let read = cert_in(alloc, cert);
-    match release_in(alloc, tables) {
-        Ok(release) => answer_to_text(alloc, &release, read),
-        Err(TableFault::Memory) => Err(AllocError),
-        Err(fault) => Answer::refuse_table(alloc, &fault),
+        Err(fault) => Ok(Some(refuse_text(alloc, &fault)?)),
     }
 }
 
 /// The release of three tables, if it is a sound map by the certificate, or the answer that refuses
 /// them.
+///
+/// The certificate is read first, since its text is the longest as a rule, and the bytes of each
+/// input are let go when it is read.
 pub fn checked_release(
     alloc: Global,
     inputs: InputBytes,
 ) -> Result<Result<Release, Answer>, AllocError>
-    ensures release { IfOk result (λ r. IfOk r (λ release. IsProvedOf (inputs_of inputs)
-        release.now)) }
+    ensures release { IfOk result (λ r. IfOk r (IsProvedOf (inputs_of inputs))) }
     ensures refusal { IfOk result (λ r. IfErr r (λ a. IsRefusal (inputs_of inputs)
         (a.text.items, a.status))) }
 {
-    let _ = inputs;
-    let _ = alloc;
-    Err(AllocError)
+    let InputBytes { tables, cert } = inputs;
+    let read = cert_in(alloc, cert);
+    let release = match release_in(alloc, tables) {
+        Ok(release) => release,
+        Err(TableFault::Memory) => return Err(AllocError),
+        Err(fault) => return Ok(Err(Answer::refuse_table(alloc, &fault)?)),
+    };
+    match refusal_by_text(alloc, &release, read)? {
+        Some(refusal) => Ok(Err(refusal)),
+        None => Ok(Ok(release)),
+    }
+}
+
+/// The answer to three tables and a certificate.
+fn answer_to(alloc: Global, inputs: InputBytes) -> Result<Answer, AllocError>
+    ensures answer { IfOk result (λ a. IsAnswer (inputs_of inputs) (a.text.items, a.status)) }
+    ensures proved { IfOk result (λ a. a.status ≡ done → IsProved (inputs_of inputs)) }
+{
+    match checked_release(alloc, inputs)? {
+        Ok(release) => report(alloc, &release),
+        Err(refusal) => Ok(refusal),
+    }
 }
 
 /// All bytes of the inputs, which are read in this order.

@@ -99,13 +99,15 @@ fn year_of(matches: &ArgMatches<'_>, id: &str) -> Option<u16>
     }
 }
 
-/// What is printed of a country: its option says so.
-fn detail_of(matches: &ArgMatches<'_>) -> Detail
-    ensures { IsDetail result (rows_of (found_of matches.now)) }
+/// What is printed of a country. `clap` lets no other word through.
+fn detail_of(matches: &ArgMatches<'_>) -> Option<Detail>
+    ensures { IfSome result (λ detail. IsDetail detail (rows_of (found_of matches.now))) }
 {
-    match matches.get_str("parcels") {
-        Some("true") => Detail::Parcels,
-        _ => Detail::Regions,
+    let word = word_of(matches, "parcels")?;
+    match word {
+        "true" => Some(Detail::Parcels),
+        "false" => Some(Detail::Regions),
+        _ => None,
     }
 }
 
@@ -115,7 +117,7 @@ fn country_named<'a>(matches: &ArgMatches<'a>) -> Option<Cmd<'a>>
         (rows_of (found_of matches.now))) }
 {
     let dir = word_of(matches, "dir")?;
-    let detail = detail_of(matches);
+    let detail = detail_of(matches)?;
     Some(Cmd::Country { dir, detail })
 }
 

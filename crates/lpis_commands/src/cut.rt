@@ -29,13 +29,8 @@ fn refuse_release(alloc: Global, refusal: &Refusal) -> Result<Answer, AllocError
         × (a.status ≡ refused)) }
 {
     let mut text = Vec::new(alloc);
-    match print_refusal(refusal, &mut text) {
-        Ok(()) => Ok(Answer {
-            text,
-            status: REFUSED,
-        }),
-        Err(_) => Err(AllocError),
-    }
+    let printed = print_refusal(refusal, &mut text);
+    Answer::of(text, REFUSED, printed)
 }
 
 /// The line of a certificate's counts.
@@ -43,10 +38,8 @@ fn count_cert(alloc: Global, cert: &Cert) -> Result<Answer, AllocError>
     ensures { IfOk result (λ a. (a.text.items ≡ counts_text cert.now) × (a.status ≡ done)) }
 {
     let mut text = Vec::new(alloc);
-    match print_counts(cert, &mut text) {
-        Ok(()) => Ok(Answer { text, status: DONE }),
-        Err(_) => Err(AllocError),
-    }
+    let printed = print_counts(cert, &mut text);
+    Answer::of(text, DONE, printed)
 }
 
 /// The outcome of a certificate that was cut.

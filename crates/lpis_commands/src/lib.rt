@@ -4,6 +4,7 @@
 
 mod answer;
 mod area;
+mod areas;
 mod check;
 mod command;
 mod command_line;
@@ -23,6 +24,7 @@ mod status;
 
 pub use answer::Answer;
 pub use area::run_area;
+pub use areas::{Areas, areas_of, print_areas};
 pub use check::{
     InputBytes, cert_in, checked_release, read_inputs, refuse_cert, refuse_text, run_check,
 };
@@ -31,14 +33,14 @@ pub use cut::run_cut;
 pub use cut_line::{print_counts, print_refusal};
 pub use failure::{Failure, Name, print_failure};
 pub use laws::{a_check_has_one_answer, a_sum_of_areas_is_printed};
-pub use named::{CommandFiles, NamedFile, TableFiles, named_files};
+pub use named::{CommandFiles, NamedFile, RegionFiles, TableFiles, named_files, region_files};
 pub use outcome::Outcome;
 pub use outputs::write_text;
 pub use printing::{PrintFault, print_area, print_eligible, print_line};
 pub use reading::{GREATEST_LIMIT, ReadFault, read_all, read_from, read_named};
-pub use refusal::{print_cert_fault, print_check_fault, print_table_fault};
+pub use refusal::{print_cert_fault, print_check_fault, print_region, print_table_fault};
 pub use releases::{TableBytes, read_tables, release_in};
-pub use report::{Areas, areas_of, print_areas, print_parcel, write_report};
+pub use report::{print_parcel, write_report};
 pub use status::{DONE, FAILED, REFUSED, UNREADABLE, status_of, usage_ends};
 
 #[cfg(test)]

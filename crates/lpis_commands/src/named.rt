@@ -2,8 +2,8 @@
 
 ghost use Rattle.std.specs.Prelude.{◌≡◌, IfOk};
 ghost use Rattle.lpis_commands.specs.Files.{HasWords, classes_file, country_file, files_of};
-ghost use Rattle.lpis_commands.specs.Files.{in_folder, lineage_file, listed, shown_file, tables_in};
-ghost use Rattle.lpis_commands.specs.Files.{tables_listed};
+ghost use Rattle.lpis_commands.specs.Files.{files_of_region, in_folder, lineage_file, listed};
+ghost use Rattle.lpis_commands.specs.Files.{region_listed, shown_file, tables_in, tables_listed};
 
 use crate::command::{Cmd, Detail};
 use crate::failure::Name;
@@ -27,6 +27,15 @@ pub struct TableFiles {
     pub covers: NamedFile,
     /// The classes table.
     pub classes: NamedFile,
+}
+
+/// The files of a region, in the order in which they are opened and read.
+#[derive(Debug, Drop)]
+pub struct RegionFiles {
+    /// The tables of its release.
+    pub tables: TableFiles,
+    /// The certificate.
+    pub cert: NamedFile,
 }
 
 /// The files of a command, in the order in which they are opened, with the words that its run is
@@ -144,6 +153,16 @@ fn lineage_in(alloc: Global, dir: &str) -> Result<NamedFile, AllocError>
     ensures { IfOk result (λ i. shown_file i ≡ lineage_file dir.now) }
 {
     file_in(alloc, dir, "lineage.csv", Name::Lineage)
+}
+
+/// The files of the region of this name, in the folder of a country.
+pub fn region_files(alloc: Global, dir: &str, name: &str) -> Result<RegionFiles, AllocError>
+    ensures { IfOk result (λ i. region_listed i ≡ files_of_region dir.now name.now) }
+{
+    let folder = format!(in alloc; "{dir}/{name}")?;
+    let tables = tables_of(alloc, folder.as_str())?;
+    let cert = file_in(alloc, folder.as_str(), "cert.txt", Name::Cert)?;
+    Ok(RegionFiles { tables, cert })
 }
 
 /// The files of a command, by its words.

@@ -61,26 +61,10 @@ pub fn read_from<R: Read>(alloc: Global, reader: &mut R, limit: usize) -> Result
     ensures part { IfErr result (λ fault. (given : List ℕ) × Consumes (R.remaining reader.old)
         (R.remaining reader.new) given × ((fault ≡ ReadFault.TooLong) ↔ (limit < length given))) }
 {
-    let Ok(mut chunk) = vec![in alloc; 0u8; CHUNK] else {
+    let Ok(mut room) = vec![in alloc; 0u8; CHUNK] else {
         return Err(ReadFault::Memory);
     };
-    read_by(alloc, reader, limit, chunk.as_mut_slice())
-}
-
-/// The same, by reads into `chunk`.
-fn read_by<R: Read>(
-    alloc: Global,
-    reader: &mut R,
-    limit: usize,
-    chunk: &mut [u8],
-) -> Result<Vec<u8>, ReadFault>
-    requires limit { limit ≤ GREATEST_LIMIT }
-    requires room { 0 < length chunk.old }
-    ensures all { IfOk result (λ v. Consumes (R.remaining reader.old) (R.remaining reader.new)
-        v.items × IsAtEnd (R.remaining reader.new) × (vec_len v ≤ limit)) }
-    ensures part { IfErr result (λ fault. (given : List ℕ) × Consumes (R.remaining reader.old)
-        (R.remaining reader.new) given × ((fault ≡ ReadFault.TooLong) ↔ (limit < length given))) }
-{
+    let chunk = room.as_mut_slice();
     let mut bytes = Vec::new(alloc);
     for _ in 0..2 * limit + 16 {
         match reader.read(chunk) {
@@ -103,27 +87,15 @@ fn read_by<R: Read>(
     Err(ReadFault::Read)
 }
 
-/// All bytes of an input, which has at most 1,073,741,824, in a block of their number. The larger a
-/// freed block, the larger are those that the C library keeps after they are freed.
-pub(crate) fn read_input<R: Read + Drop>(alloc: Global, reader: R) -> Result<Vec<u8>, ReadFault>
-    ensures all { IfOk result (λ v. IsRead v.items (R.remaining reader)) }
-    ensures long { IsErrOf result ReadFault.TooLong
-        → IfSome (R.remaining reader) (λ bytes. 1073741824 < length bytes) }
-{
-    let bytes = read_all(alloc, reader, GREATEST_LIMIT)?;
-    match without_spare(bytes) {
-        Ok(bytes) => Ok(bytes),
-        Err(_) => Err(ReadFault::Memory),
-    }
-}
-
-/// All bytes of the input of this name, or the failure that reports it.
+/// All bytes of the input of this name, or the failure that reports it. They lie in a block of their
+/// number: the larger a freed block, the larger are those that the C library keeps after they are
+/// freed.
 pub fn read_named<R: Read + Drop>(alloc: Global, reader: R, name: Name) -> Result<Vec<u8>, Failure>
     ensures all { IfOk result (λ v. IsRead v.items (R.remaining reader)) }
     ensures failure { IfErr result (IsUnread name) }
 {
-    match read_input(alloc, reader) {
-        Ok(bytes) => Ok(bytes),
+    match read_all(alloc, reader, GREATEST_LIMIT) {
+        Ok(bytes) => Ok(without_spare(bytes)?),
         Err(ReadFault::Memory) => Err(Failure::Memory),
         Err(_) => Err(Failure::Read(name)),
     }

@@ -4,7 +4,7 @@ ghost use Rattle.std.specs.Prelude.{OnOk};
 ghost use Rattle.std.specs.Io.KnownBytes.{Appends};
 ghost use Rattle.lpis_commands.specs.Refusals.{cert_refusal_text, check_refusal_text};
 ghost use Rattle.lpis_commands.specs.Refusals.{location_text};
-ghost use Rattle.lpis_commands.specs.Refusals.{refusal_text, wkt_text};
+ghost use Rattle.lpis_commands.specs.Refusals.{refusal_text, region_end, wkt_text};
 
 use crate::printing::PrintFault;
 use lpis_cert::CertFault;
@@ -86,5 +86,14 @@ pub fn print_check_fault<W: Write>(fault: &CheckFault, out: &mut W) -> Result<()
     write!(out, "refused {} ", code.as_str())?;
     print_location(place, out)?;
     out.write_all(b"\n")?;
+    Ok(())
+}
+
+/// Writes the region that a line is of, and the line's end.
+pub fn print_region<W: Write>(region: &str, out: &mut W) -> Result<(), PrintFault>
+    ensures { OnOk result (Appends (W.contents out.old) (W.contents out.new)
+        (region_end region.now)) }
+{
+    write!(out, " region {region}\n")?;
     Ok(())
 }

@@ -1,7 +1,7 @@
 //! The command line.
 
 use super::releases::hold;
-use crate::command::{Cmd, command_of};
+use crate::command::{Cmd, Detail, command_of};
 use clap::error::ErrorKind;
 use std::test::Fail;
 
@@ -42,6 +42,11 @@ fn publish(db: &str, year: u16) -> Cmd<'_> {
     }
 }
 
+/// The check of the country in a folder.
+fn country(dir: &str, detail: Detail) -> Cmd<'_> {
+    Cmd::Country { dir, detail }
+}
+
 /// The blocks for a folder `a` and a certificate `b`, written to `c`.
 fn exact<'a>(db: &'a str) -> Cmd<'a> {
     Cmd::Exact {
@@ -70,6 +75,9 @@ fn words_ask_for_a_command(rt: HostRuntime) -> Result<(), Fail> {
                 cert: "b",
             },
         ),
+        ("lpis country a", country("a", Detail::Regions)),
+        ("lpis country --parcels a", country("a", Detail::Parcels)),
+        ("lpis country a --parcels", country("a", Detail::Parcels)),
         ("lpis exact a.db a b c", exact("a.db")),
         ("lpis publish a.db 2024 a b", publish("a.db", 2024)),
         (
@@ -94,6 +102,15 @@ fn words_ask_for_a_command(rt: HostRuntime) -> Result<(), Fail> {
                 dir: "check",
                 cert: "check",
             },
+        ),
+        (
+            "country country country",
+            country("country", Detail::Regions),
+        ),
+        // behind two dashes a word is no option
+        (
+            "lpis country -- --parcels",
+            country("--parcels", Detail::Regions),
         ),
         ("lpis exact exact a b c", exact("exact")),
         ("lpis publish 7 7 a b", publish("7", 7)),
@@ -130,6 +147,14 @@ fn other_words_are_faults(rt: HostRuntime) -> Result<(), Fail> {
         ("lpis area", ErrorKind::MissingRequiredArgument),
         ("lpis area a.csv b.csv", ErrorKind::UnknownArgument),
         ("lpis check a", ErrorKind::MissingRequiredArgument),
+        ("lpis country --parcels", ErrorKind::MissingRequiredArgument),
+        ("lpis country a b", ErrorKind::UnknownArgument),
+        ("lpis country a --pieces", ErrorKind::UnknownArgument),
+        ("lpis country a --parcels=a", ErrorKind::TooManyValues),
+        (
+            "lpis country --parcels --parcels a",
+            ErrorKind::ArgumentConflict,
+        ),
         ("lpis exact a.db a b", ErrorKind::MissingRequiredArgument),
         ("lpis exact a.db a b c d", ErrorKind::UnknownArgument),
         ("lpis retrace a b", ErrorKind::InvalidSubcommand),
