@@ -43,36 +43,6 @@ pub record FitsCountry (tiles : List Box4) (n : ℕ) (country r : Contents) : Ty
 abbrev pub EachFits : List Box4 → List Class → List Contents → Type 0
 EachFits tiles classes regions = (before : List Contents) (r : Contents) (after : List Contents) → regions ≡ before ++ r ∷ after → FitsCountry tiles (length before) (country_of classes before) r
 
-pub each_fits_none : (tiles : List Box4) (classes : List Class) → EachFits tiles classes []
-each_fits_none tiles classes [] r after e = absurd cc
-each_fits_none tiles classes (s ∷ ss) r after e = absurd cc
-
-record Splits (rs : List Contents) (x : Contents) (before : List Contents) (r : Contents) (after : List Contents) : Type 0 where
-  rest : List Contents
-  is : rs ≡ before ++ r ∷ rest
-
--- where a list with one more is parted in two at an item, the item is the last one or the list is parted there
-parted : (rs : List Contents) (x : Contents) (before : List Contents) (r : Contents) (after : List Contents) → rs ++ x ∷ [] ≡ before ++ r ∷ after
-    → ((rs ≡ before) × (x ≡ r)) ⊎ Splits rs x before r after
-parted [] x [] r after e = inl (refl, cc)
-parted [] x (b ∷ []) r after e = absurd cc
-parted [] x (b ∷ c ∷ bs) r after e = absurd cc
-parted (s ∷ rs) x [] r after e = inr (record { rest = rs; is = cc })
-parted (s ∷ rs) x (b ∷ bs) r after e = by (parted rs x bs r after cc)
-  where
-    by : ((rs ≡ bs) × (x ≡ r)) ⊎ Splits rs x bs r after → ((s ∷ rs ≡ b ∷ bs) × (x ≡ r)) ⊎ Splits (s ∷ rs) x (b ∷ bs) r after
-    by (inl h) = inl (cc, h.1)
-    by (inr h) = inr (record { rest = h.rest; is = cc })
-
-pub each_fits_more : (tiles : List Box4) (classes : List Class) (rs : List Contents) (r : Contents) → EachFits tiles classes rs → FitsCountry tiles (length rs) (country_of classes rs) r
-    → EachFits tiles classes (rs ++ r ∷ [])
-each_fits_more tiles classes rs r h f before s after e = by (parted rs r before s after e)
-  where
-    by : ((rs ≡ before) × (r ≡ s)) ⊎ Splits rs r before s after → FitsCountry tiles (length before) (country_of classes before) s
-    by (inl q) =
-        subst (λ (x : Contents). FitsCountry tiles (length before) (country_of classes before) x) q.1 (subst (λ (bs : List Contents). FitsCountry tiles (length bs) (country_of classes bs) r) q.0 f)
-    by (inr q) = h before s q.rest q.is
-
 -- ---- each parcel stands in the region of each tile that it reaches
 abbrev Stands : List Box4 → List Contents → Parcel → Type 0
 Stands tiles done k = (i : ℕ) (t : Box4) (r : Contents) → slice_get done i ≡ Some r → slice_get tiles i ≡ Some t → reaches k t ≡ true → IsAmong r.parcels k
