@@ -79,7 +79,7 @@ class Plan:
     """The folders and their tiles, each least x and y and greatest x and y, read as a tree."""
 
     def __init__(self, text):
-        self.lines, self.next, self.folders, self.tiles = text.split("\n"), 0, [], []
+        self.lines, self.next, self.folders, self.names, self.tiles = text.split("\n"), 0, [], set(), []
         if self.line() != "lpis-country 1":
             raise At(1)
         self.tree((-FAR - 1, -FAR - 1, FAR + 1, FAR + 1))
@@ -104,8 +104,9 @@ class Plan:
             self.tree(tuple(high))
             return
         region = re.fullmatch(r"region ([A-Za-z0-9_-]{1,100})", line)
-        if not region or region[1] in self.folders or len(self.folders) == MOST_REGIONS:
+        if not region or region[1] in self.names or len(self.folders) == MOST_REGIONS:
             raise At(self.next)
+        self.names.add(region[1])
         self.folders.append(region[1])
         self.tiles.append(tile)
 
