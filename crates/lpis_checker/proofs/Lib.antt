@@ -4,7 +4,7 @@ pub mod DistinctLemmas
 pub mod WeightLemmas
 pub mod SoundMapLemmas
 pub mod PairLineLemmas
-pub mod LowestLemmas
+pub mod FaultLemmas
 pub mod ExactLemmas
 pub mod OffLinesLemmas
 pub mod Shared

@@ -1,19 +1,21 @@
 -- Off the lines of a release the turns of its polygons are those of triangles.
-use Rattle.std.proofs.Common.{◌≡◌, ◌≢◌, ℕ, zero, suc, ℤ, ◌+ℤ◌, List, [], ◌∷◌, ◌++◌, All, Some, ap, sym, refl, ◌∙◌, subst, slice_get, Contains, flat_map}
-use Rattle.lpis_checker.proofs.Common.{none-some, same_Some, Triangle, edges_of, Piece, Parcel, Contents, pieces_named}
+use Rattle.std.proofs.Common.{◌≡◌, ◌≢◌, ℕ, zero, suc, List, [], ◌∷◌, ◌++◌, All, Some, sym, subst, arith, slice_get, Contains, flat_map}
+use Rattle.lpis_checker.proofs.Common.{same_Some, Triangle, edges_of, Piece, Parcel, Contents, pieces_named}
+use Rattle.std.proofs.lemmas.Option.{none-some}
 use Rattle.std.proofs.lemmas.List.Elements.{Contains-append_right, Contains-append_left}
 use Rattle.lpis_points.specs.declared.point.Point.{Point}
 use Rattle.lpis_edge_sums.specs.Making.{corners_of, HaveCorners, HasCorners, TurnsAsParts}
-use Rattle.lpis_checker.proofs.Common.{Cert, Names, Triangles, CounterClockwise, Flats, Corners}
-use Rattle.lpis_checker.proofs.Common.{PieceEdges, ParcelEdges, PieceAt, polygons_of, HoldsEverywhere}
+use Rattle.lpis_checker.proofs.Common.{Cert, HoldBelow, NearPairs, polygons_of}
+use Rattle.lpis_checker.specs.declared.condition.PieceCondition.TheVariants as piece
+use Rattle.lpis_checker.specs.declared.condition.Site.TheVariants as site
 use Rattle.lpis_points.specs.Plane.{RationalPoint}
 use Rattle.lpis_points.specs.Triangles.{IsCounterClockwise, IsFlat, IsOffItsLines}
 use Rattle.lpis_points.proofs.Shared.{corners_differ}
-use Rattle.lpis_rings.specs.Edges.{turns}
 use Rattle.lpis_rings.proofs.Shared.{piece_turns}
 use Rattle.lpis_checker.specs.SoundMap.{IsOffLines, all_corners}
 use Rattle.lpis_checker.specs.TurnsAdd.{TurnsAdd}
 use Rattle.lpis_edge_sums.proofs.Shared.{all_at, all_from, all_left, all_right}
+use Rattle.lpis_checker.proofs.SiteLemmas.{both_hold, more_beside}
 use Rattle.lpis_checker.proofs.SoundMapLemmas.{good_parcel, good_parts, parcel_turns}
 
 -- ---- the corners of a part are corners of the release
@@ -56,16 +58,14 @@ in_release r k x e t h = (corner_of_release r k x t.a e h.0, corner_of_release r
 all_in_release : (r : Contents) (k : ℕ) (x : Piece) → slice_get r.pieces k ≡ Some x → (ts : List Triangle) → HaveCorners (corners_of x.polygon) ts → HaveCorners (all_corners r) ts
 all_in_release r k x e ts h = all_from (HasCorners (all_corners r)) ts (λ m t f. in_release r k x e t (all_at (HasCorners (corners_of x.polygon)) ts m t f h))
 
-pub turns_add : (r : Contents) (c : Cert) → HoldsEverywhere r c Names → HoldsEverywhere r c Triangles
-    → HoldsEverywhere r c CounterClockwise → HoldsEverywhere r c Flats → HoldsEverywhere r c Corners
-    → HoldsEverywhere r c PieceEdges → HoldsEverywhere r c ParcelEdges → TurnsAdd r c
-turns_add r c ids triangles turned flats corners piece_net parcel_net = record {
-  pieces = λ p d off k x t e f.
-      let g = good_parts r c triangles turned flats piece_net k x t e f in
-      let h = all_in_release r k x e (t.triangles ++ t.flats) (corners (PieceAt k) x t e f) in
+pub turns_add : (r : Contents) (c : Cert) → HoldBelow r c NearPairs → TurnsAdd r c
+turns_add r c b = record {
+  pieces = λ p d off k. more_beside _ _ (slice_get r.pieces k) (slice_get c.pieces k) (b.holds (site.Piece piece.Corners k) (omega arith)) (λ x t e f.
+      let g = good_parts r c b k x t e f in
+      let h = all_in_release r k x e (t.triangles ++ t.flats) (both_hold _ (slice_get r.pieces k) (slice_get c.pieces k) x t (b.holds (site.Piece piece.Corners k) (omega arith)) e f) in
       piece_turns (edges_of x.polygon) t.triangles t.flats (record { ccw = g.ccw; flat = g.flat; net = g.net }) p d
       (off_turned r p off t.triangles (all_left (HasCorners (all_corners r)) t.triangles t.flats h) g.ccw)
-      (off_flat r p off t.flats (all_right (HasCorners (all_corners r)) t.triangles t.flats h) g.flat);
+      (off_flat r p off t.flats (all_right (HasCorners (all_corners r)) t.triangles t.flats h) g.flat));
   parcels = all_from (λ (x : Parcel). TurnsAsParts x.polygon (polygons_of (pieces_named r x.id))) r.parcels (λ k x e.
-      parcel_turns r x (good_parcel r c ids flats parcel_net k x e));
+      parcel_turns r x (good_parcel r c b k x e));
 }

@@ -1,15 +1,14 @@
 -- The pair lines: they ascend, each names two triangles, and a walk beside the near pairs finds the first that no line
 -- names.
-use Rattle.std.proofs.Common.{◌≡◌, ℕ, zero, suc, ◌+◌, ◌<◌, ◌≤◌, Bool, false, IsTrue, ◌↔◌, List, length, get_or, Some, ◌⊎◌, inl, inr, ap, sym, refl, ◌∙◌, subst, arith, slice_get}
-use Rattle.lpis_checker.proofs.Common.{cases_eq, cases_lt, same_Some, slice_get_within, slice_get-get_or, Triangle, Contents, Cert, PairLine, Names, NearPairs, LineAt, PairAt}
-use Rattle.lpis_checker.proofs.Common.{triangles_of, ConditionHolds, HoldsEverywhere}
-use Rattle.lpis_points.specs.Triangles.{are_apart}
+use Rattle.std.specs.Prelude.{⊤}
+use Rattle.std.proofs.Common.{◌≡◌, ℕ, zero, suc, ◌+◌, ◌<◌, ◌≤◌, List, length, get_or, Some, ◌⊎◌, inl, inr, ap, sym, refl, ◌∙◌, subst, arith, slice_get}
+use Rattle.lpis_checker.proofs.Common.{cases_eq, cases_lt, same_Some, slice_get_within, slice_get-get_or, Triangle, Contents, Cert, PairLine, triangles_of}
+use Rattle.std.proofs.lemmas.Option.{MatchOption-at_some}
 use Rattle.lpis_parcels.proofs.Shared.{item-within}
 use Rattle.lpis_pairs.specs.NearPairs.{IsNear, IsNearList, IsBelow}
-use Rattle.lpis_checker.specs.declared.condition.Site.{Site}
-use Rattle.lpis_checker.specs.GoodCertificate.{IsNamedPair, IsInOrder, OfTwo}
-use Rattle.lpis_checker.specs.FirstFault.{IsEarlier, IsFirst}
-use Rattle.lpis_checker.proofs.SiteLemmas.{read_at}
+use Rattle.lpis_checker.specs.declared.condition.Site.TheVariants as site
+use Rattle.lpis_checker.specs.GoodCertificate.{ConditionHolds, IsNamedPair, IsInOrder}
+use Rattle.lpis_checker.specs.private.Searches.{AreInOrder}
 
 -- ---- the order of pairs
 below_trans : (a b c d e f : ℕ) → IsBelow a b c d → IsBelow c d e f → IsBelow a b e f
@@ -23,15 +22,15 @@ below_not a b c d (inl h) e f = omega arith
 below_not a b c d (inr h) e f = let k = h.1 in omega arith
 
 -- the lines ascend
-lines_ascend : (r : Contents) (c : Cert) → HoldsEverywhere r c Names → (k m : ℕ) (p q : PairLine) → k < m → slice_get c.pairs k ≡ Some p → slice_get c.pairs m ≡ Some q → IsBelow p.i p.j q.i q.j
-lines_ascend r c h k zero p q l e f = absurd (omega arith)
-lines_ascend r c h k (suc m) p q l e f = by (split l) (λ x w g. lines_ascend r c h k m p x w e g)
+lines_ascend : (c : Cert) → AreInOrder c → (k m : ℕ) (p q : PairLine) → k < m → slice_get c.pairs k ≡ Some p → slice_get c.pairs m ≡ Some q → IsBelow p.i p.j q.i q.j
+lines_ascend c h k zero p q l e f = absurd (omega arith)
+lines_ascend c h k (suc m) p q l e f = by (split l) (λ x w g. lines_ascend c h k m p x w e g)
   where
     split : k < suc m → (k ≡ m) ⊎ (k < m)
     split l = elim (cases_eq k m) [ inl e ↦ inl e | inr n ↦ inr (omega arith) ]
 
     o : IsInOrder c (suc m) q
-    o = h (LineAt (suc m)) q f
+    o = MatchOption-at_some ⊤ (IsInOrder c (suc m)) q f (h (suc m))
 
     next : m + 1 ≡ suc m
     next = omega arith
@@ -42,33 +41,8 @@ lines_ascend r c h k (suc m) p q l e f = by (split l) (λ x w g. lines_ascend r 
     by : (k ≡ m) ⊎ (k < m) → ((x : PairLine) → k < m → slice_get c.pairs m ≡ Some x → IsBelow p.i p.j x.i x.j) → IsBelow p.i p.j q.i q.j
     by (inl s) rec = o.after m p next (ap (λ (n : ℕ). slice_get c.pairs n) (sym s) ∙ e)
     by (inr s) rec =
-        let x = get_or c.pairs m p in
-        let g = slice_get-get_or c.pairs m p within in
-        below_trans p.i p.j x.i x.j q.i q.j (rec x s g) (o.after m x next g)
-
--- ---- the triangles that a line names
-pub record LineRead (c : Cert) (ts : List Triangle) (k : ℕ) (l : PairLine) : Type 0 where
-  pub at : slice_get c.pairs k ≡ Some l
-  pub rising : l.i < l.j
-  pub within : l.j < length ts
-
-pub line_read : (r : Contents) (c : Cert) (ts : List Triangle) → HoldsEverywhere r c Names → ts ≡ triangles_of c.pieces
-    → {slice : List PairLine} (k : ℕ) (l : PairLine) → slice ≡ c.pairs → k < length c.pairs → l ≡ get_or slice k l → LineRead c ts k l
-line_read r c ts h e {slice} k l same inside is =
-    let f = read_at slice c.pairs k l same inside is in
-    let o : IsInOrder c k l = h (LineAt k) l f in
-    record { at = f; rising = o.rising; within = subst (λ (us : List Triangle). l.j < length us) (sym e) o.within }
-
--- two triangles that are there are near where they are not apart
-pub near_two : (ts us : List Triangle) (i j : ℕ) (b : Bool) → ts ≡ us → i < j → j < length ts → (IsTrue b ↔ OfTwo ts i j (λ t u. are_apart t u ≡ false)) → IsTrue b ↔ IsNear us i j
-near_two ts us i j b same rising within h = subst (λ (vs : List Triangle). IsTrue b ↔ IsNear vs i j) same (
-  λ y. to (item-within ts i (omega (arith, rising, within))) (item-within ts j within) y,
-  λ n. h.1 (λ t u e f. subst (λ (z : Triangle). are_apart t z ≡ false) (same_Some n.u u (sym n.at_j ∙ f))
-      (subst (λ (z : Triangle). are_apart z n.u ≡ false) (same_Some n.t t (sym n.at_i ∙ e)) n.near)),
-)
-  where
-    to : (t : Triangle) × (slice_get ts i ≡ Some t) → (u : Triangle) × (slice_get ts j ≡ Some u) → IsTrue b → IsNear ts i j
-    to x y z = record { rising = rising; t = x.0; u = y.0; at_i = x.1; at_j = y.1; near = h.0 z x.0 y.0 x.1 y.1 }
+        let x = item-within c.pairs m within in
+        below_trans p.i p.j x.0.i x.0.j q.i q.j (rec x.0 s x.1) (o.after m x.0 next x.1)
 
 -- ---- the walk
 -- how far it has come: k near pairs are named, and the lines below `at` name pairs before the others
@@ -135,7 +109,7 @@ walk_more c ts near law from at k p w e s named = record {
 -- past the last near pair each is named
 pub walk_all : (r : Contents) (c : Cert) (ts : List Triangle) (near : List (ℕ × ℕ)) → ts ≡ triangles_of c.pieces
     → IsNearList ts near → (at k : ℕ) → length near ≤ k → WalkAt c near at k → (i j : ℕ)
-    → ConditionHolds r c NearPairs (PairAt i j)
+    → ConditionHolds r c (site.Pair i j)
 walk_all r c ts near numbered law at k l w i j n =
     let x = law.all i j (subst (λ (us : List Triangle). IsNear us i j) (sym numbered) n) in
     let within = slice_get_within near x.0 (i, j) x.1 in
@@ -145,11 +119,10 @@ walk_all r c ts near numbered law at k l w i j n =
     below m g = omega arith
 
 -- a near pair that the line at the next index doesn't name is the first that none names
-pub walk_fault : (r : Contents) (c : Cert) (ts : List Triangle) (near : List (ℕ × ℕ)) → HoldsEverywhere r c Names
-    → ts ≡ triangles_of c.pieces → IsNearList ts near → (from at k : ℕ) (p : ℕ × ℕ) → WalkAt c near from k
-    → slice_get near k ≡ Some p → Skips c from at p.0 p.1 → (NamesAt c.pairs at p.0 p.1 → ⊥)
-    → IsFirst r c NearPairs (PairAt p.0 p.1)
-walk_fault r c ts near names numbered law from at k p w e s not = record { fails = fails; earlier = earlier }
+pub walk_fault : (r : Contents) (c : Cert) (ts : List Triangle) (near : List (ℕ × ℕ)) → AreInOrder c → ts ≡ triangles_of c.pieces → IsNearList ts near
+    → (from at k : ℕ) (p : ℕ × ℕ) → WalkAt c near from k → slice_get near k ≡ Some p → Skips c from at p.0 p.1 → (NamesAt c.pairs at p.0 p.1 → ⊥)
+    → (ConditionHolds r c (site.Pair p.0 p.1) → ⊥) × ((i j : ℕ) → IsBelow i j p.0 p.1 → ConditionHolds r c (site.Pair i j))
+walk_fault r c ts near ordered numbered law from at k p w e s not = (fails, pair_earlier)
   where
     not_named : IsNamedPair c.pairs p.0 p.1 → ⊥
     not_named x = by (cases_lt x.0 at) (cases_eq x.0 at)
@@ -163,12 +136,12 @@ walk_fault r c ts near names numbered law from at k p w e s not = record { fails
             let inside : at < length c.pairs = omega arith in
             let l = get_or c.pairs at x.1 in
             let g = slice_get-get_or c.pairs at x.1 inside in
-            s.stop l g (subst (λ (z : ℕ). IsBelow l.i l.j z p.1) x.3 (subst (λ (z : ℕ). IsBelow l.i l.j x.1.i z) x.4 (lines_ascend r c names at x.0 l x.1 strict g x.2)))
+            s.stop l g (subst (λ (z : ℕ). IsBelow l.i l.j z p.1) x.3 (subst (λ (z : ℕ). IsBelow l.i l.j x.1.i z) x.4 (lines_ascend c ordered at x.0 l x.1 strict g x.2)))
 
-    fails : ConditionHolds r c NearPairs (PairAt p.0 p.1) → ⊥
+    fails : ConditionHolds r c (site.Pair p.0 p.1) → ⊥
     fails h = not_named (h (subst (λ (us : List Triangle). IsNear us p.0 p.1) numbered (law.near k p e)))
 
-    pair_earlier : (i j : ℕ) → IsBelow i j p.0 p.1 → ConditionHolds r c NearPairs (PairAt i j)
+    pair_earlier : (i j : ℕ) → IsBelow i j p.0 p.1 → ConditionHolds r c (site.Pair i j)
     pair_earlier i j b n = by (cases_lt x.0 k) (cases_eq x.0 k)
       where
         x : (m : ℕ) × (slice_get near m ≡ Some (i, j))
@@ -183,7 +156,3 @@ walk_fault r c ts near names numbered law from at k p w e s not = record { fails
         by (inr h) (inr q) =
             let strict : k < x.0 = omega arith in
             absurd (below_not i j i j (below_trans i j p.0 p.1 i j b (law.ascending k x.0 p (i, j) strict e x.1)) refl refl)
-
-    earlier : (b : Site) → IsEarlier b (PairAt p.0 p.1) → ConditionHolds r c NearPairs b
-    earlier (PairAt i j) h = pair_earlier i j h
-    earlier _ _ = tt

@@ -1,14 +1,18 @@
 -- A good certificate shows a sound map.
+use Rattle.std.specs.Prelude.{⊤}
 use Rattle.std.proofs.Common.{◌≡◌, ℕ, suc, ◌-◌, ◌<◌, nat_lt, ℤ, pos, ◌+ℤ◌, ◌*ℤ◌, ◌≤ℤ◌, ◌<ℤ◌, Bool, true, false, cond, List, [], ◌∷◌, ◌++◌, length, get_or, Option, Some, None, inl, inr, ◌↔◌, All, ap}
-use Rattle.std.proofs.Common.{ap₂, sym, refl, ◌∙◌, subst, arith, MatchOption, slice_get, option_map}
-use Rattle.lpis_checker.proofs.Common.{none-some, slice_get-get_or, same_Some, Triangle, edges_of, Piece, Parcel, Contents, pieces_named, Cert, PiecePart}
+use Rattle.std.proofs.Common.{sym, refl, ◌∙◌, subst, arith, MatchOption, slice_get}
+use Rattle.lpis_checker.proofs.Common.{slice_get-get_or, same_Some, Triangle, edges_of, Piece, Parcel, Contents, pieces_named, Cert, PairLine, PiecePart}
 use Rattle.lpis_points.specs.declared.point.Point.{Point}
 use Rattle.lpis_points.specs.Plane.{same_point, RationalPoint}
 use Rattle.lpis_rings.specs.Map.{edges_of_triangles, KeepApart, AllKeepApart, IsCut, CutPiece, all_triangles, all_turns, IsOneOrNone}
-use Rattle.lpis_checker.specs.declared.condition.Site.TheVariants.{ParcelAt}
-use Rattle.lpis_checker.proofs.Common.{ParcelPart, IsInPiece, IsSoundMap, Names, Triangles, CounterClockwise, Flats, PieceEdges, ParcelEdges, NearPairs, Separating, PieceAt, LineAt, PairAt}
-use Rattle.lpis_checker.proofs.Common.{triangles_of, polygons_of, LineSeparates, HoldsEverywhere}
+use Rattle.lpis_checker.specs.declared.condition.LineCondition.TheVariants.{Separating}
+use Rattle.lpis_checker.specs.declared.condition.ParcelCondition.TheVariants as parcel
+use Rattle.lpis_checker.specs.declared.condition.PieceCondition.TheVariants as piece
+use Rattle.lpis_checker.specs.declared.condition.Site.TheVariants as site
+use Rattle.lpis_checker.proofs.Common.{IsInPiece, IsSoundMap, HoldBelow, NearPairs, triangles_of, polygons_of}
 use Rattle.std.specs.List.{IsDistinct}
+use Rattle.std.proofs.lemmas.Option.{MatchOption-at_some}
 use Rattle.std.proofs.lemmas.List.Elements.{All-cons, All-filter, All-head, All-nil, All-tail}
 use Rattle.std.proofs.lemmas.Slice.Eq.{bytes_eq-Decides}
 use Rattle.lpis_points.specs.Chain.{SameNet}
@@ -24,15 +28,15 @@ use Rattle.lpis_parcels.specs.Weighted.{areas2, weighted2}
 use Rattle.lpis_edge_sums.specs.Counting.{AtMostOne, ExactlyOne}
 use Rattle.lpis_edge_sums.specs.Making.{EdgesCancel, TurnsAsParts, turns_of_all}
 use Rattle.lpis_checker.specs.SoundMap.{IsInParcel, TurnsTell, AreasAdd}
-use Rattle.lpis_checker.specs.GoodCertificate.{EdgeSeparates, IsGood}
+use Rattle.lpis_checker.specs.GoodCertificate.{EdgeSeparates, IsGood, LineSeparates, OfTriangles, OnLine, SideBySide}
 use Rattle.lpis_checker.proofs.DistinctLemmas.{same_index}
-use Rattle.lpis_checker.proofs.SiteLemmas.{some_item}
+use Rattle.lpis_checker.proofs.SiteLemmas.{both_hold, part_beside}
 use Rattle.lpis_checker.proofs.WeightLemmas.{weights-between}
 use Rattle.lpis_edge_sums.proofs.Shared.{Found, found_any, any_found, all_at, all_from, one_of_some, at_most_one, one_found, total_one, filter_kept, turns_as_parts, area_as_parts}
 
 -- ---- pieces beside their parts
 abbrev SameIds : List Piece → List PiecePart → Type 0
-SameIds xs ts = (k : ℕ) → option_map (λ (t : PiecePart). t.id) (slice_get ts k) ≡ option_map (λ (x : Piece). x.id) (slice_get xs k)
+SameIds xs ts = (k : ℕ) → SideBySide (λ (x : Piece) (t : PiecePart). t.id ≡ x.id) (slice_get xs k) (slice_get ts k)
 
 -- what the conditions on parts say of a piece
 pub record GoodPart (x : Piece) (t : PiecePart) : Type 0 where
@@ -51,21 +55,18 @@ abbrev joined : List Piece → List PiecePart → List CutPiece
 joined (x ∷ xs) (t ∷ ts) = cut_piece x t ∷ joined xs ts
 joined _ _ = []
 
-some_none : {A : Type 0} (x : A) → Some x ≡ None → ⊥
-some_none x e = cc
-
 abbrev turns_at : RationalPoint → Piece → ℤ
 turns_at s x = turns x.polygon s
 
 joined_turns : (xs : List Piece) (ts : List PiecePart) (s : RationalPoint) → SameIds xs ts → all_turns (joined xs ts) s ≡ int_sum_by (turns_at s) xs
 joined_turns [] ts s h = refl
-joined_turns (x ∷ xs) [] s h = absurd (none-some x.id (h 0))
+joined_turns (x ∷ xs) [] s h = absurd (h 0)
 joined_turns (x ∷ xs) (t ∷ ts) s h = ap (λ (z : ℤ). turns x.polygon s +ℤ z) (joined_turns xs ts s (λ k. h (suc k)))
 
 joined_triangles : (xs : List Piece) (ts : List PiecePart) → SameIds xs ts → all_triangles (joined xs ts) ≡ triangles_of ts
 joined_triangles [] [] h = refl
-joined_triangles [] (t ∷ ts) h = absurd (some_none t.id (h 0))
-joined_triangles (x ∷ xs) [] h = absurd (none-some x.id (h 0))
+joined_triangles [] (t ∷ ts) h = absurd (h 0)
+joined_triangles (x ∷ xs) [] h = absurd (h 0)
 joined_triangles (x ∷ xs) (t ∷ ts) h = ap (λ (us : List Triangle). t.triangles ++ us) (joined_triangles xs ts (λ k. h (suc k)))
 
 abbrev PartCut : CutPiece → Type 0
@@ -85,7 +86,7 @@ CutOnce s p = IsOneOrNone (edge_turns p.edges s)
 
 joined_one : (xs : List Piece) (ts : List PiecePart) (s : RationalPoint) → SameIds xs ts → All (CutOnce s) (joined xs ts) → All (OneAt s) xs
 joined_one [] ts s h a = All-nil (OneAt s)
-joined_one (x ∷ xs) [] s h a = absurd (none-some x.id (h 0))
+joined_one (x ∷ xs) [] s h a = absurd (h 0)
 joined_one (x ∷ xs) (t ∷ ts) s h a =
     All-cons (OneAt s) x xs (All-head (CutOnce s) (cut_piece x t) (joined xs ts) a) (joined_one xs ts s (λ k. h (suc k)) (All-tail (CutOnce s) (cut_piece x t) (joined xs ts) a))
 
@@ -122,25 +123,27 @@ good_keeps r c g i j t u e f l = by (are_apart t u) refl
   where
     near : are_apart t u ≡ false → KeepApart t u
     near n =
-        let m = g.holds NearPairs (PairAt i j) (record { rising = l; t = t; u = u; at_i = e; at_j = f; near = n }) in
-        line_keeps m.1.k t u (g.holds Separating (LineAt m.0) m.1 m.2 t u (ap (λ (a : ℕ). slice_get (triangles_of c.pieces) a) m.3 ∙ e) (ap (λ (a : ℕ). slice_get (triangles_of c.pieces) a) m.4 ∙ f))
+        let m = g.holds (site.Pair i j) (record { rising = l; t = t; u = u; at_i = e; at_j = f; near = n }) in
+        let ts = triangles_of c.pieces in
+        let said = MatchOption-at_some ⊤ (λ (k : PairLine). OfTriangles ts k (OnLine Separating k)) m.1 m.2 (g.holds (site.Line Separating m.0)) in
+        let first = MatchOption-at_some ⊥ (λ v. MatchOption (slice_get ts m.1.j) ⊥ (LineSeparates m.1.k v)) t (ap (λ (a : ℕ). slice_get ts a) m.3 ∙ e) said in
+        line_keeps m.1.k t u (MatchOption-at_some ⊥ (LineSeparates m.1.k t) u (ap (λ (a : ℕ). slice_get ts a) m.4 ∙ f) first)
 
     by : (b : Bool) → are_apart t u ≡ b → KeepApart t u
     by true n = inl n
     by false n = near n
 
 -- ---- pieces
-pub good_parts : (r : Contents) (c : Cert) → HoldsEverywhere r c Triangles → HoldsEverywhere r c CounterClockwise → HoldsEverywhere r c Flats
-    → HoldsEverywhere r c PieceEdges → GoodParts r.pieces c.pieces
-good_parts r c triangles turned flats net k x t e f = record {
-  some = triangles (PieceAt k) x t e f;
-  ccw = turned (PieceAt k) x t e f;
-  flat = flats (PieceAt k) x t e f;
-  net = net (PieceAt k) x t e f;
+pub good_parts : (r : Contents) (c : Cert) → HoldBelow r c NearPairs → GoodParts r.pieces c.pieces
+good_parts r c b k x t e f = record {
+  some = both_hold _ (slice_get r.pieces k) (slice_get c.pieces k) x t (b.holds (site.Piece piece.Triangles k) (omega arith)) e f;
+  ccw = both_hold _ (slice_get r.pieces k) (slice_get c.pieces k) x t (b.holds (site.Piece piece.CounterClockwise k) (omega arith)) e f;
+  flat = both_hold _ (slice_get r.pieces k) (slice_get c.pieces k) x t (b.holds (site.Piece piece.Flats k) (omega arith)) e f;
+  net = both_hold _ (slice_get r.pieces k) (slice_get c.pieces k) x t (b.holds (site.Piece piece.Edges k) (omega arith)) e f;
 }
 
-all_good_parts : (r : Contents) (c : Cert) → IsGood r c → GoodParts r.pieces c.pieces
-all_good_parts r c g = good_parts r c (g.holds Triangles) (g.holds CounterClockwise) (g.holds Flats) (g.holds PieceEdges)
+good_below : (r : Contents) (c : Cert) → IsGood r c → HoldBelow r c NearPairs
+good_below r c g = record { holds = λ s l. g.holds s }
 
 -- the pieces' turns are 0 or 1, and so is their sum
 record Once (r : Contents) (s : RationalPoint) : Type 0 where
@@ -149,9 +152,9 @@ record Once (r : Contents) (s : RationalPoint) : Type 0 where
 
 once : (r : Contents) (c : Cert) → IsGood r c → (s : RationalPoint) → pos 0 <ℤ s.d → Once r s
 once r c g s d =
-    let ids : SameIds r.pieces c.pieces = λ k. g.holds Names (PieceAt k) in
+    let ids : SameIds r.pieces c.pieces = λ k. g.holds (site.Piece piece.Names k) in
     let k : AllKeepApart (all_triangles (joined r.pieces c.pieces)) = subst AllKeepApart (sym (joined_triangles r.pieces c.pieces ids)) (keep_apart (triangles_of c.pieces) (good_keeps r c g)) in
-    let both = pieces_share_nothing (joined r.pieces c.pieces) (joined_cut r.pieces c.pieces (all_good_parts r c g)) k s d in
+    let both = pieces_share_nothing (joined r.pieces c.pieces) (joined_cut r.pieces c.pieces (good_parts r c (good_below r c g))) k s d in
     record {
       each = joined_one r.pieces c.pieces s ids both.0;
       sum = subst IsOneOrNone (joined_turns r.pieces c.pieces s ids) both.1;
@@ -175,11 +178,10 @@ pub record GoodParcel (r : Contents) (x : Parcel) : Type 0 where
   pub flat : All IsFlat fs
   pub net : EdgesCancel x.polygon (polygons_of (pieces_named r x.id)) fs
 
-pub good_parcel : (r : Contents) (c : Cert) → HoldsEverywhere r c Names → HoldsEverywhere r c Flats
-    → HoldsEverywhere r c ParcelEdges → (k : ℕ) (x : Parcel) → slice_get r.parcels k ≡ Some x → GoodParcel r x
-good_parcel r c ids flats net k x e =
-    let p = some_item (λ (t : ParcelPart). t.id) (slice_get c.parcels k) x.id (ids (ParcelAt k) ∙ ap (λ (o : Option Parcel). option_map (λ (y : Parcel). y.id) o) e) in
-    record { fs = p.0.flats; flat = flats (ParcelAt k) x p.0 e p.1; net = net (ParcelAt k) x p.0 e p.1 }
+pub good_parcel : (r : Contents) (c : Cert) → HoldBelow r c NearPairs → (k : ℕ) (x : Parcel) → slice_get r.parcels k ≡ Some x → GoodParcel r x
+good_parcel r c b k x e =
+    let flats = part_beside _ (slice_get r.parcels k) (slice_get c.parcels k) x (b.holds (site.Parcel parcel.Flats k) (omega arith)) e in
+    record { fs = flats.0.flats; flat = flats.2; net = both_hold _ (slice_get r.parcels k) (slice_get c.parcels k) x flats.0 (b.holds (site.Parcel parcel.Edges k) (omega arith)) e flats.1 }
 
 pub parcel_turns : (r : Contents) (x : Parcel) → GoodParcel r x → TurnsAsParts x.polygon (polygons_of (pieces_named r x.id))
 parcel_turns r x g = turns_as_parts x.polygon (polygons_of (pieces_named r x.id)) g.fs g.flat g.net
@@ -193,7 +195,7 @@ record ParcelFacts (r : Contents) (s : RationalPoint) (x : Parcel) : Type 0 wher
 parcel_at : (r : Contents) (c : Cert) → IsGood r c → (s : RationalPoint) → pos 0 <ℤ s.d → (k : ℕ) (x : Parcel) → slice_get r.parcels k ≡ Some x → ParcelFacts r s x
 parcel_at r c g s d k x e =
     let o = once r c g s d in
-    let p = parcel_turns r x (good_parcel r c (g.holds Names) (g.holds Flats) (g.holds ParcelEdges) k x e) in
+    let p = parcel_turns r x (good_parcel r c (good_below r c g) k x e) in
     let t = p.turns_add s d ∙ piece_turns (pieces_named r x.id) s in
     record {
       one = subst IsOneOrNone (sym t) (one_of_some (turns_at s) (names_parcel x.id) r.pieces o.each o.sum);
@@ -256,10 +258,8 @@ piece_area x t g = subst (λ (z : ℤ). pos 0 <ℤ z) (area2_is x.polygon) (area
 parcel_area : (r : Contents) (x : Parcel) → GoodParcel r x → area2 x.polygon ≡ areas2 (pieces_named r x.id)
 parcel_area r x g = area_as_parts x.polygon (polygons_of (pieces_named r x.id)) g.fs g.flat g.net ∙ piece_areas (pieces_named r x.id)
 
-pub areas_add : (r : Contents) (c : Cert) → HoldsEverywhere r c Names → HoldsEverywhere r c Triangles
-    → HoldsEverywhere r c CounterClockwise → HoldsEverywhere r c Flats → HoldsEverywhere r c PieceEdges
-    → HoldsEverywhere r c ParcelEdges → AreasAdd r
-areas_add r c ids triangles turned flats piece_net parcel_net = record {
+pub areas_add : (r : Contents) (c : Cert) → HoldBelow r c NearPairs → AreasAdd r
+areas_add r c b = record {
   pieces = each;
   parcels = all_from (λ (x : Parcel). area2 x.polygon ≡ areas2 (pieces_named r x.id)) r.parcels parcel;
   weighted = all_from (λ (x : Parcel). (pos 0 ≤ℤ weighted2 r x.id) × (weighted2 r x.id ≤ℤ (pos most_percent *ℤ area2 x.polygon))) r.parcels (λ k x e.
@@ -269,11 +269,11 @@ areas_add r c ids triangles turned flats piece_net parcel_net = record {
   where
     each : All HasArea r.pieces
     each = all_from HasArea r.pieces (λ k x e.
-        let p = some_item (λ (t : PiecePart). t.id) (slice_get c.pieces k) x.id (ids (PieceAt k) ∙ ap (λ (o : Option Piece). option_map (λ (y : Piece). y.id) o) e) in
-        piece_area x p.0 (good_parts r c triangles turned flats piece_net k x p.0 e p.1))
+        let p = part_beside _ (slice_get r.pieces k) (slice_get c.pieces k) x (b.holds (site.Piece piece.Names k) (omega arith)) e in
+        piece_area x p.0 (good_parts r c b k x p.0 e p.1))
 
     parcel : (k : ℕ) (x : Parcel) → slice_get r.parcels k ≡ Some x → area2 x.polygon ≡ areas2 (pieces_named r x.id)
-    parcel k x e = parcel_area r x (good_parcel r c ids flats parcel_net k x e)
+    parcel k x e = parcel_area r x (good_parcel r c b k x e)
 
 -- ---- the theorem
 pub good_means_sound : (r : Contents) (c : Cert) → IsDistinct same_id (parcel_ids r.parcels) → IsGood r c → IsSoundMap r
@@ -292,7 +292,7 @@ good_means_sound r c n g = record {
         r.pieces (λ k x e. let one = all_at (OneAt s) r.pieces k x e o.each in (one, piece_in s x one));
     parcels = λ s d. all_from (λ (x : Parcel). TurnsTell (IsInParcel s x) (turns x.polygon s)) r.parcels (λ k x e. let a = parcel_at r c g s d k x e in (a.one, parcel_in r s x a));
   };
-  areas = areas_add r c (g.holds Names) (g.holds Triangles) (g.holds CounterClockwise) (g.holds Flats) (g.holds PieceEdges) (g.holds ParcelEdges);
+  areas = areas_add r c (good_below r c g);
 }
 
 -- a piece of the parcel at a point that the parcel contains

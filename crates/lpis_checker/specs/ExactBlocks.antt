@@ -1,13 +1,13 @@
 -- When exact blocks show that parts make up their wholes: four conditions, each met or not at a
 -- block.
-use Rattle.std.specs.Prelude.{◌≡◌, ◌<◌, ℕ, Bool, List, All, codes, slice_get, Option, Some, None, ⊤}
+use Rattle.std.specs.Prelude.{◌≡◌, ◌<◌, ℕ, Bool, List, All, codes, slice_get, Option, Some, None}
 use Rattle.std.specs.Option.{option_map}
 use Rattle.lpis_points.specs.Memory.{UnlessMemory}
 use Rattle.lpis_points.specs.Triangles.{IsFlat}
 use Rattle.lpis_edge_sums.specs.Making.{EdgesCancel, FlatsHaveCorners}
 use Rattle.lpis_cert.specs.declared.part.ExactBlock.{ExactBlock}
 use Rattle.lpis_checker.specs.FirstFault.{id_or}
-use Rattle.lpis_checker.specs.GoodCertificate.{OfBoth}
+use Rattle.lpis_checker.specs.GoodCertificate.{SideBySide}
 use Rattle.lpis_checker.specs.declared.exact.ExactPart.{ExactPart}
 use Rattle.lpis_checker.specs.declared.exact.ExactCondition.{ExactCondition}
 use Rattle.lpis_checker.specs.declared.exact.ExactCondition.TheVariants as condition
@@ -28,39 +28,34 @@ exact_code_text condition.Flats = codes "6b"
 exact_code_text condition.Corners = codes "6c"
 exact_code_text condition.Edges = codes "6d"
 
--- what a condition other than that of names says of a block and its part
-abbrev pub OnBlock : ExactCondition → ExactBlock → ExactPart → Type 0
-OnBlock condition.Names b x = ⊤
-OnBlock condition.Flats b x = All IsFlat b.flats
-OnBlock condition.Corners b x = FlatsHaveCorners x.whole x.parts b.flats
-OnBlock condition.Edges b x = EdgesCancel x.whole x.parts b.flats
-
 abbrev pub block_name : ExactBlock → Bool × List ℕ
 block_name b = (b.merge, b.id)
 
 abbrev pub part_name : ExactPart → Bool × List ℕ
 part_name x = (x.merge, x.id)
 
--- what a condition says at an index; past the shorter of the two lists that of names alone can fail
-abbrev pub HoldsAt : List ExactBlock → List ExactPart → ExactCondition → ℕ → Type 0
-HoldsAt bs xs condition.Names k =
-    option_map block_name (slice_get bs k) ≡ option_map part_name (slice_get xs k)
-HoldsAt bs xs q k = OfBoth bs k xs k (OnBlock q)
+-- what a condition says of a wanted part and its block
+abbrev pub OnBlock : ExactCondition → ExactPart → ExactBlock → Type 0
+OnBlock condition.Names x b = block_name b ≡ part_name x
+OnBlock condition.Flats x b = All IsFlat b.flats
+OnBlock condition.Corners x b = FlatsHaveCorners x.whole x.parts b.flats
+OnBlock condition.Edges x b = EdgesCancel x.whole x.parts b.flats
 
-abbrev pub HoldsAtEach : List ExactBlock → List ExactPart → ExactCondition → Type 0
-HoldsAtEach bs xs q = (k : ℕ) → HoldsAt bs xs q k
+-- at an index of the two lists
+abbrev pub BlockHolds : List ExactBlock → List ExactPart → ExactCondition → ℕ → Type 0
+BlockHolds bs xs q k = SideBySide (OnBlock q) (slice_get xs k) (slice_get bs k)
 
 -- the blocks show that each whole is made up
 pub record ShowExact (bs : List ExactBlock) (xs : List ExactPart) : Type 0 where
-  pub holds : (q : ExactCondition) → HoldsAtEach bs xs q
+  pub holds : (q : ExactCondition) (k : ℕ) → BlockHolds bs xs q k
 
 -- ---- the fault
 -- the condition of the lowest code that fails, and the first index at which it does
 pub record IsExactFault (bs : List ExactBlock) (xs : List ExactPart) (q : ExactCondition) (k : ℕ) :
     Type 0 where
-  pub lower : (s : ExactCondition) → order_of s < order_of q → HoldsAtEach bs xs s
-  pub fails : HoldsAt bs xs q k → ⊥
-  pub earlier : (m : ℕ) → m < k → HoldsAt bs xs q m
+  pub lower : (s : ExactCondition) (m : ℕ) → order_of s < order_of q → BlockHolds bs xs s m
+  pub fails : BlockHolds bs xs q k → ⊥
+  pub earlier : (m : ℕ) → m < k → BlockHolds bs xs q m
 
 -- the identifier of the block, or the wanted one where the blocks have ended
 abbrev pub exact_id : List ExactBlock → List ExactPart → ℕ → List ℕ

@@ -1,10 +1,10 @@
--- When a certificate is good for a release: ten conditions, each met or not at a site.
+-- When a certificate is good for a release: conditions, each met or not at a site.
 use Rattle.std.specs.Prelude.{◌≡◌, ℕ, ◌+◌, ◌-◌, ◌<◌, nat_lt, cond, List, ◌++◌, length, slice_get}
-use Rattle.std.specs.Prelude.{Some, flat_map, map, All, MatchOption, ⊤}
-use Rattle.std.specs.Option.{option_map}
+use Rattle.std.specs.Prelude.{Option, Some, None, flat_map, map, All, MatchOption, ⊤, false}
 use Rattle.lpis_points.specs.declared.triangle.Triangle.{Triangle}
 use Rattle.lpis_points.specs.Plane.{same_point}
-use Rattle.lpis_points.specs.Triangles.{triangle_edges, IsCounterClockwise, IsFlat, Separates}
+use Rattle.lpis_points.specs.Triangles.{triangle_edges, are_apart, IsCounterClockwise, IsFlat}
+use Rattle.lpis_points.specs.Triangles.{Separates}
 use Rattle.lpis_points.specs.Chain.{SameNet}
 use Rattle.lpis_rings.specs.declared.polygon.Member.{Member}
 use Rattle.lpis_rings.specs.Edges.{edges_of}
@@ -18,15 +18,14 @@ use Rattle.lpis_cert.specs.declared.part.PiecePart.{PiecePart}
 use Rattle.lpis_cert.specs.declared.part.ParcelPart.{ParcelPart}
 use Rattle.lpis_cert.specs.declared.part.PairLine.{PairLine}
 use Rattle.lpis_pairs.specs.NearPairs.{IsBelow, IsNear}
-use Rattle.lpis_checker.specs.declared.condition.Condition.{Condition}
-use Rattle.lpis_checker.specs.declared.condition.Condition.TheVariants.{Names, Triangles}
-use Rattle.lpis_checker.specs.declared.condition.Condition.TheVariants.{CounterClockwise, Flats}
-use Rattle.lpis_checker.specs.declared.condition.Condition.TheVariants.{Corners, PieceEdges}
-use Rattle.lpis_checker.specs.declared.condition.Condition.TheVariants.{ParcelEdges, NearPairs}
-use Rattle.lpis_checker.specs.declared.condition.Condition.TheVariants.{NotApart, Separating}
+use Rattle.lpis_checker.specs.declared.condition.PieceCondition.{PieceCondition}
+use Rattle.lpis_checker.specs.declared.condition.PieceCondition.TheVariants as piece
+use Rattle.lpis_checker.specs.declared.condition.ParcelCondition.{ParcelCondition}
+use Rattle.lpis_checker.specs.declared.condition.ParcelCondition.TheVariants as parcel
+use Rattle.lpis_checker.specs.declared.condition.LineCondition.{LineCondition}
+use Rattle.lpis_checker.specs.declared.condition.LineCondition.TheVariants as line
 use Rattle.lpis_checker.specs.declared.condition.Site.{Site}
-use Rattle.lpis_checker.specs.declared.condition.Site.TheVariants.{PieceAt, ParcelAt, LineAt}
-use Rattle.lpis_checker.specs.declared.condition.Site.TheVariants.{PairAt}
+use Rattle.lpis_checker.specs.declared.condition.Site.TheVariants as site
 
 -- ---- what a certificate speaks of
 -- the triangles of all pieces, in the order of their numbers
@@ -40,7 +39,7 @@ polygons_of pieces = map (λ (x : Piece). x.polygon) pieces
 -- edge k of a triangle has it on the left and another triangle on the right
 abbrev pub EdgeSeparates : ℕ → Triangle → Triangle → Type 0
 EdgeSeparates k left right = MatchOption (slice_get (triangle_edges left) k) ⊥
-    (λ line. Separates line left right)
+    (λ edge. Separates edge left right)
 
 -- the edge that a pair line names: 0 to 2 of its first triangle, 3 to 5 of its second
 abbrev pub LineSeparates : ℕ → Triangle → Triangle → Type 0
@@ -59,73 +58,58 @@ pub record IsInOrder (c : Cert) (k : ℕ) (l : PairLine) : Type 0 where
       → IsBelow before.i before.j l.i l.j
 
 -- ---- what is said at a site
--- of the items at i and j of two lists, where both are there
-abbrev pub OfBoth : {A B : Type 0} → List A → ℕ → List B → ℕ → (A → B → Type 0) → Type 0
-OfBoth {A} {B} xs i ys j P = (x : A) (y : B) → slice_get xs i ≡ Some x → slice_get ys j ≡ Some y
-    → P x y
+-- of what stands at an index of two lists: this holds of both, or both lists have ended
+abbrev pub SideBySide : {A B : Type 0} → (A → B → Type 0) → Option A → Option B → Type 0
+SideBySide P (Some x) (Some y) = P x y
+SideBySide P None None = ⊤
+SideBySide P _ _ = ⊥
 
--- of the piece at k and its part
-abbrev pub OfPiece : Contents → Cert → ℕ → (Piece → PiecePart → Type 0) → Type 0
-OfPiece r c k P = OfBoth r.pieces k c.pieces k P
-
--- of the parcel at k and its part
-abbrev pub OfParcel : Contents → Cert → ℕ → (Parcel → ParcelPart → Type 0) → Type 0
-OfParcel r c k P = OfBoth r.parcels k c.parcels k P
-
--- of the pair line at k
-abbrev pub OfLine : Cert → ℕ → (PairLine → Type 0) → Type 0
-OfLine c k P = (l : PairLine) → slice_get c.pairs k ≡ Some l → P l
-
--- of the triangles i and j
-abbrev pub OfTwo : List Triangle → ℕ → ℕ → (Triangle → Triangle → Type 0) → Type 0
-OfTwo ts i j P = OfBoth ts i ts j P
-
--- what a condition other than that of names says of a piece and its part
-abbrev pub OnPiece : Condition → Piece → PiecePart → Type 0
-OnPiece Triangles x t = 0 < length t.triangles
-OnPiece CounterClockwise x t = All IsCounterClockwise t.triangles
-OnPiece Flats x t = All IsFlat t.flats
-OnPiece Corners x t = HaveCorners (corners_of x.polygon) (t.triangles ++ t.flats)
-OnPiece PieceEdges x t =
+-- of a piece and its part
+abbrev pub OnPiece : PieceCondition → Piece → PiecePart → Type 0
+OnPiece piece.Names x t = t.id ≡ x.id
+OnPiece piece.Triangles x t = 0 < length t.triangles
+OnPiece piece.CounterClockwise x t = All IsCounterClockwise t.triangles
+OnPiece piece.Flats x t = All IsFlat t.flats
+OnPiece piece.Corners x t = HaveCorners (corners_of x.polygon) (t.triangles ++ t.flats)
+OnPiece piece.Edges x t =
     SameNet same_point (edges_of x.polygon)
     (edges_of_triangles t.triangles ++ edges_of_triangles t.flats)
-OnPiece _ x t = ⊤
 
 -- of a parcel and its part
-abbrev pub OnParcel : Contents → Condition → Parcel → ParcelPart → Type 0
-OnParcel r Flats x t = All IsFlat t.flats
-OnParcel r Corners x t =
+abbrev pub OnParcel : Contents → ParcelCondition → Parcel → ParcelPart → Type 0
+OnParcel r parcel.Names x t = t.id ≡ x.id
+OnParcel r parcel.Flats x t = All IsFlat t.flats
+OnParcel r parcel.Corners x t =
     FlatsHaveCorners x.polygon (polygons_of (pieces_named r x.id)) t.flats
-OnParcel r ParcelEdges x t = EdgesCancel x.polygon (polygons_of (pieces_named r x.id)) t.flats
-OnParcel r _ x t = ⊤
+OnParcel r parcel.Edges x t = EdgesCancel x.polygon (polygons_of (pieces_named r x.id)) t.flats
+
+-- of the two triangles that a pair line names
+abbrev pub OnLine : LineCondition → PairLine → Triangle → Triangle → Type 0
+OnLine line.NotApart l t u = are_apart t u ≡ false
+OnLine line.Separating l t u = LineSeparates l.k t u
+
+-- they are there, and this holds of them
+abbrev pub OfTriangles : List Triangle → PairLine → (Triangle → Triangle → Type 0) → Type 0
+OfTriangles ts l P =
+    MatchOption (slice_get ts l.i) ⊥ (λ t. MatchOption (slice_get ts l.j) ⊥ (P t))
+
+-- of the pair line at an index, where there is one
+abbrev pub OfLine : Cert → ℕ → (PairLine → Type 0) → Type 0
+OfLine c k P = MatchOption (slice_get c.pairs k) ⊤ P
 
 -- what each condition says, site by site
-abbrev pub ConditionHolds : Contents → Cert → Condition → Site → Type 0
-ConditionHolds r c Names (PieceAt k) = option_map (λ (t : PiecePart). t.id) (slice_get c.pieces k)
-    ≡ option_map (λ (x : Piece). x.id) (slice_get r.pieces k)
-ConditionHolds r c Names (ParcelAt k) =
-    option_map (λ (t : ParcelPart). t.id) (slice_get c.parcels k)
-    ≡ option_map (λ (x : Parcel). x.id) (slice_get r.parcels k)
-ConditionHolds r c Names (LineAt k) = OfLine c k (IsInOrder c k)
-ConditionHolds r c Triangles (PieceAt k) = OfPiece r c k (OnPiece Triangles)
-ConditionHolds r c CounterClockwise (PieceAt k) = OfPiece r c k (OnPiece CounterClockwise)
-ConditionHolds r c Flats (PieceAt k) = OfPiece r c k (OnPiece Flats)
-ConditionHolds r c Flats (ParcelAt k) = OfParcel r c k (OnParcel r Flats)
-ConditionHolds r c Corners (PieceAt k) = OfPiece r c k (OnPiece Corners)
-ConditionHolds r c Corners (ParcelAt k) = OfParcel r c k (OnParcel r Corners)
-ConditionHolds r c PieceEdges (PieceAt k) = OfPiece r c k (OnPiece PieceEdges)
-ConditionHolds r c ParcelEdges (ParcelAt k) = OfParcel r c k (OnParcel r ParcelEdges)
-ConditionHolds r c NearPairs (PairAt i j) =
+abbrev pub ConditionHolds : Contents → Cert → Site → Type 0
+ConditionHolds r c (site.Piece q k) =
+    SideBySide (OnPiece q) (slice_get r.pieces k) (slice_get c.pieces k)
+ConditionHolds r c (site.Parcel q k) =
+    SideBySide (OnParcel r q) (slice_get r.parcels k) (slice_get c.parcels k)
+ConditionHolds r c (site.Order k) = OfLine c k (IsInOrder c k)
+ConditionHolds r c (site.Pair i j) =
     IsNear (triangles_of c.pieces) i j → IsNamedPair c.pairs i j
-ConditionHolds r c NotApart (LineAt k) = OfLine c k (λ l. IsNear (triangles_of c.pieces) l.i l.j)
-ConditionHolds r c Separating (LineAt k) =
-    OfLine c k (λ l. OfTwo (triangles_of c.pieces) l.i l.j (LineSeparates l.k))
-ConditionHolds r c _ _ = ⊤
+ConditionHolds r c (site.Line q k) =
+    OfLine c k (λ l. OfTriangles (triangles_of c.pieces) l (OnLine q l))
 
 -- ---- good certificates
-abbrev pub HoldsEverywhere : Contents → Cert → Condition → Type 0
-HoldsEverywhere r c q = (at : Site) → ConditionHolds r c q at
-
--- all ten conditions hold
+-- all conditions hold at all sites
 pub record IsGood (r : Contents) (c : Cert) : Type 0 where
-  pub holds : (q : Condition) → HoldsEverywhere r c q
+  pub holds : (at : Site) → ConditionHolds r c at

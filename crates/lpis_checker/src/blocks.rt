@@ -1,20 +1,21 @@
 //! The first exact block at which a condition fails.
 
 ghost use Rattle.std.specs.Prelude.{◌≡◌, ◌↔◌, ◌+◌, IsTrue, IfOk};
-ghost use Rattle.lpis_edge_sums.specs.Making.{polygons};
-ghost use Rattle.lpis_checker.specs.ExactBlocks.{HoldsAt, OnBlock, block_name, order_of, part_name};
+ghost use Rattle.lpis_edge_sums.specs.Making.{EdgesCancel, FlatsHaveCorners, polygons};
+ghost use Rattle.lpis_checker.specs.ExactBlocks.{OnBlock, block_name, order_of, part_name};
 ghost use Rattle.lpis_checker.specs.private.ExactSearches.{ExactBelow, FindsExact};
-ghost use Rattle.lpis_checker.specs.declared.exact.ExactCondition.TheVariants.{Names};
+ghost use Rattle.lpis_checker.specs.declared.exact.ExactCondition.TheVariants.{Edges};
 
 use crate::exact::{ExactCondition, ExactPart, FailingBlock};
 use crate::places::{Places, first_place};
 use lpis_cert::ExactBlock;
 use lpis_edge_sums::{EdgeSum, are_flat, flats_have_corners};
+use lpis_points::Triangle;
 use lpis_rings::Polygon;
 use std::alloc::{AllocError, Global};
 
 /// Polygons where they stand.
-fn polygons_of(alloc: Global, parts: &[Polygon]) -> Result<Vec<&Polygon>, AllocError>
+fn polygons_at(alloc: Global, parts: &[Polygon]) -> Result<Vec<&Polygon>, AllocError>
     ensures { IfOk result (λ v. polygons v.items ≡ parts.now) }
 {
     let mut polygons = Vec::with_capacity(alloc, parts.len())?;
@@ -24,28 +25,6 @@ fn polygons_of(alloc: Global, parts: &[Polygon]) -> Result<Vec<&Polygon>, AllocE
     Ok(polygons)
 }
 
-/// Whether a condition other than that of names holds of a block and its part.
-fn holds_of_block(
-    alloc: Global,
-    sum: &mut EdgeSum,
-    condition: ExactCondition,
-    block: &ExactBlock,
-    part: &ExactPart,
-) -> Result<bool, AllocError>
-    ensures { IfOk result (λ b. IsTrue b ↔ OnBlock condition block.now part.now) }
-{
-    let flats = block.flats.as_slice();
-    if condition == ExactCondition::Flats {
-        return Ok(are_flat(flats));
-    }
-    let parts = polygons_of(alloc, part.parts.as_slice())?;
-    match condition {
-        ExactCondition::Corners => flats_have_corners(alloc, &part.whole, parts.as_slice(), flats),
-        ExactCondition::Edges => sum.cancels(&part.whole, parts.as_slice(), flats),
-        _ => Ok(true),
-    }
-}
-
 /// Whether a block has the kind and the identifier of a part.
 fn is_named(block: &ExactBlock, part: &ExactPart) -> bool
     ensures { IsTrue result ↔ (block_name block.now ≡ part_name part.now) }
@@ -53,39 +32,52 @@ fn is_named(block: &ExactBlock, part: &ExactPart) -> bool
     block.merge == part.merge && block.id == part.id
 }
 
-/// Whether the block at an index has the kind and the identifier of its part, or neither is there.
-fn is_named_at(blocks: &[ExactBlock], parts: &[ExactPart], index: usize) -> bool
-    ensures { IsTrue result ↔ HoldsAt blocks.now parts.now Names index }
+/// Whether each corner of flats is a point of the rings of a part's whole or of its parts.
+fn has_corners_of_whole(
+    alloc: Global,
+    part: &ExactPart,
+    flats: &[Triangle],
+) -> Result<bool, AllocError>
+    ensures { IfOk result (λ b. IsTrue b
+        ↔ FlatsHaveCorners part.now.whole part.now.parts flats.now) }
 {
-    match (blocks.get(index), parts.get(index)) {
-        (Some(block), Some(part)) => is_named(block, part),
-        (None, None) => true,
-        _ => false,
-    }
+    let parts = polygons_at(alloc, part.parts.as_slice())?;
+    flats_have_corners(alloc, &part.whole, parts.as_slice(), flats)
 }
 
-/// A condition on exact blocks and their parts.
-#[derive(Drop)]
-struct BlockPlaces<'a> {
-    blocks: &'a [ExactBlock],
-    parts: &'a [ExactPart],
-    condition: ExactCondition,
+/// Whether the edges of a part's whole have the net counts of those of its parts and flats.
+fn is_made_up(
+    alloc: Global,
+    sum: &mut EdgeSum,
+    part: &ExactPart,
+    flats: &[Triangle],
+) -> Result<bool, AllocError>
+    ensures { IfOk result (λ b. IsTrue b ↔ EdgesCancel part.now.whole part.now.parts flats.now) }
+{
+    let parts = polygons_at(alloc, part.parts.as_slice())?;
+    sum.cancels(&part.whole, parts.as_slice(), flats)
 }
 
-impl<'a> Places for BlockPlaces<'a> {
-    ghost holds = { λ s k. HoldsAt s.blocks.now s.parts.now s.condition k };
+impl Places for ExactCondition {
+    type Item = ExactPart;
 
-    fn end(&self) -> usize {
-        self.blocks.len().max(self.parts.len())
-    }
+    type Part = ExactBlock;
 
-    fn holds_at(&self, alloc: Global, sum: &mut EdgeSum, index: usize) -> Result<bool, AllocError> {
-        if self.condition == ExactCondition::Names {
-            return Ok(is_named_at(self.blocks, self.parts, index));
-        }
-        match (self.blocks.get(index), self.parts.get(index)) {
-            (Some(block), Some(part)) => holds_of_block(alloc, sum, self.condition, block, part),
-            _ => Ok(true),
+    ghost holds = { λ q x b. OnBlock q x b };
+
+    fn holds_of(
+        &self,
+        alloc: Global,
+        sum: &mut EdgeSum,
+        part: &ExactPart,
+        block: &ExactBlock,
+    ) -> Result<bool, AllocError> {
+        let flats = block.flats.as_slice();
+        match self {
+            ExactCondition::Names => Ok(is_named(block, part)),
+            ExactCondition::Flats => Ok(are_flat(flats)),
+            ExactCondition::Corners => has_corners_of_whole(alloc, part, flats),
+            ExactCondition::Edges => is_made_up(alloc, sum, part, flats),
         }
     }
 }
@@ -100,12 +92,7 @@ fn failing_block(
     requires { ExactBelow blocks.now parts.now (order_of condition) }
     ensures { IfOk result (λ o. FindsExact blocks.now parts.now (order_of condition + 1) o) }
 {
-    let places = BlockPlaces {
-        blocks,
-        parts,
-        condition,
-    };
-    match first_place(alloc, &places)? {
+    match first_place(alloc, &condition, parts, blocks)? {
         Some(index) => Ok(Some(FailingBlock { condition, index })),
         None => Ok(None),
     }
@@ -117,7 +104,7 @@ pub(crate) fn first_failing_block(
     blocks: &[ExactBlock],
     parts: &[ExactPart],
 ) -> Result<Option<FailingBlock>, AllocError>
-    ensures { IfOk result (λ o. FindsExact blocks.now parts.now 4 o) }
+    ensures { IfOk result (λ o. FindsExact blocks.now parts.now (order_of Edges + 1) o) }
 {
     if let Some(found) = failing_block(alloc, blocks, parts, ExactCondition::Names)? {
         return Ok(Some(found));

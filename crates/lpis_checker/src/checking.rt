@@ -1,37 +1,23 @@
 //! The check, and the yes that it gives.
 
 ghost use Rattle.std.specs.Prelude.{◌≡◌, IfErr, IfOk, OnOk};
-ghost use Rattle.lpis_checker.specs.Codes.{code_of};
 ghost use Rattle.lpis_checker.specs.FirstFault.{HoldBelow, IsOfParts, ReportsFirst};
 ghost use Rattle.lpis_checker.specs.GoodCertificate.{IsGood};
-ghost use Rattle.lpis_checker.specs.private.Searches.{FoundFault, IsToldOf};
 ghost use Rattle.lpis_checker.specs.SoundMap.{AreasAdd, IsSoundMap};
 ghost use Rattle.lpis_checker.specs.TurnsAdd.{TurnsAdd};
 ghost use Rattle.lpis_checker.specs.declared.condition.Condition.TheVariants.{NearPairs};
 
-use crate::condition::Failing;
 use crate::fault::CheckFault;
-use crate::first_fault::{first_fault, location_of, part_fault};
+use crate::first_fault::{first_fault, part_fault};
 use crate::locating::{parcel_at, piece_at};
+use crate::reporting::reported;
 use lpis_cert::Cert;
 use lpis_covers::Id;
 use lpis_pairs::PairSource;
 use lpis_parcels::Release;
 use lpis_points::RatPoint;
-use std::alloc::{AllocError, Global};
+use std::alloc::Global;
 use std::marker::Model;
-
-/// What is reported of a condition that fails.
-fn reported(release: &Release, cert: &Cert, found: &Failing) -> Result<CheckFault, AllocError>
-    requires { FoundFault release.now cert.now found.now }
-    ensures { IfOk result (λ fault. IsToldOf release.now cert.now found.now fault) }
-{
-    let place = location_of(release, cert, found)?;
-    Ok(CheckFault::At {
-        code: found.condition,
-        place,
-    })
-}
 
 /// Checks the parts of a certificate, which are the conditions 60 to 66. A fault is that which
 /// `check` reports.
@@ -40,14 +26,14 @@ fn reported(release: &Release, cert: &Cert, found: &Failing) -> Result<CheckFaul
 /// often as its pieces together. Off the lines of the release each piece turns round a point as
 /// often as triangles of its part have the point inside.
 pub fn check_parts(alloc: Global, release: &Release, cert: &Cert) -> Result<(), CheckFault>
-    ensures holds { OnOk result (HoldBelow release.now cert.now (code_of NearPairs)) }
+    ensures holds { OnOk result (HoldBelow release.now cert.now NearPairs) }
     ensures areas { OnOk result (AreasAdd release.now) }
     ensures turns { OnOk result (TurnsAdd release.now cert.now) }
     ensures fault { IfErr result (ReportsFirst release.now cert.now) }
     ensures parts { IfErr result IsOfParts }
 {
     match part_fault(alloc, release, cert)? {
-        Some(found) => Err(reported(release, cert, &found)?),
+        Some(found) => Err(reported(release, cert, found)?),
         None => Ok(()),
     }
 }
@@ -92,7 +78,7 @@ pub fn check<'a, S: PairSource>(
     // Its parcels' identifiers differ.
     let _ = release.parcels();
     match first_fault(alloc, release, cert, source)? {
-        Some(found) => Err(reported(release, cert, &found)?),
+        Some(found) => Err(reported(release, cert, found)?),
         None => Ok(Yes { release }),
     }
 }

@@ -2,6 +2,7 @@
 
 ghost use Rattle.std.specs.Prelude.{◌≡◌};
 ghost use Rattle.lpis_checker.specs.Codes.{check_code_text};
+ghost use Rattle.lpis_checker.specs.FirstFault.{condition_of};
 
 /// What a good certificate meets, in the order in which it is reported where it does not.
 #[derive(Clone, Copy, Debug, PartialEq, Eq)]
@@ -51,19 +52,64 @@ impl Condition {
     }
 }
 
-/// Where a condition may fail: at the piece, the parcel or the pair line of an index, counted from
-/// 0, or at two triangles.
-#[derive(Clone, Copy, Debug, PartialEq, Eq)]
-pub enum Site {
-    PieceAt(usize),
-    ParcelAt(usize),
-    LineAt(usize),
-    PairAt(u32, u32),
+/// What is asked of a piece and its part.
+#[derive(Clone, Copy, Debug)]
+pub enum PieceCondition {
+    Names,
+    Triangles,
+    CounterClockwise,
+    Flats,
+    Corners,
+    Edges,
 }
 
-/// A condition that fails, and where.
+/// What is asked of a parcel and its part.
 #[derive(Clone, Copy, Debug)]
-pub(crate) struct Failing {
-    pub condition: Condition,
-    pub site: Site,
+pub enum ParcelCondition {
+    Names,
+    Flats,
+    Corners,
+    Edges,
+}
+
+/// What is asked of the triangles that a pair line names.
+#[derive(Clone, Copy, Debug)]
+pub enum LineCondition {
+    NotApart,
+    Separating,
+}
+
+/// Where a condition may fail: one on the piece, the parcel or the pair line of an index, counted
+/// from 0, the order of the pair line of an index, or that two triangles are named.
+#[derive(Clone, Copy, Debug)]
+pub enum Site {
+    Piece(PieceCondition, usize),
+    Parcel(ParcelCondition, usize),
+    Order(usize),
+    Pair(u32, u32),
+    Line(LineCondition, usize),
+}
+
+impl Site {
+    /// The condition that fails there.
+    pub(crate) fn condition(self) -> Condition
+        ensures { result ≡ condition_of self }
+    {
+        match self {
+            Site::Piece(PieceCondition::Names, _) => Condition::Names,
+            Site::Piece(PieceCondition::Triangles, _) => Condition::Triangles,
+            Site::Piece(PieceCondition::CounterClockwise, _) => Condition::CounterClockwise,
+            Site::Piece(PieceCondition::Flats, _) => Condition::Flats,
+            Site::Piece(PieceCondition::Corners, _) => Condition::Corners,
+            Site::Piece(PieceCondition::Edges, _) => Condition::PieceEdges,
+            Site::Parcel(ParcelCondition::Names, _) => Condition::Names,
+            Site::Parcel(ParcelCondition::Flats, _) => Condition::Flats,
+            Site::Parcel(ParcelCondition::Corners, _) => Condition::Corners,
+            Site::Parcel(ParcelCondition::Edges, _) => Condition::ParcelEdges,
+            Site::Order(_) => Condition::Names,
+            Site::Pair(_, _) => Condition::NearPairs,
+            Site::Line(LineCondition::NotApart, _) => Condition::NotApart,
+            Site::Line(LineCondition::Separating, _) => Condition::Separating,
+        }
+    }
 }

@@ -1,10 +1,10 @@
 //! The check of exact blocks: whether parts make up their wholes.
 
-ghost use Rattle.std.specs.Prelude.{◌≡◌, All, IfErr, IfOk, MatchOption, OnOk};
+ghost use Rattle.std.specs.Prelude.{◌≡◌, All, IfErr, IfOk, OnOk};
 ghost use Rattle.lpis_edge_sums.specs.Making.{TurnsAsParts};
-ghost use Rattle.lpis_checker.specs.ExactBlocks.{HoldsAt, ReportsExact, ShowExact, exact_code_text};
-ghost use Rattle.lpis_checker.specs.ExactBlocks.{exact_id};
-ghost use Rattle.lpis_checker.specs.private.ExactSearches.{HasNoBlock, IsToldOfBlock};
+ghost use Rattle.lpis_checker.specs.ExactBlocks.{BlockHolds, ReportsExact, ShowExact};
+ghost use Rattle.lpis_checker.specs.ExactBlocks.{exact_code_text};
+ghost use Rattle.lpis_checker.specs.private.ExactSearches.{IsToldOfBlock};
 ghost use Rattle.lpis_checker.specs.declared.exact.ExactFault.TheVariants.{Memory};
 
 use crate::blocks::first_failing_block;
@@ -76,37 +76,25 @@ impl From<AllocError> for ExactFault {
     }
 }
 
-/// The identifier of a block, or the wanted one where the blocks have ended.
-fn id_at<'a>(blocks: &'a [ExactBlock], parts: &'a [ExactPart], index: usize) -> Option<&'a Id>
-    ensures { MatchOption result (HasNoBlock blocks.now parts.now index)
-        (λ id. id.now ≡ exact_id blocks.now parts.now index) }
-{
-    match blocks.get(index) {
-        Some(block) => Some(&block.id),
-        None => match parts.get(index) {
-            Some(part) => Some(&part.id),
-            None => None,
-        },
-    }
-}
-
-/// What is reported of a condition that fails.
+/// What is reported of a condition that fails: it, and the identifier of the block, or the wanted
+/// one where the blocks have ended.
 fn reported_block(
     blocks: &[ExactBlock],
     parts: &[ExactPart],
     found: FailingBlock,
 ) -> Result<ExactFault, AllocError>
-    requires { HoldsAt blocks.now parts.now found.condition found.index → ⊥ }
-    ensures { IfOk result (λ fault. IsToldOfBlock blocks.now parts.now found fault) }
+    requires { BlockHolds blocks.now parts.now found.condition found.index → ⊥ }
+    ensures { IfOk result (IsToldOfBlock blocks.now parts.now found) }
 {
-    let code = found.condition;
-    match id_at(blocks, parts, found.index) {
-        Some(id) => Ok(ExactFault::At {
-            code,
-            id: id.copy()?,
-        }),
-        None => unreachable!(),
-    }
+    let id = match (blocks.get(found.index), parts.get(found.index)) {
+        (Some(block), _) => block.id.copy()?,
+        (None, Some(part)) => part.id.copy()?,
+        (None, None) => unreachable!(),
+    };
+    Ok(ExactFault::At {
+        code: found.condition,
+        id,
+    })
 }
 
 /// Checks a certificate's exact blocks against what they are to show: Ok exactly where their kinds

@@ -8,17 +8,16 @@ mod exact;
 mod fault;
 mod first_fault;
 pub mod laws;
+mod lines;
 mod locating;
-mod names;
 mod near_pairs;
-mod parts;
+mod parcels;
 mod pieces;
 mod places;
-mod searching;
-mod separators;
+mod reporting;
 
 pub use checking::{Yes, check, check_parts};
-pub use condition::{Condition, Site};
+pub use condition::{Condition, LineCondition, ParcelCondition, PieceCondition, Site};
 pub use exact::{ExactCondition, ExactFault, ExactPart, check_exact};
 pub use fault::{CheckFault, Location};
 

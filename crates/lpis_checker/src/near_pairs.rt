@@ -3,21 +3,13 @@
 ghost use Rattle.std.specs.Prelude.{◌≡◌, ◌↔◌, ◌<◌, ◌≤◌, ℕ, IsTrue, Some, length, slice_get};
 ghost use Rattle.lpis_cert.specs.declared.part.PairLine.{PairLine};
 ghost use Rattle.lpis_pairs.specs.NearPairs.{IsBelow, IsNearList};
-ghost use Rattle.lpis_checker.specs.GoodCertificate.{HoldsEverywhere, triangles_of};
-ghost use Rattle.lpis_checker.specs.private.Searches.{FindsFirst};
-ghost use Rattle.lpis_checker.specs.declared.condition.Condition.TheVariants.{Names, NearPairs};
+ghost use Rattle.lpis_checker.specs.GoodCertificate.{triangles_of};
+ghost use Rattle.lpis_checker.specs.private.Searches.{AreInOrder, FindsPair};
 
-use crate::condition::Site;
+use crate::lines::is_before;
 use lpis_cert::{Cert, PairLine};
 use lpis_parcels::Release;
 use lpis_points::Triangle;
-
-/// Whether a line names a pair that stands before (i, j).
-pub(crate) fn is_before(line: &PairLine, i: u32, j: u32) -> bool
-    ensures { IsTrue result ↔ IsBelow line.now.i line.now.j i j }
-{
-    line.i < i || line.i == i && line.j < j
-}
 
 /// The first line from an index on that names (i, j) or a later pair.
 fn skip_to(lines: &[PairLine], from: usize, i: u32, j: u32) -> usize
@@ -60,18 +52,18 @@ pub(crate) fn unnamed_pair(
     cert: &Cert,
     triangles: &[Triangle],
     near: &[(u32, u32)],
-) -> Option<Site>
-    requires names { HoldsEverywhere release.now cert.now Names }
+) -> Option<(u32, u32)>
+    requires ordered { AreInOrder cert.now }
     requires numbered { triangles.now ≡ triangles_of cert.now.pieces }
     requires near { IsNearList triangles.now near.now }
-    ensures { FindsFirst release.now cert.now NearPairs result }
+    ensures { FindsPair release.now cert.now result }
 {
     let lines = cert.pairs.as_slice();
     let mut at = 0;
     for (i, j) in near {
         at = skip_to(lines, at, *i, *j);
         if !names_at(lines, at, *i, *j) {
-            return Some(Site::PairAt(*i, *j));
+            return Some((*i, *j));
         }
     }
     None

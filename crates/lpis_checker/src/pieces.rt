@@ -1,63 +1,61 @@
-//! The conditions on a parcel and its pieces: whether these make it up, with flats.
+//! The conditions on a piece and its part.
 
-ghost use Rattle.std.specs.Prelude.{◌≡◌, ◌↔◌, IsTrue, IfOk};
-ghost use Rattle.lpis_edge_sums.specs.Making.{EdgesCancel, FlatsHaveCorners, polygons};
-ghost use Rattle.lpis_parcels.specs.Release.{pieces_named};
-ghost use Rattle.lpis_checker.specs.GoodCertificate.{polygons_of as polygons_of_spec};
+ghost use Rattle.std.specs.Prelude.{◌≡◌, ◌↔◌, ◌<◌, All, IsTrue, length};
+ghost use Rattle.lpis_points.specs.Triangles.{IsCounterClockwise};
+ghost use Rattle.lpis_checker.specs.GoodCertificate.{OnPiece};
 
-use lpis_cert::ParcelPart;
-use lpis_covers::Id;
-use lpis_edge_sums::{EdgeSum, flats_have_corners};
-use lpis_parcels::{Parcel, Release, pieces_of};
-use lpis_rings::Polygon;
+use crate::condition::PieceCondition;
+use crate::places::Places;
+use lpis_cert::PiecePart;
+use lpis_covers::{Id, Piece};
+use lpis_edge_sums::{EdgeSum, are_flat, has_corners};
+use lpis_points::{Triangle, is_ccw};
 use std::alloc::{AllocError, Global};
 
-/// The polygons of a parcel's pieces.
-fn polygons_of<'a>(
-    alloc: Global,
-    release: &'a Release,
-    parcel: &Id,
-) -> Result<Vec<&'a Polygon>, AllocError>
-    ensures { IfOk result (λ v. polygons v.items
-        ≡ polygons_of_spec (pieces_named release.now parcel.now)) }
+/// Whether two identifiers are equal.
+pub(crate) fn is_same(part: &Id, own: &Id) -> bool
+    ensures { IsTrue result ↔ (part.now ≡ own.now) }
 {
-    let mut polygons = Vec::new(alloc);
-    for piece in pieces_of(release, parcel) {
-        polygons.push(&piece.polygon)?;
-    }
-    Ok(polygons)
+    part == own
 }
 
-/// Whether each corner of a parcel's flats is a point of its rings or of those of its pieces. Most
-/// parcels have no flats, and take no memory.
-pub(crate) fn has_corners_of_parcel(
-    alloc: Global,
-    release: &Release,
-    parcel: &Parcel,
-    part: &ParcelPart,
-) -> Result<bool, AllocError>
-    ensures { IfOk result (λ b. IsTrue b ↔ FlatsHaveCorners parcel.now.polygon
-        (polygons_of_spec (pieces_named release.now parcel.now.id)) part.now.flats) }
+/// Whether there is a triangle.
+fn has_triangle(triangles: &[Triangle]) -> bool
+    ensures { IsTrue result ↔ (0 < length triangles.now) }
 {
-    let flats = part.flats.as_slice();
-    if flats.is_empty() {
-        return Ok(true);
-    }
-    let pieces = polygons_of(alloc, release, &parcel.id)?;
-    flats_have_corners(alloc, &parcel.polygon, pieces.as_slice(), flats)
+    !triangles.is_empty()
 }
 
-/// Whether a parcel's edges have the net counts of the edges of its pieces and flats.
-pub(crate) fn is_filled(
-    alloc: Global,
-    sum: &mut EdgeSum,
-    release: &Release,
-    parcel: &Parcel,
-    part: &ParcelPart,
-) -> Result<bool, AllocError>
-    ensures { IfOk result (λ b. IsTrue b ↔ EdgesCancel parcel.now.polygon
-        (polygons_of_spec (pieces_named release.now parcel.now.id)) part.now.flats) }
+/// Whether each triangle is counter-clockwise.
+fn are_counter_clockwise(triangles: &[Triangle]) -> bool
+    ensures { IsTrue result ↔ All IsCounterClockwise triangles.now }
 {
-    let pieces = polygons_of(alloc, release, &parcel.id)?;
-    sum.cancels(&parcel.polygon, pieces.as_slice(), part.flats.as_slice())
+    triangles.iter().all(|t| is_ccw(t))
+}
+
+impl Places for PieceCondition {
+    type Item = Piece;
+
+    type Part = PiecePart;
+
+    ghost holds = { λ q x t. OnPiece q x t };
+
+    fn holds_of(
+        &self,
+        alloc: Global,
+        sum: &mut EdgeSum,
+        piece: &Piece,
+        part: &PiecePart,
+    ) -> Result<bool, AllocError> {
+        let triangles = part.triangles.as_slice();
+        let flats = part.flats.as_slice();
+        match self {
+            PieceCondition::Names => Ok(is_same(&part.id, &piece.id)),
+            PieceCondition::Triangles => Ok(has_triangle(triangles)),
+            PieceCondition::CounterClockwise => Ok(are_counter_clockwise(triangles)),
+            PieceCondition::Flats => Ok(are_flat(flats)),
+            PieceCondition::Corners => has_corners(alloc, &piece.polygon, triangles, flats),
+            PieceCondition::Edges => sum.is_cut(&piece.polygon, triangles, flats),
+        }
+    }
 }

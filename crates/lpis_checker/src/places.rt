@@ -1,31 +1,63 @@
-//! The first place of a list at which a condition fails.
+//! The first place of two lists at which a condition fails.
 
-ghost use Rattle.std.specs.Prelude.{◌↔◌, ◌≤◌, ℕ, IsTrue, IfOk};
+ghost use Rattle.std.specs.Prelude.{◌↔◌, IsTrue, IfOk, slice_get};
+ghost use Rattle.lpis_checker.specs.GoodCertificate.{SideBySide};
 ghost use Rattle.lpis_checker.specs.private.Searches.{FindsPlace};
 
 use lpis_edge_sums::EdgeSum;
 use std::alloc::{AllocError, Global};
 
-/// A condition at each place of two lists that stand side by side.
+/// A condition on items and their parts, which stand at the same indices of two lists.
 pub(crate) trait Places {
-    ghost holds: { Self → ℕ → Type 0 };
+    type Item;
 
-    /// The index from which on it holds: both lists have ended.
-    fn end(&self) -> usize
-        ensures { (k : ℕ) → result ≤ k → holds self.now k };
+    type Part;
 
-    /// Whether it holds at an index. The sum is for edges: its room is used again.
-    fn holds_at(&self, alloc: Global, sum: &mut EdgeSum, index: usize) -> Result<bool, AllocError>
-        ensures { IfOk result (λ b. IsTrue b ↔ holds self.now index) };
+    ghost holds: { Self → Self.Item → Self.Part → Type 0 };
+
+    /// Whether it holds of an item and its part. The sum is for edges: its room is used again.
+    fn holds_of(
+        &self,
+        alloc: Global,
+        sum: &mut EdgeSum,
+        item: &Self::Item,
+        part: &Self::Part,
+    ) -> Result<bool, AllocError>
+        ensures { IfOk result (λ b. IsTrue b ↔ holds self.now item.now part.now) };
 }
 
-/// The first place at which a condition fails.
-pub(crate) fn first_place<P: Places>(alloc: Global, places: &P) -> Result<Option<usize>, AllocError>
-    ensures { IfOk result (λ o. FindsPlace (P.holds places.now) o) }
+/// Whether a condition holds at an index, where both lists go on or both have ended.
+fn holds_at<P: Places>(
+    alloc: Global,
+    sum: &mut EdgeSum,
+    places: &P,
+    items: &[P::Item],
+    parts: &[P::Part],
+    index: usize,
+) -> Result<bool, AllocError>
+    ensures { IfOk result (λ b. IsTrue b ↔ SideBySide (P.holds places.now)
+        (slice_get items.now index) (slice_get parts.now index)) }
+{
+    match (items.get(index), parts.get(index)) {
+        (Some(item), Some(part)) => places.holds_of(alloc, sum, item, part),
+        (None, None) => Ok(true),
+        _ => Ok(false),
+    }
+}
+
+/// The first index at which a condition fails.
+pub(crate) fn first_place<P: Places>(
+    alloc: Global,
+    places: &P,
+    items: &[P::Item],
+    parts: &[P::Part],
+) -> Result<Option<usize>, AllocError>
+    ensures { IfOk result (FindsPlace (λ k. SideBySide (P.holds places.now)
+        (slice_get items.now k) (slice_get parts.now k))) }
 {
     let mut sum = EdgeSum::new(alloc);
-    for index in 0..places.end() {
-        if !places.holds_at(alloc, &mut sum, index)? {
+    for index in 0..items.len().max(parts.len()) {
+        if !holds_at(alloc, &mut sum, places, items, parts, index)? {
             return Ok(Some(index));
         }
     }

@@ -8,10 +8,9 @@ use Rattle.lpis_cert.specs.declared.fault.CertCode.{CertCode}
 use Rattle.lpis_cert.specs.declared.fault.CertFault.TheVariants as cert
 use Rattle.lpis_cert.specs.Contents.{IsCertText}
 use Rattle.lpis_cert.specs.Faults.{verdict}
-use Rattle.lpis_checker.specs.declared.condition.Condition.{Condition}
 use Rattle.lpis_checker.specs.declared.condition.Site.{Site}
 use Rattle.lpis_checker.specs.declared.fault.CheckFault.TheVariants as check
-use Rattle.lpis_checker.specs.FirstFault.{IsFault, location_of}
+use Rattle.lpis_checker.specs.FirstFault.{condition_of, IsFault, location_of}
 use Rattle.lpis_checker.specs.GoodCertificate.{IsGood}
 use Rattle.lpis_checker.specs.SoundMap.{IsSoundMap}
 use Rattle.lpis_commands.specs.Failures.{IsUnchecked}
@@ -39,8 +38,8 @@ Answer = List ℕ × ℕ
 abbrev pub IsCheckAnswer : Contents → Cert → (Answer → Type 0) → Answer → Type 0
 IsCheckAnswer r c IsNext a =
     (IsGood r c × IsNext a)
-    ⊎ ((code : Condition) × (site : Site) × IsFault r c code site
-    × (a ≡ (check_refusal_text (check.At code (location_of r c site)), refused)))
+    ⊎ ((at : Site) × IsFault r c at
+    × (a ≡ (check_refusal_text (check.At (condition_of at) (location_of r c at)), refused)))
 
 -- of a text: the line of its first fault, or the answer to the certificate whose text it is
 abbrev pub IsCertAnswer : (Cert → Answer → Type 0) → List ℕ → Result ℕ (CertCode × ℕ) → Answer

@@ -1,7 +1,7 @@
 -- What searches over exact blocks answer.
-use Rattle.std.specs.Prelude.{◌≡◌, ◌<◌, ℕ, Option, MatchOption, None, List, slice_get}
+use Rattle.std.specs.Prelude.{◌≡◌, ◌<◌, ℕ, Option, MatchOption, List}
 use Rattle.lpis_cert.specs.declared.part.ExactBlock.{ExactBlock}
-use Rattle.lpis_checker.specs.ExactBlocks.{HoldsAtEach, IsExactFault, exact_id, order_of}
+use Rattle.lpis_checker.specs.ExactBlocks.{BlockHolds, IsExactFault, exact_id, order_of}
 use Rattle.lpis_checker.specs.declared.exact.ExactFault.{ExactFault}
 use Rattle.lpis_checker.specs.declared.exact.ExactFault.TheVariants.{Memory, At}
 use Rattle.lpis_checker.specs.declared.exact.ExactPart.{ExactPart}
@@ -10,7 +10,7 @@ use Rattle.lpis_checker.specs.declared.exact.FailingBlock.{FailingBlock}
 
 -- the conditions that come before the n-th hold
 pub record ExactBelow (bs : List ExactBlock) (xs : List ExactPart) (n : ℕ) : Type 0 where
-  pub holds : (s : ExactCondition) → order_of s < n → HoldsAtEach bs xs s
+  pub holds : (s : ExactCondition) (m : ℕ) → order_of s < n → BlockHolds bs xs s m
 
 -- the fault of the lowest code that comes before the n-th, or none where these hold
 abbrev pub FindsExact : List ExactBlock → List ExactPart → ℕ → Option FailingBlock → Type 0
@@ -21,7 +21,3 @@ FindsExact bs xs n o =
 abbrev pub IsToldOfBlock : List ExactBlock → List ExactPart → FailingBlock → ExactFault → Type 0
 IsToldOfBlock bs xs f Memory = ⊥
 IsToldOfBlock bs xs f (At code id) = (code ≡ f.condition) × (id ≡ exact_id bs xs f.index)
-
--- neither list has this index
-abbrev pub HasNoBlock : List ExactBlock → List ExactPart → ℕ → Type 0
-HasNoBlock bs xs k = (slice_get bs k ≡ None) × (slice_get xs k ≡ None)

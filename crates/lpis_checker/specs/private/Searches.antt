@@ -1,70 +1,65 @@
--- What searches for the first site of a condition answer.
-use Rattle.std.specs.Prelude.{◌≡◌, ℕ, ◌<◌, Option, None, MatchOption, slice_get, ⊤}
+-- What searches for the first site that fails answer.
+use Rattle.std.specs.Prelude.{◌≡◌, ℕ, ◌<◌, Option, MatchOption}
 use Rattle.lpis_parcels.specs.Release.{Contents}
 use Rattle.lpis_cert.specs.declared.cert.Cert.{Cert}
-use Rattle.lpis_checker.specs.declared.condition.Condition.{Condition}
-use Rattle.lpis_checker.specs.declared.condition.Condition.TheVariants.{Names, NearPairs}
-use Rattle.lpis_checker.specs.declared.condition.Condition.TheVariants.{NotApart, Separating}
+use Rattle.lpis_pairs.specs.NearPairs.{IsBelow}
+use Rattle.lpis_checker.specs.declared.condition.PieceCondition.TheVariants as piece
+use Rattle.lpis_checker.specs.declared.condition.ParcelCondition.TheVariants as parcel
+use Rattle.lpis_checker.specs.declared.condition.LineCondition.TheVariants as line
 use Rattle.lpis_checker.specs.declared.condition.Site.{Site}
-use Rattle.lpis_checker.specs.declared.condition.Site.TheVariants.{PieceAt, ParcelAt, LineAt}
-use Rattle.lpis_checker.specs.Codes.{code_of}
-use Rattle.lpis_checker.specs.GoodCertificate.{ConditionHolds, HoldsEverywhere}
-use Rattle.lpis_checker.specs.FirstFault.{HoldBelow, IsFirst, IsFault, location_of}
+use Rattle.lpis_checker.specs.declared.condition.Site.TheVariants as site
+use Rattle.lpis_checker.specs.GoodCertificate.{ConditionHolds, IsInOrder, OfLine}
+use Rattle.lpis_checker.specs.FirstFault.{condition_of, IsFault, location_of}
 use Rattle.lpis_checker.specs.declared.fault.CheckFault.{CheckFault}
 use Rattle.lpis_checker.specs.declared.fault.CheckFault.TheVariants.{Memory, At}
-use Rattle.lpis_checker.specs.declared.condition.Failing.{Failing}
-
--- the first site at which a condition fails, or none where it holds everywhere
-abbrev pub FindsFirst : Contents → Cert → Condition → Option Site → Type 0
-FindsFirst r c q o = MatchOption o (HoldsEverywhere r c q) (IsFirst r c q)
 
 -- the first place at which something does not hold, or none where it holds at each
 abbrev pub FindsPlace : (ℕ → Type 0) → Option ℕ → Type 0
 FindsPlace P o = MatchOption o ((m : ℕ) → P m) (λ k. (P k → ⊥) × ((m : ℕ) → m < k → P m))
 
--- the first pair line, where it holds at each piece and parcel
-abbrev pub FindsLine : Contents → Cert → Condition → Option ℕ → Type 0
-FindsLine r c q o =
-    MatchOption o ((m : ℕ) → ConditionHolds r c q (LineAt m)) (λ k. IsFirst r c q (LineAt k))
+-- the first near pair that no line names, or none where each is named
+abbrev pub FindsPair : Contents → Cert → Option (ℕ × ℕ) → Type 0
+FindsPair r c o = MatchOption o ((i j : ℕ) → ConditionHolds r c (site.Pair i j))
+    (λ p. (ConditionHolds r c (site.Pair p.0 p.1) → ⊥)
+    × ((i j : ℕ) → IsBelow i j p.0 p.1 → ConditionHolds r c (site.Pair i j)))
 
--- the first piece, and else the first parcel
-abbrev pub FindsPart : Contents → Cert → Condition → Option Site → Type 0
-FindsPart r c q o =
-    MatchOption o (((m : ℕ) → ConditionHolds r c q (PieceAt m)) × ((m : ℕ)
-    → ConditionHolds r c q (ParcelAt m)))
-    (IsFirst r c q)
+-- each pair line is in order
+abbrev pub AreInOrder : Cert → Type 0
+AreInOrder c = (k : ℕ) → OfLine c k (IsInOrder c k)
 
--- a condition that says nothing of pair lines and of pairs of triangles
-abbrev pub IsOfPart : Condition → Type 0
-IsOfPart Names = ⊥
-IsOfPart NearPairs = ⊥
-IsOfPart NotApart = ⊥
-IsOfPart Separating = ⊥
-IsOfPart _ = ⊤
+-- the search that looks at a site, in their order
+abbrev pub search_of : Site → ℕ
+search_of (site.Piece piece.Names k) = 0
+search_of (site.Parcel parcel.Names k) = 1
+search_of (site.Order k) = 2
+search_of (site.Piece piece.Triangles k) = 3
+search_of (site.Piece piece.CounterClockwise k) = 4
+search_of (site.Piece piece.Flats k) = 5
+search_of (site.Parcel parcel.Flats k) = 6
+search_of (site.Piece piece.Corners k) = 7
+search_of (site.Parcel parcel.Corners k) = 8
+search_of (site.Piece piece.Edges k) = 9
+search_of (site.Parcel parcel.Edges k) = 10
+search_of (site.Pair i j) = 11
+search_of (site.Line line.NotApart k) = 12
+search_of (site.Line line.Separating k) = 13
 
--- one that says something of the triangles of a pair line
-abbrev pub IsOfLine : Condition → Type 0
-IsOfLine NotApart = ⊤
-IsOfLine Separating = ⊤
-IsOfLine _ = ⊥
+-- how many there are, and how many of parts
+abbrev pub all_searches : ℕ
+all_searches = 14
 
--- this condition is the fault, and this is its first site
-abbrev pub FoundFault : Contents → Cert → Failing → Type 0
-FoundFault r c f = IsFault r c f.condition f.site
+abbrev pub part_searches : ℕ
+part_searches = 11
 
--- the fault of the lowest code below n, or none where these conditions hold
-abbrev pub FindsBelow : Contents → Cert → ℕ → Option Failing → Type 0
-FindsBelow r c n o = MatchOption o (HoldBelow r c n) (λ f. (code_of f.condition < n)
-    × FoundFault r c f)
+-- at the sites of the first n searches the conditions hold
+pub record HoldUntil (r : Contents) (c : Cert) (n : ℕ) : Type 0 where
+  pub holds : (at : Site) → search_of at < n → ConditionHolds r c at
+
+-- the first n searches find the fault, or none where the conditions hold at their sites
+abbrev pub FindsUntil : Contents → Cert → ℕ → Option Site → Type 0
+FindsUntil r c n o = MatchOption o (HoldUntil r c n) (λ at. (search_of at < n) × IsFault r c at)
 
 -- what is reported of it
-abbrev pub IsToldOf : Contents → Cert → Failing → CheckFault → Type 0
-IsToldOf r c f Memory = ⊥
-IsToldOf r c f (At code at) = (code ≡ f.condition) × (at ≡ location_of r c f.site)
-
--- neither the certificate nor the release has a piece at this index
-abbrev pub HasNoPiece : Contents → Cert → ℕ → Type 0
-HasNoPiece r c k = (slice_get c.pieces k ≡ None) × (slice_get r.pieces k ≡ None)
-
-abbrev pub HasNoParcel : Contents → Cert → ℕ → Type 0
-HasNoParcel r c k = (slice_get c.parcels k ≡ None) × (slice_get r.parcels k ≡ None)
+abbrev pub IsToldOf : Contents → Cert → Site → CheckFault → Type 0
+IsToldOf r c at Memory = ⊥
+IsToldOf r c at (At code place) = (code ≡ condition_of at) × (place ≡ location_of r c at)

@@ -1,6 +1,5 @@
 use Rattle.std.proofs.Common.{ℕ, get_or, List, sym, subst}
-use Rattle.lpis_checker.proofs.Common.{slice_get-get_or, PairLine, NearPairs}
-use Rattle.lpis_checker.proofs.SiteLemmas.{at_all_sites}
+use Rattle.lpis_checker.proofs.Common.{slice_get-get_or, PairLine}
 use Rattle.lpis_edge_sums.proofs.Shared.{untrue}
 use Rattle.lpis_checker.proofs.PairLineLemmas.{NamesAt, skips_over, walk_more, walk_all, walk_fault}
 use Rattle.lpis_checker.proofs.near_pairs.unnamed_pair.Goals as goal
@@ -27,10 +26,9 @@ returns-then-not-names_at c =
     let unnamed : NamesAt cert.pairs next p.0 p.1 → ⊥ = λ h. untrue c.names_at.result c.names_at.ensures
     c.if-not-names_at.true (subst (λ (lines : List PairLine). NamesAt lines next p.0 p.1)
     (sym c.as_slice-lines.ensures) h) in
-    walk_fault c.args.release.now cert c.args.triangles.now near c.requires.names c.requires.numbered c.requires.near c.loop-i.at next c.loop-i.i-index p c.loop-i.invariant at skips unnamed
+    walk_fault c.args.release.now cert c.args.triangles.now near c.requires.ordered c.requires.numbered c.requires.near c.loop-i.at next c.loop-i.i-index p c.loop-i.invariant at skips unnamed
 
 pub returns : goal.returns
 returns c =
-    at_all_sites c.args.release.now c.args.cert.now NearPairs (λ k. tt) (λ k. tt) (λ k. tt)
-    (walk_all c.args.release.now c.args.cert.now c.args.triangles.now c.args.near.now c.requires.numbered
-    c.requires.near c.loop-i.at c.loop-i.i-index c.loop-i-test.false c.loop-i.invariant)
+    walk_all c.args.release.now c.args.cert.now c.args.triangles.now c.args.near.now c.requires.numbered
+    c.requires.near c.loop-i.at c.loop-i.i-index c.loop-i-test.false c.loop-i.invariant

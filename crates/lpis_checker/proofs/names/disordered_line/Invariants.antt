@@ -1,6 +1,0 @@
-use Rattle.std.proofs.Common.{ℕ, ◌<◌}
-use Rattle.lpis_checker.proofs.Common.{ConditionHolds, Names, LineAt}
-use Rattle.lpis_checker.proofs.names.disordered_line.Given as goal
-
-abbrev pub invariant-loop-index : goal.invariant-loop-index
-invariant-loop-index l = (m : ℕ) → m < l.index → ConditionHolds l.release l.cert Names (LineAt m)

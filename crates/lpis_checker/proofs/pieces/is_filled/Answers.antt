@@ -1,9 +1,0 @@
-use Rattle.std.proofs.Common.{◌∙◌, ap}
-use Rattle.lpis_edge_sums.specs.Making.{EdgesCancel, polygons}
-use Rattle.lpis_checker.proofs.SiteLemmas.{told_alike}
-use Rattle.lpis_checker.proofs.pieces.is_filled.Goals as goal
-
-pub returns : goal.returns
-returns c =
-    told_alike (EdgesCancel c.args.parcel.now.polygon) c.cancels.result
-    (ap polygons c.as_slice.ensures.value ∙ c.in_ok-pieces.ensures) c.as_slice-2.ensures c.cancels.ensures
