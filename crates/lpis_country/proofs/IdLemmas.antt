@@ -1,38 +1,33 @@
 -- Parcels and their identifiers.
-use Rattle.std.proofs.Common.{◌≡◌, ◌≢◌, ℕ, suc, ◌<◌, ◌||◌, Bool, true, false, cond, ◌++◌, List, [], ◌∷◌, Some, ◌⊎◌, inl, inr, All, filter, ap, sym, refl, ◌∙◌, arith, slice_get, AllPairs, option_map}
+use Rattle.std.proofs.Common.{◌≡◌, ℕ, zero, suc, ◌||◌, Bool, true, false, cond, ◌++◌, List, [], ◌∷◌, Some, All, filter, ap, sym, refl, ◌∙◌, slice_get, option_map}
 use Rattle.std.specs.Prelude.{Contains as IsAmong}
 use Rattle.std.specs.List.{IsDistinct}
-use Rattle.std.proofs.lemmas.Bool.{cases_eq, cases_lt}
-use Rattle.std.proofs.lemmas.Option.{get_or_from_slice_get, slice_get-map, slice_get_within, same_Some}
+use Rattle.std.proofs.lemmas.Option.{none-some, slice_get-map, same_Some}
 use Rattle.std.proofs.lemmas.List.Elements.{All-append, All-from_recursion, All-filter, All-head, All-map, All-tail, recursion_from_All}
 use Rattle.std.proofs.lemmas.Map.Keys.{IsDistinct-head, IsDistinct-tail, IsDistinct-cons, any_passes_from_place}
-use Rattle.std.proofs.lemmas.Map.Made.{AllPairs-from_IsDistinct}
 use Rattle.std.proofs.lemmas.Slice.Eq.{bytes_eq-Decides}
 use Rattle.lpis_covers.specs.Ids.{has_id, same_id}
 use Rattle.lpis_parcels.specs.declared.parcel.Parcel.{Parcel}
 use Rattle.lpis_parcels.specs.Release.{parcel_ids}
 use Rattle.lpis_edge_sums.proofs.Shared.{Found, all_at, all_from}
-use Rattle.lpis_country.proofs.ListLemmas.{placed}
+use Rattle.lpis_country.proofs.ListLemmas.{clash, placed}
 
 pub id_at : (xs : List Parcel) (i : ℕ) (a : Parcel) → slice_get xs i ≡ Some a → slice_get (parcel_ids xs) i ≡ Some a.id
 id_at xs i a e = slice_get-map (λ (p : Parcel). p.id) xs i ∙ ap (option_map (λ (p : Parcel). p.id)) e
 
+-- no other parcel of the list has the first one's identifier
+pub first_alone : (x : Parcel) (xs : List Parcel) → IsDistinct same_id (parcel_ids (x ∷ xs)) → (i : ℕ) (k : Parcel) → slice_get xs i ≡ Some k → same_id x.id k.id ≡ false
+first_alone x xs n i k e =
+    all_at (λ (y : List ℕ). same_id x.id y ≡ false) (parcel_ids xs) i k.id (id_at xs i k e)
+    (All-from_recursion (λ (y : List ℕ). same_id x.id y ≡ false) (parcel_ids xs) (IsDistinct-head same_id x.id (parcel_ids xs) n))
+
 -- parcels of one identifier are one row
 pub same_index : (xs : List Parcel) → IsDistinct same_id (parcel_ids xs) → (i j : ℕ) (a b : Parcel) → slice_get xs i ≡ Some a → slice_get xs j ≡ Some b → a.id ≡ b.id → i ≡ j
-same_index xs n i j a b e f s = elim (cases_eq i j) [ inl q ↦ q | inr q ↦ absurd (by (order q)) ]
-  where
-    pairs : AllPairs (λ x y. x ≢ y) (parcel_ids xs)
-    pairs = AllPairs-from_IsDistinct bytes_eq-Decides (parcel_ids xs) n
-
-    clash : (k m : ℕ) (x y : Parcel) → k < m → slice_get (parcel_ids xs) k ≡ Some x.id → slice_get (parcel_ids xs) m ≡ Some y.id → x.id ≡ y.id → ⊥
-    clash k m x y l g h t = pairs k m [] l (slice_get_within (parcel_ids xs) m y.id h) (get_or_from_slice_get (parcel_ids xs) k x.id [] g ∙ t ∙ sym (get_or_from_slice_get (parcel_ids xs) m y.id [] h))
-
-    order : i ≢ j → (i < j) ⊎ (j < i)
-    order q = elim (cases_lt i j) [ inl l ↦ inl l | inr l ↦ inr (omega arith) ]
-
-    by : (i < j) ⊎ (j < i) → ⊥
-    by (inl l) = clash i j a b l (id_at xs i a e) (id_at xs j b f) s
-    by (inr l) = clash j i b a l (id_at xs j b f) (id_at xs i a e) (sym s)
+same_index [] n i j a b e f s = absurd (none-some a e)
+same_index (x ∷ xs) n zero zero a b e f s = refl
+same_index (x ∷ xs) n zero (suc j) a b e f s = absurd (clash (same_id x.id b.id) ((bytes_eq-Decides x.id b.id).1 (ap (λ (k : Parcel). k.id) (same_Some x a e) ∙ s)) (first_alone x xs n j b f))
+same_index (x ∷ xs) n (suc i) zero a b e f s = absurd (clash (same_id x.id a.id) ((bytes_eq-Decides x.id a.id).1 (ap (λ (k : Parcel). k.id) (same_Some x b f) ∙ sym s)) (first_alone x xs n i a e))
+same_index (x ∷ xs) n (suc i) (suc j) a b e f s = ap suc (same_index xs (IsDistinct-tail same_id x.id (parcel_ids xs) n) i j a b e f s)
 
 pub same_parcel : (xs : List Parcel) → IsDistinct same_id (parcel_ids xs) → (a b : Parcel) → IsAmong xs a → IsAmong xs b → a.id ≡ b.id → a ≡ b
 same_parcel xs n a b h k s =
@@ -72,9 +67,7 @@ distinct_filter q [] h = h
 distinct_filter q (x ∷ xs) h = by (q x) (distinct_filter q xs (IsDistinct-tail same_id x.id (parcel_ids xs) h))
   where
     all : All (λ (k : Parcel). same_id x.id k.id ≡ false) xs
-    all = all_from (λ (k : Parcel). same_id x.id k.id ≡ false) xs (λ i k e.
-        all_at (λ (y : List ℕ). same_id x.id y ≡ false) (parcel_ids xs) i k.id (id_at xs i k e)
-        (All-from_recursion (λ (y : List ℕ). same_id x.id y ≡ false) (parcel_ids xs) (IsDistinct-head same_id x.id (parcel_ids xs) h)))
+    all = all_from (λ (k : Parcel). same_id x.id k.id ≡ false) xs (first_alone x xs h)
 
     by : (b : Bool) → IsDistinct same_id (parcel_ids (filter q xs)) → IsDistinct same_id (parcel_ids (cond b (x ∷ filter q xs) (filter q xs)))
     by true r =

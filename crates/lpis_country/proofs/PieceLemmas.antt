@@ -1,9 +1,9 @@
 -- The pieces of all parcels of a region are its pieces.
 use Rattle.std.proofs.Common.{◌≡◌, ℕ, zero, suc, ◌+◌, Bool, true, false, not, cond, List, [], ◌∷◌, length, filter, sum_by, Some, All, ap, ap₂, sym, refl, ◌∙◌, IsTrue, arith}
 use Rattle.std.specs.List.{slice_get, IsDistinct}
-use Rattle.std.proofs.lemmas.List.Elements.{All-from_recursion, All-head, All-tail}
+use Rattle.std.proofs.lemmas.List.Elements.{All-head, All-tail}
 use Rattle.std.proofs.lemmas.List.Sums.{sum_by-cons}
-use Rattle.std.proofs.lemmas.Map.Keys.{IsDistinct-head, IsDistinct-tail}
+use Rattle.std.proofs.lemmas.Map.Keys.{IsDistinct-tail}
 use Rattle.std.proofs.lemmas.Option.{none-some, same_Some}
 use Rattle.std.proofs.lemmas.Slice.Eq.{bytes_eq-Decides}
 use Rattle.lpis_covers.specs.declared.piece.Piece.{Piece}
@@ -13,7 +13,7 @@ use Rattle.lpis_parcels.specs.Release.{Contents, names_parcel, parcel_ids, piece
 use Rattle.lpis_edge_sums.proofs.Shared.{all_at, all_from, any_found, filter_kept, found_any}
 use Rattle.lpis_country.specs.Country.{IsRegion}
 use Rattle.lpis_country.proofs.ListLemmas.{clash, filter_both}
-use Rattle.lpis_country.proofs.IdLemmas.{id_at}
+use Rattle.lpis_country.proofs.IdLemmas.{first_alone}
 use Rattle.lpis_country.proofs.CountryLemmas.{NamedIn, not_new}
 
 -- what a test lets through and what it does not
@@ -44,9 +44,7 @@ pieces_of_all (k ∷ ks) xs d n =
     others = filter (λ (x : Piece). not (names_parcel k.id x)) xs
 
     apart : (i : ℕ) (m : Parcel) → slice_get ks i ≡ Some m → same_id k.id m.id ≡ false
-    apart i m e =
-        all_at (λ (y : List ℕ). same_id k.id y ≡ false) (parcel_ids ks) i m.id (id_at ks i m e)
-        (All-from_recursion (λ (y : List ℕ). same_id k.id y ≡ false) (parcel_ids ks) (IsDistinct-head same_id k.id (parcel_ids ks) d))
+    apart = first_alone k ks d
 
     kept : (i : ℕ) (m : Parcel) → slice_get ks i ≡ Some m → filter (names_parcel m.id) others ≡ filter (names_parcel m.id) xs
     kept i m e = filter_both (names_parcel m.id) (λ (x : Piece). not (names_parcel k.id x)) (λ x t. by x t (names_parcel k.id x) refl) xs
