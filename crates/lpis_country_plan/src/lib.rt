@@ -26,3 +26,6 @@ pub use laws::{
 };
 pub use plan::{MOST_REGIONS, Plan};
 pub use reading::read_plan;
+
+#[cfg(test)]
+mod tests;
