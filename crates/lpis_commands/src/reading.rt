@@ -61,10 +61,26 @@ pub fn read_from<R: Read>(alloc: Global, reader: &mut R, limit: usize) -> Result
     ensures part { IfErr result (λ fault. (given : List ℕ) × Consumes (R.remaining reader.old)
         (R.remaining reader.new) given × ((fault ≡ ReadFault.TooLong) ↔ (limit < length given))) }
 {
-    let Ok(mut room) = vec![in alloc; 0u8; CHUNK] else {
+    let Ok(mut chunk) = vec![in alloc; 0u8; CHUNK] else {
         return Err(ReadFault::Memory);
     };
-    let chunk = room.as_mut_slice();
+    read_by(alloc, reader, limit, chunk.as_mut_slice())
+}
+
+/// The same, by reads into `chunk`.
+fn read_by<R: Read>(
+    alloc: Global,
+    reader: &mut R,
+    limit: usize,
+    chunk: &mut [u8],
+) -> Result<Vec<u8>, ReadFault>
+    requires limit { limit ≤ GREATEST_LIMIT }
+    requires room { 0 < length chunk.old }
+    ensures all { IfOk result (λ v. Consumes (R.remaining reader.old) (R.remaining reader.new)
+        v.items × IsAtEnd (R.remaining reader.new) × (vec_len v ≤ limit)) }
+    ensures part { IfErr result (λ fault. (given : List ℕ) × Consumes (R.remaining reader.old)
+        (R.remaining reader.new) given × ((fault ≡ ReadFault.TooLong) ↔ (limit < length given))) }
+{
     let mut bytes = Vec::new(alloc);
     for _ in 0..2 * limit + 16 {
         match reader.read(chunk) {

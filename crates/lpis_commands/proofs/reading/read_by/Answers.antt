@@ -1,6 +1,6 @@
 use Rattle.std.proofs.Common.{arith}
 use Rattle.lpis_commands.proofs.ReadLemmas.{given_over, given_within}
-use Rattle.lpis_commands.proofs.reading.read_from.Goals as goal
+use Rattle.lpis_commands.proofs.reading.read_by.Goals as goal
 
 pub returns-then-count-limit-clause-part : goal.returns-then-count-limit-clause-part
 returns-then-count-limit-clause-part g c =

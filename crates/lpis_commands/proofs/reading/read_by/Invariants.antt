@@ -1,6 +1,6 @@
 use Rattle.std.proofs.Common.{◌≤◌, vec_len}
 use Rattle.std.specs.Io.KnownBytes.{Consumes}
-use Rattle.lpis_commands.proofs.reading.read_from.Given as goal
+use Rattle.lpis_commands.proofs.reading.read_by.Given as goal
 
 abbrev pub invariant-loop : goal.invariant-loop
 invariant-loop g l =
