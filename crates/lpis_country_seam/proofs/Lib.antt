@@ -1,0 +1,5 @@
+mod ListLemmas
+mod TileLemmas
+mod TestLemmas
+mod KeepLemmas
+mod IdLemmas

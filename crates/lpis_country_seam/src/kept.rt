@@ -1,12 +1,17 @@
 //! The rows that are kept of the regions that were let go.
 
-ghost use Rattle.std.specs.Prelude.{◌≡◌, []};
+ghost use Rattle.std.specs.Prelude.{◌≡◌, [], IfOk, OnOk};
+ghost use Rattle.std.specs.Option.{option_copied};
+ghost use Rattle.lpis_parcels.specs.Release.{pieces_named};
+ghost use Rattle.lpis_country_seam.specs.private.Kept.{row_in, with_row};
+ghost use Rattle.lpis_country_seam.specs.private.Testing.{row_named};
 
 use indexmap::IndexSet;
+use lpis_country_rows::{copy_parcel, copy_pieces_of};
 use lpis_covers::{Id, Piece};
-use lpis_parcels::Parcel;
+use lpis_parcels::{Parcel, Release};
 use lpis_rings::Sequence;
-use std::alloc::Global;
+use std::alloc::{AllocError, Global};
 use std::marker::Model;
 
 /// A parcel that a later region has to have too, with its pieces in the order of their table.
@@ -14,6 +19,24 @@ use std::marker::Model;
 pub struct KeptRow {
     pub parcel: Parcel,
     pub pieces: Sequence<Piece>,
+}
+
+impl KeptRow {
+    /// The row of a parcel of a region.
+    pub(crate) fn of(
+        alloc: Global,
+        release: &Release,
+        parcel: &Parcel,
+    ) -> Result<KeptRow, AllocError>
+        ensures { IfOk result (λ row. row ≡ row_in release.now parcel.now) }
+    {
+        let pieces = copy_pieces_of(alloc, release, &parcel.id)?;
+        let parcel = copy_parcel(alloc, parcel)?;
+        Ok(KeptRow {
+            parcel,
+            pieces: Sequence::new(pieces),
+        })
+    }
 }
 
 /// Rows in the order in which their parcels first stood, no two with one identifier. Contracts see
@@ -44,5 +67,41 @@ impl KeptRows {
             rows: Vec::new(alloc),
             keys: IndexSet::new(alloc),
         }
+    }
+
+    /// The rows in their order.
+    pub(crate) fn as_slice(&self) -> &[KeptRow]
+        ensures { result.now ≡ self.now }
+    {
+        self.rows.as_slice()
+    }
+
+    /// The rows alone, in their order.
+    pub(crate) fn into_rows(self) -> Vec<KeptRow>
+        ensures { result.items ≡ self }
+    {
+        let KeptRows { rows, .. } = self;
+        rows
+    }
+
+    /// The row of an identifier, where there is one.
+    pub(crate) fn get(&self, id: &Id) -> Option<&KeptRow>
+        ensures { option_copied result ≡ row_named self.now id.now }
+    {
+        match self.keys.get_index_of(id) {
+            Some(index) => self.rows.get(index),
+            None => None,
+        }
+    }
+
+    /// The rows with one more at their end, unless one of its identifier is there.
+    pub(crate) fn with(self, row: KeptRow) -> Result<KeptRows, AllocError>
+        ensures { IfOk result (λ rows. rows ≡ with_row self row) }
+    {
+        let KeptRows { mut rows, mut keys } = self;
+        if keys.insert(row.parcel.id.copy()?)? {
+            rows.push(row)?;
+        }
+        Ok(KeptRows { rows, keys })
     }
 }

@@ -1,19 +1,27 @@
 //! The seam that is open.
 
-ghost use Rattle.std.specs.Prelude.{◌≡◌, ◌++◌, ◌∷◌, [], List, map, Some, IfOk, OnOk, slice_get};
+ghost use Rattle.std.specs.Prelude.{◌≡◌, ◌++◌, ◌∷◌, [], List, filter, map, Some, IfOk, OnOk};
+ghost use Rattle.std.specs.Prelude.{slice_get};
 ghost use Rattle.lpis_covers.specs.declared.class.Class.{Class};
 ghost use Rattle.lpis_parcels.specs.Release.{Contents};
 ghost use Rattle.lpis_country.specs.Country.{country_of, new_parcels};
 ghost use Rattle.lpis_country_seam.specs.Faults.{ReportsSeam, seam_faults};
 ghost use Rattle.lpis_country_seam.specs.Open.{HasNext, IsSeamOf};
+ghost use Rattle.lpis_country_seam.specs.private.Stepping.{IsKeptNext, tested};
+ghost use Rattle.lpis_country_seam.specs.private.Testing.{is_fresh};
 
+use crate::classes::check_classes;
 use crate::fault::SeamFault;
 use crate::identifiers::Identifiers;
+use crate::keeping::{add_ids, still_kept, with_new};
 use crate::kept::KeptRows;
+use crate::testing::{Known, check_kept, check_rows};
+use lpis_country::is_region;
 use lpis_covers::Class;
 use lpis_parcels::Release;
 use lpis_points::Box4;
-use std::alloc::Global;
+use std::alloc::{AllocError, Global};
+use std::mem;
 
 /// What is kept of the regions of a country that were let go.
 #[derive(Drop)]
@@ -33,7 +41,6 @@ pub struct OpenSeam {
 impl OpenSeam {
     /// The seam before the first region of these tiles, which all have these classes.
     pub fn new(alloc: Global, tiles: Vec<Box4>, classes: Vec<Class>) -> OpenSeam
-        requires { ⊥ }
         ensures { IsSeamOf tiles.items classes.items [] result }
     {
         OpenSeam {
@@ -43,6 +50,40 @@ impl OpenSeam {
             kept: KeptRows::new(alloc),
             next: 0,
         }
+    }
+
+    /// The places of the new parcels of the next region among its parcels, or its first fault.
+    fn check(&self, alloc: Global, release: &Release) -> Result<Vec<usize>, SeamFault>
+        requires { HasNext self.now }
+        ensures reports { ReportsSeam (tested self.now release.now) result }
+        ensures places { IfOk result (λ places. map (slice_get release.now.parcels) places.items
+            ≡ map Some (filter (is_fresh self.now.ids) release.now.parcels)) }
+    {
+        let known = Known {
+            tiles: self.tiles.as_slice(),
+            n: self.next,
+            ids: &self.ids,
+            kept: &self.kept,
+        };
+        check_classes(release.classes(), self.classes.as_slice())?;
+        let places = check_rows(alloc, &known, release)?;
+        check_kept(&known, release)?;
+        Ok(places)
+    }
+
+    /// Keeps what later regions need of one more, whose new parcels have these places.
+    fn keep(&mut self, alloc: Global, release: &Release, places: &[usize]) -> Result<(), AllocError>
+        requires { HasNext self.old }
+        ensures { OnOk result (IsKeptNext self.old self.new release.now places.now) }
+    {
+        let later = &self.tiles[self.next + 1..];
+        let kept = mem::replace(&mut self.kept, KeptRows::new(alloc));
+        let rows = still_kept(alloc, later, kept)?;
+        let rows = with_new(alloc, later, release, places, rows)?;
+        add_ids(&mut self.ids, release.parcels())?;
+        self.kept = rows;
+        self.next += 1;
+        Ok(())
     }
 
     /// Tests the next region against those before it, and keeps what later ones need. The places of
@@ -61,9 +102,9 @@ impl OpenSeam {
             → IfOk result (λ places. map (slice_get release.now.parcels) places.items
             ≡ map Some (new_parcels (country_of classes done) release.now)) }
     {
-        let _ = alloc;
-        let _ = release.parcels();
-        self.next = 0;
-        Err(SeamFault::Memory)
+        is_region(release);
+        let places = self.check(alloc, release)?;
+        self.keep(alloc, release, places.as_slice())?;
+        Ok(places)
     }
 }

@@ -1,0 +1,121 @@
+-- Lists of parcels and of identifiers.
+use Rattle.std.proofs.Common.{◌≡◌, ℕ, ◌+◌, Bool, true, false, not, cond, ◌||◌, List, [], ◌∷◌, ◌++◌, map, filter, flat_map, Option, None, Some, is_some, All, refl, ap, ap₂, sym, ◌∙◌, subst, ◌⊎◌, inl, inr, true≢false}
+use Rattle.std.specs.List.{AllByRecursion, IsDistinct, find, list_any, slice_get}
+use Rattle.std.proofs.lemmas.List.Elements.{All-head, All-tail}
+use Rattle.std.proofs.lemmas.Map.Keys.{IsDistinct-head, IsDistinct-tail, IsDistinct-cons}
+use Rattle.std.specs.Cmp.Lexicographic.{bytes_decides}
+use Rattle.lpis_covers.specs.Ids.{has_id, same_id}
+use Rattle.lpis_parcels.specs.declared.parcel.Parcel.{Parcel}
+use Rattle.lpis_parcels.specs.Release.{parcel_ids}
+
+pub clash : (b : Bool) → b ≡ true → b ≡ false → ⊥
+clash b e f = true≢false (sym e ∙ f)
+
+-- ---- identifiers
+pub same-turned : (a b : List ℕ) → same_id a b ≡ false → same_id b a ≡ false
+same-turned a b e = by (same_id b a) refl
+  where
+    by : (t : Bool) → same_id b a ≡ t → same_id b a ≡ false
+    by true f = absurd (clash (same_id a b) ((bytes_decides a b).1 (sym ((bytes_decides b a).0 f))) e)
+    by false f = f
+
+pub same-sym : (a b : List ℕ) → same_id a b ≡ same_id b a
+same-sym a b = by (same_id a b) refl
+  where
+    by : (t : Bool) → same_id a b ≡ t → t ≡ same_id b a
+    by true e = sym ((bytes_decides b a).1 (sym ((bytes_decides a b).0 e)))
+    by false e = sym (same-turned a b e)
+
+abbrev pub is_of : List ℕ → Parcel → Bool
+is_of id k = same_id id k.id
+
+abbrev pub Differ : List ℕ → List (List ℕ) → Type 0
+Differ id ids = AllByRecursion (λ (y : List ℕ). same_id id y ≡ false) ids
+
+-- a parcel is found exactly where its identifier is there
+pub has-found : (id : List ℕ) (ps : List Parcel) → has_id (parcel_ids ps) id ≡ is_some (find (is_of id) ps)
+has-found id [] = refl
+has-found id (p ∷ ps) = by (same_id id p.id) (has-found id ps)
+  where
+    by : (b : Bool) → has_id (parcel_ids ps) id ≡ is_some (find (is_of id) ps) → (b || has_id (parcel_ids ps) id) ≡ is_some (cond b (Some p) (find (is_of id) ps))
+    by true h = refl
+    by false h = h
+
+pub none-found : (id : List ℕ) (ps : List Parcel) → Differ id (parcel_ids ps) → find (is_of id) ps ≡ None
+none-found id [] d = refl
+none-found id (p ∷ ps) d = ap (λ (b : Bool). cond b (Some p) (find (is_of id) ps)) d.0 ∙ none-found id ps d.1
+
+-- what is found is there, with the identifier
+pub record IsFound (id : List ℕ) (ps : List Parcel) (k : Parcel) : Type 0 where
+  pub before : List Parcel
+  pub after : List Parcel
+  pub at : ps ≡ before ++ k ∷ after
+  pub own : k.id ≡ id
+
+pub found-there : (id : List ℕ) (ps : List Parcel) (k : Parcel) → find (is_of id) ps ≡ Some k → IsFound id ps k
+found-there id [] k e = absurd (nothing e)
+  where
+    nothing : None {A = Parcel} ≡ Some k → ⊥
+    nothing h = cc
+found-there id (p ∷ ps) k e = by (same_id id p.id) refl e
+  where
+    by : (b : Bool) → same_id id p.id ≡ b → cond b (Some p) (find (is_of id) ps) ≡ Some k → IsFound id (p ∷ ps) k
+    by true s h = subst (IsFound id (p ∷ ps)) (some-same p k h) (record { before = []; after = ps; at = refl; own = sym ((bytes_decides id p.id).0 s) })
+      where
+        some-same : (a b : Parcel) → Some a ≡ Some b → a ≡ b
+        some-same a b h = cc
+    by false s h = let f = found-there id ps k h in record { before = p ∷ f.before; after = f.after; at = ap (λ (qs : List Parcel). p ∷ qs) f.at; own = f.own }
+
+-- an identifier that stands after others that all differ is none of them
+pub apart-before : (xs : List (List ℕ)) (y : List ℕ) (ys : List (List ℕ)) → IsDistinct same_id (xs ++ y ∷ ys) → has_id xs y ≡ false
+apart-before [] y ys d = refl
+apart-before (x ∷ xs) y ys d = ap₂ ◌||◌ (same-turned x y (at xs (IsDistinct-head same_id x (xs ++ y ∷ ys) d))) (apart-before xs y ys (IsDistinct-tail same_id x (xs ++ y ∷ ys) d))
+  where
+    at : (zs : List (List ℕ)) → Differ x (zs ++ y ∷ ys) → same_id x y ≡ false
+    at [] h = h.0
+    at (z ∷ zs) h = at zs h.1
+
+pub distinct-filter : (q : Parcel → Bool) (ps : List Parcel) → IsDistinct same_id (parcel_ids ps) → IsDistinct same_id (parcel_ids (filter q ps))
+distinct-filter q [] h = h
+distinct-filter q (p ∷ ps) h = by (q p) (distinct-filter q ps (IsDistinct-tail same_id p.id (parcel_ids ps) h))
+  where
+    kept : (qs : List Parcel) → Differ p.id (parcel_ids qs) → Differ p.id (parcel_ids (filter q qs))
+    kept [] d = d
+    kept (r ∷ rs) d = next (q r) (kept rs d.1)
+      where
+        next : (b : Bool) → Differ p.id (parcel_ids (filter q rs)) → Differ p.id (parcel_ids (cond b (r ∷ filter q rs) (filter q rs)))
+        next true k = (d.0, k)
+        next false k = k
+
+    by : (b : Bool) → IsDistinct same_id (parcel_ids (filter q ps)) → IsDistinct same_id (parcel_ids (cond b (p ∷ filter q ps) (filter q ps)))
+    by true k = IsDistinct-cons same_id p.id (parcel_ids (filter q ps)) (kept ps (IsDistinct-head same_id p.id (parcel_ids ps) h)) k
+    by false k = k
+
+-- ---- lists with no faults
+pub cons-nil : {A : Type 0} (x : A) (xs : List A) → x ∷ xs ≡ [] → ⊥
+cons-nil x xs e = cc
+
+pub nil-left : {A : Type 0} (xs ys : List A) → xs ++ ys ≡ [] → xs ≡ []
+nil-left [] ys e = refl
+nil-left (x ∷ xs) ys e = absurd (cons-nil x (xs ++ ys) e)
+
+pub nil-right : {A : Type 0} (xs ys : List A) → xs ++ ys ≡ [] → ys ≡ []
+nil-right xs ys e = sym (ap (λ (zs : List A). zs ++ ys) (nil-left xs ys e)) ∙ e
+
+-- the first of a list
+pub head-is : {A : Type 0} (xs : List A) (x : A) → slice_get xs 0 ≡ Some x → (more : List A) × (xs ≡ x ∷ more)
+head-is [] x e = absurd (no-item e)
+  where
+    no-item : None {A = A} ≡ Some x → ⊥
+    no-item h = cc
+head-is (y ∷ ys) x e = (ys, ap (λ (z : A). z ∷ ys) (same-item e))
+  where
+    same-item : Some y ≡ Some x → y ≡ x
+    same-item h = cc
+
+pub no-head : {A : Type 0} (xs : List A) → slice_get xs 0 ≡ None → xs ≡ []
+no-head [] e = refl
+no-head (y ∷ ys) e = absurd (an-item e)
+  where
+    an-item : Some y ≡ None → ⊥
+    an-item h = cc

@@ -1,0 +1,65 @@
+//! What is kept of a region that fits.
+
+ghost use Rattle.std.specs.Prelude.{◌≡◌, ◌||◌, [], ℕ, List, IfOk, OnOk};
+ghost use Rattle.lpis_covers.specs.Ids.{has_id};
+ghost use Rattle.lpis_parcels.specs.Release.{parcel_ids};
+ghost use Rattle.lpis_country_seam.specs.private.Kept.{at_places, new_rows, rows_reaching, with_rows};
+
+use crate::identifiers::Identifiers;
+use crate::kept::{KeptRow, KeptRows};
+use crate::tiles::reaches_any;
+use lpis_parcels::{Parcel, Release};
+use lpis_points::Box4;
+use std::alloc::{AllocError, Global};
+
+/// Those of the rows that reach one of these tiles.
+pub(crate) fn still_kept(
+    alloc: Global,
+    tiles: &[Box4],
+    kept: KeptRows,
+) -> Result<KeptRows, AllocError>
+    ensures { IfOk result (λ rows. rows ≡ with_rows [] (rows_reaching tiles.now kept)) }
+{
+    let mut rows = KeptRows::new(alloc);
+    for row in kept.into_rows() {
+        if reaches_any(tiles, &row.parcel) {
+            rows = rows.with(row)?;
+        }
+    }
+    Ok(rows)
+}
+
+/// The rows with those parcels of a region at these places that reach one of these tiles.
+pub(crate) fn with_new(
+    alloc: Global,
+    tiles: &[Box4],
+    release: &Release,
+    places: &[usize],
+    kept: KeptRows,
+) -> Result<KeptRows, AllocError>
+    ensures { IfOk result (λ rows. rows ≡ with_rows kept
+        (new_rows tiles.now release.now (at_places release.now.parcels places.now))) }
+{
+    let parcels = release.parcels();
+    let mut rows = kept;
+    for place in places {
+        if let Some(parcel) = parcels.get(*place) {
+            if reaches_any(tiles, parcel) {
+                let row = KeptRow::of(alloc, release, parcel)?;
+                rows = rows.with(row)?;
+            }
+        }
+    }
+    Ok(rows)
+}
+
+/// Adds the identifiers of these parcels.
+pub(crate) fn add_ids(ids: &mut Identifiers, parcels: &[Parcel]) -> Result<(), AllocError>
+    ensures { OnOk result ((q : List ℕ)
+        → has_id ids.new q ≡ (has_id ids.old q || has_id (parcel_ids parcels.now) q)) }
+{
+    for parcel in parcels {
+        ids.add(&parcel.id)?;
+    }
+    Ok(())
+}

@@ -1,0 +1,149 @@
+//! The tests of the next region.
+
+ghost use Rattle.std.specs.Prelude.{◌≡◌, ◌≤◌, not, IfOk, filter, flat_map, length, map, Some, slice_get};
+ghost use Rattle.std.specs.Option.{option_copied};
+ghost use Rattle.lpis_covers.specs.Ids.{has_id};
+ghost use Rattle.lpis_country_seam.specs.declared.fault.SeamFault.TheVariants.{At};
+ghost use Rattle.lpis_country_seam.specs.Faults.{ReportsSeam, is_lacking as lacking, reaches_own};
+ghost use Rattle.lpis_country_seam.specs.private.Testing.{fresh_faults, is_row_of as row_is_of};
+ghost use Rattle.lpis_country_seam.specs.private.Testing.{known_faults, tested_kept, tested_row};
+ghost use Rattle.lpis_country_seam.specs.private.Testing.{is_fresh};
+
+use crate::fault::{SeamCode, SeamFault};
+use crate::identifiers::Identifiers;
+use crate::kept::{KeptRow, KeptRows};
+use crate::tiles::{first_reached, reaches_tile};
+use lpis_country_rows::{are_pieces_of, is_same_polygon};
+use lpis_covers::Id;
+use lpis_parcels::{Parcel, Release};
+use lpis_points::Box4;
+use std::alloc::{AllocError, Global};
+
+/// What the next region is tested by: the tiles of all regions, its number, the identifiers of the
+/// parcels so far, and the rows that are kept of them.
+#[derive(Clone, Copy)]
+pub(crate) struct Known<'a> {
+    pub tiles: &'a [Box4],
+    pub n: usize,
+    pub ids: &'a Identifiers,
+    pub kept: &'a KeptRows,
+}
+
+/// The fault of a parcel.
+fn fault_at(code: SeamCode, id: &Id, region: usize) -> Result<SeamFault, AllocError>
+    ensures { IfOk result (λ fault. fault ≡ At code id.now region) }
+{
+    let id = id.copy()?;
+    Ok(SeamFault::At { code, id, region })
+}
+
+/// Whether a kept row is that of a parcel of a region.
+fn is_row_of(row: &KeptRow, release: &Release, parcel: &Parcel) -> bool
+    ensures { result ≡ is_row_of_spec row.now release.now parcel.now }
+{
+    is_same_polygon(&row.parcel.polygon, &parcel.polygon)
+        && are_pieces_of(row.pieces.as_slice(), release, &parcel.id)
+}
+
+/// Tests a parcel that was there by the kept row of its identifier.
+fn check_known(
+    n: usize,
+    row: Option<&KeptRow>,
+    release: &Release,
+    parcel: &Parcel,
+) -> Result<(), SeamFault>
+    ensures { ReportsSeam (known_faults n release.now parcel.now (option_copied row)) result }
+{
+    match row {
+        Some(row) => {
+            if is_row_of(row, release, parcel) {
+                Ok(())
+            } else {
+                Err(fault_at(SeamCode::Differs, &parcel.id, n)?)
+            }
+        }
+        None => Err(fault_at(SeamCode::Reused, &parcel.id, n)?),
+    }
+}
+
+/// Tests a parcel that was not there by the tiles before.
+fn check_fresh(tiles: &[Box4], n: usize, parcel: &Parcel) -> Result<(), SeamFault>
+    requires { n ≤ length tiles.now }
+    ensures { ReportsSeam (fresh_faults tiles.now n parcel.now) result }
+{
+    match first_reached(&tiles[..n], parcel) {
+        Some(region) => Err(fault_at(SeamCode::Lacks, &parcel.id, region)?),
+        None => Ok(()),
+    }
+}
+
+/// Whether a parcel's box meets the tile of a number.
+fn reaches_number(tiles: &[Box4], n: usize, parcel: &Parcel) -> bool
+    ensures { result ≡ reaches_own tiles.now n parcel.now }
+{
+    match tiles.get(n) {
+        Some(tile) => reaches_tile(tile, parcel),
+        None => false,
+    }
+}
+
+/// Whether a parcel is new; or its first fault.
+fn check_row(known: &Known<'_>, release: &Release, parcel: &Parcel) -> Result<bool, SeamFault>
+    requires { known.now.n ≤ length known.now.tiles.now }
+    ensures new { IfOk result (λ new. new ≡ not (has_id known.now.ids.now parcel.now.id)) }
+    ensures reports { ReportsSeam (tested_row known.now.tiles.now known.now.n known.now.ids.now
+        known.now.kept.now release.now parcel.now) result }
+{
+    if !reaches_number(known.tiles, known.n, parcel) {
+        return Err(fault_at(SeamCode::Elsewhere, &parcel.id, known.n)?);
+    }
+    if known.ids.contains(&parcel.id) {
+        check_known(known.n, known.kept.get(&parcel.id), release, parcel)?;
+        Ok(false)
+    } else {
+        check_fresh(known.tiles, known.n, parcel)?;
+        Ok(true)
+    }
+}
+
+/// The places of the new parcels among a region's; or the first fault of its rows.
+pub(crate) fn check_rows(
+    alloc: Global,
+    known: &Known<'_>,
+    release: &Release,
+) -> Result<Vec<usize>, SeamFault>
+    requires { known.now.n ≤ length known.now.tiles.now }
+    ensures places { IfOk result (λ places. map (slice_get release.now.parcels) places.items
+        ≡ map Some (filter (is_fresh known.now.ids.now) release.now.parcels)) }
+    ensures reports { ReportsSeam (flat_map (tested_row known.now.tiles.now known.now.n
+        known.now.ids.now known.now.kept.now release.now) release.now.parcels) result }
+{
+    let parcels = release.parcels();
+    let mut places = Vec::new(alloc);
+    for k in 0..parcels.len() {
+        if check_row(known, release, &parcels[k])? {
+            places.push(k)?;
+        }
+    }
+    Ok(places)
+}
+
+/// Whether a region lacks a parcel whose box meets its tile.
+fn is_lacking(tiles: &[Box4], n: usize, release: &Release, parcel: &Parcel) -> bool
+    ensures { result ≡ lacking tiles.now n release.now parcel.now }
+{
+    reaches_number(tiles, n, parcel) && release.parcel(&parcel.id).is_none()
+}
+
+/// Looks for a kept row that a region lacks.
+pub(crate) fn check_kept(known: &Known<'_>, release: &Release) -> Result<(), SeamFault>
+    ensures { ReportsSeam (tested_kept known.now.tiles.now known.now.n known.now.kept.now
+        release.now) result }
+{
+    for row in known.kept.as_slice() {
+        if is_lacking(known.tiles, known.n, release, &row.parcel) {
+            return Err(fault_at(SeamCode::Lacks, &row.parcel.id, known.n)?);
+        }
+    }
+    Ok(())
+}
