@@ -34,8 +34,8 @@ members a b = (
       ((pointwise_decides (pointwise_decides same_point-equality) a.holes b.holes).1 (ap (λ (m : Member). m.holes) e)),
 )
 
-pub polygons : IsEquality same_polygon
-polygons = pointwise_decides members
+pub same_polygon-tells : IsEquality same_polygon
+same_polygon-tells = pointwise_decides members
 
 piece-equal : (a b : Piece) → a.id ≡ b.id → a.parcel ≡ b.parcel → a.class ≡ b.class → a.polygon ≡ b.polygon → a ≡ b
 piece-equal a b p q r s = λ j. record { id = p j; parcel = q j; class = r j; polygon = s j }
@@ -45,14 +45,14 @@ single a b = (
   λ e. let r = both (same_id a.id b.id) (same_id a.parcel b.parcel && (same_id a.class b.class && same_polygon a.polygon b.polygon)) e in
       let s = both (same_id a.parcel b.parcel) (same_id a.class b.class && same_polygon a.polygon b.polygon) r.1 in
       let t = both (same_id a.class b.class) (same_polygon a.polygon b.polygon) s.1 in
-      piece-equal a b ((bytes_decides a.id b.id).0 r.0) ((bytes_decides a.parcel b.parcel).0 s.0) ((bytes_decides a.class b.class).0 t.0) ((polygons a.polygon b.polygon).0 t.1),
+      piece-equal a b ((bytes_decides a.id b.id).0 r.0) ((bytes_decides a.parcel b.parcel).0 s.0) ((bytes_decides a.class b.class).0 t.0) ((same_polygon-tells a.polygon b.polygon).0 t.1),
   λ e. joined (same_id a.id b.id) (same_id a.parcel b.parcel && (same_id a.class b.class && same_polygon a.polygon b.polygon)) ((bytes_decides a.id b.id).1 (ap (λ (x : Piece). x.id) e))
       (joined (same_id a.parcel b.parcel) (same_id a.class b.class && same_polygon a.polygon b.polygon) ((bytes_decides a.parcel b.parcel).1 (ap (λ (x : Piece). x.parcel) e))
-      (joined (same_id a.class b.class) (same_polygon a.polygon b.polygon) ((bytes_decides a.class b.class).1 (ap (λ (x : Piece). x.class) e)) ((polygons a.polygon b.polygon).1 (ap (λ (x : Piece). x.polygon) e)))),
+      (joined (same_id a.class b.class) (same_polygon a.polygon b.polygon) ((bytes_decides a.class b.class).1 (ap (λ (x : Piece). x.class) e)) ((same_polygon-tells a.polygon b.polygon).1 (ap (λ (x : Piece). x.polygon) e)))),
 )
 
-pub pieces : IsEquality same_pieces
-pieces = pointwise_decides single
+pub same_pieces-tells : IsEquality same_pieces
+same_pieces-tells = pointwise_decides single
 
 abbrev make : (code : List ℕ) (percent : ℕ) → percent ≤ most_percent → Class
 make code percent h = record { code = code; percent = percent; within = h }
@@ -65,8 +65,8 @@ made-equal c d p q e f h k =
 pub class-equal : (a b : Class) → a.code ≡ b.code → a.percent ≡ b.percent → a ≡ b
 class-equal a b p q = made-equal a.code b.code a.percent b.percent p q a.within b.within
 
-pub classes : IsEquality same_class
-classes a b = (
+pub same_class-tells : IsEquality same_class
+same_class-tells a b = (
   λ e. let r = both (same_id a.code b.code) (a.percent == b.percent) e in
       class-equal a b ((bytes_decides a.code b.code).0 r.0) ((unsigned_Decides a.percent b.percent).0 r.1),
   λ e. joined (same_id a.code b.code) (a.percent == b.percent) ((bytes_decides a.code b.code).1 (ap (λ (x : Class). x.code) e))

@@ -1,1 +1,2 @@
-mod EqualityLemmas
+pub mod EqualityLemmas
+pub mod Shared

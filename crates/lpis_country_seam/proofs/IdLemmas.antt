@@ -62,7 +62,7 @@ in_cond false q k fs = refl
 
 not_not : (b : Bool) → not b ≡ false → b ≡ true
 not_not true e = refl
-not_not false e = e
+not_not false e = sym e
 
 ids_fresh : (u : Contents) (q : List ℕ) (ps : List Parcel) → (has_id (parcel_ids u.parcels) q || has_id (parcel_ids (filter (λ (k : Parcel). is_new u k.id) ps)) q) ≡ (has_id (parcel_ids u.parcels) q || has_id (parcel_ids ps) q)
 ids_fresh u q [] = refl

@@ -1,8 +1,8 @@
 -- The rows that are kept after one region more.
-use Rattle.std.proofs.Common.{◌≡◌, ℕ, suc, ◌+◌, Bool, true, false, not, cond, ◌++◌, List, [], ◌∷◌, map, filter, flat_map, drop, Option, None, Some, All, refl, ap, ap₂, sym, ◌∙◌, subst, append-nil, append_assoc, true≢false}
+use Rattle.std.proofs.Common.{◌≡◌, ℕ, suc, ◌+◌, ◌<◌, length, get_or, Bool, true, false, not, cond, ◌++◌, List, [], ◌∷◌, map, filter, flat_map, drop, Option, None, Some, All, refl, ap, ap₂, sym, ◌∙◌, subst, append-nil, append_assoc, true≢false}
 use Rattle.std.specs.List.{IsDistinct, list_any, slice_get}
 use Rattle.std.specs.Option.{option_to_list}
-use Rattle.std.proofs.lemmas.List.{map-append}
+use Rattle.std.proofs.lemmas.List.{drop_more, map-append}
 use Rattle.std.proofs.lemmas.List.Elements.{All-head, All-tail, All-weaker, filter-append}
 use Rattle.std.proofs.lemmas.Map.Keys.{IsDistinct-head, IsDistinct-tail, IsDistinct-cons}
 use Rattle.lpis_points.specs.declared.boxes.Box4.{Box4}
@@ -11,15 +11,16 @@ use Rattle.lpis_covers.specs.Ids.{has_id, same_id}
 use Rattle.lpis_parcels.specs.declared.parcel.Parcel.{Parcel}
 use Rattle.lpis_parcels.specs.Release.{Contents, parcel_ids, pieces_named}
 use Rattle.lpis_country.specs.Country.{new_parcels, with_region}
+use Rattle.lpis_country.specs.Tiling.{reaches}
 use Rattle.lpis_country_seam.specs.declared.kept.KeptRow.{KeptRow}
 use Rattle.lpis_country_seam.specs.Faults.{reaches_later}
 use Rattle.lpis_country_seam.specs.Open.{awaited_rows}
-use Rattle.lpis_country_seam.specs.private.Kept.{at_places, new_rows, row_ids, row_in, rows_reaching, with_row, with_rows}
+use Rattle.lpis_country_seam.specs.private.Kept.{at_places, new_rows, row_ids, row_in, rows_reaching, with_kept_row, with_rows}
 use Rattle.lpis_country_seam.proofs.ListLemmas.{apart-before, distinct-filter}
 use Rattle.lpis_country_seam.proofs.TileLemmas.{next-later}
 
 -- ---- rows that are added one after the other
-with-row : (rows : List KeptRow) (o : KeptRow) → has_id (row_ids rows) o.parcel.id ≡ false → with_row rows o ≡ rows ++ o ∷ []
+with-row : (rows : List KeptRow) (o : KeptRow) → has_id (row_ids rows) o.parcel.id ≡ false → with_kept_row rows o ≡ rows ++ o ∷ []
 with-row rows o e = ap (λ (b : Bool). cond b rows (rows ++ o ∷ [])) e
 
 -- where no identifier stands twice they all stand behind
@@ -49,6 +50,9 @@ still-rows tiles n u (p ∷ ps) = by (reaches_later tiles n p) (reaches_later ti
     by false false e f h = h
 
 -- ---- rows in two releases
+abbrev made : Parcel → List Piece → KeptRow
+made k xs = record { parcel = k; pieces = xs }
+
 pub mapped-alike : (f g : Parcel → KeptRow) (q : Parcel → Bool) (ps : List Parcel) → All (λ (k : Parcel). f k ≡ g k) ps → map f (filter q ps) ≡ map g (filter q ps)
 mapped-alike f g q [] a = refl
 mapped-alike f g q (p ∷ ps) a = by (q p) (mapped-alike f g q ps (All-tail (λ (k : Parcel). f k ≡ g k) p ps a))
@@ -66,8 +70,8 @@ awaited-next tiles n u r old new =
     ∙ ap₂ ◌++◌ (mapped-alike (row_in (with_region u r)) (row_in u) (reaches_later tiles n) u.parcels (All-weaker (λ (k : Parcel). pieces_named (with_region u r) k.id ≡ pieces_named u k.id) (λ (k : Parcel). row_in (with_region u r) k ≡ row_in u k) (λ k e. same-row k e) u.parcels old))
     (mapped-alike (row_in (with_region u r)) (row_in r) (reaches_later tiles n) (new_parcels u r) (All-weaker (λ (k : Parcel). pieces_named (with_region u r) k.id ≡ pieces_named r k.id) (λ (k : Parcel). row_in (with_region u r) k ≡ row_in r k) (λ k e. same-row k e) (new_parcels u r) new))
   where
-    same-row : (k : Parcel) {xs ys : List Piece} → xs ≡ ys → record { parcel = k; pieces = xs } ≡ record { parcel = k; pieces = ys }
-    same-row k e = λ j. record { parcel = k; pieces = e j }
+    same-row : (k : Parcel) {xs ys : List Piece} → xs ≡ ys → made k xs ≡ made k ys
+    same-row k e = ap (made k) e
 
 ids-of-rows : (u : Contents) (ps : List Parcel) → row_ids (map (row_in u) ps) ≡ parcel_ids ps
 ids-of-rows u [] = refl
@@ -92,6 +96,23 @@ kept-next tiles n u r kept next news du dv old new k w e =
     more = new_rows (drop (suc n) tiles) r (new_parcels u r)
 
 -- ---- places
+with-rows-append : (rows xs ys : List KeptRow) → with_rows rows (xs ++ ys) ≡ with_rows (with_rows rows xs) ys
+with-rows-append rows [] ys = refl
+with-rows-append rows (x ∷ xs) ys = with-rows-append (with_kept_row rows x) xs ys
+
+new-rows-append : (tiles : List Box4) (r : Contents) (ks ls : List Parcel) → new_rows tiles r (ks ++ ls) ≡ new_rows tiles r ks ++ new_rows tiles r ls
+new-rows-append tiles r ks ls = ap (map (row_in r)) (filter-append (λ (k : Parcel). list_any (reaches k) tiles) ks ls) ∙ map-append (row_in r) (filter (λ (k : Parcel). list_any (reaches k) tiles) ks) (filter (λ (k : Parcel). list_any (reaches k) tiles) ls)
+
+-- one place more
+pub place-more : (tiles : List Box4) (r : Contents) (kept rows more : List KeptRow) (places : List ℕ) (i p : ℕ) → i < length places → p ≡ get_or places i p → more ≡ with_rows rows (new_rows tiles r (option_to_list (slice_get r.parcels p)))
+    → with_rows kept (new_rows tiles r (at_places r.parcels places)) ≡ with_rows rows (new_rows tiles r (at_places r.parcels (drop i places)))
+    → with_rows kept (new_rows tiles r (at_places r.parcels places)) ≡ with_rows more (new_rows tiles r (at_places r.parcels (drop (i + 1) places)))
+place-more tiles r kept rows more places i p l e m h =
+    h ∙ ap (λ (is : List ℕ). with_rows rows (new_rows tiles r (at_places r.parcels is))) (drop_more places i p l ∙ ap (λ (x : ℕ). x ∷ drop (i + 1) places) (sym e))
+    ∙ ap (with_rows rows) (new-rows-append tiles r (option_to_list (slice_get r.parcels p)) (at_places r.parcels (drop (i + 1) places)))
+    ∙ with-rows-append rows (new_rows tiles r (option_to_list (slice_get r.parcels p))) (new_rows tiles r (at_places r.parcels (drop (i + 1) places)))
+    ∙ ap (λ (xs : List KeptRow). with_rows xs (new_rows tiles r (at_places r.parcels (drop (i + 1) places)))) (sym m)
+
 pub placed : (ps : List Parcel) (places : List ℕ) (ks : List Parcel) → map (slice_get ps) places ≡ map Some ks → at_places ps places ≡ ks
 placed ps places ks e = items places ∙ ap (flat_map option_to_list) e ∙ back ks
   where

@@ -3,3 +3,7 @@ mod TileLemmas
 mod TestLemmas
 mod KeepLemmas
 mod IdLemmas
+mod ReportLemmas
+mod FindLemmas
+mod SeamLemmas
+mod JoinedLemmas

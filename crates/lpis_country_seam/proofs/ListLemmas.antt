@@ -57,14 +57,14 @@ found-there id [] k e = absurd (nothing e)
   where
     nothing : None {A = Parcel} ≡ Some k → ⊥
     nothing h = cc
-found-there id (p ∷ ps) k e = by (same_id id p.id) refl e
+found-there id (p ∷ ps) k e = by (same_id id p.id) refl e (found-there id ps k)
   where
-    by : (b : Bool) → same_id id p.id ≡ b → cond b (Some p) (find (is_of id) ps) ≡ Some k → IsFound id (p ∷ ps) k
-    by true s h = subst (IsFound id (p ∷ ps)) (some-same p k h) (record { before = []; after = ps; at = refl; own = sym ((bytes_decides id p.id).0 s) })
+    by : (b : Bool) → same_id id p.id ≡ b → cond b (Some p) (find (is_of id) ps) ≡ Some k → (find (is_of id) ps ≡ Some k → IsFound id ps k) → IsFound id (p ∷ ps) k
+    by true s h g = subst (IsFound id (p ∷ ps)) (some-same p k h) (record { before = []; after = ps; at = refl; own = sym ((bytes_decides id p.id).0 s) })
       where
         some-same : (a b : Parcel) → Some a ≡ Some b → a ≡ b
         some-same a b h = cc
-    by false s h = let f = found-there id ps k h in record { before = p ∷ f.before; after = f.after; at = ap (λ (qs : List Parcel). p ∷ qs) f.at; own = f.own }
+    by false s h g = let f = g h in record { before = p ∷ f.before; after = f.after; at = ap (λ (qs : List Parcel). p ∷ qs) f.at; own = f.own }
 
 -- an identifier that stands after others that all differ is none of them
 pub apart-before : (xs : List (List ℕ)) (y : List ℕ) (ys : List (List ℕ)) → IsDistinct same_id (xs ++ y ∷ ys) → has_id xs y ≡ false
@@ -100,15 +100,15 @@ nil-left [] ys e = refl
 nil-left (x ∷ xs) ys e = absurd (cons-nil x (xs ++ ys) e)
 
 pub nil-right : {A : Type 0} (xs ys : List A) → xs ++ ys ≡ [] → ys ≡ []
-nil-right xs ys e = sym (ap (λ (zs : List A). zs ++ ys) (nil-left xs ys e)) ∙ e
+nil-right {A} xs ys e = sym (ap (λ (zs : List A). zs ++ ys) (nil-left xs ys e)) ∙ e
 
 -- the first of a list
 pub head-is : {A : Type 0} (xs : List A) (x : A) → slice_get xs 0 ≡ Some x → (more : List A) × (xs ≡ x ∷ more)
-head-is [] x e = absurd (no-item e)
+head-is {A} [] x e = absurd (no-item e)
   where
     no-item : None {A = A} ≡ Some x → ⊥
     no-item h = cc
-head-is (y ∷ ys) x e = (ys, ap (λ (z : A). z ∷ ys) (same-item e))
+head-is {A} (y ∷ ys) x e = (ys, ap (λ (z : A). z ∷ ys) (same-item e))
   where
     same-item : Some y ≡ Some x → y ≡ x
     same-item h = cc

@@ -24,7 +24,8 @@ own-later k (t ∷ ts) (suc n) e = own-later k ts n e
 
 -- a tile from the number after it on is one from it on
 pub next-later : (k : Parcel) (tiles : List Box4) (n : ℕ) → reaches_later tiles (suc n) k ≡ true → reaches_later tiles n k ≡ true
-next-later k [] n e = e
+next-later k [] zero e = e
+next-later k [] (suc n) e = e
 next-later k (t ∷ ts) zero e = or-right (reaches k t) (list_any (reaches k) ts) e
 next-later k (t ∷ ts) (suc n) e = next-later k ts n e
 
@@ -39,8 +40,8 @@ reached-here k tiles i t rest e f = ap (λ (ts : List Box4). slice_get (reached 
 -- none is met where the list is empty
 pub none-reached : (k : Parcel) (tiles : List Box4) (i : ℕ) → reached i tiles k ≡ [] → All (λ (t : Box4). reaches k t ≡ false) tiles
 none-reached k [] i e = All-nil (λ (t : Box4). reaches k t ≡ false)
-none-reached k (t ∷ ts) i e = by (reaches k t) refl e
+none-reached k (t ∷ ts) i e = by (reaches k t) refl e (none-reached k ts (i + 1))
   where
-    by : (b : Bool) → reaches k t ≡ b → cond b (i ∷ reached (i + 1) ts k) (reached (i + 1) ts k) ≡ [] → All (λ (u : Box4). reaches k u ≡ false) (t ∷ ts)
-    by true f h = absurd (cons-nil i (reached (i + 1) ts k) h)
-    by false f h = All-cons (λ (u : Box4). reaches k u ≡ false) t ts f (none-reached k ts (i + 1) h)
+    by : (b : Bool) → reaches k t ≡ b → cond b (i ∷ reached (i + 1) ts k) (reached (i + 1) ts k) ≡ [] → (reached (i + 1) ts k ≡ [] → All (λ (u : Box4). reaches k u ≡ false) ts) → All (λ (u : Box4). reaches k u ≡ false) (t ∷ ts)
+    by true f h r = absurd (cons-nil i (reached (i + 1) ts k) h)
+    by false f h r = All-cons (λ (u : Box4). reaches k u ≡ false) t ts f (r h)

@@ -23,12 +23,12 @@ seam_fault_if b fault = cond b (fault ∷ []) []
 -- ---- classes
 -- each row, from this one on, at which two tables differ; where one is the beginning of the other,
 -- the row after it
-abbrev pub class_faults : ℕ → List Class → List Class → List SeamFault
-class_faults n [] [] = []
-class_faults n [] (b ∷ bs) = Classes n ∷ []
-class_faults n (a ∷ more) [] = Classes n ∷ []
-class_faults n (a ∷ more) (b ∷ bs) = seam_fault_if (not (same_class a b)) (Classes n)
-    ++ class_faults (n + 1) more bs
+abbrev pub seam_class_faults : ℕ → List Class → List Class → List SeamFault
+seam_class_faults n [] [] = []
+seam_class_faults n [] (b ∷ bs) = Classes n ∷ []
+seam_class_faults n (a ∷ more) [] = Classes n ∷ []
+seam_class_faults n (a ∷ more) (b ∷ bs) = seam_fault_if (not (same_class a b)) (Classes n)
+    ++ seam_class_faults (n + 1) more bs
 
 -- ---- tiles
 -- the parcel's box meets this tile, if there is one
@@ -81,7 +81,7 @@ abbrev pub seam_faults : List Box4 → List Class → List Contents → Contents
 seam_faults tiles classes done r =
     let n = length done in
     let country = country_of classes done in
-    class_faults 1 r.classes classes
+    seam_class_faults 1 r.classes classes
     ++ (flat_map (parcel_row_faults tiles n country r) r.parcels
     ++ map (λ (k : Parcel). At Lacks k.id n) (filter (is_lacking tiles n r) country.parcels))
 

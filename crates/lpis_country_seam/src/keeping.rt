@@ -1,6 +1,6 @@
 //! What is kept of a region that fits.
 
-ghost use Rattle.std.specs.Prelude.{◌≡◌, ◌||◌, [], ℕ, List, IfOk, OnOk};
+ghost use Rattle.std.specs.Prelude.{◌≡◌, ◌||◌, [], ℕ, List, IfOk, OnOk, option_to_list, slice_get};
 ghost use Rattle.lpis_covers.specs.Ids.{has_id};
 ghost use Rattle.lpis_parcels.specs.Release.{parcel_ids};
 ghost use Rattle.lpis_country_seam.specs.private.Kept.{at_places, new_rows, rows_reaching, with_rows};
@@ -29,6 +29,30 @@ pub(crate) fn still_kept(
     Ok(rows)
 }
 
+/// The rows with that of the parcel of a region at a place, if it reaches one of these tiles.
+fn with_place(
+    alloc: Global,
+    tiles: &[Box4],
+    release: &Release,
+    place: usize,
+    rows: KeptRows,
+) -> Result<KeptRows, AllocError>
+    ensures { IfOk result (λ more. more ≡ with_rows rows (new_rows tiles.now release.now
+        (option_to_list (slice_get release.now.parcels place)))) }
+{
+    match release.parcels().get(place) {
+        Some(parcel) => {
+            if reaches_any(tiles, parcel) {
+                let row = KeptRow::of(alloc, release, parcel)?;
+                rows.with(row)
+            } else {
+                Ok(rows)
+            }
+        }
+        None => Ok(rows),
+    }
+}
+
 /// The rows with those parcels of a region at these places that reach one of these tiles.
 pub(crate) fn with_new(
     alloc: Global,
@@ -40,15 +64,9 @@ pub(crate) fn with_new(
     ensures { IfOk result (λ rows. rows ≡ with_rows kept
         (new_rows tiles.now release.now (at_places release.now.parcels places.now))) }
 {
-    let parcels = release.parcels();
     let mut rows = kept;
     for place in places {
-        if let Some(parcel) = parcels.get(*place) {
-            if reaches_any(tiles, parcel) {
-                let row = KeptRow::of(alloc, release, parcel)?;
-                rows = rows.with(row)?;
-            }
-        }
+        rows = with_place(alloc, tiles, release, *place, rows)?;
     }
     Ok(rows)
 }

@@ -3,7 +3,7 @@
 ghost use Rattle.std.specs.Prelude.{◌≡◌, [], IfOk, OnOk};
 ghost use Rattle.std.specs.Option.{option_copied};
 ghost use Rattle.lpis_parcels.specs.Release.{pieces_named};
-ghost use Rattle.lpis_country_seam.specs.private.Kept.{row_in, with_row};
+ghost use Rattle.lpis_country_seam.specs.private.Kept.{row_in, with_kept_row};
 ghost use Rattle.lpis_country_seam.specs.private.Testing.{row_named};
 
 use indexmap::IndexSet;
@@ -96,7 +96,7 @@ impl KeptRows {
 
     /// The rows with one more at their end, unless one of its identifier is there.
     pub(crate) fn with(self, row: KeptRow) -> Result<KeptRows, AllocError>
-        ensures { IfOk result (λ rows. rows ≡ with_row self row) }
+        ensures { IfOk result (λ rows. rows ≡ with_kept_row self row) }
     {
         let KeptRows { mut rows, mut keys } = self;
         if keys.insert(row.parcel.id.copy()?)? {

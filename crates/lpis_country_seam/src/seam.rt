@@ -65,10 +65,17 @@ impl OpenSeam {
             ids: &self.ids,
             kept: &self.kept,
         };
-        check_classes(release.classes(), self.classes.as_slice())?;
-        let places = check_rows(alloc, &known, release)?;
-        check_kept(&known, release)?;
-        Ok(places)
+        if let Err(fault) = check_classes(release.classes(), self.classes.as_slice()) {
+            return Err(fault);
+        }
+        let places = match check_rows(alloc, &known, release) {
+            Ok(places) => places,
+            Err(fault) => return Err(fault),
+        };
+        match check_kept(&known, release) {
+            Ok(()) => Ok(places),
+            Err(fault) => Err(fault),
+        }
     }
 
     /// Keeps what later regions need of one more, whose new parcels have these places.
@@ -103,7 +110,10 @@ impl OpenSeam {
             ≡ map Some (new_parcels (country_of classes done) release.now)) }
     {
         is_region(release);
-        let places = self.check(alloc, release)?;
+        let places = match self.check(alloc, release) {
+            Ok(places) => places,
+            Err(fault) => return Err(fault),
+        };
         self.keep(alloc, release, places.as_slice())?;
         Ok(places)
     }

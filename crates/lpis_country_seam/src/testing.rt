@@ -1,13 +1,13 @@
 //! The tests of the next region.
 
+ghost use Rattle.std.specs.Prelude.{◌++◌, ◌∷◌, [], OnOk, cond};
 ghost use Rattle.std.specs.Prelude.{◌≡◌, ◌≤◌, not, IfOk, filter, flat_map, length, map, Some, slice_get};
-ghost use Rattle.std.specs.Option.{option_copied};
 ghost use Rattle.lpis_covers.specs.Ids.{has_id};
 ghost use Rattle.lpis_country_seam.specs.declared.fault.SeamFault.TheVariants.{At};
 ghost use Rattle.lpis_country_seam.specs.Faults.{ReportsSeam, is_lacking as lacking, reaches_own};
-ghost use Rattle.lpis_country_seam.specs.private.Testing.{fresh_faults, is_row_of as row_is_of};
+ghost use Rattle.lpis_country_seam.specs.private.Testing.{fresh_faults, is_kept_row_of};
 ghost use Rattle.lpis_country_seam.specs.private.Testing.{known_faults, tested_kept, tested_row};
-ghost use Rattle.lpis_country_seam.specs.private.Testing.{is_fresh};
+ghost use Rattle.lpis_country_seam.specs.private.Testing.{is_fresh, row_named};
 
 use crate::fault::{SeamCode, SeamFault};
 use crate::identifiers::Identifiers;
@@ -39,7 +39,7 @@ fn fault_at(code: SeamCode, id: &Id, region: usize) -> Result<SeamFault, AllocEr
 
 /// Whether a kept row is that of a parcel of a region.
 fn is_row_of(row: &KeptRow, release: &Release, parcel: &Parcel) -> bool
-    ensures { result ≡ is_row_of_spec row.now release.now parcel.now }
+    ensures { result ≡ is_kept_row_of row.now release.now parcel.now }
 {
     is_same_polygon(&row.parcel.polygon, &parcel.polygon)
         && are_pieces_of(row.pieces.as_slice(), release, &parcel.id)
@@ -47,14 +47,15 @@ fn is_row_of(row: &KeptRow, release: &Release, parcel: &Parcel) -> bool
 
 /// Tests a parcel that was there by the kept row of its identifier.
 fn check_known(
+    kept: &KeptRows,
     n: usize,
-    row: Option<&KeptRow>,
     release: &Release,
     parcel: &Parcel,
 ) -> Result<(), SeamFault>
-    ensures { ReportsSeam (known_faults n release.now parcel.now (option_copied row)) result }
+    ensures { ReportsSeam
+        (known_faults n release.now parcel.now (row_named kept.now parcel.now.id)) result }
 {
-    match row {
+    match kept.get(&parcel.id) {
         Some(row) => {
             if is_row_of(row, release, parcel) {
                 Ok(())
@@ -98,12 +99,23 @@ fn check_row(known: &Known<'_>, release: &Release, parcel: &Parcel) -> Result<bo
         return Err(fault_at(SeamCode::Elsewhere, &parcel.id, known.n)?);
     }
     if known.ids.contains(&parcel.id) {
-        check_known(known.n, known.kept.get(&parcel.id), release, parcel)?;
+        check_known(known.kept, known.n, release, parcel)?;
         Ok(false)
     } else {
         check_fresh(known.tiles, known.n, parcel)?;
         Ok(true)
     }
+}
+
+/// Adds a place, if its parcel is new.
+fn add_if(places: &mut Vec<usize>, new: bool, k: usize) -> Result<(), AllocError>
+    ensures { OnOk result (places.new.items ≡ cond new (places.old.items ++ k ∷ [])
+        places.old.items) }
+{
+    if new {
+        places.push(k)?;
+    }
+    Ok(())
 }
 
 /// The places of the new parcels among a region's; or the first fault of its rows.
@@ -121,8 +133,9 @@ pub(crate) fn check_rows(
     let parcels = release.parcels();
     let mut places = Vec::new(alloc);
     for k in 0..parcels.len() {
-        if check_row(known, release, &parcels[k])? {
-            places.push(k)?;
+        match check_row(known, release, &parcels[k]) {
+            Ok(new) => add_if(&mut places, new, k)?,
+            Err(fault) => return Err(fault),
         }
     }
     Ok(places)

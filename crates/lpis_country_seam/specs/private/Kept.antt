@@ -17,13 +17,13 @@ abbrev pub row_in : Contents → Parcel → KeptRow
 row_in r k = record { parcel = k; pieces = pieces_named r k.id }
 
 -- the rows with one more, unless one of its identifier is there
-abbrev pub with_row : List KeptRow → KeptRow → List KeptRow
-with_row rows o = cond (has_id (row_ids rows) o.parcel.id) rows (rows ++ o ∷ [])
+abbrev pub with_kept_row : List KeptRow → KeptRow → List KeptRow
+with_kept_row rows o = cond (has_id (row_ids rows) o.parcel.id) rows (rows ++ o ∷ [])
 
 -- the same of several, one after the other
 abbrev pub with_rows : List KeptRow → List KeptRow → List KeptRow
 with_rows rows [] = rows
-with_rows rows (o ∷ os) = with_rows (with_row rows o) os
+with_rows rows (o ∷ os) = with_rows (with_kept_row rows o) os
 
 -- the rows of parcels whose boxes meet one of these tiles
 abbrev pub rows_reaching : List Box4 → List KeptRow → List KeptRow

@@ -4,14 +4,14 @@ use Rattle.lpis_covers.specs.Ids.{has_id}
 use Rattle.lpis_parcels.specs.Release.{Contents, parcel_ids}
 use Rattle.lpis_country_seam.specs.declared.fault.SeamFault.{SeamFault}
 use Rattle.lpis_country_seam.specs.declared.seam.OpenSeam.{OpenSeam}
-use Rattle.lpis_country_seam.specs.Faults.{class_faults}
+use Rattle.lpis_country_seam.specs.Faults.{seam_class_faults}
 use Rattle.lpis_country_seam.specs.private.Kept.{at_places, new_rows, rows_reaching, with_rows}
 use Rattle.lpis_country_seam.specs.private.Testing.{tested_kept, tested_row}
 
 -- the faults of a region
 abbrev pub tested : OpenSeam → Contents → List SeamFault
 tested s r =
-    class_faults 1 r.classes s.classes.items
+    seam_class_faults 1 r.classes s.classes.items
     ++ (flat_map (tested_row s.tiles.items s.next s.ids s.kept r) r.parcels
     ++ tested_kept s.tiles.items s.next s.kept r)
 

@@ -16,8 +16,8 @@ use Rattle.lpis_country_seam.specs.declared.fault.SeamFault.TheVariants.{At}
 use Rattle.lpis_country_seam.specs.Faults.{is_lacking, reached, reaches_own, seam_fault_if}
 
 -- the kept row is that of the parcel of a region
-abbrev pub is_row_of : KeptRow → Contents → Parcel → Bool
-is_row_of o r k = same_polygon o.parcel.polygon k.polygon
+abbrev pub is_kept_row_of : KeptRow → Contents → Parcel → Bool
+is_kept_row_of o r k = same_polygon o.parcel.polygon k.polygon
     && same_pieces o.pieces (pieces_named r k.id)
 
 -- the kept row of an identifier
@@ -26,7 +26,7 @@ row_named kept id = find (λ (o : KeptRow). same_id id o.parcel.id) kept
 
 -- a parcel that was there, by the kept row of its identifier
 abbrev pub known_faults : ℕ → Contents → Parcel → Option KeptRow → List SeamFault
-known_faults n r k (Some o) = seam_fault_if (not (is_row_of o r k)) (At Differs k.id n)
+known_faults n r k (Some o) = seam_fault_if (not (is_kept_row_of o r k)) (At Differs k.id n)
 known_faults n r k None = At Reused k.id n ∷ []
 
 -- a parcel that was not
