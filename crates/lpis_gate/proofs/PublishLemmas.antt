@@ -115,7 +115,8 @@ published-of x year r c rows h s k t said sound good added =
     let live = parcel_ids r.parcels in
     let follows = follows-from-clean h live rows added.clean in
     record {
-      proved = record { release = r; tables = said.tables; sound = sound; certificate = c; text = said.text; good = good };
+      release = r;
+      proved = record { tables = said.tables; sound = sound; certificate = c; text = said.text; good = good };
       rows = rows;
       lineage = said.lineage;
       later = added.later;

@@ -21,7 +21,7 @@ use Rattle.lpis_exact_lineage.specs.Shapes.{shape_named, shapes_in}
 use Rattle.lpis_register.specs.Faults.{IsFailure, IsRefused}
 use Rattle.lpis_register.specs.Publishing.{Follows}
 use Rattle.lpis_register.specs.declared.fault.PublishFault.{PublishFault}
-use Rattle.lpis_commands.specs.CheckAnswer.{Answer, IsCheckAnswer, IsProved}
+use Rattle.lpis_commands.specs.CheckAnswer.{Answer, IsCheckAnswer, IsProvedOf}
 use Rattle.lpis_commands.specs.Failures.{IsUnpublished}
 use Rattle.lpis_commands.specs.declared.failure.Failure.{Failure}
 use Rattle.lpis_commands.specs.declared.failure.Failure.TheVariants.{Store, Write}
@@ -69,29 +69,30 @@ IsContinued live rows id =
 pub record IsPublished (x : Submission) (year : ℕ) (h : List Entry) (s : List Shape)
     (k : List Entry) (t : List Shape) : Type 0 where
   -- it is a sound map, and its certificate is good
-  pub proved : IsProved x.checked
+  pub release : Contents
+  pub proved : IsProvedOf x.checked release
   pub rows : List Row
   pub lineage : rows_of lineage_table x.lineage ≡ Ok rows
   -- the history is the one before with the release at its end; it is lawful and its rows fit, and
   -- the shapes are those of the release's parcels
   pub later : last_year h < year
-  pub follows : Follows h year proved.release.parcels rows k t
+  pub follows : Follows h year release.parcels rows k t
   -- each of these turns once at most: what the next merges rest on
   pub once : ShapesTurnOnce (shape_named t)
   -- exact splits and merges are exact, by the shapes that were kept before
-  pub exact : IsExactLineage (kinds_from h proved.release rows) rows (shape_named s)
-      (shape_named (shapes_in proved.release))
+  pub exact : IsExactLineage (kinds_from h release rows) rows (shape_named s)
+      (shape_named (shapes_in release))
   -- each identifier of the last release that is dropped has successors of this release or a written
   -- ending
   pub continued : (id : List ℕ) → has_id (last_live h) id ≡ true
-      → has_id (parcel_ids proved.release.parcels) id ≡ false
-      → IsContinued (parcel_ids proved.release.parcels) rows id
+      → has_id (parcel_ids release.parcels) id ≡ false
+      → IsContinued (parcel_ids release.parcels) rows id
   -- no parcel bears an identifier that an earlier release had and the last one had not
-  pub unused : (id : List ℕ) (i : ℕ) → has_id (parcel_ids proved.release.parcels) id ≡ true
+  pub unused : (id : List ℕ) (i : ℕ) → has_id (parcel_ids release.parcels) id ≡ true
       → holds h i id ≡ true
       → has_id (last_live h) id ≡ true
   -- dropped identifiers are reported ascending by bytes
-  pub ascend : IsAscending (dropped (last_live h) (parcel_ids proved.release.parcels))
+  pub ascend : IsAscending (dropped (last_live h) (parcel_ids release.parcels))
 
 -- with the status `done` the release was published, with every other one the history and the shapes
 -- are those before

@@ -1,0 +1,43 @@
+//! The folders of a country's regions, as files.
+
+use crate::open;
+use lpis_commands::{Failure, region_files};
+use lpis_country_run::{Folder, Regions};
+use std::fs::File;
+
+/// The folder of a country, in which each region has one.
+#[derive(Drop)]
+pub(crate) struct Folders<'a> {
+    rt: &'a HostRuntime,
+    dir: &'a str,
+}
+
+impl<'a> Folders<'a> {
+    /// The folder at a path.
+    pub(crate) fn new(rt: &'a HostRuntime, dir: &'a str) -> Folders<'a> {
+        Folders { rt, dir }
+    }
+}
+
+impl Regions for Folders<'_> {
+    ghost use Rattle.std.specs.Prelude.{None};
+
+    type File = File;
+
+    // Nothing is known of the bytes of files.
+    ghost texts = { λ _ _. record { parcels = None; covers = None; classes = None; cert = None } };
+
+    fn open(&self, name: &str) -> Result<Folder<File>, Failure> {
+        let files = region_files(self.rt.alloc(), self.dir, name)?;
+        let parcels = open(self.rt, &files.tables.parcels)?;
+        let covers = open(self.rt, &files.tables.covers)?;
+        let classes = open(self.rt, &files.tables.classes)?;
+        let cert = open(self.rt, &files.cert)?;
+        Ok(Folder {
+            parcels,
+            covers,
+            classes,
+            cert,
+        })
+    }
+}
