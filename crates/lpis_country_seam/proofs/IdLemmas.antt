@@ -1,5 +1,5 @@
 -- Identifiers that are added one after the other.
-use Rattle.std.proofs.Common.{◌≡◌, ℕ, ◌+◌, ◌<◌, ◌≤◌, List, [], ◌∷◌, ◌++◌, length, drop, get_or, Bool, not, ◌||◌, cond, true, false, filter, refl, ap, sym, ◌∙◌, subst, true≢false, is_eq, nat_cmp}
+use Rattle.std.proofs.Common.{◌≡◌, ℕ, ◌+◌, ◌<◌, ◌≤◌, List, [], ◌∷◌, length, drop, get_or, Bool, not, ◌||◌, cond, true, false, filter, refl, ap, sym, ◌∙◌, true≢false, is_eq, nat_cmp}
 use Rattle.std.specs.List.{list_any}
 use Rattle.std.specs.Cmp.Lexicographic.{bytes_decides, slice_cmp, texts_ties}
 use Rattle.std.proofs.lemmas.List.{drop_all, drop_more, map-append}

@@ -20,7 +20,7 @@ use Rattle.lpis_country_rows.specs.Equality.{same_pieces, same_polygon, TestsTel
 use Rattle.lpis_country_seam.specs.declared.fault.SeamFault.{SeamFault}
 use Rattle.lpis_country_seam.specs.declared.fault.SeamFault.TheVariants.{At}
 use Rattle.lpis_country_seam.specs.declared.fault.SeamCode.TheVariants.{Differs, Elsewhere, Lacks, Reused}
-use Rattle.lpis_country_seam.specs.Faults.{seam_class_faults, earlier_faults, is_double, is_lacking, parcel_row_faults, reached, reaches_at, reaches_later, reaches_own, seam_fault_if, seam_faults}
+use Rattle.lpis_country_seam.specs.Faults.{seam_class_faults, earlier_faults, is_double, is_lacking, seam_row_faults, reached, reaches_at, reaches_later, reaches_own, seam_fault_if, seam_faults}
 use Rattle.lpis_country_seam.specs.Open.{AreJoined}
 
 -- ---- empty lists
@@ -116,17 +116,17 @@ row_same tell tiles n u r k m e h i = by (reaches_later tiles n m) refl e
         }
 
 -- ---- a region without a fault
-row_faultless : (tiles : List Box4) (n : ℕ) (u r : Contents) (k : Parcel) → parcel_row_faults tiles n u r k ≡ [] → earlier_faults tiles n u r k (parcel_named u k.id) ≡ []
+row_faultless : (tiles : List Box4) (n : ℕ) (u r : Contents) (k : Parcel) → seam_row_faults tiles n u r k ≡ [] → earlier_faults tiles n u r k (parcel_named u k.id) ≡ []
 row_faultless tiles n u r k e = second_nil (seam_fault_if (not (reaches_own tiles n k)) (At Elsewhere k.id n)) (earlier_faults tiles n u r k (parcel_named u k.id)) e
 
-same_one : TestsTellEqualRows → (tiles : List Box4) (n : ℕ) (u r : Contents) (k : Parcel) → parcel_row_faults tiles n u r k ≡ [] → is_new u k.id ≡ false → IsDouble u r k
+same_one : TestsTellEqualRows → (tiles : List Box4) (n : ℕ) (u r : Contents) (k : Parcel) → seam_row_faults tiles n u r k ≡ [] → is_new u k.id ≡ false → IsDouble u r k
 same_one tell tiles n u r k e o = by (parcel_named u k.id) refl (row_faultless tiles n u r k e)
   where
     by : (w : Option Parcel) → parcel_named u k.id ≡ w → earlier_faults tiles n u r k w ≡ [] → IsDouble u r k
     by None f g = absurd (clash (has_id (parcel_ids u.parcels) k.id) (untrue (has_id (parcel_ids u.parcels) k.id) o) (not_found u.parcels k.id f))
     by (Some m) f g = let h = found u.parcels k.id m f in row_same tell tiles n u r k m g h.0 h.1
 
-late_one : (tiles : List Box4) (n : ℕ) (u r : Contents) (k : Parcel) → parcel_row_faults tiles n u r k ≡ [] → IsLate tiles n u k
+late_one : (tiles : List Box4) (n : ℕ) (u r : Contents) (k : Parcel) → seam_row_faults tiles n u r k ≡ [] → IsLate tiles n u k
 late_one tiles n u r k e o = by (parcel_named u k.id) refl (row_faultless tiles n u r k e)
   where
     by : (w : Option Parcel) → parcel_named u k.id ≡ w → earlier_faults tiles n u r k w ≡ [] → All (λ (t : Box4). reaches k t ≡ false) (take n tiles)
@@ -147,7 +147,7 @@ fits tell tiles classes done r e = record {
   new = All-weaker IsFaultless (IsLate tiles n u) (λ k f. late_one tiles n u r k f) r.parcels rows;
   none_lacks = All-weaker (λ (k : Parcel). is_lacking tiles n r k ≡ false) (IsThere tiles n r) (there_one tiles n r) u.parcels
       (none_left (is_lacking tiles n r) u.parcels (none_mapped (λ (k : Parcel). At Lacks k.id n) (filter (is_lacking tiles n r) u.parcels)
-      (second_nil (flat_map (parcel_row_faults tiles n u r) r.parcels) _ rest)));
+      (second_nil (flat_map (seam_row_faults tiles n u r) r.parcels) _ rest)));
 }
   where
     n : ℕ
@@ -157,13 +157,13 @@ fits tell tiles classes done r e = record {
     u = country_of classes done
 
     IsFaultless : Parcel → Type 0
-    IsFaultless k = parcel_row_faults tiles n u r k ≡ []
+    IsFaultless k = seam_row_faults tiles n u r k ≡ []
 
-    rest : flat_map (parcel_row_faults tiles n u r) r.parcels ++ map (λ (k : Parcel). At Lacks k.id n) (filter (is_lacking tiles n r) u.parcels) ≡ []
+    rest : flat_map (seam_row_faults tiles n u r) r.parcels ++ map (λ (k : Parcel). At Lacks k.id n) (filter (is_lacking tiles n r) u.parcels) ≡ []
     rest = second_nil (seam_class_faults 1 r.classes classes) _ e
 
     rows : All IsFaultless r.parcels
-    rows = all_nil (parcel_row_faults tiles n u r) r.parcels (first_nil (flat_map (parcel_row_faults tiles n u r) r.parcels) _ rest)
+    rows = all_nil (seam_row_faults tiles n u r) r.parcels (first_nil (flat_map (seam_row_faults tiles n u r) r.parcels) _ rest)
 
 pub joined_is_sound : TestsTellEqualRows → (tiling : Tiling) (classes : List Class) (regions : List Contents) → AreJoined (rectangles tiling frame) classes regions → All IsSoundMap regions
     → length regions ≡ length (rectangles tiling frame) → IsSoundMap (country_of classes regions)

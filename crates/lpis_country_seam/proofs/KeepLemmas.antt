@@ -1,10 +1,9 @@
 -- The rows that are kept after one region more.
-use Rattle.std.proofs.Common.{◌≡◌, ℕ, suc, ◌+◌, ◌<◌, length, get_or, Bool, true, false, not, cond, ◌++◌, List, [], ◌∷◌, map, filter, flat_map, drop, Option, None, Some, All, refl, ap, ap₂, sym, ◌∙◌, subst, append-nil, append_assoc, true≢false}
+use Rattle.std.proofs.Common.{◌≡◌, ℕ, suc, ◌+◌, ◌<◌, length, get_or, Bool, true, false, cond, ◌++◌, List, [], ◌∷◌, map, filter, flat_map, drop, Some, All, refl, ap, ap₂, sym, ◌∙◌, subst, append-nil, append_assoc, true≢false}
 use Rattle.std.specs.List.{IsDistinct, list_any, slice_get}
 use Rattle.std.specs.Option.{option_to_list}
 use Rattle.std.proofs.lemmas.List.{drop_more, map-append}
 use Rattle.std.proofs.lemmas.List.Elements.{All-head, All-tail, All-weaker, filter-append}
-use Rattle.std.proofs.lemmas.Map.Keys.{IsDistinct-head, IsDistinct-tail, IsDistinct-cons}
 use Rattle.lpis_points.specs.declared.boxes.Box4.{Box4}
 use Rattle.lpis_covers.specs.declared.piece.Piece.{Piece}
 use Rattle.lpis_covers.specs.Ids.{has_id, same_id}
@@ -94,6 +93,13 @@ kept-next tiles n u r kept next news du dv old new k w e =
   where
     more : List KeptRow
     more = new_rows (drop (suc n) tiles) r (new_parcels u r)
+
+-- what is kept of the rows before and then of the new ones
+pub all-kept : (later tiles : List Box4) (m : ℕ) (r : Contents) (places : List ℕ) (before kept rows next : List KeptRow) → later ≡ drop m tiles → before ≡ kept → rows ≡ with_rows [] (rows_reaching later before)
+    → next ≡ with_rows rows (new_rows later r (at_places r.parcels places)) → next ≡ with_rows (with_rows [] (rows_reaching (drop m tiles) kept)) (new_rows (drop m tiles) r (at_places r.parcels places))
+all-kept later tiles m r places before kept rows next e f g h =
+    h ∙ ap (λ (xs : List KeptRow). with_rows xs (new_rows later r (at_places r.parcels places))) g
+    ∙ ap₂ (λ (ts : List Box4) (xs : List KeptRow). with_rows (with_rows [] (rows_reaching ts xs)) (new_rows ts r (at_places r.parcels places))) e f
 
 -- ---- places
 with-rows-append : (rows xs ys : List KeptRow) → with_rows rows (xs ++ ys) ≡ with_rows (with_rows rows xs) ys

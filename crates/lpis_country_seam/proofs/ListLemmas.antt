@@ -1,7 +1,6 @@
 -- Lists of parcels and of identifiers.
-use Rattle.std.proofs.Common.{◌≡◌, ℕ, ◌+◌, Bool, true, false, not, cond, ◌||◌, List, [], ◌∷◌, ◌++◌, map, filter, flat_map, Option, None, Some, is_some, All, refl, ap, ap₂, sym, ◌∙◌, subst, ◌⊎◌, inl, inr, true≢false}
-use Rattle.std.specs.List.{AllByRecursion, IsDistinct, find, list_any, slice_get}
-use Rattle.std.proofs.lemmas.List.Elements.{All-head, All-tail}
+use Rattle.std.proofs.Common.{◌≡◌, ℕ, Bool, true, false, cond, ◌||◌, List, [], ◌∷◌, ◌++◌, filter, None, Some, is_some, refl, ap, ap₂, sym, ◌∙◌, subst, true≢false}
+use Rattle.std.specs.List.{AllByRecursion, IsDistinct, find, slice_get}
 use Rattle.std.proofs.lemmas.Map.Keys.{IsDistinct-head, IsDistinct-tail, IsDistinct-cons}
 use Rattle.std.specs.Cmp.Lexicographic.{bytes_decides}
 use Rattle.lpis_covers.specs.Ids.{has_id, same_id}
@@ -53,10 +52,7 @@ pub record IsFound (id : List ℕ) (ps : List Parcel) (k : Parcel) : Type 0 wher
   pub own : k.id ≡ id
 
 pub found-there : (id : List ℕ) (ps : List Parcel) (k : Parcel) → find (is_of id) ps ≡ Some k → IsFound id ps k
-found-there id [] k e = absurd (nothing e)
-  where
-    nothing : None {A = Parcel} ≡ Some k → ⊥
-    nothing h = cc
+found-there id [] k e = absurd cc
 found-there id (p ∷ ps) k e = by (same_id id p.id) refl e (found-there id ps k)
   where
     by : (b : Bool) → same_id id p.id ≡ b → cond b (Some p) (find (is_of id) ps) ≡ Some k → (find (is_of id) ps ≡ Some k → IsFound id ps k) → IsFound id (p ∷ ps) k
@@ -104,10 +100,7 @@ nil-right {A} xs ys e = sym (ap (λ (zs : List A). zs ++ ys) (nil-left xs ys e))
 
 -- the first of a list
 pub head-is : {A : Type 0} (xs : List A) (x : A) → slice_get xs 0 ≡ Some x → (more : List A) × (xs ≡ x ∷ more)
-head-is {A} [] x e = absurd (no-item e)
-  where
-    no-item : None {A = A} ≡ Some x → ⊥
-    no-item h = cc
+head-is {A} [] x e = absurd cc
 head-is {A} (y ∷ ys) x e = (ys, ap (λ (z : A). z ∷ ys) (same-item e))
   where
     same-item : Some y ≡ Some x → y ≡ x

@@ -1,13 +1,13 @@
 -- The first fault of a part is the first of the whole.
-use Rattle.std.proofs.Common.{◌≡◌, ◌+◌, ◌<◌, ℕ, zero, suc, Bool, true, false, not, cond, ◌&&◌, ◌++◌, List, [], ◌∷◌, map, filter, flat_map, take, drop, length, get_or, Option, None, Some, is_some, ◌⊎◌, inl, inr, refl, ap, sym, ◌∙◌, subst, arith, append-nil, true≢false}
+use Rattle.std.proofs.Common.{◌≡◌, ◌+◌, ◌<◌, ℕ, zero, suc, Bool, true, false, not, cond, ◌&&◌, ◌++◌, List, [], ◌∷◌, map, filter, flat_map, take, drop, length, get_or, Option, None, Some, is_some, ◌⊎◌, inl, inr, refl, ap, sym, ◌∙◌, subst, arith, append-nil}
 use Rattle.std.specs.List.{slice_get}
 use Rattle.std.specs.Option.{option_map}
-use Rattle.std.proofs.lemmas.List.{drop_more, drop_all, map-append}
+use Rattle.std.proofs.lemmas.List.{drop_more, map-append}
 use Rattle.std.proofs.lemmas.List.Elements.{filter_more}
 use Rattle.std.proofs.lemmas.Option.{slice_get-get_or}
 use Rattle.lpis_points.specs.declared.boxes.Box4.{Box4}
 use Rattle.lpis_covers.specs.declared.class.Class.{Class}
-use Rattle.lpis_covers.specs.Ids.{has_id, same_id}
+use Rattle.lpis_covers.specs.Ids.{has_id}
 use Rattle.lpis_parcels.specs.declared.parcel.Parcel.{Parcel}
 use Rattle.lpis_parcels.specs.Release.{Contents, parcel_ids, parcel_named}
 use Rattle.lpis_country_rows.specs.Equality.{same_class}
@@ -16,7 +16,7 @@ use Rattle.lpis_country_seam.specs.declared.fault.SeamCode.TheVariants.{Elsewher
 use Rattle.lpis_country_seam.specs.declared.fault.SeamFault.{SeamFault}
 use Rattle.lpis_country_seam.specs.declared.fault.SeamFault.TheVariants.{Memory, Classes, At}
 use Rattle.lpis_country_seam.specs.Faults.{IsFirstSeamFault, reached, reaches_own, seam_class_faults, seam_fault_if}
-use Rattle.lpis_country_seam.specs.private.Testing.{fresh_faults, is_fresh, tested_row}
+use Rattle.lpis_country_seam.specs.private.Testing.{fresh_faults, known_faults, row_named, tested_row}
 use Rattle.lpis_country_seam.proofs.ListLemmas.{has-found, head-is, no-head}
 
 abbrev pub Told : List SeamFault → SeamFault → Type 0
@@ -39,10 +39,14 @@ rest-at (x ∷ xs) zero l = (x, refl)
 rest-at (x ∷ xs) (suc k) l = rest-at xs k (omega arith)
 
 -- ---- classes
-pub classes-short : (own all rest : List Class) (k : ℕ) → seam_class_faults 1 own all ≡ seam_class_faults (k + 1) (drop k own) rest → k < length own → rest ≡ [] → Told (seam_class_faults 1 own all) (Classes (k + 1))
+no-length : {A : Type 0} (xs : List A) → length xs ≡ 0 → xs ≡ []
+no-length [] e = refl
+no-length (x ∷ xs) e = absurd (omega (arith, e))
+
+pub classes-short : (own all rest : List Class) (k : ℕ) → seam_class_faults 1 own all ≡ seam_class_faults (k + 1) (drop k own) rest → k < length own → length rest ≡ 0 → Told (seam_class_faults 1 own all) (Classes (k + 1))
 classes-short own all rest k e l n =
     let r = rest-at own k l in
-    inr ([], e ∙ ap (seam_class_faults (k + 1) (drop k own)) n ∙ ap (λ (xs : List Class). seam_class_faults (k + 1) xs []) r.1)
+    inr ([], e ∙ ap (seam_class_faults (k + 1) (drop k own)) (no-length rest n) ∙ ap (λ (xs : List Class). seam_class_faults (k + 1) xs []) r.1)
 
 pub classes-more : (own : List Class) (k : ℕ) (a b : Class) (others : List Class) → k < length own → a ≡ get_or own k a
     → seam_class_faults (k + 1) (drop k own) (b ∷ others) ≡ seam_fault_if (not (same_class a b)) (Classes (k + 1)) ++ seam_class_faults (k + 1 + 1) (drop (k + 1) own) others
@@ -62,7 +66,7 @@ elsewhere tiles n ids kept r k f e g = told-alike (tested_row tiles n ids kept r
     (ap (λ (b : Bool). seam_fault_if (not b) (At Elsewhere k.id n) ++ more) e ∙ ap (λ (x : SeamFault). x ∷ more) (sym g)) (inr (more, refl))
   where
     more : List SeamFault
-    more = drop 1 (At Elsewhere k.id n ∷ drop (length (seam_fault_if (not (reaches_own tiles n k)) (At Elsewhere k.id n))) (tested_row tiles n ids kept r k))
+    more = cond (has_id ids k.id) (known_faults n r k (row_named kept k.id)) (fresh_faults tiles n k)
 
 not-not : (b : Bool) → not (not b) ≡ b
 not-not true = refl

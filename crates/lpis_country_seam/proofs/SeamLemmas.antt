@@ -1,5 +1,5 @@
 -- The seam of one region more.
-use Rattle.std.proofs.Common.{◌≡◌, ◌+◌, ℕ, suc, Bool, true, false, not, cond, ◌||◌, ◌++◌, List, [], ◌∷◌, map, filter, flat_map, drop, length, get_or, Option, None, Some, All, refl, ap, ap₂, sym, ◌∙◌, subst, arith}
+use Rattle.std.proofs.Common.{◌≡◌, ◌+◌, ℕ, suc, Bool, true, false, not, ◌||◌, ◌++◌, List, [], ◌∷◌, map, filter, flat_map, drop, length, get_or, Some, refl, ap, ap₂, sym, ◌∙◌, subst, arith}
 use Rattle.std.specs.Prelude.{Contains as IsAmong}
 use Rattle.std.specs.List.{IsDistinct, slice_get}
 use Rattle.std.proofs.lemmas.List.{length-append}
@@ -15,10 +15,9 @@ use Rattle.lpis_country_rows.specs.Equality.{same_class}
 use Rattle.lpis_country_rows.proofs.Shared.{same_class-tells}
 use Rattle.lpis_country_seam.specs.declared.kept.KeptRow.{KeptRow}
 use Rattle.lpis_country_seam.specs.declared.seam.OpenSeam.{OpenSeam}
-use Rattle.lpis_country_seam.specs.declared.fault.SeamFault.{SeamFault}
 use Rattle.lpis_country_seam.specs.declared.fault.SeamCode.TheVariants.{Lacks}
 use Rattle.lpis_country_seam.specs.declared.fault.SeamFault.TheVariants.{At, Classes}
-use Rattle.lpis_country_seam.specs.Faults.{is_lacking, parcel_row_faults, seam_class_faults, seam_fault_if, seam_faults}
+use Rattle.lpis_country_seam.specs.Faults.{is_lacking, seam_row_faults, seam_class_faults, seam_fault_if, seam_faults}
 use Rattle.lpis_country_seam.specs.Open.{AreJoined, IsSeamOf, awaited_rows}
 use Rattle.lpis_country_seam.specs.private.Kept.{at_places, new_rows, rows_reaching, with_rows}
 use Rattle.lpis_country_seam.specs.private.Stepping.{IsKeptNext, tested}
@@ -71,16 +70,16 @@ pub joined-more : (tiles : List Box4) (ks : List Class) (done : List Contents) (
 joined-more tiles ks done r h g e = record {
   regions_are = All-push IsRegion done r h.regions_are g;
   classes_are = All-push (λ (x : Contents). x.classes ≡ ks) done r h.classes_are
-      (classes-same 1 r.classes ks (nil-left (seam_class_faults 1 r.classes ks) (flat_map (parcel_row_faults tiles (length done) (country_of ks done) r) r.parcels ++ map (λ (k : Parcel). At Lacks k.id (length done)) (filter (is_lacking tiles (length done) r) (country_of ks done).parcels)) e));
+      (classes-same 1 r.classes ks (nil-left (seam_class_faults 1 r.classes ks) (flat_map (seam_row_faults tiles (length done) (country_of ks done) r) r.parcels ++ map (λ (k : Parcel). At Lacks k.id (length done)) (filter (is_lacking tiles (length done) r) (country_of ks done).parcels)) e));
   faultless = split-last (λ (before : List Contents) (x : Contents). seam_faults tiles ks before x ≡ []) done r h.faultless e;
 }
 
 -- ---- what a step tests
 rows-tested : (tiles ts : List Box4) (n m : ℕ) (ids : List (List ℕ)) (kept : List KeptRow) (u r : Contents) → ts ≡ tiles → m ≡ n → ((id : List ℕ) → has_id ids id ≡ has_id (parcel_ids u.parcels) id) → kept ≡ awaited_rows tiles n u → IsDistinct same_id (parcel_ids u.parcels)
-    → flat_map (tested_row ts m ids kept r) r.parcels ≡ flat_map (parcel_row_faults tiles n u r) r.parcels
+    → flat_map (tested_row ts m ids kept r) r.parcels ≡ flat_map (seam_row_faults tiles n u r) r.parcels
 rows-tested tiles ts n m ids kept u r e f i h d =
     ap₂ (λ (a : List Box4) (b : ℕ). flat_map (tested_row a b ids kept r) r.parcels) e f
-    ∙ rows-same (tested_row tiles n ids kept r) (parcel_row_faults tiles n u r) (row-same tiles n ids kept u r i h d) r.parcels
+    ∙ rows-same (tested_row tiles n ids kept r) (seam_row_faults tiles n u r) (row-same tiles n ids kept u r i h d) r.parcels
 
 kept-tested : (tiles ts : List Box4) (n m : ℕ) (kept : List KeptRow) (u r : Contents) → ts ≡ tiles → m ≡ n → kept ≡ awaited_rows tiles n u → tested_kept ts m kept r ≡ map (λ (k : Parcel). At Lacks k.id n) (filter (is_lacking tiles n r) u.parcels)
 kept-tested tiles ts n m kept u r e f h = ap₂ (λ (a : List Box4) (b : ℕ). tested_kept a b kept r) e f ∙ kept-same tiles n kept u r h
@@ -89,7 +88,7 @@ pub seam-tested : (tiles : List Box4) (ks : List Class) (done : List Contents) (
 seam-tested tiles ks done s r h =
     ap₂ ◌++◌ (ap (seam_class_faults 1 r.classes) h.classes_are)
     (ap₂ ◌++◌ (rows-tested tiles s.tiles.items (length done) s.next s.ids s.kept (country_of ks done) r h.tiles_are h.number h.ids_are h.rows_are (country_is_region ks done h.joined.regions_are).distinct)
-      (kept-tested tiles s.tiles.items (length done) s.next s.kept (country_of ks done) r h.tiles_are h.number h.rows_are))
+    (kept-tested tiles s.tiles.items (length done) s.next s.kept (country_of ks done) r h.tiles_are h.number h.rows_are))
 
 -- ---- what it keeps
 fresh-new : (tiles : List Box4) (ks : List Class) (done : List Contents) (s : OpenSeam) (r : Contents) → IsSeamOf tiles ks done s → filter (is_fresh s.ids) r.parcels ≡ new_parcels (country_of ks done) r

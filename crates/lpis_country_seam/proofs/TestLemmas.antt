@@ -1,17 +1,17 @@
 -- What is kept of the regions that were let go tells the faults of the next one.
-use Rattle.std.proofs.Common.{◌≡◌, ℕ, ◌+◌, Bool, true, false, not, cond, ◌&&◌, ◌++◌, List, [], ◌∷◌, map, filter, flat_map, take, drop, length, Option, None, Some, is_some, refl, ap, ap₂, sym, ◌∙◌, subst, true≢false}
+use Rattle.std.proofs.Common.{◌≡◌, ℕ, Bool, true, false, not, cond, ◌&&◌, ◌++◌, List, [], ◌∷◌, map, filter, flat_map, Option, None, Some, is_some, refl, ap, ap₂, sym, ◌∙◌, subst}
 use Rattle.std.specs.List.{IsDistinct, find}
 use Rattle.std.specs.Cmp.Lexicographic.{bytes_decides}
 use Rattle.std.proofs.lemmas.Map.Keys.{IsDistinct-head, IsDistinct-tail}
 use Rattle.lpis_points.specs.declared.boxes.Box4.{Box4}
 use Rattle.lpis_covers.specs.Ids.{has_id, same_id}
 use Rattle.lpis_parcels.specs.declared.parcel.Parcel.{Parcel}
-use Rattle.lpis_parcels.specs.Release.{Contents, parcel_ids, parcel_named, pieces_named}
+use Rattle.lpis_parcels.specs.Release.{Contents, parcel_ids, parcel_named}
 use Rattle.lpis_country_seam.specs.declared.kept.KeptRow.{KeptRow}
 use Rattle.lpis_country_seam.specs.declared.fault.SeamCode.TheVariants.{Elsewhere, Reused, Differs, Lacks}
 use Rattle.lpis_country_seam.specs.declared.fault.SeamFault.{SeamFault}
 use Rattle.lpis_country_seam.specs.declared.fault.SeamFault.TheVariants.{At}
-use Rattle.lpis_country_seam.specs.Faults.{earlier_faults, is_double, is_lacking, parcel_row_faults, reaches_later, reaches_own, seam_fault_if}
+use Rattle.lpis_country_seam.specs.Faults.{earlier_faults, is_double, is_lacking, seam_row_faults, reaches_later, reaches_own, seam_fault_if}
 use Rattle.lpis_country_seam.specs.Open.{awaited_rows}
 use Rattle.lpis_country_seam.specs.private.Kept.{row_in}
 use Rattle.lpis_country_seam.specs.private.Testing.{fresh_faults, known_faults, row_named, tested_kept, tested_row}
@@ -49,7 +49,7 @@ by-parcel tiles n u r k b o None e h = ap (λ (t : Bool). cond t (known_faults n
 by-parcel tiles n u r k b o (Some p) e h = ap (λ (t : Bool). cond t (known_faults n r k o) (fresh_faults tiles n k)) e ∙ ap (known_faults n r k) h ∙ known-same tiles n u r k p (reaches_later tiles n p) refl
 
 pub row-same : (tiles : List Box4) (n : ℕ) (ids : List (List ℕ)) (kept : List KeptRow) (u r : Contents) → ((id : List ℕ) → has_id ids id ≡ has_id (parcel_ids u.parcels) id) → kept ≡ awaited_rows tiles n u → IsDistinct same_id (parcel_ids u.parcels)
-    → (k : Parcel) → tested_row tiles n ids kept r k ≡ parcel_row_faults tiles n u r k
+    → (k : Parcel) → tested_row tiles n ids kept r k ≡ seam_row_faults tiles n u r k
 row-same tiles n ids kept u r i h d k = ap (λ (fs : List SeamFault). seam_fault_if (not (reaches_own tiles n k)) (At Elsewhere k.id n) ++ fs)
     (by-parcel tiles n u r k (has_id ids k.id) (row_named kept k.id) (parcel_named u k.id) (i k.id ∙ has-found k.id u.parcels)
     (ap (λ (rows : List KeptRow). row_named rows k.id) h ∙ kept-row u (reaches_later tiles n) k.id u.parcels d))

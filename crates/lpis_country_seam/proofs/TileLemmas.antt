@@ -1,12 +1,12 @@
 -- The tiles that a parcel's box meets.
-use Rattle.std.proofs.Common.{◌≡◌, ℕ, zero, suc, ◌+◌, ◌<◌, Bool, true, false, cond, ◌||◌, List, [], ◌∷◌, drop, take, length, Option, None, Some, All, IfSome, refl, ap, sym, ◌∙◌, subst, arith, true≢false}
-use Rattle.std.specs.List.{list_any, position, slice_get}
+use Rattle.std.proofs.Common.{◌≡◌, ℕ, zero, suc, ◌+◌, Bool, true, false, cond, ◌||◌, List, [], ◌∷◌, drop, Some, All, refl, ap, sym, ◌∙◌, true≢false}
+use Rattle.std.specs.List.{list_any, slice_get}
 use Rattle.std.proofs.lemmas.List.Elements.{All-cons, All-nil}
 use Rattle.lpis_points.specs.declared.boxes.Box4.{Box4}
 use Rattle.lpis_parcels.specs.declared.parcel.Parcel.{Parcel}
 use Rattle.lpis_country.specs.Tiling.{reaches}
-use Rattle.lpis_country_seam.specs.Faults.{reached, reaches_at, reaches_later, reaches_own}
-use Rattle.lpis_country_seam.proofs.ListLemmas.{clash, cons-nil}
+use Rattle.lpis_country_seam.specs.Faults.{reached, reaches_later, reaches_own}
+use Rattle.lpis_country_seam.proofs.ListLemmas.{cons-nil}
 
 or-left : (a b : Bool) → a ≡ true → (a || b) ≡ true
 or-left true b e = refl

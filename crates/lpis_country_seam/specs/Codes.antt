@@ -3,8 +3,6 @@ use Rattle.std.specs.Prelude.{ℕ, List, codes}
 use Rattle.lpis_country_seam.specs.declared.fault.SeamCode.{SeamCode}
 use Rattle.lpis_country_seam.specs.declared.fault.SeamCode.TheVariants.{Elsewhere, Reused}
 use Rattle.lpis_country_seam.specs.declared.fault.SeamCode.TheVariants.{Differs, Lacks}
-use Rattle.lpis_country_seam.specs.declared.fault.SeamFault.{SeamFault}
-use Rattle.lpis_country_seam.specs.declared.fault.SeamFault.TheVariants.{Memory, Classes, At}
 
 -- the two characters of a code
 abbrev pub seam_code_text : SeamCode → List ℕ

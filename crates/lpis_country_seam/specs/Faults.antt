@@ -10,7 +10,6 @@ use Rattle.lpis_parcels.specs.Release.{Contents, parcel_ids, parcel_named, piece
 use Rattle.lpis_country.specs.Country.{country_of}
 use Rattle.lpis_country.specs.Tiling.{reaches}
 use Rattle.lpis_country_rows.specs.Equality.{same_class, same_pieces, same_polygon}
-use Rattle.lpis_country_seam.specs.declared.fault.SeamCode.{SeamCode}
 use Rattle.lpis_country_seam.specs.declared.fault.SeamCode.TheVariants.{Elsewhere, Reused}
 use Rattle.lpis_country_seam.specs.declared.fault.SeamCode.TheVariants.{Differs, Lacks}
 use Rattle.lpis_country_seam.specs.declared.fault.SeamFault.{SeamFault}
@@ -65,8 +64,8 @@ earlier_faults tiles n country r k (Some before) = cond (reaches_later tiles n b
 earlier_faults tiles n country r k None = map (At Lacks k.id) (reached 0 (take n tiles) k)
 
 -- the faults of a row: first that its box does not meet the region's tile
-abbrev pub parcel_row_faults : List Box4 → ℕ → Contents → Contents → Parcel → List SeamFault
-parcel_row_faults tiles n country r k =
+abbrev pub seam_row_faults : List Box4 → ℕ → Contents → Contents → Parcel → List SeamFault
+seam_row_faults tiles n country r k =
     seam_fault_if (not (reaches_own tiles n k)) (At Elsewhere k.id n)
     ++ earlier_faults tiles n country r k (parcel_named country k.id)
 
@@ -82,7 +81,7 @@ seam_faults tiles classes done r =
     let n = length done in
     let country = country_of classes done in
     seam_class_faults 1 r.classes classes
-    ++ (flat_map (parcel_row_faults tiles n country r) r.parcels
+    ++ (flat_map (seam_row_faults tiles n country r) r.parcels
     ++ map (λ (k : Parcel). At Lacks k.id n) (filter (is_lacking tiles n r) country.parcels))
 
 -- the fault is the first of these

@@ -65,8 +65,8 @@ pub(crate) fn with_new(
         (new_rows tiles.now release.now (at_places release.now.parcels places.now))) }
 {
     let mut rows = kept;
-    for place in places {
-        rows = with_place(alloc, tiles, release, *place, rows)?;
+    for k in 0..places.len() {
+        rows = with_place(alloc, tiles, release, places[k], rows)?;
     }
     Ok(rows)
 }

@@ -15,7 +15,7 @@ use crate::fault::SeamFault;
 use crate::identifiers::Identifiers;
 use crate::keeping::{add_ids, still_kept, with_new};
 use crate::kept::KeptRows;
-use crate::testing::{Known, check_kept, check_rows};
+use crate::testing::{Known, check_parcels};
 use lpis_country::is_region;
 use lpis_covers::Class;
 use lpis_parcels::Release;
@@ -65,15 +65,8 @@ impl OpenSeam {
             ids: &self.ids,
             kept: &self.kept,
         };
-        if let Err(fault) = check_classes(release.classes(), self.classes.as_slice()) {
-            return Err(fault);
-        }
-        let places = match check_rows(alloc, &known, release) {
-            Ok(places) => places,
-            Err(fault) => return Err(fault),
-        };
-        match check_kept(&known, release) {
-            Ok(()) => Ok(places),
+        match check_classes(release.classes(), self.classes.as_slice()) {
+            Ok(()) => check_parcels(alloc, &known, release),
             Err(fault) => Err(fault),
         }
     }
@@ -110,11 +103,12 @@ impl OpenSeam {
             ≡ map Some (new_parcels (country_of classes done) release.now)) }
     {
         is_region(release);
-        let places = match self.check(alloc, release) {
-            Ok(places) => places,
-            Err(fault) => return Err(fault),
-        };
-        self.keep(alloc, release, places.as_slice())?;
-        Ok(places)
+        match self.check(alloc, release) {
+            Ok(places) => {
+                self.keep(alloc, release, places.as_slice())?;
+                Ok(places)
+            }
+            Err(fault) => Err(fault),
+        }
     }
 }

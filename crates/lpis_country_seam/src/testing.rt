@@ -119,11 +119,7 @@ fn add_if(places: &mut Vec<usize>, new: bool, k: usize) -> Result<(), AllocError
 }
 
 /// The places of the new parcels among a region's; or the first fault of its rows.
-pub(crate) fn check_rows(
-    alloc: Global,
-    known: &Known<'_>,
-    release: &Release,
-) -> Result<Vec<usize>, SeamFault>
+fn check_rows(alloc: Global, known: &Known<'_>, release: &Release) -> Result<Vec<usize>, SeamFault>
     requires { known.now.n ≤ length known.now.tiles.now }
     ensures places { IfOk result (λ places. map (slice_get release.now.parcels) places.items
         ≡ map Some (filter (is_fresh known.now.ids.now) release.now.parcels)) }
@@ -149,7 +145,7 @@ fn is_lacking(tiles: &[Box4], n: usize, release: &Release, parcel: &Parcel) -> b
 }
 
 /// Looks for a kept row that a region lacks.
-pub(crate) fn check_kept(known: &Known<'_>, release: &Release) -> Result<(), SeamFault>
+fn check_kept(known: &Known<'_>, release: &Release) -> Result<(), SeamFault>
     ensures { ReportsSeam (tested_kept known.now.tiles.now known.now.n known.now.kept.now
         release.now) result }
 {
@@ -159,4 +155,27 @@ pub(crate) fn check_kept(known: &Known<'_>, release: &Release) -> Result<(), Sea
         }
     }
     Ok(())
+}
+
+/// The places of the new parcels among a region's; or the first fault of its rows or of what it
+/// lacks.
+pub(crate) fn check_parcels(
+    alloc: Global,
+    known: &Known<'_>,
+    release: &Release,
+) -> Result<Vec<usize>, SeamFault>
+    requires { known.now.n ≤ length known.now.tiles.now }
+    ensures places { IfOk result (λ places. map (slice_get release.now.parcels) places.items
+        ≡ map Some (filter (is_fresh known.now.ids.now) release.now.parcels)) }
+    ensures reports { ReportsSeam (flat_map (tested_row known.now.tiles.now known.now.n
+        known.now.ids.now known.now.kept.now release.now) release.now.parcels
+        ++ tested_kept known.now.tiles.now known.now.n known.now.kept.now release.now) result }
+{
+    match check_rows(alloc, known, release) {
+        Ok(places) => {
+            check_kept(known, release)?;
+            Ok(places)
+        }
+        Err(fault) => Err(fault),
+    }
 }

@@ -1,6 +1,6 @@
 -- Lists of kept rows.
-use Rattle.std.specs.Prelude.{◌≡◌, ◌++◌, ◌∷◌, ℕ, List, [], cond, map, filter, flat_map, option_to_list}
-use Rattle.std.specs.Prelude.{drop, slice_get}
+use Rattle.std.specs.Prelude.{◌++◌, ◌∷◌, ℕ, List, [], cond, map, filter, flat_map, option_to_list}
+use Rattle.std.specs.Prelude.{slice_get}
 use Rattle.std.specs.List.{list_any}
 use Rattle.lpis_points.specs.declared.boxes.Box4.{Box4}
 use Rattle.lpis_covers.specs.Ids.{has_id}

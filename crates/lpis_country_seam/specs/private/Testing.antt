@@ -1,9 +1,8 @@
 -- The faults of a region by what is kept of those before it.
-use Rattle.std.specs.Prelude.{◌≡◌, ◌++◌, ◌∷◌, ◌+◌, ◌&&◌, Bool, not, cond, ℕ, List, [], map, filter, flat_map}
-use Rattle.std.specs.Prelude.{take, Option, Some, None, IfSome, IfNone}
+use Rattle.std.specs.Prelude.{◌++◌, ◌∷◌, ◌&&◌, Bool, not, cond, ℕ, List, [], map, filter}
+use Rattle.std.specs.Prelude.{take, Option, Some, None}
 use Rattle.std.specs.List.{find}
 use Rattle.lpis_points.specs.declared.boxes.Box4.{Box4}
-use Rattle.lpis_covers.specs.declared.class.Class.{Class}
 use Rattle.lpis_covers.specs.Ids.{has_id, same_id}
 use Rattle.lpis_parcels.specs.declared.parcel.Parcel.{Parcel}
 use Rattle.lpis_parcels.specs.Release.{Contents, pieces_named}

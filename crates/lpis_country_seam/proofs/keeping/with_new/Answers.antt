@@ -1,5 +1,9 @@
+use Rattle.std.proofs.Common.{get_or}
+use Rattle.std.proofs.lemmas.List.{get_or_default}
 use Rattle.lpis_country_seam.proofs.KeepLemmas.{place-more}
 use Rattle.lpis_country_seam.proofs.keeping.with_new.Goals as goal
 
-pub loop-place-preserved : goal.loop-place-preserved
-loop-place-preserved c = place-more c.args.tiles.now c.args.release.now c.args.kept c.loop-place.rows _ c.args.places.now c.loop-place.place-index c.place-item.result c.loop-place-test.true c.place-item.is c.in_ok-rows.ensures c.loop-place.invariant
+pub loop-k-preserved : goal.loop-k-preserved
+loop-k-preserved c =
+    let place = get_or c.args.places.now c.loop-k.k 0 in
+    place-more c.args.tiles.now c.args.release.now c.args.kept c.loop-k.rows _ c.args.places.now c.loop-k.k place c.loop-k-test.true (get_or_default c.args.places.now c.loop-k.k 0 place c.loop-k-test.true) c.in_ok-rows.ensures c.loop-k.invariant

@@ -1,5 +1,4 @@
-use Rattle.std.proofs.Common.{◌∙◌, ap, sym, List}
-use Rattle.lpis_country_seam.specs.declared.kept.KeptRow.{KeptRow}
+use Rattle.std.proofs.Common.{◌∙◌, ap}
 use Rattle.lpis_country_seam.specs.private.Kept.{row_ids}
 use Rattle.lpis_country_seam.proofs.FindLemmas.{row-found, row-missing}
 use Rattle.lpis_country_seam.proofs.kept.KeptRows.get.Goals as goal
