@@ -1,5 +1,5 @@
 -- The inputs of a check have one answer.
-use Rattle.std.proofs.Common.{◌≡◌, ◌∙◌, ◌⊎◌, inl, inr, ap, sym, refl, subst, ℕ, List, Result, Ok, Err}
+use Rattle.std.proofs.Common.{◌≡◌, ◌∙◌, inl, inr, ap, sym, subst, ℕ, List, Result, Ok, Err}
 use Rattle.lpis_parcels.specs.Release.{Contents, release_of}
 use Rattle.lpis_cert.specs.declared.cert.Cert.{Cert}
 use Rattle.lpis_checker.specs.GoodCertificate.{IsGood}
