@@ -48,7 +48,8 @@ single a b = (
       piece-equal a b ((bytes_decides a.id b.id).0 r.0) ((bytes_decides a.parcel b.parcel).0 s.0) ((bytes_decides a.class b.class).0 t.0) ((same_polygon-tells a.polygon b.polygon).0 t.1),
   λ e. joined (same_id a.id b.id) (same_id a.parcel b.parcel && (same_id a.class b.class && same_polygon a.polygon b.polygon)) ((bytes_decides a.id b.id).1 (ap (λ (x : Piece). x.id) e))
       (joined (same_id a.parcel b.parcel) (same_id a.class b.class && same_polygon a.polygon b.polygon) ((bytes_decides a.parcel b.parcel).1 (ap (λ (x : Piece). x.parcel) e))
-      (joined (same_id a.class b.class) (same_polygon a.polygon b.polygon) ((bytes_decides a.class b.class).1 (ap (λ (x : Piece). x.class) e)) ((same_polygon-tells a.polygon b.polygon).1 (ap (λ (x : Piece). x.polygon) e)))),
+      (joined (same_id a.class b.class) (same_polygon a.polygon b.polygon) ((bytes_decides a.class b.class).1 (ap (λ (x : Piece). x.class) e))
+      ((same_polygon-tells a.polygon b.polygon).1 (ap (λ (x : Piece). x.polygon) e)))),
 )
 
 pub same_pieces-tells : IsEquality same_pieces

@@ -40,5 +40,6 @@ row-found now id keys xs rows at i r same own is found lent =
 
 pub row-missing : (id : List ℕ) (keys : List (List ℕ)) (rows : List KeptRow) (at : Option ℕ) → keys ≡ row_ids rows → at ≡ position (same_id id) keys → at ≡ None → None ≡ row_named rows id
 row-missing id keys rows at own is missing =
-    let past : length rows ≤ position_or_len (has id) rows = let h = no-place (same_id id) (row_ids rows) (ap (position (same_id id)) (sym own) ∙ sym is ∙ missing) in let s = as-many rows in let b = by-ids id rows in omega (arith, h, s, b) in
+    let past : length rows ≤ position_or_len (has id) rows = let h = no-place (same_id id) (row_ids rows) (ap (position (same_id id)) (sym own) ∙ sym is
+    ∙ missing) in let s = as-many rows in let b = by-ids id rows in omega (arith, h, s, b) in
     sym (find_at (has id) rows ∙ slice_get_past rows (position_or_len (has id) rows) past)

@@ -16,7 +16,8 @@ has-by-order [] q = refl
 has-by-order (x ∷ xs) q = ap (λ (b : Bool). b || list_any (λ k. is_eq (slice_cmp nat_cmp q k)) xs) (sym (texts_ties q x)) ∙ ap (λ (b : Bool). same_id q x || b) (has-by-order xs q)
 
 -- a set with one identifier more
-pub add-by-order : (old new : List (List ℕ)) (id q : List ℕ) → list_any (λ k. is_eq (slice_cmp nat_cmp q k)) new ≡ cond (is_eq (slice_cmp nat_cmp id q)) true (list_any (λ k. is_eq (slice_cmp nat_cmp q k)) old)
+pub add-by-order : (old new : List (List ℕ)) (id q : List ℕ)
+    → list_any (λ k. is_eq (slice_cmp nat_cmp q k)) new ≡ cond (is_eq (slice_cmp nat_cmp id q)) true (list_any (λ k. is_eq (slice_cmp nat_cmp q k)) old)
     → has_id new q ≡ cond (same_id id q) true (has_id old q)
 add-by-order old new id q u =
     sym (has-by-order new q) ∙ u ∙ ap (λ (b : Bool). cond b true (list_any (λ k. is_eq (slice_cmp nat_cmp q k)) old)) (sym (texts_ties id q))
@@ -36,14 +37,16 @@ none_left false t h = h
 abbrev pub Adding : List (List ℕ) → List (List ℕ) → List Parcel → ℕ → Type 0
 Adding ids more parcels i = (q : List ℕ) → (has_id more q || has_id (parcel_ids (drop i parcels)) q) ≡ (has_id ids q || has_id (parcel_ids parcels) q)
 
-pub adding_more : (ids old new : List (List ℕ)) (parcels : List Parcel) (i : ℕ) (k : Parcel) → i < length parcels → k ≡ get_or parcels i k → ((q : List ℕ) → has_id new q ≡ cond (same_id k.id q) true (has_id old q)) → Adding ids old parcels i → Adding ids new parcels (i + 1)
+pub adding_more : (ids old new : List (List ℕ)) (parcels : List Parcel) (i : ℕ) (k : Parcel) → i < length parcels → k ≡ get_or parcels i k
+    → ((q : List ℕ) → has_id new q ≡ cond (same_id k.id q) true (has_id old q)) → Adding ids old parcels i → Adding ids new parcels (i + 1)
 adding_more ids old new parcels i k l e added h q =
     ap (λ (b : Bool). b || has_id (parcel_ids (drop (i + 1) parcels)) q) (added q)
     ∙ ap (λ (b : Bool). cond b true (has_id old q) || has_id (parcel_ids (drop (i + 1) parcels)) q) (same-sym k.id q)
     ∙ one_on (same_id q k.id) (has_id old q) (has_id (parcel_ids (drop (i + 1) parcels)) q) (has_id ids q || has_id (parcel_ids parcels) q)
     (sym (ap (λ (ps : List Parcel). has_id old q || has_id (parcel_ids ps) q) (drop_more parcels i k l ∙ ap (λ (x : Parcel). x ∷ drop (i + 1) parcels) (sym e))) ∙ h q)
 
-pub adding_ends : (ids more : List (List ℕ)) (parcels : List Parcel) (i : ℕ) → length parcels ≤ i → Adding ids more parcels i → (q : List ℕ) → has_id more q ≡ (has_id ids q || has_id (parcel_ids parcels) q)
+pub adding_ends : (ids more : List (List ℕ)) (parcels : List Parcel) (i : ℕ) → length parcels ≤ i → Adding ids more parcels i → (q : List ℕ)
+    → has_id more q ≡ (has_id ids q || has_id (parcel_ids parcels) q)
 adding_ends ids more parcels i l h q = none_left (has_id more q) (has_id ids q || has_id (parcel_ids parcels) q)
     (sym (ap (λ (ps : List Parcel). has_id more q || has_id (parcel_ids ps) q) (drop_all i parcels l)) ∙ h q)
 
@@ -64,7 +67,8 @@ not_not : (b : Bool) → not b ≡ false → b ≡ true
 not_not true e = refl
 not_not false e = sym e
 
-ids_fresh : (u : Contents) (q : List ℕ) (ps : List Parcel) → (has_id (parcel_ids u.parcels) q || has_id (parcel_ids (filter (λ (k : Parcel). is_new u k.id) ps)) q) ≡ (has_id (parcel_ids u.parcels) q || has_id (parcel_ids ps) q)
+ids_fresh : (u : Contents) (q : List ℕ) (ps : List Parcel) → (has_id (parcel_ids u.parcels) q || has_id (parcel_ids (filter (λ (k : Parcel). is_new u k.id) ps)) q)
+    ≡ (has_id (parcel_ids u.parcels) q || has_id (parcel_ids ps) q)
 ids_fresh u q [] = refl
 ids_fresh u q (k ∷ ps) =
     ap (λ (b : Bool). has_id (parcel_ids u.parcels) q || b) (in_cond (is_new u k.id) q k (filter (λ (x : Parcel). is_new u x.id) ps))

@@ -1,5 +1,6 @@
 -- The rows that are kept after one region more.
-use Rattle.std.proofs.Common.{◌≡◌, ℕ, suc, ◌+◌, ◌<◌, length, get_or, Bool, true, false, cond, ◌++◌, List, [], ◌∷◌, map, filter, flat_map, drop, Some, All, refl, ap, ap₂, sym, ◌∙◌, subst, append-nil, append_assoc, true≢false}
+use Rattle.std.proofs.Common.{◌≡◌, ℕ, suc, ◌+◌, ◌<◌, length, get_or, Bool, true, false, cond, ◌++◌, List, [], ◌∷◌, map, filter, flat_map, drop, Some, All, refl, ap, ap₂, sym, ◌∙◌, subst}
+use Rattle.std.proofs.Common.{append-nil, append_assoc, true≢false}
 use Rattle.std.specs.List.{IsDistinct, list_any, slice_get}
 use Rattle.std.specs.Option.{option_to_list}
 use Rattle.std.proofs.lemmas.List.{drop_more, map-append}
@@ -26,12 +27,14 @@ with-row rows o e = ap (λ (b : Bool). cond b rows (rows ++ o ∷ [])) e
 pub all-added : (rows os : List KeptRow) → IsDistinct same_id (row_ids (rows ++ os)) → with_rows rows os ≡ rows ++ os
 all-added rows [] d = sym (append-nil rows)
 all-added rows (o ∷ os) d =
-    ap (λ (xs : List KeptRow). with_rows xs os) (with-row rows o (apart-before (row_ids rows) o.parcel.id (row_ids os) (subst (IsDistinct same_id) (map-append (λ (x : KeptRow). x.parcel.id) rows (o ∷ os)) d)))
+    ap (λ (xs : List KeptRow). with_rows xs os) (with-row rows o
+    (apart-before (row_ids rows) o.parcel.id (row_ids os) (subst (IsDistinct same_id) (map-append (λ (x : KeptRow). x.parcel.id) rows (o ∷ os)) d)))
     ∙ all-added (rows ++ o ∷ []) os (subst (λ (xs : List KeptRow). IsDistinct same_id (row_ids xs)) (sym (append_assoc rows (o ∷ []) os)) d)
     ∙ append_assoc rows (o ∷ []) os
 
 -- ---- rows of parcels that a later tile meets
-pub still-rows : (tiles : List Box4) (n : ℕ) (u : Contents) (ps : List Parcel) → rows_reaching (drop (suc n) tiles) (map (row_in u) (filter (reaches_later tiles n) ps)) ≡ map (row_in u) (filter (reaches_later tiles (suc n)) ps)
+pub still-rows : (tiles : List Box4) (n : ℕ) (u : Contents) (ps : List Parcel)
+    → rows_reaching (drop (suc n) tiles) (map (row_in u) (filter (reaches_later tiles n) ps)) ≡ map (row_in u) (filter (reaches_later tiles (suc n)) ps)
 still-rows tiles n u [] = refl
 still-rows tiles n u (p ∷ ps) = by (reaches_later tiles n p) (reaches_later tiles (suc n) p) refl refl (still-rows tiles n u ps)
   where
@@ -61,13 +64,17 @@ mapped-alike f g q (p ∷ ps) a = by (q p) (mapped-alike f g q ps (All-tail (λ 
     by false h = h
 
 -- the rows that are awaited after one region more: those that were, and those of new parcels
-pub awaited-next : (tiles : List Box4) (n : ℕ) (u r : Contents) → All (λ (k : Parcel). pieces_named (with_region u r) k.id ≡ pieces_named u k.id) u.parcels → All (λ (k : Parcel). pieces_named (with_region u r) k.id ≡ pieces_named r k.id) (new_parcels u r)
+pub awaited-next : (tiles : List Box4) (n : ℕ) (u r : Contents) → All (λ (k : Parcel). pieces_named (with_region u r) k.id ≡ pieces_named u k.id) u.parcels
+    → All (λ (k : Parcel). pieces_named (with_region u r) k.id ≡ pieces_named r k.id) (new_parcels u r)
     → awaited_rows tiles n (with_region u r) ≡ awaited_rows tiles n u ++ new_rows (drop n tiles) r (new_parcels u r)
 awaited-next tiles n u r old new =
     ap (map (row_in (with_region u r))) (filter-append (reaches_later tiles n) u.parcels (new_parcels u r))
     ∙ map-append (row_in (with_region u r)) (filter (reaches_later tiles n) u.parcels) (filter (reaches_later tiles n) (new_parcels u r))
-    ∙ ap₂ ◌++◌ (mapped-alike (row_in (with_region u r)) (row_in u) (reaches_later tiles n) u.parcels (All-weaker (λ (k : Parcel). pieces_named (with_region u r) k.id ≡ pieces_named u k.id) (λ (k : Parcel). row_in (with_region u r) k ≡ row_in u k) (λ k e. same-row k e) u.parcels old))
-    (mapped-alike (row_in (with_region u r)) (row_in r) (reaches_later tiles n) (new_parcels u r) (All-weaker (λ (k : Parcel). pieces_named (with_region u r) k.id ≡ pieces_named r k.id) (λ (k : Parcel). row_in (with_region u r) k ≡ row_in r k) (λ k e. same-row k e) (new_parcels u r) new))
+    ∙ ap₂ ◌++◌ (mapped-alike (row_in (with_region u r)) (row_in u) (reaches_later tiles n) u.parcels
+    (All-weaker (λ (k : Parcel). pieces_named (with_region u r) k.id ≡ pieces_named u k.id) (λ (k : Parcel). row_in (with_region u r) k ≡ row_in u k) (λ k e. same-row k e) u.parcels old))
+    (mapped-alike (row_in (with_region u r)) (row_in r) (reaches_later tiles n) (new_parcels u r)
+    (All-weaker (λ (k : Parcel). pieces_named (with_region u r) k.id ≡ pieces_named r k.id) (λ (k : Parcel). row_in (with_region u r) k ≡ row_in r k) (λ k e. same-row k e)
+    (new_parcels u r) new))
   where
     same-row : (k : Parcel) {xs ys : List Piece} → xs ≡ ys → made k xs ≡ made k ys
     same-row k e = ap (made k) e
@@ -88,15 +95,18 @@ pub kept-next : (tiles : List Box4) (n : ℕ) (u r : Contents) (kept next : List
 kept-next tiles n u r kept next news du dv old new k w e =
     e ∙ ap₂ (λ (xs : List KeptRow) (ps : List Parcel). with_rows (with_rows [] xs) (new_rows (drop (suc n) tiles) r ps)) (ap (rows_reaching (drop (suc n) tiles)) k ∙ still-rows tiles n u u.parcels) w
     ∙ ap (λ (xs : List KeptRow). with_rows xs more) (all-added [] (awaited_rows tiles (suc n) u) (awaited-distinct tiles (suc n) u du))
-    ∙ all-added (awaited_rows tiles (suc n) u) more (subst (λ (xs : List KeptRow). IsDistinct same_id (row_ids xs)) (awaited-next tiles (suc n) u r old new) (awaited-distinct tiles (suc n) (with_region u r) dv))
+    ∙ all-added (awaited_rows tiles (suc n) u) more (subst (λ (xs : List KeptRow). IsDistinct same_id (row_ids xs)) (awaited-next tiles (suc n) u r old new)
+    (awaited-distinct tiles (suc n) (with_region u r) dv))
     ∙ sym (awaited-next tiles (suc n) u r old new)
   where
     more : List KeptRow
     more = new_rows (drop (suc n) tiles) r (new_parcels u r)
 
 -- what is kept of the rows before and then of the new ones
-pub all-kept : (later tiles : List Box4) (m : ℕ) (r : Contents) (places : List ℕ) (before kept rows next : List KeptRow) → later ≡ drop m tiles → before ≡ kept → rows ≡ with_rows [] (rows_reaching later before)
-    → next ≡ with_rows rows (new_rows later r (at_places r.parcels places)) → next ≡ with_rows (with_rows [] (rows_reaching (drop m tiles) kept)) (new_rows (drop m tiles) r (at_places r.parcels places))
+pub all-kept : (later tiles : List Box4) (m : ℕ) (r : Contents) (places : List ℕ) (before kept rows next : List KeptRow) → later ≡ drop m tiles → before ≡ kept
+    → rows ≡ with_rows [] (rows_reaching later before)
+    → next ≡ with_rows rows (new_rows later r (at_places r.parcels places))
+    → next ≡ with_rows (with_rows [] (rows_reaching (drop m tiles) kept)) (new_rows (drop m tiles) r (at_places r.parcels places))
 all-kept later tiles m r places before kept rows next e f g h =
     h ∙ ap (λ (xs : List KeptRow). with_rows xs (new_rows later r (at_places r.parcels places))) g
     ∙ ap₂ (λ (ts : List Box4) (xs : List KeptRow). with_rows (with_rows [] (rows_reaching ts xs)) (new_rows ts r (at_places r.parcels places))) e f
@@ -107,10 +117,12 @@ with-rows-append rows [] ys = refl
 with-rows-append rows (x ∷ xs) ys = with-rows-append (with_kept_row rows x) xs ys
 
 new-rows-append : (tiles : List Box4) (r : Contents) (ks ls : List Parcel) → new_rows tiles r (ks ++ ls) ≡ new_rows tiles r ks ++ new_rows tiles r ls
-new-rows-append tiles r ks ls = ap (map (row_in r)) (filter-append (λ (k : Parcel). list_any (reaches k) tiles) ks ls) ∙ map-append (row_in r) (filter (λ (k : Parcel). list_any (reaches k) tiles) ks) (filter (λ (k : Parcel). list_any (reaches k) tiles) ls)
+new-rows-append tiles r ks ls = ap (map (row_in r)) (filter-append (λ (k : Parcel). list_any (reaches k) tiles) ks ls)
+    ∙ map-append (row_in r) (filter (λ (k : Parcel). list_any (reaches k) tiles) ks) (filter (λ (k : Parcel). list_any (reaches k) tiles) ls)
 
 -- one place more
-pub place-more : (tiles : List Box4) (r : Contents) (kept rows more : List KeptRow) (places : List ℕ) (i p : ℕ) → i < length places → p ≡ get_or places i p → more ≡ with_rows rows (new_rows tiles r (option_to_list (slice_get r.parcels p)))
+pub place-more : (tiles : List Box4) (r : Contents) (kept rows more : List KeptRow) (places : List ℕ) (i p : ℕ) → i < length places → p ≡ get_or places i p
+    → more ≡ with_rows rows (new_rows tiles r (option_to_list (slice_get r.parcels p)))
     → with_rows kept (new_rows tiles r (at_places r.parcels places)) ≡ with_rows rows (new_rows tiles r (at_places r.parcels (drop i places)))
     → with_rows kept (new_rows tiles r (at_places r.parcels places)) ≡ with_rows more (new_rows tiles r (at_places r.parcels (drop (i + 1) places)))
 place-more tiles r kept rows more places i p l e m h =

@@ -1,5 +1,6 @@
 -- The first fault of a part is the first of the whole.
-use Rattle.std.proofs.Common.{◌≡◌, ◌+◌, ◌<◌, ℕ, zero, suc, Bool, true, false, not, cond, ◌&&◌, ◌++◌, List, [], ◌∷◌, map, filter, flat_map, take, drop, length, get_or, Option, None, Some, is_some, ◌⊎◌, inl, inr, refl, ap, sym, ◌∙◌, subst, arith, append-nil}
+use Rattle.std.proofs.Common.{◌≡◌, ◌+◌, ◌<◌, ℕ, zero, suc, Bool, true, false, not, cond, ◌&&◌, ◌++◌, List, [], ◌∷◌, map, filter, flat_map, take, drop, length, get_or, Option, None, Some, is_some}
+use Rattle.std.proofs.Common.{◌⊎◌, inl, inr, refl, ap, sym, ◌∙◌, subst, arith, append-nil}
 use Rattle.std.specs.List.{slice_get}
 use Rattle.std.specs.Option.{option_map}
 use Rattle.std.proofs.lemmas.List.{drop_more, map-append}
@@ -43,7 +44,8 @@ no-length : {A : Type 0} (xs : List A) → length xs ≡ 0 → xs ≡ []
 no-length [] e = refl
 no-length (x ∷ xs) e = absurd (omega (arith, e))
 
-pub classes-short : (own all rest : List Class) (k : ℕ) → seam_class_faults 1 own all ≡ seam_class_faults (k + 1) (drop k own) rest → k < length own → length rest ≡ 0 → Told (seam_class_faults 1 own all) (Classes (k + 1))
+pub classes-short : (own all rest : List Class) (k : ℕ) → seam_class_faults 1 own all ≡ seam_class_faults (k + 1) (drop k own) rest → k < length own → length rest ≡ 0
+    → Told (seam_class_faults 1 own all) (Classes (k + 1))
 classes-short own all rest k e l n =
     let r = rest-at own k l in
     inr ([], e ∙ ap (seam_class_faults (k + 1) (drop k own)) (no-length rest n) ∙ ap (λ (xs : List Class). seam_class_faults (k + 1) xs []) r.1)
@@ -53,7 +55,8 @@ pub classes-more : (own : List Class) (k : ℕ) (a b : Class) (others : List Cla
 classes-more own k a b others l e = ap (λ (xs : List Class). seam_class_faults (k + 1) xs (b ∷ others)) (drop_more own k a l ∙ ap (λ (x : Class). x ∷ drop (k + 1) own) (sym e))
 
 -- ---- one row
-pub fresh-first : (tiles : List Box4) (n : ℕ) (k : Parcel) (region : ℕ) (f : SeamFault) → Some region ≡ slice_get (reached 0 (take n tiles) k) 0 → f ≡ At Lacks k.id region → Told (fresh_faults tiles n k) f
+pub fresh-first : (tiles : List Box4) (n : ℕ) (k : Parcel) (region : ℕ) (f : SeamFault) → Some region ≡ slice_get (reached 0 (take n tiles) k) 0 → f ≡ At Lacks k.id region
+    → Told (fresh_faults tiles n k) f
 fresh-first tiles n k region f e g =
     let h = head-is (reached 0 (take n tiles) k) region (sym e) in
     inr (map (At Lacks k.id) h.0, ap (map (At Lacks k.id)) h.1 ∙ ap (λ (x : SeamFault). x ∷ map (At Lacks k.id) h.0) (sym g))
@@ -61,7 +64,8 @@ fresh-first tiles n k region f e g =
 pub fresh-none : (tiles : List Box4) (n : ℕ) (k : Parcel) → None ≡ slice_get (reached 0 (take n tiles) k) 0 → fresh_faults tiles n k ≡ []
 fresh-none tiles n k e = ap (map (At Lacks k.id)) (no-head (reached 0 (take n tiles) k) (sym e))
 
-pub elsewhere : (tiles : List Box4) (n : ℕ) (ids : List (List ℕ)) (kept : List KeptRow) (r : Contents) (k : Parcel) (f : SeamFault) → reaches_own tiles n k ≡ false → f ≡ At Elsewhere k.id n → Told (tested_row tiles n ids kept r k) f
+pub elsewhere : (tiles : List Box4) (n : ℕ) (ids : List (List ℕ)) (kept : List KeptRow) (r : Contents) (k : Parcel) (f : SeamFault) → reaches_own tiles n k ≡ false → f ≡ At Elsewhere k.id n
+    → Told (tested_row tiles n ids kept r k) f
 elsewhere tiles n ids kept r k f e g = told-alike (tested_row tiles n ids kept r k) (f ∷ more) f
     (ap (λ (b : Bool). seam_fault_if (not b) (At Elsewhere k.id n) ++ more) e ∙ ap (λ (x : SeamFault). x ∷ more) (sym g)) (inr (more, refl))
   where
@@ -76,7 +80,8 @@ some-kept : {R : Type 0} (now : R → Parcel) (o : Option R) → is_some (option
 some-kept now None = refl
 some-kept now (Some x) = refl
 
-pub lack-told : {R : Type 0} (now : R → Parcel) (o : Option R) (own b : Bool) (r : Contents) (id : List ℕ) → own ≡ true → option_map now o ≡ parcel_named r id → is_some o ≡ not b → b ≡ (own && not (has_id (parcel_ids r.parcels) id))
+pub lack-told : {R : Type 0} (now : R → Parcel) (o : Option R) (own b : Bool) (r : Contents) (id : List ℕ) → own ≡ true → option_map now o ≡ parcel_named r id → is_some o ≡ not b
+    → b ≡ (own && not (has_id (parcel_ids r.parcels) id))
 lack-told now o own b r id e f g =
     sym (not-not b) ∙ ap not (sym g ∙ sym (some-kept now o) ∙ ap is_some f ∙ sym (has-found id r.parcels)) ∙ ap (λ (t : Bool). t && not (has_id (parcel_ids r.parcels) id)) (sym e)
 
@@ -84,17 +89,20 @@ lack-told now o own b r id e f g =
 pub rows-at : (F : Parcel → List SeamFault) (ps : List Parcel) (k : ℕ) (p : Parcel) → k < length ps → p ≡ get_or ps k p → flat_map F (drop k ps) ≡ F p ++ flat_map F (drop (k + 1) ps)
 rows-at F ps k p l e = ap (flat_map F) (drop_more ps k p l ∙ ap (λ (x : Parcel). x ∷ drop (k + 1) ps) (sym e))
 
-pub rows-told : (F : Parcel → List SeamFault) (ps : List Parcel) (k : ℕ) (p : Parcel) (f : SeamFault) → k < length ps → p ≡ get_or ps k p → flat_map F ps ≡ flat_map F (drop k ps) → Told (F p) f → Told (flat_map F ps) f
+pub rows-told : (F : Parcel → List SeamFault) (ps : List Parcel) (k : ℕ) (p : Parcel) (f : SeamFault) → k < length ps → p ≡ get_or ps k p → flat_map F ps ≡ flat_map F (drop k ps) → Told (F p) f
+    → Told (flat_map F ps) f
 rows-told F ps k p f l e i h = told-alike (flat_map F ps) (F p ++ flat_map F (drop (k + 1) ps)) f (i ∙ rows-at F ps k p l e) (told-left (F p) (flat_map F (drop (k + 1) ps)) f h)
 
-pub rows-more : (F : Parcel → List SeamFault) (ps : List Parcel) (k : ℕ) (p : Parcel) → k < length ps → p ≡ get_or ps k p → flat_map F ps ≡ flat_map F (drop k ps) → F p ≡ [] → flat_map F ps ≡ flat_map F (drop (k + 1) ps)
+pub rows-more : (F : Parcel → List SeamFault) (ps : List Parcel) (k : ℕ) (p : Parcel) → k < length ps → p ≡ get_or ps k p → flat_map F ps ≡ flat_map F (drop k ps) → F p ≡ []
+    → flat_map F ps ≡ flat_map F (drop (k + 1) ps)
 rows-more F ps k p l e i n = i ∙ rows-at F ps k p l e ∙ ap (λ (fs : List SeamFault). fs ++ flat_map F (drop (k + 1) ps)) n
 
 -- the places of those that pass a test
 pub places-more : (q : Parcel → Bool) (ps : List Parcel) (places : List ℕ) (k : ℕ) (p : Parcel) (new : Bool) → k < length ps → p ≡ get_or ps k p → new ≡ q p
     → map (slice_get ps) places ≡ map Some (filter q (take k ps)) → map (slice_get ps) (cond new (places ++ k ∷ []) places) ≡ map Some (filter q (take (k + 1) ps))
 places-more q ps places k p new l e n h =
-    by new n ∙ sym (map-append Some (filter q (take k ps)) (cond (q p) (p ∷ []) [])) ∙ ap (map Some) (sym (filter_more q ps k p l ∙ ap (λ (x : Parcel). filter q (take k ps) ++ cond (q x) (x ∷ []) []) (sym e)))
+    by new n ∙ sym (map-append Some (filter q (take k ps)) (cond (q p) (p ∷ []) []))
+    ∙ ap (map Some) (sym (filter_more q ps k p l ∙ ap (λ (x : Parcel). filter q (take k ps) ++ cond (q x) (x ∷ []) []) (sym e)))
   where
     here : slice_get ps k ≡ Some p
     here = slice_get-get_or ps k p l ∙ ap Some (sym e)

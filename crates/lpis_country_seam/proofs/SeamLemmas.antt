@@ -39,7 +39,8 @@ nothing-between [] y a e = cons-nil y a (sym e)
 nothing-between (x ∷ xs) y a e = cons-nil x (xs ++ y ∷ a) (sym e)
 
 -- what holds at each place of a list and at a last one holds at each place of the longer list
-split-last : {A : Type 0} (P : List A → A → Type 0) (xs : List A) (x : A) → ((b : List A) (y : A) (a : List A) → xs ≡ b ++ y ∷ a → P b y) → P xs x → (b : List A) (y : A) (a : List A) → xs ++ x ∷ [] ≡ b ++ y ∷ a → P b y
+split-last : {A : Type 0} (P : List A → A → Type 0) (xs : List A) (x : A) → ((b : List A) (y : A) (a : List A) → xs ≡ b ++ y ∷ a → P b y) → P xs x → (b : List A) (y : A) (a : List A)
+    → xs ++ x ∷ [] ≡ b ++ y ∷ a → P b y
 split-last P [] x h p [] y a e = subst (P []) (same-head x y [] a e) p
 split-last P [] x h p (b ∷ bs) y a e = absurd (nothing-between bs y a (same-tail x b [] (bs ++ y ∷ a) e))
 split-last {A} P (z ∷ zs) x h p [] y a e = h [] y zs (ap (λ (w : A). w ∷ zs) (same-head z y (zs ++ x ∷ []) a e))
@@ -52,7 +53,8 @@ pub classes-same : (n : ℕ) (xs ys : List Class) → seam_class_faults n xs ys 
 classes-same n [] [] e = refl
 classes-same n [] (y ∷ ys) e = absurd (cons-nil (Classes n) [] e)
 classes-same n (x ∷ xs) [] e = absurd (cons-nil (Classes n) [] e)
-classes-same n (x ∷ xs) (y ∷ ys) e = by (same_class x y) refl (nil-left (seam_fault_if (not (same_class x y)) (Classes n)) (seam_class_faults (n + 1) xs ys) e) (classes-same (n + 1) xs ys (nil-right (seam_fault_if (not (same_class x y)) (Classes n)) (seam_class_faults (n + 1) xs ys) e))
+classes-same n (x ∷ xs) (y ∷ ys) e = by (same_class x y) refl (nil-left (seam_fault_if (not (same_class x y)) (Classes n)) (seam_class_faults (n + 1) xs ys) e)
+    (classes-same (n + 1) xs ys (nil-right (seam_fault_if (not (same_class x y)) (Classes n)) (seam_class_faults (n + 1) xs ys) e))
   where
     by : (b : Bool) → same_class x y ≡ b → seam_fault_if (not b) (Classes n) ≡ [] → xs ≡ ys → x ∷ xs ≡ y ∷ ys
     by true f g h = ap₂ ◌∷◌ ((same_class-tells x y).0 f) h
@@ -66,39 +68,48 @@ none-joined tiles ks = record {
   faultless = λ before r after e. absurd (nothing-between before r after e);
 }
 
-pub joined-more : (tiles : List Box4) (ks : List Class) (done : List Contents) (r : Contents) → AreJoined tiles ks done → IsRegion r → seam_faults tiles ks done r ≡ [] → AreJoined tiles ks (done ++ r ∷ [])
+pub joined-more : (tiles : List Box4) (ks : List Class) (done : List Contents) (r : Contents) → AreJoined tiles ks done → IsRegion r → seam_faults tiles ks done r ≡ []
+    → AreJoined tiles ks (done ++ r ∷ [])
 joined-more tiles ks done r h g e = record {
   regions_are = All-push IsRegion done r h.regions_are g;
   classes_are = All-push (λ (x : Contents). x.classes ≡ ks) done r h.classes_are
-      (classes-same 1 r.classes ks (nil-left (seam_class_faults 1 r.classes ks) (flat_map (seam_row_faults tiles (length done) (country_of ks done) r) r.parcels ++ map (λ (k : Parcel). At Lacks k.id (length done)) (filter (is_lacking tiles (length done) r) (country_of ks done).parcels)) e));
+      (classes-same 1 r.classes ks (nil-left (seam_class_faults 1 r.classes ks)
+      (flat_map (seam_row_faults tiles (length done) (country_of ks done) r) r.parcels ++ map (λ (k : Parcel). At Lacks k.id (length done))
+      (filter (is_lacking tiles (length done) r) (country_of ks done).parcels)) e));
   faultless = split-last (λ (before : List Contents) (x : Contents). seam_faults tiles ks before x ≡ []) done r h.faultless e;
 }
 
 -- ---- what a step tests
-rows-tested : (tiles ts : List Box4) (n m : ℕ) (ids : List (List ℕ)) (kept : List KeptRow) (u r : Contents) → ts ≡ tiles → m ≡ n → ((id : List ℕ) → has_id ids id ≡ has_id (parcel_ids u.parcels) id) → kept ≡ awaited_rows tiles n u → IsDistinct same_id (parcel_ids u.parcels)
+rows-tested : (tiles ts : List Box4) (n m : ℕ) (ids : List (List ℕ)) (kept : List KeptRow) (u r : Contents) → ts ≡ tiles → m ≡ n
+    → ((id : List ℕ) → has_id ids id ≡ has_id (parcel_ids u.parcels) id) → kept ≡ awaited_rows tiles n u → IsDistinct same_id (parcel_ids u.parcels)
     → flat_map (tested_row ts m ids kept r) r.parcels ≡ flat_map (seam_row_faults tiles n u r) r.parcels
 rows-tested tiles ts n m ids kept u r e f i h d =
     ap₂ (λ (a : List Box4) (b : ℕ). flat_map (tested_row a b ids kept r) r.parcels) e f
     ∙ rows-same (tested_row tiles n ids kept r) (seam_row_faults tiles n u r) (row-same tiles n ids kept u r i h d) r.parcels
 
-kept-tested : (tiles ts : List Box4) (n m : ℕ) (kept : List KeptRow) (u r : Contents) → ts ≡ tiles → m ≡ n → kept ≡ awaited_rows tiles n u → tested_kept ts m kept r ≡ map (λ (k : Parcel). At Lacks k.id n) (filter (is_lacking tiles n r) u.parcels)
+kept-tested : (tiles ts : List Box4) (n m : ℕ) (kept : List KeptRow) (u r : Contents) → ts ≡ tiles → m ≡ n → kept ≡ awaited_rows tiles n u
+    → tested_kept ts m kept r ≡ map (λ (k : Parcel). At Lacks k.id n) (filter (is_lacking tiles n r) u.parcels)
 kept-tested tiles ts n m kept u r e f h = ap₂ (λ (a : List Box4) (b : ℕ). tested_kept a b kept r) e f ∙ kept-same tiles n kept u r h
 
 pub seam-tested : (tiles : List Box4) (ks : List Class) (done : List Contents) (s : OpenSeam) (r : Contents) → IsSeamOf tiles ks done s → tested s r ≡ seam_faults tiles ks done r
 seam-tested tiles ks done s r h =
     ap₂ ◌++◌ (ap (seam_class_faults 1 r.classes) h.classes_are)
-    (ap₂ ◌++◌ (rows-tested tiles s.tiles.items (length done) s.next s.ids s.kept (country_of ks done) r h.tiles_are h.number h.ids_are h.rows_are (country_is_region ks done h.joined.regions_are).distinct)
+    (ap₂ ◌++◌ (rows-tested tiles s.tiles.items (length done) s.next s.ids s.kept (country_of ks done) r h.tiles_are h.number h.ids_are h.rows_are
+    (country_is_region ks done h.joined.regions_are).distinct)
     (kept-tested tiles s.tiles.items (length done) s.next s.kept (country_of ks done) r h.tiles_are h.number h.rows_are))
 
 -- ---- what it keeps
-fresh-new : (tiles : List Box4) (ks : List Class) (done : List Contents) (s : OpenSeam) (r : Contents) → IsSeamOf tiles ks done s → filter (is_fresh s.ids) r.parcels ≡ new_parcels (country_of ks done) r
+fresh-new : (tiles : List Box4) (ks : List Class) (done : List Contents) (s : OpenSeam) (r : Contents) → IsSeamOf tiles ks done s
+    → filter (is_fresh s.ids) r.parcels ≡ new_parcels (country_of ks done) r
 fresh-new tiles ks done s r h = filter_agree (is_fresh s.ids) (λ (k : Parcel). is_new (country_of ks done) k.id) (λ k. ap not (h.ids_are k.id)) r.parcels
 
-pub seam-places : (tiles : List Box4) (ks : List Class) (done : List Contents) (s : OpenSeam) (r : Contents) (places : List ℕ) → IsSeamOf tiles ks done s → map (slice_get r.parcels) places ≡ map Some (filter (is_fresh s.ids) r.parcels)
+pub seam-places : (tiles : List Box4) (ks : List Class) (done : List Contents) (s : OpenSeam) (r : Contents) (places : List ℕ) → IsSeamOf tiles ks done s
+    → map (slice_get r.parcels) places ≡ map Some (filter (is_fresh s.ids) r.parcels)
     → map (slice_get r.parcels) places ≡ map Some (new_parcels (country_of ks done) r)
 seam-places tiles ks done s r places h e = e ∙ ap (map Some) (fresh-new tiles ks done s r h)
 
-kept-so : (tiles ts : List Box4) (n m : ℕ) (kept next : List KeptRow) (r : Contents) (news : List Parcel) → ts ≡ tiles → m ≡ n → next ≡ with_rows (with_rows [] (rows_reaching (drop (m + 1) ts) kept)) (new_rows (drop (m + 1) ts) r news)
+kept-so : (tiles ts : List Box4) (n m : ℕ) (kept next : List KeptRow) (r : Contents) (news : List Parcel) → ts ≡ tiles → m ≡ n
+    → next ≡ with_rows (with_rows [] (rows_reaching (drop (m + 1) ts) kept)) (new_rows (drop (m + 1) ts) r news)
     → next ≡ with_rows (with_rows [] (rows_reaching (drop (suc n) tiles) kept)) (new_rows (drop (suc n) tiles) r news)
 kept-so tiles ts n m kept next r news e f h =
     h ∙ ap₂ (λ (a : List Box4) (b : ℕ). with_rows (with_rows [] (rows_reaching (drop b a) kept)) (new_rows (drop b a) r news)) e (one-more m n f)
@@ -106,16 +117,19 @@ kept-so tiles ts n m kept next r news e f h =
     one-more : (a b : ℕ) → a ≡ b → a + 1 ≡ suc b
     one-more a b g = omega (arith, g)
 
-pub seam-goes-on : (tiles : List Box4) (ks : List Class) (done : List Contents) (s next : OpenSeam) (r : Contents) (places : List ℕ) → IsSeamOf tiles ks done s → IsKeptNext s next r places → tested s r ≡ []
+pub seam-goes-on : (tiles : List Box4) (ks : List Class) (done : List Contents) (s next : OpenSeam) (r : Contents) (places : List ℕ) → IsSeamOf tiles ks done s → IsKeptNext s next r places
+    → tested s r ≡ []
     → map (slice_get r.parcels) places ≡ map Some (filter (is_fresh s.ids) r.parcels) → IsRegion r → IsSeamOf tiles ks (done ++ r ∷ []) next
 seam-goes-on tiles ks done s next r places h k e p g = record {
   tiles_are = k.tiles ∙ h.tiles_are;
   classes_are = k.classes ∙ h.classes_are;
   number = k.number ∙ ap (λ (n : ℕ). n + 1) h.number ∙ sym (length-append done (r ∷ []));
-  ids_are = λ q. k.ids q ∙ ap (λ (b : Bool). b || has_id (parcel_ids r.parcels) q) (h.ids_are q) ∙ sym (ids-next u r q) ∙ ap (λ (w : Contents). has_id (parcel_ids w.parcels) q) (sym (country_snoc ks done r));
+  ids_are = λ q. k.ids q ∙ ap (λ (b : Bool). b || has_id (parcel_ids r.parcels) q) (h.ids_are q) ∙ sym (ids-next u r q)
+      ∙ ap (λ (w : Contents). has_id (parcel_ids w.parcels) q) (sym (country_snoc ks done r));
   rows_are = kept-next tiles (length done) u r s.kept next.kept (at_places r.parcels places) region.distinct (region_grows u r region g).distinct
       (All-weaker (IsAmong u.parcels) (λ (x : Parcel). pieces_named (with_region u r) x.id ≡ pieces_named u x.id) (λ x a. old_pieces u r x a) u.parcels (All-contains_itself u.parcels))
-      (All-weaker (IsAmong (new_parcels u r)) (λ (x : Parcel). pieces_named (with_region u r) x.id ≡ pieces_named r x.id) (λ x a. fresh_pieces u r x region a) (new_parcels u r) (All-contains_itself (new_parcels u r)))
+      (All-weaker (IsAmong (new_parcels u r)) (λ (x : Parcel). pieces_named (with_region u r) x.id ≡ pieces_named r x.id) (λ x a. fresh_pieces u r x region a) (new_parcels u r)
+      (All-contains_itself (new_parcels u r)))
       h.rows_are (placed r.parcels places (filter (is_fresh s.ids) r.parcels) p ∙ fresh-new tiles ks done s r h)
       (kept-so tiles s.tiles.items (length done) s.next s.kept next.kept r (at_places r.parcels places) h.tiles_are h.number k.rows)
       ∙ ap₂ (λ (n : ℕ) (w : Contents). awaited_rows tiles n w) (more (length done) ∙ sym (length-append done (r ∷ []))) (sym (country_snoc ks done r));

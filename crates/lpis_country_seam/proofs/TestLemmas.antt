@@ -34,7 +34,9 @@ kept-row u q id (p ∷ ps) d = by (q p) (same_id id p.id) refl refl (kept-row u 
         → row_named (map (row_in u) (cond b (p ∷ filter q ps) (filter q ps))) id ≡ kept_of u q (cond s (Some p) (find (is_of id) ps))
     by true true e f h = ap (λ (t : Bool). cond t (Some (row_in u p)) (row_named rest id)) f ∙ sym (ap (λ (t : Bool). cond t (Some (row_in u p)) None) e)
     by true false e f h = ap (λ (t : Bool). cond t (Some (row_in u p)) (row_named rest id)) f ∙ h
-    by false true e f h = h ∙ ap (kept_of u q) (none-found id ps (subst (λ (x : List ℕ). Differ x (parcel_ids ps)) (sym ((bytes_decides id p.id).0 f)) (IsDistinct-head same_id p.id (parcel_ids ps) d))) ∙ sym (ap (λ (t : Bool). cond t (Some (row_in u p)) None) e)
+    by false true e f h = h ∙ ap (kept_of u q) (none-found id ps
+        (subst (λ (x : List ℕ). Differ x (parcel_ids ps)) (sym ((bytes_decides id p.id).0 f)) (IsDistinct-head same_id p.id (parcel_ids ps) d)))
+        ∙ sym (ap (λ (t : Bool). cond t (Some (row_in u p)) None) e)
     by false false e f h = h
 
 -- ---- one row
@@ -46,9 +48,11 @@ known-same tiles n u r k p false e = refl
 by-parcel : (tiles : List Box4) (n : ℕ) (u r : Contents) (k : Parcel) (b : Bool) (o : Option KeptRow) (f : Option Parcel) → b ≡ is_some f → o ≡ kept_of u (reaches_later tiles n) f
     → cond b (known_faults n r k o) (fresh_faults tiles n k) ≡ earlier_faults tiles n u r k f
 by-parcel tiles n u r k b o None e h = ap (λ (t : Bool). cond t (known_faults n r k o) (fresh_faults tiles n k)) e
-by-parcel tiles n u r k b o (Some p) e h = ap (λ (t : Bool). cond t (known_faults n r k o) (fresh_faults tiles n k)) e ∙ ap (known_faults n r k) h ∙ known-same tiles n u r k p (reaches_later tiles n p) refl
+by-parcel tiles n u r k b o (Some p) e h = ap (λ (t : Bool). cond t (known_faults n r k o) (fresh_faults tiles n k)) e ∙ ap (known_faults n r k) h
+    ∙ known-same tiles n u r k p (reaches_later tiles n p) refl
 
-pub row-same : (tiles : List Box4) (n : ℕ) (ids : List (List ℕ)) (kept : List KeptRow) (u r : Contents) → ((id : List ℕ) → has_id ids id ≡ has_id (parcel_ids u.parcels) id) → kept ≡ awaited_rows tiles n u → IsDistinct same_id (parcel_ids u.parcels)
+pub row-same : (tiles : List Box4) (n : ℕ) (ids : List (List ℕ)) (kept : List KeptRow) (u r : Contents) → ((id : List ℕ) → has_id ids id ≡ has_id (parcel_ids u.parcels) id)
+    → kept ≡ awaited_rows tiles n u → IsDistinct same_id (parcel_ids u.parcels)
     → (k : Parcel) → tested_row tiles n ids kept r k ≡ seam_row_faults tiles n u r k
 row-same tiles n ids kept u r i h d k = ap (λ (fs : List SeamFault). seam_fault_if (not (reaches_own tiles n k)) (At Elsewhere k.id n) ++ fs)
     (by-parcel tiles n u r k (has_id ids k.id) (row_named kept k.id) (parcel_named u k.id) (i k.id ∙ has-found k.id u.parcels)
@@ -70,7 +74,8 @@ lack-own tiles n r k e = by (reaches_own tiles n k) refl
 abbrev lack_at : ℕ → Parcel → SeamFault
 lack_at n k = At Lacks k.id n
 
-lacking-same : (tiles : List Box4) (n : ℕ) (u r : Contents) (ps : List Parcel) → tested_kept tiles n (map (row_in u) (filter (reaches_later tiles n) ps)) r ≡ map (lack_at n) (filter (is_lacking tiles n r) ps)
+lacking-same : (tiles : List Box4) (n : ℕ) (u r : Contents) (ps : List Parcel)
+    → tested_kept tiles n (map (row_in u) (filter (reaches_later tiles n) ps)) r ≡ map (lack_at n) (filter (is_lacking tiles n r) ps)
 lacking-same tiles n u r [] = refl
 lacking-same tiles n u r (p ∷ ps) = by (reaches_later tiles n p) refl (lacking-same tiles n u r ps)
   where
@@ -88,5 +93,6 @@ lacking-same tiles n u r (p ∷ ps) = by (reaches_later tiles n p) refl (lacking
     by true e h = own (is_lacking tiles n r p) h
     by false e h = h ∙ sym (ap (λ (t : Bool). map (lack_at n) (cond t (p ∷ filter (is_lacking tiles n r) ps) (filter (is_lacking tiles n r) ps))) (lack-own tiles n r p e))
 
-pub kept-same : (tiles : List Box4) (n : ℕ) (kept : List KeptRow) (u r : Contents) → kept ≡ awaited_rows tiles n u → tested_kept tiles n kept r ≡ map (λ (k : Parcel). At Lacks k.id n) (filter (is_lacking tiles n r) u.parcels)
+pub kept-same : (tiles : List Box4) (n : ℕ) (kept : List KeptRow) (u r : Contents) → kept ≡ awaited_rows tiles n u
+    → tested_kept tiles n kept r ≡ map (λ (k : Parcel). At Lacks k.id n) (filter (is_lacking tiles n r) u.parcels)
 kept-same tiles n kept u r h = ap (λ (rows : List KeptRow). tested_kept tiles n rows r) h ∙ lacking-same tiles n u r u.parcels

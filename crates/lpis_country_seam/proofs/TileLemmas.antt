@@ -42,6 +42,7 @@ pub none-reached : (k : Parcel) (tiles : List Box4) (i : ℕ) → reached i tile
 none-reached k [] i e = All-nil (λ (t : Box4). reaches k t ≡ false)
 none-reached k (t ∷ ts) i e = by (reaches k t) refl e (none-reached k ts (i + 1))
   where
-    by : (b : Bool) → reaches k t ≡ b → cond b (i ∷ reached (i + 1) ts k) (reached (i + 1) ts k) ≡ [] → (reached (i + 1) ts k ≡ [] → All (λ (u : Box4). reaches k u ≡ false) ts) → All (λ (u : Box4). reaches k u ≡ false) (t ∷ ts)
+    by : (b : Bool) → reaches k t ≡ b → cond b (i ∷ reached (i + 1) ts k) (reached (i + 1) ts k) ≡ [] → (reached (i + 1) ts k ≡ [] → All (λ (u : Box4). reaches k u ≡ false) ts)
+        → All (λ (u : Box4). reaches k u ≡ false) (t ∷ ts)
     by true f h r = absurd (cons-nil i (reached (i + 1) ts k) h)
     by false f h r = All-cons (λ (u : Box4). reaches k u ≡ false) t ts f (r h)

@@ -1,6 +1,8 @@
 -- The faults of the next region of a country, in the order in which the first is reported.
-use Rattle.std.specs.Prelude.{◌≡◌, ◌⊎◌, ◌+◌, ◌&&◌, Bool, false, not, cond, ℕ, List, [], ◌∷◌, ◌++◌, length}
-use Rattle.std.specs.Prelude.{slice_get, take, drop, map, filter, flat_map, Option, None, Some, Result, Ok, Err}
+use Rattle.std.specs.Prelude.{◌≡◌, ◌⊎◌, ◌+◌, ◌&&◌, Bool, false, not, cond, ℕ, List, [], ◌∷◌, ◌++◌}
+use Rattle.std.specs.Prelude.{length}
+use Rattle.std.specs.Prelude.{slice_get, take, drop, map, filter, flat_map, Option, None, Some}
+use Rattle.std.specs.Prelude.{Result, Ok, Err}
 use Rattle.std.specs.List.{list_any}
 use Rattle.lpis_points.specs.declared.boxes.Box4.{Box4}
 use Rattle.lpis_covers.specs.declared.class.Class.{Class}

@@ -3,7 +3,8 @@
 ghost use Rattle.std.specs.Prelude.{◌≡◌, ◌||◌, [], ℕ, List, IfOk, OnOk, option_to_list, slice_get};
 ghost use Rattle.lpis_covers.specs.Ids.{has_id};
 ghost use Rattle.lpis_parcels.specs.Release.{parcel_ids};
-ghost use Rattle.lpis_country_seam.specs.private.Kept.{at_places, new_rows, rows_reaching, with_rows};
+ghost use Rattle.lpis_country_seam.specs.private.Kept.{at_places, new_rows, rows_reaching};
+ghost use Rattle.lpis_country_seam.specs.private.Kept.{with_rows};
 
 use crate::identifiers::Identifiers;
 use crate::kept::{KeptRow, KeptRows};

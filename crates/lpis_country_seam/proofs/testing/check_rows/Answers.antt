@@ -6,15 +6,21 @@ use Rattle.lpis_country_seam.proofs.testing.check_rows.Goals as goal
 
 pub returns-in-Err-clause-reports : goal.returns-in-Err-clause-reports
 returns-in-Err-clause-reports c =
-    rows-told (tested_row c.args.known.now.tiles.now c.args.known.now.n c.args.known.now.ids.now c.args.known.now.kept.now c.args.release.now) c.args.release.now.parcels c.loop-k.k c.index-parcels-k.result c.in-Err.fault
+    let known = c.args.known.now in
+    let release = c.args.release.now in
+    let parcel = c.index-parcels-k.result in
+    rows-told (tested_row known.tiles.now known.n known.ids.now known.kept.now release) release.parcels c.loop-k.k parcel c.in-Err.fault
     (subst (λ (ps : List Parcel). c.loop-k.k < length ps) c.parcels-parcels.ensures.parcels c.loop-k-test.true)
-    (subst (λ (ps : List Parcel). c.index-parcels-k.result ≡ get_or ps c.loop-k.k c.index-parcels-k.result) c.parcels-parcels.ensures.parcels c.index-parcels-k.is) c.loop-k.invariant.0 c.in-Err.ensures.reports
+    (subst (λ (ps : List Parcel). parcel ≡ get_or ps c.loop-k.k parcel) c.parcels-parcels.ensures.parcels c.index-parcels-k.is) c.loop-k.invariant.0 c.in-Err.ensures.reports
 
 pub loop-k-preserved : goal.loop-k-preserved
 loop-k-preserved c =
+    let known = c.args.known.now in
+    let release = c.args.release.now in
+    let parcel = c.index-parcels-k.result in
     let l = subst (λ (ps : List Parcel). c.loop-k.k < length ps) c.parcels-parcels.ensures.parcels c.loop-k-test.true in
-    let e = subst (λ (ps : List Parcel). c.index-parcels-k.result ≡ get_or ps c.loop-k.k c.index-parcels-k.result) c.parcels-parcels.ensures.parcels c.index-parcels-k.is in (
-      rows-more (tested_row c.args.known.now.tiles.now c.args.known.now.n c.args.known.now.ids.now c.args.known.now.kept.now c.args.release.now) c.args.release.now.parcels c.loop-k.k c.index-parcels-k.result l e c.loop-k.invariant.0 c.in-Ok.ensures.reports,
-      subst (λ (is : List ℕ). map (slice_get c.args.release.now.parcels) is ≡ map Some (filter (is_fresh c.args.known.now.ids.now) (take (c.loop-k.k + 1) c.args.release.now.parcels))) (sym c.in_ok-add_if-in-Ok.ensures)
-          (places-more (is_fresh c.args.known.now.ids.now) c.args.release.now.parcels c.loop-k.places.items c.loop-k.k c.index-parcels-k.result c.in-Ok.new l e c.in-Ok.ensures.new c.loop-k.invariant.1),
+    let e = subst (λ (ps : List Parcel). parcel ≡ get_or ps c.loop-k.k parcel) c.parcels-parcels.ensures.parcels c.index-parcels-k.is in (
+      rows-more (tested_row known.tiles.now known.n known.ids.now known.kept.now release) release.parcels c.loop-k.k parcel l e c.loop-k.invariant.0 c.in-Ok.ensures.reports,
+      subst (λ (is : List ℕ). map (slice_get release.parcels) is ≡ map Some (filter (is_fresh known.ids.now) (take (c.loop-k.k + 1) release.parcels))) (sym c.in_ok-add_if-in-Ok.ensures)
+          (places-more (is_fresh known.ids.now) release.parcels c.loop-k.places.items c.loop-k.k parcel c.in-Ok.new l e c.in-Ok.ensures.new c.loop-k.invariant.1),
     )

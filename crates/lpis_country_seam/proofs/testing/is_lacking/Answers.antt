@@ -3,4 +3,5 @@ use Rattle.lpis_country_seam.proofs.ReportLemmas.{lack-told}
 use Rattle.lpis_country_seam.proofs.testing.is_lacking.Goals as goal
 
 pub returns-then-reaches_number : goal.returns-then-reaches_number
-returns-then-reaches_number c = lack-told (λ p. p.now) c.parcel.result _ c.is_none.result c.args.release.now c.args.parcel.now.id (sym c.reaches_number.ensures ∙ c.if-reaches_number.true) c.parcel.ensures c.is_none.ensures
+returns-then-reaches_number c = lack-told (λ p. p.now) c.parcel.result _ c.is_none.result c.args.release.now c.args.parcel.now.id (sym c.reaches_number.ensures
+    ∙ c.if-reaches_number.true) c.parcel.ensures c.is_none.ensures

@@ -7,5 +7,6 @@ use Rattle.lpis_country_seam.proofs.IdLemmas.{add-by-order}
 use Rattle.lpis_country_seam.proofs.identifiers.Identifiers.add.Goals as goal
 
 pub returns : goal.returns
-returns c = λ q. add-by-order c.self.inside.ids.keys c.insert.new.self.keys c.args.id.now q (c.in_ok-insert.ensures.updates.0 q ∙ ap (λ (id : List ℕ). cond (is_eq (slice_cmp nat_cmp id q)) true (list_any (λ k. is_eq (slice_cmp nat_cmp q k)) c.self.inside.ids.keys)) c.in_ok-copy.ensures)
+returns c = λ q. add-by-order c.self.inside.ids.keys c.insert.new.self.keys c.args.id.now q (c.in_ok-insert.ensures.updates.0 q
+    ∙ ap (λ (id : List ℕ). cond (is_eq (slice_cmp nat_cmp id q)) true (list_any (λ k. is_eq (slice_cmp nat_cmp q k)) c.self.inside.ids.keys)) c.in_ok-copy.ensures)
     ∙ ap (λ (l : List (List ℕ)). cond (same_id c.args.id.now q) true (has_id l q)) c.self.view_is

@@ -14,6 +14,7 @@ returns c = record {
   number = refl;
   ids = λ q. c.in_ok-add_ids.ensures q ∙ ap (λ (ps : List Parcel). has_id c.args.self.now.ids q || has_id (parcel_ids ps) q) c.parcels.ensures.parcels;
   rows = all-kept _ c.args.self.now.tiles.items (c.args.self.now.next + 1) c.args.release.now c.args.places.now c.replace-kept.result c.args.self.now.kept c.in_ok-rows.rows c.in_ok-rows-2.rows
-      (ap (λ (ts : List Box4). take (length ts - (c.args.self.now.next + 1)) (drop (c.args.self.now.next + 1) ts)) c.deref.ensures.value ∙ take_rest c.args.self.now.tiles.items (c.args.self.now.next + 1))
+      (ap (λ (ts : List Box4). take (length ts - (c.args.self.now.next + 1)) (drop (c.args.self.now.next + 1) ts)) c.deref.ensures.value
+      ∙ take_rest c.args.self.now.tiles.items (c.args.self.now.next + 1))
       c.replace-kept.ensures.value c.in_ok-rows.ensures c.in_ok-rows-2.ensures;
 }
