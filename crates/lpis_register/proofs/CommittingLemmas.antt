@@ -1,7 +1,8 @@
 -- Writing a release that was accepted.
-use Rattle.std.proofs.Common.{◌≡◌, ◌≤◌, ◌∙◌, ℕ, pos, List, Result, Ok, Err, OnOk, OnErr, IsTrue, IsPermutation, sym, subst, subst₂}
-use Rattle.lpis_register.proofs.Common.{Trees, State, HasCleanDisk, Survives, survives_weaker, AreLive, Content, Entry, HoldsRegister, IsStored, Leaves, LeavesRegister, Origin, PublishFault}
+use Rattle.std.proofs.Common.{◌≡◌, ◌≤◌, ◌∙◌, ℕ, pos, List, Result, Ok, Err, IsPermutation, refl, sym, subst, subst₂}
+use Rattle.lpis_register.proofs.Common.{Trees, State, Survives, survives_weaker, AreLive, Content, Entry, HoldsRegister, LeavesRegister, PublishFault}
 use Rattle.lpis_register.proofs.Common.{Row, Shape, ShapesAre, StoredText, Tells, Whole, last_live}
+use Rattle.sqlite.specs.declared.error.Error.{Error}
 use Rattle.lpis_parcels.specs.declared.parcel.Parcel.{Parcel}
 use Rattle.lpis_lineage.specs.Lineage.{last_year}
 use Rattle.lpis_parcels.specs.Release.{parcel_ids}
@@ -10,6 +11,7 @@ use Rattle.lpis_lineage.specs.Changes.{Changes}
 use Rattle.lpis_lineage.specs.Lawful.{IsLawful, RowsFit}
 use Rattle.lpis_register_rows.specs.Content.{Mark, marks_from, published, released}
 use Rattle.lpis_register_rows.specs.Tells.{IsWriting, last_of_years}
+use Rattle.lpis_register_sql.specs.Commits.{AllStand, Rewrites}
 use Rattle.lpis_register.specs.Accepting.{IsPrepared}
 use Rattle.lpis_register.specs.Publishing.{Follows, LeavesRelease, Stores}
 use Rattle.lpis_register.specs.declared.accepting.Accepted.{Accepted}
@@ -56,24 +58,20 @@ module _ (more : TellsMore) (put : PutsTexts) (lives : LivesOn) (moved : Reorder
   alive : (h : List Entry) → IsDue now last a h → AreLive (last_live now) a.kept.shapes.items
   alive h due = lives h now due.year (parcel_ids due.parcels) due.rows due.follows.adds a.kept.shapes.items due.made.kept_is.live
 
-  pub written : {E : Type 0} (old new : State) (r : Result (Unit {0}) E)
-      → (HasCleanDisk new → (origin : Origin) (c : Content) → IsStored (Whole origin) old c → OnOk r (IsStored (Whole origin) new (whole c)))
-      → (HasCleanDisk new → IsTrue new.is_open → (origin : Origin) (c : Content) → IsStored (Whole origin) old c → OnErr r (IsStored (Whole origin) new c))
-      → ((origin : Origin) (c : Content) → IsStored (Whole origin) old c → Survives old new (Leaves (Whole origin) (whole c)))
-      → (HasCleanDisk new → (origin : Origin) (c : Content) → IsStored (Whole origin) old c → OnOk r ((db : Trees) → new.may_leave db → Leaves (Whole origin) (whole c) db))
-      → Writes now last a old new r
-  written old new r ok err crash durable = record {
+  pub written : (old new : State) (r : Result (Unit {0}) Error) → Rewrites AllStand whole old new r → Writes now last a old new r
+  written old new r wrote = record {
     ok = λ h shapes due clean holds.
         let c = holds.content in
-        on_ok r (holds_with holds.origin (whole c) now a.kept.shapes.items (told h c due holds.tells) (spelled h c due) (alive h due) new) (ok clean holds.origin c holds.stored);
-    err = λ h shapes clean up holds. on_err r (still_holds old new h shapes holds) (err clean up holds.origin holds.content holds.stored);
+        on_ok r (holds_with holds.origin (whole c) now a.kept.shapes.items (told h c due holds.tells) (spelled h c due) (alive h due) new) (wrote.ok clean (Whole holds.origin) c refl holds.stored);
+    err = λ h shapes clean up holds. on_err r (still_holds old new h shapes holds) (wrote.err clean up (Whole holds.origin) holds.content refl holds.stored);
     crash = λ h shapes due holds.
         let c = holds.content in
-        survives_with holds.origin (whole c) now a.kept.shapes.items (told h c due holds.tells) (spelled h c due) (alive h due) old new (crash holds.origin c holds.stored);
+        survives_with holds.origin (whole c) now a.kept.shapes.items (told h c due holds.tells) (spelled h c due) (alive h due) old new
+        (survives_weaker old new _ _ (λ _ db left. left (Whole holds.origin) c refl holds.stored) wrote.crash);
     durable = λ h shapes due clean holds.
         let c = holds.content in
         on_ok r (λ left db may. left_with holds.origin (whole c) now a.kept.shapes.items (told h c due holds.tells) (spelled h c due) (alive h due) db (left db may))
-        (durable clean holds.origin c holds.stored);
+        (wrote.durable clean (Whole holds.origin) c refl holds.stored);
   }
 
 -- ---- the history with the release at its end
@@ -90,9 +88,10 @@ follows_as h k year parcels rows a live more el er adds lawful fits made = recor
 -- ---- both
 
 module _ (h k : List Entry) (year : ℕ) (parcels : List Parcel) (rows : List Row) (a : Accepted) (old : State) where
-  pub not_begun : {E : Type 0} (e : E) → Commits h k year parcels rows a old old (Err e)
-  not_begun e = record {
+  pub not_begun : {E : Type 0} → k ≡ h → (e : E) → Commits h k year parcels rows a old old (Err e)
+  not_begun same e = record {
     follows = tt;
+    refused = same;
     ok = λ shapes clean holds. tt;
     err = λ shapes clean up holds. holds;
     crash = λ shapes holds. nothing_done (LeavesRelease h year parcels rows) old;
@@ -107,15 +106,17 @@ module _ (now : List Entry) (last : ℕ) (a : Accepted) (h : List Entry) (due : 
   pub committed : {E F : Type 0} (x y : Unit {0}) → Writes now last a {E = E} old new (Ok x) → Commits h now due.year due.parcels due.rows a {E = F} old new (Ok y)
   committed {E} x y w = record {
     follows = due.follows;
+    refused = tt;
     ok = λ shapes clean holds. w.ok h shapes due clean holds;
     err = λ shapes clean up holds. tt;
     crash = λ shapes holds. crashed {E = E} (Ok x) w shapes holds;
     durable = λ shapes clean holds db may. w.durable h shapes due clean holds db may;
   }
 
-  pub taken_back : {E F : Type 0} (k : List Entry) (e : E) (f : F) → Writes now last a old new (Err e) → Commits h k due.year due.parcels due.rows a old new (Err f)
-  taken_back k e f w = record {
+  pub taken_back : {E F : Type 0} (k : List Entry) (e : E) (f : F) → k ≡ h → Writes now last a old new (Err e) → Commits h k due.year due.parcels due.rows a old new (Err f)
+  taken_back k e f same w = record {
     follows = tt;
+    refused = same;
     ok = λ shapes clean holds. tt;
     err = λ shapes clean up holds. w.err h shapes clean up holds;
     crash = λ shapes holds. crashed (Err e) w shapes holds;
@@ -133,11 +134,11 @@ module _ (h k : List Entry) (year : ℕ) (parcels : List Parcel) (rows : List Ro
     durable = λ clean holds db may. subst (λ s. LeavesRegister k s db) (sym same) (c.durable kept clean holds db may);
   }
 
-pub stored_err : (h k : List Entry) (year : ℕ) (parcels : List Parcel) (rows : List Row) (a : Accepted) (shapes : List Shape) (old new : State) (e : PublishFault) → k ≡ h
+pub stored_err : (h k : List Entry) (year : ℕ) (parcels : List Parcel) (rows : List Row) (a : Accepted) (shapes : List Shape) (old new : State) (e : PublishFault)
     → Commits h k year parcels rows a old new (Err e) → Stores h year parcels rows shapes k shapes old new (Err e)
-stored_err h k year parcels rows a shapes old new e same c = record {
+stored_err h k year parcels rows a shapes old new e c = record {
   ok = λ clean holds. tt;
-  err = λ clean up holds. subst (λ l. HoldsRegister new l shapes) (sym same) (c.err shapes clean up holds);
+  err = λ clean up holds. subst (λ l. HoldsRegister new l shapes) (sym c.refused) (c.err shapes clean up holds);
   crash = λ holds. c.crash shapes holds;
   durable = λ clean holds. tt;
 }

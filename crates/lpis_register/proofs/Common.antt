@@ -14,9 +14,8 @@ pub use Rattle.lpis_register.specs.declared.fault.PublishFault.{PublishFault}
 pub use Rattle.lpis_register.specs.declared.fault.PublishFault.TheVariants.{Unlawful}
 pub use Rattle.lpis_register_sql.specs.Bare.{IsBare}
 pub use Rattle.lpis_register_sql.specs.Holding.{IsStored, Leaves}
-pub use Rattle.lpis_register_sql.specs.Layouts.{Layout, Origin, Whole}
+pub use Rattle.lpis_register_sql.specs.Layouts.{Layout, Whole}
 pub use Rattle.sqlite.proofs.StateLemmas.{survives_weaker}
 pub use Rattle.sqlite.specs.Held.{state}
 pub use Rattle.sqlite.specs.State.{HasCleanDisk, State, Survives}
 pub use Rattle.sqlite.specs.Tree.{Trees}
-pub use Rattle.std.proofs.lemmas.Result.{IfOk-weaker}

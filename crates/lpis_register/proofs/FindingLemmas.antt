@@ -1,12 +1,17 @@
 -- From rows and texts that were read to what the tables say.
-use Rattle.std.proofs.Common.{◌≡◌, ◌↔◌, ℕ, List, Result, IfErr, IsPermutation}
+use Rattle.std.proofs.Common.{◌≡◌, ◌↔◌, ℕ, List, Result, Ok, Err, IfErr, IsTrue, IsPermutation}
 use Rattle.std.proofs.lemmas.List.Sorted.{IsPermutation-sym}
-use Rattle.lpis_register.proofs.Common.{State, Entry, AreLive, Content, HoldsRegister, IsStored, PublishFault, TablesSay, Shape, ShapesAre, StoredText, Tells, Unlawful, Version, Third, Whole}
+use Rattle.lpis_register.proofs.Common.{State, HasCleanDisk, Survives, survives_weaker, Entry, AreLive, Content, HoldsRegister, IsStored, Layout, PublishFault, TablesSay, Shape, ShapesAre, StoredText}
+use Rattle.lpis_register.proofs.Common.{Unlawful, Version, Third, Whole}
 use Rattle.std.proofs.lemmas.Result.{IfErr-weaker}
 use Rattle.lpis_register_rows.specs.Tells.{IsSameContent, IsSameHistory}
 use Rattle.lpis_register_rows.specs.Shapes.{TextsStand}
-use Rattle.lpis_register_rows.specs.Content.{without_live, without_texts}
-use Rattle.lpis_register.proofs.OneHistoryLemmas.{Lifeless, One}
+use Rattle.lpis_register_rows.specs.Content.{without_texts}
+use Rattle.lpis_register_sql.specs.declared.found.Found.{Found}
+use Rattle.lpis_register_sql.specs.Layouts.{schema_of}
+use Rattle.lpis_register_sql.specs.Quiet.{IsFound}
+use Rattle.lpis_register.specs.Histories.{ReadsHistory}
+use Rattle.lpis_register.specs.private.Finding.{ReadsFound}
 
 abbrev pub Textless : Type 0
 Textless = (version : Version) (c d : Content) (h : List Entry) → IsSameContent (without_texts c) d → TablesSay version c h ↔ TablesSay version d h
@@ -30,13 +35,38 @@ refused_texts moved texts more live r same none = IfErr-weaker r _ _ (λ e never
 
 -- ---- the history, read again
 
-module _ (st : State) (rows : Content) (h : List Entry) (shapes : List Shape) (lifeless : Lifeless) (one : One) (holds : HoldsRegister st h shapes)
-    (same : IsSameContent (without_texts (without_live holds.content)) rows) where
-  pub read_same : (k : List Entry) → Tells rows k → IsSameHistory h k
-  read_same k told = one Third holds.content h k holds.tells ((lifeless holds.content rows k same).1 told)
-
-  pub read_told : Tells rows h
-  read_told = (lifeless holds.content rows h same).0 holds.tells
-
 pub still_holds : (old new : State) (h : List Entry) (shapes : List Shape) → (holds : HoldsRegister old h shapes) → IsStored (Whole holds.origin) new holds.content → HoldsRegister new h shapes
 still_holds old new h shapes holds stored = record { origin = holds.origin; content = holds.content; stored = stored; tells = holds.tells; are = holds.are; live = holds.live }
+
+module _ (old new : State) (h : List Entry) (shapes : List Shape) (found : Found) (laid_out : (layout : Layout) → old.now.schema ≡ schema_of layout → IsFound found layout) where
+  abbrev pub Reads : Result (List Entry × Version) PublishFault → Type 0
+  Reads = ReadsFound found (λ c it. TablesSay it.1 c it.0) (λ c. (version : Version) (k : List Entry) → TablesSay version c k → ⊥) old new
+
+  there : (holds : HoldsRegister old h shapes) → IsFound found (Whole holds.origin)
+  there holds = laid_out (Whole holds.origin) holds.stored.holds.schema
+
+  stays : (r : Result (List Entry × Version) PublishFault) → Reads r → HasCleanDisk new → IsTrue new.is_open → HoldsRegister old h shapes → HoldsRegister new h shapes
+  stays r finds clean up holds = still_holds old new h shapes holds (finds.reads.same clean up (Whole holds.origin) (there holds) holds.content holds.stored)
+
+  quiet : (r : Result (List Entry × Version) PublishFault) → Reads r → HoldsRegister old h shapes → Survives old new (λ _. ⊥)
+  quiet r finds holds = survives_weaker old new _ _ (λ clean db none. none (Whole holds.origin) (there holds) holds.content holds.stored) finds.reads.survives
+
+  pub read_again : ((c : Content) (k g : List Entry) (version other : Version) → TablesSay version c k → TablesSay other c g → IsSameHistory k g) → (k : List Entry) (version : Version)
+      → Reads (Ok (k, version)) → ReadsHistory old new h shapes (Ok k)
+  read_again one k version finds = record {
+    ok = λ clean holds.
+        one holds.content h k Third version holds.tells (finds.reads.ok clean (Whole holds.origin) (there holds) holds.content holds.stored).0;
+    lawful = λ clean holds. tt;
+    same = stays _ finds;
+    crash = quiet _ finds;
+    kinds = tt;
+  }
+
+  pub not_read : (e : PublishFault) → Reads (Err e) → ReadsHistory old new h shapes (Err e)
+  not_read e finds = record {
+    ok = λ clean holds. tt;
+    lawful = λ clean holds is. finds.unlawful clean (Whole holds.origin) (there holds) holds.content holds.stored is Third h holds.tells;
+    same = stays _ finds;
+    crash = quiet _ finds;
+    kinds = finds.kinds;
+  }

@@ -1,6 +1,7 @@
 -- From what tables hold to the history and the shapes that they say.
 use Rattle.std.proofs.Common.{List, arith, inl, refl}
-use Rattle.lpis_register.proofs.Common.{Trees, State, Survives, survives_weaker, Entry, last_live, Content, Tells, AreLive, Shape, ShapesAre, Origin, Whole, IsStored, Leaves, HoldsRegister}
+use Rattle.lpis_register.proofs.Common.{Trees, State, Survives, survives_weaker, Entry, last_live, Content, Tells, AreLive, Shape, ShapesAre, Whole, IsStored, Leaves, HoldsRegister}
+use Rattle.lpis_register_sql.specs.Layouts.{Origin}
 use Rattle.lpis_register.proofs.Common.{LeavesRegister}
 
 pub nothing_done : (P : Trees → Type 0) (a : State) → Survives a a P

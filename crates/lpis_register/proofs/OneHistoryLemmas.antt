@@ -3,7 +3,8 @@ use Rattle.std.proofs.Common.{◌≡◌, ◌∙◌, ◌↔◌, refl, sym, ap, su
 use Rattle.std.proofs.lemmas.List.Sorted.{IsPermutation-refl}
 use Rattle.lpis_covers.specs.Ids.{has_id}
 use Rattle.lpis_lineage.specs.Lineage.{holds}
-use Rattle.lpis_register.proofs.Common.{State, Entry, last_live, AreLive, Content, TablesSay, Shape, ShapesAre, StoredText, Tells, Origin, Whole, IsStored, HoldsRegister, texts_at, Version}
+use Rattle.lpis_register.proofs.Common.{State, Entry, last_live, AreLive, Content, TablesSay, Shape, ShapesAre, StoredText, Tells, Whole, IsStored, HoldsRegister, texts_at, Version}
+use Rattle.lpis_register_sql.specs.Layouts.{Origin}
 use Rattle.lpis_register.proofs.Common.{First, Second, Third}
 use Rattle.lpis_register_rows.specs.Tells.{IsSameContent, IsSameHistory, only_format}
 use Rattle.lpis_register.specs.Opening.{SaysNone}

@@ -12,8 +12,9 @@ ghost use Rattle.lpis_lineage.specs.declared.row.Entry.{Entry};
 ghost use Rattle.lpis_lineage.specs.declared.row.Row.{Row};
 ghost use Rattle.lpis_parcels.specs.Release.{parcel_ids};
 ghost use Rattle.lpis_register_rows.specs.Shapes.{Shape, shape_ids};
-ghost use Rattle.lpis_register.specs.Accepting.{IsAccepted, AreKept, IsStep};
-ghost use Rattle.lpis_register.specs.Faults.{IsRefused, PublishTells};
+ghost use Rattle.lpis_register.specs.Accepting.{AreKept, IsStep};
+ghost use Rattle.lpis_register.specs.Faults.{IsRefused};
+ghost use Rattle.lpis_register.specs.private.Answering.{AnswersRelease};
 ghost use Rattle.lpis_register.specs.declared.fault.PublishFault.TheVariants.{Store};
 
 use crate::fault::PublishFault;
@@ -151,11 +152,8 @@ fn accept_map(
     requires ascending { IsAscending (shape_ids shapes.now) }
     requires sound { IsSoundMap release.now }
     requires later { last_year history.now < year }
-    ensures tells { PublishTells history.now shapes.now year release.now cert.now.exact rows.now
-        result }
-    ensures made { IfOk result
-        (IsAccepted history.now shapes.now year release.now cert.now.exact rows.now) }
-    ensures no_store { IfErr result (λ fault. (fault ≡ Store) → ⊥) }
+    ensures answers { AnswersRelease history.now shapes.now year release.now cert.now.exact
+        rows.now result }
 {
     sound_maps_have_such_shapes();
     what_is_shown_has_exact_lineage();
@@ -176,11 +174,8 @@ pub(crate) fn accept_release(
     cert: &Cert,
 ) -> Result<Accepted, PublishFault>
     requires ascending { IsAscending (shape_ids shapes.now) }
-    ensures tells { PublishTells history.now shapes.now year yes.now cert.now.exact rows.now
+    ensures answers { AnswersRelease history.now shapes.now year yes.now cert.now.exact rows.now
         result }
-    ensures made { IfOk result
-        (IsAccepted history.now shapes.now year yes.now cert.now.exact rows.now) }
-    ensures no_store { IfErr result (λ fault. (fault ≡ Store) → ⊥) }
 {
     let last = history.last_year();
     if year <= last {

@@ -75,8 +75,6 @@ fn write_or_take_back<S: Alter>(
     ensures commits { (h : List Entry) (due : IsDue history.old last accepted.now h)
         → Commits h history.new due.year due.parcels due.rows accepted.now (state S.Store conn.old)
         (state S.Store conn.new) result }
-    ensures refused { (h : List Entry) → IsDue history.old last accepted.now h
-        → OnErr result (history.new ≡ h) }
     ensures fault { IfErr result (λ e. e ≡ Store) }
 {
     match write_at_end(conn, history, last, accepted) {
@@ -106,7 +104,6 @@ pub(crate) fn commit_release<S: Alter>(
         (state S.Store conn.new) result }
     ensures untouched { IfErr result (λ fault. (fault ≡ Store)
         ⊎ ((fault ≡ Memory) × (conn.new ≡ conn.old))) }
-    ensures refused { OnErr result (history.new ≡ history.old) }
 {
     let last = history.last_year();
     match grow(history, accepted) {

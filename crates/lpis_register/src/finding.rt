@@ -2,16 +2,14 @@
 
 ghost use Rattle.std.specs.Prelude.{◌≡◌, false, IfOk, IfErr, List};
 ghost use Rattle.sqlite.specs.Held.{state};
-ghost use Rattle.sqlite.specs.State.{HasCleanDisk};
 ghost use Rattle.lpis_lineage.specs.declared.row.Entry.{Entry};
 ghost use Rattle.lpis_lineage.specs.Lineage.{last_live};
 ghost use Rattle.lpis_lineage.specs.Order.{IsAscending};
 ghost use Rattle.lpis_register_rows.specs.Shapes.{AreLive, ShapesAre, TextsStand, shape_ids};
 ghost use Rattle.lpis_register_rows.specs.Tells.{TablesSay};
-ghost use Rattle.lpis_register_sql.specs.Holding.{IsStored};
-ghost use Rattle.lpis_register_sql.specs.Quiet.{IsFound, ReadsRows};
 ghost use Rattle.lpis_register.specs.Faults.{IsOpeningFault};
 ghost use Rattle.lpis_register.specs.Opening.{SaysNone, SaysRegister, texts_at};
+ghost use Rattle.lpis_register.specs.private.Finding.{ReadsFound};
 ghost use Rattle.lpis_register.specs.declared.fault.PublishFault.TheVariants.{Unlawful};
 
 use crate::fault::PublishFault;
@@ -52,19 +50,16 @@ fn history_at(alloc: Global, rows: &Rows) -> Result<(History, Version), PublishF
 }
 
 /// The history that the tables say, and their version.
-fn find_rows<S: Alter>(
+pub(crate) fn find_rows<S: Alter>(
     alloc: Global,
     conn: &mut Connection<S>,
     found: &Found,
 ) -> Result<(History, Version), PublishFault>
     requires autocommit { conn.old.in_transaction ≡ false }
     ensures autocommit { conn.new.in_transaction ≡ false }
-    ensures reads { ReadsRows (IsFound found.now) (λ c it. TablesSay it.1 c it.0)
+    ensures finds { ReadsFound found.now (λ c it. TablesSay it.1 c it.0)
+        (λ c. (version : _) (h : _) → TablesSay version c h → ⊥)
         (state S.Store conn.old) (state S.Store conn.new) result }
-    ensures unlawful { HasCleanDisk (state S.Store conn.new) → (layout : _)
-        → IsFound found.now layout → (c : _) → IsStored layout (state S.Store conn.old) c
-        → IfErr result (λ e. e ≡ Unlawful → (version : _) (h : _) → TablesSay version c h → ⊥) }
-    ensures kinds { IfErr result IsOpeningFault }
 {
     order_of_rows_is_free();
     match load_found(alloc, conn, found) {
@@ -101,14 +96,11 @@ fn find_texts<S: Alter>(
 ) -> Result<Vec<(Id, Polygon)>, PublishFault>
     requires autocommit { conn.old.in_transaction ≡ false }
     ensures autocommit { conn.new.in_transaction ≡ false }
-    ensures reads { ReadsRows (IsFound found.now)
+    ensures finds { ReadsFound found.now
         (λ c shapes. ShapesAre c.texts shapes.items × AreLive (last_live history.now) shapes.items)
+        (λ c. TextsStand c.texts (last_live history.now) → ⊥)
         (state S.Store conn.old) (state S.Store conn.new) result }
-    ensures unlawful { HasCleanDisk (state S.Store conn.new) → (layout : _)
-        → IsFound found.now layout → (c : _) → IsStored layout (state S.Store conn.old) c
-        → IfErr result (λ e. e ≡ Unlawful → TextsStand c.texts (last_live history.now) → ⊥) }
     ensures ascend { IfOk result (λ shapes. IsAscending (shape_ids shapes.items)) }
-    ensures kinds { IfErr result IsOpeningFault }
 {
     texts_keep_one_list_of_shapes();
     match load_texts(alloc, conn, found) {
@@ -127,16 +119,12 @@ fn find_shapes<S: Alter>(
 ) -> Result<Vec<(Id, Polygon)>, PublishFault>
     requires autocommit { conn.old.in_transaction ≡ false }
     ensures autocommit { conn.new.in_transaction ≡ false }
-    ensures reads { ReadsRows (IsFound found.now)
+    ensures finds { ReadsFound found.now
         (λ c shapes. ShapesAre (texts_at version c) shapes.items
         × AreLive (last_live history.now) shapes.items)
+        (λ c. TextsStand (texts_at version c) (last_live history.now) → ⊥)
         (state S.Store conn.old) (state S.Store conn.new) result }
-    ensures unlawful { HasCleanDisk (state S.Store conn.new) → (layout : _)
-        → IsFound found.now layout → (c : _) → IsStored layout (state S.Store conn.old) c
-        → IfErr result (λ e. e ≡ Unlawful
-        → TextsStand (texts_at version c) (last_live history.now) → ⊥) }
     ensures ascend { IfOk result (λ shapes. IsAscending (shape_ids shapes.items)) }
-    ensures kinds { IfErr result IsOpeningFault }
 {
     texts_keep_one_list_of_shapes();
     match version {
@@ -153,13 +141,9 @@ pub(crate) fn find_told<S: Alter>(
 ) -> Result<(Told, Version), PublishFault>
     requires autocommit { conn.old.in_transaction ≡ false }
     ensures autocommit { conn.new.in_transaction ≡ false }
-    ensures reads { ReadsRows (IsFound found.now)
-        (λ c it. SaysRegister it.1 c it.0.history it.0.shapes.items)
+    ensures finds { ReadsFound found.now
+        (λ c it. SaysRegister it.1 c it.0.history it.0.shapes.items) SaysNone
         (state S.Store conn.old) (state S.Store conn.new) result }
-    ensures unlawful { HasCleanDisk (state S.Store conn.new) → (layout : _)
-        → IsFound found.now layout → (c : _) → IsStored layout (state S.Store conn.old) c
-        → IfErr result (λ e. e ≡ Unlawful → SaysNone c) }
-    ensures kinds { IfErr result IsOpeningFault }
 {
     tables_say_one_history();
     let (history, version) = find_rows(alloc, conn, found)?;

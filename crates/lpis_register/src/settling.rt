@@ -3,7 +3,7 @@
 ghost use Rattle.std.specs.Prelude.{◌≡◌, false};
 ghost use Rattle.sqlite.specs.Held.{state};
 ghost use Rattle.lpis_register_rows.specs.Tells.{SpansTell};
-ghost use Rattle.lpis_register.specs.private.Commits.{Settles};
+ghost use Rattle.lpis_register.specs.private.Commits.{IsReported, Settles};
 ghost use Rattle.lpis_register_rows.specs.declared.version.Version.TheVariants.{First, Second};
 ghost use Rattle.lpis_register_rows.specs.declared.version.Version.TheVariants.{Third};
 
@@ -12,8 +12,18 @@ use crate::opening::fault_of;
 use lpis_lineage::History;
 use lpis_register_rows::{SpanRow, Version, moving_keeps_the_history, spans_of};
 use lpis_register_sql::{Found, write_missing, write_moved, write_raised};
-use sqlite::{Alter, Connection};
+use sqlite::{Alter, Connection, Error};
 use std::alloc::Global;
+
+/// What became of a write, as the register reports it.
+fn reported(written: Result<(), Error>) -> Result<(), PublishFault>
+    ensures { IsReported written result }
+{
+    match written {
+        Ok(()) => Ok(()),
+        Err(error) => Err(fault_of(error)),
+    }
+}
 
 /// Moves tables of version 1, which say this history, to version 3, with these spans.
 fn move_with<S: Alter>(
@@ -29,10 +39,7 @@ fn move_with<S: Alter>(
         (state S.Store conn.new) result }
 {
     moving_keeps_the_history();
-    match write_moved(conn, found, rows) {
-        Ok(()) => Ok(()),
-        Err(error) => Err(fault_of(error)),
-    }
+    reported(write_moved(conn, found, rows))
 }
 
 /// Moves tables of version 1, which say this history, to version 3.
@@ -65,10 +72,7 @@ fn move_second<S: Alter>(
         (state S.Store conn.new) result }
 {
     moving_keeps_the_history();
-    match write_raised(conn, found) {
-        Ok(()) => Ok(()),
-        Err(error) => Err(fault_of(error)),
-    }
+    reported(write_raised(conn, found))
 }
 
 /// Makes the tables of version 3 that are not there, beside those that say this history.
@@ -85,10 +89,7 @@ fn complete_third<S: Alter>(
     if found.is_whole() {
         return Ok(());
     }
-    match write_missing(conn, found) {
-        Ok(()) => Ok(()),
-        Err(error) => Err(fault_of(error)),
-    }
+    reported(write_missing(conn, found))
 }
 
 /// Makes tables of version 3 of those that say this history.

@@ -103,7 +103,8 @@ years-of-live _ _ ys e all = absurd cc
 pub live-says : (c : Content) (h : List Entry) (years : List ℕ) (spans : List KnownSpan) (lines : List KnownLine) → IsLawful h → RowsFit h
     → AllByRecursion (λ y. y ≤ last_of_years) years → c.formats ≡ only_format 1
     → IsPermutation c.years (map (λ y. pos y) years) → map span_in spans ≡ map one_year c.live → All (λ s. is_id s.id ≡ true) spans → IsPermutation c.lines (map line_in lines)
-    → years_of h ≡ map (λ y. pos y) years → SetsAre (map span_in spans) h → IsPermutation [] (marks_in lines) → known_of h ≡ lines → All (λ s. Contains (map (λ y. pos y) years) s.since) spans → TellsLive c h
+    → years_of h ≡ map (λ y. pos y) years → SetsAre (map span_in spans) h → IsPermutation [] (marks_in lines) → known_of h ≡ lines
+    → All (λ s. Contains (map (λ y. pos y) years) s.since) spans → TellsLive c h
 live-says c h years spans lines law fit small formats ys ss ids ls years-are sets marks lines-are known = record {
   kept = kept-said h years spans law fit small ids years-are sets;
   formats_are = formats;

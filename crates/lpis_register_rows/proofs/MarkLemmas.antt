@@ -97,8 +97,11 @@ total : IsTotalOrder mark_cmp
 total = then_total (on_total (λ (m : Mark). m.year) int_cmp_total) (on_total (λ (m : Mark). m.position) int_cmp_total)
 
 pub told-sorted-marks : (h : List Entry) (ms sorted : List Mark) → IsLawful h → IsSorted mark_cmp sorted → IsPermutation ms sorted → IsPermutation ms (marks_of h) → sorted ≡ marks_of h
-told-sorted-marks h ms sorted law up p q = sorted-same (λ (x y : Mark). is_lt (mark_cmp x y)) (ranks_by total (λ (m : Mark). m)) sorted (marks_of h)
-    (subst (Rises (λ (x y : Mark). is_lt (mark_cmp x y))) (map-id sorted) (rises-far (λ (x y : Mark). is_lt (mark_cmp x y)) (λ (m : Mark). m) sorted (sorted_far (λ (x y : Mark). is_lt (mark_cmp x y)) (ranks_by total (λ (m : Mark). m)) sorted up)))
+told-sorted-marks h ms sorted law up p q =
+    let below = λ (x y : Mark). is_lt (mark_cmp x y) in
+    let same = λ (m : Mark). m in
+    let ranks = ranks_by total same in
+    sorted-same below ranks sorted (marks_of h) (subst (Rises below) (map-id sorted) (rises-far below same sorted (sorted_far below ranks sorted up)))
     (ascends-map mark_below (Less_by (λ (x y : Mark). is_lt (mark_cmp x y))) (marks_of h) (λ a b r. lines-less (as_line a) (as_line b) r) (marks-ascend h law))
     (IsPermutation-trans sorted ms (marks_of h) (IsPermutation-sym ms sorted p) q)
 

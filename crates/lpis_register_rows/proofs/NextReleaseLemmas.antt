@@ -18,7 +18,8 @@ known-more (x ∷ h) e = ap (λ (l : List KnownLine). known_from (pos x.year) 0 
 pub lines-added : (h k : List Entry) (y : ℕ) (live : List (List ℕ)) (rows : List Row) (before after : List KnownLine)
     → Adds h k y live rows → known_of h ≡ before → after ≡ before ++ known_from (pos y) 0 rows → known_of k ≡ after
 lines-added h k y live rows before after (e, k-is, year-is, is) b a =
-    ap known_of k-is ∙ known-more h e ∙ ap₂ (λ (n : ℕ) (rs : List Row). known_of h ++ known_from (pos n) 0 rs) year-is is.rows_are ∙ ap (λ (l : List KnownLine). l ++ known_from (pos y) 0 rows) b ∙ sym a
+    ap known_of k-is ∙ known-more h e ∙ ap₂ (λ (n : ℕ) (rs : List Row). known_of h ++ known_from (pos n) 0 rs) year-is is.rows_are
+    ∙ ap (λ (l : List KnownLine). l ++ known_from (pos y) 0 rows) b ∙ sym a
 
 pub any-map : {A B : Type 0} (p : B → Bool) (f : A → B) (xs : List A) → list_any p (map f xs) ≡ list_any (λ x. p (f x)) xs
 any-map p f [] = refl

@@ -114,7 +114,8 @@ same-history c h k kept also_kept h_years k_years h_lines k_lines ms h_marks k_m
     let years = same-ascending below below-alone (years_of h) (years_of k) up also (both-orders c.years (years_of h) (years_of k) h_years k_years) in
     let lines = same-ascending line_below line-alone (lineage_lines h) (lineage_lines k) (lines-ascend h up) (lines-ascend k also) (both-orders c.lines (lineage_lines h)
     (lineage_lines k) h_lines k_lines) in
-    let marks = same-ascending mark_below mark-alone (marks_of h) (marks_of k) (marks-ascend h kept.lawful) (marks-ascend k also_kept.lawful) (both-orders ms (marks_of h) (marks_of k) h_marks k_marks) in
+    let marks = same-ascending mark_below mark-alone (marks_of h) (marks_of k) (marks-ascend h kept.lawful) (marks-ascend k also_kept.lawful)
+    (both-orders ms (marks_of h) (marks_of k) h_marks k_marks) in
     let alike = same-years h k years in
     record { lengths = alike.0; years = alike.1; sets = sets alike.0 alike.1; rows = same-rows h k years up also (known-same h k kept also_kept lines marks) }
 
@@ -159,7 +160,8 @@ live-held h k live a b law lengths years i id held =
     ap (λ (n : ℕ). holds k n id) same ∙ at.3
 
 pub one-live-history : (c : Content) (h k : List Entry) → TellsLive c h → TellsLive c k → IsSameHistory h k
-one-live-history c h k s t = same-history c h k s.kept t.kept s.years_are t.years_are s.lines_are t.lines_are [] (no-marks h s.unmarked) (no-marks k t.unmarked) (λ n years i id. both_ways (holds h i id) (holds k i id)
+one-live-history c h k s t = same-history c h k s.kept t.kept s.years_are t.years_are s.lines_are t.lines_are [] (no-marks h s.unmarked) (no-marks k t.unmarked)
+    (λ n years i id. both_ways (holds h i id) (holds k i id)
     (live-held h k c.live s.live_are t.live_are t.kept.lawful n years i id)
     (live-held k h c.live t.live_are s.live_are s.kept.lawful (sym n) (λ j. sym (years j)) i id))
 

@@ -32,7 +32,8 @@ zip-push R (a ∷ xs) [] x y z r = absurd z
 zip-push R (a ∷ xs) (b ∷ ys) x y z r = (z.0, zip-push R xs ys x y z.1 r)
 
 -- what stands beside the element at a position
-pub zip-at : {A B : Type 0} (R : A → B → Type 0) (P : B → Type 0) (xs : List A) (ys : List B) (i : ℕ) (x : A) → AllZip R xs ys → AllByRecursion P ys → i < length xs → x ≡ get_or xs i x → (y : B) × R x y × P y
+pub zip-at : {A B : Type 0} (R : A → B → Type 0) (P : B → Type 0) (xs : List A) (ys : List B) (i : ℕ) (x : A) → AllZip R xs ys → AllByRecursion P ys → i < length xs → x ≡ get_or xs i x
+    → (y : B) × R x y × P y
 zip-at R P [] ys i x z all lt at = absurd (omega (arith, lt))
 zip-at R P (a ∷ xs) [] i x z all lt at = absurd z
 zip-at R P (a ∷ xs) (b ∷ ys) zero x z all lt at = (b, subst (λ e. R e b) (sym at) z.0, all.0)
@@ -69,7 +70,8 @@ pair-at shapes before n a b e lt at here = ap₂ (λ (x y : List ℕ). slice_cmp
 
 pub ascend-more : (shapes : List Shape) (before n : ℕ) (a b : Shape) → before + 1 ≡ n → n < length shapes → a ≡ get_or shapes before a → b ≡ get_or shapes n b
     → slice_cmp nat_cmp a.0 b.0 ≡ Less → AscendBefore (shape_ids shapes) n → AscendBefore (shape_ids shapes) (n + 1)
-ascend-more shapes before n a b e lt at here less up k kn = elim (before-at-after (k + 1) n) as (λ _. slice_cmp nat_cmp (get_or (shape_ids shapes) k []) (get_or (shape_ids shapes) (k + 1) []) ≡ Less) [
+ascend-more shapes before n a b e lt at here less up k kn = elim (before-at-after (k + 1) n)
+  as (λ _. slice_cmp nat_cmp (get_or (shape_ids shapes) k []) (get_or (shape_ids shapes) (k + 1) []) ≡ Less) [
   | inl l ↦ up k l
   | inr r ↦ elim r as (λ _. slice_cmp nat_cmp (get_or (shape_ids shapes) k []) (get_or (shape_ids shapes) (k + 1) []) ≡ Less) [
     | inl same ↦

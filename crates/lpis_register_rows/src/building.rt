@@ -1,12 +1,11 @@
 //! Releases put together from years, spans and lines.
 
-ghost use Rattle.std.specs.Prelude.{◌≡◌, ◌≤◌, ◌++◌, ◌∷◌, List, [], pos, length, map, take, IfErr};
-ghost use Rattle.std.specs.Prelude.{IfOk, OnOk};
+ghost use Rattle.std.specs.Prelude.{◌≡◌, ◌≤◌, List, pos, length, map, IfErr, IfOk};
 ghost use Rattle.lpis_lineage.specs.declared.fault.AddFault.TheVariants.{Memory as WantsMemory};
 ghost use Rattle.lpis_lineage.specs.declared.row.Entry.{Entry};
 ghost use Rattle.lpis_register_rows.specs.declared.fault.RowsFault.TheVariants.{Unlawful};
 ghost use Rattle.lpis_register_rows.specs.Tells.{IsSameHistory, years_of};
-ghost use Rattle.lpis_register_rows.specs.private.Fronts.{IsDue, IsFront, SaysHistory};
+ghost use Rattle.lpis_register_rows.specs.private.Fronts.{AddsYear, IsDue, SaysHistory};
 ghost use Rattle.lpis_register_rows.specs.private.Known.{SetsAre, known_of, span_in};
 
 use crate::fault::RowsFault;
@@ -26,14 +25,8 @@ fn add_year(
     year: u16,
 ) -> Result<usize, RowsFault>
     requires within { from ≤ length lines.now }
-    ensures within { IfOk result (λ next. next ≤ length lines.now) }
-    ensures years { OnOk result (years_of history.new ≡ years_of history.old ++ pos year ∷ []) }
-    ensures sets { OnOk result (SetsAre (map span_in spans.now) history.old
-        → SetsAre (map span_in spans.now) history.new) }
-    ensures lines { known_of history.old ≡ take from lines.now
-        → IfOk result (λ next. known_of history.new ≡ take next lines.now) }
-    ensures front { OnOk result ((h : List Entry) → SaysHistory spans.now lines.now h
-        → IsDue history.old lines.now from year h → IsFront history.new h) }
+    ensures adds { IfOk result (λ next.
+        AddsYear spans.now lines.now year from next history.old history.new) }
     ensures refused { IfErr result (λ e. e ≡ Unlawful → (h : List Entry)
         → SaysHistory spans.now lines.now h
         → IsDue history.old lines.now from year h → ⊥) }

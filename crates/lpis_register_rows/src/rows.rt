@@ -312,13 +312,15 @@ impl Rows {
         live: Vec<LiveRow>,
         marks: Vec<MarkRow>,
     ) -> Rows
-        ensures formats { result.formats ≡ formats.items }
-        ensures years { result.years ≡ years.items }
-        ensures spans { result.spans ≡ spans.items }
-        ensures lines { result.lines ≡ lines.items }
-        ensures live { result.live ≡ live.items }
-        ensures texts { result.texts ≡ [] }
-        ensures marks { result.marks ≡ marks.items }
+        ensures { result ≡ record {
+          formats = formats.items;
+          years = years.items;
+          spans = spans.items;
+          lines = lines.items;
+          live = live.items;
+          texts = [];
+          marks = marks.items;
+        } }
     {
         Rows {
             formats,

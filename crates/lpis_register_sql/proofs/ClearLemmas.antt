@@ -2,9 +2,13 @@
 use Rattle.std.proofs.Common.{◌≡◌, ℕ, ℤ, List, [], ◌∷◌, map, slice_get, true, false, not, Some, None, Ok, refl, sym, ap, subst, ◌∙◌, IsPermutation, Option}
 use Rattle.lpis_register_sql.proofs.Common.{flat_map_single, IsPermutation-refl, IsPermutation-map, Null, Row, Table, Schema, overlay, IsAnswer, Output, output, edit_of, Given, Trees, Tally, Does}
 use Rattle.lpis_register_sql.proofs.Common.{Database}
-use Rattle.lpis_register_sql.proofs.Common.{Mode, State, mode_of, ExecutesInside, understood, Program, ids_of, statement_of, runs_as, Content, without_spans, without_live, without_texts}
-use Rattle.lpis_register_sql.proofs.Common.{without_marks, span_table, text_table, mark_table}
-use Rattle.lpis_register_sql.proofs.Common.{Origin, Moved, Whole, schema_of, span_tree, text_tree, mark_tree, span_place, text_place, mark_place, live_table, AreKeyed, span_row, live_row, text_row}
+use Rattle.lpis_register_sql.proofs.Common.{Mode, State, mode_of, ExecutesInside, understood, Program, ids_of, statement_of, runs_as, Content, without_live}
+use Rattle.lpis_register_rows.specs.Content.{without_texts}
+use Rattle.lpis_register_rows.specs.Content.{without_spans}
+use Rattle.lpis_register_sql.proofs.Common.{span_table, text_table, mark_table}
+use Rattle.lpis_register_rows.specs.Content.{without_marks}
+use Rattle.lpis_register_sql.proofs.Common.{Origin, Moved, Whole, schema_of, span_tree, text_tree, mark_tree, span_place, text_place, mark_place, AreKeyed, span_row, live_row, text_row}
+use Rattle.lpis_register_sql.specs.Tables.{live_table}
 use Rattle.lpis_register_sql.proofs.Common.{mark_row, Inside}
 use Rattle.sqlite.specs.Command.TheVariants.{Delete}
 use Rattle.sqlite.specs.Edit.{without_all}
@@ -107,7 +111,8 @@ clear_spans_inside o base old new c count before h =
     let m = before.holds.means in
     let db = old.now.trees in
     let tree = span_tree o in
-    let e = clears o clear_span (span_place o) tree (span_table tree) old new count refl before.holds.schema (span_stands o) (clear_span_means o) (own_tree o span_tree db refl refl) m.spans_are.1 h.0 in
+    let e = clears o clear_span (span_place o) tree (span_table tree) old new count refl before.holds.schema
+    (span_stands o) (clear_span_means o) (own_tree o span_tree db refl refl) m.spans_are.1 h.0 in
     inside_next (Whole o) (Whole o) base old new c _ before h.1 (record {
       schema = e.schema;
       sound = e.sound;
@@ -120,7 +125,8 @@ clear_texts_inside o base old new c count before h =
     let m = before.holds.means in
     let db = old.now.trees in
     let tree = text_tree o in
-    let e = clears o clear_text (text_place o) tree (text_table tree) old new count refl before.holds.schema (text_stands o) (clear_text_means o) (own_tree o text_tree db refl refl) m.texts_are.1 h.0 in
+    let e = clears o clear_text (text_place o) tree (text_table tree) old new count refl before.holds.schema
+    (text_stands o) (clear_text_means o) (own_tree o text_tree db refl refl) m.texts_are.1 h.0 in
     inside_next (Whole o) (Whole o) base old new c _ before h.1 (record {
       schema = e.schema;
       sound = e.sound;
@@ -133,7 +139,8 @@ clear_marks_inside o base old new c count before h =
     let m = before.holds.means in
     let db = old.now.trees in
     let tree = mark_tree o in
-    let e = clears o clear_mark (mark_place o) tree (mark_table tree) old new count refl before.holds.schema (mark_stands o) (clear_mark_means o) (own_tree o mark_tree db refl refl) m.marks_are.1 h.0 in
+    let e = clears o clear_mark (mark_place o) tree (mark_table tree) old new count refl before.holds.schema
+    (mark_stands o) (clear_mark_means o) (own_tree o mark_tree db refl refl) m.marks_are.1 h.0 in
     inside_next (Whole o) (Whole o) base old new c _ before h.1 (record {
       schema = e.schema;
       sound = e.sound;

@@ -1,6 +1,7 @@
 -- The orders of the tables while those that are not there are made.
 use Rattle.std.proofs.Common.{◌≡◌, true, refl, sym, true≢false}
-use Rattle.lpis_register_sql.proofs.Common.{Layout, has_marks, has_spans, has_texts, made_whole}
+use Rattle.lpis_register_sql.proofs.Common.{Layout, has_marks, has_spans, has_texts}
+use Rattle.lpis_register_sql.specs.Layouts.{made_whole}
 use Rattle.lpis_register_sql.specs.private.Completing.{with_span_table, with_text_table}
 use Rattle.lpis_register_sql.proofs.MeaningLemmas.{in_all}
 
@@ -30,7 +31,3 @@ text_there = in_all _ (λ is. refl) (λ is. refl) (λ is. refl) (λ is. refl) (�
 pub mark_there : (s : Layout) → has_marks s ≡ true → made_whole s ≡ s
 mark_there = in_all _ (λ is. refl) (λ is. refl) (λ is. absurd (true≢false (sym is))) (λ is. absurd (true≢false (sym is))) (λ is. absurd (true≢false (sym is))) (λ is. absurd (true≢false (sym is)))
     (λ is. absurd (true≢false (sym is)))
-
--- `lpis_mark` is made last
-pub marks_with_spans : (s : Layout) → has_marks s ≡ true → has_spans s ≡ true
-marks_with_spans = in_all _ (λ is. refl) (λ is. refl) (λ is. refl) (λ is. refl) (λ is. refl) (λ is. refl) (λ is. absurd (true≢false (sym is)))

@@ -1,6 +1,7 @@
 -- One step more of each loop.
 use Rattle.std.proofs.Common.{◌≡◌, ℕ, ℤ, pos, List, [], ◌∷◌, ◌++◌, ◌+◌, ◌<◌, zero, suc, length, take, get_or, refl, sym, ap, ◌∙◌, arith, fold, Bool, true, false, if◌then◌else◌}
-use Rattle.lpis_register_sql.proofs.Common.{Content, Mark, with_line, with_lines, with_mark, lines_from}
+use Rattle.lpis_register_sql.proofs.Common.{Content, Mark, with_line, with_lines, lines_from}
+use Rattle.lpis_register_rows.specs.Content.{with_mark}
 use Rattle.std.proofs.lemmas.List.{take_more}
 use Rattle.std.proofs.lemmas.List.Sums.{fold_push}
 use Rattle.lpis_lineage.specs.declared.row.Row.{Row}

@@ -1,6 +1,7 @@
 -- What the texts mean, in each order of the tables.
 use Rattle.std.proofs.Common.{◌≡◌, ℕ, Ok, refl, codes, [], ◌∷◌, None, true, false, pos, negsuc, List, sym, true≢false}
-use Rattle.lpis_register_sql.proofs.Common.{Null, Int, table_defined_by, Term, Program, Update, CreateTable, understood, statement_of, Schema, Table, format_table, release_table, span_table}
+use Rattle.lpis_register_sql.proofs.Common.{Null, Int, table_defined_by, Term, Program, Update, understood, statement_of, Schema, Table, format_table, release_table, span_table}
+use Rattle.sqlite.specs.Command.TheVariants.{CreateTable}
 use Rattle.lpis_register_sql.proofs.Common.{row_table}
 use Rattle.lpis_register_sql.proofs.Common.{Layout, Origin, New, First, Moved, Whole, LessMarks, LessTexts, schema_of, has_spans, has_live, has_texts, has_marks, span_tree, text_tree, mark_tree}
 use Rattle.lpis_register_sql.proofs.Common.{origin_of, no_schema, span_place}
@@ -167,31 +168,38 @@ clear_live_means = (refl, (refl, refl))
 
 pub read_format_means : (s : Layout) → Asks s read_format format_query (codes "one" ∷ codes "version" ∷ [])
 unfolding understood everything
-read_format_means = in_all _ (refl, refl, (refl, refl)) (refl, refl, (refl, refl)) (refl, refl, (refl, refl)) (refl, refl, (refl, refl)) (refl, refl, (refl, refl)) (refl, refl, (refl, refl)) (refl, refl, (refl, refl))
+read_format_means = in_all _ (refl, refl, (refl, refl)) (refl, refl, (refl, refl)) (refl, refl, (refl, refl))
+    (refl, refl, (refl, refl)) (refl, refl, (refl, refl)) (refl, refl, (refl, refl)) (refl, refl, (refl, refl))
 
 pub read_release_means : (s : Layout) → Asks s read_release release_query (codes "year" ∷ [])
 unfolding understood everything
-read_release_means = in_all _ (refl, refl, (refl, refl)) (refl, refl, (refl, refl)) (refl, refl, (refl, refl)) (refl, refl, (refl, refl)) (refl, refl, (refl, refl)) (refl, refl, (refl, refl)) (refl, refl, (refl, refl))
+read_release_means = in_all _ (refl, refl, (refl, refl)) (refl, refl, (refl, refl)) (refl, refl, (refl, refl))
+    (refl, refl, (refl, refl)) (refl, refl, (refl, refl)) (refl, refl, (refl, refl)) (refl, refl, (refl, refl))
 
 pub read_span_means : (s : Layout) → has_spans s ≡ true → Asks s read_span (span_query (span_tree (origin_of s))) (codes "id" ∷ codes "since" ∷ codes "until" ∷ [])
 unfolding understood everything
-read_span_means = in_all _ (λ p. (refl, refl, (refl, refl))) (λ p. (refl, refl, (refl, refl))) (λ p. (refl, refl, (refl, refl))) (λ p. (refl, refl, (refl, refl))) (λ p. (refl, refl, (refl, refl))) (λ p. (refl, refl, (refl, refl))) (λ p. absurd (true≢false (sym p)))
+read_span_means = in_all _ (λ p. (refl, refl, (refl, refl))) (λ p. (refl, refl, (refl, refl))) (λ p. (refl, refl, (refl, refl)))
+    (λ p. (refl, refl, (refl, refl))) (λ p. (refl, refl, (refl, refl))) (λ p. (refl, refl, (refl, refl))) (λ p. absurd (true≢false (sym p)))
 
 pub read_line_means : (s : Layout) → Asks s read_line_text line_query (codes "year" ∷ codes "pos" ∷ codes "old" ∷ codes "new" ∷ [])
 unfolding understood everything
-read_line_means = in_all _ (refl, refl, (refl, refl)) (refl, refl, (refl, refl)) (refl, refl, (refl, refl)) (refl, refl, (refl, refl)) (refl, refl, (refl, refl)) (refl, refl, (refl, refl)) (refl, refl, (refl, refl))
+read_line_means = in_all _ (refl, refl, (refl, refl)) (refl, refl, (refl, refl)) (refl, refl, (refl, refl))
+    (refl, refl, (refl, refl)) (refl, refl, (refl, refl)) (refl, refl, (refl, refl)) (refl, refl, (refl, refl))
 
 pub read_live_means : (s : Layout) → has_live s ≡ true → Asks s read_live live_query (codes "year" ∷ codes "id" ∷ [])
 unfolding understood everything
-read_live_means = in_all _ (λ p. absurd (true≢false (sym p))) (λ p. (refl, refl, (refl, refl))) (λ p. absurd (true≢false (sym p))) (λ p. (refl, refl, (refl, refl))) (λ p. absurd (true≢false (sym p))) (λ p. (refl, refl, (refl, refl))) (λ p. (refl, refl, (refl, refl)))
+read_live_means = in_all _ (λ p. absurd (true≢false (sym p))) (λ p. (refl, refl, (refl, refl))) (λ p. absurd (true≢false (sym p)))
+    (λ p. (refl, refl, (refl, refl))) (λ p. absurd (true≢false (sym p))) (λ p. (refl, refl, (refl, refl))) (λ p. (refl, refl, (refl, refl)))
 
 pub read_text_means : (s : Layout) → has_texts s ≡ true → Asks s read_text (text_query (text_tree (origin_of s))) (codes "id" ∷ codes "wkt" ∷ [])
 unfolding understood everything
-read_text_means = in_all _ (λ p. (refl, refl, (refl, refl))) (λ p. (refl, refl, (refl, refl))) (λ p. (refl, refl, (refl, refl))) (λ p. (refl, refl, (refl, refl))) (λ p. absurd (true≢false (sym p))) (λ p. absurd (true≢false (sym p))) (λ p. absurd (true≢false (sym p)))
+read_text_means = in_all _ (λ p. (refl, refl, (refl, refl))) (λ p. (refl, refl, (refl, refl))) (λ p. (refl, refl, (refl, refl)))
+    (λ p. (refl, refl, (refl, refl))) (λ p. absurd (true≢false (sym p))) (λ p. absurd (true≢false (sym p))) (λ p. absurd (true≢false (sym p)))
 
 pub read_mark_means : (s : Layout) → has_marks s ≡ true → Asks s read_mark (mark_query (mark_tree (origin_of s))) (codes "year" ∷ codes "pos" ∷ [])
 unfolding understood everything
-read_mark_means = in_all _ (λ p. (refl, refl, (refl, refl))) (λ p. (refl, refl, (refl, refl))) (λ p. absurd (true≢false (sym p))) (λ p. absurd (true≢false (sym p))) (λ p. absurd (true≢false (sym p))) (λ p. absurd (true≢false (sym p))) (λ p. absurd (true≢false (sym p)))
+read_mark_means = in_all _ (λ p. (refl, refl, (refl, refl))) (λ p. (refl, refl, (refl, refl))) (λ p. absurd (true≢false (sym p)))
+    (λ p. absurd (true≢false (sym p))) (λ p. absurd (true≢false (sym p))) (λ p. absurd (true≢false (sym p))) (λ p. absurd (true≢false (sym p)))
 
 -- the text makes this table
 pub record Makes (sql : List ℕ) (from into_ : Schema) (made : Table) : Type 0 where

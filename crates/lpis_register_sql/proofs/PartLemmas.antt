@@ -1,9 +1,11 @@
 -- The parts of what the tables hold, carried over a step that leaves them.
 use Rattle.std.proofs.Common.{◌≡◌, ℕ, ℤ, List, [], map, drop, Bool, true, false, refl, sym, ap, subst, ◌∙◌, arith, IsPermutation, true≢false, nat_eq, ◌||◌}
 use Rattle.std.proofs.lemmas.Bool.{or_parts}
-use Rattle.lpis_register_sql.proofs.Common.{nat_tests, Row, Trees, overlay, Content, Format, Line, Live, Mark, StoredSpan, StoredText, Origin, New, Moved, Whole, is_moved, span_tree, text_tree}
+use Rattle.lpis_register_sql.proofs.Common.{nat_tests, Row, Trees, overlay, Content, Format, Mark, StoredSpan, Origin, New, Moved, Whole, is_moved, span_tree, text_tree}
+use Rattle.lpis_register_rows.specs.Content.{Line, Live, StoredText}
 use Rattle.lpis_register_sql.proofs.Common.{mark_tree}
-use Rattle.lpis_register_sql.proofs.Common.{AreKeyed, Keeps, format_row, year_row, span_row, line_row, live_row, text_row, mark_row}
+use Rattle.lpis_register_sql.proofs.Common.{AreKeyed, format_row, year_row, span_row, line_row, live_row, text_row, mark_row}
+use Rattle.lpis_register_sql.specs.Holding.{Keeps}
 use Rattle.lpis_register_sql.specs.Holding.{Means}
 use Rattle.lpis_register_sql.proofs.WriteLemmas.{Kept}
 
@@ -143,7 +145,8 @@ module _ (o : Origin) (db next : Trees) (c : Content) where
   }
 
 -- `lpis_live` is there
-pub live_changed : (db next : Trees) (c : Content) (ls : List Live) → Kept Moved 2 db next → Means (Whole Moved) db c → KeepsAll live_row ls (next 2) → Means (Whole Moved) next (record c { live = ls })
+pub live_changed : (db next : Trees) (c : Content) (ls : List Live) → Kept Moved 2 db next → Means (Whole Moved) db c → KeepsAll live_row ls (next 2)
+    → Means (Whole Moved) next (record c { live = ls })
 live_changed db next c ls k m are = record {
   formats_are = formats_kept Moved 2 db next c k m (far 0 2 refl);
   years_are = years_kept Moved 2 db next c k m (far 1 2 refl);

@@ -1,2 +1,3 @@
 -- The lemmas that the crates above cite, passed on from one place. Declares nothing.
 pub use Rattle.lpis_register_sql.proofs.CompletingLemmas.{mark_there}
+pub use Rattle.lpis_register_sql.proofs.QuietLemmas.{answered, nothing_yet, then, then_fails}

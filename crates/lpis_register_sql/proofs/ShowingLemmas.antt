@@ -111,7 +111,8 @@ lines_shown s old new rows c r h =
     shows_kept line_query line_shown line_shown (drop 1) line_row line_seen (λ l. refl) c.lines _ rows
     (sorts s read_line_text 4 _ _ _ (read_line_means s) old new rows r.holds.schema h refl) r.holds.means.lines_are
 
-pub live_shown_are : (s : Layout) (old new : State) (rows : List Row) (c : Content) → has_live s ≡ true → IsStored s old c → Shown read_live [] old new rows → IsPermutation c.live (map live_shown rows)
+pub live_shown_are : (s : Layout) (old new : State) (rows : List Row) (c : Content) → has_live s ≡ true → IsStored s old c → Shown read_live [] old new rows
+    → IsPermutation c.live (map live_shown rows)
 live_shown_are s old new rows c live r h =
     shows_kept live_query live_shown live_shown (drop 1) live_row live_seen (λ l. refl) c.live _ rows
     (sorts s read_live 2 _ _ _ (read_live_means s live) old new rows r.holds.schema h refl)

@@ -1,9 +1,11 @@
 -- What the statements that make the tables do.
 use Rattle.std.proofs.Common.{◌≡◌, ℕ, pos, List, [], ◌∷◌, ◌++◌, map, drop, Bool, true, false, None, Ok, Result, refl, sym, ap, subst, ◌∙◌, IsPermutation, Option, MatchBool, true≢false}
-use Rattle.lpis_register_sql.proofs.Common.{IsPermutation-refl, Row, Table, Schema, CreateTable, table_defined_by, Tally, Does, Trees, Mode, Error, Database, State, mode_of, ExecutesInside, runs_as}
+use Rattle.lpis_register_sql.proofs.Common.{IsPermutation-refl, Row, Table, Schema, table_defined_by, Tally, Does, Trees, Mode, Error, Database, State, mode_of, ExecutesInside, runs_as}
+use Rattle.sqlite.specs.Command.TheVariants.{CreateTable}
 use Rattle.lpis_register_sql.proofs.Common.{format_table, span_table, text_table, mark_table, Layout, Origin, New, Moved, First, LessTexts, LessMarks, Whole, schema_of, origin_of, is_moved, has_spans}
 use Rattle.lpis_register_sql.proofs.Common.{has_live, has_texts, has_marks}
-use Rattle.lpis_register_sql.proofs.Common.{span_tree, text_tree, mark_tree, Content, Format, Keeps, format_row, year_row, span_row, line_row, live_row, text_row, mark_row, Inside}
+use Rattle.lpis_register_sql.proofs.Common.{span_tree, text_tree, mark_tree, Content, Format, format_row, year_row, span_row, line_row, live_row, text_row, mark_row, Inside}
+use Rattle.lpis_register_sql.specs.Holding.{Keeps}
 use Rattle.std.specs.List.{AllByRecursion}
 use Rattle.sqlite.specs.Change.{created, next_tree, KeepsRows}
 use Rattle.sqlite.specs.Does.{lacks_sequence, MakesTable, sequence_text}
@@ -140,7 +142,8 @@ abbrev Made : Layout → Trees → Trees → Type 0
 Made s db next = (next (next_tree (schema_of s)) ≡ []) × KeepsRows (schema_of s).tables db next
 
 beside : (s t : Layout) (sql : List ℕ) (table : Table) → Makes sql (schema_of s) (schema_of t) table → lacks_sequence (schema_of t) ≡ false
-    → ((db next : Trees) → Made s db next → Grows s t db next) → (base : Database) (old new : State) (c : Content) (count : ℕ) → Inside s base old c → ExecutesInside 0 sql [] old new (Ok count) → Inside t base new c
+    → ((db next : Trees) → Made s db next → Grows s t db next) → (base : Database) (old new : State) (c : Content) (count : ℕ)
+    → Inside s base old c → ExecutesInside 0 sql [] old new (Ok count) → Inside t base new c
 beside s t sql table it plain grows base old new c count before h =
     let from = schema_of s in
     let w = runs_as sql [] old new from before.holds.schema CreateTable it.is it.plain count h.0 in
@@ -167,7 +170,8 @@ span_beside = beside First (LessTexts Moved) make_span (span_table 0) span_moves
   marks = tt;
 })
 
-pub text_beside : (o : Origin) (base : Database) (old new : State) (c : Content) (count : ℕ) → Inside (LessTexts o) base old c → ExecutesInside 0 make_text [] old new (Ok count) → Inside (LessMarks o) base new c
+pub text_beside : (o : Origin) (base : Database) (old new : State) (c : Content) (count : ℕ) → Inside (LessTexts o) base old c
+    → ExecutesInside 0 make_text [] old new (Ok count) → Inside (LessMarks o) base new c
 text_beside New = beside (LessTexts New) (LessMarks New) make_text (text_table 0) (text_is New) refl (λ db next k. record {
   origin = refl;
   formats = k.1.0;
@@ -189,7 +193,8 @@ text_beside Moved = beside (LessTexts Moved) (LessMarks Moved) make_text (text_t
   marks = tt;
 })
 
-pub mark_beside : (o : Origin) (base : Database) (old new : State) (c : Content) (count : ℕ) → Inside (LessMarks o) base old c → ExecutesInside 0 make_mark [] old new (Ok count) → Inside (Whole o) base new c
+pub mark_beside : (o : Origin) (base : Database) (old new : State) (c : Content) (count : ℕ) → Inside (LessMarks o) base old c
+    → ExecutesInside 0 make_mark [] old new (Ok count) → Inside (Whole o) base new c
 mark_beside New = beside (LessMarks New) (Whole New) make_mark (mark_table 0) (mark_is New) refl (λ db next k. record {
   origin = refl;
   formats = k.1.0;

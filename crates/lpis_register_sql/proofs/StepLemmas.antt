@@ -1,12 +1,16 @@
 -- How the steps of a publication join.
 use Rattle.std.proofs.Common.{◌≡◌, ◌+◌, ℕ, List, [], arith, length, take, refl, sym, ap, subst, ◌∙◌, false, true, Ok, Err, Result, OnOk, inl, inr, IsTrue, ◌⊎◌, IfErr, OnErr}
-use Rattle.lpis_register_sql.proofs.Common.{Trees, Database, State, HasCleanDisk, Survives, state, Error, Content, Layout, Whole, no_schema, Inside, IsQuiet, Turns, IsStored, Leaves, HoldsRows}
+use Rattle.lpis_register_sql.proofs.Common.{Trees, Database, State, HasCleanDisk, Survives, state, Error, Content, Layout, Origin, Whole, has_marks, no_schema}
+use Rattle.lpis_register_sql.proofs.Common.{Inside, IsQuiet, Turns, IsStored, Leaves, HoldsRows}
+use Rattle.sqlite.proofs.Callers.{survives_begin}
+use Rattle.lpis_register_sql.specs.Layouts.{made_whole}
 use Rattle.std.proofs.Math.Seq.{take-length}
 use Rattle.sqlite.specs.State.{Shows, KeepsCounts, IsRolledBack}
 use Rattle.sqlite.specs.Steps.{FailsToCommit}
 use Rattle.sqlite.specs.Held.{Held}
 use Rattle.sqlite.proofs.StateLemmas.{survives_then}
 use Rattle.lpis_register_sql.specs.Bare.{IsBare}
+use Rattle.lpis_register_sql.specs.Commits.{Rewrites}
 use Rattle.lpis_register_sql.specs.private.Stages.{Stage}
 use Rattle.sqlite_trees.specs.declared.store.Store as store
 
@@ -72,10 +76,6 @@ pub moved_err : (s t : Layout) (base : Database) (old last new : State) (c d : C
 moved_err s t base old last new c d r inside is up (Ok _) h = tt
 moved_err s t base old last new c d r inside is up (Err e) h = refused s t base old last new e c d r inside is h up
 
-pub commit_err : (s : Layout) (base : Database) (old last new : State) (c d : Content) → IsStored s old c → Inside s base last d → base ≡ old.now → IsTrue new.is_open → (r : Result (Unit {0}) Error)
-    → IfErr r (FailsToCommit last new) → OnErr r (IsStored s new c)
-commit_err s = moved_err s s
-
 pub leaves : (s : Layout) (db : Database) (c : Content) → HoldsRows s db c → Leaves s c db.trees
 leaves s db c h = subst (λ it. HoldsRows s (record { schema = it; trees = db.trees }) c) h.schema h
 
@@ -108,3 +108,47 @@ pub bare_err : (t : Layout) (base : Database) (old last new : State) (d : Conten
 bare_err t base old last new d r inside is up (Ok _) h = tt
 bare_err t base old last new d r inside is up (Err e) (inl failed) = rolled_bare old last new r (λ _. inside.base_is ∙ is ∙ r.settled) failed.3 up
 bare_err t base old last new d r inside is up (Err e) (inr late) = absurd (let t = inside.in_transaction in let f = late.1 in cc)
+
+-- ---- a call that writes in one transaction
+
+module _ {S : Type 0} (g : store.Ghosts S) (held first : Held S) (last : State) (IsSuch : Layout → Content → Type 0) (turn : Content → Content)
+    (begun : first ≡ record held { in_transaction = true }) (quiet : IsQuiet (state g first) last) where
+  nothing_left : Survives (state g held) last (λ _. ⊥)
+  nothing_left = survives_begin g held last _ (rw begun at quiet.survives)
+
+  -- which fails before its commit
+  pub not_written : (new : State) (e : Error) → (HasCleanDisk new → IsRolledBack last new) → Survives last new (λ _. ⊥) → Rewrites IsSuch turn (state g held) new (Err e)
+  not_written new e back quits = record {
+    ok = λ clean s c such r. tt;
+    err = λ clean up s c such r.
+        let at_last : HasCleanDisk last = omega (arith, quits.clean) in
+        rolled_back s (state g held) last new c r (rw begun at (quiet.kept at_last)).committed (back clean) up;
+    crash = crashed (state g held) last new _ _ nothing_left quits (λ clean db none. absurd none);
+    durable = λ clean s c such r. tt;
+  }
+
+  -- which comes to its commit
+  pub written : (new : State) (r : Result (Unit {0}) Error)
+      → (HasCleanDisk last → (s : Layout) (base : Database) (c : Content) → IsSuch s c → Inside s base (state g first) c → Inside (made_whole s) base last (turn c))
+      → (HasCleanDisk new → OnOk r (IsTrue last.in_transaction × Shows last new last.now last.now false × KeepsCounts last new × (new.marks ≡ [])))
+      → (HasCleanDisk new → IfErr r (FailsToCommit last new)) → Survives last new (λ db. db ≡ last.now.trees) → (IsTrue new.is_open → (db : Trees) → new.may_leave db → db ≡ new.committed.trees) → Rewrites IsSuch turn (state g held) new r
+  written new r turned ok err ends law = record {
+    ok = kept;
+    err = λ clean up s c such before. moved_err s (made_whole s) _ (state g held) last new c _ before (inside clean s c such before) refl up r (err clean);
+    crash = crashed (state g held) last new _ _ nothing_left ends
+        (λ clean db is s c such before. subst (Leaves (made_whole s) (turn c)) (sym is) (leaves (made_whole s) last.now _ (inside clean s c such before).holds));
+    durable = λ clean s c such before. durable (made_whole s) new _ law r (kept clean s c such before);
+  } where
+    inside : HasCleanDisk new → (s : Layout) (c : Content) → IsSuch s c → IsStored s (state g held) c → Inside (made_whole s) (state g held).now last (turn c)
+    inside clean s c such before =
+        let at_last : HasCleanDisk last = omega (arith, ends.clean) in turned at_last s _ c such (begun_inside s g held first c begun before)
+
+    kept : HasCleanDisk new → (s : Layout) (c : Content) → IsSuch s c → IsStored s (state g held) c → OnOk r (IsStored (made_whole s) new (turn c))
+    kept clean s c such before = commit_ok (made_whole s) _ last new _ (inside clean s c such before) r (ok clean)
+
+-- where all tables are there, their order is that of an origin
+pub whole_alone : (turn : Content → Content) (old new : State)
+    → (HasCleanDisk new → (o : Origin) (base : Database) (c : Content) → Inside (Whole o) base old c → Inside (Whole o) base new (turn c))
+    → HasCleanDisk new → (s : Layout) (base : Database) (c : Content) → has_marks s ≡ true → Inside s base old c → Inside (made_whole s) base new (turn c)
+whole_alone turn old new adds clean (Whole o) base c all before = adds clean o base c before
+whole_alone turn old new adds clean s base c all before = absurd cc

@@ -1,11 +1,12 @@
--- What making the tables and moving them commits, if anything.
-use Rattle.std.specs.Prelude.{◌≡◌, false, List}
+-- What a call that writes in one transaction does to a database.
+use Rattle.std.specs.Prelude.{◌≡◌, ℕ, true, false, IsTrue, OnErr, OnOk, Result}
 use Rattle.sqlite.specs.Tree.{Trees}
-use Rattle.sqlite.specs.State.{State}
-use Rattle.lpis_register_rows.specs.Content.{Content, StoredSpan, moved, no_content, raised}
+use Rattle.sqlite.specs.State.{HasCleanDisk, State, Survives}
+use Rattle.sqlite.specs.declared.error.Error.{Error}
+use Rattle.lpis_register_rows.specs.Content.{Content, no_content}
 use Rattle.lpis_register_rows.specs.Tells.{only_format}
 use Rattle.lpis_register_sql.specs.Bare.{IsBare}
-use Rattle.lpis_register_sql.specs.Layouts.{Layout, New, Whole, made_whole}
+use Rattle.lpis_register_sql.specs.Layouts.{Layout, New, Whole, has_marks, made_whole}
 use Rattle.lpis_register_sql.specs.Holding.{IsStored, Leaves}
 use Rattle.lpis_register_sql.specs.Quiet.{IsFound}
 use Rattle.lpis_register_sql.specs.declared.found.Found.{Found}
@@ -15,20 +16,29 @@ abbrev pub LeavesMade : Found → State → Trees → Type 0
 LeavesMade found old trees =
     found.format ≡ false → IsBare old → Leaves (Whole New) no_content trees
 
--- these spans in place of the rows of version 1
-abbrev pub LeavesMoved : Found → List StoredSpan → State → Trees → Type 0
-LeavesMoved found rows old trees =
-    (layout : Layout) → IsFound found layout → (c : Content) → c.formats ≡ only_format 1
-    → IsStored layout old c → Leaves (made_whole layout) (moved rows c) trees
+-- rows of a version, in the tables that were found
+abbrev pub IsFoundOf : Found → ℕ → Layout → Content → Type 0
+IsFoundOf found version layout c = IsFound found layout × (c.formats ≡ only_format version)
 
--- the rows of version 2, with no text and no mark
-abbrev pub LeavesRaised : Found → State → Trees → Type 0
-LeavesRaised found old trees =
-    (layout : Layout) → IsFound found layout → (c : Content) → c.formats ≡ only_format 2
-    → IsStored layout old c → Leaves (made_whole layout) (raised c) trees
+-- all tables of version 3 are there
+abbrev pub AllStand : Layout → Content → Type 0
+AllStand layout c = has_marks layout ≡ true
 
--- the tables that were not there beside the others
-abbrev pub LeavesBeside : Found → State → Trees → Type 0
-LeavesBeside found old trees =
-    (layout : Layout) → IsFound found layout → (c : Content) → IsStored layout old c
-    → Leaves (made_whole layout) c trees
+module _ (IsSuch : Layout → Content → Type 0) (turn : Content → Content) where
+  -- a crash leaves such rows turned, and all tables of version 3
+  abbrev pub LeavesTurned : State → Trees → Type 0
+  LeavesTurned old trees = (layout : Layout) (c : Content) → IsSuch layout c → IsStored layout old c
+      → Leaves (made_whole layout) (turn c) trees
+
+  -- a database that holds such rows, its tables in such an order, holds them turned afterwards, and
+  -- has all tables of version 3; with an error it holds what it held, unless it is shut. A crash
+  -- leaves either, and right after Ok the turned rows
+  pub record Rewrites (old new : State) (r : Result (Unit {0}) Error) : Type 0 where
+    pub ok : HasCleanDisk new → (layout : Layout) (c : Content) → IsSuch layout c
+        → IsStored layout old c → OnOk r (IsStored (made_whole layout) new (turn c))
+    pub err : HasCleanDisk new → IsTrue new.is_open → (layout : Layout) (c : Content)
+        → IsSuch layout c → IsStored layout old c → OnErr r (IsStored layout new c)
+    pub crash : Survives old new (LeavesTurned old)
+    pub durable : HasCleanDisk new → (layout : Layout) (c : Content) → IsSuch layout c
+        → IsStored layout old c
+        → OnOk r ((db : Trees) → new.may_leave db → Leaves (made_whole layout) (turn c) db)

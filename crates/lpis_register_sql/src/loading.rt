@@ -1,10 +1,9 @@
 //! The tables, read.
 
-ghost use Rattle.std.specs.Prelude.{◌≡◌, true, false, IsPermutation};
+ghost use Rattle.std.specs.Prelude.{◌≡◌, false, IsPermutation};
 ghost use Rattle.sqlite.specs.Held.{state};
-ghost use Rattle.lpis_register_rows.specs.Content.{without_live, without_texts};
+ghost use Rattle.lpis_register_rows.specs.Content.{without_texts};
 ghost use Rattle.lpis_register_rows.specs.Tells.{IsSameContent};
-ghost use Rattle.lpis_register_sql.specs.Layouts.{has_marks};
 ghost use Rattle.lpis_register_sql.specs.Quiet.{IsFound, ReadsRows};
 
 use crate::found::Found;
@@ -12,22 +11,6 @@ use crate::reading::load_rows;
 use lpis_register_rows::{FormatRow, LineRow, LiveRow, MarkRow, Rows, SpanRow, TextRow};
 use sqlite::{Alter, Connection, Error};
 use std::alloc::Global;
-
-/// The rows of the tables of version 3 that say the history.
-pub fn load<S: Alter>(alloc: Global, conn: &mut Connection<S>) -> Result<Rows, Error>
-    requires autocommit { conn.old.in_transaction ≡ false }
-    ensures autocommit { conn.new.in_transaction ≡ false }
-    ensures reads { ReadsRows (λ layout. has_marks layout ≡ true)
-        (λ c. IsSameContent (without_texts (without_live c))) (state S.Store conn.old)
-        (state S.Store conn.new) result }
-{
-    let formats: Vec<FormatRow> = load_rows(alloc, conn, true)?;
-    let years: Vec<i64> = load_rows(alloc, conn, true)?;
-    let spans: Vec<SpanRow> = load_rows(alloc, conn, true)?;
-    let lines: Vec<LineRow> = load_rows(alloc, conn, true)?;
-    let marks: Vec<MarkRow> = load_rows(alloc, conn, true)?;
-    Ok(Rows::new(formats, years, spans, lines, Vec::new(alloc), marks))
-}
 
 /// The rows of the tables that were found, but for the texts.
 pub fn load_found<S: Alter>(

@@ -1,8 +1,8 @@
 //! Moving a database of version 1 or 2 to version 3, in one transaction.
 
-ghost use Rattle.std.specs.Prelude.{◌≡◌, pos, false, IsTrue, OnOk, OnErr};
+ghost use Rattle.std.specs.Prelude.{◌≡◌, pos, false, OnOk};
 ghost use Rattle.sqlite.specs.Held.{state};
-ghost use Rattle.sqlite.specs.State.{HasCleanDisk, Survives};
+ghost use Rattle.sqlite.specs.State.{HasCleanDisk};
 ghost use Rattle.lpis_register_rows.specs.Content.{in_spans, moved, raised, with_version};
 ghost use Rattle.lpis_register_rows.specs.Content.{with_whole_span, with_whole_spans};
 ghost use Rattle.lpis_register_rows.specs.Content.{without_live, without_spans};
@@ -10,9 +10,8 @@ ghost use Rattle.lpis_register_rows.specs.Tells.{only_format};
 ghost use Rattle.lpis_register_sql.specs.Layouts.{Moved, Whole, is_moved, made_whole};
 ghost use Rattle.lpis_register_sql.specs.Quiet.{IsFound};
 ghost use Rattle.lpis_register_sql.specs.private.Inside.{Inside, IsQuiet, Turns};
-ghost use Rattle.lpis_register_sql.specs.Holding.{IsStored};
 ghost use Rattle.lpis_register_sql.specs.private.Lines.{span_at};
-ghost use Rattle.lpis_register_sql.specs.Commits.{LeavesBeside, LeavesMoved, LeavesRaised};
+ghost use Rattle.lpis_register_sql.specs.Commits.{IsFoundOf, Rewrites};
 
 use crate::completing::complete;
 use crate::found::Found;
@@ -191,16 +190,8 @@ pub fn write_moved<S: Alter>(
 ) -> Result<(), Error>
     requires autocommit { conn.old.in_transaction ≡ false }
     ensures autocommit { conn.new.in_transaction ≡ false }
-    ensures ok { HasCleanDisk (state S.Store conn.new) → (layout : _) → IsFound found.now layout
-        → (c : _) → c.formats ≡ only_format 1 → IsStored layout (state S.Store conn.old) c
-        → OnOk result (IsStored (made_whole layout) (state S.Store conn.new) (moved spans.now c)) }
-    ensures err { HasCleanDisk (state S.Store conn.new) → IsTrue (state S.Store conn.new).is_open
-        → (layout : _) → IsFound found.now layout → (c : _) → c.formats ≡ only_format 1
-        → IsStored layout (state S.Store conn.old) c
-        → OnErr result (IsStored layout (state S.Store conn.new) c) }
-    ensures clean { HasCleanDisk (state S.Store conn.new) → HasCleanDisk (state S.Store conn.old) }
-    ensures crash { Survives (state S.Store conn.old) (state S.Store conn.new)
-        (LeavesMoved found.now spans.now (state S.Store conn.old)) }
+    ensures writes { Rewrites (IsFoundOf found.now 1) (moved spans.now)
+        (state S.Store conn.old) (state S.Store conn.new) result }
 {
     let mut tx = conn.transaction();
     fill_moved(&mut tx, found, spans)?;
@@ -211,16 +202,8 @@ pub fn write_moved<S: Alter>(
 pub fn write_raised<S: Alter>(conn: &mut Connection<S>, found: &Found) -> Result<(), Error>
     requires autocommit { conn.old.in_transaction ≡ false }
     ensures autocommit { conn.new.in_transaction ≡ false }
-    ensures ok { HasCleanDisk (state S.Store conn.new) → (layout : _) → IsFound found.now layout
-        → (c : _) → c.formats ≡ only_format 2 → IsStored layout (state S.Store conn.old) c
-        → OnOk result (IsStored (made_whole layout) (state S.Store conn.new) (raised c)) }
-    ensures err { HasCleanDisk (state S.Store conn.new) → IsTrue (state S.Store conn.new).is_open
-        → (layout : _) → IsFound found.now layout → (c : _) → c.formats ≡ only_format 2
-        → IsStored layout (state S.Store conn.old) c
-        → OnErr result (IsStored layout (state S.Store conn.new) c) }
-    ensures clean { HasCleanDisk (state S.Store conn.new) → HasCleanDisk (state S.Store conn.old) }
-    ensures crash { Survives (state S.Store conn.old) (state S.Store conn.new)
-        (LeavesRaised found.now (state S.Store conn.old)) }
+    ensures writes { Rewrites (IsFoundOf found.now 2) raised
+        (state S.Store conn.old) (state S.Store conn.new) result }
 {
     let mut tx = conn.transaction();
     fill_raised(&mut tx, found)?;
@@ -231,16 +214,8 @@ pub fn write_raised<S: Alter>(conn: &mut Connection<S>, found: &Found) -> Result
 pub fn write_missing<S: Alter>(conn: &mut Connection<S>, found: &Found) -> Result<(), Error>
     requires autocommit { conn.old.in_transaction ≡ false }
     ensures autocommit { conn.new.in_transaction ≡ false }
-    ensures ok { HasCleanDisk (state S.Store conn.new) → (layout : _) → IsFound found.now layout
-        → (c : _) → IsStored layout (state S.Store conn.old) c
-        → OnOk result (IsStored (made_whole layout) (state S.Store conn.new) c) }
-    ensures err { HasCleanDisk (state S.Store conn.new) → IsTrue (state S.Store conn.new).is_open
-        → (layout : _) → IsFound found.now layout → (c : _)
-        → IsStored layout (state S.Store conn.old) c
-        → OnErr result (IsStored layout (state S.Store conn.new) c) }
-    ensures clean { HasCleanDisk (state S.Store conn.new) → HasCleanDisk (state S.Store conn.old) }
-    ensures crash { Survives (state S.Store conn.old) (state S.Store conn.new)
-        (LeavesBeside found.now (state S.Store conn.old)) }
+    ensures writes { Rewrites (λ layout c. IsFound found.now layout) (λ c. c)
+        (state S.Store conn.old) (state S.Store conn.new) result }
 {
     let mut tx = conn.transaction();
     complete(&mut tx, found)?;

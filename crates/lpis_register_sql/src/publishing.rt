@@ -1,14 +1,12 @@
 //! Publishing a release, in one transaction.
 
-ghost use Rattle.std.specs.Prelude.{◌≡◌, pos, false, IsTrue, OnOk, OnErr};
+ghost use Rattle.std.specs.Prelude.{◌≡◌, pos, false};
 ghost use Rattle.sqlite.specs.Held.{state};
-ghost use Rattle.sqlite.specs.State.{HasCleanDisk, Survives};
 ghost use Rattle.lpis_register_rows.specs.Content.{with_year, with_spans, all_ended};
 ghost use Rattle.lpis_register_rows.specs.Content.{lines_from, marks_from, published, released};
 ghost use Rattle.lpis_register_rows.specs.Content.{with_lines};
-ghost use Rattle.lpis_register_sql.specs.Layouts.{Whole};
+ghost use Rattle.lpis_register_sql.specs.Commits.{AllStand, Rewrites};
 ghost use Rattle.lpis_register_sql.specs.private.Inside.{IsQuiet, Turns};
-ghost use Rattle.lpis_register_sql.specs.Holding.{IsStored, Leaves};
 
 use crate::marks::insert_marks;
 use crate::statements::insert_release;
@@ -72,24 +70,9 @@ pub fn write_release<S: Alter>(
 ) -> Result<(), Error>
     requires autocommit { conn.old.in_transaction ≡ false }
     ensures autocommit { conn.new.in_transaction ≡ false }
-    ensures ok { HasCleanDisk (state S.Store conn.new) → (origin : _) (c : _)
-        → IsStored (Whole origin) (state S.Store conn.old) c
-        → OnOk result
-        (IsStored (Whole origin) (state S.Store conn.new)
-        (released texts.now (marks_from (pos year) 0 rows.now)
-        (published (pos year) (pos last) dropped.now fresh.now rows.now c))) }
-    ensures err { HasCleanDisk (state S.Store conn.new) → IsTrue (state S.Store conn.new).is_open
-        → (origin : _) (c : _) → IsStored (Whole origin) (state S.Store conn.old) c
-        → OnErr result (IsStored (Whole origin) (state S.Store conn.new) c) }
-    ensures crash { (origin : _) (c : _) → IsStored (Whole origin) (state S.Store conn.old) c
-        → Survives (state S.Store conn.old) (state S.Store conn.new)
-        (Leaves (Whole origin) (released texts.now (marks_from (pos year) 0 rows.now)
-        (published (pos year) (pos last) dropped.now fresh.now rows.now c))) }
-    ensures durable { HasCleanDisk (state S.Store conn.new) → (origin : _) (c : _)
-        → IsStored (Whole origin) (state S.Store conn.old) c
-        → OnOk result ((db : _) → (state S.Store conn.new).may_leave db
-        → Leaves (Whole origin) (released texts.now (marks_from (pos year) 0 rows.now)
-        (published (pos year) (pos last) dropped.now fresh.now rows.now c)) db) }
+    ensures writes { Rewrites AllStand (λ c. released texts.now (marks_from (pos year) 0 rows.now)
+        (published (pos year) (pos last) dropped.now fresh.now rows.now c))
+        (state S.Store conn.old) (state S.Store conn.new) result }
 {
     let mut tx = conn.transaction();
     fill(&mut tx, year, last, dropped, fresh)?;

@@ -171,7 +171,6 @@ pub fn create<S: Alter>(conn: &mut Connection<S>, found: &Found) -> Result<(), E
     ensures err { found.now.format ≡ false → HasCleanDisk (state S.Store conn.new)
         → IsTrue (state S.Store conn.new).is_open → IsBare (state S.Store conn.old)
         → OnErr result (IsBare (state S.Store conn.new)) }
-    ensures clean { HasCleanDisk (state S.Store conn.new) → HasCleanDisk (state S.Store conn.old) }
     ensures crash { Survives (state S.Store conn.old) (state S.Store conn.new)
         (LeavesMade found.now (state S.Store conn.old)) }
 {

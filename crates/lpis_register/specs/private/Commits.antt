@@ -1,7 +1,8 @@
 -- What the steps of an opening commit, if anything.
-use Rattle.std.specs.Prelude.{◌≡◌, List, Result, IfErr, IfOk, IsTrue, OnErr, OnOk}
+use Rattle.std.specs.Prelude.{◌≡◌, List, Result, Ok, Err, IfErr, IfOk, IsTrue, OnErr, OnOk}
 use Rattle.sqlite.specs.Tree.{Trees}
 use Rattle.sqlite.specs.State.{HasCleanDisk, State, Survives}
+use Rattle.sqlite.specs.declared.error.Error.{Error}
 use Rattle.lpis_lineage.specs.declared.row.Entry.{Entry}
 use Rattle.lpis_register_rows.specs.Content.{Content}
 use Rattle.lpis_register_rows.specs.Shapes.{Shape}
@@ -55,3 +56,10 @@ pub record OpensFound (found : Found) (old new : State) (r : Result Told Publish
     pub clean : HasCleanDisk new → HasCleanDisk old
     pub crash : Survives old new (LeavesFound found old)
     pub kinds : IfErr r IsOpeningFault
+
+-- the register reports what became of a write: an error of the database as a failure
+abbrev pub IsReported : Result (Unit {0}) Error → Result (Unit {0}) PublishFault → Type 0
+IsReported (Ok x) (Ok y) = Unit {0}
+IsReported (Ok x) (Err fault) = ⊥
+IsReported (Err error) (Ok y) = ⊥
+IsReported (Err error) (Err fault) = IsFailure fault

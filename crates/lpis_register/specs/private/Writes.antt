@@ -44,6 +44,7 @@ module _ (h k : List Entry) (year : ℕ) (parcels : List Parcel) (rows : List Ro
     -- and of the tables' history, as publishing it does
     pub record Commits {E : Type 0} (old new : State) (r : Result (Unit {0}) E) : Type 0 where
       pub follows : Grows r
+      pub refused : OnErr r (k ≡ h)
       pub ok : (shapes : List Shape) → HasCleanDisk new → HoldsRegister old h shapes
           → OnOk r (HoldsRegister new k a.kept.shapes.items)
       pub err : (shapes : List Shape) → HasCleanDisk new → IsTrue new.is_open

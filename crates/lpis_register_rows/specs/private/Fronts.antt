@@ -1,10 +1,10 @@
 -- A history put together release by release, beside one that the rows say.
-use Rattle.std.specs.Prelude.{◌≡◌, ◌<◌, ◌≤◌, ◌+◌, ℕ, pos, List, length, map, take}
+use Rattle.std.specs.Prelude.{◌≡◌, ◌<◌, ◌≤◌, ◌+◌, ◌++◌, ◌∷◌, [], ℕ, pos, List, length, map, take}
 use Rattle.lpis_lineage.specs.declared.row.Entry.{Entry}
 use Rattle.lpis_lineage.specs.Lineage.{entry_at, holds}
 use Rattle.lpis_register_rows.specs.declared.known.KnownLine.{KnownLine}
 use Rattle.lpis_register_rows.specs.declared.known.KnownSpan.{KnownSpan}
-use Rattle.lpis_register_rows.specs.Tells.{IsKeptHistory}
+use Rattle.lpis_register_rows.specs.Tells.{IsKeptHistory, years_of}
 use Rattle.lpis_register_rows.specs.private.Known.{SetsAre, known_of, known_line_at, span_in}
 
 -- the lines from one position up to another are those of a year, by their positions from 0, and the
@@ -37,3 +37,14 @@ pub record IsDue (g : List Entry) (lines : List KnownLine) (from year : ℕ) (h 
     pub more : length g < length h
     pub year_is : (entry_at h (length g)).year ≡ year
     pub lines_are : known_of g ≡ take from lines
+
+-- the release of a year is added to a history, with the rows of the lines from one position up to
+-- the next
+pub record AddsYear (spans : List KnownSpan) (lines : List KnownLine) (year from next : ℕ)
+    (old new : List Entry) : Type 0 where
+  pub within : next ≤ length lines
+  pub years : years_of new ≡ years_of old ++ pos year ∷ []
+  pub sets : SetsAre (map span_in spans) old → SetsAre (map span_in spans) new
+  pub lines_are : known_of old ≡ take from lines → known_of new ≡ take next lines
+  pub front : (h : List Entry) → SaysHistory spans lines h → IsDue old lines from year h
+      → IsFront new h

@@ -7,11 +7,5 @@ returns-in-Ok-clause-commits g c year parcels rows made =
     c.write_or_take_back.ensures.commits c.args.history.now
     (record { year = year; parcels = parcels; rows = rows; made = made; follows = c.in-Ok.ensures.grows year parcels rows made; last_is = c.last_year-last.ensures })
 
-pub returns-in-Ok-clause-refused : goal.returns-in-Ok-clause-refused
-returns-in-Ok-clause-refused g c =
-    let made = c.requires.made in
-    c.write_or_take_back.ensures.refused c.args.history.now
-    (record { year = made.0; parcels = made.1; rows = made.2; made = made.3; follows = c.in-Ok.ensures.grows made.0 made.1 made.2 made.3; last_is = c.last_year-last.ensures })
-
 pub returns-in-Err-clause-commits : goal.returns-in-Err-clause-commits
-returns-in-Err-clause-commits g c year parcels rows made = not_begun c.args.history.now _ year parcels rows c.args.accepted.now (state g.S.Store c.args.conn.now) _
+returns-in-Err-clause-commits g c year parcels rows made = not_begun c.args.history.now _ year parcels rows c.args.accepted.now (state g.S.Store c.args.conn.now) c.in-Err.ensures.refused _

@@ -8,7 +8,6 @@ returns-in-Ok-clause-commits g c h due =
 
 pub returns-in-Err-clause-commits : goal.returns-in-Err-clause-commits
 returns-in-Err-clause-commits g c h due =
-    taken_back c.args.history.now c.args.last c.args.accepted.now h due (state g.S.Store c.args.conn.now) (state g.S.Store c.write_at_end.new.conn) _ _ _ c.in-Err.ensures.writes
-
-pub returns-in-Err-clause-refused : goal.returns-in-Err-clause-refused
-returns-in-Err-clause-refused g c h due = let adds = due.follows.adds in c.take_back.ensures h adds.0 adds.1
+    let adds = due.follows.adds in
+    taken_back c.args.history.now c.args.last c.args.accepted.now h due (state g.S.Store c.args.conn.now) (state g.S.Store c.write_at_end.new.conn) _ _ _ (c.take_back.ensures h adds.0 adds.1)
+    c.in-Err.ensures.writes

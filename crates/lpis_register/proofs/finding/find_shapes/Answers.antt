@@ -1,4 +1,4 @@
 use Rattle.lpis_register.proofs.finding.find_shapes.Goals as goal
 
-pub returns-in-Third-clause-unlawful : goal.returns-in-Third-clause-unlawful
-returns-in-Third-clause-unlawful g c = rw c.in-Third.is c.find_texts.ensures.unlawful
+pub returns-in-Third-clause-finds : goal.returns-in-Third-clause-finds
+returns-in-Third-clause-finds g c = rw c.in-Third.is c.find_texts.ensures.finds

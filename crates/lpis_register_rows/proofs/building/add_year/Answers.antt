@@ -5,33 +5,34 @@ use Rattle.lpis_register_rows.proofs.NextReleaseLemmas.{lines-added, sets-added,
 use Rattle.lpis_register_rows.proofs.FrontLemmas.{due-added, due-refused, due-rows, due-run}
 use Rattle.lpis_register_rows.proofs.building.add_year.Goals as goal
 
-pub returns-in-Ok-clause-years : goal.returns-in-Ok-clause-years
-returns-in-Ok-clause-years c = year-added c.args.history.now c.add.new.self c.args.year c.as_slice.result.now c.as_slice-2.result.now c.in-Ok.ensures.ok
-
-pub returns-in-Ok-clause-sets : goal.returns-in-Ok-clause-sets
-returns-in-Ok-clause-sets c = sets-added c.args.history.now c.add.new.self c.args.year c.in_ok-live.live.items
-    c.as_slice-2.result.now c.args.spans.now
-    (rw c.as_slice.ensures.value at c.in-Ok.ensures.ok) c.in_ok-live.ensures
-
-pub returns-in-Ok-clause-lines : goal.returns-in-Ok-clause-lines
-returns-in-Ok-clause-lines c = λ b.
-    lines-added c.args.history.now c.add.new.self c.args.year c.as_slice.result.now c.in_ok-rows.rows.items
-    (take c.args.from c.args.lines.now) (take c.in_ok-rows.next c.args.lines.now)
-    (rw c.as_slice-2.ensures.value at c.in-Ok.ensures.ok) b c.in_ok-rows.ensures.rows
+pub returns-in-Ok-clause-adds : goal.returns-in-Ok-clause-adds
+returns-in-Ok-clause-adds c =
+    let spans = c.args.spans.now in
+    let lines = c.args.lines.now in
+    let old = c.args.history.now in
+    let from = c.args.from in
+    let year = c.args.year in
+    let within = c.requires.within in
+    let live = c.as_slice.ensures.value in
+    let rows = c.as_slice-2.ensures.value in
+    let added = c.in-Ok.ensures.ok in
+    let read = c.in_ok-rows.ensures in
+    record {
+      within = read.within;
+      years = year-added old c.add.new.self year c.as_slice.result.now c.as_slice-2.result.now added;
+      sets = sets-added old c.add.new.self year c.in_ok-live.live.items c.as_slice-2.result.now spans (rw live at added) c.in_ok-live.ensures;
+      lines_are = λ before.
+          lines-added old c.add.new.self year c.as_slice.result.now c.in_ok-rows.rows.items (take from lines) (take c.in_ok-rows.next lines) (rw rows at added) before read.rows;
+      front = λ h said due.
+          let run = due-run spans lines old h from year said due within in
+          let these = due-rows spans lines old h from year said due within c.in_ok-rows.rows.items c.in_ok-rows.next (read.run _ run) read.rows in
+          due-added spans lines old h from year said due within c.add.new.self c.in_ok-live.live.items c.in_ok-rows.rows.items (rw (live, rows) at added) c.in_ok-live.ensures these;
+    }
 
 pub returns-in_err-rows-clause-refused : goal.returns-in_err-rows-clause-refused
 returns-in_err-rows-clause-refused c =
     let p = err_from_is_err_and c.from_residual-in_err-rows.result c.from_residual-in_err-rows.ensures.1 in
     rw (p.1, p.2) (λ e h said due. c.in_err-rows.ensures.refused e _ (due-run c.args.spans.now c.args.lines.now c.args.history.now h c.args.from c.args.year said due c.requires.within))
-
-pub returns-in-Ok-clause-front : goal.returns-in-Ok-clause-front
-returns-in-Ok-clause-front c = λ h said due.
-    let run = due-run c.args.spans.now c.args.lines.now c.args.history.now h c.args.from c.args.year said due c.requires.within in
-    due-added c.args.spans.now c.args.lines.now c.args.history.now h c.args.from c.args.year said due c.requires.within c.add.new.self c.in_ok-live.live.items c.in_ok-rows.rows.items
-    (rw (c.as_slice.ensures.value, c.as_slice-2.ensures.value) at c.in-Ok.ensures.ok)
-    c.in_ok-live.ensures
-    (due-rows c.args.spans.now c.args.lines.now c.args.history.now h c.args.from c.args.year said due c.requires.within
-    c.in_ok-rows.rows.items c.in_ok-rows.next (c.in_ok-rows.ensures.run _ run) c.in_ok-rows.ensures.rows)
 
 pub returns-clause-refused : goal.returns-clause-refused
 returns-clause-refused c = λ e h said due.

@@ -23,11 +23,11 @@ returns-clause-same c = λ h said years. front-whole c.loop-year.history h (c.lo
 
 pub loop-year-preserved : goal.loop-year-preserved
 loop-year-preserved c = (
-  years-more c.args.years.now c.loop-year.year-index (years_of c.loop-year.history) (years_of c.add_year.new.history) c.loop-year-test.true c.loop-year.invariant.0 c.in_ok-next.ensures.years,
-  c.in_ok-next.ensures.sets c.loop-year.invariant.1,
-  c.in_ok-next.ensures.lines c.loop-year.invariant.2,
-  c.in_ok-next.ensures.within,
-  (λ h said years. c.in_ok-next.ensures.front h said (due-now c.loop-year.history h c.args.lines.now c.loop-year.next
+  years-more c.args.years.now c.loop-year.year-index (years_of c.loop-year.history) (years_of c.add_year.new.history) c.loop-year-test.true c.loop-year.invariant.0 c.in_ok-next.ensures.adds.years,
+  c.in_ok-next.ensures.adds.sets c.loop-year.invariant.1,
+  c.in_ok-next.ensures.adds.lines_are c.loop-year.invariant.2,
+  c.in_ok-next.ensures.adds.within,
+  (λ h said years. c.in_ok-next.ensures.adds.front h said (due-now c.loop-year.history h c.args.lines.now c.loop-year.next
       c.args.years.now c.loop-year.year-index c.loop-year-test.true (c.loop-year.invariant.4 h said years)
       c.loop-year.invariant.0 years c.loop-year.invariant.2)),
 )

@@ -3,4 +3,5 @@ use Rattle.lpis_register_rows.proofs.ShapeLemmas.{copied-live}
 use Rattle.lpis_register_rows.proofs.shapes.copied_shapes.Goals as goal
 
 pub returns-clause-live : goal.returns-clause-live
-returns-clause-live c = copied-live c.args.parcels.now c.loop-parcel.parcel-index c.loop-parcel.shapes.items (let e = c.loop-parcel-test.false in omega (arith, e)) c.loop-parcel.invariant.0 c.loop-parcel.invariant.1
+returns-clause-live c = copied-live c.args.parcels.now c.loop-parcel.parcel-index c.loop-parcel.shapes.items
+    (let e = c.loop-parcel-test.false in omega (arith, e)) c.loop-parcel.invariant.0 c.loop-parcel.invariant.1

@@ -6,4 +6,5 @@ use Rattle.lpis_register_rows.specs.Shapes.{Shape}
 use Rattle.lpis_register_rows.proofs.shapes.sort_shapes.Goals as goal
 
 pub returns-clause-sorted : goal.returns-clause-sorted
-returns-clause-sorted c = c.sort_unstable_by.ensures.sorted (λ (x y : Shape). is_lt (slice_cmp nat_cmp x.0 y.0)) (ranks_by nat_list_cmp_total (λ (s : Shape). s.0)) (answers_always _ _ _ (λ f a r g h. search rules))
+returns-clause-sorted c = c.sort_unstable_by.ensures.sorted (λ (x y : Shape). is_lt (slice_cmp nat_cmp x.0 y.0)) (ranks_by nat_list_cmp_total (λ (s : Shape). s.0))
+    (answers_always _ _ _ (λ f a r g h. search rules))

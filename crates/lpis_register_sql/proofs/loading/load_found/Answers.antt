@@ -1,5 +1,7 @@
-use Rattle.std.proofs.Common.{[], refl, sym, subst, IsPermutation}
+use Rattle.std.proofs.Common.{[], refl, sym, subst}
 use Rattle.lpis_register_sql.proofs.Common.{IsPermutation-refl}
+use Rattle.lpis_register_rows.specs.Content.{without_texts}
+use Rattle.lpis_register_rows.specs.Tells.{IsSameContent}
 use Rattle.std.proofs.lemmas.Result.{err_from_is_err_and}
 use Rattle.lpis_register_sql.proofs.QuietLemmas.{answered, nothing_yet, then, then_fails}
 use Rattle.lpis_register_sql.proofs.loading.load_found.Goals as goal
@@ -42,12 +44,12 @@ returns-clause-reads g c =
     let lines = then (λ s p. refl) spans c.in_ok-lines.ensures.reads in
     let lives = then (λ s p. p.lives) lines c.in_ok-lives.ensures.reads in
     let marks = then (λ s p. p.marks) lives c.in_ok-marks.ensures.reads in
-    answered marks (λ content all. record {
-      formats = subst (IsPermutation content.formats) (sym c.new.ensures.formats) all.0.0.0.0.0.1;
-      years = subst (IsPermutation content.years) (sym c.new.ensures.years) all.0.0.0.0.1;
-      spans = subst (IsPermutation content.spans) (sym c.new.ensures.spans) all.0.0.0.1;
-      lines = subst (IsPermutation content.lines) (sym c.new.ensures.lines) all.0.0.1;
-      live = subst (IsPermutation content.live) (sym c.new.ensures.live) all.0.1;
-      texts = subst (IsPermutation []) (sym c.new.ensures.texts) (IsPermutation-refl []);
-      marks = subst (IsPermutation content.marks) (sym c.new.ensures.marks) all.1;
-    })
+    answered marks (λ content all. subst (IsSameContent (without_texts content)) (sym c.new.ensures) (record {
+      formats = all.0.0.0.0.0.1;
+      years = all.0.0.0.0.1;
+      spans = all.0.0.0.1;
+      lines = all.0.0.1;
+      live = all.0.1;
+      texts = IsPermutation-refl [];
+      marks = all.1;
+    }))

@@ -1,5 +1,6 @@
 use Rattle.std.proofs.Common.{arith, ◌∙◌}
-use Rattle.lpis_register_sql.proofs.Common.{state, HasCleanDisk, origin_of, without_spans}
+use Rattle.lpis_register_sql.proofs.Common.{state, HasCleanDisk, origin_of}
+use Rattle.lpis_register_rows.specs.Content.{without_spans}
 use Rattle.lpis_register_sql.proofs.MoveLemmas.{spans_stay}
 use Rattle.lpis_register_sql.proofs.moving.fill_moved.Goals as goal
 

@@ -1,47 +1,13 @@
-use Rattle.std.proofs.Common.{◌≡◌, arith, rules, refl, subst, sym, IsTrue}
-use Rattle.lpis_register_sql.proofs.Common.{state, HasCleanDisk, survives_begin, made_whole, Leaves}
+use Rattle.std.proofs.Common.{◌≡◌, rules}
+use Rattle.lpis_register_sql.proofs.Common.{state}
 use Rattle.lpis_register_rows.specs.Content.{moved}
-use Rattle.lpis_register_sql.specs.Commits.{LeavesMoved}
-use Rattle.lpis_register_sql.proofs.StepLemmas.{begun_inside, commit_ok, moved_err, leaves, crashed}
+use Rattle.lpis_register_sql.proofs.StepLemmas.{written}
 use Rattle.lpis_register_sql.proofs.moving.write_moved.Goals as goal
 
-pub returns-clause-ok : goal.returns-clause-ok
-returns-clause-ok g c clean layout found content one r =
-    let first = c.transaction-tx.result.conn.now in
-    let last = state g.S.Store c.fill_moved.new.tx.conn.now in
-    let new = state g.S.Store c.commit.new.self.0 in
+pub returns-clause-writes : goal.returns-clause-writes
+returns-clause-writes g c =
     let same : c.commit.new.self.0 ≡ c.conn-2-1.given.0 = search rules in
-    let late : HasCleanDisk new = search rules in
-    let at_last : HasCleanDisk last = omega (arith, c.commit.ensures.survives.clean) in
-    let begun = begun_inside layout g.S.Store c.args.conn.now first content c.transaction-tx.ensures.begun r in
-    let inside = c.in_ok-fill_moved.ensures.moved at_last layout found _ _ one begun in
-    rw (← same) (commit_ok (made_whole layout) _ last new _ inside c.commit.result (c.commit.ensures.ok late))
-
-pub returns-clause-err : goal.returns-clause-err
-returns-clause-err g c clean up layout found content one r =
     let first = c.transaction-tx.result.conn.now in
-    let old = state g.S.Store c.args.conn.now in
-    let last = state g.S.Store c.fill_moved.new.tx.conn.now in
-    let new = state g.S.Store c.commit.new.self.0 in
-    let same : c.commit.new.self.0 ≡ c.conn-2-1.given.0 = search rules in
-    let late : HasCleanDisk new = search rules in
-    let at_last : HasCleanDisk last = omega (arith, c.commit.ensures.survives.clean) in
-    let begun = begun_inside layout g.S.Store c.args.conn.now first content c.transaction-tx.ensures.begun r in
-    let inside = c.in_ok-fill_moved.ensures.moved at_last layout found _ _ one begun in
-    let still : IsTrue new.is_open = search rules in
-    rw (← same) (moved_err layout (made_whole layout) _ old last new content _ r inside refl still c.commit.result (c.commit.ensures.err late))
-
-pub returns-clause-crash : goal.returns-clause-crash
-returns-clause-crash g c =
-    let first = c.transaction-tx.result.conn.now in
-    let old = state g.S.Store c.args.conn.now in
-    let last = state g.S.Store c.fill_moved.new.tx.conn.now in
-    let new = state g.S.Store c.commit.new.self.0 in
-    let same : c.commit.new.self.0 ≡ c.conn-2-1.given.0 = search rules in
-    let quiet_since = survives_begin g.S.Store c.args.conn.now last _ (rw c.transaction-tx.ensures.begun at c.fill_moved.ensures.quiet.survives) in
-    let P = LeavesMoved c.args.found.now c.args.spans.now old in
-    rw (← same) (crashed old last new _ P quiet_since c.commit.ensures.survives (λ clean db is layout found content one r.
-    let at_last : HasCleanDisk last = omega (arith, c.commit.ensures.survives.clean) in
-    let begun = begun_inside layout g.S.Store c.args.conn.now first content c.transaction-tx.ensures.begun r in
-    let inside = c.in_ok-fill_moved.ensures.moved at_last layout found _ _ one begun in
-    subst (Leaves (made_whole layout) (moved c.args.spans.now content)) (sym is) (leaves (made_whole layout) last.now _ inside.holds)))
+    rw (← same) (written g.S.Store c.args.conn.now first (state g.S.Store c.fill_moved.new.tx.conn.now) _ (moved c.args.spans.now) c.transaction-tx.ensures.begun c.fill_moved.ensures.quiet
+    (state g.S.Store c.commit.new.self.0) c.commit.result (λ clean layout base content such before. c.in_ok-fill_moved.ensures.moved clean layout such.0 base content such.1 before)
+    c.commit.ensures.ok c.commit.ensures.err c.commit.ensures.survives (λ up db may. g.met.S.Store.settled c.commit.new.self.0.store db up may))

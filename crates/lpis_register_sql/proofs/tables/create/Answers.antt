@@ -1,5 +1,6 @@
 use Rattle.std.proofs.Common.{◌≡◌, arith, refl, rules, subst, sym, IsTrue}
-use Rattle.lpis_register_sql.proofs.Common.{state, HasCleanDisk, survives_begin, New, Whole, Leaves}
+use Rattle.lpis_register_sql.proofs.Common.{state, HasCleanDisk, New, Whole, Leaves}
+use Rattle.sqlite.proofs.Callers.{survives_begin}
 use Rattle.lpis_register_rows.specs.Content.{no_content}
 use Rattle.lpis_register_sql.specs.Commits.{LeavesMade}
 use Rattle.lpis_register_sql.proofs.StepLemmas.{begun_bare, bare_err, commit_ok, leaves, crashed}

@@ -1,5 +1,6 @@
 use Rattle.std.proofs.Common.{arith, take, length, ◌<◌}
-use Rattle.lpis_register_sql.proofs.Common.{state, with_text}
+use Rattle.lpis_register_sql.proofs.Common.{state}
+use Rattle.lpis_register_rows.specs.Content.{with_text}
 use Rattle.lpis_register_rows.specs.Content.{with_texts}
 use Rattle.lpis_register_sql.proofs.StepLemmas.{at_end, one_more, quiet_on}
 use Rattle.lpis_register_sql.proofs.LoopLemmas.{more}

@@ -21,7 +21,7 @@ returns-in-Err-clause-publishes g c year r blocks rows made = record {
   follows = tt;
   exact = tt;
   once = tt;
-  refused = (c.in-Err.ensures.refused, refl);
+  refused = ((c.in-Err.ensures.commits year r.parcels rows made.prepared).refused, refl);
 }
 
 pub returns-in-Ok-clause-stores : goal.returns-in-Ok-clause-stores
@@ -32,4 +32,4 @@ returns-in-Ok-clause-stores g c year r blocks rows made =
 pub returns-in-Err-clause-stores : goal.returns-in-Err-clause-stores
 returns-in-Err-clause-stores g c year r blocks rows made =
     stored_err c.args.self.now.history c.commit_release.new.history year r.parcels rows c.args.accepted c.args.self.now.shapes.items (state g.S.Store c.args.self.now.conn)
-    (state g.S.Store c.commit_release.new.conn) _ c.in-Err.ensures.refused (c.in-Err.ensures.commits year r.parcels rows made.prepared)
+    (state g.S.Store c.commit_release.new.conn) _ (c.in-Err.ensures.commits year r.parcels rows made.prepared)

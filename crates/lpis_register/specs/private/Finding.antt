@@ -1,0 +1,19 @@
+-- What a call answers that reads the tables which were found.
+use Rattle.std.specs.Prelude.{◌≡◌, Result, IfErr}
+use Rattle.sqlite.specs.State.{HasCleanDisk, State}
+use Rattle.lpis_register_rows.specs.Content.{Content}
+use Rattle.lpis_register_sql.specs.declared.found.Found.{Found}
+use Rattle.lpis_register_sql.specs.Layouts.{Layout}
+use Rattle.lpis_register_sql.specs.Holding.{IsStored}
+use Rattle.lpis_register_sql.specs.Quiet.{IsFound, ReadsRows}
+use Rattle.lpis_register.specs.Faults.{IsOpeningFault}
+use Rattle.lpis_register.specs.declared.fault.PublishFault.{PublishFault}
+use Rattle.lpis_register.specs.declared.fault.PublishFault.TheVariants.{Unlawful}
+
+-- what their rows say is answered, and only rows that say none of it are refused
+pub record ReadsFound {X : Type 0} (found : Found) (Says : Content → X → Type 0)
+    (SaysNo : Content → Type 0) (old new : State) (r : Result X PublishFault) : Type 0 where
+  pub reads : ReadsRows (IsFound found) Says old new r
+  pub unlawful : HasCleanDisk new → (layout : Layout) → IsFound found layout → (c : Content)
+      → IsStored layout old c → IfErr r (λ e. e ≡ Unlawful → SaysNo c)
+  pub kinds : IfErr r IsOpeningFault
