@@ -226,8 +226,8 @@ pub fn run_publish<
 ) -> Result<u8, Failure>
     ensures answer { IfOk result (λ status. (x : Submission) × AreAllRead x (P.remaining parcels)
         (C.remaining covers) (K.remaining classes) (E.remaining cert) (L.remaining lineage)
-        × PublishEnds x year status register.old.history register.old.shapes.items register.new.history
-        register.new.shapes.items (W.contents out.old) (W.contents out.new)) }
+        × PublishEnds x year status register.old.history register.old.shapes.items
+        register.new.history register.new.shapes.items (W.contents out.old) (W.contents out.new)) }
     // A beginning of the answer was written, or nothing.
     ensures failure { IfErr result (λ failure. PublishHalts failure year (P.remaining parcels)
         (C.remaining covers) (K.remaining classes) (E.remaining cert) (L.remaining lineage)

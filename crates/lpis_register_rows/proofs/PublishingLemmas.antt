@@ -327,7 +327,7 @@ pub released-live : (h k : List Entry) (year : ℕ) (live : List (List ℕ)) (ro
     → AreLive live shapes → AreLive (last_live k) shapes
 released-live h k year live rows (e, k-is, year-is, is) shapes all = all-map (IsLive live) (IsLive (last_live k)) shapes (λ shape l.
     (l.0, ap (λ (g : List Entry). has_id (last_live g) shape.0) k-is ∙ last-has h e shape.0 ∙ is.ids shape.0 ∙ l.1)) all where
-  last-has : (g : List Entry) (e : Entry) (id : List ℕ) → has_id (last_live (g ++ e ∷ [])) id ≡ has_id e.live id
-  last-has [] e id = refl
-  last-has (x ∷ g) e id = ap (λ (y : Entry). has_id y.live id)
-      (let n = longer g e in let at : length (g ++ e ∷ []) ≡ length (x ∷ g) = omega (arith, n) in ap (λ (m : ℕ). entry_at ((x ∷ g) ++ e ∷ []) m) at ∙ entry-here (x ∷ g) e)
+      last-has : (g : List Entry) (e : Entry) (id : List ℕ) → has_id (last_live (g ++ e ∷ [])) id ≡ has_id e.live id
+      last-has [] e id = refl
+      last-has (x ∷ g) e id = ap (λ (y : Entry). has_id y.live id)
+          (let n = longer g e in let at : length (g ++ e ∷ []) ≡ length (x ∷ g) = omega (arith, n) in ap (λ (m : ℕ). entry_at ((x ∷ g) ++ e ∷ []) m) at ∙ entry-here (x ∷ g) e)

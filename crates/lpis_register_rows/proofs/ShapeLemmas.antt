@@ -71,16 +71,16 @@ pair-at shapes before n a b e lt at here = ap₂ (λ (x y : List ℕ). slice_cmp
 pub ascend-more : (shapes : List Shape) (before n : ℕ) (a b : Shape) → before + 1 ≡ n → n < length shapes → a ≡ get_or shapes before a → b ≡ get_or shapes n b
     → slice_cmp nat_cmp a.0 b.0 ≡ Less → AscendBefore (shape_ids shapes) n → AscendBefore (shape_ids shapes) (n + 1)
 ascend-more shapes before n a b e lt at here less up k kn = elim (before-at-after (k + 1) n)
-  as (λ _. slice_cmp nat_cmp (get_or (shape_ids shapes) k []) (get_or (shape_ids shapes) (k + 1) []) ≡ Less) [
-  | inl l ↦ up k l
-  | inr r ↦ elim r as (λ _. slice_cmp nat_cmp (get_or (shape_ids shapes) k []) (get_or (shape_ids shapes) (k + 1) []) ≡ Less) [
-    | inl same ↦
-        let k-is : k ≡ before = omega (arith, same, e) in
-        ap₂ (λ (i j : ℕ). slice_cmp nat_cmp (get_or (shape_ids shapes) i []) (get_or (shape_ids shapes) j [])) k-is same
-        ∙ pair-at shapes before n a b e lt at here ∙ less
-    | inr g ↦ absurd (omega (arith, kn, g))
-  ]
-]
+    as (λ _. slice_cmp nat_cmp (get_or (shape_ids shapes) k []) (get_or (shape_ids shapes) (k + 1) []) ≡ Less) [
+      | inl l ↦ up k l
+      | inr r ↦ elim r as (λ _. slice_cmp nat_cmp (get_or (shape_ids shapes) k []) (get_or (shape_ids shapes) (k + 1) []) ≡ Less) [
+        | inl same ↦
+            let k-is : k ≡ before = omega (arith, same, e) in
+            ap₂ (λ (i j : ℕ). slice_cmp nat_cmp (get_or (shape_ids shapes) i []) (get_or (shape_ids shapes) j [])) k-is same
+            ∙ pair-at shapes before n a b e lt at here ∙ less
+        | inr g ↦ absurd (omega (arith, kn, g))
+      ]
+    ]
 
 pub ascend-whole : (shapes : List Shape) (n : ℕ) → length shapes ≤ n → AscendBefore (shape_ids shapes) n → IsAscending (shape_ids shapes)
 ascend-whole shapes n le up = sorted_from_all_adjacent nat_list_cmp_total (shape_ids shapes) [] (λ k lt. up k (let e = ids-length shapes in omega (arith, lt, e, le)))

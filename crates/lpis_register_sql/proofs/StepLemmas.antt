@@ -122,7 +122,7 @@ module _ {S : Type 0} (g : store.Ghosts S) (held first : Held S) (last : State) 
     ok = λ clean s c such r. tt;
     err = λ clean up s c such r.
         let at_last : HasCleanDisk last = omega (arith, quits.clean) in
-        rolled_back s (state g held) last new c r (rw begun at (quiet.kept at_last)).committed (back clean) up;
+        rolled_back s (state g held) last new c r (rw begun at (quiet.kept at_last).committed) (back clean) up;
     crash = crashed (state g held) last new _ _ nothing_left quits (λ clean db none. absurd none);
     durable = λ clean s c such r. tt;
   }

@@ -13,39 +13,39 @@ use crate::tables::{make_mark, make_span, make_text};
 use sqlite::{Alter, Error, Transaction};
 
 /// The table of spans, where it is not there.
-fn complete_spans<S: Alter>(tx: &mut Transaction<'_, S>, there: bool) -> Result<(), Error>
+fn complete_spans<S: Alter>(tx: &mut Transaction<'_, S>, found: &Found) -> Result<(), Error>
     ensures same_reference { tx.new.conn.ghost_name ≡ tx.old.conn.ghost_name }
     ensures made { HasCleanDisk (state S.Store tx.new.conn.now) → (layout : _)
-        → there ≡ has_spans layout → (base : _) (c : _)
+        → found.now.spans ≡ has_spans layout → (base : _) (c : _)
         → Inside layout base (state S.Store tx.old.conn.now) c
         → OnOk result (Inside (with_span_table layout) base (state S.Store tx.new.conn.now) c) }
     ensures quiet { IsQuiet (state S.Store tx.old.conn.now) (state S.Store tx.new.conn.now) }
 {
-    if there { Ok(()) } else { make_span(tx) }
+    if found.spans { Ok(()) } else { make_span(tx) }
 }
 
 /// The table of texts, where it is not there.
-fn complete_texts<S: Alter>(tx: &mut Transaction<'_, S>, there: bool) -> Result<(), Error>
+fn complete_texts<S: Alter>(tx: &mut Transaction<'_, S>, found: &Found) -> Result<(), Error>
     ensures same_reference { tx.new.conn.ghost_name ≡ tx.old.conn.ghost_name }
     ensures made { HasCleanDisk (state S.Store tx.new.conn.now) → (layout : _)
-        → has_spans layout ≡ true → there ≡ has_texts layout → (base : _) (c : _)
+        → has_spans layout ≡ true → found.now.texts ≡ has_texts layout → (base : _) (c : _)
         → Inside layout base (state S.Store tx.old.conn.now) c
         → OnOk result (Inside (with_text_table layout) base (state S.Store tx.new.conn.now) c) }
     ensures quiet { IsQuiet (state S.Store tx.old.conn.now) (state S.Store tx.new.conn.now) }
 {
-    if there { Ok(()) } else { make_text(tx) }
+    if found.texts { Ok(()) } else { make_text(tx) }
 }
 
 /// The table of marks, where it is not there.
-fn complete_marks<S: Alter>(tx: &mut Transaction<'_, S>, there: bool) -> Result<(), Error>
+fn complete_marks<S: Alter>(tx: &mut Transaction<'_, S>, found: &Found) -> Result<(), Error>
     ensures same_reference { tx.new.conn.ghost_name ≡ tx.old.conn.ghost_name }
     ensures made { HasCleanDisk (state S.Store tx.new.conn.now) → (layout : _)
-        → has_texts layout ≡ true → there ≡ has_marks layout → (base : _) (c : _)
+        → has_texts layout ≡ true → found.now.marks ≡ has_marks layout → (base : _) (c : _)
         → Inside layout base (state S.Store tx.old.conn.now) c
         → OnOk result (Inside (made_whole layout) base (state S.Store tx.new.conn.now) c) }
     ensures quiet { IsQuiet (state S.Store tx.old.conn.now) (state S.Store tx.new.conn.now) }
 {
-    if there { Ok(()) } else { make_mark(tx) }
+    if found.marks { Ok(()) } else { make_mark(tx) }
 }
 
 /// The tables that are not there, each empty.
@@ -57,7 +57,7 @@ pub(crate) fn complete<S: Alter>(tx: &mut Transaction<'_, S>, found: &Found) -> 
         → OnOk result (Inside (made_whole layout) base (state S.Store tx.new.conn.now) c) }
     ensures quiet { IsQuiet (state S.Store tx.old.conn.now) (state S.Store tx.new.conn.now) }
 {
-    complete_spans(tx, found.spans)?;
-    complete_texts(tx, found.texts)?;
-    complete_marks(tx, found.marks)
+    complete_spans(tx, found)?;
+    complete_texts(tx, found)?;
+    complete_marks(tx, found)
 }

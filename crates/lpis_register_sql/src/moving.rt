@@ -104,27 +104,27 @@ fn insert_whole_spans<S: Alter>(tx: &mut Transaction<'_, S>, spans: &[SpanRow]) 
 }
 
 /// Nothing is left in `lpis_live`, where it is there.
-fn empty_lives<S: Alter>(tx: &mut Transaction<'_, S>, there: bool) -> Result<(), Error>
+fn empty_lives<S: Alter>(tx: &mut Transaction<'_, S>, found: &Found) -> Result<(), Error>
     ensures same_reference { tx.new.conn.ghost_name ≡ tx.old.conn.ghost_name }
     ensures emptied { HasCleanDisk (state S.Store tx.new.conn.now) → (origin : _)
-        → there ≡ is_moved origin → (base : _) (c : _)
+        → found.now.lives ≡ is_moved origin → (base : _) (c : _)
         → Inside (Whole origin) base (state S.Store tx.old.conn.now) c
         → OnOk result (Inside (Whole origin) base (state S.Store tx.new.conn.now)
         (without_live c)) }
     ensures quiet { IsQuiet (state S.Store tx.old.conn.now) (state S.Store tx.new.conn.now) }
 {
-    if there { clear_lives(tx) } else { Ok(()) }
+    if found.lives { clear_lives(tx) } else { Ok(()) }
 }
 
 /// These spans in place of any, and no live rows.
 fn put_in_spans<S: Alter>(
     tx: &mut Transaction<'_, S>,
-    lives_there: bool,
+    found: &Found,
     spans: &[SpanRow],
 ) -> Result<(), Error>
     ensures same_reference { tx.new.conn.ghost_name ≡ tx.old.conn.ghost_name }
     ensures put { HasCleanDisk (state S.Store tx.new.conn.now) → (origin : _)
-        → lives_there ≡ is_moved origin → (base : _) (c : _)
+        → found.now.lives ≡ is_moved origin → (base : _) (c : _)
         → Inside (Whole origin) base (state S.Store tx.old.conn.now) c
         → OnOk result (Inside (Whole origin) base (state S.Store tx.new.conn.now)
         (in_spans spans.now c)) }
@@ -132,7 +132,7 @@ fn put_in_spans<S: Alter>(
 {
     clear_spans(tx)?;
     insert_whole_spans(tx, spans)?;
-    empty_lives(tx, lives_there)
+    empty_lives(tx, found)
 }
 
 /// Version 3, with no text and no mark.
@@ -164,7 +164,7 @@ fn fill_moved<S: Alter>(
     ensures quiet { IsQuiet (state S.Store tx.old.conn.now) (state S.Store tx.new.conn.now) }
 {
     complete(tx, found)?;
-    put_in_spans(tx, found.lives, spans)?;
+    put_in_spans(tx, found, spans)?;
     raise(tx)
 }
 

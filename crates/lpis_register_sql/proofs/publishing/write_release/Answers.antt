@@ -12,6 +12,6 @@ returns-clause-writes g c =
     let quiet = quiet_on first mid last c.fill.ensures.quiet c.fill_rows.ensures.quiet in
     rw (← same) (written g.S.Store c.args.conn.now c.transaction-tx.result.conn.now last _ _ c.transaction-tx.ensures.begun quiet (state g.S.Store c.commit.new.self.0) c.commit.result
     (whole_alone _ first last (λ clean origin base content before.
-        let at_mid : HasCleanDisk mid = omega (arith, c.fill_rows.ensures.quiet.survives.clean) in
-        c.in_ok-fill_rows.ensures.adds clean origin base _ (c.in_ok-fill.ensures.adds at_mid origin base content before)))
+    let at_mid : HasCleanDisk mid = omega (arith, c.fill_rows.ensures.quiet.survives.clean) in
+    c.in_ok-fill_rows.ensures.adds clean origin base _ (c.in_ok-fill.ensures.adds at_mid origin base content before)))
     c.commit.ensures.ok c.commit.ensures.err c.commit.ensures.survives (λ up db may. g.met.S.Store.settled c.commit.new.self.0.store db up may))
