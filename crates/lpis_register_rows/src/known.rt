@@ -58,9 +58,9 @@ fn read_span(alloc: Global, row: &SpanRow) -> Result<KnownSpan, RowsFault>
     ensures id { IfOk result (λ s. is_id s.id ≡ true) }
     ensures refused { IfErr result (λ e. e ≡ Unlawful → is_id row.now.id ≡ false) }
 {
-    let id = read_id(alloc, row.id())?;
-    let since = row.since();
-    let until = row.until();
+    let id = read_id(alloc, row.id.as_str())?;
+    let since = row.since;
+    let until = row.until;
     Ok(KnownSpan { id, since, until })
 }
 
@@ -141,10 +141,10 @@ fn read_line(alloc: Global, line: &LineRow) -> Result<KnownLine, RowsFault>
     ensures text { IfOk result (λ l. HasText l.row) }
     ensures refused { IfErr result (λ e. e ≡ Unlawful → IsReadable line.now → ⊥) }
 {
-    let old = read_id(alloc, line.old())?;
-    let new = read_successor(alloc, line.new_text())?;
-    let year = line.year();
-    let position = line.position();
+    let old = read_id(alloc, line.old.as_str())?;
+    let new = read_successor(alloc, line.new.as_str())?;
+    let year = line.year;
+    let position = line.position;
     let exact = false;
     let row = Row { old, new, exact };
     Ok(KnownLine {

@@ -24,9 +24,9 @@ fn read_one(alloc: Global, row: &LiveRow) -> Result<KnownSpan, RowsFault>
     ensures id { IfOk result (λ s. is_id s.id ≡ true) }
     ensures refused { IfErr result (λ e. e ≡ Unlawful → is_id row.now.id ≡ false) }
 {
-    let id = read_id(alloc, row.id())?;
-    let since = row.year();
-    let until = row.year();
+    let id = read_id(alloc, row.id.as_str())?;
+    let since = row.year;
+    let until = row.year;
     Ok(KnownSpan { id, since, until })
 }
 

@@ -20,7 +20,9 @@ fn copied(alloc: Global, marks: &[MarkRow]) -> Result<Vec<MarkRow>, AllocError>
 {
     let mut copies = Vec::with_capacity(alloc, marks.len())?;
     for mark in marks {
-        copies.push(MarkRow::new(mark.year(), mark.position()))?;
+        let year = mark.year;
+        let position = mark.position;
+        copies.push(MarkRow { year, position })?;
     }
     Ok(copies)
 }
@@ -31,7 +33,7 @@ fn sorted(alloc: Global, marks: &[MarkRow]) -> Result<Vec<MarkRow>, AllocError>
     ensures sorted { IfOk result (λ v. IsSorted mark_cmp v.items) }
 {
     let mut copies = copied(alloc, marks)?;
-    copies.sort_unstable_by_key(|mark| (mark.year(), mark.position()));
+    copies.sort_unstable_by_key(|mark| (mark.year, mark.position));
     Ok(copies)
 }
 
@@ -40,7 +42,7 @@ fn is_named(line: &KnownLine, marks: &[MarkRow], next: usize) -> bool
     ensures { result ≡ is_next (drop next marks.now) line.now }
 {
     match marks.get(next) {
-        Some(mark) => mark.year() == line.year && mark.position() == line.position,
+        Some(mark) => mark.year == line.year && mark.position == line.position,
         None => false,
     }
 }

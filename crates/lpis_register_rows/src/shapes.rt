@@ -50,11 +50,11 @@ fn shape_of(alloc: Global, history: &History, text: &TextRow) -> Result<(Id, Pol
         → IsTextOfShape text.now shape
         → IsLive (last_live history.now) shape → ⊥) }
 {
-    let id = read_id(alloc, text.id())?;
+    let id = read_id(alloc, text.id.as_str())?;
     if !history.is_live(&id) {
         return Err(RowsFault::Unlawful);
     }
-    let polygon = polygon_of(alloc, text.wkt())?;
+    let polygon = polygon_of(alloc, text.wkt.as_str())?;
     Ok((id, polygon))
 }
 

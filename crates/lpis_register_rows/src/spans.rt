@@ -42,8 +42,10 @@ fn span_row(alloc: Global, history: &History, id: &Id) -> Result<SpanRow, AllocE
 {
     match history.span(id) {
         Some(years) => {
-            let text = String::from_str(alloc, id.as_str())?;
-            Ok(SpanRow::new(text, i64::from(years.first), i64::from(years.last)))
+            let id = String::from_str(alloc, id.as_str())?;
+            let since = i64::from(years.first);
+            let until = i64::from(years.last);
+            Ok(SpanRow { id, since, until })
         }
         // Some release holds it.
         None => unreachable!(),

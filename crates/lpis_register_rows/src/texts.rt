@@ -17,7 +17,7 @@ fn text_of(alloc: Global, shape: &(Id, Polygon)) -> Result<TextRow, AllocError>
 {
     let id = String::from_str(alloc, shape.0.as_str())?;
     let wkt = write(alloc, &shape.1)?;
-    Ok(TextRow::new(id, wkt))
+    Ok(TextRow { id, wkt })
 }
 
 /// The texts that keep these shapes, in their order.

@@ -84,10 +84,7 @@ fn insert_whole_span<S: Alter>(tx: &mut Transaction<'_, S>, span: &SpanRow) -> R
         (state S.Store tx.old.conn.now) (state S.Store tx.new.conn.now) result }
     ensures quiet { IsQuiet (state S.Store tx.old.conn.now) (state S.Store tx.new.conn.now) }
 {
-    let id = span.id();
-    let since = span.since();
-    let until = span.until();
-    insert_span_at(tx, id, since, until)
+    insert_span_at(tx, span.id.as_str(), span.since, span.until)
 }
 
 /// Spans, in this order.

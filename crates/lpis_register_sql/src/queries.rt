@@ -22,7 +22,7 @@ impl Stored for FormatRow {
     fn read(row: &Row) -> Result<FormatRow, Error> {
         let one = row.get(0)?;
         let version = row.get(1)?;
-        Ok(FormatRow::new(one, version))
+        Ok(FormatRow { one, version })
     }
 
     ghost without_table = { Prim.search rules };
@@ -70,7 +70,7 @@ impl Stored for SpanRow {
         let id = row.get(0)?;
         let since = row.get(1)?;
         let until = row.get(2)?;
-        Ok(SpanRow::new(id, since, until))
+        Ok(SpanRow { id, since, until })
     }
 
     ghost without_table = { Prim.search rules };
@@ -99,7 +99,12 @@ impl Stored for LineRow {
         let position = row.get(1)?;
         let old = row.get(2)?;
         let new = row.get(3)?;
-        Ok(LineRow::new(year, position, old, new))
+        Ok(LineRow {
+            year,
+            position,
+            old,
+            new,
+        })
     }
 
     ghost without_table = { Prim.search rules };
@@ -123,7 +128,7 @@ impl Stored for LiveRow {
     fn read(row: &Row) -> Result<LiveRow, Error> {
         let year = row.get(0)?;
         let id = row.get(1)?;
-        Ok(LiveRow::new(year, id))
+        Ok(LiveRow { year, id })
     }
 
     ghost without_table = { Prim.search rules };
@@ -147,7 +152,7 @@ impl Stored for TextRow {
     fn read(row: &Row) -> Result<TextRow, Error> {
         let id = row.get(0)?;
         let wkt = row.get(1)?;
-        Ok(TextRow::new(id, wkt))
+        Ok(TextRow { id, wkt })
     }
 
     ghost without_table = { Prim.search rules };
@@ -171,7 +176,7 @@ impl Stored for MarkRow {
     fn read(row: &Row) -> Result<MarkRow, Error> {
         let year = row.get(0)?;
         let position = row.get(1)?;
-        Ok(MarkRow::new(year, position))
+        Ok(MarkRow { year, position })
     }
 
     ghost without_table = { Prim.search rules };

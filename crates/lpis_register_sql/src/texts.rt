@@ -42,9 +42,7 @@ fn insert_text<S: Alter>(tx: &mut Transaction<'_, S>, text: &TextRow) -> Result<
         (state S.Store tx.new.conn.now) result }
     ensures quiet { IsQuiet (state S.Store tx.old.conn.now) (state S.Store tx.new.conn.now) }
 {
-    let id = text.id();
-    let wkt = text.wkt();
-    insert_text_at(tx, id, wkt)
+    insert_text_at(tx, text.id.as_str(), text.wkt.as_str())
 }
 
 /// Texts, in this order.
