@@ -2,7 +2,7 @@
 use Rattle.std.proofs.Common.{◌≡◌, ◌∙◌, ◌<◌, ◌≤◌, ◌+◌, ◌⊎◌, inl, inr, refl, sym, ap, subst, arith, ℕ, zero, suc, List, [], ◌∷◌, ◌++◌, length, Bool, true, false, Option, None, Some, cond, take, drop}
 use Rattle.std.proofs.Common.{get_or, append_assoc, ◌&&◌, ◌↔◌, filter}
 use Rattle.lpis_lineage.proofs.Common.{list_any, list_any-append, Row, Entry, has_id, same_id, last_live, holds, entry_at, is_row_of, is_this, names_successor, IsLawful, RowsFit, all_rows, Reaches}
-use Rattle.lpis_lineage.proofs.Common.{AreFresh}
+use Rattle.lpis_lineage.proofs.Common.{AreFreshRows}
 use Rattle.lpis_lineage.proofs.Common.{or_left, cases_Bool}
 use Rattle.std.proofs.lemmas.List.{append-nil, take-append-drop}
 use Rattle.lpis_lineage.specs.Descendants.{IsDescendant, leads, Chain, Here, Step}
@@ -77,7 +77,7 @@ reach-add ids more rows r id heir reach fresh some old new = record {
   by-test q false e h = chain-more rows r id q (reach.sound q h)
 
 -- one row further among rows that are fresh
-pub fresh-row : (before rows : List Row) (i : ℕ) (r : Row) → AreFresh before rows → i < length rows → r ≡ get_or rows i r → IsFreshRow (before ++ take i rows) r
+pub fresh-row : (before rows : List Row) (i : ℕ) (r : Row) → AreFreshRows before rows → i < length rows → r ≡ get_or rows i r → IsFreshRow (before ++ take i rows) r
 fresh-row before rows i r fresh lt is s names-it =
     elim (cases_Bool (list_any (is_row_of s) ((before ++ take i rows) ++ r ∷ []))) as (λ _. list_any (is_row_of s) ((before ++ take i rows) ++ r ∷ []) ≡ false) [
       | inl t ↦ absurd (
@@ -114,7 +114,7 @@ no-row-of h law fit i (suc j) s le live of =
     sym d.2 ∙ law.consecutive s j (j + 1) i (omega arith) (omega arith) d.1 live
 
 -- the rows of a release are fresh after those before
-pub release-fresh : (h : List Entry) → IsLawful h → RowsFit h → (i : ℕ) (e : Entry) → i < length h → e ≡ get_or h i e → AreFresh (all_rows (take i h)) e.rows
+pub release-fresh : (h : List Entry) → IsLawful h → RowsFit h → (i : ℕ) (e : Entry) → i < length h → e ≡ get_or h i e → AreFreshRows (all_rows (take i h)) e.rows
 release-fresh h law fit i e lt is s names-it =
     let at : e ≡ entry_at h i = is ∙ entry-get h i e lt in
     let live : holds h i s ≡ true = law.successors s i (ap (λ (x : Entry). list_any (names_successor s) x.rows) (sym at) ∙ names-it) in

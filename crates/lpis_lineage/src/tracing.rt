@@ -4,7 +4,7 @@ ghost use Rattle.std.specs.Prelude.{◌≡◌, ◌++◌, ◌∷◌, ℕ, List, [
 ghost use Rattle.lpis_covers.specs.Ids.{has_id};
 ghost use Rattle.lpis_lineage.specs.declared.row.Row.{Row};
 ghost use Rattle.lpis_lineage.specs.Descendants.{IsDescendant, all_rows};
-ghost use Rattle.lpis_lineage.specs.private.Following.{Reaches, IsFreshRow, AreFresh};
+ghost use Rattle.lpis_lineage.specs.private.Following.{Reaches, IsFreshRow, AreFreshRows};
 ghost use Rattle.lpis_lineage.specs.Order.{IsAscending};
 
 use crate::history::History;
@@ -36,7 +36,7 @@ fn follow_row(reached: &mut IdSet, row: &Row) -> Result<(), AllocError>
 /// Follows the rows of a release.
 fn follow(reached: &mut IdSet, rows: &[Row]) -> Result<(), AllocError>
     ensures { (before : List Row) → (id : List ℕ) → Reaches reached.old before id
-        → AreFresh before rows.now → OnOk result (Reaches reached.new (before ++ rows.now) id) }
+        → AreFreshRows before rows.now → OnOk result (Reaches reached.new (before ++ rows.now) id) }
 {
     for row in rows {
         follow_row(reached, row)?;

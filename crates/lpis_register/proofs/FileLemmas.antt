@@ -2,7 +2,7 @@
 use Rattle.std.proofs.Common.{◌≡◌, ◌∙◌, ◌<◌, ap, inl, inr, length, sym, subst, [], List, arith}
 use Rattle.lpis_register.proofs.Common.{Content, Entry, HasCleanDisk, IsBare, IsStored, Layout, Leaves, PublishFault, Shape, State, Trees}
 use Rattle.lpis_register.specs.Opening.{IsOpened, IsUnopened}
-use Rattle.lpis_register.specs.FileOpening.{HoldsNoTable, HoldsRows, IsFileOpened}
+use Rattle.lpis_register.specs.FileOpening.{HoldsNoTable, HoldsContent, IsFileOpened}
 use Rattle.lpis_register.specs.private.FileRefusals.{IsFileUnopened}
 use Rattle.sqlite.specs.Files.{AreFoundIn}
 use Rattle.sqlite.specs.Start.{FindsIn}
@@ -19,7 +19,7 @@ none_in_nothing image db none (inr empty) = empty.1.1
 module _ (image : Image) (old : State) (opened : HasCleanDisk old → Opens old × IsLive old) (finds : HasCleanDisk old → FindsIn image old)
     (stored : Opens old → IsLive old → (layout : Layout) (c : Content) → Leaves layout c old.committed.trees → IsStored layout old c)
     (bare : Opens old → IsLive old → old.committed.trees catalog_tree ≡ [] → IsBare old) where
-  is_stored : HasCleanDisk old → (layout : Layout) (c : Content) → HoldsRows image layout c → IsStored layout old c
+  is_stored : HasCleanDisk old → (layout : Layout) (c : Content) → HoldsContent image layout c → IsStored layout old c
   is_stored clean layout c (db, holds, left) = stored (opened clean).0 (opened clean).1 layout c (subst (Leaves layout c) (sym ((finds clean).holds db holds)) left)
 
   is_bare : HasCleanDisk old → HoldsNoTable image → IsBare old

@@ -14,8 +14,8 @@ use Rattle.lpis_register.specs.Histories.{HoldsRegister}
 use Rattle.lpis_register.specs.Opening.{IsOpenedAs}
 
 -- the files hold a database, and its tables these rows
-abbrev pub HoldsRows : Image → Layout → Content → Type 0
-HoldsRows image layout c = (db : Trees) × HoldsDatabase image db × Leaves layout c db
+abbrev pub HoldsContent : Image → Layout → Content → Type 0
+HoldsContent image layout c = (db : Trees) × HoldsDatabase image db × Leaves layout c db
 
 -- the files hold a database without a table, or the database file has no byte
 abbrev pub HoldsNoTable : Image → Type 0
@@ -27,5 +27,5 @@ pub record IsFileOpened (image : Image) (new : State) (h : List Entry) (shapes :
     : Type 0 where
   pub bare : HasCleanDisk new → HoldsNoTable image
       → HoldsRegister new [] [] × (h ≡ []) × (shapes ≡ [])
-  pub found : HasCleanDisk new → (layout : Layout) (c : Content) → HoldsRows image layout c
+  pub found : HasCleanDisk new → (layout : Layout) (c : Content) → HoldsContent image layout c
       → IsOpenedAs new c h shapes

@@ -17,6 +17,6 @@ IsFreshRow before row = (s : List ℕ) → is_this s row.new ≡ true
     → list_any (is_row_of s) (before ++ row ∷ []) ≡ false
 
 -- the rows' successors have no row of their own among these and those before
-abbrev pub AreFresh : List Row → List Row → Type 0
-AreFresh before rows = (s : List ℕ) → list_any (names_successor s) rows ≡ true
+abbrev pub AreFreshRows : List Row → List Row → Type 0
+AreFreshRows before rows = (s : List ℕ) → list_any (names_successor s) rows ≡ true
     → list_any (is_row_of s) (before ++ rows) ≡ false
