@@ -16,7 +16,8 @@ static PLANS: [(&str, &str); 45] = [
          North_East9 0 -5 20000000001 20000000001\n",
     ),
     (
-        "lpis-country 1\ny 7\nx 20000000000\nx -20000000000\nregion a\nregion b\nregion c\nregion d\n",
+        "lpis-country 1\ny 7\nx 20000000000\nx -20000000000\n\
+         region a\nregion b\nregion c\nregion d\n",
         "a -20000000001 -20000000001 -20000000000 7\n\
          b -20000000000 -20000000001 20000000000 7\n\
          c 20000000000 -20000000001 20000000001 7\n\
