@@ -1,2 +1,4 @@
 pub mod PassedLemmas
+pub mod PlaceLemmas
+pub mod RunLemmas
 pub mod TotalsLemmas

@@ -42,11 +42,11 @@ setting_of texts detail plan classes = record {
 -- ---- a region
 -- the inputs say a region that fits those before it
 pub record Passes (s : Setting) (before : List Contents) (name : List ℕ) (r : Contents) : Type 0
-    where
-  pub inputs : Inputs
-  pub told : AreOfFolder inputs (s.texts name)
-  pub said : IsProvedOf inputs r
-  pub fits : seam_faults s.tiles s.classes before r ≡ []
+  where
+    pub inputs : Inputs
+    pub told : AreOfFolder inputs (s.texts name)
+    pub said : IsProvedOf inputs r
+    pub fits : seam_faults s.tiles s.classes before r ≡ []
 
 -- they are refused by `check`: its line with the region at the end, and its status
 abbrev pub IsRefusedByCheck : Inputs → List ℕ → Answer → Type 0

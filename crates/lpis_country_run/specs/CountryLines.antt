@@ -15,6 +15,7 @@ use Rattle.lpis_commands.specs.declared.command.Detail.TheVariants.{Regions, Par
 use Rattle.lpis_commands.specs.declared.failure.Failure.{Failure}
 use Rattle.lpis_commands.specs.declared.failure.Failure.TheVariants.{Read}
 use Rattle.lpis_commands.specs.Failures.{failure_text, name_text}
+use Rattle.lpis_commands.specs.Refusals.{region_end}
 use Rattle.lpis_commands.specs.Report.{areas_text, parcel_line}
 use Rattle.lpis_country.specs.Country.{new_parcels}
 use Rattle.lpis_country_seam.specs.declared.fault.SeamFault.{SeamFault}
@@ -24,7 +25,7 @@ use Rattle.lpis_country_run.specs.declared.failure.CountryFailure.{CountryFailur
 
 -- ---- what passed
 -- how many parcels and pieces there are, the area of all parcels, and how much of it is eligible
-abbrev pub sums_text : Contents → List ℕ
+unfoldable pub sums_text : Contents → List ℕ
 sums_text r = codes " parcels " ++ decimal (length r.parcels) ++ codes " pieces "
     ++ decimal (length r.pieces) ++ areas_text (int_sum_by (λ k. area2 k.polygon) r.parcels)
     (int_sum_by (λ k. weighted2 r k.id) r.parcels)
@@ -47,10 +48,6 @@ abbrev pub country_lines : ℕ → Contents → List ℕ
 country_lines n u = codes "country regions " ++ decimal n ++ sums_text u ++ codes "yes\n"
 
 -- ---- refusals
--- the region at the end of a line
-abbrev pub region_end : List ℕ → List ℕ
-region_end name = codes " region " ++ name ++ codes "\n"
-
 -- the line at which `country.txt` is none
 abbrev pub plan_refusal_text : ℕ → List ℕ
 plan_refusal_text line = codes "refused 90 country line " ++ decimal line ++ codes "\n"

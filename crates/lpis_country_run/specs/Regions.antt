@@ -1,5 +1,5 @@
 -- The regions of a country, and what is known of the files of their folders.
-use Rattle.std.specs.Prelude.{◌≡◌, ℕ, List, [], ◌∷◌, All, Ok, Option, Some}
+use Rattle.std.specs.Prelude.{◌≡◌, ℕ, List, [], ◌∷◌, All, Ok, Option}
 use Rattle.lpis_covers.specs.declared.class.Class.{Class}
 use Rattle.lpis_covers.specs.Classes.{classes_table}
 use Rattle.lpis_covers.specs.Faults.{rows_of}
@@ -27,15 +27,6 @@ pub record AreGiven {R : Type 0} (remaining : R → Option (List ℕ)) (f : Fold
   pub covers : remaining f.covers ≡ t.covers
   pub classes : remaining f.classes ≡ t.classes
   pub cert : remaining f.cert ≡ t.cert
-
--- four files whose bytes are all known
-abbrev pub texts_of : (parcels covers classes cert : List ℕ) → Texts
-texts_of parcels covers classes cert = record {
-  parcels = Some parcels;
-  covers = Some covers;
-  classes = Some classes;
-  cert = Some cert;
-}
 
 -- the inputs are what the files of a folder told, as far as it is known
 abbrev pub AreOfFolder : Inputs → Texts → Type 0

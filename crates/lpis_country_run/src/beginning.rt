@@ -73,10 +73,7 @@ fn classes_in(alloc: Global, table: Vec<u8>) -> Result<Result<Classes, Answer>, 
 }
 
 /// The plan and the classes, or the line of the first fault: of the plan, then of the classes.
-pub(crate) fn begin(
-    alloc: Global,
-    top: CountryBytes,
-) -> Result<Result<Begun, Answer>, AllocError>
+pub(crate) fn begin(alloc: Global, top: CountryBytes) -> Result<Result<Begun, Answer>, AllocError>
     ensures begun { IfOk result (λ r. IfOk r (IsBegun (country_inputs_of top))) }
     ensures refusal { IfOk result (λ r. IfErr r (IsUnbegun (country_inputs_of top))) }
 {

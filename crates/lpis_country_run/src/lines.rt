@@ -1,6 +1,6 @@
 //! The lines of regions that passed, and of the country.
 
-ghost use Rattle.std.specs.Prelude.{◌≡◌, ◌≤◌, ◌++◌, IfOk, List, OnOk, codes, nat_abs};
+ghost use Rattle.std.specs.Prelude.{◌≡◌, IfOk, List, OnOk};
 ghost use Rattle.std.specs.Io.KnownBytes.{Appends};
 ghost use Rattle.std.specs.List.{flat_map};
 ghost use Rattle.lpis_checker.specs.SoundMap.{AreasAdd};
@@ -8,11 +8,11 @@ ghost use Rattle.lpis_parcels.specs.declared.parcel.Parcel.{Parcel};
 ghost use Rattle.lpis_parcels.specs.Release.{Contents};
 ghost use Rattle.lpis_commands.specs.Report.{parcel_line};
 ghost use Rattle.lpis_commands.specs.Status.{done};
-ghost use Rattle.lpis_country.specs.Country.{IsRegion, new_parcels};
-ghost use Rattle.lpis_country_run.specs.CountryLines.{country_lines, detail_lines};
-ghost use Rattle.lpis_country_run.specs.CountryLines.{region_report, region_sums_line};
-ghost use Rattle.lpis_country_run.specs.private.Totals.{AreAt, ArePlaces, AreTotalsOf, IsPrintable};
-ghost use Rattle.lpis_country_run.specs.private.Totals.{totals_text};
+ghost use Rattle.lpis_country.specs.Country.{new_parcels};
+ghost use Rattle.lpis_country_run.specs.CountryLines.{detail_lines, region_report};
+ghost use Rattle.lpis_country_run.specs.CountryLines.{region_sums_line, sums_text};
+ghost use Rattle.lpis_country_run.specs.private.Totals.{AreAt, ArePlaces, IsPrintable};
+ghost use Rattle.lpis_country_run.specs.private.Totals.{count_text, last_lines, totals_text};
 
 use crate::totals::{Totals, parcel_at, release_totals};
 use lpis_commands::{Answer, DONE, Detail, PrintFault, print_areas, print_parcel};
@@ -22,6 +22,7 @@ use std::alloc::{AllocError, Global};
 use std::io::Write;
 
 /// Writes counts and areas, up to the end of the line.
+#[tactic(auto, unfolding(crate::specs::private::Totals::totals_text))]
 fn print_totals<W: Write>(totals: Totals, out: &mut W) -> Result<(), PrintFault>
     requires { IsPrintable totals }
     ensures { OnOk result (Appends (W.contents out.old) (W.contents out.new)
@@ -36,15 +37,25 @@ fn print_totals<W: Write>(totals: Totals, out: &mut W) -> Result<(), PrintFault>
     print_areas(areas, out)
 }
 
+/// Writes the counts and areas of a release, up to the end of the line.
+fn print_sums<W: Write>(release: &Release, out: &mut W) -> Result<(), PrintFault>
+    requires { AreasAdd release.now }
+    ensures { OnOk result (Appends (W.contents out.old) (W.contents out.new)
+        (sums_text release.now)) }
+{
+    is_region(release);
+    print_totals(release_totals(release), out)
+}
+
 /// Writes the line of a region.
-fn print_region<W: Write>(name: &str, release: &Release, out: &mut W) -> Result<(), PrintFault>
+fn print_region_sums<W: Write>(name: &str, release: &Release, out: &mut W) -> Result<(), PrintFault>
     requires { AreasAdd release.now }
     ensures { OnOk result (Appends (W.contents out.old) (W.contents out.new)
         (region_sums_line name.now release.now)) }
 {
-    is_region(release);
-    write!(out, "region {name}")?;
-    print_totals(release_totals(release), out)
+    out.write_all(b"region ")?;
+    out.write_all(name.as_bytes())?;
+    print_sums(release, out)
 }
 
 /// Writes the lines of the parcels at these places.
@@ -98,7 +109,7 @@ pub(crate) fn report_region(
         → IfOk result (λ text. text.items ≡ region_report detail u name.now release.now) }
 {
     let mut text = Vec::new(alloc);
-    match print_region(name, release, &mut text) {
+    match print_region_sums(name, release, &mut text) {
         Ok(()) => {}
         Err(_) => return Err(AllocError),
     }
@@ -108,13 +119,23 @@ pub(crate) fn report_region(
     }
 }
 
+/// Writes the beginning of the country's line.
+#[tactic(auto, unfolding(crate::specs::private::Totals::count_text))]
+fn print_count<W: Write>(count: usize, out: &mut W) -> Result<(), PrintFault>
+    ensures { OnOk result (Appends (W.contents out.old) (W.contents out.new)
+        (count_text count)) }
+{
+    write!(out, "country regions {count}")?;
+    Ok(())
+}
+
 /// Writes the line of the country of so many regions, and the yes.
 fn print_country<W: Write>(count: usize, totals: Totals, out: &mut W) -> Result<(), PrintFault>
     requires { IsPrintable totals }
     ensures { OnOk result (Appends (W.contents out.old) (W.contents out.new)
-        (codes "country regions " ++ decimal count ++ totals_text totals ++ codes "yes\n")) }
+        (last_lines count totals)) }
 {
-    write!(out, "country regions {count}")?;
+    print_count(count, out)?;
     print_totals(totals, out)?;
     out.write_all(b"yes\n")?;
     Ok(())
@@ -127,8 +148,7 @@ pub(crate) fn report_country(
     totals: Totals,
 ) -> Result<Answer, AllocError>
     requires { IsPrintable totals }
-    ensures { (u : Contents) → IsRegion u → AreTotalsOf u u.parcels totals → IfOk result
-        (λ a. (a.text.items ≡ country_lines count u) × (a.status ≡ done)) }
+    ensures { IfOk result (λ a. (a.text.items ≡ last_lines count totals) × (a.status ≡ done)) }
 {
     let mut text = Vec::new(alloc);
     match print_country(count, totals, &mut text) {

@@ -41,6 +41,7 @@ pub(crate) fn follow(
         → IfOk result (FollowsAs s before name.now release.now progress.new) }
 {
     is_region(release);
+    let _ = release.parcels();
     match progress.seam.step(alloc, release) {
         Ok(places) => {
             let text = report_region(alloc, name, release, places.as_slice(), detail)?;

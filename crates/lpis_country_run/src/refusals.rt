@@ -1,14 +1,14 @@
 //! The lines of a country that is refused.
 
-ghost use Rattle.std.specs.Prelude.{◌≡◌, IfOk, OnOk, get_or, [], map};
+ghost use Rattle.std.specs.Prelude.{◌≡◌, [], IfOk, List, OnOk, get_or, map, ℕ};
 ghost use Rattle.std.specs.Io.KnownBytes.{Appends};
 ghost use Rattle.std.specs.String.{string_bytes};
 ghost use Rattle.lpis_commands.specs.Status.{refused, unreadable};
-ghost use Rattle.lpis_country_run.specs.CountryLines.{plan_refusal_text, region_end};
-ghost use Rattle.lpis_country_run.specs.CountryLines.{seam_refusal_text};
+ghost use Rattle.lpis_country_run.specs.CountryLines.{plan_refusal_text, seam_refusal_text};
+ghost use Rattle.lpis_country_seam.specs.declared.fault.SeamFault.TheVariants.{Classes};
 
-use lpis_commands::{Answer, PrintFault, REFUSED, UNREADABLE};
-use lpis_country_seam::{SeamFault, classes_code};
+use lpis_commands::{Answer, PrintFault, REFUSED, UNREADABLE, print_region};
+use lpis_country_seam::SeamFault;
 use std::alloc::{AllocError, Global};
 use std::io::Write;
 
@@ -37,12 +37,13 @@ fn name_at(names: &[String], number: usize) -> &str
     }
 }
 
-/// Writes the region at the end of a line.
-fn print_end<W: Write>(name: &str, out: &mut W) -> Result<(), PrintFault>
-    ensures { OnOk result (Appends (W.contents out.old) (W.contents out.new)
-        (region_end name.now)) }
+/// Writes the line of a region whose classes differ from this row on.
+fn print_classes_fault<W: Write>(row: usize, name: &str, out: &mut W) -> Result<(), PrintFault>
+    ensures { (names : List (List ℕ)) → OnOk result (Appends (W.contents out.old)
+        (W.contents out.new) (seam_refusal_text names name.now (Classes row))) }
 {
-    write!(out, " region {name}\n")?;
+    write!(out, "refused 96 classes row {row}")?;
+    print_region(name, out)?;
     Ok(())
 }
 
@@ -59,13 +60,10 @@ fn print_seam_fault<W: Write>(
 {
     match fault {
         SeamFault::Memory => Ok(()),
-        SeamFault::Classes { row } => {
-            write!(out, "refused {} classes row {row}", classes_code())?;
-            print_end(name, out)
-        }
+        SeamFault::Classes { row } => print_classes_fault(*row, name, out),
         SeamFault::At { code, id, region } => {
             write!(out, "refused {} parcel {}", code.as_str(), id.as_str())?;
-            print_end(name_at(names, *region), out)
+            print_region(name_at(names, *region), out)
         }
     }
 }

@@ -29,10 +29,7 @@ impl Totals {
         Totals {
             parcels: 0,
             pieces: 0,
-            areas: Areas {
-                area: 0,
-                weighted: 0,
-            },
+            areas: Areas::none(),
         }
     }
 
@@ -45,10 +42,7 @@ impl Totals {
         Totals {
             parcels: self.parcels + others.parcels,
             pieces: self.pieces + others.pieces,
-            areas: Areas {
-                area: self.areas.area + others.areas.area,
-                weighted: self.areas.weighted + others.areas.weighted,
-            },
+            areas: self.areas.plus(others.areas),
         }
     }
 }
@@ -79,7 +73,8 @@ fn parcel_totals(release: &Release, parcel: &Parcel) -> Totals
 /// Of all parcels of a release.
 pub(crate) fn release_totals(release: &Release) -> Totals
     requires { AreasAdd release.now }
-    ensures { AreTotalsOf release.now release.now.parcels result }
+    ensures totals { AreTotalsOf release.now release.now.parcels result }
+    ensures few { result.parcels ≤ most_rows }
 {
     let mut totals = Totals::none();
     for (count, parcel) in release.parcels().iter().enumerate() {

@@ -11,6 +11,7 @@ use Rattle.lpis_commands.specs.declared.command.Detail.{Detail}
 use Rattle.lpis_country.specs.Tiling.{frame, rectangles}
 use Rattle.lpis_country_plan.specs.CountryText.{IsCountryText}
 use Rattle.lpis_country_plan.specs.Faults.{plan_fault}
+use Rattle.lpis_country_plan.specs.Limits.{most_regions}
 use Rattle.lpis_country_plan.specs.Plans.{IsPlanOf, PlanParts}
 use Rattle.lpis_country_plan.specs.Tree.{Tree, folders, tiling_of}
 use Rattle.lpis_country_run.specs.declared.beginning.Begun.{Begun}
@@ -43,6 +44,8 @@ pub record IsBegun (x : CountryInputs) (b : Begun) : Type 0 where
   pub names_are : map string_bytes b.names.items ≡ folders plan
   pub tiles_are : b.tiles.items ≡ rectangles (tiling_of plan) frame
   pub table : rows_of classes_table x.classes ≡ Ok b.classes.items
+  pub as_many : length b.names.items ≡ length b.tiles.items
+  pub few : length (folders plan) ≤ most_regions
 
 -- the answer to inputs that have a fault before the first region
 pub record IsUnbegun (x : CountryInputs) (a : Answer) : Type 0 where

@@ -1,9 +1,10 @@
 -- How far a run over regions has come, and what the next region came to.
 use Rattle.std.specs.Prelude.{◌≡◌, ◌≤◌, ◌+◌, ◌*◌, ◌⊎◌, ◌++◌, ◌∷◌, [], ℕ, List, Option, Some, None}
-use Rattle.std.specs.Prelude.{Result, Ok, Err, length, map, take}
+use Rattle.std.specs.Prelude.{Result, Ok, Err, Vec, length, take}
 use Rattle.std.specs.Io.KnownBytes.{Appends, Keeps}
 use Rattle.std.specs.Option.{option_map}
 use Rattle.std.specs.String.{string_bytes}
+use Rattle.std.specs.declared.alloc.Global.{Global}
 use Rattle.lpis_covers.specs.Table.{most_rows}
 use Rattle.lpis_parcels.specs.Release.{Contents}
 use Rattle.lpis_commands.specs.declared.answer.Answer.{Answer}
@@ -25,7 +26,7 @@ use Rattle.lpis_country_run.specs.CountryAnswer.{IsRegionsAnswer, Passes, Settin
 use Rattle.lpis_country_run.specs.CountryFailures.{IsOfNone, IsStoppedBefore, IsUnreadFolder}
 use Rattle.lpis_country_run.specs.CountryLines.{country_lines, region_report, seam_refusal_text}
 use Rattle.lpis_country_run.specs.Regions.{Texts}
-use Rattle.lpis_country_run.specs.private.Totals.{AreTotalsOf, IsBounded, most_parcels}
+use Rattle.lpis_country_run.specs.private.Totals.{AreTotalsOf, most_parcels}
 
 -- the names and the detail are those of the setting
 pub record AreOfSetting (s : Setting) (names : List (List ℕ)) (detail : Detail) : Type 0 where
@@ -45,16 +46,18 @@ pub record IsAt (s : Setting) (before : List Contents) (p : Progress) : Type 0 w
       p.totals
   pub few : p.totals.parcels ≤ most_rows * length before
 
--- there is a tile for the next region, and its parcels can be counted
+-- some regions passed, there is a tile for the next one, and its parcels can be counted
 pub record IsReady (p : Progress) : Type 0 where
+  pub setting : Setting
+  pub before : List Contents
+  pub at : IsAt setting before p
   pub next : HasNext p.seam
-  pub bounded : IsBounded p.totals
   pub room : p.totals.parcels + most_rows ≤ most_parcels
 
 -- a region that is a sound map came to this: the text of one that passes, or the answer to its first
 -- fault
 abbrev pub FollowsAs : Setting → List Contents → List ℕ → Contents → Progress
-    → Result (Vec ℕ) Answer → Type 0
+    → Result (Vec ℕ Global) Answer → Type 0
 FollowsAs s before name r p (Ok text) =
     (seam_faults s.tiles s.classes before r ≡ [])
     × (text.items ≡ region_report s.detail (country_of s.classes before) name r)
@@ -64,7 +67,7 @@ FollowsAs s before name r p (Err a) =
     × (a.text.items ≡ seam_refusal_text s.names name fault) × (a.status ≡ refused)
 
 -- the region of a folder came to this
-abbrev pub IsVerdict : Setting → List Contents → List ℕ → Progress → Result (Vec ℕ) Answer → Type 0
+abbrev pub IsVerdict : Setting → List Contents → List ℕ → Progress → Result (Vec ℕ Global) Answer → Type 0
 IsVerdict s before name p (Ok text) =
     (r : Contents) × Passes s before name r
     × (text.items ≡ region_report s.detail (country_of s.classes before) name r)

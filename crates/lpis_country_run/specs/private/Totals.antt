@@ -2,21 +2,24 @@
 use Rattle.std.specs.Prelude.{◌≡◌, ◌≤◌, ◌+◌, ◌*◌, ℕ, List, ◌++◌, Some, codes, length, map}
 use Rattle.std.specs.Prelude.{nat_abs, slice_get, sum_by}
 use Rattle.std.specs.Fmt.{decimal}
-use Rattle.lpis_points.specs.Sums.{int_sum_by}
-use Rattle.lpis_rings.specs.Area.{area2}
 use Rattle.lpis_rings.specs.AreaBounds.{most_area}
 use Rattle.lpis_covers.specs.Table.{most_rows}
 use Rattle.lpis_parcels.specs.declared.parcel.Parcel.{Parcel}
 use Rattle.lpis_parcels.specs.Release.{Contents, pieces_named}
-use Rattle.lpis_parcels.specs.Weighted.{most_weighted, weighted2}
+use Rattle.lpis_parcels.specs.Weighted.{most_weighted}
 use Rattle.lpis_commands.specs.Area.{most_printed}
 use Rattle.lpis_commands.specs.Report.{areas_text}
+use Rattle.lpis_commands.specs.Areas.{AreasOf}
 use Rattle.lpis_country_plan.specs.Limits.{most_regions}
 use Rattle.lpis_country_run.specs.declared.totals.Totals.{Totals}
 
 -- how many pieces these parcels have
 abbrev pub piece_count : Contents → List Parcel → ℕ
 piece_count r ks = sum_by (λ (k : Parcel). length (pieces_named r k.id)) ks
+
+-- the most parcels of a country
+abbrev pub most_parcels : ℕ
+most_parcels = most_rows * most_regions
 
 -- they are no more than so many parcels can have
 pub record IsBounded (t : Totals) : Type 0 where
@@ -28,13 +31,8 @@ pub record IsBounded (t : Totals) : Type 0 where
 pub record AreTotalsOf (r : Contents) (ks : List Parcel) (t : Totals) : Type 0 where
   pub parcels : t.parcels ≡ length ks
   pub pieces : t.pieces ≡ piece_count r ks
-  pub area : t.areas.area ≡ int_sum_by (λ (k : Parcel). area2 k.polygon) ks
-  pub weighted : t.areas.weighted ≡ int_sum_by (λ (k : Parcel). weighted2 r k.id) ks
-  pub bounded : IsBounded t
-
--- the most parcels of a country
-abbrev pub most_parcels : ℕ
-most_parcels = most_rows * most_regions
+  pub pieces_few : t.pieces ≤ most_rows * length ks
+  pub areas : AreasOf r ks t.areas
 
 -- two of them can be added
 pub record AreAddable (s t : Totals) : Type 0 where
@@ -50,9 +48,17 @@ abbrev pub ArePlaces : Contents → List ℕ → Type 0
 ArePlaces r places = (ks : List Parcel) × AreAt r places ks
 
 -- what is printed of them
-abbrev pub totals_text : Totals → List ℕ
+unfoldable pub totals_text : Totals → List ℕ
 totals_text t = codes " parcels " ++ decimal t.parcels ++ codes " pieces " ++ decimal t.pieces
     ++ areas_text t.areas.area t.areas.weighted
+
+-- so many regions
+unfoldable pub count_text : ℕ → List ℕ
+count_text n = codes "country regions " ++ decimal n
+
+-- what is printed of the country of so many regions
+abbrev pub last_lines : ℕ → Totals → List ℕ
+last_lines n t = count_text n ++ totals_text t ++ codes "yes\n"
 
 -- the areas can be printed
 pub record IsPrintable (t : Totals) : Type 0 where

@@ -1,0 +1,27 @@
+-- Parcels at places among those of a release.
+use Rattle.std.proofs.Common.{◌≡◌, ◌<◌, ◌∙◌, ◌∷◌, [], sym, ap, subst, arith, ℕ, List, None, Some, get_or, length, map}
+use Rattle.std.proofs.lemmas.List.{get_or-map, length-map}
+use Rattle.std.proofs.lemmas.Option.{slice_get_within}
+use Rattle.std.specs.List.{slice_get}
+use Rattle.lpis_parcels.specs.declared.parcel.Parcel.{Parcel}
+
+-- there are as many places as parcels
+pub as_many_places : (xs : List Parcel) (places : List ℕ) (ks : List Parcel) → map (slice_get xs) places ≡ map Some ks → length places ≡ length ks
+as_many_places xs places ks e = sym (length-map places (slice_get xs)) ∙ ap length e ∙ length-map ks Some
+
+-- the parcel at a place
+pub at_place : (xs : List Parcel) (places : List ℕ) (ks : List Parcel) (i d : ℕ) (k : Parcel) → map (slice_get xs) places ≡ map Some ks → i < length places
+    → slice_get xs (get_or places i d) ≡ Some (get_or ks i k)
+at_place xs places ks i d k e lt =
+    let within : i < length ks = omega (arith, as_many_places xs places ks e, lt) in
+    sym (get_or-map (slice_get xs) places i d None lt) ∙ ap (λ os. get_or os i None) e ∙ get_or-map Some ks i k None within
+
+-- it is there
+pub place_there : (xs : List Parcel) (places : List ℕ) (ks : List Parcel) (i d : ℕ) → map (slice_get xs) places ≡ map Some ks → i < length places → get_or places i d < length xs
+place_there xs places [] i d e lt = let none = as_many_places xs places [] e in absurd (omega (arith, none, lt))
+place_there xs places (k ∷ ks) i d e lt = slice_get_within xs (get_or places i d) (get_or (k ∷ ks) i k) (at_place xs places (k ∷ ks) i d k e lt)
+
+-- the parcel that was found is the one of the list
+pub same_place : (xs : List Parcel) (places : List ℕ) (ks : List Parcel) (i d : ℕ) (k : Parcel) → map (slice_get xs) places ≡ map Some ks → i < length places
+    → slice_get xs (get_or places i d) ≡ Some k → k ≡ get_or ks i k
+same_place xs places ks i d k e lt at = cc (sym at ∙ at_place xs places ks i d k e lt)

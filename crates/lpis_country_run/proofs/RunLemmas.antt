@@ -1,0 +1,210 @@
+-- How a run over regions goes on, and ends.
+use Rattle.std.proofs.Common.{◌≡◌, ◌<◌, ◌≤◌, ◌⊎◌, ◌∙◌, ◌++◌, ◌∷◌, ◌+◌, ◌*◌, [], refl, sym, ap, rules, subst, arith, inl, inr, IfErr, IfOk, OnOk, ℕ, List, All, Option, None, Some, Result, Ok, Err, codes, drop, get_or, length, map, take}
+use Rattle.std.proofs.Math.Seq.{take-append-add}
+use Rattle.std.proofs.lemmas.List.{append-nil, append_assoc, drop_more, length-append}
+use Rattle.std.specs.Io.KnownBytes.{Appends, Keeps}
+use Rattle.std.specs.Option.{option_map}
+use Rattle.std.specs.String.{string_bytes}
+use Rattle.lpis_commands.proofs.Shared.{appends-more}
+use Rattle.lpis_covers.specs.declared.class.Class.{Class}
+use Rattle.lpis_parcels.specs.Release.{Contents}
+use Rattle.lpis_commands.specs.declared.failure.Failure.{Failure}
+use Rattle.lpis_commands.specs.declared.failure.Failure.TheVariants.{Memory, Read, Write, Store}
+use Rattle.lpis_commands.specs.declared.failure.Name.TheVariants.{Cert, Classes, Covers, Out, Parcels}
+use Rattle.lpis_commands.specs.Status.{done}
+use Rattle.lpis_commands.specs.Streams.{Begins}
+use Rattle.lpis_country.specs.Country.{country_of}
+use Rattle.lpis_country.proofs.Shared.{country_is_region}
+use Rattle.lpis_commands.specs.declared.command.Detail.{Detail}
+use Rattle.lpis_country_seam.specs.Open.{HasNext}
+use Rattle.lpis_country_run.specs.declared.failure.CountryFailure.{CountryFailure}
+use Rattle.lpis_country_run.specs.declared.progress.Progress.{Progress}
+use Rattle.lpis_country_run.specs.CountryAnswer.{HavePassed, IsReachedBy, IsRefusedRegion, IsRegionsAnswer, Passes, Setting}
+use Rattle.lpis_country_run.specs.CountryFailures.{IsOfNone, IsStoppedBefore, IsUnreadFolder}
+use Rattle.lpis_country_run.specs.CountryLines.{country_lines, region_report}
+use Rattle.lpis_country_run.specs.Regions.{Texts}
+use Rattle.lpis_country_run.specs.private.Progressing.{HaveAllPassed, IsAt, IsFailureOf, IsFinished, IsHere, IsReady, IsStart, IsUnfinished, IsUnwritten, IsVerdictText, IsWritten, RegionsBreakOff, RegionsEnd}
+use Rattle.lpis_country_run.specs.private.Totals.{last_lines}
+use Rattle.lpis_country_run.proofs.PassedLemmas.{passed_more, reached_by, refused_next, refused_no}
+use Rattle.lpis_country_run.proofs.TotalsLemmas.{last_lines_are}
+
+-- ---- writers
+-- a beginning of what follows a text
+begins-more : (old now new : Option (List ℕ)) (a b : List ℕ) → Appends old now a → Begins now new b → Begins old new (a ++ b)
+begins-more old now new a b h (n, k) = (length a + n, subst (Appends old new) (sym (take-append-add a b n)) (appends-more old now new a (take n b) h k))
+
+keeps-nothing : (old new : Option (List ℕ)) → Keeps old new → Appends old new []
+keeps-nothing None new h = tt
+keeps-nothing (Some xs) None h = h
+keeps-nothing (Some xs) (Some ys) h = h ∙ sym (append-nil xs)
+
+-- nothing more
+appends-kept : (old now new : Option (List ℕ)) (a : List ℕ) → Appends old now a → Keeps now new → Appends old new a
+appends-kept old now new a h k = subst (Appends old new) (append-nil a) (appends-more old now new a [] h (keeps-nothing now new k))
+
+-- ---- the start
+room : (n m p : ℕ) → p ≤ 200000 * n → n < m → m ≤ 10000 → p + 200000 ≤ 200000 * 10000
+room n m p a b c = omega arith
+
+next-there : (next before n tiles names items : ℕ) → next ≡ before → before ≡ n → items ≡ tiles → names ≡ tiles → n < names → next < items
+next-there next before n tiles names items a b c d lt = omega arith
+
+-- the next region can be read
+pub ready : (s : Setting) (texts : List ℕ → Texts) (names : List (List ℕ)) (detail : Detail) (p q : Progress) (n : ℕ) (old new : Option (List ℕ)) → IsStart s texts names detail p → IsHere s q n old new
+    → n < length names → IsReady q
+ready s texts names detail p q n old new start here lt = record {
+  next = next-there _ _ _ _ _ _ here.at.seam.number here.number (ap length here.at.seam.tiles_are) start.as_many lt;
+  setting = s;
+  before = here.before;
+  at = here.at;
+  room = room n (length names) q.totals.parcels (subst (λ (k : ℕ). q.totals.parcels ≤ 200000 * k) here.number here.at.few) lt start.few;
+}
+
+-- ---- going on
+-- a region more
+pub goes_on : (s : Setting) (names : List (List ℕ)) (p q : Progress) (n : ℕ) (old now new : Option (List ℕ)) (name : List ℕ) (here : IsHere s p n old now) → s.names ≡ names → n < length names
+    → name ≡ get_or names n [] → IsWritten s here.before name q now new None → IsHere s q (n + 1) old new
+goes_on s names p q n old now new name here are lt is (r, passes, written, at) = record {
+  before = here.before ++ r ∷ [];
+  text = here.text ++ region_report s.detail (country_of s.classes here.before) name r;
+  have_passed = passed_more s n here.before here.text name r (subst (λ (ks : List (List ℕ)). n < length ks) (sym are) lt) (is ∙ ap (λ (ks : List (List ℕ)). get_or ks n []) (sym are)) here.have_passed passes;
+  written = appends-more old now new here.text (region_report s.detail (country_of s.classes here.before) name r) here.written written;
+  at = at;
+  number = length-append here.before (r ∷ []) ∙ ap (λ (k : ℕ). k + 1) here.number;
+}
+
+-- the next region is refused
+pub is_refused : (s : Setting) (names : List (List ℕ)) (p q : Progress) (n status : ℕ) (old now new : Option (List ℕ)) (name : List ℕ) (here : IsHere s p n old now) → s.names ≡ names → n < length names
+    → name ≡ get_or names n [] → IsWritten s here.before name q now new (Some status) → RegionsEnd s old new status
+is_refused s names p q n status old now new name here are lt is (text, refusal, written) = (
+  here.text ++ text,
+  refused_next s n here.before here.text name text status (subst (λ (ks : List (List ℕ)). n < length ks) (sym are) lt) (is ∙ ap (λ (ks : List (List ℕ)). get_or ks n []) (sym are)) here.have_passed refusal,
+  appends-more old now new here.text text here.written written,
+)
+
+-- and has no yes
+pub is_no_yes : (s : Setting) (before : List Contents) (name : List ℕ) (q : Progress) (old new : Option (List ℕ)) (status : ℕ) → IsWritten s before name q old new (Some status) → status ≡ done → ⊥
+is_no_yes s before name q old new status (text, refusal, written) = refused_no s before name text status refusal
+
+-- ---- breaking off
+-- the folder was not read, or memory ran out
+is_stopped : (failure : Failure) (name : List ℕ) (left : List (List ℕ)) (f : CountryFailure) → IsUnreadFolder failure → IsFailureOf failure name f → IsStoppedBefore (name ∷ left) f
+is_stopped Memory name left f u h = inl h
+is_stopped (Read file) name left f (inl e) h = cc e
+is_stopped (Read file) name left f (inr u) h = inr (subst (λ (x : Failure). (x ≡ Read Parcels) ⊎ (x ≡ Read Covers) ⊎ (x ≡ Read Classes) ⊎ (x ≡ Read Cert)) (sym h.0) u, h.1)
+is_stopped (Write file) name left f (inl e) h = cc e
+is_stopped (Write file) name left f (inr (inl e)) h = cc e
+is_stopped (Write file) name left f (inr (inr (inl e))) h = cc e
+is_stopped (Write file) name left f (inr (inr (inr (inl e)))) h = cc e
+is_stopped (Write file) name left f (inr (inr (inr (inr e)))) h = cc e
+is_stopped Store name left f (inl e) h = cc e
+is_stopped Store name left f (inr (inl e)) h = cc e
+is_stopped Store name left f (inr (inr (inl e))) h = cc e
+is_stopped Store name left f (inr (inr (inr (inl e)))) h = cc e
+is_stopped Store name left f (inr (inr (inr (inr e)))) h = cc e
+
+-- a beginning of the verdict on the next region was written
+begun-verdict : (s : Setting) (n : ℕ) (before : List Contents) (lines name text : List ℕ) → n < length s.names → name ≡ get_or s.names n [] → HavePassed s (take n s.names) before lines
+    → IsVerdictText s before name text
+    → ((regions : List Contents) × (left : List (List ℕ)) × IsReachedBy s regions (lines ++ text) left) ⊎ ((status : ℕ) × IsRegionsAnswer s (lines ++ text, status))
+begun-verdict s n before lines name text lt is h (inl (r, passes, same)) =
+    let reached = reached_by s (n + 1) (before ++ r ∷ []) (lines ++ region_report s.detail (country_of s.classes before) name r) (passed_more s n before lines name r lt is h passes) in
+    inl (before ++ r ∷ [], drop (n + 1) s.names, subst (λ (x : List ℕ). IsReachedBy s (before ++ r ∷ []) (lines ++ x) (drop (n + 1) s.names)) (sym same) reached)
+begun-verdict s n before lines name text lt is h (inr (status, refusal)) = inr (status, refused_next s n before lines name text status lt is h refusal)
+
+pub breaks_off : (s : Setting) (names : List (List ℕ)) (p : Progress) (n : ℕ) (old now new : Option (List ℕ)) (name : List ℕ) (failure : Failure) (f : CountryFailure) (here : IsHere s p n old now)
+    → s.names ≡ names → n < length names → name ≡ get_or names n [] → IsUnwritten s here.before name now new failure → IsFailureOf failure name f → RegionsBreakOff s old new f
+breaks_off s names p n old now new name failure f here are lt is (inl (unread, keeps)) of =
+    let there = subst (λ (ks : List (List ℕ)). n < length ks) (sym are) lt in
+    let named = is ∙ ap (λ (ks : List (List ℕ)). get_or ks n []) (sym are) in
+    inl (
+      here.before,
+      here.text,
+      name ∷ drop (n + 1) s.names,
+      subst (IsReachedBy s here.before here.text) (drop_more s.names n [] there ∙ ap (λ (x : List ℕ). x ∷ drop (n + 1) s.names) (sym named)) (reached_by s n here.before here.text here.have_passed),
+      is_stopped failure name (drop (n + 1) s.names) f unread of,
+      appends-kept old now new here.text here.written keeps,
+    )
+breaks_off s names p n old now new name failure f here are lt is (inr (write, text, verdict, begins)) of =
+    let there = subst (λ (ks : List (List ℕ)). n < length ks) (sym are) lt in
+    let named = is ∙ ap (λ (ks : List (List ℕ)). get_or ks n []) (sym are) in
+    inr (
+      subst (λ (x : Failure). IsFailureOf x name f) write of,
+      here.text ++ text,
+      begun-verdict s n here.before here.text name text there named here.have_passed verdict,
+      begins-more old now new here.text text here.written begins,
+    )
+
+-- ---- the end
+-- the country's lines are of what passed
+pub last_are : (s : Setting) (regions : List Contents) (p : Progress) (n : ℕ) → IsAt s regions p → n ≡ length regions
+    → last_lines n p.totals ≡ country_lines (length regions) (country_of s.classes regions)
+last_are s regions p n at e =
+    last_lines_are n (length regions) (country_of s.classes regions) p.totals (country_is_region s.classes regions at.seam.joined.regions_are) at.totals e
+
+pub finishes : (s : Setting) (regions : List Contents) (r : Result ℕ Failure) (old new : Option (List ℕ)) (text : List ℕ) (status : ℕ)
+    → text ≡ country_lines (length regions) (country_of s.classes regions) → status ≡ done → IfOk r (λ (n : ℕ). n ≡ status) → OnOk r (Appends old new text) → IfOk r (IsFinished s regions old new)
+finishes s regions (Ok n) old new text status is yes same written = record { done_is = same ∙ yes; written = subst (Appends old new) is written }
+finishes s regions (Err f) old new text status is yes same written = tt
+
+pub finishes_not : (s : Setting) (regions : List Contents) (r : Result ℕ Failure) (old new : Option (List ℕ)) (text : List ℕ) → text ≡ country_lines (length regions) (country_of s.classes regions)
+    → IfErr r (λ (f : Failure). (f ≡ Write Out) × Begins old new text) → IfErr r (IsUnfinished s regions old new)
+finishes_not s regions (Ok n) old new text is h = tt
+finishes_not s regions (Err f) old new text is h = inr (h.0, subst (Begins old new) is h.1)
+
+-- all regions passed
+all-reached : (s : Setting) (names : List (List ℕ)) (p : Progress) (n : ℕ) (old now : Option (List ℕ)) (here : IsHere s p n old now) → s.names ≡ names → n ≡ length names
+    → IsReachedBy s here.before here.text []
+all-reached s names p n old now here are e =
+    subst (IsReachedBy s here.before here.text) (ap (λ (k : ℕ). drop k s.names) (e ∙ sym (ap length are)) ∙ drop-all s.names) (reached_by s n here.before here.text here.have_passed)
+  where
+    drop-all : (xs : List (List ℕ)) → drop (length xs) xs ≡ []
+    drop-all [] = refl
+    drop-all (x ∷ xs) = drop-all xs
+
+pub all_end : (s : Setting) (names : List (List ℕ)) (p : Progress) (n status : ℕ) (old now new : Option (List ℕ)) (here : IsHere s p n old now) → s.names ≡ names → n ≡ length names
+    → IsFinished s here.before now new status → RegionsEnd s old new status
+all_end s names p n status old now new here are e fin = (
+  here.text ++ country_lines (length here.before) (country_of s.classes here.before),
+  record {
+    regions = here.before;
+    text = here.text;
+    left = [];
+    reached = all-reached s names p n old now here are e;
+    end = (country_lines (length here.before) (country_of s.classes here.before), done);
+    follows = refl;
+    is = ap (λ (k : ℕ). (here.text ++ country_lines (length here.before) (country_of s.classes here.before), k)) fin.done_is;
+  },
+  appends-more old now new here.text (country_lines (length here.before) (country_of s.classes here.before)) here.written fin.written,
+)
+
+pub all_break_off : (s : Setting) (names : List (List ℕ)) (p : Progress) (n : ℕ) (old now new : Option (List ℕ)) (failure : Failure) (f : CountryFailure) (here : IsHere s p n old now) → s.names ≡ names
+    → n ≡ length names → IsUnfinished s here.before now new failure → IsOfNone f failure → RegionsBreakOff s old new f
+all_break_off s names p n old now new failure f here are e (inl (memory, keeps)) of =
+    inl (here.before, here.text, [], all-reached s names p n old now here are e, subst (λ (x : Failure). IsOfNone f x) memory of, appends-kept old now new here.text here.written keeps)
+all_break_off s names p n old now new failure f here are e (inr (write, begins)) of = inr (
+  subst (λ (x : Failure). IsOfNone f x) write of,
+  here.text ++ country_lines (length here.before) (country_of s.classes here.before),
+  inr (
+    done,
+    record {
+      regions = here.before;
+      text = here.text;
+      left = [];
+      reached = all-reached s names p n old now here are e;
+      end = (country_lines (length here.before) (country_of s.classes here.before), done);
+      follows = refl;
+      is = refl;
+    },
+  ),
+  begins-more old now new here.text (country_lines (length here.before) (country_of s.classes here.before)) here.written begins,
+)
+
+pub all_passed : (s : Setting) (names : List (List ℕ)) (p : Progress) (n : ℕ) (old now : Option (List ℕ)) (here : IsHere s p n old now) → s.names ≡ names → n ≡ length names
+    → HaveAllPassed s here.before
+all_passed s names p n old now here are e =
+    ((here.text, subst (λ (ks : List (List ℕ)). HavePassed s ks here.before here.text) (ap (λ (k : ℕ). take k s.names) (e ∙ sym (ap length are)) ∙ take-all s.names) here.have_passed), here.at.seam.joined)
+  where
+    take-all : (xs : List (List ℕ)) → take (length xs) xs ≡ xs
+    take-all [] = refl
+    take-all (x ∷ xs) = ap (λ (ys : List (List ℕ)). x ∷ ys) (take-all xs)

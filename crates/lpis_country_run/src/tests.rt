@@ -1,0 +1,5 @@
+//! Two regions of a country, whose shared parcel stands in both.
+
+mod countries;
+mod failures;
+mod shelf;
