@@ -2,13 +2,16 @@
 #![tactic(auto)]
 
 mod created;
+mod folders;
 
 use clap::error::ErrorKind;
 use created::Created;
+use folders::Folders;
 use lpis_commands::{
-    Cmd, CommandFiles, Failure, NamedFile, TableFiles, command_of, named_files, print_failure,
-    run_area, run_check, run_cut, status_of, usage_ends,
+    Cmd, CommandFiles, Detail, FAILED, Failure, NamedFile, TableFiles, command_of, named_files,
+    print_failure, run_area, run_check, run_cut, status_of, usage_ends,
 };
+use lpis_country_run::{print_country_failure, run_country};
 use lpis_gate::{refuse_register, run_exact, run_publish, run_trace};
 use lpis_register::Register;
 use sqlite::{FileFrom, FileStore, Unknown};
@@ -82,7 +85,12 @@ fn perform(rt: &HostRuntime, command: Cmd<'_>) -> Result<u8, Failure> {
             let cert = open(rt, &cert)?;
             run_check(alloc, parcels, covers, classes, cert, &mut out)
         }
-        CommandFiles::Country { .. } => Err(Failure::Memory),
+        CommandFiles::Country {
+            dir,
+            country,
+            classes,
+            detail,
+        } => check_country(rt, dir, &country, &classes, detail),
         CommandFiles::Exact {
             db,
             tables,
@@ -119,6 +127,28 @@ fn perform(rt: &HostRuntime, command: Cmd<'_>) -> Result<u8, Failure> {
             }
             Err(fault) => refuse_register(alloc, &fault, &mut out),
         },
+    }
+}
+
+/// Checks the country of a folder, region by region. At one time four files are open.
+fn check_country(
+    rt: &HostRuntime,
+    dir: &str,
+    country: &NamedFile,
+    classes: &NamedFile,
+    detail: Detail,
+) -> Result<u8, Failure> {
+    let country = open(rt, country)?;
+    let classes = open(rt, classes)?;
+    let folders = Folders::new(rt, dir);
+    let mut out = rt.stdout();
+    match run_country(rt.alloc(), country, classes, &folders, detail, &mut out) {
+        Ok(status) => Ok(status),
+        Err(failure) => {
+            // It may name a region, as no other failure does.
+            let _ = print_country_failure(&failure, &mut rt.stderr());
+            Ok(FAILED)
+        }
     }
 }
 
@@ -185,7 +215,7 @@ fn close(register: FileRegister) {
 }
 
 /// Opens an input, or reports that it cannot be read.
-fn open(rt: &HostRuntime, input: &NamedFile) -> Result<File, Failure> {
+pub(crate) fn open(rt: &HostRuntime, input: &NamedFile) -> Result<File, Failure> {
     match fs::open(rt, input.path.as_str()) {
         Ok(file) => Ok(file),
         Err(_) => Err(Failure::Read(input.name)),
