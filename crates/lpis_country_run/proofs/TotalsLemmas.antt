@@ -1,6 +1,6 @@
 -- Counts and areas of parcels, added up.
-use Rattle.std.proofs.Common.{◌≡◌, ◌≤◌, ◌<◌, ◌∙◌, ◌++◌, ◌∷◌, ◌+◌, ◌*◌, ◌^◌, [], refl, sym, ap, ap₂, subst, arith, ℕ, ℤ, suc, List, All, Contains, codes, decimal, length, nat_abs, not, sum_by}
-use Rattle.std.proofs.lemmas.List.{append_assoc, length-append}
+use Rattle.std.proofs.Common.{◌≡◌, ◌≤◌, ◌<◌, ◌∙◌, ◌++◌, ◌∷◌, ◌+◌, ◌*◌, ◌^◌, [], refl, sym, ap, ap₂, subst, arith, ℕ, ℤ, suc, List, All, Contains, codes, decimal, get_or, length, nat_abs, not, sum_by, take}
+use Rattle.std.proofs.lemmas.List.{append_assoc, length-append, length-take-le, take_more}
 use Rattle.std.proofs.lemmas.List.Elements.{All-cons, All-head, All-nil, All-tail, All-weaker}
 use Rattle.std.proofs.lemmas.List.Filters.{length-filter_both}
 use Rattle.std.proofs.lemmas.List.Sums.{sum_by-append, sum_by-cons}
@@ -19,7 +19,7 @@ use Rattle.lpis_country.specs.Country.{IsRegion, country_of, is_new, new_parcels
 use Rattle.lpis_country.proofs.Shared.{country_is_region, country_snoc, fresh_pieces, old_pieces, pieces_add}
 use Rattle.lpis_country_run.specs.CountryLines.{country_lines, sums_text}
 use Rattle.lpis_country_run.specs.declared.totals.Totals.{Totals}
-use Rattle.lpis_country_run.specs.private.Totals.{AreTotalsOf, IsBounded, IsPrintable, count_text, last_lines, most_parcels, piece_count, totals_text}
+use Rattle.lpis_country_run.specs.private.Totals.{AreAddable, AreTotalsOf, IsBounded, IsPrintable, count_text, last_lines, most_parcels, piece_count, totals_text}
 
 pieces-both : (n k j x y : ℕ) → j ≡ n + k → x ≤ most_rows * n → y ≤ most_rows * k → x + y ≤ most_rows * j
 pieces-both n k j x y a b c = omega arith
@@ -41,6 +41,30 @@ bounded_of r ks t a = record {
   area = subst (λ (n : ℕ). nat_abs t.areas.area ≤ most_area * n) (sym a.parcels) a.areas.area_small;
   weighted = subst (λ (n : ℕ). nat_abs t.areas.weighted ≤ most_weighted * n) (sym a.parcels) a.areas.weighted_small;
 }
+
+-- a parcel more can be added
+pub addable_one : (r : Contents) (ks : List Parcel) (i : ℕ) (k : Parcel) (s t : Totals) → i < length ks → length ks ≤ most_rows → AreTotalsOf r (take i ks) s → AreTotalsOf r (k ∷ []) t
+    → AreAddable s t
+addable_one r ks i k s t lt few a b = record {
+  first = bounded_of r (take i ks) s a;
+  second = bounded_of r (k ∷ []) t b;
+  few = omega (arith, length-take-le i ks (omega (arith, lt)), a.parcels, b.parcels, lt, few);
+}
+
+-- and is
+pub totals_more : (r : Contents) (ks : List Parcel) (i : ℕ) (k : Parcel) (s t u : Totals) → i < length ks → k ≡ get_or ks i k
+    → ((q : Contents) (ls ms : List Parcel) → AreTotalsOf q ls s → AreTotalsOf q ms t → AreTotalsOf q (ls ++ ms) u) → AreTotalsOf r (take i ks) s → AreTotalsOf r (k ∷ []) t
+    → AreTotalsOf r (take (i + 1) ks) u
+totals_more r ks i k s t u lt is plus a b =
+    subst (λ (ls : List Parcel). AreTotalsOf r ls u) (ap (λ (x : Parcel). take i ks ++ x ∷ []) is ∙ sym (take_more ks i k lt)) (plus r (take i ks) (k ∷ []) a b)
+
+-- all of them
+pub totals_all : (r : Contents) (ks : List Parcel) (i : ℕ) (t : Totals) → i ≡ length ks → AreTotalsOf r (take i ks) t → AreTotalsOf r ks t
+totals_all r ks i t e a = subst (λ (ls : List Parcel). AreTotalsOf r ls t) (ap (λ (n : ℕ). take n ks) e ∙ take-whole ks) a
+  where
+    take-whole : (xs : List Parcel) → take (length xs) xs ≡ xs
+    take-whole [] = refl
+    take-whole (x ∷ xs) = ap (λ (ys : List Parcel). x ∷ ys) (take-whole xs)
 
 -- the areas of as many parcels as a country can have are printed
 pub area_fits : (x y n k : ℕ) → x ≤ most_area * n → y ≤ most_area * k → n + k ≤ most_parcels → x + y ≤ most_printed
