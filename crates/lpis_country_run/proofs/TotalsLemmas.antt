@@ -1,6 +1,6 @@
 -- Counts and areas of parcels, added up.
 use Rattle.std.proofs.Common.{◌≡◌, ◌≤◌, ◌<◌, ◌∙◌, ◌++◌, ◌∷◌, ◌+◌, ◌*◌, ◌^◌, [], refl, sym, ap, ap₂, subst, arith, ℕ, ℤ, suc, List, All, Contains, codes, decimal, get_or, length, nat_abs, not, sum_by, take}
-use Rattle.std.proofs.lemmas.List.{append_assoc, length-append, length-take-le, take_more}
+use Rattle.std.proofs.lemmas.List.{length-append, length-take-le, take_more}
 use Rattle.std.proofs.lemmas.List.Elements.{All-cons, All-head, All-nil, All-tail, All-weaker}
 use Rattle.std.proofs.lemmas.List.Filters.{length-filter_both}
 use Rattle.std.proofs.lemmas.List.Sums.{sum_by-append, sum_by-cons}
@@ -41,6 +41,10 @@ bounded_of r ks t a = record {
   area = subst (λ (n : ℕ). nat_abs t.areas.area ≤ most_area * n) (sym a.parcels) a.areas.area_small;
   weighted = subst (λ (n : ℕ). nat_abs t.areas.weighted ≤ most_weighted * n) (sym a.parcels) a.areas.weighted_small;
 }
+
+-- those of no parcels
+pub totals_none : (r : Contents) (t : Totals) → t.parcels ≡ 0 → t.pieces ≡ 0 → AreasOf r [] t.areas → AreTotalsOf r [] t
+totals_none r t parcels pieces areas = record { parcels = parcels; pieces = pieces; pieces_few = omega (arith, pieces); areas = areas }
 
 -- a parcel more can be added
 pub addable_one : (r : Contents) (ks : List Parcel) (i : ℕ) (k : Parcel) (s t : Totals) → i < length ks → length ks ≤ most_rows → AreTotalsOf r (take i ks) s → AreTotalsOf r (k ∷ []) t
@@ -165,5 +169,4 @@ totals_region r t region a = rw (a.parcels, a.pieces, pieces_add r region, a.are
 pub last_lines_are : (n m : ℕ) (u : Contents) (t : Totals) → IsRegion u → AreTotalsOf u u.parcels t → n ≡ m → last_lines n t ≡ country_lines m u
 unfolding count_text
 last_lines_are n m u t region a e =
-    ap₂ (λ (k : ℕ) (x : List ℕ). (codes "country regions " ++ decimal k) ++ (x ++ codes "yes\n")) e (totals_region u t region a)
-    ∙ append_assoc (codes "country regions ") (decimal m) (sums_text u ++ codes "yes\n")
+    ap₂ (λ (k : ℕ) (x : List ℕ). codes "country regions " ++ decimal k ++ x ++ codes "yes\n") e (totals_region u t region a)
