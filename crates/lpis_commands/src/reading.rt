@@ -103,9 +103,9 @@ fn read_by<R: Read>(
     Err(ReadFault::Read)
 }
 
-/// All bytes of the input of this name, or the failure that reports it. They lie in a block of their
-/// number: the larger a freed block, the larger are those that the C library keeps after they are
-/// freed.
+/// All bytes of the input of this name, or the failure that reports it. They lie in a block of
+/// their number: the larger a freed block, the larger are those that the C library keeps after they
+/// are freed.
 pub fn read_named<R: Read + Drop>(alloc: Global, reader: R, name: Name) -> Result<Vec<u8>, Failure>
     ensures all { IfOk result (λ v. IsRead v.items (R.remaining reader)) }
     ensures failure { IfErr result (IsUnread name) }
