@@ -152,7 +152,7 @@ fn accept_map(
     requires ascending { IsAscending (shape_ids shapes.now) }
     requires sound { IsSoundMap release.now }
     requires later { last_year history.now < year }
-    ensures answers { AnswersRelease history.now shapes.now year release.now cert.now.exact
+    ensures { AnswersRelease history.now shapes.now year release.now cert.now.exact
         rows.now result }
 {
     sound_maps_have_such_shapes();
@@ -174,7 +174,7 @@ pub(crate) fn accept_release(
     cert: &Cert,
 ) -> Result<Accepted, PublishFault>
     requires ascending { IsAscending (shape_ids shapes.now) }
-    ensures answers { AnswersRelease history.now shapes.now year yes.now cert.now.exact rows.now
+    ensures { AnswersRelease history.now shapes.now year yes.now cert.now.exact rows.now
         result }
 {
     let last = history.last_year();

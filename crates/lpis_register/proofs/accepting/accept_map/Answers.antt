@@ -2,21 +2,21 @@ use Rattle.std.proofs.Common.{refl}
 use Rattle.std.proofs.lemmas.Result.{err_from_is_err_and}
 use Rattle.lpis_register.proofs.accepting.accept_map.Goals as goal
 
-pub returns-in_err-step-clause-answers : goal.returns-in_err-step-clause-answers
-returns-in_err-step-clause-answers c =
+pub returns-in_err-step : goal.returns-in_err-step
+returns-in_err-step c =
     let p = err_from_is_err_and c.from_residual.result c.from_residual.ensures.1 in
     let step = c.in_err-step.ensures in
     rw (p.1, p.2) (record { tells = step.refused c.args.shapes.now c.args.year c.args.cert.now.exact c.requires.later; made = tt; no_store = step.no_store })
 
-pub returns-in_err-check_groups-clause-answers : goal.returns-in_err-check_groups-clause-answers
-returns-in_err-check_groups-clause-answers c =
+pub returns-in_err-check_groups : goal.returns-in_err-check_groups
+returns-in_err-check_groups c =
     let p = err_from_is_err_and c.from_residual-in_err-check_groups.result c.from_residual-in_err-check_groups.ensures.1 in
     let step = c.in_ok-step.ensures.step in
     let groups = c.in_err-check_groups.ensures in
     rw (p.1, p.2) (record { tells = groups.refused c.args.history.now c.args.year c.args.rows.now c.requires.later step.faultless step.change_is; made = tt; no_store = groups.no_store })
 
-pub returns-clause-answers : goal.returns-clause-answers
-returns-clause-answers c =
+pub returns : goal.returns
+returns c =
     let h = c.args.history.now in
     let r = c.args.release.now in
     let step = c.in_ok-step.ensures.step in
