@@ -1,3 +1,4 @@
+pub mod BegunLemmas
 pub mod PassedLemmas
 pub mod PlaceLemmas
 pub mod RunLemmas

@@ -4,6 +4,8 @@ use Rattle.std.proofs.lemmas.List.{get_or-map, length-map}
 use Rattle.std.proofs.lemmas.Option.{slice_get_within}
 use Rattle.std.specs.List.{slice_get}
 use Rattle.lpis_parcels.specs.declared.parcel.Parcel.{Parcel}
+use Rattle.lpis_parcels.specs.Release.{Contents}
+use Rattle.lpis_country_run.specs.private.Totals.{AreAt}
 
 -- there are as many places as parcels
 pub as_many_places : (xs : List Parcel) (places : List ℕ) (ks : List Parcel) → map (slice_get xs) places ≡ map Some ks → length places ≡ length ks
@@ -25,3 +27,7 @@ place_there xs places (k ∷ ks) i d e lt = slice_get_within xs (get_or places i
 pub same_place : (xs : List Parcel) (places : List ℕ) (ks : List Parcel) (i d : ℕ) (k : Parcel) → map (slice_get xs) places ≡ map Some ks → i < length places
     → slice_get xs (get_or places i d) ≡ Some k → k ≡ get_or ks i k
 same_place xs places ks i d k e lt at = cc (sym at ∙ at_place xs places ks i d k e lt)
+
+-- the same places
+pub same_places : (r : Contents) (a b : List ℕ) (ks : List Parcel) → a ≡ b → AreAt r b ks → AreAt r a ks
+same_places r a b ks e h = subst (λ (x : List ℕ). AreAt r x ks) (sym e) h

@@ -1,32 +1,41 @@
 -- How a run over regions goes on, and ends.
-use Rattle.std.proofs.Common.{◌≡◌, ◌<◌, ◌≤◌, ◌⊎◌, ◌∙◌, ◌++◌, ◌∷◌, ◌+◌, ◌*◌, [], refl, sym, ap, rules, subst, arith, inl, inr, IfErr, IfOk, OnOk, ℕ, List, All, Option, None, Some, Result, Ok, Err, codes, drop, get_or, length, map, take}
+use Rattle.std.proofs.Common.{◌≡◌, ◌<◌, ◌≤◌, ◌⊎◌, ◌∙◌, ◌++◌, ◌∷◌, ◌+◌, ◌*◌, [], refl, sym, ap, ap₂, subst, arith, inl, inr, IfErr, IfOk, IsErrAnd, OnOk, ℕ, List, All, Option, None, Some, Result, Ok, Err, Vec, drop, get_or, length, map, take}
 use Rattle.std.proofs.Math.Seq.{take-append-add}
 use Rattle.std.proofs.lemmas.List.{append-nil, append_assoc, drop_more, length-append}
+use Rattle.std.proofs.lemmas.List.Elements.{All-head, All-tail}
 use Rattle.std.specs.Io.KnownBytes.{Appends, Keeps}
 use Rattle.std.specs.Option.{option_map}
 use Rattle.std.specs.String.{string_bytes}
+use Rattle.std.specs.declared.alloc.Global.{Global}
 use Rattle.lpis_commands.proofs.Shared.{appends-more}
 use Rattle.lpis_covers.specs.declared.class.Class.{Class}
 use Rattle.lpis_parcels.specs.Release.{Contents}
 use Rattle.lpis_commands.specs.declared.failure.Failure.{Failure}
 use Rattle.lpis_commands.specs.declared.failure.Failure.TheVariants.{Memory, Read, Write, Store}
 use Rattle.lpis_commands.specs.declared.failure.Name.TheVariants.{Cert, Classes, Covers, Out, Parcels}
+use Rattle.lpis_commands.specs.CheckAnswer.{Inputs, IsProvedOf}
+use Rattle.lpis_commands.specs.declared.answer.Answer.{Answer as Printed}
 use Rattle.lpis_commands.specs.Status.{done}
 use Rattle.lpis_commands.specs.Streams.{Begins}
-use Rattle.lpis_country.specs.Country.{country_of}
-use Rattle.lpis_country.proofs.Shared.{country_is_region}
+use Rattle.lpis_parcels.specs.declared.parcel.Parcel.{Parcel}
+use Rattle.lpis_country.specs.Country.{country_of, new_parcels}
+use Rattle.lpis_country.proofs.Shared.{country_is_region, country_snoc}
 use Rattle.lpis_commands.specs.declared.command.Detail.{Detail}
-use Rattle.lpis_country_seam.specs.Open.{HasNext}
+use Rattle.lpis_country_seam.specs.Faults.{IsFirstSeamFault}
+use Rattle.lpis_country_seam.specs.Open.{IsSeamOf}
+use Rattle.lpis_country_seam.specs.declared.fault.SeamFault.{SeamFault}
+use Rattle.lpis_country_seam.specs.declared.fault.SeamFault.TheVariants.{Memory as NoMemory}
 use Rattle.lpis_country_run.specs.declared.failure.CountryFailure.{CountryFailure}
 use Rattle.lpis_country_run.specs.declared.progress.Progress.{Progress}
-use Rattle.lpis_country_run.specs.CountryAnswer.{HavePassed, IsReachedBy, IsRefusedRegion, IsRegionsAnswer, Passes, Setting}
+use Rattle.lpis_country_run.specs.declared.totals.Totals.{Totals}
+use Rattle.lpis_country_run.specs.CountryAnswer.{HavePassed, None as NonePassed, IsReachedBy, IsRefusedRegion, IsRegionsAnswer, Passes, Setting}
 use Rattle.lpis_country_run.specs.CountryFailures.{IsOfNone, IsStoppedBefore, IsUnreadFolder}
 use Rattle.lpis_country_run.specs.CountryLines.{country_lines, region_report}
-use Rattle.lpis_country_run.specs.Regions.{Texts}
-use Rattle.lpis_country_run.specs.private.Progressing.{HaveAllPassed, IsAt, IsFailureOf, IsFinished, IsHere, IsReady, IsStart, IsUnfinished, IsUnwritten, IsVerdictText, IsWritten, RegionsBreakOff, RegionsEnd}
-use Rattle.lpis_country_run.specs.private.Totals.{last_lines}
+use Rattle.lpis_country_run.specs.Regions.{AreOfFolder, Texts}
+use Rattle.lpis_country_run.specs.private.Progressing.{FollowsAs, HaveAllPassed, IsAt, IsFailureOf, IsFinished, IsHere, IsReady, IsStart, IsUnfinished, IsUnwritten, IsVerdict, IsVerdictText, IsWritten, RegionsBreakOff, RegionsEnd}
+use Rattle.lpis_country_run.specs.private.Totals.{AreTotalsOf, last_lines}
 use Rattle.lpis_country_run.proofs.PassedLemmas.{passed_more, reached_by, refused_next, refused_no}
-use Rattle.lpis_country_run.proofs.TotalsLemmas.{last_lines_are}
+use Rattle.lpis_country_run.proofs.TotalsLemmas.{few_new, last_lines_are, totals_grow}
 
 -- ---- writers
 -- a beginning of what follows a text
@@ -60,6 +69,35 @@ ready s texts names detail p q n old new start here lt = record {
   room = room n (length names) q.totals.parcels (subst (λ (k : ℕ). q.totals.parcels ≤ 200000 * k) here.number here.at.few) lt start.few;
 }
 
+-- before the first region
+appends-nothing : (old : Option (List ℕ)) → Appends old old []
+appends-nothing None = tt
+appends-nothing (Some xs) = sym (append-nil xs)
+
+pub begun_here : (s : Setting) (texts : List ℕ → Texts) (names : List (List ℕ)) (detail : Detail) (p : Progress) (old : Option (List ℕ)) → IsStart s texts names detail p → IsHere s p 0 old old
+begun_here s texts names detail p old start = record { before = []; text = []; have_passed = NonePassed; written = appends-nothing old; at = start.at; number = refl }
+
+-- ---- the verdict
+-- on a region that is a sound map
+pub judged : {E : Type 0} (r : Result (Result (Vec ℕ Global) Printed) E) (s : Setting) (before : List Contents) (name : List ℕ) (x : Inputs) (region : Contents) (p : Progress)
+    → AreOfFolder x (s.texts name) → IsProvedOf x region → IfOk r (FollowsAs s before name region p) → IfOk r (IsVerdict s before name p)
+judged (Err e) s before name x region p told said h = tt
+judged (Ok (Ok text)) s before name x region p told said (fits, is, at) = (region, record { inputs = x; told = told; said = said; fits = fits }, is, at)
+judged (Ok (Err a)) s before name x region p told said (fault, first, text, status) =
+    (x, told, inr (record { region = region; said = said; fault = fault; first = first; is = ap₂ (λ (t : List ℕ) (n : ℕ). (t, n)) text status }))
+
+-- the first fault, which is none of memory
+pub first_of : (faults : List SeamFault) (fault : SeamFault) → (fault ≡ NoMemory) ⊎ IsFirstSeamFault faults fault → (fault ≡ NoMemory → ⊥) → IsFirstSeamFault faults fault
+first_of faults fault (inl e) is_none = absurd (is_none e)
+first_of faults fault (inr first) is_none = first
+
+-- a refusal that was written
+pub refused_written : (s : Setting) (before : List Contents) (name : List ℕ) (p : Progress) (v : Result (Vec ℕ Global) Printed) (a : Printed) (status : ℕ) (old new : Option (List ℕ)) → v ≡ Err a
+    → status ≡ a.status → Appends old new a.text.items → IsVerdict s before name p v → (text : List ℕ) × IsRefusedRegion s before name (text, status) × Appends old new text
+refused_written s before name p v a status old new is same written verdict =
+    let refusal : IsRefusedRegion s before name (a.text.items, a.status) = subst (IsVerdict s before name p) is verdict in
+    (a.text.items, subst (λ (n : ℕ). IsRefusedRegion s before name (a.text.items, n)) (sym same) refusal, written)
+
 -- ---- going on
 -- a region more
 pub goes_on : (s : Setting) (names : List (List ℕ)) (p q : Progress) (n : ℕ) (old now new : Option (List ℕ)) (name : List ℕ) (here : IsHere s p n old now) → s.names ≡ names → n < length names
@@ -85,6 +123,29 @@ is_refused s names p q n status old now new name here are lt is (text, refusal, 
 -- and has no yes
 pub is_no_yes : (s : Setting) (before : List Contents) (name : List ℕ) (q : Progress) (old new : Option (List ℕ)) (status : ℕ) → IsWritten s before name q old new (Some status) → status ≡ done → ⊥
 is_no_yes s before name q old new status (text, refusal, written) = refused_no s before name text status refusal
+
+-- ---- one region more
+last-of : {A : Type 0} (P : A → Type 0) (xs : List A) (x : A) → All P (xs ++ x ∷ []) → P x
+last-of P [] x h = All-head P x [] h
+last-of P (y ∷ xs) x h = last-of P xs x (All-tail P y (xs ++ x ∷ []) h)
+
+counted : (q p l w n m : ℕ) → q ≡ l → l ≡ p + w → p ≤ 200000 * n → w ≤ 200000 → m ≡ n + 1 → q ≤ 200000 * m
+counted q p l w n m a b c d e = omega arith
+
+pub goes_at : (s : Setting) (before : List Contents) (r : Contents) (p q : Progress) (t : Totals) → IsAt s before p → IsSeamOf s.tiles s.classes (before ++ r ∷ []) q.seam → length r.parcels ≤ 200000
+    → AreTotalsOf r (new_parcels (country_of s.classes before) r) t
+    → ((x : Contents) (ks ls : List Parcel) → AreTotalsOf x ks p.totals → AreTotalsOf x ls t → AreTotalsOf x (ks ++ ls) q.totals) → IsAt s (before ++ r ∷ []) q
+goes_at s before r p q t at seam few news plus =
+    let u = country_of s.classes before in
+    let same : r.classes ≡ s.classes = last-of (λ (x : Contents). x.classes ≡ s.classes) before r seam.joined.classes_are in
+    let totals = totals_grow s.classes before r p.totals t q.totals at.seam.joined.regions_are same at.totals news plus in
+    let grown = ap (λ (c : Contents). length c.parcels) (country_snoc s.classes before r) ∙ length-append u.parcels (new_parcels u r) in
+    record {
+      seam = seam;
+      totals = totals;
+      few = counted q.totals.parcels (length u.parcels) _ (length (new_parcels u r)) (length before) _ totals.parcels grown (subst (λ (n : ℕ). n ≤ 200000 * length before) at.totals.parcels at.few)
+          (few_new u r 200000 few) (length-append before (r ∷ []));
+    }
 
 -- ---- breaking off
 -- the folder was not read, or memory ran out
@@ -125,14 +186,12 @@ breaks_off s names p n old now new name failure f here are lt is (inl (unread, k
       is_stopped failure name (drop (n + 1) s.names) f unread of,
       appends-kept old now new here.text here.written keeps,
     )
-breaks_off s names p n old now new name failure f here are lt is (inr (write, text, verdict, begins)) of =
+breaks_off s names p n old now new name failure f here are lt is (inr (write, (text, verdict, begins))) of =
     let there = subst (λ (ks : List (List ℕ)). n < length ks) (sym are) lt in
     let named = is ∙ ap (λ (ks : List (List ℕ)). get_or ks n []) (sym are) in
     inr (
       subst (λ (x : Failure). IsFailureOf x name f) write of,
-      here.text ++ text,
-      begun-verdict s n here.before here.text name text there named here.have_passed verdict,
-      begins-more old now new here.text text here.written begins,
+      (here.text ++ text, begun-verdict s n here.before here.text name text there named here.have_passed verdict, begins-more old now new here.text text here.written begins),
     )
 
 -- ---- the end
@@ -144,8 +203,8 @@ last_are s regions p n at e =
 
 pub finishes : (s : Setting) (regions : List Contents) (r : Result ℕ Failure) (old new : Option (List ℕ)) (text : List ℕ) (status : ℕ)
     → text ≡ country_lines (length regions) (country_of s.classes regions) → status ≡ done → IfOk r (λ (n : ℕ). n ≡ status) → OnOk r (Appends old new text) → IfOk r (IsFinished s regions old new)
-finishes s regions (Ok n) old new text status is yes same written = record { done_is = same ∙ yes; written = subst (Appends old new) is written }
-finishes s regions (Err f) old new text status is yes same written = tt
+finishes s regions (Ok n) old new text status is ends same written = record { done_is = same ∙ ends; written = subst (Appends old new) is written }
+finishes s regions (Err f) old new text status is ends same written = tt
 
 pub finishes_not : (s : Setting) (regions : List Contents) (r : Result ℕ Failure) (old new : Option (List ℕ)) (text : List ℕ) → text ≡ country_lines (length regions) (country_of s.classes regions)
     → IfErr r (λ (f : Failure). (f ≡ Write Out) × Begins old new text) → IfErr r (IsUnfinished s regions old new)
@@ -182,12 +241,9 @@ pub all_break_off : (s : Setting) (names : List (List ℕ)) (p : Progress) (n : 
     → n ≡ length names → IsUnfinished s here.before now new failure → IsOfNone f failure → RegionsBreakOff s old new f
 all_break_off s names p n old now new failure f here are e (inl (memory, keeps)) of =
     inl (here.before, here.text, [], all-reached s names p n old now here are e, subst (λ (x : Failure). IsOfNone f x) memory of, appends-kept old now new here.text here.written keeps)
-all_break_off s names p n old now new failure f here are e (inr (write, begins)) of = inr (
-  subst (λ (x : Failure). IsOfNone f x) write of,
-  here.text ++ country_lines (length here.before) (country_of s.classes here.before),
-  inr (
-    done,
-    record {
+all_break_off s names p n old now new failure f here are e (inr (write, begins)) of =
+    let text = here.text ++ country_lines (length here.before) (country_of s.classes here.before) in
+    let whole : IsRegionsAnswer s (text, done) = record {
       regions = here.before;
       text = here.text;
       left = [];
@@ -195,10 +251,9 @@ all_break_off s names p n old now new failure f here are e (inr (write, begins))
       end = (country_lines (length here.before) (country_of s.classes here.before), done);
       follows = refl;
       is = refl;
-    },
-  ),
-  begins-more old now new here.text (country_lines (length here.before) (country_of s.classes here.before)) here.written begins,
-)
+    } in
+    let begun = begins-more old now new here.text (country_lines (length here.before) (country_of s.classes here.before)) here.written begins in
+    inr (subst (λ (x : Failure). IsOfNone f x) write of, (text, inr (done, whole), begun))
 
 pub all_passed : (s : Setting) (names : List (List ℕ)) (p : Progress) (n : ℕ) (old now : Option (List ℕ)) (here : IsHere s p n old now) → s.names ≡ names → n ≡ length names
     → HaveAllPassed s here.before
@@ -208,3 +263,15 @@ all_passed s names p n old now here are e =
     take-all : (xs : List (List ℕ)) → take (length xs) xs ≡ xs
     take-all [] = refl
     take-all (x ∷ xs) = ap (λ (ys : List (List ℕ)). x ∷ ys) (take-all xs)
+
+-- an error that is known
+pub err_is : {A E : Type 0} (r : Result A E) (P Q : E → Type 0) → IsErrAnd r P → ((e : E) → P e → Q e) → IfErr r Q
+err_is (Ok x) P Q h f = tt
+err_is (Err e) P Q h f = f e h
+
+-- an answer that is known
+pub ok_is : {A E : Type 0} (P : A → Type 0) (r : Result A E) (x : A) → r ≡ Ok x → IfOk r P → P x
+ok_is P r x e h = subst (λ z. IfOk z P) e h
+
+pub fault_is : {A E : Type 0} (P : E → Type 0) (r : Result A E) (e : E) → r ≡ Err e → IfErr r P → P e
+fault_is P r e is h = subst (λ z. IfErr z P) is h

@@ -1,6 +1,6 @@
 -- Counts and areas of parcels, added up.
 use Rattle.std.proofs.Common.{◌≡◌, ◌≤◌, ◌<◌, ◌∙◌, ◌++◌, ◌∷◌, ◌+◌, ◌*◌, ◌^◌, [], refl, sym, ap, ap₂, subst, arith, ℕ, ℤ, suc, List, All, Contains, codes, decimal, get_or, length, nat_abs, not, sum_by, take}
-use Rattle.std.proofs.lemmas.List.{length-append, length-take-le, take_more}
+use Rattle.std.proofs.lemmas.List.{length-append, take_more}
 use Rattle.std.proofs.lemmas.List.Elements.{All-cons, All-head, All-nil, All-tail, All-weaker}
 use Rattle.std.proofs.lemmas.List.Filters.{length-filter_both}
 use Rattle.std.proofs.lemmas.List.Sums.{sum_by-append, sum_by-cons}
@@ -18,8 +18,9 @@ use Rattle.lpis_commands.specs.Areas.{AreasOf}
 use Rattle.lpis_country.specs.Country.{IsRegion, country_of, is_new, new_parcels, with_region, with_regions}
 use Rattle.lpis_country.proofs.Shared.{country_is_region, country_snoc, fresh_pieces, old_pieces, pieces_add}
 use Rattle.lpis_country_run.specs.CountryLines.{country_lines, sums_text}
+use Rattle.lpis_country_run.proofs.PlaceLemmas.{as_many_places}
 use Rattle.lpis_country_run.specs.declared.totals.Totals.{Totals}
-use Rattle.lpis_country_run.specs.private.Totals.{AreAddable, AreTotalsOf, IsBounded, IsPrintable, count_text, last_lines, most_parcels, piece_count, totals_text}
+use Rattle.lpis_country_run.specs.private.Totals.{AreAddable, AreAt, AreTotalsOf, IsBounded, IsPrintable, count_text, last_lines, most_parcels, piece_count, totals_text}
 
 pieces-both : (n k j x y : ℕ) → j ≡ n + k → x ≤ most_rows * n → y ≤ most_rows * k → x + y ≤ most_rows * j
 pieces-both n k j x y a b c = omega arith
@@ -42,33 +43,12 @@ bounded_of r ks t a = record {
   weighted = subst (λ (n : ℕ). nat_abs t.areas.weighted ≤ most_weighted * n) (sym a.parcels) a.areas.weighted_small;
 }
 
--- those of no parcels
-pub totals_none : (r : Contents) (t : Totals) → t.parcels ≡ 0 → t.pieces ≡ 0 → AreasOf r [] t.areas → AreTotalsOf r [] t
-totals_none r t parcels pieces areas = record { parcels = parcels; pieces = pieces; pieces_few = omega (arith, pieces); areas = areas }
-
--- a parcel more can be added
-pub addable_one : (r : Contents) (ks : List Parcel) (i : ℕ) (k : Parcel) (s t : Totals) → i < length ks → length ks ≤ most_rows → AreTotalsOf r (take i ks) s → AreTotalsOf r (k ∷ []) t
-    → AreAddable s t
-addable_one r ks i k s t lt few a b = record {
-  first = bounded_of r (take i ks) s a;
-  second = bounded_of r (k ∷ []) t b;
-  few = omega (arith, length-take-le i ks (omega (arith, lt)), a.parcels, b.parcels, lt, few);
-}
-
--- and is
-pub totals_more : (r : Contents) (ks : List Parcel) (i : ℕ) (k : Parcel) (s t u : Totals) → i < length ks → k ≡ get_or ks i k
+-- a parcel more
+pub totals_more : (r : Contents) (ks : List Parcel) (i : ℕ) (k d : Parcel) (s t u : Totals) → i < length ks → k ≡ get_or ks i d
     → ((q : Contents) (ls ms : List Parcel) → AreTotalsOf q ls s → AreTotalsOf q ms t → AreTotalsOf q (ls ++ ms) u) → AreTotalsOf r (take i ks) s → AreTotalsOf r (k ∷ []) t
     → AreTotalsOf r (take (i + 1) ks) u
-totals_more r ks i k s t u lt is plus a b =
-    subst (λ (ls : List Parcel). AreTotalsOf r ls u) (ap (λ (x : Parcel). take i ks ++ x ∷ []) is ∙ sym (take_more ks i k lt)) (plus r (take i ks) (k ∷ []) a b)
-
--- all of them
-pub totals_all : (r : Contents) (ks : List Parcel) (i : ℕ) (t : Totals) → i ≡ length ks → AreTotalsOf r (take i ks) t → AreTotalsOf r ks t
-totals_all r ks i t e a = subst (λ (ls : List Parcel). AreTotalsOf r ls t) (ap (λ (n : ℕ). take n ks) e ∙ take-whole ks) a
-  where
-    take-whole : (xs : List Parcel) → take (length xs) xs ≡ xs
-    take-whole [] = refl
-    take-whole (x ∷ xs) = ap (λ (ys : List Parcel). x ∷ ys) (take-whole xs)
+totals_more r ks i k d s t u lt is plus a b =
+    subst (λ (ls : List Parcel). AreTotalsOf r ls u) (ap (λ (x : Parcel). take i ks ++ x ∷ []) is ∙ sym (take_more ks i d lt)) (plus r (take i ks) (k ∷ []) a b)
 
 -- the areas of as many parcels as a country can have are printed
 pub area_fits : (x y n k : ℕ) → x ≤ most_area * n → y ≤ most_area * k → n + k ≤ most_parcels → x + y ≤ most_printed
@@ -100,6 +80,17 @@ pub few_new : (u r : Contents) (n : ℕ) → length r.parcels ≤ n → length (
 few_new u r n few =
     let all = length-filter_both (λ (k : Parcel). is_new u k.id) (λ (k : Parcel). not (is_new u k.id)) (λ x. refl) r.parcels in
     omega (arith, all, few)
+
+-- so are their places, and their parcels can be added to those of a country
+pub few_places : (u r : Contents) (places : List ℕ) → AreAt r places (new_parcels u r) → length r.parcels ≤ most_rows → length places ≤ most_rows
+few_places u r places at few = let long = few_new u r most_rows few in let same = as_many_places r.parcels places (new_parcels u r) at in omega (arith, long, same)
+
+pub addable : (u r : Contents) (ks : List Parcel) (s t : Totals) → AreTotalsOf u ks s → AreTotalsOf r (new_parcels u r) t → length r.parcels ≤ most_rows → s.parcels + most_rows ≤ most_parcels → AreAddable s t
+addable u r ks s t a b few room = record {
+  first = bounded_of u ks s a;
+  second = bounded_of r (new_parcels u r) t b;
+  few = let long = few_new u r most_rows few in omega (arith, long, b.parcels, room);
+}
 
 -- each item of a list
 all-among : {A : Type 0} (xs : List A) (P : A → Type 0) → ((x : A) → Contains xs x → P x) → All P xs
@@ -168,5 +159,4 @@ totals_region r t region a = rw (a.parcels, a.pieces, pieces_add r region, a.are
 -- and of a country
 pub last_lines_are : (n m : ℕ) (u : Contents) (t : Totals) → IsRegion u → AreTotalsOf u u.parcels t → n ≡ m → last_lines n t ≡ country_lines m u
 unfolding count_text
-last_lines_are n m u t region a e =
-    ap₂ (λ (k : ℕ) (x : List ℕ). codes "country regions " ++ decimal k ++ x ++ codes "yes\n") e (totals_region u t region a)
+last_lines_are n m u t region a e = ap₂ (λ (k : ℕ) (x : List ℕ). codes "country regions " ++ decimal k ++ x ++ codes "yes\n") e (totals_region u t region a)

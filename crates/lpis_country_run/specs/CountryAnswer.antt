@@ -21,8 +21,8 @@ use Rattle.lpis_country_run.specs.CountryLines.{country_lines, plan_refusal_text
 use Rattle.lpis_country_run.specs.CountryLines.{region_report, seam_refusal_text}
 use Rattle.lpis_country_run.specs.Regions.{AreOfFolder, CountryInputs, IsCountry, Texts}
 
--- what is known before the first region is read: its files' bytes as far as they are known, by the
--- name of the folder; what is to be printed; the folders and tiles of the plan; the table of classes
+-- what is known before the first region is read: the bytes of each folder's files, as far as they
+-- are known; what is to be printed; the folders and tiles of the plan; the table of classes
 pub record Setting : Type 0 where
   pub texts : List ℕ → Texts
   pub detail : Detail
@@ -75,8 +75,8 @@ pub data HavePassed (s : Setting) : List (List ℕ) → List Contents → List �
       → HavePassed s (names ++ name ∷ []) (before ++ r ∷ [])
       (text ++ region_report s.detail (country_of s.classes before) name r)
 
--- what follows the regions that passed: where no folder is left the country's line and the yes, else
--- the line of the next region, which is refused
+-- what follows the regions that passed: where no folder is left the country's line and the yes,
+-- else the line of the next region, which is refused
 abbrev pub IsEnd : Setting → List Contents → List (List ℕ) → Answer → Type 0
 IsEnd s regions [] a =
     a ≡ (country_lines (length regions) (country_of s.classes regions), done)
@@ -115,8 +115,8 @@ IsCountryAnswer texts detail x =
     x.plan
 
 -- ---- the run
--- the run answered with this status, and wrote the text; a yes comes only for a country whose regions
--- make up a sound map
+-- the run answered with this status, and wrote the text; a yes comes only for a country whose
+-- regions make up a sound map
 pub record CountryEnds (texts : List ℕ → Texts) (detail : Detail) (x : CountryInputs) (status : ℕ)
     (old new : Option (List ℕ)) : Type 0 where
   pub text : List ℕ

@@ -59,8 +59,8 @@ IsWholeOrPart texts detail x text =
     ((left : List (List ℕ)) × IsCountryPart texts detail x text left)
     ⊎ ((status : ℕ) × IsCountryAnswer texts detail x (text, status))
 
--- after the lines of the regions that passed the next folder was not read, or memory ran out; or the
--- output failed after a beginning of what was to be written
+-- after the lines of the regions that passed the next folder was not read, or memory ran out; or
+-- the output failed after a beginning of what was to be written
 abbrev pub CountryBreaksOff : CountryFailure → (List ℕ → Texts) → Detail → CountryInputs
     → Option (List ℕ) → Option (List ℕ) → Type 0
 CountryBreaksOff f texts detail x old new =

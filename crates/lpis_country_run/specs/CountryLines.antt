@@ -52,8 +52,8 @@ country_lines n u = codes "country regions " ++ decimal n ++ sums_text u ++ code
 abbrev pub plan_refusal_text : ℕ → List ℕ
 plan_refusal_text line = codes "refused 90 country line " ++ decimal line ++ codes "\n"
 
--- of a region of this name that does not fit those before it: a row of its classes, or a parcel with
--- the region that it is about, by its number among these names
+-- of a region of this name that does not fit those before it: a row of its classes, or a parcel
+-- with the region that it is about, by its number among these names
 abbrev pub seam_refusal_text : List (List ℕ) → List ℕ → SeamFault → List ℕ
 seam_refusal_text names name seam.Memory = []
 seam_refusal_text names name (seam.Classes row) =

@@ -1,13 +1,14 @@
 //! The run over the regions of a country.
 
-ghost use Rattle.std.specs.Prelude.{◌≡◌, ◌<◌, [], IfErr, IfOk, List, get_or, length, map};
+ghost use Rattle.std.specs.Prelude.{◌≡◌, ◌<◌, [], IfErr, IfOk, List, get_or, length, map, ℕ};
 ghost use Rattle.std.specs.String.{string_bytes};
 ghost use Rattle.lpis_parcels.specs.Release.{Contents};
 ghost use Rattle.lpis_commands.specs.Status.{done};
+ghost use Rattle.lpis_commands.specs.declared.command.Detail.{Detail};
 ghost use Rattle.lpis_country_run.specs.CountryAnswer.{CountryEnds, Setting};
 ghost use Rattle.lpis_country_run.specs.CountryFailures.{CountryBreaksOff, CountryHalts};
-ghost use Rattle.lpis_country_run.specs.Regions.{AreCountryRead, CountryInputs};
-ghost use Rattle.lpis_country_run.specs.private.Beginning.{IsBegun};
+ghost use Rattle.lpis_country_run.specs.Regions.{AreCountryRead, CountryInputs, Texts};
+ghost use Rattle.lpis_country_run.specs.private.Beginning.{IsBegun, IsUnbegun};
 ghost use Rattle.lpis_country_run.specs.private.Progressing.{HaveAllPassed, IsAt, IsFailureOf};
 ghost use Rattle.lpis_country_run.specs.private.Progressing.{IsFinished, IsStart, IsUnfinished};
 ghost use Rattle.lpis_country_run.specs.private.Progressing.{RegionsBreakOff, RegionsEnd};
@@ -20,8 +21,9 @@ use crate::judging::pass;
 use crate::lines::report_country;
 use crate::progress::Progress;
 use crate::totals::Totals;
-use lpis_commands::{Detail, Failure};
+use lpis_commands::{Answer, Detail, Failure};
 use lpis_country_seam::OpenSeam;
+use lpis_country_seam::laws::a_country_of_joined_regions_is_sound;
 use std::alloc::Global;
 use std::io::{Read, Write};
 
@@ -91,10 +93,13 @@ fn run_regions<G: Regions, W: Write>(
             &mut progress,
             out,
         );
-        match passed {
-            Ok(None) => {}
-            Ok(Some(status)) => return Ok(status),
+        let status = match passed {
+            Ok(status) => status,
             Err(failure) => return Err(of_region(failure, names, index)),
+        };
+        match status {
+            Some(status) => return Ok(status),
+            None => {}
         }
     }
     Ok(finish(alloc, names.len(), &progress, out)?)
@@ -108,6 +113,7 @@ fn run_begun<G: Regions, W: Write>(
     detail: Detail,
     out: &mut W,
 ) -> Result<u8, CountryFailure>
+    requires { (x : CountryInputs) × IsBegun x begun }
     ensures ends { (x : CountryInputs) → IsBegun x begun → IfOk result (λ status.
         CountryEnds (G.texts regions.now) detail x status (W.contents out.old)
         (W.contents out.new)) }
@@ -124,7 +130,24 @@ fn run_begun<G: Regions, W: Write>(
         seam: OpenSeam::new(alloc, tiles, classes),
         totals: Totals::none(),
     };
+    // What all have passed is a sound map.
+    a_country_of_joined_regions_is_sound();
     run_regions(alloc, regions, names, progress, detail, out)
+}
+
+/// Writes the answer that refuses a country before its first region.
+fn write_refusal<W: Write>(answer: &Answer, out: &mut W) -> Result<u8, CountryFailure>
+    ensures ends { (texts : List ℕ → Texts) (detail : Detail) (x : CountryInputs)
+        → IsUnbegun x answer.now → IfOk result (λ status. CountryEnds texts detail x status
+        (W.contents out.old) (W.contents out.new)) }
+    ensures failure { (texts : List ℕ → Texts) (detail : Detail) (x : CountryInputs)
+        → IsUnbegun x answer.now → IfErr result (λ f. CountryBreaksOff f texts detail x
+        (W.contents out.old) (W.contents out.new)) }
+{
+    match answer.write_to(out) {
+        Ok(status) => Ok(status),
+        Err(failure) => Err(CountryFailure::from(failure)),
+    }
 }
 
 /// Checks a country, region by region, and prints what each region that passes has, and what all of
@@ -154,6 +177,6 @@ pub fn run_country<P: Read + Drop, K: Read + Drop, G: Regions, W: Write>(
     let top = read_top(alloc, country, classes)?;
     match begin(alloc, top)? {
         Ok(begun) => run_begun(alloc, regions, begun, detail, out),
-        Err(answer) => Ok(answer.write_to(out)?),
+        Err(answer) => write_refusal(&answer, out),
     }
 }

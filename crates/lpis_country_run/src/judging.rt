@@ -80,8 +80,8 @@ fn write_verdict<W: Write>(
     }
 }
 
-/// Reads and judges the region of this name, and writes what is printed of it. Some is the status of
-/// one that is refused.
+/// Reads and judges the region of this name, and writes what is printed of it. Some is the status
+/// of one that is refused.
 pub(crate) fn pass<G: Regions, W: Write>(
     alloc: Global,
     regions: &G,

@@ -1,5 +1,5 @@
-//! The run over the regions of a country: each is read, checked, tested against those before it, and
-//! let go before the next one.
+//! The run over the regions of a country: each is read, checked, tested against those before it,
+//! and let go before the next one.
 #![tactic(auto)]
 
 mod beginning;

@@ -13,7 +13,7 @@ use crate::refusals::refuse_seam;
 use crate::totals::{Totals, totals_at};
 use lpis_commands::{Answer, Detail};
 use lpis_country::is_region;
-use lpis_country_seam::{OpenSeam, SeamFault};
+use lpis_country_seam::OpenSeam;
 use lpis_parcels::Release;
 use std::alloc::{AllocError, Global};
 
@@ -49,7 +49,6 @@ pub(crate) fn follow(
             progress.totals = progress.totals.plus(totals);
             Ok(Ok(text))
         }
-        Err(SeamFault::Memory) => Err(AllocError),
         Err(fault) => Ok(Err(refuse_seam(alloc, names, name, &fault)?)),
     }
 }

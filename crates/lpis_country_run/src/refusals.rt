@@ -1,11 +1,11 @@
 //! The lines of a country that is refused.
 
-ghost use Rattle.std.specs.Prelude.{◌≡◌, [], IfOk, List, OnOk, get_or, map, ℕ};
+ghost use Rattle.std.specs.Prelude.{◌≡◌, ◌≢◌, [], IfOk, List, OnOk, get_or, map, ℕ};
 ghost use Rattle.std.specs.Io.KnownBytes.{Appends};
 ghost use Rattle.std.specs.String.{string_bytes};
 ghost use Rattle.lpis_commands.specs.Status.{refused, unreadable};
 ghost use Rattle.lpis_country_run.specs.CountryLines.{plan_refusal_text, seam_refusal_text};
-ghost use Rattle.lpis_country_seam.specs.declared.fault.SeamFault.TheVariants.{Classes};
+ghost use Rattle.lpis_country_seam.specs.declared.fault.SeamFault.TheVariants.{Classes, Memory};
 
 use lpis_commands::{Answer, PrintFault, REFUSED, UNREADABLE, print_region};
 use lpis_country_seam::SeamFault;
@@ -48,18 +48,19 @@ fn print_classes_fault<W: Write>(row: usize, name: &str, out: &mut W) -> Result<
 }
 
 /// Writes the line of a region of this name that does not fit those before it. Out of memory is no
-/// refusal, and has no line.
+/// refusal, and answered as such.
 fn print_seam_fault<W: Write>(
     names: &[String],
     name: &str,
     fault: &SeamFault,
     out: &mut W,
 ) -> Result<(), PrintFault>
-    ensures { OnOk result (Appends (W.contents out.old) (W.contents out.new)
+    ensures line { OnOk result (Appends (W.contents out.old) (W.contents out.new)
         (seam_refusal_text (map string_bytes names.now) name.now fault.now)) }
+    ensures refusal { OnOk result (fault.now ≢ Memory) }
 {
     match fault {
-        SeamFault::Memory => Ok(()),
+        SeamFault::Memory => Err(PrintFault::Memory),
         SeamFault::Classes { row } => print_classes_fault(*row, name, out),
         SeamFault::At { code, id, region } => {
             write!(out, "refused {} parcel {}", code.as_str(), id.as_str())?;
@@ -75,9 +76,10 @@ pub(crate) fn refuse_seam(
     name: &str,
     fault: &SeamFault,
 ) -> Result<Answer, AllocError>
-    ensures { IfOk result (λ a. (a.text.items
+    ensures line { IfOk result (λ a. (a.text.items
         ≡ seam_refusal_text (map string_bytes names.now) name.now fault.now)
         × (a.status ≡ refused)) }
+    ensures refusal { OnOk result (fault.now ≢ Memory) }
 {
     let mut text = Vec::new(alloc);
     match print_seam_fault(names, name, fault, &mut text) {

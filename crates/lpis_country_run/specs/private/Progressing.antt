@@ -54,8 +54,8 @@ pub record IsReady (p : Progress) : Type 0 where
   pub next : HasNext p.seam
   pub room : p.totals.parcels + most_rows ≤ most_parcels
 
--- a region that is a sound map came to this: the text of one that passes, or the answer to its first
--- fault
+-- a region that is a sound map came to this: the text of one that passes, or the answer to its
+-- first fault
 abbrev pub FollowsAs : Setting → List Contents → List ℕ → Contents → Progress
     → Result (Vec ℕ Global) Answer → Type 0
 FollowsAs s before name r p (Ok text) =
@@ -67,7 +67,8 @@ FollowsAs s before name r p (Err a) =
     × (a.text.items ≡ seam_refusal_text s.names name fault) × (a.status ≡ refused)
 
 -- the region of a folder came to this
-abbrev pub IsVerdict : Setting → List Contents → List ℕ → Progress → Result (Vec ℕ Global) Answer → Type 0
+abbrev pub IsVerdict : Setting → List Contents → List ℕ → Progress → Result (Vec ℕ Global) Answer
+    → Type 0
 IsVerdict s before name p (Ok text) =
     (r : Contents) × Passes s before name r
     × (text.items ≡ region_report s.detail (country_of s.classes before) name r)

@@ -95,7 +95,8 @@ fn faults_come_in_their_order(rt: HostRuntime) -> Result<(), Fail> {
         ),
         edited_case(
             &[],
-            "region east parcels 2 pieces 2 area 140.0000000 eligible 100.000000000\ncountry regions 2 parcels 3 pieces 3 area 240.0000000 eligible 200.000000000\nyes\n",
+            "region east parcels 2 pieces 2 area 140.0000000 eligible 100.000000000\n\
+            country regions 2 parcels 3 pieces 3 area 240.0000000 eligible 200.000000000\nyes\n",
             0,
         ),
     ] {
@@ -109,11 +110,16 @@ fn new_parcels_have_lines(rt: HostRuntime) -> Result<(), Fail> {
     let shelf = Shelf::new(rt.alloc(), &[], None)?;
     let mut out = Vec::new(rt.alloc());
     let answer = run(rt.alloc(), PLAN, CLASSES, &shelf, Detail::Parcels, &mut out);
-    let text = format!(in rt.alloc();
-        "{WEST_LINE}parcel A area 100.0000000 eligible 100.000000000\nparcel C area 40.0000000 eligible 0.000000000\nregion east parcels 2 pieces 2 area 140.0000000 eligible 100.000000000\nparcel B area 100.0000000 eligible 100.000000000\ncountry regions 2 parcels 3 pieces 3 area 240.0000000 eligible 200.000000000\nyes\n"
-    )?;
+    let text = "\
+        region west parcels 2 pieces 2 area 140.0000000 eligible 100.000000000\n\
+        parcel A area 100.0000000 eligible 100.000000000\n\
+        parcel C area 40.0000000 eligible 0.000000000\n\
+        region east parcels 2 pieces 2 area 140.0000000 eligible 100.000000000\n\
+        parcel B area 100.0000000 eligible 100.000000000\n\
+        country regions 2 parcels 3 pieces 3 area 240.0000000 eligible 200.000000000\n\
+        yes\n";
     match answer {
-        Ok(answer) => expect_answer(out.as_slice(), answer, text.as_str(), 0),
+        Ok(answer) => expect_answer(out.as_slice(), answer, text, 0),
         Err(_) => Err(Fail::new("a failure")),
     }
 }

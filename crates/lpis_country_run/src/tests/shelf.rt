@@ -19,17 +19,39 @@ pub static WEST_LINE: &str =
     "region west parcels 2 pieces 2 area 140.0000000 eligible 100.000000000\n";
 
 static WEST: [&str; 4] = [
-    "parcel,wkt\nA,\"POLYGON((0 0,10 0,10 10,0 10,0 0))\"\nC,\"POLYGON((8 20,12 20,12 30,8 30,8 20))\"\n",
-    "piece,parcel,class,wkt\na,A,G,\"POLYGON((0 0,10 0,10 10,0 10,0 0))\"\nc,C,W,\"POLYGON((8 20,12 20,12 30,8 30,8 20))\"\n",
+    "parcel,wkt\n\
+    A,\"POLYGON((0 0,10 0,10 10,0 10,0 0))\"\n\
+    C,\"POLYGON((8 20,12 20,12 30,8 30,8 20))\"\n",
+    "piece,parcel,class,wkt\n\
+    a,A,G,\"POLYGON((0 0,10 0,10 10,0 10,0 0))\"\n\
+    c,C,W,\"POLYGON((8 20,12 20,12 30,8 30,8 20))\"\n",
     "class,percent\nG,100\nW,0\n",
-    "lpis-cert 2\npiece a 2 0\nt 0 0 10000 0 10000 10000\nt 0 0 10000 10000 0 10000\npiece c 2 0\nt 8000 20000 12000 20000 12000 30000\nt 8000 20000 12000 30000 8000 30000\nparcel A 0\nparcel C 0\npairs 2\ns 0 1 2\ns 2 3 2\nend\n",
+    "lpis-cert 2\n\
+    piece a 2 0\n\
+    t 0 0 10000 0 10000 10000\n\
+    t 0 0 10000 10000 0 10000\n\
+    piece c 2 0\n\
+    t 8000 20000 12000 20000 12000 30000\n\
+    t 8000 20000 12000 30000 8000 30000\n\
+    parcel A 0\nparcel C 0\npairs 2\ns 0 1 2\ns 2 3 2\nend\n",
 ];
 
 static EAST: [&str; 4] = [
-    "parcel,wkt\nB,\"POLYGON((10 0,20 0,20 10,10 10,10 0))\"\nC,\"POLYGON((8 20,12 20,12 30,8 30,8 20))\"\n",
-    "piece,parcel,class,wkt\nb,B,G,\"POLYGON((10 0,20 0,20 10,10 10,10 0))\"\nc,C,W,\"POLYGON((8 20,12 20,12 30,8 30,8 20))\"\n",
+    "parcel,wkt\n\
+    B,\"POLYGON((10 0,20 0,20 10,10 10,10 0))\"\n\
+    C,\"POLYGON((8 20,12 20,12 30,8 30,8 20))\"\n",
+    "piece,parcel,class,wkt\n\
+    b,B,G,\"POLYGON((10 0,20 0,20 10,10 10,10 0))\"\n\
+    c,C,W,\"POLYGON((8 20,12 20,12 30,8 30,8 20))\"\n",
     "class,percent\nG,100\nW,0\n",
-    "lpis-cert 2\npiece b 2 0\nt 10000 0 20000 0 20000 10000\nt 10000 0 20000 10000 10000 10000\npiece c 2 0\nt 8000 20000 12000 20000 12000 30000\nt 8000 20000 12000 30000 8000 30000\nparcel B 0\nparcel C 0\npairs 2\ns 0 1 2\ns 2 3 2\nend\n",
+    "lpis-cert 2\n\
+    piece b 2 0\n\
+    t 10000 0 20000 0 20000 10000\n\
+    t 10000 0 20000 10000 10000 10000\n\
+    piece c 2 0\n\
+    t 8000 20000 12000 20000 12000 30000\n\
+    t 8000 20000 12000 30000 8000 30000\n\
+    parcel B 0\nparcel C 0\npairs 2\ns 0 1 2\ns 2 3 2\nend\n",
 ];
 
 /// An edit of the eastern region: the number of its file, a text and what replaces it.

@@ -1,6 +1,5 @@
-use Rattle.std.proofs.Common.{refl}
-use Rattle.lpis_country_run.proofs.TotalsLemmas.{totals_none}
+use Rattle.std.proofs.Common.{arith, refl}
 use Rattle.lpis_country_run.proofs.totals.Totals.none.Goals as goal
 
 pub returns : goal.returns
-returns c = λ r. totals_none r _ refl refl (c.none.ensures r)
+returns c = λ r. record { parcels = refl; pieces = refl; pieces_few = omega arith; areas = c.none.ensures r }
