@@ -1,6 +1,6 @@
 -- Writing a release that was accepted.
 use Rattle.std.proofs.Common.{◌≡◌, ◌≤◌, ◌∙◌, ℕ, pos, List, Result, Ok, Err, IsPermutation, refl, sym, subst, subst₂}
-use Rattle.lpis_register.proofs.Common.{Trees, State, Survives, survives_weaker, AreLive, Content, Entry, HoldsRegister, LeavesRegister, PublishFault}
+use Rattle.lpis_register.proofs.Common.{State, Survives, survives_weaker, AreLive, Content, Entry, HoldsRegister, LeavesRegister, PublishFault}
 use Rattle.lpis_register.proofs.Common.{Row, Shape, ShapesAre, StoredText, Tells, Whole, last_live}
 use Rattle.sqlite.specs.declared.error.Error.{Error}
 use Rattle.lpis_parcels.specs.declared.parcel.Parcel.{Parcel}
