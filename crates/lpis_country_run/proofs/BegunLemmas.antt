@@ -1,20 +1,16 @@
 -- The run over the regions of a plan, as that over a country.
-use Rattle.std.proofs.Common.{◌≡◌, ◌≤◌, ◌⊎◌, ◌∙◌, ◌++◌, [], refl, sym, ap, subst, arith, inl, inr, IfErr, IfOk, ℕ, List, Option, Result, Ok, Err, length, map}
+use Rattle.std.proofs.Common.{◌≡◌, ◌≤◌, ◌∙◌, [], refl, sym, ap, subst, arith, inl, inr, IfErr, IfOk, ℕ, List, Option, Result, Ok, Err, length, map}
 use Rattle.std.proofs.lemmas.List.{length-map}
-use Rattle.std.specs.Io.KnownBytes.{Appends}
 use Rattle.std.specs.String.{string_bytes}
 use Rattle.lpis_covers.specs.declared.class.Class.{Class}
 use Rattle.lpis_covers.specs.declared.fault.TableFault.{TableFault}
-use Rattle.lpis_covers.specs.Classes.{classes_table}
-use Rattle.lpis_covers.specs.Faults.{rows_of}
 use Rattle.lpis_parcels.specs.Release.{Contents}
 use Rattle.lpis_commands.specs.CheckAnswer.{Answer, IsTableAnswer}
 use Rattle.lpis_commands.specs.declared.command.Detail.{Detail}
 use Rattle.lpis_commands.specs.Status.{done}
-use Rattle.lpis_country.specs.Tiling.{frame, rectangles}
 use Rattle.lpis_country_plan.specs.Tree.{folders, tiling_of}
 use Rattle.lpis_country_seam.specs.Laws.{JoinedCountryIsSound}
-use Rattle.lpis_country_seam.specs.Open.{AreJoined, IsSeamOf}
+use Rattle.lpis_country_seam.specs.Open.{IsSeamOf}
 use Rattle.lpis_country_run.specs.declared.beginning.Begun.{Begun}
 use Rattle.lpis_country_run.specs.declared.failure.CountryFailure.{CountryFailure}
 use Rattle.lpis_country_run.specs.declared.progress.Progress.{Progress}

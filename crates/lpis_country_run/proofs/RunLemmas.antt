@@ -1,14 +1,11 @@
 -- How a run over regions goes on, and ends.
-use Rattle.std.proofs.Common.{◌≡◌, ◌<◌, ◌≤◌, ◌⊎◌, ◌∙◌, ◌++◌, ◌∷◌, ◌+◌, ◌*◌, [], refl, sym, ap, ap₂, subst, arith, inl, inr, IfErr, IfOk, IsErrAnd, OnOk, ℕ, List, All, Option, None, Some, Result, Ok, Err, Vec, drop, get_or, length, map, take}
+use Rattle.std.proofs.Common.{◌≡◌, ◌<◌, ◌≤◌, ◌⊎◌, ◌∙◌, ◌++◌, ◌∷◌, ◌+◌, ◌*◌, [], refl, sym, ap, ap₂, subst, arith, inl, inr, IfErr, IfOk, IsErrAnd, OnOk, ℕ, List, All, Option, None, Some, Result, Ok, Err, Vec, drop, get_or, length, take}
 use Rattle.std.proofs.Math.Seq.{take-append-add}
-use Rattle.std.proofs.lemmas.List.{append-nil, append_assoc, drop_more, length-append}
+use Rattle.std.proofs.lemmas.List.{append-nil, drop_more, length-append}
 use Rattle.std.proofs.lemmas.List.Elements.{All-head, All-tail}
 use Rattle.std.specs.Io.KnownBytes.{Appends, Keeps}
-use Rattle.std.specs.Option.{option_map}
-use Rattle.std.specs.String.{string_bytes}
 use Rattle.std.specs.declared.alloc.Global.{Global}
 use Rattle.lpis_commands.proofs.Shared.{appends-more}
-use Rattle.lpis_covers.specs.declared.class.Class.{Class}
 use Rattle.lpis_parcels.specs.Release.{Contents}
 use Rattle.lpis_commands.specs.declared.failure.Failure.{Failure}
 use Rattle.lpis_commands.specs.declared.failure.Failure.TheVariants.{Memory, Read, Write, Store}
@@ -28,7 +25,7 @@ use Rattle.lpis_country_seam.specs.declared.fault.SeamFault.TheVariants.{Memory 
 use Rattle.lpis_country_run.specs.declared.failure.CountryFailure.{CountryFailure}
 use Rattle.lpis_country_run.specs.declared.progress.Progress.{Progress}
 use Rattle.lpis_country_run.specs.declared.totals.Totals.{Totals}
-use Rattle.lpis_country_run.specs.CountryAnswer.{HavePassed, None as NonePassed, IsReachedBy, IsRefusedRegion, IsRegionsAnswer, Passes, Setting}
+use Rattle.lpis_country_run.specs.CountryAnswer.{HavePassed, None as NonePassed, IsReachedBy, IsRefusedRegion, IsRegionsAnswer, Setting}
 use Rattle.lpis_country_run.specs.CountryFailures.{IsOfNone, IsStoppedBefore, IsUnreadFolder}
 use Rattle.lpis_country_run.specs.CountryLines.{country_lines, region_report}
 use Rattle.lpis_country_run.specs.Regions.{AreOfFolder, Texts}

@@ -1,5 +1,5 @@
 -- Counts and areas of parcels, added up.
-use Rattle.std.proofs.Common.{◌≡◌, ◌≤◌, ◌<◌, ◌∙◌, ◌++◌, ◌∷◌, ◌+◌, ◌*◌, ◌^◌, [], refl, sym, ap, ap₂, subst, arith, ℕ, ℤ, suc, List, All, Contains, codes, decimal, get_or, length, nat_abs, not, sum_by, take}
+use Rattle.std.proofs.Common.{◌≡◌, ◌≤◌, ◌<◌, ◌∙◌, ◌++◌, ◌∷◌, ◌+◌, ◌*◌, ◌^◌, [], refl, sym, ap, ap₂, subst, arith, ℕ, suc, List, All, Contains, codes, decimal, get_or, length, nat_abs, not, take}
 use Rattle.std.proofs.lemmas.List.{length-append, take_more}
 use Rattle.std.proofs.lemmas.List.Elements.{All-cons, All-head, All-nil, All-tail, All-weaker}
 use Rattle.std.proofs.lemmas.List.Filters.{length-filter_both}

@@ -1,5 +1,5 @@
 -- The lines that are printed of a country.
-use Rattle.std.specs.Prelude.{◌++◌, ◌∷◌, [], ℕ, List, Option, Some, None, codes, get_or}
+use Rattle.std.specs.Prelude.{◌++◌, [], ℕ, List, Option, Some, codes, get_or}
 use Rattle.std.specs.Prelude.{length}
 use Rattle.std.specs.Fmt.{decimal}
 use Rattle.std.specs.List.{flat_map}
@@ -7,7 +7,6 @@ use Rattle.std.specs.Option.{option_map}
 use Rattle.std.specs.String.{string_bytes}
 use Rattle.lpis_points.specs.Sums.{int_sum_by}
 use Rattle.lpis_rings.specs.Area.{area2}
-use Rattle.lpis_parcels.specs.declared.parcel.Parcel.{Parcel}
 use Rattle.lpis_parcels.specs.Release.{Contents}
 use Rattle.lpis_parcels.specs.Weighted.{weighted2}
 use Rattle.lpis_commands.specs.declared.command.Detail.{Detail}

@@ -19,7 +19,7 @@ returns-in-Some-clause-answer g c = λ s start.
     let lt : c.loop-index.index < length names = omega (arith, long, c.loop-index-test.true, c.len-index-end.ensures) in
     let is = c.as_str.ensures.value ∙ ap string_bytes c.index.ensures ∙ sym (get_or-map string_bytes c.args.names.items c.loop-index.index _ [] inside) in
     is_refused s names c.loop-index.progress c.pass-passed.new.progress c.loop-index.index c.in-Some.status _ _ _ c.as_str.result.now here are lt is
-        (subst (λ o. IsWritten s here.before c.as_str.result.now c.pass-passed.new.progress (g.W.Write.contents c.loop-index.out) (g.W.Write.contents c.pass-passed.new.out) o) c.in-Some.is (c.in-Ok.ensures.written s here.before here.at run))
+    (subst (λ o. IsWritten s here.before c.as_str.result.now c.pass-passed.new.progress (g.W.Write.contents c.loop-index.out) (g.W.Write.contents c.pass-passed.new.out) o) c.in-Some.is (c.in-Ok.ensures.written s here.before here.at run))
 
 pub returns-in-Err-clause-failure : goal.returns-in-Err-clause-failure
 returns-in-Err-clause-failure g c = λ s start.
@@ -32,7 +32,7 @@ returns-in-Err-clause-failure g c = λ s start.
     let lt : c.loop-index.index < length names = omega (arith, long, c.loop-index-test.true, c.len-index-end.ensures) in
     let is = c.as_str.ensures.value ∙ ap string_bytes c.index.ensures ∙ sym (get_or-map string_bytes c.args.names.items c.loop-index.index _ [] inside) in
     breaks_off s names c.loop-index.progress c.loop-index.index _ _ _ c.as_str.result.now c.in-Err.failure c.of_region.result here are lt is (c.in-Err.ensures.failure s here.before here.at run)
-        (subst (λ name. IsFailureOf c.in-Err.failure name c.of_region.result) (sym is) c.of_region.ensures)
+    (subst (λ name. IsFailureOf c.in-Err.failure name c.of_region.result) (sym is) c.of_region.ensures)
 
 pub loop-index-preserved : goal.loop-index-preserved
 loop-index-preserved g c = λ s start.
@@ -45,7 +45,7 @@ loop-index-preserved g c = λ s start.
     let lt : c.loop-index.index < length names = omega (arith, long, c.loop-index-test.true, c.len-index-end.ensures) in
     let is = c.as_str.ensures.value ∙ ap string_bytes c.index.ensures ∙ sym (get_or-map string_bytes c.args.names.items c.loop-index.index _ [] inside) in
     goes_on s names c.loop-index.progress c.pass-passed.new.progress c.loop-index.index _ _ _ c.as_str.result.now here are lt is
-        (subst (λ o. IsWritten s here.before c.as_str.result.now c.pass-passed.new.progress (g.W.Write.contents c.loop-index.out) (g.W.Write.contents c.pass-passed.new.out) o) c.in-None.is (c.in-Ok.ensures.written s here.before here.at run))
+    (subst (λ o. IsWritten s here.before c.as_str.result.now c.pass-passed.new.progress (g.W.Write.contents c.loop-index.out) (g.W.Write.contents c.pass-passed.new.out) o) c.in-None.is (c.in-Ok.ensures.written s here.before here.at run))
 
 pub returns-in_err-finish-clause-failure : goal.returns-in_err-finish-clause-failure
 returns-in_err-finish-clause-failure g c = λ s start.
@@ -56,7 +56,7 @@ returns-in_err-finish-clause-failure g c = λ s start.
     let all : c.loop-index.index ≡ length names = omega (arith, long, c.loop-index-test.false, c.loop-index.auto.index-end, c.len-index-end.ensures) in
     let count : c.len.result ≡ length here.before = omega (arith, c.len.ensures, long, all, here.number) in
     err_is c.from_residual.result _ _ c.from_residual.ensures.1 (λ f of. all_break_off s names c.loop-index.progress c.loop-index.index _ _ _ c.in_err-finish.field-0.0 f here are all
-        (c.in_err-finish.ensures.failure s here.before here.at count) of)
+    (c.in_err-finish.ensures.failure s here.before here.at count) of)
 
 pub returns-clause-answer : goal.returns-clause-answer
 returns-clause-answer g c = λ s start.

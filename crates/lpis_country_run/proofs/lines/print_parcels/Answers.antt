@@ -1,4 +1,4 @@
-use Rattle.std.proofs.Common.{arith, get_or}
+use Rattle.std.proofs.Common.{arith}
 use Rattle.lpis_commands.proofs.Shared.{text-goes-on}
 use Rattle.lpis_commands.specs.Report.{parcel_line}
 use Rattle.lpis_country_run.proofs.PlaceLemmas.{as_many_places, place_there, same_place}

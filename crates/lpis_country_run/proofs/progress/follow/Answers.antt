@@ -25,8 +25,8 @@ totals_at-totals-requires-clause-few c =
     let ready = c.requires.ready in
     let country = country_of ready.setting.classes ready.before in
     few_places country c.args.release.now c.as_slice-in-Ok.result.now
-        (same_places c.args.release.now c.as_slice-in-Ok.result.now c.in-Ok.places.items (new_parcels country c.args.release.now) c.as_slice-in-Ok.ensures.value
-        (c.in-Ok.ensures.new ready.setting.tiles ready.setting.classes ready.before ready.at.seam)) c.parcels.ensures.few
+    (same_places c.args.release.now c.as_slice-in-Ok.result.now c.in-Ok.places.items (new_parcels country c.args.release.now) c.as_slice-in-Ok.ensures.value
+    (c.in-Ok.ensures.new ready.setting.tiles ready.setting.classes ready.before ready.at.seam)) c.parcels.ensures.few
 
 pub plus-progress-requires : goal.plus-progress-requires
 plus-progress-requires c =
@@ -34,8 +34,8 @@ plus-progress-requires c =
     let country = country_of ready.setting.classes ready.before in
     let news = new_parcels country c.args.release.now in
     addable country c.args.release.now country.parcels c.args.progress.now.totals c.totals_at-totals.result ready.at.totals
-        (c.totals_at-totals.ensures news (same_places c.args.release.now c.as_slice-in-Ok.result.now c.in-Ok.places.items news c.as_slice-in-Ok.ensures.value
-        (c.in-Ok.ensures.new ready.setting.tiles ready.setting.classes ready.before ready.at.seam))) c.parcels.ensures.few ready.room
+    (c.totals_at-totals.ensures news (same_places c.args.release.now c.as_slice-in-Ok.result.now c.in-Ok.places.items news c.as_slice-in-Ok.ensures.value
+    (c.in-Ok.ensures.new ready.setting.tiles ready.setting.classes ready.before ready.at.seam))) c.parcels.ensures.few ready.room
 
 pub returns-in_ok-text-in-Ok : goal.returns-in_ok-text-in-Ok
 returns-in_ok-text-in-Ok c = λ s before at of.
@@ -45,15 +45,15 @@ returns-in_ok-text-in-Ok c = λ s before at of.
     let places = c.in-Ok.ensures.new s.tiles s.classes before at.seam in (
       c.in-Ok.ensures.reports s.tiles s.classes before at.seam,
       c.in_ok-text-in-Ok.ensures country (same_places r c.as_slice.result.now c.in-Ok.places.items news c.as_slice.ensures.value places)
-      ∙ ap (λ (d : Detail). region_report d country c.args.name.now r) (sym of.detail_is),
+          ∙ ap (λ (d : Detail). region_report d country c.args.name.now r) (sym of.detail_is),
       goes_at s before r c.args.progress.now (record { seam = c.step.new.self; totals = c.plus-progress.result }) c.totals_at-totals.result at (c.in-Ok.ensures.goes_on s.tiles s.classes before at.seam)
           c.parcels.ensures.few (c.totals_at-totals.ensures news (same_places r c.as_slice-in-Ok.result.now c.in-Ok.places.items news c.as_slice-in-Ok.ensures.value places)) c.plus-progress.ensures,
     )
 
 pub returns-in_ok-refuse_seam-in-Err : goal.returns-in_ok-refuse_seam-in-Err
 returns-in_ok-refuse_seam-in-Err c = λ s before at of. (
-      c.in-Err.fault,
-      first_of (seam_faults s.tiles s.classes before c.args.release.now) c.in-Err.fault (c.in-Err.ensures.reports s.tiles s.classes before at.seam) c.in_ok-refuse_seam-in-Err.ensures.refusal,
-      c.in_ok-refuse_seam-in-Err.ensures.line.0 ∙ ap (λ (names : List (List ℕ)). seam_refusal_text names c.args.name.now c.in-Err.fault) (sym of.names_are),
-      c.in_ok-refuse_seam-in-Err.ensures.line.1,
-    )
+  c.in-Err.fault,
+  first_of (seam_faults s.tiles s.classes before c.args.release.now) c.in-Err.fault (c.in-Err.ensures.reports s.tiles s.classes before at.seam) c.in_ok-refuse_seam-in-Err.ensures.refusal,
+  c.in_ok-refuse_seam-in-Err.ensures.line.0 ∙ ap (λ (names : List (List ℕ)). seam_refusal_text names c.args.name.now c.in-Err.fault) (sym of.names_are),
+  c.in_ok-refuse_seam-in-Err.ensures.line.1,
+)

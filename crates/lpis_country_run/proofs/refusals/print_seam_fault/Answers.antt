@@ -9,4 +9,4 @@ pub returns-in-Classes-clause-line : goal.returns-in-Classes-clause-line
 returns-in-Classes-clause-line g c =
     let names = map string_bytes c.args.names.now in
     subst (λ (f : SeamFault). OnOk c.print_classes_fault.result (Appends (g.W.Write.contents c.args.out.now) (g.W.Write.contents c.print_classes_fault.new.out)
-        (seam_refusal_text names c.args.name.now f))) (sym c.in-Classes.is) (c.print_classes_fault.ensures names)
+    (seam_refusal_text names c.args.name.now f))) (sym c.in-Classes.is) (c.print_classes_fault.ensures names)

@@ -17,4 +17,4 @@ loop-count-preserved c = λ ks at.
     let k = c.parcel_at-parcel.result.now in
     let there = as_many_places r.parcels places ks at in
     totals_more r ks i k k c.loop-count.totals c.parcel_totals.result c.plus-totals.result (omega (arith, there, c.loop-count-test.true))
-        (same_place r.parcels places ks i 0 k at c.loop-count-test.true c.parcel_at-parcel.ensures.parcel) c.plus-totals.ensures (c.loop-count.invariant ks at) c.parcel_totals.ensures
+    (same_place r.parcels places ks i 0 k at c.loop-count-test.true c.parcel_at-parcel.ensures.parcel) c.plus-totals.ensures (c.loop-count.invariant ks at) c.parcel_totals.ensures
