@@ -39,7 +39,7 @@ class Land:
         self.source, self.numbers, self.boxes, self.covers = source, {}, parting.Boxes(), 0
         faults = Faults()
         say(f"reading the parcels of {source.path}")
-        for row, name, wkt, _ in Stream(source, "parcels", ["parcel", "wkt"]):
+        for row, (name, wkt), _ in Stream(source, "parcels", ["parcel", "wkt"]):
             box = box_of(wkt)
             if box is None:
                 faults.add(f"parcels.csv row {row}: parcel {name}: its wkt is no polygon in range")
@@ -49,7 +49,7 @@ class Land:
                 self.numbers[name] = len(self.boxes)
                 self.boxes.add(box)
         say(f"reading the pieces of {len(self.boxes)} parcels")
-        for row, name, wkt, _ in Stream(source, "covers", ["parcel", "wkt"]):
+        for row, (name, wkt), _ in Stream(source, "covers", ["parcel", "wkt"]):
             number = self.numbers.get(name)
             if number is None:
                 faults.add(f"covers.csv row {row}: its parcel {name} is in no row of parcels.csv")

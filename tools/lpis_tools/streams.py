@@ -1,6 +1,8 @@
 """Tables of any size, record by record, each with its lines as they are written; of a folder, or of a database with PostGIS."""
 
 import csv
+import itertools
+import operator
 import os
 import subprocess
 
@@ -53,21 +55,17 @@ class Postgis:
 
 def records(lines):
     """Each record that is not blank, with its lines."""
-    taken = []
-
-    def fed():
-        for line in lines:
-            taken.append(line)
-            yield line
-
-    for record in csv.reader(fed()):
+    lines, again = itertools.tee(lines)
+    reader, before = csv.reader(lines), 0
+    for record in reader:
+        count, before = reader.line_num - before, reader.line_num
+        raw = next(again) if count == 1 else "".join(itertools.islice(again, count))
         if record:
-            yield record, "".join(taken)
-        taken.clear()
+            yield record, raw
 
 
 class Stream:
-    """A table: its header as it is written, and then its rows, the fields wanted and the lines. Rows are numbered from 1."""
+    """A table: its header as it is written, and then its rows: the number, from 1, the fields wanted (one, or a tuple), and the lines."""
 
     def __init__(self, source, name, wanted):
         self.name, self.wanted, self.records = name, wanted, records(source.lines(name))
@@ -83,10 +81,11 @@ class Stream:
         self.places = [names.index(column) for column in wanted]
 
     def __iter__(self):
+        width, fields = self.width, operator.itemgetter(*self.places)
         for row, (record, raw) in enumerate(self.records, 1):
-            if len(record) != self.width:
-                raise Trouble(f"{self.name}.csv row {row}: {len(record)} fields, and the header has {self.width}")
-            yield row, *(record[place] for place in self.places), raw
+            if len(record) != width:
+                raise Trouble(f"{self.name}.csv row {row}: {len(record)} fields, and the header has {width}")
+            yield row, fields(record), raw
 
 
 def columns_of(name, names):
