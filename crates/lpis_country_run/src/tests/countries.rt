@@ -6,6 +6,7 @@ use lpis_testing::expect_answer;
 use std::test::Fail;
 
 /// What is answered of a plan, a table of classes and edits of the eastern region.
+#[derive(Clone, Copy)]
 struct Case<'a> {
     plan: &'a str,
     classes: &'a str,
