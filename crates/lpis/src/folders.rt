@@ -1,7 +1,7 @@
 //! The folders of a country's regions, as files.
 
-use crate::open;
-use lpis_commands::{Failure, region_files};
+use crate::open_at;
+use lpis_commands::{Failure, Name, region_files};
 use lpis_country_run::{Folder, Regions};
 use std::fs::File;
 
@@ -29,10 +29,10 @@ impl Regions for Folders<'_> {
 
     fn open(&self, name: &str) -> Result<Folder<File>, Failure> {
         let files = region_files(self.rt.alloc(), self.dir, name)?;
-        let parcels = open(self.rt, &files.tables.parcels)?;
-        let covers = open(self.rt, &files.tables.covers)?;
-        let classes = open(self.rt, &files.tables.classes)?;
-        let cert = open(self.rt, &files.cert)?;
+        let parcels = open_at(self.rt, files.tables.parcels.path.as_str(), Name::Parcels)?;
+        let covers = open_at(self.rt, files.tables.covers.path.as_str(), Name::Covers)?;
+        let classes = open_at(self.rt, files.tables.classes.path.as_str(), Name::Classes)?;
+        let cert = open_at(self.rt, files.cert.path.as_str(), Name::Cert)?;
         Ok(Folder {
             parcels,
             covers,

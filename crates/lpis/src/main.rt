@@ -4,12 +4,15 @@
 mod created;
 mod folders;
 
+ghost use Rattle.std.specs.Prelude.{◌≡◌, IfErr};
+ghost use Rattle.lpis_commands.specs.declared.failure.Failure.TheVariants.{Read};
+
 use clap::error::ErrorKind;
 use created::Created;
 use folders::Folders;
 use lpis_commands::{
-    Cmd, CommandFiles, Detail, FAILED, Failure, NamedFile, TableFiles, command_of, named_files,
-    print_failure, run_area, run_check, run_cut, status_of, usage_ends,
+    Cmd, CommandFiles, Detail, FAILED, Failure, Name, NamedFile, TableFiles, command_of,
+    named_files, print_failure, run_area, run_check, run_cut, status_of, usage_ends,
 };
 use lpis_country_run::{print_country_failure, run_country};
 use lpis_gate::{refuse_register, run_exact, run_publish, run_trace};
@@ -214,12 +217,19 @@ fn close(register: FileRegister) {
     let _ = register.into_connection().close();
 }
 
-/// Opens an input, or reports that it cannot be read.
-pub(crate) fn open(rt: &HostRuntime, input: &NamedFile) -> Result<File, Failure> {
-    match fs::open(rt, input.path.as_str()) {
+/// Opens the file at a path, or reports by this name that it cannot be read.
+pub(crate) fn open_at(rt: &HostRuntime, path: &str, name: Name) -> Result<File, Failure>
+    ensures { IfErr result (λ failure. failure ≡ Read name) }
+{
+    match fs::open(rt, path) {
         Ok(file) => Ok(file),
-        Err(_) => Err(Failure::Read(input.name)),
+        Err(_) => Err(Failure::Read(name)),
     }
+}
+
+/// Opens an input, or reports that it cannot be read.
+fn open(rt: &HostRuntime, input: &NamedFile) -> Result<File, Failure> {
+    open_at(rt, input.path.as_str(), input.name)
 }
 
 /// Opens the tables of a release, or reports the first that cannot be read.
