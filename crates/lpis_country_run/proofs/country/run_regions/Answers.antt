@@ -2,11 +2,18 @@ use Rattle.std.proofs.Common.{◌≡◌, ◌<◌, ◌∙◌, [], ap, arith, leng
 use Rattle.std.proofs.lemmas.List.{get_or-map, length-map}
 use Rattle.std.specs.String.{string_bytes}
 use Rattle.lpis_country_run.specs.private.Progressing.{AreOfRun, IsFailureOf, IsWritten}
-use Rattle.lpis_country_run.proofs.RunLemmas.{all_break_off, all_end, all_passed, begun_here, breaks_off, err_is, goes_on, is_refused}
+use Rattle.lpis_country_run.proofs.RunLemmas.{all_break_off, all_end, all_passed, begun_here, breaks_off, err_is, goes_on, is_refused, ready}
 use Rattle.lpis_country_run.proofs.country.run_regions.Goals as goal
 
 pub loop-index-init : goal.loop-index-init
 loop-index-init g c = λ s start. begun_here s (g.G.Regions.texts c.args.regions.now) (map string_bytes c.args.names.items) c.args.detail c.args.progress (g.W.Write.contents c.args.out.now) start
+
+pub pass-passed-requires : goal.pass-passed-requires
+pass-passed-requires g c =
+    let names = map string_bytes c.args.names.items in
+    let long = length-map c.args.names.items string_bytes in
+    let lt : c.loop-index.index < length names = omega (arith, long, c.loop-index-test.true, c.len-index-end.ensures) in
+    ready c.requires.0 _ names _ _ c.loop-index.progress c.loop-index.index _ _ c.requires.1 (c.loop-index.invariant c.requires.0 c.requires.1) lt
 
 pub returns-in-Some-clause-answer : goal.returns-in-Some-clause-answer
 returns-in-Some-clause-answer g c = λ s start.
