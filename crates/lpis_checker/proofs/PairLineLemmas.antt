@@ -8,7 +8,7 @@ use Rattle.lpis_parcels.proofs.Shared.{item-within}
 use Rattle.lpis_pairs.specs.NearPairs.{IsNear, IsNearList, IsBelow}
 use Rattle.lpis_checker.specs.declared.condition.Site.TheVariants as site
 use Rattle.lpis_checker.specs.GoodCertificate.{ConditionHolds, IsNamedPair, IsInOrder}
-use Rattle.lpis_checker.specs.private.Searches.{AreInOrder}
+use Rattle.lpis_checker.specs.private.Searches.{AreLinesInOrder}
 
 -- ---- the order of pairs
 below_trans : (a b c d e f : ℕ) → IsBelow a b c d → IsBelow c d e f → IsBelow a b e f
@@ -22,7 +22,7 @@ below_not a b c d (inl h) e f = omega arith
 below_not a b c d (inr h) e f = let k = h.1 in omega arith
 
 -- the lines ascend
-lines_ascend : (c : Cert) → AreInOrder c → (k m : ℕ) (p q : PairLine) → k < m → slice_get c.pairs k ≡ Some p → slice_get c.pairs m ≡ Some q → IsBelow p.i p.j q.i q.j
+lines_ascend : (c : Cert) → AreLinesInOrder c → (k m : ℕ) (p q : PairLine) → k < m → slice_get c.pairs k ≡ Some p → slice_get c.pairs m ≡ Some q → IsBelow p.i p.j q.i q.j
 lines_ascend c h k zero p q l e f = absurd (omega arith)
 lines_ascend c h k (suc m) p q l e f = by (split l) (λ x w g. lines_ascend c h k m p x w e g)
   where
@@ -119,7 +119,7 @@ walk_all r c ts near numbered law at k l w i j n =
     below m g = omega arith
 
 -- a near pair that the line at the next index doesn't name is the first that none names
-pub walk_fault : (r : Contents) (c : Cert) (ts : List Triangle) (near : List (ℕ × ℕ)) → AreInOrder c → ts ≡ triangles_of c.pieces → IsNearList ts near
+pub walk_fault : (r : Contents) (c : Cert) (ts : List Triangle) (near : List (ℕ × ℕ)) → AreLinesInOrder c → ts ≡ triangles_of c.pieces → IsNearList ts near
     → (from at k : ℕ) (p : ℕ × ℕ) → WalkAt c near from k → slice_get near k ≡ Some p → Skips c from at p.0 p.1 → (NamesAt c.pairs at p.0 p.1 → ⊥)
     → (ConditionHolds r c (site.Pair p.0 p.1) → ⊥) × ((i j : ℕ) → IsBelow i j p.0 p.1 → ConditionHolds r c (site.Pair i j))
 walk_fault r c ts near ordered numbered law from at k p w e s not = (fails, pair_earlier)

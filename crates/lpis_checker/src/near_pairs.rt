@@ -4,7 +4,7 @@ ghost use Rattle.std.specs.Prelude.{◌≡◌, ◌↔◌, ◌<◌, ◌≤◌, �
 ghost use Rattle.lpis_cert.specs.declared.part.PairLine.{PairLine};
 ghost use Rattle.lpis_pairs.specs.NearPairs.{IsBelow, IsNearList};
 ghost use Rattle.lpis_checker.specs.GoodCertificate.{triangles_of};
-ghost use Rattle.lpis_checker.specs.private.Searches.{AreInOrder, FindsPair};
+ghost use Rattle.lpis_checker.specs.private.Searches.{AreLinesInOrder, FindsPair};
 
 use crate::lines::is_before;
 use lpis_cert::{Cert, PairLine};
@@ -53,7 +53,7 @@ pub(crate) fn unnamed_pair(
     triangles: &[Triangle],
     near: &[(u32, u32)],
 ) -> Option<(u32, u32)>
-    requires ordered { AreInOrder cert.now }
+    requires ordered { AreLinesInOrder cert.now }
     requires numbered { triangles.now ≡ triangles_of cert.now.pieces }
     requires near { IsNearList triangles.now near.now }
     ensures { FindsPair release.now cert.now result }

@@ -24,8 +24,8 @@ FindsPair r c o = MatchOption o ((i j : ℕ) → ConditionHolds r c (site.Pair i
     × ((i j : ℕ) → IsBelow i j p.0 p.1 → ConditionHolds r c (site.Pair i j)))
 
 -- each pair line is in order
-abbrev pub AreInOrder : Cert → Type 0
-AreInOrder c = (k : ℕ) → OfLine c k (IsInOrder c k)
+abbrev pub AreLinesInOrder : Cert → Type 0
+AreLinesInOrder c = (k : ℕ) → OfLine c k (IsInOrder c k)
 
 -- the search that looks at a site, in their order
 abbrev pub search_of : Site → ℕ
