@@ -25,10 +25,7 @@ fn files_of(alloc: Global, tables: &str) -> Result<Image, Fail> {
     Ok(left_of(alloc, closed(database))?.written)
 }
 
-/// Fails unless a run can be stopped in each of its files, and each stop leaves what it may. There
-/// are 527 stops in all: 119 of the log and 8 of the database file in publishing, 69 and 33 with a
-/// short log, 23 and 14 in making all tables, 87 and 8 in making that of marks, and 75 and 8 in
-/// moving from each older version.
+/// Fails unless a run can be stopped in each of its files, and each stop leaves what it may.
 fn expect_stops(alloc: Global, run: &Run<'_>) -> Result<(), Fail> {
     for of_log in [true, false] {
         if stops(alloc, run, of_log)? == 0 {
