@@ -76,7 +76,8 @@ class At(Exception):
 
 
 class Plan:
-    """The folders and their tiles, each least x and y and greatest x and y, read as a tree."""
+    """The folders and their tiles, each least x and y and greatest x and y, read as a tree. A tile ends at the least of the lines that it lies
+    before, and begins at the greatest of those that it lies behind: where that is not the lesser one, it has no land."""
 
     def __init__(self, text):
         self.lines, self.next, self.folders, self.names, self.tiles = text.split("\n"), 0, [], set(), []
@@ -99,7 +100,7 @@ class Plan:
         if cut and -FAR <= int(cut[2]) <= FAR:
             side, value = "xy".index(cut[1]), int(cut[2])
             low, high = list(tile), list(tile)
-            low[side + 2], high[side] = value, value
+            low[side + 2], high[side] = min(value, tile[side + 2]), max(value, tile[side])
             self.tree(tuple(low))
             self.tree(tuple(high))
             return

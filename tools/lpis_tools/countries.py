@@ -16,11 +16,12 @@ def rows_of(folder, name):
 
 
 def extent(box):
-    """A tile in metres; its outer sides are open."""
+    """A tile in metres; its outer sides are open. Lines in the wrong order leave one without land."""
     def side(value):
         return "any" if abs(value) > tiles.FAR else polygons.metres(value)
 
-    return f"x {side(box[0])} to {side(box[2])}, y {side(box[1])} to {side(box[3])}"
+    is_land = box[0] < box[2] and box[1] < box[3]
+    return f"x {side(box[0])} to {side(box[2])}, y {side(box[1])} to {side(box[3])}{'' if is_land else ': no land, by the order of the lines of country.txt'}"
 
 
 class OfCountry:

@@ -43,8 +43,8 @@ class Tiling:
                 found.append(box)
                 continue
             side = 0 if kind == "x" else 1
-            waiting.append((*box[:side], cut, *box[side + 1 :]))
-            waiting.append((*box[: side + 2], cut, *box[side + 3 :]))
+            waiting.append((*box[:side], max(cut, box[side]), *box[side + 1 :]))
+            waiting.append((*box[: side + 2], min(cut, box[side + 2]), *box[side + 3 :]))
         return found
 
     def met(self, box):
