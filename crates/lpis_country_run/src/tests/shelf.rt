@@ -1,4 +1,4 @@
-//! The folders of two regions, in memory.
+//! The folders of two regions and of one without parcels, in memory.
 
 use crate::country::run_country;
 use crate::failure::CountryFailure;
@@ -9,7 +9,7 @@ use std::alloc::Global;
 use std::test::Fail;
 
 /// The plan: the regions meet where x is ten metres.
-pub static PLAN: &str = "lpis-country 1\nx 10000\nregion west\nregion east\n";
+pub const PLAN: &str = "lpis-country 1\nx 10000\nregion west\nregion east\n";
 
 /// The classes of both.
 pub static CLASSES: &str = "class,percent\nG,100\nW,0\n";
@@ -54,6 +54,14 @@ static EAST: [&str; 4] = [
     parcel B 0\nparcel C 0\npairs 2\ns 0 1 2\ns 2 3 2\nend\n",
 ];
 
+/// A region without parcels.
+static EMPTY: [&str; 4] = [
+    "parcel,wkt\n",
+    "piece,parcel,class,wkt\n",
+    "class,percent\nG,100\nW,0\n",
+    "lpis-cert 2\npairs 0\nend\n",
+];
+
 /// An edit of the eastern region: the number of its file, a text and what replaces it.
 pub type Edit<'a> = (usize, &'a str, &'a str);
 
@@ -69,7 +77,7 @@ fn edited_file(alloc: Global, file: usize, edits: &[Edit<'_>]) -> Result<String,
     Ok(text)
 }
 
-/// Two folders, of which a file of the eastern one may fail after so many bytes.
+/// The folders, of which a file of the eastern one may fail after so many bytes.
 #[derive(Drop)]
 pub struct Shelf {
     parcels: String,
@@ -117,6 +125,7 @@ impl<'a> Regions for &'a Shelf {
     fn open(&self, name: &str) -> Result<Folder<Halting<'a>>, Failure> {
         match name {
             "west" => Ok(folder_of(WEST, None)),
+            "empty" => Ok(folder_of(EMPTY, None)),
             "east" => Ok(folder_of(
                 [
                     self.parcels.as_str(),
