@@ -10,11 +10,11 @@ import os
 from collections import Counter
 from dataclasses import dataclass
 
-from shapely.geometry import mapping
+from shapely.geometry import Point, mapping
 from shapely.ops import unary_union
 from shapely.validation import explain_validity, make_valid
 
-from . import drawing, land, sheets
+from . import drawing, identifiers, land, sheets
 from .rounding import Tree, shape_of
 
 WIDE = 0.02  # metres: a conflict of this width is a fault of the source
@@ -22,25 +22,27 @@ ROUNDING = 0.000_001  # metres: of doubles
 LEAST = 0.001  # metres: conflicts that are narrower are not told
 MOST_TOLD = 20
 MOST_ROWS = 100_000
+ORDER = ("lost", "doubled", "identifier", "stranger", "invalid", "overlap", "gap", "outside", "changed", "unseen")
 
 
 @dataclass
 class Loss:
     """Something to look at."""
 
-    kind: str  # lost, doubled, stranger, invalid, overlap, gap, outside, changed
+    kind: str  # one of ORDER
     names: list
     words: str
     shape: object = None  # of Shapely, in metres
     width: float | None = None
     area: float | None = None
     layer: str = ""
+    stays: bool = False  # in the tables too
 
     def is_wide(self):
         return self.width is not None and self.width >= WIDE - ROUNDING
 
     def stops(self):
-        return self.kind in ("lost", "doubled", "stranger", "invalid") or self.is_wide()
+        return self.kind in ("lost", "doubled", "identifier", "stranger", "invalid") or self.is_wide() or self.stays
 
     def place(self):
         if self.shape is None or self.shape.is_empty:
@@ -81,7 +83,7 @@ class Source:
     """The shapes of a land, each made valid where it is not."""
 
     def __init__(self, layers):
-        self.losses, self.layers = [], layers
+        self.losses, self.layers, self.invalid = [], layers, set()
         self.parcels = self.valid(layers.get("parcels"), "parcel")
         self.covers = self.valid(layers["covers"], "piece")
         self.pieces_of = {}
@@ -97,17 +99,23 @@ class Source:
             if not shape.is_valid:
                 why, mended = explain_validity(shape), mended_of(shape)
                 self.losses.append(Loss("invalid", [row[column]], f"{why}; mended it has {mended.area:.3f} m2, by its points {shape.area:.3f}", mended, None, None, layer.name))
+                self.invalid.add(id(row))
                 shape = mended
             if not shape.is_empty:
                 told.append((row, shape))
         return told
 
 
-def find_doubled(source):
+def find_names(source):
+    """Rows whose names do not do: several of one identifier, none that is an identifier, a parcel that is not there."""
     for name, column in (("parcels", "parcel"), ("covers", "piece")):
         if name in source.layers:
             counts = Counter(row[column] for row in source.layers[name].rows)
             source.losses += [Loss("doubled", [who], f"{count} rows have this identifier", layer=name) for who, count in counts.items() if count > 1]
+    for name, column in (("parcels", "parcel"), ("covers", "piece"), ("covers", "class")):
+        counts = Counter(row[column] for row in source.layers[name].rows) if name in source.layers else {}
+        source.losses += [Loss("identifier", [who], f"this {column} is no identifier, in {count} row{'s' * (count > 1)}: lpis refuses it (33)", layer=name)
+                          for who, count in counts.items() if not identifiers.is_one(who)]
     if "parcels" in source.layers:
         known = {row["parcel"] for row in source.layers["parcels"].rows}
         source.losses += [Loss("stranger", [row["piece"], row["parcel"]], "the piece names a parcel that is not there", shape, layer="covers")
@@ -166,9 +174,25 @@ def find_lost(source, out):
     return len(parcels), len(covers)
 
 
+def find_staying(source, out):
+    """Overlaps that the tables have too, as GRASS leaves them: no yes comes of these tables, however narrow the overlap is."""
+    covers, shapes = written(out, "covers", "piece"), {}
+    for loss in source.losses:
+        if loss.kind != "overlap" or len({*loss.names} & set(covers)) < 2:
+            continue
+        for name in loss.names:
+            if name not in shapes:
+                shape = shape_of(sheets.polygons_of(covers[name]))
+                shapes[name] = shape if shape.is_valid else mended_of(shape)
+        if all(shapes[name].contains(Point(loss.place())) for name in loss.names):
+            loss.stays, loss.words = True, "both pieces have this place, in the tables too: lpis refuses them"
+
+
 def why_lost(source, name, row):
     if row.found is None:
         return row.why
+    if id(row) in source.invalid and name == "covers":
+        return "its shape is invalid"
     if name == "parcels":
         return "other parcels' pieces have its whole place" if row["parcel"] in source.pieces_of else "no piece names it"
     return "narrower than a millimetre, or other pieces have its whole place"
@@ -177,12 +201,12 @@ def why_lost(source, name, row):
 def find_all(layers, out, say):
     """All losses, the gravest first, and how many rows there were and are."""
     source = Source(layers)
-    find_doubled(source)
+    find_names(source)
     find_conflicts(source, say)
     say("changes of parcels")
     found = find_lost(source, out)
-    order = {kind: number for number, kind in enumerate(("lost", "doubled", "stranger", "invalid", "overlap", "gap", "outside", "changed"))}
-    source.losses.sort(key=lambda loss: (not loss.stops(), order[loss.kind], -(loss.width or 0), loss.names))
+    find_staying(source, out)
+    source.losses.sort(key=lambda loss: (not loss.stops(), ORDER.index(loss.kind), -(loss.width or 0), loss.names))
     if "parcels" not in layers:
         source.losses.append(Loss("unseen", [], "there is no layer of parcels: lost parcels and gaps cannot be told"))
     return source.losses, found
@@ -218,7 +242,7 @@ def told(losses, layers, found, out, counts):
         if shown[loss.kind] <= MOST_TOLD:
             lines.append(line_of(loss))
     lines += [f"  and {count - MOST_TOLD} more of kind {kind}: see report.csv" for kind, count in shown.items() if count > MOST_TOLD]
-    narrow = [loss for loss in losses if loss.width is not None and not loss.is_wide()]
+    narrow = [loss for loss in losses if loss.width is not None and not loss.stops()]
     if narrow:
         lines.append(f"conflicts narrower than two centimetres: {len(narrow)}, together {sum(loss.area for loss in narrow):.3f} m2, the widest {max(loss.width for loss in narrow) * 1000:.1f} mm")
     lines += [loss.words + "".join(f" ({name})" for name in loss.names) for loss in losses if loss.kind in ("changed", "unseen")]
