@@ -60,7 +60,7 @@ class Layer:
 def read(path, names=None, wanted=("parcels", "covers"), spare=None):
     """The layers of a land by their names. `names` says what a layer or column is called in it: {'parcels': 'blocks', 'parcels.parcel': 'id'}."""
     names = names or {}
-    if os.path.isdir(path) and not path.endswith(".gdb"):
+    if os.path.isdir(path) and not is_of_another_program(path):
         return read_folder(path, names, wanted)
     try:
         with open(path, "rb") as file:
@@ -80,6 +80,12 @@ def apart(path, out):
     """Refuses a folder that is the source and the place of the tables at once: they would be written over it."""
     if os.path.isdir(path) and os.path.realpath(path) == os.path.realpath(out):
         raise Trouble(f"{out} is the source: name another folder for the tables")
+
+
+def is_of_another_program(folder):
+    """Whether a folder is a geodatabase or holds shapefiles and no tables: ogr2ogr reads either as one source."""
+    endings = {os.path.splitext(name)[1].lower() for name in os.listdir(folder)}
+    return folder.rstrip("/").endswith(".gdb") or (".shp" in endings and not endings & {".csv", ".txt", ".tsv"})
 
 
 def connected(path):
