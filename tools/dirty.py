@@ -4,7 +4,7 @@
     tools/dirty.py OUT.gpkg [KIND..]      no KIND: all of them; `clean` alone: none
 
 KIND is one of null, empty, curve, z, degrees, crossing, blank, umlaut, long, nameless, doubled, bare, stranger, wide, narrow, twin, line,
-flat, short.
+flat, short, m, open.
 """
 
 import os
@@ -24,14 +24,14 @@ SYSTEMS = {
            'PRIMEM["Greenwich",0],UNIT["degree",0.0174532925199433]],PROJECTION["Lambert_Conformal_Conic_2SP"],UNIT["US survey foot",0.304800609601219],AUTHORITY["EPSG","2263"]]'),
     4326: ("WGS 84", 'GEOGCS["WGS 84",DATUM["WGS_1984",SPHEROID["WGS 84",6378137,298.257223563]],PRIMEM["Greenwich",0],UNIT["degree",0.0174532925199433],AUTHORITY["EPSG","4326"]]'),
 }
-ALL = "null empty curve z degrees crossing blank umlaut long nameless doubled bare stranger wide narrow twin line flat short".split()
+ALL = "null empty curve z degrees crossing blank umlaut long nameless doubled bare stranger wide narrow twin line flat short m open".split()
 
 
-def polygon(*rings, z=None):
-    """A polygon as well-known binary, with a height where one is given."""
-    form, points = ("2d", lambda p: p) if z is None else ("3d", lambda p: (*p, z))
-    body = b"".join(struct.pack("<I", len(ring)) + b"".join(struct.pack("<" + form, *points(p)) for p in ring) for ring in rings)
-    return struct.pack("<BII", 1, 3 if z is None else 1003, len(rings)) + body
+def polygon(*rings, z=None, m=None):
+    """A polygon as well-known binary, with a height and a measure where they are given."""
+    more = [value for value in (z, m) if value is not None]
+    body = b"".join(struct.pack("<I", len(ring)) + b"".join(struct.pack(f"<{2 + len(more)}d", *p, *more) for p in ring) for ring in rings)
+    return struct.pack("<BII", 1, 3 + 1000 * (z is not None) + 2000 * (m is not None), len(rings)) + body
 
 
 def arc(*points):
@@ -121,6 +121,11 @@ def rows_of(kinds, move=(0, 0)):
             parcels[-1], covers[-2:] = (kind, shape), [(f"{kind}.1", kind, "GRASS", shape)]
         elif kind == "z":
             parcels[-1] = (kind, polygon(box(0, y), z=312.5))
+        elif kind == "m":
+            parcels[-1] = (kind, polygon(box(0, y), m=7.0))
+            covers[-1] = (*covers[-1][:3], polygon(box(5, y, 5), z=312.5, m=7.0))
+        elif kind == "open":
+            parcels[-1] = (kind, polygon(box(0, y)[:-1]))
         elif kind == "degrees":
             parcels[-1] = (kind, polygon([(9.1, 48.1), (9.2, 48.1), (9.2, 48.2), (9.1, 48.1)]))
         elif kind == "crossing":
