@@ -1,8 +1,10 @@
 -- From what tables hold to the history and the shapes that they say.
-use Rattle.std.proofs.Common.{List, arith, inl, refl}
+use Rattle.std.proofs.Common.{◌≡◌, ◌∙◌, IsTrue, List, ap, arith, inl, refl, subst, sym}
 use Rattle.lpis_register.proofs.Common.{Trees, State, Survives, survives_weaker, Entry, last_live, Content, Tells, AreLive, Shape, ShapesAre, Whole, IsStored, Leaves, HoldsRegister}
+use Rattle.lpis_register_sql.specs.Holding.{HoldsRows}
 use Rattle.lpis_register_sql.specs.Layouts.{Origin}
-use Rattle.lpis_register.proofs.Common.{LeavesRegister}
+use Rattle.lpis_register.proofs.Common.{Layout, LeavesRegister}
+use Rattle.sqlite.specs.Effect.{Database}
 
 pub nothing_done : (P : Trees → Type 0) (a : State) → Survives a a P
 nothing_done P a = record { clean = omega arith; shield = λ s. s; counts = omega arith; limit = refl; closes = λ _ up. inl up; crash = λ _ db may. inl may }
@@ -16,3 +18,14 @@ module _ (origin : Origin) (c : Content) (h : List Entry) (shapes : List Shape) 
 
   pub survives_with : (old new : State) → Survives old new (Leaves (Whole origin) c) → Survives old new (LeavesRegister h shapes)
   survives_with old new s = survives_weaker old new (Leaves (Whole origin) c) (LeavesRegister h shapes) (λ clean db. left_with db) s
+
+rows_left : (layout : Layout) (now : Database) (c : Content) → HoldsRows layout now c → Leaves layout c now.trees
+rows_left layout now c holds = subst (λ schema. HoldsRows layout (record { schema = schema; trees = now.trees }) c) holds.schema holds
+
+-- where a crash leaves the last commit alone, it leaves what is held
+pub left_of_held : (st : State) → (IsTrue st.is_open → (db : Trees) → st.may_leave db → db ≡ st.committed.trees) → (h : List Entry) (shapes : List Shape) → HoldsRegister st h shapes → (db : Trees)
+    → st.may_leave db → LeavesRegister h shapes db
+left_of_held st law h shapes held db may =
+    let stored = held.stored in
+    let same : db ≡ st.now.trees = law stored.is_open db may ∙ sym (ap (λ (d : Database). d.trees) stored.settled) in
+    left_with held.origin held.content h shapes held.tells held.are held.live db (subst (Leaves (Whole held.origin) held.content) (sym same) (rows_left (Whole held.origin) st.now held.content stored.holds))

@@ -10,7 +10,7 @@ use Rattle.lpis_register_rows.specs.Content.{Content}
 use Rattle.lpis_register_rows.specs.Shapes.{Shape}
 use Rattle.lpis_register_sql.specs.Holding.{Leaves}
 use Rattle.lpis_register_sql.specs.Layouts.{Layout}
-use Rattle.lpis_register.specs.Histories.{HoldsRegister}
+use Rattle.lpis_register.specs.Histories.{HoldsRegister, LeavesRegister}
 use Rattle.lpis_register.specs.Opening.{IsOpenedAs}
 
 -- the files hold a database, and its tables these rows
@@ -29,3 +29,6 @@ pub record IsFileOpened (image : Image) (new : State) (h : List Entry) (shapes :
       → HoldsRegister new [] [] × (h ≡ []) × (shapes ≡ [])
   pub found : HasCleanDisk new → (layout : Layout) (c : Content) → HoldsContent image layout c
       → IsOpenedAs new c h shapes
+  -- right after it a crash leaves tables that hold both, and nothing else
+  pub left : HoldsRegister new h shapes → (db : Trees) → new.may_leave db
+      → LeavesRegister h shapes db

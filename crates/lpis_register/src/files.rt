@@ -14,6 +14,7 @@ ghost use Rattle.lpis_register.specs.private.FileRefusals.{IsFileUnopened};
 ghost use Rattle.lpis_register.specs.Histories.{HoldsRegister};
 
 use crate::fault::PublishFault;
+use crate::laws::a_crash_leaves_what_is_held;
 use crate::opening::fault_of;
 use crate::register::Register;
 use lpis_register_sql::what_is_left_is_found;
@@ -38,7 +39,10 @@ fn adopt_files<S: Start>(
 {
     what_is_left_is_found(&conn);
     match Register::adopt(alloc, conn) {
-        Ok(register) => Ok(register),
+        Ok(register) => {
+            a_crash_leaves_what_is_held(&register.conn);
+            Ok(register)
+        }
         Err((conn, fault)) => Err((conn, fault)),
     }
 }
@@ -46,7 +50,8 @@ fn adopt_files<S: Start>(
 impl<S: Start> Register<FileStore<FileFrom<S>>> {
     /// Opens the register in the file at a path, or makes one; `start` stands for what the file
     /// holds. A file that is no database, that another program has locked, or whose disk fails is
-    /// the register's failure to store. One that was not there begins with no release.
+    /// the register's failure to store. One that was not there begins with no release. Right after
+    /// Ok a crash leaves the register that was opened.
     pub fn open_file(
         rt: &HostRuntime,
         alloc: Global,

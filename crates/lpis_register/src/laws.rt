@@ -2,13 +2,14 @@
 
 ghost use Rattle.std.specs.Prelude.{◌≡◌, ◌++◌, [], List};
 ghost use Rattle.sqlite.specs.Held.{state};
+ghost use Rattle.sqlite.specs.Tree.{Trees};
 ghost use Rattle.lpis_exact_lineage.specs.ExactLineage.{ShapesTurnOnce};
 ghost use Rattle.lpis_exact_lineage.specs.Shapes.{shape_named};
 ghost use Rattle.lpis_lineage.specs.declared.row.Entry.{Entry};
 ghost use Rattle.lpis_register_rows.specs.Content.{Content};
 ghost use Rattle.lpis_register_rows.specs.Tells.{IsSameHistory, TablesSay};
 ghost use Rattle.lpis_register.specs.Calls.{AllLead, AreReleasesOf, Call, accepted};
-ghost use Rattle.lpis_register.specs.Histories.{HoldsRegister};
+ghost use Rattle.lpis_register.specs.Histories.{HoldsRegister, LeavesRegister};
 ghost use Rattle.lpis_register_rows.specs.Shapes.{Shape};
 ghost use Rattle.lpis_register_rows.specs.declared.version.Version.{Version};
 
@@ -45,6 +46,14 @@ pub fn rows_say_one_history()
 {
     tables_say_one_history();
 }
+
+/// While a database holds a history and shapes, a crash leaves tables that hold them, and nothing
+/// else.
+pub fn a_crash_leaves_what_is_held<S: Alter>(conn: &Connection<S>)
+    ensures { (h : List Entry) (shapes : List Shape)
+        → HoldsRegister (state S.Store conn.now) h shapes → (db : Trees)
+        → (state S.Store conn.now).may_leave db → LeavesRegister h shapes db }
+{}
 
 /// A database says one history, and keeps one list of shapes.
 pub fn a_database_holds_one_register<S: Alter>(conn: &Connection<S>)

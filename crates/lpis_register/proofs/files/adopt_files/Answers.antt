@@ -4,7 +4,8 @@ use Rattle.lpis_register.proofs.files.adopt_files.Goals as goal
 
 pub returns-in-Ok-clause-opened : goal.returns-in-Ok-clause-opened
 returns-in-Ok-clause-opened g c image finds =
-    opened_file image (file_state c.args.conn) c.requires.opened finds c.what_is_left_is_found.ensures.stored c.what_is_left_is_found.ensures.bare _ _ _ c.in-Ok.ensures.opened
+    opened_file image (file_state c.args.conn) c.requires.opened finds c.what_is_left_is_found.ensures.stored c.what_is_left_is_found.ensures.bare _ _ _
+    (c.a_crash_leaves_what_is_held.ensures _ _) c.in-Ok.ensures.opened
 
 pub returns-in-Err-clause-unopened : goal.returns-in-Err-clause-unopened
 returns-in-Err-clause-unopened g c image finds =
