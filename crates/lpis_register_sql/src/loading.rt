@@ -23,12 +23,12 @@ pub fn load_found<S: Alter>(
     ensures reads { ReadsRows (IsFound found.now) (λ c. IsSameContent (without_texts c))
         (state S.Store conn.old) (state S.Store conn.new) result }
 {
-    let formats: Vec<FormatRow> = load_rows(alloc, conn, true)?;
-    let years: Vec<i64> = load_rows(alloc, conn, true)?;
-    let spans: Vec<SpanRow> = load_rows(alloc, conn, found.spans)?;
-    let lines: Vec<LineRow> = load_rows(alloc, conn, true)?;
-    let lives: Vec<LiveRow> = load_rows(alloc, conn, found.lives)?;
-    let marks: Vec<MarkRow> = load_rows(alloc, conn, found.marks)?;
+    let formats: Vec<FormatRow> = load_rows(alloc, conn, found)?;
+    let years: Vec<i64> = load_rows(alloc, conn, found)?;
+    let spans: Vec<SpanRow> = load_rows(alloc, conn, found)?;
+    let lines: Vec<LineRow> = load_rows(alloc, conn, found)?;
+    let lives: Vec<LiveRow> = load_rows(alloc, conn, found)?;
+    let marks: Vec<MarkRow> = load_rows(alloc, conn, found)?;
     Ok(Rows::new(formats, years, spans, lines, lives, marks))
 }
 
@@ -44,5 +44,5 @@ pub fn load_texts<S: Alter>(
         (λ c texts. IsPermutation c.texts texts.items) (state S.Store conn.old)
         (state S.Store conn.new) result }
 {
-    load_rows(alloc, conn, found.texts)
+    load_rows(alloc, conn, found)
 }

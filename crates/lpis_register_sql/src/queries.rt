@@ -1,5 +1,6 @@
 //! The queries, one a table.
 
+use crate::found::Found;
 use crate::reading::Stored;
 use lpis_register_rows::{FormatRow, LineRow, LiveRow, MarkRow, SpanRow, TextRow};
 use sqlite::{Alter, Connection, Error, Row};
@@ -14,6 +15,10 @@ impl Stored for FormatRow {
     ghost shown = { format_shown };
 
     ghost has_table = { λ layout. true };
+
+    fn was_found(_found: &Found) -> bool {
+        true
+    }
 
     fn query<S: Alter>(conn: &mut Connection<S>) -> Result<Vec<Row>, Error> {
         conn.query_all("SELECT one, version FROM lpis_format", &[])
@@ -40,6 +45,10 @@ impl Stored for i64 {
 
     ghost has_table = { λ layout. true };
 
+    fn was_found(_found: &Found) -> bool {
+        true
+    }
+
     fn query<S: Alter>(conn: &mut Connection<S>) -> Result<Vec<Row>, Error> {
         conn.query_all("SELECT year FROM lpis_release ORDER BY year", &[])
     }
@@ -61,6 +70,10 @@ impl Stored for SpanRow {
     ghost shown = { span_shown };
 
     ghost has_table = { has_spans };
+
+    fn was_found(found: &Found) -> bool {
+        found.spans
+    }
 
     fn query<S: Alter>(conn: &mut Connection<S>) -> Result<Vec<Row>, Error> {
         conn.query_all("SELECT id, since, until FROM lpis_span ORDER BY id", &[])
@@ -86,6 +99,10 @@ impl Stored for LineRow {
     ghost shown = { line_shown };
 
     ghost has_table = { λ layout. true };
+
+    fn was_found(_found: &Found) -> bool {
+        true
+    }
 
     fn query<S: Alter>(conn: &mut Connection<S>) -> Result<Vec<Row>, Error> {
         conn.query_all(
@@ -121,6 +138,10 @@ impl Stored for LiveRow {
 
     ghost has_table = { has_live };
 
+    fn was_found(found: &Found) -> bool {
+        found.lives
+    }
+
     fn query<S: Alter>(conn: &mut Connection<S>) -> Result<Vec<Row>, Error> {
         conn.query_all("SELECT year, id FROM lpis_live ORDER BY year, id", &[])
     }
@@ -145,6 +166,10 @@ impl Stored for TextRow {
 
     ghost has_table = { has_texts };
 
+    fn was_found(found: &Found) -> bool {
+        found.texts
+    }
+
     fn query<S: Alter>(conn: &mut Connection<S>) -> Result<Vec<Row>, Error> {
         conn.query_all("SELECT id, wkt FROM lpis_text ORDER BY id", &[])
     }
@@ -168,6 +193,10 @@ impl Stored for MarkRow {
     ghost shown = { mark_shown };
 
     ghost has_table = { has_marks };
+
+    fn was_found(found: &Found) -> bool {
+        found.marks
+    }
 
     fn query<S: Alter>(conn: &mut Connection<S>) -> Result<Vec<Row>, Error> {
         conn.query_all("SELECT year, pos FROM lpis_mark ORDER BY year, pos", &[])

@@ -2,8 +2,9 @@
 
 ghost use Rattle.std.specs.Prelude.{◌≡◌, map, false, IfOk, IsPermutation};
 ghost use Rattle.sqlite.specs.Held.{state};
-ghost use Rattle.lpis_register_sql.specs.Quiet.{ReadsRows};
+ghost use Rattle.lpis_register_sql.specs.Quiet.{IsFound, ReadsRows};
 
+use crate::found::Found;
 use sqlite::{Alter, Connection, Error, Row};
 use std::alloc::Global;
 
@@ -17,13 +18,17 @@ pub(crate) trait Stored: Drop {
     ghost use Rattle.lpis_register_rows.specs.Content.{Content};
     ghost use Rattle.lpis_register_sql.specs.Layouts.{Layout};
     ghost use Rattle.lpis_register_sql.specs.Holding.{Means};
-    ghost use Rattle.lpis_register_sql.specs.Quiet.{ReadsRows};
+    ghost use Rattle.lpis_register_sql.specs.Quiet.{IsFound, ReadsRows};
 
     ghost rows: { Content → List Self };
 
     ghost shown: { Row → Self };
 
     ghost has_table: { Layout → Bool };
+
+    /// Whether its table was found.
+    fn was_found(found: &Found) -> bool
+        ensures { (layout : Layout) → IsFound found.now layout → result ≡ has_table layout };
 
     /// Its table, as a query shows it.
     fn query<S: Alter>(conn: &mut Connection<S>) -> Result<Vec<Row>, Error>
@@ -52,19 +57,18 @@ fn read_all<T: Stored>(alloc: Global, rows: Vec<Row>) -> Result<Vec<T>, Error>
     Ok(all)
 }
 
-/// The rows of a table, where it is there.
+/// The rows of a table, where it was found.
 pub(crate) fn load_rows<T: Stored, S: Alter>(
     alloc: Global,
     conn: &mut Connection<S>,
-    there: bool,
+    found: &Found,
 ) -> Result<Vec<T>, Error>
     requires autocommit { conn.old.in_transaction ≡ false }
     ensures autocommit { conn.new.in_transaction ≡ false }
-    ensures reads { ReadsRows (λ layout. there ≡ T.has_table layout)
-        (λ c all. IsPermutation (T.rows c) all.items)
+    ensures reads { ReadsRows (IsFound found.now) (λ c all. IsPermutation (T.rows c) all.items)
         (state S.Store conn.old) (state S.Store conn.new) result }
 {
-    if there {
+    if T::was_found(found) {
         let rows = T::query(conn)?;
         read_all(alloc, rows)
     } else {
