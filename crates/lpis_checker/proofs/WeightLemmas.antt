@@ -1,5 +1,5 @@
 -- The weighted area of pieces lies between 0 and their area times 100.
-use Rattle.std.proofs.Common.{◌≤◌, ◌*◌, ℕ, ℤ, pos, negsuc, ◌+ℤ◌, ◌*ℤ◌, ◌≤ℤ◌, ◌<ℤ◌, List, [], ◌∷◌, Option, Some, None, All, arith, mul-le-mul}
+use Rattle.std.proofs.Common.{◌≤◌, ◌*◌, ℕ, ℤ, pos, negsuc, ◌+ℤ◌, ◌*ℤ◌, ◌≤ℤ◌, ◌<ℤ◌, List, [], ◌∷◌, Option, Some, None, All, option_map, unwrap_or, arith, mul-le-mul}
 use Rattle.lpis_checker.proofs.Common.{Piece}
 use Rattle.std.proofs.lemmas.Int.{ints}
 use Rattle.std.proofs.lemmas.List.Elements.{All-head, All-tail}
@@ -7,10 +7,14 @@ use Rattle.lpis_points.specs.Sums.{int_sum_by}
 use Rattle.lpis_covers.specs.declared.class.Class.{Class}
 use Rattle.lpis_covers.specs.Percentages.{most_percent}
 use Rattle.lpis_rings.specs.Area.{area2}
-use Rattle.lpis_parcels.specs.Weighted.{areas2, class_named, class_percent, piece_weight}
+use Rattle.lpis_parcels.specs.Weighted.{areas2, class_named, piece_weight}
 
 abbrev HasArea : Piece → Type 0
 HasArea x = pos 0 <ℤ area2 x.polygon
+
+-- the percentage of a class, 0 without one
+abbrev class_percent : Option Class → ℕ
+class_percent o = unwrap_or (option_map (λ (k : Class). k.percent) o) 0
 
 few-percent : (o : Option Class) → class_percent o ≤ most_percent
 few-percent None = omega arith

@@ -33,8 +33,7 @@ pub record Inputs : Type 0 where
 abbrev pub Answer : Type 0
 Answer = List ℕ × ℕ
 
--- of a release and a certificate: what is said of a good certificate, else the line of the lowest
--- code that fails, with its first place
+-- of a release and a certificate: what is said of a good one, else its first fault's line
 abbrev pub IsCheckAnswer : Contents → Cert → (Answer → Type 0) → Answer → Type 0
 IsCheckAnswer r c IsNext a =
     (IsGood r c × IsNext a)
@@ -62,8 +61,7 @@ IsReport r a = a ≡ (report_text r, done)
 abbrev pub IsReleaseAnswer : List ℕ → Contents → Answer → Type 0
 IsReleaseAnswer text r = IsCertAnswer (λ c. IsCheckAnswer r c (IsReport r)) text (verdict text)
 
--- the answer to three tables and a certificate: faults of the tables come first, then those of the
--- certificate's text
+-- the answer to all four: faults of the tables come first, then those of the certificate's text
 abbrev pub IsAnswer : Inputs → Answer → Type 0
 IsAnswer x = IsTableAnswer (IsReleaseAnswer x.cert) (release_of x.parcels x.covers x.classes)
 
@@ -75,8 +73,7 @@ Checks x status old new = (text : List ℕ) × IsAnswer x (text, status) × Appe
 abbrev pub IsRefusal : Inputs → Answer → Type 0
 IsRefusal x a = IsAnswer x a × (a.1 ≢ done)
 
--- the tables are those of this release, it is a sound map, and the text is that of a certificate
--- good for it
+-- this release is that of the tables, a sound map, and the text spells a certificate good for it
 pub record IsProvedOf (x : Inputs) (release : Contents) : Type 0 where
   pub tables : release_of x.parcels x.covers x.classes ≡ Ok release
   pub sound : IsSoundMap release

@@ -1,11 +1,15 @@
 -- A class is its code and its percentage.
 use Rattle.std.proofs.Common.{◌≡◌, ◌∙◌, ◌≤◌, ap, subst, sym, ℕ, List, Result, Ok}
+use Rattle.std.specs.Result.{result_unwrap_or}
 use Rattle.lpis_covers.proofs.Common.{Fields, field_of, unless_faulty}
 use denote.Struct.Props.{props}
 use Rattle.lpis_covers.specs.Classes.{class_of, code_faults, percentage_of}
-use Rattle.lpis_covers.specs.Percentages.{most_percent, percent_of}
+use Rattle.lpis_covers.specs.Percentages.{most_percent}
 use Rattle.lpis_covers.specs.declared.class.Class.{Class}
 use Rattle.lpis_covers.specs.declared.fault.TableCode.{TableCode}
+
+abbrev percent_of : Result ℕ TableCode → ℕ
+percent_of said = result_unwrap_or said 0
 
 within-prop : (n : ℕ) → IsProp (n ≤ most_percent)
 within-prop n = hlevel props

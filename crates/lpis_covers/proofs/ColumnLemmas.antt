@@ -11,7 +11,7 @@ use Rattle.std.proofs.Math.Seq.{drop-cons}
 use Rattle.std.proofs.lemmas.List.{append-nil, take_all, drop_all}
 use Rattle.lpis_covers.specs.declared.fault.TableCode.{TableCode}
 use Rattle.lpis_covers.specs.declared.fault.TableCode.TheVariants.{DoubledColumn}
-use Rattle.lpis_covers.specs.Table.{and_place, indices_of_name, place_of}
+use Rattle.lpis_covers.specs.Table.{and_then, indices_of_name, place_of}
 
 pub with-mark : (xs : List ℕ) → has_mark xs ≡ true → take (length xs - 3) (drop 3 xs) ≡ strip_bom xs
 unfolding strip_bom
@@ -82,7 +82,7 @@ index-end needed name i found fs r h e = rw (drop_all i fs h, append-nil (option
 texts-drop : (names : List (Bor (List ℕ))) (i : ℕ) (d : Bor (List ℕ)) → i < length names → texts (drop i names) ≡ (get_or names i d).now ∷ texts (drop (i + 1) names)
 texts-drop names i d h = rw (add-one, drop-cons names i d) refl
 
-after-step : (front : List (Option ℕ)) (p : Option ℕ) (more : Result (List (Option ℕ)) TableCode) → after_places (front ++ (p ∷ [])) more ≡ after_places front (and_place p more)
+after-step : (front : List (Option ℕ)) (p : Option ℕ) (more : Result (List (Option ℕ)) TableCode) → after_places (front ++ (p ∷ [])) more ≡ after_places front (and_then more (λ places. Ok (p ∷ places)))
 after-step front p (Ok ps) = ap Ok (append_assoc front (p ∷ []) ps)
 after-step front p (Err e) = refl
 

@@ -3,8 +3,9 @@ pub use Rattle.csv.specs.Reading.{default_config}
 unfoldable pub use Rattle.csv.specs.Reading.{strip_bom}
 pub use Rattle.csv.specs.Records.{fields_of}
 pub use Rattle.lpis_covers.specs.Faults.{polygon_in, unless_faulty}
-pub use Rattle.lpis_covers.specs.Table.{Answers, Fields, Reading, after_places, field_at_place, field_of, flat, has_mark, one_place, picked, texts, under_header}
+pub use Rattle.lpis_covers.specs.Table.{Answers, Fields, Reading, field_at_place, field_of, flat, has_mark, one_place, picked, texts, under_header}
 unfoldable pub use Rattle.lpis_covers.specs.Table.{places_of}
+pub use Rattle.lpis_covers.specs.private.Columns.{after_places}
 pub use Rattle.lpis_covers.specs.declared.fault.Table.{Table}
 pub use Rattle.lpis_covers.specs.declared.fault.TableFault.{TableFault}
 pub use Rattle.lpis_covers.specs.declared.fault.TableFault.TheVariants.{At}

@@ -6,8 +6,8 @@ use Rattle.csv.specs.Reading.{records}
 use Rattle.lpis_covers.proofs.ColumnLemmas.{without-mark}
 use Rattle.lpis_covers.specs.declared.fault.TableCode.TheVariants.{NotCsv, TooManyRows}
 use Rattle.lpis_covers.specs.declared.fault.TableFault.TheVariants.{Memory}
-use Rattle.lpis_covers.specs.private.Columns.{TellsColumn}
-use Rattle.lpis_covers.specs.Table.{Record, all_places, fault_at, has_column, most_rows, optional_field, reading, rows_from, stopped, table_of, wanted_places, with_row}
+use Rattle.lpis_covers.specs.private.Columns.{TellsColumn, after_places}
+use Rattle.lpis_covers.specs.Table.{Record, and_then, fault_at, has_column, most_rows, optional_field, reading, rows_from, stopped, table_of, wanted_places, with_row}
 use Rattle.lpis_covers.specs.declared.fault.TableCode.{TableCode}
 
 rows-more : (table : Table) (w : ℕ) (places : List (Option ℕ)) (n : ℕ) (r : Record) (rs : List Record) → length r ≡ w → n ≤ most_rows
@@ -79,12 +79,12 @@ column-fault table names further header rs all Memory e t = tt
 column-fault table names further header rs all (At code in_table row wkt) e t = rw (e, t.0, t.1) refl
 
 -- the fault of the columns that must be there, and of those that may be absent
-pub first-places : (table : Table) (said more : Result (List (Option ℕ)) TableCode) (told : TableFault) → TellsColumn table said told → TellsColumn table (all_places said more) told
+pub first-places : (table : Table) (said more : Result (List (Option ℕ)) TableCode) (told : TableFault) → TellsColumn table said told → TellsColumn table (and_then said (λ front. after_places front more)) told
 first-places table said more Memory t = tt
 first-places table said more (At code in_table row wkt) t = (rw t.0 refl, t.1)
 
 pub then-places : (table : Table) (front : List (Option ℕ)) (said more : Result (List (Option ℕ)) TableCode) (told : TableFault) → said ≡ Ok front
-    → TellsColumn table more told → TellsColumn table (all_places said more) told
+    → TellsColumn table more told → TellsColumn table (and_then said (λ front. after_places front more)) told
 then-places table front said more Memory e t = tt
 then-places table front said more (At code in_table row wkt) e t = (rw (e, t.0) refl, t.1)
 

@@ -1,13 +1,14 @@
 -- Reading rows as values, a row at a time.
 use Rattle.std.proofs.Common.{◌≡◌, ◌≤◌, ◌+◌, ◌++◌, ◌∷◌, [], ℕ, List, length, map, Bool, true, false, Option, Result, Ok, Err, refl, sym, ap, ◌∙◌, arith, append_assoc, option_to_list}
-use Rattle.lpis_covers.proofs.Common.{default_config, strip_bom, Table, TableFault, At, unless_faulty, Answers, Fields, Reading, field_of, has_mark, under_header}
+use Rattle.lpis_covers.proofs.Common.{default_config, strip_bom, Table, TableFault, At, unless_faulty, Answers, Fields, Reading, field_of, has_mark, picked, under_header}
 use Rattle.std.proofs.lemmas.List.{append-nil, map-append, length-append}
+use Rattle.std.specs.Result.{result_map_both}
 use Rattle.csv.specs.Reading.{records}
 use Rattle.lpis_covers.specs.declared.fault.TableCode.{TableCode}
 use Rattle.lpis_covers.specs.declared.fault.TableCode.TheVariants.{MissingColumn}
 use Rattle.lpis_covers.specs.declared.fault.TableFault.TheVariants.{Memory}
 use Rattle.lpis_covers.specs.Faults.{RowsOf, table_row_faults, rows_of}
-use Rattle.lpis_covers.specs.Table.{Advances, Record, fault_at, most_rows, rows_under, table_of, wanted_places}
+use Rattle.lpis_covers.specs.Table.{Advances, Record, fault_at, most_rows, reading, rows_from, table_of, wanted_places}
 
 -- a reader of the table t has read these rows, with these keys, and no fault yet
 pub record IsRead {A : Type 0} (kind : RowsOf A) (t : Reading) (keys : List (List ℕ)) (rows : List A) (r : Reading) : Type 0 where
@@ -29,7 +30,7 @@ told-fault (g ∷ fs) more v w f h = ap Err (cc h)
 
 -- the header's table and number
 start-header : (table : Table) (header : Record) (rs : List Record) (places : Result (List (Option ℕ)) TableCode) (t : Reading)
-    → rows_under table header rs places ≡ Ok t → (t.table ≡ table) × (t.number ≡ 0)
+    → result_map_both (λ ps. reading table ps 0 (picked ps header) (rows_from table (length header) ps 1 rs)) (λ code. fault_at code table 0) places ≡ Ok t → (t.table ≡ table) × (t.number ≡ 0)
 start-header table header rs (Ok ps) t h = let e = Ok-parts _ t h in (sym (ap (λ (r : Reading). r.table) e), sym (ap (λ (r : Reading). r.number) e)) where
   Ok-parts : (s t : Reading) → ◌≡◌ {A = Result Reading TableFault} (Ok s) (Ok t) → s ≡ t
   Ok-parts s t h = cc h

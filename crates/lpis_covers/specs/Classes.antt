@@ -1,16 +1,16 @@
 -- The table of classes: a code, and how much of its land is eligible.
 use Rattle.std.specs.Prelude.{◌||◌, ◌∷◌, ◌++◌, ℕ, List, [], codes, Result, Ok, Err}
+use Rattle.std.specs.Result.{result_unwrap_or}
 use Rattle.lpis_covers.specs.declared.class.Class.{Class}
 use Rattle.lpis_covers.specs.declared.fault.Table.TheVariants.{Classes}
 use Rattle.lpis_covers.specs.declared.fault.TableCode.{TableCode}
 use Rattle.lpis_covers.specs.declared.fault.TableFault.{TableFault}
 use Rattle.lpis_covers.specs.Faults.{RowsOf, key_faults}
-use Rattle.lpis_covers.specs.Percentages.{percent_of, percentage_in}
+use Rattle.lpis_covers.specs.Percentages.{percentage_in}
 use Rattle.lpis_covers.specs.private.Percent.{percentage-within}
 use Rattle.lpis_covers.specs.Table.{Fields, fault_at, field_of, has_column, optional_field}
 
--- the percentage of a row: that of its field `percent`, and where there is no such column that of
--- its mark `eligible`
+-- the percentage of a row: of its field `percent`, or of its mark `eligible` without such a column
 abbrev pub percentage_of : Fields → Result ℕ TableCode
 percentage_of row = percentage_in (optional_field row 1) (field_of row 2)
 
@@ -25,7 +25,7 @@ class_faults keys n row = key_faults Classes n keys (field_of row 0)
 abbrev pub class_of : Fields → Class
 class_of row = record {
   code = field_of row 0;
-  percent = percent_of (percentage_of row);
+  percent = result_unwrap_or (percentage_of row) 0;
   within = percentage-within (optional_field row 1) (field_of row 2);
 }
 

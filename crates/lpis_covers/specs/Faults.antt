@@ -1,6 +1,7 @@
 -- The values of a table's rows, and its faults in the order in which the first is reported.
 use Rattle.std.specs.Prelude.{◌+◌, ◌∷◌, ◌++◌, Bool, true, false, not, ℕ, List, [], map, Some}
 use Rattle.std.specs.Prelude.{option_to_list, Result, Ok, Err, if◌then◌else◌}
+use Rattle.std.specs.Result.{result_unwrap_or}
 use Rattle.std.specs.Str.{is_utf8}
 use Rattle.lpis_rings.specs.declared.polygon.Member.{Member}
 use Rattle.lpis_wkt.specs.declared.fault.WktCode.{WktCode}
@@ -45,17 +46,13 @@ polygon_faults table n field =
     ∷ []
 
 -- the polygon of a text, where it spells one
-abbrev pub members_or_none : Result (List Member) (WktCode × ℕ) → List Member
-members_or_none (Ok members) = members
-members_or_none (Err fault) = []
-
 abbrev pub polygon_in : List ℕ → List Member
-polygon_in field = members_or_none (polygon_of field)
+polygon_in field = result_unwrap_or (polygon_of field) []
 
--- a table whose rows are values of a type: its columns in the order in which they are tested, first
--- those that must be there and then those that may be absent; whether the columns that the header
--- has are enough; the faults of a row below rows with these keys, by its number and fields, in the
--- order of its columns; and its value. A row's key is its first field
+-- a table whose rows are values of a type: its columns in the order in which they are tested, those
+-- that must be there before those that may be absent; whether those of the header are enough; of a
+-- row, below rows with these keys, the faults in the order of its columns, and the value. A row's
+-- key is its first field
 pub record RowsOf (A : Type 0) : Type 0 where
   pub table : Table
   pub columns : List (List ℕ)
@@ -71,8 +68,7 @@ table_row_faults kind keys n [] = []
 table_row_faults kind keys n (r ∷ rs) = kind.faults keys n r
     ++ table_row_faults kind (keys ++ field_of r 0 ∷ []) (n + 1) rs
 
--- a table's rows as values, or its first fault: one of row 0, last that a column is missing where
--- those that may be absent are not enough, else one of a row, else that which stops the rows
+-- a table's rows as values, or its first fault: of row 0, else of a row, else what stops the rows
 abbrev pub values_of : {A : Type 0} → RowsOf A → Result Reading TableFault
     → Result (List A) TableFault
 values_of kind (Ok t) =

@@ -1,6 +1,6 @@
 -- Percentages, and how a row of the classes table gives one.
 use Rattle.std.specs.Prelude.{◌&&◌, ◌==◌, ◌+◌, ◌-◌, ◌*◌, ◌∷◌, not, ℕ, List, [], codes}
-use Rattle.std.specs.Prelude.{Option, None, Some, Result, Ok, Err, if◌then◌else◌}
+use Rattle.std.specs.Prelude.{Option, None, Some, Result, if◌then◌else◌}
 use Rattle.std.specs.Char.{is_ascii_digit}
 use Rattle.std.specs.Option.{ok_or}
 use Rattle.std.specs.Str.{bytes_eq}
@@ -15,8 +15,7 @@ most_percent = 100
 abbrev pub digit : ℕ → ℕ
 digit byte = byte - 48
 
--- the percentage that a text spells: a whole number from 0 to 100 without a sign, and without a 0
--- before other digits
+-- the percentage that a text spells: a whole number from 0 to 100, no sign and no leading zeros
 abbrev pub percent_in : List ℕ → Option ℕ
 percent_in [] = None
 percent_in (a ∷ []) = if is_ascii_digit a then Some (digit a) else None
@@ -37,8 +36,3 @@ percent_of_mark text =
 abbrev pub percentage_in : Option (List ℕ) → List ℕ → Result ℕ TableCode
 percentage_in (Some percent) eligible = ok_or (percent_in percent) BadPercent
 percentage_in None eligible = ok_or (percent_of_mark eligible) BadEligible
-
--- the percentage that is said; without one it counts for nothing
-abbrev pub percent_of : Result ℕ TableCode → ℕ
-percent_of (Ok percent) = percent
-percent_of (Err code) = 0

@@ -1,7 +1,8 @@
 -- The rows of a table by the names of its columns.
 use Rattle.std.specs.Prelude.{◌≡◌, ◌==◌, ◌+◌, ◌≤◌, ◌∷◌, Bool, true, false, ℕ, List, [], length, map}
 use Rattle.std.specs.Prelude.{nat_lt, Option, Some, None, Result, Ok, Err, slice_index_or, is_some}
-use Rattle.std.specs.Prelude.{if◌then◌else◌, unwrap_or, ◌++◌}
+use Rattle.std.specs.Prelude.{if◌then◌else◌, option_map, unwrap_or, ◌++◌}
+use Rattle.std.specs.Result.{result_map_both}
 use Rattle.std.specs.Str.{str_eq_ignore_ascii_case}
 use Rattle.std.specs.Borrow.{Bor}
 use Rattle.csv.specs.Reading.{default_config, is_bom, records, strip_bom}
@@ -27,13 +28,10 @@ fault_at code table row = At code table row None
 
 -- whether a text starts with a byte order mark
 abbrev pub has_mark : List ℕ → Bool
-has_mark [] = false
-has_mark (a ∷ []) = false
-has_mark (a ∷ b ∷ []) = false
 has_mark (a ∷ b ∷ c ∷ rest) = is_bom a b c
+has_mark _ = false
 
--- the indices of the fields that have this name, compared in any mix of ASCII cases; the first
--- field is at index i
+-- the indices, from i on, of the fields that have this name in any mix of ASCII cases
 unfoldable pub indices_of_name : List ℕ → ℕ → Record → List ℕ
 indices_of_name name i [] = []
 indices_of_name name i (field ∷ fields) =
@@ -50,39 +48,22 @@ one_place false [] = Ok None
 abbrev pub place_of : Bool → Record → List ℕ → Result (Option ℕ) TableCode
 place_of needed header name = one_place needed (indices_of_name name 0 header)
 
-abbrev pub and_place : Option ℕ → Result (List (Option ℕ)) TableCode
-    → Result (List (Option ℕ)) TableCode
-and_place place (Ok places) = Ok (place ∷ places)
-and_place place (Err code) = Err code
-
-abbrev pub then_places : Result (Option ℕ) TableCode → Result (List (Option ℕ)) TableCode
-    → Result (List (Option ℕ)) TableCode
-then_places (Ok place) more = and_place place more
-then_places (Err code) more = Err code
+-- what follows a value, or the fault in its place
+abbrev pub and_then : {A B E : Type 0} → Result A E → (A → Result B E) → Result B E
+and_then (Ok x) next = next x
+and_then (Err fault) next = Err fault
 
 -- the places of the columns of these names, or the fault of the first that has one
 unfoldable pub places_of : Bool → Record → List (List ℕ) → Result (List (Option ℕ)) TableCode
 places_of needed header [] = Ok []
-places_of needed header (name ∷ names) = then_places (place_of needed header name)
-    (places_of needed header names)
+places_of needed header (name ∷ names) = and_then (place_of needed header name)
+    (λ place. and_then (places_of needed header names) (λ places. Ok (place ∷ places)))
 
--- places, and those after them
-abbrev pub after_places : List (Option ℕ) → Result (List (Option ℕ)) TableCode
-    → Result (List (Option ℕ)) TableCode
-after_places front (Ok places) = Ok (front ++ places)
-after_places front (Err code) = Err code
-
-abbrev pub all_places : Result (List (Option ℕ)) TableCode → Result (List (Option ℕ)) TableCode
-    → Result (List (Option ℕ)) TableCode
-all_places (Ok places) more = after_places places more
-all_places (Err code) more = Err code
-
--- the places of the wanted columns: first of those that must be there, then of those that may be
--- absent
+-- the places of the wanted columns: of those that must be there, then of those that may be absent
 abbrev pub wanted_places : Record → List (List ℕ) → List (List ℕ)
     → Result (List (Option ℕ)) TableCode
-wanted_places header names further = all_places (places_of true header names)
-    (places_of false header further)
+wanted_places header names further = and_then (places_of true header names)
+    (λ front. and_then (places_of false header further) (λ back. Ok (front ++ back)))
 
 -- the wanted fields of a row; none for a column that the header has not
 abbrev pub Fields : Type 0
@@ -90,8 +71,7 @@ Fields = List (Option (List ℕ))
 
 -- the field at a place, empty past the last one
 abbrev pub field_at_place : Record → Option ℕ → Option (List ℕ)
-field_at_place fields None = None
-field_at_place fields (Some index) = Some (slice_index_or fields index [])
+field_at_place fields place = option_map (λ index. slice_index_or fields index []) place
 
 -- the fields at these places
 abbrev pub picked : List (Option ℕ) → Record → Fields
@@ -120,8 +100,7 @@ with_row row found = record { rows = row ∷ found.rows; stop = found.stop }
 abbrev pub stopped : TableFault → Found
 stopped fault = record { rows = []; stop = Some fault }
 
--- the rows before the first whose length is not the header's or whose number is past the most, in
--- this order; the first record is row n
+-- the rows, from row n on, before the first of another length than the header's or past the most
 unfoldable pub rows_from : Table → ℕ → List (Option ℕ) → ℕ → List Record → Found
 rows_from table width places n [] = record { rows = []; stop = None }
 rows_from table width places n (r ∷ rs) =
@@ -155,21 +134,16 @@ reading table places n row found = record {
       found.stop;
 }
 
-abbrev pub rows_under : Table → Record → List Record → Result (List (Option ℕ)) TableCode
-    → Result Reading TableFault
-rows_under table header rs (Ok places) = Ok (reading table places 0 (picked places header)
-    (rows_from table (length header) places 1 rs))
-rows_under table header rs (Err code) = Err (fault_at code table 0)
-
 -- the first record is the header; a text without one lacks its first column
 abbrev pub under_header : Table → List (List ℕ) → List (List ℕ) → List Record
     → Result Reading TableFault
 under_header table names further [] = Err (fault_at MissingColumn table 0)
-under_header table names further (header ∷ rs) = rows_under table header rs
-    (wanted_places header names further)
+under_header table names further (header ∷ rs) = result_map_both
+    (λ places. reading table places 0 (picked places header)
+    (rows_from table (length header) places 1 rs))
+    (λ code. fault_at code table 0) (wanted_places header names further)
 
--- the table of a text, by the names of the wanted columns that must be there and of those that may
--- be absent: one byte order mark is skipped, and a second one is a fault
+-- the table of a text, by its columns' names: one byte order mark is skipped, a second is a fault
 unfoldable pub table_of : Table → List (List ℕ) → List (List ℕ) → List ℕ
     → Result Reading TableFault
 table_of table names further bytes =

@@ -4,7 +4,7 @@ ghost use Rattle.std.specs.Prelude.{◌≡◌, ◌≤◌, [], None, Some, IfErr,
 ghost use Rattle.std.specs.Prelude.{option_to_list, slice_index_or, unwrap_or};
 ghost use Rattle.csv.specs.Records.{fields_of};
 ghost use Rattle.csv.specs.Reading.{strip_bom};
-ghost use Rattle.lpis_covers.specs.Table.{Advances, Answers, after_places, fault_at, field_of};
+ghost use Rattle.lpis_covers.specs.Table.{Advances, Answers, fault_at, field_of};
 ghost use Rattle.lpis_covers.specs.Table.{flat};
 ghost use Rattle.lpis_covers.specs.Table.{has_column, has_mark, one_place, optional_field, picked};
 ghost use Rattle.lpis_covers.specs.Table.{place_of};
@@ -12,7 +12,7 @@ ghost use Rattle.lpis_covers.specs.Table.{field_at_place, places_of, table_of, t
 ghost use Rattle.lpis_covers.specs.Table.{wanted_places};
 ghost use Rattle.lpis_covers.specs.declared.fault.TableCode.TheVariants.{BadGeometry};
 ghost use Rattle.lpis_covers.specs.declared.fault.TableFault.TheVariants.{At};
-ghost use Rattle.lpis_covers.specs.private.Columns.{TellsColumn};
+ghost use Rattle.lpis_covers.specs.private.Columns.{TellsColumn, after_places};
 
 use crate::fault::{Table, TableCode, TableFault};
 use crate::records::{Records, Step};

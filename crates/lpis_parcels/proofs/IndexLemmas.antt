@@ -1,13 +1,13 @@
 -- The indices of a parcel's pieces, and what stands there.
 use Rattle.std.proofs.Common.{◌≡◌, ◌≤◌, ◌<◌, ◌+◌, ◌++◌, ◌∷◌, [], ℕ, zero, suc, List, length, map, get_or, filter, Bool, true, false, cond, Option, Some, refl, sym, ap, subst, ◌∙◌, arith, append_assoc}
-use Rattle.std.proofs.Common.{All, slice_get}
+use Rattle.std.proofs.Common.{All, option_map, slice_get, unwrap_or}
 use Rattle.lpis_parcels.proofs.Common.{Class, Piece, indices_where, Contents, names_parcel, reference_faults}
 use Rattle.lpis_parcels.specs.declared.parcel.Parcel.{Parcel}
 use Rattle.std.proofs.lemmas.List.{length-append}
 use Rattle.std.proofs.lemmas.Slice.Eq.{bytes_eq-Decides}
 use Rattle.lpis_covers.specs.declared.fault.TableFault.{TableFault}
 use Rattle.lpis_covers.specs.Ids.{has_id}
-use Rattle.lpis_parcels.specs.Weighted.{class_named, class_percent, piece_percent}
+use Rattle.lpis_parcels.specs.Weighted.{class_named, piece_percent}
 use Rattle.lpis_parcels.specs.private.Groups.{at_indices}
 use Rattle.lpis_parcels.specs.Release.{parcel_ids, unknown_faults}
 
@@ -108,6 +108,10 @@ first-within n p indices ps e h = let all : All (λ i. i < n) (p ∷ ps) = subst
 
 pub next-at : {A : Type 0} (xs now : List A) (indices ps : List ℕ) (p : ℕ) (x : A) → at_indices xs indices ≡ now → indices ≡ p ∷ ps → slice_get xs p ≡ Some x → now ≡ x ∷ at_indices xs ps
 next-at xs now indices ps p x e is at = rw (← e, is, at) refl
+
+-- the percentage of a class that is found
+abbrev class_percent : Option Class → ℕ
+class_percent found = unwrap_or (option_map (λ (k : Class). k.percent) found) 0
 
 pub percent-of-index : (held c : Contents) (indices : List ℕ) (i j : ℕ) (piece : Piece) (found : Option Class) → held ≡ c
     → map (slice_get held.classes) indices ≡ map (λ (p : Piece). class_named held.classes p.class) held.pieces

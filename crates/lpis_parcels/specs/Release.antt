@@ -1,5 +1,5 @@
 -- The release of three texts, or its first fault.
-use Rattle.std.specs.Prelude.{◌+◌, ◌∷◌, ◌++◌, Bool, not, ℕ, List, [], map, filter, Result, Ok, Err}
+use Rattle.std.specs.Prelude.{◌+◌, ◌∷◌, ◌++◌, Bool, not, ℕ, List, [], map, filter, Result}
 use Rattle.std.specs.Prelude.{Option}
 use Rattle.std.specs.List.{find, list_any}
 use Rattle.lpis_covers.specs.declared.class.Class.{Class}
@@ -12,7 +12,7 @@ use Rattle.lpis_covers.specs.Classes.{classes_table}
 use Rattle.lpis_covers.specs.Covers.{covers_table}
 use Rattle.lpis_covers.specs.Faults.{fault_if, rows_of, unless_faulty}
 use Rattle.lpis_covers.specs.Ids.{has_id, same_id}
-use Rattle.lpis_covers.specs.Table.{fault_at}
+use Rattle.lpis_covers.specs.Table.{and_then, fault_at}
 use Rattle.lpis_parcels.specs.declared.parcel.Parcel.{Parcel}
 use Rattle.lpis_parcels.specs.Parcels.{parcels_table}
 
@@ -65,18 +65,12 @@ join_faults c = reference_faults c.parcels c.classes 1 c.pieces
 abbrev pub joined_release : Contents → Result Contents TableFault
 joined_release c = unless_faulty (join_faults c) c
 
-abbrev pub then_read : {A B : Type 0} → Result A TableFault → (A → Result B TableFault)
-    → Result B TableFault
-then_read (Ok x) next = next x
-then_read (Err fault) next = Err fault
-
--- the release of the three texts, or its first fault: the whole parcels table, the covers, the
--- classes, then the joins
+-- the release of three texts, or its first fault: in the parcels, covers, classes, then the joins
 abbrev pub release_of : List ℕ → List ℕ → List ℕ → Result Contents TableFault
 release_of parcels covers classes =
-    then_read (rows_of parcels_table parcels)
-    (λ ps. then_read (rows_of covers_table covers)
-    (λ cs. then_read (rows_of classes_table classes)
+    and_then (rows_of parcels_table parcels)
+    (λ ps. and_then (rows_of covers_table covers)
+    (λ cs. and_then (rows_of classes_table classes)
     (λ ks. joined_release (record { parcels = ps; pieces = cs; classes = ks }))))
 
 -- the pieces of a parcel, in the order of their table

@@ -1,5 +1,5 @@
 -- The weighted area of a parcel: the sum over its pieces, each by the percentage of its class.
-use Rattle.std.specs.Prelude.{ℤ, pos, ◌*ℤ◌, ◌*◌, ℕ, List, Option, Some, None}
+use Rattle.std.specs.Prelude.{ℤ, pos, ◌*ℤ◌, ◌*◌, ℕ, List, Option, option_map, unwrap_or}
 use Rattle.std.specs.List.{find}
 use Rattle.lpis_points.specs.Sums.{int_sum_by}
 use Rattle.lpis_covers.specs.declared.class.Class.{Class}
@@ -14,14 +14,10 @@ use Rattle.lpis_parcels.specs.Release.{Contents, pieces_named}
 abbrev pub class_named : List Class → List ℕ → Option Class
 class_named classes code = find (λ (k : Class). same_id code k.code) classes
 
--- the percentage of a class; without one nothing counts
-abbrev pub class_percent : Option Class → ℕ
-class_percent None = 0
-class_percent (Some k) = k.percent
-
--- the percentage of a piece's class
+-- the percentage of a piece's class; without one nothing counts
 abbrev pub piece_percent : List Class → Piece → ℕ
-piece_percent classes piece = class_percent (class_named classes piece.class)
+piece_percent classes piece =
+    unwrap_or (option_map (λ (k : Class). k.percent) (class_named classes piece.class)) 0
 
 -- the doubled areas of pieces, added
 abbrev pub areas2 : List Piece → ℤ

@@ -12,8 +12,7 @@ steps [] = []
 steps (a ∷ []) = []
 steps (a ∷ (b ∷ ps)) = (a, b) ∷ steps (b ∷ ps)
 
--- twice the signed area of a ring, above 0 where it is counter-clockwise: the sum of ax*by - bx*ay
--- over its edges
+-- twice the signed area of a ring: its edges' ax*by - bx*ay added, above 0 if counter-clockwise
 abbrev pub shoelace : List Point → ℤ
 shoelace ring = edge_sum shoelace_term (steps ring)
 

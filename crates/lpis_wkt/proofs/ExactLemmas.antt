@@ -3,7 +3,8 @@ use Rattle.std.proofs.Common.{◌≡◌, ℕ, zero, suc, ◌+◌, ◌*◌, ◌^�
 use Rattle.std.proofs.Common.{nat_lt}
 use Rattle.lpis_wkt.proofs.Common.{and_parts, nat_tests, list_all, digits_value, digits_value_after, WktCode, coordinate_decimals, greatest_coordinate, number, padded}
 use Rattle.std.specs.Char.{digit_value}
-use Rattle.lpis_wkt.specs.Number.{whole, decimals, size, is_numeral, is_fine, is_zero_digit, is_negative, signed}
+use Rattle.lpis_wkt.specs.Number.{whole, decimals, size, is_numeral, is_fine, is_negative, signed}
+use Rattle.lpis_wkt.specs.private.Runs.{is_zero_digit}
 use Rattle.lpis_wkt.proofs.DigitLemmas.{value-append}
 
 digit_zero : (b : ℕ) → (b == 48) ≡ true → digit_value b ≡ 0

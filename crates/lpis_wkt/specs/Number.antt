@@ -37,12 +37,9 @@ abbrev pub is_numeral : List ℕ → Bool
 is_numeral w = list_all is_ascii_digit (whole w) && list_all is_ascii_digit (decimals w)
     && nat_lt 0 (length (whole w) + length (decimals w))
 
-abbrev pub is_zero_digit : ℕ → Bool
-is_zero_digit b = b == 48
-
 -- each digit past the decimals of a coordinate is 0
 abbrev pub is_fine : List ℕ → Bool
-is_fine w = list_all is_zero_digit (drop coordinate_decimals (decimals w))
+is_fine w = list_all (λ b. b == 48) (drop coordinate_decimals (decimals w))
 
 -- the first n digits, with zeros for those that are not there
 abbrev pub padded : ℕ → List ℕ → List ℕ

@@ -14,16 +14,11 @@ pub data Token : Type 0 where
 abbrev pub is_space : ℕ → Bool
 is_space b = (b == 32) || (b == 9) || (b == 13) || (b == 10)
 
--- A word's byte that stands at an offset, before these tokens: it belongs to the word that begins
--- directly after it.
+-- A word's byte at an offset, before these tokens: it joins a word that begins directly after it.
 abbrev pub join : ℕ → ℕ → List (ℕ × Token) → List (ℕ × Token)
-join at b [] = (at, Word (b ∷ [])) ∷ []
-join at b ((next, Open) ∷ ts) = (at, Word (b ∷ [])) ∷ (next, Open) ∷ ts
-join at b ((next, Close) ∷ ts) = (at, Word (b ∷ [])) ∷ (next, Close) ∷ ts
-join at b ((next, Comma) ∷ ts) = (at, Word (b ∷ [])) ∷ (next, Comma) ∷ ts
-join at b ((next, End) ∷ ts) = (at, Word (b ∷ [])) ∷ (next, End) ∷ ts
 join at b ((next, Word bs) ∷ ts) = if next == at + 1 then (at, Word (b ∷ bs)) ∷ ts else
     (at, Word (b ∷ [])) ∷ (next, Word bs) ∷ ts
+join at b ts = (at, Word (b ∷ [])) ∷ ts
 
 -- The tokens of a text that begins at an offset, each with the offset of its first byte.
 abbrev pub tokens_from : ℕ → List ℕ → List (ℕ × Token)

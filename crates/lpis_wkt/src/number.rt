@@ -6,10 +6,11 @@ ghost use Rattle.std.specs.List.{list_all};
 ghost use Rattle.std.specs.Char.{digit_value, is_ascii_digit};
 ghost use Rattle.std.specs.Str.Parse.{digits_value, digits_value_after};
 ghost use Rattle.lpis_points.specs.Range.{IsInRange};
-ghost use Rattle.lpis_wkt.specs.Number.{coordinate_decimals, is_point, is_zero_digit, unsigned};
+ghost use Rattle.lpis_wkt.specs.Number.{coordinate_decimals, is_point, unsigned};
 ghost use Rattle.lpis_wkt.specs.Number.{is_negative, whole, decimals, padded};
 ghost use Rattle.lpis_wkt.specs.Number.{size, number};
 ghost use Rattle.lpis_wkt.specs.private.Coordinates.{coordinate_in_range};
+ghost use Rattle.lpis_wkt.specs.private.Runs.{is_zero_digit};
 
 use crate::coordinate::Coordinate;
 use crate::fault::WktCode;

@@ -1,10 +1,15 @@
--- The fault of a column that is not found.
-use Rattle.std.specs.Prelude.{◌≡◌, ℕ, List, Option, Result, Err}
+-- Places found so far, and the fault of a column that is not found.
+use Rattle.std.specs.Prelude.{◌≡◌, ◌++◌, ℕ, List, Option, Result, Ok, Err}
 use Rattle.lpis_covers.specs.declared.fault.Table.{Table}
 use Rattle.lpis_covers.specs.declared.fault.TableCode.{TableCode}
 use Rattle.lpis_covers.specs.declared.fault.TableFault.{TableFault}
 use Rattle.lpis_covers.specs.declared.fault.TableFault.TheVariants.{Memory, At}
-use Rattle.lpis_covers.specs.Table.{fault_at}
+use Rattle.lpis_covers.specs.Table.{and_then, fault_at}
+
+-- places, and those after them
+abbrev pub after_places : List (Option ℕ) → Result (List (Option ℕ)) TableCode
+    → Result (List (Option ℕ)) TableCode
+after_places front more = and_then more (λ back. Ok (front ++ back))
 
 -- the fault reports, in row 0, what was said of the columns, or that memory ran out
 abbrev pub TellsColumn : Table → Result (List (Option ℕ)) TableCode → TableFault → Type 0

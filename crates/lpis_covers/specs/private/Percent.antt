@@ -6,11 +6,11 @@ use Rattle.std.proofs.lemmas.Bool.{and_parts}
 use Rattle.std.proofs.lemmas.Bool.Decides.{nat_tests}
 use Rattle.std.specs.Char.{is_ascii_digit}
 use Rattle.std.specs.Option.{ok_or}
+use Rattle.std.specs.Result.{result_unwrap_or}
 use Rattle.std.specs.Str.{bytes_eq}
 use Rattle.lpis_covers.specs.declared.fault.TableCode.{TableCode}
 use Rattle.lpis_covers.specs.declared.fault.TableCode.TheVariants.{BadEligible, BadPercent}
 use Rattle.lpis_covers.specs.Percentages.{digit, percent_of_mark, most_percent, percent_in}
-use Rattle.lpis_covers.specs.Percentages.{percent_of}
 use Rattle.lpis_covers.specs.Percentages.{percentage_in}
 
 small-digit : (a : ℕ) → is_ascii_digit a ≡ true → digit a ≤ 9
@@ -44,12 +44,12 @@ mark-within text n h =
     (within-by (bytes_eq text (codes "1")) most_percent n None (λ t. omega arith) (no-other n)) h
 
 or-within : (o : Option ℕ) (code : TableCode)
-    → ((m : ℕ) → o ≡ Some m → m ≤ most_percent) → percent_of (ok_or o code) ≤ most_percent
+    → ((m : ℕ) → o ≡ Some m → m ≤ most_percent) → result_unwrap_or (ok_or o code) 0 ≤ most_percent
 or-within None code all = omega arith
 or-within (Some m) code all = all m refl
 
 pub percentage-within : (percent : Option (List ℕ)) (eligible : List ℕ)
-    → percent_of (percentage_in percent eligible) ≤ most_percent
+    → result_unwrap_or (percentage_in percent eligible) 0 ≤ most_percent
 percentage-within (Some text) eligible = or-within (percent_in text) BadPercent
     (percent-within text)
 percentage-within None eligible =

@@ -4,10 +4,14 @@ use Rattle.std.specs.Prelude.{drop, not, ◌||◌, ◌==◌}
 use Rattle.std.specs.List.{before_first, after_first, list_all}
 use Rattle.std.specs.Char.{is_ascii_digit}
 use Rattle.std.specs.Str.Parse.{digits_value}
-use Rattle.lpis_wkt.specs.Number.{coordinate_decimals, greatest_coordinate, is_point, is_zero_digit}
+use Rattle.lpis_wkt.specs.Number.{coordinate_decimals, greatest_coordinate, is_point}
 use Rattle.lpis_wkt.specs.Number.{padded}
 use Rattle.lpis_wkt.specs.Number.{unsigned, is_negative}
 use Rattle.lpis_wkt.specs.Tokens.{is_space}
+
+-- the digit 0
+abbrev pub is_zero_digit : ℕ → Bool
+is_zero_digit b = b == 48
 
 -- a byte of a word: any but white space, `(`, `)` and `,`
 abbrev pub is_word : ℕ → Bool
