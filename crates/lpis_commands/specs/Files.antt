@@ -71,13 +71,16 @@ listed (files.Publish db year tables cert lineage) =
     tables_listed tables ++ shown_file cert ∷ shown_file lineage ∷ []
 listed (files.Trace db id) = []
 
--- the register with the year or the identifier, or the folder with what is printed of it, are those
--- of the command
+-- the files are those of the same command; and the register with the year or the identifier, or the
+-- folder with what is printed of it, are the command's
 abbrev pub HasWords : Cmd → CommandFiles → Type 0
+HasWords (cmd.Area file) (files.Area table) = ⊤
+HasWords (cmd.Cut dir cert) (files.Cut tables c) = ⊤
+HasWords (cmd.Check dir cert) (files.Check tables c) = ⊤
 HasWords (cmd.Country dir detail) (files.Country d country classes e) =
     (d.now ≡ dir.now) × (e ≡ detail)
 HasWords (cmd.Exact db dir cert out) (files.Exact d tables c lineage o) = d.now ≡ db.now
 HasWords (cmd.Publish db year dir cert) (files.Publish d y tables c lineage) =
     (d.now ≡ db.now) × (y ≡ year)
 HasWords (cmd.Trace db id) (files.Trace d i) = (d.now ≡ db.now) × (i.now ≡ id.now)
-HasWords _ _ = ⊤
+HasWords _ _ = ⊥
