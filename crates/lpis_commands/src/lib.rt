@@ -37,7 +37,7 @@ pub use named::{CommandFiles, NamedFile, RegionFiles, TableFiles, named_files, r
 pub use outcome::Outcome;
 pub use outputs::write_text;
 pub use printing::{PrintFault, print_area, print_eligible, print_line};
-pub use reading::{GREATEST_LIMIT, ReadFault, read_all, read_from, read_named};
+pub use reading::{GREATEST_LIMIT, ReadFault, read_all, read_named};
 pub use refusal::{print_cert_fault, print_check_fault, print_region, print_table_fault};
 pub use releases::{TableBytes, read_tables, release_in};
 pub use report::{print_parcel, write_report};

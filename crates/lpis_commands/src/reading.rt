@@ -1,7 +1,6 @@
 //! Reading all of an input.
 
-ghost use Rattle.std.specs.Prelude.{◌≡◌, ◌≤◌, ◌<◌, ◌↔◌, ℕ, List, length, IfSome, IfOk, IfErr};
-ghost use Rattle.std.specs.Prelude.{IsErrOf, vec_len};
+ghost use Rattle.std.specs.Prelude.{◌≡◌, ◌≤◌, ◌<◌, ◌↔◌, ℕ, List, length, IfOk, IfErr, vec_len};
 ghost use Rattle.std.specs.Io.KnownBytes.{Consumes, IsAtEnd};
 ghost use Rattle.lpis_commands.specs.Failures.{IsUnread};
 ghost use Rattle.lpis_commands.specs.Streams.{IsRead};
@@ -33,54 +32,22 @@ pub const GREATEST_LIMIT: usize = 1_073_741_824;
 /// How many bytes a read asks for at most.
 const CHUNK: usize = 65_536;
 
-/// All bytes that a reader gives up to its end, if they are at most `limit`.
+/// All bytes that a reader gives up to its end, if they are at most `limit`. Where it stands
+/// afterwards shows how much was read: the answer is `TooLong` exactly where that is more.
 ///
 /// An interrupted read is tried again. At most `2 * limit + 16` reads are made; where the reader
 /// has not ended by then, the answer is `Read`.
-pub fn read_all<R: Read + Drop>(
-    alloc: Global,
-    reader: R,
-    limit: usize,
-) -> Result<Vec<u8>, ReadFault>
-    requires { limit ≤ GREATEST_LIMIT }
-    ensures all { IfSome (R.remaining reader) (λ bytes. IfOk result (λ v. v.items ≡ bytes)) }
-    ensures short { IfOk result (λ v. vec_len v ≤ limit) }
-    ensures long { IsErrOf result ReadFault.TooLong
-        → IfSome (R.remaining reader) (λ bytes. limit < length bytes) }
-{
-    let mut reader = reader;
-    read_from(alloc, &mut reader, limit)
-}
-
-/// The same of a reader that is lent: where it stands afterwards shows how much was read. The
-/// answer is `TooLong` exactly where that is more than `limit` bytes.
-pub fn read_from<R: Read>(alloc: Global, reader: &mut R, limit: usize) -> Result<Vec<u8>, ReadFault>
+pub fn read_all<R: Read>(alloc: Global, reader: &mut R, limit: usize) -> Result<Vec<u8>, ReadFault>
     requires { limit ≤ GREATEST_LIMIT }
     ensures all { IfOk result (λ v. Consumes (R.remaining reader.old) (R.remaining reader.new)
         v.items × IsAtEnd (R.remaining reader.new) × (vec_len v ≤ limit)) }
     ensures part { IfErr result (λ fault. (given : List ℕ) × Consumes (R.remaining reader.old)
         (R.remaining reader.new) given × ((fault ≡ ReadFault.TooLong) ↔ (limit < length given))) }
 {
-    let Ok(mut chunk) = vec![in alloc; 0u8; CHUNK] else {
+    let Ok(mut room) = vec![in alloc; 0u8; CHUNK.min(limit + 1)] else {
         return Err(ReadFault::Memory);
     };
-    read_by(alloc, reader, limit, chunk.as_mut_slice())
-}
-
-/// The same, by reads into `chunk`.
-fn read_by<R: Read>(
-    alloc: Global,
-    reader: &mut R,
-    limit: usize,
-    chunk: &mut [u8],
-) -> Result<Vec<u8>, ReadFault>
-    requires limit { limit ≤ GREATEST_LIMIT }
-    requires room { 0 < length chunk.old }
-    ensures all { IfOk result (λ v. Consumes (R.remaining reader.old) (R.remaining reader.new)
-        v.items × IsAtEnd (R.remaining reader.new) × (vec_len v ≤ limit)) }
-    ensures part { IfErr result (λ fault. (given : List ℕ) × Consumes (R.remaining reader.old)
-        (R.remaining reader.new) given × ((fault ≡ ReadFault.TooLong) ↔ (limit < length given))) }
-{
+    let chunk = room.as_mut_slice();
     let mut bytes = Vec::new(alloc);
     for _ in 0..2 * limit + 16 {
         match reader.read(chunk) {
@@ -110,7 +77,8 @@ pub fn read_named<R: Read + Drop>(alloc: Global, reader: R, name: Name) -> Resul
     ensures all { IfOk result (λ v. IsRead v.items (R.remaining reader)) }
     ensures failure { IfErr result (IsUnread name) }
 {
-    match read_all(alloc, reader, GREATEST_LIMIT) {
+    let mut reader = reader;
+    match read_all(alloc, &mut reader, GREATEST_LIMIT) {
         Ok(bytes) => Ok(without_spare(bytes)?),
         Err(ReadFault::Memory) => Err(Failure::Memory),
         Err(_) => Err(Failure::Read(name)),
