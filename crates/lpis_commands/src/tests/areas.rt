@@ -1,7 +1,7 @@
 //! The areas of polygons, the faults of their texts, and tables of them.
 
 use super::devices::Paper;
-use super::releases::{HOLED, TWO_SQUARES, hold};
+use super::releases::hold;
 use crate::area::run_area;
 use crate::printing::{print_area, print_eligible};
 use lpis_testing::{SQUARE, expect, expect_answer};
@@ -22,88 +22,113 @@ fn expect_line(rt: &HostRuntime, polygon: &str, line: &str, status: u8) -> Resul
     expect_area(rt, table.as_str(), text.as_str(), status)
 }
 
+/// Polygons and their areas.
+static AREAS: [(&str, &str); 11] = [
+    ("POLYGON((0 0,10 0,10 10,0 10,0 0))", "100.0000000"),
+    // clockwise
+    ("POLYGON((0 0,0 10,10 10,10 0,0 0))", "100.0000000"),
+    // a triangle of a centimetre, and the smallest
+    ("Polygon ((0 0, 0.01 0, 0 0.010, 0 0))", "0.0000500"),
+    ("POLYGON((0 0,0.001 0,0 0.001,0 0))", "0.0000005"),
+    ("POLYGON((0 0,1.234 0,0 1,0 0))", "0.6170000"),
+    // a bow tie
+    ("POLYGON((0 0,10 10,10 0,0 10,0 0))", "0.0000000"),
+    // as far as a coordinate goes
+    ("POLYGON((0 0,20000000 0,0 1,0 0))", "10000000.0000000"),
+    // one point repeated
+    ("POLYGON((0 0,10 0,10 0,10 10,0 10,0 0))", "100.0000000"),
+    // a hole larger than its shell
+    (
+        "POLYGON((0 0,1 0,1 1,0 1,0 0),(0 0,2 0,2 2,0 2,0 0))",
+        "-3.0000000",
+    ),
+    // squares that touch in a corner
+    (
+        "MULTIPOLYGON(((0 0,10 0,10 10,0 10,0 0)),((10 10,20 10,20 20,10 20,10 10)))",
+        "200.0000000",
+    ),
+    // a hole that touches its shell in a corner
+    (
+        "POLYGON((0 0,10 0,10 10,0 10,0 0),(0 0,4 2,2 4,0 0))",
+        "94.0000000",
+    ),
+];
+
 #[test]
 fn polygons_have_their_areas(rt: HostRuntime) -> Result<(), Fail> {
-    for (polygon, area) in [
-        (SQUARE, "100.0000000"),
-        // clockwise
-        ("POLYGON((0 0,0 10,10 10,10 0,0 0))", "100.0000000"),
-        // a triangle of a centimetre, and the smallest
-        ("Polygon ((0 0, 0.01 0, 0 0.010, 0 0))", "0.0000500"),
-        ("POLYGON((0 0,0.001 0,0 0.001,0 0))", "0.0000005"),
-        ("POLYGON((0 0,1.234 0,0 1,0 0))", "0.6170000"),
-        // a bow tie
-        ("POLYGON((0 0,10 10,10 0,0 10,0 0))", "0.0000000"),
-        // as far as a coordinate goes
-        ("POLYGON((0 0,20000000 0,0 1,0 0))", "10000000.0000000"),
-        // one point repeated
-        ("POLYGON((0 0,10 0,10 0,10 10,0 10,0 0))", "100.0000000"),
-        // a hole larger than its shell
-        (
-            "POLYGON((0 0,1 0,1 1,0 1,0 0),(0 0,2 0,2 2,0 2,0 0))",
-            "-3.0000000",
-        ),
-        (TWO_SQUARES, "200.0000000"),
-        (HOLED, "94.0000000"),
-    ] {
+    for (polygon, area) in &AREAS {
         expect_line(&rt, polygon, area, 0)?;
     }
     Ok(())
 }
 
+/// Fails unless `area` refuses one text for this fault.
+fn expect_fault(rt: &HostRuntime, text: &str, fault: &str) -> Result<(), Fail> {
+    let line = format!(in rt.alloc(); "refused 38 area row 1 wkt {fault}")?;
+    expect_line(rt, text, line.as_str(), 2)
+}
+
+/// Texts that are no polygons, with the codes and offsets of their first faults.
+static FAULTS: [(&str, &str); 14] = [
+    ("POLYGON((0 0,20000000.001 0,0 1,0 0))", "15 at 13"),
+    ("POLYGON((0 0,20000000.01 0,0 1,0 0))", "15 at 13"),
+    ("POLYGON((0 0,1.2345 0,0 1,0 0))", "14 at 13"),
+    ("POLYGON((0 0,1e3 0,0 1,0 0))", "13 at 13"),
+    ("POLYGON EMPTY", "11 at 8"),
+    ("POLYGON((0 0,10 0,0 0))", "16 at 21"),
+    ("POLYGON((0 0,10 0,10 10,0 10))", "17 at 28"),
+    ("SRID=4326;POLYGON((0 0,1 0,1 1,0 0))", "12 at 0"),
+    ("POLYGON((0 0 5,1 0 5,1 1 5,0 0 5))", "12 at 13"),
+    ("POLYGON((0 0,1 0,1 1,0 0)) x", "18 at 27"),
+    ("", "10 at 0"),
+    ("POLYGON((0 0,1 0", "18 at 16"),
+    ("POLYGON((99999999999.999 0,1 0,1 1,0 0))", "15 at 9"),
+    // 44 digits
+    (
+        "POLYGON((99999999999999999999999999999999999999999999",
+        "15 at 9",
+    ),
+];
+
 #[test]
 fn other_texts_have_their_faults(rt: HostRuntime) -> Result<(), Fail> {
-    for (text, fault) in [
-        ("POLYGON((0 0,20000000.001 0,0 1,0 0))", "15 at 13"),
-        ("POLYGON((0 0,20000000.01 0,0 1,0 0))", "15 at 13"),
-        ("POLYGON((0 0,1.2345 0,0 1,0 0))", "14 at 13"),
-        ("POLYGON((0 0,1e3 0,0 1,0 0))", "13 at 13"),
-        ("POLYGON EMPTY", "11 at 8"),
-        ("POLYGON((0 0,10 0,0 0))", "16 at 21"),
-        ("POLYGON((0 0,10 0,10 10,0 10))", "17 at 28"),
-        ("SRID=4326;POLYGON((0 0,1 0,1 1,0 0))", "12 at 0"),
-        ("POLYGON((0 0 5,1 0 5,1 1 5,0 0 5))", "12 at 13"),
-        ("POLYGON((0 0,1 0,1 1,0 0)) x", "18 at 27"),
-        ("", "10 at 0"),
-        ("POLYGON((0 0,1 0", "18 at 16"),
-        ("POLYGON((99999999999.999 0,1 0,1 1,0 0))", "15 at 9"),
-        // 44 digits
-        (
-            "POLYGON((99999999999999999999999999999999999999999999",
-            "15 at 9",
-        ),
-    ] {
-        let line = format!(in rt.alloc(); "refused 38 area row 1 wkt {fault}")?;
-        expect_line(&rt, text, line.as_str(), 2)?;
+    for (text, fault) in &FAULTS {
+        expect_fault(&rt, text, fault)?;
     }
     Ok(())
 }
 
+/// Tables, and what is answered of each.
+static TABLES: [(&str, &str, u8); 10] = [
+    ("", "refused 31 area row 0\n", 2),
+    ("wkt\n", "", 0),
+    ("\u{feff}wkt\n", "", 0),
+    ("\u{feff}\u{feff}wkt\n", "refused 30 area row 0\n", 2),
+    (
+        "\u{feff}WKT\n\"POLYGON((0 0,1 0,0 1,0 0))\"\n",
+        "0.5000000\n",
+        0,
+    ),
+    ("name\nx\n", "refused 31 area row 0\n", 2),
+    ("wkt,Wkt\n", "refused 32 area row 0\n", 2),
+    // of two faults the first row's, and in a row its length first
+    ("wkt,x\nA,b\nC\n", "refused 38 area row 1 wkt 10 at 0\n", 2),
+    ("wkt,x\nC\nA,b\n", "refused 30 area row 1\n", 2),
+    // a piece with a hole, and the piece in it
+    (
+        "\
+            piece,parcel,class,wkt\n\
+            P,A,G,\"POLYGON((0 0,10 0,10 10,0 10,0 0),(4 4,6 4,6 6,4 6,4 4))\"\n\
+            H,A,W,\"POLYGON((4 4,6 4,6 6,4 6,4 4))\"\n",
+        "96.0000000\n4.0000000\n",
+        0,
+    ),
+];
+
 #[test]
 fn tables_have_their_answers(rt: HostRuntime) -> Result<(), Fail> {
-    for (table, text, status) in [
-        ("", "refused 31 area row 0\n", 2),
-        ("wkt\n", "", 0),
-        ("\u{feff}wkt\n", "", 0),
-        ("\u{feff}\u{feff}wkt\n", "refused 30 area row 0\n", 2),
-        (
-            "\u{feff}WKT\n\"POLYGON((0 0,1 0,0 1,0 0))\"\n",
-            "0.5000000\n",
-            0,
-        ),
-        ("name\nx\n", "refused 31 area row 0\n", 2),
-        ("wkt,Wkt\n", "refused 32 area row 0\n", 2),
-        // of two faults the first row's, and in a row its length first
-        ("wkt,x\nA,b\nC\n", "refused 38 area row 1 wkt 10 at 0\n", 2),
-        ("wkt,x\nC\nA,b\n", "refused 30 area row 1\n", 2),
-        // a piece with a hole, and the piece in it
-        (
-            "piece,parcel,class,wkt\nP,A,G,\"POLYGON((0 0,10 0,10 10,0 10,0 0),(4 4,6 4,6 6,4 6,4 4))\"\nH,A,W,\"POLYGON((4 4,6 4,6 6,4 6,4 4))\"\n",
-            "96.0000000\n4.0000000\n",
-            0,
-        ),
-    ] {
-        expect_area(&rt, table, text, status)?;
+    for (table, text, status) in &TABLES {
+        expect_area(&rt, table, text, *status)?;
     }
     Ok(())
 }
@@ -122,45 +147,49 @@ fn repeated(
     Ok(text)
 }
 
+/// Fails unless a polygon of a text, another so many times and a third has this line.
+fn expect_repeated(
+    rt: &HostRuntime,
+    parts: (&str, &str, &str),
+    times: usize,
+    line: &str,
+    status: u8,
+) -> Result<(), Fail> {
+    let polygon = repeated(rt, parts, times)?;
+    expect_line(rt, polygon.as_str(), line, status)
+}
+
 #[test]
 fn polygons_have_limits(rt: HostRuntime) -> Result<(), Fail> {
-    for (parts, times, line, status) in [
-        // leading zeros
-        (
-            ("POLYGON((0 0,", "0", "10 0,10 10,0 10,0 0))"),
-            200,
-            "100.0000000",
-            0,
-        ),
-        // points of a polygon
-        (("POLYGON((0 0", ",0 0", "))"), 99_999, "0.0000000", 0),
-        (
-            ("POLYGON((0 0", ",0 0", "))"),
-            100_000,
-            "refused 38 area row 1 wkt 19 at 400009",
-            2,
-        ),
-    ] {
-        let polygon = repeated(&rt, parts, times)?;
-        expect_line(&rt, polygon.as_str(), line, status)?;
-    }
-    Ok(())
+    let zeros = ("POLYGON((0 0,", "0", "10 0,10 10,0 10,0 0))");
+    expect_repeated(&rt, zeros, 200, "100.0000000", 0)?;
+    // points of a polygon
+    let points = ("POLYGON((0 0", ",0 0", "))");
+    expect_repeated(&rt, points, 99_999, "0.0000000", 0)?;
+    let line = "refused 38 area row 1 wkt 19 at 400009";
+    expect_repeated(&rt, points, 100_000, line, 2)
+}
+
+/// Fails unless this is answered of a table of so many rows, and a last line.
+fn expect_rows(
+    rt: &HostRuntime,
+    times: usize,
+    last: &str,
+    text: &str,
+    status: u8,
+) -> Result<(), Fail> {
+    let row = "\"POLYGON((0 0,1 0,1 1,0 0))\"\n";
+    let table = repeated(rt, ("wkt\n", row, last), times)?;
+    expect_area(rt, table.as_str(), text, status)
 }
 
 #[test]
 fn tables_have_a_limit(rt: HostRuntime) -> Result<(), Fail> {
     let lines = repeated(&rt, ("", "0.5000000\n", ""), 200_000)?;
-    for (last, times, text, status) in [
-        ("", 200_000, lines.as_str(), 0),
-        ("", 200_001, "refused 3a area row 200001\n", 2),
-        // its length comes before its number
-        ("a,b\n", 200_000, "refused 30 area row 200001\n", 2),
-    ] {
-        let parts = ("wkt\n", "\"POLYGON((0 0,1 0,1 1,0 0))\"\n", last);
-        let table = repeated(&rt, parts, times)?;
-        expect_area(&rt, table.as_str(), text, status)?;
-    }
-    Ok(())
+    expect_rows(&rt, 200_000, "", lines.as_str(), 0)?;
+    expect_rows(&rt, 200_001, "", "refused 3a area row 200001\n", 2)?;
+    // its length comes before its number
+    expect_rows(&rt, 200_000, "a,b\n", "refused 30 area row 200001\n", 2)
 }
 
 /// Fails unless the polygon's text, cut off after so many bytes, is refused.
@@ -198,17 +227,20 @@ fn expect_printed(rt: &HostRuntime, n: i64, area: &str, eligible: &str) -> Resul
     expect_text(&second, eligible)
 }
 
+/// Numbers, each as an area and as an eligible area.
+static PRINTED: [(i64, &str, &str); 6] = [
+    (0, "0.0000000", "0.000000000"),
+    (1, "0.0000005", "0.000000005"),
+    (-1, "-0.0000005", "-0.000000005"),
+    (123_456_789, "61.7283945", "0.617283945"),
+    (i64::MAX, "4611686018427.3879035", "46116860184.273879035"),
+    (i64::MIN, "-4611686018427.3879040", "-46116860184.273879040"),
+];
+
 #[test]
 fn numbers_are_printed_with_every_decimal(rt: HostRuntime) -> Result<(), Fail> {
-    for (n, area, eligible) in [
-        (0, "0.0000000", "0.000000000"),
-        (1, "0.0000005", "0.000000005"),
-        (-1, "-0.0000005", "-0.000000005"),
-        (123_456_789, "61.7283945", "0.617283945"),
-        (i64::MAX, "4611686018427.3879035", "46116860184.273879035"),
-        (i64::MIN, "-4611686018427.3879040", "-46116860184.273879040"),
-    ] {
-        expect_printed(&rt, n, area, eligible)?;
+    for (n, area, eligible) in &PRINTED {
+        expect_printed(&rt, *n, area, eligible)?;
     }
     Ok(())
 }

@@ -32,136 +32,205 @@ fn expect_fault(rt: &HostRuntime, line: &str, kind: ErrorKind) -> Result<(), Fai
     }
 }
 
-/// The publication of a folder `a` with a certificate `b`.
-fn publish(db: &str, year: u16) -> Cmd<'_> {
-    Cmd::Publish {
-        db,
-        year,
-        dir: "a",
-        cert: "b",
-    }
-}
-
-/// The check of the country in a folder.
-fn country(dir: &str, detail: Detail) -> Cmd<'_> {
-    Cmd::Country { dir, detail }
-}
-
-/// The blocks for a folder `a` and a certificate `b`, written to `c`.
-fn exact<'a>(db: &'a str) -> Cmd<'a> {
-    Cmd::Exact {
-        db,
-        dir: "a",
-        cert: "b",
-        out: "c",
-    }
-}
+/// Lines, and the commands that they ask for.
+static COMMANDS: [(&str, Cmd<'_>); 21] = [
+    ("lpis area a.csv", Cmd::Area { file: "a.csv" }),
+    (
+        "lpis cut a b",
+        Cmd::Cut {
+            dir: "a",
+            cert: "b",
+        },
+    ),
+    (
+        "lpis check a b",
+        Cmd::Check {
+            dir: "a",
+            cert: "b",
+        },
+    ),
+    (
+        "lpis country a",
+        Cmd::Country {
+            dir: "a",
+            detail: Detail::Regions,
+        },
+    ),
+    (
+        "lpis country --parcels a",
+        Cmd::Country {
+            dir: "a",
+            detail: Detail::Parcels,
+        },
+    ),
+    (
+        "lpis country a --parcels",
+        Cmd::Country {
+            dir: "a",
+            detail: Detail::Parcels,
+        },
+    ),
+    (
+        "lpis exact a.db a b c",
+        Cmd::Exact {
+            db: "a.db",
+            dir: "a",
+            cert: "b",
+            out: "c",
+        },
+    ),
+    (
+        "lpis publish a.db 2024 a b",
+        Cmd::Publish {
+            db: "a.db",
+            year: 2024,
+            dir: "a",
+            cert: "b",
+        },
+    ),
+    (
+        "lpis trace a.db A-1",
+        Cmd::Trace {
+            db: "a.db",
+            id: "A-1",
+        },
+    ),
+    // equal words
+    ("area area area", Cmd::Area { file: "area" }),
+    (
+        "cut cut cut cut",
+        Cmd::Cut {
+            dir: "cut",
+            cert: "cut",
+        },
+    ),
+    (
+        "check check check check",
+        Cmd::Check {
+            dir: "check",
+            cert: "check",
+        },
+    ),
+    (
+        "country country country",
+        Cmd::Country {
+            dir: "country",
+            detail: Detail::Regions,
+        },
+    ),
+    // behind two dashes a word is no option
+    (
+        "lpis country -- --parcels",
+        Cmd::Country {
+            dir: "--parcels",
+            detail: Detail::Regions,
+        },
+    ),
+    (
+        "lpis exact exact a b c",
+        Cmd::Exact {
+            db: "exact",
+            dir: "a",
+            cert: "b",
+            out: "c",
+        },
+    ),
+    (
+        "lpis publish 7 7 a b",
+        Cmd::Publish {
+            db: "7",
+            year: 7,
+            dir: "a",
+            cert: "b",
+        },
+    ),
+    (
+        "trace trace trace trace",
+        Cmd::Trace {
+            db: "trace",
+            id: "trace",
+        },
+    ),
+    // a year is a number from 1 to 9999
+    (
+        "lpis publish a.db 1 a b",
+        Cmd::Publish {
+            db: "a.db",
+            year: 1,
+            dir: "a",
+            cert: "b",
+        },
+    ),
+    (
+        "lpis publish a.db 9999 a b",
+        Cmd::Publish {
+            db: "a.db",
+            year: 9999,
+            dir: "a",
+            cert: "b",
+        },
+    ),
+    (
+        "lpis publish a.db +2024 a b",
+        Cmd::Publish {
+            db: "a.db",
+            year: 2024,
+            dir: "a",
+            cert: "b",
+        },
+    ),
+    (
+        "lpis publish a.db 0000002024 a b",
+        Cmd::Publish {
+            db: "a.db",
+            year: 2024,
+            dir: "a",
+            cert: "b",
+        },
+    ),
+];
 
 #[test]
 fn words_ask_for_a_command(rt: HostRuntime) -> Result<(), Fail> {
-    for (line, command) in [
-        ("lpis area a.csv", Cmd::Area { file: "a.csv" }),
-        (
-            "lpis cut a b",
-            Cmd::Cut {
-                dir: "a",
-                cert: "b",
-            },
-        ),
-        (
-            "lpis check a b",
-            Cmd::Check {
-                dir: "a",
-                cert: "b",
-            },
-        ),
-        ("lpis country a", country("a", Detail::Regions)),
-        ("lpis country --parcels a", country("a", Detail::Parcels)),
-        ("lpis country a --parcels", country("a", Detail::Parcels)),
-        ("lpis exact a.db a b c", exact("a.db")),
-        ("lpis publish a.db 2024 a b", publish("a.db", 2024)),
-        (
-            "lpis trace a.db A-1",
-            Cmd::Trace {
-                db: "a.db",
-                id: "A-1",
-            },
-        ),
-        // equal words
-        ("area area area", Cmd::Area { file: "area" }),
-        (
-            "cut cut cut cut",
-            Cmd::Cut {
-                dir: "cut",
-                cert: "cut",
-            },
-        ),
-        (
-            "check check check check",
-            Cmd::Check {
-                dir: "check",
-                cert: "check",
-            },
-        ),
-        (
-            "country country country",
-            country("country", Detail::Regions),
-        ),
-        // behind two dashes a word is no option
-        (
-            "lpis country -- --parcels",
-            country("--parcels", Detail::Regions),
-        ),
-        ("lpis exact exact a b c", exact("exact")),
-        ("lpis publish 7 7 a b", publish("7", 7)),
-        (
-            "trace trace trace trace",
-            Cmd::Trace {
-                db: "trace",
-                id: "trace",
-            },
-        ),
-        // a year is a number from 1 to 9999
-        ("lpis publish a.db 1 a b", publish("a.db", 1)),
-        ("lpis publish a.db 9999 a b", publish("a.db", 9999)),
-        ("lpis publish a.db +2024 a b", publish("a.db", 2024)),
-        ("lpis publish a.db 0000002024 a b", publish("a.db", 2024)),
-    ] {
-        expect_command(&rt, line, command)?;
+    for (line, command) in &COMMANDS {
+        expect_command(&rt, line, *command)?;
     }
     Ok(())
 }
 
+/// Lines that ask for none, and the kinds of their faults.
+static WORDS: [(&str, ErrorKind); 19] = [
+    ("lpis publish a.db 0 a b", ErrorKind::ValueValidation),
+    ("lpis publish a.db 10000 a b", ErrorKind::ValueValidation),
+    ("lpis publish a.db  a b", ErrorKind::ValueValidation),
+    ("lpis publish a.db two a b", ErrorKind::ValueValidation),
+    ("lpis publish a.db 2024.5 a b", ErrorKind::ValueValidation),
+    (
+        "lpis publish a.db 18446744073709551617 a b",
+        ErrorKind::ValueValidation,
+    ),
+    ("lpis area", ErrorKind::MissingRequiredArgument),
+    ("lpis area a.csv b.csv", ErrorKind::UnknownArgument),
+    ("lpis check a", ErrorKind::MissingRequiredArgument),
+    ("lpis country --parcels", ErrorKind::MissingRequiredArgument),
+    ("lpis country a b", ErrorKind::UnknownArgument),
+    ("lpis country a --pieces", ErrorKind::UnknownArgument),
+    ("lpis country a --parcels=a", ErrorKind::TooManyValues),
+    (
+        "lpis country --parcels --parcels a",
+        ErrorKind::ArgumentConflict,
+    ),
+    ("lpis exact a.db a b", ErrorKind::MissingRequiredArgument),
+    ("lpis exact a.db a b c d", ErrorKind::UnknownArgument),
+    ("lpis retrace a b", ErrorKind::InvalidSubcommand),
+    ("lpis --help", ErrorKind::DisplayHelp),
+    ("lpis --version", ErrorKind::DisplayVersion),
+];
+
 #[test]
 fn other_words_are_faults(rt: HostRuntime) -> Result<(), Fail> {
-    for (line, kind) in [
-        ("lpis publish a.db 0 a b", ErrorKind::ValueValidation),
-        ("lpis publish a.db 10000 a b", ErrorKind::ValueValidation),
-        ("lpis publish a.db  a b", ErrorKind::ValueValidation),
-        ("lpis publish a.db two a b", ErrorKind::ValueValidation),
-        ("lpis publish a.db 2024.5 a b", ErrorKind::ValueValidation),
-        (
-            "lpis publish a.db 18446744073709551617 a b",
-            ErrorKind::ValueValidation,
-        ),
-        ("lpis area", ErrorKind::MissingRequiredArgument),
-        ("lpis area a.csv b.csv", ErrorKind::UnknownArgument),
-        ("lpis check a", ErrorKind::MissingRequiredArgument),
-        ("lpis country --parcels", ErrorKind::MissingRequiredArgument),
-        ("lpis country a b", ErrorKind::UnknownArgument),
-        ("lpis country a --pieces", ErrorKind::UnknownArgument),
-        ("lpis country a --parcels=a", ErrorKind::TooManyValues),
-        (
-            "lpis country --parcels --parcels a",
-            ErrorKind::ArgumentConflict,
-        ),
-        ("lpis exact a.db a b", ErrorKind::MissingRequiredArgument),
-        ("lpis exact a.db a b c d", ErrorKind::UnknownArgument),
-        ("lpis retrace a b", ErrorKind::InvalidSubcommand),
-        ("lpis --help", ErrorKind::DisplayHelp),
-        ("lpis --version", ErrorKind::DisplayVersion),
-    ] {
-        expect_fault(&rt, line, kind)?;
+    for (line, kind) in &WORDS {
+        expect_fault(&rt, line, *kind)?;
     }
     Ok(())
 }

@@ -2,22 +2,15 @@
 
 use super::devices::Paper;
 use super::releases::{
-    EMPTY_REPORT, HALVES_REPORT, HOLED, ONE_PIECE, OVERLAPPING, Rows, SQUARE_REPORT, TWO_PIECES,
-    TWO_SQUARES, Tables, WHOLE, hold,
+    EMPTY_REPORT, HALVES_REPORT, ONE_PIECE, OVERLAPPING, OVERLAPPING_PIECES, Rows, SQUARE_REPORT,
+    TWO_PIECES, TWO_SQUARES, TWO_SQUARES_PIECE, Tables, WHOLE, hold,
 };
 use crate::cut_line::print_refusal;
 use lpis_covers::Id;
 use lpis_cutter::Refusal;
 use lpis_points::RatPoint;
-use lpis_testing::{LEFT, RIGHT_MOVED, SQUARE, expect, expect_answer};
+use lpis_testing::{expect, expect_answer};
 use std::test::Fail;
-
-/// The square with a hole that is a square of two metres.
-static RIM: &str = "POLYGON((0 0,10 0,10 10,0 10,0 0),(4 4,6 4,6 6,4 6,4 4))";
-
-static POND: &str = "POLYGON((4 4,6 4,6 6,4 6,4 4))";
-
-static BOW_TIE: &str = "POLYGON((0 0,10 10,10 0,0 10,0 0))";
 
 /// An identifier of this text.
 fn id_of(rt: &HostRuntime, text: &str) -> Result<Id, Fail> {
@@ -34,36 +27,49 @@ fn expect_line(rt: &HostRuntime, refusal: &Refusal, line: &str) -> Result<(), Fa
     )
 }
 
-#[test]
-fn refusals_of_one_have_their_lines(rt: HostRuntime) -> Result<(), Fail> {
-    let piece = id_of(&rt, "C1")?;
-    expect_line(&rt, &Refusal::NoCut { piece }, "refused 40 piece C1\n")?;
-    let at = RatPoint::new(0, -7, 2).ok_or("a point")?;
-    let parcel = id_of(&rt, "A")?;
-    let refusal = Refusal::Disagreement { parcel, at };
-    expect_line(&rt, &refusal, "refused 43 parcel A at 0 -7 2\n")?;
-    let parcel = id_of(&rt, "A")?;
-    expect_line(&rt, &Refusal::NoFlats { parcel }, "refused 44 parcel A\n")
+/// Fails unless a piece that is not cut, and a parcel without flats, have these lines.
+fn expect_of_one(rt: &HostRuntime) -> Result<(), Fail> {
+    let piece = id_of(rt, "C1")?;
+    expect_line(rt, &Refusal::NoCut { piece }, "refused 40 piece C1\n")?;
+    let parcel = id_of(rt, "A")?;
+    expect_line(rt, &Refusal::NoFlats { parcel }, "refused 44 parcel A\n")
+}
+
+/// Fails unless a parcel that its pieces do not fill at a point has this line.
+fn expect_disagreement(rt: &HostRuntime, at: RatPoint, line: &str) -> Result<(), Fail> {
+    let parcel = id_of(rt, "A")?;
+    expect_line(rt, &Refusal::Disagreement { parcel, at }, line)
+}
+
+/// Fails unless two parcels that overlap at a point have this line.
+fn expect_parcels(rt: &HostRuntime, at: RatPoint, line: &str) -> Result<(), Fail> {
+    let (first, second) = (id_of(rt, "A")?, id_of(rt, "B")?);
+    expect_line(rt, &Refusal::ParcelsOverlap { first, second, at }, line)
+}
+
+/// Fails unless two pieces that overlap at a point have this line.
+fn expect_pieces(rt: &HostRuntime, at: RatPoint, line: &str) -> Result<(), Fail> {
+    let (first, second) = (id_of(rt, "a1")?, id_of(rt, "b1")?);
+    expect_line(rt, &Refusal::PiecesOverlap { first, second, at }, line)
+}
+
+/// Fails unless two pieces without a separating edge have this line.
+fn expect_inseparable(rt: &HostRuntime, line: &str) -> Result<(), Fail> {
+    let (first, second) = (id_of(rt, "a1")?, id_of(rt, "b1")?);
+    expect_line(rt, &Refusal::NoSeparator { first, second }, line)
 }
 
 #[test]
-fn refusals_of_two_have_their_lines(rt: HostRuntime) -> Result<(), Fail> {
-    let at = RatPoint::new(-20_000_000_000_000_000, 31, 1_000_000).ok_or("a point")?;
-    let (first, second) = (id_of(&rt, "A")?, id_of(&rt, "B")?);
-    expect_line(
-        &rt,
-        &Refusal::ParcelsOverlap { first, second, at },
-        "refused 41 parcels A B at -20000000000000000 31 1000000\n",
-    )?;
-    let (first, second) = (id_of(&rt, "a1")?, id_of(&rt, "b1")?);
-    expect_line(
-        &rt,
-        &Refusal::PiecesOverlap { first, second, at },
-        "refused 41 pieces a1 b1 at -20000000000000000 31 1000000\n",
-    )?;
-    let (first, second) = (id_of(&rt, "a1")?, id_of(&rt, "b1")?);
-    let refusal = Refusal::NoSeparator { first, second };
-    expect_line(&rt, &refusal, "refused 42 pieces a1 b1\n")
+fn refusals_have_their_lines(rt: HostRuntime) -> Result<(), Fail> {
+    let near = RatPoint::new(0, -7, 2).ok_or("a point")?;
+    let far = RatPoint::new(-20_000_000_000_000_000, 31, 1_000_000).ok_or("a point")?;
+    expect_of_one(&rt)?;
+    expect_disagreement(&rt, near, "refused 43 parcel A at 0 -7 2\n")?;
+    let line = "refused 41 parcels A B at -20000000000000000 31 1000000\n";
+    expect_parcels(&rt, far, line)?;
+    let line = "refused 41 pieces a1 b1 at -20000000000000000 31 1000000\n";
+    expect_pieces(&rt, far, line)?;
+    expect_inseparable(&rt, "refused 42 pieces a1 b1\n")
 }
 
 /// What a cut writes of a release: the certificate, what is printed and the status.
@@ -98,48 +104,50 @@ fn expect_cut(rt: &HostRuntime, rows: Rows<'_>, line: &str, report: &str) -> Res
     expect_answer(out.text.as_slice(), answer, report, 0)
 }
 
+/// Lines of parcels and of pieces, how the line of the cut begins, and the report.
+static CUTS: [(&str, &str, &str, &str); 6] = [
+    (WHOLE, ONE_PIECE, "triangles 2 pairs 1\n", SQUARE_REPORT),
+    (WHOLE, TWO_PIECES, "triangles ", HALVES_REPORT),
+    // a hole and the piece in it
+    (
+        WHOLE,
+        "\
+            P,A,G,\"POLYGON((0 0,10 0,10 10,0 10,0 0),(4 4,6 4,6 6,4 6,4 4))\"\n\
+            H,A,W,\"POLYGON((4 4,6 4,6 6,4 6,4 4))\"\n",
+        "triangles ",
+        "\
+            parcels 1 pieces 2\n\
+            parcel A area 100.0000000 eligible 96.000000000\n\
+            total area 100.0000000 eligible 96.000000000\n\
+            yes\n",
+    ),
+    // rings that touch in a corner
+    (
+        TWO_SQUARES,
+        TWO_SQUARES_PIECE,
+        "triangles 4 pairs 2\n",
+        "\
+            parcels 1 pieces 1\n\
+            parcel A area 200.0000000 eligible 200.000000000\n\
+            total area 200.0000000 eligible 200.000000000\n\
+            yes\n",
+    ),
+    (
+        "A,\"POLYGON((0 0,10 0,10 10,0 10,0 0),(0 0,4 2,2 4,0 0))\"\n",
+        "C1,A,G,\"POLYGON((0 0,10 0,10 10,0 10,0 0),(0 0,4 2,2 4,0 0))\"\n",
+        "triangles ",
+        "\
+            parcels 1 pieces 1\n\
+            parcel A area 94.0000000 eligible 94.000000000\n\
+            total area 94.0000000 eligible 94.000000000\n\
+            yes\n",
+    ),
+    ("", "", "triangles 0 pairs 0\n", EMPTY_REPORT),
+];
+
 #[test]
 fn releases_are_cut(rt: HostRuntime) -> Result<(), Fail> {
-    for (parcels, pieces, line, report) in [
-        (
-            WHOLE.as_slice(),
-            ONE_PIECE.as_slice(),
-            "triangles 2 pairs 1\n",
-            SQUARE_REPORT,
-        ),
-        (
-            WHOLE.as_slice(),
-            TWO_PIECES.as_slice(),
-            "triangles ",
-            HALVES_REPORT,
-        ),
-        // a hole and the piece in it
-        (
-            WHOLE.as_slice(),
-            [("P,A,G", RIM), ("H,A,W", POND)].as_slice(),
-            "triangles ",
-            "parcels 1 pieces 2\nparcel A area 100.0000000 eligible 96.000000000\ntotal area 100.0000000 eligible 96.000000000\nyes\n",
-        ),
-        // rings that touch in a corner
-        (
-            [("A", TWO_SQUARES)].as_slice(),
-            [("C1,A,G", TWO_SQUARES)].as_slice(),
-            "triangles 4 pairs 2\n",
-            "parcels 1 pieces 1\nparcel A area 200.0000000 eligible 200.000000000\ntotal area 200.0000000 eligible 200.000000000\nyes\n",
-        ),
-        (
-            [("A", HOLED)].as_slice(),
-            [("C1,A,G", HOLED)].as_slice(),
-            "triangles ",
-            "parcels 1 pieces 1\nparcel A area 94.0000000 eligible 94.000000000\ntotal area 94.0000000 eligible 94.000000000\nyes\n",
-        ),
-        (
-            [].as_slice(),
-            [].as_slice(),
-            "triangles 0 pairs 0\n",
-            EMPTY_REPORT,
-        ),
-    ] {
+    for (parcels, pieces, line, report) in &CUTS {
         expect_cut(&rt, Rows::new(parcels, pieces), line, report)?;
     }
     Ok(())
@@ -158,44 +166,45 @@ fn expect_refusal(rt: &HostRuntime, rows: Rows<'_>, line: &str, status: u8) -> R
     hold(written.status == status, line)
 }
 
+/// Lines of parcels and of pieces, how the line of the refusal begins, and the status.
+static REFUSED: [(&str, &str, &str, u8); 5] = [
+    // a gap of a centimetre
+    (
+        WHOLE,
+        "\
+            L,A,G,\"POLYGON((0 0,5 0,5 10,0 10,0 0))\"\n\
+            R,A,W,\"POLYGON((5.01 0,10 0,10 10,5.01 10,5.01 0))\"\n",
+        "refused 43 parcel A at ",
+        1,
+    ),
+    // a parcel that its pieces do not fill
+    (
+        WHOLE,
+        "L,A,G,\"POLYGON((0 0,5 0,5 10,0 10,0 0))\"\n",
+        "refused 43 parcel A at ",
+        1,
+    ),
+    // a bow tie
+    (
+        "A,\"POLYGON((0 0,10 10,10 0,0 10,0 0))\"\n",
+        "C1,A,G,\"POLYGON((0 0,10 10,10 0,0 10,0 0))\"\n",
+        "refused 40 piece C1\n",
+        1,
+    ),
+    (OVERLAPPING, OVERLAPPING_PIECES, "refused 41 p", 1),
+    // faults of the tables come first
+    (
+        WHOLE,
+        "L,B,G,\"POLYGON((0 0,5 0,5 10,0 10,0 0))\"\n",
+        "refused 35 covers row 1\n",
+        2,
+    ),
+];
+
 #[test]
 fn other_releases_are_refused(rt: HostRuntime) -> Result<(), Fail> {
-    for (parcels, pieces, line, status) in [
-        // a gap of a centimetre
-        (
-            WHOLE.as_slice(),
-            [("L,A,G", LEFT), ("R,A,W", RIGHT_MOVED)].as_slice(),
-            "refused 43 parcel A at ",
-            1,
-        ),
-        // a parcel that its pieces do not fill
-        (
-            WHOLE.as_slice(),
-            [("L,A,G", LEFT)].as_slice(),
-            "refused 43 parcel A at ",
-            1,
-        ),
-        (
-            [("A", BOW_TIE)].as_slice(),
-            [("C1,A,G", BOW_TIE)].as_slice(),
-            "refused 40 piece C1\n",
-            1,
-        ),
-        (
-            [("A", SQUARE), ("B", OVERLAPPING)].as_slice(),
-            [("a,A,G", SQUARE), ("b,B,G", OVERLAPPING)].as_slice(),
-            "refused 41 p",
-            1,
-        ),
-        // faults of the tables come first
-        (
-            WHOLE.as_slice(),
-            [("L,B,G", LEFT)].as_slice(),
-            "refused 35 covers row 1\n",
-            2,
-        ),
-    ] {
-        expect_refusal(&rt, Rows::new(parcels, pieces), line, status)?;
+    for (parcels, pieces, line, status) in &REFUSED {
+        expect_refusal(&rt, Rows::new(parcels, pieces), line, *status)?;
     }
     Ok(())
 }

@@ -9,58 +9,61 @@ use lpis_testing::{CLASSES, Halting};
 use std::test::Fail;
 
 /// Of the square as a parcel A of one piece.
-pub static SQUARE_REPORT: &str = "\
+pub const SQUARE_REPORT: &str = "\
     parcels 1 pieces 1\n\
     parcel A area 100.0000000 eligible 100.000000000\n\
     total area 100.0000000 eligible 100.000000000\n\
     yes\n";
 
 /// Of the square as a parcel A of its halves, the second of which is not eligible.
-pub static HALVES_REPORT: &str = "\
+pub const HALVES_REPORT: &str = "\
     parcels 1 pieces 2\n\
     parcel A area 100.0000000 eligible 50.000000000\n\
     total area 100.0000000 eligible 50.000000000\n\
     yes\n";
 
 /// Of three headers alone.
-pub static EMPTY_REPORT: &str = "\
+pub const EMPTY_REPORT: &str = "\
     parcels 0 pieces 0\n\
     total area 0.0000000 eligible 0.000000000\n\
     yes\n";
 
-/// The square and another one, which touch in a corner.
-pub static TWO_SQUARES: &str =
-    "MULTIPOLYGON(((0 0,10 0,10 10,0 10,0 0)),((10 10,20 10,20 20,10 20,10 10)))";
-
-/// The square with a hole that touches its shell in a corner.
-pub static HOLED: &str = "POLYGON((0 0,10 0,10 10,0 10,0 0),(0 0,4 2,2 4,0 0))";
-
-/// A polygon that has a strip of the square, a metre wide.
-pub static OVERLAPPING: &str = "POLYGON((9 0,20 0,20 10,9 10,9 0))";
-
-/// The rows of a release's tables, each its words and its polygon, and its classes.
+/// The lines of a release's tables of parcels and of pieces below their headers, and its table of
+/// classes.
 #[derive(Clone, Copy)]
 pub struct Rows<'a> {
-    pub parcels: &'a [(&'a str, &'a str)],
-    pub pieces: &'a [(&'a str, &'a str)],
+    pub parcels: &'a str,
+    pub pieces: &'a str,
     pub classes: &'a str,
 }
 
 /// The square as a parcel.
-pub static WHOLE: [(&str, &str); 1] = [("A", "POLYGON((0 0,10 0,10 10,0 10,0 0))")];
+pub const WHOLE: &str = "A,\"POLYGON((0 0,10 0,10 10,0 10,0 0))\"\n";
 
 /// The square as a piece.
-pub static ONE_PIECE: [(&str, &str); 1] = [("C1,A,G", "POLYGON((0 0,10 0,10 10,0 10,0 0))")];
+pub const ONE_PIECE: &str = "C1,A,G,\"POLYGON((0 0,10 0,10 10,0 10,0 0))\"\n";
 
 /// The halves as pieces of two classes.
-pub static TWO_PIECES: [(&str, &str); 2] = [
-    ("L,A,G", "POLYGON((0 0,5 0,5 10,0 10,0 0))"),
-    ("R,A,W", "POLYGON((5 0,10 0,10 10,5 10,5 0))"),
-];
+pub const TWO_PIECES: &str =
+    "L,A,G,\"POLYGON((0 0,5 0,5 10,0 10,0 0))\"\nR,A,W,\"POLYGON((5 0,10 0,10 10,5 10,5 0))\"\n";
+
+/// The square and another one, which touch in a corner, as a parcel and as a piece.
+pub const TWO_SQUARES: &str =
+    "A,\"MULTIPOLYGON(((0 0,10 0,10 10,0 10,0 0)),((10 10,20 10,20 20,10 20,10 10)))\"\n";
+
+pub const TWO_SQUARES_PIECE: &str =
+    "C1,A,G,\"MULTIPOLYGON(((0 0,10 0,10 10,0 10,0 0)),((10 10,20 10,20 20,10 20,10 10)))\"\n";
+
+/// The square and a polygon that has a strip of it, a metre wide, as parcels and as pieces.
+pub const OVERLAPPING: &str =
+    "A,\"POLYGON((0 0,10 0,10 10,0 10,0 0))\"\nB,\"POLYGON((9 0,20 0,20 10,9 10,9 0))\"\n";
+
+pub const OVERLAPPING_PIECES: &str =
+    "a,A,G,\"POLYGON((0 0,10 0,10 10,0 10,0 0))\"\nb,B,G,\"POLYGON((9 0,20 0,20 10,9 10,9 0))\"\n";
 
 impl<'a> Rows<'a> {
     /// With the table of two classes.
-    pub fn new(parcels: &'a [(&'a str, &'a str)], pieces: &'a [(&'a str, &'a str)]) -> Rows<'a> {
+    pub fn new(parcels: &'a str, pieces: &'a str) -> Rows<'a> {
         Rows {
             parcels,
             pieces,
@@ -70,12 +73,12 @@ impl<'a> Rows<'a> {
 
     /// The square as a parcel A of one piece C1.
     pub fn square() -> Rows<'static> {
-        Rows::new(WHOLE.as_slice(), ONE_PIECE.as_slice())
+        Rows::new(WHOLE, ONE_PIECE)
     }
 
     /// The square as a parcel A of its halves L and R.
     pub fn halves() -> Rows<'static> {
-        Rows::new(WHOLE.as_slice(), TWO_PIECES.as_slice())
+        Rows::new(WHOLE, TWO_PIECES)
     }
 }
 
@@ -87,21 +90,12 @@ pub struct Tables<'a> {
     pub classes: &'a str,
 }
 
-/// A table of rows, each of these words before a polygon.
-fn table_of(rt: &HostRuntime, header: &str, rows: &[(&str, &str)]) -> Result<String, Fail> {
-    let mut table = format!(in rt.alloc(); "{header}\n")?;
-    for (words, polygon) in rows {
-        table.push_str(format!(in rt.alloc(); "{words},\"{polygon}\"\n")?.as_str())?;
-    }
-    Ok(table)
-}
-
 impl<'a> Tables<'a> {
     /// The tables of these rows.
     pub fn new(rt: &HostRuntime, rows: Rows<'a>) -> Result<Tables<'a>, Fail> {
         Ok(Tables {
-            parcels: table_of(rt, "parcel,wkt", rows.parcels)?,
-            covers: table_of(rt, "piece,parcel,class,wkt", rows.pieces)?,
+            parcels: format!(in rt.alloc(); "parcel,wkt\n{}", rows.parcels)?,
+            covers: format!(in rt.alloc(); "piece,parcel,class,wkt\n{}", rows.pieces)?,
             classes: rows.classes,
         })
     }
