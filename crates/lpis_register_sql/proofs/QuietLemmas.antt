@@ -1,7 +1,7 @@
 -- How calls that only read join.
 use Rattle.std.proofs.Common.{arith, refl, inl, ◌≡◌, Ok, Err, Result}
 use Rattle.lpis_register_sql.proofs.Common.{HasCleanDisk, State, Survives, Content, Layout, IsStored}
-use Rattle.sqlite.proofs.StateLemmas.{survives_then, survives_weaker}
+use Rattle.sqlite.proofs.StateLemmas.{survives_then}
 use Rattle.lpis_register_sql.specs.Quiet.{LeavesNone, ReadsRows}
 
 -- what the calls so far have answered
@@ -46,12 +46,4 @@ answered told made = record {
   ok = λ clean s p c h. let it = told.says clean s p c h in (made c it.0, it.1);
   same = λ clean up s p c h. (told.says clean s p c h).1;
   survives = told.survives;
-}
-
--- a call that reads tables of more orders than are asked for
-pub reads_of : {P Q : Layout → Type 0} {X E : Type 0} {Says : Content → X → Type 0} {a b : State} {r : Result X E} → ((s : Layout) → P s → Q s) → ReadsRows Q Says a b r → ReadsRows P Says a b r
-reads_of {a = a} {b = b} f reads = record {
-  ok = λ clean s p c h. reads.ok clean s (f s p) c h;
-  same = λ clean up s p c h. reads.same clean up s (f s p) c h;
-  survives = survives_weaker a b _ _ (λ _ db none s p c h. none s (f s p) c h) reads.survives;
 }
