@@ -279,5 +279,7 @@ def report(layers, out, accept, say, epsg=None, counts=None):
     stopping = sum(loss.stops() for loss in losses)
     if not stopping:
         return 0
-    print(f"to look at: {stopping}" + (", accepted" if accept else ": mend the source, or take the tables as they are by --accept"))
+    refused = any(loss.stays for loss in losses)
+    remedy = ": mend the source" if refused else ": mend the source, or take the tables as they are by --accept"
+    print(f"to look at: {stopping}" + (", accepted" if accept else remedy) + ("; lpis refuses these tables" if refused else ""))
     return 0 if accept else 1
