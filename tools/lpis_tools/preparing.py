@@ -189,9 +189,11 @@ class Preparation:
         new = given[column].get(old) or self.renamed[column].get(old) or (old if identifiers.is_one(old) else identifiers.made_of(old))
         row.fields[column] = new
         if new != old and old not in self.renamed[column]:
+            is_taken = new in used[column]
             self.renamed[column][old] = new
+            used[column].add(new)
             self.findings.append(Finding("identifier", layer, row.number, old, f"{column} {old!r} is no identifier" if not identifiers.is_one(old) else f"{column} {old!r}", f"now {new}", True))
-            if new in used[column] or list(self.renamed[column].values()).count(new) > 1 or not identifiers.is_one(new):
+            if is_taken or not identifiers.is_one(new):
                 self.find("identifier", layer, row, f"{column} {old!r} would be {new}, which is another's or no identifier: name another by --identifiers", "")
         return True
 
