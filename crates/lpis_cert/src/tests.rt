@@ -74,148 +74,135 @@ static EXACT_FAULTS: [(&str, &str, &str, u64); 24] = [
     ("piece A 1 0\nt 0 0 10000 0 0 10000\n", "", "ok", 0),
 ];
 
-/// The code and the line of a text's first fault, or `ok`.
-fn answer(rt: &HostRuntime, text: &[u8]) -> (&'static str, u64) {
-    match read_cert(rt.alloc(), text) {
-        Ok(_) => ("ok", 0),
-        Err(CertFault::At { code, line }) => (code.as_str(), line),
-        Err(CertFault::Memory) => ("memory", 0),
+/// Texts that are read, and what is written of them.
+static WRITTEN: [(&str, &str); 5] = [
+    (FAR, FAR_WRITTEN),
+    (FAR_WRITTEN, FAR_WRITTEN),
+    ("lpis-cert 1\npairs 0\nend\n", "lpis-cert 2\npairs 0\nend\n"),
+    (EXACT, EXACT),
+    (EXACT_ALONE, EXACT_ALONE),
+];
+
+/// Edits of the square's certificate, and the code and the line of the first fault then.
+static SQUARE_FAULTS: [(&str, &str, &str, u64); 19] = [
+    ("lpis-cert 1", "lpis-cert 1\r", "50", 1),
+    ("lpis-cert 1", "lpis-cert 2", "ok", 0),
+    ("lpis-cert 1", "lpis-cert 2 ", "50", 1),
+    ("lpis-cert 1", "lpis-cert 3", "50", 1),
+    ("piece C1 2 0", "piece C1 1 0", "53", 4),
+    ("piece C1 2 0", "piece C1 3 0", "53", 5),
+    ("piece C1 2 0", "piece C1 2000001 0", "56", 2),
+    ("piece C1 2 0", "piece C1 2 4294967296", "52", 2),
+    ("piece C1 2 0", "piece C! 2 0", "51", 2),
+    ("piece C1 2 0", "piece C1  2 0", "51", 2),
+    ("t 0 0 1000 0", "t 00 0 1000 0", "52", 3),
+    ("t 0 0 1000 0", "t -0 0 1000 0", "52", 3),
+    ("t 0 0 1000 0", "t 0 0 1000", "51", 3),
+    ("t 0 0 1000 0", "f 00 0 1000 0", "53", 3),
+    ("parcel A 0", "piece C2 0 0", "ok", 0),
+    ("pairs 1", "piece C2 0 0", "53", 6),
+    ("s 0 1 2", "s 0 1 6", "52", 7),
+    ("s 0 1 2", "s 1 0 2", "ok", 0),
+    ("end", "end\n", "55", 9),
+];
+
+/// Fails with these words unless they hold.
+fn hold(holds: bool, what: &str) -> Result<(), Fail> {
+    if holds {
+        return Ok(());
     }
+    Err(Fail::new(format_args!("not so: {what}")))
+}
+
+/// Fails unless a text has its first fault with this code at this line, or none with `ok`.
+fn expect_fault(rt: &HostRuntime, text: &[u8], code: &str, line: u64) -> Result<(), Fail> {
+    match read_cert(rt.alloc(), text) {
+        Ok(_) => hold(code == "ok", "taken"),
+        Err(
+            CertFault::At {
+                code: told,
+                line: at,
+            },
+        ) => { hold(told.as_str() == code && at == line, told.as_str()) }
+        Err(CertFault::Memory) => hold(false, "memory"),
+    }
+}
+
+/// Fails unless a text in which the first of two is replaced by the second has this first fault.
+fn expect_edited(
+    rt: &HostRuntime,
+    text: &str,
+    edit: (&str, &str),
+    code: &str,
+    line: u64,
+) -> Result<(), Fail> {
+    let text = edited(rt.alloc(), text, &[edit])?;
+    expect_fault(rt, text.as_bytes(), code, line)
+}
+
+/// Fails unless a certificate's text is read, and this is written of it.
+fn expect_written(rt: &HostRuntime, text: &str, written: &str) -> Result<(), Fail> {
+    let cert = read_cert(rt.alloc(), text.as_bytes())?;
+    let mut out = Vec::new(rt.alloc());
+    write_cert(&cert, &mut out)?;
+    hold(out.as_slice() == written.as_bytes(), text)
 }
 
 #[test]
 fn certificates_are_read_in_both_versions_and_written_in_the_second(
     rt: HostRuntime,
 ) -> Result<(), Fail> {
-    for (text, written) in [
-        (SQUARE_CERT, SQUARE_CERT_WRITTEN),
-        (HALVES_CERT, HALVES_CERT_WRITTEN),
-        (PARCELS_CERT, PARCELS_CERT_WRITTEN),
-        (HALVES_CERT_WRITTEN, HALVES_CERT_WRITTEN),
-        (FAR, FAR_WRITTEN),
-        (FAR_WRITTEN, FAR_WRITTEN),
-        ("lpis-cert 1\npairs 0\nend\n", "lpis-cert 2\npairs 0\nend\n"),
-        (EXACT, EXACT),
-        (EXACT_ALONE, EXACT_ALONE),
-    ] {
-        let cert = read_cert(rt.alloc(), text.as_bytes()).ok().ok_or("read")?;
-        let mut out = Vec::new(rt.alloc());
-        write_cert(&cert, &mut out).ok().ok_or("written")?;
-        assert_eq!(rt; out.as_slice(), written.as_bytes());
+    expect_written(&rt, SQUARE_CERT, SQUARE_CERT_WRITTEN)?;
+    expect_written(&rt, HALVES_CERT, HALVES_CERT_WRITTEN)?;
+    expect_written(&rt, PARCELS_CERT, PARCELS_CERT_WRITTEN)?;
+    expect_written(&rt, HALVES_CERT_WRITTEN, HALVES_CERT_WRITTEN)?;
+    for (text, written) in &WRITTEN {
+        expect_written(&rt, text, written)?;
+    }
+    Ok(())
+}
+
+/// Fails unless a text that is cut off at each byte lacks its next line.
+fn expect_cut(rt: &HostRuntime, text: &str) -> Result<(), Fail> {
+    let bytes = text.as_bytes();
+    let mut line = 1_u64;
+    for (at, byte) in bytes.iter().enumerate() {
+        expect_fault(rt, &bytes[..at], "54", line)?;
+        line = line.saturating_add(u64::from(*byte == b'\n'));
     }
     Ok(())
 }
 
 #[test]
-fn a_certificate_has_its_parts_in_order(rt: HostRuntime) -> Result<(), Fail> {
-    let cert = read_cert(rt.alloc(), HALVES_CERT.as_bytes())
-        .ok()
-        .ok_or("read")?;
-    let [_, right] = cert.pieces.as_slice() else {
-        return Err("two pieces".into());
-    };
-    let [_, upper] = right.triangles.as_slice() else {
-        return Err("two triangles".into());
-    };
-    let [parcel] = cert.parcels.as_slice() else {
-        return Err("one parcel".into());
-    };
-    let [_, flat] = parcel.flats.as_slice() else {
-        return Err("two flats".into());
-    };
-    let [_, pair] = cert.pairs.as_slice() else {
-        return Err("two pairs".into());
-    };
-    assert_eq!(rt; right.id.as_str(), "R");
-    assert_eq!(rt; (upper.c.x, upper.c.y), (5_000, 10_000));
-    assert_eq!(rt; (flat.a.x, flat.b.x, flat.c.x), (10_000, 0, 5_000));
-    assert_eq!(rt; (pair.i, pair.j, pair.k), (2, 3, 2));
-    Ok(())
-}
-
-#[test]
-fn a_certificate_cut_at_each_byte_lacks_its_next_line(rt: HostRuntime) {
-    for text in [SQUARE_CERT, HALVES_CERT, PARCELS_CERT_WRITTEN, EXACT] {
-        let bytes = text.as_bytes();
-        for at in 0..bytes.len() {
-            let front = &bytes[..at];
-            let ended = front.iter().filter(|b| **b == b'\n').count() as u64;
-            assert_eq!(rt; answer(&rt, front), ("54", ended.saturating_add(1)));
-        }
-    }
+fn a_certificate_cut_at_each_byte_lacks_its_next_line(rt: HostRuntime) -> Result<(), Fail> {
+    expect_cut(&rt, SQUARE_CERT)?;
+    expect_cut(&rt, HALVES_CERT)?;
+    expect_cut(&rt, PARCELS_CERT_WRITTEN)?;
+    expect_cut(&rt, EXACT)
 }
 
 #[test]
 fn first_faults(rt: HostRuntime) -> Result<(), Fail> {
-    assert_eq!(rt; answer(&rt, b""), ("54", 1));
-    for (text, old, new, code, line) in [
-        (SQUARE_CERT, "lpis-cert 1", "lpis-cert 1\r", "50", 1),
-        (SQUARE_CERT, "lpis-cert 1", "lpis-cert 2", "ok", 0),
-        (SQUARE_CERT, "lpis-cert 1", "lpis-cert 2 ", "50", 1),
-        (SQUARE_CERT, "lpis-cert 1", "lpis-cert 3", "50", 1),
-        (SQUARE_CERT, "piece C1 2 0", "piece C1 1 0", "53", 4),
-        (SQUARE_CERT, "piece C1 2 0", "piece C1 3 0", "53", 5),
-        (SQUARE_CERT, "piece C1 2 0", "piece C1 2000001 0", "56", 2),
-        (
-            SQUARE_CERT,
-            "piece C1 2 0",
-            "piece C1 2 4294967296",
-            "52",
-            2,
-        ),
-        (SQUARE_CERT, "piece C1 2 0", "piece C! 2 0", "51", 2),
-        (SQUARE_CERT, "piece C1 2 0", "piece C1  2 0", "51", 2),
-        (SQUARE_CERT, "t 0 0 1000 0", "t 00 0 1000 0", "52", 3),
-        (SQUARE_CERT, "t 0 0 1000 0", "t -0 0 1000 0", "52", 3),
-        (SQUARE_CERT, "t 0 0 1000 0", "t 0 0 1000", "51", 3),
-        (SQUARE_CERT, "t 0 0 1000 0", "f 00 0 1000 0", "53", 3),
-        (SQUARE_CERT, "parcel A 0", "piece C2 0 0", "ok", 0),
-        (SQUARE_CERT, "pairs 1", "piece C2 0 0", "53", 6),
-        (SQUARE_CERT, "s 0 1 2", "s 0 1 6", "52", 7),
-        (SQUARE_CERT, "s 0 1 2", "s 1 0 2", "ok", 0),
-        (SQUARE_CERT, "end", "end\n", "55", 9),
-        (FAR, "2000000000", "2000000001", "52", 3),
-        (FAR_WRITTEN, "20000000000", "20000000001", "52", 3),
-    ] {
-        let edit = edited(rt.alloc(), text, &[(old, new)])?;
-        assert_eq!(rt; answer(&rt, edit.as_bytes()), (code, line), "{new}");
+    expect_fault(&rt, b"", "54", 1)?;
+    for (old, new, code, line) in &SQUARE_FAULTS {
+        expect_edited(&rt, SQUARE_CERT, (*old, *new), code, *line)?;
     }
-    Ok(())
+    expect_edited(&rt, FAR, ("2000000000", "2000000001"), "52", 3)?;
+    expect_edited(&rt, FAR_WRITTEN, ("20000000000", "20000000001"), "52", 3)
 }
 
 #[test]
 fn first_faults_of_exact_blocks(rt: HostRuntime) -> Result<(), Fail> {
-    for (old, new, code, line) in EXACT_FAULTS {
-        let edit = edited(rt.alloc(), EXACT, &[(old, new)])?;
-        assert_eq!(rt; answer(&rt, edit.as_bytes()), (code, line), "{new}");
+    for (old, new, code, line) in &EXACT_FAULTS {
+        expect_edited(&rt, EXACT, (*old, *new), code, *line)?;
     }
-    Ok(())
-}
-
-#[test]
-fn exact_blocks_have_their_parts(rt: HostRuntime) -> Result<(), Fail> {
-    let cert = read_cert(rt.alloc(), EXACT.as_bytes()).ok().ok_or("read")?;
-    let [split, merge, last] = cert.exact.as_slice() else {
-        return Err("three blocks".into());
-    };
-    let [_, flat] = merge.flats.as_slice() else {
-        return Err("two flats".into());
-    };
-    assert_eq!(rt; (split.merge, split.id.as_str()), (false, "S"));
-    assert_eq!(rt; (merge.merge, merge.id.as_str()), (true, "M"));
-    assert_eq!(rt; (last.merge, last.id.as_str()), (false, "T"));
-    assert_eq!(rt; (flat.a.x, flat.b.x, flat.c.x), (2_500, 10_000, 7_500));
     Ok(())
 }
 
 #[test]
 fn no_list_grows_by_a_declared_count(rt: HostRuntime) -> Result<(), Fail> {
-    assert_eq!(rt; answer(&rt, CUT_AFTER_MANY_PAIRS.as_bytes()), ("54", 7));
-    let text = edited(rt.alloc(), SQUARE_CERT, &[("pairs 1", "pairs 4294967295")])?;
-    assert_eq!(rt; answer(&rt, text.as_bytes()), ("53", 8));
-    assert_eq!(rt;
-        answer(&rt, b"lpis-cert 1\npiece A 2000000 2000000\n"),
-        ("54", 3)
-    );
-    Ok(())
+    expect_fault(&rt, CUT_AFTER_MANY_PAIRS.as_bytes(), "54", 7)?;
+    expect_edited(&rt, SQUARE_CERT, ("pairs 1", "pairs 4294967295"), "53", 8)?;
+    let text = b"lpis-cert 1\npiece A 2000000 2000000\n";
+    expect_fault(&rt, text.as_slice(), "54", 3)
 }
