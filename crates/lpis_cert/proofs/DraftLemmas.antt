@@ -109,7 +109,7 @@ shorter : {v : Version} {text : List ℕ} {n : ℕ} {l : CertLine} {ls : List Ce
 unfolding text_of_lines
 shorter {v} {l = l} {ls} {rest} f = grind (arith, length-append)
 
-pub grown_by : {v : Version} {text : List ℕ} {n : ℕ} {rest : List ℕ} {m : ℕ} {l : CertLine} {ls : List CertLine} (before more : List CertLine) (p q : LineState)
+grown_by : {v : Version} {text : List ℕ} {n : ℕ} {rest : List ℕ} {m : ℕ} {l : CertLine} {ls : List CertLine} (before more : List CertLine) (p q : LineState)
     → ReadsLines v text n (l ∷ ls) rest m → more ≡ before ++ (l ∷ ls) → Goes v p (l ∷ ls) q
     → Grown v before more p q text n rest m
 grown_by {l = l} {ls} before more p q f e g = record { added = l ∷ ls; follows = f; lines = e; state = after p q f g; shorter = shorter f }

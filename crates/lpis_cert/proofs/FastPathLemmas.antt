@@ -13,7 +13,7 @@ use Rattle.lpis_cert.specs.CertText.{coordinate_word}
 use Rattle.lpis_cert.proofs.NumberLemmas.{not-zero, number_takes}
 use Rattle.lpis_cert.proofs.SplittingLemmas.{rest_is}
 
-pub digits_on-append : (limit n : ℕ) (xs ys : List ℕ) (v : ℕ) → digits_on limit n xs ≡ Some v → digits_on limit n (xs ++ ys) ≡ digits_on limit v ys
+digits_on-append : (limit n : ℕ) (xs ys : List ℕ) (v : ℕ) → digits_on limit n xs ≡ Some v → digits_on limit n (xs ++ ys) ≡ digits_on limit v ys
 digits_on-append limit n [] ys v h = let e : n ≡ v = cc h in ap (λ (k : ℕ). digits_on limit k ys) e
 digits_on-append limit n (d ∷ xs) ys v h = grind (arith, digits_on-append limit (n * 10 + digit_value d) xs ys v)
 

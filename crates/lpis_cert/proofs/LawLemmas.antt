@@ -232,7 +232,7 @@ same_contents c d e =
     same_content ps.0 qs.0 es.0 (end_injective c.pairs d.pairs es.1)
 
 -- two contents with one text, of whatever versions
-pub one_value : (v w : Version) (c d : CertContent) → AllByRecursion (LineFits v) (content_lines c) → AllByRecursion (LineFits w) (content_lines d)
+one_value : (v w : Version) (c d : CertContent) → AllByRecursion (LineFits v) (content_lines c) → AllByRecursion (LineFits w) (content_lines d)
     → content_text v c ≡ content_text w d → c ≡ d
 unfolding content_text
 one_value v w c d fc fd e =

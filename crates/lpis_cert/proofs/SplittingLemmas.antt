@@ -70,7 +70,7 @@ one_gap true true n b v vs r s h k = grind arith
 one_gap false true n b v vs r s h k = refl
 one_gap _ _ n b v vs r s h k = k
 
-pub gaps_are : (in_word : Bool) (n : ℕ) (bs : List ℕ) → gaps in_word n bs ≡ counted in_word n (words bs)
+gaps_are : (in_word : Bool) (n : ℕ) (bs : List ℕ) → gaps in_word n bs ≡ counted in_word n (words bs)
 gaps_are true n [] = refl
 gaps_are false n [] = refl
 gaps_are w n (b ∷ bs) =

@@ -55,7 +55,7 @@ id_plain (b ∷ bs) h = let t = and_parts (is_id_byte b) (list_all is_id_byte bs
     plain : (d : ℕ) → is_id_byte d ≡ true → (is_gap d ≡ false) × (is_lf d ≡ false)
     plain d r = (grind (arith, nat_tests), grind (arith, nat_tests))
 
-pub id_word : (bs : List ℕ) → is_id bs ≡ true → IsWordText bs
+id_word : (bs : List ℕ) → is_id bs ≡ true → IsWordText bs
 id_word bs h = grind (arith, nat_tests, and_parts, not-empty, id_plain)
 
 -- ---- cutting what was joined
@@ -65,7 +65,7 @@ pub part : (p : ℕ → Bool) (w rest : List ℕ) → AllByRecursion (λ b. p b 
 part p [] rest h c at = rw at refl
 part p (b ∷ w) rest h c at = let off = h.0 in rw off (ap (onto_first b) (part p w rest h.1 c at))
 
-pub only_part : (p : ℕ → Bool) (w : List ℕ) → AllByRecursion (λ b. p b ≡ false) w → slice_split p w ≡ w ∷ []
+only_part : (p : ℕ → Bool) (w : List ℕ) → AllByRecursion (λ b. p b ≡ false) w → slice_split p w ≡ w ∷ []
 only_part p [] h = refl
 only_part p (b ∷ w) h = let off = h.0 in rw off (ap (onto_first b) (only_part p w h.1))
 
@@ -73,11 +73,11 @@ no_gap : (w : List ℕ) → IsPlain w → AllByRecursion (λ b. is_gap b ≡ fal
 no_gap [] h = tt
 no_gap (b ∷ w) h = (h.0.0, no_gap w h.1)
 
-pub no_end : (w : List ℕ) → IsPlain w → AllByRecursion (λ b. is_lf b ≡ false) w
+no_end : (w : List ℕ) → IsPlain w → AllByRecursion (λ b. is_lf b ≡ false) w
 no_end [] h = tt
 no_end (b ∷ w) h = (h.0.1, no_end w h.1)
 
-pub words_again : (w : List ℕ) (ws : List (List ℕ)) → IsPlain w → AllByRecursion IsWordText ws → words (join_with_byte 32 (w ∷ ws)) ≡ w ∷ ws
+words_again : (w : List ℕ) (ws : List (List ℕ)) → IsPlain w → AllByRecursion IsWordText ws → words (join_with_byte 32 (w ∷ ws)) ≡ w ∷ ws
 words_again w [] h hs = only_part is_gap w (no_gap w h)
 words_again w (v ∷ vs) h hs =
     part is_gap w (join_with_byte 32 (v ∷ vs)) (no_gap w h) 32 refl ∙ ap (λ (x : List (List ℕ)). w ∷ x) (words_again v vs hs.0.plain hs.1)
@@ -159,7 +159,7 @@ field_words v (PairsLine n) fits = (count_word n fits, tt)
 field_words v (PairLine p) fits = (count_word p.i fits.i, (count_word p.j fits.j, (decimal_word p.k (omega (arith, fits.k)), tt)))
 field_words v EndLine fits = tt
 
-pub kind_plain : (k : Kind) → IsPlain (kind_word k)
+kind_plain : (k : Kind) → IsPlain (kind_word k)
 kind_plain Piece = plain_codes (codes "piece") refl
 kind_plain Triangle = plain_codes (codes "t") refl
 kind_plain Flat = plain_codes (codes "f") refl

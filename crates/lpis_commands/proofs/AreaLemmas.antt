@@ -50,7 +50,7 @@ padded-step w n wide = elim (cases_lt n 10) [
 ]
 
 -- a numeral below 10 to the power of the width, padded up to it, has the number's last digits
-pub zero_padded-decimal : (w n : ℕ) → n < 10 ^ suc w → n < 10 ^ 64 → zero_padded (suc w) (decimal n) ≡ last_digits (suc w) n
+zero_padded-decimal : (w n : ℕ) → n < 10 ^ suc w → n < 10 ^ 64 → zero_padded (suc w) (decimal n) ≡ last_digits (suc w) n
 zero_padded-decimal zero n small wide =
     let low : n < 10 = omega (arith, small) in
     let same : n % 10 ≡ n = omega arith in
@@ -63,7 +63,7 @@ ten_pow-pos zero = omega arith
 ten_pow-pos (suc w) = omega (arith, pow-suc 10 w, ten_pow-pos w)
 
 -- the last digits are those of the remainder
-pub last_digits-mod : (w n : ℕ) → last_digits w (n % 10 ^ w) ≡ last_digits w n
+last_digits-mod : (w n : ℕ) → last_digits w (n % 10 ^ w) ≡ last_digits w n
 last_digits-mod zero n = refl
 last_digits-mod (suc w) n =
     let cut : n % 10 ^ suc w ≡ (n / 10 % 10 ^ w) * 10 + n % 10 =

@@ -18,7 +18,7 @@ one-sum : (a : ℤ) → a ≡ a +ℤ pos 0
 one-sum a = omega (arith, ints)
 
 -- a parcel's areas
-pub areas_of_one : (r : Contents) (k : Parcel) (a : Areas) → a.area ≡ area2 k.polygon → a.weighted ≡ weighted2 r k.id → nat_abs a.area ≤ most_area → nat_abs a.weighted ≤ most_weighted
+areas_of_one : (r : Contents) (k : Parcel) (a : Areas) → a.area ≡ area2 k.polygon → a.weighted ≡ weighted2 r k.id → nat_abs a.area ≤ most_area → nat_abs a.weighted ≤ most_weighted
     → AreasOf r (k ∷ []) a
 areas_of_one r k a area weighted area_small weighted_small =
     record { area = area ∙ one-sum (area2 k.polygon); weighted = weighted ∙ one-sum (weighted2 r k.id); area_small = omega (arith, area_small); weighted_small = omega (arith, weighted_small) }

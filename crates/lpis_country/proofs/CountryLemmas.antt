@@ -22,7 +22,7 @@ NamedIn ks x = Any (λ (k : Parcel). IsTrue (names_parcel k.id x)) ks
 
 -- ---- pieces
 -- the pieces of a parcel that was there
-pub pieces_stay : (u r : Contents) (id : List ℕ) → has_id (parcel_ids u.parcels) id ≡ true → pieces_named (with_region u r) id ≡ pieces_named u id
+pieces_stay : (u r : Contents) (id : List ℕ) → has_id (parcel_ids u.parcels) id ≡ true → pieces_named (with_region u r) id ≡ pieces_named u id
 pieces_stay u r id h =
     filter-append (names_parcel id) u.pieces (new_pieces u r)
     ∙ ap (λ (xs : List Piece). pieces_named u id ++ xs) (filter_neither (names_parcel id) (λ (x : Piece). is_new u x.parcel)
@@ -30,7 +30,7 @@ pieces_stay u r id h =
     ∙ append-nil (pieces_named u id)
 
 -- and those of a new one
-pub pieces_come : (u r : Contents) (id : List ℕ) → All (NamedIn u.parcels) u.pieces → has_id (parcel_ids u.parcels) id ≡ false → pieces_named (with_region u r) id ≡ pieces_named r id
+pieces_come : (u r : Contents) (id : List ℕ) → All (NamedIn u.parcels) u.pieces → has_id (parcel_ids u.parcels) id ≡ false → pieces_named (with_region u r) id ≡ pieces_named r id
 pieces_come u r id n h =
     filter-append (names_parcel id) u.pieces (new_pieces u r)
     ∙ ap₂ (λ (xs ys : List Piece). xs ++ ys) (filter_none (names_parcel id) u.pieces (all_from (λ (x : Piece). names_parcel id x ≡ false) u.pieces none))
@@ -49,7 +49,7 @@ pub not_new : (b : Bool) → not b ≡ true → b ≡ false
 not_new true e = absurd (clash false e refl)
 not_new false e = refl
 
-pub old_id : (b : Bool) → not b ≡ false → b ≡ true
+old_id : (b : Bool) → not b ≡ false → b ≡ true
 old_id true e = refl
 old_id false e = absurd (clash true refl e)
 

@@ -15,7 +15,7 @@ some_folder (by_y c s t) = omega (arith, some_folder s, length-append (folders s
 pub plan_has_some : (p : PlanParts) → IsPlan p → 0 < length p.names
 plan_has_some p h = omega (arith, some_folder h.0, ap (λ (ns : List (List ℕ)). length ns) h.1.names)
 
-pub plan_has_few : (p : PlanParts) → IsPlan p → length p.names ≤ most_regions
+plan_has_few : (p : PlanParts) → IsPlan p → length p.names ≤ most_regions
 plan_has_few p h = omega (arith, h.1.fits.few, ap (λ (ns : List (List ℕ)). length ns) h.1.names)
 
 -- and a tile for each

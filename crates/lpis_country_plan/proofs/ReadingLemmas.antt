@@ -105,12 +105,12 @@ reading_fault start rest line after n d r takes owing =
     r.faults ∙ fault_step n (owing_of d) rest line after takes.split ∙ ap (λ (o : Option Owing). or_line n o (λ p. plan_fault_from (n + 1) p (plan_lines after))) (sym owing)
 
 -- a fault of the rest is one of the text
-pub reading_fails : (start rest : List ℕ) (n : ℕ) (d : Draft) (e : PlanFault) → IsReading start rest n d → PlanFaultFrom e n (owing_of d) rest → PlanFaultFrom e 2 owing_first start
+reading_fails : (start rest : List ℕ) (n : ℕ) (d : Draft) (e : PlanFault) → IsReading start rest n d → PlanFaultFrom e n (owing_of d) rest → PlanFaultFrom e 2 owing_first start
 reading_fails start rest n d Memory r h = tt
 reading_fails start rest n d (At line) r h = r.faults ∙ h
 
 -- nothing is owed, and nothing is left
-pub ended_plan : (said : List TreeLine) (d : Draft) → IsDraftOf said d → d.rooms ≡ [] → (t : Tree) × (tree_lines t ≡ said) × IsPlanOf t (record { names = d.names; tiles = d.tiles.items })
+ended_plan : (said : List TreeLine) (d : Draft) → IsDraftOf said d → d.rooms ≡ [] → (t : Tree) × (tree_lines t ≡ said) × IsPlanOf t (record { names = d.names; tiles = d.tiles.items })
 ended_plan said d begun none = begun_end said d.names d.tiles.items (rw none at begun)
 
 made_of : (t : Tree) (p : PlanParts) (names : List (List ℕ)) (tiles : List Box4) → p.names ≡ names → p.tiles ≡ tiles → IsPlanOf t (record { names = names; tiles = tiles }) → IsPlanOf t p

@@ -63,7 +63,7 @@ made-equal c d p q e f h k =
     ap (λ (x : List ℕ). make x p h) e
     ∙ subst (λ (v : ℕ). (l : v ≤ most_percent) → make d p h ≡ make d v l) f (λ l. ap (λ (m : p ≤ most_percent). make d p m) (le_prop h l)) k
 
-pub class-equal : (a b : Class) → a.code ≡ b.code → a.percent ≡ b.percent → a ≡ b
+class-equal : (a b : Class) → a.code ≡ b.code → a.percent ≡ b.percent → a ≡ b
 class-equal a b p q = made-equal a.code b.code a.percent b.percent p q a.within b.within
 
 pub same_class-tells : IsEquality same_class

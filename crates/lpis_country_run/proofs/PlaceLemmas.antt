@@ -12,7 +12,7 @@ pub as_many_places : (xs : List Parcel) (places : List ℕ) (ks : List Parcel) �
 as_many_places xs places ks e = sym (length-map places (slice_get xs)) ∙ ap length e ∙ length-map ks Some
 
 -- the parcel at a place
-pub at_place : (xs : List Parcel) (places : List ℕ) (ks : List Parcel) (i d : ℕ) (k : Parcel) → map (slice_get xs) places ≡ map Some ks → i < length places
+at_place : (xs : List Parcel) (places : List ℕ) (ks : List Parcel) (i d : ℕ) (k : Parcel) → map (slice_get xs) places ≡ map Some ks → i < length places
     → slice_get xs (get_or places i d) ≡ Some (get_or ks i k)
 at_place xs places ks i d k e lt =
     let within : i < length ks = omega (arith, as_many_places xs places ks e, lt) in

@@ -118,7 +118,7 @@ is_refused s names p q n status old now new name here are lt is (text, refusal, 
 )
 
 -- and has no yes
-pub is_no_yes : (s : Setting) (before : List Contents) (name : List ℕ) (q : Progress) (old new : Option (List ℕ)) (status : ℕ) → IsWritten s before name q old new (Some status) → status ≡ done → ⊥
+is_no_yes : (s : Setting) (before : List Contents) (name : List ℕ) (q : Progress) (old new : Option (List ℕ)) (status : ℕ) → IsWritten s before name q old new (Some status) → status ≡ done → ⊥
 is_no_yes s before name q old new status (text, refusal, written) = refused_no s before name text status refusal
 
 -- ---- one region more

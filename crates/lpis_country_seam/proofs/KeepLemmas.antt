@@ -24,7 +24,7 @@ with-row : (rows : List KeptRow) (o : KeptRow) → has_id (row_ids rows) o.parce
 with-row rows o e = ap (λ (b : Bool). cond b rows (rows ++ o ∷ [])) e
 
 -- where no identifier stands twice they all stand behind
-pub all-added : (rows os : List KeptRow) → IsDistinct same_id (row_ids (rows ++ os)) → with_rows rows os ≡ rows ++ os
+all-added : (rows os : List KeptRow) → IsDistinct same_id (row_ids (rows ++ os)) → with_rows rows os ≡ rows ++ os
 all-added rows [] d = sym (append-nil rows)
 all-added rows (o ∷ os) d =
     ap (λ (xs : List KeptRow). with_rows xs os) (with-row rows o
@@ -33,7 +33,7 @@ all-added rows (o ∷ os) d =
     ∙ append_assoc rows (o ∷ []) os
 
 -- ---- rows of parcels that a later tile meets
-pub still-rows : (tiles : List Box4) (n : ℕ) (u : Contents) (ps : List Parcel)
+still-rows : (tiles : List Box4) (n : ℕ) (u : Contents) (ps : List Parcel)
     → rows_reaching (drop (suc n) tiles) (map (row_in u) (filter (reaches_later tiles n) ps)) ≡ map (row_in u) (filter (reaches_later tiles (suc n)) ps)
 still-rows tiles n u [] = refl
 still-rows tiles n u (p ∷ ps) = by (reaches_later tiles n p) (reaches_later tiles (suc n) p) refl refl (still-rows tiles n u ps)
@@ -55,7 +55,7 @@ still-rows tiles n u (p ∷ ps) = by (reaches_later tiles n p) (reaches_later ti
 abbrev made : Parcel → List Piece → KeptRow
 made k xs = record { parcel = k; pieces = xs }
 
-pub mapped-alike : (f g : Parcel → KeptRow) (q : Parcel → Bool) (ps : List Parcel) → All (λ (k : Parcel). f k ≡ g k) ps → map f (filter q ps) ≡ map g (filter q ps)
+mapped-alike : (f g : Parcel → KeptRow) (q : Parcel → Bool) (ps : List Parcel) → All (λ (k : Parcel). f k ≡ g k) ps → map f (filter q ps) ≡ map g (filter q ps)
 mapped-alike f g q [] a = refl
 mapped-alike f g q (p ∷ ps) a = by (q p) (mapped-alike f g q ps (All-tail (λ (k : Parcel). f k ≡ g k) p ps a))
   where
@@ -64,7 +64,7 @@ mapped-alike f g q (p ∷ ps) a = by (q p) (mapped-alike f g q ps (All-tail (λ 
     by false h = h
 
 -- the rows that are awaited after one region more: those that were, and those of new parcels
-pub awaited-next : (tiles : List Box4) (n : ℕ) (u r : Contents) → All (λ (k : Parcel). pieces_named (with_region u r) k.id ≡ pieces_named u k.id) u.parcels
+awaited-next : (tiles : List Box4) (n : ℕ) (u r : Contents) → All (λ (k : Parcel). pieces_named (with_region u r) k.id ≡ pieces_named u k.id) u.parcels
     → All (λ (k : Parcel). pieces_named (with_region u r) k.id ≡ pieces_named r k.id) (new_parcels u r)
     → awaited_rows tiles n (with_region u r) ≡ awaited_rows tiles n u ++ new_rows (drop n tiles) r (new_parcels u r)
 awaited-next tiles n u r old new =
@@ -83,7 +83,7 @@ ids-of-rows : (u : Contents) (ps : List Parcel) → row_ids (map (row_in u) ps) 
 ids-of-rows u [] = refl
 ids-of-rows u (p ∷ ps) = ap (λ (ids : List (List ℕ)). p.id ∷ ids) (ids-of-rows u ps)
 
-pub awaited-distinct : (tiles : List Box4) (n : ℕ) (u : Contents) → IsDistinct same_id (parcel_ids u.parcels) → IsDistinct same_id (row_ids (awaited_rows tiles n u))
+awaited-distinct : (tiles : List Box4) (n : ℕ) (u : Contents) → IsDistinct same_id (parcel_ids u.parcels) → IsDistinct same_id (row_ids (awaited_rows tiles n u))
 awaited-distinct tiles n u d = subst (IsDistinct same_id) (sym (ids-of-rows u (filter (reaches_later tiles n) u.parcels))) (distinct-filter (reaches_later tiles n) u.parcels d)
 
 -- what a step keeps

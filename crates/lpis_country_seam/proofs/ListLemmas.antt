@@ -11,7 +11,7 @@ pub clash : (b : Bool) → b ≡ true → b ≡ false → ⊥
 clash b e f = true≢false (sym e ∙ f)
 
 -- ---- identifiers
-pub same-turned : (a b : List ℕ) → same_id a b ≡ false → same_id b a ≡ false
+same-turned : (a b : List ℕ) → same_id a b ≡ false → same_id b a ≡ false
 same-turned a b e = by (same_id b a) refl
   where
     by : (t : Bool) → same_id b a ≡ t → same_id b a ≡ false
@@ -51,7 +51,7 @@ pub record IsFound (id : List ℕ) (ps : List Parcel) (k : Parcel) : Type 0 wher
   pub at : ps ≡ before ++ k ∷ after
   pub own : k.id ≡ id
 
-pub found-there : (id : List ℕ) (ps : List Parcel) (k : Parcel) → find (is_of id) ps ≡ Some k → IsFound id ps k
+found-there : (id : List ℕ) (ps : List Parcel) (k : Parcel) → find (is_of id) ps ≡ Some k → IsFound id ps k
 found-there id [] k e = absurd cc
 found-there id (p ∷ ps) k e = by (same_id id p.id) refl e (found-there id ps k)
   where

@@ -34,7 +34,7 @@ pub told-alike : (fs gs : List SeamFault) (f : SeamFault) → fs ≡ gs → Told
 told-alike fs gs f e h = subst (λ (hs : List SeamFault). Told hs f) (sym e) h
 
 -- the item at a place is the first of those from it on
-pub rest-at : {A : Type 0} (xs : List A) (k : ℕ) → k < length xs → (x : A) × (drop k xs ≡ x ∷ drop (suc k) xs)
+rest-at : {A : Type 0} (xs : List A) (k : ℕ) → k < length xs → (x : A) × (drop k xs ≡ x ∷ drop (suc k) xs)
 rest-at [] k l = absurd (omega arith)
 rest-at (x ∷ xs) zero l = (x, refl)
 rest-at (x ∷ xs) (suc k) l = rest-at xs k (omega arith)
@@ -50,7 +50,7 @@ classes-short own all rest k e l n =
     let r = rest-at own k l in
     inr ([], e ∙ ap (seam_class_faults (k + 1) (drop k own)) (no-length rest n) ∙ ap (λ (xs : List Class). seam_class_faults (k + 1) xs []) r.1)
 
-pub classes-more : (own : List Class) (k : ℕ) (a b : Class) (others : List Class) → k < length own → a ≡ get_or own k a
+classes-more : (own : List Class) (k : ℕ) (a b : Class) (others : List Class) → k < length own → a ≡ get_or own k a
     → seam_class_faults (k + 1) (drop k own) (b ∷ others) ≡ seam_fault_if (not (same_class a b)) (Classes (k + 1)) ++ seam_class_faults (k + 1 + 1) (drop (k + 1) own) others
 classes-more own k a b others l e = ap (λ (xs : List Class). seam_class_faults (k + 1) xs (b ∷ others)) (drop_more own k a l ∙ ap (λ (x : Class). x ∷ drop (k + 1) own) (sym e))
 
@@ -86,7 +86,7 @@ lack-told now o own b r id e f g =
     sym (not-not b) ∙ ap not (sym g ∙ sym (some-kept now o) ∙ ap is_some f ∙ sym (has-found id r.parcels)) ∙ ap (λ (t : Bool). t && not (has_id (parcel_ids r.parcels) id)) (sym e)
 
 -- ---- all rows
-pub rows-at : (F : Parcel → List SeamFault) (ps : List Parcel) (k : ℕ) (p : Parcel) → k < length ps → p ≡ get_or ps k p → flat_map F (drop k ps) ≡ F p ++ flat_map F (drop (k + 1) ps)
+rows-at : (F : Parcel → List SeamFault) (ps : List Parcel) (k : ℕ) (p : Parcel) → k < length ps → p ≡ get_or ps k p → flat_map F (drop k ps) ≡ F p ++ flat_map F (drop (k + 1) ps)
 rows-at F ps k p l e = ap (flat_map F) (drop_more ps k p l ∙ ap (λ (x : Parcel). x ∷ drop (k + 1) ps) (sym e))
 
 pub rows-told : (F : Parcel → List SeamFault) (ps : List Parcel) (k : ℕ) (p : Parcel) (f : SeamFault) → k < length ps → p ≡ get_or ps k p → flat_map F ps ≡ flat_map F (drop k ps) → Told (F p) f

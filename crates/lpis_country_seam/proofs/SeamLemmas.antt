@@ -49,7 +49,7 @@ split-last {A} P (z ∷ zs) x h p (b ∷ bs) y a e =
     (split-last (λ (cs : List A). P (z ∷ cs)) zs x (λ cs w ds f. h (z ∷ cs) w ds (ap (λ (ws : List A). z ∷ ws) f)) p bs y a (same-tail z b (zs ++ x ∷ []) (bs ++ y ∷ a) e))
 
 -- ---- classes
-pub classes-same : (n : ℕ) (xs ys : List Class) → seam_class_faults n xs ys ≡ [] → xs ≡ ys
+classes-same : (n : ℕ) (xs ys : List Class) → seam_class_faults n xs ys ≡ [] → xs ≡ ys
 classes-same n [] [] e = refl
 classes-same n [] (y ∷ ys) e = absurd (cons-nil (Classes n) [] e)
 classes-same n (x ∷ xs) [] e = absurd (cons-nil (Classes n) [] e)
@@ -68,7 +68,7 @@ none-joined tiles ks = record {
   faultless = λ before r after e. absurd (nothing-between before r after e);
 }
 
-pub joined-more : (tiles : List Box4) (ks : List Class) (done : List Contents) (r : Contents) → AreJoined tiles ks done → IsRegion r → seam_faults tiles ks done r ≡ []
+joined-more : (tiles : List Box4) (ks : List Class) (done : List Contents) (r : Contents) → AreJoined tiles ks done → IsRegion r → seam_faults tiles ks done r ≡ []
     → AreJoined tiles ks (done ++ r ∷ [])
 joined-more tiles ks done r h g e = record {
   regions_are = All-push IsRegion done r h.regions_are g;

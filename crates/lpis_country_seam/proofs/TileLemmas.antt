@@ -30,15 +30,15 @@ next-later k (t ∷ ts) zero e = or-right (reaches k t) (list_any (reaches k) ts
 next-later k (t ∷ ts) (suc n) e = next-later k ts n e
 
 -- the tiles that are met, past one more
-pub reached-more : (k : Parcel) (tiles : List Box4) (i : ℕ) (t : Box4) (rest : List Box4) → drop i tiles ≡ t ∷ rest → reaches k t ≡ false → reached i (drop i tiles) k ≡ reached (i + 1) rest k
+reached-more : (k : Parcel) (tiles : List Box4) (i : ℕ) (t : Box4) (rest : List Box4) → drop i tiles ≡ t ∷ rest → reaches k t ≡ false → reached i (drop i tiles) k ≡ reached (i + 1) rest k
 reached-more k tiles i t rest e f = ap (λ (ts : List Box4). reached i ts k) e ∙ ap (λ (b : Bool). cond b (i ∷ reached (i + 1) rest k) (reached (i + 1) rest k)) f
 
 -- a tile that is met is the first of those from it on
-pub reached-here : (k : Parcel) (tiles : List Box4) (i : ℕ) (t : Box4) (rest : List Box4) → drop i tiles ≡ t ∷ rest → reaches k t ≡ true → slice_get (reached i (drop i tiles) k) 0 ≡ Some i
+reached-here : (k : Parcel) (tiles : List Box4) (i : ℕ) (t : Box4) (rest : List Box4) → drop i tiles ≡ t ∷ rest → reaches k t ≡ true → slice_get (reached i (drop i tiles) k) 0 ≡ Some i
 reached-here k tiles i t rest e f = ap (λ (ts : List Box4). slice_get (reached i ts k) 0) e ∙ ap (λ (b : Bool). slice_get (cond b (i ∷ reached (i + 1) rest k) (reached (i + 1) rest k)) 0) f
 
 -- none is met where the list is empty
-pub none-reached : (k : Parcel) (tiles : List Box4) (i : ℕ) → reached i tiles k ≡ [] → All (λ (t : Box4). reaches k t ≡ false) tiles
+none-reached : (k : Parcel) (tiles : List Box4) (i : ℕ) → reached i tiles k ≡ [] → All (λ (t : Box4). reaches k t ≡ false) tiles
 none-reached k [] i e = All-nil (λ (t : Box4). reaches k t ≡ false)
 none-reached k (t ∷ ts) i e = by (reaches k t) refl e (none-reached k ts (i + 1))
   where

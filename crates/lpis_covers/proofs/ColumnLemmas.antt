@@ -108,7 +108,7 @@ pub after-bad : (front : List (Option ℕ)) (said : Result (List (Option ℕ)) T
 after-bad front (Ok ps) e h = cc h
 after-bad front (Err f) e h = cc h
 
-pub after-none : (front : List (Option ℕ)) (said : Result (List (Option ℕ)) TableCode) (places : List (Option ℕ)) → front ≡ [] → after_places front said ≡ Ok places → said ≡ Ok places
+after-none : (front : List (Option ℕ)) (said : Result (List (Option ℕ)) TableCode) (places : List (Option ℕ)) → front ≡ [] → after_places front said ≡ Ok places → said ≡ Ok places
 after-none [] (Ok ps) places e h = h
 after-none [] (Err f) places e h = cc h
 after-none (p ∷ front) said places e h = cc e

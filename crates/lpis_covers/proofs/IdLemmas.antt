@@ -63,6 +63,6 @@ before-padding bs zs n h z =
     by : (k : ℕ) → cond (eqb k k) (k + 0) k ≡ k
     by k = grind (arith, nat_tests)
 
-pub is-none : {A : Type 0} (o : Option A) → is_some o ≡ false → o ≡ None
+is-none : {A : Type 0} (o : Option A) → is_some o ≡ false → o ≡ None
 is-none None h = refl
 is-none (Some x) h = cc h

@@ -20,7 +20,7 @@ pub read-ended : (a b : BytesReader) (f : List (List ℕ)) → IsBetween a → R
 read-ended a b f h r = left-is a h ∙ left-none (reader_state a) h.text (rows-end slice-rem a b f default_config h.text h.config h.left r)
 
 -- the first record left is the one that a read took
-pub read-took : (a b : BytesReader) (f : List (List ℕ)) → IsBetween a → TookRecord slice-rem a b f
+read-took : (a b : BytesReader) (f : List (List ℕ)) → IsBetween a → TookRecord slice-rem a b f
     → (rest : List ℕ) × (records_left a ≡ f ∷ records_at (reader_state b) (Some rest)) × (pending_of (slice-rem b.rdr) b ≡ Some rest) × (ends_at_end (reader_state b) ≡ false)
 read-took a b f h r =
     let t = took a.state b.state h.text (pending_of (slice-rem b.rdr) b) f (rw (h.config, h.left) at r) in

@@ -79,11 +79,11 @@ column-fault table names further header rs all Memory e t = tt
 column-fault table names further header rs all (At code in_table row wkt) e t = rw (e, t.0, t.1) refl
 
 -- the fault of the columns that must be there, and of those that may be absent
-pub first-places : (table : Table) (said more : Result (List (Option ℕ)) TableCode) (told : TableFault) → TellsColumn table said told → TellsColumn table (and_then said (λ front. after_places front more)) told
+first-places : (table : Table) (said more : Result (List (Option ℕ)) TableCode) (told : TableFault) → TellsColumn table said told → TellsColumn table (and_then said (λ front. after_places front more)) told
 first-places table said more Memory t = tt
 first-places table said more (At code in_table row wkt) t = (rw t.0 refl, t.1)
 
-pub then-places : (table : Table) (front : List (Option ℕ)) (said more : Result (List (Option ℕ)) TableCode) (told : TableFault) → said ≡ Ok front
+then-places : (table : Table) (front : List (Option ℕ)) (said more : Result (List (Option ℕ)) TableCode) (told : TableFault) → said ≡ Ok front
     → TellsColumn table more told → TellsColumn table (and_then said (λ front. after_places front more)) told
 then-places table front said more Memory e t = tt
 then-places table front said more (At code in_table row wkt) e t = (rw (e, t.0) refl, t.1)

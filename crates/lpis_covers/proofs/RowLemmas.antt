@@ -40,7 +40,7 @@ start-records : (table : Table) (names further : List (List ℕ)) (all : List Re
 start-records table names further [] t h = cc h
 start-records table names further (header ∷ rs) t h = start-header table header rs (wanted_places header names further) t h
 
-pub table-start : (table : Table) (names further : List (List ℕ)) (bytes : List ℕ) (t : Reading) → table_of table names further bytes ≡ Ok t → (t.table ≡ table) × (t.number ≡ 0)
+table-start : (table : Table) (names further : List (List ℕ)) (bytes : List ℕ) (t : Reading) → table_of table names further bytes ≡ Ok t → (t.table ≡ table) × (t.number ≡ 0)
 unfolding table_of
 table-start table names further bytes t h = by (has_mark (strip_bom bytes)) refl where
   by : (b : Bool) → has_mark (strip_bom bytes) ≡ b → (t.table ≡ table) × (t.number ≡ 0)
@@ -54,7 +54,7 @@ rows-start kind bytes t h enough =
     record { table = s.0; count = s.1; few = omega (arith, s.1); enough = enough; faults = rw first refl; values = refl }
 
 -- columns that are not enough
-pub rows-lacking : {A : Type 0} (kind : RowsOf A) (bytes : List ℕ) (t : Reading) → table_of kind.table kind.columns kind.further bytes ≡ Ok t → kind.enough t.has ≡ false
+rows-lacking : {A : Type 0} (kind : RowsOf A) (bytes : List ℕ) (t : Reading) → table_of kind.table kind.columns kind.further bytes ≡ Ok t → kind.enough t.has ≡ false
     → rows_of kind bytes ≡ Err (fault_at MissingColumn kind.table 0)
 rows-lacking kind bytes t opened lacking = rw (opened, lacking) refl
 

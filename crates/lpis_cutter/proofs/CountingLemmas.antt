@@ -6,7 +6,7 @@ use Rattle.lpis_points.specs.Plane.{same_point}
 use Rattle.lpis_points.specs.Chain.{net_count, SameNet}
 use Rattle.lpis_cutter.specs.private.Cutting.{edge_times}
 
-pub times-append : (a b : Point) (es fs : List (Point × Point)) → edge_times a b (es ++ fs) ≡ edge_times a b es + edge_times a b fs
+times-append : (a b : Point) (es fs : List (Point × Point)) → edge_times a b (es ++ fs) ≡ edge_times a b es + edge_times a b fs
 times-append a b [] fs = omega arith
 times-append a b (e ∷ es) fs = by (same_point a e.0 && same_point b e.1) (times-append a b es fs)
   where
@@ -19,7 +19,7 @@ times-append a b (e ∷ es) fs = by (same_point a e.0 && same_point b e.1) (time
     by false h = h
 
 -- a net count is the edges along, less those back
-pub net_is_times : (a b : Point) (es : List (Point × Point)) → net_count same_point a b es ≡ pos (edge_times a b es) -ℤ pos (edge_times b a es)
+net_is_times : (a b : Point) (es : List (Point × Point)) → net_count same_point a b es ≡ pos (edge_times a b es) -ℤ pos (edge_times b a es)
 net_is_times a b [] = omega (arith, ints)
 net_is_times a b (e ∷ es) = by (same_point a e.0 && same_point b e.1) (same_point b e.0 && same_point a e.1) (net_is_times a b es)
   where

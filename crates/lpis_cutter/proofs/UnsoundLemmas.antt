@@ -35,7 +35,7 @@ one_item P xs x y one a b p q =
     let same = one f.index g.index f.item g.item f.at g.at (subst P (sym f.has) p) (subst P (sym g.has) q) in
     sym f.has ∙ same_Some f.item g.item (sym f.at ∙ ap (λ k. slice_get xs k) same ∙ g.at) ∙ g.has
 
-pub one-filter : {A : Type 0} (P : A → Type 0) (q : A → Bool) (xs : List A) → AtMostOne P xs → AtMostOne P (filter q xs)
+one-filter : {A : Type 0} (P : A → Type 0) (q : A → Bool) (xs : List A) → AtMostOne P xs → AtMostOne P (filter q xs)
 one-filter P q [] h = λ i j a b e f p r. absurd (none-some a e)
 one-filter {A} P q (x ∷ xs) h = by (q x) (one-filter P q xs (λ i j a b e f p r. less i j (h (suc i) (suc j) a b e f p r)))
   where

@@ -41,14 +41,14 @@ pub all_right : {A : Type 0} (P : A → Type 0) (xs ys : List A) → All P (xs +
 all_right P xs ys h = λ k d l. All-contains P (xs ++ ys) (get_or ys k d) h (Contains-append_right xs ys (get_or ys k d) (Contains-get_or ys k d l))
 
 -- ---- sums of terms that are not below 0
-pub total-not_neg : {A : Type 0} (g : A → ℤ) (xs : List A) → All (λ x. pos 0 ≤ℤ g x) xs → pos 0 ≤ℤ int_sum_by g xs
+total-not_neg : {A : Type 0} (g : A → ℤ) (xs : List A) → All (λ x. pos 0 ≤ℤ g x) xs → pos 0 ≤ℤ int_sum_by g xs
 total-not_neg g [] h = omega (arith, ints)
 total-not_neg g (x ∷ xs) h = by (g x) (int_sum_by g xs) (All-head (λ y. pos 0 ≤ℤ g y) x xs h) (total-not_neg g xs (All-tail (λ y. pos 0 ≤ℤ g y) x xs h))
   where
     by : (a b : ℤ) → pos 0 ≤ℤ a → pos 0 ≤ℤ b → pos 0 ≤ℤ (a +ℤ b)
     by a b h k = omega (arith, ints)
 
-pub total-filter : {A : Type 0} (g : A → ℤ) (q : A → Bool) (xs : List A) → All (λ x. pos 0 ≤ℤ g x) xs → (pos 0 ≤ℤ int_sum_by g (filter q xs)) × (int_sum_by g (filter q xs) ≤ℤ int_sum_by g xs)
+total-filter : {A : Type 0} (g : A → ℤ) (q : A → Bool) (xs : List A) → All (λ x. pos 0 ≤ℤ g x) xs → (pos 0 ≤ℤ int_sum_by g (filter q xs)) × (int_sum_by g (filter q xs) ≤ℤ int_sum_by g xs)
 total-filter g q [] h = (omega (arith, ints), omega (arith, ints))
 total-filter {A} g q (x ∷ xs) h = by (q x) (All-head (λ y. pos 0 ≤ℤ g y) x xs h) (total-filter g q xs (All-tail (λ y. pos 0 ≤ℤ g y) x xs h))
   where
@@ -82,7 +82,7 @@ one_of_some g q xs h o = by (int_sum_by g (filter q xs)) (int_sum_by g xs) (tota
     by (negsuc n) t k (inr e) = absurd (omega (arith, ints, k.0))
 
 -- an element whose term is 1
-pub at_least : {A : Type 0} (g : A → ℤ) (xs : List A) (k : ℕ) (x : A) → All (λ y. IsOneOrNone (g y)) xs → slice_get xs k ≡ Some x → g x ≡ pos 1 → pos 1 ≤ℤ int_sum_by g xs
+at_least : {A : Type 0} (g : A → ℤ) (xs : List A) (k : ℕ) (x : A) → All (λ y. IsOneOrNone (g y)) xs → slice_get xs k ≡ Some x → g x ≡ pos 1 → pos 1 ≤ℤ int_sum_by g xs
 at_least g [] k x h e f = absurd (none-some x e)
 at_least g (y ∷ ys) zero x h e f = here (g y) (int_sum_by g ys) (ap g (same_Some y x e) ∙ f) (total-not_neg g ys (not_negs g ys (All-tail (λ z. IsOneOrNone (g z)) y ys h)))
   where

@@ -122,7 +122,7 @@ passed {xs} {ys} t a b h k =
     same s r z e f = omega (arith, ints)
 
 -- ---- growing by lists
-pub low_count-append : (p q : Point) (es fs : List (Point × Point)) → low_count p q (es ++ fs) ≡ low_count p q es +ℤ low_count p q fs
+low_count-append : (p q : Point) (es fs : List (Point × Point)) → low_count p q (es ++ fs) ≡ low_count p q es +ℤ low_count p q fs
 low_count-append p q es fs = by (is_low p q) (edge_sum-append (λ u v. is_edge same_point p q u v -ℤ is_edge same_point q p u v) es fs)
   where
     by : (l : Bool) → net_count same_point p q (es ++ fs) ≡ net_count same_point p q es +ℤ net_count same_point p q fs

@@ -50,7 +50,7 @@ first_lacks points ts us h = (λ e. absurd (never e), λ w. absurd (h (all_left 
     never e = cc
 
 -- sets of the same points have the same corners
-pub have_same : (points others : List Point) (ts : List Triangle) → ((p : Point) → Contains points p ↔ Contains others p) → HaveCorners points ts ↔ HaveCorners others ts
+have_same : (points others : List Point) (ts : List Triangle) → ((p : Point) → Contains points p ↔ Contains others p) → HaveCorners points ts ↔ HaveCorners others ts
 unfolding HasCorners
 have_same points others ts h = (
   λ w k d l. let v = w k d l in ((h (get_or ts k d).a).0 v.0, (h (get_or ts k d).b).0 v.1, (h (get_or ts k d).c).0 v.2),

@@ -27,14 +27,14 @@ use Rattle.lpis_exact_lineage.specs.private.Lacking.{IsFirstLacking}
 lacking-append : (kept : List Shape) (xs ys : List (List ℕ)) → lacking kept (xs ++ ys) ≡ lacking kept xs ++ lacking kept ys
 lacking-append kept xs ys = filter-append (λ id. not (is_some (shape_named kept id))) xs ys
 
-pub kept-none : (kept : List Shape) (ids : List (List ℕ)) (shapes : List (List Member)) → AllZip (HasShape (shape_named kept)) ids shapes → lacking kept ids ≡ []
+kept-none : (kept : List Shape) (ids : List (List ℕ)) (shapes : List (List Member)) → AllZip (HasShape (shape_named kept)) ids shapes → lacking kept ids ≡ []
 kept-none kept [] shapes z = refl
 kept-none kept (id ∷ ids) [] z = absurd z
 kept-none kept (id ∷ ids) (s ∷ ss) z =
     ap (λ (o : Option (List Member)). cond (not (is_some o)) (id ∷ lacking kept ids) (lacking kept ids)) z.0 ∙ kept-none kept ids ss z.1
 
 -- where all before them are kept, the first of these is the first of all
-pub first-lacking : (kept : List Shape) (front ids back : List (List ℕ)) (fault : AskFault) → lacking kept front ≡ [] → IsFirstLacking kept ids fault
+first-lacking : (kept : List Shape) (front ids back : List (List ℕ)) (fault : AskFault) → lacking kept front ≡ [] → IsFirstLacking kept ids fault
     → IsFirstLacking kept (front ++ (ids ++ back)) fault
 first-lacking kept front ids back Memory none first = tt
 first-lacking kept front ids back (NotKept id) none first = (
@@ -125,7 +125,7 @@ asked h kept r rows c gs xs none change are parts = (
   },
 )
 
-pub unkept-told : (h : List Entry) (kept : List Shape) (r : Contents) (rows : List Row) (c : Changes) (gs : List Group) (fault : AskFault) → faults h (parcel_ids r.parcels) rows ≡ []
+unkept-told : (h : List Entry) (kept : List Shape) (r : Contents) (rows : List Row) (c : Changes) (gs : List Group) (fault : AskFault) → faults h (parcel_ids r.parcels) rows ≡ []
     → IsChange (last_live h) (parcel_ids r.parcels) rows c → AreExactGroups (kind_at c) c.rows gs → IsFirstLacking kept (flat_map old_ids gs) fault
     → (id : List ℕ) → fault ≡ NotKept id → IsUnkept h kept r rows id
 unkept-told h kept r rows c gs fault none change are first id e =

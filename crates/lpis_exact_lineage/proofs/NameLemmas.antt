@@ -41,7 +41,7 @@ distinct_in (x ∷ xs) s (suc i) (suc j) a e f = ap suc (distinct_in xs (IsDisti
 pub distinct_at : (xs : List (List ℕ)) → IsAscending xs → (i j : ℕ) (a : List ℕ) → slice_get xs i ≡ Some a → slice_get xs j ≡ Some a → i ≡ j
 distinct_at xs s = distinct_in xs (IsDistinct-from_sorted (slice_cmp nat_cmp) xs s)
 
-pub has_index : (ids : List (List ℕ)) (q : List ℕ) → has_id ids q ≡ true → (i : ℕ) × (slice_get ids i ≡ Some q)
+has_index : (ids : List (List ℕ)) (q : List ℕ) → has_id ids q ≡ true → (i : ℕ) × (slice_get ids i ≡ Some q)
 has_index [] q e = cc e
 has_index (x ∷ xs) q e = by (same_id q x) refl e (has_index xs q)
   where
@@ -49,7 +49,7 @@ has_index (x ∷ xs) q e = by (same_id q x) refl e (has_index xs q)
     by true s e rec = (0, ap Some (sym (same-exact q x (sym s))))
     by false s e rec = let r = rec e in (suc r.0, r.1)
 
-pub index_has : (ids : List (List ℕ)) (i : ℕ) (q : List ℕ) → slice_get ids i ≡ Some q → has_id ids q ≡ true
+index_has : (ids : List (List ℕ)) (i : ℕ) (q : List ℕ) → slice_get ids i ≡ Some q → has_id ids q ≡ true
 index_has ids i q e = any_passes_from_place (same_id q) ids i q e (same-refl q)
 
 -- ---- a list of identifiers with their shapes
@@ -70,7 +70,7 @@ pub record Shaped (f : List ℕ → Option (List Member)) (ms : List (List Membe
   pub is : f q ≡ Some shape
   pub at : slice_get ms i ≡ Some shape
 
-pub part_at : (f : List ℕ → Option (List Member)) (ids : List (List ℕ)) (ms : List (List Member)) → AllZip (HasShape f) ids ms → (i : ℕ) (q : List ℕ) → slice_get ids i ≡ Some q → Shaped f ms i q
+part_at : (f : List ℕ → Option (List Member)) (ids : List (List ℕ)) (ms : List (List Member)) → AllZip (HasShape f) ids ms → (i : ℕ) (q : List ℕ) → slice_get ids i ≡ Some q → Shaped f ms i q
 part_at f [] ms e i q g = absurd (none-some q g)
 part_at f (a ∷ ids) [] e i q g = absurd e
 part_at f (a ∷ ids) (x ∷ ms) e zero q g = record { shape = x; is = ap f (sym (same_Some a q g)) ∙ e.0; at = refl }

@@ -69,7 +69,7 @@ answer-parts : {t u : List ℕ} {n m : ℕ} → t ≡ u → n ≡ m → ◌≡�
 answer-parts a b = cc (a, b)
 
 -- what the register refuses is the answer
-pub answer-of-fault : (h : List Entry) (s : List Shape) (year : ℕ) (r : Contents) (c : Cert) (rows : List Row) (fault : PublishFault) (text : List ℕ) (status : ℕ)
+answer-of-fault : (h : List Entry) (s : List Shape) (year : ℕ) (r : Contents) (c : Cert) (rows : List Row) (fault : PublishFault) (text : List ℕ) (status : ℕ)
     → IsRefused h s year r c.exact rows fault → (fault ≡ publish.Memory → ⊥) → (fault ≡ publish.Store → ⊥)
     → text ≡ publish_refusal_text fault → status ≡ refused → IsHistoryAnswer h s year r c rows (text, status)
 answer-of-fault h s year r c rows publish.Memory text status is memory store line is_refused = absurd (memory refl)

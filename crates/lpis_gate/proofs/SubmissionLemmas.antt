@@ -38,7 +38,7 @@ answer-unsaid IsNext x a is =
     (λ r. cert-more _ _ x.checked.cert (verdict x.checked.cert) a (λ c. table-more _ _ (rows_of lineage_table x.lineage) a (λ rows no. absurd no))) is
 
 -- the fault is that of the tables, or of the text after them, or of the table after both
-pub unsaid-tables : (x : Submission) (u : Unsaid) → IsUnsaid (IsTableAnswer (λ _ _. ⊥) (release_of x.checked.parcels x.checked.covers x.checked.classes)) u → IsUnsaid (IsFaultAnswer x) u
+unsaid-tables : (x : Submission) (u : Unsaid) → IsUnsaid (IsTableAnswer (λ _ _. ⊥) (release_of x.checked.parcels x.checked.covers x.checked.classes)) u → IsUnsaid (IsFaultAnswer x) u
 unsaid-tables x Memory is = tt
 unsaid-tables x (Refused a) is = table-more _ _ (release_of x.checked.parcels x.checked.covers x.checked.classes) (a.text.items, a.status) (λ r no. absurd no) is
 

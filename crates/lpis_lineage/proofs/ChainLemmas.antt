@@ -14,7 +14,7 @@ use Rattle.lpis_lineage.proofs.ExtensionLemmas.{entry-get}
 use Rattle.lpis_lineage.proofs.TellingLemmas.{take-at}
 use Rattle.std.proofs.lemmas.Bool.{and_parts, and_from, or_cases}
 
-pub chain-more : (rows : List Row) (r : Row) (a b : List ℕ) → Chain rows a b → Chain (rows ++ r ∷ []) a b
+chain-more : (rows : List Row) (r : Row) (a b : List ℕ) → Chain rows a b → Chain (rows ++ r ∷ []) a b
 chain-more rows r a _ Here = Here
 chain-more rows r a _ (Step m b ch l) = Step m b (chain-more rows r a m ch) (any-left (leads m b) rows (r ∷ []) l)
 
@@ -134,7 +134,7 @@ rows-more h i e lt is = sym (all-snoc (take i h) e) ∙ ap all_rows (take-at h i
   all-snoc [] e = append-nil e.rows
   all-snoc (x ∷ h) e = ap (λ (l : List Row). x.rows ++ l) (all-snoc h e) ∙ sym (append_assoc x.rows (all_rows h) e.rows)
 
-pub rows-whole : (h : List Entry) → all_rows (take (length h) h) ≡ all_rows h
+rows-whole : (h : List Entry) → all_rows (take (length h) h) ≡ all_rows h
 rows-whole h = ap all_rows (take_all h) where
   take_all : (h : List Entry) → take (length h) h ≡ h
   take_all [] = refl

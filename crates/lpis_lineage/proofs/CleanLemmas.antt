@@ -15,7 +15,7 @@ use Rattle.lpis_lineage.proofs.IdentifierLemmas.{same-exact, same-refl}
 use Rattle.lpis_lineage.proofs.RowCountLemmas.{filter-append, filter-none, filter-some, one-ending, counted-ended, from-answered}
 
 -- ---- lists and tests
-pub told-nil : (b : Bool) (f : LineageFault) (rest : List LineageFault) → fault_before b f rest ≡ [] → (b ≡ false) × (rest ≡ [])
+told-nil : (b : Bool) (f : LineageFault) (rest : List LineageFault) → fault_before b f rest ≡ [] → (b ≡ false) × (rest ≡ [])
 told-nil true f rest e = absurd cc
 told-nil false f rest e = (refl, e)
 
@@ -61,7 +61,7 @@ same-row-count r q e rows =
     let count : List ℕ → Option (List ℕ) → ℕ = λ o n. length (filter (λ (x : Row). same_id o x.old && same_new n x.new) rows) in
     ap (λ (o : List ℕ). count o r.new) (same-exact r.old q.old (and_parts _ _ e).0) ∙ ap (λ (n : Option (List ℕ)). count q.old n) (same-new-exact r.new q.new (and_parts (same_id r.old q.old) _ e).1)
 
-pub same-row-refl : (r : Row) → same_row r r ≡ true
+same-row-refl : (r : Row) → same_row r r ≡ true
 same-row-refl r = and_from _ _ (same-refl r.old) (same-new-refl r.new)
 
 missing-named : (live : List (List ℕ)) (o : Option (List ℕ)) → is_missing live o ≡ false → (id : List ℕ) → is_this id o ≡ true → has_id live id ≡ true
@@ -308,7 +308,7 @@ marks-clean kind_of all k (r ∷ rs) e =
     let t = told-nil _ _ _ e in
     ap (λ (b : Bool). b || list_any (is_outside kind_of all) rs) t.0 ∙ marks-clean kind_of all (k + 1) rs t.1
 
-pub clean-marks : (kind_of : List ℕ → Option Kind) (all : List Row) (k : ℕ) (rows : List Row) → list_any (is_outside kind_of all) rows ≡ false → marked_row_faults kind_of all k rows ≡ []
+clean-marks : (kind_of : List ℕ → Option Kind) (all : List Row) (k : ℕ) (rows : List Row) → list_any (is_outside kind_of all) rows ≡ false → marked_row_faults kind_of all k rows ≡ []
 clean-marks kind_of all k [] e = refl
 clean-marks kind_of all k (r ∷ rs) e = by (is_outside kind_of all r) e (clean-marks kind_of all (k + 1) rs)
   where

@@ -13,7 +13,7 @@ use Rattle.lpis_lineage.proofs.RowCountLemmas.{filter-some}
 use Rattle.lpis_lineage.proofs.SeenLemmas.{row-more}
 
 -- an identifier has as many successors as rows with one
-pub successors-count : (rows : List Row) (id : List ℕ) → length (successors rows id) ≡ id_times (olds rows) id
+successors-count : (rows : List Row) (id : List ℕ) → length (successors rows id) ≡ id_times (olds rows) id
 successors-count [] id = refl
 successors-count (r ∷ rs) id = grind (arith, successors-count rs id)
 

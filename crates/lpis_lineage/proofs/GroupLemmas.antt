@@ -34,13 +34,13 @@ names-next f p ids i id lt is =
     ∙ ap (λ (xs : List (List ℕ)). map f (filter p xs)) (take-at ids i id lt is)
 
 -- a group that is added
-pub names-added : (gs : List Group) (g : Group) (merge : Bool) (id : List ℕ) (p : List ℕ → Bool) (new : List Group) → new ≡ gs ++ g ∷ [] → group_name g ≡ as_group merge id → p id ≡ true
+names-added : (gs : List Group) (g : Group) (merge : Bool) (id : List ℕ) (p : List ℕ → Bool) (new : List Group) → new ≡ gs ++ g ∷ [] → group_name g ≡ as_group merge id → p id ≡ true
     → map group_name new ≡ map group_name gs ++ map (as_group merge) (filter p (id ∷ []))
 names-added gs g merge id p new e n t =
     ap (λ (xs : List Group). map group_name xs) e ∙ map-append group_name gs (g ∷ []) ∙ ap (λ (x : Bool × List ℕ). map group_name gs ++ x ∷ []) n
     ∙ ap (λ (b : Bool). map group_name gs ++ map (as_group merge) (cond b (id ∷ []) [])) (sym t)
 
-pub names-passed : (gs : List Group) (merge : Bool) (id : List ℕ) (p : List ℕ → Bool) → p id ≡ false → map group_name gs ≡ map group_name gs ++ map (as_group merge) (filter p (id ∷ []))
+names-passed : (gs : List Group) (merge : Bool) (id : List ℕ) (p : List ℕ → Bool) → p id ≡ false → map group_name gs ≡ map group_name gs ++ map (as_group merge) (filter p (id ∷ []))
 names-passed gs merge id p t = sym (plain (map group_name gs)) ∙ ap (λ (b : Bool). map group_name gs ++ map (as_group merge) (cond b (id ∷ []) [])) (sym t)
   where
     plain : (xs : List (Bool × List ℕ)) → xs ++ [] ≡ xs

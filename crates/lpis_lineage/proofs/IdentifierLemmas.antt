@@ -59,7 +59,7 @@ same-sym a b = same-sym-by a b (same_id a b) refl (same_id b a) refl where
   same-sym-by a b false e true f = absurd (let g : b ≡ a = same-exact b a f in let r = same-refl b in let s : same_id a b ≡ true = subst (λ (z : List ℕ). same_id z b ≡ true) g r in cc)
 
 -- one identifier more
-pub has-more : (ids : List (List ℕ)) (i : ℕ) (d key q : List ℕ) (old new : Bool) → i < length ids → key ≡ get_or ids i d
+has-more : (ids : List (List ℕ)) (i : ℕ) (d key q : List ℕ) (old new : Bool) → i < length ids → key ≡ get_or ids i d
     → old ≡ has_id (take i ids) q → new ≡ cond (same_id key q) true old → new ≡ has_id (take (i + 1) ids) q
 has-more ids i d key q old new lt e o n = n ∙ flip (same_id key q) old ∙ ap (λ (b : Bool). b || same_id key q) o
     ∙ ap (λ (b : Bool). has_id (take i ids) q || b) (same-sym key q ∙ ap (same_id q) e)

@@ -34,7 +34,7 @@ kind-live last a b rows id e =
     (successors rows id) (λ s. ap (λ (t : Bool). nat_lt 1 (id_times (heirs rows) s + cond (has_id last s && t) 1 0))
     (e s)))
 
-pub change-live : (last a b : List (List ℕ)) (rows : List Row) (c : Changes) → ((q : List ℕ) → has_id a q ≡ has_id b q) → IsChange last a rows c → IsChange last b rows c
+change-live : (last a b : List (List ℕ)) (rows : List Row) (c : Changes) → ((q : List ℕ) → has_id a q ≡ has_id b q) → IsChange last a rows c → IsChange last b rows c
 change-live last a b rows c e is = record {
   kinds_are = λ id. is.kinds_are id ∙ kind-live last a b rows id e;
   dropped_are = is.dropped_are ∙ filter-same (λ id. not (has_id a id)) (λ id. not (has_id b id)) last (λ id. ap not (e id));

@@ -10,12 +10,12 @@ use Rattle.lpis_covers.proofs.Shared.{column-fault, column-passed, fault-retold}
 use Rattle.lpis_lineage.specs.LineageTable.{AnswersRows, lineage_faults, mark_field_faults, mark_of_text, row_of, successor_faults, successor_of}
 
 -- an empty field
-pub successor-none : (n : ℕ) (field : List ℕ) → field ≡ [] → unless_faulty (successor_faults n field) (successor_of field) ≡ Ok None
+successor-none : (n : ℕ) (field : List ℕ) → field ≡ [] → unless_faulty (successor_faults n field) (successor_of field) ≡ Ok None
 successor-none n [] e = refl
 successor-none n (b ∷ bs) e = cc e
 
 -- a field that is not empty
-pub successor-some : (n : ℕ) (field id : List ℕ) → (field ≡ [] → ⊥) → unless_faulty (id_faults Lineage n field) field
+successor-some : (n : ℕ) (field id : List ℕ) → (field ≡ [] → ⊥) → unless_faulty (id_faults Lineage n field) field
     ≡ Ok id → unless_faulty (successor_faults n field) (successor_of field) ≡ Ok (Some id)
 successor-some n [] id ne e = absurd (ne refl)
 successor-some n (b ∷ bs) id ne e = by (id_faults Lineage n (b ∷ bs)) e where
@@ -23,7 +23,7 @@ successor-some n (b ∷ bs) id ne e = by (id_faults Lineage n (b ∷ bs)) e wher
   by [] e = let s : (b ∷ bs) ≡ id = cc e in ap (λ (x : List ℕ). Ok (Some x)) s
   by (f ∷ fs) e = cc e
 
-pub successor-fault : (n : ℕ) (field : List ℕ) (f : TableFault) → (field ≡ [] → ⊥) → Answers {A = List ℕ} (Err f)
+successor-fault : (n : ℕ) (field : List ℕ) (f : TableFault) → (field ≡ [] → ⊥) → Answers {A = List ℕ} (Err f)
     (unless_faulty (id_faults Lineage n field) field) → Answers {A = Option (List ℕ)} (Err f)
     (unless_faulty (successor_faults n field) (successor_of field))
 successor-fault n [] f ne e = absurd (ne refl)
@@ -54,7 +54,7 @@ row-told n row old new exact e f g =
     three-told make-row (id_faults Lineage n (field_of row 0)) (successor_faults n (field_of row 1)) (mark_field_faults n (mark_of_text (field_of row 2)))
     (field_of row 0) old (successor_of (field_of row 1)) new (unwrap_or (mark_of_text (field_of row 2)) false) exact e f g
 
-pub row-fault-old : (n : ℕ) (row : Fields) (f : TableFault) → Answers {A = List ℕ} (Err f)
+row-fault-old : (n : ℕ) (row : Fields) (f : TableFault) → Answers {A = List ℕ} (Err f)
     (unless_faulty (id_faults Lineage n (field_of row 0)) (field_of row 0))
     → Answers {A = Row} (Err f) (unless_faulty (lineage_faults n row) (row_of row))
 row-fault-old n row f h =

@@ -57,7 +57,7 @@ seen-heir s t before r heir seen some e c h = record {
 }
 
 -- a pair compares equal where both parts do
-pub pair-eq : (a b : List ℕ) (p : List ℕ × List ℕ)
+pair-eq : (a b : List ℕ) (p : List ℕ × List ℕ)
     → is_eq (ordering_then (slice_cmp nat_cmp a p.0) (slice_cmp nat_cmp b p.1)) ≡ (same_id a p.0 && same_id b p.1)
 pair-eq a b p = rw (texts_ties a p.0, texts_ties b p.1) (grind arith)
 

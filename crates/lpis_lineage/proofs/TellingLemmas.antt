@@ -20,7 +20,7 @@ told-falls false f some none others h = h
 falls-none : (others : List LineageFault) → Falls others [] others
 falls-none others = record { when_none = λ e. refl; when_told = λ e t. cc t }
 
-pub row-falls : (last live : List (List ℕ)) (before : List Row) (k : ℕ) (r : Row) (others : List LineageFault)
+row-falls : (last live : List (List ℕ)) (before : List Row) (k : ℕ) (r : Row) (others : List LineageFault)
     → Falls (faults_of_row last live before k r others) (faults_of_row last live before k r []) others
 row-falls last live before k r others =
     (told-falls (not (has_id last r.old)) (OldNotLive k) _ _ _ (told-falls (has_id live r.old) (OldStillLive k) _ _ _
@@ -31,7 +31,7 @@ row-falls last live before k r others =
 told-same : (b c : Bool) (f : LineageFault) (xs ys : List LineageFault) → b ≡ c → xs ≡ ys → fault_before b f xs ≡ fault_before c f ys
 told-same b c f xs ys e g = ap (λ (t : Bool). fault_before t f xs) e ∙ ap (λ (l : List LineageFault). fault_before c f l) g
 
-pub first-append : (xs ys : List LineageFault) (e : LineageFault) → first xs ≡ Some e → first (xs ++ ys) ≡ Some e
+first-append : (xs ys : List LineageFault) (e : LineageFault) → first xs ≡ Some e → first (xs ++ ys) ≡ Some e
 first-append [] ys e h = cc h
 first-append (x ∷ xs) ys e h = h
 
@@ -60,12 +60,12 @@ rows-stop last live rows i k r e lt is (inr t) all eq = inr (
 pub seen-next : (rows : List Row) (i : ℕ) (r : Row) (P : List Row → Type 0) → i < length rows → r ≡ get_or rows i r → P (take i rows ++ r ∷ []) → P (take (i + 1) rows)
 seen-next rows i r P lt is p = subst P (take-at rows i r lt is) p
 
-pub used-step : (h : List Entry) (last ids : List (List ℕ)) (i : ℕ) (id : List ℕ) → i < length ids
+used-step : (h : List Entry) (last ids : List (List ℕ)) (i : ℕ) (id : List ℕ) → i < length ids
     → id ≡ get_or ids i id → used_faults h last (id ∷ drop (i + 1) ids) ≡ used_faults h last (drop (i + 1) ids)
     → used_faults h last (drop i ids) ≡ used_faults h last (drop (i + 1) ids)
 used-step h last ids i id lt is e = ap (λ (l : List (List ℕ)). used_faults h last l) (drop-at ids i id lt is) ∙ e
 
-pub used-stop : (h : List Entry) (last ids : List (List ℕ)) (i : ℕ) (id : List ℕ) (f : LineageFault) → i < length ids
+used-stop : (h : List Entry) (last ids : List (List ℕ)) (i : ℕ) (id : List ℕ) (f : LineageFault) → i < length ids
     → id ≡ get_or ids i id → first (used_faults h last (id ∷ drop (i + 1) ids)) ≡ Some f
     → first (used_faults h last (drop i ids)) ≡ Some f
 used-stop h last ids i id f lt is t = ap (λ (l : List (List ℕ)). first (used_faults h last l)) (drop-at ids i id lt is) ∙ t
@@ -92,7 +92,7 @@ dropped-live a b rows (x ∷ xs) e = told-same (not (has_id a x) && not (list_an
     (ap (λ (t : Bool). not t && not (list_any (is_row_of x) rows)) (e x)) (dropped-live a b rows xs e)
 
 -- a row's old identifier has an ending or a successor
-pub of-either : (rows : List Row) (id : List ℕ) → (is_ended rows id || succeeded rows id) ≡ list_any (is_row_of id) rows
+of-either : (rows : List Row) (id : List ℕ) → (is_ended rows id || succeeded rows id) ≡ list_any (is_row_of id) rows
 of-either [] id = refl
 of-either (r ∷ rs) id = by (is_row_of id r) (is_some r.new) _ _ ∙ ap (λ (b : Bool). is_row_of id r || b) (of-either rs id) where
   by : (a b c d : Bool) → (((a && not b) || c) || ((a && b) || d)) ≡ (a || (c || d))

@@ -20,7 +20,7 @@ grows_by_nothing ts ps = record { kept = λ p h. h; near = λ h. h }
 joins_kept : (ts : List Triangle) (height : ℕ) (es : List Event) (ps qs : List (ℕ × ℕ)) (k m : ℕ) → Keeps ps qs → Joins ts height es ps k m → Joins ts height es qs k m
 joins_kept ts height es ps qs k m h j = λ e f g i s l o. let r = j e f g i s l o in (λ n. h _ (r.0 n), λ n. h _ (r.1 n))
 
-pub nothing_joined : (ts : List Triangle) (height : ℕ) (es : List Event) (ps : List (ℕ × ℕ)) (at : ℕ) → JoinsUpTo ts height es ps ps at (at + 1)
+nothing_joined : (ts : List Triangle) (height : ℕ) (es : List Event) (ps : List (ℕ × ℕ)) (at : ℕ) → JoinsUpTo ts height es ps ps at (at + 1)
 nothing_joined ts height es ps at = record {
   grows = grows_by_nothing ts ps;
   found = λ k l m. absurd (omega arith);
@@ -63,7 +63,7 @@ not_met ts e f e' f' stop l m o s r =
     two s t a b s' b' u v w l m p q e r = grind arith
 
 -- where the event m is in another strip, or begins where the event `at` has ended, so does each behind it
-pub none_behind : (ts : List Triangle) (height : ℕ) (es : List Event) (qs : List (ℕ × ℕ)) (at m k : ℕ) (e f : Event) → AreInOrder es
+none_behind : (ts : List Triangle) (height : ℕ) (es : List Event) (qs : List (ℕ × ℕ)) (at m k : ℕ) (e f : Event) → AreInOrder es
     → at < m → m ≤ k → slice_get es at ≡ Some e → slice_get es m ≡ Some f → (e.strip ≡ f.strip → f.left < right_end (slice_get ts e.index) → ⊥)
     → Joins ts height es qs at k
 none_behind ts height es qs at m k e f order l r g h stop = λ e' f' g' h' i j o. absurd (by_case e' f' g' h' i j (grind arith))
@@ -96,7 +96,7 @@ pub record JoinsBelow (ts : List Triangle) (height : ℕ) (es : List Event) (ps 
   pub near : AreNear ts ps
   pub found : (k m : ℕ) → k < n → k < m → Joins ts height es ps k m
 
-pub joins_none : (ts : List Triangle) (height : ℕ) (es : List Event) (ps : List (ℕ × ℕ)) → ps ≡ [] → JoinsBelow ts height es ps 0
+joins_none : (ts : List Triangle) (height : ℕ) (es : List Event) (ps : List (ℕ × ℕ)) → ps ≡ [] → JoinsBelow ts height es ps 0
 joins_none ts height es ps e = record {
   near = subst (λ (qs : List (ℕ × ℕ)). AreNear ts qs) (sym e) (All-nil (λ (p : ℕ × ℕ). IsNear ts p.0 p.1));
   found = λ k m l. absurd (omega arith);

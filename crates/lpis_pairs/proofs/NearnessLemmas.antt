@@ -14,7 +14,7 @@ near ts i j t u r l e f n = record {
   near = n;
 }
 
-pub not_near : (ts : List Triangle) (i j : ℕ) (t u : Triangle) → i < length ts → j < length ts → t ≡ get_or ts i t → u ≡ get_or ts j u → are_apart t u ≡ true → IsNear ts i j → ⊥
+not_near : (ts : List Triangle) (i j : ℕ) (t u : Triangle) → i < length ts → j < length ts → t ≡ get_or ts i t → u ≡ get_or ts j u → are_apart t u ≡ true → IsNear ts i j → ⊥
 not_near ts i j t u l m e f n h =
     let a : Some h.t ≡ Some t = sym h.at_i ∙ slice_get_read ts (length ts) i t refl l e in
     let b : Some h.u ≡ Some u = sym h.at_j ∙ slice_get_read ts (length ts) j u refl m f in

@@ -88,7 +88,7 @@ pub first-faults : (parcels : List Parcel) (classes : List Class) (pieces : List
 first-faults parcels classes pieces others h = none-left _ others h
 
 -- the class of the piece at an index
-pub class-of-index : (classes : List Class) (indices : List ℕ) (pieces : List Piece) (i j : ℕ) (piece : Piece)
+class-of-index : (classes : List Class) (indices : List ℕ) (pieces : List Piece) (i j : ℕ) (piece : Piece)
     → map (slice_get classes) indices ≡ map (λ (p : Piece). class_named classes p.class) pieces
     → slice_get pieces i ≡ Some piece → j ≡ get_or indices i j → slice_get classes j ≡ class_named classes piece.class
 class-of-index classes [] [] i j piece e at is = cc at
@@ -103,7 +103,7 @@ class-of-index classes _ _ i j piece e at is = cc e
 pub others-within : (n p : ℕ) (indices ps : List ℕ) → indices ≡ p ∷ ps → All (λ i. i < n) indices → All (λ i. i < n) ps
 others-within n p indices ps e h = let all : All (λ i. i < n) (p ∷ ps) = subst (λ (l : List ℕ). All (λ i. i < n) l) e h in λ k d lt. all (suc k) d (omega arith)
 
-pub first-within : (n p : ℕ) (indices ps : List ℕ) → indices ≡ p ∷ ps → All (λ i. i < n) indices → p < n
+first-within : (n p : ℕ) (indices ps : List ℕ) → indices ≡ p ∷ ps → All (λ i. i < n) indices → p < n
 first-within n p indices ps e h = let all : All (λ i. i < n) (p ∷ ps) = subst (λ (l : List ℕ). All (λ i. i < n) l) e h in all 0 0 (omega arith)
 
 pub next-at : {A : Type 0} (xs now : List A) (indices ps : List ℕ) (p : ℕ) (x : A) → at_indices xs indices ≡ now → indices ≡ p ∷ ps → slice_get xs p ≡ Some x → now ≡ x ∷ at_indices xs ps

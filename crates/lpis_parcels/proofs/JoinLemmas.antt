@@ -141,7 +141,7 @@ pub pieces-more : (parcels : List Parcel) (classes : List Class) (n i : ℕ) (pi
 pieces-more parcels classes n i pieces piece at none =
     ap (reference_faults parcels classes n) (drop-at pieces i piece at) ∙ ap (λ (fs : List TableFault). fs ++ reference_faults parcels classes (n + 1) (drop (i + 1) pieces)) none
 
-pub pieces-fault : (parcels : List Parcel) (classes : List Class) (n i : ℕ) (pieces : List Piece) (piece : Piece) (all : List TableFault) (f : TableFault) → slice_get pieces i ≡ Some piece
+pieces-fault : (parcels : List Parcel) (classes : List Class) (n i : ℕ) (pieces : List Piece) (piece : Piece) (all : List TableFault) (f : TableFault) → slice_get pieces i ≡ Some piece
     → all ≡ reference_faults parcels classes n (drop i pieces) → Refuses (unknown_faults parcels classes n piece) f → Refuses all f
 pieces-fault parcels classes n i pieces piece all f at is h =
     rw (is, drop-at pieces i piece at) (column-fault (unknown_faults parcels classes n piece) _ tt tt f h)

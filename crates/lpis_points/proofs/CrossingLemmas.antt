@@ -6,10 +6,10 @@ use Rattle.lpis_points.proofs.SignLemmas.{not_neg, pos-mul-pos, neg-mul-pos, pos
 pub up_left : (s t y o : ℤ) → s ≤ℤ y → y <ℤ t → pos 0 <ℤ o → crossing_of s t y o ≡ pos 1
 up_left s t y o h k l = grind (arith, ints)
 
-pub up_right : (s t y o : ℤ) → s ≤ℤ y → y <ℤ t → o <ℤ pos 0 → crossing_of s t y o ≡ pos 0
+up_right : (s t y o : ℤ) → s ≤ℤ y → y <ℤ t → o <ℤ pos 0 → crossing_of s t y o ≡ pos 0
 up_right s t y o h k l = grind (arith, ints)
 
-pub down_left : (s t y o : ℤ) → y <ℤ s → t ≤ℤ y → pos 0 <ℤ o → crossing_of s t y o ≡ pos 0
+down_left : (s t y o : ℤ) → y <ℤ s → t ≤ℤ y → pos 0 <ℤ o → crossing_of s t y o ≡ pos 0
 down_left s t y o h k l = grind (arith, ints)
 
 pub down_right : (s t y o : ℤ) → y <ℤ s → t ≤ℤ y → o <ℤ pos 0 → crossing_of s t y o ≡ negsuc 0
@@ -47,7 +47,7 @@ inside_no₁ o₁ o₂ o₃ h = grind (arith, ints)
 inside_no₃ : (o₁ o₂ o₃ : ℤ) → o₃ <ℤ pos 0 → inside_of o₁ o₂ o₃ ≡ pos 0
 inside_no₃ o₁ o₂ o₃ h = grind (arith, ints)
 
-pub positive_of : (o : ℤ) → o ≢ pos 0 → pos 0 ≤ℤ o → pos 0 <ℤ o
+positive_of : (o : ℤ) → o ≢ pos 0 → pos 0 ≤ℤ o → pos 0 <ℤ o
 positive_of o n h = omega (arith, ints)
 
 adds : {x y z w a b c e : ℤ} → x ≡ a → y ≡ b → z ≡ c → w ≡ e → a +ℤ b +ℤ c ≡ e → x +ℤ y +ℤ z ≡ w
@@ -112,7 +112,7 @@ one_above s t u y o₁ o₂ o₃ r hs ht hu = by_lt_z o₁ (pos 0)
     (up_left u s y o₃ hu hs p₃) (inside_yes o₁ o₂ o₃ p₁ (positive_of o₂ r.off₂ q₂) p₃) refl)))
 
 -- all on one side
-pub same_height : (s y o : ℤ) → pos 0 <ℤ o → (o *ℤ (s -ℤ y)) ≡ pos 0 → s ≡ y
+same_height : (s y o : ℤ) → pos 0 <ℤ o → (o *ℤ (s -ℤ y)) ≡ pos 0 → s ≡ y
 same_height s y o p e = let z = zero_of_mul (s -ℤ y) o p (*ℤ_comm (s -ℤ y) o ∙ e) in omega (arith, ints)
 
 -- three numbers at most m, with a weighted sum that is not below 0, are m

@@ -12,7 +12,7 @@ pub pos-mul-pos : (a b : ℤ) → pos 0 <ℤ a → pos 0 <ℤ b → pos 0 <ℤ (
 pos-mul-pos (pos (suc a)) (pos (suc b)) h k = omega (arith, ints)
 pos-mul-pos _ _ h k = absurd (omega (arith, ints))
 
-pub neg_mul : (a b : ℤ) → neg_ℤ a *ℤ b ≡ neg_ℤ (a *ℤ b)
+neg_mul : (a b : ℤ) → neg_ℤ a *ℤ b ≡ neg_ℤ (a *ℤ b)
 neg_mul (pos (suc a)) b = omega (arith, ints)
 neg_mul _ b = omega (arith, ints)
 

@@ -13,14 +13,14 @@ abbrev pub over : Point → RationalPoint → ℤ
 over a p = a.y *ℤ p.d -ℤ p.y
 
 -- the three sides of p add up to d times the triangle
-pub sides_sum : (a b c : Point) (p : RationalPoint) → orient_at a b p +ℤ orient_at b c p +ℤ orient_at c a p ≡ p.d *ℤ orient a b c
+sides_sum : (a b c : Point) (p : RationalPoint) → orient_at a b p +ℤ orient_at b c p +ℤ orient_at c a p ≡ p.d *ℤ orient a b c
 unfolding orient orient_at
 sides_sum a b c p = ring (unknowns_of a b c p a a (pos 0))
     (side ax ay bx by_ ⊕ side bx by_ cx cy ⊕ side cx cy ax ay)
     (d ⊗ turn ax ay bx by_ cx cy) tt
 
 -- the heights of the corners over p, each by the side of the edge across
-pub heights_sum : (a b c : Point) (p : RationalPoint) → orient_at b c p *ℤ over a p +ℤ orient_at c a p *ℤ over b p +ℤ orient_at a b p *ℤ over c p ≡ pos 0
+heights_sum : (a b c : Point) (p : RationalPoint) → orient_at b c p *ℤ over a p +ℤ orient_at c a p *ℤ over b p +ℤ orient_at a b p *ℤ over c p ≡ pos 0
 unfolding orient orient_at
 heights_sum a b c p = ring (unknowns_of a b c p a a (pos 0))
     (side bx by_ cx cy ⊗ (ay ⊗ d ⊖ py) ⊕ side cx cy ax ay ⊗ (by_ ⊗ d ⊖ py) ⊕ side ax ay bx by_ ⊗ (cy ⊗ d ⊖ py))

@@ -25,7 +25,7 @@ all_live : (live more : List (List ℕ)) (shapes : List Shape) → ((q : List �
 all_live live more [] same all = tt
 all_live live more (s ∷ shapes) same all = ((all.0.0, same s.0 ∙ all.0.1), all_live live more shapes same all.1)
 
-pub same_live : (h k : List Entry) → IsSameHistory h k → (shapes : List Shape) → AreLive (last_live h) shapes → AreLive (last_live k) shapes
+same_live : (h k : List Entry) → IsSameHistory h k → (shapes : List Shape) → AreLive (last_live h) shapes → AreLive (last_live k) shapes
 same_live h k same shapes all = all_live (last_live h) (last_live k) shapes (same_last h k same) all
 
 -- ---- the row of the version tells which it is

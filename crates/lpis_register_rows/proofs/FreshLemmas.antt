@@ -8,13 +8,13 @@ use Rattle.std.proofs.lemmas.List.Kept.{Contains-dedup, Contains-from_dedup, IsS
 use Rattle.lpis_lineage.proofs.Shared.{has-filter}
 use Rattle.lpis_register_rows.specs.Tells.{AreFresh}
 
-pub has-contained : (xs : List (List ℕ)) (q : List ℕ) → Contains xs q → has_id xs q ≡ true
+has-contained : (xs : List (List ℕ)) (q : List ℕ) → Contains xs q → has_id xs q ≡ true
 has-contained xs q there = All-contains (λ z. has_id xs z ≡ true) xs q (All-from_recursion (λ z. has_id xs z ≡ true) xs (among xs (λ z h. h))) there where
   among : (ys : List (List ℕ)) → ((z : List ℕ) → has_id ys z ≡ true → has_id xs z ≡ true) → AllByRecursion (λ z. has_id xs z ≡ true) ys
   among [] f = tt
   among (y ∷ ys) f = (f y (ap (λ (b : Bool). b || has_id ys y) (same-refl y)), among ys (λ z h. f z (or_right (same_id z y) (has_id ys z) h)))
 
-pub contained-has : (xs : List (List ℕ)) (q : List ℕ) → has_id xs q ≡ true → Contains xs q
+contained-has : (xs : List (List ℕ)) (q : List ℕ) → has_id xs q ≡ true → Contains xs q
 contained-has [] q h = cc h
 contained-has (x ∷ xs) q h = by (contained-has xs q) (same_id q x) refl h where
   by : (has_id xs q ≡ true → Contains xs q) → (b : Bool) → b ≡ same_id q x → (b || has_id xs q) ≡ true → Contains (x ∷ xs) q

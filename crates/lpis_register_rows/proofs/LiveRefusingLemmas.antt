@@ -74,7 +74,7 @@ live-years h live spans ys t ss e = All-from_recursion (λ s. Contains ys s.sinc
     (recursion_from_All (λ l. Contains (years_of h) l.year) live (all-years h live t))))
 
 -- a year that is none of the first ones, nor the next
-pub not-among : (ys : List ℕ) (i : ℕ) (z : ℤ) → i < length ys → (Contains (map (λ y. pos y) (take i ys)) z → ⊥) → (pos (get_or ys i 0) ≡ z → ⊥) → Contains (map (λ y. pos y) (take (i + 1) ys)) z → ⊥
+not-among : (ys : List ℕ) (i : ℕ) (z : ℤ) → i < length ys → (Contains (map (λ y. pos y) (take i ys)) z → ⊥) → (pos (get_or ys i 0) ≡ z → ⊥) → Contains (map (λ y. pos y) (take (i + 1) ys)) z → ⊥
 not-among ys i z lt before here there = elim (Contains-push_cases (map (λ y. pos y) (take i ys)) (pos (get_or ys i 0)) z
     (subst (λ (l : List ℤ). Contains l z) (sym more) there)) as (λ _. ⊥) [ inl a ↦ before a | inr b ↦ here b ] where
       more : map (λ y. pos y) (take i ys) ++ pos (get_or ys i 0) ∷ [] ≡ map (λ y. pos y) (take (i + 1) ys)

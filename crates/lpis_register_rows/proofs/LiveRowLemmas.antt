@@ -55,7 +55,7 @@ covers-one m = grind (arith, nat_tests)
 pub covered : (l : Live) (m y : ℕ) → l.year ≡ pos m → covers (one_year l) y ≡ (nat_le m y && (nat_eq m 0 || nat_le y m))
 covered l m y e = ap (λ (z : ℤ). le_z z (pos y) && (int_eq z (pos 0) || le_z (pos y) z)) e ∙ covers-years (record { first = m; last = m }) y
 
-pub live-told : (h : List Entry) (live : List Live) → IsLawful h → SetsAre (map one_year live) h → ((l : Live) → Contains live l → Contains (years_of h) l.year) → LiveTells live h
+live-told : (h : List Entry) (live : List Live) → IsLawful h → SetsAre (map one_year live) h → ((l : Live) → Contains live l → Contains (years_of h) l.year) → LiveTells live h
 live-told h live law sets years = record { right = right; whole = whole } where
   test : List ℕ → ℕ → Live → Bool
   test id y l = same_id id l.id && covers (one_year l) y

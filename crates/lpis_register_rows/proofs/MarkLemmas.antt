@@ -73,7 +73,7 @@ ascends-unmap : {A B : Type 0} (R : B → B → Type 0) (f : A → B) (xs : List
 ascends-unmap R f [] a = tt
 ascends-unmap R f (x ∷ xs) a = (all-unmap (R (f x)) f xs a.0, ascends-unmap R f xs a.1)
 
-pub known-ascend : (h : List Entry) → IsLawful h → Ascends known_below (known_of h)
+known-ascend : (h : List Entry) → IsLawful h → Ascends known_below (known_of h)
 known-ascend h law = ascends-unmap line_below line_in (known_of h) (subst (Ascends line_below) (sym (lines-in h)) (lines-ascend h (years-ascend h law)))
 
 marks-above : (P : Mark → Type 0) (ks : List KnownLine) → AllByRecursion (λ k. P (line_mark k)) ks → AllByRecursion P (marks_in ks)
@@ -96,7 +96,7 @@ marks-ascend h law = subst (Ascends mark_below) (marks-in h) (marks-ascending (k
 total : IsTotalOrder mark_cmp
 total = then_total (on_total (λ (m : Mark). m.year) int_cmp_total) (on_total (λ (m : Mark). m.position) int_cmp_total)
 
-pub told-sorted-marks : (h : List Entry) (ms sorted : List Mark) → IsLawful h → IsSorted mark_cmp sorted → IsPermutation ms sorted → IsPermutation ms (marks_of h) → sorted ≡ marks_of h
+told-sorted-marks : (h : List Entry) (ms sorted : List Mark) → IsLawful h → IsSorted mark_cmp sorted → IsPermutation ms sorted → IsPermutation ms (marks_of h) → sorted ≡ marks_of h
 told-sorted-marks h ms sorted law up p q =
     let below = λ (x y : Mark). is_lt (mark_cmp x y) in
     let same = λ (m : Mark). m in
@@ -128,7 +128,7 @@ next-is [] l e = cc e
 next-is (m ∷ ms) l e = ap (λ (x : Mark). x ∷ ms) (same-mark m l e)
 
 -- the marks of the lines and those that are left are all marks
-pub walked-marks : (ms : List Mark) (ls : List KnownLine) → marks_in (walked ms ls) ++ unused ms ls ≡ ms
+walked-marks : (ms : List Mark) (ls : List KnownLine) → marks_in (walked ms ls) ++ unused ms ls ≡ ms
 walked-marks ms [] = refl
 walked-marks ms (l ∷ ls) = by (is_next ms l) refl (walked-marks (cond (is_next ms l) (later ms) ms) ls) where
   by : (b : Bool) → b ≡ is_next ms l → marks_in (walked (cond b (later ms) ms) ls) ++ unused (cond b (later ms) ms) ls ≡ cond b (later ms) ms
@@ -176,7 +176,7 @@ plain-next [] k l e = refl
 plain-next (m ∷ ms) k l e = ap (λ (x : KnownLine). marks_line m x) e
 
 -- lines that ascend get their own marks again
-pub walked-known : (ks ls : List KnownLine) → Ascends known_below ks → map plain ls ≡ map plain ks → (walked (marks_in ks) ls ≡ ks) × (unused (marks_in ks) ls ≡ [])
+walked-known : (ks ls : List KnownLine) → Ascends known_below ks → map plain ls ≡ map plain ks → (walked (marks_in ks) ls ≡ ks) × (unused (marks_in ks) ls ≡ [])
 walked-known [] [] a e = (refl, refl)
 walked-known [] (l ∷ ls) a e = absurd cc
 walked-known (k ∷ ks) [] a e = absurd cc
@@ -256,7 +256,7 @@ abbrev rest_lines : List Line → List Line
 rest_lines [] = []
 rest_lines (l ∷ ls) = ls
 
-pub plain-same : (ks ls : List KnownLine) → AllByRecursion (λ k. HasText k.row) ks → AllByRecursion (λ k. HasText k.row) ls → map line_in ks ≡ map line_in ls → map plain ks ≡ map plain ls
+plain-same : (ks ls : List KnownLine) → AllByRecursion (λ k. HasText k.row) ks → AllByRecursion (λ k. HasText k.row) ls → map line_in ks ≡ map line_in ls → map plain ks ≡ map plain ls
 plain-same [] [] f g e = refl
 plain-same [] (l ∷ ls) f g e = absurd cc
 plain-same (k ∷ ks) [] f g e = absurd cc
@@ -273,7 +273,7 @@ of-texts : (h : List Entry) → AllByRecursion (λ e. AllByRecursion HasText e.r
 of-texts [] a = tt
 of-texts (e ∷ h) a = all-append (λ k. HasText k.row) (known_from (pos e.year) 0 e.rows) (known_of h) (from-texts (pos e.year) 0 e.rows a.0) (of-texts h a.1)
 
-pub known-texts : (h : List Entry) → IsKeptHistory h → AllByRecursion (λ k. HasText k.row) (known_of h)
+known-texts : (h : List Entry) → IsKeptHistory h → AllByRecursion (λ k. HasText k.row) (known_of h)
 known-texts h kept = of-texts h (have-texts h kept)
 
 -- histories with the same lines and marks have the same rows

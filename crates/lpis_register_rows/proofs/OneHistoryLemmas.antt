@@ -80,7 +80,7 @@ abbrev nat_in : ℤ → ℕ
 nat_in (pos n) = n
 nat_in z = 0
 
-pub same-years : (h k : List Entry) → years_of h ≡ years_of k → (length h ≡ length k) × ((i : ℕ) → (entry_at h i).year ≡ (entry_at k i).year)
+same-years : (h k : List Entry) → years_of h ≡ years_of k → (length h ≡ length k) × ((i : ℕ) → (entry_at h i).year ≡ (entry_at k i).year)
 same-years [] [] e = (refl, λ i. refl)
 same-years (x ∷ h) (y ∷ k) e = let more = same-years h k (ap rest e) in (ap suc more.0, by more.1) where
   by : ((i : ℕ) → (entry_at h i).year ≡ (entry_at k i).year) → (i : ℕ) → (entry_at (x ∷ h) i).year ≡ (entry_at (y ∷ k) i).year
@@ -88,7 +88,7 @@ same-years (x ∷ h) (y ∷ k) e = let more = same-years h k (ap rest e) in (ap 
   by more (suc i) = more i
 same-years _ _ e = absurd cc
 
-pub same-rows : (h k : List Entry) → years_of h ≡ years_of k → Ascends below (years_of h) → Ascends below (years_of k)
+same-rows : (h k : List Entry) → years_of h ≡ years_of k → Ascends below (years_of h) → Ascends below (years_of k)
     → known_of h ≡ known_of k → (i : ℕ) → (entry_at h i).rows ≡ (entry_at k i).rows
 same-rows [] [] e a b l i = refl
 same-rows (x ∷ h) (y ∷ k) e a b l i =
@@ -119,7 +119,7 @@ same-history c h k kept also_kept h_years k_years h_lines k_lines ms h_marks k_m
     let alike = same-years h k years in
     record { lengths = alike.0; years = alike.1; sets = sets alike.0 alike.1; rows = same-rows h k years up also (known-same h k kept also_kept lines marks) }
 
-pub one-spans-history : (version : ℕ) (ms : List Mark) (c : Content) (h k : List Entry) → TellsSpans version ms c h → TellsSpans version ms c k → IsSameHistory h k
+one-spans-history : (version : ℕ) (ms : List Mark) (c : Content) (h k : List Entry) → TellsSpans version ms c h → TellsSpans version ms c k → IsSameHistory h k
 one-spans-history version ms c h k s t = same-history c h k s.kept t.kept s.years_are t.years_are s.lines_are t.lines_are ms s.marks_are t.marks_are sets where
   beyond : (l : List Entry) (i : ℕ) (id : List ℕ) → length l ≤ i → holds l i id ≡ false
   beyond l i id le = ap (λ (e : Entry). has_id e.live id) (entry-after l i le)
@@ -159,7 +159,7 @@ live-held h k live a b law lengths years i id held =
     let same = same-index k law i at.0 (omega (arith, lt, lengths)) at.1 year in
     ap (λ (n : ℕ). holds k n id) same ∙ at.3
 
-pub one-live-history : (c : Content) (h k : List Entry) → TellsLive c h → TellsLive c k → IsSameHistory h k
+one-live-history : (c : Content) (h k : List Entry) → TellsLive c h → TellsLive c k → IsSameHistory h k
 one-live-history c h k s t = same-history c h k s.kept t.kept s.years_are t.years_are s.lines_are t.lines_are [] (no-marks h s.unmarked) (no-marks k t.unmarked)
     (λ n years i id. both_ways (holds h i id) (holds k i id)
     (live-held h k c.live s.live_are t.live_are t.kept.lawful n years i id)

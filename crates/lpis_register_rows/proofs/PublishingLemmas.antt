@@ -30,7 +30,7 @@ pub years-more : (h : List Entry) (e : Entry) → years_of (h ++ e ∷ []) ≡ y
 years-more [] e = refl
 years-more (x ∷ h) e = ap (λ (l : List ℤ). pos x.year ∷ l) (years-more h e)
 
-pub lines-more : (h : List Entry) (e : Entry) → lineage_lines (h ++ e ∷ []) ≡ lineage_lines h ++ lines_from (pos e.year) 0 e.rows
+lines-more : (h : List Entry) (e : Entry) → lineage_lines (h ++ e ∷ []) ≡ lineage_lines h ++ lines_from (pos e.year) 0 e.rows
 lines-more [] e = append-nil (lines_from (pos e.year) 0 e.rows)
 lines-more (x ∷ h) e = ap (λ (l : List Line). lines_from (pos x.year) 0 x.rows ++ l) (lines-more h e)
     ∙ sym (append_assoc (lines_from (pos x.year) 0 x.rows) (lineage_lines h) (lines_from (pos e.year) 0 e.rows))

@@ -64,7 +64,7 @@ ids-length [] = refl
 ids-length (s ∷ ss) = ap suc (ids-length ss)
 
 -- two neighbours, the first at the position before
-pub pair-at : (shapes : List Shape) (before n : ℕ) (a b : Shape) → before + 1 ≡ n → n < length shapes → a ≡ get_or shapes before a → b ≡ get_or shapes n b
+pair-at : (shapes : List Shape) (before n : ℕ) (a b : Shape) → before + 1 ≡ n → n < length shapes → a ≡ get_or shapes before a → b ≡ get_or shapes n b
     → slice_cmp nat_cmp (get_or (shape_ids shapes) before []) (get_or (shape_ids shapes) n []) ≡ slice_cmp nat_cmp a.0 b.0
 pair-at shapes before n a b e lt at here = ap₂ (λ (x y : List ℕ). slice_cmp nat_cmp x y) (id-at shapes before a (omega (arith, e, lt)) at) (id-at shapes n b lt here)
 
@@ -104,7 +104,7 @@ ascending (s ∷ ss) a = (
 )
 
 -- shapes that are sorted are the ascending ones of which they are
-pub sorted-shapes : (sorted kept : List Shape) → IsSortedByKey (λ (s : Shape). s.0) (slice_cmp nat_cmp) sorted → IsAscending (shape_ids kept) → IsPermutation sorted kept → sorted ≡ kept
+sorted-shapes : (sorted kept : List Shape) → IsSortedByKey (λ (s : Shape). s.0) (slice_cmp nat_cmp) sorted → IsAscending (shape_ids kept) → IsPermutation sorted kept → sorted ≡ kept
 sorted-shapes sorted kept up a p = sorted-same (λ (x y : Shape). is_lt (slice_cmp nat_cmp x.0 y.0)) (ranks_by nat_list_cmp_total (λ (s : Shape). s.0)) sorted kept
     (subst (Rises (λ (x y : Shape). is_lt (slice_cmp nat_cmp x.0 y.0))) (map-id sorted) (rises-far (λ (x y : Shape). is_lt (slice_cmp nat_cmp x.0 y.0)) (λ (s : Shape). s) sorted
     (sorted_far (λ (x y : Shape). is_lt (slice_cmp nat_cmp x.0 y.0)) (ranks_by nat_list_cmp_total (λ (s : Shape). s.0)) sorted up)))
@@ -129,7 +129,7 @@ told t = (t.id, members_in (polygon_of t.wkt))
 told-is : SpellsOne → (t : StoredText) (shape : Shape) → IsTextOfShape t shape → shape ≡ told t
 told-is one t shape is = ap₂ (λ (id : List ℕ) (ms : List Member). (id, ms)) (sym is.0) (ap members_in (sym (one t.wkt shape.1 is.1)))
 
-pub order-is : SpellsOne → (texts : List StoredText) (order : List Shape) → AllZip IsTextOfShape texts order → order ≡ map told texts
+order-is : SpellsOne → (texts : List StoredText) (order : List Shape) → AllZip IsTextOfShape texts order → order ≡ map told texts
 order-is one [] [] z = refl
 order-is one [] (s ∷ ss) z = absurd z
 order-is one (t ∷ ts) [] z = absurd z
@@ -176,7 +176,7 @@ order-live live texts shapes are all = all-moved (IsLive live) shapes are.order 
 
 -- ---- the shapes of parcels
 
-pub parcel-shape-ids : (parcels : List Parcel) → shape_ids (map parcel_shape parcels) ≡ parcel_ids parcels
+parcel-shape-ids : (parcels : List Parcel) → shape_ids (map parcel_shape parcels) ≡ parcel_ids parcels
 parcel-shape-ids [] = refl
 parcel-shape-ids (p ∷ ps) = ap (λ (l : List (List ℕ)). p.id ∷ l) (parcel-shape-ids ps)
 

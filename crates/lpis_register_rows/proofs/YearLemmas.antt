@@ -37,7 +37,7 @@ lines-from : (y : ℤ) (m n : ℕ) (rs : List Row) → m ≤ n → AllByRecursio
 lines-from y m n [] le = tt
 lines-from y m n (r ∷ rs) le = ((refl, (n, refl, le)), lines-from y m (n + 1) rs (omega arith))
 
-pub lines-of-year : (y : ℤ) (n : ℕ) (rs : List Row) → AllByRecursion (λ l. l.year ≡ y) (lines_from y n rs)
+lines-of-year : (y : ℤ) (n : ℕ) (rs : List Row) → AllByRecursion (λ l. l.year ≡ y) (lines_from y n rs)
 lines-of-year y n rs = all-map (From y 0) (λ l. l.year ≡ y) (lines_from y n rs) (λ l f. f.0) (lines-from y 0 n rs (omega arith))
 
 from-ascends : (y : ℤ) (n : ℕ) (rs : List Row) → Ascends line_below (lines_from y n rs)
@@ -50,7 +50,7 @@ from-ascends y n (r ∷ rs) = (
   after : (n : ℕ) (l : Line) → (p : ℕ) × (l.position ≡ pos p) × (n + 1 ≤ p) → below (pos n) l.position
   after n l (p, e, le) = subst (below (pos n)) (sym e) (let r : n < p = omega arith in r)
 
-pub lines-above : (y : ℤ) (h : List Entry) → AllByRecursion (below y) (years_of h) → AllByRecursion (λ l. below y l.year) (lineage_lines h)
+lines-above : (y : ℤ) (h : List Entry) → AllByRecursion (below y) (years_of h) → AllByRecursion (λ l. below y l.year) (lineage_lines h)
 lines-above y [] a = tt
 lines-above y (x ∷ h) a = all-append (λ l. below y l.year) (lines_from (pos x.year) 0 x.rows) (lineage_lines h)
     (all-map (λ l. l.year ≡ pos x.year) (λ l. below y l.year) (lines_from (pos x.year) 0 x.rows)

@@ -24,7 +24,7 @@ use Rattle.lpis_register_sql.proofs.InsertLemmas.{inside_next, span_stands, text
 use Rattle.lpis_register_sql.proofs.WriteLemmas.{Finding, went, same_value, step_of, Kept, kept_of}
 
 -- DELETE is one query and one step
-pub deletes : (limit : Option ℕ) (mode : Mode) (params : Row) (schema : Schema) (trees : Trees) (text : List ℕ) (index : ℕ) (table : Table) (q : Program) (tally : Tally) (after : Database)
+deletes : (limit : Option ℕ) (mode : Mode) (params : Row) (schema : Schema) (trees : Trees) (text : List ℕ) (index : ℕ) (table : Table) (q : Program) (tally : Tally) (after : Database)
     → slice_get schema.tables index ≡ Some table
     → Does limit mode params (record { schema = schema; trees = trees }) text None (Delete index q) (Ok (tally, after))
     → Finding schema mode.keys trees q params (λ rows. edit_of trees table (ids_of rows) Given 0 []) after
@@ -67,7 +67,7 @@ pub record Empties (o : Origin) (old new : State) (tree : ℕ) : Type 0 where
   pub empty : new.now.trees tree ≡ []
   pub others : Kept o tree old.now.trees new.now.trees
 
-pub clears : (o : Origin) (sql : List ℕ) (index tree : ℕ) (table : Table) (old new : State) (count : ℕ)
+clears : (o : Origin) (sql : List ℕ) (index tree : ℕ) (table : Table) (old new : State) (count : ℕ)
     → table.tree ≡ tree → old.now.schema ≡ schema_of (Whole o) → slice_get (schema_of (Whole o)).tables index ≡ Some table
     → Says o sql (Delete index (whole (ids_query tree))) → overlay old.now.trees [] tree ≡ old.now.trees tree
     → AreKeyed (old.now.trees tree) → Executes sql [] old new (Ok count) → Empties o old new tree
@@ -98,7 +98,7 @@ clears o sql index tree table old new count named has at says own keyed h =
       others = subst (λ t. Kept o t db new.now.trees) named (kept_of o table.tree db new.now.trees step.tables);
     }
 
-pub none_keyed : AreKeyed []
+none_keyed : AreKeyed []
 none_keyed = record { whole = λ x none. absurd none; alone = λ x y none more e. absurd none }
 
 -- an empty table keeps nothing

@@ -22,10 +22,10 @@ whole_next = in_all _ refl refl refl refl refl refl refl
 
 -- ---- one step
 
-pub span_there : (s : Layout) → has_spans s ≡ true → with_span_table s ≡ s
+span_there : (s : Layout) → has_spans s ≡ true → with_span_table s ≡ s
 span_there = in_all _ (λ is. refl) (λ is. refl) (λ is. refl) (λ is. refl) (λ is. refl) (λ is. refl) (λ is. absurd (true≢false (sym is)))
 
-pub text_there : (s : Layout) → has_texts s ≡ true → with_text_table s ≡ s
+text_there : (s : Layout) → has_texts s ≡ true → with_text_table s ≡ s
 text_there = in_all _ (λ is. refl) (λ is. refl) (λ is. refl) (λ is. refl) (λ is. absurd (true≢false (sym is))) (λ is. absurd (true≢false (sym is))) (λ is. absurd (true≢false (sym is)))
 
 pub mark_there : (s : Layout) → has_marks s ≡ true → made_whole s ≡ s

@@ -31,27 +31,27 @@ pub format_news : (trees : Trees)
     ≡ format_row (record { one = pos 1; version = pos 3 }) ∷ []
 format_news trees = rw (cast_int (pos 1), cast_null, cast_int (pos 3))
 
-pub release_news : (trees : Trees) (year : ℤ) → (edit_of trees (release_table 1) [] Chosen 0 (value_rows (stamped (release_table 1) (Int year ∷ [])) 2 1 release_terms)).news ≡ year_row year ∷ []
+release_news : (trees : Trees) (year : ℤ) → (edit_of trees (release_table 1) [] Chosen 0 (value_rows (stamped (release_table 1) (Int year ∷ [])) 2 1 release_terms)).news ≡ year_row year ∷ []
 release_news trees year = rw (cast_int year, cast_null)
 
-pub span_news : (trees : Trees) (tree : ℕ) (id : List ℕ) (since : ℤ)
+span_news : (trees : Trees) (tree : ℕ) (id : List ℕ) (since : ℤ)
     → (edit_of trees (span_table tree) [] Chosen 0 (value_rows (stamped (span_table tree) (Text id ∷ Int since ∷ [])) 4
     1 span_terms)).news ≡ next_row trees tree (Text id ∷ Int since ∷ Int (pos 0) ∷ []) ∷ []
 span_news trees tree id since = rw (cast_null, cast_int since, cast_int (pos 0))
 
-pub whole_span_news : (trees : Trees) (tree : ℕ) (p : StoredSpan)
+whole_span_news : (trees : Trees) (tree : ℕ) (p : StoredSpan)
     → (edit_of trees (span_table tree) [] Chosen 0 (value_rows (stamped (span_table tree) (span_row p)) 4 1
     whole_span_terms)).news ≡ next_row trees tree (span_row p) ∷ []
 whole_span_news trees tree p = rw (cast_null, cast_int p.since, cast_int p.until)
 
-pub line_news : (trees : Trees) (l : Line) → (edit_of trees (row_table 4) [] Chosen 0 (value_rows (stamped (row_table 4) (line_row l)) 5 1 line_terms)).news ≡ next_row trees 4 (line_row l) ∷ []
+line_news : (trees : Trees) (l : Line) → (edit_of trees (row_table 4) [] Chosen 0 (value_rows (stamped (row_table 4) (line_row l)) 5 1 line_terms)).news ≡ next_row trees 4 (line_row l) ∷ []
 line_news trees l = rw (cast_null, cast_int l.year, cast_int l.position)
 
-pub text_news : (trees : Trees) (tree : ℕ) (t : StoredText)
+text_news : (trees : Trees) (tree : ℕ) (t : StoredText)
     → (edit_of trees (text_table tree) [] Chosen 0 (value_rows (stamped (text_table tree) (text_row t)) 3 1 pair_terms)).news ≡ next_row trees tree (text_row t) ∷ []
 text_news trees tree t = rw cast_null
 
-pub mark_news : (trees : Trees) (tree : ℕ) (m : Mark)
+mark_news : (trees : Trees) (tree : ℕ) (m : Mark)
     → (edit_of trees (mark_table tree) [] Chosen 0 (value_rows (stamped (mark_table tree) (mark_row m)) 3 1 pair_terms)).news ≡ next_row trees tree (mark_row m) ∷ []
 mark_news trees tree m = rw (cast_null, cast_int m.year, cast_int m.position)
 

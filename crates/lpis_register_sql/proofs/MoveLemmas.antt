@@ -105,6 +105,6 @@ spans_stay [] c = refl
 spans_stay (s ∷ spans) c = spans_stay spans (with_whole_span c s)
 
 -- a table that is not there has no rows
-pub no_live : (o : Origin) (base : Database) (st : State) (c : Content) → is_moved o ≡ false → Inside (Whole o) base st c → without_live c ≡ c
+no_live : (o : Origin) (base : Database) (st : State) (c : Content) → is_moved o ≡ false → Inside (Whole o) base st c → without_live c ≡ c
 no_live New base st c is h = ap (λ ls. record c { live = ls }) (sym h.holds.means.live_are)
 no_live Moved base st c is h = absurd (true≢false is)

@@ -21,7 +21,7 @@ apart New x y none e = far (x New) (y New) (or_parts _ _ none).0 e
 apart Moved x y none e = far (x Moved) (y Moved) (or_parts _ _ none).1 e
 
 -- and from `lpis_live` where they are for the origin that has it
-pub apart_live : (o : Origin) (y : Origin → ℕ) → nat_eq 2 (y Moved) ≡ false → is_moved o ≡ true → 2 ≡ y o → ⊥
+apart_live : (o : Origin) (y : Origin → ℕ) → nat_eq 2 (y Moved) ≡ false → is_moved o ≡ true → 2 ≡ y o → ⊥
 apart_live New y none is e = true≢false (sym is)
 apart_live Moved y none is e = far 2 (y Moved) none e
 
@@ -29,7 +29,7 @@ pub keeps_there : {X : Type 0} (b : Bool) (row : X → Row) (xs : List X) (rows 
 keeps_there true row xs rows is k = k
 keeps_there false row xs rows is k = absurd (true≢false (sym is))
 
-pub there_keeps : {X : Type 0} (b : Bool) (row : X → Row) (xs : List X) (rows : List Row) → b ≡ true → IsPermutation (map row xs) (map (drop 1) rows) × AreKeyed rows → Keeps b row xs rows
+there_keeps : {X : Type 0} (b : Bool) (row : X → Row) (xs : List X) (rows : List Row) → b ≡ true → IsPermutation (map row xs) (map (drop 1) rows) × AreKeyed rows → Keeps b row xs rows
 there_keeps true row xs rows is k = k
 there_keeps false row xs rows is k = absurd (true≢false (sym is))
 

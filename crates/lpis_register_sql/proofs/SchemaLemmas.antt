@@ -129,7 +129,7 @@ one_of own schema trees apart few bare a b =
     let first : schema ≡ record own { views = schema.views } = ap₂ (λ ts is. record schema { tables = ts; indexes = is }) (sym tables) (sym indexes) in
     first ∙ ap (λ vs. record own { views = vs }) (views ∙ sym bare)
 
-pub one_schema : (s : Layout) (schema : Schema) (trees : Trees) → IsSound (schema_of s) trees → IsSound schema trees → schema ≡ schema_of s
+one_schema : (s : Layout) (schema : Schema) (trees : Trees) → IsSound (schema_of s) trees → IsSound schema trees → schema ≡ schema_of s
 one_schema (Whole New) schema trees a b = one_of (schema_of (Whole New)) schema trees refl refl refl a b
 one_schema (Whole Moved) schema trees a b = one_of (schema_of (Whole Moved)) schema trees refl refl refl a b
 one_schema (LessMarks New) schema trees a b = one_of (schema_of (LessMarks New)) schema trees refl refl refl a b
@@ -139,7 +139,7 @@ one_schema (LessTexts Moved) schema trees a b = one_of (schema_of (LessTexts Mov
 one_schema First schema trees a b = one_of (schema_of First) schema trees refl refl refl a b
 
 -- and an empty list lists nothing
-pub empty_schema : (schema : Schema) (trees : Trees) → trees catalog_tree ≡ [] → IsSound schema trees → schema ≡ no_schema
+empty_schema : (schema : Schema) (trees : Trees) → trees catalog_tree ≡ [] → IsSound schema trees → schema ≡ no_schema
 empty_schema schema trees none b =
     let tables = subst (λ rows. AllZip IsTableRow (filter is_table_row rows) schema.tables) none b.lists.listed.tables in
     let indexes = subst (λ rows. AllZip (IsIndexRow schema.tables) (filter is_index_row rows) schema.indexes) none b.lists.listed.indexes in

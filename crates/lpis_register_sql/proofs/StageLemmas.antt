@@ -24,7 +24,7 @@ no_more : (db after : Database) → lacks_sequence db.schema ≡ false → Match
 no_more db after none h = same_value (subst (λ b. MatchBool b (MakesTable sequence_text db (Ok after)) (◌≡◌ {A = Result Database (Option Error)} (Ok after) (Ok db))) none h)
 
 -- CREATE TABLE with no AUTOINCREMENT
-pub creates : (limit : Option ℕ) (mode : Mode) (params : Row) (db : Database) (text : List ℕ) (made : Table) (tally : Tally) (after : Database)
+creates : (limit : Option ℕ) (mode : Mode) (params : Row) (db : Database) (text : List ℕ) (made : Table) (tally : Tally) (after : Database)
     → table_defined_by text ≡ Ok made → lacks_sequence (created db.schema made) ≡ false → Does limit mode params db text None CreateTable (Ok (tally, after))
     → (after.schema ≡ created db.schema made) × (after.trees (next_tree db.schema) ≡ []) × KeepsRows db.schema.tables db.trees after.trees
 creates limit mode params db text made tally after is plain h =

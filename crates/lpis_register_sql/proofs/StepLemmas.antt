@@ -33,7 +33,7 @@ pub at_end : {Y : Type 0} (turn : List Y → Content → Content) (xs : List Y) 
     → Turns (turn xs) old now (Ok tt)
 at_end turn xs i old now ends h = subst (λ ys. Turns (turn ys) old now (Ok tt)) (ap (λ n. take n xs) ends ∙ take-length xs) h
 
-pub begun_inside : (s : Layout) {S : Type 0} (g : store.Ghosts S) (old now : Held S) (c : Content) → now ≡ record old { in_transaction = true } → IsStored s (state g old) c
+begun_inside : (s : Layout) {S : Type 0} (g : store.Ghosts S) (old now : Held S) (c : Content) → now ≡ record old { in_transaction = true } → IsStored s (state g old) c
     → Inside s (state g old).now (state g now) c
 begun_inside s g old now c begun r = rw begun (record { is_open = r.is_open; in_transaction = refl; base_is = sym r.settled; holds = r.holds })
 
@@ -45,7 +45,7 @@ committed s base last new c h shown = record {
   holds = subst (λ (d : Database). HoldsRows s d c) (sym shown.now_is) h.holds;
 }
 
-pub rolled_back : (s : Layout) (old last new : State) (c : Content) → IsStored s old c → (IsTrue last.is_open → last.committed ≡ old.committed) → IsRolledBack last new → IsTrue new.is_open
+rolled_back : (s : Layout) (old last new : State) (c : Content) → IsStored s old c → (IsTrue last.is_open → last.committed ≡ old.committed) → IsRolledBack last new → IsTrue new.is_open
     → IsStored s new c
 rolled_back s old last new c r kept back up =
     let undone = back.undone up in
@@ -71,7 +71,7 @@ pub commit_ok : (s : Layout) (base : Database) (last new : State) (c : Content) 
 commit_ok s base last new c h (Ok _) done = committed s base last new c h done.1
 commit_ok s base last new c h (Err e) done = tt
 
-pub moved_err : (s t : Layout) (base : Database) (old last new : State) (c d : Content) → IsStored s old c → Inside t base last d → base ≡ old.now → IsTrue new.is_open → (r : Result (Unit {0}) Error)
+moved_err : (s t : Layout) (base : Database) (old last new : State) (c d : Content) → IsStored s old c → Inside t base last d → base ≡ old.now → IsTrue new.is_open → (r : Result (Unit {0}) Error)
     → IfErr r (FailsToCommit last new) → OnErr r (IsStored s new c)
 moved_err s t base old last new c d r inside is up (Ok _) h = tt
 moved_err s t base old last new c d r inside is up (Err e) h = refused s t base old last new e c d r inside is h up
@@ -97,7 +97,7 @@ left s old new c Q r law kept clean db may = elim (kept.crash clean db may) [
 ]
 
 -- a transaction over no tables, undone
-pub rolled_bare : (old last new : State) → IsBare old → (IsTrue last.is_open → last.committed ≡ old.committed) → IsRolledBack last new → IsTrue new.is_open → IsBare new
+rolled_bare : (old last new : State) → IsBare old → (IsTrue last.is_open → last.committed ≡ old.committed) → IsRolledBack last new → IsTrue new.is_open → IsBare new
 rolled_bare old last new r kept back up =
     let undone = back.undone up in
     let same = undone.0 ∙ kept (back.was_open up) ∙ sym r.settled in

@@ -19,7 +19,7 @@ pub has_permuted : {X : Type 0} (xs ys : List X) (x : X) → IsPermutation xs ys
 has_permuted xs ys x same = all_has (Has xs) ys x (all-permutation (Has xs) xs ys same (all_from (Has xs) xs (λ e h. h)))
 
 -- fresh rows stand beside those that are there
-pub put_all_more : (news rows : List Row) → are_fresh rows news ≡ true → IsPermutation (news ++ rows) (put_all rows news)
+put_all_more : (news rows : List Row) → are_fresh rows news ≡ true → IsPermutation (news ++ rows) (put_all rows news)
 put_all_more [] rows fresh = IsPermutation-refl rows
 put_all_more (n ∷ news) rows fresh =
     let both_are = and_parts _ _ fresh in

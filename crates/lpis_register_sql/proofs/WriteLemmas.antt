@@ -61,7 +61,7 @@ chosen : (table : Table) (top : ℤ) → table.is_counted ≡ false → rowids_f
 chosen table top e = rw e
 
 -- INSERT .. VALUES into a table with no AUTOINCREMENT is one step
-pub inserts : (limit : Option ℕ) (mode : Mode) (params : Row) (schema : Schema) (trees : Trees) (text : List ℕ)
+inserts : (limit : Option ℕ) (mode : Mode) (params : Row) (schema : Schema) (trees : Trees) (text : List ℕ)
     (index : ℕ) (table : Table) (terms : List Term) (width : ℕ) (tally : Tally) (after : Database)
     → slice_get schema.tables index ≡ Some table → table.is_counted ≡ false
     → Does limit mode params (record { schema = schema; trees = trees }) text None (Insert index (Values terms width)) (Ok (tally, after))

@@ -14,7 +14,7 @@ reverse-cons : (a : Point) (xs : List Point) → reverse (a ∷ xs) ≡ reverse 
 reverse-cons a xs = reverse-append (a ∷ []) xs
 
 -- walked backwards, every odd function has the opposite sum
-pub steps-reverse : (f : Point → Point → ℤ) → IsOdd f → (ps : List Point) → edge_sum f (steps (reverse ps)) ≡ neg_ℤ (edge_sum f (steps ps))
+steps-reverse : (f : Point → Point → ℤ) → IsOdd f → (ps : List Point) → edge_sum f (steps (reverse ps)) ≡ neg_ℤ (edge_sum f (steps ps))
 steps-reverse f o (a ∷ (b ∷ ps)) =
     ap (λ (xs : List Point). edge_sum f (steps xs)) (reverse-cons a (b ∷ ps) ∙ ap (λ (xs : List Point). xs ++ a ∷ []) (reverse-cons b ps))
     ∙ steps-push f (reverse ps) b a ∙ turned (edge_sum f (steps (reverse ps ++ b ∷ []))) (edge_sum f (steps (b ∷ ps)))

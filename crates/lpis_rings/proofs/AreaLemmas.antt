@@ -46,7 +46,7 @@ steps_suc (suc j) (p ∷ ps) a b h e f = steps_suc j ps a b (omega arith) e f
 steps_suc _ _ a b h e f = absurd (omega arith)
 
 -- the edges from an index on
-pub steps_at : (i : ℕ) (ps : List Point) (a b : Point) → 1 ≤ i → i < length ps → a ≡ get_or ps (i - 1) a → b ≡ get_or ps i b → steps (drop (i - 1) ps) ≡ (a, b) ∷ steps (drop i ps)
+steps_at : (i : ℕ) (ps : List Point) (a b : Point) → 1 ≤ i → i < length ps → a ≡ get_or ps (i - 1) a → b ≡ get_or ps i b → steps (drop (i - 1) ps) ≡ (a, b) ∷ steps (drop i ps)
 steps_at zero ps a b some h e f = absurd (omega arith)
 steps_at (suc j) ps a b some h e f =
     let same : suc j - 1 ≡ j = omega arith in
@@ -57,7 +57,7 @@ short : (ps : List Point) → length ps ≤ 1 → steps ps ≡ []
 short (p ∷ (q ∷ ps)) h = absurd (omega arith)
 short _ _ = refl
 
-pub no_steps : (i : ℕ) (ps : List Point) → length ps ≤ i → steps (drop (i - 1) ps) ≡ []
+no_steps : (i : ℕ) (ps : List Point) → length ps ≤ i → steps (drop (i - 1) ps) ≡ []
 no_steps i ps h = short (drop (i - 1) ps) (simp length-drop (omega arith))
 
 regroup : (s x r total : ℤ) → s +ℤ (x +ℤ r) ≡ total → (s +ℤ x) +ℤ r ≡ total

@@ -20,13 +20,13 @@ pub record Free (s : RationalPoint) : Type 0 where
   pub positive : pos 0 <ℤ s.d
   pub off : (a b : Point) → a ≢ b → orient_at a b s ≢ pos 0
 
-pub free_shifted : (s : RationalPoint) → pos 0 <ℤ s.d → Free (shifted s)
+free_shifted : (s : RationalPoint) → pos 0 <ℤ s.d → Free (shifted s)
 free_shifted s h = record {
   positive = omega (arith, ints);
   off = λ a b n. shifted_off a b s n;
 }
 
-pub edge_turns-shifted : (es : List (Point × Point)) (s : RationalPoint) → pos 0 <ℤ s.d → edge_turns es (shifted s) ≡ edge_turns es s
+edge_turns-shifted : (es : List (Point × Point)) (s : RationalPoint) → pos 0 <ℤ s.d → edge_turns es (shifted s) ≡ edge_turns es s
 edge_turns-shifted es s h = int_sum_by-same _ _ es (λ k e l. let g = get_or es k e in crossing-shifted g.0 g.1 s h)
 
 -- ---- triangles

@@ -31,10 +31,10 @@ has_words (Finished ms) = 2 * points_of ms + 1
 points_in-push : (rs : List (List Point)) (r : List Point) → points_in (rs ++ r ∷ []) ≡ points_in rs + length r
 points_in-push rs r = sum_by_push length rs r
 
-pub points_of-push : (ms : List Member) (m : Member) → points_of (ms ++ m ∷ []) ≡ points_of ms + (length m.shell + points_in m.holes)
+points_of-push : (ms : List Member) (m : Member) → points_of (ms ++ m ∷ []) ≡ points_of ms + (length m.shell + points_in m.holes)
 points_of-push ms m = sum_by_push (λ m. length m.shell + points_in m.holes) ms m
 
-pub points_in-cons : (r : List Point) (rs : List (List Point)) → points_in (r ∷ rs) ≡ length r + points_in rs
+points_in-cons : (r : List Point) (rs : List (List Point)) → points_in (r ∷ rs) ≡ length r + points_in rs
 points_in-cons r rs = omega (arith, sum_by-append (λ (l : List Point). length l) (r ∷ []) rs)
 
 member-points : (rs : List (List Point)) → length (member_of rs).shell + points_in (member_of rs).holes ≡ points_in rs
@@ -107,7 +107,7 @@ limited-run-ok (t ∷ ts) s s' le h =
     let all : token_words (t ∷ ts) ≡ word t + token_words ts = words-cons t ts in
     (rw b.1 r.0, rw all (omega arith))
 
-pub run-limited : (ts : List Token) (s s' : ParserState) → run s ts ≡ Ok s' → has_words s + token_words ts ≤ most_words → limited_run s ts ≡ Ok s'
+run-limited : (ts : List Token) (s s' : ParserState) → run s ts ≡ Ok s' → has_words s + token_words ts ≤ most_words → limited_run s ts ≡ Ok s'
 run-limited [] s s' h le = h
 run-limited (t ∷ ts) s s' h le =
     let a = then-ok _ _ _ h in

@@ -27,7 +27,7 @@ none-is : (k : ℕ) (b : Bool) → cond b (Some k) None ≡ None → b ≡ false
 none-is k true h = cc
 none-is k false h = refl
 
-pub not-found : (xs : List ℕ) → position is_point xs ≡ None → length xs ≤ position_or_len is_point xs
+not-found : (xs : List ℕ) → position is_point xs ≡ None → length xs ≤ position_or_len is_point xs
 not-found xs h = let past = none-is (position_or_len is_point xs) (nat_lt (position_or_len is_point xs) (length xs)) h in grind (arith, nat_tests)
 
 pub parts_some : (xs : List ℕ) (i : ℕ) → position is_point xs ≡ Some i → (take i xs ≡ before_first is_point xs) × (take (length xs - (i + 1)) (drop (i + 1) xs) ≡ after_first is_point xs)
@@ -46,7 +46,7 @@ between b h = (grind (arith, nat_tests), grind (arith, nat_tests))
 pub is-digit : (b : ℕ) → is_ascii_digit b ≡ true → digit_value b ≡ b - 48
 is-digit b h = let d = between b h in omega (arith, digit_value_digit b (d.0, omega arith))
 
-pub value_step : (n : ℕ) (ds : List ℕ) (i : ℕ) → i < length ds → list_all is_ascii_digit (drop i ds) ≡ true
+value_step : (n : ℕ) (ds : List ℕ) (i : ℕ) → i < length ds → list_all is_ascii_digit (drop i ds) ≡ true
     → digits_value_after 10 n (drop i ds) ≡ digits_value_after 10 (n * 10 + (get_or ds i 0 - 48)) (drop (i + 1) ds)
 value_step n ds i lt h =
     let cons : drop i ds ≡ get_or ds i 0 ∷ drop (i + 1) ds = rw add-one (drop-cons ds i 0 lt) in

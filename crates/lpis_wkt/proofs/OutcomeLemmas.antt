@@ -67,13 +67,13 @@ first_fault ts code offset h =
     (before, t, after, split, viable (kinds before) s runs, not_viable (kinds before) t s code runs fails, table_code (kinds before) t s code runs fails)
 
 -- the other way round
-pub outcome-append : (s : ParserState) (a b : List (ℕ × Token)) → parse_outcome s (a ++ b) ≡ and_then (parse_outcome s a) (λ s. parse_outcome s b)
+outcome-append : (s : ParserState) (a b : List (ℕ × Token)) → parse_outcome s (a ++ b) ≡ and_then (parse_outcome s a) (λ s. parse_outcome s b)
 outcome-append s [] b = refl
 outcome-append s (t ∷ a) b = elim (located (limited_step s t.1) t.0) as
     (λ r. and_then r (λ s. parse_outcome s (a ++ b)) ≡ and_then (and_then r (λ s. parse_outcome s a)) (λ s. parse_outcome s b))
     [ Ok s' ↦ outcome-append s' a b | Err e ↦ refl ]
 
-pub fault_outcome : (ts : List (ℕ × Token)) (code : WktCode) (offset : ℕ) → FirstFault ts code offset → parse_outcome AtKeyword ts ≡ Err (code, offset)
+fault_outcome : (ts : List (ℕ × Token)) (code : WktCode) (offset : ℕ) → FirstFault ts code offset → parse_outcome AtKeyword ts ≡ Err (code, offset)
 fault_outcome ts code offset (before, t, after, split, v, cannot, row) =
     let (s, c, h, k) = stopped (kinds before) t v cannot in
     let same : code ≡ c = only_code (kinds before) t code c s row h k in

@@ -80,7 +80,7 @@ drop-front (y ∷ a) b x = drop-front a b x
 pub whole_of : (ds more : List ℕ) → list_all is_ascii_digit ds ≡ true → (before_first is_point (ds ++ 46 ∷ more) ≡ ds) × (after_first is_point (ds ++ 46 ∷ more) ≡ more)
 whole_of ds more h = (rw (point_at ds more h) (take-append_seam ds (46 ∷ more)), rw (point_at ds more h) (rw add-one (drop-front ds more 46)))
 
-pub whole_only : (ds : List ℕ) → list_all is_ascii_digit ds ≡ true → (before_first is_point ds ≡ ds) × (after_first is_point ds ≡ [])
+whole_only : (ds : List ℕ) → list_all is_ascii_digit ds ≡ true → (before_first is_point ds ≡ ds) × (after_first is_point ds ≡ [])
 whole_only ds h = (rw (point_past ds h) (take-length ds), rw (point_past ds h) (drop_all (length ds + 1) ds (omega arith)))
 
 plain_sign : (ds more : List ℕ) → list_all is_ascii_digit ds ≡ true → 0 < length ds → (unsigned (ds ++ more) ≡ ds ++ more) × (is_negative (ds ++ more) ≡ false)

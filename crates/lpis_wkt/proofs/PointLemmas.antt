@@ -16,7 +16,7 @@ made z h = record { value = z; in_range = h }
 made-same : (x y : ℤ) → x ≡ y → (h : IsInRange x) (k : IsInRange y) → made x h ≡ made y k
 made-same x y e = subst (λ (v : ℤ). (h : IsInRange x) (k : IsInRange v) → made x h ≡ made v k) e (λ h k. ap (λ (r : IsInRange x). made x r) (in_range_prop x h k))
 
-pub coordinate_eq : (a b : Coordinate) → a.value ≡ b.value → a ≡ b
+coordinate_eq : (a b : Coordinate) → a.value ≡ b.value → a ≡ b
 coordinate_eq a b e = made-same a.value b.value e a.in_range b.in_range
 
 with_range-ok : (r : Result ℤ WktCode) (h : (z : ℤ) → r ≡ Ok z → IsInRange z) (c : Coordinate) → r ≡ Ok c.value → with_range r h ≡ Ok c

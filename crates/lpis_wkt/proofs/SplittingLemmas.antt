@@ -107,5 +107,5 @@ word_token at end text lt le all stop =
     ∙ ap (λ (n : ℕ). (at, Word (get_or text at 0 ∷ take m tail)) ∷ tokens_from n (drop end text)) count
     ∙ ap (λ (w : List ℕ). (at, Word w) ∷ tokens_from end (drop end text)) (sym word)
 
-pub space_token : (i : ℕ) (text : List ℕ) → i < length text → is_space (get_or text i 0) ≡ true → tokens_from (i + 1) (drop (i + 1) text) ≡ tokens_from i (drop i text)
+space_token : (i : ℕ) (text : List ℕ) → i < length text → is_space (get_or text i 0) ≡ true → tokens_from (i + 1) (drop (i + 1) text) ≡ tokens_from i (drop i text)
 space_token i text lt h = rw (drop-cons text i 0, h, add-one) refl

@@ -25,7 +25,7 @@ three : (a b c d e f : ℕ) → a ≡ d → b ≡ e → c ≡ f → ◌≡◌ {A
 three a b c d e f p q r = rw (p, q, r) refl
 
 -- what `{:03}` writes
-pub padded-three : (n : ℕ) → n < 1000 → padded_integral (format_spec 32 0 4 3 (2 ^ 64 - 1)) false [] (decimal n) ≡ last_digits 3 n
+padded-three : (n : ℕ) → n < 1000 → padded_integral (format_spec 32 0 4 3 (2 ^ 64 - 1)) false [] (decimal n) ≡ last_digits 3 n
 unfolding padded_integral char_count
 padded-three n low = elim (cases_lt n 10) [
   | inl few ↦ rw (short n few) (three 0 0 n (n / 10 / 10 % 10) (n / 10 % 10) (n % 10) (omega arith) (omega arith) (omega arith))
@@ -36,7 +36,7 @@ padded-three n low = elim (cases_lt n 10) [
 ]
 
 -- the last digits of a number and of its remainder
-pub rest-three : (n : ℕ) → last_digits 3 (n % 1000) ≡ last_digits 3 n
+rest-three : (n : ℕ) → last_digits 3 (n % 1000) ≡ last_digits 3 n
 rest-three n = three (n % 1000 / 10 / 10 % 10) (n % 1000 / 10 % 10) (n % 1000 % 10) (n / 10 / 10 % 10) (n / 10 % 10) (n % 10)
     (omega arith) (omega arith) (omega arith)
 
