@@ -68,6 +68,7 @@ all_covered b (p ∷ ps) =
     let c = box_with b p in
     All-cons (IsCovered (box_with_all c ps)) p ps (covered_still c (box_with_all c ps) (all_wider c ps) p (with_covered b p)) (all_covered c ps)
 
+-- the box of a polygon has each of its points in it, or on a side
 pub box_covers : (ms : List Member) → All (IsCovered (box_of_members ms)) (corners_of ms)
 box_covers ms = all_covered _ (corners_of ms)
 
@@ -96,10 +97,12 @@ all_framed : (b : Box4) (ps : List Point) → IsWider b frame → IsWider (box_w
 all_framed b [] w = w
 all_framed b (p ∷ ps) w = all_framed (box_with b p) ps (with_framed b p w)
 
+-- the box of a polygon lies within the frame
 pub box_framed : (ms : List Member) → IsWider (box_of_members ms) frame
 box_framed ms = all_framed _ (corners_of ms) (record { left = omega (arith, ints); low = omega (arith, ints); right = omega (arith, ints); high = omega (arith, ints) })
 
 -- ---- boxes of parts
+-- the box with two lists of points in it is that with the first list, and then with the second
 pub box_append : (b : Box4) (ps qs : List Point) → box_with_all b (ps ++ qs) ≡ box_with_all (box_with_all b ps) qs
 box_append b [] qs = refl
 box_append b (p ∷ ps) qs = box_append (box_with b p) ps qs
@@ -111,13 +114,16 @@ more_taken {A} f g n whole xs i x l e s w =
     ap (λ (b : Box4). box_with_all b (flat_map f (drop (i + 1) xs))) s ∙ sym (box_append g (f x) (flat_map f (drop (i + 1) xs)))
     ∙ ap (λ (y : A). box_with_all g (f y ++ flat_map f (drop (i + 1) xs))) e ∙ sym (ap (λ (ys : List A). box_with_all g (flat_map f ys)) (drop_more xs i x l)) ∙ w
 
+-- past the last list of points nothing is left to take in, and the box is the whole one
 pub all_taken : {A : Type 0} (f : A → List Point) (g whole : Box4) (xs : List A) (i : ℕ) → length xs ≤ i → box_with_all g (flat_map f (drop i xs)) ≡ whole → g ≡ whole
 all_taken {A} f g whole xs i l w = sym (ap (λ (ys : List A). box_with_all g (flat_map f ys)) (drop_all i xs l)) ∙ w
 
+-- with one point more taken in, the points that are left still make up the same whole box
 pub point_taken : (g n whole : Box4) (ps : List Point) (i : ℕ) (p : Point) → i < length ps → p ≡ get_or ps i p → n ≡ box_with g p → box_with_all g (drop i ps) ≡ whole
     → box_with_all n (drop (i + 1) ps) ≡ whole
 point_taken g n whole ps i p l e s w =
     ap (λ (b : Box4). box_with_all b (drop (i + 1) ps)) s ∙ ap (λ (q : Point). box_with_all g (q ∷ drop (i + 1) ps)) e ∙ sym (ap (box_with_all g) (drop_more ps i p l)) ∙ w
 
+-- past the last point nothing is left to take in, and the box is the whole one
 pub points_taken : (g whole : Box4) (ps : List Point) (i : ℕ) → length ps ≤ i → box_with_all g (drop i ps) ≡ whole → g ≡ whole
 points_taken g whole ps i l w = sym (ap (box_with_all g) (drop_all i ps l)) ∙ w

@@ -13,10 +13,11 @@ use Rattle.lpis_parcels.specs.Release.{Contents, names_parcel, parcel_ids, piece
 use Rattle.lpis_edge_sums.proofs.Shared.{found_any, any_found, all_at, all_from, filter_kept}
 use Rattle.lpis_country.specs.Polygons.{HasClosedRings}
 use Rattle.lpis_country.specs.Country.{IsRegion, country_of, is_new, new_parcels, new_pieces, with_region, with_regions}
-use Rattle.lpis_country.proofs.ListLemmas.{all_among, all_snoc, among_at, any_left, any_right, clash, filter_both, filter_neither, filter_none, into_filter, placed}
+use Rattle.lpis_country.proofs.ListLemmas.{all_among, all_snoc, among_at, any_left, any_right, not_both, filter_both, filter_neither, filter_none, into_filter, place_of_item}
 use Rattle.lpis_country.proofs.IdLemmas.{distinct_append, distinct_filter, has_among, has_at}
 use Rattle.lpis_country.proofs.UnionLemmas.{IsDouble, IsUnion}
 
+-- the piece names one of these parcels
 abbrev pub NamedIn : List Parcel → Piece → Type 0
 NamedIn ks x = Any (λ (k : Parcel). IsTrue (names_parcel k.id x)) ks
 
@@ -43,28 +44,33 @@ pieces_come u r id n h =
         by false t = t
         by true t =
             let f = any_found (λ (m : Parcel). IsTrue (names_parcel m.id x)) u.parcels (all_at (NamedIn u.parcels) u.pieces k x e n) in
-            absurd (clash (has_id (parcel_ids u.parcels) id) (has_at u.parcels f.index f.item id f.at ((bytes_eq-Decides id x.parcel).0 t ∙ sym ((bytes_eq-Decides f.item.id x.parcel).0 f.has))) h)
+            absurd (not_both (has_id (parcel_ids u.parcels) id) (has_at u.parcels f.index f.item id f.at ((bytes_eq-Decides id x.parcel).0 t ∙ sym ((bytes_eq-Decides f.item.id x.parcel).0 f.has))) h)
 
+-- a test whose opposite is true is false
 pub not_new : (b : Bool) → not b ≡ true → b ≡ false
-not_new true e = absurd (clash false e refl)
+not_new true e = absurd (not_both false e refl)
 not_new false e = refl
 
 old_id : (b : Bool) → not b ≡ false → b ≡ true
 old_id true e = refl
-old_id false e = absurd (clash true refl e)
+old_id false e = absurd (not_both true refl e)
 
+-- a parcel that was in the country has the same pieces after one region more
 pub old_pieces : (u r : Contents) (k : Parcel) → IsAmong u.parcels k → pieces_named (with_region u r) k.id ≡ pieces_named u k.id
 old_pieces u r k h = pieces_stay u r k.id (has_among u.parcels k h)
 
 new_at : (u r : Contents) (i : ℕ) (k : Parcel) → slice_get (new_parcels u r) i ≡ Some k → has_id (parcel_ids u.parcels) k.id ≡ false
 new_at u r i k e = not_new (has_id (parcel_ids u.parcels) k.id) (filter_kept (λ (x : Parcel). is_new u x.id) r.parcels i k e).passes
 
+-- a new parcel of a region has an identifier that the country did not have
 pub is_fresh : (u r : Contents) (k : Parcel) → IsAmong (new_parcels u r) k → has_id (parcel_ids u.parcels) k.id ≡ false
-is_fresh u r k h = let p = placed (new_parcels u r) k h in new_at u r p.index k p.at
+is_fresh u r k h = let p = place_of_item (new_parcels u r) k h in new_at u r p.index k p.at
 
+-- the new parcels of a region are among its parcels
 pub in_region : (u r : Contents) (k : Parcel) → IsAmong (new_parcels u r) k → IsAmong r.parcels k
-in_region u r k h = let p = placed (new_parcels u r) k h in let w = filter_kept (λ (x : Parcel). is_new u x.id) r.parcels p.index k p.at in among_at r.parcels w.index k w.at
+in_region u r k h = let p = place_of_item (new_parcels u r) k h in let w = filter_kept (λ (x : Parcel). is_new u x.id) r.parcels p.index k p.at in among_at r.parcels w.index k w.at
 
+-- a new parcel of a region has in the country the pieces that it has in the region
 pub fresh_pieces : (u r : Contents) (k : Parcel) → IsRegion u → IsAmong (new_parcels u r) k → pieces_named (with_region u r) k.id ≡ pieces_named r k.id
 fresh_pieces u r k g h = pieces_come u r k.id g.named (is_fresh u r k h)
 
@@ -93,13 +99,14 @@ differ u r =
   where
     by : (i : ℕ) (m : Parcel) → slice_get u.parcels i ≡ Some m → (k : Parcel) → has_id (parcel_ids u.parcels) k.id ≡ false → (b : Bool) → same_id m.id k.id ≡ b → same_id m.id k.id ≡ false
     by i m e k h false t = t
-    by i m e k h true t = absurd (clash (has_id (parcel_ids u.parcels) k.id) (has_at u.parcels i m k.id e (sym ((bytes_eq-Decides m.id k.id).0 t))) h)
+    by i m e k h true t = absurd (not_both (has_id (parcel_ids u.parcels) k.id) (has_at u.parcels i m k.id e (sym ((bytes_eq-Decides m.id k.id).0 t))) h)
 
 distinct_all : (u r : Contents) → IsDistinct same_id (parcel_ids u.parcels) → IsDistinct same_id (parcel_ids r.parcels) → IsDistinct same_id (parcel_ids (with_region u r).parcels)
 distinct_all u r n m =
     subst (IsDistinct same_id) (sym (map-append (λ (k : Parcel). k.id) u.parcels (new_parcels u r)))
     (distinct_append (parcel_ids u.parcels) (parcel_ids (new_parcels u r)) n (distinct_filter (λ (k : Parcel). is_new u k.id) r.parcels m) (differ u r))
 
+-- a country and a region, each with distinct identifiers, named parcels and closed rings, have them together
 pub region_grows : (u r : Contents) → IsRegion u → IsRegion r → IsRegion (with_region u r)
 region_grows u r g h = record {
   distinct = distinct_all u r g.distinct h.distinct;
@@ -109,6 +116,7 @@ region_grows u r g h = record {
       (All-filter (λ (k : Parcel). is_new u k.id) (λ (k : Parcel). HasClosedRings k.polygon) r.parcels h.closed);
 }
 
+-- the country with a last region is that of the regions before, with this one more
 pub country_snoc : (classes : List Class) (rs : List Contents) (r : Contents) → country_of classes (rs ++ r ∷ []) ≡ with_region (country_of classes rs) r
 country_snoc classes rs r = by _ rs
   where
@@ -116,6 +124,7 @@ country_snoc classes rs r = by _ rs
     by u [] = refl
     by u (s ∷ ss) = by (with_region u s) ss
 
+-- the country has the classes that it was given, whatever its regions
 pub country_classes : (classes : List Class) (rs : List Contents) → (country_of classes rs).classes ≡ classes
 country_classes classes rs = by _ rs
   where
@@ -127,6 +136,7 @@ empty_region : (classes : List Class) → IsRegion (country_of classes [])
 unfolding IsDistinct
 empty_region classes = record { distinct = tt; named = All-nil (NamedIn []); closed = All-nil (λ (k : Parcel). HasClosedRings k.polygon) }
 
+-- the country of regions has distinct identifiers, named parcels and closed rings, as each of them has
 pub country_is_region : (classes : List Class) (rs : List Contents) → All IsRegion rs → IsRegion (country_of classes rs)
 country_is_region classes rs h = by _ rs (empty_region classes) h
   where
@@ -161,11 +171,13 @@ one_double u r n a j k f = by (is_new u k.id) refl
           pieces = pieces_come u r k.id n (not_new (has_id (parcel_ids u.parcels) k.id) e);
         }
 
+-- the country of no regions is the union of none
 pub no_regions : (classes : List Class) → IsUnion [] (country_of classes [])
 no_regions classes =
     let g = empty_region classes in
     record { distinct = g.distinct; from = All-nil (From []); doubles = All-nil (Doubled (country_of classes [])); named = g.named; classes = All-nil (λ (r : Contents). r.classes ≡ classes) }
 
+-- a union with one more region of the same classes is a union, where its old parcels are the same in both
 pub union_grows : (rs : List Contents) (u r : Contents) → IsUnion rs u → IsRegion r → r.classes ≡ u.classes → All (λ (k : Parcel). is_new u k.id ≡ false → IsDouble u r k) r.parcels
     → IsUnion (rs ++ r ∷ []) (with_region u r)
 union_grows rs u r n g c a = record {

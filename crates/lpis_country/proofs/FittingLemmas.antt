@@ -15,12 +15,12 @@ use Rattle.lpis_checker.specs.SoundMap.{IsInParcel, IsSoundMap, TurnsTell}
 use Rattle.lpis_country.specs.Polygons.{HasClosedRings, box_of_members}
 use Rattle.lpis_country.specs.Tiling.{Tiling, frame, reaches, rectangles}
 use Rattle.lpis_country.specs.Country.{IsRegion, country_of, is_new, new_parcels, with_region}
-use Rattle.lpis_country.proofs.ListLemmas.{all_among, among_at, clash, front_or_last, item_at, placed}
+use Rattle.lpis_country.proofs.ListLemmas.{all_among, among_at, not_both, front_or_last, item_at, place_of_item}
 use Rattle.lpis_country.proofs.IdLemmas.{has_among, id_found, same_parcel}
 use Rattle.lpis_country.proofs.BoxLemmas.{IsPointIn, box_covers, box_framed}
 use Rattle.lpis_country.proofs.OutsideLemmas.{in_its_box}
 use Rattle.lpis_country.proofs.TileLemmas.{meet_at, point_wider, tile_of}
-use Rattle.lpis_country.proofs.UnionLemmas.{HasBoth, IsDouble, IsUnion, SeamIsMet, country_turns, home, union_is_sound}
+use Rattle.lpis_country.proofs.UnionLemmas.{HasBoth, IsDouble, IsUnion, SeamIsMet, country_turns, region_of_parcel, union_is_sound}
 use Rattle.lpis_country.proofs.CountryLemmas.{country_classes, country_snoc, in_region, is_fresh, no_regions, union_grows}
 
 -- ---- regions one after the other
@@ -66,7 +66,7 @@ in_front (x ∷ xs) (suc n) zero t l e = among_at (x ∷ take n xs) 0 t e
 in_front (x ∷ xs) (suc n) (suc i) t l e = more (in_front xs n i t (omega (arith, l)) e)
   where
     more : IsAmong (take n xs) t → IsAmong (x ∷ take n xs) t
-    more h = let p = placed (take n xs) t h in among_at (x ∷ take n xs) (suc p.index) t p.at
+    more h = let p = place_of_item (take n xs) t h in among_at (x ∷ take n xs) (suc p.index) t p.at
 in_front (x ∷ xs) zero i t l e = absurd (omega (arith, l))
 
 stands_on : (tiles : List Box4) (classes : List Class) (done : List Contents) (r : Contents) → IsMade tiles classes done → FitsCountry tiles (length done) (country_of classes done) r
@@ -92,7 +92,7 @@ stands_on tiles classes done r m f =
         by : (slice_get done i ≡ Some s) ⊎ ((i ≡ length done) × (s ≡ r)) → IsAmong s.parcels k
         by (inl d) =
             let none = All-contains (IsLate tiles (length done) u) r.parcels k f.new (in_region u r k h) (ap not (is_fresh u r k h)) in
-            absurd (clash (reaches k t) q (All-contains (λ (v : Box4). reaches k v ≡ false) (take (length done) tiles) t none (in_front tiles (length done) i t (slice_get_within done i s d) a)))
+            absurd (not_both (reaches k t) q (All-contains (λ (v : Box4). reaches k v ≡ false) (take (length done) tiles) t none (in_front tiles (length done) i t (slice_get_within done i s d) a)))
         by (inr l) = subst (λ (x : Contents). IsAmong x.parcels k) (sym l.1) (in_region u r k h)
 
 made_more : (tiles : List Box4) (classes : List Class) (done : List Contents) (r : Contents) → IsMade tiles classes done → IsRegion r → r.classes ≡ classes
@@ -133,7 +133,7 @@ seam_is_met tiling classes rs g s m e p d a b ha hb x y =
 
     box_of : (k : Parcel) → IsAmong u.parcels k → IsInParcel p k → IsPointIn (box_of_members k.polygon) p
     box_of k h c =
-        let w = home rs u m.union k h in
+        let w = region_of_parcel rs u m.union k h in
         let region = All-contains IsRegion rs w.r g w.among in
         let tells = All-contains (λ (z : Parcel). TurnsTell (IsInParcel p z) (turns z.polygon p)) u.parcels k ((country_turns rs u m.union s).parcels p d) h in
         in_its_box (box_of_members k.polygon) p d k.polygon (All-contains (λ (z : Parcel). HasClosedRings z.polygon) w.r.parcels k region.closed w.has) (box_covers k.polygon) (tells.1.0 c)
@@ -141,6 +141,7 @@ seam_is_met tiling classes rs g s m e p d a b ha hb x y =
     stands : (k : Parcel) → IsAmong u.parcels k → IsInParcel p k → (t : Found (λ (v : Box4). IsPointIn v p) tiles) → (r : Contents) → slice_get rs t.index ≡ Some r → IsAmong r.parcels k
     stands k h c t r at = All-contains (Stands tiles rs) u.parcels k m.stands h t.index t.item r at t.at (meet_at t.item (box_of_members k.polygon) p d t.has (box_of k h c))
 
+-- sound regions of the same classes, one a tile, of which each fits to those before, make up a sound country
 pub country_is_sound : (tiling : Tiling) (classes : List Class) (rs : List Contents) → All IsRegion rs → All IsSoundMap rs → All (λ (r : Contents). r.classes ≡ classes) rs
     → EachFits (rectangles tiling frame) classes rs
     → length rs ≡ length (rectangles tiling frame) → IsSoundMap (country_of classes rs)

@@ -20,7 +20,7 @@ use Rattle.lpis_edge_sums.proofs.Shared.{all_left, all_right}
 use Rattle.lpis_country.specs.Polygons.{HasClosedRings}
 use Rattle.lpis_country.proofs.ListLemmas.{all_snoc}
 use Rattle.lpis_country.proofs.BoxLemmas.{IsCovered, IsPointIn}
-use Rattle.lpis_country.proofs.SideLemmas.{crossed_above, crossed_below, crossed_left, crossed_right, passed, times_up}
+use Rattle.lpis_country.proofs.SideLemmas.{crossed_above, crossed_below, crossed_left, crossed_right, passed_height, times_up}
 
 -- the crossing of each edge with both ends in the box is a difference of a function of points
 abbrev IsPotential : (Point → ℤ) → Box4 → RationalPoint → Type 0
@@ -138,13 +138,13 @@ right_of : (box : Box4) (p : RationalPoint) → pos 0 <ℤ p.d → (box.x1 *ℤ 
 unfolding none
 right_of box p d h a b v w = crossed_left a b p d (over (times_up a.x box.x1 p.d d v.right) h) (over (times_up b.x box.x1 p.d d w.right) h) ∙ sym (nothing (pos 0))
 
-left_of : (box : Box4) (p : RationalPoint) → pos 0 <ℤ p.d → p.x <ℤ (box.x0 *ℤ p.d) → IsPotential (passed p) box p
+left_of : (box : Box4) (p : RationalPoint) → pos 0 <ℤ p.d → p.x <ℤ (box.x0 *ℤ p.d) → IsPotential (passed_height p) box p
 left_of box p d h a b v w = crossed_right a b p d (under h (times_up box.x0 a.x p.d d v.left)) (under h (times_up box.x0 b.x p.d d w.left))
 
 -- a point round which a polygon turns is in a box of all its points
 pub in_its_box : (box : Box4) (p : RationalPoint) → pos 0 <ℤ p.d → (ms : List Member) → HasClosedRings ms → All (IsCovered box) (corners_of ms) → turns ms p ≡ pos 1 → IsPointIn box p
 in_its_box box p d ms r w t = record {
-  left = by_lt_z p.x (box.x0 *ℤ p.d) (λ l. absurd (outside (passed p) (left_of box p d l))) (λ k. k);
+  left = by_lt_z p.x (box.x0 *ℤ p.d) (λ l. absurd (outside (passed_height p) (left_of box p d l))) (λ k. k);
   low = by_lt_z p.y (box.y0 *ℤ p.d) (λ l. absurd (outside none (below box p d l))) (λ k. k);
   right = by_lt_z p.x (box.x1 *ℤ p.d) (λ k. k) (λ l. absurd (outside none (right_of box p d l)));
   high = by_lt_z p.y (box.y1 *ℤ p.d) (λ k. k) (λ l. absurd (outside none (above box p d l)));

@@ -12,7 +12,7 @@ use Rattle.lpis_parcels.specs.declared.parcel.Parcel.{Parcel}
 use Rattle.lpis_parcels.specs.Release.{Contents, names_parcel, parcel_ids, pieces_named}
 use Rattle.lpis_edge_sums.proofs.Shared.{all_at, all_from, any_found, filter_kept, found_any}
 use Rattle.lpis_country.specs.Country.{IsRegion}
-use Rattle.lpis_country.proofs.ListLemmas.{clash, filter_both}
+use Rattle.lpis_country.proofs.ListLemmas.{not_both, filter_both}
 use Rattle.lpis_country.proofs.IdLemmas.{first_alone}
 use Rattle.lpis_country.proofs.CountryLemmas.{NamedIn, not_new}
 
@@ -50,7 +50,7 @@ pieces_of_all (k ∷ ks) xs d n =
     kept i m e = filter_both (names_parcel m.id) (λ (x : Piece). not (names_parcel k.id x)) (λ x t. by x t (names_parcel k.id x) refl) xs
       where
         by : (x : Piece) → names_parcel m.id x ≡ true → (b : Bool) → names_parcel k.id x ≡ b → not (names_parcel k.id x) ≡ true
-        by x t true f = absurd (clash (same_id k.id m.id) ((bytes_eq-Decides k.id m.id).1 ((bytes_eq-Decides k.id x.parcel).0 f ∙ sym ((bytes_eq-Decides m.id x.parcel).0 t))) (apart i m e))
+        by x t true f = absurd (not_both (same_id k.id m.id) ((bytes_eq-Decides k.id m.id).1 ((bytes_eq-Decides k.id x.parcel).0 f ∙ sym ((bytes_eq-Decides m.id x.parcel).0 t))) (apart i m e))
         by x t false f = ap not f
 
     named : (i : ℕ) (x : Piece) → slice_get others i ≡ Some x → NamedIn ks x
@@ -61,8 +61,9 @@ pieces_of_all (k ∷ ks) xs d n =
         by w.passes f.index f.item f.at f.has
       where
         by : not (names_parcel k.id x) ≡ true → (j : ℕ) (m : Parcel) → slice_get (k ∷ ks) j ≡ Some m → names_parcel m.id x ≡ true → NamedIn ks x
-        by t zero m g h = absurd (clash (names_parcel k.id x) (ap (λ (z : Parcel). names_parcel z.id x) (same_Some k m g) ∙ h) (not_new (names_parcel k.id x) t))
+        by t zero m g h = absurd (not_both (names_parcel k.id x) (ap (λ (z : Parcel). names_parcel z.id x) (same_Some k m g) ∙ h) (not_new (names_parcel k.id x) t))
         by t (suc j) m g h = found_any (λ (z : Parcel). IsTrue (names_parcel z.id x)) ks (record { index = j; item = m; at = g; has = h })
 
+-- the numbers of pieces of the parcels of a region add up to the number of its pieces
 pub pieces_add : (r : Contents) → IsRegion r → sum_by (λ (k : Parcel). length (pieces_named r k.id)) r.parcels ≡ length r.pieces
 pieces_add r g = pieces_of_all r.parcels r.pieces g.distinct g.named

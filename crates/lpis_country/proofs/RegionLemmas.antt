@@ -50,5 +50,6 @@ all_named ks cs n (x ∷ xs) e =
     (named ks x (no_fault (has_id (parcel_ids ks) x.parcel) _ (first_nil _ _ (first_nil (unknown_faults ks cs n x) (reference_faults ks cs (n + 1) xs) e))))
     (all_named ks cs (n + 1) xs (second_nil (unknown_faults ks cs n x) (reference_faults ks cs (n + 1) xs) e))
 
+-- where the joins of a release have no fault, each piece names one of its parcels
 pub joined_names : (c : Contents) → join_faults c ≡ [] → All (NamedIn c.parcels) c.pieces
 joined_names c e = all_named c.parcels c.classes 1 c.pieces (first_nil (reference_faults c.parcels c.classes 1 c.pieces) _ e)

@@ -70,10 +70,12 @@ more_still : (x y : ℤ) → y <ℤ x → pos 0 <ℤ (x -ℤ y)
 more_still x y h = omega (arith, ints)
 
 -- ---- crossings
+-- an edge with no end above the point is not crossed
 pub crossed_below : (a b : Point) (p : RationalPoint) → (a.y *ℤ p.d) ≤ℤ p.y → (b.y *ℤ p.d) ≤ℤ p.y → crossing a b p ≡ pos 0
 unfolding crossing
 crossed_below a b p h k = both_below (a.y *ℤ p.d) (b.y *ℤ p.d) p.y (orient_at a b p) h k
 
+-- an edge with both ends above the point is not crossed
 pub crossed_above : (a b : Point) (p : RationalPoint) → p.y <ℤ (a.y *ℤ p.d) → p.y <ℤ (b.y *ℤ p.d) → crossing a b p ≡ pos 0
 unfolding crossing
 crossed_above a b p h k = both_above (a.y *ℤ p.d) (b.y *ℤ p.d) p.y (orient_at a b p) h k
@@ -89,8 +91,8 @@ crossed_left a b p d h k = by_lt_z p.y (a.y *ℤ p.d)
     (λ t. crossed_below a b p s t))
 
 -- 1 where the point is at the height of the end or over it
-pub passed : RationalPoint → Point → ℤ
-passed p a = cond (int_lt p.y (a.y *ℤ p.d)) (pos 0) (pos 1)
+pub passed_height : RationalPoint → Point → ℤ
+passed_height p a = cond (int_lt p.y (a.y *ℤ p.d)) (pos 0) (pos 1)
 
 passed_no : (x y : ℤ) → x <ℤ y → cond (int_lt x y) (pos 0) (pos 1) ≡ pos 0
 passed_no x y h = grind (arith, ints)
@@ -102,8 +104,8 @@ differ : {x y c u v : ℤ} → x ≡ u → y ≡ v → c ≡ u -ℤ v → c ≡ 
 differ e f g = omega (arith, ints)
 
 -- one with both ends right of the point is crossed as it passes the point's height
-pub crossed_right : (a b : Point) (p : RationalPoint) → pos 0 <ℤ p.d → p.x <ℤ (a.x *ℤ p.d) → p.x <ℤ (b.x *ℤ p.d) → crossing a b p ≡ passed p a -ℤ passed p b
-unfolding passed crossing
+pub crossed_right : (a b : Point) (p : RationalPoint) → pos 0 <ℤ p.d → p.x <ℤ (a.x *ℤ p.d) → p.x <ℤ (b.x *ℤ p.d) → crossing a b p ≡ passed_height p a -ℤ passed_height p b
+unfolding passed_height crossing
 crossed_right a b p d h k = by_lt_z p.y (a.y *ℤ p.d)
     (λ s. by_lt_z p.y (b.y *ℤ p.d)
     (λ t. differ (passed_no _ _ s) (passed_no _ _ t) (crossed_above a b p s t))

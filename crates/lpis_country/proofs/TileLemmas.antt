@@ -31,6 +31,7 @@ first P xs ys f = any_found P (xs ++ ys) (any_left P xs ys (found_any P xs f))
 second : (P : Box4 → Type 0) (xs ys : List Box4) → Found P ys → Found P (xs ++ ys)
 second P xs ys f = any_found P (xs ++ ys) (any_right P xs ys (found_any P ys f))
 
+-- a point of a rectangle is in one of the tiles into which it is cut
 pub tile_of : (t : Tiling) (b : Box4) (p : RationalPoint) → IsPointIn b p → Found (λ (r : Box4). IsPointIn r p) (rectangles t b)
 tile_of one_tile b p h = record { index = 0; item = b; at = refl; has = h }
 tile_of (cut_x c s t) b p h =
@@ -55,6 +56,7 @@ under h k = omega (arith, ints)
 over : {x y z : ℤ} → x ≤ℤ y → y ≤ℤ z → x ≤ℤ z
 over h k = omega (arith, ints)
 
+-- a point of a box is in each box that has this one in it
 pub point_wider : (b c : Box4) (p : RationalPoint) → pos 0 <ℤ p.d → IsWider b c → IsPointIn b p → IsPointIn c p
 point_wider b c p d w h = record {
   left = over (times_up c.x0 b.x0 p.d d w.left) h.left;
@@ -73,6 +75,7 @@ begins_before x y z d h k l = by_lt_z x z (λ q. q) (λ q. absurd (by (times_up 
 not_apart : (a b c d e f g h : ℤ) → b <ℤ a → d <ℤ c → f <ℤ e → h <ℤ g → not ((int_le a b || int_le c d) || (int_le e f || int_le g h)) ≡ true
 not_apart a b c d e f g h k l m n = grind (arith, ints)
 
+-- two boxes with a common point meet
 pub meet_at : (b c : Box4) (p : RationalPoint) → pos 0 <ℤ p.d → IsPointIn b p → IsPointIn c p → meets b c ≡ true
 meet_at b c p d i j = not_apart b.x1 c.x0 b.y1 c.y0 c.x1 b.x0 c.y1 b.y0
     (begins_before c.x0 p.x b.x1 p.d d j.left i.right) (begins_before c.y0 p.y b.y1 p.d d j.low i.high)

@@ -18,7 +18,7 @@ use Rattle.lpis_parcels.specs.Weighted.{areas2, piece_weight, weighted2}
 use Rattle.lpis_edge_sums.specs.Counting.{AtMostOne, ExactlyOne}
 use Rattle.lpis_edge_sums.proofs.Shared.{Found, any_found, all_at, all_from, filter_kept}
 use Rattle.lpis_checker.specs.SoundMap.{IsInParcel, IsInPiece, IsSoundMap, IsSoundEverywhere, TurnsTell, TurnsOnce, AreasAdd}
-use Rattle.lpis_country.proofs.ListLemmas.{among_at, all_among, into_filter, placed}
+use Rattle.lpis_country.proofs.ListLemmas.{among_at, all_among, into_filter, place_of_item}
 use Rattle.lpis_country.proofs.IdLemmas.{same_index}
 
 -- the parcel of the region is in the country as it stands, with the same pieces in the same order
@@ -95,8 +95,9 @@ pub record Home (regions : List Contents) (u : Contents) (k : Parcel) : Type 0 w
   pub double : IsDouble u r k
   pub classes : r.classes ≡ u.classes
 
-pub home : (rs : List Contents) (u : Contents) → IsUnion rs u → (k : Parcel) → IsAmong u.parcels k → Home rs u k
-home rs u n k h =
+-- each parcel of a union is in one of its regions, with the same pieces there and the same classes
+pub region_of_parcel : (rs : List Contents) (u : Contents) → IsUnion rs u → (k : Parcel) → IsAmong u.parcels k → Home rs u k
+region_of_parcel rs u n k h =
     let f = any_found (λ (r : Contents). IsAmong r.parcels k) rs (All-contains (λ (x : Parcel). Any (λ (r : Contents). IsAmong r.parcels x) rs) u.parcels k n.from h) in
     record {
       r = f.item;
@@ -116,7 +117,7 @@ record PieceHome (rs : List Contents) (u : Contents) (x : Piece) : Type 0 where
 piece_home : (rs : List Contents) (u : Contents) → IsUnion rs u → (i : ℕ) (x : Piece) → slice_get u.pieces i ≡ Some x → PieceHome rs u x
 piece_home rs u n i x e =
     let f = any_found (λ (k : Parcel). IsTrue (names_parcel k.id x)) u.parcels (all_at (λ (y : Piece). Any (λ (k : Parcel). IsTrue (names_parcel k.id y)) u.parcels) u.pieces i x e n.named) in
-    let g = home rs u n f.item (among_at u.parcels f.index f.item f.at) in
+    let g = region_of_parcel rs u n f.item (among_at u.parcels f.index f.item f.at) in
     let w = into_filter (names_parcel f.item.id) u.pieces i x e f.has in
     let v = filter_kept (names_parcel f.item.id) g.r.pieces w.index x (sym (ap (λ (xs : List Piece). slice_get xs w.index) g.double.pieces) ∙ w.at) in
     record { parcel = f; r = g.r; among = g.among; index = v.index; at = v.at }
@@ -125,7 +126,7 @@ piece_home rs u n i x e =
 country_filled : (rs : List Contents) (u : Contents) → IsUnion rs u → All IsSoundMap rs → (p : RationalPoint) → pos 0 <ℤ p.d → (k : Parcel) → IsAmong u.parcels k
     → IsInParcel p k ↔ ExactlyOne (IsInPiece p) (pieces_named u k.id)
 country_filled rs u n s p d k h =
-    let g = home rs u n k h in
+    let g = region_of_parcel rs u n k h in
     let sound = All-contains IsSoundMap rs g.r s g.among in
     subst (λ (xs : List Piece). IsInParcel p k ↔ ExactlyOne (IsInPiece p) xs) (sym g.double.pieces)
     (All-contains (λ (x : Parcel). IsInParcel p x ↔ ExactlyOne (IsInPiece p) (pieces_named g.r x.id)) g.r.parcels k (sound.everywhere.filled p d) g.has)
@@ -134,15 +135,15 @@ country_filled rs u n s p d k h =
 few_named : (rs : List Contents) (u : Contents) → IsUnion rs u → All IsSoundMap rs → (p : RationalPoint) → pos 0 <ℤ p.d → (k : Parcel) → IsAmong u.parcels k
     → AtMostOne (IsInPiece p) (pieces_named u k.id)
 few_named rs u n s p d k h =
-    let g = home rs u n k h in
+    let g = region_of_parcel rs u n k h in
     let sound = All-contains IsSoundMap rs g.r s g.among in
     subst (AtMostOne (IsInPiece p)) (sym g.double.pieces) (few_filter (names_parcel k.id) (IsInPiece p) g.r.pieces (sound.everywhere.one_piece p d))
 
 country_parcel : (rs : List Contents) (u : Contents) → IsUnion rs u → All IsSoundMap rs → SeamIsMet rs u → (p : RationalPoint) → pos 0 <ℤ p.d → AtMostOne (IsInParcel p) u.parcels
 country_parcel rs u n s m p d i j a b e f x y =
     let both = any_found (HasBoth a b) rs (m p d a b (among_at u.parcels i a e) (among_at u.parcels j b f) x y) in
-    let v = placed both.item.parcels a both.has.one in
-    let w = placed both.item.parcels b both.has.two in
+    let v = place_of_item both.item.parcels a both.has.one in
+    let w = place_of_item both.item.parcels b both.has.two in
     let sound = all_at IsSoundMap rs both.index both.item both.at s in
     let same : v.index ≡ w.index = sound.everywhere.one_parcel p d v.index w.index a b v.at w.at x y in
     let one : a ≡ b = same_Some a b (sym v.at ∙ ap (slice_get both.item.parcels) same ∙ w.at) in
@@ -183,6 +184,7 @@ country_everywhere rs u n s m = record {
   filled = λ p d. all_among (λ (k : Parcel). IsInParcel p k ↔ ExactlyOne (IsInPiece p) (pieces_named u k.id)) u.parcels (country_filled rs u n s p d);
 }
 
+-- each polygon of a union of sound maps turns once round the points that it contains, and round no other
 pub country_turns : (rs : List Contents) (u : Contents) → IsUnion rs u → All IsSoundMap rs → TurnsOnce u
 country_turns rs u n s = record {
   pieces = λ p d. all_from (λ (x : Piece). TurnsTell (IsInPiece p x) (turns x.polygon p)) u.pieces (λ i x e.
@@ -190,7 +192,7 @@ country_turns rs u n s = record {
       let sound = All-contains IsSoundMap rs g.r s g.among in
       all_at (λ (y : Piece). TurnsTell (IsInPiece p y) (turns y.polygon p)) g.r.pieces g.index x g.at (sound.turns.pieces p d));
   parcels = λ p d. all_among (λ (x : Parcel). TurnsTell (IsInParcel p x) (turns x.polygon p)) u.parcels (λ x h.
-      let g = home rs u n x h in
+      let g = region_of_parcel rs u n x h in
       let sound = All-contains IsSoundMap rs g.r s g.among in
       All-contains (λ (y : Parcel). TurnsTell (IsInParcel p y) (turns y.polygon p)) g.r.parcels x (sound.turns.parcels p d) g.has);
 }
@@ -210,16 +212,17 @@ country_areas rs u n s = record {
       let sound = All-contains IsSoundMap rs g.r s g.among in
       all_at (λ (y : Piece). pos 0 <ℤ area2 y.polygon) g.r.pieces g.index x g.at sound.areas.pieces);
   parcels = all_among (λ (x : Parcel). area2 x.polygon ≡ areas2 (pieces_named u x.id)) u.parcels (λ x h.
-      let g = home rs u n x h in
+      let g = region_of_parcel rs u n x h in
       let sound = All-contains IsSoundMap rs g.r s g.among in
       All-contains (λ (y : Parcel). area2 y.polygon ≡ areas2 (pieces_named g.r y.id)) g.r.parcels x sound.areas.parcels g.has ∙ ap areas2 (sym g.double.pieces));
   weighted = all_among (IsShare u) u.parcels (λ x h.
-      let g = home rs u n x h in
+      let g = region_of_parcel rs u n x h in
       let sound = All-contains IsSoundMap rs g.r s g.among in
       subst (λ (z : ℤ). (pos 0 ≤ℤ z) × (z ≤ℤ (pos most_percent *ℤ area2 x.polygon))) (sym (weighs rs u x g)) (All-contains (IsShare g.r) g.r.parcels x sound.areas.weighted g.has));
 }
 
 -- ---- the theorem
+-- a union of sound maps is one, where parcels that share a point stand together in a region
 pub union_is_sound : (rs : List Contents) (u : Contents) → IsUnion rs u → All IsSoundMap rs → SeamIsMet rs u → IsSoundMap u
 union_is_sound rs u n s m =
     let every = country_everywhere rs u n s m in
