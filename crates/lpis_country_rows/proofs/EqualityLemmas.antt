@@ -34,6 +34,7 @@ members a b = (
       ((pointwise_decides (pointwise_decides same_point-equality) a.holes b.holes).1 (ap (λ (m : Member). m.holes) e)),
 )
 
+-- the test of two polygons is true exactly where they are equal
 pub same_polygon-tells : IsEquality same_polygon
 same_polygon-tells = pointwise_decides members
 
@@ -52,6 +53,7 @@ single a b = (
       ((same_polygon-tells a.polygon b.polygon).1 (ap (λ (x : Piece). x.polygon) e)))),
 )
 
+-- the test of two lists of pieces is true exactly where they are equal
 pub same_pieces-tells : IsEquality same_pieces
 same_pieces-tells = pointwise_decides single
 
@@ -66,6 +68,7 @@ made-equal c d p q e f h k =
 class-equal : (a b : Class) → a.code ≡ b.code → a.percent ≡ b.percent → a ≡ b
 class-equal a b p q = made-equal a.code b.code a.percent b.percent p q a.within b.within
 
+-- the test of two classes is true exactly where they are equal
 pub same_class-tells : IsEquality same_class
 same_class-tells a b = (
   λ e. let r = both (same_id a.code b.code) (a.percent == b.percent) e in
@@ -75,7 +78,7 @@ same_class-tells a b = (
 )
 
 -- two tests that tell the same thing answer alike
-pub alike : {P : Type 0} (r s : Bool) → Decides r P → Decides s P → r ≡ s
-alike true s h k = sym (k.1 (h.0 refl))
-alike false true h k = absurd (true≢false (sym (h.1 (k.0 refl))))
-alike false false h k = refl
+pub tests_answer_alike : {P : Type 0} (r s : Bool) → Decides r P → Decides s P → r ≡ s
+tests_answer_alike true s h k = sym (k.1 (h.0 refl))
+tests_answer_alike false true h k = absurd (true≢false (sym (h.1 (k.0 refl))))
+tests_answer_alike false false h k = refl
