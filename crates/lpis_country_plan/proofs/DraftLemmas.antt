@@ -22,6 +22,7 @@ use Rattle.lpis_country_plan.proofs.BegunLemmas.{begun_first, begun_x, begun_y, 
 
 -- ---- names
 
+-- after a name is added, a name is known exactly where it is that one or was known before
 pub known_with : (q name : List ℕ) (list : List (List ℕ)) (before after : Bool) → before ≡ list_any (bytes_eq q) list → after ≡ cond (bytes_eq name q) true before
     → after ≡ list_any (bytes_eq q) (list ++ name ∷ [])
 known_with q name list before after known now =
@@ -39,21 +40,25 @@ known_with q name list before after known now =
 
 -- ---- one line more
 
+-- a plan of no lines is begun with no names, no tiles and the frame as its one room
 pub begun_new : (names : List (List ℕ)) (tiles rooms : List Box4) (b : Box4) → names ≡ [] → tiles ≡ [] → b ≡ frame → rooms ≡ b ∷ [] → IsPlanBegun [] names tiles rooms
 begun_new names tiles rooms b n t f r = rw (n, t, r, f) begun_first
 
+-- a draft whose next room is cut by a line of one x, into west and east, has read that line
 pub cut_by_x : (said : List TreeLine) (line : Line) (x : ℤ) (old new : Draft) (b w e : Box4) (rest : List Box4) → line ≡ X x → TreeLineFits (line_said line) → IsDraftOf said old
     → old.rooms ≡ b ∷ rest → new.names ≡ old.names → new.tiles.items ≡ old.tiles.items → new.rooms ≡ w ∷ e ∷ rest → w ≡ west_of b x → e ≡ east_of b x
     → IsDraftOf (said ++ line_said line ∷ []) new
 cut_by_x said line x old new b w e rest is fits begun room names tiles rooms west east =
     rw (is, names, tiles, rooms, west, east) (begun_x said old.names old.tiles.items b rest x (rw is at fits) (rw room at begun))
 
+-- a draft whose next room is cut by a line of one y, into south and north, has read that line
 pub cut_by_y : (said : List TreeLine) (line : Line) (y : ℤ) (old new : Draft) (b s n : Box4) (rest : List Box4) → line ≡ Y y → TreeLineFits (line_said line) → IsDraftOf said old
     → old.rooms ≡ b ∷ rest → new.names ≡ old.names → new.tiles.items ≡ old.tiles.items → new.rooms ≡ s ∷ n ∷ rest → s ≡ south_of b y → n ≡ north_of b y
     → IsDraftOf (said ++ line_said line ∷ []) new
 cut_by_y said line y old new b s n rest is fits begun room names tiles rooms south north =
     rw (is, names, tiles, rooms, south, north) (begun_y said old.names old.tiles.items b rest y (rw is at fits) (rw room at begun))
 
+-- a draft whose next room became the tile of a region, of a new name and not one too many, has read its line
 pub region_more : (said : List TreeLine) (line : Line) (name : List ℕ) (old new : Draft) (b : Box4) (rest : List Box4)
     → line_said line ≡ region_line name → TreeLineFits (line_said line) → IsDraftOf said old
     → old.rooms ≡ b ∷ rest → list_any (bytes_eq name) old.names ≡ false → length old.names < most_regions → new.names ≡ old.names ++ name ∷ []
@@ -63,6 +68,7 @@ region_more said line name old new b rest is fits begun room other few names til
 
 -- ---- from what a line says to its bytes
 
+-- a text that is no line of a tree can't stand, whatever is owed
 pub owing_none : (o : Owing) (w : List ℕ) → tree_line w ≡ None → owing_with o w ≡ None
 unfolding owing_with
 owing_none o w e = rw e (by o.owed)
@@ -71,10 +77,12 @@ owing_none o w e = rw e (by o.owed)
     by zero = refl
     by (suc k) = refl
 
+-- a line of a tree leaves owed what a line of its kind does, where a part was owed, and can't stand elsewhere
 pub owing_some : (o : Owing) (w : List ℕ) (l : TreeLine) → tree_line w ≡ Some l → owing_with o w ≡ where_owed o.owed (owing_after o l)
 unfolding owing_with
 owing_some o w l e = rw e refl
 
+-- a draft that has read what a line says has read the bytes of the line
 pub begun_more : {E : Type 0} (r : Result (Option Draft) E) (old : Draft) (w : List ℕ) (l : TreeLine) → tree_line w ≡ Some l
     → IfOk r (λ o. IfSome o (λ d. (said : List TreeLine) → TreeLineFits l → IsDraftOf said old → IsDraftOf (said ++ l ∷ []) d)) → IfOk r (λ o. IfSome o (λ d. IsDraftWith old w d))
 begun_more (Err e) old w l is h = tt

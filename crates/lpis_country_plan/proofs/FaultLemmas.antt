@@ -50,6 +50,7 @@ one_line n k names p l rest fits e =
 
 -- ---- the text of a tree has no fault
 
+-- the text of lines and further lines is the text of the first, and then that of the others
 pub text-append : (ls ms : List TreeLine) → tree_lines_text (ls ++ ms) ≡ tree_lines_text ls ++ tree_lines_text ms
 unfolding tree_lines_text
 text-append [] ms = refl
@@ -143,6 +144,7 @@ ends_well : (m : ℕ) (names : List (List ℕ)) → plan_fault_from m (owes 0 na
 unfolding plan_fault_from
 ends_well m names = refl
 
+-- the text of a tree has no fault
 pub no_fault : (text : List ℕ) (t : Tree) → IsCountryText text t → plan_fault text ≡ None
 unfolding country_text
 no_fault text t h =

@@ -30,8 +30,9 @@ neither : (a b : Bool) → (a || b) ≡ false → (a ≡ false) × (b ≡ false)
 neither true b h = absurd cc
 neither false b h = (refl, h)
 
-pub below : (n : ℕ) → nat_le most_regions n ≡ false → n < most_regions
-below n h = grind (arith, nat_tests)
+-- a number of regions that fails the test for the most is below the most
+pub below_most_regions : (n : ℕ) → nat_le most_regions n ≡ false → n < most_regions
+below_most_regions n h = grind (arith, nat_tests)
 
 -- what is begun after a line
 record GoesOn (said : List TreeLine) (line : List ℕ) (p : Owing) : Type 0 where
@@ -54,7 +55,7 @@ goes_on said names tiles b bs line (region_line name) p h is fits e =
     let c = none_chosen (list_any (bytes_eq name) names || nat_le most_regions (length names)) (owes (length bs) (names ++ name ∷ [])) p e in
     let n = neither (list_any (bytes_eq name) names) (nat_le most_regions (length names)) c.0 in
     subst (λ (q : Owing). GoesOn said line q) c.1
-    (record { l = region_line name; is = is; tiles = _; rooms = bs; owing = refl; begun = begun_region said names tiles b bs name fits n.0 (below (length names) n.1) h })
+    (record { l = region_line name; is = is; tiles = _; rooms = bs; owing = refl; begun = begun_region said names tiles b bs name fits n.0 (below_most_regions (length names) n.1) h })
 
 begun_with : (said : List TreeLine) (names : List (List ℕ)) (tiles rooms : List Box4) (line : List ℕ) (p : Owing) → IsPlanBegun said names tiles rooms
     → owing_with (owes (length rooms) names) line ≡ Some p → GoesOn said line p

@@ -18,10 +18,11 @@ use Rattle.lpis_points.specs.Range.{IsInRange}
 use Rattle.lpis_country_plan.specs.Limits.{longest_name}
 use Rattle.lpis_country_plan.specs.CountryText.{TreeLine, x_line, y_line, region_line, tree_line_text, TreeLineFits, is_name_byte, is_region_name}
 use Rattle.lpis_country_plan.specs.Faults.{begins_with, coordinate_in, name_in, tree_line, is_line_feed, plan_lines}
-use Rattle.lpis_country_plan.proofs.NumberLemmas.{chosen, coordinate_takes, coordinate_again}
+use Rattle.lpis_country_plan.proofs.NumberLemmas.{chosen_by_test, coordinate_takes, coordinate_again}
 
 -- ---- what is written is read
 
+-- the text of a line that fits is read to this line
 pub line_again : (l : TreeLine) → TreeLineFits l → tree_line (tree_line_text l) ≡ Some l
 unfolding tree_line
 line_again (x_line c) fits = rw (coordinate_again c fits) refl
@@ -50,10 +51,11 @@ cut_takes make start line l b text fits h =
 region_takes : (line : List ℕ) (l : TreeLine) → begins_with line (codes "region ") ≡ true → option_map region_line (name_in (drop 7 line)) ≡ Some l → (line ≡ tree_line_text l) × TreeLineFits l
 region_takes line l b h =
     let m = mapped region_line (name_in (drop 7 line)) l h in
-    let c = chosen (is_region_name (drop 7 line)) (drop 7 line) m.0 m.1 in
+    let c = chosen_by_test (is_region_name (drop 7 line)) (drop 7 line) m.0 m.1 in
     subst (λ (k : TreeLine). (line ≡ tree_line_text k) × TreeLineFits k) m.2
     (subst (λ (w : List ℕ). (line ≡ codes "region " ++ w) × (is_region_name w ≡ true)) c.1 (begun line (codes "region ") b, c.0))
 
+-- bytes that are read to a line are the text of this line, which fits
 pub line_takes : (line : List ℕ) (l : TreeLine) → tree_line line ≡ Some l → (line ≡ tree_line_text l) × TreeLineFits l
 unfolding tree_line
 line_takes line l h = by_x (begins_with line (codes "x ")) refl h
@@ -75,6 +77,7 @@ line_takes line l h = by_x (begins_with line (codes "x ")) refl h
 
 -- ---- no line has a line feed in it
 
+-- the byte is no line feed
 abbrev pub NoFeed : ℕ → Type 0
 NoFeed b = is_line_feed b ≡ false
 
@@ -130,5 +133,6 @@ name_ascii (b ∷ w) h zero = small b (and_parts (is_name_byte b) _ h).0
     small b h = grind (arith, nat_tests)
 name_ascii (b ∷ w) h (suc i) = name_ascii w (and_parts (is_name_byte b) _ h).1 i
 
+-- the name of a region is UTF-8
 pub name_utf8 : (w : List ℕ) → is_region_name w ≡ true → IsUtf8 w
 name_utf8 w h = IsUtf8-from_ascii w (name_ascii w (name_bytes w h))

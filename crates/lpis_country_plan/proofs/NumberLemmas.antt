@@ -17,14 +17,16 @@ use Rattle.std.specs.Str.Parse.{digits_value, signed_digits_value, ParsesSigned}
 use Rattle.lpis_points.specs.Range.{limit, IsInRange}
 use Rattle.lpis_country_plan.specs.Faults.{coordinate_in}
 
-pub chosen : {A : Type 0} (b : Bool) (x y : A) → cond b (Some x) None ≡ Some y → (b ≡ true) × (x ≡ y)
-chosen true x y h = (refl, cc h)
-chosen false x y h = absurd cc
+-- where a value comes only if a test is true, one that comes is that value, and the test was true
+pub chosen_by_test : {A : Type 0} (b : Bool) (x y : A) → cond b (Some x) None ≡ Some y → (b ≡ true) × (x ≡ y)
+chosen_by_test true x y h = (refl, cc h)
+chosen_by_test false x y h = absurd cc
 
 -- ---- ranges
 
-pub within : (z : ℤ) → nat_le (nat_abs z) (nat_abs limit) ≡ true → IsInRange z
-within z h = let le : nat_abs z ≤ nat_abs limit = below (nat_abs z) (nat_abs limit) h in by z le
+-- a number whose absolute value passes the test for the limit is in range
+pub within_range : (z : ℤ) → nat_le (nat_abs z) (nat_abs limit) ≡ true → IsInRange z
+within_range z h = let le : nat_abs z ≤ nat_abs limit = below (nat_abs z) (nat_abs limit) h in by z le
   where
     below : (a b : ℕ) → nat_le a b ≡ true → a ≤ b
     below a b h = grind (arith, nat_tests)
@@ -37,6 +39,7 @@ abs_small : (z : ℤ) → IsInRange z → nat_abs z ≤ nat_abs limit
 abs_small (pos n) h = omega (arith, ints, h.1)
 abs_small (negsuc n) h = omega (arith, ints, h.0)
 
+-- the absolute value of a number in range passes the test for the limit
 pub is_within : (z : ℤ) → IsInRange z → nat_le (nat_abs z) (nat_abs limit) ≡ true
 is_within z h = above (nat_abs z) (nat_abs limit) (abs_small z h)
   where
@@ -45,13 +48,14 @@ is_within z h = above (nat_abs z) (nat_abs limit) (abs_small z h)
 
 -- ---- what is read was written so
 
+-- a word that is read to a coordinate is its decimal text, and the coordinate is in range
 pub coordinate_takes : (w : List ℕ) (z : ℤ) → coordinate_in w ≡ Some z → (w ≡ signed_decimal z) × IsInRange z
 unfolding coordinate_in
 coordinate_takes w z h =
     let v : ℤ = signed_digits_value 10 w in
-    let c = chosen (bytes_eq w (signed_decimal v) && nat_le (nat_abs v) (nat_abs limit)) v z h in
+    let c = chosen_by_test (bytes_eq w (signed_decimal v) && nat_le (nat_abs v) (nat_abs limit)) v z h in
     let tests = and_parts (bytes_eq w (signed_decimal v)) (nat_le (nat_abs v) (nat_abs limit)) c.0 in
-    subst (λ (y : ℤ). (w ≡ signed_decimal y) × IsInRange y) c.1 ((bytes_eq-Decides w (signed_decimal v)).0 tests.0, within v tests.1)
+    subst (λ (y : ℤ). (w ≡ signed_decimal y) × IsInRange y) c.1 ((bytes_eq-Decides w (signed_decimal v)).0 tests.0, within_range v tests.1)
 
 -- ---- what is written is read
 
@@ -72,6 +76,7 @@ value_again : (z : ℤ) → nat_abs z ≤ nat_abs limit → signed_digits_value 
 value_again (pos n) le = plain_value (decimal n) n (first_digit n (omega arith)) (decimal_is_IsNumeral n (omega arith)).1
 value_again (negsuc n) le = ap (λ (m : ℕ). neg_ℤ (pos m)) (decimal_is_IsNumeral (suc n) (omega arith)).1
 
+-- the decimal text of a number in range is read to this number
 pub coordinate_again : (z : ℤ) → IsInRange z → coordinate_in (signed_decimal z) ≡ Some z
 unfolding coordinate_in
 coordinate_again z h =
@@ -106,5 +111,5 @@ not_parsed w r parses err = none_where (coordinate_in w) (λ z e.
     cc (err, ok))
 
 -- a coordinate is handed on as it is
-pub handed : (z : ℤ) → IsInRange z → to_z w64 (of_z w64 z) ≡ z
-handed z range = to_z-of_z w64 z (fits_signed_from_abs w64 z (few z range))
+pub handed_on_as_is : (z : ℤ) → IsInRange z → to_z w64 (of_z w64 z) ≡ z
+handed_on_as_is z range = to_z-of_z w64 z (fits_signed_from_abs w64 z (few z range))

@@ -36,6 +36,7 @@ chosen-none k false h = refl
 rest_is : (xs : List ℕ) (i : ℕ) → take (length xs - (i + 1)) (drop (i + 1) xs) ≡ drop (i + 1) xs
 rest_is xs i = grind (arith, take_all, length-drop)
 
+-- a text without a line feed is all one line, with nothing after it
 pub no_line_end : (xs : List ℕ) → position is_line_feed xs ≡ None → plan_lines xs ≡ xs ∷ []
 no_line_end xs h = grind (arith, slice_split_none, fails_before_first, nat_tests, chosen-none)
 
@@ -48,6 +49,7 @@ cut_at : (xs : List ℕ) (i : ℕ) → position is_line_feed xs ≡ Some i
     × (is_line_feed (get_or xs i 0) ≡ true)
 cut_at xs i h = grind (arith, slice_split_first, split_at_first, passes_at_first, rest_is, nat_tests, chosen-some)
 
+-- the bytes before the first line feed of a text are its first line, and those after it the rest
 pub takes_line : (xs : List ℕ) (i : ℕ) → position is_line_feed xs ≡ Some i → TakesPlanLine xs (take i xs) (take (length xs - (i + 1)) (drop (i + 1) xs))
 takes_line xs i h =
     let c = cut_at xs i h in
@@ -69,11 +71,12 @@ other_head text line rest takes other =
     rw (cut, more, other) refl
 
 -- a text with the first line of a plan
-pub headed : (text line rest : List ℕ) → TakesPlanLine text line rest → bytes_eq line country_head ≡ true → text ≡ country_head ++ (10 ∷ rest)
-headed text line rest takes is = takes.parts ∙ ap (λ (w : List ℕ). w ++ (10 ∷ rest)) ((bytes_eq-Decides line country_head).0 is)
+pub text_with_head : (text line rest : List ℕ) → TakesPlanLine text line rest → bytes_eq line country_head ≡ true → text ≡ country_head ++ (10 ∷ rest)
+text_with_head text line rest takes is = takes.parts ∙ ap (λ (w : List ℕ). w ++ (10 ∷ rest)) ((bytes_eq-Decides line country_head).0 is)
 
 -- ---- from line to line
 
+-- a draft of no lines that owes the whole country has the whole text still to read, from line 2
 pub reading_first : (start : List ℕ) (d : Draft) → owing_of d ≡ owing_first → IsDraftOf [] d → IsReading start start 2 d
 unfolding tree_lines_text
 reading_first start d owing begun = record { said = []; begun = begun; parts = refl; faults = ap (λ (o : Owing). plan_fault_from 2 o (plan_lines start)) (sym owing); room = omega arith }
@@ -95,8 +98,8 @@ reading_more start rest line after n d e r takes owing with =
     }
 
 -- the rest gets shorter
-pub shorter : (rest line after : List ℕ) → TakesPlanLine rest line after → length after < length rest
-shorter rest line after takes = omega (arith, ap (λ (w : List ℕ). length w) takes.parts, length-append line (10 ∷ after))
+pub rest_gets_shorter : (rest line after : List ℕ) → TakesPlanLine rest line after → length after < length rest
+rest_gets_shorter rest line after takes = omega (arith, ap (λ (w : List ℕ). length w) takes.parts, length-append line (10 ∷ after))
 
 -- a line that can't stand
 pub reading_fault : (start rest line after : List ℕ) (n : ℕ) (d : Draft) → IsReading start rest n d → TakesPlanLine rest line after → None ≡ owing_with (owing_of d) line
@@ -116,13 +119,14 @@ ended_plan said d begun none = begun_end said d.names d.tiles.items (rw none at 
 made_of : (t : Tree) (p : PlanParts) (names : List (List ℕ)) (tiles : List Box4) → p.names ≡ names → p.tiles ≡ tiles → IsPlanOf t (record { names = names; tiles = tiles }) → IsPlanOf t p
 made_of t p names tiles n b h = record { fits = h.fits; names = n ∙ h.names; tiles = b ∙ h.tiles }
 
-pub ends : {A : Type 0} (rooms : List A) (rest : List ℕ) → (eqb (length rooms) 0 && eqb (length rest) 0) ≡ true → (rooms ≡ []) × (rest ≡ [])
-ends [] [] h = (refl, refl)
-ends [] (b ∷ rest) h = absurd (some (length rest) h)
+-- where the test for the end is true, no room is owed and no text is left
+pub nothing_is_left : {A : Type 0} (rooms : List A) (rest : List ℕ) → (eqb (length rooms) 0 && eqb (length rest) 0) ≡ true → (rooms ≡ []) × (rest ≡ [])
+nothing_is_left [] [] h = (refl, refl)
+nothing_is_left [] (b ∷ rest) h = absurd (some (length rest) h)
   where
     some : (n : ℕ) → eqb (suc n) 0 ≡ true → ⊥
     some n h = grind (arith, nat_tests)
-ends (r ∷ rooms) rest h = absurd (some (length rooms) (eqb (length rest) 0) h)
+nothing_is_left (r ∷ rooms) rest h = absurd (some (length rooms) (eqb (length rest) 0) h)
   where
     some : (n : ℕ) (t : Bool) → (eqb (suc n) 0 && t) ≡ true → ⊥
     some n t h = grind (arith, nat_tests)
@@ -139,6 +143,7 @@ reading_ends start rest n d p r e =
       r.parts ∙ ap (λ (w : List ℕ). tree_lines_text r.said ++ w) e.none ∙ append-nil (tree_lines_text r.said) ∙ sym (ap tree_lines_text t.1),
     )
 
+-- where a reading ends with a plan, this is the plan of all lines from its start
 pub reading_done : (r : Result PlanParts PlanFault) (start rest : List ℕ) (n : ℕ) (d : Draft) → IsReading start rest n d → IfOk r (λ p. IsEnded d rest p) → IfOk r (λ p. IsPlanOfLines start p)
 reading_done (Ok p) start rest n d r e = reading_ends start rest n d p r e
 reading_done (Err f) start rest n d r e = tt
@@ -150,12 +155,14 @@ end_faults n o rest last some = rw (last, some) refl
 
 -- ---- the whole text
 
+-- a plan of the lines after the head is that of a tree of which the whole is the text
 pub found_plan : (r : Result PlanParts PlanFault) (text rest : List ℕ) → text ≡ country_head ++ (10 ∷ rest)
     → IfOk r (λ p. IsPlanOfLines rest p) → IfOk r (λ p. (t : Tree) × IsCountryText text t × IsPlanOf t p)
 unfolding country_text
 found_plan (Ok p) text rest e h = (h.0, record { fits = h.1.fits; is = e ∙ ap (λ (w : List ℕ). country_head ++ (10 ∷ w)) h.2 }, h.1)
 found_plan (Err f) text rest e h = tt
 
+-- the first fault of what comes after the head is the first fault of the whole text
 pub fault_found : (r : Result PlanParts PlanFault) (text rest : List ℕ) → text ≡ country_head ++ (10 ∷ rest)
     → IfErr r (λ f. PlanFaultFrom f 2 owing_first rest) → IfErr r (λ f. IsFirstPlanFault f text)
 fault_found (Ok p) text rest e h = tt

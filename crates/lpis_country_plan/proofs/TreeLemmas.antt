@@ -15,6 +15,7 @@ as_many_tiles (folder name) b = refl
 as_many_tiles (by_x c s t) b = joined (folders s) (folders t) (rectangles (tiling_of s) _) (rectangles (tiling_of t) _) (as_many_tiles s _) (as_many_tiles t _)
 as_many_tiles (by_y c s t) b = joined (folders s) (folders t) (rectangles (tiling_of s) _) (rectangles (tiling_of t) _) (as_many_tiles s _) (as_many_tiles t _)
 
+-- the names that lines and further lines say are those of the first, and then those of the others
 pub names_said-append : (ls ms : List TreeLine) → names_said (ls ++ ms) ≡ names_said ls ++ names_said ms
 names_said-append [] ms = refl
 names_said-append (x_line c ∷ ls) ms = names_said-append ls ms
