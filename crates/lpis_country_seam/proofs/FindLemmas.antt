@@ -38,6 +38,7 @@ row-found now id keys xs rows at i r same own is found lent =
     item now xs i r lent ∙ ap (λ (l : List KeptRow). slice_get l i) same
     ∙ ap (λ (k : ℕ). slice_get rows k) (sym (place (same_id id) (row_ids rows) i (ap (position (same_id id)) (sym own) ∙ sym is ∙ found)) ∙ by-ids id rows) ∙ sym (find_at (has id) rows)
 
+-- where an identifier has no index, there is no kept row of it
 pub row-missing : (id : List ℕ) (keys : List (List ℕ)) (rows : List KeptRow) (at : Option ℕ) → keys ≡ row_ids rows → at ≡ position (same_id id) keys → at ≡ None → None ≡ row_named rows id
 row-missing id keys rows at own is missing =
     let past : length rows ≤ position_or_len (has id) rows = let h = no-place (same_id id) (row_ids rows) (ap (position (same_id id)) (sym own) ∙ sym is

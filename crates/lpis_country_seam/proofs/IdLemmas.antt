@@ -11,6 +11,7 @@ use Rattle.lpis_country.specs.Country.{is_new, new_parcels, with_region}
 use Rattle.lpis_country_seam.proofs.ListLemmas.{same-sym}
 
 -- ---- a set whose order compares the bytes
+-- an identifier is among others by the order of their bytes exactly where it is by their equality
 pub has-by-order : (ids : List (List ℕ)) (q : List ℕ) → list_any (λ k. is_eq (slice_cmp nat_cmp q k)) ids ≡ has_id ids q
 has-by-order [] q = refl
 has-by-order (x ∷ xs) q = ap (λ (b : Bool). b || list_any (λ k. is_eq (slice_cmp nat_cmp q k)) xs) (sym (texts_ties q x)) ∙ ap (λ (b : Bool). same_id q x || b) (has-by-order xs q)
@@ -37,6 +38,7 @@ none_left false t h = h
 abbrev pub Adding : List (List ℕ) → List (List ℕ) → List Parcel → ℕ → Type 0
 Adding ids more parcels i = (q : List ℕ) → (has_id more q || has_id (parcel_ids (drop i parcels)) q) ≡ (has_id ids q || has_id (parcel_ids parcels) q)
 
+-- with the identifier of the next parcel added, what was added and what is left are still the same together
 pub adding_more : (ids old new : List (List ℕ)) (parcels : List Parcel) (i : ℕ) (k : Parcel) → i < length parcels → k ≡ get_or parcels i k
     → ((q : List ℕ) → has_id new q ≡ cond (same_id k.id q) true (has_id old q)) → Adding ids old parcels i → Adding ids new parcels (i + 1)
 adding_more ids old new parcels i k l e added h q =
@@ -45,6 +47,7 @@ adding_more ids old new parcels i k l e added h q =
     ∙ one_on (same_id q k.id) (has_id old q) (has_id (parcel_ids (drop (i + 1) parcels)) q) (has_id ids q || has_id (parcel_ids parcels) q)
     (sym (ap (λ (ps : List Parcel). has_id old q || has_id (parcel_ids ps) q) (drop_more parcels i k l ∙ ap (λ (x : Parcel). x ∷ drop (i + 1) parcels) (sym e))) ∙ h q)
 
+-- past the last parcel the set has what it had at first and the identifiers of all parcels
 pub adding_ends : (ids more : List (List ℕ)) (parcels : List Parcel) (i : ℕ) → length parcels ≤ i → Adding ids more parcels i → (q : List ℕ)
     → has_id more q ≡ (has_id ids q || has_id (parcel_ids parcels) q)
 adding_ends ids more parcels i l h q = none_left (has_id more q) (has_id ids q || has_id (parcel_ids parcels) q)
@@ -77,6 +80,7 @@ ids_fresh u q (k ∷ ps) =
     left : same_id q k.id ≡ true → is_new u k.id ≡ false → has_id (parcel_ids u.parcels) q ≡ true
     left s n = ap (has_id (parcel_ids u.parcels)) ((bytes_decides q k.id).0 s) ∙ not_not (has_id (parcel_ids u.parcels) k.id) n
 
+-- the identifiers of a country with one region more are those that it had and those of the region
 pub ids-next : (u r : Contents) (q : List ℕ) → has_id (parcel_ids (with_region u r).parcels) q ≡ (has_id (parcel_ids u.parcels) q || has_id (parcel_ids r.parcels) q)
 ids-next u r q = ap (λ (ids : List (List ℕ)). has_id ids q) (map-append (λ (k : Parcel). k.id) u.parcels (new_parcels u r))
     ∙ list_any-append (same_id q) (parcel_ids u.parcels) (parcel_ids (new_parcels u r)) ∙ ids_fresh u q r.parcels

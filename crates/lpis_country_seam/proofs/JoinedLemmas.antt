@@ -165,6 +165,7 @@ fits tell tiles classes done r e = record {
     rows : All IsFaultless r.parcels
     rows = all_nil (seam_row_faults tiles n u r) r.parcels (first_nil (flat_map (seam_row_faults tiles n u r) r.parcels) _ rest)
 
+-- sound regions without a fault of the seam, one a tile, make up a sound country
 pub joined_is_sound : TestsTellEqualRows → (tiling : Tiling) (classes : List Class) (regions : List Contents) → AreJoined (rectangles tiling frame) classes regions → All IsSoundMap regions
     → length regions ≡ length (rectangles tiling frame) → IsSoundMap (country_of classes regions)
 joined_is_sound tell tiling classes regions j s e =

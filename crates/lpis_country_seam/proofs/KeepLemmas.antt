@@ -131,8 +131,9 @@ place-more tiles r kept rows more places i p l e m h =
     ∙ with-rows-append rows (new_rows tiles r (option_to_list (slice_get r.parcels p))) (new_rows tiles r (at_places r.parcels (drop (i + 1) places)))
     ∙ ap (λ (xs : List KeptRow). with_rows xs (new_rows tiles r (at_places r.parcels (drop (i + 1) places)))) (sym m)
 
-pub placed : (ps : List Parcel) (places : List ℕ) (ks : List Parcel) → map (slice_get ps) places ≡ map Some ks → at_places ps places ≡ ks
-placed ps places ks e = items places ∙ ap (flat_map option_to_list) e ∙ back ks
+-- where places have these parcels one by one, the parcels at the places are these
+pub parcels-at-places : (ps : List Parcel) (places : List ℕ) (ks : List Parcel) → map (slice_get ps) places ≡ map Some ks → at_places ps places ≡ ks
+parcels-at-places ps places ks e = items places ∙ ap (flat_map option_to_list) e ∙ back ks
   where
     items : (is : List ℕ) → at_places ps is ≡ flat_map option_to_list (map (slice_get ps) is)
     items [] = refl

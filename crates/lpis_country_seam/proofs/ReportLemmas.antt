@@ -20,16 +20,20 @@ use Rattle.lpis_country_seam.specs.Faults.{IsFirstSeamFault, reached, reaches_ow
 use Rattle.lpis_country_seam.specs.private.Testing.{fresh_faults, known_faults, row_named, tested_row}
 use Rattle.lpis_country_seam.proofs.ListLemmas.{has-found, head-is, no-head}
 
+-- the fault is the first of these, or reports that memory ran out
 abbrev pub Told : List SeamFault → SeamFault → Type 0
 Told fs f = (f ≡ Memory) ⊎ IsFirstSeamFault fs f
 
+-- a fault that is reported of some faults is reported of them with others after them
 pub told-left : (fs gs : List SeamFault) (f : SeamFault) → Told fs f → Told (fs ++ gs) f
 told-left fs gs f (inl e) = inl e
 told-left fs gs f (inr h) = inr (h.0 ++ gs, ap (λ (hs : List SeamFault). hs ++ gs) h.1)
 
+-- a fault that is reported of some faults is reported of them with an empty list before them
 pub told-right : (fs gs : List SeamFault) (f : SeamFault) → fs ≡ [] → Told gs f → Told (fs ++ gs) f
 told-right fs gs f e h = subst (λ (hs : List SeamFault). Told (hs ++ gs) f) (sym e) h
 
+-- a fault that is reported of some faults is reported of an equal list
 pub told-alike : (fs gs : List SeamFault) (f : SeamFault) → fs ≡ gs → Told gs f → Told fs f
 told-alike fs gs f e h = subst (λ (hs : List SeamFault). Told hs f) (sym e) h
 
@@ -44,6 +48,7 @@ no-length : {A : Type 0} (xs : List A) → length xs ≡ 0 → xs ≡ []
 no-length [] e = refl
 no-length (x ∷ xs) e = absurd (omega (arith, e))
 
+-- where the other table of classes ends before a row, and no fault came before, this row is the first fault
 pub classes-short : (own all rest : List Class) (k : ℕ) → seam_class_faults 1 own all ≡ seam_class_faults (k + 1) (drop k own) rest → k < length own → length rest ≡ 0
     → Told (seam_class_faults 1 own all) (Classes (k + 1))
 classes-short own all rest k e l n =
@@ -55,18 +60,21 @@ classes-more : (own : List Class) (k : ℕ) (a b : Class) (others : List Class) 
 classes-more own k a b others l e = ap (λ (xs : List Class). seam_class_faults (k + 1) xs (b ∷ others)) (drop_more own k a l ∙ ap (λ (x : Class). x ∷ drop (k + 1) own) (sym e))
 
 -- ---- one row
+-- a new parcel's first fault is that the first earlier tile that its box meets lacks it
 pub fresh-first : (tiles : List Box4) (n : ℕ) (k : Parcel) (region : ℕ) (f : SeamFault) → Some region ≡ slice_get (reached 0 (take n tiles) k) 0 → f ≡ At Lacks k.id region
     → Told (fresh_faults tiles n k) f
 fresh-first tiles n k region f e g =
     let h = head-is (reached 0 (take n tiles) k) region (sym e) in
     inr (map (At Lacks k.id) h.0, ap (map (At Lacks k.id)) h.1 ∙ ap (λ (x : SeamFault). x ∷ map (At Lacks k.id) h.0) (sym g))
 
+-- a new parcel whose box meets no tile before is lacking in none of them
 pub fresh-none : (tiles : List Box4) (n : ℕ) (k : Parcel) → None ≡ slice_get (reached 0 (take n tiles) k) 0 → fresh_faults tiles n k ≡ []
 fresh-none tiles n k e = ap (map (At Lacks k.id)) (no-head (reached 0 (take n tiles) k) (sym e))
 
-pub elsewhere : (tiles : List Box4) (n : ℕ) (ids : List (List ℕ)) (kept : List KeptRow) (r : Contents) (k : Parcel) (f : SeamFault) → reaches_own tiles n k ≡ false → f ≡ At Elsewhere k.id n
+-- where a parcel's box does not meet the region's own tile, this is the first fault of its row
+pub elsewhere-is-first : (tiles : List Box4) (n : ℕ) (ids : List (List ℕ)) (kept : List KeptRow) (r : Contents) (k : Parcel) (f : SeamFault) → reaches_own tiles n k ≡ false → f ≡ At Elsewhere k.id n
     → Told (tested_row tiles n ids kept r k) f
-elsewhere tiles n ids kept r k f e g = told-alike (tested_row tiles n ids kept r k) (f ∷ more) f
+elsewhere-is-first tiles n ids kept r k f e g = told-alike (tested_row tiles n ids kept r k) (f ∷ more) f
     (ap (λ (b : Bool). seam_fault_if (not b) (At Elsewhere k.id n) ++ more) e ∙ ap (λ (x : SeamFault). x ∷ more) (sym g)) (inr (more, refl))
   where
     more : List SeamFault
@@ -80,6 +88,7 @@ some-kept : {R : Type 0} (now : R → Parcel) (o : Option R) → is_some (option
 some-kept now None = refl
 some-kept now (Some x) = refl
 
+-- a parcel whose box meets the tile is lacking exactly where the region finds none of its identifier
 pub lack-told : {R : Type 0} (now : R → Parcel) (o : Option R) (own b : Bool) (r : Contents) (id : List ℕ) → own ≡ true → option_map now o ≡ parcel_named r id → is_some o ≡ not b
     → b ≡ (own && not (has_id (parcel_ids r.parcels) id))
 lack-told now o own b r id e f g =
@@ -89,10 +98,12 @@ lack-told now o own b r id e f g =
 rows-at : (F : Parcel → List SeamFault) (ps : List Parcel) (k : ℕ) (p : Parcel) → k < length ps → p ≡ get_or ps k p → flat_map F (drop k ps) ≡ F p ++ flat_map F (drop (k + 1) ps)
 rows-at F ps k p l e = ap (flat_map F) (drop_more ps k p l ∙ ap (λ (x : Parcel). x ∷ drop (k + 1) ps) (sym e))
 
+-- a fault of row k is reported of all rows, where the rows before it have none
 pub rows-told : (F : Parcel → List SeamFault) (ps : List Parcel) (k : ℕ) (p : Parcel) (f : SeamFault) → k < length ps → p ≡ get_or ps k p → flat_map F ps ≡ flat_map F (drop k ps) → Told (F p) f
     → Told (flat_map F ps) f
 rows-told F ps k p f l e i h = told-alike (flat_map F ps) (F p ++ flat_map F (drop (k + 1) ps)) f (i ∙ rows-at F ps k p l e) (told-left (F p) (flat_map F (drop (k + 1) ps)) f h)
 
+-- where row k has no fault either, the faults of all rows are those of the rows after it
 pub rows-more : (F : Parcel → List SeamFault) (ps : List Parcel) (k : ℕ) (p : Parcel) → k < length ps → p ≡ get_or ps k p → flat_map F ps ≡ flat_map F (drop k ps) → F p ≡ []
     → flat_map F ps ≡ flat_map F (drop (k + 1) ps)
 rows-more F ps k p l e i n = i ∙ rows-at F ps k p l e ∙ ap (λ (fs : List SeamFault). fs ++ flat_map F (drop (k + 1) ps)) n

@@ -23,7 +23,7 @@ use Rattle.lpis_country_seam.specs.private.Kept.{at_places, new_rows, rows_reach
 use Rattle.lpis_country_seam.specs.private.Stepping.{IsKeptNext, tested}
 use Rattle.lpis_country_seam.specs.private.Testing.{is_fresh, tested_kept, tested_row}
 use Rattle.lpis_country_seam.proofs.IdLemmas.{ids-next}
-use Rattle.lpis_country_seam.proofs.KeepLemmas.{kept-next, placed}
+use Rattle.lpis_country_seam.proofs.KeepLemmas.{kept-next, parcels-at-places}
 use Rattle.lpis_country_seam.proofs.ListLemmas.{cons-nil, nil-left, nil-right}
 use Rattle.lpis_country_seam.proofs.TestLemmas.{kept-same, row-same, rows-same}
 
@@ -61,6 +61,7 @@ classes-same n (x ∷ xs) (y ∷ ys) e = by (same_class x y) refl (nil-left (sea
     by false f g h = absurd (cons-nil (Classes n) [] g)
 
 -- ---- regions that are joined
+-- no regions at all are joined
 pub none-joined : (tiles : List Box4) (ks : List Class) → AreJoined tiles ks []
 none-joined tiles ks = record {
   regions_are = All-nil IsRegion;
@@ -91,6 +92,7 @@ kept-tested : (tiles ts : List Box4) (n m : ℕ) (kept : List KeptRow) (u r : Co
     → tested_kept ts m kept r ≡ map (λ (k : Parcel). At Lacks k.id n) (filter (is_lacking tiles n r) u.parcels)
 kept-tested tiles ts n m kept u r e f h = ap₂ (λ (a : List Box4) (b : ℕ). tested_kept a b kept r) e f ∙ kept-same tiles n kept u r h
 
+-- the faults that a seam of regions finds in the next one are those that the region has after them
 pub seam-tested : (tiles : List Box4) (ks : List Class) (done : List Contents) (s : OpenSeam) (r : Contents) → IsSeamOf tiles ks done s → tested s r ≡ seam_faults tiles ks done r
 seam-tested tiles ks done s r h =
     ap₂ ◌++◌ (ap (seam_class_faults 1 r.classes) h.classes_are)
@@ -103,6 +105,7 @@ fresh-new : (tiles : List Box4) (ks : List Class) (done : List Contents) (s : Op
     → filter (is_fresh s.ids) r.parcels ≡ new_parcels (country_of ks done) r
 fresh-new tiles ks done s r h = filter_agree (is_fresh s.ids) (λ (k : Parcel). is_new (country_of ks done) k.id) (λ k. ap not (h.ids_are k.id)) r.parcels
 
+-- the places of the parcels that are new to the seam are those of the parcels that are new to the country
 pub seam-places : (tiles : List Box4) (ks : List Class) (done : List Contents) (s : OpenSeam) (r : Contents) (places : List ℕ) → IsSeamOf tiles ks done s
     → map (slice_get r.parcels) places ≡ map Some (filter (is_fresh s.ids) r.parcels)
     → map (slice_get r.parcels) places ≡ map Some (new_parcels (country_of ks done) r)
@@ -117,6 +120,7 @@ kept-so tiles ts n m kept next r news e f h =
     one-more : (a b : ℕ) → a ≡ b → a + 1 ≡ suc b
     one-more a b g = omega (arith, g)
 
+-- a seam with a faultless region more is that of the regions with this one at the end
 pub seam-goes-on : (tiles : List Box4) (ks : List Class) (done : List Contents) (s next : OpenSeam) (r : Contents) (places : List ℕ) → IsSeamOf tiles ks done s → IsKeptNext s next r places
     → tested s r ≡ []
     → map (slice_get r.parcels) places ≡ map Some (filter (is_fresh s.ids) r.parcels) → IsRegion r → IsSeamOf tiles ks (done ++ r ∷ []) next
@@ -130,7 +134,7 @@ seam-goes-on tiles ks done s next r places h k e p g = record {
       (All-weaker (IsAmong u.parcels) (λ (x : Parcel). pieces_named (with_region u r) x.id ≡ pieces_named u x.id) (λ x a. old_pieces u r x a) u.parcels (All-contains_itself u.parcels))
       (All-weaker (IsAmong (new_parcels u r)) (λ (x : Parcel). pieces_named (with_region u r) x.id ≡ pieces_named r x.id) (λ x a. fresh_pieces u r x region a) (new_parcels u r)
       (All-contains_itself (new_parcels u r)))
-      h.rows_are (placed r.parcels places (filter (is_fresh s.ids) r.parcels) p ∙ fresh-new tiles ks done s r h)
+      h.rows_are (parcels-at-places r.parcels places (filter (is_fresh s.ids) r.parcels) p ∙ fresh-new tiles ks done s r h)
       (kept-so tiles s.tiles.items (length done) s.next s.kept next.kept r (at_places r.parcels places) h.tiles_are h.number k.rows)
       ∙ ap₂ (λ (n : ℕ) (w : Contents). awaited_rows tiles n w) (more (length done) ∙ sym (length-append done (r ∷ []))) (sym (country_snoc ks done r));
   joined = joined-more tiles ks done r h.joined g (sym (seam-tested tiles ks done s r h) ∙ e);

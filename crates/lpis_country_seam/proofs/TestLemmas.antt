@@ -15,7 +15,7 @@ use Rattle.lpis_country_seam.specs.Faults.{earlier_faults, is_double, is_lacking
 use Rattle.lpis_country_seam.specs.Open.{awaited_rows}
 use Rattle.lpis_country_seam.specs.private.Kept.{row_in}
 use Rattle.lpis_country_seam.specs.private.Testing.{fresh_faults, known_faults, row_named, tested_kept, tested_row}
-use Rattle.lpis_country_seam.proofs.ListLemmas.{Differ, clash, has-found, is_of, none-found}
+use Rattle.lpis_country_seam.proofs.ListLemmas.{Differ, not-both, has-found, is_of, none-found}
 use Rattle.lpis_country_seam.proofs.TileLemmas.{own-later}
 
 -- the kept row of a parcel, where it is one of those that are kept
@@ -51,6 +51,7 @@ by-parcel tiles n u r k b o None e h = ap (λ (t : Bool). cond t (known_faults n
 by-parcel tiles n u r k b o (Some p) e h = ap (λ (t : Bool). cond t (known_faults n r k o) (fresh_faults tiles n k)) e ∙ ap (known_faults n r k) h
     ∙ known-same tiles n u r k p (reaches_later tiles n p) refl
 
+-- a row has the same faults by what is kept as by the whole country before it
 pub row-same : (tiles : List Box4) (n : ℕ) (ids : List (List ℕ)) (kept : List KeptRow) (u r : Contents) → ((id : List ℕ) → has_id ids id ≡ has_id (parcel_ids u.parcels) id)
     → kept ≡ awaited_rows tiles n u → IsDistinct same_id (parcel_ids u.parcels)
     → (k : Parcel) → tested_row tiles n ids kept r k ≡ seam_row_faults tiles n u r k
@@ -68,7 +69,7 @@ lack-own : (tiles : List Box4) (n : ℕ) (r : Contents) (k : Parcel) → reaches
 lack-own tiles n r k e = by (reaches_own tiles n k) refl
   where
     by : (b : Bool) → reaches_own tiles n k ≡ b → (b && not (has_id (parcel_ids r.parcels) k.id)) ≡ false
-    by true f = absurd (clash (reaches_later tiles n k) (own-later k tiles n f) e)
+    by true f = absurd (not-both (reaches_later tiles n k) (own-later k tiles n f) e)
     by false f = refl
 
 abbrev lack_at : ℕ → Parcel → SeamFault
@@ -93,6 +94,7 @@ lacking-same tiles n u r (p ∷ ps) = by (reaches_later tiles n p) refl (lacking
     by true e h = own (is_lacking tiles n r p) h
     by false e h = h ∙ sym (ap (λ (t : Bool). map (lack_at n) (cond t (p ∷ filter (is_lacking tiles n r) ps) (filter (is_lacking tiles n r) ps))) (lack-own tiles n r p e))
 
+-- the faults of the kept rows that a region lacks are those of the country's parcels that it lacks
 pub kept-same : (tiles : List Box4) (n : ℕ) (kept : List KeptRow) (u r : Contents) → kept ≡ awaited_rows tiles n u
     → tested_kept tiles n kept r ≡ map (λ (k : Parcel). At Lacks k.id n) (filter (is_lacking tiles n r) u.parcels)
 kept-same tiles n kept u r h = ap (λ (rows : List KeptRow). tested_kept tiles n rows r) h ∙ lacking-same tiles n u r u.parcels
