@@ -70,6 +70,7 @@ whole-answer texts detail x b begun a h = inr (
   subst (λ (said : Result (List Class) TableFault). IsTableAnswer (λ classes. IsRegionsAnswer (setting_of texts detail begun.plan classes)) said a) (sym begun.table) h,
 )
 
+-- where a run over the regions of what was begun ends, with a yes only if all passed, so does that over the country
 pub begun_ends : (texts : List ℕ → Texts) (detail : Detail) (x : CountryInputs) (b : Begun) (begun : IsBegun x b) (r : Result ℕ CountryFailure) (old new : Option (List ℕ)) → JoinedCountryIsSound
     → IfOk r (RegionsEnd (begun_setting texts detail x b begun) old new)
     → IfOk r (λ status. status ≡ done → (all : List Contents) × HaveAllPassed (begun_setting texts detail x b begun) all)
@@ -98,6 +99,7 @@ begun-breaks-off texts detail x b begun f old new (inr (write, (text, inl (regio
 begun-breaks-off texts detail x b begun f old new (inr (write, (text, inr (status, answer), begins))) =
     inr (write, (text, inr (status, whole-answer texts detail x b begun (text, status) answer), begins))
 
+-- where a run over the regions of what was begun breaks off, so does the run over the country
 pub begun_fails : (texts : List ℕ → Texts) (detail : Detail) (x : CountryInputs) (b : Begun) (begun : IsBegun x b) (r : Result ℕ CountryFailure) (old new : Option (List ℕ))
     → IfErr r (RegionsBreakOff (begun_setting texts detail x b begun) old new) → IfErr r (λ f. CountryBreaksOff f texts detail x old new)
 begun_fails texts detail x b begun (Ok status) old new h = tt
@@ -109,6 +111,7 @@ pub ends_read : (r : Result ℕ CountryFailure) (texts : List ℕ → Texts) (de
 ends_read (Ok status) texts detail x plan classes old new told h = (x, told, h)
 ends_read (Err f) texts detail x plan classes old new told h = tt
 
+-- a run that breaks off over the inputs that two readers reported is one without an answer
 pub halts_read : (r : Result ℕ CountryFailure) (texts : List ℕ → Texts) (detail : Detail) (x : CountryInputs) (plan classes old new : Option (List ℕ)) → AreCountryRead x plan classes
     → IfErr r (λ f. CountryBreaksOff f texts detail x old new) → IfErr r (λ f. CountryHalts f texts detail plan classes old new)
 halts_read (Ok status) texts detail x plan classes old new told h = tt

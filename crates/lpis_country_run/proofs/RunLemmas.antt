@@ -71,6 +71,7 @@ appends-nothing : (old : Option (List ℕ)) → Appends old old []
 appends-nothing None = tt
 appends-nothing (Some xs) = sym (append-nil xs)
 
+-- at the start no region has passed, and nothing has been written
 pub begun_here : (s : Setting) (texts : List ℕ → Texts) (names : List (List ℕ)) (detail : Detail) (p : Progress) (old : Option (List ℕ)) → IsStart s texts names detail p → IsHere s p 0 old old
 begun_here s texts names detail p old start = record { before = []; text = []; have_passed = NonePassed; written = appends-nothing old; at = start.at; number = refl }
 
@@ -129,6 +130,7 @@ last-of P (y ∷ xs) x h = last-of P xs x (All-tail P y (xs ++ x ∷ []) h)
 counted : (q p l w n m : ℕ) → q ≡ l → l ≡ p + w → p ≤ 200000 * n → w ≤ 200000 → m ≡ n + 1 → q ≤ 200000 * m
 counted q p l w n m a b c d e = omega arith
 
+-- a progress with a region more in its seam, and its new parcels in its totals, is that of the regions with this one
 pub goes_at : (s : Setting) (before : List Contents) (r : Contents) (p q : Progress) (t : Totals) → IsAt s before p → IsSeamOf s.tiles s.classes (before ++ r ∷ []) q.seam → length r.parcels ≤ 200000
     → AreTotalsOf r (new_parcels (country_of s.classes before) r) t
     → ((x : Contents) (ks ls : List Parcel) → AreTotalsOf x ks p.totals → AreTotalsOf x ls t → AreTotalsOf x (ks ++ ls) q.totals) → IsAt s (before ++ r ∷ []) q
@@ -170,6 +172,7 @@ begun-verdict s n before lines name text lt is h (inl (r, passes, same)) =
     inl (before ++ r ∷ [], drop (n + 1) s.names, subst (λ (x : List ℕ). IsReachedBy s (before ++ r ∷ []) (lines ++ x) (drop (n + 1) s.names)) (sym same) reached)
 begun-verdict s n before lines name text lt is h (inr (status, refusal)) = inr (status, refused_next s n before lines name text status lt is h refusal)
 
+-- where the next folder is not read, or the output fails within the verdict on it, the run breaks off
 pub breaks_off : (s : Setting) (names : List (List ℕ)) (p : Progress) (n : ℕ) (old now new : Option (List ℕ)) (name : List ℕ) (failure : Failure) (f : CountryFailure) (here : IsHere s p n old now)
     → s.names ≡ names → n < length names → name ≡ get_or names n [] → IsUnwritten s here.before name now new failure → IsFailureOf failure name f → RegionsBreakOff s old new f
 breaks_off s names p n old now new name failure f here are lt is (inl (unread, keeps)) of =
@@ -198,11 +201,13 @@ pub last_are : (s : Setting) (regions : List Contents) (p : Progress) (n : ℕ) 
 last_are s regions p n at e =
     last_lines_are n (length regions) (country_of s.classes regions) p.totals (country_is_region s.classes regions at.seam.joined.regions_are) at.totals e
 
+-- where the country's lines were written and the status is that of a yes, the run is finished
 pub finishes : (s : Setting) (regions : List Contents) (r : Result ℕ Failure) (old new : Option (List ℕ)) (text : List ℕ) (status : ℕ)
     → text ≡ country_lines (length regions) (country_of s.classes regions) → status ≡ done → IfOk r (λ (n : ℕ). n ≡ status) → OnOk r (Appends old new text) → IfOk r (IsFinished s regions old new)
 finishes s regions (Ok n) old new text status is ends same written = record { done_is = same ∙ ends; written = subst (Appends old new) is written }
 finishes s regions (Err f) old new text status is ends same written = tt
 
+-- where the output failed within the country's lines, the run is not finished
 pub finishes_not : (s : Setting) (regions : List Contents) (r : Result ℕ Failure) (old new : Option (List ℕ)) (text : List ℕ) → text ≡ country_lines (length regions) (country_of s.classes regions)
     → IfErr r (λ (f : Failure). (f ≡ Write Out) × Begins old new text) → IfErr r (IsUnfinished s regions old new)
 finishes_not s regions (Ok n) old new text is h = tt
@@ -218,6 +223,7 @@ all-reached s names p n old now here are e =
     drop-all [] = refl
     drop-all (x ∷ xs) = drop-all xs
 
+-- after all regions passed, a run that is finished ends with its status
 pub all_end : (s : Setting) (names : List (List ℕ)) (p : Progress) (n status : ℕ) (old now new : Option (List ℕ)) (here : IsHere s p n old now) → s.names ≡ names → n ≡ length names
     → IsFinished s here.before now new status → RegionsEnd s old new status
 all_end s names p n status old now new here are e fin = (
@@ -234,6 +240,7 @@ all_end s names p n status old now new here are e fin = (
   appends-more old now new here.text (country_lines (length here.before) (country_of s.classes here.before)) here.written fin.written,
 )
 
+-- after all regions passed, a run that is not finished breaks off
 pub all_break_off : (s : Setting) (names : List (List ℕ)) (p : Progress) (n : ℕ) (old now new : Option (List ℕ)) (failure : Failure) (f : CountryFailure) (here : IsHere s p n old now) → s.names ≡ names
     → n ≡ length names → IsUnfinished s here.before now new failure → IsOfNone f failure → RegionsBreakOff s old new f
 all_break_off s names p n old now new failure f here are e (inl (memory, keeps)) of =
@@ -252,6 +259,7 @@ all_break_off s names p n old now new failure f here are e (inr (write, begins))
     let begun = begins-more old now new here.text (country_lines (length here.before) (country_of s.classes here.before)) here.written begins in
     inr (subst (λ (x : Failure). IsOfNone f x) write of, (text, inr (done, whole), begun))
 
+-- where as many regions passed as there are folders, those of all folders passed, and they are joined
 pub all_passed : (s : Setting) (names : List (List ℕ)) (p : Progress) (n : ℕ) (old now : Option (List ℕ)) (here : IsHere s p n old now) → s.names ≡ names → n ≡ length names
     → HaveAllPassed s here.before
 all_passed s names p n old now here are e =
@@ -270,5 +278,6 @@ err_is (Err e) P Q h f = f e h
 pub ok_is : {A E : Type 0} (P : A → Type 0) (r : Result A E) (x : A) → r ≡ Ok x → IfOk r P → P x
 ok_is P r x e h = subst (λ z. IfOk z P) e h
 
+-- what holds of the error of an answer holds of the one that the answer is known to have
 pub fault_is : {A E : Type 0} (P : E → Type 0) (r : Result A E) (e : E) → r ≡ Err e → IfErr r P → P e
 fault_is P r e is h = subst (λ z. IfErr z P) is h

@@ -54,9 +54,11 @@ totals_more r ks i k d s t u lt is plus a b =
 pub area_fits : (x y n k : ℕ) → x ≤ most_area * n → y ≤ most_area * k → n + k ≤ most_parcels → x + y ≤ most_printed
 area_fits x y n k h l few = omega arith
 
+-- the weighted areas of as many parcels as a country can have are printed
 pub weighted_fits : (x y n k : ℕ) → x ≤ most_weighted * n → y ≤ most_weighted * k → n + k ≤ most_parcels → x + y ≤ most_printed
 weighted_fits x y n k h l few = omega arith
 
+-- the areas of bounded totals, of no more parcels than a country can have, can be printed
 pub printable : (t : Totals) → IsBounded t → t.parcels ≤ most_parcels → IsPrintable t
 printable t b few = record {
   area = let h = area_fits (nat_abs t.areas.area) 0 t.parcels 0 b.area (omega arith) (omega (arith, few)) in omega (arith, h);
@@ -69,11 +71,13 @@ few-named r id few =
     let all = length-filter_both (names_parcel id) (λ (x : Piece). not (names_parcel id x)) (λ x. refl) r.pieces in
     omega (arith, all, few)
 
+-- a number that is at most that of a parcel's pieces is at most that of a table's rows
 pub few_pieces : (r : Contents) (id : List ℕ) (xs : List Piece) (n : ℕ) → xs ≡ pieces_named r id → length r.pieces ≤ most_rows → n ≤ length xs → n ≤ most_rows
 few_pieces r id xs n is few h = omega (arith, few-named r id few, ap length is, h)
 
-pub countable : (r : Contents) (id : List ℕ) (xs : List Piece) → xs ≡ pieces_named r id → length r.pieces ≤ most_rows → 0 + length xs < 2 ^ 64
-countable r id xs is few = omega (arith, few-named r id few, ap length is)
+-- the number of a parcel's pieces fits into 64 bits
+pub pieces_can_be_counted : (r : Contents) (id : List ℕ) (xs : List Piece) → xs ≡ pieces_named r id → length r.pieces ≤ most_rows → 0 + length xs < 2 ^ 64
+pieces_can_be_counted r id xs is few = omega (arith, few-named r id few, ap length is)
 
 -- the new parcels of a region are few
 pub few_new : (u r : Contents) (n : ℕ) → length r.parcels ≤ n → length (new_parcels u r) ≤ n
@@ -85,6 +89,7 @@ few_new u r n few =
 pub few_places : (u r : Contents) (places : List ℕ) → AreAt r places (new_parcels u r) → length r.parcels ≤ most_rows → length places ≤ most_rows
 few_places u r places at few = let long = few_new u r most_rows few in let same = as_many_places r.parcels places (new_parcels u r) at in omega (arith, long, same)
 
+-- the totals of a region's new parcels can be added to a country's that has room for a full table more
 pub addable : (u r : Contents) (ks : List Parcel) (s t : Totals) → AreTotalsOf u ks s → AreTotalsOf r (new_parcels u r) t → length r.parcels ≤ most_rows → s.parcels + most_rows ≤ most_parcels → AreAddable s t
 addable u r ks s t a b few room = record {
   first = bounded_of u ks s a;
