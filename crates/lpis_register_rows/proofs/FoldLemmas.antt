@@ -9,11 +9,13 @@ abbrev pub rev_onto : {A : Type 0} → List A → List A → List A
 rev_onto [] ys = ys
 rev_onto (x ∷ xs) ys = rev_onto xs (x ∷ ys)
 
+-- a list put before another, last item first, gives an order of the two joined
 pub rev-moved : {A : Type 0} (xs ys : List A) → IsPermutation (xs ++ ys) (rev_onto xs ys)
 rev-moved [] ys = IsPermutation-refl ys
 rev-moved (x ∷ xs) ys = IsPermutation-trans (x ∷ (xs ++ ys)) (xs ++ x ∷ ys) (rev_onto xs (x ∷ ys))
     (IsPermutation-sym (xs ++ x ∷ ys) (x ∷ (xs ++ ys)) (IsPermutation-middle xs x ys)) (rev-moved xs (x ∷ ys))
 
+-- the row of an identifier that is live from a year on
 abbrev pub fresh_span : ℤ → List ℕ → StoredSpan
 fresh_span y id = record { id = id; since = y; until = pos 0 }
 
@@ -29,6 +31,7 @@ spans-made : (y : ℤ) (ids : List (List ℕ)) (c : Content) → with_spans y id
 spans-made y [] c = refl
 spans-made y (id ∷ ids) c = spans-made y ids (with_span y c id)
 
+-- writing whole spans changes no other table: they come before the rows that are there, last one first
 pub whole-spans-made : (spans : List StoredSpan) (c : Content) → with_whole_spans spans c ≡ record c { spans = rev_onto spans c.spans }
 whole-spans-made [] c = refl
 whole-spans-made (s ∷ ss) c = whole-spans-made ss (record c { spans = s ∷ c.spans })

@@ -21,11 +21,13 @@ contained-has (x ∷ xs) q h = by (contained-has xs q) (same_id q x) refl h wher
   by ih true e h = (0, omega arith, sym (same-exact q x (sym e)))
   by ih false e h = let c = ih h in (suc c.0, (let lt = c.1 in omega (arith, lt)), c.2)
 
+-- a list has the same identifiers once repeats are dropped
 pub has-dedup : (xs : List (List ℕ)) (q : List ℕ) → has_id (dedup same_id xs) q ≡ has_id xs q
 has-dedup xs q = both_ways (has_id (dedup same_id xs) q) (has_id xs q)
     (λ h. has-contained xs q (Contains-from_dedup same_id xs q (contained-has (dedup same_id xs) q h)))
     (λ h. has-contained (dedup same_id xs) q (Contains-dedup nat_list_eq_equiv same-exact xs q (contained-has xs q h)))
 
+-- live identifiers without a span, well formed, are the fresh ones once sorted and without repeats
 pub fresh-sorted : (h : List Entry) (live found sorted : List (List ℕ)) → found ≡ filter (λ id. not (is_some (span_of h id))) live → All (λ id. is_id id ≡ true) found
     → IsPermutation found sorted → IsSorted (slice_cmp nat_cmp) sorted → AreFresh h live (dedup same_id sorted)
 fresh-sorted h live found sorted is all moved up = record { are = are; ascend = IsStrictlySortedBy-dedup nat_list_cmp_total texts_ties sorted up; ids = ids } where

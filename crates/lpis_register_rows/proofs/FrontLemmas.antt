@@ -22,11 +22,11 @@ use Rattle.lpis_lineage.specs.Lineage.{is_ended, is_row_of, last_year, same_row}
 use Rattle.lpis_lineage.proofs.Shared.{never-follows}
 use Rattle.lpis_register_rows.specs.private.Fronts.{IsDue, IsFront, IsRun}
 use Rattle.lpis_register_rows.specs.private.Known.{known_line_at}
-use Rattle.lpis_register_rows.proofs.AscendingLemmas.{Ascends, below, below-alone}
+use Rattle.lpis_register_rows.proofs.AscendingLemmas.{Ascends, number_below, below-alone}
 use Rattle.lpis_register_rows.proofs.KnownLemmas.{AreLive, take-whole}
 use Rattle.lpis_register_rows.proofs.KnownRowLemmas.{known-above, rows-apart}
 use Rattle.lpis_register_rows.proofs.NextReleaseLemmas.{any-map}
-use Rattle.lpis_register_rows.proofs.SayingLemmas.{first_of, rest}
+use Rattle.lpis_register_rows.proofs.SayingLemmas.{first_of, later_years}
 use Rattle.lpis_register_rows.proofs.YearLemmas.{years-ascend}
 
 -- ---- the front of a lawful history with fitting rows is one too
@@ -130,6 +130,7 @@ front-more g h e f more year set rows = record {
 front-none : (h : List Entry) → IsFront [] h
 front-none h = record { short = omega arith; years = λ i lt. absurd (omega (arith, lt)); sets = λ i lt. absurd (omega (arith, lt)); rows = λ i lt. absurd (omega (arith, lt)) }
 
+-- a front of a history that is as long as it is the same history
 pub front-whole : (g h : List Entry) → IsFront g h → length g ≡ length h → IsSameHistory g h
 front-whole g h f n = record {
   lengths = n;
@@ -167,6 +168,7 @@ live-same [] [] id n s = refl
 live-same (a ∷ g) (b ∷ h) id n s = s (length g) ∙ (let m : length g ≡ length h = omega (arith, n) in ap (λ (k : ℕ). holds (b ∷ h) k id) m)
 live-same _ _ id n s = absurd (omega (arith, n))
 
+-- two histories that are the same give an identifier the same span
 pub span-same : (g h : List Entry) (id : List ℕ) → IsSameHistory g h → span_of g id ≡ span_of h id
 span-same g h id same = rw (
   first-same g h id same.lengths same.years (λ i. same.sets i id),
@@ -188,16 +190,16 @@ at-lines y n [] back k lt = absurd (omega (arith, lt))
 at-lines y n (r ∷ rs) back zero lt = (refl, (let e : n ≡ n + 0 = omega arith in ap (λ (m : ℕ). pos m) e))
 at-lines y n (r ∷ rs) back (suc k) lt = let ih = at-lines y (n + 1) rs back k (omega (arith, lt)) in (ih.0, ih.1 ∙ (let e : n + 1 + k ≡ n + suc k = omega arith in ap (λ (m : ℕ). pos m) e))
 
-at-end : (y : ℕ) (back : List KnownLine) → AllByRecursion (λ l. below (pos y) l.year) back → (known_line_at back 0).year ≡ pos y → ⊥
+at-end : (y : ℕ) (back : List KnownLine) → AllByRecursion (λ l. number_below (pos y) l.year) back → (known_line_at back 0).year ≡ pos y → ⊥
 at-end y [] all e = absurd cc
-at-end y (l ∷ ls) all e = let r : below (pos y) (pos y) = subst (below (pos y)) e all.0 in below-alone (pos y) (pos y) r r
+at-end y (l ∷ ls) all e = let r : number_below (pos y) (pos y) = subst (number_below (pos y)) e all.0 in below-alone (pos y) (pos y) r r
 
 lines-length : (y : ℤ) (n : ℕ) (rs : List Row) → length (known_from y n rs) ≡ length rs
 lines-length y n [] = refl
 lines-length y n (r ∷ rs) = ap suc (lines-length y (n + 1) rs)
 
 lines-run : (y : ℕ) (front : List KnownLine) (rs : List Row) (back whole : List KnownLine) (from : ℕ) → whole ≡ front ++ (known_from (pos y) 0 rs ++ back)
-    → from ≡ length front → AllByRecursion (λ l. below (pos y) l.year) back → IsRun whole from y (from + length rs)
+    → from ≡ length front → AllByRecursion (λ l. number_below (pos y) l.year) back → IsRun whole from y (from + length rs)
 lines-run y front rs back whole from w n above = record {
   within = omega arith;
   here = λ k lt. let l = at-lines (pos y) 0 rs back k (omega (arith, lt)) in let at =
@@ -226,9 +228,9 @@ tail-front x y g h f = record {
 -- the lines of a history after those of its front: the next release's, and then later ones
 record IsNextLines (g h : List Entry) (back : List KnownLine) : Type 0 where
   pub are : known_of h ≡ known_of g ++ (known_from (pos (entry_at h (length g)).year) 0 (entry_at h (length g)).rows ++ back)
-  pub above : AllByRecursion (λ l. below (pos (entry_at h (length g)).year) l.year) back
+  pub above : AllByRecursion (λ l. number_below (pos (entry_at h (length g)).year) l.year) back
 
-next-lines : (g h : List Entry) → IsFront g h → length g < length h → Ascends below (years_of h) → (back : List KnownLine) × IsNextLines g h back
+next-lines : (g h : List Entry) → IsFront g h → length g < length h → Ascends number_below (years_of h) → (back : List KnownLine) × IsNextLines g h back
 next-lines [] (y ∷ h) f lt a = (known_of h, record { are = refl; above = known-above (pos y.year) h a.0 })
 next-lines (x ∷ g) (y ∷ h) f lt a =
     let r = next-lines g h (tail-front x y g h f) (omega (arith, lt)) a.1 in
@@ -249,12 +251,14 @@ run-more ls from y stop next run le e = elim (before-at-after next stop) as (λ 
   | inr r ↦ elim r as (λ _. next + 1 ≤ stop) [ inl at ↦ absurd (run.after (ap (λ (n : ℕ). (known_line_at ls n).year) (sym at) ∙ e)) | inr gt ↦ absurd (omega (arith, le, gt)) ]
 ]
 
+-- a position from the start of a year's run to its end, with a line that is not of the year, is the end
 pub run-end : (ls : List KnownLine) (from y stop next k : ℕ) → IsRun ls from y stop → next ≤ stop → next ≡ from + k → ((known_line_at ls next).year ≡ pos y → ⊥) → next ≡ stop
 run-end ls from y stop next k run le at not = elim (before-at-after next stop) as (λ _. next ≡ stop) [
   | inl lt ↦ absurd (not (ap (λ (n : ℕ). (known_line_at ls n).year) at ∙ (run.here k (omega (arith, at, lt))).0))
   | inr r ↦ elim r as (λ _. next ≡ stop) [ inl e ↦ e | inr gt ↦ absurd (omega (arith, le, gt)) ]
 ]
 
+-- the line k places after the start of a year's run, and within the run, has position k in its release
 pub run-position : (ls : List KnownLine) (from y stop next k : ℕ) → IsRun ls from y stop → next ≡ from + k → next + 1 ≤ stop → (known_line_at ls next).position ≡ pos k
 run-position ls from y stop next k run at le = ap (λ (n : ℕ). (known_line_at ls n).position) at ∙ (run.here k (omega (arith, at, le))).1
 
@@ -293,7 +297,7 @@ module _ (spans : List KnownSpan) (lines : List KnownLine) (g h : List Entry) (f
   -- its lines stand from here on
   pub due-run : IsRun lines from year (from + length (entry_at h (length g)).rows)
   due-run = lines-run year (known_of g) (entry_at h (length g)).rows later.0 lines from whole begins
-      (subst (λ (n : ℕ). AllByRecursion (λ l. below (pos n) l.year) later.0) due.year_is later.1.above)
+      (subst (λ (n : ℕ). AllByRecursion (λ l. number_below (pos n) l.year) later.0) due.year_is later.1.above)
 
   -- what is read of them are its rows
   pub due-rows : (rows : List Row) (next : ℕ) → next ≡ from + length (entry_at h (length g)).rows
@@ -336,15 +340,16 @@ due-refused spans lines g h from year said due within live rows (Lineage fault) 
 
 years-length : (h : List Entry) (ys : List ℕ) → years_of h ≡ map (λ y. pos y) ys → length h ≡ length ys
 years-length [] [] e = refl
-years-length (x ∷ h) (y ∷ ys) e = ap suc (years-length h ys (ap rest e))
+years-length (x ∷ h) (y ∷ ys) e = ap suc (years-length h ys (ap later_years e))
 years-length _ _ e = absurd cc
 
 year-at-index : (h : List Entry) (ys : List ℕ) (i : ℕ) → years_of h ≡ map (λ y. pos y) ys → i < length ys → (entry_at h i).year ≡ get_or ys i 0
 year-at-index [] [] i e lt = absurd (omega (arith, lt))
 year-at-index (x ∷ h) (y ∷ ys) zero e lt = ap first_of e
-year-at-index (x ∷ h) (y ∷ ys) (suc i) e lt = year-at-index h ys i (ap rest e) (omega (arith, lt))
+year-at-index (x ∷ h) (y ∷ ys) (suc i) e lt = year-at-index h ys i (ap later_years e) (omega (arith, lt))
 year-at-index _ _ i e lt = absurd cc
 
+-- a history of the first i years is as long as one of all the years, where there are at most i
 pub as-long : (g h : List Entry) (ys : List ℕ) (i : ℕ) → years_of g ≡ map (λ y. pos y) (take i ys) → years_of h ≡ map (λ y. pos y) ys → length ys ≤ i → length g ≡ length h
 as-long g h ys i a b le = let n = years-length g (take i ys) a in let m = years-length h ys b in let w = ap length (take-whole ys i le) in omega (arith, n, m, w)
 
@@ -359,6 +364,7 @@ due-now g h lines from ys i lt front a b l =
     let at : length g ≡ i = omega (arith, n, t) in
     record { front = front; more = omega (arith, at, m, lt); year_is = ap (λ (k : ℕ). (entry_at h k).year) at ∙ year-at-index h ys i b lt; lines_are = l }
 
+-- the first i years with the next one after them are the first i + 1 years
 pub years-more : (ys : List ℕ) (i : ℕ) (old new : List ℤ) → i < length ys → old ≡ map (λ y. pos y) (take i ys) → new ≡ old ++ pos (get_or ys i 0) ∷ [] → new ≡ map (λ y. pos y) (take (i + 1) ys)
 years-more ys i old new lt o n =
     n ∙ ap (λ (l : List ℤ). l ++ pos (get_or ys i 0) ∷ []) o ∙ sym (map-append (λ (y : ℕ). pos y) (take i ys) (get_or ys i 0 ∷ []))

@@ -16,6 +16,7 @@ pub no-both : {P : Type 0} → (b : Bool) → b ≡ true → b ≡ false → P
 no-both true t f = cc f
 no-both false t f = cc t
 
+-- the test for less fails where the second number is at most the first
 pub not-below : {P : Type 0} → (a b : ℕ) → b ≤ a → nat_lt a b ≡ true → P
 not-below a b le t = absurd (let lt : a < b = grind (arith, nat_tests, t) in omega (arith, le, lt))
 
@@ -32,6 +33,7 @@ known-at [] i l lt at = absurd (omega (arith, lt))
 known-at (k ∷ ks) zero l lt at = sym at
 known-at (k ∷ ks) (suc i) l lt at = known-at ks i l (omega (arith, lt)) at
 
+-- past the end of the lines there is no line of a year
 pub known-past : {P : Type 0} → (ks : List KnownLine) (i : ℕ) (y : ℕ) → length ks ≤ i → (known_line_at ks i).year ≡ pos y → P
 known-past [] i y le e = absurd cc
 known-past (k ∷ ks) zero y le e = absurd (omega (arith, le))
@@ -50,10 +52,12 @@ read-more {B = B} f known k rows i row e lt at is = map-append f known (k ∷ []
 abbrev pub AreSeen : List (List ℕ) → List KnownSpan → Type 0
 AreSeen keys spans = (id : List ℕ) → (has_id keys id ≡ list_any (λ s. same_id id s.id) spans) × (length (filter (λ s. same_id id s.id) spans) ≤ 1)
 
+-- a test whose negation is true is false
 pub not-true : (b t : Bool) → b ≡ not t → b ≡ true → t ≡ false
 not-true b true e h = let c = sym e ∙ h in cc
 not-true b false e h = refl
 
+-- with the next span's identifier, which is new, those seen are the identifiers of one span more, none twice
 pub seen-more : (spans : List KnownSpan) (i : ℕ) (s : KnownSpan) (old new : List (List ℕ)) (id : List ℕ) (added : Bool) → i < length spans → s ≡ get_or spans i s → id ≡ s.id
     → added ≡ not (list_any (λ k. is_eq (slice_cmp nat_cmp id k)) old) → added ≡ true
     → ((q : List ℕ) → list_any (λ k. is_eq (slice_cmp nat_cmp q k)) new ≡ cond (is_eq (slice_cmp nat_cmp id q)) true (list_any (λ k. is_eq (slice_cmp nat_cmp q k)) old))
@@ -102,6 +106,7 @@ seen-twice spans i s old id added lt at is add isnt seen few =
 abbrev pub AreLive : List (List ℕ) → ℕ → List KnownSpan → Type 0
 AreLive ids year spans = (id : List ℕ) → has_id ids id ≡ list_any (λ s. same_id id s.id && covers (span_in s) year) spans
 
+-- a span that covers the year adds its identifier to those found live, one span further
 pub live-then : (spans : List KnownSpan) (i : ℕ) (s : KnownSpan) (ids new : List (List ℕ)) (id : List ℕ) (year : ℕ) → i < length spans
     → s ≡ get_or spans i s → covers (span_in s) year ≡ true → id ≡ s.id → new ≡ ids ++ id ∷ [] → AreLive ids year (take i spans)
     → AreLive new year (take (i + 1) spans)
@@ -110,6 +115,7 @@ live-then spans i s ids new id year lt at does is n live = subst (AreLive new ye
     ∙ ap₂ (λ (a b : Bool). a || b) (live q) (ap (same_id q) is ∙ sym (and-true (same_id q s.id)) ∙ ap (λ (b : Bool). same_id q s.id && b) (sym does))
     ∙ sym (any-push (λ (t : KnownSpan). same_id q t.id && covers (span_in t) year) (take i spans) s))
 
+-- a span that does not cover the year leaves those found live as they are, one span further
 pub live-else : (spans : List KnownSpan) (i : ℕ) (s : KnownSpan) (ids : List (List ℕ)) (year : ℕ) → i < length spans → s ≡ get_or spans i s
     → covers (span_in s) year ≡ false → AreLive ids year (take i spans) → AreLive ids year (take (i + 1) spans)
 live-else spans i s ids year lt at doesnt live = subst (AreLive ids year) (take-at spans i s lt at) (λ q.
@@ -117,19 +123,23 @@ live-else spans i s ids year lt at doesnt live = subst (AreLive ids year) (take-
     ∙ ap (λ (b : Bool). list_any (λ t. same_id q t.id && covers (span_in t) year) (take i spans) || b) (sym (and-false (same_id q s.id)) ∙ ap (λ (b : Bool). same_id q s.id && b) (sym doesnt))
     ∙ sym (any-push (λ (t : KnownSpan). same_id q t.id && covers (span_in t) year) (take i spans) s))
 
+-- rows of spans that were read, with well-formed identifiers, one row further
 pub spans-more : (rows : List StoredSpan) (i : ℕ) (row : StoredSpan) (known new : List KnownSpan) (s : KnownSpan) → i < length rows → row ≡ get_or rows i row
     → span_in s ≡ row → is_id s.id ≡ true → new ≡ known ++ s ∷ []
     → (map span_in known ≡ take i rows) × All (λ s. is_id s.id ≡ true) known → (map span_in new ≡ take (i + 1) rows) × All (λ s. is_id s.id ≡ true) new
 spans-more rows i row known new s lt at is id n inv = rw n (read-more span_in known s rows i row inv.0 lt at is, All-push (λ (s : KnownSpan). is_id s.id ≡ true) known s inv.1 id)
 
+-- what all of the first i elements and the next one have, all of the first i + 1 have
 pub all-more : {A : Type 0} (P : A → Type 0) (xs : List A) (i : ℕ) (x : A) → i < length xs → x ≡ get_or xs i x → All P (take i xs) → P x → All P (take (i + 1) xs)
 all-more P xs i x lt at all p = subst (All P) (take-at xs i x lt at) (All-push P (take i xs) x all p)
 
+-- at least as many elements as a list has, taken from its start, are the whole list
 pub take-whole : {A : Type 0} (xs : List A) (i : ℕ) → length xs ≤ i → take i xs ≡ xs
 take-whole [] i le = grind (arith, common_steps)
 take-whole {A = A} (x ∷ xs) zero le = absurd (omega arith)
 take-whole {A = A} (x ∷ xs) (suc i) le = ap (λ (l : List A). x ∷ l) (take-whole xs i (omega arith))
 
+-- what all of the first i elements have, all elements have where there are at most i
 pub all-whole : {A : Type 0} (P : A → Type 0) (xs : List A) (i : ℕ) → length xs ≤ i → All P (take i xs) → All P xs
 all-whole P xs i le all = subst (All P) (take-whole xs i le) all
 

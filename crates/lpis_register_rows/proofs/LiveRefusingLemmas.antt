@@ -9,10 +9,11 @@ use Rattle.lpis_register_rows.proofs.Common.{one_year, span_in}
 use Rattle.std.proofs.lemmas.List.{get_or_default}
 use Rattle.std.proofs.lemmas.List.Elements.{Contains-get_or, Contains-push_cases}
 use Rattle.std.proofs.lemmas.Bool.{and_parts}
-use Rattle.lpis_register_rows.proofs.LiveRowLemmas.{any-contains, covered, covers-one, one-covers, some-contained, since_of, rest_of}
+use Rattle.lpis_register_rows.proofs.LiveRowLemmas.{any-contains, live-row-covers, covers-one, one-covers, some-contained, since_of, rest_of}
 use Rattle.lpis_register_rows.proofs.NextReleaseLemmas.{any-map}
 use Rattle.lpis_register_rows.proofs.OneHistoryLemmas.{same-index}
 
+-- live rows of a history that tables may state bear well-formed identifiers
 pub live-ids : (h : List Entry) (live : List Live) → IsKeptHistory h → LiveTells live h → All (λ l. is_id l.id ≡ true) live
 live-ids h live kept t k d lt = let r = t.right (get_or live k d) (Contains-get_or live k d lt) in kept.ids (get_or live k d).id r.0 r.3
 
@@ -30,7 +31,7 @@ live-sets h live law t i lt id = both_ways (holds h i id) (list_any (λ s. same_
   to held =
       let y : ℕ = (entry_at h i).year in
       let l : Live = record { year = pos y; id = id } in
-      as_live ∙ any-contains test live l (t.whole id i held) (ap₂ (λ (a b : Bool). a && b) (same-refl id) (covered l y y refl ∙ covers-one y))
+      as_live ∙ any-contains test live l (t.whole id i held) (ap₂ (λ (a b : Bool). a && b) (same-refl id) (live-row-covers l y y refl ∙ covers-one y))
 
   from : list_any (λ s. same_id id s.id && covers s (entry_at h i).year) (map one_year live) ≡ true → holds h i id ≡ true
   from any =
@@ -40,9 +41,10 @@ live-sets h live law t i lt id = both_ways (holds h i id) (list_any (λ s. same_
       let r = t.right l found.1 in
       let m : ℕ = (entry_at h r.0).year in
       let covering : covers (one_year l) y ≡ true = (and_parts (same_id id l.id) (covers (one_year l) y) found.2).1 in
-      let same : m ≡ y = one-covers m y (sym (covered l m y r.2) ∙ covering) (above-zero h law r.0 r.1) in
+      let same : m ≡ y = one-covers m y (sym (live-row-covers l m y r.2) ∙ covering) (above-zero h law r.0 r.1) in
       ap₂ (λ (k : ℕ) (q : List ℕ). holds h k q) (sym (same-index h law r.0 i r.1 lt same)) (same-exact id l.id (and_parts (same_id id l.id) (covers (one_year l) y) found.2).0) ∙ r.3
 
+-- spans read from the live rows of tables of version 1, and the history's lines, state the tables' history
 pub live-said : (c : Content) (h : List Entry) (spans : List KnownSpan) (lines : List KnownLine) → TellsLive c h
     → map span_in spans ≡ map one_year c.live → known_of h ≡ lines → SaysHistory spans lines h
 live-said c h spans lines t ss ls = record {
@@ -67,6 +69,7 @@ since-years [] [] ys e all = tt
 since-years (s ∷ ss) (l ∷ ls) ys e all = (subst (Contains ys) (sym (ap since_of e)) all.0, since-years ss ls ys (ap rest_of e) all.1)
 since-years _ _ ys e all = absurd cc
 
+-- where live rows state a history, each span read from them begins with one of its years
 pub live-years : (h : List Entry) (live : List Live) (spans : List KnownSpan) (ys : List ℤ) → LiveTells live h → map span_in spans ≡ map one_year live
     → years_of h ≡ ys → All (λ s. Contains ys s.since) spans
 live-years h live spans ys t ss e = All-from_recursion (λ s. Contains ys s.since) spans

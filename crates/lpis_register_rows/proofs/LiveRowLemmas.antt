@@ -14,6 +14,7 @@ use Rattle.std.proofs.lemmas.List.{nil_from_length}
 use Rattle.std.proofs.lemmas.List.Sorted.{length_permutation}
 use Rattle.lpis_register_rows.proofs.NextReleaseLemmas.{any-map}
 
+-- live rows that were read as spans of one year, with well-formed identifiers, one row further
 pub lives-more : (rows : List Live) (i : ℕ) (row : Live) (known new : List KnownSpan) (s : KnownSpan) → i < length rows → row ≡ get_or rows i row
     → span_in s ≡ one_year row → is_id s.id ≡ true → new ≡ known ++ s ∷ []
     → (map span_in known ≡ map one_year (take i rows)) × All (λ s. is_id s.id ≡ true) known → (map span_in new ≡ map one_year (take (i + 1) rows)) × All (λ s. is_id s.id ≡ true) new
@@ -32,6 +33,7 @@ any-contains p (y ∷ ys) x (suc k, lt, at) e = later (p y) (any-contains p ys x
   later true e = refl
   later false e = e
 
+-- where a test passes among a list, the list contains an element that passes
 pub some-contained : {A : Type 0} (p : A → Bool) (xs : List A) → list_any p xs ≡ true → (x : A) × Contains xs x × (p x ≡ true)
 some-contained p [] e = cc e
 some-contained {A = A} p (x ∷ xs) e = by (some-contained p xs) (p x) refl e where
@@ -45,15 +47,17 @@ year-index [] z (k, lt, at) = absurd (omega arith)
 year-index (x ∷ h) z (zero, lt, at) = (0, omega arith, sym at)
 year-index (x ∷ h) z (suc k, lt, at) = let r = year-index h z (k, omega arith, at) in (suc r.0, (let l = r.1 in omega (arith, l)), r.2)
 
+-- a span of one year, which is not 0, covers no other year
 pub one-covers : (m y : ℕ) → (nat_le m y && (nat_eq m 0 || nat_le y m)) ≡ true → 0 < m → m ≡ y
 one-covers m y e p = grind (arith, nat_tests)
 
+-- a span of one year covers that year
 pub covers-one : (m : ℕ) → (nat_le m m && (nat_eq m 0 || nat_le m m)) ≡ true
 covers-one m = grind (arith, nat_tests)
 
 -- a live row covers one year
-pub covered : (l : Live) (m y : ℕ) → l.year ≡ pos m → covers (one_year l) y ≡ (nat_le m y && (nat_eq m 0 || nat_le y m))
-covered l m y e = ap (λ (z : ℤ). le_z z (pos y) && (int_eq z (pos 0) || le_z (pos y) z)) e ∙ covers-years (record { first = m; last = m }) y
+pub live-row-covers : (l : Live) (m y : ℕ) → l.year ≡ pos m → covers (one_year l) y ≡ (nat_le m y && (nat_eq m 0 || nat_le y m))
+live-row-covers l m y e = ap (λ (z : ℤ). le_z z (pos y) && (int_eq z (pos 0) || le_z (pos y) z)) e ∙ covers-years (record { first = m; last = m }) y
 
 live-told : (h : List Entry) (live : List Live) → IsLawful h → SetsAre (map one_year live) h → ((l : Live) → Contains live l → Contains (years_of h) l.year) → LiveTells live h
 live-told h live law sets years = record { right = right; whole = whole } where
@@ -64,7 +68,7 @@ live-told h live law sets years = record { right = right; whole = whole } where
   right l there =
       let p = year-index h l.year (years l there) in
       let y : ℕ = (entry_at h p.0).year in
-      let passes : (same_id l.id l.id && covers (one_year l) y) ≡ true = ap₂ (λ (a b : Bool). a && b) (same-refl l.id) (covered l y y p.2 ∙ covers-one y) in (
+      let passes : (same_id l.id l.id && covers (one_year l) y) ≡ true = ap₂ (λ (a b : Bool). a && b) (same-refl l.id) (live-row-covers l y y p.2 ∙ covers-one y) in (
         p.0,
         p.1,
         p.2,
@@ -81,13 +85,15 @@ live-told h live law sets years = record { right = right; whole = whole } where
       let l : Live = found.0 in
       let both = and_parts (same_id id l.id) (covers (one_year l) y) found.2 in
       let p = year-index h l.year (years l found.1) in
-      let same : (entry_at h p.0).year ≡ y = one-covers (entry_at h p.0).year y (sym (covered l (entry_at h p.0).year y p.2) ∙ both.1) (above-zero h law p.0 p.1) in
+      let same : (entry_at h p.0).year ≡ y = one-covers (entry_at h p.0).year y (sym (live-row-covers l (entry_at h p.0).year y p.2) ∙ both.1) (above-zero h law p.0 p.1) in
       subst (Contains live) (ap₂ (λ (z : ℤ) (q : List ℕ). record { year = z; id = q }) (p.2 ∙ ap pos same) (sym (same-exact id l.id both.0))) found.1
 
+-- the year from which the first span runs, 0 where there is no span
 abbrev pub since_of : List StoredSpan → ℤ
 since_of [] = pos 0
 since_of (s ∷ ss) = s.since
 
+-- the spans after the first
 abbrev pub rest_of : List StoredSpan → List StoredSpan
 rest_of [] = []
 rest_of (s ∷ ss) = ss

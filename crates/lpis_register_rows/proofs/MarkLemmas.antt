@@ -12,7 +12,7 @@ use Rattle.std.proofs.lemmas.Grind.{common_steps}
 use Rattle.std.proofs.lemmas.List.{append-nil, append_assoc, drop-set-lt, drop_all, length-drop, map-id, take-append-le, take_more_set}
 use Rattle.lpis_register_rows.proofs.KnownLemmas.{drop-at, take-whole}
 use Rattle.std.proofs.lemmas.List.Sorted.{IsPermutation-refl, ranks_by, sorted_far}
-use Rattle.lpis_register_rows.proofs.AscendingLemmas.{Ascends, all-append, below}
+use Rattle.lpis_register_rows.proofs.AscendingLemmas.{Ascends, all-append, number_below}
 use Rattle.lpis_register_rows.proofs.KnownRowLemmas.{have-texts, same-text}
 use Rattle.lpis_register_rows.proofs.SortingLemmas.{Less_by, Rises, ascends-map, lines-less, rises-far, sorted-lines, sorted-same}
 use Rattle.lpis_register_rows.specs.private.Marking.{mark_cmp, line_mark, marked, marks_line, is_next, later, unused}
@@ -26,6 +26,7 @@ from-lines : (y : ℤ) (n : ℕ) (rs : List Row) → map line_in (known_from y n
 from-lines y n [] = refl
 from-lines y n (r ∷ rs) = ap (λ (l : List Line). (record { year = y; position = pos n; old = r.old; new = successor_text r.new }) ∷ l) (from-lines y (n + 1) rs)
 
+-- a history's lines, as rows of the table, are its rows of lineage with their years and positions
 pub lines-in : (h : List Entry) → map line_in (known_of h) ≡ lineage_lines h
 lines-in [] = refl
 lines-in (e ∷ h) = map-append line_in (known_from (pos e.year) 0 e.rows) (known_of h) ∙ ap₂ (λ (a b : List Line). a ++ b) (from-lines (pos e.year) 0 e.rows) (lines-in h)
@@ -47,6 +48,7 @@ from-marks y n (r ∷ rs) = by r.exact (from-marks y (n + 1) rs) where
   by true e = ap (λ (l : List Mark). (record { year = y; position = pos n }) ∷ l) e
   by false e = e
 
+-- the marks of a history's lines are the history's marks
 pub marks-in : (h : List Entry) → marks_in (known_of h) ≡ marks_of h
 marks-in [] = refl
 marks-in (e ∷ h) = marks-append (known_from (pos e.year) 0 e.rows) (known_of h) ∙ ap₂ (λ (a b : List Mark). a ++ b) (from-marks (pos e.year) 0 e.rows) (marks-in h)
@@ -56,15 +58,19 @@ marks-in (e ∷ h) = marks-append (known_from (pos e.year) 0 e.rows) (known_of h
 abbrev as_line : Mark → Line
 as_line m = record { year = m.year; position = m.position; old = []; new = [] }
 
+-- marks by year, and in it by position
 abbrev pub mark_below : Mark → Mark → Type 0
-mark_below a b = below a.year b.year ⊎ ((a.year ≡ b.year) × below a.position b.position)
+mark_below a b = number_below a.year b.year ⊎ ((a.year ≡ b.year) × number_below a.position b.position)
 
+-- no two marks are each below the other
 pub mark-alone : (a b : Mark) → mark_below a b → mark_below b a → ⊥
 mark-alone a b r s = line-alone (as_line a) (as_line b) r s
 
+-- lines with their rows, by year, and in it by position
 abbrev pub known_below : KnownLine → KnownLine → Type 0
 known_below k l = mark_below (line_mark k) (line_mark l)
 
+-- what all elements of a mapped list have, the image of each element of the list has
 pub all-unmap : {A B : Type 0} (P : B → Type 0) (f : A → B) (xs : List A) → AllByRecursion P (map f xs) → AllByRecursion (λ x. P (f x)) xs
 all-unmap P f [] a = tt
 all-unmap P f (x ∷ xs) a = (a.0, all-unmap P f xs a.1)
@@ -90,6 +96,7 @@ marks-ascending (k ∷ ks) a = by k.row.exact (marks-ascending ks a.1) where
   by true all = (marks-above (mark_below (line_mark k)) ks a.0, all)
   by false all = all
 
+-- the marks of a lawful history ascend by year, and in it by position
 pub marks-ascend : (h : List Entry) → IsLawful h → Ascends mark_below (marks_of h)
 marks-ascend h law = subst (Ascends mark_below) (marks-in h) (marks-ascending (known_of h) (known-ascend h law))
 
@@ -111,9 +118,11 @@ no-marks h e = subst (λ (l : List Mark). IsPermutation [] l) (sym e) (IsPermuta
 
 -- ---- lines that get their marks
 
-abbrev pub plain : KnownLine → KnownLine
-plain k = marked false k
+-- the line with its row not marked
+abbrev pub plain_line : KnownLine → KnownLine
+plain_line k = marked false k
 
+-- lines that get their marks remain the same rows of the table
 pub walked-lines : (ms : List Mark) (ls : List KnownLine) → map line_in (walked ms ls) ≡ map line_in ls
 walked-lines ms [] = refl
 walked-lines ms (l ∷ ls) = ap (λ (x : List Line). line_in l ∷ x) (walked-lines (cond (is_next ms l) (later ms) ms) ls)
@@ -171,17 +180,17 @@ abbrev rest_known : List KnownLine → List KnownLine
 rest_known [] = []
 rest_known (l ∷ ls) = ls
 
-plain-next : (ms : List Mark) (k l : KnownLine) → plain l ≡ plain k → is_next ms l ≡ is_next ms k
+plain-next : (ms : List Mark) (k l : KnownLine) → plain_line l ≡ plain_line k → is_next ms l ≡ is_next ms k
 plain-next [] k l e = refl
 plain-next (m ∷ ms) k l e = ap (λ (x : KnownLine). marks_line m x) e
 
 -- lines that ascend get their own marks again
-walked-known : (ks ls : List KnownLine) → Ascends known_below ks → map plain ls ≡ map plain ks → (walked (marks_in ks) ls ≡ ks) × (unused (marks_in ks) ls ≡ [])
+walked-known : (ks ls : List KnownLine) → Ascends known_below ks → map plain_line ls ≡ map plain_line ks → (walked (marks_in ks) ls ≡ ks) × (unused (marks_in ks) ls ≡ [])
 walked-known [] [] a e = (refl, refl)
 walked-known [] (l ∷ ls) a e = absurd cc
 walked-known (k ∷ ks) [] a e = absurd cc
 walked-known (k ∷ ks) (l ∷ ls) a e =
-    let one : plain l ≡ plain k = ap (first_known (plain k)) e in
+    let one : plain_line l ≡ plain_line k = ap (first_known (plain_line k)) e in
     let ms : List Mark = marks_in (k ∷ ks) in
     let is : is_next ms l ≡ k.row.exact = plain-next ms k l one ∙ next-right k ks a.0 in
     let left : cond (is_next ms l) (later ms) ms ≡ marks_in ks = ap (λ (b : Bool). cond b (later ms) ms) is ∙ after k.row.exact (line_mark k) (marks_in ks) in
@@ -191,6 +200,7 @@ walked-known (k ∷ ks) (l ∷ ls) a e =
       ap (λ (x : List Mark). unused x ls) left ∙ rest.1,
     )
 
+-- lines that get their marks remain as many
 pub walked-length : (ms : List Mark) (ls : List KnownLine) → length (walked ms ls) ≡ length ls
 walked-length ms [] = refl
 walked-length ms (l ∷ ls) = ap suc (walked-length (cond (is_next ms l) (later ms) ms) ls)
@@ -199,6 +209,7 @@ walked-length ms (l ∷ ls) = ap suc (walked-length (cond (is_next ms l) (later 
 pub all-used : (ms : List Mark) (ls : List KnownLine) (used : ℕ) → drop used ms ≡ unused ms ls → length ms ≤ used → marks_in (walked ms ls) ≡ ms
 all-used ms ls used e le = sym (append-nil (marks_in (walked ms ls))) ∙ ap (λ (xs : List Mark). marks_in (walked ms ls) ++ xs) (sym (drop_all used ms le) ∙ e) ∙ walked-marks ms ls
 
+-- where fewer marks are used than there are, some are left
 pub not-used : {P : Type 0} (ms : List Mark) (ls : List KnownLine) (used : ℕ) → drop used ms ≡ unused ms ls → used < length ms → unused ms ls ≡ [] → P
 not-used ms ls used e lt none = absurd (let n = length-drop used ms in let z = ap length (e ∙ none) in omega (arith, n, z, lt))
 
@@ -219,6 +230,7 @@ walk-step marks next after lines new i line named whole lt at n d w inv =
     ∙ ap (λ (b : Bool). take i lines ++ marked b line ∷ walked (cond b (later (drop next marks)) (drop next marks)) (drop (i + 1) lines)) n
     ∙ ap (λ (ls : List KnownLine). take i lines ++ walked (drop next marks) ls) (sym (drop-at lines i line lt at)) ∙ inv
 
+-- one line further, the marks that will be left at the end are the same
 pub unused-step : (marks : List Mark) (next after : ℕ) (lines new : List KnownLine) (i : ℕ) (line : KnownLine) (named : Bool) (left : List Mark) → i < length lines → line ≡ get_or lines i line
     → named ≡ is_next (drop next marks) line → drop after marks ≡ cond named (later (drop next marks)) (drop next marks) → new ≡ set lines i (marked named line)
     → unused (drop next marks) (drop i lines) ≡ left → unused (drop after marks) (drop (i + 1) new) ≡ left
@@ -235,6 +247,7 @@ used-next [] (suc n) = grind (arith, common_steps)
 used-next (m ∷ ms) zero = refl
 used-next (m ∷ ms) (suc n) = (let e : suc n + 1 ≡ suc (n + 1) = omega arith in ap (λ (k : ℕ). drop k (m ∷ ms)) e) ∙ used-next ms n
 
+-- where the next mark names a line, its position is within the list of marks
 pub next-within : (marks : List Mark) (next : ℕ) (line : KnownLine) → is_next (drop next marks) line ≡ true → next + 1 ≤ length marks
 next-within [] zero line e = cc e
 next-within [] (suc n) line e = cc e
@@ -243,7 +256,7 @@ next-within (m ∷ ms) (suc n) line e = let lt = next-within ms n line e in omeg
 
 -- ---- rows and lines
 
-same-plain : (k l : KnownLine) → k.year ≡ l.year → k.position ≡ l.position → k.row.old ≡ l.row.old → k.row.new ≡ l.row.new → plain k ≡ plain l
+same-plain : (k l : KnownLine) → k.year ≡ l.year → k.position ≡ l.position → k.row.old ≡ l.row.old → k.row.new ≡ l.row.new → plain_line k ≡ plain_line l
 same-plain k l a b c d =
     ap₂ (λ (y n : ℤ). record { year = y; position = n; row = record { old = k.row.old; new = k.row.new; exact = false } }) a b
     ∙ ap₂ (λ (o : List ℕ) (n : Option (List ℕ)). record { year = l.year; position = l.position; row = record { old = o; new = n; exact = false } }) c d
@@ -256,7 +269,7 @@ abbrev rest_lines : List Line → List Line
 rest_lines [] = []
 rest_lines (l ∷ ls) = ls
 
-plain-same : (ks ls : List KnownLine) → AllByRecursion (λ k. HasText k.row) ks → AllByRecursion (λ k. HasText k.row) ls → map line_in ks ≡ map line_in ls → map plain ks ≡ map plain ls
+plain-same : (ks ls : List KnownLine) → AllByRecursion (λ k. HasText k.row) ks → AllByRecursion (λ k. HasText k.row) ls → map line_in ks ≡ map line_in ls → map plain_line ks ≡ map plain_line ls
 plain-same [] [] f g e = refl
 plain-same [] (l ∷ ls) f g e = absurd cc
 plain-same (k ∷ ks) [] f g e = absurd cc

@@ -61,6 +61,7 @@ reordered First c d h m live marks t = reordered-tells-live c d h m live t
 reordered Second c d h m live marks t = reordered-tells 2 [] [] c d h m (IsPermutation-refl []) t
 reordered Third c d h m live marks t = reordered-tells 3 c.marks d.marks c d h m marks t
 
+-- in each version, tables with the same rows in another order state the same history
 pub reordered-says : (version : Version) (c d : Content) (h : List Entry) → IsSameContent c d → TablesSay version c h → TablesSay version d h
 reordered-says version c d h m t = reordered version c d h (record { formats = m.formats; years = m.years; spans = m.spans; lines = m.lines }) m.live m.marks t
 
@@ -72,6 +73,7 @@ back c d m = record {
   lines = IsPermutation-sym c.lines d.lines m.lines;
 }
 
+-- in each version, tables state the same histories without their texts, in whatever order of rows
 pub textless-says : (version : Version) (c d : Content) (h : List Entry) → IsSameContent (without_texts c) d → TablesSay version c h ↔ TablesSay version d h
 textless-says version c d h m = (
   λ t. reordered version c d h rows m.live m.marks t,
@@ -80,6 +82,7 @@ textless-says version c d h m = (
   rows : IsSameHistoryRows c d
   rows = record { formats = m.formats; years = m.years; spans = m.spans; lines = m.lines }
 
+-- tables of version 3 state the same histories without texts and live rows, in whatever order of rows
 pub lifeless-tells : (c d : Content) (h : List Entry) → IsSameContent (without_texts (without_live c)) d → Tells c h ↔ Tells d h
 lifeless-tells c d h m = (
   λ t. reordered-tells 3 c.marks d.marks c d h rows m.marks t,
@@ -90,6 +93,7 @@ lifeless-tells c d h m = (
 
 -- ---- moving
 
+-- tables of version 1, moved to version 3 with the spans of their history, state that history
 pub moved-tells : (c : Content) (spans : List StoredSpan) (h : List Entry) → TellsLive c h → SpansTell spans h → Tells (moved spans c) h
 moved-tells c spans h t s =
     let made = whole-spans-made spans (without_spans c) in
@@ -102,9 +106,11 @@ moved-tells c spans h t s =
       marks_are = no-marks h t.unmarked;
     })
 
+-- tables moved from version 1 keep no text
 pub moved-texts : (c : Content) (spans : List StoredSpan) → (moved spans c).texts ≡ []
 moved-texts c spans = refl
 
+-- tables of version 2, raised to version 3, state the same history
 pub raised-tells : (c : Content) (h : List Entry) → TellsSpans 2 [] c h → Tells (raised c) h
 raised-tells c h t = record {
   kept = t.kept;
@@ -115,6 +121,7 @@ raised-tells c h t = record {
   marks_are = t.marks_are;
 }
 
+-- tables that were just made state the history with no release
 pub nothing-tells : Tells no_content []
 nothing-tells = record {
   kept = record {

@@ -7,6 +7,7 @@ use Rattle.lpis_register_rows.proofs.KnownLemmas.{AreLive}
 use Rattle.lpis_register_rows.proofs.PublishingLemmas.{years-more}
 use Rattle.std.proofs.lemmas.List.{append-nil, append_assoc}
 
+-- adding a release adds its year after the others of the history
 pub year-added : (h k : List Entry) (y : ℕ) (live : List (List ℕ)) (rows : List Row) → Adds h k y live rows → years_of k ≡ years_of h ++ pos y ∷ []
 year-added h k y live rows (e, k-is, year-is, is) = ap years_of k-is ∙ years-more h e ∙ ap (λ (n : ℕ). years_of h ++ pos n ∷ []) year-is
 
@@ -15,16 +16,19 @@ known-more [] e = append-nil (known_from (pos e.year) 0 e.rows)
 known-more (x ∷ h) e = ap (λ (l : List KnownLine). known_from (pos x.year) 0 x.rows ++ l) (known-more h e)
     ∙ sym (append_assoc (known_from (pos x.year) 0 x.rows) (known_of h) (known_from (pos e.year) 0 e.rows))
 
+-- adding a release adds its rows, by position from 0, after the other lines of the history
 pub lines-added : (h k : List Entry) (y : ℕ) (live : List (List ℕ)) (rows : List Row) (before after : List KnownLine)
     → Adds h k y live rows → known_of h ≡ before → after ≡ before ++ known_from (pos y) 0 rows → known_of k ≡ after
 lines-added h k y live rows before after (e, k-is, year-is, is) b a =
     ap known_of k-is ∙ known-more h e ∙ ap₂ (λ (n : ℕ) (rs : List Row). known_of h ++ known_from (pos n) 0 rs) year-is is.rows_are
     ∙ ap (λ (l : List KnownLine). l ++ known_from (pos y) 0 rows) b ∙ sym a
 
+-- a test passes among the images of a list exactly where some element's image passes it
 pub any-map : {A B : Type 0} (p : B → Bool) (f : A → B) (xs : List A) → list_any p (map f xs) ≡ list_any (λ x. p (f x)) xs
 any-map p f [] = refl
 any-map p f (x ∷ xs) = ap (λ (b : Bool). p (f x) || b) (any-map p f xs)
 
+-- if each release holds the identifiers whose span covers its year, they all do with one added that does too
 pub sets-added : (h k : List Entry) (y : ℕ) (live : List (List ℕ)) (rows : List Row) (spans : List KnownSpan)
     → Adds h k y live rows → AreLive live y spans → SetsAre (map span_in spans) h → SetsAre (map span_in spans) k
 sets-added h k y live rows spans (e, k-is, year-is, is) alive sets = subst (SetsAre (map span_in spans)) (sym k-is) more where

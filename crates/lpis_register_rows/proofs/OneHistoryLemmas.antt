@@ -11,17 +11,18 @@ use Rattle.std.proofs.lemmas.Int.{ints}
 use Rattle.lpis_lineage.specs.declared.span.Span.{Span as Years}
 use Rattle.lpis_lineage.specs.Spans.{in_span}
 use Rattle.lpis_lineage.proofs.Shared.{span-tells}
-use Rattle.lpis_register_rows.proofs.AscendingLemmas.{Ascends, below, below-alone, same-ascending, both-orders}
+use Rattle.lpis_register_rows.proofs.AscendingLemmas.{Ascends, number_below, below-alone, same-ascending, both-orders}
 use Rattle.lpis_register_rows.specs.Tells.{TablesSay}
 use Rattle.lpis_register_rows.specs.declared.version.Version.{Version}
 use Rattle.lpis_register_rows.specs.declared.version.Version.TheVariants.{First, Second, Third}
 use Rattle.lpis_register_rows.proofs.KnownRowLemmas.{known-above, rows-apart}
 use Rattle.lpis_register_rows.proofs.MarkLemmas.{known-same, no-marks, mark-alone, mark_below, marks-ascend}
 use Rattle.lpis_register_rows.proofs.YearLemmas.{line-alone, line_below, lines-ascend, years-ascend}
-use Rattle.lpis_register_rows.proofs.SayingLemmas.{rest}
+use Rattle.lpis_register_rows.proofs.SayingLemmas.{later_years}
 
 -- ---- sets
 
+-- the test that a row of spans covers a year is that of the history's span with the same years
 pub covers-years : (y : Years) (year : ℕ) → (le_z (pos y.first) (pos year) && (int_eq (pos y.last) (pos 0) || le_z (pos year) (pos y.last))) ≡ in_span y year
 covers-years y year = ap₂ (λ (a b : Bool). a && b) (le-nat y.first year) (ap₂ (λ (a b : Bool). a || b) (eq-nat y.last) (le-nat year y.last)) where
   le-nat : (a b : ℕ) → le_z (pos a) (pos b) ≡ nat_le a b
@@ -82,21 +83,21 @@ nat_in z = 0
 
 same-years : (h k : List Entry) → years_of h ≡ years_of k → (length h ≡ length k) × ((i : ℕ) → (entry_at h i).year ≡ (entry_at k i).year)
 same-years [] [] e = (refl, λ i. refl)
-same-years (x ∷ h) (y ∷ k) e = let more = same-years h k (ap rest e) in (ap suc more.0, by more.1) where
+same-years (x ∷ h) (y ∷ k) e = let more = same-years h k (ap later_years e) in (ap suc more.0, by more.1) where
   by : ((i : ℕ) → (entry_at h i).year ≡ (entry_at k i).year) → (i : ℕ) → (entry_at (x ∷ h) i).year ≡ (entry_at (y ∷ k) i).year
   by more zero = ap (λ (l : List ℤ). nat_in (year_in l)) e
   by more (suc i) = more i
 same-years _ _ e = absurd cc
 
-same-rows : (h k : List Entry) → years_of h ≡ years_of k → Ascends below (years_of h) → Ascends below (years_of k)
+same-rows : (h k : List Entry) → years_of h ≡ years_of k → Ascends number_below (years_of h) → Ascends number_below (years_of k)
     → known_of h ≡ known_of k → (i : ℕ) → (entry_at h i).rows ≡ (entry_at k i).rows
 same-rows [] [] e a b l i = refl
 same-rows (x ∷ h) (y ∷ k) e a b l i =
     let at : pos x.year ≡ pos y.year = ap year_in e in
     let both = rows-apart x.year 0 x.rows y.rows (known_of h) (known_of k) (known-above (pos x.year) h a.0)
-    (known-above (pos x.year) k (subst (λ (z : ℤ). AllByRecursion (below z) (years_of k)) (sym at) b.0))
+    (known-above (pos x.year) k (subst (λ (z : ℤ). AllByRecursion (number_below z) (years_of k)) (sym at) b.0))
     (l ∙ ap (λ (z : ℤ). known_from z 0 y.rows ++ known_of k) (sym at)) in
-    by i both.0 (same-rows h k (ap rest e) a.1 b.1 both.1) where
+    by i both.0 (same-rows h k (ap later_years e) a.1 b.1 both.1) where
       by : (i : ℕ) → x.rows ≡ y.rows → ((j : ℕ) → (entry_at h j).rows ≡ (entry_at k j).rows) → (entry_at (x ∷ h) i).rows ≡ (entry_at (y ∷ k) i).rows
       by zero now more = now
       by (suc j) now more = more j
@@ -111,7 +112,7 @@ same-history : (c : Content) (h k : List Entry) → IsKeptHistory h → IsKeptHi
 same-history c h k kept also_kept h_years k_years h_lines k_lines ms h_marks k_marks sets =
     let up = years-ascend h kept.lawful in
     let also = years-ascend k also_kept.lawful in
-    let years = same-ascending below below-alone (years_of h) (years_of k) up also (both-orders c.years (years_of h) (years_of k) h_years k_years) in
+    let years = same-ascending number_below below-alone (years_of h) (years_of k) up also (both-orders c.years (years_of h) (years_of k) h_years k_years) in
     let lines = same-ascending line_below line-alone (lineage_lines h) (lineage_lines k) (lines-ascend h up) (lines-ascend k also) (both-orders c.lines (lineage_lines h)
     (lineage_lines k) h_lines k_lines) in
     let marks = same-ascending mark_below mark-alone (marks_of h) (marks_of k) (marks-ascend h kept.lawful) (marks-ascend k also_kept.lawful)
@@ -165,6 +166,7 @@ one-live-history c h k s t = same-history c h k s.kept t.kept s.years_are t.year
     (live-held h k c.live s.live_are t.live_are t.kept.lawful n years i id)
     (live-held k h c.live t.live_are s.live_are s.kept.lawful (sym n) (λ j. sym (years j)) i id))
 
+-- two histories that the same tables state, in any one version, are the same
 pub one-history : (version : Version) (c : Content) (h k : List Entry) → TablesSay version c h → TablesSay version c k → IsSameHistory h k
 one-history First c h k s t = one-live-history c h k s t
 one-history Second c h k s t = one-spans-history 2 [] c h k s t

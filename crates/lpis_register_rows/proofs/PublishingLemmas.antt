@@ -26,6 +26,7 @@ use Rattle.lpis_register_rows.proofs.SpanRowLemmas.{spans-moved, told-some}
 
 -- ---- years and rows of one release more
 
+-- the years of a history with one release more are its years, and then that of the release
 pub years-more : (h : List Entry) (e : Entry) → years_of (h ++ e ∷ []) ≡ years_of h ++ pos e.year ∷ []
 years-more [] e = refl
 years-more (x ∷ h) e = ap (λ (l : List ℤ). pos x.year ∷ l) (years-more h e)
@@ -72,8 +73,8 @@ holds-more h e i id held =
     ]
 
 -- what has a span is in some release
-pub spanned : (h : List Entry) (id : List ℕ) → is_some (span_of h id) ≡ true → (i : ℕ) × (holds h i id ≡ true)
-spanned h id s = by (first_held h id) refl s where
+pub span-in-release : (h : List Entry) (id : List ℕ) → is_some (span_of h id) ≡ true → (i : ℕ) × (holds h i id ≡ true)
+span-in-release h id s = by (first_held h id) refl s where
   by : (f : Option ℕ) → f ≡ first_held h id → is_some (span_between f (last_held h id) (has_id (last_live h) id)) ≡ true → (i : ℕ) × (holds h i id ≡ true)
   by None e s = absurd cc
   by (Some y) e s = let p = first-index h id y (sym e) in (p.0, p.1)
@@ -82,7 +83,7 @@ spanned h id s = by (first_held h id) refl s where
 fresh-or-old : (h : List Entry) (live gone fresh : List (List ℕ)) (id : List ℕ) → IsWriting h live gone fresh → has_id live id ≡ true → (has_id fresh id ≡ true) ⊎ ((i : ℕ) × (holds h i id ≡ true))
 fresh-or-old h live gone fresh id w is = by (is_some (span_of h id)) refl where
   by : (b : Bool) → b ≡ is_some (span_of h id) → (has_id fresh id ≡ true) ⊎ ((i : ℕ) × (holds h i id ≡ true))
-  by true e = inr (spanned h id (sym e))
+  by true e = inr (span-in-release h id (sym e))
   by false e = inl (w.fresh_are.are id ∙ ap (λ (t : Bool). t && not (is_some (span_of h id))) is ∙ ap not (sym e))
 
 kept-more : (h : List Entry) (e : Entry) (live gone fresh : List (List ℕ)) → IsKeptHistory h → IsLawful (h ++ e ∷ []) → RowsFit (h ++ e ∷ []) → e.year ≤ last_of_years
@@ -157,6 +158,7 @@ end-id y gone s = by (has_id gone s.id) refl where
   by true e = rw (← e) refl
   by false e = rw (← e) refl
 
+-- two lists of one length remain so where one condition puts an element before each
 pub same-length : {A B : Type 0} (b : Bool) (x : A) (y : B) (xs : List A) (ys : List B) → length xs ≡ length ys → length (cond b (x ∷ xs) xs) ≡ length (cond b (y ∷ ys) ys)
 same-length true x y xs ys e = ap suc e
 same-length false x y xs ys e = e
@@ -192,6 +194,7 @@ none-above id (x ∷ xs) all = by (none-above id xs all.1) (same_id id x) refl w
   by ih true e = absurd (let s = same-by_order id x in let n = all.0 in let m = ap is_eq n in cc)
   by ih false e = ih
 
+-- no identifier is twice in a list of identifiers that ascends
 pub once-ascending : (id : List ℕ) (ids : List (List ℕ)) → IsAscending ids → length (filter (same_id id) ids) ≤ 1
 unfolding IsStrictlySortedBy
 once-ascending id [] a = omega arith
@@ -317,6 +320,7 @@ publishing-tells c h k year live gone fresh rows t adds law fit small w texts =
     let same : c.marks ≡ d.marks = ap (λ (x : Content). x.marks) (sym (published-is (pos year) (pos (last_year h)) gone fresh rows c)) in
     released-tells d k texts ms (subst (λ (l : List Mark). TellsSpans 3 (rev_onto ms l) d k) same (published-tells c h k year live gone fresh rows t adds law fit small w))
 
+-- after a release the texts kept are those of the release, in some order
 pub released-texts : (c : Content) (texts : List StoredText) (marks : List Mark) → IsPermutation texts (released texts marks c).texts
 released-texts c texts marks =
     subst (λ (d : Content). IsPermutation texts d.texts) (sym (texts-made texts (without_texts (with_marks marks c))))

@@ -12,7 +12,7 @@ use Rattle.lpis_register_rows.specs.private.Known.{IsReadable, IsReleaseYear}
 use Rattle.lpis_register_rows.proofs.AscendingLemmas.{all-append, all-map}
 use Rattle.lpis_register_rows.proofs.FrontLemmas.{span-same}
 use Rattle.lpis_register_rows.proofs.OneHistoryLemmas.{sets-told}
-use Rattle.lpis_register_rows.proofs.PublishingLemmas.{spanned}
+use Rattle.lpis_register_rows.proofs.PublishingLemmas.{span-in-release}
 use Rattle.lpis_register_rows.proofs.SayingLemmas.{count-map}
 use Rattle.lpis_register_rows.proofs.SortingLemmas.{sorted-years}
 use Rattle.lpis_register_rows.proofs.YearLemmas.{all-entries, years-ascend}
@@ -26,22 +26,25 @@ all-years : (h : List Entry) → AllByRecursion (λ e. IsReleaseYear (pos e.year
 all-years [] all = tt
 all-years (x ∷ h) all = (all.0, all-years h all.1)
 
+-- the years of a history that tables may state, in any order, are ones that a release can have
 pub told-years : (h : List Entry) (ys : List ℤ) → IsKeptHistory h → IsPermutation ys (years_of h) → All IsReleaseYear ys
 told-years h ys kept p = all-moved-from IsReleaseYear ys (years_of h) p
     (all-years h
     (all-entries (λ e. IsReleaseYear (pos e.year)) h
     (λ i lt. ((entry_at h i).year, refl, above-zero h kept.lawful i lt, kept.years i))))
 
+-- the years of a history that tables may state are those of the table once sorted
 pub told-sorted-years : (h : List Entry) (ys : List ℤ) (sorted : List ℕ) → IsKeptHistory h → IsSorted nat_cmp sorted
     → IsPermutation ys (map (λ y. pos y) sorted) → IsPermutation ys (years_of h) → years_of h ≡ map (λ y. pos y) sorted
 told-sorted-years h ys sorted kept up p q = sorted-years ys sorted (years_of h) up (years-ascend h kept.lawful) p q
 
 -- ---- spans
 
+-- rows of spans of a history that tables may state bear well-formed identifiers
 pub told-ids : (h : List Entry) (spans : List StoredSpan) → IsKeptHistory h → SpansTell spans h → All (λ s. is_id s.id ≡ true) spans
 told-ids h spans kept t = All-from_recursion (λ s. is_id s.id ≡ true) spans
     (all-map (IsSpanRow h) (λ s. is_id s.id ≡ true) spans (λ s is. let there =
-    spanned h s.id (some (span_of h s.id) (s.since, s.until) is) in kept.ids s.id there.0 there.1) t.right) where
+    span-in-release h s.id (some (span_of h s.id) (s.since, s.until) is) in kept.ids s.id there.0 there.1) t.right) where
       some : (o : Option Years) (p : ℤ × ℤ) → shown_span o ≡ Some p → is_some o ≡ true
       some None p e = absurd cc
       some (Some y) p e = refl
@@ -75,12 +78,14 @@ all-lines : (h : List Entry) → AllByRecursion (λ e. AllByRecursion IsReadable
 all-lines [] all = tt
 all-lines (x ∷ h) all = all-append IsReadable (lines_from (pos x.year) 0 x.rows) (lineage_lines h) all.0 (all-lines h all.1)
 
+-- the texts of the lines of a history that tables may state, in any order, can be read
 pub readable-lines : (h : List Entry) (ls : List Line) → IsKeptHistory h → IsPermutation ls (lineage_lines h) → All IsReadable ls
 readable-lines h ls kept p =
     all-moved-from IsReadable ls (lineage_lines h) p (all-lines h (all-entries (λ e. AllByRecursion IsReadable (lines_from (pos e.year) 0 e.rows)) h (λ i lt. readable-entry h kept i)))
 
 -- ---- all that was read
 
+-- spans read from tables with spans, and the history's lines, state the tables' history
 pub told-said : {version : ℕ} {ms : List Mark} (c : Content) (h : List Entry) (spans : List KnownSpan) (lines : List KnownLine) → TellsSpans version ms c h → map span_in spans ≡ c.spans
     → known_of h ≡ lines → SaysHistory spans lines h
 told-said c h spans lines t ss ls = record {
@@ -89,6 +94,7 @@ told-said c h spans lines t ss ls = record {
   lines_are = ls;
 }
 
+-- among spans read from rows that state a history no identifier has two
 pub told-few : (h : List Entry) (spans : List KnownSpan) (rows : List StoredSpan) → map span_in spans ≡ rows → SpansTell rows h → (id : List ℕ) → length (filter (λ s. same_id id s.id) spans) ≤ 1
 told-few h spans rows ss t id = let m = count-map spans id in let e = ap (λ (l : List StoredSpan). length (filter (λ s. same_id id s.id) l)) ss in let o = t.once id in omega (arith, m, e, o)
 
@@ -96,6 +102,7 @@ right-back : (g h : List Entry) (spans : List KnownSpan) → IsSameHistory g h �
 right-back g h [] same all = tt
 right-back g h (s ∷ ss) same all = (ap shown_span (span-same g h s.id same) ∙ all.0, right-back g h ss same all.1)
 
+-- spans read from rows that state a history are right in any history that is the same
 pub told-right : (g h : List Entry) (spans : List KnownSpan) (rows : List StoredSpan) → map span_in spans ≡ rows → SpansTell rows h → IsSameHistory g h → All (λ s. IsSpanRow g (span_in s)) spans
 told-right g h spans rows ss t same = All-from_recursion (λ s. IsSpanRow g (span_in s)) spans
     (right-back g h spans same (subst (λ (l : List StoredSpan). AllByRecursion (IsSpanRow h) l) (sym ss) t.right))

@@ -22,6 +22,7 @@ any-id (s ∷ ss) id all e = by (any-id ss id all.1) (same_id id s.id) refl e wh
   by ih true eb h = ap is_id (same-exact id s.id (sym eb)) ∙ all.0
   by ih false eb h = ih h
 
+-- an identifier has as many rows of spans as it has spans that were read
 pub count-map : (spans : List KnownSpan) (id : List ℕ) → length (filter (λ s. same_id id s.id) (map span_in spans)) ≡ length (filter (λ s. same_id id s.id) spans)
 count-map [] id = refl
 count-map (s ∷ ss) id = by (same_id id s.id) (count-map ss id) where
@@ -36,20 +37,22 @@ right-map : (h : List Entry) (spans : List KnownSpan) → AllByRecursion (λ s. 
 right-map h [] all = tt
 right-map h (s ∷ ss) all = (all.0, right-map h ss all.1)
 
+-- the first year of a list, 0 where there is none or it is negative
 abbrev pub first_of : List ℤ → ℕ
 first_of (pos n ∷ l) = n
 first_of _ = 0
 
-abbrev pub rest : List ℤ → List ℤ
-rest [] = []
-rest (z ∷ l) = l
+-- the years after the first
+abbrev pub later_years : List ℤ → List ℤ
+later_years [] = []
+later_years (z ∷ l) = l
 
 -- years that a type holds
 small-years : (h : List Entry) (ys : List ℕ) → years_of h ≡ map (λ y. pos y) ys → AllByRecursion (λ y. y ≤ last_of_years) ys → (i : ℕ) → (entry_at h i).year ≤ last_of_years
 small-years [] ys e all i = omega arith
 small-years (x ∷ h) [] e all i = absurd cc
 small-years (x ∷ h) (y ∷ ys) e all zero = let s : x.year ≡ y = ap (λ (l : List ℤ). first_of l) e in let m = all.0 in omega (arith, s, m)
-small-years (x ∷ h) (y ∷ ys) e all (suc i) = small-years h ys (ap rest e) all.1 i
+small-years (x ∷ h) (y ∷ ys) e all (suc i) = small-years h ys (ap later_years e) all.1 i
 
 -- a history put together from well-formed identifiers is one that tables may say
 pub kept-said : (h : List Entry) (years : List ℕ) (spans : List KnownSpan) → IsLawful h → RowsFit h → AllByRecursion (λ y. y ≤ last_of_years) years
@@ -67,16 +70,17 @@ kept-said h years spans law fit small ids years-are sets = record {
 pub told-lines-are : (ls : List Line) (h : List Entry) (lines : List KnownLine) → IsPermutation ls (map line_in lines) → known_of h ≡ lines → IsPermutation ls (lineage_lines h)
 told-lines-are ls h lines p e = subst (IsPermutation ls) (ap (λ (ks : List KnownLine). map line_in ks) (sym e) ∙ lines-in h) p
 
+-- the marks of lines that are a history's, in any order, are the history's marks
 pub told-marks-are : (ms : List Mark) (h : List Entry) (lines : List KnownLine) → IsPermutation ms (marks_in lines) → known_of h ≡ lines → IsPermutation ms (marks_of h)
 told-marks-are ms h lines p e = subst (IsPermutation ms) (ap marks_in (sym e) ∙ marks-in h) p
 
 -- the history that rows say
-pub says : (version : ℕ) (ms : List Mark) (c : Content) (h : List Entry) (years : List ℕ) (spans : List KnownSpan) (lines : List KnownLine) → IsLawful h → RowsFit h
+pub rows-say-history : (version : ℕ) (ms : List Mark) (c : Content) (h : List Entry) (years : List ℕ) (spans : List KnownSpan) (lines : List KnownLine) → IsLawful h → RowsFit h
     → AllByRecursion (λ y. y ≤ last_of_years) years → c.formats ≡ only_format version
     → IsPermutation c.years (map (λ y. pos y) years) → map span_in spans ≡ c.spans → All (λ s. is_id s.id ≡ true) spans → ((id : List ℕ) → length (filter (λ s. same_id id s.id) spans) ≤ 1)
     → IsPermutation c.lines (map line_in lines) → years_of h ≡ map (λ y. pos y) years → SetsAre (map span_in spans) h
     → IsPermutation ms (marks_in lines) → known_of h ≡ lines → All (λ s. IsSpanRow h (span_in s)) spans → TellsSpans version ms c h
-says version ms c h years spans lines law fit small formats ys ss ids once ls years-are sets marks lines-are right = record {
+rows-say-history version ms c h years spans lines law fit small formats ys ss ids once ls years-are sets marks lines-are right = record {
   kept = kept-said h years spans law fit small ids years-are sets;
   formats_are = formats;
   years_are = subst (IsPermutation c.years) (sym years-are) ys;

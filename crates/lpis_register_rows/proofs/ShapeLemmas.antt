@@ -25,6 +25,7 @@ use Rattle.lpis_register_rows.proofs.SortingLemmas.{Less_by, Rises, ascends-map,
 
 -- ---- lists read side by side, one further
 
+-- two lists related side by side remain so with a related pair at their ends
 pub zip-push : {A B : Type 0} (R : A → B → Type 0) (xs : List A) (ys : List B) (x : A) (y : B) → AllZip R xs ys → R x y → AllZip R (xs ++ x ∷ []) (ys ++ y ∷ [])
 zip-push R [] [] x y z r = (r, tt)
 zip-push R [] (b ∷ ys) x y z r = absurd z
@@ -39,12 +40,14 @@ zip-at R P (a ∷ xs) [] i x z all lt at = absurd z
 zip-at R P (a ∷ xs) (b ∷ ys) zero x z all lt at = (b, subst (λ e. R e b) (sym at) z.0, all.0)
 zip-at R P (a ∷ xs) (b ∷ ys) (suc i) x z all lt at = zip-at R P xs ys i x z.1 all.1 (omega (arith, lt)) at
 
+-- what all elements of a list and one more have, all have with that one at the end
 pub all-push : {A : Type 0} (P : A → Type 0) (xs : List A) (x : A) → AllByRecursion P xs → P x → AllByRecursion P (xs ++ x ∷ [])
 all-push P [] x a p = (p, tt)
 all-push P (y ∷ ys) x a p = (a.0, all-push P ys x a.1 p)
 
 -- ---- order
 
+-- a comparison that is neither equal nor greater is less
 pub not-ge : (r : Ordering) → is_ge r ≡ false → r ≡ Less
 not-ge Less e = refl
 not-ge Equal e = cc e
@@ -68,6 +71,7 @@ pair-at : (shapes : List Shape) (before n : ℕ) (a b : Shape) → before + 1 �
     → slice_cmp nat_cmp (get_or (shape_ids shapes) before []) (get_or (shape_ids shapes) n []) ≡ slice_cmp nat_cmp a.0 b.0
 pair-at shapes before n a b e lt at here = ap₂ (λ (x y : List ℕ). slice_cmp nat_cmp x y) (id-at shapes before a (omega (arith, e, lt)) at) (id-at shapes n b lt here)
 
+-- identifiers that ascend before a position do so up to it, where its shape is above the one before
 pub ascend-more : (shapes : List Shape) (before n : ℕ) (a b : Shape) → before + 1 ≡ n → n < length shapes → a ≡ get_or shapes before a → b ≡ get_or shapes n b
     → slice_cmp nat_cmp a.0 b.0 ≡ Less → AscendBefore (shape_ids shapes) n → AscendBefore (shape_ids shapes) (n + 1)
 ascend-more shapes before n a b e lt at here less up k kn = elim (before-at-after (k + 1) n)
@@ -82,9 +86,11 @@ ascend-more shapes before n a b e lt at here less up k kn = elim (before-at-afte
       ]
     ]
 
+-- identifiers of shapes that ascend before a position at or past the end ascend as a whole
 pub ascend-whole : (shapes : List Shape) (n : ℕ) → length shapes ≤ n → AscendBefore (shape_ids shapes) n → IsAscending (shape_ids shapes)
 ascend-whole shapes n le up = sorted_from_all_adjacent nat_list_cmp_total (shape_ids shapes) [] (λ k lt. up k (let e = ids-length shapes in omega (arith, lt, e, le)))
 
+-- of shapes whose identifiers ascend, each is below the next one
 pub ascend-pair : (shapes : List Shape) (before n : ℕ) (a b : Shape) → before + 1 ≡ n → n < length shapes → a ≡ get_or shapes before a → b ≡ get_or shapes n b
     → IsAscending (shape_ids shapes) → slice_cmp nat_cmp a.0 b.0 ≡ Less
 ascend-pair shapes before n a b e lt at here up = sym (pair-at shapes before n a b e lt at here)
@@ -144,6 +150,7 @@ zip-told : (texts : List StoredText) → AllByRecursion (λ t. IsTextOfShape t (
 zip-told [] a = tt
 zip-told (t ∷ ts) a = (a.0, zip-told ts a.1)
 
+-- texts in another order keep the same shapes, where a text spells one polygon
 pub shapes-reordered : SpellsOne → (texts others : List StoredText) (shapes : List Shape) → IsPermutation texts others → ShapesAre texts shapes → ShapesAre others shapes
 shapes-reordered one texts others shapes p are = record {
   ascend = are.ascend;
@@ -153,6 +160,7 @@ shapes-reordered one texts others shapes p are = record {
       (subst (λ (l : List Shape). IsPermutation l shapes) (order-is one texts are.order are.spelled) are.same);
 }
 
+-- two orders of the same texts keep one list of shapes, where a text spells one polygon
 pub one-list : SpellsOne → (texts others : List StoredText) (shapes kept : List Shape) → IsPermutation texts others → ShapesAre texts shapes → ShapesAre others kept → shapes ≡ kept
 one-list one texts others shapes kept p a b =
     let moved = shapes-reordered one texts others shapes p a in
@@ -160,6 +168,7 @@ one-list one texts others shapes kept p a b =
     same-shapes shapes kept a.ascend b.ascend (IsPermutation-trans shapes moved.order kept (IsPermutation-sym moved.order shapes moved.same)
     (subst (λ (l : List Shape). IsPermutation l kept) (sym order) b.same))
 
+-- an empty list of texts keeps an empty list of shapes
 pub no-shapes : ShapesAre [] []
 no-shapes = record { ascend = sorted_from_all_adjacent nat_list_cmp_total [] [] (λ k lt. absurd (omega (arith, lt))); order = []; spelled = tt; same = IsPermutation-refl [] }
 

@@ -9,11 +9,12 @@ use Rattle.std.proofs.lemmas.Cmp.{int_cmp_total, nat_cmp_total, on_total, then_t
 use Rattle.std.proofs.lemmas.Int.{ints}
 use Rattle.std.proofs.lemmas.List.Sorted.{ranks_by, sorted_far}
 use Rattle.lpis_lineage.proofs.Shared.{filter-some}
-use Rattle.lpis_register_rows.proofs.AscendingLemmas.{Ascends, all-map, below, same-ascending}
+use Rattle.lpis_register_rows.proofs.AscendingLemmas.{Ascends, all-map, number_below, same-ascending}
 use Rattle.lpis_register_rows.proofs.SpanRowLemmas.{count-moved}
 use Rattle.lpis_register_rows.specs.private.Known.{line_cmp}
 use Rattle.lpis_register_rows.proofs.YearLemmas.{line_below}
 
+-- a list that ascends by a relation ascends by any other that the relation implies
 pub ascends-map : {A : Type 0} (R S : A → A → Type 0) (xs : List A) → ((x y : A) → R x y → S x y) → Ascends R xs → Ascends S xs
 ascends-map R S [] f a = tt
 ascends-map R S (x ∷ xs) f a = (all-map (R x) (S x) xs (f x) a.0, ascends-map R S xs f a.1)
@@ -32,6 +33,7 @@ above-far : {A B : Type 0} (lt : A → A → Bool) (f : B → A) (x : A) (xs : L
 above-far lt f x [] far = tt
 above-far lt f x (y ∷ ys) far = (far 0 y (omega arith), above-far lt f x ys (λ k d p. far (suc k) d (omega arith)))
 
+-- the images of a list rise, where none is less than one at an earlier or the same position
 pub rises-far : {A B : Type 0} (lt : A → A → Bool) (f : B → A) (xs : List B) → ((i j : ℕ) (d : B) → i ≤ j → j < length xs → lt (f (get_or xs j d)) (f (get_or xs i d)) ≡ false) → Rises lt (map f xs)
 rises-far lt f [] far = tt
 rises-far lt f (x ∷ xs) far = (above-far lt f (f x) xs (λ k d p. far 0 (suc k) d (omega arith) (omega arith)), rises-far lt f xs (λ i j d p q. far (suc i) (suc j) d (omega arith) (omega arith)))
@@ -94,6 +96,7 @@ strict-rises {A = A} lt order (x ∷ xs) up few = (strictly-above lt x xs up.0 (
   fewer z true e = let n = ap (λ (b : Bool). length (cond b (x ∷ filter (ties lt z) xs) (filter (ties lt z) xs))) (sym e) in let f = few z in omega (arith, n, f)
   fewer z false e = let n = ap (λ (b : Bool). length (cond b (x ∷ filter (ties lt z) xs) (filter (ties lt z) xs))) (sym e) in let f = few z in omega (arith, n, f)
 
+-- what rises and has the elements of a list that ascends strictly is that list
 pub sorted-same : {A : Type 0} (lt : A → A → Bool) → IsStrictWeakOrder lt → (xs ys : List A) → Rises lt xs → Ascends (Less_by lt) ys → IsPermutation xs ys → xs ≡ ys
 sorted-same lt order xs ys up a p = same-ascending (Less_by lt) (λ x y r s. false-true (lt y x) (order.one_way x y r) s)
     xs ys (strict-rises lt order xs up (λ z. let n = count-moved (ties lt z) xs ys p in let f =
@@ -101,20 +104,21 @@ sorted-same lt order xs ys up a p = same-ascending (Less_by lt) (λ x y r s. fal
 
 -- ---- years and lines
 
-below-less : (a b : ℤ) → below a b → int_cmp a b ≡ Less
+below-less : (a b : ℤ) → number_below a b → int_cmp a b ≡ Less
 below-less (pos a) (pos b) r = sym (int_cmp_is (pos a) (pos b) Less (omega (arith, ints, r)))
 below-less _ _ r = absurd r
 
 nat-int : (a b : ℕ) → is_lt (nat_cmp a b) ≡ is_lt (int_cmp (pos a) (pos b))
 nat-int a b = grind (arith, ints, nat_tests)
 
-pub sorted-years : (ys : List ℤ) (sorted : List ℕ) (told : List ℤ) → IsSorted nat_cmp sorted → Ascends below told
+-- years that ascend are those that any order of them gives when sorted
+pub sorted-years : (ys : List ℤ) (sorted : List ℕ) (told : List ℤ) → IsSorted nat_cmp sorted → Ascends number_below told
     → IsPermutation ys (map (λ y. pos y) sorted) → IsPermutation ys told → told ≡ map (λ y. pos y) sorted
 sorted-years ys sorted told up a p q = sym (sorted-same (λ (x y : ℤ). is_lt (int_cmp x y)) (ranks_by int_cmp_total (λ (z : ℤ). z)) (map (λ y. pos y) sorted) told
     (rises-far (λ (x y : ℤ). is_lt (int_cmp x y)) (λ y. pos y) sorted
     (λ i j d le lt. sym (nat-int (get_or sorted j d) (get_or sorted i d))
     ∙ sorted_far (λ (x y : ℕ). is_lt (nat_cmp x y)) (nat_order) sorted up i j d le lt))
-    (ascends-map below (Less_by (λ (x y : ℤ). is_lt (int_cmp x y))) told (λ x y r. ap is_lt (below-less x y r)) a)
+    (ascends-map number_below (Less_by (λ (x y : ℤ). is_lt (int_cmp x y))) told (λ x y r. ap is_lt (below-less x y r)) a)
     (IsPermutation-trans (map (λ y. pos y) sorted) ys told (IsPermutation-sym ys (map (λ y. pos y) sorted) p) q)) where
       nat_order : IsStrictWeakOrder (λ (x y : ℕ). is_lt (nat_cmp x y))
       nat_order = ranks_by nat_cmp_total (λ (n : ℕ). n)
@@ -122,12 +126,14 @@ sorted-years ys sorted told up a p q = sym (sorted-same (λ (x y : ℤ). is_lt (
 total : IsTotalOrder line_cmp
 total = then_total (on_total (λ (l : Line). l.year) int_cmp_total) (on_total (λ (l : Line). l.position) int_cmp_total)
 
+-- a row below another, by year and in it by position, is less in the order that sorts them
 pub lines-less : (a b : Line) → line_below a b → is_lt (line_cmp a b) ≡ true
 lines-less a b (inl r) = ap (λ (o : Ordering). is_lt (ordering_then o (int_cmp a.position b.position))) (below-less a.year b.year r)
 lines-less a b (inr (e, r)) =
     ap (λ (o : Ordering). is_lt (ordering_then o (int_cmp a.position b.position))) (sym (int_cmp_is a.year b.year Equal e))
     ∙ ap is_lt (below-less a.position b.position r)
 
+-- rows of lineage that ascend are those that any order of them gives when read and sorted
 pub sorted-lines : (ls : List Line) (sorted : List KnownLine) (told : List Line) → IsSortedByKey line_in line_cmp sorted → Ascends line_below told
     → IsPermutation ls (map line_in sorted) → IsPermutation ls told → told ≡ map line_in sorted
 sorted-lines ls sorted told up a p q = sym (sorted-same (λ (x y : Line). is_lt (line_cmp x y)) (ranks_by total (λ (l : Line). l)) (map line_in sorted) told

@@ -19,9 +19,11 @@ live-push : (h : List Entry) (e : Entry) → all_live (h ++ e ∷ []) ≡ all_li
 live-push [] e = append-nil e.live
 live-push (x ∷ h) e = ap (λ (l : List (List ℕ)). x.live ++ l) (live-push h e) ∙ sym (append_assoc x.live (all_live h) e.live)
 
+-- the identifiers of the first releases, one release further
 pub live-more : (h : List Entry) (i : ℕ) (e : Entry) (old new : List (List ℕ)) → i < length h → e ≡ get_or h i e → old ≡ all_live (take i h) → new ≡ old ++ e.live → new ≡ all_live (take (i + 1) h)
 live-more h i e old new lt at o n = n ∙ ap (λ (l : List (List ℕ)). l ++ e.live) o ∙ sym (live-push (take i h) e) ∙ ap all_live (take-at h i e lt at)
 
+-- the identifier at a position of a list is in it
 pub has-at : (ids : List (List ℕ)) (i : ℕ) (id : List ℕ) → i < length ids → id ≡ get_or ids i id → has_id ids id ≡ true
 has-at [] i id lt at = absurd (omega arith)
 has-at (x ∷ xs) zero id lt at = ap (λ (q : List ℕ). same_id id q || has_id xs id) (sym at) ∙ ap (λ (b : Bool). b || has_id xs id) (same-refl id)
@@ -30,6 +32,7 @@ has-at (x ∷ xs) (suc i) id lt at = later (same_id id x) (has-at xs i id (omega
   later true e = refl
   later false e = e
 
+-- rows that are the spans of the first identifiers, one identifier further
 pub rows-more : (h : List Entry) (ids : List (List ℕ)) (i : ℕ) (id : List ℕ) (rows new : List StoredSpan) (s : StoredSpan)
     → i < length ids → id ≡ get_or ids i id → s.id ≡ id → IsSpanRow h s → new ≡ rows ++ s ∷ []
     → (map (λ (s : StoredSpan). s.id) rows ≡ take i ids) × All (IsSpanRow h) rows → (map (λ (s : StoredSpan). s.id) new ≡ take (i + 1) ids) × All (IsSpanRow h) new
@@ -52,6 +55,7 @@ held-first (x ∷ h) q e = by (held-first h q) (has_id x.live q) refl (sym (list
   by ih true eb is = refl
   by ih false eb is = ih is
 
+-- an identifier that some release holds has a span
 pub held-span : (h : List Entry) (q : List ℕ) → has_id (all_live h) q ≡ true → is_some (span_of h q) ≡ true
 held-span h q e = by (first_held h q) refl (last_held h q) refl (held-first h q e) where
   by : (f : Option ℕ) → f ≡ first_held h q → (l : Option ℕ) → l ≡ last_held h q → is_some (first_held h q) ≡ true
@@ -72,6 +76,7 @@ any-ids (s ∷ ss) id = ap (λ (b : Bool). same_id id s.id || b) (any-ids ss id)
 pub sorted-has : (h : List Entry) (found sorted : List (List ℕ)) (q : List ℕ) → found ≡ all_live h → IsPermutation found sorted → has_id (dedup same_id sorted) q ≡ has_id (all_live h) q
 sorted-has h found sorted q is moved = has-dedup sorted q ∙ sym (list_any-IsPermutation (same_id q) found sorted moved) ∙ ap (λ (l : List (List ℕ)). has_id l q) is
 
+-- rows that are the spans of all releases' identifiers, sorted and each once, are those of the history
 pub spans-listed : (h : List Entry) (found sorted : List (List ℕ)) (rows : List StoredSpan) → found ≡ all_live h → IsPermutation found sorted → IsSorted (slice_cmp nat_cmp) sorted
     → map (λ (s : StoredSpan). s.id) rows ≡ dedup same_id sorted → All (IsSpanRow h) rows → SpansTell rows h
 spans-listed h found sorted rows is moved up ids right = record {

@@ -6,6 +6,7 @@ use Rattle.std.proofs.lemmas.List.Sorted.{sum_by-IsPermutation}
 use Rattle.lpis_lineage.specs.declared.span.Span.{Span as Years}
 use Rattle.lpis_register_rows.proofs.AscendingLemmas.{all-moved}
 
+-- as many elements pass a test in one order of a list as in another
 pub count-moved : {A : Type 0} (p : A → Bool) (xs ys : List A) → IsPermutation xs ys → length (filter p ys) ≡ length (filter p xs)
 count-moved p xs ys m = length-filter p ys ∙ sum_by-IsPermutation _ xs ys m ∙ sym (length-filter p xs)
 

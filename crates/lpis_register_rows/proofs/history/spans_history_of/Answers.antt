@@ -2,13 +2,13 @@ use Rattle.std.proofs.Common.{◌∙◌, ◌≤◌, ℕ, sym}
 use Rattle.lpis_register_rows.proofs.Common.{recursion_from_All, err_from_is_err_and, last_of_years}
 use Rattle.lpis_register_rows.proofs.KnownLemmas.{no-both}
 use Rattle.lpis_register_rows.proofs.RefusingLemmas.{told-few, told-ids, told-right, told-said, told-sorted-years, told-years}
-use Rattle.lpis_register_rows.proofs.SayingLemmas.{says}
+use Rattle.lpis_register_rows.proofs.SayingLemmas.{rows-say-history}
 use Rattle.lpis_register_rows.proofs.history.spans_history_of.Goals as goal
 
 pub returns-clause-ok : goal.returns-clause-ok
 returns-clause-ok c =
     let h = c.in_ok-history.history in
-    says c.args.version c.args.marks.now c.args.rows.now h c.in_ok-years.years.items c.in_ok-spans.spans.items c.in_ok-lines.lines.items c.releases.ensures.lawful c.releases.ensures.fits
+    rows-say-history c.args.version c.args.marks.now c.args.rows.now h c.in_ok-years.years.items c.in_ok-spans.spans.items c.in_ok-lines.lines.items c.releases.ensures.lawful c.releases.ensures.fits
     (recursion_from_All (λ (y : ℕ). y ≤ last_of_years) c.in_ok-years.years.items c.in_ok-years.ensures.small)
     (sym c.formats.ensures ∙ c.has_version.ensures.0 c.if-not-has_version.false)
     (rw c.years.ensures at c.in_ok-years.ensures.same)
