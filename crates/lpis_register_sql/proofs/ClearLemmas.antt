@@ -21,7 +21,7 @@ use Rattle.lpis_register_sql.proofs.MeaningLemmas.{Says, whole, ids_query, clear
 use Rattle.lpis_register_sql.proofs.UpdateLemmas.{without_is, filter_same, gone_are, key_of}
 use Rattle.lpis_register_sql.proofs.PartLemmas.{KeepsAll, own_tree, spans_changed, texts_changed, marks_changed, live_changed}
 use Rattle.lpis_register_sql.proofs.InsertLemmas.{inside_next, span_stands, text_stands, mark_stands}
-use Rattle.lpis_register_sql.proofs.WriteLemmas.{Finding, went, same_value, step_of, Kept, kept_of}
+use Rattle.lpis_register_sql.proofs.WriteLemmas.{Finding, did_not_stop, same_value, step_of, Kept, kept_of}
 
 -- DELETE is one query and one step
 deletes : (limit : Option ℕ) (mode : Mode) (params : Row) (schema : Schema) (trees : Trees) (text : List ℕ) (index : ℕ) (table : Table) (q : Program) (tally : Tally) (after : Database)
@@ -30,10 +30,10 @@ deletes : (limit : Option ℕ) (mode : Mode) (params : Row) (schema : Schema) (t
     → Finding schema mode.keys trees q params (λ rows. edit_of trees table (ids_of rows) Given 0 []) after
 deletes limit mode params schema trees text index table q tally after at h =
     let task : Table → Task = λ t. record { limit = limit; keys = mode.keys; schema = schema; table = t; params = params } in
-    let done = went (subst (λ t. AtPlace (λ t. OnRows (task t) mode None (Delete index q) trees) t (Ok (tally, after))) at h) in
-    let now = ap (λ (p : Tally × Database). p.1) (same_value (went (went done.2).2).2) in
-    let given = went done.1 in
-    let written = went given.2 in
+    let done = did_not_stop (subst (λ t. AtPlace (λ t. OnRows (task t) mode None (Delete index q) trees) t (Ok (tally, after))) at h) in
+    let now = ap (λ (p : Tally × Database). p.1) (same_value (did_not_stop (did_not_stop done.2).2).2) in
+    let given = did_not_stop done.1 in
+    let written = did_not_stop given.2 in
     let trees_are : done.0.trees ≡ written.0 = ap (λ (it : Written). it.trees) (same_value written.2) in
     record {
       found = given.0;
@@ -46,17 +46,19 @@ keys_out : (tree : ℕ) (rows : List Row) → map key_of (map (λ (o : Output). 
 keys_out tree [] = refl
 keys_out tree (r ∷ rows) = ap (λ l. key_of r ∷ l) (keys_out tree rows)
 
+-- a filter that lets each item pass leaves the list as it is
 pub all_kept : {X : Type 0} (xs : List X) → Rattle.std.specs.Prelude.filter (λ x. true) xs ≡ xs
 all_kept [] = refl
 all_kept (x ∷ xs) = ap (λ l. x ∷ l) (all_kept xs)
 
+-- a filter that lets no item pass leaves the empty list
 pub none_kept : {X : Type 0} (xs : List X) → Rattle.std.specs.Prelude.filter (λ x. false) xs ≡ []
 none_kept [] = refl
 none_kept (x ∷ xs) = none_kept xs
 
 -- all rowids taken out leave nothing
-pub emptied : (rows : List Row) (ids : List ℤ) → AreKeyed rows → IsPermutation (map key_of rows) ids → without_all rows ids ≡ []
-emptied rows ids keyed same =
+pub all_are_taken_out : (rows : List Row) (ids : List ℤ) → AreKeyed rows → IsPermutation (map key_of rows) ids → without_all rows ids ≡ []
+all_are_taken_out rows ids keyed same =
     let gone = gone_are (λ r. true) rows ids keyed (subst (λ l. IsPermutation (map key_of l) ids) (sym (all_kept rows)) same) in
     without_is ids rows ∙ filter_same _ (λ r. false) rows (λ r there. ap not (gone r there)) ∙ none_kept rows
 
@@ -94,7 +96,7 @@ clears o sql index tree table old new count named has at says own keyed h =
     record {
       schema = it.schema_is;
       sound = w.sound;
-      empty = subst (λ t. new.now.trees t ≡ []) named (step.rows ∙ ap (λ t. without_all (db t) (ids_of it.found)) named ∙ emptied rows (ids_of it.found) keyed same);
+      empty = subst (λ t. new.now.trees t ≡ []) named (step.rows ∙ ap (λ t. without_all (db t) (ids_of it.found)) named ∙ all_are_taken_out rows (ids_of it.found) keyed same);
       others = subst (λ t. Kept o t db new.now.trees) named (kept_of o table.tree db new.now.trees step.tables);
     }
 
@@ -105,6 +107,7 @@ none_keyed = record { whole = λ x none. absurd none; alone = λ x y none more e
 pub none_there : {X : Type 0} (row : X → Row) (rows : List Row) → rows ≡ [] → KeepsAll row [] rows
 none_there row rows none = subst (KeepsAll row []) (sym none) (IsPermutation-refl [], none_keyed)
 
+-- inside a transaction, the text that clears `lpis_span` takes all spans out and leaves the other rows
 pub clear_spans_inside : (o : Origin) (base : Database) (old new : State) (c : Content) (count : ℕ) → Inside (Whole o) base old c
     → ExecutesInside 0 clear_span [] old new (Ok count) → Inside (Whole o) base new (without_spans c)
 clear_spans_inside o base old new c count before h =
@@ -119,6 +122,7 @@ clear_spans_inside o base old new c count before h =
       means = spans_changed o db new.now.trees c [] e.others m (none_there span_row (new.now.trees tree) e.empty);
     })
 
+-- inside a transaction, the text that clears `lpis_text` takes all texts of shapes out and leaves the other rows
 pub clear_texts_inside : (o : Origin) (base : Database) (old new : State) (c : Content) (count : ℕ) → Inside (Whole o) base old c
     → ExecutesInside 0 clear_text [] old new (Ok count) → Inside (Whole o) base new (without_texts c)
 clear_texts_inside o base old new c count before h =
@@ -133,6 +137,7 @@ clear_texts_inside o base old new c count before h =
       means = texts_changed o db new.now.trees c [] e.others m (none_there text_row (new.now.trees tree) e.empty);
     })
 
+-- inside a transaction, the text that clears `lpis_mark` takes all marks out and leaves the other rows
 pub clear_marks_inside : (o : Origin) (base : Database) (old new : State) (c : Content) (count : ℕ) → Inside (Whole o) base old c
     → ExecutesInside 0 clear_mark [] old new (Ok count) → Inside (Whole o) base new (without_marks c)
 clear_marks_inside o base old new c count before h =
@@ -147,6 +152,7 @@ clear_marks_inside o base old new c count before h =
       means = marks_changed o db new.now.trees c [] e.others m (none_there mark_row (new.now.trees tree) e.empty);
     })
 
+-- in a register that was made in version 1, the text that clears `lpis_live` takes out its rows and no others
 pub clear_live_inside : (base : Database) (old new : State) (c : Content) (count : ℕ) → Inside (Whole Moved) base old c
     → ExecutesInside 0 clear_live [] old new (Ok count) → Inside (Whole Moved) base new (without_live c)
 clear_live_inside base old new c count before h =

@@ -27,7 +27,7 @@ use Rattle.lpis_register_sql.proofs.MeaningLemmas.{ends_query, end_span_means, w
 use Rattle.lpis_register_sql.proofs.PartLemmas.{spans_changed, own_tree}
 use Rattle.lpis_register_sql.proofs.InsertLemmas.{inside_next, span_stands}
 use Rattle.lpis_register_sql.proofs.WriteLemmas.{cast_int, updates, step_of, kept_of}
-use Rattle.lpis_register_sql.proofs.UpdateLemmas.{has_permuted, replaced, walked, map_same_at, numbered_given, key_of}
+use Rattle.lpis_register_sql.proofs.UpdateLemmas.{has_permuted, found_are_replaced, walk_replaces, map_same_at, numbered_given, key_of}
 
 module _ (tree : ℕ) (y : ℤ) (id : List ℕ) where
   abbrev given : Row
@@ -103,7 +103,7 @@ module _ (tree : ℕ) (y : ℤ) (id : List ℕ) where
     spans_after next same =
         let a = IsPermutation-map after _ _ are in
         let b : map after (map (drop 1) rows) ≡ map (λ r. if hits r then drop 1 (made r) else drop 1 r) rows = each_after rows ∙ sym (map_same_at _ _ rows stepped) in
-        let c = walked hits made (drop 1) rows in
+        let c = walk_replaces hits made (drop 1) rows in
         let d = IsPermutation-map (drop 1) _ _ same in
         IsPermutation-trans _ _ _ (subst (λ l. IsPermutation l (map after (map (drop 1) rows))) (each_span spans) a)
         (IsPermutation-trans _ _ _ (subst (IsPermutation (map after (map (drop 1) rows))) b (IsPermutation-refl _))
@@ -151,6 +151,7 @@ made_out : (tree : ℕ) (y : ℤ) (id : List ℕ) (rows : List Row) → map (λ 
 made_out tree y id [] = refl
 made_out tree y id (r ∷ rows) = ap (λ l. made tree y id r ∷ l) (made_out tree y id rows)
 
+-- inside a transaction, the text that updates `lpis_span` ends an identifier's spans with a year, and no others
 pub end_inside : (o : Origin) (base : Database) (old new : State) (c : Content) (id : List ℕ) (y : ℤ) (count : ℕ) → Inside (Whole o) base old c
     → ExecutesInside 0 end_span (Int y ∷ Text id ∷ []) old new (Ok count) → Inside (Whole o) base new (with_ended y c id)
 end_inside o base old new c id y count before h =
@@ -190,7 +191,7 @@ end_inside o base old new c id y count before h =
     subst (IsPermutation (map (made tree y id) (filter p rows))) (sym (numbered_given _ _)) made_of in
     let there = m.spans_are in
     let whole_list = subst (IsPermutation (map (made tree y id) (filter p rows) ++ filter (λ r. not (p r)) rows))
-    (sym step.rows) (replaced p (made tree y id) rows (ids_of it.found) _ there.1 keys news step.fresh) in
+    (sym step.rows) (found_are_replaced p (made tree y id) rows (ids_of it.found) _ there.1 keys news step.fresh) in
     let next = new.now.trees in
     inside_next (Whole o) (Whole o) base old new c _ before h.1 (record {
       schema = it.schema_is;

@@ -26,6 +26,7 @@ use Rattle.lpis_register_sql.proofs.WriteLemmas.{cast_null, cast_int, Adds, adds
 abbrev pub next_row : Trees → ℕ → Row → Row
 next_row trees tree rest = Int (next_rowid (trees tree)) ∷ rest
 
+-- the one new row of the INSERT into `lpis_format` has key 1 and version 3
 pub format_news : (trees : Trees)
     → (edit_of trees (format_table 0) [] Chosen 0 (value_rows (stamped (format_table 0) []) 3 1 format_terms)).news
     ≡ format_row (record { one = pos 1; version = pos 3 }) ∷ []
@@ -57,6 +58,7 @@ mark_news trees tree m = rw (cast_null, cast_int m.year, cast_int m.position)
 
 -- ---- inside a transaction
 
+-- after a statement that commits nothing, the transaction is over the same commit and holds what the tables now hold
 pub inside_next : (s t : Layout) (base : Database) (old new : State) (c d : Content) → Inside s base old c → Shows old new new.now old.committed true → HoldsRows t new.now d → Inside t base new d
 inside_next s t base old new c d before shown holds = record { is_open = shown.is_open; in_transaction = shown.mode; base_is = shown.committed_is ∙ before.base_is; holds = holds }
 
@@ -71,6 +73,7 @@ more_kept row x xs o old new tree there a = (
   subst AreKeyed (sym a.rows) (keyed_more (old.now.trees tree) (next_id old tree) (row x) there.1 a.fresh),
 )
 
+-- inside a transaction, the text that inserts into `lpis_release` adds the year and leaves the other rows
 pub release_inside : (o : Origin) (base : Database) (old new : State) (c : Content) (year : ℤ) (count : ℕ)
     → Inside (Whole o) base old c → ExecutesInside 0 insert_release (Int year ∷ []) old new (Ok count)
     → Inside (Whole o) base new (with_year year c)
@@ -98,9 +101,11 @@ span_more o base old new c p before shown a =
       means = spans_changed o old.now.trees new.now.trees c (p ∷ c.spans) a.others m (more_kept span_row p c.spans o old new (span_tree o) m.spans_are a);
     })
 
+-- `lpis_span` is at its place in the list of tables of version 3, wherever the register comes from
 pub span_stands : (o : Origin) → slice_get (schema_of (Whole o)).tables (span_place o) ≡ Some (span_table (span_tree o))
 span_stands = in_each _ refl refl
 
+-- inserting an identifier and a year into `lpis_span` adds a span from that year on that has not ended
 pub span_inside : (o : Origin) (base : Database) (old new : State) (c : Content) (id : List ℕ) (since : ℤ) (count : ℕ) → Inside (Whole o) base old c
     → ExecutesInside 0 insert_span (Text id ∷ Int since ∷ []) old new (Ok count) → Inside (Whole o) base new (with_span since c id)
 span_inside o base old new c id since count before h =
@@ -109,6 +114,7 @@ span_inside o base old new c id since count before h =
     count before.holds.schema (span_stands o) refl (insert_span_means o)
     (span_news old.now.trees (span_tree o) id since) h.0)
 
+-- inserting all three columns into `lpis_span` adds that span, also one that has ended
 pub whole_span_inside : (o : Origin) (base : Database) (old new : State) (c : Content) (p : StoredSpan) (count : ℕ) → Inside (Whole o) base old c
     → ExecutesInside 0 insert_whole_span (span_row p) old new (Ok count) → Inside (Whole o) base new (with_whole_span c p)
 whole_span_inside o base old new c p count before h =
@@ -117,6 +123,7 @@ whole_span_inside o base old new c p count before h =
     count before.holds.schema (span_stands o) refl (insert_whole_span_means o)
     (whole_span_news old.now.trees (span_tree o) p) h.0)
 
+-- inside a transaction, the text that inserts into `lpis_row` adds that row of lineage and leaves the other rows
 pub line_inside : (o : Origin) (base : Database) (old new : State) (c : Content) (l : Line) (count : ℕ)
     → Inside (Whole o) base old c → ExecutesInside 0 insert_line (line_row l) old new (Ok count)
     → Inside (Whole o) base new (with_line c l)
@@ -132,9 +139,11 @@ line_inside o base old new c l count before h =
     stands : (o : Origin) → slice_get (schema_of (Whole o)).tables 3 ≡ Some (row_table 4)
     stands = in_each _ refl refl
 
+-- `lpis_text` is at its place in the list of tables of version 3, wherever the register comes from
 pub text_stands : (o : Origin) → slice_get (schema_of (Whole o)).tables (text_place o) ≡ Some (text_table (text_tree o))
 text_stands = in_each _ refl refl
 
+-- inside a transaction, the text that inserts into `lpis_text` adds that text of a shape and leaves the other rows
 pub text_inside : (o : Origin) (base : Database) (old new : State) (c : Content) (t : StoredText) (count : ℕ) → Inside (Whole o) base old c
     → ExecutesInside 0 insert_text (text_row t) old new (Ok count) → Inside (Whole o) base new (with_text c t)
 text_inside o base old new c t count before h =
@@ -148,9 +157,11 @@ text_inside o base old new c t count before h =
       means = texts_changed o old.now.trees new.now.trees c (t ∷ c.texts) a.others m (more_kept text_row t c.texts o old new tree m.texts_are a);
     })
 
+-- `lpis_mark` is at its place in the list of tables of version 3, wherever the register comes from
 pub mark_stands : (o : Origin) → slice_get (schema_of (Whole o)).tables (mark_place o) ≡ Some (mark_table (mark_tree o))
 mark_stands = in_each _ refl refl
 
+-- inside a transaction, the text that inserts into `lpis_mark` adds that mark and leaves the other rows
 pub mark_inside : (o : Origin) (base : Database) (old new : State) (c : Content) (k : Mark) (count : ℕ) → Inside (Whole o) base old c
     → ExecutesInside 0 insert_mark (mark_row k) old new (Ok count) → Inside (Whole o) base new (with_mark c k)
 mark_inside o base old new c k count before h =

@@ -9,9 +9,9 @@ use Rattle.lpis_register_sql.specs.private.Lines.{row_line, mark_at}
 use Rattle.lpis_register_rows.specs.Content.{marks_from, with_marks}
 
 -- a fold over the first items
-pub more : {Y : Type 0} (step : Content → Y → Content) (xs : List Y) (i : ℕ) (d x : Y) (c : Content) → i < length xs → x ≡ get_or xs i d
+pub fold_one_more : {Y : Type 0} (step : Content → Y → Content) (xs : List Y) (i : ℕ) (d x : Y) (c : Content) → i < length xs → x ≡ get_or xs i d
     → step (fold step c (take i xs)) x ≡ fold step c (take (i + 1) xs)
-more step xs i d x c low is = ap (step (fold step c (take i xs))) is ∙ sym (ap (fold step c) (take_more xs i d low) ∙ fold_push step c (take i xs) (get_or xs i d))
+fold_one_more step xs i d x c low is = ap (step (fold step c (take i xs))) is ∙ sym (ap (fold step c) (take_more xs i d low) ∙ fold_push step c (take i xs) (get_or xs i d))
 
 -- the lines of one row more
 lines_take : (y : ℤ) (n : ℕ) (rows : List Row) (i : ℕ) (d : Row) → i < length rows → lines_from y n (take (suc i) rows) ≡ lines_from y n (take i rows) ++ row_line y (pos (n + i)) (get_or rows i d)
@@ -23,6 +23,7 @@ lines_take y n (r ∷ rows) (suc i) d low =
     let position : n + 1 + i ≡ n + suc i = omega arith in
     ap (λ l. row_line y (pos n) r ∷ l) (more ∙ ap (λ k. lines_from y (n + 1) (take i rows) ++ row_line y (pos k) (get_or rows i d) ∷ []) position)
 
+-- the line of the row at position i, added to those of the rows before it, gives the lines of the first i + 1 rows
 pub lines_more : (y : ℤ) (rows : List Row) (i : ℕ) (d r : Row) (c : Content) → i < length rows → r ≡ get_or rows i d
     → with_line (with_lines (lines_from y 0 (take i rows)) c) (row_line y (pos i) r) ≡ with_lines (lines_from y 0 (take (i + 1) rows)) c
 lines_more y rows i d r c low is =
@@ -49,6 +50,7 @@ marks_joined : (ms more : List Mark) (c : Content) → with_marks more (with_mar
 marks_joined [] more c = refl
 marks_joined (a ∷ ms) more c = marks_joined ms more (with_mark c a)
 
+-- the mark of the row at position i, if it has one, added to those before it, gives the marks of the first i + 1 rows
 pub marks_more : (y : ℤ) (rows : List Row) (i : ℕ) (d r : Row) (c : Content) → i < length rows → r ≡ get_or rows i d
     → with_marks (marks_from y i (r ∷ [])) (with_marks (marks_from y 0 (take i rows)) c) ≡ with_marks (marks_from y 0 (take (i + 1) rows)) c
 marks_more y rows i d r c low is =

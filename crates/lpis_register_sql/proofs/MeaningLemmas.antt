@@ -23,9 +23,11 @@ use Rattle.sqlite_tied.specs.Compute.{everything}
 use Rattle.lpis_register_sql.specs.private.Texts.{make_format, make_release, make_span, make_row, insert_format, insert_release, insert_span, insert_line, end_span, clear_span, insert_whole_span}
 use Rattle.lpis_register_sql.specs.private.Texts.{clear_live, set_version, make_text, make_mark, insert_text, clear_text, insert_mark, clear_mark}
 
+-- a key of an ORDER BY: texts compared as bytes, the least first
 abbrev pub ascending : Key
 ascending = record { collation = Binary; descending = false }
 
+-- a query over one table with this filter, these columns and this order: no groups, no DISTINCT, no limit
 abbrev pub from_all : ℕ → List Term → List Term → List (Term × Key) → Query
 from_all tree filter project order = record {
   from = inner tree end;
@@ -39,24 +41,31 @@ from_all tree filter project order = record {
   offset = lit (Int (pos 0));
 }
 
+-- a program that is one query and binds nothing before it
 abbrev pub whole : Query → Program
 whole q = record { lets = []; body = q }
 
+-- what is inserted into `lpis_format`: rowid 1, NULL in its place in the row, version 3
 abbrev pub format_terms : List Term
 format_terms = lit (Int (pos 1)) ∷ lit Null ∷ lit (Int (pos 3)) ∷ []
 
+-- what is inserted into `lpis_release`: the parameter as rowid, NULL in its place in the row
 abbrev pub release_terms : List Term
 release_terms = col 0 0 ∷ lit Null ∷ []
 
+-- what is inserted into `lpis_span` for a span that has not ended: no rowid, two parameters, and 0
 abbrev pub span_terms : List Term
 span_terms = lit Null ∷ col 0 0 ∷ col 0 1 ∷ lit (Int (pos 0)) ∷ []
 
+-- what is inserted into `lpis_row`: no rowid, and four parameters
 abbrev pub line_terms : List Term
 line_terms = lit Null ∷ col 0 0 ∷ col 0 1 ∷ col 0 2 ∷ col 0 3 ∷ []
 
+-- what is inserted into `lpis_span` for a span with its end: no rowid, and three parameters
 abbrev pub whole_span_terms : List Term
 whole_span_terms = lit Null ∷ col 0 0 ∷ col 0 1 ∷ col 0 2 ∷ []
 
+-- what is inserted into `lpis_text` and `lpis_mark`: no rowid, and two parameters
 abbrev pub pair_terms : List Term
 pair_terms = lit Null ∷ col 0 0 ∷ col 0 1 ∷ []
 
@@ -64,30 +73,39 @@ pair_terms = lit Null ∷ col 0 0 ∷ col 0 1 ∷ []
 abbrev pub ids_query : ℕ → Query
 ids_query tree = from_all tree [] (col 1 0 ∷ []) []
 
+-- for each span whose identifier is the second parameter: its rowid, and its row with the first one as last year
 abbrev pub ends_query : ℕ → Query
 ends_query tree = from_all tree (op2 (Compare Eq Binary) (col 1 1) (col 0 1) ∷ []) (col 1 0 ∷ col 1 0 ∷ col 1 1 ∷ col 1 2 ∷ col 0 0 ∷ []) []
 
+-- for each row of `lpis_format`: its rowid, and the row with version 3
 abbrev pub version_query : Query
 version_query = from_all 0 [] (col 1 0 ∷ col 1 0 ∷ lit Null ∷ lit (Int (pos 3)) ∷ []) []
 
+-- the years of `lpis_release`, ascending
 abbrev pub release_query : Query
 release_query = from_all 1 [] (col 1 0 ∷ []) ((col 1 0, ascending) ∷ [])
 
+-- the three columns of `lpis_span`, which has this tree, by identifier
 abbrev pub span_query : ℕ → Query
 span_query tree = from_all tree [] (col 1 1 ∷ col 1 2 ∷ col 1 3 ∷ []) ((col 1 1, ascending) ∷ [])
 
+-- the four columns of `lpis_row`, by year and position
 abbrev pub line_query : Query
 line_query = from_all 4 [] (col 1 1 ∷ col 1 2 ∷ col 1 3 ∷ col 1 4 ∷ []) ((col 1 1, ascending) ∷ (col 1 2, ascending) ∷ [])
 
+-- the two columns of `lpis_live`, by year and identifier
 abbrev pub live_query : Query
 live_query = from_all 2 [] (col 1 1 ∷ col 1 2 ∷ []) ((col 1 1, ascending) ∷ (col 1 2, ascending) ∷ [])
 
+-- the two columns of `lpis_text`, which has this tree, by identifier
 abbrev pub text_query : ℕ → Query
 text_query tree = from_all tree [] (col 1 1 ∷ col 1 2 ∷ []) ((col 1 1, ascending) ∷ [])
 
+-- the two columns of `lpis_mark`, which has this tree, by year and position
 abbrev pub mark_query : ℕ → Query
 mark_query tree = from_all tree [] (col 1 1 ∷ col 1 2 ∷ []) ((col 1 1, ascending) ∷ (col 1 2, ascending) ∷ [])
 
+-- the key and the version of each row of `lpis_format`, in no order
 abbrev pub format_query : Query
 format_query = from_all 0 [] (col 1 0 ∷ col 1 2 ∷ []) []
 
@@ -96,6 +114,7 @@ pub in_each : (P : Origin → Type 0) → P New → P Moved → (o : Origin) →
 in_each P new moved New = new
 in_each P new moved Moved = moved
 
+-- what holds of each of the seven orders of the tables holds of any order
 pub in_all : (P : Layout → Type 0) → P (Whole New) → P (Whole Moved) → P (LessMarks New) → P (LessMarks Moved) → P (LessTexts New) → P (LessTexts Moved) → P First → (s : Layout) → P s
 in_all P a b c d e f g (Whole New) = a
 in_all P a b c d e f g (Whole Moved) = b
@@ -113,50 +132,62 @@ Says o sql command = (command_of (understood (schema_of (Whole o)) sql) ≡ comm
 abbrev pub Asks : Layout → List ℕ → Query → List (List ℕ) → Type 0
 Asks s sql q names = (command_of (understood (schema_of s) sql) ≡ Select (whole q) names) × (reads_listing (schema_of s) sql ≡ false) × IsPlain (understood (schema_of s) sql)
 
+-- the text that inserts the version is an INSERT of its terms into the first table, `lpis_format`
 pub insert_format_means : (o : Origin) → Says o insert_format (Insert 0 (Values format_terms 3))
 unfolding understood everything
 insert_format_means = in_each _ (refl, (refl, refl)) (refl, (refl, refl))
 
+-- the text that inserts a release is an INSERT of its terms into the second table, `lpis_release`
 pub insert_release_means : (o : Origin) → Says o insert_release (Insert 1 (Values release_terms 2))
 unfolding understood everything
 insert_release_means = in_each _ (refl, (refl, refl)) (refl, (refl, refl))
 
+-- the text that inserts a row of lineage is an INSERT of its terms into the fourth table, `lpis_row`
 pub insert_line_means : (o : Origin) → Says o insert_line (Insert 3 (Values line_terms 5))
 unfolding understood everything
 insert_line_means = in_each _ (refl, (refl, refl)) (refl, (refl, refl))
 
+-- the text that inserts a span that has not ended is an INSERT of its terms at the place of `lpis_span`
 pub insert_span_means : (o : Origin) → Says o insert_span (Insert (span_place o) (Values span_terms 4))
 unfolding understood everything
 insert_span_means = in_each _ (refl, (refl, refl)) (refl, (refl, refl))
 
+-- the text that inserts a span with its end is an INSERT of its terms at the place of `lpis_span`
 pub insert_whole_span_means : (o : Origin) → Says o insert_whole_span (Insert (span_place o) (Values whole_span_terms 4))
 unfolding understood everything
 insert_whole_span_means = in_each _ (refl, (refl, refl)) (refl, (refl, refl))
 
+-- the text that ends a span is an UPDATE of `lpis_span` by the query that finds the rows with that identifier
 pub end_span_means : (o : Origin) → Says o end_span (Update (span_place o) (whole (ends_query (span_tree o))))
 unfolding understood everything
 end_span_means = in_each _ (refl, (refl, refl)) (refl, (refl, refl))
 
+-- the text that clears `lpis_span` is a DELETE of all its rowids
 pub clear_span_means : (o : Origin) → Says o clear_span (Delete (span_place o) (whole (ids_query (span_tree o))))
 unfolding understood everything
 clear_span_means = in_each _ (refl, (refl, refl)) (refl, (refl, refl))
 
+-- the text that inserts a text of a shape is an INSERT of its terms at the place of `lpis_text`
 pub insert_text_means : (o : Origin) → Says o insert_text (Insert (text_place o) (Values pair_terms 3))
 unfolding understood everything
 insert_text_means = in_each _ (refl, (refl, refl)) (refl, (refl, refl))
 
+-- the text that clears `lpis_text` is a DELETE of all its rowids
 pub clear_text_means : (o : Origin) → Says o clear_text (Delete (text_place o) (whole (ids_query (text_tree o))))
 unfolding understood everything
 clear_text_means = in_each _ (refl, (refl, refl)) (refl, (refl, refl))
 
+-- the text that inserts a mark is an INSERT of its terms at the place of `lpis_mark`
 pub insert_mark_means : (o : Origin) → Says o insert_mark (Insert (mark_place o) (Values pair_terms 3))
 unfolding understood everything
 insert_mark_means = in_each _ (refl, (refl, refl)) (refl, (refl, refl))
 
+-- the text that clears `lpis_mark` is a DELETE of all its rowids
 pub clear_mark_means : (o : Origin) → Says o clear_mark (Delete (mark_place o) (whole (ids_query (mark_tree o))))
 unfolding understood everything
 clear_mark_means = in_each _ (refl, (refl, refl)) (refl, (refl, refl))
 
+-- the text that sets the version is an UPDATE of each row of `lpis_format` to version 3
 pub set_version_means : (o : Origin) → Says o set_version (Update 0 (whole version_query))
 unfolding understood everything
 set_version_means = in_each _ (refl, (refl, refl)) (refl, (refl, refl))
@@ -166,36 +197,43 @@ pub clear_live_means : Says Moved clear_live (Delete 2 (whole (ids_query 2)))
 unfolding understood everything
 clear_live_means = (refl, (refl, refl))
 
+-- in each order of the tables, the text that reads `lpis_format` asks its query, with the names of two columns
 pub read_format_means : (s : Layout) → Asks s read_format format_query (codes "one" ∷ codes "version" ∷ [])
 unfolding understood everything
 read_format_means = in_all _ (refl, refl, (refl, refl)) (refl, refl, (refl, refl)) (refl, refl, (refl, refl))
     (refl, refl, (refl, refl)) (refl, refl, (refl, refl)) (refl, refl, (refl, refl)) (refl, refl, (refl, refl))
 
+-- in each order of the tables, the text that reads `lpis_release` asks its query, with the name of one column
 pub read_release_means : (s : Layout) → Asks s read_release release_query (codes "year" ∷ [])
 unfolding understood everything
 read_release_means = in_all _ (refl, refl, (refl, refl)) (refl, refl, (refl, refl)) (refl, refl, (refl, refl))
     (refl, refl, (refl, refl)) (refl, refl, (refl, refl)) (refl, refl, (refl, refl)) (refl, refl, (refl, refl))
 
+-- where `lpis_span` is there, the text that reads it asks its query, with the names of three columns
 pub read_span_means : (s : Layout) → has_spans s ≡ true → Asks s read_span (span_query (span_tree (origin_of s))) (codes "id" ∷ codes "since" ∷ codes "until" ∷ [])
 unfolding understood everything
 read_span_means = in_all _ (λ p. (refl, refl, (refl, refl))) (λ p. (refl, refl, (refl, refl))) (λ p. (refl, refl, (refl, refl)))
     (λ p. (refl, refl, (refl, refl))) (λ p. (refl, refl, (refl, refl))) (λ p. (refl, refl, (refl, refl))) (λ p. absurd (true≢false (sym p)))
 
+-- in each order of the tables, the text that reads `lpis_row` asks its query, with the names of four columns
 pub read_line_means : (s : Layout) → Asks s read_line_text line_query (codes "year" ∷ codes "pos" ∷ codes "old" ∷ codes "new" ∷ [])
 unfolding understood everything
 read_line_means = in_all _ (refl, refl, (refl, refl)) (refl, refl, (refl, refl)) (refl, refl, (refl, refl))
     (refl, refl, (refl, refl)) (refl, refl, (refl, refl)) (refl, refl, (refl, refl)) (refl, refl, (refl, refl))
 
+-- where `lpis_live` is there, the text that reads it asks its query, with the names of two columns
 pub read_live_means : (s : Layout) → has_live s ≡ true → Asks s read_live live_query (codes "year" ∷ codes "id" ∷ [])
 unfolding understood everything
 read_live_means = in_all _ (λ p. absurd (true≢false (sym p))) (λ p. (refl, refl, (refl, refl))) (λ p. absurd (true≢false (sym p)))
     (λ p. (refl, refl, (refl, refl))) (λ p. absurd (true≢false (sym p))) (λ p. (refl, refl, (refl, refl))) (λ p. (refl, refl, (refl, refl)))
 
+-- where `lpis_text` is there, the text that reads it asks its query, with the names of two columns
 pub read_text_means : (s : Layout) → has_texts s ≡ true → Asks s read_text (text_query (text_tree (origin_of s))) (codes "id" ∷ codes "wkt" ∷ [])
 unfolding understood everything
 read_text_means = in_all _ (λ p. (refl, refl, (refl, refl))) (λ p. (refl, refl, (refl, refl))) (λ p. (refl, refl, (refl, refl)))
     (λ p. (refl, refl, (refl, refl))) (λ p. absurd (true≢false (sym p))) (λ p. absurd (true≢false (sym p))) (λ p. absurd (true≢false (sym p)))
 
+-- where `lpis_mark` is there, the text that reads it asks its query, with the names of two columns
 pub read_mark_means : (s : Layout) → has_marks s ≡ true → Asks s read_mark (mark_query (mark_tree (origin_of s))) (codes "year" ∷ codes "pos" ∷ [])
 unfolding understood everything
 read_mark_means = in_all _ (λ p. (refl, refl, (refl, refl))) (λ p. (refl, refl, (refl, refl))) (λ p. absurd (true≢false (sym p)))
@@ -209,18 +247,22 @@ pub record Makes (sql : List ℕ) (from into_ : Schema) (made : Table) : Type 0 
   pub defines : table_defined_by sql ≡ Ok made
   pub into : created from made ≡ into_
 
+-- where there is no table, the text that makes `lpis_format` makes it as the first
 pub format_is : Makes make_format no_schema one_table (format_table 0)
 unfolding understood everything
 format_is = record { is = refl; text = refl; plain = (refl, refl); defines = refl; into = refl }
 
+-- behind `lpis_format`, the text that makes `lpis_release` makes it as the second table
 pub release_is : Makes make_release one_table two_tables (release_table 0)
 unfolding understood everything
 release_is = record { is = refl; text = refl; plain = (refl, refl); defines = refl; into = refl }
 
+-- in a new register, behind two tables, the text that makes `lpis_span` makes it as the third
 pub span_is : Makes make_span two_tables three_tables (span_table 0)
 unfolding understood everything
 span_is = record { is = refl; text = refl; plain = (refl, refl); defines = refl; into = refl }
 
+-- behind three tables, the text that makes `lpis_row` makes it as the fourth: these are the tables of version 2
 pub row_is : Makes make_row three_tables (schema_of (LessTexts New)) (row_table 0)
 unfolding understood everything
 row_is = record { is = refl; text = refl; plain = (refl, refl); defines = refl; into = refl }
@@ -235,6 +277,7 @@ pub text_is : (o : Origin) → Makes make_text (schema_of (LessTexts o)) (schema
 unfolding understood everything
 text_is = in_each _ (record { is = refl; text = refl; plain = (refl, refl); defines = refl; into = refl }) (record { is = refl; text = refl; plain = (refl, refl); defines = refl; into = refl })
 
+-- behind the others, the text that makes `lpis_mark` makes it as the last table of version 3
 pub mark_is : (o : Origin) → Makes make_mark (schema_of (LessMarks o)) (schema_of (Whole o)) (mark_table 0)
 unfolding understood everything
 mark_is = in_each _ (record { is = refl; text = refl; plain = (refl, refl); defines = refl; into = refl }) (record { is = refl; text = refl; plain = (refl, refl); defines = refl; into = refl })

@@ -13,7 +13,7 @@ use Rattle.lpis_register_sql.proofs.MeaningLemmas.{in_each, whole, version_query
 use Rattle.lpis_register_sql.proofs.ClearLemmas.{all_kept, none_kept}
 use Rattle.lpis_register_sql.proofs.InsertLemmas.{inside_next}
 use Rattle.lpis_register_sql.proofs.PartLemmas.{formats_changed}
-use Rattle.lpis_register_sql.proofs.UpdateLemmas.{has_permuted, replaced, numbered_given, key_of}
+use Rattle.lpis_register_sql.proofs.UpdateLemmas.{has_permuted, found_are_replaced, numbered_given, key_of}
 use Rattle.lpis_register_sql.proofs.WriteLemmas.{cast_null, cast_int, updates, step_of, kept_of}
 
 -- ---- the version
@@ -57,6 +57,7 @@ one_keyed n rows same = record { whole = λ x there. (pos 1, ap rowid (is x ther
 format_stands : (o : Origin) → slice_get (schema_of (Whole o)).tables 0 ≡ Some (format_table 0)
 format_stands = in_each _ refl refl
 
+-- inside a transaction, over one row of `lpis_format`, the text that sets the version makes it 3 and leaves the rest
 pub version_inside : (o : Origin) (base : Database) (old new : State) (c : Content) (version count : ℕ) → c.formats ≡ only_format version → Inside (Whole o) base old c
     → ExecutesInside 0 set_version [] old new (Ok count) → Inside (Whole o) base new (with_version (pos 3) c)
 version_inside o base old new c version count one before h =
@@ -88,7 +89,7 @@ version_inside o base old new c version count one before h =
     let news : IsPermutation (map made (filter all rows)) (edit_of db (format_table 0) (ids_of it.found) Given 1
     it.found).news = subst (IsPermutation (map made (filter all rows))) (sym (numbered_given _ _)) made_of in
     let keyed = one_keyed version rows (subst (λ fs. IsPermutation (map format_row fs) rows) one m.formats_are) in
-    let put = subst (IsPermutation (map made (filter all rows) ++ filter (λ r. not (all r)) rows)) (sym step.rows) (replaced all made rows (ids_of it.found) _ keyed keys news step.fresh) in
+    let put = subst (IsPermutation (map made (filter all rows) ++ filter (λ r. not (all r)) rows)) (sym step.rows) (found_are_replaced all made rows (ids_of it.found) _ keyed keys news step.fresh) in
     let bare : map made (filter all rows) ++ filter (λ r. not (all r)) rows ≡ map made rows = ap₂ (λ (xs ys : List Row). map made xs ++ ys) whole_list (none_kept rows) ∙ append-nil (map made rows) in
     let after : IsPermutation (map made rows) (next 0) = subst (λ l. IsPermutation l (next 0)) bare put in
     let formats = subst (λ l. IsPermutation l (next 0)) (formats_made c.formats) (IsPermutation-trans _ _ _ (IsPermutation-map made _ _ m.formats_are) after) in
@@ -100,6 +101,7 @@ version_inside o base old new c version count one before h =
 
 -- ---- the steps joined
 
+-- spans that are added leave the rows of `lpis_format` as they are
 pub spans_stay : (spans : List StoredSpan) (c : Content) → (with_whole_spans spans c).formats ≡ c.formats
 spans_stay [] c = refl
 spans_stay (s ∷ spans) c = spans_stay spans (with_whole_span c s)

@@ -6,7 +6,7 @@ use Rattle.std.proofs.lemmas.List.Sorted.{IsPermutation-sym}
 use Rattle.lpis_register_rows.specs.Tells.{IsSameContent}
 use Rattle.lpis_register_sql.specs.private.Shown.{year_shown, span_shown, line_shown, text_shown, mark_shown}
 use Rattle.lpis_register_sql.specs.Holding.{Means}
-use Rattle.lpis_register_sql.proofs.ShowingLemmas.{format_kept, back}
+use Rattle.lpis_register_sql.proofs.ShowingLemmas.{format_kept, reads_back}
 
 -- what a table keeps is known up to its order
 same_rows : {X : Type 0} (row : X → Row) (shown : Row → X) → ((x : X) → shown (row x) ≡ x) → (xs ys : List X) (rows : List Row)
@@ -14,7 +14,7 @@ same_rows : {X : Type 0} (row : X → Row) (shown : Row → X) → ((x : X) → 
 same_rows row shown same xs ys rows p q =
     let both = IsPermutation-trans (map row xs) rows (map row ys) p (IsPermutation-sym _ _ q) in
     let read = IsPermutation-map shown (map row xs) (map row ys) both in
-    subst (λ zs. IsPermutation zs ys) (back row shown same xs) (subst (λ zs. IsPermutation (map shown (map row xs)) zs) (back row shown same ys) read)
+    subst (λ zs. IsPermutation zs ys) (reads_back row shown same xs) (subst (λ zs. IsPermutation (map shown (map row xs)) zs) (reads_back row shown same ys) read)
 
 one_origin : (o p : Origin) → schema_of (Whole o) ≡ schema_of (Whole p) → o ≡ p
 one_origin New New e = refl
@@ -33,6 +33,7 @@ same_content o trees c d m n = record {
   marks = same_rows mark_row mark_shown (λ x. refl) c.marks d.marks _ m.marks_are.0 n.marks_are.0;
 }
 
+-- two contents that one database of version 3 holds are the same up to the order of rows, `lpis_live` aside
 pub one_content : (st : State) (o p : Origin) (c d : Content) → IsStored (Whole o) st c → IsStored (Whole p) st d → IsSameContent (without_live c) (without_live d)
 one_content st o p c d a b =
     let origins = one_origin o p (sym a.holds.schema ∙ b.holds.schema) in

@@ -9,6 +9,7 @@ use Rattle.lpis_register_sql.specs.Holding.{Keeps}
 use Rattle.lpis_register_sql.specs.Holding.{Means}
 use Rattle.lpis_register_sql.proofs.WriteLemmas.{Kept}
 
+-- two numbers that the test reports as different are not equal
 pub far : (m n : ℕ) → nat_eq m n ≡ false → m ≡ n → ⊥
 far m n apart e = absurd (true≢false (sym (same m) ∙ ap (nat_eq m) e ∙ apart))
   where
@@ -25,6 +26,7 @@ apart_live : (o : Origin) (y : Origin → ℕ) → nat_eq 2 (y Moved) ≡ false 
 apart_live New y none is e = true≢false (sym is)
 apart_live Moved y none is e = far 2 (y Moved) none e
 
+-- a table that is there has these rows in some order, each under a rowid of its own
 pub keeps_there : {X : Type 0} (b : Bool) (row : X → Row) (xs : List X) (rows : List Row) → b ≡ true → Keeps b row xs rows → IsPermutation (map row xs) (map (drop 1) rows) × AreKeyed rows
 keeps_there true row xs rows is k = k
 keeps_there false row xs rows is k = absurd (true≢false (sym is))
@@ -33,6 +35,7 @@ there_keeps : {X : Type 0} (b : Bool) (row : X → Row) (xs : List X) (rows : Li
 there_keeps true row xs rows is k = k
 there_keeps false row xs rows is k = absurd (true≢false (sym is))
 
+-- a table whose tree stays the same, where it is there at all, keeps the same rows
 pub keeps_same : {X : Type 0} (b : Bool) (row : X → Row) (xs : List X) (rows next : List Row) → (b ≡ true → next ≡ rows) → Keeps b row xs rows → Keeps b row xs next
 keeps_same true row xs rows next same k = subst (Keeps true row xs) (sym (same refl)) k
 keeps_same false row xs rows next same k = k

@@ -9,6 +9,7 @@ pub record Told (P : Layout → Type 0) (Says : Content → Type 0) (a b : State
   pub says : HasCleanDisk b → (s : Layout) → P s → (c : Content) → IsStored s a c → Says c × IsStored s b c
   pub survives : Survives a b (LeavesNone P a)
 
+-- before the first call nothing is answered, and what is stored is stored still
 pub nothing_yet : {P : Layout → Type 0} {a : State} → Told P (λ c. Unit {0}) a a
 nothing_yet = record {
   says = λ clean s p c h. (tt, h);

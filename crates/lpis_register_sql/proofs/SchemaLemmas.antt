@@ -161,6 +161,7 @@ opened_stored layout s c o live h =
     let held : HoldsRows layout s.committed c = record { schema = schema; sound = sound; means = h.means } in
     record { is_open = o.is_open; autocommit = o.autocommit; settled = o.clean; holds = subst (λ (d : Database). HoldsRows layout d c) (sym o.clean) held }
 
+-- an open over an empty catalog finds no table, and no transaction
 pub opened_bare : (s : State) → Opens s → IsLive s → s.committed.trees catalog_tree ≡ [] → IsBare s
 opened_bare s o live none = record {
   is_open = o.is_open;

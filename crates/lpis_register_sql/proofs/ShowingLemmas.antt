@@ -17,9 +17,11 @@ use Rattle.lpis_register_sql.proofs.MeaningLemmas.{Asks, from_all, read_format_m
 use Rattle.lpis_register_sql.proofs.MeaningLemmas.{live_query, format_query, text_query, mark_query, read_text_means, read_mark_means}
 use Rattle.lpis_register_sql.proofs.PartLemmas.{keeps_there, own_tree}
 
+-- what the terms of a query over one table see: no parameter, and a row of it
 abbrev pub env : Row → List Row
 env r = [] ∷ r ∷ []
 
+-- the answer has a row for each row of the table, in the order that the query asks for
 pub record Sorts (q : Query) (table rows : List Row) : Type 0 where
   pub ordered : List Output
   pub same : IsPermutation (map (output q) (map env table)) ordered
@@ -43,9 +45,10 @@ sorts s sql tree project order names asks old new rows has h own =
       shown = a.shown;
     }
 
-pub back : {X : Type 0} (row : X → Row) (g : Row → X) → ((x : X) → g (row x) ≡ x) → (xs : List X) → map g (map row xs) ≡ xs
-back row g same [] = refl
-back row g same (x ∷ xs) = ap₂ ◌∷◌ (same x) (back row g same xs)
+-- items written as rows and read again are the same list, where each alone reads back
+pub reads_back : {X : Type 0} (row : X → Row) (g : Row → X) → ((x : X) → g (row x) ≡ x) → (xs : List X) → map g (map row xs) ≡ xs
+reads_back row g same [] = refl
+reads_back row g same (x ∷ xs) = ap₂ ◌∷◌ (same x) (reads_back row g same xs)
 
 -- what a reader of the rows has of the table: all that the table keeps
 shows_kept : {X : Type 0} (q : Query) (f g : Row → X) (keep : Row → Row) (row : X → Row) → ((r : Row) → f (output q (env r)).1 ≡ g (keep r)) → ((x : X) → g (row x) ≡ x)
@@ -54,7 +57,7 @@ shows_kept {X} q f g keep row seen same xs table rows h kept =
     let shows : Output → Row = λ o. o.1 in
     let read : IsPermutation (map f (map shows (map (output q) (map env table)))) (map f rows) = subst (λ l. IsPermutation (map f (map shows (map (output q) (map env table)))) (map f l)) (sym h.shown)
     (IsPermutation-map f _ _ (IsPermutation-map shows _ _ h.same)) in
-    IsPermutation-trans _ _ _ (subst (λ l. IsPermutation l (map g (map keep table))) (back row g same xs) (IsPermutation-map g _ _ kept))
+    IsPermutation-trans _ _ _ (subst (λ l. IsPermutation l (map g (map keep table))) (reads_back row g same xs) (IsPermutation-map g _ _ kept))
     (subst (λ l. IsPermutation l (map f rows)) (each table) read)
   where
     each : (rows : List Row) → map f (map (λ (o : Output). o.1) (map (output q) (map env rows))) ≡ map g (map keep rows)
@@ -81,23 +84,27 @@ mark_seen : (tree : ℕ) (r : Row) → mark_shown (output (mark_query tree) (env
 mark_seen tree [] = refl
 mark_seen tree (v ∷ r) = refl
 
+-- the key and the version in a row as the tree of `lpis_format` has it, with NULL between them
 abbrev pub format_kept : Row → Format
 format_kept r = format_shown (column r 0 ∷ column r 2 ∷ [])
 
 -- ---- what is read is what the tables hold
 
+-- the rows of `lpis_format` that a query shows are those that are stored, in some order
 pub formats_shown : (s : Layout) (old new : State) (rows : List Row) (c : Content) → IsStored s old c → Shown read_format [] old new rows → IsPermutation c.formats (map format_shown rows)
 formats_shown s old new rows c r h =
     shows_kept format_query format_shown format_kept (λ r. r) format_row (λ r. refl) (λ f. refl) c.formats _ rows
     (sorts s read_format 0 _ _ _ (read_format_means s) old new rows r.holds.schema h refl)
     (subst (IsPermutation (map format_row c.formats)) (sym (map-id (old.now.trees 0))) r.holds.means.formats_are)
 
+-- the years of `lpis_release` that a query shows are those that are stored, in some order
 pub years_shown : (s : Layout) (old new : State) (rows : List Row) (c : Content) → IsStored s old c → Shown read_release [] old new rows → IsPermutation c.years (map year_shown rows)
 years_shown s old new rows c r h =
     shows_kept release_query year_shown year_shown (λ r. r) year_row (λ r. refl) (λ y. refl) c.years _ rows
     (sorts s read_release 1 _ _ _ (read_release_means s) old new rows r.holds.schema h refl)
     (subst (IsPermutation (map year_row c.years)) (sym (map-id (old.now.trees 1))) r.holds.means.years_are)
 
+-- where `lpis_span` is there, the spans that a query shows are those that are stored, in some order
 pub spans_shown : (s : Layout) (old new : State) (rows : List Row) (c : Content) → has_spans s ≡ true → IsStored s old c → Shown read_span [] old new rows → IsPermutation c.spans (map span_shown rows)
 spans_shown s old new rows c spans r h =
     let o = origin_of s in
@@ -106,11 +113,13 @@ spans_shown s old new rows c spans r h =
     (sorts s read_span tree _ _ _ (read_span_means s spans) old new rows r.holds.schema h (own_tree o span_tree old.now.trees refl refl))
     (keeps_there (has_spans s) span_row c.spans (old.now.trees tree) spans r.holds.means.spans_are).0
 
+-- the rows of lineage that a query shows are those that are stored, in some order
 pub lines_shown : (s : Layout) (old new : State) (rows : List Row) (c : Content) → IsStored s old c → Shown read_line_text [] old new rows → IsPermutation c.lines (map line_shown rows)
 lines_shown s old new rows c r h =
     shows_kept line_query line_shown line_shown (drop 1) line_row line_seen (λ l. refl) c.lines _ rows
     (sorts s read_line_text 4 _ _ _ (read_line_means s) old new rows r.holds.schema h refl) r.holds.means.lines_are
 
+-- where `lpis_live` is there, the rows of it that a query shows are those that are stored, in some order
 pub live_shown_are : (s : Layout) (old new : State) (rows : List Row) (c : Content) → has_live s ≡ true → IsStored s old c → Shown read_live [] old new rows
     → IsPermutation c.live (map live_shown rows)
 live_shown_are s old new rows c live r h =
@@ -118,6 +127,7 @@ live_shown_are s old new rows c live r h =
     (sorts s read_live 2 _ _ _ (read_live_means s live) old new rows r.holds.schema h refl)
     (keeps_there (has_live s) live_row c.live (old.now.trees 2) live r.holds.means.live_are).0
 
+-- where `lpis_text` is there, the texts that a query shows are those that are stored, in some order
 pub texts_shown : (s : Layout) (old new : State) (rows : List Row) (c : Content) → has_texts s ≡ true → IsStored s old c → Shown read_text [] old new rows → IsPermutation c.texts (map text_shown rows)
 texts_shown s old new rows c texts r h =
     let o = origin_of s in
@@ -126,6 +136,7 @@ texts_shown s old new rows c texts r h =
     (sorts s read_text tree _ _ _ (read_text_means s texts) old new rows r.holds.schema h (own_tree o text_tree old.now.trees refl refl))
     (keeps_there (has_texts s) text_row c.texts (old.now.trees tree) texts r.holds.means.texts_are).0
 
+-- where `lpis_mark` is there, the marks that a query shows are those that are stored, in some order
 pub marks_shown : (s : Layout) (old new : State) (rows : List Row) (c : Content) → has_marks s ≡ true → IsStored s old c → Shown read_mark [] old new rows → IsPermutation c.marks (map mark_shown rows)
 marks_shown s old new rows c marks r h =
     let o = origin_of s in
@@ -136,16 +147,18 @@ marks_shown s old new rows c marks r h =
 
 -- ---- a query changes nothing
 
-pub still : (s : Layout) (old new : State) (c : Content) → IsStored s old c → IsUnchanged old new → IsStored s new c
-still s old new c r h = record {
+-- a database that a call left unchanged stores the rows that it stored before
+pub unchanged_still_stored : (s : Layout) (old new : State) (c : Content) → IsStored s old c → IsUnchanged old new → IsStored s new c
+unchanged_still_stored s old new c r h = record {
   is_open = h.0.is_open;
   autocommit = h.0.mode ∙ r.autocommit;
   settled = h.0.now_is ∙ r.settled ∙ sym h.0.committed_is;
   holds = subst (λ (d : Database). HoldsRows s d c) (sym h.0.now_is) r.holds;
 }
 
-pub undone : (s : Layout) (old new : State) (c : Content) → IsStored s old c → IsRolledBack old new → IsTrue new.is_open → IsStored s new c
-undone s old new c r h up =
+-- a database that was rolled back, and is still open, stores the rows that it stored before
+pub undone_still_stored : (s : Layout) (old new : State) (c : Content) → IsStored s old c → IsRolledBack old new → IsTrue new.is_open → IsStored s new c
+undone_still_stored s old new c r h up =
     let now = h.undone up in
     record {
       is_open = up;
@@ -185,14 +198,14 @@ by_query {P = P} {Says = Says} {old = old} {new = new} {r = r} sql plain says ok
     read : (r : Result (Vec Row Global) Error) → (HasCleanDisk new → IfOk r (λ rows. Shown sql [] old new rows.items)) → (HasCleanDisk new → IfErr r (FailsToQuery sql [] old new))
         → ReadsRows P Says old new r
     read (Ok rows) ok err =
-        let stays : HasCleanDisk new → (s : Layout) → P s → (c : Content) → IsStored s old c → IsStored s new c = λ clean s p c h. still s old new c h
+        let stays : HasCleanDisk new → (s : Layout) → P s → (c : Content) → IsStored s old c → IsStored s new c = λ clean s p c h. unchanged_still_stored s old new c h
         (shown_same sql [] old new rows.items (plain_here s p c h) (ok clean)) in
         record { ok = λ clean s p c h. (says s p c rows h (ok clean), stays clean s p c h); same = λ clean up. stays clean; survives = quiet }
     read (Err e) ok err = record {
       ok = λ clean s p c h. tt;
       same = λ clean up s p c h. elim (fails_same sql [] old new e (plain_here s p c h) (err clean)) [
-        | inl same ↦ still s old new c h same
-        | inr undo ↦ undone s old new c h undo up
+        | inl same ↦ unchanged_still_stored s old new c h same
+        | inr undo ↦ undone_still_stored s old new c h undo up
       ];
       survives = quiet;
     }

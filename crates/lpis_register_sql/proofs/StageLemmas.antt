@@ -14,7 +14,7 @@ use Rattle.lpis_register_sql.specs.private.Texts.{insert_format, make_span, make
 use Rattle.lpis_register_sql.specs.private.Stages.{Stage}
 use Rattle.lpis_register_rows.specs.Content.{no_content}
 use Rattle.lpis_register_sql.proofs.MeaningLemmas.{insert_format_means, format_terms, Makes, span_moves, text_is, mark_is}
-use Rattle.lpis_register_sql.proofs.WriteLemmas.{went, same_value, adds}
+use Rattle.lpis_register_sql.proofs.WriteLemmas.{did_not_stop, same_value, adds}
 use Rattle.lpis_register_sql.proofs.PartLemmas.{KeepsAll, far, keeps_same}
 use Rattle.lpis_register_sql.proofs.InsertLemmas.{format_news, inside_next}
 use Rattle.lpis_register_sql.proofs.ClearLemmas.{none_there}
@@ -28,8 +28,8 @@ creates : (limit : Option ℕ) (mode : Mode) (params : Row) (db : Database) (tex
     → table_defined_by text ≡ Ok made → lacks_sequence (created db.schema made) ≡ false → Does limit mode params db text None CreateTable (Ok (tally, after))
     → (after.schema ≡ created db.schema made) × (after.trees (next_tree db.schema) ≡ []) × KeepsRows db.schema.tables db.trees after.trees
 creates limit mode params db text made tally after is plain h =
-    let all = went h in
-    let first = went all.1 in
+    let all = did_not_stop h in
+    let first = did_not_stop all.1 in
     let it = first.1 in
     let same : it.table ≡ made = same_value (sym it.defined ∙ is) in
     let schema : first.0.schema ≡ created db.schema made = it.is ∙ ap (created db.schema) same in
@@ -47,6 +47,7 @@ still_empty : (tables : List Table) (db after : Trees) → KeepsRows tables db a
 still_empty [] db after keeps none = tt
 still_empty (t ∷ tables) db after keeps none = (keeps.0 ∙ none.0, still_empty tables db after keeps.1 none.1)
 
+-- inside a transaction with empty tables alone, a text that makes a table adds it, empty, to them
 pub stage_next : (sql : List ℕ) (from into : Schema) (made : Table) → Makes sql from into made → lacks_sequence into ≡ false → (base : Database) (old new : State) (count : ℕ)
     → Stage from base old → ExecutesInside 0 sql [] old new (Ok count) → Stage into base new
 stage_next sql from into made m plain base old new count before h =
@@ -158,6 +159,7 @@ beside s t sql table it plain grows base old new c count before h =
       means = means_grown s t old.now.trees new.now.trees c (grows old.now.trees new.now.trees (done.1, done.2)) before.holds.means;
     })
 
+-- making `lpis_span` beside the tables of version 1 leaves the rows that they hold
 pub span_beside : (base : Database) (old new : State) (c : Content) (count : ℕ) → Inside First base old c → ExecutesInside 0 make_span [] old new (Ok count) → Inside (LessTexts Moved) base new c
 span_beside = beside First (LessTexts Moved) make_span (span_table 0) span_moves refl (λ db next k. record {
   origin = refl;
@@ -170,6 +172,7 @@ span_beside = beside First (LessTexts Moved) make_span (span_table 0) span_moves
   marks = tt;
 })
 
+-- making `lpis_text` beside the tables of version 2 leaves the rows that they hold
 pub text_beside : (o : Origin) (base : Database) (old new : State) (c : Content) (count : ℕ) → Inside (LessTexts o) base old c
     → ExecutesInside 0 make_text [] old new (Ok count) → Inside (LessMarks o) base new c
 text_beside New = beside (LessTexts New) (LessMarks New) make_text (text_table 0) (text_is New) refl (λ db next k. record {
@@ -193,6 +196,7 @@ text_beside Moved = beside (LessTexts Moved) (LessMarks Moved) make_text (text_t
   marks = tt;
 })
 
+-- making `lpis_mark` beside the tables of version 3 that are there before it leaves the rows that they hold
 pub mark_beside : (o : Origin) (base : Database) (old new : State) (c : Content) (count : ℕ) → Inside (LessMarks o) base old c
     → ExecutesInside 0 make_mark [] old new (Ok count) → Inside (Whole o) base new c
 mark_beside New = beside (LessMarks New) (Whole New) make_mark (mark_table 0) (mark_is New) refl (λ db next k. record {

@@ -14,6 +14,7 @@ use Rattle.lpis_register_sql.specs.Commits.{Rewrites}
 use Rattle.lpis_register_sql.specs.private.Stages.{Stage}
 use Rattle.sqlite_trees.specs.declared.store.Store as store
 
+-- two quiet calls in a row are quiet: nothing is committed, and a crash leaves nothing new
 pub quiet_on : (a b c : State) → IsQuiet a b → IsQuiet b c → IsQuiet a c
 quiet_on a b c one two = record {
   kept = λ clean.
@@ -23,22 +24,23 @@ quiet_on a b c one two = record {
 }
 
 -- one step more of a loop
-pub one_more : (turn : ℕ → Content → Content) (step : Content → Content) (i : ℕ) (old mid now : State) → IsQuiet mid now → Turns (turn i) old mid (Ok tt)
+pub turns_one_more : (turn : ℕ → Content → Content) (step : Content → Content) (i : ℕ) (old mid now : State) → IsQuiet mid now → Turns (turn i) old mid (Ok tt)
     → Turns step mid now (Ok tt) → ((c : Content) → step (turn i c) ≡ turn (i + 1) c) → Turns (turn (i + 1)) old now (Ok tt)
-one_more turn step i old mid now quiet before after next clean origin base c h =
+turns_one_more turn step i old mid now quiet before after next clean origin base c h =
     subst (Inside (Whole origin) base now) (next c) (after clean origin base (turn i c) (before (omega (arith, quiet.survives.clean)) origin base c h))
 
 -- and its end
-pub at_end : {Y : Type 0} (turn : List Y → Content → Content) (xs : List Y) (i : ℕ) (old now : State) → i ≡ length xs → Turns (turn (take i xs)) old now (Ok tt)
+pub turns_at_end : {Y : Type 0} (turn : List Y → Content → Content) (xs : List Y) (i : ℕ) (old now : State) → i ≡ length xs → Turns (turn (take i xs)) old now (Ok tt)
     → Turns (turn xs) old now (Ok tt)
-at_end turn xs i old now ends h = subst (λ ys. Turns (turn ys) old now (Ok tt)) (ap (λ n. take n xs) ends ∙ take-length xs) h
+turns_at_end turn xs i old now ends h = subst (λ ys. Turns (turn ys) old now (Ok tt)) (ap (λ n. take n xs) ends ∙ take-length xs) h
 
 begun_inside : (s : Layout) {S : Type 0} (g : store.Ghosts S) (old now : Held S) (c : Content) → now ≡ record old { in_transaction = true } → IsStored s (state g old) c
     → Inside s (state g old).now (state g now) c
 begun_inside s g old now c begun r = rw begun (record { is_open = r.is_open; in_transaction = refl; base_is = sym r.settled; holds = r.holds })
 
-pub committed : (s : Layout) (base : Database) (last new : State) (c : Content) → Inside s base last c → Shows last new last.now last.now false → IsStored s new c
-committed s base last new c h shown = record {
+-- what a transaction holds is what the database stores once it is committed
+pub commit_is_stored : (s : Layout) (base : Database) (last new : State) (c : Content) → Inside s base last c → Shows last new last.now last.now false → IsStored s new c
+commit_is_stored s base last new c h shown = record {
   is_open = shown.is_open;
   autocommit = shown.mode;
   settled = shown.now_is ∙ sym shown.committed_is;
@@ -58,33 +60,37 @@ rolled_back s old last new c r kept back up =
     }
 
 -- also where the transaction has changed the order of the tables
-pub refused : (s t : Layout) (base : Database) (old last new : State) (e : Error) (c d : Content) → IsStored s old c → Inside t base last d → base ≡ old.now → FailsToCommit last new e
+pub refused_keeps_rows : (s t : Layout) (base : Database) (old last new : State) (e : Error) (c d : Content) → IsStored s old c → Inside t base last d → base ≡ old.now → FailsToCommit last new e
     → IsTrue new.is_open → IsStored s new c
-refused s t base old last new e c d r inside is (inl failed) up = rolled_back s old last new c r (λ _. inside.base_is ∙ is ∙ r.settled) failed.3 up
-refused s t base old last new e c d r inside is (inr late) up = absurd (let t = inside.in_transaction in let f = late.1 in cc)
+refused_keeps_rows s t base old last new e c d r inside is (inl failed) up = rolled_back s old last new c r (λ _. inside.base_is ∙ is ∙ r.settled) failed.3 up
+refused_keeps_rows s t base old last new e c d r inside is (inr late) up = absurd (let t = inside.in_transaction in let f = late.1 in cc)
 
-pub crashed : (old last new : State) (P Q : Trees → Type 0) → Survives old last (λ _. ⊥) → Survives last new P → (HasCleanDisk new → (db : Trees) → P db → Q db) → Survives old new Q
-crashed old last new P Q a b turn = survives_then old last new (λ _. ⊥) P Q (λ _ db none. absurd none) turn a b
+-- where all calls but the last leave nothing new to a crash, together they leave it no more than the last one implies
+pub crash_since_quiet : (old last new : State) (P Q : Trees → Type 0) → Survives old last (λ _. ⊥) → Survives last new P → (HasCleanDisk new → (db : Trees) → P db → Q db) → Survives old new Q
+crash_since_quiet old last new P Q a b turn = survives_then old last new (λ _. ⊥) P Q (λ _ db none. absurd none) turn a b
 
+-- a commit that answers Ok stores what the transaction held
 pub commit_ok : (s : Layout) (base : Database) (last new : State) (c : Content) → Inside s base last c → (r : Result (Unit {0}) Error)
     → OnOk r (IsTrue last.in_transaction × Shows last new last.now last.now false × KeepsCounts last new × (new.marks ≡ [])) → OnOk r (IsStored s new c)
-commit_ok s base last new c h (Ok _) done = committed s base last new c h done.1
+commit_ok s base last new c h (Ok _) done = commit_is_stored s base last new c h done.1
 commit_ok s base last new c h (Err e) done = tt
 
 moved_err : (s t : Layout) (base : Database) (old last new : State) (c d : Content) → IsStored s old c → Inside t base last d → base ≡ old.now → IsTrue new.is_open → (r : Result (Unit {0}) Error)
     → IfErr r (FailsToCommit last new) → OnErr r (IsStored s new c)
 moved_err s t base old last new c d r inside is up (Ok _) h = tt
-moved_err s t base old last new c d r inside is up (Err e) h = refused s t base old last new e c d r inside is h up
+moved_err s t base old last new c d r inside is up (Err e) h = refused_keeps_rows s t base old last new e c d r inside is h up
 
-pub leaves : (s : Layout) (db : Database) (c : Content) → HoldsRows s db c → Leaves s c db.trees
-leaves s db c h = subst (λ it. HoldsRows s (record { schema = it; trees = db.trees }) c) h.schema h
+-- a crash that leaves the trees of a database that holds rows leaves these rows
+pub held_is_left : (s : Layout) (db : Database) (c : Content) → HoldsRows s db c → Leaves s c db.trees
+held_is_left s db c h = subst (λ it. HoldsRows s (record { schema = it; trees = db.trees }) c) h.schema h
 
 -- right after a commit a crash leaves it and nothing else
 pub durable : (s : Layout) (new : State) (c : Content) → (IsTrue new.is_open → (db : Trees) → new.may_leave db → db ≡ new.committed.trees) → (r : Result (Unit {0}) Error) → OnOk r (IsStored s new c)
     → OnOk r ((db : Trees) → new.may_leave db → Leaves s c db)
 durable s new c law (Err e) h = tt
-durable s new c law (Ok _) h = λ db may. subst (Leaves s c) (ap (λ (d : Database). d.trees) h.settled ∙ sym (law h.is_open db may)) (leaves s new.now c h.holds)
+durable s new c law (Ok _) h = λ db may. subst (Leaves s c) (ap (λ (d : Database). d.trees) h.settled ∙ sym (law h.is_open db may)) (held_is_left s new.now c h.holds)
 
+-- a transaction begun where there is no table is one over that commit, with no table yet
 pub begun_bare : {S : Type 0} (g : store.Ghosts S) (old now : Held S) → now ≡ record old { in_transaction = true } → IsBare (state g old) → Stage no_schema (state g old).now (state g now)
 begun_bare g old now begun r = rw begun (record { is_open = r.is_open; in_transaction = refl; base_is = sym r.settled; schema = r.schema; empty = tt })
 
@@ -92,7 +98,7 @@ begun_bare g old now begun r = rw begun (record { is_open = r.is_open; in_transa
 pub left : (s : Layout) (old new : State) (c : Content) (Q : Trees → Type 0) → IsStored s old c → ((db : Trees) → old.may_leave db → db ≡ old.committed.trees) → Survives old new Q → HasCleanDisk new
     → (db : Trees) → new.may_leave db → Leaves s c db ⊎ Q db
 left s old new c Q r law kept clean db may = elim (kept.crash clean db may) [
-  | inl was ↦ inl (subst (Leaves s c) (ap (λ (d : Database). d.trees) r.settled ∙ sym (law db was)) (leaves s old.now c r.holds))
+  | inl was ↦ inl (subst (Leaves s c) (ap (λ (d : Database). d.trees) r.settled ∙ sym (law db was)) (held_is_left s old.now c r.holds))
   | inr now ↦ inr now
 ]
 
@@ -103,6 +109,7 @@ rolled_bare old last new r kept back up =
     let same = undone.0 ∙ kept (back.was_open up) ∙ sym r.settled in
     record { is_open = up; autocommit = back.autocommit; settled = undone.0 ∙ sym undone.1; schema = ap (λ (d : Database). d.schema) same ∙ r.schema }
 
+-- where there was no table and the commit fails, there is none afterwards, unless the database is shut
 pub bare_err : (t : Layout) (base : Database) (old last new : State) (d : Content) → IsBare old → Inside t base last d → base ≡ old.now → IsTrue new.is_open → (r : Result (Unit {0}) Error)
     → IfErr r (FailsToCommit last new) → OnErr r (IsBare new)
 bare_err t base old last new d r inside is up (Ok _) h = tt
@@ -123,20 +130,20 @@ module _ {S : Type 0} (g : store.Ghosts S) (held first : Held S) (last : State) 
     err = λ clean up s c such r.
         let at_last : HasCleanDisk last = omega (arith, quits.clean) in
         rolled_back s (state g held) last new c r (rw begun at (quiet.kept at_last).committed) (back clean) up;
-    crash = crashed (state g held) last new _ _ nothing_left quits (λ clean db none. absurd none);
+    crash = crash_since_quiet (state g held) last new _ _ nothing_left quits (λ clean db none. absurd none);
     durable = λ clean s c such r. tt;
   }
 
   -- which comes to its commit
-  pub written : (new : State) (r : Result (Unit {0}) Error)
+  pub written_at_commit : (new : State) (r : Result (Unit {0}) Error)
       → (HasCleanDisk last → (s : Layout) (base : Database) (c : Content) → IsSuch s c → Inside s base (state g first) c → Inside (made_whole s) base last (turn c))
       → (HasCleanDisk new → OnOk r (IsTrue last.in_transaction × Shows last new last.now last.now false × KeepsCounts last new × (new.marks ≡ [])))
       → (HasCleanDisk new → IfErr r (FailsToCommit last new)) → Survives last new (λ db. db ≡ last.now.trees) → (IsTrue new.is_open → (db : Trees) → new.may_leave db → db ≡ new.committed.trees) → Rewrites IsSuch turn (state g held) new r
-  written new r turned ok err ends law = record {
+  written_at_commit new r turned ok err ends law = record {
     ok = kept;
     err = λ clean up s c such before. moved_err s (made_whole s) _ (state g held) last new c _ before (inside clean s c such before) refl up r (err clean);
-    crash = crashed (state g held) last new _ _ nothing_left ends
-        (λ clean db is s c such before. subst (Leaves (made_whole s) (turn c)) (sym is) (leaves (made_whole s) last.now _ (inside clean s c such before).holds));
+    crash = crash_since_quiet (state g held) last new _ _ nothing_left ends
+        (λ clean db is s c such before. subst (Leaves (made_whole s) (turn c)) (sym is) (held_is_left (made_whole s) last.now _ (inside clean s c such before).holds));
     durable = λ clean s c such before. durable (made_whole s) new _ law r (kept clean s c such before);
   } where
     inside : HasCleanDisk new → (s : Layout) (c : Content) → IsSuch s c → IsStored s (state g held) c → Inside (made_whole s) (state g held).now last (turn c)

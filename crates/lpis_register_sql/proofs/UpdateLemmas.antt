@@ -15,6 +15,7 @@ use Rattle.sqlite_rules.proofs.ProbeLemmas.{mapped_has, has_mapped}
 use Rattle.sqlite_trees.proofs.ListLemmas.{all-permutation}
 use Rattle.lpis_register_sql.proofs.PutLemmas.{put_more}
 
+-- an item of a permutation of a list is in that list
 pub has_permuted : {X : Type 0} (xs ys : List X) (x : X) → IsPermutation xs ys → Has ys x → Has xs x
 has_permuted xs ys x same = all_has (Has xs) ys x (all-permutation (Has xs) xs ys same (all_from (Has xs) xs (λ e h. h)))
 
@@ -37,9 +38,11 @@ filter_twice p q (x ∷ xs) = elim (cases_Bool (p x)) [
   ])
 ]
 
+-- whether the rowid of a row is one of these
 abbrev pub is_gone : List ℤ → Row → Bool
 is_gone ids r = list_any (λ id. has_rowid id r) ids
 
+-- taking rowids out one after the other leaves the rows with none of them, in their order
 pub without_is : (ids : List ℤ) (rows : List Row) → without_all rows ids ≡ filter (λ r. not (is_gone ids r)) rows
 without_is [] rows = sym (all rows)
   where
@@ -48,12 +51,14 @@ without_is [] rows = sym (all rows)
     all (r ∷ rows) = ap (λ l. r ∷ l) (all rows)
 without_is (id ∷ ids) rows = without_is ids (without_rowid id rows) ∙ filter_twice (has_rowid id) (is_gone ids) rows
 
+-- two tests that agree on each item of a list pick the same items
 pub filter_same : {X : Type 0} (p q : X → Bool) (xs : List X) → ((x : X) → Has xs x → p x ≡ q x) → filter p xs ≡ filter q xs
 filter_same p q [] h = refl
 filter_same p q (x ∷ xs) h =
     let more = filter_same p q xs (λ y there. h y (inr there)) in
     rw (h x (inl refl)) (ap₂ (λ (b : Bool) (l : List _). if b then x ∷ l else l) refl more)
 
+-- two functions that agree on each item of a list make the same list of it
 pub map_same_at : {X Y : Type 0} (f g : X → Y) (xs : List X) → ((x : X) → Has xs x → f x ≡ g x) → map f xs ≡ map g xs
 map_same_at f g [] h = refl
 map_same_at f g (x ∷ xs) h = ap₂ ◌∷◌ (h x (inl refl)) (map_same_at f g xs (λ y there. h y (inr there)))
@@ -61,6 +66,7 @@ map_same_at f g (x ∷ xs) h = ap₂ ◌∷◌ (h x (inl refl)) (map_same_at f g
 same_number : (m n : ℤ) → is_eq (value_cmp (Int m) (Int n)) ≡ true → m ≡ n
 same_number m n h = let e = rw (value_cmp-Int m n) at h in grind (arith, ints, nat_tests)
 
+-- the number that is the rowid of a row
 abbrev pub key_of : Row → ℤ
 key_of r = id_in (rowid r)
 
@@ -101,20 +107,20 @@ numbered_given rows [] = refl
 numbered_given rows (n ∷ news) = ap (λ l. n ∷ l) (numbered_given (put_row n rows) news)
 
 -- the found rows are replaced, and the others stay
-pub replaced : (p : Row → Bool) (f : Row → Row) (rows : List Row) (ids : List ℤ) (news : List Row) → AreKeyed rows
+pub found_are_replaced : (p : Row → Bool) (f : Row → Row) (rows : List Row) (ids : List ℤ) (news : List Row) → AreKeyed rows
     → IsPermutation (map key_of (filter p rows)) ids → IsPermutation (map f (filter p rows)) news
     → are_fresh (without_all rows ids) news ≡ true → IsPermutation (map f (filter p rows) ++ filter (λ r. not (p r)) rows) (put_all (without_all rows ids) news)
-replaced p f rows ids news keyed gone made fresh =
+found_are_replaced p f rows ids news keyed gone made fresh =
     let left : without_all rows ids ≡ filter (λ r. not (p r)) rows = without_is ids rows ∙ filter_same _ _ rows (λ r there. ap not (gone_are p rows ids keyed gone r there)) in
     IsPermutation-trans _ _ _
     (IsPermutation-append _ _ _ _ made (subst (IsPermutation (filter (λ r. not (p r)) rows)) (sym left)
     (IsPermutation-refl _))) (put_all_more news (without_all rows ids) fresh)
 
 -- the same as a walk over the rows
-pub walked : {X : Type 0} (p : Row → Bool) (f : Row → Row) (g : Row → X) (rows : List Row)
+pub walk_replaces : {X : Type 0} (p : Row → Bool) (f : Row → Row) (g : Row → X) (rows : List Row)
     → IsPermutation (map (λ r. if p r then g (f r) else g r) rows)
     (map g (map f (filter p rows) ++ filter (λ r. not (p r)) rows))
-walked {X} p f g rows =
+walk_replaces {X} p f g rows =
     let u : Row → X = λ r. if p r then g (f r) else g r in
     subst (IsPermutation (map u rows)) (joined rows rows) (IsPermutation-map u _ _ (IsPermutation-filter_both p (λ r. not (p r)) (λ r. refl) rows))
   where

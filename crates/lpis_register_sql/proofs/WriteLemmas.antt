@@ -34,19 +34,22 @@ either : (b : Bool) (x : Value) → cond b x x ≡ x
 either true x = refl
 either false x = refl
 
+-- casting NULL to INTEGER leaves NULL
 pub cast_null : cast Integer Null ≡ Null
 unfolding unary
 cast_null = either _ Null
 
+-- casting a whole number to INTEGER leaves that number
 pub cast_int : (n : ℤ) → cast Integer (Int n) ≡ Int n
 unfolding unary
 cast_int n = either _ (Int n)
 
 -- a part that gave a value did not stop on the way
-pub went : {B E R : Type 0} {b : B} {Stops : E → Type 0} → ((stop : E) × Stops stop × (Ok b ≡ Err stop)) ⊎ R → R
-went (inl stopped) = absurd (let e = stopped.2 in cc)
-went (inr on) = on
+pub did_not_stop : {B E R : Type 0} {b : B} {Stops : E → Type 0} → ((stop : E) × Stops stop × (Ok b ≡ Err stop)) ⊎ R → R
+did_not_stop (inl stopped) = absurd (let e = stopped.2 in cc)
+did_not_stop (inr on) = on
 
+-- two equal Ok results have equal values
 pub same_value : {B E : Type 0} {a b : B} → ◌≡◌ {A = Result B E} (Ok a) (Ok b) → a ≡ b
 same_value e = cc
 
@@ -68,12 +71,12 @@ inserts : (limit : Option ℕ) (mode : Mode) (params : Row) (schema : Schema) (t
     → (after.schema ≡ schema) × Edited schema mode.keys trees (edit_of trees table [] Chosen 0 (value_rows (stamped table params) width (length terms / width) terms)) (Ok after.trees)
 inserts limit mode params schema trees text index table terms width tally after at plain h =
     let task : Table → Task = λ t. record { limit = limit; keys = mode.keys; schema = schema; table = t; params = params } in
-    let done = went (subst (λ t. AtPlace (λ t. OnRows (task t) mode None (Insert index (Values terms width)) trees) t (Ok (tally, after))) at h) in
-    let now = ap (λ (p : Tally × Database). p.1) (same_value (went (went done.2).2).2) in
-    let given = went done.1 in
-    let counter = went given.2 in
-    let written = went counter.2 in
-    let counted = went written.2 in
+    let done = did_not_stop (subst (λ t. AtPlace (λ t. OnRows (task t) mode None (Insert index (Values terms width)) trees) t (Ok (tally, after))) at h) in
+    let now = ap (λ (p : Tally × Database). p.1) (same_value (did_not_stop (did_not_stop done.2).2).2) in
+    let given = did_not_stop done.1 in
+    let counter = did_not_stop given.2 in
+    let written = did_not_stop counter.2 in
+    let counted = did_not_stop written.2 in
     let moved : counted.0 ≡ written.0 = counts_none (task table) written.0 counted.0 counter.0 _ plain counted.1 in
     let trees_are : done.0.trees ≡ counted.0 = ap (λ (it : Written). it.trees) (same_value counted.2) in
     let step = subst (λ r. Edited schema mode.keys trees (edit_of trees table [] r 0 given.0) (Ok written.0)) (chosen table _ plain) written.1 in
@@ -99,10 +102,10 @@ pub updates : (limit : Option ℕ) (mode : Mode) (params : Row) (schema : Schema
     → Finding schema mode.keys trees q params (λ rows. edit_of trees table (ids_of rows) Given 1 rows) after
 updates limit mode params schema trees text index table q tally after at h =
     let task : Table → Task = λ t. record { limit = limit; keys = mode.keys; schema = schema; table = t; params = params } in
-    let done = went (subst (λ t. AtPlace (λ t. OnRows (task t) mode None (Update index q) trees) t (Ok (tally, after))) at h) in
-    let now = ap (λ (p : Tally × Database). p.1) (same_value (went (went done.2).2).2) in
-    let given = went done.1 in
-    let written = went given.2 in
+    let done = did_not_stop (subst (λ t. AtPlace (λ t. OnRows (task t) mode None (Update index q) trees) t (Ok (tally, after))) at h) in
+    let now = ap (λ (p : Tally × Database). p.1) (same_value (did_not_stop (did_not_stop done.2).2).2) in
+    let given = did_not_stop done.1 in
+    let written = did_not_stop given.2 in
     let trees_are : done.0.trees ≡ written.0 = ap (λ (it : Written). it.trees) (same_value written.2) in
     record {
       found = given.0;
@@ -121,6 +124,7 @@ pub record Kept (o : Origin) (at : ℕ) (db next : Trees) : Type 0 where
   pub texts : (text_tree o ≡ at → ⊥) → next (text_tree o) ≡ db (text_tree o)
   pub marks : (mark_tree o ≡ at → ⊥) → next (mark_tree o) ≡ db (mark_tree o)
 
+-- a step that leaves every table's tree but one leaves each of the register's tables, by name, but that one
 pub kept_of : (o : Origin) (at : ℕ) (db next : Trees) → AllByRecursion (λ t. t.tree ≢ at → next t.tree ≡ db t.tree) (schema_of (Whole o)).tables → Kept o at db next
 kept_of New at db next h = record {
   formats = h.0;
@@ -154,6 +158,7 @@ no_work o tree olds news = go o (length news == 0)
     go Moved true = refl
     go Moved false = refl
 
+-- an edit that came to its end, foreign keys enforced, is one step: no foreign key of the register acts
 pub step_of : (o : Origin) (trees next : Trees) (edit : Edit) → Edited (schema_of (Whole o)) Enforced trees edit (Ok next) → Applies (schema_of (Whole o)) Enforced trees edit next
 step_of o trees next edit h = one_step (schema_of (Whole o)) Enforced trees next edit (no_work o edit.table.tree (taken_by trees edit) edit.news) h
 
@@ -166,6 +171,7 @@ pub record Adds (o : Origin) (old new : State) (tree : ℕ) (row : Row) : Type 0
   pub fresh : is_taken (old.now.trees tree) row ≡ false
   pub others : Kept o tree old.now.trees new.now.trees
 
+-- an INSERT whose terms make one row adds just that row to its table, and leaves the other tables
 pub adds : (o : Origin) (sql : List ℕ) (index width : ℕ) (table : Table) (terms : List Term) (params row : Row) (old new : State) (count : ℕ) → old.now.schema ≡ schema_of (Whole o)
     → slice_get (schema_of (Whole o)).tables index ≡ Some table → table.is_counted ≡ false
     → Says o sql (Insert index (Values terms width))

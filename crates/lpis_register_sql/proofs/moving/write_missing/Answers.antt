@@ -1,12 +1,12 @@
 use Rattle.std.proofs.Common.{◌≡◌, rules}
 use Rattle.lpis_register_sql.proofs.Common.{state}
-use Rattle.lpis_register_sql.proofs.StepLemmas.{written}
+use Rattle.lpis_register_sql.proofs.StepLemmas.{written_at_commit}
 use Rattle.lpis_register_sql.proofs.moving.write_missing.Goals as goal
 
 pub returns-clause-writes : goal.returns-clause-writes
 returns-clause-writes g c =
     let same : c.commit.new.self.0 ≡ c.conn-2-1.given.0 = search rules in
     let first = c.transaction-tx.result.conn.now in
-    rw (← same) (written g.S.Store c.args.conn.now first (state g.S.Store c.complete.new.tx.conn.now) _ (λ content. content) c.transaction-tx.ensures.begun c.complete.ensures.quiet
+    rw (← same) (written_at_commit g.S.Store c.args.conn.now first (state g.S.Store c.complete.new.tx.conn.now) _ (λ content. content) c.transaction-tx.ensures.begun c.complete.ensures.quiet
     (state g.S.Store c.commit.new.self.0) c.commit.result (λ clean layout base content such before. c.in_ok-complete.ensures.made clean layout such base content before)
     c.commit.ensures.ok c.commit.ensures.err c.commit.ensures.survives (λ up db may. g.met.S.Store.settled c.commit.new.self.0.store db up may))

@@ -1,6 +1,6 @@
 use Rattle.std.proofs.Common.{◌≡◌, arith, refl, rules}
 use Rattle.lpis_register_sql.proofs.Common.{Content, HasCleanDisk, Inside, IsQuiet, Layout, state}
-use Rattle.lpis_register_sql.proofs.StepLemmas.{quiet_on, whole_alone, written}
+use Rattle.lpis_register_sql.proofs.StepLemmas.{quiet_on, whole_alone, written_at_commit}
 use Rattle.lpis_register_sql.proofs.publishing.write_release.Goals as goal
 
 pub returns-clause-writes : goal.returns-clause-writes
@@ -10,7 +10,7 @@ returns-clause-writes g c =
     let last = state g.S.Store c.fill_rows.new.tx.conn.now in
     let same : c.commit.new.self.0 ≡ c.conn-2-1.given.0 = search rules in
     let quiet = quiet_on first mid last c.fill.ensures.quiet c.fill_rows.ensures.quiet in
-    rw (← same) (written g.S.Store c.args.conn.now c.transaction-tx.result.conn.now last _ _ c.transaction-tx.ensures.begun quiet (state g.S.Store c.commit.new.self.0) c.commit.result
+    rw (← same) (written_at_commit g.S.Store c.args.conn.now c.transaction-tx.result.conn.now last _ _ c.transaction-tx.ensures.begun quiet (state g.S.Store c.commit.new.self.0) c.commit.result
     (whole_alone _ first last (λ clean origin base content before.
     let at_mid : HasCleanDisk mid = omega (arith, c.fill_rows.ensures.quiet.survives.clean) in
     c.in_ok-fill_rows.ensures.adds clean origin base _ (c.in_ok-fill.ensures.adds at_mid origin base content before)))

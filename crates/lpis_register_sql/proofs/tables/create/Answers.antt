@@ -3,7 +3,7 @@ use Rattle.lpis_register_sql.proofs.Common.{state, HasCleanDisk, New, Whole, Lea
 use Rattle.sqlite.proofs.Callers.{survives_begin}
 use Rattle.lpis_register_rows.specs.Content.{no_content}
 use Rattle.lpis_register_sql.specs.Commits.{LeavesMade}
-use Rattle.lpis_register_sql.proofs.StepLemmas.{begun_bare, bare_err, commit_ok, leaves, crashed}
+use Rattle.lpis_register_sql.proofs.StepLemmas.{begun_bare, bare_err, commit_ok, held_is_left, crash_since_quiet}
 use Rattle.lpis_register_sql.proofs.tables.create.Goals as goal
 
 pub returns-clause-made : goal.returns-clause-made
@@ -27,10 +27,10 @@ returns-clause-crash g c =
     let same : c.commit.new.self.0 ≡ c.conn-2-1.given.0 = search rules in
     let quiet_since = survives_begin g.S.Store c.args.conn.now last _ (rw c.transaction-tx.ensures.begun at c.make_all.ensures.quiet.survives) in
     let P = LeavesMade c.args.found.now old in
-    rw (← same) (crashed old last new _ P quiet_since c.commit.ensures.survives (λ clean db is bare r.
+    rw (← same) (crash_since_quiet old last new _ P quiet_since c.commit.ensures.survives (λ clean db is bare r.
     let at_last : HasCleanDisk last = omega (arith, c.commit.ensures.survives.clean) in
     let inside = c.in_ok-make_all.ensures.begun bare at_last _ (begun_bare g.S.Store c.args.conn.now first c.transaction-tx.ensures.begun r) in
-    subst (Leaves (Whole New) no_content) (sym is) (leaves (Whole New) last.now _ inside.holds)))
+    subst (Leaves (Whole New) no_content) (sym is) (held_is_left (Whole New) last.now _ inside.holds)))
 
 pub returns-clause-err : goal.returns-clause-err
 returns-clause-err g c bare clean up r =

@@ -1,6 +1,6 @@
 use Rattle.std.proofs.Common.{pos, arith, take, length, ◌<◌}
 use Rattle.lpis_register_sql.proofs.Common.{state, lines_from, with_lines}
-use Rattle.lpis_register_sql.proofs.StepLemmas.{at_end, one_more, quiet_on}
+use Rattle.lpis_register_sql.proofs.StepLemmas.{turns_at_end, turns_one_more, quiet_on}
 use Rattle.lpis_register_sql.proofs.LoopLemmas.{lines_more}
 use Rattle.lpis_register_sql.proofs.writing.insert_lines.Goals as goal
 
@@ -13,12 +13,12 @@ loop-position-preserved g c =
     let low : i < length c.args.rows.now = omega arith in
     record {
       same_reference = cc;
-      adds = one_more (λ n. with_lines (lines_from (pos c.args.year) 0 (take n c.args.rows.now))) _ i old mid now c.insert_row.ensures.quiet c.loop-position.invariant.adds
+      adds = turns_one_more (λ n. with_lines (lines_from (pos c.args.year) 0 (take n c.args.rows.now))) _ i old mid now c.insert_row.ensures.quiet c.loop-position.invariant.adds
           c.in_ok-insert_row.ensures.adds (λ content. lines_more (pos c.args.year) c.args.rows.now i c.index-rows-position.result _ content low c.index-rows-position.is);
       quiet = quiet_on old mid now c.loop-position.invariant.quiet c.insert_row.ensures.quiet;
     }
 
 pub returns-clause-adds : goal.returns-clause-adds
 returns-clause-adds g c =
-    at_end (λ xs. with_lines (lines_from (pos c.args.year) 0 xs)) c.args.rows.now c.loop-position.position (state g.S.Store c.args.tx.now.conn.now)
+    turns_at_end (λ xs. with_lines (lines_from (pos c.args.year) 0 xs)) c.args.rows.now c.loop-position.position (state g.S.Store c.args.tx.now.conn.now)
     (state g.S.Store c.loop-position.tx.conn.now) (omega arith) c.loop-position.invariant.adds

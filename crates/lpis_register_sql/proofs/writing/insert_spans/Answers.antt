@@ -1,8 +1,8 @@
 use Rattle.std.proofs.Common.{pos, arith, take, length, ◌<◌}
 use Rattle.lpis_register_sql.proofs.Common.{state}
 use Rattle.lpis_register_rows.specs.Content.{with_spans, with_span}
-use Rattle.lpis_register_sql.proofs.StepLemmas.{at_end, one_more, quiet_on}
-use Rattle.lpis_register_sql.proofs.LoopLemmas.{more}
+use Rattle.lpis_register_sql.proofs.StepLemmas.{turns_at_end, turns_one_more, quiet_on}
+use Rattle.lpis_register_sql.proofs.LoopLemmas.{fold_one_more}
 use Rattle.lpis_register_sql.proofs.writing.insert_spans.Goals as goal
 
 pub loop-id-preserved : goal.loop-id-preserved
@@ -14,12 +14,12 @@ loop-id-preserved g c =
     let low : i < length c.args.ids.now = omega arith in
     record {
       same_reference = cc;
-      adds = one_more (λ n. with_spans (pos c.args.year) (take n c.args.ids.now)) _ i old mid now c.insert_span.ensures.quiet c.loop-id.invariant.adds
-          c.in_ok-insert_span.ensures.adds (λ content. more (with_span (pos c.args.year)) c.args.ids.now i c.id-item.result _ content low c.id-item.is);
+      adds = turns_one_more (λ n. with_spans (pos c.args.year) (take n c.args.ids.now)) _ i old mid now c.insert_span.ensures.quiet c.loop-id.invariant.adds
+          c.in_ok-insert_span.ensures.adds (λ content. fold_one_more (with_span (pos c.args.year)) c.args.ids.now i c.id-item.result _ content low c.id-item.is);
       quiet = quiet_on old mid now c.loop-id.invariant.quiet c.insert_span.ensures.quiet;
     }
 
 pub returns-clause-adds : goal.returns-clause-adds
 returns-clause-adds g c =
-    at_end (with_spans (pos c.args.year)) c.args.ids.now c.loop-id.id-index (state g.S.Store c.args.tx.now.conn.now)
+    turns_at_end (with_spans (pos c.args.year)) c.args.ids.now c.loop-id.id-index (state g.S.Store c.args.tx.now.conn.now)
     (state g.S.Store c.loop-id.tx.conn.now) (omega arith) c.loop-id.invariant.adds
