@@ -25,6 +25,7 @@ follows-rows h live ids rows alike f = record {
       (sym (kinds-alike (last_live h) live ids rows alike)) f.marked;
 }
 
+-- where identifiers and rows follow a history, so does the release made of them
 pub to-release : (h : List Entry) (live : List (List ℕ)) (rows : List Row) (e : Entry) → IsReleaseEntry live rows e → Follows h live rows → Follows h e.live e.rows
 to-release h live rows e is f = let P : List Row → Type 0 = λ rs. Follows h e.live rs in subst P (sym is.rows_are) (follows-rows h e.live live rows is.ids f)
 
@@ -40,6 +41,7 @@ first-before : (xs ys : List LineageFault) (e : LineageFault) → first xs ≡ S
 first-before [] ys e t = cc t
 first-before (x ∷ xs) ys e t = t
 
+-- the first fault but for those of marks, if not out of memory, is the first of all faults
 pub before-marks : (h : List Entry) (live : List (List ℕ)) (rows : List Row) (e : LineageFault) → (e ≡ Memory) ⊎ (first (faults_but_marks h live rows) ≡ Some e)
     → (e ≡ Memory) ⊎ (first (faults h live rows) ≡ Some e)
 before-marks h live rows e (inl m) = inl m
@@ -52,18 +54,22 @@ marks-alone h live set rows alike none =
     ap (λ (kind_of : List ℕ → Option Kind). marked_row_faults kind_of rows 1 rows) (kinds-alike (last_live h) set live rows alike)
     ∙ sym (ap (λ (fs : List LineageFault). fs ++ marked_row_faults (kind (last_live h) live rows) rows 1 rows) none)
 
+-- after a lawful history whose rows fit, a release without a fault may follow in whatever later year
 pub may-follow : (h : List Entry) (live : List (List ℕ)) (rows : List Row) → IsLawful h → RowsFit h → faults h live rows ≡ [] → MayFollow h live rows
 may-follow h live rows law fit none e is later =
     let f = to-release h live rows e is (follows-from-clean h live rows none) in
     (lawful-more h e law later f, fits-more h e fit f)
 
+-- no history with a faulty release at its end is lawful with rows that fit, whatever the year
 pub never-follows : (h : List Entry) (live : List (List ℕ)) (rows : List Row) (fault : LineageFault) → first (faults h live rows) ≡ Some fault → NeverFollows h live rows
 never-follows h live rows fault told e is law fit = let none = clean-from-follows h live rows (from-release h live rows e is (follows-back h e law fit)) in let t = ap first none in cc
 
+-- where an error is the first fault, if not out of memory, the release never follows
 pub refused-by : (h : List Entry) (live : List (List ℕ)) (rows : List Row) (e : LineageFault) → (e ≡ Memory) ⊎ (first (faults h live rows) ≡ Some e) → (e ≡ Memory) ⊎ NeverFollows h live rows
 refused-by h live rows e (inl m) = inl m
 refused-by h live rows e (inr t) = inr (never-follows h live rows e t)
 
+-- after a lawful history whose rows fit, an answer that reports the first fault decides on the release
 pub decides : {A : Type 0} (h : List Entry) (live : List (List ℕ)) (rows : List Row) (r : Result A LineageFault)
     → IsLawful h → RowsFit h → ReportsFirstOf (faults h live rows) r → Decides h live rows r
 decides h live rows (Ok a) law fit t = may-follow h live rows law fit t

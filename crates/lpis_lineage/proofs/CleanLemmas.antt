@@ -19,6 +19,7 @@ told-nil : (b : Bool) (f : LineageFault) (rest : List LineageFault) → fault_be
 told-nil true f rest e = absurd cc
 told-nil false f rest e = (refl, e)
 
+-- a fault whose test is false, before no others, leaves no fault
 pub told-none : (b : Bool) (f : LineageFault) (rest : List LineageFault) → b ≡ false → rest ≡ [] → fault_before b f rest ≡ []
 told-none true f rest b e = absurd cc
 told-none false f rest b e = e
@@ -27,16 +28,20 @@ both-nil : {A : Type 0} (xs ys : List A) → xs ++ ys ≡ [] → (xs ≡ []) × 
 both-nil [] ys e = (refl, e)
 both-nil (x ∷ xs) ys e = absurd cc
 
+-- where one test implies another, and some element passes the one, some element passes the other
 pub mono : {A : Type 0} (p q : A → Bool) (xs : List A) → ((x : A) → p x ≡ true → q x ≡ true) → list_any p xs ≡ true → list_any q xs ≡ true
 mono p q [] into e = e
 mono p q (x ∷ xs) into e = elim (or_cases (p x) (list_any p xs) e) as (λ _. list_any q (x ∷ xs) ≡ true) [ inl a ↦ or_left (q x) _ (into x a) | inr b ↦ or_right (q x) _ (mono p q xs into b) ]
 
+-- where some element of a list passes, some element passes of the list with others behind it
 pub any-left : {A : Type 0} (p : A → Bool) (xs ys : List A) → list_any p xs ≡ true → list_any p (xs ++ ys) ≡ true
 any-left p xs ys e = list_any-append p xs ys ∙ or_left (list_any p xs) _ e
 
+-- where an element passes a test, some element does of each list that has it
 pub any-mid : {A : Type 0} (p : A → Bool) (xs : List A) (x : A) (ys : List A) → p x ≡ true → list_any p (xs ++ x ∷ ys) ≡ true
 any-mid p xs x ys e = list_any-append p xs (x ∷ ys) ∙ or_right (list_any p xs) _ (or_left (p x) _ e)
 
+-- where some element passes of a list with one more at its end, one before it passes, or it does
 pub any-last : {A : Type 0} (p : A → Bool) (xs : List A) (x : A) → list_any p (xs ++ x ∷ []) ≡ true → (list_any p xs ≡ true) ⊎ (p x ≡ true)
 any-last p xs x e = elim (or_cases (list_any p xs) _ (sym (list_any-append p xs (x ∷ [])) ∙ e)) as
     (λ _. (list_any p xs ≡ true) ⊎ (p x ≡ true)) [
@@ -284,6 +289,7 @@ used-none : (o : Option ℕ) (b : Bool) (id : List ℕ) (rest : List LineageFaul
 used-none None b id rest f e = e
 used-none (Some y) b id rest f e = told-none _ _ _ (not_from_true b (f refl)) e
 
+-- where identifiers have no fault of use, each of them that some release holds is among the last ones
 pub used-clean : (h : List Entry) (last ids : List (List ℕ)) → used_faults h last ids ≡ [] → (id : List ℕ) (i : ℕ) → holds h i id ≡ true → has_id ids id ≡ true → has_id last id ≡ true
 used-clean h last [] e id i hi is = cc is
 used-clean h last (x ∷ xs) e id i hi is =
@@ -295,6 +301,7 @@ used-clean h last (x ∷ xs) e id i hi is =
       | inr b ↦ used-clean h last xs t.1 id i hi b
     ]
 
+-- where each of the identifiers that some release holds is among the last ones, they have no fault of use
 pub clean-used : (h : List Entry) (last ids : List (List ℕ)) → ((id : List ℕ) (i : ℕ) → holds h i id ≡ true → has_id ids id ≡ true → has_id last id ≡ true) → used_faults h last ids ≡ []
 clean-used h last [] all = refl
 clean-used h last (x ∷ xs) all = used-none (last_held h x) (has_id last x) x _ (λ s. let r = some-held h x s in
@@ -327,6 +334,7 @@ unmarked kind_of all (r ∷ rs) e = by r.exact _ e (unmarked kind_of all rs)
     by true c e rec = cc e
     by false c e rec = rec e
 
+-- where no row is marked, there is no fault of marks
 pub unmarked-clean : (kind_of : List ℕ → Option Kind) (rows : List Row) → list_any (λ (r : Row). r.exact) rows ≡ false → marked_row_faults kind_of rows 1 rows ≡ []
 unmarked-clean kind_of rows e = clean-marks kind_of rows 1 rows (unmarked kind_of rows rows e)
 
@@ -346,6 +354,7 @@ answered rows id once a is =
       | inr n ↦ let some = filter-some _ rows (heir-or-end rows id is n) in let few = one-ending rows id once in inl (omega (arith, some, few), n)
     ]
 
+-- a release whose lineage has no fault follows the history
 pub follows-from-clean : (h : List Entry) (live : List (List ℕ)) (rows : List Row) → faults h live rows ≡ [] → Follows h live rows
 follows-from-clean h live rows e =
     let w = both-nil (faults_but_marks h live rows) _ e in
@@ -362,6 +371,7 @@ follows-from-clean h live rows e =
       marked = marks-clean (kind (last_live h) live rows) rows 1 rows w.1;
     }
 
+-- a release that follows the history has no fault in its lineage
 pub clean-from-follows : (h : List Entry) (live : List (List ℕ)) (rows : List Row) → Follows h live rows → faults h live rows ≡ []
 clean-from-follows h live rows f =
     let a : Apart rows = λ id e s. let d = f.dropped id (mono _ (is_row_of id) rows (λ r h. (and_parts (is_row_of id r) _ h).0) e) in from-answered rows id (f.answered id d.0 d.1) e s in
@@ -379,10 +389,12 @@ clean-from-follows h live rows f =
             _ (is_row_of id) rows (λ r h. (and_parts (is_row_of id r) _ h).0) r.1
       ]
 
+-- where the test is true, its fault is the first one
 pub first-told : (b : Bool) (f : LineageFault) (rest : List LineageFault) → b ≡ true → first (fault_before b f rest) ≡ Some f
 first-told true f rest e = refl
 first-told false f rest e = cc e
 
+-- where the test is false, the faults are the ones behind it
 pub told-skip : (b : Bool) (f : LineageFault) (rest : List LineageFault) → b ≡ false → fault_before b f rest ≡ rest
 told-skip true f rest e = cc e
 told-skip false f rest e = refl

@@ -145,6 +145,7 @@ some-successor : (xs : List (List ℕ)) → 1 < length xs → (s : List ℕ) × 
 some-successor [] l = absurd (omega arith)
 some-successor (s ∷ xs) l = (s, or_left (same_id s s) _ (same-refl s))
 
+-- without a fault, of the kind split is exactly what is dropped for several successors, each of one predecessor
 pub kinds-tell-splits : (h : List Entry) (live : List (List ℕ)) (rows : List Row) → faults h live rows ≡ [] → (id : List ℕ)
     → (is_split (kind (last_live h) live rows id) ≡ true) ↔ IsSplit (last_live h) live rows id
 kinds-tell-splits h live rows none id = (to, from)
@@ -180,6 +181,7 @@ kinds-tell-splits h live rows none id = (to, from)
         let d = dropped h live rows (follows-from-clean h live rows none) id x.0 x.1 in
         split-to _ _ _ _ _ s.was s.gone d.2 (many _ s.several) (list_any_none (λ z. nat_lt 1 (predecessors (last_live h) live rows z)) (successors rows id) (λ k e l. one_few _ (s.alone k e l)))
 
+-- without a fault, a successor is of a merge exactly where it has several predecessors with no other successor
 pub kinds-tell-merges : (h : List Entry) (live : List (List ℕ)) (rows : List Row) → faults h live rows ≡ [] → (s : List ℕ)
     → (is_merge (kind (last_live h) live rows) rows s ≡ true) ↔ IsMerge (last_live h) live rows s
 kinds-tell-merges h live rows none s = (to, from)

@@ -27,6 +27,7 @@ pub last-some : (h : List Entry) (id : List ℕ) → has_id (last_live h) id ≡
 last-some [] id e = cc e
 last-some (x ∷ h) id e = (length h, omega arith, e)
 
+-- the last release's year, by index
 pub year-at : (h : List Entry) (i : ℕ) → i + 1 ≡ length h → (entry_at h i).year ≡ last_year h
 year-at [] i e = absurd (omega arith)
 year-at (x ∷ h) i e = let j : i ≡ length h = omega arith in ap (λ (k : ℕ). (entry_at (x ∷ h) k).year) j
@@ -51,6 +52,7 @@ hold-here h e i id at = ap (λ (k : ℕ). holds (h ++ e ∷ []) k id) at ∙ ap 
 entry-at : (h : List Entry) (e : Entry) (i : ℕ) → i ≡ length h → entry_at (h ++ e ∷ []) i ≡ e
 entry-at h e i at = ap (λ (k : ℕ). entry_at (h ++ e ∷ []) k) at ∙ entry-here h e
 
+-- a history with one release more is longer by one
 pub longer : (h : List Entry) (e : Entry) → length (h ++ e ∷ []) ≡ length h + 1
 longer h e = length-append h (e ∷ [])
 
@@ -114,8 +116,9 @@ answers h e law f id i d =
       ]
     ]
 
-pub beyond : (h : List Entry) (i : ℕ) → length h ≤ i → (test : Row → Bool) → list_any test (entry_at h i).rows ≡ false
-beyond h i le test = ap (λ (x : Entry). list_any test x.rows) (entry-after h i le)
+-- past the end of a history no row passes a test
+pub no-row-beyond : (h : List Entry) (i : ℕ) → length h ≤ i → (test : Row → Bool) → list_any test (entry_at h i).rows ≡ false
+no-row-beyond h i le test = ap (λ (x : Entry). list_any test x.rows) (entry-after h i le)
 
 heirs : (h : List Entry) (e : Entry) → IsLawful h → Follows h e.live e.rows → (id : List ℕ) (i : ℕ) → list_any (names_successor id) (entry_at (h ++ e ∷ []) i).rows ≡ true
     → holds (h ++ e ∷ []) i id ≡ true
@@ -125,10 +128,11 @@ heirs h e law f id i named =
       | inl a ↦ hold-before h e i id a ∙ law.successors id i (ap (λ (x : Entry). list_any (names_successor id) x.rows) (sym (entry-before h e i a)) ∙ named)
       | inr b ↦ elim b as (λ _. holds (h ++ e ∷ []) i id ≡ true) [
         | inl at ↦ hold-here h e i id at ∙ f.named id (ap (λ (x : Entry). list_any (names_successor id) x.rows) (sym (entry-at h e i at)) ∙ named)
-        | inr c ↦ absurd (let no = beyond (h ++ e ∷ []) i (omega (arith, n)) (names_successor id) in cc)
+        | inr c ↦ absurd (let no = no-row-beyond (h ++ e ∷ []) i (omega (arith, n)) (names_successor id) in cc)
       ]
     ]
 
+-- a lawful history stays lawful with a release of a later year at its end that follows it
 pub lawful-more : (h : List Entry) (e : Entry) → IsLawful h → last_year h < e.year → Follows h e.live e.rows → IsLawful (h ++ e ∷ [])
 lawful-more h e law y f = record {
   first_year = λ _. first-year h e law y;
@@ -172,7 +176,7 @@ drops-more h e fit f id i is =
             let il : i < length h = omega arith in
             let d = f.dropped id (ap (λ (x : Entry). list_any (is_row_of id) x.rows) (sym (entry-at h e (i + 1) at)) ∙ is) in
             (omega (arith, n), hold-before h e i id il ∙ ap (λ (l : List (List ℕ)). has_id l id) (last-at h i at) ∙ d.0, hold-here h e (i + 1) id at ∙ d.1)
-        | inr c ↦ absurd (let no = beyond (h ++ e ∷ []) (i + 1) (omega (arith, n)) (is_row_of id) in cc)
+        | inr c ↦ absurd (let no = no-row-beyond (h ++ e ∷ []) (i + 1) (omega (arith, n)) (is_row_of id) in cc)
       ]
     ]
 
@@ -196,10 +200,11 @@ marks-more h e fit f i =
             (subst (λ (l : List (List ℕ)). MarksHold l e.live e.rows) (sym (last-at h i at)) f.marked))
         | inr c ↦
             let next = entry_at (h ++ e ∷ []) (i + 1) in
-            beyond (h ++ e ∷ []) (i + 1) (omega (arith, n)) (is_outside (kind (entry_at (h ++ e ∷ []) i).live next.live next.rows) next.rows)
+            no-row-beyond (h ++ e ∷ []) (i + 1) (omega (arith, n)) (is_outside (kind (entry_at (h ++ e ∷ []) i).live next.live next.rows) next.rows)
       ]
     ]
 
+-- where the rows of a history fit, they fit with a release at its end that follows it
 pub fits-more : (h : List Entry) (e : Entry) → RowsFit h → Follows h e.live e.rows → RowsFit (h ++ e ∷ [])
 fits-more h e fit f = record {
   first = first-rows h e fit f;
@@ -248,6 +253,7 @@ back-marked (x ∷ t) e fit =
     subst (λ (y : Entry). Marked y e) (entry-before (x ∷ t) e (length t) il)
     (subst (λ (y : Entry). Marked (entry_at ((x ∷ t) ++ e ∷ []) (length t)) y) (entry-at (x ∷ t) e (length t + 1) at) (fit.marked (length t)))
 
+-- where a history is lawful and its rows fit, its last release follows the ones before it
 pub follows-back : (h : List Entry) (e : Entry) → IsLawful (h ++ e ∷ []) → RowsFit (h ++ e ∷ []) → Follows h e.live e.rows
 follows-back h e law fit = record {
   not_used = back-used h e law;
@@ -264,5 +270,6 @@ entry-get [] i d lt = absurd (omega arith)
 entry-get (x ∷ h) zero d lt = refl
 entry-get (x ∷ h) (suc i) d lt = entry-get h i d (omega arith)
 
+-- the release at the last index has the last year and the last identifiers
 pub last-entry : (h : List Entry) (i : ℕ) (e : Entry) → i + 1 ≡ length h → e ≡ get_or h i e → (e.year ≡ last_year h) × (e.live ≡ last_live h)
 last-entry h i e n is = let at = is ∙ entry-get h i e (omega arith) in (ap (λ (x : Entry). x.year) at ∙ year-at h i n, ap (λ (x : Entry). x.live) at ∙ last-at h i n)

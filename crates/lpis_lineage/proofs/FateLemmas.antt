@@ -52,9 +52,11 @@ fates-heir last live all before f g r s b are some sh e o n = record {
   shared_are = λ q. row-more (on_some (is_shared last live all)) (Some s) q before r _ _ some (are.shared_are q) (rw (← sh) (n q));
 }
 
+-- where t is false and k is true, l alone decides on "t, or both k and l"
 pub last-part : (t k l x : Bool) → t ≡ false → k ≡ true → x ≡ l → x ≡ (t || (k && l))
 last-part t k l x e f g = grind arith
 
+-- the kind of a dropped identifier that is not ended, from whether successors are several, and one is shared
 pub kind-counted : (last live : List (List ℕ)) (rows : List Row) (id : List ℕ) (several shared : Bool) (k : Kind) → has_id last id ≡ true
     → has_id live id ≡ false → is_ended rows id ≡ false
     → several ≡ nat_lt 1 (id_times (olds rows) id) → shared ≡ list_any (λ r. is_row_of id r && on_some (is_shared last live rows) r.new) rows
@@ -66,6 +68,7 @@ heirs-has : (rows : List Row) (s : List ℕ) → list_any (names_successor s) ro
 heirs-has [] s e = cc e
 heirs-has (r ∷ rs) s e = grind (arith, heirs-has rs s)
 
+-- the successor of a row is among those that the rows name
 pub heir-named : (rows : List Row) (i : ℕ) (r : Row) → i < length rows → r ≡ get_or rows i r → (s : List ℕ) → is_this s r.new ≡ true
     → has_id (heirs rows) s ≡ true
 heir-named rows i r lt is s e = heirs-has rows s (list_any_at (names_successor s) rows i r lt (rw (← is) e))

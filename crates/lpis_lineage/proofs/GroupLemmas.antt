@@ -19,6 +19,7 @@ use Rattle.lpis_lineage.proofs.IdentifierLemmas.{same-refl}
 use Rattle.lpis_lineage.proofs.PickingLemmas.{ascending-filter, has-filter}
 use Rattle.lpis_lineage.proofs.TellingLemmas.{take-at}
 
+-- the empty list of identifiers ascends
 pub ascending-none : IsAscending []
 unfolding IsStrictlySortedBy
 ascending-none = tt
@@ -27,6 +28,7 @@ ascending-none = tt
 pub any-next : {A : Type 0} (p : A → Bool) (xs : List A) (i : ℕ) (x : A) → i < length xs → x ≡ get_or xs i x → (list_any p (take i xs) || p x) ≡ list_any p (take (i + 1) xs)
 any-next p xs i x lt is = ap (λ y. list_any p (take i xs) || p y) is ∙ sym (list_any_more p xs i x lt)
 
+-- the names of the first identifiers that pass, and of the next if it does, are those of one identifier more
 pub names-next : (f : List ℕ → Bool × List ℕ) (p : List ℕ → Bool) (ids : List (List ℕ)) (i : ℕ) (id : List ℕ) → i < length ids → id ≡ get_or ids i id
     → map f (filter p (take i ids)) ++ map f (filter p (id ∷ [])) ≡ map f (filter p (take (i + 1) ids))
 names-next f p ids i id lt is =
@@ -59,6 +61,7 @@ gathered kind_of rows false id x there = refl
 gathered kind_of rows true id x there = gathered-merge id x (same_id x id && is_kept (kind_of x)) rows
     ∙ ap (λ (b : Bool). list_any (leads x id) rows || (b && (same_id x id && is_kept (kind_of x)))) (there refl)
 
+-- a group with the ascending set gathered for its identifier has the others of its rows
 pub has-others : (kind_of : List ℕ → Option Kind) (rows : List Row) (merge : Bool) (id : List ℕ) (set : List (List ℕ)) (g : Group) → (merge ≡ true → list_any (names_successor id) rows ≡ true)
     → ((x : List ℕ) → has_id set x ≡ list_any (gathers kind_of merge id x) rows) → group_name g ≡ as_group merge id → g.others ≡ set → IsAscending g.others → HasOthers kind_of rows merge g
 has-others kind_of rows merge id set g there are n o a = record {
@@ -70,6 +73,7 @@ has-others kind_of rows merge id set g there are n o a = record {
   m : g.merge ≡ merge
   m = ap (λ (p : Bool × List ℕ). p.0) n
 
+-- where each group of a list has its others, and one more group does, so does each of the longer list
 pub others-added : (kind_of : List ℕ → Option Kind) (rows : List Row) (merge : Bool) (gs new : List Group) (g : Group) → new ≡ gs ++ g ∷ [] → HasOthers kind_of rows merge g
     → All (HasOthers kind_of rows merge) gs → All (HasOthers kind_of rows merge) new
 others-added kind_of rows merge gs new g e h a =
@@ -96,11 +100,12 @@ left_parts : (a b c : Bool) → ((a && b) && c) ≡ true → a ≡ true
 left_parts true b c e = refl
 left_parts false b c e = cc e
 
-pub whole : (last live : List (List ℕ)) (c : Changes) (heirs : List (List ℕ)) (gs ms all : List Group) → IsChange last live c.rows c → IsAscending c.dropped_ids → IsAscending heirs
+-- the groups of the exact splits, then those of the exact merges, are the exact groups of a change
+pub groups-exact : (last live : List (List ℕ)) (c : Changes) (heirs : List (List ℕ)) (gs ms all : List Group) → IsChange last live c.rows c → IsAscending c.dropped_ids → IsAscending heirs
     → ((s : List ℕ) → has_id heirs s ≡ list_any (names_successor s) c.rows) → map group_name gs ≡ map (as_group false) (filter (is_exact_of false (kind_at c) c.rows) c.dropped_ids)
     → map group_name ms ≡ map (as_group true) (filter (is_exact_of true (kind_at c) c.rows) heirs) → All (HasOthers (kind_at c) c.rows false) gs → All (HasOthers (kind_at c) c.rows true) ms
     → all ≡ gs ++ ms → AreExactGroups (kind_at c) c.rows all
-whole last live c heirs gs ms all is da ha are n m o p e = record {
+groups-exact last live c heirs gs ms all is da ha are n m o p e = record {
   splits = filter (is_exact_of false (kind_at c) c.rows) c.dropped_ids;
   merges = filter (is_exact_of true (kind_at c) c.rows) heirs;
   listed = ap (λ (xs : List Group). map group_name xs) e ∙ map-append group_name gs ms

@@ -5,6 +5,7 @@ use Rattle.std.proofs.lemmas.List.Folds.{list_any_more}
 use Rattle.std.specs.Cmp.Lexicographic.{texts_ties}
 use Rattle.std.proofs.lemmas.Slice.Eq.{bytes_eq-Decides}
 
+-- two identifiers are the same exactly where the order of their bytes ties them
 pub same-by_order : (a b : List ℕ) → same_id a b ≡ is_eq (slice_cmp nat_cmp a b)
 same-by_order a b = texts_ties a b
 
@@ -35,10 +36,12 @@ entry-before [] e i lt = absurd (omega arith)
 entry-before (x ∷ h) e zero lt = refl
 entry-before (x ∷ h) e (suc i) lt = entry-before h e i (omega arith)
 
+-- a release added at the end of a history is the one at the index of the old length
 pub entry-here : (h : List Entry) (e : Entry) → entry_at (h ++ e ∷ []) (length h) ≡ e
 entry-here [] e = refl
 entry-here (x ∷ h) e = entry-here h e
 
+-- past the end of a history there is an empty release of year 0
 pub entry-after : (h : List Entry) (i : ℕ) → length h ≤ i → entry_at h i ≡ record { year = 0; live = []; rows = [] }
 entry-after [] i le = refl
 entry-after (x ∷ h) zero le = absurd (omega arith)
@@ -50,6 +53,7 @@ in-history [] i id e = cc e
 in-history (x ∷ h) zero id e = omega arith
 in-history (x ∷ h) (suc i) id e = let lt = in-history h i id e in omega arith
 
+-- whether two identifiers are the same does not depend on which comes first
 pub same-sym : (a b : List ℕ) → same_id a b ≡ same_id b a
 same-sym a b = same-sym-by a b (same_id a b) refl (same_id b a) refl where
   same-sym-by : (a b : List ℕ) (x : Bool) → same_id a b ≡ x → (y : Bool) → same_id b a ≡ y → same_id a b ≡ same_id b a

@@ -18,6 +18,7 @@ two-none : {A : Type 0} (p q n : A → Bool) (xs : List A) → (list_all p (filt
 two-none p q n [] = refl
 two-none p q n (x ∷ xs) = grind (arith, two-none p q n xs)
 
+-- a split is an exact one where no row of its identifier is unmarked, and only there
 pub exact-split : (kind_of : List ℕ → Option Kind) (rows : List Row) (id : List ℕ) (b : Bool) → is_split (kind_of id) ≡ true
     → b ≡ list_any (λ (r : Row). is_row_of id r && not r.exact) rows → not b ≡ is_exact_split kind_of rows id
 exact-split kind_of rows id b k e = by (is_split (kind_of id)) k (ap not e ∙ sym (all-none (λ (r : Row). r.exact) (is_row_of id) rows))
@@ -26,6 +27,7 @@ exact-split kind_of rows id b k e = by (is_split (kind_of id)) k (ap not e ∙ s
     by true e h = h
     by false e h = cc e
 
+-- a named successor is of an exact merge just where each row that names it is marked and merges its old identifier
 pub exact-merge : (kind_of : List ℕ → Option Kind) (rows : List Row) (s : List ℕ) (b : Bool) → list_any (names_successor s) rows ≡ true
     → b ≡ list_any (λ (r : Row). names_successor s r && not (is_merged (kind_of r.old) && r.exact)) rows → not b ≡ is_exact_merge kind_of rows s
 exact-merge kind_of rows s b there e = by (list_any (names_successor s) rows) there (ap not e ∙ sym (two-none (λ (r : Row). is_merged (kind_of r.old)) (λ (r : Row). r.exact) (names_successor s) rows))
@@ -46,6 +48,7 @@ of-more : (q : List ℕ) (before : List Row) (r : Row) (was is : Bool) → was �
     → is ≡ cond (not r.exact && same_id r.old q) true was → is ≡ list_any (λ (x : Row). is_row_of q x && not x.exact) (before ++ r ∷ [])
 of-more q before r was is e f = grind (arith, any-push (λ (x : Row). is_row_of q x && not x.exact) before r, same-sym q r.old)
 
+-- one row more, an ending: its old identifier is added to the unsplit ones where the row is not marked
 pub marks-none : (kind_of : List ℕ → Option Kind) (m n : Marks) (before : List Row) (r : Row) → AreMarks kind_of m before → r.new ≡ None
     → ((q : List ℕ) → has_id n.unsplit q ≡ cond (not r.exact && same_id r.old q) true (has_id m.unsplit q)) → n.unmerged ≡ m.unmerged
     → AreMarks kind_of n (before ++ r ∷ [])
@@ -57,6 +60,7 @@ marks-none kind_of m n before r are none u e = record {
       && x.exact)) (before ++ r ∷ [])
   by s = rw (any-push (λ (x : Row). names_successor s x && not (is_merged (kind_of x.old) && x.exact)) before r, none) (grind arith)
 
+-- one row more with a successor, which is added to the unmerged ones unless the row is marked and merges
 pub marks-some : (kind_of : List ℕ → Option Kind) (m n : Marks) (before : List Row) (r : Row) (heir : List ℕ) → AreMarks kind_of m before → r.new ≡ Some heir
     → ((q : List ℕ) → has_id n.unsplit q ≡ cond (not r.exact && same_id r.old q) true (has_id m.unsplit q))
     → ((s : List ℕ) → has_id n.unmerged s ≡ cond (not (is_merged (kind_of r.old) && r.exact) && same_id heir s) true (has_id m.unmerged s))

@@ -7,6 +7,7 @@ use Rattle.lpis_lineage.proofs.SeenLemmas.{any-push}
 has-push : (ids : List (List ℕ)) (id q : List ℕ) → has_id (ids ++ id ∷ []) q ≡ (has_id ids q || same_id q id)
 has-push ids id q = any-push (same_id q) ids id
 
+-- beginning the span of the last identifier, then those of the rest, begins the spans of all
 pub begun-pop : (all ids : List (List ℕ)) (id q : List ℕ) (year : ℕ) (old new : Option Span) → all ≡ ids ++ id ∷ []
     → new ≡ cond (same_id id q) (Some (record { first = year; last = 0 })) old → begun (has_id ids q) year new ≡ begun
     (has_id all q) year old

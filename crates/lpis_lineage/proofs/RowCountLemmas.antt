@@ -4,6 +4,7 @@ use Rattle.lpis_lineage.proofs.Common.{list_any, cases_Bool, Row, is_ended, succ
 use Rattle.lpis_lineage.specs.Lineage.{same_new}
 use Rattle.lpis_lineage.specs.Lawful.{endings}
 
+-- a test picks from two lists, one behind the other, as many as from the two added up
 pub filter-append : {A : Type 0} (p : A → Bool) (xs ys : List A) → length (filter p (xs ++ ys)) ≡ length (filter p xs) + length (filter p ys)
 filter-append p [] ys = omega arith
 filter-append p (x ∷ xs) ys = by-test p x xs ys (p x) refl (filter-append p xs ys) where
@@ -13,6 +14,7 @@ filter-append p (x ∷ xs) ys = by-test p x xs ys (p x) refl (filter-append p xs
   by-test p x xs ys true e ih = omega (arith, ih)
   by-test p x xs ys false e ih = ih
 
+-- where no element passes, none is picked
 pub filter-none : {A : Type 0} (p : A → Bool) (xs : List A) → list_any p xs ≡ false → length (filter p xs) ≡ 0
 filter-none p [] e = refl
 filter-none p (x ∷ xs) e = by-test p x xs (p x) (filter-none p xs) e where
@@ -22,6 +24,7 @@ filter-none p (x ∷ xs) e = by-test p x xs (p x) (filter-none p xs) e where
   by-test p x xs true ih e = absurd cc
   by-test p x xs false ih e = ih e
 
+-- where some element passes, at least one is picked
 pub filter-some : {A : Type 0} (p : A → Bool) (xs : List A) → list_any p xs ≡ true → 1 ≤ length (filter p xs)
 filter-some p [] e = cc e
 filter-some p (x ∷ xs) e = by-test p x xs (p x) (filter-some p xs) e where
@@ -55,9 +58,11 @@ one-ending rows id once = let same = filter-alike _ (same_row (record { old = id
 ended-counted : (rows : List Row) (id : List ℕ) → is_ended rows id ≡ true → endings rows id ≡ 0 → false ≡ true
 ended-counted rows id e none = absurd (let some = filter-some _ rows e in omega (arith, some, none))
 
+-- an identifier with one ending is ended
 pub counted-ended : (rows : List Row) (id : List ℕ) → endings rows id ≡ 1 → is_ended rows id ≡ true
 counted-ended rows id one = elim (cases_Bool (is_ended rows id)) as (λ _. is_ended rows id ≡ true) [ inl e ↦ e | inr n ↦ absurd (let none = filter-none _ rows n in omega (arith, one, none)) ]
 
+-- an identifier that the rows answer has not both an ending and a successor
 pub from-answered : (rows : List Row) (id : List ℕ) → IsAnswered rows id → is_ended rows id ≡ true → succeeded rows id ≡ true → false ≡ true
 from-answered rows id (inl l) e s = sym l.1 ∙ s
 from-answered rows id (inr r) e s = ended-counted rows id e r.0

@@ -60,6 +60,7 @@ row-fault-old : (n : ℕ) (row : Fields) (f : TableFault) → Answers {A = List 
 row-fault-old n row f h =
     column-fault (id_faults Lineage n (field_of row 0)) (successor_faults n (field_of row 1) ++ mark_field_faults n (mark_of_text (field_of row 2))) (field_of row 0) (row_of row) f h
 
+-- where the old identifier is read, a fault of the successor is that of the row
 pub row-fault-new : (n : ℕ) (row : Fields) (old : List ℕ) (f : TableFault) → unless_faulty (id_faults Lineage n (field_of row 0))
     (field_of row 0) ≡ Ok old → Answers {A = Option (List ℕ)} (Err f)
     (unless_faulty (successor_faults n (field_of row 1)) (successor_of (field_of row 1)))
@@ -68,6 +69,7 @@ row-fault-new n row old f e h = column-passed {A = List ℕ} {B = Row} (id_fault
     (successor_faults n (field_of row 1) ++ mark_field_faults n (mark_of_text (field_of row 2))) (field_of row 0) old (Err f) (row_of row) e
     (column-fault (successor_faults n (field_of row 1)) (mark_field_faults n (mark_of_text (field_of row 2))) (successor_of (field_of row 1)) (row_of row) f h)
 
+-- where the old identifier and the successor are read, a fault of the mark is that of the row
 pub row-fault-mark : (n : ℕ) (row : Fields) (old : List ℕ) (new : Option (List ℕ)) (f : TableFault)
     → unless_faulty (id_faults Lineage n (field_of row 0)) (field_of row 0) ≡ Ok old
     → unless_faulty (successor_faults n (field_of row 1)) (successor_of (field_of row 1)) ≡ Ok new

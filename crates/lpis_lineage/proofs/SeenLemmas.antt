@@ -8,13 +8,16 @@ use Rattle.std.specs.Cmp.Lexicographic.{texts_ties}
 use Rattle.lpis_lineage.specs.declared.seen.Seen.{Seen}
 use Rattle.lpis_lineage.proofs.IdentifierLemmas.{same-sym}
 
+-- where two tests agree on each element, some element passes the one exactly where some passes the other
 pub any-same : {A : Type 0} (p q : A → Bool) (xs : List A) → ((x : A) → p x ≡ q x) → list_any p xs ≡ list_any q xs
 any-same p q [] e = refl
 any-same p q (x ∷ xs) e = cc (e x, any-same p q xs e)
 
+-- some element passes of a list with one more at its end exactly where one before it passes, or it does
 pub any-push : {A : Type 0} (p : A → Bool) (xs : List A) (x : A) → list_any p (xs ++ x ∷ []) ≡ (list_any p xs || p x)
 any-push p xs x = rw (list_any-append, or-false)
 
+-- "true where a is, else b" is "b or a"
 pub or-cond : (a b : Bool) → cond a true b ≡ (b || a)
 or-cond a b = grind arith
 
@@ -28,9 +31,11 @@ row-more t new q before r was is named e f = grind (arith, any-push (λ row. is_
 pub doubled-end : (s : Seen) (before : List Row) (r : Row) → IsSeen s before → r.new ≡ None → has_id s.ended r.old ≡ list_any (same_row r) before
 doubled-end s before r seen none = seen.ended_are r.old ∙ any-same _ (same_row r) before (λ q. rw none (grind arith))
 
+-- an ending clashes with a row before exactly where the set of continued ones has its old identifier
 pub clash-end-set : (s : Seen) (before : List Row) (r : Row) → IsSeen s before → r.new ≡ None → has_id s.continued r.old ≡ list_any (clashes r) before
 clash-end-set s before r seen none = seen.continued_are r.old ∙ any-same _ (clashes r) before (λ q. rw none)
 
+-- a row with a successor clashes with one before exactly where the set of endings has its old identifier
 pub clash-heir-set : (s : Seen) (before : List Row) (r : Row) (heir : List ℕ) → IsSeen s before → r.new ≡ Some heir
     → has_id s.ended r.old ≡ list_any (clashes r) before
 clash-heir-set s before r heir seen some = seen.ended_are r.old ∙ any-same _ (clashes r) before (λ q. rw (some, or-false))
@@ -45,6 +50,7 @@ seen-end s t before r seen none e c h = record {
   heirs_are = λ a b. row-more (is_this b) None a before r _ _ none (seen.heirs_are a b) (rw h);
 }
 
+-- the sets with one row more that has a successor: its old identifier and the pair of both are added
 pub seen-heir : (s t : Seen) (before : List Row) (r : Row) (heir : List ℕ) → IsSeen s before → r.new ≡ Some heir
     → t.ended ≡ s.ended → ((q : List ℕ) → has_id t.continued q ≡ cond (same_id r.old q) true (has_id s.continued q))
     → ((a b : List ℕ) → list_any (λ p. same_id a p.0 && same_id b p.1) t.heirs.keys ≡ cond

@@ -65,6 +65,7 @@ years-back h law i j il jl le = elim (before-at-after j i) as (λ _. i ≤ j) [
   | inr b ↦ elim b as (λ _. i ≤ j) [ inl e ↦ omega arith | inr c ↦ omega arith ]
 ]
 
+-- each release of a lawful history has a year above 0
 pub above-zero : (h : List Entry) → IsLawful h → (i : ℕ) → i < length h → 0 < (entry_at h i).year
 above-zero h law i lt = let f = law.first_year (omega arith) in let m = years-mono h law 0 i (omega arith) lt in omega (arith, f, m)
 

@@ -13,6 +13,7 @@ live-push (x ∷ xs) p y = ap (λ (l : List (List ℕ)). cond (in_span x.1 y) (x
   out true l r = refl
   out false l r = refl
 
+-- one identifier further, whose span holds the year: it is added
 pub live-then : (ps : List (List ℕ × Span)) (i : ℕ) (p : List ℕ × Span) (copy : List ℕ) (y : ℕ)
     (found new : List (List ℕ)) → i < length ps → p ≡ get_or ps i p → copy ≡ p.0 → in_span p.1 y ≡ true
     → found ≡ live_in (take i ps) y → new ≡ found ++ copy ∷ [] → new ≡ live_in (take (i + 1) ps) y
@@ -21,6 +22,7 @@ live-then ps i p copy y found new lt is c t f n =
     ∙ ap (λ (b : Bool). live_in (take i ps) y ++ cond b (p.0 ∷ []) []) (sym t)
     ∙ sym (live-push (take i ps) p y) ∙ ap (λ (l : List (List ℕ × Span)). live_in l y) (take-at ps i p lt is)
 
+-- one identifier further, whose span does not hold the year: none is added
 pub live-else : (ps : List (List ℕ × Span)) (i : ℕ) (p : List ℕ × Span) (y : ℕ) (found : List (List ℕ)) → i < length ps
     → p ≡ get_or ps i p → in_span p.1 y ≡ false → found ≡ live_in (take i ps) y → found ≡ live_in (take (i + 1) ps) y
 live-else ps i p y found lt is t f =

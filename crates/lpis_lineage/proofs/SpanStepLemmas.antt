@@ -34,6 +34,7 @@ last-more (x ∷ h) e id =
     ap (λ (o : Option ℕ). option_or o (cond (has_id x.live id) (Some x.year) None)) (last-more h e id)
     ∙ or-assoc (cond (has_id e.live id) (Some e.year) None) (last_held h id) (cond (has_id x.live id) (Some x.year) None)
 
+-- the last identifiers of a history with one release more are that release's
 pub live-more : (h : List Entry) (e : Entry) → last_live (h ++ e ∷ []) ≡ e.live
 live-more h e = sym (last-at (h ++ e ∷ []) (length h) (sym (longer h e))) ∙ ap (λ (x : Entry). x.live) (entry-here h e)
 
@@ -47,6 +48,7 @@ first-none (x ∷ h) id e = by (first-none h id) (has_id x.live id) refl e where
   by ih true eb n = absurd cc
   by ih false eb n = ap (λ (o : Option ℕ). option_or o (cond (has_id x.live id) (Some x.year) None)) (ih n) ∙ ap (λ (t : Bool). cond t (Some x.year) None) (sym eb)
 
+-- an identifier with a first year has a last one
 pub first-some : (h : List Entry) (id : List ℕ) → is_some (first_held h id) ≡ true → is_some (last_held h id) ≡ true
 first-some h id s = by (first_held h id) refl s where
   by : (o : Option ℕ) → o ≡ first_held h id → is_some o ≡ true → is_some (last_held h id) ≡ true
@@ -80,6 +82,7 @@ calc (Some f) (Some l) false true y last none gone some used at = absurd (let u 
 calc (Some f) (Some l) true false y last none gone some used at = ap (λ (n : ℕ). Some (record { first = f; last = n })) (sym (some-eq l last (at refl)))
 calc _ _ _ _ _ _ _ _ _ _ _ = refl
 
+-- spans after a release that follows: begun where an identifier is new, ended where it is dropped
 pub span-more : (h : List Entry) (e : Entry) (id : List ℕ) → Follows h e.live e.rows
     → ended_in (has_id (last_live h) id && not (has_id e.live id)) (last_year h) (begun (has_id e.live id && not (is_some (span_of h id))) e.year (span_of h id)) ≡ span_of (h ++ e ∷ []) id
 span-more h e id follows =
@@ -140,6 +143,7 @@ unlive-some h id s dead e = by (first_held h id) refl (last_held h id) refl (ap 
     last-of None = None
     last-of (Some t) = Some t.last
 
+-- an identifier without a span has no last year
 pub unlive-none : (h : List Entry) (id : List ℕ) → span_of h id ≡ None → None ≡ last_held h id
 unlive-none h id e = by (first_held h id) refl (last_held h id) refl e where
   by : (f : Option ℕ) → f ≡ first_held h id → (l : Option ℕ) → l ≡ last_held h id → span_between f l (has_id (last_live h) id) ≡ None → None ≡ l
@@ -154,6 +158,7 @@ none-held h id none i = by (holds h i id) refl where
   by true e = absurd (let s = held-some h id i (sym e) in let l = unlive-none h id none in cc)
   by false e = refl
 
+-- some release holds an identifier that has a span
 pub some-held : (h : List Entry) (id : List ℕ) (s : Span) → span_of h id ≡ Some s → (i : ℕ) × (holds h i id ≡ true)
 some-held h id s e = by (first_held h id) refl (last_held h id) refl e where
   by : (f : Option ℕ) → f ≡ first_held h id → (l : Option ℕ) → l ≡ last_held h id → span_between f l (has_id (last_live h) id) ≡ Some s → (i : ℕ) × (holds h i id ≡ true)

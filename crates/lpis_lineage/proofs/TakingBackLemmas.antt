@@ -12,7 +12,7 @@ use Rattle.std.proofs.lemmas.Bool.Decides.{eqb_tells}
 use Rattle.lpis_lineage.specs.Lawful.{Drops}
 use Rattle.lpis_lineage.specs.private.Keeping.{IsHistory}
 use Rattle.lpis_lineage.proofs.IdentifierLemmas.{entry-before, entry-here, entry-after, in-history, same-exact, same-sym}
-use Rattle.lpis_lineage.proofs.ExtensionLemmas.{before-at-after, longer, beyond, follows-back, hold-before}
+use Rattle.lpis_lineage.proofs.ExtensionLemmas.{before-at-after, longer, no-row-beyond, follows-back, hold-before}
 use Rattle.lpis_lineage.proofs.SpanLemmas.{first-index}
 use Rattle.lpis_lineage.proofs.SpanStepLemmas.{first-none, first-some, live-year, span-more}
 
@@ -34,7 +34,7 @@ more-drops h e i id d =
 less-named : (h : List Entry) (e : Entry) → IsLawful (h ++ e ∷ []) → (id : List ℕ) (i : ℕ) → list_any (names_successor id) (entry_at h i).rows ≡ true → holds h i id ≡ true
 less-named h e law id i named = elim (before-at-after i (length h)) as (λ _. holds h i id ≡ true) [
   | inl a ↦ sym (hold-before h e i id a) ∙ law.successors id i (ap (λ (x : Entry). list_any (names_successor id) x.rows) (entry-before h e i a) ∙ named)
-  | inr b ↦ absurd (let no = beyond h i (elim b as (λ _. length h ≤ i) [ inl at ↦ omega arith | inr c ↦ omega arith ]) (names_successor id) in cc)
+  | inr b ↦ absurd (let no = no-row-beyond h i (elim b as (λ _. length h ≤ i) [ inl at ↦ omega arith | inr c ↦ omega arith ]) (names_successor id) in cc)
 ]
 
 less-lawful : (h : List Entry) (e : Entry) → IsLawful (h ++ e ∷ []) → IsLawful h
@@ -72,7 +72,7 @@ less-dropped h e fit id i is = elim (before-at-after (i + 1) (length h)) as (λ 
       let il : i < length h = omega arith in
       let d = fit.of_dropped id i (ap (λ (x : Entry). list_any (is_row_of id) x.rows) (entry-before h e (i + 1) a) ∙ is) in
       (a, sym (hold-before h e i id il) ∙ d.1, sym (hold-before h e (i + 1) id a) ∙ d.2)
-  | inr b ↦ absurd (let no = beyond h (i + 1) (elim b as (λ _. length h ≤ i + 1) [ inl at ↦ omega arith | inr c ↦ omega arith ]) (is_row_of id) in cc)
+  | inr b ↦ absurd (let no = no-row-beyond h (i + 1) (elim b as (λ _. length h ≤ i + 1) [ inl at ↦ omega arith | inr c ↦ omega arith ]) (is_row_of id) in cc)
 ]
 
 less-marked : (h : List Entry) (e : Entry) → RowsFit (h ++ e ∷ []) → (i : ℕ) → Marked (entry_at h i) (entry_at h (i + 1))
@@ -81,7 +81,7 @@ less-marked h e fit i = elim (before-at-after (i + 1) (length h)) as (λ _. Mark
       let il : i < length h = omega arith in
       subst (λ (x : Entry). Marked x (entry_at h (i + 1))) (entry-before h e i il)
       (subst (λ (x : Entry). Marked (entry_at (h ++ e ∷ []) i) x) (entry-before h e (i + 1) a) (fit.marked i))
-  | inr b ↦ beyond h (i + 1) (elim b as (λ _. length h ≤ i + 1) [ inl at ↦ omega arith | inr c ↦ omega arith ])
+  | inr b ↦ no-row-beyond h (i + 1) (elim b as (λ _. length h ≤ i + 1) [ inl at ↦ omega arith | inr c ↦ omega arith ])
       (is_outside (kind (entry_at h i).live (entry_at h (i + 1)).live (entry_at h (i + 1)).rows) (entry_at h (i + 1)).rows)
 ]
 

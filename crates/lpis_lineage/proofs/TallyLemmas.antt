@@ -25,6 +25,7 @@ some-times ids q = by (has_id ids q) refl where
 same-both : (id q : List ℕ) (ids : List (List ℕ)) (b : Bool) → has_id ids id ≡ b → same_id q id ≡ true → has_id ids q ≡ b
 same-both id q ids b e s = let P : List ℕ → Type 0 = λ z. has_id ids z ≡ b in subst P (sym (same-exact q id s)) e
 
+-- one identifier more that the list has already: it is one of those that it has more than once
 pub tally-again : (s t : Tally) (ids : List (List ℕ)) (id : List ℕ) → IsTally s ids → has_id s.once id ≡ true
     → t.once ≡ s.once → ((q : List ℕ) → has_id t.twice q ≡ cond (same_id id q) true (has_id s.twice q))
     → IsTally t (ids ++ id ∷ [])
@@ -42,6 +43,7 @@ tally-again s t ids id tally there once new = record {
   by-twice q true e = sym (some-times ids q ∙ same-both id q ids true (sym (tally.once_are id) ∙ there) (sym e))
   by-twice q false e = refl
 
+-- one identifier more that the list lacked: it is one of those that it has
 pub tally-new : (s t : Tally) (ids : List (List ℕ)) (id : List ℕ) → IsTally s ids → has_id s.once id ≡ false
     → t.twice ≡ s.twice → ((q : List ℕ) → has_id t.once q ≡ cond (same_id id q) true (has_id s.once q))
     → IsTally t (ids ++ id ∷ [])
@@ -63,6 +65,7 @@ heirs-some rows i r s lt is some = sym (push (take i rows)) ∙ ap heirs (take-a
     out None l = refl
     out (Some y) l = refl
 
+-- a row without a successor adds none to those that the rows name
 pub heirs-none : (rows : List Row) (i : ℕ) (r : Row) → i < length rows → r ≡ get_or rows i r → r.new ≡ None → heirs (take i rows) ≡ heirs (take (i + 1) rows)
 heirs-none rows i r lt is none = sym (push (take i rows)) ∙ ap heirs (take-at rows i r lt is) where
   push : (rs : List Row) → heirs (rs ++ r ∷ []) ≡ heirs rs

@@ -8,6 +8,7 @@ use Rattle.lpis_lineage.proofs.Common.{first}
 use Rattle.lpis_lineage.specs.declared.fault.LineageFault.TheVariants.{Memory, OldNotLive, OldStillLive, SuccessorMissing, DoubledRow, EndingBesideSuccessor, NoRow}
 use Rattle.lpis_lineage.specs.Faults.{is_missing, faults_of_row}
 
+-- faults with others behind them: the others alone where there are none, else with the same first fault
 pub record Falls (some none others : List LineageFault) : Type 0 where
   pub when_none : none ≡ [] → some ≡ others
   pub when_told : (e : LineageFault) → first none ≡ Some e → first some ≡ Some e
@@ -35,9 +36,11 @@ first-append : (xs ys : List LineageFault) (e : LineageFault) → first xs ≡ S
 first-append [] ys e h = cc h
 first-append (x ∷ xs) ys e h = h
 
+-- the rest of a list from an index on is the element there, then the rest from the next index on
 pub drop-at : {A : Type 0} (xs : List A) (i : ℕ) (x : A) → i < length xs → x ≡ get_or xs i x → drop i xs ≡ x ∷ drop (i + 1) xs
 drop-at {A} xs i x lt is = rw add-one (drop-cons xs i x lt ∙ ap (λ (y : A). y ∷ drop (suc i) xs) (sym is))
 
+-- the elements before an index, with the one there behind them, are those before the next index
 pub take-at : {A : Type 0} (xs : List A) (i : ℕ) (x : A) → i < length xs → x ≡ get_or xs i x → take i xs ++ x ∷ [] ≡ take (i + 1) xs
 take-at {A} xs i x lt is = ap (λ (y : A). take i xs ++ y ∷ []) is ∙ sym (take_more xs i x lt)
 
@@ -49,6 +52,7 @@ rows-step last live rows i k r lt is none =
     ∙ (row-falls last live (take i rows) k r _).when_none none
     ∙ ap (λ (xs : List Row). lineage_row_faults last live xs (k + 1) (drop (i + 1) rows)) (take-at rows i r lt is)
 
+-- where a row's first fault is met, if not out of memory, it is the first of the rows from there on
 pub rows-stop : (last live : List (List ℕ)) (rows : List Row) (i k : ℕ) (r : Row) (e : LineageFault) → i < length rows → r ≡ get_or rows i r
     → (e ≡ Memory) ⊎ (first (faults_of_row last live (take i rows) k r []) ≡ Some e)
     → (all : List LineageFault) → all ≡ lineage_row_faults last live (take i rows) k (drop i rows) → (e ≡ Memory) ⊎ (first all ≡ Some e)
@@ -57,6 +61,7 @@ rows-stop last live rows i k r e lt is (inr t) all eq = inr (
     ap first eq ∙ ap (λ (xs : List Row). first (lineage_row_faults last live (take i rows) k xs)) (drop-at rows i r lt is)
     ∙ (row-falls last live (take i rows) k r _).when_told e t)
 
+-- what holds of the rows before an index, with the one there behind them, holds of those before the next
 pub seen-next : (rows : List Row) (i : ℕ) (r : Row) (P : List Row → Type 0) → i < length rows → r ≡ get_or rows i r → P (take i rows ++ r ∷ []) → P (take (i + 1) rows)
 seen-next rows i r P lt is p = subst P (take-at rows i r lt is) p
 
@@ -85,6 +90,7 @@ rows-live last a b before k (r ∷ rs) e =
       miss a b e None = refl
       miss a b e (Some s) = ap not (e s)
 
+-- sets with the same members leave dropped identifiers the same faults
 pub dropped-live : (a b : List (List ℕ)) (rows : List Row) (ids : List (List ℕ)) → ((q : List ℕ) → has_id a q ≡ has_id b q) → dropped_faults a rows ids ≡ dropped_faults b rows ids
 dropped-live a b rows [] e = refl
 dropped-live a b rows (x ∷ xs) e = told-same (not (has_id a x) && not (list_any (is_row_of x) rows))
@@ -101,21 +107,24 @@ of-either (r ∷ rs) id = by (is_row_of id r) (is_some r.new) _ _ ∙ ap (λ (b 
   by true false c d = refl
   by false b c d = refl
 
+-- for an ended identifier, whether it is ended is whether it has a row
 pub row-then : (rows : List Row) (id : List ℕ) (x : Bool) → x ≡ is_ended rows id → x ≡ true → x ≡ list_any (is_row_of id) rows
 row-then rows id x e t = t ∙ sym (ap (λ (b : Bool). b || succeeded rows id) (sym e ∙ t)) ∙ of-either rows id
 
+-- for an identifier that is not ended, whether it has a successor is whether it has a row
 pub row-else : (rows : List Row) (id : List ℕ) (x y : Bool) → x ≡ is_ended rows id → x ≡ false → y ≡ succeeded rows id → y ≡ list_any (is_row_of id) rows
 row-else rows id x y e f g = g ∙ sym (ap (λ (b : Bool). b || succeeded rows id) (sym e ∙ f)) ∙ of-either rows id
 
 -- where rows and dropped identifiers have no fault, those of used identifiers are left
-pub passed : (h : List Entry) (set live : List (List ℕ)) (rows : List Row)
+pub used-faults-left : (h : List Entry) (set live : List (List ℕ)) (rows : List Row)
     → ((q : List ℕ) → has_id set q ≡ has_id live q) → lineage_row_faults (last_live h) set [] 1 rows ≡ []
     → dropped_faults set rows (last_live h) ≡ []
     → faults_but_marks h live rows ≡ used_faults h (last_live h) live
-passed h set live rows alike no-rows none =
+used-faults-left h set live rows alike no-rows none =
     ap (λ (l : List LineageFault). l ++ (dropped_faults live rows (last_live h) ++ used_faults h (last_live h) live)) (sym (rows-live (last_live h) set live [] 1 rows alike) ∙ no-rows)
     ∙ ap (λ (l : List LineageFault). l ++ used_faults h (last_live h) live) (sym (dropped-live set live rows (last_live h) alike) ∙ none)
 
+-- behind no faults, the first of some faults stays the first with others behind it
 pub stops-after : (xs ys zs : List LineageFault) (e : LineageFault) → xs ≡ [] → (e ≡ Memory) ⊎ (first ys ≡ Some e) → (e ≡ Memory) ⊎ (first (xs ++ (ys ++ zs)) ≡ Some e)
 stops-after xs ys zs e n (inl m) = inl m
 stops-after xs ys zs e n (inr t) = inr (ap (λ (l : List LineageFault). first (l ++ (ys ++ zs))) n ∙ first-append ys zs e t)

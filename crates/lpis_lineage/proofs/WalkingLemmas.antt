@@ -12,6 +12,7 @@ abbrev pub rowless : List Row → List (List ℕ) → List LineageFault
 rowless rows [] = []
 rowless rows (id ∷ ids) = fault_before (not (list_any (is_row_of id) rows)) (NoRow id) (rowless rows ids)
 
+-- the faults of dropped identifiers are those for want of a row among the ones that the release lacks
 pub dropped-rowless : (live : List (List ℕ)) (rows : List Row) (ids : List (List ℕ)) → dropped_faults live rows ids ≡ rowless rows (filter (λ id. not (has_id live id)) ids)
 dropped-rowless live rows [] = refl
 dropped-rowless live rows (x ∷ xs) = by (has_id live x) (dropped_faults live rows xs) (dropped-rowless live rows xs) where

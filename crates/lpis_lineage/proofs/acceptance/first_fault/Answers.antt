@@ -2,7 +2,7 @@ use Rattle.std.proofs.Common.{◌≡◌, ◌∙◌, sym, ap, subst, List, ℕ, [
 use Rattle.lpis_lineage.proofs.Common.{last_live, LineageFault, lineage_row_faults, dropped_faults, used_faults, first}
 use Rattle.lpis_lineage.specs.declared.fault.LineageFault.TheVariants.{Memory}
 use Rattle.std.proofs.lemmas.Result.{err_from_is_err_and}
-use Rattle.lpis_lineage.proofs.TellingLemmas.{passed, stops-after, rows-live, dropped-live}
+use Rattle.lpis_lineage.proofs.TellingLemmas.{used-faults-left, stops-after, rows-live, dropped-live}
 use Rattle.lpis_lineage.proofs.acceptance.first_fault.Goals as goal
 
 pub returns-in_err-check_dropped-clause-tells : goal.returns-in_err-check_dropped-clause-tells
@@ -25,7 +25,7 @@ pub returns-in_err-check_used-clause-tells : goal.returns-in_err-check_used-clau
 returns-in_err-check_used-clause-tells c =
     let h = c.args.history.now in
     let last = c.last_live-last.ensures in
-    let clean = passed h c.in_ok-set.set c.args.live.now c.args.rows.now c.in_ok-set.ensures
+    let clean = used-faults-left h c.in_ok-set.set c.args.live.now c.args.rows.now c.in_ok-set.ensures
     (rw last at c.in_ok-seen.ensures.tells) (rw last at c.in_ok-check_dropped.ensures c.args.rows.now
     c.in_ok-seen.ensures.seen) in
     let P : List LineageFault → Type 0 = λ l. (c.in_err-check_used.field-0.0 ≡ Memory) ⊎ (first l ≡ Some c.in_err-check_used.field-0.0) in
@@ -35,6 +35,6 @@ pub returns-clause-tells : goal.returns-clause-tells
 returns-clause-tells c =
     let h = c.args.history.now in
     let last = c.last_live-last.ensures in
-    passed h c.in_ok-set.set c.args.live.now c.args.rows.now c.in_ok-set.ensures (rw last at c.in_ok-seen.ensures.tells)
+    used-faults-left h c.in_ok-set.set c.args.live.now c.args.rows.now c.in_ok-set.ensures (rw last at c.in_ok-seen.ensures.tells)
     (rw last at c.in_ok-check_dropped.ensures c.args.rows.now c.in_ok-seen.ensures.seen)
     ∙ c.in_ok-check_used.ensures
