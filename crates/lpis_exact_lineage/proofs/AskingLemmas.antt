@@ -58,11 +58,13 @@ one-more R (a ∷ xs) (b ∷ ys) x y r z = (z.0, one-more R xs ys x y r z.1)
 one-more R [] (b ∷ ys) x y r z = absurd z
 one-more R (a ∷ xs) [] x y r z = absurd z
 
+-- lists that fit one by one still do with the next element and one that fits it at their ends
 pub zip-more : {A B : Type 0} (R : A → B → Type 0) (xs : List A) (ys : List B) {zs : List B} (k : ℕ) (x : A) (y : B) → k < length xs → x ≡ get_or xs k x → AllZip R (take k xs) ys → R x y
     → zs ≡ ys ++ y ∷ [] → AllZip R (take (k + 1) xs) zs
 zip-more {A} {B} R xs ys k x y lt at z r pushed =
     subst (AllZip R (take (k + 1) xs)) (sym pushed) (subst (λ (l : List A). AllZip R l (ys ++ y ∷ [])) (take-at xs k x lt at) (one-more R (take k xs) ys x y r z))
 
+-- where all before it have kept shapes, an identifier without one is the first without one in the list
 pub first-in : (kept : List Shape) (ids : List (List ℕ)) (k : ℕ) (id : List ℕ) (shapes : List (List Member)) (fault : AskFault) → k < length ids → id ≡ get_or ids k id
     → AllZip (HasShape (shape_named kept)) (take k ids) shapes → IsFirstLacking kept (id ∷ []) fault → IsFirstLacking kept ids fault
 first-in kept ids k id shapes fault lt at z first = subst (λ (l : List (List ℕ)). IsFirstLacking kept l fault) (split-at ids k id lt at)
@@ -88,12 +90,14 @@ wanted-kept kept new g x w = by g.merge w.whole w.parts
     by true whole parts = kept-none kept g.others x.parts parts
     by false whole parts = kept-none kept (g.id ∷ []) (x.whole ∷ []) (whole, tt)
 
+-- where each group has its part, all their old identifiers have kept shapes
 pub all-kept : (kept : List Shape) (new : List ℕ → Option (List Member)) (gs : List Group) (xs : List ExactPart) → AllZip (IsWanted (shape_named kept) new) gs xs → unkept kept gs ≡ []
 all-kept kept new [] xs z = refl
 all-kept kept new (g ∷ gs) [] z = absurd z
 all-kept kept new (g ∷ gs) (x ∷ xs) z =
     lacking-append kept (old_ids g) (flat_map old_ids gs) ∙ ap (λ (l : List (List ℕ)). l ++ unkept kept gs) (wanted-kept kept new g x z.0) ∙ all-kept kept new gs xs z.1
 
+-- behind groups that have their parts, the first old identifier of a group to lack a kept shape is the first of all
 pub first-of-groups : (kept : List Shape) (new : List ℕ → Option (List Member)) (gs : List Group) (k : ℕ) (g : Group) (xs : List ExactPart) (fault : AskFault) → k < length gs → g ≡ get_or gs k g
     → AllZip (IsWanted (shape_named kept) new) (take k gs) xs → IsFirstLacking kept (old_ids g) fault → IsFirstLacking kept (flat_map old_ids gs) fault
 first-of-groups kept new gs k g xs fault lt at z first =
@@ -113,10 +117,11 @@ marked h r rows c gs none change are = record {
   groups = subst (λ (rs : List Row). AreExactGroups (kinds_from h r rows) rs gs) change.rows_are (subst (λ (k : List ℕ → Option Kind). AreExactGroups k c.rows gs) (λ i id. change.kinds_are id i) are);
 }
 
-pub asked : (h : List Entry) (kept : List Shape) (r : Contents) (rows : List Row) (c : Changes) (gs : List Group) (xs : List ExactPart) → faults h (parcel_ids r.parcels) rows ≡ []
+-- the parts of the exact groups of a change without a fault are those that the release asks for
+pub parts-are-asked : (h : List Entry) (kept : List Shape) (r : Contents) (rows : List Row) (c : Changes) (gs : List Group) (xs : List ExactPart) → faults h (parcel_ids r.parcels) rows ≡ []
     → IsChange (last_live h) (parcel_ids r.parcels) rows c → AreExactGroups (kind_at c) c.rows gs → AllZip (IsWanted (shape_named kept) (shape_named (shapes_in r))) gs xs
     → (hs : List Group) × AsksFor h kept r rows hs xs
-asked h kept r rows c gs xs none change are parts = (
+parts-are-asked h kept r rows c gs xs none change are parts = (
   gs,
   record {
     marked = marked h r rows c gs none change are;

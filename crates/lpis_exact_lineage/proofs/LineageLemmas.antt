@@ -24,6 +24,7 @@ use Rattle.lpis_exact_lineage.specs.Asking.{HasShape, IsWanted, part_shape, whol
 use Rattle.lpis_exact_lineage.specs.ExactLineage.{ExactlyOneOf, IsExactLineage, LiesIn, ShapesShareNothing, ShapesTurnOnce}
 use Rattle.lpis_exact_lineage.proofs.NameLemmas.{distinct_at, exactly_named, name_at}
 
+-- round each rational point the whole turns as often as its parts together
 abbrev pub Turns : ExactPart → Type 0
 Turns x = TurnsAsParts x.whole x.parts
 
@@ -147,6 +148,7 @@ others_at kind_of rows g merge id o m i q =
     o q ∙ ap (λ (b : Bool). cond b (leads_into kind_of rows g.id q) (list_any (leads g.id q) rows)) m
     ∙ ap (λ (j : List ℕ). cond merge (leads_into kind_of rows j q) (list_any (leads j q) rows)) (sym i)
 
+-- where wholes turn as their parts, and new shapes once at most and without a common point, lineage is exact
 pub groups_show : SplitMakesUp → MergedMakesUp → (kind_of : List ℕ → Option Kind) (rows : List Row) (gs : List Group) (xs : List ExactPart) (kept new : List ℕ → Option (List Member))
     → AreExactGroups kind_of rows gs → AllZip (IsWanted kept new) gs xs → All Turns xs → ShapesTurnOnce new → ShapesShareNothing new → IsExactLineage kind_of rows kept new
 groups_show split_makes_up merged_makes_up kind_of rows gs xs kept new are wanted turns once nothing = record { splits = split; merges = merged }

@@ -84,6 +84,7 @@ no-merge kind_of rows n s = by (list_any (names_successor s) rows) refl
 none-ascend : IsAscending []
 none-ascend = sorted_from_all_adjacent nat_list_cmp_total [] [] (λ k lt. absurd (omega (arith, lt)))
 
+-- a change without a marked row has no exact groups
 pub no-groups : (last live : List (List ℕ)) (c : Changes) → IsChange last live c.rows c → list_any (λ (r : Row). r.exact) c.rows ≡ false → AreExactGroups (kind_at c) c.rows []
 no-groups last live c change n = subst (λ (k : List ℕ → Option Kind). AreExactGroups k c.rows []) (λ i id. sym (change.kinds_are id) i) (record {
   splits = [];

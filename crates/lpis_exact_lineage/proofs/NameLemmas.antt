@@ -58,6 +58,7 @@ pub record Named (f : List ℕ → Option (List Member)) (ids : List (List ℕ))
   pub at : slice_get ids i ≡ Some id
   pub shape : f id ≡ Some m
 
+-- the shape at an index is that of the identifier at the same index
 pub name_at : (f : List ℕ → Option (List Member)) (ids : List (List ℕ)) (ms : List (List Member)) → AllZip (HasShape f) ids ms → (i : ℕ) (m : List Member) → slice_get ms i ≡ Some m → Named f ids i m
 name_at f ids [] e i m g = absurd (none-some m g)
 name_at f [] (x ∷ ms) e i m g = absurd e
@@ -65,6 +66,7 @@ name_at f (a ∷ ids) (x ∷ ms) e zero m g = record { id = a; at = refl; shape 
 name_at f (a ∷ ids) (x ∷ ms) e (suc i) m g =
     let n = name_at f ids ms e.1 i m g in record { id = n.id; at = n.at; shape = n.shape }
 
+-- an identifier has a shape, which is the one at this index
 pub record Shaped (f : List ℕ → Option (List Member)) (ms : List (List Member)) (i : ℕ) (q : List ℕ) : Type 0 where
   pub shape : List Member
   pub is : f q ≡ Some shape

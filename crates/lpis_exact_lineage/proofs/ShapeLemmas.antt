@@ -49,6 +49,7 @@ held r shapes id m p e =
     let x = at-index r.parcels among.0 (id, m) (slice_get-get_or (shapes_in r) among.0 (id, m) among.1 ∙ ap Some among.2) in
     record { index = among.0; parcel = x.0; at = x.1; is_id = ap (λ (s : Shape). s.0) (sym x.2); is_shape = ap (λ (s : Shape). s.1) x.2 }
 
+-- the shapes of a sound map, in whatever order, turn once at most
 pub turn_once : (r : Contents) (shapes : List Shape) → IsSoundMap r → IsPermutation (shapes_in r) shapes → ShapesTurnOnce (shape_named shapes)
 turn_once r shapes s perm id m e = record { turns = λ p d. at p d }
   where
@@ -59,6 +60,7 @@ turn_once r shapes s perm id m e = record { turns = λ p d. at p d }
     at p d = subst (λ (x : List Member). IsOneOrNone (turns x p)) h.is_shape
         (all_at (λ (k : Parcel). TurnsTell (IsInParcel p k) (turns k.polygon p)) r.parcels h.index h.parcel h.at (s.turns.parcels p d)).0
 
+-- no point lies in two shapes of a sound map, in whatever order they are
 pub share_nothing : (r : Contents) (shapes : List Shape) → IsSoundMap r → IsPermutation (shapes_in r) shapes → ShapesShareNothing (shape_named shapes)
 share_nothing r shapes s perm p d a b l k =
     let v = held r shapes a l.shape perm l.is in
@@ -77,6 +79,7 @@ named-shape (x ∷ xs) id = by (same_id id x.id) (named-shape xs id)
     by true rec = refl
     by false rec = rec
 
+-- the polygon of the parcel found by an identifier is the shape of that identifier in the release
 pub shape-of-found : (r : Contents) (id : List ℕ) (x : Parcel) (m : List Member) → Some x ≡ parcel_named r id → m ≡ x.polygon → shape_named (shapes_in r) id ≡ Some m
 shape-of-found r id x m found same = named-shape r.parcels id ∙ ap (λ (o : Option Parcel). option_map (λ (p : Parcel). p.polygon) o) (sym found) ∙ ap Some (sym same)
 
@@ -108,6 +111,7 @@ sorted kept up k d low lt =
 same-from-tie : (a b : List ℕ) → slice_cmp nat_cmp a b ≡ Equal → a ≡ b
 same-from-tie a b e = same-exact a b (same-by_order a b ∙ ap is_eq e)
 
+-- where shapes ascend by identifier, the one at an index that ties with an identifier is its shape
 pub shape-found : (kept : List Shape) (id : List ℕ) (i : ℕ) (d : Shape) → IsAscending (shape_ids kept) → i < length kept → HoldsAt (λ y. order id y ≡ Equal) kept i
     → Some (get_or kept i d).1 ≡ shape_named kept id
 shape-found kept id i d up lt tie =
@@ -115,6 +119,7 @@ shape-found kept id i d up lt tie =
     let same : s.0 ≡ id = same-from-tie s.0 id (tie d) in
     sym (lookup-from_Contains nat_list_eq_equiv id s.1 kept (distinct kept up) (i, lt, get_or_default kept i (id, s.1) d lt ∙ ap (λ (k : List ℕ). (k, s.1)) same))
 
+-- where shapes ascend, and are lower before the place that a search gives and higher from it on, none is the one named
 pub shape-missing : (kept : List Shape) (id : List ℕ) (i : ℕ) → IsAscending (shape_ids kept)
     → (IsNonDecreasingBy (λ y. ordering_index (order id y)) kept → IsPartitionPoint (λ y. order id y ≡ Less) (λ y. order id y ≡ Greater) kept i) → None ≡ shape_named kept id
 shape-missing kept id i up searched = sym (by (shape_named kept id) refl)

@@ -15,8 +15,9 @@ use Rattle.lpis_exact_lineage.specs.Shapes.{shape_named, shapes_in}
 use Rattle.lpis_exact_lineage.proofs.LineageLemmas.{groups_show}
 use Rattle.lpis_exact_lineage.proofs.ShapeLemmas.{share_nothing, turn_once}
 
-pub shown : SplitMakesUp → MergedMakesUp → (h : List Entry) (kept : List Shape) (r : Contents) (blocks : List ExactBlock) (rows : List Row) → IsSoundMap r → IsShown h kept r blocks rows
+-- a sound map has exact lineage where the blocks show what its marked rows ask for
+pub shown-is-exact : SplitMakesUp → MergedMakesUp → (h : List Entry) (kept : List Shape) (r : Contents) (blocks : List ExactBlock) (rows : List Row) → IsSoundMap r → IsShown h kept r blocks rows
     → IsExactLineage (kinds_from h r rows) rows (shape_named kept) (shape_named (shapes_in r))
-shown split_makes_up merged_makes_up h kept r blocks rows sound s =
+shown-is-exact split_makes_up merged_makes_up h kept r blocks rows sound s =
     groups_show split_makes_up merged_makes_up (kinds_from h r rows) rows s.gs s.xs (shape_named kept) (shape_named (shapes_in r)) s.asks.marked.groups s.asks.parts (shown_turns blocks s.xs s.shown)
     (turn_once r (shapes_in r) sound (IsPermutation-refl (shapes_in r))) (share_nothing r (shapes_in r) sound (IsPermutation-refl (shapes_in r)))
