@@ -56,6 +56,7 @@ length-map : {A B : Type 0} (f : A → B) (xs : List A) → length (map f xs) �
 length-map f [] = refl
 length-map f (x ∷ xs) = ap suc (length-map f xs)
 
+-- the certificate with blocks of the parts asked for in place of its own is an outcome of the run for blocks
 pub outcome-filled : (h : List Entry) (s : List Shape) (r : Contents) (c made : Cert) (rows : List Row) (gs : List Group) (xs : List ExactPart) (o : Outputs) → AsksFor h s r rows gs xs
     → HasBlocks (map part_name xs) c made → o ≡ filled_with made → IsBlocksOutcome h s r c rows o
 outcome-filled h s r c made rows gs xs o asks has e =
@@ -80,5 +81,6 @@ pub answered-said : (x : Submission) (r : Contents) (c : Cert) (rows : List Row)
     → IsExactAnswer x h s o
 answered-said x r c rows h s o said is = record { answer = answer-said _ x r c rows (o.line, o.status) said is.answer; no_text = is.no_text }
 
+-- the line of the first fault, without a certificate, answers a submission that asks for blocks
 pub answered-unsaid : (x : Submission) (h : List Entry) (s : List Shape) (o : Outputs) → IsFaultAnswer x (o.line, o.status) → o.cert ≡ None → IsExactAnswer x h s o
 answered-unsaid x h s o is none = record { answer = answer-unsaid _ x (o.line, o.status) is; no_text = λ _. none }

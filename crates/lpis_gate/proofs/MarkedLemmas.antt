@@ -85,6 +85,7 @@ left-same kind_of rows id (x ∷ xs) all =
     let P : Row → Type 0 = λ (r : Row). is_in_exact kind_of rows r ≡ r.exact in
     ap₂ (λ (a b : Bool). (is_row_of id x && a) || b) (All-head P x xs all) (left-same kind_of rows id xs (All-tail P x xs all))
 
+-- where no marked row is outside exact splits and merges, what is left exactly is what has a marked row
 pub left-exactly : (kind_of : List ℕ → Option Kind) (rows : List Row) (id : List ℕ) → list_any (is_outside kind_of rows) rows ≡ false → is_left_exactly kind_of rows id ≡ is_marked rows id
 left-exactly kind_of rows id none = left-same kind_of rows id rows (exact-at kind_of rows none)
 

@@ -109,6 +109,7 @@ continued-of : (live : List (List ℕ)) (rows : List Row) (id : List ℕ) → ((
 continued-of live rows id named (inl ending) = inl (counted-ended rows id ending.0)
 continued-of live rows id named (inr heirs) = inr (heirs.1, λ s is. named s (mono (leads id s) (names_successor s) rows (λ row h. (and_parts (is_row_of id row) (names_successor s row) h).1) is))
 
+-- a submitted sound map with a good certificate that was added to the history is published
 pub published-of : (x : Submission) (year : ℕ) (r : Contents) (c : Cert) (rows : List Row) (h : List Entry) (s : List Shape) (k : List Entry) (t : List Shape) → IsSubmitted x r c rows
     → IsSoundMap r → IsGood r c → IsAdded year r rows h s k t → IsPublished x year h s k t
 published-of x year r c rows h s k t said sound good added =
@@ -150,5 +151,6 @@ pub leaves-kept : (failure : Failure) (old new : State) (h k : List Entry) (s t 
 leaves-kept failure old new h k s t stopped kept opened served =
     record { same = tt; failure = (stopped, kept.0, kept.1); stored = record { holds = opened; served = λ other clean. served other } }
 
+-- a database left as it was holds the history and the shapes, where they are left too
 pub still-held : (old new : State) (h k : List Entry) (s t : List Shape) → new ≡ old → (k ≡ h) × (t ≡ s) → HoldsRegister old h s → HoldsRegister new k t
 still-held old new h k s t same kept held = rw (same, kept.0, kept.1) held

@@ -32,6 +32,7 @@ cert-more : (P Q : Cert → Answer → Type 0) (text : List ℕ) (said : Result 
 cert-more P Q text (Ok lines) a more is = (is.0, is.1, more is.0 is.2)
 cert-more P Q text (Err fault) a more is = is
 
+-- the line of the first fault answers a submission, whatever would answer it without one
 pub answer-unsaid : (IsNext : Contents → Cert → List Row → Answer → Type 0) (x : Submission) (a : Answer) → IsFaultAnswer x a → IsSubmissionAnswer IsNext x a
 answer-unsaid IsNext x a is =
     table-more _ _ (release_of x.checked.parcels x.checked.covers x.checked.classes) a
@@ -42,11 +43,13 @@ unsaid-tables : (x : Submission) (u : Unsaid) → IsUnsaid (IsTableAnswer (λ _ 
 unsaid-tables x Memory is = tt
 unsaid-tables x (Refused a) is = table-more _ _ (release_of x.checked.parcels x.checked.covers x.checked.classes) (a.text.items, a.status) (λ r no. absurd no) is
 
+-- where the tables are read, the fault of the certificate's text is that of the submission
 pub unsaid-cert : (x : Submission) (r : Contents) (u : Unsaid) → release_of x.checked.parcels x.checked.covers x.checked.classes ≡ Ok r
     → IsUnsaid (IsCertAnswer (λ _ _. ⊥) x.checked.cert (verdict x.checked.cert)) u → IsUnsaid (IsFaultAnswer x) u
 unsaid-cert x r Memory tables is = tt
 unsaid-cert x r (Refused a) tables is = rw tables (cert-more _ _ x.checked.cert (verdict x.checked.cert) (a.text.items, a.status) (λ c no. absurd no) is)
 
+-- where tables and certificate are read, the fault of the lineage table is that of the submission
 pub unsaid-rows : (x : Submission) (r : Contents) (c : Cert) (u : Unsaid) → release_of x.checked.parcels x.checked.covers x.checked.classes ≡ Ok r → IsCertText x.checked.cert c
     → IsUnsaid (IsTableAnswer (λ _ _. ⊥) (rows_of lineage_table x.lineage)) u → IsUnsaid (IsFaultAnswer x) u
 unsaid-rows x r c Memory tables text is = tt
