@@ -18,10 +18,11 @@ use Rattle.lpis_register.specs.declared.accepting.Step.{Step}
 use Rattle.lpis_register.specs.declared.fault.PublishFault.TheVariants.{Memory, Lineage, Store}
 use Rattle.lpis_register.specs.Passing.{of_asking, of_lineage}
 
-pub stepped : (h : List Entry) (live one two : List (List ℕ)) (rows : List Row) (step : Step) → one ≡ live → two ≡ live → step.live.items ≡ live → faults h one rows ≡ []
+-- the identifiers, the faultless change and the fresh identifiers found for a release make its step
+pub step_is_made : (h : List Entry) (live one two : List (List ℕ)) (rows : List Row) (step : Step) → one ≡ live → two ≡ live → step.live.items ≡ live → faults h one rows ≡ []
     → IsChange (last_live h) one rows step.change → (IsChange (last_live h) live rows step.change → AreFresh h live step.fresh.items → IsWriting h live step.change.dropped_ids step.fresh.items)
     → AreFresh h two step.fresh.items → IsStep h live rows step
-stepped h live one two rows step first second same none change law fresh =
+step_is_made h live one two rows step first second same none change law fresh =
     let changed = subst (λ l. IsChange (last_live h) l rows step.change) first change in
     record {
       live_are = same;
@@ -43,9 +44,11 @@ lineage_told (lineage.NoRow id) = inr refl
 lineage_told (lineage.UsedBefore id year) = inr refl
 lineage_told (lineage.MarkedOutside row) = inr refl
 
+-- no fault of a lineage is reported as a failure of the store
 pub no_store_lineage : (fault : LineageFault) → of_lineage fault ≡ Store → ⊥
 no_store_lineage fault is = elim (lineage_told fault) [ inl memory ↦ cc (memory, is) | inr told ↦ cc (told, is) ]
 
+-- no fault of what exact groups ask for is reported as a failure of the store
 pub no_store_asking : (fault : AskFault) → of_asking fault ≡ Store → ⊥
 no_store_asking ask.Memory is = cc is
 no_store_asking (ask.NotKept id) is = cc is

@@ -22,13 +22,16 @@ use Rattle.lpis_register.proofs.ResultLemmas.{on_err, on_ok}
 
 -- ---- the laws of publishing
 
+-- where tables report a history, they report it with the release at its end once that is written
 abbrev pub TellsMore : Type 0
 TellsMore = (c : Content) (h k : List Entry) (year : ℕ) (live gone fresh : List (List ℕ)) (rows : List Row) → Tells c h → Adds h k year live rows → IsLawful k → RowsFit k → year ≤ last_of_years
     → IsWriting h live gone fresh → (texts : List StoredText) → Tells (released texts (marks_from (pos year) 0 rows) (published (pos year) (pos (last_year h)) gone fresh rows c)) k
 
+-- after a release is written, the texts are the release's, in some order
 abbrev pub PutsTexts : Type 0
 PutsTexts = (c : Content) (texts : List StoredText) (marks : List Mark) → IsPermutation texts (released texts marks c).texts
 
+-- shapes live among a release's identifiers are live in the history that has it at its end
 abbrev pub LivesOn : Type 0
 LivesOn = (h k : List Entry) (year : ℕ) (live : List (List ℕ)) (rows : List Row) → Adds h k year live rows → (shapes : List Shape) → AreLive live shapes → AreLive (last_live k) shapes
 
@@ -58,8 +61,8 @@ module _ (more : TellsMore) (put : PutsTexts) (lives : LivesOn) (moved : Reorder
   alive : (h : List Entry) → IsDue now last a h → AreLive (last_live now) a.kept.shapes.items
   alive h due = lives h now due.year (parcel_ids due.parcels) due.rows due.follows.adds a.kept.shapes.items due.made.kept_is.live
 
-  pub written : (old new : State) (r : Result (Unit {0}) Error) → Rewrites AllStand whole old new r → Writes now last a old new r
-  written old new r wrote = record {
+  pub statements_write : (old new : State) (r : Result (Unit {0}) Error) → Rewrites AllStand whole old new r → Writes now last a old new r
+  statements_write old new r wrote = record {
     ok = λ h shapes due clean holds.
         let c = holds.content in
         on_ok r (holds_with holds.origin (whole c) now a.kept.shapes.items (told h c due holds.tells) (spelled h c due) (alive h due) new) (wrote.ok clean (Whole holds.origin) c refl holds.stored);
@@ -76,6 +79,7 @@ module _ (more : TellsMore) (put : PutsTexts) (lives : LivesOn) (moved : Reorder
 
 -- ---- the history with the release at its end
 
+-- an accepted release that was added, lawfully and with its rows, follows the history, and its shapes are kept
 pub follows_as : (h k : List Entry) (year : ℕ) (parcels : List Parcel) (rows : List Row) (a : Accepted) (live : List (List ℕ)) (more : List Row) → live ≡ a.step.live.items → more ≡ a.step.change.rows
     → Adds h k a.year live more → IsLawful k → RowsFit k → IsPrepared h year parcels rows a → Follows h year parcels rows k a.kept.shapes.items
 follows_as h k year parcels rows a live more el er adds lawful fits made = record {
@@ -103,8 +107,8 @@ module _ (now : List Entry) (last : ℕ) (a : Accepted) (h : List Entry) (due : 
       → Survives old new (LeavesRelease h due.year due.parcels due.rows)
   crashed r w shapes holds = survives_weaker old new _ _ (λ clean db left. (now, a.kept.shapes.items, due.follows, left)) (w.crash h shapes due holds)
 
-  pub committed : {E F : Type 0} (x y : Unit {0}) → Writes now last a {E = E} old new (Ok x) → Commits h now due.year due.parcels due.rows a {E = F} old new (Ok y)
-  committed {E} x y w = record {
+  pub write_commits : {E F : Type 0} (x y : Unit {0}) → Writes now last a {E = E} old new (Ok x) → Commits h now due.year due.parcels due.rows a {E = F} old new (Ok y)
+  write_commits {E} x y w = record {
     follows = due.follows;
     refused = tt;
     ok = λ shapes clean holds. w.ok h shapes due clean holds;
@@ -134,6 +138,7 @@ module _ (h k : List Entry) (year : ℕ) (parcels : List Parcel) (rows : List Ro
     durable = λ clean holds db may. subst (λ s. LeavesRegister k s db) (sym same) (c.durable kept clean holds db may);
   }
 
+-- what a failed commit does is what publishing promises of an error
 pub stored_err : (h k : List Entry) (year : ℕ) (parcels : List Parcel) (rows : List Row) (a : Accepted) (shapes : List Shape) (old new : State) (e : PublishFault)
     → Commits h k year parcels rows a old new (Err e) → Stores h year parcels rows shapes k shapes old new (Err e)
 stored_err h k year parcels rows a shapes old new e c = record {
@@ -143,6 +148,7 @@ stored_err h k year parcels rows a shapes old new e c = record {
   durable = λ clean holds. tt;
 }
 
+-- a database that is left alone keeps what publishing promises of an error
 pub stored_not : (h : List Entry) (year : ℕ) (parcels : List Parcel) (rows : List Row) (shapes : List Shape) (st : State) (e : PublishFault) → Stores h year parcels rows shapes h shapes st st (Err e)
 stored_not h year parcels rows shapes st e = record {
   ok = λ clean holds. tt;

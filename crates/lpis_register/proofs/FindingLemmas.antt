@@ -13,9 +13,11 @@ use Rattle.lpis_register_sql.specs.Quiet.{IsFound}
 use Rattle.lpis_register.specs.Histories.{ReadsHistory}
 use Rattle.lpis_register.specs.private.Finding.{ReadsFound}
 
+-- rows without texts, in another order, report the same histories
 abbrev pub Textless : Type 0
 Textless = (version : Version) (c d : Content) (h : List Entry) → IsSameContent (without_texts c) d → TablesSay version c h ↔ TablesSay version d h
 
+-- texts in another order are those of the same shapes
 abbrev pub Reordered : Type 0
 Reordered = (texts others : List StoredText) (shapes : List Shape) → IsPermutation texts others → ShapesAre texts shapes → ShapesAre others shapes
 
@@ -25,16 +27,19 @@ pub refused_whole : {X : Type 0} → Textless → (c rows : Content) (r : Result
     → IfErr r (λ e. e ≡ Unlawful → (version : Version) (h : List Entry) → TablesSay version c h → ⊥)
 refused_whole less c rows r same none = IfErr-weaker r _ _ (λ e never is version h told. never is version h ((less version c rows h same).0 told)) none
 
+-- where texts in another order are those of shapes of live parcels, so are these
 pub kept_whole : Reordered → (texts more : List StoredText) (live : List (List ℕ)) (shapes : List Shape) → IsPermutation texts more → ShapesAre more shapes × AreLive live shapes
     → ShapesAre texts shapes × AreLive live shapes
 kept_whole moved texts more live shapes same both = (moved more texts shapes (IsPermutation-sym texts more same) both.0, both.1)
 
+-- where texts in another order, refused as unlawful, may not be kept, these may not either
 pub refused_texts : {X : Type 0} → Reordered → (texts more : List StoredText) (live : List (List ℕ)) (r : Result X PublishFault) → IsPermutation texts more
     → IfErr r (λ e. e ≡ Unlawful → TextsStand more live → ⊥) → IfErr r (λ e. e ≡ Unlawful → TextsStand texts live → ⊥)
 refused_texts moved texts more live r same none = IfErr-weaker r _ _ (λ e never is stand. never is (stand.0, moved texts more stand.0 same stand.1, stand.2)) none
 
 -- ---- the history, read again
 
+-- a state that stores the same rows as one that holds a history and shapes holds them too
 pub still_holds : (old new : State) (h : List Entry) (shapes : List Shape) → (holds : HoldsRegister old h shapes) → IsStored (Whole holds.origin) new holds.content → HoldsRegister new h shapes
 still_holds old new h shapes holds stored = record { origin = holds.origin; content = holds.content; stored = stored; tells = holds.tells; are = holds.are; live = holds.live }
 

@@ -30,6 +30,7 @@ same_live h k same shapes all = all_live (last_live h) (last_live k) shapes (sam
 
 -- ---- the row of the version tells which it is
 
+-- the same rows in one version report one history only
 abbrev pub One : Type 0
 One = (version : Version) (c : Content) (h k : List Entry) → TablesSay version c h → TablesSay version c k → IsSameHistory h k
 
@@ -66,9 +67,11 @@ none_kept one c h version told never other k shapes says =
 
 -- ---- two ways to read one database
 
+-- the rows that a database stores are the same however they are read, but for live ones and order
 abbrev pub OneContent : State → Type 0
 OneContent st = (o p : Origin) (c d : Content) → IsStored (Whole o) st c → IsStored (Whole p) st d → IsSameContent (without_live c) (without_live d)
 
+-- rows of version 3 without live ones and texts, in another order, report the same histories
 abbrev pub Lifeless : Type 0
 Lifeless = (c d : Content) (h : List Entry) → IsSameContent (without_texts (without_live c)) d → Tells c h ↔ Tells d h
 
@@ -86,12 +89,14 @@ same_itself c = record {
   marks = IsPermutation-refl c.marks;
 }
 
+-- two histories that one database holds are the same
 pub one_history : (st : State) (h k : List Entry) (shapes others : List Shape) → OneContent st → Lifeless → One → HoldsRegister st h shapes → HoldsRegister st k others → IsSameHistory h k
 one_history st h k shapes others content lifeless one a b =
     let same = less_texts a.content b.content (content a.origin b.origin a.content b.content a.stored b.stored) in
     let less = without_texts (without_live b.content) in
     one Third b.content h k ((lifeless b.content less h (same_itself less)).1 ((lifeless a.content less h same).0 a.tells)) b.tells
 
+-- two lists of shapes that one database holds are equal
 pub one_list : (st : State) (h k : List Entry) (shapes others : List Shape) → OneContent st
     → ((texts more : List StoredText) (shapes kept : List Shape) → IsPermutation texts more → ShapesAre texts shapes → ShapesAre more kept → shapes ≡ kept)
     → HoldsRegister st h shapes → HoldsRegister st k others → shapes ≡ others

@@ -77,8 +77,8 @@ module _ (found : Found) (old mid new : State) where
         let now = says (omega (arith, two.crash.clean)) layout w c r in
         (told.history, told.shapes.items, version, now.0, left layout w c told.shapes.items now.0 now.1)) one two.crash
 
-    pub settled : Settles found version told.history mid new (Ok tt) → OpensFound found old new (Ok told)
-    settled two = record {
+    pub settled_opens : Settles found version told.history mid new (Ok tt) → OpensFound found old new (Ok told)
+    settled_opens two = record {
       ok = λ up layout w c r. let now = says (two.clean up) layout w c r in (version, now.0, two.ok up layout w c told.shapes.items now.0 now.1);
       err = λ up on layout w c r. tt;
       unlawful = λ up layout w c r. tt;
@@ -87,8 +87,8 @@ module _ (found : Found) (old mid new : State) where
       kinds = tt;
     }
 
-    pub unsettled : (e : PublishFault) → Settles found version told.history mid new (Err e) → OpensFound found old new (Err e)
-    unsettled e two = record {
+    pub unsettled_fails : (e : PublishFault) → Settles found version told.history mid new (Err e) → OpensFound found old new (Err e)
+    unsettled_fails e two = record {
       ok = λ up layout w c r. tt;
       err = λ up on layout w c r. let now = says (two.clean up) layout w c r in two.err up on layout w c told.shapes.items now.0 now.1;
       unlawful = λ up layout w c r is. absurd (failure_lawful e two.failure is);
@@ -99,6 +99,7 @@ module _ (found : Found) (old mid new : State) where
 
 -- ---- what the calls promise
 
+-- what an opening promises: of Ok that it opened a register, of a fault that it opened none
 abbrev pub Answer : State → State → Result Told PublishFault → Type 0
 Answer old new r = IfOk r (λ (told : Told). IsOpened old new told.history told.shapes.items) × IfErr r (IsUnopened old new)
 

@@ -6,10 +6,12 @@ use Rattle.lpis_register.specs.Faults.{IsRefused, IsOpeningFault}
 use Rattle.lpis_register.specs.declared.fault.PublishFault.TheVariants.{Memory, Year, Lineage, NotKept, Exact, Store, Unknown}
 use Rattle.lpis_register.proofs.Common.{Entry, Row, IsFailure, PublishFault, Shape, Unlawful}
 
+-- what a promise of Ok implies is a promise of Ok
 pub on_ok : {A E : Type 0} (r : Result A E) {P Q : Type 0} → (P → Q) → OnOk r P → OnOk r Q
 on_ok (Ok x) f p = f p
 on_ok (Err e) f p = tt
 
+-- what a promise of an error implies is a promise of an error
 pub on_err : {A E : Type 0} (r : Result A E) {P Q : Type 0} → (P → Q) → OnErr r P → OnErr r Q
 on_err (Ok x) f p = tt
 on_err (Err e) f p = f p
@@ -25,9 +27,11 @@ opening_failure Store f = tt
 opening_failure Unknown f = f
 opening_failure Unlawful f = tt
 
+-- a failure is not that rows are unlawful
 pub failure_lawful : (e : PublishFault) → IsFailure e → e ≡ Unlawful → ⊥
 failure_lawful e f is = subst IsFailure is f
 
+-- a fault of an opening, but for unlawful rows, is a failure
 pub lawful_failure : (e : PublishFault) → IsOpeningFault e → (e ≡ Unlawful → ⊥) → IsFailure e
 lawful_failure Memory k never = tt
 lawful_failure (Year last) k never = k

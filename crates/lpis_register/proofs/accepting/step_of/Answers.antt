@@ -1,7 +1,7 @@
 use Rattle.std.proofs.Common.{◌∙◌, ap}
 use Rattle.std.proofs.lemmas.Result.{err_from_is_err_and}
 use Rattle.lpis_parcels.specs.Release.{parcel_ids}
-use Rattle.lpis_register.proofs.AcceptingLemmas.{no_store_lineage, refused_lineage, stepped}
+use Rattle.lpis_register.proofs.AcceptingLemmas.{no_store_lineage, refused_lineage, step_is_made}
 use Rattle.lpis_register.proofs.accepting.step_of.Goals as goal
 
 pub returns-in_err-change-clause-refused : goal.returns-in_err-change-clause-refused
@@ -20,5 +20,5 @@ returns-clause-step c =
     let h = c.args.history.now in
     let ids = parcel_ids c.args.release.now.parcels in
     let live = c.in_ok-live.ensures ∙ ap parcel_ids c.parcels.ensures.parcels in
-    stepped h ids c.as_slice.result.now c.as_slice-2.result.now c.args.rows.now _ (c.as_slice.ensures.value ∙ live) (c.as_slice-2.ensures.value ∙ live) live
+    step_is_made h ids c.as_slice.result.now c.as_slice-2.result.now c.args.rows.now _ (c.as_slice.ensures.value ∙ live) (c.as_slice-2.ensures.value ∙ live) live
     c.in_ok-change.ensures.tells c.in_ok-change.ensures.change (c.changes_tell_what_is_written.ensures h ids c.in_ok-fresh.fresh.items c.args.rows.now c.in_ok-change.change) c.in_ok-fresh.ensures

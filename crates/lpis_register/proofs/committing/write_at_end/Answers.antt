@@ -1,12 +1,12 @@
 use Rattle.std.proofs.Common.{arith}
 use Rattle.lpis_register.proofs.Common.{state}
-use Rattle.lpis_register.proofs.CommittingLemmas.{written}
+use Rattle.lpis_register.proofs.CommittingLemmas.{statements_write}
 use Rattle.lpis_register.proofs.committing.write_at_end.Goals as goal
 
 pub returns-clause-writes : goal.returns-clause-writes
 returns-clause-writes g c =
     let law = c.publishing_adds_the_release.ensures in
-    written law.tells law.texts law.live c.texts_keep_one_list_of_shapes.ensures.reordered c.args.history.now c.releases.ensures.lawful c.releases.ensures.fits c.args.last c.args.accepted.now
+    statements_write law.tells law.texts law.live c.texts_keep_one_list_of_shapes.ensures.reordered c.args.history.now c.releases.ensures.lawful c.releases.ensures.fits c.args.last c.args.accepted.now
     c.from.result c.from-2.result c.dropped.result.now c.as_slice.result.now c.rows.result.now c.as_slice-2.result.now
     c.from.ensures c.from-2.ensures c.dropped.ensures.list c.as_slice.ensures.value c.rows.ensures c.as_slice-2.ensures.value (omega arith)
     (state g.S.Store c.args.conn.now) (state g.S.Store c.write_release.new.conn) c.write_release.result c.write_release.ensures.writes

@@ -1,10 +1,10 @@
 use Rattle.lpis_register.proofs.Common.{state}
-use Rattle.lpis_register.proofs.CommittingLemmas.{committed, taken_back}
+use Rattle.lpis_register.proofs.CommittingLemmas.{write_commits, taken_back}
 use Rattle.lpis_register.proofs.committing.write_or_take_back.Goals as goal
 
 pub returns-in-Ok-clause-commits : goal.returns-in-Ok-clause-commits
 returns-in-Ok-clause-commits g c h due =
-    committed c.args.history.now c.args.last c.args.accepted.now h due (state g.S.Store c.args.conn.now) (state g.S.Store c.write_at_end.new.conn) _ _ c.in-Ok.ensures.writes
+    write_commits c.args.history.now c.args.last c.args.accepted.now h due (state g.S.Store c.args.conn.now) (state g.S.Store c.write_at_end.new.conn) _ _ c.in-Ok.ensures.writes
 
 pub returns-in-Err-clause-commits : goal.returns-in-Err-clause-commits
 returns-in-Err-clause-commits g c h due =
