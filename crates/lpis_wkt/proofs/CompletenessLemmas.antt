@@ -32,14 +32,17 @@ point_runs b ps p ts rest (x, y, e, hx, hy) =
     let cy : Coordinate = record { value = p.y; in_range = p.y_in_range } in
     rw e (rw (coordinate-ok x cx hx, coordinate-ok y cy hy) refl)
 
+-- items that are added at the end of a list one by one are appended to it
 pub adds-append : {A : Type 0} (xs ys : List A) → adds (λ (l : List A) x. l ++ x ∷ []) xs ys ≡ xs ++ ys
 adds-append xs [] = sym (append-nil xs)
 adds-append xs (y ∷ ys) = adds-append (xs ++ y ∷ []) ys ∙ append_assoc xs (y ∷ []) ys
 
+-- a run over the text of points goes on after a point, with these points added to the ring
 pub points_run : (b : Context) (ps more : List Point) (ts rest : List Token) → Commas PointText more ts → run (AtX b ps) (ts ++ rest) ≡ run (AfterPoint b (ps ++ more)) rest
 points_run b ps more ts rest h =
     commas_run PointText (AtX b) (AfterPoint b) (λ l p. l ++ p ∷ []) (point_runs b) (λ s rest. refl) ps more ts rest h ∙ ap (λ (l : List Point). run (AfterPoint b l) rest) (adds-append ps more)
 
+-- where the points are a ring, a run over its `)` goes on after the ring, which is added
 pub ring_closes : (b : Context) (ps : List Point) (rest : List Token) → IsRing ps → run (AfterPoint b ps) (Close ∷ rest) ≡ run (AfterRing (with_ring b ps)) rest
 ring_closes b ps rest ring =
     let few : nat_lt (length ps) 4 ≡ false = let four = ring.four in grind (arith, nat_tests) in
@@ -53,6 +56,7 @@ ring_runs b ps ts rest ((points, all, e), ring) =
 rings_run : (b : Context) (rs : List (List Point)) (ts rest : List Token) → Commas RingText rs ts → run (AtRing b) (ts ++ rest) ≡ run (AfterRing (adds with_ring b rs)) rest
 rings_run b rs ts rest h = commas_run RingText AtRing AfterRing with_ring ring_runs (λ s rest. refl) b rs ts rest h
 
+-- rings that are added one by one are appended to the rings before
 pub adds-rings : (b : Context) (rs : List (List Point)) → adds with_ring b rs ≡ record b { rings = b.rings ++ rs }
 adds-rings b [] = ap (λ (l : List (List Point)). let c : Context = record { multi = b.multi; members = b.members; rings = l } in c) (sym (append-nil b.rings))
 adds-rings b (r ∷ rs) = adds-rings (with_ring b r) rs ∙ ap (λ (l : List (List Point)). let c : Context =
@@ -85,6 +89,7 @@ length-lower a b h = sym (length-map a to_ascii_lowercase) ∙ pointwise-length 
 apart : (w : List ℕ) → is_polygon w ≡ true → is_multi w ≡ true → ⊥
 apart w h k = absurd (omega (arith, length-lower w (codes "POLYGON") h, length-lower w (codes "MULTIPOLYGON") k))
 
+-- the machine takes a text of the grammar to its end, and finishes with the members that it spells
 pub reads_runs : (ts : List Token) (ms : List Member) → Reads ts ms → run AtKeyword ts ≡ Ok (Finished ms)
 reads_runs ts ms (k, body, e, inl (keyword, (m, one, (inner, h, e2)))) =
     let whole : ts ≡ Word k ∷ Open ∷ inner ++ Close ∷ End ∷ [] = e ∙ ap (λ (l : List Token). Word k ∷ l ++ End ∷ []) e2

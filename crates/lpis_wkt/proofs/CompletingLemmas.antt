@@ -103,6 +103,7 @@ completes-x b p ps h =
     let c = completes-ring (with_ring b all) in
     (body.0 ++ Close ∷ c.0, c.1, points_run b (p ∷ ps) (p ∷ p ∷ p ∷ []) body.0 (Close ∷ c.0) body.1 ∙ ring_closes b all c.0 (closed_by_first p ps) ∙ c.2)
 
+-- the coordinate 0
 abbrev pub origin : Coordinate
 origin = record { value = pos 0; in_range = (omega (arith, ints), omega (arith, ints)) }
 
@@ -110,6 +111,7 @@ zero-number : number (codes "0") ≡ Ok (pos 0)
 unfolding number
 zero-number = refl
 
+-- the word `0` spells the coordinate 0
 pub zero_spelled : coordinate_in_range (codes "0") ≡ Ok origin
 zero_spelled = coordinate-ok (codes "0") origin zero-number
 
@@ -155,14 +157,15 @@ completes (AtEnd ms) r = (End ∷ [], ms, refl)
 completes (Finished ms) r = ([], ms, refl)
 
 -- a prefix begins a text of the grammar exactly where the machine takes it
-pub begins : (ts : List Token) (s : ParserState) → run AtKeyword ts ≡ Ok s → BeginsText ts
-begins ts s h =
+pub taken_begins_text : (ts : List Token) (s : ParserState) → run AtKeyword ts ≡ Ok s → BeginsText ts
+taken_begins_text ts s h =
     let c = completes s (reached-run ts AtKeyword s h tt) in
     let whole : run AtKeyword (ts ++ c.0) ≡ Ok (Finished c.1) = run-append AtKeyword ts c.0 ∙ rw h c.2 in
     (c.0, c.1, runs_reads (ts ++ c.0) c.1 whole)
 
-pub begun : (ts : List Token) → BeginsText ts → (s : ParserState) × (run AtKeyword ts ≡ Ok s)
-begun ts (rest, ps, reads) =
+-- the machine takes the tokens with which some text of the grammar begins
+pub begun_is_taken : (ts : List Token) → BeginsText ts → (s : ParserState) × (run AtKeyword ts ≡ Ok s)
+begun_is_taken ts (rest, ps, reads) =
     let whole : and_then (run AtKeyword ts) (λ s. run s rest) ≡ Ok (Finished ps) = sym (run-append AtKeyword ts rest) ∙ reads_runs (ts ++ rest) ps reads in
     let a = then-ok _ _ _ whole in
     (a.0, a.1)

@@ -12,7 +12,7 @@ use Rattle.lpis_wkt.proofs.StepLemmas.{then-ok, with_coordinate-ok, cond-err, Go
 use Rattle.lpis_wkt.proofs.StepLemmas.{next_ring, closes_text, next_body, finishes}
 use Rattle.lpis_wkt.proofs.CompletenessLemmas.{reads_runs}
 use Rattle.lpis_wkt.proofs.SoundnessLemmas.{runs_reads}
-use Rattle.lpis_wkt.proofs.CompletingLemmas.{begins, begun}
+use Rattle.lpis_wkt.proofs.CompletingLemmas.{taken_begins_text, begun_is_taken}
 
 -- the limit
 abbrev pub has_words : ParserState → ℕ
@@ -95,6 +95,7 @@ not-too-many (AtX b ps) (Word w) s' h k le = let few : points_before b + length 
 not-too-many (AtY b ps x) (Word w) s' h k le = rw (one_word _ _ _ (goes (AtY b ps x) (Word w) s' h)) (omega arith)
 not-too-many _ _ s' h k le = cc
 
+-- from a state with no more words than the most, tokens taken with the limit are taken without it, and keep to it
 pub limited-run-ok : (ts : List Token) (s s' : ParserState) → has_words s ≤ most_words → limited_run s ts ≡ Ok s' → (run s ts ≡ Ok s') × (has_words s + token_words ts ≤ most_words)
 limited-run-ok [] s s' le h = (h, omega arith)
 limited-run-ok (t ∷ ts) s s' le h =
@@ -117,12 +118,15 @@ run-limited (t ∷ ts) s s' h le =
     let fine : is_too_many s t ≡ false = false_from_ne_true (is_too_many s t) (λ k. (let big = too-many s t a.0 a.1 k in omega arith)) in
     rw (fine, a.1) (run-limited ts a.0 s' a.2 le2)
 
-pub viable : (ts : List Token) (s : ParserState) → limited_run AtKeyword ts ≡ Ok s → Viable ts
-viable ts s h = let r = limited-run-ok ts AtKeyword s (omega arith) h in (begins ts s r.0, omega (arith, r.1))
+-- tokens that the machine takes with the limit on points are viable
+pub taken_is_viable : (ts : List Token) (s : ParserState) → limited_run AtKeyword ts ≡ Ok s → Viable ts
+taken_is_viable ts s h = let r = limited-run-ok ts AtKeyword s (omega arith) h in (taken_begins_text ts s r.0, omega (arith, r.1))
 
-pub taken : (ts : List Token) → Viable ts → (s : ParserState) × (limited_run AtKeyword ts ≡ Ok s)
-taken ts v = let b = begun ts v.0 in (b.0, run-limited ts AtKeyword b.0 b.1 (omega (arith, v.1)))
+-- the machine takes viable tokens with the limit on points
+pub viable_is_taken : (ts : List Token) → Viable ts → (s : ParserState) × (limited_run AtKeyword ts ≡ Ok s)
+viable_is_taken ts v = let b = begun_is_taken ts v.0 in (b.0, run-limited ts AtKeyword b.0 b.1 (omega (arith, v.1)))
 
+-- a run adds the words of its tokens to those that stand before the state
 pub words-run : (ts : List Token) (s s' : ParserState) → run s ts ≡ Ok s' → has_words s' ≡ has_words s + token_words ts
 words-run [] s s' h = let e : s ≡ s' = cc in rw (← e) (omega arith)
 words-run (t ∷ ts) s s' h =
@@ -132,14 +136,16 @@ words-run (t ∷ ts) s s' h =
     let rest : has_words s' ≡ has_words a.0 + token_words ts = words-run ts a.0 s' a.2 in
     rw all (omega arith)
 
-pub finished : (ts : List Token) (ps : List Member) → limited_run AtKeyword ts ≡ Ok (Finished ps) → Accepts ts ps
-finished ts ps h =
+-- where the machine finishes within the limit, the tokens spell its members, which do not have too many points
+pub finished_is_accepted : (ts : List Token) (ps : List Member) → limited_run AtKeyword ts ≡ Ok (Finished ps) → Accepts ts ps
+finished_is_accepted ts ps h =
     let r = limited-run-ok ts AtKeyword (Finished ps) (omega arith) h in
     let n : 2 * points_of ps + 1 ≡ 0 + token_words ts = words-run ts AtKeyword (Finished ps) r.0 in
     (runs_reads ts ps r.0, omega (arith, r.1))
 
-pub accepted : (ts : List Token) (ps : List Member) → Accepts ts ps → limited_run AtKeyword ts ≡ Ok (Finished ps)
-accepted ts ps h =
+-- where the tokens spell members that do not have too many points, the machine finishes with them within the limit
+pub accepted_is_finished : (ts : List Token) (ps : List Member) → Accepts ts ps → limited_run AtKeyword ts ≡ Ok (Finished ps)
+accepted_is_finished ts ps h =
     let r = reads_runs ts ps h.0 in
     let n : 2 * points_of ps + 1 ≡ 0 + token_words ts = words-run ts AtKeyword (Finished ps) r in
     run-limited ts AtKeyword (Finished ps) r (omega (arith, h.1))

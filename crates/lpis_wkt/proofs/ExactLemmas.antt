@@ -53,9 +53,10 @@ abs-signed : (negative : Bool) (n : ℕ) → nat_abs (signed negative n) ≡ n
 abs-signed true (suc n) = refl
 abs-signed _ _ = refl
 
-pub exact : (w : List ℕ) (z : ℤ) → number w ≡ Ok z → nat_abs z * 10 ^ length (decimals w) ≡ 10 ^ coordinate_decimals * digits_value 10 (whole w ++ decimals w)
+-- the amount of a number, times ten for each decimal of its word, is a thousand times the value of all its digits
+pub number_is_exact : (w : List ℕ) (z : ℤ) → number w ≡ Ok z → nat_abs z * 10 ^ length (decimals w) ≡ 10 ^ coordinate_decimals * digits_value 10 (whole w ++ decimals w)
 unfolding number
-exact w z h =
+number_is_exact w z h =
     let c = accepted-by (is_numeral w) (is_fine w) (nat_lt greatest_coordinate (size w)) _ _ _ (signed (is_negative w) (size w)) z h in
     let amount : nat_abs z ≡ size w = ap nat_abs (sym c.1) ∙ abs-signed (is_negative w) (size w) in
     let front : size w ≡ digits_value_after 10 (digits_value_after 10 0 (whole w)) (padded coordinate_decimals (decimals w)) = value-append 0 (whole w) (padded coordinate_decimals (decimals w)) in
@@ -70,8 +71,10 @@ with_sign w z negative is h =
     let amount : nat_abs z ≡ size w = ap nat_abs (sym c.1) ∙ abs-signed (is_negative w) (size w) in
     sym c.1 ∙ ap (λ (b : Bool). signed b (size w)) is ∙ ap (λ (n : ℕ). signed negative n) (sym amount)
 
-pub below : (rest : List ℕ) (z : ℤ) → number (45 ∷ rest) ≡ Ok z → z ≡ neg_ℤ (pos (nat_abs z))
-below rest z h = with_sign (45 ∷ rest) z true refl h
+-- the number of a word that begins with `-` is not above 0
+pub minus_not_positive : (rest : List ℕ) (z : ℤ) → number (45 ∷ rest) ≡ Ok z → z ≡ neg_ℤ (pos (nat_abs z))
+minus_not_positive rest z h = with_sign (45 ∷ rest) z true refl h
 
-pub above : (b : ℕ) (rest : List ℕ) (z : ℤ) → (b ≡ 45 → ⊥) → number (b ∷ rest) ≡ Ok z → z ≡ pos (nat_abs z)
-above b rest z other h = with_sign (b ∷ rest) z false (grind (arith, nat_tests)) h
+-- the number of a word that begins with any byte but `-` is not below 0
+pub no_minus_not_negative : (b : ℕ) (rest : List ℕ) (z : ℤ) → (b ≡ 45 → ⊥) → number (b ∷ rest) ≡ Ok z → z ≡ pos (nat_abs z)
+no_minus_not_negative b rest z other h = with_sign (b ∷ rest) z false (grind (arith, nat_tests)) h

@@ -11,15 +11,15 @@ use Rattle.lpis_wkt.specs.Table.{RingSoFar, EndsWith, open_code, first_open_code
 use Rattle.lpis_wkt.specs.Table.{at_after_point, at_after_close, at_past_end}
 use Rattle.lpis_wkt.proofs.StepLemmas.{then-ok, run-append, limited-append, Goes, goes, opens_text, opens_body, opens_ring, closes_ring, closes_body, closes_text, finishes}
 use Rattle.lpis_wkt.proofs.CompletenessLemmas.{points_run}
-use Rattle.lpis_wkt.proofs.CompletingLemmas.{begun}
-use Rattle.lpis_wkt.proofs.CountingLemmas.{has_words, viable, taken, words-run, limited-run-ok}
+use Rattle.lpis_wkt.proofs.CompletingLemmas.{begun_is_taken}
+use Rattle.lpis_wkt.proofs.CountingLemmas.{has_words, taken_is_viable, viable_is_taken, words-run, limited-run-ok}
 use Rattle.lpis_wkt.proofs.TailLemmas.{Tail, tail}
 use Rattle.lpis_wkt.proofs.RowLemmas.{keyword-code, limited-code, number-code, close-code, same-test, even-test}
 
 -- a token that can stand is taken
 stood : (before : List Token) (s : ParserState) (t : Token) → run AtKeyword before ≡ Ok s → Stands before t → (s' : ParserState) × (parse_step s t ≡ Ok s')
 stood before s t h stands =
-    let b = begun (before ++ t ∷ []) stands in
+    let b = begun_is_taken (before ++ t ∷ []) stands in
     let whole : and_then (run AtKeyword before) (λ s. run s (t ∷ [])) ≡ Ok b.0 = sym (run-append AtKeyword before (t ∷ [])) ∙ b.1 in
     let here : run s (t ∷ []) ≡ Ok b.0 = rw h at whole in
     let a = then-ok _ _ _ here in
@@ -127,6 +127,7 @@ close-only _ _ c is h = cc
 ended : (s0 s : ParserState) → Goes s0 End s → (ms : List Member) × (s ≡ Finished ms)
 ended s0 s (finishes ms) = (ms, refl)
 
+-- a step that takes the end of the text finishes
 pub after_end : (s0 s : ParserState) → parse_step s0 End ≡ Ok s → (ms : List Member) × (s ≡ Finished ms)
 after_end s0 s h = ended s0 s (goes s0 End s h)
 
@@ -154,6 +155,7 @@ row-only before t code c s (at_after_point ps ring) r h n few k = ring-code befo
 row-only before t code c s (at_after_close ends) r h n few k = let o = last_step before s Close ends h in close-only s t c (after_close o.0 s (goes o.0 Close s o.1)) k
 row-only before t code c s (at_past_end ends) r h n few k = let o = last_step before s End ends h in let e = after_end o.0 s o.1 in past_end-only s t c e.0 e.1 k
 
+-- each code that the table gives for a token is the one with which the machine refuses it
 pub only_code : (before : List Token) (t : Token) (code c : WktCode) (s : ParserState) → TableCode before t code → limited_run AtKeyword before ≡ Ok s → limited_step s t ≡ Err c → code ≡ c
 only_code before t code c s row h k =
     let r = limited-run-ok before AtKeyword s (omega arith) h in
@@ -164,18 +166,19 @@ refused : (before : List Token) (t : Token) (s : ParserState) (r : Result Parser
     → limited_run AtKeyword before ≡ Ok s → (Viable (before ++ t ∷ []) → ⊥) → (c : WktCode) × (limited_step s t ≡ Err c)
 refused before t s (Ok s') e h cannot =
     let goes : limited_run AtKeyword (before ++ t ∷ []) ≡ Ok s' = limited-append AtKeyword before (t ∷ []) ∙ rw (h, e) refl in
-    absurd (cannot (viable (before ++ t ∷ []) s' goes))
+    absurd (cannot (taken_is_viable (before ++ t ∷ []) s' goes))
 refused before t s (Err c) e h cannot = (c, e)
 
 -- where the tokens before are viable and this token cannot stand, the machine stops
-pub stopped : (before : List Token) (t : Token) → Viable before → (Viable (before ++ t ∷ []) → ⊥)
+pub machine_stops : (before : List Token) (t : Token) → Viable before → (Viable (before ++ t ∷ []) → ⊥)
     → (s : ParserState) × (c : WktCode) × (limited_run AtKeyword before ≡ Ok s) × (limited_step s t ≡ Err c)
-stopped before t v cannot =
-    let (s, h) = taken before v in
+machine_stops before t v cannot =
+    let (s, h) = viable_is_taken before v in
     let (c, k) = refused before t s (limited_step s t) refl h cannot in
     (s, c, h, k)
 
+-- the table gives one code for a token that cannot stand after viable ones
 pub one_code : (before : List Token) (t : Token) (code code' : WktCode) → Viable before → (Viable (before ++ t ∷ []) → ⊥) → TableCode before t code → TableCode before t code' → code ≡ code'
 one_code before t code code' v cannot row row' =
-    let (s, c, h, k) = stopped before t v cannot in
+    let (s, c, h, k) = machine_stops before t v cannot in
     only_code before t code c s row h k ∙ sym (only_code before t code' c s row' h k)

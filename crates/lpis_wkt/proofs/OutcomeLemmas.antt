@@ -10,9 +10,9 @@ use Rattle.lpis_wkt.specs.Answer.{polygon_of, Gives}
 use Rattle.lpis_wkt.specs.private.Machine.{members_of, parse_answer, located, parse_outcome}
 use Rattle.lpis_wkt.specs.private.Parsing.{Told}
 use Rattle.lpis_wkt.proofs.StepLemmas.{then-ok, limited-append, cond-err}
-use Rattle.lpis_wkt.proofs.CountingLemmas.{viable, taken, finished, accepted}
+use Rattle.lpis_wkt.proofs.CountingLemmas.{taken_is_viable, viable_is_taken, finished_is_accepted, accepted_is_finished}
 use Rattle.lpis_wkt.proofs.RowLemmas.{table_code}
-use Rattle.lpis_wkt.proofs.OneCodeLemmas.{only_code, stopped, after_end}
+use Rattle.lpis_wkt.proofs.OneCodeLemmas.{only_code, machine_stops, after_end}
 
 located-ok : (r : Result ParserState WktCode) (at : ℕ) (s : ParserState) → located r at ≡ Ok s → r ≡ Ok s
 located-ok (Ok v) at s h = cc
@@ -57,14 +57,15 @@ stops ((at, t) ∷ ts) s code offset h = stops_by s at t ts code offset (limited
 
 not_viable : (before : List Token) (t : Token) (s : ParserState) (code : WktCode) → limited_run AtKeyword before ≡ Ok s → limited_step s t ≡ Err code → Viable (before ++ t ∷ []) → ⊥
 not_viable before t s code runs fails v =
-    let (s2, h) = taken (before ++ t ∷ []) v in
+    let (s2, h) = viable_is_taken (before ++ t ∷ []) v in
     let e : limited_run AtKeyword (before ++ t ∷ []) ≡ Err code = limited-append AtKeyword before (t ∷ []) ∙ rw (runs, fails) refl in
     cc
 
+-- the code and the offset with which the machine stops are the first fault of the tokens
 pub first_fault : (ts : List (ℕ × Token)) (code : WktCode) (offset : ℕ) → parse_outcome AtKeyword ts ≡ Err (code, offset) → FirstFault ts code offset
 first_fault ts code offset h =
     let (before, t, after, s, split, runs, fails) = stops ts AtKeyword code offset h in
-    (before, t, after, split, viable (kinds before) s runs, not_viable (kinds before) t s code runs fails, table_code (kinds before) t s code runs fails)
+    (before, t, after, split, taken_is_viable (kinds before) s runs, not_viable (kinds before) t s code runs fails, table_code (kinds before) t s code runs fails)
 
 -- the other way round
 outcome-append : (s : ParserState) (a b : List (ℕ × Token)) → parse_outcome s (a ++ b) ≡ and_then (parse_outcome s a) (λ s. parse_outcome s b)
@@ -75,7 +76,7 @@ outcome-append s (t ∷ a) b = elim (located (limited_step s t.1) t.0) as
 
 fault_outcome : (ts : List (ℕ × Token)) (code : WktCode) (offset : ℕ) → FirstFault ts code offset → parse_outcome AtKeyword ts ≡ Err (code, offset)
 fault_outcome ts code offset (before, t, after, split, v, cannot, row) =
-    let (s, c, h, k) = stopped (kinds before) t v cannot in
+    let (s, c, h, k) = machine_stops (kinds before) t v cannot in
     let same : code ≡ c = only_code (kinds before) t code c s row h k in
     let reached : parse_outcome AtKeyword before ≡ Ok s = ok-outcome before AtKeyword s h in
     let step : limited_step s t ≡ Err code = k ∙ ap Err (sym same) in
@@ -110,18 +111,22 @@ finished_text before n ms h =
     let same : ms' ≡ ms = ap members_of (sym f) ∙ is in
     e ∙ ap Ok (f ∙ ap Finished same)
 
+-- where a text spells a polygon, the function of texts gives its members
 pub polygon-answer : (text : List ℕ) (ms : List Member) → PolygonText text ms → polygon_of text ≡ Ok ms
 unfolding PolygonText polygon_of
-polygon-answer text ms h = rw (ok-outcome (tokens text) AtKeyword (Finished ms) (accepted (kinds (tokens text)) ms h)) refl
+polygon-answer text ms h = rw (ok-outcome (tokens text) AtKeyword (Finished ms) (accepted_is_finished (kinds (tokens text)) ms h)) refl
 
+-- where the function of texts gives members, the text spells their polygon
 pub answer-polygon : (text : List ℕ) (ms : List Member) → polygon_of text ≡ Ok ms → PolygonText text ms
 unfolding PolygonText polygon_of
-answer-polygon text ms h = finished (kinds (tokens text)) ms (outcome-ok (tokens text) AtKeyword (Finished ms) (finished_text (tokens_from 0 text) (length text) ms h))
+answer-polygon text ms h = finished_is_accepted (kinds (tokens text)) ms (outcome-ok (tokens text) AtKeyword (Finished ms) (finished_text (tokens_from 0 text) (length text) ms h))
 
+-- where a text has a first fault, the function of texts gives its code and its offset
 pub fault-answer : (text : List ℕ) (code : WktCode) (offset : ℕ) → TextFault text code offset → polygon_of text ≡ Err (code, offset)
 unfolding TextFault polygon_of
 fault-answer text code offset h = ap parse_answer (fault_outcome (tokens text) code offset h)
 
+-- where the function of texts gives a code and an offset, they are the first fault of the text
 pub answer-fault : (text : List ℕ) (code : WktCode) (offset : ℕ) → polygon_of text ≡ Err (code, offset) → TextFault text code offset
 unfolding TextFault polygon_of
 answer-fault text code offset h = first_fault (tokens text) code offset (answer-err (parse_outcome AtKeyword (tokens text)) (code, offset) h)
@@ -130,15 +135,18 @@ answered : (text : List ℕ) (r : Result (List Member) (WktCode × ℕ)) → pol
 answered text (Ok ms) h = inl (ms, answer-polygon text ms h)
 answered text (Err (code, offset)) h = inr (code, offset, answer-fault text code offset h)
 
+-- each text spells a polygon or has a first fault
 pub some_answer : (text : List ℕ) → ((ms : List Member) × PolygonText text ms) ⊎ ((code : WktCode) × (offset : ℕ) × TextFault text code offset)
 some_answer text = answered text (polygon_of text) refl
 
+-- a text spells no two polygons
 pub one_polygon : (text : List ℕ) (ms ms' : List Member) → PolygonText text ms → PolygonText text ms' → ms ≡ ms'
 one_polygon text ms ms' h k = let e = polygon-answer text ms h in let f = polygon-answer text ms' k in cc
 
 pair-same : {A B : Type 0} (p q : A × B) → p ≡ q → (p.0 ≡ q.0) × (p.1 ≡ q.1)
 pair-same {A} {B} p q e = (ap (λ (r : A × B). r.0) e, ap (λ (r : A × B). r.1) e)
 
+-- a text has no two first faults: their codes and their offsets are equal
 pub one_fault : (text : List ℕ) (code code' : WktCode) (offset offset' : ℕ) → TextFault text code offset → TextFault text code' offset' → (code ≡ code') × (offset ≡ offset')
 one_fault text code code' offset offset' h k =
     let e = fault-answer text code offset h in
@@ -148,6 +156,7 @@ one_fault text code code' offset offset' h k =
     let both : x ≡ y = cc in
     pair-same x y both
 
+-- no text spells a polygon and has a first fault
 pub never_both : (text : List ℕ) (ms : List Member) (code : WktCode) (offset : ℕ) → PolygonText text ms → TextFault text code offset → ⊥
 never_both text ms code offset h k = let e = polygon-answer text ms h in let f = fault-answer text code offset k in cc
 
@@ -157,15 +166,18 @@ unfolding polygon_of
 gives text (Err Memory) h = tt
 gives text _ h = rw h refl
 
+-- members that a call answers are spelled by the text, where it answers what the text says
 pub is_polygon_text : (text : List ℕ) (r : Result (List Member) WktFault) → Gives r (polygon_of text) → IfOk r (λ ms. PolygonText text ms)
 is_polygon_text text (Ok ms) h = answer-polygon text ms h
 is_polygon_text text (Err e) h = tt
 
+-- where the text spells members, a call that answers what the text says answers them, or that memory ran out
 pub is_only : (text : List ℕ) (r : Result (List Member) WktFault) → Gives r (polygon_of text) → (ms : List Member) → PolygonText text ms → MatchResult r (λ qs. qs ≡ ms) (λ e. e ≡ Memory)
 is_only text (Ok qs) h ms k = one_polygon text qs ms (answer-polygon text qs h) k
 is_only text (Err Memory) h ms k = refl
 is_only text (Err (At code offset)) h ms k = absurd (never_both text ms code offset k (answer-fault text code offset h))
 
+-- a fault of a call that answers what the text says is the first of the text, or that memory ran out
 pub is_fault : (text : List ℕ) (r : Result (List Member) WktFault) → Gives r (polygon_of text) → IfErr r (λ e. IsTextFault text e)
 is_fault text (Err (At code offset)) h = answer-fault text code offset h
 is_fault _ _ _ = tt

@@ -8,21 +8,24 @@ use Rattle.std.specs.List.{position_or_len, before_first, after_first}
 use Rattle.lpis_wkt.specs.Number.{is_point, is_numeral, is_fine, size, signed, unsigned, is_negative}
 use Rattle.lpis_wkt.specs.private.Runs.{IsPlain, AllWord, Stops, IsSign, none, plus, minus}
 use Rattle.lpis_wkt.specs.declared.fault.WktCode.TheVariants.{NotANumber, TooFine, OutOfRange}
-use Rattle.lpis_wkt.proofs.DigitLemmas.{value-append, between, is-digit}
+use Rattle.lpis_wkt.proofs.DigitLemmas.{value-append, digit_between, is-digit}
 use Rattle.lpis_wkt.proofs.SplittingLemmas.{whole_word, stops-at}
 
+-- from an offset up to itself stand no bytes
 pub no_part : (text : List ℕ) (at : ℕ) → at ≤ length text → IsPart text at at []
 no_part text at le = record { from = refl; past = omega arith; within = le }
 
-pub one_more : (text : List ℕ) (at i : ℕ) (part : List ℕ) → IsPart text at i part → i < length text → IsPart text at (i + 1) (part ++ get_or text i 0 ∷ [])
-one_more text at i part p lt = record {
+-- a part of a text goes on by the byte that stands behind it
+pub part_grows : (text : List ℕ) (at i : ℕ) (part : List ℕ) → IsPart text at i part → i < length text → IsPart text at (i + 1) (part ++ get_or text i 0 ∷ [])
+part_grows text at i part p lt = record {
   from = p.from ∙ ap (λ (l : List ℕ). part ++ l) (drop-cons text i 0 lt) ∙ rw add-one (sym (append_assoc part (get_or text i 0 ∷ []) (drop (suc i) text)));
   past = let e = p.past in omega (arith, length-append part (get_or text i 0 ∷ []));
   within = omega arith;
 }
 
-pub joined : (text : List ℕ) (a b c : ℕ) (first second : List ℕ) → IsPart text a b first → IsPart text b c second → IsPart text a c (first ++ second)
-joined text a b c first second p q = record {
+-- two parts of a text, one from where the other ends, are one part
+pub parts_joined : (text : List ℕ) (a b c : ℕ) (first second : List ℕ) → IsPart text a b first → IsPart text b c second → IsPart text a c (first ++ second)
+parts_joined text a b c first second p q = record {
   from = p.from ∙ ap (λ (l : List ℕ). first ++ l) q.from ∙ sym (append_assoc first second (drop c text));
   past = let e = p.past in let f = q.past in omega (arith, length-append first second);
   within = q.within;
@@ -30,19 +33,21 @@ joined text a b c first second p q = record {
 
 -- digits
 
+-- digits with one digit more are all digits
 pub digits-push : (ds : List ℕ) (b : ℕ) → list_all is_ascii_digit ds ≡ true → is_ascii_digit b ≡ true → list_all is_ascii_digit (ds ++ b ∷ []) ≡ true
 digits-push [] b h d = rw d refl
 digits-push (x ∷ ds) b h d = let both = and_parts (is_ascii_digit x) (list_all is_ascii_digit ds) h in rw both.0 (digits-push ds b both.1 d)
 
+-- with one digit more, the value is ten times the one before, and the digit
 pub value-push : (ds : List ℕ) (b : ℕ) → is_ascii_digit b ≡ true → digits_value 10 (ds ++ b ∷ []) ≡ digits_value 10 ds * 10 + (b - 48)
 value-push ds b d = value-append 0 ds (b ∷ []) ∙ rw (is-digit b d) refl
 
 -- what a digit is not
 no_point : (b : ℕ) → is_ascii_digit b ≡ true → is_point b ≡ false
-no_point b h = let d = between b h in grind (arith, nat_tests)
+no_point b h = let d = digit_between b h in grind (arith, nat_tests)
 
 no_sign : (b : ℕ) → is_ascii_digit b ≡ true → ((b == 43) ≡ false) × ((b == 45) ≡ false)
-no_sign b h = let d = between b h in (grind (arith, nat_tests), grind (arith, nat_tests))
+no_sign b h = let d = digit_between b h in (grind (arith, nat_tests), grind (arith, nat_tests))
 
 word-by : (a b c d e f g : Bool) → a ≡ false → b ≡ false → c ≡ false → d ≡ false → e ≡ false → f ≡ false → g ≡ false → not ((a || b || c || d) || e || f || g) ≡ true
 word-by a b c d e f g ha hb hc hd he hf hg = rw (ha, hb, hc, hd, he, hf, hg) refl
@@ -53,7 +58,7 @@ letter b lt = word-by (b == 32) (b == 9) (b == 13) (b == 10) (b == 40) (b == 41)
     (grind (arith, nat_tests)) (grind (arith, nat_tests))
 
 digit-word : (b : ℕ) → is_ascii_digit b ≡ true → is_word b ≡ true
-digit-word b h = let d = between b h in letter b (omega arith)
+digit-word b h = let d = digit_between b h in letter b (omega arith)
 
 digits-word : (ds : List ℕ) → list_all is_ascii_digit ds ≡ true → AllWord ds
 digits-word [] h = tt
@@ -77,6 +82,7 @@ drop-front : (a b : List ℕ) (x : ℕ) → drop (suc (length a)) (a ++ x ∷ b)
 drop-front [] b x = refl
 drop-front (y ∷ a) b x = drop-front a b x
 
+-- of digits, a point and more bytes, the digits stand before the first point, and the other bytes after it
 pub whole_of : (ds more : List ℕ) → list_all is_ascii_digit ds ≡ true → (before_first is_point (ds ++ 46 ∷ more) ≡ ds) × (after_first is_point (ds ++ 46 ∷ more) ≡ more)
 whole_of ds more h = (rw (point_at ds more h) (take-append_seam ds (46 ∷ more)), rw (point_at ds more h) (rw add-one (drop-front ds more 46)))
 
@@ -124,6 +130,7 @@ plain_whole ds n h some size le =
       word = digits-word ds h;
     }
 
+-- the slice between the two offsets of a part is the part
 pub part_is : (text : List ℕ) (at end : ℕ) (part : List ℕ) → IsPart text at end part → slice_range text at end ≡ part
 part_is text at end part p =
     let n : end - at ≡ length part = let e = p.past in omega arith in
@@ -150,6 +157,7 @@ number_of negative w body n e f p =
     (rw e (below n _ p.size p.few))
     ∙ rw (f, amount) refl
 
+-- a plain numeral with a sign, or with none, spells its number with that sign
 pub signed_number : (sign body : List ℕ) (negative : Bool) (n : ℕ) → IsSign sign negative → IsPlain body n → number (sign ++ body) ≡ Ok (signed negative n)
 signed_number sign body negative n none p = number_of false body body n p.without_sign p.positive p
 signed_number sign body negative n plus p = number_of false (43 ∷ body) body n refl refl p
@@ -168,10 +176,11 @@ first_letter : (w rest : List ℕ) (at end : ℕ) → AllWord w → 0 < length w
 first_letter [] rest at end all some stops e = absurd (omega arith)
 first_letter (b ∷ w) rest at end all some stops e = rw e (whole_word at b w rest all.0 all.1 stops)
 
+-- where a sign and a plain numeral stand, and no word goes on behind them, the next token is the word of both
 pub signed_word : (text : List ℕ) (at start end : ℕ) (sign body : List ℕ) (negative : Bool) (n : ℕ) → IsSign sign negative → IsPart text at start sign → IsPart text start end body → IsPlain body n
     → (end < length text → is_word (get_or text end 0) ≡ false) → tokens_from at (drop at text) ≡ (at, Word (sign ++ body)) ∷ tokens_from end (drop end text)
 signed_word text at start end sign body negative n is p q plain stop =
-    let whole = joined text at start end sign body p q in
+    let whole = parts_joined text at start end sign body p q in
     let some = some-body body n plain in
     ap (tokens_from at) whole.from ∙ first_letter (sign ++ body) (drop end text) at end
     (words-append sign body (sign-words sign negative is) plain.word) (omega (arith, length-append sign body))

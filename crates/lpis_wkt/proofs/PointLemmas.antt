@@ -35,18 +35,22 @@ err-with_range : (r : Result ℤ WktCode) (h : (z : ℤ) → r ≡ Ok z → IsIn
 err-with_range (Ok z) h f e = cc
 err-with_range (Err g) h f e = cc
 
+-- a word that spells the number of a coordinate spells the coordinate
 pub coordinate-ok : (w : List ℕ) (c : Coordinate) → number w ≡ Ok c.value → coordinate_in_range w ≡ Ok c
 unfolding coordinate_in_range
 coordinate-ok w c e = with_range-ok (number w) (number-in_range w) c e
 
+-- a word that spells a coordinate spells its number
 pub ok-coordinate : (w : List ℕ) (c : Coordinate) → coordinate_in_range w ≡ Ok c → number w ≡ Ok c.value
 unfolding coordinate_in_range
 ok-coordinate w c e = ok-with_range (number w) (number-in_range w) c e
 
+-- what is wrong with the number of a word is wrong with its coordinate
 pub coordinate-err : (w : List ℕ) (code : WktCode) → number w ≡ Err code → coordinate_in_range w ≡ Err code
 unfolding coordinate_in_range
 coordinate-err w code e = with_range-err (number w) (number-in_range w) code e
 
+-- what is wrong with the coordinate of a word is wrong with its number
 pub err-coordinate : (w : List ℕ) (code : WktCode) → coordinate_in_range w ≡ Err code → number w ≡ Err code
 unfolding coordinate_in_range
 err-coordinate w code e = err-with_range (number w) (number-in_range w) code e
@@ -62,8 +66,10 @@ same_end-refl : (a : Option Point) → same_end a a ≡ true
 same_end-refl (Some p) = (same_point-equality p p).1 refl
 same_end-refl None = refl
 
+-- where the points of a ring pass the test for a closed one, the last is the first
 pub is_closed-true : (ps : List Point) → is_closed ps ≡ true → slice_get ps (length ps - 1) ≡ slice_get ps 0
 is_closed-true ps h = same_end-true _ _ h
 
+-- where the last point of a ring is the first, the points pass the test for a closed one
 pub true-is_closed : (ps : List Point) → slice_get ps (length ps - 1) ≡ slice_get ps 0 → is_closed ps ≡ true
 true-is_closed ps e = rw e (same_end-refl (slice_get ps 0))

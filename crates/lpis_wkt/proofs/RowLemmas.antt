@@ -12,13 +12,13 @@ use Rattle.lpis_wkt.specs.Table.{number_code, coordinate_code, TableCode, at_key
 use Rattle.lpis_wkt.specs.private.Machine.{with_coordinate}
 use Rattle.lpis_wkt.proofs.PointLemmas.{err-coordinate}
 use Rattle.lpis_wkt.proofs.StepLemmas.{run-append}
-use Rattle.lpis_wkt.proofs.CompletingLemmas.{origin, zero_spelled, begins}
+use Rattle.lpis_wkt.proofs.CompletingLemmas.{origin, zero_spelled, taken_begins_text}
 use Rattle.lpis_wkt.proofs.CountingLemmas.{has_words, words-run, limited-run-ok}
 use Rattle.lpis_wkt.proofs.TailLemmas.{Tail, tail}
 
 -- a token that the step takes can stand
 pub stands : (before : List Token) (s s' : ParserState) (t : Token) → run AtKeyword before ≡ Ok s → parse_step s t ≡ Ok s' → Stands before t
-stands before s s' t h k = begins (before ++ t ∷ []) s' (run-append AtKeyword before (t ∷ []) ∙ rw (h, k) refl)
+stands before s s' t h k = taken_begins_text (before ++ t ∷ []) s' (run-append AtKeyword before (t ∷ []) ∙ rw (h, k) refl)
 
 -- the code of an error is that of the table
 told : {before : List Token} {t : Token} {a code : WktCode} → TableCode before t a → ◌≡◌ {A = Result ParserState WktCode} (Err a) (Err code) → TableCode before t code
@@ -33,6 +33,7 @@ x-stands before b ps h = stands before _ (AtY b ps origin) (Word (codes "0")) h 
 y-stands : (before : List Token) (b : Context) (ps : List Point) (x : Coordinate) → run AtKeyword before ≡ Ok (AtY b ps x) → Stands before (Word (codes "0"))
 y-stands before b ps x h = stands before _ (AfterPoint b (ps ++ point_of x origin ∷ [])) (Word (codes "0")) h (rw zero_spelled refl)
 
+-- where a keyword's step fails, its code is the one for a word that is no keyword
 pub keyword-code : (p m : Bool) (f code : WktCode) → cond p (Ok (AfterKeyword false)) (cond m (Ok (AfterKeyword true)) (Err f)) ≡ Err code → f ≡ code
 keyword-code false false f code h = cc
 keyword-code _ _ f code h = cc
@@ -41,24 +42,29 @@ coordinate-code : (r : Result Coordinate WktCode) (f : Coordinate → ParserStat
 coordinate-code (Ok z) f code h = cc
 coordinate-code (Err e) f code h = cc
 
+-- where the step of a coordinate fails, its code is what is wrong with the number of the word
 pub number-code : (w : List ℕ) (f : Coordinate → ParserState) (code : WktCode) → with_coordinate (coordinate_in_range w) f ≡ Err code → number_code (number w) ≡ code
 number-code w f code h = rw (err-coordinate w code (coordinate-code (coordinate_in_range w) f code h)) refl
 
+-- where the step of an x fails, its code is too many points where there are, and else what is wrong with its number
 pub limited-code : (many : Bool) (w : List ℕ) (f : Coordinate → ParserState) (code : WktCode) → cond many (Err TooManyPoints)
     (with_coordinate (coordinate_in_range w) f) ≡ Err code → cond many TooManyPoints (number_code (number w)) ≡ code
 limited-code true w f code h = cc
 limited-code false w f code h = number-code w f code h
 
+-- where closing a ring fails, its code is too few points where there are, and else a ring that is not closed
 pub close-code : (few closed : Bool) (b : ParserState) (code : WktCode) → cond few (Err TooFewPoints) (cond closed (Ok b) (Err NotClosed)) ≡ Err code → cond few TooFewPoints NotClosed ≡ code
 close-code false false b code h = cc
 close-code _ _ b code h = cc
 
+-- before an x, with no more points than the most, the points are the most exactly where the words are
 pub same-test : (n token_words : ℕ) → token_words ≡ 2 * n + 1 → n ≤ most_points → nat_le most_points n ≡ (token_words == most_words)
 same-test n token_words h le = elim (cases_lt n most_points) [
   | inl lt ↦ (let a : nat_le most_points n ≡ false = grind (arith, nat_tests) in let b : (token_words == most_words) ≡ false = grind (arith, nat_tests) in a ∙ sym b)
   | inr ge ↦ (let a : nat_le most_points n ≡ true = grind (arith, nat_tests) in let b : (token_words == most_words) ≡ true = grind (arith, nat_tests) in a ∙ sym b)
 ]
 
+-- before a y, the words are an even number, and never the most
 pub even-test : (n token_words : ℕ) → token_words ≡ 2 * n + 2 → (token_words == most_words) ≡ false
 even-test n token_words h = grind (arith, nat_tests)
 
@@ -115,6 +121,7 @@ coded before End (AtEnd ms) code r h n le k = cc
 coded before t (Finished ms) code r h n le k = told (at_past_end r) k
 coded before _ _ code r h n le k = told (at_after_close r) k
 
+-- a code with which the machine refuses a token is one that the table gives
 pub table_code : (before : List Token) (t : Token) (s : ParserState) (code : WktCode) → limited_run AtKeyword before ≡ Ok s → limited_step s t ≡ Err code → TableCode before t code
 table_code before t s code h k =
     let r = limited-run-ok before AtKeyword s (omega arith) h in

@@ -195,5 +195,6 @@ module _ (q : List Member) where
             (w, Open ∷ front ++ Close ∷ [], ends w ts front r1 r2 rest e1 e2 (split ∙ ap (λ (l : List Token). front ++ l) e3) e4, inr (keyword, (front, text2, refl)))
       ]
 
+-- tokens with which the machine finishes are a text of the grammar, and spell the members of its last state
 pub runs_reads : (ts : List Token) (ms : List Member) → run AtKeyword ts ≡ Ok (Finished ms) → Reads ts ms
 runs_reads ts ms h = reads ms ts h

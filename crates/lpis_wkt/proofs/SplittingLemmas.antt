@@ -68,6 +68,7 @@ last_byte at b (c ∷ rest) h =
 first_byte : (at b : ℕ) (bs : List ℕ) → is_word b ≡ true → tokens_from at (b ∷ bs) ≡ join at b (tokens_from (at + 1) bs)
 first_byte at b bs h = token_of_letter (is_space b) (b == 40) (b == 41) (b == 44) at (tokens_from (at + 1) bs) (join at b (tokens_from (at + 1) bs)) h
 
+-- where bytes of a word stand and no word goes on behind them, the first token is the word of all of them
 pub whole_word : (at b : ℕ) (w rest : List ℕ) → is_word b ≡ true → AllWord w → Stops rest → tokens_from at (b ∷ w ++ rest) ≡ (at, Word (b ∷ w)) ∷ tokens_from (at + suc (length w)) rest
 whole_word at b [] rest h all stops = first_byte at b rest h ∙ last_byte at b rest stops
 whole_word at b (c ∷ w) rest h all stops =
@@ -82,12 +83,14 @@ all-word (suc n) at text le h =
     let lt : at < length text = omega arith in
     rw (drop-cons text at 0) (h at (omega arith) (omega arith), all-word n (suc at) text (omega arith) (λ k a b. h k (omega arith) (omega arith)))
 
+-- at the end of the text, or at a byte of no word, no word goes on
 pub stops-at : (i : ℕ) (text : List ℕ) → (i < length text → is_word (get_or text i 0) ≡ false) → Stops (drop i text)
 stops-at i text h = elim (cases_lt i (length text)) [
   | inl lt ↦ rw (drop-cons text i 0) (h lt)
   | inr le ↦ rw (nil_from_length (drop i text) (simp length-drop (omega arith))) tt
 ]
 
+-- where the bytes between two offsets are of a word, and the one behind is not, their slice is the next token
 pub word_token : (at end : ℕ) (text : List ℕ) → at < end → end ≤ length text → ((k : ℕ) → at ≤ k → k < end → is_word (get_or text k 0) ≡ true)
     → (end < length text → is_word (get_or text end 0) ≡ false) → tokens_from at (drop at text) ≡ (at, Word (slice_range text at end)) ∷ tokens_from end (drop end text)
 word_token at end text lt le all stop =

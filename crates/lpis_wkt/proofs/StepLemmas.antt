@@ -8,10 +8,12 @@ use Rattle.lpis_wkt.proofs.Common.{parse_step, and_then, run, limited_step, limi
 use Rattle.lpis_wkt.specs.private.Machine.{with_coordinate, keyword}
 use Rattle.lpis_wkt.proofs.PointLemmas.{is_closed-true}
 
+-- where two steps in turn give a value, so does the first alone, and the second from the value of the first
 pub then-ok : {A B E : Type 0} (r : Result A E) (f : A → Result B E) (z : B) → and_then r f ≡ Ok z → (v : A) × (r ≡ Ok v) × (f v ≡ Ok z)
 then-ok (Ok v) f z h = (v, refl, h)
 then-ok (Err e) f z h = cc
 
+-- where a result goes on to a state, it is a coordinate, and the state is the one of that coordinate
 pub with_coordinate-ok : (r : Result Coordinate WktCode) (f : Coordinate → ParserState) (s : ParserState) → with_coordinate r f ≡ Ok s → (v : Coordinate) × (r ≡ Ok v) × (f v ≡ s)
 with_coordinate-ok (Ok v) f s h = (v, refl, cc)
 with_coordinate-ok (Err e) f s h = cc
@@ -20,10 +22,12 @@ cond-ok : {A : Type 0} (b : Bool) (x : A) (e : WktCode) (s : A) → cond b (Ok x
 cond-ok true x e s h = (refl, cc)
 cond-ok false x e s h = cc
 
+-- where a value comes in spite of a test for an error, the test is false, and the value is that of the other branch
 pub cond-err : {A : Type 0} (b : Bool) (e : WktCode) (r : Result A WktCode) (s : A) → cond b (Err e) r ≡ Ok s → (b ≡ false) × (r ≡ Ok s)
 cond-err true e r s h = cc
 cond-err false e r s h = (refl, h)
 
+-- where a ring is closed, its points are a ring, and the state is the one after it
 pub close_ring-ok : (b : Context) (ps : List Point) (s : ParserState) → close_ring b ps ≡ Ok s → IsRing ps × (AfterRing (with_ring b ps) ≡ s)
 close_ring-ok b ps s h =
     let a = cond-err _ _ _ _ h in
@@ -38,6 +42,7 @@ keyword-by true m f s h = inl (refl, cc)
 keyword-by false true f s h = inr (refl, cc)
 keyword-by false false f s h = cc
 
+-- a word that is taken as a keyword is `POLYGON` or `MULTIPOLYGON`, and the state is the one after it
 pub keyword-ok : (w : List ℕ) (s : ParserState) → keyword w ≡ Ok s → ((is_polygon w ≡ true) × (AfterKeyword false ≡ s)) ⊎ ((is_multi w ≡ true) × (AfterKeyword true ≡ s))
 keyword-ok w s h = keyword-by (is_polygon w) (is_multi w) (keyword_code (Word w)) s h
 
@@ -57,6 +62,7 @@ pub data Goes : ParserState → Token → ParserState → Type 0 where
   next_body : (ms : List Member) → Goes (AfterBody ms) Comma (AtBody ms)
   finishes : (ms : List Member) → Goes (AtEnd ms) End (Finished ms)
 
+-- a step that does not fail is one of those that the machine takes
 pub goes : (s : ParserState) (t : Token) (s' : ParserState) → parse_step s t ≡ Ok s' → Goes s t s'
 goes AtKeyword (Word w) s' h = elim (keyword-ok w s' h) [ inl e ↦ subst (Goes AtKeyword (Word w)) e.1 (takes_keyword w false) | inr e ↦ subst (Goes AtKeyword (Word w)) e.1 (takes_keyword w true) ]
 goes (AfterKeyword m) Open s' h = subst (Goes (AfterKeyword m) Open) (cc h) (opens_text m)
@@ -73,10 +79,12 @@ goes (AfterBody ms) Comma s' h = subst (Goes (AfterBody ms) Comma) (cc h) (next_
 goes (AtEnd ms) End s' h = subst (Goes (AtEnd ms) End) (cc h) (finishes ms)
 goes _ _ s' h = cc
 
+-- a run over tokens and more tokens is a run over the first, and then one over the others
 pub run-append : (s : ParserState) (a b : List Token) → run s (a ++ b) ≡ and_then (run s a) (λ s. run s b)
 run-append s [] b = refl
 run-append s (t ∷ a) b = elim (parse_step s t) as (λ r. and_then r (λ s. run s (a ++ b)) ≡ and_then (and_then r (λ s. run s a)) (λ s. run s b)) [ Ok s' ↦ run-append s' a b | Err e ↦ refl ]
 
+-- a run with the limit on points, over tokens and more tokens, is one over the first, and then one over the others
 pub limited-append : (s : ParserState) (a b : List Token) → limited_run s (a ++ b) ≡ and_then (limited_run s a) (λ s. limited_run s b)
 limited-append s [] b = refl
 limited-append s (t ∷ a) b = elim (limited_step s t) as (λ r. and_then r (λ s. limited_run s (a ++ b)) ≡ and_then

@@ -77,5 +77,6 @@ tail-run (t ∷ ts) before s s' h r =
     let regroup : (before ++ t ∷ []) ++ ts ≡ before ++ t ∷ ts = append_assoc before (t ∷ []) ts in
     subst (Tail s') regroup (tail-run ts (before ++ t ∷ []) a.0 s' a.2 (tail-step s t a.0 before (goes s t a.0 a.1) r))
 
+-- tokens that take the machine from the keyword to a state end as they have to before that state
 pub tail : (before : List Token) (s : ParserState) → run AtKeyword before ≡ Ok s → Tail s before
 tail before s h = tail-run before [] AtKeyword s h refl

@@ -1,7 +1,7 @@
 use Rattle.std.proofs.Common.{◌≡◌, ℕ, ◌+◌, ◌<◌, List, [], ◌∷◌, ◌++◌, sym, ap, subst, ◌∙◌, length, arith, slice_range}
 use Rattle.lpis_wkt.proofs.Common.{digits_value, digits_value_after, coordinate_decimals, padded, IsPart}
 use Rattle.lpis_wkt.proofs.DigitLemmas.{size_after}
-use Rattle.lpis_wkt.proofs.PartLemmas.{no_part, one_more, joined, part_is, plain_decimals, plain_whole}
+use Rattle.lpis_wkt.proofs.PartLemmas.{no_part, part_grows, parts_joined, part_is, plain_decimals, plain_whole}
 use Rattle.lpis_wkt.proofs.fast_path.plain_number.Goals as goal
 
 pub returns-in_ok-size-clause-body : goal.returns-in_ok-size-clause-body
@@ -11,7 +11,7 @@ returns-in_ok-size-clause-body c =
     let (ds, part, all, value) = c.leading_digits-whole.ensures in
     let (more, rest, rest_all, few) = c.past_decimals-end.ensures in
     let dot : IsPart text point (point + 1) (46 ∷ []) = subst (λ (b : ℕ). IsPart text point (point + 1) (b ∷ []))
-    c.if-text-point-eq46.true (one_more text point point [] (no_part text point part.within) c.if-point-text.true)
+    c.if-text-point-eq46.true (part_grows text point point [] (no_part text point part.within) c.if-point-text.true)
     in
     let some : 0 < length ds = let e = part.past in let d = c.if-point-at.false in omega arith in
     let same : slice_range text (point + 1) c.past_decimals-end.result ≡ more = part_is text (point + 1) c.past_decimals-end.result more rest in
@@ -21,8 +21,8 @@ returns-in_ok-size-clause-body c =
     ∙ ap (λ (n : ℕ). digits_value_after 10 n (padded coordinate_decimals more)) value
     ∙ sym (size_after ds (padded coordinate_decimals more)) in (
       ds ++ 46 ∷ more,
-      joined text c.args.at point c.past_decimals-end.result ds (46 ∷ more) part
-          (joined text point (point + 1) c.past_decimals-end.result (46 ∷ []) more dot rest),
+      parts_joined text c.args.at point c.past_decimals-end.result ds (46 ∷ more) part
+          (parts_joined text point (point + 1) c.past_decimals-end.result (46 ∷ []) more dot rest),
       plain_decimals ds more c.in_ok-size.size all some rest_all few size c.in_ok-size.ensures.1,
     )
 
