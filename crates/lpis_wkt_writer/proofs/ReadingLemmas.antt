@@ -160,9 +160,10 @@ pub record IsSpelled (z : ℤ) : Type 0 where
 longer : (ds more : List ℕ) → 0 < length (ds ++ 46 ∷ more)
 longer ds more = omega (arith, length-append ds (46 ∷ more))
 
-pub spelled : (z : ℤ) → IsInRange z → IsSpelled z
+-- each coordinate in range is spelled by its text, which is one word
+pub coordinate_is_spelled : (z : ℤ) → IsInRange z → IsSpelled z
 unfolding number_text
-spelled (pos n) h =
+coordinate_is_spelled (pos n) h =
     let few = size-small (pos n) h in
     let ds = decimal (n / 1000) in
     let is = decimal_is_IsNumeral (n / 1000) (omega arith) in
@@ -173,7 +174,7 @@ spelled (pos n) h =
       word = letters ds (46 ∷ last_digits 3 n) digits (refl, last-letters (last_digits 3 n) (decimals-are-digits n));
       some = longer ds (last_digits 3 n);
     }
-spelled (negsuc n) h =
+coordinate_is_spelled (negsuc n) h =
     let few = size-small (negsuc n) h in
     let ds = decimal (suc n / 1000) in
     let is = decimal_is_IsNumeral (suc n / 1000) (omega arith) in

@@ -13,8 +13,8 @@ use Rattle.lpis_wkt.specs.Text.{PolygonText}
 use Rattle.lpis_wkt.specs.Tokens.{Close, Comma, End, Open, Token, Word, kinds, tokens, tokens_from}
 use Rattle.lpis_wkt.specs.private.Runs.{AllWord, is_word}
 use Rattle.lpis_wkt_writer.specs.Text.{HaveRings, HasRings, in_parens, member_text, number_text, polygon_point_text, ring_text, polygon_text, with_commas}
-use Rattle.lpis_wkt_writer.proofs.ReadingLemmas.{spelled}
-use Rattle.lpis_wkt_writer.proofs.WordLemmas.{Ends, Spells, at_close, at_comma, at_end, at_open, next_word, word}
+use Rattle.lpis_wkt_writer.proofs.ReadingLemmas.{coordinate_is_spelled}
+use Rattle.lpis_wkt_writer.proofs.WordLemmas.{Ends, Spells, at_close, at_comma, at_end, at_open, next_word, word_is_one_token}
 
 joined : (a b : List ℕ) (ts us : List Token) → Spells a ts → Spells b us → ((rest : List ℕ) → Ends (b ++ rest)) → Spells (a ++ b) (ts ++ us)
 joined a b ts us f g stop = λ at rest ends.
@@ -43,13 +43,13 @@ Spelled P text a = (ts : List Token) × P a ts × Spells (text a) ts
 
 point : (p : Point) → Spelled PointText polygon_point_text p
 point p =
-    let x = spelled p.x p.x_in_range in
-    let y = spelled p.y p.y_in_range in (
+    let x = coordinate_is_spelled p.x p.x_in_range in
+    let y = coordinate_is_spelled p.y p.y_in_range in (
       Word (number_text p.x) ∷ Word (number_text p.y) ∷ [],
       (number_text p.x, number_text p.y, refl, x.number, y.number),
       joined (number_text p.x) (32 ∷ number_text p.y) (Word (number_text p.x) ∷ []) (Word (number_text p.y) ∷ [])
-          (word (number_text p.x) x.word x.some)
-          (after_space (number_text p.y) (Word (number_text p.y) ∷ []) (word (number_text p.y) y.word y.some)) (next_word (number_text p.y) y.word y.some),
+          (word_is_one_token (number_text p.x) x.word x.some)
+          (after_space (number_text p.y) (Word (number_text p.y) ∷ []) (word_is_one_token (number_text p.y) y.word y.some)) (next_word (number_text p.y) y.word y.some),
     )
 
 commas : {A : Type 0} (P : A → List Token → Type 0) (text : A → List ℕ) (things : List A) → 0 < length things → All (Spelled P text) things → Spelled (Commas P) (with_commas text) things
@@ -94,7 +94,7 @@ whole : (keyword text : List ℕ) (ts : List Token) → AllWord keyword → 0 < 
     → kinds (tokens (keyword ++ text)) ≡ Word keyword ∷ ts ++ End ∷ []
 whole keyword text ts all some f stop =
     let bytes : List ℕ = keyword ++ text in
-    let r = joined keyword text (Word keyword ∷ []) ts (word keyword all some) f stop 0 [] at_end in
+    let r = joined keyword text (Word keyword ∷ []) ts (word_is_one_token keyword all some) f stop 0 [] at_end in
     map-append (λ (t : ℕ × Token). t.1) (tokens_from 0 bytes) ((length bytes, End) ∷ [])
     ∙ ap (λ (l : List Token). l ++ End ∷ []) (ap (λ (l : List ℕ). kinds (tokens_from 0 l)) (sym (append-nil bytes)) ∙ r.1 ∙ append-nil (Word keyword ∷ ts))
 
@@ -114,6 +114,7 @@ reads (m ∷ n ∷ more) some h =
     let text = in_parens (with_commas member_text (m ∷ n ∷ more)) in
     (codes "MULTIPOLYGON", body.0, whole (codes "MULTIPOLYGON") text body.0 (letters (codes "MULTIPOLYGON") refl) (omega arith) body.2 (λ rest. at_open), inr (refl, body.1))
 
-pub spells : (members : List Member) → IsPolygon members → HaveRings members → PolygonText (polygon_text members) members
+-- the text of a polygon whose lists of points are rings spells the polygon
+pub polygon_is_spelled : (members : List Member) → IsPolygon members → HaveRings members → PolygonText (polygon_text members) members
 unfolding PolygonText
-spells members is h = (reads members is.some h, is.few)
+polygon_is_spelled members is h = (reads members is.some h, is.few)

@@ -60,9 +60,10 @@ whole at b (c ∷ w) rest h all ends =
 abbrev pub Spells : List ℕ → List Token → Type 0
 Spells text ts = (at : ℕ) (rest : List ℕ) → Ends rest → (end : ℕ) × (kinds (tokens_from at (text ++ rest)) ≡ ts ++ kinds (tokens_from end rest))
 
-pub word : (w : List ℕ) → AllWord w → 0 < length w → Spells w (Word w ∷ [])
-word [] all some = absurd (omega arith)
-word (b ∷ w) all some = λ at rest ends. (at + suc (length w), ap kinds (whole at b w rest all.0 all.1 ends))
+-- bytes of a word, one or more, have that word as their one token
+pub word_is_one_token : (w : List ℕ) → AllWord w → 0 < length w → Spells w (Word w ∷ [])
+word_is_one_token [] all some = absurd (omega arith)
+word_is_one_token (b ∷ w) all some = λ at rest ends. (at + suc (length w), ap kinds (whole at b w rest all.0 all.1 ends))
 
 -- a word may stand behind another and a space
 pub next_word : (w : List ℕ) → AllWord w → 0 < length w → (rest : List ℕ) → Ends ((32 ∷ w) ++ rest)
