@@ -13,6 +13,7 @@ use Rattle.lpis_covers.specs.declared.fault.TableCode.{TableCode}
 use Rattle.lpis_covers.specs.declared.fault.TableCode.TheVariants.{DoubledColumn}
 use Rattle.lpis_covers.specs.Table.{and_then, indices_of_name, place_of}
 
+-- of a text that starts with a byte order mark, all bytes but the first three are the text without its mark
 pub with-mark : (xs : List ℕ) → has_mark xs ≡ true → take (length xs - 3) (drop 3 xs) ≡ strip_bom xs
 unfolding strip_bom
 with-mark (a ∷ b ∷ c ∷ rest) h =
@@ -20,6 +21,7 @@ with-mark (a ∷ b ∷ c ∷ rest) h =
     rw (h, len) (take_all (length rest) rest (omega arith))
 with-mark _ h = cc h
 
+-- a text that starts with no byte order mark is left as it is where a mark is taken off
 pub without-mark : (xs : List ℕ) → has_mark xs ≡ false → xs ≡ strip_bom xs
 unfolding strip_bom
 without-mark (a ∷ b ∷ c ∷ rest) h = rw h refl
@@ -31,6 +33,7 @@ unfolding field_at
 drop-field (g ∷ gs) (suc i) f e = let n : suc i + 1 ≡ suc (i + 1) = omega arith in rw n (drop-field gs i f e)
 drop-field _ _ f e = cc e
 
+-- where no field stands at an index, there are no more fields than the index
 pub no-field : (fs : List (List ℕ)) (i : ℕ) → ◌≡◌ {A = Option (List ℕ)} None (field_at fs i) → length fs ≤ i
 unfolding field_at
 no-field [] i e = omega arith
@@ -58,6 +61,7 @@ pub step-named : (name : List ℕ) (i : ℕ) (fs : List (List ℕ)) (f : List �
 unfolding indices_of_name
 step-named name i fs f test at says t = rw (drop-field fs i f at, same-name f name test says ∙ t) refl
 
+-- where the field at an index has another name, the indices of the name are those from the next index on
 pub step-other : (name : List ℕ) (i : ℕ) (fs : List (List ℕ)) (f : List ℕ) (test : Bool)
     → Some f ≡ field_at fs i → IsTrue test ↔ (map to_ascii_lowercase f ≡ map to_ascii_lowercase name) → test ≡ false
     → indices_of_name name i (drop i fs) ≡ indices_of_name name (i + 1) (drop (i + 1) fs)
@@ -69,10 +73,12 @@ pub index-twice : (needed : Bool) (found : Option ℕ) (i : ℕ) (more : List �
 index-twice needed None i more e = cc e
 index-twice needed (Some p) i more e = refl
 
+-- where none was found before, the index of a field of the name stands first, as the one found
 pub index-first : (found : Option ℕ) (i : ℕ) (more : List ℕ) → is_some found ≡ false → option_to_list (Some i) ++ more ≡ option_to_list found ++ i ∷ more
 index-first None i more e = refl
 index-first (Some p) i more e = cc e
 
+-- past the last field, the place of a column is that of the field found so far
 pub index-end : (needed : Bool) (name : List ℕ) (i : ℕ) (found : Option ℕ) (fs : List (List ℕ)) (r : Result (Option ℕ) TableCode) → length fs ≤ i
     → r ≡ one_place needed (option_to_list found) → r ≡ one_place needed (option_to_list found ++ indices_of_name name i (drop i fs))
 unfolding indices_of_name
@@ -86,18 +92,21 @@ after-step : (front : List (Option ℕ)) (p : Option ℕ) (more : Result (List (
 after-step front p (Ok ps) = ap Ok (append_assoc front (p ∷ []) ps)
 after-step front p (Err e) = refl
 
+-- with the place of the next column behind those found so far, the places of all columns are the same
 pub places-more : (needed : Bool) (names : List (Bor (List ℕ))) (i : ℕ) (d : Bor (List ℕ)) (header : List (List ℕ)) (front : List (Option ℕ)) (p : Option ℕ) → i < length names
     → place_of needed header (get_or names i d).now ≡ Ok p
     → after_places (front ++ (p ∷ [])) (places_of needed header (texts (drop (i + 1) names))) ≡ after_places front (places_of needed header (texts (drop i names)))
 unfolding places_of
 places-more needed names i d header front p h e = rw (texts-drop names i d h, e) (after-step front p _)
 
+-- the fault of the next column is the fault of all columns from there on
 pub places-bad : (needed : Bool) (names : List (Bor (List ℕ))) (i : ℕ) (d : Bor (List ℕ)) (header : List (List ℕ)) (front : List (Option ℕ)) (e : TableCode) → i < length names
     → place_of needed header (get_or names i d).now ≡ Err e
     → after_places front (places_of needed header (texts (drop i names))) ≡ Err e
 unfolding places_of
 places-bad needed names i d header front e h is = rw (texts-drop names i d h, is) refl
 
+-- past the last column, the places are those found so far
 pub places-end : (needed : Bool) (names : List (Bor (List ℕ))) (i : ℕ) (header : List (List ℕ)) (front : List (Option ℕ)) → length names ≤ i
     → after_places front (places_of needed header (texts (drop i names))) ≡ Ok front
 unfolding places_of

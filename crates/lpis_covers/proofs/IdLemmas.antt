@@ -44,15 +44,19 @@ zeros-first (suc n) [] h = refl
 zeros-first zero (z ∷ zs) h = rw (and_parts (is_padding z) _ h).0 refl
 zeros-first (suc n) (z ∷ zs) h = zeros-first n zs (and_parts (is_padding z) _ h).1
 
+-- the bytes before the first zero are no more than all bytes
 pub ends-within : (xs : List ℕ) → position_or_len is_padding xs ≤ length xs
 ends-within xs = prefix_len-le-length (λ c. not (is_padding c)) xs
 
+-- where a zero is found, the bytes before the first zero end at its index
 pub ends-at : (xs : List ℕ) (n : ℕ) → position is_padding xs ≡ Some n → n ≡ position_or_len is_padding xs
 ends-at xs n h = grind (arith, common_steps)
 
+-- where no zero is found, the bytes before the first zero are all bytes
 pub ends-nowhere : (xs : List ℕ) → position is_padding xs ≡ None → length xs ≡ position_or_len is_padding xs
 ends-nowhere xs h = let within = ends-within xs in grind (arith, common_steps)
 
+-- of an identifier with zeros behind it, however few are kept, the bytes before the first zero are the identifier
 pub before-padding : (bs zs : List ℕ) (n : ℕ) → is_id bs ≡ true → list_all is_padding zs ≡ true → before_first is_padding (bs ++ drop n zs) ≡ bs
 before-padding bs zs n h z =
     let whole = no-zero bs (and_parts (nat_le 1 (length bs) && nat_le (length bs) longest_id) _ h).1 in

@@ -8,6 +8,7 @@ use Rattle.lpis_covers.specs.Covers.{more_piece_faults, piece_in_row}
 use Rattle.lpis_covers.specs.Faults.{id_faults, polygon_faults}
 use Rattle.lpis_covers.proofs.RowLemmas.{column-passed, fault-retold}
 
+-- behind a good parcel and a good class, a fault of a piece's polygon is that of its columns past the first
 pub piece-polygon-fault : (n : ℕ) (row : Fields) (parcel class : List ℕ) (f : TableFault)
     → unless_faulty (id_faults Covers n (field_of row 1)) (field_of row 1) ≡ Ok parcel
     → unless_faulty (id_faults Covers n (field_of row 2)) (field_of row 2) ≡ Ok class

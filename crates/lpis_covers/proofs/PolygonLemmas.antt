@@ -17,13 +17,16 @@ not-utf8 bs none = by (is_utf8 bs) refl where
   by true e = absurd (none (IsUtf8-from_is_utf8 bs e))
   by false e = e
 
+-- a field for a polygon that is not UTF-8 has the fault of a text that is no CSV
 pub field-no-text : (table : Table) (n : ℕ) (field text : List ℕ) (v : List Member) → text ≡ field → ¬ (IsUtf8 text) → unless_faulty (polygon_faults table n field) v ≡ Err (fault_at NotCsv table n)
 field-no-text table n field text v e none = rw (← e, not-utf8 text none) refl
 
+-- a field of UTF-8 that spells a polygon has no fault, and its value is the polygon
 pub field-polygon : (table : Table) (n : ℕ) (field text : List ℕ) (members : List Member) → text ≡ field → IsUtf8 text → polygon_of text ≡ Ok members
     → unless_faulty (polygon_faults table n field) (polygon_in field) ≡ Ok members
 field-polygon table n field text members e utf8 p = rw (← e, is_utf8-from_IsUtf8 text utf8, p) refl
 
+-- a field of UTF-8 that spells no polygon has the fault of a bad geometry, with the fault of its text
 pub field-no-polygon : (table : Table) (n : ℕ) (field text : List ℕ) (v : List Member) (code : WktCode) (offset : ℕ) → text ≡ field → IsUtf8 text → polygon_of text ≡ Err (code, offset)
     → unless_faulty (polygon_faults table n field) v ≡ Err (At BadGeometry table n (Some (In code offset)))
 field-no-polygon table n field text v code offset e utf8 p = rw (← e, is_utf8-from_IsUtf8 text utf8, p) refl

@@ -39,16 +39,19 @@ pub next-end : (old : Reading) (table : Table) (w n : ℕ) (places : List (Optio
 unfolding rows_from
 next-end old table w n places row left e l = rw (← e, l) (refl, refl)
 
+-- where the next record has another length than the header, no row is left, and the fault of no CSV stops the rows
 pub next-odd : (old : Reading) (table : Table) (w n : ℕ) (places : List (Option ℕ)) (row : Fields) (r : Record) (left rs : List Record)
     → reading table places n row (rows_from table w places (n + 1) left) ≡ old → left ≡ r ∷ rs → length r ≢ w
     → (old.rows ≡ []) × (old.stop ≡ Some (fault_at NotCsv table (n + 1)))
 next-odd old table w n places row r left rs e l d = rw (← e, l, rows-odd table w places (n + 1) r rs d) (refl, refl)
 
+-- where a record as long as the header follows the most rows, no row is left, and too many rows is what stops them
 pub next-many : (old : Reading) (table : Table) (w n : ℕ) (places : List (Option ℕ)) (row : Fields) (r : Record) (left rs : List Record)
     → reading table places n row (rows_from table w places (n + 1) left) ≡ old → left ≡ r ∷ rs → length r ≡ w → n ≡ most_rows
     → (old.rows ≡ []) × (old.stop ≡ Some (fault_at TooManyRows table (n + 1)))
 next-many old table w n places row r left rs e l d m = rw (← e, l, rows-many table w places (n + 1) r rs d (omega arith)) (refl, refl)
 
+-- where a record as long as the header follows fewer rows than the most, its wanted fields are the next row
 pub next-row : (old : Reading) (table : Table) (w v n : ℕ) (places : List (Option ℕ)) (row : Fields) (r : Record) (left rs : List Record)
     → reading table places n row (rows_from table w places (n + 1) left) ≡ old → left ≡ r ∷ rs → length r ≡ w → v ≡ w → n < most_rows
     → (old.rows ≡ picked places r ∷ (rows_from table v places (n + 1 + 1) rs).rows) × ((rows_from table v places (n + 1 + 1) rs).stop ≡ old.stop)
@@ -62,11 +65,13 @@ field-at [] fields k = refl
 field-at (p ∷ ps) fields zero = refl
 field-at (p ∷ ps) fields (suc k) = field-at ps fields k
 
+-- the header has the k-th wanted column exactly where the column has a place
 pub column-at : (places : List (Option ℕ)) (k : ℕ) → has_column (map is_some places) k ≡ is_some (get_or places k None)
 column-at [] k = refl
 column-at (p ∷ ps) zero = refl
 column-at (p ∷ ps) (suc k) = column-at ps k
 
+-- a borrowed text or an empty one is what is said of it, or empty where nothing is said
 pub or-empty : (o : Option (Bor (List ℕ))) (d : Bor (List ℕ)) (said : Option (List ℕ)) → d.now ≡ [] → option_map (λ (s : Bor (List ℕ)). s.now) o ≡ said
     → (unwrap_or o d).now ≡ unwrap_or said []
 or-empty None d said z e = rw (← e) z
@@ -94,12 +99,14 @@ pub table-marked : (table : Table) (names further : List (List ℕ)) (bytes text
 unfolding table_of
 table-marked table names further bytes text e m = rw (← e, m) refl
 
+-- the table of a text without a second mark has the first record as its header, and the others below
 pub table-unmarked : (table : Table) (names further : List (List ℕ)) (bytes text : List ℕ) → text ≡ strip_bom bytes → has_mark text ≡ false
     → table_of table names further bytes ≡ under_header table names further (records default_config (strip_bom text))
 unfolding table_of
 table-unmarked table names further bytes text e m =
     rw (← e, m) (ap (λ (t : List ℕ). under_header table names further (records default_config t)) (without-mark text m))
 
+-- where the wanted columns have places, the reading is at row 0, with the rows below the header left
 pub header-found : (table : Table) (names further : List (List ℕ)) (header : Record) (rs all : List Record) (places : List (Option ℕ)) (w : ℕ)
     → all ≡ header ∷ rs → wanted_places header names further ≡ Ok places → w ≡ length header
     → under_header table names further all ≡ Ok (reading table places 0 (picked places header) (rows_from table w places 1 rs))

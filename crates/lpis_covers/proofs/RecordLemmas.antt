@@ -105,6 +105,7 @@ pub left-none : (s : State) (xs : List ℕ) → next_record default_config s [] 
 unfolding records_from
 left-none s xs e = rw (add-one, e) refl
 
+-- where the next read finds a record, it is the first that is left, and those after it are left by the read
 pub left-some : (s : State) (xs : List ℕ) (p : Read) → ends_at_end s ≡ false → next_record default_config s [] [] xs ≡ Some p
     → records_at s (Some xs) ≡ p.0 ∷ records_at p.1 (Some p.2)
 unfolding records_from
@@ -117,7 +118,8 @@ next-found : (o : Option Read) (f : List (List ℕ)) (s : State) (z : List ℕ) 
 next-found None f s z n = cc n
 next-found (Some p) f s z n = (p, refl, n.1, n.2, n.3)
 
-pub took : (a b : State) (y : List ℕ) (k : Option (List ℕ)) (f : List (List ℕ)) → ReadsNext default_config a (Some y) k true f b
+-- a read that took a record took the next one of the text, and left the state and the bytes after it
+pub took_next_record : (a b : State) (y : List ℕ) (k : Option (List ℕ)) (f : List (List ℕ)) → ReadsNext default_config a (Some y) k true f b
     → (p : Read) × (next_record default_config a [] [] y ≡ Some p) × (f ≡ p.0) × (b ≡ p.1) × (k ≡ Some p.2)
-took a b y None f h = absurd h
-took a b y (Some z) f h = let n = next-found _ f b z h in (n.0, n.1, n.2, n.3, ap Some n.4)
+took_next_record a b y None f h = absurd h
+took_next_record a b y (Some z) f h = let n = next-found _ f b z h in (n.0, n.1, n.2, n.3, ap Some n.4)

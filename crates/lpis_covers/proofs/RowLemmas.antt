@@ -47,6 +47,7 @@ table-start table names further bytes t h = by (has_mark (strip_bom bytes)) refl
   by true e = cc (rw e at h)
   by false e = start-records table names further (records default_config (strip_bom bytes)) t (rw e at h)
 
+-- an opened table that has columns enough is read up to its header: no row, no key and no fault yet
 pub rows-start : {A : Type 0} (kind : RowsOf A) (bytes : List ℕ) (t : Reading) → table_of kind.table kind.columns kind.further bytes ≡ Ok t → kind.enough t.has ≡ true → IsRead kind t [] [] t
 rows-start kind bytes t h enough =
     let s = table-start kind.table kind.columns kind.further bytes t h in
@@ -121,6 +122,7 @@ column-fault fs more v w Memory h = tt
 column-fault [] more v w (At code table row wkt) h = cc h
 column-fault (g ∷ fs) more v w (At code table row wkt) h = ap Err (cc h)
 
+-- behind a column that has no fault, an answer for the columns after it is one for all of them
 pub column-passed : {A B : Type 0} (fs more : List TableFault) (v x : A) (r : Result B TableFault) (w : B)
     → unless_faulty fs v ≡ Ok x → Answers r (unless_faulty more w) → Answers r (unless_faulty (fs ++ more) w)
 column-passed [] more v x r w e h = h
