@@ -38,15 +38,18 @@ filter-run p (x ∷ xs) (suc s) n h =
 abbrev pub IsStart : List Join → ℕ → ℕ → Type 0
 IsStart xs k = IsPartitionPoint (λ (j : Join). nat_lt j.parcel k ≡ true) (λ (j : Join). nat_lt j.parcel k ≡ false) xs
 
+-- so many joins at the front of the rest are of the parcel k, and none of those behind them
 abbrev pub IsCount : List Join → ℕ → ℕ → Type 0
 IsCount rest k = IsPartitionPoint (λ (j : Join). is_of_parcel k j ≡ true) (λ (j : Join). is_of_parcel k j ≡ false) rest
 
+-- in joins sorted by parcels, those of parcels below k all stand in front
 pub start-parts : (xs : List Join) (k : ℕ) → IsNonDecreasingBy (λ (j : Join). j.parcel) xs → IsPartitionedBy (λ (j : Join). nat_lt j.parcel k) xs
 start-parts xs k up i j d le lt e = let rise = up i j d le lt in grind (arith, nat_tests)
 
 same : (x y k : ℕ) → x ≤ y → nat_lt x k ≡ false → (y == k) ≡ true → (x == k) ≡ true
 same x y k le a b = grind (arith, nat_tests)
 
+-- in joins sorted by parcels, without those of parcels below k, those of k all stand in front
 pub group-parts : (xs : List Join) (k s : ℕ) → IsNonDecreasingBy (λ (j : Join). j.parcel) xs → IsStart xs k s → IsPartitionedBy (is_of_parcel k) (drop s xs)
 group-parts xs k s up start i j d le lt e =
     let within : s + j < length xs = omega (arith, length-drop s xs) in
@@ -62,6 +65,7 @@ among b s n i le lt e = grind (arith, nat_tests)
 late : (b : Bool) (s n i : ℕ) → s + n ≤ i → b ≡ false → b ≡ (nat_le s i && nat_lt i (s + n))
 late b s n i le e = grind (arith, nat_tests)
 
+-- the joins from the start of the parcel k on, as many as are counted, are all joins of k in their order
 pub group-found : (xs : List Join) (k s n : ℕ) → IsStart xs k s → IsCount (drop s xs) k n → n ≤ length (drop s xs) → take n (drop s xs) ≡ filter (is_of_parcel k) xs
 unfolding between
 group-found xs k s n start count within = filter-run (is_of_parcel k) xs s n value where
@@ -92,6 +96,7 @@ same-filter {A} p q (x ∷ xs) h = let rest = same-filter p q xs h in rw (h x, r
 tie : (a k : ℕ) → (not (is_lt (nat_cmp k a)) && not (is_lt (nat_cmp a k))) ≡ (a == k)
 tie a k = grind (arith, nat_tests)
 
+-- a stable sort of joins by their parcels keeps the pieces of each parcel in their order
 pub groups-kept : (old new : List Join) → IsStableByKey (λ (j : Join). j.parcel) nat_cmp old new → (k : ℕ) → group_at new k ≡ group_at old k
 groups-kept old new stable k =
     let ties_of : (j : Join) → ties (λ (x y : Join). is_lt (nat_cmp x.parcel y.parcel)) (record { parcel = k; piece = 0 }) j ≡ is_of_parcel k j = λ j. tie j.parcel k in

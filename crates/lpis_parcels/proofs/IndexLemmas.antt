@@ -29,6 +29,7 @@ at-indices-from {A = A} test front (x ∷ xs) i e =
     filter-step test (front ++ x ∷ xs) x xs i (test x) (item-here front x xs i e)
     (subst (λ (l : List A). at_indices l (indices_where test (i + 1) xs) ≡ filter test xs) (append_assoc front (x ∷ []) xs) rest)
 
+-- the items at the indices of those that pass a test are the items that pass
 pub at-indices-where : {A : Type 0} (test : A → Bool) (xs held : List A) (indices : List ℕ) → held ≡ xs → indices ≡ indices_where test 0 xs → at_indices held indices ≡ filter test xs
 at-indices-where test xs held indices e p = rw (e, p) (at-indices-from test [] xs 0 refl)
 
@@ -49,9 +50,11 @@ indices-within : {A : Type 0} (test : A → Bool) (i n : ℕ) (xs : List A) → 
 indices-within test i n [] h k d lt = absurd (omega arith)
 indices-within test i n (x ∷ xs) h k d lt = within-step (test x) i n _ (omega arith) (indices-within test (i + 1) n xs (omega arith)) k d lt
 
+-- the indices of items that pass a test are no more than the items
 pub few-indices : {A : Type 0} (test : A → Bool) (xs : List A) (indices : List ℕ) → indices ≡ indices_where test 0 xs → length indices ≤ length xs
 few-indices test xs indices e = rw e (indices-few test 0 xs)
 
+-- each index of an item that passes a test is within the list
 pub within-indices : {A : Type 0} (test : A → Bool) (xs : List A) (indices : List ℕ) → indices ≡ indices_where test 0 xs → All (λ i. i < length xs) indices
 within-indices test xs indices e = rw e (indices-within test 0 (length xs) xs (omega arith))
 
@@ -70,6 +73,7 @@ known parcels classes n p h = by (has_id (parcel_ids parcels) p.parcel) refl whe
   by true e = e
   by false e = cc (rw e at h)
 
+-- where no piece has an unknown parcel or class, none names an identifier that is no parcel's
 pub absent-none : (parcels : List Parcel) (classes : List Class) (n i : ℕ) (pieces : List Piece) (id : List ℕ)
     → reference_faults parcels classes n pieces ≡ [] → has_id (parcel_ids parcels) id ≡ false
     → indices_where (names_parcel id) i pieces ≡ []
@@ -83,6 +87,7 @@ absent-none parcels classes n i (p ∷ ps) id h s =
     by true e k = absurd (let same : id ≡ p.parcel = (bytes_eq-Decides id p.parcel).0 e in let there : has_id (parcel_ids parcels) id ≡ true = rw same k in cc)
     by false e k = e
 
+-- where the faults of pieces and further faults are none, the pieces have none
 pub first-faults : (parcels : List Parcel) (classes : List Class) (pieces : List Piece) (others : List TableFault)
     → reference_faults parcels classes 1 pieces ++ others ≡ [] → reference_faults parcels classes 1 pieces ≡ []
 first-faults parcels classes pieces others h = none-left _ others h
@@ -106,6 +111,7 @@ others-within n p indices ps e h = let all : All (λ i. i < n) (p ∷ ps) = subs
 first-within : (n p : ℕ) (indices ps : List ℕ) → indices ≡ p ∷ ps → All (λ i. i < n) indices → p < n
 first-within n p indices ps e h = let all : All (λ i. i < n) (p ∷ ps) = subst (λ (l : List ℕ). All (λ i. i < n) l) e h in all 0 0 (omega arith)
 
+-- the items at indices are the item at the first index, and then those at the others
 pub next-at : {A : Type 0} (xs now : List A) (indices ps : List ℕ) (p : ℕ) (x : A) → at_indices xs indices ≡ now → indices ≡ p ∷ ps → slice_get xs p ≡ Some x → now ≡ x ∷ at_indices xs ps
 next-at xs now indices ps p x e is at = rw (← e, is, at) refl
 
@@ -113,6 +119,7 @@ next-at xs now indices ps p x e is at = rw (← e, is, at) refl
 abbrev class_percent : Option Class → ℕ
 class_percent found = unwrap_or (option_map (λ (k : Class). k.percent) found) 0
 
+-- the percentage of the class at a piece's class index is the percentage of the piece
 pub percent-of-index : (held c : Contents) (indices : List ℕ) (i j : ℕ) (piece : Piece) (found : Option Class) → held ≡ c
     → map (slice_get held.classes) indices ≡ map (λ (p : Piece). class_named held.classes p.class) held.pieces
     → slice_get c.pieces i ≡ Some piece → j ≡ get_or indices i j → slice_get held.classes j ≡ found → class_percent found ≡ piece_percent c.classes piece

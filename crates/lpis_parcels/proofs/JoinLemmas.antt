@@ -35,6 +35,7 @@ parcel-unknown parcels classes n piece o found none =
     let absent : has_id (parcel_ids parcels) piece.parcel ≡ false = sym found ∙ ap is_some none in
     rw absent refl
 
+-- where a piece's parcel is found and its class is not, its first fault is the unknown class
 pub class-unknown : (parcels : List Parcel) (classes : List Class) (n : ℕ) (piece : Piece) (o p : Option ℕ) (k : ℕ)
     → is_some o ≡ has_id (parcel_ids parcels) piece.parcel → o ≡ Some k → is_some p ≡ has_id (class_codes classes) piece.class → p ≡ None
     → unless_faulty {A = Unit {0}} (unknown_faults parcels classes n piece) (tt {0}) ≡ Err (fault_at UnknownClass table.Covers n)
@@ -43,6 +44,7 @@ class-unknown parcels classes n piece o p k found some there none =
     let absent : has_id (class_codes classes) piece.class ≡ false = sym there ∙ ap is_some none in
     rw (present, absent) refl
 
+-- where a piece's parcel and its class are found, neither is reported as unknown
 pub none-unknown : (parcels : List Parcel) (classes : List Class) (n : ℕ) (piece : Piece) (o p : Option ℕ) (k j : ℕ)
     → is_some o ≡ has_id (parcel_ids parcels) piece.parcel → o ≡ Some k → is_some p ≡ has_id (class_codes classes) piece.class → p ≡ Some j
     → unknown_faults parcels classes n piece ≡ []
@@ -100,6 +102,7 @@ take-more {A} xs i x e = take_more xs i x (slice_get_within xs i x e) ∙ ap (λ
 length-taken : {A : Type 0} (xs : List A) (i : ℕ) (x : A) → slice_get xs i ≡ Some x → length (take i xs) ≡ i
 length-taken xs i x e = length-take-le i xs (omega (arith, slice_get_within xs i x e))
 
+-- a list from an index on is the item at the index, and then the list from the next one on
 pub drop-at : {A : Type 0} (xs : List A) (i : ℕ) (x : A) → slice_get xs i ≡ Some x → drop i xs ≡ x ∷ drop (i + 1) xs
 drop-at {A} xs i x e = rw add-one (drop-cons xs i x (slice_get_within xs i x e) ∙ ap (λ (y : A). y ∷ drop (suc i) xs) (get_or_from_slice_get xs i x x e))
 
@@ -165,17 +168,20 @@ empty-groups joins pieces k (p ∷ ps) h =
     let others = empty-groups joins pieces (k + 1) ps (λ m id e. let next : k + 1 + m ≡ k + suc m = omega arith in ap (group_at joins) next ∙ h (suc m) id e) in
     rw (empty, others) refl
 
+-- where some join of the parcel k is found, its group of pieces is not empty
 pub some-found : (joins found : List Join) (k : ℕ) → found ≡ filter (is_of_parcel k) joins → (length found == 0) ≡ false → is_nil (group_at joins k) ≡ false
 some-found joins found k e h = rw (← e) (by found h) where
   by : (found : List Join) → (length found == 0) ≡ false → is_nil (joined_pieces found) ≡ false
   by [] h = absurd (let e : (0 == 0) ≡ true = grind (arith, nat_tests) in cc)
   by (j ∷ js) h = refl
 
+-- where the parcel k has a piece, the parcels without pieces from k on are those from the next one on
 pub groups-next : (joins : List Join) (k count : ℕ) → k < count → is_nil (group_at joins k) ≡ false → empty_faults joins k (count - k) ≡ empty_faults joins (k + 1) (count - (k + 1))
 groups-next joins k count lt h =
     let n : count - k ≡ suc (count - (k + 1)) = omega arith in
     ap (empty_faults joins k) n ∙ rw h refl
 
+-- where no first fault is reported of a list of faults, the list is empty
 pub told-none : (fs : List TableFault) → unless_faulty {A = Unit {0}} fs (tt {0}) ≡ Ok (tt {0}) → fs ≡ []
 told-none [] h = refl
 told-none (f ∷ fs) h = cc h

@@ -37,6 +37,7 @@ parcel-found now id xs c at i r same is found lent =
     item now xs i r lent ∙ ap (λ (k : ℕ). slice_get xs k) (sym (place (same_id id) (parcel_ids xs) i (sym is ∙ found)) ∙ by-ids id xs) ∙ sym (find_at (has id) xs)
     ∙ ap (λ (l : List Parcel). find (has id) l) same
 
+-- where an identifier is not among those of the parcels, no parcel is named by it
 pub parcel-missing : (id : List ℕ) (xs : List Parcel) (c : Contents) (at : Option ℕ) → xs ≡ c.parcels → at ≡ position (same_id id) (parcel_ids xs) → at ≡ None → None ≡ parcel_named c id
 parcel-missing id xs c at same is missing =
     let past : length xs ≤ position_or_len (has id) xs = let h = no-place (same_id id) (parcel_ids xs) (sym is ∙ missing) in let s = as-many xs in let b = by-ids id xs in omega (arith, h, s, b) in

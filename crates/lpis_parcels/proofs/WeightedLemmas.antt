@@ -18,6 +18,7 @@ use Rattle.lpis_parcels.proofs.IndexLemmas.{at-indices-where}
 abbrev pub weighted_at : Contents → List ℕ → ℤ
 weighted_at c indices = int_sum_by (piece_weight c.classes) (at_indices c.pieces indices)
 
+-- from 0, the weighted areas of the pieces at a parcel's indices make up that of the parcel, all doubled
 pub weighted-start : (c : Contents) (id : List ℕ) (indices : List ℕ) → indices ≡ indices_where (names_parcel id) 0 c.pieces → pos 0 +ℤ weighted_at c indices ≡ weighted2 c id
 weighted-start c id indices e =
     +ℤ_idl _ ∙ ap (λ (ps : List Piece). int_sum_by (piece_weight c.classes) ps) (at-indices-where (names_parcel id) c.pieces c.pieces indices refl e)
@@ -25,12 +26,14 @@ weighted-start c id indices e =
 next-indices : (indices : List ℕ) (i index : ℕ) → i < length indices → index ≡ get_or indices i index → drop i indices ≡ index ∷ drop (i + 1) indices
 next-indices indices i index lt e = drop-at indices i index (slice_get_read indices _ i index refl lt e)
 
+-- with the weighted area of the next piece added, the sum and what is left still make up the whole
 pub weighted-added : (c : Contents) (indices : List ℕ) (i index : ℕ) (piece : Piece) (sum part whole : ℤ) → i < length indices → index ≡ get_or indices i index → slice_get c.pieces index ≡ Some piece
     → part ≡ piece_weight c.classes piece → sum +ℤ weighted_at c (drop i indices) ≡ whole → (sum +ℤ part) +ℤ weighted_at c (drop (i + 1) indices) ≡ whole
 weighted-added c indices i index piece sum part whole lt e at is h =
     ap (λ (z : ℤ). (sum +ℤ z) +ℤ weighted_at c (drop (i + 1) indices)) is
     ∙ +ℤ_assoc sum (piece_weight c.classes piece) (weighted_at c (drop (i + 1) indices)) ∙ (rw (next-indices indices i index lt e, at) at h)
 
+-- past the last index, the sum is the whole
 pub weighted-end : (c : Contents) (indices : List ℕ) (i : ℕ) (sum whole : ℤ) → length indices ≤ i → sum +ℤ weighted_at c (drop i indices) ≡ whole → sum ≡ whole
 weighted-end c indices i sum whole past h = sym (+ℤ_idr sum) ∙ (rw (drop_all i indices past) at h)
 
