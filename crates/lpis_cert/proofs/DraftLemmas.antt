@@ -21,13 +21,14 @@ use Rattle.lpis_cert.specs.declared.head.Owner.TheVariants as owner
 use Rattle.lpis_cert.proofs.SplittingLemmas.{split_some}
 use Rattle.lpis_cert.proofs.WordLemmas.{lines_from}
 use Rattle.lpis_cert.proofs.LineLemmas.{read_again}
-use Rattle.lpis_cert.proofs.StepLemmas.{Goes, step_err, after, fault_here, fault_after, follows_both}
+use Rattle.lpis_cert.proofs.StepLemmas.{Goes, step_err, outcome_past_lines, fault_here, fault_after, follows_both}
 use Rattle.lpis_cert.proofs.BlockLemmas.{lines_fit, corners_go, pairs_go}
 use Rattle.lpis_cert.specs.declared.kind.Stage.TheVariants as stage
 use Rattle.lpis_cert.specs.declared.fault.CertCode.TheVariants as code
 use Rattle.lpis_cert.specs.declared.kind.Kind.TheVariants as kind
 use Rattle.lpis_cert.specs.declared.part.PairLine as part
 
+-- lines that take one state to a second, and then lines that take this to a third, take the first to the third
 pub goes_on : (v : Version) (p q r : LineState) (xs ys : List CertLine) → Goes v p xs q → Goes v q ys r → Goes v p (xs ++ ys) r
 goes_on v p q r [] ys f g = subst (λ (x : LineState). Goes v x ys r) (sym f) g
 goes_on v p q r (x ∷ xs) ys f g = (f.0, (f.1.0, f.1.1, goes_on v f.1.0 q r xs ys f.1.2 g))
@@ -39,6 +40,7 @@ within_no : (a b : ℕ) → (most_triangles < a) ⊎ (most_flats < b) → (nat_l
 within_no a b (inl h) = grind (arith, nat_tests)
 within_no a b (inr h) = grind (arith, nat_tests)
 
+-- where a piece may begin, its line, if it keeps the totals within their limits, opens a block that wants its lines
 pub piece_open : (v : Version) (d : Declared) (id : List ℕ) (t f : ℕ) → LineFits v (PieceLine id t f) → d.triangles + t ≤ most_triangles
     → d.flats + f ≤ most_flats → Goes v (InBody stage.Pieces 0 0 d) (PieceLine id t f ∷ [])
     (InBody stage.Pieces t f (grow d t f))
@@ -54,10 +56,12 @@ flats_named v (owner.Exact m) id f fits = fits.1
 abbrev pub CanBegin : Stage → Owner → Type 0
 CanBegin b w = (id : List ℕ) (f : ℕ) → can_stand (Block b) (line_kind (flats_line w id f)) ≡ true
 
+-- where a block of flats can stand with one identifier and count, it can begin with any
 pub can_begin : (b : Stage) (w : Owner) (id : List ℕ) (f : ℕ) → can_stand (Block b) (line_kind (flats_line w id f)) ≡ true → CanBegin b w
 can_begin b owner.Parcel id f can = λ _ _. can
 can_begin b (owner.Exact m) id f can = λ _ _. can
 
+-- the line of a block of flats that can begin, within the limits, opens a block that wants these flats
 pub flats_open : (v : Version) (b : Stage) (w : Owner) (d : Declared) (id : List ℕ) (f : ℕ) → LineFits v (flats_line w id f) → CanBegin b w
     → d.triangles ≤ most_triangles → d.flats + f ≤ most_flats → Goes v (InBody b 0 0 d) (flats_line w id f ∷ [])
     (InBody (stage_after w) 0 f (grow_flats d f))
@@ -83,6 +87,7 @@ first_cut : {v : Version} {text : List ℕ} {n : ℕ} {l : CertLine} {rest : Lis
 unfolding text_of_lines
 first_cut {v} {l = l} {rest} fits f = ap lines (f.parts ∙ append_assoc (spelling v l) (10 ∷ []) rest) ∙ lines_from v l rest fits
 
+-- a piece line that takes the triangles or the flats past their limit has the fault of too many
 pub too_many_piece : {v : Version} {text : List ℕ} {n : ℕ} {rest : List ℕ} {m : ℕ} (d : Declared) (b : Stage) (id : List ℕ) (t f : ℕ)
     → b ≡ stage.Pieces → LineFits v (PieceLine id t f) → (most_triangles < d.triangles + t) ⊎ (most_flats < d.flats + f)
     → ReadsLines v text n (PieceLine id t f ∷ []) rest m → lines_outcome v n (InBody b 0 0 d) (lines text) ≡ Err (code.TooMany, n)
@@ -99,6 +104,7 @@ too_many_step v d b owner.Parcel id f fits can h =
 too_many_step v d b (owner.Exact m) id f fits can h =
     rw (read_again v (Block b) (flats_line (owner.Exact m) id f) fits (can id f), within_no d.triangles (d.flats + f) (inr h)) refl
 
+-- the line of a block of flats that takes the flats past their limit has the fault of too many
 pub too_many_flats : {v : Version} {text : List ℕ} {n : ℕ} {rest : List ℕ} {m : ℕ} (d : Declared) (b : Stage) (w : Owner) (id : List ℕ) (f : ℕ)
     → LineFits v (flats_line w id f) → CanBegin b w → most_flats < d.flats + f
     → ReadsLines v text n (flats_line w id f ∷ []) rest m → lines_outcome v n (InBody b 0 0 d) (lines text) ≡ Err (code.TooMany, n)
@@ -112,7 +118,7 @@ shorter {v} {l = l} {ls} {rest} f = grind (arith, length-append)
 grown_by : {v : Version} {text : List ℕ} {n : ℕ} {rest : List ℕ} {m : ℕ} {l : CertLine} {ls : List CertLine} (before more : List CertLine) (p q : LineState)
     → ReadsLines v text n (l ∷ ls) rest m → more ≡ before ++ (l ∷ ls) → Goes v p (l ∷ ls) q
     → Grown v before more p q text n rest m
-grown_by {l = l} {ls} before more p q f e g = record { added = l ∷ ls; follows = f; lines = e; state = after p q f g; shorter = shorter f }
+grown_by {l = l} {ls} before more p q f e g = record { added = l ∷ ls; follows = f; lines = e; state = outcome_past_lines p q f g; shorter = shorter f }
 
 one_more_piece : (ps : List PieceBlock) (p : PieceBlock) → blocks (ps ++ p ∷ []) [] [] ≡ blocks ps [] [] ++ piece_lines p
 one_more_piece ps p =
@@ -142,6 +148,7 @@ abbrev pub NoneBefore : Owner → ℕ → Type 0
 NoneBefore owner.Parcel n = n ≡ 0
 NoneBefore (owner.Exact m) n = Unit {0}
 
+-- if parcels can stand only while there is no exact block, a parcel's block that can begin has none before it
 pub none_before : (b : Stage) (w : Owner) (n : ℕ) → CanBegin b w → (can_stand (Block b) kind.Parcel ≡ true → n ≡ 0) → NoneBefore w n
 none_before b owner.Parcel n can none = none (can [] 0)
 none_before b (owner.Exact m) n can none = tt
@@ -150,6 +157,7 @@ none_before b (owner.Exact m) n can none = tt
 pub none_yet : (b : Stage) (n : ℕ) → b ≡ stage.Pieces → (can_stand (Block b) kind.Parcel ≡ true → n ≡ 0) → n ≡ 0
 none_yet b n is none = none (rw is refl)
 
+-- the lines of a block of flats: the one that begins it, with their count, and then a line for each
 abbrev pub flats_lines : Owner → List ℕ → List Corners → List CertLine
 flats_lines w id cs = flats_line w id (length cs) ∷ map FlatLine cs
 
@@ -178,11 +186,13 @@ pub stage_parcels : (w : Owner) → stage_after w ≡ stage.Pieces → ⊥
 stage_parcels owner.Parcel e = cc e
 stage_parcels (owner.Exact m) e = cc e
 
+-- where a parcel can still stand after one more block of flats, there is no exact block
 pub stage_exact : (w : Owner) (id : List ℕ) (fs : List Triangle) (qs : List ParcelPart) (es : List ExactBlock) (qs2 : List ParcelPart) (es2 : List ExactBlock)
     → OneMore w id fs qs es qs2 es2 → NoneBefore w (length es) → can_stand (Block (stage_after w)) kind.Parcel ≡ true → length es2 ≡ 0
 stage_exact owner.Parcel id fs qs es qs2 es2 (q, more, named, flats, same) none can = rw same none
 stage_exact (owner.Exact m) id fs qs es qs2 es2 one none can = absurd (cc can)
 
+-- the lines of one more piece, each taken, grow a draft that has no parcel and no exact block yet
 pub piece_grown : {v : Version} {start : List ℕ} {n : ℕ} {next : List ℕ} {m : ℕ} {middle : List ℕ} {k : ℕ} {rest : List ℕ} {j : ℕ}
     (ps ps2 : List PieceBlock) (qs : List ParcelBlock) (es : List FlatsBlock) (p : PieceBlock) (b : Stage) (d : Declared) (t f : ℕ)
     → ps2 ≡ ps ++ p ∷ [] → b ≡ stage.Pieces → length qs ≡ 0 → length es ≡ 0 → LineFits v (PieceLine p.id t f) → d.triangles + t ≤ most_triangles → d.flats + f ≤ most_flats
@@ -209,6 +219,7 @@ piece_grown {v} ps ps2 qs es p b d t f e is none none2 fits h1 h2 lt lf f1 f2 f3
     rw (e, is, no, no2) (grown_by (blocks ps [] []) (blocks (ps ++ p ∷ []) [] []) (InBody stage.Pieces 0 0 d)
     (InBody stage.Pieces 0 0 (grow d t f)) all lines goes)
 
+-- the lines of one more block of flats, each taken, grow the lines of a draft by just these
 pub flats_grown : {v : Version} {start : List ℕ} {n : ℕ} {next : List ℕ} {m : ℕ} {rest : List ℕ} {j : ℕ} (w : Owner) (before more : List CertLine) (id : List ℕ)
     (cs : List Corners) (b : Stage) (d : Declared) (f : ℕ)
     → more ≡ before ++ flats_lines w id cs → LineFits v (flats_line w id f) → CanBegin b w → d.triangles ≤ most_triangles → d.flats + f ≤ most_flats
@@ -230,6 +241,7 @@ pub pairs_follow : {v : Version} {start : List ℕ} {n : ℕ} {count : ℕ} {nex
     → ReadsLines v start n (end_lines ps) rest j
 pairs_follow {start = start} {n} {rest = rest} {j} ps len f1 f2 f3 = grind (arith, follows_both f1 (follows_both f2 f3), follows_both f2 f3)
 
+-- the lines from the pairs on, within the limits, take the state between two blocks to the end
 pub pairs_goes : (v : Version) (b : Stage) (d : Declared) (ps : List Separator) → AllByRecursion SeparatorFits ps → length ps ≤ greatest_count
     → Goes v (InBody b 0 0 d) (end_lines ps) AtEnd
 pairs_goes v b d ps fits le =
@@ -240,6 +252,7 @@ trailing : (v : Version) (m : ℕ) (rest : List ℕ) → 0 < length rest → lin
 unfolding lines_outcome at_last line_step
 trailing v m rest some = grind (arith, nat_tests, split_some is_lf rest, join_with_byte-slice_split 10 rest)
 
+-- a text of nothing but the lines from the pairs on is all that the blocks so far lack of a certificate
 pub whole_of : {v : Version} {start : List ℕ} {n : ℕ} {rest : List ℕ} {m : ℕ} (ps : List PieceBlock) (qs : List ParcelBlock) (es : List FlatsBlock) (rs : List Separator)
     → ReadsLines v start n (end_lines rs) rest m → length rest ≡ 0
     → Whole v (blocks ps qs es) (content_lines (record { pieces = ps; parcels = qs; exact = es; pairs = rs })) start
@@ -248,6 +261,7 @@ whole_of {rest = rest} ps qs es rs f none = grind (arith, nil_from_length, appen
 
 -- ---- faults inside a block
 
+-- the first fault after a piece line that opens its block is the first from that line on
 pub piece_fault : {v : Version} {text : List ℕ} {n : ℕ} {rest : List ℕ} {m : ℕ} (x : CertFault) (d : Declared) (b : Stage) (id : List ℕ) (t f : ℕ)
     → b ≡ stage.Pieces → LineFits v (PieceLine id t f) → d.triangles + t ≤ most_triangles
     → d.flats + f ≤ most_flats
@@ -255,6 +269,7 @@ pub piece_fault : {v : Version} {text : List ℕ} {n : ℕ} {rest : List ℕ} {m
 piece_fault {v} x d b id t f is fits h1 h2 g k =
     rw is (fault_after x (InBody stage.Pieces 0 0 d) (InBody stage.Pieces t f (grow d t f)) g (piece_open v d id t f fits h1 h2) k)
 
+-- the first fault after a piece line and all of its triangle lines is the first from the piece line on
 pub flat_fault : {v : Version} {text : List ℕ} {n : ℕ} {rest : List ℕ} {m : ℕ} {middle : List ℕ} {k : ℕ} (x : CertFault) (d : Declared) (b : Stage) (id : List ℕ) (t f : ℕ)
     (ts : List Corners)
     → b ≡ stage.Pieces → LineFits v (PieceLine id t f)
@@ -267,6 +282,7 @@ flat_fault {v} x d b id t f ts is fits h1 h2 g lt g2 h =
     (fault_after x (InBody stage.Pieces t f (grow d t f)) (InBody stage.Pieces 0 f (grow d t f)) g2
     (corners_go v false ts t 0 stage.Pieces f (grow d t f) (lines_fit v false ts g2.fits) (omega arith)) h)
 
+-- the first fault after the line that opens a block of flats is the first from that line on
 pub flats_fault : {v : Version} {text : List ℕ} {n : ℕ} {rest : List ℕ} {m : ℕ} (x : CertFault) (d : Declared) (b : Stage) (w : Owner) (id : List ℕ) (f : ℕ)
     → LineFits v (flats_line w id f) → CanBegin b w → d.triangles ≤ most_triangles → d.flats + f ≤ most_flats
     → ReadsLines v text n (flats_line w id f ∷ []) rest m → FaultFrom v x m (InBody (stage_after w) 0 f (grow_flats d f)) rest
@@ -274,10 +290,12 @@ pub flats_fault : {v : Version} {text : List ℕ} {n : ℕ} {rest : List ℕ} {m
 flats_fault {v} x d b w id f fits can h1 h2 g k =
     fault_after x (InBody b 0 0 d) (InBody (stage_after w) 0 f (grow_flats d f)) g (flats_open v b w d id f fits can h1 h2) k
 
+-- the first fault after the line that counts the pairs is the first from that line on
 pub pairs_fault : {v : Version} {text : List ℕ} {n : ℕ} {rest : List ℕ} {m : ℕ} (x : CertFault) (b : Stage) (d : Declared) (count : ℕ) → count ≤ greatest_count
     → ReadsLines v text n (PairsLine count ∷ []) rest m → FaultFrom v x m (InPairs count) rest → FaultFrom v x n (InBody b 0 0 d) text
 pairs_fault {v} x b d count le g h = fault_after x (InBody b 0 0 d) (InPairs count) g (pairs_open v b d count le) h
 
+-- after all pair lines, a fault of the end line is the first from the line that counts the pairs on
 pub end_fault : {v : Version} {text : List ℕ} {n : ℕ} {rest : List ℕ} {m : ℕ} {last : List ℕ} {k : ℕ} (x : CertFault) (b : Stage) (d : Declared) (count : ℕ)
     (ps : List Separator) → count ≤ greatest_count
     → ReadsLines v text n (PairsLine count ∷ []) rest m → AllByRecursion SeparatorFits ps → length ps ≡ count
@@ -287,18 +305,21 @@ end_fault {v} {last = last} {k} x b d count ps le g fits len g2 h =
     pairs_fault x b d count le g
     (fault_after x (InPairs count) (InPairs 0) g2 (pairs_go v ps count 0 fits (omega arith)) (fault_here v x k (InPairs 0) (One kind.End) last refl h))
 
+-- bytes after the end line are the fault of text after the end, at the line that they begin
 pub trailing_fault : {v : Version} {text : List ℕ} {n : ℕ} {rest : List ℕ} {m : ℕ} (b : Stage) (d : Declared) (ps : List Separator)
     → AllByRecursion SeparatorFits ps → length ps ≤ greatest_count → ReadsLines v text n (end_lines ps) rest m
     → 0 < length rest
     → lines_outcome v n (InBody b 0 0 d) (lines text) ≡ Err (code.TextAfterEnd, m)
-trailing_fault {v} {rest = rest} {m} b d ps fits le f some = after (InBody b 0 0 d) AtEnd f (pairs_goes v b d ps fits le) ∙ trailing v m rest some
+trailing_fault {v} {rest = rest} {m} b d ps fits le f some = outcome_past_lines (InBody b 0 0 d) AtEnd f (pairs_goes v b d ps fits le) ∙ trailing v m rest some
 
 -- ---- values of the code
 
+-- the blocks of pieces and of one more are those before, and one of its identifier, triangles and flats
 pub piece_pushed : (ps : List PiecePart) (p : PiecePart) (id : List ℕ) (ts fs : List Triangle) → p.id ≡ id → p.triangles ≡ ts → p.flats ≡ fs
     → map block_of_piece (ps ++ p ∷ []) ≡ map block_of_piece ps ++ record { id = id; triangles = triangle_corners ts; flats = triangle_corners fs } ∷ []
 piece_pushed ps p id ts fs e f g = map_push block_of_piece ps p ∙ rw (e, f, g) refl
 
+-- a text that is the whole rest for these parts is so for the certificate that consists of them
 pub whole_cert : (v : Version) (c : Cert) (ps : List PiecePart) (qs : List ParcelPart) (es : List ExactBlock) (rs : List part.PairLine) (before : List CertLine) (text : List ℕ) → c.pieces ≡ ps
     → c.parcels ≡ qs → c.exact ≡ es → c.pairs ≡ rs
     → Whole v before (content_lines (record { pieces = map block_of_piece ps; parcels = map block_of_parcel qs; exact = map exact_of es; pairs = map separator_of rs })) text

@@ -47,6 +47,7 @@ pub first_byte : (xs : List ℕ) (b : ℕ) → 1 ≤ length xs → get_or xs 0 0
 first_byte [] b some first = absurd (omega arith)
 first_byte (x ∷ xs) b some first = grind (arith, take_all)
 
+-- a text whose first byte is the digit 0, with another byte after it, begins with the number 0 and that byte
 pub zero_begins : (text after rest : List ℕ) (end limit : ℕ) → text ≡ 48 ∷ after → after ≡ end ∷ rest → BeginsWithWord text (decimal 0) end rest × (0 ≤ limit)
 zero_begins text after rest end limit h k = grind (arith, decimal_digit)
 
@@ -73,6 +74,7 @@ corners_spelled v true c rest =
 corners_spelled v false c rest =
     cc (six (coordinate_word v c.x1) (coordinate_word v c.y1) (coordinate_word v c.x2) (coordinate_word v c.y2) (coordinate_word v c.x3) (coordinate_word v c.y3) (10 ∷ rest))
 
+-- a text of a letter, six coordinates, each after a space, a line end and a rest begins with a line of corners
 pub corners_begin : (v : Version) (flat : Bool) (letter : ℕ) (text after fields : List ℕ) (c : Corners) (rest : List ℕ) → letter ≡ cond flat 102 116
     → text ≡ letter ∷ after → after ≡ 32 ∷ fields
     → fields ≡ coordinate_word v c.x1
@@ -88,11 +90,12 @@ corner_fits v true c fits = fits
 corner_fits v false c fits = fits
 
 -- a line that begins the text was taken
-pub begun : (v : Version) (text : List ℕ) (n : ℕ) (flat : Bool) (c : Corners) (rest : List ℕ) → BeginsWithWord text (spelling v (corner_line flat c)) 10 rest
+pub spelled_line_taken : (v : Version) (text : List ℕ) (n : ℕ) (flat : Bool) (c : Corners) (rest : List ℕ) → BeginsWithWord text (spelling v (corner_line flat c)) 10 rest
     → CornersFit v c → ReadsLines v text n (corner_line flat c ∷ []) rest (n + 1)
 unfolding text_of_lines
-begun v text n flat c rest h fits =
+spelled_line_taken v text n flat c rest h fits =
     record { parts = h ∙ sym (append_assoc (spelling v (corner_line flat c)) (10 ∷ []) rest); fits = (corner_fits v flat c fits, tt); next = refl }
 
+-- what comes after a word and its line end is shorter than the text that begins with them
 pub shorter : (text : List ℕ) (w : List ℕ) (rest : List ℕ) → BeginsWithWord text w 10 rest → length rest + 1 ≤ length text
 shorter text w rest h = grind (arith, length-append)

@@ -23,7 +23,7 @@ use Rattle.lpis_cert.proofs.WordLemmas.{lines_from, lines_named}
 use Rattle.lpis_cert.proofs.NumberLemmas.{has_text}
 use Rattle.lpis_cert.proofs.LineLemmas.{spelling_injective}
 use Rattle.lpis_cert.proofs.StepLemmas.{Goes}
-use Rattle.lpis_cert.proofs.ReadLemmas.{names_itself, certificate_goes, accepted}
+use Rattle.lpis_cert.proofs.ReadLemmas.{names_itself, certificate_goes, fitting_text_accepted}
 use Rattle.lpis_cert.specs.declared.fault.CertCode.TheVariants as code
 
 -- ---- a prefix
@@ -274,15 +274,19 @@ sum-map : {A B : Type 0} (f : A → B) (g : B → ℕ) (h : A → ℕ) → ((x :
 sum-map f g h e [] = refl
 sum-map f g h e (x ∷ xs) = grind (arith, sum-map f g h e xs, sum_by-cons)
 
+-- the blocks of the text have as many triangles as the pieces that they are of
 pub triangle_sum : (ps : List PiecePart) → sum_by (λ (p : PieceBlock). length p.triangles) (map block_of_piece ps) ≡ sum_by (λ p. length p.triangles) ps
 triangle_sum ps = grind (arith, sum-map, length-map)
 
+-- the blocks of the text have as many flats as the pieces that they are of
 pub flat_sum : (ps : List PiecePart) → sum_by (λ (p : PieceBlock). length p.flats) (map block_of_piece ps) ≡ sum_by (λ p. length p.flats) ps
 flat_sum ps = grind (arith, sum-map, length-map)
 
+-- the blocks of the text have as many flats as the parcels that they are of
 pub parcel_flat_sum : (ps : List ParcelPart) → sum_by (λ (p : ParcelBlock). length p.flats) (map block_of_parcel ps) ≡ sum_by (λ p. length p.flats) ps
 parcel_flat_sum ps = grind (arith, sum-map, length-map)
 
+-- the exact blocks of the text have as many flats as those of the certificate
 pub exact_flat_sum : (es : List ExactBlock) → sum_by (λ (e : FlatsBlock). length e.flats) (map exact_of es) ≡ sum_by (λ e. length e.flats) es
 exact_flat_sum es = grind (arith, sum-map, length-map)
 
@@ -339,8 +343,9 @@ fits_back v c h =
 
 -- a text of a certificate has no fault
 pub no_fault : (c : Cert) (text : List ℕ) → IsCertText text c → verdict text ≡ Ok (2 + length (content_lines (content_of c)))
-no_fault c text t = ap verdict t.1.is ∙ accepted t.0 (content_of c) (fits_back t.0 c t.1.fits)
+no_fault c text t = ap verdict t.1.is ∙ fitting_text_accepted t.0 (content_of c) (fits_back t.0 c t.1.fits)
 
+-- what a reader of a certificate's text may answer is that certificate, or out of memory
 pub is_only : (r : Result Cert CertFault) (bytes : List ℕ) → IfOk r (λ x. IsCertText bytes x)
     → IfErr r (λ e. IsFirstFault e bytes) → (c : Cert) → IsCertText bytes c
     → MatchResult r (λ x. x ≡ c) (λ e. e ≡ Memory)

@@ -18,7 +18,7 @@ use Rattle.lpis_cert.specs.CertText.{coordinate_word, corner_words}
 use Rattle.lpis_cert.specs.Reading.{◌>>=◌, ◌>>?◌, kind_of, word_count, first_is_id, has_its_id, form, front, last, natural, cert_coordinate, point, corners, separator}
 use Rattle.lpis_cert.specs.Reading.{piece_line, parcel_block_line, exact_line, pairs_line, is_known, merge_of, first_is_split_or_merge}
 use Rattle.lpis_cert.specs.Reading.{with_form, or_number, kind_placed}
-use Rattle.lpis_cert.proofs.NumberLemmas.{opened, number_again, number_takes, coordinate_again, coordinate_takes}
+use Rattle.lpis_cert.proofs.NumberLemmas.{some_needs_true, number_again, number_takes, coordinate_again, coordinate_takes}
 use Rattle.lpis_cert.proofs.WordLemmas.{IsWordText, none_empty, kind_word, fields, words_are, field_words, spelling_words}
 
 -- ---- what is written is read
@@ -73,15 +73,18 @@ values_again v (PairsLine n) fits = rw (number_again greatest_count n (omega ari
 values_again v (PairLine p) fits = rw (separator_again p fits) refl
 values_again v EndLine fits = refl
 
+-- a line that has a text is read back from its spelling where its kind can stand
 pub read_again : (v : Version) (e : Expected) (l : CertLine) → LineFits v l → can_stand e (line_kind l) ≡ true → read_line v e (spelling v l) ≡ Ok l
 unfolding read_line kind_placed
 read_again v e l fits can = grind (arith, spelling_words, form_again, field_words, known_right, length_right, names_right, values_again)
 
 -- ---- what is read was written so
 
+-- two words that pass the test of equal bytes are equal
 pub word_is : (w text : List ℕ) → bytes_eq w text ≡ true → w ≡ text
 word_is w text h = (bytes_eq-Decides w text).0 h
 
+-- where a second step after a first gives a value, the first gave one, and the second made its value of it
 pub bind_ok : {A B E : Type 0} (r : Result A E) (f : A → Result B E) (y : B) → (r >>= f) ≡ Ok y → (x : A) × (r ≡ Ok x) × (f x ≡ Ok y)
 bind_ok (Ok x) f y e = (x, refl, e)
 bind_ok (Err d) f y e = absurd cc
@@ -106,7 +109,7 @@ form_takes v [] k vs h = absurd cc
 form_takes v (w ∷ ws) k vs h =
     let u = cond_none (list_any is_empty (w ∷ ws)) _ (k, vs) h in
     let t = then_some (kind_of w) (λ k. cond (is_known v k && (eqb (length ws + 1) (word_count k) && has_its_id k ws)) (Some (k, ws)) None) (k, vs) u.1 in
-    let o = opened (is_known v t.0 && (eqb (length ws + 1) (word_count t.0) && has_its_id t.0 ws)) (Some (t.0, ws)) (k, vs) t.2 in
+    let o = some_needs_true (is_known v t.0 && (eqb (length ws + 1) (word_count t.0) && has_its_id t.0 ws)) (Some (t.0, ws)) (k, vs) t.2 in
     let m = and_parts (is_known v t.0) (eqb (length ws + 1) (word_count t.0) && has_its_id t.0 ws) o.0 in
     let n = and_parts (eqb (length ws + 1) (word_count t.0)) (has_its_id t.0 ws) m.1 in
     let same : ◌≡◌ {A = Kind × List (List ℕ)} (t.0, ws) (k, vs) = cc o.1 in
@@ -294,6 +297,7 @@ number_ok : (o : Option CertLine) (l : CertLine) → or_number o ≡ Ok l → o 
 number_ok None l h = absurd cc
 number_ok (Some m) l h = cc
 
+-- a placed line whose words have the values of a line is the spelling of that line, which has a text and can stand
 pub placed_takes : (v : Version) (e : Expected) (line : List ℕ) (k : Kind) (ws : List (List ℕ)) (l : CertLine) → kind_placed v e line ≡ Ok (k, ws)
     → values v k ws ≡ Some l → ReadsAs v e line l
 unfolding kind_placed spelling
@@ -306,6 +310,7 @@ placed_takes v e line k ws l h g =
     t.0 ∙ ap (λ (k : Kind). kind_word k ∷ ws) kind ∙ ap (λ (vs : List (List ℕ)). kind_word (line_kind l) ∷ vs) is.fields ∙ sym (words_are v l) in
     record { text = sym (join_with_byte-slice_split 32 line) ∙ ap (join_with_byte 32) all; fits = is.fits; stands = rw (← kind) f.1 }
 
+-- what reads as a line is the spelling of that line, which has a text and can stand
 pub read_takes : (v : Version) (e : Expected) (line : List ℕ) (l : CertLine) → read_line v e line ≡ Ok l → ReadsAs v e line l
 unfolding read_line
 read_takes v e line l h =
@@ -321,6 +326,7 @@ decoded : (v : Version) (l : CertLine) → LineFits v l → decode v (words (spe
 unfolding decode
 decoded v l fits = grind (arith, spelling_words, form_again, field_words, known_right, length_right, names_right, values_again)
 
+-- two lines that have a text are equal where their spellings are
 pub spelling_injective : (v : Version) (l m : CertLine) → LineFits v l → LineFits v m → spelling v l ≡ spelling v m → l ≡ m
 spelling_injective v l m fl fm e =
     let same : Some l ≡ Some m = sym (decoded v l fl) ∙ ap (λ (x : List ℕ). decode v (words x)) e ∙ decoded v m fm in

@@ -17,9 +17,10 @@ use Rattle.lpis_cert.specs.CertText.{coordinate_word}
 use Rattle.lpis_cert.specs.Versions.{greatest_in_version, factor, units}
 use Rattle.lpis_cert.specs.Reading.{cert_coordinate, minus, plus}
 
-pub opened : {A : Type 0} (b : Bool) (x : Option A) (y : A) → cond b x None ≡ Some y → (b ≡ true) × (x ≡ Some y)
-opened true x y h = (refl, h)
-opened false x y h = absurd cc
+-- a value that is given only where a test passes, and is given, shows that the test passed
+pub some_needs_true : {A : Type 0} (b : Bool) (x : Option A) (y : A) → cond b x None ≡ Some y → (b ≡ true) × (x ≡ Some y)
+some_needs_true true x y h = (refl, h)
+some_needs_true false x y h = absurd cc
 
 digit_yes : (d : ℕ) → digit_value d < 10 → is_ascii_digit d ≡ true
 digit_yes d h = let r = digit_from_value d h in grind (arith, nat_tests)
@@ -43,7 +44,7 @@ digits_on_takes : (limit n : ℕ) (ds : List ℕ) (m : ℕ) → n ≤ limit → 
     → AllDigits 10 ds × (digits_value_after 10 n ds ≡ m) × (m ≤ limit)
 digits_on_takes limit n [] m le h = let e : n ≡ m = cc h in (tt, e, omega arith)
 digits_on_takes limit n (d ∷ ds) m le h =
-    let o = opened (is_ascii_digit d && nat_le (n * 10 + digit_value d) limit) (digits_on limit (n * 10 + digit_value d) ds) m h in
+    let o = some_needs_true (is_ascii_digit d && nat_le (n * 10 + digit_value d) limit) (digits_on limit (n * 10 + digit_value d) ds) m h in
     let tests = and_parts (is_ascii_digit d) (nat_le (n * 10 + digit_value d) limit) o.0 in
     let r = digits_on_takes limit (n * 10 + digit_value d) ds m (below (n * 10 + digit_value d) limit tests.1) o.1 in
     ((digit_small d tests.0, r.0), r.1, r.2)
@@ -54,6 +55,7 @@ digits_on_takes limit n (d ∷ ds) m le h =
 own : IsNumeralModel (AllDigits 10) (digits_value 10)
 own = numerals_by_value (AllDigits 10) tells_digits
 
+-- a byte above that of the digit 0 is not that digit
 pub not-zero : (d : ℕ) → 48 < d → eqb d 48 ≡ false
 not-zero d h = grind (arith, nat_tests)
 
@@ -101,6 +103,7 @@ number_takes limit (d ∷ ds) n small h = by_zero (eqb d 48) refl h
 above : (d : ℕ) → 48 < d → eqb d 45 ≡ false
 above d h = grind (arith, nat_tests)
 
+-- the greatest number of a coordinate is within the margin of numbers, in each version
 pub greatest_small : (v : Version) → greatest_in_version v ≤ number_margin
 greatest_small One = omega arith
 greatest_small Two = omega arith
@@ -164,6 +167,7 @@ read_below : (v : Version) (w : List ℕ) (k : ℕ) → cert_number (greatest_in
 unfolding cert_coordinate
 read_below v w k h = rw h refl
 
+-- a coordinate that has a text in a version is read back from its word
 pub coordinate_again : (v : Version) (z : ℤ) → CoordinateFits v z → cert_coordinate v (coordinate_word v z) ≡ Some z
 coordinate_again v z fits = by_units (written_as v z fits)
   where
@@ -193,6 +197,7 @@ made_minus v d n ds z e f g most = rw (e, f, g) (ap signed_decimal (sym (of_unit
 made_plus : (v : Version) (n : ℕ) (w : List ℕ) (z : ℤ) → w ≡ decimal n → z ≡ pos (n * factor v) → n ≤ greatest_in_version v → (w ≡ coordinate_word v z) × CoordinateFits v z
 made_plus v n w z f g most = rw (f, g) (ap signed_decimal (sym (of_units v n)), above_fits v n most)
 
+-- what reads as a coordinate is the word of that coordinate, which has a text in the version
 pub coordinate_takes : (v : Version) (w : List ℕ) (z : ℤ) → cert_coordinate v w ≡ Some z → (w ≡ coordinate_word v z) × CoordinateFits v z
 unfolding cert_coordinate
 coordinate_takes v [] z h = absurd cc

@@ -17,7 +17,7 @@ use Rattle.lpis_cert.specs.declared.head.Owner.TheVariants as owner
 use Rattle.lpis_cert.proofs.SplittingLemmas.{split_some}
 use Rattle.lpis_cert.proofs.WordLemmas.{lines_named}
 use Rattle.lpis_cert.proofs.LineLemmas.{word_is}
-use Rattle.lpis_cert.proofs.StepLemmas.{follows_both, Goes, over}
+use Rattle.lpis_cert.proofs.StepLemmas.{follows_both, Goes, outcome_past_text}
 use Rattle.lpis_cert.proofs.BlockLemmas.{corners_go}
 use Rattle.lpis_cert.proofs.DraftLemmas.{goes_on, piece_open, CanBegin, flats_open, flats_lines, pairs_goes}
 use Rattle.lpis_cert.specs.declared.kind.Stage.TheVariants as stage
@@ -25,10 +25,12 @@ use Rattle.lpis_cert.specs.declared.fault.CertCode.TheVariants as code
 
 -- ---- the first line
 
+-- a text without a line end is truncated at line 1
 pub no_line : (text : List ℕ) → lines text ≡ text ∷ [] → verdict text ≡ Err (code.Truncated, 1)
 unfolding outcome_of
 no_line text h = rw h refl
 
+-- a text whose first line names no version has the fault of the version, at line 1
 pub other_version : {text : List ℕ} {n : ℕ} {line rest : List ℕ} {m : ℕ} → TakesLine text n line rest m → version_named line ≡ None
     → verdict text ≡ Err (code.Version, 1)
 unfolding outcome_of
@@ -44,6 +46,7 @@ named_is line v h = by_one (bytes_eq line (first_line One)) refl (bytes_eq line 
     by_one false e true f h = let same : Two ≡ v = cc h in rw (← same) (word_is line (first_line Two) f)
     by_one false e false f h = absurd cc
 
+-- a text whose first line names a version begins with that line, and has the outcome of the lines after it
 pub this_version : {text line rest : List ℕ} {m : ℕ} (v : Version) → TakesLine text 1 line rest m → version_named line ≡ Some v
     → (text ≡ first_line v ++ (10 ∷ rest)) × (verdict text ≡ lines_outcome v m first_state (lines rest))
 unfolding outcome_of
@@ -54,6 +57,7 @@ this_version {text} {line} {rest} {m} v t h =
     let next = t.next in
     (t.parts ∙ ap (λ (l : List ℕ). l ++ (10 ∷ rest)) (named_is line v h), rw (cut, next, e, h) refl)
 
+-- a version's first line names that version
 pub names_itself : (v : Version) → version_named (first_line v) ≡ Some v
 names_itself One = refl
 names_itself Two = refl
@@ -65,11 +69,13 @@ verdict_after v rest = let s = split_some is_lf rest in let e = s.2 in rw (lines
 
 -- ---- one more turn
 
+-- lines that were read, and those by which a draft grew after them, were read as one list from the start
 pub follows_grown : (v : Version) (start : List ℕ) (n : ℕ) (before more : List CertLine) (p q : LineState) (text : List ℕ) (k : ℕ)
     (rest : List ℕ) (m : ℕ) → ReadsLines v start n before text k → Grown v before more p q text k rest m
     → ReadsLines v start n more rest m
 follows_grown v start n before more p q text k rest m f g = let e = g.lines in rw e (follows_both f g.follows)
 
+-- lines that were read, and then the whole rest, make up the text from their start, and each has a text
 pub whole_text : (v : Version) (start : List ℕ) (n : ℕ) (before more : List CertLine) (text : List ℕ) (k : ℕ) → ReadsLines v start n before text k
     → Whole v before more text → (start ≡ text_of_lines v more) × AllByRecursion (LineFits v) more
 whole_text v start n before more text k f w =
@@ -160,6 +166,7 @@ exacts_go v es b d fits h k =
     flats_go v (ExactFits v) (λ e. owner.Exact e.merge) (λ e. e.id) (λ e. e.flats)
     (λ e fit. record { line = λ f few. (fit.version, fit.id, few); flats = fit.flats }) (λ _ _ _ _. refl) es fits b d (λ _ _ _. refl) h k
 
+-- the lines of a content that fits take the first state to the end
 pub certificate_goes : (v : Version) (c : CertContent) → Fits v c → Goes v first_state (content_lines c) AtEnd
 unfolding content_lines
 certificate_goes v c fits =
@@ -173,8 +180,8 @@ certificate_goes v c fits =
     (pairs_goes v es.0 es.1 c.pairs fits.pairs fits.pairs_few)))
 
 -- such a text has no fault
-pub accepted : (v : Version) (c : CertContent) → Fits v c → verdict (content_text v c) ≡ Ok (2 + length (content_lines c))
+pub fitting_text_accepted : (v : Version) (c : CertContent) → Fits v c → verdict (content_text v c) ≡ Ok (2 + length (content_lines c))
 unfolding content_text lines_outcome at_last
-accepted v c fits =
-    let body = over v 2 first_state AtEnd (content_lines c) [] (certificate_goes v c fits) in
+fitting_text_accepted v c fits =
+    let body = outcome_past_text v 2 first_state AtEnd (content_lines c) [] (certificate_goes v c fits) in
     verdict_after v (text_of_lines v (content_lines c)) ∙ ap (λ (t : List ℕ). lines_outcome v 2 first_state (lines t)) (sym (append-nil (text_of_lines v (content_lines c)))) ∙ body

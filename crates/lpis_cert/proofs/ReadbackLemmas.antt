@@ -377,5 +377,5 @@ first_back (l ∷ []) text after e h = absurd (cc h)
 first_back (l ∷ k ∷ ls) text after e h = named_back (version_named l) l (k ∷ ls) text after refl e h
 
 -- a text without a fault is a certificate's
-pub whose : (text : List ℕ) (after : ℕ) → verdict text ≡ Ok after → (c : Cert) × IsCertText text c
-whose text after h = first_back (lines text) text after (sym (join_with_byte-slice_split 10 text)) h
+pub faultless_has_cert : (text : List ℕ) (after : ℕ) → verdict text ≡ Ok after → (c : Cert) × IsCertText text c
+faultless_has_cert text after h = first_back (lines text) text after (sym (join_with_byte-slice_split 10 text)) h

@@ -23,13 +23,15 @@ found p xs i h = grind (arith, nat_tests, chosen-some)
 missed : (p : ℕ → Bool) (xs : List ℕ) → position p xs ≡ None → length xs ≤ position_or_len p xs
 missed p xs h = grind (arith, nat_tests, chosen-none)
 
-pub whole : (p : ℕ → Bool) (xs : List ℕ) → position p xs ≡ None → slice_split p xs ≡ xs ∷ []
-whole p xs h = grind (arith, slice_split_none, fails_before_first)
+-- a list without an element that passes the test stays whole
+pub uncut_without_match : (p : ℕ → Bool) (xs : List ℕ) → position p xs ≡ None → slice_split p xs ≡ xs ∷ []
+uncut_without_match p xs h = grind (arith, slice_split_none, fails_before_first)
 
 -- the rest, as a slice of the code is seen
 pub rest_is : (xs : List ℕ) (i : ℕ) → take (length xs - (i + 1)) (drop (i + 1) xs) ≡ drop (i + 1) xs
 rest_is xs i = grind (arith, take_all, length-drop)
 
+-- a list is cut at the first element that passes the test, and what comes after that is cut on
 pub cut : (p : ℕ → Bool) (xs : List ℕ) (i : ℕ) → position p xs ≡ Some i
     → (slice_split p xs ≡ take i xs ∷ slice_split p (take (length xs - (i + 1)) (drop (i + 1) xs)))
     × (xs ≡ take i xs ++ (get_or xs i 0 ∷ take (length xs - (i + 1)) (drop (i + 1) xs)))
@@ -39,6 +41,7 @@ cut p xs i h = grind (arith, slice_split_first, split_at_first, passes_at_first,
 is_ten : (b : ℕ) → is_lf b ≡ true → b ≡ 10
 is_ten b h = grind (arith, nat_tests)
 
+-- a text with a line end has what comes before the first one as its first line
 pub takes_line : (xs : List ℕ) (n i : ℕ) → position is_lf xs ≡ Some i → TakesLine xs n (take i xs) (take (length xs - (i + 1)) (drop (i + 1) xs)) (n + 1)
 takes_line xs n i h =
     let c = cut is_lf xs i h in
@@ -47,6 +50,7 @@ takes_line xs n i h =
 
 -- ---- counting words
 
+-- how many words there are in all, after n of them and perhaps a part of one; no count where a word is empty
 abbrev pub gaps : Bool → ℕ → List ℕ → Option ℕ
 gaps in_word n [] = cond in_word (Some (n + 1)) None
 gaps in_word n (b ∷ bs) = cond (is_gap b) (cond in_word (gaps false (n + 1) bs) None) (gaps true n bs)
@@ -55,6 +59,7 @@ abbrev counted : Bool → ℕ → List (List ℕ) → Option ℕ
 counted in_word n [] = None
 counted in_word n (w ∷ ws) = cond (cond in_word false (is_empty w) || list_any is_empty ws) None (Some (n + (length ws + 1)))
 
+-- a list that is cut has at least one part
 pub split_some : (p : ℕ → Bool) (bs : List ℕ) → (v : List ℕ) × (vs : List (List ℕ)) × (slice_split p bs ≡ v ∷ vs)
 split_some p [] = ([], [], refl)
 split_some p (b ∷ bs) = by_test (p b) b (slice_split p bs) (split_some p bs)
@@ -85,11 +90,14 @@ counted_is : (ws : List (List ℕ)) → ((v : List ℕ) × (vs : List (List ℕ)
 counted_is [] h = absurd cc
 counted_is (w ∷ ws) h = grind arith
 
+-- the count of the words of a line, byte by byte, is their number; it fails exactly where one of them is empty
 pub count_is : (bs : List ℕ) → gaps false 0 bs ≡ cond (list_any is_empty (words bs)) None (Some (length (words bs)))
 count_is bs = gaps_are false 0 bs ∙ counted_is (words bs) (split_some is_gap bs)
 
-pub stopped : (w : Bool) (n i : ℕ) (bs : List ℕ) → i < length bs → is_gap (get_or bs i 0) ≡ true → w ≡ false → gaps w n (drop i bs) ≡ None
-stopped w n i bs lt g f = grind (arith, add-one, drop-cons)
+-- at a space with no word right before it, the count fails
+pub empty_word_uncounted : (w : Bool) (n i : ℕ) (bs : List ℕ) → i < length bs → is_gap (get_or bs i 0) ≡ true → w ≡ false → gaps w n (drop i bs) ≡ None
+empty_word_uncounted w n i bs lt g f = grind (arith, add-one, drop-cons)
 
-pub ended : (w v : Bool) (n i : ℕ) (bs : List ℕ) → length bs ≤ i → w ≡ v → gaps w n (drop i bs) ≡ cond v (Some (n + 1)) None
-ended w v n i bs le e = rw (drop_all i bs le, e) refl
+-- past the last byte the count is one more than so far within a word, and fails outside
+pub count_at_end : (w v : Bool) (n i : ℕ) (bs : List ℕ) → length bs ≤ i → w ≡ v → gaps w n (drop i bs) ≡ cond v (Some (n + 1)) None
+count_at_end w v n i bs le e = rw (drop_all i bs le, e) refl

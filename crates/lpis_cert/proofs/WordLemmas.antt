@@ -60,10 +60,11 @@ id_word bs h = grind (arith, nat_tests, and_parts, not-empty, id_plain)
 
 -- ---- cutting what was joined
 
-pub part : (p : ℕ → Bool) (w rest : List ℕ) → AllByRecursion (λ b. p b ≡ false) w → (c : ℕ) → p c ≡ true
+-- elements that fail the test, and then one that passes, are cut off as the first part; the rest is cut on
+pub first_part_cut : (p : ℕ → Bool) (w rest : List ℕ) → AllByRecursion (λ b. p b ≡ false) w → (c : ℕ) → p c ≡ true
     → slice_split p (w ++ (c ∷ rest)) ≡ w ∷ slice_split p rest
-part p [] rest h c at = rw at refl
-part p (b ∷ w) rest h c at = let off = h.0 in rw off (ap (onto_first b) (part p w rest h.1 c at))
+first_part_cut p [] rest h c at = rw at refl
+first_part_cut p (b ∷ w) rest h c at = let off = h.0 in rw off (ap (onto_first b) (first_part_cut p w rest h.1 c at))
 
 only_part : (p : ℕ → Bool) (w : List ℕ) → AllByRecursion (λ b. p b ≡ false) w → slice_split p w ≡ w ∷ []
 only_part p [] h = refl
@@ -80,7 +81,7 @@ no_end (b ∷ w) h = (h.0.1, no_end w h.1)
 words_again : (w : List ℕ) (ws : List (List ℕ)) → IsPlain w → AllByRecursion IsWordText ws → words (join_with_byte 32 (w ∷ ws)) ≡ w ∷ ws
 words_again w [] h hs = only_part is_gap w (no_gap w h)
 words_again w (v ∷ vs) h hs =
-    part is_gap w (join_with_byte 32 (v ∷ vs)) (no_gap w h) 32 refl ∙ ap (λ (x : List (List ℕ)). w ∷ x) (words_again v vs hs.0.plain hs.1)
+    first_part_cut is_gap w (join_with_byte 32 (v ∷ vs)) (no_gap w h) 32 refl ∙ ap (λ (x : List (List ℕ)). w ∷ x) (words_again v vs hs.0.plain hs.1)
 
 ends-append : (v w : List ℕ) → AllByRecursion (λ b. is_lf b ≡ false) v → AllByRecursion (λ b. is_lf b ≡ false) w
     → AllByRecursion (λ b. is_lf b ≡ false) (v ++ w)
@@ -91,12 +92,14 @@ ends_joined : (w : List ℕ) (ws : List (List ℕ)) → IsPlain w → AllByRecur
 ends_joined w [] h hs = no_end w h
 ends_joined w (v ∷ vs) h hs = grind (arith, ends_joined v vs hs.0.plain hs.1, ends-append, no_end)
 
+-- among words of a text none is empty
 pub none_empty : (ws : List (List ℕ)) → AllByRecursion IsWordText ws → list_any is_empty ws ≡ false
 none_empty [] h = refl
 none_empty (w ∷ ws) h = let e = h.0.some in rw e (none_empty ws h.1)
 
 -- ---- the words of a line
 
+-- the first word of a line, by its kind
 abbrev pub kind_word : Kind → List ℕ
 kind_word Piece = codes "piece"
 kind_word Triangle = codes "t"
@@ -107,6 +110,7 @@ kind_word Pairs = codes "pairs"
 kind_word Pair = codes "s"
 kind_word End = codes "end"
 
+-- the words of a line after its first
 abbrev pub fields : Version → CertLine → List (List ℕ)
 fields v (PieceLine id t f) = id ∷ decimal t ∷ decimal f ∷ []
 fields v (TriangleLine c) = corner_words v c
@@ -117,6 +121,7 @@ fields v (PairsLine n) = decimal n ∷ []
 fields v (PairLine p) = decimal p.i ∷ decimal p.j ∷ decimal p.k ∷ []
 fields v EndLine = []
 
+-- the words of a line are that of its kind and then its fields
 pub words_are : (v : Version) (l : CertLine) → words_of v l ≡ kind_word (line_kind l) ∷ fields v l
 unfolding words_of
 words_are v EndLine = refl
@@ -149,6 +154,7 @@ side_word : (m : Bool) → IsWordText (side m)
 side_word false = record { some = refl; plain = plain_codes (codes "split") refl }
 side_word true = record { some = refl; plain = plain_codes (codes "merge") refl }
 
+-- the fields of a line that has a text are words: not empty, and without a space or a line end
 pub field_words : (v : Version) (l : CertLine) → LineFits v l → AllByRecursion IsWordText (fields v l)
 field_words v (PieceLine id t f) fits = (id_word id fits.0, (count_word t fits.1, (count_word f fits.2, tt)))
 field_words v (TriangleLine c) fits = corner_fields v c fits
@@ -169,6 +175,7 @@ kind_plain Pairs = plain_codes (codes "pairs") refl
 kind_plain Pair = plain_codes (codes "s") refl
 kind_plain End = plain_codes (codes "end") refl
 
+-- cut at its spaces, the spelling of a line that has a text gives the word of its kind and its fields
 pub spelling_words : (v : Version) (l : CertLine) → LineFits v l → words (spelling v l) ≡ kind_word (line_kind l) ∷ fields v l
 unfolding spelling
 spelling_words v l fits = grind (arith, words_are, words_again, kind_word, kind_plain, field_words)
@@ -179,7 +186,7 @@ spelling_ends v l fits = grind (arith, words_are, ends_joined, kind_word, kind_p
 
 -- the lines of a text that begins with a line
 pub lines_from : (v : Version) (l : CertLine) (rest : List ℕ) → LineFits v l → lines (spelling v l ++ (10 ∷ rest)) ≡ spelling v l ∷ lines rest
-lines_from v l rest fits = part is_lf (spelling v l) rest (spelling_ends v l fits) 10 refl
+lines_from v l rest fits = first_part_cut is_lf (spelling v l) rest (spelling_ends v l fits) 10 refl
 
 -- the lines of a text that begins with a version's first line
 pub lines_named : (v : Version) (rest : List ℕ) → lines (first_line v ++ (10 ∷ rest)) ≡ first_line v ∷ lines rest

@@ -77,6 +77,7 @@ end_is c =
     ∙ one_line (PairsLine (length c.pairs)) (map separator_line (map separator_of c.pairs) ++ (EndLine ∷ []))
     ∙ ap (λ (i : ℕ). text_of_lines written (PairsLine i ∷ (map separator_line (map separator_of c.pairs) ++ (EndLine ∷ [])))) (sym n)
 
+-- the first line and the texts of all parts, one after the other, are the text of a certificate as it is written
 pub parts_text_is : (c : Cert) → parts_text c ≡ content_text written (content_of c)
 unfolding version_text content_text content_lines
 parts_text_is c = grind (arith, blocks_are, piece_is, parcel_is, exact_is, end_is, text-append)
