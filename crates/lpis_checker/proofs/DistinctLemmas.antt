@@ -11,6 +11,7 @@ use Rattle.lpis_parcels.specs.Release.{parcel_ids}
 id_at : (xs : List Parcel) (i : ℕ) (a : Parcel) → slice_get xs i ≡ Some a → slice_get (parcel_ids xs) i ≡ Some a.id
 id_at xs i a e = slice_get-map (λ (p : Parcel). p.id) xs i ∙ ap (option_map (λ (p : Parcel). p.id)) e
 
+-- where the identifiers of parcels are distinct, two indices whose parcels have one identifier are equal
 pub same_index : (xs : List Parcel) → IsDistinct same_id (parcel_ids xs) → (i j : ℕ) (a b : Parcel) → slice_get xs i ≡ Some a → slice_get xs j ≡ Some b → a.id ≡ b.id → i ≡ j
 same_index xs n i j a b e f s = elim (cases_eq i j) [ inl q ↦ q | inr q ↦ absurd (by (order q)) ]
   where

@@ -15,9 +15,11 @@ below_4 : (q : ExactCondition) → order_of q < 4
 below_4 Edges = omega arith
 below_4 _ = omega arith
 
+-- where the four conditions on exact blocks hold, these show that each whole is made up of its parts
 pub all_shown : (bs : List ExactBlock) (xs : List ExactPart) → ExactBelow bs xs 4 → ShowExact bs xs
 all_shown bs xs below = record { holds = λ q k. below.holds q k (below_4 q) }
 
+-- where exact blocks show it, each whole turns round each point as often as its parts together
 pub shown_turns : (bs : List ExactBlock) (xs : List ExactPart) → ShowExact bs xs → All (λ (x : ExactPart). TurnsAsParts x.whole x.parts) xs
 shown_turns bs xs s = all_from (λ (x : ExactPart). TurnsAsParts x.whole x.parts) xs (λ k x e.
     let b = part_beside _ (slice_get xs k) (slice_get bs k) x (s.holds Flats k) e in

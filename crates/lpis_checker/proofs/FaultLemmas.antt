@@ -57,6 +57,7 @@ one_fault r c a b f g = by (compare (site_order a) (site_order b) (long a ∙ sy
     by (inr (inr e)) = absurd (g.fails (f.earlier b e))
 
 -- ---- the search of pairs
+-- where the searches of parts find no fault, and no pair of triangles fails, those up to that of pairs find none
 pub no_pair : (r : Contents) (c : Cert) → HoldUntil r c part_searches → ((i j : ℕ) → ConditionHolds r c (site.Pair i j)) → HoldUntil r c (part_searches + 1)
 no_pair r c parts all = record { holds = by }
   where
@@ -78,6 +79,7 @@ pair_below m n i j (inr (e, inr (f, inl l))) = inl l
 pair_below m n i j (inr (e, inr (f, inr (g, inl l)))) = inr (g, l)
 pair_below m n i j (inr (e, inr (f, inr (g, inr x)))) = absurd x.1
 
+-- where the searches of parts find no fault, the first pair of triangles that fails is the fault of the certificate
 pub first_pair : (r : Contents) (c : Cert) → HoldUntil r c part_searches → (i j : ℕ) → (ConditionHolds r c (site.Pair i j) → ⊥)
     → ((m n : ℕ) → IsBelow m n i j → ConditionHolds r c (site.Pair m n)) → IsFault r c (site.Pair i j)
 first_pair r c parts i j fails lower = record { fails = fails; earlier = by }
@@ -97,6 +99,7 @@ below_all (site.Parcel parcel.Names k) = omega arith
 below_all (site.Line line.NotApart k) = omega arith
 below_all _ = omega arith
 
+-- a certificate in which all searches find no fault is good
 pub all_good : (r : Contents) (c : Cert) → HoldUntil r c all_searches → IsGood r c
 all_good r c all = record { holds = λ s. all.holds s (below_all s) }
 
@@ -106,5 +109,6 @@ searched (site.Parcel parcel.Names k) l = omega arith
 searched (site.Line line.NotApart k) l = omega arith
 searched _ l = omega arith
 
+-- where the searches of parts find no fault, all conditions with codes below that on near pairs hold
 pub parts_hold : (r : Contents) (c : Cert) → HoldUntil r c part_searches → HoldBelow r c NearPairs
 parts_hold r c below = record { holds = λ s l. below.holds s (searched s l) }

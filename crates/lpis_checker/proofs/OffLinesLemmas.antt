@@ -58,6 +58,7 @@ in_release r k x e t h = (corner_of_release r k x t.a e h.0, corner_of_release r
 all_in_release : (r : Contents) (k : ℕ) (x : Piece) → slice_get r.pieces k ≡ Some x → (ts : List Triangle) → HaveCorners (corners_of x.polygon) ts → HaveCorners (all_corners r) ts
 all_in_release r k x e ts h = all_from (HasCorners (all_corners r)) ts (λ m t f. in_release r k x e t (all_at (HasCorners (corners_of x.polygon)) ts m t f h))
 
+-- where the conditions on parts hold, pieces turn as their triangles do off the lines, and parcels as their pieces do
 pub turns_add : (r : Contents) (c : Cert) → HoldBelow r c NearPairs → TurnsAdd r c
 turns_add r c b = record {
   pieces = λ p d off k. more_beside _ _ (slice_get r.pieces k) (slice_get c.pieces k) (b.holds (site.Piece piece.Corners k) (omega arith)) (λ x t e f.

@@ -51,6 +51,7 @@ pub record WalkAt (c : Cert) (near : List (ℕ × ℕ)) (at k : ℕ) : Type 0 wh
   pub behind : (m : ℕ) (l : PairLine) (n : ℕ) (p : ℕ × ℕ) → m < at → slice_get c.pairs m ≡ Some l → k ≤ n → slice_get near n ≡ Some p → IsBelow l.i l.j p.0 p.1
   pub passed : (n : ℕ) (p : ℕ × ℕ) → n < k → slice_get near n ≡ Some p → IsNamedPair c.pairs p.0 p.1
 
+-- at its start the walk has passed no pair line and no near pair
 pub walk_none : (c : Cert) (near : List (ℕ × ℕ)) → WalkAt c near 0 0
 walk_none c near = record { within = omega arith; behind = λ m l n p h e k f. absurd (omega arith); passed = λ n p h e. absurd (omega arith) }
 
@@ -60,6 +61,7 @@ pub record Skips (c : Cert) (from at i j : ℕ) : Type 0 where
   pub before : (m : ℕ) (l : PairLine) → from ≤ m → m < at → slice_get c.pairs m ≡ Some l → IsBelow l.i l.j i j
   pub stop : (l : PairLine) → slice_get c.pairs at ≡ Some l → IsBelow l.i l.j i j → ⊥
 
+-- an index is the next if each line from the last one up to it names an earlier pair, and its own line does not
 pub skips_over : (c : Cert) (lines : List PairLine) (from at i j : ℕ) → lines ≡ c.pairs → at ≤ length lines
     → ((m : ℕ) (l : PairLine) → from ≤ m → m < at → slice_get lines m ≡ Some l → IsBelow l.i l.j i j)
     → ((l : PairLine) → slice_get lines at ≡ Some l → IsBelow l.i l.j i j → ⊥) → Skips c from at i j
@@ -69,6 +71,7 @@ skips_over c lines from at i j e high before stop = record {
   stop = λ l f. stop l (ap (λ (ls : List PairLine). slice_get ls at) e ∙ f);
 }
 
+-- at this index there is a pair line, and it names the pair i, j
 abbrev pub NamesAt : List PairLine → ℕ → ℕ → ℕ → Type 0
 NamesAt lines at i j = (l : PairLine) × (slice_get lines at ≡ Some l) × (l.i ≡ i) × (l.j ≡ j)
 
@@ -85,6 +88,7 @@ skipped c near from at k p w e s m l h f = by (cases_lt m from)
     by (inl g) = w.behind m l k p g f least e
     by (inr g) = s.before m l g h f
 
+-- where the line at the next index names the next near pair, the walk goes on there, past that pair
 pub walk_more : (c : Cert) (ts : List Triangle) (near : List (ℕ × ℕ)) → IsNearList ts near → (from at k : ℕ) (p : ℕ × ℕ)
     → WalkAt c near from k → slice_get near k ≡ Some p → Skips c from at p.0 p.1 → NamesAt c.pairs at p.0 p.1
     → WalkAt c near at (k + 1)

@@ -26,6 +26,7 @@ more_beside P Q None None h more = tt
 more_beside P Q _ _ h more = absurd h
 
 -- ---- pair lines
+-- a test of what a pair line meets is one of what the certificate's line at its index meets
 pub of_line : (c : Cert) (P : PairLine → Type 0) (b : Bool) (k : ℕ) (l : PairLine) → slice_get c.pairs k ≡ Some l → (IsTrue b ↔ P l) → IsTrue b ↔ OfLine c k P
 of_line c P b k l e h = subst (λ (o : Option PairLine). IsTrue b ↔ MatchOption o ⊤ P) (sym e) h
 
@@ -36,8 +37,8 @@ read_at slice items i x e l r =
 
 -- ---- walking up to a place
 -- one place more
-pub one_more : (P : ℕ → Type 0) (k : ℕ) → P k → ((m : ℕ) → m < k → P m) → (m : ℕ) → m < k + 1 → P m
-one_more P k here below m l = elim (cases_eq m k) [ inl e ↦ subst P (sym e) here | inr n ↦ below m (let d = n in omega arith) ]
+pub holds_below_next : (P : ℕ → Type 0) (k : ℕ) → P k → ((m : ℕ) → m < k → P m) → (m : ℕ) → m < k + 1 → P m
+holds_below_next P k here below m l = elim (cases_eq m k) [ inl e ↦ subst P (sym e) here | inr n ↦ below m (let d = n in omega arith) ]
 
 -- past the last pair line nothing is said
 pub all_lines : (c : Cert) (P : ℕ → PairLine → Type 0) (k : ℕ) → length c.pairs ≤ k → ((m : ℕ) → m < k → OfLine c m (P m)) → (m : ℕ) → OfLine c m (P m)

@@ -45,6 +45,7 @@ pub record GoodPart (x : Piece) (t : PiecePart) : Type 0 where
   pub flat : All IsFlat t.flats
   pub net : SameNet same_point (edges_of x.polygon) (edges_of_triangles t.triangles ++ edges_of_triangles t.flats)
 
+-- each piece and the part at its index meet these conditions
 abbrev pub GoodParts : List Piece → List PiecePart → Type 0
 GoodParts xs ts = (k : ℕ) (x : Piece) (t : PiecePart) → slice_get xs k ≡ Some x → slice_get ts k ≡ Some t → GoodPart x t
 
@@ -134,6 +135,7 @@ good_keeps r c g i j t u e f l = by (are_apart t u) refl
     by false n = near n
 
 -- ---- pieces
+-- where the conditions on parts hold, they hold of each piece and the part at its index
 pub good_parts : (r : Contents) (c : Cert) → HoldBelow r c NearPairs → GoodParts r.pieces c.pieces
 good_parts r c b k x t e f = record {
   some = both_hold _ (slice_get r.pieces k) (slice_get c.pieces k) x t (b.holds (site.Piece piece.Triangles k) (omega arith)) e f;
@@ -173,16 +175,19 @@ piece_areas : (xs : List Piece) → int_sum_by area2 (polygons_of xs) ≡ areas2
 piece_areas [] = refl
 piece_areas (x ∷ xs) = ap (λ (z : ℤ). area2 x.polygon +ℤ z) (piece_areas xs)
 
+-- flats with which the edges of a parcel and those of its pieces cancel
 pub record GoodParcel (r : Contents) (x : Parcel) : Type 0 where
   pub fs : List Triangle
   pub flat : All IsFlat fs
   pub net : EdgesCancel x.polygon (polygons_of (pieces_named r x.id)) fs
 
+-- where the conditions on parts hold, each parcel has such flats
 pub good_parcel : (r : Contents) (c : Cert) → HoldBelow r c NearPairs → (k : ℕ) (x : Parcel) → slice_get r.parcels k ≡ Some x → GoodParcel r x
 good_parcel r c b k x e =
     let flats = part_beside _ (slice_get r.parcels k) (slice_get c.parcels k) x (b.holds (site.Parcel parcel.Flats k) (omega arith)) e in
     record { fs = flats.0.flats; flat = flats.2; net = both_hold _ (slice_get r.parcels k) (slice_get c.parcels k) x flats.0 (b.holds (site.Parcel parcel.Edges k) (omega arith)) e flats.1 }
 
+-- a parcel with such flats turns round each point as often as its pieces together
 pub parcel_turns : (r : Contents) (x : Parcel) → GoodParcel r x → TurnsAsParts x.polygon (polygons_of (pieces_named r x.id))
 parcel_turns r x g = turns_as_parts x.polygon (polygons_of (pieces_named r x.id)) g.fs g.flat g.net
 
@@ -258,6 +263,7 @@ piece_area x t g = subst (λ (z : ℤ). pos 0 <ℤ z) (area2_is x.polygon) (area
 parcel_area : (r : Contents) (x : Parcel) → GoodParcel r x → area2 x.polygon ≡ areas2 (pieces_named r x.id)
 parcel_area r x g = area_as_parts x.polygon (polygons_of (pieces_named r x.id)) g.fs g.flat g.net ∙ piece_areas (pieces_named r x.id)
 
+-- where the conditions on parts hold, a piece has an area, a parcel that of its pieces, and weighted ones are bounded
 pub areas_add : (r : Contents) (c : Cert) → HoldBelow r c NearPairs → AreasAdd r
 areas_add r c b = record {
   pieces = each;
@@ -276,6 +282,7 @@ areas_add r c b = record {
     parcel k x e = parcel_area r x (good_parcel r c b k x e)
 
 -- ---- the theorem
+-- a release whose parcels have distinct identifiers, and for which a certificate is good, is a sound map
 pub good_means_sound : (r : Contents) (c : Cert) → IsDistinct same_id (parcel_ids r.parcels) → IsGood r c → IsSoundMap r
 good_means_sound r c n g = record {
   off = record {

@@ -31,6 +31,7 @@ added : (w ws a rest : ℤ) → (pos 0 ≤ℤ w) × (w ≤ℤ (pos most_percent 
     → (pos 0 ≤ℤ (w +ℤ ws)) × ((w +ℤ ws) ≤ℤ (pos most_percent *ℤ (a +ℤ rest)))
 added w ws a rest h k = (omega (arith, ints, h.0, k.0), omega (arith, ints, h.1, k.1))
 
+-- the weighted area of pieces with areas above 0 lies between 0 and their area times the greatest percentage
 pub weights-between : (classes : List Class) (xs : List Piece) → All HasArea xs
     → (pos 0 ≤ℤ int_sum_by (piece_weight classes) xs) × (int_sum_by (piece_weight classes) xs ≤ℤ (pos most_percent *ℤ areas2 xs))
 weights-between classes [] h = (omega (arith, ints), omega (arith, ints))
