@@ -86,10 +86,12 @@ fives-shown w d m n sign small a b c =
     (padded-zeros (suc w) (decimal rest) ∙ zero_padded-decimal w rest low wide ∙ last_digits-mod (suc w) units)
     ∙ ap (λ (x : List ℕ). sign_text d ++ x) (sym (append_assoc (decimal (units / 10 ^ suc w)) (codes ".") (last_digits (suc w) units))))
 
+-- the sign of a number below 0 is a minus
 pub sign-below : (d : ℤ) → lt_z d (pos 0) ≡ true → codes "-" ≡ sign_text d
 sign-below (pos n) h = let f : ⊥ = grind (arith, nat_tests) in absurd f
 sign-below (negsuc n) h = refl
 
+-- a number that is not below 0 has no sign
 pub sign-above : (d : ℤ) → lt_z d (pos 0) ≡ false → ◌≡◌ {A = List ℕ} [] (sign_text d)
 sign-above (pos n) h = refl
 sign-above (negsuc n) h = cc h

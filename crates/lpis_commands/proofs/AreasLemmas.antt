@@ -46,5 +46,6 @@ areas_of_both r ks ls a b c area weighted of also = record {
 pub area_printed : (n x : ℕ) → n ≤ most_rows → x ≤ most_area * n → x ≤ most_printed
 area_printed n x few small = omega (arith, few, small)
 
+-- the weighted areas of as many parcels as a table has are printed
 pub weighted_printed : (n x : ℕ) → n ≤ most_rows → x ≤ most_weighted * n → x ≤ most_printed
 weighted_printed n x few small = omega (arith, few, small)

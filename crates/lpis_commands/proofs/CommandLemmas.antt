@@ -9,10 +9,12 @@ use Rattle.lpis_commands.specs.Command.{IsCommand, IsNamedCommand, command_line_
 use Rattle.lpis_commands.specs.declared.command.Cmd.{Cmd}
 use Rattle.clap.proofs.OnLiterals.{clap_on_literals}
 
+-- the program's command line is simple: `clap`'s words state which matches it has
 pub line-simple : is_simple command_line_app ≡ true
 unfolding clap_on_literals
 line-simple = refl
 
+-- the program's command line is simple, and none of its arguments has a rule on another
 pub line-free : is_simple_and_free command_line_app ≡ true
 unfolding clap_on_literals
 line-free = refl
@@ -37,5 +39,5 @@ two f g None = refl
 two f g (Some a) = refl
 
 -- the name of the subcommand, by its rows
-pub named : (m : ArgMatches) → subcommand_name_of m ≡ option_map (λ (p : Text × List Row). p.0) (subcommand_rows_of m)
-named m = two _ _ (out-ArgMatches m).subcommand
+pub name_from_rows : (m : ArgMatches) → subcommand_name_of m ≡ option_map (λ (p : Text × List Row). p.0) (subcommand_rows_of m)
+name_from_rows m = two _ _ (out-ArgMatches m).subcommand

@@ -7,6 +7,7 @@ use Rattle.lpis_checker.specs.declared.fault.Location.{Location}
 use Rattle.lpis_checker.specs.Codes.{check_code_text}
 use Rattle.lpis_commands.specs.Refusals.{check_refusal_text, location_text}
 
+-- a code, a location and a line end, written one after the other, are the line of a refused certificate
 pub check-refusal : (start coded placed end : Option (List ℕ)) (said : List ℕ) (code : Condition) (location : Location) → said ≡ check_code_text code
     → Appends start coded (codes "refused " ++ said ++ codes " ") → Appends coded placed (location_text location) → Appends placed end (codes "\n")
     → Appends start end (check_refusal_text (At code location))

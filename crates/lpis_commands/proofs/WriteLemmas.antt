@@ -12,12 +12,12 @@ begun_more text w n start now next first second =
     subst (Appends start next) (sym (take-add w n text)) (appends-more start now next (take w text) (take n (drop w text)) first second)
 
 -- nothing more
-pub kept : (old new : Option (List ℕ)) → Keeps old new → Appends old new []
-kept None new h = tt
-kept (Some xs) None h = h
-kept (Some xs) (Some ys) h = h ∙ sym (append-nil xs)
+pub kept_appends_nothing : (old new : Option (List ℕ)) → Keeps old new → Appends old new []
+kept_appends_nothing None new h = tt
+kept_appends_nothing (Some xs) None h = h
+kept_appends_nothing (Some xs) (Some ys) h = h ∙ sym (append-nil xs)
 
 -- what is kept stays begun
 pub begun_kept : (start now next : Option (List ℕ)) (text : List ℕ) → Appends start now text → Keeps now next → Appends start next text
 begun_kept start now next text first second =
-    subst (Appends start next) (append-nil text) (appends-more start now next text [] first (kept now next second))
+    subst (Appends start next) (append-nil text) (appends-more start now next text [] first (kept_appends_nothing now next second))

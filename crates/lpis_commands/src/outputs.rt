@@ -9,7 +9,7 @@ use crate::failure::{Failure, Name};
 use std::io::{ErrorKind, Write};
 
 /// Tries one write: Some is how many bytes it took, which are none where it was interrupted.
-#[tactic(auto, using(crate::proofs::WriteLemmas::kept))]
+#[tactic(auto, using(crate::proofs::WriteLemmas::kept_appends_nothing))]
 fn write_some<W: Write>(text: &[u8], out: &mut W) -> Option<usize>
     ensures within { IfSome result (λ n. n ≤ length text.now) }
     ensures taken { IfSome result (λ n. Appends (W.contents out.old) (W.contents out.new)
