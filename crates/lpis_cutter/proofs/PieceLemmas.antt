@@ -20,10 +20,10 @@ fan_at ys xs i x e within is fans =
     subst (λ (z : Piece). IsFan z.polygon) (sym is) ((subst (λ (zs : List Piece). AreFans zs) (sym e) fans) i x within)
 
 -- as many as the points so far, and those of one piece more
-pub one_more : (xs : List Piece) (i : ℕ) (x : Piece) (before after : ℕ) → i < length xs → x ≡ get_or xs i x
+pub points_bound_grows : (xs : List Piece) (i : ℕ) (x : Piece) (before after : ℕ) → i < length xs → x ≡ get_or xs i x
     → before ≤ points_in_pieces (take i xs) → after ≤ before + points_of x.polygon
     → after ≤ points_in_pieces (take (i + 1) xs)
-one_more xs i x before after within is so_far more =
+points_bound_grows xs i x before after within is so_far more =
     let sum = sum_by_more points xs i x within in
     let same : points (get_or xs i x) ≡ points_of x.polygon = subst (λ (z : Piece). points z ≡ points x) is refl in
     omega (arith, so_far, more, sum, same)

@@ -93,6 +93,7 @@ unsound r (Refused (PiecesOverlap first second at)) t h sound = pieces_share r f
 unsound r (Refused (Disagreement parcel at)) t h sound = disagrees r parcel (rational_of at) (positive at) t sound
 unsound r _ t h sound = absurd h
 
+-- where a cutter refuses rightly, and with a point, the release is not sound everywhere
 pub told_unsound : (r : Contents) (x : Result Cert CutFault) → IfErr x (RefusesRightly r) → IfErr x (λ e. HasPoint e → IsSoundEverywhere r → ⊥)
 told_unsound r (Ok c) t = tt
 told_unsound r (Err e) t = unsound r e t

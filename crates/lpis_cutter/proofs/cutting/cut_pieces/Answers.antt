@@ -1,4 +1,4 @@
-use Rattle.lpis_cutter.proofs.PieceLemmas.{fan_at, one_more, no_cut_says}
+use Rattle.lpis_cutter.proofs.PieceLemmas.{fan_at, points_bound_grows, no_cut_says}
 use Rattle.lpis_cutter.proofs.cutting.cut_pieces.Goals as goal
 
 pub returns-in-None : goal.returns-in-None
@@ -14,8 +14,8 @@ loop-piece-preserved c =
     let i = c.loop-piece.piece-index in
     let x = c.piece-item.result in
     record {
-      triangles = λ fans. one_more xs i x c.loop-piece.parts.triangles c.in-Some.more.triangles c.loop-piece-test.true c.piece-item.is (c.loop-piece.invariant.triangles fans)
+      triangles = λ fans. points_bound_grows xs i x c.loop-piece.parts.triangles c.in-Some.more.triangles c.loop-piece-test.true c.piece-item.is (c.loop-piece.invariant.triangles fans)
           ((rw c.in-Some.is at c.in_ok-more.ensures.triangles) (fan_at c.args.release.now.pieces xs i x c.pieces-piece-items.ensures.pieces c.loop-piece-test.true c.piece-item.is fans));
-      flats = λ fans. one_more xs i x c.loop-piece.parts.flats c.in-Some.more.flats c.loop-piece-test.true c.piece-item.is (c.loop-piece.invariant.flats fans)
+      flats = λ fans. points_bound_grows xs i x c.loop-piece.parts.flats c.in-Some.more.flats c.loop-piece-test.true c.piece-item.is (c.loop-piece.invariant.flats fans)
           ((rw c.in-Some.is at c.in_ok-more.ensures.flats) (fan_at c.args.release.now.pieces xs i x c.pieces-piece-items.ensures.pieces c.loop-piece-test.true c.piece-item.is fans));
     }
