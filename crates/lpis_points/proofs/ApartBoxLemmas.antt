@@ -84,6 +84,7 @@ under t u p h k l i j = clash _ _ _ _ _ _ _ _ _ _ _ _ _ _ (λ m. p.y -ℤ m *ℤ
 four : (g h k l s t u v : ℤ) → ((int_le g h || int_le k l) || (int_le s t || int_le u v)) ≡ true → (g ≤ℤ h) ⊎ ((k ≤ℤ l) ⊎ ((s ≤ℤ t) ⊎ (u ≤ℤ v)))
 four g h k l s t u v e = grind (arith, ints)
 
+-- counter-clockwise triangles whose boxes are apart have no point inside both
 pub apart_share_nothing : (t u : Triangle) (p : RationalPoint) → IsCounterClockwise t → IsCounterClockwise u → are_apart t u ≡ true → is_inside t p ≡ true → is_inside u p ≡ true → ⊥
 unfolding are_apart
 apart_share_nothing t u p h k s e f =

@@ -3,6 +3,7 @@ use Rattle.std.proofs.Common.{◌≡◌, ◌≢◌, ℤ, pos, negsuc, ◌+ℤ◌
 use Rattle.lpis_points.proofs.Common.{*ℤ_comm, ints, by_lt_z, crossing_of}
 use Rattle.lpis_points.proofs.SignLemmas.{not_neg, pos-mul-pos, neg-mul-pos, pos-mul-not_pos, neg-mul-not_pos, zero_of_mul}
 
+-- an edge that rises from y or below to above y, with the point left of it, has the crossing 1
 pub up_left : (s t y o : ℤ) → s ≤ℤ y → y <ℤ t → pos 0 <ℤ o → crossing_of s t y o ≡ pos 1
 up_left s t y o h k l = grind (arith, ints)
 
@@ -12,12 +13,15 @@ up_right s t y o h k l = grind (arith, ints)
 down_left : (s t y o : ℤ) → y <ℤ s → t ≤ℤ y → pos 0 <ℤ o → crossing_of s t y o ≡ pos 0
 down_left s t y o h k l = grind (arith, ints)
 
+-- an edge that falls from above y to y or below, with the point right of it, has the crossing -1
 pub down_right : (s t y o : ℤ) → y <ℤ s → t ≤ℤ y → o <ℤ pos 0 → crossing_of s t y o ≡ negsuc 0
 down_right s t y o h k l = grind (arith, ints)
 
+-- an edge with both ends at y or below has the crossing 0
 pub both_below : (s t y o : ℤ) → s ≤ℤ y → t ≤ℤ y → crossing_of s t y o ≡ pos 0
 both_below s t y o h k = grind (arith, ints)
 
+-- an edge with both ends above y has the crossing 0
 pub both_above : (s t y o : ℤ) → y <ℤ s → y <ℤ t → crossing_of s t y o ≡ pos 0
 both_above s t y o h k = grind (arith, ints)
 
@@ -26,6 +30,7 @@ both_above s t y o h k = grind (arith, ints)
 abbrev pub inside_of : ℤ → ℤ → ℤ → ℤ
 inside_of o₁ o₂ o₃ = cond (int_lt (pos 0) o₁ && int_lt (pos 0) o₂ && int_lt (pos 0) o₃) (pos 1) (pos 0)
 
+-- the crossings of the three edges of a triangle with corners at heights s, t and u, added
 abbrev pub total_of : ℤ → ℤ → ℤ → ℤ → ℤ → ℤ → ℤ → ℤ
 total_of s t u y o₁ o₂ o₃ = crossing_of s t y o₁ +ℤ crossing_of t u y o₂ +ℤ crossing_of u s y o₃
 
@@ -185,8 +190,10 @@ around_total s t u y o₁ o₂ o₃ r = by_lt_z y s
     r₂ : Around u s t y o₃ o₁ o₂
     r₂ = turned_around t u s y o₂ o₃ o₁ r₁
 
+-- an edge that rises from y or below to above y has the crossing 0 where the point is not left of it
 pub up_not_left : (s t y o : ℤ) → s ≤ℤ y → y <ℤ t → o ≤ℤ pos 0 → crossing_of s t y o ≡ pos 0
 up_not_left s t y o h k l = grind (arith, ints)
 
+-- an edge that falls from above y to y or below has the crossing 0 where the point is not right of it
 pub down_not_right : (s t y o : ℤ) → y <ℤ s → t ≤ℤ y → pos 0 ≤ℤ o → crossing_of s t y o ≡ pos 0
 down_not_right s t y o h k l = grind (arith, ints)

@@ -3,12 +3,14 @@ use Rattle.std.proofs.Common.{◌≡◌, ℕ, ◌*◌, ℤ, pos, ◌+ℤ◌, ◌
 use Rattle.lpis_points.proofs.Common.{ints}
 use borrow.Author.Differences.{up, down, sum_is_lem, product_is}
 
+-- a number times a sum is the sum of the two products
 pub mul-add_z : (a b c : ℤ) → a *ℤ (b +ℤ c) ≡ a *ℤ b +ℤ a *ℤ c
 mul-add_z a b c =
     let e₁ = ap (λ (t : ℕ). up a * t) (sum_is_lem b c) in
     let e₂ = ap (λ (t : ℕ). down a * t) (sum_is_lem b c) in
     omega (arith, ints)
 
+-- products of whole numbers are associative
 pub mul_assoc_z : (a b c : ℤ) → (a *ℤ b) *ℤ c ≡ a *ℤ (b *ℤ c)
 mul_assoc_z a b c =
     let l₁ = ap (λ (t : ℕ). t * up c) ((product_is a b).0) in
@@ -21,5 +23,6 @@ mul_assoc_z a b c =
     let r₄ = ap (λ (t : ℕ). down a * t) ((product_is b c).1) in
     omega (arith, ints)
 
+-- one times a number is that number
 pub one-mul_z : (a : ℤ) → pos 1 *ℤ a ≡ a
 one-mul_z a = omega (arith, ints)

@@ -6,6 +6,7 @@ use Rattle.lpis_points.proofs.Common.{*ℤ_comm, ints}
 use Rattle.std.proofs.Math.IntN.{zero-*ℤ}
 use Rattle.lpis_points.proofs.IntLemmas.{mul-add_z, mul_assoc_z, one-mul_z}
 
+-- a polynomial over numbered unknowns, as it is written
 pub data Expr : Type 0 where
   var : ℕ → Expr
   con : ℤ → Expr
@@ -14,14 +15,17 @@ pub data Expr : Type 0 where
   minus : Expr → Expr → Expr
 
 infixl 6 ◌⊕◌
+-- the sum of two expressions
 abbrev pub ◌⊕◌ : Expr → Expr → Expr
 a ⊕ b = plus a b
 
 infixl 6 ◌⊖◌
+-- the difference of two expressions
 abbrev pub ◌⊖◌ : Expr → Expr → Expr
 a ⊖ b = minus a b
 
 infixl 7 ◌⊗◌
+-- the product of two expressions
 abbrev pub ◌⊗◌ : Expr → Expr → Expr
 a ⊗ b = times a b
 
@@ -31,6 +35,7 @@ at [] k = pos 0
 at (x ∷ xs) zero = x
 at (x ∷ xs) (suc k) = at xs k
 
+-- the value of an expression at the unknowns r
 abbrev pub value : List ℤ → Expr → ℤ
 value r (var k) = at r k
 value r (con z) = z
@@ -43,43 +48,53 @@ pub data Poly : Type 0 where
   none : Poly
   term : ℤ → List ℕ → Poly → Poly
 
+-- the values of the unknowns of a term, multiplied
 abbrev pub unknowns : List ℤ → List ℕ → ℤ
 unknowns r [] = pos 1
 unknowns r (v ∷ m) = at r v *ℤ unknowns r m
 
+-- the value of a normal form: each coefficient times its unknowns, added
 abbrev pub total : List ℤ → Poly → ℤ
 total r none = pos 0
 total r (term c m p) = c *ℤ unknowns r m +ℤ total r p
 
+-- a list of unknowns with v put before the first that is not less
 abbrev pub put : ℕ → List ℕ → List ℕ
 put v [] = v ∷ []
 put v (w ∷ m) = cond (leb v w) (v ∷ (w ∷ m)) (w ∷ put v m)
 
+-- the unknowns of two lists, those of the first put into the second one by one
 abbrev pub join : List ℕ → List ℕ → List ℕ
 join [] m = m
 join (v ∷ n) m = put v (join n m)
 
+-- whether two lists of unknowns are equal
 abbrev pub same : List ℕ → List ℕ → Bool
 same [] [] = true
 same (v ∷ m) (w ∷ n) = cond (eqb v w) (same m n) false
 same _ _ = false
 
+-- a normal form with c m added, to the first term with the unknowns m or as a new term at the end
 abbrev pub add_term : ℤ → List ℕ → Poly → Poly
 add_term c m none = term c m none
 add_term c m (term d n p) = cond (same m n) (term (c +ℤ d) n p) (term d n (add_term c m p))
 
+-- the sum of two normal forms
 abbrev pub add_all : Poly → Poly → Poly
 add_all none q = q
 add_all (term c m p) q = add_term c m (add_all p q)
 
+-- the term c m times a normal form
 abbrev pub term_times : ℤ → List ℕ → Poly → Poly
 term_times c m none = none
 term_times c m (term d n p) = add_term (c *ℤ d) (join m n) (term_times c m p)
 
+-- the product of two normal forms
 abbrev pub times_all : Poly → Poly → Poly
 times_all none q = none
 times_all (term c m p) q = add_all (term_times c m q) (times_all p q)
 
+-- an expression multiplied out
 abbrev pub norm : Expr → Poly
 norm (var k) = term (pos 1) (k ∷ []) none
 norm (con z) = term z [] none
@@ -87,10 +102,12 @@ norm (plus a b) = add_all (norm a) (norm b)
 norm (times a b) = times_all (norm a) (norm b)
 norm (minus a b) = add_all (norm a) (term_times (negsuc 0) [] (norm b))
 
+-- whether a number is 0
 abbrev pub is_zero_z : ℤ → Bool
 is_zero_z (pos zero) = true
 is_zero_z _ = false
 
+-- whether each coefficient of a normal form is 0
 abbrev pub all_zero : Poly → Bool
 all_zero none = true
 all_zero (term c m p) = cond (is_zero_z c) (all_zero p) false

@@ -27,10 +27,12 @@ counted a b (e ∷ es) Q turn h = by (same_point a e.0 && same_point b e.1) (sam
     by false false x f g (inl q) = inl q
     by false false x f g (inr e) = inr (omega (arith, ints))
 
+-- the net count from b to a is that from a to b with the opposite sign
 pub reversed_count : (a b : Point) (es : List (Point × Point)) → net_count same_point b a es ≡ neg_ℤ (net_count same_point a b es)
 reversed_count a b [] = refl
 reversed_count a b (e ∷ es) = omega (arith, ints, reversed_count a b es)
 
+-- two lists with the same net count at each edge of either have the same net counts
 pub net_is_of_its_edges : (es fs : List (Point × Point))
     → All (λ (e : Point × Point). net_count same_point e.0 e.1 es ≡ net_count same_point e.0 e.1 fs) es
     → All (λ (e : Point × Point). net_count same_point e.0 e.1 es ≡ net_count same_point e.0 e.1 fs) fs

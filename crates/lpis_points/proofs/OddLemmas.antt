@@ -19,6 +19,7 @@ crossing_of-reversed s t y o = grind (arith, ints)
 crossing_of_loop : (s y o : ℤ) → crossing_of s s y o ≡ pos 0
 crossing_of_loop s y o = grind (arith, ints)
 
+-- the crossing by a point changes sign when the edge is reversed, and is 0 on an edge from a point to itself
 pub crossing-odd : (p : RationalPoint) → IsOdd (λ a b. crossing a b p)
 unfolding crossing
 crossing-odd p = record {
@@ -26,6 +27,7 @@ crossing-odd p = record {
   loop = λ a. crossing_of_loop (a.y *ℤ p.d) p.y (orient_at a a p);
 }
 
+-- the shoelace term changes sign when the edge is reversed, and is 0 on an edge from a point to itself
 pub shoelace_term-odd : IsOdd shoelace_term
 shoelace_term-odd = record { reversed = λ a b. omega (arith, ints); loop = λ a. omega (arith, ints) }
 
@@ -37,6 +39,7 @@ pub crossing-cases : (a b : Point) (p : RationalPoint) → (crossing a b p ≡ p
 unfolding crossing
 crossing-cases a b p = crossing_of-cases (a.y *ℤ p.d) (b.y *ℤ p.d) p.y (orient_at a b p)
 
+-- a crossing is at most 1 in absolute value
 pub crossing-small : (a b : Point) (p : RationalPoint) → nat_abs (crossing a b p) ≤ 1
 crossing-small a b p = by (crossing a b p) (crossing-cases a b p)
   where

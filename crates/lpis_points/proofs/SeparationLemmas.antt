@@ -36,6 +36,7 @@ zeros_up o₁ o₂ o₃ x y z s p q r h k l e f =
 by_nought : (o z : ℤ) → z ≡ pos 0 → o *ℤ z ≡ pos 0
 by_nought o z e = rw e (omega (arith, ints))
 
+-- counter-clockwise triangles on two sides of a line have no point inside both
 pub separated_share_nothing : (line : Point × Point) (t u : Triangle) (p : RationalPoint) → IsCounterClockwise t
     → IsCounterClockwise u → Separates line t u → is_inside t p ≡ true → is_inside u p ≡ true → ⊥
 separated_share_nothing line t u p h k s e f =

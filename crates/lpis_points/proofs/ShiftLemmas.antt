@@ -17,6 +17,7 @@ shift_any a b p m = ring (unknowns_of a b a p a a m)
     ((bx ⊖ ax) ⊗ ((py ⊗ n ⊗ n ⊕ con (pos 1)) ⊖ ay ⊗ (d ⊗ n ⊗ n)) ⊖ (by_ ⊖ ay) ⊗ ((px ⊗ n ⊗ n ⊕ n) ⊖ ax ⊗ (d ⊗ n ⊗ n)))
     (n ⊗ n ⊗ side ax ay bx by_ ⊖ n ⊗ (by_ ⊖ ay) ⊕ (bx ⊖ ax)) tt
 
+-- the side of the shifted point: 10^24 times that of the point, less 10^12 times the edge's step in y, plus that in x
 pub orient_at-shifted : (a b : Point) (p : RationalPoint) → orient_at a b (shifted p) ≡ pos 1000000000000 *ℤ pos 1000000000000 *ℤ orient_at a b p -ℤ pos 1000000000000 *ℤ (b.y -ℤ a.y) +ℤ (b.x -ℤ a.x)
 unfolding orient_at
 orient_at-shifted a b p = shift_any a b p (pos 1000000000000)
@@ -42,6 +43,7 @@ not_nought : (k dx dy : ℤ) → IsStep dx → IsStep dy → (dx ≡ pos 0 → d
 not_nought k dx dy sx sy n e =
     n (omega (arith, ints, sx.low, sx.high, sy.low, sy.high)) (omega (arith, ints, sx.low, sx.high, sy.low, sy.high))
 
+-- the shifted point is off each line through two different points
 pub shifted_off : (a b : Point) (p : RationalPoint) → a ≢ b → orient_at a b (shifted p) ≢ pos 0
 shifted_off a b p n e = not_nought (orient_at a b p) (b.x -ℤ a.x) (b.y -ℤ a.y) (step_x a b) (step_y a b)
     (λ z w. n (point_eq a b (omega (arith, ints)) (omega (arith, ints)))) (sym (orient_at-shifted a b p) ∙ e)

@@ -40,6 +40,7 @@ upright_sum a b c p m = ring (unknowns_of a b c p a a m)
     (side bx by_ cx cy ⊗ (ax ⊖ n) ⊕ side cx cy ax ay ⊗ (bx ⊖ n) ⊕ side ax ay bx by_ ⊗ (cx ⊖ n))
     (turn ax ay bx by_ cx cy ⊗ (px ⊖ n ⊗ d)) tt
 
+-- the corners' distances from a level line at m, weighted by the sides of p, add up to that of p times the area
 pub level_sum : (a b c : Point) (p : RationalPoint) (m : ℤ) → orient_at b c p *ℤ (a.y -ℤ m) +ℤ orient_at c a p *ℤ (b.y -ℤ m) +ℤ orient_at a b p *ℤ (c.y -ℤ m) ≡ orient a b c *ℤ (p.y -ℤ m *ℤ p.d)
 unfolding orient orient_at
 level_sum a b c p m = ring (unknowns_of a b c p a a m)
@@ -53,6 +54,7 @@ x_by_sides a b c u v = ring (a.x ∷ a.y ∷ b.x ∷ b.y ∷ c.x ∷ c.y ∷ u.x
     ((vx ⊖ ux) ⊗ turn ax ay bx by_ cx cy)
     ((bx ⊖ ax) ⊗ (turn ux uy vx vy cx cy ⊖ turn ux uy vx vy ax ay) ⊖ (turn ux uy vx vy bx by_ ⊖ turn ux uy vx vy ax ay) ⊗ (cx ⊖ ax)) tt
 
+-- the step of a line in y, times a triangle's area, by the corners' sides to the line
 pub y_by_sides : (a b c u v : Point) → (v.y -ℤ u.y) *ℤ orient a b c ≡ (b.y -ℤ a.y) *ℤ (orient u v c -ℤ orient u v a) -ℤ (orient u v b -ℤ orient u v a) *ℤ (c.y -ℤ a.y)
 unfolding orient
 y_by_sides a b c u v = ring (a.x ∷ a.y ∷ b.x ∷ b.y ∷ c.x ∷ c.y ∷ u.x ∷ u.y ∷ v.x ∷ v.y ∷ [])
@@ -72,11 +74,13 @@ orient_same₃ : (a b : Point) → orient a b a ≡ pos 0
 unfolding orient
 orient_same₃ a b = ring (a.x ∷ a.y ∷ b.x ∷ b.y ∷ []) (turn ax ay bx by_ ax ay) (con (pos 0)) tt
 
+-- no two of three corners are the same point
 pub record CornersDiffer (a b c : Point) : Type 0 where
   pub ab : a ≢ b
   pub bc : b ≢ c
   pub ca : c ≢ a
 
+-- the corners of a counter-clockwise triangle are three different points
 pub corners_differ : (a b c : Point) → pos 0 <ℤ orient a b c → CornersDiffer a b c
 corners_differ a b c h = record {
   ab = λ e. not_zero (orient a b c) h (subst (λ (x : Point). orient a x c ≡ pos 0) e (orient_same₁ a c));
@@ -137,12 +141,14 @@ pub record Inside (t : Triangle) (p : RationalPoint) : Type 0 where
   pub bc : pos 0 <ℤ orient_at t.b t.c p
   pub ca : pos 0 <ℤ orient_at t.c t.a p
 
+-- a point inside a triangle is left of each of its three edges
 pub inside_is : (t : Triangle) (p : RationalPoint) → is_inside t p ≡ true → Inside t p
 inside_is t p e = let r = parts (orient_at t.a t.b p) (orient_at t.b t.c p) (orient_at t.c t.a p) e in record { ab = r.0; bc = r.1; ca = r.2 }
   where
     parts : (x y z : ℤ) → (int_lt (pos 0) x && int_lt (pos 0) y && int_lt (pos 0) z) ≡ true → (pos 0 <ℤ x) × (pos 0 <ℤ y) × (pos 0 <ℤ z)
     parts x y z e = grind (arith, ints)
 
+-- a counter-clockwise triangle turns once round a point inside it
 pub turns_once_inside : (t : Triangle) (p : RationalPoint) → pos 0 <ℤ p.d → IsCounterClockwise t → is_inside t p ≡ true → turns_round t p ≡ pos 1
 turns_once_inside t p h c e =
     let i = inside_is t p e in
@@ -152,6 +158,7 @@ turns_once_inside t p h c e =
     above : (x : ℤ) → pos 0 <ℤ x → x ≢ pos 0
     above x h e = omega (arith, ints)
 
+-- a counter-clockwise triangle does not turn round a point off its lines that is not inside it
 pub never_turns_outside : (t : Triangle) (p : RationalPoint) → pos 0 <ℤ p.d → IsCounterClockwise t → IsOffItsLines t p → (is_inside t p ≡ true → ⊥) → turns_round t p ≡ pos 0
 never_turns_outside t p h c o n = turns_round-is t p h c o ∙ by (is_inside t p) n
   where
@@ -159,10 +166,12 @@ never_turns_outside t p h c o n = turns_round-is t p h c o ∙ by (is_inside t p
     by true n = absurd (n refl)
     by false n = refl
 
+-- three numbers not below 0, with weights above 0, have a sum not below 0
 pub weighted_up : (o₁ o₂ o₃ x y z : ℤ) → pos 0 <ℤ o₁ → pos 0 <ℤ o₂ → pos 0 <ℤ o₃ → pos 0 ≤ℤ x → pos 0 ≤ℤ y → pos 0 ≤ℤ z → pos 0 ≤ℤ (o₁ *ℤ x +ℤ o₂ *ℤ y +ℤ o₃ *ℤ z)
 weighted_up o₁ o₂ o₃ x y z p q r h k l =
     omega (arith, ints, pos-mul-not_neg o₁ x (not_neg o₁ p) h, pos-mul-not_neg o₂ y (not_neg o₂ q) k, pos-mul-not_neg o₃ z (not_neg o₃ r) l)
 
+-- three numbers not above 0, with weights above 0, have a sum not above 0
 pub weighted_down : (o₁ o₂ o₃ x y z : ℤ) → pos 0 <ℤ o₁ → pos 0 <ℤ o₂ → pos 0 <ℤ o₃ → x ≤ℤ pos 0 → y ≤ℤ pos 0 → z ≤ℤ pos 0 → (o₁ *ℤ x +ℤ o₂ *ℤ y +ℤ o₃ *ℤ z) ≤ℤ pos 0
 weighted_down o₁ o₂ o₃ x y z p q r h k l =
     omega (arith, ints, pos-mul-not_pos o₁ x (not_neg o₁ p) h, pos-mul-not_pos o₂ y (not_neg o₂ q) k, pos-mul-not_pos o₃ z (not_neg o₃ r) l)
