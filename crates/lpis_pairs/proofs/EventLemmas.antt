@@ -14,12 +14,14 @@ pub record EventsUpTo (ts : List Triangle) (height : ℕ) (es : List Event) (n u
   pub earlier : EventsBelow ts height es n
   pub here : (strip : ℕ) (t : Triangle) → slice_get ts n ≡ Some t → (extent_of t).bottom / height ≤ strip → strip < upto → Contains es (event t n strip)
 
+-- the empty list has the events of the triangles below 0, of which there are none
 pub nothing_yet : (ts : List Triangle) (height : ℕ) (es : List Event) → es ≡ [] → EventsBelow ts height es 0
 nothing_yet ts height es e = record {
   only = subst (λ (xs : List Event). AreEvents ts xs) (sym e) (All-nil (IsEvent ts));
   all = λ i s t l. absurd (omega arith);
 }
 
+-- the events of the triangles below n are also those up to the lowest strip that the box of triangle n meets
 pub start_triangle : (ts : List Triangle) (height : ℕ) (es : List Event) (n : ℕ) (t : Triangle)
     → slice_get ts n ≡ Some t → EventsBelow ts height es n → EventsUpTo ts height es n ((extent_of t).bottom / height)
 start_triangle ts height es n t at h = record {
@@ -27,10 +29,11 @@ start_triangle ts height es n t at h = record {
   here = λ s u f l m. absurd (omega (arith, ap (λ (v : Triangle). (extent_of v).bottom / height) (same_Some u t (sym f ∙ at))));
 }
 
-pub one_more : (ts : List Triangle) (height : ℕ) (es : List Event) (n strip : ℕ) (t : Triangle)
+-- with the event of triangle n in a strip pushed, the events are those up to the next strip
+pub strip_event_pushed : (ts : List Triangle) (height : ℕ) (es : List Event) (n strip : ℕ) (t : Triangle)
     → slice_get ts n ≡ Some t → EventsUpTo ts height es n strip
     → EventsUpTo ts height (es ++ event t n strip ∷ []) n (strip + 1)
-one_more ts height es n strip t at h = record {
+strip_event_pushed ts height es n strip t at h = record {
   earlier = record {
     only = All-push (IsEvent ts) es (event t n strip) h.earlier.only (record { t = t; at = at; left = refl });
     all = λ i s u l f g k. Contains-append_left es _ _ (h.earlier.all i s u l f g k);
@@ -45,6 +48,7 @@ one_more ts height es n strip t at h = record {
         let x : event t n strip ≡ event u n s = cc in
         subst (λ (v : Event). Contains (es ++ event t n strip ∷ []) v) x (Contains-push es (event t n strip))
 
+-- past the highest strip that the box of triangle n meets, the events are those of the triangles below n + 1
 pub end_triangle : (ts : List Triangle) (height : ℕ) (es : List Event) (n upto : ℕ) (t : Triangle)
     → slice_get ts n ≡ Some t → (extent_of t).top / height + 1 ≤ upto → EventsUpTo ts height es n upto
     → EventsBelow ts height es (n + 1)
@@ -59,8 +63,9 @@ end_triangle ts height es n upto t at k h = record {
         let f' : slice_get ts n ≡ Some u = subst (λ (v : ℕ). slice_get ts v ≡ Some u) e f in
         subst (λ (v : ℕ). Contains es (event u v s)) (sym e) (h.here s u f' g (omega (arith, ap (λ (v : Triangle). (extent_of v).top / height) (same_Some u t (sym f' ∙ at)))))
 
-pub whole : (ts : List Triangle) (height : ℕ) (es : List Event) (n : ℕ) → length ts ≤ n → EventsBelow ts height es n → HasEvents ts height es
-whole ts height es n l h = record {
+-- past the last triangle, each has its event in each strip that its box meets, and there are no others
+pub all_events_made : (ts : List Triangle) (height : ℕ) (es : List Event) (n : ℕ) → length ts ≤ n → EventsBelow ts height es n → HasEvents ts height es
+all_events_made ts height es n l h = record {
   only = h.only;
   all = λ i s t f g m. h.all i s t (omega (arith, slice_get_within ts i t f)) f g m;
 }

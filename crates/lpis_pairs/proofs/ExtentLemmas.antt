@@ -10,6 +10,7 @@ use Rattle.lpis_pairs.specs.private.Strips.{offset, rounded_down, rounded_up}
 pub least_in_range : (a b c : ℤ) → IsInRange a → IsInRange b → IsInRange c → IsInRange (least a b c)
 least_in_range a b c h k l = (omega (arith, ints, clamps, h.0, k.0, l.0), omega (arith, ints, clamps, h.1, k.1, l.1))
 
+-- the greatest of three numbers in range is in range
 pub greatest_in_range : (a b c : ℤ) → IsInRange a → IsInRange b → IsInRange c → IsInRange (greatest a b c)
 greatest_in_range a b c h k l = (omega (arith, ints, clamps, h.0, k.0, l.0), omega (arith, ints, clamps, h.1, k.1, l.1))
 
@@ -29,8 +30,9 @@ begins_below y z h l = rounded_below (offset y) (offset z) (omega (arith, ints, 
 begins_upto : (y z : ℤ) → IsInRange y → y ≤ℤ z → rounded_down y ≤ rounded_up z
 begins_upto y z h l = rounded_upto (offset y) (offset z) (omega (arith, ints, h.0))
 
-pub upright : (t : Triangle) → (extent_of t).bottom ≤ (extent_of t).top
-upright t = begins_upto _ _ (least_in_range t.a.y t.b.y t.c.y t.a.y_in_range t.b.y_in_range t.c.y_in_range) (least_upto_greatest t.a.y t.b.y t.c.y)
+-- in centimetres too, a box has its bottom no higher than its top
+pub bottom_upto_top : (t : Triangle) → (extent_of t).bottom ≤ (extent_of t).top
+bottom_upto_top t = begins_upto _ _ (least_in_range t.a.y t.b.y t.c.y t.a.y_in_range t.b.y_in_range t.c.y_in_range) (least_upto_greatest t.a.y t.b.y t.c.y)
 
 -- the boxes meet inside in both directions
 pub record Meet (t u : Triangle) : Type 0 where
@@ -42,9 +44,10 @@ pub record Meet (t u : Triangle) : Type 0 where
 four : (g h k l s t u v : ℤ) → ((int_le g h || int_le k l) || (int_le s t || int_le u v)) ≡ false → (h <ℤ g) × (l <ℤ k) × (t <ℤ s) × (v <ℤ u)
 four g h k l s t u v e = (grind (arith, ints), grind (arith, ints), grind (arith, ints), grind (arith, ints))
 
-pub meet : (t u : Triangle) → are_apart t u ≡ false → Meet t u
+-- triangles that are not apart have boxes that overlap in x and in y, in centimetres too
+pub near_boxes_meet : (t u : Triangle) → are_apart t u ≡ false → Meet t u
 unfolding are_apart
-meet t u e =
+near_boxes_meet t u e =
     let f = four (box_of t).x1 (box_of u).x0 (box_of t).y1 (box_of u).y0 (box_of u).x1 (box_of t).x0 (box_of u).y1 (box_of t).y0 e in
     record {
       left = begins_below _ _ (least_in_range t.a.x t.b.x t.c.x t.a.x_in_range t.b.x_in_range t.c.x_in_range) f.2;

@@ -10,7 +10,7 @@ use Rattle.std.proofs.lemmas.List.Elements.{All-contains}
 use Rattle.std.proofs.lemmas.Option.{slice_get-get_or}
 use Rattle.lpis_pairs.specs.NearPairs.{IsNearList}
 use Rattle.lpis_pairs.specs.private.Sweeping.{HasEvents, IsRising}
-use Rattle.lpis_pairs.proofs.ExtentLemmas.{Meet, meet, upright}
+use Rattle.lpis_pairs.proofs.ExtentLemmas.{Meet, near_boxes_meet, bottom_upto_top}
 
 -- a higher place is in no lower strip
 strips_rise : (height x y : ℕ) → 0 < height → x ≤ y → x / height ≤ y / height
@@ -30,7 +30,7 @@ at_strip : (ts : List Triangle) (height : ℕ) (before es : List Event) (ps : Li
 at_strip ts height before es ps has moved join i j n s p q v w o = by_case (cases_order x.0 y.0)
   where
     m : Meet n.t n.u
-    m = meet n.t n.u n.near
+    m = near_boxes_meet n.t n.u n.near
 
     x : (k : ℕ) × (slice_get es k ≡ Some (event n.t i s))
     x = stands es (event n.t i s) (Contains-permutation before es (event n.t i s) moved (has.all i s n.t n.at_i p q))
@@ -54,10 +54,11 @@ itself a b = grind (arith, nat_tests)
 itself_first : (a b : ℕ) → (nat_eq a a || nat_eq a b) ≡ true
 itself_first a b = grind (arith, nat_tests)
 
-pub finds : (ts : List Triangle) (height : ℕ) (before es : List Event) (ps : List (ℕ × ℕ)) → 0 < height
+-- once each event is joined with all behind it, in whatever order they stand, each near pair is listed
+pub finds_near_pairs : (ts : List Triangle) (height : ℕ) (before es : List Event) (ps : List (ℕ × ℕ)) → 0 < height
     → HasEvents ts height before → IsPermutation before es → ((k m : ℕ) → k < m → Joins ts height es ps k m) → (i j : ℕ)
     → IsNear ts i j → Contains ps (i, j)
-finds ts height before es ps h has moved join i j n = by_case (split ((extent_of n.t).bottom / height) ((extent_of n.u).bottom / height))
+finds_near_pairs ts height before es ps h has moved join i j n = by_case (split ((extent_of n.t).bottom / height) ((extent_of n.u).bottom / height))
   where
     split : (x y : ℕ) → (x ≤ y) ⊎ (y ≤ x)
     split x y = grind arith
@@ -65,13 +66,13 @@ finds ts height before es ps h has moved join i j n = by_case (split ((extent_of
     by_case : ((extent_of n.t).bottom / height ≤ (extent_of n.u).bottom / height) ⊎ ((extent_of n.u).bottom / height ≤ (extent_of n.t).bottom / height) → Contains ps (i, j)
     by_case (inl l) = at_strip ts height before es ps has moved join i j n ((extent_of n.u).bottom / height) l
         (strips_rise height (extent_of n.u).bottom (extent_of n.t).top h
-        (omega (arith, (meet n.t n.u n.near).top))) (omega arith)
-        (strips_rise height (extent_of n.u).bottom (extent_of n.u).top h (upright n.u))
+        (omega (arith, (near_boxes_meet n.t n.u n.near).top))) (omega arith)
+        (strips_rise height (extent_of n.u).bottom (extent_of n.u).top h (bottom_upto_top n.u))
         (itself ((extent_of n.t).bottom / height) ((extent_of n.u).bottom / height))
     by_case (inr l) = at_strip ts height before es ps has moved join i j n ((extent_of n.t).bottom / height)
         (omega arith) (strips_rise height (extent_of n.t).bottom (extent_of n.t).top h
-        (upright n.t)) l (strips_rise height (extent_of n.t).bottom (extent_of n.u).top h
-        (omega (arith, (meet n.t n.u n.near).bottom)))
+        (bottom_upto_top n.t)) l (strips_rise height (extent_of n.t).bottom (extent_of n.u).top h
+        (omega (arith, (near_boxes_meet n.t n.u n.near).bottom)))
         (itself_first ((extent_of n.t).bottom / height) ((extent_of n.u).bottom / height))
 
 -- the whole list, in order

@@ -102,6 +102,7 @@ joins_none ts height es ps e = record {
   found = λ k m l. absurd (omega arith);
 }
 
+-- with the event n joined with all behind it, the events below n + 1 are joined
 pub joins_one_more : (ts : List Triangle) (height : ℕ) (es : List Event) (ps qs : List (ℕ × ℕ)) (n : ℕ) → JoinsBelow ts height es ps n
     → GrowNear ts ps qs → ((m : ℕ) → n < m → Joins ts height es qs n m)
     → JoinsBelow ts height es qs (n + 1)
@@ -114,5 +115,6 @@ joins_one_more ts height es ps qs n h g j = record {
     by_case i m r (inl l) = joins_kept ts height es ps qs i m g.kept (h.found i m l r)
     by_case i m r (inr e) = subst (λ (v : ℕ). Joins ts height es qs v m) (sym e) (j m (subst (λ (v : ℕ). v < m) e r))
 
+-- past the last event, each event is joined with each behind it
 pub joins_all : (ts : List Triangle) (height : ℕ) (es : List Event) (ps : List (ℕ × ℕ)) (n : ℕ) → length es ≤ n → JoinsBelow ts height es ps n → (k m : ℕ) → k < m → Joins ts height es ps k m
 joins_all ts height es ps n l h k m r = λ e f g i. h.found k m (omega (arith, slice_get_within es k e g)) r e f g i

@@ -4,8 +4,9 @@ use Rattle.lpis_pairs.proofs.Common.{Triangle, IsNear}
 use Rattle.std.proofs.lemmas.Option.{slice_get_read}
 use Rattle.lpis_points.specs.Triangles.{are_apart}
 
-pub near : (ts : List Triangle) (i j : ℕ) (t u : Triangle) → i < j → j < length ts → t ≡ get_or ts i t → u ≡ get_or ts j u → are_apart t u ≡ false → IsNear ts i j
-near ts i j t u r l e f n = record {
+-- i and j, with i below j, are a near pair where the triangles read there are not apart
+pub near_as_read : (ts : List Triangle) (i j : ℕ) (t u : Triangle) → i < j → j < length ts → t ≡ get_or ts i t → u ≡ get_or ts j u → are_apart t u ≡ false → IsNear ts i j
+near_as_read ts i j t u r l e f n = record {
   rising = r;
   t = t;
   u = u;
@@ -22,9 +23,9 @@ not_near ts i j t u l m e f n h =
     cc
 
 -- what the test answers, where i is below j
-pub decided : (ts : List Triangle) (i j : ℕ) (t u : Triangle) (r : Bool) → r ≡ not (are_apart t u) → i < j
+pub near_test_decided : (ts : List Triangle) (i j : ℕ) (t u : Triangle) (r : Bool) → r ≡ not (are_apart t u) → i < j
     → j < length ts → t ≡ get_or ts i t → u ≡ get_or ts j u → (IsTrue r → IsNear ts i j) × (IsNear ts i j → IsTrue r)
-decided ts i j t u r e l m f g = (λ h. near ts i j t u l m f g (opposite (are_apart t u) (sym e ∙ h)), λ n. by_case r refl n)
+near_test_decided ts i j t u r e l m f g = (λ h. near_as_read ts i j t u l m f g (opposite (are_apart t u) (sym e ∙ h)), λ n. by_case r refl n)
   where
     opposite : (b : Bool) → not b ≡ true → b ≡ false
     opposite true k = absurd (cc)

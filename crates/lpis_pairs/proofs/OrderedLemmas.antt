@@ -19,6 +19,7 @@ total = then_total (on_total (λ (e : Event). e.strip) nat_cmp_total)
 not_less : (s t a b : ℕ) (r : Ordering) → is_lt (ordering_then (nat_cmp t s) (ordering_then (nat_cmp b a) r)) ≡ false → (s < t) ⊎ ((s ≡ t) × (a ≤ b))
 not_less s t a b r e = grind (arith, nat_tests)
 
+-- sorted events ascend by strip, and in a strip by where boxes begin
 pub in_order : (es : List Event) → IsSorted event_cmp es → AreInOrder es
 in_order es sorted k m e f l g h =
     let far = sorted_far (λ (x y : Event). is_lt (event_cmp x y)) (ranks_by total (λ (x : Event). x)) es sorted k m e (omega arith) (slice_get_within es m f h) in

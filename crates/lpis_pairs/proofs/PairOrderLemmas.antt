@@ -14,6 +14,7 @@ use Rattle.lpis_pairs.specs.private.Sweeping.{IsRising}
 abbrev pub pair_cmp : ℕ × ℕ → ℕ × ℕ → Ordering
 pair_cmp x y = ordering_then (nat_cmp x.0 y.0) (nat_cmp x.1 y.1)
 
+-- whether both numbers of two pairs are equal
 abbrev pub pair_eq : ℕ × ℕ → ℕ × ℕ → Bool
 pair_eq x y = eqb x.0 y.0 && eqb x.1 y.1
 
@@ -48,14 +49,17 @@ equivalence = record {
 below : (a b c d : ℕ) → pair_cmp (a, b) (c, d) ≡ Less → IsBelow a b c d
 below a b c d e = grind (arith, nat_tests)
 
-pub rising : (ps : List (ℕ × ℕ)) → IsSorted pair_cmp ps → IsRising (dedup pair_eq ps)
-rising ps s k m p q l f g =
+-- sorted pairs ascend, no two of them equal, once doubles are dropped
+pub dedup_is_rising : (ps : List (ℕ × ℕ)) → IsSorted pair_cmp ps → IsRising (dedup pair_eq ps)
+dedup_is_rising ps s k m p q l f g =
     let qs = dedup pair_eq ps in
     let e = Less-from_sorted pair_cmp qs k m p (IsStrictlySortedBy-dedup total ties ps s) l (slice_get_within qs m q g) in
     below p.0 p.1 q.0 q.1 (sym (ap₂ pair_cmp (get_or_from_slice_get qs k p p f) (get_or_from_slice_get qs m q p g)) ∙ e)
 
-pub kept : (ps : List (ℕ × ℕ)) (p : ℕ × ℕ) → Contains ps p → Contains (dedup pair_eq ps) p
-kept ps p h = Contains-dedup equivalence exact ps p h
+-- a pair of a list is still in it once doubles are dropped
+pub dedup_keeps_pairs : (ps : List (ℕ × ℕ)) (p : ℕ × ℕ) → Contains ps p → Contains (dedup pair_eq ps) p
+dedup_keeps_pairs ps p h = Contains-dedup equivalence exact ps p h
 
+-- a list with its doubles dropped has no pair that was not in it before
 pub no_other : (ps : List (ℕ × ℕ)) (p : ℕ × ℕ) → Contains (dedup pair_eq ps) p → Contains ps p
 no_other ps p h = Contains-from_dedup pair_eq ps p h

@@ -4,6 +4,7 @@ use Rattle.lpis_pairs.proofs.Common.{slice_get_within, Triangle, IsNear}
 use Rattle.lpis_pairs.specs.NearPairs.{IsBelow, IsNearList}
 use Rattle.lpis_pairs.proofs.PushLemmas.{push_cases, push_old, push_new}
 
+-- the list has the near pairs before (i, j), and nothing else, ascending
 pub record NearUpTo (ts : List Triangle) (ps : List (ℕ × ℕ)) (i j : ℕ) : Type 0 where
   pub ascending : (k m : ℕ) (p q : ℕ × ℕ) → k < m → slice_get ps k ≡ Some p → slice_get ps m ≡ Some q → IsBelow p.0 p.1 q.0 q.1
   pub near : (k : ℕ) (p : ℕ × ℕ) → slice_get ps k ≡ Some p → IsNear ts p.0 p.1
@@ -14,8 +15,9 @@ pub record NearUpTo (ts : List Triangle) (ps : List (ℕ × ℕ)) (i j : ℕ) : 
 last : (i j a b : ℕ) → IsBelow a b i (j + 1) → IsBelow a b i j ⊎ ((a ≡ i) × (b ≡ j))
 last i j a b l = grind arith
 
-pub start : (ts : List Triangle) (ps : List (ℕ × ℕ)) → ps ≡ [] → NearUpTo ts ps 0 0
-start ts ps e = subst (λ (qs : List (ℕ × ℕ)). NearUpTo ts qs 0 0) (sym e) (record {
+-- the empty list has the near pairs before (0, 0), of which there are none
+pub no_pairs_yet : (ts : List Triangle) (ps : List (ℕ × ℕ)) → ps ≡ [] → NearUpTo ts ps 0 0
+no_pairs_yet ts ps e = subst (λ (qs : List (ℕ × ℕ)). NearUpTo ts qs 0 0) (sym e) (record {
   ascending = λ k m p q h f g. absurd (cc);
   near = λ k p f. absurd (cc);
   before = λ k p f. absurd (cc);
@@ -31,6 +33,7 @@ begin_row ts ps i h = record {
   all = λ a b n l. h.all a b n (let r = n.rising in grind arith);
 }
 
+-- where (i, j) is no near pair, the list that has those before it has those before (i, j + 1)
 pub passed_by : (ts : List Triangle) (ps : List (ℕ × ℕ)) (i j : ℕ) → NearUpTo ts ps i j → (IsNear ts i j → ⊥) → NearUpTo ts ps i (j + 1)
 passed_by ts ps i j h not = record {
   ascending = h.ascending;
@@ -39,8 +42,9 @@ passed_by ts ps i j h not = record {
   all = λ a b n l. elim (last i j a b l) [ inl s ↦ h.all a b n s | inr e ↦ absurd (not (rw (← e.0, ← e.1) n)) ];
 }
 
-pub pushed : (ts : List Triangle) (ps : List (ℕ × ℕ)) (i j : ℕ) → NearUpTo ts ps i j → IsNear ts i j → NearUpTo ts (ps ++ (i, j) ∷ []) i (j + 1)
-pushed ts ps i j h n = record {
+-- where (i, j) is a near pair, the list with it pushed has those before (i, j + 1)
+pub near_pair_pushed : (ts : List Triangle) (ps : List (ℕ × ℕ)) (i j : ℕ) → NearUpTo ts ps i j → IsNear ts i j → NearUpTo ts (ps ++ (i, j) ∷ []) i (j + 1)
+near_pair_pushed ts ps i j h n = record {
   ascending = λ k m p q l f g. rises k m p q l (push_cases ps (i, j) p k f) (push_cases ps (i, j) q m g);
   near = λ k p f. elim (push_cases ps (i, j) p k f) [
     | inl s ↦ h.near k p s
@@ -65,6 +69,7 @@ pushed ts ps i j h n = record {
     rises k m p q l (inr f) (inl g) = absurd (omega (arith, f.0, slice_get_within ps m q g))
     rises k m p q l (inr f) (inr g) = absurd (omega (arith, f.0, g.0))
 
+-- once j is past the last triangle, the list has the near pairs before (i + 1, 0)
 pub end_row : (ts : List Triangle) (ps : List (ℕ × ℕ)) (i j : ℕ) → length ts ≤ j → NearUpTo ts ps i j → NearUpTo ts ps (i + 1) 0
 end_row ts ps i j e h = record {
   ascending = h.ascending;
@@ -73,8 +78,9 @@ end_row ts ps i j e h = record {
   all = λ a b n l. h.all a b n (let s = slice_get_within ts b n.u n.at_j in grind arith);
 }
 
-pub whole : (ts : List Triangle) (ps : List (ℕ × ℕ)) (i : ℕ) → length ts ≤ i → NearUpTo ts ps i 0 → IsNearList ts ps
-whole ts ps i e h = record {
+-- once i is past the last triangle, the list has all near pairs, and nothing else, ascending
+pub all_near_listed : (ts : List Triangle) (ps : List (ℕ × ℕ)) (i : ℕ) → length ts ≤ i → NearUpTo ts ps i 0 → IsNearList ts ps
+all_near_listed ts ps i e h = record {
   ascending = h.ascending;
   near = h.near;
   all = λ a b n. h.all a b n (inl (omega (arith, n.rising, slice_get_within ts b n.u n.at_j)));

@@ -2,7 +2,7 @@ use Rattle.std.proofs.Common.{◌≡◌, ◌+◌, ◌/◌, ◌≤◌, List, [], 
 use Rattle.lpis_pairs.proofs.Common.{Event, event}
 use Rattle.std.proofs.lemmas.Option.{slice_get_read}
 use Rattle.lpis_pairs.specs.declared.extents.Extent.{Extent}
-use Rattle.lpis_pairs.proofs.EventLemmas.{EventsUpTo, nothing_yet, start_triangle, one_more, end_triangle, whole}
+use Rattle.lpis_pairs.proofs.EventLemmas.{EventsUpTo, nothing_yet, start_triangle, strip_event_pushed, end_triangle, all_events_made}
 use Rattle.lpis_pairs.proofs.events.events_of.Goals as goal
 
 pub loop-i-init : goal.loop-i-init
@@ -29,7 +29,7 @@ loop-strip-preserved c =
     let at = slice_get_read ts (length ts) i t refl c.loop-i-test.true c.index-triangles-i.is in
     let made = ap (λ (s : Extent). es ++ record { strip = strip; left = s.left; index = i } ∷ []) c.extent_of-extent.ensures in
     let e : c.push.new.self.items ≡ es ++ event t i strip ∷ [] = c.in_ok-push.ensures.items ∙ made in
-    subst (λ (xs : List Event). EventsUpTo ts height xs i (strip + 1)) (sym e) (one_more ts height es i strip t at c.loop-strip.invariant)
+    subst (λ (xs : List Event). EventsUpTo ts height xs i (strip + 1)) (sym e) (strip_event_pushed ts height es i strip t at c.loop-strip.invariant)
 
 pub loop-i-preserved : goal.loop-i-preserved
 loop-i-preserved c =
@@ -43,4 +43,4 @@ loop-i-preserved c =
     end_triangle ts height es i c.loop-strip.strip t at past c.loop-strip.invariant
 
 pub returns : goal.returns
-returns c = whole c.args.triangles.now c.args.height c.loop-i.events.items c.loop-i.i c.loop-i-test.false c.loop-i.invariant
+returns c = all_events_made c.args.triangles.now c.args.height c.loop-i.events.items c.loop-i.i c.loop-i-test.false c.loop-i.invariant

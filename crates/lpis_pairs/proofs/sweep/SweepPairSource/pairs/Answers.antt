@@ -3,7 +3,7 @@ use Rattle.lpis_pairs.proofs.Common.{Event, Joins}
 use Rattle.std.proofs.lemmas.List.Sorted.{All-permutation}
 use Rattle.lpis_pairs.specs.private.Sweeping.{AreSwept, IsEvent}
 use Rattle.lpis_pairs.proofs.OrderedLemmas.{in_order}
-use Rattle.lpis_pairs.proofs.FoundLemmas.{finds, near_list}
+use Rattle.lpis_pairs.proofs.FoundLemmas.{finds_near_pairs, near_list}
 use Rattle.lpis_pairs.proofs.sweep.SweepPairSource.pairs.Goals as goal
 
 pub join-requires : goal.join-requires
@@ -25,5 +25,5 @@ returns c =
     let ps = c.in_ok-pairs.pairs.items in
     let joined = subst (λ (xs : List Event). (k m : ℕ) → k < m → Joins ts c.strip_height-height.result xs ps k m) c.deref.ensures.value c.in_ok-pairs.ensures.found in
     near_list ts ps c.in_order.result.items c.in_ok-pairs.ensures.near
-    (finds ts c.strip_height-height.result before es ps c.strip_height-height.ensures c.in_ok-events.ensures
+    (finds_near_pairs ts c.strip_height-height.result before es ps c.strip_height-height.ensures c.in_ok-events.ensures
     c.sort_unstable.ensures.permutation joined) c.in_order.ensures.rising c.in_order.ensures.same
