@@ -13,6 +13,7 @@ use Rattle.lpis_rings.specs.private.Margins.{ring_product_margin}
 pub coordinate-is : (x : ℤ) → IsInRange x → to_z w64 (of_z w64 x) ≡ x
 coordinate-is x h = let f : SFits w64 x = omega (arith, ints) in to_z-of_z w64 x f
 
+-- two numbers no larger than a product of coordinates have a difference that fits 128 bits
 pub term-fits : (p q : ℤ) → nat_abs p ≤ ring_product_margin → nat_abs q ≤ ring_product_margin → FitsSigned w128 (to_z w128 (of_z w128 p) -ℤ to_z w128 (of_z w128 q))
 term-fits p q h k =
     let f : SFits w128 p = omega (arith, ints) in
@@ -21,6 +22,7 @@ term-fits p q h k =
     let d = to_z-of_z w128 q g in
     rw (e, d) (omega (arith, ints))
 
+-- in 128 bits, numbers no larger than a product of coordinates have their exact difference, at most the greatest term
 pub term-is : (p q : ℤ) → nat_abs p ≤ ring_product_margin → nat_abs q ≤ ring_product_margin
     → (to_z w128 (of_z w128 (to_z w128 (of_z w128 p) -ℤ to_z w128 (of_z w128 q))) ≡ p -ℤ q) × (nat_abs (p -ℤ q) ≤ most_term)
 term-is p q h k =
@@ -75,6 +77,7 @@ edge-more s i ps a b some h e f total =
 nothing-more : (s : ℤ) → s ≡ s +ℤ pos 0
 nothing-more s = omega (arith, ints)
 
+-- once the index is past the last point, the sum so far is the shoelace sum of the ring
 pub edges-done : (s : ℤ) (i : ℕ) (ps : List Point) → length ps ≤ i → s +ℤ edge_sum shoelace_term (steps (drop (i - 1) ps)) ≡ shoelace ps → s ≡ shoelace ps
 edges-done s i ps h total = nothing-more s ∙ ap (λ (es : List (Point × Point)). s +ℤ edge_sum shoelace_term es) (sym (no_steps i ps h)) ∙ total
 
@@ -87,6 +90,7 @@ points_in-more rings i ring h e =
     let le = sum_by_more_le length rings i ring h in
     (omega arith, omega arith)
 
+-- one more member adds its points to the sum, which stays at most that of all members
 pub points_of-more : (members : List Member) (i : ℕ) (m : Member) → i < length members → m ≡ get_or members i m
     → (points_of (take (i + 1) members) ≡ points_of (take i members) + member_points m) × (points_of (take i members) + member_points m ≤ points_of members)
 points_of-more members i m h e =

@@ -13,7 +13,7 @@ use Rattle.lpis_points.specs.Sums.{int_sum_by}
 use Rattle.lpis_points.proofs.Shared.{int_sum_by-append, int_sum_by-flat_map, int_sum_by-not_neg, int_sum_by-same, crossing-odd, shifted_off, crossing-shifted, corners_differ, turns_round-is}
 use Rattle.lpis_points.proofs.Shared.{flats_never_turn, apart_share_nothing, separated_share_nothing}
 use Rattle.lpis_rings.specs.Map.{edges_of_triangles, KeepApart, AllKeepApart, IsCut, inside_count, CutPiece, IsCutPiece, all_triangles, all_edges, all_turns, IsOneOrNone}
-use Rattle.lpis_rings.proofs.AreaByTrianglesLemmas.{triangles_sum, no_sum, chained}
+use Rattle.lpis_rings.proofs.AreaByTrianglesLemmas.{triangles_sum, no_sum, sum_without_flats}
 
 -- a point off every line through two points
 pub record Free (s : RationalPoint) : Type 0 where
@@ -60,7 +60,7 @@ triangles_turn ts s d o h = triangles_sum (λ a b. crossing a b s) (inside_at s)
 -- edges with the net counts of others and of flats turn as those do
 turned : (es fs : List (Point × Point)) (flats : List Triangle) (s : RationalPoint) → pos 0 <ℤ s.d → AllOff flats s
     → All IsFlat flats → SameNet same_point es (fs ++ edges_of_triangles flats) → edge_turns es s ≡ edge_turns fs s
-turned es fs flats s d o h n = chained (λ a b. crossing a b s) (crossing-odd s) es fs flats
+turned es fs flats s d o h n = sum_without_flats (λ a b. crossing a b s) (crossing-odd s) es fs flats
     (no_sum (λ a b. crossing a b s) flats (λ k e l. flats_never_turn (get_or flats k e) s d (h k e l).line (o k e l))) n
 
 cut_turns_off : (es : List (Point × Point)) (ts flats : List Triangle) (s : RationalPoint) → pos 0 <ℤ s.d → AllOff ts s → AllOff flats s → IsCut es ts flats → edge_turns es s ≡ inside_sum ts s
@@ -159,6 +159,7 @@ each_piece (p ∷ ps) s f h o =
     (subst IsOneOrNone (sym (cut_turns p.edges p.triangles p.flats s f (All-head IsCutPiece p ps h))) r.0)
     (each_piece ps s f (All-tail IsCutPiece p ps h) r.1)
 
+-- pieces whose triangles keep apart turn once or not at all round each point, and so do all together
 pub pieces_share_nothing : (ps : List CutPiece) → All IsCutPiece ps → AllKeepApart (all_triangles ps) → (s : RationalPoint)
     → pos 0 <ℤ s.d → All (λ p. IsOneOrNone (edge_turns p.edges s)) ps × IsOneOrNone (all_turns ps s)
 pieces_share_nothing ps h k s d =
@@ -167,6 +168,7 @@ pieces_share_nothing ps h k s d =
     let e = each_piece ps (shifted s) f h o in
     (λ i q l. subst IsOneOrNone (edge_turns-shifted (get_or ps i q).edges s d) (e i q l), subst IsOneOrNone (sym (all_turns_count ps (shifted s) f h) ∙ all_turns-shifted ps s d) o)
 
+-- edges with the net counts of those of pieces and flats turn round each point as the pieces together
 pub parcel_is_its_pieces : (es : List (Point × Point)) (flats : List Triangle) (ps : List CutPiece) → All IsFlat flats
     → SameNet same_point es (all_edges ps ++ edges_of_triangles flats) → (s : RationalPoint) → pos 0 <ℤ s.d
     → edge_turns es s ≡ all_turns ps s

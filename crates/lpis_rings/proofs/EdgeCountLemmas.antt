@@ -31,6 +31,7 @@ holes-few (h ∷ hs) = omega (arith, length-append (hole_edges h) (flat_map hole
 member-few : (m : Member) → length (member_edges m) ≤ member_points m
 member-few m = omega (arith, length-append (shell_edges m.shell) (flat_map hole_edges m.holes), shell_edges-few m.shell, holes-few m.holes)
 
+-- a polygon has no more edges than points
 pub edges_few : (members : List Member) → length (edges_of members) ≤ points_of members
 edges_few [] = omega arith
 edges_few (m ∷ ms) = omega (arith, length-append (member_edges m) (edges_of ms), member-few m, edges_few ms, sum_by-cons member_points m ms)

@@ -30,6 +30,7 @@ even_rest (e ∷ es) p = by (crossing e.0 e.1 p) (crossing-cases e.0 e.1 p) (edg
 same_parity : (x : ℤ) (n k : ℕ) → x +ℤ pos (2 * k) ≡ pos n → n % 2 ≡ nat_abs x % 2
 same_parity x n k h = omega (arith, ints)
 
+-- a polygon contains a point exactly where its turns round the point are odd
 pub contains_by_odd_turns : (ms : List Member) (p : RationalPoint) → Contains ms p ↔ (nat_abs (turns ms p) % 2 ≡ 1)
 contains_by_odd_turns ms p = (λ h. sym e ∙ h, λ h. e ∙ h)
   where
@@ -39,6 +40,7 @@ contains_by_odd_turns ms p = (λ h. sym e ∙ h, λ h. e ∙ h)
     e : length (crossed (edges_of ms) p) % 2 ≡ nat_abs (turns ms p) % 2
     e = same_parity (turns ms p) (length (crossed (edges_of ms) p)) r.0 r.1
 
+-- where the turns round a point are 0 or 1, a polygon contains the point exactly if they are 1
 pub contains_by_one_turn : (ms : List Member) (p : RationalPoint) → IsOneOrNone (turns ms p) → Contains ms p ↔ (turns ms p ≡ pos 1)
 contains_by_one_turn ms p o = let c = contains_by_odd_turns ms p in (λ h. (by (turns ms p) o).0 (c.0 h), λ h. c.1 ((by (turns ms p) o).1 h))
   where

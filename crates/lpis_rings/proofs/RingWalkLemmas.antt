@@ -11,6 +11,7 @@ joined-holes : (holes : List (List Point)) → joined_walks (map hole_edges hole
 joined-holes [] = refl
 joined-holes (h ∷ hs) = ap (λ (es : List (Point × Point)). hole_edges h ++ es) (joined-holes hs)
 
+-- the walks of a polygon, one after another, are its edges
 pub joined-walks : (members : List Member) → joined_walks (walks_of members) ≡ edges_of members
 joined-walks [] = refl
 joined-walks (m ∷ ms) =
