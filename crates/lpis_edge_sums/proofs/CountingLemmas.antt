@@ -22,21 +22,27 @@ pub record Found {A : Type 0} (P : A → Type 0) (xs : List A) : Type 0 where
   pub at : slice_get xs index ≡ Some item
   pub has : P item
 
+-- where an item with the property is found by its index, some item has it
 pub found_any : {A : Type 0} (P : A → Type 0) (xs : List A) → Found P xs → Any P xs
 found_any P xs f = (f.index, f.item, slice_get_within xs f.index f.item f.at, get_or_from_slice_get xs f.index f.item f.item f.at, f.has)
 
+-- where some item has the property, one is found by its index
 pub any_found : {A : Type 0} (P : A → Type 0) (xs : List A) → Any P xs → Found P xs
 any_found P xs a = record { index = a.0; item = a.1; at = slice_get-get_or xs a.0 a.1 a.2 ∙ ap Some a.3; has = a.4 }
 
+-- the item at an index has what all items have
 pub all_at : {A : Type 0} (P : A → Type 0) (xs : List A) (k : ℕ) (x : A) → slice_get xs k ≡ Some x → All P xs → P x
 all_at P xs k x e h = subst P (get_or_from_slice_get xs k x x e) (h k x (slice_get_within xs k x e))
 
+-- all items have what the item at each index has
 pub all_from : {A : Type 0} (P : A → Type 0) (xs : List A) → ((k : ℕ) (x : A) → slice_get xs k ≡ Some x → P x) → All P xs
 all_from P xs h k d l = h k (get_or xs k d) (slice_get-get_or xs k d l)
 
+-- what all items of two lists joined have, those of the first have
 pub all_left : {A : Type 0} (P : A → Type 0) (xs ys : List A) → All P (xs ++ ys) → All P xs
 all_left P xs ys h = λ k d l. All-contains P (xs ++ ys) (get_or xs k d) h (Contains-append_left xs ys (get_or xs k d) (Contains-get_or xs k d l))
 
+-- what all items of two lists joined have, those of the second have
 pub all_right : {A : Type 0} (P : A → Type 0) (xs ys : List A) → All P (xs ++ ys) → All P ys
 all_right P xs ys h = λ k d l. All-contains P (xs ++ ys) (get_or ys k d) h (Contains-append_right xs ys (get_or ys k d) (Contains-get_or ys k d l))
 
@@ -72,6 +78,7 @@ not_negs g xs h = All-weaker (λ x. IsOneOrNone (g x)) (λ x. pos 0 ≤ℤ g x) 
     by a (inl e) = omega (arith, ints)
     by a (inr e) = omega (arith, ints)
 
+-- terms of 0 or 1 with a sum of 0 or 1 have such a sum too where a filter keeps only some of them
 pub one_of_some : {A : Type 0} (g : A → ℤ) (q : A → Bool) (xs : List A) → All (λ x. IsOneOrNone (g x)) xs → IsOneOrNone (int_sum_by g xs) → IsOneOrNone (int_sum_by g (filter q xs))
 one_of_some g q xs h o = by (int_sum_by g (filter q xs)) (int_sum_by g xs) (total-filter g q xs (not_negs g xs h)) o
   where
@@ -104,6 +111,7 @@ rest_one a b (inl e) k (inr f) = inr (omega (arith, ints))
 rest_one a b (inr e) k (inl f) = absurd (omega (arith, ints))
 rest_one a b (inr e) k (inr f) = inl (omega (arith, ints))
 
+-- where terms of 0 or 1 have a sum of 0 or 1, at most one of them is 1
 pub at_most_one : {A : Type 0} (g : A → ℤ) (xs : List A) → All (λ y. IsOneOrNone (g y)) xs → IsOneOrNone (int_sum_by g xs) → AtMostOne (λ x. g x ≡ pos 1) xs
 at_most_one g [] h o i j a b e f p q = absurd (none-some a e)
 at_most_one g (x ∷ xs) h o zero zero a b e f p q = refl
@@ -131,6 +139,7 @@ one_found {A} g (x ∷ xs) h e = by (All-head (λ z. IsOneOrNone (g z)) x xs h) 
     by (inl z) k = later (k (rest (g x) (int_sum_by g xs) z e))
     by (inr o) k = record { index = 0; item = x; at = refl; has = o }
 
+-- where terms of 0 or 1 have a sum of 0 or 1, and one of them is 1, the sum is 1
 pub total_one : {A : Type 0} (g : A → ℤ) (xs : List A) → All (λ y. IsOneOrNone (g y)) xs → IsOneOrNone (int_sum_by g xs) → Found (λ x. g x ≡ pos 1) xs → int_sum_by g xs ≡ pos 1
 total_one g xs h o f = by (int_sum_by g xs) (at_least g xs f.index f.item h f.at f.has) o
   where
@@ -162,11 +171,13 @@ few_total {A} g (x ∷ xs) h m = by (g x) (int_sum_by g xs) refl (All-head (λ z
     by a t e (inr z) (inr n) = absurd (second (sym e ∙ z) (one_found g xs rest n))
 
 -- ---- what a filter keeps
+-- an item of the list, by its index, that passes the test
 pub record Kept {A : Type 0} (q : A → Bool) (xs : List A) (x : A) : Type 0 where
   pub index : ℕ
   pub at : slice_get xs index ≡ Some x
   pub passes : q x ≡ true
 
+-- what a filter has at an index is an item of the list that passes the test
 pub filter_kept : {A : Type 0} (q : A → Bool) (xs : List A) (k : ℕ) (x : A) → slice_get (filter q xs) k ≡ Some x → Kept q xs x
 filter_kept q [] k x e = absurd (none-some x e)
 filter_kept {A} q (y ∷ ys) k x e = by (q y) refl k e (λ m f. filter_kept q ys m x f)

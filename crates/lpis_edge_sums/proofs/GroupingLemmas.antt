@@ -9,6 +9,7 @@ use Rattle.std.proofs.lemmas.List.Sorted.{sorted_far, ranks_by}
 use Rattle.lpis_edge_sums.specs.private.SignedEdges.{same_ends}
 use Rattle.lpis_edge_sums.proofs.PointOrderLemmas.{both_same, point_total, point_tie}
 
+-- the derived order of signed edges: by the lesser point, then by the greater, then by the direction
 abbrev pub edge_order : SignedEdge → SignedEdge → Ordering
 edge_order x y = ordering_then (point_order x.low y.low) (ordering_then (point_order x.high y.high) (bool_cmp x.forward y.forward))
 
@@ -37,7 +38,8 @@ not_less xs s i j x y l e f =
     weaker : i < j → i ≤ j
     weaker l = omega arith
 
-pub grouped : (xs : List SignedEdge) → IsSorted edge_order xs → IsGrouped xs
-grouped xs s i j k x y z l m e f g h =
+-- in sorted edges those with the same ends stand together
+pub sorted_is_grouped : (xs : List SignedEdge) → IsSorted edge_order xs → IsGrouped xs
+sorted_is_grouped xs s i j k x y z l m e f g h =
     let r = (both_same x.low z.low x.high z.high).0 h in
     edge_tie x y z (not_less xs s i j x y l e f) (not_less xs s j k y z m f g) r.0 r.1

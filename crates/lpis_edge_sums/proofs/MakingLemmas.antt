@@ -36,11 +36,13 @@ bare_net : (whole : List Member) (parts : List (List Member)) (flats : List Tria
     → SameNet same_point (edges_of whole) (all_edges (bare parts) ++ edges_of_triangles flats)
 bare_net whole parts flats n = subst (λ (es : List (Point × Point)). SameNet same_point (edges_of whole) (es ++ edges_of_triangles flats)) (sym (bare_edges parts)) n
 
+-- a whole whose edges cancel against those of its parts and of flats turns as its parts together
 pub turns_as_parts : (whole : List Member) (parts : List (List Member)) (flats : List Triangle) → All IsFlat flats → EdgesCancel whole parts flats → TurnsAsParts whole parts
 turns_as_parts whole parts flats h n = record {
   turns_add = λ p d. parcel_is_its_pieces (edges_of whole) flats (bare parts) h (bare_net whole parts flats n) p d ∙ bare_turns parts p;
 }
 
+-- a whole whose edges cancel against those of its parts and of flats has the areas of its parts, added
 pub area_as_parts : (whole : List Member) (parts : List (List Member)) (flats : List Triangle) → All IsFlat flats → EdgesCancel whole parts flats → area2 whole ≡ int_sum_by area2 parts
 area_as_parts whole parts flats h n =
     sym (area2_is whole) ∙ area_is_of_its_pieces (edges_of whole) flats (bare parts) h (bare_net whole parts flats n) ∙ bare_areas parts
@@ -84,11 +86,13 @@ made_at whole parts p t h o = (λ c. (some c, few), λ x. inside x.0)
         (contains_by_one_turn whole p o).1 (t ∙ total_one (turns_at p) parts h sum
         (record { index = f.index; item = f.item; at = f.at; has = (in_part f.item (all_at (OneAt p) parts f.index f.item f.at h)).0 f.has }))
 
+-- a whole that turns as its parts together is made up of them where it and each part turn once at most
 pub merge_is_exact : (whole : List Member) (parts : List (List Member)) → TurnsAsParts whole parts → TurnsAtMostOnce whole → All TurnsAtMostOnce parts → IsMadeUpOf whole parts
 merge_is_exact whole parts t o h = record {
   contains = λ p d. made_at whole parts p (t.turns_add p d) (once_at p d parts h) (o.turns p d);
 }
 
+-- a whole that turns as its parts together is made up of them where each turns once at most and no two share a point
 pub split_is_exact : (whole : List Member) (parts : List (List Member)) → TurnsAsParts whole parts → All TurnsAtMostOnce parts
     → ((p : RationalPoint) → pos 0 <ℤ p.d → AtMostOne (IsIn p) parts) → IsMadeUpOf whole parts
 split_is_exact whole parts t h m = record { contains = λ p d. at p d }

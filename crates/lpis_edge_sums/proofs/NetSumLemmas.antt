@@ -100,8 +100,9 @@ alone false z = refl
 one_count : (p q a b : Point) → low_count p q ((a, b) ∷ []) ≡ adds p q a b
 one_count p q a b = alone (is_low p q) (is_edge same_point p q a b -ℤ is_edge same_point q p a b)
 
-pub pushed : (t : Bool) (a b : Point) (e : SignedEdge) (xs ys : List SignedEdge) → IsSigned a b t (Some e) → ys ≡ xs ++ e ∷ [] → Grows t ((a, b) ∷ []) xs ys
-pushed t a b e xs ys h k = record {
+-- with its signed edge pushed, the sums grow by the edge from a to b, or shrink by it
+pub grows_by_pushed : (t : Bool) (a b : Point) (e : SignedEdge) (xs ys : List SignedEdge) → IsSigned a b t (Some e) → ys ≡ xs ++ e ∷ [] → Grows t ((a, b) ∷ []) xs ys
+grows_by_pushed t a b e xs ys h k = record {
   sums = λ p q.
       ap (sum_at p q) k ∙ sum_at-append p q xs (e ∷ []) ∙ ap (λ (z : ℤ). sum_at p q xs +ℤ z)
       (last (cond (is_at p q e) (edge_sign e) (pos 0)) ∙ edge_adds a b t e h p q
@@ -111,8 +112,9 @@ pushed t a b e xs ys h k = record {
     last : (z : ℤ) → z +ℤ pos 0 ≡ z
     last z = omega (arith, ints)
 
-pub passed : {xs ys : List SignedEdge} (t : Bool) (a b : Point) → IsSigned a b t None → ys ≡ xs → Grows t ((a, b) ∷ []) xs ys
-passed {xs} {ys} t a b h k =
+-- a list that stays as it is has grown by an edge from a point to itself
+pub grows_by_loop : {xs ys : List SignedEdge} (t : Bool) (a b : Point) → IsSigned a b t None → ys ≡ xs → Grows t ((a, b) ∷ []) xs ys
+grows_by_loop {xs} {ys} t a b h k =
     record {
       sums = λ p q. same (sum_at p q xs) (sum_at p q ys) (signed_by t (low_count p q ((a, b) ∷ [])))
           (ap (sum_at p q) k) (ap (signed_by t) (one_count p q a b) ∙ loop_adds a b t h p q);
@@ -154,9 +156,11 @@ grows_then {t} {es} {fs} {xs} {ys} {zs} h k =
 pub record Growing (added : Bool) (left all : List (Point × Point)) (old now : List SignedEdge) : Type 0 where
   pub sums : (a b : Point) → sum_at a b now +ℤ signed_by added (low_count a b left) ≡ sum_at a b old +ℤ signed_by added (low_count a b all)
 
+-- at the start of a list of edges all are left, and no sum has changed
 pub growing_none : {left all : List (Point × Point)} {xs : List SignedEdge} (t : Bool) → left ≡ all → Growing t left all xs xs
 growing_none {xs = xs} t e = record { sums = λ p q. ap (λ (es : List (Point × Point)). sum_at p q xs +ℤ signed_by t (low_count p q es)) e }
 
+-- once the sums have grown by the first of the edges that are left, only those behind them are left
 pub growing_more : {t : Bool} {es left next all : List (Point × Point)} {xs ys zs : List SignedEdge} → left ≡ es ++ next → Growing t left all xs ys → Grows t es ys zs → Growing t next all xs zs
 growing_more {t} {es} {left} {next} {all} {xs} {ys} {zs} e h k =
     record {
@@ -169,6 +173,7 @@ growing_more {t} {es} {left} {next} {all} {xs} {ys} {zs} e h k =
     by : (b c x y z w : ℤ) → b +ℤ z ≡ w → c ≡ b +ℤ x → z ≡ x +ℤ y → c +ℤ y ≡ w
     by b c x y z w e f g = omega (arith, ints)
 
+-- where no edges are left, the sums have grown by all of them
 pub growing_all : {t : Bool} {left all : List (Point × Point)} {xs ys : List SignedEdge} → left ≡ [] → Growing t left all xs ys → Grows t all xs ys
 growing_all {t} {all = all} {xs} {ys} e h =
     record {

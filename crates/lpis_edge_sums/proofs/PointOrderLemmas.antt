@@ -20,9 +20,11 @@ both_same a b c d = (
     parts false q e = cc
 
 -- ---- the order of points
+-- the derived order of points is total
 pub point_total : IsTotalOrder point_order
 point_total = then_total (on_total (λ (p : Point). p.x) int_cmp_total) (on_total (λ (p : Point). p.y) int_cmp_total)
 
+-- where a is less than b, b is not less than a
 pub low_asym : (a b : Point) → is_low a b ≡ true → is_low b a ≡ false
 low_asym a b h = ap is_lt (point_total.antisymm b a) ∙ turned (point_order a b) h
   where
@@ -58,6 +60,7 @@ point_tie a b o p h k =
     let s = tie a.y b.y o p r.1 r.2 in
     (point_eq a b r.0 s.0, s.1, s.2)
 
+-- points of which neither is less are equal
 pub point_tie_alone : (a b : Point) → is_low a b ≡ false → is_low b a ≡ false → a ≡ b
 point_tie_alone a b h k = (point_tie a b Equal Equal (ap is_lt (last (point_order a b)) ∙ h) (ap is_lt (last (point_order b a)) ∙ k)).0
   where
@@ -66,5 +69,6 @@ point_tie_alone a b h k = (point_tie a b Equal Equal (ap is_lt (last (point_orde
     last Equal = refl
     last Greater = refl
 
+-- points that the order has as equal are equal
 pub same_in_order : (a b : Point) → point_order a b ≡ Equal → a ≡ b
 same_in_order a b e = point_tie_alone a b (ap is_lt e) (ap is_lt (point_total.antisymm b a ∙ ap ordering_reverse e))

@@ -31,10 +31,10 @@ unsplit xs x i h w = elim (by_index w.0 i) [
     greater f = cc
 
 -- a binary search finds exactly what is among them
-pub found : (xs : List Point) (x : Point) (r : Result ℕ ℕ) → IsSorted point_order xs → IsSearchInRange r (length xs)
+pub search_finds_members : (xs : List Point) (x : Point) (r : Result ℕ ℕ) → IsSorted point_order xs → IsSearchInRange r (length xs)
     → IsBinarySearchResult (λ y. point_order y x) xs r → IsTrue (is_ok r) ↔ Contains xs x
-found xs x (Ok i) s b h = (λ e. (i, b, same_in_order (get_or xs i x) x (h x)), λ w. refl)
-found xs x (Err i) s b h = (λ e. absurd (never e), λ w. absurd (unsplit xs x i (h (searchable_from_sorted point_total (λ (p : Point). p) xs x s)) w))
+search_finds_members xs x (Ok i) s b h = (λ e. (i, b, same_in_order (get_or xs i x) x (h x)), λ w. refl)
+search_finds_members xs x (Err i) s b h = (λ e. absurd (never e), λ w. absurd (unsplit xs x i (h (searchable_from_sorted point_total (λ (p : Point). p) xs x s)) w))
   where
     never : false ≡ true → ⊥
     never e = cc
@@ -43,6 +43,7 @@ found xs x (Err i) s b h = (λ e. absurd (never e), λ w. absurd (unsplit xs x i
 pub both_have : (points : List Point) (ts us : List Triangle) (b : Bool) → HaveCorners points ts → (IsTrue b ↔ HaveCorners points us) → IsTrue b ↔ HaveCorners points (ts ++ us)
 both_have points ts us b h k = (λ e. All-append (HasCorners points) ts us h (k.0 e), λ w. k.1 (all_right (HasCorners points) ts us w))
 
+-- where not all corners of the first list of triangles are among the points, not all of both lists are
 pub first_lacks : (points : List Point) (ts us : List Triangle) → (HaveCorners points ts → ⊥) → IsTrue false ↔ HaveCorners points (ts ++ us)
 first_lacks points ts us h = (λ e. absurd (never e), λ w. absurd (h (all_left (HasCorners points) ts us w)))
   where

@@ -18,6 +18,7 @@ same_at x y h a b =
 at_itself : (x : SignedEdge) → is_at x.low x.high x ≡ true
 at_itself x = (both_same x.low x.low x.high x.high).1 (refl, refl)
 
+-- the sum of the signs between a and b over two lists joined is the two sums added
 pub sum_at-append : (a b : Point) (xs ys : List SignedEdge) → sum_at a b (xs ++ ys) ≡ sum_at a b xs +ℤ sum_at a b ys
 sum_at-append a b [] ys = from (sum_at a b ys)
   where
@@ -28,6 +29,7 @@ sum_at-append a b (x ∷ xs) ys = joined (cond (is_at a b x) (edge_sign x) (pos 
     joined : (x y z w : ℤ) → w ≡ y +ℤ z → x +ℤ w ≡ (x +ℤ y) +ℤ z
     joined x y z w e = omega (arith, ints)
 
+-- whether the next edge, if there is one, lies between a and b
 abbrev pub is_next : Point → Point → Option SignedEdge → Bool
 is_next a b None = false
 is_next a b (Some x) = is_at a b x
@@ -37,6 +39,7 @@ pub record WalkAt (xs : List SignedEdge) (k : ℕ) (sum : ℤ) : Type 0 where
   pub sums : (a b : Point) → sum_at a b (take k xs) ≡ cond (is_next a b (slice_get xs k)) sum (pos 0)
   pub small : nat_abs sum ≤ k
 
+-- before the first edge the open run has the sum 0
 pub walk_none : (xs : List SignedEdge) → WalkAt xs 0 (pos 0)
 walk_none xs = record { sums = λ a b. nothing (is_next a b (slice_get xs 0)); small = omega (arith, ints) }
   where
@@ -98,6 +101,7 @@ walk_on xs k sum x w e not = record {
         by true t = same_at x y t a b
         by false t = absurd (not (λ u v g h. ap₂ (λ (p q : SignedEdge). same_ends p q) (same_Some u x (sym g ∙ e)) (same_Some v y (sym h ∙ f)) ∙ t))
 
+-- past the last edge, the signs between any two points add up to 0
 pub walk_all : (xs : List SignedEdge) (k : ℕ) (sum : ℤ) → length xs ≤ k → WalkAt xs k sum → SumsAreZero xs
 walk_all xs k sum l w a b = ap (sum_at a b) (sym (take_all k xs l)) ∙ w.sums a b ∙ ap (λ (o : Option SignedEdge). cond (is_next a b o) sum (pos 0)) (slice_get_past xs k l)
 
@@ -185,5 +189,6 @@ counted a b (x ∷ xs) = by (is_at a b x) x.forward (sum_at a b xs) (sum_by (ahe
     by false true v m n k l e f g = omega (arith, ints)
     by false false v m n k l e f g = omega (arith, ints)
 
+-- the sum of the signs between a and b is the same in any order of the edges
 pub sum_at-permutation : (a b : Point) (xs ys : List SignedEdge) → IsPermutation xs ys → sum_at a b ys ≡ sum_at a b xs
 sum_at-permutation a b xs ys p = counted a b ys ∙ ap₂ (λ (m n : ℕ). pos m -ℤ pos n) (sum_by-IsPermutation (ahead a b) xs ys p) (sum_by-IsPermutation (back a b) xs ys p) ∙ sym (counted a b xs)

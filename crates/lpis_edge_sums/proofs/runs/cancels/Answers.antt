@@ -1,13 +1,13 @@
 use Rattle.std.proofs.Common.{◌≡◌, pos, sym, ◌∙◌, subst, List, arith}
 use Rattle.lpis_edge_sums.proofs.Common.{SignedEdge, sum_at, IsGrouped}
-use Rattle.lpis_edge_sums.proofs.GroupingLemmas.{grouped}
+use Rattle.lpis_edge_sums.proofs.GroupingLemmas.{sorted_is_grouped}
 use Rattle.lpis_edge_sums.proofs.RunLemmas.{sum_at-permutation}
 use Rattle.lpis_edge_sums.proofs.runs.cancels.Goals as goal
 
 pub runs_cancel-requires : goal.runs_cancel-requires
 runs_cancel-requires c = record {
   few = omega (arith, c.deref.type_inv.1);
-  grouped = subst IsGrouped (sym c.deref.ensures.value) (grouped c.sort_unstable.new.self.items c.sort_unstable.ensures.sorted);
+  grouped = subst IsGrouped (sym c.deref.ensures.value) (sorted_is_grouped c.sort_unstable.new.self.items c.sort_unstable.ensures.sorted);
 }
 
 pub returns : goal.returns
