@@ -14,18 +14,18 @@ pub data Expr : Type 0 where
   times : Expr → Expr → Expr
   minus : Expr → Expr → Expr
 
-infixl 6 ◌⊕◌
 -- the sum of two expressions
+infixl 6 ◌⊕◌
 abbrev pub ◌⊕◌ : Expr → Expr → Expr
 a ⊕ b = plus a b
 
-infixl 6 ◌⊖◌
 -- the difference of two expressions
+infixl 6 ◌⊖◌
 abbrev pub ◌⊖◌ : Expr → Expr → Expr
 a ⊖ b = minus a b
 
-infixl 7 ◌⊗◌
 -- the product of two expressions
+infixl 7 ◌⊗◌
 abbrev pub ◌⊗◌ : Expr → Expr → Expr
 a ⊗ b = times a b
 
