@@ -1,5 +1,5 @@
 -- The areas of parcels, added.
-use Rattle.std.proofs.Common.{◌≡◌, ◌∙◌, ◌≤◌, ◌+◌, ◌*◌, ◌++◌, ◌∷◌, [], sym, ap, ap₂, arith, ℕ, ℤ, pos, ◌+ℤ◌, nat_abs, List, length}
+use Rattle.std.proofs.Common.{◌≡◌, ◌∙◌, ◌≤◌, ◌+◌, ◌*◌, ◌++◌, ◌∷◌, [], sym, ap₂, arith, ℕ, ℤ, ◌+ℤ◌, nat_abs, List, length}
 use Rattle.std.proofs.lemmas.Int.{ints}
 use Rattle.std.proofs.lemmas.List.{length-append}
 use Rattle.std.proofs.Math.Nat.{mul-add}
@@ -13,15 +13,6 @@ use Rattle.lpis_covers.specs.Table.{most_rows}
 use Rattle.lpis_commands.specs.Area.{most_printed}
 use Rattle.lpis_commands.specs.declared.areas.Areas.{Areas}
 use Rattle.lpis_commands.specs.Areas.{AreasOf}
-
-one-sum : (a : ℤ) → a ≡ a +ℤ pos 0
-one-sum a = omega (arith, ints)
-
--- a parcel's areas
-areas_of_one : (r : Contents) (k : Parcel) (a : Areas) → a.area ≡ area2 k.polygon → a.weighted ≡ weighted2 r k.id → nat_abs a.area ≤ most_area → nat_abs a.weighted ≤ most_weighted
-    → AreasOf r (k ∷ []) a
-areas_of_one r k a area weighted area_small weighted_small =
-    record { area = area ∙ one-sum (area2 k.polygon); weighted = weighted ∙ one-sum (weighted2 r k.id); area_small = omega (arith, area_small); weighted_small = omega (arith, weighted_small) }
 
 -- a sum is no greater than both
 sum-small : (a b c : ℤ) → c ≡ a +ℤ b → nat_abs c ≤ nat_abs a + nat_abs b

@@ -51,10 +51,6 @@ pub not_new : (b : Bool) → not b ≡ true → b ≡ false
 not_new true e = absurd (not_both false e refl)
 not_new false e = refl
 
-old_id : (b : Bool) → not b ≡ false → b ≡ true
-old_id true e = refl
-old_id false e = absurd (not_both true refl e)
-
 -- a parcel that was in the country has the same pieces after one region more
 pub old_pieces : (u r : Contents) (k : Parcel) → IsAmong u.parcels k → pieces_named (with_region u r) k.id ≡ pieces_named u k.id
 old_pieces u r k h = pieces_stay u r k.id (has_among u.parcels k h)

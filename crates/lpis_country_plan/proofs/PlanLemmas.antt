@@ -1,7 +1,6 @@
 -- Plans.
 use Rattle.std.proofs.Common.{◌≡◌, ℕ, ◌<◌, ◌≤◌, List, length, sym, ap, ◌∙◌, arith, length-append}
 use Rattle.lpis_country.specs.Tiling.{frame}
-use Rattle.lpis_country_plan.specs.Limits.{most_regions}
 use Rattle.lpis_country_plan.specs.Tree.{Tree, folder, by_x, by_y, folders}
 use Rattle.lpis_country_plan.specs.Plans.{PlanParts, IsPlan}
 use Rattle.lpis_country_plan.proofs.TreeLemmas.{as_many_tiles}
@@ -14,9 +13,6 @@ some_folder (by_y c s t) = omega (arith, some_folder s, length-append (folders s
 -- a plan has a region
 pub plan_has_some : (p : PlanParts) → IsPlan p → 0 < length p.names
 plan_has_some p h = omega (arith, some_folder h.0, ap (λ (ns : List (List ℕ)). length ns) h.1.names)
-
-plan_has_few : (p : PlanParts) → IsPlan p → length p.names ≤ most_regions
-plan_has_few p h = omega (arith, h.1.fits.few, ap (λ (ns : List (List ℕ)). length ns) h.1.names)
 
 -- and a tile for each
 pub plan_tiles : (p : PlanParts) → IsPlan p → length p.names ≡ length p.tiles

@@ -5,7 +5,6 @@ use Rattle.std.proofs.lemmas.Bool.Decides.{nat_tests}
 use Rattle.std.proofs.lemmas.List.{append-nil, take_all}
 use Rattle.std.proofs.lemmas.List.Sums.{split_at_first, fails_before_first, passes_at_first}
 use Rattle.std.proofs.lemmas.List.Splits.{slice_split_none, slice_split_first}
-use Rattle.std.proofs.lemmas.Slice.Eq.{bytes_eq-Decides}
 use Rattle.std.specs.Str.{bytes_eq}
 use Rattle.lpis_points.specs.declared.boxes.Box4.{Box4}
 use Rattle.lpis_country_plan.specs.declared.draft.Draft.{Draft}
@@ -70,10 +69,6 @@ other_head text line rest takes other =
     let more = s.2 in
     rw (cut, more, other) refl
 
--- a text with the first line of a plan
-pub text_with_head : (text line rest : List ℕ) → TakesPlanLine text line rest → bytes_eq line country_head ≡ true → text ≡ country_head ++ (10 ∷ rest)
-text_with_head text line rest takes is = takes.parts ∙ ap (λ (w : List ℕ). w ++ (10 ∷ rest)) ((bytes_eq-Decides line country_head).0 is)
-
 -- ---- from line to line
 
 -- a draft of no lines that owes the whole country has the whole text still to read, from line 2
@@ -97,20 +92,11 @@ reading_more start rest line after n d e r takes owing with =
       room = omega (arith, r.room, ap (λ (w : List ℕ). length w) takes.parts, length-append line (10 ∷ after));
     }
 
--- the rest gets shorter
-pub rest_gets_shorter : (rest line after : List ℕ) → TakesPlanLine rest line after → length after < length rest
-rest_gets_shorter rest line after takes = omega (arith, ap (λ (w : List ℕ). length w) takes.parts, length-append line (10 ∷ after))
-
 -- a line that can't stand
 pub reading_fault : (start rest line after : List ℕ) (n : ℕ) (d : Draft) → IsReading start rest n d → TakesPlanLine rest line after → None ≡ owing_with (owing_of d) line
     → plan_fault_from 2 owing_first (plan_lines start) ≡ Some n
 reading_fault start rest line after n d r takes owing =
     r.faults ∙ fault_step n (owing_of d) rest line after takes.split ∙ ap (λ (o : Option Owing). or_line n o (λ p. plan_fault_from (n + 1) p (plan_lines after))) (sym owing)
-
--- a fault of the rest is one of the text
-reading_fails : (start rest : List ℕ) (n : ℕ) (d : Draft) (e : PlanFault) → IsReading start rest n d → PlanFaultFrom e n (owing_of d) rest → PlanFaultFrom e 2 owing_first start
-reading_fails start rest n d Memory r h = tt
-reading_fails start rest n d (At line) r h = r.faults ∙ h
 
 -- nothing is owed, and nothing is left
 ended_plan : (said : List TreeLine) (d : Draft) → IsDraftOf said d → d.rooms ≡ [] → (t : Tree) × (tree_lines t ≡ said) × IsPlanOf t (record { names = d.names; tiles = d.tiles.items })

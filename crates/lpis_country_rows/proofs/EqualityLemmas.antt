@@ -1,6 +1,5 @@
 -- Tests that tell equal rows.
 use Rattle.std.proofs.Common.{◌≡◌, ◌≤◌, ◌&&◌, ◌==◌, ℕ, Bool, true, false, List, refl, ap, sym, ◌∙◌, subst, true≢false}
-use Rattle.std.specs.Bool.{Decides}
 use Rattle.std.specs.Coded.{le_prop}
 use Rattle.std.specs.Cmp.Lexicographic.{pointwise, pointwise_decides, bytes_decides}
 use Rattle.std.specs.Cmp.{unsigned_Decides}
@@ -76,9 +75,3 @@ same_class-tells a b = (
   λ e. joined (same_id a.code b.code) (a.percent == b.percent) ((bytes_decides a.code b.code).1 (ap (λ (x : Class). x.code) e))
       ((unsigned_Decides a.percent b.percent).1 (ap (λ (x : Class). x.percent) e)),
 )
-
--- two tests that tell the same thing answer alike
-pub tests_answer_alike : {P : Type 0} (r s : Bool) → Decides r P → Decides s P → r ≡ s
-tests_answer_alike true s h k = sym (k.1 (h.0 refl))
-tests_answer_alike false true h k = absurd (true≢false (sym (h.1 (k.0 refl))))
-tests_answer_alike false false h k = refl

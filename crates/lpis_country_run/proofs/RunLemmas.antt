@@ -31,7 +31,7 @@ use Rattle.lpis_country_run.specs.CountryLines.{country_lines, region_report}
 use Rattle.lpis_country_run.specs.Regions.{AreOfFolder, Texts}
 use Rattle.lpis_country_run.specs.private.Progressing.{FollowsAs, HaveAllPassed, IsAt, IsFailureOf, IsFinished, IsHere, IsReady, IsStart, IsUnfinished, IsUnwritten, IsVerdict, IsVerdictText, IsWritten, RegionsBreakOff, RegionsEnd}
 use Rattle.lpis_country_run.specs.private.Totals.{AreTotalsOf, last_lines}
-use Rattle.lpis_country_run.proofs.PassedLemmas.{passed_more, reached_by, refused_next, refused_no}
+use Rattle.lpis_country_run.proofs.PassedLemmas.{passed_more, reached_by, refused_next}
 use Rattle.lpis_country_run.proofs.TotalsLemmas.{few_new, last_lines_are, totals_grow}
 
 -- ---- writers
@@ -117,10 +117,6 @@ is_refused s names p q n status old now new name here are lt is (text, refusal, 
   refused_next s n here.before here.text name text status (subst (λ (ks : List (List ℕ)). n < length ks) (sym are) lt) (is ∙ ap (λ (ks : List (List ℕ)). get_or ks n []) (sym are)) here.have_passed refusal,
   appends-more old now new here.text text here.written written,
 )
-
--- and has no yes
-is_no_yes : (s : Setting) (before : List Contents) (name : List ℕ) (q : Progress) (old new : Option (List ℕ)) (status : ℕ) → IsWritten s before name q old new (Some status) → status ≡ done → ⊥
-is_no_yes s before name q old new status (text, refusal, written) = refused_no s before name text status refusal
 
 -- ---- one region more
 last-of : {A : Type 0} (P : A → Type 0) (xs : List A) (x : A) → All P (xs ++ x ∷ []) → P x

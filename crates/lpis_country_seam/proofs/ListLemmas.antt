@@ -1,5 +1,5 @@
 -- Lists of parcels and of identifiers.
-use Rattle.std.proofs.Common.{◌≡◌, ℕ, Bool, true, false, cond, ◌||◌, List, [], ◌∷◌, ◌++◌, filter, None, Some, is_some, refl, ap, ap₂, sym, ◌∙◌, subst, true≢false}
+use Rattle.std.proofs.Common.{◌≡◌, ℕ, Bool, true, false, cond, ◌||◌, List, [], ◌∷◌, ◌++◌, filter, None, Some, is_some, refl, ap, ap₂, sym, ◌∙◌, true≢false}
 use Rattle.std.specs.List.{AllByRecursion, IsDistinct, find, slice_get}
 use Rattle.std.proofs.lemmas.Map.Keys.{IsDistinct-head, IsDistinct-tail, IsDistinct-cons}
 use Rattle.std.specs.Cmp.Lexicographic.{bytes_decides}
@@ -55,17 +55,6 @@ pub record IsFound (id : List ℕ) (ps : List Parcel) (k : Parcel) : Type 0 wher
   pub after : List Parcel
   pub at : ps ≡ before ++ k ∷ after
   pub own : k.id ≡ id
-
-found-there : (id : List ℕ) (ps : List Parcel) (k : Parcel) → find (is_of id) ps ≡ Some k → IsFound id ps k
-found-there id [] k e = absurd cc
-found-there id (p ∷ ps) k e = by (same_id id p.id) refl e (found-there id ps k)
-  where
-    by : (b : Bool) → same_id id p.id ≡ b → cond b (Some p) (find (is_of id) ps) ≡ Some k → (find (is_of id) ps ≡ Some k → IsFound id ps k) → IsFound id (p ∷ ps) k
-    by true s h g = subst (IsFound id (p ∷ ps)) (some-same p k h) (record { before = []; after = ps; at = refl; own = sym ((bytes_decides id p.id).0 s) })
-      where
-        some-same : (a b : Parcel) → Some a ≡ Some b → a ≡ b
-        some-same a b h = cc
-    by false s h g = let f = g h in record { before = p ∷ f.before; after = f.after; at = ap (λ (qs : List Parcel). p ∷ qs) f.at; own = f.own }
 
 -- an identifier that stands after others that all differ is none of them
 pub apart-before : (xs : List (List ℕ)) (y : List ℕ) (ys : List (List ℕ)) → IsDistinct same_id (xs ++ y ∷ ys) → has_id xs y ≡ false

@@ -11,7 +11,6 @@ use Rattle.lpis_covers.specs.declared.class.Class.{Class}
 use Rattle.lpis_covers.specs.Ids.{has_id}
 use Rattle.lpis_parcels.specs.declared.parcel.Parcel.{Parcel}
 use Rattle.lpis_parcels.specs.Release.{Contents, parcel_ids, parcel_named}
-use Rattle.lpis_country_rows.specs.Equality.{same_class}
 use Rattle.lpis_country_seam.specs.declared.kept.KeptRow.{KeptRow}
 use Rattle.lpis_country_seam.specs.declared.fault.SeamCode.TheVariants.{Elsewhere, Lacks}
 use Rattle.lpis_country_seam.specs.declared.fault.SeamFault.{SeamFault}
@@ -54,10 +53,6 @@ pub classes-short : (own all rest : List Class) (k : ℕ) → seam_class_faults 
 classes-short own all rest k e l n =
     let r = rest-at own k l in
     inr ([], e ∙ ap (seam_class_faults (k + 1) (drop k own)) (no-length rest n) ∙ ap (λ (xs : List Class). seam_class_faults (k + 1) xs []) r.1)
-
-classes-more : (own : List Class) (k : ℕ) (a b : Class) (others : List Class) → k < length own → a ≡ get_or own k a
-    → seam_class_faults (k + 1) (drop k own) (b ∷ others) ≡ seam_fault_if (not (same_class a b)) (Classes (k + 1)) ++ seam_class_faults (k + 1 + 1) (drop (k + 1) own) others
-classes-more own k a b others l e = ap (λ (xs : List Class). seam_class_faults (k + 1) xs (b ∷ others)) (drop_more own k a l ∙ ap (λ (x : Class). x ∷ drop (k + 1) own) (sym e))
 
 -- ---- one row
 -- a new parcel's first fault is that the first earlier tile that its box meets lacks it

@@ -117,11 +117,6 @@ pub after-bad : (front : List (Option ℕ)) (said : Result (List (Option ℕ)) T
 after-bad front (Ok ps) e h = cc h
 after-bad front (Err f) e h = cc h
 
-after-none : (front : List (Option ℕ)) (said : Result (List (Option ℕ)) TableCode) (places : List (Option ℕ)) → front ≡ [] → after_places front said ≡ Ok places → said ≡ Ok places
-after-none [] (Ok ps) places e h = h
-after-none [] (Err f) places e h = cc h
-after-none (p ∷ front) said places e h = cc e
-
 -- one more field picked
 pub picked-more : (front : List (List ℕ)) (places : List (Option ℕ)) (i : ℕ) (d : Option ℕ) (fields : List (List ℕ)) → i < length places
     → (front ++ (unwrap_or (field_at_place fields (get_or places i d)) [] ∷ [])) ++ flat (picked (drop (i + 1) places) fields) ≡ front ++ flat (picked (drop i places) fields)

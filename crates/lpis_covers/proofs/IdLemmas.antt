@@ -1,5 +1,5 @@
 -- Identifiers are text.
-use Rattle.std.proofs.Common.{is_some, Option, Some, None, ◌≡◌, ◌<◌, ◌≤◌, ◌+◌, ◌++◌, ℕ, List, [], ◌∷◌, length, drop, take}
+use Rattle.std.proofs.Common.{Some, None, ◌≡◌, ◌<◌, ◌≤◌, ◌+◌, ◌++◌, ℕ, List, [], ◌∷◌, length, drop, take}
 use Rattle.std.proofs.Common.{true, false, refl, ap, ◌∙◌, arith, slice_index, zero, suc, ◌&&◌, cond, eqb, not, position, IsUtf8, nat_le}
 use Rattle.lpis_covers.proofs.Common.{nat_tests}
 use Rattle.std.specs.List.{before_first, list_all, position_or_len}
@@ -66,7 +66,3 @@ before-padding bs zs n h z =
   where
     by : (k : ℕ) → cond (eqb k k) (k + 0) k ≡ k
     by k = grind (arith, nat_tests)
-
-is-none : {A : Type 0} (o : Option A) → is_some o ≡ false → o ≡ None
-is-none None h = refl
-is-none (Some x) h = cc h

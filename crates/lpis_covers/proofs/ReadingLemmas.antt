@@ -1,14 +1,13 @@
 -- A table's reader, a row at a time.
 use Rattle.std.proofs.Common.{◌≡◌, ◌≢◌, ◌+◌, ◌<◌, ◌≤◌, ℕ, zero, suc, List, [], ◌∷◌, length, get_or, Some, None, Ok, Err, true, false, refl, ap, arith, ◌==◌, nat_lt}
-use Rattle.std.proofs.Common.{Bor, Option, Result, is_some, map, option_map, unwrap_or}
+use Rattle.std.proofs.Common.{Bor, Option, is_some, map, option_map, unwrap_or}
 use Rattle.lpis_covers.proofs.Common.{nat_tests, default_config, strip_bom, Table, TableFault, At, Answers, Fields, Reading, field_at_place, has_mark, picked, under_header}
 use Rattle.csv.specs.Reading.{records}
 use Rattle.lpis_covers.proofs.ColumnLemmas.{without-mark}
 use Rattle.lpis_covers.specs.declared.fault.TableCode.TheVariants.{NotCsv, TooManyRows}
 use Rattle.lpis_covers.specs.declared.fault.TableFault.TheVariants.{Memory}
-use Rattle.lpis_covers.specs.private.Columns.{TellsColumn, after_places}
-use Rattle.lpis_covers.specs.Table.{Record, and_then, fault_at, has_column, most_rows, optional_field, reading, rows_from, stopped, table_of, wanted_places, with_row}
-use Rattle.lpis_covers.specs.declared.fault.TableCode.{TableCode}
+use Rattle.lpis_covers.specs.private.Columns.{TellsColumn}
+use Rattle.lpis_covers.specs.Table.{Record, fault_at, has_column, most_rows, optional_field, reading, rows_from, stopped, table_of, wanted_places, with_row}
 
 rows-more : (table : Table) (w : ℕ) (places : List (Option ℕ)) (n : ℕ) (r : Record) (rs : List Record) → length r ≡ w → n ≤ most_rows
     → rows_from table w places n (r ∷ rs) ≡ with_row (picked places r) (rows_from table w places (n + 1) rs)
@@ -82,16 +81,6 @@ pub column-fault : (table : Table) (names further : List (List ℕ)) (header : R
     → all ≡ header ∷ rs → TellsColumn table (wanted_places header names further) told → Answers (Err told) (under_header table names further all)
 column-fault table names further header rs all Memory e t = tt
 column-fault table names further header rs all (At code in_table row wkt) e t = rw (e, t.0, t.1) refl
-
--- the fault of the columns that must be there, and of those that may be absent
-first-places : (table : Table) (said more : Result (List (Option ℕ)) TableCode) (told : TableFault) → TellsColumn table said told → TellsColumn table (and_then said (λ front. after_places front more)) told
-first-places table said more Memory t = tt
-first-places table said more (At code in_table row wkt) t = (rw t.0 refl, t.1)
-
-then-places : (table : Table) (front : List (Option ℕ)) (said more : Result (List (Option ℕ)) TableCode) (told : TableFault) → said ≡ Ok front
-    → TellsColumn table more told → TellsColumn table (and_then said (λ front. after_places front more)) told
-then-places table front said more Memory e t = tt
-then-places table front said more (At code in_table row wkt) e t = (rw (e, t.0) refl, t.1)
 
 -- a table whose text has a second mark, and one whose text has not
 pub table-marked : (table : Table) (names further : List (List ℕ)) (bytes text : List ℕ) → text ≡ strip_bom bytes → has_mark text ≡ true

@@ -5,7 +5,6 @@ use Rattle.std.proofs.lemmas.List.{append-nil, map-append, length-append}
 use Rattle.std.specs.Result.{result_map_both}
 use Rattle.csv.specs.Reading.{records}
 use Rattle.lpis_covers.specs.declared.fault.TableCode.{TableCode}
-use Rattle.lpis_covers.specs.declared.fault.TableCode.TheVariants.{MissingColumn}
 use Rattle.lpis_covers.specs.declared.fault.TableFault.TheVariants.{Memory}
 use Rattle.lpis_covers.specs.Faults.{RowsOf, table_row_faults, rows_of}
 use Rattle.lpis_covers.specs.Table.{Advances, Record, fault_at, most_rows, reading, rows_from, table_of, wanted_places}
@@ -53,11 +52,6 @@ rows-start kind bytes t h enough =
     let s = table-start kind.table kind.columns kind.further bytes t h in
     let first : t.number + 1 ≡ 1 = omega arith in
     record { table = s.0; count = s.1; few = omega (arith, s.1); enough = enough; faults = rw first refl; values = refl }
-
--- columns that are not enough
-rows-lacking : {A : Type 0} (kind : RowsOf A) (bytes : List ℕ) (t : Reading) → table_of kind.table kind.columns kind.further bytes ≡ Ok t → kind.enough t.has ≡ false
-    → rows_of kind bytes ≡ Err (fault_at MissingColumn kind.table 0)
-rows-lacking kind bytes t opened lacking = rw (opened, lacking) refl
 
 -- one row more
 pub rows-step : {A : Type 0} (kind : RowsOf A) (t old new : Reading) (keys : List (List ℕ)) (rows : List A) (x : A)

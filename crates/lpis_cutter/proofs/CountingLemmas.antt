@@ -6,18 +6,6 @@ use Rattle.lpis_points.specs.Plane.{same_point}
 use Rattle.lpis_points.specs.Chain.{net_count, SameNet}
 use Rattle.lpis_cutter.specs.private.Cutting.{edge_times}
 
-times-append : (a b : Point) (es fs : List (Point × Point)) → edge_times a b (es ++ fs) ≡ edge_times a b es + edge_times a b fs
-times-append a b [] fs = omega arith
-times-append a b (e ∷ es) fs = by (same_point a e.0 && same_point b e.1) (times-append a b es fs)
-  where
-    by : (t : Bool) → edge_times a b (es ++ fs) ≡ edge_times a b es + edge_times a b fs
-        → length (cond t (e ∷ filter (λ g. same_point a g.0 && same_point b g.1) (es ++ fs))
-        (filter (λ g. same_point a g.0 && same_point b g.1) (es ++ fs))) ≡ length
-        (cond t (e ∷ filter (λ g. same_point a g.0 && same_point b g.1) es)
-        (filter (λ g. same_point a g.0 && same_point b g.1) es)) + edge_times a b fs
-    by true h = omega (arith, h)
-    by false h = h
-
 -- a net count is the edges along, less those back
 net_is_times : (a b : Point) (es : List (Point × Point)) → net_count same_point a b es ≡ pos (edge_times a b es) -ℤ pos (edge_times b a es)
 net_is_times a b [] = omega (arith, ints)

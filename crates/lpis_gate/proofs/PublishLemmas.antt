@@ -24,23 +24,21 @@ use Rattle.lpis_lineage.proofs.Shared.{follows-from-clean, mono, counted-ended}
 use Rattle.lpis_checker.specs.GoodCertificate.{IsGood}
 use Rattle.lpis_checker.specs.SoundMap.{IsSoundMap}
 use Rattle.lpis_commands.specs.Report.{report_text}
-use Rattle.lpis_gate.specs.LineageLines.{is_left_exactly, dropped_lines, publish_refusal_text, published_line}
+use Rattle.lpis_gate.specs.LineageLines.{is_left_exactly, dropped_lines, published_line}
 use Rattle.lpis_commands.specs.declared.answer.Answer.{Answer as Answered}
 use Rattle.lpis_commands.specs.declared.failure.Failure.{Failure}
 use Rattle.lpis_commands.specs.declared.failure.Failure.TheVariants.{Store}
 use Rattle.lpis_gate.specs.PublishAnswer.{PublishEnds, IsContinued, IsHistoryAnswer, IsPublishAnswer, IsPublished, MovesRegister}
 use Rattle.lpis_gate.specs.Submission.{Submission}
-use Rattle.lpis_commands.specs.Status.{done, refused}
+use Rattle.lpis_commands.specs.Status.{done}
 use Rattle.lpis_gate.specs.private.Marked.{is_marked}
 use Rattle.lpis_gate.specs.private.PublishRuns.{IsAdded, IsStopped, PublishLeaves}
 use Rattle.lpis_gate.specs.private.Saying.{IsSubmitted}
 use Rattle.lpis_gate.proofs.MarkedLemmas.{left-exactly}
 use Rattle.lpis_register.specs.Accepting.{IsAccepted}
-use Rattle.lpis_register.specs.Faults.{IsRefused}
 use Rattle.lpis_register.specs.Histories.{HoldsRegister}
 use Rattle.lpis_register.specs.Publishing.{Follows}
 use Rattle.lpis_register.specs.declared.accepting.Accepted.{Accepted}
-use Rattle.lpis_register.specs.declared.fault.PublishFault.{PublishFault}
 use Rattle.lpis_register.specs.declared.fault.PublishFault.TheVariants as publish
 use Rattle.lpis_register_rows.specs.Shapes.{Shape}
 
@@ -67,14 +65,6 @@ change-lines h live rows c clean is =
 -- ---- the answer of a history
 answer-parts : {t u : List ℕ} {n m : ℕ} → t ≡ u → n ≡ m → ◌≡◌ {A = Answer} (t, n) (u, m)
 answer-parts a b = cc (a, b)
-
--- what the register refuses is the answer
-answer-of-fault : (h : List Entry) (s : List Shape) (year : ℕ) (r : Contents) (c : Cert) (rows : List Row) (fault : PublishFault) (text : List ℕ) (status : ℕ)
-    → IsRefused h s year r c.exact rows fault → (fault ≡ publish.Memory → ⊥) → (fault ≡ publish.Store → ⊥)
-    → text ≡ publish_refusal_text fault → status ≡ refused → IsHistoryAnswer h s year r c rows (text, status)
-answer-of-fault h s year r c rows publish.Memory text status is memory store line is_refused = absurd (memory refl)
-answer-of-fault h s year r c rows publish.Store text status is memory store line is_refused = absurd (store refl)
-answer-of-fault h s year r c rows fault text status is memory store line is_refused = inl (fault, is, (λ no. no), answer-parts line is_refused)
 
 -- what is reported of the change of a release that was accepted is the answer
 pub answer-accepted : (h : List Entry) (s : List Shape) (year : ℕ) (r : Contents) (c : Cert) (rows : List Row) (a : Accepted) (change : Changes) (text : List ℕ) (status : ℕ)

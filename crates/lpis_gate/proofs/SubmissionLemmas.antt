@@ -38,11 +38,6 @@ answer-unsaid IsNext x a is =
     table-more _ _ (release_of x.checked.parcels x.checked.covers x.checked.classes) a
     (λ r. cert-more _ _ x.checked.cert (verdict x.checked.cert) a (λ c. table-more _ _ (rows_of lineage_table x.lineage) a (λ rows no. absurd no))) is
 
--- the fault is that of the tables, or of the text after them, or of the table after both
-unsaid-tables : (x : Submission) (u : Unsaid) → IsUnsaid (IsTableAnswer (λ _ _. ⊥) (release_of x.checked.parcels x.checked.covers x.checked.classes)) u → IsUnsaid (IsFaultAnswer x) u
-unsaid-tables x Memory is = tt
-unsaid-tables x (Refused a) is = table-more _ _ (release_of x.checked.parcels x.checked.covers x.checked.classes) (a.text.items, a.status) (λ r no. absurd no) is
-
 -- where the tables are read, the fault of the certificate's text is that of the submission
 pub unsaid-cert : (x : Submission) (r : Contents) (u : Unsaid) → release_of x.checked.parcels x.checked.covers x.checked.classes ≡ Ok r
     → IsUnsaid (IsCertAnswer (λ _ _. ⊥) x.checked.cert (verdict x.checked.cert)) u → IsUnsaid (IsFaultAnswer x) u

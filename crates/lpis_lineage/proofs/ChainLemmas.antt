@@ -135,12 +135,6 @@ rows-more h i e lt is = sym (all-snoc (take i h) e) ∙ ap all_rows (take-at h i
   all-snoc [] e = append-nil e.rows
   all-snoc (x ∷ h) e = ap (λ (l : List Row). x.rows ++ l) (all-snoc h e) ∙ sym (append_assoc x.rows (all_rows h) e.rows)
 
-rows-whole : (h : List Entry) → all_rows (take (length h) h) ≡ all_rows h
-rows-whole h = ap all_rows (take_all h) where
-  take_all : (h : List Entry) → take (length h) h ≡ h
-  take_all [] = refl
-  take_all (x ∷ h) = ap (λ (l : List Entry). x ∷ l) (take_all h)
-
 -- the start
 pub reach-start : (id copy : List ℕ) → copy ≡ id → Reaches (copy ∷ []) [] id
 reach-start id copy e = record {

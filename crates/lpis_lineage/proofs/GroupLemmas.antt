@@ -35,20 +35,6 @@ names-next f p ids i id lt is =
     sym (map-append f (filter p (take i ids)) (filter p (id ∷ []))) ∙ ap (λ (xs : List (List ℕ)). map f xs) (sym (filter-append p (take i ids) (id ∷ [])))
     ∙ ap (λ (xs : List (List ℕ)). map f (filter p xs)) (take-at ids i id lt is)
 
--- a group that is added
-names-added : (gs : List Group) (g : Group) (merge : Bool) (id : List ℕ) (p : List ℕ → Bool) (new : List Group) → new ≡ gs ++ g ∷ [] → group_name g ≡ as_group merge id → p id ≡ true
-    → map group_name new ≡ map group_name gs ++ map (as_group merge) (filter p (id ∷ []))
-names-added gs g merge id p new e n t =
-    ap (λ (xs : List Group). map group_name xs) e ∙ map-append group_name gs (g ∷ []) ∙ ap (λ (x : Bool × List ℕ). map group_name gs ++ x ∷ []) n
-    ∙ ap (λ (b : Bool). map group_name gs ++ map (as_group merge) (cond b (id ∷ []) [])) (sym t)
-
-names-passed : (gs : List Group) (merge : Bool) (id : List ℕ) (p : List ℕ → Bool) → p id ≡ false → map group_name gs ≡ map group_name gs ++ map (as_group merge) (filter p (id ∷ []))
-names-passed gs merge id p t = sym (plain (map group_name gs)) ∙ ap (λ (b : Bool). map group_name gs ++ map (as_group merge) (cond b (id ∷ []) [])) (sym t)
-  where
-    plain : (xs : List (Bool × List ℕ)) → xs ++ [] ≡ xs
-    plain [] = refl
-    plain (x ∷ xs) = ap (λ (ys : List (Bool × List ℕ)). x ∷ ys) (plain xs)
-
 -- ---- the others of a group
 gathered-merge : (s x : List ℕ) (t : Bool) (rows : List Row) → list_any (λ (r : Row). names_successor s r
     && (is_row_of x r || t)) rows ≡ (list_any (leads x s) rows || (list_any (names_successor s) rows && t))

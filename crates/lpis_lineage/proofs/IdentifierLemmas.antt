@@ -1,7 +1,6 @@
 -- Identifiers compare equal exactly where they are equal; indices in a history with one more release.
-use Rattle.std.proofs.Common.{◌≡◌, ◌∙◌, ◌<◌, ◌≤◌, ◌+◌, refl, sym, ap, subst, arith, ℕ, zero, suc, List, [], ◌∷◌, ◌++◌, length, Bool, true, false, ◌||◌, cond, take, get_or, is_eq, nat_cmp}
+use Rattle.std.proofs.Common.{◌≡◌, ◌∙◌, ◌<◌, ◌≤◌, ◌+◌, refl, sym, ap, subst, arith, ℕ, zero, suc, List, [], ◌∷◌, ◌++◌, length, Bool, true, false, ◌||◌, cond, is_eq, nat_cmp}
 use Rattle.lpis_lineage.proofs.Common.{slice_cmp, list_any, Entry, has_id, same_id, entry_at}
-use Rattle.std.proofs.lemmas.List.Folds.{list_any_more}
 use Rattle.std.specs.Cmp.Lexicographic.{texts_ties}
 use Rattle.std.proofs.lemmas.Slice.Eq.{bytes_eq-Decides}
 
@@ -61,15 +60,3 @@ same-sym a b = same-sym-by a b (same_id a b) refl (same_id b a) refl where
   same-sym-by a b false e false f = cc
   same-sym-by a b true e false f = absurd (let g : a ≡ b = same-exact a b e in let r = same-refl a in let s : same_id b a ≡ true = subst (λ (z : List ℕ). same_id z a ≡ true) g r in cc)
   same-sym-by a b false e true f = absurd (let g : b ≡ a = same-exact b a f in let r = same-refl b in let s : same_id a b ≡ true = subst (λ (z : List ℕ). same_id z b ≡ true) g r in cc)
-
--- one identifier more
-has-more : (ids : List (List ℕ)) (i : ℕ) (d key q : List ℕ) (old new : Bool) → i < length ids → key ≡ get_or ids i d
-    → old ≡ has_id (take i ids) q → new ≡ cond (same_id key q) true old → new ≡ has_id (take (i + 1) ids) q
-has-more ids i d key q old new lt e o n = n ∙ flip (same_id key q) old ∙ ap (λ (b : Bool). b || same_id key q) o
-    ∙ ap (λ (b : Bool). has_id (take i ids) q || b) (same-sym key q ∙ ap (same_id q) e)
-    ∙ sym (list_any_more (same_id q) ids i d lt) where
-      flip : (a b : Bool) → cond a true b ≡ (b || a)
-      flip true true = refl
-      flip true false = refl
-      flip false true = refl
-      flip false false = refl

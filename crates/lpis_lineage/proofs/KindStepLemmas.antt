@@ -1,12 +1,10 @@
 -- The kinds of identifiers, one further.
-use Rattle.std.proofs.Common.{◌≡◌, ◌∙◌, ◌∷◌, ◌+◌, refl, sym, ap, ℕ, List, length, Bool, true, false, Option, None, Some, cond, ◌&&◌, ◌||◌, not, nat_lt}
+use Rattle.std.proofs.Common.{◌≡◌, ◌∙◌, ◌∷◌, ◌+◌, refl, sym, ap, ℕ, List, length, Bool, true, false, Option, None, Some, cond, ◌&&◌, ◌||◌, nat_lt}
 use Rattle.lpis_lineage.proofs.Common.{list_any, has_id, same_id, Row, is_ended, heirs, kind, id_times}
 use Rattle.lpis_lineage.specs.declared.kind.Kind.{Kind}
 use Rattle.lpis_lineage.specs.declared.kind.Kind.TheVariants.{Kept, Ended}
 use Rattle.lpis_lineage.specs.Kinds.{by_counts, predecessors, successors}
 use Rattle.lpis_lineage.proofs.IdentifierLemmas.{same-exact, same-sym}
-use Rattle.lpis_lineage.proofs.PickingLemmas.{filter-same}
-use Rattle.lpis_lineage.specs.Changes.{Changes, IsChange}
 use Rattle.lpis_lineage.proofs.SeenLemmas.{any-same}
 
 -- what was left begins with the identifier
@@ -33,10 +31,3 @@ kind-live last a b rows id e =
     (any-same (λ s. nat_lt 1 (predecessors last a rows s)) (λ s. nat_lt 1 (predecessors last b rows s))
     (successors rows id) (λ s. ap (λ (t : Bool). nat_lt 1 (id_times (heirs rows) s + cond (has_id last s && t) 1 0))
     (e s)))
-
-change-live : (last a b : List (List ℕ)) (rows : List Row) (c : Changes) → ((q : List ℕ) → has_id a q ≡ has_id b q) → IsChange last a rows c → IsChange last b rows c
-change-live last a b rows c e is = record {
-  kinds_are = λ id. is.kinds_are id ∙ kind-live last a b rows id e;
-  dropped_are = is.dropped_are ∙ filter-same (λ id. not (has_id a id)) (λ id. not (has_id b id)) last (λ id. ap not (e id));
-  rows_are = is.rows_are;
-}

@@ -44,7 +44,3 @@ ended-pop-none all ids id q year f a had =
       by true t e = refl
       by false true e = let n : f q ≡ None = ap f (sym (same-exact id q (sym e))) ∙ had in ap (λ (o : Option Span). ended_in false year o) n ∙ ap (λ (o : Option Span). ended_in true year o) (sym n)
       by false false e = refl
-
-ended-none : (year : ℕ) (o : Option Span) → ended_in false year o ≡ o
-ended-none year None = refl
-ended-none year (Some s) = refl

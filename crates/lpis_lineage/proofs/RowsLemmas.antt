@@ -1,5 +1,5 @@
 -- Rows of the table of lineage.
-use Rattle.std.proofs.Common.{◌≡◌, ◌++◌, ◌∷◌, [], Bool, false, ℕ, List, Option, None, Some, Result, Ok, Err, refl, ap, unwrap_or}
+use Rattle.std.proofs.Common.{◌≡◌, ◌++◌, ◌∷◌, [], Bool, false, ℕ, List, Option, Result, Ok, Err, refl, unwrap_or}
 use Rattle.lpis_lineage.proofs.Common.{Row}
 use Rattle.lpis_covers.specs.declared.fault.Table.TheVariants.{Lineage}
 use Rattle.lpis_covers.specs.declared.fault.TableFault.{TableFault}
@@ -8,26 +8,6 @@ use Rattle.lpis_covers.specs.Faults.{id_faults, unless_faulty}
 use Rattle.lpis_covers.specs.Table.{Answers, Fields, field_of}
 use Rattle.lpis_covers.proofs.Shared.{column-fault, column-passed, fault-retold}
 use Rattle.lpis_lineage.specs.LineageTable.{AnswersRows, lineage_faults, mark_field_faults, mark_of_text, row_of, successor_faults, successor_of}
-
--- an empty field
-successor-none : (n : ℕ) (field : List ℕ) → field ≡ [] → unless_faulty (successor_faults n field) (successor_of field) ≡ Ok None
-successor-none n [] e = refl
-successor-none n (b ∷ bs) e = cc e
-
--- a field that is not empty
-successor-some : (n : ℕ) (field id : List ℕ) → (field ≡ [] → ⊥) → unless_faulty (id_faults Lineage n field) field
-    ≡ Ok id → unless_faulty (successor_faults n field) (successor_of field) ≡ Ok (Some id)
-successor-some n [] id ne e = absurd (ne refl)
-successor-some n (b ∷ bs) id ne e = by (id_faults Lineage n (b ∷ bs)) e where
-  by : (fs : List TableFault) → unless_faulty fs (b ∷ bs) ≡ Ok id → unless_faulty fs (Some (b ∷ bs)) ≡ Ok (Some id)
-  by [] e = let s : (b ∷ bs) ≡ id = cc e in ap (λ (x : List ℕ). Ok (Some x)) s
-  by (f ∷ fs) e = cc e
-
-successor-fault : (n : ℕ) (field : List ℕ) (f : TableFault) → (field ≡ [] → ⊥) → Answers {A = List ℕ} (Err f)
-    (unless_faulty (id_faults Lineage n field) field) → Answers {A = Option (List ℕ)} (Err f)
-    (unless_faulty (successor_faults n field) (successor_of field))
-successor-fault n [] f ne e = absurd (ne refl)
-successor-fault n (b ∷ bs) f ne e = fault-retold (id_faults Lineage n (b ∷ bs)) (b ∷ bs) (Some (b ∷ bs)) f e
 
 -- what three columns without faults say
 three-told : {A B C D : Type 0} (make : A → B → C → D) (fs gs hs : List TableFault) (a x : A) (b y : B) (c z : C)
@@ -53,12 +33,6 @@ pub row-told : (n : ℕ) (row : Fields) (old : List ℕ) (new : Option (List ℕ
 row-told n row old new exact e f g =
     three-told make-row (id_faults Lineage n (field_of row 0)) (successor_faults n (field_of row 1)) (mark_field_faults n (mark_of_text (field_of row 2)))
     (field_of row 0) old (successor_of (field_of row 1)) new (unwrap_or (mark_of_text (field_of row 2)) false) exact e f g
-
-row-fault-old : (n : ℕ) (row : Fields) (f : TableFault) → Answers {A = List ℕ} (Err f)
-    (unless_faulty (id_faults Lineage n (field_of row 0)) (field_of row 0))
-    → Answers {A = Row} (Err f) (unless_faulty (lineage_faults n row) (row_of row))
-row-fault-old n row f h =
-    column-fault (id_faults Lineage n (field_of row 0)) (successor_faults n (field_of row 1) ++ mark_field_faults n (mark_of_text (field_of row 2))) (field_of row 0) (row_of row) f h
 
 -- where the old identifier is read, a fault of the successor is that of the row
 pub row-fault-new : (n : ℕ) (row : Fields) (old : List ℕ) (f : TableFault) → unless_faulty (id_faults Lineage n (field_of row 0))

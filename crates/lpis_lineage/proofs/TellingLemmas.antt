@@ -65,16 +65,6 @@ rows-stop last live rows i k r e lt is (inr t) all eq = inr (
 pub seen-next : (rows : List Row) (i : ℕ) (r : Row) (P : List Row → Type 0) → i < length rows → r ≡ get_or rows i r → P (take i rows ++ r ∷ []) → P (take (i + 1) rows)
 seen-next rows i r P lt is p = subst P (take-at rows i r lt is) p
 
-used-step : (h : List Entry) (last ids : List (List ℕ)) (i : ℕ) (id : List ℕ) → i < length ids
-    → id ≡ get_or ids i id → used_faults h last (id ∷ drop (i + 1) ids) ≡ used_faults h last (drop (i + 1) ids)
-    → used_faults h last (drop i ids) ≡ used_faults h last (drop (i + 1) ids)
-used-step h last ids i id lt is e = ap (λ (l : List (List ℕ)). used_faults h last l) (drop-at ids i id lt is) ∙ e
-
-used-stop : (h : List Entry) (last ids : List (List ℕ)) (i : ℕ) (id : List ℕ) (f : LineageFault) → i < length ids
-    → id ≡ get_or ids i id → first (used_faults h last (id ∷ drop (i + 1) ids)) ≡ Some f
-    → first (used_faults h last (drop i ids)) ≡ Some f
-used-stop h last ids i id f lt is t = ap (λ (l : List (List ℕ)). first (used_faults h last l)) (drop-at ids i id lt is) ∙ t
-
 -- a set with the same members has the same faults
 pub rows-live : (last a b : List (List ℕ)) (before : List Row) (k : ℕ) (rows : List Row) → ((q : List ℕ) → has_id a q ≡ has_id b q)
     → lineage_row_faults last a before k rows ≡ lineage_row_faults last b before k rows

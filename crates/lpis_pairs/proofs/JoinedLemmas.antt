@@ -2,7 +2,6 @@
 use Rattle.std.proofs.Common.{◌≡◌, ℕ, ◌+◌, ◌<◌, ◌≤◌, true, ◌||◌, List, [], length, Some, ◌⊎◌, inl, inr, ap, sym, ◌∙◌, subst, arith, Contains, slice_get}
 use Rattle.lpis_pairs.proofs.Common.{same_Some, slice_get_within, Triangle, Event, IsNear, AreNear, Joins}
 use Rattle.lpis_pairs.specs.private.Sweeping.{AreInOrder, GrowNear, right_end, starts}
-use Rattle.std.proofs.lemmas.List.Elements.{All-nil}
 
 -- each pair of the first list is in the second
 abbrev pub Keeps : List (ℕ × ℕ) → List (ℕ × ℕ) → Type 0
@@ -19,12 +18,6 @@ grows_by_nothing ts ps = record { kept = λ p h. h; near = λ h. h }
 
 joins_kept : (ts : List Triangle) (height : ℕ) (es : List Event) (ps qs : List (ℕ × ℕ)) (k m : ℕ) → Keeps ps qs → Joins ts height es ps k m → Joins ts height es qs k m
 joins_kept ts height es ps qs k m h j = λ e f g i s l o. let r = j e f g i s l o in (λ n. h _ (r.0 n), λ n. h _ (r.1 n))
-
-nothing_joined : (ts : List Triangle) (height : ℕ) (es : List Event) (ps : List (ℕ × ℕ)) (at : ℕ) → JoinsUpTo ts height es ps ps at (at + 1)
-nothing_joined ts height es ps at = record {
-  grows = grows_by_nothing ts ps;
-  found = λ k l m. absurd (omega arith);
-}
 
 -- the event m is joined, where it has to be
 pub joined_next : (ts : List Triangle) (height : ℕ) (es : List Event) (old ps qs : List (ℕ × ℕ)) (at m : ℕ)
@@ -95,12 +88,6 @@ found_to_end ts height es old qs at m l j k r = λ e f g h. j.found k r (omega (
 pub record JoinsBelow (ts : List Triangle) (height : ℕ) (es : List Event) (ps : List (ℕ × ℕ)) (n : ℕ) : Type 0 where
   pub near : AreNear ts ps
   pub found : (k m : ℕ) → k < n → k < m → Joins ts height es ps k m
-
-joins_none : (ts : List Triangle) (height : ℕ) (es : List Event) (ps : List (ℕ × ℕ)) → ps ≡ [] → JoinsBelow ts height es ps 0
-joins_none ts height es ps e = record {
-  near = subst (λ (qs : List (ℕ × ℕ)). AreNear ts qs) (sym e) (All-nil (λ (p : ℕ × ℕ). IsNear ts p.0 p.1));
-  found = λ k m l. absurd (omega arith);
-}
 
 -- with the event n joined with all behind it, the events below n + 1 are joined
 pub joins_one_more : (ts : List Triangle) (height : ℕ) (es : List Event) (ps qs : List (ℕ × ℕ)) (n : ℕ) → JoinsBelow ts height es ps n

@@ -108,9 +108,6 @@ class-of-index classes _ _ i j piece e at is = cc e
 pub others-within : (n p : ℕ) (indices ps : List ℕ) → indices ≡ p ∷ ps → All (λ i. i < n) indices → All (λ i. i < n) ps
 others-within n p indices ps e h = let all : All (λ i. i < n) (p ∷ ps) = subst (λ (l : List ℕ). All (λ i. i < n) l) e h in λ k d lt. all (suc k) d (omega arith)
 
-first-within : (n p : ℕ) (indices ps : List ℕ) → indices ≡ p ∷ ps → All (λ i. i < n) indices → p < n
-first-within n p indices ps e h = let all : All (λ i. i < n) (p ∷ ps) = subst (λ (l : List ℕ). All (λ i. i < n) l) e h in all 0 0 (omega arith)
-
 -- the items at indices are the item at the first index, and then those at the others
 pub next-at : {A : Type 0} (xs now : List A) (indices ps : List ℕ) (p : ℕ) (x : A) → at_indices xs indices ≡ now → indices ≡ p ∷ ps → slice_get xs p ≡ Some x → now ≡ x ∷ at_indices xs ps
 next-at xs now indices ps p x e is at = rw (← e, is, at) refl

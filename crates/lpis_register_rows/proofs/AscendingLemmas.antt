@@ -35,10 +35,6 @@ ascends-append R (x ∷ xs) ys a b all = (all-append (R x) xs ys a.0 all.0, asce
 abbrev Within : {A : Type 0} → List A → List A → Type 1
 Within {A = A} xs ys = (P : A → Type 0) → AllByRecursion P xs → AllByRecursion P ys
 
-all-true : {A : Type 0} (P : A → Type 0) (xs : List A) → ((x : A) → P x) → AllByRecursion P xs
-all-true P [] f = tt
-all-true P (x ∷ xs) f = (f x, all-true P xs f)
-
 same-within : {A : Type 0} (R : A → A → Type 0) → ((x y : A) → R x y → R y x → ⊥) → (xs ys : List A) → Ascends R xs → Ascends R ys → Within xs ys → Within ys xs → xs ≡ ys
 same-within R alone [] [] a b to from = refl
 same-within R alone [] (y ∷ ys) a b to from = absurd (to (λ z. ⊥) tt).0

@@ -127,9 +127,6 @@ front-more g h e f more year set rows = record {
       (λ j a. ap (λ (x : Entry). x.rows) (entry-before g e j a) ∙ f.rows j a) (ap (λ (x : Entry). x.rows) (entry-here g e) ∙ rows) (let n = longer g e in omega (arith, n, lt));
 }
 
-front-none : (h : List Entry) → IsFront [] h
-front-none h = record { short = omega arith; years = λ i lt. absurd (omega (arith, lt)); sets = λ i lt. absurd (omega (arith, lt)); rows = λ i lt. absurd (omega (arith, lt)) }
-
 -- a front of a history that is as long as it is the same history
 pub front-whole : (g h : List Entry) → IsFront g h → length g ≡ length h → IsSameHistory g h
 front-whole g h f n = record {

@@ -24,9 +24,6 @@ not-below a b le t = absurd (let lt : a < b = grind (arith, nat_tests, t) in ome
 pub all-at : {A : Type 0} (P : A → Type 0) (xs : List A) (i : ℕ) (x : A) → i < length xs → x ≡ get_or xs i x → All P xs → P x
 all-at P xs i x lt at all = subst P (sym at) (all i x lt)
 
-all-pushed : {A : Type 0} (P : A → Type 0) (xs new : List A) (x : A) → new ≡ xs ++ x ∷ [] → All P xs → P x → All P new
-all-pushed P xs new x n all p = subst (All P) (sym n) (All-push P xs x all p)
-
 -- the line at a position of those that were read
 pub known-at : (ks : List KnownLine) (i : ℕ) (l : KnownLine) → i < length ks → l ≡ get_or ks i l → known_line_at ks i ≡ l
 known-at [] i l lt at = absurd (omega (arith, lt))

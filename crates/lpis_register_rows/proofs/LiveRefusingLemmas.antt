@@ -1,13 +1,12 @@
 -- What live rows that say a history have: what they are refused for otherwise.
-use Rattle.std.proofs.Common.{◌≡◌, ◌∙◌, ◌<◌, ◌+◌, inl, inr, refl, sym, ap, ap₂, subst, arith, ℕ, zero, suc, ℤ, pos, List, [], ◌∷◌, ◌++◌, Bool, true, length, map, take, get_or, ◌&&◌}
+use Rattle.std.proofs.Common.{◌≡◌, ◌∙◌, ◌<◌, ◌+◌, refl, sym, ap, ap₂, subst, arith, ℕ, zero, suc, ℤ, pos, List, [], ◌∷◌, ◌++◌, Bool, true, length, map, get_or, ◌&&◌}
 use Rattle.std.proofs.Common.{All, Contains}
-use Rattle.lpis_register_rows.proofs.Common.{AllByRecursion, list_any, map-append, All-from_recursion, recursion_from_All, both_ways, is_id, same_id, Entry, IsLawful, entry_at, holds, same-exact}
+use Rattle.lpis_register_rows.proofs.Common.{AllByRecursion, list_any, All-from_recursion, recursion_from_All, both_ways, is_id, same_id, Entry, IsLawful, entry_at, holds, same-exact}
 use Rattle.lpis_register_rows.proofs.Common.{same-refl}
-use Rattle.lpis_register_rows.proofs.Common.{take-at, above-zero, KnownLine, KnownSpan, Content, Live, StoredSpan, IsKeptHistory, LiveTells, TellsLive, years_of, covers, SaysHistory, SetsAre}
+use Rattle.lpis_register_rows.proofs.Common.{above-zero, KnownLine, KnownSpan, Content, Live, StoredSpan, IsKeptHistory, LiveTells, TellsLive, years_of, covers, SaysHistory, SetsAre}
 use Rattle.lpis_register_rows.proofs.Common.{known_of}
 use Rattle.lpis_register_rows.proofs.Common.{one_year, span_in}
-use Rattle.std.proofs.lemmas.List.{get_or_default}
-use Rattle.std.proofs.lemmas.List.Elements.{Contains-get_or, Contains-push_cases}
+use Rattle.std.proofs.lemmas.List.Elements.{Contains-get_or}
 use Rattle.std.proofs.lemmas.Bool.{and_parts}
 use Rattle.lpis_register_rows.proofs.LiveRowLemmas.{any-contains, live-row-covers, covers-one, one-covers, some-contained, since_of, rest_of}
 use Rattle.lpis_register_rows.proofs.NextReleaseLemmas.{any-map}
@@ -75,10 +74,3 @@ pub live-years : (h : List Entry) (live : List Live) (spans : List KnownSpan) (y
 live-years h live spans ys t ss e = All-from_recursion (λ s. Contains ys s.since) spans
     (since-years spans live ys ss (subst (λ (l : List ℤ). AllByRecursion (λ m. Contains l m.year) live) e
     (recursion_from_All (λ l. Contains (years_of h) l.year) live (all-years h live t))))
-
--- a year that is none of the first ones, nor the next
-not-among : (ys : List ℕ) (i : ℕ) (z : ℤ) → i < length ys → (Contains (map (λ y. pos y) (take i ys)) z → ⊥) → (pos (get_or ys i 0) ≡ z → ⊥) → Contains (map (λ y. pos y) (take (i + 1) ys)) z → ⊥
-not-among ys i z lt before here there = elim (Contains-push_cases (map (λ y. pos y) (take i ys)) (pos (get_or ys i 0)) z
-    (subst (λ (l : List ℤ). Contains l z) (sym more) there)) as (λ _. ⊥) [ inl a ↦ before a | inr b ↦ here b ] where
-      more : map (λ y. pos y) (take i ys) ++ pos (get_or ys i 0) ∷ [] ≡ map (λ y. pos y) (take (i + 1) ys)
-      more = sym (map-append (λ (y : ℕ). pos y) (take i ys) (get_or ys i 0 ∷ [])) ∙ ap (λ (l : List ℕ). map (λ y. pos y) l) (take-at ys i (get_or ys i 0) lt (get_or_default ys i 0 (get_or ys i 0) lt))

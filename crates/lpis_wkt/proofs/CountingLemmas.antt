@@ -34,9 +34,6 @@ points_in-push rs r = sum_by_push length rs r
 points_of-push : (ms : List Member) (m : Member) → points_of (ms ++ m ∷ []) ≡ points_of ms + (length m.shell + points_in m.holes)
 points_of-push ms m = sum_by_push (λ m. length m.shell + points_in m.holes) ms m
 
-points_in-cons : (r : List Point) (rs : List (List Point)) → points_in (r ∷ rs) ≡ length r + points_in rs
-points_in-cons r rs = omega (arith, sum_by-append (λ (l : List Point). length l) (r ∷ []) rs)
-
 member-points : (rs : List (List Point)) → length (member_of rs).shell + points_in (member_of rs).holes ≡ points_in rs
 member-points [] = refl
 member-points (r ∷ rs) = omega (arith, sum_by-append (λ (l : List Point). length l) (r ∷ []) rs)

@@ -1,6 +1,6 @@
 -- Where a word or a space stands, the tokens from there on are those after it.
 use Rattle.std.proofs.Common.{◌≡◌, ℕ, zero, suc, ◌+◌, ◌-◌, ◌<◌, ◌≤◌, Bool, true, false, cond, not, ◌||◌, ◌==◌, List, [], ◌∷◌, ◌++◌, length, take, drop, get_or, refl, sym, ap, ◌∙◌, arith, drop-cons}
-use Rattle.std.proofs.Common.{add-one, slice_range, length-drop, inl, inr}
+use Rattle.std.proofs.Common.{slice_range, length-drop, inl, inr}
 use Rattle.lpis_wkt.proofs.Common.{nat_tests, Token, Open, Close, Comma, Word, tokens_from, is_word}
 use Rattle.std.proofs.lemmas.Bool.{cases_lt}
 use Rattle.std.proofs.lemmas.List.{take-append-drop, length-take-le, drop-drop, nil_from_length}
@@ -109,6 +109,3 @@ word_token at end text lt le all stop =
     ∙ whole_word at (get_or text at 0) (take m tail) (drop end text) (all at (omega arith) lt) all_word (stops-at end text stop)
     ∙ ap (λ (n : ℕ). (at, Word (get_or text at 0 ∷ take m tail)) ∷ tokens_from n (drop end text)) count
     ∙ ap (λ (w : List ℕ). (at, Word w) ∷ tokens_from end (drop end text)) (sym word)
-
-space_token : (i : ℕ) (text : List ℕ) → i < length text → is_space (get_or text i 0) ≡ true → tokens_from (i + 1) (drop (i + 1) text) ≡ tokens_from i (drop i text)
-space_token i text lt h = rw (drop-cons text i 0, h, add-one) refl
