@@ -16,7 +16,8 @@ use Rattle.sqlite.specs.Does.{AtPlace, OnRows}
 use Rattle.sqlite.specs.Effect.{IsDatabase}
 use Rattle.sqlite.specs.Rows.{Written, Edited, Task}
 use Rattle.sqlite.specs.State.{Executes}
-use Rattle.lpis_register_sql.specs.private.Texts.{clear_span, clear_live, clear_text, clear_mark}
+use Rattle.lpis_register_sql.specs.private.Texts.{clear_span, clear_live, clear_mark}
+use Rattle.lpis_register_sql.specs.Statements.{clear_text}
 use Rattle.lpis_register_sql.proofs.MeaningLemmas.{Says, whole, ids_query, clear_span_means, clear_live_means, clear_text_means, clear_mark_means}
 use Rattle.lpis_register_sql.proofs.UpdateLemmas.{without_is, filter_same, gone_are, key_of}
 use Rattle.lpis_register_sql.proofs.PartLemmas.{KeepsAll, own_tree, spans_changed, texts_changed, marks_changed, live_changed}

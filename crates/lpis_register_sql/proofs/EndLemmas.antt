@@ -21,7 +21,7 @@ use Rattle.sqlite_rules.proofs.ProbeLemmas.{mapped_has, has_mapped}
 use Rattle.sqlite.specs.Cast.{cast_row}
 use Rattle.sqlite.specs.Term.{holds}
 use Rattle.lpis_register_rows.specs.Content.{end_at, with_ended}
-use Rattle.lpis_register_sql.specs.private.Texts.{end_span}
+use Rattle.lpis_register_sql.specs.Statements.{end_span}
 use Rattle.lpis_register_sql.specs.private.Shown.{text_in}
 use Rattle.lpis_register_sql.proofs.MeaningLemmas.{ends_query, end_span_means, whole}
 use Rattle.lpis_register_sql.proofs.PartLemmas.{spans_changed, own_tree}

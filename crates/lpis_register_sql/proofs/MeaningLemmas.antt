@@ -20,8 +20,10 @@ use Rattle.sqlite.specs.Change.{created}
 use Rattle.sqlite.specs.Listing.{reads_listing}
 use Rattle.sqlite.proofs.Callers.{IsPlain, command_of}
 use Rattle.sqlite_tied.specs.Compute.{everything}
-use Rattle.lpis_register_sql.specs.private.Texts.{make_format, make_release, make_span, make_row, insert_format, insert_release, insert_span, insert_line, end_span, clear_span, insert_whole_span}
-use Rattle.lpis_register_sql.specs.private.Texts.{clear_live, set_version, make_text, make_mark, insert_text, clear_text, insert_mark, clear_mark}
+use Rattle.lpis_register_sql.specs.private.Texts.{make_format, make_release, make_span, make_row, insert_format, clear_span, insert_whole_span}
+use Rattle.lpis_register_sql.specs.Statements.{insert_release, insert_span, insert_line, end_span}
+use Rattle.lpis_register_sql.specs.private.Texts.{clear_live, set_version, make_text, make_mark, clear_mark}
+use Rattle.lpis_register_sql.specs.Statements.{insert_text, clear_text, insert_mark}
 
 -- a key of an ORDER BY: texts compared as bytes, the least first
 abbrev pub ascending : Key

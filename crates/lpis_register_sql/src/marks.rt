@@ -1,12 +1,14 @@
 //! The marks of the rows of lineage, written.
 
-ghost use Rattle.std.specs.Prelude.{◌≡◌, ◌<◌, ◌^◌, ◌∷◌, [], pos};
+ghost use Rattle.std.specs.Prelude.{◌≡◌, ◌<◌, ◌^◌, ◌∷◌, [], map, pos};
 ghost use Rattle.sqlite.specs.Held.{state};
 ghost use Rattle.lpis_register_rows.specs.Content.{marks_from, with_mark, with_marks};
 ghost use Rattle.lpis_register_rows.specs.Content.{without_marks};
+ghost use Rattle.lpis_register_sql.specs.Stopping.{Makes, mark_statement};
 ghost use Rattle.lpis_register_sql.specs.private.Inside.{IsQuiet, Turns};
 ghost use Rattle.lpis_register_sql.specs.private.Lines.{mark_at};
 
+use crate::statements::run;
 use lpis_lineage::Row;
 use sqlite::{Alter, Error, Transaction, params};
 
@@ -17,8 +19,7 @@ pub(crate) fn clear_marks<S: Alter>(tx: &mut Transaction<'_, S>) -> Result<(), E
         (state S.Store tx.new.conn.now) result }
     ensures quiet { IsQuiet (state S.Store tx.old.conn.now) (state S.Store tx.new.conn.now) }
 {
-    tx.execute("DELETE FROM lpis_mark", &[])?;
-    Ok(())
+    run(tx, "DELETE FROM lpis_mark", &[])
 }
 
 /// One more mark: of the row of lineage at a position of a year's release.
@@ -31,14 +32,16 @@ pub(crate) fn insert_mark<S: Alter>(
     ensures same_reference { tx.new.conn.ghost_name ≡ tx.old.conn.ghost_name }
     ensures adds { Turns (λ c. with_mark c (mark_at (pos year) (pos position)))
         (state S.Store tx.old.conn.now) (state S.Store tx.new.conn.now) result }
+    ensures makes { Makes S.Store (mark_statement (mark_at (pos year) (pos position)) ∷ []) tx.old.conn.now
+        tx.new.conn.now result }
     ensures quiet { IsQuiet (state S.Store tx.old.conn.now) (state S.Store tx.new.conn.now) }
 {
     let position = position as i64;
-    tx.execute(
+    run(
+        tx,
         "INSERT INTO lpis_mark (year, pos) VALUES (?1, ?2)",
         params![year, position],
-    )?;
-    Ok(())
+    )
 }
 
 /// The mark of a row of lineage at its position, where it is marked exact.
@@ -52,6 +55,8 @@ fn insert_if<S: Alter>(
     ensures same_reference { tx.new.conn.ghost_name ≡ tx.old.conn.ghost_name }
     ensures adds { Turns (with_marks (marks_from (pos year) position (row.now ∷ [])))
         (state S.Store tx.old.conn.now) (state S.Store tx.new.conn.now) result }
+    ensures makes { Makes S.Store (map mark_statement (marks_from (pos year) position (row.now ∷ []))) tx.old.conn.now
+        tx.new.conn.now result }
     ensures quiet { IsQuiet (state S.Store tx.old.conn.now) (state S.Store tx.new.conn.now) }
 {
     if row.exact {
@@ -70,6 +75,8 @@ pub(crate) fn insert_marks<S: Alter>(
     ensures same_reference { tx.new.conn.ghost_name ≡ tx.old.conn.ghost_name }
     ensures adds { Turns (with_marks (marks_from (pos year) 0 rows.now))
         (state S.Store tx.old.conn.now) (state S.Store tx.new.conn.now) result }
+    ensures makes { Makes S.Store (map mark_statement (marks_from (pos year) 0 rows.now)) tx.old.conn.now
+        tx.new.conn.now result }
     ensures quiet { IsQuiet (state S.Store tx.old.conn.now) (state S.Store tx.new.conn.now) }
 {
     // Which is below 2^63.

@@ -1,11 +1,14 @@
 //! Publishing a release, in one transaction.
 
-ghost use Rattle.std.specs.Prelude.{◌≡◌, pos, false};
+ghost use Rattle.std.specs.Prelude.{◌≡◌, pos, false, true, IfErr, IsTrue};
 ghost use Rattle.sqlite.specs.Held.{state};
+ghost use Rattle.sqlite.specs.State.{HasCleanDisk};
 ghost use Rattle.lpis_register_rows.specs.Content.{with_year, with_spans, all_ended};
 ghost use Rattle.lpis_register_rows.specs.Content.{lines_from, marks_from, published, released};
 ghost use Rattle.lpis_register_rows.specs.Content.{with_lines};
 ghost use Rattle.lpis_register_sql.specs.Commits.{AllStand, Rewrites};
+ghost use Rattle.lpis_register_sql.specs.Stopping.{Makes, Stops, release_statements};
+ghost use Rattle.lpis_register_sql.specs.Stopping.{row_statements, span_statements};
 ghost use Rattle.lpis_register_sql.specs.private.Inside.{IsQuiet, Turns};
 
 use crate::marks::insert_marks;
@@ -29,12 +32,13 @@ fn fill<S: Alter>(
     ensures adds { Turns (λ c. with_spans (pos year) fresh.now
         (all_ended (pos last) dropped.now (with_year (pos year) c)))
         (state S.Store tx.old.conn.now) (state S.Store tx.new.conn.now) result }
+    ensures makes { Makes S.Store (span_statements (pos year) (pos last) dropped.now fresh.now) tx.old.conn.now
+        tx.new.conn.now result }
     ensures quiet { IsQuiet (state S.Store tx.old.conn.now) (state S.Store tx.new.conn.now) }
 {
     insert_release(tx, year)?;
     end_spans(tx, last, dropped)?;
-    insert_spans(tx, year, fresh)?;
-    Ok(())
+    insert_spans(tx, year, fresh)
 }
 
 /// The rows of a release with their marks, and its texts in place of any.
@@ -48,6 +52,8 @@ fn fill_rows<S: Alter>(
     ensures adds { Turns (λ c. released texts.now (marks_from (pos year) 0 rows.now)
         (with_lines (lines_from (pos year) 0 rows.now) c))
         (state S.Store tx.old.conn.now) (state S.Store tx.new.conn.now) result }
+    ensures makes { Makes S.Store (row_statements (pos year) rows.now texts.now) tx.old.conn.now
+        tx.new.conn.now result }
     ensures quiet { IsQuiet (state S.Store tx.old.conn.now) (state S.Store tx.new.conn.now) }
 {
     insert_lines(tx, year, rows)?;
@@ -73,6 +79,9 @@ pub fn write_release<S: Alter>(
     ensures writes { Rewrites AllStand (λ c. released texts.now (marks_from (pos year) 0 rows.now)
         (published (pos year) (pos last) dropped.now fresh.now rows.now c))
         (state S.Store conn.old) (state S.Store conn.new) result }
+    ensures stops { IsTrue (state S.Store conn.old).is_open → HasCleanDisk (state S.Store conn.new)
+        → IfErr result (Stops S.Store (release_statements (pos year) (pos last) dropped.now
+        fresh.now rows.now texts.now) (record conn.old { in_transaction = true }) conn.new) }
 {
     let mut tx = conn.transaction();
     fill(&mut tx, year, last, dropped, fresh)?;

@@ -1,8 +1,10 @@
 //! The loops that write, which rest on the statements' clauses alone.
 
-ghost use Rattle.std.specs.Prelude.{◌≡◌, pos};
+ghost use Rattle.std.specs.Prelude.{◌≡◌, map, pos};
 ghost use Rattle.sqlite.specs.Held.{state};
 ghost use Rattle.lpis_register_rows.specs.Content.{with_spans, all_ended, with_lines, lines_from};
+ghost use Rattle.lpis_register_sql.specs.Stopping.{Makes, ending_statement, line_statement};
+ghost use Rattle.lpis_register_sql.specs.Stopping.{span_statement};
 ghost use Rattle.lpis_register_sql.specs.private.Inside.{IsQuiet, Turns};
 
 use crate::statements::{end_span, insert_row, insert_span};
@@ -19,6 +21,8 @@ pub(crate) fn insert_spans<S: Alter>(
     ensures same_reference { tx.new.conn.ghost_name ≡ tx.old.conn.ghost_name }
     ensures adds { Turns (with_spans (pos year) ids.now)
         (state S.Store tx.old.conn.now) (state S.Store tx.new.conn.now) result }
+    ensures makes { Makes S.Store (map (span_statement (pos year)) ids.now) tx.old.conn.now
+        tx.new.conn.now result }
     ensures quiet { IsQuiet (state S.Store tx.old.conn.now) (state S.Store tx.new.conn.now) }
 {
     for id in ids {
@@ -36,6 +40,8 @@ pub(crate) fn end_spans<S: Alter>(
     ensures same_reference { tx.new.conn.ghost_name ≡ tx.old.conn.ghost_name }
     ensures adds { Turns (all_ended (pos year) ids.now)
         (state S.Store tx.old.conn.now) (state S.Store tx.new.conn.now) result }
+    ensures makes { Makes S.Store (map (ending_statement (pos year)) ids.now) tx.old.conn.now
+        tx.new.conn.now result }
     ensures quiet { IsQuiet (state S.Store tx.old.conn.now) (state S.Store tx.new.conn.now) }
 {
     for id in ids {
@@ -53,6 +59,8 @@ pub(crate) fn insert_lines<S: Alter>(
     ensures same_reference { tx.new.conn.ghost_name ≡ tx.old.conn.ghost_name }
     ensures adds { Turns (with_lines (lines_from (pos year) 0 rows.now))
         (state S.Store tx.old.conn.now) (state S.Store tx.new.conn.now) result }
+    ensures makes { Makes S.Store (map line_statement (lines_from (pos year) 0 rows.now)) tx.old.conn.now
+        tx.new.conn.now result }
     ensures quiet { IsQuiet (state S.Store tx.old.conn.now) (state S.Store tx.new.conn.now) }
 {
     // Which is below 2^63.

@@ -1,0 +1,292 @@
+-- Statements of a transaction, in turn, and why they stop.
+use Rattle.std.proofs.Common.{◌≡◌, ℕ, Bool, true, false, List, [], ◌∷◌, ◌++◌, take, map, length, arith, refl, sym, ap, subst, ◌∙◌, Ok, Err, Result, OnOk, inl, inr, IsTrue, ◌⊎◌, IfErr, MatchBool}
+use Rattle.std.proofs.Common.{None, IsErrAnd}
+use Rattle.std.proofs.lemmas.List.{append_assoc, take_more, map-append, take-append-drop}
+use Rattle.std.proofs.Math.Seq.{take-length}
+use Rattle.std.proofs.Common.{get_or, ◌<◌, ◌≤◌, ◌+◌, drop, zero, suc, pos, ℤ, if◌then◌else◌}
+use Rattle.lpis_lineage.specs.declared.row.Row.{Row}
+use Rattle.lpis_register_rows.specs.Content.{Mark, lines_from, marks_from}
+use Rattle.lpis_register_sql.specs.private.Lines.{mark_at, row_line}
+use Rattle.lpis_register_sql.specs.Stopping.{line_statement, mark_statement}
+use Rattle.sqlite.specs.Held.{Held}
+use Rattle.sqlite.specs.State.{Shows, IsUnchanged, IsNotRun, ExecutesIn, RunsAlone, RunsCommand, Fails, IsStatement, text_of, shows_rows, IsRolledBack}
+use Rattle.sqlite.specs.Clock.{timed}
+use Rattle.sqlite.specs.Steps.{FailsToCommit}
+use Rattle.sqlite_disk.specs.Disk.{MoreFaults}
+use Rattle.sqlite_resolve.specs.declared.compiled.Compiled.{Compiled}
+use Rattle.sqlite_trees.specs.declared.error.StoreError.TheVariants as cause
+use Rattle.sqlite_trees.specs.declared.store.Store as store
+use Rattle.sqlite.specs.declared.error.Error.TheVariants.{SqliteFailure, ExecuteReturnedResults}
+use Rattle.sqlite.specs.declared.error.ErrorCode.TheVariants as code
+use Rattle.lpis_register_sql.proofs.Common.{Does, Error, ExecutesInside, HasCleanDisk, IsQuiet, State, Survives, Trees, mode_of, state}
+use Rattle.lpis_register_sql.specs.Stopping.{BoundStatement, IsRefusedIn, IsStuck, Makes, Ran, Stops}
+
+-- what follows of an answer follows where there is one
+pub on_ok : {A E P Q : Type 0} (r : Result A E) → (P → Q) → OnOk r P → OnOk r Q
+on_ok (Ok _) f p = f p
+on_ok (Err _) f p = tt
+
+-- ---- one statement
+
+-- it failed for want of memory, by the disk, or for its row's size
+failing : (too_big : Type 0) (a b : State) (e : Error) → IsTrue a.is_open → Fails a b too_big e → (e ≡ SqliteFailure code.OutOfMemory) ⊎ (MoreFaults a.faults b.faults ⊎ too_big)
+failing too_big a b e up (cause.OutOfMemory, is, why, back, tells) = inl is
+failing too_big a b e up (cause.Io, is, why, back, tells) = inr (inl why)
+failing too_big a b e up (cause.Corrupt, is, why, back, tells) = inr (inl why)
+failing too_big a b e up (cause.Full, is, why, back, tells) = inr (inl why)
+failing too_big a b e up (cause.Broken, is, why, back, tells) = absurd cc
+failing too_big a b e up (cause.Unstorable, is, why, back, tells) = inr (inr why)
+
+-- an open connection is as it is
+unchanged : (a : State) → IsTrue a.is_open → IsUnchanged a a
+unchanged a up = (
+  record { was_open = up; is_open = up; now_is = refl; committed_is = refl; mode = refl },
+  record { changes = refl; last_rowid = refl },
+  refl,
+)
+
+either : {X Y V Z W : Type 0} (b : Bool) → (X → V) → (Y → Z ⊎ W) → MatchBool b X Y → MatchBool b V Z ⊎ W
+either true f g x = inl (f x)
+either false f g y = g y
+
+-- why a statement of an open transaction is not run
+abbrev Fault : State → State → Error → Type 0 → Type 0
+Fault a b e too_big = (e ≡ SqliteFailure code.OutOfMemory) ⊎ (MoreFaults a.faults b.faults ⊎ too_big)
+
+not_run : (x : BoundStatement) (a b : State) (e : Error) → IsTrue a.is_open → IsNotRun a b x.sql x.values e → IsNotRun a a x.sql x.values e ⊎ Fault a b e ⊥
+unfolding IsNotRun
+not_run x a b e up (inl (none, _)) = inl (inl (none, unchanged a up))
+not_run x a b e up (inr failed) = inr (failing ⊥ a b e up failed)
+
+alone : (x : BoundStatement) (a b : State) (e : Error) (c : Compiled) (it : IsStatement a x.sql x.values c) → IsTrue a.is_open
+    → RunsAlone false a b x.sql c (timed x.values c.formats it.now) (Err e)
+    → RunsAlone false a a x.sql c (timed x.values c.formats it.now) (Err e)
+    ⊎ Fault a b e (Does a.step_limit (mode_of a) (timed x.values c.formats it.now) a.now (text_of x.sql c) c.returning c.command (Err None))
+alone x a b e c it up = either (shows_rows false c) (λ h. (h.0, unchanged a up)) (λ h. elim h [
+  | inl refused ↦ inl (inl (refused.0, unchanged a up))
+  | inr failed ↦ inr (failing _ a b e up failed)
+])
+
+stopped_in : (x : BoundStatement) (a b : State) (e : Error) → IsTrue a.is_open → ExecutesIn false x.sql x.values a b (Err e) → Fault a b e (IsRefusedIn a x)
+unfolding ExecutesIn
+stopped_in x a b e up (inl none) = elim (not_run x a b e up none) [
+  | inl same ↦ inr (inr (inl (e, inl (inl same, inl (unchanged a up)))))
+  | inr fault ↦ elim fault [ inl memory ↦ inl memory | inr disk ↦ inr (elim disk [ inl more ↦ inl more | inr never ↦ absurd never ]) ]
+]
+stopped_in x a b e up (inr (c, it, run)) = elim (alone x a b e c it up run) [
+  | inl same ↦ inr (inr (inl (e, inl (inr (c, it, same), inl (unchanged a up)))))
+  | inr fault ↦ elim fault [ inl memory ↦ inl memory | inr disk ↦ inr (elim disk [ inl more ↦ inl more | inr large ↦ inr (inr (c, it, large)) ]) ]
+]
+
+stopped : (x : BoundStatement) (a b : State) (e : Error) → IsTrue a.is_open → ExecutesInside 0 x.sql x.values a b (Err e) → Fault a b e (IsRefusedIn a x)
+stopped x a b e up (inl (run, _)) = stopped_in x a b e up run
+stopped x a b e up (inr late) = inr (inr (inl (e, inr (late.0, late.1, unchanged a up))))
+
+more_faults : (a b c : ℕ) → a ≤ b → MoreFaults b c → MoreFaults a c
+more_faults a b c low more = omega arith
+
+faults_kept : (a b c : ℕ) → MoreFaults a b → b ≤ c → MoreFaults a c
+faults_kept a b c more low = omega arith
+
+-- a call that makes these statements in an open transaction fails, and says why
+abbrev Halts : {S : Type 0} → store.Ghosts S → List BoundStatement → Held S → Held S → Error → Type 0
+Halts g xs a b e = HasCleanDisk (state g b) → IsTrue (state g a).is_open → IsTrue a.in_transaction → Stops g xs a b e
+
+module _ {S : Type 0} (g : store.Ghosts S) where
+  -- ---- statements in turn
+
+  -- a statement that was run
+  pub one_ran : (x : BoundStatement) (a b : Held S) (count : ℕ) → ExecutesInside 0 x.sql x.values (state g a) (state g b) (Ok count) → Ran g (x ∷ []) a b
+  one_ran x a b count ran = (b, count, ran, refl)
+
+  -- and one that was not
+  pub one_stops : (x : BoundStatement) (a b : Held S) (e : Error) → IsTrue (state g a).is_open → ExecutesInside 0 x.sql x.values (state g a) (state g b) (Err e) → Stops g (x ∷ []) a b e
+  one_stops x a b e up ran = elim (stopped x (state g a) (state g b) e up ran) [
+    | inl memory ↦ inl memory
+    | inr disk ↦ inr (elim disk [
+      | inl more ↦ inl more
+      | inr refused ↦ inr (record { before = []; next = x; after = []; are = refl; reached = a; ran = refl; refused = refused })
+    ])
+  ]
+
+  ran_then : (xs ys : List BoundStatement) (a b c : Held S) → Ran g xs a b → Ran g ys b c → Ran g (xs ++ ys) a c
+  ran_then [] ys a b c r s = subst (λ h. Ran g ys h c) (sym r) s
+  ran_then (x ∷ xs) ys a b c (mid, count, ran, more) s = (mid, count, ran, ran_then xs ys mid b c more s)
+
+  -- statements that were run leave the transaction open
+  pub ran_open : (xs : List BoundStatement) (a b : Held S) → Ran g xs a b → IsTrue (state g a).is_open → IsTrue a.in_transaction → IsTrue (state g b).is_open × IsTrue b.in_transaction
+  ran_open [] a b r up within = subst (λ h. IsTrue (state g h).is_open × IsTrue h.in_transaction) r (up, within)
+  ran_open (x ∷ xs) a b (mid, count, ran, more) up within = ran_open xs mid b more ran.1.is_open ran.1.mode
+
+  stuck_before : (xs ys : List BoundStatement) (a : Held S) → IsStuck g xs a → IsStuck g (xs ++ ys) a
+  stuck_before xs ys a s = record {
+    before = s.before;
+    next = s.next;
+    after = s.after ++ ys;
+    are = ap (λ l. l ++ ys) s.are ∙ append_assoc s.before (s.next ∷ s.after) ys;
+    reached = s.reached;
+    ran = s.ran;
+    refused = s.refused;
+  }
+
+  stuck_after : (xs ys : List BoundStatement) (a b : Held S) → Ran g xs a b → IsStuck g ys b → IsStuck g (xs ++ ys) a
+  stuck_after xs ys a b ran s = record {
+    before = xs ++ s.before;
+    next = s.next;
+    after = s.after;
+    are = ap (λ l. xs ++ l) s.are ∙ sym (append_assoc xs s.before (s.next ∷ s.after));
+    reached = s.reached;
+    ran = ran_then xs s.before a b s.reached ran s.ran;
+    refused = s.refused;
+  }
+
+  -- where the first of two lists stops, both do
+  pub stops_before : (xs ys : List BoundStatement) (a b : Held S) (e : Error) → Stops g xs a b e → Stops g (xs ++ ys) a b e
+  stops_before xs ys a b e (inl memory) = inl memory
+  stops_before xs ys a b e (inr (inl more)) = inr (inl more)
+  stops_before xs ys a b e (inr (inr stuck)) = inr (inr (stuck_before xs ys a stuck))
+
+  -- and where the first was run and the second stops
+  pub stops_after : (xs ys : List BoundStatement) (a b c : Held S) (e : Error) → (state g a).faults ≤ (state g b).faults → Ran g xs a b → Stops g ys b c e → Stops g (xs ++ ys) a c e
+  stops_after xs ys a b c e low ran (inl memory) = inl memory
+  stops_after xs ys a b c e low ran (inr (inl more)) = inr (inl (more_faults (state g a).faults (state g b).faults (state g c).faults low more))
+  stops_after xs ys a b c e low ran (inr (inr stuck)) = inr (inr (stuck_after xs ys a b ran stuck))
+
+  -- of two calls, one after the other, each makes its statements
+  pub makes_both : (xs ys : List BoundStatement) (a b c : Held S) (r : Result (Unit {0}) Error) → IsQuiet (state g a) (state g b) → IsQuiet (state g b) (state g c)
+      → Makes g xs a b (Ok tt) → Makes g ys b c r → Makes g (xs ++ ys) a c r
+  makes_both xs ys a b c (Ok _) first second done more clean up within =
+      let ran : Ran g xs a b = done (omega (arith, second.survives.clean)) up within in
+      let on = ran_open xs a b ran up within in ran_then xs ys a b c ran (more clean on.0 on.1)
+  makes_both xs ys a b c (Err e) first second done more clean up within =
+      let ran : Ran g xs a b = done (omega (arith, second.survives.clean)) up within in
+      let on = ran_open xs a b ran up within in stops_after xs ys a b c e first.survives.counts ran (more clean on.0 on.1)
+
+  -- and where the first of them fails, that is all
+  pub fails_first : (xs ys : List BoundStatement) (a b : Held S) (e : Error) → Halts g xs a b e → Halts g (xs ++ ys) a b e
+  fails_first xs ys a b e h clean up within = stops_before xs ys a b e (h clean up within)
+
+  -- a failure that is handed on
+  pub handed_on : (xs : List BoundStatement) (a b : Held S) (e : Error) (r : Result (Unit {0}) Error) → IsErrAnd r (λ x. x ≡ e) → Halts g xs a b e → Makes g xs a b r
+  handed_on xs a b e (Ok _) is h = absurd is
+  handed_on xs a b e (Err x) is h = λ clean up within. subst (Stops g xs a b) (sym is) (h clean up within)
+
+  -- no later call takes a cause away
+  stops_still : (xs : List BoundStatement) (a b c : Held S) (e : Error) → (state g b).faults ≤ (state g c).faults → Stops g xs a b e → Stops g xs a c e
+  stops_still xs a b c e low (inl memory) = inl memory
+  stops_still xs a b c e low (inr (inl more)) = inr (inl (faults_kept (state g a).faults (state g b).faults (state g c).faults more low))
+  stops_still xs a b c e low (inr (inr stuck)) = inr (inr stuck)
+
+  -- a transaction that is dropped after its statements failed
+  pub undone_stops : (xs : List BoundStatement) (a b c : Held S) (e : Error) (r : Result (Unit {0}) Error) → IsErrAnd r (λ x. x ≡ e) → Survives (state g b) (state g c) (λ _. ⊥) → Halts g xs a b e
+      → HasCleanDisk (state g c) → IsTrue (state g a).is_open → IsTrue a.in_transaction → IfErr r (Stops g xs a c)
+  undone_stops xs a b c e (Ok _) is drops h clean up within = tt
+  undone_stops xs a b c e (Err x) is drops h clean up within =
+      subst (Stops g xs a c) (sym is) (stops_still xs a b c e drops.counts (h (omega (arith, drops.clean)) up within))
+
+  failed_commit : (xs : List BoundStatement) (a b c : Held S) (e : Error) → (state g a).faults ≤ (state g b).faults → Ran g xs a b → IsTrue (state g a).is_open → IsTrue a.in_transaction
+      → FailsToCommit (state g b) (state g c) e → Stops g xs a c e
+  failed_commit xs a b c e low ran up within (inl failed) = elim (failing ⊥ (state g b) (state g c) e (ran_open xs a b ran up within).0 failed) [
+    | inl memory ↦ inl memory
+    | inr disk ↦ inr (elim disk [ | inl more ↦ inl (more_faults (state g a).faults (state g b).faults (state g c).faults low more) | inr never ↦ absurd never ])
+  ]
+  failed_commit xs a b c e low ran up within (inr late) = absurd (let on = (ran_open xs a b ran up within).1 in let off = late.1 in cc)
+
+  -- a transaction whose statements were run, and that is not committed
+  pub commit_stops : (xs : List BoundStatement) (a b c : Held S) (r : Result (Unit {0}) Error) (P : Trees → Type 0) → IsQuiet (state g a) (state g b) → Survives (state g b) (state g c) P
+      → (HasCleanDisk (state g c) → IfErr r (FailsToCommit (state g b) (state g c))) → Makes g xs a b (Ok tt)
+      → HasCleanDisk (state g c) → IsTrue (state g a).is_open → IsTrue a.in_transaction → IfErr r (Stops g xs a c)
+  commit_stops xs a b c (Ok _) P quiet ends err done clean up within = tt
+  commit_stops xs a b c (Err e) P quiet ends err done clean up within =
+      failed_commit xs a b c e quiet.survives.counts (done (omega (arith, ends.clean)) up within) up within (err clean)
+
+  -- a call that begins a transaction for its statements
+  pub begun_stops : (xs : List BoundStatement) (held first last new : Held S) (r : Result (Unit {0}) Error) → first ≡ record held { in_transaction = true } → last ≡ new
+      → (HasCleanDisk (state g last) → IsTrue (state g first).is_open → IsTrue first.in_transaction → IfErr r (Stops g xs first last))
+      → IsTrue (state g held).is_open → HasCleanDisk (state g new) → IfErr r (Stops g xs (record held { in_transaction = true }) new)
+  begun_stops xs held first last new r begun same h up clean =
+      subst (λ x. IfErr r (Stops g xs (record held { in_transaction = true }) x)) same
+      (subst (λ x. IfErr r (Stops g xs x last)) begun (h (subst (λ x. HasCleanDisk (state g x)) (sym same) clean)
+      (subst (λ x. IsTrue (state g x).is_open) (sym begun) up) (subst (λ x. IsTrue x.in_transaction) (sym begun) refl)))
+
+  -- a loop makes the statements of one item more
+  pub makes_more : (xs ys zs : List BoundStatement) (a b c : Held S) (r : Result (Unit {0}) Error) → zs ≡ xs ++ ys → IsQuiet (state g a) (state g b) → IsQuiet (state g b) (state g c)
+      → Makes g xs a b (Ok tt) → Makes g ys b c r → Makes g zs a c r
+  makes_more xs ys zs a b c r is first second done more = subst (λ l. Makes g l a c r) (sym is) (makes_both xs ys a b c r first second done more)
+
+  -- at its end it has made those of all items
+  pub makes_at_end : {Y : Type 0} (statements : List Y → List BoundStatement) (xs : List Y) (i : ℕ) (a b : Held S) → i ≡ length xs → Makes g (statements (take i xs)) a b (Ok tt)
+      → Makes g (statements xs) a b (Ok tt)
+  makes_at_end statements xs i a b ends h = subst (λ ys. Makes g (statements ys) a b (Ok tt)) (ap (λ n. take n xs) ends ∙ take-length xs) h
+
+  -- of the statements of a list, those of its beginning stop it
+  pub fails_part : (xs ys zs : List BoundStatement) (a b : Held S) (e : Error) → zs ≡ xs ++ ys → Halts g xs a b e → Halts g zs a b e
+  fails_part xs ys zs a b e is h = subst (λ l. Halts g l a b e) (sym is) (fails_first xs ys a b e h)
+
+-- the statements of one item more
+pub map_more : {Y : Type 0} (f : Y → BoundStatement) (xs : List Y) (i : ℕ) (d x : Y) → i < length xs → x ≡ get_or xs i d → map f (take (i + 1) xs) ≡ map f (take i xs) ++ f x ∷ []
+map_more f xs i d x low is = ap (map f) (take_more xs i d low) ∙ map-append f (take i xs) (get_or xs i d ∷ []) ∙ ap (λ y. map f (take i xs) ++ f y ∷ []) (sym is)
+
+-- the statements of a list are those of its beginning, and then others
+pub map_parts : {Y : Type 0} (f : Y → BoundStatement) (n : ℕ) (xs : List Y) → map f xs ≡ map f (take n xs) ++ map f (drop n xs)
+map_parts f n xs = ap (map f) (sym (take-append-drop n xs)) ∙ map-append f (take n xs) (drop n xs)
+
+line_parts : (y : ℤ) (n : ℕ) (rows : List Row) (i : ℕ) → lines_from y n rows ≡ lines_from y n (take i rows) ++ lines_from y (n + i) (drop i rows)
+line_parts y n rows zero = ap (λ k. lines_from y k rows) (let e : n ≡ n + 0 = omega arith in e)
+line_parts y n [] (suc i) = refl
+line_parts y n (r ∷ rows) (suc i) =
+    let position : n + 1 + i ≡ n + suc i = omega arith in
+    ap (λ l. row_line y (pos n) r ∷ l) (line_parts y (n + 1) rows i ∙ ap (λ k. lines_from y (n + 1) (take i rows) ++ lines_from y k (drop i rows)) position)
+
+put : (b : Bool) (m : Mark) (xs ys zs : List Mark) → xs ≡ ys ++ zs → (if b then m ∷ xs else xs) ≡ (if b then m ∷ ys else ys) ++ zs
+put true m xs ys zs e = ap (λ l. m ∷ l) e
+put false m xs ys zs e = e
+
+mark_parts : (y : ℤ) (n : ℕ) (rows : List Row) (i : ℕ) → marks_from y n rows ≡ marks_from y n (take i rows) ++ marks_from y (n + i) (drop i rows)
+mark_parts y n rows zero = ap (λ k. marks_from y k rows) (let e : n ≡ n + 0 = omega arith in e)
+mark_parts y n [] (suc i) = refl
+mark_parts y n (r ∷ rows) (suc i) =
+    let position : n + 1 + i ≡ n + suc i = omega arith in
+    put r.exact (mark_at y (pos n)) _ _ _ (mark_parts y (n + 1) rows i ∙ ap (λ k. marks_from y (n + 1) (take i rows) ++ marks_from y k (drop i rows)) position)
+
+-- the statements of a release's rows of lineage are those of the first of them, and then others
+pub line_statements_part : (y : ℤ) (n : ℕ) (rows : List Row) → map line_statement (lines_from y 0 rows)
+    ≡ map line_statement (lines_from y 0 (take n rows)) ++ map line_statement (lines_from y (0 + n) (drop n rows))
+line_statements_part y n rows = ap (map line_statement) (line_parts y 0 rows n) ∙ map-append line_statement (lines_from y 0 (take n rows)) (lines_from y (0 + n) (drop n rows))
+
+-- so are those of their marks
+pub mark_statements_part : (y : ℤ) (n : ℕ) (rows : List Row) → map mark_statement (marks_from y 0 rows)
+    ≡ map mark_statement (marks_from y 0 (take n rows)) ++ map mark_statement (marks_from y (0 + n) (drop n rows))
+mark_statements_part y n rows = ap (map mark_statement) (mark_parts y 0 rows n) ∙ map-append mark_statement (marks_from y 0 (take n rows)) (marks_from y (0 + n) (drop n rows))
+
+drop_one : {Y : Type 0} (xs : List Y) (i : ℕ) (d x : Y) → i < length xs → x ≡ get_or xs i d → drop i (take (suc i) xs) ≡ x ∷ []
+drop_one [] i d x low is = absurd (omega arith)
+drop_one (y ∷ xs) zero d x low is = ap (λ z. z ∷ []) (sym is)
+drop_one (y ∷ xs) (suc i) d x low is = drop_one xs i d x (omega arith) is
+
+take_two : {Y : Type 0} (xs : List Y) (i : ℕ) → take i (take (suc i) xs) ≡ take i xs
+take_two [] zero = refl
+take_two [] (suc i) = refl
+take_two (y ∷ xs) zero = refl
+take_two (y ∷ xs) (suc i) = ap (λ l. y ∷ l) (take_two xs i)
+
+-- of a list that is made of rows from a position on, its beginnings make up each next one
+step_more : (from : ℕ → List Row → List BoundStatement) → ((n : ℕ) (rows : List Row) → from 0 rows ≡ from 0 (take n rows) ++ from (0 + n) (drop n rows))
+    → (rows : List Row) (i : ℕ) (d r : Row) → i < length rows → r ≡ get_or rows i d → from 0 (take (i + 1) rows) ≡ from 0 (take i rows) ++ from i (r ∷ [])
+step_more from parts rows i d r low is =
+    let next : i + 1 ≡ suc i = omega arith in
+    let first : 0 + i ≡ i = omega arith in
+    ap (λ n. from 0 (take n rows)) next ∙ parts i (take (suc i) rows)
+    ∙ ap (λ l. from 0 l ++ from (0 + i) (drop i (take (suc i) rows))) (take_two rows i)
+    ∙ ap (λ l. from 0 (take i rows) ++ from (0 + i) l) (drop_one rows i d r low is)
+    ∙ ap (λ k. from 0 (take i rows) ++ from k (r ∷ [])) first
+
+-- the statement of one row of lineage more
+pub line_more : (y : ℤ) (rows : List Row) (i : ℕ) (d r : Row) → i < length rows → r ≡ get_or rows i d
+    → map line_statement (lines_from y 0 (take (i + 1) rows)) ≡ map line_statement (lines_from y 0 (take i rows)) ++ line_statement (row_line y (pos i) r) ∷ []
+line_more y = step_more (λ n rows. map line_statement (lines_from y n rows)) (line_statements_part y)
+
+-- and of its mark
+pub mark_more : (y : ℤ) (rows : List Row) (i : ℕ) (d r : Row) → i < length rows → r ≡ get_or rows i d
+    → map mark_statement (marks_from y 0 (take (i + 1) rows)) ≡ map mark_statement (marks_from y 0 (take i rows)) ++ map mark_statement (marks_from y i (r ∷ []))
+mark_more y = step_more (λ n rows. map mark_statement (marks_from y n rows)) (mark_statements_part y)
