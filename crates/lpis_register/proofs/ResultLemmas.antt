@@ -43,7 +43,7 @@ lawful_failure Unknown k never = k
 lawful_failure Unlawful k never = never refl
 
 -- what failed beside the call tells nothing of the release
-pub failure_refused : (h : List Entry) (kept : List Shape) (year : ℕ) (r : Contents) (blocks : List ExactBlock) (rows : List Row) (X : Type 0) (e : PublishFault) → (e ≡ Store) ⊎ ((e ≡ Memory) × X)
-    → IsRefused h kept year r blocks rows e
-failure_refused h kept year r blocks rows X e (inl is) = subst (IsRefused h kept year r blocks rows) (sym is) tt
-failure_refused h kept year r blocks rows X e (inr is) = subst (IsRefused h kept year r blocks rows) (sym is.0) tt
+pub failure_refused : (h : List Entry) (kept : List Shape) (year : ℕ) (r : Contents) (blocks : List ExactBlock) (rows : List Row) (e : PublishFault) → IsFailure e → IsRefused h kept year r blocks rows e
+failure_refused h kept year r blocks rows Memory is = tt
+failure_refused h kept year r blocks rows Store is = tt
+failure_refused h kept year r blocks rows _ is = absurd is

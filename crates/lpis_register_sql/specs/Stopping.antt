@@ -104,10 +104,14 @@ module _ {S : Type 0} (store : Ghosts S) where
     pub ran : Ran before old reached
     pub refused : IsRefusedIn (state store reached) next
 
-  -- why these statements stop: memory was refused, the disk failed, or the engine refuses one
+  -- the disk failed between these two, or the engine refuses one of the statements
+  abbrev pub IsStopped : List BoundStatement → Held S → Held S → Type 0
+  IsStopped xs old new =
+      MoreFaults (state store old).faults (state store new).faults ⊎ IsStuck xs old
+
+  -- why these statements stop: memory was refused, or that
   abbrev pub Stops : List BoundStatement → Held S → Held S → Error → Type 0
-  Stops xs old new e = (e ≡ SqliteFailure OutOfMemory)
-      ⊎ (MoreFaults (state store old).faults (state store new).faults ⊎ IsStuck xs old)
+  Stops xs old new e = (e ≡ SqliteFailure OutOfMemory) ⊎ IsStopped xs old new
 
   -- a call that makes these statements in an open transaction runs them all, or says why not
   abbrev pub Makes : List BoundStatement → Held S → Held S → Result (Unit {0}) Error → Type 0
