@@ -39,7 +39,7 @@ pub record CertIsCut (a : Outputs) : Type 0 where
   pub status : a.status ≡ done
 
 -- the release is refused, and what the refusal says of it holds
-pub record IsRefused (r : Contents) (a : Outputs) : Type 0 where
+pub record IsCutRefused (r : Contents) (a : Outputs) : Type 0 where
   pub refusal : Refusal
   pub says : RefusalSays r refusal
   pub no_text : a.cert ≡ None
@@ -54,7 +54,7 @@ pub record IsUnreadable (fault : TableFault) (a : Outputs) : Type 0 where
 
 -- of a release, or of the tables' first fault
 abbrev pub IsCutAnswer : Result Contents TableFault → Outputs → Type 0
-IsCutAnswer (Ok r) a = CertIsCut a ⊎ IsRefused r a
+IsCutAnswer (Ok r) a = CertIsCut a ⊎ IsCutRefused r a
 IsCutAnswer (Err fault) a = IsUnreadable fault a
 
 -- the tables are what three readers reported, as far as it is known, and this is an answer to them
