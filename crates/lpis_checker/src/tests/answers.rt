@@ -1,12 +1,29 @@
 //! What is answered of certificates, whichever the source of near pairs.
 
-use super::{expect_told, one_piece, two_pieces};
-use lpis_parcels::{Release, read_release};
-use lpis_testing::{HALVES_CERT, RIGHT, RIGHT_MOVED, SQUARE, SQUARE_CERT, edited};
+use super::{Case, Edit, HALVES, HALVES_WITH_A_GAP, ONE_PIECE, PARCEL, release_of};
+use crate::{CheckFault, Location, check, check_parts};
+use lpis_cert::{Cert, read_cert};
+use lpis_pairs::{AllPairs, PairSource, Sweep};
+use lpis_parcels::Release;
+use lpis_testing::{CLASSES, HALVES_CERT, SQUARE_CERT, SQUARE_CERT_WRITTEN, edited, expect};
 use std::test::Fail;
 
-/// The square covered twice.
-const SQUARE_TWICE: &str = "MULTIPOLYGON(((0 0,10 0,10 10,0 10,0 0)),((0 0,10 0,10 10,0 10,0 0)))";
+/// A parcel that is the square covered twice, and its one piece.
+const PARCEL_TWICE: &str =
+    "parcel,wkt\nA,\"MULTIPOLYGON(((0 0,10 0,10 10,0 10,0 0)),((0 0,10 0,10 10,0 10,0 0)))\"\n";
+
+const PIECE_TWICE: &str = "piece,parcel,class,wkt
+C1,A,G,\"MULTIPOLYGON(((0 0,10 0,10 10,0 10,0 0)),((0 0,10 0,10 10,0 10,0 0)))\"
+";
+
+/// A parcel of half a square centimetre, its one piece, and their certificate.
+const CENTIMETRE: &str = "parcel,wkt\nA,\"Polygon ((0 0, 0.01 0, 0 0.010, 0 0))\"\n";
+
+const CENTIMETRE_PIECE: &str =
+    "piece,parcel,class,wkt\nC1,A,G,\"Polygon ((0 0, 0.01 0, 0 0.010, 0 0))\"\n";
+
+const CENTIMETRE_CERT: &str =
+    "lpis-cert 1\npiece C1 1 0\nt 0 0 1 0 0 1\nparcel A 0\npairs 0\nend\n";
 
 /// The certificate's lines of the triangles of the square.
 const SQUARE_TRIANGLES: &str = "2 0\nt 0 0 1000 0 1000 1000\nt 0 0 1000 1000 0 1000\n";
@@ -35,137 +52,184 @@ const RIGHT_CLOCKWISE: &str = "t 1000 0 500 0 1000 1000";
 /// The first of the parcel's flats.
 const FLAT: &str = "f 0 0 1000 0 500 0";
 
-/// Stands in each certificate, where one edit is enough.
-const END: &str = "end";
+const NO_PAIRS: &str = "pairs 0\n";
 
-/// Fails unless this is answered of a release with a certificate in which two texts are replaced.
+static CASES_OF_THE_SQUARE: [Case; 19] = [
+    (&[], "yes"),
+    // The edge may be the second triangle's.
+    (&[("s 0 1 2", "s 0 1 3")], "yes"),
+    // Corners in millimetres that are those in centimetres.
+    (&[("lpis-cert 1", "lpis-cert 2")], "64 piece C1"),
+    // Identifiers, those of pieces before those of parcels.
+    (&[("C1", "C2")], "60 piece C2"),
+    (&[("C1", "C2"), ("parcel A", "parcel B")], "60 piece C2"),
+    (&[("parcel A 0\n", "")], "60 parcel A"),
+    (&[("parcel A", "parcel B")], "60 parcel B"),
+    (&[("pairs", "parcel B 0\npairs")], "60 parcel B"),
+    // Lines that name no pair.
+    (&[("s 0 1 2", "s 1 0 2")], "60 pair 1 0"),
+    (&[("s 0 1 2", "s 1 1 2")], "60 pair 1 1"),
+    (&[("s 0 1 2", "s 0 2 2")], "60 pair 0 2"),
+    // A pair that no line names, and edges that do not separate.
+    (&[("pairs 1\ns 0 1 2\n", NO_PAIRS)], "67 pair 0 1"),
+    (&[("s 0 1 2", "s 0 1 0")], "69 pair 0 1"),
+    (&[("s 0 1 2", "s 0 1 4")], "69 pair 0 1"),
+    // Triangles, flats, and edges of a triangle too many.
+    (
+        &[
+            (SQUARE_TRIANGLES, "0 0\n"),
+            ("pairs 1\ns 0 1 2\n", NO_PAIRS),
+        ],
+        "61 piece C1",
+    ),
+    (
+        &[("t 0 0 1000 1000 0 1000", "t 1000 1000 0 0 0 1000")],
+        "62 piece C1",
+    ),
+    (
+        &[
+            ("C1 2 0", "C1 2 1"),
+            ("parcel", "f 0 0 500 1 1000 0\nparcel"),
+        ],
+        "63 piece C1",
+    ),
+    (
+        &[
+            ("C1 2 0", "C1 2 1"),
+            ("parcel", "f 0 0 500 0 1000 0\nparcel"),
+        ],
+        "64 piece C1",
+    ),
+    (&[("2 0\n", "3 0\nt 0 0 1000 0 1000 1000\n")], "65 piece C1"),
+];
+
+static CASES_OF_TWO_HALVES: [Case; 13] = [
+    (&[], "yes"),
+    (&[(RIGHT_LINES, "")], "60 piece R"),
+    (&[("parcel A", "piece S 0 0\nparcel A")], "60 piece S"),
+    // Lines that do not ascend, pairs that no line names, triangles that are apart.
+    (&[(PAIRS, "pairs 2\ns 2 3 2\ns 0 1 2\n")], "60 pair 0 1"),
+    (&[(PAIRS, "pairs 2\ns 0 1 2\ns 0 1 2\n")], "60 pair 0 1"),
+    (&[(PAIRS, "pairs 1\ns 0 1 2\n")], "67 pair 2 3"),
+    (
+        &[(PAIRS, "pairs 3\ns 0 1 2\ns 0 2 0\ns 2 3 2\n")],
+        "68 pair 0 2",
+    ),
+    // The first piece, and the lowest code.
+    (&[(RIGHT_FIRST, RIGHT_CLOCKWISE)], "62 piece R"),
+    (
+        &[(RIGHT_FIRST, RIGHT_CLOCKWISE), (LEFT_FIRST, LEFT_CLOCKWISE)],
+        "62 piece L",
+    ),
+    (&[(FIRST_PAIR, "pairs 1\n")], "67 pair 0 1"),
+    (
+        &[(FIRST_PAIR, "pairs 1\n"), (RIGHT_FIRST, RIGHT_CLOCKWISE)],
+        "62 piece R",
+    ),
+    (&[(FLAT, "f 0 0 1000 0 500 1")], "63 parcel A"),
+    (&[(FLAT, "f 0 0 1000 0 400 0")], "64 parcel A"),
+];
+
+/// The certificate of the halves with the gap.
+static CASE_OF_A_GAP: [Case; 1] = [(
+    &[
+        (RIGHT_FIRST, "t 501 0 1000 0 1000 1000"),
+        (RIGHT_SECOND, "t 501 0 1000 1000 501 1000"),
+    ],
+    "66 parcel A",
+)];
+
+/// The square's certificate with an exact block, which `check` does not read.
+static CASE_OF_A_BLOCK: [Case; 1] = [(
+    &[("pairs", "exact merge Z 1\nf 0 0 1 1 5 7\npairs")],
+    "yes",
+)];
+
+static CASE_OF_A_YES: [Case; 1] = [(&[], "yes")];
+
+static CASE_OF_A_SQUARE_TWICE: [Case; 1] = [(&[], "65 piece C1")];
+
+/// A fault as it is reported.
+fn fault_text(rt: &HostRuntime, code: &str, place: &Location) -> Result<String, Fail> {
+    match place {
+        Location::Piece(id) => Ok(format!(in rt.alloc(); "{code} piece {}", id.as_str())?),
+        Location::Parcel(id) => Ok(format!(in rt.alloc(); "{code} parcel {}", id.as_str())?),
+        Location::Pair(i, j) => Ok(format!(in rt.alloc(); "{code} pair {i} {j}")?),
+    }
+}
+
+/// Fails unless a fault is reported so.
+fn expect_fault(rt: &HostRuntime, fault: &CheckFault, wanted: &str) -> Result<(), Fail> {
+    match fault {
+        CheckFault::Memory => Err("out of memory".into()),
+        CheckFault::At { code, place } => {
+            expect(fault_text(rt, code.as_str(), place)?.as_str(), wanted)
+        }
+    }
+}
+
+/// Fails unless `check` answers this with this source: `yes`, or its fault.
+fn expect_answer<S: PairSource>(
+    rt: &HostRuntime,
+    release: &Release,
+    cert: &Cert,
+    source: &S,
+    wanted: &str,
+) -> Result<(), Fail> {
+    match check(rt.alloc(), release, cert, source) {
+        Ok(_) => expect("yes", wanted),
+        Err(fault) => expect_fault(rt, &fault, wanted),
+    }
+}
+
+/// Fails unless `check_parts` answers this: `yes`, or its fault.
+fn expect_parts(
+    rt: &HostRuntime,
+    release: &Release,
+    cert: &Cert,
+    wanted: &str,
+) -> Result<(), Fail> {
+    match check_parts(rt.alloc(), release, cert) {
+        Ok(()) => expect("yes", wanted),
+        Err(fault) => expect_fault(rt, &fault, wanted),
+    }
+}
+
+/// Fails unless `check` answers this, whichever the source, and `check_parts` the same where it is
+/// one of its conditions, 60 to 66.
+fn expect_answers(
+    rt: &HostRuntime,
+    release: &Release,
+    cert: &Cert,
+    wanted: &str,
+) -> Result<(), Fail> {
+    expect_answer(rt, release, cert, &AllPairs, wanted)?;
+    expect_answer(rt, release, cert, &Sweep, wanted)?;
+    expect_parts(
+        rt,
+        release,
+        cert,
+        if wanted < "67" { wanted } else { "yes" },
+    )
+}
+
+/// Fails unless this is answered of a certificate's text.
+fn expect_told(rt: &HostRuntime, release: &Release, cert: &str, wanted: &str) -> Result<(), Fail> {
+    let cert = read_cert(rt.alloc(), cert.as_bytes())?;
+    expect_answers(rt, release, &cert, wanted)
+}
+
+/// Fails unless this is answered of a certificate in which texts are replaced.
 fn expect_edited(
     rt: &HostRuntime,
     release: &Release,
     cert: &str,
-    edits: &[(&str, &str)],
+    edits: &[Edit],
     wanted: &str,
 ) -> Result<(), Fail> {
     let cert = edited(rt.alloc(), cert, edits)?;
     expect_told(rt, release, cert.as_str(), wanted)
 }
-
-/// Two texts, each with what it is replaced by, and the answer.
-type Case = (
-    &'static str,
-    &'static str,
-    &'static str,
-    &'static str,
-    &'static str,
-);
-
-const NO_PAIRS: &str = "pairs 0\n";
-
-static CASES_OF_THE_SQUARE: [Case; 19] = [
-    (END, END, END, END, "yes"),
-    // The edge may be the second triangle's.
-    ("s 0 1 2", "s 0 1 3", END, END, "yes"),
-    // Corners in millimetres that are those in centimetres.
-    ("lpis-cert 1", "lpis-cert 2", END, END, "64 piece C1"),
-    // Identifiers, those of pieces before those of parcels.
-    ("C1", "C2", END, END, "60 piece C2"),
-    ("C1", "C2", "parcel A", "parcel B", "60 piece C2"),
-    ("parcel A 0\n", "", END, END, "60 parcel A"),
-    ("parcel A", "parcel B", END, END, "60 parcel B"),
-    ("pairs", "parcel B 0\npairs", END, END, "60 parcel B"),
-    // Lines that name no pair.
-    ("s 0 1 2", "s 1 0 2", END, END, "60 pair 1 0"),
-    ("s 0 1 2", "s 1 1 2", END, END, "60 pair 1 1"),
-    ("s 0 1 2", "s 0 2 2", END, END, "60 pair 0 2"),
-    // A pair that no line names, and edges that do not separate.
-    ("pairs 1\ns 0 1 2\n", NO_PAIRS, END, END, "67 pair 0 1"),
-    ("s 0 1 2", "s 0 1 0", END, END, "69 pair 0 1"),
-    ("s 0 1 2", "s 0 1 4", END, END, "69 pair 0 1"),
-    // Triangles, flats, and edges of a triangle too many.
-    (
-        SQUARE_TRIANGLES,
-        "0 0\n",
-        "pairs 1\ns 0 1 2\n",
-        NO_PAIRS,
-        "61 piece C1",
-    ),
-    (
-        "t 0 0 1000 1000 0 1000",
-        "t 1000 1000 0 0 0 1000",
-        END,
-        END,
-        "62 piece C1",
-    ),
-    (
-        "C1 2 0",
-        "C1 2 1",
-        "parcel",
-        "f 0 0 500 1 1000 0\nparcel",
-        "63 piece C1",
-    ),
-    (
-        "C1 2 0",
-        "C1 2 1",
-        "parcel",
-        "f 0 0 500 0 1000 0\nparcel",
-        "64 piece C1",
-    ),
-    (
-        "2 0\n",
-        "3 0\nt 0 0 1000 0 1000 1000\n",
-        END,
-        END,
-        "65 piece C1",
-    ),
-];
-
-static CASES_OF_TWO_HALVES: [Case; 13] = [
-    (END, END, END, END, "yes"),
-    (RIGHT_LINES, "", END, END, "60 piece R"),
-    ("parcel A", "piece S 0 0\nparcel A", END, END, "60 piece S"),
-    // Lines that do not ascend, pairs that no line names, triangles that are apart.
-    (
-        PAIRS,
-        "pairs 2\ns 2 3 2\ns 0 1 2\n",
-        END,
-        END,
-        "60 pair 0 1",
-    ),
-    (
-        PAIRS,
-        "pairs 2\ns 0 1 2\ns 0 1 2\n",
-        END,
-        END,
-        "60 pair 0 1",
-    ),
-    (PAIRS, "pairs 1\ns 0 1 2\n", END, END, "67 pair 2 3"),
-    (
-        PAIRS,
-        "pairs 3\ns 0 1 2\ns 0 2 0\ns 2 3 2\n",
-        END,
-        END,
-        "68 pair 0 2",
-    ),
-    // The first piece, and the lowest code.
-    (RIGHT_FIRST, RIGHT_CLOCKWISE, END, END, "62 piece R"),
-    (
-        RIGHT_FIRST,
-        RIGHT_CLOCKWISE,
-        LEFT_FIRST,
-        LEFT_CLOCKWISE,
-        "62 piece L",
-    ),
-    (FIRST_PAIR, "pairs 1\n", END, END, "67 pair 0 1"),
-    (
-        FIRST_PAIR,
-        "pairs 1\n",
-        RIGHT_FIRST,
-        RIGHT_CLOCKWISE,
-        "62 piece R",
-    ),
-    (FLAT, "f 0 0 1000 0 500 1", END, END, "63 parcel A"),
-    (FLAT, "f 0 0 1000 0 400 0", END, END, "64 parcel A"),
-];
 
 /// Fails unless these are the answers for a release.
 fn expect_cases(
@@ -174,61 +238,67 @@ fn expect_cases(
     cert: &str,
     cases: &[Case],
 ) -> Result<(), Fail> {
-    for (old, new, then, there, wanted) in cases {
-        expect_edited(rt, release, cert, &[(*old, *new), (*then, *there)], wanted)?;
+    for (edits, wanted) in cases {
+        expect_edited(rt, release, cert, edits, wanted)?;
     }
     Ok(())
 }
 
+/// Fails unless these are the answers for the release of these tables.
+fn expect_of(
+    rt: &HostRuntime,
+    parcels: &str,
+    covers: &str,
+    cert: &str,
+    cases: &[Case],
+) -> Result<(), Fail> {
+    let release = release_of(rt, parcels, covers, CLASSES)?;
+    expect_cases(rt, &release, cert, cases)
+}
+
 #[test]
 fn of_the_square(rt: HostRuntime) -> Result<(), Fail> {
-    expect_cases(
+    expect_of(&rt, PARCEL, ONE_PIECE, SQUARE_CERT, &CASES_OF_THE_SQUARE)?;
+    expect_of(
         &rt,
-        &one_piece(&rt, SQUARE)?,
-        SQUARE_CERT,
-        &CASES_OF_THE_SQUARE,
+        PARCEL,
+        ONE_PIECE,
+        SQUARE_CERT_WRITTEN,
+        &CASE_OF_A_BLOCK,
     )
 }
 
 #[test]
 fn of_two_halves(rt: HostRuntime) -> Result<(), Fail> {
-    expect_cases(
-        &rt,
-        &two_pieces(&rt, RIGHT)?,
-        HALVES_CERT,
-        &CASES_OF_TWO_HALVES,
-    )
-}
-
-#[test]
-fn of_a_gap_of_a_centimetre(rt: HostRuntime) -> Result<(), Fail> {
-    let moved = [
-        (RIGHT_FIRST, "t 501 0 1000 0 1000 1000"),
-        (RIGHT_SECOND, "t 501 0 1000 1000 501 1000"),
-    ];
-    let release = two_pieces(&rt, RIGHT_MOVED)?;
-    expect_edited(&rt, &release, HALVES_CERT, &moved, "66 parcel A")
-}
-
-/// The release of no rows.
-fn nothing(rt: &HostRuntime) -> Result<Release, Fail> {
-    let alloc = rt.alloc();
-    let parcels = Vec::from_slice(alloc, b"parcel,wkt\n")?;
-    let covers = Vec::from_slice(alloc, b"piece,parcel,class,wkt\n")?;
-    let classes = Vec::from_slice(alloc, b"class,eligible\n")?;
-    Ok(read_release(alloc, parcels, covers, classes)?)
+    expect_of(&rt, PARCEL, HALVES, HALVES_CERT, &CASES_OF_TWO_HALVES)?;
+    expect_of(&rt, PARCEL, HALVES_WITH_A_GAP, HALVES_CERT, &CASE_OF_A_GAP)
 }
 
 #[test]
 fn of_other_maps(rt: HostRuntime) -> Result<(), Fail> {
-    expect_told(&rt, &nothing(&rt)?, "lpis-cert 1\npairs 0\nend\n", "yes")?;
-    let centimetre = one_piece(&rt, "Polygon ((0 0, 0.01 0, 0 0.010, 0 0))")?;
-    let cert = "lpis-cert 1\npiece C1 1 0\nt 0 0 1 0 0 1\nparcel A 0\npairs 0\nend\n";
-    expect_told(&rt, &centimetre, cert, "yes")?;
-    expect_told(
+    expect_of(
         &rt,
-        &one_piece(&rt, SQUARE_TWICE)?,
+        CENTIMETRE,
+        CENTIMETRE_PIECE,
+        CENTIMETRE_CERT,
+        &CASE_OF_A_YES,
+    )?;
+    expect_of(
+        &rt,
+        PARCEL_TWICE,
+        PIECE_TWICE,
         SQUARE_CERT,
-        "65 piece C1",
+        &CASE_OF_A_SQUARE_TWICE,
     )
+}
+
+#[test]
+fn of_no_rows(rt: HostRuntime) -> Result<(), Fail> {
+    let none = release_of(
+        &rt,
+        "parcel,wkt\n",
+        "piece,parcel,class,wkt\n",
+        "class,eligible\n",
+    )?;
+    expect_told(&rt, &none, "lpis-cert 1\npairs 0\nend\n", "yes")
 }

@@ -1,12 +1,12 @@
 //! What is answered of exact blocks.
 
-use super::{expect_told, one_piece, two_pieces};
+use super::{Case, Edit, HALVES, HALVES_WITH_A_GAP, PARCEL, release_of};
 use crate::{ExactFault, ExactPart, check_exact};
 use lpis_cert::{Cert, read_cert};
 use lpis_covers::Id;
 use lpis_parcels::Release;
 use lpis_rings::{Polygon, Sequence};
-use lpis_testing::{RIGHT, RIGHT_MOVED, SQUARE, SQUARE_CERT_WRITTEN, edited, expect};
+use lpis_testing::{CLASSES, edited, expect};
 use std::alloc::Global;
 use std::test::Fail;
 
@@ -22,6 +22,9 @@ pairs 0
 end
 ";
 
+/// The split alone, without flats.
+const SPLIT: &str = "lpis-cert 2\nexact split A 0\npairs 0\nend\n";
+
 /// The flats of the split.
 const FLATS: &str = "A 2\nf 0 0 10000 0 5000 0\nf 10000 10000 0 10000 5000 10000\n";
 
@@ -36,49 +39,34 @@ const OFF: &str = "f 0 0 10000 0 4000 0";
 /// The block of the merge.
 const MERGE: &str = "exact merge M 2\nf 10000 0 5000 0 0 0\nf 0 10000 5000 10000 10000 10000\n";
 
-/// As large as the right half, and elsewhere.
-const BESIDE: &str = "POLYGON((5 0,15 0,15 5,5 5,5 0))";
-
-/// Stands in each certificate, where one edit is enough.
-const END: &str = "end";
-
-/// Two texts, each with what it is replaced by, and the answer.
-type Case = (
-    &'static str,
-    &'static str,
-    &'static str,
-    &'static str,
-    &'static str,
-);
+/// The left half, and one as large as the right half and elsewhere.
+const BESIDE: &str = "piece,parcel,class,wkt
+L,A,G,\"POLYGON((0 0,5 0,5 10,0 10,0 0))\"
+R,A,W,\"POLYGON((5 0,15 0,15 5,5 5,5 0))\"
+";
 
 static CASES: [Case; 17] = [
-    (END, END, END, END, "yes"),
+    (&[], "yes"),
     // Kinds and identifiers: the certificate's, and the wanted one where its list has ended.
-    ("split A", "merge A", END, END, "6a A"),
-    ("split A", "split B", END, END, "6a B"),
-    ("merge M", "split M", END, END, "6a M"),
-    ("merge M", "merge N", END, END, "6a N"),
-    (MERGE, "", END, END, "6a M"),
-    ("pairs", "exact split Z 0\npairs", END, END, "6a Z"),
-    (FIRST, BENT, "merge M", "merge N", "6a N"),
+    (&[("split A", "merge A")], "6a A"),
+    (&[("split A", "split B")], "6a B"),
+    (&[("merge M", "split M")], "6a M"),
+    (&[("merge M", "merge N")], "6a N"),
+    (&[(MERGE, "")], "6a M"),
+    (&[("pairs", "exact split Z 0\npairs")], "6a Z"),
+    (&[(FIRST, BENT), ("merge M", "merge N")], "6a N"),
     // Flats that are bent, or two corners alone.
-    (FIRST, BENT, END, END, "6b A"),
-    (FIRST, "f 0 0 10000 0 0 0", END, END, "6b A"),
-    (
-        "f 10000 0 5000 0 0 0",
-        "f 10000 0 5000 1 0 0",
-        END,
-        END,
-        "6b M",
-    ),
+    (&[(FIRST, BENT)], "6b A"),
+    (&[(FIRST, "f 0 0 10000 0 0 0")], "6b A"),
+    (&[("f 10000 0 5000 0 0 0", "f 10000 0 5000 1 0 0")], "6b M"),
     // A corner that no ring has, and the lowest code at a later block.
-    (FIRST, OFF, END, END, "6c A"),
-    (FIRST, OFF, "5000 0 0 0", "5000 1 0 0", "6b M"),
+    (&[(FIRST, OFF)], "6c A"),
+    (&[(FIRST, OFF), ("5000 0 0 0", "5000 1 0 0")], "6b M"),
     // Edges that do not cancel: no flats, one turned round, one too many.
-    (FLATS, "A 0\n", END, END, "6d A"),
-    (FIRST, "f 0 0 5000 0 10000 0", END, END, "6d A"),
-    (MERGE, "exact merge M 0\n", END, END, "6d M"),
-    ("A 2\n", "A 3\nf 0 0 10000 0 5000 0\n", END, END, "6d A"),
+    (&[(FLATS, "A 0\n")], "6d A"),
+    (&[(FIRST, "f 0 0 5000 0 10000 0")], "6d A"),
+    (&[(MERGE, "exact merge M 0\n")], "6d M"),
+    (&[("A 2\n", "A 3\nf 0 0 10000 0 5000 0\n")], "6d A"),
 ];
 
 /// The polygons of a release's pieces.
@@ -109,12 +97,22 @@ fn wanted(alloc: Global, release: &Release, merge: bool, id: &str) -> Result<Exa
     })
 }
 
+/// Adds the parcel of a release to what is wanted.
+fn want(
+    parts: &mut Vec<ExactPart>,
+    alloc: Global,
+    release: &Release,
+    merge: bool,
+    id: &str,
+) -> Result<(), Fail> {
+    Ok(parts.push(wanted(alloc, release, merge, id)?)?)
+}
+
 /// A split and a merge of the square and its halves.
-fn both(rt: &HostRuntime) -> Result<Vec<ExactPart>, Fail> {
-    let halves = two_pieces(rt, RIGHT)?;
-    let mut parts = Vec::new(rt.alloc());
-    parts.push(wanted(rt.alloc(), &halves, false, "A")?)?;
-    parts.push(wanted(rt.alloc(), &halves, true, "M")?)?;
+fn both(alloc: Global, halves: &Release) -> Result<Vec<ExactPart>, Fail> {
+    let mut parts = Vec::new(alloc);
+    want(&mut parts, alloc, halves, false, "A")?;
+    want(&mut parts, alloc, halves, true, "M")?;
     Ok(parts)
 }
 
@@ -141,52 +139,55 @@ fn expect_exact(rt: &HostRuntime, cert: &str, parts: &[ExactPart], told: &str) -
     expect_of(rt, &read_cert(rt.alloc(), cert.as_bytes())?, parts, told)
 }
 
-/// Fails unless this is reported of one split of the square without flats, into its left half and a
-/// piece with this polygon.
-fn expect_split(rt: &HostRuntime, right: &str, told: &str) -> Result<(), Fail> {
-    let cert = edited(rt.alloc(), BLOCKS, &[(FLATS, "A 0\n"), (MERGE, "")])?;
-    let split = wanted(rt.alloc(), &two_pieces(rt, right)?, false, "A")?;
-    expect_exact(rt, cert.as_str(), std::slice::from_ref(&split), told)
-}
-
-/// Fails unless this is reported of the split and the merge with a text in which two are replaced.
+/// Fails unless this is reported of the split and the merge with a text in which some are replaced.
 fn expect_edited(
     rt: &HostRuntime,
     parts: &[ExactPart],
-    edits: &[(&str, &str)],
+    edits: &[Edit],
     told: &str,
 ) -> Result<(), Fail> {
     let cert = edited(rt.alloc(), BLOCKS, edits)?;
     expect_exact(rt, cert.as_str(), parts, told)
 }
 
-#[test]
-fn of_a_split_and_a_merge(rt: HostRuntime) -> Result<(), Fail> {
-    let parts = both(&rt)?;
-    for (old, new, then, there, told) in &CASES {
-        expect_edited(
-            &rt,
-            parts.as_slice(),
-            &[(*old, *new), (*then, *there)],
-            told,
-        )?;
+/// Fails unless the cases have their answers.
+fn expect_cases(rt: &HostRuntime, parts: &[ExactPart]) -> Result<(), Fail> {
+    for (edits, told) in &CASES {
+        expect_edited(rt, parts, edits, told)?;
     }
     Ok(())
 }
 
-#[test]
-fn of_other_parts(rt: HostRuntime) -> Result<(), Fail> {
-    let none = "lpis-cert 2\npairs 0\nend\n";
-    expect_exact(&rt, none, &[], "yes")?;
-    expect_exact(&rt, BLOCKS, &[], "6a A")?;
-    // A gap of a centimetre, and parts that have the area of their whole and do not make it up.
-    expect_split(&rt, RIGHT_MOVED, "6d A")?;
-    expect_split(&rt, BESIDE, "6d A")
+/// Fails unless the cases have their answers for the halves.
+fn expect_both(rt: &HostRuntime, halves: &Release) -> Result<(), Fail> {
+    let parts = both(rt.alloc(), halves)?;
+    expect_cases(rt, parts.as_slice())
+}
+
+/// Fails unless the parcel of a release is not made up of its pieces, as one split without flats.
+fn expect_no_split(rt: &HostRuntime, release: &Release) -> Result<(), Fail> {
+    let split = wanted(rt.alloc(), release, false, "A")?;
+    expect_exact(rt, SPLIT, std::slice::from_ref(&split), "6d A")
 }
 
 #[test]
-fn of_check(rt: HostRuntime) -> Result<(), Fail> {
-    let blocks = "exact merge Z 1\nf 0 0 1 1 5 7\npairs";
-    let cert = edited(rt.alloc(), SQUARE_CERT_WRITTEN, &[("pairs", blocks)])?;
-    expect_told(&rt, &one_piece(&rt, SQUARE)?, cert.as_str(), "yes")
+fn of_a_split_and_a_merge(rt: HostRuntime) -> Result<(), Fail> {
+    expect_both(&rt, &release_of(&rt, PARCEL, HALVES, CLASSES)?)
+}
+
+#[test]
+fn of_other_parts(rt: HostRuntime) -> Result<(), Fail> {
+    expect_exact(&rt, "lpis-cert 2\npairs 0\nend\n", &[], "yes")?;
+    expect_exact(&rt, BLOCKS, &[], "6a A")
+}
+
+#[test]
+fn of_a_gap_of_a_centimetre(rt: HostRuntime) -> Result<(), Fail> {
+    expect_no_split(&rt, &release_of(&rt, PARCEL, HALVES_WITH_A_GAP, CLASSES)?)
+}
+
+/// Parts that have the area of their whole and do not make it up.
+#[test]
+fn of_a_part_beside_its_whole(rt: HostRuntime) -> Result<(), Fail> {
+    expect_no_split(&rt, &release_of(&rt, PARCEL, BESIDE, CLASSES)?)
 }

@@ -1,105 +1,90 @@
 //! The parcel and the piece at a point.
 
-use super::two_pieces;
+use super::{HALVES, PARCEL, release_of};
 use crate::{Yes, check};
-use lpis_cert::{Cert, read_cert};
-use lpis_covers::Id;
+use lpis_cert::read_cert;
 use lpis_pairs::Sweep;
 use lpis_parcels::Release;
 use lpis_points::RatPoint;
 use lpis_rings::{Polygon, contains, turns};
-use lpis_testing::{HALVES_CERT, RIGHT, expect};
+use lpis_testing::{CLASSES, HALVES_CERT, expect};
 use std::test::Fail;
 
-fn rational(x: i64, y: i64, d: i64) -> Result<RatPoint, Fail> {
-    Ok(RatPoint::new(x, y, d).ok_or("out of range")?)
+/// The point (x/d, y/d) in millimetres, its parcel and its piece, and how often the left piece, the
+/// right one and the parcel turn round it.
+type Point = (
+    (i64, i64, i64),
+    (&'static str, &'static str),
+    (i64, i64, i64),
+);
+
+static POINTS: [Point; 5] = [
+    ((0, 0, 1), ("A", "L"), (1, 0, 1)),
+    ((5_000, 3_000, 1), ("A", "R"), (0, 1, 1)),
+    ((10_010, 10, 2), ("A", "R"), (0, 1, 1)),
+    ((5_000, 10_000, 1), ("nowhere", "nowhere"), (0, 0, 0)),
+    ((10_000, 0, 1), ("nowhere", "nowhere"), (0, 0, 0)),
+];
+
+/// Fails unless this parcel and this piece are at a point, or it is `nowhere`.
+fn expect_location(yes: &Yes, p: &RatPoint, parcel: &str, piece: &str) -> Result<(), Fail> {
+    let (in_parcel, in_piece) = match yes.locate(p) {
+        Some((parcel, piece)) => (parcel.as_str(), piece.as_str()),
+        None => ("nowhere", "nowhere"),
+    };
+    expect(in_parcel, parcel)?;
+    expect(in_piece, piece)
 }
 
-/// The identifiers of the parcel and the piece at a point, or `nowhere`.
-fn location_of(rt: &HostRuntime, found: Option<(&Id, &Id)>) -> Result<String, Fail> {
-    match found {
-        Some((parcel, piece)) => Ok(format!(in rt.alloc();
-            "{} {}",
-            parcel.as_str(),
-            piece.as_str()
-        )?),
-        None => Ok(format!(in rt.alloc(); "nowhere")?),
-    }
-}
-
-/// Fails unless this is the location of the point (x/d, y/d).
-fn expect_location(
-    rt: &HostRuntime,
-    yes: &Yes,
-    (x, y, d): (i64, i64, i64),
-    wanted: &str,
-) -> Result<(), Fail> {
-    let found = yes.locate(&rational(x, y, d)?);
-    expect(location_of(rt, found)?.as_str(), wanted)
-}
-
-/// Fails unless the release of a yes has one parcel and two pieces.
-fn expect_rows(rt: &HostRuntime, yes: &Yes) -> Result<(), Fail> {
-    let release = yes.release();
-    let parcels = release.parcels().len();
-    let pieces = release.pieces().len();
-    let rows = format!(in rt.alloc(); "{parcels} {pieces}")?;
-    expect(rows.as_str(), "1 2")
-}
-
-/// How often a polygon turns round a point, which it contains where that is odd.
-fn turns_of(polygon: &Polygon, p: &RatPoint) -> Result<i64, Fail> {
+/// Fails unless a polygon turns so often round a point, and contains it where that is odd.
+fn expect_turns(polygon: &Polygon, p: &RatPoint, wanted: i64) -> Result<(), Fail> {
     let times = turns(polygon, p);
-    if contains(polygon, p) == (times & 1 == 1) {
-        return Ok(times);
+    if times == wanted && contains(polygon, p) == (times & 1 == 1) {
+        return Ok(());
     }
-    Err("contained in another way".into())
+    Err(Fail::new(format_args!("{times} turns in place of {wanted}")))
 }
 
-/// Fails unless the left piece, the right one and the parcel turn this often round the point (x/d,
-/// y/d).
-fn expect_turns(
-    rt: &HostRuntime,
+/// Fails unless a release has two pieces of one parcel, and they and the parcel turn so often round
+/// a point.
+fn expect_all_turns(
     release: &Release,
-    (x, y, d): (i64, i64, i64),
-    wanted: &str,
+    p: &RatPoint,
+    (first, second, whole): (i64, i64, i64),
 ) -> Result<(), Fail> {
     let ([left, right], [parcel]) = (release.pieces(), release.parcels()) else {
         return Err("two pieces of one parcel".into());
     };
-    let p = rational(x, y, d)?;
-    let first = turns_of(&left.polygon, &p)?;
-    let second = turns_of(&right.polygon, &p)?;
-    let whole = turns_of(&parcel.polygon, &p)?;
-    let told = format!(in rt.alloc(); "{first} {second} {whole}")?;
-    expect(told.as_str(), wanted)
+    expect_turns(&left.polygon, p, first)?;
+    expect_turns(&right.polygon, p, second)?;
+    expect_turns(&parcel.polygon, p, whole)
 }
 
-/// Fails unless the yes of two halves is for their release, and points of it, in millimetres, are
-/// where they should be.
-fn expect_points(rt: &HostRuntime, yes: &Yes) -> Result<(), Fail> {
-    expect_rows(rt, yes)?;
-    for (x, y, d, place, times) in [
-        (0, 0, 1, "A L", "1 0 1"),
-        (5_000, 3_000, 1, "A R", "0 1 1"),
-        (10_010, 10, 2, "A R", "0 1 1"),
-        (5_000, 10_000, 1, "nowhere", "0 0 0"),
-        (10_000, 0, 1, "nowhere", "0 0 0"),
-    ] {
-        expect_location(rt, yes, (x, y, d), place)?;
-        expect_turns(rt, yes.release(), (x, y, d), times)?;
+/// Fails unless a point is where it should be.
+fn expect_point(yes: &Yes, ((x, y, d), (parcel, piece), times): Point) -> Result<(), Fail> {
+    let p = RatPoint::new(x, y, d).ok_or("out of range")?;
+    expect_location(yes, &p, parcel, piece)?;
+    expect_all_turns(yes.release(), &p, times)
+}
+
+/// Fails unless the points are where they should be.
+fn expect_points(yes: &Yes) -> Result<(), Fail> {
+    for point in &POINTS {
+        expect_point(yes, *point)?;
     }
     Ok(())
 }
 
 /// Fails unless a release of two halves has a yes, and its points are where they should be.
-fn expect_yes(rt: &HostRuntime, release: &Release, cert: &Cert) -> Result<(), Fail> {
-    let yes = check(rt.alloc(), release, cert, &Sweep)?;
-    expect_points(rt, &yes)
+fn expect_yes(rt: &HostRuntime, release: &Release) -> Result<(), Fail> {
+    let cert = read_cert(rt.alloc(), HALVES_CERT.as_bytes())?;
+    match check(rt.alloc(), release, &cert, &Sweep) {
+        Ok(yes) => expect_points(&yes),
+        Err(_fault) => Err("no yes".into()),
+    }
 }
 
 #[test]
 fn points_of_two_halves(rt: HostRuntime) -> Result<(), Fail> {
-    let cert = read_cert(rt.alloc(), HALVES_CERT.as_bytes())?;
-    expect_yes(&rt, &two_pieces(&rt, RIGHT)?, &cert)
+    expect_yes(&rt, &release_of(&rt, PARCEL, HALVES, CLASSES)?)
 }
