@@ -1,10 +1,9 @@
 -- What regions that passed have.
-use Rattle.std.proofs.Common.{◌≡◌, ◌≢◌, ◌∙◌, ◌++◌, ◌∷◌, ◌+◌, ◌<◌, [], refl, sym, ap, subst, inl, inr, ℕ, List, All, drop, get_or, length, take}
+use Rattle.std.proofs.Common.{◌≡◌, ◌≢◌, ◌∙◌, ◌++◌, ◌∷◌, ◌+◌, ◌<◌, [], refl, sym, ap, subst, ℕ, List, All, drop, get_or, length, take}
 use Rattle.std.proofs.lemmas.List.{drop_more, length-append, take-append-drop, take_more}
 use Rattle.std.proofs.lemmas.List.Elements.{All-append, All-cons, All-nil}
 use Rattle.lpis_parcels.specs.Release.{Contents}
 use Rattle.lpis_checker.specs.SoundMap.{IsSoundMap}
-use Rattle.lpis_commands.specs.Status.{done}
 use Rattle.lpis_country.specs.Country.{country_of}
 use Rattle.lpis_country_run.specs.CountryAnswer.{HavePassed, IsReachedBy, IsRefusedRegion, IsRegionsAnswer, Next, None, Passes, Setting}
 use Rattle.lpis_country_run.specs.CountryLines.{region_report}
@@ -39,11 +38,6 @@ passed_more s n before text name r lt is h p =
 -- what the first n folders leave
 pub reached_by : (s : Setting) (n : ℕ) (before : List Contents) (text : List ℕ) → HavePassed s (take n s.names) before text → IsReachedBy s before text (drop n s.names)
 reached_by s n before text h = record { passed = take n s.names; all = sym (take-append-drop n s.names); have_passed = h }
-
--- a region that is refused has no yes
-pub refused_no : (s : Setting) (before : List Contents) (name text : List ℕ) (status : ℕ) → IsRefusedRegion s before name (text, status) → status ≢ done
-refused_no s before name text status (x, told, inl (b, refusal, is)) e = refusal.1 (sym (ap (λ p. p.1) is) ∙ e)
-refused_no s before name text status (x, told, inr h) e = cc (sym (ap (λ p. p.1) h.is) ∙ e)
 
 -- the next region is refused
 pub refused_next : (s : Setting) (n : ℕ) (before : List Contents) (lines name text : List ℕ) (status : ℕ) → n < length s.names → name ≡ get_or s.names n []

@@ -1,5 +1,5 @@
 -- What a history answers to a release, and what is known of a release that was added to it.
-use Rattle.std.proofs.Common.{◌≡◌, ◌∙◌, ◌++◌, ◌∷◌, [], inl, inr, refl, sym, ap, ap₂, subst, ℕ, List, Bool, Option, Result, Ok, Err, IfOk, OnOk, flat_map, true}
+use Rattle.std.proofs.Common.{◌≡◌, ◌⊎◌, ◌∙◌, ◌++◌, ◌∷◌, [], inl, inr, refl, sym, ap, ap₂, subst, ℕ, List, Bool, Option, Result, Ok, Err, IfOk, OnOk, flat_map, true}
 use Rattle.lpis_gate.proofs.Common.{Appends, Answer, Cert, Contents, kind_at, lineage_line}
 use Rattle.sqlite.specs.State.{HasCleanDisk, State}
 use Rattle.std.specs.List.{list_any}
@@ -27,7 +27,7 @@ use Rattle.lpis_commands.specs.Report.{report_text}
 use Rattle.lpis_gate.specs.LineageLines.{is_left_exactly, dropped_lines, published_line}
 use Rattle.lpis_commands.specs.declared.answer.Answer.{Answer as Answered}
 use Rattle.lpis_commands.specs.declared.failure.Failure.{Failure}
-use Rattle.lpis_commands.specs.declared.failure.Failure.TheVariants.{Store}
+use Rattle.sqlite_disk.specs.Disk.{MoreFaults}
 use Rattle.lpis_gate.specs.PublishAnswer.{PublishEnds, IsContinued, IsHistoryAnswer, IsPublishAnswer, IsPublished, MovesRegister}
 use Rattle.lpis_gate.specs.Submission.{Submission}
 use Rattle.lpis_commands.specs.Status.{done}
@@ -132,15 +132,18 @@ added-accepted h k year r c rows s t a change made is ascend follows once =
 pub leaves-committed : (a : Answered) (old new : State) (h k : List Entry) (s t : List Shape) → a.status ≡ done → (HasCleanDisk new → HoldsRegister old h s → HoldsRegister new k t)
     → PublishLeaves (Ok a) old h s new k t
 leaves-committed a old new h k s t is held =
-    record { same = λ other. absurd (other is); failure = tt; stored = record { holds = λ clean opened. held clean; served = λ other. held } }
+    record { same = λ other. absurd (other is); failure = tt; stored = record { holds = λ clean opened. held clean; served = λ other. held; memory = λ other clean before. inl (held clean before) } }
 
--- or what it held
+-- or what it held, unless it is shut
 pub leaves-kept : (failure : Failure) (old new : State) (h k : List Entry) (s t : List Shape) → IsStopped failure → (k ≡ h) × (t ≡ s)
     → (HasCleanDisk new → IsTrue new.is_open → HoldsRegister old h s → HoldsRegister new k t)
-    → ((failure ≡ Store → ⊥) → HoldsRegister old h s → HoldsRegister new k t) → PublishLeaves (Err failure) old h s new k t
-leaves-kept failure old new h k s t stopped kept opened served =
-    record { same = tt; failure = (stopped, kept.0, kept.1); stored = record { holds = opened; served = λ other clean. served other } }
-
--- a database left as it was holds the history and the shapes, where they are left too
-pub still-held : (old new : State) (h k : List Entry) (s t : List Shape) → new ≡ old → (k ≡ h) × (t ≡ s) → HoldsRegister old h s → HoldsRegister new k t
-still-held old new h k s t same kept held = rw (same, kept.0, kept.1) held
+    → (HoldsRegister old h s → HasCleanDisk new → IsTrue new.is_open ⊎ MoreFaults old.faults new.faults) → PublishLeaves (Err failure) old h s new k t
+leaves-kept failure old new h k s t stopped kept opened closes = record {
+  same = tt;
+  failure = (stopped, kept.0, kept.1);
+  stored = record {
+    holds = opened;
+    served = λ other. elim stopped [ inl is ↦ absurd (other.1 is) | inr is ↦ absurd (other.0 is) ];
+    memory = λ other clean before. elim (closes before clean) [ inl up ↦ inl (opened clean up before) | inr more ↦ inr more ];
+  };
+}

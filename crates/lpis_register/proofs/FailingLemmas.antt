@@ -43,7 +43,8 @@ pub fails_after : {S : Type 0} (g : store.Ghosts S) (l last : ℕ) (a : Accepted
 fails_after g l last a old new r is h = subst (λ n. HasCleanDisk (state g new) → IfErr r (λ fault. fault ≡ Store → FailsToRun g (accepted_statements n a) old new)) is h
 
 -- a release that was accepted is one that could not be stored
-pub fails_to_store : {S X : Type 0} (g : store.Ghosts S) (h : List Entry) (year : ℕ) (parcels : List Parcel) (rows : List Row) (a : Accepted) (old new : Held S) (r : Result X PublishFault) → IsPrepared h year parcels rows a
+pub fails_to_store : {S X : Type 0} (g : store.Ghosts S) (h : List Entry) (year : ℕ) (parcels : List Parcel) (rows : List Row) (a : Accepted) (old new : Held S) (r : Result X PublishFault)
+    → IsPrepared h year parcels rows a
     → IfErr r (λ fault. fault ≡ Store → FailsToRun g (accepted_statements (last_year h) a) old new) → IfErr r (λ fault. fault ≡ Store → FailsToStore g h year parcels rows old new)
 fails_to_store g h year parcels rows a old new (Ok x) made fails = tt
 fails_to_store g h year parcels rows a old new (Err e) made fails = λ is. (a, made, fails is)

@@ -29,4 +29,5 @@ pub left_of_held : (st : State) → (IsTrue st.is_open → (db : Trees) → st.m
 left_of_held st law h shapes held db may =
     let stored = held.stored in
     let same : db ≡ st.now.trees = law stored.is_open db may ∙ sym (ap (λ (d : Database). d.trees) stored.settled) in
-    left_with held.origin held.content h shapes held.tells held.are held.live db (subst (Leaves (Whole held.origin) held.content) (sym same) (rows_left (Whole held.origin) st.now held.content stored.holds))
+    left_with held.origin held.content h shapes held.tells held.are held.live db (subst (Leaves (Whole held.origin) held.content) (sym same) (rows_left
+    (Whole held.origin) st.now held.content stored.holds))

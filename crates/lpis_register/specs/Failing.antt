@@ -23,8 +23,8 @@ module _ {S : Type 0} (store : Ghosts S) where
   FailsToRun xs old new = ((state store old).is_open ≡ false)
       ⊎ IsStopped store xs (record old { in_transaction = true }) new
 
-  -- a call fails to write the release of this year, of these parcels and with these rows, after this
-  -- history
+  -- a call fails to write the release of this year, of these parcels and with these rows, after
+  -- this history
   abbrev pub FailsToStore : List Entry → ℕ → List Parcel → List Row → Held S → Held S → Type 0
   FailsToStore h year parcels rows old new = (a : Accepted) × IsPrepared h year parcels rows a
       × FailsToRun (accepted_statements (last_year h) a) old new

@@ -1,8 +1,9 @@
 -- What DELETE with no WHERE makes of a table.
 use Rattle.std.proofs.Common.{◌≡◌, ℕ, ℤ, List, [], ◌∷◌, map, slice_get, true, false, not, Some, None, Ok, refl, sym, ap, subst, ◌∙◌, IsPermutation, Option}
+use Rattle.lpis_register_rows.specs.Content.{without_live}
 use Rattle.lpis_register_sql.proofs.Common.{flat_map_single, IsPermutation-refl, IsPermutation-map, Null, Row, Table, Schema, overlay, IsAnswer, Output, output, edit_of, Given, Trees, Tally, Does}
 use Rattle.lpis_register_sql.proofs.Common.{Database}
-use Rattle.lpis_register_sql.proofs.Common.{Mode, State, mode_of, ExecutesInside, understood, Program, ids_of, statement_of, runs_as, Content, without_live}
+use Rattle.lpis_register_sql.proofs.Common.{Mode, State, mode_of, ExecutesInside, understood, Program, ids_of, statement_of, runs_as, Content}
 use Rattle.lpis_register_rows.specs.Content.{without_texts}
 use Rattle.lpis_register_rows.specs.Content.{without_spans}
 use Rattle.lpis_register_sql.proofs.Common.{span_table, text_table, mark_table}

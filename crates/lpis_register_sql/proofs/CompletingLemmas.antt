@@ -27,12 +27,6 @@ whole_next = in_all _ refl refl refl refl refl refl refl
 
 -- ---- one step
 
-span_there : (s : Layout) → has_spans s ≡ true → with_span_table s ≡ s
-span_there = in_all _ (λ is. refl) (λ is. refl) (λ is. refl) (λ is. refl) (λ is. refl) (λ is. refl) (λ is. absurd (true≢false (sym is)))
-
-text_there : (s : Layout) → has_texts s ≡ true → with_text_table s ≡ s
-text_there = in_all _ (λ is. refl) (λ is. refl) (λ is. refl) (λ is. refl) (λ is. absurd (true≢false (sym is))) (λ is. absurd (true≢false (sym is))) (λ is. absurd (true≢false (sym is)))
-
 -- an order of the tables that has `lpis_mark` is already the full one of version 3
 pub mark_there : (s : Layout) → has_marks s ≡ true → made_whole s ≡ s
 mark_there = in_all _ (λ is. refl) (λ is. refl) (λ is. absurd (true≢false (sym is))) (λ is. absurd (true≢false (sym is))) (λ is. absurd (true≢false (sym is))) (λ is. absurd (true≢false (sym is)))

@@ -1,9 +1,9 @@
 -- What the statements that move a database of version 1 do.
-use Rattle.std.proofs.Common.{◌≡◌, inl, inr, ℕ, pos, List, [], ◌∷◌, ◌++◌, map, drop, slice_get, true, false, not, Some, None, Ok, refl, sym, ap, ap₂, subst, subst₂, ◌∙◌, append-nil, IsPermutation}
-use Rattle.std.proofs.Common.{true≢false, filter}
+use Rattle.std.proofs.Common.{◌≡◌, inl, inr, ℕ, pos, List, [], ◌∷◌, ◌++◌, map, drop, slice_get, true, not, Some, None, Ok, refl, sym, ap, ap₂, subst, subst₂, ◌∙◌, append-nil, IsPermutation}
+use Rattle.std.proofs.Common.{filter}
 use Rattle.lpis_register_sql.proofs.Common.{flat_map_single, IsPermutation-trans, IsPermutation-map, Null, Row, rowid, overlay, IsAnswer, Output, output, Update, edit_of}
 use Rattle.lpis_register_sql.proofs.Common.{Given, Does, Database, State, mode_of, ExecutesInside, understood, ids_of, Has, statement_of, runs_as, Content, Format, StoredSpan, with_whole_span}
-use Rattle.lpis_register_sql.proofs.Common.{with_whole_spans, without_live, format_table, Origin, New, Moved, Whole, schema_of, is_moved, AreKeyed}
+use Rattle.lpis_register_sql.proofs.Common.{with_whole_spans, format_table, Origin, Whole, schema_of, AreKeyed}
 use Rattle.lpis_register_sql.proofs.Common.{format_row, Inside}
 use Rattle.sqlite.specs.Cast.{cast_row}
 use Rattle.lpis_register_rows.specs.Content.{at_version, with_version}
@@ -105,8 +105,3 @@ version_inside o base old new c version count one before h =
 pub spans_stay : (spans : List StoredSpan) (c : Content) → (with_whole_spans spans c).formats ≡ c.formats
 spans_stay [] c = refl
 spans_stay (s ∷ spans) c = spans_stay spans (with_whole_span c s)
-
--- a table that is not there has no rows
-no_live : (o : Origin) (base : Database) (st : State) (c : Content) → is_moved o ≡ false → Inside (Whole o) base st c → without_live c ≡ c
-no_live New base st c is h = ap (λ ls. record c { live = ls }) (sym h.holds.means.live_are)
-no_live Moved base st c is h = absurd (true≢false is)

@@ -1,6 +1,7 @@
 -- A database holds one content.
 use Rattle.std.proofs.Common.{◌≡◌, ◌∙◌, refl, sym, ap, subst, [], List, map, length, IsPermutation}
-use Rattle.lpis_register_sql.proofs.Common.{IsPermutation-map, IsPermutation-refl, IsPermutation-trans, Row, Trees, Schema, State, Content, without_live, Origin, New, Moved, Whole, schema_of}
+use Rattle.lpis_register_rows.specs.Content.{without_live}
+use Rattle.lpis_register_sql.proofs.Common.{IsPermutation-map, IsPermutation-refl, IsPermutation-trans, Row, Trees, Schema, State, Content, Origin, New, Moved, Whole, schema_of}
 use Rattle.lpis_register_sql.proofs.Common.{IsStored, format_row, year_row, span_row, line_row, text_row, mark_row}
 use Rattle.std.proofs.lemmas.List.Sorted.{IsPermutation-sym}
 use Rattle.lpis_register_rows.specs.Tells.{IsSameContent}

@@ -31,10 +31,6 @@ pub keeps_there : {X : Type 0} (b : Bool) (row : X → Row) (xs : List X) (rows 
 keeps_there true row xs rows is k = k
 keeps_there false row xs rows is k = absurd (true≢false (sym is))
 
-there_keeps : {X : Type 0} (b : Bool) (row : X → Row) (xs : List X) (rows : List Row) → b ≡ true → IsPermutation (map row xs) (map (drop 1) rows) × AreKeyed rows → Keeps b row xs rows
-there_keeps true row xs rows is k = k
-there_keeps false row xs rows is k = absurd (true≢false (sym is))
-
 -- a table whose tree stays the same, where it is there at all, keeps the same rows
 pub keeps_same : {X : Type 0} (b : Bool) (row : X → Row) (xs : List X) (rows next : List Row) → (b ≡ true → next ≡ rows) → Keeps b row xs rows → Keeps b row xs next
 keeps_same true row xs rows next same k = subst (Keeps true row xs) (sym (same refl)) k

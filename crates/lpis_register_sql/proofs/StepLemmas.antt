@@ -138,7 +138,8 @@ module _ {S : Type 0} (g : store.Ghosts S) (held first : Held S) (last : State) 
   pub written_at_commit : (new : State) (r : Result (Unit {0}) Error)
       → (HasCleanDisk last → (s : Layout) (base : Database) (c : Content) → IsSuch s c → Inside s base (state g first) c → Inside (made_whole s) base last (turn c))
       → (HasCleanDisk new → OnOk r (IsTrue last.in_transaction × Shows last new last.now last.now false × KeepsCounts last new × (new.marks ≡ [])))
-      → (HasCleanDisk new → IfErr r (FailsToCommit last new)) → Survives last new (λ db. db ≡ last.now.trees) → (IsTrue new.is_open → (db : Trees) → new.may_leave db → db ≡ new.committed.trees) → Rewrites IsSuch turn (state g held) new r
+      → (HasCleanDisk new → IfErr r (FailsToCommit last new)) → Survives last new (λ db. db ≡ last.now.trees) → (IsTrue new.is_open → (db : Trees) → new.may_leave db → db ≡ new.committed.trees)
+      → Rewrites IsSuch turn (state g held) new r
   written_at_commit new r turned ok err ends law = record {
     ok = kept;
     err = λ clean up s c such before. moved_err s (made_whole s) _ (state g held) last new c _ before (inside clean s c such before) refl up r (err clean);

@@ -9,14 +9,14 @@ use Rattle.lpis_register_rows.specs.Content.{Mark, lines_from, marks_from}
 use Rattle.lpis_register_sql.specs.private.Lines.{mark_at, row_line}
 use Rattle.lpis_register_sql.specs.Stopping.{line_statement, mark_statement}
 use Rattle.sqlite.specs.Held.{Held}
-use Rattle.sqlite.specs.State.{Shows, IsUnchanged, IsNotRun, ExecutesIn, RunsAlone, RunsCommand, Fails, IsStatement, text_of, shows_rows, IsRolledBack}
+use Rattle.sqlite.specs.State.{IsUnchanged, IsNotRun, ExecutesIn, RunsAlone, Fails, IsStatement, text_of, shows_rows}
 use Rattle.sqlite.specs.Clock.{timed}
 use Rattle.sqlite.specs.Steps.{FailsToCommit}
 use Rattle.sqlite_disk.specs.Disk.{MoreFaults}
 use Rattle.sqlite_resolve.specs.declared.compiled.Compiled.{Compiled}
 use Rattle.sqlite_trees.specs.declared.error.StoreError.TheVariants as cause
 use Rattle.sqlite_trees.specs.declared.store.Store as store
-use Rattle.sqlite.specs.declared.error.Error.TheVariants.{SqliteFailure, ExecuteReturnedResults}
+use Rattle.sqlite.specs.declared.error.Error.TheVariants.{SqliteFailure}
 use Rattle.sqlite.specs.declared.error.ErrorCode.TheVariants as code
 use Rattle.lpis_register_sql.proofs.Common.{Does, Error, ExecutesInside, HasCleanDisk, IsQuiet, State, Survives, Trees, mode_of, state}
 use Rattle.lpis_register_sql.specs.Stopping.{BoundStatement, IsRefusedIn, IsStuck, Makes, Ran, Stops}
@@ -188,7 +188,7 @@ module _ {S : Type 0} (g : store.Ghosts S) where
       → FailsToCommit (state g b) (state g c) e → Stops g xs a c e
   failed_commit xs a b c e low ran up within (inl failed) = elim (failing ⊥ (state g b) (state g c) e (ran_open xs a b ran up within).0 failed) [
     | inl memory ↦ inl memory
-    | inr disk ↦ inr (elim disk [ | inl more ↦ inl (more_faults (state g a).faults (state g b).faults (state g c).faults low more) | inr never ↦ absurd never ])
+    | inr disk ↦ inr (elim disk [ inl more ↦ inl (more_faults (state g a).faults (state g b).faults (state g c).faults low more) | inr never ↦ absurd never ])
   ]
   failed_commit xs a b c e low ran up within (inr late) = absurd (let on = (ran_open xs a b ran up within).1 in let off = late.1 in cc)
 

@@ -78,8 +78,8 @@ release_statements year last dropped fresh rows texts =
 
 -- ---- why they stop
 
--- The engine refuses the statement inside a transaction for what it finds there: nothing failed, and
--- nothing changes; or a row of it is too large for the store.
+-- the engine refuses the statement inside a transaction for what it finds there: nothing failed,
+-- and nothing changes; or a row of it is too large for the store
 abbrev pub IsRefusedIn : State → BoundStatement → Type 0
 IsRefusedIn st x = ((e : Error) × ExecutesInside 0 x.sql x.values st st (Err e))
     ⊎ ((c : Compiled) × (it : IsStatement st x.sql x.values c)

@@ -18,8 +18,10 @@ loop-position-preserved g c =
       same_reference = cc;
       adds = turns_one_more (λ n. with_marks (marks_from (pos c.args.year) 0 (take n c.args.rows.now))) _ i old mid now c.insert_if.ensures.quiet c.loop-position.invariant.adds
           c.in_ok-insert_if.ensures.adds (λ content. marks_more (pos c.args.year) c.args.rows.now i c.index-rows-position.result _ content low c.index-rows-position.is);
-      makes = makes_more g.S.Store (map mark_statement (marks_from (pos c.args.year) 0 (take i c.args.rows.now))) (map mark_statement (marks_from (pos c.args.year) i (c.index-rows-position.result ∷ []))) _ c.args.tx.now.conn.now c.loop-position.tx.conn.now
-          c.insert_if.new.tx.conn.now (Ok tt) (mark_more (pos c.args.year) c.args.rows.now i _ c.index-rows-position.result low c.index-rows-position.is) c.loop-position.invariant.quiet c.insert_if.ensures.quiet c.loop-position.invariant.makes c.in_ok-insert_if.ensures.makes;
+      makes = makes_more g.S.Store (map mark_statement (marks_from (pos c.args.year) 0 (take i c.args.rows.now))) (map mark_statement (marks_from (pos c.args.year) i
+          (c.index-rows-position.result ∷ []))) _ c.args.tx.now.conn.now c.loop-position.tx.conn.now
+          c.insert_if.new.tx.conn.now (Ok tt) (mark_more (pos c.args.year) c.args.rows.now i _ c.index-rows-position.result low c.index-rows-position.is) c.loop-position.invariant.quiet
+          c.insert_if.ensures.quiet c.loop-position.invariant.makes c.in_ok-insert_if.ensures.makes;
       quiet = quiet_on old mid now c.loop-position.invariant.quiet c.insert_if.ensures.quiet;
     }
 
@@ -29,7 +31,8 @@ returns-clause-adds g c =
     (state g.S.Store c.loop-position.tx.conn.now) (omega arith) c.loop-position.invariant.adds
 
 pub returns-clause-makes : goal.returns-clause-makes
-returns-clause-makes g c = makes_at_end g.S.Store (λ ys. map mark_statement (marks_from (pos c.args.year) 0 ys)) c.args.rows.now c.loop-position.position c.args.tx.now.conn.now c.loop-position.tx.conn.now (omega arith) c.loop-position.invariant.makes
+returns-clause-makes g c = makes_at_end g.S.Store (λ ys. map mark_statement (marks_from (pos c.args.year) 0 ys)) c.args.rows.now c.loop-position.position c.args.tx.now.conn.now
+    c.loop-position.tx.conn.now (omega arith) c.loop-position.invariant.makes
 
 pub returns-in_err-insert_if-clause-makes : goal.returns-in_err-insert_if-clause-makes
 returns-in_err-insert_if-clause-makes g c =
@@ -37,5 +40,8 @@ returns-in_err-insert_if-clause-makes g c =
     let low : i < length c.args.rows.now = omega arith in
     let e = c.in_err-insert_if.field-0.0 in
     handed_on g.S.Store (map mark_statement (marks_from (pos c.args.year) 0 c.args.rows.now)) c.args.tx.now.conn.now c.insert_if.new.tx.conn.now e c.from_residual.result c.from_residual.ensures.1
-    (fails_part g.S.Store (map mark_statement (marks_from (pos c.args.year) 0 (take (i + 1) c.args.rows.now))) (map mark_statement (marks_from (pos c.args.year) (0 + (i + 1)) (drop (i + 1) c.args.rows.now))) _ c.args.tx.now.conn.now c.insert_if.new.tx.conn.now e (mark_statements_part (pos c.args.year) (i + 1) c.args.rows.now)
-    (makes_more g.S.Store (map mark_statement (marks_from (pos c.args.year) 0 (take i c.args.rows.now))) (map mark_statement (marks_from (pos c.args.year) i (c.index-rows-position.result ∷ []))) _ c.args.tx.now.conn.now c.loop-position.tx.conn.now c.insert_if.new.tx.conn.now (Err e) (mark_more (pos c.args.year) c.args.rows.now i _ c.index-rows-position.result low c.index-rows-position.is) c.loop-position.invariant.quiet c.insert_if.ensures.quiet c.loop-position.invariant.makes c.in_err-insert_if.ensures.makes))
+    (fails_part g.S.Store (map mark_statement (marks_from (pos c.args.year) 0 (take (i + 1) c.args.rows.now))) (map mark_statement (marks_from (pos c.args.year) (0 + (i + 1)) (drop (i + 1)
+    c.args.rows.now))) _ c.args.tx.now.conn.now c.insert_if.new.tx.conn.now e (mark_statements_part (pos c.args.year) (i + 1) c.args.rows.now)
+    (makes_more g.S.Store (map mark_statement (marks_from (pos c.args.year) 0 (take i c.args.rows.now))) (map mark_statement (marks_from (pos c.args.year) i
+    (c.index-rows-position.result ∷ []))) _ c.args.tx.now.conn.now c.loop-position.tx.conn.now c.insert_if.new.tx.conn.now (Err e) (mark_more (pos c.args.year) c.args.rows.now i _
+    c.index-rows-position.result low c.index-rows-position.is) c.loop-position.invariant.quiet c.insert_if.ensures.quiet c.loop-position.invariant.makes c.in_err-insert_if.ensures.makes))

@@ -18,8 +18,10 @@ loop-id-preserved g c =
       same_reference = cc;
       adds = turns_one_more (λ n. with_spans (pos c.args.year) (take n c.args.ids.now)) _ i old mid now c.insert_span.ensures.quiet c.loop-id.invariant.adds
           c.in_ok-insert_span.ensures.adds (λ content. fold_one_more (with_span (pos c.args.year)) c.args.ids.now i c.id-item.result _ content low c.id-item.is);
-      makes = makes_more g.S.Store (map (span_statement (pos c.args.year)) (take i c.args.ids.now)) (span_statement (pos c.args.year) c.id-item.result ∷ []) _ c.args.tx.now.conn.now c.loop-id.tx.conn.now
-          c.insert_span.new.tx.conn.now (Ok tt) (map_more (span_statement (pos c.args.year)) c.args.ids.now i _ c.id-item.result low c.id-item.is) c.loop-id.invariant.quiet c.insert_span.ensures.quiet c.loop-id.invariant.makes c.in_ok-insert_span.ensures.makes;
+      makes = makes_more g.S.Store (map (span_statement (pos c.args.year)) (take i c.args.ids.now)) (span_statement (pos c.args.year) c.id-item.result ∷ []) _ c.args.tx.now.conn.now
+          c.loop-id.tx.conn.now
+          c.insert_span.new.tx.conn.now (Ok tt) (map_more (span_statement (pos c.args.year)) c.args.ids.now i _ c.id-item.result low c.id-item.is) c.loop-id.invariant.quiet
+          c.insert_span.ensures.quiet c.loop-id.invariant.makes c.in_ok-insert_span.ensures.makes;
       quiet = quiet_on old mid now c.loop-id.invariant.quiet c.insert_span.ensures.quiet;
     }
 
@@ -29,7 +31,8 @@ returns-clause-adds g c =
     (state g.S.Store c.loop-id.tx.conn.now) (omega arith) c.loop-id.invariant.adds
 
 pub returns-clause-makes : goal.returns-clause-makes
-returns-clause-makes g c = makes_at_end g.S.Store (λ ys. map (span_statement (pos c.args.year)) ys) c.args.ids.now c.loop-id.id-index c.args.tx.now.conn.now c.loop-id.tx.conn.now (omega arith) c.loop-id.invariant.makes
+returns-clause-makes g c = makes_at_end g.S.Store (λ ys. map (span_statement (pos c.args.year)) ys) c.args.ids.now c.loop-id.id-index c.args.tx.now.conn.now c.loop-id.tx.conn.now (omega arith)
+    c.loop-id.invariant.makes
 
 pub returns-in_err-insert_span-clause-makes : goal.returns-in_err-insert_span-clause-makes
 returns-in_err-insert_span-clause-makes g c =
@@ -37,5 +40,8 @@ returns-in_err-insert_span-clause-makes g c =
     let low : i < length c.args.ids.now = omega arith in
     let e = c.in_err-insert_span.field-0.0 in
     handed_on g.S.Store (map (span_statement (pos c.args.year)) c.args.ids.now) c.args.tx.now.conn.now c.insert_span.new.tx.conn.now e c.from_residual.result c.from_residual.ensures.1
-    (fails_part g.S.Store (map (span_statement (pos c.args.year)) (take (i + 1) c.args.ids.now)) (map (span_statement (pos c.args.year)) (drop (i + 1) c.args.ids.now)) _ c.args.tx.now.conn.now c.insert_span.new.tx.conn.now e (map_parts (span_statement (pos c.args.year)) (i + 1) c.args.ids.now)
-    (makes_more g.S.Store (map (span_statement (pos c.args.year)) (take i c.args.ids.now)) (span_statement (pos c.args.year) c.id-item.result ∷ []) _ c.args.tx.now.conn.now c.loop-id.tx.conn.now c.insert_span.new.tx.conn.now (Err e) (map_more (span_statement (pos c.args.year)) c.args.ids.now i _ c.id-item.result low c.id-item.is) c.loop-id.invariant.quiet c.insert_span.ensures.quiet c.loop-id.invariant.makes c.in_err-insert_span.ensures.makes))
+    (fails_part g.S.Store (map (span_statement (pos c.args.year)) (take (i + 1) c.args.ids.now)) (map (span_statement (pos c.args.year)) (drop (i + 1) c.args.ids.now)) _ c.args.tx.now.conn.now
+    c.insert_span.new.tx.conn.now e (map_parts (span_statement (pos c.args.year)) (i + 1) c.args.ids.now)
+    (makes_more g.S.Store (map (span_statement (pos c.args.year)) (take i c.args.ids.now)) (span_statement (pos c.args.year) c.id-item.result ∷ []) _ c.args.tx.now.conn.now
+    c.loop-id.tx.conn.now c.insert_span.new.tx.conn.now (Err e) (map_more (span_statement (pos c.args.year)) c.args.ids.now i _ c.id-item.result low c.id-item.is) c.loop-id.invariant.quiet
+    c.insert_span.ensures.quiet c.loop-id.invariant.makes c.in_err-insert_span.ensures.makes))
