@@ -170,6 +170,11 @@ fn expect_no_split(rt: &HostRuntime, release: &Release) -> Result<(), Fail> {
     expect_exact(rt, SPLIT, std::slice::from_ref(&split), "6d A")
 }
 
+/// The same of the square and these pieces.
+fn expect_no_parts(rt: &HostRuntime, covers: &str) -> Result<(), Fail> {
+    expect_no_split(rt, &release_of(rt, PARCEL, covers, CLASSES)?)
+}
+
 #[test]
 fn of_a_split_and_a_merge(rt: HostRuntime) -> Result<(), Fail> {
     expect_both(&rt, &release_of(&rt, PARCEL, HALVES, CLASSES)?)
@@ -178,16 +183,8 @@ fn of_a_split_and_a_merge(rt: HostRuntime) -> Result<(), Fail> {
 #[test]
 fn of_other_parts(rt: HostRuntime) -> Result<(), Fail> {
     expect_exact(&rt, "lpis-cert 2\npairs 0\nend\n", &[], "yes")?;
-    expect_exact(&rt, BLOCKS, &[], "6a A")
-}
-
-#[test]
-fn of_a_gap_of_a_centimetre(rt: HostRuntime) -> Result<(), Fail> {
-    expect_no_split(&rt, &release_of(&rt, PARCEL, HALVES_WITH_A_GAP, CLASSES)?)
-}
-
-/// Parts that have the area of their whole and do not make it up.
-#[test]
-fn of_a_part_beside_its_whole(rt: HostRuntime) -> Result<(), Fail> {
-    expect_no_split(&rt, &release_of(&rt, PARCEL, BESIDE, CLASSES)?)
+    expect_exact(&rt, BLOCKS, &[], "6a A")?;
+    // A gap of a centimetre, and parts that have the area of their whole and do not make it up.
+    expect_no_parts(&rt, HALVES_WITH_A_GAP)?;
+    expect_no_parts(&rt, BESIDE)
 }
