@@ -1,6 +1,6 @@
 use Rattle.std.proofs.Common.{inl, inr, refl}
 use Rattle.sqlite.specs.Held.{state}
-use Rattle.lpis_gate.proofs.PublishLemmas.{added-accepted, answer-accepted, leaves-committed, leaves-kept}
+use Rattle.lpis_gate.proofs.PublishLemmas.{added-accepted, answer-accepted, leaves-committed, leaves-kept, memory-no-store}
 use Rattle.lpis_gate.proofs.publish.publish_accepted.Goals as goal
 
 pub returns-in-Ok-clause-answer : goal.returns-in-Ok-clause-answer
@@ -33,6 +33,9 @@ returns-in-Err-Store-clause-leaves g c =
     leaves-kept _ old new c.args.register.now.history c.commit.new.self.history c.args.register.now.shapes.items c.commit.new.self.shapes.items
     (inr refl) kept stored.err (λ before clean. (stored.crash before).closes clean before.stored.is_open)
 
+pub returns-in-Err-Store-clause-cause : goal.returns-in-Err-Store-clause-cause
+returns-in-Err-Store-clause-cause g c clean is = c.in-Err-Store.ensures.cause clean c.in-Err-Store.field-0-is
+
 pub returns : goal.returns
 returns g c =
     let made = c.requires.made in
@@ -45,5 +48,5 @@ returns g c =
       added = λ rows it. tt;
       leaves = leaves-kept _ old new c.args.register.now.history c.commit.new.self.history c.args.register.now.shapes.items c.commit.new.self.shapes.items
           (inl refl) kept stored.err (λ before clean. (stored.crash before).closes clean before.stored.is_open);
-      cause = λ clean is. absurd cc;
+      cause = λ clean is. memory-no-store is;
     }
