@@ -4,8 +4,13 @@ starve or damage one."""
 import collections
 import os
 import sqlite3
+import sys
 import time
 
+sys.path.insert(0, os.path.join(os.path.dirname(os.path.dirname(os.path.realpath(__file__))), "tools"))
+from lpis_tools import polygons  # noqa: E402
+
+LIMIT, MOST_POINTS = 20_000_000_000, 100_000  # of a coordinate in millimetres, and of a polygon
 SECONDS = 20  # for a query of a register that was made to hang
 
 FORMAT = "CREATE TABLE lpis_format (one INTEGER NOT NULL PRIMARY KEY, version INTEGER NOT NULL) STRICT;"
@@ -101,3 +106,15 @@ def read(connection):
 def rows_of(connection, year, has_marks):
     marked = {pos for pos, in connection.execute(MARKS_OF, (year,))} if has_marks else set()
     return [(*row, row[0] in marked) for row in connection.execute(ROWS_OF, (year,))]
+
+
+def is_shape(text):
+    """Whether a text is that of a polygon, by docs/FORMATS.md."""
+    try:
+        members = polygons.read(text.encode())
+    except RecursionError:
+        return False
+    if members is None or len(polygons.points(members)) > MOST_POINTS:
+        return False
+    return all(len(ring) >= 4 and ring[0] == ring[-1] and all(abs(value) <= LIMIT for point in ring for value in point)
+               for member in members for ring in member)
