@@ -6,7 +6,7 @@ import sqlite3
 import sys
 import time
 
-from common import done
+from common import done, run
 from registers import TABLES
 
 YEARS = range(2021, 2031)
@@ -62,6 +62,14 @@ def with_texts(path, count, year=2021):
     """A register of one year of so many parcels with their texts."""
     ids = names(count)
     return made(path, 3, [year], lpis_span=[(name, year, 0) for name in ids], lpis_text=[(name, text_of(number)) for number, name in enumerate(ids)])
+
+
+def moved(path, count, program):
+    """A register of one year of so many parcels that was of version 2, and that the program has moved: it keeps no texts."""
+    ids = names(count)
+    made(path, 2, [2021], lpis_span=[(name, 2021, 0) for name in ids])
+    done([program, "trace", path, ids[0]])
+    return path
 
 
 def ten_years(path, count):
@@ -139,18 +147,18 @@ def copied(path):
     return copy
 
 
-def run_over(path, words, line):
-    """A run of a program over a copy of a register, whose path comes in place of None; its last line has to be this one."""
+def run_over(path, words, line, status=0):
+    """A run of a program over a copy of a register, whose path comes in place of None; its status and its last line have to be these."""
     copy = copied(path)
-    found = done([copy if word is None else word for word in words])
-    if found.text.splitlines()[-1:] != [line]:
-        sys.exit(f"{' '.join(map(str, words))}: {found.text[-300:]}")
+    found = run([copy if word is None else word for word in words])
+    if found.status != status or found.text.splitlines()[-1:] != [line]:
+        sys.exit(f"{' '.join(map(str, words))}: status {found.status}: {(found.text + found.told)[-300:]}")
     return found
 
 
-def by_program(path, words, line):
+def by_program(path, words, line, status=0):
     """Seconds and peak bytes of such a run."""
-    found = run_over(path, words, line)
+    found = run_over(path, words, line, status)
     return found.wall, found.seconds, found.peak
 
 
