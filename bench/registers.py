@@ -51,6 +51,9 @@ LIVE_IN = {1: "SELECT id FROM lpis_live WHERE year = ?1 ORDER BY id", 2: BY_SPAN
 ROWS_OF = "SELECT pos, old, new FROM lpis_row WHERE year = ?1 ORDER BY pos"
 MARKS_OF = "SELECT pos FROM lpis_mark WHERE year = ?1"
 
+# Tables that are read as those of version 3 where `lpis_format` is missing.
+UNTOLD = {"lpis_release", "lpis_span", "lpis_row"}
+
 # What a register says: its version; each release, ascending, with its year, its identifiers, and its rows of lineage, of which each tells
 # whether it is marked; and the texts of the last release's shapes by their identifiers.
 Register = collections.namedtuple("Register", "version releases texts")
@@ -92,7 +95,7 @@ def said(path):
 
 def read(connection):
     names = {name for name, in connection.execute("SELECT name FROM sqlite_schema WHERE type = 'table'")}
-    versions = connection.execute("SELECT version FROM lpis_format").fetchall() if "lpis_format" in names else []
+    versions = connection.execute("SELECT version FROM lpis_format").fetchall() if "lpis_format" in names else [(3,)] * (UNTOLD <= names)
     if not versions:
         return NOTHING
     (version,), = versions
