@@ -18,8 +18,9 @@ use Rattle.sqlite_trees.specs.declared.error.StoreError.TheVariants as cause
 use Rattle.sqlite_trees.specs.declared.store.Store as store
 use Rattle.sqlite.specs.declared.error.Error.TheVariants.{SqliteFailure}
 use Rattle.sqlite.specs.declared.error.ErrorCode.TheVariants as code
+use Rattle.lpis_register_sql.specs.private.Inside.{Makes}
 use Rattle.lpis_register_sql.proofs.Common.{Does, Error, ExecutesInside, HasCleanDisk, IsQuiet, State, Survives, Trees, mode_of, state}
-use Rattle.lpis_register_sql.specs.Stopping.{BoundStatement, IsRefusedIn, IsStuck, Makes, Ran, Stops}
+use Rattle.lpis_register_sql.specs.Stopping.{BoundStatement, IsRefusedIn, IsStuck, Ran, Stops}
 
 -- what follows of an answer follows where there is one
 pub on_ok : {A E P Q : Type 0} (r : Result A E) → (P → Q) → OnOk r P → OnOk r Q

@@ -1,12 +1,11 @@
 -- The statements that write a release, and why writing one stops.
-use Rattle.std.specs.Prelude.{◌≡◌, ◌⊎◌, ℕ, ℤ, List, [], ◌∷◌, ◌++◌, map, IsTrue, Ok, Err, None}
-use Rattle.std.specs.Prelude.{Result, MatchResult}
+use Rattle.std.specs.Prelude.{◌≡◌, ◌⊎◌, ℕ, ℤ, List, [], ◌∷◌, ◌++◌, map, Ok, Err, None}
 use Rattle.sqlite.specs.Does.{Does}
 use Rattle.sqlite.specs.Clock.{timed}
 use Rattle.sqlite_resolve.specs.declared.compiled.Compiled.{Compiled}
 use Rattle.sqlite.specs.Held.{Held, state}
 use Rattle.sqlite.specs.Order.{Row as Values}
-use Rattle.sqlite.specs.State.{ExecutesInside, HasCleanDisk, IsStatement, State, mode_of, text_of}
+use Rattle.sqlite.specs.State.{ExecutesInside, IsStatement, State, mode_of, text_of}
 use Rattle.sqlite.specs.declared.error.Error.{Error}
 use Rattle.sqlite.specs.declared.error.Error.TheVariants.{SqliteFailure}
 use Rattle.sqlite.specs.declared.error.ErrorCode.TheVariants.{OutOfMemory}
@@ -112,8 +111,3 @@ module _ {S : Type 0} (store : Ghosts S) where
   -- why these statements stop: memory was refused, or that
   abbrev pub Stops : List BoundStatement → Held S → Held S → Error → Type 0
   Stops xs old new e = (e ≡ SqliteFailure OutOfMemory) ⊎ IsStopped xs old new
-
-  -- a call that makes these statements in an open transaction runs them all, or says why not
-  abbrev pub Makes : List BoundStatement → Held S → Held S → Result (Unit {0}) Error → Type 0
-  Makes xs old new r = HasCleanDisk (state store new) → IsTrue (state store old).is_open
-      → IsTrue old.in_transaction → MatchResult r (λ _. Ran xs old new) (Stops xs old new)

@@ -4,8 +4,8 @@ ghost use Rattle.std.specs.Prelude.{◌≡◌, ◌<◌, ◌^◌, ◌∷◌, [], 
 ghost use Rattle.sqlite.specs.Held.{state};
 ghost use Rattle.lpis_register_rows.specs.Content.{marks_from, with_mark, with_marks};
 ghost use Rattle.lpis_register_rows.specs.Content.{without_marks};
-ghost use Rattle.lpis_register_sql.specs.Stopping.{Makes, mark_statement};
-ghost use Rattle.lpis_register_sql.specs.private.Inside.{IsQuiet, Turns};
+ghost use Rattle.lpis_register_sql.specs.Stopping.{mark_statement};
+ghost use Rattle.lpis_register_sql.specs.private.Inside.{IsQuiet, Makes, Turns};
 ghost use Rattle.lpis_register_sql.specs.private.Lines.{mark_at};
 
 use crate::statements::run;

@@ -7,9 +7,9 @@ ghost use Rattle.lpis_register_rows.specs.Content.{with_year, with_spans, all_en
 ghost use Rattle.lpis_register_rows.specs.Content.{lines_from, marks_from, published, released};
 ghost use Rattle.lpis_register_rows.specs.Content.{with_lines};
 ghost use Rattle.lpis_register_sql.specs.Commits.{AllStand, Rewrites};
-ghost use Rattle.lpis_register_sql.specs.Stopping.{Makes, Stops, release_statements};
+ghost use Rattle.lpis_register_sql.specs.Stopping.{Stops, release_statements};
 ghost use Rattle.lpis_register_sql.specs.Stopping.{row_statements, span_statements};
-ghost use Rattle.lpis_register_sql.specs.private.Inside.{IsQuiet, Turns};
+ghost use Rattle.lpis_register_sql.specs.private.Inside.{IsQuiet, Makes, Turns};
 
 use crate::marks::insert_marks;
 use crate::statements::insert_release;

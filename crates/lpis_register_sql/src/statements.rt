@@ -6,9 +6,9 @@ ghost use Rattle.sqlite.specs.State.{ExecutesInside, HasCleanDisk};
 ghost use Rattle.sqlite.specs.Values.{bound};
 ghost use Rattle.lpis_register_rows.specs.Content.{with_year, with_span, with_line, with_ended};
 ghost use Rattle.lpis_register_rows.specs.Content.{successor_text};
-ghost use Rattle.lpis_register_sql.specs.private.Inside.{IsQuiet, Turns};
+ghost use Rattle.lpis_register_sql.specs.private.Inside.{IsQuiet, Makes, Turns};
 ghost use Rattle.lpis_register_sql.specs.private.Lines.{line_with, row_line};
-ghost use Rattle.lpis_register_sql.specs.Stopping.{Makes, ending_statement, line_statement};
+ghost use Rattle.lpis_register_sql.specs.Stopping.{ending_statement, line_statement};
 ghost use Rattle.lpis_register_sql.specs.Stopping.{span_statement, year_statement};
 
 use lpis_covers::Id;

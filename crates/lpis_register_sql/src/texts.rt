@@ -4,9 +4,9 @@ ghost use Rattle.std.specs.Prelude.{◌≡◌, ◌∷◌, [], map};
 ghost use Rattle.sqlite.specs.Held.{state};
 ghost use Rattle.lpis_register_rows.specs.Content.{with_shapes, with_text, with_texts};
 ghost use Rattle.lpis_register_rows.specs.Content.{without_texts};
-ghost use Rattle.lpis_register_sql.specs.Stopping.{Makes, clearing_statement, text_statement};
+ghost use Rattle.lpis_register_sql.specs.Stopping.{clearing_statement, text_statement};
 ghost use Rattle.lpis_register_sql.specs.Stopping.{text_statements};
-ghost use Rattle.lpis_register_sql.specs.private.Inside.{IsQuiet, Turns};
+ghost use Rattle.lpis_register_sql.specs.private.Inside.{IsQuiet, Makes, Turns};
 ghost use Rattle.lpis_register_sql.specs.private.Lines.{text_at};
 
 use crate::statements::run;

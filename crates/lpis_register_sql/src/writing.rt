@@ -3,9 +3,9 @@
 ghost use Rattle.std.specs.Prelude.{◌≡◌, map, pos};
 ghost use Rattle.sqlite.specs.Held.{state};
 ghost use Rattle.lpis_register_rows.specs.Content.{with_spans, all_ended, with_lines, lines_from};
-ghost use Rattle.lpis_register_sql.specs.Stopping.{Makes, ending_statement, line_statement};
+ghost use Rattle.lpis_register_sql.specs.Stopping.{ending_statement, line_statement};
 ghost use Rattle.lpis_register_sql.specs.Stopping.{span_statement};
-ghost use Rattle.lpis_register_sql.specs.private.Inside.{IsQuiet, Turns};
+ghost use Rattle.lpis_register_sql.specs.private.Inside.{IsQuiet, Makes, Turns};
 
 use crate::statements::{end_span, insert_row, insert_span};
 use lpis_covers::Id;

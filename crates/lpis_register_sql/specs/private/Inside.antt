@@ -1,11 +1,14 @@
 -- What it means that a transaction holds rows of the register, and what a call within it does.
-use Rattle.std.specs.Prelude.{◌≡◌, IsTrue, OnOk, Result}
+use Rattle.std.specs.Prelude.{◌≡◌, IsTrue, List, MatchResult, OnOk, Result}
 use Rattle.sqlite.specs.Effect.{Database}
+use Rattle.sqlite.specs.Held.{Held, state}
 use Rattle.sqlite.specs.State.{State, HasCleanDisk, KeepsCommit, Survives}
 use Rattle.sqlite.specs.declared.error.Error.{Error}
+use Rattle.sqlite_trees.specs.declared.store.Store.{Ghosts}
 use Rattle.lpis_register_rows.specs.Content.{Content}
 use Rattle.lpis_register_sql.specs.Layouts.{Layout, Origin, Whole}
 use Rattle.lpis_register_sql.specs.Holding.{HoldsRows}
+use Rattle.lpis_register_sql.specs.Stopping.{BoundStatement, Ran, Stops}
 
 -- a transaction over this commit, in which the tables hold this
 pub record Inside (s : Layout) (base : Database) (st : State) (c : Content) : Type 0 where
@@ -24,3 +27,10 @@ Turns turn old new r =
 pub record IsQuiet (old new : State) : Type 0 where
   pub kept : HasCleanDisk new → KeepsCommit old new
   pub survives : Survives old new (λ _. ⊥)
+
+-- a call that makes these statements in an open transaction runs them all, or it stops and says why
+abbrev pub Makes : {S : Type 0} → Ghosts S → List BoundStatement → Held S → Held S
+    → Result (Unit {0}) Error → Type 0
+Makes store xs old new r = HasCleanDisk (state store new) → IsTrue (state store old).is_open
+    → IsTrue old.in_transaction
+    → MatchResult r (λ _. Ran store xs old new) (Stops store xs old new)

@@ -1,7 +1,8 @@
 use Rattle.std.proofs.Common.{◌≡◌, Ok, pos, take, map}
+use Rattle.lpis_register_sql.specs.private.Inside.{Makes}
 use Rattle.lpis_register_sql.proofs.Common.{state, IsQuiet, Turns}
 use Rattle.lpis_register_rows.specs.Content.{marks_from, with_marks}
-use Rattle.lpis_register_sql.specs.Stopping.{Makes, mark_statement}
+use Rattle.lpis_register_sql.specs.Stopping.{mark_statement}
 use Rattle.lpis_register_sql.proofs.marks.insert_marks.Given as goal
 
 abbrev pub invariant-loop-position : goal.invariant-loop-position

@@ -1,7 +1,8 @@
 use Rattle.std.proofs.Common.{◌≡◌, Ok, take, map}
+use Rattle.lpis_register_sql.specs.private.Inside.{Makes}
 use Rattle.lpis_register_sql.proofs.Common.{state, IsQuiet, Turns}
 use Rattle.lpis_register_rows.specs.Content.{with_texts}
-use Rattle.lpis_register_sql.specs.Stopping.{Makes, text_statement}
+use Rattle.lpis_register_sql.specs.Stopping.{text_statement}
 use Rattle.lpis_register_sql.proofs.texts.insert_texts.Given as goal
 
 abbrev pub invariant-loop-text : goal.invariant-loop-text

@@ -1,6 +1,7 @@
 use Rattle.std.proofs.Common.{◌≡◌, Ok, pos, take, map}
+use Rattle.lpis_register_sql.specs.private.Inside.{Makes}
 use Rattle.lpis_register_sql.proofs.Common.{state, lines_from, with_lines, IsQuiet, Turns}
-use Rattle.lpis_register_sql.specs.Stopping.{Makes, line_statement}
+use Rattle.lpis_register_sql.specs.Stopping.{line_statement}
 use Rattle.lpis_register_sql.proofs.writing.insert_lines.Given as goal
 
 abbrev pub invariant-loop-position : goal.invariant-loop-position

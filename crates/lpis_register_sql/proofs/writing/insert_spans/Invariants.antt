@@ -1,7 +1,8 @@
 use Rattle.std.proofs.Common.{◌≡◌, Ok, pos, take, map}
+use Rattle.lpis_register_sql.specs.private.Inside.{Makes}
 use Rattle.lpis_register_sql.proofs.Common.{state, IsQuiet, Turns}
 use Rattle.lpis_register_rows.specs.Content.{with_spans}
-use Rattle.lpis_register_sql.specs.Stopping.{Makes, span_statement}
+use Rattle.lpis_register_sql.specs.Stopping.{span_statement}
 use Rattle.lpis_register_sql.proofs.writing.insert_spans.Given as goal
 
 abbrev pub invariant-loop-id : goal.invariant-loop-id
