@@ -45,7 +45,7 @@ use Rattle.lpis_gate.specs.private.Saying.{IsSubmitted}
 use Rattle.lpis_gate.proofs.MarkedLemmas.{left-exactly}
 use Rattle.lpis_register.specs.Accepting.{IsAccepted}
 use Rattle.lpis_register.specs.Histories.{HoldsRegister}
-use Rattle.lpis_register.specs.Publishing.{Follows}
+use Rattle.lpis_register.specs.Publishing.{FollowsHistory}
 use Rattle.lpis_register.specs.declared.accepting.Accepted.{Accepted}
 use Rattle.lpis_register.specs.declared.fault.PublishFault.TheVariants as publish
 use Rattle.lpis_register_rows.specs.Shapes.{Shape}
@@ -129,7 +129,7 @@ published-of x year r c rows h s k t said sound good added =
 
 -- a release that was accepted was added where it is published
 pub added-accepted : (h k : List Entry) (year : ℕ) (r : Contents) (c : Cert) (rows : List Row) (s t : List Shape) (a : Accepted) (change : Changes) → IsAccepted h s year r c.exact rows a
-    → change ≡ a.step.change → IsAscending change.dropped_ids → Follows h year r.parcels rows k t → ShapesTurnOnce (shape_named t) → IsAdded year r rows h s k t
+    → change ≡ a.step.change → IsAscending change.dropped_ids → FollowsHistory h year r.parcels rows k t → ShapesTurnOnce (shape_named t) → IsAdded year r rows h s k t
 added-accepted h k year r c rows s t a change made is ascend follows once =
     let step = made.prepared.step_is in
     let was = subst (IsChange (last_live h) (parcel_ids r.parcels) rows) (sym is) step.change_is in

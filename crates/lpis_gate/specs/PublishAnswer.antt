@@ -22,7 +22,7 @@ use Rattle.lpis_exact_lineage.specs.ExactLineage.{IsExactLineage, ShapesTurnOnce
 use Rattle.lpis_exact_lineage.specs.Shapes.{shape_named, shapes_in}
 use Rattle.lpis_register.specs.Failing.{FailsToStore}
 use Rattle.lpis_register.specs.Faults.{IsFailure, IsRefused}
-use Rattle.lpis_register.specs.Publishing.{Follows}
+use Rattle.lpis_register.specs.Publishing.{FollowsHistory}
 use Rattle.lpis_register.specs.declared.fault.PublishFault.{PublishFault}
 use Rattle.lpis_commands.specs.CheckAnswer.{Answer, IsCheckAnswer, IsProvedOf}
 use Rattle.lpis_commands.specs.Failures.{IsUnpublished}
@@ -79,7 +79,7 @@ pub record IsPublished (x : Submission) (year : ℕ) (h : List Entry) (s : List 
   -- the history is the one before with the release at its end; it is lawful and its rows fit, and
   -- the shapes are those of the release's parcels
   pub later : last_year h < year
-  pub follows : Follows h year release.parcels rows k t
+  pub follows : FollowsHistory h year release.parcels rows k t
   -- each of these turns once at most: what the next merges rest on
   pub once : ShapesTurnOnce (shape_named t)
   -- exact splits and merges are exact, by the shapes that were kept before

@@ -13,9 +13,9 @@ use Rattle.lpis_register_rows.specs.Content.{Mark, marks_from, published, releas
 use Rattle.lpis_register_rows.specs.Tells.{IsWriting, last_of_years}
 use Rattle.lpis_register_sql.specs.Commits.{AllStand, Rewrites}
 use Rattle.lpis_register.specs.Accepting.{IsPrepared}
-use Rattle.lpis_register.specs.Publishing.{Follows, LeavesRelease, Stores}
+use Rattle.lpis_register.specs.Publishing.{FollowsHistory, LeavesRelease, Stores}
 use Rattle.lpis_register.specs.declared.accepting.Accepted.{Accepted}
-use Rattle.lpis_register.specs.private.Writes.{Commits, IsDue, Writes}
+use Rattle.lpis_register.specs.private.Writes.{Commits, IsToWrite, Writes}
 use Rattle.lpis_register.proofs.FindingLemmas.{Reordered, still_holds}
 use Rattle.lpis_register.proofs.HoldingLemmas.{holds_with, left_with, nothing_done, survives_with}
 use Rattle.lpis_register.proofs.ResultLemmas.{on_err, on_ok}
@@ -44,7 +44,7 @@ module _ (more : TellsMore) (put : PutsTexts) (lives : LivesOn) (moved : Reorder
   abbrev pub whole : Content → Content
   whole c = released texts (marks_from (pos y) 0 rows) (published (pos y) (pos l) gone fresh rows c)
 
-  told : (h : List Entry) (c : Content) → IsDue now last a h → Tells c h → Tells (whole c) now
+  told : (h : List Entry) (c : Content) → IsToWrite now last a h → Tells c h → Tells (whole c) now
   told h c due t =
       let ids = parcel_ids due.parcels in
       let step = due.made.step_is in
@@ -53,12 +53,12 @@ module _ (more : TellsMore) (put : PutsTexts) (lives : LivesOn) (moved : Reorder
       subst (λ v. Tells (released texts (marks_from (pos y) 0 rows) (published (pos y) (pos v) gone fresh rows c)) now) (sym due.last_is ∙ sym el)
       (more c h now y ids gone fresh rows t adds lawful fits low writing texts)
 
-  spelled : (h : List Entry) (c : Content) → IsDue now last a h → ShapesAre (whole c).texts a.kept.shapes.items
+  spelled : (h : List Entry) (c : Content) → IsToWrite now last a h → ShapesAre (whole c).texts a.kept.shapes.items
   spelled h c due =
       moved texts (whole c).texts a.kept.shapes.items (put (published (pos y) (pos l) gone fresh rows c) texts (marks_from (pos y) 0 rows))
       (subst (λ t. ShapesAre t a.kept.shapes.items) (sym et) due.made.kept_is.texts_are)
 
-  alive : (h : List Entry) → IsDue now last a h → AreLive (last_live now) a.kept.shapes.items
+  alive : (h : List Entry) → IsToWrite now last a h → AreLive (last_live now) a.kept.shapes.items
   alive h due = lives h now due.year (parcel_ids due.parcels) due.rows due.follows.adds a.kept.shapes.items due.made.kept_is.live
 
   pub statements_write : (old new : State) (r : Result (Unit {0}) Error) → Rewrites AllStand whole old new r → Writes now last a old new r
@@ -81,7 +81,7 @@ module _ (more : TellsMore) (put : PutsTexts) (lives : LivesOn) (moved : Reorder
 
 -- an accepted release that was added, lawfully and with its rows, follows the history, and its shapes are kept
 pub follows_as : (h k : List Entry) (year : ℕ) (parcels : List Parcel) (rows : List Row) (a : Accepted) (live : List (List ℕ)) (more : List Row) → live ≡ a.step.live.items → more ≡ a.step.change.rows
-    → Adds h k a.year live more → IsLawful k → RowsFit k → IsPrepared h year parcels rows a → Follows h year parcels rows k a.kept.shapes.items
+    → Adds h k a.year live more → IsLawful k → RowsFit k → IsPrepared h year parcels rows a → FollowsHistory h year parcels rows k a.kept.shapes.items
 follows_as h k year parcels rows a live more el er adds lawful fits made = record {
   adds = subst₂ (λ y r. Adds h k y (parcel_ids parcels) r) made.year_is (er ∙ made.step_is.change_is.rows_are) (subst (λ l. Adds h k a.year l more) (el ∙ made.step_is.live_are) adds);
   lawful = lawful;
@@ -102,7 +102,7 @@ module _ (h k : List Entry) (year : ℕ) (parcels : List Parcel) (rows : List Ro
     durable = λ shapes clean holds. tt;
   }
 
-module _ (now : List Entry) (last : ℕ) (a : Accepted) (h : List Entry) (due : IsDue now last a h) (old new : State) where
+module _ (now : List Entry) (last : ℕ) (a : Accepted) (h : List Entry) (due : IsToWrite now last a h) (old new : State) where
   crashed : {E : Type 0} (r : Result (Unit {0}) E) → Writes now last a old new r → (shapes : List Shape) → HoldsRegister old h shapes
       → Survives old new (LeavesRelease h due.year due.parcels due.rows)
   crashed r w shapes holds = survives_weaker old new _ _ (λ clean db left. (now, a.kept.shapes.items, due.follows, left)) (w.crash h shapes due holds)

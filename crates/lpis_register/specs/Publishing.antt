@@ -22,7 +22,7 @@ use Rattle.lpis_register.specs.declared.fault.PublishFault.{PublishFault}
 -- after this history, a release of this year, of these parcels and with these rows of lineage
 module _ (h : List Entry) (year : ℕ) (parcels : List Parcel) (rows : List Row) where
   -- it stands at the end of this history, and these are its shapes
-  pub record Follows (k : List Entry) (shapes : List Shape) : Type 0 where
+  pub record FollowsHistory (k : List Entry) (shapes : List Shape) : Type 0 where
     pub adds : Adds h k year (parcel_ids parcels) rows
     pub lawful : IsLawful k
     pub fits : RowsFit k
@@ -30,7 +30,7 @@ module _ (h : List Entry) (year : ℕ) (parcels : List Parcel) (rows : List Row)
 
   -- a crash leaves tables that say such a history and keep its shapes
   abbrev pub LeavesRelease : Trees → Type 0
-  LeavesRelease trees = (k : List Entry) × (shapes : List Shape) × Follows k shapes
+  LeavesRelease trees = (k : List Entry) × (shapes : List Shape) × FollowsHistory k shapes
       × LeavesRegister k shapes trees
 
   -- a database that holds the history and the shapes of before holds those of after. A crash leaves
@@ -51,7 +51,7 @@ pub record Publishes (h : List Entry) (kept : List Shape) (year : ℕ) (r : Cont
     (answer : Result Changes PublishFault) : Type 0 where
   pub tells : PublishTells h kept year r blocks rows answer
   pub change : IfOk answer (IsChange (last_live h) (parcel_ids r.parcels) rows)
-  pub follows : OnOk answer (Follows h year r.parcels rows k shapes)
+  pub follows : OnOk answer (FollowsHistory h year r.parcels rows k shapes)
   -- its exact splits and merges are those of points, by the shapes of before and its own
   pub exact : OnOk answer
       (IsExactLineage (kinds_from h r rows) rows (shape_named kept) (shape_named (shapes_in r)))

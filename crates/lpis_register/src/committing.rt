@@ -11,7 +11,7 @@ ghost use Rattle.lpis_register_sql.specs.Stopping.{Stops};
 ghost use Rattle.lpis_register.specs.Accepting.{IsPrepared};
 ghost use Rattle.lpis_register.specs.Failing.{FailsToRun, accepted_statements};
 ghost use Rattle.lpis_register.specs.Faults.{IsFailure};
-ghost use Rattle.lpis_register.specs.private.Writes.{Commits, Grows, IsDue, Writes};
+ghost use Rattle.lpis_register.specs.private.Writes.{Commits, EndsWithRelease, IsToWrite, Writes};
 ghost use Rattle.lpis_register.specs.declared.fault.PublishFault.TheVariants.{Memory, Store};
 
 use crate::accepting::Accepted;
@@ -59,7 +59,7 @@ fn grow(history: &mut History, accepted: &Accepted) -> Result<(), PublishFault>
         × IsPrepared history.old year parcels rows accepted.now }
     ensures grows { (year : ℕ) (parcels : List Parcel) (rows : List Row)
         → IsPrepared history.old year parcels rows accepted.now
-        → Grows history.old history.new year parcels rows accepted.now result }
+        → EndsWithRelease history.old history.new year parcels rows accepted.now result }
     ensures refused { OnErr result (history.new ≡ history.old) }
     ensures memory { IfErr result (λ e. e ≡ Memory) }
 {
@@ -81,7 +81,7 @@ fn write_or_take_back<S: Alter>(
 ) -> Result<(), PublishFault>
     requires autocommit { conn.old.in_transaction ≡ false }
     ensures autocommit { conn.new.in_transaction ≡ false }
-    ensures commits { (h : List Entry) (due : IsDue history.old last accepted.now h)
+    ensures commits { (h : List Entry) (due : IsToWrite history.old last accepted.now h)
         → Commits h history.new due.year due.parcels due.rows accepted.now (state S.Store conn.old)
         (state S.Store conn.new) result }
     ensures failure { IfErr result IsFailure }

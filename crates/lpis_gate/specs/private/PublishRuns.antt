@@ -12,7 +12,7 @@ use Rattle.lpis_register_rows.specs.Shapes.{Shape}
 use Rattle.lpis_exact_lineage.specs.Asking.{kinds_from}
 use Rattle.lpis_exact_lineage.specs.ExactLineage.{IsExactLineage, ShapesTurnOnce}
 use Rattle.lpis_exact_lineage.specs.Shapes.{shape_named, shapes_in}
-use Rattle.lpis_register.specs.Publishing.{Follows}
+use Rattle.lpis_register.specs.Publishing.{FollowsHistory}
 use Rattle.lpis_commands.specs.declared.failure.Failure.{Failure}
 use Rattle.lpis_commands.specs.declared.failure.Failure.TheVariants.{Memory, Store}
 use Rattle.lpis_commands.specs.declared.answer.Answer.{Answer}
@@ -25,7 +25,7 @@ pub record IsAdded (year : ℕ) (r : Contents) (rows : List Row) (h : List Entry
     (k : List Entry) (t : List Shape) : Type 0 where
   pub later : last_year h < year
   pub clean : faults h (parcel_ids r.parcels) rows ≡ []
-  pub follows : Follows h year r.parcels rows k t
+  pub follows : FollowsHistory h year r.parcels rows k t
   pub once : ShapesTurnOnce (shape_named t)
   pub exact : IsExactLineage (kinds_from h r rows) rows (shape_named s) (shape_named (shapes_in r))
   pub ascend : IsAscending (dropped (last_live h) (parcel_ids r.parcels))

@@ -9,41 +9,41 @@ use Rattle.lpis_parcels.specs.declared.parcel.Parcel.{Parcel}
 use Rattle.lpis_register_rows.specs.Shapes.{Shape}
 use Rattle.lpis_register.specs.Accepting.{IsPrepared}
 use Rattle.lpis_register.specs.Histories.{HoldsRegister, LeavesRegister}
-use Rattle.lpis_register.specs.Publishing.{Follows, LeavesRelease}
+use Rattle.lpis_register.specs.Publishing.{FollowsHistory, LeavesRelease}
 use Rattle.lpis_register.specs.declared.accepting.Accepted.{Accepted}
 
 module _ (now : List Entry) (last : ℕ) (a : Accepted) where
   -- the accepted release is to be written after this history, which ends with that year
-  pub record IsDue (h : List Entry) : Type 0 where
+  pub record IsToWrite (h : List Entry) : Type 0 where
     pub year : ℕ
     pub parcels : List Parcel
     pub rows : List Row
     pub made : IsPrepared h year parcels rows a
-    pub follows : Follows h year parcels rows now a.kept.shapes.items
+    pub follows : FollowsHistory h year parcels rows now a.kept.shapes.items
     pub last_is : last ≡ last_year h
 
   -- tables that hold the history before the release hold the whole one afterwards and its shapes,
   -- and with an error what they held; a crash leaves either, and right after the call the whole one
   pub record Writes {E : Type 0} (old new : State) (r : Result (Unit {0}) E) : Type 0 where
-    pub ok : (h : List Entry) (shapes : List Shape) → IsDue h → HasCleanDisk new
+    pub ok : (h : List Entry) (shapes : List Shape) → IsToWrite h → HasCleanDisk new
         → HoldsRegister old h shapes → OnOk r (HoldsRegister new now a.kept.shapes.items)
     pub err : (h : List Entry) (shapes : List Shape) → HasCleanDisk new → IsTrue new.is_open
         → HoldsRegister old h shapes → OnErr r (HoldsRegister new h shapes)
-    pub crash : (h : List Entry) (shapes : List Shape) → IsDue h → HoldsRegister old h shapes
+    pub crash : (h : List Entry) (shapes : List Shape) → IsToWrite h → HoldsRegister old h shapes
         → Survives old new (LeavesRegister now a.kept.shapes.items)
-    pub durable : (h : List Entry) (shapes : List Shape) → IsDue h → HasCleanDisk new
+    pub durable : (h : List Entry) (shapes : List Shape) → IsToWrite h → HasCleanDisk new
         → HoldsRegister old h shapes
         → OnOk r ((db : Trees) → new.may_leave db → LeavesRegister now a.kept.shapes.items db)
 
 module _ (h k : List Entry) (year : ℕ) (parcels : List Parcel) (rows : List Row) (a : Accepted)
   where
     -- the accepted release stands at the end of the history
-    abbrev pub Grows : {E : Type 0} → Result (Unit {0}) E → Type 0
-    Grows r = OnOk r (Follows h year parcels rows k a.kept.shapes.items)
+    abbrev pub EndsWithRelease : {E : Type 0} → Result (Unit {0}) E → Type 0
+    EndsWithRelease r = OnOk r (FollowsHistory h year parcels rows k a.kept.shapes.items)
 
     -- and of the tables' history, as publishing it does
     pub record Commits {E : Type 0} (old new : State) (r : Result (Unit {0}) E) : Type 0 where
-      pub follows : Grows r
+      pub follows : EndsWithRelease r
       pub refused : OnErr r (k ≡ h)
       pub ok : (shapes : List Shape) → HasCleanDisk new → HoldsRegister old h shapes
           → OnOk r (HoldsRegister new k a.kept.shapes.items)
