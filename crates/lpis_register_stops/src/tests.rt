@@ -2,6 +2,8 @@
 //! published.
 
 mod files;
+mod jobs;
+mod moved;
 mod releases;
 mod runs;
 mod stops;

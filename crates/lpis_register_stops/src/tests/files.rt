@@ -1,8 +1,8 @@
 //! A database's two files in memory: what they hold, and how they come back after a stop.
 
-ghost use Rattle.std.specs.Prelude.{◌≡◌, false, IfOk};
-
-use sqlite::{Connection, FileStore, Options};
+use super::jobs::{Job, Told, work};
+use lpis_register::PublishFault;
+use sqlite::{Connection, Options};
 use sqlite_disk::{Crash, Disk, Files, Fuse, Memory};
 use std::alloc::Global;
 use std::test::Fail;
@@ -12,8 +12,6 @@ const CACHE: usize = 16;
 
 /// A database file and its log, each of which takes so many calls.
 pub(super) type Pair = Files<Fuse<Memory>>;
-
-pub(super) type Database = Connection<FileStore<Fuse<Memory>>>;
 
 /// What the files of a database hold.
 #[derive(Drop)]
@@ -59,6 +57,14 @@ impl Left {
     }
 }
 
+/// What files hold after a job over a database without tables, which nothing stops.
+pub(super) fn image_after(alloc: Global, frames: usize, job: Job<'_>) -> Result<Image, Fail> {
+    let files = files_with(alloc, b"", b"", u64::MAX, u64::MAX)?;
+    let (answer, files) = over(alloc, files, frames, job);
+    answer?;
+    Ok(left_of(alloc, files)?.written)
+}
+
 /// Files that hold these bytes and take so many calls each.
 pub(super) fn files_with(
     alloc: Global,
@@ -80,26 +86,29 @@ fn file_with(alloc: Global, bytes: &[u8], calls: u64) -> Result<Fuse<Memory>, Fa
     Ok(Fuse::new(file, calls))
 }
 
-/// Opens the database in files, which come back where that fails. The log is copied into the
-/// database file once it is so many frames long.
-pub(super) fn open(alloc: Global, files: Pair, frames: usize) -> Result<Database, Pair>
-    ensures autocommit { IfOk result (λ it. it.in_transaction ≡ false) }
-{
+/// Does a job over the database in files, which come back. The log is copied into the database file
+/// once it is so many frames long. What is not committed is lost.
+///
+/// It is the one function that has the database of these files: each such one is dear to prove.
+pub(super) fn over(
+    alloc: Global,
+    files: Pair,
+    frames: usize,
+    job: Job<'_>,
+) -> (Result<Option<Told>, PublishFault>, Pair) {
     if !files.may_be_used() {
-        return Err(files);
+        return (Err(PublishFault::Store), files);
     }
     let mut options = Options::new(1);
     options.cache_pages = CACHE;
     options.checkpoint_frames = frames;
     match Connection::open_files(alloc, files, options) {
-        Ok(database) => Ok(database),
-        Err((_, left)) => Err(left.into_files()),
+        Ok(database) => {
+            let (answer, store) = work(alloc, database, job);
+            (answer, store.close())
+        }
+        Err((_, left)) => (Err(PublishFault::Store), left.into_files()),
     }
-}
-
-/// The files of a database, with no call of them. What is not committed is lost.
-pub(super) fn closed(database: Database) -> Pair {
-    database.into_store().close()
 }
 
 /// What is left of files when the machine stops.

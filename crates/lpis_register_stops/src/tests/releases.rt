@@ -14,34 +14,34 @@ use std::alloc::Global;
 use std::test::Fail;
 
 /// What a register says before the first release, as `register_text` tells it.
-pub(super) static NO_YEAR: &str = "";
+pub(super) const NO_YEAR: &str = "";
 
 /// What it says of one release.
-pub(super) static ONE_YEAR: &str = "2024 A
+pub(super) const ONE_YEAR: &str = "2024 A
 A POLYGON((0.000 0.000,10.000 0.000,10.000 10.000,0.000 10.000,0.000 0.000))
 ";
 
 /// What it says of two.
-pub(super) static TWO_YEARS: &str = "2024 A
+pub(super) const TWO_YEARS: &str = "2024 A
 2025 B C A>B! A>C!
 B POLYGON((0.000 0.000,5.000 0.000,5.000 10.000,0.000 10.000,0.000 0.000))
 C POLYGON((5.000 0.000,10.000 0.000,10.000 10.000,5.000 10.000,5.000 0.000))
 ";
 
 /// The two without their shapes and marks.
-pub(super) static TWO_YEARS_ALONE: &str = "2024 A
+pub(super) const TWO_YEARS_ALONE: &str = "2024 A
 2025 B C A>B A>C
 ";
 
 /// The two without their marks.
-pub(super) static TWO_YEARS_UNMARKED: &str = "2024 A
+pub(super) const TWO_YEARS_UNMARKED: &str = "2024 A
 2025 B C A>B A>C
 B POLYGON((0.000 0.000,5.000 0.000,5.000 10.000,0.000 10.000,0.000 0.000))
 C POLYGON((5.000 0.000,10.000 0.000,10.000 10.000,5.000 10.000,5.000 0.000))
 ";
 
 /// Those and a third, which keeps both parcels.
-pub(super) static THREE_YEARS_UNMARKED: &str = "2024 A
+pub(super) const THREE_YEARS_UNMARKED: &str = "2024 A
 2025 B C A>B A>C
 2026 B C
 B POLYGON((0.000 0.000,5.000 0.000,5.000 10.000,0.000 10.000,0.000 0.000))

@@ -1,155 +1,53 @@
 //! A run opens a register, publishes where there is something to publish, and is stopped at each
 //! call in turn.
 
-ghost use Rattle.std.specs.Prelude.{◌≡◌, false, IfOk};
-
-use super::files::{Database, Image, Left, Pair, closed, files_with, left_of, open};
+use super::files::{Image, Left, Pair, files_with, left_of, over};
+use super::jobs::{Job, Told};
 use super::releases::Publication;
-use super::telling::register_text;
-use lpis_register::{PublishFault, Register};
-use sqlite::FileStore;
-use sqlite_disk::{Fuse, Memory};
+use lpis_register::PublishFault;
+use lpis_testing::expect;
 use std::alloc::{AllocError, Global};
 use std::test::Fail;
-
-/// A register over files that stop.
-type Kept = Register<FileStore<Fuse<Memory>>>;
 
 /// No run makes so many calls of a file.
 const LIMIT: u64 = 1000;
 
-/// A run, and what it is to leave.
-#[derive(Drop)]
-pub(super) struct Run<'a> {
-    /// What the files hold before it.
-    pub(super) image: Image,
-    /// The log is copied into the database file once it is so many frames long.
-    pub(super) frames: usize,
-    /// It publishes the release, too; else it opens the register alone.
-    pub(super) publishes: bool,
+/// What a run is to leave.
+#[derive(Clone, Copy)]
+pub(super) struct Wanted {
     /// A query whose answer is one number, which tells what the tables are.
     pub(super) query: &'static str,
     /// Its answer and what the register says, where the run was stopped before its end.
     pub(super) before: (i64, &'static str),
     /// The same, where it was not.
     pub(super) after: (i64, &'static str),
-    /// What is published when the machine is back, and what the register says then. It is refused
-    /// with code 80 where it is there already.
-    pub(super) release: Publication<'a>,
+    /// What the register says once the release of the run is published.
     pub(super) finally: &'static str,
 }
 
-/// The files as a run leaves them that nothing stops.
-pub(super) fn image_after(
-    alloc: Global,
-    image: &Image,
-    frames: usize,
-    publication: Option<&Publication<'_>>,
-) -> Result<Image, Fail> {
-    let files = files_with(
-        alloc,
-        image.log.as_slice(),
-        image.db.as_slice(),
-        u64::MAX,
-        u64::MAX,
-    )?;
-    let (answer, files) = attempt(alloc, files, frames, publication);
-    answer?;
-    Ok(left_of(alloc, files)?.written)
+/// A run, and what it is to leave.
+#[derive(Clone, Copy)]
+pub(super) struct Run<'a> {
+    /// What the files hold before it.
+    pub(super) image: &'a Image,
+    /// The log is copied into the database file once it is so many frames long.
+    pub(super) frames: usize,
+    /// It publishes the release, too; else it opens the register alone.
+    pub(super) publishes: bool,
+    /// What is published when the machine is back. It is refused with code 80 where it is there
+    /// already.
+    pub(super) release: &'a Publication<'a>,
+    pub(super) wanted: &'a Wanted,
 }
 
-/// Opens the register in files and publishes what is to be published. The files come back.
-fn attempt(
-    alloc: Global,
-    files: Pair,
-    frames: usize,
-    publication: Option<&Publication<'_>>,
-) -> (Result<(), PublishFault>, Pair) {
-    let database = match open(alloc, files, frames) {
-        Ok(database) => database,
-        Err(files) => return (Err(PublishFault::Store), files),
+/// What files say, which the register in them also has.
+pub(super) fn asked(alloc: Global, files: Pair, frames: usize, query: &str) -> Result<Told, Fail> {
+    let (answer, _files) = over(alloc, files, frames, Job::Ask(query));
+    let Some(told) = answer? else {
+        return Err("nothing is told".into());
     };
-    let mut register = match adopted(alloc, database) {
-        Ok(register) => register,
-        Err((fault, files)) => return (Err(fault), files),
-    };
-    let answer = match publication {
-        Some(publication) => publish(&mut register, publication),
-        None => Ok(()),
-    };
-    (answer, closed(register.into_connection()))
-}
-
-/// The register in a database, or its fault and the files.
-fn adopted(alloc: Global, database: Database) -> Result<Kept, (PublishFault, Pair)>
-    requires autocommit { database.in_transaction ≡ false }
-{
-    match Register::adopt(alloc, database) {
-        Ok(register) => Ok(register),
-        Err((database, fault)) => Err((fault, closed(database))),
-    }
-}
-
-fn publish(register: &mut Kept, publication: &Publication<'_>) -> Result<(), PublishFault> {
-    let _change = register.publish(
-        publication.year,
-        &publication.yes,
-        publication.rows.as_slice(),
-        &publication.cert,
-    )?;
-    Ok(())
-}
-
-/// What a query answers over files, and what they say, which the register in them also has.
-fn told(alloc: Global, files: Pair, run: &Run<'_>) -> Result<(i64, String), Fail> {
-    let mut database = reopened(alloc, files, run.frames)?;
-    let number = number(&mut database, run.query)?;
-    let mut register = match adopted(alloc, database) {
-        Ok(register) => register,
-        Err((fault, _files)) => return Err(fault.into()),
-    };
-    let text = stored_text(alloc, &mut register)?;
-    expect(kept_text(alloc, &register)?.as_str(), text.as_str())?;
-    Ok((number, text))
-}
-
-/// The history and the shapes that the tables say.
-fn stored_text(alloc: Global, register: &mut Kept) -> Result<String, Fail> {
-    let history = register.history()?;
-    let shapes = register.shapes()?;
-    Ok(register_text(alloc, &history, shapes.as_slice())?)
-}
-
-/// The history and the shapes that the register keeps in memory.
-fn kept_text(alloc: Global, register: &Kept) -> Result<String, AllocError> {
-    register_text(alloc, register.current(), register.current_shapes())
-}
-
-/// The number that a query answers.
-fn number(database: &mut Database, query: &str) -> Result<i64, Fail>
-    requires autocommit { database.old.in_transaction ≡ false }
-    ensures autocommit { database.new.in_transaction ≡ false }
-{
-    let row = database.query_row(query, &[])?;
-    Ok(row.get(0)?)
-}
-
-/// Opens the database in files.
-pub(super) fn reopened(alloc: Global, files: Pair, frames: usize) -> Result<Database, Fail>
-    ensures autocommit { IfOk result (λ it. it.in_transaction ≡ false) }
-{
-    match open(alloc, files, frames) {
-        Ok(database) => Ok(database),
-        Err(_) => Err("the files have no database that opens".into()),
-    }
-}
-
-/// Fails unless the texts are equal.
-fn expect(told: &str, wanted: &str) -> Result<(), Fail> {
-    if told == wanted {
-        return Ok(());
-    }
-    Err(Fail::new(format_args!("{told} in place of {wanted}")))
+    expect(told.kept.as_str(), told.stored.as_str())?;
+    Ok(told)
 }
 
 /// What files held after a stop, and whether the run had answered that all was done.
@@ -208,25 +106,31 @@ fn stopped(alloc: Global, run: &Run<'_>, of_log: bool, calls: u64) -> Result<(bo
     } else {
         (u64::MAX, calls)
     };
-    let files = files_with(
-        alloc,
-        run.image.log.as_slice(),
-        run.image.db.as_slice(),
-        log_calls,
-        db_calls,
-    )?;
+    let (log, db) = (run.image.log.as_slice(), run.image.db.as_slice());
+    let files = files_with(alloc, log, db, log_calls, db_calls)?;
     let publication = if run.publishes {
-        Some(&run.release)
+        Some(run.release)
     } else {
         None
     };
-    let (answer, files) = attempt(alloc, files, run.frames, publication);
-    let done = match answer {
-        Ok(()) => true,
-        Err(PublishFault::Store) => false,
-        Err(fault) => return Err(fault.into()),
-    };
+    let (done, files) = attempted(alloc, files, run.frames, publication)?;
     Ok((done, left_of(alloc, files)?))
+}
+
+/// Opens the register in files and publishes what is to be published. Whether all was done, which
+/// the store alone may prevent.
+fn attempted(
+    alloc: Global,
+    files: Pair,
+    frames: usize,
+    publication: Option<&Publication<'_>>,
+) -> Result<(bool, Pair), Fail> {
+    let (answer, files) = over(alloc, files, frames, Job::Publish(publication));
+    match answer {
+        Ok(_told) => Ok((true, files)),
+        Err(PublishFault::Store) => Ok((false, files)),
+        Err(fault) => Err(fault.into()),
+    }
 }
 
 /// Fails unless files hold what is before a run or after it, and after it where all was done; and
@@ -239,33 +143,43 @@ fn expect_outcome(
     done: bool,
 ) -> Result<(), Fail> {
     let files = files_with(alloc, log, db, u64::MAX, u64::MAX)?;
-    let (found, text) = told(alloc, files, run)?;
-    let (number, wanted) = if done || found == run.after.0 {
-        run.after
+    let told = asked(alloc, files, run.frames, run.wanted.query)?;
+    let said = said_of(run.wanted, &told, done)?;
+    let files = files_with(alloc, log, db, u64::MAX, u64::MAX)?;
+    expect_next(alloc, run, files, said)
+}
+
+/// What the register is to say, which it says. Fails unless that is what is before a run or after
+/// it, and after it where all was done.
+fn said_of(wanted: &Wanted, told: &Told, done: bool) -> Result<&'static str, Fail> {
+    let found = told.number;
+    let (number, said) = if done || found == wanted.after.0 {
+        wanted.after
     } else {
-        run.before
+        wanted.before
     };
     if found != number {
         return Err(Fail::new(format_args!("{found} in place of {number}")));
     }
-    expect(text.as_str(), wanted)?;
-    let files = files_with(alloc, log, db, u64::MAX, u64::MAX)?;
-    expect_next(alloc, run, files, wanted)
+    expect(told.stored.as_str(), said)?;
+    Ok(said)
 }
 
 /// Fails unless the next release is published over files that say this, or is there already.
 fn expect_next(alloc: Global, run: &Run<'_>, files: Pair, said: &str) -> Result<(), Fail> {
-    let is_there = said == run.finally;
-    let (answer, files) = attempt(alloc, files, run.frames, Some(&run.release));
+    let is_there = said == run.wanted.finally;
+    let files = published(alloc, run, files, is_there)?;
+    let told = asked(alloc, files, run.frames, run.wanted.query)?;
+    expect(told.stored.as_str(), run.wanted.finally)
+}
+
+/// The files once the next release is published over them, or refused since it is there already.
+fn published(alloc: Global, run: &Run<'_>, files: Pair, is_there: bool) -> Result<Pair, Fail> {
+    let (answer, files) = over(alloc, files, run.frames, Job::Publish(Some(run.release)));
     match answer {
-        Ok(()) => {
-            if is_there {
-                return Err("a release was published twice".into());
-            }
-        }
-        Err(PublishFault::Year { .. }) if is_there => {}
-        Err(fault) => return Err(fault.into()),
+        Ok(_) if is_there => Err("a release was published twice".into()),
+        Ok(_) => Ok(files),
+        Err(PublishFault::Year { .. }) if is_there => Ok(files),
+        Err(fault) => Err(fault.into()),
     }
-    let (_, text) = told(alloc, files, run)?;
-    expect(text.as_str(), run.finally)
 }
