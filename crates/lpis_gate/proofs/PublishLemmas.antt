@@ -1,5 +1,5 @@
 -- What a history answers to a release, and what is known of a release that was added to it.
-use Rattle.std.proofs.Common.{◌≡◌, ◌≢◌, ◌⊎◌, ◌∙◌, ◌++◌, ◌∷◌, [], inl, inr, refl, sym, ap, ap₂, subst, subst₂, ℕ, List, Bool, Option, Result, Ok, Err, IfErr, IfOk, IsErrAnd, OnOk, flat_map, true}
+use Rattle.std.proofs.Common.{◌≡◌, ◌∙◌, ◌++◌, ◌∷◌, [], inl, inr, refl, sym, ap, ap₂, subst, ℕ, List, Bool, Option, Result, Ok, Err, IfOk, OnOk, flat_map, true}
 use Rattle.lpis_gate.proofs.Common.{Appends, Answer, Cert, Contents, kind_at, lineage_line}
 use Rattle.sqlite.specs.State.{HasCleanDisk, State}
 use Rattle.std.specs.List.{list_any}
@@ -27,15 +27,7 @@ use Rattle.lpis_commands.specs.Report.{report_text}
 use Rattle.lpis_gate.specs.LineageLines.{is_left_exactly, dropped_lines, published_line}
 use Rattle.lpis_commands.specs.declared.answer.Answer.{Answer as Answered}
 use Rattle.lpis_commands.specs.declared.failure.Failure.{Failure}
-use Rattle.lpis_commands.specs.declared.failure.Failure.TheVariants.{Memory, Store}
-use Rattle.sqlite.specs.Held.{Held, state}
-use Rattle.sqlite_disk.specs.Disk.{MoreFaults}
-use Rattle.sqlite_trees.specs.declared.store.Store.{Ghosts}
-use Rattle.lpis_lineage.specs.Lineage.{last_year}
-use Rattle.lpis_parcels.specs.declared.parcel.Parcel.{Parcel}
-use Rattle.lpis_register.specs.Accepting.{IsPrepared}
-use Rattle.lpis_register.specs.Failing.{FailsToRun, FailsToStore, accepted_statements}
-use Rattle.lpis_gate.specs.Stored.{Stays}
+use Rattle.lpis_commands.specs.declared.failure.Failure.TheVariants.{Store}
 use Rattle.lpis_gate.specs.PublishAnswer.{PublishEnds, IsContinued, IsHistoryAnswer, IsPublishAnswer, IsPublished, MovesRegister}
 use Rattle.lpis_gate.specs.Submission.{Submission}
 use Rattle.lpis_commands.specs.Status.{done}
@@ -140,47 +132,15 @@ added-accepted h k year r c rows s t a change made is ascend follows once =
 pub leaves-committed : (a : Answered) (old new : State) (h k : List Entry) (s t : List Shape) → a.status ≡ done → (HasCleanDisk new → HoldsRegister old h s → HoldsRegister new k t)
     → PublishLeaves (Ok a) old h s new k t
 leaves-committed a old new h k s t is held =
-    record { same = λ other. absurd (other is); failure = tt; stored = record { holds = λ clean opened. held clean; served = λ other. held; memory = λ other clean before. inl (held clean before) } }
+    record { same = λ other. absurd (other is); failure = tt; stored = record { holds = λ clean opened. held clean; served = λ other. held } }
 
--- or what it held, unless it is shut
+-- or what it held
 pub leaves-kept : (failure : Failure) (old new : State) (h k : List Entry) (s t : List Shape) → IsStopped failure → (k ≡ h) × (t ≡ s)
     → (HasCleanDisk new → IsTrue new.is_open → HoldsRegister old h s → HoldsRegister new k t)
-    → (HoldsRegister old h s → HasCleanDisk new → IsTrue new.is_open ⊎ MoreFaults old.faults new.faults) → PublishLeaves (Err failure) old h s new k t
-leaves-kept failure old new h k s t stopped kept opened closes = record {
-  same = tt;
-  failure = (stopped, kept.0, kept.1);
-  stored = record {
-    holds = opened;
-    served = λ other. elim stopped [ inl is ↦ absurd (other.1 is) | inr is ↦ absurd (other.0 is) ];
-    memory = λ other clean before. elim (closes before clean) [ inl up ↦ inl (opened clean up before) | inr more ↦ inr more ];
-  };
-}
+    → ((failure ≡ Store → ⊥) → HoldsRegister old h s → HoldsRegister new k t) → PublishLeaves (Err failure) old h s new k t
+leaves-kept failure old new h k s t stopped kept opened served =
+    record { same = tt; failure = (stopped, kept.0, kept.1); stored = record { holds = opened; served = λ other clean. served other } }
 
--- ---- why the database failed
--- memory that ran out is no failure of the store
-pub memory-no-store : {X : Type 0} → ◌≡◌ {A = Failure} Memory Store → X
-memory-no-store is = absurd cc
-
--- the statements of a release that was accepted are those of the release
-pub fails-prepared : {S A : Type 0} (g : Ghosts S) (h : List Entry) (year : ℕ) (parcels : List Parcel) (rows : List Row) (a : Accepted) (old new : Held S) (r : Result A Failure)
-    → IsPrepared h year parcels rows a → (HasCleanDisk (state g new) → IfErr r (λ failure. failure ≡ Store → FailsToRun g (accepted_statements (last_year h) a) old new))
-    → HasCleanDisk (state g new) → IfErr r (λ failure. failure ≡ Store → FailsToStore g h year parcels rows old new)
-fails-prepared g h year parcels rows a old new (Ok x) made fails clean = tt
-fails-prepared g h year parcels rows a old new (Err e) made fails clean = λ is. (a, made, fails clean is)
-
--- the release and its rows are those that were handed in
-pub fails-said : {S A : Type 0} (g : Ghosts S) (h : List Entry) (year : ℕ) (r v : Contents) (rows more : List Row) (old new : Held S) (answer : Result A Failure) → r ≡ v → rows ≡ more
-    → (HasCleanDisk (state g new) → IfErr answer (λ failure. failure ≡ Store → FailsToStore g h year r.parcels rows old new))
-    → HasCleanDisk (state g new) → IfErr answer (λ failure. failure ≡ Store → FailsToStore g h year v.parcels more old new)
-fails-said g h year r v rows more old new answer =
-    subst₂ (λ v more. HasCleanDisk (state g new) → IfErr answer (λ failure. failure ≡ Store → FailsToStore g h year v.parcels more old new))
-
--- what stays at a failure stays where that is handed on
-pub stays-on : {A B : Type 0} (r : Result B Failure) (e : Failure) (old new : State) (h k : List Entry) (s t : List Shape) → IsErrAnd r (λ x. x ≡ e) → Stays {A = A} (Err e) old h s new k t
-    → Stays r old h s new k t
-stays-on (Ok x) e old new h k s t is stays = absurd is
-stays-on (Err x) e old new h k s t is stays = record {
-  holds = stays.holds;
-  served = λ other. stays.served (subst (λ y. (y ≢ Store) × (y ≢ Memory)) is other);
-  memory = λ other. stays.memory (sym is ∙ other);
-}
+-- a database left as it was holds the history and the shapes, where they are left too
+pub still-held : (old new : State) (h k : List Entry) (s t : List Shape) → new ≡ old → (k ≡ h) × (t ≡ s) → HoldsRegister old h s → HoldsRegister new k t
+still-held old new h k s t same kept held = rw (same, kept.0, kept.1) held

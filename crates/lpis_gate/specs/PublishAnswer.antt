@@ -3,11 +3,9 @@
 use Rattle.std.specs.Prelude.{◌≡◌, ◌≢◌, ◌<◌, ◌⊎◌, ◌++◌, true, false, ℕ, List, Option, Ok}
 use Rattle.std.specs.List.{list_any}
 use Rattle.std.specs.Io.KnownBytes.{Appends, Keeps}
-use Rattle.sqlite.specs.Held.{Held}
-use Rattle.sqlite_trees.specs.declared.store.Store.{Ghosts}
 use Rattle.lpis_covers.specs.Faults.{rows_of}
 use Rattle.lpis_covers.specs.Ids.{has_id}
-use Rattle.lpis_parcels.specs.Release.{Contents, parcel_ids, release_of}
+use Rattle.lpis_parcels.specs.Release.{Contents, parcel_ids}
 use Rattle.lpis_cert.specs.declared.cert.Cert.{Cert}
 use Rattle.lpis_lineage.specs.declared.row.Entry.{Entry}
 use Rattle.lpis_lineage.specs.declared.row.Row.{Row}
@@ -20,7 +18,6 @@ use Rattle.lpis_register_rows.specs.Shapes.{Shape}
 use Rattle.lpis_exact_lineage.specs.Asking.{IsShown, kinds_from}
 use Rattle.lpis_exact_lineage.specs.ExactLineage.{IsExactLineage, ShapesTurnOnce}
 use Rattle.lpis_exact_lineage.specs.Shapes.{shape_named, shapes_in}
-use Rattle.lpis_register.specs.Failing.{FailsToStore}
 use Rattle.lpis_register.specs.Faults.{IsFailure, IsRefused}
 use Rattle.lpis_register.specs.Publishing.{FollowsHistory}
 use Rattle.lpis_register.specs.declared.fault.PublishFault.{PublishFault}
@@ -132,12 +129,3 @@ PublishHalts failure year parcels covers classes cert lineage h s k t old new =
     × (failure ≡ Write Out) × PublishIsBegun x year h s k t old new)
     ⊎ ((IsUnpublished parcels covers classes cert failure ⊎ (failure ≡ Store)) × (k ≡ h)
     × (t ≡ s) × Keeps old new)
-
--- the database failed to store the release that was handed in: it was shut, its disk failed, or the
--- engine refused a statement of the release
-abbrev pub FailsToPublish : {S : Type 0} → Ghosts S → Submission → ℕ → List Entry → Held S → Held S
-    → Type 0
-FailsToPublish store x year h old new = (r : Contents) × (rows : List Row)
-    × (release_of x.checked.parcels x.checked.covers x.checked.classes ≡ Ok r)
-    × (rows_of lineage_table x.lineage ≡ Ok rows)
-    × FailsToStore store h year r.parcels rows old new

@@ -4,23 +4,19 @@ ghost use Rattle.std.specs.Prelude.{◌≡◌, ◌++◌, IfErr, IfOk, List, OnOk
 ghost use Rattle.std.specs.Io.KnownBytes.{Appends};
 ghost use Rattle.std.specs.List.{flat_map};
 ghost use Rattle.sqlite.specs.Held.{state};
-ghost use Rattle.sqlite.specs.State.{HasCleanDisk};
 ghost use Rattle.lpis_covers.specs.Ids.{has_id};
 ghost use Rattle.lpis_checker.specs.GoodCertificate.{IsGood};
 ghost use Rattle.lpis_checker.specs.SoundMap.{IsSoundMap};
 ghost use Rattle.lpis_lineage.specs.Changes.{kind_at};
-ghost use Rattle.lpis_lineage.specs.Lineage.{last_year};
 ghost use Rattle.lpis_lineage.specs.Order.{IsAscending};
 ghost use Rattle.lpis_lineage.specs.declared.row.Row.{Row};
 ghost use Rattle.lpis_register.specs.Accepting.{IsAccepted, WasMadeFor};
-ghost use Rattle.lpis_register.specs.Failing.{FailsToRun, FailsToStore, accepted_statements};
-ghost use Rattle.lpis_commands.specs.declared.failure.Failure.TheVariants.{Store};
 ghost use Rattle.lpis_commands.specs.CheckAnswer.{IsCheckAnswer};
 ghost use Rattle.lpis_commands.specs.Report.{report_text};
 ghost use Rattle.lpis_commands.specs.Status.{done};
 ghost use Rattle.lpis_gate.specs.LineageLines.{lineage_line, published_line};
 ghost use Rattle.lpis_gate.specs.PublishAnswer.{PublishEnds, PublishHalts, IsHistoryAnswer};
-ghost use Rattle.lpis_gate.specs.PublishAnswer.{FailsToPublish, IsPublishAnswer};
+ghost use Rattle.lpis_gate.specs.PublishAnswer.{IsPublishAnswer};
 ghost use Rattle.lpis_gate.specs.PublishAnswer.{MovesRegister};
 ghost use Rattle.lpis_gate.specs.Stored.{Stays};
 ghost use Rattle.lpis_gate.specs.Submission.{AreAllRead, Submission};
@@ -103,16 +99,12 @@ fn publish_accepted<S: Alter>(
     ensures leaves { PublishLeaves result (state S.Store register.old.conn) register.old.history
         register.old.shapes.items (state S.Store register.new.conn) register.new.history
         register.new.shapes.items }
-    ensures cause { HasCleanDisk (state S.Store register.new.conn) → IfErr result (λ failure.
-        failure ≡ Store → FailsToRun S.Store (accepted_statements
-        (last_year register.old.history) accepted) register.old.conn register.new.conn) }
 {
     let answer = tell_change(alloc, yes, year, accepted.change())?;
     match register.commit(accepted) {
         Ok(_) => Ok(answer),
-        Err(PublishFault::Store) => Err(Failure::Store),
-        // Memory ran out: a commit has no other fault.
-        Err(_) => Err(Failure::Memory),
+        Err(PublishFault::Memory) => Err(Failure::Memory),
+        Err(_) => Err(Failure::Store),
     }
 }
 
@@ -134,9 +126,6 @@ fn publish_checked<S: Alter>(
     ensures leaves { PublishLeaves result (state S.Store register.old.conn) register.old.history
         register.old.shapes.items (state S.Store register.new.conn) register.new.history
         register.new.shapes.items }
-    ensures cause { HasCleanDisk (state S.Store register.new.conn) → IfErr result (λ failure.
-        failure ≡ Store → FailsToStore S.Store register.old.history year yes.now.parcels rows.now
-        register.old.conn register.new.conn) }
 {
     match register.accept(year, yes, rows, cert) {
         Ok(accepted) => publish_accepted(alloc, register, year, yes, cert, accepted),
@@ -162,9 +151,6 @@ fn answer_to_said<S: Alter>(
     ensures leaves { PublishLeaves result (state S.Store register.old.conn) register.old.history
         register.old.shapes.items (state S.Store register.new.conn) register.new.history
         register.new.shapes.items }
-    ensures cause { HasCleanDisk (state S.Store register.new.conn) → IfErr result (λ failure.
-        failure ≡ Store → FailsToStore S.Store register.old.history year
-        said.now.release.parcels said.now.rows.items register.old.conn register.new.conn) }
 {
     match check(alloc, &said.release, &said.cert, &Sweep) {
         Ok(yes) => {
@@ -199,9 +185,6 @@ fn answer_to<S: Alter>(
     ensures leaves { PublishLeaves result (state S.Store register.old.conn) register.old.history
         register.old.shapes.items (state S.Store register.new.conn) register.new.history
         register.new.shapes.items }
-    ensures cause { HasCleanDisk (state S.Store register.new.conn) → IfErr result (λ failure.
-        failure ≡ Store → FailsToPublish S.Store (submission_of submission) year
-        register.old.history register.old.conn register.new.conn) }
 {
     match understand(alloc, submission) {
         Ok(said) => answer_to_said(alloc, register, year, &said),
@@ -254,12 +237,6 @@ pub fn run_publish<
     ensures stored { Stays result (state S.Store register.old.conn) register.old.history
         register.old.shapes.items (state S.Store register.new.conn) register.new.history
         register.new.shapes.items }
-    // The database fails where it was shut, its disk failed, or the engine refuses a statement.
-    ensures cause { HasCleanDisk (state S.Store register.new.conn) → IfErr result (λ failure.
-        failure ≡ Store → (x : Submission) × AreAllRead x (P.remaining parcels)
-        (C.remaining covers) (K.remaining classes) (E.remaining cert) (L.remaining lineage)
-        × FailsToPublish S.Store x year register.old.history register.old.conn
-        register.new.conn) }
 {
     let submission = read_submission(alloc, parcels, covers, classes, cert, lineage)?;
     let answer = answer_to(alloc, register, year, submission)?;

@@ -1,5 +1,5 @@
 -- Results, and the faults in them.
-use Rattle.std.proofs.Common.{◌≡◌, ◌⊎◌, ℕ, List, Result, Ok, Err, OnOk, OnErr, refl, subst}
+use Rattle.std.proofs.Common.{◌≡◌, ◌⊎◌, inl, inr, ℕ, List, Result, Ok, Err, OnOk, OnErr, refl, sym, subst}
 use Rattle.lpis_cert.specs.declared.part.ExactBlock.{ExactBlock}
 use Rattle.lpis_parcels.specs.Release.{Contents}
 use Rattle.lpis_register.specs.Faults.{IsRefused, IsOpeningFault}
@@ -43,8 +43,7 @@ lawful_failure Unknown k never = k
 lawful_failure Unlawful k never = never refl
 
 -- what failed beside the call tells nothing of the release
-pub failure_refused : (h : List Entry) (kept : List Shape) (year : ℕ) (r : Contents) (blocks : List ExactBlock) (rows : List Row) (e : PublishFault) → IsFailure e
+pub failure_refused : (h : List Entry) (kept : List Shape) (year : ℕ) (r : Contents) (blocks : List ExactBlock) (rows : List Row) (X : Type 0) (e : PublishFault) → (e ≡ Store) ⊎ ((e ≡ Memory) × X)
     → IsRefused h kept year r blocks rows e
-failure_refused h kept year r blocks rows Memory is = tt
-failure_refused h kept year r blocks rows Store is = tt
-failure_refused h kept year r blocks rows _ is = absurd is
+failure_refused h kept year r blocks rows X e (inl is) = subst (IsRefused h kept year r blocks rows) (sym is) tt
+failure_refused h kept year r blocks rows X e (inr is) = subst (IsRefused h kept year r blocks rows) (sym is.0) tt

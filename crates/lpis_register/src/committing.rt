@@ -1,22 +1,16 @@
 //! Writing a release that was accepted.
 
-ghost use Rattle.std.specs.Prelude.{◌≡◌, false, true, IfErr, IsTrue, List, OnErr, ℕ};
+ghost use Rattle.std.specs.Prelude.{◌≡◌, ◌⊎◌, false, IfErr, List, OnErr, ℕ};
 ghost use Rattle.sqlite.specs.Held.{state};
-ghost use Rattle.sqlite.specs.State.{HasCleanDisk};
 ghost use Rattle.lpis_lineage.specs.declared.row.Entry.{Entry};
 ghost use Rattle.lpis_lineage.specs.declared.row.Row.{Row};
-ghost use Rattle.lpis_lineage.specs.Lineage.{last_year};
 ghost use Rattle.lpis_parcels.specs.declared.parcel.Parcel.{Parcel};
-ghost use Rattle.lpis_register_sql.specs.Stopping.{Stops};
 ghost use Rattle.lpis_register.specs.Accepting.{IsPrepared};
-ghost use Rattle.lpis_register.specs.Failing.{FailsToRun, accepted_statements};
-ghost use Rattle.lpis_register.specs.Faults.{IsFailure};
 ghost use Rattle.lpis_register.specs.private.Writes.{Commits, EndsWithRelease, IsToWrite, Writes};
 ghost use Rattle.lpis_register.specs.declared.fault.PublishFault.TheVariants.{Memory, Store};
 
 use crate::accepting::Accepted;
 use crate::fault::PublishFault;
-use crate::opening::fault_of;
 use lpis_lineage::History;
 use lpis_register_rows::{publishing_adds_the_release, texts_keep_one_list_of_shapes};
 use lpis_register_sql::write_release;
@@ -34,9 +28,6 @@ fn write_at_end<S: Alter>(
     ensures autocommit { conn.new.in_transaction ≡ false }
     ensures writes { Writes history.now last accepted.now (state S.Store conn.old)
         (state S.Store conn.new) result }
-    ensures stops { IsTrue (state S.Store conn.old).is_open → HasCleanDisk (state S.Store conn.new)
-        → IfErr result (Stops S.Store (accepted_statements last accepted.now)
-        (record conn.old { in_transaction = true }) conn.new) }
 {
     let _ = history.releases();
     publishing_adds_the_release();
@@ -84,15 +75,13 @@ fn write_or_take_back<S: Alter>(
     ensures commits { (h : List Entry) (due : IsToWrite history.old last accepted.now h)
         → Commits h history.new due.year due.parcels due.rows accepted.now (state S.Store conn.old)
         (state S.Store conn.new) result }
-    ensures failure { IfErr result IsFailure }
-    ensures cause { HasCleanDisk (state S.Store conn.new) → IfErr result (λ fault. fault ≡ Store
-        → FailsToRun S.Store (accepted_statements last accepted.now) conn.old conn.new) }
+    ensures fault { IfErr result (λ e. e ≡ Store) }
 {
     match write_at_end(conn, history, last, accepted) {
         Ok(()) => Ok(()),
-        Err(error) => {
+        Err(_) => {
             history.take_back();
-            Err(fault_of(error))
+            Err(PublishFault::Store)
         }
     }
 }
@@ -113,10 +102,8 @@ pub(crate) fn commit_release<S: Alter>(
         → IsPrepared history.old year parcels rows accepted.now
         → Commits history.old history.new year parcels rows accepted.now (state S.Store conn.old)
         (state S.Store conn.new) result }
-    ensures failure { IfErr result IsFailure }
-    ensures cause { HasCleanDisk (state S.Store conn.new) → IfErr result (λ fault. fault ≡ Store
-        → FailsToRun S.Store (accepted_statements (last_year history.old) accepted.now) conn.old
-        conn.new) }
+    ensures untouched { IfErr result (λ fault. (fault ≡ Store)
+        ⊎ ((fault ≡ Memory) × (conn.new ≡ conn.old))) }
 {
     let last = history.last_year();
     match grow(history, accepted) {

@@ -2,8 +2,6 @@
 
 ghost use Rattle.std.specs.Prelude.{◌≡◌, ◌⊎◌};
 ghost use Rattle.std.proofs.Props.{props};
-ghost use Rattle.sqlite.specs.declared.error.Error.TheVariants.{SqliteFailure};
-ghost use Rattle.sqlite.specs.declared.error.ErrorCode.TheVariants.{OutOfMemory};
 ghost use Rattle.lpis_lineage.specs.Order.{IsAscending};
 ghost use Rattle.lpis_register_rows.specs.Shapes.{shape_ids};
 ghost use Rattle.lpis_register.specs.Faults.{IsFailure};
@@ -27,7 +25,6 @@ pub(crate) struct Told {
 pub(crate) fn fault_of(error: Error) -> PublishFault
     ensures either { (result ≡ Memory) ⊎ (result ≡ Store) }
     ensures failure { IsFailure result }
-    ensures memory { error ≡ SqliteFailure OutOfMemory → result ≡ Memory }
 {
     match error {
         Error::SqliteFailure(ErrorCode::OutOfMemory) => PublishFault::Memory,

@@ -3,16 +3,13 @@
 ghost use Rattle.std.specs.Prelude.{◌≡◌, ◌⊎◌, false, IfOk, IfErr, List, ℕ};
 ghost use Rattle.std.proofs.Props.{props};
 ghost use Rattle.sqlite.specs.Held.{state};
-ghost use Rattle.sqlite.specs.State.{HasCleanDisk};
 ghost use Rattle.lpis_cert.specs.declared.part.ExactBlock.{ExactBlock};
-ghost use Rattle.lpis_lineage.specs.Lineage.{last_year};
 ghost use Rattle.lpis_lineage.specs.Order.{IsAscending};
 ghost use Rattle.lpis_lineage.specs.declared.row.Row.{Row};
 ghost use Rattle.lpis_parcels.specs.Release.{Contents};
 ghost use Rattle.lpis_register_rows.specs.Shapes.{shape_ids};
 ghost use Rattle.lpis_register.specs.Accepting.{IsAccepted, WasMadeFor};
-ghost use Rattle.lpis_register.specs.Failing.{FailsToRun, FailsToStore, accepted_statements};
-ghost use Rattle.lpis_register.specs.Faults.{IsFailure, PublishTells};
+ghost use Rattle.lpis_register.specs.Faults.{PublishTells};
 ghost use Rattle.lpis_register.specs.Histories.{IsTrace, IsUnknown, ReadsHistory};
 ghost use Rattle.lpis_register.specs.Publishing.{Publishes, Stores};
 ghost use Rattle.lpis_register.specs.declared.fault.PublishFault.TheVariants.{Memory, Store};
@@ -128,10 +125,8 @@ impl<S: Alter> Register<S> {
             → Stores self.old.history year r.parcels rows self.old.shapes.items self.new.history
             self.new.shapes.items (state S.Store self.old.conn) (state S.Store self.new.conn)
             result }
-        ensures failure { IfErr result IsFailure }
-        ensures cause { HasCleanDisk (state S.Store self.new.conn) → IfErr result (λ fault.
-            fault ≡ Store → FailsToRun S.Store (accepted_statements (last_year self.old.history)
-            accepted) self.old.conn self.new.conn) }
+        ensures untouched { IfErr result (λ fault. (fault ≡ Store)
+            ⊎ ((fault ≡ Memory) × (self.new.conn ≡ self.old.conn))) }
     {
         match commit_release(&mut self.conn, &mut self.history, &accepted) {
             Ok(()) => {
@@ -162,12 +157,8 @@ impl<S: Alter> Register<S> {
         ensures stores { Stores self.old.history year yes.now.parcels rows.now
             self.old.shapes.items self.new.history self.new.shapes.items
             (state S.Store self.old.conn) (state S.Store self.new.conn) result }
-        ensures untouched { IfErr result (λ fault. IsFailure fault
+        ensures untouched { IfErr result (λ fault. (fault ≡ Store)
             ⊎ (self.new.conn ≡ self.old.conn)) }
-        // 82 comes where the database was shut, its disk failed, or the engine refuses a statement.
-        ensures cause { HasCleanDisk (state S.Store self.new.conn) → IfErr result (λ fault.
-            fault ≡ Store → FailsToStore S.Store self.old.history year yes.now.parcels rows.now
-            self.old.conn self.new.conn) }
     {
         match self.accept(year, yes, rows, cert) {
             Ok(accepted) => self.commit(accepted),

@@ -97,8 +97,8 @@ module _ {S : Type 0} (g : store.Ghosts S) where
   -- ---- statements in turn
 
   -- a statement that was run
-  pub one_ran : (x : BoundStatement) (a b : Held S) (count : ℕ) → ExecutesInside 0 x.sql x.values (state g a) (state g b) (Ok count) → Ran g (x ∷ []) a b
-  one_ran x a b count ran = (b, count, ran, refl)
+  pub one_ran : (x : BoundStatement) (a b : Held S) (count : ℕ) → ExecutesInside 0 x.sql x.values (state g a) (state g b) (Ok count) → b.step_limit ≡ a.step_limit → Ran g (x ∷ []) a b
+  one_ran x a b count ran same = (b, count, ran, same, refl)
 
   -- and one that was not
   pub one_stops : (x : BoundStatement) (a b : Held S) (e : Error) → IsTrue (state g a).is_open → ExecutesInside 0 x.sql x.values (state g a) (state g b) (Err e) → Stops g (x ∷ []) a b e
@@ -112,12 +112,12 @@ module _ {S : Type 0} (g : store.Ghosts S) where
 
   ran_then : (xs ys : List BoundStatement) (a b c : Held S) → Ran g xs a b → Ran g ys b c → Ran g (xs ++ ys) a c
   ran_then [] ys a b c r s = subst (λ h. Ran g ys h c) (sym r) s
-  ran_then (x ∷ xs) ys a b c (mid, count, ran, more) s = (mid, count, ran, ran_then xs ys mid b c more s)
+  ran_then (x ∷ xs) ys a b c (mid, count, ran, same, more) s = (mid, count, ran, same, ran_then xs ys mid b c more s)
 
   -- statements that were run leave the transaction open
   pub ran_open : (xs : List BoundStatement) (a b : Held S) → Ran g xs a b → IsTrue (state g a).is_open → IsTrue a.in_transaction → IsTrue (state g b).is_open × IsTrue b.in_transaction
   ran_open [] a b r up within = subst (λ h. IsTrue (state g h).is_open × IsTrue h.in_transaction) r (up, within)
-  ran_open (x ∷ xs) a b (mid, count, ran, more) up within = ran_open xs mid b more ran.1.is_open ran.1.mode
+  ran_open (x ∷ xs) a b (mid, count, ran, same, more) up within = ran_open xs mid b more ran.1.is_open ran.1.mode
 
   stuck_before : (xs ys : List BoundStatement) (a : Held S) → IsStuck g xs a → IsStuck g (xs ++ ys) a
   stuck_before xs ys a s = record {

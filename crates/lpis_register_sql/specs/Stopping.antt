@@ -77,8 +77,9 @@ release_statements year last dropped fresh rows texts =
 
 -- ---- why they stop
 
--- the engine refuses the statement inside a transaction for what it finds there: nothing failed,
--- and nothing changes; or a row of it is too large for the store
+-- the engine refuses the statement inside a transaction for what it finds there, or since the
+-- connection has a limit of steps: nothing failed, and nothing changes; or a row of it is too large
+-- for the store
 abbrev pub IsRefusedIn : State → BoundStatement → Type 0
 IsRefusedIn st x = ((e : Error) × ExecutesInside 0 x.sql x.values st st (Err e))
     ⊎ ((c : Compiled) × (it : IsStatement st x.sql x.values c)
@@ -86,12 +87,12 @@ IsRefusedIn st x = ((e : Error) × ExecutesInside 0 x.sql x.values st st (Err e)
     c.returning c.command (Err None))
 
 module _ {S : Type 0} (store : Ghosts S) where
-  -- inside a transaction the engine ran these statements, in turn
+  -- inside a transaction the engine ran these statements, in turn, under one limit of steps
   abbrev pub Ran : List BoundStatement → Held S → Held S → Type 0
   Ran [] old new = old ≡ new
   Ran (x ∷ xs) old new = (mid : Held S) × (count : ℕ)
       × ExecutesInside 0 x.sql x.values (state store old) (state store mid) (Ok count)
-      × Ran xs mid new
+      × (mid.step_limit ≡ old.step_limit) × Ran xs mid new
 
   -- it ran those before one of them, and refuses that one
   pub record IsStuck (xs : List BoundStatement) (old : Held S) : Type 0 where

@@ -1,13 +1,7 @@
 use Rattle.std.proofs.Common.{inl}
 use Rattle.lpis_gate.proofs.Common.{IfOk-weaker}
-use Rattle.lpis_gate.proofs.PublishLemmas.{fails-said}
 use Rattle.lpis_gate.proofs.publish.answer_to_said.Goals as goal
 
 pub returns-in-Ok-clause-answer : goal.returns-in-Ok-clause-answer
 returns-in-Ok-clause-answer g c =
     IfOk-weaker c.publish_checked.result _ _ (λ a told. inl (c.in-Ok.ensures.good, rw (c.in-Ok.ensures.release, c.as_slice.ensures.value) at told)) c.publish_checked.ensures.answer
-
-pub returns-in-Ok-clause-cause : goal.returns-in-Ok-clause-cause
-returns-in-Ok-clause-cause g c =
-    fails-said g.S.Store c.args.register.now.history c.args.year _ c.args.said.now.release _ c.args.said.now.rows.items c.args.register.now.conn c.publish_checked.new.register.conn
-    c.publish_checked.result c.in-Ok.ensures.release c.as_slice.ensures.value c.publish_checked.ensures.cause

@@ -1,6 +1,6 @@
-use Rattle.std.proofs.Common.{inl, inr, refl}
+use Rattle.std.proofs.Common.{inl, inr, ap, refl}
 use Rattle.sqlite.specs.Held.{state}
-use Rattle.lpis_gate.proofs.PublishLemmas.{added-accepted, answer-accepted, leaves-committed, leaves-kept, memory-no-store}
+use Rattle.lpis_gate.proofs.PublishLemmas.{added-accepted, answer-accepted, leaves-committed, leaves-kept, still-held}
 use Rattle.lpis_gate.proofs.publish.publish_accepted.Goals as goal
 
 pub returns-in-Ok-clause-answer : goal.returns-in-Ok-clause-answer
@@ -23,18 +23,22 @@ returns-in-Ok-clause-leaves g c =
     c.args.register.now.history c.commit.new.self.history c.args.register.now.shapes.items c.commit.new.self.shapes.items
     c.in_ok-answer.ensures.status stored.ok
 
-pub returns-in-Err-Store-clause-leaves : goal.returns-in-Err-Store-clause-leaves
-returns-in-Err-Store-clause-leaves g c =
+pub returns-in-Err-Memory-clause-leaves : goal.returns-in-Err-Memory-clause-leaves
+returns-in-Err-Memory-clause-leaves g c =
     let made = c.requires.made in
     let old = state g.S.Store c.args.register.now.conn in
     let new = state g.S.Store c.commit.new.self.conn in
-    let kept = (c.in-Err-Store.ensures.publishes made.0 made.1 made.2 made.3 made.4).refused in
-    let stored = c.in-Err-Store.ensures.stores made.0 made.1 made.2 made.3 made.4 in
-    leaves-kept _ old new c.args.register.now.history c.commit.new.self.history c.args.register.now.shapes.items c.commit.new.self.shapes.items
-    (inr refl) kept stored.err (λ before clean. (stored.crash before).closes clean before.stored.is_open)
-
-pub returns-in-Err-Store-clause-cause : goal.returns-in-Err-Store-clause-cause
-returns-in-Err-Store-clause-cause g c clean is = c.in-Err-Store.ensures.cause clean c.in-Err-Store.field-0-is
+    let h = c.args.register.now.history in
+    let k = c.commit.new.self.history in
+    let s = c.args.register.now.shapes.items in
+    let t = c.commit.new.self.shapes.items in
+    let kept = (c.in-Err-Memory.ensures.publishes made.0 made.1 made.2 made.3 made.4).refused in
+    let stored = c.in-Err-Memory.ensures.stores made.0 made.1 made.2 made.3 made.4 in
+    leaves-kept _ old new h k s t (inl refl) kept stored.err
+    (λ other held. elim c.in-Err-Memory.ensures.untouched [
+      | inl e ↦ cc e
+      | inr p ↦ still-held old new h k s t (ap (state g.S.Store) p.1) kept held
+    ])
 
 pub returns : goal.returns
 returns g c =
@@ -47,6 +51,5 @@ returns g c =
       answer = λ rows it. tt;
       added = λ rows it. tt;
       leaves = leaves-kept _ old new c.args.register.now.history c.commit.new.self.history c.args.register.now.shapes.items c.commit.new.self.shapes.items
-          (inl refl) kept stored.err (λ before clean. (stored.crash before).closes clean before.stored.is_open);
-      cause = λ clean is. memory-no-store is;
+          (inr refl) kept stored.err (λ other held. absurd (other refl));
     }

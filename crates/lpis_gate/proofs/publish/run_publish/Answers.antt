@@ -2,8 +2,7 @@ use Rattle.std.proofs.Common.{inl}
 use Rattle.lpis_gate.proofs.Common.{IfOk-weaker}
 use Rattle.std.proofs.lemmas.Result.{IfErr-weaker}
 use Rattle.lpis_gate.specs.private.Saying.{submission_of}
-use Rattle.lpis_gate.proofs.PublishLemmas.{ends-of, stays-on}
-use Rattle.sqlite.specs.Held.{state}
+use Rattle.lpis_gate.proofs.PublishLemmas.{ends-of}
 use Rattle.lpis_gate.proofs.publish.run_publish.Goals as goal
 
 pub returns-clause-answer : goal.returns-clause-answer
@@ -29,9 +28,3 @@ returns-clause-failure g c =
       record { whole = (a.text.items, a.status); answer = told.answer; written = stopped.1; moves = told.moves },
     ))
     c.write_to.ensures.failure
-
-pub returns-in_err-answer-clause-stored : goal.returns-in_err-answer-clause-stored
-returns-in_err-answer-clause-stored g c =
-    stays-on c.from_residual-in_err-answer.result c.in_err-answer.field-0.0 (state g.S.Store c.args.register.now.conn) (state g.S.Store c.answer_to.new.register.conn)
-    c.args.register.now.history c.answer_to.new.register.history c.args.register.now.shapes.items c.answer_to.new.register.shapes.items
-    c.from_residual-in_err-answer.ensures.1 c.in_err-answer.ensures.leaves.stored

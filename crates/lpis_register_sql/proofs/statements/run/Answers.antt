@@ -7,6 +7,7 @@ use Rattle.lpis_register_sql.proofs.statements.run.Goals as goal
 pub returns-clause-makes : goal.returns-clause-makes
 returns-clause-makes g c clean up within =
     one_ran g.S.Store (record { sql = c.args.sql.now; values = bound c.args.values.now }) c.args.tx.now.conn.now c.execute.new.self.conn.now _ (c.in_ok-execute.ensures.runs clean within)
+    c.execute.ensures.survives.limit
 
 pub returns-in_err-execute-clause-makes : goal.returns-in_err-execute-clause-makes
 returns-in_err-execute-clause-makes g c =

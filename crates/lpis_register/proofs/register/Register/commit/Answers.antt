@@ -16,7 +16,7 @@ returns-in-Ok-clause-publishes g c year r blocks rows made = record {
 
 pub returns-in-Err-clause-publishes : goal.returns-in-Err-clause-publishes
 returns-in-Err-clause-publishes g c year r blocks rows made = record {
-  tells = failure_refused c.args.self.now.history c.args.self.now.shapes.items year r blocks rows _ c.in-Err.ensures.failure;
+  tells = failure_refused c.args.self.now.history c.args.self.now.shapes.items year r blocks rows _ _ c.in-Err.ensures.untouched;
   change = tt;
   follows = tt;
   exact = tt;
