@@ -30,6 +30,3 @@ pub use laws::{
 pub use part::{ExactBlock, PairLine, ParcelPart, PiecePart};
 pub use reading::read_cert;
 pub use writing::{WriteFault, write_cert};
-
-#[cfg(test)]
-mod tests;

@@ -20,6 +20,3 @@ pub use checking::{Yes, check, check_parts};
 pub use condition::{Condition, LineCondition, ParcelCondition, PieceCondition, Site};
 pub use exact::{ExactCondition, ExactFault, ExactPart, check_exact};
 pub use fault::{CheckFault, Location};
-
-#[cfg(test)]
-mod tests;

@@ -42,6 +42,3 @@ pub use refusal::{print_cert_fault, print_check_fault, print_region, print_table
 pub use releases::{TableBytes, read_tables, release_in};
 pub use report::{print_parcel, write_report};
 pub use status::{DONE, FAILED, REFUSED, UNREADABLE, status_of, usage_ends};
-
-#[cfg(test)]
-mod tests;

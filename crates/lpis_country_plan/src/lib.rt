@@ -26,6 +26,3 @@ pub use laws::{
 };
 pub use plan::{MOST_REGIONS, Plan};
 pub use reading::read_plan;
-
-#[cfg(test)]
-mod tests;

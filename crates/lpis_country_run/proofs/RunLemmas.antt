@@ -8,7 +8,7 @@ use Rattle.std.specs.declared.alloc.Global.{Global}
 use Rattle.lpis_commands.proofs.Shared.{appends-more}
 use Rattle.lpis_parcels.specs.Release.{Contents}
 use Rattle.lpis_commands.specs.declared.failure.Failure.{Failure}
-use Rattle.lpis_commands.specs.declared.failure.Failure.TheVariants.{Memory, Read, Write, Store}
+use Rattle.lpis_commands.specs.declared.failure.Failure.TheVariants.{Memory, Read, Write, Store, StoreMemory}
 use Rattle.lpis_commands.specs.declared.failure.Name.TheVariants.{Cert, Classes, Covers, Out, Parcels}
 use Rattle.lpis_commands.specs.CheckAnswer.{Inputs, IsProvedOf}
 use Rattle.lpis_commands.specs.declared.answer.Answer.{Answer as Printed}
@@ -158,6 +158,11 @@ is_stopped Store name left f (inr (inl e)) h = cc e
 is_stopped Store name left f (inr (inr (inl e))) h = cc e
 is_stopped Store name left f (inr (inr (inr (inl e)))) h = cc e
 is_stopped Store name left f (inr (inr (inr (inr e)))) h = cc e
+is_stopped StoreMemory name left f (inl e) h = cc e
+is_stopped StoreMemory name left f (inr (inl e)) h = cc e
+is_stopped StoreMemory name left f (inr (inr (inl e))) h = cc e
+is_stopped StoreMemory name left f (inr (inr (inr (inl e)))) h = cc e
+is_stopped StoreMemory name left f (inr (inr (inr (inr e)))) h = cc e
 
 -- a beginning of the verdict on the next region was written
 begun-verdict : (s : Setting) (n : ℕ) (before : List Contents) (lines name text : List ℕ) → n < length s.names → name ≡ get_or s.names n [] → HavePassed s (take n s.names) before lines

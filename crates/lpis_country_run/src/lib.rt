@@ -15,6 +15,3 @@ mod totals;
 pub use country::run_country;
 pub use failure::{CountryFailure, print_country_failure};
 pub use folder::{Folder, Regions};
-
-#[cfg(test)]
-mod tests;

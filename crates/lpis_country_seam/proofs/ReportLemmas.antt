@@ -99,9 +99,9 @@ pub rows-told : (F : Parcel → List SeamFault) (ps : List Parcel) (k : ℕ) (p 
 rows-told F ps k p f l e i h = told-alike (flat_map F ps) (F p ++ flat_map F (drop (k + 1) ps)) f (i ∙ rows-at F ps k p l e) (told-left (F p) (flat_map F (drop (k + 1) ps)) f h)
 
 -- where row k has no fault either, the faults of all rows are those of the rows after it
-pub rows-more : (F : Parcel → List SeamFault) (ps : List Parcel) (k : ℕ) (p : Parcel) → k < length ps → p ≡ get_or ps k p → flat_map F ps ≡ flat_map F (drop k ps) → F p ≡ []
+pub reports-next : (F : Parcel → List SeamFault) (ps : List Parcel) (k : ℕ) (p : Parcel) → k < length ps → p ≡ get_or ps k p → flat_map F ps ≡ flat_map F (drop k ps) → F p ≡ []
     → flat_map F ps ≡ flat_map F (drop (k + 1) ps)
-rows-more F ps k p l e i n = i ∙ rows-at F ps k p l e ∙ ap (λ (fs : List SeamFault). fs ++ flat_map F (drop (k + 1) ps)) n
+reports-next F ps k p l e i n = i ∙ rows-at F ps k p l e ∙ ap (λ (fs : List SeamFault). fs ++ flat_map F (drop (k + 1) ps)) n
 
 -- the places of those that pass a test
 pub places-more : (q : Parcel → Bool) (ps : List Parcel) (places : List ℕ) (k : ℕ) (p : Parcel) (new : Bool) → k < length ps → p ≡ get_or ps k p → new ≡ q p

@@ -9,10 +9,10 @@ use Rattle.lpis_covers.specs.declared.fault.TableFault.TheVariants.{Memory}
 use Rattle.lpis_covers.specs.private.Columns.{TellsColumn}
 use Rattle.lpis_covers.specs.Table.{Record, fault_at, has_column, most_rows, optional_field, reading, rows_from, stopped, table_of, wanted_places, with_row}
 
-rows-more : (table : Table) (w : ℕ) (places : List (Option ℕ)) (n : ℕ) (r : Record) (rs : List Record) → length r ≡ w → n ≤ most_rows
+rows-read-next : (table : Table) (w : ℕ) (places : List (Option ℕ)) (n : ℕ) (r : Record) (rs : List Record) → length r ≡ w → n ≤ most_rows
     → rows_from table w places n (r ∷ rs) ≡ with_row (picked places r) (rows_from table w places (n + 1) rs)
 unfolding rows_from
-rows-more table w places n r rs l h =
+rows-read-next table w places n r rs l h =
     let len : (length r == w) ≡ true = grind (arith, nat_tests) in
     let few : nat_lt 200000 n ≡ false = grind (arith, nat_tests) in
     rw (len, few) refl
@@ -56,7 +56,7 @@ pub next-row : (old : Reading) (table : Table) (w v n : ℕ) (places : List (Opt
     → (old.rows ≡ picked places r ∷ (rows_from table v places (n + 1 + 1) rs).rows) × ((rows_from table v places (n + 1 + 1) rs).stop ≡ old.stop)
     × (n + 1 ≡ old.number + 1) × (table ≡ old.table) × (n + 1 ≤ most_rows) × (map is_some places ≡ old.has)
 next-row old table w v n places row r left rs e l d same m =
-    rw (← e, l, rows-more table w places (n + 1) r rs d (omega arith), same) (refl, refl, refl, refl, omega arith, refl)
+    rw (← e, l, rows-read-next table w places (n + 1) r rs d (omega arith), same) (refl, refl, refl, refl, omega arith, refl)
 
 -- the field at the k-th place, and whether there is one
 pub field-at : (places : List (Option ℕ)) (fields : Record) (k : ℕ) → optional_field (picked places fields) k ≡ field_at_place fields (get_or places k None)

@@ -24,6 +24,3 @@ pub use piece::{Piece, Pieces, read_pieces};
 pub use reader::TableReader;
 pub use rows::{Rows, read_table};
 pub use typed::{TableRow, read_rows};
-
-#[cfg(test)]
-mod tests;

@@ -129,8 +129,8 @@ release-fresh h law fit i e lt is s names-it =
     ]
 
 -- the rows of the first releases, with those of the next one behind them, are the rows of one release more
-pub rows-more : (h : List Entry) (i : ℕ) (e : Entry) → i < length h → e ≡ get_or h i e → all_rows (take i h) ++ e.rows ≡ all_rows (take (i + 1) h)
-rows-more h i e lt is = sym (all-snoc (take i h) e) ∙ ap all_rows (take-at h i e lt is) where
+pub all-rows-next : (h : List Entry) (i : ℕ) (e : Entry) → i < length h → e ≡ get_or h i e → all_rows (take i h) ++ e.rows ≡ all_rows (take (i + 1) h)
+all-rows-next h i e lt is = sym (all-snoc (take i h) e) ∙ ap all_rows (take-at h i e lt is) where
   all-snoc : (h : List Entry) (e : Entry) → all_rows (h ++ e ∷ []) ≡ all_rows h ++ e.rows
   all-snoc [] e = append-nil e.rows
   all-snoc (x ∷ h) e = ap (λ (l : List Row). x.rows ++ l) (all-snoc h e) ∙ sym (append_assoc x.rows (all_rows h) e.rows)

@@ -8,8 +8,6 @@ mod near;
 mod order;
 mod source;
 mod sweep;
-#[cfg(test)]
-mod tests;
 
 pub use all_pairs::AllPairs;
 pub use source::{MOST_TRIANGLES, PairSource};

@@ -14,6 +14,3 @@ pub use pieces::{PiecesOf, pieces_of};
 pub use reading::read_release;
 pub use release::Release;
 pub use weighted::weighted2;
-
-#[cfg(test)]
-mod tests;

@@ -24,8 +24,6 @@ mod point;
 mod rational;
 mod separating;
 mod side;
-#[cfg(test)]
-mod tests;
 mod triangle;
 
 pub use boxes::{Box4, apart, box_of};

@@ -23,8 +23,6 @@ pub mod laws;
 mod polygon;
 mod ring;
 mod sequence;
-#[cfg(test)]
-mod tests;
 mod walks;
 
 pub use area::{area2, shoelace};

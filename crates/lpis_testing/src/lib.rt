@@ -11,6 +11,6 @@ pub use expecting::{expect, expect_answer};
 pub use halting::Halting;
 pub use square::{
     CLASSES, HALVES_CERT, HALVES_CERT_WRITTEN, LEFT, PARCELS_CERT, PARCELS_CERT_WRITTEN, RIGHT,
-    RIGHT_MOVED, SQUARE, SQUARE_CERT, SQUARE_CERT_WRITTEN,
+    SQUARE, SQUARE_CERT, SQUARE_CERT_WRITTEN,
 };
 pub use texts::edited;

@@ -8,9 +8,6 @@ pub static LEFT: &str = "POLYGON((0 0,5 0,5 10,0 10,0 0))";
 
 pub static RIGHT: &str = "POLYGON((5 0,10 0,10 10,5 10,5 0))";
 
-/// The right half with its left side a centimetre too far to the right.
-pub static RIGHT_MOVED: &str = "POLYGON((5.01 0,10 0,10 10,5.01 10,5.01 0))";
-
 /// The table of two classes, the first of which is eligible.
 pub static CLASSES: &str = "class,eligible\nG,1\nW,0\n";
 

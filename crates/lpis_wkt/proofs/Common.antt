@@ -13,7 +13,7 @@ pub use Rattle.lpis_wkt.specs.declared.coordinate.Coordinate.{Coordinate}
 pub use Rattle.lpis_wkt.specs.declared.fault.WktCode.{WktCode}
 pub use Rattle.lpis_wkt.specs.private.Coordinates.{point_of}
 unfoldable pub use Rattle.lpis_wkt.specs.private.Coordinates.{coordinate_in_range}
-pub use Rattle.lpis_wkt.specs.private.Machine.{AfterBody, AfterKeyword, AfterPoint, AfterRing, AtBody, AtEnd, AtKeyword, AtRing, AtX, AtY, Context, Finished, ParserState, and_then, close_body}
+pub use Rattle.lpis_wkt.specs.private.Machine.{AfterBody, AfterKeyword, AfterPoint, AfterRing, AtBody, AtEnd, AtKeyword, AtRing, AtX, AtY, Context, Finished, ParserState, parse_then, close_body}
 pub use Rattle.lpis_wkt.specs.private.Machine.{close_ring}
 pub use Rattle.lpis_wkt.specs.private.Machine.{is_closed, limited_run, limited_step, member_of, new_body, open_text, points_before, run, parse_step, with_ring}
 pub use Rattle.lpis_wkt.specs.private.Runs.{IsPart, is_word}

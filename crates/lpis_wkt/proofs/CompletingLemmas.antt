@@ -3,7 +3,7 @@
 use Rattle.std.proofs.Common.{◌≡◌, ℕ, ◌-◌, ◌<◌, Bool, true, false, cond, List, [], ◌∷◌, ◌++◌, length, pos, Some, Ok, refl, sym, subst, ◌∙◌, append_assoc, arith, length-append, codes, slice_get}
 use Rattle.lpis_wkt.proofs.Common.{Point, Member, IsRing, Coordinate, Token, Open, Close, Comma, Word, End, number, coordinate_in_range, point_of, PointText, Commas, Context, ParserState, AtKeyword}
 use Rattle.lpis_wkt.proofs.Common.{AfterKeyword}
-use Rattle.lpis_wkt.proofs.Common.{AtBody, AtRing, AtX, AtY, AfterPoint, AfterRing, AfterBody, AtEnd, Finished, with_ring, close_body, open_text, member_of, and_then, run}
+use Rattle.lpis_wkt.proofs.Common.{AtBody, AtRing, AtX, AtY, AfterPoint, AfterRing, AfterBody, AtEnd, Finished, with_ring, close_body, open_text, member_of, parse_then, run}
 use Rattle.std.proofs.lemmas.Int.{ints}
 use Rattle.lpis_wkt.specs.Viable.{BeginsText}
 use Rattle.lpis_wkt.proofs.PointLemmas.{coordinate-ok, ok-coordinate}
@@ -166,6 +166,6 @@ taken_begins_text ts s h =
 -- the machine takes the tokens with which some text of the grammar begins
 pub begun_is_taken : (ts : List Token) → BeginsText ts → (s : ParserState) × (run AtKeyword ts ≡ Ok s)
 begun_is_taken ts (rest, ps, reads) =
-    let whole : and_then (run AtKeyword ts) (λ s. run s rest) ≡ Ok (Finished ps) = sym (run-append AtKeyword ts rest) ∙ reads_runs (ts ++ rest) ps reads in
+    let whole : parse_then (run AtKeyword ts) (λ s. run s rest) ≡ Ok (Finished ps) = sym (run-append AtKeyword ts rest) ∙ reads_runs (ts ++ rest) ps reads in
     let a = then-ok _ _ _ whole in
     (a.0, a.1)

@@ -4,7 +4,7 @@ use Rattle.lpis_wkt.proofs.Common.{Point, Member, most_points, WktCode, Token, O
 use Rattle.lpis_wkt.proofs.Common.{most_words}
 use Rattle.lpis_wkt.proofs.Common.{keyword_code, Context, ParserState, AtKeyword, AfterKeyword, AtBody, AtRing, AtX, AtY, AfterPoint, AfterRing, AfterBody, AtEnd, Finished, is_closed, with_ring}
 use Rattle.lpis_wkt.proofs.Common.{new_body}
-use Rattle.lpis_wkt.proofs.Common.{member_of, points_before, and_then, parse_step, run, limited_step, limited_run}
+use Rattle.lpis_wkt.proofs.Common.{member_of, points_before, parse_then, parse_step, run, limited_step, limited_run}
 use Rattle.lpis_wkt.specs.declared.fault.WktCode.TheVariants.{Syntax, TooManyPoints}
 use Rattle.lpis_wkt.specs.Viable.{Stands}
 use Rattle.lpis_wkt.specs.Table.{RingSoFar, EndsWith, open_code, first_open_code, number_code, coordinate_code, point_code, TableCode, at_keyword, at_first_open, at_open, at_coordinate}
@@ -20,7 +20,7 @@ use Rattle.lpis_wkt.proofs.RowLemmas.{keyword-code, limited-code, number-code, c
 stood : (before : List Token) (s : ParserState) (t : Token) → run AtKeyword before ≡ Ok s → Stands before t → (s' : ParserState) × (parse_step s t ≡ Ok s')
 stood before s t h stands =
     let b = begun_is_taken (before ++ t ∷ []) stands in
-    let whole : and_then (run AtKeyword before) (λ s. run s (t ∷ [])) ≡ Ok b.0 = sym (run-append AtKeyword before (t ∷ [])) ∙ b.1 in
+    let whole : parse_then (run AtKeyword before) (λ s. run s (t ∷ [])) ≡ Ok b.0 = sym (run-append AtKeyword before (t ∷ [])) ∙ b.1 in
     let here : run s (t ∷ []) ≡ Ok b.0 = rw h at whole in
     let a = then-ok _ _ _ here in
     (a.0, a.1)
@@ -89,7 +89,7 @@ point-only b ps _ c h = cc
 
 ring-code : (before : List Token) (s : ParserState) (ps : List Point) (t : Token) (c : WktCode) → RingSoFar before ps → run AtKeyword before ≡ Ok s → limited_step s t ≡ Err c → point_code ps t ≡ c
 ring-code before s ps t c (front, body, e, text) h k =
-    let whole : and_then (run AtKeyword front) (λ s. run s (Open ∷ body)) ≡ Ok s = sym (run-append AtKeyword front (Open ∷ body)) ∙ ap (run AtKeyword) (sym e) ∙ h in
+    let whole : parse_then (run AtKeyword front) (λ s. run s (Open ∷ body)) ≡ Ok s = sym (run-append AtKeyword front (Open ∷ body)) ∙ ap (run AtKeyword) (sym e) ∙ h in
     let a = then-ok (run AtKeyword front) (λ (v : ParserState). run v (Open ∷ body)) s whole in
     let o = then-ok (parse_step a.0 Open) (λ (v : ParserState). run v body) s a.2 in
     let r = after_open a.0 o.0 s ps body (goes a.0 Open o.0 o.1) text o.2 in
@@ -134,7 +134,7 @@ after_end s0 s h = ended s0 s (goes s0 End s h)
 -- the step that took the last of the tokens before
 last_step : (before : List Token) (s : ParserState) (t : Token) → EndsWith before t → run AtKeyword before ≡ Ok s → (s0 : ParserState) × (parse_step s0 t ≡ Ok s)
 last_step before s t (front, e) h =
-    let whole : and_then (run AtKeyword front) (λ s. run s (t ∷ [])) ≡ Ok s = sym (run-append AtKeyword front (t ∷ [])) ∙ ap (run AtKeyword) (sym e) ∙ h in
+    let whole : parse_then (run AtKeyword front) (λ s. run s (t ∷ [])) ≡ Ok s = sym (run-append AtKeyword front (t ∷ [])) ∙ ap (run AtKeyword) (sym e) ∙ h in
     let a = then-ok (run AtKeyword front) (λ (v : ParserState). run v (t ∷ [])) s whole in
     let o = then-ok (parse_step a.0 t) (λ (v : ParserState). run v []) s a.2 in
     let same : Ok o.0 ≡ Ok s = o.2 in

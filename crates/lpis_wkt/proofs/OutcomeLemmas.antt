@@ -1,6 +1,6 @@
 -- The outcome of a text is its polygon, or its first fault.
 use Rattle.std.proofs.Common.{MatchResult, IfOk, IfErr, ◌≡◌, ℕ, List, [], ◌∷◌, ◌++◌, Result, Ok, Err, refl, sym, ap, ◌∙◌, inl, inr, ◌⊎◌, length}
-use Rattle.lpis_wkt.proofs.Common.{Member, WktCode, Token, End, tokens_from, Viable, ParserState, AtKeyword, Finished, and_then, limited_step, limited_run}
+use Rattle.lpis_wkt.proofs.Common.{Member, WktCode, Token, End, tokens_from, Viable, ParserState, AtKeyword, Finished, parse_then, limited_step, limited_run}
 use Rattle.lpis_wkt.specs.declared.fault.WktFault.{WktFault}
 use Rattle.lpis_wkt.specs.declared.fault.WktFault.TheVariants.{Memory, At}
 use Rattle.lpis_wkt.specs.Tokens.{kinds, tokens}
@@ -38,7 +38,7 @@ Stops s ts code offset = (before : List (ℕ × Token)) × (t : Token) × (after
     × (ts ≡ before ++ (offset, t) ∷ after) × (limited_run s (kinds before) ≡ Ok s') × (limited_step s' t ≡ Err code)
 
 stops_by : (s : ParserState) (at : ℕ) (t : Token) (ts : List (ℕ × Token)) (code : WktCode) (offset : ℕ) (r : Result ParserState WktCode) → limited_step s t ≡ r
-    → and_then (located r at) (λ s. parse_outcome s ts) ≡ Err (code, offset) → ((s2 : ParserState) → parse_outcome s2 ts ≡ Err (code, offset) → Stops s2 ts code offset)
+    → parse_then (located r at) (λ s. parse_outcome s ts) ≡ Err (code, offset) → ((s2 : ParserState) → parse_outcome s2 ts ≡ Err (code, offset) → Stops s2 ts code offset)
     → Stops s ((at, t) ∷ ts) code offset
 stops_by s at t ts code offset (Ok s2) e h rest =
     let (before, u, after, s3, split, runs, fails) = rest s2 h in
@@ -68,10 +68,10 @@ first_fault ts code offset h =
     (before, t, after, split, taken_is_viable (kinds before) s runs, not_viable (kinds before) t s code runs fails, table_code (kinds before) t s code runs fails)
 
 -- the other way round
-outcome-append : (s : ParserState) (a b : List (ℕ × Token)) → parse_outcome s (a ++ b) ≡ and_then (parse_outcome s a) (λ s. parse_outcome s b)
+outcome-append : (s : ParserState) (a b : List (ℕ × Token)) → parse_outcome s (a ++ b) ≡ parse_then (parse_outcome s a) (λ s. parse_outcome s b)
 outcome-append s [] b = refl
 outcome-append s (t ∷ a) b = elim (located (limited_step s t.1) t.0) as
-    (λ r. and_then r (λ s. parse_outcome s (a ++ b)) ≡ and_then (and_then r (λ s. parse_outcome s a)) (λ s. parse_outcome s b))
+    (λ r. parse_then r (λ s. parse_outcome s (a ++ b)) ≡ parse_then (parse_then r (λ s. parse_outcome s a)) (λ s. parse_outcome s b))
     [ Ok s' ↦ outcome-append s' a b | Err e ↦ refl ]
 
 fault_outcome : (ts : List (ℕ × Token)) (code : WktCode) (offset : ℕ) → FirstFault ts code offset → parse_outcome AtKeyword ts ≡ Err (code, offset)
@@ -85,7 +85,7 @@ fault_outcome ts code offset (before, t, after, split, v, cannot, row) =
 -- where the end was taken, the text is finished
 finished_end : (before : List (ℕ × Token)) (n : ℕ) (s : ParserState) → parse_outcome AtKeyword (before ++ (n, End) ∷ []) ≡ Ok s → (ms : List Member) × (s ≡ Finished ms)
 finished_end before n s h =
-    let whole : and_then (parse_outcome AtKeyword before) (λ s. parse_outcome s ((n, End) ∷ [])) ≡ Ok s = sym (outcome-append AtKeyword before ((n, End) ∷ [])) ∙ h in
+    let whole : parse_then (parse_outcome AtKeyword before) (λ s. parse_outcome s ((n, End) ∷ [])) ≡ Ok s = sym (outcome-append AtKeyword before ((n, End) ∷ [])) ∙ h in
     let a = then-ok (parse_outcome AtKeyword before) (λ (v : ParserState). parse_outcome v ((n, End) ∷ [])) s whole in
     let o = then-ok (located (limited_step a.0 End) n) (λ (v : ParserState). parse_outcome v []) s a.2 in
     let step = cond-err _ _ _ _ (located-ok _ n o.0 o.1) in

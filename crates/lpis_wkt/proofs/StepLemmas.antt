@@ -4,12 +4,12 @@ use Rattle.lpis_wkt.proofs.Common.{nat_tests, Point, IsRing, WktCode, Coordinate
 use Rattle.lpis_wkt.proofs.Common.{Context}
 use Rattle.lpis_wkt.proofs.Common.{ParserState, AtKeyword, AfterKeyword, AtBody, AtRing, AtX, AtY, AfterPoint, AfterRing, AfterBody, AtEnd, Finished, with_ring, close_body, close_ring, new_body}
 use Rattle.lpis_wkt.proofs.Common.{open_text}
-use Rattle.lpis_wkt.proofs.Common.{parse_step, and_then, run, limited_step, limited_run}
+use Rattle.lpis_wkt.proofs.Common.{parse_step, parse_then, run, limited_step, limited_run}
 use Rattle.lpis_wkt.specs.private.Machine.{with_coordinate, keyword}
 use Rattle.lpis_wkt.proofs.PointLemmas.{is_closed-true}
 
 -- where two steps in turn give a value, so does the first alone, and the second from the value of the first
-pub then-ok : {A B E : Type 0} (r : Result A E) (f : A → Result B E) (z : B) → and_then r f ≡ Ok z → (v : A) × (r ≡ Ok v) × (f v ≡ Ok z)
+pub then-ok : {A B E : Type 0} (r : Result A E) (f : A → Result B E) (z : B) → parse_then r f ≡ Ok z → (v : A) × (r ≡ Ok v) × (f v ≡ Ok z)
 then-ok (Ok v) f z h = (v, refl, h)
 then-ok (Err e) f z h = cc
 
@@ -80,12 +80,12 @@ goes (AtEnd ms) End s' h = subst (Goes (AtEnd ms) End) (cc h) (finishes ms)
 goes _ _ s' h = cc
 
 -- a run over tokens and more tokens is a run over the first, and then one over the others
-pub run-append : (s : ParserState) (a b : List Token) → run s (a ++ b) ≡ and_then (run s a) (λ s. run s b)
+pub run-append : (s : ParserState) (a b : List Token) → run s (a ++ b) ≡ parse_then (run s a) (λ s. run s b)
 run-append s [] b = refl
-run-append s (t ∷ a) b = elim (parse_step s t) as (λ r. and_then r (λ s. run s (a ++ b)) ≡ and_then (and_then r (λ s. run s a)) (λ s. run s b)) [ Ok s' ↦ run-append s' a b | Err e ↦ refl ]
+run-append s (t ∷ a) b = elim (parse_step s t) as (λ r. parse_then r (λ s. run s (a ++ b)) ≡ parse_then (parse_then r (λ s. run s a)) (λ s. run s b)) [ Ok s' ↦ run-append s' a b | Err e ↦ refl ]
 
 -- a run with the limit on points, over tokens and more tokens, is one over the first, and then one over the others
-pub limited-append : (s : ParserState) (a b : List Token) → limited_run s (a ++ b) ≡ and_then (limited_run s a) (λ s. limited_run s b)
+pub limited-append : (s : ParserState) (a b : List Token) → limited_run s (a ++ b) ≡ parse_then (limited_run s a) (λ s. limited_run s b)
 limited-append s [] b = refl
-limited-append s (t ∷ a) b = elim (limited_step s t) as (λ r. and_then r (λ s. limited_run s (a ++ b)) ≡ and_then
-    (and_then r (λ s. limited_run s a)) (λ s. limited_run s b)) [ Ok s' ↦ limited-append s' a b | Err e ↦ refl ]
+limited-append s (t ∷ a) b = elim (limited_step s t) as (λ r. parse_then r (λ s. limited_run s (a ++ b)) ≡ parse_then
+    (parse_then r (λ s. limited_run s a)) (λ s. limited_run s b)) [ Ok s' ↦ limited-append s' a b | Err e ↦ refl ]

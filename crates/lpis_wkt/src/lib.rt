@@ -14,6 +14,3 @@ mod words;
 
 pub use fault::{WktCode, WktFault};
 pub use reading::read;
-
-#[cfg(test)]
-mod tests;

@@ -7,6 +7,3 @@ pub mod laws;
 mod writing;
 
 pub use writing::write;
-
-#[cfg(test)]
-mod tests;

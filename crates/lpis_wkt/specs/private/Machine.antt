@@ -100,14 +100,14 @@ parse_step (AfterBody ms) Comma = Ok (AtBody ms)
 parse_step (AtEnd ms) End = Ok (Finished ms)
 parse_step _ _ = Err Syntax
 
-abbrev pub and_then : {A B E : Type 0} → Result A E → (A → Result B E) → Result B E
-and_then (Ok x) f = f x
-and_then (Err e) f = Err e
+abbrev pub parse_then : {A B E : Type 0} → Result A E → (A → Result B E) → Result B E
+parse_then (Ok x) f = f x
+parse_then (Err e) f = Err e
 
 -- the state after some tokens, or the code of the first that cannot stand where it stands
 abbrev pub run : ParserState → List Token → Result ParserState WktCode
 run s [] = Ok s
-run s (t ∷ ts) = and_then (parse_step s t) (λ s. run s ts)
+run s (t ∷ ts) = parse_then (parse_step s t) (λ s. run s ts)
 
 -- the points before a ring
 abbrev pub points_before : Context → ℕ
@@ -125,7 +125,7 @@ limited_step s t = cond (is_too_many s t) (Err TooManyPoints) (parse_step s t)
 
 abbrev pub limited_run : ParserState → List Token → Result ParserState WktCode
 limited_run s [] = Ok s
-limited_run s (t ∷ ts) = and_then (limited_step s t) (λ s. limited_run s ts)
+limited_run s (t ∷ ts) = parse_then (limited_step s t) (λ s. limited_run s ts)
 
 -- the same over tokens with offsets: the offset is reported beside the code
 abbrev pub located : Result ParserState WktCode → ℕ → Result ParserState (WktCode × ℕ)
@@ -134,7 +134,7 @@ located (Err code) at = Err (code, at)
 
 abbrev pub parse_outcome : ParserState → List (ℕ × Token) → Result ParserState (WktCode × ℕ)
 parse_outcome s [] = Ok s
-parse_outcome s (t ∷ ts) = and_then (located (limited_step s t.1) t.0) (λ s. parse_outcome s ts)
+parse_outcome s (t ∷ ts) = parse_then (located (limited_step s t.1) t.0) (λ s. parse_outcome s ts)
 
 abbrev pub members_of : ParserState → List Member
 members_of (Finished ms) = ms

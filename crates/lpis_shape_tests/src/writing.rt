@@ -1,5 +1,7 @@
-use super::*;
+//! The texts of polygons, written and read again.
+
 use lpis_wkt::{WktFault, read};
+use lpis_wkt_writer::write;
 use std::alloc::Global;
 use std::test::Fail;
 

@@ -1,7 +1,7 @@
 //! Releases with certificates: their reports and refusals.
 
-use super::devices::Paper;
-use super::releases::{
+use crate::devices::Paper;
+use crate::releases::{
     EMPTY_REPORT, HALVES_REPORT, ONE_PIECE, OVERLAPPING, OVERLAPPING_PIECES, Rows, SQUARE_REPORT,
     TWO_PIECES, TWO_SQUARES, TWO_SQUARES_PIECE, Tables, WHOLE,
 };

@@ -1,8 +1,8 @@
 //! The parcel and the piece at a point.
 
 use super::{HALVES, PARCEL, release_of};
-use crate::{Yes, check};
 use lpis_cert::read_cert;
+use lpis_checker::{Yes, check};
 use lpis_pairs::Sweep;
 use lpis_parcels::Release;
 use lpis_points::RatPoint;

@@ -1,8 +1,8 @@
 //! What is answered of exact blocks.
 
 use super::{Case, Edit, HALVES, HALVES_WITH_A_GAP, PARCEL, release_of};
-use crate::{ExactFault, ExactPart, check_exact};
 use lpis_cert::{Cert, read_cert};
+use lpis_checker::{ExactFault, ExactPart, check_exact};
 use lpis_covers::Id;
 use lpis_parcels::Release;
 use lpis_rings::{Polygon, Sequence};

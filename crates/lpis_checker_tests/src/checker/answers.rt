@@ -1,8 +1,8 @@
 //! What is answered of certificates, whichever the source of near pairs.
 
 use super::{Case, Edit, HALVES, HALVES_WITH_A_GAP, ONE_PIECE, PARCEL, release_of};
-use crate::{CheckFault, Location, check, check_parts};
 use lpis_cert::{Cert, read_cert};
+use lpis_checker::{CheckFault, Location, check, check_parts};
 use lpis_pairs::{AllPairs, PairSource, Sweep};
 use lpis_parcels::Release;
 use lpis_testing::{CLASSES, HALVES_CERT, SQUARE_CERT, SQUARE_CERT_WRITTEN, edited, expect};

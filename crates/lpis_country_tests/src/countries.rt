@@ -1,6 +1,6 @@
 //! What is answered of countries.
 
-use super::shelf::{CLASSES, Edit, PLAN, Shelf, WEST_LINE, run};
+use crate::shelf::{CLASSES, Edit, PLAN, Shelf, WEST_LINE, run};
 use lpis_commands::Detail;
 use lpis_testing::expect_answer;
 use std::test::Fail;

@@ -1,4 +1,6 @@
-use super::*;
+//! Texts that say how a country is cut into regions.
+
+use lpis_country_plan::{MOST_REGIONS, PlanFault, read_plan};
 use std::alloc::{AllocError, Global};
 use std::fmt::Write;
 use std::test::*;

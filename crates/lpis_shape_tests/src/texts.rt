@@ -1,5 +1,7 @@
-use super::*;
+//! Texts of polygons, with the polygons that they spell or their faults.
+
 use lpis_rings::Polygon;
+use lpis_wkt::{WktFault, read};
 use std::alloc::Global;
 use std::test::Fail;
 

@@ -1,8 +1,8 @@
 //! Files that are not there, or fail.
 
-use super::shelf::{CLASSES, PLAN, Shelf, WEST_LINE, run};
-use crate::failure::print_country_failure;
+use crate::shelf::{CLASSES, PLAN, Shelf, WEST_LINE, run};
 use lpis_commands::Detail;
+use lpis_country_run::print_country_failure;
 use lpis_testing::expect;
 use std::test::Fail;
 

@@ -1,7 +1,7 @@
 //! Worked polygons, in millimetres.
 
-use crate::{Member, Polygon, Ring, Sequence, contains, edges, turns};
 use lpis_points::{Point, RatPoint};
+use lpis_rings::{Member, Polygon, Ring, Sequence, contains, edges, turns};
 use std::alloc::Global;
 use std::test::Fail;
 

@@ -1,8 +1,8 @@
 //! The command line.
 
-use super::releases::hold;
-use crate::command::{Cmd, Detail, command_of};
+use crate::releases::hold;
 use clap::error::ErrorKind;
+use lpis_commands::{Cmd, Detail, command_of};
 use std::test::Fail;
 
 /// The words of a line, with one space between two.

@@ -1,4 +1,6 @@
-use super::{AllPairs, MOST_TRIANGLES, PairSource, Sweep};
+//! Near pairs of triangles, by both sources.
+
+use lpis_pairs::{AllPairs, MOST_TRIANGLES, PairSource, Sweep};
 use lpis_points::{LIMIT, Point, Triangle};
 use std::alloc::{AllocError, Global};
 use std::process::Abort;

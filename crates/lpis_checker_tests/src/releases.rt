@@ -1,7 +1,7 @@
 //! Worked releases, with the faults of their joins.
 
-use crate::{Release, pieces_of, read_release, weighted2};
 use lpis_covers::{Id, TableFault};
+use lpis_parcels::{Release, pieces_of, read_release, weighted2};
 use lpis_testing::{LEFT, RIGHT, SQUARE, expect};
 use std::test::Fail;
 

@@ -1,9 +1,7 @@
 //! The folders of two regions and of one without parcels, in memory.
 
-use crate::country::run_country;
-use crate::failure::CountryFailure;
-use crate::folder::{Folder, Regions};
 use lpis_commands::{Detail, Failure, Name};
+use lpis_country_run::{CountryFailure, Folder, Regions, run_country};
 use lpis_testing::{Halting, edited};
 use std::alloc::Global;
 use std::test::Fail;

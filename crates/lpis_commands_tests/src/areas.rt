@@ -1,9 +1,8 @@
 //! The areas of polygons, the faults of their texts, and tables of them.
 
-use super::devices::Paper;
-use super::releases::hold;
-use crate::area::run_area;
-use crate::printing::{print_area, print_eligible};
+use crate::devices::Paper;
+use crate::releases::hold;
+use lpis_commands::{print_area, print_eligible, run_area};
 use lpis_testing::{SQUARE, expect, expect_answer};
 use std::test::Fail;
 

@@ -1,6 +1,6 @@
 //! Worked tables, with their faults.
 
-use crate::{Id, Rows, Table, TableFault, read_classes, read_pieces, read_table};
+use lpis_covers::{Id, Rows, Table, TableFault, read_classes, read_pieces, read_table};
 use lpis_testing::expect;
 use std::test::Fail;
 

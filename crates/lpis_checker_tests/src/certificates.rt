@@ -1,4 +1,6 @@
-use super::*;
+//! Certificates, read and written again, and their faults.
+
+use lpis_cert::{CertFault, read_cert, write_cert};
 use lpis_testing::{
     HALVES_CERT, HALVES_CERT_WRITTEN, PARCELS_CERT, PARCELS_CERT_WRITTEN, SQUARE_CERT,
     SQUARE_CERT_WRITTEN, edited,

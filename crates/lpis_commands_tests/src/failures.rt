@@ -1,10 +1,10 @@
 //! Inputs and outputs that fail in mid-stream.
 
-use super::devices::{Interrupted, Paper};
-use super::releases::{Rows, SQUARE_REPORT, Tables, area_of, hold};
-use crate::failure::{Failure, Name, print_failure};
-use crate::printing::{PrintFault, print_area, print_eligible};
-use crate::reading::{ReadFault, read_all};
+use crate::devices::{Interrupted, Paper};
+use crate::releases::{Rows, SQUARE_REPORT, Tables, area_of, hold};
+use lpis_commands::{
+    Failure, Name, PrintFault, ReadFault, print_area, print_eligible, print_failure, read_all,
+};
 use lpis_testing::{SQUARE_CERT, expect};
 use std::io::ErrorKind;
 use std::test::Fail;
@@ -245,7 +245,7 @@ fn expect_line(rt: &HostRuntime, failure: Failure, line: &str) -> Result<(), Fai
 }
 
 /// Failures and their lines.
-static LINES: [(Failure, &str); 9] = [
+static LINES: [(Failure, &str); 10] = [
     (Failure::Memory, "failed memory\n"),
     (Failure::Read(Name::Area), "failed read area\n"),
     (Failure::Read(Name::Parcels), "failed read parcels\n"),
@@ -255,6 +255,7 @@ static LINES: [(Failure, &str); 9] = [
     (Failure::Write(Name::Cert), "failed write cert\n"),
     (Failure::Write(Name::Out), "failed write out\n"),
     (Failure::Store, "failed store\n"),
+    (Failure::StoreMemory, "failed store\n"),
 ];
 
 #[test]

@@ -1,11 +1,11 @@
 //! Releases that are cut: their certificates, and their refusals.
 
-use super::devices::Paper;
-use super::releases::{
+use crate::devices::Paper;
+use crate::releases::{
     EMPTY_REPORT, HALVES_REPORT, ONE_PIECE, OVERLAPPING, OVERLAPPING_PIECES, Rows, SQUARE_REPORT,
     TWO_PIECES, TWO_SQUARES, TWO_SQUARES_PIECE, Tables, WHOLE, hold,
 };
-use crate::cut_line::print_refusal;
+use lpis_commands::print_refusal;
 use lpis_covers::Id;
 use lpis_cutter::Refusal;
 use lpis_points::RatPoint;

@@ -1,6 +1,6 @@
 //! Values at the bounds of what is taken.
 
-use crate::{
+use lpis_points::{
     LIMIT, Point, RatPoint, Triangle, apart, box_of, crossing, edge, is_ccw, is_flat, orient,
     orient_at, separates,
 };

@@ -1,10 +1,7 @@
 //! The tables of releases, and the runs over them, each called at one place alone.
 
-use super::devices::Paper;
-use crate::area::run_area;
-use crate::check::run_check;
-use crate::cut::run_cut;
-use crate::failure::Failure;
+use crate::devices::Paper;
+use lpis_commands::{Failure, run_area, run_check, run_cut};
 use lpis_testing::{CLASSES, Halting};
 use std::test::Fail;
 

@@ -1,0 +1,13 @@
+//! Tests of tables, certificates, releases and the checker, with values from outside the program.
+//!
+//! They are a crate of their own, since a crate that has tests is proved twice.
+#![tactic(auto)]
+
+#[cfg(test)]
+mod certificates;
+#[cfg(test)]
+mod checker;
+#[cfg(test)]
+mod releases;
+#[cfg(test)]
+mod tables;

@@ -1,0 +1,13 @@
+//! Tests of countries and of how they are cut into regions, with values from outside the program.
+//!
+//! They are a crate of their own, since a crate that has tests is proved twice.
+#![tactic(auto)]
+
+#[cfg(test)]
+mod countries;
+#[cfg(test)]
+mod failures;
+#[cfg(test)]
+mod plans;
+#[cfg(test)]
+mod shelf;
