@@ -4,7 +4,8 @@ use Rattle.lpis_commands.specs.declared.failure.Name.{Name}
 use Rattle.lpis_commands.specs.declared.failure.Name.TheVariants.{Area, Parcels, Covers, Classes}
 use Rattle.lpis_commands.specs.declared.failure.Name.TheVariants.{Lineage, Cert, Country, Out}
 use Rattle.lpis_commands.specs.declared.failure.Failure.{Failure}
-use Rattle.lpis_commands.specs.declared.failure.Failure.TheVariants.{Memory, Read, Write, Store}
+use Rattle.lpis_commands.specs.declared.failure.Failure.TheVariants.{Memory, Read, Write}
+use Rattle.lpis_commands.specs.declared.failure.Failure.TheVariants.{Store, StoreMemory}
 use Rattle.lpis_commands.specs.Streams.{IsWithin}
 
 -- an input or an output by its name
@@ -24,6 +25,7 @@ failure_text Memory = codes "failed memory\n"
 failure_text (Read name) = codes "failed read " ++ name_text name ++ codes "\n"
 failure_text (Write name) = codes "failed write " ++ name_text name ++ codes "\n"
 failure_text Store = codes "failed store\n"
+failure_text StoreMemory = codes "failed store\n"
 
 -- an input was not read, or memory ran out
 abbrev pub IsUnread : Name → Failure → Type 0

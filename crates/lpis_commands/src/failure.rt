@@ -59,6 +59,8 @@ pub enum Failure {
     Write(Name),
     /// The database failed.
     Store,
+    /// The database itself ran out of memory; reported as a database that failed.
+    StoreMemory,
 }
 
 impl From<AllocError> for Failure {
@@ -87,6 +89,7 @@ pub fn print_failure<W: Write>(failure: Failure, out: &mut W) -> Result<(), Prin
         Failure::Read(name) => write!(out, "failed read {}\n", name.as_str())?,
         Failure::Write(name) => write!(out, "failed write {}\n", name.as_str())?,
         Failure::Store => out.write_all(b"failed store\n")?,
+        Failure::StoreMemory => out.write_all(b"failed store\n")?,
     }
     Ok(())
 }

@@ -1,5 +1,5 @@
 -- What a release that may follow needs, and why one is refused.
-use Rattle.std.proofs.Common.{◌≡◌, ◌<◌, ◌⊎◌, inl, inr, ℕ, List, [], Some, refl, sym, subst}
+use Rattle.std.proofs.Common.{◌≢◌, ◌≡◌, ◌<◌, ◌⊎◌, inl, inr, ℕ, List, [], Some, refl, sym, subst}
 use Rattle.lpis_register.proofs.Common.{Entry, Row, Shape, last_live}
 use Rattle.lpis_cert.specs.declared.part.ExactBlock.{ExactBlock}
 use Rattle.lpis_exact_lineage.specs.declared.asking.AskFault.{AskFault}
@@ -15,7 +15,7 @@ use Rattle.lpis_register_rows.specs.Tells.{AreFresh, IsWriting}
 use Rattle.lpis_register.specs.Accepting.{IsStep}
 use Rattle.lpis_register.specs.Faults.{IsRefused}
 use Rattle.lpis_register.specs.declared.accepting.Step.{Step}
-use Rattle.lpis_register.specs.declared.fault.PublishFault.TheVariants.{Memory, Lineage, Store}
+use Rattle.lpis_register.specs.declared.fault.PublishFault.TheVariants.{Memory, Lineage, Store, StoreMemory}
 use Rattle.lpis_register.specs.Passing.{of_asking, of_lineage}
 
 -- the identifiers, the faultless change and the fresh identifiers found for a release make its step
@@ -45,13 +45,16 @@ lineage_told (lineage.UsedBefore id year) = inr refl
 lineage_told (lineage.MarkedOutside row) = inr refl
 
 -- no fault of a lineage is reported as a failure of the store
-pub no_store_lineage : (fault : LineageFault) → of_lineage fault ≡ Store → ⊥
-no_store_lineage fault is = elim (lineage_told fault) [ inl memory ↦ cc (memory, is) | inr told ↦ cc (told, is) ]
+pub no_store_lineage : (fault : LineageFault) → (of_lineage fault ≢ Store) × (of_lineage fault ≢ StoreMemory)
+no_store_lineage fault = elim (lineage_told fault) [
+  | inl memory ↦ (λ is. cc (memory, is), λ is. cc (memory, is))
+  | inr told ↦ (λ is. cc (told, is), λ is. cc (told, is))
+]
 
 -- no fault of what exact groups ask for is reported as a failure of the store
-pub no_store_asking : (fault : AskFault) → of_asking fault ≡ Store → ⊥
-no_store_asking ask.Memory is = cc is
-no_store_asking (ask.NotKept id) is = cc is
+pub no_store_asking : (fault : AskFault) → (of_asking fault ≢ Store) × (of_asking fault ≢ StoreMemory)
+no_store_asking ask.Memory = (λ is. cc is, λ is. cc is)
+no_store_asking (ask.NotKept id) = (λ is. cc is, λ is. cc is)
 
 module _ (h : List Entry) (kept : List Shape) (year : ℕ) (r : Contents) (blocks : List ExactBlock) (rows : List Row) (later : last_year h < year) where
   pub refused_lineage : (live : List (List ℕ)) (fault : LineageFault) → live ≡ parcel_ids r.parcels → (fault ≡ lineage.Memory) ⊎ (first (faults h live rows) ≡ Some fault)

@@ -2,8 +2,8 @@
 use Rattle.std.proofs.Common.{◌≡◌, ◌⊎◌, inl, inr, ℕ, List, Result, Ok, Err, OnOk, OnErr, refl, sym, subst}
 use Rattle.lpis_cert.specs.declared.part.ExactBlock.{ExactBlock}
 use Rattle.lpis_parcels.specs.Release.{Contents}
-use Rattle.lpis_register.specs.Faults.{IsRefused, IsOpeningFault}
-use Rattle.lpis_register.specs.declared.fault.PublishFault.TheVariants.{Memory, Year, Lineage, NotKept, Exact, Store, Unknown}
+use Rattle.lpis_register.specs.Faults.{IsStoreFault, IsRefused, IsOpeningFault}
+use Rattle.lpis_register.specs.declared.fault.PublishFault.TheVariants.{Memory, Year, Lineage, NotKept, Exact, Store, StoreMemory, Unknown}
 use Rattle.lpis_register.proofs.Common.{Entry, Row, IsFailure, PublishFault, Shape, Unlawful}
 
 -- what a promise of Ok implies is a promise of Ok
@@ -24,6 +24,7 @@ opening_failure (Lineage fault) f = f
 opening_failure (NotKept id) f = f
 opening_failure (Exact fault) f = f
 opening_failure Store f = tt
+opening_failure StoreMemory f = f
 opening_failure Unknown f = f
 opening_failure Unlawful f = tt
 
@@ -39,11 +40,13 @@ lawful_failure (Lineage fault) k never = k
 lawful_failure (NotKept id) k never = k
 lawful_failure (Exact fault) k never = k
 lawful_failure Store k never = tt
+lawful_failure StoreMemory k never = k
 lawful_failure Unknown k never = k
 lawful_failure Unlawful k never = never refl
 
 -- what failed beside the call tells nothing of the release
-pub failure_refused : (h : List Entry) (kept : List Shape) (year : ℕ) (r : Contents) (blocks : List ExactBlock) (rows : List Row) (X : Type 0) (e : PublishFault) → (e ≡ Store) ⊎ ((e ≡ Memory) × X)
+pub failure_refused : (h : List Entry) (kept : List Shape) (year : ℕ) (r : Contents) (blocks : List ExactBlock) (rows : List Row) (X : Type 0) (e : PublishFault) → IsStoreFault e ⊎ ((e ≡ Memory) × X)
     → IsRefused h kept year r blocks rows e
-failure_refused h kept year r blocks rows X e (inl is) = subst (IsRefused h kept year r blocks rows) (sym is) tt
+failure_refused h kept year r blocks rows X e (inl (inl is)) = subst (IsRefused h kept year r blocks rows) (sym is) tt
+failure_refused h kept year r blocks rows X e (inl (inr is)) = subst (IsRefused h kept year r blocks rows) (sym is) tt
 failure_refused h kept year r blocks rows X e (inr is) = subst (IsRefused h kept year r blocks rows) (sym is.0) tt

@@ -1,5 +1,5 @@
 -- A release that may follow a history, with all that writing it takes.
-use Rattle.std.specs.Prelude.{◌≡◌, ◌<◌, [], ℕ, List}
+use Rattle.std.specs.Prelude.{◌≡◌, ◌<◌, [], ℕ, List, map}
 use Rattle.lpis_cert.specs.declared.part.ExactBlock.{ExactBlock}
 use Rattle.lpis_exact_lineage.specs.Asking.{IsShown, kinds_from}
 use Rattle.lpis_exact_lineage.specs.ExactLineage.{IsExactLineage, ShapesTurnOnce}
@@ -12,6 +12,7 @@ use Rattle.lpis_lineage.specs.Lineage.{last_live, last_year}
 use Rattle.lpis_parcels.specs.declared.parcel.Parcel.{Parcel}
 use Rattle.lpis_parcels.specs.Release.{Contents, parcel_ids}
 use Rattle.lpis_register_rows.specs.Shapes.{AreLive, AreShapesOf, Shape, ShapesAre}
+use Rattle.lpis_register_rows.specs.Shapes.{written_text}
 use Rattle.lpis_register_rows.specs.Tells.{IsWriting}
 use Rattle.lpis_register.specs.declared.accepting.Accepted.{Accepted}
 use Rattle.lpis_register.specs.declared.accepting.Kept.{Kept}
@@ -25,11 +26,12 @@ pub record IsStep (h : List Entry) (live : List (List ℕ)) (rows : List Row) (s
     pub change_is : IsChange (last_live h) live rows step.change
     pub writing : IsWriting h live step.change.dropped_ids step.fresh.items
 
--- the shapes of these parcels, and their texts
+-- the shapes of these parcels, and their texts as they are written
 pub record AreKept (parcels : List Parcel) (kept : Kept) : Type 0 where
   pub shapes_are : AreShapesOf parcels kept.shapes.items
   pub live : AreLive (parcel_ids parcels) kept.shapes.items
   pub texts_are : ShapesAre kept.texts.items kept.shapes.items
+  pub written : kept.texts.items ≡ map written_text kept.shapes.items
 
 -- the release of this year, of these parcels and with these rows may follow this history by its
 -- lineage, and this is what writing it takes

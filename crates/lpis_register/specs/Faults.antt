@@ -1,5 +1,5 @@
 -- Which faults a call may answer.
-use Rattle.std.specs.Prelude.{◌≡◌, ◌≢◌, ◌<◌, ◌≤◌, ℕ, List, Some, Result, Ok, Err}
+use Rattle.std.specs.Prelude.{◌≡◌, ◌≢◌, ◌<◌, ◌≤◌, ◌⊎◌, ℕ, List, Some, Result, Ok, Err}
 use Rattle.lpis_checker.specs.declared.exact.ExactFault.TheVariants as exact
 use Rattle.lpis_cert.specs.declared.part.ExactBlock.{ExactBlock}
 use Rattle.lpis_exact_lineage.specs.Asking.{IsShown, IsUnkept, IsUnshown}
@@ -12,7 +12,8 @@ use Rattle.lpis_register_rows.specs.Shapes.{Shape}
 use Rattle.lpis_register.specs.declared.fault.PublishFault.{PublishFault}
 use Rattle.lpis_register.specs.declared.fault.PublishFault.TheVariants.{Memory, Year, Lineage}
 use Rattle.lpis_register.specs.declared.fault.PublishFault.TheVariants.{NotKept, Exact, Store}
-use Rattle.lpis_register.specs.declared.fault.PublishFault.TheVariants.{Unknown, Unlawful}
+use Rattle.lpis_register.specs.declared.fault.PublishFault.TheVariants.{StoreMemory, Unknown}
+use Rattle.lpis_register.specs.declared.fault.PublishFault.TheVariants.{Unlawful}
 
 -- after this history, when these shapes are kept, a release of this year with these blocks of its
 -- certificate and these rows of lineage
@@ -31,6 +32,7 @@ module _ (h : List Entry) (kept : List Shape) (year : ℕ) (r : Contents) (block
   IsRefused (Exact fault) =
       (last_year h < year) × (fault ≢ exact.Memory) × IsUnshown h kept r blocks rows fault
   IsRefused Store = Unit {0}
+  IsRefused StoreMemory = Unit {0}
   IsRefused Unknown = ⊥
   IsRefused Unlawful = ⊥
 
@@ -47,8 +49,19 @@ IsOpeningFault Store = Unit {0}
 IsOpeningFault Unlawful = Unit {0}
 IsOpeningFault _ = ⊥
 
--- what failed beside the call
+-- a failure of an opening or a reading: memory ran out, or the database failed
 abbrev pub IsFailure : PublishFault → Type 0
 IsFailure Memory = Unit {0}
 IsFailure Store = Unit {0}
 IsFailure _ = ⊥
+
+-- the database failed, or itself ran out of memory, while a release was written
+abbrev pub IsStoreFault : PublishFault → Type 0
+IsStoreFault fault = (fault ≡ Store) ⊎ (fault ≡ StoreMemory)
+
+-- what the refusals above say nothing of: memory ran out, or the database failed
+abbrev pub IsSetAside : PublishFault → Type 0
+IsSetAside Memory = Unit {0}
+IsSetAside Store = Unit {0}
+IsSetAside StoreMemory = Unit {0}
+IsSetAside _ = ⊥

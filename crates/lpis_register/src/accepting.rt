@@ -1,6 +1,6 @@
 //! A release that may follow, with all that publishing it needs. Nothing is changed here.
 
-ghost use Rattle.std.specs.Prelude.{◌≡◌, ◌<◌, [], ℕ, List, IfOk, IfErr, OnOk};
+ghost use Rattle.std.specs.Prelude.{◌≡◌, ◌≢◌, ◌<◌, [], ℕ, List, IfOk, IfErr, OnOk};
 ghost use Rattle.lpis_cert.specs.declared.part.ExactBlock.{ExactBlock};
 ghost use Rattle.lpis_checker.specs.SoundMap.{IsSoundMap};
 ghost use Rattle.lpis_exact_lineage.specs.Asking.{IsShown};
@@ -15,7 +15,7 @@ ghost use Rattle.lpis_register_rows.specs.Shapes.{Shape, shape_ids};
 ghost use Rattle.lpis_register.specs.Accepting.{AreKept, IsStep};
 ghost use Rattle.lpis_register.specs.Faults.{IsRefused};
 ghost use Rattle.lpis_register.specs.private.Answering.{AnswersRelease};
-ghost use Rattle.lpis_register.specs.declared.fault.PublishFault.TheVariants.{Store};
+ghost use Rattle.lpis_register.specs.declared.fault.PublishFault.TheVariants.{Store, StoreMemory};
 
 use crate::fault::PublishFault;
 use lpis_cert::Cert;
@@ -92,7 +92,7 @@ fn step_of(
         → IfErr result (IsRefused history.now kept year release.now blocks rows.now) }
     ensures step { IfOk result
         (IsStep history.now (parcel_ids release.now.parcels) rows.now) }
-    ensures no_store { IfErr result (λ fault. (fault ≡ Store) → ⊥) }
+    ensures no_store { IfErr result (λ fault. (fault ≢ Store) × (fault ≢ StoreMemory)) }
 {
     let live = ids_of(alloc, release.parcels())?;
     let change = accept(alloc, history, live.as_slice(), rows)?;
@@ -123,7 +123,7 @@ fn check_groups(
         → faults h (parcel_ids release.now.parcels) rows ≡ []
         → IsChange (last_live h) (parcel_ids release.now.parcels) rows change.now
         → IfErr result (IsRefused h kept.now year release.now cert.now.exact rows) }
-    ensures no_store { IfErr result (λ fault. (fault ≡ Store) → ⊥) }
+    ensures no_store { IfErr result (λ fault. (fault ≢ Store) × (fault ≢ StoreMemory)) }
 {
     let parts = wanted_parts(alloc, change, kept, release)?;
     check_exact(alloc, cert, parts.as_slice())?;

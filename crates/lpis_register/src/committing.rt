@@ -1,20 +1,28 @@
 //! Writing a release that was accepted.
 
-ghost use Rattle.std.specs.Prelude.{◌≡◌, ◌⊎◌, false, IfErr, List, OnErr, ℕ};
+ghost use Rattle.std.specs.Prelude.{◌≡◌, ◌⊎◌, false, true, IfErr, IsTrue, List, OnErr, ℕ};
 ghost use Rattle.sqlite.specs.Held.{state};
+ghost use Rattle.sqlite.specs.State.{HasCleanDisk};
+ghost use Rattle.sqlite.specs.declared.error.Error.TheVariants.{SqliteFailure};
+ghost use Rattle.sqlite.specs.declared.error.ErrorCode.TheVariants.{OutOfMemory};
 ghost use Rattle.lpis_lineage.specs.declared.row.Entry.{Entry};
 ghost use Rattle.lpis_lineage.specs.declared.row.Row.{Row};
+ghost use Rattle.lpis_lineage.specs.Lineage.{last_year};
 ghost use Rattle.lpis_parcels.specs.declared.parcel.Parcel.{Parcel};
+ghost use Rattle.lpis_register_sql.specs.Stopping.{Stops};
 ghost use Rattle.lpis_register.specs.Accepting.{IsPrepared};
+ghost use Rattle.lpis_register.specs.Failing.{HasStoreCause, accepted_statements};
+ghost use Rattle.lpis_register.specs.Faults.{IsStoreFault};
 ghost use Rattle.lpis_register.specs.private.Writes.{Commits, EndsWithRelease, IsToWrite, Writes};
 ghost use Rattle.lpis_register.specs.declared.fault.PublishFault.TheVariants.{Memory, Store};
+ghost use Rattle.lpis_register.specs.declared.fault.PublishFault.TheVariants.{StoreMemory};
 
 use crate::accepting::Accepted;
 use crate::fault::PublishFault;
 use lpis_lineage::History;
 use lpis_register_rows::{publishing_adds_the_release, texts_keep_one_list_of_shapes};
 use lpis_register_sql::write_release;
-use sqlite::{Alter, Connection, Error};
+use sqlite::{Alter, Connection, Error, ErrorCode};
 
 /// Writes an accepted release, which stands at a history's end already, in one transaction: tables
 /// that hold the history before it hold the whole one afterwards, and with an error the one before.
@@ -28,6 +36,9 @@ fn write_at_end<S: Alter>(
     ensures autocommit { conn.new.in_transaction ≡ false }
     ensures writes { Writes history.now last accepted.now (state S.Store conn.old)
         (state S.Store conn.new) result }
+    ensures stops { IsTrue (state S.Store conn.old).is_open → HasCleanDisk (state S.Store conn.new)
+        → IfErr result (Stops S.Store (accepted_statements last accepted.now)
+        (record conn.old { in_transaction = true }) conn.new) }
 {
     let _ = history.releases();
     publishing_adds_the_release();
@@ -63,6 +74,18 @@ fn grow(history: &mut History, accepted: &Accepted) -> Result<(), PublishFault>
     }
 }
 
+/// Why the database did not write a release. It says itself where it ran out of memory.
+fn fault_of_writing(error: Error) -> PublishFault
+    ensures either { IsStoreFault result }
+    ensures memory { error ≡ SqliteFailure OutOfMemory → result ≡ StoreMemory }
+    ensures of_memory { result ≡ StoreMemory → error ≡ SqliteFailure OutOfMemory }
+{
+    match error {
+        Error::SqliteFailure(ErrorCode::OutOfMemory) => PublishFault::StoreMemory,
+        _ => PublishFault::Store,
+    }
+}
+
 /// Writes an accepted release, which stands at the history's end already, or takes it back.
 fn write_or_take_back<S: Alter>(
     conn: &mut Connection<S>,
@@ -75,13 +98,15 @@ fn write_or_take_back<S: Alter>(
     ensures commits { (h : List Entry) (due : IsToWrite history.old last accepted.now h)
         → Commits h history.new due.year due.parcels due.rows accepted.now (state S.Store conn.old)
         (state S.Store conn.new) result }
-    ensures fault { IfErr result (λ e. e ≡ Store) }
+    ensures failure { IfErr result IsStoreFault }
+    ensures cause { IfErr result (λ fault. HasStoreCause S.Store last accepted.now conn.old conn.new
+        (fault ≡ Store)) }
 {
     match write_at_end(conn, history, last, accepted) {
         Ok(()) => Ok(()),
-        Err(_) => {
+        Err(error) => {
             history.take_back();
-            Err(PublishFault::Store)
+            Err(fault_of_writing(error))
         }
     }
 }
@@ -102,8 +127,10 @@ pub(crate) fn commit_release<S: Alter>(
         → IsPrepared history.old year parcels rows accepted.now
         → Commits history.old history.new year parcels rows accepted.now (state S.Store conn.old)
         (state S.Store conn.new) result }
-    ensures untouched { IfErr result (λ fault. (fault ≡ Store)
+    ensures untouched { IfErr result (λ fault. IsStoreFault fault
         ⊎ ((fault ≡ Memory) × (conn.new ≡ conn.old))) }
+    ensures cause { IfErr result (λ fault. HasStoreCause S.Store (last_year history.old)
+        accepted.now conn.old conn.new (fault ≡ Store)) }
 {
     let last = history.last_year();
     match grow(history, accepted) {

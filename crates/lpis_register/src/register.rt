@@ -1,19 +1,21 @@
 //! The register.
 
-ghost use Rattle.std.specs.Prelude.{◌≡◌, ◌⊎◌, false, IfOk, IfErr, List, ℕ};
+ghost use Rattle.std.specs.Prelude.{◌≡◌, ◌≢◌, ◌⊎◌, false, IfOk, IfErr, List, ℕ};
 ghost use Rattle.std.proofs.Props.{props};
 ghost use Rattle.sqlite.specs.Held.{state};
 ghost use Rattle.lpis_cert.specs.declared.part.ExactBlock.{ExactBlock};
+ghost use Rattle.lpis_lineage.specs.Lineage.{last_year};
 ghost use Rattle.lpis_lineage.specs.Order.{IsAscending};
 ghost use Rattle.lpis_lineage.specs.declared.row.Row.{Row};
 ghost use Rattle.lpis_parcels.specs.Release.{Contents};
 ghost use Rattle.lpis_register_rows.specs.Shapes.{shape_ids};
 ghost use Rattle.lpis_register.specs.Accepting.{IsAccepted, WasMadeFor};
-ghost use Rattle.lpis_register.specs.Faults.{PublishTells};
+ghost use Rattle.lpis_register.specs.Failing.{FailsToStore, HasStoreCause};
+ghost use Rattle.lpis_register.specs.Faults.{IsStoreFault, PublishTells};
 ghost use Rattle.lpis_register.specs.Histories.{IsTrace, IsUnknown, ReadsHistory};
 ghost use Rattle.lpis_register.specs.Publishing.{Publishes, Stores};
 ghost use Rattle.lpis_register.specs.declared.fault.PublishFault.TheVariants.{Memory, Store};
-ghost use Rattle.lpis_register.specs.declared.fault.PublishFault.TheVariants.{Unknown};
+ghost use Rattle.lpis_register.specs.declared.fault.PublishFault.TheVariants.{StoreMemory, Unknown};
 
 use crate::accepting::{Accepted, accept_release};
 use crate::committing::commit_release;
@@ -105,7 +107,7 @@ impl<S: Alter> Register<S> {
             cert.now.exact rows.now result }
         ensures made { IfOk result (IsAccepted self.now.history self.now.shapes.items year yes.now
             cert.now.exact rows.now) }
-        ensures no_store { IfErr result (λ fault. (fault ≡ Store) → ⊥) }
+        ensures no_store { IfErr result (λ fault. (fault ≢ Store) × (fault ≢ StoreMemory)) }
     {
         let shapes = self.shapes.as_slice();
         accept_release(self.alloc, &self.history, shapes, year, yes, rows, cert)
@@ -125,8 +127,10 @@ impl<S: Alter> Register<S> {
             → Stores self.old.history year r.parcels rows self.old.shapes.items self.new.history
             self.new.shapes.items (state S.Store self.old.conn) (state S.Store self.new.conn)
             result }
-        ensures untouched { IfErr result (λ fault. (fault ≡ Store)
+        ensures untouched { IfErr result (λ fault. IsStoreFault fault
             ⊎ ((fault ≡ Memory) × (self.new.conn ≡ self.old.conn))) }
+        ensures cause { IfErr result (λ fault. HasStoreCause S.Store (last_year self.old.history)
+            accepted self.old.conn self.new.conn (fault ≡ Store)) }
     {
         match commit_release(&mut self.conn, &mut self.history, &accepted) {
             Ok(()) => {
@@ -157,8 +161,13 @@ impl<S: Alter> Register<S> {
         ensures stores { Stores self.old.history year yes.now.parcels rows.now
             self.old.shapes.items self.new.history self.new.shapes.items
             (state S.Store self.old.conn) (state S.Store self.new.conn) result }
-        ensures untouched { IfErr result (λ fault. (fault ≡ Store)
+        ensures untouched { IfErr result (λ fault. IsStoreFault fault
             ⊎ (self.new.conn ≡ self.old.conn)) }
+        // Such a fault comes where the release was accepted; `Store` where the database was shut,
+        // its disk failed, or the engine refuses one of the release's statements.
+        ensures cause { IfErr result (λ fault. IsStoreFault fault → FailsToStore S.Store
+            self.old.history self.old.shapes.items year yes.now cert.now.exact rows.now
+            self.old.conn self.new.conn (fault ≡ Store)) }
     {
         match self.accept(year, yes, rows, cert) {
             Ok(accepted) => self.commit(accepted),

@@ -362,8 +362,8 @@ due-now g h lines from ys i lt front a b l =
     record { front = front; more = omega (arith, at, m, lt); year_is = ap (λ (k : ℕ). (entry_at h k).year) at ∙ year-at-index h ys i b lt; lines_are = l }
 
 -- the first i years with the next one after them are the first i + 1 years
-pub years-more : (ys : List ℕ) (i : ℕ) (old new : List ℤ) → i < length ys → old ≡ map (λ y. pos y) (take i ys) → new ≡ old ++ pos (get_or ys i 0) ∷ [] → new ≡ map (λ y. pos y) (take (i + 1) ys)
-years-more ys i old new lt o n =
+pub years-front-next : (ys : List ℕ) (i : ℕ) (old new : List ℤ) → i < length ys → old ≡ map (λ y. pos y) (take i ys) → new ≡ old ++ pos (get_or ys i 0) ∷ [] → new ≡ map (λ y. pos y) (take (i + 1) ys)
+years-front-next ys i old new lt o n =
     n ∙ ap (λ (l : List ℤ). l ++ pos (get_or ys i 0) ∷ []) o ∙ sym (map-append (λ (y : ℕ). pos y) (take i ys) (get_or ys i 0 ∷ []))
     ∙ ap (λ (l : List ℕ). map (λ y. pos y) l) (take-at ys i (get_or ys i 0) lt (get_or_default ys i 0 (get_or ys i 0) lt))
 

@@ -145,8 +145,8 @@ lines-push y n m [] r e = let s : n ≡ m = omega (arith, e) in ap (λ (k : ℕ)
 lines-push y n m (q ∷ rs) r e = ap (λ (l : List KnownLine). (record { year = y; position = pos n; row = q }) ∷ l) (lines-push y (n + 1) m rs r (omega (arith, e)))
 
 -- the rows of a year, one further
-pub rows-more : (y : ℤ) (front here next : List KnownLine) (rs new : List Row) (r : Row) (m : ℕ) → here ≡ front ++ known_from y 0 rs
+pub known-rows-next : (y : ℤ) (front here next : List KnownLine) (rs new : List Row) (r : Row) (m : ℕ) → here ≡ front ++ known_from y 0 rs
     → next ≡ here ++ known_from y m (r ∷ []) → m ≡ length rs → new ≡ rs ++ r ∷ [] → next ≡ front ++ known_from y 0 new
-rows-more y front here next rs new r m h n e w =
+known-rows-next y front here next rs new r m h n e w =
     n ∙ ap (λ (l : List KnownLine). l ++ known_from y m (r ∷ [])) h ∙ append_assoc front (known_from y 0 rs) (known_from y m (r ∷ []))
     ∙ ap (λ (l : List KnownLine). front ++ l) (sym (lines-push y 0 m rs r (omega (arith, e))) ∙ ap (known_from y 0) (sym w))

@@ -4,12 +4,12 @@ use Rattle.lpis_register_rows.proofs.Common.{list_any, has_id, same_id, Entry, R
 use Rattle.lpis_register_rows.proofs.Common.{before-at-after, KnownLine, KnownSpan, StoredSpan, known_from, known_of}
 use Rattle.lpis_register_rows.proofs.Common.{years_of, covers, SetsAre, span_in}
 use Rattle.lpis_register_rows.proofs.KnownLemmas.{AreLive}
-use Rattle.lpis_register_rows.proofs.PublishingLemmas.{years-more}
+use Rattle.lpis_register_rows.proofs.PublishingLemmas.{years-of-append}
 use Rattle.std.proofs.lemmas.List.{append-nil, append_assoc}
 
 -- adding a release adds its year after the others of the history
 pub year-added : (h k : List Entry) (y : ℕ) (live : List (List ℕ)) (rows : List Row) → Adds h k y live rows → years_of k ≡ years_of h ++ pos y ∷ []
-year-added h k y live rows (e, k-is, year-is, is) = ap years_of k-is ∙ years-more h e ∙ ap (λ (n : ℕ). years_of h ++ pos n ∷ []) year-is
+year-added h k y live rows (e, k-is, year-is, is) = ap years_of k-is ∙ years-of-append h e ∙ ap (λ (n : ℕ). years_of h ++ pos n ∷ []) year-is
 
 known-more : (h : List Entry) (e : Entry) → known_of (h ++ e ∷ []) ≡ known_of h ++ known_from (pos e.year) 0 e.rows
 known-more [] e = append-nil (known_from (pos e.year) 0 e.rows)

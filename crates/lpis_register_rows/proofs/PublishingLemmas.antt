@@ -27,9 +27,9 @@ use Rattle.lpis_register_rows.proofs.SpanRowLemmas.{spans-moved, told-some}
 -- ---- years and rows of one release more
 
 -- the years of a history with one release more are its years, and then that of the release
-pub years-more : (h : List Entry) (e : Entry) → years_of (h ++ e ∷ []) ≡ years_of h ++ pos e.year ∷ []
-years-more [] e = refl
-years-more (x ∷ h) e = ap (λ (l : List ℤ). pos x.year ∷ l) (years-more h e)
+pub years-of-append : (h : List Entry) (e : Entry) → years_of (h ++ e ∷ []) ≡ years_of h ++ pos e.year ∷ []
+years-of-append [] e = refl
+years-of-append (x ∷ h) e = ap (λ (l : List ℤ). pos x.year ∷ l) (years-of-append h e)
 
 lines-more : (h : List Entry) (e : Entry) → lineage_lines (h ++ e ∷ []) ≡ lineage_lines h ++ lines_from (pos e.year) 0 e.rows
 lines-more [] e = append-nil (lines_from (pos e.year) 0 e.rows)
@@ -37,7 +37,7 @@ lines-more (x ∷ h) e = ap (λ (l : List Line). lines_from (pos x.year) 0 x.row
     ∙ sym (append_assoc (lines_from (pos x.year) 0 x.rows) (lineage_lines h) (lines_from (pos e.year) 0 e.rows))
 
 years-told : (ys : List ℤ) (h : List Entry) (e : Entry) → IsPermutation ys (years_of h) → IsPermutation (pos e.year ∷ ys) (years_of (h ++ e ∷ []))
-years-told ys h e m = subst (λ (l : List ℤ). IsPermutation (pos e.year ∷ ys) l) (sym (years-more h e)) (
+years-told ys h e m = subst (λ (l : List ℤ). IsPermutation (pos e.year ∷ ys) l) (sym (years-of-append h e)) (
     IsPermutation-trans (pos e.year ∷ ys) (pos e.year ∷ years_of h) (years_of h ++ pos e.year ∷ [])
     (IsPermutation-cons (pos e.year) ys (years_of h) m) (IsPermutation-sym (years_of h ++ pos e.year ∷ []) (pos e.year ∷ years_of h) (IsPermutation-to_front (years_of h) (pos e.year))))
 

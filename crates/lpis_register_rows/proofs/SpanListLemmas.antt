@@ -33,10 +33,10 @@ has-at (x ∷ xs) (suc i) id lt at = later (same_id id x) (has-at xs i id (omega
   later false e = e
 
 -- rows that are the spans of the first identifiers, one identifier further
-pub rows-more : (h : List Entry) (ids : List (List ℕ)) (i : ℕ) (id : List ℕ) (rows new : List StoredSpan) (s : StoredSpan)
+pub span-rows-next : (h : List Entry) (ids : List (List ℕ)) (i : ℕ) (id : List ℕ) (rows new : List StoredSpan) (s : StoredSpan)
     → i < length ids → id ≡ get_or ids i id → s.id ≡ id → IsSpanRow h s → new ≡ rows ++ s ∷ []
     → (map (λ (s : StoredSpan). s.id) rows ≡ take i ids) × All (IsSpanRow h) rows → (map (λ (s : StoredSpan). s.id) new ≡ take (i + 1) ids) × All (IsSpanRow h) new
-rows-more h ids i id rows new s lt at is right n inv = rw n (read-more (λ (s : StoredSpan). s.id) rows s ids i id inv.0 lt at is, All-push (IsSpanRow h) rows s inv.1 right)
+span-rows-next h ids i id rows new s lt at is right n inv = rw n (read-more (λ (s : StoredSpan). s.id) rows s ids i id inv.0 lt at is, All-push (IsSpanRow h) rows s inv.1 right)
 
 -- what a release holds has a span, and the other way round
 live-held : (h : List Entry) (i : ℕ) (q : List ℕ) → holds h i q ≡ true → has_id (all_live h) q ≡ true

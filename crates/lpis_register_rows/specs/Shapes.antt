@@ -4,6 +4,7 @@ use Rattle.std.specs.List.{AllByRecursion, AllZip}
 use Rattle.lpis_covers.specs.Ids.{has_id, is_id}
 use Rattle.lpis_rings.specs.declared.polygon.Member.{Member}
 use Rattle.lpis_wkt.specs.Text.{PolygonText}
+use Rattle.lpis_wkt_writer.specs.Text.{polygon_text}
 use Rattle.lpis_lineage.specs.Order.{IsAscending}
 use Rattle.lpis_parcels.specs.declared.parcel.Parcel.{Parcel}
 use Rattle.lpis_register_rows.specs.Content.{StoredText}
@@ -18,6 +19,10 @@ shape_ids shapes = map (λ (shape : Shape). shape.0) shapes
 -- the text is that of the shape: it bears its identifier, and spells its polygon
 abbrev pub IsTextOfShape : StoredText → Shape → Type 0
 IsTextOfShape text shape = (text.id ≡ shape.0) × PolygonText text.wkt shape.1
+
+-- the text that is written for a shape
+abbrev pub written_text : Shape → StoredText
+written_text shape = record { id = shape.0; wkt = polygon_text shape.1 }
 
 -- the texts are those of these shapes, which ascend by identifier, each once
 pub record ShapesAre (texts : List StoredText) (shapes : List Shape) : Type 0 where

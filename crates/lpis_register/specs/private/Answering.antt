@@ -1,5 +1,5 @@
 -- What accepting a release answers.
-use Rattle.std.specs.Prelude.{◌≡◌, ℕ, List, Result, IfErr, IfOk}
+use Rattle.std.specs.Prelude.{◌≢◌, ℕ, List, Result, IfErr, IfOk}
 use Rattle.lpis_cert.specs.declared.part.ExactBlock.{ExactBlock}
 use Rattle.lpis_lineage.specs.declared.row.Row.{Row}
 use Rattle.lpis_lineage.specs.declared.row.Entry.{Entry}
@@ -9,7 +9,7 @@ use Rattle.lpis_register.specs.Accepting.{IsAccepted}
 use Rattle.lpis_register.specs.Faults.{PublishTells}
 use Rattle.lpis_register.specs.declared.accepting.Accepted.{Accepted}
 use Rattle.lpis_register.specs.declared.fault.PublishFault.{PublishFault}
-use Rattle.lpis_register.specs.declared.fault.PublishFault.TheVariants.{Store}
+use Rattle.lpis_register.specs.declared.fault.PublishFault.TheVariants.{Store, StoreMemory}
 
 -- the release is refused as publishing it is, or all that publishing it needs is made; the database
 -- is not asked
@@ -18,4 +18,4 @@ pub record AnswersRelease (h : List Entry) (kept : List Shape) (year : ℕ) (r :
   where
     pub tells : PublishTells h kept year r blocks rows answer
     pub made : IfOk answer (IsAccepted h kept year r blocks rows)
-    pub no_store : IfErr answer (λ fault. (fault ≡ Store) → ⊥)
+    pub no_store : IfErr answer (λ fault. (fault ≢ Store) × (fault ≢ StoreMemory))

@@ -1,5 +1,7 @@
 use Rattle.lpis_register.proofs.Common.{state}
 use Rattle.lpis_register.proofs.CommittingLemmas.{not_begun}
+use Rattle.lpis_register.proofs.FailingLemmas.{fails_after}
+use Rattle.lpis_lineage.specs.Lineage.{last_year}
 use Rattle.lpis_register.proofs.committing.commit_release.Goals as goal
 
 pub returns-in-Ok-clause-commits : goal.returns-in-Ok-clause-commits
@@ -9,3 +11,8 @@ returns-in-Ok-clause-commits g c year parcels rows made =
 
 pub returns-in-Err-clause-commits : goal.returns-in-Err-clause-commits
 returns-in-Err-clause-commits g c year parcels rows made = not_begun c.args.history.now _ year parcels rows c.args.accepted.now (state g.S.Store c.args.conn.now) c.in-Err.ensures.refused _
+
+pub returns-in-Ok-clause-cause : goal.returns-in-Ok-clause-cause
+returns-in-Ok-clause-cause g c =
+    fails_after g.S.Store c.last_year-last.result (last_year c.args.history.now) c.args.accepted.now c.args.conn.now c.write_or_take_back.new.conn c.write_or_take_back.result c.last_year-last.ensures
+    c.write_or_take_back.ensures.cause

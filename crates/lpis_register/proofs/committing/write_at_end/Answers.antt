@@ -1,6 +1,7 @@
-use Rattle.std.proofs.Common.{arith}
+use Rattle.std.proofs.Common.{arith, true}
 use Rattle.lpis_register.proofs.Common.{state}
 use Rattle.lpis_register.proofs.CommittingLemmas.{statements_write}
+use Rattle.lpis_register.proofs.FailingLemmas.{stops_as}
 use Rattle.lpis_register.proofs.committing.write_at_end.Goals as goal
 
 pub returns-clause-writes : goal.returns-clause-writes
@@ -10,3 +11,10 @@ returns-clause-writes g c =
     c.from.result c.from-2.result c.dropped.result.now c.as_slice.result.now c.rows.result.now c.as_slice-2.result.now
     c.from.ensures c.from-2.ensures c.dropped.ensures.list c.as_slice.ensures.value c.rows.ensures c.as_slice-2.ensures.value (omega arith)
     (state g.S.Store c.args.conn.now) (state g.S.Store c.write_release.new.conn) c.write_release.result c.write_release.ensures.writes
+
+pub returns-clause-stops : goal.returns-clause-stops
+returns-clause-stops g c up clean =
+    stops_as g.S.Store c.args.last c.args.accepted.now c.from.result c.from-2.result c.dropped.result.now c.as_slice.result.now c.rows.result.now c.as_slice-2.result.now
+    c.from.ensures c.from-2.ensures c.dropped.ensures.list c.as_slice.ensures.value c.rows.ensures c.as_slice-2.ensures.value
+    (record c.args.conn.now { in_transaction = true }) c.write_release.new.conn c.write_release.result
+    (c.write_release.ensures.stops up clean)

@@ -1,5 +1,7 @@
 use Rattle.lpis_register.proofs.Common.{state}
 use Rattle.lpis_register.proofs.CommittingLemmas.{write_commits, taken_back}
+use Rattle.lpis_register.proofs.FailingLemmas.{fails_to_run}
+use Rattle.lpis_register.specs.Failing.{accepted_statements}
 use Rattle.lpis_register.proofs.committing.write_or_take_back.Goals as goal
 
 pub returns-in-Ok-clause-commits : goal.returns-in-Ok-clause-commits
@@ -11,3 +13,8 @@ returns-in-Err-clause-commits g c h due =
     let adds = due.follows.adds in
     taken_back c.args.history.now c.args.last c.args.accepted.now h due (state g.S.Store c.args.conn.now) (state g.S.Store c.write_at_end.new.conn) _ _ _ (c.take_back.ensures h adds.0 adds.1)
     c.in-Err.ensures.writes
+
+pub returns-in-Err-clause-cause : goal.returns-in-Err-clause-cause
+returns-in-Err-clause-cause g c clean is =
+    fails_to_run g.S.Store (accepted_statements c.args.last c.args.accepted.now) c.args.conn.now c.write_at_end.new.conn c.in-Err.error c.fault_of_writing.result c.fault_of_writing.ensures.memory is
+    (λ up. c.in-Err.ensures.stops up clean)

@@ -1,12 +1,12 @@
 use Rattle.std.proofs.Common.{◌+◌, ◌∷◌, [], ap, arith, length, length-append, pos, take, rules, List}
 use Rattle.lpis_register_rows.proofs.Common.{err_from_is_err_and, Row}
 use Rattle.lpis_register_rows.proofs.FrontLemmas.{run-end, run-more, run-position}
-use Rattle.lpis_register_rows.proofs.KnownLemmas.{no-both, rows-more}
+use Rattle.lpis_register_rows.proofs.KnownLemmas.{no-both, known-rows-next}
 use Rattle.lpis_register_rows.proofs.opening.rows_of_year.Goals as goal
 
 pub lines-preserved : goal.lines-preserved
 lines-preserved c = (
-  rows-more (pos c.args.year) (take c.args.from c.args.lines.now) (take c.lines.next c.args.lines.now) (take (c.lines.next + 1) c.args.lines.now)
+  known-rows-next (pos c.args.year) (take c.args.from c.args.lines.now) (take c.lines.next c.args.lines.now) (take (c.lines.next + 1) c.args.lines.now)
       c.lines.rows.items c.push.new.self.items c.in_ok-row.row c.len.result c.lines.invariant.0 c.in_ok-row.ensures.row (search rules) c.in_ok-push.ensures.items,
   c.is_of_year.ensures.within c.lines-test.true,
   (let e = c.lines.invariant.2 in let n = ap (λ (l : List Row). length l) c.in_ok-push.ensures.items in let m = length-append c.lines.rows.items (c.in_ok-row.row ∷ []) in omega (arith, e, n, m)),
