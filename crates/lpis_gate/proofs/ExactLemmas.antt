@@ -18,7 +18,8 @@ use Rattle.lpis_commands.specs.Status.{done}
 use Rattle.lpis_gate.specs.ExactAnswer.{HasBlocks, IsExactAnswer, blocks_line, unfilled_line}
 use Rattle.lpis_gate.specs.Submission.{Submission}
 use Rattle.lpis_gate.specs.private.ExactRuns.{IsBlocksOutcome, filled_with, refused_with}
-use Rattle.lpis_gate.specs.private.Saying.{IsFaultAnswer, IsSubmitted}
+use Rattle.lpis_gate.specs.Submission.{IsSubmitted}
+use Rattle.lpis_gate.specs.private.Saying.{IsFaultAnswer}
 use Rattle.lpis_gate.proofs.SubmissionLemmas.{answer-said, answer-unsaid}
 
 -- ---- the names of parts

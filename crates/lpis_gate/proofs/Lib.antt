@@ -3,4 +3,5 @@ pub mod BlocksLemmas
 pub mod ExactLemmas
 pub mod MarkedLemmas
 pub mod PublishLemmas
+pub mod RunLemmas
 pub mod SubmissionLemmas

@@ -1,7 +1,10 @@
 -- What a history answers to a release, and what is known of a release that was added to it.
-use Rattle.std.proofs.Common.{◌≡◌, ◌∙◌, ◌++◌, ◌∷◌, [], inl, inr, refl, sym, ap, ap₂, subst, ℕ, List, Bool, Option, Result, Ok, Err, IfOk, OnOk, flat_map, true}
-use Rattle.lpis_gate.proofs.Common.{Appends, Answer, Cert, Contents, kind_at, lineage_line}
+use Rattle.std.proofs.Common.{◌≡◌, ◌∙◌, ◌++◌, ◌∷◌, [], inl, inr, refl, sym, ap, ap₂, subst, subst₂, ℕ, List, Bool, Option, Result, Ok, Err, IfErr, IfOk, flat_map, true}
+use Rattle.lpis_gate.proofs.Common.{Answer, Cert, Contents, kind_at, lineage_line}
+use Rattle.sqlite.specs.Held.{Held}
 use Rattle.sqlite.specs.State.{HasCleanDisk, State}
+use Rattle.sqlite_trees.specs.declared.store.Store.{Ghosts}
+use Rattle.lpis_cert.specs.declared.part.ExactBlock.{ExactBlock}
 use Rattle.std.specs.List.{list_any}
 use Rattle.std.specs.Prelude.{IsTrue}
 use Rattle.std.proofs.lemmas.Bool.{and_parts}
@@ -18,7 +21,7 @@ use Rattle.lpis_lineage.specs.Descendants.{leads}
 use Rattle.lpis_lineage.specs.Faults.{faults}
 use Rattle.lpis_lineage.specs.Kinds.{kind}
 use Rattle.lpis_lineage.specs.Lawful.{IsAnswered}
-use Rattle.lpis_lineage.specs.Lineage.{is_row_of, last_live, names_successor}
+use Rattle.lpis_lineage.specs.Lineage.{is_row_of, last_live, last_year, names_successor}
 use Rattle.lpis_lineage.specs.Order.{IsAscending}
 use Rattle.lpis_lineage.proofs.Shared.{follows-from-clean, mono, counted-ended}
 use Rattle.lpis_checker.specs.GoodCertificate.{IsGood}
@@ -27,19 +30,19 @@ use Rattle.lpis_commands.specs.Report.{report_text}
 use Rattle.lpis_gate.specs.LineageLines.{is_left_exactly, dropped_lines, published_line}
 use Rattle.lpis_commands.specs.declared.answer.Answer.{Answer as Answered}
 use Rattle.lpis_commands.specs.declared.failure.Failure.{Failure}
-use Rattle.lpis_commands.specs.declared.failure.Failure.TheVariants.{Store}
-use Rattle.lpis_gate.specs.PublishAnswer.{PublishEnds, IsContinued, IsHistoryAnswer, IsPublishAnswer, IsPublished, MovesRegister}
-use Rattle.lpis_gate.specs.Submission.{Submission}
+use Rattle.lpis_commands.specs.declared.failure.Failure.TheVariants.{Store, StoreMemory}
+use Rattle.lpis_gate.specs.PublishAnswer.{FailsToPublish, IsContinued, IsHistoryAnswer, IsPublished}
+use Rattle.lpis_gate.specs.Stored.{IsStoreFailure, RegisterState}
+use Rattle.lpis_gate.specs.Submission.{IsSubmitted, Submission}
 use Rattle.lpis_commands.specs.Status.{done}
 use Rattle.lpis_gate.specs.private.Marked.{is_marked}
-use Rattle.lpis_gate.specs.private.PublishRuns.{IsAdded, IsStopped, PublishLeaves}
-use Rattle.lpis_gate.specs.private.Saying.{IsSubmitted}
+use Rattle.lpis_gate.specs.private.PublishRuns.{IsAdded, IsMemoryOrStore, PublishLeaves}
 use Rattle.lpis_gate.proofs.MarkedLemmas.{left-exactly}
 use Rattle.lpis_register.specs.Accepting.{IsAccepted}
+use Rattle.lpis_register.specs.Failing.{FailsToStore, HasStoreCause}
 use Rattle.lpis_register.specs.Histories.{HoldsRegister}
 use Rattle.lpis_register.specs.Publishing.{FollowsHistory}
 use Rattle.lpis_register.specs.declared.accepting.Accepted.{Accepted}
-use Rattle.lpis_register.specs.declared.fault.PublishFault.TheVariants as publish
 use Rattle.lpis_register_rows.specs.Shapes.{Shape}
 
 -- ---- the lines of a change
@@ -80,19 +83,6 @@ answer-accepted h s year r c rows a change text status made is line is_done =
 pub both-ok : {A E : Type 0} (r : Result A E) (P Q : A → Type 0) → IfOk r P → IfOk r Q → IfOk r (λ a. P a × Q a)
 both-ok (Ok a) P Q p q = (p, q)
 both-ok (Err e) P Q p q = tt
-
--- what was written is the answer, and the status is reported
-pub ends-of : (x : Submission) (year : ℕ) (a : Answer) (h : List Entry) (s : List Shape) (k : List Entry) (t : List Shape) (old new : Option (List ℕ)) (r : Result ℕ Failure)
-    → IsPublishAnswer x year h s a → MovesRegister x year a.1 h s k t
-    → IfOk r (λ status. status ≡ a.1) → OnOk r (Appends old new a.0) → IfOk r (λ status. PublishEnds x year status h s k t old new)
-ends-of x year a h s k t old new (Ok status) answer moves is written =
-    record {
-      text = a.0;
-      answer = subst (λ (n : ℕ). IsPublishAnswer x year h s (a.0, n)) (sym is) answer;
-      written = written;
-      moves = subst (λ (n : ℕ). MovesRegister x year n h s k t) (sym is) moves;
-    }
-ends-of x year a h s k t old new (Err failure) answer moves is written = tt
 
 -- ---- a release that was added
 continued-of : (live : List (List ℕ)) (rows : List Row) (id : List ℕ) → ((s : List ℕ) → list_any (names_successor s) rows ≡ true → has_id live s ≡ true) → IsAnswered rows id → IsContinued live rows id
@@ -135,12 +125,42 @@ leaves-committed a old new h k s t is held =
     record { same = λ other. absurd (other is); failure = tt; stored = record { holds = λ clean opened. held clean; served = λ other. held } }
 
 -- or what it held
-pub leaves-kept : (failure : Failure) (old new : State) (h k : List Entry) (s t : List Shape) → IsStopped failure → (k ≡ h) × (t ≡ s)
+pub leaves-kept : (failure : Failure) (old new : State) (h k : List Entry) (s t : List Shape) → IsMemoryOrStore failure → (k ≡ h) × (t ≡ s)
     → (HasCleanDisk new → IsTrue new.is_open → HoldsRegister old h s → HoldsRegister new k t)
-    → ((failure ≡ Store → ⊥) → HoldsRegister old h s → HoldsRegister new k t) → PublishLeaves (Err failure) old h s new k t
+    → ((IsStoreFailure failure → ⊥) → HoldsRegister old h s → HoldsRegister new k t) → PublishLeaves (Err failure) old h s new k t
 leaves-kept failure old new h k s t stopped kept opened served =
     record { same = tt; failure = (stopped, kept.0, kept.1); stored = record { holds = opened; served = λ other clean. served other } }
 
 -- a database left as it was holds the history and the shapes, where they are left too
 pub still-held : (old new : State) (h k : List Entry) (s t : List Shape) → new ≡ old → (k ≡ h) × (t ≡ s) → HoldsRegister old h s → HoldsRegister new k t
 still-held old new h k s t same kept held = rw (same, kept.0, kept.1) held
+
+-- ---- why the database failed
+-- that the database ran out of memory is not that it failed
+pub memory-no-store : {X : Type 0} → ◌≡◌ {A = Failure} StoreMemory Store → X
+memory-no-store is = absurd cc
+
+-- a release that was accepted could not be stored
+pub fails-accepted : {S A : Type 0} (g : Ghosts S) (h : List Entry) (kept : List Shape) (year : ℕ) (r : Contents) (blocks : List ExactBlock) (rows : List Row) (a : Accepted) (old new : Held S)
+    (answer : Result A Failure) → IsAccepted h kept year r blocks rows a → IfErr answer (λ failure. HasStoreCause g (last_year h) a old new (failure ≡ Store))
+    → IfErr answer (λ failure. IsStoreFailure failure → FailsToStore g h kept year r blocks rows old new (failure ≡ Store))
+fails-accepted g h kept year r blocks rows a old new (Ok x) made fails = tt
+fails-accepted g h kept year r blocks rows a old new (Err e) made fails = λ is. (a, made, fails)
+
+-- it is a sound map with a good certificate, which was handed in
+pub fails-said : {S A : Type 0} (g : Ghosts S) (h : List Entry) (kept : List Shape) (year : ℕ) (r v : Contents) (c : Cert) (rows more : List Row) (old new : Held S)
+    (answer : Result A Failure) → r ≡ v → rows ≡ more → IsSoundMap v → IsGood v c
+    → IfErr answer (λ failure. IsStoreFailure failure → FailsToStore g h kept year r c.exact rows old new (failure ≡ Store))
+    → IfErr answer (λ failure. IsStoreFailure failure → IsSoundMap v × IsGood v c × FailsToStore g h kept year v c.exact more old new (failure ≡ Store))
+fails-said g h kept year r v c rows more old new (Ok x) same also sound good fails = tt
+fails-said g h kept year r v c rows more old new (Err e) same also sound good fails =
+    λ is. (sound, good, subst₂ (λ v more. FailsToStore g h kept year v c.exact more old new (e ≡ Store)) same also (fails is))
+
+-- and what was submitted
+pub fails-submitted : {S A : Type 0} (g : Ghosts S) (x : Submission) (year : ℕ) (r : Contents) (c : Cert) (rows : List Row) (old new : RegisterState S) (answer : Result A Failure) → IsSubmitted x r c rows
+    → IfErr answer (λ failure. IsStoreFailure failure → IsSoundMap r × IsGood r c × FailsToStore g old.history old.shapes year r c.exact rows old.conn new.conn (failure ≡ Store))
+    → IfErr answer (λ failure. IsStoreFailure failure → FailsToPublish g x year old new (failure ≡ Store))
+fails-submitted g x year r c rows old new (Ok a) said fails = tt
+fails-submitted g x year r c rows old new (Err e) said fails = λ is.
+    let failed = fails is in
+    record { release = r; cert = c; rows = rows; submitted = said; sound = failed.0; good = failed.1; fails = failed.2 }

@@ -12,7 +12,8 @@ use Rattle.lpis_lineage.specs.LineageTable.{lineage_table}
 use Rattle.lpis_commands.specs.CheckAnswer.{IsCertAnswer, IsTableAnswer}
 use Rattle.lpis_commands.proofs.Shared.{answer-of-text}
 use Rattle.lpis_gate.specs.Submission.{IsSubmissionAnswer, Submission}
-use Rattle.lpis_gate.specs.private.Saying.{IsFaultAnswer, IsSubmitted, IsUnsaid}
+use Rattle.lpis_gate.specs.Submission.{IsSubmitted}
+use Rattle.lpis_gate.specs.private.Saying.{IsFaultAnswer, IsUnsaid}
 use Rattle.lpis_gate.specs.declared.submission.Unsaid.{Unsaid}
 use Rattle.lpis_gate.specs.declared.submission.Unsaid.TheVariants.{Memory, Refused}
 

@@ -1,7 +1,7 @@
 -- The answer to what is asked for the blocks of marked rows: the certificate with them, or the line
 -- that says why there is none; and the status.
 use Rattle.std.specs.Prelude.{◌≡◌, ◌≢◌, ◌⊎◌, ◌++◌, Bool, true, ℕ, List, codes, length, map}
-use Rattle.std.specs.Prelude.{Option, None, Some}
+use Rattle.std.specs.Prelude.{Option, None, Some, IfErr, IfOk, Result}
 use Rattle.std.specs.Fmt.{decimal}
 use Rattle.std.specs.Io.KnownBytes.{Keeps}
 use Rattle.lpis_covers.specs.Ids.{has_id}
@@ -20,12 +20,12 @@ use Rattle.lpis_register_rows.specs.Shapes.{Shape}
 use Rattle.lpis_exact_lineage.specs.Asking.{AsksFor, IsUnkept}
 use Rattle.lpis_register.specs.declared.fault.PublishFault.TheVariants.{Lineage, NotKept}
 use Rattle.lpis_commands.specs.CheckAnswer.{Answer}
-use Rattle.lpis_commands.specs.Outputs.{BreaksOff, Held, Outputs}
-use Rattle.lpis_commands.specs.Failures.{IsUnpublished}
+use Rattle.lpis_commands.specs.Outputs.{BreaksOff, Held, Outputs, Writes}
 use Rattle.lpis_commands.specs.Status.{done, refused}
 use Rattle.lpis_commands.specs.declared.failure.Failure.{Failure}
 use Rattle.lpis_gate.specs.LineageLines.{publish_refusal_text}
-use Rattle.lpis_gate.specs.Submission.{AreAllRead, IsSubmissionAnswer, Submission}
+use Rattle.lpis_gate.specs.Submission.{AreAllRead, Readers, IsSubmissionAnswer, Submission}
+use Rattle.lpis_gate.specs.Submission.{IsUnreadSubmission}
 
 -- ---- text and status
 -- the line of a group for which no flats are found, or more than a certificate may have
@@ -86,19 +86,23 @@ pub record IsExactAnswer (x : Submission) (h : List Entry) (s : List Shape) (a :
 
 -- ---- the run
 -- what is handed in is what five readers gave, as far as it is known, and this is an answer to it
-pub record Fills (parcels covers classes cert lineage : Option (List ℕ)) (h : List Entry)
-    (s : List Shape) (a : Outputs) : Type 0 where
+pub record Fills (given : Readers) (h : List Entry) (s : List Shape) (a : Outputs) : Type 0 where
   pub submission : Submission
-  pub read : AreAllRead submission parcels covers classes cert lineage
+  pub read : AreAllRead given submission
   pub answer : IsExactAnswer submission h s a
 
--- the run gave no answer: an input was not read, or memory ran out, and nothing was written; or the
--- certificate's file failed, or the output after it
-abbrev pub ExactHalts : Failure → (parcels covers classes cert lineage : Option (List ℕ))
-    → List Entry
-    → List Shape → Held → Held → Type 0
-ExactHalts failure parcels covers classes cert lineage h s old new =
-    (IsUnpublished parcels covers classes cert failure × Keeps old.cert new.cert
-    × Keeps old.out new.out)
-    ⊎ ((a : Outputs) × Fills parcels covers classes cert lineage h s a
-    × BreaksOff a failure old new)
+-- a run of what five readers gave, after a history with kept shapes, and over these outputs
+module _ (given : Readers) (h : List Entry) (s : List Shape) (before after : Held) where
+  -- it gave no answer: an input was not read, or memory ran out, and nothing was written; or the
+  -- certificate's file failed after a beginning of the text, or the output after it
+  abbrev pub ExactHalts : Failure → Type 0
+  ExactHalts failure =
+      (IsUnreadSubmission given failure × Keeps before.cert after.cert
+      × Keeps before.out after.out)
+      ⊎ ((a : Outputs) × Fills given h s a × BreaksOff a failure before after)
+
+  -- what it ends with
+  pub record RunsExact (result : Result ℕ Failure) : Type 0 where
+    pub answer : IfOk result (λ status. (a : Outputs) × Fills given h s a
+        × Writes a status before after)
+    pub failure : IfErr result ExactHalts

@@ -110,6 +110,7 @@ publish_refusal_text (publish.NotKept id) =
     ++ codes "\n"
 publish_refusal_text (publish.Exact fault) = exact_refusal_text fault
 publish_refusal_text publish.Store = []
+publish_refusal_text publish.StoreMemory = []
 publish_refusal_text publish.Unknown = codes "refused "
     ++ publish_code_text code.UnknownIdentifier ++ codes "\n"
 publish_refusal_text publish.Unlawful = codes "refused "

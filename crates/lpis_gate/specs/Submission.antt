@@ -1,25 +1,46 @@
 -- What is handed in: the tables of a release, the text of a certificate and a table of lineage; and
 -- what they say.
-use Rattle.std.specs.Prelude.{ℕ, List, Option}
+use Rattle.std.specs.Prelude.{◌≡◌, ℕ, List, Ok, Option}
 use Rattle.lpis_covers.specs.Faults.{rows_of}
 use Rattle.lpis_parcels.specs.Release.{Contents, release_of}
 use Rattle.lpis_cert.specs.declared.cert.Cert.{Cert}
+use Rattle.lpis_cert.specs.Contents.{IsCertText}
 use Rattle.lpis_cert.specs.Faults.{verdict}
 use Rattle.lpis_lineage.specs.declared.row.Row.{Row}
 use Rattle.lpis_lineage.specs.LineageTable.{lineage_table}
 use Rattle.lpis_commands.specs.CheckAnswer.{Answer, AreRead, Inputs, IsCertAnswer, IsTableAnswer}
+use Rattle.lpis_commands.specs.Failures.{IsUnpublished}
 use Rattle.lpis_commands.specs.Streams.{IsRead}
+use Rattle.lpis_commands.specs.declared.failure.Failure.{Failure}
 
 -- the bytes of a release and a certificate, and those of a lineage table
 pub record Submission : Type 0 where
   pub checked : Inputs
   pub lineage : List ℕ
 
--- these are what five readers gave, as far as it is known
-pub record AreAllRead (x : Submission) (parcels covers classes cert lineage : Option (List ℕ)) :
-    Type 0 where
-  pub of_checked : AreRead x.checked parcels covers classes cert
-  pub of_lineage : IsRead x.lineage lineage
+-- the bytes that five readers will give, as far as they are known
+pub record Readers : Type 0 where
+  pub parcels : Option (List ℕ)
+  pub covers : Option (List ℕ)
+  pub classes : Option (List ℕ)
+  pub cert : Option (List ℕ)
+  pub lineage : Option (List ℕ)
+
+-- the submission has these bytes
+pub record AreAllRead (given : Readers) (x : Submission) : Type 0 where
+  pub of_checked : AreRead x.checked given.parcels given.covers given.classes given.cert
+  pub of_lineage : IsRead x.lineage given.lineage
+
+-- these are the release, the certificate and the rows of a submission
+pub record IsSubmitted (x : Submission) (r : Contents) (c : Cert) (rows : List Row) : Type 0 where
+  pub tables : release_of x.checked.parcels x.checked.covers x.checked.classes ≡ Ok r
+  pub text : IsCertText x.checked.cert c
+  pub lineage : rows_of lineage_table x.lineage ≡ Ok rows
+
+-- some input was not read, while those before it were; or memory ran out
+abbrev pub IsUnreadSubmission : Readers → Failure → Type 0
+IsUnreadSubmission given =
+    IsUnpublished given.parcels given.covers given.classes given.cert
 
 -- the line of the first fault: of the release's tables, else of the certificate's text, else of the
 -- lineage table; or the answer to what these say

@@ -8,13 +8,14 @@ use Rattle.lpis_commands.specs.declared.failure.Failure.TheVariants as failure
 use Rattle.lpis_commands.specs.declared.failure.Name.TheVariants.{Out}
 use Rattle.lpis_gate.specs.LineageLines.{publish_refusal_text}
 use Rattle.lpis_register.specs.declared.fault.PublishFault.{PublishFault}
-use Rattle.lpis_register.specs.declared.fault.PublishFault.TheVariants.{Memory, Store}
+use Rattle.lpis_register.specs.declared.fault.PublishFault.TheVariants.{Memory, Store, StoreMemory}
 
 -- the line of the refusal was written, with the status of an input that cannot be read; out of
 -- memory and a failed database are no refusals
 abbrev pub RefusesRegister : PublishFault → ℕ → Option (List ℕ) → Option (List ℕ) → Type 0
 RefusesRegister Memory status old new = ⊥
 RefusesRegister Store status old new = ⊥
+RefusesRegister StoreMemory status old new = ⊥
 RefusesRegister fault status old new = (status ≡ unreadable)
     × Appends old new (publish_refusal_text fault)
 
@@ -23,5 +24,6 @@ RefusesRegister fault status old new = (status ≡ unreadable)
 abbrev pub HaltsUnopened : Failure → PublishFault → Option (List ℕ) → Option (List ℕ) → Type 0
 HaltsUnopened why Memory old new = (why ≡ failure.Memory) × Keeps old new
 HaltsUnopened why Store old new = (why ≡ failure.Store) × Keeps old new
+HaltsUnopened why StoreMemory old new = (why ≡ failure.StoreMemory) × Keeps old new
 HaltsUnopened why fault old new = ((why ≡ failure.Memory) × Keeps old new)
     ⊎ ((why ≡ failure.Write Out) × Begins old new (publish_refusal_text fault))

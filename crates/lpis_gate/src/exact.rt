@@ -12,9 +12,9 @@ ghost use Rattle.lpis_lineage.specs.Lineage.{last_live};
 ghost use Rattle.lpis_lineage.specs.Order.{IsAscending};
 ghost use Rattle.lpis_register_rows.specs.Shapes.{Shape, shape_ids};
 ghost use Rattle.lpis_exact_lineage.specs.Asking.{AsksFor};
-ghost use Rattle.lpis_commands.specs.Outputs.{Outputs, Writes, held, outputs_of};
+ghost use Rattle.lpis_commands.specs.Outputs.{held, outputs_of};
 ghost use Rattle.lpis_commands.specs.Status.{done, refused};
-ghost use Rattle.lpis_gate.specs.ExactAnswer.{Fills, ExactHalts, IsExactAnswer, blocks_line};
+ghost use Rattle.lpis_gate.specs.ExactAnswer.{IsExactAnswer, RunsExact, blocks_line};
 ghost use Rattle.lpis_gate.specs.ExactAnswer.{unfilled_line};
 ghost use Rattle.lpis_gate.specs.LineageLines.{publish_refusal_text};
 ghost use Rattle.lpis_gate.specs.private.ExactRuns.{IsBlocksOutcome, filled_with, refused_with};
@@ -50,13 +50,8 @@ fn refuse_group(alloc: Global, id: &Id) -> Result<Answer, AllocError>
     ensures { IfOk result (λ a. (a.text.items ≡ unfilled_line id.now) × (a.status ≡ refused)) }
 {
     let mut text = Vec::new(alloc);
-    match print_unfilled(id, &mut text) {
-        Ok(()) => Ok(Answer {
-            text,
-            status: REFUSED,
-        }),
-        Err(_) => Err(AllocError),
-    }
+    let printed = print_unfilled(id, &mut text);
+    Answer::of(text, REFUSED, printed)
 }
 
 /// Writes the line of a certificate's blocks.
@@ -74,10 +69,8 @@ fn count_blocks(alloc: Global, cert: &Cert) -> Result<Answer, AllocError>
         × (a.status ≡ done)) }
 {
     let mut text = Vec::new(alloc);
-    match print_blocks(cert, &mut text) {
-        Ok(()) => Ok(Answer { text, status: DONE }),
-        Err(_) => Err(AllocError),
-    }
+    let printed = print_blocks(cert, &mut text);
+    Answer::of(text, DONE, printed)
 }
 
 /// The outcome of a certificate with blocks.
@@ -207,19 +200,16 @@ pub fn run_exact<
     cert_out: &mut V,
     out: &mut W,
 ) -> Result<u8, Failure>
-    ensures answer { IfOk result (λ status. (a : Outputs)
-        × Fills (P.remaining parcels) (C.remaining covers) (K.remaining classes)
-        (E.remaining cert) (L.remaining lineage) register.now.history register.now.shapes.items a
-        × Writes a status (held (V.contents cert_out.old) (W.contents out.old))
-        (held (V.contents cert_out.new) (W.contents out.new))) }
-    // A beginning of the certificate was written, or the certificate and a beginning of the line,
-    // or nothing.
-    ensures failure { IfErr result
-        (λ failure. ExactHalts failure (P.remaining parcels) (C.remaining covers)
-        (K.remaining classes)
-        (E.remaining cert) (L.remaining lineage) register.now.history register.now.shapes.items
+    ensures { RunsExact (record {
+      parcels = P.remaining parcels;
+      covers = C.remaining covers;
+      classes = K.remaining classes;
+      cert = E.remaining cert;
+      lineage = L.remaining lineage;
+    })
+        register.now.history register.now.shapes.items
         (held (V.contents cert_out.old) (W.contents out.old))
-        (held (V.contents cert_out.new) (W.contents out.new))) }
+        (held (V.contents cert_out.new) (W.contents out.new)) result }
 {
     let submission = read_submission(alloc, parcels, covers, classes, cert, lineage)?;
     let outcome = answer_to(alloc, register, submission)?;

@@ -182,7 +182,7 @@ pub fn print_publish_fault<W: Write>(fault: &PublishFault, out: &mut W) -> Resul
         (publish_refusal_text fault.now)) }
 {
     match fault {
-        PublishFault::Memory | PublishFault::Store => {}
+        PublishFault::Memory | PublishFault::Store | PublishFault::StoreMemory => {}
         PublishFault::Year { last } => write!(out, "refused 80 last {last}\n")?,
         PublishFault::Lineage(lineage) => print_lineage_refusal(lineage, out)?,
         PublishFault::NotKept { id } => write!(out, "refused 81 lineage 77 {}\n", id.as_str())?,
@@ -199,8 +199,6 @@ pub(crate) fn refuse(alloc: Global, fault: &PublishFault, status: u8) -> Result<
         (a.status ≡ status)) }
 {
     let mut text = Vec::new(alloc);
-    match print_publish_fault(fault, &mut text) {
-        Ok(()) => Ok(Answer { text, status }),
-        Err(_) => Err(AllocError),
-    }
+    let printed = print_publish_fault(fault, &mut text);
+    Answer::of(text, status, printed)
 }

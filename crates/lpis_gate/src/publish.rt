@@ -8,18 +8,19 @@ ghost use Rattle.lpis_covers.specs.Ids.{has_id};
 ghost use Rattle.lpis_checker.specs.GoodCertificate.{IsGood};
 ghost use Rattle.lpis_checker.specs.SoundMap.{IsSoundMap};
 ghost use Rattle.lpis_lineage.specs.Changes.{kind_at};
+ghost use Rattle.lpis_lineage.specs.Lineage.{last_year};
 ghost use Rattle.lpis_lineage.specs.Order.{IsAscending};
 ghost use Rattle.lpis_lineage.specs.declared.row.Row.{Row};
 ghost use Rattle.lpis_register.specs.Accepting.{IsAccepted, WasMadeFor};
+ghost use Rattle.lpis_register.specs.Failing.{FailsToStore, HasStoreCause};
+ghost use Rattle.lpis_commands.specs.declared.failure.Failure.TheVariants.{Store};
 ghost use Rattle.lpis_commands.specs.CheckAnswer.{IsCheckAnswer};
 ghost use Rattle.lpis_commands.specs.Report.{report_text};
 ghost use Rattle.lpis_commands.specs.Status.{done};
 ghost use Rattle.lpis_gate.specs.LineageLines.{lineage_line, published_line};
-ghost use Rattle.lpis_gate.specs.PublishAnswer.{PublishEnds, PublishHalts, IsHistoryAnswer};
-ghost use Rattle.lpis_gate.specs.PublishAnswer.{IsPublishAnswer};
-ghost use Rattle.lpis_gate.specs.PublishAnswer.{MovesRegister};
-ghost use Rattle.lpis_gate.specs.Stored.{Stays};
-ghost use Rattle.lpis_gate.specs.Submission.{AreAllRead, Submission};
+ghost use Rattle.lpis_gate.specs.PublishAnswer.{FailsToPublish, IsHistoryAnswer};
+ghost use Rattle.lpis_gate.specs.PublishAnswer.{IsPublishAnswer, MovesRegister, RunsPublish};
+ghost use Rattle.lpis_gate.specs.Stored.{IsStoreFailure, register_of};
 ghost use Rattle.lpis_gate.specs.private.Marked.{is_marked};
 ghost use Rattle.lpis_gate.specs.private.PublishRuns.{IsAdded, PublishLeaves};
 ghost use Rattle.lpis_gate.specs.private.Saying.{submission_of};
@@ -99,12 +100,16 @@ fn publish_accepted<S: Alter>(
     ensures leaves { PublishLeaves result (state S.Store register.old.conn) register.old.history
         register.old.shapes.items (state S.Store register.new.conn) register.new.history
         register.new.shapes.items }
+    ensures cause { IfErr result (λ failure. HasStoreCause S.Store (last_year register.old.history)
+        accepted register.old.conn register.new.conn (failure ≡ Store)) }
 {
     let answer = tell_change(alloc, yes, year, accepted.change())?;
     match register.commit(accepted) {
         Ok(_) => Ok(answer),
         Err(PublishFault::Memory) => Err(Failure::Memory),
-        Err(_) => Err(Failure::Store),
+        Err(PublishFault::Store) => Err(Failure::Store),
+        // The database's own memory ran out: a commit has no other fault.
+        Err(_) => Err(Failure::StoreMemory),
     }
 }
 
@@ -126,6 +131,9 @@ fn publish_checked<S: Alter>(
     ensures leaves { PublishLeaves result (state S.Store register.old.conn) register.old.history
         register.old.shapes.items (state S.Store register.new.conn) register.new.history
         register.new.shapes.items }
+    ensures cause { IfErr result (λ failure. IsStoreFailure failure → FailsToStore S.Store
+        register.old.history register.old.shapes.items year yes.now cert.now.exact rows.now
+        register.old.conn register.new.conn (failure ≡ Store)) }
 {
     match register.accept(year, yes, rows, cert) {
         Ok(accepted) => publish_accepted(alloc, register, year, yes, cert, accepted),
@@ -151,6 +159,10 @@ fn answer_to_said<S: Alter>(
     ensures leaves { PublishLeaves result (state S.Store register.old.conn) register.old.history
         register.old.shapes.items (state S.Store register.new.conn) register.new.history
         register.new.shapes.items }
+    ensures cause { IfErr result (λ failure. IsStoreFailure failure → IsSoundMap said.now.release
+        × IsGood said.now.release said.now.cert × FailsToStore S.Store register.old.history
+        register.old.shapes.items year said.now.release said.now.cert.exact said.now.rows.items
+        register.old.conn register.new.conn (failure ≡ Store)) }
 {
     match check(alloc, &said.release, &said.cert, &Sweep) {
         Ok(yes) => {
@@ -185,6 +197,10 @@ fn answer_to<S: Alter>(
     ensures leaves { PublishLeaves result (state S.Store register.old.conn) register.old.history
         register.old.shapes.items (state S.Store register.new.conn) register.new.history
         register.new.shapes.items }
+    ensures cause { IfErr result (λ failure. IsStoreFailure failure → FailsToPublish S.Store
+        (submission_of submission) year (register_of register.old.conn register.old.history
+        register.old.shapes.items) (register_of register.new.conn register.new.history
+        register.new.shapes.items) (failure ≡ Store)) }
 {
     match understand(alloc, submission) {
         Ok(said) => answer_to_said(alloc, register, year, &said),
@@ -224,19 +240,15 @@ pub fn run_publish<
     lineage: L,
     out: &mut W,
 ) -> Result<u8, Failure>
-    ensures answer { IfOk result (λ status. (x : Submission) × AreAllRead x (P.remaining parcels)
-        (C.remaining covers) (K.remaining classes) (E.remaining cert) (L.remaining lineage)
-        × PublishEnds x year status register.old.history register.old.shapes.items
-        register.new.history register.new.shapes.items (W.contents out.old) (W.contents out.new)) }
-    // A beginning of the answer was written, or nothing.
-    ensures failure { IfErr result (λ failure. PublishHalts failure year (P.remaining parcels)
-        (C.remaining covers) (K.remaining classes) (E.remaining cert) (L.remaining lineage)
-        register.old.history register.old.shapes.items register.new.history
-        register.new.shapes.items (W.contents out.old) (W.contents out.new)) }
-    // The database holds the history and the shapes, if its disk keeps what was written.
-    ensures stored { Stays result (state S.Store register.old.conn) register.old.history
-        register.old.shapes.items (state S.Store register.new.conn) register.new.history
-        register.new.shapes.items }
+    ensures { RunsPublish S.Store year (record {
+      parcels = P.remaining parcels;
+      covers = C.remaining covers;
+      classes = K.remaining classes;
+      cert = E.remaining cert;
+      lineage = L.remaining lineage;
+    }) (register_of register.old.conn register.old.history
+        register.old.shapes.items) (register_of register.new.conn register.new.history
+        register.new.shapes.items) (W.contents out.old) (W.contents out.new) result }
 {
     let submission = read_submission(alloc, parcels, covers, classes, cert, lineage)?;
     let answer = answer_to(alloc, register, year, submission)?;

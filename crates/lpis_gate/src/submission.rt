@@ -7,10 +7,9 @@ ghost use Rattle.lpis_cert.specs.Contents.{IsCertText};
 ghost use Rattle.lpis_cert.specs.Faults.{verdict};
 ghost use Rattle.lpis_lineage.specs.LineageTable.{lineage_table};
 ghost use Rattle.lpis_commands.specs.CheckAnswer.{IsCertAnswer, IsTableAnswer};
-ghost use Rattle.lpis_commands.specs.Failures.{IsUnpublished};
 ghost use Rattle.lpis_commands.specs.Inputs.{IsReadAs};
-ghost use Rattle.lpis_gate.specs.Submission.{AreAllRead};
-ghost use Rattle.lpis_gate.specs.private.Saying.{IsFaultAnswer, IsSubmitted, IsUnsaid};
+ghost use Rattle.lpis_gate.specs.Submission.{IsSubmitted};
+ghost use Rattle.lpis_gate.specs.private.Saying.{IsFaultAnswer, IsReadAll, IsUnsaid};
 ghost use Rattle.lpis_gate.specs.private.Saying.{submission_of};
 ghost use Rattle.lpis_gate.specs.declared.submission.Unsaid.{Unsaid};
 
@@ -72,10 +71,14 @@ pub(crate) fn read_submission<
     cert: E,
     lineage: L,
 ) -> Result<SubmissionBytes, Failure>
-    ensures bytes { IfOk result (λ b. AreAllRead (submission_of b) (P.remaining parcels)
-        (C.remaining covers) (K.remaining classes) (E.remaining cert) (L.remaining lineage)) }
-    ensures failure { IfErr result (IsUnpublished (P.remaining parcels) (C.remaining covers)
-        (K.remaining classes) (E.remaining cert)) }
+    ensures { IsReadAll (record {
+      parcels = P.remaining parcels;
+      covers = C.remaining covers;
+      classes = K.remaining classes;
+      cert = E.remaining cert;
+      lineage = L.remaining lineage;
+    })
+        result }
 {
     let checked = read_inputs(alloc, parcels, covers, classes, cert)?;
     let lineage = read_named(alloc, lineage, Name::Lineage)?;

@@ -30,10 +30,8 @@ fn list_ids(alloc: Global, ids: &[Id]) -> Result<Answer, AllocError>
     ensures { IfOk result (λ a. (a.text.items ≡ flat_map id_line ids.now) × (a.status ≡ done)) }
 {
     let mut text = Vec::new(alloc);
-    match print_ids(ids, &mut text) {
-        Ok(()) => Ok(Answer { text, status: DONE }),
-        Err(_) => Err(AllocError),
-    }
+    let printed = print_ids(ids, &mut text);
+    Answer::of(text, DONE, printed)
 }
 
 /// The answer to an identifier.

@@ -26,6 +26,7 @@ pub fn refuse_register<W: Write>(
     match fault {
         PublishFault::Memory => Err(Failure::Memory),
         PublishFault::Store => Err(Failure::Store),
+        PublishFault::StoreMemory => Err(Failure::StoreMemory),
         _ => {
             let answer = refuse(alloc, fault, UNREADABLE)?;
             answer.write_to(out)

@@ -3,14 +3,15 @@
 use crate::devices::{LINE, Paper};
 use crate::maps::{Inputs, Map, Texts};
 use crate::register::{
-    Office, Step, expect_history, expect_publish, expect_refusal, fill, filled, publish, take_all,
-    trace,
+    Job, Step, expect_history, expect_publish, expect_refusal, fill, filled, perform_anew, publish,
+    take_all, trace,
 };
 use crate::worked::{SPLIT_REPORT, WHOLE_REPORT};
 use lpis_commands::{Failure, Name, UNREADABLE};
 use lpis_gate::refuse_register;
 use lpis_register::{PublishFault, Register};
 use lpis_testing::{PARCELS_CERT, SQUARE_CERT};
+use sqlite::Alter;
 use std::test::Fail;
 
 /// The inputs in the order in which they are read.
@@ -47,9 +48,9 @@ fn hold(holds: bool, what: &str) -> Result<(), Fail> {
 
 /// Fails unless a publication whose input at this index fails after so many bytes reports that, and
 /// writes nothing.
-fn expect_read(
+fn expect_read<S: Alter>(
     rt: &HostRuntime,
-    office: &mut Office,
+    office: &mut Register<S>,
     inputs: Inputs<'_>,
     failing: (usize, usize),
     name: Name,
@@ -61,7 +62,11 @@ fn expect_read(
 }
 
 /// Publishes the halves after the square, each input failing after each of its bytes before.
-fn publish_at_last(rt: &HostRuntime, office: &mut Office, inputs: Inputs<'_>) -> Result<(), Fail> {
+fn publish_at_last<S: Alter>(
+    rt: &HostRuntime,
+    office: &mut Register<S>,
+    inputs: Inputs<'_>,
+) -> Result<(), Fail> {
     take_all(rt, office, WITH_SQUARE.as_slice())?;
     let lengths = inputs.lengths();
     for (index, (name, length)) in NAMES.iter().zip(lengths.iter()).enumerate() {
@@ -75,16 +80,14 @@ fn publish_at_last(rt: &HostRuntime, office: &mut Office, inputs: Inputs<'_>) ->
 
 #[test]
 fn a_publication_fails_at_each_read_of_each_input(rt: HostRuntime) -> Result<(), Fail> {
-    let texts = Texts::new(&rt, Map::Halves, "A,B\nA,C\n", "")?;
-    let mut office = Register::open_in_memory(rt.alloc())?;
-    publish_at_last(&rt, &mut office, texts.inputs())
+    perform_anew(&rt, Job::Fail(Failing::Reads))
 }
 
 /// Fails unless a publication whose output fails after so many writes reports that, wrote just
 /// these of its text, and is there: once more, it is refused for its year.
-fn expect_published(
+fn expect_published<S: Alter>(
     rt: &HostRuntime,
-    office: &mut Office,
+    office: &mut Register<S>,
     (year, map, rows): (u16, Map, &str),
     text: &str,
     writes: usize,
@@ -100,15 +103,12 @@ fn expect_published(
     expect_refusal(rt, office, year, texts.inputs(), line.as_str(), 1)
 }
 
-/// The square, published in a register where the output fails after so many writes.
-fn publish_whole(rt: &HostRuntime, writes: usize) -> Result<(), Fail> {
-    let mut office = Register::open_in_memory(rt.alloc())?;
-    let release = (2024, Map::Whole, "");
-    expect_published(rt, &mut office, release, WHOLE_REPORT, writes)
-}
-
 /// Its halves, published after it where the output fails after so many writes.
-fn publish_halves(rt: &HostRuntime, office: &mut Office, writes: usize) -> Result<(), Fail> {
+fn publish_halves<S: Alter>(
+    rt: &HostRuntime,
+    office: &mut Register<S>,
+    writes: usize,
+) -> Result<(), Fail> {
     take_all(rt, office, WITH_SQUARE.as_slice())?;
     let release = (2025, Map::Halves, "A,B\nA,C\n");
     expect_published(rt, office, release, SPLIT_REPORT, writes)?;
@@ -118,18 +118,17 @@ fn publish_halves(rt: &HostRuntime, office: &mut Office, writes: usize) -> Resul
 #[test]
 fn a_publication_stays_where_its_output_fails(rt: HostRuntime) -> Result<(), Fail> {
     for writes in 0..WHOLE_REPORT.len().div_ceil(LINE) {
-        publish_whole(&rt, writes)?;
+        perform_anew(&rt, Job::Fail(Failing::Whole(writes)))?;
     }
     for writes in 0..SPLIT_REPORT.len().div_ceil(LINE) {
-        let mut office = Register::open_in_memory(rt.alloc())?;
-        publish_halves(&rt, &mut office, writes)?;
+        perform_anew(&rt, Job::Fail(Failing::Halves(writes)))?;
     }
     Ok(())
 }
 
 /// Fails unless refusals whose output fails after a write or none are reported, in a register that
 /// has the square.
-fn refuse_in_part(rt: &HostRuntime, office: &mut Office) -> Result<(), Fail> {
+fn refuse_in_part<S: Alter>(rt: &HostRuntime, office: &mut Register<S>) -> Result<(), Fail> {
     take_all(rt, office, WITH_SQUARE.as_slice())?;
     let texts = Texts::new(rt, Map::Halves, "", "")?;
     for (word, writes) in [("A", 0), ("Q", 0), ("Q", 1)] {
@@ -150,8 +149,7 @@ fn refuse_in_part(rt: &HostRuntime, office: &mut Office) -> Result<(), Fail> {
 
 #[test]
 fn outputs_of_other_answers_may_fail(rt: HostRuntime) -> Result<(), Fail> {
-    let mut office = Register::open_in_memory(rt.alloc())?;
-    refuse_in_part(&rt, &mut office)
+    perform_anew(&rt, Job::Fail(Failing::Refusals))
 }
 
 /// Refuses a register, where the output fails after so many writes.
@@ -164,6 +162,7 @@ fn a_register_is_refused(rt: HostRuntime) -> Result<(), Fail> {
     for (fault, line, answer) in [
         (PublishFault::Unlawful, "refused 84\n", Ok(UNREADABLE)),
         (PublishFault::Store, "", Err(Failure::Store)),
+        (PublishFault::StoreMemory, "", Err(Failure::StoreMemory)),
         (PublishFault::Memory, "", Err(Failure::Memory)),
     ] {
         let mut out = Paper::new(rt.alloc(), None);
@@ -190,7 +189,7 @@ fn line_without_check<'a>(line: &'a str, status: u8) -> &'a str {
 }
 
 /// Hands in wrong inputs for the halves, after the square, which are put right one by one.
-fn expect_order(rt: &HostRuntime, office: &mut Office) -> Result<(), Fail> {
+fn expect_order<S: Alter>(rt: &HostRuntime, office: &mut Register<S>) -> Result<(), Fail> {
     take_all(rt, office, WITH_SQUARE.as_slice())?;
     for (year, parcels, covers, cert, lineage, line, status) in [
         (
@@ -272,12 +271,11 @@ fn expect_order(rt: &HostRuntime, office: &mut Office) -> Result<(), Fail> {
 
 #[test]
 fn faults_are_told_in_their_order(rt: HostRuntime) -> Result<(), Fail> {
-    let mut office = Register::open_in_memory(rt.alloc())?;
-    expect_order(&rt, &mut office)
+    perform_anew(&rt, Job::Fail(Failing::Order))
 }
 
 /// Asks for the blocks of the halves after the square, where inputs and outputs fail.
-fn fill_in_part(rt: &HostRuntime, office: &mut Office) -> Result<(), Fail> {
+fn fill_in_part<S: Alter>(rt: &HostRuntime, office: &mut Register<S>) -> Result<(), Fail> {
     take_all(rt, office, WITH_SQUARE.as_slice())?;
     let texts = Texts::new(rt, Map::Halves, "old,new,exact\nA,B,1\nA,C,1\n", "")?;
     for (index, name) in NAMES.iter().enumerate() {
@@ -313,6 +311,44 @@ fn fill_in_part(rt: &HostRuntime, office: &mut Office) -> Result<(), Fail> {
 
 #[test]
 fn blocks_are_given_where_all_is_read_and_written(rt: HostRuntime) -> Result<(), Fail> {
-    let mut office = Register::open_in_memory(rt.alloc())?;
-    fill_in_part(&rt, &mut office)
+    perform_anew(&rt, Job::Fail(Failing::Blocks))
+}
+
+/// What is done where inputs or outputs fail, with a register without releases.
+#[derive(Clone, Copy)]
+pub enum Failing {
+    /// A publication, each input of which fails after each of its bytes.
+    Reads,
+    /// The square, whose output fails after so many writes.
+    Whole(usize),
+    /// Its halves after it, whose output fails after so many writes.
+    Halves(usize),
+    /// Refusals whose output fails.
+    Refusals,
+    /// Inputs that are wrong, and put right one by one.
+    Order,
+    /// A certificate that is asked for, whose inputs and outputs fail.
+    Blocks,
+}
+
+/// Does it.
+pub fn fail<S: Alter>(
+    rt: &HostRuntime,
+    office: &mut Register<S>,
+    failing: Failing,
+) -> Result<(), Fail> {
+    match failing {
+        Failing::Reads => {
+            let texts = Texts::new(rt, Map::Halves, "A,B\nA,C\n", "")?;
+            publish_at_last(rt, office, texts.inputs())
+        }
+        Failing::Whole(writes) => {
+            let release = (2024, Map::Whole, "");
+            expect_published(rt, office, release, WHOLE_REPORT, writes)
+        }
+        Failing::Halves(writes) => publish_halves(rt, office, writes),
+        Failing::Refusals => refuse_in_part(rt, office),
+        Failing::Order => expect_order(rt, office),
+        Failing::Blocks => fill_in_part(rt, office),
+    }
 }

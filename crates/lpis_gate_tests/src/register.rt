@@ -1,6 +1,8 @@
-//! A register in memory and the runs over it, each called at one place alone.
+//! A register and the runs over it, each called at one place alone. One function makes the
+//! database concrete: each that does is proved over all of the engine.
 
 use crate::devices::Paper;
+use crate::failures::{Failing, fail};
 use crate::maps::{Inputs, Map, Texts};
 use lpis_commands::Failure;
 use lpis_covers::Id;
@@ -10,16 +12,13 @@ use lpis_register::Register;
 use lpis_rings::Polygon;
 use lpis_testing::{CLASSES, Halting, expect, expect_answer};
 use lpis_wkt_writer::write;
-use sqlite::MemStore;
+use sqlite::{Alter, MemStore};
 use std::test::Fail;
 
-/// A register in memory.
-pub type Office = Register<MemStore>;
-
 /// Publishes. The input at this index fails after so many bytes, and those behind it at once.
-pub fn publish(
+pub fn publish<S: Alter>(
     rt: &HostRuntime,
-    office: &mut Office,
+    office: &mut Register<S>,
     year: u16,
     inputs: Inputs<'_>,
     failing: Option<(usize, usize)>,
@@ -40,9 +39,9 @@ pub fn publish(
 
 /// Asks for the blocks of marked rows. The input at this index fails after so many bytes, and those
 /// behind it at once.
-pub fn fill(
+pub fn fill<S: Alter>(
     rt: &HostRuntime,
-    office: &Office,
+    office: &Register<S>,
     inputs: Inputs<'_>,
     failing: Option<(usize, usize)>,
     cert_out: &mut Paper,
@@ -62,9 +61,9 @@ pub fn fill(
 }
 
 /// Traces a word.
-pub fn trace(
+pub fn trace<S: Alter>(
     rt: &HostRuntime,
-    office: &Office,
+    office: &Register<S>,
     word: &str,
     out: &mut Paper,
 ) -> Result<u8, Failure> {
@@ -97,13 +96,17 @@ fn text_of(rt: &HostRuntime, history: &History) -> Result<String, Fail> {
 }
 
 /// The history of which the tables tell.
-fn stored_text(rt: &HostRuntime, office: &mut Office) -> Result<String, Fail> {
+fn stored_text<S: Alter>(rt: &HostRuntime, office: &mut Register<S>) -> Result<String, Fail> {
     let history = office.history()?;
     text_of(rt, &history)
 }
 
 /// Fails unless this is the history, also by the tables.
-pub fn expect_history(rt: &HostRuntime, office: &mut Office, wanted: &str) -> Result<(), Fail> {
+pub fn expect_history<S: Alter>(
+    rt: &HostRuntime,
+    office: &mut Register<S>,
+    wanted: &str,
+) -> Result<(), Fail> {
     let stored = stored_text(rt, office)?;
     expect(stored.as_str(), wanted)?;
     expect(text_of(rt, office.current())?.as_str(), wanted)
@@ -121,15 +124,19 @@ fn shapes_text(rt: &HostRuntime, shapes: &[(Id, Polygon)]) -> Result<String, Fai
 }
 
 /// Fails unless these are the shapes that are kept.
-fn expect_shapes(rt: &HostRuntime, office: &mut Office, wanted: &str) -> Result<(), Fail> {
+fn expect_shapes<S: Alter>(
+    rt: &HostRuntime,
+    office: &mut Register<S>,
+    wanted: &str,
+) -> Result<(), Fail> {
     let shapes = office.shapes()?;
     expect(shapes_text(rt, shapes.as_slice())?.as_str(), wanted)
 }
 
 /// Fails unless `publish` prints this text and answers this status.
-pub fn expect_publish(
+pub fn expect_publish<S: Alter>(
     rt: &HostRuntime,
-    office: &mut Office,
+    office: &mut Register<S>,
     year: u16,
     inputs: Inputs<'_>,
     text: &str,
@@ -142,9 +149,9 @@ pub fn expect_publish(
 
 /// Fails unless `publish` refuses with this line and this status, and leaves the history and the
 /// shapes.
-pub fn expect_refusal(
+pub fn expect_refusal<S: Alter>(
     rt: &HostRuntime,
-    office: &mut Office,
+    office: &mut Register<S>,
     year: u16,
     inputs: Inputs<'_>,
     line: &str,
@@ -161,9 +168,9 @@ pub fn expect_refusal(
 }
 
 /// What `exact` writes of these inputs. Fails unless it prints this text and answers this status.
-pub fn filled(
+pub fn filled<S: Alter>(
     rt: &HostRuntime,
-    office: &Office,
+    office: &Register<S>,
     inputs: Inputs<'_>,
     text: &str,
     status: u8,
@@ -196,9 +203,9 @@ fn parted(rt: &HostRuntime, cert: &str) -> Result<(String, String), Fail> {
 
 /// Fails unless `exact` gives a certificate blocks with these first lines in place of its own, and
 /// nothing else.
-fn expect_blocks(
+fn expect_blocks<S: Alter>(
     rt: &HostRuntime,
-    office: &Office,
+    office: &Register<S>,
     (map, rows, own): (Map, &str, &str),
     wanted: &str,
 ) -> Result<(), Fail> {
@@ -212,9 +219,9 @@ fn expect_blocks(
 }
 
 /// Publishes a map with the certificate that `exact` gives it, with so many blocks.
-fn publish_filled(
+fn publish_filled<S: Alter>(
     rt: &HostRuntime,
-    office: &mut Office,
+    office: &mut Register<S>,
     (year, map, rows): (u16, Map, &str),
     line: &str,
     text: &str,
@@ -229,9 +236,9 @@ fn publish_filled(
 }
 
 /// Fails unless `trace` prints this text and answers this status.
-pub fn expect_trace(
+pub fn expect_trace<S: Alter>(
     rt: &HostRuntime,
-    office: &Office,
+    office: &Register<S>,
     word: &str,
     text: &str,
     status: u8,
@@ -272,7 +279,7 @@ pub enum Step {
 }
 
 /// Takes a step that publishes, or asks for blocks.
-fn hand_in(rt: &HostRuntime, office: &mut Office, step: Step) -> Result<(), Fail> {
+fn hand_in<S: Alter>(rt: &HostRuntime, office: &mut Register<S>, step: Step) -> Result<(), Fail> {
     match step {
         Step::PublishWith(year, map, rows, blocks, text) => {
             let texts = Texts::new(rt, map, rows, blocks)?;
@@ -300,7 +307,7 @@ fn hand_in(rt: &HostRuntime, office: &mut Office, step: Step) -> Result<(), Fail
 }
 
 /// Takes a step.
-fn take(rt: &HostRuntime, office: &mut Office, step: Step) -> Result<(), Fail> {
+fn take<S: Alter>(rt: &HostRuntime, office: &mut Register<S>, step: Step) -> Result<(), Fail> {
     match step {
         Step::Publish(year, map, rows, text) => {
             hand_in(rt, office, Step::PublishWith(year, map, rows, "", text))
@@ -317,15 +324,41 @@ fn take(rt: &HostRuntime, office: &mut Office, step: Step) -> Result<(), Fail> {
 }
 
 /// Takes steps in a register.
-pub fn take_all(rt: &HostRuntime, office: &mut Office, steps: &[Step]) -> Result<(), Fail> {
+pub fn take_all<S: Alter>(
+    rt: &HostRuntime,
+    office: &mut Register<S>,
+    steps: &[Step],
+) -> Result<(), Fail> {
     for step in steps {
         take(rt, office, *step)?;
     }
     Ok(())
 }
 
+/// What is done with a register without releases.
+#[derive(Clone, Copy)]
+pub enum Job<'a> {
+    /// These steps.
+    Steps(&'a [Step]),
+    /// This, where inputs or outputs fail.
+    Fail(Failing),
+}
+
+/// Does it.
+fn perform<S: Alter>(rt: &HostRuntime, office: &mut Register<S>, job: Job<'_>) -> Result<(), Fail> {
+    match job {
+        Job::Steps(steps) => take_all(rt, office, steps),
+        Job::Fail(failing) => fail(rt, office, failing),
+    }
+}
+
+/// Does it with a register in memory.
+pub fn perform_anew(rt: &HostRuntime, job: Job<'_>) -> Result<(), Fail> {
+    let mut office: Register<MemStore> = Register::open_in_memory(rt.alloc())?;
+    perform(rt, &mut office, job)
+}
+
 /// Takes steps in a register without releases.
 pub fn take_anew(rt: &HostRuntime, steps: &[Step]) -> Result<(), Fail> {
-    let mut office = Register::open_in_memory(rt.alloc())?;
-    take_all(rt, &mut office, steps)
+    perform_anew(rt, Job::Steps(steps))
 }

@@ -14,10 +14,10 @@ use Rattle.lpis_exact_lineage.specs.ExactLineage.{IsExactLineage, ShapesTurnOnce
 use Rattle.lpis_exact_lineage.specs.Shapes.{shape_named, shapes_in}
 use Rattle.lpis_register.specs.Publishing.{FollowsHistory}
 use Rattle.lpis_commands.specs.declared.failure.Failure.{Failure}
-use Rattle.lpis_commands.specs.declared.failure.Failure.TheVariants.{Memory, Store}
+use Rattle.lpis_commands.specs.declared.failure.Failure.TheVariants.{Memory}
 use Rattle.lpis_commands.specs.declared.answer.Answer.{Answer}
 use Rattle.lpis_commands.specs.Status.{done}
-use Rattle.lpis_gate.specs.Stored.{Stays}
+use Rattle.lpis_gate.specs.Stored.{IsStoreFailure, Stays}
 
 -- a release was put at the end of a history, after which it may follow; its shapes are kept, and
 -- it has exact lineage by those that were kept before
@@ -31,8 +31,8 @@ pub record IsAdded (year : ℕ) (r : Contents) (rows : List Row) (h : List Entry
   pub ascend : IsAscending (dropped (last_live h) (parcel_ids r.parcels))
 
 -- memory ran out, or the database failed
-abbrev pub IsStopped : Failure → Type 0
-IsStopped failure = (failure ≡ Memory) ⊎ (failure ≡ Store)
+abbrev pub IsMemoryOrStore : Failure → Type 0
+IsMemoryOrStore failure = (failure ≡ Memory) ⊎ IsStoreFailure failure
 
 -- what a run that ended so leaves of a register: the history `h` and the shapes `s` became others
 -- only where the release was published, and the database holds them
@@ -40,5 +40,5 @@ pub record PublishLeaves (result : Result Answer Failure) (old : State) (h : Lis
     (s : List Shape)
     (new : State) (k : List Entry) (t : List Shape) : Type 0 where
   pub same : IfOk result (λ a. a.status ≢ done → (k ≡ h) × (t ≡ s))
-  pub failure : IfErr result (λ failure. IsStopped failure × (k ≡ h) × (t ≡ s))
+  pub failure : IfErr result (λ failure. IsMemoryOrStore failure × (k ≡ h) × (t ≡ s))
   pub stored : Stays result old h s new k t

@@ -1,6 +1,7 @@
 use Rattle.lpis_gate.proofs.Common.{IfOk-weaker}
-use Rattle.lpis_gate.proofs.PublishLemmas.{both-ok, published-of}
+use Rattle.lpis_gate.proofs.PublishLemmas.{both-ok, fails-submitted, published-of}
 use Rattle.lpis_gate.proofs.SubmissionLemmas.{answer-said, answer-unsaid}
+use Rattle.lpis_gate.specs.Stored.{register_of}
 use Rattle.lpis_gate.specs.private.Saying.{submission_of}
 use Rattle.lpis_gate.proofs.publish.answer_to.Goals as goal
 
@@ -28,3 +29,11 @@ returns-in-Ok-clause-moves g c =
 pub returns-in-Err-Refused-clause-answer : goal.returns-in-Err-Refused-clause-answer
 returns-in-Err-Refused-clause-answer g c =
     rw c.in-Err-Refused.answer-is (answer-unsaid _ (submission_of c.args.submission) _ (rw c.in-Err-Refused.field-0-is at c.in-Err-Refused.ensures.unsaid))
+
+pub returns-in-Ok-clause-cause : goal.returns-in-Ok-clause-cause
+returns-in-Ok-clause-cause g c =
+    let s = c.in-Ok.said in
+    let old = c.args.register.now in
+    let new = c.answer_to_said.new.register in
+    fails-submitted g.S.Store (submission_of c.args.submission) c.args.year s.release s.cert s.rows.items (register_of old.conn old.history old.shapes.items)
+    (register_of new.conn new.history new.shapes.items) c.answer_to_said.result c.in-Ok.ensures.said c.answer_to_said.ensures.cause

@@ -1,6 +1,6 @@
 use Rattle.std.proofs.Common.{inl, inr, ap, refl}
 use Rattle.sqlite.specs.Held.{state}
-use Rattle.lpis_gate.proofs.PublishLemmas.{added-accepted, answer-accepted, leaves-committed, leaves-kept, still-held}
+use Rattle.lpis_gate.proofs.PublishLemmas.{added-accepted, answer-accepted, leaves-committed, leaves-kept, memory-no-store, still-held}
 use Rattle.lpis_gate.proofs.publish.publish_accepted.Goals as goal
 
 pub returns-in-Ok-clause-answer : goal.returns-in-Ok-clause-answer
@@ -36,9 +36,23 @@ returns-in-Err-Memory-clause-leaves g c =
     let stored = c.in-Err-Memory.ensures.stores made.0 made.1 made.2 made.3 made.4 in
     leaves-kept _ old new h k s t (inl refl) kept stored.err
     (λ other held. elim c.in-Err-Memory.ensures.untouched [
-      | inl e ↦ cc e
+      | inl (inl e) ↦ cc e
+      | inl (inr e) ↦ cc e
       | inr p ↦ still-held old new h k s t (ap (state g.S.Store) p.1) kept held
     ])
+
+pub returns-in-Err-Store-clause-leaves : goal.returns-in-Err-Store-clause-leaves
+returns-in-Err-Store-clause-leaves g c =
+    let made = c.requires.made in
+    let old = state g.S.Store c.args.register.now.conn in
+    let new = state g.S.Store c.commit.new.self.conn in
+    let kept = (c.in-Err-Store.ensures.publishes made.0 made.1 made.2 made.3 made.4).refused in
+    let stored = c.in-Err-Store.ensures.stores made.0 made.1 made.2 made.3 made.4 in
+    leaves-kept _ old new c.args.register.now.history c.commit.new.self.history c.args.register.now.shapes.items c.commit.new.self.shapes.items
+    (inr (inl refl)) kept stored.err (λ other held. absurd (other (inl refl)))
+
+pub returns-in-Err-Store-clause-cause : goal.returns-in-Err-Store-clause-cause
+returns-in-Err-Store-clause-cause g c clean is = c.in-Err-Store.ensures.cause clean c.in-Err-Store.field-0-is
 
 pub returns : goal.returns
 returns g c =
@@ -51,5 +65,6 @@ returns g c =
       answer = λ rows it. tt;
       added = λ rows it. tt;
       leaves = leaves-kept _ old new c.args.register.now.history c.commit.new.self.history c.args.register.now.shapes.items c.commit.new.self.shapes.items
-          (inr refl) kept stored.err (λ other held. absurd (other refl));
+          (inr (inr refl)) kept stored.err (λ other held. absurd (other (inr refl)));
+      cause = λ clean is. memory-no-store is;
     }
