@@ -1,5 +1,6 @@
 -- How a run over regions goes on, and ends.
-use Rattle.std.proofs.Common.{◌≡◌, ◌<◌, ◌≤◌, ◌⊎◌, ◌∙◌, ◌++◌, ◌∷◌, ◌+◌, ◌*◌, [], refl, sym, ap, ap₂, subst, arith, inl, inr, IfErr, IfOk, IsErrAnd, OnOk, ℕ, List, All, Option, None, Some, Result, Ok, Err, Vec, drop, get_or, length, take}
+use Rattle.std.proofs.Common.{◌≡◌, ◌<◌, ◌≤◌, ◌⊎◌, ◌∙◌, ◌++◌, ◌∷◌, ◌+◌, ◌*◌, [], refl, sym, ap, ap₂, subst, arith, inl, inr, IfErr, IfOk, IsErrAnd}
+use Rattle.std.proofs.Common.{OnOk, ℕ, List, All, Option, None, Some, Result, Ok, Err, Vec, drop, get_or, length, take}
 use Rattle.std.proofs.Math.Seq.{take-append-add}
 use Rattle.std.proofs.lemmas.List.{append-nil, drop_more, length-append}
 use Rattle.std.proofs.lemmas.List.Elements.{All-head, All-tail}
@@ -29,7 +30,8 @@ use Rattle.lpis_country_run.specs.CountryAnswer.{HavePassed, None as NonePassed,
 use Rattle.lpis_country_run.specs.CountryFailures.{IsOfNone, IsStoppedBefore, IsUnreadFolder}
 use Rattle.lpis_country_run.specs.CountryLines.{country_lines, region_report}
 use Rattle.lpis_country_run.specs.Regions.{AreOfFolder, Texts}
-use Rattle.lpis_country_run.specs.private.Progressing.{FollowsAs, HaveAllPassed, IsAt, IsFailureOf, IsFinished, IsHere, IsReady, IsStart, IsUnfinished, IsUnwritten, IsVerdict, IsVerdictText, IsWritten, RegionsBreakOff, RegionsEnd}
+use Rattle.lpis_country_run.specs.private.Progressing.{FollowsAs, HaveAllPassed, IsAt, IsFailureOf, IsFinished, IsHere, IsReady, IsStart, IsUnfinished}
+use Rattle.lpis_country_run.specs.private.Progressing.{IsUnwritten, IsVerdict, IsVerdictText, IsWritten, RegionsBreakOff, RegionsEnd}
 use Rattle.lpis_country_run.specs.private.Totals.{AreTotalsOf, last_lines}
 use Rattle.lpis_country_run.proofs.PassedLemmas.{passed_more, reached_by, refused_next}
 use Rattle.lpis_country_run.proofs.TotalsLemmas.{few_new, last_lines_are, totals_grow}
@@ -56,7 +58,8 @@ next-there : (next before n tiles names items : ℕ) → next ≡ before → bef
 next-there next before n tiles names items a b c d lt = omega arith
 
 -- the next region can be read
-pub ready : (s : Setting) (texts : List ℕ → Texts) (names : List (List ℕ)) (detail : Detail) (p q : Progress) (n : ℕ) (old new : Option (List ℕ)) → IsStart s texts names detail p → IsHere s q n old new
+pub ready : (s : Setting) (texts : List ℕ → Texts) (names : List (List ℕ)) (detail : Detail) (p q : Progress) (n : ℕ) (old new : Option (List ℕ)) → IsStart s texts names detail p
+    → IsHere s q n old new
     → n < length names → IsReady q
 ready s texts names detail p q n old new start here lt = record {
   next = next-there _ _ _ _ _ _ here.at.seam.number here.number (ap length here.at.seam.tiles_are) start.as_many lt;
@@ -103,18 +106,21 @@ pub goes_on : (s : Setting) (names : List (List ℕ)) (p q : Progress) (n : ℕ)
 goes_on s names p q n old now new name here are lt is (r, passes, written, at) = record {
   before = here.before ++ r ∷ [];
   text = here.text ++ region_report s.detail (country_of s.classes here.before) name r;
-  have_passed = passed_more s n here.before here.text name r (subst (λ (ks : List (List ℕ)). n < length ks) (sym are) lt) (is ∙ ap (λ (ks : List (List ℕ)). get_or ks n []) (sym are)) here.have_passed passes;
+  have_passed = passed_more s n here.before here.text name r (subst (λ (ks : List (List ℕ)). n < length ks) (sym are) lt)
+      (is ∙ ap (λ (ks : List (List ℕ)). get_or ks n []) (sym are)) here.have_passed passes;
   written = appends-more old now new here.text (region_report s.detail (country_of s.classes here.before) name r) here.written written;
   at = at;
   number = length-append here.before (r ∷ []) ∙ ap (λ (k : ℕ). k + 1) here.number;
 }
 
 -- the next region is refused
-pub is_refused : (s : Setting) (names : List (List ℕ)) (p q : Progress) (n status : ℕ) (old now new : Option (List ℕ)) (name : List ℕ) (here : IsHere s p n old now) → s.names ≡ names → n < length names
+pub is_refused : (s : Setting) (names : List (List ℕ)) (p q : Progress) (n status : ℕ) (old now new : Option (List ℕ)) (name : List ℕ) (here : IsHere s p n old now) → s.names ≡ names
+    → n < length names
     → name ≡ get_or names n [] → IsWritten s here.before name q now new (Some status) → RegionsEnd s old new status
 is_refused s names p q n status old now new name here are lt is (text, refusal, written) = (
   here.text ++ text,
-  refused_next s n here.before here.text name text status (subst (λ (ks : List (List ℕ)). n < length ks) (sym are) lt) (is ∙ ap (λ (ks : List (List ℕ)). get_or ks n []) (sym are)) here.have_passed refusal,
+  refused_next s n here.before here.text name text status (subst (λ (ks : List (List ℕ)). n < length ks) (sym are) lt)
+      (is ∙ ap (λ (ks : List (List ℕ)). get_or ks n []) (sym are)) here.have_passed refusal,
   appends-more old now new here.text text here.written written,
 )
 
@@ -242,7 +248,8 @@ all_end s names p n status old now new here are e fin = (
 )
 
 -- after all regions passed, a run that is not finished breaks off
-pub all_break_off : (s : Setting) (names : List (List ℕ)) (p : Progress) (n : ℕ) (old now new : Option (List ℕ)) (failure : Failure) (f : CountryFailure) (here : IsHere s p n old now) → s.names ≡ names
+pub all_break_off : (s : Setting) (names : List (List ℕ)) (p : Progress) (n : ℕ) (old now new : Option (List ℕ)) (failure : Failure) (f : CountryFailure) (here : IsHere s p n old now)
+    → s.names ≡ names
     → n ≡ length names → IsUnfinished s here.before now new failure → IsOfNone f failure → RegionsBreakOff s old new f
 all_break_off s names p n old now new failure f here are e (inl (memory, keeps)) of =
     inl (here.before, here.text, [], all-reached s names p n old now here are e, subst (λ (x : Failure). IsOfNone f x) memory of, appends-kept old now new here.text here.written keeps)
@@ -263,8 +270,14 @@ all_break_off s names p n old now new failure f here are e (inr (write, begins))
 -- where as many regions passed as there are folders, those of all folders passed, and they are joined
 pub all_passed : (s : Setting) (names : List (List ℕ)) (p : Progress) (n : ℕ) (old now : Option (List ℕ)) (here : IsHere s p n old now) → s.names ≡ names → n ≡ length names
     → HaveAllPassed s here.before
-all_passed s names p n old now here are e =
-    ((here.text, subst (λ (ks : List (List ℕ)). HavePassed s ks here.before here.text) (ap (λ (k : ℕ). take k s.names) (e ∙ sym (ap length are)) ∙ take-all s.names) here.have_passed), here.at.seam.joined)
+all_passed s names p n old now here are e = (
+  (
+    here.text,
+    subst (λ (ks : List (List ℕ)). HavePassed s ks here.before here.text)
+        (ap (λ (k : ℕ). take k s.names) (e ∙ sym (ap length are)) ∙ take-all s.names) here.have_passed,
+  ),
+  here.at.seam.joined,
+)
   where
     take-all : (xs : List (List ℕ)) → take (length xs) xs ≡ xs
     take-all [] = refl

@@ -31,7 +31,8 @@ pub totals_plus : (r : Contents) (ks ls : List Parcel) (s t u : Totals) → u.pa
 totals_plus r ks ls s t u parcels pieces a b areas = record {
   parcels = parcels ∙ ap₂ (λ (x y : ℕ). x + y) a.parcels b.parcels ∙ sym (length-append ks ls);
   pieces = pieces ∙ ap₂ (λ (x y : ℕ). x + y) a.pieces b.pieces ∙ sym (sum_by-append (λ (k : Parcel). length (pieces_named r k.id)) ks ls);
-  pieces_few = subst (λ (x : ℕ). x ≤ most_rows * length (ks ++ ls)) (sym pieces) (pieces-both (length ks) (length ls) (length (ks ++ ls)) s.pieces t.pieces (length-append ks ls) a.pieces_few b.pieces_few);
+  pieces_few = subst (λ (x : ℕ). x ≤ most_rows * length (ks ++ ls)) (sym pieces) (pieces-both (length ks) (length ls)
+      (length (ks ++ ls)) s.pieces t.pieces (length-append ks ls) a.pieces_few b.pieces_few);
   areas = areas;
 }
 
@@ -90,7 +91,8 @@ pub few_places : (u r : Contents) (places : List ℕ) → AreAt r places (new_pa
 few_places u r places at few = let long = few_new u r most_rows few in let same = as_many_places r.parcels places (new_parcels u r) at in omega (arith, long, same)
 
 -- the totals of a region's new parcels can be added to a country's that has room for a full table more
-pub addable : (u r : Contents) (ks : List Parcel) (s t : Totals) → AreTotalsOf u ks s → AreTotalsOf r (new_parcels u r) t → length r.parcels ≤ most_rows → s.parcels + most_rows ≤ most_parcels → AreAddable s t
+pub addable : (u r : Contents) (ks : List Parcel) (s t : Totals) → AreTotalsOf u ks s → AreTotalsOf r (new_parcels u r) t → length r.parcels ≤ most_rows → s.parcels + most_rows ≤ most_parcels
+    → AreAddable s t
 addable u r ks s t a b few room = record {
   first = bounded_of u ks s a;
   second = bounded_of r (new_parcels u r) t b;

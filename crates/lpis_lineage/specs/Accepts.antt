@@ -37,11 +37,16 @@ abbrev pub Adds : List Entry → List Entry → ℕ → List (List ℕ) → List
 Adds old new year live rows = (e : Entry) × (new ≡ old ++ e ∷ []) × (e.year ≡ year)
     × IsReleaseEntry live rows e
 
+-- why `add` refuses this release: its year is not above the last one; else the first fault of its
+-- lineage. Out of memory is set aside
+abbrev pub IsAddFault : List Entry → ℕ → List (List ℕ) → List Row → AddFault → Type 0
+IsAddFault h year live rows Memory = Unit {0}
+IsAddFault h year live rows (Year last) = (year ≤ last_year h) × (last ≡ last_year h)
+IsAddFault h year live rows (Lineage fault) = (last_year h < year)
+    × (first (faults h live rows) ≡ Some fault)
+
 -- what `add` answers
 abbrev pub AddTells : {A : Type 0} → List Entry → ℕ → List (List ℕ) → List Row → Result A AddFault
     → Type 0
 AddTells h year live rows (Ok a) = (last_year h < year) × (faults h live rows ≡ [])
-AddTells h year live rows (Err Memory) = Unit {0}
-AddTells h year live rows (Err (Year last)) = (year ≤ last_year h) × (last ≡ last_year h)
-AddTells h year live rows (Err (Lineage fault)) = (last_year h < year)
-    × (first (faults h live rows) ≡ Some fault)
+AddTells h year live rows (Err fault) = IsAddFault h year live rows fault

@@ -15,7 +15,7 @@ use Rattle.lpis_register_sql.specs.Commits.{AllStand, Rewrites}
 use Rattle.lpis_register.specs.Accepting.{IsPrepared}
 use Rattle.lpis_register.specs.Publishing.{FollowsHistory, LeavesRelease, Stores}
 use Rattle.lpis_register.specs.declared.accepting.Accepted.{Accepted}
-use Rattle.lpis_register.specs.private.Writes.{Commits, IsToWrite, Writes}
+use Rattle.lpis_register.specs.private.Writes.{Commits, IsToWrite, WritesRelease}
 use Rattle.lpis_register.proofs.FindingLemmas.{Reordered, still_holds}
 use Rattle.lpis_register.proofs.HoldingLemmas.{holds_with, left_with, nothing_done, survives_with}
 use Rattle.lpis_register.proofs.ResultLemmas.{on_err, on_ok}
@@ -61,7 +61,7 @@ module _ (more : TellsMore) (put : PutsTexts) (lives : LivesOn) (moved : Reorder
   alive : (h : List Entry) → IsToWrite now last a h → AreLive (last_live now) a.kept.shapes.items
   alive h due = lives h now due.year (parcel_ids due.parcels) due.rows due.follows.adds a.kept.shapes.items due.made.kept_is.live
 
-  pub statements_write : (old new : State) (r : Result (Unit {0}) Error) → Rewrites AllStand whole old new r → Writes now last a old new r
+  pub statements_write : (old new : State) (r : Result (Unit {0}) Error) → Rewrites AllStand whole old new r → WritesRelease now last a old new r
   statements_write old new r wrote = record {
     ok = λ h shapes due clean holds.
         let c = holds.content in
@@ -103,11 +103,11 @@ module _ (h k : List Entry) (year : ℕ) (parcels : List Parcel) (rows : List Ro
   }
 
 module _ (now : List Entry) (last : ℕ) (a : Accepted) (h : List Entry) (due : IsToWrite now last a h) (old new : State) where
-  crashed : {E : Type 0} (r : Result (Unit {0}) E) → Writes now last a old new r → (shapes : List Shape) → HoldsRegister old h shapes
+  crashed : {E : Type 0} (r : Result (Unit {0}) E) → WritesRelease now last a old new r → (shapes : List Shape) → HoldsRegister old h shapes
       → Survives old new (LeavesRelease h due.year due.parcels due.rows)
   crashed r w shapes holds = survives_weaker old new _ _ (λ clean db left. (now, a.kept.shapes.items, due.follows, left)) (w.crash h shapes due holds)
 
-  pub write_commits : {E F : Type 0} (x y : Unit {0}) → Writes now last a {E = E} old new (Ok x) → Commits h now due.year due.parcels due.rows a {E = F} old new (Ok y)
+  pub write_commits : {E F : Type 0} (x y : Unit {0}) → WritesRelease now last a {E = E} old new (Ok x) → Commits h now due.year due.parcels due.rows a {E = F} old new (Ok y)
   write_commits {E} x y w = record {
     follows = due.follows;
     refused = tt;
@@ -117,7 +117,7 @@ module _ (now : List Entry) (last : ℕ) (a : Accepted) (h : List Entry) (due : 
     durable = λ shapes clean holds db may. w.durable h shapes due clean holds db may;
   }
 
-  pub taken_back : {E F : Type 0} (k : List Entry) (e : E) (f : F) → k ≡ h → Writes now last a old new (Err e) → Commits h k due.year due.parcels due.rows a old new (Err f)
+  pub taken_back : {E F : Type 0} (k : List Entry) (e : E) (f : F) → k ≡ h → WritesRelease now last a old new (Err e) → Commits h k due.year due.parcels due.rows a old new (Err f)
   taken_back k e f same w = record {
     follows = tt;
     refused = same;

@@ -5,7 +5,7 @@ use Rattle.sqlite.specs.declared.error.Error.{Error}
 use Rattle.sqlite.specs.declared.error.Error.TheVariants.{SqliteFailure}
 use Rattle.sqlite.specs.declared.error.ErrorCode.TheVariants.{OutOfMemory}
 use Rattle.sqlite_trees.specs.declared.store.Store as store
-use Rattle.lpis_register_sql.specs.Stopping.{BoundStatement, Stops, release_statements}
+use Rattle.lpis_register_sql.specs.Stopping.{BoundStatement, StopsWithin, release_statements}
 use Rattle.lpis_lineage.specs.Lineage.{last_year}
 use Rattle.lpis_cert.specs.declared.part.ExactBlock.{ExactBlock}
 use Rattle.lpis_parcels.specs.Release.{Contents}
@@ -22,7 +22,7 @@ or_shut false f = inl refl
 
 -- where the failure is reported as the store's, memory was not what was refused
 pub fails_to_run : {S : Type 0} (g : store.Ghosts S) (xs : List BoundStatement) (old new : Held S) (e : Error) (fault : PublishFault) → (e ≡ SqliteFailure OutOfMemory → fault ≡ StoreMemory) → fault ≡ Store
-    → (IsTrue (state g old).is_open → Stops g xs (record old { in_transaction = true }) new e) → FailsToRun g xs old new
+    → (IsTrue (state g old).is_open → StopsWithin g xs (record old { in_transaction = true }) new e) → FailsToRun g xs old new
 fails_to_run g xs old new e fault memory is stops = or_shut (state g old).is_open (λ up. elim (stops up) [
   | inl refused ↦ absurd (let m = memory refused in cc)
   | inr stopped ↦ stopped
@@ -31,11 +31,11 @@ fails_to_run g xs old new e fault memory is stops = or_shut (state g old).is_ope
 -- the statements are those of the accepted release
 pub stops_as : {S : Type 0} (g : store.Ghosts S) (last : ℕ) (a : Accepted) (y l : ℕ) (gone fresh : List (List ℕ)) (rows : List Row) (texts : List StoredText) → y ≡ a.year → l ≡ last
     → gone ≡ a.step.change.dropped_ids → fresh ≡ a.step.fresh.items → rows ≡ a.step.change.rows → texts ≡ a.kept.texts.items → (old new : Held S) (r : Result (Unit {0}) Error)
-    → IfErr r (Stops g (release_statements (pos y) (pos l) gone fresh rows texts) old new) → IfErr r (Stops g (accepted_statements last a) old new)
+    → IfErr r (StopsWithin g (release_statements (pos y) (pos l) gone fresh rows texts) old new) → IfErr r (StopsWithin g (accepted_statements last a) old new)
 stops_as g last a y l gone fresh rows texts ey el eg ef er et old new r h =
-    let one = subst₂ (λ v w. IfErr r (Stops g (release_statements (pos v) (pos w) gone fresh rows texts) old new)) ey el h in
-    let two = subst₂ (λ v w. IfErr r (Stops g (release_statements (pos a.year) (pos last) v w rows texts) old new)) eg ef one in
-    subst₂ (λ v w. IfErr r (Stops g (release_statements (pos a.year) (pos last) a.step.change.dropped_ids a.step.fresh.items v w) old new)) er et two
+    let one = subst₂ (λ v w. IfErr r (StopsWithin g (release_statements (pos v) (pos w) gone fresh rows texts) old new)) ey el h in
+    let two = subst₂ (λ v w. IfErr r (StopsWithin g (release_statements (pos a.year) (pos last) v w rows texts) old new)) eg ef one in
+    subst₂ (λ v w. IfErr r (StopsWithin g (release_statements (pos a.year) (pos last) a.step.change.dropped_ids a.step.fresh.items v w) old new)) er et two
 
 -- the accepted release follows the last one
 pub fails_after : {S : Type 0} (g : store.Ghosts S) (l last : ℕ) (a : Accepted) (old new : Held S) (r : Result (Unit {0}) PublishFault) → l ≡ last

@@ -1,11 +1,12 @@
 -- Which faults a call may answer.
-use Rattle.std.specs.Prelude.{◌≡◌, ◌≢◌, ◌<◌, ◌≤◌, ◌⊎◌, ℕ, List, Some, Result, Ok, Err}
+use Rattle.std.specs.Prelude.{◌≡◌, ◌≢◌, ◌<◌, ◌⊎◌, ℕ, List, Result, Ok, Err}
 use Rattle.lpis_checker.specs.declared.exact.ExactFault.TheVariants as exact
 use Rattle.lpis_cert.specs.declared.part.ExactBlock.{ExactBlock}
 use Rattle.lpis_exact_lineage.specs.Asking.{IsShown, IsUnkept, IsUnshown}
 use Rattle.lpis_lineage.specs.declared.row.Row.{Row}
 use Rattle.lpis_lineage.specs.declared.row.Entry.{Entry}
-use Rattle.lpis_lineage.specs.Faults.{faults, first}
+use Rattle.lpis_lineage.specs.declared.fault.AddFault.TheVariants as add
+use Rattle.lpis_lineage.specs.Accepts.{IsAddFault}
 use Rattle.lpis_lineage.specs.Lineage.{last_year}
 use Rattle.lpis_parcels.specs.Release.{Contents, parcel_ids}
 use Rattle.lpis_register_rows.specs.Shapes.{Shape}
@@ -19,15 +20,13 @@ use Rattle.lpis_register.specs.declared.fault.PublishFault.TheVariants.{Unlawful
 -- certificate and these rows of lineage
 module _ (h : List Entry) (kept : List Shape) (year : ℕ) (r : Contents) (blocks : List ExactBlock)
     (rows : List Row) where
-  -- why publishing it is refused: its year is not above the last one; else for the first fault of
-  -- its lineage; else for the first old shape that an exact group needs and that is not kept; else
-  -- for the first block that does not show what it is to. Out of memory and the database's failures
-  -- are set aside
+  -- why publishing it is refused: as adding its identifiers and rows to the history is; else for
+  -- the first old shape that an exact group needs and that is not kept; else for the first block
+  -- that does not show what it is to. Out of memory and the database's failures are set aside
   abbrev pub IsRefused : PublishFault → Type 0
   IsRefused Memory = Unit {0}
-  IsRefused (Year last) = (year ≤ last_year h) × (last ≡ last_year h)
-  IsRefused (Lineage fault) =
-      (last_year h < year) × (first (faults h (parcel_ids r.parcels) rows) ≡ Some fault)
+  IsRefused (Year last) = IsAddFault h year (parcel_ids r.parcels) rows (add.Year last)
+  IsRefused (Lineage fault) = IsAddFault h year (parcel_ids r.parcels) rows (add.Lineage fault)
   IsRefused (NotKept id) = (last_year h < year) × IsUnkept h kept r rows id
   IsRefused (Exact fault) =
       (last_year h < year) × (fault ≢ exact.Memory) × IsUnshown h kept r blocks rows fault

@@ -9,11 +9,11 @@ ghost use Rattle.lpis_lineage.specs.declared.row.Entry.{Entry};
 ghost use Rattle.lpis_lineage.specs.declared.row.Row.{Row};
 ghost use Rattle.lpis_lineage.specs.Lineage.{last_year};
 ghost use Rattle.lpis_parcels.specs.declared.parcel.Parcel.{Parcel};
-ghost use Rattle.lpis_register_sql.specs.Stopping.{Stops};
+ghost use Rattle.lpis_register_sql.specs.Stopping.{StopsWithin};
 ghost use Rattle.lpis_register.specs.Accepting.{IsPrepared};
 ghost use Rattle.lpis_register.specs.Failing.{HasStoreCause, accepted_statements};
 ghost use Rattle.lpis_register.specs.Faults.{IsStoreFault};
-ghost use Rattle.lpis_register.specs.private.Writes.{Commits, EndsWithRelease, IsToWrite, Writes};
+ghost use Rattle.lpis_register.specs.private.Writes.{Commits, EndsWithRelease, IsToWrite, WritesRelease};
 ghost use Rattle.lpis_register.specs.declared.fault.PublishFault.TheVariants.{Memory, Store};
 ghost use Rattle.lpis_register.specs.declared.fault.PublishFault.TheVariants.{StoreMemory};
 
@@ -34,10 +34,10 @@ fn write_at_end<S: Alter>(
 ) -> Result<(), Error>
     requires autocommit { conn.old.in_transaction ≡ false }
     ensures autocommit { conn.new.in_transaction ≡ false }
-    ensures writes { Writes history.now last accepted.now (state S.Store conn.old)
+    ensures writes { WritesRelease history.now last accepted.now (state S.Store conn.old)
         (state S.Store conn.new) result }
     ensures stops { IsTrue (state S.Store conn.old).is_open → HasCleanDisk (state S.Store conn.new)
-        → IfErr result (Stops S.Store (accepted_statements last accepted.now)
+        → IfErr result (StopsWithin S.Store (accepted_statements last accepted.now)
         (record conn.old { in_transaction = true }) conn.new) }
 {
     let _ = history.releases();

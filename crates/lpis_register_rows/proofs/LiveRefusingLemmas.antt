@@ -1,5 +1,5 @@
 -- What live rows that say a history have: what they are refused for otherwise.
-use Rattle.std.proofs.Common.{◌≡◌, ◌∙◌, ◌<◌, ◌+◌, refl, sym, ap, ap₂, subst, arith, ℕ, zero, suc, ℤ, pos, List, [], ◌∷◌, ◌++◌, Bool, true, length, map, get_or, ◌&&◌}
+use Rattle.std.proofs.Common.{◌≡◌, ◌∙◌, ◌<◌, refl, sym, ap, ap₂, subst, arith, ℕ, zero, suc, ℤ, pos, List, [], ◌∷◌, Bool, true, length, map, get_or, ◌&&◌}
 use Rattle.std.proofs.Common.{All, Contains}
 use Rattle.lpis_register_rows.proofs.Common.{AllByRecursion, list_any, All-from_recursion, recursion_from_All, both_ways, is_id, same_id, Entry, IsLawful, entry_at, holds, same-exact}
 use Rattle.lpis_register_rows.proofs.Common.{same-refl}

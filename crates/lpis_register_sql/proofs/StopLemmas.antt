@@ -20,7 +20,7 @@ use Rattle.sqlite.specs.declared.error.Error.TheVariants.{SqliteFailure}
 use Rattle.sqlite.specs.declared.error.ErrorCode.TheVariants as code
 use Rattle.lpis_register_sql.specs.private.Inside.{Makes}
 use Rattle.lpis_register_sql.proofs.Common.{Does, Error, ExecutesInside, HasCleanDisk, IsQuiet, State, Survives, Trees, mode_of, state}
-use Rattle.lpis_register_sql.specs.Stopping.{BoundStatement, IsRefusedIn, IsStuck, Ran, Stops}
+use Rattle.lpis_register_sql.specs.Stopping.{BoundStatement, IsRefusedIn, IsStuck, Ran, StopsWithin}
 
 -- what follows of an answer follows where there is one
 pub on_ok : {A E P Q : Type 0} (r : Result A E) → (P → Q) → OnOk r P → OnOk r Q
@@ -91,7 +91,7 @@ faults_kept a b c more low = omega arith
 
 -- a call that makes these statements in an open transaction fails, and says why
 abbrev Halts : {S : Type 0} → store.Ghosts S → List BoundStatement → Held S → Held S → Error → Type 0
-Halts g xs a b e = HasCleanDisk (state g b) → IsTrue (state g a).is_open → IsTrue a.in_transaction → Stops g xs a b e
+Halts g xs a b e = HasCleanDisk (state g b) → IsTrue (state g a).is_open → IsTrue a.in_transaction → StopsWithin g xs a b e
 
 module _ {S : Type 0} (g : store.Ghosts S) where
   -- ---- statements in turn
@@ -101,7 +101,7 @@ module _ {S : Type 0} (g : store.Ghosts S) where
   one_ran x a b count ran same = (b, count, ran, same, refl)
 
   -- and one that was not
-  pub one_stops : (x : BoundStatement) (a b : Held S) (e : Error) → IsTrue (state g a).is_open → ExecutesInside 0 x.sql x.values (state g a) (state g b) (Err e) → Stops g (x ∷ []) a b e
+  pub one_stops : (x : BoundStatement) (a b : Held S) (e : Error) → IsTrue (state g a).is_open → ExecutesInside 0 x.sql x.values (state g a) (state g b) (Err e) → StopsWithin g (x ∷ []) a b e
   one_stops x a b e up ran = elim (stopped x (state g a) (state g b) e up ran) [
     | inl memory ↦ inl memory
     | inr disk ↦ inr (elim disk [
@@ -142,13 +142,13 @@ module _ {S : Type 0} (g : store.Ghosts S) where
   }
 
   -- where the first of two lists stops, both do
-  pub stops_before : (xs ys : List BoundStatement) (a b : Held S) (e : Error) → Stops g xs a b e → Stops g (xs ++ ys) a b e
+  pub stops_before : (xs ys : List BoundStatement) (a b : Held S) (e : Error) → StopsWithin g xs a b e → StopsWithin g (xs ++ ys) a b e
   stops_before xs ys a b e (inl memory) = inl memory
   stops_before xs ys a b e (inr (inl more)) = inr (inl more)
   stops_before xs ys a b e (inr (inr stuck)) = inr (inr (stuck_before xs ys a stuck))
 
   -- and where the first was run and the second stops
-  pub stops_after : (xs ys : List BoundStatement) (a b c : Held S) (e : Error) → (state g a).faults ≤ (state g b).faults → Ran g xs a b → Stops g ys b c e → Stops g (xs ++ ys) a c e
+  pub stops_after : (xs ys : List BoundStatement) (a b c : Held S) (e : Error) → (state g a).faults ≤ (state g b).faults → Ran g xs a b → StopsWithin g ys b c e → StopsWithin g (xs ++ ys) a c e
   stops_after xs ys a b c e low ran (inl memory) = inl memory
   stops_after xs ys a b c e low ran (inr (inl more)) = inr (inl (more_faults (state g a).faults (state g b).faults (state g c).faults low more))
   stops_after xs ys a b c e low ran (inr (inr stuck)) = inr (inr (stuck_after xs ys a b ran stuck))
@@ -170,23 +170,23 @@ module _ {S : Type 0} (g : store.Ghosts S) where
   -- a failure that is handed on
   pub handed_on : (xs : List BoundStatement) (a b : Held S) (e : Error) (r : Result (Unit {0}) Error) → IsErrAnd r (λ x. x ≡ e) → Halts g xs a b e → Makes g xs a b r
   handed_on xs a b e (Ok _) is h = absurd is
-  handed_on xs a b e (Err x) is h = λ clean up within. subst (Stops g xs a b) (sym is) (h clean up within)
+  handed_on xs a b e (Err x) is h = λ clean up within. subst (StopsWithin g xs a b) (sym is) (h clean up within)
 
   -- no later call takes a cause away
-  stops_still : (xs : List BoundStatement) (a b c : Held S) (e : Error) → (state g b).faults ≤ (state g c).faults → Stops g xs a b e → Stops g xs a c e
+  stops_still : (xs : List BoundStatement) (a b c : Held S) (e : Error) → (state g b).faults ≤ (state g c).faults → StopsWithin g xs a b e → StopsWithin g xs a c e
   stops_still xs a b c e low (inl memory) = inl memory
   stops_still xs a b c e low (inr (inl more)) = inr (inl (faults_kept (state g a).faults (state g b).faults (state g c).faults more low))
   stops_still xs a b c e low (inr (inr stuck)) = inr (inr stuck)
 
   -- a transaction that is dropped after its statements failed
   pub undone_stops : (xs : List BoundStatement) (a b c : Held S) (e : Error) (r : Result (Unit {0}) Error) → IsErrAnd r (λ x. x ≡ e) → Survives (state g b) (state g c) (λ _. ⊥) → Halts g xs a b e
-      → HasCleanDisk (state g c) → IsTrue (state g a).is_open → IsTrue a.in_transaction → IfErr r (Stops g xs a c)
+      → HasCleanDisk (state g c) → IsTrue (state g a).is_open → IsTrue a.in_transaction → IfErr r (StopsWithin g xs a c)
   undone_stops xs a b c e (Ok _) is drops h clean up within = tt
   undone_stops xs a b c e (Err x) is drops h clean up within =
-      subst (Stops g xs a c) (sym is) (stops_still xs a b c e drops.counts (h (omega (arith, drops.clean)) up within))
+      subst (StopsWithin g xs a c) (sym is) (stops_still xs a b c e drops.counts (h (omega (arith, drops.clean)) up within))
 
   failed_commit : (xs : List BoundStatement) (a b c : Held S) (e : Error) → (state g a).faults ≤ (state g b).faults → Ran g xs a b → IsTrue (state g a).is_open → IsTrue a.in_transaction
-      → FailsToCommit (state g b) (state g c) e → Stops g xs a c e
+      → FailsToCommit (state g b) (state g c) e → StopsWithin g xs a c e
   failed_commit xs a b c e low ran up within (inl failed) = elim (failing ⊥ (state g b) (state g c) e (ran_open xs a b ran up within).0 failed) [
     | inl memory ↦ inl memory
     | inr disk ↦ inr (elim disk [ inl more ↦ inl (more_faults (state g a).faults (state g b).faults (state g c).faults low more) | inr never ↦ absurd never ])
@@ -196,18 +196,18 @@ module _ {S : Type 0} (g : store.Ghosts S) where
   -- a transaction whose statements were run, and that is not committed
   pub commit_stops : (xs : List BoundStatement) (a b c : Held S) (r : Result (Unit {0}) Error) (P : Trees → Type 0) → IsQuiet (state g a) (state g b) → Survives (state g b) (state g c) P
       → (HasCleanDisk (state g c) → IfErr r (FailsToCommit (state g b) (state g c))) → Makes g xs a b (Ok tt)
-      → HasCleanDisk (state g c) → IsTrue (state g a).is_open → IsTrue a.in_transaction → IfErr r (Stops g xs a c)
+      → HasCleanDisk (state g c) → IsTrue (state g a).is_open → IsTrue a.in_transaction → IfErr r (StopsWithin g xs a c)
   commit_stops xs a b c (Ok _) P quiet ends err done clean up within = tt
   commit_stops xs a b c (Err e) P quiet ends err done clean up within =
       failed_commit xs a b c e quiet.survives.counts (done (omega (arith, ends.clean)) up within) up within (err clean)
 
   -- a call that begins a transaction for its statements
   pub begun_stops : (xs : List BoundStatement) (held first last new : Held S) (r : Result (Unit {0}) Error) → first ≡ record held { in_transaction = true } → last ≡ new
-      → (HasCleanDisk (state g last) → IsTrue (state g first).is_open → IsTrue first.in_transaction → IfErr r (Stops g xs first last))
-      → IsTrue (state g held).is_open → HasCleanDisk (state g new) → IfErr r (Stops g xs (record held { in_transaction = true }) new)
+      → (HasCleanDisk (state g last) → IsTrue (state g first).is_open → IsTrue first.in_transaction → IfErr r (StopsWithin g xs first last))
+      → IsTrue (state g held).is_open → HasCleanDisk (state g new) → IfErr r (StopsWithin g xs (record held { in_transaction = true }) new)
   begun_stops xs held first last new r begun same h up clean =
-      subst (λ x. IfErr r (Stops g xs (record held { in_transaction = true }) x)) same
-      (subst (λ x. IfErr r (Stops g xs x last)) begun (h (subst (λ x. HasCleanDisk (state g x)) (sym same) clean)
+      subst (λ x. IfErr r (StopsWithin g xs (record held { in_transaction = true }) x)) same
+      (subst (λ x. IfErr r (StopsWithin g xs x last)) begun (h (subst (λ x. HasCleanDisk (state g x)) (sym same) clean)
       (subst (λ x. IsTrue (state g x).is_open) (sym begun) up) (subst (λ x. IsTrue x.in_transaction) (sym begun) refl)))
 
   -- a loop makes the statements of one item more

@@ -110,5 +110,5 @@ module _ {S : Type 0} (store : Ghosts S) where
       MoreFaults (state store old).faults (state store new).faults ⊎ IsStuck xs old
 
   -- why these statements stop: memory was refused, or that
-  abbrev pub Stops : List BoundStatement → Held S → Held S → Error → Type 0
-  Stops xs old new e = (e ≡ SqliteFailure OutOfMemory) ⊎ IsStopped xs old new
+  abbrev pub StopsWithin : List BoundStatement → Held S → Held S → Error → Type 0
+  StopsWithin xs old new e = (e ≡ SqliteFailure OutOfMemory) ⊎ IsStopped xs old new

@@ -7,7 +7,7 @@ ghost use Rattle.lpis_register_rows.specs.Content.{with_year, with_spans, all_en
 ghost use Rattle.lpis_register_rows.specs.Content.{lines_from, marks_from, published, released};
 ghost use Rattle.lpis_register_rows.specs.Content.{with_lines};
 ghost use Rattle.lpis_register_sql.specs.Commits.{AllStand, Rewrites};
-ghost use Rattle.lpis_register_sql.specs.Stopping.{Stops, release_statements};
+ghost use Rattle.lpis_register_sql.specs.Stopping.{StopsWithin, release_statements};
 ghost use Rattle.lpis_register_sql.specs.Stopping.{row_statements, span_statements};
 ghost use Rattle.lpis_register_sql.specs.private.Inside.{IsQuiet, Makes, Turns};
 
@@ -80,7 +80,7 @@ pub fn write_release<S: Alter>(
         (published (pos year) (pos last) dropped.now fresh.now rows.now c))
         (state S.Store conn.old) (state S.Store conn.new) result }
     ensures stops { IsTrue (state S.Store conn.old).is_open → HasCleanDisk (state S.Store conn.new)
-        → IfErr result (Stops S.Store (release_statements (pos year) (pos last) dropped.now
+        → IfErr result (StopsWithin S.Store (release_statements (pos year) (pos last) dropped.now
         fresh.now rows.now texts.now) (record conn.old { in_transaction = true }) conn.new) }
 {
     let mut tx = conn.transaction();

@@ -9,9 +9,12 @@ use mir.Val.{SFits, to_z, of_z}
 use Rattle.lpis_points.specs.Range.{IsInRange}
 use Rattle.lpis_rings.specs.private.Margins.{ring_product_margin}
 
--- a coordinate as a machine number
-pub coordinate-is : (x : ℤ) → IsInRange x → to_z w64 (of_z w64 x) ≡ x
-coordinate-is x h = let f : SFits w64 x = omega (arith, ints) in to_z-of_z w64 x f
+-- a coordinate as a machine number of 128 bits
+pub coordinate-is : (x : ℤ) → IsInRange x → to_z w128 (of_z w128 (to_z w64 (of_z w64 x))) ≡ x
+coordinate-is x h =
+    let f : SFits w64 x = omega (arith, ints) in
+    let g : SFits w128 x = omega (arith, ints) in
+    ap (λ (y : ℤ). to_z w128 (of_z w128 y)) (to_z-of_z w64 x f) ∙ to_z-of_z w128 x g
 
 -- two numbers no larger than a product of coordinates have a difference that fits 128 bits
 pub term-fits : (p q : ℤ) → nat_abs p ≤ ring_product_margin → nat_abs q ≤ ring_product_margin → FitsSigned w128 (to_z w128 (of_z w128 p) -ℤ to_z w128 (of_z w128 q))

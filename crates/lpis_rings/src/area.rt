@@ -12,13 +12,13 @@ use crate::ring::Ring;
 use lpis_points::Point;
 
 /// The first number times the second.
-fn product(x: i64, y: i64) -> i128
+fn product(x: i128, y: i128) -> i128
     requires x_in { unsigned_abs x ≤ ring_coordinate_margin }
     requires y_in { unsigned_abs y ≤ ring_coordinate_margin }
     ensures value { result ≡ x *ℤ y }
     ensures small { unsigned_abs result ≤ ring_product_margin }
 {
-    x as i128 * y as i128
+    x * y
 }
 
 /// The term of an edge in the shoelace sum: `ax*by - bx*ay`.
@@ -26,7 +26,7 @@ fn shoelace_term(a: Point, b: Point) -> i128
     ensures value { result ≡ shoelace_term a b }
     ensures small { unsigned_abs result ≤ most_term }
 {
-    product(a.x, b.y) - product(b.x, a.y)
+    product(a.x as i128, b.y as i128) - product(b.x as i128, a.y as i128)
 }
 
 /// Twice the signed area of a ring in square millimetres, above 0 where it is counter-clockwise:

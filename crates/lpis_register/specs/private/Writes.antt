@@ -24,7 +24,7 @@ module _ (now : List Entry) (last : ℕ) (a : Accepted) where
 
   -- tables that hold the history before the release hold the whole one afterwards and its shapes,
   -- and with an error what they held; a crash leaves either, and right after the call the whole one
-  pub record Writes {E : Type 0} (old new : State) (r : Result (Unit {0}) E) : Type 0 where
+  pub record WritesRelease {E : Type 0} (old new : State) (r : Result (Unit {0}) E) : Type 0 where
     pub ok : (h : List Entry) (shapes : List Shape) → IsToWrite h → HasCleanDisk new
         → HoldsRegister old h shapes → OnOk r (HoldsRegister new now a.kept.shapes.items)
     pub err : (h : List Entry) (shapes : List Shape) → HasCleanDisk new → IsTrue new.is_open

@@ -8,7 +8,7 @@ use Rattle.sqlite_trees.specs.declared.store.Store.{Ghosts}
 use Rattle.lpis_register_rows.specs.Content.{Content}
 use Rattle.lpis_register_sql.specs.Layouts.{Layout, Origin, Whole}
 use Rattle.lpis_register_sql.specs.Holding.{HoldsRows}
-use Rattle.lpis_register_sql.specs.Stopping.{BoundStatement, Ran, Stops}
+use Rattle.lpis_register_sql.specs.Stopping.{BoundStatement, Ran, StopsWithin}
 
 -- a transaction over this commit, in which the tables hold this
 pub record Inside (s : Layout) (base : Database) (st : State) (c : Content) : Type 0 where
@@ -33,4 +33,4 @@ abbrev pub Makes : {S : Type 0} → Ghosts S → List BoundStatement → Held S 
     → Result (Unit {0}) Error → Type 0
 Makes store xs old new r = HasCleanDisk (state store new) → IsTrue (state store old).is_open
     → IsTrue old.in_transaction
-    → MatchResult r (λ _. Ran store xs old new) (Stops store xs old new)
+    → MatchResult r (λ _. Ran store xs old new) (StopsWithin store xs old new)

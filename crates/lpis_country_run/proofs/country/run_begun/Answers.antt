@@ -4,15 +4,19 @@ use Rattle.lpis_country_run.proofs.country.run_begun.Goals as goal
 pub run_regions-requires : goal.run_regions-requires
 run_regions-requires g c =
     let x = c.requires.0 in
-    let texts = g.G.Regions.texts c.args.regions.now in
-    (begun_setting texts c.args.detail x c.args.begun c.requires.1, starts texts c.args.detail x c.args.begun (record { seam = c.new.result; totals = c.none.result }) c.requires.1 c.new.ensures c.none.ensures)
+    let texts = g.G.Regions.texts c.args.regions.now in (
+      begun_setting texts c.args.detail x c.args.begun c.requires.1,
+      starts texts c.args.detail x c.args.begun
+          (record { seam = c.new.result; totals = c.none.result }) c.requires.1 c.new.ensures c.none.ensures,
+    )
 
 pub returns-clause-ends : goal.returns-clause-ends
 returns-clause-ends g c = λ x begun.
     let texts = g.G.Regions.texts c.args.regions.now in
     let s = begun_setting texts c.args.detail x c.args.begun begun in
     let start = starts texts c.args.detail x c.args.begun (record { seam = c.new.result; totals = c.none.result }) begun c.new.ensures c.none.ensures in
-    begun_ends texts c.args.detail x c.args.begun begun c.run_regions.result (g.W.Write.contents c.args.out.now) (g.W.Write.contents c.run_regions.new.out) c.a_country_of_joined_regions_is_sound.ensures
+    begun_ends texts c.args.detail x c.args.begun begun c.run_regions.result (g.W.Write.contents c.args.out.now)
+    (g.W.Write.contents c.run_regions.new.out) c.a_country_of_joined_regions_is_sound.ensures
     (c.run_regions.ensures.answer s start) (c.run_regions.ensures.proved s start)
 
 pub returns-clause-failure : goal.returns-clause-failure

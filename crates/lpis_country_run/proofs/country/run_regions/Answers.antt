@@ -26,7 +26,8 @@ returns-in-Some-clause-answer g c = λ s start.
     let lt : c.loop-index.index < length names = omega (arith, long, c.loop-index-test.true, c.len-index-end.ensures) in
     let is = c.as_str.ensures.value ∙ ap string_bytes c.index.ensures ∙ sym (get_or-map string_bytes c.args.names.items c.loop-index.index _ [] inside) in
     is_refused s names c.loop-index.progress c.pass-passed.new.progress c.loop-index.index c.in-Some.status _ _ _ c.as_str.result.now here are lt is
-    (subst (λ o. IsWritten s here.before c.as_str.result.now c.pass-passed.new.progress (g.W.Write.contents c.loop-index.out) (g.W.Write.contents c.pass-passed.new.out) o) c.in-Some.is (c.in-Ok.ensures.written s here.before here.at run))
+    (subst (λ o. IsWritten s here.before c.as_str.result.now c.pass-passed.new.progress (g.W.Write.contents c.loop-index.out)
+    (g.W.Write.contents c.pass-passed.new.out) o) c.in-Some.is (c.in-Ok.ensures.written s here.before here.at run))
 
 pub returns-in-Err-clause-failure : goal.returns-in-Err-clause-failure
 returns-in-Err-clause-failure g c = λ s start.
@@ -52,7 +53,8 @@ loop-index-preserved g c = λ s start.
     let lt : c.loop-index.index < length names = omega (arith, long, c.loop-index-test.true, c.len-index-end.ensures) in
     let is = c.as_str.ensures.value ∙ ap string_bytes c.index.ensures ∙ sym (get_or-map string_bytes c.args.names.items c.loop-index.index _ [] inside) in
     goes_on s names c.loop-index.progress c.pass-passed.new.progress c.loop-index.index _ _ _ c.as_str.result.now here are lt is
-    (subst (λ o. IsWritten s here.before c.as_str.result.now c.pass-passed.new.progress (g.W.Write.contents c.loop-index.out) (g.W.Write.contents c.pass-passed.new.out) o) c.in-None.is (c.in-Ok.ensures.written s here.before here.at run))
+    (subst (λ o. IsWritten s here.before c.as_str.result.now c.pass-passed.new.progress (g.W.Write.contents c.loop-index.out)
+    (g.W.Write.contents c.pass-passed.new.out) o) c.in-None.is (c.in-Ok.ensures.written s here.before here.at run))
 
 pub returns-in_err-finish-clause-failure : goal.returns-in_err-finish-clause-failure
 returns-in_err-finish-clause-failure g c = λ s start.

@@ -13,4 +13,7 @@ returns-in-Ok-clause-ends g c = λ texts detail x unbegun. record {
 
 pub returns-in-Err-clause-failure : goal.returns-in-Err-clause-failure
 returns-in-Err-clause-failure g c = λ texts detail x unbegun.
-    inr (subst (λ failure. IsOfNone c.from.result failure) c.in-Err.ensures.failure.0 c.from.ensures, (c.args.answer.now.text.items, inr (c.args.answer.now.status, unbegun.answer texts detail), c.in-Err.ensures.failure.1))
+    inr (
+      subst (λ failure. IsOfNone c.from.result failure) c.in-Err.ensures.failure.0 c.from.ensures,
+      (c.args.answer.now.text.items, inr (c.args.answer.now.status, unbegun.answer texts detail), c.in-Err.ensures.failure.1),
+    )

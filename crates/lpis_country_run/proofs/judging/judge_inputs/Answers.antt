@@ -4,5 +4,6 @@ use Rattle.lpis_country_run.proofs.judging.judge_inputs.Goals as goal
 
 pub returns-in-Ok : goal.returns-in-Ok
 returns-in-Ok c = λ s before at of told.
-    judged c.follow.result s before c.args.name.now (inputs_of c.args.inputs) c.in-Ok.release c.follow.new.progress told (ok_is _ c.in_ok-release.field-0 c.in-Ok.release c.in-Ok.is c.in_ok-release.ensures.release)
+    judged c.follow.result s before c.args.name.now (inputs_of c.args.inputs) c.in-Ok.release c.follow.new.progress told
+    (ok_is _ c.in_ok-release.field-0 c.in-Ok.release c.in-Ok.is c.in_ok-release.ensures.release)
     (c.follow.ensures s before at of)

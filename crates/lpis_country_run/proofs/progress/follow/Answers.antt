@@ -11,14 +11,20 @@ use Rattle.lpis_country_run.proofs.progress.follow.Goals as goal
 pub report_region-requires-clause-places : goal.report_region-requires-clause-places
 report_region-requires-clause-places c =
     let ready = c.requires.ready in
-    let news = new_parcels (country_of ready.setting.classes ready.before) c.args.release.now in
-    (news, same_places c.args.release.now c.as_slice.result.now c.in-Ok.places.items news c.as_slice.ensures.value (c.in-Ok.ensures.new ready.setting.tiles ready.setting.classes ready.before ready.at.seam))
+    let news = new_parcels (country_of ready.setting.classes ready.before) c.args.release.now in (
+      news,
+      same_places c.args.release.now c.as_slice.result.now c.in-Ok.places.items news c.as_slice.ensures.value
+          (c.in-Ok.ensures.new ready.setting.tiles ready.setting.classes ready.before ready.at.seam),
+    )
 
 pub totals_at-totals-requires-clause-places : goal.totals_at-totals-requires-clause-places
 totals_at-totals-requires-clause-places c =
     let ready = c.requires.ready in
-    let news = new_parcels (country_of ready.setting.classes ready.before) c.args.release.now in
-    (news, same_places c.args.release.now c.as_slice-in-Ok.result.now c.in-Ok.places.items news c.as_slice-in-Ok.ensures.value (c.in-Ok.ensures.new ready.setting.tiles ready.setting.classes ready.before ready.at.seam))
+    let news = new_parcels (country_of ready.setting.classes ready.before) c.args.release.now in (
+      news,
+      same_places c.args.release.now c.as_slice-in-Ok.result.now c.in-Ok.places.items news c.as_slice-in-Ok.ensures.value
+          (c.in-Ok.ensures.new ready.setting.tiles ready.setting.classes ready.before ready.at.seam),
+    )
 
 pub totals_at-totals-requires-clause-few : goal.totals_at-totals-requires-clause-few
 totals_at-totals-requires-clause-few c =
@@ -46,7 +52,8 @@ returns-in_ok-text-in-Ok c = λ s before at of.
       c.in-Ok.ensures.reports s.tiles s.classes before at.seam,
       c.in_ok-text-in-Ok.ensures country (same_places r c.as_slice.result.now c.in-Ok.places.items news c.as_slice.ensures.value places)
           ∙ ap (λ (d : Detail). region_report d country c.args.name.now r) (sym of.detail_is),
-      goes_at s before r c.args.progress.now (record { seam = c.step.new.self; totals = c.plus-progress.result }) c.totals_at-totals.result at (c.in-Ok.ensures.goes_on s.tiles s.classes before at.seam)
+      goes_at s before r c.args.progress.now (record { seam = c.step.new.self; totals = c.plus-progress.result }) c.totals_at-totals.result at
+          (c.in-Ok.ensures.goes_on s.tiles s.classes before at.seam)
           c.parcels.ensures.few (c.totals_at-totals.ensures news (same_places r c.as_slice-in-Ok.result.now c.in-Ok.places.items news c.as_slice-in-Ok.ensures.value places)) c.plus-progress.ensures,
     )
 

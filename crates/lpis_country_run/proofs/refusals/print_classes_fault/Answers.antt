@@ -10,4 +10,5 @@ returns g c = λ names.
     let first = codes "refused 96 classes row " in
     let line = first ++ decimal c.args.row in
     subst (Appends (g.W.Write.contents c.args.out.now) (g.W.Write.contents c.print_region.new.out)) (append_assoc first (decimal c.args.row) (region_end c.args.name.now))
-    (appends-more (g.W.Write.contents c.args.out.now) (g.W.Write.contents c.write.new.self) (g.W.Write.contents c.print_region.new.out) line (region_end c.args.name.now) c.in_ok-write.ensures.bytes c.in_ok-print_region.ensures)
+    (appends-more (g.W.Write.contents c.args.out.now) (g.W.Write.contents c.write.new.self) (g.W.Write.contents c.print_region.new.out) line
+    (region_end c.args.name.now) c.in_ok-write.ensures.bytes c.in_ok-print_region.ensures)

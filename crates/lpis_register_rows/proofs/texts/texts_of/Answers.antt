@@ -1,4 +1,4 @@
-use Rattle.std.proofs.Common.{◌≡◌, ◌++◌, ◌∷◌, ◌+◌, [], List, arith, subst, sym, take}
+use Rattle.std.proofs.Common.{◌++◌, ◌∷◌, ◌+◌, [], List, arith, subst, sym, take}
 use Rattle.std.specs.List.{AllZip}
 use Rattle.std.proofs.lemmas.List.Sorted.{IsPermutation-refl}
 use Rattle.lpis_register_rows.proofs.Common.{take-at}
