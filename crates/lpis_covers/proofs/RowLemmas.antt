@@ -6,7 +6,7 @@ use Rattle.std.specs.Result.{result_map_both}
 use Rattle.csv.specs.Reading.{records}
 use Rattle.lpis_covers.specs.declared.fault.TableCode.{TableCode}
 use Rattle.lpis_covers.specs.declared.fault.TableFault.TheVariants.{Memory}
-use Rattle.lpis_covers.specs.Faults.{RowsOf, table_row_faults, rows_of}
+use Rattle.lpis_covers.specs.Faults.{RowsOf, table_row_faults, values_of}
 use Rattle.lpis_covers.specs.Table.{Advances, Record, fault_at, most_rows, reading, rows_from, table_of, wanted_places}
 
 -- a reader of the table t has read these rows, with these keys, and no fault yet
@@ -39,19 +39,19 @@ start-records : (table : Table) (names further : List (List ℕ)) (all : List Re
 start-records table names further [] t h = cc h
 start-records table names further (header ∷ rs) t h = start-header table header rs (wanted_places header names further) t h
 
-table-start : (table : Table) (names further : List (List ℕ)) (bytes : List ℕ) (t : Reading) → table_of table names further bytes ≡ Ok t → (t.table ≡ table) × (t.number ≡ 0)
+-- an opened table is read up to its header
+pub table-start : (table : Table) (names further : List (List ℕ)) (bytes : List ℕ) (t : Reading) → table_of table names further bytes ≡ Ok t → (t.table ≡ table) × (t.number ≡ 0)
 unfolding table_of
 table-start table names further bytes t h = by (has_mark (strip_bom bytes)) refl where
   by : (b : Bool) → has_mark (strip_bom bytes) ≡ b → (t.table ≡ table) × (t.number ≡ 0)
   by true e = cc (rw e at h)
   by false e = start-records table names further (records default_config (strip_bom bytes)) t (rw e at h)
 
--- an opened table that has columns enough is read up to its header: no row, no key and no fault yet
-pub rows-start : {A : Type 0} (kind : RowsOf A) (bytes : List ℕ) (t : Reading) → table_of kind.table kind.columns kind.further bytes ≡ Ok t → kind.enough t.has ≡ true → IsRead kind t [] [] t
-rows-start kind bytes t h enough =
-    let s = table-start kind.table kind.columns kind.further bytes t h in
+-- a table that has columns enough is read up to its header: no row, no key and no fault yet
+pub rows-start : {A : Type 0} (kind : RowsOf A) (t : Reading) → t.table ≡ kind.table → t.number ≡ 0 → kind.enough t.has ≡ true → IsRead kind t [] [] t
+rows-start kind t table none enough =
     let first : t.number + 1 ≡ 1 = omega arith in
-    record { table = s.0; count = s.1; few = omega (arith, s.1); enough = enough; faults = rw first refl; values = refl }
+    record { table = table; count = none; few = omega (arith, none); enough = enough; faults = rw first refl; values = refl }
 
 -- one row more
 pub rows-step : {A : Type 0} (kind : RowsOf A) (t old new : Reading) (keys : List (List ℕ)) (rows : List A) (x : A)
@@ -82,33 +82,33 @@ rows-added kind identifier t old new rows after keys grown first h same a good m
 )
 
 -- the end of the rows
-pub rows-end : {A : Type 0} (kind : RowsOf A) (bytes : List ℕ) (t old new : Reading) (keys : List (List ℕ)) (rows : List A)
-    → table_of kind.table kind.columns kind.further bytes ≡ Ok t → IsRead kind t keys rows old → Advances old new (Ok false) → rows_of kind bytes ≡ Ok rows
+pub rows-end : {A : Type 0} (kind : RowsOf A) (t old new : Reading) (keys : List (List ℕ)) (rows : List A)
+    → IsRead kind t keys rows old → Advances old new (Ok false) → values_of kind (Ok t) ≡ Ok rows
 unfolding table_row_faults
-rows-end kind bytes t old new keys rows opened h a =
+rows-end kind t old new keys rows h a =
     let none = rw (a.0, a.1) at h.faults in
     let all = rw a.0 at h.values in
-    rw (opened, h.enough, ← none, ← all, append-nil rows) refl
+    rw (h.enough, ← none, ← all, append-nil rows) refl
 
 -- the fault that stops the rows
-pub rows-stop : {A : Type 0} (kind : RowsOf A) (bytes : List ℕ) (t old new : Reading) (keys : List (List ℕ)) (rows : List A) (f : TableFault)
-    → table_of kind.table kind.columns kind.further bytes ≡ Ok t → IsRead kind t keys rows old → Advances old new (Err f) → Answers (Err f) (rows_of kind bytes)
+pub rows-stop : {A : Type 0} (kind : RowsOf A) (t old new : Reading) (keys : List (List ℕ)) (rows : List A) (f : TableFault)
+    → IsRead kind t keys rows old → Advances old new (Err f) → Answers (Err f) (values_of kind (Ok t))
 unfolding table_row_faults
-rows-stop kind bytes t old new keys rows Memory opened h a = tt
-rows-stop kind bytes t old new keys rows (At code table row wkt) opened h a =
+rows-stop kind t old new keys rows Memory h a = tt
+rows-stop kind t old new keys rows (At code table row wkt) h a =
     let stop = rw (a.0, a.1) at h.faults in
-    rw (opened, h.enough, ← stop) refl
+    rw (h.enough, ← stop) refl
 
 -- a fault of a row
-pub rows-fault : {A : Type 0} (kind : RowsOf A) (bytes : List ℕ) (t old new : Reading) (keys : List (List ℕ)) (rows : List A) (f : TableFault)
-    → table_of kind.table kind.columns kind.further bytes ≡ Ok t → IsRead kind t keys rows old → Advances old new (Ok true)
-    → Answers (Err f) (unless_faulty (kind.faults keys new.number new.row) (kind.value new.row)) → Answers (Err f) (rows_of kind bytes)
+pub rows-fault : {A : Type 0} (kind : RowsOf A) (t old new : Reading) (keys : List (List ℕ)) (rows : List A) (f : TableFault)
+    → IsRead kind t keys rows old → Advances old new (Ok true)
+    → Answers (Err f) (unless_faulty (kind.faults keys new.number new.row) (kind.value new.row)) → Answers (Err f) (values_of kind (Ok t))
 unfolding table_row_faults
-rows-fault kind bytes t old new keys rows Memory opened h a e = tt
-rows-fault kind bytes t old new keys rows (At code table row wkt) opened h a e =
+rows-fault kind t old new keys rows Memory h a e = tt
+rows-fault kind t old new keys rows (At code table row wkt) h a e =
     let n : old.number + 1 ≡ new.number = sym a.2 in
     let faults = rw (a.0, n) at h.faults in
-    rw (opened, h.enough, ← faults, append_assoc) (told-fault (kind.faults keys new.number new.row) _ (kind.value new.row) _ (At code table row wkt) e)
+    rw (h.enough, ← faults, append_assoc) (told-fault (kind.faults keys new.number new.row) _ (kind.value new.row) _ (At code table row wkt) e)
 
 -- the fault of a column, before those of the columns after it, and after columns that have none
 pub column-fault : {A B : Type 0} (fs more : List TableFault) (v : A) (w : B) (f : TableFault) → Answers (Err f) (unless_faulty fs v) → Answers (Err f) (unless_faulty (fs ++ more) w)

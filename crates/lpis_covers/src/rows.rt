@@ -1,7 +1,7 @@
 //! The rows of a table, as a list.
 
 ghost use Rattle.std.specs.Prelude.{◌≡◌, ◌++◌, ◌∷◌, [], map, option_map, slice_index_or, None};
-ghost use Rattle.std.specs.Prelude.{OnOk, Some, if◌then◌else◌};
+ghost use Rattle.std.specs.Prelude.{IfOk, OnOk, Some, if◌then◌else◌};
 ghost use Rattle.csv.specs.Records.{fields_of};
 ghost use Rattle.lpis_covers.specs.Table.{flat, has_column, table_of, texts};
 ghost use Rattle.lpis_covers.specs.Rows.{RowsAnswer};
@@ -61,6 +61,40 @@ fn add_copy(
     Ok(())
 }
 
+/// Adds copies of the rows that are left to a list without rows. The answer is the fault that stops
+/// them.
+fn copy_rows(
+    alloc: Global,
+    reader: &mut TableReader<'_>,
+    rows: &mut Vec<ByteRecord>,
+) -> Result<Option<TableFault>, AllocError>
+    requires { rows.old.items ≡ [] }
+    ensures rows { OnOk result (map fields_of rows.new.items ≡ map flat reader.old.rows) }
+    ensures stop { IfOk result (λ stop. stop ≡ reader.old.stop) }
+{
+    'rows: loop {
+        match reader.next_row() {
+            Ok(true) => add_copy(alloc, reader, rows)?,
+            Ok(false) => return Ok(None),
+            Err(TableFault::Memory) => return Err(AllocError),
+            Err(fault) => return Ok(Some(fault)),
+        }
+    }
+}
+
+/// Copies of the rows that are left, and the fault that stops them.
+fn rows_left(
+    alloc: Global,
+    reader: &mut TableReader<'_>,
+) -> Result<(Sequence<ByteRecord>, Option<TableFault>), AllocError>
+    ensures rows { IfOk result (λ left. map fields_of left.0 ≡ map flat reader.old.rows) }
+    ensures stop { IfOk result (λ left. left.1 ≡ reader.old.stop) }
+{
+    let mut rows = Vec::new(alloc);
+    let stop = copy_rows(alloc, reader, &mut rows)?;
+    Ok((Sequence::new(without_spare(rows)?), stop))
+}
+
 /// The wanted columns of a table, by their names in the order given: `columns`, and then `further`
 /// ones that may be absent. A refusal is a fault of row 0, or out of memory.
 pub fn read_table(
@@ -75,18 +109,10 @@ pub fn read_table(
 {
     let mut reader = TableReader::open(alloc, bytes, table, columns, further)?;
     let has = reader.columns_there(alloc)?;
-    let mut rows = Vec::new(alloc);
-    let stop = 'rows: loop {
-        match reader.next_row() {
-            Ok(true) => add_copy(alloc, &reader, &mut rows)?,
-            Ok(false) => break 'rows None,
-            Err(TableFault::Memory) => return Err(TableFault::Memory),
-            Err(fault) => break 'rows Some(fault),
-        }
-    };
+    let (rows, stop) = rows_left(alloc, &mut reader)?;
     Ok(Rows {
         has: Sequence::new(has),
-        rows: Sequence::new(without_spare(rows)?),
+        rows,
         stop,
     })
 }

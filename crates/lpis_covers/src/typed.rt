@@ -1,8 +1,8 @@
 //! The rows of a table as values of a type.
 
-ghost use Rattle.std.specs.Prelude.{◌≡◌, ◌++◌, ◌∷◌, [], Err, IfErr, OnOk};
-ghost use Rattle.lpis_covers.specs.Faults.{rows_of, unless_faulty};
-ghost use Rattle.lpis_covers.specs.Table.{Answers, field_of};
+ghost use Rattle.std.specs.Prelude.{◌≡◌, ◌≤◌, ◌++◌, ◌∷◌, [], true, Ok, Err, IfErr, IfOk, OnOk, length, map};
+ghost use Rattle.lpis_covers.specs.Faults.{rows_of, unless_faulty, values_of};
+ghost use Rattle.lpis_covers.specs.Table.{Answers, field_of, most_rows};
 
 use crate::fault::{Table, TableCode, TableFault};
 use crate::id::Id;
@@ -81,21 +81,72 @@ fn room_for_rows(bytes: &[u8]) -> usize {
     lines.min(MOST_ROWS as usize)
 }
 
+/// Adds the rows of a table whose header alone was read, and their identifiers. A refusal is the
+/// first fault of a row, in the order of the rows and in it of the columns; else that which stops
+/// the rows.
+fn add_rows<T: TableRow>(
+    alloc: Global,
+    reader: &mut TableReader<'_>,
+    keys: &mut Keys,
+    rows: &mut Vec<T>,
+) -> Result<(), TableFault>
+    requires table { reader.old.table ≡ T.kind.table }
+    requires start { reader.old.number ≡ 0 }
+    requires enough { T.kind.enough reader.old.has ≡ true }
+    requires empty { (keys.old ≡ []) × (rows.old.items ≡ []) }
+    ensures fault { IfErr result
+        (λ fault. Answers (Err fault) (values_of T.kind (Ok reader.old))) }
+    ensures rows { OnOk result (values_of T.kind (Ok reader.old) ≡ Ok rows.new.items) }
+    ensures keys { OnOk result (keys.new ≡ map T.identifier rows.new.items) }
+    ensures few { OnOk result (length rows.new.items ≤ most_rows) }
+{
+    'rows: while reader.next_row()? {
+        add_row(alloc, reader, keys, rows)?;
+    }
+    Ok(())
+}
+
+/// The rows of a table whose header alone was read, for so many of which room is made.
+fn rows_under<T: TableRow>(
+    alloc: Global,
+    reader: &mut TableReader<'_>,
+    room: usize,
+) -> Result<Keyed<T>, TableFault>
+    requires table { reader.old.table ≡ T.kind.table }
+    requires start { reader.old.number ≡ 0 }
+    requires enough { T.kind.enough reader.old.has ≡ true }
+    ensures { Answers result (values_of T.kind (Ok reader.old)) }
+{
+    let mut keys = Keys::with_capacity(alloc, room)?;
+    let mut rows = Vec::with_capacity(alloc, room)?;
+    add_rows(alloc, reader, &mut keys, &mut rows)?;
+    Ok(Keyed::of(rows, keys))
+}
+
+/// A reader of a table whose header has columns enough, and alone was read. A refusal is the first
+/// fault of row 0.
+fn opened<T: TableRow>(alloc: Global, bytes: &[u8]) -> Result<TableReader<'_>, TableFault>
+    ensures fault { IfErr result (λ fault. Answers (Err fault) (rows_of T.kind bytes.now)) }
+    ensures rows { IfOk result
+        (λ reader. rows_of T.kind bytes.now ≡ values_of T.kind (Ok reader)) }
+    ensures table { IfOk result (λ reader. reader.table ≡ T.kind.table) }
+    ensures start { IfOk result (λ reader. reader.number ≡ 0) }
+    ensures enough { IfOk result (λ reader. T.kind.enough reader.has ≡ true) }
+{
+    let reader = TableReader::open(alloc, bytes, T::table(), T::columns(), T::further())?;
+    if T::is_enough(&reader) {
+        Ok(reader)
+    } else {
+        Err(fault(TableCode::MissingColumn, T::table(), 0))
+    }
+}
+
 /// The rows of a table, by their identifiers in its order. A refusal is the first fault: of row 0;
 /// else of a row, in the order of the rows and in it of the columns; else that which stops the
 /// rows.
 pub fn read_rows<T: TableRow>(alloc: Global, bytes: &[u8]) -> Result<Keyed<T>, TableFault>
     ensures { Answers result (rows_of T.kind bytes.now) }
 {
-    let mut reader = TableReader::open(alloc, bytes, T::table(), T::columns(), T::further())?;
-    if !T::is_enough(&reader) {
-        return Err(fault(TableCode::MissingColumn, T::table(), 0));
-    }
-    let room = room_for_rows(bytes);
-    let mut keys = Keys::with_capacity(alloc, room)?;
-    let mut rows = Vec::with_capacity(alloc, room)?;
-    'rows: while reader.next_row()? {
-        add_row(alloc, &reader, &mut keys, &mut rows)?;
-    }
-    Ok(Keyed::of(rows, keys))
+    let mut reader = opened::<T>(alloc, bytes)?;
+    rows_under(alloc, &mut reader, room_for_rows(bytes))
 }

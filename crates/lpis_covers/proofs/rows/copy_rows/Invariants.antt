@@ -1,6 +1,6 @@
 use Rattle.std.proofs.Common.{◌≡◌, ◌++◌, length, map}
 use Rattle.lpis_covers.proofs.Common.{fields_of, flat}
-use Rattle.lpis_covers.proofs.rows.read_table.Given as goal
+use Rattle.lpis_covers.proofs.rows.copy_rows.Given as goal
 
 abbrev pub invariant-rows : goal.invariant-rows
 invariant-rows l = (map fields_of l.rows.items ++ map flat l.reader.rows ≡ map flat l.initial.reader.rows) × (l.reader.stop ≡ l.initial.reader.stop)
