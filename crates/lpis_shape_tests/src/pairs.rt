@@ -39,35 +39,66 @@ fn agreed<R: Abort>(
     Ok(swept)
 }
 
-#[test]
-fn two_halves_have_a_pair_each(rt: HostRuntime) -> Result<(), Fail> {
-    let triangles = [
-        triangle((0, 0), (5000, 0), (5000, 10_000))?,
-        triangle((0, 0), (5000, 10_000), (0, 10_000))?,
-        triangle((5000, 0), (10_000, 0), (10_000, 10_000))?,
-        triangle((5000, 0), (10_000, 10_000), (5000, 10_000))?,
-    ];
-    let pairs = agreed(&rt, rt.alloc(), &triangles)?;
-    assert_eq!(rt; pairs.as_slice(), [(0, 1), (2, 3)].as_slice());
+/// Triangles, and the pairs of them that are near.
+struct Case {
+    triangles: &'static [[Corner; 3]],
+    pairs: &'static [(u32, u32)],
+}
+
+static CASES: [Case; 4] = [
+    Case {
+        triangles: &[],
+        pairs: &[],
+    },
+    // The two triangles of each half of a square.
+    Case {
+        triangles: &[
+            [(0, 0), (5000, 0), (5000, 10_000)],
+            [(0, 0), (5000, 10_000), (0, 10_000)],
+            [(5000, 0), (10_000, 0), (10_000, 10_000)],
+            [(5000, 0), (10_000, 10_000), (5000, 10_000)],
+        ],
+        pairs: &[(0, 1), (2, 3)],
+    },
+    // One that meets two that are apart.
+    Case {
+        triangles: &[
+            [(0, 0), (5000, 0), (0, 5000)],
+            [(10_000, 0), (20_000, 0), (10_000, 10_000)],
+            [(4000, 0), (15_000, 0), (4000, 5000)],
+        ],
+        pairs: &[(0, 2), (1, 2)],
+    },
+    // The widest.
+    Case {
+        triangles: &[
+            [(-LIMIT, -LIMIT), (LIMIT, -LIMIT), (LIMIT, LIMIT)],
+            [(0, 0), (1, 0), (0, 1)],
+            [(-LIMIT, 0), (-LIMIT, 1), (-LIMIT, 2)],
+            [(-LIMIT, LIMIT), (LIMIT, LIMIT), (0, LIMIT)],
+            [(-1, 0), (1, 0), (0, 1)],
+        ],
+        pairs: &[(0, 1), (0, 4), (1, 4)],
+    },
+];
+
+/// Fails unless both sources find these pairs of triangles with these corners.
+fn expect_pairs<R: Abort>(rt: &R, alloc: Global, case: &Case) -> Result<(), Fail> {
+    let mut triangles = Vec::new(alloc);
+    for corners in case.triangles {
+        let [a, b, c] = *corners;
+        triangles.push(triangle(a, b, c)?)?;
+    }
+    let pairs = agreed(rt, alloc, triangles.as_slice())?;
+    assert_eq!(rt; pairs.as_slice(), case.pairs);
     Ok(())
 }
 
 #[test]
-fn one_triangle_meets_two_that_are_apart(rt: HostRuntime) -> Result<(), Fail> {
-    let triangles = [
-        triangle((0, 0), (5000, 0), (0, 5000))?,
-        triangle((10_000, 0), (20_000, 0), (10_000, 10_000))?,
-        triangle((4000, 0), (15_000, 0), (4000, 5000))?,
-    ];
-    let pairs = agreed(&rt, rt.alloc(), &triangles)?;
-    assert_eq!(rt; pairs.as_slice(), [(0, 2), (1, 2)].as_slice());
-    Ok(())
-}
-
-#[test]
-fn no_triangles_have_no_pairs(rt: HostRuntime) -> Result<(), Fail> {
-    let pairs = agreed(&rt, rt.alloc(), &[])?;
-    assert_eq!(rt; pairs.len(), 0);
+fn both_sources_find_what_is_near(rt: HostRuntime) -> Result<(), Fail> {
+    for case in &CASES {
+        expect_pairs(&rt, rt.alloc(), case)?;
+    }
     Ok(())
 }
 
@@ -79,20 +110,6 @@ fn equal_boxes_are_near_each_other(rt: HostRuntime) -> Result<(), Fail> {
     }
     let pairs = agreed(&rt, rt.alloc(), &triangles)?;
     assert_eq!(rt; pairs.len(), 4950);
-    Ok(())
-}
-
-#[test]
-fn the_widest_triangles_are_near(rt: HostRuntime) -> Result<(), Fail> {
-    let triangles = [
-        triangle((-LIMIT, -LIMIT), (LIMIT, -LIMIT), (LIMIT, LIMIT))?,
-        triangle((0, 0), (1, 0), (0, 1))?,
-        triangle((-LIMIT, 0), (-LIMIT, 1), (-LIMIT, 2))?,
-        triangle((-LIMIT, LIMIT), (LIMIT, LIMIT), (0, LIMIT))?,
-        triangle((-1, 0), (1, 0), (0, 1))?,
-    ];
-    let pairs = agreed(&rt, rt.alloc(), &triangles)?;
-    assert_eq!(rt; pairs.as_slice(), [(0, 1), (0, 4), (1, 4)].as_slice());
     Ok(())
 }
 

@@ -4,6 +4,7 @@ use lpis_points::{
     LIMIT, Point, RatPoint, Triangle, apart, box_of, crossing, edge, is_ccw, is_flat, orient,
     orient_at, separates,
 };
+use std::process::Abort;
 use std::test::Fail;
 
 fn point(x: i64, y: i64) -> Result<Point, Fail> {
@@ -56,10 +57,10 @@ fn rational_points_end_at_their_bounds(rt: HostRuntime) {
 #[test]
 fn a_triangle_has_three_edges(rt: HostRuntime) -> Result<(), Fail> {
     let t = triangle([(0, 0), (10_000, 0), (0, 5000)])?;
-    assert_eq!(rt; edge(&t, 0), Some((t.a, t.b)));
-    assert_eq!(rt; edge(&t, 1), Some((t.b, t.c)));
-    assert_eq!(rt; edge(&t, 2), Some((t.c, t.a)));
-    assert_eq!(rt; edge(&t, 3), None);
+    let edges = [Some((t.a, t.b)), Some((t.b, t.c)), Some((t.c, t.a)), None];
+    for (k, wanted) in (0..).zip(edges.iter()) {
+        assert_eq!(rt; edge(&t, k), *wanted);
+    }
     Ok(())
 }
 
@@ -91,16 +92,27 @@ fn triangles_are_apart_or_separated(rt: HostRuntime) -> Result<(), Fail> {
     Ok(())
 }
 
+/// Fails unless the edge up from (5000, 0) to (5000, 10000), and the edge down, cross so often the
+/// ray from (0, y).
+fn expect_crossings<R: Abort>(rt: &R, y: i64, upwards: i8, downwards: i8) -> Result<(), Fail> {
+    let (bottom, top) = (point(5000, 0)?, point(5000, 10_000)?);
+    let p = RatPoint::new(0, y, 1).ok_or("out of range")?;
+    let found = (crossing(bottom, top, &p), crossing(top, bottom, &p));
+    assert_eq!(rt; found, (upwards, downwards), "at {y}");
+    Ok(())
+}
+
 #[test]
 fn edges_are_crossed_below_their_upper_end(rt: HostRuntime) -> Result<(), Fail> {
-    let (bottom, top) = (point(5000, 0)?, point(5000, 10_000)?);
     for (y, upwards, downwards) in [(-1, 0, 0), (0, 1, -1), (9999, 1, -1), (10_000, 0, 0)] {
-        let p = RatPoint::new(0, y, 1).ok_or("out of range")?;
-        assert_eq!(rt; crossing(bottom, top, &p), upwards, "at {y}");
-        assert_eq!(rt; crossing(top, bottom, &p), downwards, "at {y}");
+        expect_crossings(&rt, y, upwards, downwards)?;
     }
+    let (bottom, top) = (point(5000, 0)?, point(5000, 10_000)?);
     let on_it = RatPoint::new(10_000, 1, 2).ok_or("out of range")?;
-    assert_eq!(rt; orient_at(bottom, top, &on_it), 0);
-    assert_eq!(rt; crossing(bottom, top, &on_it), 0);
+    let found = (
+        orient_at(bottom, top, &on_it),
+        crossing(bottom, top, &on_it),
+    );
+    assert_eq!(rt; found, (0, 0));
     Ok(())
 }

@@ -3,6 +3,7 @@
 use lpis_points::{Point, RatPoint};
 use lpis_rings::{Member, Polygon, Ring, Sequence, contains, edges, turns};
 use std::alloc::Global;
+use std::process::Abort;
 use std::test::Fail;
 
 const SQUARE: [(i64, i64); 5] = [(0, 0), (10_000, 0), (10_000, 10_000), (0, 10_000), (0, 0)];
@@ -50,11 +51,36 @@ fn polygon(
     Ok(Polygon::new(members)?)
 }
 
+/// Fails unless a polygon winds so often about (x/d, y/d), and contains it where that is once.
+fn expect_turns<R: Abort>(
+    rt: &R,
+    polygon: &Polygon,
+    (x, y, d, wanted): (i64, i64, i64, i64),
+) -> Result<(), Fail> {
+    let p = RatPoint::new(x, y, d).ok_or("out of range")?;
+    let found = (turns(polygon, &p), contains(polygon, &p));
+    assert_eq!(rt; found, (wanted, wanted == 1), "({x}, {y}, {d})");
+    Ok(())
+}
+
+/// Looks at points about the polygon with this shell and hole.
+fn expect_points<R: Abort>(
+    rt: &R,
+    alloc: Global,
+    shell: &[(i64, i64)],
+    hole: Option<&[(i64, i64)]>,
+    cases: &[(i64, i64, i64, i64)],
+) -> Result<(), Fail> {
+    let polygon = polygon(alloc, shell, hole)?;
+    for case in cases {
+        expect_turns(rt, &polygon, *case)?;
+    }
+    Ok(())
+}
+
+/// Each point of a square that is cut in two lies in one half.
 #[test]
-fn each_point_of_a_square_cut_in_two_lies_in_one_half(rt: HostRuntime) -> Result<(), Fail> {
-    let square = polygon(rt.alloc(), &SQUARE, None)?;
-    let left = polygon(rt.alloc(), &LEFT_HALF, None)?;
-    let right = polygon(rt.alloc(), &RIGHT_HALF, None)?;
+fn a_square_cut_in_two(rt: HostRuntime) -> Result<(), Fail> {
     for (x, y, d, in_left, in_right, in_square) in [
         (0, 0, 1, 1, 0, 1),
         (5000, 3000, 1, 0, 1, 1),
@@ -62,33 +88,28 @@ fn each_point_of_a_square_cut_in_two_lies_in_one_half(rt: HostRuntime) -> Result
         (5000, 10_000, 1, 0, 0, 0),
         (10_000, 0, 1, 0, 0, 0),
     ] {
-        let p = RatPoint::new(x, y, d).ok_or("out of range")?;
-        assert_eq!(rt; turns(&left, &p), in_left, "({x}, {y}, {d})");
-        assert_eq!(rt; turns(&right, &p), in_right, "({x}, {y}, {d})");
-        assert_eq!(rt; turns(&square, &p), in_square, "({x}, {y}, {d})");
-        assert_eq!(rt; contains(&left, &p), in_left == 1, "({x}, {y}, {d})");
-        assert_eq!(rt; contains(&right, &p), in_right == 1, "({x}, {y}, {d})");
-        assert_eq!(rt; contains(&square, &p), in_square == 1, "({x}, {y}, {d})");
+        for (shell, wanted) in [
+            (&LEFT_HALF, in_left),
+            (&RIGHT_HALF, in_right),
+            (&SQUARE, in_square),
+        ] {
+            expect_points(&rt, rt.alloc(), shell, None, &[(x, y, d, wanted)])?;
+        }
     }
     Ok(())
 }
 
 #[test]
 fn a_hole_takes_its_lower_and_left_edges(rt: HostRuntime) -> Result<(), Fail> {
-    let ringed = polygon(rt.alloc(), &SQUARE, Some(&HOLE))?;
-    for (x, y, inside) in [
-        (5000, 5000, 0),
-        (4000, 5000, 0),
-        (5000, 4000, 0),
-        (6000, 5000, 1),
-        (5000, 6000, 1),
-        (3999, 5000, 1),
-    ] {
-        let p = RatPoint::new(x, y, 1).ok_or("out of range")?;
-        assert_eq!(rt; turns(&ringed, &p), inside, "({x}, {y})");
-        assert_eq!(rt; contains(&ringed, &p), inside == 1, "({x}, {y})");
-    }
-    Ok(())
+    let cases = [
+        (5000, 5000, 1, 0),
+        (4000, 5000, 1, 0),
+        (5000, 4000, 1, 0),
+        (6000, 5000, 1, 1),
+        (5000, 6000, 1, 1),
+        (3999, 5000, 1, 1),
+    ];
+    expect_points(&rt, rt.alloc(), &SQUARE, Some(&HOLE), &cases)
 }
 
 #[test]
