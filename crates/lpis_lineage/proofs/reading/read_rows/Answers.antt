@@ -2,7 +2,7 @@ use Rattle.std.proofs.Common.{◌≡◌, ◌+◌, ◌∙◌, ◌++◌, ◌∷◌
 use Rattle.lpis_lineage.proofs.Common.{Row}
 use Rattle.std.proofs.lemmas.List.{map-append}
 use Rattle.std.proofs.lemmas.Result.{err_from_is_err_and}
-use Rattle.lpis_covers.proofs.Shared.{rows-end, rows-fault, rows-start, rows-step, rows-stop}
+use Rattle.lpis_covers.proofs.Shared.{rows-end, rows-fault, rows-start, rows-step, rows-stop, table-start}
 use Rattle.lpis_covers.specs.declared.fault.TableFault.{TableFault}
 use Rattle.lpis_covers.specs.Faults.{unless_faulty}
 use Rattle.lpis_covers.specs.Table.{field_of}
@@ -19,26 +19,27 @@ read_row-requires-clause-number c = ap (λ (n : ℕ). n + 1) c.rows.invariant.1 
 pub rows-init : goal.rows-init
 rows-init c =
     let opened = rw (c.columns.ensures, c.further.ensures) at c.in_ok-reader.ensures in
-    let read = rows-start lineage_table c.args.bytes.now c.in_ok-reader.reader opened refl in
+    let header = table-start lineage_table.table lineage_table.columns lineage_table.further c.args.bytes.now c.in_ok-reader.reader opened in
+    let read = rows-start lineage_table c.in_ok-reader.reader header.0 header.1 refl in
     rw c.new-rows.ensures.items (read, sym read.count)
 
 pub returns-in_err-next_row : goal.returns-in_err-next_row
 returns-in_err-next_row c =
     let opened = rw (c.columns.ensures, c.further.ensures) at c.in_ok-reader.ensures in
     let p = err_from_is_err_and c.from_residual-in_err-next_row.result c.from_residual-in_err-next_row.ensures.1 in
-    rw (p.1, p.2)
-    (rows-answered _ _ (rows-stop lineage_table c.args.bytes.now c.in_ok-reader.reader c.rows.reader
+    rw (p.1, p.2, opened)
+    (rows-answered _ _ (rows-stop lineage_table c.in_ok-reader.reader c.rows.reader
     c.next_row.new.self (map (λ (r : Row). r.old) c.rows.rows.items) c.rows.rows.items c.in_err-next_row.field-0.0
-    opened c.rows.invariant.0 c.in_err-next_row.ensures))
+    c.rows.invariant.0 c.in_err-next_row.ensures))
 
 pub returns-in_err-row : goal.returns-in_err-row
 returns-in_err-row c =
     let opened = rw (c.columns.ensures, c.further.ensures) at c.in_ok-reader.ensures in
     let p = err_from_is_err_and c.from_residual-in_err-row.result c.from_residual-in_err-row.ensures.1 in
     let advanced = rw c.if-branch.true at c.in_ok-next_row.ensures in
-    rw (p.1, p.2)
-    (rows-answered _ _ (rows-fault lineage_table c.args.bytes.now c.in_ok-reader.reader c.rows.reader
-    c.next_row.new.self (map (λ (r : Row). r.old) c.rows.rows.items) c.rows.rows.items c.in_err-row.field-0.0 opened
+    rw (p.1, p.2, opened)
+    (rows-answered _ _ (rows-fault lineage_table c.in_ok-reader.reader c.rows.reader
+    c.next_row.new.self (map (λ (r : Row). r.old) c.rows.rows.items) c.rows.rows.items c.in_err-row.field-0.0
     c.rows.invariant.0 advanced c.in_err-row.ensures))
 
 -- a row that is read without a fault
@@ -64,4 +65,4 @@ pub returns : goal.returns
 returns c =
     let opened = rw (c.columns.ensures, c.further.ensures) at c.in_ok-reader.ensures in
     let ended = rw c.if-branch.false at c.in_ok-next_row.ensures in
-    rows-end lineage_table c.args.bytes.now c.in_ok-reader.reader c.rows.reader c.next_row.new.self (map (λ (r : Row). r.old) c.rows.rows.items) c.rows.rows.items opened c.rows.invariant.0 ended
+    rw opened (rows-end lineage_table c.in_ok-reader.reader c.rows.reader c.next_row.new.self (map (λ (r : Row). r.old) c.rows.rows.items) c.rows.rows.items c.rows.invariant.0 ended)
