@@ -1,10 +1,12 @@
 //! The run of `area`, over any reader and writer.
 
-ghost use Rattle.std.specs.Prelude.{◌≡◌, ℕ, List, IfErr, IfOk};
-ghost use Rattle.lpis_covers.specs.Faults.{rows_of};
-ghost use Rattle.lpis_covers.specs.Table.{AnswersBy};
+ghost use Rattle.std.specs.Prelude.{◌≡◌, ◌++◌, [], ℕ, List, IfErr, IfOk, MatchResult, Ok, Err};
+ghost use Rattle.lpis_rings.specs.declared.polygon.Member.{Member};
+ghost use Rattle.lpis_covers.specs.declared.fault.Table.TheVariants.{Area};
+ghost use Rattle.lpis_covers.specs.Faults.{rows_of, unless_faulty, values_of};
+ghost use Rattle.lpis_covers.specs.Table.{Answers, AnswersBy};
 ghost use Rattle.lpis_commands.specs.AreaAnswer.{AnswersArea, AreaHalts, answer_from, area_answer};
-ghost use Rattle.lpis_commands.specs.AreaAnswer.{area_table};
+ghost use Rattle.lpis_commands.specs.AreaAnswer.{area_table, polygon_area_line};
 ghost use Rattle.lpis_commands.specs.Status.{done};
 ghost use Rattle.lpis_commands.specs.Streams.{IsRead};
 
@@ -18,6 +20,43 @@ use lpis_rings::area2;
 use std::alloc::{AllocError, Global};
 use std::io::{Read, Write};
 
+/// Adds the line of the row that was read last.
+fn add_line(alloc: Global, reader: &TableReader<'_>, lines: &mut Vec<u8>) -> Result<(), TableFault>
+    requires table { reader.now.table ≡ Area }
+    ensures { MatchResult result
+        (λ _. (polygon : List Member) × (unless_faulty
+        (area_table.faults [] reader.now.number reader.now.row) (area_table.value reader.now.row)
+        ≡ Ok polygon) × (lines.new.items ≡ lines.old.items ++ polygon_area_line polygon))
+        (λ fault. Answers {A = List Member} (Err fault) (unless_faulty
+        (area_table.faults [] reader.now.number reader.now.row)
+        (area_table.value reader.now.row))) }
+{
+    let polygon = reader.polygon(alloc, 0)?;
+    if print_line(area2(&polygon), lines).is_err() {
+        return Err(TableFault::Memory);
+    }
+    Ok(())
+}
+
+/// Adds the lines of the rows of a table whose header alone was read to a list without lines.
+fn add_lines(
+    alloc: Global,
+    reader: &mut TableReader<'_>,
+    lines: &mut Vec<u8>,
+) -> Result<(), TableFault>
+    requires table { reader.old.table ≡ Area }
+    requires start { reader.old.number ≡ 0 }
+    requires empty { lines.old.items ≡ [] }
+    ensures { MatchResult result
+        (λ _. answer_from (values_of area_table (Ok reader.old)) ≡ (lines.new.items, done))
+        (λ fault. Answers (Err fault) (values_of area_table (Ok reader.old))) }
+{
+    'rows: while reader.next_row()? {
+        add_line(alloc, reader, lines)?;
+    }
+    Ok(())
+}
+
 /// The area of each row of a table, on a line of its own.
 fn area_lines(alloc: Global, bytes: &[u8]) -> Result<Vec<u8>, TableFault>
     ensures { AnswersBy (λ v said. answer_from said ≡ (v.items, done)) result
@@ -26,12 +65,7 @@ fn area_lines(alloc: Global, bytes: &[u8]) -> Result<Vec<u8>, TableFault>
     let columns = [b"wkt".as_slice()];
     let mut reader = TableReader::open(alloc, bytes, Table::Area, columns.as_slice(), &[])?;
     let mut lines = Vec::new(alloc);
-    'rows: while reader.next_row()? {
-        let polygon = reader.polygon(alloc, 0)?;
-        if print_line(area2(&polygon), &mut lines).is_err() {
-            return Err(TableFault::Memory);
-        }
-    }
+    add_lines(alloc, &mut reader, &mut lines)?;
     Ok(lines)
 }
 

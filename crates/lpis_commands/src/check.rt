@@ -1,10 +1,11 @@
 //! The run of `check`, over any readers and writer.
 
-ghost use Rattle.std.specs.Prelude.{◌≡◌, ◌≢◌, IfErr, IfNone, IfOk, IfSome, List, ℕ};
+ghost use Rattle.std.specs.Prelude.{◌≡◌, ◌≢◌, IfErr, IfNone, IfOk, IfSome, List, Ok, ℕ};
 ghost use Rattle.lpis_cert.specs.Contents.{IsCertText};
 ghost use Rattle.lpis_cert.specs.declared.cert.Cert.{Cert};
 ghost use Rattle.lpis_checker.specs.GoodCertificate.{IsGood};
 ghost use Rattle.lpis_checker.specs.SoundMap.{IsSoundMap};
+ghost use Rattle.lpis_parcels.specs.Release.{release_of};
 ghost use Rattle.lpis_commands.specs.CheckAnswer.{AreRead, CheckEnds, CheckHalts, Inputs, IsAnswer};
 ghost use Rattle.lpis_commands.specs.CheckAnswer.{IsCheckAnswer, IsProved, IsProvedOf, IsRefusal};
 ghost use Rattle.lpis_commands.specs.CheckAnswer.{IsReleaseAnswer, IsReport};
@@ -116,6 +117,24 @@ fn refusal_by_text(
     }
 }
 
+/// The release, if it is a sound map by what a text was read as, or the answer that refuses it.
+fn release_by_text(
+    alloc: Global,
+    release: Release,
+    read: Result<Cert, CertFault>,
+) -> Result<Result<Release, Answer>, AllocError>
+    ensures release { (x : Inputs) → release_of x.parcels x.covers x.classes ≡ Ok release
+        → IsReadAs x.cert read → IfOk result (λ r. IfOk r (IsProvedOf x)) }
+    ensures refusal { (x : Inputs) → release_of x.parcels x.covers x.classes ≡ Ok release
+        → IsReadAs x.cert read → IfOk result (λ r. IfErr r (λ a. IsRefusal x
+        (a.text.items, a.status))) }
+{
+    match refusal_by_text(alloc, &release, read)? {
+        Some(refusal) => Ok(Err(refusal)),
+        None => Ok(Ok(release)),
+    }
+}
+
 /// The release of three tables, if it is a sound map by the certificate, or the answer that refuses
 /// them.
 ///
@@ -131,14 +150,10 @@ pub fn checked_release(
 {
     let InputBytes { tables, cert } = inputs;
     let read = cert_in(alloc, cert);
-    let release = match release_in(alloc, tables) {
-        Ok(release) => release,
-        Err(TableFault::Memory) => return Err(AllocError),
-        Err(fault) => return Ok(Err(Answer::refuse_table(alloc, &fault)?)),
-    };
-    match refusal_by_text(alloc, &release, read)? {
-        Some(refusal) => Ok(Err(refusal)),
-        None => Ok(Ok(release)),
+    match release_in(alloc, tables) {
+        Ok(release) => release_by_text(alloc, release, read),
+        Err(TableFault::Memory) => Err(AllocError),
+        Err(fault) => Ok(Err(Answer::refuse_table(alloc, &fault)?)),
     }
 }
 

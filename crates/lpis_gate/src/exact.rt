@@ -7,7 +7,7 @@ ghost use Rattle.lpis_lineage.specs.declared.exact.Group.{Group};
 ghost use Rattle.lpis_lineage.specs.declared.row.Entry.{Entry};
 ghost use Rattle.lpis_lineage.specs.declared.row.Row.{Row};
 ghost use Rattle.lpis_lineage.specs.Changes.{IsChange};
-ghost use Rattle.lpis_lineage.specs.Faults.{faults};
+ghost use Rattle.lpis_lineage.specs.Faults.{ReportsFirstOf, faults};
 ghost use Rattle.lpis_lineage.specs.Lineage.{last_live};
 ghost use Rattle.lpis_lineage.specs.Order.{IsAscending};
 ghost use Rattle.lpis_register_rows.specs.Shapes.{Shape, shape_ids};
@@ -28,7 +28,7 @@ use lpis_checker::ExactPart;
 use lpis_commands::{Answer, DONE, Failure, Outcome, PrintFault, REFUSED};
 use lpis_covers::Id;
 use lpis_exact_lineage::{AskFault, wanted_parts};
-use lpis_lineage::{Change, History, LineageFault, accept};
+use lpis_lineage::{Change, History, LineageFault, Row, accept};
 use lpis_parcels::Release;
 use lpis_register::{PublishFault, Register, ids_of};
 use lpis_rings::Polygon;
@@ -129,6 +129,43 @@ fn answer_to_change(
     }
 }
 
+/// What a release with these rows of lineage changes, where it may follow the history, or the first
+/// fault of its lineage.
+fn change_of(
+    alloc: Global,
+    history: &History,
+    release: &Release,
+    rows: &[Row],
+) -> Result<Change, LineageFault>
+    ensures tells { ReportsFirstOf
+        (faults history.now (parcel_ids release.now.parcels) rows.now) result }
+    ensures change { IfOk result
+        (IsChange (last_live history.now) (parcel_ids release.now.parcels) rows.now) }
+{
+    let live = ids_of(alloc, release.parcels())?;
+    accept(alloc, history, live.as_slice(), rows)
+}
+
+/// The answer to a release, rows of lineage and a certificate.
+fn answer_to_rows(
+    alloc: Global,
+    history: &History,
+    kept: &[(Id, Polygon)],
+    release: &Release,
+    rows: &[Row],
+    cert: Cert,
+) -> Result<Outcome, AllocError>
+    requires ascending { IsAscending (shape_ids kept.now) }
+    ensures { IfOk result (λ o. IsBlocksOutcome history.now kept.now release.now cert rows.now
+        (outputs_of o)) }
+{
+    match change_of(alloc, history, release, rows) {
+        Ok(change) => answer_to_change(alloc, kept, &change, release, cert),
+        Err(LineageFault::Memory) => Err(AllocError),
+        Err(fault) => refuse_blocks(alloc, &PublishFault::Lineage(fault)),
+    }
+}
+
 /// The answer to a release, a certificate and rows of lineage.
 fn answer_to_said(
     alloc: Global,
@@ -145,12 +182,7 @@ fn answer_to_said(
         cert,
         rows,
     } = said;
-    let live = ids_of(alloc, release.parcels())?;
-    match accept(alloc, history, live.as_slice(), rows.as_slice()) {
-        Ok(change) => answer_to_change(alloc, kept, &change, &release, cert),
-        Err(LineageFault::Memory) => Err(AllocError),
-        Err(fault) => refuse_blocks(alloc, &PublishFault::Lineage(fault)),
-    }
+    answer_to_rows(alloc, history, kept, &release, rows.as_slice(), cert)
 }
 
 /// The answer to what is handed in.

@@ -7,7 +7,7 @@ ghost use Rattle.lpis_cert.specs.Contents.{IsCertText};
 ghost use Rattle.lpis_cert.specs.Faults.{verdict};
 ghost use Rattle.lpis_lineage.specs.LineageTable.{lineage_table};
 ghost use Rattle.lpis_commands.specs.CheckAnswer.{IsCertAnswer, IsTableAnswer};
-ghost use Rattle.lpis_commands.specs.Inputs.{IsReadAs};
+ghost use Rattle.lpis_commands.specs.Inputs.{IsReadAs, inputs_of};
 ghost use Rattle.lpis_gate.specs.Submission.{IsSubmitted};
 ghost use Rattle.lpis_gate.specs.private.Saying.{IsFaultAnswer, IsReadAll, IsUnsaid};
 ghost use Rattle.lpis_gate.specs.private.Saying.{submission_of};
@@ -125,19 +125,33 @@ fn rows_said(alloc: Global, lineage: Vec<u8>) -> Result<Vec<Row>, Unsaid>
     }
 }
 
-/// What a submission says. The certificate is read first, since its text is the longest as a rule,
-/// and the bytes of each input are let go when it is read; the fault of the release's tables is
-/// told first all the same, and that of the lineage table last.
+/// The release of three tables and the certificate of a text, or the line of their first fault,
+/// which is that of a submission with any lineage table. The certificate is read first, since its
+/// text is the longest as a rule, and the bytes of each input are let go when it is read; the fault
+/// of the tables is told first all the same.
+fn map_said(alloc: Global, checked: InputBytes) -> Result<(Release, Cert), Unsaid>
+    ensures said { IfOk result (λ map. (release_of checked.tables.parcels.items
+        checked.tables.covers.items checked.tables.classes.items ≡ Ok map.0)
+        × IsCertText checked.cert.items map.1) }
+    ensures unsaid { (lineage : List ℕ) → IfErr result (IsUnsaid (IsFaultAnswer
+        (record { checked = inputs_of checked; lineage = lineage }))) }
+{
+    let InputBytes { tables, cert } = checked;
+    let read = cert_in(alloc, cert);
+    let release = release_said(alloc, tables)?;
+    let cert = cert_said(alloc, read)?;
+    Ok((release, cert))
+}
+
+/// What a submission says. The fault of the release's tables is told first, and that of the lineage
+/// table last.
 pub(crate) fn understand(alloc: Global, submission: SubmissionBytes) -> Result<Said, Unsaid>
     ensures said { IfOk result (λ s. IsSubmitted (submission_of submission) s.release s.cert
         s.rows.items) }
     ensures unsaid { IfErr result (IsUnsaid (IsFaultAnswer (submission_of submission))) }
 {
     let SubmissionBytes { checked, lineage } = submission;
-    let InputBytes { tables, cert } = checked;
-    let read = cert_in(alloc, cert);
-    let release = release_said(alloc, tables)?;
-    let cert = cert_said(alloc, read)?;
+    let (release, cert) = map_said(alloc, checked)?;
     let rows = rows_said(alloc, lineage)?;
     Ok(Said {
         release,

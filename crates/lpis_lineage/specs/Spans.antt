@@ -1,5 +1,5 @@
 -- Spans: from which year to which year an identifier is live.
-use Rattle.std.specs.Prelude.{◌&&◌, ◌||◌, ◌≡◌, ◌∷◌, Bool, cond, nat_le, nat_eq, ℕ, List, [], Option}
+use Rattle.std.specs.Prelude.{◌&&◌, ◌||◌, ◌∷◌, Bool, cond, nat_le, nat_eq, ℕ, List, [], Option}
 use Rattle.std.specs.Prelude.{None, Some}
 use Rattle.std.specs.Option.{option_or}
 use Rattle.lpis_covers.specs.Ids.{has_id}

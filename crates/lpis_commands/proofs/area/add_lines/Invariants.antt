@@ -2,7 +2,7 @@ use Rattle.std.proofs.Common.{◌≡◌, List, ℕ, length, flat_map}
 use Rattle.lpis_rings.specs.declared.polygon.Member.{Member}
 use Rattle.lpis_covers.proofs.Shared.{IsRead}
 use Rattle.lpis_commands.specs.AreaAnswer.{area_table, polygon_area_line}
-use Rattle.lpis_commands.proofs.area.area_lines.Given as goal
+use Rattle.lpis_commands.proofs.area.add_lines.Given as goal
 
 -- the lines of the rows so far were written
 abbrev pub invariant-rows : goal.invariant-rows
