@@ -1,7 +1,10 @@
 //! The folders of a country's regions, as files.
 
+ghost use Rattle.std.specs.Prelude.{IfErr};
+ghost use Rattle.lpis_country_run.specs.CountryFailures.{IsUnreadFolder};
+
 use crate::open_at;
-use lpis_commands::{Failure, Name, region_files};
+use lpis_commands::{Failure, Name, RegionFiles, region_files};
 use lpis_country_run::{Folder, Regions};
 use std::fs::File;
 
@@ -19,6 +22,22 @@ impl<'a> Folders<'a> {
     }
 }
 
+/// Opens the four files of a region's folder, or reports the first that cannot be read.
+fn open_folder(rt: &HostRuntime, files: &RegionFiles) -> Result<Folder<File>, Failure>
+    ensures { IfErr result IsUnreadFolder }
+{
+    let parcels = open_at(rt, files.tables.parcels.path.as_str(), Name::Parcels)?;
+    let covers = open_at(rt, files.tables.covers.path.as_str(), Name::Covers)?;
+    let classes = open_at(rt, files.tables.classes.path.as_str(), Name::Classes)?;
+    let cert = open_at(rt, files.cert.path.as_str(), Name::Cert)?;
+    Ok(Folder {
+        parcels,
+        covers,
+        classes,
+        cert,
+    })
+}
+
 impl Regions for Folders<'_> {
     ghost use Rattle.std.specs.Prelude.{None};
 
@@ -29,15 +48,6 @@ impl Regions for Folders<'_> {
 
     fn open(&self, name: &str) -> Result<Folder<File>, Failure> {
         let files = region_files(self.rt.alloc(), self.dir, name)?;
-        let parcels = open_at(self.rt, files.tables.parcels.path.as_str(), Name::Parcels)?;
-        let covers = open_at(self.rt, files.tables.covers.path.as_str(), Name::Covers)?;
-        let classes = open_at(self.rt, files.tables.classes.path.as_str(), Name::Classes)?;
-        let cert = open_at(self.rt, files.cert.path.as_str(), Name::Cert)?;
-        Ok(Folder {
-            parcels,
-            covers,
-            classes,
-            cert,
-        })
+        open_folder(self.rt, &files)
     }
 }

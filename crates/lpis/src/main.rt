@@ -18,6 +18,8 @@ use lpis_country_run::{print_country_failure, run_country};
 use lpis_gate::{refuse_register, run_exact, run_publish, run_trace};
 use lpis_register::Register;
 use sqlite::{FileFrom, FileStore, Unknown};
+use std::alloc::Global;
+use std::env::Args;
 use std::fs::File;
 use std::process::ExitCode;
 use std::{env, fs, io};
@@ -34,23 +36,31 @@ fn main(rt: HostRuntime) -> ExitCode {
 
 /// Runs the command that the words of the command line ask for.
 fn run(rt: &HostRuntime) -> Result<u8, Failure> {
-    let alloc = rt.alloc();
-    // Word by word: `collect` asks for room for all of them, and goes on where it gets none.
-    let mut words: Vec<String> = Vec::new(alloc);
     match env::args(rt) {
-        Ok(given) => {
-            for word in given {
-                words.push(word)?;
-            }
-        }
+        Ok(given) => run_words(rt, given),
         Err(error) if error.kind() == io::ErrorKind::InvalidData => {
             let printed = eprintln!(rt; "error: a word of the command line is not UTF-8");
-            return usage_ends(ErrorKind::InvalidValue, printed.is_ok());
+            usage_ends(ErrorKind::InvalidValue, printed.is_ok())
         }
-        Err(_) => return Err(Failure::Memory),
+        Err(_) => Err(Failure::Memory),
     }
+}
+
+/// Runs the command that these words ask for.
+fn run_words(rt: &HostRuntime, given: Args<Global>) -> Result<u8, Failure> {
+    // Word by word: `collect` asks for room for all of them, and goes on where it gets none.
+    let mut words: Vec<String> = Vec::new(rt.alloc());
+    for word in given {
+        words.push(word)?;
+    }
+    run_texts(rt, words.as_slice())
+}
+
+/// The same, of words that are lent.
+fn run_texts(rt: &HostRuntime, words: &[String]) -> Result<u8, Failure> {
+    let alloc = rt.alloc();
     let mut texts: Vec<&str> = Vec::new(alloc);
-    for word in &words {
+    for word in words {
         texts.push(word.as_str())?;
     }
     match command_of(alloc, texts.as_slice()) {
@@ -68,68 +78,105 @@ fn tell(rt: &HostRuntime, error: &clap::Error) -> Result<u8, Failure> {
     usage_ends(kind, is_printed)
 }
 
-/// A register in a file.
-type FileRegister = Register<FileStore<FileFrom<Unknown>>>;
-
 /// Runs a command on its files, which are opened first, in their order; a register before them.
 fn perform(rt: &HostRuntime, command: Cmd<'_>) -> Result<u8, Failure> {
-    let alloc = rt.alloc();
-    let mut out = rt.stdout();
-    match named_files(alloc, command)? {
-        CommandFiles::Area { table } => run_area(alloc, open(rt, &table)?, &mut out),
-        CommandFiles::Cut { tables, cert } => {
-            let (parcels, covers, classes) = open_tables(rt, &tables)?;
-            // Where the release is refused, a file that stands at this path stays as it is.
-            let mut cert = Created::new(rt, cert.path.as_str());
-            run_cut(alloc, parcels, covers, classes, &mut cert, &mut out)
-        }
-        CommandFiles::Check { tables, cert } => {
-            let (parcels, covers, classes) = open_tables(rt, &tables)?;
-            let cert = open(rt, &cert)?;
-            run_check(alloc, parcels, covers, classes, cert, &mut out)
-        }
+    let files = named_files(rt.alloc(), command)?;
+    match &files {
+        CommandFiles::Area { table } => measure(rt, table),
+        CommandFiles::Cut { tables, cert } => cut(rt, tables, cert),
+        CommandFiles::Check { tables, cert } => check(rt, tables, cert),
         CommandFiles::Country {
             dir,
             country,
             classes,
             detail,
-        } => check_country(rt, dir, &country, &classes, detail),
+        } => check_country(rt, dir, country, classes, *detail),
         CommandFiles::Exact {
             db,
             tables,
             cert,
             lineage,
-            out: filled,
-        } => match Register::open_file(rt, alloc, db, Unknown) {
-            Ok(register) => {
-                let ran = fill(rt, &register, &tables, &cert, &lineage, &filled);
-                close(register);
-                ran
-            }
-            Err(fault) => refuse_register(alloc, &fault, &mut out),
-        },
+            out,
+        } => fill_after(rt, db, tables, cert, lineage, out),
         CommandFiles::Publish {
             db,
             year,
             tables,
             cert,
             lineage,
-        } => match Register::open_file(rt, alloc, db, Unknown) {
-            Ok(mut register) => {
-                let ran = publish(rt, &mut register, year, &tables, &cert, &lineage);
-                close(register);
-                ran
-            }
-            Err(fault) => refuse_register(alloc, &fault, &mut out),
-        },
-        CommandFiles::Trace { db, id } => match Register::open_file(rt, alloc, db, Unknown) {
-            Ok(register) => {
-                let ran = run_trace(alloc, &register, id, &mut out);
-                close(register);
-                ran
-            }
-            Err(fault) => refuse_register(alloc, &fault, &mut out),
-        },
+        } => publish_in(rt, db, *year, tables, cert, lineage),
+        CommandFiles::Trace { db, id } => trace_in(rt, db, id),
+    }
+}
+
+/// Prints the areas of a table.
+fn measure(rt: &HostRuntime, table: &NamedFile) -> Result<u8, Failure> {
+    run_area(rt.alloc(), open(rt, table)?, &mut rt.stdout())
+}
+
+/// Cuts the release of these tables, and writes its certificate to this file.
+fn cut(rt: &HostRuntime, tables: &TableFiles, cert: &NamedFile) -> Result<u8, Failure> {
+    let (parcels, covers, classes) = open_tables(rt, tables)?;
+    // Where the release is refused, a file that stands at this path stays as it is.
+    let mut cert = Created::new(rt, cert.path.as_str());
+    let mut out = rt.stdout();
+    run_cut(rt.alloc(), parcels, covers, classes, &mut cert, &mut out)
+}
+
+/// Checks the release of these tables against this certificate.
+fn check(rt: &HostRuntime, tables: &TableFiles, cert: &NamedFile) -> Result<u8, Failure> {
+    let (parcels, covers, classes) = open_tables(rt, tables)?;
+    let cert = open(rt, cert)?;
+    run_check(rt.alloc(), parcels, covers, classes, cert, &mut rt.stdout())
+}
+
+/// Gives a certificate its blocks after the register of this file.
+fn fill_after(
+    rt: &HostRuntime,
+    db: &str,
+    tables: &TableFiles,
+    cert: &NamedFile,
+    lineage: &NamedFile,
+    filled: &NamedFile,
+) -> Result<u8, Failure> {
+    match Register::open_file(rt, rt.alloc(), db, Unknown) {
+        Ok(register) => {
+            let ran = fill(rt, &register, tables, cert, lineage, filled);
+            close(register);
+            ran
+        }
+        Err(fault) => refuse_register(rt.alloc(), &fault, &mut rt.stdout()),
+    }
+}
+
+/// Publishes in the register of this file.
+fn publish_in(
+    rt: &HostRuntime,
+    db: &str,
+    year: u16,
+    tables: &TableFiles,
+    cert: &NamedFile,
+    lineage: &NamedFile,
+) -> Result<u8, Failure> {
+    match Register::open_file(rt, rt.alloc(), db, Unknown) {
+        Ok(mut register) => {
+            let ran = publish(rt, &mut register, year, tables, cert, lineage);
+            close(register);
+            ran
+        }
+        Err(fault) => refuse_register(rt.alloc(), &fault, &mut rt.stdout()),
+    }
+}
+
+/// Traces an identifier in the register of this file.
+fn trace_in(rt: &HostRuntime, db: &str, id: &str) -> Result<u8, Failure> {
+    match Register::open_file(rt, rt.alloc(), db, Unknown) {
+        Ok(register) => {
+            let ran = run_trace(rt.alloc(), &register, id, &mut rt.stdout());
+            close(register);
+            ran
+        }
+        Err(fault) => refuse_register(rt.alloc(), &fault, &mut rt.stdout()),
     }
 }
 
@@ -154,6 +201,9 @@ fn check_country(
         }
     }
 }
+
+/// A register in a file.
+type FileRegister = Register<FileStore<FileFrom<Unknown>>>;
 
 /// Gives the certificate of these files the blocks that the marks of their lineage ask for after a
 /// register.
