@@ -78,10 +78,16 @@ fn tell(rt: &HostRuntime, error: &clap::Error) -> Result<u8, Failure> {
     usage_ends(kind, is_printed)
 }
 
-/// Runs a command on its files, which are opened first, in their order; a register before them.
+/// Runs a command on its files.
 fn perform(rt: &HostRuntime, command: Cmd<'_>) -> Result<u8, Failure> {
     let files = named_files(rt.alloc(), command)?;
-    match &files {
+    perform_on(rt, &files)
+}
+
+/// Runs the command that these files are of. They are opened first, in their order; a register
+/// before them.
+fn perform_on(rt: &HostRuntime, files: &CommandFiles<'_>) -> Result<u8, Failure> {
+    match files {
         CommandFiles::Area { table } => measure(rt, table),
         CommandFiles::Cut { tables, cert } => cut(rt, tables, cert),
         CommandFiles::Check { tables, cert } => check(rt, tables, cert),
