@@ -17,7 +17,7 @@ use lpis_commands::{
 use lpis_country_run::{print_country_failure, run_country};
 use lpis_gate::{refuse_register, run_exact, run_publish, run_trace};
 use lpis_register::Register;
-use sqlite::{FileFrom, FileStore, Unknown};
+use sqlite::{Alter, Unknown};
 use std::alloc::Global;
 use std::env::Args;
 use std::fs::File;
@@ -103,15 +103,33 @@ fn perform_on(rt: &HostRuntime, files: &CommandFiles<'_>) -> Result<u8, Failure>
             cert,
             lineage,
             out,
-        } => fill_after(rt, db, tables, cert, lineage, out),
+        } => in_register(
+            rt,
+            db,
+            Job::Fill {
+                tables,
+                cert,
+                lineage,
+                filled: out,
+            },
+        ),
         CommandFiles::Publish {
             db,
             year,
             tables,
             cert,
             lineage,
-        } => publish_in(rt, db, *year, tables, cert, lineage),
-        CommandFiles::Trace { db, id } => trace_in(rt, db, id),
+        } => in_register(
+            rt,
+            db,
+            Job::Publish {
+                year: *year,
+                tables,
+                cert,
+                lineage,
+            },
+        ),
+        CommandFiles::Trace { db, id } => in_register(rt, db, Job::Trace { id }),
     }
 }
 
@@ -136,53 +154,64 @@ fn check(rt: &HostRuntime, tables: &TableFiles, cert: &NamedFile) -> Result<u8, 
     run_check(rt.alloc(), parcels, covers, classes, cert, &mut rt.stdout())
 }
 
-/// Gives a certificate its blocks after the register of this file.
-fn fill_after(
-    rt: &HostRuntime,
-    db: &str,
-    tables: &TableFiles,
-    cert: &NamedFile,
-    lineage: &NamedFile,
-    filled: &NamedFile,
-) -> Result<u8, Failure> {
-    match Register::open_file(rt, rt.alloc(), db, Unknown) {
-        Ok(register) => {
-            let ran = fill(rt, &register, tables, cert, lineage, filled);
-            close(register);
-            ran
-        }
-        Err(fault) => refuse_register(rt.alloc(), &fault, &mut rt.stdout()),
-    }
+/// What is done with a register, and the files that it takes.
+#[derive(Clone, Copy)]
+enum Job<'a> {
+    /// A certificate is given the blocks that the marks of its lineage ask for.
+    Fill {
+        tables: &'a TableFiles,
+        cert: &'a NamedFile,
+        lineage: &'a NamedFile,
+        filled: &'a NamedFile,
+    },
+    /// A release is published.
+    Publish {
+        year: u16,
+        tables: &'a TableFiles,
+        cert: &'a NamedFile,
+        lineage: &'a NamedFile,
+    },
+    /// An identifier is followed.
+    Trace {
+        id: &'a str,
+    },
 }
 
-/// Publishes in the register of this file.
-fn publish_in(
-    rt: &HostRuntime,
-    db: &str,
-    year: u16,
-    tables: &TableFiles,
-    cert: &NamedFile,
-    lineage: &NamedFile,
-) -> Result<u8, Failure> {
+/// Opens the register in the file at this path, does a job with it and closes it. No other function
+/// names a register over files: each that does is proved over all of the database engine.
+fn in_register(rt: &HostRuntime, db: &str, job: Job<'_>) -> Result<u8, Failure> {
     match Register::open_file(rt, rt.alloc(), db, Unknown) {
         Ok(mut register) => {
-            let ran = publish(rt, &mut register, year, tables, cert, lineage);
-            close(register);
+            let ran = work(rt, &mut register, job);
+            // Its log goes into its file. What was published stands in the log, whether or not this
+            // succeeds; the next opening finds it there.
+            let _ = register.into_connection().close();
             ran
         }
         Err(fault) => refuse_register(rt.alloc(), &fault, &mut rt.stdout()),
     }
 }
 
-/// Traces an identifier in the register of this file.
-fn trace_in(rt: &HostRuntime, db: &str, id: &str) -> Result<u8, Failure> {
-    match Register::open_file(rt, rt.alloc(), db, Unknown) {
-        Ok(register) => {
-            let ran = run_trace(rt.alloc(), &register, id, &mut rt.stdout());
-            close(register);
-            ran
-        }
-        Err(fault) => refuse_register(rt.alloc(), &fault, &mut rt.stdout()),
+/// Does a job with a register.
+fn work<S: Alter>(
+    rt: &HostRuntime,
+    register: &mut Register<S>,
+    job: Job<'_>,
+) -> Result<u8, Failure> {
+    match job {
+        Job::Fill {
+            tables,
+            cert,
+            lineage,
+            filled,
+        } => fill(rt, register, tables, cert, lineage, filled),
+        Job::Publish {
+            year,
+            tables,
+            cert,
+            lineage,
+        } => publish(rt, register, year, tables, cert, lineage),
+        Job::Trace { id } => run_trace(rt.alloc(), register, id, &mut rt.stdout()),
     }
 }
 
@@ -208,14 +237,11 @@ fn check_country(
     }
 }
 
-/// A register in a file.
-type FileRegister = Register<FileStore<FileFrom<Unknown>>>;
-
 /// Gives the certificate of these files the blocks that the marks of their lineage ask for after a
 /// register.
-fn fill(
+fn fill<S: Alter>(
     rt: &HostRuntime,
-    register: &FileRegister,
+    register: &Register<S>,
     tables: &TableFiles,
     cert: &NamedFile,
     lineage: &NamedFile,
@@ -241,9 +267,9 @@ fn fill(
 }
 
 /// Publishes the release of these files in a register.
-fn publish(
+fn publish<S: Alter>(
     rt: &HostRuntime,
-    register: &mut FileRegister,
+    register: &mut Register<S>,
     year: u16,
     tables: &TableFiles,
     cert: &NamedFile,
@@ -264,13 +290,6 @@ fn publish(
         lineage,
         &mut out,
     )
-}
-
-/// Closes the database of a register: its log goes into its file.
-fn close(register: FileRegister) {
-    // What was published stands in the log, whether or not this succeeds; the next opening finds it
-    // there.
-    let _ = register.into_connection().close();
 }
 
 /// Opens the file at a path, or reports by this name that it cannot be read.
