@@ -3,7 +3,7 @@
 ghost use Rattle.std.specs.Prelude.{◌≡◌, ◌++◌, [], ℕ, List, IfErr, IfOk, MatchResult, Ok, Err};
 ghost use Rattle.lpis_rings.specs.declared.polygon.Member.{Member};
 ghost use Rattle.lpis_covers.specs.declared.fault.Table.TheVariants.{Area};
-ghost use Rattle.lpis_covers.specs.Faults.{rows_of, unless_faulty, values_of};
+ghost use Rattle.lpis_covers.specs.Faults.{IsHeaderRead, rows_of, unless_faulty, values_of};
 ghost use Rattle.lpis_covers.specs.Table.{Answers, AnswersBy};
 ghost use Rattle.lpis_commands.specs.AreaAnswer.{AnswersArea, AreaHalts, answer_from, area_answer};
 ghost use Rattle.lpis_commands.specs.AreaAnswer.{area_table, polygon_area_line};
@@ -23,13 +23,12 @@ use std::io::{Read, Write};
 /// Adds the line of the row that was read last.
 fn add_line(alloc: Global, reader: &TableReader<'_>, lines: &mut Vec<u8>) -> Result<(), TableFault>
     requires table { reader.now.table ≡ Area }
-    ensures { MatchResult result
-        (λ _. (polygon : List Member) × (unless_faulty
-        (area_table.faults [] reader.now.number reader.now.row) (area_table.value reader.now.row)
-        ≡ Ok polygon) × (lines.new.items ≡ lines.old.items ++ polygon_area_line polygon))
-        (λ fault. Answers {A = List Member} (Err fault) (unless_faulty
-        (area_table.faults [] reader.now.number reader.now.row)
-        (area_table.value reader.now.row))) }
+    ensures { let faults = area_table.faults [] reader.now.number reader.now.row in
+        let row = unless_faulty faults (area_table.value reader.now.row) in
+        MatchResult result
+        (λ _. (polygon : List Member) × (row ≡ Ok polygon)
+        × (lines.new.items ≡ lines.old.items ++ polygon_area_line polygon))
+        (λ fault. Answers (Err fault) row) }
 {
     let polygon = reader.polygon(alloc, 0)?;
     if print_line(area2(&polygon), lines).is_err() {
@@ -44,8 +43,7 @@ fn add_lines(
     reader: &mut TableReader<'_>,
     lines: &mut Vec<u8>,
 ) -> Result<(), TableFault>
-    requires table { reader.old.table ≡ Area }
-    requires start { reader.old.number ≡ 0 }
+    requires header { IsHeaderRead area_table reader.old }
     requires empty { lines.old.items ≡ [] }
     ensures { MatchResult result
         (λ _. answer_from (values_of area_table (Ok reader.old)) ≡ (lines.new.items, done))

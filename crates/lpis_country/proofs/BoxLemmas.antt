@@ -37,8 +37,8 @@ pub record IsWider (b c : Box4) : Type 0 where
 le : {x y z : ℤ} → x ≤ℤ y → y ≤ℤ z → x ≤ℤ z
 le h k = omega (arith, ints)
 
-same : (x : ℤ) → x ≤ℤ x
-same x = omega (arith, ints)
+not_past_itself : (x : ℤ) → x ≤ℤ x
+not_past_itself x = omega (arith, ints)
 
 wider_still : (a b c : Box4) → IsWider a b → IsWider b c → IsWider a c
 wider_still a b c h k = record { left = le k.left h.left; low = le k.low h.low; right = le h.right k.right; high = le h.high k.high }
@@ -59,7 +59,7 @@ with_covered : (b : Box4) (p : Point) → IsCovered (box_with b p) p
 with_covered b p = record { left = (low b.x0 p.x).1; low = (low b.y0 p.y).1; right = (high b.x1 p.x).1; high = (high b.y1 p.y).1 }
 
 all_wider : (b : Box4) (ps : List Point) → IsWider b (box_with_all b ps)
-all_wider b [] = record { left = same b.x0; low = same b.y0; right = same b.x1; high = same b.y1 }
+all_wider b [] = record { left = not_past_itself b.x0; low = not_past_itself b.y0; right = not_past_itself b.x1; high = not_past_itself b.y1 }
 all_wider b (p ∷ ps) = wider_still b (box_with b p) (box_with_all (box_with b p) ps) (with_wider b p) (all_wider (box_with b p) ps)
 
 all_covered : (b : Box4) (ps : List Point) → All (IsCovered (box_with_all b ps)) ps

@@ -60,7 +60,8 @@ begun_cut said names tiles bs l by b first second is h = record {
         let whole = h.completed (by s t ∷ us) (omega arith) in (
           whole.0,
           record {
-            lines_are = whole.1.lines_are ∙ ap (λ (ls : List TreeLine). said ++ (ls ++ flat_map tree_lines us)) (is.lines s t) ∙ regrouped said l (tree_lines s) (tree_lines t) (flat_map tree_lines us);
+            lines_are = whole.1.lines_are ∙ ap (λ (ls : List TreeLine). said ++ (ls ++ flat_map tree_lines us)) (is.lines s t)
+                ∙ regrouped said l (tree_lines s) (tree_lines t) (flat_map tree_lines us);
             tiles_are = whole.1.tiles_are ∙ ap (λ (rs : List Box4). tiles ++ (rs ++ tiles_in bs us)) (is.tiles s t)
                 ∙ shared tiles (rectangles (tiling_of s) first) (rectangles (tiling_of t) second) (tiles_in bs us);
           },

@@ -117,7 +117,8 @@ first_new names xs ys new =
     record { distinct = distinct_front (names ++ xs) ys r.distinct; few = few_front (names ++ xs) ys r.few }
 
 abbrev TreePasses : Tree → Type 0
-TreePasses t = (n k : ℕ) (names : List (List ℕ)) (rest : List ℕ) → AllByRecursion TreeLineFits (tree_lines t) → AreNew names (folders t) → Passes (tree_lines t) n (suc k) k names (names ++ folders t) rest
+TreePasses t = (n k : ℕ) (names : List (List ℕ)) (rest : List ℕ) → AllByRecursion TreeLineFits (tree_lines t) → AreNew names (folders t)
+    → Passes (tree_lines t) n (suc k) k names (names ++ folders t) rest
 
 -- a cut, and then both parts
 both_pass : (l : TreeLine) (s t : Tree) (n k : ℕ) (names : List (List ℕ)) (rest : List ℕ) → TreeLineFits l → owing_after (owes (suc k) names) l ≡ Some (owes (suc (suc k)) names)

@@ -88,7 +88,8 @@ index-end needed name i found fs r h e = rw (drop_all i fs h, append-nil (option
 texts-drop : (names : List (Bor (List ℕ))) (i : ℕ) (d : Bor (List ℕ)) → i < length names → texts (drop i names) ≡ (get_or names i d).now ∷ texts (drop (i + 1) names)
 texts-drop names i d h = rw (add-one, drop-cons names i d) refl
 
-after-step : (front : List (Option ℕ)) (p : Option ℕ) (more : Result (List (Option ℕ)) TableCode) → after_places (front ++ (p ∷ [])) more ≡ after_places front (and_then more (λ places. Ok (p ∷ places)))
+after-step : (front : List (Option ℕ)) (p : Option ℕ) (more : Result (List (Option ℕ)) TableCode)
+    → after_places (front ++ (p ∷ [])) more ≡ after_places front (and_then more (λ places. Ok (p ∷ places)))
 after-step front p (Ok ps) = ap Ok (append_assoc front (p ∷ []) ps)
 after-step front p (Err e) = refl
 

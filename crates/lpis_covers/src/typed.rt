@@ -1,7 +1,7 @@
 //! The rows of a table as values of a type.
 
-ghost use Rattle.std.specs.Prelude.{◌≡◌, ◌≤◌, ◌++◌, ◌∷◌, [], true, Ok, Err, IfErr, IfOk, OnOk, length, map};
-ghost use Rattle.lpis_covers.specs.Faults.{rows_of, unless_faulty, values_of};
+ghost use Rattle.std.specs.Prelude.{◌≡◌, ◌≤◌, ◌++◌, ◌∷◌, [], Ok, Err, IfErr, IfOk, OnOk, length, map};
+ghost use Rattle.lpis_covers.specs.Faults.{IsHeaderRead, rows_of, unless_faulty, values_of};
 ghost use Rattle.lpis_covers.specs.Table.{Answers, field_of, most_rows};
 
 use crate::fault::{Table, TableCode, TableFault};
@@ -90,15 +90,13 @@ fn add_rows<T: TableRow>(
     keys: &mut Keys,
     rows: &mut Vec<T>,
 ) -> Result<(), TableFault>
-    requires table { reader.old.table ≡ T.kind.table }
-    requires start { reader.old.number ≡ 0 }
-    requires enough { T.kind.enough reader.old.has ≡ true }
+    requires header { IsHeaderRead T.kind reader.old }
     requires empty { (keys.old ≡ []) × (rows.old.items ≡ []) }
     ensures fault { IfErr result
         (λ fault. Answers (Err fault) (values_of T.kind (Ok reader.old))) }
     ensures rows { OnOk result (values_of T.kind (Ok reader.old) ≡ Ok rows.new.items) }
-    ensures keys { OnOk result (keys.new ≡ map T.identifier rows.new.items) }
-    ensures few { OnOk result (length rows.new.items ≤ most_rows) }
+    ensures keyed { OnOk result ((keys.new ≡ map T.identifier rows.new.items)
+        × (length rows.new.items ≤ most_rows)) }
 {
     'rows: while reader.next_row()? {
         add_row(alloc, reader, keys, rows)?;
@@ -112,9 +110,7 @@ fn rows_under<T: TableRow>(
     reader: &mut TableReader<'_>,
     room: usize,
 ) -> Result<Keyed<T>, TableFault>
-    requires table { reader.old.table ≡ T.kind.table }
-    requires start { reader.old.number ≡ 0 }
-    requires enough { T.kind.enough reader.old.has ≡ true }
+    requires header { IsHeaderRead T.kind reader.old }
     ensures { Answers result (values_of T.kind (Ok reader.old)) }
 {
     let mut keys = Keys::with_capacity(alloc, room)?;
@@ -129,9 +125,7 @@ fn opened<T: TableRow>(alloc: Global, bytes: &[u8]) -> Result<TableReader<'_>, T
     ensures fault { IfErr result (λ fault. Answers (Err fault) (rows_of T.kind bytes.now)) }
     ensures rows { IfOk result
         (λ reader. rows_of T.kind bytes.now ≡ values_of T.kind (Ok reader)) }
-    ensures table { IfOk result (λ reader. reader.table ≡ T.kind.table) }
-    ensures start { IfOk result (λ reader. reader.number ≡ 0) }
-    ensures enough { IfOk result (λ reader. T.kind.enough reader.has ≡ true) }
+    ensures header { IfOk result (λ reader. IsHeaderRead T.kind reader) }
 {
     let reader = TableReader::open(alloc, bytes, T::table(), T::columns(), T::further())?;
     if T::is_enough(&reader) {

@@ -157,7 +157,8 @@ fails-said g h kept year r v c rows more old new (Err e) same also sound good fa
     λ is. (sound, good, subst₂ (λ v more. FailsToStore g h kept year v c.exact more old new (e ≡ Store)) same also (fails is))
 
 -- and what was submitted
-pub fails-submitted : {S A : Type 0} (g : Ghosts S) (x : Submission) (year : ℕ) (r : Contents) (c : Cert) (rows : List Row) (old new : RegisterState S) (answer : Result A Failure) → IsSubmitted x r c rows
+pub fails-submitted : {S A : Type 0} (g : Ghosts S) (x : Submission) (year : ℕ) (r : Contents) (c : Cert) (rows : List Row) (old new : RegisterState S) (answer : Result A Failure)
+    → IsSubmitted x r c rows
     → IfErr answer (λ failure. IsStoreFailure failure → IsSoundMap r × IsGood r c × FailsToStore g old.history old.shapes year r c.exact rows old.conn new.conn (failure ≡ Store))
     → IfErr answer (λ failure. IsStoreFailure failure → FailsToPublish g x year old new (failure ≡ Store))
 fails-submitted g x year r c rows old new (Ok a) said fails = tt

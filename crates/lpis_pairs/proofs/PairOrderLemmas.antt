@@ -18,8 +18,8 @@ pair_cmp x y = ordering_then (nat_cmp x.0 y.0) (nat_cmp x.1 y.1)
 abbrev pub pair_eq : ℕ × ℕ → ℕ × ℕ → Bool
 pair_eq x y = eqb x.0 y.0 && eqb x.1 y.1
 
-total : IsTotalOrder pair_cmp
-total = then_total (on_total (λ (p : ℕ × ℕ). p.0) nat_cmp_total) (on_total (λ (p : ℕ × ℕ). p.1) nat_cmp_total)
+pair_cmp-total : IsTotalOrder pair_cmp
+pair_cmp-total = then_total (on_total (λ (p : ℕ × ℕ). p.0) nat_cmp_total) (on_total (λ (p : ℕ × ℕ). p.1) nat_cmp_total)
 
 numbers_tie : (a b c d : ℕ) → (eqb a c && eqb b d) ≡ eq_by_cmp pair_cmp (a, b) (c, d)
 numbers_tie a b c d = grind (arith, nat_tests)
@@ -53,7 +53,7 @@ below a b c d e = grind (arith, nat_tests)
 pub dedup_is_rising : (ps : List (ℕ × ℕ)) → IsSorted pair_cmp ps → IsRising (dedup pair_eq ps)
 dedup_is_rising ps s k m p q l f g =
     let qs = dedup pair_eq ps in
-    let e = Less-from_sorted pair_cmp qs k m p (IsStrictlySortedBy-dedup total ties ps s) l (slice_get_within qs m q g) in
+    let e = Less-from_sorted pair_cmp qs k m p (IsStrictlySortedBy-dedup pair_cmp-total ties ps s) l (slice_get_within qs m q g) in
     below p.0 p.1 q.0 q.1 (sym (ap₂ pair_cmp (get_or_from_slice_get qs k p p f) (get_or_from_slice_get qs m q p g)) ∙ e)
 
 -- a pair of a list is still in it once doubles are dropped

@@ -46,15 +46,15 @@ IsCount rest k = IsPartitionPoint (λ (j : Join). is_of_parcel k j ≡ true) (λ
 pub start-parts : (xs : List Join) (k : ℕ) → IsNonDecreasingBy (λ (j : Join). j.parcel) xs → IsPartitionedBy (λ (j : Join). nat_lt j.parcel k) xs
 start-parts xs k up i j d le lt e = let rise = up i j d le lt in grind (arith, nat_tests)
 
-same : (x y k : ℕ) → x ≤ y → nat_lt x k ≡ false → (y == k) ≡ true → (x == k) ≡ true
-same x y k le a b = grind (arith, nat_tests)
+parcel_between : (x y k : ℕ) → x ≤ y → nat_lt x k ≡ false → (y == k) ≡ true → (x == k) ≡ true
+parcel_between x y k le a b = grind (arith, nat_tests)
 
 -- in joins sorted by parcels, without those of parcels below k, those of k all stand in front
 pub group-parts : (xs : List Join) (k s : ℕ) → IsNonDecreasingBy (λ (j : Join). j.parcel) xs → IsStart xs k s → IsPartitionedBy (is_of_parcel k) (drop s xs)
 group-parts xs k s up start i j d le lt e =
     let within : s + j < length xs = omega (arith, length-drop s xs) in
     let rise = up (s + i) (s + j) d (omega arith) within in
-    rw (get_or-drop s xs i d) (same (get_or xs (s + i) d).parcel (get_or xs (s + j) d).parcel k rise (start.1 (s + i) d (omega arith) (omega arith)) (rw (get_or-drop s xs j d) at e))
+    rw (get_or-drop s xs i d) (parcel_between (get_or xs (s + i) d).parcel (get_or xs (s + j) d).parcel k rise (start.1 (s + i) d (omega arith) (omega arith)) (rw (get_or-drop s xs j d) at e))
 
 early : (x k s n i : ℕ) → i < s → nat_lt x k ≡ true → (x == k) ≡ (nat_le s i && nat_lt i (s + n))
 early x k s n i lt a = grind (arith, nat_tests)

@@ -4,6 +4,7 @@ pub mod IntLemmas
 pub mod IntRingLemmas
 pub mod UnknownsLemmas
 pub mod SignLemmas
+pub mod SmallProductLemmas
 pub mod CrossingLemmas
 pub mod TriangleLemmas
 pub mod SeparationLemmas

@@ -10,12 +10,12 @@ use Rattle.lpis_points.proofs.TriangleLemmas.{x_by_sides, y_by_sides, inside_is,
 nothing : (m n o p q : ℤ) → o ≡ pos 0 → p ≡ pos 0 → q ≡ pos 0 → m *ℤ (q -ℤ o) -ℤ (p -ℤ o) *ℤ n ≡ pos 0
 nothing m n o p q e f g = rw (e, f, g) (omega (arith, ints))
 
-same : (x y : ℤ) → y -ℤ x ≡ pos 0 → x ≡ y
-same x y e = omega (arith, ints)
+no_step-same : (x y : ℤ) → y -ℤ x ≡ pos 0 → x ≡ y
+no_step-same x y e = omega (arith, ints)
 
 -- a triangle with an area has a corner off each line through two different points
 on_line : (a b c u v : Point) → u ≢ v → pos 0 <ℤ orient a b c → orient u v a ≡ pos 0 → orient u v b ≡ pos 0 → orient u v c ≡ pos 0 → ⊥
-on_line a b c u v n t e f g = n (point_eq u v (same u.x v.x x) (same u.y v.y y))
+on_line a b c u v n t e f g = n (point_eq u v (no_step-same u.x v.x x) (no_step-same u.y v.y y))
   where
     x : v.x -ℤ u.x ≡ pos 0
     x = zero_of_mul (v.x -ℤ u.x) (orient a b c) t (x_by_sides a b c u v ∙ nothing (b.x -ℤ a.x) (c.x -ℤ a.x) (orient u v a) (orient u v b) (orient u v c) e f g)

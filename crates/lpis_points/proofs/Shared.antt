@@ -9,4 +9,5 @@ pub use Rattle.lpis_points.proofs.PointLemmas.{point_eq, same_point-equality}
 pub use Rattle.lpis_points.proofs.SeparationLemmas.{separated_share_nothing}
 pub use Rattle.lpis_points.proofs.ShiftLemmas.{crossing-shifted, shifted_off}
 pub use Rattle.lpis_points.proofs.SignLemmas.{neg-mul-not_neg, neg-mul-not_pos, neg-mul-pos, not_neg_of_mul, not_pos_of_mul, pos-mul-not_neg, pos-mul-not_pos, pos-mul-pos}
+pub use Rattle.lpis_points.proofs.SmallProductLemmas.{small_product}
 pub use Rattle.lpis_points.proofs.TriangleLemmas.{corners_differ, flats_never_turn, terms_sum, turns_round-is}

@@ -21,8 +21,8 @@ or_shut true f = inr (f refl)
 or_shut false f = inl refl
 
 -- where the failure is reported as the store's, memory was not what was refused
-pub fails_to_run : {S : Type 0} (g : store.Ghosts S) (xs : List BoundStatement) (old new : Held S) (e : Error) (fault : PublishFault) → (e ≡ SqliteFailure OutOfMemory → fault ≡ StoreMemory) → fault ≡ Store
-    → (IsTrue (state g old).is_open → StopsWithin g xs (record old { in_transaction = true }) new e) → FailsToRun g xs old new
+pub fails_to_run : {S : Type 0} (g : store.Ghosts S) (xs : List BoundStatement) (old new : Held S) (e : Error) (fault : PublishFault) → (e ≡ SqliteFailure OutOfMemory → fault ≡ StoreMemory)
+    → fault ≡ Store → (IsTrue (state g old).is_open → StopsWithin g xs (record old { in_transaction = true }) new e) → FailsToRun g xs old new
 fails_to_run g xs old new e fault memory is stops = or_shut (state g old).is_open (λ up. elim (stops up) [
   | inl refused ↦ absurd (let m = memory refused in cc)
   | inr stopped ↦ stopped

@@ -100,14 +100,14 @@ marks-ascending (k ∷ ks) a = by k.row.exact (marks-ascending ks a.1) where
 pub marks-ascend : (h : List Entry) → IsLawful h → Ascends mark_below (marks_of h)
 marks-ascend h law = subst (Ascends mark_below) (marks-in h) (marks-ascending (known_of h) (known-ascend h law))
 
-total : IsTotalOrder mark_cmp
-total = then_total (on_total (λ (m : Mark). m.year) int_cmp_total) (on_total (λ (m : Mark). m.position) int_cmp_total)
+mark_cmp-total : IsTotalOrder mark_cmp
+mark_cmp-total = then_total (on_total (λ (m : Mark). m.year) int_cmp_total) (on_total (λ (m : Mark). m.position) int_cmp_total)
 
 told-sorted-marks : (h : List Entry) (ms sorted : List Mark) → IsLawful h → IsSorted mark_cmp sorted → IsPermutation ms sorted → IsPermutation ms (marks_of h) → sorted ≡ marks_of h
 told-sorted-marks h ms sorted law up p q =
     let below = λ (x y : Mark). is_lt (mark_cmp x y) in
     let same = λ (m : Mark). m in
-    let ranks = ranks_by total same in
+    let ranks = ranks_by mark_cmp-total same in
     sorted-same below ranks sorted (marks_of h) (subst (Rises below) (map-id sorted) (rises-far below same sorted (sorted_far below ranks sorted up)))
     (ascends-map mark_below (Less_by (λ (x y : Mark). is_lt (mark_cmp x y))) (marks_of h) (λ a b r. lines-less (as_line a) (as_line b) r) (marks-ascend h law))
     (IsPermutation-trans sorted ms (marks_of h) (IsPermutation-sym ms sorted p) q)

@@ -51,7 +51,8 @@ abbrev pub IsWrittenOf : StoredText → Shape → Type 0
 IsWrittenOf text shape = IsTextOfShape text shape × (text ≡ written_text shape)
 
 -- where all shapes are written, the texts spell them, and are those that are written for them
-pub all-written : (texts : List StoredText) (shapes : List Shape) (i : ℕ) → length shapes ≤ i → AllZip IsWrittenOf texts (take i shapes) → AllZip IsTextOfShape texts shapes × (texts ≡ map written_text shapes)
+pub all-written : (texts : List StoredText) (shapes : List Shape) (i : ℕ) → length shapes ≤ i → AllZip IsWrittenOf texts (take i shapes)
+    → AllZip IsTextOfShape texts shapes × (texts ≡ map written_text shapes)
 all-written texts shapes i le z =
     let whole = subst (AllZip IsWrittenOf texts) (take-whole shapes i le) z in (
       zip-weaker IsWrittenOf IsTextOfShape texts shapes (λ text shape is. is.0) whole,

@@ -123,8 +123,8 @@ sorted-years ys sorted told up a p q = sym (sorted-same (λ (x y : ℤ). is_lt (
       nat_order : IsStrictWeakOrder (λ (x y : ℕ). is_lt (nat_cmp x y))
       nat_order = ranks_by nat_cmp_total (λ (n : ℕ). n)
 
-total : IsTotalOrder line_cmp
-total = then_total (on_total (λ (l : Line). l.year) int_cmp_total) (on_total (λ (l : Line). l.position) int_cmp_total)
+line_cmp-total : IsTotalOrder line_cmp
+line_cmp-total = then_total (on_total (λ (l : Line). l.year) int_cmp_total) (on_total (λ (l : Line). l.position) int_cmp_total)
 
 -- a row below another, by year and in it by position, is less in the order that sorts them
 pub lines-less : (a b : Line) → line_below a b → is_lt (line_cmp a b) ≡ true
@@ -136,7 +136,7 @@ lines-less a b (inr (e, r)) =
 -- rows of lineage that ascend are those that any order of them gives when read and sorted
 pub sorted-lines : (ls : List Line) (sorted : List KnownLine) (told : List Line) → IsSortedByKey line_in line_cmp sorted → Ascends line_below told
     → IsPermutation ls (map line_in sorted) → IsPermutation ls told → told ≡ map line_in sorted
-sorted-lines ls sorted told up a p q = sym (sorted-same (λ (x y : Line). is_lt (line_cmp x y)) (ranks_by total (λ (l : Line). l)) (map line_in sorted) told
-    (rises-far (λ (x y : Line). is_lt (line_cmp x y)) line_in sorted (sorted_far (λ (x y : KnownLine). is_lt (line_cmp (line_in x) (line_in y))) (ranks_by total line_in) sorted up))
+sorted-lines ls sorted told up a p q = sym (sorted-same (λ (x y : Line). is_lt (line_cmp x y)) (ranks_by line_cmp-total (λ (l : Line). l)) (map line_in sorted) told
+    (rises-far (λ (x y : Line). is_lt (line_cmp x y)) line_in sorted (sorted_far (λ (x y : KnownLine). is_lt (line_cmp (line_in x) (line_in y))) (ranks_by line_cmp-total line_in) sorted up))
     (ascends-map line_below (Less_by (λ (x y : Line). is_lt (line_cmp x y))) told lines-less a)
     (IsPermutation-trans (map line_in sorted) ls told (IsPermutation-sym ls (map line_in sorted) p) q))

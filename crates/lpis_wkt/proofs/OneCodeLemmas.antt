@@ -51,7 +51,8 @@ open-only s s' before Comma c (opens_ring b) r more h = cc
 open-only s s' before End c (opens_ring b) r more h = cc
 open-only s s' before (Word w) c (opens_ring b) r more h = cc
 
-coordinate-only : (s s' : ParserState) (n : ℕ) (t : Token) (c : WktCode) → parse_step s (Word (codes "0")) ≡ Ok s' → has_words s ≡ n → n ≤ most_words → limited_step s t ≡ Err c → coordinate_code n t ≡ c
+coordinate-only : (s s' : ParserState) (n : ℕ) (t : Token) (c : WktCode) → parse_step s (Word (codes "0")) ≡ Ok s'
+    → has_words s ≡ n → n ≤ most_words → limited_step s t ≡ Err c → coordinate_code n t ≡ c
 coordinate-only (AtX b ps) s' n (Word w) c k token_words few h =
     let same : nat_le most_points (points_before b + length ps) ≡ (n == most_words) = same-test (points_before b + length ps) n (sym token_words) (omega arith) in
     ap (λ (v : Bool). cond v TooManyPoints (number_code (number w))) (sym same) ∙ limited-code _ w (AtY b ps) c h

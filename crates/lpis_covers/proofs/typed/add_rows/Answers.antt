@@ -6,7 +6,7 @@ use Rattle.lpis_covers.proofs.typed.add_rows.Goals as goal
 
 pub rows-init : goal.rows-init
 rows-init g c =
-    rw (c.requires.empty.0, c.requires.empty.1) (rows-start g.T.TableRow.kind c.args.reader.now c.requires.table c.requires.start c.requires.enough, refl)
+    rw (c.requires.empty.0, c.requires.empty.1) (rows-start g.T.TableRow.kind c.args.reader.now c.requires.header.table c.requires.header.start c.requires.header.enough, refl)
 
 pub returns-in_err-next_row-clause-fault : goal.returns-in_err-next_row-clause-fault
 returns-in_err-next_row-clause-fault g c =
@@ -33,5 +33,5 @@ returns-clause-rows g c =
     let ended = rw c.if-branch.false at c.in_ok-next_row.ensures in
     rows-end g.T.TableRow.kind c.args.reader.now c.rows.reader c.next_row.new.self c.rows.keys c.rows.rows.items c.rows.invariant.0 ended
 
-pub returns-clause-few : goal.returns-clause-few
-returns-clause-few g c = subst (λ n. n ≤ most_rows) c.rows.invariant.0.count c.rows.invariant.0.few
+pub returns-clause-keyed : goal.returns-clause-keyed
+returns-clause-keyed g c = (c.rows.invariant.1, subst (λ n. n ≤ most_rows) c.rows.invariant.0.count c.rows.invariant.0.few)

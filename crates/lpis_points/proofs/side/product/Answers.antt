@@ -1,19 +1,10 @@
-use Rattle.std.proofs.Common.{to_z-of_z, lit<, mul-le-mul}
-use Rattle.lpis_points.proofs.Common.{w128}
-use Rattle.std.proofs.lemmas.Int.{fits_signed_mul, unsigned_abs-mul}
-use Rattle.lpis_points.specs.private.Margins.{step_margin, offset_margin}
+use Rattle.std.proofs.Common.{lit<}
+use Rattle.lpis_points.specs.private.Margins.{offset_margin, step_margin}
+use Rattle.lpis_points.proofs.SmallProductLemmas.{small_product}
 use Rattle.lpis_points.proofs.side.product.Goals as goal
 
 pub returns-clause-value : goal.returns-clause-value
-returns-clause-value c =
-    let f = fits_signed_mul w128 c.args.x c.args.y step_margin offset_margin c.requires.x_in c.requires.y_in (lit< tt) in
-    let g = c.ranges.x in
-    let h = c.ranges.y in
-    simp to_z-of_z
+returns-clause-value c = (small_product c.args.x c.args.y step_margin offset_margin c.ranges.x c.ranges.y c.requires.x_in c.requires.y_in (lit< tt)).0
 
 pub returns-clause-small : goal.returns-clause-small
-returns-clause-small c =
-    let f = fits_signed_mul w128 c.args.x c.args.y step_margin offset_margin c.requires.x_in c.requires.y_in (lit< tt) in
-    let g = c.ranges.x in
-    let h = c.ranges.y in
-    simp (to_z-of_z, unsigned_abs-mul) (mul-le-mul c.requires.x_in c.requires.y_in)
+returns-clause-small c = (small_product c.args.x c.args.y step_margin offset_margin c.ranges.x c.ranges.y c.requires.x_in c.requires.y_in (lit< tt)).1

@@ -23,7 +23,8 @@ returns-clause-same c = λ h said years. front-whole c.loop-year.history h (c.lo
 
 pub loop-year-preserved : goal.loop-year-preserved
 loop-year-preserved c = (
-  years-front-next c.args.years.now c.loop-year.year-index (years_of c.loop-year.history) (years_of c.add_year.new.history) c.loop-year-test.true c.loop-year.invariant.0 c.in_ok-next.ensures.adds.years,
+  years-front-next c.args.years.now c.loop-year.year-index (years_of c.loop-year.history) (years_of c.add_year.new.history)
+      c.loop-year-test.true c.loop-year.invariant.0 c.in_ok-next.ensures.adds.years,
   c.in_ok-next.ensures.adds.sets c.loop-year.invariant.1,
   c.in_ok-next.ensures.adds.lines_are c.loop-year.invariant.2,
   c.in_ok-next.ensures.adds.within,
