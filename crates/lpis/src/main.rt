@@ -11,8 +11,8 @@ use clap::error::ErrorKind;
 use created::Created;
 use folders::Folders;
 use lpis_commands::{
-    Cmd, CommandFiles, Detail, FAILED, Failure, Name, NamedFile, TableFiles, command_of,
-    named_files, print_failure, run_area, run_check, run_cut, status_of, usage_ends,
+    Cmd, CommandFiles, Detail, FAILED, Failure, Name, NamedFile, SubmissionFiles, TableFiles,
+    command_of, named_files, print_failure, run_area, run_check, run_cut, status_of, usage_ends,
 };
 use lpis_country_run::{print_country_failure, run_country};
 use lpis_gate::{refuse_register, run_exact, run_publish, run_trace};
@@ -97,38 +97,11 @@ fn perform_on(rt: &HostRuntime, files: &CommandFiles<'_>) -> Result<u8, Failure>
             classes,
             detail,
         } => check_country(rt, dir, country, classes, *detail),
-        CommandFiles::Exact {
-            db,
-            tables,
-            cert,
-            lineage,
-            out,
-        } => in_register(
-            rt,
-            db,
-            Job::Fill {
-                tables,
-                cert,
-                lineage,
-                filled: out,
-            },
-        ),
-        CommandFiles::Publish {
-            db,
-            year,
-            tables,
-            cert,
-            lineage,
-        } => in_register(
-            rt,
-            db,
-            Job::Publish {
-                year: *year,
-                tables,
-                cert,
-                lineage,
-            },
-        ),
+        CommandFiles::Exact { db, files, out } => in_register(rt, db, Job::Fill { files, out }),
+        CommandFiles::Publish { db, year, files } => {
+            let year = *year;
+            in_register(rt, db, Job::Publish { year, files })
+        }
         CommandFiles::Trace { db, id } => in_register(rt, db, Job::Trace { id }),
     }
 }
@@ -159,17 +132,13 @@ fn check(rt: &HostRuntime, tables: &TableFiles, cert: &NamedFile) -> Result<u8, 
 enum Job<'a> {
     /// A certificate is given the blocks that the marks of its lineage ask for.
     Fill {
-        tables: &'a TableFiles,
-        cert: &'a NamedFile,
-        lineage: &'a NamedFile,
-        filled: &'a NamedFile,
+        files: &'a SubmissionFiles,
+        out: &'a NamedFile,
     },
     /// A release is published.
     Publish {
         year: u16,
-        tables: &'a TableFiles,
-        cert: &'a NamedFile,
-        lineage: &'a NamedFile,
+        files: &'a SubmissionFiles,
     },
     /// An identifier is followed.
     Trace {
@@ -199,18 +168,8 @@ fn work<S: Alter>(
     job: Job<'_>,
 ) -> Result<u8, Failure> {
     match job {
-        Job::Fill {
-            tables,
-            cert,
-            lineage,
-            filled,
-        } => fill(rt, register, tables, cert, lineage, filled),
-        Job::Publish {
-            year,
-            tables,
-            cert,
-            lineage,
-        } => publish(rt, register, year, tables, cert, lineage),
+        Job::Fill { files, out } => fill(rt, register, files, out),
+        Job::Publish { year, files } => publish(rt, register, year, files),
         Job::Trace { id } => run_trace(rt.alloc(), register, id, &mut rt.stdout()),
     }
 }
@@ -242,16 +201,14 @@ fn check_country(
 fn fill<S: Alter>(
     rt: &HostRuntime,
     register: &Register<S>,
-    tables: &TableFiles,
-    cert: &NamedFile,
-    lineage: &NamedFile,
-    filled: &NamedFile,
+    files: &SubmissionFiles,
+    out: &NamedFile,
 ) -> Result<u8, Failure> {
-    let (parcels, covers, classes) = open_tables(rt, tables)?;
-    let cert = open(rt, cert)?;
-    let lineage = open(rt, lineage)?;
+    let (parcels, covers, classes) = open_tables(rt, &files.tables)?;
+    let cert = open(rt, &files.cert)?;
+    let lineage = open(rt, &files.lineage)?;
     // Where there are no such blocks, a file that stands at this path stays as it is.
-    let mut filled = Created::new(rt, filled.path.as_str());
+    let mut filled = Created::new(rt, out.path.as_str());
     let mut out = rt.stdout();
     run_exact(
         rt.alloc(),
@@ -271,13 +228,11 @@ fn publish<S: Alter>(
     rt: &HostRuntime,
     register: &mut Register<S>,
     year: u16,
-    tables: &TableFiles,
-    cert: &NamedFile,
-    lineage: &NamedFile,
+    files: &SubmissionFiles,
 ) -> Result<u8, Failure> {
-    let (parcels, covers, classes) = open_tables(rt, tables)?;
-    let cert = open(rt, cert)?;
-    let lineage = open(rt, lineage)?;
+    let (parcels, covers, classes) = open_tables(rt, &files.tables)?;
+    let cert = open(rt, &files.cert)?;
+    let lineage = open(rt, &files.lineage)?;
     let mut out = rt.stdout();
     run_publish(
         rt.alloc(),

@@ -7,6 +7,7 @@ use Rattle.lpis_commands.specs.declared.failure.Name.TheVariants.{Area, Parcels,
 use Rattle.lpis_commands.specs.declared.failure.Name.TheVariants.{Cert, Country, Lineage}
 use Rattle.lpis_commands.specs.declared.named.NamedFile.{NamedFile}
 use Rattle.lpis_commands.specs.declared.named.RegionFiles.{RegionFiles}
+use Rattle.lpis_commands.specs.declared.named.SubmissionFiles.{SubmissionFiles}
 use Rattle.lpis_commands.specs.declared.named.TableFiles.{TableFiles}
 use Rattle.lpis_commands.specs.declared.named.CommandFiles.{CommandFiles}
 use Rattle.lpis_commands.specs.declared.named.CommandFiles.TheVariants as files
@@ -37,6 +38,10 @@ abbrev pub files_of_region : List ℕ → List ℕ → List (List ℕ × Name)
 files_of_region dir name = tables_in (in_folder dir name)
     ++ (in_folder (in_folder dir name) (codes "cert.txt"), Cert) ∷ []
 
+-- the files of a release that is handed to a register, in a folder and at the certificate's path
+abbrev pub files_of_submission : List ℕ → List ℕ → List (List ℕ × Name)
+files_of_submission dir cert = tables_in dir ++ (cert, Cert) ∷ lineage_file dir ∷ []
+
 -- the files of a command beside its register, in the order in which they are opened, each a path
 -- and the name by which a failure reports it
 abbrev pub files_of : Cmd → List (List ℕ × Name)
@@ -45,9 +50,8 @@ files_of (cmd.Cut dir cert) = tables_in dir.now ++ (cert.now, Cert) ∷ []
 files_of (cmd.Check dir cert) = tables_in dir.now ++ (cert.now, Cert) ∷ []
 files_of (cmd.Country dir detail) = country_file dir.now ∷ classes_file dir.now ∷ []
 files_of (cmd.Exact db dir cert out) =
-    tables_in dir.now ++ (cert.now, Cert) ∷ lineage_file dir.now ∷ (out.now, Cert) ∷ []
-files_of (cmd.Publish db year dir cert) =
-    tables_in dir.now ++ (cert.now, Cert) ∷ lineage_file dir.now ∷ []
+    files_of_submission dir.now cert.now ++ (out.now, Cert) ∷ []
+files_of (cmd.Publish db year dir cert) = files_of_submission dir.now cert.now
 files_of (cmd.Trace db id) = []
 
 -- ---- what is seen of files
@@ -60,15 +64,16 @@ tables_listed t = shown_file t.parcels ∷ shown_file t.covers ∷ shown_file t.
 abbrev pub region_listed : RegionFiles → List (List ℕ × Name)
 region_listed i = tables_listed i.tables ++ shown_file i.cert ∷ []
 
+abbrev pub submission_listed : SubmissionFiles → List (List ℕ × Name)
+submission_listed i = tables_listed i.tables ++ shown_file i.cert ∷ shown_file i.lineage ∷ []
+
 abbrev pub listed : CommandFiles → List (List ℕ × Name)
 listed (files.Area table) = shown_file table ∷ []
 listed (files.Cut tables cert) = tables_listed tables ++ shown_file cert ∷ []
 listed (files.Check tables cert) = tables_listed tables ++ shown_file cert ∷ []
 listed (files.Country dir country classes detail) = shown_file country ∷ shown_file classes ∷ []
-listed (files.Exact db tables cert lineage out) =
-    tables_listed tables ++ shown_file cert ∷ shown_file lineage ∷ shown_file out ∷ []
-listed (files.Publish db year tables cert lineage) =
-    tables_listed tables ++ shown_file cert ∷ shown_file lineage ∷ []
+listed (files.Exact db submission out) = submission_listed submission ++ shown_file out ∷ []
+listed (files.Publish db year submission) = submission_listed submission
 listed (files.Trace db id) = []
 
 -- the files are those of the same command; and the register with the year or the identifier, or the
@@ -79,8 +84,8 @@ HasWords (cmd.Cut dir cert) (files.Cut tables c) = ⊤
 HasWords (cmd.Check dir cert) (files.Check tables c) = ⊤
 HasWords (cmd.Country dir detail) (files.Country d country classes e) =
     (d.now ≡ dir.now) × (e ≡ detail)
-HasWords (cmd.Exact db dir cert out) (files.Exact d tables c lineage o) = d.now ≡ db.now
-HasWords (cmd.Publish db year dir cert) (files.Publish d y tables c lineage) =
+HasWords (cmd.Exact db dir cert out) (files.Exact d submission o) = d.now ≡ db.now
+HasWords (cmd.Publish db year dir cert) (files.Publish d y submission) =
     (d.now ≡ db.now) × (y ≡ year)
 HasWords (cmd.Trace db id) (files.Trace d i) = (d.now ≡ db.now) × (i.now ≡ id.now)
 HasWords _ _ = ⊥

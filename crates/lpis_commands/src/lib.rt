@@ -33,7 +33,9 @@ pub use cut::run_cut;
 pub use cut_line::{print_counts, print_refusal};
 pub use failure::{Failure, Name, print_failure};
 pub use laws::{a_check_has_one_answer, a_sum_of_areas_is_printed};
-pub use named::{CommandFiles, NamedFile, RegionFiles, TableFiles, named_files, region_files};
+pub use named::{
+    CommandFiles, NamedFile, RegionFiles, SubmissionFiles, TableFiles, named_files, region_files,
+};
 pub use outcome::Outcome;
 pub use outputs::write_text;
 pub use printing::{PrintFault, print_area, print_eligible, print_line};

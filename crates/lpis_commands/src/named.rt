@@ -2,8 +2,9 @@
 
 ghost use Rattle.std.specs.Prelude.{◌≡◌, IfOk};
 ghost use Rattle.lpis_commands.specs.Files.{HasWords, classes_file, country_file, files_of};
-ghost use Rattle.lpis_commands.specs.Files.{files_of_region, in_folder, lineage_file, listed};
-ghost use Rattle.lpis_commands.specs.Files.{region_listed, shown_file, tables_in, tables_listed};
+ghost use Rattle.lpis_commands.specs.Files.{files_of_region, files_of_submission, in_folder};
+ghost use Rattle.lpis_commands.specs.Files.{lineage_file, listed, region_listed, shown_file};
+ghost use Rattle.lpis_commands.specs.Files.{submission_listed, tables_in, tables_listed};
 
 use crate::command::{Cmd, Detail};
 use crate::failure::Name;
@@ -36,6 +37,18 @@ pub struct RegionFiles {
     pub tables: TableFiles,
     /// The certificate.
     pub cert: NamedFile,
+}
+
+/// The files of a release that is handed to a register, in the order in which they are opened and
+/// read.
+#[derive(Debug, Drop)]
+pub struct SubmissionFiles {
+    /// The tables of the release.
+    pub tables: TableFiles,
+    /// The certificate.
+    pub cert: NamedFile,
+    /// The lineage table.
+    pub lineage: NamedFile,
 }
 
 /// The files of a command, in the order in which they are opened, with the words that its run is
@@ -76,12 +89,8 @@ pub enum CommandFiles<'a> {
     Exact {
         /// The path of the register, which is opened before the files.
         db: &'a str,
-        /// The tables of a release.
-        tables: TableFiles,
-        /// The certificate.
-        cert: NamedFile,
-        /// The lineage table.
-        lineage: NamedFile,
+        /// The files of a release.
+        files: SubmissionFiles,
         /// The certificate with its blocks, which is written.
         out: NamedFile,
     },
@@ -91,12 +100,8 @@ pub enum CommandFiles<'a> {
         db: &'a str,
         /// The release's year.
         year: u16,
-        /// The tables of a release.
-        tables: TableFiles,
-        /// The certificate.
-        cert: NamedFile,
-        /// The lineage table.
-        lineage: NamedFile,
+        /// The files of a release.
+        files: SubmissionFiles,
     },
     /// Of `trace`: none beside the register.
     Trace {
@@ -155,6 +160,17 @@ fn lineage_in(alloc: Global, dir: &str) -> Result<NamedFile, AllocError>
     file_in(alloc, dir, "lineage.csv", Name::Lineage)
 }
 
+/// The files of the release in a folder that is handed to a register with this certificate.
+fn submission_files(alloc: Global, dir: &str, cert: &str) -> Result<SubmissionFiles, AllocError>
+    ensures { IfOk result (λ i. submission_listed i ≡ files_of_submission dir.now cert.now) }
+{
+    Ok(SubmissionFiles {
+        tables: tables_of(alloc, dir)?,
+        cert: file_at(alloc, cert, Name::Cert)?,
+        lineage: lineage_in(alloc, dir)?,
+    })
+}
+
 /// The files of the region of this name, in the folder of a country.
 pub fn region_files(alloc: Global, dir: &str, name: &str) -> Result<RegionFiles, AllocError>
     ensures { IfOk result (λ i. region_listed i ≡ files_of_region dir.now name.now) }
@@ -190,9 +206,7 @@ pub fn named_files<'a>(alloc: Global, command: Cmd<'a>) -> Result<CommandFiles<'
         }),
         Cmd::Exact { db, dir, cert, out } => Ok(CommandFiles::Exact {
             db,
-            tables: tables_of(alloc, dir)?,
-            cert: file_at(alloc, cert, Name::Cert)?,
-            lineage: lineage_in(alloc, dir)?,
+            files: submission_files(alloc, dir, cert)?,
             out: file_at(alloc, out, Name::Cert)?,
         }),
         Cmd::Publish {
@@ -203,9 +217,7 @@ pub fn named_files<'a>(alloc: Global, command: Cmd<'a>) -> Result<CommandFiles<'
         } => Ok(CommandFiles::Publish {
             db,
             year,
-            tables: tables_of(alloc, dir)?,
-            cert: file_at(alloc, cert, Name::Cert)?,
-            lineage: lineage_in(alloc, dir)?,
+            files: submission_files(alloc, dir, cert)?,
         }),
         Cmd::Trace { db, id } => Ok(CommandFiles::Trace { db, id }),
     }

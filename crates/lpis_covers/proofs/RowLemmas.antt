@@ -6,7 +6,7 @@ use Rattle.std.specs.Result.{result_map_both}
 use Rattle.csv.specs.Reading.{records}
 use Rattle.lpis_covers.specs.declared.fault.TableCode.{TableCode}
 use Rattle.lpis_covers.specs.declared.fault.TableFault.TheVariants.{Memory}
-use Rattle.lpis_covers.specs.Faults.{RowsOf, table_row_faults, values_of}
+use Rattle.lpis_covers.specs.Faults.{RowsOf, key_faults, table_row_faults, values_of}
 use Rattle.lpis_covers.specs.Table.{Advances, Record, fault_at, most_rows, reading, rows_from, table_of, wanted_places}
 
 -- a reader of the table t has read these rows, with these keys, and no fault yet
@@ -127,3 +127,11 @@ pub fault-retold : {A B : Type 0} (fs : List TableFault) (v : A) (w : B) (f : Ta
 fault-retold fs v w Memory h = tt
 fault-retold [] v w (At code table row wkt) h = cc h
 fault-retold (g ∷ fs) v w (At code table row wkt) h = ap Err (cc h)
+
+-- a row whose own identifier and other fields have no fault has none, and is read as its value
+pub row-told : {A : Type 0} (kind : RowsOf A) (keys : List (List ℕ)) (n : ℕ) (row : Fields) (others : List TableFault) (id : List ℕ) (x : A)
+    → kind.faults keys n row ≡ key_faults kind.table n keys (field_of row 0) ++ others → unless_faulty (key_faults kind.table n keys (field_of row 0)) (field_of row 0) ≡ Ok id
+    → unless_faulty others (kind.value row) ≡ Ok x → (kind.faults keys n row ≡ []) × (kind.value row ≡ x)
+row-told kind keys n row others id x first key rest =
+    told-value (kind.faults keys n row) (kind.value row) x
+    (rw first (column-passed (key_faults kind.table n keys (field_of row 0)) others (field_of row 0) id (Ok x) (kind.value row) key rest))

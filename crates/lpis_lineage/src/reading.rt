@@ -1,7 +1,7 @@
 //! The table of lineage.
 
-ghost use Rattle.std.specs.Prelude.{◌≡◌, ◌∷◌, [], codes, false, unwrap_or};
-ghost use Rattle.lpis_covers.specs.Faults.{rows_of, unless_faulty};
+ghost use Rattle.std.specs.Prelude.{◌≡◌, ◌∷◌, [], codes, false, unwrap_or, Ok, Err, IfErr, OnOk};
+ghost use Rattle.lpis_covers.specs.Faults.{IsHeaderRead, rows_of, unless_faulty, values_of};
 ghost use Rattle.lpis_covers.specs.Table.{Answers, field_of, texts};
 ghost use Rattle.lpis_covers.specs.declared.fault.Table.TheVariants as tables;
 ghost use Rattle.lpis_lineage.specs.LineageTable.{AnswersRows, lineage_faults, lineage_table};
@@ -83,6 +83,28 @@ fn read_row(alloc: Global, reader: &TableReader<'_>, number: u32) -> Result<Row,
     Ok(Row { old, new, exact })
 }
 
+/// Adds the rows of a table whose header alone was read to a list without rows. A refusal is the
+/// first fault of a row, else that which stops the rows.
+fn add_rows(
+    alloc: Global,
+    reader: &mut TableReader<'_>,
+    rows: &mut Vec<Row>,
+) -> Result<(), TableFault>
+    requires header { IsHeaderRead lineage_table reader.old }
+    requires empty { rows.old.items ≡ [] }
+    ensures fault { IfErr result
+        (λ fault. Answers (Err fault) (values_of lineage_table (Ok reader.old))) }
+    ensures rows { OnOk result (values_of lineage_table (Ok reader.old) ≡ Ok rows.new.items) }
+{
+    let mut number = 0;
+    'rows: while reader.next_row()? {
+        number += 1;
+        let row = read_row(alloc, reader, number)?;
+        rows.push(row)?;
+    }
+    Ok(())
+}
+
 /// The rows of the table `lineage`, with the columns `old` and `new`; an empty `new` makes an
 /// ending. There may be a column `exact`, in which `1` marks a row; `0` and an empty field do not.
 /// A refusal is the first fault: of row 0; else of a row, in the order of the rows and in it of the
@@ -92,11 +114,6 @@ pub fn read_rows(alloc: Global, bytes: &[u8]) -> Result<Vec<Row>, TableFault>
 {
     let mut reader = TableReader::open(alloc, bytes, Table::Lineage, columns(), further())?;
     let mut rows = Vec::new(alloc);
-    let mut number = 0;
-    'rows: while reader.next_row()? {
-        number += 1;
-        let row = read_row(alloc, &reader, number)?;
-        rows.push(row)?;
-    }
+    add_rows(alloc, &mut reader, &mut rows)?;
     Ok(rows)
 }

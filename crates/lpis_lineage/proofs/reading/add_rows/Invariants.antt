@@ -2,7 +2,7 @@ use Rattle.std.proofs.Common.{◌≡◌, length, map}
 use Rattle.lpis_lineage.proofs.Common.{Row}
 use Rattle.lpis_covers.proofs.Shared.{IsRead}
 use Rattle.lpis_lineage.specs.LineageTable.{lineage_table}
-use Rattle.lpis_lineage.proofs.reading.read_rows.Given as goal
+use Rattle.lpis_lineage.proofs.reading.add_rows.Given as goal
 
 abbrev pub invariant-rows : goal.invariant-rows
 invariant-rows l = IsRead lineage_table l.initial.reader (map (λ (r : Row). r.old) l.rows.items) l.rows.items l.reader × (l.number ≡ l.reader.number)
