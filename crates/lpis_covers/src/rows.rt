@@ -1,7 +1,7 @@
 //! The rows of a table, as a list.
 
 ghost use Rattle.std.specs.Prelude.{◌≡◌, ◌++◌, ◌∷◌, [], map, option_map, slice_index_or, None};
-ghost use Rattle.std.specs.Prelude.{IfOk, OnOk, Some, if◌then◌else◌};
+ghost use Rattle.std.specs.Prelude.{IfOk, Ok, OnOk, Some, if◌then◌else◌};
 ghost use Rattle.csv.specs.Records.{fields_of};
 ghost use Rattle.lpis_covers.specs.Table.{flat, has_column, table_of, texts};
 ghost use Rattle.lpis_covers.specs.Rows.{RowsAnswer};
@@ -95,6 +95,19 @@ fn rows_left(
     Ok((Sequence::new(without_spare(rows)?), stop))
 }
 
+/// All that a table has whose header alone was read.
+fn all_rows(alloc: Global, reader: &mut TableReader<'_>) -> Result<Rows, TableFault>
+    ensures { RowsAnswer result (Ok reader.old) }
+{
+    let has = reader.columns_there(alloc)?;
+    let (rows, stop) = rows_left(alloc, reader)?;
+    Ok(Rows {
+        has: Sequence::new(has),
+        rows,
+        stop,
+    })
+}
+
 /// The wanted columns of a table, by their names in the order given: `columns`, and then `further`
 /// ones that may be absent. A refusal is a fault of row 0, or out of memory.
 pub fn read_table(
@@ -108,11 +121,5 @@ pub fn read_table(
         (table_of table (texts columns.now) (texts further.now) bytes.now) }
 {
     let mut reader = TableReader::open(alloc, bytes, table, columns, further)?;
-    let has = reader.columns_there(alloc)?;
-    let (rows, stop) = rows_left(alloc, &mut reader)?;
-    Ok(Rows {
-        has: Sequence::new(has),
-        rows,
-        stop,
-    })
+    all_rows(alloc, &mut reader)
 }
