@@ -1,6 +1,6 @@
 //! The run over the regions of a country.
 
-ghost use Rattle.std.specs.Prelude.{◌≡◌, ◌<◌, [], IfErr, IfOk, List, get_or, length, map, ℕ};
+ghost use Rattle.std.specs.Prelude.{◌≡◌, ◌<◌, [], IfErr, IfOk, OnOk, List, get_or, length, map, ℕ};
 ghost use Rattle.std.specs.String.{string_bytes};
 ghost use Rattle.lpis_parcels.specs.Release.{Contents};
 ghost use Rattle.lpis_commands.specs.Status.{done};
@@ -9,9 +9,10 @@ ghost use Rattle.lpis_country_run.specs.CountryAnswer.{CountryEnds, Setting};
 ghost use Rattle.lpis_country_run.specs.CountryFailures.{CountryBreaksOff, CountryHalts};
 ghost use Rattle.lpis_country_run.specs.Regions.{AreCountryRead, CountryInputs, Texts};
 ghost use Rattle.lpis_country_run.specs.private.Beginning.{IsBegun, IsUnbegun};
-ghost use Rattle.lpis_country_run.specs.private.Progressing.{HaveAllPassed, IsAt, IsFailureOf};
-ghost use Rattle.lpis_country_run.specs.private.Progressing.{IsFinished, IsStart, IsUnfinished};
-ghost use Rattle.lpis_country_run.specs.private.Progressing.{RegionsBreakOff, RegionsEnd};
+ghost use Rattle.lpis_country_run.specs.private.Progressing.{AreOfRun, HaveAllPassed, IsAt};
+ghost use Rattle.lpis_country_run.specs.private.Progressing.{IsBrokenOff, IsFailureOf, IsFinished};
+ghost use Rattle.lpis_country_run.specs.private.Progressing.{IsReady, IsStart, IsUnfinished};
+ghost use Rattle.lpis_country_run.specs.private.Progressing.{IsWritten, RegionsBreakOff, RegionsEnd};
 ghost use Rattle.lpis_country_run.specs.private.Totals.{IsPrintable};
 
 use crate::beginning::{Begun, begin, read_top};
@@ -27,18 +28,55 @@ use lpis_country_seam::laws::a_country_of_joined_regions_is_sound;
 use std::alloc::Global;
 use std::io::{Read, Write};
 
-/// The failure of the region of this number.
-fn of_region(failure: Failure, names: Vec<String>, index: usize) -> CountryFailure
-    requires { index < length names.items }
-    ensures { IsFailureOf failure (get_or (map string_bytes names.items) index []) result }
+/// The failure of the region of this number, whose name may be taken out of the list.
+fn of_region(failure: Failure, names: &mut Vec<String>, index: usize) -> CountryFailure
+    requires { index < length names.old.items }
+    ensures { IsFailureOf failure (get_or (map string_bytes names.old.items) index []) result }
 {
-    let mut names = names;
     match failure {
         Failure::Read(_) => CountryFailure {
             failure,
             region: Some(names.swap_remove(index)),
         },
         _ => CountryFailure::from(failure),
+    }
+}
+
+/// Reads and judges the region of this number, and writes what is printed of it. Some is the status
+/// of one that is refused.
+fn pass_at<G: Regions, W: Write>(
+    alloc: Global,
+    regions: &G,
+    names: &mut Vec<String>,
+    index: usize,
+    detail: Detail,
+    progress: &mut Progress,
+    out: &mut W,
+) -> Result<Option<u8>, CountryFailure>
+    requires inside { index < length names.old.items }
+    requires ready { IsReady progress.old }
+    ensures names { OnOk result (names.new.items ≡ names.old.items) }
+    ensures written { (s : Setting) (before : List Contents) → IsAt s before progress.old
+        → AreOfRun s (G.texts regions.now) (map string_bytes names.old.items) detail
+        → IfOk result (IsWritten s before (get_or (map string_bytes names.old.items) index [])
+        progress.new (W.contents out.old) (W.contents out.new)) }
+    ensures failure { (s : Setting) (before : List Contents) → IsAt s before progress.old
+        → AreOfRun s (G.texts regions.now) (map string_bytes names.old.items) detail
+        → IfErr result (IsBrokenOff s before (get_or (map string_bytes names.old.items) index [])
+        (W.contents out.old) (W.contents out.new)) }
+{
+    let passed = pass(
+        alloc,
+        regions,
+        names.as_slice(),
+        names[index].as_str(),
+        detail,
+        progress,
+        out,
+    );
+    match passed {
+        Ok(status) => Ok(status),
+        Err(failure) => Err(of_region(failure, names, index)),
     }
 }
 
@@ -65,44 +103,30 @@ fn finish<W: Write>(
 fn run_regions<G: Regions, W: Write>(
     alloc: Global,
     regions: &G,
-    names: Vec<String>,
-    progress: Progress,
+    names: &mut Vec<String>,
+    progress: &mut Progress,
     detail: Detail,
     out: &mut W,
 ) -> Result<u8, CountryFailure>
-    requires { (s : Setting) × IsStart s (G.texts regions.now) (map string_bytes names.items) detail
-        progress }
+    requires { (s : Setting) × IsStart s (G.texts regions.now) (map string_bytes names.old.items)
+        detail progress.old }
     ensures answer { (s : Setting) → IsStart s (G.texts regions.now)
-        (map string_bytes names.items) detail progress
+        (map string_bytes names.old.items) detail progress.old
         → IfOk result (RegionsEnd s (W.contents out.old) (W.contents out.new)) }
     ensures proved { (s : Setting) → IsStart s (G.texts regions.now)
-        (map string_bytes names.items) detail progress
+        (map string_bytes names.old.items) detail progress.old
         → IfOk result (λ status. status ≡ done → (all : List Contents) × HaveAllPassed s all) }
     ensures failure { (s : Setting) → IsStart s (G.texts regions.now)
-        (map string_bytes names.items) detail progress
+        (map string_bytes names.old.items) detail progress.old
         → IfErr result (RegionsBreakOff s (W.contents out.old) (W.contents out.new)) }
 {
-    let mut progress = progress;
     for index in 0..names.len() {
-        let passed = pass(
-            alloc,
-            regions,
-            names.as_slice(),
-            names[index].as_str(),
-            detail,
-            &mut progress,
-            out,
-        );
-        let status = match passed {
-            Ok(status) => status,
-            Err(failure) => return Err(of_region(failure, names, index)),
-        };
-        match status {
+        match pass_at(alloc, regions, names, index, detail, progress, out)? {
             Some(status) => return Ok(status),
             None => {}
         }
     }
-    Ok(finish(alloc, names.len(), &progress, out)?)
+    Ok(finish(alloc, names.len(), progress, out)?)
 }
 
 /// The run over the regions of a plan.
@@ -122,17 +146,17 @@ fn run_begun<G: Regions, W: Write>(
         (W.contents out.new)) }
 {
     let Begun {
-        names,
+        mut names,
         tiles,
         classes,
     } = begun;
-    let progress = Progress {
+    let mut progress = Progress {
         seam: OpenSeam::new(alloc, tiles, classes),
         totals: Totals::none(),
     };
     // What all have passed is a sound map.
     a_country_of_joined_regions_is_sound();
-    run_regions(alloc, regions, names, progress, detail, out)
+    run_regions(alloc, regions, &mut names, &mut progress, detail, out)
 }
 
 /// Writes the answer that refuses a country before its first region.

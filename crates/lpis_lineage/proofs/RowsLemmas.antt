@@ -1,6 +1,6 @@
 -- Rows of the table of lineage.
-use Rattle.std.proofs.Common.{◌≡◌, ◌++◌, ◌∷◌, [], Bool, false, ℕ, List, Option, Result, Ok, Err, refl, unwrap_or}
-use Rattle.lpis_lineage.proofs.Common.{Row}
+use Rattle.std.proofs.Common.{◌≡◌, ◌==◌, ◌++◌, ◌∷◌, [], arith, Bool, false, true, ℕ, List, length, Option, None, Some, Result, Ok, Err, refl, unwrap_or}
+use Rattle.lpis_lineage.proofs.Common.{Row, nat_tests}
 use Rattle.lpis_covers.specs.declared.fault.Table.TheVariants.{Lineage}
 use Rattle.lpis_covers.specs.declared.fault.TableFault.{TableFault}
 use Rattle.lpis_covers.specs.declared.fault.TableFault.TheVariants.{Memory, At}
@@ -8,6 +8,26 @@ use Rattle.lpis_covers.specs.Faults.{id_faults, unless_faulty}
 use Rattle.lpis_covers.specs.Table.{Answers, Fields, field_of}
 use Rattle.lpis_covers.proofs.Shared.{column-fault, column-passed, fault-retold}
 use Rattle.lpis_lineage.specs.LineageTable.{AnswersRows, lineage_faults, mark_field_faults, mark_of_text, row_of, successor_faults, successor_of}
+
+-- an empty field has no successor
+pub successor-none : (n : ℕ) (field : List ℕ) → (length field == 0) ≡ true → unless_faulty (successor_faults n field) (successor_of field) ≡ Ok None
+successor-none n [] empty = refl
+successor-none n (b ∷ bytes) empty = absurd (grind (arith, nat_tests))
+
+-- the successor of a field that is not empty is its identifier
+pub successor-some : (n : ℕ) (field id : List ℕ) → (length field == 0) ≡ false → unless_faulty (id_faults Lineage n field) field ≡ Ok id
+    → unless_faulty (successor_faults n field) (successor_of field) ≡ Ok (Some id)
+successor-some n [] id filled h = cc filled
+successor-some n (b ∷ bytes) id filled h = by (id_faults Lineage n (b ∷ bytes)) h where
+  by : (fs : List TableFault) → unless_faulty fs (b ∷ bytes) ≡ Ok id → unless_faulty fs (Some (b ∷ bytes)) ≡ Ok (Some id)
+  by [] e = cc e
+  by (f ∷ fs) e = cc e
+
+-- and its fault that of the identifier
+pub successor-fault : (n : ℕ) (field : List ℕ) (f : TableFault) → (length field == 0) ≡ false → Answers {A = List ℕ} (Err f) (unless_faulty (id_faults Lineage n field) field)
+    → Answers {A = Option (List ℕ)} (Err f) (unless_faulty (successor_faults n field) (successor_of field))
+successor-fault n [] f filled h = cc filled
+successor-fault n (b ∷ bytes) f filled h = fault-retold (id_faults Lineage n (b ∷ bytes)) (b ∷ bytes) (Some (b ∷ bytes)) f h
 
 -- what three columns without faults say
 three-told : {A B C D : Type 0} (make : A → B → C → D) (fs gs hs : List TableFault) (a x : A) (b y : B) (c z : C)

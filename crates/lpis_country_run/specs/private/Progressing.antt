@@ -121,6 +121,12 @@ IsFailureOf (Read file) name f =
     (f.failure ≡ Read file) × (option_map string_bytes f.region ≡ Some name)
 IsFailureOf failure name f = IsOfNone f failure
 
+-- the region of the next folder, of this name, was not read, or its verdict not wholly written
+abbrev pub IsBrokenOff : Setting → List Contents → List ℕ → Option (List ℕ) → Option (List ℕ)
+    → CountryFailure → Type 0
+IsBrokenOff s before name old new f =
+    (failure : Failure) × IsUnwritten s before name old new failure × IsFailureOf failure name f
+
 -- what a run over all regions begins with
 pub record IsStart (s : Setting) (texts : List ℕ → Texts) (names : List (List ℕ)) (detail : Detail)
     (p : Progress) : Type 0 where
