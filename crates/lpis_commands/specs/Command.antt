@@ -1,5 +1,5 @@
 -- The program's command line.
-use Rattle.std.specs.Prelude.{◌≡◌, ◌≤◌, ℕ, List, Option, Some, None, codes, true}
+use Rattle.std.specs.Prelude.{◌≡◌, ◌≤◌, ◌∷◌, [], ℕ, List, Option, Some, None, codes, fold, true}
 use Rattle.std.specs.Str.Parse.{IsNumeral, digits_value, without_leading_plus}
 use Rattle.clap.specs.Words.{App, Row, Rule, Text, first_of, new_app, new_rule, with_rule}
 use Rattle.clap.specs.Words.{with_subcommand}
@@ -77,21 +77,14 @@ wanting_command a =
 abbrev pub program_app : App
 program_app = wanting_command (new_app (codes "lpis"))
 
--- the program with the commands that read no certificate
-abbrev pub unchecked_app : App
-unchecked_app = with_subcommand (with_subcommand program_app area_app.top) cut_app.top
-
--- the program with the commands that need no register
-abbrev pub unregistered_app : App
-unregistered_app = with_subcommand (with_subcommand unchecked_app check_app.top) country_app.top
-
--- the program with these, and the one that reads a register and writes a certificate
-abbrev pub unpublishing_app : App
-unpublishing_app = with_subcommand unregistered_app exact_app.top
+-- a program with a command more
+abbrev pub with_command : App → App → App
+with_command whole one = with_subcommand whole one.top
 
 -- the program with its commands
 abbrev pub command_line_app : App
-command_line_app = with_subcommand (with_subcommand unpublishing_app publish_app.top) trace_app.top
+command_line_app = fold with_command program_app
+    (area_app ∷ cut_app ∷ check_app ∷ country_app ∷ exact_app ∷ publish_app ∷ trace_app ∷ [])
 
 -- the word is a year's: decimal digits, after a plus or none, of a number from 1 to 9999
 abbrev pub IsYearWord : Text → ℕ → Type 0

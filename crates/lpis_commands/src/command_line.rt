@@ -1,12 +1,11 @@
 //! The program's command line, as `clap` is handed it.
 
 ghost use Rattle.std.specs.Prelude.{◌≡◌, IfOk, codes, false};
-ghost use Rattle.clap.specs.Words.{rule_of};
+ghost use Rattle.clap.specs.Words.{App, rule_of};
 ghost use Rattle.lpis_commands.specs.Command.{area_app, check_app, command_line_app, country_app};
 ghost use Rattle.lpis_commands.specs.Command.{cut_app, exact_app, exact_release_app, flag_rule};
 ghost use Rattle.lpis_commands.specs.Command.{program_app, publish_app, publish_year_app};
-ghost use Rattle.lpis_commands.specs.Command.{trace_app, unchecked_app, unpublishing_app};
-ghost use Rattle.lpis_commands.specs.Command.{unregistered_app, word_rule, year_rule};
+ghost use Rattle.lpis_commands.specs.Command.{trace_app, with_command, word_rule, year_rule};
 ghost use Rattle.lpis_commands.specs.private.Commands.{IsCommandOf};
 
 use clap::builder::ValueParser;
@@ -201,40 +200,26 @@ fn program<'a>(alloc: Global) -> Command<'a>
         .subcommand_required(true)
 }
 
-/// The program with the commands that read no certificate.
-fn line_without_check<'a>(alloc: Global) -> Result<Command<'a>, AllocError>
-    ensures { IfOk result (λ c. IsCommandOf unchecked_app c) }
+/// The program with a command more, where memory was there for both.
+fn joined<'a>(
+    program: Result<Command<'a>, AllocError>,
+    command: Result<Command<'a>, AllocError>,
+) -> Result<Command<'a>, AllocError>
+    ensures { (whole one : App) → IfOk program (IsCommandOf whole) → IfOk command (IsCommandOf one)
+        → IfOk result (IsCommandOf (with_command whole one)) }
 {
-    let area = area_command(alloc)?;
-    let cut = cut_command(alloc)?;
-    program(alloc).subcommand(area)?.subcommand(cut)
-}
-
-/// The program with the commands that need no register.
-fn line_without_register<'a>(alloc: Global) -> Result<Command<'a>, AllocError>
-    ensures { IfOk result (λ c. IsCommandOf unregistered_app c) }
-{
-    let check = check_command(alloc)?;
-    let country = country_command(alloc)?;
-    let line = line_without_check(alloc)?;
-    line.subcommand(check)?.subcommand(country)
-}
-
-/// The program with the commands that change no register.
-fn line_without_publish<'a>(alloc: Global) -> Result<Command<'a>, AllocError>
-    ensures { IfOk result (λ c. IsCommandOf unpublishing_app c) }
-{
-    let exact = exact_command(alloc)?;
-    let line = line_without_register(alloc)?;
-    line.subcommand(exact)
+    program?.subcommand(command?)
 }
 
 /// The program's command line.
 pub(crate) fn command_line<'a>(alloc: Global) -> Result<Command<'a>, AllocError>
     ensures { IfOk result (λ c. IsCommandOf command_line_app c) }
 {
-    let publish = publish_command(alloc)?;
-    let trace = trace_command(alloc)?;
-    let line = line_without_publish(alloc)?;
-    line.subcommand(publish)?.subcommand(trace)
+    let line = joined(Ok(program(alloc)), area_command(alloc));
+    let line = joined(line, cut_command(alloc));
+    let line = joined(line, check_command(alloc));
+    let line = joined(line, country_command(alloc));
+    let line = joined(line, exact_command(alloc));
+    let line = joined(line, publish_command(alloc));
+    joined(line, trace_command(alloc))
 }

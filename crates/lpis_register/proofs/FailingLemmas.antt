@@ -13,6 +13,7 @@ use Rattle.lpis_register.proofs.Common.{Entry, PublishFault, Row, Shape, StoredT
 use Rattle.lpis_register.specs.Accepting.{IsAccepted}
 use Rattle.lpis_register.specs.Faults.{IsStoreFault}
 use Rattle.lpis_register.specs.Failing.{FailsToRun, FailsToStore, HasStoreCause, accepted_statements}
+use Rattle.lpis_register.specs.private.Writes.{FailsToCommit}
 use Rattle.lpis_register.specs.declared.accepting.Accepted.{Accepted}
 use Rattle.lpis_register.specs.declared.fault.PublishFault.TheVariants.{Store, StoreMemory}
 
@@ -37,10 +38,11 @@ stops_as g last a y l gone fresh rows texts ey el eg ef er et old new r h =
     let two = subst₂ (λ v w. IfErr r (StopsWithin g (release_statements (pos a.year) (pos last) v w rows texts) old new)) eg ef one in
     subst₂ (λ v w. IfErr r (StopsWithin g (release_statements (pos a.year) (pos last) a.step.change.dropped_ids a.step.fresh.items v w) old new)) er et two
 
--- the accepted release follows the last one
-pub fails_after : {S : Type 0} (g : store.Ghosts S) (l last : ℕ) (a : Accepted) (old new : Held S) (r : Result (Unit {0}) PublishFault) → l ≡ last
-    → IfErr r (λ fault. HasStoreCause g l a old new (fault ≡ Store)) → IfErr r (λ fault. HasStoreCause g last a old new (fault ≡ Store))
-fails_after g l last a old new r is h = subst (λ n. IfErr r (λ fault. HasStoreCause g n a old new (fault ≡ Store))) is h
+-- the database failed to write the accepted release, which follows the last one
+pub fails_to_commit : {S : Type 0} (g : store.Ghosts S) (l last : ℕ) (a : Accepted) (old new : Held S) (r : Result (Unit {0}) PublishFault) → l ≡ last → IfErr r IsStoreFault
+    → IfErr r (λ fault. HasStoreCause g l a old new (fault ≡ Store)) → IfErr r (FailsToCommit g last a old new)
+fails_to_commit g l last a old new (Ok x) is either cause = tt
+fails_to_commit g l last a old new (Err e) is either cause = record { untouched = inl either; cause = subst (λ n. HasStoreCause g n a old new (e ≡ Store)) is cause }
 
 -- a release that was accepted is one that could not be stored
 pub fails_to_store : {S X : Type 0} (g : store.Ghosts S) (h : List Entry) (kept : List Shape) (year : ℕ) (r : Contents) (blocks : List ExactBlock) (rows : List Row) (a : Accepted) (old new : Held S)

@@ -1,6 +1,6 @@
 //! Writing a release that was accepted.
 
-ghost use Rattle.std.specs.Prelude.{◌≡◌, ◌⊎◌, false, true, IfErr, IsTrue, List, OnErr, ℕ};
+ghost use Rattle.std.specs.Prelude.{◌≡◌, false, true, IfErr, IsTrue, List, OnErr, ℕ};
 ghost use Rattle.sqlite.specs.Held.{state};
 ghost use Rattle.sqlite.specs.State.{HasCleanDisk};
 ghost use Rattle.sqlite.specs.declared.error.Error.TheVariants.{SqliteFailure};
@@ -13,7 +13,8 @@ ghost use Rattle.lpis_register_sql.specs.Stopping.{StopsWithin};
 ghost use Rattle.lpis_register.specs.Accepting.{IsPrepared};
 ghost use Rattle.lpis_register.specs.Failing.{HasStoreCause, accepted_statements};
 ghost use Rattle.lpis_register.specs.Faults.{IsStoreFault};
-ghost use Rattle.lpis_register.specs.private.Writes.{Commits, EndsWithRelease, IsToWrite, WritesRelease};
+ghost use Rattle.lpis_register.specs.private.Writes.{Commits, EndsWithRelease, FailsToCommit};
+ghost use Rattle.lpis_register.specs.private.Writes.{IsToWrite, WritesRelease};
 ghost use Rattle.lpis_register.specs.declared.fault.PublishFault.TheVariants.{Memory, Store};
 ghost use Rattle.lpis_register.specs.declared.fault.PublishFault.TheVariants.{StoreMemory};
 
@@ -127,10 +128,8 @@ pub(crate) fn commit_release<S: Alter>(
         → IsPrepared history.old year parcels rows accepted.now
         → Commits history.old history.new year parcels rows accepted.now (state S.Store conn.old)
         (state S.Store conn.new) result }
-    ensures untouched { IfErr result (λ fault. IsStoreFault fault
-        ⊎ ((fault ≡ Memory) × (conn.new ≡ conn.old))) }
-    ensures cause { IfErr result (λ fault. HasStoreCause S.Store (last_year history.old)
-        accepted.now conn.old conn.new (fault ≡ Store)) }
+    ensures failure { IfErr result (FailsToCommit S.Store (last_year history.old) accepted.now
+        conn.old conn.new) }
 {
     let last = history.last_year();
     match grow(history, accepted) {

@@ -1,16 +1,22 @@
 -- What writing a release does to tables that say a history.
-use Rattle.std.specs.Prelude.{◌≡◌, ℕ, List, IsTrue, OnErr, OnOk, Result}
+use Rattle.std.specs.Prelude.{◌≡◌, ◌⊎◌, ℕ, List, IsTrue, OnErr, OnOk, Result}
+use Rattle.sqlite.specs.Held.{Held}
 use Rattle.sqlite.specs.Tree.{Trees}
 use Rattle.sqlite.specs.State.{State, HasCleanDisk, Survives}
+use Rattle.sqlite_trees.specs.declared.store.Store.{Ghosts}
 use Rattle.lpis_lineage.specs.declared.row.Row.{Row}
 use Rattle.lpis_lineage.specs.declared.row.Entry.{Entry}
 use Rattle.lpis_lineage.specs.Lineage.{last_year}
 use Rattle.lpis_parcels.specs.declared.parcel.Parcel.{Parcel}
 use Rattle.lpis_register_rows.specs.Shapes.{Shape}
 use Rattle.lpis_register.specs.Accepting.{IsPrepared}
+use Rattle.lpis_register.specs.Failing.{HasStoreCause}
+use Rattle.lpis_register.specs.Faults.{IsStoreFault}
 use Rattle.lpis_register.specs.Histories.{HoldsRegister, LeavesRegister}
 use Rattle.lpis_register.specs.Publishing.{FollowsHistory, LeavesRelease}
 use Rattle.lpis_register.specs.declared.accepting.Accepted.{Accepted}
+use Rattle.lpis_register.specs.declared.fault.PublishFault.{PublishFault}
+use Rattle.lpis_register.specs.declared.fault.PublishFault.TheVariants.{Memory, Store}
 
 module _ (now : List Entry) (last : ℕ) (a : Accepted) where
   -- the accepted release is to be written after this history, which ends with that year
@@ -34,6 +40,13 @@ module _ (now : List Entry) (last : ℕ) (a : Accepted) where
     pub durable : (h : List Entry) (shapes : List Shape) → IsToWrite h → HasCleanDisk new
         → HoldsRegister old h shapes
         → OnOk r ((db : Trees) → new.may_leave db → LeavesRegister now a.kept.shapes.items db)
+
+-- publishing an accepted release after the one of a year failed: the database did, for a cause, or
+-- memory ran out before it was asked
+pub record FailsToCommit {S : Type 0} (store : Ghosts S) (last : ℕ) (a : Accepted)
+    (old new : Held S) (fault : PublishFault) : Type 0 where
+  pub untouched : IsStoreFault fault ⊎ ((fault ≡ Memory) × (new ≡ old))
+  pub cause : HasStoreCause store last a old new (fault ≡ Store)
 
 module _ (h k : List Entry) (year : ℕ) (parcels : List Parcel) (rows : List Row) (a : Accepted)
   where

@@ -16,7 +16,7 @@ returns-in-Ok-clause-publishes g c year r blocks rows made = record {
 
 pub returns-in-Err-clause-publishes : goal.returns-in-Err-clause-publishes
 returns-in-Err-clause-publishes g c year r blocks rows made = record {
-  tells = failure_refused c.args.self.now.history c.args.self.now.shapes.items year r blocks rows _ _ c.in-Err.ensures.untouched;
+  tells = failure_refused c.args.self.now.history c.args.self.now.shapes.items year r blocks rows _ _ c.in-Err.ensures.failure.untouched;
   change = tt;
   follows = tt;
   exact = tt;
@@ -33,3 +33,9 @@ pub returns-in-Err-clause-stores : goal.returns-in-Err-clause-stores
 returns-in-Err-clause-stores g c year r blocks rows made =
     stored_err c.args.self.now.history c.commit_release.new.history year r.parcels rows c.args.accepted c.args.self.now.shapes.items (state g.S.Store c.args.self.now.conn)
     (state g.S.Store c.commit_release.new.conn) _ (c.in-Err.ensures.commits year r.parcels rows made.prepared)
+
+pub returns-in-Err-clause-untouched : goal.returns-in-Err-clause-untouched
+returns-in-Err-clause-untouched g c = c.in-Err.ensures.failure.untouched
+
+pub returns-in-Err-clause-cause : goal.returns-in-Err-clause-cause
+returns-in-Err-clause-cause g c = c.in-Err.ensures.failure.cause
