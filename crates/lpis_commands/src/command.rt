@@ -2,7 +2,7 @@
 
 ghost use Rattle.std.specs.Prelude.{◌≡◌, IfOk, IfSome, Some, codes, map};
 ghost use Rattle.clap.specs.Words.{FailsBy, Text, fault_of, first_of, found_of, rows_of};
-ghost use Rattle.clap.specs.Words.{subcommand_of};
+ghost use Rattle.clap.specs.Words.{subcommand_of, subcommand_rows_of};
 ghost use Rattle.lpis_commands.specs.Command.{IsCommand, IsDetail, IsNamedCommand, IsYearWord};
 ghost use Rattle.lpis_commands.specs.Command.{command_line_app};
 
@@ -188,6 +188,14 @@ fn command_named<'a>(name: &str, matches: &ArgMatches<'a>) -> Option<Cmd<'a>>
     }
 }
 
+/// The command that accepted words ask for.
+fn command_in<'a>(matches: &ArgMatches<'a>) -> Option<Cmd<'a>>
+    ensures { IfSome result (λ c. IsCommand c (subcommand_rows_of matches.now)) }
+{
+    let (name, inner) = matches.subcommand()?;
+    command_named(name, inner)
+}
+
 /// The command that the words ask for, the program's name being the first of them.
 ///
 /// The error has `clap`'s text and exit code; out of memory is its kind `OutOfMemory`.
@@ -197,15 +205,12 @@ pub fn command_of<'a>(alloc: Global, words: &'a [&'a str]) -> Result<Cmd<'a>, Er
     ensures kinds { FailsBy (fault_of command_line_app (map (λ s. s.now) words.entry.now)) result }
 {
     let mut line = command_line(alloc)?;
-    let matches = match line.try_get_matches_from_mut(words) {
-        Ok(matches) => matches,
-        Err(error) => return Err(error),
-    };
-    if let Some((name, inner)) = matches.subcommand() {
-        if let Some(command) = command_named(name, inner) {
-            return Ok(command);
-        }
+    match line.try_get_matches_from_mut(words) {
+        Ok(matches) => match command_in(&matches) {
+            Some(command) => Ok(command),
+            // No accepted line comes here: a command and its words are required.
+            None => Err(Error::from(AllocError)),
+        },
+        Err(error) => Err(error),
     }
-    // No accepted line comes here: a command and its words are required.
-    Err(Error::from(AllocError))
 }

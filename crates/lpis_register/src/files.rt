@@ -18,24 +18,24 @@ use crate::laws::a_crash_leaves_what_is_held;
 use crate::opening::fault_of;
 use crate::register::Register;
 use lpis_register_sql::what_is_left_is_found;
-use sqlite::{Connection, FileFrom, FileStore, MemStore, Start};
+use sqlite::{Alter, Connection, FileFrom, FileStore, MemStore, Start};
 use std::alloc::Global;
 use std::rt::HostRuntime;
 
-/// Opens the register in files that are open. Where its tables are refused the connection comes
-/// back beside the fault.
-fn adopt_files<S: Start>(
+/// Opens the register in what an image left. Where its tables are refused the connection comes back
+/// beside the fault. It is proved for any store, since naming that of files costs a prover much.
+fn adopt_left<S: Alter>(
     alloc: Global,
-    conn: Connection<FileStore<FileFrom<S>>>,
-) -> Result<Register<FileStore<FileFrom<S>>>, (Connection<FileStore<FileFrom<S>>>, PublishFault)>
-    requires opened { HasCleanDisk (file_state conn) → Opens (file_state conn)
-        × IsLive (file_state conn) }
+    conn: Connection<S>,
+) -> Result<Register<S>, (Connection<S>, PublishFault)>
+    requires opened { HasCleanDisk (state S.Store conn) → Opens (state S.Store conn)
+        × IsLive (state S.Store conn) }
     requires autocommit { conn.in_transaction ≡ false }
-    ensures opened { (image : Image) → (HasCleanDisk (file_state conn) → FindsIn image
-        (file_state conn)) → IfOk result (λ it. IsFileOpened image (file_state it.conn) it.history
-        it.shapes.items) }
-    ensures unopened { (image : Image) → (HasCleanDisk (file_state conn) → FindsIn image
-        (file_state conn)) → IfErr result (λ e. IsFileUnopened image (file_state e.0) e.1) }
+    ensures opened { (image : Image) → (HasCleanDisk (state S.Store conn) → FindsIn image
+        (state S.Store conn)) → IfOk result (λ it. IsFileOpened image (state S.Store it.conn)
+        it.history it.shapes.items) }
+    ensures unopened { (image : Image) → (HasCleanDisk (state S.Store conn) → FindsIn image
+        (state S.Store conn)) → IfErr result (λ e. IsFileUnopened image (state S.Store e.0) e.1) }
 {
     what_is_left_is_found(&conn);
     match Register::adopt(alloc, conn) {
@@ -63,7 +63,7 @@ impl<S: Start> Register<FileStore<FileFrom<S>>> {
         ensures kinds { IfErr result IsOpeningFault }
     {
         match Connection::open_from(rt, path, false, start) {
-            Ok(conn) => match adopt_files(alloc, conn) {
+            Ok(conn) => match adopt_left(alloc, conn) {
                 Ok(register) => Ok(register),
                 Err((_conn, fault)) => Err(fault),
             },

@@ -1,0 +1,12 @@
+use Rattle.sqlite.specs.Held.{state}
+use Rattle.lpis_register.proofs.FileLemmas.{opened_file, unopened_file}
+use Rattle.lpis_register.proofs.files.adopt_left.Goals as goal
+
+pub returns-in-Ok-clause-opened : goal.returns-in-Ok-clause-opened
+returns-in-Ok-clause-opened g c image finds =
+    opened_file image (state g.S.Store c.args.conn) c.requires.opened finds c.what_is_left_is_found.ensures.stored c.what_is_left_is_found.ensures.bare _ _ _
+    (c.a_crash_leaves_what_is_held.ensures _ _) c.in-Ok.ensures.opened
+
+pub returns-in-Err-clause-unopened : goal.returns-in-Err-clause-unopened
+returns-in-Err-clause-unopened g c image finds =
+    unopened_file image (state g.S.Store c.args.conn) c.requires.opened finds c.what_is_left_is_found.ensures.stored c.what_is_left_is_found.ensures.bare _ _ c.in-Err.ensures.unopened
