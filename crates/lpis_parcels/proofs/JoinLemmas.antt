@@ -14,7 +14,8 @@ use Rattle.lpis_covers.specs.Faults.{unless_faulty}
 use Rattle.lpis_covers.specs.Ids.{has_id, same_id}
 use Rattle.lpis_covers.specs.Table.{fault_at}
 use Rattle.lpis_parcels.specs.Weighted.{class_named}
-use Rattle.lpis_parcels.specs.private.Groups.{empty_faults, group_at, is_nil, is_of_parcel}
+use Rattle.lpis_covers.proofs.Shared.{column-fault}
+use Rattle.lpis_parcels.specs.private.Groups.{Refuses, empty_faults, group_at, is_nil, is_of_parcel}
 use Rattle.lpis_parcels.specs.declared.parcel.Parcel.{Parcel}
 use Rattle.std.proofs.lemmas.Bool.Decides.{nat_tests}
 use Rattle.lpis_parcels.specs.Release.{class_codes, unnamed_parcel_faults, parcel_ids, unknown_faults}
@@ -142,6 +143,12 @@ pub pieces-more : (parcels : List Parcel) (classes : List Class) (n i : ℕ) (pi
     → reference_faults parcels classes n (drop i pieces) ≡ reference_faults parcels classes (n + 1) (drop (i + 1) pieces)
 pieces-more parcels classes n i pieces piece at none =
     ap (reference_faults parcels classes n) (drop-at pieces i piece at) ∙ ap (λ (fs : List TableFault). fs ++ reference_faults parcels classes (n + 1) (drop (i + 1) pieces)) none
+
+-- a piece is refused by its first fault, and so are the pieces from it on
+pub piece-refused : (parcels : List Parcel) (classes : List Class) (n i : ℕ) (pieces : List Piece) (piece : Piece) (f : TableFault) → slice_get pieces i ≡ Some piece
+    → Refuses (unknown_faults parcels classes n piece) f → Refuses (reference_faults parcels classes n (drop i pieces)) f
+piece-refused parcels classes n i pieces piece f at h =
+    rw (drop-at pieces i piece at) (column-fault (unknown_faults parcels classes n piece) (reference_faults parcels classes (n + 1) (drop (i + 1) pieces)) tt tt f h)
 
 -- a group is empty where no piece names its parcel
 nil-indices : {A : Type 0} (test : A → Bool) (i : ℕ) (xs : List A) → is_nil (indices_where test i xs) ≡ not (list_any test xs)
