@@ -26,13 +26,19 @@ word-found m id None e = tt
 word-found m id (Some word) e = sym (first_value-rows (found_of m) id) ∙ sym e
 
 -- a command by its name and rows
-pub command-is : (o : Option (Text × List Row)) (name : Text) (rows : List Row) (command : Cmd)
+command-is : (o : Option (Text × List Row)) (name : Text) (rows : List Row) (command : Cmd)
     → Some name ≡ option_map (λ p. p.0) o → Some rows ≡ option_map (λ p. p.1) o → IsNamedCommand command name rows → IsCommand command o
 command-is None name rows command n r h = cc n
 command-is (Some p) name rows command n r h =
     let same : name ≡ p.0 = cc n in
     let at : rows ≡ p.1 = cc r in
     (rw (same, at) at h)
+
+-- and where there is one of that name and those rows
+pub commands-are : (r : Option Cmd) (o : Option (Text × List Row)) (name : Text) (rows : List Row) → Some name ≡ option_map (λ p. p.0) o → Some rows ≡ option_map (λ p. p.1) o
+    → IfSome r (λ c. IsNamedCommand c name rows) → IfSome r (λ c. IsCommand c o)
+commands-are None o name rows n h named = tt
+commands-are (Some command) o name rows n h named = command-is o name rows command n h named
 
 two : {A B C : Type 0} (f : A → B) (g : A → C) (o : Option A) → option_map f o ≡ option_map (λ (p : B × C). p.0) (option_map (λ (a : A). (f a, g a)) o)
 two f g None = refl

@@ -205,7 +205,8 @@ fn joined<'a>(
     program: Result<Command<'a>, AllocError>,
     command: Result<Command<'a>, AllocError>,
 ) -> Result<Command<'a>, AllocError>
-    ensures { (whole one : App) → IfOk program (IsCommandOf whole) → IfOk command (IsCommandOf one)
+    ensures { (whole one : App) → IfOk program.entry (IsCommandOf whole)
+        → IfOk command.entry (IsCommandOf one)
         → IfOk result (IsCommandOf (with_command whole one)) }
 {
     program?.subcommand(command?)
