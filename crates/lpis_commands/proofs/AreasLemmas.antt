@@ -1,5 +1,5 @@
 -- The areas of parcels, added.
-use Rattle.std.proofs.Common.{◌≡◌, ◌∙◌, ◌≤◌, ◌+◌, ◌*◌, ◌++◌, ◌∷◌, [], sym, ap₂, arith, ℕ, ℤ, ◌+ℤ◌, nat_abs, List, length}
+use Rattle.std.proofs.Common.{◌≡◌, ◌∙◌, ◌≤◌, ◌+◌, ◌*◌, ◌++◌, sym, ap₂, arith, ℕ, ℤ, ◌+ℤ◌, nat_abs, List, length}
 use Rattle.std.proofs.lemmas.Int.{ints}
 use Rattle.std.proofs.lemmas.List.{length-append}
 use Rattle.std.proofs.Math.Nat.{mul-add}

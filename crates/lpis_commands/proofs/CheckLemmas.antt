@@ -1,6 +1,6 @@
 -- The answer to a text that is a certificate's.
-use Rattle.std.proofs.Common.{◌≡◌, inl, refl, sym, subst, ℕ, List, Result, Ok, Option, Some, None, IfNone}
-use Rattle.lpis_parcels.specs.Release.{Contents, release_of}
+use Rattle.std.proofs.Common.{inl, sym, subst, ℕ, List, Result, Option, Some, None, IfNone}
+use Rattle.lpis_parcels.specs.Release.{Contents}
 use Rattle.lpis_cert.specs.declared.cert.Cert.{Cert}
 use Rattle.lpis_cert.specs.declared.fault.CertCode.{CertCode}
 use Rattle.lpis_cert.specs.Contents.{IsCertText}

@@ -1,6 +1,6 @@
 -- Printed areas: square metres with every decimal, seven of an area and nine of an eligible area.
-use Rattle.std.specs.Prelude.{◌+◌, ◌*◌, ◌/◌, ◌%◌, ◌^◌, ◌++◌, ◌∷◌, ℕ, zero, suc, ℤ, pos, negsuc}
-use Rattle.std.specs.Prelude.{nat_abs, List, [], codes}
+use Rattle.std.specs.Prelude.{◌*◌, ◌/◌, ◌^◌, ◌++◌, ℕ, ℤ}
+use Rattle.std.specs.Prelude.{nat_abs, List, codes}
 use Rattle.std.specs.Fmt.{decimal}
 use Rattle.lpis_points.specs.Decimals.{last_digits, sign_text}
 

@@ -7,7 +7,7 @@ use Rattle.lpis_covers.specs.declared.fault.TableFault.{TableFault}
 use Rattle.lpis_covers.specs.declared.fault.TableFault.TheVariants.{Memory, At}
 use Rattle.lpis_covers.specs.Table.{Answers, AnswersBy, Reading, table_of, texts}
 use Rattle.lpis_covers.proofs.Shared.{table-start}
-use Rattle.lpis_commands.specs.AreaAnswer.{answer_from, area_table}
+use Rattle.lpis_commands.specs.AreaAnswer.{answer_from}
 use Rattle.lpis_commands.proofs.area.area_lines.Goals as goal
 
 -- a fault is the answer, whatever the lines would be
