@@ -24,7 +24,7 @@ use std::rt::HostRuntime;
 
 /// Opens the register in what an image left. Where its tables are refused the connection comes back
 /// beside the fault. It is proved for any store, since naming that of files costs a prover much.
-fn adopt_left<S: Alter>(
+fn adopt_left<S: Alter + Drop>(
     alloc: Global,
     conn: Connection<S>,
 ) -> Result<Register<S>, (Connection<S>, PublishFault)>
