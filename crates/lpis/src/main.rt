@@ -97,11 +97,30 @@ fn perform_on(rt: &HostRuntime, files: &CommandFiles<'_>) -> Result<u8, Failure>
             classes,
             detail,
         } => check_country(rt, dir, country, classes, *detail),
-        CommandFiles::Exact { db, files, out } => in_register(rt, db, Job::Fill { files, out }),
-        CommandFiles::Publish { db, year, files } => {
-            let year = *year;
-            in_register(rt, db, Job::Publish { year, files })
-        }
+        CommandFiles::Exact {
+            db,
+            submission,
+            out,
+        } => in_register(
+            rt,
+            db,
+            Job::Fill {
+                submission,
+                filled: out,
+            },
+        ),
+        CommandFiles::Publish {
+            db,
+            year,
+            submission,
+        } => in_register(
+            rt,
+            db,
+            Job::Publish {
+                year: *year,
+                submission,
+            },
+        ),
         CommandFiles::Trace { db, id } => in_register(rt, db, Job::Trace { id }),
     }
 }
@@ -132,13 +151,13 @@ fn check(rt: &HostRuntime, tables: &TableFiles, cert: &NamedFile) -> Result<u8, 
 enum Job<'a> {
     /// A certificate is given the blocks that the marks of its lineage ask for.
     Fill {
-        files: &'a SubmissionFiles,
-        out: &'a NamedFile,
+        submission: &'a SubmissionFiles,
+        filled: &'a NamedFile,
     },
     /// A release is published.
     Publish {
         year: u16,
-        files: &'a SubmissionFiles,
+        submission: &'a SubmissionFiles,
     },
     /// An identifier is followed.
     Trace {
@@ -168,8 +187,8 @@ fn work<S: Alter>(
     job: Job<'_>,
 ) -> Result<u8, Failure> {
     match job {
-        Job::Fill { files, out } => fill(rt, register, files, out),
-        Job::Publish { year, files } => publish(rt, register, year, files),
+        Job::Fill { submission, filled } => fill(rt, register, submission, filled),
+        Job::Publish { year, submission } => publish(rt, register, year, submission),
         Job::Trace { id } => run_trace(rt.alloc(), register, id, &mut rt.stdout()),
     }
 }
@@ -201,14 +220,14 @@ fn check_country(
 fn fill<S: Alter>(
     rt: &HostRuntime,
     register: &Register<S>,
-    files: &SubmissionFiles,
-    out: &NamedFile,
+    submission: &SubmissionFiles,
+    filled: &NamedFile,
 ) -> Result<u8, Failure> {
-    let (parcels, covers, classes) = open_tables(rt, &files.tables)?;
-    let cert = open(rt, &files.cert)?;
-    let lineage = open(rt, &files.lineage)?;
+    let (parcels, covers, classes) = open_tables(rt, &submission.tables)?;
+    let cert = open(rt, &submission.cert)?;
+    let lineage = open(rt, &submission.lineage)?;
     // Where there are no such blocks, a file that stands at this path stays as it is.
-    let mut filled = Created::new(rt, out.path.as_str());
+    let mut filled = Created::new(rt, filled.path.as_str());
     let mut out = rt.stdout();
     run_exact(
         rt.alloc(),
@@ -228,11 +247,11 @@ fn publish<S: Alter>(
     rt: &HostRuntime,
     register: &mut Register<S>,
     year: u16,
-    files: &SubmissionFiles,
+    submission: &SubmissionFiles,
 ) -> Result<u8, Failure> {
-    let (parcels, covers, classes) = open_tables(rt, &files.tables)?;
-    let cert = open(rt, &files.cert)?;
-    let lineage = open(rt, &files.lineage)?;
+    let (parcels, covers, classes) = open_tables(rt, &submission.tables)?;
+    let cert = open(rt, &submission.cert)?;
+    let lineage = open(rt, &submission.lineage)?;
     let mut out = rt.stdout();
     run_publish(
         rt.alloc(),

@@ -38,7 +38,7 @@ abbrev pub files_of_region : List ℕ → List ℕ → List (List ℕ × Name)
 files_of_region dir name = tables_in (in_folder dir name)
     ++ (in_folder (in_folder dir name) (codes "cert.txt"), Cert) ∷ []
 
--- the files of a release that is handed to a register, in a folder and at the certificate's path
+-- the files of a release that is handed in, in a folder and at the certificate's path
 abbrev pub files_of_submission : List ℕ → List ℕ → List (List ℕ × Name)
 files_of_submission dir cert = tables_in dir ++ (cert, Cert) ∷ lineage_file dir ∷ []
 

@@ -3,8 +3,9 @@
 ghost use Rattle.std.specs.Prelude.{◌≡◌, ◌++◌, [], ℕ, List, IfErr, IfOk, MatchResult, Ok, Err};
 ghost use Rattle.lpis_rings.specs.declared.polygon.Member.{Member};
 ghost use Rattle.lpis_covers.specs.declared.fault.Table.TheVariants.{Area};
-ghost use Rattle.lpis_covers.specs.Faults.{IsHeaderRead, rows_of, unless_faulty, values_of};
+ghost use Rattle.lpis_covers.specs.Faults.{rows_of, unless_faulty, values_of};
 ghost use Rattle.lpis_covers.specs.Table.{Answers, AnswersBy};
+ghost use Rattle.lpis_covers.specs.private.Header.{IsHeaderRead};
 ghost use Rattle.lpis_commands.specs.AreaAnswer.{AnswersArea, AreaHalts, answer_from, area_answer};
 ghost use Rattle.lpis_commands.specs.AreaAnswer.{area_table, polygon_area_line};
 ghost use Rattle.lpis_commands.specs.Status.{done};

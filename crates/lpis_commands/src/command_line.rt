@@ -200,7 +200,8 @@ fn program<'a>(alloc: Global) -> Command<'a>
         .subcommand_required(true)
 }
 
-/// The program with a command more, where memory was there for both.
+/// The program with a command more, where memory was there for both. It is handed both results as
+/// they are, so that no caller has to let go of a command.
 fn joined<'a>(
     program: Result<Command<'a>, AllocError>,
     command: Result<Command<'a>, AllocError>,

@@ -39,8 +39,8 @@ pub struct RegionFiles {
     pub cert: NamedFile,
 }
 
-/// The files of a release that is handed to a register, in the order in which they are opened and
-/// read.
+/// The files of a release that is handed in to be published, or to be given the blocks of its exact
+/// lineage, in the order in which they are opened and read.
 #[derive(Debug, Drop)]
 pub struct SubmissionFiles {
     /// The tables of the release.
@@ -89,8 +89,8 @@ pub enum CommandFiles<'a> {
     Exact {
         /// The path of the register, which is opened before the files.
         db: &'a str,
-        /// The files of a release.
-        files: SubmissionFiles,
+        /// What is handed in.
+        submission: SubmissionFiles,
         /// The certificate with its blocks, which is written.
         out: NamedFile,
     },
@@ -100,8 +100,8 @@ pub enum CommandFiles<'a> {
         db: &'a str,
         /// The release's year.
         year: u16,
-        /// The files of a release.
-        files: SubmissionFiles,
+        /// What is handed in.
+        submission: SubmissionFiles,
     },
     /// Of `trace`: none beside the register.
     Trace {
@@ -160,7 +160,7 @@ fn lineage_in(alloc: Global, dir: &str) -> Result<NamedFile, AllocError>
     file_in(alloc, dir, "lineage.csv", Name::Lineage)
 }
 
-/// The files of the release in a folder that is handed to a register with this certificate.
+/// The files of the release in a folder that is handed in with this certificate.
 fn submission_files(alloc: Global, dir: &str, cert: &str) -> Result<SubmissionFiles, AllocError>
     ensures { IfOk result (λ i. submission_listed i ≡ files_of_submission dir.now cert.now) }
 {
@@ -206,7 +206,7 @@ pub fn named_files<'a>(alloc: Global, command: Cmd<'a>) -> Result<CommandFiles<'
         }),
         Cmd::Exact { db, dir, cert, out } => Ok(CommandFiles::Exact {
             db,
-            files: submission_files(alloc, dir, cert)?,
+            submission: submission_files(alloc, dir, cert)?,
             out: file_at(alloc, out, Name::Cert)?,
         }),
         Cmd::Publish {
@@ -217,7 +217,7 @@ pub fn named_files<'a>(alloc: Global, command: Cmd<'a>) -> Result<CommandFiles<'
         } => Ok(CommandFiles::Publish {
             db,
             year,
-            files: submission_files(alloc, dir, cert)?,
+            submission: submission_files(alloc, dir, cert)?,
         }),
         Cmd::Trace { db, id } => Ok(CommandFiles::Trace { db, id }),
     }

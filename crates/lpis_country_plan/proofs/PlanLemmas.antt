@@ -1,5 +1,5 @@
 -- Plans.
-use Rattle.std.proofs.Common.{◌≡◌, ℕ, ◌<◌, ◌≤◌, List, length, sym, ap, ◌∙◌, arith, length-append}
+use Rattle.std.proofs.Common.{◌≡◌, ℕ, ◌<◌, List, length, sym, ap, ◌∙◌, arith, length-append}
 use Rattle.lpis_country.specs.Tiling.{frame}
 use Rattle.lpis_country_plan.specs.Tree.{Tree, folder, by_x, by_y, folders}
 use Rattle.lpis_country_plan.specs.Plans.{PlanParts, IsPlan}

@@ -1,5 +1,5 @@
 -- What regions that passed have.
-use Rattle.std.proofs.Common.{◌≡◌, ◌≢◌, ◌∙◌, ◌++◌, ◌∷◌, ◌+◌, ◌<◌, [], refl, sym, ap, subst, ℕ, List, All, drop, get_or, length, take}
+use Rattle.std.proofs.Common.{◌≡◌, ◌∙◌, ◌++◌, ◌∷◌, ◌+◌, ◌<◌, [], refl, sym, ap, subst, ℕ, List, All, drop, get_or, length, take}
 use Rattle.std.proofs.lemmas.List.{drop_more, length-append, take-append-drop, take_more}
 use Rattle.std.proofs.lemmas.List.Elements.{All-append, All-cons, All-nil}
 use Rattle.lpis_parcels.specs.Release.{Contents}

@@ -1,5 +1,5 @@
 -- The values of a table's rows, and its faults in the order in which the first is reported.
-use Rattle.std.specs.Prelude.{◌≡◌, ◌+◌, ◌∷◌, ◌++◌, Bool, true, false, not, ℕ, List, [], map, Some}
+use Rattle.std.specs.Prelude.{◌+◌, ◌∷◌, ◌++◌, Bool, true, false, not, ℕ, List, [], map, Some}
 use Rattle.std.specs.Prelude.{option_to_list, Result, Ok, Err, if◌then◌else◌}
 use Rattle.std.specs.Result.{result_unwrap_or}
 use Rattle.std.specs.Str.{is_utf8}
@@ -60,12 +60,6 @@ pub record RowsOf (A : Type 0) : Type 0 where
   pub enough : List Bool → Bool
   pub faults : List (List ℕ) → ℕ → Fields → List TableFault
   pub value : Fields → A
-
--- of a table the header alone has been read, and its columns are enough
-pub record IsHeaderRead {A : Type 0} (kind : RowsOf A) (reader : Reading) : Type 0 where
-  pub table : reader.table ≡ kind.table
-  pub start : reader.number ≡ 0
-  pub enough : kind.enough reader.has ≡ true
 
 -- the faults of rows, row by row, of which the first is row n; the rows above have these keys
 unfoldable pub table_row_faults : {A : Type 0} → RowsOf A → List (List ℕ) → ℕ → List Fields

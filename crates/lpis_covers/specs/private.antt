@@ -1,5 +1,6 @@
 -- Machinery, cited by private contracts alone: no promise rests on it.
 pub mod Columns
+pub mod Header
 pub mod Keyed
 pub mod Left
 pub mod Padding

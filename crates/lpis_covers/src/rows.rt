@@ -95,7 +95,7 @@ fn rows_left(
     Ok((Sequence::new(without_spare(rows)?), stop))
 }
 
-/// All that a table has whose header alone was read.
+/// The columns that a table has, the rows that are left of it, and what stops them.
 fn all_rows(alloc: Global, reader: &mut TableReader<'_>) -> Result<Rows, TableFault>
     ensures { RowsAnswer result (Ok reader.old) }
 {

@@ -1,8 +1,9 @@
 //! The rows of a table as values of a type.
 
 ghost use Rattle.std.specs.Prelude.{◌≡◌, ◌≤◌, ◌++◌, ◌∷◌, [], Ok, Err, IfErr, IfOk, OnOk, length, map};
-ghost use Rattle.lpis_covers.specs.Faults.{IsHeaderRead, rows_of, unless_faulty, values_of};
+ghost use Rattle.lpis_covers.specs.Faults.{rows_of, unless_faulty, values_of};
 ghost use Rattle.lpis_covers.specs.Table.{Answers, field_of, most_rows};
+ghost use Rattle.lpis_covers.specs.private.Header.{IsHeaderRead};
 
 use crate::fault::{Table, TableCode, TableFault};
 use crate::id::Id;
@@ -125,7 +126,7 @@ fn opened<T: TableRow>(alloc: Global, bytes: &[u8]) -> Result<TableReader<'_>, T
     ensures fault { IfErr result (λ fault. Answers (Err fault) (rows_of T.kind bytes.now)) }
     ensures rows { IfOk result
         (λ reader. rows_of T.kind bytes.now ≡ values_of T.kind (Ok reader)) }
-    ensures header { IfOk result (λ reader. IsHeaderRead T.kind reader) }
+    ensures header { IfOk result (IsHeaderRead T.kind) }
 {
     let reader = TableReader::open(alloc, bytes, T::table(), T::columns(), T::further())?;
     if T::is_enough(&reader) {

@@ -1,8 +1,9 @@
 //! The table of lineage.
 
 ghost use Rattle.std.specs.Prelude.{◌≡◌, ◌∷◌, [], codes, false, unwrap_or, Ok, Err, IfErr, OnOk};
-ghost use Rattle.lpis_covers.specs.Faults.{IsHeaderRead, rows_of, unless_faulty, values_of};
+ghost use Rattle.lpis_covers.specs.Faults.{rows_of, unless_faulty, values_of};
 ghost use Rattle.lpis_covers.specs.Table.{Answers, field_of, texts};
+ghost use Rattle.lpis_covers.specs.private.Header.{IsHeaderRead};
 ghost use Rattle.lpis_covers.specs.declared.fault.Table.TheVariants as tables;
 ghost use Rattle.lpis_lineage.specs.LineageTable.{AnswersRows, lineage_faults, lineage_table};
 ghost use Rattle.lpis_lineage.specs.LineageTable.{mark_field_faults, mark_of_text};

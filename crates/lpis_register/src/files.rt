@@ -22,9 +22,10 @@ use sqlite::{Alter, Connection, FileFrom, FileStore, MemStore, Start};
 use std::alloc::Global;
 use std::rt::HostRuntime;
 
-/// Opens the register in what an image left. Where its tables are refused the connection comes back
-/// beside the fault. It is proved for any store, since naming that of files costs a prover much.
-fn adopt_left<S: Alter + Drop>(
+/// Opens the register in what was found at the opening of a store. Where its tables are refused the
+/// connection comes back beside the fault. It is of any store: to name that of files costs a prover
+/// much.
+fn adopt_found<S: Alter + Drop>(
     alloc: Global,
     conn: Connection<S>,
 ) -> Result<Register<S>, (Connection<S>, PublishFault)>
@@ -63,7 +64,7 @@ impl<S: Start> Register<FileStore<FileFrom<S>>> {
         ensures kinds { IfErr result IsOpeningFault }
     {
         match Connection::open_from(rt, path, false, start) {
-            Ok(conn) => match adopt_left(alloc, conn) {
+            Ok(conn) => match adopt_found(alloc, conn) {
                 Ok(register) => Ok(register),
                 Err((_conn, fault)) => Err(fault),
             },

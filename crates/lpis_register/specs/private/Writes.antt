@@ -41,8 +41,8 @@ module _ (now : List Entry) (last : ℕ) (a : Accepted) where
         → HoldsRegister old h shapes
         → OnOk r ((db : Trees) → new.may_leave db → LeavesRegister now a.kept.shapes.items db)
 
--- publishing an accepted release after the one of a year failed: the database did, for a cause, or
--- memory ran out before it was asked
+-- publishing an accepted release after the one of a year failed: either the database did, and there
+-- is a cause, or memory ran out before it was asked
 pub record FailsToCommit {S : Type 0} (store : Ghosts S) (last : ℕ) (a : Accepted)
     (old new : Held S) (fault : PublishFault) : Type 0 where
   pub untouched : IsStoreFault fault ⊎ ((fault ≡ Memory) × (new ≡ old))

@@ -33,10 +33,10 @@ returns-in-Some-clause-answer g c = λ s start.
     is_refused s names c.loop-index.progress c.pass_at.new.progress c.loop-index.index c.in-Some.status _ _ _ name here start.run.others.names_are lt
     (ap (λ xs. get_or xs c.loop-index.index []) same)
     (subst (λ o. IsWritten s here.before name c.pass_at.new.progress (g.W.Write.contents c.loop-index.out) (g.W.Write.contents c.pass_at.new.out) o) c.in-Some.is
-    (c.in_ok-pass_at.ensures.written s here.before here.at run))
+    (c.in_ok-status.ensures.written s here.before here.at run))
 
-pub returns-in_err-pass_at-clause-failure : goal.returns-in_err-pass_at-clause-failure
-returns-in_err-pass_at-clause-failure g c = λ s start.
+pub returns-in_err-status-clause-failure : goal.returns-in_err-status-clause-failure
+returns-in_err-status-clause-failure g c = λ s start.
     let here = c.loop-index.invariant.1 s start in
     let names = map string_bytes c.args.names.now.items in
     let name = get_or (map string_bytes c.loop-index.names.items) c.loop-index.index [] in
@@ -44,13 +44,13 @@ returns-in_err-pass_at-clause-failure g c = λ s start.
     let run = subst (λ xs. AreOfRun s (g.G.Regions.texts c.args.regions.now) xs c.args.detail) (sym same) start.run in
     let long = length-map c.args.names.now.items string_bytes in
     let lt : c.loop-index.index < length names = omega (arith, long, c.loop-index-test.true, c.len-index-end.ensures) in
-    let broken = c.in_err-pass_at.ensures.failure s here.before here.at run in
+    let broken = c.in_err-status.ensures.failure s here.before here.at run in
     err_is c.from_residual.result _ _ c.from_residual.ensures.1 (λ f of. breaks_off s names c.loop-index.progress c.loop-index.index _ _ _ name broken.0 f here
     start.run.others.names_are lt (ap (λ xs. get_or xs c.loop-index.index []) same) broken.1 (subst (λ x. IsFailureOf broken.0 name x) (sym of) broken.2))
 
 pub loop-index-preserved : goal.loop-index-preserved
 loop-index-preserved g c = (
-  c.in_ok-pass_at.ensures.names ∙ c.loop-index.invariant.0,
+  c.in_ok-status.ensures.names ∙ c.loop-index.invariant.0,
   λ s start.
       let here = c.loop-index.invariant.1 s start in
       let names = map string_bytes c.args.names.now.items in
@@ -62,7 +62,7 @@ loop-index-preserved g c = (
       goes_on s names c.loop-index.progress c.pass_at.new.progress c.loop-index.index _ _ _ name here start.run.others.names_are lt
       (ap (λ xs. get_or xs c.loop-index.index []) same)
       (subst (λ o. IsWritten s here.before name c.pass_at.new.progress (g.W.Write.contents c.loop-index.out) (g.W.Write.contents c.pass_at.new.out) o) c.in-None.is
-      (c.in_ok-pass_at.ensures.written s here.before here.at run)),
+      (c.in_ok-status.ensures.written s here.before here.at run)),
 )
 
 pub returns-in_err-finish-clause-failure : goal.returns-in_err-finish-clause-failure

@@ -1,7 +1,7 @@
 use Rattle.std.proofs.Common.{Err}
 use Rattle.lpis_covers.proofs.Common.{err_from_is_err_and}
 use Rattle.lpis_covers.proofs.RowLemmas.{column-fault, column-passed, row-told}
-use Rattle.lpis_covers.specs.Faults.{key_faults, unless_faulty}
+use Rattle.lpis_covers.specs.Faults.{key_faults}
 use Rattle.lpis_covers.specs.Table.{field_of}
 use Rattle.lpis_covers.proofs.typed.add_row.Goals as goal
 

@@ -1,6 +1,6 @@
 use Rattle.sqlite.specs.Held.{state}
 use Rattle.lpis_register.proofs.FileLemmas.{opened_file, unopened_file}
-use Rattle.lpis_register.proofs.files.adopt_left.Goals as goal
+use Rattle.lpis_register.proofs.files.adopt_found.Goals as goal
 
 pub returns-in-Ok-clause-opened : goal.returns-in-Ok-clause-opened
 returns-in-Ok-clause-opened g c image finds =
