@@ -1,8 +1,8 @@
 -- How a run over regions goes on, and ends.
 use Rattle.std.proofs.Common.{◌≡◌, ◌<◌, ◌≤◌, ◌⊎◌, ◌∙◌, ◌++◌, ◌∷◌, ◌+◌, ◌*◌, [], refl, sym, ap, ap₂, subst, arith, inl, inr, IfErr, IfOk, IsErrAnd}
-use Rattle.std.proofs.Common.{OnOk, ℕ, List, All, Option, None, Some, Result, Ok, Err, Vec, drop, get_or, length, take}
+use Rattle.std.proofs.Common.{OnOk, ℕ, List, All, Option, None, Some, Result, Ok, Err, Vec, drop, get_or, length, map, take}
 use Rattle.std.proofs.Math.Seq.{take-append-add}
-use Rattle.std.proofs.lemmas.List.{append-nil, drop_more, length-append}
+use Rattle.std.proofs.lemmas.List.{append-nil, drop_more, length-append, length-map}
 use Rattle.std.proofs.lemmas.List.Elements.{All-head, All-tail}
 use Rattle.std.specs.Io.KnownBytes.{Appends, Keeps}
 use Rattle.std.specs.declared.alloc.Global.{Global}
@@ -30,7 +30,7 @@ use Rattle.lpis_country_run.specs.CountryAnswer.{HavePassed, None as NonePassed,
 use Rattle.lpis_country_run.specs.CountryFailures.{IsOfNone, IsStoppedBefore, IsUnreadFolder}
 use Rattle.lpis_country_run.specs.CountryLines.{country_lines, region_report}
 use Rattle.lpis_country_run.specs.Regions.{AreOfFolder, Texts}
-use Rattle.lpis_country_run.specs.private.Progressing.{FollowsAs, HaveAllPassed, IsAt, IsFailureOf, IsFinished, IsHere, IsReady, IsStart, IsUnfinished}
+use Rattle.lpis_country_run.specs.private.Progressing.{AreOfRun, FollowsAs, HaveAllPassed, IsAt, IsFailureOf, IsFinished, IsHere, IsReady, IsStart, IsUnfinished}
 use Rattle.lpis_country_run.specs.private.Progressing.{IsUnwritten, IsVerdict, IsVerdictText, IsWritten, RegionsBreakOff, RegionsEnd}
 use Rattle.lpis_country_run.specs.private.Totals.{AreTotalsOf, last_lines}
 use Rattle.lpis_country_run.proofs.PassedLemmas.{passed_more, reached_by, refused_next}
@@ -147,6 +147,17 @@ goes_at s before r p q t at seam few news plus =
       few = counted q.totals.parcels (length u.parcels) _ (length (new_parcels u r)) (length before) _ totals.parcels grown (subst (λ (n : ℕ). n ≤ 200000 * length before) at.totals.parcels at.few)
           (few_new u r 200000 few) (length-append before (r ∷ []));
     }
+
+-- ---- the next region
+-- over a list that stayed as it was the run is the same, and the next index and its name are in it
+pub next_region : {A : Type 0} (s : Setting) (texts : List ℕ → Texts) (bytes : A → List ℕ) (xs ys : List A) (detail : Detail) (p : Progress) (n : ℕ) → xs ≡ ys → n < length ys
+    → IsStart s texts (map bytes ys) detail p → AreOfRun s texts (map bytes xs) detail × (n < length (map bytes ys)) × (get_or (map bytes xs) n [] ≡ get_or (map bytes ys) n [])
+next_region s texts bytes xs ys detail p n same lt start =
+    let names = ap (map bytes) same in (
+      subst (λ ks. AreOfRun s texts ks detail) (sym names) start.run,
+      omega (arith, length-map ys bytes, lt),
+      ap (λ ks. get_or ks n []) names,
+    )
 
 -- ---- breaking off
 -- the folder was not read, or memory ran out

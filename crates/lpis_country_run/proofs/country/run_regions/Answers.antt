@@ -1,8 +1,8 @@
 use Rattle.std.proofs.Common.{◌≡◌, ◌<◌, ◌∙◌, [], ap, arith, get_or, length, map, refl, subst, sym}
 use Rattle.std.proofs.lemmas.List.{length-map}
 use Rattle.std.specs.String.{string_bytes}
-use Rattle.lpis_country_run.specs.private.Progressing.{AreOfRun, IsFailureOf, IsWritten}
-use Rattle.lpis_country_run.proofs.RunLemmas.{all_break_off, all_end, all_passed, begun_here, breaks_off, err_is, goes_on, is_refused, ready}
+use Rattle.lpis_country_run.specs.private.Progressing.{IsFailureOf, IsWritten}
+use Rattle.lpis_country_run.proofs.RunLemmas.{all_break_off, all_end, all_passed, begun_here, breaks_off, err_is, goes_on, is_refused, next_region, ready}
 use Rattle.lpis_country_run.proofs.country.run_regions.Goals as goal
 
 pub loop-index-init : goal.loop-index-init
@@ -26,27 +26,22 @@ returns-in-Some-clause-answer g c = λ s start.
     let here = c.loop-index.invariant.1 s start in
     let names = map string_bytes c.args.names.now.items in
     let name = get_or (map string_bytes c.loop-index.names.items) c.loop-index.index [] in
-    let same = ap (λ xs. map string_bytes xs) c.loop-index.invariant.0 in
-    let run = subst (λ xs. AreOfRun s (g.G.Regions.texts c.args.regions.now) xs c.args.detail) (sym same) start.run in
-    let long = length-map c.args.names.now.items string_bytes in
-    let lt : c.loop-index.index < length names = omega (arith, long, c.loop-index-test.true, c.len-index-end.ensures) in
-    is_refused s names c.loop-index.progress c.pass_at.new.progress c.loop-index.index c.in-Some.status _ _ _ name here start.run.others.names_are lt
-    (ap (λ xs. get_or xs c.loop-index.index []) same)
+    let inside : c.loop-index.index < length c.args.names.now.items = omega (arith, c.loop-index-test.true, c.len-index-end.ensures) in
+    let next = next_region s _ string_bytes c.loop-index.names.items c.args.names.now.items _ _ c.loop-index.index c.loop-index.invariant.0 inside start in
+    is_refused s names c.loop-index.progress c.pass_at.new.progress c.loop-index.index c.in-Some.status _ _ _ name here start.run.others.names_are next.1 next.2
     (subst (λ o. IsWritten s here.before name c.pass_at.new.progress (g.W.Write.contents c.loop-index.out) (g.W.Write.contents c.pass_at.new.out) o) c.in-Some.is
-    (c.in_ok-status.ensures.written s here.before here.at run))
+    (c.in_ok-status.ensures.written s here.before here.at next.0))
 
 pub returns-in_err-status-clause-failure : goal.returns-in_err-status-clause-failure
 returns-in_err-status-clause-failure g c = λ s start.
     let here = c.loop-index.invariant.1 s start in
     let names = map string_bytes c.args.names.now.items in
     let name = get_or (map string_bytes c.loop-index.names.items) c.loop-index.index [] in
-    let same = ap (λ xs. map string_bytes xs) c.loop-index.invariant.0 in
-    let run = subst (λ xs. AreOfRun s (g.G.Regions.texts c.args.regions.now) xs c.args.detail) (sym same) start.run in
-    let long = length-map c.args.names.now.items string_bytes in
-    let lt : c.loop-index.index < length names = omega (arith, long, c.loop-index-test.true, c.len-index-end.ensures) in
-    let broken = c.in_err-status.ensures.failure s here.before here.at run in
+    let inside : c.loop-index.index < length c.args.names.now.items = omega (arith, c.loop-index-test.true, c.len-index-end.ensures) in
+    let next = next_region s _ string_bytes c.loop-index.names.items c.args.names.now.items _ _ c.loop-index.index c.loop-index.invariant.0 inside start in
+    let broken = c.in_err-status.ensures.failure s here.before here.at next.0 in
     err_is c.from_residual.result _ _ c.from_residual.ensures.1 (λ f of. breaks_off s names c.loop-index.progress c.loop-index.index _ _ _ name broken.0 f here
-    start.run.others.names_are lt (ap (λ xs. get_or xs c.loop-index.index []) same) broken.1 (subst (λ x. IsFailureOf broken.0 name x) (sym of) broken.2))
+    start.run.others.names_are next.1 next.2 broken.1 (subst (λ x. IsFailureOf broken.0 name x) (sym of) broken.2))
 
 pub loop-index-preserved : goal.loop-index-preserved
 loop-index-preserved g c = (
@@ -55,14 +50,11 @@ loop-index-preserved g c = (
       let here = c.loop-index.invariant.1 s start in
       let names = map string_bytes c.args.names.now.items in
       let name = get_or (map string_bytes c.loop-index.names.items) c.loop-index.index [] in
-      let same = ap (λ xs. map string_bytes xs) c.loop-index.invariant.0 in
-      let run = subst (λ xs. AreOfRun s (g.G.Regions.texts c.args.regions.now) xs c.args.detail) (sym same) start.run in
-      let long = length-map c.args.names.now.items string_bytes in
-      let lt : c.loop-index.index < length names = omega (arith, long, c.loop-index-test.true, c.len-index-end.ensures) in
-      goes_on s names c.loop-index.progress c.pass_at.new.progress c.loop-index.index _ _ _ name here start.run.others.names_are lt
-      (ap (λ xs. get_or xs c.loop-index.index []) same)
+      let inside : c.loop-index.index < length c.args.names.now.items = omega (arith, c.loop-index-test.true, c.len-index-end.ensures) in
+      let next = next_region s _ string_bytes c.loop-index.names.items c.args.names.now.items _ _ c.loop-index.index c.loop-index.invariant.0 inside start in
+      goes_on s names c.loop-index.progress c.pass_at.new.progress c.loop-index.index _ _ _ name here start.run.others.names_are next.1 next.2
       (subst (λ o. IsWritten s here.before name c.pass_at.new.progress (g.W.Write.contents c.loop-index.out) (g.W.Write.contents c.pass_at.new.out) o) c.in-None.is
-      (c.in_ok-status.ensures.written s here.before here.at run)),
+      (c.in_ok-status.ensures.written s here.before here.at next.0)),
 )
 
 pub returns-in_err-finish-clause-failure : goal.returns-in_err-finish-clause-failure
